@@ -1,0 +1,4 @@
+pub mod IntLaws
+pub mod Ring
+pub mod Size
+pub mod Signs

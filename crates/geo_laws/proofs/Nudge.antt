@@ -1,0 +1,311 @@
+-- Near a point of a closed tetrahedron there is one strictly inside and off all the given planes.
+use Rattle.std.proofs.Common.{◌≡◌, ◌≢◌, ◌⊎◌, inl, inr, ℕ, ◌+◌, ◌<◌, ◌≤◌, ℤ, pos, negsuc, neg_ℤ, nat_abs, ◌+ℤ◌, ◌*ℤ◌, ◌<ℤ◌, ◌≤ℤ◌, List, [], ◌∷◌, refl, ap, sym, ◌∙◌, arith}
+use Rattle.std.specs.List.{AllByRecursion}
+use Rattle.std.proofs.lemmas.Int.{ints}
+use Rattle.sign_predicates.specs.Point.{Point, RationalPoint, SomeRational, as_rational}
+use Rattle.sign_predicates.specs.Orientation.{Triangle, volume, normal, side, side_rational, opposite_a, opposite_b, opposite_c, opposite_d, IsPositive, StrictlyInside, InClosed, SpansPlane}
+use Rattle.sign_predicates.specs.declared.tetrahedron.Corners.{Corners}
+use Rattle.geo_laws.specs.Laws.{KeepsSide, NudgeLaw}
+use Rattle.geo_laws.proofs.Identities as ring
+use Rattle.geo_laws.proofs.Identities.{combined, middle, off_plane, side_rational-combined, side_rational-as_rational}
+use lib.IntN.{*ℤ-zero}
+use Rattle.geo_laws.proofs.Signs.{mul_pos, sign_of, squares_zero, zero_factor, multiple_above, multiple_below}
+
+-- ---- a corner off a plane
+
+-- a corner with its place in the closed tetrahedron
+record CornerOff (t : Corners) (f : Triangle) : Type 0 where
+  corner : Point
+  in_closed : InClosed t (as_rational corner)
+  off : side f corner ≢ pos 0
+
+at_least_zero : (a b : ℤ) → a ≡ b → b ≡ pos 0 → pos 0 ≤ℤ a
+at_least_zero a b e d = omega (arith, ints)
+
+at_least_volume : (a b v : ℤ) → a ≡ b → b ≡ v → pos 0 <ℤ v → pos 0 ≤ℤ a
+at_least_volume a b v e d h = omega (arith, ints)
+
+closed_a : (t : Corners) → IsPositive t → InClosed t (as_rational t.a)
+closed_a t p = (
+  at_least_volume _ _ _ (side_rational-as_rational (opposite_a t) t.a) (ring.side-a_a t) p,
+  (
+    at_least_zero _ _ (side_rational-as_rational (opposite_b t) t.a) (ring.side-b_a t),
+    (
+      at_least_zero _ _ (side_rational-as_rational (opposite_c t) t.a) (ring.side-c_a t),
+      (at_least_zero _ _ (side_rational-as_rational (opposite_d t) t.a) (ring.side-d_a t), tt),
+    ),
+  ),
+)
+
+closed_b : (t : Corners) → IsPositive t → InClosed t (as_rational t.b)
+closed_b t p = (
+  at_least_zero _ _ (side_rational-as_rational (opposite_a t) t.b) (ring.side-a_b t),
+  (
+    at_least_volume _ _ _ (side_rational-as_rational (opposite_b t) t.b) (ring.side-b_b t) p,
+    (
+      at_least_zero _ _ (side_rational-as_rational (opposite_c t) t.b) (ring.side-c_b t),
+      (at_least_zero _ _ (side_rational-as_rational (opposite_d t) t.b) (ring.side-d_b t), tt),
+    ),
+  ),
+)
+
+closed_c : (t : Corners) → IsPositive t → InClosed t (as_rational t.c)
+closed_c t p = (
+  at_least_zero _ _ (side_rational-as_rational (opposite_a t) t.c) (ring.side-a_c t),
+  (
+    at_least_zero _ _ (side_rational-as_rational (opposite_b t) t.c) (ring.side-b_c t),
+    (
+      at_least_volume _ _ _ (side_rational-as_rational (opposite_c t) t.c) (ring.side-c_c t) p,
+      (at_least_zero _ _ (side_rational-as_rational (opposite_d t) t.c) (ring.side-d_c t), tt),
+    ),
+  ),
+)
+
+closed_d : (t : Corners) → IsPositive t → InClosed t (as_rational t.d)
+closed_d t p = (
+  at_least_zero _ _ (side_rational-as_rational (opposite_a t) t.d) (ring.side-a_d t),
+  (
+    at_least_zero _ _ (side_rational-as_rational (opposite_b t) t.d) (ring.side-b_d t),
+    (
+      at_least_zero _ _ (side_rational-as_rational (opposite_c t) t.d) (ring.side-c_d t),
+      (at_least_volume _ _ _ (side_rational-as_rational (opposite_d t) t.d) (ring.side-d_d t) p, tt),
+    ),
+  ),
+)
+
+zero_or_not : (n : ℤ) → (n ≡ pos 0) ⊎ (n ≢ pos 0)
+zero_or_not n = go (sign_of n)
+  where
+    go : (pos 0 <ℤ n) ⊎ ((n ≡ pos 0) ⊎ (pos 0 <ℤ neg_ℤ n)) → (n ≡ pos 0) ⊎ (n ≢ pos 0)
+    go (inl h) = inr (λ e. omega (arith, ints))
+    go (inr (inl e)) = inl e
+    go (inr (inr h)) = inr (λ e. omega (arith, ints))
+
+-- where all corners lie on a plane, so does every point, and then it is no plane
+no_plane : (t : Corners) (f : Triangle) → IsPositive t → SpansPlane f → side f t.a ≡ pos 0 → side f t.b ≡ pos 0 → side f t.c ≡ pos 0 → side f t.d ≡ pos 0 → ⊥
+no_plane t f p spans ea eb ec ed =
+    let x = off_plane f in
+    let sum = (λ j. side_rational (opposite_a t) x *ℤ sym ea j +ℤ (side_rational (opposite_b t) x *ℤ sym eb j +ℤ (side_rational (opposite_c t) x *ℤ sym ec j +ℤ side_rational (opposite_d t) x *ℤ sym ed j)))
+    ∙ ring.sides-combine t f x in
+    let product : volume t *ℤ side_rational f x ≡ pos 0 = sym sum ∙ ring.sum-zero (side_rational (opposite_a t) x) (side_rational (opposite_b t) x) (side_rational (opposite_c t) x) (side_rational (opposite_d t) x) in
+    let squares = squares_zero (normal f).x (normal f).y (normal f).z (sym (ring.side_rational-off_plane f) ∙ zero_factor (volume t) (side_rational f x) p product) in
+    spans squares
+
+corner_off : (t : Corners) (f : Triangle) → IsPositive t → SpansPlane f → CornerOff t f
+corner_off t f p spans = go (zero_or_not (side f t.a)) (zero_or_not (side f t.b)) (zero_or_not (side f t.c)) (zero_or_not (side f t.d))
+  where
+    go : (side f t.a ≡ pos 0) ⊎ (side f t.a ≢ pos 0) → (side f t.b ≡ pos 0) ⊎ (side f t.b ≢ pos 0) → (side f t.c ≡ pos 0) ⊎ (side f t.c ≢ pos 0) → (side f t.d ≡ pos 0) ⊎ (side f t.d ≢ pos 0) → CornerOff t f
+    go (inr h) b c d = record { corner = t.a; in_closed = closed_a t p; off = h }
+    go (inl a) (inr h) c d = record { corner = t.b; in_closed = closed_b t p; off = h }
+    go (inl a) (inl b) (inr h) d = record { corner = t.c; in_closed = closed_c t p; off = h }
+    go (inl a) (inl b) (inl c) (inr h) = record { corner = t.d; in_closed = closed_d t p; off = h }
+    go (inl a) (inl b) (inl c) (inl d) = absurd (no_plane t f p spans a b c d)
+
+-- ---- combinations
+
+positive_sum : (s m b : ℤ) → s ≡ m +ℤ b → pos 0 <ℤ m → pos 0 ≤ℤ b → pos 0 <ℤ s
+positive_sum s m b e h k = omega (arith, ints)
+
+sum_positive : (s m b : ℤ) → s ≡ m +ℤ b → pos 0 ≤ℤ m → pos 0 <ℤ b → pos 0 <ℤ s
+sum_positive s m b e h k = omega (arith, ints)
+
+not_negative : (m : ℕ) → pos 0 ≤ℤ negsuc m → ⊥
+not_negative m h = omega (arith, ints)
+
+natural_at_least : (n : ℕ) (a : ℤ) → pos 0 ≤ℤ a → pos 0 ≤ℤ (pos n *ℤ a)
+natural_at_least n (pos m) h = omega (arith, ints)
+natural_at_least n (negsuc m) h = absurd (not_negative m h)
+
+-- the side of a combination: one part above 0 and the other at least 0
+above-first : (f : Triangle) (n : ℕ) (x y : RationalPoint) → 0 < n → pos 0 <ℤ side_rational f x → pos 0 ≤ℤ side_rational f y → pos 0 <ℤ side_rational f (combined (pos n) x y)
+above-first f n x y l h k =
+    positive_sum (side_rational f (combined (pos n) x y)) (pos n *ℤ side_rational f x) (side_rational f y) (side_rational-combined f (pos n) x y)
+    (mul_pos (pos n) (side_rational f x) (omega (arith, ints)) h) k
+
+above-second : (f : Triangle) (n : ℕ) (x y : RationalPoint) → pos 0 ≤ℤ side_rational f x → pos 0 <ℤ side_rational f y → pos 0 <ℤ side_rational f (combined (pos n) x y)
+above-second f n x y h k =
+    sum_positive (side_rational f (combined (pos n) x y)) (pos n *ℤ side_rational f x) (side_rational f y) (side_rational-combined f (pos n) x y)
+    (natural_at_least n (side_rational f x) h) k
+
+-- a multiple of a point strictly inside, and a point of the closed tetrahedron
+inside-closed : (t : Corners) (n : ℕ) (x y : RationalPoint) → 0 < n → StrictlyInside t x → InClosed t y → StrictlyInside t (combined (pos n) x y)
+inside-closed t n x y l h k = (
+  above-first (opposite_a t) n x y l h.0 k.0,
+  (
+    above-first (opposite_b t) n x y l h.1.0 k.1.0,
+    (above-first (opposite_c t) n x y l h.1.1.0 k.1.1.0, (above-first (opposite_d t) n x y l h.1.1.1.0 k.1.1.1.0, tt)),
+  ),
+)
+
+-- a multiple of a point of the closed tetrahedron, and a point strictly inside
+closed-inside : (t : Corners) (n : ℕ) (x y : RationalPoint) → InClosed t x → StrictlyInside t y → StrictlyInside t (combined (pos n) x y)
+closed-inside t n x y h k = (
+  above-second (opposite_a t) n x y h.0 k.0,
+  (
+    above-second (opposite_b t) n x y h.1.0 k.1.0,
+    (above-second (opposite_c t) n x y h.1.1.0 k.1.1.0, (above-second (opposite_d t) n x y h.1.1.1.0 k.1.1.1.0, tt)),
+  ),
+)
+
+combined_w : (n : ℕ) (x y : RationalPoint) → pos 0 <ℤ x.w → pos 0 <ℤ y.w → pos 0 <ℤ (combined (pos n) x y).w
+combined_w n x y h k = sum_positive (pos n *ℤ x.w +ℤ y.w) (pos n *ℤ x.w) y.w refl (natural_at_least n x.w (weak x.w h)) k
+  where
+    weak : (a : ℤ) → pos 0 <ℤ a → pos 0 ≤ℤ a
+    weak a h = omega (arith, ints)
+
+-- ---- what a combination keeps
+
+moved_above : (s t : ℤ) → s ≡ t → pos 0 <ℤ t → pos 0 <ℤ s
+moved_above s t e h = omega (arith, ints)
+
+moved_below : (s t : ℤ) → s ≡ t → t <ℤ pos 0 → s <ℤ pos 0
+moved_below s t e h = omega (arith, ints)
+
+is_off : (s : ℤ) → (pos 0 <ℤ s) ⊎ (s <ℤ pos 0) → s ≢ pos 0
+is_off s (inl h) = λ e. omega (arith, ints)
+is_off s (inr h) = λ e. omega (arith, ints)
+
+not_both : (s : ℤ) → pos 0 <ℤ s → s <ℤ pos 0 → ⊥
+not_both s h k = omega (arith, ints)
+
+from_neg : (s : ℤ) → pos 0 <ℤ neg_ℤ s → s <ℤ pos 0
+from_neg s h = omega (arith, ints)
+
+-- a large multiple keeps a side that is not 0
+keeps-large : (f : Triangle) (n : ℕ) (x y : RationalPoint) → nat_abs (side_rational f y) < n → side_rational f x ≢ pos 0 → KeepsSide x (combined (pos n) x y) f
+keeps-large f n x y l off = record {
+  off = is_off (side_rational f (combined (pos n) x y)) (go (sign_of (side_rational f x)));
+  above = λ h. moved_above (side_rational f (combined (pos n) x y)) _ e (multiple_above n (side_rational f x) (side_rational f y) l h);
+  below = λ h. moved_below (side_rational f (combined (pos n) x y)) _ e (multiple_below n (side_rational f x) (side_rational f y) l h);
+}
+  where
+    e : side_rational f (combined (pos n) x y) ≡ pos n *ℤ side_rational f x +ℤ side_rational f y
+    e = side_rational-combined f (pos n) x y
+
+    go : (pos 0 <ℤ side_rational f x) ⊎ ((side_rational f x ≡ pos 0) ⊎ (pos 0 <ℤ neg_ℤ (side_rational f x)))
+        → (pos 0 <ℤ side_rational f (combined (pos n) x y)) ⊎ (side_rational f (combined (pos n) x y) <ℤ pos 0)
+    go (inl h) = inl (moved_above (side_rational f (combined (pos n) x y)) _ e (multiple_above n (side_rational f x) (side_rational f y) l h))
+    go (inr (inl z)) = absurd (off z)
+    go (inr (inr h)) = inr (moved_below (side_rational f (combined (pos n) x y)) _ e (multiple_below n (side_rational f x) (side_rational f y) l (from_neg (side_rational f x) h)))
+
+-- to keep the side of a point that keeps it
+keeps-trans : (f : Triangle) (x y z : RationalPoint) → KeepsSide x y f → KeepsSide y z f → KeepsSide x z f
+keeps-trans f x y z h k = record { off = k.off; above = λ a. k.above (h.above a); below = λ b. k.below (h.below b) }
+
+-- a combination with a point that keeps the side of x keeps it
+keeps-toward : (f : Triangle) (n : ℕ) (x y : RationalPoint) → KeepsSide x y f → KeepsSide x (combined (pos n) x y) f
+keeps-toward f n x y k = go (sign_of (side_rational f x))
+  where
+    e : side_rational f (combined (pos n) x y) ≡ pos n *ℤ side_rational f x +ℤ side_rational f y
+    e = side_rational-combined f (pos n) x y
+
+    zero_part : (m b s : ℤ) → s ≡ m +ℤ b → m ≡ pos 0 → s ≡ b
+    zero_part m b s e z = omega (arith, ints)
+
+    below_sum : (s m b : ℤ) → s ≡ m +ℤ b → m ≤ℤ pos 0 → b <ℤ pos 0 → s <ℤ pos 0
+    below_sum s m b e h k = omega (arith, ints)
+
+    not_above : (s : ℤ) → s ≡ pos 0 → pos 0 <ℤ s → ⊥
+    not_above s e h = omega (arith, ints)
+
+    not_below : (s : ℤ) → s ≡ pos 0 → s <ℤ pos 0 → ⊥
+    not_below s e h = omega (arith, ints)
+
+    product_zero : side_rational f x ≡ pos 0 → pos n *ℤ side_rational f x ≡ pos 0
+    product_zero z = ap (λ q. pos n *ℤ q) z ∙ *ℤ-zero (pos n)
+
+    natural_at_most : (n : ℕ) (a : ℤ) → a <ℤ pos 0 → (pos n *ℤ a) ≤ℤ pos 0
+    natural_at_most n (pos m) h = absurd (omega (arith, ints))
+    natural_at_most n (negsuc m) h = omega (arith, ints)
+
+    weak : (a : ℤ) → pos 0 <ℤ a → pos 0 ≤ℤ a
+    weak a h = omega (arith, ints)
+
+    go : (pos 0 <ℤ side_rational f x) ⊎ ((side_rational f x ≡ pos 0) ⊎ (pos 0 <ℤ neg_ℤ (side_rational f x))) → KeepsSide x (combined (pos n) x y) f
+    go (inl h) =
+        let a = above-second f n x y (weak (side_rational f x) h) (k.above h) in
+        record { off = is_off _ (inl a); above = λ _. a; below = λ b. absurd (not_both _ h b) }
+    go (inr (inl z)) =
+        let s = zero_part (pos n *ℤ side_rational f x) (side_rational f y) (side_rational f (combined (pos n) x y)) e (product_zero z) in
+        record { off = λ w. k.off (sym s ∙ w); above = λ a. absurd (not_above _ z a); below = λ b. absurd (not_below _ z b) }
+    go (inr (inr h)) =
+        let b = below_sum (side_rational f (combined (pos n) x y)) (pos n *ℤ side_rational f x) (side_rational f y) e (natural_at_most n (side_rational f x) (from_neg (side_rational f x) h)) (k.below (from_neg (side_rational f x) h)) in
+        record { off = is_off _ (inr b); above = λ a. absurd (not_both _ a (from_neg (side_rational f x) h)); below = λ _. b }
+
+-- ---- lists of planes
+
+-- more than the size of each side of y
+bound : List Triangle → RationalPoint → ℕ
+bound [] y = 1
+bound (f ∷ fs) y = nat_abs (side_rational f y) + 1 + bound fs y
+
+bound_above : (fs : List Triangle) (y : RationalPoint) → 0 < bound fs y
+unfolding bound
+bound_above [] y = omega arith
+bound_above (f ∷ fs) y = omega arith
+
+all-toward : (fs : List Triangle) (n : ℕ) (x y : RationalPoint) → AllByRecursion (KeepsSide x y) fs → AllByRecursion (KeepsSide x (combined (pos n) x y)) fs
+all-toward [] n x y k = tt
+all-toward (f ∷ fs) n x y k = (keeps-toward f n x y k.0, all-toward fs n x y k.1)
+
+all-large : (fs : List Triangle) (n : ℕ) (x y z : RationalPoint) → bound fs z ≤ n → AllByRecursion (KeepsSide x y) fs → AllByRecursion (KeepsSide x (combined (pos n) y z)) fs
+unfolding bound
+all-large [] n x y z l k = tt
+all-large (f ∷ fs) n x y z l k =
+    (keeps-trans f x y (combined (pos n) y z) k.0 (keeps-large f n y z (omega arith) k.0.off), all-large fs n x y z (omega arith) k.1)
+
+-- the middle is strictly inside
+middle_inside : (t : Corners) → IsPositive t → StrictlyInside t (middle t)
+middle_inside t p =
+    (moved_above _ _ (ring.side-a_middle t) p, (moved_above _ _ (ring.side-b_middle t) p, (moved_above _ _ (ring.side-c_middle t) p, (moved_above _ _ (ring.side-d_middle t) p, tt))))
+
+closed_of_corner : (t : Corners) (f : Triangle) (c : CornerOff t f) → InClosed t (as_rational c.corner)
+closed_of_corner t f c = c.in_closed
+
+only_second : (n a b s : ℤ) → s ≡ n *ℤ a +ℤ b → a ≡ pos 0 → b ≡ s
+only_second n a b s e z = drop_zero (n *ℤ a) b s e (ap (λ q. n *ℤ q) z ∙ *ℤ-zero n)
+  where
+    drop_zero : (m b s : ℤ) → s ≡ m +ℤ b → m ≡ pos 0 → b ≡ s
+    drop_zero m b s e z = omega (arith, ints)
+
+pub nudge : NudgeLaw
+nudge t p [] spans x w closed = (combined (pos 1) x (middle t), combined_w 1 x (middle t) w (omega (arith, ints)), (closed-inside t 1 x (middle t) closed (middle_inside t p), tt))
+nudge t p (f ∷ fs) spans x w closed = go (nudge t p fs spans.1 x w closed)
+  where
+    go : SomeRational (λ y. StrictlyInside t y × AllByRecursion (KeepsSide x y) fs) → SomeRational (λ y. StrictlyInside t y × AllByRecursion (KeepsSide x y) (f ∷ fs))
+    go some = by_side (zero_or_not (side_rational f x)) (zero_or_not (side_rational f some.0))
+      where
+        y : RationalPoint
+        y = some.0
+
+        -- x lies on the plane
+        on_plane : side_rational f x ≡ pos 0 → (z : RationalPoint) → side_rational f z ≢ pos 0 → KeepsSide x z f
+        on_plane e z off = record { off = off; above = λ a. absurd (no_above (side_rational f x) e a); below = λ b. absurd (no_below (side_rational f x) e b) }
+          where
+            no_above : (s : ℤ) → s ≡ pos 0 → pos 0 <ℤ s → ⊥
+            no_above s e h = omega (arith, ints)
+
+            no_below : (s : ℤ) → s ≡ pos 0 → s <ℤ pos 0 → ⊥
+            no_below s e h = omega (arith, ints)
+
+        by_side : (side_rational f x ≡ pos 0) ⊎ (side_rational f x ≢ pos 0) → (side_rational f some.0 ≡ pos 0) ⊎ (side_rational f some.0 ≢ pos 0)
+            → SomeRational (λ y. StrictlyInside t y × AllByRecursion (KeepsSide x y) (f ∷ fs))
+        by_side (inr off) _ =
+            let n = nat_abs (side_rational f some.0) + 1 in (
+              combined (pos n) x some.0,
+              combined_w n x some.0 w some.1,
+              (
+                closed-inside t n x some.0 closed some.2.0,
+                (keeps-large f n x some.0 (omega arith) off, all-toward fs n x some.0 some.2.1),
+              ),
+            )
+        by_side (inl on) (inr off) = (some.0, some.1, (some.2.0, (on_plane on some.0 off, some.2.1)))
+        by_side (inl on) (inl on_y) =
+            let c = corner_off t f p spans.0 in
+            let v = as_rational c.corner in
+            let n = bound fs v in
+            let off_v : side_rational f (combined (pos n) some.0 v) ≢ pos 0 = λ e. c.off (sym (side_rational-as_rational f c.corner) ∙ only_second (pos n) (side_rational f some.0) (side_rational f v) _ (side_rational-combined f (pos n) some.0 v) on_y ∙ e) in (
+              combined (pos n) some.0 v,
+              combined_w n some.0 v some.1 (omega (arith, ints)),
+              (inside-closed t n some.0 v (bound_above fs v) some.2.0 c.in_closed, (on_plane on (combined (pos n) some.0 v) off_v, all-large fs n x some.0 v (omega arith) some.2.1)),
+            )

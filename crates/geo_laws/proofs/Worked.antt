@@ -1,0 +1,34 @@
+-- Small inputs whose definitions compute.
+use Rattle.std.specs.Prelude.{◌≡◌, ℕ, pos, List, [], ◌∷◌, refl}
+use Rattle.sign_predicates.specs.Point.{Point}
+use Rattle.sign_predicates.specs.Orientation.{det, orient, orient_rational}
+use Rattle.sign_predicates.specs.Sphere.{in_sphere}
+use Rattle.geo_laws.specs.Delaunay.{delaunay_rows}
+use Rattle.geo_laws.specs.Hull.{rows_round}
+use Rattle.geo_laws.specs.declared.tetrahedra.Tet.{Tet}
+
+abbrev at : ℕ → ℕ → ℕ → Point
+at x y z = record { x = pos x; y = pos y; z = pos z }
+
+abbrev row : ℕ → ℕ → ℕ → ℕ → Tet
+row a b c d = record { a = a; b = b; c = c; d = d }
+
+-- five points on one sphere
+abbrev pyramid : List Point
+pyramid = at 0 0 0 ∷ at 2 0 0 ∷ at 2 2 0 ∷ at 0 2 0 ∷ at 1 1 2 ∷ []
+
+pub delaunay_rows-pyramid : delaunay_rows pyramid ≡ row 0 1 3 4 ∷ row 1 2 3 4 ∷ []
+unfolding det orient in_sphere
+delaunay_rows-pyramid = refl
+
+-- (1, 1, 1/2) plus (1/8, 0, 0) lies in exactly one row
+pub rows_round-pyramid : rows_round pyramid (delaunay_rows pyramid) (record { x = pos 9; y = pos 8; z = pos 4; w = pos 8 }) ≡ 1
+unfolding det orient orient_rational in_sphere
+rows_round-pyramid = refl
+
+abbrev cube : List Point
+cube = at 0 0 0 ∷ at 1 0 0 ∷ at 1 1 0 ∷ at 0 1 0 ∷ at 0 0 1 ∷ at 1 0 1 ∷ at 1 1 1 ∷ at 0 1 1 ∷ []
+
+pub delaunay_rows-cube : delaunay_rows cube ≡ row 0 1 3 4 ∷ row 1 2 3 5 ∷ row 1 3 4 5 ∷ row 2 3 5 6 ∷ row 3 4 5 7 ∷ row 3 5 6 7 ∷ []
+unfolding det orient in_sphere
+delaunay_rows-cube = refl

@@ -1,0 +1,5 @@
+pub mod Delaunay
+pub mod Hull
+pub mod Simplex
+pub mod Height
+pub mod Laws

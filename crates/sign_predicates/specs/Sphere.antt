@@ -1,0 +1,39 @@
+-- Inside and outside of the sphere through the corners of a tetrahedron, where ties are broken by the points' numbers.
+use Rattle.std.specs.Prelude.{ℤ, pos, ◌+ℤ◌, ◌-ℤ◌, ◌*ℤ◌, ℕ, Bool, ◌&&◌, ◌||◌, int_lt, int_le, nat_lt, List, [], ◌∷◌, map, filter}
+use Rattle.std.specs.List.{list_all, list_any}
+use Rattle.sign_predicates.specs.Point.{Point, from_to}
+use Rattle.sign_predicates.specs.Orientation.{dot, det, Triangle, side, opposite_a, opposite_b, opposite_c, opposite_d}
+use Rattle.sign_predicates.specs.declared.tetrahedron.Corners.{Corners}
+use Rattle.sign_predicates.specs.declared.tetrahedron.Numbers.{Numbers}
+
+-- the square of a vector's length
+abbrev pub square_length : Point → ℤ
+square_length v = dot v v
+
+-- for a positive tetrahedron: below 0 where e is outside of the sphere through its corners, 0 where it is on it
+unfoldable pub in_sphere : Corners → Point → ℤ
+in_sphere t e =
+    let a = from_to e t.a in
+    let b = from_to e t.b in
+    let c = from_to e t.c in
+    let d = from_to e t.d in
+    square_length a *ℤ det b c d -ℤ square_length b *ℤ det a c d +ℤ square_length c *ℤ det a b d -ℤ square_length d *ℤ det a b c
+
+-- the corners' numbers, each with the face opposite that corner
+abbrev pub opposite_faces : Corners → Numbers → List (ℕ × Triangle)
+opposite_faces t n = (n.a, opposite_a t) ∷ (n.b, opposite_b t) ∷ (n.c, opposite_c t) ∷ (n.d, opposite_d t) ∷ []
+
+-- the numbers of the corners that lie on the other side of their opposite face than e
+abbrev pub across : Corners → Numbers → Point → List ℕ
+across t n e = map (λ f. f.0) (filter (λ f. int_lt (side f.1 e) (pos 0)) (opposite_faces t n))
+
+-- the numbers of the corners that lie on the same side of their opposite face as e
+abbrev pub alongside : Corners → Numbers → Point → List ℕ
+alongside t n e = map (λ f. f.0) (filter (λ f. int_lt (pos 0) (side f.1 e)) (opposite_faces t n))
+
+-- Whether e, with the number m, is outside of the positive tetrahedron t. On its sphere the least number decides,
+-- of e and of the corners whose opposite face's plane doesn't hold e: e and the corners across their face are for it.
+abbrev pub is_outside : Corners → Numbers → Point → ℕ → Bool
+is_outside t n e m =
+    int_lt (in_sphere t e) (pos 0)
+    || int_le (in_sphere t e) (pos 0) && list_any (λ i. list_all (nat_lt i) (alongside t n e)) (m ∷ across t n e)
