@@ -1,0 +1,6 @@
+//! The program `tetgen`.
+#![tactic(auto)]
+
+mod names;
+
+fn main() {}
