@@ -1,16 +1,17 @@
-//! Lists, and the traits by which the program reaches files.
+//! Lists of items, bytes and names, and the traits by which the program reaches files and streams.
 #![tactic(auto)]
 
 mod bytes;
+mod calls;
 mod folder;
 mod items;
 mod mem_folder;
+mod no_memory;
+mod words;
 
 pub use bytes::{Bytes, Name};
 pub use folder::{FetchFault, Folder, StoreFault};
 pub use items::Items;
 pub use mem_folder::MemFolder;
-
-/// Want of memory.
-#[derive(Clone, Copy, PartialEq, Eq)]
-pub struct NoMemory;
+pub use no_memory::NoMemory;
+pub use words::Words;
