@@ -2,5 +2,7 @@
 #![tactic(auto)]
 
 mod names;
+mod read_words;
+mod words;
 
 fn main() {}
