@@ -6,12 +6,16 @@ mod calls;
 mod folder;
 mod items;
 mod mem_folder;
+mod mem_sink;
 mod no_memory;
+mod sink;
 mod words;
 
 pub use bytes::{Bytes, Name};
 pub use folder::{FetchFault, Folder, StoreFault};
 pub use items::Items;
 pub use mem_folder::MemFolder;
+pub use mem_sink::MemSink;
 pub use no_memory::NoMemory;
+pub use sink::{PutFault, Sink};
 pub use words::Words;
