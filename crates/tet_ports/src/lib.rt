@@ -8,7 +8,10 @@ mod items;
 mod mem_folder;
 mod mem_sink;
 mod no_memory;
+mod os_folder;
 mod sink;
+mod std_sink;
+mod streams;
 mod words;
 
 pub use bytes::{Bytes, Name};
@@ -17,5 +20,7 @@ pub use items::Items;
 pub use mem_folder::MemFolder;
 pub use mem_sink::MemSink;
 pub use no_memory::NoMemory;
+pub use os_folder::OsFolder;
 pub use sink::{PutFault, Sink};
+pub use std_sink::StdSink;
 pub use words::Words;
