@@ -1,10 +1,10 @@
 -- What a folder in memory holds, and which of its calls are to fail.
-use Rattle.std.specs.Prelude.{ℕ, ◌+◌, refl}
+use Rattle.std.specs.Prelude.{ℕ, ◌+◌, List, refl}
 use Rattle.std.specs.Cmp.Lexicographic.{slice_cmp}
 use Rattle.std.specs.Coded.{Coded, code_by, coded×, coded_ℕ, coded_list}
 use Rattle.std.specs.FinMap as map
 use Rattle.std.specs.Ordering.{nat_cmp}
-use Rattle.tet_ports.specs.Calls.{calls_code, failures}
+use Rattle.tet_ports.specs.Calls.{calls_code, failures, one_more}
 use Rattle.tet_ports.specs.Files.{Files}
 use Rattle.tet_ports.specs.declared.calls.Calls.{Calls}
 
@@ -14,6 +14,10 @@ pub record MemoryFiles : Type 0 where
   pub fetches : Calls
   pub stores : Calls
   pub kept : ℕ
+
+-- the folder after one more store, with this name set to this text
+abbrev pub stored : MemoryFiles → List ℕ → List ℕ → MemoryFiles
+stored folder name text = record folder { files = map.insert folder.files name text; stores = one_more folder.stores }
 
 -- how many of its calls have failed that were set to fail
 abbrev pub failures_of : MemoryFiles → ℕ

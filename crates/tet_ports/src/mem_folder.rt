@@ -1,7 +1,11 @@
-ghost use Rattle.std.specs.Prelude.{◌≡◌, ◌≤◌, ◌↔◌, Some, None, OnOk, OnErr, IsNone, IfSome, IfOk, IfErr, IsErrOf, IsTrue, length, take};
+ghost use Rattle.std.specs.Prelude.{◌≡◌, ◌≤◌, ◌+◌, ◌↔◌, Some, None, OnOk, OnErr, IsNone, IfSome, IfOk, IfErr, IsErrOf, IsTrue, length, take};
 ghost use Rattle.std.specs.FinMap as map;
 ghost use Rattle.tet_ports.specs.Calls.{failing_at, fresh_calls, one_more, IsNextFailing};
-ghost use Rattle.tet_ports.specs.MemFolder.{MemoryFiles, failures_of, memory_files_code};
+ghost use Rattle.tet_ports.specs.Faults.{IfTooLarge};
+ghost use Rattle.tet_ports.specs.Files.{HoldsMore};
+ghost use Rattle.tet_ports.specs.MemFolder.{MemoryFiles, failures_of, memory_files_code, stored};
+ghost use Rattle.tet_ports.specs.declared.folder.FetchFault.TheVariants.{Missing, Failed as FetchFailed};
+ghost use Rattle.tet_ports.specs.declared.folder.StoreFault.TheVariants.{Failed as StoreFailed, NoMemory as StoreNoMemory};
 
 use crate::calls::Calls;
 use crate::{Bytes, FetchFault, Folder, Name, NoMemory, StoreFault};
@@ -97,7 +101,16 @@ impl Folder for MemFolder {
 
     ghost misses = { λ _. 0 };
 
-    fn fetch(&mut self, alloc: Global, name: &Name, most: usize) -> Result<Bytes, FetchFault> {
+    fn fetch(&mut self, alloc: Global, name: &Name, most: usize) -> Result<Bytes, FetchFault>
+        ensures found { IfOk result (λ bytes. (map.get self.old.files name.now ≡ Some bytes) × (length bytes ≤ most)) }
+        ensures missing { IsErrOf result Missing → map.get self.old.files name.now ≡ None }
+        ensures failed { IsErrOf result FetchFailed ↔ IsNextFailing self.old.fetches }
+        ensures too_large { IfErr result (λ fault. IfTooLarge fault (λ taken. length taken ≡ most + 1)) }
+        ensures longer { IfErr result (λ fault. IfTooLarge fault (HoldsMore (Some self.old.files) name.now most)) }
+        ensures counted { self.new ≡ record self.old { fetches = one_more self.old.fetches } }
+        ensures failures { IsNextFailing self.old.fetches → failures_of self.new ≡ failures_of self.old + 1 }
+        ensures failure_count { failures_of self.old ≤ failures_of self.new }
+    {
         if self.fetches.count() {
             return Err(FetchFault::Failed);
         }
@@ -112,7 +125,15 @@ impl Folder for MemFolder {
         Ok(Bytes::from_slice(alloc, text)?)
     }
 
-    fn store(&mut self, name: &Name, text: &Bytes) -> Result<(), StoreFault> {
+    fn store(&mut self, name: &Name, text: &Bytes) -> Result<(), StoreFault>
+        ensures stored { OnOk result (self.new ≡ stored self.old name.now text.now) }
+        ensures partly { IsErrOf result StoreFailed → self.new ≡ stored self.old name.now (take self.old.kept text.now) }
+        ensures kept { IsErrOf result StoreNoMemory → self.new ≡ record self.old { stores = one_more self.old.stores } }
+        ensures next { OnOk result (¬ IsNextFailing self.old.stores) }
+        ensures failed { IsErrOf result StoreFailed → IsNextFailing self.old.stores }
+        ensures failures { IsNextFailing self.old.stores → failures_of self.new ≡ failures_of self.old + 1 }
+        ensures failure_count { failures_of self.old ≤ failures_of self.new }
+    {
         let text = text.as_slice();
         if self.stores.count() {
             self.set(name, &text[..self.kept.min(text.len())])?;
