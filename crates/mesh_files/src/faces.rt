@@ -1,6 +1,7 @@
-ghost use Rattle.std.specs.Prelude.{◌≡◌, ◌↔◌, ◌×◌, IfOk, OnOk};
+ghost use Rattle.std.specs.Prelude.{◌≡◌, IfOk};
 ghost use Rattle.geo_laws.specs.Faces.{face_of, side_of, row_faces, row_sides, faces_of_rows, sides_of_rows, AreFacesOf, AreSidesOf};
 
+use crate::ascending::keep_distinct;
 use geo_laws::{Face, Side, Tet, TetList};
 use std::alloc::{AllocError, Global};
 use tet_ports::{Items, NoMemory};
@@ -86,8 +87,7 @@ pub fn faces_of(alloc: Global, list: &TetList) -> Result<Faces, NoMemory>
     ensures { IfOk result (λ faces. AreFacesOf list.now faces) }
 {
     let mut faces = all_faces(alloc, list)?;
-    faces.sort_unstable();
-    faces.dedup();
+    keep_distinct(&mut faces);
     Ok(Faces::from(faces))
 }
 
@@ -96,7 +96,6 @@ pub fn edges_of(alloc: Global, list: &TetList) -> Result<Edges, NoMemory>
     ensures { IfOk result (λ sides. AreSidesOf list.now sides) }
 {
     let mut sides = all_sides(alloc, list)?;
-    sides.sort_unstable();
-    sides.dedup();
+    keep_distinct(&mut sides);
     Ok(Edges::from(sides))
 }
