@@ -1,9 +1,8 @@
 ghost use Rattle.std.specs.Prelude.{◌≡◌, IfOk};
 ghost use Rattle.geo_laws.specs.Faces.{face_of, side_of, row_faces, row_sides, faces_of_rows, sides_of_rows, AreFacesOf, AreSidesOf};
 
-use crate::ascending::keep_distinct;
 use geo_laws::{Face, Side, Tet, TetList};
-use std::alloc::{AllocError, Global};
+use std::alloc::Global;
 use tet_ports::{Items, NoMemory};
 
 /// A list of faces.
@@ -61,10 +60,10 @@ fn row_sides(row: Tet) -> [Side; 6]
 }
 
 /// The faces of all rows, row by row.
-fn all_faces(alloc: Global, list: &TetList) -> Result<Vec<Face>, AllocError>
-    ensures { IfOk result (λ faces. faces.items ≡ faces_of_rows list.now) }
+fn all_faces(alloc: Global, list: &TetList) -> Result<Faces, NoMemory>
+    ensures { IfOk result (λ faces. faces ≡ faces_of_rows list.now) }
 {
-    let mut faces = Vec::new(alloc);
+    let mut faces = Faces::new(alloc);
     for row in list.as_slice() {
         faces.extend_from_slice(&row_faces(*row))?;
     }
@@ -72,10 +71,10 @@ fn all_faces(alloc: Global, list: &TetList) -> Result<Vec<Face>, AllocError>
 }
 
 /// The sides of all rows, row by row.
-fn all_sides(alloc: Global, list: &TetList) -> Result<Vec<Side>, AllocError>
-    ensures { IfOk result (λ sides. sides.items ≡ sides_of_rows list.now) }
+fn all_sides(alloc: Global, list: &TetList) -> Result<Edges, NoMemory>
+    ensures { IfOk result (λ sides. sides ≡ sides_of_rows list.now) }
 {
-    let mut sides = Vec::new(alloc);
+    let mut sides = Edges::new(alloc);
     for row in list.as_slice() {
         sides.extend_from_slice(&row_sides(*row))?;
     }
@@ -87,8 +86,8 @@ pub fn faces_of(alloc: Global, list: &TetList) -> Result<Faces, NoMemory>
     ensures { IfOk result (λ faces. AreFacesOf list.now faces) }
 {
     let mut faces = all_faces(alloc, list)?;
-    keep_distinct(&mut faces);
-    Ok(Faces::from(faces))
+    faces.keep_distinct();
+    Ok(faces)
 }
 
 /// All sides of rows: each set of two corners of a row once, its numbers ascending, the sides ascending.
@@ -96,6 +95,6 @@ pub fn edges_of(alloc: Global, list: &TetList) -> Result<Edges, NoMemory>
     ensures { IfOk result (λ sides. AreSidesOf list.now sides) }
 {
     let mut sides = all_sides(alloc, list)?;
-    keep_distinct(&mut sides);
-    Ok(Edges::from(sides))
+    sides.keep_distinct();
+    Ok(sides)
 }

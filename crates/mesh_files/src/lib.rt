@@ -1,7 +1,6 @@
-//! The texts of a mesh's files.
+//! The texts of a mesh's files, and the faces and edges of its rows.
 #![tactic(auto)]
 
-mod ascending;
 mod ele;
 mod faces;
 mod line;

@@ -3,6 +3,7 @@
 
 mod bytes;
 mod calls;
+mod distinct;
 mod folder;
 mod items;
 mod mem_folder;

@@ -25,6 +25,7 @@ sorted_distinct {X} R E order equal ties same xs ys zs moved sorted filtered =
     record {
       exactly = λ x. (
         (λ h. Contains-permutation ys xs x (IsPermutation-sym xs ys moved) (Contains-from_dedup E ys x (subst (λ s. Contains s x) is h))),
-        (λ h. subst (λ s. Contains s x) (sym is) (Contains-dedup equal same ys x (Contains-permutation xs ys x moved h))));
+        (λ h. subst (λ s. Contains s x) (sym is) (Contains-dedup equal same ys x (Contains-permutation xs ys x moved h))),
+      );
       ascending = subst (AllPairs (λ x y. R x y ≡ Less)) (sym is) (λ i j d h k. Less-from_sorted R (dedup E ys) i j d (IsStrictlySortedBy-dedup order ties ys sorted) h k);
     }
