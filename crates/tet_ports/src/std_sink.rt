@@ -1,4 +1,4 @@
-ghost use Rattle.std.specs.Prelude.{None};
+ghost use Rattle.std.specs.Prelude.{◌≡◌, None};
 
 use crate::streams::write_whole;
 use crate::{PutFault, Sink};
@@ -14,7 +14,9 @@ pub struct StdSink<W> {
 
 impl<W: Write + Drop> StdSink<W> {
     /// A sink over this writer.
-    pub fn new(writer: W) -> Self {
+    pub fn new(writer: W) -> Self
+        ensures { result.faults ≡ 0 }
+    {
         StdSink { writer, faults: 0 }
     }
 }
