@@ -1,4 +1,6 @@
-ghost use Rattle.std.specs.Prelude.{◌≡◌, ◌≤◌, ◌+◌, None, length, IfErr, IfOk};
+ghost use Rattle.std.specs.Prelude.{◌≡◌, ◌≤◌, ◌+◌, None, length, IfErr, IfOk, IsErrOf};
+ghost use Rattle.tet_ports.specs.Counts.{Rose};
+ghost use Rattle.tet_ports.specs.declared.folder.StoreFault.TheVariants.{Failed as StoreFailed, NoMemory as StoreNoMemory};
 ghost use Rattle.tet_ports.specs.Faults.{IfTooLarge};
 
 use crate::streams::{read_whole, write_whole};
@@ -46,7 +48,12 @@ impl<R: Files + Drop> Folder for OsFolder<R> {
         fetched
     }
 
-    fn store(&mut self, name: &Name, text: &Bytes) -> Result<(), StoreFault> {
+    fn store(&mut self, name: &Name, text: &Bytes) -> Result<(), StoreFault>
+        ensures failed { IsErrOf result StoreFailed → Rose self.old.faults self.new.faults }
+        ensures takes_no_memory { ¬ IsErrOf result StoreNoMemory }
+        ensures fault_count { self.old.faults ≤ self.new.faults }
+        ensures miss_count { self.old.misses ≤ self.new.misses }
+    {
         match write_file(&self.rt, name, text) {
             Ok(()) => Ok(()),
             Err(_) => {

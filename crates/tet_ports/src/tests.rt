@@ -1,3 +1,6 @@
+ghost use Rattle.std.specs.Prelude.{◌≡◌, ℕ, List, None, OnErr, OnOk};
+ghost use Rattle.tet_ports.specs.Files.{Holds, PartlyStored, with_file};
+
 use crate::streams::{read_whole, write_whole};
 use crate::*;
 use std::alloc::Global;
@@ -290,5 +293,44 @@ fn standard_sink_writes_and_flushes(rt: HostRuntime) -> Result<(), Fail> {
     let mut room = [0; 4];
     let mut full = StdSink::new(room.as_mut_slice());
     assert_eq!(rt; full.put(b"points"), Err(PutFault::Failed));
+    Ok(())
+}
+
+/// Sets one file to the bytes of another, over any folder, also one that tells nothing.
+fn copy_file<F: Folder>(alloc: Global, folder: &mut F, from: &Name, to: &Name) -> Result<(), NoCopy>
+    ensures done { OnOk result ((text : List ℕ) × Holds (F.held folder.old) from.now text × (F.held folder.new ≡ with_file (F.held folder.old) to.now text)) }
+    ensures refused { OnErr result ((text : List ℕ) × PartlyStored (F.held folder.old) to.now text (F.held folder.new)) }
+    ensures untold { F.held folder.old ≡ None → F.held folder.new ≡ None }
+{
+    let Ok(text) = folder.fetch(alloc, from, 100) else {
+        return Err(NoCopy);
+    };
+    match folder.store(to, &text) {
+        Ok(()) => Ok(()),
+        Err(_) => Err(NoCopy),
+    }
+}
+
+#[derive(Debug, PartialEq, Eq, Clone, Copy)]
+struct NoCopy;
+
+#[test]
+fn any_folder_copies_a_file(rt: HostRuntime) -> Result<(), Fail> {
+    let alloc = rt.alloc();
+    let (from, to) = (
+        Name::from_slice(alloc, b"from")?,
+        Name::from_slice(alloc, b"to")?,
+    );
+    let mut folder = MemFolder::new(alloc);
+    assert_eq!(rt; copy_file(alloc, &mut folder, &from, &to), Err(NoCopy));
+    folder.add(&from, &Bytes::from_slice(alloc, b"text")?)?;
+    assert_eq!(rt; copy_file(alloc, &mut folder, &from, &to), Ok(()));
+    let held = folder.get(&to).ok_or("not stored")?;
+    assert_eq!(rt; held.as_slice(), b"text".as_slice());
+    let mut files = OsFolder::new(&rt);
+    assert_eq!(rt;
+        copy_file(alloc, &mut files, &Name::new(alloc), &to),
+        Err(NoCopy)
+    );
     Ok(())
 }
