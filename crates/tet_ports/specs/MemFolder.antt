@@ -1,9 +1,7 @@
 -- What a folder in memory holds, and which of its calls are to fail.
 use Rattle.std.specs.Prelude.{ℕ, ◌+◌, List, refl}
-use Rattle.std.specs.Cmp.Lexicographic.{slice_cmp}
 use Rattle.std.specs.Coded.{Coded, code_by, coded×, coded_ℕ, coded_list}
 use Rattle.std.specs.FinMap as map
-use Rattle.std.specs.Ordering.{nat_cmp}
 use Rattle.tet_ports.specs.Calls.{calls_code, failures, one_more}
 use Rattle.tet_ports.specs.Files.{Files}
 use Rattle.tet_ports.specs.declared.calls.Calls.{Calls}

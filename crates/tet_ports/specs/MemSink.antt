@@ -23,4 +23,4 @@ wanting sink = record sink { puts = one_more sink.puts; wants = min (sink.wants 
 abbrev pub memory_bytes_code : Coded MemoryBytes
 memory_bytes_code =
     code_by (List ℕ × (Calls × (ℕ × ℕ))) (coded× (coded_list coded_ℕ) (coded× calls_code (coded× coded_ℕ coded_ℕ)))
-        (λ s. (s.bytes, (s.puts, (s.kept, s.wants)))) (λ p. record { bytes = p.0; puts = p.1.0; kept = p.1.1.0; wants = p.1.1.1 }) (λ _. refl)
+    (λ s. (s.bytes, (s.puts, (s.kept, s.wants)))) (λ p. record { bytes = p.0; puts = p.1.0; kept = p.1.1.0; wants = p.1.1.1 }) (λ _. refl)

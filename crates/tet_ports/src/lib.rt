@@ -25,3 +25,6 @@ pub use os_folder::OsFolder;
 pub use sink::{PutFault, Sink};
 pub use std_sink::StdSink;
 pub use words::Words;
+
+#[cfg(test)]
+mod tests;

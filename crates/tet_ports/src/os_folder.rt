@@ -1,13 +1,14 @@
-ghost use Rattle.std.specs.Prelude.{◌≡◌, ◌≤◌, ◌+◌, None, length, IfErr, IfOk};
+ghost use Rattle.std.specs.Prelude.{◌≡◌, ◌≤◌, ◌+◌, None, length, IfErr, IfOk, IsErrOf};
+ghost use Rattle.tet_ports.specs.Counts.{Rose};
+ghost use Rattle.tet_ports.specs.declared.folder.StoreFault.TheVariants.{Failed as StoreFailed, NoMemory as StoreNoMemory};
 ghost use Rattle.tet_ports.specs.Faults.{IfTooLarge};
 
 use crate::streams::{read_whole, write_whole};
 use crate::{Bytes, FetchFault, Folder, Name, StoreFault};
 use std::alloc::Global;
-use std::fs;
-use std::io;
 use std::rt::Files;
 use std::str::from_utf8;
+use std::{fs, io};
 
 /// The files of the system, by names that are paths in UTF-8. It tells no content.
 #[derive(Drop)]
@@ -19,7 +20,9 @@ pub struct OsFolder<R> {
 
 impl<R: Files + Drop> OsFolder<R> {
     /// The files that this runtime reaches.
-    pub fn new(rt: R) -> Self {
+    pub fn new(rt: R) -> Self
+        ensures { (result.faults ≡ 0) × (result.misses ≡ 0) }
+    {
         OsFolder {
             rt,
             faults: 0,
@@ -45,7 +48,12 @@ impl<R: Files + Drop> Folder for OsFolder<R> {
         fetched
     }
 
-    fn store(&mut self, name: &Name, text: &Bytes) -> Result<(), StoreFault> {
+    fn store(&mut self, name: &Name, text: &Bytes) -> Result<(), StoreFault>
+        ensures failed { IsErrOf result StoreFailed → Rose self.old.faults self.new.faults }
+        ensures takes_no_memory { ¬ IsErrOf result StoreNoMemory }
+        ensures fault_count { self.old.faults ≤ self.new.faults }
+        ensures miss_count { self.old.misses ≤ self.new.misses }
+    {
         match write_file(&self.rt, name, text) {
             Ok(()) => Ok(()),
             Err(_) => {
@@ -56,12 +64,7 @@ impl<R: Files + Drop> Folder for OsFolder<R> {
     }
 }
 
-fn read_file<R: Files>(
-    alloc: Global,
-    rt: &R,
-    name: &Name,
-    most: usize,
-) -> Result<Bytes, FetchFault>
+fn read_file<R: Files>(alloc: Global, rt: &R, name: &Name, most: usize) -> Result<Bytes, FetchFault>
     ensures bounded { IfOk result (λ bytes. length bytes ≤ most) }
     ensures too_large { IfErr result (λ fault. IfTooLarge fault (λ taken. length taken ≡ most + 1)) }
 {

@@ -1,4 +1,7 @@
-ghost use Rattle.std.specs.Prelude.{None};
+ghost use Rattle.std.specs.Io.KnownBytes.{Appends};
+ghost use Rattle.std.specs.Prelude.{◌≡◌, ◌≤◌, None, IsErrOf, OnOk};
+ghost use Rattle.tet_ports.specs.Counts.{Rose};
+ghost use Rattle.tet_ports.specs.declared.sink.PutFault.TheVariants.{Failed, NoMemory as PutNoMemory};
 
 use crate::streams::write_whole;
 use crate::{PutFault, Sink};
@@ -14,7 +17,9 @@ pub struct StdSink<W> {
 
 impl<W: Write + Drop> StdSink<W> {
     /// A sink over this writer.
-    pub fn new(writer: W) -> Self {
+    pub fn new(writer: W) -> Self
+        ensures { result.faults ≡ 0 }
+    {
         StdSink { writer, faults: 0 }
     }
 }
@@ -26,7 +31,12 @@ impl<W: Write + Drop> Sink for StdSink<W> {
 
     ghost wants = { λ _. 0 };
 
-    fn put(&mut self, piece: &[u8]) -> Result<(), PutFault> {
+    fn put(&mut self, piece: &[u8]) -> Result<(), PutFault>
+        ensures whole { OnOk result (Appends (W.contents self.old.writer) (W.contents self.new.writer) piece.now) }
+        ensures failed { IsErrOf result Failed → Rose self.old.faults self.new.faults }
+        ensures takes_no_memory { ¬ IsErrOf result PutNoMemory }
+        ensures fault_count { self.old.faults ≤ self.new.faults }
+    {
         match write_whole(&mut self.writer, piece) {
             Ok(()) => Ok(()),
             Err(_) => {
