@@ -1,2 +1,4 @@
 pub mod Cutting
 pub mod ContentLines
+pub mod Numerals
+pub mod Scaling

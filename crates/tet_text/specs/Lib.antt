@@ -1,2 +1,5 @@
 pub mod Lines
 pub mod Views
+pub mod Numbers
+pub mod Decimals
+pub mod Faults

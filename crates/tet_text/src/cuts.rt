@@ -4,6 +4,7 @@ ghost use Rattle.std.specs.Prelude.{◌≡◌, ◌+◌, ◌<◌, length, take, d
 ghost use Rattle.std.specs.Option.{ForSome};
 ghost use Rattle.std.specs.List.{before_first, after_first};
 ghost use Rattle.tet_text.specs.Lines.{is_line_feed, is_comment_mark, is_blank, is_no_blank, content_of, without_blanks};
+ghost use Rattle.tet_text.specs.Decimals.{is_point, is_exponent_mark, mantissa_of, exponent_of};
 
 /// The bytes before that place, and those after it; all and none where there is no such place.
 pub(crate) fn cut(bytes: &[u8], at: Option<usize>) -> (&[u8], &[u8])
@@ -77,5 +78,36 @@ pub(crate) fn skip_blanks(bytes: &[u8]) -> &[u8]
     match field_place(bytes) {
         Some(at) => &bytes[at..],
         None => &[],
+    }
+}
+
+fn point_place(mantissa: &[u8]) -> Option<usize>
+    ensures { result ≡ position is_point mantissa.now }
+{
+    mantissa.iter().position(|b| *b == b'.')
+}
+
+fn exponent_place(unsigned: &[u8]) -> Option<usize>
+    ensures { result ≡ position is_exponent_mark unsigned.now }
+{
+    unsigned.iter().position(|b| *b == b'e' || *b == b'E')
+}
+
+/// The bytes before the first point, and those after it.
+pub(crate) fn cut_point(mantissa: &[u8]) -> (&[u8], &[u8])
+    ensures before { result.0.now ≡ before_first is_point mantissa.now }
+    ensures after { result.1.now ≡ after_first is_point mantissa.now }
+{
+    cut(mantissa, point_place(mantissa))
+}
+
+/// The bytes before the exponent, and the exponent; `0` where there is none.
+pub(crate) fn cut_exponent(unsigned: &[u8]) -> (&[u8], &[u8])
+    ensures mantissa { result.0.now ≡ mantissa_of unsigned.now }
+    ensures exponent { result.1.now ≡ exponent_of unsigned.now }
+{
+    match exponent_place(unsigned) {
+        Some(at) => (&unsigned[..at], &unsigned[at + 1..]),
+        None => (unsigned, b"0"),
     }
 }

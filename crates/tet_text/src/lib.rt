@@ -2,8 +2,13 @@
 #![tactic(auto)]
 
 mod cuts;
+mod decimal;
+mod digits;
 mod fault;
 mod lines;
+mod numbers;
 
+pub use decimal::{Decimal, read_decimal};
 pub use fault::{TextFault, TextKind};
 pub use lines::{Field, Fields, Lines};
+pub use numbers::{read_count, read_whole};
