@@ -1,12 +1,12 @@
 -- A split list, part by part: the first line and the lines after it, the first field and the fields after it.
-use Rattle.std.proofs.Common.{◌≡◌, ℕ, zero, suc, ◌<◌, ◌≤◌, ◌-◌, ◌+◌, Bool, true, false, cond, not, ltb, eqb, List, [], ◌∷◌, length, get_or, take, drop, refl, sym, ap, ◌∙◌, subst, inl, inr, arith}
+use Rattle.std.proofs.Common.{◌≡◌, ℕ, suc, ◌<◌, ◌≤◌, ◌+◌, Bool, true, false, ltb, eqb, List, [], ◌∷◌, length, drop, refl, sym, ap, ◌∙◌, inl, inr, arith}
 use Rattle.std.specs.Prelude.{filter}
-use Rattle.std.specs.List.{slice_split, onto_first, position_or_len, before_first, after_first, All}
+use Rattle.std.specs.List.{slice_split, onto_first, position_or_len, before_first, after_first}
 use Rattle.std.proofs.lemmas.Bool.{cases_lt, cases_Bool, cond-true, cond-false, lt-ltb, ne_eqb, eq-eqb, eqb-true, eqb-false}
 use Rattle.std.proofs.lemmas.List.{take_all, length-take, length-drop, nil_from_length}
 use Rattle.std.proofs.Math.ListN.{drop_of_length-le}
-use Rattle.std.proofs.lemmas.List.Sums.{prefix_len-le-length, fails_before_first}
-use Rattle.std.proofs.lemmas.List.Splits.{slice_split_first, slice_split_none, slice_split-cons_yes}
+use Rattle.std.proofs.lemmas.List.Sums.{fails_before_first}
+use Rattle.std.proofs.lemmas.List.Splits.{slice_split_first, slice_split_none}
 use Rattle.tet_text.specs.Lines.{is_line_feed, is_blank, is_no_blank, without_empty_last, lines_of, fields_of, without_blanks}
 
 -- where fails element passes, all stands before the first that does, and nothing after it
@@ -45,10 +45,10 @@ unfolding lines_of
 lines_of-cons bytes some =
     elim (cases_lt (position_or_len is_line_feed bytes) (length bytes)) [
       | inl lt ↦
-        let rest = split_is_cons is_line_feed (after_first is_line_feed bytes) in
-        rw (slice_split_first is_line_feed bytes 0 lt) (keeps_first _ _ rest.0 rest.1 rest.2)
+          let rest = split_is_cons is_line_feed (after_first is_line_feed bytes) in
+          rw (slice_split_first is_line_feed bytes 0 lt) (keeps_first _ _ rest.0 rest.1 rest.2)
       | inr le ↦
-        rw (none_passes is_line_feed bytes le, only_part bytes some, all_before is_line_feed bytes le, none_after is_line_feed bytes le) refl
+          rw (none_passes is_line_feed bytes le, only_part bytes some, all_before is_line_feed bytes le, none_after is_line_feed bytes le) refl
     ]
 
 -- what stands after the first line is shorter
@@ -119,11 +119,11 @@ pub has_fields : (xs : List ℕ) → without_blanks xs ≡ xs → eqb (length xs
 has_fields xs front =
     elim (cases_lt 0 (length xs)) [
       | inl some ↦
-        let e = ap length (fields_of-cons xs some front) in
-        ne_eqb (length xs) 0 (λ z. omega arith) ∙ sym (ne_eqb (length (fields_of xs)) 0 (λ z. omega arith))
+          let e = ap length (fields_of-cons xs some front) in
+          ne_eqb (length xs) 0 (λ z. omega arith) ∙ sym (ne_eqb (length (fields_of xs)) 0 (λ z. omega arith))
       | inr none ↦
-        let e = ap length (ap fields_of (nil_from_length xs (omega arith)) ∙ fields_of-nil) in
-        eq-eqb (length xs) 0 (omega arith) ∙ sym (eq-eqb (length (fields_of xs)) 0 (omega arith))
+          let e = ap length (ap fields_of (nil_from_length xs (omega arith)) ∙ fields_of-nil) in
+          eq-eqb (length xs) 0 (omega arith) ∙ sym (eq-eqb (length (fields_of xs)) 0 (omega arith))
     ]
 
 pub no_fields : (xs : List ℕ) → eqb (length xs) 0 ≡ true → fields_of xs ≡ []

@@ -2,3 +2,4 @@ pub mod Cutting
 pub mod ContentLines
 pub mod Numerals
 pub mod Scaling
+pub mod Texts

@@ -1,10 +1,10 @@
 -- Numbers times and divided by powers of ten.
-use Rattle.std.proofs.Common.{◌≡◌, ℕ, zero, suc, ◌+◌, ◌-◌, ◌*◌, ◌/◌, ◌%◌, ◌^◌, ◌<◌, ◌≤◌, Bool, true, false, cond, ltb, eqb, Option, Some, None, refl, sym, ap, ◌∙◌, arith, inl, inr, ◌≢◌}
+use Rattle.std.proofs.Common.{◌≡◌, ℕ, zero, suc, ◌+◌, ◌-◌, ◌*◌, ◌/◌, ◌%◌, ◌^◌, ◌<◌, ◌≤◌, Bool, true, false, cond, ltb, eqb, Some, None, refl, sym, ap, ◌∙◌, arith, inl, inr, ◌≢◌}
 use Rattle.std.specs.Prelude.{IfSome, unsigned_abs, pos}
 use Rattle.std.specs.Option.{option_map}
 use Rattle.std.proofs.lemmas.Bool.{cond-true, cond-false, le-ltb, lt-ltb, eqb-true, eqb-false, cases_lt, cases_Bool}
-use Rattle.std.proofs.lemmas.Nat.{pow-add, div-mul-add, mod-mul-add}
-use Rattle.std.proofs.Math.Nat.{pow-succ', pow-suc, mul_comm, mul_assoc, mul-le-mul_right, mul-lt-mul_of_pos_right}
+use Rattle.std.proofs.lemmas.Nat.{pow-add}
+use Rattle.std.proofs.Math.Nat.{pow-suc, mul_comm, mul_assoc, mul-le-mul_right, mul-lt-mul_of_pos_right}
 use Rattle.tet_text.specs.Decimals.{IsDecimal, below_limit, lowest, scaled_of, signed}
 use Rattle.tet_text.proofs.Numerals.{pow10_pos, le_room}
 
@@ -104,9 +104,9 @@ lowest_is n zero = refl
 lowest_is n (suc s) =
     elim (cases_Bool (eqb (n % 10) 0)) [
       | inl zero_last ↦
-        let none = eqb-true (n % 10) 0 zero_last in
-        let tens : n / 10 * 10 ≡ n = omega arith in
-        rw zero_last (times_ten (lowest (n / 10) s).0 s ∙ ap (λ (m : ℕ). m * 10) (lowest_is (n / 10) s) ∙ regroup (n / 10) n (10 ^ (lowest (n / 10) s).1) tens)
+          let none = eqb-true (n % 10) 0 zero_last in
+          let tens : n / 10 * 10 ≡ n = omega arith in
+          rw zero_last (times_ten (lowest (n / 10) s).0 s ∙ ap (λ (m : ℕ). m * 10) (lowest_is (n / 10) s) ∙ regroup (n / 10) n (10 ^ (lowest (n / 10) s).1) tens)
       | inr other_last ↦ rw other_last refl
     ]
 

@@ -3,3 +3,4 @@ pub mod Views
 pub mod Numbers
 pub mod Decimals
 pub mod Faults
+pub mod Printing

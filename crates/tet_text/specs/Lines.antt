@@ -1,5 +1,5 @@
 -- The lines of a text and their fields.
-use Rattle.std.specs.Prelude.{ℕ, ◌+◌, Bool, not, ◌||◌, List, [], ◌∷◌, length, drop, map, filter, ◌==◌, nat_lt, if◌then◌else◌}
+use Rattle.std.specs.Prelude.{ℕ, Bool, not, ◌||◌, List, [], ◌∷◌, length, drop, map, filter, ◌==◌, nat_lt, if◌then◌else◌}
 use Rattle.std.specs.List.{slice_split, before_first, position_or_len, enumerate_from}
 
 -- the line feed, 10

@@ -2,7 +2,6 @@
 
 ghost use Rattle.std.specs.Prelude.{◌≡◌, ◌≤◌, ◌<◌, ◌+◌, ◌*◌, ◌^◌, Some, None, length, IfSome};
 ghost use Rattle.std.specs.Str.Parse.{starts_with_minus, without_leading_sign};
-
 ghost use Rattle.tet_text.specs.Numbers.{number_of, digits_from};
 
 /// The number that the digits write behind those of `before`, or None where a byte is no digit.

@@ -1,4 +1,4 @@
-use Rattle.std.proofs.Common.{◌+◌, sym, ◌∙◌, ap, ◌*◌, ℕ, arith}
+use Rattle.std.proofs.Common.{sym, ◌∙◌, ap, ◌*◌, ℕ, arith}
 use Rattle.tet_text.proofs.Scaling.{at_limit, times_ten_more}
 use Rattle.tet_text.proofs.decimal.raised.Goals as goal
 

@@ -1,5 +1,5 @@
-use Rattle.std.proofs.Common.{◌≡◌, ◌+◌, length, arith, ap, sym, ◌∙◌}
-use Rattle.tet_text.specs.Lines.{is_line_feed, lines_of}
+use Rattle.std.proofs.Common.{length, arith, sym, ◌∙◌}
+use Rattle.tet_text.specs.Lines.{is_line_feed}
 use Rattle.tet_text.specs.Views.{line_total}
 use Rattle.tet_text.proofs.Cutting.{length-after_first}
 use Rattle.tet_text.proofs.ContentLines.{one_line_more, no_more_lines}

@@ -1,4 +1,4 @@
-use Rattle.std.proofs.Common.{◌≡◌, ◌<◌, ◌≤◌, ◌^◌, ◌+◌, length}
+use Rattle.std.proofs.Common.{◌≡◌, ◌<◌, ◌^◌, ◌+◌, length}
 use Rattle.tet_text.specs.Lines.{lines_of}
 use Rattle.tet_text.proofs.lines.Lines.line_count.Given as goal
 
