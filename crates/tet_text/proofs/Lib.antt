@@ -1,0 +1,5 @@
+pub mod Cutting
+pub mod ContentLines
+pub mod Numerals
+pub mod Scaling
+pub mod Texts

@@ -1,0 +1,6 @@
+pub mod Lines
+pub mod Views
+pub mod Numbers
+pub mod Decimals
+pub mod Faults
+pub mod Printing
