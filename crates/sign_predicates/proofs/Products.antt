@@ -1,10 +1,10 @@
 -- The sums of products that the code computes, as terms of the ring normalizer, with the bounds of their variables.
-use Rattle.std.proofs.Common.{◌≡◌, ℕ, ◌*◌, ◌^◌, List, [], ◌∷◌, ℤ, ◌-ℤ◌, ◌*ℤ◌, ◌+ℤ◌, pos}
+use Rattle.std.proofs.Common.{◌≡◌, ℕ, ◌^◌, List, [], ◌∷◌, ℤ, ◌-ℤ◌, ◌*ℤ◌, ◌+ℤ◌}
 use Rattle.exact_algebra.proofs.Ring.{Expr, var, add, sub, mul, ring, same}
 use Rattle.sign_predicates.specs.Point.{Point}
 use Rattle.sign_predicates.specs.Orientation.{det}
 use Rattle.sign_predicates.specs.Vector.{det_of_two, minor}
-use Rattle.sign_predicates.proofs.Terms.{PointE, pointE, detE, of_point}
+use Rattle.sign_predicates.proofs.Terms.{pointE, detE, of_point}
 
 abbrev pub two_by_two : Expr
 two_by_two = sub (mul (var 0) (var 3)) (mul (var 1) (var 2))

@@ -1,4 +1,4 @@
-use Rattle.std.proofs.Common.{◌≡◌, subst, sym, ◌∙◌}
+use Rattle.std.proofs.Common.{◌≡◌, subst, sym}
 use Rattle.sign_predicates.specs.declared.tetrahedron.Sign.TheVariants.{Zero}
 use Rattle.sign_predicates.specs.Orientation.{InClosed}
 use Rattle.sign_predicates.specs.Sign.{least_sign}

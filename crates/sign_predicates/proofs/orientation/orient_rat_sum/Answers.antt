@@ -1,4 +1,4 @@
-use Rattle.std.proofs.Common.{◌≡◌, ◌∙◌, ◌-ℤ◌, ◌*ℤ◌, w64, to_z, of_z}
+use Rattle.std.proofs.Common.{◌∙◌, ◌-ℤ◌, ◌*ℤ◌, w64}
 use Rattle.exact_algebra.proofs.Size.{read}
 use Rattle.sign_predicates.specs.Orientation.{det}
 use Rattle.sign_predicates.proofs.Vectors.{orient_rational_is, grid_size_back, grid_back, denominator_back, denominator_size_back, near_back}

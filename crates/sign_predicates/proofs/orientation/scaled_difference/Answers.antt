@@ -1,4 +1,4 @@
-use Rattle.std.proofs.Common.{◌≡◌, ℕ, ◌*◌, ◌+◌, ◌^◌, ◌≤◌, List, [], ◌∷◌, refl, arith, ℤ, w32, w64, to_z, of_z, unsigned_abs, subst, sym}
+use Rattle.std.proofs.Common.{◌≡◌, ℕ, ◌*◌, ◌^◌, ◌≤◌, List, [], ◌∷◌, refl, arith, ℤ, w32, w64, to_z, of_z, unsigned_abs, subst, sym}
 use Rattle.exact_algebra.proofs.Ring.{Expr, var, sub, mul, eval}
 use Rattle.exact_algebra.proofs.Size.{machine, machine_at, back, eval_within, AllWithin}
 use Rattle.sign_predicates.proofs.orientation.scaled_difference.Goals as goal

@@ -1,4 +1,4 @@
-use Rattle.std.proofs.Common.{◌≡◌, ℤ, pos, ◌<ℤ◌, subst, ◌∙◌}
+use Rattle.std.proofs.Common.{ℤ, pos, ◌<ℤ◌, subst, ◌∙◌}
 use Rattle.exact_algebra.proofs.Size.{read}
 use Rattle.sign_predicates.specs.Sphere.{in_sphere, wins_tie}
 use Rattle.sign_predicates.proofs.Holds.{tests_below, tests_above}

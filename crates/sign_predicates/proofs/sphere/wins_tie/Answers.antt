@@ -1,4 +1,4 @@
-use Rattle.std.proofs.Common.{◌≡◌, ℕ, ℤ, Bool, pos, nat_lt, ◌<◌, ◌∙◌, arith}
+use Rattle.std.proofs.Common.{pos, nat_lt, ◌<◌, ◌∙◌, arith}
 use Rattle.std.specs.Prelude.{int_lt}
 use Rattle.exact_algebra.proofs.Size.{read}
 use Rattle.sign_predicates.specs.Sphere.{least_of}

@@ -1,4 +1,4 @@
-use Rattle.std.proofs.Common.{◌≡◌, ◌∙◌, ◌≤◌, ◌^◌, ◌*◌, ◌+◌, w64, to_z, of_z, unsigned_abs, ap, sym, subst, arith, ℤ}
+use Rattle.std.proofs.Common.{◌∙◌, ◌≤◌, ◌^◌, ◌*◌, w64, unsigned_abs, ap, sym, subst, arith, ℤ}
 use Rattle.exact_algebra.proofs.Size.{read, back}
 use Rattle.sign_predicates.specs.Point.{Point}
 use Rattle.sign_predicates.proofs.Products.{det_along_third}
