@@ -16,30 +16,12 @@ use Rattle.geo_laws.specs.declared.tetrahedra.Tet.{Tet}
 use Rattle.geo_laws.proofs.Signs.{sign_of}
 use Rattle.geo_laws.proofs.Order.{IsMember, here, there, in_flat_map, in_map, member_of}
 use Rattle.geo_laws.proofs.Exchange.{spans_a, spans_b, spans_c, spans_d}
-use Rattle.geo_laws.proofs.Lift.{lift_law, above_of, test_above, both_true}
+use Rattle.geo_laws.proofs.Lift.{law_lift, above_of, test_above, both_true}
 use Rattle.geo_laws.proofs.Corners.{is_a, is_b, is_c, is_d}
 use Rattle.geo_laws.proofs.Among.{on_of_among, corner_among, all_within}
-use Rattle.geo_laws.proofs.Nudge.{nudge}
-use Rattle.geo_laws.proofs.SameRow.{radical_law}
-use Rattle.geo_laws.proofs.LeastHeight.{least_height_law}
-
--- ---- Delaunay rows are the lowest rows
-
-pub lowest_of : (ps : List Point) (ms : List ℕ) → AreNumbersOf ps ms → (t : Tet) → IsDelaunayAmong ps ms t → IsLowestAmong ps ms (lifted ps) t
-lowest_of ps ms within t d = record {
-  is_on = d.is_on;
-  is_positive = d.is_positive;
-  is_arranged = d.is_arranged;
-  others = λ i h n. (lift_law ps t i (on_of_among ps ms t within d.is_on) (within i h) d.is_positive n).0 (d.others i h n);
-}
-
-pub delaunay_of : (ps : List Point) (ms : List ℕ) → AreNumbersOf ps ms → (t : Tet) → IsLowestAmong ps ms (lifted ps) t → IsDelaunayAmong ps ms t
-delaunay_of ps ms within t l = record {
-  is_on = l.is_on;
-  is_positive = l.is_positive;
-  is_arranged = l.is_arranged;
-  others = λ i h n. (lift_law ps t i (on_of_among ps ms t within l.is_on) (within i h) l.is_positive n).1 (l.others i h n);
-}
+use Rattle.geo_laws.proofs.Nudge.{law_nudge}
+use Rattle.geo_laws.proofs.SameRow.{law_radical}
+use Rattle.geo_laws.proofs.LeastHeight.{law_least_height}
 
 -- ---- all planes through three of the points
 
@@ -123,7 +105,7 @@ closed_of t x h = (weak _ h.0, (weak _ h.1.0, (weak _ h.1.1.0, (weak _ h.1.1.1.0
 
 generic : (ps : List Point) (ms : List ℕ) (x : RationalPoint) → pos 0 <ℤ x.w → InHullAmong ps ms x → Generic ps ms x
 generic ps ms x w h =
-    let y = nudge (corners ps h.row) h.is_positive (planes (triangles ps ms)) (planes_span (triangles ps ms)) x w h.holds in
+    let y = law_nudge (corners ps h.row) h.is_positive (planes (triangles ps ms)) (planes_span (triangles ps ms)) x w h.holds in
     record {
       near = y.0;
       w = y.1;
@@ -249,12 +231,12 @@ covers ps ms within rows list = record { inside = inside_once; beyond = beyond_n
     inside_once : EachRational (λ x. OffPlanes ps rows x → InHullAmong ps ms x → rows_round ps rows x ≡ 1)
     inside_once x w off hull =
         let g = generic ps ms x w hull in
-        let found = least_height_law ps ms within (lifted ps) g.near g.w g.in_hull (λ i j k a b c s. (g.keeps i j k a b c s).off) in
-        let c = (list.exactly found.0).1 (delaunay_of ps ms within found.0 found.1) in
+        let found = law_least_height.delaunay ps ms within g.near g.w g.in_hull (λ i j k a b c s. (g.keeps i j k a b c s).off) in
+        let c = (list.exactly found.0).1 found.1 in
         let m = row_at rows found.0 c.0 c.1 c.2 in
         let inside = round_x ps ms x g found.0 found.1.is_on found.1.is_positive (off_at ps rows x off found.0 m) found.2 in
         count_one (λ t. strictly_inside (corners ps t) x) rows found.0 (unrepeated rows list.ascending) m (test_inside (corners ps found.0) x inside)
-        (λ u k e. (radical_law ps ms (lifted ps) u found.0 (lowest_of ps ms within u (delaunay_at ps ms rows list u k)) found.1).1 (x, w, (inside_of (corners ps u) x e, inside)))
+        (λ u k e. (law_radical.delaunay ps ms within u found.0 (delaunay_at ps ms rows list u k) found.1).1 (x, w, (inside_of (corners ps u) x e, inside)))
 
     beyond_none : EachRational (λ x. OffPlanes ps rows x → ¬ InHullAmong ps ms x → rows_round ps rows x ≡ 0)
     beyond_none x w off beyond =
@@ -272,13 +254,11 @@ rows_meet ps ms within rows list i j d l k =
     let s = slice_index_or rows i d in
     let t = slice_index_or rows j d in
     let at_s : i < length rows = omega arith in
-    (radical_law ps ms (lifted ps) s t
-    (lowest_of ps ms within s ((list.exactly s).0 (i, at_s, default_row rows i s d at_s)))
-    (lowest_of ps ms within t ((list.exactly t).0 (j, k, default_row rows j t d k)))).0
+    (law_radical.delaunay ps ms within s t ((list.exactly s).0 (i, at_s, default_row rows i s d at_s)) ((list.exactly t).0 (j, k, default_row rows j t d k))).0
 
-pub cover_law : CoverLaw
-cover_law ps ms within rows list = record { covers = covers ps ms within rows list; properly_met = rows_meet ps ms within rows list }
+pub law_cover : CoverLaw
+law_cover ps ms within rows list = record { covers = covers ps ms within rows list; properly_met = rows_meet ps ms within rows list }
 
 -- and for all points of the list
 pub cover_of_all : (ps : List Point) (rows : List Tet) → IsDelaunayList ps rows → IsTriangulation ps rows
-cover_of_all ps rows list = cover_law ps (all_numbers ps) (all_within ps) rows list
+cover_of_all ps rows list = law_cover ps (all_numbers ps) (all_within ps) rows list

@@ -270,8 +270,8 @@ test_row ps t d = λ j. test_above (volume (corners ps t)) d.is_positive j && al
         by (inr n) = let r = range_bounds 0 (length ps) i (member_of_in i (numbers_below (length ps)) m) in let h = r.1 in
             ap (λ b. has_corner t i || b) (d.others i (contains_below (length ps) i (omega arith)) n) ∙ or_true (has_corner t i)
 
-pub delaunay_list_law : DelaunayListLaw
-delaunay_list_law ps = record {
+pub law_delaunay_list : DelaunayListLaw
+law_delaunay_list ps = record {
   exactly = λ t. (
     λ c. let r = filter_cases (is_delaunay ps) t (fours (length ps)) (row_at (delaunay_rows ps) t c.0 c.1 c.2) in delaunay_row ps t (four_of (length ps) t r.0) r.1,
     λ d. let f = found_of (delaunay_rows ps) t (in_filter (is_delaunay ps) t (fours (length ps)) (in_fours (length ps) t d.is_arranged (all_within ps t.c (corner_among (all_numbers ps) t d.is_on t.c (is_c refl))) (all_within ps t.d (corner_among (all_numbers ps) t d.is_on t.d (is_d refl)))) (test_row ps t d)) in (f.place, f.within, f.is t),

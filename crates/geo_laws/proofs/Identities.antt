@@ -585,8 +585,8 @@ mean-of_weights wa wb wc wd pa pb pc pd v w x e d =
     tt (wa ∷ wb ∷ wc ∷ wd ∷ pa ∷ pb ∷ pc ∷ pd ∷ v ∷ w ∷ x ∷ []) (e, (d, tt))
 
 -- the relation of the six orientations of four points with a common edge
-pub three_term : ThreeTermLaw
+pub law_three_term : ThreeTermLaw
 unfolding same det orient
-three_term a b c d e f =
+law_three_term a b c d e f =
     ring (orientE (pointE 0) (pointE 3) (pointE 6) (pointE 9) ⊗ orientE (pointE 0) (pointE 3) (pointE 12) (pointE 15) ⊖ orientE (pointE 0) (pointE 3) (pointE 6) (pointE 12) ⊗ orientE (pointE 0) (pointE 3) (pointE 9) (pointE 15) ⊕ orientE (pointE 0) (pointE 3) (pointE 6) (pointE 15) ⊗ orientE (pointE 0) (pointE 3) (pointE 9) (pointE 12))
     (num (pos 0)) tt (of_point a (of_point b (of_point c (of_point d (of_point e (of_point f []))))))

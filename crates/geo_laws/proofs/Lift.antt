@@ -7,13 +7,14 @@ use Rattle.sign_predicates.specs.Point.{Point}
 use Rattle.sign_predicates.specs.Orientation.{Triangle, volume, side, opposite_a, opposite_b, opposite_c, opposite_d, IsPositive}
 use Rattle.sign_predicates.specs.declared.tetrahedron.Corners.{Corners}
 use Rattle.sign_predicates.specs.Sphere.{in_sphere, is_outside, across, alongside, opposite_faces}
-use Rattle.geo_laws.specs.Delaunay.{point, corners, numbers, as_numbers, is_outside_of, IsOn}
-use Rattle.geo_laws.specs.Height.{IsLexPositive, lifted, residual_at, residual}
+use Rattle.geo_laws.specs.Delaunay.{point, corners, numbers, as_numbers, is_outside_of, IsOn, AreNumbersOf, IsDelaunayAmong}
+use Rattle.geo_laws.specs.Height.{IsLexPositive, lifted, residual_at, residual, IsLowestAmong}
 use Rattle.geo_laws.specs.Laws.{LiftLaw}
 use Rattle.geo_laws.specs.declared.tetrahedra.Tet.{Tet}
 use Rattle.geo_laws.proofs.Identities as ring
 use Rattle.geo_laws.proofs.Corners.{IsIn, here, there, in_cons, same_or_not, is_a, is_b, is_c, is_d}
 use Rattle.geo_laws.proofs.Distinct.{distinct, contains_corner}
+use Rattle.geo_laws.proofs.Among.{on_of_among}
 use Rattle.geo_laws.proofs.Ties.{IsVote, IsCarried, carried, carries}
 
 -- ---- tests
@@ -328,9 +329,9 @@ map-map : (f : ℕ → ℤ) (g : ℕ → ℕ) (s : List ℕ) → map (λ i. f (g
 map-map f g [] = refl
 map-map f g (i ∷ s) = ap (λ r. f (g i) ∷ r) (map-map f g s)
 
-pub lift_law : LiftLaw
+pub law_lift : LiftLaw
 unfolding vote
-lift_law ps t e on below p different = (to, from)
+law_lift ps t e on below p different = (to, from)
   where
     fors : List ℕ
     fors = e ∷ across (corners ps t) (as_numbers t) (point ps e)
@@ -386,3 +387,21 @@ lift_law ps t e on below p different = (to, from)
         or_true : (b : Bool) → b || true ≡ true
         or_true true = refl
         or_true false = refl
+
+-- ---- Delaunay rows are the lowest rows
+
+pub lowest_of : (ps : List Point) (ms : List ℕ) → AreNumbersOf ps ms → (t : Tet) → IsDelaunayAmong ps ms t → IsLowestAmong ps ms (lifted ps) t
+lowest_of ps ms within t d = record {
+  is_on = d.is_on;
+  is_positive = d.is_positive;
+  is_arranged = d.is_arranged;
+  others = λ i h n. (law_lift ps t i (on_of_among ps ms t within d.is_on) (within i h) d.is_positive n).0 (d.others i h n);
+}
+
+pub delaunay_of : (ps : List Point) (ms : List ℕ) → AreNumbersOf ps ms → (t : Tet) → IsLowestAmong ps ms (lifted ps) t → IsDelaunayAmong ps ms t
+delaunay_of ps ms within t l = record {
+  is_on = l.is_on;
+  is_positive = l.is_positive;
+  is_arranged = l.is_arranged;
+  others = λ i h n. (law_lift ps t i (on_of_among ps ms t within l.is_on) (within i h) l.is_positive n).1 (l.others i h n);
+}

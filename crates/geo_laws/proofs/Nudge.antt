@@ -268,9 +268,9 @@ only_second n a b s e z = drop_zero (n *ℤ a) b s e (ap (λ q. n *ℤ q) z ∙ 
     drop_zero : (m b s : ℤ) → s ≡ m +ℤ b → m ≡ pos 0 → b ≡ s
     drop_zero m b s e z = omega (arith, ints)
 
-pub nudge : NudgeLaw
-nudge t p [] spans x w closed = (combined (pos 1) x (middle t), combined_w 1 x (middle t) w (omega (arith, ints)), (closed-inside t 1 x (middle t) closed (middle_inside t p), tt))
-nudge t p (f ∷ fs) spans x w closed = go (nudge t p fs spans.1 x w closed)
+pub law_nudge : NudgeLaw
+law_nudge t p [] spans x w closed = (combined (pos 1) x (middle t), combined_w 1 x (middle t) w (omega (arith, ints)), (closed-inside t 1 x (middle t) closed (middle_inside t p), tt))
+law_nudge t p (f ∷ fs) spans x w closed = go (law_nudge t p fs spans.1 x w closed)
   where
     go : SomeRational (λ y. StrictlyInside t y × AllByRecursion (KeepsSide x y) fs) → SomeRational (λ y. StrictlyInside t y × AllByRecursion (KeepsSide x y) (f ∷ fs))
     go some = by_side (zero_or_not (side_rational f x)) (zero_or_not (side_rational f some.0))

@@ -7,14 +7,15 @@ use Rattle.sign_predicates.specs.Orientation.{volume, side_rational, opposite_a,
 use Rattle.sign_predicates.specs.declared.tetrahedron.Corners.{Corners}
 use Rattle.geo_laws.specs.Delaunay.{point, corners, numbers}
 use Rattle.geo_laws.specs.Simplex.{weighted_sum, IsMean}
-use Rattle.geo_laws.specs.Height.{IsLowestAmong}
-use Rattle.geo_laws.specs.Laws.{RadicalLaw}
+use Rattle.geo_laws.specs.Height.{IsLowestAmong, lifted}
+use Rattle.geo_laws.specs.Laws.{RadicalLaw, IsMetOrSame}
 use Rattle.geo_laws.specs.declared.tetrahedra.Tet.{Tet}
 use Rattle.geo_laws.proofs.Identities as ring
 use Rattle.geo_laws.proofs.Signs.{from_natural}
 use Rattle.geo_laws.proofs.Corners.{IsIn, here, there, IsCorner, is_a, is_b, is_c, is_d, corner_or_not}
 use Rattle.geo_laws.proofs.LowestRows.{weight-own, lowest_rows_meet}
 use Rattle.geo_laws.proofs.Arrange.{same_row}
+use Rattle.geo_laws.proofs.Lift.{lowest_of}
 use Rattle.geo_laws.proofs.Distinct.{Distinct, distinct}
 
 -- ---- the weights of a point strictly inside
@@ -148,10 +149,16 @@ in_of_corner t i (is_b e) = subst (λ k. IsIn k (numbers t)) (sym e) (there here
 in_of_corner t i (is_c e) = subst (λ k. IsIn k (numbers t)) (sym e) (there (there here))
 in_of_corner t i (is_d e) = subst (λ k. IsIn k (numbers t)) (sym e) (there (there (there here)))
 
-pub radical_law : RadicalLaw
-radical_law ps ms first s t low_s low_t = (
+lowest_rows : (ps : List Point) (ms : List ℕ) (first : ℕ → ℤ) (s t : Tet) → IsLowestAmong ps ms first s → IsLowestAmong ps ms first t → IsMetOrSame ps s t
+lowest_rows ps ms first s t low_s low_t = (
   lowest_rows_meet ps ms first s t low_s low_t,
   λ h. same_row ps s t low_s.is_positive low_t.is_positive low_s.is_arranged low_t.is_arranged
       (λ i c. corners_shared ps ms first s t h.0 h.1 low_s low_t h.2.0 h.2.1 i (in_of_corner s i c))
       (λ i c. corners_shared ps ms first t s h.0 h.1 low_t low_s h.2.1 h.2.0 i (in_of_corner t i c)),
 )
+
+pub law_radical : RadicalLaw
+law_radical = record {
+  lowest = lowest_rows;
+  delaunay = λ ps ms within s t d e. lowest_rows ps ms (lifted ps) s t (lowest_of ps ms within s d) (lowest_of ps ms within t e);
+}
