@@ -13,7 +13,7 @@ use Rattle.geo_laws.specs.Simplex.{RowsProperlyMet}
 use Rattle.geo_laws.specs.Height.{lifted, IsLowestAmong}
 use Rattle.geo_laws.specs.Laws.{KeepsSide, plane_through, IsTriangulation, CoverLaw}
 use Rattle.geo_laws.specs.declared.tetrahedra.Tet.{Tet}
-use Rattle.geo_laws.proofs.Signs.{sign_of}
+use Rattle.exact_algebra.proofs.Signs.{sign_of}
 use Rattle.geo_laws.proofs.Order.{IsMember, here, there, in_flat_map, in_map, member_of}
 use Rattle.geo_laws.proofs.Exchange.{spans_a, spans_b, spans_c, spans_d}
 use Rattle.geo_laws.proofs.Lift.{law_lift, above_of, test_above, both_true}

@@ -11,7 +11,7 @@ use Rattle.geo_laws.specs.Laws.{IsGeneric}
 use Rattle.geo_laws.specs.declared.tetrahedra.Tet.{Tet}
 use lib.IntN.{*ℤ-zero, *ℤ-one}
 use Rattle.geo_laws.proofs.Identities as ring
-use Rattle.geo_laws.proofs.Signs.{mul_pos, sign_of}
+use Rattle.exact_algebra.proofs.Signs.{mul_pos, sign_of}
 use Rattle.geo_laws.proofs.Lex.{IsLexAbove}
 use Rattle.geo_laws.proofs.Order.{Holds, IsAtMost, gap_at, at_least_same, not_below}
 

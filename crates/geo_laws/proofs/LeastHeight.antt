@@ -11,7 +11,7 @@ use Rattle.geo_laws.specs.Laws.{IsGeneric, LeastHeightLaw, ResidualLaw}
 use Rattle.geo_laws.specs.declared.tetrahedra.Tet.{Tet}
 use Rattle.geo_laws.proofs.Lex.{IsZeroAt, more, IsLexAbove, lex_sign_of, lex_same}
 use Rattle.geo_laws.proofs.Corners.{IsCorner, is_a, is_b, is_c, is_d, corner_of}
-use Rattle.geo_laws.proofs.Signs.{sign_of}
+use Rattle.exact_algebra.proofs.Signs.{sign_of}
 use Rattle.geo_laws.proofs.Distinct.{contains_corner}
 use Rattle.geo_laws.proofs.Among.{contains_below, corner_among}
 use Rattle.geo_laws.proofs.Arrange.{IsEven, even_positive, arranged}

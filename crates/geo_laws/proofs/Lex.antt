@@ -2,7 +2,7 @@
 use Rattle.std.proofs.Common.{◌≡◌, ◌⊎◌, inl, inr, ℕ, ℤ, pos, neg_ℤ, ◌+ℤ◌, ◌*ℤ◌, ◌<ℤ◌, List, [], ◌∷◌, map, arith, ap, sym, ◌∙◌}
 use Rattle.std.proofs.lemmas.Int.{ints}
 use Rattle.geo_laws.specs.Height.{IsLexPositive}
-use Rattle.geo_laws.proofs.Signs.{mul_pos, sign_of}
+use Rattle.exact_algebra.proofs.Signs.{mul_pos, sign_of}
 use lib.IntN.{*ℤ-zero}
 
 -- each number is 0

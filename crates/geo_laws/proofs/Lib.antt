@@ -1,6 +1,6 @@
 pub mod Worked
 pub mod Larger
-pub mod Signs
+pub mod Places
 pub mod Lex
 pub mod Identities
 pub mod Means

@@ -9,7 +9,7 @@ use Rattle.geo_laws.specs.Simplex.{weighted_sum, IsMean, has_number, ProperlyMet
 use Rattle.geo_laws.specs.Height.{height, residual_at, places, IsLowestAmong}
 use Rattle.geo_laws.specs.declared.tetrahedra.Tet.{Tet}
 use Rattle.geo_laws.proofs.Identities as ring
-use Rattle.geo_laws.proofs.Signs.{mul_pos}
+use Rattle.exact_algebra.proofs.Signs.{mul_pos}
 use Rattle.geo_laws.proofs.Lex.{IsLexAbove, IsLexAtLeast, at_least_add, above_add, add_above, lex_scale, zero_scale, zero_everywhere, above_not_zero}
 use Rattle.geo_laws.proofs.Corners.{IsIn, here, there, IsCorner, is_a, is_b, is_c, is_d, corner_or_not, found, weighted_sum-filter, sum_by-filter}
 use Rattle.geo_laws.proofs.Among.{in_among}

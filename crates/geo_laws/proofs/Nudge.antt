@@ -9,7 +9,7 @@ use Rattle.geo_laws.specs.Laws.{KeepsSide, NudgeLaw}
 use Rattle.geo_laws.proofs.Identities as ring
 use Rattle.geo_laws.proofs.Identities.{combined, middle, off_plane, side_rational-combined, side_rational-as_rational}
 use lib.IntN.{*ℤ-zero}
-use Rattle.geo_laws.proofs.Signs.{mul_pos, sign_of, squares_zero, zero_factor, multiple_above, multiple_below}
+use Rattle.exact_algebra.proofs.Signs.{mul_pos, sign_of, squares_zero, zero_of_mul, multiple_above, multiple_below}
 
 -- ---- a corner off a plane
 
@@ -88,7 +88,7 @@ no_plane t f p spans ea eb ec ed =
     let sum = (λ j. side_rational (opposite_a t) x *ℤ sym ea j +ℤ (side_rational (opposite_b t) x *ℤ sym eb j +ℤ (side_rational (opposite_c t) x *ℤ sym ec j +ℤ side_rational (opposite_d t) x *ℤ sym ed j)))
     ∙ ring.sides-combine t f x in
     let product : volume t *ℤ side_rational f x ≡ pos 0 = sym sum ∙ ring.sum-zero (side_rational (opposite_a t) x) (side_rational (opposite_b t) x) (side_rational (opposite_c t) x) (side_rational (opposite_d t) x) in
-    let squares = squares_zero (normal f).x (normal f).y (normal f).z (sym (ring.side_rational-off_plane f) ∙ zero_factor (volume t) (side_rational f x) p product) in
+    let squares = squares_zero (normal f).x (normal f).y (normal f).z (sym (ring.side_rational-off_plane f) ∙ zero_of_mul (volume t) (side_rational f x) p product) in
     spans squares
 
 corner_off : (t : Corners) (f : Triangle) → IsPositive t → SpansPlane f → CornerOff t f

@@ -9,7 +9,7 @@ use Rattle.geo_laws.specs.Delaunay.{corners}
 use Rattle.geo_laws.specs.Height.{height_at, places}
 use Rattle.geo_laws.specs.declared.tetrahedra.Tet.{Tet}
 use Rattle.geo_laws.proofs.Identities.{times-neg, order-trans}
-use Rattle.geo_laws.proofs.Signs.{sign_of}
+use Rattle.exact_algebra.proofs.Signs.{sign_of}
 use Rattle.geo_laws.proofs.Ties.{at_or_after}
 use Rattle.geo_laws.proofs.Lex.{IsZeroAt, none, more, IsLexAbove, IsLexAtLeast, lex_sign_of, at_least_add, add_above, lex_scale, lex_same, above_not_zero, zero_everywhere}
 use Rattle.geo_laws.proofs.Among.{contains_or_not}

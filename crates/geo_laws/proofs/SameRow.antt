@@ -11,7 +11,7 @@ use Rattle.geo_laws.specs.Height.{IsLowestAmong, lifted}
 use Rattle.geo_laws.specs.Laws.{RadicalLaw, IsMetOrSame}
 use Rattle.geo_laws.specs.declared.tetrahedra.Tet.{Tet}
 use Rattle.geo_laws.proofs.Identities as ring
-use Rattle.geo_laws.proofs.Signs.{from_natural}
+use Rattle.exact_algebra.proofs.Signs.{from_natural}
 use Rattle.geo_laws.proofs.Corners.{IsIn, here, there, IsCorner, is_a, is_b, is_c, is_d, corner_or_not}
 use Rattle.geo_laws.proofs.LowestRows.{weight-own, lowest_rows_meet}
 use Rattle.geo_laws.proofs.Arrange.{same_row}

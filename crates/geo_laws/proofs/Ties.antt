@@ -3,7 +3,7 @@ use Rattle.std.proofs.Common.{◌≡◌, ◌⊎◌, inl, inr, ℕ, zero, suc, �
 use Rattle.std.specs.List.{range_with_len}
 use Rattle.std.proofs.lemmas.Int.{ints}
 use Rattle.geo_laws.specs.Height.{IsLexPositive}
-use Rattle.geo_laws.proofs.Signs.{sign_of}
+use Rattle.exact_algebra.proofs.Signs.{sign_of}
 use Rattle.geo_laws.proofs.Corners.{IsIn}
 
 -- ---- the first number that is not 0
