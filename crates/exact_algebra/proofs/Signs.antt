@@ -1,7 +1,7 @@
 -- Signs of whole numbers: the three cases, and the signs of products, multiples, sums and squares.
-use Rattle.std.proofs.Common.{◌≡◌, ◌≢◌, ◌⊎◌, inl, inr, ℕ, zero, suc, ◌+◌, ◌*◌, ◌<◌, nat_abs, arith, refl, sym, ap, ◌∙◌, [], ◌∷◌}
+use Rattle.std.proofs.Common.{◌≡◌, ◌≢◌, ◌⊎◌, inl, inr, ℕ, zero, suc, ◌+◌, ◌*◌, ◌<◌, nat_abs, true, ltb-true, lt-ltb, arith, refl, sym, ap, ◌∙◌, [], ◌∷◌}
 use Rattle.std.proofs.lemmas.Int.{ints}
-use Rattle.std.specs.Prelude.{ℤ, pos, negsuc, neg_ℤ, ◌+ℤ◌, ◌-ℤ◌, ◌*ℤ◌, ◌<ℤ◌, ◌≤ℤ◌}
+use Rattle.std.specs.Prelude.{ℤ, pos, negsuc, neg_ℤ, int_lt, ◌+ℤ◌, ◌-ℤ◌, ◌*ℤ◌, ◌<ℤ◌, ◌≤ℤ◌}
 use Rattle.exact_algebra.proofs.Ring.{var, sub, mul, ring, same}
 
 -- ---- the cases
@@ -197,3 +197,21 @@ multiple_below n (negsuc m) b l h = sum_below (n * suc m) b (omega (arith))
     sum_below : (p : ℕ) (b : ℤ) → nat_abs b < p → (neg_ℤ (pos p) +ℤ b) <ℤ pos 0
     sum_below p (pos k) h = omega (arith, ints)
     sum_below p (negsuc k) h = omega (arith, ints)
+
+-- ---- tests
+
+pub neg_of_test : (a : ℤ) → int_lt a (pos 0) ≡ true → pos 0 <ℤ neg_ℤ a
+neg_of_test (pos n) e = absurd (omega (arith, ltb-true n 0 e))
+neg_of_test (negsuc n) e = omega (arith, ints)
+
+pub test_neg : (a : ℤ) → pos 0 <ℤ neg_ℤ a → int_lt a (pos 0) ≡ true
+test_neg (pos n) h = absurd (omega (arith, ints))
+test_neg (negsuc n) h = refl
+
+pub pos_of_test : (a : ℤ) → int_lt (pos 0) a ≡ true → pos 0 <ℤ a
+pos_of_test (pos n) e = omega (arith, ints, ltb-true 0 n e)
+pos_of_test (negsuc n) e = cc
+
+pub test_pos : (a : ℤ) → pos 0 <ℤ a → int_lt (pos 0) a ≡ true
+test_pos (pos n) h = lt-ltb 0 n (omega (arith, ints))
+test_pos (negsuc n) h = absurd (omega (arith, ints))

@@ -2,11 +2,12 @@
 use Rattle.std.proofs.Common.{◌≡◌, ◌⊎◌, inl, inr, ℕ, ℤ, pos, ◌+ℤ◌, ◌*ℤ◌, refl, arith}
 use Rattle.std.proofs.lemmas.Int.{ints}
 use Rattle.std.specs.List.{AllByRecursion}
-use Rattle.std.specs.Prelude.{List}
+use Rattle.std.specs.Prelude.{List, Contains}
 use Rattle.sign_predicates.specs.Point.{Point}
 use Rattle.sign_predicates.specs.Orientation.{Triangle, opposite_a, opposite_b, opposite_c, opposite_d, faces}
 use Rattle.sign_predicates.specs.declared.tetrahedron.Corners.{Corners}
 use Rattle.geo_laws.specs.Delaunay.{point, corners}
+use Rattle.geo_laws.specs.Laws.{plane_through}
 use Rattle.geo_laws.specs.declared.tetrahedra.Tet.{Tet}
 use Rattle.exact_algebra.proofs.Ring.{var, ring, same, ◌⊕◌, ◌⊗◌}
 use Rattle.std.proofs.Common.{[], ◌∷◌}
@@ -85,6 +86,51 @@ corners-with_number ps t A e = refl
 corners-with_number ps t B e = refl
 corners-with_number ps t C e = refl
 corners-with_number ps t D e = refl
+
+pub number-with : (t : Tet) (v : Place) (e : ℕ) → number (with_number t v e) v ≡ e
+number-with t A e = refl
+number-with t B e = refl
+number-with t C e = refl
+number-with t D e = refl
+
+pub number-with_other : (t : Tet) (u v : Place) (e : ℕ) → IsOther u v → number (with_number t v e) u ≡ number t u
+number-with_other t A A e o = absurd o
+number-with_other t B B e o = absurd o
+number-with_other t C C e o = absurd o
+number-with_other t D D e o = absurd o
+number-with_other t u v e o = refl
+
+-- the face opposite a corner doesn't change with it
+pub opposite-replaced : (t : Corners) (v : Place) (e : Point) → opposite (replaced t v e) v ≡ opposite t v
+opposite-replaced t A e = refl
+opposite-replaced t B e = refl
+opposite-replaced t C e = refl
+opposite-replaced t D e = refl
+
+-- what holds of all planes through three of the points holds of each face
+pub at_planes : (ps : List Point) (ms : List ℕ) (P : Triangle → Type 0) → ((i j k : ℕ) → Contains ms i → Contains ms j → Contains ms k → P (plane_through ps i j k))
+    → (t : Tet) → ((u : Place) → Contains ms (number t u)) → (u : Place) → P (opposite (corners ps t) u)
+at_planes ps ms P h t on A = h t.b t.d t.c (on B) (on D) (on C)
+at_planes ps ms P h t on B = h t.a t.c t.d (on A) (on C) (on D)
+at_planes ps ms P h t on C = h t.a t.d t.b (on A) (on D) (on B)
+at_planes ps ms P h t on D = h t.a t.b t.c (on A) (on B) (on C)
+
+-- what is so or not at each place is so at all places or not
+pub each_or_not : (P : Place → Type 0) → ((u : Place) → P u ⊎ ¬ P u) → ((u : Place) → P u) ⊎ ¬ ((u : Place) → P u)
+each_or_not P d = go (d A) (d B) (d C) (d D)
+  where
+    all : P A → P B → P C → P D → (u : Place) → P u
+    all a b c e A = a
+    all a b c e B = b
+    all a b c e C = c
+    all a b c e D = e
+
+    go : P A ⊎ ¬ P A → P B ⊎ ¬ P B → P C ⊎ ¬ P C → P D ⊎ ¬ P D → ((u : Place) → P u) ⊎ ¬ ((u : Place) → P u)
+    go (inl a) (inl b) (inl c) (inl e) = inl (all a b c e)
+    go (inr n) _ _ _ = inr (λ h. n (h A))
+    go _ (inr n) _ _ = inr (λ h. n (h B))
+    go _ _ (inr n) _ = inr (λ h. n (h C))
+    go _ _ _ (inr n) = inr (λ h. n (h D))
 
 -- what holds of all faces holds of each, and back
 pub at_face : (P : Triangle → Type 0) (t : Corners) → AllByRecursion P (faces t) → (u : Place) → P (opposite t u)

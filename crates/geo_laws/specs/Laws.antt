@@ -5,7 +5,6 @@ use Rattle.std.specs.List.{AllByRecursion}
 use Rattle.sign_predicates.specs.Point.{Point, RationalPoint, EachRational, SomeRational}
 use Rattle.sign_predicates.specs.Orientation.{orient, Triangle, IsPositive, StrictlyInside, InClosed, SpansPlane, side_rational}
 use Rattle.sign_predicates.specs.declared.tetrahedron.Corners.{Corners}
-use Rattle.sign_predicates.specs.Sphere.{is_outside}
 use Rattle.geo_laws.specs.Delaunay.{point, corners, numbers, is_outside_of, all_numbers, IsOn, AreNumbersOf, IsDelaunayAmong, IsDelaunayListAmong, IsDelaunayList, delaunay_rows}
 use Rattle.geo_laws.specs.Hull.{InHullAmong, CoversHullOnceAmong}
 use Rattle.geo_laws.specs.Simplex.{ProperlyMet, RowsProperlyMet}

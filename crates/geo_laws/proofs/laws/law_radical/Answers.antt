@@ -1,4 +1,4 @@
-use Rattle.geo_laws.proofs.SameRow.{law_radical}
+use Rattle.geo_laws.proofs.Radical.{law_radical}
 use Rattle.geo_laws.proofs.laws.law_radical.Goals as goal
 
 pub returns : goal.returns
