@@ -1,9 +1,12 @@
--- Lists of numbers whose first number that is not 0 is above 0. Each list has one number for each place of a list of places.
-use Rattle.std.proofs.Common.{◌≡◌, ◌⊎◌, inl, inr, ℕ, ℤ, pos, neg_ℤ, ◌+ℤ◌, ◌*ℤ◌, ◌<ℤ◌, List, [], ◌∷◌, map, arith, ap, sym, ◌∙◌}
+-- Lists of whole numbers, compared from the left, are an ordered module: sums and positive multiples of lists above 0 are above 0, each
+-- list is above, at or below 0, and none is both above and at 0. A list is a function, with one number for each place of a list of places.
+use Rattle.std.proofs.Common.{◌≡◌, ◌⊎◌, inl, inr, ℕ, zero, suc, ℤ, pos, neg_ℤ, ◌+ℤ◌, ◌*ℤ◌, ◌<ℤ◌, List, [], ◌∷◌, map, arith, ap, sym, ◌∙◌}
 use Rattle.std.proofs.lemmas.Int.{ints}
 use Rattle.geo_laws.specs.Height.{IsLexPositive}
-use Rattle.geo_laws.proofs.Signs.{mul_pos, sign_of}
-use lib.IntN.{*ℤ-zero}
+use Rattle.exact_algebra.proofs.Signs.{mul_pos, sign_of, pos_same, pos_not_zero}
+use Rattle.exact_algebra.proofs.Ring.{num, var, neg, ring, same, ◌⊕◌, ◌⊗◌}
+use Rattle.geo_laws.proofs.Members.{IsMember, here, there}
+use lib.IntN.{*ℤ-zero, zero-*ℤ}
 
 -- each number is 0
 pub data IsZeroAt (f : ℕ → ℤ) : List ℕ → Type 0 where
@@ -95,21 +98,56 @@ zero_scale c f (k ∷ ks) (more e z) = more (ap (λ n. c *ℤ n) e ∙ *ℤ-zero
 -- a list is not both above and at 0
 pub above_not_zero : (f : ℕ → ℤ) (ks : List ℕ) → IsLexAbove f ks → IsZeroAt f ks → ⊥
 above_not_zero f [] h z = h
-above_not_zero f (k ∷ ks) (inl h) (more e z) = clash (f k) h e
-  where
-    clash : (n : ℤ) → pos 0 <ℤ n → n ≡ pos 0 → ⊥
-    clash n h e = omega (arith, ints)
+above_not_zero f (k ∷ ks) (inl h) (more e z) = pos_not_zero (f k) h e
 above_not_zero f (k ∷ ks) (inr h) (more e z) = above_not_zero f ks h.1 z
 
 -- numbers that are the same at each place
 pub lex_same : (f g : ℕ → ℤ) (ks : List ℕ) → ((k : ℕ) → f k ≡ g k) → IsLexAbove f ks → IsLexAbove g ks
 lex_same f g [] e h = h
-lex_same f g (k ∷ ks) e (inl h) = inl (moved (f k) (g k) (e k) h)
-  where
-    moved : (m n : ℤ) → m ≡ n → pos 0 <ℤ m → pos 0 <ℤ n
-    moved m n e h = omega (arith, ints)
+lex_same f g (k ∷ ks) e (inl h) = inl (pos_same (g k) (f k) (sym (e k)) h)
 lex_same f g (k ∷ ks) e (inr h) = inr (sym (e k) ∙ h.0, lex_same f g ks e h.1)
 
 pub zero_everywhere : (f : ℕ → ℤ) (ks : List ℕ) → ((k : ℕ) → f k ≡ pos 0) → IsZeroAt f ks
 zero_everywhere f [] e = none
 zero_everywhere f (k ∷ ks) e = more (e k) (zero_everywhere f ks e)
+
+pub zero_same : (f g : ℕ → ℤ) (ks : List ℕ) → ((k : ℕ) → f k ≡ g k) → IsZeroAt f ks → IsZeroAt g ks
+zero_same f g [] e z = none
+zero_same f g (k ∷ ks) e (more d z) = more (sym (e k) ∙ d) (zero_same f g ks e z)
+
+pub at_least_same : (f g : ℕ → ℤ) (ks : List ℕ) → ((k : ℕ) → f k ≡ g k) → IsLexAtLeast f ks → IsLexAtLeast g ks
+at_least_same f g ks e (inl h) = inl (lex_same f g ks e h)
+at_least_same f g ks e (inr z) = inr (zero_same f g ks e z)
+
+-- a list that is 0 everywhere is 0 at each place
+pub zero_at : (f : ℕ → ℤ) (ks : List ℕ) (k : ℕ) → IsZeroAt f ks → IsMember k ks → f k ≡ pos 0
+zero_at f [] k z m = elim m [ ]
+zero_at f (j ∷ ks) k (more e z) here = e
+zero_at f (j ∷ ks) k (more e z) (there m) = zero_at f ks k z m
+
+times-neg : (c a : ℤ) → c *ℤ a +ℤ c *ℤ neg_ℤ a ≡ pos 0
+unfolding same
+times-neg c a = ring (var 0 ⊗ var 1 ⊕ var 0 ⊗ neg (var 1)) (num (pos 0)) tt (c ∷ a ∷ [])
+
+-- multiples that are at least 0
+pub at_least_scale : (c : ℤ) (f : ℕ → ℤ) (ks : List ℕ) → pos 0 <ℤ c → IsLexAtLeast f ks → IsLexAtLeast (λ k. c *ℤ f k) ks
+at_least_scale c f ks p (inl h) = inl (lex_scale c f ks p h)
+at_least_scale c f ks p (inr z) = inr (zero_scale c f ks z)
+
+pub natural_scale : (n : ℕ) (f : ℕ → ℤ) (ks : List ℕ) → IsLexAtLeast f ks → IsLexAtLeast (λ k. pos n *ℤ f k) ks
+natural_scale zero f ks h = inr (zero_everywhere (λ k. pos 0 *ℤ f k) ks (λ k. zero-*ℤ (f k)))
+natural_scale (suc n) f ks h = at_least_scale (pos (suc n)) f ks (omega (arith, ints)) h
+
+-- the list is not below 0 where a positive multiple of it is at least 0
+pub not_below : (c : ℤ) (f : ℕ → ℤ) (ks : List ℕ) → pos 0 <ℤ c → IsLexAtLeast (λ k. c *ℤ f k) ks → IsLexAbove (λ k. neg_ℤ (f k)) ks → ⊥
+not_below c f ks p h below =
+    above_not_zero (λ k. c *ℤ f k +ℤ c *ℤ neg_ℤ (f k)) ks (add_above (λ k. c *ℤ f k) (λ k. c *ℤ neg_ℤ (f k)) ks h (lex_scale c (λ k. neg_ℤ (f k)) ks p below))
+    (zero_everywhere (λ k. c *ℤ f k +ℤ c *ℤ neg_ℤ (f k)) ks (λ k. times-neg c (f k)))
+
+pub at_least_unscale : (c : ℤ) (f : ℕ → ℤ) (ks : List ℕ) → pos 0 <ℤ c → IsLexAtLeast (λ k. c *ℤ f k) ks → IsLexAtLeast f ks
+at_least_unscale c f ks p h = go (lex_sign_of f ks)
+  where
+    go : IsLexAbove f ks ⊎ (IsZeroAt f ks ⊎ IsLexAbove (λ k. neg_ℤ (f k)) ks) → IsLexAtLeast f ks
+    go (inl a) = inl a
+    go (inr (inl z)) = inr z
+    go (inr (inr b)) = absurd (not_below c f ks p h b)
