@@ -1,2 +1,4 @@
+pub mod Codes
+pub mod Messages
 pub mod Names
 pub mod Words

@@ -1,8 +1,10 @@
 //! The program `tetgen`.
 #![tactic(auto)]
 
+mod message;
 mod names;
 mod read_words;
+mod status;
 mod words;
 
 fn main() {}
