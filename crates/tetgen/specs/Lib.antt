@@ -1,4 +1,5 @@
 pub mod Codes
 pub mod Messages
 pub mod Names
+pub mod Points
 pub mod Words

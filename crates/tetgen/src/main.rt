@@ -3,6 +3,7 @@
 
 mod message;
 mod names;
+mod points;
 mod read_words;
 mod status;
 mod words;
