@@ -1,11 +1,11 @@
 -- The Delaunay list is empty exactly where all points lie in one plane, and its rows are on the points.
-use Rattle.std.proofs.Common.{◌≡◌, ◌⊎◌, inl, inr, ℕ, zero, suc, ◌<◌, ℤ, pos, neg_ℤ, ◌<ℤ◌, ◌≤ℤ◌, List, [], ◌∷◌, length, refl, sym, subst, ap, ◌∙◌, arith}
+use Rattle.std.proofs.Common.{◌≡◌, ◌⊎◌, inl, inr, ℕ, zero, suc, ◌<◌, ℤ, pos, neg_ℤ, ◌<ℤ◌, ◌≤ℤ◌, List, [], ◌∷◌, length, refl, sym, subst, arith}
 use Rattle.std.specs.Prelude.{Contains, All}
 use Rattle.std.specs.List.{slice_index_or}
 use Rattle.std.proofs.lemmas.Int.{ints}
 use Rattle.sign_predicates.specs.Point.{Point}
 use Rattle.sign_predicates.specs.Orientation.{orient, volume}
-use Rattle.geo_laws.specs.Delaunay.{point, corners, numbers, all_numbers, IsOn, IsAmong, IsDelaunay, IsDelaunayList, delaunay_rows, AreCoplanar}
+use Rattle.geo_laws.specs.Delaunay.{point, corners, all_numbers, IsOn, IsAmong, IsDelaunay, IsDelaunayList, delaunay_rows, AreCoplanar}
 use Rattle.geo_laws.specs.declared.tetrahedra.Tet.{Tet}
 use Rattle.geo_laws.proofs.Signs.{sign_of}
 use Rattle.geo_laws.proofs.Corners.{IsCorner, is_a, is_b, is_c, is_d, corner_of}

@@ -1,7 +1,7 @@
 -- The fours of numbers in parts: those with the same first numbers.
-use Rattle.std.specs.Prelude.{ℕ, ◌+◌, Bool, ◌||◌, List, map, filter, flat_map}
+use Rattle.std.specs.Prelude.{ℕ, ◌+◌, Bool, ◌||◌, List, map, flat_map}
 use Rattle.sign_predicates.specs.Point.{Point}
-use Rattle.geo_laws.specs.Delaunay.{has_corner, is_outside_of, is_delaunay, numbers_from}
+use Rattle.geo_laws.specs.Delaunay.{has_corner, is_outside_of, numbers_from}
 use Rattle.geo_laws.specs.declared.tetrahedra.Tet.{Tet}
 
 -- the fours that begin with a, b and c

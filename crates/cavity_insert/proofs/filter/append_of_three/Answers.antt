@@ -1,7 +1,7 @@
-use Rattle.std.proofs.Common.{◌≡◌, ℕ, ◌+◌, ◌++◌, [], ◌∷◌, map, filter, ap, sym, ◌∙◌, length, arith}
+use Rattle.std.proofs.Common.{ℕ, ◌+◌, ◌++◌, map, filter, ap, sym, ◌∙◌, length, arith}
 use Rattle.geo_laws.specs.Delaunay.{numbers_from, is_delaunay}
 use Rattle.geo_laws.specs.declared.tetrahedra.Tet.{Tet}
-use Rattle.cavity_insert.proofs.Ranges.{filter_takes, filter_passes_over, filter_ends}
+use Rattle.cavity_insert.proofs.Ranges.{filter_takes, filter_passes_over}
 use Rattle.cavity_insert.proofs.filter.append_of_three.Goals as goal
 use Rattle.cavity_insert.proofs.filter.append_of_three.Goals.{then-is_delaunay+in_ok-push, else-is_delaunay}
 

@@ -1,4 +1,4 @@
-use Rattle.std.proofs.Common.{◌≡◌, ◌+◌, ◌++◌, length, map, filter}
+use Rattle.std.proofs.Common.{◌≡◌, ◌++◌, length, map, filter}
 use Rattle.geo_laws.specs.Delaunay.{numbers_from, is_delaunay}
 use Rattle.cavity_insert.specs.Filter.{fours_of_three}
 use Rattle.cavity_insert.proofs.filter.append_of_three.Given as goal

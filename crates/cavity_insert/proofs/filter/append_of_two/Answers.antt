@@ -1,8 +1,8 @@
-use Rattle.std.proofs.Common.{◌≡◌, ◌+◌, ◌++◌, filter, ap, sym, ◌∙◌, length, arith}
+use Rattle.std.proofs.Common.{◌+◌, ◌++◌, filter, ap, ◌∙◌, length, arith}
 use Rattle.std.specs.List.{flat_map}
 use Rattle.geo_laws.specs.Delaunay.{numbers_from, is_delaunay}
 use Rattle.cavity_insert.specs.Filter.{fours_of_three}
-use Rattle.cavity_insert.proofs.Ranges.{lists_take, lists_end}
+use Rattle.cavity_insert.proofs.Ranges.{lists_take}
 use Rattle.cavity_insert.proofs.filter.append_of_two.Goals as goal
 
 pub loop-c-preserved : goal.loop-c-preserved

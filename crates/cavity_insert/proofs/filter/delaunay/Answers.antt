@@ -1,4 +1,4 @@
-use Rattle.std.proofs.Common.{◌≡◌, [], ap, sym, ◌∙◌, subst, length, arith}
+use Rattle.std.proofs.Common.{ap, sym, ◌∙◌, subst, length, arith}
 use Rattle.std.specs.Prelude.{All}
 use Rattle.geo_laws.specs.Delaunay.{IsOn, IsDelaunayList}
 use Rattle.geo_laws.proofs.Fours.{delaunay_list_law}

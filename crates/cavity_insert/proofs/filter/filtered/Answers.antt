@@ -1,8 +1,8 @@
-use Rattle.std.proofs.Common.{◌≡◌, ◌+◌, ◌++◌, [], filter, ap, sym, ◌∙◌, length, arith}
+use Rattle.std.proofs.Common.{◌+◌, ◌++◌, filter, ap, ◌∙◌, length, arith}
 use Rattle.std.specs.List.{flat_map}
 use Rattle.geo_laws.specs.Delaunay.{numbers_from, is_delaunay}
 use Rattle.cavity_insert.specs.Filter.{fours_of_one}
-use Rattle.cavity_insert.proofs.Ranges.{lists_take, lists_end, range_all}
+use Rattle.cavity_insert.proofs.Ranges.{lists_take, range_all}
 use Rattle.cavity_insert.proofs.filter.filtered.Goals as goal
 
 pub loop-a-init : goal.loop-a-init

@@ -1,4 +1,4 @@
-use Rattle.std.proofs.Common.{◌≡◌, ap, sym, ◌∙◌, length, arith}
+use Rattle.std.proofs.Common.{ap, sym, ◌∙◌, length, arith}
 use Rattle.std.specs.List.{list_all}
 use Rattle.cavity_insert.specs.Filter.{is_corner_or_outside}
 use Rattle.cavity_insert.proofs.Ranges.{all_passes, all_fails, all_none, range_all}
