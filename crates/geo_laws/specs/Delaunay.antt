@@ -1,8 +1,8 @@
 -- Delaunay rows and the Delaunay list of points: of all points of a list, or of those whose numbers stand in a list of numbers.
-use Rattle.std.specs.Prelude.{◌≡◌, ◌↔◌, ◌⊎◌, ℕ, ◌+◌, ◌-◌, ◌<◌, Bool, ◌&&◌, ◌||◌, ◌==◌, IsTrue, pos, int_lt, List, [], ◌∷◌, map, filter, flat_map, length, All, AllPairs, Contains}
+use Rattle.std.specs.Prelude.{◌≡◌, ◌≢◌, ◌↔◌, ◌⊎◌, ℕ, ◌+◌, ◌-◌, ◌<◌, Bool, ◌&&◌, ◌||◌, ◌==◌, IsTrue, pos, int_lt, List, [], ◌∷◌, map, filter, flat_map, length, All, AllPairs, Contains}
 use Rattle.std.specs.List.{list_all, list_any, range_with_len, slice_index_or}
 use Rattle.sign_predicates.specs.Point.{Point, origin}
-use Rattle.sign_predicates.specs.Orientation.{volume, IsPositive}
+use Rattle.sign_predicates.specs.Orientation.{orient, volume, IsPositive}
 use Rattle.sign_predicates.specs.declared.tetrahedron.Corners.{Corners}
 use Rattle.sign_predicates.specs.Sphere.{is_outside}
 use Rattle.sign_predicates.specs.declared.tetrahedron.Numbers.{Numbers}
@@ -11,6 +11,15 @@ use Rattle.geo_laws.specs.declared.tetrahedra.Tet.{Tet}
 -- the point with this number
 abbrev pub point : List Point → ℕ → Point
 point ps i = slice_index_or ps i origin
+
+-- any two points differ
+abbrev pub HasDistinctPoints : List Point → Type 0
+HasDistinctPoints ps = (i j : ℕ) → i < j → j < length ps → point ps i ≢ point ps j
+
+-- any four of the points lie in one plane, and so all do
+abbrev pub AreCoplanar : List Point → Type 0
+AreCoplanar ps =
+    (i j k l : ℕ) → i < length ps → j < length ps → k < length ps → l < length ps → orient (point ps i) (point ps j) (point ps k) (point ps l) ≡ pos 0
 
 -- the corners of a row, and their numbers
 abbrev pub corners : List Point → Tet → Corners

@@ -1,0 +1,15 @@
+use Rattle.std.proofs.Common.{◌≡◌, below_more, sym, ◌∙◌, false, ◌&&◌, int_eq}
+use Rattle.std.proofs.lemmas.Cmp.{int_eq_equiv}
+use Rattle.sign_predicates.specs.Point.{Point, origin}
+use Rattle.cavity_insert.proofs.tests.is_new.Goals as goal
+
+itself : (p : Point) → false ≡ int_eq p.x p.x && (int_eq p.y p.y && int_eq p.z p.z) → ⊥
+itself p e =
+    let h = e ∙ (λ t. int_eq_equiv.refl p.x t && (int_eq_equiv.refl p.y t && int_eq_equiv.refl p.z t)) in
+    cc
+
+pub loop-i-preserved : goal.loop-i-preserved
+loop-i-preserved c =
+    below_more _ _ c.loop-i.invariant (λ e.
+    let same : c.at.result ≡ c.at-in-loop-i.result = sym (c.at.ensures origin) ∙ e ∙ c.at-in-loop-i.ensures origin in
+    itself c.at-in-loop-i.result (c.if-eq.ensures ∙ (λ t. int_eq (same t).x c.at-in-loop-i.result.x && (int_eq (same t).y c.at-in-loop-i.result.y && int_eq (same t).z c.at-in-loop-i.result.z))))
