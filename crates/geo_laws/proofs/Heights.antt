@@ -25,12 +25,14 @@ pub record Holds (ps : List Point) (ms : List ℕ) (x : RationalPoint) (t : Tet)
 abbrev pub gap_at : List Point → (ℕ → ℤ) → RationalPoint → Tet → Tet → ℕ → ℤ
 gap_at ps first x s t k = volume (corners ps s) *ℤ height_at ps first t x k -ℤ volume (corners ps t) *ℤ height_at ps first s x k
 
+-- the height of s at x is at most that of t, from the first place on that tells them apart
 pub record IsAtMost (ps : List Point) (first : ℕ → ℤ) (x : RationalPoint) (s t : Tet) : Type 0 where
   pub gap : IsLexAtLeast (gap_at ps first x s t) (places (length ps))
 
 neg_of_difference : (p q : ℤ) → neg_ℤ (p -ℤ q) ≡ q -ℤ p
 neg_of_difference p q = omega (arith, ints)
 
+-- of two tetrahedra one is at most at the height of the other
 at_most_total : (ps : List Point) (first : ℕ → ℤ) (x : RationalPoint) (s t : Tet) → IsAtMost ps first x s t ⊎ IsAtMost ps first x t s
 at_most_total ps first x s t = go (lex_sign_of (gap_at ps first x s t) (places (length ps)))
   where
@@ -40,11 +42,13 @@ at_most_total ps first x s t = go (lex_sign_of (gap_at ps first x s t) (places (
     go (inr (inl z)) = inl (record { gap = inr z })
     go (inr (inr b)) = inr (record { gap = inl (lex_same _ (gap_at ps first x t s) (places (length ps)) (λ k. neg_of_difference (volume (corners ps s) *ℤ height_at ps first t x k) (volume (corners ps t) *ℤ height_at ps first s x k)) b) })
 
+-- the gaps of s to t and of t to u make that of s to u
 order-trans : (vs vt vu ns nt nu : ℤ) → vu *ℤ (vs *ℤ nt -ℤ vt *ℤ ns) +ℤ vs *ℤ (vt *ℤ nu -ℤ vu *ℤ nt) ≡ vt *ℤ (vs *ℤ nu -ℤ vu *ℤ ns)
 unfolding same
 order-trans vs vt vu ns nt nu =
     ring (var 2 ⊗ (var 0 ⊗ var 4 ⊖ var 1 ⊗ var 3) ⊕ var 0 ⊗ (var 1 ⊗ var 5 ⊖ var 2 ⊗ var 4)) (var 1 ⊗ (var 0 ⊗ var 5 ⊖ var 2 ⊗ var 3)) tt (vs ∷ vt ∷ vu ∷ ns ∷ nt ∷ nu ∷ [])
 
+-- the order is transitive
 at_most_trans : (ps : List Point) (ms : List ℕ) (first : ℕ → ℤ) (x : RationalPoint) (s t u : Tet) → Holds ps ms x s → Holds ps ms x t → Holds ps ms x u
     → IsAtMost ps first x s t → IsAtMost ps first x t u → IsAtMost ps first x s u
 at_most_trans ps ms first x s t u hs ht hu st tu =
@@ -59,6 +63,7 @@ at_most_trans ps ms first x s t u hs ht hu st tu =
           (λ k. order-trans vs vt vu (height_at ps first s x k) (height_at ps first t x k) (height_at ps first u x k)) sum);
     }
 
+-- and reflexive
 at_most_refl : (ps : List Point) (first : ℕ → ℤ) (x : RationalPoint) (s : Tet) → IsAtMost ps first x s s
 at_most_refl ps first x s = go (at_most_total ps first x s s)
   where
@@ -68,11 +73,13 @@ at_most_refl ps first x s = go (at_most_total ps first x s s)
 
 -- ---- a least one
 
+-- one of the list, or of those that hold x, is least
 pub record IsLeast (ps : List Point) (ms : List ℕ) (first : ℕ → ℤ) (x : RationalPoint) (xs : List Tet) : Type 0 where
   pub row : Tet
   pub holds : Holds ps ms x row
   pub least : (t : Tet) → IsMember t xs → Holds ps ms x t → IsAtMost ps first x row t
 
+-- a number is above 0 or not
 above_or_not : (n : ℤ) → (pos 0 <ℤ n) ⊎ ¬ (pos 0 <ℤ n)
 above_or_not n = go (sign_of n)
   where
@@ -81,11 +88,16 @@ above_or_not n = go (sign_of n)
     go (inr (inl e)) = inr (λ h. omega (arith, ints))
     go (inr (inr h)) = inr (λ k. omega (arith, ints))
 
+-- both hold, or not
 both_or_not : {P Q : Type 0} → P ⊎ ¬ P → Q ⊎ ¬ Q → (P × Q) ⊎ ¬ (P × Q)
+-- both hold, or not
 both_or_not (inl p) (inl q) = inl (p, q)
+-- both hold, or not
 both_or_not (inl p) (inr q) = inr (λ h. q h.1)
+-- both hold, or not
 both_or_not (inr p) q = inr (λ h. p h.0)
 
+-- a tetrahedron strictly holds x or not
 holds_or_not : (ps : List Point) (ms : List ℕ) (x : RationalPoint) (t : Tet) → Holds ps ms x t ⊎ ¬ Holds ps ms x t
 holds_or_not ps ms x t =
     go (both_or_not (each_or_not (λ u. Contains ms (number t u)) (λ u. contains_or_not ms (number t u)))
