@@ -1,6 +1,6 @@
 -- Tetrahedra in the order of their heights at one point, where heights are compared by cross-multiplying with the volumes;
 -- of those among some numbers that strictly hold a point, one is least.
-use Rattle.std.proofs.Common.{◌≡◌, ◌⊎◌, inl, inr, ℕ, ℤ, pos, neg_ℤ, ◌+ℤ◌, ◌-ℤ◌, ◌*ℤ◌, ◌<ℤ◌, List, [], ◌∷◌, map, length, arith}
+use Rattle.std.proofs.Common.{◌≡◌, ◌⊎◌, inl, inr, ℕ, ℤ, pos, neg_ℤ, ◌+ℤ◌, ◌-ℤ◌, ◌*ℤ◌, ◌<ℤ◌, List, [], ◌∷◌, map, length, ap, sym, subst, arith}
 use Rattle.std.specs.Prelude.{flat_map, Contains}
 use Rattle.std.proofs.lemmas.Int.{ints}
 use Rattle.exact_algebra.proofs.Ring.{var, ring, same, ◌⊕◌, ◌⊖◌, ◌⊗◌}
@@ -11,7 +11,7 @@ use Rattle.geo_laws.specs.Delaunay.{corners}
 use Rattle.geo_laws.specs.Height.{height_at, places}
 use Rattle.geo_laws.specs.declared.tetrahedra.Tet.{Tet}
 use Rattle.geo_laws.proofs.Places.{Place, A, B, C, D, opposite, number, at_face, all_faces, each_or_not}
-use Rattle.geo_laws.proofs.Members.{IsMember, here, there, in_flat_map, in_map, member_of}
+use Rattle.geo_laws.proofs.Members.{IsMember, here, there, in_flat_map, flat_map_cases, in_map, map_cases, contains_of, member_of}
 use Rattle.geo_laws.proofs.Corners.{contains_or_not}
 use Rattle.geo_laws.proofs.Lexicographic.{IsZeroAt, IsLexAbove, IsLexAtLeast, lex_sign_of, at_least_add, at_least_scale, at_least_same, at_least_unscale, lex_same}
 
@@ -80,7 +80,7 @@ pub record IsLeast (ps : List Point) (ms : List ℕ) (first : ℕ → ℤ) (x : 
   pub least : (t : Tet) → IsMember t xs → Holds ps ms x t → IsAtMost ps first x row t
 
 -- a number is above 0 or not
-above_or_not : (n : ℤ) → (pos 0 <ℤ n) ⊎ ¬ (pos 0 <ℤ n)
+pub above_or_not : (n : ℤ) → (pos 0 <ℤ n) ⊎ ¬ (pos 0 <ℤ n)
 above_or_not n = go (sign_of n)
   where
     go : (pos 0 <ℤ n) ⊎ ((n ≡ pos 0) ⊎ (pos 0 <ℤ neg_ℤ n)) → (pos 0 <ℤ n) ⊎ ¬ (pos 0 <ℤ n)
@@ -89,7 +89,7 @@ above_or_not n = go (sign_of n)
     go (inr (inr h)) = inr (λ k. omega (arith, ints))
 
 -- both hold, or not
-both_or_not : {P Q : Type 0} → P ⊎ ¬ P → Q ⊎ ¬ Q → (P × Q) ⊎ ¬ (P × Q)
+pub both_or_not : {P Q : Type 0} → P ⊎ ¬ P → Q ⊎ ¬ Q → (P × Q) ⊎ ¬ (P × Q)
 -- both hold, or not
 both_or_not (inl p) (inl q) = inl (p, q)
 -- both hold, or not
@@ -152,6 +152,22 @@ in_all_fours ms t on =
     (in_flat_map (λ b. flat_map (λ c. map (λ d. record { a = t.a; b = b; c = c; d = d }) ms) ms) t.b t ms (member_of ms t.b (on B))
     (in_flat_map (λ c. map (λ d. record { a = t.a; b = t.b; c = c; d = d }) ms) t.c t ms (member_of ms t.c (on C))
     (in_map (λ d. record { a = t.a; b = t.b; c = t.c; d = d }) t.d ms (member_of ms t.d (on D)))))
+
+-- and these are all on the numbers
+pub of_all_fours : (ms : List ℕ) (t : Tet) → IsMember t (all_fours ms) → (u : Place) → Contains ms (number t u)
+unfolding all_fours
+of_all_fours ms t m =
+    let a = flat_map_cases (λ a. flat_map (λ b. flat_map (λ c. map (λ d. record { a = a; b = b; c = c; d = d }) ms) ms) ms) t ms m in
+    let b = flat_map_cases (λ b. flat_map (λ c. map (λ d. record { a = a.0; b = b; c = c; d = d }) ms) ms) t ms a.2 in
+    let c = flat_map_cases (λ c. map (λ d. record { a = a.0; b = b.0; c = c; d = d }) ms) t ms b.2 in
+    let d = map_cases (λ d. record { a = a.0; b = b.0; c = c.0; d = d }) t ms c.2 in
+    by (contains_of ms a.0 a.1) (contains_of ms b.0 b.1) (contains_of ms c.0 c.1) (contains_of ms d.0 d.1) d.2
+  where
+    by : {i j k l : ℕ} → Contains ms i → Contains ms j → Contains ms k → Contains ms l → t ≡ record { a = i; b = j; c = k; d = l } → (u : Place) → Contains ms (number t u)
+    by ha hb hc hd e A = subst (Contains ms) (sym (ap (λ (s : Tet). s.a) e)) ha
+    by ha hb hc hd e B = subst (Contains ms) (sym (ap (λ (s : Tet). s.b) e)) hb
+    by ha hb hc hd e C = subst (Contains ms) (sym (ap (λ (s : Tet). s.c) e)) hc
+    by ha hb hc hd e D = subst (Contains ms) (sym (ap (λ (s : Tet). s.d) e)) hd
 
 -- of the rows that strictly hold x one is least, if there is any
 pub least_row : (ps : List Point) (ms : List ℕ) (first : ℕ → ℤ) (x : RationalPoint) (s : Tet) → Holds ps ms x s

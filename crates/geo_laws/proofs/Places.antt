@@ -1,5 +1,5 @@
 -- The four corners of a tetrahedron by their places, so that what is alike for all four is said once.
-use Rattle.std.proofs.Common.{◌≡◌, ◌⊎◌, inl, inr, ℕ, ℤ, pos, ◌+ℤ◌, ◌*ℤ◌, refl, arith}
+use Rattle.std.proofs.Common.{◌≡◌, ◌⊎◌, inl, inr, ℕ, ℤ, pos, ◌+ℤ◌, refl, arith}
 use Rattle.std.proofs.lemmas.Int.{ints}
 use Rattle.std.specs.List.{AllByRecursion}
 use Rattle.std.specs.Prelude.{List, Contains}
@@ -9,7 +9,6 @@ use Rattle.sign_predicates.specs.declared.tetrahedron.Corners.{Corners}
 use Rattle.geo_laws.specs.Delaunay.{point, corners}
 use Rattle.geo_laws.specs.Laws.{plane_through}
 use Rattle.geo_laws.specs.declared.tetrahedra.Tet.{Tet}
-use Rattle.std.proofs.Common.{[], ◌∷◌}
 
 -- the place of a corner
 pub data Place : Type 0 where
