@@ -7,7 +7,7 @@ use Rattle.exact_algebra.proofs.Signs.{pos_same}
 use Rattle.sign_predicates.specs.Point.{Point, RationalPoint, as_rational, origin}
 use Rattle.sign_predicates.specs.Orientation.{Triangle, volume, side, side_rational, IsPositive, StrictlyInside}
 use Rattle.geo_laws.specs.Delaunay.{point, corners, IsArranged}
-use Rattle.geo_laws.specs.Height.{height, residual_at}
+use Rattle.geo_laws.specs.Height.{height, height_at, residual_at}
 use Rattle.geo_laws.specs.declared.tetrahedra.Tet.{Tet}
 use Rattle.geo_laws.proofs.Places.{Place, A, B, C, D, opposite, number, over_places, sum-same, at_face, all_faces}
 use Rattle.geo_laws.proofs.Determinants.{weights-sum, turned, side_rational-turned, side_rational-as_rational, orient-swap_cd}
@@ -19,23 +19,37 @@ pub record IsEven (ps : List Point) (t s : Tet) : Type 0 where
   pub to : Place → Place
   pub back : Place → Place
   pub to_back : (u : Place) → to (back u) ≡ u
+  pub back_to : (u : Place) → back (to u) ≡ u
   pub number_is : (u : Place) → number s u ≡ number t (to u)
   pub side_is : (u : Place) (x : RationalPoint) → side_rational (opposite (corners ps s) u) x ≡ side_rational (opposite (corners ps t) (to u)) x
   pub sum_is : (f : Place → ℤ) → over_places (λ u. f (to u)) ≡ over_places f
 
 -- each tetrahedron is an even permutation of itself
-even_self : (ps : List Point) (t : Tet) → IsEven ps t t
-even_self ps t = record { to = λ u. u; back = λ u. u; to_back = λ u. refl; number_is = λ u. refl; side_is = λ u x. refl; sum_is = λ f. refl }
+pub even_self : (ps : List Point) (t : Tet) → IsEven ps t t
+even_self ps t = record { to = λ u. u; back = λ u. u; to_back = λ u. refl; back_to = λ u. refl; number_is = λ u. refl; side_is = λ u x. refl; sum_is = λ f. refl }
 
 -- one after another they make one
-even_trans : (ps : List Point) (t s r : Tet) → IsEven ps t s → IsEven ps s r → IsEven ps t r
+pub even_trans : (ps : List Point) (t s r : Tet) → IsEven ps t s → IsEven ps s r → IsEven ps t r
 even_trans ps t s r h k = record {
   to = λ u. h.to (k.to u);
   back = λ u. k.back (h.back u);
   to_back = λ u. ap h.to (k.to_back (h.back u)) ∙ h.to_back u;
+  back_to = λ u. ap k.back (h.back_to (k.to u)) ∙ k.back_to u;
   number_is = λ u. k.number_is u ∙ h.number_is (k.to u);
   side_is = λ u x. k.side_is u x ∙ h.side_is (k.to u) x;
   sum_is = λ f. k.sum_is (λ u. f (h.to u)) ∙ h.sum_is f;
+}
+
+-- and back
+pub even_back : (ps : List Point) (t s : Tet) → IsEven ps t s → IsEven ps s t
+even_back ps t s h = record {
+  to = h.back;
+  back = h.to;
+  to_back = h.back_to;
+  back_to = h.to_back;
+  number_is = λ u. ap (number t) (sym (h.to_back u)) ∙ sym (h.number_is (h.back u));
+  side_is = λ u x. ap (λ v. side_rational (opposite (corners ps t) v) x) (sym (h.to_back u)) ∙ sym (h.side_is (h.back u) x);
+  sum_is = λ f. sym (h.sum_is (λ u. f (h.back u))) ∙ sum-same (λ u. f (h.back (h.to u))) f (λ u. ap f (h.back_to u));
 }
 
 -- ---- what an even permutation keeps
@@ -54,7 +68,7 @@ inside_to ps t s h x inside =
     all_faces (λ f. pos 0 <ℤ side_rational f x) (corners ps s) (λ u. pos_same _ _ (h.side_is u x) (at_face (λ f. pos 0 <ℤ side_rational f x) (corners ps t) inside (h.to u)))
 
 -- the volume is the sum of the sides of any point
-even_volume : (ps : List Point) (t s : Tet) → IsEven ps t s → volume (corners ps s) ≡ volume (corners ps t)
+pub even_volume : (ps : List Point) (t s : Tet) → IsEven ps t s → volume (corners ps s) ≡ volume (corners ps t)
 unfolding lib.IntN.one
 even_volume ps t s h =
     let x = as_rational origin in
@@ -75,18 +89,24 @@ even_residual ps t s h first e k =
     let sums : over_places (part t) ≡ over_places (part s) = sym (h.sum_is (part t)) ∙ sum-same (λ u. part t (h.to u)) (part s) (λ u j. sym (same_side u) j *ℤ height first (sym (h.number_is u) j) k) in
     λ j. sym (even_volume ps t s h) j *ℤ height first e k -ℤ sums j
 
+-- and so does the height of the tetrahedron at a point
+pub even_height : (ps : List Point) (t s : Tet) → IsEven ps t s → (first : ℕ → ℤ) (x : RationalPoint) (k : ℕ) → height_at ps first t x k ≡ height_at ps first s x k
+even_height ps t s h first x k =
+    let part = λ (r : Tet) (u : Place). side_rational (opposite (corners ps r) u) x *ℤ height first (number r u) k in
+    sym (h.sum_is (part t)) ∙ sum-same (λ u. part t (h.to u)) (part s) (λ u j. sym (h.side_is u x) j *ℤ height first (sym (h.number_is u) j) k)
+
 -- ---- three permutations, which make all
 
 -- the first two corners change places, and the last two
-abbrev swap_both : Tet → Tet
+abbrev pub swap_both : Tet → Tet
 swap_both t = record { a = t.b; b = t.a; c = t.d; d = t.c }
 
 -- the first two corners change places with the last two
-abbrev cross : Tet → Tet
+abbrev pub cross : Tet → Tet
 cross t = record { a = t.c; b = t.d; c = t.a; d = t.b }
 
 -- the last three corners go round
-abbrev rotate : Tet → Tet
+abbrev pub rotate : Tet → Tet
 rotate t = record { a = t.a; b = t.c; c = t.d; d = t.b }
 
 -- a face that is turned twice has the same sides
@@ -100,8 +120,8 @@ rotation B = C
 rotation C = D
 rotation D = B
 
-even-rotate : (ps : List Point) (t : Tet) → IsEven ps t (rotate t)
-even-rotate ps t = record { to = rotation; back = λ u. rotation (rotation u); to_back = to_back; number_is = number_is; side_is = side_is; sum_is = λ f. omega (arith, ints) }
+pub even-rotate : (ps : List Point) (t : Tet) → IsEven ps t (rotate t)
+even-rotate ps t = record { to = rotation; back = λ u. rotation (rotation u); to_back = to_back; back_to = to_back; number_is = number_is; side_is = side_is; sum_is = λ f. omega (arith, ints) }
   where
     to_back : (u : Place) → rotation (rotation (rotation u)) ≡ u
     to_back A = refl
@@ -128,8 +148,8 @@ swapping B = A
 swapping C = D
 swapping D = C
 
-even-swap : (ps : List Point) (t : Tet) → IsEven ps t (swap_both t)
-even-swap ps t = record { to = swapping; back = swapping; to_back = to_back; number_is = number_is; side_is = side_is; sum_is = λ f. omega (arith, ints) }
+pub even-swap : (ps : List Point) (t : Tet) → IsEven ps t (swap_both t)
+even-swap ps t = record { to = swapping; back = swapping; to_back = to_back; back_to = to_back; number_is = number_is; side_is = side_is; sum_is = λ f. omega (arith, ints) }
   where
     to_back : (u : Place) → swapping (swapping u) ≡ u
     to_back A = refl
@@ -156,8 +176,8 @@ crossing B = D
 crossing C = A
 crossing D = B
 
-even-cross : (ps : List Point) (t : Tet) → IsEven ps t (cross t)
-even-cross ps t = record { to = crossing; back = crossing; to_back = to_back; number_is = number_is; side_is = side_is; sum_is = λ f. omega (arith, ints) }
+pub even-cross : (ps : List Point) (t : Tet) → IsEven ps t (cross t)
+even-cross ps t = record { to = crossing; back = crossing; to_back = to_back; back_to = to_back; number_is = number_is; side_is = side_is; sum_is = λ f. omega (arith, ints) }
   where
     to_back : (u : Place) → crossing (crossing u) ≡ u
     to_back A = refl

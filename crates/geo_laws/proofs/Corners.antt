@@ -85,8 +85,11 @@ found s i c = any_true (λ j. j == i) s i (member_of s i c) (eq-eqb i i refl)
 
 -- ---- the corners of a positive tetrahedron have different numbers
 
+abbrev pub AreDistinct : Tet → Type 0
+AreDistinct t = (u v : Place) → IsOther u v → number t u ≢ number t v
+
 -- else the volume would be the side of a corner at the face opposite another, which is 0
-pub distinct : (ps : List Point) (t : Tet) → IsPositive (corners ps t) → (u v : Place) → IsOther u v → number t u ≢ number t v
+pub distinct : (ps : List Point) (t : Tet) → IsPositive (corners ps t) → AreDistinct t
 distinct ps t p u v o e =
     let c = corners ps t in
     pos_not_zero (volume c) p (sym (side-own c u) ∙ ap (side (opposite c u)) (corner-point ps t u ∙ ap (point ps) e ∙ sym (corner-point ps t v)) ∙ side-other c u v o)
@@ -118,19 +121,16 @@ member_among ms t on i m = on i (contains_of (numbers t) i m)
 pub among_of_corners : (ms : List ℕ) (t : Tet) → ((u : Place) → Contains ms (number t u)) → IsAmong ms t
 among_of_corners ms t h i c = let k = corner_of t i c in subst (Contains ms) (sym k.1) (h k.0)
 
--- a tetrahedron on numbers of points is on the points
-pub on_of_among : (ps : List Point) (ms : List ℕ) (t : Tet) → AreNumbersOf ps ms → IsAmong ms t → IsOn ps t
-on_of_among ps ms t within on = go
-  where
-    below : (u : Place) → number t u < length ps
-    below u = within (number t u) (corner_among ms t on u)
+-- a tetrahedron whose corners are points is on the points
+pub on_of_corners : (ps : List Point) (t : Tet) → ((u : Place) → number t u < length ps) → IsOn ps t
+on_of_corners ps t below zero e l = below A
+on_of_corners ps t below (suc zero) e l = below B
+on_of_corners ps t below (suc (suc zero)) e l = below C
+on_of_corners ps t below (suc (suc (suc zero))) e l = below D
+on_of_corners ps t below (suc (suc (suc (suc k)))) e l = absurd (omega arith)
 
-    go : IsOn ps t
-    go zero e l = below A
-    go (suc zero) e l = below B
-    go (suc (suc zero)) e l = below C
-    go (suc (suc (suc zero))) e l = below D
-    go (suc (suc (suc (suc k)))) e l = absurd (omega arith)
+pub on_of_among : (ps : List Point) (ms : List ℕ) (t : Tet) → AreNumbersOf ps ms → IsAmong ms t → IsOn ps t
+on_of_among ps ms t within on = on_of_corners ps t (λ u. within (number t u) (corner_among ms t on u))
 
 -- each of its corners is a point
 pub on_corner : (ps : List Point) (t : Tet) → IsOn ps t → (u : Place) → number t u < length ps

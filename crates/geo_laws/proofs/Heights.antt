@@ -43,7 +43,7 @@ at_most_total ps first x s t = go (lex_sign_of (gap_at ps first x s t) (places (
     go (inr (inr b)) = inr (record { gap = inl (lex_same _ (gap_at ps first x t s) (places (length ps)) (λ k. neg_of_difference (volume (corners ps s) *ℤ height_at ps first t x k) (volume (corners ps t) *ℤ height_at ps first s x k)) b) })
 
 -- the gaps of s to t and of t to u make that of s to u
-order-trans : (vs vt vu ns nt nu : ℤ) → vu *ℤ (vs *ℤ nt -ℤ vt *ℤ ns) +ℤ vs *ℤ (vt *ℤ nu -ℤ vu *ℤ nt) ≡ vt *ℤ (vs *ℤ nu -ℤ vu *ℤ ns)
+pub order-trans : (vs vt vu ns nt nu : ℤ) → vu *ℤ (vs *ℤ nt -ℤ vt *ℤ ns) +ℤ vs *ℤ (vt *ℤ nu -ℤ vu *ℤ nt) ≡ vt *ℤ (vs *ℤ nu -ℤ vu *ℤ ns)
 unfolding same
 order-trans vs vt vu ns nt nu =
     ring (var 2 ⊗ (var 0 ⊗ var 4 ⊖ var 1 ⊗ var 3) ⊕ var 0 ⊗ (var 1 ⊗ var 5 ⊖ var 2 ⊗ var 4)) (var 1 ⊗ (var 0 ⊗ var 5 ⊖ var 2 ⊗ var 3)) tt (vs ∷ vt ∷ vu ∷ ns ∷ nt ∷ nu ∷ [])
