@@ -24,12 +24,19 @@ pos_or_not (pos zero) = inr (omega (arith, ints))
 pos_or_not (pos (suc n)) = inl (omega (arith, ints))
 pos_or_not (negsuc n) = inr (omega (arith, ints))
 
--- a number above 0 is at least 0, and not 0
+-- a number above 0 is at least 0, not 0 and not below 0
 pub nonneg_of_pos : (a : ℤ) → pos 0 <ℤ a → pos 0 ≤ℤ a
 nonneg_of_pos a h = omega (arith, ints)
 
 pub pos_not_zero : (a : ℤ) → pos 0 <ℤ a → a ≡ pos 0 → ⊥
 pos_not_zero a h e = omega (arith, ints)
+
+pub pos_not_neg : (a : ℤ) → pos 0 <ℤ a → a <ℤ pos 0 → ⊥
+pos_not_neg a h k = omega (arith, ints)
+
+-- a number whose negative is above 0 is below 0
+pub neg_of_negated : (a : ℤ) → pos 0 <ℤ neg_ℤ a → a <ℤ pos 0
+neg_of_negated a h = omega (arith, ints)
 
 -- a number that is at least 0 and not 0 is above 0
 pub pos_of_nonneg : (a : ℤ) → pos 0 ≤ℤ a → a ≢ pos 0 → pos 0 <ℤ a

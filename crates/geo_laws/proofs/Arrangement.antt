@@ -7,7 +7,7 @@ use Rattle.exact_algebra.proofs.Signs.{pos_same}
 use Rattle.sign_predicates.specs.Point.{Point, RationalPoint, as_rational, origin}
 use Rattle.sign_predicates.specs.Orientation.{Triangle, volume, side, side_rational, IsPositive, StrictlyInside}
 use Rattle.geo_laws.specs.Delaunay.{point, corners, IsArranged}
-use Rattle.geo_laws.specs.Height.{height, residual_at}
+use Rattle.geo_laws.specs.Height.{height, height_at, residual_at}
 use Rattle.geo_laws.specs.declared.tetrahedra.Tet.{Tet}
 use Rattle.geo_laws.proofs.Places.{Place, A, B, C, D, opposite, number, over_places, sum-same, at_face, all_faces}
 use Rattle.geo_laws.proofs.Determinants.{weights-sum, turned, side_rational-turned, side_rational-as_rational, orient-swap_cd}
@@ -19,37 +19,56 @@ pub record IsEven (ps : List Point) (t s : Tet) : Type 0 where
   pub to : Place → Place
   pub back : Place → Place
   pub to_back : (u : Place) → to (back u) ≡ u
+  pub back_to : (u : Place) → back (to u) ≡ u
   pub number_is : (u : Place) → number s u ≡ number t (to u)
   pub side_is : (u : Place) (x : RationalPoint) → side_rational (opposite (corners ps s) u) x ≡ side_rational (opposite (corners ps t) (to u)) x
   pub sum_is : (f : Place → ℤ) → over_places (λ u. f (to u)) ≡ over_places f
 
-even_self : (ps : List Point) (t : Tet) → IsEven ps t t
-even_self ps t = record { to = λ u. u; back = λ u. u; to_back = λ u. refl; number_is = λ u. refl; side_is = λ u x. refl; sum_is = λ f. refl }
+-- each tetrahedron is an even permutation of itself
+pub even_self : (ps : List Point) (t : Tet) → IsEven ps t t
+even_self ps t = record { to = λ u. u; back = λ u. u; to_back = λ u. refl; back_to = λ u. refl; number_is = λ u. refl; side_is = λ u x. refl; sum_is = λ f. refl }
 
-even_trans : (ps : List Point) (t s r : Tet) → IsEven ps t s → IsEven ps s r → IsEven ps t r
+-- one after another they make one
+pub even_trans : (ps : List Point) (t s r : Tet) → IsEven ps t s → IsEven ps s r → IsEven ps t r
 even_trans ps t s r h k = record {
   to = λ u. h.to (k.to u);
   back = λ u. k.back (h.back u);
   to_back = λ u. ap h.to (k.to_back (h.back u)) ∙ h.to_back u;
+  back_to = λ u. ap k.back (h.back_to (k.to u)) ∙ k.back_to u;
   number_is = λ u. k.number_is u ∙ h.number_is (k.to u);
   side_is = λ u x. k.side_is u x ∙ h.side_is (k.to u) x;
   sum_is = λ f. k.sum_is (λ u. f (h.to u)) ∙ h.sum_is f;
 }
 
+-- and back
+pub even_back : (ps : List Point) (t s : Tet) → IsEven ps t s → IsEven ps s t
+even_back ps t s h = record {
+  to = h.back;
+  back = h.to;
+  to_back = h.back_to;
+  back_to = h.to_back;
+  number_is = λ u. ap (number t) (sym (h.to_back u)) ∙ sym (h.number_is (h.back u));
+  side_is = λ u x. ap (λ v. side_rational (opposite (corners ps t) v) x) (sym (h.to_back u)) ∙ sym (h.side_is (h.back u) x);
+  sum_is = λ f. sym (h.sum_is (λ u. f (h.back u))) ∙ sum-same (λ u. f (h.back (h.to u))) f (λ u. ap f (h.back_to u));
+}
+
 -- ---- what an even permutation keeps
 
+-- the corners are the same numbers
 pub corner_to : (ps : List Point) (t s : Tet) → IsEven ps t s → (i : ℕ) → IsCorner t i → IsCorner s i
 corner_to ps t s h i c = (h.back c.0, c.1 ∙ ap (number t) (sym (h.to_back c.0)) ∙ sym (h.number_is (h.back c.0)))
 
+-- and back
 pub corner_from : (ps : List Point) (t s : Tet) → IsEven ps t s → (i : ℕ) → IsCorner s i → IsCorner t i
 corner_from ps t s h i c = (h.to c.0, c.1 ∙ h.number_is c.0)
 
+-- a point strictly inside stays so
 pub inside_to : (ps : List Point) (t s : Tet) → IsEven ps t s → (x : RationalPoint) → StrictlyInside (corners ps t) x → StrictlyInside (corners ps s) x
 inside_to ps t s h x inside =
     all_faces (λ f. pos 0 <ℤ side_rational f x) (corners ps s) (λ u. pos_same _ _ (h.side_is u x) (at_face (λ f. pos 0 <ℤ side_rational f x) (corners ps t) inside (h.to u)))
 
 -- the volume is the sum of the sides of any point
-even_volume : (ps : List Point) (t s : Tet) → IsEven ps t s → volume (corners ps s) ≡ volume (corners ps t)
+pub even_volume : (ps : List Point) (t s : Tet) → IsEven ps t s → volume (corners ps s) ≡ volume (corners ps t)
 unfolding lib.IntN.one
 even_volume ps t s h =
     let x = as_rational origin in
@@ -57,9 +76,11 @@ even_volume ps t s h =
     ∙ sum-same (λ u. side_rational (opposite (corners ps s) u) x) (λ u. side_rational (opposite (corners ps t) (h.to u)) x) (λ u. h.side_is u x)
     ∙ h.sum_is (λ u. side_rational (opposite (corners ps t) u) x) ∙ weights-sum (corners ps t) x ∙ *ℤ-one (volume (corners ps t))
 
+-- a positive tetrahedron stays positive
 pub even_positive : (ps : List Point) (t s : Tet) → IsEven ps t s → IsPositive (corners ps t) → IsPositive (corners ps s)
 even_positive ps t s h p = pos_same (volume (corners ps s)) (volume (corners ps t)) (even_volume ps t s h) p
 
+-- the height of each point above the tetrahedron stays the same
 pub even_residual : (ps : List Point) (t s : Tet) → IsEven ps t s → (first : ℕ → ℤ) (e k : ℕ) → residual_at ps first t e k ≡ residual_at ps first s e k
 even_residual ps t s h first e k =
     let p = point ps e in
@@ -68,28 +89,39 @@ even_residual ps t s h first e k =
     let sums : over_places (part t) ≡ over_places (part s) = sym (h.sum_is (part t)) ∙ sum-same (λ u. part t (h.to u)) (part s) (λ u j. sym (same_side u) j *ℤ height first (sym (h.number_is u) j) k) in
     λ j. sym (even_volume ps t s h) j *ℤ height first e k -ℤ sums j
 
+-- and so does the height of the tetrahedron at a point
+pub even_height : (ps : List Point) (t s : Tet) → IsEven ps t s → (first : ℕ → ℤ) (x : RationalPoint) (k : ℕ) → height_at ps first t x k ≡ height_at ps first s x k
+even_height ps t s h first x k =
+    let part = λ (r : Tet) (u : Place). side_rational (opposite (corners ps r) u) x *ℤ height first (number r u) k in
+    sym (h.sum_is (part t)) ∙ sum-same (λ u. part t (h.to u)) (part s) (λ u j. sym (h.side_is u x) j *ℤ height first (sym (h.number_is u) j) k)
+
 -- ---- three permutations, which make all
 
-abbrev swap_both : Tet → Tet
+-- the first two corners change places, and the last two
+abbrev pub swap_both : Tet → Tet
 swap_both t = record { a = t.b; b = t.a; c = t.d; d = t.c }
 
-abbrev cross : Tet → Tet
+-- the first two corners change places with the last two
+abbrev pub cross : Tet → Tet
 cross t = record { a = t.c; b = t.d; c = t.a; d = t.b }
 
-abbrev rotate : Tet → Tet
+-- the last three corners go round
+abbrev pub rotate : Tet → Tet
 rotate t = record { a = t.a; b = t.c; c = t.d; d = t.b }
 
+-- a face that is turned twice has the same sides
 twice : (f : Triangle) (x : RationalPoint) → side_rational (turned (turned f)) x ≡ side_rational f x
 twice f x = side_rational-turned (turned f) x ∙ side_rational-turned f x
 
+-- where each corner of `rotate t` stands in t
 abbrev rotation : Place → Place
 rotation A = A
 rotation B = C
 rotation C = D
 rotation D = B
 
-even-rotate : (ps : List Point) (t : Tet) → IsEven ps t (rotate t)
-even-rotate ps t = record { to = rotation; back = λ u. rotation (rotation u); to_back = to_back; number_is = number_is; side_is = side_is; sum_is = λ f. omega (arith, ints) }
+pub even-rotate : (ps : List Point) (t : Tet) → IsEven ps t (rotate t)
+even-rotate ps t = record { to = rotation; back = λ u. rotation (rotation u); to_back = to_back; back_to = to_back; number_is = number_is; side_is = side_is; sum_is = λ f. omega (arith, ints) }
   where
     to_back : (u : Place) → rotation (rotation (rotation u)) ≡ u
     to_back A = refl
@@ -109,14 +141,15 @@ even-rotate ps t = record { to = rotation; back = λ u. rotation (rotation u); t
     side_is C x = refl
     side_is D x = refl
 
+-- where each corner of `swap_both t` stands in t
 abbrev swapping : Place → Place
 swapping A = B
 swapping B = A
 swapping C = D
 swapping D = C
 
-even-swap : (ps : List Point) (t : Tet) → IsEven ps t (swap_both t)
-even-swap ps t = record { to = swapping; back = swapping; to_back = to_back; number_is = number_is; side_is = side_is; sum_is = λ f. omega (arith, ints) }
+pub even-swap : (ps : List Point) (t : Tet) → IsEven ps t (swap_both t)
+even-swap ps t = record { to = swapping; back = swapping; to_back = to_back; back_to = to_back; number_is = number_is; side_is = side_is; sum_is = λ f. omega (arith, ints) }
   where
     to_back : (u : Place) → swapping (swapping u) ≡ u
     to_back A = refl
@@ -136,14 +169,15 @@ even-swap ps t = record { to = swapping; back = swapping; to_back = to_back; num
     side_is C x = side_rational-turned (opposite (corners ps t) D) x
     side_is D x = twice (opposite (corners ps t) C) x
 
+-- where each corner of `cross t` stands in t
 abbrev crossing : Place → Place
 crossing A = C
 crossing B = D
 crossing C = A
 crossing D = B
 
-even-cross : (ps : List Point) (t : Tet) → IsEven ps t (cross t)
-even-cross ps t = record { to = crossing; back = crossing; to_back = to_back; number_is = number_is; side_is = side_is; sum_is = λ f. omega (arith, ints) }
+pub even-cross : (ps : List Point) (t : Tet) → IsEven ps t (cross t)
+even-cross ps t = record { to = crossing; back = crossing; to_back = to_back; back_to = to_back; number_is = number_is; side_is = side_is; sum_is = λ f. omega (arith, ints) }
   where
     to_back : (u : Place) → crossing (crossing u) ≡ u
     to_back A = refl
@@ -165,6 +199,7 @@ even-cross ps t = record { to = crossing; back = crossing; to_back = to_back; nu
 
 -- ---- the least arrangement
 
+-- of two different numbers one is the lesser
 lesser : (i j : ℕ) → i ≢ j → (i < j) ⊎ (j < i)
 lesser i j n = go (order i j)
   where
@@ -173,6 +208,7 @@ lesser i j n = go (order i j)
     go (inr (inl e)) = absurd (n e)
     go (inr (inr h)) = inr h
 
+-- the least number stands first
 record FirstLeast (t : Tet) : Type 0 where
   to_b : t.a < t.b
   to_c : t.a < t.c
@@ -218,27 +254,32 @@ arranged ps t h =
 
 -- ---- arranged rows with the same corners are the same
 
+-- in an arranged tetrahedron the first number is the least
 at_least_a : (t : Tet) (i : ℕ) → IsArranged t → IsCorner t i → t.a ≤ i
 at_least_a t i h (A, e) = omega arith
 at_least_a t i h (B, e) = let k = h.first in omega arith
 at_least_a t i h (C, e) = let k = h.first in let l = h.second in omega arith
 at_least_a t i h (D, e) = let k = h.first in let l = h.second' in omega arith
 
+-- and the second is the least of the others
 at_least_b : (t : Tet) (i : ℕ) → IsArranged t → IsCorner t i → t.a < i → t.b ≤ i
 at_least_b t i h (A, e) k = absurd (omega arith)
 at_least_b t i h (B, e) k = omega arith
 at_least_b t i h (C, e) k = let l = h.second in omega arith
 at_least_b t i h (D, e) k = let l = h.second' in omega arith
 
+-- a greater one is one of the last two
 last_two : (t : Tet) (i : ℕ) → IsArranged t → IsCorner t i → t.b < i → (i ≡ t.c) ⊎ (i ≡ t.d)
 last_two t i h (A, e) k = let l = h.first in absurd (omega arith)
 last_two t i h (B, e) k = absurd (omega arith)
 last_two t i h (C, e) k = inl e
 last_two t i h (D, e) k = inr e
 
+-- two numbers above 0 are not opposite
 no_opposite : (v w : ℤ) → v ≡ neg_ℤ w → pos 0 <ℤ v → pos 0 <ℤ w → ⊥
 no_opposite v w e h k = omega (arith, ints)
 
+-- arranged positive tetrahedra with the same corners are the same: only the last two could change places, and that changes the sign
 pub same_row : (ps : List Point) (s t : Tet) → IsPositive (corners ps s) → IsPositive (corners ps t) → IsArranged s → IsArranged t
     → ((i : ℕ) → IsCorner s i → IsCorner t i) → ((i : ℕ) → IsCorner t i → IsCorner s i) → s ≡ t
 same_row ps s t ps_s ps_t hs ht st ts =

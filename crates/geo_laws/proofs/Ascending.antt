@@ -11,10 +11,12 @@ pub data Rises {X : Type 0} (Before : X → X → Type 0) : List X → Type 0 wh
   none : Rises Before []
   more : {x : X} {xs : List X} → ((y : X) → IsMember y xs → Before x y) → Rises Before xs → Rises Before (x ∷ xs)
 
+-- a range rises
 pub rises-range : (low n : ℕ) → Rises ◌<◌ (range_with_len low n)
 rises-range low zero = none
 rises-range low (suc n) = more (λ j m. let b = range_bounds (low + 1) n j m in let c = b.0 in omega arith) (rises-range (low + 1) n)
 
+-- two rising lists, the one before the other, rise together
 pub rises-append : {X : Type 0} (R : X → X → Type 0) (xs ys : List X) → Rises R xs → Rises R ys → ((x y : X) → IsMember x xs → IsMember y ys → R x y) → Rises R (xs ++ ys)
 rises-append R [] ys h k b = k
 rises-append R (x ∷ xs) ys (more first rest) k b =
@@ -24,11 +26,13 @@ rises-append R (x ∷ xs) ys (more first rest) k b =
     go y (inl m) = first y m
     go y (inr m) = b x y here m
 
+-- a map that keeps the order keeps it of lists
 pub rises-map : {X Y : Type 0} (R : X → X → Type 0) (S : Y → Y → Type 0) (f : X → Y) (xs : List X) → Rises R xs → ((x y : X) → R x y → S (f x) (f y)) → Rises S (map f xs)
 rises-map R S f [] h k = none
 rises-map R S f (x ∷ xs) (more first rest) k =
     more (λ y m. let r = map_cases f y xs m in subst (λ z. S (f x) z) (sym r.2) (k x r.0 (first r.0 r.1))) (rises-map R S f xs rest k)
 
+-- rising lists, made from the elements of a rising list, rise together where each stands before the next
 pub rises-flat_map : {X Y : Type 0} (R : X → X → Type 0) (S : Y → Y → Type 0) (f : X → List Y) (xs : List X) → Rises R xs → ((x : X) → Rises S (f x))
     → ((x y : X) (u v : Y) → R x y → IsMember u (f x) → IsMember v (f y) → S u v) → Rises S (flat_map f xs)
 rises-flat_map R S f [] h k b = none
@@ -36,6 +40,7 @@ rises-flat_map R S f (x ∷ xs) (more first rest) k b =
     rises-append S (f x) (flat_map f xs) (k x) (rises-flat_map R S f xs rest k b)
     (λ u v m n. let r = flat_map_cases f v xs n in b x r.0 u v (first r.0 r.1) m r.2)
 
+-- what a filter leaves rises
 pub rises-filter : {X : Type 0} (R : X → X → Type 0) (test : X → Bool) (xs : List X) → Rises R xs → Rises R (filter test xs)
 rises-filter R test [] h = none
 rises-filter R test (x ∷ xs) (more first rest) = go (test x) (rises-filter R test xs rest)
@@ -66,6 +71,7 @@ rises-same R never (x ∷ xs) (y ∷ ys) (more first h) (more first' k) to from 
 
 -- ---- lists of tetrahedra
 
+-- of two pairs in the order from the left not each is before the other
 lex_not_both : {P Q : Type 0} (i j : ℕ) → (P → Q → ⊥) → (i < j) ⊎ (i ≡ j) × P → (j < i) ⊎ (j ≡ i) × Q → ⊥
 lex_not_both i j never (inl h) (inl k) = omega arith
 lex_not_both i j never (inl h) (inr k) = let e = k.0 in omega arith
@@ -76,21 +82,30 @@ lex_not_both i j never (inr h) (inr k) = never h.1 k.1
 before_not_both : (s t : Tet) → RowBefore s t → RowBefore t s → ⊥
 before_not_both s t h k = lex_not_both s.a t.a (lex_not_both s.b t.b (lex_not_both s.c t.c (λ l m. omega arith))) h k
 
+-- none stands before itself
 pub before_itself : (t : Tet) → RowBefore t t → ⊥
 before_itself t h = before_not_both t t h h
 
+-- rising, by the places of the list
 pub pairs_of : (rows : List Tet) → Rises RowBefore rows → AllPairs RowBefore rows
 pairs_of [] h i j d l k = absurd (omega arith)
+-- rising, by the places of the list
 pairs_of (t ∷ rows) (more first rest) zero zero d l k = absurd (omega arith)
+-- rising, by the places of the list
 pairs_of (t ∷ rows) (more first rest) zero (suc j) d l k = first (slice_index_or rows j d) (at_place rows j d (omega arith))
+-- rising, by the places of the list
 pairs_of (t ∷ rows) (more first rest) (suc i) zero d l k = absurd (omega arith)
+-- rising, by the places of the list
 pairs_of (t ∷ rows) (more first rest) (suc i) (suc j) d l k = pairs_of rows rest i j d (omega arith) (omega arith)
 
+-- and back
 pub rises_of : (rows : List Tet) → AllPairs RowBefore rows → Rises RowBefore rows
 rises_of [] h = none
+-- and back
 rises_of (t ∷ rows) h =
     more (λ u m. let f = found_of rows u m in let l = f.within in subst (RowBefore t) (f.is t) (h 0 (suc f.place) t (omega arith) (omega arith)))
     (rises_of rows (λ i j d l k. h (suc i) (suc j) d (omega arith) (omega arith)))
 
+-- a strictly ascending list of tetrahedra is determined by its members
 pub ascending-same : (rows rows' : List Tet) → AllPairs RowBefore rows → AllPairs RowBefore rows' → ((t : Tet) → IsMember t rows → IsMember t rows') → ((t : Tet) → IsMember t rows' → IsMember t rows) → rows ≡ rows'
 ascending-same rows rows' h k = rises-same RowBefore before_not_both rows rows' (rises_of rows h) (rises_of rows' k)

@@ -4,9 +4,8 @@
 use Rattle.std.proofs.Common.{◌≡◌, ◌≢◌, ◌⊎◌, inl, inr, ℕ, ◌+◌, ℤ, pos, neg_ℤ, ◌<ℤ◌, ◌≤ℤ◌, Bool, true, false, cond, ◌&&◌, List, [], ◌∷◌, map, refl, ap, sym, subst, ◌∙◌, arith}
 use Rattle.std.specs.Prelude.{Contains, count_by, flat_map, int_lt}
 use Rattle.std.specs.List.{AllByRecursion, slice_index_or}
-use Rattle.std.proofs.lemmas.Int.{ints}
 use Rattle.std.proofs.lemmas.List.Sums.{sum_by-cons}
-use Rattle.exact_algebra.proofs.Signs.{sign_of, zero_or_not, nonneg_of_pos, test_pos, pos_of_test}
+use Rattle.exact_algebra.proofs.Signs.{pos_not_neg, neg_of_negated, sign_of, zero_or_not, nonneg_of_pos, test_pos, pos_of_test}
 use Rattle.sign_predicates.specs.Point.{Point, RationalPoint, EachRational}
 use Rattle.sign_predicates.specs.Orientation.{Triangle, normal, side_rational, IsPositive, StrictlyInside, InClosed, OffFacePlanes, SpansPlane, faces, strictly_inside}
 use Rattle.sign_predicates.specs.declared.tetrahedron.Corners.{Corners}
@@ -26,6 +25,7 @@ use Rattle.geo_laws.proofs.LeastHeight.{law_least_height}
 
 -- ---- all planes through three of the points
 
+-- a triangle spans a plane or not
 spans_or_not : (f : Triangle) → SpansPlane f ⊎ ¬ SpansPlane f
 spans_or_not f = go (zero_or_not (normal f).x) (zero_or_not (normal f).y) (zero_or_not (normal f).z)
   where
@@ -36,6 +36,7 @@ spans_or_not f = go (zero_or_not (normal f).x) (zero_or_not (normal f).y) (zero_
     go (inl x) (inl y) (inr h) = inl (λ z. h z.2)
     go (inl x) (inl y) (inl z) = inr (λ s. s (x, y, z))
 
+-- those that span a plane
 kept : (f : Triangle) → SpansPlane f ⊎ ¬ SpansPlane f → List Triangle → List Triangle
 kept f (inl s) fs = f ∷ fs
 kept f (inr n) fs = fs
@@ -44,15 +45,18 @@ planes : List Triangle → List Triangle
 planes [] = []
 planes (f ∷ fs) = kept f (spans_or_not f) (planes fs)
 
+-- each of these spans a plane
 planes_span : (fs : List Triangle) → AllByRecursion SpansPlane (planes fs)
 unfolding planes kept
 planes_span [] = tt
+-- each of these spans a plane
 planes_span (f ∷ fs) = go (spans_or_not f) (planes_span fs)
   where
     go : (s : SpansPlane f ⊎ ¬ SpansPlane f) → AllByRecursion SpansPlane (planes fs) → AllByRecursion SpansPlane (kept f s (planes fs))
     go (inl s) r = (s, r)
     go (inr n) r = r
 
+-- and each that does is one of these
 in_planes : (f : Triangle) (fs : List Triangle) → IsMember f fs → SpansPlane f → IsMember f (planes fs)
 unfolding planes kept
 in_planes f [] m s = elim m [ ]
@@ -67,11 +71,13 @@ in_planes f (g ∷ fs) (there m) s = go (spans_or_not g) (in_planes f fs m s)
     go (inl q) r = there r
     go (inr n) r = r
 
+-- what holds of all holds of each member
 all_at : {A : Type 0} (P : A → Type 0) (x : A) (xs : List A) → AllByRecursion P xs → IsMember x xs → P x
 all_at P x [] h m = elim m [ ]
 all_at P x (y ∷ xs) h here = h.0
 all_at P x (y ∷ xs) h (there m) = all_at P x xs h.1 m
 
+-- all triangles on the numbers
 triangles : List Point → List ℕ → List Triangle
 triangles ps ms = flat_map (λ i. flat_map (λ j. map (λ k. plane_through ps i j k) ms) ms) ms
 
@@ -84,15 +90,18 @@ in_triangles ps ms i j k hi hj hk =
 
 -- ---- near x there is a generic point of the hull, on the same side of each plane that doesn't hold x
 
+-- a point of the hull that is off all planes, on the side of x where x is off one
 record Generic (ps : List Point) (ms : List ℕ) (x : RationalPoint) : Type 0 where
   near : RationalPoint
   w : pos 0 <ℤ near.w
   in_hull : InHullAmong ps ms near
   keeps : (i j k : ℕ) → Contains ms i → Contains ms j → Contains ms k → SpansPlane (plane_through ps i j k) → KeepsSide x near (plane_through ps i j k)
 
+-- what is strictly inside is in the closed tetrahedron
 closed_of : (t : Corners) (x : RationalPoint) → StrictlyInside t x → InClosed t x
 closed_of t x h = all_faces (λ f. pos 0 ≤ℤ side_rational f x) t (λ u. nonneg_of_pos _ (at_face (λ f. pos 0 <ℤ side_rational f x) t h u))
 
+-- by the nudge law, in the tetrahedron that holds x
 generic : (ps : List Point) (ms : List ℕ) (x : RationalPoint) → pos 0 <ℤ x.w → InHullAmong ps ms x → Generic ps ms x
 generic ps ms x w h =
     let y = law_nudge (corners ps h.row) h.is_positive (planes (triangles ps ms)) (planes_span (triangles ps ms)) x w h.holds in
@@ -105,19 +114,14 @@ generic ps ms x w h =
 
 -- ---- the row round x
 
+-- the sign at x is that at the near point: else that would be below 0 with it
 back : (a b : ℤ) → a ≢ pos 0 → (a <ℤ pos 0 → b <ℤ pos 0) → pos 0 <ℤ b → pos 0 <ℤ a
 back a b off below h = go (sign_of a)
   where
-    from_neg : (s : ℤ) → pos 0 <ℤ neg_ℤ s → s <ℤ pos 0
-    from_neg s h = omega (arith, ints)
-
-    not_both : (s : ℤ) → pos 0 <ℤ s → s <ℤ pos 0 → ⊥
-    not_both s h k = omega (arith, ints)
-
     go : (pos 0 <ℤ a) ⊎ ((a ≡ pos 0) ⊎ (pos 0 <ℤ neg_ℤ a)) → pos 0 <ℤ a
     go (inl h) = h
     go (inr (inl e)) = absurd (off e)
-    go (inr (inr n)) = absurd (not_both b h (below (from_neg a n)))
+    go (inr (inr n)) = absurd (pos_not_neg b h (below (neg_of_negated a n)))
 
 -- a tetrahedron round the near point is round x, if x is off its face planes
 round_x : (ps : List Point) (ms : List ℕ) (x : RationalPoint) (g : Generic ps ms x) (t : Tet) → IsAmong ms t → IsPositive (corners ps t) → OffFacePlanes (corners ps t) x
@@ -130,6 +134,7 @@ round_x ps ms x g t on p off h =
 
 -- ---- counts
 
+-- the test for strictly inside says so
 test_inside : (t : Corners) (x : RationalPoint) → StrictlyInside t x → strictly_inside t x ≡ true
 test_inside t x h =
     let above = λ (u : Place). test_pos (side_rational (opposite t u) x) (at_face (λ f. pos 0 <ℤ side_rational f x) t h u) in
@@ -144,9 +149,11 @@ inside_of t x e = all_faces (λ f. pos 0 <ℤ side_rational f x) t (λ u. pos_of
     face_of C = there (there here)
     face_of D = there (there (there here))
 
+-- a count, one by one
 count-cons : (test : Tet → Bool) (t : Tet) (rows : List Tet) → count_by test (t ∷ rows) ≡ cond (test t) 1 0 + count_by test rows
 count-cons test t rows = sum_by-cons (λ u. cond (test u) 1 0) t rows
 
+-- where none passes the count is 0
 count_none : (test : Tet → Bool) (rows : List Tet) → ((t : Tet) → IsMember t rows → test t ≡ true → ⊥) → count_by test rows ≡ 0
 count_none test [] h = refl
 count_none test (t ∷ rows) h = count-cons test t rows ∙ go (test t) (h t here) (count_none test rows (λ u m. h u (there m)))
@@ -170,9 +177,11 @@ count_one test (u ∷ rows) t (more first d) (there m) e same = count-cons test 
 
 -- ---- the law
 
+-- each member of the list is Delaunay
 delaunay_at : (ps : List Point) (ms : List ℕ) (rows : List Tet) → IsDelaunayListAmong ps ms rows → (t : Tet) → IsMember t rows → IsDelaunayAmong ps ms t
 delaunay_at ps ms rows list t m = (list.exactly t).0 (contains_of rows t m)
 
+-- and x is off its faces
 off_at : (ps : List Point) (rows : List Tet) (x : RationalPoint) → OffPlanes ps rows x → (t : Tet) → IsMember t rows → OffFacePlanes (corners ps t) x
 off_at ps rows x off t m = let f = found_of rows t m in subst (λ u. OffFacePlanes (corners ps u) x) (f.is t) (off f.place t f.within)
 

@@ -17,6 +17,7 @@ use Rattle.geo_laws.proofs.Cover.{cover_of_all}
 
 -- ---- all fours
 
+-- the arranged fours with the first numbers given
 abbrev with_d : ℕ → ℕ → ℕ → ℕ → Tet
 with_d a b c d = record { a = a; b = b; c = c; d = d }
 
@@ -29,17 +30,20 @@ fours_ab n a b = flat_map (fours_abc n a b) (numbers_from (b + 1) n)
 abbrev fours_a : ℕ → ℕ → List Tet
 fours_a n a = flat_map (fours_ab n a) (numbers_from (a + 1) n)
 
+-- an arranged four of numbers below n
 record IsFour (n : ℕ) (t : Tet) : Type 0 where
   arranged : IsArranged t
   within_c : t.c < n
   within_d : t.d < n
 
+-- the numbers from low up to n
 from_bounds : (low n i : ℕ) → IsMember i (numbers_from low n) → (low ≤ i) × (i < n)
 from_bounds low n i m = let r = range_bounds low (n - low) i m in let a = r.0 in let b = r.1 in (omega arith, omega arith)
 
 in_from : (low n i : ℕ) → low ≤ i → i < n → IsMember i (numbers_from low n)
 in_from low n i h k = in_range low (n - low) i h (omega arith)
 
+-- each of the fours is arranged, of numbers below n
 four_of : (n : ℕ) (t : Tet) → IsMember t (fours n) → IsFour n t
 four_of n t m =
     let a = flat_map_cases (fours_a n) t (numbers_below n) m in
@@ -54,6 +58,7 @@ four_of n t m =
     let hd0 = hd.0 in
     subst (IsFour n) (sym d.2) (record { arranged = record { first = omega arith; second = omega arith; second' = omega arith }; within_c = hc.1; within_d = hd.1 })
 
+-- and each such one is there
 in_fours : (n : ℕ) (t : Tet) → IsArranged t → t.c < n → t.d < n → IsMember t (fours n)
 in_fours n t h c d =
     let k1 = h.first in
@@ -64,6 +69,7 @@ in_fours n t h c d =
     (in_flat_map (fours_abc n t.a t.b) t.c t (numbers_from (t.b + 1) n) (in_from (t.b + 1) n t.c (omega arith) c)
     (in_map (with_d t.a t.b t.c) t.d (numbers_from (t.b + 1) n) (in_from (t.b + 1) n t.d (omega arith) d))))
 
+-- the first numbers of the fours that have them given
 a_is : (n a : ℕ) (t : Tet) → IsMember t (fours_a n a) → t.a ≡ a
 a_is n a t m =
     let b = flat_map_cases (fours_ab n a) t (numbers_from (a + 1) n) m in
@@ -82,6 +88,7 @@ abc_is n a b c t m =
     let d = map_cases (with_d a b c) t (numbers_from (b + 1) n) m in
     (ap (λ (u : Tet). u.a) d.2, ap (λ (u : Tet). u.b) d.2, ap (λ (u : Tet). u.c) d.2)
 
+-- the fours are strictly ascending
 rises-fours : (n : ℕ) → Rises RowBefore (fours n)
 rises-fours n =
     rises-flat_map ◌<◌ RowBefore (fours_a n) (numbers_below n) (rises-range 0 n)
@@ -98,6 +105,7 @@ rises-fours n =
 abbrev is_corner_or_outside : List Point → Tet → ℕ → Bool
 is_corner_or_outside ps t i = has_corner t i || is_outside_of ps t i
 
+-- a four that passes the test is a Delaunay tetrahedron
 delaunay_row : (ps : List Point) (t : Tet) → IsFour (length ps) t → is_delaunay ps t ≡ true → IsDelaunay ps t
 delaunay_row ps t four e =
     let q = both_true (int_lt (pos 0) (volume (corners ps t))) _ e in
@@ -116,6 +124,7 @@ delaunay_row ps t four e =
         by (inl c) = let r = some_true (λ j. j == i) (numbers t) c in absurd (n (subst (λ k. Contains (numbers t) k) (eqb-true r.0 i r.2) (contains_of (numbers t) r.0 r.1)))
         by (inr o) = o
 
+-- and a Delaunay tetrahedron passes
 test_row : (ps : List Point) (t : Tet) → IsDelaunay ps t → is_delaunay ps t ≡ true
 test_row ps t d = λ j. test_pos (volume (corners ps t)) d.is_positive j && all_true (is_corner_or_outside ps t) (numbers_below (length ps)) each j
   where
@@ -140,6 +149,7 @@ law_delaunay_list ps = record {
 
 -- ---- the Delaunay list is unique
 
+-- strictly ascending lists with the same members are the same
 pub delaunay_list_unique : (ps : List Point) (ms : List ℕ) (rows rows' : List Tet) → IsDelaunayListAmong ps ms rows → IsDelaunayListAmong ps ms rows' → rows ≡ rows'
 delaunay_list_unique ps ms rows rows' h k =
     ascending-same rows rows' h.ascending k.ascending

@@ -42,6 +42,7 @@ over_placesE f = f A ⊕ f B ⊕ f C ⊕ f D
 abbrev pub offset : Triangle → ℤ
 offset f = pos 0 -ℤ dot (normal f) f.a
 
+-- the side of a rational point is the product with the normal, plus a multiple of w
 pub side_rational-linear : (f : Triangle) (x : RationalPoint) → side_rational f x ≡ (normal f).x *ℤ x.x +ℤ ((normal f).y *ℤ x.y +ℤ ((normal f).z *ℤ x.z +ℤ offset f *ℤ x.w))
 unfolding same det orient_rational
 side_rational-linear f x =
@@ -49,6 +50,7 @@ side_rational-linear f x =
     let p = rationalE 9 in
     ring (side_rationalE g p) ((normalE g).x ⊗ p.x ⊕ ((normalE g).y ⊗ p.y ⊕ ((normalE g).z ⊗ p.z ⊕ offsetE g ⊗ p.w))) tt (of_triangle f (of_rational x []))
 
+-- and so is that of a point
 pub side-linear : (f : Triangle) (p : Point) → side f p ≡ (normal f).x *ℤ p.x +ℤ ((normal f).y *ℤ p.y +ℤ ((normal f).z *ℤ p.z +ℤ offset f))
 unfolding same det orient
 side-linear f p =
@@ -56,6 +58,7 @@ side-linear f p =
     let q = pointE 9 in
     ring (sideE g q) ((normalE g).x ⊗ q.x ⊕ ((normalE g).y ⊗ q.y ⊕ ((normalE g).z ⊗ q.z ⊕ offsetE g))) tt (of_triangle f (of_point p []))
 
+-- a point has the same side as a rational point
 pub side_rational-as_rational : (f : Triangle) (p : Point) → side_rational f (as_rational p) ≡ side f p
 unfolding same det orient orient_rational
 side_rational-as_rational f p = ring (side_rationalE (triangleE 0) (as_rationalE (pointE 9))) (sideE (triangleE 0) (pointE 9)) tt (of_triangle f (of_point p []))
@@ -64,6 +67,7 @@ side_rational-as_rational f p = ring (side_rationalE (triangleE 0) (as_rationalE
 abbrev pub combined : ℤ → RationalPoint → RationalPoint → RationalPoint
 combined n x y = record { x = n *ℤ x.x +ℤ y.x; y = n *ℤ x.y +ℤ y.y; z = n *ℤ x.z +ℤ y.z; w = n *ℤ x.w +ℤ y.w }
 
+-- the side of a combination is the combination of the sides
 pub side_rational-combined : (f : Triangle) (n : ℤ) (x y : RationalPoint) → side_rational f (combined n x y) ≡ n *ℤ side_rational f x +ℤ side_rational f y
 unfolding same det orient_rational
 side_rational-combined f n x y =
@@ -83,6 +87,7 @@ mean-affine nx ny nz o sx sy sz m w x y z ex ey ez =
 
 -- ---- and alternating: the side of a corner at its opposite face is the volume, and at another face 0
 
+-- a corner at its opposite face
 pub side-own : (t : Corners) (u : Place) → side (opposite t u) (corner t u) ≡ volume t
 unfolding same det orient
 side-own t u = go u
@@ -97,6 +102,7 @@ side-own t u = go u
     go C = by C tt
     go D = by D tt
 
+-- a corner at the face opposite another one
 pub side-other : (t : Corners) (u v : Place) → IsOther u v → side (opposite t u) (corner t v) ≡ pos 0
 unfolding same det orient
 side-other t A A o = absurd o
@@ -134,13 +140,16 @@ side-flat f p ex ey ez =
 pub spans : (t : Corners) → IsPositive t → (u : Place) → SpansPlane (opposite t u)
 spans t p u z = pos_not_zero (volume t) p (sym (side-own t u) ∙ side-flat (opposite t u) (corner t u) z.0 z.1 z.2)
 
+-- the same triangle from its next corner on
 abbrev pub turned : Triangle → Triangle
 turned f = record { a = f.b; b = f.c; c = f.a }
 
+-- has the same sides
 pub side_rational-turned : (f : Triangle) (x : RationalPoint) → side_rational (turned f) x ≡ side_rational f x
 unfolding same det orient_rational
 side_rational-turned f x = ring (side_rationalE (turnedE (triangleE 0)) (rationalE 9)) (side_rationalE (triangleE 0) (rationalE 9)) tt (of_triangle f (of_rational x []))
 
+-- two corners that change places change the sign
 pub orient-swap_cd : (a b c d : Point) → orient a b d c ≡ neg_ℤ (orient a b c d)
 unfolding same det orient
 orient-swap_cd a b c d = ring (orientE (pointE 0) (pointE 3) (pointE 9) (pointE 6)) (neg (orientE (pointE 0) (pointE 3) (pointE 6) (pointE 9))) tt (of_point a (of_point b (of_point c (of_point d []))))
@@ -155,6 +164,7 @@ pub weights-sum : (t : Corners) (x : RationalPoint) → over_places (λ u. side_
 unfolding same det orient orient_rational
 weights-sum t x = ring (over_placesE weightE) (volumeE (cornersE 0) ⊗ (rationalE 12).w) tt (of_corners t (of_rational x []))
 
+-- so do the sides of a point, to the volume
 pub sides-sum : (t : Corners) (e : Point) → over_places (λ u. side (opposite t u) e) ≡ volume t
 unfolding same det orient
 sides-sum t e = ring (over_placesE (λ u. sideE (oppositeE (cornersE 0) u) (pointE 12))) (volumeE (cornersE 0)) tt (of_corners t (of_point e []))
@@ -181,6 +191,7 @@ weights-side t f x =
 
 -- ---- the three-term relation
 
+-- one expansion
 pub law_three_term : ThreeTermLaw
 unfolding same det orient
 law_three_term a b c d e f =

@@ -26,6 +26,7 @@ record IsBest (l s : Place → ℤ) (among : List Place) (v : Place) : Type 0 wh
   above : pos 0 <ℤ s v
   best : (u : Place) → IsMember u among → pos 0 ≤ℤ (l u *ℤ s v -ℤ l v *ℤ s u)
 
+-- a sum of two numbers that are at least 0
 sum_both : (p a b : ℤ) → p ≡ a +ℤ b → pos 0 ≤ℤ a → pos 0 ≤ℤ b → pos 0 ≤ℤ p
 sum_both p a b e h k = omega (arith, ints)
 
@@ -188,6 +189,7 @@ no_exchange ps ms first x m e h v above best =
         (λ u. height first (number m u) k) (λ u. height first (number (with_number m v e) u) k) v
         new_volume own_weight (ap (λ i. height first i k) (number-with m v e)) weight (λ u o. ap (λ i. height first i k) (number-with_other m u v e o))
 
+-- the four places
 abbrev all_places : List Place
 all_places = A ∷ B ∷ C ∷ D ∷ []
 
@@ -197,6 +199,7 @@ is_place B = there here
 is_place C = there (there here)
 is_place D = there (there (there here))
 
+-- the weights of e add up to the volume: not all are at most 0
 no_sum : (f : Place → ℤ) (v : ℤ) → over_places f ≡ v → pos 0 <ℤ v → ((u : Place) → f u ≤ℤ pos 0) → ⊥
 no_sum f v e p h = omega (arith, ints, h A, h B, h C, h D)
 

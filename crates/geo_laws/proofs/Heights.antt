@@ -1,6 +1,6 @@
 -- Tetrahedra in the order of their heights at one point, where heights are compared by cross-multiplying with the volumes;
 -- of those among some numbers that strictly hold a point, one is least.
-use Rattle.std.proofs.Common.{◌≡◌, ◌⊎◌, inl, inr, ℕ, ℤ, pos, neg_ℤ, ◌+ℤ◌, ◌-ℤ◌, ◌*ℤ◌, ◌<ℤ◌, List, [], ◌∷◌, map, length, arith}
+use Rattle.std.proofs.Common.{◌≡◌, ◌⊎◌, inl, inr, ℕ, ℤ, pos, neg_ℤ, ◌+ℤ◌, ◌-ℤ◌, ◌*ℤ◌, ◌<ℤ◌, List, [], ◌∷◌, map, length, ap, sym, subst, arith}
 use Rattle.std.specs.Prelude.{flat_map, Contains}
 use Rattle.std.proofs.lemmas.Int.{ints}
 use Rattle.exact_algebra.proofs.Ring.{var, ring, same, ◌⊕◌, ◌⊖◌, ◌⊗◌}
@@ -11,7 +11,7 @@ use Rattle.geo_laws.specs.Delaunay.{corners}
 use Rattle.geo_laws.specs.Height.{height_at, places}
 use Rattle.geo_laws.specs.declared.tetrahedra.Tet.{Tet}
 use Rattle.geo_laws.proofs.Places.{Place, A, B, C, D, opposite, number, at_face, all_faces, each_or_not}
-use Rattle.geo_laws.proofs.Members.{IsMember, here, there, in_flat_map, in_map, member_of}
+use Rattle.geo_laws.proofs.Members.{IsMember, here, there, in_flat_map, flat_map_cases, in_map, map_cases, contains_of, member_of}
 use Rattle.geo_laws.proofs.Corners.{contains_or_not}
 use Rattle.geo_laws.proofs.Lexicographic.{IsZeroAt, IsLexAbove, IsLexAtLeast, lex_sign_of, at_least_add, at_least_scale, at_least_same, at_least_unscale, lex_same}
 
@@ -25,12 +25,14 @@ pub record Holds (ps : List Point) (ms : List ℕ) (x : RationalPoint) (t : Tet)
 abbrev pub gap_at : List Point → (ℕ → ℤ) → RationalPoint → Tet → Tet → ℕ → ℤ
 gap_at ps first x s t k = volume (corners ps s) *ℤ height_at ps first t x k -ℤ volume (corners ps t) *ℤ height_at ps first s x k
 
+-- the height of s at x is at most that of t, from the first place on that tells them apart
 pub record IsAtMost (ps : List Point) (first : ℕ → ℤ) (x : RationalPoint) (s t : Tet) : Type 0 where
   pub gap : IsLexAtLeast (gap_at ps first x s t) (places (length ps))
 
 neg_of_difference : (p q : ℤ) → neg_ℤ (p -ℤ q) ≡ q -ℤ p
 neg_of_difference p q = omega (arith, ints)
 
+-- of two tetrahedra one is at most at the height of the other
 at_most_total : (ps : List Point) (first : ℕ → ℤ) (x : RationalPoint) (s t : Tet) → IsAtMost ps first x s t ⊎ IsAtMost ps first x t s
 at_most_total ps first x s t = go (lex_sign_of (gap_at ps first x s t) (places (length ps)))
   where
@@ -40,11 +42,13 @@ at_most_total ps first x s t = go (lex_sign_of (gap_at ps first x s t) (places (
     go (inr (inl z)) = inl (record { gap = inr z })
     go (inr (inr b)) = inr (record { gap = inl (lex_same _ (gap_at ps first x t s) (places (length ps)) (λ k. neg_of_difference (volume (corners ps s) *ℤ height_at ps first t x k) (volume (corners ps t) *ℤ height_at ps first s x k)) b) })
 
-order-trans : (vs vt vu ns nt nu : ℤ) → vu *ℤ (vs *ℤ nt -ℤ vt *ℤ ns) +ℤ vs *ℤ (vt *ℤ nu -ℤ vu *ℤ nt) ≡ vt *ℤ (vs *ℤ nu -ℤ vu *ℤ ns)
+-- the gaps of s to t and of t to u make that of s to u
+pub order-trans : (vs vt vu ns nt nu : ℤ) → vu *ℤ (vs *ℤ nt -ℤ vt *ℤ ns) +ℤ vs *ℤ (vt *ℤ nu -ℤ vu *ℤ nt) ≡ vt *ℤ (vs *ℤ nu -ℤ vu *ℤ ns)
 unfolding same
 order-trans vs vt vu ns nt nu =
     ring (var 2 ⊗ (var 0 ⊗ var 4 ⊖ var 1 ⊗ var 3) ⊕ var 0 ⊗ (var 1 ⊗ var 5 ⊖ var 2 ⊗ var 4)) (var 1 ⊗ (var 0 ⊗ var 5 ⊖ var 2 ⊗ var 3)) tt (vs ∷ vt ∷ vu ∷ ns ∷ nt ∷ nu ∷ [])
 
+-- the order is transitive
 at_most_trans : (ps : List Point) (ms : List ℕ) (first : ℕ → ℤ) (x : RationalPoint) (s t u : Tet) → Holds ps ms x s → Holds ps ms x t → Holds ps ms x u
     → IsAtMost ps first x s t → IsAtMost ps first x t u → IsAtMost ps first x s u
 at_most_trans ps ms first x s t u hs ht hu st tu =
@@ -59,6 +63,7 @@ at_most_trans ps ms first x s t u hs ht hu st tu =
           (λ k. order-trans vs vt vu (height_at ps first s x k) (height_at ps first t x k) (height_at ps first u x k)) sum);
     }
 
+-- and reflexive
 at_most_refl : (ps : List Point) (first : ℕ → ℤ) (x : RationalPoint) (s : Tet) → IsAtMost ps first x s s
 at_most_refl ps first x s = go (at_most_total ps first x s s)
   where
@@ -68,12 +73,14 @@ at_most_refl ps first x s = go (at_most_total ps first x s s)
 
 -- ---- a least one
 
+-- one of the list, or of those that hold x, is least
 pub record IsLeast (ps : List Point) (ms : List ℕ) (first : ℕ → ℤ) (x : RationalPoint) (xs : List Tet) : Type 0 where
   pub row : Tet
   pub holds : Holds ps ms x row
   pub least : (t : Tet) → IsMember t xs → Holds ps ms x t → IsAtMost ps first x row t
 
-above_or_not : (n : ℤ) → (pos 0 <ℤ n) ⊎ ¬ (pos 0 <ℤ n)
+-- a number is above 0 or not
+pub above_or_not : (n : ℤ) → (pos 0 <ℤ n) ⊎ ¬ (pos 0 <ℤ n)
 above_or_not n = go (sign_of n)
   where
     go : (pos 0 <ℤ n) ⊎ ((n ≡ pos 0) ⊎ (pos 0 <ℤ neg_ℤ n)) → (pos 0 <ℤ n) ⊎ ¬ (pos 0 <ℤ n)
@@ -81,11 +88,16 @@ above_or_not n = go (sign_of n)
     go (inr (inl e)) = inr (λ h. omega (arith, ints))
     go (inr (inr h)) = inr (λ k. omega (arith, ints))
 
-both_or_not : {P Q : Type 0} → P ⊎ ¬ P → Q ⊎ ¬ Q → (P × Q) ⊎ ¬ (P × Q)
+-- both hold, or not
+pub both_or_not : {P Q : Type 0} → P ⊎ ¬ P → Q ⊎ ¬ Q → (P × Q) ⊎ ¬ (P × Q)
+-- both hold, or not
 both_or_not (inl p) (inl q) = inl (p, q)
+-- both hold, or not
 both_or_not (inl p) (inr q) = inr (λ h. q h.1)
+-- both hold, or not
 both_or_not (inr p) q = inr (λ h. p h.0)
 
+-- a tetrahedron strictly holds x or not
 holds_or_not : (ps : List Point) (ms : List ℕ) (x : RationalPoint) (t : Tet) → Holds ps ms x t ⊎ ¬ Holds ps ms x t
 holds_or_not ps ms x t =
     go (both_or_not (each_or_not (λ u. Contains ms (number t u)) (λ u. contains_or_not ms (number t u)))
@@ -140,6 +152,22 @@ in_all_fours ms t on =
     (in_flat_map (λ b. flat_map (λ c. map (λ d. record { a = t.a; b = b; c = c; d = d }) ms) ms) t.b t ms (member_of ms t.b (on B))
     (in_flat_map (λ c. map (λ d. record { a = t.a; b = t.b; c = c; d = d }) ms) t.c t ms (member_of ms t.c (on C))
     (in_map (λ d. record { a = t.a; b = t.b; c = t.c; d = d }) t.d ms (member_of ms t.d (on D)))))
+
+-- and these are all on the numbers
+pub of_all_fours : (ms : List ℕ) (t : Tet) → IsMember t (all_fours ms) → (u : Place) → Contains ms (number t u)
+unfolding all_fours
+of_all_fours ms t m =
+    let a = flat_map_cases (λ a. flat_map (λ b. flat_map (λ c. map (λ d. record { a = a; b = b; c = c; d = d }) ms) ms) ms) t ms m in
+    let b = flat_map_cases (λ b. flat_map (λ c. map (λ d. record { a = a.0; b = b; c = c; d = d }) ms) ms) t ms a.2 in
+    let c = flat_map_cases (λ c. map (λ d. record { a = a.0; b = b.0; c = c; d = d }) ms) t ms b.2 in
+    let d = map_cases (λ d. record { a = a.0; b = b.0; c = c.0; d = d }) t ms c.2 in
+    by (contains_of ms a.0 a.1) (contains_of ms b.0 b.1) (contains_of ms c.0 c.1) (contains_of ms d.0 d.1) d.2
+  where
+    by : {i j k l : ℕ} → Contains ms i → Contains ms j → Contains ms k → Contains ms l → t ≡ record { a = i; b = j; c = k; d = l } → (u : Place) → Contains ms (number t u)
+    by ha hb hc hd e A = subst (Contains ms) (sym (ap (λ (s : Tet). s.a) e)) ha
+    by ha hb hc hd e B = subst (Contains ms) (sym (ap (λ (s : Tet). s.b) e)) hb
+    by ha hb hc hd e C = subst (Contains ms) (sym (ap (λ (s : Tet). s.c) e)) hc
+    by ha hb hc hd e D = subst (Contains ms) (sym (ap (λ (s : Tet). s.d) e)) hd
 
 -- of the rows that strictly hold x one is least, if there is any
 pub least_row : (ps : List Point) (ms : List ℕ) (first : ℕ → ℤ) (x : RationalPoint) (s : Tet) → Holds ps ms x s

@@ -32,6 +32,7 @@ map-neg : (f : ℕ → ℤ) (ks : List ℕ) → map (λ k. neg_ℤ (f k)) ks ≡
 map-neg f [] = refl
 map-neg f (k ∷ ks) = ap (λ r. neg_ℤ (f k) ∷ r) (map-neg f ks)
 
+-- so it has a sign
 pub law_residual : ResidualLaw
 law_residual ps first t e within p n = go (lex_sign_of (residual_at ps first t e) (places (length ps)))
   where
@@ -79,6 +80,7 @@ holds_of ps ms x generic h =
       inside = all_faces (λ f. pos 0 <ℤ side_rational f x) c (λ u. pos_of_nonneg (side_rational (opposite c u) x) (closed u) (generic_face ps ms x generic h.row on h.is_positive u));
     }
 
+-- a least tetrahedron, in its least arrangement, is a lowest one
 lowest_round : (ps : List Point) (ms : List ℕ) → AreNumbersOf ps ms → (first : ℕ → ℤ)
     → EachRational (λ x. InHullAmong ps ms x → IsGeneric ps ms x → (t : Tet) × IsLowestAmong ps ms first t × StrictlyInside (corners ps t) x)
 lowest_round ps ms within first x w hull generic =

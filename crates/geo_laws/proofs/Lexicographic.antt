@@ -49,6 +49,7 @@ sum_right a b e k = omega (arith, ints)
 sum_zero : (a b : ℤ) → a ≡ pos 0 → b ≡ pos 0 → a +ℤ b ≡ pos 0
 sum_zero a b e d = omega (arith, ints)
 
+-- a sum of lists above 0 is above 0
 pub lex_add : (f g : ℕ → ℤ) (ks : List ℕ) → IsLexAbove f ks → IsLexAbove g ks → IsLexAbove (λ k. f k +ℤ g k) ks
 lex_add f g [] h k = h
 lex_add f g (j ∷ ks) (inl h) (inl k) = inl (sum_above (f j) (g j) h k)
@@ -56,6 +57,7 @@ lex_add f g (j ∷ ks) (inl h) (inr k) = inl (sum_left (f j) (g j) h k.0)
 lex_add f g (j ∷ ks) (inr h) (inl k) = inl (sum_right (f j) (g j) h.0 k)
 lex_add f g (j ∷ ks) (inr h) (inr k) = inr (sum_zero (f j) (g j) h.0 k.0, lex_add f g ks h.1 k.1)
 
+-- and so is that of one above 0 and one at 0
 pub lex_add_zero : (f g : ℕ → ℤ) (ks : List ℕ) → IsLexAbove f ks → IsZeroAt g ks → IsLexAbove (λ k. f k +ℤ g k) ks
 lex_add_zero f g [] h z = absurd h
 lex_add_zero f g (j ∷ ks) (inl h) (more e z) = inl (sum_left (f j) (g j) h e)
@@ -70,6 +72,7 @@ pub zero_add : (f g : ℕ → ℤ) (ks : List ℕ) → IsZeroAt f ks → IsZeroA
 zero_add f g [] y z = none
 zero_add f g (j ∷ ks) (more d y) (more e z) = more (sum_zero (f j) (g j) d e) (zero_add f g ks y z)
 
+-- a sum of lists that are at least 0 is at least 0
 pub at_least_add : (f g : ℕ → ℤ) (ks : List ℕ) → IsLexAtLeast f ks → IsLexAtLeast g ks → IsLexAtLeast (λ k. f k +ℤ g k) ks
 at_least_add f g ks (inl h) (inl k) = inl (lex_add f g ks h k)
 at_least_add f g ks (inl h) (inr z) = inl (lex_add_zero f g ks h z)
@@ -107,6 +110,7 @@ lex_same f g [] e h = h
 lex_same f g (k ∷ ks) e (inl h) = inl (pos_same (g k) (f k) (sym (e k)) h)
 lex_same f g (k ∷ ks) e (inr h) = inr (sym (e k) ∙ h.0, lex_same f g ks e h.1)
 
+-- a list whose numbers are all 0 is at 0
 pub zero_everywhere : (f : ℕ → ℤ) (ks : List ℕ) → ((k : ℕ) → f k ≡ pos 0) → IsZeroAt f ks
 zero_everywhere f [] e = none
 zero_everywhere f (k ∷ ks) e = more (e k) (zero_everywhere f ks e)
@@ -144,6 +148,7 @@ not_below c f ks p h below =
     above_not_zero (λ k. c *ℤ f k +ℤ c *ℤ neg_ℤ (f k)) ks (add_above (λ k. c *ℤ f k) (λ k. c *ℤ neg_ℤ (f k)) ks h (lex_scale c (λ k. neg_ℤ (f k)) ks p below))
     (zero_everywhere (λ k. c *ℤ f k +ℤ c *ℤ neg_ℤ (f k)) ks (λ k. times-neg c (f k)))
 
+-- a list is at least 0 where a positive multiple of it is
 pub at_least_unscale : (c : ℤ) (f : ℕ → ℤ) (ks : List ℕ) → pos 0 <ℤ c → IsLexAtLeast (λ k. c *ℤ f k) ks → IsLexAtLeast f ks
 at_least_unscale c f ks p h = go (lex_sign_of f ks)
   where

@@ -10,6 +10,7 @@ pub mod Lift
 pub mod Arrangement
 pub mod Radical
 pub mod Heights
+pub mod Hull
 pub mod Exchange
 pub mod LeastHeight
 pub mod Nudge

@@ -22,12 +22,14 @@ use Rattle.geo_laws.proofs.Ties.{IsVote, IsCarried, carried, carries}
 
 -- ---- the faces that pass a test
 
+-- each corner number stands beside its opposite face
 face_member : (c : Corners) (t : Tet) (u : Place) → IsMember (number t u, opposite c u) (opposite_faces c (as_numbers t))
 face_member c t A = here
 face_member c t B = there here
 face_member c t C = there (there here)
 face_member c t D = there (there (there here))
 
+-- and no others do
 face_cases : (c : Corners) (t : Tet) (g : ℕ × Triangle) → IsMember g (opposite_faces c (as_numbers t)) → (u : Place) × (g ≡ (number t u, opposite c u))
 face_cases c t g here = (A, refl)
 face_cases c t g (there here) = (B, refl)
@@ -39,11 +41,13 @@ face_cases c t g (there (there (there (there m)))) = elim m [ ]
 abbrev those : (Triangle → Bool) → Corners → Tet → List ℕ
 those test c t = map (λ g. g.0) (filter (λ g. test g.1) (opposite_faces c (as_numbers t)))
 
+-- a corner whose opposite face passes is there
 in_those : (test : Triangle → Bool) (c : Corners) (t : Tet) (u : Place) → test (opposite c u) ≡ true → IsMember (number t u) (those test c t)
 in_those test c t u e =
     in_map (λ (g : ℕ × Triangle). g.0) (number t u, opposite c u) (filter (λ g. test g.1) (opposite_faces c (as_numbers t)))
     (in_filter (λ (g : ℕ × Triangle). test g.1) (number t u, opposite c u) (opposite_faces c (as_numbers t)) (face_member c t u) e)
 
+-- and each number there is that of such a corner
 record Passes (test : Triangle → Bool) (c : Corners) (t : Tet) (i : ℕ) : Type 0 where
   place : Place
   is_number : i ≡ number t place
@@ -69,6 +73,7 @@ vote ps first t e j = residual_at ps first t e (suc j)
 abbrev one_if : Bool → ℤ
 one_if b = if b then pos 1 else pos 0
 
+-- the product with it
 if_true : (n : ℤ) (b : Bool) → b ≡ true → n *ℤ one_if b ≡ n
 unfolding lib.IntN.one
 if_true n b e = ap (λ c. n *ℤ one_if c) e ∙ *ℤ-one n
@@ -82,14 +87,17 @@ minus_none a s v e z = omega (arith, ints)
 minus_only : (a s v : ℤ) → a ≡ pos 0 → s ≡ v → a -ℤ s ≡ neg_ℤ v
 minus_only a s v z e = omega (arith, ints)
 
+-- at the place of no corner the weights of e add nothing
 no_weights : (ps : List Point) (t : Tet) (e j : ℕ) → ((u : Place) → number t u ≢ j) → over_places (λ u. side_of ps t e u *ℤ one_if (number t u == j)) ≡ pos 0
 no_weights ps t e j n = sum-none (λ u. side_of ps t e u *ℤ one_if (number t u == j)) (λ u. if_false (side_of ps t e u) (number t u == j) (ne_eqb (number t u) j (n u)))
 
+-- the place of e has the volume
 pub vote-own : (ps : List Point) (first : ℕ → ℤ) (t : Tet) (e : ℕ) → ¬ Contains (numbers t) e → vote ps first t e e ≡ volume (corners ps t)
 unfolding vote
 vote-own ps first t e n =
     minus_none (volume (corners ps t) *ℤ one_if (e == e)) _ (volume (corners ps t)) (if_true (volume (corners ps t)) (e == e) (eq-eqb e e refl)) (no_weights ps t e e (no_corner t e n))
 
+-- the place of a corner has the side of e at the opposite face, with the other sign
 vote-corner : (ps : List Point) (first : ℕ → ℤ) (t : Tet) (e : ℕ) → IsPositive (corners ps t) → ¬ Contains (numbers t) e → (v : Place) → vote ps first t e (number t v) ≡ neg_ℤ (side_of ps t e v)
 unfolding vote
 vote-corner ps first t e p n v =
@@ -98,6 +106,7 @@ vote-corner ps first t e p n v =
     (sum-only v (λ u. side_of ps t e u *ℤ one_if (number t u == number t v)) (λ u o. if_false (side_of ps t e u) (number t u == number t v) (ne_eqb (number t u) (number t v) (distinct ps t p u v o)))
     ∙ if_true (side_of ps t e v) (number t v == number t v) (eq-eqb (number t v) (number t v) refl))
 
+-- every other place has 0
 vote-other : (ps : List Point) (first : ℕ → ℤ) (t : Tet) (e j : ℕ) → e ≢ j → ¬ Contains (numbers t) j → vote ps first t e j ≡ pos 0
 unfolding vote
 vote-other ps first t e j d n =
@@ -117,6 +126,7 @@ vote_of ps first t e j p n = go (same_or_not j e) (corner_or_not t j)
     go (inr _) (inl c) = corner c.0 c.1 (ap (vote ps first t e) c.1 ∙ vote-corner ps first t e p n c.0)
     go (inr d) (inr c) = other (vote-other ps first t e j (λ h. d (sym h)) c)
 
+-- opposite numbers have opposite signs
 pos_of_neg : (a b : ℤ) → a ≡ neg_ℤ b → pos 0 <ℤ neg_ℤ a → pos 0 <ℤ b
 pos_of_neg a b e h = omega (arith, ints)
 
@@ -129,9 +139,11 @@ neg_not_zero a e h = omega (arith, ints)
 not_both : (a b : ℤ) → a ≡ b → pos 0 <ℤ b → pos 0 <ℤ neg_ℤ a → ⊥
 not_both a b e h k = omega (arith, ints)
 
+-- e is across the face
 abbrev is_across : List Point → ℕ → Triangle → Bool
 is_across ps e f = int_lt (side f (point ps e)) (pos 0)
 
+-- e is on the side of the corner
 abbrev is_alongside : List Point → ℕ → Triangle → Bool
 is_alongside ps e f = int_lt (pos 0) (side f (point ps e))
 
@@ -178,13 +190,17 @@ is_carried_of fors against e =
     let r = some_true (λ i. list_all (nat_lt i) against) fors e in
     record { number = r.0; votes = r.1; least = λ j m. ltb-true r.0 j (each_true (nat_lt r.0) against r.2 j m) }
 
+-- and back
 test_carried : (fors against : List ℕ) → IsCarried fors against → list_any (λ i. list_all (nat_lt i) against) fors ≡ true
 test_carried fors against c = any_true (λ i. list_all (nat_lt i) against) fors c.number c.votes (all_true (nat_lt c.number) against (λ j m. lt-ltb c.number j (c.least j m)))
 
 -- ---- the law
 
+-- the test for at most 0
 le_of : (a : ℤ) → int_le a (pos 0) ≡ true → a ≤ℤ pos 0
+-- the test for at most 0
 le_of (pos n) e = omega (arith, ints, leb-true n 0 e)
+-- the test for at most 0
 le_of (negsuc n) e = omega (arith, ints)
 
 test_le : (a : ℤ) → a ≡ pos 0 → int_le a (pos 0) ≡ true
@@ -194,6 +210,7 @@ map-map : (f : ℕ → ℤ) (g : ℕ → ℕ) (s : List ℕ) → map (λ i. f (g
 map-map f g [] = refl
 map-map f g (i ∷ s) = ap (λ r. f (g i) ∷ r) (map-map f g s)
 
+-- the first number decides where e is off the sphere, the votes where it is on it
 pub law_lift : LiftLaw
 unfolding vote
 law_lift ps t e on below p different = (to, from)
@@ -251,6 +268,7 @@ law_lift ps t e on below p different = (to, from)
 
 -- ---- Delaunay rows are the lowest rows
 
+-- a Delaunay tetrahedron is lowest
 pub lowest_of : (ps : List Point) (ms : List ℕ) → AreNumbersOf ps ms → (t : Tet) → IsDelaunayAmong ps ms t → IsLowestAmong ps ms (lifted ps) t
 lowest_of ps ms within t d = record {
   is_on = d.is_on;
@@ -259,6 +277,7 @@ lowest_of ps ms within t d = record {
   others = λ i h n. (law_lift ps t i (on_of_among ps ms t within d.is_on) (within i h) d.is_positive n).0 (d.others i h n);
 }
 
+-- and a lowest one is Delaunay
 pub delaunay_of : (ps : List Point) (ms : List ℕ) → AreNumbersOf ps ms → (t : Tet) → IsLowestAmong ps ms (lifted ps) t → IsDelaunayAmong ps ms t
 delaunay_of ps ms within t l = record {
   is_on = l.is_on;

@@ -42,28 +42,34 @@ unfolding same
 sum-times w f c s =
     ring (var 0 ⊗ (var 1 ⊗ var 2) ⊕ var 3 ⊗ var 2) ((var 0 ⊗ var 1 ⊕ var 3) ⊗ var 2) tt (w ∷ f ∷ c ∷ s ∷ [])
 
+-- the sum of sums
 pub weighted_sum-add : (weight : ℕ → ℕ) (f g : ℕ → ℤ) (s : List ℕ) → weighted_sum weight (λ i. f i +ℤ g i) s ≡ weighted_sum weight f s +ℤ weighted_sum weight g s
 weighted_sum-add weight f g [] = refl
 weighted_sum-add weight f g (i ∷ s) = ap (λ r. pos (weight i) *ℤ (f i +ℤ g i) +ℤ r) (weighted_sum-add weight f g s) ∙ sum-add (pos (weight i)) (f i) (g i) (weighted_sum weight f s) (weighted_sum weight g s)
 
+-- of multiples
 pub weighted_sum-scale : (weight : ℕ → ℕ) (c : ℤ) (f : ℕ → ℤ) (s : List ℕ) → weighted_sum weight (λ i. c *ℤ f i) s ≡ c *ℤ weighted_sum weight f s
 weighted_sum-scale weight c f [] = sym (*ℤ-zero c)
 weighted_sum-scale weight c f (i ∷ s) = ap (λ r. pos (weight i) *ℤ (c *ℤ f i) +ℤ r) (weighted_sum-scale weight c f s) ∙ sum-scale (pos (weight i)) c (f i) (weighted_sum weight f s)
 
+-- of a constant
 pub weighted_sum-const : (weight : ℕ → ℕ) (c : ℤ) (s : List ℕ) → weighted_sum weight (λ i. c) s ≡ c *ℤ pos (sum_by weight s)
 weighted_sum-const weight c [] = sym (*ℤ-zero c)
 weighted_sum-const weight c (i ∷ s) =
     ap (λ r. pos (weight i) *ℤ c +ℤ r) (weighted_sum-const weight c s) ∙ sum-const (pos (weight i)) c (pos (sum_by weight s))
     ∙ ap (λ n. c *ℤ pos n) (sym (sum_by-cons weight i s))
 
+-- of differences
 pub weighted_sum-sub : (weight : ℕ → ℕ) (f g : ℕ → ℤ) (s : List ℕ) → weighted_sum weight (λ i. f i -ℤ g i) s ≡ weighted_sum weight f s -ℤ weighted_sum weight g s
 weighted_sum-sub weight f g [] = refl
 weighted_sum-sub weight f g (i ∷ s) = ap (λ r. pos (weight i) *ℤ (f i -ℤ g i) +ℤ r) (weighted_sum-sub weight f g s) ∙ sum-sub (pos (weight i)) (f i) (g i) (weighted_sum weight f s) (weighted_sum weight g s)
 
+-- of multiples, with the factor last
 pub weighted_sum-times : (weight : ℕ → ℕ) (f : ℕ → ℤ) (c : ℤ) (s : List ℕ) → weighted_sum weight (λ i. f i *ℤ c) s ≡ weighted_sum weight f s *ℤ c
 weighted_sum-times weight f c [] = sym (zero-*ℤ c)
 weighted_sum-times weight f c (i ∷ s) = ap (λ r. pos (weight i) *ℤ (f i *ℤ c) +ℤ r) (weighted_sum-times weight f c s) ∙ sum-times (pos (weight i)) (f i) c (weighted_sum weight f s)
 
+-- and of sums over the places
 pub weighted_sum-places : (weight : ℕ → ℕ) (f : Place → ℕ → ℤ) (s : List ℕ) → weighted_sum weight (λ i. over_places (λ u. f u i)) s ≡ over_places (λ u. weighted_sum weight (f u) s)
 weighted_sum-places weight f s =
     weighted_sum-add weight (λ i. f A i +ℤ f B i +ℤ f C i) (f D) s
@@ -77,6 +83,7 @@ weighted_sum-numbers weight f t = shape (pos (weight t.a) *ℤ f t.a) (pos (weig
     shape : (a b c d : ℤ) → a +ℤ (b +ℤ (c +ℤ (d +ℤ pos 0))) ≡ a +ℤ b +ℤ c +ℤ d
     shape a b c d = omega (arith, ints)
 
+-- the same values have the same sum
 pub weighted_sum-same : (weight : ℕ → ℕ) (f g : ℕ → ℤ) (s : List ℕ) → ((i : ℕ) → f i ≡ g i) → weighted_sum weight f s ≡ weighted_sum weight g s
 weighted_sum-same weight f g s e = λ j. weighted_sum weight (λ i. e i j) s
 
@@ -107,12 +114,14 @@ side-mean ps weight f s x mean =
 
 -- ---- sums over the numbers that pass a test, where the others have no weight
 
+-- a number without weight adds nothing
 zero-weight : (w : ℕ) (n r : ℤ) → w ≡ 0 → r ≡ pos w *ℤ n +ℤ r
 zero-weight w n r e = drop_zero r ∙ ap (λ q. q +ℤ r) (sym (ap (λ v. pos v *ℤ n) e ∙ zero-*ℤ n))
   where
     drop_zero : (r : ℤ) → r ≡ pos 0 +ℤ r
     drop_zero r = omega (arith, ints)
 
+-- so a filter that drops only such numbers changes no sum
 pub weighted_sum-filter : (weight : ℕ → ℕ) (f : ℕ → ℤ) (test : ℕ → Bool) (s : List ℕ) → ((i : ℕ) → IsMember i s → test i ≡ false → weight i ≡ 0)
     → weighted_sum weight f (filter test s) ≡ weighted_sum weight f s
 weighted_sum-filter weight f test [] h = refl
@@ -123,6 +132,7 @@ weighted_sum-filter weight f test (i ∷ s) h = go (test i) refl (weighted_sum-f
     go true e rest = ap (λ q. pos (weight i) *ℤ f i +ℤ q) rest
     go false e rest = rest ∙ zero-weight (weight i) (f i) (weighted_sum weight f s) (h i here e)
 
+-- nor the sum of the weights
 pub sum_by-filter : (weight : ℕ → ℕ) (test : ℕ → Bool) (s : List ℕ) → ((i : ℕ) → IsMember i s → test i ≡ false → weight i ≡ 0)
     → sum_by weight (filter test s) ≡ sum_by weight s
 sum_by-filter weight test [] h = refl
@@ -134,6 +144,7 @@ sum_by-filter weight test (i ∷ s) h = go (test i) refl (sum_by-filter weight t
 
 -- ---- sums of lists of numbers that are at least 0
 
+-- parts that are at least 0 have a sum that is
 pub weighted_sum-at_least : (weight : ℕ → ℕ) (f : ℕ → ℕ → ℤ) (ks s : List ℕ) → ((i : ℕ) → IsMember i s → IsLexAtLeast (f i) ks)
     → IsLexAtLeast (λ k. weighted_sum weight (λ i. f i k) s) ks
 weighted_sum-at_least weight f ks [] h = inr (zero_everywhere (λ k. pos 0) ks (λ k. refl))

@@ -3,10 +3,12 @@ use Rattle.std.proofs.Common.{◌≡◌, ◌⊎◌, inl, inr, ℕ, zero, suc, �
 use Rattle.std.specs.Prelude.{flat_map, filter, Contains}
 use Rattle.std.specs.List.{range_with_len, slice_index_or, list_any, list_all}
 
+-- x stands in the list
 pub data IsMember {X : Type 0} (x : X) : List X → Type 0 where
   here : {xs : List X} → IsMember x (x ∷ xs)
   there : {y : X} {xs : List X} → IsMember x xs → IsMember x (y ∷ xs)
 
+-- a member is the head or stands in the tail
 pub in_cons : {X : Type 0} (x y : X) (xs : List X) → IsMember x (y ∷ xs) → (x ≡ y) ⊎ IsMember x xs
 in_cons x y xs here = inl refl
 in_cons x y xs (there m) = inr m
@@ -22,11 +24,15 @@ pub record Found {X : Type 0} (xs : List X) (x : X) : Type 0 where
   pub within : place < length xs
   pub is : (d : X) → slice_index_or xs place d ≡ x
 
+-- each member has a place
 pub found_of : {X : Type 0} (xs : List X) (x : X) → IsMember x xs → Found xs x
 found_of [] x m = elim m [ ]
+-- each member has a place
 found_of (y ∷ xs) x here = record { place = 0; within = omega arith; is = λ d. refl }
+-- each member has a place
 found_of (y ∷ xs) x (there m) = let f = found_of xs x m in record { place = suc f.place; within = (let h = f.within in omega arith); is = f.is }
 
+-- so the list contains it
 pub contains_of : {X : Type 0} (xs : List X) (x : X) → IsMember x xs → Contains xs x
 contains_of xs x m = let f = found_of xs x m in (f.place, f.within, f.is x)
 
@@ -35,6 +41,7 @@ member_at [] x k h e = absurd (omega arith)
 member_at (y ∷ xs) x zero h e = in_head x y xs (sym e)
 member_at (y ∷ xs) x (suc k) h e = there (member_at xs x k (omega arith) e)
 
+-- and what a list contains is a member
 pub member_of : {X : Type 0} (xs : List X) (x : X) → Contains xs x → IsMember x xs
 member_of xs x c = member_at xs x c.0 c.1 c.2
 
@@ -46,6 +53,7 @@ at_place (x ∷ xs) (suc k) d h = there (at_place xs k d (omega arith))
 
 -- ---- appended lists, maps and filters
 
+-- a member of a part is a member of the whole
 pub in_append_left : {X : Type 0} (x : X) (xs ys : List X) → IsMember x xs → IsMember x (xs ++ ys)
 in_append_left x [] ys m = elim m [ ]
 in_append_left x (y ∷ xs) ys here = here
@@ -55,6 +63,7 @@ pub in_append_right : {X : Type 0} (x : X) (xs ys : List X) → IsMember x ys �
 in_append_right x [] ys m = m
 in_append_right x (y ∷ xs) ys m = there (in_append_right x xs ys m)
 
+-- and a member of the whole is one of a part
 pub append_cases : {X : Type 0} (x : X) (xs ys : List X) → IsMember x (xs ++ ys) → IsMember x xs ⊎ IsMember x ys
 append_cases x [] ys m = inr m
 append_cases x (y ∷ xs) ys m = go (in_cons x y (xs ++ ys) m) (append_cases x xs ys)
@@ -67,11 +76,13 @@ append_cases x (y ∷ xs) ys m = go (in_cons x y (xs ++ ys) m) (append_cases x x
     go (inl e) rest = inl (in_head x y xs e)
     go (inr n) rest = later (rest n)
 
+-- the image of a member is a member of the map
 pub in_map : {X Y : Type 0} (f : X → Y) (x : X) (xs : List X) → IsMember x xs → IsMember (f x) (map f xs)
 in_map f x [] m = elim m [ ]
 in_map f x (z ∷ xs) here = here
 in_map f x (z ∷ xs) (there m) = there (in_map f x xs m)
 
+-- and each member of the map is one
 pub map_cases : {X Y : Type 0} (f : X → Y) (y : Y) (xs : List X) → IsMember y (map f xs) → (x : X) × IsMember x xs × (y ≡ f x)
 map_cases f y [] m = elim m [ ]
 map_cases f y (x ∷ xs) m = go (in_cons y (f x) (map f xs) m) (map_cases f y xs)
@@ -80,11 +91,13 @@ map_cases f y (x ∷ xs) m = go (in_cons y (f x) (map f xs) m) (map_cases f y xs
     go (inl e) rest = (x, here, e)
     go (inr h) rest = let r = rest h in (r.0, there r.1, r.2)
 
+-- a member of the list made from a member is one of the joined lists
 pub in_flat_map : {X Y : Type 0} (f : X → List Y) (x : X) (y : Y) (xs : List X) → IsMember x xs → IsMember y (f x) → IsMember y (flat_map f xs)
 in_flat_map f x y [] m n = elim m [ ]
 in_flat_map f x y (z ∷ xs) here n = in_append_left y (f z) (flat_map f xs) n
 in_flat_map f x y (z ∷ xs) (there m) n = in_append_right y (f z) (flat_map f xs) (in_flat_map f x y xs m n)
 
+-- and each member of the joined lists is one
 pub flat_map_cases : {X Y : Type 0} (f : X → List Y) (y : Y) (xs : List X) → IsMember y (flat_map f xs) → (x : X) × IsMember x xs × IsMember y (f x)
 flat_map_cases f y [] m = elim m [ ]
 flat_map_cases f y (x ∷ xs) m = go (append_cases y (f x) (flat_map f xs) m) (flat_map_cases f y xs)
@@ -93,6 +106,7 @@ flat_map_cases f y (x ∷ xs) m = go (append_cases y (f x) (flat_map f xs) m) (f
     go (inl h) rest = (x, here, h)
     go (inr h) rest = let r = rest h in (r.0, there r.1, r.2)
 
+-- a member that passes the test is one of the filter
 pub in_filter : {X : Type 0} (test : X → Bool) (x : X) (xs : List X) → IsMember x xs → test x ≡ true → IsMember x (filter test xs)
 in_filter test x [] m e = elim m [ ]
 in_filter test x (y ∷ xs) here e = subst (λ b. IsMember y (cond b (y ∷ filter test xs) (filter test xs))) (sym e) here
@@ -102,6 +116,7 @@ in_filter test x (y ∷ xs) (there m) e = go (test y) (in_filter test x xs m e)
     go true r = there r
     go false r = r
 
+-- and each member of the filter is one
 pub filter_cases : {X : Type 0} (test : X → Bool) (x : X) (xs : List X) → IsMember x (filter test xs) → IsMember x xs × (test x ≡ true)
 filter_cases test x [] m = elim m [ ]
 filter_cases test x (y ∷ xs) m = go (test y) refl m (filter_cases test x xs)
@@ -116,6 +131,7 @@ filter_cases test x (y ∷ xs) m = go (test y) refl m (filter_cases test x xs)
 
 -- ---- ranges
 
+-- a number from low on is low or comes after it
 pub at_or_after : (low j : ℕ) → low ≤ j → (low ≡ j) ⊎ (low + 1 ≤ j)
 at_or_after low j h = go (nat_lt low j) refl
   where
@@ -123,6 +139,7 @@ at_or_after low j h = go (nat_lt low j) refl
     go true e = inr (omega (arith, ltb-true low j e))
     go false e = inl (grind arith)
 
+-- a number between the bounds is in the range
 pub in_range : (low n i : ℕ) → low ≤ i → i < low + n → IsMember i (range_with_len low n)
 in_range low zero i l h = absurd (omega arith)
 in_range low (suc n) i l h = go (at_or_after low i l) (in_range (low + 1) n i)
@@ -131,6 +148,7 @@ in_range low (suc n) i l h = go (at_or_after low i l) (in_range (low + 1) n i)
     go (inl e) rest = in_head i low (range_with_len (low + 1) n) (sym e)
     go (inr k) rest = there (rest k (omega arith))
 
+-- and each number of the range is between them
 pub range_bounds : (low n i : ℕ) → IsMember i (range_with_len low n) → (low ≤ i) × (i < low + n)
 range_bounds low zero i m = elim m [ ]
 range_bounds low (suc n) i m = go (in_cons i low (range_with_len (low + 1) n) m) (range_bounds (low + 1) n i)
@@ -145,6 +163,7 @@ pub or_true : (b : Bool) → b || true ≡ true
 or_true true = refl
 or_true false = refl
 
+-- both tests hold where their conjunction does
 pub both_true : (a b : Bool) → a && b ≡ true → (a ≡ true) × (b ≡ true)
 both_true true b e = (refl, e)
 both_true false b e = absurd (never e)
@@ -152,10 +171,12 @@ both_true false b e = absurd (never e)
     never : false ≡ true → ⊥
     never e = cc
 
+-- one of the tests holds where their disjunction does
 pub either_true : (a b : Bool) → a || b ≡ true → (a ≡ true) ⊎ (b ≡ true)
 either_true true b e = inl refl
 either_true false b e = inr e
 
+-- some member passes where the test for some does
 pub some_true : {X : Type 0} (test : X → Bool) (s : List X) → list_any test s ≡ true → (x : X) × IsMember x s × (test x ≡ true)
 some_true test [] e = absurd (never e)
   where
@@ -167,11 +188,13 @@ some_true test (x ∷ s) e = go (either_true (test x) (list_any test s) e) (some
     go (inl h) rest = (x, here, h)
     go (inr h) rest = let r = rest h in (r.0, there r.1, r.2)
 
+-- and back
 pub any_true : {X : Type 0} (test : X → Bool) (s : List X) (x : X) → IsMember x s → test x ≡ true → list_any test s ≡ true
 any_true test [] x m e = elim m [ ]
 any_true test (x ∷ s) y here e = ap (λ b. b || list_any test s) e
 any_true test (x ∷ s) y (there m) e = ap (λ b. test x || b) (any_true test s y m e) ∙ or_true (test x)
 
+-- each member passes where the test for all does
 pub each_true : {X : Type 0} (test : X → Bool) (s : List X) → list_all test s ≡ true → (x : X) → IsMember x s → test x ≡ true
 each_true test [] e x m = elim m [ ]
 each_true test (y ∷ s) e x m = go (both_true (test y) (list_all test s) e) (in_cons x y s m) (each_true test s)
@@ -180,6 +203,7 @@ each_true test (y ∷ s) e x m = go (both_true (test y) (list_all test s) e) (in
     go h (inl e) rest = ap test e ∙ h.0
     go h (inr n) rest = rest h.1 x n
 
+-- and back
 pub all_true : {X : Type 0} (test : X → Bool) (s : List X) → ((x : X) → IsMember x s → test x ≡ true) → list_all test s ≡ true
 all_true test [] h = refl
 all_true test (x ∷ s) h = (λ j. h x here j && list_all test s) ∙ all_true test s (λ y m. h y (there m))

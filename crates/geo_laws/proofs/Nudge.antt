@@ -5,7 +5,7 @@ use Rattle.std.proofs.Common.{◌≡◌, ◌≢◌, ◌⊎◌, inl, inr, ℕ, �
 use Rattle.std.specs.List.{AllByRecursion}
 use Rattle.std.proofs.lemmas.Int.{ints}
 use lib.IntN.{*ℤ-zero}
-use Rattle.exact_algebra.proofs.Signs.{mul_pos, mul_nonneg, sign_of, zero_or_not, nonneg_of_pos, pos_not_zero, pos_same, neg_same, nonneg_same, squares_zero, zero_of_mul, multiple_above, multiple_below}
+use Rattle.exact_algebra.proofs.Signs.{pos_not_neg, neg_of_negated, mul_pos, mul_nonneg, sign_of, zero_or_not, nonneg_of_pos, pos_not_zero, pos_same, neg_same, nonneg_same, squares_zero, zero_of_mul, multiple_above, multiple_below}
 use Rattle.sign_predicates.specs.Point.{RationalPoint, SomeRational, as_rational}
 use Rattle.sign_predicates.specs.Orientation.{Triangle, volume, normal, side, side_rational, IsPositive, StrictlyInside, InClosed, SpansPlane}
 use Rattle.sign_predicates.specs.declared.tetrahedron.Corners.{Corners}
@@ -15,6 +15,7 @@ use Rattle.geo_laws.proofs.Determinants.{combined, middle, off_plane, side-own, 
 
 -- ---- a corner off a plane
 
+-- each corner lies in the closed tetrahedron
 closed_corner : (t : Corners) → IsPositive t → (v : Place) → InClosed t (as_rational (corner t v))
 closed_corner t p v = all_faces (λ f. pos 0 ≤ℤ side_rational f (as_rational (corner t v))) t (λ u. by u (same_or_other u v))
   where
@@ -50,6 +51,7 @@ corner_off t f p spans = go (zero_or_not (side f t.a)) (zero_or_not (side f t.b)
 
 -- ---- combinations
 
+-- a sum of a number above 0 and one that is at least 0
 positive_sum : (s m b : ℤ) → s ≡ m +ℤ b → pos 0 <ℤ m → pos 0 ≤ℤ b → pos 0 <ℤ s
 positive_sum s m b e h k = omega (arith, ints)
 
@@ -80,20 +82,16 @@ closed-inside : (t : Corners) (n : ℕ) (x y : RationalPoint) → InClosed t x �
 closed-inside t n x y h k =
     all_faces (λ f. pos 0 <ℤ side_rational f (combined (pos n) x y)) t (λ u. above-second (opposite t u) n x y (at_face (λ f. pos 0 ≤ℤ side_rational f x) t h u) (at_face (λ f. pos 0 <ℤ side_rational f y) t k u))
 
+-- the denominator stays above 0
 combined_w : (n : ℕ) (x y : RationalPoint) → pos 0 <ℤ x.w → pos 0 <ℤ y.w → pos 0 <ℤ (combined (pos n) x y).w
 combined_w n x y h k = sum_positive (pos n *ℤ x.w +ℤ y.w) (pos n *ℤ x.w) y.w refl (natural_at_least n x.w (nonneg_of_pos x.w h)) k
 
 -- ---- what a combination keeps
 
+-- a number above or below 0 is not 0
 is_off : (s : ℤ) → (pos 0 <ℤ s) ⊎ (s <ℤ pos 0) → s ≢ pos 0
 is_off s (inl h) = λ e. omega (arith, ints)
 is_off s (inr h) = λ e. omega (arith, ints)
-
-not_both : (s : ℤ) → pos 0 <ℤ s → s <ℤ pos 0 → ⊥
-not_both s h k = omega (arith, ints)
-
-from_neg : (s : ℤ) → pos 0 <ℤ neg_ℤ s → s <ℤ pos 0
-from_neg s h = omega (arith, ints)
 
 -- a large multiple keeps a side that is not 0
 keeps-large : (f : Triangle) (n : ℕ) (x y : RationalPoint) → nat_abs (side_rational f y) < n → side_rational f x ≢ pos 0 → KeepsSide x (combined (pos n) x y) f
@@ -110,7 +108,7 @@ keeps-large f n x y l off = record {
         → (pos 0 <ℤ side_rational f (combined (pos n) x y)) ⊎ (side_rational f (combined (pos n) x y) <ℤ pos 0)
     go (inl h) = inl (pos_same (side_rational f (combined (pos n) x y)) _ e (multiple_above n (side_rational f x) (side_rational f y) l h))
     go (inr (inl z)) = absurd (off z)
-    go (inr (inr h)) = inr (neg_same (side_rational f (combined (pos n) x y)) _ e (multiple_below n (side_rational f x) (side_rational f y) l (from_neg (side_rational f x) h)))
+    go (inr (inr h)) = inr (neg_same (side_rational f (combined (pos n) x y)) _ e (multiple_below n (side_rational f x) (side_rational f y) l (neg_of_negated (side_rational f x) h)))
 
 -- to keep the side of a point that keeps it
 keeps-trans : (f : Triangle) (x y z : RationalPoint) → KeepsSide x y f → KeepsSide y z f → KeepsSide x z f
@@ -142,13 +140,13 @@ keeps-toward f n x y k = go (sign_of (side_rational f x))
     go : (pos 0 <ℤ side_rational f x) ⊎ ((side_rational f x ≡ pos 0) ⊎ (pos 0 <ℤ neg_ℤ (side_rational f x))) → KeepsSide x (combined (pos n) x y) f
     go (inl h) =
         let a = above-second f n x y (nonneg_of_pos (side_rational f x) h) (k.above h) in
-        record { off = is_off _ (inl a); above = λ _. a; below = λ b. absurd (not_both _ h b) }
+        record { off = is_off _ (inl a); above = λ _. a; below = λ b. absurd (pos_not_neg _ h b) }
     go (inr (inl z)) =
         let s = zero_part (pos n *ℤ side_rational f x) (side_rational f y) (side_rational f (combined (pos n) x y)) e (product_zero z) in
         record { off = λ w. k.off (sym s ∙ w); above = λ a. absurd (pos_not_zero _ a z); below = λ b. absurd (not_below _ z b) }
     go (inr (inr h)) =
-        let b = below_sum (side_rational f (combined (pos n) x y)) (pos n *ℤ side_rational f x) (side_rational f y) e (natural_at_most n (side_rational f x) (from_neg (side_rational f x) h)) (k.below (from_neg (side_rational f x) h)) in
-        record { off = is_off _ (inr b); above = λ a. absurd (not_both _ a (from_neg (side_rational f x) h)); below = λ _. b }
+        let b = below_sum (side_rational f (combined (pos n) x y)) (pos n *ℤ side_rational f x) (side_rational f y) e (natural_at_most n (side_rational f x) (neg_of_negated (side_rational f x) h)) (k.below (neg_of_negated (side_rational f x) h)) in
+        record { off = is_off _ (inr b); above = λ a. absurd (pos_not_neg _ a (neg_of_negated (side_rational f x) h)); below = λ _. b }
 
 -- ---- lists of planes
 
@@ -162,13 +160,17 @@ unfolding bound
 bound_above [] y = omega arith
 bound_above (f ∷ fs) y = omega arith
 
+-- a combination toward x keeps all the planes
 all-toward : (fs : List Triangle) (n : ℕ) (x y : RationalPoint) → AllByRecursion (KeepsSide x y) fs → AllByRecursion (KeepsSide x (combined (pos n) x y)) fs
 all-toward [] n x y k = tt
+-- a combination toward x keeps all the planes
 all-toward (f ∷ fs) n x y k = (keeps-toward f n x y k.0, all-toward fs n x y k.1)
 
+-- and so does a large multiple of a good point with any other point
 all-large : (fs : List Triangle) (n : ℕ) (x y z : RationalPoint) → bound fs z ≤ n → AllByRecursion (KeepsSide x y) fs → AllByRecursion (KeepsSide x (combined (pos n) y z)) fs
 unfolding bound
 all-large [] n x y z l k = tt
+-- and so does a large multiple of a good point with any other point
 all-large (f ∷ fs) n x y z l k =
     (keeps-trans f x y (combined (pos n) y z) k.0 (keeps-large f n y z (omega arith) k.0.off), all-large fs n x y z (omega arith) k.1)
 
@@ -176,6 +178,7 @@ all-large (f ∷ fs) n x y z l k =
 middle_inside : (t : Corners) → IsPositive t → StrictlyInside t (middle t)
 middle_inside t p = all_faces (λ f. pos 0 <ℤ side_rational f (middle t)) t (λ u. pos_same _ _ (side-middle t u) p)
 
+-- where the first part is 0 the second is the sum
 only_second : (n a b s : ℤ) → s ≡ n *ℤ a +ℤ b → a ≡ pos 0 → b ≡ s
 only_second n a b s e z = drop_zero (n *ℤ a) b s e (ap (λ q. n *ℤ q) z ∙ *ℤ-zero n)
   where

@@ -1,5 +1,5 @@
 -- The four corners of a tetrahedron by their places, so that what is alike for all four is said once.
-use Rattle.std.proofs.Common.{◌≡◌, ◌⊎◌, inl, inr, ℕ, ℤ, pos, ◌+ℤ◌, ◌*ℤ◌, refl, arith}
+use Rattle.std.proofs.Common.{◌≡◌, ◌⊎◌, inl, inr, ℕ, ℤ, pos, ◌+ℤ◌, refl, arith}
 use Rattle.std.proofs.lemmas.Int.{ints}
 use Rattle.std.specs.List.{AllByRecursion}
 use Rattle.std.specs.Prelude.{List, Contains}
@@ -9,9 +9,8 @@ use Rattle.sign_predicates.specs.declared.tetrahedron.Corners.{Corners}
 use Rattle.geo_laws.specs.Delaunay.{point, corners}
 use Rattle.geo_laws.specs.Laws.{plane_through}
 use Rattle.geo_laws.specs.declared.tetrahedra.Tet.{Tet}
-use Rattle.exact_algebra.proofs.Ring.{var, ring, same, ◌⊕◌, ◌⊗◌}
-use Rattle.std.proofs.Common.{[], ◌∷◌}
 
+-- the place of a corner
 pub data Place : Type 0 where
   A : Place
   B : Place
@@ -26,6 +25,7 @@ IsOther C C = ⊥
 IsOther D D = ⊥
 IsOther u v = Unit {0}
 
+-- two places are the same or not
 pub same_or_other : (u v : Place) → (u ≡ v) ⊎ IsOther u v
 same_or_other A A = inl refl
 same_or_other B B = inl refl
@@ -42,6 +42,7 @@ other_back u v o = tt
 
 -- ---- corners and faces
 
+-- the corner at the place
 abbrev pub corner : Corners → Place → Point
 corner t A = t.a
 corner t B = t.b
@@ -69,12 +70,14 @@ number t B = t.b
 number t C = t.c
 number t D = t.d
 
+-- the tetrahedron with e in place of that number
 abbrev pub with_number : Tet → Place → ℕ → Tet
 with_number t A e = record { a = e; b = t.b; c = t.c; d = t.d }
 with_number t B e = record { a = t.a; b = e; c = t.c; d = t.d }
 with_number t C e = record { a = t.a; b = t.b; c = e; d = t.d }
 with_number t D e = record { a = t.a; b = t.b; c = t.c; d = e }
 
+-- the corner is the point with its number
 pub corner-point : (ps : List Point) (t : Tet) (u : Place) → corner (corners ps t) u ≡ point ps (number t u)
 corner-point ps t A = refl
 corner-point ps t B = refl
@@ -144,6 +147,7 @@ all_faces P t h = (h A, (h B, (h C, (h D, tt))))
 
 -- ---- sums over the places
 
+-- the sum over the four
 abbrev pub over_places : (Place → ℤ) → ℤ
 over_places f = f A +ℤ f B +ℤ f C +ℤ f D
 
@@ -157,13 +161,9 @@ sum-only B f h = omega (arith, ints, h A tt, h C tt, h D tt)
 sum-only C f h = omega (arith, ints, h A tt, h B tt, h D tt)
 sum-only D f h = omega (arith, ints, h A tt, h B tt, h C tt)
 
+-- a sum whose parts are all 0
 pub sum-none : (f : Place → ℤ) → ((u : Place) → f u ≡ pos 0) → over_places f ≡ pos 0
 sum-none f h = omega (arith, ints, h A, h B, h C, h D)
-
-pub sum-scale : (c : ℤ) (f : Place → ℤ) → over_places (λ u. c *ℤ f u) ≡ c *ℤ over_places f
-unfolding same
-sum-scale c f =
-    ring (var 0 ⊗ var 1 ⊕ var 0 ⊗ var 2 ⊕ var 0 ⊗ var 3 ⊕ var 0 ⊗ var 4) (var 0 ⊗ (var 1 ⊕ var 2 ⊕ var 3 ⊕ var 4)) tt (c ∷ f A ∷ f B ∷ f C ∷ f D ∷ [])
 
 -- the other three places
 abbrev pub second : Place → Place

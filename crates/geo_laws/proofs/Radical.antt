@@ -29,6 +29,7 @@ use Rattle.geo_laws.proofs.Arrangement.{same_row}
 abbrev side_of : List Point → Tet → Place → ℕ → ℤ
 side_of ps t u e = side (opposite (corners ps t) u) (point ps e)
 
+-- the sum of the residuals of other points, in the sums of their heights and sides
 residual-sum : (ps : List Point) (first : ℕ → ℤ) (t : Tet) (weight : ℕ → ℕ) (r : List ℕ) (k : ℕ)
     → weighted_sum weight (λ e. residual_at ps first t e k) r
     ≡ volume (corners ps t) *ℤ weighted_sum weight (λ e. height first e k) r -ℤ over_places (λ u. weighted_sum weight (side_of ps t u) r *ℤ height first (number t u) k)
@@ -69,6 +70,7 @@ gap m n w v h s g a e =
     ∷ given (neg (var 12)) ((var 8 ⊗ var 2) ⊗ var 0) (((var 16 ⊗ var 3) ⊗ var 2) ⊗ var 1) ∷ [])
     tt (m ∷ n ∷ w ∷ v ∷ h ∷ s A ∷ s B ∷ s C ∷ s D ∷ g A ∷ g B ∷ g C ∷ g D ∷ a A ∷ a B ∷ a C ∷ a D ∷ []) (e A, (e B, (e C, (e D, tt))))
 
+-- where both means are x
 residual-sum-gap : (ps : List Point) (first : ℕ → ℤ) (s : Tet) (m n : ℕ → ℕ) (r : List ℕ) (x : RationalPoint) → IsMean ps (numbers s) m x → IsMean ps r n x → (k : ℕ)
     → (pos (sum_by m (numbers s)) *ℤ x.w) *ℤ weighted_sum n (λ e. residual_at ps first s e k) r
     ≡ (volume (corners ps s) *ℤ x.w) *ℤ (pos (sum_by m (numbers s)) *ℤ weighted_sum n (λ e. height first e k) r -ℤ pos (sum_by n r) *ℤ weighted_sum m (λ e. height first e k) (numbers s))
@@ -118,6 +120,7 @@ residual-own ps first t i c k =
     (sum-only v part (λ u o. ap (λ q. q *ℤ height first (number t u) k) (side-other_point ps t u v o) ∙ zero-*ℤ (height first (number t u) k))
     ∙ ap (λ q. q *ℤ height first (number t v) k) (side-own_point ps t v))
 
+-- at any further point it is above 0
 pub residual-at_least : (ps : List Point) (ms : List ℕ) (first : ℕ → ℤ) (t : Tet) → IsLowestAmong ps ms first t → (i : ℕ) → Contains ms i → IsLexAtLeast (residual_at ps first t i) (places (length ps))
 residual-at_least ps ms first t low i h = go (corner_or_not t i)
   where
@@ -182,12 +185,14 @@ by_tests : (w : Place → ℕ) (p q r p' q' r' : Bool) → p ≡ p' → q ≡ q'
     → (if p then w A else (if q then w B else (if r then w C else w D))) ≡ (if p' then w A else (if q' then w B else (if r' then w C else w D)))
 by_tests w p q r p' q' r' e f g = λ j. if e j then w A else (if f j then w B else (if g j then w C else w D))
 
+-- the corner at each place has its number
 by_number-at : (ps : List Point) (t : Tet) (w : Place → ℕ) → IsPositive (corners ps t) → (u : Place) → by_number t w (number t u) ≡ w u
 by_number-at ps t w p A = by_tests w _ _ _ true (t.a == t.b) (t.a == t.c) (eq-eqb t.a t.a refl) refl refl
 by_number-at ps t w p B = by_tests w _ _ _ false true (t.b == t.c) (ne_eqb _ _ (distinct ps t p B A tt)) (eq-eqb t.b t.b refl) refl
 by_number-at ps t w p C = by_tests w _ _ _ false false true (ne_eqb _ _ (distinct ps t p C A tt)) (ne_eqb _ _ (distinct ps t p C B tt)) (eq-eqb t.c t.c refl)
 by_number-at ps t w p D = by_tests w _ _ _ false false false (ne_eqb _ _ (distinct ps t p D A tt)) (ne_eqb _ _ (distinct ps t p D B tt)) (ne_eqb _ _ (distinct ps t p D C tt))
 
+-- x is a mean to which each corner adds
 pub record InsideMean (ps : List Point) (t : Tet) (x : RationalPoint) : Type 0 where
   pub weight : ℕ → ℕ
   pub mean : IsMean ps (numbers t) weight x
@@ -244,6 +249,7 @@ corners_shared ps ms first s t x w low_s low_t in_s in_t i c = at_corner (corner
         let some = own.all_weigh c.0 in
         absurd (omega arith)
 
+-- so two lowest tetrahedra round one point have the same corners, and are the same
 lowest_rows : (ps : List Point) (ms : List ℕ) (first : ℕ → ℤ) (s t : Tet) → IsLowestAmong ps ms first s → IsLowestAmong ps ms first t → IsMetOrSame ps s t
 lowest_rows ps ms first s t low_s low_t = (
   lowest_rows_meet ps ms first s t low_s low_t,
@@ -252,6 +258,7 @@ lowest_rows ps ms first s t low_s low_t = (
       (corners_shared ps ms first t s h.0 h.1 low_t low_s h.2.1 h.2.0),
 )
 
+-- Delaunay tetrahedra are lowest
 pub law_radical : RadicalLaw
 law_radical = record {
   lowest = lowest_rows;

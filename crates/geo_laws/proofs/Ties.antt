@@ -4,11 +4,12 @@ use Rattle.std.proofs.Common.{◌≡◌, ◌⊎◌, inl, inr, ℕ, zero, suc, �
 use Rattle.std.specs.List.{range_with_len}
 use Rattle.std.proofs.lemmas.Int.{ints}
 use Rattle.geo_laws.specs.Height.{IsLexPositive}
-use Rattle.exact_algebra.proofs.Signs.{sign_of}
+use Rattle.exact_algebra.proofs.Signs.{sign_of, pos_not_zero}
 use Rattle.geo_laws.proofs.Members.{IsMember, at_or_after}
 
 -- ---- the first number that is not 0
 
+-- some number is above 0, and those before it are 0
 pub record FirstAbove (f : ℕ → ℤ) (low n : ℕ) : Type 0 where
   pub place : ℕ
   pub low_le : low ≤ place
@@ -16,6 +17,7 @@ pub record FirstAbove (f : ℕ → ℤ) (low n : ℕ) : Type 0 where
   pub is_above : pos 0 <ℤ f place
   pub zeros : (j : ℕ) → low ≤ j → j < place → f j ≡ pos 0
 
+-- a list above 0 has such a number
 pub first_above : (f : ℕ → ℤ) (low n : ℕ) → IsLexPositive (map f (range_with_len low n)) → FirstAbove f low n
 first_above f low zero h = absurd h
 first_above f low (suc n) (inl h) = record { place = low; low_le = omega arith; below = omega arith; is_above = h; zeros = λ j l k. absurd (omega arith) }
@@ -33,6 +35,7 @@ first_above f low (suc n) (inr h) =
     at {j} (inl e) r k = ap f (sym e) ∙ h.0
     at {j} (inr l) r k = r.zeros j l k
 
+-- and back
 pub above_first : (f : ℕ → ℤ) (low n : ℕ) → FirstAbove f low n → IsLexPositive (map f (range_with_len low n))
 above_first f low zero r = absurd (omega arith)
 above_first f low (suc n) r = go (at_or_after low r.place r.low_le) (above_first f (low + 1) n)
@@ -75,6 +78,7 @@ later f low n e r = record {
     at {j} (inl d) k = ap f (sym d) ∙ e
     at {j} (inr l) k = r.zeros j l k
 
+-- each list has none, or a first one
 pub first_of : (f : ℕ → ℤ) (low n : ℕ) → FirstOf f low n
 first_of f low zero = none (λ j l k. absurd (omega arith))
 first_of f low (suc n) = go (sign_of (f low)) (first_of f (low + 1) n)
@@ -106,12 +110,11 @@ pub record IsCarried (fors against : List ℕ) : Type 0 where
   pub votes : IsMember number fors
   pub least : (j : ℕ) → IsMember j against → number < j
 
-clash : (a : ℤ) → pos 0 <ℤ a → a ≡ pos 0 → ⊥
-clash a h e = omega (arith, ints)
-
+-- a number is not above and below 0
 clash_neg : (a : ℤ) → pos 0 <ℤ a → pos 0 <ℤ neg_ℤ a → ⊥
 clash_neg a h k = omega (arith, ints)
 
+-- two numbers are in one of three orders
 pub order : (i j : ℕ) → (i < j) ⊎ ((i ≡ j) ⊎ (j < i))
 order i j = go (nat_lt i j) refl (nat_lt j i) refl
   where
@@ -120,6 +123,7 @@ order i j = go (nat_lt i j) refl (nat_lt j i) refl
     go false e true d = inr (inr (omega (arith, ltb-true j i d)))
     go false e false d = inr (inl (grind arith))
 
+-- where the list is above 0 the rule is for
 pub carried : (f : ℕ → ℤ) (n : ℕ) (fors against : List ℕ) → IsVote f n fors against → IsLexPositive (map f (range_with_len 0 n)) → IsCarried fors against
 carried f n fors against v h =
     let r = first_above f 0 n h in
@@ -128,13 +132,14 @@ carried f n fors against v h =
     go : (r : FirstAbove f 0 n) (j : ℕ) → IsMember j against → (r.place < j) ⊎ ((r.place ≡ j) ⊎ (j < r.place)) → r.place < j
     go r j m (inl l) = l
     go r j m (inr (inl e)) = absurd (clash_neg (f j) (subst (λ p. pos 0 <ℤ f p) e r.is_above) (v.against_below j m))
-    go r j m (inr (inr l)) = absurd (clash (neg_ℤ (f j)) (v.against_below j m) (neg_of_zero (f j) (r.zeros j (omega arith) l)))
+    go r j m (inr (inr l)) = absurd (pos_not_zero (neg_ℤ (f j)) (v.against_below j m) (neg_of_zero (f j) (r.zeros j (omega arith) l)))
 
+-- and back
 pub carries : (f : ℕ → ℤ) (n : ℕ) (fors against : List ℕ) → IsVote f n fors against → IsCarried fors against → IsLexPositive (map f (range_with_len 0 n))
 carries f n fors against v c = go (first_of f 0 n)
   where
     go : FirstOf f 0 n → IsLexPositive (map f (range_with_len 0 n))
-    go (none z) = absurd (clash (f c.number) (v.for_above c.number c.votes) (z c.number (omega arith) (omega (arith, v.on_list c.number c.votes))))
+    go (none z) = absurd (pos_not_zero (f c.number) (v.for_above c.number c.votes) (z c.number (omega arith) (omega (arith, v.on_list c.number c.votes))))
     go (above r) = above_first f 0 n r
-    go (below r) = absurd (clash (f c.number) (v.for_above c.number c.votes)
+    go (below r) = absurd (pos_not_zero (f c.number) (v.for_above c.number c.votes)
         (zero_of_neg (f c.number) (r.zeros c.number (omega arith) (c.least r.place (v.below_against r.place r.is_above)))))

@@ -17,6 +17,7 @@ row a b c d = record { a = a; b = b; c = c; d = d }
 abbrev pyramid : List Point
 pyramid = at 0 0 0 ∷ at 2 0 0 ∷ at 2 2 0 ∷ at 0 2 0 ∷ at 1 1 2 ∷ []
 
+-- a tie: the diagonal of the base goes from 1 to 3
 pub delaunay_rows-pyramid : delaunay_rows pyramid ≡ row 0 1 3 4 ∷ row 1 2 3 4 ∷ []
 unfolding det orient in_sphere
 delaunay_rows-pyramid = refl
@@ -26,6 +27,7 @@ pub rows_round-pyramid : rows_round pyramid (delaunay_rows pyramid) (record { x 
 unfolding det orient orient_rational in_sphere
 rows_round-pyramid = refl
 
+-- eight points on one sphere
 abbrev cube : List Point
 cube = at 0 0 0 ∷ at 1 0 0 ∷ at 1 1 0 ∷ at 0 1 0 ∷ at 0 0 1 ∷ at 1 0 1 ∷ at 1 1 1 ∷ at 0 1 1 ∷ []
 

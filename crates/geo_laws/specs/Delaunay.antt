@@ -1,4 +1,6 @@
--- Delaunay rows and the Delaunay list of points: of all points of a list, or of those whose numbers stand in a list of numbers.
+-- Delaunay tetrahedra and the Delaunay list of points: of all points of a list, or of those whose numbers stand in a list of numbers.
+-- A tetrahedron is Delaunay where no other point is inside its circumsphere (Delaunay, 1934); ties are broken by the points' numbers
+-- (simulation of simplicity), so the list is unique for every input. A row is a tetrahedron by the numbers of its corners.
 use Rattle.std.specs.Prelude.{◌≡◌, ◌≢◌, ◌↔◌, ◌⊎◌, ℕ, ◌+◌, ◌-◌, ◌<◌, Bool, ◌&&◌, ◌||◌, ◌==◌, IsTrue, pos, int_lt, List, [], ◌∷◌, map, filter, flat_map, length, All, AllPairs, Contains}
 use Rattle.std.specs.List.{list_all, list_any, range_with_len, slice_index_or}
 use Rattle.sign_predicates.specs.Point.{Point, origin}
@@ -21,13 +23,15 @@ abbrev pub AreCoplanar : List Point → Type 0
 AreCoplanar ps =
     (i j k l : ℕ) → i < length ps → j < length ps → k < length ps → l < length ps → orient (point ps i) (point ps j) (point ps k) (point ps l) ≡ pos 0
 
--- the corners of a row, and their numbers
+-- the corners of a row
 abbrev pub corners : List Point → Tet → Corners
 corners ps t = record { a = point ps t.a; b = point ps t.b; c = point ps t.c; d = point ps t.d }
 
+-- and their numbers
 abbrev pub numbers : Tet → List ℕ
 numbers t = t.a ∷ t.b ∷ t.c ∷ t.d ∷ []
 
+-- the same as the sphere test takes them
 abbrev pub as_numbers : Tet → Numbers
 as_numbers t = record { a = t.a; b = t.b; c = t.c; d = t.d }
 
@@ -55,7 +59,8 @@ numbers_below n = range_with_len 0 n
 abbrev pub all_numbers : List Point → List ℕ
 all_numbers ps = numbers_below (length ps)
 
--- of a positive row: it is the least even arrangement of its corners, as the two least numbers stand first
+-- Of a positive row: it is the least even arrangement of its corners, `a b c d` or `a b d c` for rising a, b, c, d. The two least numbers stand
+-- first, and which of the other two comes next decides the orientation
 pub record IsArranged (t : Tet) : Type 0 where
   pub first : t.a < t.b
   pub second : t.b < t.c
@@ -72,7 +77,7 @@ pub record IsDelaunayAmong (ps : List Point) (ms : List ℕ) (t : Tet) : Type 0 
 abbrev pub IsDelaunay : List Point → Tet → Type 0
 IsDelaunay ps t = IsDelaunayAmong ps (all_numbers ps) t
 
--- one row stands before another
+-- one row stands before another, by the first number in which they differ
 abbrev pub RowBefore : Tet → Tet → Type 0
 RowBefore s t = (s.a < t.a) ⊎ (s.a ≡ t.a) × ((s.b < t.b) ⊎ (s.b ≡ t.b) × ((s.c < t.c) ⊎ (s.c ≡ t.c) × (s.d < t.d)))
 
@@ -85,7 +90,7 @@ pub record IsDelaunayListAmong (ps : List Point) (ms : List ℕ) (rows : List Te
 abbrev pub IsDelaunayList : List Point → List Tet → Type 0
 IsDelaunayList ps rows = IsDelaunayListAmong ps (all_numbers ps) rows
 
--- ---- the list as it computes
+-- ---- the list as it computes: a filter over all fours of points
 
 -- the numbers from low up to high
 abbrev pub numbers_from : ℕ → ℕ → List ℕ
@@ -97,6 +102,7 @@ fours n =
     flat_map (λ a. flat_map (λ b. flat_map (λ c. map (λ d. record { a = a; b = b; c = c; d = d })
     (numbers_from (b + 1) n)) (numbers_from (b + 1) n)) (numbers_from (a + 1) n)) (numbers_below n)
 
+-- whether a point is a corner of the row
 abbrev pub has_corner : Tet → ℕ → Bool
 has_corner t i = list_any (λ j. j == i) (numbers t)
 

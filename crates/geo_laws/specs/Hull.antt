@@ -1,4 +1,5 @@
--- The hull of points, all those of a list or those with some numbers, and lists of rows that cover it once.
+-- The convex hull of points, all those of a list or those with some numbers, and lists of rows that cover it once. By Caratheodory's theorem a point
+-- lies in the hull where it lies in a tetrahedron on four of the points.
 use Rattle.std.specs.Prelude.{◌≡◌, ℕ, List, All, count_by}
 use Rattle.sign_predicates.specs.Point.{Point, RationalPoint, EachRational}
 use Rattle.sign_predicates.specs.Orientation.{IsPositive, InClosed, OffFacePlanes, strictly_inside}
@@ -16,6 +17,7 @@ pub record InHullAmong (ps : List Point) (ms : List ℕ) (x : RationalPoint) : T
 abbrev pub InHull : List Point → RationalPoint → Type 0
 InHull ps x = InHullAmong ps (all_numbers ps) x
 
+-- x lies in no closed positive tetrahedron on four of the points
 abbrev pub IsBeyondHull : List Point → RationalPoint → Type 0
 IsBeyondHull ps x = ¬ InHull ps x
 
@@ -27,7 +29,7 @@ OffPlanes ps rows x = All (λ t. OffFacePlanes (corners ps t) x) rows
 abbrev pub rows_round : List Point → List Tet → RationalPoint → ℕ
 rows_round ps rows x = count_by (λ t. strictly_inside (corners ps t) x) rows
 
--- Each rational point off the planes of the rows is strictly inside exactly one row, or beyond the hull of these points and inside none
+-- each rational point off all face planes of the rows lies strictly inside exactly one row where it is in the hull of these points, and in none where it is not
 pub record CoversHullOnceAmong (ps : List Point) (ms : List ℕ) (rows : List Tet) : Type 0 where
   pub inside : EachRational (λ x. OffPlanes ps rows x → InHullAmong ps ms x → rows_round ps rows x ≡ 1)
   pub beyond : EachRational (λ x. OffPlanes ps rows x → ¬ InHullAmong ps ms x → rows_round ps rows x ≡ 0)

@@ -56,6 +56,10 @@ plane_through ps i j k = record { a = point ps i; b = point ps j; c = point ps k
 abbrev pub IsGeneric : List Point → List ℕ → RationalPoint → Type 0
 IsGeneric ps ms x = (i j k : ℕ) → Contains ms i → Contains ms j → Contains ms k → SpansPlane (plane_through ps i j k) → side_rational (plane_through ps i j k) x ≢ pos 0
 
+-- A rational point is in the hull of points or beyond it
+abbrev pub HullLaw : Type 0
+HullLaw = (ps : List Point) (ms : List ℕ) (x : RationalPoint) → InHullAmong ps ms x ⊎ ¬ InHullAmong ps ms x
+
 -- The lower hull of the lifted points lies over the whole hull: a rational point of the hull, off all planes through three of the points,
 -- is strictly inside a lowest tetrahedron, and so inside a Delaunay one
 pub record LeastHeightLaw : Type 0 where

@@ -1,4 +1,4 @@
--- Simplices by the numbers of their corners: points, segments, triangles and tetrahedra.
+-- Simplices by the numbers of their corners: points, segments, triangles and tetrahedra. In a simplicial complex any two meet in a common face.
 use Rattle.std.specs.Prelude.{◌≡◌, ℕ, ◌<◌, ℤ, pos, ◌+ℤ◌, ◌*ℤ◌, List, [], ◌∷◌, filter, sum_by, ◌==◌, Bool, AllPairs}
 use Rattle.std.specs.List.{list_any}
 use Rattle.sign_predicates.specs.Point.{Point, RationalPoint, EachRational}
@@ -17,10 +17,11 @@ pub record IsMean (ps : List Point) (s : List ℕ) (weight : ℕ → ℕ) (x : R
   pub y_is : weighted_sum weight (λ i. (point ps i).y) s *ℤ x.w ≡ x.y *ℤ pos (sum_by weight s)
   pub z_is : weighted_sum weight (λ i. (point ps i).z) s *ℤ x.w ≡ x.z *ℤ pos (sum_by weight s)
 
--- x lies in the simplex, which is the hull of its corners. No corners have an empty hull
+-- x lies in the simplex, the hull of its corners: it is a mean of them (barycentric coordinates). No corners have an empty hull
 abbrev pub InSimplex : List Point → List ℕ → RationalPoint → Type 0
 InSimplex ps s x = (weight : ℕ → ℕ) × IsMean ps s weight x
 
+-- whether a number stands in the list
 abbrev pub has_number : List ℕ → ℕ → Bool
 has_number s i = list_any (λ j. j == i) s
 

@@ -1,6 +1,6 @@
 //! The laws of the Delaunay list, over its definitions alone. Each is the contract of a function that does nothing.
 //! They hold of the points of a list that have some numbers, and so of all its points.
-ghost use Rattle.geo_laws.specs.Laws.{ThreeTermLaw, LiftLaw, ResidualLaw, RadicalLaw, NudgeLaw, LeastHeightLaw, CoverLaw, DelaunayListLaw};
+ghost use Rattle.geo_laws.specs.Laws.{ThreeTermLaw, LiftLaw, ResidualLaw, RadicalLaw, NudgeLaw, HullLaw, LeastHeightLaw, CoverLaw, DelaunayListLaw};
 
 /// The three-term relation: for points with a common edge from `a` to `b`,
 /// `orient(a,b,c,d)*orient(a,b,e,f) - orient(a,b,c,e)*orient(a,b,d,f) + orient(a,b,c,f)*orient(a,b,d,e) = 0`.
@@ -35,6 +35,12 @@ pub fn law_radical()
 /// Source: general position by perturbation; a large multiple of the one point plus the other stands for an infinitely small step.
 pub fn law_nudge()
     ensures { NudgeLaw }
+{}
+
+/// A rational point lies in the hull of points or beyond it, so one that is not beyond the hull lies in it.
+/// Source: finitely many tetrahedra on the points decide (Caratheodory's theorem).
+pub fn law_hull()
+    ensures { HullLaw }
 {}
 
 /// A rational point of the hull, off all planes through three of the points, is strictly inside a lowest tetrahedron,

@@ -7,7 +7,7 @@ mod tetrahedra;
 
 pub use faces::{Face, Side};
 pub use laws::{
-    law_cover, law_delaunay_list, law_least_height, law_lift, law_nudge, law_radical, law_residual,
-    law_three_term,
+    law_cover, law_delaunay_list, law_hull, law_least_height, law_lift, law_nudge, law_radical,
+    law_residual, law_three_term,
 };
 pub use tetrahedra::{Points, Tet, TetList};

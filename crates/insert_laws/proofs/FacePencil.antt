@@ -1,0 +1,55 @@
+-- The rows on a face of a list of points are a pencil.
+use Rattle.geo_laws.proofs.Corners.{IsCorner, corner_of}
+use Rattle.geo_laws.proofs.Places.{A, B, C, D}
+use Rattle.std.proofs.Common.{◌≡◌, ◌≢◌, ℕ, suc, ℤ, neg_ℤ, List, length, ap, sym, ◌∙◌, arith}
+use Rattle.sign_predicates.specs.Point.{Point}
+use Rattle.sign_predicates.specs.Orientation.{volume, side}
+use Rattle.geo_laws.specs.Delaunay.{point, corners, numbers_below}
+use Rattle.geo_laws.specs.Height.{height, lifted, residual_at, places}
+use Rattle.geo_laws.specs.declared.tetrahedra.Tet.{Tet}
+use Rattle.geo_laws.proofs.Determinants as ring
+use Rattle.geo_laws.proofs.Lexicographic.{zero_at}
+use Rattle.geo_laws.proofs.Members.{there, in_map, in_range}
+use Rattle.geo_laws.proofs.Lift.{vote, vote-own}
+use Rattle.insert_laws.specs.Face.{Face, triangle, reversed, beside}
+use Rattle.insert_laws.proofs.Identities as identity
+use Rattle.insert_laws.proofs.Pencil.{IsPencil}
+
+-- on which side of the face's plane a point lies
+abbrev pub side_of : List Point → Face → ℕ → ℤ
+side_of ps f o = side (triangle ps f) (point ps o)
+
+-- how far e is above the row of o
+abbrev pub gap_of : List Point → Face → ℕ → ℕ → ℕ → ℤ
+gap_of ps f o e k = residual_at ps (lifted ps) (beside f o) e k
+
+-- at its own place another point's residual is the row's volume
+residual-own_place : (ps : List Point) (first : ℕ → ℤ) (t : Tet) (e : ℕ) → e ≢ t.a → e ≢ t.b → e ≢ t.c → e ≢ t.d → residual_at ps first t e (suc e) ≡ volume (corners ps t)
+unfolding vote
+residual-own_place ps first t e ha hb hc hd = vote-own ps first t e (λ c. no (corner_of t e c))
+  where
+    no : IsCorner t e → ⊥
+    no (A, h) = ha h
+    no (B, h) = hb h
+    no (C, h) = hc h
+    no (D, h) = hd h
+
+pub face_pencil : (ps : List Point) (f : Face) → IsPencil f (side_of ps f) (gap_of ps f) (places (length ps)) (length ps)
+face_pencil ps f = record {
+  relation = λ o q e k. identity.pencil (triangle ps f) (point ps o) (point ps q) (point ps e) (height (lifted ps) f.a k) (height (lifted ps) f.b k) (height (lifted ps) f.c k) (height (lifted ps) o k) (height (lifted ps) q k) (height (lifted ps) e k);
+  opposite = λ o e k. identity.opposite (triangle ps f) (point ps o) (point ps e) (height (lifted ps) f.a k) (height (lifted ps) f.b k) (height (lifted ps) f.c k) (height (lifted ps) o k) (height (lifted ps) e k);
+  other = λ e h. record {
+    not_a = λ d. h (ap (side_of ps f) d ∙ ring.side-other (corners ps (beside f e)) D A tt);
+    not_b = λ d. h (ap (side_of ps f) d ∙ ring.side-other (corners ps (beside f e)) D B tt);
+    not_c = λ d. h (ap (side_of ps f) d ∙ ring.side-other (corners ps (beside f e)) D C tt);
+  };
+  apart = λ o e l h d so z. so (sym (residual-own_place ps (lifted ps) (beside f o) e h.not_a h.not_b h.not_c d)
+      ∙ zero_at (gap_of ps f o e) (places (length ps)) (suc e) z (there (in_map suc e (numbers_below (length ps)) (in_range 0 (length ps) e (omega arith) (omega arith)))));
+}
+
+-- the face with its sides exchanged
+pub side_of-reversed : (ps : List Point) (f : Face) (o : ℕ) → side_of ps (reversed f) o ≡ neg_ℤ (side_of ps f o)
+side_of-reversed ps f o = identity.side-reverse (triangle ps f) (point ps o)
+
+pub gap_of-reversed : (ps : List Point) (f : Face) (o e k : ℕ) → gap_of ps (reversed f) o e k ≡ neg_ℤ (gap_of ps f o e k)
+gap_of-reversed ps f o e k = identity.residual-reverse (triangle ps f) (point ps o) (point ps e) (height (lifted ps) f.a k) (height (lifted ps) f.b k) (height (lifted ps) f.c k) (height (lifted ps) o k) (height (lifted ps) e k)
