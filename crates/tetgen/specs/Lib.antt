@@ -2,4 +2,5 @@ pub mod Codes
 pub mod Messages
 pub mod Names
 pub mod Points
+pub mod Run
 pub mod Words
