@@ -102,6 +102,13 @@ impl<'a> Fields<'a> {
         self.rest.is_empty()
     }
 
+    /// The number of the line.
+    pub fn line(&self) -> usize
+        ensures { result ≡ self.now.line }
+    {
+        self.line
+    }
+
     /// The next field, or None where the line has no further one.
     pub fn next(&mut self) -> Option<Field<'a>>
         ensures next { MatchOption result ((self.old.fields ≡ []) × (self.new.fields ≡ [])) (λ field. self.old.fields ≡ field.text.now ∷ self.new.fields) }
