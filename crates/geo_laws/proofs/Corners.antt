@@ -1,102 +1,133 @@
--- Corners of rows: which numbers they are, and sums over those of them that pass a test.
-use Rattle.std.proofs.Common.{◌≡◌, ◌⊎◌, inl, inr, ℕ, zero, suc, ◌+◌, ◌<◌, ℤ, pos, ◌+ℤ◌, ◌*ℤ◌, Bool, true, false, cond, ◌||◌, List, [], ◌∷◌, length, refl, ap, sym, ◌∙◌, arith, eq-eqb}
-use Rattle.std.specs.Prelude.{sum_by, filter, Contains, ◌==◌}
+-- The corners of a tetrahedron of a list of points, by their numbers.
+use Rattle.std.proofs.Common.{◌≡◌, ◌≢◌, ◌⊎◌, inl, inr, ℕ, zero, suc, ◌<◌, pos, true, List, [], ◌∷◌, length, refl, ap, sym, subst, ◌∙◌, arith, eq-eqb}
+use Rattle.std.specs.Prelude.{Contains, ◌==◌}
 use Rattle.std.specs.List.{slice_index_or}
-use Rattle.std.proofs.lemmas.Int.{ints}
-use Rattle.std.proofs.lemmas.List.Sums.{sum_by-cons}
-use Rattle.geo_laws.specs.Delaunay.{numbers}
-use Rattle.geo_laws.specs.Simplex.{weighted_sum, has_number}
+use Rattle.exact_algebra.proofs.Signs.{pos_not_zero}
+use Rattle.sign_predicates.specs.Point.{Point}
+use Rattle.sign_predicates.specs.Orientation.{volume, side, IsPositive}
+use Rattle.geo_laws.specs.Delaunay.{point, corners, numbers, numbers_below, all_numbers, IsOn, IsAmong, AreNumbersOf}
+use Rattle.geo_laws.specs.Simplex.{has_number}
 use Rattle.geo_laws.specs.declared.tetrahedra.Tet.{Tet}
-use lib.IntN.{zero-*ℤ}
+use Rattle.geo_laws.proofs.Determinants.{side-own, side-other}
+use Rattle.geo_laws.proofs.Members.{IsMember, here, there, contains_of, member_of, in_range, range_bounds, any_true}
+use Rattle.geo_laws.proofs.Places.{Place, A, B, C, D, IsOther, opposite, number, corner-point}
 
--- i stands in the list
-pub data IsIn (i : ℕ) : List ℕ → Type 0 where
-  here : {s : List ℕ} → IsIn i (i ∷ s)
-  there : {j : ℕ} {s : List ℕ} → IsIn i s → IsIn i (j ∷ s)
-
-pub in_cons : (i j : ℕ) (s : List ℕ) → IsIn i (j ∷ s) → (i ≡ j) ⊎ IsIn i s
-in_cons i j s here = inl refl
-in_cons i j s (there m) = inr m
-
-pub same_or_not : (m n : ℕ) → (m ≡ n) ⊎ (m ≡ n → ⊥)
-same_or_not zero zero = inl refl
-same_or_not zero (suc n) = inr (λ e. omega arith)
-same_or_not (suc m) zero = inr (λ e. omega arith)
-same_or_not (suc m) (suc n) = go (same_or_not m n)
-  where
-    go : (m ≡ n) ⊎ (m ≡ n → ⊥) → (suc m ≡ suc n) ⊎ (suc m ≡ suc n → ⊥)
-    go (inl e) = inl (ap suc e)
-    go (inr d) = inr (λ e. d (omega arith))
-
--- i is one of the row's corners
-pub data IsCorner (t : Tet) (i : ℕ) : Type 0 where
-  is_a : i ≡ t.a → IsCorner t i
-  is_b : i ≡ t.b → IsCorner t i
-  is_c : i ≡ t.c → IsCorner t i
-  is_d : i ≡ t.d → IsCorner t i
+-- i is the number of a corner
+abbrev pub IsCorner : Tet → ℕ → Type 0
+IsCorner t i = (u : Place) × (i ≡ number t u)
 
 corner_at : (t : Tet) (i k : ℕ) → k < 4 → slice_index_or (numbers t) k i ≡ i → IsCorner t i
-corner_at t i zero h e = is_a (sym e)
-corner_at t i (suc zero) h e = is_b (sym e)
-corner_at t i (suc (suc zero)) h e = is_c (sym e)
-corner_at t i (suc (suc (suc zero))) h e = is_d (sym e)
+corner_at t i zero h e = (A, sym e)
+corner_at t i (suc zero) h e = (B, sym e)
+corner_at t i (suc (suc zero)) h e = (C, sym e)
+corner_at t i (suc (suc (suc zero))) h e = (D, sym e)
 corner_at t i (suc (suc (suc (suc k)))) h e = absurd (omega arith)
 
 pub corner_of : (t : Tet) (i : ℕ) → Contains (numbers t) i → IsCorner t i
 corner_of t i c = corner_at t i c.0 c.1 c.2
 
+pub member_corner : (t : Tet) (u : Place) → IsMember (number t u) (numbers t)
+member_corner t A = here
+member_corner t B = there here
+member_corner t C = there (there here)
+member_corner t D = there (there (there here))
+
+pub contains_corner : (t : Tet) (i : ℕ) → IsCorner t i → Contains (numbers t) i
+contains_corner t i c = subst (Contains (numbers t)) (sym c.1) (contains_of (numbers t) (number t c.0) (member_corner t c.0))
+
+-- the number of no corner
+pub no_corner : (t : Tet) (i : ℕ) → ¬ Contains (numbers t) i → (u : Place) → number t u ≢ i
+no_corner t i n u e = n (contains_corner t i (u, sym e))
+
+-- ---- whether a number stands in a list
+
+pub same_or_not : (m n : ℕ) → (m ≡ n) ⊎ (m ≢ n)
+same_or_not zero zero = inl refl
+same_or_not zero (suc n) = inr (λ e. omega arith)
+same_or_not (suc m) zero = inr (λ e. omega arith)
+same_or_not (suc m) (suc n) = go (same_or_not m n)
+  where
+    go : (m ≡ n) ⊎ (m ≢ n) → (suc m ≡ suc n) ⊎ (suc m ≢ suc n)
+    go (inl e) = inl (ap suc e)
+    go (inr d) = inr (λ e. d (omega arith))
+
+pub contains_or_not : (s : List ℕ) (i : ℕ) → Contains s i ⊎ ¬ Contains s i
+contains_or_not [] i = inr (λ c. let h = c.1 in omega arith)
+contains_or_not (j ∷ s) i = go (same_or_not j i) (contains_or_not s i)
+  where
+    none : j ≢ i → ¬ Contains s i → (k : ℕ) → k < length (j ∷ s) → slice_index_or (j ∷ s) k i ≡ i → ⊥
+    none n m zero h e = n e
+    none n m (suc k) h e = m (k, omega arith, e)
+
+    go : (j ≡ i) ⊎ (j ≢ i) → Contains s i ⊎ ¬ Contains s i → Contains (j ∷ s) i ⊎ ¬ Contains (j ∷ s) i
+    go (inl e) m = inl (0, omega arith, e)
+    go (inr n) (inl c) = inl (suc c.0, (let h = c.1 in omega arith), c.2)
+    go (inr n) (inr m) = inr (λ c. none n m c.0 c.1 c.2)
+
 pub corner_or_not : (t : Tet) (i : ℕ) → IsCorner t i ⊎ ¬ Contains (numbers t) i
-corner_or_not t i = go (same_or_not i t.a) (same_or_not i t.b) (same_or_not i t.c) (same_or_not i t.d)
+corner_or_not t i = go (contains_or_not (numbers t) i)
   where
-    go : (i ≡ t.a) ⊎ (i ≡ t.a → ⊥) → (i ≡ t.b) ⊎ (i ≡ t.b → ⊥) → (i ≡ t.c) ⊎ (i ≡ t.c → ⊥) → (i ≡ t.d) ⊎ (i ≡ t.d → ⊥) → IsCorner t i ⊎ ¬ Contains (numbers t) i
-    go (inl e) b c d = inl (is_a e)
-    go (inr a) (inl e) c d = inl (is_b e)
-    go (inr a) (inr b) (inl e) d = inl (is_c e)
-    go (inr a) (inr b) (inr c) (inl e) = inl (is_d e)
-    go (inr a) (inr b) (inr c) (inr d) = inr (λ h. none (corner_of t i h))
-      where
-        none : IsCorner t i → ⊥
-        none (is_a e) = a e
-        none (is_b e) = b e
-        none (is_c e) = c e
-        none (is_d e) = d e
+    go : Contains (numbers t) i ⊎ ¬ Contains (numbers t) i → IsCorner t i ⊎ ¬ Contains (numbers t) i
+    go (inl c) = inl (corner_of t i c)
+    go (inr n) = inr n
 
--- a number that stands in a list is found there
-or_true : (b : Bool) → b || true ≡ true
-or_true true = refl
-or_true false = refl
-
-found_at : (s : List ℕ) (i k : ℕ) → k < length s → slice_index_or s k i ≡ i → has_number s i ≡ true
-found_at [] i k h e = absurd (omega arith)
-found_at (j ∷ s) i zero h e = ap (λ b. b || has_number s i) (eq-eqb j i e)
-found_at (j ∷ s) i (suc k) h e = ap (λ b. (j == i) || b) (found_at s i k (omega arith) e) ∙ or_true (j == i)
-
+-- the test finds a number that stands in the list
 pub found : (s : List ℕ) (i : ℕ) → Contains s i → has_number s i ≡ true
-found s i c = found_at s i c.0 c.1 c.2
+found s i c = any_true (λ j. j == i) s i (member_of s i c) (eq-eqb i i refl)
 
--- ---- sums over the numbers that pass a test, where the others have no weight
+-- ---- the corners of a positive tetrahedron have different numbers
 
-zero-weight : (w : ℕ) (n r : ℤ) → w ≡ 0 → r ≡ pos w *ℤ n +ℤ r
-zero-weight w n r e = drop_zero r ∙ ap (λ q. q +ℤ r) (sym (ap (λ v. pos v *ℤ n) e ∙ zero-*ℤ n))
+pub distinct : (ps : List Point) (t : Tet) → IsPositive (corners ps t) → (u v : Place) → IsOther u v → number t u ≢ number t v
+distinct ps t p u v o e =
+    let c = corners ps t in
+    pos_not_zero (volume c) p (sym (side-own c u) ∙ ap (side (opposite c u)) (corner-point ps t u ∙ ap (point ps) e ∙ sym (corner-point ps t v)) ∙ side-other c u v o)
+
+-- ---- the numbers below n
+
+pub contains_below : (n i : ℕ) → i < n → Contains (numbers_below n) i
+contains_below n i h = contains_of (numbers_below n) i (in_range 0 n i (omega arith) (omega arith))
+
+pub below_of : (n i : ℕ) → Contains (numbers_below n) i → i < n
+below_of n i c = let r = range_bounds 0 n i (member_of (numbers_below n) i c) in let h = r.1 in omega arith
+
+-- the numbers of all the points are those of points
+pub all_within : (ps : List Point) → AreNumbersOf ps (all_numbers ps)
+all_within ps = below_of (length ps)
+
+-- ---- tetrahedra on numbers
+
+pub corner_among : (ms : List ℕ) (t : Tet) → IsAmong ms t → (u : Place) → Contains ms (number t u)
+corner_among ms t on u = on (number t u) (contains_corner t (number t u) (u, refl))
+
+pub member_among : (ms : List ℕ) (t : Tet) → IsAmong ms t → (i : ℕ) → IsMember i (numbers t) → Contains ms i
+member_among ms t on i m = on i (contains_of (numbers t) i m)
+
+pub among_of_corners : (ms : List ℕ) (t : Tet) → ((u : Place) → Contains ms (number t u)) → IsAmong ms t
+among_of_corners ms t h i c = let k = corner_of t i c in subst (Contains ms) (sym k.1) (h k.0)
+
+pub on_of_among : (ps : List Point) (ms : List ℕ) (t : Tet) → AreNumbersOf ps ms → IsAmong ms t → IsOn ps t
+on_of_among ps ms t within on = go
   where
-    drop_zero : (r : ℤ) → r ≡ pos 0 +ℤ r
-    drop_zero r = omega (arith, ints)
+    below : (u : Place) → number t u < length ps
+    below u = within (number t u) (corner_among ms t on u)
 
-pub weighted_sum-filter : (weight : ℕ → ℕ) (f : ℕ → ℤ) (test : ℕ → Bool) (s : List ℕ) → ((i : ℕ) → IsIn i s → test i ≡ false → weight i ≡ 0)
-    → weighted_sum weight f (filter test s) ≡ weighted_sum weight f s
-weighted_sum-filter weight f test [] h = refl
-weighted_sum-filter weight f test (i ∷ s) h = go (test i) refl (weighted_sum-filter weight f test s (λ j m. h j (there m)))
-  where
-    go : (b : Bool) → test i ≡ b → weighted_sum weight f (filter test s) ≡ weighted_sum weight f s
-        → weighted_sum weight f (cond b (i ∷ filter test s) (filter test s)) ≡ weighted_sum weight f (i ∷ s)
-    go true e rest = ap (λ q. pos (weight i) *ℤ f i +ℤ q) rest
-    go false e rest = rest ∙ zero-weight (weight i) (f i) (weighted_sum weight f s) (h i here e)
+    go : IsOn ps t
+    go zero e l = below A
+    go (suc zero) e l = below B
+    go (suc (suc zero)) e l = below C
+    go (suc (suc (suc zero))) e l = below D
+    go (suc (suc (suc (suc k)))) e l = absurd (omega arith)
 
-pub sum_by-filter : (weight : ℕ → ℕ) (test : ℕ → Bool) (s : List ℕ) → ((i : ℕ) → IsIn i s → test i ≡ false → weight i ≡ 0)
-    → sum_by weight (filter test s) ≡ sum_by weight s
-sum_by-filter weight test [] h = refl
-sum_by-filter weight test (i ∷ s) h = go (test i) refl (sum_by-filter weight test s (λ j m. h j (there m)))
-  where
-    go : (b : Bool) → test i ≡ b → sum_by weight (filter test s) ≡ sum_by weight s → sum_by weight (cond b (i ∷ filter test s) (filter test s)) ≡ sum_by weight (i ∷ s)
-    go true e rest = sum_by-cons weight i (filter test s) ∙ ap (λ q. weight i + q) rest ∙ sym (sum_by-cons weight i s)
-    go false e rest = let w = h i here e in let c = sum_by-cons weight i s in omega arith
+pub on_corner : (ps : List Point) (t : Tet) → IsOn ps t → (u : Place) → number t u < length ps
+on_corner ps t on A = on 0 0 (omega arith)
+on_corner ps t on B = on 1 0 (omega arith)
+on_corner ps t on C = on 2 0 (omega arith)
+on_corner ps t on D = on 3 0 (omega arith)
+
+-- ---- the sides of a tetrahedron's own points
+
+pub side-own_point : (ps : List Point) (t : Tet) (u : Place) → side (opposite (corners ps t) u) (point ps (number t u)) ≡ volume (corners ps t)
+side-own_point ps t u = ap (side (opposite (corners ps t) u)) (sym (corner-point ps t u)) ∙ side-own (corners ps t) u
+
+pub side-other_point : (ps : List Point) (t : Tet) (u v : Place) → IsOther u v → side (opposite (corners ps t) u) (point ps (number t v)) ≡ pos 0
+side-other_point ps t u v o = ap (side (opposite (corners ps t) u)) (sym (corner-point ps t v)) ∙ side-other (corners ps t) u v o

@@ -1,55 +1,30 @@
--- A list of exactly the Delaunay rows covers the hull once.
-use Rattle.std.proofs.Common.{◌≡◌, ◌≢◌, ◌⊎◌, inl, inr, ℕ, zero, suc, ◌+◌, ◌<◌, ℤ, pos, neg_ℤ, ◌<ℤ◌, ◌≤ℤ◌, Bool, true, false, cond, ◌&&◌, List, [], ◌∷◌, map, length, refl, ap, sym, subst, ◌∙◌, arith}
-use Rattle.std.specs.Prelude.{Contains, AllPairs, count_by, flat_map, int_lt}
+-- The Delaunay list covers the hull once. Let x be off its face planes. Where x is in the hull, nudge it inside the hull off all planes through three
+-- of the points: the Delaunay tetrahedron round the near point is round x too, as x is on the same side of its faces, and by the radical law it is
+-- the only one. Beyond the hull there is none, as each tetrahedron lies in the hull.
+use Rattle.std.proofs.Common.{◌≡◌, ◌≢◌, ◌⊎◌, inl, inr, ℕ, ◌+◌, ℤ, pos, neg_ℤ, ◌<ℤ◌, ◌≤ℤ◌, Bool, true, false, cond, ◌&&◌, List, [], ◌∷◌, map, refl, ap, sym, subst, ◌∙◌, arith}
+use Rattle.std.specs.Prelude.{Contains, count_by, flat_map, int_lt}
 use Rattle.std.specs.List.{AllByRecursion, slice_index_or}
 use Rattle.std.proofs.lemmas.Int.{ints}
 use Rattle.std.proofs.lemmas.List.Sums.{sum_by-cons}
+use Rattle.exact_algebra.proofs.Signs.{sign_of, zero_or_not, nonneg_of_pos, test_pos, pos_of_test}
 use Rattle.sign_predicates.specs.Point.{Point, RationalPoint, EachRational}
-use Rattle.sign_predicates.specs.Orientation.{Triangle, normal, side_rational, opposite_a, opposite_b, opposite_c, opposite_d, IsPositive, StrictlyInside, InClosed, OffFacePlanes, SpansPlane, strictly_inside}
+use Rattle.sign_predicates.specs.Orientation.{Triangle, normal, side_rational, IsPositive, StrictlyInside, InClosed, OffFacePlanes, SpansPlane, faces, strictly_inside}
 use Rattle.sign_predicates.specs.declared.tetrahedron.Corners.{Corners}
 use Rattle.geo_laws.specs.Delaunay.{corners, all_numbers, IsAmong, IsDelaunayList, AreNumbersOf, IsDelaunayAmong, IsDelaunayListAmong, RowBefore}
 use Rattle.geo_laws.specs.Hull.{InHullAmong, OffPlanes, rows_round, CoversHullOnceAmong}
 use Rattle.geo_laws.specs.Simplex.{RowsProperlyMet}
-use Rattle.geo_laws.specs.Height.{lifted, IsLowestAmong}
 use Rattle.geo_laws.specs.Laws.{KeepsSide, plane_through, IsTriangulation, CoverLaw}
 use Rattle.geo_laws.specs.declared.tetrahedra.Tet.{Tet}
-use Rattle.geo_laws.proofs.Signs.{sign_of}
-use Rattle.geo_laws.proofs.Order.{IsMember, here, there, in_flat_map, in_map, member_of}
-use Rattle.geo_laws.proofs.Exchange.{spans_a, spans_b, spans_c, spans_d}
-use Rattle.geo_laws.proofs.Lift.{lift_law, above_of, test_above, both_true}
-use Rattle.geo_laws.proofs.Corners.{is_a, is_b, is_c, is_d}
-use Rattle.geo_laws.proofs.Among.{on_of_among, corner_among, all_within}
-use Rattle.geo_laws.proofs.Nudge.{nudge}
-use Rattle.geo_laws.proofs.SameRow.{radical_law}
-use Rattle.geo_laws.proofs.LeastHeight.{least_height_law}
-
--- ---- Delaunay rows are the lowest rows
-
-pub lowest_of : (ps : List Point) (ms : List ℕ) → AreNumbersOf ps ms → (t : Tet) → IsDelaunayAmong ps ms t → IsLowestAmong ps ms (lifted ps) t
-lowest_of ps ms within t d = record {
-  is_on = d.is_on;
-  is_positive = d.is_positive;
-  is_arranged = d.is_arranged;
-  others = λ i h n. (lift_law ps t i (on_of_among ps ms t within d.is_on) (within i h) d.is_positive n).0 (d.others i h n);
-}
-
-pub delaunay_of : (ps : List Point) (ms : List ℕ) → AreNumbersOf ps ms → (t : Tet) → IsLowestAmong ps ms (lifted ps) t → IsDelaunayAmong ps ms t
-delaunay_of ps ms within t l = record {
-  is_on = l.is_on;
-  is_positive = l.is_positive;
-  is_arranged = l.is_arranged;
-  others = λ i h n. (lift_law ps t i (on_of_among ps ms t within l.is_on) (within i h) l.is_positive n).1 (l.others i h n);
-}
+use Rattle.geo_laws.proofs.Places.{Place, A, B, C, D, opposite, at_planes, at_face, all_faces}
+use Rattle.geo_laws.proofs.Determinants.{spans}
+use Rattle.geo_laws.proofs.Members.{IsMember, here, there, found_of, member_of, at_place, contains_of, in_flat_map, in_map, each_true}
+use Rattle.geo_laws.proofs.Ascending.{Rises, more, before_itself, rises_of}
+use Rattle.geo_laws.proofs.Corners.{corner_among, all_within}
+use Rattle.geo_laws.proofs.Nudge.{law_nudge}
+use Rattle.geo_laws.proofs.Radical.{law_radical}
+use Rattle.geo_laws.proofs.LeastHeight.{law_least_height}
 
 -- ---- all planes through three of the points
-
-zero_or_not : (n : ℤ) → (n ≡ pos 0) ⊎ ¬ (n ≡ pos 0)
-zero_or_not n = go (sign_of n)
-  where
-    go : (pos 0 <ℤ n) ⊎ ((n ≡ pos 0) ⊎ (pos 0 <ℤ neg_ℤ n)) → (n ≡ pos 0) ⊎ ¬ (n ≡ pos 0)
-    go (inl h) = inr (λ e. omega (arith, ints))
-    go (inr (inl e)) = inl e
-    go (inr (inr h)) = inr (λ e. omega (arith, ints))
 
 spans_or_not : (f : Triangle) → SpansPlane f ⊎ ¬ SpansPlane f
 spans_or_not f = go (zero_or_not (normal f).x) (zero_or_not (normal f).y) (zero_or_not (normal f).z)
@@ -115,15 +90,12 @@ record Generic (ps : List Point) (ms : List ℕ) (x : RationalPoint) : Type 0 wh
   in_hull : InHullAmong ps ms near
   keeps : (i j k : ℕ) → Contains ms i → Contains ms j → Contains ms k → SpansPlane (plane_through ps i j k) → KeepsSide x near (plane_through ps i j k)
 
-weak : (a : ℤ) → pos 0 <ℤ a → pos 0 ≤ℤ a
-weak a h = omega (arith, ints)
-
 closed_of : (t : Corners) (x : RationalPoint) → StrictlyInside t x → InClosed t x
-closed_of t x h = (weak _ h.0, (weak _ h.1.0, (weak _ h.1.1.0, (weak _ h.1.1.1.0, tt))))
+closed_of t x h = all_faces (λ f. pos 0 ≤ℤ side_rational f x) t (λ u. nonneg_of_pos _ (at_face (λ f. pos 0 <ℤ side_rational f x) t h u))
 
 generic : (ps : List Point) (ms : List ℕ) (x : RationalPoint) → pos 0 <ℤ x.w → InHullAmong ps ms x → Generic ps ms x
 generic ps ms x w h =
-    let y = nudge (corners ps h.row) h.is_positive (planes (triangles ps ms)) (planes_span (triangles ps ms)) x w h.holds in
+    let y = law_nudge (corners ps h.row) h.is_positive (planes (triangles ps ms)) (planes_span (triangles ps ms)) x w h.holds in
     record {
       near = y.0;
       w = y.1;
@@ -147,38 +119,30 @@ back a b off below h = go (sign_of a)
     go (inr (inl e)) = absurd (off e)
     go (inr (inr n)) = absurd (not_both b h (below (from_neg a n)))
 
--- a row round the near point is round x, if x is off its face planes
+-- a tetrahedron round the near point is round x, if x is off its face planes
 round_x : (ps : List Point) (ms : List ℕ) (x : RationalPoint) (g : Generic ps ms x) (t : Tet) → IsAmong ms t → IsPositive (corners ps t) → OffFacePlanes (corners ps t) x
     → StrictlyInside (corners ps t) g.near → StrictlyInside (corners ps t) x
 round_x ps ms x g t on p off h =
     let c = corners ps t in
-    let a = corner_among ms t on t.a (is_a refl) in
-    let b = corner_among ms t on t.b (is_b refl) in
-    let d = corner_among ms t on t.c (is_c refl) in
-    let e = corner_among ms t on t.d (is_d refl) in (
-      back _ (side_rational (opposite_a c) g.near) off.0 (g.keeps t.b t.d t.c b e d (spans_a c p)).below h.0,
-      (
-        back _ (side_rational (opposite_b c) g.near) off.1.0 (g.keeps t.a t.c t.d a d e (spans_b c p)).below h.1.0,
-        (
-          back _ (side_rational (opposite_c c) g.near) off.1.1.0 (g.keeps t.a t.d t.b a e b (spans_c c p)).below h.1.1.0,
-          (back _ (side_rational (opposite_d c) g.near) off.1.1.1.0 (g.keeps t.a t.b t.c a b d (spans_d c p)).below h.1.1.1.0, tt),
-        ),
-      ),
-    )
+    all_faces (λ f. pos 0 <ℤ side_rational f x) c (λ u.
+    back (side_rational (opposite c u) x) (side_rational (opposite c u) g.near) (at_face (λ f. side_rational f x ≢ pos 0) c off u)
+    (at_planes ps ms (λ f. SpansPlane f → KeepsSide x g.near f) g.keeps t (corner_among ms t on) u (spans c p u)).below (at_face (λ f. pos 0 <ℤ side_rational f g.near) c h u))
 
 -- ---- counts
 
 test_inside : (t : Corners) (x : RationalPoint) → StrictlyInside t x → strictly_inside t x ≡ true
-test_inside t x h = λ j. test_above (side_rational (opposite_a t) x) h.0 j && (test_above (side_rational (opposite_b t) x) h.1.0 j
-    && (test_above (side_rational (opposite_c t) x) h.1.1.0 j && (test_above (side_rational (opposite_d t) x) h.1.1.1.0 j && true)))
+test_inside t x h =
+    let above = λ (u : Place). test_pos (side_rational (opposite t u) x) (at_face (λ f. pos 0 <ℤ side_rational f x) t h u) in
+    λ j. above A j && (above B j && (above C j && (above D j && true)))
 
 inside_of : (t : Corners) (x : RationalPoint) → strictly_inside t x ≡ true → StrictlyInside t x
-inside_of t x e =
-    let a = both_true (int_lt (pos 0) (side_rational (opposite_a t) x)) _ e in
-    let b = both_true (int_lt (pos 0) (side_rational (opposite_b t) x)) _ a.1 in
-    let c = both_true (int_lt (pos 0) (side_rational (opposite_c t) x)) _ b.1 in
-    let d = both_true (int_lt (pos 0) (side_rational (opposite_d t) x)) _ c.1 in
-    (above_of _ a.0, (above_of _ b.0, (above_of _ c.0, (above_of _ d.0, tt))))
+inside_of t x e = all_faces (λ f. pos 0 <ℤ side_rational f x) t (λ u. pos_of_test _ (each_true (λ f. int_lt (pos 0) (side_rational f x)) (faces t) e (opposite t u) (face_of u)))
+  where
+    face_of : (u : Place) → IsMember (opposite t u) (faces t)
+    face_of A = here
+    face_of B = there here
+    face_of C = there (there here)
+    face_of D = there (there (there here))
 
 count-cons : (test : Tet → Bool) (t : Tet) (rows : List Tet) → count_by test (t ∷ rows) ≡ cond (test t) 1 0 + count_by test rows
 count-cons test t rows = sum_by-cons (λ u. cond (test u) 1 0) t rows
@@ -191,54 +155,23 @@ count_none test (t ∷ rows) h = count-cons test t rows ∙ go (test t) (h t her
     go true n r = absurd (n refl)
     go false n r = omega arith
 
--- no row stands twice
-data IsUnrepeated : List Tet → Type 0 where
-  none : IsUnrepeated []
-  more : {t : Tet} {rows : List Tet} → (IsMember t rows → ⊥) → IsUnrepeated rows → IsUnrepeated (t ∷ rows)
-
-count_one : (test : Tet → Bool) (rows : List Tet) (t : Tet) → IsUnrepeated rows → IsMember t rows → test t ≡ true
+-- in a strictly ascending list no tetrahedron stands twice
+count_one : (test : Tet → Bool) (rows : List Tet) (t : Tet) → Rises RowBefore rows → IsMember t rows → test t ≡ true
     → ((u : Tet) → IsMember u rows → test u ≡ true → u ≡ t) → count_by test rows ≡ 1
 count_one test [] t d m e same = elim m [ ]
-count_one test (u ∷ rows) t (more new d) here e same =
+count_one test (u ∷ rows) t (more first d) here e same =
     count-cons test u rows ∙ ap (λ b. cond b 1 0 + count_by test rows) e
-    ∙ ap (λ n. 1 + n) (count_none test rows (λ v m k. new (subst (λ r. IsMember r rows) (same v (there m) k) m)))
-count_one test (u ∷ rows) t (more new d) (there m) e same = count-cons test u rows ∙ go (test u) refl (count_one test rows t d m e (λ v n. same v (there n)))
+    ∙ ap (λ n. 1 + n) (count_none test rows (λ v m k. before_itself u (first u (subst (λ r. IsMember r rows) (same v (there m) k) m))))
+count_one test (u ∷ rows) t (more first d) (there m) e same = count-cons test u rows ∙ go (test u) refl (count_one test rows t d m e (λ v n. same v (there n)))
   where
     go : (b : Bool) → test u ≡ b → count_by test rows ≡ 1 → cond b 1 0 + count_by test rows ≡ 1
-    go true k r = absurd (new (subst (λ v. IsMember v rows) (sym (same u here k)) m))
+    go true k r = absurd (before_itself u (first u (subst (λ v. IsMember v rows) (sym (same u here k)) m)))
     go false k r = omega arith
-
-pub before_itself : (t : Tet) → RowBefore t t → ⊥
-before_itself t (inl h) = omega arith
-before_itself t (inr (e, inl h)) = omega arith
-before_itself t (inr (e, inr (d, inl h))) = omega arith
-before_itself t (inr (e, inr (d, inr (c, h)))) = omega arith
-
-pub row_at : (rows : List Tet) (t : Tet) (k : ℕ) → k < length rows → slice_index_or rows k t ≡ t → IsMember t rows
-row_at [] t k h e = absurd (omega arith)
-row_at (u ∷ rows) t zero h e = subst (λ v. IsMember v (u ∷ rows)) e here
-row_at (u ∷ rows) t (suc k) h e = there (row_at rows t k (omega arith) e)
-
-pub record Found (rows : List Tet) (t : Tet) : Type 0 where
-  pub place : ℕ
-  pub within : place < length rows
-  pub is : (d : Tet) → slice_index_or rows place d ≡ t
-
-pub found_of : (rows : List Tet) (t : Tet) → IsMember t rows → Found rows t
-found_of [] t m = elim m [ ]
-found_of (u ∷ rows) t here = record { place = 0; within = omega arith; is = λ d. refl }
-found_of (u ∷ rows) t (there m) = let f = found_of rows t m in record { place = suc f.place; within = (let h = f.within in omega arith); is = f.is }
-
-unrepeated : (rows : List Tet) → AllPairs RowBefore rows → IsUnrepeated rows
-unrepeated [] h = none
-unrepeated (t ∷ rows) h =
-    more (λ m. let f = found_of rows t m in let l = f.within in before_itself t (subst (λ v. RowBefore t v) (f.is t) (h 0 (suc f.place) t (omega arith) (omega arith))))
-    (unrepeated rows (λ i j d l k. h (suc i) (suc j) d (omega arith) (omega arith)))
 
 -- ---- the law
 
 delaunay_at : (ps : List Point) (ms : List ℕ) (rows : List Tet) → IsDelaunayListAmong ps ms rows → (t : Tet) → IsMember t rows → IsDelaunayAmong ps ms t
-delaunay_at ps ms rows list t m = let f = found_of rows t m in (list.exactly t).0 (f.place, f.within, f.is t)
+delaunay_at ps ms rows list t m = (list.exactly t).0 (contains_of rows t m)
 
 off_at : (ps : List Point) (rows : List Tet) (x : RationalPoint) → OffPlanes ps rows x → (t : Tet) → IsMember t rows → OffFacePlanes (corners ps t) x
 off_at ps rows x off t m = let f = found_of rows t m in subst (λ u. OffFacePlanes (corners ps u) x) (f.is t) (off f.place t f.within)
@@ -249,12 +182,12 @@ covers ps ms within rows list = record { inside = inside_once; beyond = beyond_n
     inside_once : EachRational (λ x. OffPlanes ps rows x → InHullAmong ps ms x → rows_round ps rows x ≡ 1)
     inside_once x w off hull =
         let g = generic ps ms x w hull in
-        let found = least_height_law ps ms within (lifted ps) g.near g.w g.in_hull (λ i j k a b c s. (g.keeps i j k a b c s).off) in
-        let c = (list.exactly found.0).1 (delaunay_of ps ms within found.0 found.1) in
-        let m = row_at rows found.0 c.0 c.1 c.2 in
+        let found = law_least_height.delaunay ps ms within g.near g.w g.in_hull (λ i j k a b c s. (g.keeps i j k a b c s).off) in
+        let c = (list.exactly found.0).1 found.1 in
+        let m = member_of rows found.0 c in
         let inside = round_x ps ms x g found.0 found.1.is_on found.1.is_positive (off_at ps rows x off found.0 m) found.2 in
-        count_one (λ t. strictly_inside (corners ps t) x) rows found.0 (unrepeated rows list.ascending) m (test_inside (corners ps found.0) x inside)
-        (λ u k e. (radical_law ps ms (lifted ps) u found.0 (lowest_of ps ms within u (delaunay_at ps ms rows list u k)) found.1).1 (x, w, (inside_of (corners ps u) x e, inside)))
+        count_one (λ t. strictly_inside (corners ps t) x) rows found.0 (rises_of rows list.ascending) m (test_inside (corners ps found.0) x inside)
+        (λ u k e. (law_radical.delaunay ps ms within u found.0 (delaunay_at ps ms rows list u k) found.1).1 (x, w, (inside_of (corners ps u) x e, inside)))
 
     beyond_none : EachRational (λ x. OffPlanes ps rows x → ¬ InHullAmong ps ms x → rows_round ps rows x ≡ 0)
     beyond_none x w off beyond =
@@ -262,23 +195,15 @@ covers ps ms within rows list = record { inside = inside_once; beyond = beyond_n
         let d = delaunay_at ps ms rows list t m in
         beyond (record { row = t; is_on = d.is_on; is_positive = d.is_positive; holds = closed_of (corners ps t) x (inside_of (corners ps t) x e) }))
 
-pub default_row : (rows : List Tet) (k : ℕ) (d e : Tet) → k < length rows → slice_index_or rows k d ≡ slice_index_or rows k e
-default_row [] k d e h = absurd (omega arith)
-default_row (t ∷ rows) zero d e h = refl
-default_row (t ∷ rows) (suc k) d e h = default_row rows k d e (omega arith)
-
 rows_meet : (ps : List Point) (ms : List ℕ) → AreNumbersOf ps ms → (rows : List Tet) → IsDelaunayListAmong ps ms rows → RowsProperlyMet ps rows
 rows_meet ps ms within rows list i j d l k =
     let s = slice_index_or rows i d in
     let t = slice_index_or rows j d in
-    let at_s : i < length rows = omega arith in
-    (radical_law ps ms (lifted ps) s t
-    (lowest_of ps ms within s ((list.exactly s).0 (i, at_s, default_row rows i s d at_s)))
-    (lowest_of ps ms within t ((list.exactly t).0 (j, k, default_row rows j t d k)))).0
+    (law_radical.delaunay ps ms within s t (delaunay_at ps ms rows list s (at_place rows i d (omega arith))) (delaunay_at ps ms rows list t (at_place rows j d k))).0
 
-pub cover_law : CoverLaw
-cover_law ps ms within rows list = record { covers = covers ps ms within rows list; properly_met = rows_meet ps ms within rows list }
+pub law_cover : CoverLaw
+law_cover ps ms within rows list = record { covers = covers ps ms within rows list; properly_met = rows_meet ps ms within rows list }
 
 -- and for all points of the list
 pub cover_of_all : (ps : List Point) (rows : List Tet) → IsDelaunayList ps rows → IsTriangulation ps rows
-cover_of_all ps rows list = cover_law ps (all_numbers ps) (all_within ps) rows list
+cover_of_all ps rows list = law_cover ps (all_numbers ps) (all_within ps) rows list

@@ -1,108 +1,60 @@
--- A row of least height at a generic point has every other point above it: else a corner could be exchanged for that point.
-use Rattle.std.proofs.Common.{◌≡◌, ◌≢◌, ◌⊎◌, inl, inr, ℕ, zero, suc, ◌*◌, ℤ, pos, negsuc, neg_ℤ, ◌+ℤ◌, ◌-ℤ◌, ◌*ℤ◌, ◌<ℤ◌, ◌≤ℤ◌, List, [], ◌∷◌, length, refl, sym, ◌∙◌, arith}
+-- The exchange step: a tetrahedron of least height at a generic point has no point below it. Else let e be below it. Of the corners at which e weighs
+-- above 0 take one with the least ratio of the weight of x to that of e (the ratio test of the simplex method), and let e take its place:
+-- the new tetrahedron strictly holds x too, and is lower there.
+use Rattle.std.proofs.Common.{◌≡◌, ◌≢◌, ◌⊎◌, inl, inr, ℕ, ℤ, pos, neg_ℤ, ◌+ℤ◌, ◌-ℤ◌, ◌*ℤ◌, ◌<ℤ◌, ◌≤ℤ◌, List, [], ◌∷◌, length, ap, sym, subst, ◌∙◌, arith}
 use Rattle.std.specs.Prelude.{Contains}
 use Rattle.std.proofs.lemmas.Int.{ints}
-use Rattle.sign_predicates.specs.Point.{Point, RationalPoint, as_rational}
-use Rattle.sign_predicates.specs.Orientation.{volume, side, side_rational, opposite_a, opposite_b, opposite_c, opposite_d, IsPositive, SpansPlane}
-use Rattle.sign_predicates.specs.declared.tetrahedron.Corners.{Corners}
+use lib.IntN.{*ℤ-zero}
+use Rattle.exact_algebra.proofs.Ring.{var, neg, ring, ring_given, given, same, ◌⊕◌, ◌⊖◌, ◌⊗◌}
+use Rattle.exact_algebra.proofs.Signs.{mul_pos, mul_nonneg, mul_le, pos_or_not, nonneg_of_pos, pos_of_nonneg, nonneg_of_mul, nonneg_same, pos_same}
+use Rattle.sign_predicates.specs.Point.{Point, RationalPoint}
+use Rattle.sign_predicates.specs.Orientation.{volume, side, side_rational, IsPositive, SpansPlane}
 use Rattle.geo_laws.specs.Delaunay.{point, corners}
 use Rattle.geo_laws.specs.Height.{height, residual_at, places}
 use Rattle.geo_laws.specs.Laws.{IsGeneric}
 use Rattle.geo_laws.specs.declared.tetrahedra.Tet.{Tet}
-use lib.IntN.{*ℤ-zero, *ℤ-one}
-use Rattle.geo_laws.proofs.Identities as ring
-use Rattle.geo_laws.proofs.Signs.{mul_pos, sign_of}
-use Rattle.geo_laws.proofs.Lex.{IsLexAbove}
-use Rattle.geo_laws.proofs.Order.{Holds, IsAtMost, gap_at, at_least_same, not_below}
+use Rattle.geo_laws.proofs.Places.{Place, A, B, C, D, IsOther, same_or_other, second, third, fourth, other-second, other-third, other-fourth, opposite, number, with_number, corners-with_number, number-with, number-with_other, opposite-replaced, at_planes, at_face, all_faces, over_places, sum-front}
+use Rattle.geo_laws.proofs.Determinants.{sides-sum, spans, volume-replaced, minor, weight-replaced}
+use Rattle.geo_laws.proofs.Members.{IsMember, here, there}
+use Rattle.geo_laws.proofs.Lexicographic.{IsLexAbove, at_least_same, not_below}
+use Rattle.geo_laws.proofs.Heights.{Holds, IsAtMost, gap_at}
 
 -- ---- the ratio test
-
--- a place in a row
-data Place : Type 0 where
-  A : Place
-  B : Place
-  C : Place
-  D : Place
-
--- u is one of the places
-data InPlaces (u : Place) : List Place → Type 0 where
-  here : {vs : List Place} → InPlaces u (u ∷ vs)
-  there : {v : Place} {vs : List Place} → InPlaces u vs → InPlaces u (v ∷ vs)
 
 -- v has a number above 0, and no lesser ratio than v stands at another of the places
 record IsBest (l s : Place → ℤ) (among : List Place) (v : Place) : Type 0 where
   above : pos 0 <ℤ s v
-  best : (u : Place) → InPlaces u among → pos 0 ≤ℤ (l u *ℤ s v -ℤ l v *ℤ s u)
-
-at_most_product : (l s : ℤ) → pos 0 <ℤ l → s ≤ℤ pos 0 → (l *ℤ s) ≤ℤ pos 0
-at_most_product (pos m) (pos zero) h k = product_zero (pos m)
-  where
-    product_zero : (l : ℤ) → (l *ℤ pos 0) ≤ℤ pos 0
-    product_zero l = let e = *ℤ-zero l in omega (arith, ints)
-at_most_product (pos m) (pos (suc n)) h k = absurd (omega (arith, ints))
-at_most_product (pos m) (negsuc n) h k = below (m * suc n)
-  where
-    below : (p : ℕ) → neg_ℤ (pos p) ≤ℤ pos 0
-    below p = omega (arith, ints)
-at_most_product (negsuc m) s h k = absurd (omega (arith, ints))
-
-sum_at_least : (p q : ℤ) → pos 0 <ℤ p → q ≤ℤ pos 0 → pos 0 ≤ℤ (p -ℤ q)
-sum_at_least p q h k = omega (arith, ints)
-
--- a place whose number is at most 0 has no lesser ratio
-flat_ratio : (lu su lv sv : ℤ) → pos 0 <ℤ lu → pos 0 <ℤ lv → pos 0 <ℤ sv → su ≤ℤ pos 0 → pos 0 ≤ℤ (lu *ℤ sv -ℤ lv *ℤ su)
-flat_ratio lu su lv sv hu hv h k = sum_at_least (lu *ℤ sv) (lv *ℤ su) (mul_pos lu sv hu h) (at_most_product lv su hv k)
-
-at_most_or : (n : ℤ) → (pos 0 <ℤ n) ⊎ (n ≤ℤ pos 0)
-at_most_or n = go (sign_of n)
-  where
-    go : (pos 0 <ℤ n) ⊎ ((n ≡ pos 0) ⊎ (pos 0 <ℤ neg_ℤ n)) → (pos 0 <ℤ n) ⊎ (n ≤ℤ pos 0)
-    go (inl h) = inl h
-    go (inr (inl e)) = inr (omega (arith, ints))
-    go (inr (inr h)) = inr (omega (arith, ints))
-
--- a number at least 0 from a multiple that is
-from_multiple : (c q r : ℤ) → pos 0 <ℤ c → c *ℤ q ≡ r → pos 0 ≤ℤ r → pos 0 ≤ℤ q
-from_multiple c q r h e k = go (sign_of q)
-  where
-    clash : (p n r : ℤ) → p ≡ r → n ≡ neg_ℤ p → pos 0 <ℤ n → pos 0 ≤ℤ r → ⊥
-    clash p n r e d a k = omega (arith, ints)
-
-    negated : (c q : ℤ) → c *ℤ neg_ℤ q ≡ neg_ℤ (c *ℤ q)
-    negated c q = moved (c *ℤ q) (c *ℤ neg_ℤ q) (ring.times-neg c q)
-      where
-        moved : (a b : ℤ) → a +ℤ b ≡ pos 0 → b ≡ neg_ℤ a
-        moved a b e = omega (arith, ints)
-
-    go : (pos 0 <ℤ q) ⊎ ((q ≡ pos 0) ⊎ (pos 0 <ℤ neg_ℤ q)) → pos 0 ≤ℤ q
-    go (inl a) = omega (arith, ints)
-    go (inr (inl z)) = omega (arith, ints)
-    go (inr (inr b)) = absurd (clash (c *ℤ q) (c *ℤ neg_ℤ q) r e (negated c q) (mul_pos c (neg_ℤ q) h b) k)
+  best : (u : Place) → IsMember u among → pos 0 ≤ℤ (l u *ℤ s v -ℤ l v *ℤ s u)
 
 sum_both : (p a b : ℤ) → p ≡ a +ℤ b → pos 0 ≤ℤ a → pos 0 ≤ℤ b → pos 0 ≤ℤ p
 sum_both p a b e h k = omega (arith, ints)
 
-at_least_product : (a b : ℤ) → pos 0 <ℤ a → pos 0 ≤ℤ b → pos 0 ≤ℤ (a *ℤ b)
-at_least_product (pos m) (pos n) h k = omega (arith, ints)
-at_least_product (pos m) (negsuc n) h k = absurd (omega (arith, ints))
-at_least_product (negsuc m) b h k = absurd (omega (arith, ints))
+-- a place whose number is at most 0 has no lesser ratio
+flat_ratio : (lu su lv sv : ℤ) → pos 0 <ℤ lu → pos 0 <ℤ lv → pos 0 <ℤ sv → su ≤ℤ pos 0 → pos 0 ≤ℤ (lu *ℤ sv -ℤ lv *ℤ su)
+flat_ratio lu su lv sv hu hv h k = omega (arith, ints, mul_pos lu sv hu h, mul_le lv su (pos 0) (nonneg_of_pos lv hv) k, *ℤ-zero lv)
+
+-- from the ratio of c to v and that of v to u to that of c to u
+ratio-trans : (lc sc lv sv lu su : ℤ) → sv *ℤ (lu *ℤ sc -ℤ lc *ℤ su) ≡ sc *ℤ (lu *ℤ sv -ℤ lv *ℤ su) +ℤ su *ℤ (lv *ℤ sc -ℤ lc *ℤ sv)
+unfolding same
+ratio-trans lc sc lv sv lu su =
+    ring (var 3 ⊗ (var 4 ⊗ var 1 ⊖ var 0 ⊗ var 5)) (var 1 ⊗ (var 4 ⊗ var 3 ⊖ var 2 ⊗ var 5) ⊕ var 5 ⊗ (var 2 ⊗ var 1 ⊖ var 0 ⊗ var 3)) tt (lc ∷ sc ∷ lv ∷ sv ∷ lu ∷ su ∷ [])
 
 module _ (l s : Place → ℤ) (weighs : (u : Place) → pos 0 <ℤ l u) where
   through : (u v c : Place) → pos 0 <ℤ s v → pos 0 <ℤ s c → pos 0 ≤ℤ (l u *ℤ s v -ℤ l v *ℤ s u) → pos 0 ≤ℤ (l v *ℤ s c -ℤ l c *ℤ s v) → pos 0 ≤ℤ (l u *ℤ s c -ℤ l c *ℤ s u)
-  through u v c hv hc uv vc = go (at_most_or (s u))
+  through u v c hv hc uv vc = go (pos_or_not (s u))
     where
       go : (pos 0 <ℤ s u) ⊎ (s u ≤ℤ pos 0) → pos 0 ≤ℤ (l u *ℤ s c -ℤ l c *ℤ s u)
       go (inr k) = flat_ratio (l u) (s u) (l c) (s c) (weighs u) (weighs c) hc k
-      go (inl k) = from_multiple (s v) (l u *ℤ s c -ℤ l c *ℤ s u) (s c *ℤ (l u *ℤ s v -ℤ l v *ℤ s u) +ℤ s u *ℤ (l v *ℤ s c -ℤ l c *ℤ s v)) hv (ring.ratio-trans (l c) (s c) (l v) (s v) (l u) (s u))
-          (sum_both _ (s c *ℤ (l u *ℤ s v -ℤ l v *ℤ s u)) (s u *ℤ (l v *ℤ s c -ℤ l c *ℤ s v)) refl (at_least_product (s c) (l u *ℤ s v -ℤ l v *ℤ s u) hc uv) (at_least_product (s u) (l v *ℤ s c -ℤ l c *ℤ s v) k vc))
+      go (inl k) = nonneg_of_mul (s v) (l u *ℤ s c -ℤ l c *ℤ s u) hv
+          (sum_both _ (s c *ℤ (l u *ℤ s v -ℤ l v *ℤ s u)) (s u *ℤ (l v *ℤ s c -ℤ l c *ℤ s v)) (ratio-trans (l c) (s c) (l v) (s v) (l u) (s u)) (mul_nonneg (s c) (l u *ℤ s v -ℤ l v *ℤ s u) (nonneg_of_pos (s c) hc) uv) (mul_nonneg (s u) (l v *ℤ s c -ℤ l c *ℤ s v) (nonneg_of_pos (s u) k) vc))
 
   -- all numbers are at most 0, or one of those above 0 has the least ratio
-  best_of : (among : List Place) → ((u : Place) → InPlaces u among → s u ≤ℤ pos 0) ⊎ ((v : Place) × IsBest l s among v)
+  best_of : (among : List Place) → ((u : Place) → IsMember u among → s u ≤ℤ pos 0) ⊎ ((v : Place) × IsBest l s among v)
   best_of [] = inl (λ u m. elim m [ ])
-  best_of (c ∷ vs) = go (at_most_or (s c)) (best_of vs)
+  best_of (c ∷ vs) = go (pos_or_not (s c)) (best_of vs)
     where
       swapped : (a b : ℤ) → (pos 0 ≤ℤ (a -ℤ b)) ⊎ (pos 0 ≤ℤ (b -ℤ a))
-      swapped a b = split (at_most_or (a -ℤ b))
+      swapped a b = split (pos_or_not (a -ℤ b))
         where
           split : (pos 0 <ℤ (a -ℤ b)) ⊎ ((a -ℤ b) ≤ℤ pos 0) → (pos 0 ≤ℤ (a -ℤ b)) ⊎ (pos 0 ≤ℤ (b -ℤ a))
           split (inl h) = inl (omega (arith, ints))
@@ -114,30 +66,30 @@ module _ (l s : Place → ℤ) (weighs : (u : Place) → pos 0 <ℤ l u) where
           zero_at_least : (a : ℤ) → pos 0 ≤ℤ (a -ℤ a)
           zero_at_least a = omega (arith, ints)
 
-      go : (pos 0 <ℤ s c) ⊎ (s c ≤ℤ pos 0) → ((u : Place) → InPlaces u vs → s u ≤ℤ pos 0) ⊎ ((v : Place) × IsBest l s vs v)
-          → ((u : Place) → InPlaces u (c ∷ vs) → s u ≤ℤ pos 0) ⊎ ((v : Place) × IsBest l s (c ∷ vs) v)
+      go : (pos 0 <ℤ s c) ⊎ (s c ≤ℤ pos 0) → ((u : Place) → IsMember u vs → s u ≤ℤ pos 0) ⊎ ((v : Place) × IsBest l s vs v)
+          → ((u : Place) → IsMember u (c ∷ vs) → s u ≤ℤ pos 0) ⊎ ((v : Place) × IsBest l s (c ∷ vs) v)
       go (inr k) (inl flat) = inl (λ u m. each u m)
         where
-          each : (u : Place) → InPlaces u (c ∷ vs) → s u ≤ℤ pos 0
+          each : (u : Place) → IsMember u (c ∷ vs) → s u ≤ℤ pos 0
           each u here = k
           each u (there m) = flat u m
       go (inr k) (inr r) = inr (r.0, record { above = r.1.above; best = λ u m. each r.0 r.1 u m })
         where
-          each : (v : Place) → IsBest l s vs v → (u : Place) → InPlaces u (c ∷ vs) → pos 0 ≤ℤ (l u *ℤ s v -ℤ l v *ℤ s u)
+          each : (v : Place) → IsBest l s vs v → (u : Place) → IsMember u (c ∷ vs) → pos 0 ≤ℤ (l u *ℤ s v -ℤ l v *ℤ s u)
           each v b u here = flat_ratio (l c) (s c) (l v) (s v) (weighs c) (weighs v) b.above k
           each v b u (there m) = b.best u m
       go (inl h) (inl flat) = inr (c, record { above = h; best = λ u m. each u m })
         where
-          each : (u : Place) → InPlaces u (c ∷ vs) → pos 0 ≤ℤ (l u *ℤ s c -ℤ l c *ℤ s u)
+          each : (u : Place) → IsMember u (c ∷ vs) → pos 0 ≤ℤ (l u *ℤ s c -ℤ l c *ℤ s u)
           each u here = self c
           each u (there m) = flat_ratio (l u) (s u) (l c) (s c) (weighs u) (weighs c) h (flat u m)
       go (inl h) (inr r) = inr (compared r.0 r.1 (swapped (l c *ℤ s r.0) (l r.0 *ℤ s c)))
         where
-          kept : (v : Place) → IsBest l s vs v → pos 0 ≤ℤ (l c *ℤ s v -ℤ l v *ℤ s c) → (u : Place) → InPlaces u (c ∷ vs) → pos 0 ≤ℤ (l u *ℤ s v -ℤ l v *ℤ s u)
+          kept : (v : Place) → IsBest l s vs v → pos 0 ≤ℤ (l c *ℤ s v -ℤ l v *ℤ s c) → (u : Place) → IsMember u (c ∷ vs) → pos 0 ≤ℤ (l u *ℤ s v -ℤ l v *ℤ s u)
           kept v b k u here = k
           kept v b k u (there m) = b.best u m
 
-          changed : (v : Place) → IsBest l s vs v → pos 0 ≤ℤ (l v *ℤ s c -ℤ l c *ℤ s v) → (u : Place) → InPlaces u (c ∷ vs) → pos 0 ≤ℤ (l u *ℤ s c -ℤ l c *ℤ s u)
+          changed : (v : Place) → IsBest l s vs v → pos 0 ≤ℤ (l v *ℤ s c -ℤ l c *ℤ s v) → (u : Place) → IsMember u (c ∷ vs) → pos 0 ≤ℤ (l u *ℤ s c -ℤ l c *ℤ s u)
           changed v b k u here = self c
           changed v b k u (there m) = through u v c b.above h (b.best u m) k
 
@@ -145,61 +97,31 @@ module _ (l s : Place → ℤ) (weighs : (u : Place) → pos 0 <ℤ l u) where
           compared v b (inl k) = (v, record { above = b.above; best = kept v b k })
           compared v b (inr k) = (c, record { above = h; best = changed v b k })
 
--- ---- faces of a positive row span planes
-
-clash : (v : ℤ) → pos 0 <ℤ v → v ≡ pos 0 → ⊥
-clash v h e = omega (arith, ints)
-
-pub spans_a : (t : Corners) → IsPositive t → SpansPlane (opposite_a t)
-spans_a t p z = clash (volume t) p (sym (ring.side-a_a t) ∙ ring.side-flat (opposite_a t) t.a z.0 z.1 z.2)
-
-pub spans_b : (t : Corners) → IsPositive t → SpansPlane (opposite_b t)
-spans_b t p z = clash (volume t) p (sym (ring.side-b_b t) ∙ ring.side-flat (opposite_b t) t.b z.0 z.1 z.2)
-
-pub spans_c : (t : Corners) → IsPositive t → SpansPlane (opposite_c t)
-spans_c t p z = clash (volume t) p (sym (ring.side-c_c t) ∙ ring.side-flat (opposite_c t) t.c z.0 z.1 z.2)
-
-pub spans_d : (t : Corners) → IsPositive t → SpansPlane (opposite_d t)
-spans_d t p z = clash (volume t) p (sym (ring.side-d_d t) ∙ ring.side-flat (opposite_d t) t.d z.0 z.1 z.2)
-
-positive_part : (c q r : ℤ) → pos 0 <ℤ c → c *ℤ q ≡ r → pos 0 ≤ℤ r → q ≢ pos 0 → pos 0 <ℤ q
-positive_part c q r h e k off = go (at_most_or q) (from_multiple c q r h e k)
-  where
-    go : (pos 0 <ℤ q) ⊎ (q ≤ℤ pos 0) → pos 0 ≤ℤ q → pos 0 <ℤ q
-    go (inl a) b = a
-    go (inr a) b = absurd (off (meet q a b))
-      where
-        meet : (n : ℤ) → n ≤ℤ pos 0 → pos 0 ≤ℤ n → n ≡ pos 0
-        meet n h k = omega (arith, ints)
-
-moved : (a b : ℤ) → a ≡ b → pos 0 <ℤ b → pos 0 <ℤ a
-moved a b e h = omega (arith, ints)
-
 -- ---- the exchange
 
--- the weights of x and of e at a place
-abbrev weight_x : Corners → RationalPoint → Place → ℤ
-weight_x t x A = side_rational (opposite_a t) x
-weight_x t x B = side_rational (opposite_b t) x
-weight_x t x C = side_rational (opposite_c t) x
-weight_x t x D = side_rational (opposite_d t) x
+-- The heights at x, before and after e takes the place v: l and n are the weights of x, s those of e, g and f the heights of the corners
+exchange-gap : (vo vn he : ℤ) (l n s g f : Place → ℤ) (v : Place) → vn ≡ s v → n v ≡ l v → f v ≡ he
+    → ((u : Place) → IsOther u v → vo *ℤ n u ≡ l u *ℤ s v -ℤ l v *ℤ s u) → ((u : Place) → IsOther u v → f u ≡ g u)
+    → vo *ℤ over_places (λ u. n u *ℤ f u) -ℤ vn *ℤ over_places (λ u. l u *ℤ g u) ≡ l v *ℤ (vo *ℤ he -ℤ over_places (λ u. s u *ℤ g u))
+unfolding same
+exchange-gap vo vn he l n s g f v volume_is own_weight own_height weights heights =
+    let u1 = second v in
+    let u2 = third v in
+    let u3 = fourth v in
+    let o1 = other-second v in
+    let o2 = other-third v in
+    let o3 = other-fourth v in
+    (λ j. vo *ℤ sum-front v (λ u. n u *ℤ f u) j -ℤ vn *ℤ sum-front v (λ u. l u *ℤ g u) j)
+    ∙ ring_given (var 0 ⊗ (var 7 ⊗ var 19 ⊕ var 8 ⊗ var 20 ⊕ var 9 ⊗ var 21 ⊕ var 10 ⊗ var 22) ⊖ var 1 ⊗ (var 3 ⊗ var 15 ⊕ var 4 ⊗ var 16 ⊕ var 5 ⊗ var 17 ⊕ var 6 ⊗ var 18))
+    (var 3 ⊗ (var 0 ⊗ var 2 ⊖ (var 11 ⊗ var 15 ⊕ var 12 ⊗ var 16 ⊕ var 13 ⊗ var 17 ⊕ var 14 ⊗ var 18)))
+    (given (neg (var 3 ⊗ var 15 ⊕ var 4 ⊗ var 16 ⊕ var 5 ⊗ var 17 ⊕ var 6 ⊗ var 18)) (var 1) (var 11) ∷ given (var 0 ⊗ var 19) (var 7) (var 3) ∷ given (var 0 ⊗ var 3) (var 19) (var 2)
+    ∷ given (var 16) (var 0 ⊗ var 8) (var 4 ⊗ var 11 ⊖ var 3 ⊗ var 12) ∷ given (var 17) (var 0 ⊗ var 9) (var 5 ⊗ var 11 ⊖ var 3 ⊗ var 13) ∷ given (var 18) (var 0 ⊗ var 10) (var 6 ⊗ var 11 ⊖ var 3 ⊗ var 14)
+    ∷ given (var 0 ⊗ var 8) (var 20) (var 16) ∷ given (var 0 ⊗ var 9) (var 21) (var 17) ∷ given (var 0 ⊗ var 10) (var 22) (var 18) ∷ [])
+    tt (vo ∷ vn ∷ he ∷ l v ∷ l u1 ∷ l u2 ∷ l u3 ∷ n v ∷ n u1 ∷ n u2 ∷ n u3 ∷ s v ∷ s u1 ∷ s u2 ∷ s u3 ∷ g v ∷ g u1 ∷ g u2 ∷ g u3 ∷ f v ∷ f u1 ∷ f u2 ∷ f u3 ∷ [])
+    (volume_is, (own_weight, (own_height, (weights u1 o1, (weights u2 o2, (weights u3 o3, (heights u1 o1, (heights u2 o2, (heights u3 o3, tt)))))))))
+    ∙ (λ j. l v *ℤ (vo *ℤ he -ℤ sym (sum-front v (λ u. s u *ℤ g u)) j))
 
-abbrev weight_e : Corners → Point → Place → ℤ
-weight_e t e A = side (opposite_a t) e
-weight_e t e B = side (opposite_b t) e
-weight_e t e C = side (opposite_c t) e
-weight_e t e D = side (opposite_d t) e
-
--- a four that holds x can't be lower than a least one
-not_lower : (ps : List Point) (first : ℕ → ℤ) (x : RationalPoint) (m t : Tet) (e : ℕ) (c : ℤ) → pos 0 <ℤ c
-    → ((k : ℕ) → gap_at ps first x m t k ≡ c *ℤ residual_at ps first m e k) → IsAtMost ps first x m t
-    → IsLexAbove (λ k. neg_ℤ (residual_at ps first m e k)) (places (length ps)) → ⊥
-not_lower ps first x m t e c p same least below =
-    not_below c (residual_at ps first m e) (places (length ps)) p (at_least_same (gap_at ps first x m t) (λ k. c *ℤ residual_at ps first m e k) (places (length ps)) same least.gap) below
-
-abbrev all_places : List Place
-all_places = A ∷ B ∷ C ∷ D ∷ []
-
+-- m is of least height at x among the tetrahedra that strictly hold x, and e is below it
 pub record Setting (ps : List Point) (ms : List ℕ) (first : ℕ → ℤ) (x : RationalPoint) (m : Tet) (e : ℕ) : Type 0 where
   pub generic : IsGeneric ps ms x
   pub holds : Holds ps ms x m
@@ -207,157 +129,82 @@ pub record Setting (ps : List Point) (ms : List ℕ) (first : ℕ → ℤ) (x : 
   pub on_e : Contains ms e
   pub below : IsLexAbove (λ k. neg_ℤ (residual_at ps first m e k)) (places (length ps))
 
-exchange_a : (ps : List Point) (ms : List ℕ) (first : ℕ → ℤ) (x : RationalPoint) (m : Tet) (e : ℕ) → Setting ps ms first x m e
-    → pos 0 <ℤ side (opposite_a (corners ps m)) (point ps e)
-    → pos 0 ≤ℤ ring.minor (corners ps m) (point ps e) x (opposite_b (corners ps m)) (opposite_a (corners ps m))
-    → pos 0 ≤ℤ ring.minor (corners ps m) (point ps e) x (opposite_c (corners ps m)) (opposite_a (corners ps m))
-    → pos 0 ≤ℤ ring.minor (corners ps m) (point ps e) x (opposite_d (corners ps m)) (opposite_a (corners ps m))
-    → ⊥
-exchange_a ps ms first x m e h above kb kc kd =
-    let c = corners ps m in
-    let p = point ps e in
-    let t : Tet = record { a = e; b = m.b; c = m.c; d = m.d } in
-    let new_positive : pos 0 <ℤ volume (ring.with_a c p) = moved (volume (ring.with_a c p)) (side (opposite_a c) p) (ring.volume-with_a c p) above in
-    let in_b = positive_part (volume c) (side_rational (opposite_b (ring.with_a c p)) x) (ring.minor c p x (opposite_b c) (opposite_a c)) h.holds.positive (ring.with_a-b c p x) kb
-    (h.generic e m.c m.d h.on_e h.holds.on_c h.holds.on_d (spans_b (ring.with_a c p) new_positive)) in
-    let in_c = positive_part (volume c) (side_rational (opposite_c (ring.with_a c p)) x) (ring.minor c p x (opposite_c c) (opposite_a c)) h.holds.positive (ring.with_a-c c p x) kc
-    (h.generic e m.d m.b h.on_e h.holds.on_d h.holds.on_b (spans_c (ring.with_a c p) new_positive)) in
-    let in_d = positive_part (volume c) (side_rational (opposite_d (ring.with_a c p)) x) (ring.minor c p x (opposite_d c) (opposite_a c)) h.holds.positive (ring.with_a-d c p x) kd
-    (h.generic e m.b m.c h.on_e h.holds.on_b h.holds.on_c (spans_d (ring.with_a c p) new_positive)) in
-    let holds : Holds ps ms x t = record {
-      on_a = h.on_e;
-      on_b = h.holds.on_b;
-      on_c = h.holds.on_c;
-      on_d = h.holds.on_d;
-      positive = new_positive;
-      inside = (h.holds.inside.0, (in_b, (in_c, (in_d, tt))));
-    } in
-    not_lower ps first x m t e (side_rational (opposite_a c) x) h.holds.inside.0
-    (λ k. ring.exchange-gap_a (volume c) (volume (ring.with_a c p)) (side_rational (opposite_a c) x) (side_rational (opposite_b c) x) (side_rational (opposite_c c) x) (side_rational (opposite_d c) x) (side_rational (opposite_b (ring.with_a c p)) x) (side_rational (opposite_c (ring.with_a c p)) x) (side_rational (opposite_d (ring.with_a c p)) x) (side (opposite_a c) p) (side (opposite_b c) p) (side (opposite_c c) p) (side (opposite_d c) p) (height first m.a k) (height first m.b k) (height first m.c k) (height first m.d k) (height first e k) (ring.volume-with_a c p) (ring.with_a-b c p x) (ring.with_a-c c p x) (ring.with_a-d c p x))
-    (h.least t holds) h.below
+-- a generic point is off the faces of each positive tetrahedron on the numbers
+pub generic_face : (ps : List Point) (ms : List ℕ) (x : RationalPoint) → IsGeneric ps ms x → (t : Tet) → ((u : Place) → Contains ms (number t u)) → IsPositive (corners ps t)
+    → (u : Place) → side_rational (opposite (corners ps t) u) x ≢ pos 0
+generic_face ps ms x generic t on p u = at_planes ps ms (λ f. SpansPlane f → side_rational f x ≢ pos 0) generic t on u (spans (corners ps t) p u)
 
-exchange_b : (ps : List Point) (ms : List ℕ) (first : ℕ → ℤ) (x : RationalPoint) (m : Tet) (e : ℕ) → Setting ps ms first x m e
-    → pos 0 <ℤ side (opposite_b (corners ps m)) (point ps e)
-    → pos 0 ≤ℤ ring.minor (corners ps m) (point ps e) x (opposite_a (corners ps m)) (opposite_b (corners ps m))
-    → pos 0 ≤ℤ ring.minor (corners ps m) (point ps e) x (opposite_c (corners ps m)) (opposite_b (corners ps m))
-    → pos 0 ≤ℤ ring.minor (corners ps m) (point ps e) x (opposite_d (corners ps m)) (opposite_b (corners ps m))
-    → ⊥
-exchange_b ps ms first x m e h above ka kc kd =
-    let c = corners ps m in
-    let p = point ps e in
-    let t : Tet = record { a = m.a; b = e; c = m.c; d = m.d } in
-    let new_positive : pos 0 <ℤ volume (ring.with_b c p) = moved (volume (ring.with_b c p)) (side (opposite_b c) p) (ring.volume-with_b c p) above in
-    let in_a = positive_part (volume c) (side_rational (opposite_a (ring.with_b c p)) x) (ring.minor c p x (opposite_a c) (opposite_b c)) h.holds.positive (ring.with_b-a c p x) ka
-    (h.generic e m.d m.c h.on_e h.holds.on_d h.holds.on_c (spans_a (ring.with_b c p) new_positive)) in
-    let in_c = positive_part (volume c) (side_rational (opposite_c (ring.with_b c p)) x) (ring.minor c p x (opposite_c c) (opposite_b c)) h.holds.positive (ring.with_b-c c p x) kc
-    (h.generic m.a m.d e h.holds.on_a h.holds.on_d h.on_e (spans_c (ring.with_b c p) new_positive)) in
-    let in_d = positive_part (volume c) (side_rational (opposite_d (ring.with_b c p)) x) (ring.minor c p x (opposite_d c) (opposite_b c)) h.holds.positive (ring.with_b-d c p x) kd
-    (h.generic m.a e m.c h.holds.on_a h.on_e h.holds.on_c (spans_d (ring.with_b c p) new_positive)) in
-    let holds : Holds ps ms x t = record {
-      on_a = h.holds.on_a;
-      on_b = h.on_e;
-      on_c = h.holds.on_c;
-      on_d = h.holds.on_d;
-      positive = new_positive;
-      inside = (in_a, (h.holds.inside.1.0, (in_c, (in_d, tt))));
-    } in
-    not_lower ps first x m t e (side_rational (opposite_b c) x) h.holds.inside.1.0
-    (λ k. ring.exchange-gap_b (volume c) (volume (ring.with_b c p)) (side_rational (opposite_a c) x) (side_rational (opposite_b c) x) (side_rational (opposite_c c) x) (side_rational (opposite_d c) x) (side_rational (opposite_a (ring.with_b c p)) x) (side_rational (opposite_c (ring.with_b c p)) x) (side_rational (opposite_d (ring.with_b c p)) x) (side (opposite_a c) p) (side (opposite_b c) p) (side (opposite_c c) p) (side (opposite_d c) p) (height first m.a k) (height first m.b k) (height first m.c k) (height first m.d k) (height first e k) (ring.volume-with_b c p) (ring.with_b-a c p x) (ring.with_b-c c p x) (ring.with_b-d c p x))
-    (h.least t holds) h.below
-
-exchange_c : (ps : List Point) (ms : List ℕ) (first : ℕ → ℤ) (x : RationalPoint) (m : Tet) (e : ℕ) → Setting ps ms first x m e
-    → pos 0 <ℤ side (opposite_c (corners ps m)) (point ps e)
-    → pos 0 ≤ℤ ring.minor (corners ps m) (point ps e) x (opposite_a (corners ps m)) (opposite_c (corners ps m))
-    → pos 0 ≤ℤ ring.minor (corners ps m) (point ps e) x (opposite_b (corners ps m)) (opposite_c (corners ps m))
-    → pos 0 ≤ℤ ring.minor (corners ps m) (point ps e) x (opposite_d (corners ps m)) (opposite_c (corners ps m))
-    → ⊥
-exchange_c ps ms first x m e h above ka kb kd =
-    let c = corners ps m in
-    let p = point ps e in
-    let t : Tet = record { a = m.a; b = m.b; c = e; d = m.d } in
-    let new_positive : pos 0 <ℤ volume (ring.with_c c p) = moved (volume (ring.with_c c p)) (side (opposite_c c) p) (ring.volume-with_c c p) above in
-    let in_a = positive_part (volume c) (side_rational (opposite_a (ring.with_c c p)) x) (ring.minor c p x (opposite_a c) (opposite_c c)) h.holds.positive (ring.with_c-a c p x) ka
-    (h.generic m.b m.d e h.holds.on_b h.holds.on_d h.on_e (spans_a (ring.with_c c p) new_positive)) in
-    let in_b = positive_part (volume c) (side_rational (opposite_b (ring.with_c c p)) x) (ring.minor c p x (opposite_b c) (opposite_c c)) h.holds.positive (ring.with_c-b c p x) kb
-    (h.generic m.a e m.d h.holds.on_a h.on_e h.holds.on_d (spans_b (ring.with_c c p) new_positive)) in
-    let in_d = positive_part (volume c) (side_rational (opposite_d (ring.with_c c p)) x) (ring.minor c p x (opposite_d c) (opposite_c c)) h.holds.positive (ring.with_c-d c p x) kd
-    (h.generic m.a m.b e h.holds.on_a h.holds.on_b h.on_e (spans_d (ring.with_c c p) new_positive)) in
-    let holds : Holds ps ms x t = record {
-      on_a = h.holds.on_a;
-      on_b = h.holds.on_b;
-      on_c = h.on_e;
-      on_d = h.holds.on_d;
-      positive = new_positive;
-      inside = (in_a, (in_b, (h.holds.inside.1.1.0, (in_d, tt))));
-    } in
-    not_lower ps first x m t e (side_rational (opposite_c c) x) h.holds.inside.1.1.0
-    (λ k. ring.exchange-gap_c (volume c) (volume (ring.with_c c p)) (side_rational (opposite_a c) x) (side_rational (opposite_b c) x) (side_rational (opposite_c c) x) (side_rational (opposite_d c) x) (side_rational (opposite_a (ring.with_c c p)) x) (side_rational (opposite_b (ring.with_c c p)) x) (side_rational (opposite_d (ring.with_c c p)) x) (side (opposite_a c) p) (side (opposite_b c) p) (side (opposite_c c) p) (side (opposite_d c) p) (height first m.a k) (height first m.b k) (height first m.c k) (height first m.d k) (height first e k) (ring.volume-with_c c p) (ring.with_c-a c p x) (ring.with_c-b c p x) (ring.with_c-d c p x))
-    (h.least t holds) h.below
-
-exchange_d : (ps : List Point) (ms : List ℕ) (first : ℕ → ℤ) (x : RationalPoint) (m : Tet) (e : ℕ) → Setting ps ms first x m e
-    → pos 0 <ℤ side (opposite_d (corners ps m)) (point ps e)
-    → pos 0 ≤ℤ ring.minor (corners ps m) (point ps e) x (opposite_a (corners ps m)) (opposite_d (corners ps m))
-    → pos 0 ≤ℤ ring.minor (corners ps m) (point ps e) x (opposite_b (corners ps m)) (opposite_d (corners ps m))
-    → pos 0 ≤ℤ ring.minor (corners ps m) (point ps e) x (opposite_c (corners ps m)) (opposite_d (corners ps m))
-    → ⊥
-exchange_d ps ms first x m e h above ka kb kc =
-    let c = corners ps m in
-    let p = point ps e in
-    let t : Tet = record { a = m.a; b = m.b; c = m.c; d = e } in
-    let new_positive : pos 0 <ℤ volume (ring.with_d c p) = moved (volume (ring.with_d c p)) (side (opposite_d c) p) (refl) above in
-    let in_a = positive_part (volume c) (side_rational (opposite_a (ring.with_d c p)) x) (ring.minor c p x (opposite_a c) (opposite_d c)) h.holds.positive (ring.with_d-a c p x) ka
-    (h.generic m.b e m.c h.holds.on_b h.on_e h.holds.on_c (spans_a (ring.with_d c p) new_positive)) in
-    let in_b = positive_part (volume c) (side_rational (opposite_b (ring.with_d c p)) x) (ring.minor c p x (opposite_b c) (opposite_d c)) h.holds.positive (ring.with_d-b c p x) kb
-    (h.generic m.a m.c e h.holds.on_a h.holds.on_c h.on_e (spans_b (ring.with_d c p) new_positive)) in
-    let in_c = positive_part (volume c) (side_rational (opposite_c (ring.with_d c p)) x) (ring.minor c p x (opposite_c c) (opposite_d c)) h.holds.positive (ring.with_d-c c p x) kc
-    (h.generic m.a e m.b h.holds.on_a h.on_e h.holds.on_b (spans_c (ring.with_d c p) new_positive)) in
-    let holds : Holds ps ms x t = record {
-      on_a = h.holds.on_a;
-      on_b = h.holds.on_b;
-      on_c = h.holds.on_c;
-      on_d = h.on_e;
-      positive = new_positive;
-      inside = (in_a, (in_b, (in_c, (h.holds.inside.1.1.1.0, tt))));
-    } in
-    not_lower ps first x m t e (side_rational (opposite_d c) x) h.holds.inside.1.1.1.0
-    (λ k. ring.exchange-gap_d (volume c) (volume (ring.with_d c p)) (side_rational (opposite_a c) x) (side_rational (opposite_b c) x) (side_rational (opposite_c c) x) (side_rational (opposite_d c) x) (side_rational (opposite_a (ring.with_d c p)) x) (side_rational (opposite_b (ring.with_d c p)) x) (side_rational (opposite_c (ring.with_d c p)) x) (side (opposite_a c) p) (side (opposite_b c) p) (side (opposite_c c) p) (side (opposite_d c) p) (height first m.a k) (height first m.b k) (height first m.c k) (height first m.d k) (height first e k) (refl) (ring.with_d-a c p x) (ring.with_d-b c p x) (ring.with_d-c c p x))
-    (h.least t holds) h.below
-
--- no point is below a least row
-no_sum : (sa sb sc sd v : ℤ) → sa +ℤ (sb +ℤ (sc +ℤ sd)) ≡ v → pos 0 <ℤ v → sa ≤ℤ pos 0 → sb ≤ℤ pos 0 → sc ≤ℤ pos 0 → sd ≤ℤ pos 0 → ⊥
-no_sum sa sb sc sd v e p ha hb hc hd = omega (arith, ints)
-
-times_one : (v : ℤ) → v *ℤ pos 1 ≡ v
-unfolding lib.IntN.one
-times_one v = *ℤ-one v
-
-pub not_below_least : (ps : List Point) (ms : List ℕ) (first : ℕ → ℤ) (x : RationalPoint) (m : Tet) (e : ℕ) → Setting ps ms first x m e → ⊥
-not_below_least ps ms first x m e h = go (best_of (weight_x c x) (weight_e c p) weighs all_places)
+-- no corner at which e weighs above 0 has the least ratio
+no_exchange : (ps : List Point) (ms : List ℕ) (first : ℕ → ℤ) (x : RationalPoint) (m : Tet) (e : ℕ) → Setting ps ms first x m e → (v : Place)
+    → pos 0 <ℤ side (opposite (corners ps m) v) (point ps e) → ((u : Place) → pos 0 ≤ℤ minor (corners ps m) (point ps e) x u v) → ⊥
+no_exchange ps ms first x m e h v above best =
+    not_below (l v) (residual_at ps first m e) (places (length ps)) (old v)
+    (at_least_same (gap_at ps first x m t) (λ k. l v *ℤ residual_at ps first m e k) (places (length ps)) same_gap (h.least t new_holds).gap) h.below
   where
-    c : Corners
-    c = corners ps m
+    t : Tet
+    t = with_number m v e
 
-    p : Point
-    p = point ps e
+    l : Place → ℤ
+    l u = side_rational (opposite (corners ps m) u) x
 
-    weighs : (u : Place) → pos 0 <ℤ weight_x (corners ps m) x u
-    weighs A = h.holds.inside.0
-    weighs B = h.holds.inside.1.0
-    weighs C = h.holds.inside.1.1.0
-    weighs D = h.holds.inside.1.1.1.0
+    old : (u : Place) → pos 0 <ℤ side_rational (opposite (corners ps m) u) x
+    old = at_face (λ f. pos 0 <ℤ side_rational f x) (corners ps m) h.holds.inside
 
-    total : side (opposite_a (corners ps m)) (point ps e) +ℤ (side (opposite_b (corners ps m)) (point ps e) +ℤ (side (opposite_c (corners ps m)) (point ps e) +ℤ side (opposite_d (corners ps m)) (point ps e))) ≡ volume (corners ps m)
-    total =
-        (λ j. sym (ring.side_rational-as_rational (opposite_a (corners ps m)) (point ps e)) j +ℤ (sym (ring.side_rational-as_rational (opposite_b (corners ps m)) (point ps e)) j
-        +ℤ (sym (ring.side_rational-as_rational (opposite_c (corners ps m)) (point ps e)) j +ℤ sym (ring.side_rational-as_rational (opposite_d (corners ps m)) (point ps e)) j)))
-        ∙ ring.weights-w (corners ps m) (as_rational (point ps e)) ∙ times_one (volume (corners ps m))
+    new_volume : volume (corners ps (with_number m v e)) ≡ side (opposite (corners ps m) v) (point ps e)
+    new_volume = ap volume (corners-with_number ps m v e) ∙ volume-replaced (corners ps m) v (point ps e)
 
-    by_place : (v : Place) → IsBest (weight_x (corners ps m) x) (weight_e (corners ps m) (point ps e)) all_places v → ⊥
-    by_place A b = exchange_a ps ms first x m e h b.above (b.best B (there here)) (b.best C (there (there here))) (b.best D (there (there (there here))))
-    by_place B b = exchange_b ps ms first x m e h b.above (b.best A here) (b.best C (there (there here))) (b.best D (there (there (there here))))
-    by_place C b = exchange_c ps ms first x m e h b.above (b.best A here) (b.best B (there here)) (b.best D (there (there (there here))))
-    by_place D b = exchange_d ps ms first x m e h b.above (b.best A here) (b.best B (there here)) (b.best C (there (there here)))
+    own_weight : side_rational (opposite (corners ps (with_number m v e)) v) x ≡ side_rational (opposite (corners ps m) v) x
+    own_weight = ap (λ c. side_rational (opposite c v) x) (corners-with_number ps m v e) ∙ ap (λ f. side_rational f x) (opposite-replaced (corners ps m) v (point ps e))
 
-    go : ((u : Place) → InPlaces u all_places → weight_e (corners ps m) (point ps e) u ≤ℤ pos 0) ⊎ ((v : Place) × IsBest (weight_x (corners ps m) x) (weight_e (corners ps m) (point ps e)) all_places v) → ⊥
-    go (inl flat) = no_sum _ _ _ _ (volume (corners ps m)) total h.holds.positive (flat A here) (flat B (there here)) (flat C (there (there here))) (flat D (there (there (there here))))
-    go (inr r) = by_place r.0 r.1
+    weight : (u : Place) → IsOther u v → volume (corners ps m) *ℤ side_rational (opposite (corners ps (with_number m v e)) u) x ≡ minor (corners ps m) (point ps e) x u v
+    weight u o = ap (λ c. volume (corners ps m) *ℤ side_rational (opposite c u) x) (corners-with_number ps m v e) ∙ weight-replaced (corners ps m) (point ps e) x u v o
+
+    new_positive : IsPositive (corners ps (with_number m v e))
+    new_positive = pos_same _ _ new_volume above
+
+    new_on : (u : Place) → Contains ms (number (with_number m v e) u)
+    new_on u = by (same_or_other u v)
+      where
+        by : (u ≡ v) ⊎ IsOther u v → Contains ms (number (with_number m v e) u)
+        by (inl d) = subst (Contains ms) (sym (ap (number (with_number m v e)) d ∙ number-with m v e)) h.on_e
+        by (inr o) = subst (Contains ms) (sym (number-with_other m u v e o)) (h.holds.on u)
+
+    new_inside : (u : Place) → pos 0 <ℤ side_rational (opposite (corners ps (with_number m v e)) u) x
+    new_inside u = by (same_or_other u v)
+      where
+        by : (u ≡ v) ⊎ IsOther u v → pos 0 <ℤ side_rational (opposite (corners ps (with_number m v e)) u) x
+        by (inl d) = pos_same _ _ (ap (λ w. side_rational (opposite (corners ps (with_number m v e)) w) x) d ∙ own_weight) (old v)
+        by (inr o) =
+            pos_of_nonneg _ (nonneg_of_mul (volume (corners ps m)) _ h.holds.positive (nonneg_same _ _ (weight u o) (best u)))
+            (generic_face ps ms x h.generic (with_number m v e) new_on new_positive u)
+
+    new_holds : Holds ps ms x (with_number m v e)
+    new_holds = record { on = new_on; positive = new_positive; inside = all_faces (λ f. pos 0 <ℤ side_rational f x) (corners ps (with_number m v e)) new_inside }
+
+    same_gap : (k : ℕ) → gap_at ps first x m (with_number m v e) k ≡ side_rational (opposite (corners ps m) v) x *ℤ residual_at ps first m e k
+    same_gap k =
+        exchange-gap (volume (corners ps m)) (volume (corners ps (with_number m v e))) (height first e k)
+        (λ u. side_rational (opposite (corners ps m) u) x) (λ u. side_rational (opposite (corners ps (with_number m v e)) u) x) (λ u. side (opposite (corners ps m) u) (point ps e))
+        (λ u. height first (number m u) k) (λ u. height first (number (with_number m v e) u) k) v
+        new_volume own_weight (ap (λ i. height first i k) (number-with m v e)) weight (λ u o. ap (λ i. height first i k) (number-with_other m u v e o))
+
+abbrev all_places : List Place
+all_places = A ∷ B ∷ C ∷ D ∷ []
+
+is_place : (u : Place) → IsMember u all_places
+is_place A = here
+is_place B = there here
+is_place C = there (there here)
+is_place D = there (there (there here))
+
+no_sum : (f : Place → ℤ) (v : ℤ) → over_places f ≡ v → pos 0 <ℤ v → ((u : Place) → f u ≤ℤ pos 0) → ⊥
+no_sum f v e p h = omega (arith, ints, h A, h B, h C, h D)
+
+-- no point is below a least tetrahedron
+pub not_below_least : (ps : List Point) (ms : List ℕ) (first : ℕ → ℤ) (x : RationalPoint) (m : Tet) (e : ℕ) → Setting ps ms first x m e → ⊥
+not_below_least ps ms first x m e h = go (best_of (λ u. side_rational (opposite (corners ps m) u) x) (λ u. side (opposite (corners ps m) u) (point ps e)) (at_face (λ f. pos 0 <ℤ side_rational f x) (corners ps m) h.holds.inside) all_places)
+  where
+    go : ((u : Place) → IsMember u all_places → side (opposite (corners ps m) u) (point ps e) ≤ℤ pos 0)
+        ⊎ ((v : Place) × IsBest (λ u. side_rational (opposite (corners ps m) u) x) (λ u. side (opposite (corners ps m) u) (point ps e)) all_places v) → ⊥
+    go (inl flat) = no_sum (λ u. side (opposite (corners ps m) u) (point ps e)) (volume (corners ps m)) (sides-sum (corners ps m) (point ps e)) h.holds.positive (λ u. flat u (is_place u))
+    go (inr r) = no_exchange ps ms first x m e h r.0 r.1.above (λ u. r.1.best u (is_place u))

@@ -1,310 +1,176 @@
--- A point is outside of a row exactly where it is above the row among the lifted points.
-use Rattle.std.proofs.Common.{◌≡◌, ◌≢◌, ◌⊎◌, inl, inr, ℕ, zero, suc, ◌<◌, ℤ, pos, negsuc, neg_ℤ, ◌+ℤ◌, ◌-ℤ◌, ◌*ℤ◌, ◌<ℤ◌, ◌≤ℤ◌, Bool, true, false, cond, ◌||◌, ◌&&◌, nat_lt, List, [], ◌∷◌, map, length, refl, ap, sym, subst, ◌∙◌, arith, ltb-true, lt-ltb, leb-true, eq-eqb, ne_eqb}
+-- The lifting map. At place 0 the residual of e is its sphere sum with the other sign; at the place of e it is the volume, at that of a corner
+-- the side of e at the opposite face with the other sign, and 0 elsewhere. So its first number that is not 0 decides as the rule for ties does.
+use Rattle.std.proofs.Common.{◌≡◌, ◌≢◌, ◌⊎◌, inl, inr, ℕ, zero, suc, ◌<◌, ℤ, pos, negsuc, neg_ℤ, ◌-ℤ◌, ◌*ℤ◌, ◌<ℤ◌, ◌≤ℤ◌, Bool, true, false, ◌||◌, ◌&&◌, nat_lt, List, [], ◌∷◌, map, length, refl, ap, sym, subst, ◌∙◌, arith, ltb-true, lt-ltb, leb-true, eq-eqb, ne_eqb}
 use Rattle.std.specs.Prelude.{filter, IsTrue, ◌==◌, int_lt, int_le, Contains, if◌then◌else◌}
-use Rattle.std.specs.List.{list_any, list_all, range_with_len}
+use Rattle.std.specs.List.{list_any, list_all}
 use Rattle.std.proofs.lemmas.Int.{ints}
+use lib.IntN.{*ℤ-zero, *ℤ-one}
+use Rattle.exact_algebra.proofs.Signs.{neg_of_test, test_neg, pos_of_test, test_pos, pos_same, pos_not_zero}
 use Rattle.sign_predicates.specs.Point.{Point}
-use Rattle.sign_predicates.specs.Orientation.{Triangle, volume, side, opposite_a, opposite_b, opposite_c, opposite_d, IsPositive}
+use Rattle.sign_predicates.specs.Orientation.{Triangle, volume, side, IsPositive}
 use Rattle.sign_predicates.specs.declared.tetrahedron.Corners.{Corners}
-use Rattle.sign_predicates.specs.Sphere.{in_sphere, is_outside, across, alongside, opposite_faces}
-use Rattle.geo_laws.specs.Delaunay.{point, corners, numbers, as_numbers, is_outside_of, IsOn}
-use Rattle.geo_laws.specs.Height.{IsLexPositive, lifted, residual_at, residual}
+use Rattle.sign_predicates.specs.Sphere.{in_sphere, across, alongside, opposite_faces}
+use Rattle.geo_laws.specs.Delaunay.{point, corners, numbers, numbers_below, as_numbers, is_outside_of, IsOn, AreNumbersOf, IsDelaunayAmong}
+use Rattle.geo_laws.specs.Height.{IsLexPositive, lifted, residual_at, residual, IsLowestAmong}
 use Rattle.geo_laws.specs.Laws.{LiftLaw}
 use Rattle.geo_laws.specs.declared.tetrahedra.Tet.{Tet}
-use Rattle.geo_laws.proofs.Identities as ring
-use Rattle.geo_laws.proofs.Corners.{IsIn, here, there, in_cons, same_or_not, is_a, is_b, is_c, is_d}
-use Rattle.geo_laws.proofs.Distinct.{distinct, contains_corner}
+use Rattle.geo_laws.proofs.Places.{Place, A, B, C, D, opposite, number, over_places, sum-only, sum-none}
+use Rattle.geo_laws.proofs.Determinants.{sphere-lift}
+use Rattle.geo_laws.proofs.Members.{IsMember, here, there, in_cons, in_map, map_cases, in_filter, filter_cases, both_true, either_true, some_true, any_true, each_true, all_true, or_true}
+use Rattle.geo_laws.proofs.Corners.{IsCorner, same_or_not, corner_or_not, no_corner, distinct, on_corner, on_of_among}
 use Rattle.geo_laws.proofs.Ties.{IsVote, IsCarried, carried, carries}
-
--- ---- tests
-
-pub below_of : (a : ℤ) → int_lt a (pos 0) ≡ true → pos 0 <ℤ neg_ℤ a
-below_of (pos n) e = absurd (omega (arith, ltb-true n 0 e))
-below_of (negsuc n) e = omega (arith, ints)
-
-pub test_below : (a : ℤ) → pos 0 <ℤ neg_ℤ a → int_lt a (pos 0) ≡ true
-test_below (pos n) h = absurd (omega (arith, ints))
-test_below (negsuc n) h = refl
-
-pub above_of : (a : ℤ) → int_lt (pos 0) a ≡ true → pos 0 <ℤ a
-above_of (pos n) e = omega (arith, ints, ltb-true 0 n e)
-above_of (negsuc n) e = cc
-
-pub test_above : (a : ℤ) → pos 0 <ℤ a → int_lt (pos 0) a ≡ true
-test_above (pos n) h = lt-ltb 0 n (omega (arith, ints))
-test_above (negsuc n) h = absurd (omega (arith, ints))
 
 -- ---- the faces that pass a test
 
--- the number stands beside the face
-data InPair (i : ℕ) (f : Triangle) : List (ℕ × Triangle) → Type 0 where
-  front : {fs : List (ℕ × Triangle)} → InPair i f ((i, f) ∷ fs)
-  behind : {g : ℕ × Triangle} {fs : List (ℕ × Triangle)} → InPair i f fs → InPair i f (g ∷ fs)
+face_member : (c : Corners) (t : Tet) (u : Place) → IsMember (number t u, opposite c u) (opposite_faces c (as_numbers t))
+face_member c t A = here
+face_member c t B = there here
+face_member c t C = there (there here)
+face_member c t D = there (there (there here))
 
-abbrev those : (Triangle → Bool) → List (ℕ × Triangle) → List ℕ
-those test fs = map (λ g. g.0) (filter (λ g. test g.1) fs)
+face_cases : (c : Corners) (t : Tet) (g : ℕ × Triangle) → IsMember g (opposite_faces c (as_numbers t)) → (u : Place) × (g ≡ (number t u, opposite c u))
+face_cases c t g here = (A, refl)
+face_cases c t g (there here) = (B, refl)
+face_cases c t g (there (there here)) = (C, refl)
+face_cases c t g (there (there (there here))) = (D, refl)
+face_cases c t g (there (there (there (there m)))) = elim m [ ]
 
-in_those : (test : Triangle → Bool) (fs : List (ℕ × Triangle)) (i : ℕ) (f : Triangle) → InPair i f fs → test f ≡ true → IsIn i (those test fs)
-in_those test [] i f m e = elim m [ ]
-in_those test ((i, f) ∷ fs) i' f' front e = subst (λ b. IsIn i (map (λ g. g.0) (cond b ((i, f) ∷ filter (λ g. test g.1) fs) (filter (λ g. test g.1) fs)))) (sym e) here
-in_those test (g ∷ fs) i f (behind m) e = kept (test g.1) (in_those test fs i f m e)
-  where
-    kept : (b : Bool) → IsIn i (those test fs) → IsIn i (map (λ h. h.0) (cond b (g ∷ filter (λ h. test h.1) fs) (filter (λ h. test h.1) fs)))
-    kept true n = there n
-    kept false n = n
+-- the numbers of the corners whose opposite faces pass
+abbrev those : (Triangle → Bool) → Corners → Tet → List ℕ
+those test c t = map (λ g. g.0) (filter (λ g. test g.1) (opposite_faces c (as_numbers t)))
 
-record Passes (test : Triangle → Bool) (fs : List (ℕ × Triangle)) (i : ℕ) : Type 0 where
-  face : Triangle
-  beside : InPair i face fs
-  passes : test face ≡ true
+in_those : (test : Triangle → Bool) (c : Corners) (t : Tet) (u : Place) → test (opposite c u) ≡ true → IsMember (number t u) (those test c t)
+in_those test c t u e =
+    in_map (λ (g : ℕ × Triangle). g.0) (number t u, opposite c u) (filter (λ g. test g.1) (opposite_faces c (as_numbers t)))
+    (in_filter (λ (g : ℕ × Triangle). test g.1) (number t u, opposite c u) (opposite_faces c (as_numbers t)) (face_member c t u) e)
 
-of_those : (test : Triangle → Bool) (fs : List (ℕ × Triangle)) (i : ℕ) → IsIn i (those test fs) → Passes test fs i
-of_those test [] i m = elim m [ ]
-of_those test (g ∷ fs) i m = go (test g.1) refl m (of_those test fs i)
-  where
-    further : Passes test fs i → Passes test (g ∷ fs) i
-    further p = record { face = p.face; beside = behind p.beside; passes = p.passes }
+record Passes (test : Triangle → Bool) (c : Corners) (t : Tet) (i : ℕ) : Type 0 where
+  place : Place
+  is_number : i ≡ number t place
+  passes : test (opposite c place) ≡ true
 
-    at_head : test g.1 ≡ true → (i ≡ g.0) ⊎ IsIn i (those test fs) → (IsIn i (those test fs) → Passes test fs i) → Passes test (g ∷ fs) i
-    at_head e (inl same) rest = record { face = g.1; beside = subst (λ j. InPair j g.1 (g ∷ fs)) (sym same) front; passes = e }
-    at_head e (inr n) rest = further (rest n)
-
-    go : (b : Bool) → test g.1 ≡ b → IsIn i (map (λ h. h.0) (cond b (g ∷ filter (λ h. test h.1) fs) (filter (λ h. test h.1) fs)))
-        → (IsIn i (those test fs) → Passes test fs i) → Passes test (g ∷ fs) i
-    go true e n rest = at_head e (in_cons i g.0 (those test fs) n) rest
-    go false e n rest = further (rest n)
+of_those : (test : Triangle → Bool) (c : Corners) (t : Tet) (i : ℕ) → IsMember i (those test c t) → Passes test c t i
+of_those test c t i m =
+    let g = map_cases (λ (g : ℕ × Triangle). g.0) i (filter (λ g. test g.1) (opposite_faces c (as_numbers t))) m in
+    let k = filter_cases (λ (g : ℕ × Triangle). test g.1) g.0 (opposite_faces c (as_numbers t)) g.1 in
+    let f = face_cases c t g.0 k.0 in
+    record { place = f.0; is_number = g.2 ∙ ap (λ (g : ℕ × Triangle). g.0) f.1; passes = ap (λ (g : ℕ × Triangle). test g.1) (sym f.1) ∙ k.1 }
 
 -- ---- the votes of e and of the corners
 
-record Apart (t : Tet) (e : ℕ) : Type 0 where
-  e_a : e ≢ t.a
-  e_b : e ≢ t.b
-  e_c : e ≢ t.c
-  e_d : e ≢ t.d
-  a_b : t.a ≢ t.b
-  a_c : t.a ≢ t.c
-  a_d : t.a ≢ t.d
-  b_c : t.b ≢ t.c
-  b_d : t.b ≢ t.d
-  c_d : t.c ≢ t.d
+-- the side of e at the face opposite the corner
+abbrev side_of : List Point → Tet → ℕ → Place → ℤ
+side_of ps t e u = side (opposite (corners ps t) u) (point ps e)
 
-apart : (ps : List Point) (t : Tet) (e : ℕ) → IsPositive (corners ps t) → ¬ Contains (numbers t) e → Apart t e
-apart ps t e p n =
-    let d = distinct ps t p in
-    record {
-      e_a = λ h. n (contains_corner t e (is_a h));
-      e_b = λ h. n (contains_corner t e (is_b h));
-      e_c = λ h. n (contains_corner t e (is_c h));
-      e_d = λ h. n (contains_corner t e (is_d h));
-      a_b = d.a_b;
-      a_c = d.a_c;
-      a_d = d.a_d;
-      b_c = d.b_c;
-      b_d = d.b_d;
-      c_d = d.c_d;
-    }
-
--- the number of a point at the place of another, and at its own
-abbrev pub one_if : Bool → ℤ
-one_if b = if b then pos 1 else pos 0
-
+-- the residual at the place of point j
 unfoldable pub vote : List Point → (ℕ → ℤ) → Tet → ℕ → ℕ → ℤ
 vote ps first t e j = residual_at ps first t e (suc j)
 
--- a vote by the five tests
-pub vote-by : (ps : List Point) (first : ℕ → ℤ) (t : Tet) (e j : ℕ) (qe qa qb qc qd : Bool) → (e == j) ≡ qe → (t.a == j) ≡ qa → (t.b == j) ≡ qb → (t.c == j) ≡ qc → (t.d == j) ≡ qd
-    → vote ps first t e j
-    ≡ volume (corners ps t) *ℤ one_if qe
-    -ℤ (side (opposite_a (corners ps t)) (point ps e) *ℤ one_if qa +ℤ side (opposite_b (corners ps t)) (point ps e) *ℤ one_if qb
-    +ℤ side (opposite_c (corners ps t)) (point ps e) *ℤ one_if qc +ℤ side (opposite_d (corners ps t)) (point ps e) *ℤ one_if qd)
+abbrev one_if : Bool → ℤ
+one_if b = if b then pos 1 else pos 0
+
+if_true : (n : ℤ) (b : Bool) → b ≡ true → n *ℤ one_if b ≡ n
+unfolding lib.IntN.one
+if_true n b e = ap (λ c. n *ℤ one_if c) e ∙ *ℤ-one n
+
+if_false : (n : ℤ) (b : Bool) → b ≡ false → n *ℤ one_if b ≡ pos 0
+if_false n b e = ap (λ c. n *ℤ one_if c) e ∙ *ℤ-zero n
+
+minus_none : (a s v : ℤ) → a ≡ v → s ≡ pos 0 → a -ℤ s ≡ v
+minus_none a s v e z = omega (arith, ints)
+
+minus_only : (a s v : ℤ) → a ≡ pos 0 → s ≡ v → a -ℤ s ≡ neg_ℤ v
+minus_only a s v z e = omega (arith, ints)
+
+no_weights : (ps : List Point) (t : Tet) (e j : ℕ) → ((u : Place) → number t u ≢ j) → over_places (λ u. side_of ps t e u *ℤ one_if (number t u == j)) ≡ pos 0
+no_weights ps t e j n = sum-none (λ u. side_of ps t e u *ℤ one_if (number t u == j)) (λ u. if_false (side_of ps t e u) (number t u == j) (ne_eqb (number t u) j (n u)))
+
+pub vote-own : (ps : List Point) (first : ℕ → ℤ) (t : Tet) (e : ℕ) → ¬ Contains (numbers t) e → vote ps first t e e ≡ volume (corners ps t)
 unfolding vote
-vote-by ps first t e j qe qa qb qc qd he ha hb hc hd = λ i.
-    volume (corners ps t) *ℤ one_if (he i)
-    -ℤ (side (opposite_a (corners ps t)) (point ps e) *ℤ one_if (ha i) +ℤ side (opposite_b (corners ps t)) (point ps e) *ℤ one_if (hb i)
-    +ℤ side (opposite_c (corners ps t)) (point ps e) *ℤ one_if (hc i) +ℤ side (opposite_d (corners ps t)) (point ps e) *ℤ one_if (hd i))
+vote-own ps first t e n =
+    minus_none (volume (corners ps t) *ℤ one_if (e == e)) _ (volume (corners ps t)) (if_true (volume (corners ps t)) (e == e) (eq-eqb e e refl)) (no_weights ps t e e (no_corner t e n))
 
-flip : (m n : ℕ) → m ≢ n → n ≢ m
-flip m n h e = h (sym e)
+vote-corner : (ps : List Point) (first : ℕ → ℤ) (t : Tet) (e : ℕ) → IsPositive (corners ps t) → ¬ Contains (numbers t) e → (v : Place) → vote ps first t e (number t v) ≡ neg_ℤ (side_of ps t e v)
+unfolding vote
+vote-corner ps first t e p n v =
+    minus_only (volume (corners ps t) *ℤ one_if (e == number t v)) (over_places (λ u. side_of ps t e u *ℤ one_if (number t u == number t v))) (side_of ps t e v)
+    (if_false (volume (corners ps t)) (e == number t v) (ne_eqb e (number t v) (λ d. no_corner t e n v (sym d))))
+    (sum-only v (λ u. side_of ps t e u *ℤ one_if (number t u == number t v)) (λ u o. if_false (side_of ps t e u) (number t u == number t v) (ne_eqb (number t u) (number t v) (distinct ps t p u v o)))
+    ∙ if_true (side_of ps t e v) (number t v == number t v) (eq-eqb (number t v) (number t v) refl))
 
--- with only e's own place
-pub times_volume : (ps : List Point) (t : Tet) (e : ℕ)
-    → volume (corners ps t) *ℤ one_if true
-    -ℤ (side (opposite_a (corners ps t)) (point ps e) *ℤ one_if false +ℤ side (opposite_b (corners ps t)) (point ps e) *ℤ one_if false
-    +ℤ side (opposite_c (corners ps t)) (point ps e) *ℤ one_if false +ℤ side (opposite_d (corners ps t)) (point ps e) *ℤ one_if false)
-    ≡ volume (corners ps t)
-times_volume ps t e = ring.residual-only_e (volume (corners ps t)) (side (opposite_a (corners ps t)) (point ps e)) (side (opposite_b (corners ps t)) (point ps e)) (side (opposite_c (corners ps t)) (point ps e)) (side (opposite_d (corners ps t)) (point ps e))
-
-vote-e : (ps : List Point) (first : ℕ → ℤ) (t : Tet) (e : ℕ) → Apart t e → vote ps first t e e ≡ volume (corners ps t)
-vote-e ps first t e d =
-    vote-by ps first t e e true false false false false (eq-eqb e e refl) (ne_eqb _ _ (flip _ _ d.e_a)) (ne_eqb _ _ (flip _ _ d.e_b)) (ne_eqb _ _ (flip _ _ d.e_c)) (ne_eqb _ _ (flip _ _ d.e_d))
-    ∙ ring.residual-only_e (volume (corners ps t)) (side (opposite_a (corners ps t)) (point ps e)) (side (opposite_b (corners ps t)) (point ps e)) (side (opposite_c (corners ps t)) (point ps e)) (side (opposite_d (corners ps t)) (point ps e))
-
-vote-a : (ps : List Point) (first : ℕ → ℤ) (t : Tet) (e : ℕ) → Apart t e → vote ps first t e t.a ≡ neg_ℤ (side (opposite_a (corners ps t)) (point ps e))
-vote-a ps first t e d =
-    vote-by ps first t e t.a false true false false false (ne_eqb _ _ d.e_a) (eq-eqb t.a t.a refl) (ne_eqb _ _ (flip _ _ d.a_b)) (ne_eqb _ _ (flip _ _ d.a_c)) (ne_eqb _ _ (flip _ _ d.a_d))
-    ∙ ring.residual-only_a (volume (corners ps t)) (side (opposite_a (corners ps t)) (point ps e)) (side (opposite_b (corners ps t)) (point ps e)) (side (opposite_c (corners ps t)) (point ps e)) (side (opposite_d (corners ps t)) (point ps e))
-
-vote-b : (ps : List Point) (first : ℕ → ℤ) (t : Tet) (e : ℕ) → Apart t e → vote ps first t e t.b ≡ neg_ℤ (side (opposite_b (corners ps t)) (point ps e))
-vote-b ps first t e d =
-    vote-by ps first t e t.b false false true false false (ne_eqb _ _ d.e_b) (ne_eqb _ _ d.a_b) (eq-eqb t.b t.b refl) (ne_eqb _ _ (flip _ _ d.b_c)) (ne_eqb _ _ (flip _ _ d.b_d))
-    ∙ ring.residual-only_b (volume (corners ps t)) (side (opposite_a (corners ps t)) (point ps e)) (side (opposite_b (corners ps t)) (point ps e)) (side (opposite_c (corners ps t)) (point ps e)) (side (opposite_d (corners ps t)) (point ps e))
-
-vote-c : (ps : List Point) (first : ℕ → ℤ) (t : Tet) (e : ℕ) → Apart t e → vote ps first t e t.c ≡ neg_ℤ (side (opposite_c (corners ps t)) (point ps e))
-vote-c ps first t e d =
-    vote-by ps first t e t.c false false false true false (ne_eqb _ _ d.e_c) (ne_eqb _ _ d.a_c) (ne_eqb _ _ d.b_c) (eq-eqb t.c t.c refl) (ne_eqb _ _ (flip _ _ d.c_d))
-    ∙ ring.residual-only_c (volume (corners ps t)) (side (opposite_a (corners ps t)) (point ps e)) (side (opposite_b (corners ps t)) (point ps e)) (side (opposite_c (corners ps t)) (point ps e)) (side (opposite_d (corners ps t)) (point ps e))
-
-vote-d : (ps : List Point) (first : ℕ → ℤ) (t : Tet) (e : ℕ) → Apart t e → vote ps first t e t.d ≡ neg_ℤ (side (opposite_d (corners ps t)) (point ps e))
-vote-d ps first t e d =
-    vote-by ps first t e t.d false false false false true (ne_eqb _ _ d.e_d) (ne_eqb _ _ d.a_d) (ne_eqb _ _ d.b_d) (ne_eqb _ _ d.c_d) (eq-eqb t.d t.d refl)
-    ∙ ring.residual-only_d (volume (corners ps t)) (side (opposite_a (corners ps t)) (point ps e)) (side (opposite_b (corners ps t)) (point ps e)) (side (opposite_c (corners ps t)) (point ps e)) (side (opposite_d (corners ps t)) (point ps e))
-
-vote-other : (ps : List Point) (first : ℕ → ℤ) (t : Tet) (e j : ℕ) → e ≢ j → t.a ≢ j → t.b ≢ j → t.c ≢ j → t.d ≢ j → vote ps first t e j ≡ pos 0
-vote-other ps first t e j he ha hb hc hd =
-    vote-by ps first t e j false false false false false (ne_eqb _ _ he) (ne_eqb _ _ ha) (ne_eqb _ _ hb) (ne_eqb _ _ hc) (ne_eqb _ _ hd)
-    ∙ ring.residual-none (volume (corners ps t)) (side (opposite_a (corners ps t)) (point ps e)) (side (opposite_b (corners ps t)) (point ps e)) (side (opposite_c (corners ps t)) (point ps e)) (side (opposite_d (corners ps t)) (point ps e))
+vote-other : (ps : List Point) (first : ℕ → ℤ) (t : Tet) (e j : ℕ) → e ≢ j → ¬ Contains (numbers t) j → vote ps first t e j ≡ pos 0
+unfolding vote
+vote-other ps first t e j d n =
+    minus_none (volume (corners ps t) *ℤ one_if (e == j)) _ (pos 0) (if_false (volume (corners ps t)) (e == j) (ne_eqb e j d)) (no_weights ps t e j (no_corner t j n))
 
 -- which vote a number has
 data VoteOf (ps : List Point) (first : ℕ → ℤ) (t : Tet) (e j : ℕ) : Type 0 where
   own : j ≡ e → vote ps first t e j ≡ volume (corners ps t) → VoteOf ps first t e j
-  corner : (f : Triangle) → InPair j f (opposite_faces (corners ps t) (as_numbers t)) → vote ps first t e j ≡ neg_ℤ (side f (point ps e)) → VoteOf ps first t e j
+  corner : (u : Place) → j ≡ number t u → vote ps first t e j ≡ neg_ℤ (side_of ps t e u) → VoteOf ps first t e j
   other : vote ps first t e j ≡ pos 0 → VoteOf ps first t e j
 
-at_face : (ps : List Point) (first : ℕ → ℤ) (t : Tet) (e j i : ℕ) (f : Triangle) → j ≡ i → InPair i f (opposite_faces (corners ps t) (as_numbers t)) → vote ps first t e i ≡ neg_ℤ (side f (point ps e)) → VoteOf ps first t e j
-at_face ps first t e j i f same m v =
-    corner f (subst (λ k. InPair k f (opposite_faces (corners ps t) (as_numbers t))) (sym same) m) (subst (λ k. vote ps first t e k ≡ neg_ℤ (side f (point ps e))) (sym same) v)
-
-vote_of : (ps : List Point) (first : ℕ → ℤ) (t : Tet) (e j : ℕ) → Apart t e → VoteOf ps first t e j
-vote_of ps first t e j d = go (same_or_not j e) (same_or_not j t.a) (same_or_not j t.b) (same_or_not j t.c) (same_or_not j t.d)
+vote_of : (ps : List Point) (first : ℕ → ℤ) (t : Tet) (e j : ℕ) → IsPositive (corners ps t) → ¬ Contains (numbers t) e → VoteOf ps first t e j
+vote_of ps first t e j p n = go (same_or_not j e) (corner_or_not t j)
   where
-    go : (j ≡ e) ⊎ (j ≢ e) → (j ≡ t.a) ⊎ (j ≢ t.a) → (j ≡ t.b) ⊎ (j ≢ t.b) → (j ≡ t.c) ⊎ (j ≢ t.c) → (j ≡ t.d) ⊎ (j ≢ t.d) → VoteOf ps first t e j
-    go (inl h) _ _ _ _ = own h (subst (λ k. vote ps first t e k ≡ volume (corners ps t)) (sym h) (vote-e ps first t e d))
-    go (inr _) (inl h) _ _ _ = at_face ps first t e j t.a _ h front (vote-a ps first t e d)
-    go (inr _) (inr _) (inl h) _ _ = at_face ps first t e j t.b _ h (behind front) (vote-b ps first t e d)
-    go (inr _) (inr _) (inr _) (inl h) _ = at_face ps first t e j t.c _ h (behind (behind front)) (vote-c ps first t e d)
-    go (inr _) (inr _) (inr _) (inr _) (inl h) = at_face ps first t e j t.d _ h (behind (behind (behind front))) (vote-d ps first t e d)
-    go (inr he) (inr ha) (inr hb) (inr hc) (inr hd) = other (vote-other ps first t e j (flip _ _ he) (flip _ _ ha) (flip _ _ hb) (flip _ _ hc) (flip _ _ hd))
+    go : (j ≡ e) ⊎ (j ≢ e) → IsCorner t j ⊎ ¬ Contains (numbers t) j → VoteOf ps first t e j
+    go (inl h) _ = own h (ap (vote ps first t e) h ∙ vote-own ps first t e n)
+    go (inr _) (inl c) = corner c.0 c.1 (ap (vote ps first t e) c.1 ∙ vote-corner ps first t e p n c.0)
+    go (inr d) (inr c) = other (vote-other ps first t e j (λ h. d (sym h)) c)
 
--- a face's number has the vote of that face
-vote-face : (ps : List Point) (first : ℕ → ℤ) (t : Tet) (e i : ℕ) (f : Triangle) → Apart t e → InPair i f (opposite_faces (corners ps t) (as_numbers t)) → vote ps first t e i ≡ neg_ℤ (side f (point ps e))
-vote-face ps first t e i f d front = vote-a ps first t e d
-vote-face ps first t e i f d (behind front) = vote-b ps first t e d
-vote-face ps first t e i f d (behind (behind front)) = vote-c ps first t e d
-vote-face ps first t e i f d (behind (behind (behind front))) = vote-d ps first t e d
-vote-face ps first t e i f d (behind (behind (behind (behind m)))) = elim m [ ]
+pos_of_neg : (a b : ℤ) → a ≡ neg_ℤ b → pos 0 <ℤ neg_ℤ a → pos 0 <ℤ b
+pos_of_neg a b e h = omega (arith, ints)
 
-moved : (a b : ℤ) → a ≡ b → pos 0 <ℤ b → pos 0 <ℤ a
-moved a b e h = omega (arith, ints)
+neg_of_pos : (a b : ℤ) → a ≡ neg_ℤ b → pos 0 <ℤ b → pos 0 <ℤ neg_ℤ a
+neg_of_pos a b e h = omega (arith, ints)
 
-moved_back : (a b : ℤ) → a ≡ b → pos 0 <ℤ a → pos 0 <ℤ b
-moved_back a b e h = omega (arith, ints)
-
-moved_neg : (a b : ℤ) → a ≡ neg_ℤ b → pos 0 <ℤ neg_ℤ a → pos 0 <ℤ b
-moved_neg a b e h = omega (arith, ints)
-
-neg_moved : (a b : ℤ) → a ≡ neg_ℤ b → pos 0 <ℤ b → pos 0 <ℤ neg_ℤ a
-neg_moved a b e h = omega (arith, ints)
-
-not_zero : (a : ℤ) → a ≡ pos 0 → pos 0 <ℤ a → ⊥
-not_zero a e h = omega (arith, ints)
-
-not_zero_neg : (a : ℤ) → a ≡ pos 0 → pos 0 <ℤ neg_ℤ a → ⊥
-not_zero_neg a e h = omega (arith, ints)
+neg_not_zero : (a : ℤ) → a ≡ pos 0 → pos 0 <ℤ neg_ℤ a → ⊥
+neg_not_zero a e h = omega (arith, ints)
 
 not_both : (a b : ℤ) → a ≡ b → pos 0 <ℤ b → pos 0 <ℤ neg_ℤ a → ⊥
 not_both a b e h k = omega (arith, ints)
 
-face_number : (n : ℕ) (t : Tet) (c : Corners) → (t.a < n) × (t.b < n) × (t.c < n) × (t.d < n) → (i : ℕ) (f : Triangle) → InPair i f (opposite_faces c (as_numbers t)) → i < n
-face_number n t c h i f front = h.0
-face_number n t c h i f (behind front) = h.1
-face_number n t c h i f (behind (behind front)) = h.2
-face_number n t c h i f (behind (behind (behind front))) = h.3
-face_number n t c h i f (behind (behind (behind (behind m)))) = elim m [ ]
+abbrev is_across : List Point → ℕ → Triangle → Bool
+is_across ps e f = int_lt (side f (point ps e)) (pos 0)
+
+abbrev is_alongside : List Point → ℕ → Triangle → Bool
+is_alongside ps e f = int_lt (pos 0) (side f (point ps e))
 
 -- e and the corners across their face vote for, the corners alongside against
-votes : (ps : List Point) (first : ℕ → ℤ) (t : Tet) (e : ℕ) → IsOn ps t → e < length ps → IsPositive (corners ps t) → Apart t e
+votes : (ps : List Point) (first : ℕ → ℤ) (t : Tet) (e : ℕ) → IsOn ps t → e < length ps → IsPositive (corners ps t) → ¬ Contains (numbers t) e
     → IsVote (vote ps first t e) (length ps) (e ∷ across (corners ps t) (as_numbers t) (point ps e)) (alongside (corners ps t) (as_numbers t) (point ps e))
-votes ps first t e on below p d = record {
+votes ps first t e on below p n = record {
   for_above = λ i m. by_for i (in_cons i e _ m);
-  above_for = λ i h. by_above i h (vote_of ps first t e i d);
-  against_below = λ i m. by_against i (of_those (λ f. int_lt (pos 0) (side f (point ps e))) (opposite_faces c (as_numbers t)) i m);
-  below_against = λ i h. by_below i h (vote_of ps first t e i d);
+  above_for = λ i h. by_above i h (vote_of ps first t e i p n);
+  against_below = λ i m. by_against i (of_those (is_alongside ps e) (corners ps t) t i m);
+  below_against = λ i h. by_below i h (vote_of ps first t e i p n);
   on_list = λ i m. by_on i (in_cons i e _ m);
 }
   where
-    c : Corners
-    c = corners ps t
+    at_corner : (i : ℕ) (u : Place) → i ≡ number t u → vote ps first t e i ≡ neg_ℤ (side_of ps t e u)
+    at_corner i u h = ap (vote ps first t e) h ∙ vote-corner ps first t e p n u
 
-    is_across : Triangle → Bool
-    is_across f = int_lt (side f (point ps e)) (pos 0)
+    by_for : (i : ℕ) → (i ≡ e) ⊎ IsMember i (across (corners ps t) (as_numbers t) (point ps e)) → pos 0 <ℤ vote ps first t e i
+    by_for i (inl h) = pos_same _ _ (ap (vote ps first t e) h ∙ vote-own ps first t e n) p
+    by_for i (inr m) = let q = of_those (is_across ps e) (corners ps t) t i m in pos_same _ _ (at_corner i q.place q.is_number) (neg_of_test (side_of ps t e q.place) q.passes)
 
-    by_for : (i : ℕ) → (i ≡ e) ⊎ IsIn i (across (corners ps t) (as_numbers t) (point ps e)) → pos 0 <ℤ vote ps first t e i
-    by_for i (inl h) = moved _ _ (ap (vote ps first t e) h ∙ vote-e ps first t e d) p
-    by_for i (inr m) = let q = of_those (λ f. int_lt (side f (point ps e)) (pos 0)) (opposite_faces (corners ps t) (as_numbers t)) i m in
-        moved _ _ (vote-face ps first t e i q.face d q.beside) (below_of (side q.face (point ps e)) q.passes)
-
-    by_on : (i : ℕ) → (i ≡ e) ⊎ IsIn i (across (corners ps t) (as_numbers t) (point ps e)) → i < length ps
+    by_on : (i : ℕ) → (i ≡ e) ⊎ IsMember i (across (corners ps t) (as_numbers t) (point ps e)) → i < length ps
     by_on i (inl h) = omega arith
-    by_on i (inr m) = let q = of_those (λ f. int_lt (side f (point ps e)) (pos 0)) (opposite_faces (corners ps t) (as_numbers t)) i m in
-        face_number (length ps) t (corners ps t) (on 0 0 (omega arith), on 1 0 (omega arith), on 2 0 (omega arith), on 3 0 (omega arith)) i q.face q.beside
+    by_on i (inr m) = let q = of_those (is_across ps e) (corners ps t) t i m in subst (λ j. j < length ps) (sym q.is_number) (on_corner ps t on q.place)
 
-    by_above : (i : ℕ) → pos 0 <ℤ vote ps first t e i → VoteOf ps first t e i → IsIn i (e ∷ across (corners ps t) (as_numbers t) (point ps e))
-    by_above i h (own same v) = subst (λ j. IsIn j (e ∷ across (corners ps t) (as_numbers t) (point ps e))) (sym same) here
-    by_above i h (corner f m v) = there (in_those (λ g. int_lt (side g (point ps e)) (pos 0)) (opposite_faces (corners ps t) (as_numbers t)) i f m (test_below (side f (point ps e)) (moved_back _ _ v h)))
-    by_above i h (other v) = absurd (not_zero _ v h)
+    by_above : (i : ℕ) → pos 0 <ℤ vote ps first t e i → VoteOf ps first t e i → IsMember i (e ∷ across (corners ps t) (as_numbers t) (point ps e))
+    by_above i h (own same v) = subst (λ j. IsMember j (e ∷ across (corners ps t) (as_numbers t) (point ps e))) (sym same) here
+    by_above i h (corner u same v) =
+        there (subst (λ j. IsMember j (across (corners ps t) (as_numbers t) (point ps e))) (sym same) (in_those (is_across ps e) (corners ps t) t u (test_neg (side_of ps t e u) (pos_same _ _ (sym v) h))))
+    by_above i h (other v) = absurd (pos_not_zero _ h v)
 
-    by_against : (i : ℕ) → Passes (λ f. int_lt (pos 0) (side f (point ps e))) (opposite_faces (corners ps t) (as_numbers t)) i → pos 0 <ℤ neg_ℤ (vote ps first t e i)
-    by_against i q = neg_moved _ _ (vote-face ps first t e i q.face d q.beside) (above_of (side q.face (point ps e)) q.passes)
+    by_against : (i : ℕ) → Passes (is_alongside ps e) (corners ps t) t i → pos 0 <ℤ neg_ℤ (vote ps first t e i)
+    by_against i q = neg_of_pos _ _ (at_corner i q.place q.is_number) (pos_of_test (side_of ps t e q.place) q.passes)
 
-    by_below : (i : ℕ) → pos 0 <ℤ neg_ℤ (vote ps first t e i) → VoteOf ps first t e i → IsIn i (alongside (corners ps t) (as_numbers t) (point ps e))
+    by_below : (i : ℕ) → pos 0 <ℤ neg_ℤ (vote ps first t e i) → VoteOf ps first t e i → IsMember i (alongside (corners ps t) (as_numbers t) (point ps e))
     by_below i h (own same v) = absurd (not_both _ _ v p h)
-    by_below i h (corner f m v) = in_those (λ g. int_lt (pos 0) (side g (point ps e))) (opposite_faces (corners ps t) (as_numbers t)) i f m (test_above (side f (point ps e)) (moved_neg _ _ v h))
-    by_below i h (other v) = absurd (not_zero_neg _ v h)
-
--- ---- the test
-
-pub both_true : (a b : Bool) → a && b ≡ true → (a ≡ true) × (b ≡ true)
-both_true true b e = (refl, e)
-both_true false b e = absurd (never e)
-  where
-    never : false ≡ true → ⊥
-    never e = cc
-
-pub either_true : (a b : Bool) → a || b ≡ true → (a ≡ true) ⊎ (b ≡ true)
-either_true true b e = inl refl
-either_true false b e = inr e
-
-pub some_true : (test : ℕ → Bool) (s : List ℕ) → list_any test s ≡ true → (i : ℕ) × IsIn i s × (test i ≡ true)
-some_true test [] e = absurd (never e)
-  where
-    never : false ≡ true → ⊥
-    never e = cc
-some_true test (i ∷ s) e = go (either_true (test i) (list_any test s) e) (some_true test s)
-  where
-    go : (test i ≡ true) ⊎ (list_any test s ≡ true) → (list_any test s ≡ true → (j : ℕ) × IsIn j s × (test j ≡ true)) → (j : ℕ) × IsIn j (i ∷ s) × (test j ≡ true)
-    go (inl h) rest = (i, here, h)
-    go (inr h) rest = let r = rest h in (r.0, there r.1, r.2)
-
-any_true : (test : ℕ → Bool) (s : List ℕ) (i : ℕ) → IsIn i s → test i ≡ true → list_any test s ≡ true
-any_true test [] i m e = elim m [ ]
-any_true test (i ∷ s) j here e = ap (λ b. b || list_any test s) e
-any_true test (i ∷ s) j (there m) e = ap (λ b. test i || b) (any_true test s j m e) ∙ or_true (test i)
-  where
-    or_true : (b : Bool) → b || true ≡ true
-    or_true true = refl
-    or_true false = refl
-
-pub each_true : (test : ℕ → Bool) (s : List ℕ) → list_all test s ≡ true → (i : ℕ) → IsIn i s → test i ≡ true
-each_true test [] e i m = elim m [ ]
-each_true test (i ∷ s) e j m = go (both_true (test i) (list_all test s) e) (in_cons j i s m) (each_true test s)
-  where
-    go : (test i ≡ true) × (list_all test s ≡ true) → (j ≡ i) ⊎ IsIn j s → (list_all test s ≡ true → (k : ℕ) → IsIn k s → test k ≡ true) → test j ≡ true
-    go h (inl same) rest = ap test same ∙ h.0
-    go h (inr n) rest = rest h.1 j n
-
-pub all_true : (test : ℕ → Bool) (s : List ℕ) → ((i : ℕ) → IsIn i s → test i ≡ true) → list_all test s ≡ true
-all_true test [] h = refl
-all_true test (i ∷ s) h = (λ j. h i here j && list_all test s) ∙ all_true test s (λ k m. h k (there m))
+    by_below i h (corner u same v) =
+        subst (λ j. IsMember j (alongside (corners ps t) (as_numbers t) (point ps e))) (sym same) (in_those (is_alongside ps e) (corners ps t) t u (test_pos (side_of ps t e u) (pos_of_neg _ _ v h)))
+    by_below i h (other v) = absurd (neg_not_zero _ v h)
 
 -- the tie test says that the vote is carried
 is_carried_of : (fors against : List ℕ) → list_any (λ i. list_all (nat_lt i) against) fors ≡ true → IsCarried fors against
@@ -328,9 +194,9 @@ map-map : (f : ℕ → ℤ) (g : ℕ → ℕ) (s : List ℕ) → map (λ i. f (g
 map-map f g [] = refl
 map-map f g (i ∷ s) = ap (λ r. f (g i) ∷ r) (map-map f g s)
 
-pub lift_law : LiftLaw
+pub law_lift : LiftLaw
 unfolding vote
-lift_law ps t e on below p different = (to, from)
+law_lift ps t e on below p different = (to, from)
   where
     fors : List ℕ
     fors = e ∷ across (corners ps t) (as_numbers t) (point ps e)
@@ -339,13 +205,13 @@ lift_law ps t e on below p different = (to, from)
     s = in_sphere (corners ps t) (point ps e)
 
     first_is : residual_at ps (lifted ps) t e zero ≡ neg_ℤ (in_sphere (corners ps t) (point ps e))
-    first_is = ring.sphere-lift (corners ps t) (point ps e)
+    first_is = sphere-lift (corners ps t) (point ps e)
 
     is_vote : IsVote (vote ps (lifted ps) t e) (length ps) (e ∷ across (corners ps t) (as_numbers t) (point ps e)) (alongside (corners ps t) (as_numbers t) (point ps e))
-    is_vote = votes ps (lifted ps) t e on below p (apart ps t e p different)
+    is_vote = votes ps (lifted ps) t e on below p different
 
-    rest_is : map (λ j. residual_at ps (lifted ps) t e (suc j)) (range_with_len 0 (length ps)) ≡ map (residual_at ps (lifted ps) t e) (map suc (range_with_len 0 (length ps)))
-    rest_is = map-map (residual_at ps (lifted ps) t e) suc (range_with_len 0 (length ps))
+    rest_is : map (λ j. residual_at ps (lifted ps) t e (suc j)) (numbers_below (length ps)) ≡ map (residual_at ps (lifted ps) t e) (map suc (numbers_below (length ps)))
+    rest_is = map-map (residual_at ps (lifted ps) t e) suc (numbers_below (length ps))
 
     zero_first : (a b : ℤ) → a ≡ neg_ℤ b → b ≤ℤ pos 0 → (pos 0 <ℤ a) ⊎ (a ≡ pos 0)
     zero_first a (pos zero) d h = inr d
@@ -353,21 +219,21 @@ lift_law ps t e on below p different = (to, from)
     zero_first a (negsuc n) d h = inl (omega (arith, ints))
 
     tie : IsTrue (list_any (λ i. list_all (nat_lt i) (alongside (corners ps t) (as_numbers t) (point ps e))) (e ∷ across (corners ps t) (as_numbers t) (point ps e)))
-        → IsLexPositive (map (residual_at ps (lifted ps) t e) (map suc (range_with_len 0 (length ps))))
+        → IsLexPositive (map (residual_at ps (lifted ps) t e) (map suc (numbers_below (length ps))))
     tie h = subst IsLexPositive rest_is (carries (λ j. residual_at ps (lifted ps) t e (suc j)) (length ps) _ _ is_vote (is_carried_of _ _ h))
 
     to : IsTrue (is_outside_of ps t e) → IsLexPositive (residual ps (lifted ps) t e)
     to h = by (either_true (int_lt (in_sphere (corners ps t) (point ps e)) (pos 0)) _ h)
       where
         on_sphere : (pos 0 <ℤ residual_at ps (lifted ps) t e zero) ⊎ (residual_at ps (lifted ps) t e zero ≡ pos 0)
-            → IsLexPositive (map (residual_at ps (lifted ps) t e) (map suc (range_with_len 0 (length ps)))) → IsLexPositive (residual ps (lifted ps) t e)
+            → IsLexPositive (map (residual_at ps (lifted ps) t e) (map suc (numbers_below (length ps)))) → IsLexPositive (residual ps (lifted ps) t e)
         on_sphere (inl a) r = inl a
         on_sphere (inr z) r = inr (z, r)
 
         by : (int_lt (in_sphere (corners ps t) (point ps e)) (pos 0) ≡ true)
             ⊎ (int_le (in_sphere (corners ps t) (point ps e)) (pos 0) && list_any (λ i. list_all (nat_lt i) (alongside (corners ps t) (as_numbers t) (point ps e))) (e ∷ across (corners ps t) (as_numbers t) (point ps e)) ≡ true)
             → IsLexPositive (residual ps (lifted ps) t e)
-        by (inl l) = inl (moved _ _ first_is (below_of (in_sphere (corners ps t) (point ps e)) l))
+        by (inl l) = inl (pos_same _ _ first_is (neg_of_test (in_sphere (corners ps t) (point ps e)) l))
         by (inr l) =
             let q = both_true (int_le (in_sphere (corners ps t) (point ps e)) (pos 0)) _ l in
             on_sphere (zero_first _ (in_sphere (corners ps t) (point ps e)) first_is (le_of (in_sphere (corners ps t) (point ps e)) q.0)) (tie q.1)
@@ -377,12 +243,26 @@ lift_law ps t e on below p different = (to, from)
 
     from : IsLexPositive (residual ps (lifted ps) t e) → IsTrue (is_outside_of ps t e)
     from (inl a) = ap (λ b. b || (int_le (in_sphere (corners ps t) (point ps e)) (pos 0) && list_any (λ i. list_all (nat_lt i) (alongside (corners ps t) (as_numbers t) (point ps e))) (e ∷ across (corners ps t) (as_numbers t) (point ps e))))
-        (test_below (in_sphere (corners ps t) (point ps e)) (moved_back _ _ first_is a))
+        (test_neg (in_sphere (corners ps t) (point ps e)) (pos_same _ _ (sym first_is) a))
     from (inr r) =
         let tied = test_carried _ _ (carried (λ j. residual_at ps (lifted ps) t e (suc j)) (length ps) _ _ is_vote (subst IsLexPositive (sym rest_is) r.1)) in
         (λ j. int_lt (in_sphere (corners ps t) (point ps e)) (pos 0) || (test_le (in_sphere (corners ps t) (point ps e)) (zero_of_neg _ _ first_is r.0) j && tied j))
         ∙ or_true (int_lt (in_sphere (corners ps t) (point ps e)) (pos 0))
-      where
-        or_true : (b : Bool) → b || true ≡ true
-        or_true true = refl
-        or_true false = refl
+
+-- ---- Delaunay rows are the lowest rows
+
+pub lowest_of : (ps : List Point) (ms : List ℕ) → AreNumbersOf ps ms → (t : Tet) → IsDelaunayAmong ps ms t → IsLowestAmong ps ms (lifted ps) t
+lowest_of ps ms within t d = record {
+  is_on = d.is_on;
+  is_positive = d.is_positive;
+  is_arranged = d.is_arranged;
+  others = λ i h n. (law_lift ps t i (on_of_among ps ms t within d.is_on) (within i h) d.is_positive n).0 (d.others i h n);
+}
+
+pub delaunay_of : (ps : List Point) (ms : List ℕ) → AreNumbersOf ps ms → (t : Tet) → IsLowestAmong ps ms (lifted ps) t → IsDelaunayAmong ps ms t
+delaunay_of ps ms within t l = record {
+  is_on = l.is_on;
+  is_positive = l.is_positive;
+  is_arranged = l.is_arranged;
+  others = λ i h n. (law_lift ps t i (on_of_among ps ms t within l.is_on) (within i h) l.is_positive n).1 (l.others i h n);
+}

@@ -1,13 +1,46 @@
--- Weighted sums over the corners of a simplex, and what an affine function is at a mean of the corners.
-use Rattle.std.proofs.Common.{◌≡◌, ℕ, ℤ, pos, ◌+ℤ◌, ◌*ℤ◌, List, [], ◌∷◌, refl, ap, sym, ◌∙◌}
-use Rattle.std.specs.Prelude.{sum_by}
+-- Weighted sums over the corners of a simplex. An affine function, such as a side, has at a mean of the corners the mean of its values there.
+use Rattle.std.proofs.Common.{◌≡◌, inr, ℕ, ◌+◌, ℤ, pos, ◌+ℤ◌, ◌-ℤ◌, ◌*ℤ◌, ◌<ℤ◌, Bool, true, false, cond, List, [], ◌∷◌, refl, ap, sym, ◌∙◌, arith}
+use Rattle.std.proofs.lemmas.Int.{ints}
+use Rattle.std.specs.Prelude.{sum_by, filter}
 use Rattle.sign_predicates.specs.Point.{Point, RationalPoint}
 use Rattle.sign_predicates.specs.Orientation.{Triangle, normal, side, side_rational}
-use Rattle.geo_laws.specs.Delaunay.{point}
+use Rattle.geo_laws.specs.Delaunay.{point, numbers}
 use Rattle.geo_laws.specs.Simplex.{weighted_sum, IsMean}
-use Rattle.geo_laws.proofs.Identities.{sum-add, sum-scale, sum-const, offset, side-linear, side_rational-linear, mean-affine}
+use Rattle.geo_laws.specs.declared.tetrahedra.Tet.{Tet}
+use Rattle.geo_laws.proofs.Places.{Place, A, B, C, D, over_places, number}
+use Rattle.geo_laws.proofs.Determinants.{offset, side-linear, side_rational-linear, mean-affine}
 use Rattle.std.proofs.lemmas.List.Sums.{sum_by-cons}
-use lib.IntN.{*ℤ-zero}
+use Rattle.exact_algebra.proofs.Ring.{var, ring, same, ◌⊕◌, ◌⊖◌, ◌⊗◌}
+use Rattle.geo_laws.proofs.Members.{IsMember, here, there}
+use Rattle.geo_laws.proofs.Lexicographic.{IsLexAbove, IsLexAtLeast, at_least_add, above_add, add_above, lex_scale, natural_scale, zero_everywhere}
+use lib.IntN.{*ℤ-zero, zero-*ℤ}
+
+-- ---- sums, multiples and constants
+
+sum-add : (w f g s t : ℤ) → w *ℤ (f +ℤ g) +ℤ (s +ℤ t) ≡ (w *ℤ f +ℤ s) +ℤ (w *ℤ g +ℤ t)
+unfolding same
+sum-add w f g s t =
+    ring (var 0 ⊗ (var 1 ⊕ var 2) ⊕ (var 3 ⊕ var 4)) ((var 0 ⊗ var 1 ⊕ var 3) ⊕ (var 0 ⊗ var 2 ⊕ var 4)) tt (w ∷ f ∷ g ∷ s ∷ t ∷ [])
+
+sum-scale : (w c f s : ℤ) → w *ℤ (c *ℤ f) +ℤ c *ℤ s ≡ c *ℤ (w *ℤ f +ℤ s)
+unfolding same
+sum-scale w c f s =
+    ring (var 0 ⊗ (var 1 ⊗ var 2) ⊕ var 1 ⊗ var 3) (var 1 ⊗ (var 0 ⊗ var 2 ⊕ var 3)) tt (w ∷ c ∷ f ∷ s ∷ [])
+
+sum-const : (w c t : ℤ) → w *ℤ c +ℤ c *ℤ t ≡ c *ℤ (w +ℤ t)
+unfolding same
+sum-const w c t =
+    ring (var 0 ⊗ var 1 ⊕ var 1 ⊗ var 2) (var 1 ⊗ (var 0 ⊕ var 2)) tt (w ∷ c ∷ t ∷ [])
+
+sum-sub : (w f g s t : ℤ) → w *ℤ (f -ℤ g) +ℤ (s -ℤ t) ≡ (w *ℤ f +ℤ s) -ℤ (w *ℤ g +ℤ t)
+unfolding same
+sum-sub w f g s t =
+    ring (var 0 ⊗ (var 1 ⊖ var 2) ⊕ (var 3 ⊖ var 4)) ((var 0 ⊗ var 1 ⊕ var 3) ⊖ (var 0 ⊗ var 2 ⊕ var 4)) tt (w ∷ f ∷ g ∷ s ∷ t ∷ [])
+
+sum-times : (w f c s : ℤ) → w *ℤ (f *ℤ c) +ℤ s *ℤ c ≡ (w *ℤ f +ℤ s) *ℤ c
+unfolding same
+sum-times w f c s =
+    ring (var 0 ⊗ (var 1 ⊗ var 2) ⊕ var 3 ⊗ var 2) ((var 0 ⊗ var 1 ⊕ var 3) ⊗ var 2) tt (w ∷ f ∷ c ∷ s ∷ [])
 
 pub weighted_sum-add : (weight : ℕ → ℕ) (f g : ℕ → ℤ) (s : List ℕ) → weighted_sum weight (λ i. f i +ℤ g i) s ≡ weighted_sum weight f s +ℤ weighted_sum weight g s
 weighted_sum-add weight f g [] = refl
@@ -22,6 +55,27 @@ weighted_sum-const weight c [] = sym (*ℤ-zero c)
 weighted_sum-const weight c (i ∷ s) =
     ap (λ r. pos (weight i) *ℤ c +ℤ r) (weighted_sum-const weight c s) ∙ sum-const (pos (weight i)) c (pos (sum_by weight s))
     ∙ ap (λ n. c *ℤ pos n) (sym (sum_by-cons weight i s))
+
+pub weighted_sum-sub : (weight : ℕ → ℕ) (f g : ℕ → ℤ) (s : List ℕ) → weighted_sum weight (λ i. f i -ℤ g i) s ≡ weighted_sum weight f s -ℤ weighted_sum weight g s
+weighted_sum-sub weight f g [] = refl
+weighted_sum-sub weight f g (i ∷ s) = ap (λ r. pos (weight i) *ℤ (f i -ℤ g i) +ℤ r) (weighted_sum-sub weight f g s) ∙ sum-sub (pos (weight i)) (f i) (g i) (weighted_sum weight f s) (weighted_sum weight g s)
+
+pub weighted_sum-times : (weight : ℕ → ℕ) (f : ℕ → ℤ) (c : ℤ) (s : List ℕ) → weighted_sum weight (λ i. f i *ℤ c) s ≡ weighted_sum weight f s *ℤ c
+weighted_sum-times weight f c [] = sym (zero-*ℤ c)
+weighted_sum-times weight f c (i ∷ s) = ap (λ r. pos (weight i) *ℤ (f i *ℤ c) +ℤ r) (weighted_sum-times weight f c s) ∙ sum-times (pos (weight i)) (f i) c (weighted_sum weight f s)
+
+pub weighted_sum-places : (weight : ℕ → ℕ) (f : Place → ℕ → ℤ) (s : List ℕ) → weighted_sum weight (λ i. over_places (λ u. f u i)) s ≡ over_places (λ u. weighted_sum weight (f u) s)
+weighted_sum-places weight f s =
+    weighted_sum-add weight (λ i. f A i +ℤ f B i +ℤ f C i) (f D) s
+    ∙ ap (λ q. q +ℤ weighted_sum weight (f D) s) (weighted_sum-add weight (λ i. f A i +ℤ f B i) (f C) s
+    ∙ ap (λ q. q +ℤ weighted_sum weight (f C) s) (weighted_sum-add weight (f A) (f B) s))
+
+-- over the corners of a tetrahedron
+pub weighted_sum-numbers : (weight : ℕ → ℕ) (f : ℕ → ℤ) (t : Tet) → weighted_sum weight f (numbers t) ≡ over_places (λ u. pos (weight (number t u)) *ℤ f (number t u))
+weighted_sum-numbers weight f t = shape (pos (weight t.a) *ℤ f t.a) (pos (weight t.b) *ℤ f t.b) (pos (weight t.c) *ℤ f t.c) (pos (weight t.d) *ℤ f t.d)
+  where
+    shape : (a b c d : ℤ) → a +ℤ (b +ℤ (c +ℤ (d +ℤ pos 0))) ≡ a +ℤ b +ℤ c +ℤ d
+    shape a b c d = omega (arith, ints)
 
 pub weighted_sum-same : (weight : ℕ → ℕ) (f g : ℕ → ℤ) (s : List ℕ) → ((i : ℕ) → f i ≡ g i) → weighted_sum weight f s ≡ weighted_sum weight g s
 weighted_sum-same weight f g s e = λ j. weighted_sum weight (λ i. e i j) s
@@ -50,3 +104,50 @@ side-mean ps weight f s x mean =
     ap (λ r. r *ℤ x.w) (weighted_sum-side ps weight f s)
     ∙ mean-affine (normal f).x (normal f).y (normal f).z (offset f) _ _ _ (pos (sum_by weight s)) x.w x.x x.y x.z mean.x_is mean.y_is mean.z_is
     ∙ ap (λ r. r *ℤ pos (sum_by weight s)) (sym (side_rational-linear f x))
+
+-- ---- sums over the numbers that pass a test, where the others have no weight
+
+zero-weight : (w : ℕ) (n r : ℤ) → w ≡ 0 → r ≡ pos w *ℤ n +ℤ r
+zero-weight w n r e = drop_zero r ∙ ap (λ q. q +ℤ r) (sym (ap (λ v. pos v *ℤ n) e ∙ zero-*ℤ n))
+  where
+    drop_zero : (r : ℤ) → r ≡ pos 0 +ℤ r
+    drop_zero r = omega (arith, ints)
+
+pub weighted_sum-filter : (weight : ℕ → ℕ) (f : ℕ → ℤ) (test : ℕ → Bool) (s : List ℕ) → ((i : ℕ) → IsMember i s → test i ≡ false → weight i ≡ 0)
+    → weighted_sum weight f (filter test s) ≡ weighted_sum weight f s
+weighted_sum-filter weight f test [] h = refl
+weighted_sum-filter weight f test (i ∷ s) h = go (test i) refl (weighted_sum-filter weight f test s (λ j m. h j (there m)))
+  where
+    go : (b : Bool) → test i ≡ b → weighted_sum weight f (filter test s) ≡ weighted_sum weight f s
+        → weighted_sum weight f (cond b (i ∷ filter test s) (filter test s)) ≡ weighted_sum weight f (i ∷ s)
+    go true e rest = ap (λ q. pos (weight i) *ℤ f i +ℤ q) rest
+    go false e rest = rest ∙ zero-weight (weight i) (f i) (weighted_sum weight f s) (h i here e)
+
+pub sum_by-filter : (weight : ℕ → ℕ) (test : ℕ → Bool) (s : List ℕ) → ((i : ℕ) → IsMember i s → test i ≡ false → weight i ≡ 0)
+    → sum_by weight (filter test s) ≡ sum_by weight s
+sum_by-filter weight test [] h = refl
+sum_by-filter weight test (i ∷ s) h = go (test i) refl (sum_by-filter weight test s (λ j m. h j (there m)))
+  where
+    go : (b : Bool) → test i ≡ b → sum_by weight (filter test s) ≡ sum_by weight s → sum_by weight (cond b (i ∷ filter test s) (filter test s)) ≡ sum_by weight (i ∷ s)
+    go true e rest = sum_by-cons weight i (filter test s) ∙ ap (λ q. weight i + q) rest ∙ sym (sum_by-cons weight i s)
+    go false e rest = let w = h i here e in let c = sum_by-cons weight i s in omega arith
+
+-- ---- sums of lists of numbers that are at least 0
+
+pub weighted_sum-at_least : (weight : ℕ → ℕ) (f : ℕ → ℕ → ℤ) (ks s : List ℕ) → ((i : ℕ) → IsMember i s → IsLexAtLeast (f i) ks)
+    → IsLexAtLeast (λ k. weighted_sum weight (λ i. f i k) s) ks
+weighted_sum-at_least weight f ks [] h = inr (zero_everywhere (λ k. pos 0) ks (λ k. refl))
+weighted_sum-at_least weight f ks (i ∷ s) h =
+    at_least_add (λ k. pos (weight i) *ℤ f i k) (λ k. weighted_sum weight (λ j. f j k) s) ks
+    (natural_scale (weight i) (f i) ks (h i here)) (weighted_sum-at_least weight f ks s (λ j m. h j (there m)))
+
+-- one part above 0 that weighs makes the sum so
+pub weighted_sum-above : (weight : ℕ → ℕ) (f : ℕ → ℕ → ℤ) (ks s : List ℕ) → ((i : ℕ) → IsMember i s → IsLexAtLeast (f i) ks)
+    → (j : ℕ) → IsMember j s → pos 0 <ℤ pos (weight j) → IsLexAbove (f j) ks → IsLexAbove (λ k. weighted_sum weight (λ i. f i k) s) ks
+weighted_sum-above weight f ks [] h j m w a = elim m [ ]
+weighted_sum-above weight f ks (j ∷ s) h j' here w a =
+    above_add (λ k. pos (weight j) *ℤ f j k) (λ k. weighted_sum weight (λ i. f i k) s) ks
+    (lex_scale (pos (weight j)) (f j) ks w a) (weighted_sum-at_least weight f ks s (λ i m. h i (there m)))
+weighted_sum-above weight f ks (i ∷ s) h j (there m) w a =
+    add_above (λ k. pos (weight i) *ℤ f i k) (λ k. weighted_sum weight (λ e. f e k) s) ks
+    (natural_scale (weight i) (f i) ks (h i here)) (weighted_sum-above weight f ks s (λ e n. h e (there n)) j m w a)

@@ -1,105 +1,52 @@
--- Near a point of a closed tetrahedron there is one strictly inside and off all the given planes.
+-- Near a point x of a closed tetrahedron there is one strictly inside and off all the given planes, on the side of x where x is off a plane.
+-- By induction over the planes: let y be good for the planes so far, and f the next. Where x is off f, a large multiple of x plus y is good. Where both
+-- are on f, some corner v is off f, and a large multiple of y plus v is good. A multiple is large once it exceeds the sides at the planes so far.
 use Rattle.std.proofs.Common.{◌≡◌, ◌≢◌, ◌⊎◌, inl, inr, ℕ, ◌+◌, ◌<◌, ◌≤◌, ℤ, pos, negsuc, neg_ℤ, nat_abs, ◌+ℤ◌, ◌*ℤ◌, ◌<ℤ◌, ◌≤ℤ◌, List, [], ◌∷◌, refl, ap, sym, ◌∙◌, arith}
 use Rattle.std.specs.List.{AllByRecursion}
 use Rattle.std.proofs.lemmas.Int.{ints}
-use Rattle.sign_predicates.specs.Point.{Point, RationalPoint, SomeRational, as_rational}
-use Rattle.sign_predicates.specs.Orientation.{Triangle, volume, normal, side, side_rational, opposite_a, opposite_b, opposite_c, opposite_d, IsPositive, StrictlyInside, InClosed, SpansPlane}
+use lib.IntN.{*ℤ-zero}
+use Rattle.exact_algebra.proofs.Signs.{mul_pos, mul_nonneg, sign_of, zero_or_not, nonneg_of_pos, pos_not_zero, pos_same, neg_same, nonneg_same, squares_zero, zero_of_mul, multiple_above, multiple_below}
+use Rattle.sign_predicates.specs.Point.{RationalPoint, SomeRational, as_rational}
+use Rattle.sign_predicates.specs.Orientation.{Triangle, volume, normal, side, side_rational, IsPositive, StrictlyInside, InClosed, SpansPlane}
 use Rattle.sign_predicates.specs.declared.tetrahedron.Corners.{Corners}
 use Rattle.geo_laws.specs.Laws.{KeepsSide, NudgeLaw}
-use Rattle.geo_laws.proofs.Identities as ring
-use Rattle.geo_laws.proofs.Identities.{combined, middle, off_plane, side_rational-combined, side_rational-as_rational}
-use lib.IntN.{*ℤ-zero}
-use Rattle.geo_laws.proofs.Signs.{mul_pos, sign_of, squares_zero, zero_factor, multiple_above, multiple_below}
+use Rattle.geo_laws.proofs.Places.{Place, A, B, C, D, IsOther, same_or_other, corner, opposite, at_face, all_faces, sum-none}
+use Rattle.geo_laws.proofs.Determinants.{combined, middle, off_plane, side-own, side-other, side-middle, weights-side, side_rational-combined, side_rational-as_rational, side_rational-off_plane}
 
 -- ---- a corner off a plane
 
--- a corner with its place in the closed tetrahedron
-record CornerOff (t : Corners) (f : Triangle) : Type 0 where
-  corner : Point
-  in_closed : InClosed t (as_rational corner)
-  off : side f corner ≢ pos 0
-
-at_least_zero : (a b : ℤ) → a ≡ b → b ≡ pos 0 → pos 0 ≤ℤ a
-at_least_zero a b e d = omega (arith, ints)
-
-at_least_volume : (a b v : ℤ) → a ≡ b → b ≡ v → pos 0 <ℤ v → pos 0 ≤ℤ a
-at_least_volume a b v e d h = omega (arith, ints)
-
-closed_a : (t : Corners) → IsPositive t → InClosed t (as_rational t.a)
-closed_a t p = (
-  at_least_volume _ _ _ (side_rational-as_rational (opposite_a t) t.a) (ring.side-a_a t) p,
-  (
-    at_least_zero _ _ (side_rational-as_rational (opposite_b t) t.a) (ring.side-b_a t),
-    (
-      at_least_zero _ _ (side_rational-as_rational (opposite_c t) t.a) (ring.side-c_a t),
-      (at_least_zero _ _ (side_rational-as_rational (opposite_d t) t.a) (ring.side-d_a t), tt),
-    ),
-  ),
-)
-
-closed_b : (t : Corners) → IsPositive t → InClosed t (as_rational t.b)
-closed_b t p = (
-  at_least_zero _ _ (side_rational-as_rational (opposite_a t) t.b) (ring.side-a_b t),
-  (
-    at_least_volume _ _ _ (side_rational-as_rational (opposite_b t) t.b) (ring.side-b_b t) p,
-    (
-      at_least_zero _ _ (side_rational-as_rational (opposite_c t) t.b) (ring.side-c_b t),
-      (at_least_zero _ _ (side_rational-as_rational (opposite_d t) t.b) (ring.side-d_b t), tt),
-    ),
-  ),
-)
-
-closed_c : (t : Corners) → IsPositive t → InClosed t (as_rational t.c)
-closed_c t p = (
-  at_least_zero _ _ (side_rational-as_rational (opposite_a t) t.c) (ring.side-a_c t),
-  (
-    at_least_zero _ _ (side_rational-as_rational (opposite_b t) t.c) (ring.side-b_c t),
-    (
-      at_least_volume _ _ _ (side_rational-as_rational (opposite_c t) t.c) (ring.side-c_c t) p,
-      (at_least_zero _ _ (side_rational-as_rational (opposite_d t) t.c) (ring.side-d_c t), tt),
-    ),
-  ),
-)
-
-closed_d : (t : Corners) → IsPositive t → InClosed t (as_rational t.d)
-closed_d t p = (
-  at_least_zero _ _ (side_rational-as_rational (opposite_a t) t.d) (ring.side-a_d t),
-  (
-    at_least_zero _ _ (side_rational-as_rational (opposite_b t) t.d) (ring.side-b_d t),
-    (
-      at_least_zero _ _ (side_rational-as_rational (opposite_c t) t.d) (ring.side-c_d t),
-      (at_least_volume _ _ _ (side_rational-as_rational (opposite_d t) t.d) (ring.side-d_d t) p, tt),
-    ),
-  ),
-)
-
-zero_or_not : (n : ℤ) → (n ≡ pos 0) ⊎ (n ≢ pos 0)
-zero_or_not n = go (sign_of n)
+closed_corner : (t : Corners) → IsPositive t → (v : Place) → InClosed t (as_rational (corner t v))
+closed_corner t p v = all_faces (λ f. pos 0 ≤ℤ side_rational f (as_rational (corner t v))) t (λ u. by u (same_or_other u v))
   where
-    go : (pos 0 <ℤ n) ⊎ ((n ≡ pos 0) ⊎ (pos 0 <ℤ neg_ℤ n)) → (n ≡ pos 0) ⊎ (n ≢ pos 0)
-    go (inl h) = inr (λ e. omega (arith, ints))
-    go (inr (inl e)) = inl e
-    go (inr (inr h)) = inr (λ e. omega (arith, ints))
+    by : (u : Place) → (u ≡ v) ⊎ IsOther u v → pos 0 ≤ℤ side_rational (opposite t u) (as_rational (corner t v))
+    by u (inl e) = nonneg_same _ _ (side_rational-as_rational (opposite t u) (corner t v) ∙ ap (λ w. side (opposite t w) (corner t v)) e ∙ side-own t v) (nonneg_of_pos (volume t) p)
+    by u (inr o) = nonneg_same _ (pos 0) (side_rational-as_rational (opposite t u) (corner t v) ∙ side-other t u v o) (omega (arith, ints))
 
 -- where all corners lie on a plane, so does every point, and then it is no plane
-no_plane : (t : Corners) (f : Triangle) → IsPositive t → SpansPlane f → side f t.a ≡ pos 0 → side f t.b ≡ pos 0 → side f t.c ≡ pos 0 → side f t.d ≡ pos 0 → ⊥
-no_plane t f p spans ea eb ec ed =
+no_plane : (t : Corners) (f : Triangle) → IsPositive t → SpansPlane f → ((u : Place) → side f (corner t u) ≡ pos 0) → ⊥
+no_plane t f p spans on =
     let x = off_plane f in
-    let sum = (λ j. side_rational (opposite_a t) x *ℤ sym ea j +ℤ (side_rational (opposite_b t) x *ℤ sym eb j +ℤ (side_rational (opposite_c t) x *ℤ sym ec j +ℤ side_rational (opposite_d t) x *ℤ sym ed j)))
-    ∙ ring.sides-combine t f x in
-    let product : volume t *ℤ side_rational f x ≡ pos 0 = sym sum ∙ ring.sum-zero (side_rational (opposite_a t) x) (side_rational (opposite_b t) x) (side_rational (opposite_c t) x) (side_rational (opposite_d t) x) in
-    let squares = squares_zero (normal f).x (normal f).y (normal f).z (sym (ring.side_rational-off_plane f) ∙ zero_factor (volume t) (side_rational f x) p product) in
-    spans squares
+    let part = λ (u : Place). side_rational (opposite t u) x *ℤ side f (corner t u) in
+    let none = sum-none part (λ u. ap (λ n. side_rational (opposite t u) x *ℤ n) (on u) ∙ *ℤ-zero (side_rational (opposite t u) x)) in
+    spans (squares_zero (normal f).x (normal f).y (normal f).z (sym (side_rational-off_plane f) ∙ zero_of_mul (volume t) (side_rational f x) p (sym (weights-side t f x) ∙ none)))
 
-corner_off : (t : Corners) (f : Triangle) → IsPositive t → SpansPlane f → CornerOff t f
+-- so some corner is off a plane
+corner_off : (t : Corners) (f : Triangle) → IsPositive t → SpansPlane f → (v : Place) × (side f (corner t v) ≢ pos 0)
 corner_off t f p spans = go (zero_or_not (side f t.a)) (zero_or_not (side f t.b)) (zero_or_not (side f t.c)) (zero_or_not (side f t.d))
   where
-    go : (side f t.a ≡ pos 0) ⊎ (side f t.a ≢ pos 0) → (side f t.b ≡ pos 0) ⊎ (side f t.b ≢ pos 0) → (side f t.c ≡ pos 0) ⊎ (side f t.c ≢ pos 0) → (side f t.d ≡ pos 0) ⊎ (side f t.d ≢ pos 0) → CornerOff t f
-    go (inr h) b c d = record { corner = t.a; in_closed = closed_a t p; off = h }
-    go (inl a) (inr h) c d = record { corner = t.b; in_closed = closed_b t p; off = h }
-    go (inl a) (inl b) (inr h) d = record { corner = t.c; in_closed = closed_c t p; off = h }
-    go (inl a) (inl b) (inl c) (inr h) = record { corner = t.d; in_closed = closed_d t p; off = h }
-    go (inl a) (inl b) (inl c) (inl d) = absurd (no_plane t f p spans a b c d)
+    all : side f t.a ≡ pos 0 → side f t.b ≡ pos 0 → side f t.c ≡ pos 0 → side f t.d ≡ pos 0 → (u : Place) → side f (corner t u) ≡ pos 0
+    all a b c d A = a
+    all a b c d B = b
+    all a b c d C = c
+    all a b c d D = d
+
+    go : (side f t.a ≡ pos 0) ⊎ (side f t.a ≢ pos 0) → (side f t.b ≡ pos 0) ⊎ (side f t.b ≢ pos 0) → (side f t.c ≡ pos 0) ⊎ (side f t.c ≢ pos 0) → (side f t.d ≡ pos 0) ⊎ (side f t.d ≢ pos 0)
+        → (v : Place) × (side f (corner t v) ≢ pos 0)
+    go (inr h) b c d = (A, h)
+    go (inl a) (inr h) c d = (B, h)
+    go (inl a) (inl b) (inr h) d = (C, h)
+    go (inl a) (inl b) (inl c) (inr h) = (D, h)
+    go (inl a) (inl b) (inl c) (inl d) = absurd (no_plane t f p spans (all a b c d))
 
 -- ---- combinations
 
@@ -109,12 +56,8 @@ positive_sum s m b e h k = omega (arith, ints)
 sum_positive : (s m b : ℤ) → s ≡ m +ℤ b → pos 0 ≤ℤ m → pos 0 <ℤ b → pos 0 <ℤ s
 sum_positive s m b e h k = omega (arith, ints)
 
-not_negative : (m : ℕ) → pos 0 ≤ℤ negsuc m → ⊥
-not_negative m h = omega (arith, ints)
-
 natural_at_least : (n : ℕ) (a : ℤ) → pos 0 ≤ℤ a → pos 0 ≤ℤ (pos n *ℤ a)
-natural_at_least n (pos m) h = omega (arith, ints)
-natural_at_least n (negsuc m) h = absurd (not_negative m h)
+natural_at_least n a h = mul_nonneg (pos n) a (omega (arith, ints)) h
 
 -- the side of a combination: one part above 0 and the other at least 0
 above-first : (f : Triangle) (n : ℕ) (x y : RationalPoint) → 0 < n → pos 0 <ℤ side_rational f x → pos 0 ≤ℤ side_rational f y → pos 0 <ℤ side_rational f (combined (pos n) x y)
@@ -129,37 +72,18 @@ above-second f n x y h k =
 
 -- a multiple of a point strictly inside, and a point of the closed tetrahedron
 inside-closed : (t : Corners) (n : ℕ) (x y : RationalPoint) → 0 < n → StrictlyInside t x → InClosed t y → StrictlyInside t (combined (pos n) x y)
-inside-closed t n x y l h k = (
-  above-first (opposite_a t) n x y l h.0 k.0,
-  (
-    above-first (opposite_b t) n x y l h.1.0 k.1.0,
-    (above-first (opposite_c t) n x y l h.1.1.0 k.1.1.0, (above-first (opposite_d t) n x y l h.1.1.1.0 k.1.1.1.0, tt)),
-  ),
-)
+inside-closed t n x y l h k =
+    all_faces (λ f. pos 0 <ℤ side_rational f (combined (pos n) x y)) t (λ u. above-first (opposite t u) n x y l (at_face (λ f. pos 0 <ℤ side_rational f x) t h u) (at_face (λ f. pos 0 ≤ℤ side_rational f y) t k u))
 
 -- a multiple of a point of the closed tetrahedron, and a point strictly inside
 closed-inside : (t : Corners) (n : ℕ) (x y : RationalPoint) → InClosed t x → StrictlyInside t y → StrictlyInside t (combined (pos n) x y)
-closed-inside t n x y h k = (
-  above-second (opposite_a t) n x y h.0 k.0,
-  (
-    above-second (opposite_b t) n x y h.1.0 k.1.0,
-    (above-second (opposite_c t) n x y h.1.1.0 k.1.1.0, (above-second (opposite_d t) n x y h.1.1.1.0 k.1.1.1.0, tt)),
-  ),
-)
+closed-inside t n x y h k =
+    all_faces (λ f. pos 0 <ℤ side_rational f (combined (pos n) x y)) t (λ u. above-second (opposite t u) n x y (at_face (λ f. pos 0 ≤ℤ side_rational f x) t h u) (at_face (λ f. pos 0 <ℤ side_rational f y) t k u))
 
 combined_w : (n : ℕ) (x y : RationalPoint) → pos 0 <ℤ x.w → pos 0 <ℤ y.w → pos 0 <ℤ (combined (pos n) x y).w
-combined_w n x y h k = sum_positive (pos n *ℤ x.w +ℤ y.w) (pos n *ℤ x.w) y.w refl (natural_at_least n x.w (weak x.w h)) k
-  where
-    weak : (a : ℤ) → pos 0 <ℤ a → pos 0 ≤ℤ a
-    weak a h = omega (arith, ints)
+combined_w n x y h k = sum_positive (pos n *ℤ x.w +ℤ y.w) (pos n *ℤ x.w) y.w refl (natural_at_least n x.w (nonneg_of_pos x.w h)) k
 
 -- ---- what a combination keeps
-
-moved_above : (s t : ℤ) → s ≡ t → pos 0 <ℤ t → pos 0 <ℤ s
-moved_above s t e h = omega (arith, ints)
-
-moved_below : (s t : ℤ) → s ≡ t → t <ℤ pos 0 → s <ℤ pos 0
-moved_below s t e h = omega (arith, ints)
 
 is_off : (s : ℤ) → (pos 0 <ℤ s) ⊎ (s <ℤ pos 0) → s ≢ pos 0
 is_off s (inl h) = λ e. omega (arith, ints)
@@ -175,8 +99,8 @@ from_neg s h = omega (arith, ints)
 keeps-large : (f : Triangle) (n : ℕ) (x y : RationalPoint) → nat_abs (side_rational f y) < n → side_rational f x ≢ pos 0 → KeepsSide x (combined (pos n) x y) f
 keeps-large f n x y l off = record {
   off = is_off (side_rational f (combined (pos n) x y)) (go (sign_of (side_rational f x)));
-  above = λ h. moved_above (side_rational f (combined (pos n) x y)) _ e (multiple_above n (side_rational f x) (side_rational f y) l h);
-  below = λ h. moved_below (side_rational f (combined (pos n) x y)) _ e (multiple_below n (side_rational f x) (side_rational f y) l h);
+  above = λ h. pos_same (side_rational f (combined (pos n) x y)) _ e (multiple_above n (side_rational f x) (side_rational f y) l h);
+  below = λ h. neg_same (side_rational f (combined (pos n) x y)) _ e (multiple_below n (side_rational f x) (side_rational f y) l h);
 }
   where
     e : side_rational f (combined (pos n) x y) ≡ pos n *ℤ side_rational f x +ℤ side_rational f y
@@ -184,9 +108,9 @@ keeps-large f n x y l off = record {
 
     go : (pos 0 <ℤ side_rational f x) ⊎ ((side_rational f x ≡ pos 0) ⊎ (pos 0 <ℤ neg_ℤ (side_rational f x)))
         → (pos 0 <ℤ side_rational f (combined (pos n) x y)) ⊎ (side_rational f (combined (pos n) x y) <ℤ pos 0)
-    go (inl h) = inl (moved_above (side_rational f (combined (pos n) x y)) _ e (multiple_above n (side_rational f x) (side_rational f y) l h))
+    go (inl h) = inl (pos_same (side_rational f (combined (pos n) x y)) _ e (multiple_above n (side_rational f x) (side_rational f y) l h))
     go (inr (inl z)) = absurd (off z)
-    go (inr (inr h)) = inr (moved_below (side_rational f (combined (pos n) x y)) _ e (multiple_below n (side_rational f x) (side_rational f y) l (from_neg (side_rational f x) h)))
+    go (inr (inr h)) = inr (neg_same (side_rational f (combined (pos n) x y)) _ e (multiple_below n (side_rational f x) (side_rational f y) l (from_neg (side_rational f x) h)))
 
 -- to keep the side of a point that keeps it
 keeps-trans : (f : Triangle) (x y z : RationalPoint) → KeepsSide x y f → KeepsSide y z f → KeepsSide x z f
@@ -205,9 +129,6 @@ keeps-toward f n x y k = go (sign_of (side_rational f x))
     below_sum : (s m b : ℤ) → s ≡ m +ℤ b → m ≤ℤ pos 0 → b <ℤ pos 0 → s <ℤ pos 0
     below_sum s m b e h k = omega (arith, ints)
 
-    not_above : (s : ℤ) → s ≡ pos 0 → pos 0 <ℤ s → ⊥
-    not_above s e h = omega (arith, ints)
-
     not_below : (s : ℤ) → s ≡ pos 0 → s <ℤ pos 0 → ⊥
     not_below s e h = omega (arith, ints)
 
@@ -218,16 +139,13 @@ keeps-toward f n x y k = go (sign_of (side_rational f x))
     natural_at_most n (pos m) h = absurd (omega (arith, ints))
     natural_at_most n (negsuc m) h = omega (arith, ints)
 
-    weak : (a : ℤ) → pos 0 <ℤ a → pos 0 ≤ℤ a
-    weak a h = omega (arith, ints)
-
     go : (pos 0 <ℤ side_rational f x) ⊎ ((side_rational f x ≡ pos 0) ⊎ (pos 0 <ℤ neg_ℤ (side_rational f x))) → KeepsSide x (combined (pos n) x y) f
     go (inl h) =
-        let a = above-second f n x y (weak (side_rational f x) h) (k.above h) in
+        let a = above-second f n x y (nonneg_of_pos (side_rational f x) h) (k.above h) in
         record { off = is_off _ (inl a); above = λ _. a; below = λ b. absurd (not_both _ h b) }
     go (inr (inl z)) =
         let s = zero_part (pos n *ℤ side_rational f x) (side_rational f y) (side_rational f (combined (pos n) x y)) e (product_zero z) in
-        record { off = λ w. k.off (sym s ∙ w); above = λ a. absurd (not_above _ z a); below = λ b. absurd (not_below _ z b) }
+        record { off = λ w. k.off (sym s ∙ w); above = λ a. absurd (pos_not_zero _ a z); below = λ b. absurd (not_below _ z b) }
     go (inr (inr h)) =
         let b = below_sum (side_rational f (combined (pos n) x y)) (pos n *ℤ side_rational f x) (side_rational f y) e (natural_at_most n (side_rational f x) (from_neg (side_rational f x) h)) (k.below (from_neg (side_rational f x) h)) in
         record { off = is_off _ (inr b); above = λ a. absurd (not_both _ a (from_neg (side_rational f x) h)); below = λ _. b }
@@ -256,11 +174,7 @@ all-large (f ∷ fs) n x y z l k =
 
 -- the middle is strictly inside
 middle_inside : (t : Corners) → IsPositive t → StrictlyInside t (middle t)
-middle_inside t p =
-    (moved_above _ _ (ring.side-a_middle t) p, (moved_above _ _ (ring.side-b_middle t) p, (moved_above _ _ (ring.side-c_middle t) p, (moved_above _ _ (ring.side-d_middle t) p, tt))))
-
-closed_of_corner : (t : Corners) (f : Triangle) (c : CornerOff t f) → InClosed t (as_rational c.corner)
-closed_of_corner t f c = c.in_closed
+middle_inside t p = all_faces (λ f. pos 0 <ℤ side_rational f (middle t)) t (λ u. pos_same _ _ (side-middle t u) p)
 
 only_second : (n a b s : ℤ) → s ≡ n *ℤ a +ℤ b → a ≡ pos 0 → b ≡ s
 only_second n a b s e z = drop_zero (n *ℤ a) b s e (ap (λ q. n *ℤ q) z ∙ *ℤ-zero n)
@@ -268,9 +182,9 @@ only_second n a b s e z = drop_zero (n *ℤ a) b s e (ap (λ q. n *ℤ q) z ∙ 
     drop_zero : (m b s : ℤ) → s ≡ m +ℤ b → m ≡ pos 0 → b ≡ s
     drop_zero m b s e z = omega (arith, ints)
 
-pub nudge : NudgeLaw
-nudge t p [] spans x w closed = (combined (pos 1) x (middle t), combined_w 1 x (middle t) w (omega (arith, ints)), (closed-inside t 1 x (middle t) closed (middle_inside t p), tt))
-nudge t p (f ∷ fs) spans x w closed = go (nudge t p fs spans.1 x w closed)
+pub law_nudge : NudgeLaw
+law_nudge t p [] spans x w closed = (combined (pos 1) x (middle t), combined_w 1 x (middle t) w (omega (arith, ints)), (closed-inside t 1 x (middle t) closed (middle_inside t p), tt))
+law_nudge t p (f ∷ fs) spans x w closed = go (law_nudge t p fs spans.1 x w closed)
   where
     go : SomeRational (λ y. StrictlyInside t y × AllByRecursion (KeepsSide x y) fs) → SomeRational (λ y. StrictlyInside t y × AllByRecursion (KeepsSide x y) (f ∷ fs))
     go some = by_side (zero_or_not (side_rational f x)) (zero_or_not (side_rational f some.0))
@@ -280,11 +194,8 @@ nudge t p (f ∷ fs) spans x w closed = go (nudge t p fs spans.1 x w closed)
 
         -- x lies on the plane
         on_plane : side_rational f x ≡ pos 0 → (z : RationalPoint) → side_rational f z ≢ pos 0 → KeepsSide x z f
-        on_plane e z off = record { off = off; above = λ a. absurd (no_above (side_rational f x) e a); below = λ b. absurd (no_below (side_rational f x) e b) }
+        on_plane e z off = record { off = off; above = λ a. absurd (pos_not_zero (side_rational f x) a e); below = λ b. absurd (no_below (side_rational f x) e b) }
           where
-            no_above : (s : ℤ) → s ≡ pos 0 → pos 0 <ℤ s → ⊥
-            no_above s e h = omega (arith, ints)
-
             no_below : (s : ℤ) → s ≡ pos 0 → s <ℤ pos 0 → ⊥
             no_below s e h = omega (arith, ints)
 
@@ -302,10 +213,10 @@ nudge t p (f ∷ fs) spans x w closed = go (nudge t p fs spans.1 x w closed)
         by_side (inl on) (inr off) = (some.0, some.1, (some.2.0, (on_plane on some.0 off, some.2.1)))
         by_side (inl on) (inl on_y) =
             let c = corner_off t f p spans.0 in
-            let v = as_rational c.corner in
+            let v = as_rational (corner t c.0) in
             let n = bound fs v in
-            let off_v : side_rational f (combined (pos n) some.0 v) ≢ pos 0 = λ e. c.off (sym (side_rational-as_rational f c.corner) ∙ only_second (pos n) (side_rational f some.0) (side_rational f v) _ (side_rational-combined f (pos n) some.0 v) on_y ∙ e) in (
+            let off_v : side_rational f (combined (pos n) some.0 v) ≢ pos 0 = λ e. c.1 (sym (side_rational-as_rational f (corner t c.0)) ∙ only_second (pos n) (side_rational f some.0) (side_rational f v) _ (side_rational-combined f (pos n) some.0 v) on_y ∙ e) in (
               combined (pos n) some.0 v,
               combined_w n some.0 v some.1 (omega (arith, ints)),
-              (inside-closed t n some.0 v (bound_above fs v) some.2.0 c.in_closed, (on_plane on (combined (pos n) some.0 v) off_v, all-large fs n x some.0 v (omega arith) some.2.1)),
+              (inside-closed t n some.0 v (bound_above fs v) some.2.0 (closed_corner t p c.0), (on_plane on (combined (pos n) some.0 v) off_v, all-large fs n x some.0 v (omega arith) some.2.1)),
             )

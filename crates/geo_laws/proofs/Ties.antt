@@ -1,10 +1,11 @@
--- A list of votes is decided by the first that is not 0: the least number with a vote, if that vote is for.
+-- The rule for ties over lists of numbers: a list is above 0 exactly where the least number that has a vote has one for, so where some number
+-- for is less than all numbers against. A place with a number above 0 is a vote for, one with a number below 0 a vote against.
 use Rattle.std.proofs.Common.{◌≡◌, ◌⊎◌, inl, inr, ℕ, zero, suc, ◌+◌, ◌<◌, ◌≤◌, ℤ, pos, neg_ℤ, ◌<ℤ◌, Bool, true, false, nat_lt, List, map, refl, ap, sym, subst, ◌∙◌, arith, ltb-true}
 use Rattle.std.specs.List.{range_with_len}
 use Rattle.std.proofs.lemmas.Int.{ints}
 use Rattle.geo_laws.specs.Height.{IsLexPositive}
-use Rattle.geo_laws.proofs.Signs.{sign_of}
-use Rattle.geo_laws.proofs.Corners.{IsIn}
+use Rattle.exact_algebra.proofs.Signs.{sign_of}
+use Rattle.geo_laws.proofs.Members.{IsMember, at_or_after}
 
 -- ---- the first number that is not 0
 
@@ -14,13 +15,6 @@ pub record FirstAbove (f : ℕ → ℤ) (low n : ℕ) : Type 0 where
   pub below : place < low + n
   pub is_above : pos 0 <ℤ f place
   pub zeros : (j : ℕ) → low ≤ j → j < place → f j ≡ pos 0
-
-pub at_or_after : (low j : ℕ) → low ≤ j → (low ≡ j) ⊎ (low + 1 ≤ j)
-at_or_after low j h = go (nat_lt low j) refl
-  where
-    go : (b : Bool) → nat_lt low j ≡ b → (low ≡ j) ⊎ (low + 1 ≤ j)
-    go true e = inr (omega (arith, ltb-true low j e))
-    go false e = inl (grind arith)
 
 pub first_above : (f : ℕ → ℤ) (low n : ℕ) → IsLexPositive (map f (range_with_len low n)) → FirstAbove f low n
 first_above f low zero h = absurd h
@@ -100,17 +94,17 @@ first_of f low (suc n) = go (sign_of (f low)) (first_of f (low + 1) n)
 
 -- the numbers below n that vote for and against
 pub record IsVote (f : ℕ → ℤ) (n : ℕ) (fors against : List ℕ) : Type 0 where
-  pub for_above : (i : ℕ) → IsIn i fors → pos 0 <ℤ f i
-  pub above_for : (i : ℕ) → pos 0 <ℤ f i → IsIn i fors
-  pub against_below : (i : ℕ) → IsIn i against → pos 0 <ℤ neg_ℤ (f i)
-  pub below_against : (i : ℕ) → pos 0 <ℤ neg_ℤ (f i) → IsIn i against
-  pub on_list : (i : ℕ) → IsIn i fors → i < n
+  pub for_above : (i : ℕ) → IsMember i fors → pos 0 <ℤ f i
+  pub above_for : (i : ℕ) → pos 0 <ℤ f i → IsMember i fors
+  pub against_below : (i : ℕ) → IsMember i against → pos 0 <ℤ neg_ℤ (f i)
+  pub below_against : (i : ℕ) → pos 0 <ℤ neg_ℤ (f i) → IsMember i against
+  pub on_list : (i : ℕ) → IsMember i fors → i < n
 
 -- some number that votes for is below all that vote against
 pub record IsCarried (fors against : List ℕ) : Type 0 where
   pub number : ℕ
-  pub votes : IsIn number fors
-  pub least : (j : ℕ) → IsIn j against → number < j
+  pub votes : IsMember number fors
+  pub least : (j : ℕ) → IsMember j against → number < j
 
 clash : (a : ℤ) → pos 0 <ℤ a → a ≡ pos 0 → ⊥
 clash a h e = omega (arith, ints)
@@ -131,7 +125,7 @@ carried f n fors against v h =
     let r = first_above f 0 n h in
     record { number = r.place; votes = v.above_for r.place r.is_above; least = λ j m. go r j m (order r.place j) }
   where
-    go : (r : FirstAbove f 0 n) (j : ℕ) → IsIn j against → (r.place < j) ⊎ ((r.place ≡ j) ⊎ (j < r.place)) → r.place < j
+    go : (r : FirstAbove f 0 n) (j : ℕ) → IsMember j against → (r.place < j) ⊎ ((r.place ≡ j) ⊎ (j < r.place)) → r.place < j
     go r j m (inl l) = l
     go r j m (inr (inl e)) = absurd (clash_neg (f j) (subst (λ p. pos 0 <ℤ f p) e r.is_above) (v.against_below j m))
     go r j m (inr (inr l)) = absurd (clash (neg_ℤ (f j)) (v.against_below j m) (neg_of_zero (f j) (r.zeros j (omega arith) l)))

@@ -3,3 +3,4 @@ pub mod Hull
 pub mod Simplex
 pub mod Height
 pub mod Laws
+pub mod Faces

@@ -1,5 +1,5 @@
 -- On which side of a plane a point lies, and tetrahedra as the meet of four such sides.
-use Rattle.std.specs.Prelude.{◌≡◌, ◌≢◌, ℤ, pos, ◌+ℤ◌, ◌-ℤ◌, ◌*ℤ◌, ◌<ℤ◌, ◌≤ℤ◌, Bool, int_lt, int_le, List, [], ◌∷◌}
+use Rattle.std.specs.Prelude.{◌≡◌, ◌≢◌, ℕ, ◌==◌, if◌then◌else◌, ℤ, pos, ◌+ℤ◌, ◌-ℤ◌, ◌*ℤ◌, ◌<ℤ◌, ◌≤ℤ◌, Bool, int_lt, int_le, List, [], ◌∷◌}
 use Rattle.std.specs.List.{AllByRecursion, list_all}
 use Rattle.sign_predicates.specs.declared.tetrahedron.Corners.{Corners}
 use Rattle.sign_predicates.specs.Point.{Point, RationalPoint, from_to, from_to_rational}
@@ -47,6 +47,10 @@ opposite_c t = record { a = t.a; b = t.d; c = t.b }
 
 abbrev pub opposite_d : Corners → Triangle
 opposite_d t = record { a = t.a; b = t.b; c = t.c }
+
+-- the face opposite the corner in this place, from 0
+abbrev pub opposite_face : Corners → ℕ → Triangle
+opposite_face t k = if k == 0 then opposite_a t else (if k == 1 then opposite_b t else (if k == 2 then opposite_c t else opposite_d t))
 
 abbrev pub faces : Corners → List Triangle
 faces t = opposite_a t ∷ opposite_b t ∷ opposite_c t ∷ opposite_d t ∷ []

@@ -1,5 +1,5 @@
 -- Inside and outside of the sphere through the corners of a tetrahedron, where ties are broken by the points' numbers.
-use Rattle.std.specs.Prelude.{ℤ, pos, ◌+ℤ◌, ◌-ℤ◌, ◌*ℤ◌, ℕ, Bool, ◌&&◌, ◌||◌, int_lt, int_le, nat_lt, List, [], ◌∷◌, map, filter}
+use Rattle.std.specs.Prelude.{ℤ, pos, ◌+ℤ◌, ◌-ℤ◌, ◌*ℤ◌, ℕ, Bool, ◌&&◌, ◌||◌, if◌then◌else◌, int_lt, int_le, nat_lt, List, [], ◌∷◌, map, filter}
 use Rattle.std.specs.List.{list_all, list_any}
 use Rattle.sign_predicates.specs.Point.{Point, from_to}
 use Rattle.sign_predicates.specs.Orientation.{dot, det, Triangle, side, opposite_a, opposite_b, opposite_c, opposite_d}
@@ -31,9 +31,15 @@ across t n e = map (λ f. f.0) (filter (λ f. int_lt (side f.1 e) (pos 0)) (oppo
 abbrev pub alongside : Corners → Numbers → Point → List ℕ
 alongside t n e = map (λ f. f.0) (filter (λ f. int_lt (pos 0) (side f.1 e)) (opposite_faces t n))
 
--- Whether e, with the number m, is outside of the positive tetrahedron t. On its sphere the least number decides,
--- of e and of the corners whose opposite face's plane doesn't hold e: e and the corners across their face are for it.
+-- the lesser of two numbers, or the second where the first doesn't count
+abbrev pub least_of : Bool → ℕ → ℕ → ℕ
+least_of counts i least = if counts && nat_lt i least then i else least
+
+-- For a point on the sphere: the least number decides, of e and of the corners whose opposite face's plane doesn't hold e.
+-- e and the corners across their face are for outside.
+abbrev pub wins_tie : Corners → Numbers → Point → ℕ → Bool
+wins_tie t n e m = list_any (λ i. list_all (nat_lt i) (alongside t n e)) (m ∷ across t n e)
+
+-- whether e, with the number m, is outside of the positive tetrahedron t, where ties are decided by the numbers
 abbrev pub is_outside : Corners → Numbers → Point → ℕ → Bool
-is_outside t n e m =
-    int_lt (in_sphere t e) (pos 0)
-    || int_le (in_sphere t e) (pos 0) && list_any (λ i. list_all (nat_lt i) (alongside t n e)) (m ∷ across t n e)
+is_outside t n e m = int_lt (in_sphere t e) (pos 0) || int_le (in_sphere t e) (pos 0) && wins_tie t n e m

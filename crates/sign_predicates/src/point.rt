@@ -1,3 +1,7 @@
+//! Points of the grid and rational points.
+ghost use Rattle.std.specs.Prelude.{◌≡◌};
+ghost use Rattle.sign_predicates.specs.Point.{as_rational};
+
 use std::marker::Model;
 
 /// A point of the grid, in grid units. Each coordinate is at most `2^23` in size.
@@ -40,4 +44,19 @@ impl Model for RatPoint {
     ghost invariant = { λ p. IsNearGrid (record { x = p.x; y = p.y; z = p.z; w = p.w }) };
 
     ghost inverse = { λ p. record { x = p.x; y = p.y; z = p.z; w = p.w } };
+}
+
+impl RatPoint {
+    /// The grid point, over the denominator 1.
+    #[inline]
+    pub fn of(p: GridPoint) -> Self
+        ensures { result ≡ as_rational p }
+    {
+        RatPoint {
+            x: p.x as i64,
+            y: p.y as i64,
+            z: p.z as i64,
+            w: 1,
+        }
+    }
 }

@@ -1,16 +1,28 @@
--- What a folder in memory holds, and how often it has failed.
-use Rattle.std.specs.Prelude.{ℕ, ◌+◌, nat_le, Option, Some, None, if◌then◌else◌}
+-- What a folder in memory holds, and which of its calls are to fail.
+use Rattle.std.specs.Prelude.{ℕ, ◌+◌, List, refl}
+use Rattle.std.specs.Coded.{Coded, code_by, coded×, coded_ℕ, coded_list}
 use Rattle.std.specs.FinMap as map
+use Rattle.tet_ports.specs.Calls.{calls_code, failures, one_more}
 use Rattle.tet_ports.specs.Files.{Files}
-use Rattle.tet_ports.specs.declared.mem_folder.MemFolder.{MemFolder}
+use Rattle.tet_ports.specs.declared.calls.Calls.{Calls}
 
-abbrev pub files_of : MemFolder → Files
-files_of folder = map.from_entries folder.log.items
+-- its files, its fetches, its stores, and how many bytes the failing store keeps
+pub record MemoryFiles : Type 0 where
+  pub files : Files
+  pub fetches : Calls
+  pub stores : Calls
+  pub kept : ℕ
 
--- 1 where the call that is to fail has come
-abbrev pub failures : Option ℕ → ℕ → ℕ
-failures None count = 0
-failures (Some nth) count = if nat_le nth count then 1 else 0
+-- the folder after one more store, with this name set to this text
+abbrev pub stored : MemoryFiles → List ℕ → List ℕ → MemoryFiles
+stored folder name text = record folder { files = map.insert folder.files name text; stores = one_more folder.stores }
 
-abbrev pub failures_of : MemFolder → ℕ
-failures_of folder = failures folder.failing_fetch folder.fetches + failures folder.failing_store folder.stores
+-- how many of its calls have failed that were set to fail
+abbrev pub failures_of : MemoryFiles → ℕ
+failures_of folder = failures folder.fetches + failures folder.stores
+
+-- it is stored as the tuple of its fields
+abbrev pub memory_files_code : Coded MemoryFiles
+memory_files_code =
+    code_by (Files × (Calls × (Calls × ℕ))) (coded× (map.code (coded_list coded_ℕ) (coded_list coded_ℕ)) (coded× calls_code (coded× calls_code coded_ℕ)))
+    (λ s. (s.files, (s.fetches, (s.stores, s.kept)))) (λ p. record { files = p.0; fetches = p.1.0; stores = p.1.1.0; kept = p.1.1.1 }) (λ _. refl)

@@ -1,50 +1,85 @@
-ghost use Rattle.std.specs.Prelude.{◌≡◌, ◌≤◌, ◌+◌, ℕ, List, Option, length, IfOk, OnOk, OnErr, IfErr, IsErrOf, take};
-ghost use Rattle.tet_ports.specs.Files.{Files, Holds, IsAbsent, Rose, with_file};
+ghost use Rattle.std.specs.Prelude.{◌≡◌, ◌≤◌, ◌+◌, ℕ, Option, length, IfErr, IfOk, OnErr, OnOk, IsErrOf};
+ghost use Rattle.tet_ports.specs.Counts.{Rose};
+ghost use Rattle.tet_ports.specs.Files.{Files, Holds, HoldsMore, IsAbsent, PartlyStored, with_file};
+ghost use Rattle.tet_ports.specs.Faults.{IfTooLarge};
 ghost use Rattle.tet_ports.specs.declared.folder.StoreFault.TheVariants.{Failed as StoreFailed, NoMemory as StoreNoMemory};
-ghost use Rattle.tet_ports.specs.declared.folder.FetchFault.TheVariants.{Missing, Failed};
+ghost use Rattle.tet_ports.specs.declared.folder.FetchFault.TheVariants.{Missing, Failed, NoMemory as FetchNoMemory};
 
-use crate::{Bytes, Name};
+use crate::{Bytes, Name, NoMemory};
 use std::alloc::Global;
 
-#[derive(Drop)]
+/// Why a fetch gave no file.
+#[derive(Debug, Drop)]
 pub enum FetchFault {
+    /// The folder lacks the name.
     Missing,
+    /// The folder failed.
     Failed,
+    /// The file is longer than was allowed. `taken` has its first bytes, one more than that.
     TooLarge { taken: Bytes },
+    /// Want of memory.
     NoMemory,
 }
 
-#[derive(Clone, Copy, PartialEq, Eq)]
+impl From<NoMemory> for FetchFault {
+    ghost from_gives = { λ _ fault. fault ≡ FetchNoMemory };
+
+    fn from(_: NoMemory) -> Self {
+        FetchFault::NoMemory
+    }
+}
+
+/// Why a store was refused.
+#[derive(Clone, Copy, Debug, PartialEq, Eq)]
 pub enum StoreFault {
+    /// The folder failed.
     Failed,
+    /// Want of memory.
     NoMemory,
 }
 
-/// A folder of files.
+impl From<NoMemory> for StoreFault {
+    ghost from_gives = { λ _ fault. fault ≡ StoreNoMemory };
+
+    fn from(_: NoMemory) -> Self {
+        StoreFault::NoMemory
+    }
+}
+
+/// A folder of files, each a name with its bytes.
 pub trait Folder {
     /// The files that it holds, where it tells them.
     ghost held: { Self → Option Files };
 
-    /// How often a fetch or a store has failed.
+    /// How often a fetch or a store has failed. It stays at the last value of a u64.
     ghost faults: { Self → ℕ };
 
-    /// How often a fetched name was absent, where the files are not told.
+    /// How often a fetched name was absent, where the files are not told. It stays at the last value of a u64.
     ghost misses: { Self → ℕ };
 
     /// The bytes of the file with this name, of which there are at most `most`.
+    ///
+    /// Refusals: `Missing`, the folder lacks the name; `Failed`, the folder failed; `TooLarge`, the file has more
+    /// bytes; `NoMemory`.
     fn fetch(&mut self, alloc: Global, name: &Name, most: usize) -> Result<Bytes, FetchFault>
         ensures found { IfOk result (λ bytes. Holds (held self.old) name.now bytes) }
         ensures bounded { IfOk result (λ bytes. length bytes ≤ most) }
         ensures missing { IsErrOf result Missing → IsAbsent (held self.old) name.now (misses self.old) (misses self.new) }
         ensures failed { IsErrOf result Failed → Rose (faults self.old) (faults self.new) }
+        ensures too_large { IfErr result (λ fault. IfTooLarge fault (λ taken. length taken ≡ most + 1)) }
+        ensures longer { IfErr result (λ fault. IfTooLarge fault (HoldsMore (held self.old) name.now most)) }
         ensures unchanged { held self.new ≡ held self.old }
         ensures fault_count { faults self.old ≤ faults self.new }
         ensures miss_count { misses self.old ≤ misses self.new };
 
     /// Sets the file with this name to this text.
+    ///
+    /// Refusals: `Failed`, the folder failed, and may have kept a prefix of the text under the name; `NoMemory`,
+    /// with nothing changed.
     fn store(&mut self, name: &Name, text: &Bytes) -> Result<(), StoreFault>
         ensures stored { OnOk result (held self.new ≡ with_file (held self.old) name.now text.now) }
         ensures failed { IsErrOf result StoreFailed → Rose (faults self.old) (faults self.new) }
+        ensures partly { IsErrOf result StoreFailed → PartlyStored (held self.old) name.now text.now (held self.new) }
         ensures kept { IsErrOf result StoreNoMemory → held self.new ≡ held self.old }
         ensures fault_count { faults self.old ≤ faults self.new }
         ensures miss_count { misses self.old ≤ misses self.new };

@@ -1,16 +1,30 @@
-//! Lists, and the traits by which the program reaches files.
+//! Lists of items, bytes and names, and the traits by which the program reaches files and streams.
 #![tactic(auto)]
 
 mod bytes;
+mod calls;
+mod distinct;
 mod folder;
 mod items;
 mod mem_folder;
+mod mem_sink;
+mod no_memory;
+mod os_folder;
+mod sink;
+mod std_sink;
+mod streams;
+mod words;
 
 pub use bytes::{Bytes, Name};
 pub use folder::{FetchFault, Folder, StoreFault};
 pub use items::Items;
 pub use mem_folder::MemFolder;
+pub use mem_sink::MemSink;
+pub use no_memory::NoMemory;
+pub use os_folder::OsFolder;
+pub use sink::{PutFault, Sink};
+pub use std_sink::StdSink;
+pub use words::Words;
 
-/// Want of memory.
-#[derive(Clone, Copy, PartialEq, Eq)]
-pub struct NoMemory;
+#[cfg(test)]
+mod tests;

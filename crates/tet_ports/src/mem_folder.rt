@@ -1,55 +1,79 @@
-ghost use Rattle.std.specs.Prelude.{◌≡◌, ◌≤◌, ◌↔◌, Some, None, OnOk, OnErr, IsNone, IfSome, IfOk, IsErrOf, IsTrue, length};
+ghost use Rattle.std.specs.Prelude.{◌≡◌, ◌≤◌, ◌+◌, ◌↔◌, Some, None, OnOk, OnErr, IsNone, IfSome, IfOk, IfErr, IsErrOf, IsTrue, length, take};
 ghost use Rattle.std.specs.FinMap as map;
+ghost use Rattle.tet_ports.specs.Calls.{failing_at, fresh_calls, one_more, IsNextFailing};
+ghost use Rattle.tet_ports.specs.Faults.{IfTooLarge};
+ghost use Rattle.tet_ports.specs.Files.{HoldsMore};
+ghost use Rattle.tet_ports.specs.MemFolder.{MemoryFiles, failures_of, memory_files_code, stored};
+ghost use Rattle.tet_ports.specs.declared.folder.FetchFault.TheVariants.{Missing, Failed as FetchFailed};
+ghost use Rattle.tet_ports.specs.declared.folder.StoreFault.TheVariants.{Failed as StoreFailed, NoMemory as StoreNoMemory};
 
+use crate::calls::Calls;
 use crate::{Bytes, FetchFault, Folder, Name, NoMemory, StoreFault};
 use std::alloc::Global;
 use std::collections::VecDeque;
+use std::marker::Model;
 
-/// A folder in memory, which tells its files. Its log of writes has the newest first.
-#[derive(Drop)]
+/// A folder in memory, which tells its files. One fetch and one store may be set to fail.
+#[derive(Debug, Drop)]
 pub struct MemFolder {
     alloc: Global,
+    // Every write, the newest first.
     log: VecDeque<(Name, Bytes)>,
-    fetches: u64,
-    stores: u64,
-    failing_fetch: Option<u32>,
-    failing_store: Option<u32>,
+    fetches: Calls,
+    stores: Calls,
+    kept: usize,
+}
+
+impl Model for MemFolder {
+    ghost Value = { MemoryFiles };
+
+    ghost coded = { memory_files_code };
+
+    ghost view = { λ s. record { files = map.from_entries s.log.items; fetches = s.fetches; stores = s.stores; kept = s.kept } };
 }
 
 impl MemFolder {
-    ghost use Rattle.tet_ports.specs.MemFolder.{files_of, failures_of};
-
+    /// A folder with no file, of which no call is set to fail.
     pub fn new(alloc: Global) -> Self
-        ensures { files_of result ≡ map.empty }
+        ensures { result ≡ record { files = map.empty; fetches = fresh_calls; stores = fresh_calls; kept = 0 } }
     {
         MemFolder {
             alloc,
             log: VecDeque::new(alloc),
-            fetches: 0,
-            stores: 0,
-            failing_fetch: None,
-            failing_store: None,
+            fetches: Calls::new(),
+            stores: Calls::new(),
+            kept: 0,
         }
     }
 
     /// Adds a file, or sets it anew.
     pub fn add(&mut self, name: &Name, text: &Bytes) -> Result<(), NoMemory>
-        ensures ok { OnOk result (files_of self.new ≡ map.insert (files_of self.old) name.now text.now) }
-        ensures err { OnErr result (files_of self.new ≡ files_of self.old) }
-        ensures failures { failures_of self.new ≡ failures_of self.old }
+        ensures ok { OnOk result (self.new ≡ record self.old { files = map.insert self.old.files name.now text.now }) }
+        ensures err { OnErr result (self.new ≡ self.old) }
     {
-        let name = Name::from_slice(self.alloc, name.as_slice())?;
-        let text = Bytes::from_slice(self.alloc, text.as_slice())?;
-        match self.log.push_front((name, text)) {
-            Ok(()) => Ok(()),
-            Err(_) => Err(NoMemory),
-        }
+        self.set(name, text.as_slice())
     }
 
-    /// The bytes of the file with this name.
+    /// Lets the fetch with this number fail, counted from 1, in place of one that was set before.
+    pub fn fail_fetch(&mut self, nth: u32)
+        ensures { self.new ≡ record self.old { fetches = failing_at nth self.old.fetches } }
+    {
+        self.fetches.fail(nth);
+    }
+
+    /// Lets the store with this number fail, counted from 1, in place of one that was set before. It leaves the
+    /// first `kept` bytes of its text, or the whole text where that is shorter.
+    pub fn fail_store(&mut self, nth: u32, kept: usize)
+        ensures { self.new ≡ record self.old { stores = failing_at nth self.old.stores; kept = kept } }
+    {
+        self.stores.fail(nth);
+        self.kept = kept;
+    }
+
+    /// The bytes of the file with this name, or None where there is no such file.
     pub fn get(&self, name: &Name) -> Option<&Bytes>
-        ensures absent { IsNone result → map.get (files_of self.now) name.now ≡ None }
-        ensures found { IfSome result (λ bytes. map.get (files_of self.now) name.now ≡ Some bytes.now) }
+        ensures absent { IsNone result → map.get self.now.files name.now ≡ None }
+        ensures found { IfSome result (λ bytes. map.get self.now.files name.now ≡ Some bytes.now) }
     {
         for entry in &self.log {
             if name.as_slice() == entry.0.as_slice() {
@@ -58,80 +82,64 @@ impl MemFolder {
         }
         None
     }
-}
 
-impl MemFolder {
-    /// Lets the fetch with that number fail, counted from 1.
-    pub fn fail_fetch(&mut self, nth: u32) {
-        self.failing_fetch = Some(nth);
-    }
-
-    /// Lets the store with that number fail, counted from 1.
-    pub fn fail_store(&mut self, nth: u32) {
-        self.failing_store = Some(nth);
+    fn set(&mut self, name: &Name, text: &[u8]) -> Result<(), NoMemory>
+        ensures ok { OnOk result (self.new ≡ record self.old { files = map.insert self.old.files name.now text.now }) }
+        ensures err { OnErr result (self.new ≡ self.old) }
+    {
+        let name = Name::from_slice(self.alloc, name.as_slice())?;
+        let text = Bytes::from_slice(self.alloc, text)?;
+        self.log.push_front((name, text))?;
+        Ok(())
     }
 }
 
 impl Folder for MemFolder {
-    ghost use Rattle.tet_ports.specs.MemFolder.{files_of, failures_of};
-
-    ghost held = { λ folder. Some (files_of folder) };
+    ghost held = { λ folder. Some folder.files };
 
     ghost faults = { failures_of };
 
     ghost misses = { λ _. 0 };
 
-    fn fetch(&mut self, alloc: Global, name: &Name, most: usize) -> Result<Bytes, FetchFault> {
-        if self.fetches < u64::MAX {
-            self.fetches += 1;
-            if is_the_one(self.failing_fetch, self.fetches) {
-                return Err(FetchFault::Failed);
-            }
+    fn fetch(&mut self, alloc: Global, name: &Name, most: usize) -> Result<Bytes, FetchFault>
+        ensures found { IfOk result (λ bytes. (map.get self.old.files name.now ≡ Some bytes) × (length bytes ≤ most)) }
+        ensures missing { IsErrOf result Missing → map.get self.old.files name.now ≡ None }
+        ensures failed { IsErrOf result FetchFailed ↔ IsNextFailing self.old.fetches }
+        ensures too_large { IfErr result (λ fault. IfTooLarge fault (λ taken. length taken ≡ most + 1)) }
+        ensures longer { IfErr result (λ fault. IfTooLarge fault (HoldsMore (Some self.old.files) name.now most)) }
+        ensures counted { self.new ≡ record self.old { fetches = one_more self.old.fetches } }
+        ensures failures { IsNextFailing self.old.fetches → failures_of self.new ≡ failures_of self.old + 1 }
+        ensures failure_count { failures_of self.old ≤ failures_of self.new }
+    {
+        if self.fetches.count() {
+            return Err(FetchFault::Failed);
         }
-        match self.get(name) {
-            None => Err(FetchFault::Missing),
-            Some(text) => fetched(alloc, text.as_slice(), most),
-        }
-    }
-
-    fn store(&mut self, name: &Name, text: &Bytes) -> Result<(), StoreFault> {
-        if self.stores < u64::MAX {
-            self.stores += 1;
-            if is_the_one(self.failing_store, self.stores) {
-                return Err(StoreFault::Failed);
-            }
-        }
-        match self.add(name, text) {
-            Ok(()) => Ok(()),
-            Err(_) => Err(StoreFault::NoMemory),
-        }
-    }
-}
-
-/// Whether the call with this number is to fail.
-fn is_the_one(failing: Option<u32>, number: u64) -> bool
-    ensures { IsTrue result ↔ (failing ≡ Some number) }
-{
-    match failing {
-        Some(nth) => u64::from(nth) == number,
-        None => false,
-    }
-}
-
-/// The bytes, if there are at most `most`, and else one more than that.
-fn fetched(alloc: Global, bytes: &[u8], most: usize) -> Result<Bytes, FetchFault>
-    ensures ok { IfOk result (λ copy. (copy ≡ bytes.now) × (length copy ≤ most)) }
-    ensures missing { ¬ IsErrOf result FetchFault.Missing }
-    ensures failed { ¬ IsErrOf result FetchFault.Failed }
-{
-    if bytes.len() > most {
-        return match Bytes::from_slice(alloc, &bytes[..most + 1]) {
-            Ok(taken) => Err(FetchFault::TooLarge { taken }),
-            Err(_) => Err(FetchFault::NoMemory),
+        let text = match self.get(name) {
+            Some(text) => text.as_slice(),
+            None => return Err(FetchFault::Missing),
         };
+        if text.len() > most {
+            let taken = Bytes::from_slice(alloc, &text[..most + 1])?;
+            return Err(FetchFault::TooLarge { taken });
+        }
+        Ok(Bytes::from_slice(alloc, text)?)
     }
-    match Bytes::from_slice(alloc, bytes) {
-        Ok(copy) => Ok(copy),
-        Err(_) => Err(FetchFault::NoMemory),
+
+    fn store(&mut self, name: &Name, text: &Bytes) -> Result<(), StoreFault>
+        ensures stored { OnOk result (self.new ≡ stored self.old name.now text.now) }
+        ensures partly { IsErrOf result StoreFailed → self.new ≡ stored self.old name.now (take self.old.kept text.now) }
+        ensures kept { IsErrOf result StoreNoMemory → self.new ≡ record self.old { stores = one_more self.old.stores } }
+        ensures next { OnOk result (¬ IsNextFailing self.old.stores) }
+        ensures failed { IsErrOf result StoreFailed → IsNextFailing self.old.stores }
+        ensures failures { IsNextFailing self.old.stores → failures_of self.new ≡ failures_of self.old + 1 }
+        ensures failure_count { failures_of self.old ≤ failures_of self.new }
+    {
+        let text = text.as_slice();
+        if self.stores.count() {
+            self.set(name, &text[..self.kept.min(text.len())])?;
+            return Err(StoreFault::Failed);
+        }
+        self.set(name, text)?;
+        Ok(())
     }
 }

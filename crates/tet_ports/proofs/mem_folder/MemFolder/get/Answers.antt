@@ -2,6 +2,7 @@ use Rattle.std.proofs.Common.{◌≡◌, ap, sym, ◌∙◌, Some, List, ◌∷�
 use Rattle.std.specs.Ordering.{nat_cmp}
 use Rattle.std.proofs.lemmas.Cmp.{nat_list_cmp_total}
 use Rattle.std.specs.Cmp.Lexicographic.{slice_cmp, texts_ties}
+use Rattle.std.specs.FinMap as map
 use Rattle.std.specs.FinMap.{find, get-from_entries}
 use Rattle.std.specs.VecDeque.Iter.{deque_iter_rest}
 use Rattle.tet_ports.proofs.mem_folder.MemFolder.get.Goals as goal
@@ -13,7 +14,8 @@ find-cons q k v es b e = ap (λ t. cond t (Some v) (find (slice_cmp nat_cmp) q e
 
 pub loop-entry-init : goal.loop-entry-init
 loop-entry-init c =
-    get-from_entries nat_list_cmp_total _ _
+    ap (λ s. map.get s.files c.args.name.now) (sym c.self.view_is)
+    ∙ get-from_entries nat_list_cmp_total _ _
     ∙ ap (find (slice_cmp nat_cmp) c.args.name.now) (sym c.into_iter-entry-iterator.ensures.into_iter_gives.0)
 
 pub returns-then-eq-clause-found : goal.returns-then-eq-clause-found

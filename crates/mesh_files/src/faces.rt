@@ -1,0 +1,100 @@
+ghost use Rattle.std.specs.Prelude.{◌≡◌, IfOk};
+ghost use Rattle.geo_laws.specs.Faces.{face_of, side_of, row_faces, row_sides, faces_of_rows, sides_of_rows, AreFacesOf, AreSidesOf};
+
+use geo_laws::{Face, Side, Tet, TetList};
+use std::alloc::Global;
+use tet_ports::{Items, NoMemory};
+
+/// A list of faces.
+pub type Faces = Items<Face>;
+
+/// A list of sides.
+pub type Edges = Items<Side>;
+
+/// The triangle of three numbers, ascending.
+fn face_of(i: u32, j: u32, k: u32) -> Face
+    ensures { result ≡ face_of i j k }
+{
+    let (low, high) = (i.min(j), i.max(j));
+    Face {
+        a: low.min(k),
+        b: low.max(high.min(k)),
+        c: high.max(k),
+    }
+}
+
+/// The segment of two numbers, ascending.
+fn side_of(i: u32, j: u32) -> Side
+    ensures { result ≡ side_of i j }
+{
+    Side {
+        a: i.min(j),
+        b: i.max(j),
+    }
+}
+
+/// The faces of a row: opposite its first corner, and so on.
+fn row_faces(row: Tet) -> [Face; 4]
+    ensures { result ≡ row_faces row }
+{
+    [
+        face_of(row.b, row.c, row.d),
+        face_of(row.a, row.c, row.d),
+        face_of(row.a, row.b, row.d),
+        face_of(row.a, row.b, row.c),
+    ]
+}
+
+/// The six sides of a row.
+fn row_sides(row: Tet) -> [Side; 6]
+    ensures { result ≡ row_sides row }
+{
+    [
+        side_of(row.a, row.b),
+        side_of(row.a, row.c),
+        side_of(row.a, row.d),
+        side_of(row.b, row.c),
+        side_of(row.b, row.d),
+        side_of(row.c, row.d),
+    ]
+}
+
+/// The faces of all rows, row by row.
+fn all_faces(alloc: Global, list: &TetList) -> Result<Faces, NoMemory>
+    ensures { IfOk result (λ faces. faces ≡ faces_of_rows list.now) }
+{
+    let mut faces = Faces::new(alloc);
+    for row in list.as_slice() {
+        faces.extend_from_slice(&row_faces(*row))?;
+    }
+    Ok(faces)
+}
+
+/// The sides of all rows, row by row.
+fn all_sides(alloc: Global, list: &TetList) -> Result<Edges, NoMemory>
+    ensures { IfOk result (λ sides. sides ≡ sides_of_rows list.now) }
+{
+    let mut sides = Edges::new(alloc);
+    for row in list.as_slice() {
+        sides.extend_from_slice(&row_sides(*row))?;
+    }
+    Ok(sides)
+}
+
+/// All faces of rows: each set of three corners of a row once, its numbers ascending, the faces ascending.
+pub fn faces_of(alloc: Global, list: &TetList) -> Result<Faces, NoMemory>
+    ensures { IfOk result (λ faces. AreFacesOf list.now faces) }
+{
+    let mut faces = all_faces(alloc, list)?;
+    faces.keep_distinct();
+    Ok(faces)
+}
+
+/// All sides of rows: each set of two corners of a row once, its numbers ascending, the sides ascending.
+pub fn edges_of(alloc: Global, list: &TetList) -> Result<Edges, NoMemory>
+    ensures { IfOk result (λ sides. AreSidesOf list.now sides) }
+{
+    let mut sides = all_sides(alloc, list)?;
+    sides.keep_distinct();
+    Ok(sides)
+}

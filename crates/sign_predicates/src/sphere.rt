@@ -1,0 +1,111 @@
+//! Whether a point is outside of the sphere through the corners of a positive tetrahedron.
+ghost use Rattle.std.specs.Prelude.{◌≡◌, ◌+◌, ◌*◌, ◌^◌, ◌≤◌, ◌+ℤ◌, ◌-ℤ◌, ◌*ℤ◌, unsigned_abs};
+ghost use Rattle.sign_predicates.specs.Sphere.{in_sphere, least_of, wins_tie, is_outside};
+ghost use Rattle.sign_predicates.specs.Vector.{sphere_sum};
+
+use crate::orientation::orient_sum;
+use crate::sign::{is_above, is_below, sign_of};
+use crate::vector::{Vector, det_of_minors, from_to, minor, square_length};
+use crate::{Corners, GridPoint, Numbers, Sign};
+
+/// It is above each number of a point.
+const NO_NUMBER: u64 = 1 << 32;
+
+/// Four products of a square and a determinant, with alternating signs.
+#[inline]
+fn sum_of_four(a: i64, p: i128, b: i64, q: i128, c: i64, r: i128, d: i64, s: i128) -> i128
+    requires a_small { unsigned_abs a ≤ 3 * 2 ^ 48 }
+    requires b_small { unsigned_abs b ≤ 3 * 2 ^ 48 }
+    requires c_small { unsigned_abs c ≤ 3 * 2 ^ 48 }
+    requires d_small { unsigned_abs d ≤ 3 * 2 ^ 48 }
+    requires p_small { unsigned_abs p ≤ 3 * 2 ^ 73 }
+    requires q_small { unsigned_abs q ≤ 3 * 2 ^ 73 }
+    requires r_small { unsigned_abs r ≤ 3 * 2 ^ 73 }
+    requires s_small { unsigned_abs s ≤ 3 * 2 ^ 73 }
+    ensures { result ≡ a *ℤ p -ℤ b *ℤ q +ℤ c *ℤ r -ℤ d *ℤ s }
+{
+    a as i128 * p - b as i128 * q + c as i128 * r - d as i128 * s
+}
+
+/// The sphere's sum at the vectors from the point to the corners. It has each minor once.
+#[inline]
+fn sphere_sum(a: Vector, b: Vector, c: Vector, d: Vector) -> i128
+    ensures { result ≡ sphere_sum a b c d }
+{
+    let ab = minor(a, b);
+    let ac = minor(a, c);
+    let ad = minor(a, d);
+    let bc = minor(b, c);
+    let bd = minor(b, d);
+    let cd = minor(c, d);
+    sum_of_four(
+        square_length(a),
+        det_of_minors(b, c, d, cd, bd, bc),
+        square_length(b),
+        det_of_minors(a, c, d, cd, ad, ac),
+        square_length(c),
+        det_of_minors(a, b, d, bd, ad, ab),
+        square_length(d),
+        det_of_minors(a, b, c, bc, ac, ab),
+    )
+}
+
+/// The sum whose sign says where `e` lies: below 0 outside of the sphere, 0 on it. Its size is at most `72 * 2^120`.
+#[inline]
+pub(crate) fn in_sphere(t: Corners, e: GridPoint) -> i128
+    ensures { result ≡ in_sphere t e }
+{
+    sphere_sum(
+        from_to(e, t.a),
+        from_to(e, t.b),
+        from_to(e, t.c),
+        from_to(e, t.d),
+    )
+}
+
+/// The lesser of the two numbers, or the second where the first doesn't count.
+#[inline]
+fn least_of(counts: bool, number: u64, least: u64) -> u64
+    ensures { result ≡ least_of counts number least }
+{
+    if counts && number < least {
+        number
+    } else {
+        least
+    }
+}
+
+/// The decision for a point on the sphere: the least number for outside against the least one for inside.
+fn wins_tie(t: &Corners, n: Numbers, p: GridPoint, m: u32) -> bool
+    ensures { result ≡ wins_tie t.now n p m }
+{
+    let a = orient_sum(t.b, t.d, t.c, p);
+    let b = orient_sum(t.a, t.c, t.d, p);
+    let c = orient_sum(t.a, t.d, t.b, p);
+    let d = orient_sum(t.a, t.b, t.c, p);
+    let across = least_of(is_below(d), n.d as u64, m as u64);
+    let across = least_of(is_below(c), n.c as u64, across);
+    let across = least_of(is_below(b), n.b as u64, across);
+    let across = least_of(is_below(a), n.a as u64, across);
+    let alongside = least_of(is_above(d), n.d as u64, NO_NUMBER);
+    let alongside = least_of(is_above(c), n.c as u64, alongside);
+    let alongside = least_of(is_above(b), n.b as u64, alongside);
+    let alongside = least_of(is_above(a), n.a as u64, alongside);
+    across < alongside
+}
+
+/// Whether `p`, with the number `m`, is outside of the positive tetrahedron `t`, whose corners have the numbers `n`. The five
+/// numbers differ. Outside is strictly outside of the sphere through the corners. On the sphere the points decide by rising
+/// number: `p` itself for outside; a corner for outside where `p` is strictly beyond the face opposite that corner, against it
+/// where `p` is strictly on the corner's side of that face, and not at all where `p` lies on that face's plane. It is the
+/// rule of points lifted by heights that differ by indicators, and so the Delaunay tetrahedra of any points are determined.
+#[inline]
+pub fn outside(t: Corners, n: Numbers, p: GridPoint, m: u32) -> bool
+    ensures { result ≡ is_outside t n p m }
+{
+    match sign_of(in_sphere(t, p)) {
+        Sign::Below => true,
+        Sign::Zero => wins_tie(&t, n, p, m),
+        Sign::Above => false,
+    }
+}

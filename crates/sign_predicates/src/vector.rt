@@ -1,0 +1,141 @@
+//! Vectors between points of the grid, and the exact products of them that the predicates sum.
+ghost use Rattle.std.specs.Prelude.{◌≡◌, ◌+◌, ◌*◌, ◌^◌, ◌≤◌, ◌+ℤ◌, ◌-ℤ◌, ◌*ℤ◌, unsigned_abs};
+ghost use Rattle.sign_predicates.specs.Point.{from_to};
+ghost use Rattle.sign_predicates.specs.Orientation.{det};
+ghost use Rattle.sign_predicates.specs.Sphere.{square_length};
+ghost use Rattle.sign_predicates.specs.Vector.{det_of_two, minor};
+
+use crate::GridPoint;
+use std::marker::Model;
+
+/// The vector from one grid point to another. Each coordinate is at most `2^24` in size.
+#[derive(Clone, Copy)]
+pub(crate) struct Vector {
+    x: i32,
+    y: i32,
+    z: i32,
+}
+
+impl Model for Vector {
+    ghost use Rattle.sign_predicates.specs.Point.{Point};
+    ghost use Rattle.sign_predicates.specs.Vector.{IsGridVector};
+
+    ghost Value = { Point };
+
+    ghost view = { λ v. record { x = v.x; y = v.y; z = v.z } };
+
+    ghost invariant = { λ v. IsGridVector (record { x = v.x; y = v.y; z = v.z }) };
+
+    ghost inverse = { λ v. record { x = v.x; y = v.y; z = v.z } };
+}
+
+/// The vector from `a` to `b`.
+#[inline]
+pub(crate) fn from_to(a: GridPoint, b: GridPoint) -> Vector
+    ensures { result ≡ from_to a b }
+{
+    Vector {
+        x: b.x - a.x,
+        y: b.y - a.y,
+        z: b.z - a.z,
+    }
+}
+
+/// The determinant of the rows `a b` and `c d`.
+#[inline]
+fn det_of_two(a: i32, b: i32, c: i32, d: i32) -> i64
+    requires a_small { unsigned_abs a ≤ 2 ^ 24 }
+    requires b_small { unsigned_abs b ≤ 2 ^ 24 }
+    requires c_small { unsigned_abs c ≤ 2 ^ 24 }
+    requires d_small { unsigned_abs d ≤ 2 ^ 24 }
+    ensures value { result ≡ det_of_two a b c d }
+    ensures size { unsigned_abs result ≤ 2 ^ 49 }
+{
+    a as i64 * d as i64 - b as i64 * c as i64
+}
+
+/// The minor of the first two coordinates.
+#[inline]
+pub(crate) fn minor(u: Vector, v: Vector) -> i64
+    ensures value { result ≡ minor u v }
+    ensures size { unsigned_abs result ≤ 2 ^ 49 }
+{
+    det_of_two(u.x, u.y, v.x, v.y)
+}
+
+/// The sum of three squares.
+#[inline]
+fn sum_of_squares(x: i32, y: i32, z: i32) -> i64
+    requires x_small { unsigned_abs x ≤ 2 ^ 24 }
+    requires y_small { unsigned_abs y ≤ 2 ^ 24 }
+    requires z_small { unsigned_abs z ≤ 2 ^ 24 }
+    ensures value { result ≡ x *ℤ x +ℤ y *ℤ y +ℤ z *ℤ z }
+    ensures size { unsigned_abs result ≤ 3 * 2 ^ 48 }
+{
+    x as i64 * x as i64 + y as i64 * y as i64 + z as i64 * z as i64
+}
+
+/// The square of the vector's length.
+#[inline]
+pub(crate) fn square_length(v: Vector) -> i64
+    ensures value { result ≡ square_length v }
+    ensures size { unsigned_abs result ≤ 3 * 2 ^ 48 }
+{
+    sum_of_squares(v.x, v.y, v.z)
+}
+
+/// Three products of a minor and a number, with alternating signs.
+#[inline]
+fn sum_of_three(a: i64, x: i64, b: i64, y: i64, c: i64, z: i64) -> i128
+    requires a_small { unsigned_abs a ≤ 2 ^ 49 }
+    requires b_small { unsigned_abs b ≤ 2 ^ 49 }
+    requires c_small { unsigned_abs c ≤ 2 ^ 49 }
+    requires x_small { unsigned_abs x ≤ 2 ^ 44 }
+    requires y_small { unsigned_abs y ≤ 2 ^ 44 }
+    requires z_small { unsigned_abs z ≤ 2 ^ 44 }
+    ensures value { result ≡ a *ℤ x -ℤ b *ℤ y +ℤ c *ℤ z }
+    ensures size { unsigned_abs result ≤ 2 ^ 49 * (unsigned_abs x + unsigned_abs y + unsigned_abs z) }
+{
+    a as i128 * x as i128 - b as i128 * y as i128 + c as i128 * z as i128
+}
+
+/// The determinant of `u`, `v` and the vector `(x, y, z)`.
+#[inline]
+pub(crate) fn det_with(u: Vector, v: Vector, x: i64, y: i64, z: i64) -> i128
+    requires x_small { unsigned_abs x ≤ 2 ^ 44 }
+    requires y_small { unsigned_abs y ≤ 2 ^ 44 }
+    requires z_small { unsigned_abs z ≤ 2 ^ 44 }
+    ensures { result ≡ det u v (record { x = x; y = y; z = z }) }
+{
+    sum_of_three(
+        det_of_two(u.y, u.z, v.y, v.z),
+        x,
+        det_of_two(u.x, u.z, v.x, v.z),
+        y,
+        det_of_two(u.x, u.y, v.x, v.y),
+        z,
+    )
+}
+
+/// The determinant of three vectors.
+#[inline]
+pub(crate) fn det(u: Vector, v: Vector, w: Vector) -> i128
+    ensures { result ≡ det u v w }
+{
+    det_with(u, v, w.x as i64, w.y as i64, w.z as i64)
+}
+
+/// The determinant of three vectors, by the minors of each two of them.
+#[inline]
+pub(crate) fn det_of_minors(u: Vector, v: Vector, w: Vector, vw: i64, uw: i64, uv: i64) -> i128
+    requires vw_is { vw ≡ minor v w }
+    requires uw_is { uw ≡ minor u w }
+    requires uv_is { uv ≡ minor u v }
+    requires vw_small { unsigned_abs vw ≤ 2 ^ 49 }
+    requires uw_small { unsigned_abs uw ≤ 2 ^ 49 }
+    requires uv_small { unsigned_abs uv ≤ 2 ^ 49 }
+    ensures value { result ≡ det u v w }
+    ensures size { unsigned_abs result ≤ 3 * 2 ^ 73 }
+{
+    sum_of_three(vw, u.z as i64, uw, v.z as i64, uv, w.z as i64)
+}

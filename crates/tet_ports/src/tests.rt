@@ -1,0 +1,336 @@
+ghost use Rattle.std.specs.Prelude.{◌≡◌, ℕ, List, None, OnErr, OnOk};
+ghost use Rattle.tet_ports.specs.Files.{Holds, PartlyStored, with_file};
+
+use crate::streams::{read_whole, write_whole};
+use crate::*;
+use std::alloc::Global;
+use std::io::{Read, Write};
+use std::test::Fail;
+use std::{fs, io, process};
+
+#[test]
+fn lists_keep_their_items(rt: HostRuntime) -> Result<(), Fail> {
+    let alloc = rt.alloc();
+    let mut bytes = Bytes::from_slice(alloc, b"mesh")?;
+    bytes.append(b".1.ele")?;
+    assert_eq!(rt; bytes.as_slice(), b"mesh.1.ele".as_slice());
+    let count = bytes.len();
+    assert_eq!(rt; count, 10);
+    assert!(rt; bytes.len() >= 6);
+    bytes.cut(6);
+    assert_eq!(rt; bytes.as_slice(), b"mesh.1".as_slice());
+
+    let mut numbers = Items::with_capacity(alloc, 2)?;
+    assert!(rt; numbers.is_empty());
+    numbers.reserve(5)?;
+    numbers.push(7u32)?;
+    assert_eq!(rt; numbers.as_slice(), [7].as_slice());
+    assert!(rt; numbers.len() == 1);
+    assert_eq!(rt; (numbers.at(0), *numbers.get(0)), (7, 7));
+
+    let mut words = Words::new(alloc);
+    words.push(Name::from_slice(alloc, b"-pS100nz")?)?;
+    words.push(Name::from_slice(alloc, b"bar")?)?;
+    assert!(rt; words.len() == 2);
+    assert_eq!(rt; words.word(1).as_slice(), b"bar".as_slice());
+    Ok(())
+}
+
+#[test]
+fn memory_folder_holds_what_was_stored(rt: HostRuntime) -> Result<(), Fail> {
+    let alloc = rt.alloc();
+    let mut folder = MemFolder::new(alloc);
+    let (old, new) = (
+        Name::from_slice(alloc, b"old")?,
+        Name::from_slice(alloc, b"new")?,
+    );
+    folder.add(&old, &Bytes::from_slice(alloc, b"first")?)?;
+    folder.add(&old, &Bytes::from_slice(alloc, b"12 1\n")?)?;
+    assert!(rt; matches!(folder.fetch(alloc, &new, 9), Err(FetchFault::Missing)));
+    let text = folder.fetch(alloc, &old, 5)?;
+    assert_eq!(rt; text.as_slice(), b"12 1\n".as_slice());
+    assert!(rt; folder.store(&new, &text).is_ok());
+    let held = folder.get(&new).ok_or("not stored")?;
+    assert_eq!(rt; held.as_slice(), b"12 1\n".as_slice());
+    match folder.fetch(alloc, &old, 3) {
+        Err(FetchFault::TooLarge { taken }) => {
+            assert_eq!(rt; taken.as_slice(), b"12 1".as_slice());
+        }
+        _ => return Err("not too large".into()),
+    }
+    Ok(())
+}
+
+#[test]
+fn memory_folder_fails_where_it_is_set(rt: HostRuntime) -> Result<(), Fail> {
+    let alloc = rt.alloc();
+    let name = Name::from_slice(alloc, b"bar.1.face")?;
+    let text = Bytes::from_slice(alloc, b"12 1\n")?;
+    for (nth, kept, want) in [
+        (1, 0, b"".as_slice()),
+        (2, 3, b"12 ".as_slice()),
+        (3, 1000, b"12 1\n".as_slice()),
+    ] {
+        let mut folder = MemFolder::new(alloc);
+        folder.fail_fetch(9);
+        folder.fail_fetch(nth);
+        folder.fail_store(nth, kept);
+        for number in 1..=4u32 {
+            let stored = folder.store(&name, &text);
+            assert_eq!(rt; stored.is_err(), number == nth, "store {number}");
+            if number == nth {
+                assert_eq!(rt; stored, Err(StoreFault::Failed));
+                let held = folder.get(&name).ok_or("not stored")?;
+                assert_eq!(rt; held.as_slice(), want, "store {number}");
+            }
+            let fetched = folder.fetch(alloc, &name, 9);
+            let is_failed = matches!(fetched, Err(FetchFault::Failed));
+            assert_eq!(rt; is_failed, number == nth, "fetch {number}");
+        }
+    }
+    Ok(())
+}
+
+#[test]
+fn memory_sink_fails_where_it_is_set(rt: HostRuntime) -> Result<(), Fail> {
+    for (nth, kept, want) in [
+        (1, 0, b"two".as_slice()),
+        (1, 2, b"ontwo".as_slice()),
+        (2, 1000, b"onetwo".as_slice()),
+        (3, 1, b"onetwo".as_slice()),
+    ] {
+        let mut sink = MemSink::new(rt.alloc());
+        sink.fail_put(9, 9);
+        sink.fail_put(nth, kept);
+        let puts = [sink.put(b"one"), sink.put(b"two")];
+        assert_eq!(rt;
+            puts[0],
+            if nth == 1 {
+                Err(PutFault::Failed)
+            } else {
+                Ok(())
+            }
+        );
+        assert_eq!(rt;
+            puts[1],
+            if nth == 2 {
+                Err(PutFault::Failed)
+            } else {
+                Ok(())
+            }
+        );
+        assert_eq!(rt; sink.bytes().as_slice(), want, "put {nth}");
+    }
+    Ok(())
+}
+
+#[test]
+fn system_folder_reaches_files(rt: HostRuntime) -> Result<(), Fail> {
+    let alloc = rt.alloc();
+    let id = process::id(rt.process());
+    let dir = format!(in alloc; "/tmp/tet_ports_{id}")?;
+    fs::create_dir(&rt, dir.as_str())?;
+    let path = format!(in alloc; "{dir}/a.node")?;
+    let name = Name::from_slice(alloc, path.as_bytes())?;
+    let mut folder = OsFolder::new(&rt);
+    assert!(rt; matches!(folder.fetch(alloc, &name, 9), Err(FetchFault::Missing)));
+
+    // Three blocks and a part.
+    let mut text = Bytes::new(alloc);
+    for i in 0..40_000u32 {
+        text.append(&i.to_be_bytes())?;
+        text.append(b"\n")?;
+    }
+    assert!(rt; folder.store(&name, &text).is_ok());
+    let most = text.len();
+    let back = folder.fetch(alloc, &name, most)?;
+    assert!(rt; back.as_slice() == text.as_slice());
+    let back = folder.fetch(alloc, &name, usize::MAX)?;
+    assert!(rt; back.as_slice() == text.as_slice());
+    for most in [0, 70_000, 199_999] {
+        match folder.fetch(alloc, &name, most) {
+            Err(FetchFault::TooLarge { taken }) => {
+                assert_eq!(rt; taken.len(), most + 1);
+            }
+            _ => return Err("not too large".into()),
+        }
+    }
+
+    // A shorter text leaves nothing of the longer one.
+    assert!(rt;
+        folder
+            .store(&name, &Bytes::from_slice(alloc, b"4 3")?)
+            .is_ok()
+    );
+    assert_eq!(rt;
+        folder.fetch(alloc, &name, 3)?.as_slice(),
+        b"4 3".as_slice()
+    );
+
+    // No name in UTF-8, and a folder.
+    for path in [b"\xff".as_slice(), dir.as_bytes()] {
+        let name = Name::from_slice(alloc, path)?;
+        assert!(rt; matches!(folder.fetch(alloc, &name, 9), Err(FetchFault::Failed)));
+        assert_eq!(rt; folder.store(&name, &text), Err(StoreFault::Failed));
+    }
+    fs::remove_dir_all(&rt, dir.as_str())?;
+    Ok(())
+}
+
+/// Gives or takes at most three bytes at a call, is interrupted once, and fails where it is at `cut`.
+#[derive(Drop)]
+struct Choppy {
+    bytes: Vec<u8>,
+    at: usize,
+    cut: Option<usize>,
+    is_interrupted: bool,
+    fails_flush: bool,
+}
+
+impl Choppy {
+    fn new(alloc: Global, cut: Option<usize>) -> Self {
+        Choppy {
+            bytes: Vec::new(alloc),
+            at: 0,
+            cut,
+            is_interrupted: false,
+            fails_flush: false,
+        }
+    }
+
+    fn step(&mut self) -> io::Result<()> {
+        if self.cut == Some(self.at) {
+            return Err(io::Error::from(io::ErrorKind::BrokenPipe));
+        }
+        if self.at == 3 && !self.is_interrupted {
+            self.is_interrupted = true;
+            return Err(io::Error::from(io::ErrorKind::Interrupted));
+        }
+        Ok(())
+    }
+}
+
+impl Read for Choppy {
+    fn read(&mut self, buf: &mut [u8]) -> io::Result<usize> {
+        self.step()?;
+        let start = self.at.min(self.bytes.len());
+        let count = (self.bytes.len() - start).min(buf.len()).min(3);
+        buf[..count].copy_from_slice(&self.bytes[start..start + count]);
+        self.at = start + count;
+        Ok(count)
+    }
+}
+
+impl Write for Choppy {
+    fn write(&mut self, buf: &[u8]) -> io::Result<usize> {
+        self.step()?;
+        let count = buf.len().min(3);
+        self.bytes.extend_from_slice(&buf[..count])?;
+        self.at = self.bytes.len();
+        Ok(count)
+    }
+
+    fn flush(&mut self) -> io::Result<()> {
+        if self.fails_flush {
+            return Err(io::Error::from(io::ErrorKind::BrokenPipe));
+        }
+        Ok(())
+    }
+}
+
+#[test]
+fn short_interrupted_and_failing_reads(rt: HostRuntime) -> Result<(), Fail> {
+    let alloc = rt.alloc();
+    for (cut, most, want) in [
+        (None, 10, Ok(10)),
+        (None, 9, Err(10)),
+        (None, 4, Err(5)),
+        (Some(6), 10, Err(0)),
+        (Some(0), 10, Err(0)),
+    ] {
+        let mut reader = Choppy::new(alloc, cut);
+        reader.bytes.extend_from_slice(b"0123456789")?;
+        let got = match read_whole(alloc, &mut reader, most) {
+            Ok(bytes) => Ok(bytes.len()),
+            Err(FetchFault::TooLarge { taken }) => Err(taken.len()),
+            Err(_) => Err(0),
+        };
+        assert_eq!(rt; got, want, "at most {most}");
+    }
+    Ok(())
+}
+
+#[test]
+fn short_interrupted_and_failing_writes(rt: HostRuntime) -> Result<(), Fail> {
+    let alloc = rt.alloc();
+    for (cut, want) in [
+        (None, b"0123456789".as_slice()),
+        (Some(6), b"012345".as_slice()),
+        (Some(0), b"".as_slice()),
+    ] {
+        let mut writer = Choppy::new(alloc, cut);
+        let written = write_whole(&mut writer, b"0123456789");
+        assert_eq!(rt; written.is_ok(), cut.is_none());
+        assert_eq!(rt; writer.bytes.as_slice(), want);
+    }
+    Ok(())
+}
+
+#[test]
+fn standard_sink_writes_and_flushes(rt: HostRuntime) -> Result<(), Fail> {
+    let alloc = rt.alloc();
+    for (cut, fails_flush, want) in [
+        (None, false, Ok(())),
+        (Some(6), false, Err(PutFault::Failed)),
+        (None, true, Err(PutFault::Failed)),
+    ] {
+        let mut writer = Choppy::new(alloc, cut);
+        writer.fails_flush = fails_flush;
+        let mut sink = StdSink::new(writer);
+        assert_eq!(rt; sink.put(b"points 4\n"), want);
+    }
+    // A writer that is full takes nothing.
+    let mut room = [0; 4];
+    let mut full = StdSink::new(room.as_mut_slice());
+    assert_eq!(rt; full.put(b"points"), Err(PutFault::Failed));
+    Ok(())
+}
+
+/// Sets one file to the bytes of another, over any folder, also one that tells nothing.
+fn copy_file<F: Folder>(alloc: Global, folder: &mut F, from: &Name, to: &Name) -> Result<(), NoCopy>
+    ensures done { OnOk result ((text : List ℕ) × Holds (F.held folder.old) from.now text × (F.held folder.new ≡ with_file (F.held folder.old) to.now text)) }
+    ensures refused { OnErr result ((text : List ℕ) × PartlyStored (F.held folder.old) to.now text (F.held folder.new)) }
+    ensures untold { F.held folder.old ≡ None → F.held folder.new ≡ None }
+{
+    let Ok(text) = folder.fetch(alloc, from, 100) else {
+        return Err(NoCopy);
+    };
+    match folder.store(to, &text) {
+        Ok(()) => Ok(()),
+        Err(_) => Err(NoCopy),
+    }
+}
+
+#[derive(Debug, PartialEq, Eq, Clone, Copy)]
+struct NoCopy;
+
+#[test]
+fn any_folder_copies_a_file(rt: HostRuntime) -> Result<(), Fail> {
+    let alloc = rt.alloc();
+    let (from, to) = (
+        Name::from_slice(alloc, b"from")?,
+        Name::from_slice(alloc, b"to")?,
+    );
+    let mut folder = MemFolder::new(alloc);
+    assert_eq!(rt; copy_file(alloc, &mut folder, &from, &to), Err(NoCopy));
+    folder.add(&from, &Bytes::from_slice(alloc, b"text")?)?;
+    assert_eq!(rt; copy_file(alloc, &mut folder, &from, &to), Ok(()));
+    let held = folder.get(&to).ok_or("not stored")?;
+    assert_eq!(rt; held.as_slice(), b"text".as_slice());
+    let mut files = OsFolder::new(&rt);
+    assert_eq!(rt;
+        copy_file(alloc, &mut files, &Name::new(alloc), &to),
+        Err(NoCopy)
+    );
+    Ok(())
+}

@@ -1,0 +1,164 @@
+ghost use Rattle.std.specs.Prelude.{◌≡◌, ◌<◌, ℕ, Some, None, Err, IfOk, IfSome, IsTrue, length, position, not};
+ghost use Rattle.tetgen.specs.Words.{is_name, is_cluster, is_switch, has_switch, cluster_fault, is_complex_name, word_fault, words_fault, is_switched, name_of, extension_of, options_of};
+ghost use Rattle.tetgen.specs.declared.words.WordsFault.TheVariants.{Usage};
+
+use crate::names::base_of;
+use crate::words::{Extension, Options, WordsFault};
+use std::alloc::Global;
+use tet_ports::{Name, Words};
+
+/// Reads the words of the command line.
+///
+/// `Usage` exactly where they are not in the grammar, with the first fault: the word's number and the place in it.
+pub fn read_words(alloc: Global, words: &Words) -> Result<Options, WordsFault>
+    ensures understood { IfOk result (λ options. words_fault words.now ≡ None) }
+    ensures options { IfOk result (λ options. options ≡ options_of words.now) }
+    ensures usage { (word place : ℕ) → result ≡ Err (Usage word place) → words_fault words.now ≡ Some (word, place) }
+{
+    if let Some((word, place)) = first_fault(words) {
+        return Err(WordsFault::Usage { word, place });
+    }
+    let name = name_of(words);
+    Ok(Options {
+        piecewise: false,
+        neighbors: is_switched(words, b'n'),
+        all_faces: is_switched(words, b'f'),
+        edges: is_switched(words, b'e'),
+        from_zero: is_switched(words, b'z'),
+        keep_hull: false,
+        regions: false,
+        quiet: is_switched(words, b'Q'),
+        no_node: false,
+        no_ele: is_switched(words, b'E'),
+        no_face: is_switched(words, b'F'),
+        budget: 100_000,
+        halvings: 12,
+        decimals: None,
+        sample: None,
+        base: Name::from_slice(alloc, base_of(name))?,
+        extension: extension_of(name),
+    })
+}
+
+/// The first fault of the words: the number of the word and the place in it, both counted from 1.
+pub fn first_fault(words: &Words) -> Option<(usize, usize)>
+    ensures { result ≡ words_fault words.now }
+{
+    let mut named = false;
+    let mut number = 1;
+    for word in words.as_slice() {
+        let bytes = word.as_slice();
+        if named && is_name(bytes) {
+            return Some((number, 1));
+        }
+        if let Some(place) = word_fault(bytes) {
+            return Some((number, place));
+        }
+        named = named || is_name(bytes);
+        number += 1;
+    }
+    if named { None } else { Some((number, 1)) }
+}
+
+/// The place of the fault of a word by itself, counted from 1.
+fn word_fault(word: &[u8]) -> Option<usize>
+    ensures { result ≡ word_fault word.now }
+{
+    if word.is_empty() {
+        Some(1)
+    } else if is_cluster(word) {
+        cluster_fault(&word[1..])
+    } else if is_complex_name(word) {
+        Some(1)
+    } else {
+        None
+    }
+}
+
+/// The place of the first byte that is no switch.
+fn cluster_fault(letters: &[u8]) -> Option<usize>
+    ensures { result ≡ cluster_fault letters.now }
+{
+    if letters.is_empty() {
+        return Some(2);
+    }
+    if letters.starts_with(b"-") {
+        return Some(3);
+    }
+    match first_no_switch(letters) {
+        Some(i) => Some(i + 2),
+        None => None,
+    }
+}
+
+fn first_no_switch(letters: &[u8]) -> Option<usize>
+    ensures value { result ≡ position (λ letter. not (is_switch letter)) letters.now }
+    ensures bound { IfSome result (λ i. i < length letters.now) }
+{
+    letters.iter().position(|letter| !is_switch(*letter))
+}
+
+fn is_switch(letter: u8) -> bool
+    ensures { result ≡ is_switch letter }
+{
+    b"nfezQEF".contains(&letter)
+}
+
+fn is_name(word: &[u8]) -> bool
+    ensures { result ≡ is_name word.now }
+{
+    !word.is_empty() && !is_cluster(word)
+}
+
+fn is_cluster(word: &[u8]) -> bool
+    ensures value { result ≡ is_cluster word.now }
+    ensures bound { IsTrue result → 0 < length word.now }
+{
+    word.starts_with(b"-")
+}
+
+/// Whether the name is that of a complex, which are not read yet.
+fn is_complex_name(word: &[u8]) -> bool
+    ensures { result ≡ is_complex_name word.now }
+{
+    word.ends_with(b".poly") || word.ends_with(b".smesh")
+}
+
+/// Whether the word is one of switches and has the letter.
+fn has_switch(word: &[u8], letter: u8) -> bool
+    ensures { result ≡ has_switch word.now letter }
+{
+    is_cluster(word) && word.contains(&letter)
+}
+
+/// Whether some word of switches has the letter.
+fn is_switched(words: &Words, letter: u8) -> bool
+    ensures { result ≡ is_switched words.now letter }
+{
+    words
+        .as_slice()
+        .iter()
+        .any(|word| has_switch(word.as_slice(), letter))
+}
+
+/// The first name among the words, or the empty one.
+fn name_of(words: &Words) -> &[u8]
+    ensures { result.now ≡ name_of words.now }
+{
+    for word in words.as_slice() {
+        if is_name(word.as_slice()) {
+            return word.as_slice();
+        }
+    }
+    b""
+}
+
+fn extension_of(name: &[u8]) -> Option<Extension>
+    ensures { result ≡ extension_of name.now }
+{
+    if name.ends_with(b".node") {
+        Some(Extension::Node)
+    } else {
+        None
+    }
+}
