@@ -28,7 +28,7 @@ abbrev pub joined : Option ℕ → NodeText → Result (List Point × List Conte
 joined before text read = read >>= λ x. Ok (with_points before text x.0, x.1)
 
 -- a step that gave a value
-bind_ok : {A B : Type 0} (r : Result A TextFault) (f : A → Result B TextFault) (y : B) → (r >>= f) ≡ Ok y → (x : A) × (r ≡ Ok x) × (f x ≡ Ok y)
+pub bind_ok : {A B : Type 0} (r : Result A TextFault) (f : A → Result B TextFault) (y : B) → (r >>= f) ≡ Ok y → (x : A) × (r ≡ Ok x) × (f x ≡ Ok y)
 bind_ok (Ok x) f y e = (x, refl, e)
 bind_ok (Err fault) f y e = absurd cc
 
@@ -36,10 +36,10 @@ bind_err : {A B : Type 0} (r : Result A TextFault) (f : A → B) (fault : TextFa
 bind_err (Ok x) f fault e = absurd cc
 bind_err (Err other) f fault e = cc
 
-abbrev done : {A : Type 0} → A → Result A TextFault
+abbrev pub done : {A : Type 0} → A → Result A TextFault
 done x = Ok x
 
-ok_is : {A : Type 0} (x y : A) → done x ≡ done y → x ≡ y
+pub ok_is : {A : Type 0} (x y : A) → done x ≡ done y → x ≡ y
 ok_is x y e = cc
 
 regroup : (before : Option ℕ) (text : NodeText) (point : Point) (read : Result (List Point × List ContentLine) TextFault) → joined before text (read >>= λ x. Ok (point ∷ x.0, x.1)) ≡ joined (Some point.number) (with_point before text point) read

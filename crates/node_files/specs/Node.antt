@@ -1,5 +1,5 @@
 -- Point lists.
-use Rattle.std.specs.Prelude.{ℕ, zero, suc, Bool, List, [], ◌∷◌, ◌++◌, map, Option, Some, None, Result, Ok}
+use Rattle.std.specs.Prelude.{◌≡◌, ◌≤◌, ◌<◌, ◌*◌, ◌-◌, ◌^◌, length, if◌then◌else◌, ℕ, zero, suc, Bool, List, [], ◌∷◌, ◌++◌, map, Option, Some, None, Result, Ok}
 use Rattle.std.specs.List.{flat_map}
 use Rattle.tet_text.specs.declared.fault.TextFault.{TextFault}
 use Rattle.tet_text.specs.Lines.{ContentLine}
@@ -68,3 +68,10 @@ abbrev pub point_onto : Header → Option ℕ → ContentLine → NodeText → R
 point_onto header before line text = do
   point ← point_of header.attribute_count header.flag before line
   Ok (point.number, with_point before text point)
+
+-- a table: its first number is 0 or 1, each point has as many attributes as stated and a marker where the flag is set, and the points can be named by 32 bits
+pub record IsNodeText (text : NodeText) : Type 0 where
+  pub first : text.first ≤ 1
+  pub attributes : length text.attributes ≡ text.attribute_count * length text.decimals
+  pub markers : length text.markers ≡ (if text.flag then length text.decimals else 0)
+  pub few : length text.decimals < 2 ^ 32 - 1

@@ -10,3 +10,6 @@ mod reading;
 pub use fault::NodeFault;
 pub use node_text::{Markers, NodeText};
 pub use reading::{read_node, read_node_list};
+
+#[cfg(test)]
+mod tests;

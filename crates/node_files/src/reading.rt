@@ -1,11 +1,11 @@
 //! Point lists.
 
-ghost use Rattle.std.specs.Prelude.{◌≡◌, ◌<◌, ◌≤◌, ◌+◌, ◌-◌, ◌^◌, length, OnErr, true};
+ghost use Rattle.std.specs.Prelude.{◌≡◌, ◌<◌, ◌≤◌, ◌+◌, ◌-◌, ◌^◌, length, OnErr, IfOk, true};
 ghost use Rattle.tet_text.specs.Lines.{content_lines, line_count_of};
 ghost use Rattle.tet_text.specs.Views.{content_left, line_total};
 ghost use Rattle.node_files.specs.Outcome.{Gives};
 ghost use Rattle.node_files.specs.Point.{is_next};
-ghost use Rattle.node_files.specs.Node.{first_with, point_onto, points_table, node_list_of, node_of};
+ghost use Rattle.node_files.specs.Node.{first_with, point_onto, points_table, node_list_of, node_of, IsNodeText};
 
 use crate::header::{Header, read_header};
 use crate::point::{read_attributes, read_index, read_marker, read_place};
@@ -88,6 +88,7 @@ pub fn read_node_list(alloc: Global, lines: &mut Lines) -> Result<NodeText, Node
     ensures value { Gives (λ text. (text, content_left lines.new)) result (node_list_of (line_total lines.old) (content_left lines.old)) }
     ensures count { line_total lines.new ≡ line_total lines.old }
     ensures err { OnErr result (lines.new ≡ lines.old) }
+    ensures table { IfOk result IsNodeText }
 {
     let mut ahead = *lines;
     let text = node_list(alloc, &mut ahead)?;
@@ -99,7 +100,8 @@ pub fn read_node_list(alloc: Global, lines: &mut Lines) -> Result<NodeText, Node
 #[tactic(auto, unfolding(crate::specs::Node::node_of))]
 pub fn read_node(alloc: Global, bytes: &Bytes) -> Result<NodeText, NodeFault>
     requires { length bytes.now < 2 ^ 32 - 1 }
-    ensures { Gives (λ text. text) result (node_of (line_count_of bytes.now) (content_lines bytes.now)) }
+    ensures value { Gives (λ text. text) result (node_of (line_count_of bytes.now) (content_lines bytes.now)) }
+    ensures table { IfOk result IsNodeText }
 {
     let mut lines = Lines::new(bytes.as_slice());
     let text = read_node_list(alloc, &mut lines)?;
