@@ -1,8 +1,15 @@
 -- The content lines of bytes, line by line.
-use Rattle.std.proofs.Common.{◌≡◌, ℕ, ◌<◌, ◌+◌, true, false, cond, ltb, eqb, List, [], ◌∷◌, length, refl, sym, ap, ◌∙◌, arith}
+use Rattle.std.proofs.Common.{◌≡◌, ◌≤◌, ℕ, ◌<◌, ◌+◌, true, false, cond, ltb, eqb, List, [], ◌∷◌, length, refl, sym, ap, ◌∙◌, arith}
 use Rattle.std.specs.List.{before_first, after_first}
 use Rattle.std.proofs.lemmas.Bool.{cond-true, cond-false, lt-ltb, le-ltb, eqb-true, eqb-false}
 use Rattle.std.proofs.lemmas.List.{nil_from_length}
+use Rattle.std.specs.Prelude.{map}
+use Rattle.std.specs.List.{enumerate_from}
+use Rattle.std.proofs.lemmas.List.{length-map}
+use Rattle.std.proofs.lemmas.List.FromFn.{length-enumerate_from}
+use Rattle.std.proofs.lemmas.List.Sums.{length-filter, count_by-le-length}
+use Rattle.tet_text.specs.declared.lines.Lines.{Lines}
+use Rattle.tet_text.specs.Views.{content_left, line_total}
 use Rattle.tet_text.specs.Lines.{ContentLine, is_line_feed, lines_of, content_line, content_lines_from}
 use Rattle.tet_text.proofs.Cutting.{lines_of-nil, lines_of-cons}
 
@@ -48,3 +55,16 @@ pub next_counts : (n : ℕ) (bytes rest : List ℕ) → eqb (length bytes) 0 ≡
 next_counts n bytes rest some rest-is =
     let long = eqb-false (length bytes) 0 some in
     rw rest-is (omega (arith, one_line_more bytes (omega arith)))
+
+-- there are at most as many content lines as lines
+length-content_lines_from : (n : ℕ) (lines : List (List ℕ)) → length (content_lines_from n lines) ≤ length lines
+unfolding content_lines_from
+length-content_lines_from n lines =
+    let all = map content_line (enumerate_from n lines) in
+    let kept = length-filter (λ line. ltb 0 (length line.fields)) all in
+    let most = count_by-le-length (λ line. ltb 0 (length line.fields)) all in
+    omega (arith, length-map {B = ContentLine} (enumerate_from n lines) content_line, length-enumerate_from n lines)
+
+pub content_left_few : (lines : Lines) → length (content_left lines) ≤ line_total lines
+unfolding content_left line_total
+content_left_few lines = omega (arith, length-content_lines_from (lines.passed + 1) (lines_of lines.rest.now))

@@ -6,7 +6,7 @@ use Rattle.std.proofs.lemmas.Bool.{cases_lt, cases_Bool, cond-true, cond-false, 
 use Rattle.std.proofs.lemmas.List.{take_all, length-take, length-drop, nil_from_length}
 use Rattle.std.proofs.Math.ListN.{drop_of_length-le}
 use Rattle.std.proofs.lemmas.List.Sums.{fails_before_first}
-use Rattle.std.proofs.lemmas.List.Splits.{slice_split_first, slice_split_none}
+use Rattle.std.proofs.lemmas.List.Splits.{slice_split_first, slice_split_none, slice_split-cons_yes, slice_split-cons_no}
 use Rattle.tet_text.specs.Lines.{is_line_feed, is_blank, is_no_blank, without_empty_last, lines_of, fields_of, without_blanks}
 
 -- where fails element passes, all stands before the first that does, and nothing after it
@@ -134,3 +134,25 @@ pub next_fields_are : (xs : List ℕ) → eqb (length xs) 0 ≡ false → withou
 next_fields_are xs some front =
     let e = eqb-false (length xs) 0 some in
     fields_of-cons xs (omega arith) front ∙ ap (λ (ys : List (List ℕ)). before_first is_blank xs ∷ ys) (sym (fields_of-without_blanks (after_first is_blank xs)))
+
+-- one more byte makes at most one more line
+longer_first : (x : ℕ) (parts : List (List ℕ)) → length (without_empty_last (onto_first x parts)) ≤ length (without_empty_last parts) + 1
+longer_first x [] = let e : length (without_empty_last ((x ∷ []) ∷ [])) ≡ 1 = ap length (only_part (x ∷ []) (omega arith)) in omega arith
+longer_first x (part ∷ []) = let e : length (without_empty_last ((x ∷ part) ∷ [])) ≡ 1 = ap length (only_part (x ∷ part) (omega arith)) in omega arith
+longer_first x (part ∷ next ∷ more) = omega arith
+
+one_more_byte : (x : ℕ) (xs : List ℕ) → length (lines_of (x ∷ xs)) ≤ length (lines_of xs) + 1
+unfolding lines_of
+one_more_byte x xs =
+    elim (cases_Bool (is_line_feed x)) [
+      | inl passes ↦
+          let rest = split_is_cons is_line_feed xs in
+          let e = ap length (ap without_empty_last (slice_split-cons_yes is_line_feed x xs passes) ∙ keeps_first [] (slice_split is_line_feed xs) rest.0 rest.1 rest.2) in
+          omega arith
+      | inr fails ↦ rw (slice_split-cons_no is_line_feed x xs fails) (longer_first x (slice_split is_line_feed xs))
+    ]
+
+-- each line has a byte
+pub length-lines_of : (xs : List ℕ) → length (lines_of xs) ≤ length xs
+length-lines_of [] = rw lines_of-nil (omega arith)
+length-lines_of (x ∷ xs) = omega (arith, one_more_byte x xs, length-lines_of xs)

@@ -3,3 +3,4 @@ pub mod ContentLines
 pub mod Numerals
 pub mod Scaling
 pub mod Texts
+pub mod Value

@@ -118,7 +118,7 @@ below_limit_small n =
       | inr le ↦ rw (le-ltb n (10 ^ 36) le) tt
     ]
 
-abs_signed : (negative : Bool) (n : ℕ) → unsigned_abs (signed negative n) ≡ n
+pub abs_signed : (negative : Bool) (n : ℕ) → unsigned_abs (signed negative n) ≡ n
 abs_signed false n = refl
 abs_signed true zero = refl
 abs_signed true (suc n) = refl

@@ -1,8 +1,8 @@
 -- Decimals: their text, and the number that it writes.
-use Rattle.std.specs.Prelude.{◌≢◌, ℕ, zero, suc, ◌+◌, ◌*◌, ◌/◌, ◌%◌, ◌^◌, ◌<◌, ℤ, pos, neg_ℤ, unsigned_abs, Bool, ◌||◌, List, [], ◌∷◌, ◌++◌, length, Option, Some, None, option_and_then, unwrap_or, position, drop, nat_lt, ◌==◌, if◌then◌else◌}
+use Rattle.std.specs.Prelude.{◌≡◌, ◌≢◌, ℕ, zero, suc, ◌+◌, ◌*◌, ◌/◌, ◌%◌, ◌^◌, ◌<◌, ℤ, pos, neg_ℤ, unsigned_abs, Bool, ◌||◌, List, [], ◌∷◌, ◌++◌, length, Option, Some, None, option_and_then, unwrap_or, position, drop, nat_lt, ◌==◌, if◌then◌else◌}
 use Rattle.std.specs.Option.{option_map}
 use Rattle.std.specs.List.{before_first, after_first}
-use Rattle.std.specs.Str.Parse.{starts_with_minus, without_leading_sign}
+use Rattle.std.specs.Str.Parse.{digits_value, starts_with_minus, without_leading_sign}
 use Rattle.tet_text.specs.Numbers.{number_of}
 
 infixl 10 ◌>>=◌
@@ -83,3 +83,19 @@ decimal_of_parts parts = do
 -- the decimal that the text writes
 abbrev pub decimal_of : List ℕ → Option Scaled
 decimal_of text = decimal_of_parts (parts_of text)
+
+abbrev pub exponent_size : Parts → ℕ
+exponent_size parts = digits_value 10 (without_leading_sign parts.exponent)
+
+-- by how many tens the exponent raises the number
+abbrev pub raising : Parts → ℕ
+raising parts = if starts_with_minus parts.exponent then 0 else exponent_size parts
+
+-- by how many tens the fraction and the exponent lower it
+abbrev pub lowering : Parts → ℕ
+lowering parts = length parts.fraction + (if starts_with_minus parts.exponent then exponent_size parts else 0)
+
+-- value / 10^scale is what the parts write: their digits × 10^raising / 10^lowering, with their sign
+pub record IsNumberOf (parts : Parts) (d : Scaled) : Type 0 where
+  pub size : unsigned_abs d.value * 10 ^ lowering parts ≡ digits_value 10 (parts.whole ++ parts.fraction) * 10 ^ raising parts * 10 ^ d.scale
+  pub sign : d.value ≡ signed parts.negative (unsigned_abs d.value)

@@ -4,3 +4,4 @@ pub mod Numbers
 pub mod Decimals
 pub mod Faults
 pub mod Printing
+pub mod Reading

@@ -1,7 +1,7 @@
-ghost use Rattle.std.specs.Prelude.{◌≡◌, ◌≤◌, ◌<◌, ◌*◌, ◌^◌, ◌++◌, length, IfSome, pos};
+ghost use Rattle.std.specs.Prelude.{◌≡◌, IfOk, ◌≤◌, ◌<◌, ◌*◌, ◌^◌, ◌++◌, length, IfSome, pos};
 ghost use Rattle.std.specs.Option.{ok_or};
 ghost use Rattle.tet_text.specs.Numbers.{number_of};
-ghost use Rattle.tet_text.specs.Decimals.{IsDecimal, below_limit, scaled_of, lowest, signed, steps_of, decimal_of};
+ghost use Rattle.tet_text.specs.Decimals.{IsDecimal, below_limit, scaled_of, lowest, signed, steps_of, parts_of, decimal_of, IsNumberOf};
 ghost use Rattle.tet_text.specs.Faults.{not_a_number};
 
 use crate::cuts::{cut_exponent, cut_point};
@@ -125,7 +125,10 @@ fn decimal_in(text: &[u8]) -> Option<Decimal>
 /// them, and perhaps an exponent of 1 to 3 digits behind them; NotANumber where the field is not of
 /// that form, or its size is 10^36 or more.
 pub fn read_decimal(field: &Field) -> Result<Decimal, TextFault>
-    ensures { result ≡ ok_or (decimal_of field.now.text.now) (not_a_number field.now.line) }
+    ensures value { result ≡ ok_or (decimal_of field.now.text.now) (not_a_number field.now.line) }
+
+    // It is the number that the text writes.
+    ensures exact { IfOk result (IsNumberOf (parts_of field.now.text.now)) }
 {
     decimal_in(field.bytes()).ok_or(no_number(field))
 }

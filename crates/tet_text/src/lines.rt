@@ -1,4 +1,4 @@
-ghost use Rattle.std.specs.Prelude.{◌≡◌, ◌==◌, ◌<◌, ◌^◌, ◌+◌, [], ◌∷◌, length, MatchOption, IfSome};
+ghost use Rattle.std.specs.Prelude.{◌≡◌, ◌==◌, ◌<◌, ◌≤◌, ◌^◌, ◌+◌, [], ◌∷◌, length, MatchOption, IfSome};
 
 use crate::cuts::{before_comment, cut_field, cut_line, skip_blanks};
 use std::marker::Model;
@@ -46,6 +46,7 @@ impl<'a> Lines<'a> {
     pub fn new(bytes: &'a [u8]) -> Lines<'a>
         ensures content { content_left result ≡ content_lines bytes.now }
         ensures count { line_total result ≡ line_count_of bytes.now }
+        ensures short { line_total result ≤ length bytes.now }
     {
         Lines {
             rest: bytes,
@@ -96,10 +97,18 @@ impl<'a> Fields<'a> {
         }
     }
 
-    fn is_empty(&self) -> bool
+    /// Whether the line has no further field.
+    pub fn is_empty(&self) -> bool
         ensures { result ≡ (length self.now.fields == 0) }
     {
         self.rest.is_empty()
+    }
+
+    /// The number of the line.
+    pub fn line(&self) -> usize
+        ensures { result ≡ self.now.line }
+    {
+        self.line
     }
 
     /// The next field, or None where the line has no further one.

@@ -1,4 +1,4 @@
-ghost use Rattle.std.specs.Prelude.{◌≡◌};
+ghost use Rattle.std.specs.Prelude.{◌≡◌, ◌<◌, ◌^◌, IfSome, IfOk};
 ghost use Rattle.std.specs.Option.{ok_or};
 ghost use Rattle.tet_text.specs.Numbers.{count_of, whole_of};
 ghost use Rattle.tet_text.specs.Faults.{not_a_number};
@@ -17,7 +17,8 @@ pub(crate) fn no_number(field: &Field) -> TextFault
 }
 
 fn count(text: &[u8]) -> Option<u64>
-    ensures { result ≡ count_of text.now }
+    ensures value { result ≡ count_of text.now }
+    ensures small { IfSome result (λ n. n < 10 ^ 18) }
 {
     let number = digits(text, 18)?;
     Some(number as u64)
@@ -33,7 +34,8 @@ fn whole(text: &[u8]) -> Option<i64>
 
 /// The count that the field writes with 1 to 18 digits; NotANumber where it is not of that form.
 pub fn read_count(field: &Field) -> Result<u64, TextFault>
-    ensures { result ≡ ok_or (count_of field.now.text.now) (not_a_number field.now.line) }
+    ensures value { result ≡ ok_or (count_of field.now.text.now) (not_a_number field.now.line) }
+    ensures small { IfOk result (λ n. n < 10 ^ 18) }
 {
     count(field.bytes()).ok_or(no_number(field))
 }

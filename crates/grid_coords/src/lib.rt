@@ -1,0 +1,6 @@
+//! Points with decimal coordinates.
+#![tactic(auto)]
+
+mod points;
+
+pub use points::{DecimalPoint, DecimalPoints};

@@ -1,0 +1,4 @@
+pub mod Counts
+pub mod Attributes
+pub mod Points
+pub mod Tables

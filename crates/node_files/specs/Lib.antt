@@ -1,0 +1,4 @@
+pub mod Header
+pub mod Outcome
+pub mod Point
+pub mod Node

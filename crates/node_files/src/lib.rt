@@ -1,0 +1,15 @@
+//! Point lists, the `.node` files.
+#![tactic(auto)]
+
+mod fault;
+mod header;
+mod node_text;
+mod point;
+mod reading;
+
+pub use fault::NodeFault;
+pub use node_text::{Markers, NodeText};
+pub use reading::{read_node, read_node_list};
+
+#[cfg(test)]
+mod tests;
