@@ -75,7 +75,9 @@ fn orient_rat_sum(a: GridPoint, b: GridPoint, c: GridPoint, x: RatPoint) -> i128
     )
 }
 
-/// On which side of the plane through `a`, `b` and `c` the rational point `x` lies, as `orient` for a grid point.
+/// On which side of the plane through `a`, `b` and `c` the rational point `x` lies, as `orient` for a grid point. The sum is that of
+/// `orient` times `w`. It stays within 128 bits: `w` is at most `10^6` and the coordinates of `x` at most `(2^23 + 1) * w` in size, so
+/// that the sum is below `2^95`.
 #[inline]
 pub fn orient_rat(a: GridPoint, b: GridPoint, c: GridPoint, x: RatPoint) -> Sign
     ensures { IsSignOf result (orient_rational a b c x) }
