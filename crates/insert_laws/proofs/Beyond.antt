@@ -1,8 +1,9 @@
 -- A walk over the hull faces that the new point sees, to one that it is strictly beyond: from each the leg between the new point and a point near the middle of the last one
 -- leads across an edge, where the plane of the next face cuts the leg nearer to its end.
+use Rattle.exact_algebra.proofs.Signs.{nonneg_of_pos}
 use Rattle.geo_laws.proofs.Heights.{order-trans}
 use Rattle.geo_laws.proofs.Arrangement.{even_residual}
-use Rattle.std.proofs.Common.{◌≡◌, ◌≢◌, ◌⊎◌, inl, inr, ℕ, zero, suc, ℤ, pos, neg_ℤ, ◌-ℤ◌, ◌*ℤ◌, ◌<ℤ◌, ◌≤ℤ◌, List, length, ap, sym, subst, ◌∙◌, arith}
+use Rattle.std.proofs.Common.{◌≡◌, ◌≢◌, ◌⊎◌, inl, inr, ℕ, zero, suc, ℤ, pos, neg_ℤ, ◌-ℤ◌, ◌*ℤ◌, ◌<ℤ◌, List, length, ap, sym, subst, ◌∙◌, arith}
 use Rattle.std.specs.Prelude.{Contains}
 use Rattle.std.proofs.lemmas.Int.{ints}
 use Rattle.sign_predicates.specs.Point.{Point, RationalPoint}
@@ -84,12 +85,9 @@ nearer_at qs mid x f g k = weight qs mid f *ℤ neg_ℤ (lift qs mid g x k) -ℤ
 abbrev pub nearer : List Point → RationalPoint → ℕ → Face → Face → Type 0
 nearer qs mid x f g = IsLexAbove (nearer_at qs mid x f g) (edge_places (length qs))
 
-weak : (a : ℤ) → pos 0 <ℤ a → pos 0 ≤ℤ a
-weak a h = omega (arith, ints)
-
 pub nearer_trans : (qs : List Point) (mid : RationalPoint) (x : ℕ) (s t u : Face) → pos 0 <ℤ weight qs mid s → pos 0 <ℤ weight qs mid t → pos 0 <ℤ weight qs mid u → nearer qs mid x s t → nearer qs mid x t u → nearer qs mid x s u
 nearer_trans qs mid x s t u hs ht hu st tu =
-    sum_first (weight qs mid t) (weight qs mid u) (weight qs mid s) (nearer_at qs mid x s u) (nearer_at qs mid x s t) (nearer_at qs mid x t u) (edge_places (length qs)) ht hu (weak _ hs)
+    sum_first (weight qs mid t) (weight qs mid u) (weight qs mid s) (nearer_at qs mid x s u) (nearer_at qs mid x s t) (nearer_at qs mid x t u) (edge_places (length qs)) ht hu (nonneg_of_pos _ hs)
     (λ k. sym (order-trans (weight qs mid s) (weight qs mid t) (weight qs mid u) (neg_ℤ (lift qs mid s x k)) (neg_ℤ (lift qs mid t x k)) (neg_ℤ (lift qs mid u x k)))) st (inl tu)
 
 pub nearer_never : (qs : List Point) (mid : RationalPoint) (x : ℕ) (s : Face) → nearer qs mid x s s → ⊥
@@ -154,7 +152,7 @@ module _ (ps : List Point) (ms : List ℕ) (p : ℕ) (new : IsNew ps ms p) (t : 
           seen_b : IsLexBelow (edge_gap ps mid f.b f.a b p) (edge_places (length ps))
           seen_b = sum_first (neg_ℤ (edge_side ps mid f.b f.a f.c)) (edge_side ps mid f.b f.a b) (edge_side ps mid f.b f.a p)
               (λ k. neg_ℤ (edge_gap ps mid f.b f.a b p k)) (edge_gap ps mid f.b f.a f.c p) (λ k. neg_ℤ (edge_gap ps mid f.b f.a f.c b k)) (edge_places (length ps))
-              under.under low_b.over (weak _ beyond')
+              under.under low_b.over (nonneg_of_pos _ beyond')
               (λ k. identity.solve-walk (edge_side ps mid f.b f.a f.c) (edge_gap ps mid f.b f.a b p k) (edge_side ps mid f.b f.a b) (edge_gap ps mid f.b f.a f.c p k)
               (edge_side ps mid f.b f.a p) (edge_gap ps mid f.b f.a f.c b k) ((edge.edge_pencil ps mid f.b f.a).relation f.c b p k))
               seen' (inl below_b)

@@ -1,4 +1,5 @@
 -- Where the new point is strictly beyond a hull face, each place of the cavity is joined to the ghost of that face.
+use Rattle.exact_algebra.proofs.Signs.{nonneg_of_pos}
 use Rattle.geo_laws.proofs.Places.{number}
 use Rattle.std.proofs.Common.{◌≡◌, ◌≢◌, ◌⊎◌, inl, inr, ℕ, zero, suc, ◌+◌, ◌<◌, ℤ, pos, neg_ℤ, nat_abs, ◌+ℤ◌, ◌-ℤ◌, ◌*ℤ◌, ◌<ℤ◌, ◌≤ℤ◌, List, length, refl, ap, sym, subst, ◌∙◌, arith}
 use Rattle.std.specs.Prelude.{Contains}
@@ -33,9 +34,6 @@ use Rattle.insert_laws.proofs.Inside as inside
 use Rattle.insert_laws.proofs.Beyond.{turn, weight, lift, ghost-turn, IsGhost, nearer, nearer_trans, nearer_never, nearer-turn, IsAcross, ghost_weight, across}
 
 -- ---- no hull face below another
-
-weak : (a : ℤ) → pos 0 <ℤ a → pos 0 ≤ℤ a
-weak a h = omega (arith, ints)
 
 not_negative : (n : ℤ) → ¬ (pos 0 <ℤ neg_ℤ n) → pos 0 ≤ℤ n
 not_negative n h = go (sign_of n)
@@ -125,8 +123,8 @@ module _ (ps : List Point) (ms : List ℕ) (p : ℕ) (new : IsNew ps ms p) (t : 
       (above_add (λ k. edge_side qs mid g.b g.c n *ℤ lift qs mid f g.a k) (λ k. edge_side qs mid g.c g.a n *ℤ lift qs mid f g.b k +ℤ edge_side qs mid g.a g.b n *ℤ lift qs mid f g.c k) ks
       (lex_scale (edge_side qs mid g.b g.c n) (lift qs mid f g.a) ks ha (lift_away f gf g.a gg.hull.on.on_a na nb nc))
       (at_least_add (λ k. edge_side qs mid g.c g.a n *ℤ lift qs mid f g.b k) (λ k. edge_side qs mid g.a g.b n *ℤ lift qs mid f g.c k) ks
-      (at_least_multiple (edge_side qs mid g.c g.a n) (lift qs mid f g.b) ks (weak _ hb) (lift_at_least f gf g.b gg.hull.on.on_b))
-      (at_least_multiple (edge_side qs mid g.a g.b n) (lift qs mid f g.c) ks (weak _ hc) (lift_at_least f gf g.c gg.hull.on.on_c))))
+      (at_least_multiple (edge_side qs mid g.c g.a n) (lift qs mid f g.b) ks (nonneg_of_pos _ hb) (lift_at_least f gf g.b gg.hull.on.on_b))
+      (at_least_multiple (edge_side qs mid g.a g.b n) (lift qs mid f g.c) ks (nonneg_of_pos _ hc) (lift_at_least f gf g.c gg.hull.on.on_c))))
 
   -- p is seen inside g and, from the same point, in closed f: the first corner of g is one of f
   first_shared : (f g : Face) → IsGhost ps ms p mid f → IsGhost ps ms p mid g → pos 0 <ℤ edge_side ps mid g.b g.c p → pos 0 <ℤ edge_side ps mid g.c g.a p
@@ -384,7 +382,7 @@ module _ (ps : List Point) (ms : List ℕ) (p : ℕ) (new : IsNew ps ms p) (t : 
           (subst (λ n. pos 0 <ℤ n) (sym (ring.side_rational-as_rational (triangle ps g) (point ps p))) goal.beyond))
       go (inr b) =
           let above = subst (λ n. pos 0 <ℤ n) (ring.side_rational-as_rational (triangle ps b.face) (point ps p)) b.beyond in
-          onward b above (inside.next ps ms p new (as_rational (point ps p)) r c b (weak _ above))
+          onward b above (inside.next ps ms p new (as_rational (point ps p)) r c b (nonneg_of_pos _ above))
 
   rows_joined : (r : Tet) → inside.IsCavityRow ps ms p r → IsJoined ps ms p (row_place r) (ghost_place g)
   rows_joined r c =

@@ -1,7 +1,8 @@
 -- From Delaunay rows to low rows on their faces, and back.
+use Rattle.geo_laws.proofs.Corners.{contains_or_not}
 use Rattle.geo_laws.proofs.Places.{number}
 use Rattle.geo_laws.proofs.Arrangement as even
-use Rattle.std.proofs.Common.{◌≡◌, ◌≢◌, ◌⊎◌, inl, inr, ℕ, zero, suc, ◌<◌, pos, neg_ℤ, ◌<ℤ◌, List, [], ◌∷◌, length, refl, sym, subst, arith}
+use Rattle.std.proofs.Common.{◌≡◌, ◌≢◌, ◌⊎◌, inl, inr, ℕ, zero, suc, ◌<◌, pos, neg_ℤ, ◌<ℤ◌, List, ◌∷◌, length, refl, sym, subst, arith}
 use Rattle.std.specs.List.{slice_index_or}
 use Rattle.std.specs.Prelude.{IsTrue, ◌↔◌, Contains}
 use Rattle.sign_predicates.specs.Point.{Point}
@@ -10,7 +11,7 @@ use Rattle.sign_predicates.specs.Sphere.{is_outside}
 use Rattle.geo_laws.specs.Delaunay.{point, corners, as_numbers, IsArranged, IsDelaunayAmong, AreNumbersOf}
 use Rattle.geo_laws.specs.Height.{lifted, residual_at, places}
 use Rattle.geo_laws.specs.declared.tetrahedra.Tet.{Tet}
-use Rattle.geo_laws.proofs.Corners.{IsCorner, corner_of, same_or_not}
+use Rattle.geo_laws.proofs.Corners.{IsCorner, corner_of}
 use Rattle.geo_laws.proofs.Places.{A, B, C, D}
 use Rattle.geo_laws.proofs.Corners.{on_of_corners}
 use Rattle.geo_laws.proofs.Corners.{contains_corner}
@@ -89,22 +90,6 @@ of_new ps ms p new = record { within = λ i c. at i (of_cons p ms i c); to = λ 
     at : (i : ℕ) → With (Contains ms) p i → i < length ps
     at i (inl e) = let h = new.on in omega arith
     at i (inr c) = new.within i c
-
-contains_or_not : (ms : List ℕ) (i : ℕ) → Contains ms i ⊎ ¬ Contains ms i
-contains_or_not [] i = inr (λ c. none c.0 c.1)
-  where
-    none : (k : ℕ) → k < 0 → ⊥
-    none k h = omega arith
-contains_or_not (p ∷ ms) i = go (same_or_not i p) (contains_or_not ms i)
-  where
-    go : (i ≡ p) ⊎ (i ≡ p → ⊥) → Contains ms i ⊎ ¬ Contains ms i → Contains (p ∷ ms) i ⊎ ¬ Contains (p ∷ ms) i
-    go (inl e) _ = inl (to_cons p ms i (inl e))
-    go (inr n) (inl c) = inl (to_cons p ms i (inr c))
-    go (inr n) (inr m) = inr (λ c. neither (of_cons p ms i c))
-      where
-        neither : With (Contains ms) p i → ⊥
-        neither (inl e) = n e
-        neither (inr c) = m c
 
 pub list_set : (ps : List Point) (ms : List ℕ) → AreNumbersOf ps ms → IsSet (Contains ms) (length ps)
 list_set ps ms h = record { decided = contains_or_not ms; below = h }

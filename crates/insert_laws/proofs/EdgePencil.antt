@@ -1,7 +1,7 @@
 -- Hull faces on one edge are a pencil as well: c, the middle of a row, stands in place of the face's third corner, and a first place says which points are below the plane.
+use Rattle.geo_laws.proofs.Lift.{one_if, map-map}
 use Rattle.geo_laws.proofs.Lexicographic.{zero_at}
-use Rattle.std.proofs.Common.{◌≡◌, ◌≢◌, ◌⊎◌, inl, inr, ℕ, zero, suc, ℤ, pos, neg_ℤ, ◌+ℤ◌, ◌-ℤ◌, ◌*ℤ◌, ◌<ℤ◌, List, [], ◌∷◌, map, length, refl, ap, sym, subst, ◌∙◌, arith, eq-eqb, ne_eqb}
-use Rattle.std.specs.Prelude.{if◌then◌else◌, Bool}
+use Rattle.std.proofs.Common.{◌≡◌, ◌≢◌, ◌⊎◌, inl, inr, ℕ, zero, suc, ℤ, pos, neg_ℤ, ◌+ℤ◌, ◌-ℤ◌, ◌*ℤ◌, ◌<ℤ◌, List, ◌∷◌, map, length, refl, ap, sym, subst, ◌∙◌, arith, eq-eqb, ne_eqb}
 use Rattle.std.proofs.lemmas.Int.{ints}
 use Rattle.sign_predicates.specs.Point.{Point, RationalPoint}
 use Rattle.sign_predicates.specs.Orientation.{side_rational, orient_rational, IsPositive, StrictlyInside}
@@ -42,9 +42,6 @@ edge_places n = zero ∷ map suc (places n)
 
 flip : (m n : ℕ) → m ≢ n → n ≢ m
 flip m n h e = h (sym e)
-
-abbrev one_if : Bool → ℤ
-one_if b = if b then pos 1 else pos 0
 
 own_place : (ps : List Point) (mid : RationalPoint) (i j o e : ℕ) → e ≢ i → e ≢ j → e ≢ o → edge_rest ps mid i j o e (suc e) ≡ edge_side ps mid i j o
 own_place ps mid i j o e hi hj ho =
@@ -88,18 +85,14 @@ edge_gap-turned ps mid i j o e (suc k) = identity.edge-gap_turned (point ps i) (
 
 -- ---- places
 
-map-map : (f : ℕ → ℤ) (s : List ℕ) → map (λ i. f (suc i)) s ≡ map f (map suc s)
-map-map f [] = refl
-map-map f (i ∷ s) = ap (λ r. f (suc i) ∷ r) (map-map f s)
-
 -- the first place decides, and the others where it is 0
 pub to_places : (f : ℕ → ℤ) (ks : List ℕ) → (pos 0 <ℤ f zero) ⊎ ((f zero ≡ pos 0) × IsLexAbove (λ k. f (suc k)) ks) → IsLexAbove f (zero ∷ map suc ks)
 to_places f ks (inl h) = inl h
-to_places f ks (inr h) = inr (h.0, subst IsLexPositive (map-map f ks) h.1)
+to_places f ks (inr h) = inr (h.0, subst IsLexPositive (map-map f suc ks) h.1)
 
 pub of_places : (f : ℕ → ℤ) (ks : List ℕ) → IsLexAbove f (zero ∷ map suc ks) → (pos 0 <ℤ f zero) ⊎ ((f zero ≡ pos 0) × IsLexAbove (λ k. f (suc k)) ks)
 of_places f ks (inl h) = inl h
-of_places f ks (inr h) = inr (h.0, subst IsLexPositive (sym (map-map f ks)) h.1)
+of_places f ks (inr h) = inr (h.0, subst IsLexPositive (sym (map-map f suc ks)) h.1)
 
 same_sign : (p q : ℤ) (x y : ℕ → ℤ) (ks : List ℕ) → pos 0 <ℤ p → pos 0 <ℤ q → ((k : ℕ) → p *ℤ x k ≡ q *ℤ y k) → IsLexAbove x ks → IsLexAbove y ks
 same_sign p q x y ks hp hq e h = above_unscale q y ks hq (lex_same (λ k. p *ℤ x k) (λ k. q *ℤ y k) ks e (lex_scale p x ks hp h))

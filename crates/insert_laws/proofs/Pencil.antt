@@ -1,4 +1,5 @@
 -- The pencil of rows on one face. For each point off the face's plane there is one row, and of two such points one is above the row of the other.
+use Rattle.geo_laws.proofs.Heights.{above_or_not}
 use Rattle.std.proofs.Common.{◌≡◌, ◌≢◌, ◌⊎◌, inl, inr, ℕ, zero, suc, ◌<◌, ◌≤◌, ℤ, pos, neg_ℤ, ◌+ℤ◌, ◌-ℤ◌, ◌*ℤ◌, ◌<ℤ◌, ◌≤ℤ◌, List, [], ◌∷◌, arith, ap, sym, subst, ◌∙◌}
 use Rattle.std.proofs.lemmas.Int.{ints}
 use Rattle.exact_algebra.proofs.Signs.{sign_of}
@@ -58,15 +59,7 @@ not_opposite n h k = omega (arith, ints)
 neg_zero : (n : ℤ) → n ≡ neg_ℤ n → n ≡ pos 0
 neg_zero n e = omega (arith, ints)
 
-pub positive_or_not : (n : ℤ) → (pos 0 <ℤ n) ⊎ ¬ (pos 0 <ℤ n)
-positive_or_not n = go (sign_of n)
-  where
-    go : (pos 0 <ℤ n) ⊎ ((n ≡ pos 0) ⊎ (pos 0 <ℤ neg_ℤ n)) → (pos 0 <ℤ n) ⊎ ¬ (pos 0 <ℤ n)
-    go (inl h) = inl h
-    go (inr (inl e)) = inr (λ h. omega (arith, ints))
-    go (inr (inr h)) = inr (λ k. omega (arith, ints))
-
-flip : (m n : ℕ) → m ≢ n → n ≢ m
+pub flip : (m n : ℕ) → m ≢ n → n ≢ m
 flip m n h e = h (sym e)
 
 pub last_or : (m e : ℕ) → e < suc m → (e ≡ m) ⊎ (e < m)
@@ -146,7 +139,7 @@ Upto S m e = (e < m) × S e
 
 first_upto : {f : Face} {s : ℕ → ℤ} {g : ℕ → ℕ → ℕ → ℤ} {ks : List ℕ} {n : ℕ} → IsPencil f s g ks n → (S : ℕ → Type 0) → ((e : ℕ) → S e ⊎ ¬ S e) → (m : ℕ) → m ≤ n → IsBare s (Upto S m) ⊎ ((o : ℕ) × IsFirst s g ks (Upto S m) o)
 first_upto p S decided zero h = inl (λ e l. absurd (omega (arith, l.0)))
-first_upto {f} {s} {g} {ks} {n} p S decided (suc m) h = go (first_upto p S decided m (omega arith)) (test (decided m) (positive_or_not (s m)))
+first_upto {f} {s} {g} {ks} {n} p S decided (suc m) h = go (first_upto p S decided m (omega arith)) (test (decided m) (above_or_not (s m)))
   where
     test : S m ⊎ ¬ S m → (pos 0 <ℤ s m) ⊎ ¬ (pos 0 <ℤ s m) → (S m × (pos 0 <ℤ s m)) ⊎ (S m → ¬ (pos 0 <ℤ s m))
     test (inl a) (inl b) = inl (a, b)

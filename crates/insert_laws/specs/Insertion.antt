@@ -1,4 +1,7 @@
--- How the Delaunay list changes when a point is added. The points are those of a list whose numbers are among `ms`, and the new one may have any other number.
+-- How the Delaunay list changes when a point is added (incremental insertion: Bowyer 1981, Watson 1981). The points are those of a list whose numbers
+-- are among `ms`, and the new one may have any other number. The space outside of the hull is cut into ghosts, one over each face of the hull. The cavity
+-- of the new point are the tetrahedra that don't have it outside and the ghosts of the hull faces that it sees; its rim are the faces between the
+-- cavity and the rest; its star are the tetrahedra of the new point and the rim's faces.
 use Rattle.std.specs.Prelude.{◌≡◌, ◌≢◌, ◌↔◌, ◌⊎◌, ℕ, ◌<◌, pos, ◌<ℤ◌, IsTrue, List, [], ◌∷◌, ◌++◌, length, Contains}
 use Rattle.sign_predicates.specs.Point.{Point, as_rational}
 use Rattle.sign_predicates.specs.Orientation.{IsPositive, InClosed, side}
@@ -86,6 +89,7 @@ abbrev pub OldHullLaw : Type 0
 OldHullLaw = (ps : List Point) (ms : List ℕ) (p : ℕ) → IsNew ps ms p → (some : Tet) → IsDelaunayAmong ps ms some → (f : Face) → Contains ms f.a → Contains ms f.b → Contains ms f.c
     → IsHullFace ps (p ∷ ms) f ↔ ((h : IsHullFace ps ms f) × ¬ Sees ps p f h.behind)
 
+-- the face of an edge and a further corner
 abbrev pub edge_and : ℕ → ℕ → ℕ → Face
 edge_and i j o = record { a = i; b = j; c = o }
 
@@ -114,6 +118,7 @@ pub data Place : Type 0 where
   row_place : Tet → Place
   ghost_place : Face → Place
 
+-- the place is in the cavity of p
 pub data IsInCavity (ps : List Point) (ms : List ℕ) (p : ℕ) : Place → Type 0 where
   row_in : (t : Tet) → IsDelaunayAmong ps ms t → ¬ HasOutside ps t p → IsInCavity ps ms p (row_place t)
   ghost_in : (f : Face) → (h : IsHullFace ps ms f) → Sees ps p f h.behind → IsInCavity ps ms p (ghost_place f)
