@@ -1,5 +1,5 @@
--- A walk over the hull faces that the new point sees, to one that it is strictly beyond: from each the leg between the new point and a point near the middle of the last one
--- leads across an edge, where the plane of the next face cuts the leg nearer to its end.
+-- A walk over the hull faces that the new point sees, to one that it is strictly beyond: from each face the leg between the new point and a point near the
+-- middle of the last face crosses an edge, and the face across that edge is seen too and nearer to its end.
 use Rattle.exact_algebra.proofs.Signs.{nonneg_of_pos}
 use Rattle.geo_laws.proofs.Heights.{order-trans}
 use Rattle.geo_laws.proofs.Arrangement.{even_residual}
@@ -15,7 +15,7 @@ use Rattle.insert_laws.specs.Face.{Face, triangle, beside, IsOther}
 use Rattle.insert_laws.specs.Insertion.{IsNew, edge_and}
 use Rattle.insert_laws.proofs.Bridge
 use Rattle.insert_laws.proofs.Identities as identity
-use Rattle.insert_laws.proofs.LexMore.{IsLexBelow, sum_first}
+use Rattle.geo_laws.proofs.Lexicographic.{IsLexBelow, sum_first}
 use Rattle.insert_laws.proofs.Pencil.{IsBare, IsFirst, first_of, neighbor, above_not_zero as positive_not_zero, apart_sides}
 use Rattle.geo_laws.proofs.Arrangement.{IsEven, even_trans, even-swap, even-rotate, swap_both, rotate}
 use Rattle.insert_laws.proofs.FacePencil.{side_of, gap_of}

@@ -19,7 +19,7 @@ use Rattle.geo_laws.proofs.Heights.{all_fours, in_all_fours}
 use Rattle.insert_laws.specs.Face.{Face, triangle, reversed, beside}
 use Rattle.insert_laws.specs.Insertion.{IsNew, IsFaceOf, IsHullFace, Sees, edge_and, Place, row_place, ghost_place, IsInCavity, row_in, ghost_in, row_ghost, ghost_ghost, ghost_turned, IsJoined, joined_self, joined_by, BeyondCavityLaw}
 use Rattle.insert_laws.proofs.Identities as identity
-use Rattle.insert_laws.proofs.LexMore.{at_least_multiple}
+use Rattle.geo_laws.proofs.Lexicographic.{at_least_multiple}
 use Rattle.insert_laws.proofs.Pencil.{IsBare}
 use Rattle.geo_laws.proofs.Arrangement.{even_self, even_trans, even_back, even-swap, even-cross, cross, swap_both}
 use Rattle.insert_laws.proofs.FacePencil.{side_of}
@@ -34,14 +34,6 @@ use Rattle.insert_laws.proofs.Inside as inside
 use Rattle.insert_laws.proofs.Beyond.{turn, weight, lift, ghost-turn, IsGhost, nearer, nearer_trans, nearer_never, nearer-turn, IsAcross, ghost_weight, across}
 
 -- ---- no hull face below another
-
-not_negative : (n : ℤ) → ¬ (pos 0 <ℤ neg_ℤ n) → pos 0 ≤ℤ n
-not_negative n h = go (sign_of n)
-  where
-    go : (pos 0 <ℤ n) ⊎ ((n ≡ pos 0) ⊎ (pos 0 <ℤ neg_ℤ n)) → pos 0 ≤ℤ n
-    go (inl k) = omega (arith, ints)
-    go (inr (inl k)) = omega (arith, ints)
-    go (inr (inr k)) = absurd (h k)
 
 -- the number is a corner of the face
 data IsFaceCorner (f : Face) (x : ℕ) : Type 0 where
@@ -143,12 +135,6 @@ module _ (ps : List Point) (ms : List ℕ) (p : ℕ) (new : IsNew ps ms p) (t : 
       cancel a b = omega (arith, ints)
 
 -- ---- faces with the same corners
-
-kind-turn : (f : Face) (x : ℕ) → IsFaceCorner f x → IsFaceCorner (turn f) x
-kind-turn f x (at_a e) = at_c e
-kind-turn f x (at_b e) = at_a e
-kind-turn f x (at_c e) = at_b e
-kind-turn f x (away na nb nc) = away nb nc na
 
 data IsCorner3 (f : Face) (x : ℕ) : Type 0 where
   one_a : x ≡ f.a → IsCorner3 f x

@@ -1,4 +1,4 @@
--- From Delaunay rows to low rows on their faces, and back.
+-- From Delaunay tetrahedra to low ones on their faces, and back: the rule for outside becomes residuals, and even permutations turn each face to the front.
 use Rattle.geo_laws.proofs.Corners.{contains_or_not}
 use Rattle.geo_laws.proofs.Places.{number}
 use Rattle.geo_laws.proofs.Arrangement as even

@@ -14,16 +14,13 @@ use Rattle.geo_laws.proofs.Lexicographic.{IsLexAbove, lex_scale, lex_same}
 use Rattle.geo_laws.proofs.Members.{there, in_map, in_range}
 use Rattle.insert_laws.specs.Face.{Face, triangle}
 use Rattle.insert_laws.proofs.Identities as identity
-use Rattle.insert_laws.proofs.LexMore.{IsLexBelow, above_unscale}
+use Rattle.geo_laws.proofs.Lexicographic.{IsLexBelow, above_unscale}
 use Rattle.insert_laws.proofs.Pencil.{IsPencil, IsBare}
 use Rattle.insert_laws.proofs.FacePencil.{side_of, gap_of}
 use Rattle.insert_laws.proofs.Bridge.{IsFaceOn, IsLowUnderOn}
 
 abbrev pub edge_face : ℕ → ℕ → Face
 edge_face i j = record { a = i; b = j; c = j }
-
-abbrev pub hull_face : ℕ → ℕ → ℕ → Face
-hull_face i j o = record { a = i; b = j; c = o }
 
 -- ---- the pencil
 

@@ -1,4 +1,4 @@
--- The rows on a face of a list of points are a pencil.
+-- The tetrahedra on a face of a list of points are a pencil, by the sides of the points and their residuals.
 use Rattle.geo_laws.proofs.Corners.{IsCorner, corner_of}
 use Rattle.geo_laws.proofs.Places.{A, B, C, D}
 use Rattle.std.proofs.Common.{◌≡◌, ◌≢◌, ℕ, suc, ℤ, neg_ℤ, List, length, ap, sym, ◌∙◌, arith}

@@ -1,4 +1,4 @@
--- The hull faces of the points and one more.
+-- The hull faces of the points and one more, by the pencil of each edge.
 use Rattle.std.proofs.Common.{◌≡◌, ◌≢◌, ◌⊎◌, inl, inr, ℕ, ℤ, pos, neg_ℤ, ◌+ℤ◌, ◌*ℤ◌, ◌<ℤ◌, ◌≤ℤ◌, List, length, refl, ap, sym, subst, ◌∙◌, arith}
 use Rattle.std.specs.Prelude.{Contains}
 use Rattle.std.proofs.lemmas.Int.{ints}
@@ -17,7 +17,7 @@ use Rattle.geo_laws.proofs.Lexicographic.{IsLexAbove, lex_same}
 use Rattle.insert_laws.specs.Face.{Face, triangle, reversed, IsOther}
 use Rattle.insert_laws.specs.Insertion.{IsHullFace, edge_and, HullEdgeLaw}
 use Rattle.insert_laws.proofs.Identities as identity
-use Rattle.insert_laws.proofs.LexMore.{IsLexBelow}
+use Rattle.geo_laws.proofs.Lexicographic.{IsLexBelow}
 use Rattle.insert_laws.proofs.Pencil.{IsSet, IsPencil, IsLow, IsLowUnder, IsBare, IsBareUnder, IsFirst, turned, first_of, neighbor, low_unique, above_not_zero, below_not_zero}
 use Rattle.insert_laws.proofs.FacePencil.{side_of, gap_of, face_pencil}
 use Rattle.insert_laws.proofs.Bridge

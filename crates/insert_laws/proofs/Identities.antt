@@ -1,4 +1,6 @@
--- Identities of rows on one face.
+-- Identities of the tetrahedra on one face and of the hull faces on one edge, each one call of the ring normalizer. The chief one, `pencil`, relates
+-- three tetrahedra on a face: side(o) * residual(q, e) = side(q) * residual(o, e) - side(e) * residual(o, q), where residual(o, e) is that of e at the one of o.
+use Rattle.geo_laws.proofs.Determinants as determinants
 use lib.IntN.{*ℤ-zero}
 use Rattle.std.proofs.lemmas.Int.{ints}
 use Rattle.std.proofs.Common.{arith, sym, ◌∙◌}
@@ -191,14 +193,6 @@ side-middle f t =
     ring (side_rationalE (triangleE 0) (middleE (cornersE 9))) (sideE (triangleE 0) (cornersE 9).a ⊕ (sideE (triangleE 0) (cornersE 9).b ⊕ (sideE (triangleE 0) (cornersE 9).c ⊕ sideE (triangleE 0) (cornersE 9).d))) tt
     (of_triangle f (of_corners t []))
 
--- the plane through an edge and the middle of a tetrahedron: the sides of its corners add up to 0
-pub edge-middle : (i j : Point) (t : Corners) → edge_side_of i j (middle t) t.a +ℤ (edge_side_of i j (middle t) t.b +ℤ (edge_side_of i j (middle t) t.c +ℤ edge_side_of i j (middle t) t.d)) ≡ pos 0
-unfolding same det orient_rational
-edge-middle i j t =
-    ring (edge_side_ofE (pointE 0) (pointE 3) (middleE (cornersE 6)) (cornersE 6).a ⊕ (edge_side_ofE (pointE 0) (pointE 3) (middleE (cornersE 6)) (cornersE 6).b
-    ⊕ (edge_side_ofE (pointE 0) (pointE 3) (middleE (cornersE 6)) (cornersE 6).c ⊕ edge_side_ofE (pointE 0) (pointE 3) (middleE (cornersE 6)) (cornersE 6).d)))
-    (num (pos 0)) tt (of_point i (of_point j (of_corners t [])))
-
 -- a side of the plane through an edge and c, from those at the corners
 pub edge-combine : (i j : Point) (c : RationalPoint) (t : Corners) (x : Point)
     → side (opposite_a t) x *ℤ edge_side_of i j c t.a +ℤ (side (opposite_b t) x *ℤ edge_side_of i j c t.b +ℤ (side (opposite_c t) x *ℤ edge_side_of i j c t.c +ℤ side (opposite_d t) x *ℤ edge_side_of i j c t.d))
@@ -390,15 +384,13 @@ lift-closed t e =
     ⊕ (sideE (opposite_cE (cornersE 0)) (pointE 12) ⊗ farE (cornersE 0).c (pointE 12) ⊕ sideE (opposite_dE (cornersE 0)) (pointE 12) ⊗ farE (cornersE 0).d (pointE 12)))))
     tt (of_corners t (of_point e []))
 
-pub sides-sum : (t : Corners) (e : Point) → side (opposite_a t) e +ℤ (side (opposite_b t) e +ℤ (side (opposite_c t) e +ℤ side (opposite_d t) e)) ≡ volume t
-unfolding same det orient
-sides-sum t e =
-    ring (sideE (opposite_aE (cornersE 0)) (pointE 12) ⊕ (sideE (opposite_bE (cornersE 0)) (pointE 12) ⊕ (sideE (opposite_cE (cornersE 0)) (pointE 12) ⊕ sideE (opposite_dE (cornersE 0)) (pointE 12)))) (volumeE (cornersE 0)) tt (of_corners t (of_point e []))
-
 -- ---- sums of four that are grouped from the right
 
 grouped : (a b c d : ℤ) → a +ℤ (b +ℤ (c +ℤ d)) ≡ a +ℤ b +ℤ c +ℤ d
 grouped a b c d = omega (arith, ints)
+
+pub sides-sum : (t : Corners) (e : Point) → side (opposite_a t) e +ℤ (side (opposite_b t) e +ℤ (side (opposite_c t) e +ℤ side (opposite_d t) e)) ≡ volume t
+sides-sum t e = grouped (side (opposite_a t) e) (side (opposite_b t) e) (side (opposite_c t) e) (side (opposite_d t) e) ∙ determinants.sides-sum t e
 
 -- the side of a point at any plane is the sum of those of the corners, weighted
 pub sides-combine : (t : Corners) (f : Triangle) (x : RationalPoint)

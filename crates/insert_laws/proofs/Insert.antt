@@ -1,4 +1,5 @@
--- The Delaunay rows of the points and one more.
+-- The Delaunay tetrahedra of the points and one more. From a place of the cavity over a face and a clear place under it, the relation of the pencil of the
+-- face shows that the new point is on the cavity's side and that every point is above the new tetrahedron; and back, from the first point over the face.
 use Rattle.insert_laws.proofs.Identities as identity
 use Rattle.geo_laws.proofs.Corners.{AreDistinct}
 use Rattle.geo_laws.proofs.Arrangement.{even_residual, corner_to as even_corner_to, corner_from as even_corner_from}
@@ -18,7 +19,7 @@ use Rattle.geo_laws.proofs.Corners.{distinct, contains_corner}
 use Rattle.geo_laws.proofs.Lexicographic.{IsZeroAt, IsLexAbove, lex_sign_of, lex_same}
 use Rattle.insert_laws.specs.Face.{Face, triangle, reversed, beside, IsOther}
 use Rattle.insert_laws.specs.Insertion.{IsNew, IsFaceOf, HasNoneBeyond, HasOutside, Sees, IsCavityPlace, cavity_row, cavity_ghost, IsClearPlace, clear_row, clear_ghost, IsStarRow, InsertionLaw, RimLaw, FacePairingLaw, OneRowLaw}
-use Rattle.insert_laws.proofs.LexMore.{IsLexBelow, not_both}
+use Rattle.geo_laws.proofs.Lexicographic.{IsLexBelow, not_both}
 use Rattle.insert_laws.proofs.Pencil.{IsBare, IsBareUnder, IsFirst, first_of, neighbor, low_unique, above_not_zero}
 use Rattle.insert_laws.proofs.StarPencil as pencil
 use Rattle.insert_laws.proofs.StarPencil.{With, over_row, over_ghost, under_row, under_ghost}
@@ -35,15 +36,11 @@ old_corner ps ms p new t on c = new.is_new (on p c)
 pub new_outside : (ps : List Point) (ms : List ℕ) (p : ℕ) (new : IsNew ps ms p) (t : Tet) → Bridge.IsLowFour ps (Contains ms) t → HasOutside ps t p ↔ IsLexAbove (residual_at ps (lifted ps) t p) (places (length ps))
 new_outside ps ms p new t low = Bridge.outside_above ps t p (λ i c. new.within i (low.on i c)) low.positive new.on (old_corner ps ms p new t low.on)
 
--- p is none of the numbers
-pub not_new : (ps : List Point) (ms : List ℕ) (p : ℕ) → IsNew ps ms p → (e : ℕ) → Contains ms e → e ≢ p
-not_new ps ms p new e h d = new.is_new (subst (Contains ms) d h)
-
-pub not_new' : (ps : List Point) (ms : List ℕ) (p : ℕ) → IsNew ps ms p → (e : ℕ) → Contains ms e → p ≢ e
-not_new' ps ms p new e h d = new.is_new (subst (Contains ms) (sym d) h)
+pub not_new : (ps : List Point) (ms : List ℕ) (p : ℕ) → IsNew ps ms p → (e : ℕ) → Contains ms e → p ≢ e
+not_new ps ms p new e h d = new.is_new (subst (Contains ms) (sym d) h)
 
 pub new_other : (ps : List Point) (ms : List ℕ) (p : ℕ) → IsNew ps ms p → (f : Face) → Bridge.IsFaceOn (Contains ms) f → IsOther f p
-new_other ps ms p new f on = record { not_a = not_new' ps ms p new f.a on.on_a; not_b = not_new' ps ms p new f.b on.on_b; not_c = not_new' ps ms p new f.c on.on_c }
+new_other ps ms p new f on = record { not_a = not_new ps ms p new f.a on.on_a; not_b = not_new ps ms p new f.b on.on_b; not_c = not_new ps ms p new f.c on.on_c }
 
 -- the same on a face of the row
 pub face_outside : (ps : List Point) (ms : List ℕ) (p : ℕ) (new : IsNew ps ms p) (f : Face) (o : ℕ) (t : Tet) → Bridge.IsFaceOn (Contains ms) f → Bridge.IsLowOn ps (Contains ms) f o → IsEven ps (beside f o) t
@@ -67,7 +64,7 @@ decided ps ms p new f o on low = go (lex_sign_of (gap_of ps f o p) (places (leng
         ⊎ (IsZeroAt (gap_of ps f o p) (places (length ps)) ⊎ IsLexBelow (gap_of ps f o p) (places (length ps)))
         → IsLexAbove (gap_of ps f o p) (places (length ps)) ⊎ IsLexBelow (gap_of ps f o p) (places (length ps))
     go (inl a) = inl a
-    go (inr (inl z)) = absurd ((face_pencil ps f).apart o p new.on (new_other ps ms p new f on) (not_new' ps ms p new o low.on) (above_not_zero _ low.over) z)
+    go (inr (inl z)) = absurd ((face_pencil ps f).apart o p new.on (new_other ps ms p new f on) (not_new ps ms p new o low.on) (above_not_zero _ low.over) z)
     go (inr (inr b)) = inr b
 
 -- ---- places

@@ -19,7 +19,7 @@ use Rattle.geo_laws.proofs.Heights.{gap_at}
 use Rattle.insert_laws.specs.Face.{Face, triangle, reversed, beside, IsOther}
 use Rattle.insert_laws.specs.Insertion.{IsNew, IsFaceOf, HasOutside, row_place, Touches, row_row}
 use Rattle.insert_laws.proofs.Identities as identity
-use Rattle.insert_laws.proofs.LexMore.{IsLexBelow, not_both, sum_first}
+use Rattle.geo_laws.proofs.Lexicographic.{IsLexBelow, not_both, sum_first}
 use Rattle.insert_laws.proofs.Pencil.{IsBare, IsFirst, first_of, neighbor, above_not_zero as positive_not_zero, apart_sides}
 use Rattle.geo_laws.proofs.Arrangement.{IsEven, even_self, even_trans, even_back, even-swap, even-cross, cross, swap_both}
 use Rattle.insert_laws.proofs.FacePencil.{side_of, gap_of, face_pencil}

@@ -8,7 +8,7 @@ use Rattle.geo_laws.proofs.Ties.{order}
 use Rattle.geo_laws.proofs.Lexicographic.{IsZeroAt, none, more, IsLexAbove, IsLexAtLeast, lex_sign_of, lex_same, zero_everywhere}
 use Rattle.insert_laws.specs.Face.{Face, IsOther}
 use Rattle.insert_laws.proofs.Identities.{turned-relation, solve-middle, solve-under}
-use Rattle.insert_laws.proofs.LexMore.{IsLexBelow, not_both, sum_first, sum_second}
+use Rattle.geo_laws.proofs.Lexicographic.{IsLexBelow, not_both, sum_first, sum_second}
 
 -- s says on which side of the face's plane each point lies, and g o e how far e is above the row of o, at each place
 pub record IsPencil (f : Face) (s : ℕ → ℤ) (g : ℕ → ℕ → ℕ → ℤ) (ks : List ℕ) (n : ℕ) : Type 0 where
