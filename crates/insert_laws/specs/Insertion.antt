@@ -187,3 +187,12 @@ RimEdgeLaw = (ps : List Point) (ms : List ℕ) (p : ℕ) → IsNew ps ms p → (
 abbrev pub HullRimLaw : Type 0
 HullRimLaw = (ps : List Point) (ms : List ℕ) (p : ℕ) → IsNew ps ms p → (some : Tet) → IsDelaunayAmong ps ms some → (i j : ℕ) → IsHullRim ps ms p i j
     → ((k : ℕ) × IsRimFace ps ms p (edge_and i j k)) × ((q : ℕ) × IsHullRim ps ms p j q × ((r : ℕ) → IsHullRim ps ms p j r → q ≡ r))
+
+-- among its own corners a tetrahedron is the only Delaunay one, and its faces are those of the hull
+pub record IsFirst (ps : List Point) (t : Tet) : Type 0 where
+  pub only : (s : Tet) → IsDelaunayAmong ps (numbers t) s ↔ (s ≡ t)
+  pub hull : (f : Face) → IsFaceOf ps (reversed f) t → IsHullFace ps (numbers t) f
+
+-- the list of four points that are not coplanar
+abbrev pub FirstLaw : Type 0
+FirstLaw = (ps : List Point) (t : Tet) → IsPositive (corners ps t) → IsArranged t → IsFirst ps t

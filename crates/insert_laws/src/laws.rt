@@ -1,6 +1,6 @@
 //! How the Delaunay list and its hull change when a point is added, over the definitions alone. Each law is the contract of a function that does
 //! nothing. The points are those of a list that have some numbers, and the new one may have any other number: so points may be added in any order.
-ghost use Rattle.insert_laws.specs.Insertion.{InsertionLaw, RimLaw, FacePairingLaw, OneRowLaw, HullFaceLaw, HullTurnLaw, HullEdgeLaw, OldHullLaw, NewHullLaw, LocateLaw, StartLaw, InsideCavityLaw, BeyondCavityLaw, StartOfListLaw, SameNumbersLaw, RimEdgeLaw, HullRimLaw};
+ghost use Rattle.insert_laws.specs.Insertion.{InsertionLaw, RimLaw, FacePairingLaw, OneRowLaw, HullFaceLaw, HullTurnLaw, HullEdgeLaw, OldHullLaw, NewHullLaw, LocateLaw, StartLaw, InsideCavityLaw, BeyondCavityLaw, StartOfListLaw, SameNumbersLaw, RimEdgeLaw, HullRimLaw, FirstLaw};
 
 /// The Delaunay tetrahedra with a new point are those before that have it outside, and the tetrahedra of the new point and the faces between its
 /// cavity and the rest. Source: incremental insertion (Bowyer 1981, Watson 1981), with ties broken by the points' numbers.
@@ -92,4 +92,9 @@ pub fn law_start_of_list()
 /// The order of the numbers doesn't matter.
 pub fn law_same_numbers()
     ensures { SameNumbersLaw }
+{}
+
+/// The Delaunay list of four points that are not coplanar is the one positive tetrahedron of them, in its least arrangement, and its faces are the hull.
+pub fn law_first()
+    ensures { FirstLaw }
 {}
