@@ -196,3 +196,12 @@ pub record IsFirst (ps : List Point) (t : Tet) : Type 0 where
 -- the list of four points that are not coplanar
 abbrev pub FirstLaw : Type 0
 FirstLaw = (ps : List Point) (t : Tet) → IsPositive (corners ps t) → IsArranged t → IsFirst ps t
+
+-- on each side of a face of a Delaunay tetrahedron stands a place of the cavity or a clear one, and not both
+pub record IsDivided (ps : List Point) (ms : List ℕ) (p : ℕ) : Type 0 where
+  pub decided : (f : Face) (t : Tet) → IsDelaunayAmong ps ms t → IsFaceOf ps f t ⊎ IsFaceOf ps (reversed f) t → IsCavityPlace ps ms p f ⊎ IsClearPlace ps ms p f
+  pub exclusive : (f : Face) → IsCavityPlace ps ms p f → IsClearPlace ps ms p f → ⊥
+
+-- a new point divides the places into its cavity and the rest
+abbrev pub PlaceLaw : Type 0
+PlaceLaw = (ps : List Point) (ms : List ℕ) (p : ℕ) → IsNew ps ms p → IsDivided ps ms p

@@ -1,6 +1,6 @@
 //! How the Delaunay list and its hull change when a point is added, over the definitions alone. Each law is the contract of a function that does
 //! nothing. The points are those of a list that have some numbers, and the new one may have any other number: so points may be added in any order.
-ghost use Rattle.insert_laws.specs.Insertion.{InsertionLaw, RimLaw, FacePairingLaw, OneRowLaw, HullFaceLaw, HullTurnLaw, HullEdgeLaw, OldHullLaw, NewHullLaw, LocateLaw, StartLaw, InsideCavityLaw, BeyondCavityLaw, StartOfListLaw, SameNumbersLaw, RimEdgeLaw, HullRimLaw, FirstLaw};
+ghost use Rattle.insert_laws.specs.Insertion.{InsertionLaw, RimLaw, FacePairingLaw, OneRowLaw, HullFaceLaw, HullTurnLaw, HullEdgeLaw, OldHullLaw, NewHullLaw, LocateLaw, StartLaw, InsideCavityLaw, BeyondCavityLaw, StartOfListLaw, SameNumbersLaw, RimEdgeLaw, HullRimLaw, FirstLaw, PlaceLaw};
 
 /// The Delaunay tetrahedra with a new point are those before that have it outside, and the tetrahedra of the new point and the faces between its
 /// cavity and the rest. Source: incremental insertion (Bowyer 1981, Watson 1981), with ties broken by the points' numbers.
@@ -97,4 +97,10 @@ pub fn law_same_numbers()
 /// The Delaunay list of four points that are not coplanar is the one positive tetrahedron of them, in its least arrangement, and its faces are the hull.
 pub fn law_first()
     ensures { FirstLaw }
+{}
+
+/// On each side of a face of a Delaunay tetrahedron stands one place, a tetrahedron or the ghost of a face of the hull,
+/// and it is either in the cavity of the new point or not.
+pub fn law_place()
+    ensures { PlaceLaw }
 {}
