@@ -31,9 +31,11 @@ turn f = record { a = f.b; b = f.c; c = f.a }
 abbrev pub weight : List Point → RationalPoint → Face → ℤ
 weight qs mid f = edge_side qs mid f.a f.b f.c
 
+-- and how far a point is above it there
 abbrev pub lift : List Point → RationalPoint → Face → ℕ → ℕ → ℤ
 lift qs mid f x k = edge_gap qs mid f.a f.b f.c x k
 
+-- both are the same from each corner of the face
 pub weight-turn : (qs : List Point) (mid : RationalPoint) (f : Face) → weight qs mid (turn f) ≡ weight qs mid f
 weight-turn qs mid f = identity.edge-side_rotated (point qs f.a) (point qs f.b) (point qs f.c) mid
 
@@ -43,14 +45,17 @@ lift-turn qs mid f x (suc k) = identity.edge-gap_rotated (point qs f.a) (point q
 
 -- ---- a hull face, named from another corner
 
+-- the tetrahedron behind is evenly permuted
 pub even-turn : (qs : List Point) (f : Face) (a : ℕ) → IsEven qs (beside f a) (beside (turn f) a)
 even-turn qs f a =
     let t = beside f a in
     even_trans qs t (swap_both t) (beside (turn f) a) (even-swap qs t) (even_trans qs (swap_both t) (rotate (swap_both t)) (beside (turn f) a) (even-rotate qs (swap_both t)) (even-rotate qs (rotate (swap_both t))))
 
+-- and the sides are the same
 pub side-turn : (qs : List Point) (f : Face) (o : ℕ) → side_of qs (turn f) o ≡ side_of qs f o
 side-turn qs f o = identity.side-turned (triangle qs f) (point qs o)
 
+-- so a hull face is one from each of its corners
 pub hull-turn : (qs : List Point) (S : ℕ → Type 0) (f : Face) (a : ℕ) → IsHullOn qs S f a → IsHullOn qs S (turn f) a
 hull-turn qs S f a h = record {
   on = record { on_a = h.on.on_b; on_b = h.on.on_c; on_c = h.on.on_a };
@@ -65,6 +70,7 @@ hull-turn qs S f a h = record {
 
 -- ---- the hull faces that the new point sees
 
+-- a hull face that the new point sees, by its heights
 pub record IsGhost (ps : List Point) (ms : List ℕ) (p : ℕ) (mid : RationalPoint) (f : Face) : Type 0 where
   pub apex : ℕ
   pub hull : IsHullOn ps (Contains ms) f apex
@@ -85,11 +91,13 @@ nearer_at qs mid x f g k = weight qs mid f *ℤ neg_ℤ (lift qs mid g x k) -ℤ
 abbrev pub nearer : List Point → RationalPoint → ℕ → Face → Face → Type 0
 nearer qs mid x f g = IsLexAbove (nearer_at qs mid x f g) (edge_places (length qs))
 
+-- the order is transitive
 pub nearer_trans : (qs : List Point) (mid : RationalPoint) (x : ℕ) (s t u : Face) → pos 0 <ℤ weight qs mid s → pos 0 <ℤ weight qs mid t → pos 0 <ℤ weight qs mid u → nearer qs mid x s t → nearer qs mid x t u → nearer qs mid x s u
 nearer_trans qs mid x s t u hs ht hu st tu =
     sum_first (weight qs mid t) (weight qs mid u) (weight qs mid s) (nearer_at qs mid x s u) (nearer_at qs mid x s t) (nearer_at qs mid x t u) (edge_places (length qs)) ht hu (nonneg_of_pos _ hs)
     (λ k. sym (order-trans (weight qs mid s) (weight qs mid t) (weight qs mid u) (neg_ℤ (lift qs mid s x k)) (neg_ℤ (lift qs mid t x k)) (neg_ℤ (lift qs mid u x k)))) st (inl tu)
 
+-- and strict
 pub nearer_never : (qs : List Point) (mid : RationalPoint) (x : ℕ) (s : Face) → nearer qs mid x s s → ⊥
 nearer_never qs mid x s h = above_not_zero (nearer_at qs mid x s s) (edge_places (length qs)) h (zero_everywhere (nearer_at qs mid x s s) (edge_places (length qs)) (λ k. zero (weight qs mid s *ℤ neg_ℤ (lift qs mid s x k))))
   where
@@ -102,6 +110,7 @@ nearer-turn qs mid x f g h = lex_same (nearer_at qs mid x (turn f) g) (nearer_at
 
 -- ---- the step across an edge
 
+-- the seen face across an edge is nearer
 pub record IsAcross (ps : List Point) (ms : List ℕ) (p : ℕ) (mid : RationalPoint) (f : Face) : Type 0 where
   pub apex : ℕ
   pub ghost : IsGhost ps ms p mid (edge_and f.b f.a apex)

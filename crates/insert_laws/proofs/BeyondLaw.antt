@@ -169,6 +169,7 @@ aligned qs mid f g wf wg d ea (one_c eb) (one_b ec) = absurd (clash (weight qs m
 
 -- ---- a point is in the closed row, or beyond one of its faces
 
+-- a point lies in the closed tetrahedron, or beyond one of its faces
 pub closed_or_beyond : (qs : List Point) (t : Tet) (y : RationalPoint) → InClosed (corners qs t) y ⊎ inside.IsBeyondFace qs t y
 closed_or_beyond qs t y = go (sign (side_rational (opposite_a (corners qs t)) y)) (sign (side_rational (opposite_b (corners qs t)) y)) (sign (side_rational (opposite_c (corners qs t)) y)) (sign (side_rational (opposite_d (corners qs t)) y))
   where
@@ -441,6 +442,7 @@ near_goal ps ms p new f a n some h above hab hbc hca = record {
     moved : (a b : ℤ) → a ≡ b → pos 0 <ℤ b → pos 0 <ℤ a
     moved a b e h = omega (arith, ints)
 
+-- a tetrahedron of the cavity is joined to a ghost that p sees, and each such ghost to that of f
 pub law_beyond_cavity : BeyondCavityLaw
 law_beyond_cavity ps ms p new f h above = start (hull.some_hull_on ps ms (Contains ms) (Bridge.of_list ps ms new.within) f h)
   where

@@ -19,17 +19,21 @@ use Rattle.insert_laws.proofs.Pencil.{IsPencil, IsBare}
 use Rattle.insert_laws.proofs.FacePencil.{side_of, gap_of}
 use Rattle.insert_laws.proofs.Bridge.{IsFaceOn, IsLowUnderOn}
 
+-- an edge, as a face without a third corner of its own
 abbrev pub edge_face : ℕ → ℕ → Face
 edge_face i j = record { a = i; b = j; c = j }
 
 -- ---- the pencil
 
+-- the side of o at the plane through the edge and the center, with the other sign
 abbrev pub edge_side : List Point → RationalPoint → ℕ → ℕ → ℕ → ℤ
 edge_side ps mid i j o = identity.edge_side_of (point ps i) (point ps j) mid (point ps o)
 
+-- the residual of e at the edge, o and the center
 abbrev pub edge_rest : List Point → RationalPoint → ℕ → ℕ → ℕ → ℕ → ℕ → ℤ
 edge_rest ps mid i j o e k = identity.edge_gap_of (point ps i) (point ps j) mid (height (lifted ps) i k) (height (lifted ps) j k) (point ps o) (height (lifted ps) o k) (point ps e) (height (lifted ps) e k)
 
+-- first whether e is below the plane of the edge and o, then that residual
 abbrev pub edge_gap : List Point → RationalPoint → ℕ → ℕ → ℕ → ℕ → ℕ → ℤ
 edge_gap ps mid i j o e zero = identity.edge_first_of (point ps i) (point ps j) (point ps o) (point ps e)
 edge_gap ps mid i j o e (suc k) = edge_rest ps mid i j o e k
@@ -49,6 +53,7 @@ own_place ps mid i j o e hi hj ho =
     ∙ identity.edge-only_e (orient_rational (point ps i) (point ps j) (point ps o) mid) (orient_rational (point ps j) (point ps o) (point ps e) mid)
     (orient_rational (point ps i) (point ps e) (point ps o) mid) (orient_rational (point ps i) (point ps j) (point ps e) mid)
 
+-- these are a pencil: the three-term relation at the first place, the identity of residuals at the others
 pub edge_pencil : (ps : List Point) (mid : RationalPoint) (i j : ℕ) → IsPencil (edge_face i j) (edge_side ps mid i j) (edge_gap ps mid i j) (edge_places (length ps)) (length ps)
 edge_pencil ps mid i j = record {
   relation = relation;
@@ -76,6 +81,7 @@ edge_pencil ps mid i j = record {
 pub edge_side-turned : (ps : List Point) (mid : RationalPoint) (i j o : ℕ) → edge_side ps mid j i o ≡ neg_ℤ (edge_side ps mid i j o)
 edge_side-turned ps mid i j o = identity.edge-side_turned (point ps i) (point ps j) mid (point ps o)
 
+-- the edge turned has the opposite gaps
 pub edge_gap-turned : (ps : List Point) (mid : RationalPoint) (i j o e k : ℕ) → edge_gap ps mid j i o e k ≡ neg_ℤ (edge_gap ps mid i j o e k)
 edge_gap-turned ps mid i j o e zero = identity.edge-first_turned (point ps i) (point ps j) (point ps o) (point ps e)
 edge_gap-turned ps mid i j o e (suc k) = identity.edge-gap_turned (point ps i) (point ps j) mid (point ps o) (point ps e) (height (lifted ps) i k) (height (lifted ps) j k) (height (lifted ps) o k) (height (lifted ps) e k)
@@ -182,6 +188,7 @@ of_edge_below ps mid f a e hc ha h = go (of_places (λ k. neg_ℤ (edge_gap ps m
 
 -- ---- the middle of a row lies below the hull faces
 
+-- four numbers that are not above 0 have no sum above 0
 pub sum_below : (a b c d : ℤ) → ¬ (pos 0 <ℤ a) → ¬ (pos 0 <ℤ b) → ¬ (pos 0 <ℤ c) → ¬ (pos 0 <ℤ d) → ¬ ((a ≡ pos 0) × (b ≡ pos 0) × (c ≡ pos 0) × (d ≡ pos 0)) → pos 0 <ℤ neg_ℤ (a +ℤ (b +ℤ (c +ℤ d)))
 sum_below a b c d ha hb hc hd n = go (sign_of a) (sign_of b) (sign_of c) (sign_of d)
   where

@@ -58,6 +58,7 @@ behind_of ps ms p new f a h on = subst (λ i. IsBehind ps ms p f i h.behind) sam
     own : IsBehind ps ms p f r.apex h.behind
     own = record { on = on.on; outside = (λ o. to_below (law.0 o), λ k. law.1 (from_below k)); decided = split (insert.decided ps ms p new (reversed f) r.apex r.on r.low) }
 
+-- p sees a hull face exactly where it is below it in the pencil of its edge
 pub sees_to : (ps : List Point) (ms : List ℕ) (p : ℕ) (new : IsNew ps ms p) (f : Face) (a : ℕ) (h : IsHullFace ps ms f) → IsHullOn ps (Contains ms) f a → Sees ps p f h.behind → IsSeen ps p f a
 sees_to ps ms p new f a h on s = go s (behind_of ps ms p new f a h on)
   where
@@ -88,6 +89,7 @@ all_hull ps ms p new f a h = hull.hull_from ps (p ∷ ms) (With (Contains ms) p)
 of_all_hull : (ps : List Point) (ms : List ℕ) (p : ℕ) (new : IsNew ps ms p) (f : Face) → IsHullFace ps (p ∷ ms) f → (a : ℕ) × IsHullOn ps (With (Contains ms) p) f a
 of_all_hull ps ms p new f h = hull.some_hull_on ps (p ∷ ms) (With (Contains ms) p) (Bridge.of_new ps ms p new) f h
 
+-- the corners of a hull face and the one behind are different
 pub distinct_corners : (qs : List Point) (S : ℕ → Type 0) (f : Face) (a : ℕ) → IsHullOn qs S f a → AreDistinct (beside (reversed f) a)
 distinct_corners qs S f a h = distinct qs (beside (reversed f) a) (Bridge.of_under qs S f a h.low).over
 
@@ -95,6 +97,7 @@ below_next : (ms : List ℕ) (p i : ℕ) → With (Contains ms) p i → i ≢ p 
 below_next ms p i (inl e) n = absurd (n e)
 below_next ms p i (inr c) n = c
 
+-- the new faces are those that p makes in the pencil of an edge between a seen and an unseen face
 pub law_new_hull : NewHullLaw
 law_new_hull ps ms p new some some_is i j = (to, from)
   where
@@ -198,6 +201,7 @@ law_new_hull ps ms p new some some_is i j = (to, from)
 
 -- ---- hull faces without it
 
+-- a face without p stays exactly where p is not below it
 pub law_old_hull : OldHullLaw
 law_old_hull ps ms p new some some_is f fa fb fc = (to, from)
   where

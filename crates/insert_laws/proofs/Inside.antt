@@ -112,15 +112,18 @@ inside_or_beyond qs t y na nb nc nd = go (sign_of (side_rational (opposite_a c) 
 
 -- ---- rows in the order of their heights at a point
 
+-- the height at y rises from s to t
 abbrev pub rises_at : List Point → RationalPoint → Tet → Tet → Type 0
 rises_at qs y s t = IsLexAbove (gap_at qs (lifted qs) y s t) (places (length qs))
 
+-- the order is transitive
 pub rises_trans : (qs : List Point) (y : RationalPoint) (s t u : Tet) → IsPositive (corners qs s) → IsPositive (corners qs t) → IsPositive (corners qs u) → rises_at qs y s t → rises_at qs y t u → rises_at qs y s u
 rises_trans qs y s t u hs ht hu st tu =
     sum_first (volume (corners qs t)) (volume (corners qs u)) (volume (corners qs s)) (gap_at qs (lifted qs) y s u) (gap_at qs (lifted qs) y s t) (gap_at qs (lifted qs) y t u) (places (length qs)) ht hu (nonneg_of_pos _ hs)
     (λ k. sym (order-trans (volume (corners qs s)) (volume (corners qs t)) (volume (corners qs u)) (height_at qs (lifted qs) s y k) (height_at qs (lifted qs) t y k) (height_at qs (lifted qs) u y k)))
     st (inl tu)
 
+-- and strict
 pub rises_never : (qs : List Point) (y : RationalPoint) (s : Tet) → rises_at qs y s s → ⊥
 rises_never qs y s h = above_not_zero (gap_at qs (lifted qs) y s s) (places (length qs)) h (zero_everywhere (gap_at qs (lifted qs) y s s) (places (length qs)) (λ k. zero (volume (corners qs s) *ℤ height_at qs (lifted qs) s y k)))
   where
@@ -156,6 +159,7 @@ pub record IsNext (ps : List Point) (ms : List ℕ) (p : ℕ) (y : RationalPoint
   pub rises : rises_at ps y t row
   pub touches : Touches ps (row_place t) (row_place row)
 
+-- the tetrahedron across such a face is in the cavity, and higher at y
 pub next : (ps : List Point) (ms : List ℕ) (p : ℕ) (new : IsNew ps ms p) (y : RationalPoint) (t : Tet) → IsCavityRow ps ms p t → (b : IsBeyondFace ps t y) → pos 0 ≤ℤ side_of ps b.face p
     → (Bridge.IsFaceOn (Contains ms) b.face × IsBare (side_of ps b.face) (Contains ms)) ⊎ IsNext ps ms p y t
 next ps ms p new y t cavity b beyond = go (first_of (face_pencil qs f) (Contains ms) (Bridge.list_set ps ms new.within))

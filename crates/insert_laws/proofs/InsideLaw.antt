@@ -132,6 +132,7 @@ not_beyond_hull ps ms p new s is_s closed f h k =
     low : Bridge.IsLowFour ps (Contains ms) s
     low = Bridge.low_of_delaunay ps ms (Contains ms) (Bridge.of_list ps ms new.within) s is_s
 
+-- from each tetrahedron of the cavity a walk that rises at the near point ends in s
 pub law_inside_cavity : InsideCavityLaw
 law_inside_cavity ps ms p new s is_s closed in_s = go
   where

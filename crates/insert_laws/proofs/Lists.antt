@@ -58,6 +58,7 @@ law_same_numbers ps ms ks same t d = record { is_on = λ i c. (same i).0 (d.is_o
 
 -- ---- hull faces
 
+-- by the law of face pairing
 pub law_hull_face : HullFaceLaw
 law_hull_face ps ms within f t d face = (to, from)
   where

@@ -33,6 +33,7 @@ pub record IsLowUnder (f : Face) (s : ℕ → ℤ) (g : ℕ → ℕ → ℕ → 
 abbrev pub IsBare : (ℕ → ℤ) → (ℕ → Type 0) → Type 0
 IsBare s S = (e : ℕ) → S e → ¬ (pos 0 <ℤ s e)
 
+-- no point on the other side
 abbrev pub IsBareUnder : (ℕ → ℤ) → (ℕ → Type 0) → Type 0
 IsBareUnder s S = (e : ℕ) → S e → ¬ (pos 0 <ℤ neg_ℤ (s e))
 
@@ -105,7 +106,9 @@ above_of {g = g} {ks = ks} p o e h = lex_same (λ k. neg_ℤ (g o e k)) (g e o) 
 self_zero : {f : Face} {s : ℕ → ℤ} {g : ℕ → ℕ → ℕ → ℤ} {ks : List ℕ} {n : ℕ} → IsPencil f s g ks n → (o k : ℕ) → g o o k ≡ pos 0
 self_zero {g = g} p o k = neg_zero (g o o k) (p.opposite o o k)
 
+-- a low tetrahedron has no point below it
 pub low_at_least : {f : Face} {s : ℕ → ℤ} {g : ℕ → ℕ → ℕ → ℤ} {ks : List ℕ} {n : ℕ} {S : ℕ → Type 0} → IsPencil f s g ks n → (o : ℕ) → IsLow f s g ks S o → (e : ℕ) → S e → IsOther f e → IsLexAtLeast (g o e) ks
+-- a low tetrahedron has no point below it
 low_at_least {f} {s} {g} {ks} {n} {S} p o low e l h = go (same_or_not e o)
   where
     go : (e ≡ o) ⊎ (e ≡ o → ⊥) → IsLexAtLeast (g o e) ks
