@@ -255,21 +255,21 @@ arranged ps t h =
 -- ---- arranged rows with the same corners are the same
 
 -- in an arranged tetrahedron the first number is the least
-at_least_a : (t : Tet) (i : ℕ) → IsArranged t → IsCorner t i → t.a ≤ i
+pub at_least_a : (t : Tet) (i : ℕ) → IsArranged t → IsCorner t i → t.a ≤ i
 at_least_a t i h (A, e) = omega arith
 at_least_a t i h (B, e) = let k = h.first in omega arith
 at_least_a t i h (C, e) = let k = h.first in let l = h.second in omega arith
 at_least_a t i h (D, e) = let k = h.first in let l = h.second' in omega arith
 
 -- and the second is the least of the others
-at_least_b : (t : Tet) (i : ℕ) → IsArranged t → IsCorner t i → t.a < i → t.b ≤ i
+pub at_least_b : (t : Tet) (i : ℕ) → IsArranged t → IsCorner t i → t.a < i → t.b ≤ i
 at_least_b t i h (A, e) k = absurd (omega arith)
 at_least_b t i h (B, e) k = omega arith
 at_least_b t i h (C, e) k = let l = h.second in omega arith
 at_least_b t i h (D, e) k = let l = h.second' in omega arith
 
 -- a greater one is one of the last two
-last_two : (t : Tet) (i : ℕ) → IsArranged t → IsCorner t i → t.b < i → (i ≡ t.c) ⊎ (i ≡ t.d)
+pub last_two : (t : Tet) (i : ℕ) → IsArranged t → IsCorner t i → t.b < i → (i ≡ t.c) ⊎ (i ≡ t.d)
 last_two t i h (A, e) k = let l = h.first in absurd (omega arith)
 last_two t i h (B, e) k = absurd (omega arith)
 last_two t i h (C, e) k = inl e

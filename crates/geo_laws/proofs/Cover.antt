@@ -1,116 +1,27 @@
 -- The Delaunay list covers the hull once. Let x be off its face planes. Where x is in the hull, nudge it inside the hull off all planes through three
 -- of the points: the Delaunay tetrahedron round the near point is round x too, as x is on the same side of its faces, and by the radical law it is
 -- the only one. Beyond the hull there is none, as each tetrahedron lies in the hull.
-use Rattle.std.proofs.Common.{◌≡◌, ◌≢◌, ◌⊎◌, inl, inr, ℕ, ◌+◌, ℤ, pos, neg_ℤ, ◌<ℤ◌, ◌≤ℤ◌, Bool, true, false, cond, ◌&&◌, List, [], ◌∷◌, map, refl, ap, sym, subst, ◌∙◌, arith}
-use Rattle.std.specs.Prelude.{Contains, count_by, flat_map, int_lt}
-use Rattle.std.specs.List.{AllByRecursion, slice_index_or}
+use Rattle.std.proofs.Common.{◌≡◌, ◌≢◌, ◌⊎◌, inl, inr, ℕ, ◌+◌, ℤ, pos, neg_ℤ, ◌<ℤ◌, Bool, true, false, cond, ◌&&◌, List, [], ◌∷◌, refl, ap, sym, subst, ◌∙◌, arith}
+use Rattle.std.specs.Prelude.{count_by, int_lt}
+use Rattle.std.specs.List.{slice_index_or}
 use Rattle.std.proofs.lemmas.List.Sums.{sum_by-cons}
-use Rattle.exact_algebra.proofs.Signs.{pos_not_neg, neg_of_negated, sign_of, zero_or_not, nonneg_of_pos, test_pos, pos_of_test}
+use Rattle.exact_algebra.proofs.Signs.{pos_not_neg, neg_of_negated, sign_of, test_pos, pos_of_test}
 use Rattle.sign_predicates.specs.Point.{Point, RationalPoint, EachRational}
-use Rattle.sign_predicates.specs.Orientation.{Triangle, normal, side_rational, IsPositive, StrictlyInside, InClosed, OffFacePlanes, SpansPlane, faces, strictly_inside}
+use Rattle.sign_predicates.specs.Orientation.{side_rational, IsPositive, StrictlyInside, OffFacePlanes, SpansPlane, faces, strictly_inside}
 use Rattle.sign_predicates.specs.declared.tetrahedron.Corners.{Corners}
 use Rattle.geo_laws.specs.Delaunay.{corners, all_numbers, IsAmong, IsDelaunayList, AreNumbersOf, IsDelaunayAmong, IsDelaunayListAmong, RowBefore}
 use Rattle.geo_laws.specs.Hull.{InHullAmong, OffPlanes, rows_round, CoversHullOnceAmong}
 use Rattle.geo_laws.specs.Simplex.{RowsProperlyMet}
-use Rattle.geo_laws.specs.Laws.{KeepsSide, plane_through, IsTriangulation, CoverLaw}
+use Rattle.geo_laws.specs.Laws.{KeepsSide, IsTriangulation, CoverLaw}
 use Rattle.geo_laws.specs.declared.tetrahedra.Tet.{Tet}
 use Rattle.geo_laws.proofs.Places.{Place, A, B, C, D, opposite, at_planes, at_face, all_faces}
 use Rattle.geo_laws.proofs.Determinants.{spans}
-use Rattle.geo_laws.proofs.Members.{IsMember, here, there, found_of, member_of, at_place, contains_of, in_flat_map, in_map, each_true}
+use Rattle.geo_laws.proofs.Members.{IsMember, here, there, found_of, member_of, at_place, contains_of, each_true}
 use Rattle.geo_laws.proofs.Ascending.{Rises, more, before_itself, rises_of}
 use Rattle.geo_laws.proofs.Corners.{corner_among, all_within}
-use Rattle.geo_laws.proofs.Nudge.{law_nudge}
+use Rattle.geo_laws.proofs.General.{Near, near_point, closed_of}
 use Rattle.geo_laws.proofs.Radical.{law_radical}
 use Rattle.geo_laws.proofs.LeastHeight.{law_least_height}
-
--- ---- all planes through three of the points
-
--- a triangle spans a plane or not
-spans_or_not : (f : Triangle) → SpansPlane f ⊎ ¬ SpansPlane f
-spans_or_not f = go (zero_or_not (normal f).x) (zero_or_not (normal f).y) (zero_or_not (normal f).z)
-  where
-    go : ((normal f).x ≡ pos 0) ⊎ ¬ ((normal f).x ≡ pos 0) → ((normal f).y ≡ pos 0) ⊎ ¬ ((normal f).y ≡ pos 0) → ((normal f).z ≡ pos 0) ⊎ ¬ ((normal f).z ≡ pos 0)
-        → SpansPlane f ⊎ ¬ SpansPlane f
-    go (inr h) _ _ = inl (λ z. h z.0)
-    go (inl x) (inr h) _ = inl (λ z. h z.1)
-    go (inl x) (inl y) (inr h) = inl (λ z. h z.2)
-    go (inl x) (inl y) (inl z) = inr (λ s. s (x, y, z))
-
--- those that span a plane
-kept : (f : Triangle) → SpansPlane f ⊎ ¬ SpansPlane f → List Triangle → List Triangle
-kept f (inl s) fs = f ∷ fs
-kept f (inr n) fs = fs
-
-planes : List Triangle → List Triangle
-planes [] = []
-planes (f ∷ fs) = kept f (spans_or_not f) (planes fs)
-
--- each of these spans a plane
-planes_span : (fs : List Triangle) → AllByRecursion SpansPlane (planes fs)
-unfolding planes kept
-planes_span [] = tt
--- each of these spans a plane
-planes_span (f ∷ fs) = go (spans_or_not f) (planes_span fs)
-  where
-    go : (s : SpansPlane f ⊎ ¬ SpansPlane f) → AllByRecursion SpansPlane (planes fs) → AllByRecursion SpansPlane (kept f s (planes fs))
-    go (inl s) r = (s, r)
-    go (inr n) r = r
-
--- and each that does is one of these
-in_planes : (f : Triangle) (fs : List Triangle) → IsMember f fs → SpansPlane f → IsMember f (planes fs)
-unfolding planes kept
-in_planes f [] m s = elim m [ ]
-in_planes f (g ∷ fs) here s = go (spans_or_not g) s
-  where
-    go : (q : SpansPlane g ⊎ ¬ SpansPlane g) → SpansPlane g → IsMember g (kept g q (planes fs))
-    go (inl q) s = here
-    go (inr n) s = absurd (n s)
-in_planes f (g ∷ fs) (there m) s = go (spans_or_not g) (in_planes f fs m s)
-  where
-    go : (q : SpansPlane g ⊎ ¬ SpansPlane g) → IsMember f (planes fs) → IsMember f (kept g q (planes fs))
-    go (inl q) r = there r
-    go (inr n) r = r
-
--- what holds of all holds of each member
-all_at : {A : Type 0} (P : A → Type 0) (x : A) (xs : List A) → AllByRecursion P xs → IsMember x xs → P x
-all_at P x [] h m = elim m [ ]
-all_at P x (y ∷ xs) h here = h.0
-all_at P x (y ∷ xs) h (there m) = all_at P x xs h.1 m
-
--- all triangles on the numbers
-triangles : List Point → List ℕ → List Triangle
-triangles ps ms = flat_map (λ i. flat_map (λ j. map (λ k. plane_through ps i j k) ms) ms) ms
-
-in_triangles : (ps : List Point) (ms : List ℕ) (i j k : ℕ) → Contains ms i → Contains ms j → Contains ms k → IsMember (plane_through ps i j k) (triangles ps ms)
-unfolding triangles
-in_triangles ps ms i j k hi hj hk =
-    in_flat_map (λ i. flat_map (λ j. map (λ k. plane_through ps i j k) ms) ms) i (plane_through ps i j k) ms (member_of ms i hi)
-    (in_flat_map (λ j. map (λ k. plane_through ps i j k) ms) j (plane_through ps i j k) ms (member_of ms j hj)
-    (in_map (λ k. plane_through ps i j k) k ms (member_of ms k hk)))
-
--- ---- near x there is a generic point of the hull, on the same side of each plane that doesn't hold x
-
--- a point of the hull that is off all planes, on the side of x where x is off one
-record Generic (ps : List Point) (ms : List ℕ) (x : RationalPoint) : Type 0 where
-  near : RationalPoint
-  w : pos 0 <ℤ near.w
-  in_hull : InHullAmong ps ms near
-  keeps : (i j k : ℕ) → Contains ms i → Contains ms j → Contains ms k → SpansPlane (plane_through ps i j k) → KeepsSide x near (plane_through ps i j k)
-
--- what is strictly inside is in the closed tetrahedron
-closed_of : (t : Corners) (x : RationalPoint) → StrictlyInside t x → InClosed t x
-closed_of t x h = all_faces (λ f. pos 0 ≤ℤ side_rational f x) t (λ u. nonneg_of_pos _ (at_face (λ f. pos 0 <ℤ side_rational f x) t h u))
-
--- by the nudge law, in the tetrahedron that holds x
-generic : (ps : List Point) (ms : List ℕ) (x : RationalPoint) → pos 0 <ℤ x.w → InHullAmong ps ms x → Generic ps ms x
-generic ps ms x w h =
-    let y = law_nudge (corners ps h.row) h.is_positive (planes (triangles ps ms)) (planes_span (triangles ps ms)) x w h.holds in
-    record {
-      near = y.0;
-      w = y.1;
-      in_hull = record { row = h.row; is_on = h.is_on; is_positive = h.is_positive; holds = closed_of (corners ps h.row) y.0 y.2.0 };
-      keeps = λ i j k a b c s. all_at (KeepsSide x y.0) (plane_through ps i j k) (planes (triangles ps ms)) y.2.1 (in_planes (plane_through ps i j k) (triangles ps ms) (in_triangles ps ms i j k a b c) s);
-    }
 
 -- ---- the row round x
 
@@ -124,9 +35,9 @@ back a b off below h = go (sign_of a)
     go (inr (inr n)) = absurd (pos_not_neg b h (below (neg_of_negated a n)))
 
 -- a tetrahedron round the near point is round x, if x is off its face planes
-round_x : (ps : List Point) (ms : List ℕ) (x : RationalPoint) (g : Generic ps ms x) (t : Tet) → IsAmong ms t → IsPositive (corners ps t) → OffFacePlanes (corners ps t) x
+round_x : (ps : List Point) (ms : List ℕ) (x : RationalPoint) (s : Corners) (g : Near ps ms s x) (t : Tet) → IsAmong ms t → IsPositive (corners ps t) → OffFacePlanes (corners ps t) x
     → StrictlyInside (corners ps t) g.near → StrictlyInside (corners ps t) x
-round_x ps ms x g t on p off h =
+round_x ps ms x s g t on p off h =
     let c = corners ps t in
     all_faces (λ f. pos 0 <ℤ side_rational f x) c (λ u.
     back (side_rational (opposite c u) x) (side_rational (opposite c u) g.near) (at_face (λ f. side_rational f x ≢ pos 0) c off u)
@@ -190,11 +101,13 @@ covers ps ms within rows list = record { inside = inside_once; beyond = beyond_n
   where
     inside_once : EachRational (λ x. OffPlanes ps rows x → InHullAmong ps ms x → rows_round ps rows x ≡ 1)
     inside_once x w off hull =
-        let g = generic ps ms x w hull in
-        let found = law_least_height.delaunay ps ms within g.near g.w g.in_hull (λ i j k a b c s. (g.keeps i j k a b c s).off) in
+        let s = corners ps hull.row in
+        let g = near_point ps ms s x hull.is_positive w hull.holds in
+        let in_hull : InHullAmong ps ms g.near = record { row = hull.row; is_on = hull.is_on; is_positive = hull.is_positive; holds = closed_of s g.near g.strictly } in
+        let found = law_least_height.delaunay ps ms within g.near g.w in_hull (λ i j k a b c s. (g.keeps i j k a b c s).off) in
         let c = (list.exactly found.0).1 found.1 in
         let m = member_of rows found.0 c in
-        let inside = round_x ps ms x g found.0 found.1.is_on found.1.is_positive (off_at ps rows x off found.0 m) found.2 in
+        let inside = round_x ps ms x s g found.0 found.1.is_on found.1.is_positive (off_at ps rows x off found.0 m) found.2 in
         count_one (λ t. strictly_inside (corners ps t) x) rows found.0 (rises_of rows list.ascending) m (test_inside (corners ps found.0) x inside)
         (λ u k e. (law_radical.delaunay ps ms within u found.0 (delaunay_at ps ms rows list u k) found.1).1 (x, w, (inside_of (corners ps u) x e, inside)))
 

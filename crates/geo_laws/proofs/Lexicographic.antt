@@ -1,6 +1,6 @@
 -- Lists of whole numbers, compared from the left, are an ordered module: sums and positive multiples of lists above 0 are above 0, each
 -- list is above, at or below 0, and none is both above and at 0. A list is a function, with one number for each place of a list of places.
-use Rattle.std.proofs.Common.{◌≡◌, ◌⊎◌, inl, inr, ℕ, zero, suc, ℤ, pos, neg_ℤ, ◌+ℤ◌, ◌*ℤ◌, ◌<ℤ◌, List, [], ◌∷◌, map, arith, ap, sym, ◌∙◌}
+use Rattle.std.proofs.Common.{◌≡◌, ◌⊎◌, inl, inr, ℕ, ℤ, pos, neg_ℤ, ◌+ℤ◌, ◌*ℤ◌, ◌<ℤ◌, ◌≤ℤ◌, List, [], ◌∷◌, map, arith, ap, sym, ◌∙◌}
 use Rattle.std.proofs.lemmas.Int.{ints}
 use Rattle.geo_laws.specs.Height.{IsLexPositive}
 use Rattle.exact_algebra.proofs.Signs.{mul_pos, sign_of, pos_same, pos_not_zero}
@@ -138,10 +138,6 @@ pub at_least_scale : (c : ℤ) (f : ℕ → ℤ) (ks : List ℕ) → pos 0 <ℤ 
 at_least_scale c f ks p (inl h) = inl (lex_scale c f ks p h)
 at_least_scale c f ks p (inr z) = inr (zero_scale c f ks z)
 
-pub natural_scale : (n : ℕ) (f : ℕ → ℤ) (ks : List ℕ) → IsLexAtLeast f ks → IsLexAtLeast (λ k. pos n *ℤ f k) ks
-natural_scale zero f ks h = inr (zero_everywhere (λ k. pos 0 *ℤ f k) ks (λ k. zero-*ℤ (f k)))
-natural_scale (suc n) f ks h = at_least_scale (pos (suc n)) f ks (omega (arith, ints)) h
-
 -- the list is not below 0 where a positive multiple of it is at least 0
 pub not_below : (c : ℤ) (f : ℕ → ℤ) (ks : List ℕ) → pos 0 <ℤ c → IsLexAtLeast (λ k. c *ℤ f k) ks → IsLexAbove (λ k. neg_ℤ (f k)) ks → ⊥
 not_below c f ks p h below =
@@ -156,3 +152,82 @@ at_least_unscale c f ks p h = go (lex_sign_of f ks)
     go (inl a) = inl a
     go (inr (inl z)) = inr z
     go (inr (inr b)) = absurd (not_below c f ks p h b)
+
+-- and above 0 where a positive multiple of it is
+pub above_unscale : (c : ℤ) (f : ℕ → ℤ) (ks : List ℕ) → pos 0 <ℤ c → IsLexAbove (λ k. c *ℤ f k) ks → IsLexAbove f ks
+above_unscale c f ks p h = go (at_least_unscale c f ks p (inl h))
+  where
+    go : IsLexAtLeast f ks → IsLexAbove f ks
+    go (inl a) = a
+    go (inr z) = absurd (above_not_zero (λ k. c *ℤ f k) ks h (zero_scale c f ks z))
+
+-- ---- lists below 0
+
+abbrev pub IsLexBelow : (ℕ → ℤ) → List ℕ → Type 0
+IsLexBelow f ks = IsLexAbove (λ k. neg_ℤ (f k)) ks
+
+cancel : (n : ℤ) → n +ℤ neg_ℤ n ≡ pos 0
+cancel n = omega (arith, ints)
+
+-- no list is above 0 and below 0
+pub not_both : (f : ℕ → ℤ) (ks : List ℕ) → IsLexAbove f ks → IsLexBelow f ks → ⊥
+not_both f ks a b = above_not_zero (λ k. f k +ℤ neg_ℤ (f k)) ks (lex_add f (λ k. neg_ℤ (f k)) ks a b) (zero_everywhere (λ k. f k +ℤ neg_ℤ (f k)) ks (λ k. cancel (f k)))
+
+neg-neg : (n : ℤ) → neg_ℤ (neg_ℤ n) ≡ n
+neg-neg n = omega (arith, ints)
+
+neg-times : (c n : ℤ) → neg_ℤ c *ℤ n ≡ neg_ℤ (c *ℤ n)
+unfolding same
+neg-times c n = ring (neg (var 0) ⊗ var 1) (neg (var 0 ⊗ var 1)) tt (c ∷ n ∷ [])
+
+-- the opposite of a list above 0 is below 0
+pub above_below : (f : ℕ → ℤ) (ks : List ℕ) → IsLexAbove f ks → IsLexBelow (λ k. neg_ℤ (f k)) ks
+above_below f ks h = lex_same f (λ k. neg_ℤ (neg_ℤ (f k))) ks (λ k. sym (neg-neg (f k))) h
+
+-- ---- sums of multiples
+
+-- a number that is at least 0 is above it or 0
+zero_or : (b : ℤ) → pos 0 ≤ℤ b → (pos 0 <ℤ b) ⊎ (b ≡ pos 0)
+zero_or b h = go (sign_of b)
+  where
+    go : (pos 0 <ℤ b) ⊎ ((b ≡ pos 0) ⊎ (pos 0 <ℤ neg_ℤ b)) → (pos 0 <ℤ b) ⊎ (b ≡ pos 0)
+    go (inl a) = inl a
+    go (inr (inl z)) = inr z
+    go (inr (inr n)) = absurd (omega (arith, ints))
+
+times_zero : (b n : ℤ) → b ≡ pos 0 → b *ℤ n ≡ pos 0
+times_zero b n e = ap (λ c. c *ℤ n) e ∙ zero-*ℤ n
+
+-- multiples by a number that is at least 0
+pub at_least_multiple : (b : ℤ) (f : ℕ → ℤ) (ks : List ℕ) → pos 0 ≤ℤ b → IsLexAtLeast f ks → IsLexAtLeast (λ k. b *ℤ f k) ks
+at_least_multiple b f ks p h = go (zero_or b p)
+  where
+    go : (pos 0 <ℤ b) ⊎ (b ≡ pos 0) → IsLexAtLeast (λ k. b *ℤ f k) ks
+    go (inl q) = at_least_scale b f ks q h
+    go (inr z) = inr (zero_everywhere (λ k. b *ℤ f k) ks (λ k. times_zero b (f k) z))
+
+-- a list of which a positive multiple is a sum of multiples
+pub sum_first : (c a b : ℤ) (x y z : ℕ → ℤ) (ks : List ℕ) → pos 0 <ℤ c → pos 0 <ℤ a → pos 0 ≤ℤ b → ((k : ℕ) → c *ℤ x k ≡ a *ℤ y k +ℤ b *ℤ z k)
+    → IsLexAbove y ks → IsLexAtLeast z ks → IsLexAbove x ks
+sum_first c a b x y z ks hc ha hb e hy hz =
+    above_unscale c x ks hc (lex_same (λ k. a *ℤ y k +ℤ b *ℤ z k) (λ k. c *ℤ x k) ks (λ k. sym (e k))
+    (above_add (λ k. a *ℤ y k) (λ k. b *ℤ z k) ks (lex_scale a y ks ha hy) (at_least_multiple b z ks hb hz)))
+
+-- where the second summand is above 0
+pub sum_second : (c a b : ℤ) (x y z : ℕ → ℤ) (ks : List ℕ) → pos 0 <ℤ c → pos 0 ≤ℤ a → pos 0 <ℤ b → ((k : ℕ) → c *ℤ x k ≡ a *ℤ y k +ℤ b *ℤ z k)
+    → IsLexAtLeast y ks → IsLexAbove z ks → IsLexAbove x ks
+sum_second c a b x y z ks hc ha hb e hy hz =
+    above_unscale c x ks hc (lex_same (λ k. a *ℤ y k +ℤ b *ℤ z k) (λ k. c *ℤ x k) ks (λ k. sym (e k))
+    (add_above (λ k. a *ℤ y k) (λ k. b *ℤ z k) ks (at_least_multiple a y ks ha hy) (lex_scale b z ks hb hz)))
+
+-- the factor between two lists above 0
+pub factor_above : (c : ℤ) (x y : ℕ → ℤ) (ks : List ℕ) → ((k : ℕ) → c *ℤ x k ≡ y k) → IsLexAbove y ks → IsLexAbove x ks → pos 0 <ℤ c
+factor_above c x y ks e hy hx = go (sign_of c)
+  where
+    h : IsLexAbove (λ k. c *ℤ x k) ks
+    h = lex_same y (λ k. c *ℤ x k) ks (λ k. sym (e k)) hy
+
+    go : (pos 0 <ℤ c) ⊎ ((c ≡ pos 0) ⊎ (pos 0 <ℤ neg_ℤ c)) → pos 0 <ℤ c
+    go (inl p) = p
+    go (inr (inl d)) = absurd (above_not_zero (λ k. c *ℤ x k) ks h (zero_everywhere (λ k. c *ℤ x k) ks (λ k. times_zero c (x k) d)))
+    go (inr (inr n)) = absurd (not_both (λ k. c *ℤ x k) ks h (lex_same (λ k. neg_ℤ c *ℤ x k) (λ k. neg_ℤ (c *ℤ x k)) ks (λ k. neg-times c (x k)) (lex_scale (neg_ℤ c) x ks n hx)))

@@ -14,6 +14,7 @@ pub mod Hull
 pub mod Exchange
 pub mod LeastHeight
 pub mod Nudge
+pub mod General
 pub mod Cover
 pub mod DelaunayList
 pub mod Worked

@@ -70,7 +70,7 @@ side_of ps t e u = side (opposite (corners ps t) u) (point ps e)
 unfoldable pub vote : List Point → (ℕ → ℤ) → Tet → ℕ → ℕ → ℤ
 vote ps first t e j = residual_at ps first t e (suc j)
 
-abbrev one_if : Bool → ℤ
+abbrev pub one_if : Bool → ℤ
 one_if b = if b then pos 1 else pos 0
 
 -- the product with it
@@ -206,7 +206,7 @@ le_of (negsuc n) e = omega (arith, ints)
 test_le : (a : ℤ) → a ≡ pos 0 → int_le a (pos 0) ≡ true
 test_le a e = ap (λ n. int_le n (pos 0)) e
 
-map-map : (f : ℕ → ℤ) (g : ℕ → ℕ) (s : List ℕ) → map (λ i. f (g i)) s ≡ map f (map g s)
+pub map-map : (f : ℕ → ℤ) (g : ℕ → ℕ) (s : List ℕ) → map (λ i. f (g i)) s ≡ map f (map g s)
 map-map f g [] = refl
 map-map f g (i ∷ s) = ap (λ r. f (g i) ∷ r) (map-map f g s)
 

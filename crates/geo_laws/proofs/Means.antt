@@ -12,7 +12,7 @@ use Rattle.geo_laws.proofs.Determinants.{offset, side-linear, side_rational-line
 use Rattle.std.proofs.lemmas.List.Sums.{sum_by-cons}
 use Rattle.exact_algebra.proofs.Ring.{var, ring, same, ◌⊕◌, ◌⊖◌, ◌⊗◌}
 use Rattle.geo_laws.proofs.Members.{IsMember, here, there}
-use Rattle.geo_laws.proofs.Lexicographic.{IsLexAbove, IsLexAtLeast, at_least_add, above_add, add_above, lex_scale, natural_scale, zero_everywhere}
+use Rattle.geo_laws.proofs.Lexicographic.{IsLexAbove, IsLexAtLeast, at_least_add, above_add, add_above, lex_scale, at_least_multiple, zero_everywhere}
 use lib.IntN.{*ℤ-zero, zero-*ℤ}
 
 -- ---- sums, multiples and constants
@@ -150,7 +150,7 @@ pub weighted_sum-at_least : (weight : ℕ → ℕ) (f : ℕ → ℕ → ℤ) (ks
 weighted_sum-at_least weight f ks [] h = inr (zero_everywhere (λ k. pos 0) ks (λ k. refl))
 weighted_sum-at_least weight f ks (i ∷ s) h =
     at_least_add (λ k. pos (weight i) *ℤ f i k) (λ k. weighted_sum weight (λ j. f j k) s) ks
-    (natural_scale (weight i) (f i) ks (h i here)) (weighted_sum-at_least weight f ks s (λ j m. h j (there m)))
+    (at_least_multiple (pos (weight i)) (f i) ks (omega (arith, ints)) (h i here)) (weighted_sum-at_least weight f ks s (λ j m. h j (there m)))
 
 -- one part above 0 that weighs makes the sum so
 pub weighted_sum-above : (weight : ℕ → ℕ) (f : ℕ → ℕ → ℤ) (ks s : List ℕ) → ((i : ℕ) → IsMember i s → IsLexAtLeast (f i) ks)
@@ -161,4 +161,4 @@ weighted_sum-above weight f ks (j ∷ s) h j' here w a =
     (lex_scale (pos (weight j)) (f j) ks w a) (weighted_sum-at_least weight f ks s (λ i m. h i (there m)))
 weighted_sum-above weight f ks (i ∷ s) h j (there m) w a =
     add_above (λ k. pos (weight i) *ℤ f i k) (λ k. weighted_sum weight (λ e. f e k) s) ks
-    (natural_scale (weight i) (f i) ks (h i here)) (weighted_sum-above weight f ks s (λ e n. h e (there n)) j m w a)
+    (at_least_multiple (pos (weight i)) (f i) ks (omega (arith, ints)) (h i here)) (weighted_sum-above weight f ks s (λ e n. h e (there n)) j m w a)

@@ -1,8 +1,9 @@
--- A walk over the hull faces that the new point sees, to one that it is strictly beyond: from each the leg between the new point and a point near the middle of the last one
--- leads across an edge, where the plane of the next face cuts the leg nearer to its end.
+-- A walk over the hull faces that the new point sees, to one that it is strictly beyond: from each face the leg between the new point and a point near the
+-- middle of the last face crosses an edge, and the face across that edge is seen too and nearer to its end.
+use Rattle.exact_algebra.proofs.Signs.{nonneg_of_pos}
 use Rattle.geo_laws.proofs.Heights.{order-trans}
 use Rattle.geo_laws.proofs.Arrangement.{even_residual}
-use Rattle.std.proofs.Common.{◌≡◌, ◌≢◌, ◌⊎◌, inl, inr, ℕ, zero, suc, ℤ, pos, neg_ℤ, ◌-ℤ◌, ◌*ℤ◌, ◌<ℤ◌, ◌≤ℤ◌, List, length, ap, sym, subst, ◌∙◌, arith}
+use Rattle.std.proofs.Common.{◌≡◌, ◌≢◌, ◌⊎◌, inl, inr, ℕ, zero, suc, ℤ, pos, neg_ℤ, ◌-ℤ◌, ◌*ℤ◌, ◌<ℤ◌, List, length, ap, sym, subst, ◌∙◌, arith}
 use Rattle.std.specs.Prelude.{Contains}
 use Rattle.std.proofs.lemmas.Int.{ints}
 use Rattle.sign_predicates.specs.Point.{Point, RationalPoint}
@@ -14,7 +15,7 @@ use Rattle.insert_laws.specs.Face.{Face, triangle, beside, IsOther}
 use Rattle.insert_laws.specs.Insertion.{IsNew, edge_and}
 use Rattle.insert_laws.proofs.Bridge
 use Rattle.insert_laws.proofs.Identities as identity
-use Rattle.insert_laws.proofs.LexMore.{IsLexBelow, sum_first}
+use Rattle.geo_laws.proofs.Lexicographic.{IsLexBelow, sum_first}
 use Rattle.insert_laws.proofs.Pencil.{IsBare, IsFirst, first_of, neighbor, above_not_zero as positive_not_zero, apart_sides}
 use Rattle.geo_laws.proofs.Arrangement.{IsEven, even_trans, even-swap, even-rotate, swap_both, rotate}
 use Rattle.insert_laws.proofs.FacePencil.{side_of, gap_of}
@@ -30,9 +31,11 @@ turn f = record { a = f.b; b = f.c; c = f.a }
 abbrev pub weight : List Point → RationalPoint → Face → ℤ
 weight qs mid f = edge_side qs mid f.a f.b f.c
 
+-- and how far a point is above it there
 abbrev pub lift : List Point → RationalPoint → Face → ℕ → ℕ → ℤ
 lift qs mid f x k = edge_gap qs mid f.a f.b f.c x k
 
+-- both are the same from each corner of the face
 pub weight-turn : (qs : List Point) (mid : RationalPoint) (f : Face) → weight qs mid (turn f) ≡ weight qs mid f
 weight-turn qs mid f = identity.edge-side_rotated (point qs f.a) (point qs f.b) (point qs f.c) mid
 
@@ -42,14 +45,17 @@ lift-turn qs mid f x (suc k) = identity.edge-gap_rotated (point qs f.a) (point q
 
 -- ---- a hull face, named from another corner
 
+-- the tetrahedron behind is evenly permuted
 pub even-turn : (qs : List Point) (f : Face) (a : ℕ) → IsEven qs (beside f a) (beside (turn f) a)
 even-turn qs f a =
     let t = beside f a in
     even_trans qs t (swap_both t) (beside (turn f) a) (even-swap qs t) (even_trans qs (swap_both t) (rotate (swap_both t)) (beside (turn f) a) (even-rotate qs (swap_both t)) (even-rotate qs (rotate (swap_both t))))
 
+-- and the sides are the same
 pub side-turn : (qs : List Point) (f : Face) (o : ℕ) → side_of qs (turn f) o ≡ side_of qs f o
 side-turn qs f o = identity.side-turned (triangle qs f) (point qs o)
 
+-- so a hull face is one from each of its corners
 pub hull-turn : (qs : List Point) (S : ℕ → Type 0) (f : Face) (a : ℕ) → IsHullOn qs S f a → IsHullOn qs S (turn f) a
 hull-turn qs S f a h = record {
   on = record { on_a = h.on.on_b; on_b = h.on.on_c; on_c = h.on.on_a };
@@ -64,6 +70,7 @@ hull-turn qs S f a h = record {
 
 -- ---- the hull faces that the new point sees
 
+-- a hull face that the new point sees, by its heights
 pub record IsGhost (ps : List Point) (ms : List ℕ) (p : ℕ) (mid : RationalPoint) (f : Face) : Type 0 where
   pub apex : ℕ
   pub hull : IsHullOn ps (Contains ms) f apex
@@ -84,14 +91,13 @@ nearer_at qs mid x f g k = weight qs mid f *ℤ neg_ℤ (lift qs mid g x k) -ℤ
 abbrev pub nearer : List Point → RationalPoint → ℕ → Face → Face → Type 0
 nearer qs mid x f g = IsLexAbove (nearer_at qs mid x f g) (edge_places (length qs))
 
-weak : (a : ℤ) → pos 0 <ℤ a → pos 0 ≤ℤ a
-weak a h = omega (arith, ints)
-
+-- the order is transitive
 pub nearer_trans : (qs : List Point) (mid : RationalPoint) (x : ℕ) (s t u : Face) → pos 0 <ℤ weight qs mid s → pos 0 <ℤ weight qs mid t → pos 0 <ℤ weight qs mid u → nearer qs mid x s t → nearer qs mid x t u → nearer qs mid x s u
 nearer_trans qs mid x s t u hs ht hu st tu =
-    sum_first (weight qs mid t) (weight qs mid u) (weight qs mid s) (nearer_at qs mid x s u) (nearer_at qs mid x s t) (nearer_at qs mid x t u) (edge_places (length qs)) ht hu (weak _ hs)
+    sum_first (weight qs mid t) (weight qs mid u) (weight qs mid s) (nearer_at qs mid x s u) (nearer_at qs mid x s t) (nearer_at qs mid x t u) (edge_places (length qs)) ht hu (nonneg_of_pos _ hs)
     (λ k. sym (order-trans (weight qs mid s) (weight qs mid t) (weight qs mid u) (neg_ℤ (lift qs mid s x k)) (neg_ℤ (lift qs mid t x k)) (neg_ℤ (lift qs mid u x k)))) st (inl tu)
 
+-- and strict
 pub nearer_never : (qs : List Point) (mid : RationalPoint) (x : ℕ) (s : Face) → nearer qs mid x s s → ⊥
 nearer_never qs mid x s h = above_not_zero (nearer_at qs mid x s s) (edge_places (length qs)) h (zero_everywhere (nearer_at qs mid x s s) (edge_places (length qs)) (λ k. zero (weight qs mid s *ℤ neg_ℤ (lift qs mid s x k))))
   where
@@ -104,6 +110,7 @@ nearer-turn qs mid x f g h = lex_same (nearer_at qs mid x (turn f) g) (nearer_at
 
 -- ---- the step across an edge
 
+-- the seen face across an edge is nearer
 pub record IsAcross (ps : List Point) (ms : List ℕ) (p : ℕ) (mid : RationalPoint) (f : Face) : Type 0 where
   pub apex : ℕ
   pub ghost : IsGhost ps ms p mid (edge_and f.b f.a apex)
@@ -154,7 +161,7 @@ module _ (ps : List Point) (ms : List ℕ) (p : ℕ) (new : IsNew ps ms p) (t : 
           seen_b : IsLexBelow (edge_gap ps mid f.b f.a b p) (edge_places (length ps))
           seen_b = sum_first (neg_ℤ (edge_side ps mid f.b f.a f.c)) (edge_side ps mid f.b f.a b) (edge_side ps mid f.b f.a p)
               (λ k. neg_ℤ (edge_gap ps mid f.b f.a b p k)) (edge_gap ps mid f.b f.a f.c p) (λ k. neg_ℤ (edge_gap ps mid f.b f.a f.c b k)) (edge_places (length ps))
-              under.under low_b.over (weak _ beyond')
+              under.under low_b.over (nonneg_of_pos _ beyond')
               (λ k. identity.solve-walk (edge_side ps mid f.b f.a f.c) (edge_gap ps mid f.b f.a b p k) (edge_side ps mid f.b f.a b) (edge_gap ps mid f.b f.a f.c p k)
               (edge_side ps mid f.b f.a p) (edge_gap ps mid f.b f.a f.c b k) ((edge.edge_pencil ps mid f.b f.a).relation f.c b p k))
               seen' (inl below_b)

@@ -1,4 +1,5 @@
 -- Where the new point is strictly beyond a hull face, each place of the cavity is joined to the ghost of that face.
+use Rattle.exact_algebra.proofs.Signs.{nonneg_of_pos}
 use Rattle.geo_laws.proofs.Places.{number}
 use Rattle.std.proofs.Common.{◌≡◌, ◌≢◌, ◌⊎◌, inl, inr, ℕ, zero, suc, ◌+◌, ◌<◌, ℤ, pos, neg_ℤ, nat_abs, ◌+ℤ◌, ◌-ℤ◌, ◌*ℤ◌, ◌<ℤ◌, ◌≤ℤ◌, List, length, refl, ap, sym, subst, ◌∙◌, arith}
 use Rattle.std.specs.Prelude.{Contains}
@@ -18,7 +19,7 @@ use Rattle.geo_laws.proofs.Heights.{all_fours, in_all_fours}
 use Rattle.insert_laws.specs.Face.{Face, triangle, reversed, beside}
 use Rattle.insert_laws.specs.Insertion.{IsNew, IsFaceOf, IsHullFace, Sees, edge_and, Place, row_place, ghost_place, IsInCavity, row_in, ghost_in, row_ghost, ghost_ghost, ghost_turned, IsJoined, joined_self, joined_by, BeyondCavityLaw}
 use Rattle.insert_laws.proofs.Identities as identity
-use Rattle.insert_laws.proofs.LexMore.{at_least_multiple}
+use Rattle.geo_laws.proofs.Lexicographic.{at_least_multiple}
 use Rattle.insert_laws.proofs.Pencil.{IsBare}
 use Rattle.geo_laws.proofs.Arrangement.{even_self, even_trans, even_back, even-swap, even-cross, cross, swap_both}
 use Rattle.insert_laws.proofs.FacePencil.{side_of}
@@ -33,17 +34,6 @@ use Rattle.insert_laws.proofs.Inside as inside
 use Rattle.insert_laws.proofs.Beyond.{turn, weight, lift, ghost-turn, IsGhost, nearer, nearer_trans, nearer_never, nearer-turn, IsAcross, ghost_weight, across}
 
 -- ---- no hull face below another
-
-weak : (a : ℤ) → pos 0 <ℤ a → pos 0 ≤ℤ a
-weak a h = omega (arith, ints)
-
-not_negative : (n : ℤ) → ¬ (pos 0 <ℤ neg_ℤ n) → pos 0 ≤ℤ n
-not_negative n h = go (sign_of n)
-  where
-    go : (pos 0 <ℤ n) ⊎ ((n ≡ pos 0) ⊎ (pos 0 <ℤ neg_ℤ n)) → pos 0 ≤ℤ n
-    go (inl k) = omega (arith, ints)
-    go (inr (inl k)) = omega (arith, ints)
-    go (inr (inr k)) = absurd (h k)
 
 -- the number is a corner of the face
 data IsFaceCorner (f : Face) (x : ℕ) : Type 0 where
@@ -125,8 +115,8 @@ module _ (ps : List Point) (ms : List ℕ) (p : ℕ) (new : IsNew ps ms p) (t : 
       (above_add (λ k. edge_side qs mid g.b g.c n *ℤ lift qs mid f g.a k) (λ k. edge_side qs mid g.c g.a n *ℤ lift qs mid f g.b k +ℤ edge_side qs mid g.a g.b n *ℤ lift qs mid f g.c k) ks
       (lex_scale (edge_side qs mid g.b g.c n) (lift qs mid f g.a) ks ha (lift_away f gf g.a gg.hull.on.on_a na nb nc))
       (at_least_add (λ k. edge_side qs mid g.c g.a n *ℤ lift qs mid f g.b k) (λ k. edge_side qs mid g.a g.b n *ℤ lift qs mid f g.c k) ks
-      (at_least_multiple (edge_side qs mid g.c g.a n) (lift qs mid f g.b) ks (weak _ hb) (lift_at_least f gf g.b gg.hull.on.on_b))
-      (at_least_multiple (edge_side qs mid g.a g.b n) (lift qs mid f g.c) ks (weak _ hc) (lift_at_least f gf g.c gg.hull.on.on_c))))
+      (at_least_multiple (edge_side qs mid g.c g.a n) (lift qs mid f g.b) ks (nonneg_of_pos _ hb) (lift_at_least f gf g.b gg.hull.on.on_b))
+      (at_least_multiple (edge_side qs mid g.a g.b n) (lift qs mid f g.c) ks (nonneg_of_pos _ hc) (lift_at_least f gf g.c gg.hull.on.on_c))))
 
   -- p is seen inside g and, from the same point, in closed f: the first corner of g is one of f
   first_shared : (f g : Face) → IsGhost ps ms p mid f → IsGhost ps ms p mid g → pos 0 <ℤ edge_side ps mid g.b g.c p → pos 0 <ℤ edge_side ps mid g.c g.a p
@@ -145,12 +135,6 @@ module _ (ps : List Point) (ms : List ℕ) (p : ℕ) (new : IsNew ps ms p) (t : 
       cancel a b = omega (arith, ints)
 
 -- ---- faces with the same corners
-
-kind-turn : (f : Face) (x : ℕ) → IsFaceCorner f x → IsFaceCorner (turn f) x
-kind-turn f x (at_a e) = at_c e
-kind-turn f x (at_b e) = at_a e
-kind-turn f x (at_c e) = at_b e
-kind-turn f x (away na nb nc) = away nb nc na
 
 data IsCorner3 (f : Face) (x : ℕ) : Type 0 where
   one_a : x ≡ f.a → IsCorner3 f x
@@ -185,6 +169,7 @@ aligned qs mid f g wf wg d ea (one_c eb) (one_b ec) = absurd (clash (weight qs m
 
 -- ---- a point is in the closed row, or beyond one of its faces
 
+-- a point lies in the closed tetrahedron, or beyond one of its faces
 pub closed_or_beyond : (qs : List Point) (t : Tet) (y : RationalPoint) → InClosed (corners qs t) y ⊎ inside.IsBeyondFace qs t y
 closed_or_beyond qs t y = go (sign (side_rational (opposite_a (corners qs t)) y)) (sign (side_rational (opposite_b (corners qs t)) y)) (sign (side_rational (opposite_c (corners qs t)) y)) (sign (side_rational (opposite_d (corners qs t)) y))
   where
@@ -384,7 +369,7 @@ module _ (ps : List Point) (ms : List ℕ) (p : ℕ) (new : IsNew ps ms p) (t : 
           (subst (λ n. pos 0 <ℤ n) (sym (ring.side_rational-as_rational (triangle ps g) (point ps p))) goal.beyond))
       go (inr b) =
           let above = subst (λ n. pos 0 <ℤ n) (ring.side_rational-as_rational (triangle ps b.face) (point ps p)) b.beyond in
-          onward b above (inside.next ps ms p new (as_rational (point ps p)) r c b (weak _ above))
+          onward b above (inside.next ps ms p new (as_rational (point ps p)) r c b (nonneg_of_pos _ above))
 
   rows_joined : (r : Tet) → inside.IsCavityRow ps ms p r → IsJoined ps ms p (row_place r) (ghost_place g)
   rows_joined r c =
@@ -457,6 +442,7 @@ near_goal ps ms p new f a n some h above hab hbc hca = record {
     moved : (a b : ℤ) → a ≡ b → pos 0 <ℤ b → pos 0 <ℤ a
     moved a b e h = omega (arith, ints)
 
+-- a tetrahedron of the cavity is joined to a ghost that p sees, and each such ghost to that of f
 pub law_beyond_cavity : BeyondCavityLaw
 law_beyond_cavity ps ms p new f h above = start (hull.some_hull_on ps ms (Contains ms) (Bridge.of_list ps ms new.within) f h)
   where

@@ -1,7 +1,8 @@
--- From Delaunay rows to low rows on their faces, and back.
+-- From Delaunay tetrahedra to low ones on their faces, and back: the rule for outside becomes residuals, and even permutations turn each face to the front.
+use Rattle.geo_laws.proofs.Corners.{contains_or_not}
 use Rattle.geo_laws.proofs.Places.{number}
 use Rattle.geo_laws.proofs.Arrangement as even
-use Rattle.std.proofs.Common.{◌≡◌, ◌≢◌, ◌⊎◌, inl, inr, ℕ, zero, suc, ◌<◌, pos, neg_ℤ, ◌<ℤ◌, List, [], ◌∷◌, length, refl, sym, subst, arith}
+use Rattle.std.proofs.Common.{◌≡◌, ◌≢◌, ◌⊎◌, inl, inr, ℕ, zero, suc, ◌<◌, pos, neg_ℤ, ◌<ℤ◌, List, ◌∷◌, length, refl, sym, subst, arith}
 use Rattle.std.specs.List.{slice_index_or}
 use Rattle.std.specs.Prelude.{IsTrue, ◌↔◌, Contains}
 use Rattle.sign_predicates.specs.Point.{Point}
@@ -10,7 +11,7 @@ use Rattle.sign_predicates.specs.Sphere.{is_outside}
 use Rattle.geo_laws.specs.Delaunay.{point, corners, as_numbers, IsArranged, IsDelaunayAmong, AreNumbersOf}
 use Rattle.geo_laws.specs.Height.{lifted, residual_at, places}
 use Rattle.geo_laws.specs.declared.tetrahedra.Tet.{Tet}
-use Rattle.geo_laws.proofs.Corners.{IsCorner, corner_of, same_or_not}
+use Rattle.geo_laws.proofs.Corners.{IsCorner, corner_of}
 use Rattle.geo_laws.proofs.Places.{A, B, C, D}
 use Rattle.geo_laws.proofs.Corners.{on_of_corners}
 use Rattle.geo_laws.proofs.Corners.{contains_corner}
@@ -29,6 +30,7 @@ pub record IsLowFour (ps : List Point) (S : ℕ → Type 0) (t : Tet) : Type 0 w
   pub positive : IsPositive (corners ps t)
   pub others : (e : ℕ) → S e → ¬ IsCorner t e → IsLexAbove (residual_at ps (lifted ps) t e) (places (length ps))
 
+-- and so is each even permutation
 pub low_even : (ps : List Point) (S : ℕ → Type 0) (t s : Tet) → IsEven ps t s → IsLowFour ps S t → IsLowFour ps S s
 low_even ps S t s h low = record {
   on = λ i c. low.on i (even.corner_from ps t s h i c);
@@ -49,6 +51,7 @@ pub record IsOf (ps : List Point) (ms : List ℕ) (S : ℕ → Type 0) : Type 0 
   pub to : (i : ℕ) → S i → Contains ms i
   pub from : (i : ℕ) → Contains ms i → S i
 
+-- a Delaunay tetrahedron is low
 pub low_of_delaunay : (ps : List Point) (ms : List ℕ) (S : ℕ → Type 0) → IsOf ps ms S → (t : Tet) → IsDelaunayAmong ps ms t → IsLowFour ps S t
 low_of_delaunay ps ms S h t d = record {
   on = λ i c. h.from i (on i c);
@@ -59,6 +62,7 @@ low_of_delaunay ps ms S h t d = record {
     on : (i : ℕ) → IsCorner t i → Contains ms i
     on i c = d.is_on i (contains_corner t i c)
 
+-- and a low one in its least arrangement is Delaunay
 pub delaunay_of_low : (ps : List Point) (ms : List ℕ) (S : ℕ → Type 0) → IsOf ps ms S → (t : Tet) → IsArranged t → IsLowFour ps S t → IsDelaunayAmong ps ms t
 delaunay_of_low ps ms S h t a low = record {
   is_on = λ i c. h.to i (low.on i (corner_of t i c));
@@ -67,11 +71,13 @@ delaunay_of_low ps ms S h t a low = record {
   others = λ e l n. (outside_above ps t e (λ i c. h.within i (h.to i (low.on i c))) low.positive (h.within e l) (λ c. n (contains_corner t e c))).1 (low.others e (h.from e l) (λ c. n (contains_corner t e c)));
 }
 
+-- the numbers of a list
 pub of_list : (ps : List Point) (ms : List ℕ) → AreNumbersOf ps ms → IsOf ps ms (Contains ms)
 of_list ps ms h = record { within = h; to = λ i c. c; from = λ i c. c }
 
 -- ---- one number more
 
+-- the numbers with p are p and the others
 pub of_cons : (p : ℕ) (ms : List ℕ) (i : ℕ) → Contains (p ∷ ms) i → With (Contains ms) p i
 of_cons p ms i c = go c.0 c.1 c.2
   where
@@ -90,22 +96,7 @@ of_new ps ms p new = record { within = λ i c. at i (of_cons p ms i c); to = λ 
     at i (inl e) = let h = new.on in omega arith
     at i (inr c) = new.within i c
 
-contains_or_not : (ms : List ℕ) (i : ℕ) → Contains ms i ⊎ ¬ Contains ms i
-contains_or_not [] i = inr (λ c. none c.0 c.1)
-  where
-    none : (k : ℕ) → k < 0 → ⊥
-    none k h = omega arith
-contains_or_not (p ∷ ms) i = go (same_or_not i p) (contains_or_not ms i)
-  where
-    go : (i ≡ p) ⊎ (i ≡ p → ⊥) → Contains ms i ⊎ ¬ Contains ms i → Contains (p ∷ ms) i ⊎ ¬ Contains (p ∷ ms) i
-    go (inl e) _ = inl (to_cons p ms i (inl e))
-    go (inr n) (inl c) = inl (to_cons p ms i (inr c))
-    go (inr n) (inr m) = inr (λ c. neither (of_cons p ms i c))
-      where
-        neither : With (Contains ms) p i → ⊥
-        neither (inl e) = n e
-        neither (inr c) = m c
-
+-- whether a number is among them is decided
 pub list_set : (ps : List Point) (ms : List ℕ) → AreNumbersOf ps ms → IsSet (Contains ms) (length ps)
 list_set ps ms h = record { decided = contains_or_not ms; below = h }
 
@@ -124,12 +115,15 @@ pub record IsFaceOn (S : ℕ → Type 0) (f : Face) : Type 0 where
   pub on_b : S f.b
   pub on_c : S f.c
 
+-- the tetrahedron of f and o is low
 abbrev pub IsLowOn : List Point → (ℕ → Type 0) → Face → ℕ → Type 0
 IsLowOn ps S f o = IsLow f (side_of ps f) (gap_of ps f) (places (length ps)) S o
 
+-- that of the face reversed and a is low
 abbrev pub IsLowUnderOn : List Point → (ℕ → Type 0) → Face → ℕ → Type 0
 IsLowUnderOn ps S f a = IsLowUnder f (side_of ps f) (gap_of ps f) (places (length ps)) S a
 
+-- on a face, low means that every point of the face's pencil is above
 pub low_on_face : (ps : List Point) (S : ℕ → Type 0) (f : Face) (o : ℕ) → IsLowFour ps S (beside f o) → IsLowOn ps S f o
 low_on_face ps S f o low = record { on = low.on o (D, refl); over = low.positive; others = λ e l h d. low.others e l (λ c. none h d c) }
   where
@@ -142,6 +136,7 @@ low_on_face ps S f o low = record { on = low.on o (D, refl); over = low.positive
 pub face_on : (ps : List Point) (S : ℕ → Type 0) (f : Face) (o : ℕ) → IsLowFour ps S (beside f o) → IsFaceOn S f
 face_on ps S f o low = record { on_a = low.on f.a (A, refl); on_b = low.on f.b (B, refl); on_c = low.on f.c (C, refl) }
 
+-- and back
 pub four_of_face : (ps : List Point) (S : ℕ → Type 0) (f : Face) (o : ℕ) → IsFaceOn S f → IsLowOn ps S f o → IsLowFour ps S (beside f o)
 four_of_face ps S f o on low = record {
   on = λ i c. below i c;
@@ -163,6 +158,7 @@ corner_to s t h i c = corner_of t i ((h i).0 (contains_corner s i c))
 pub corner_from : (s t : Tet) → HasSameCorners s t → (i : ℕ) → IsCorner t i → IsCorner s i
 corner_from s t h i c = corner_of s i ((h i).1 (contains_corner t i c))
 
+-- even permutations have the same corners
 pub same_of_even : (ps : List Point) (s t : Tet) → IsEven ps s t → HasSameCorners s t
 same_of_even ps s t h = λ i. (λ c. contains_corner t i (even.corner_to ps s t h i (corner_of s i c)), λ c. contains_corner s i (even.corner_from ps s t h i (corner_of t i c)))
 
@@ -181,6 +177,7 @@ pub record IsRowOn (ps : List Point) (S : ℕ → Type 0) (f : Face) (t : Tet) :
   pub even : IsEven ps (beside f apex) t
   pub low : IsLowOn ps S f apex
 
+-- each Delaunay tetrahedron with that face is one
 pub row_on : (ps : List Point) (ms : List ℕ) (S : ℕ → Type 0) → IsOf ps ms S → (f : Face) (t : Tet) → IsDelaunayAmong ps ms t → IsFaceOf ps f t → IsRowOn ps S f t
 row_on ps ms S h f t d face = record { apex = face.opposite; on = on; even = even; low = low_on_face ps S f face.opposite (low_even ps S t u (even_back ps u t even) low) }
   where
@@ -206,6 +203,7 @@ pub record HasRowOn (ps : List Point) (ms : List ℕ) (f : Face) (o : ℕ) : Typ
   pub is_face : IsFaceOf ps f row
   pub even : IsEven ps (beside f o) row
 
+-- from a low one, arranged
 pub row_of : (ps : List Point) (ms : List ℕ) (S : ℕ → Type 0) → IsOf ps ms S → (f : Face) (o : ℕ) → IsFaceOn S f → IsLowOn ps S f o → HasRowOn ps ms f o
 row_of ps ms S h f o on low =
     let four = four_of_face ps S f o on low in
@@ -219,6 +217,7 @@ row_of ps ms S h f o on low =
 
 -- ---- the other side
 
+-- to turn the face turns the sides and the residuals
 pub under_of : (ps : List Point) (S : ℕ → Type 0) (f : Face) (a : ℕ) → IsLowOn ps S (reversed f) a → IsLowUnderOn ps S f a
 under_of ps S f a low = record {
   on = low.on;

@@ -1,7 +1,7 @@
 -- Hull faces on one edge are a pencil as well: c, the middle of a row, stands in place of the face's third corner, and a first place says which points are below the plane.
+use Rattle.geo_laws.proofs.Lift.{one_if, map-map}
 use Rattle.geo_laws.proofs.Lexicographic.{zero_at}
-use Rattle.std.proofs.Common.{◌≡◌, ◌≢◌, ◌⊎◌, inl, inr, ℕ, zero, suc, ℤ, pos, neg_ℤ, ◌+ℤ◌, ◌-ℤ◌, ◌*ℤ◌, ◌<ℤ◌, List, [], ◌∷◌, map, length, refl, ap, sym, subst, ◌∙◌, arith, eq-eqb, ne_eqb}
-use Rattle.std.specs.Prelude.{if◌then◌else◌, Bool}
+use Rattle.std.proofs.Common.{◌≡◌, ◌≢◌, ◌⊎◌, inl, inr, ℕ, zero, suc, ℤ, pos, neg_ℤ, ◌+ℤ◌, ◌-ℤ◌, ◌*ℤ◌, ◌<ℤ◌, List, ◌∷◌, map, length, refl, ap, sym, subst, ◌∙◌, arith, eq-eqb, ne_eqb}
 use Rattle.std.proofs.lemmas.Int.{ints}
 use Rattle.sign_predicates.specs.Point.{Point, RationalPoint}
 use Rattle.sign_predicates.specs.Orientation.{side_rational, orient_rational, IsPositive, StrictlyInside}
@@ -14,25 +14,26 @@ use Rattle.geo_laws.proofs.Lexicographic.{IsLexAbove, lex_scale, lex_same}
 use Rattle.geo_laws.proofs.Members.{there, in_map, in_range}
 use Rattle.insert_laws.specs.Face.{Face, triangle}
 use Rattle.insert_laws.proofs.Identities as identity
-use Rattle.insert_laws.proofs.LexMore.{IsLexBelow, above_unscale}
+use Rattle.geo_laws.proofs.Lexicographic.{IsLexBelow, above_unscale}
 use Rattle.insert_laws.proofs.Pencil.{IsPencil, IsBare}
 use Rattle.insert_laws.proofs.FacePencil.{side_of, gap_of}
 use Rattle.insert_laws.proofs.Bridge.{IsFaceOn, IsLowUnderOn}
 
+-- an edge, as a face without a third corner of its own
 abbrev pub edge_face : ℕ → ℕ → Face
 edge_face i j = record { a = i; b = j; c = j }
 
-abbrev pub hull_face : ℕ → ℕ → ℕ → Face
-hull_face i j o = record { a = i; b = j; c = o }
-
 -- ---- the pencil
 
+-- the side of o at the plane through the edge and the center, with the other sign
 abbrev pub edge_side : List Point → RationalPoint → ℕ → ℕ → ℕ → ℤ
 edge_side ps mid i j o = identity.edge_side_of (point ps i) (point ps j) mid (point ps o)
 
+-- the residual of e at the edge, o and the center
 abbrev pub edge_rest : List Point → RationalPoint → ℕ → ℕ → ℕ → ℕ → ℕ → ℤ
 edge_rest ps mid i j o e k = identity.edge_gap_of (point ps i) (point ps j) mid (height (lifted ps) i k) (height (lifted ps) j k) (point ps o) (height (lifted ps) o k) (point ps e) (height (lifted ps) e k)
 
+-- first whether e is below the plane of the edge and o, then that residual
 abbrev pub edge_gap : List Point → RationalPoint → ℕ → ℕ → ℕ → ℕ → ℕ → ℤ
 edge_gap ps mid i j o e zero = identity.edge_first_of (point ps i) (point ps j) (point ps o) (point ps e)
 edge_gap ps mid i j o e (suc k) = edge_rest ps mid i j o e k
@@ -43,9 +44,6 @@ edge_places n = zero ∷ map suc (places n)
 flip : (m n : ℕ) → m ≢ n → n ≢ m
 flip m n h e = h (sym e)
 
-abbrev one_if : Bool → ℤ
-one_if b = if b then pos 1 else pos 0
-
 own_place : (ps : List Point) (mid : RationalPoint) (i j o e : ℕ) → e ≢ i → e ≢ j → e ≢ o → edge_rest ps mid i j o e (suc e) ≡ edge_side ps mid i j o
 own_place ps mid i j o e hi hj ho =
     (λ k. neg_ℤ (orient_rational (point ps i) (point ps j) (point ps o) mid *ℤ one_if (eq-eqb e e refl k)
@@ -55,6 +53,7 @@ own_place ps mid i j o e hi hj ho =
     ∙ identity.edge-only_e (orient_rational (point ps i) (point ps j) (point ps o) mid) (orient_rational (point ps j) (point ps o) (point ps e) mid)
     (orient_rational (point ps i) (point ps e) (point ps o) mid) (orient_rational (point ps i) (point ps j) (point ps e) mid)
 
+-- these are a pencil: the three-term relation at the first place, the identity of residuals at the others
 pub edge_pencil : (ps : List Point) (mid : RationalPoint) (i j : ℕ) → IsPencil (edge_face i j) (edge_side ps mid i j) (edge_gap ps mid i j) (edge_places (length ps)) (length ps)
 edge_pencil ps mid i j = record {
   relation = relation;
@@ -82,24 +81,21 @@ edge_pencil ps mid i j = record {
 pub edge_side-turned : (ps : List Point) (mid : RationalPoint) (i j o : ℕ) → edge_side ps mid j i o ≡ neg_ℤ (edge_side ps mid i j o)
 edge_side-turned ps mid i j o = identity.edge-side_turned (point ps i) (point ps j) mid (point ps o)
 
+-- the edge turned has the opposite gaps
 pub edge_gap-turned : (ps : List Point) (mid : RationalPoint) (i j o e k : ℕ) → edge_gap ps mid j i o e k ≡ neg_ℤ (edge_gap ps mid i j o e k)
 edge_gap-turned ps mid i j o e zero = identity.edge-first_turned (point ps i) (point ps j) (point ps o) (point ps e)
 edge_gap-turned ps mid i j o e (suc k) = identity.edge-gap_turned (point ps i) (point ps j) mid (point ps o) (point ps e) (height (lifted ps) i k) (height (lifted ps) j k) (height (lifted ps) o k) (height (lifted ps) e k)
 
 -- ---- places
 
-map-map : (f : ℕ → ℤ) (s : List ℕ) → map (λ i. f (suc i)) s ≡ map f (map suc s)
-map-map f [] = refl
-map-map f (i ∷ s) = ap (λ r. f (suc i) ∷ r) (map-map f s)
-
 -- the first place decides, and the others where it is 0
 pub to_places : (f : ℕ → ℤ) (ks : List ℕ) → (pos 0 <ℤ f zero) ⊎ ((f zero ≡ pos 0) × IsLexAbove (λ k. f (suc k)) ks) → IsLexAbove f (zero ∷ map suc ks)
 to_places f ks (inl h) = inl h
-to_places f ks (inr h) = inr (h.0, subst IsLexPositive (map-map f ks) h.1)
+to_places f ks (inr h) = inr (h.0, subst IsLexPositive (map-map f suc ks) h.1)
 
 pub of_places : (f : ℕ → ℤ) (ks : List ℕ) → IsLexAbove f (zero ∷ map suc ks) → (pos 0 <ℤ f zero) ⊎ ((f zero ≡ pos 0) × IsLexAbove (λ k. f (suc k)) ks)
 of_places f ks (inl h) = inl h
-of_places f ks (inr h) = inr (h.0, subst IsLexPositive (sym (map-map f ks)) h.1)
+of_places f ks (inr h) = inr (h.0, subst IsLexPositive (sym (map-map f suc ks)) h.1)
 
 same_sign : (p q : ℤ) (x y : ℕ → ℤ) (ks : List ℕ) → pos 0 <ℤ p → pos 0 <ℤ q → ((k : ℕ) → p *ℤ x k ≡ q *ℤ y k) → IsLexAbove x ks → IsLexAbove y ks
 same_sign p q x y ks hp hq e h = above_unscale q y ks hq (lex_same (λ k. p *ℤ x k) (λ k. q *ℤ y k) ks e (lex_scale p x ks hp h))
@@ -192,6 +188,7 @@ of_edge_below ps mid f a e hc ha h = go (of_places (λ k. neg_ℤ (edge_gap ps m
 
 -- ---- the middle of a row lies below the hull faces
 
+-- four numbers that are not above 0 have no sum above 0
 pub sum_below : (a b c d : ℤ) → ¬ (pos 0 <ℤ a) → ¬ (pos 0 <ℤ b) → ¬ (pos 0 <ℤ c) → ¬ (pos 0 <ℤ d) → ¬ ((a ≡ pos 0) × (b ≡ pos 0) × (c ≡ pos 0) × (d ≡ pos 0)) → pos 0 <ℤ neg_ℤ (a +ℤ (b +ℤ (c +ℤ d)))
 sum_below a b c d ha hb hc hd n = go (sign_of a) (sign_of b) (sign_of c) (sign_of d)
   where

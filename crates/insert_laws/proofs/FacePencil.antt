@@ -1,4 +1,4 @@
--- The rows on a face of a list of points are a pencil.
+-- The tetrahedra on a face of a list of points are a pencil, by the sides of the points and their residuals.
 use Rattle.geo_laws.proofs.Corners.{IsCorner, corner_of}
 use Rattle.geo_laws.proofs.Places.{A, B, C, D}
 use Rattle.std.proofs.Common.{◌≡◌, ◌≢◌, ℕ, suc, ℤ, neg_ℤ, List, length, ap, sym, ◌∙◌, arith}
@@ -34,6 +34,7 @@ residual-own_place ps first t e ha hb hc hd = vote-own ps first t e (λ c. no (c
     no (C, h) = hc h
     no (D, h) = hd h
 
+-- the relation of three tetrahedra on a face makes it one
 pub face_pencil : (ps : List Point) (f : Face) → IsPencil f (side_of ps f) (gap_of ps f) (places (length ps)) (length ps)
 face_pencil ps f = record {
   relation = λ o q e k. identity.pencil (triangle ps f) (point ps o) (point ps q) (point ps e) (height (lifted ps) f.a k) (height (lifted ps) f.b k) (height (lifted ps) f.c k) (height (lifted ps) o k) (height (lifted ps) q k) (height (lifted ps) e k);

@@ -1,4 +1,4 @@
--- The hull faces of the points and one more.
+-- The hull faces of the points and one more, by the pencil of each edge.
 use Rattle.std.proofs.Common.{◌≡◌, ◌≢◌, ◌⊎◌, inl, inr, ℕ, ℤ, pos, neg_ℤ, ◌+ℤ◌, ◌*ℤ◌, ◌<ℤ◌, ◌≤ℤ◌, List, length, refl, ap, sym, subst, ◌∙◌, arith}
 use Rattle.std.specs.Prelude.{Contains}
 use Rattle.std.proofs.lemmas.Int.{ints}
@@ -17,7 +17,7 @@ use Rattle.geo_laws.proofs.Lexicographic.{IsLexAbove, lex_same}
 use Rattle.insert_laws.specs.Face.{Face, triangle, reversed, IsOther}
 use Rattle.insert_laws.specs.Insertion.{IsHullFace, edge_and, HullEdgeLaw}
 use Rattle.insert_laws.proofs.Identities as identity
-use Rattle.insert_laws.proofs.LexMore.{IsLexBelow}
+use Rattle.geo_laws.proofs.Lexicographic.{IsLexBelow}
 use Rattle.insert_laws.proofs.Pencil.{IsSet, IsPencil, IsLow, IsLowUnder, IsBare, IsBareUnder, IsFirst, turned, first_of, neighbor, low_unique, above_not_zero, below_not_zero}
 use Rattle.insert_laws.proofs.FacePencil.{side_of, gap_of, face_pencil}
 use Rattle.insert_laws.proofs.Bridge
@@ -25,9 +25,11 @@ use Rattle.insert_laws.proofs.EdgePencil as edge
 use Rattle.insert_laws.proofs.EdgePencil.{edge_face, edge_side, edge_gap, edge_places, IsHullOn, IsSome}
 use Rattle.insert_laws.proofs.Insert as insert
 
+-- the hull face of the edge and o is low in the pencil of the edge
 abbrev pub IsEdgeLow : List Point → RationalPoint → (ℕ → Type 0) → ℕ → ℕ → ℕ → Type 0
 IsEdgeLow ps mid S i j o = IsLow (edge_face i j) (edge_side ps mid i j) (edge_gap ps mid i j) (edge_places (length ps)) S o
 
+-- and for the edge turned
 abbrev pub IsEdgeLowUnder : List Point → RationalPoint → (ℕ → Type 0) → ℕ → ℕ → ℕ → Type 0
 IsEdgeLowUnder ps mid S i j o = IsLowUnder (edge_face i j) (edge_side ps mid i j) (edge_gap ps mid i j) (edge_places (length ps)) S o
 
@@ -188,6 +190,7 @@ edge_not_flat ps S t mid i j x some off z =
     ∙ (λ k. side (opposite_a c) y *ℤ z.0 k +ℤ (side (opposite_b c) y *ℤ z.1 k +ℤ (side (opposite_c c) y *ℤ z.2 k +ℤ side (opposite_d c) y *ℤ z.3 k)))
     ∙ identity.sum-zero (side (opposite_a c) y) (side (opposite_b c) y) (side (opposite_c c) y) (side (opposite_d c) y)))
 
+-- some point lies on each side of the plane through an edge and the center
 pub edge_not_bare : (ps : List Point) (S : ℕ → Type 0) (t : Tet) (mid : RationalPoint) (i j x : ℕ) → IsSome ps S t mid → edge_side ps mid i j x ≢ pos 0 → IsBare (edge_side ps mid i j) S → ⊥
 edge_not_bare ps S t mid i j x some off bare =
     some_above (side_rational (opposite_a c) mid *ℤ edge_side ps mid i j t.a) (side_rational (opposite_b c) mid *ℤ edge_side ps mid i j t.b) (side_rational (opposite_c c) mid *ℤ edge_side ps mid i j t.c) (side_rational (opposite_d c) mid *ℤ edge_side ps mid i j t.d)
@@ -208,6 +211,7 @@ edge_not_bare_under ps S t mid i j x some off bare = edge_not_bare ps S t mid j 
 
 -- ---- the edge turned
 
+-- to turn the edge turns the pencil
 pub edge_under_of : (ps : List Point) (mid : RationalPoint) (S : ℕ → Type 0) (i j o : ℕ) → IsEdgeLow ps mid S j i o → IsEdgeLowUnder ps mid S i j o
 edge_under_of ps mid S i j o low = record {
   on = low.on;
@@ -226,6 +230,7 @@ edge_of_under ps mid S i j o low = record {
 
 -- ---- from hull faces of a list and back
 
+-- a hull face, with the tetrahedron behind it as a low one
 pub hull_on : (ps : List Point) (ms : List ℕ) (S : ℕ → Type 0) → (of : Bridge.IsOf ps ms S) → (f : Face) → (h : IsHullFace ps ms f) → IsHullOn ps S f (Bridge.row_on ps ms S of (reversed f) h.behind h.is_row h.is_face).apex
 hull_on ps ms S of f h = record {
   on = Bridge.reversed_on S (reversed f) (Bridge.row_on ps ms S of (reversed f) h.behind h.is_row h.is_face).on;
@@ -236,15 +241,18 @@ hull_on ps ms S of f h = record {
 pub some_hull_on : (ps : List Point) (ms : List ℕ) (S : ℕ → Type 0) → Bridge.IsOf ps ms S → (f : Face) → IsHullFace ps ms f → (a : ℕ) × IsHullOn ps S f a
 some_hull_on ps ms S of f h = ((Bridge.row_on ps ms S of (reversed f) h.behind h.is_row h.is_face).apex, hull_on ps ms S of f h)
 
+-- and back
 pub hull_from : (ps : List Point) (ms : List ℕ) (S : ℕ → Type 0) → Bridge.IsOf ps ms S → (f : Face) (a : ℕ) → IsHullOn ps S f a → IsHullFace ps ms f
 hull_from ps ms S of f a h = record { behind = r.row; is_row = r.is_row; is_face = r.is_face; none_beyond = λ e l k. h.bare e (of.from e l) k }
   where
     r : Bridge.HasRowOn ps ms (reversed f) a
     r = Bridge.row_of ps ms S of (reversed f) a (Bridge.reversed_on S f h.on) (Bridge.of_under ps S f a h.low)
 
+-- the center: the middle of a tetrahedron
 abbrev pub middle_of : List Point → Tet → RationalPoint
 middle_of qs t = ring.middle (corners qs t)
 
+-- it lies strictly behind each hull face
 pub some_on : (ps : List Point) (ms : List ℕ) (S : ℕ → Type 0) → Bridge.IsOf ps ms S → (t : Tet) → IsDelaunayAmong ps ms t → IsSome ps S t (middle_of ps t)
 some_on ps ms S of t d =
     let low = Bridge.low_of_delaunay ps ms S of t d in
@@ -260,6 +268,7 @@ some_on ps ms S of t d =
 
 -- ---- each edge of a hull face has another
 
+-- the neighbor in the pencil of the edge is the next face, and it is unique there
 pub law_hull_edge : HullEdgeLaw
 law_hull_edge ps ms within i j o h = (across (first_of (edge_pencil' j i) (Contains ms) (Bridge.list_set ps ms within)), unique)
   where

@@ -1,4 +1,4 @@
--- The hull faces after a point was added.
+-- The hull faces after a point was added: those with it stand over the horizon, and those without it are the ones that it didn't see.
 use Rattle.geo_laws.proofs.Corners.{AreDistinct}
 use Rattle.geo_laws.proofs.Places.{A, B, C}
 use Rattle.std.proofs.Common.{◌≡◌, ◌≢◌, ◌⊎◌, inl, inr, ℕ, pos, neg_ℤ, ◌<ℤ◌, List, ◌∷◌, length, sym, subst, ◌∙◌, refl}
@@ -11,7 +11,7 @@ use Rattle.geo_laws.proofs.Corners.{distinct}
 use Rattle.geo_laws.proofs.Lexicographic.{IsZeroAt, IsLexAbove, lex_sign_of, lex_same}
 use Rattle.insert_laws.specs.Face.{Face, reversed, beside, IsOther}
 use Rattle.insert_laws.specs.Insertion.{IsNew, IsHullFace, HasOutside, Sees, IsClearPlace, clear_row, clear_ghost, edge_and, IsHullRim, OldHullLaw, NewHullLaw}
-use Rattle.insert_laws.proofs.LexMore.{IsLexBelow, not_both}
+use Rattle.geo_laws.proofs.Lexicographic.{IsLexBelow, not_both}
 use Rattle.insert_laws.proofs.Pencil.{IsPencil, IsBare, IsFirst, first_of, above_not_zero, under_unique}
 use Rattle.insert_laws.proofs.StarPencil as pencil
 use Rattle.insert_laws.proofs.StarPencil.{With, IsCavityOver, IsClearUnder, over_row, over_ghost, under_row, under_ghost}
@@ -58,6 +58,7 @@ behind_of ps ms p new f a h on = subst (λ i. IsBehind ps ms p f i h.behind) sam
     own : IsBehind ps ms p f r.apex h.behind
     own = record { on = on.on; outside = (λ o. to_below (law.0 o), λ k. law.1 (from_below k)); decided = split (insert.decided ps ms p new (reversed f) r.apex r.on r.low) }
 
+-- p sees a hull face exactly where it is below it in the pencil of its edge
 pub sees_to : (ps : List Point) (ms : List ℕ) (p : ℕ) (new : IsNew ps ms p) (f : Face) (a : ℕ) (h : IsHullFace ps ms f) → IsHullOn ps (Contains ms) f a → Sees ps p f h.behind → IsSeen ps p f a
 sees_to ps ms p new f a h on s = go s (behind_of ps ms p new f a h on)
   where
@@ -88,6 +89,7 @@ all_hull ps ms p new f a h = hull.hull_from ps (p ∷ ms) (With (Contains ms) p)
 of_all_hull : (ps : List Point) (ms : List ℕ) (p : ℕ) (new : IsNew ps ms p) (f : Face) → IsHullFace ps (p ∷ ms) f → (a : ℕ) × IsHullOn ps (With (Contains ms) p) f a
 of_all_hull ps ms p new f h = hull.some_hull_on ps (p ∷ ms) (With (Contains ms) p) (Bridge.of_new ps ms p new) f h
 
+-- the corners of a hull face and the one behind are different
 pub distinct_corners : (qs : List Point) (S : ℕ → Type 0) (f : Face) (a : ℕ) → IsHullOn qs S f a → AreDistinct (beside (reversed f) a)
 distinct_corners qs S f a h = distinct qs (beside (reversed f) a) (Bridge.of_under qs S f a h.low).over
 
@@ -95,6 +97,7 @@ below_next : (ms : List ℕ) (p i : ℕ) → With (Contains ms) p i → i ≢ p 
 below_next ms p i (inl e) n = absurd (n e)
 below_next ms p i (inr c) n = c
 
+-- the new faces are those that p makes in the pencil of an edge between a seen and an unseen face
 pub law_new_hull : NewHullLaw
 law_new_hull ps ms p new some some_is i j = (to, from)
   where
@@ -186,8 +189,8 @@ law_new_hull ps ms p new some some_is i j = (to, from)
         clear (inl a) = lex_same (edge_gap ps (hull.middle_of ps some) j i h.outer p) (λ k. neg_ℤ (edge_gap ps (hull.middle_of ps some) i j h.outer p k)) (edge_places (length ps))
             (λ k. edge.edge_gap-turned ps (hull.middle_of ps some) i j h.outer p k) a
         clear (inr (inl z)) = absurd ((edge.edge_pencil ps (hull.middle_of ps some) j i).apart h.outer p new.on
-            (record { not_a = insert.not_new' ps ms p new j outer.on.on_a; not_b = insert.not_new' ps ms p new i outer.on.on_b; not_c = insert.not_new' ps ms p new i outer.on.on_b })
-            (insert.not_new' ps ms p new h.outer outer.on.on_c) (above_not_zero (edge_side ps (hull.middle_of ps some) j i h.outer) low'.over) z)
+            (record { not_a = insert.not_new ps ms p new j outer.on.on_a; not_b = insert.not_new ps ms p new i outer.on.on_b; not_c = insert.not_new ps ms p new i outer.on.on_b })
+            (insert.not_new ps ms p new h.outer outer.on.on_c) (above_not_zero (edge_side ps (hull.middle_of ps some) j i h.outer) low'.over) z)
         clear (inr (inr b)) = absurd (h.sees_not (sees_of ps ms p new (edge_and j i h.outer) _ h.unseen outer (edge.of_edge_below ps (hull.middle_of ps some) (edge_and j i h.outer) _ p low'.over outer.low.under b)))
 
         found : (a : ℕ) × IsHullOn ps (With (Contains ms) p) (edge_and i j p) a
@@ -198,6 +201,7 @@ law_new_hull ps ms p new some some_is i j = (to, from)
 
 -- ---- hull faces without it
 
+-- a face without p stays exactly where p is not below it
 pub law_old_hull : OldHullLaw
 law_old_hull ps ms p new some some_is f fa fb fc = (to, from)
   where
@@ -230,7 +234,7 @@ law_old_hull ps ms p new some some_is f fa fb fc = (to, from)
 
                 unseen : IsSeen ps p f a → ⊥
                 unseen (inl k) = r.bare p (inl refl) k
-                unseen (inr k) = not_both (gap_of ps f a p) (places (length ps)) k.1 (r.low.others p (inl refl) other (insert.not_new' ps ms p new a l))
+                unseen (inr k) = not_both (gap_of ps f a p) (places (length ps)) k.1 (r.low.others p (inl refl) other (insert.not_new ps ms p new a l))
             go (inl e) = place (insert.of_clear ps ms p new (reversed f) (Bridge.reversed_on (Contains ms) f on) at.1)
               where
                 low : Bridge.IsLowOn ps (With (Contains ms) p) (reversed f) p

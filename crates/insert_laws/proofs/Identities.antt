@@ -1,4 +1,6 @@
--- Identities of rows on one face.
+-- Identities of the tetrahedra on one face and of the hull faces on one edge, each one call of the ring normalizer. The chief one, `pencil`, relates
+-- three tetrahedra on a face: side(o) * residual(q, e) = side(q) * residual(o, e) - side(e) * residual(o, q), where residual(o, e) is that of e at the one of o.
+use Rattle.geo_laws.proofs.Determinants as determinants
 use lib.IntN.{*ℤ-zero}
 use Rattle.std.proofs.lemmas.Int.{ints}
 use Rattle.std.proofs.Common.{arith, sym, ◌∙◌}
@@ -46,16 +48,19 @@ opposite f o e ha hb hc ho he =
     (neg (residual_ofE (with_apexE (triangleE 0) (pointE 12)) (var 15) (var 16) (var 17) (var 19) (pointE 9) (var 18)))
     tt (of_triangle f (of_point o (of_point e (ha ∷ hb ∷ hc ∷ ho ∷ he ∷ []))))
 
+-- the triangle with its sides exchanged
 abbrev pub reverse : Triangle → Triangle
 reverse f = record { a = f.a; b = f.c; c = f.b }
 
 abbrev reverseE : TriangleE → TriangleE
 reverseE f = record { a = f.a; b = f.c; c = f.b }
 
+-- has the opposite sides
 pub side-reverse : (f : Triangle) (o : Point) → side (reverse f) o ≡ neg_ℤ (side f o)
 unfolding same det orient
 side-reverse f o = ring (sideE (reverseE (triangleE 0)) (pointE 9)) (neg (sideE (triangleE 0) (pointE 9))) tt (of_triangle f (of_point o []))
 
+-- and the opposite residuals
 pub residual-reverse : (f : Triangle) (o e : Point) (ha hb hc ho he : ℤ) → residual_of (with_apex (reverse f) o) ha hc hb ho e he ≡ neg_ℤ (residual_of (with_apex f o) ha hb hc ho e he)
 unfolding same det orient
 residual-reverse f o e ha hb hc ho he =
@@ -69,6 +74,7 @@ pub neg-neg : (n : ℤ) → neg_ℤ (neg_ℤ n) ≡ n
 unfolding same
 neg-neg n = ring (neg (neg (var 0))) (var 0) tt (n ∷ [])
 
+-- the relation of a pencil holds for the face reversed
 pub turned-relation : (so x sq y se z : ℤ) → so *ℤ x ≡ sq *ℤ y -ℤ se *ℤ z → neg_ℤ so *ℤ neg_ℤ x ≡ neg_ℤ sq *ℤ neg_ℤ y -ℤ neg_ℤ se *ℤ neg_ℤ z
 unfolding same
 turned-relation so x sq y se z e =
@@ -129,6 +135,7 @@ edge_first_ofE i j o e = neg (orientE i j o e)
 abbrev edge_gap_ofE : PointE → PointE → RationalE → Expr → Expr → PointE → Expr → PointE → Expr → Expr
 edge_gap_ofE i j c hi hj o ho e he = neg (orient_rationalE i j o c ⊗ he ⊖ (orient_rationalE j o e c ⊗ hi ⊕ orient_rationalE i e o c ⊗ hj ⊕ orient_rationalE i j e c ⊗ ho))
 
+-- the relation of a pencil on an edge, at the first place
 pub edge-first : (i j : Point) (c : RationalPoint) (o q e : Point) → edge_side_of i j c o *ℤ edge_first_of i j q e ≡ edge_side_of i j c q *ℤ edge_first_of i j o e -ℤ edge_side_of i j c e *ℤ edge_first_of i j o q
 unfolding same det orient orient_rational
 edge-first i j c o q e =
@@ -137,6 +144,7 @@ edge-first i j c o q e =
     ⊖ edge_side_ofE (pointE 0) (pointE 3) (rationalE 6) (pointE 16) ⊗ edge_first_ofE (pointE 0) (pointE 3) (pointE 10) (pointE 13))
     tt (of_point i (of_point j (of_rational c (of_point o (of_point q (of_point e []))))))
 
+-- and at the others
 pub edge-gap : (i j : Point) (c : RationalPoint) (o q e : Point) (hi hj ho hq he : ℤ)
     → edge_side_of i j c o *ℤ edge_gap_of i j c hi hj q hq e he ≡ edge_side_of i j c q *ℤ edge_gap_of i j c hi hj o ho e he -ℤ edge_side_of i j c e *ℤ edge_gap_of i j c hi hj o ho q hq
 unfolding same det orient orient_rational
@@ -191,14 +199,6 @@ side-middle f t =
     ring (side_rationalE (triangleE 0) (middleE (cornersE 9))) (sideE (triangleE 0) (cornersE 9).a ⊕ (sideE (triangleE 0) (cornersE 9).b ⊕ (sideE (triangleE 0) (cornersE 9).c ⊕ sideE (triangleE 0) (cornersE 9).d))) tt
     (of_triangle f (of_corners t []))
 
--- the plane through an edge and the middle of a tetrahedron: the sides of its corners add up to 0
-pub edge-middle : (i j : Point) (t : Corners) → edge_side_of i j (middle t) t.a +ℤ (edge_side_of i j (middle t) t.b +ℤ (edge_side_of i j (middle t) t.c +ℤ edge_side_of i j (middle t) t.d)) ≡ pos 0
-unfolding same det orient_rational
-edge-middle i j t =
-    ring (edge_side_ofE (pointE 0) (pointE 3) (middleE (cornersE 6)) (cornersE 6).a ⊕ (edge_side_ofE (pointE 0) (pointE 3) (middleE (cornersE 6)) (cornersE 6).b
-    ⊕ (edge_side_ofE (pointE 0) (pointE 3) (middleE (cornersE 6)) (cornersE 6).c ⊕ edge_side_ofE (pointE 0) (pointE 3) (middleE (cornersE 6)) (cornersE 6).d)))
-    (num (pos 0)) tt (of_point i (of_point j (of_corners t [])))
-
 -- a side of the plane through an edge and c, from those at the corners
 pub edge-combine : (i j : Point) (c : RationalPoint) (t : Corners) (x : Point)
     → side (opposite_a t) x *ℤ edge_side_of i j c t.a +ℤ (side (opposite_b t) x *ℤ edge_side_of i j c t.b +ℤ (side (opposite_c t) x *ℤ edge_side_of i j c t.c +ℤ side (opposite_d t) x *ℤ edge_side_of i j c t.d))
@@ -237,12 +237,14 @@ neg-times_right p x = ring (neg (var 0 ⊗ var 1)) (var 0 ⊗ neg (var 1)) tt (p
 
 -- ---- heights of the rows on the two sides of a face
 
+-- the height at x of a tetrahedron with the heights ha to hd
 abbrev pub height_of : Corners → ℤ → ℤ → ℤ → ℤ → RationalPoint → ℤ
 height_of t ha hb hc hd x = side_rational (opposite_a t) x *ℤ ha +ℤ side_rational (opposite_b t) x *ℤ hb +ℤ side_rational (opposite_c t) x *ℤ hc +ℤ side_rational (opposite_d t) x *ℤ hd
 
 abbrev height_ofE : CornersE → Expr → Expr → Expr → Expr → RationalE → Expr
 height_ofE t ha hb hc hd x = side_rationalE (opposite_aE t) x ⊗ ha ⊕ side_rationalE (opposite_bE t) x ⊗ hb ⊕ side_rationalE (opposite_cE t) x ⊗ hc ⊕ side_rationalE (opposite_dE t) x ⊗ hd
 
+-- two tetrahedra on a face: their heights at x differ by the side of x times a residual
 pub height-across : (f : Triangle) (a o : Point) (x : RationalPoint) (ha hb hc hv ho : ℤ)
     → volume (with_apex (reverse f) a) *ℤ height_of (with_apex f o) ha hb hc ho x -ℤ volume (with_apex f o) *ℤ height_of (with_apex (reverse f) a) ha hc hb hv x
     ≡ side_rational f x *ℤ residual_of (with_apex (reverse f) a) ha hc hb hv o ho
@@ -273,6 +275,7 @@ edge-center i j c t =
 
 -- ---- hull faces named from another corner
 
+-- an edge of a face may be named from any corner
 pub edge-side_rotated : (i j k : Point) (c : RationalPoint) → edge_side_of j k c i ≡ edge_side_of i j c k
 unfolding same det orient_rational
 edge-side_rotated i j k c = ring (edge_side_ofE (pointE 3) (pointE 6) (rationalE 9) (pointE 0)) (edge_side_ofE (pointE 0) (pointE 3) (rationalE 9) (pointE 6)) tt (of_point i (of_point j (of_point k (of_rational c []))))
@@ -307,6 +310,7 @@ edge-gap_j i j c o hi hj ho = ring (edge_gap_ofE (pointE 0) (pointE 3) (rational
 
 -- ---- two hull faces and a point: the corners of the second, weighted by the point
 
+-- two hull faces: the heights of p above them, by the weights of p at the edges of one
 pub faces-first : (f g : Triangle) (c : RationalPoint) (p : Point)
     → edge_side_of g.a g.b c g.c *ℤ edge_first_of f.a f.b f.c p -ℤ edge_side_of f.a f.b c f.c *ℤ edge_first_of g.a g.b g.c p
     ≡ edge_side_of g.b g.c c p *ℤ edge_first_of f.a f.b f.c g.a +ℤ (edge_side_of g.c g.a c p *ℤ edge_first_of f.a f.b f.c g.b +ℤ edge_side_of g.a g.b c p *ℤ edge_first_of f.a f.b f.c g.c)
@@ -331,12 +335,14 @@ faces-rest f g c p fa fb fc ga gb gc hp =
 
 -- ---- a point near the middle of a face, toward the point a behind it
 
+-- a point near the middle of a face, behind it
 abbrev pub near_face : Triangle → Point → ℤ → RationalPoint
 near_face f a n = record { x = n *ℤ (f.a.x +ℤ f.b.x +ℤ f.c.x) +ℤ a.x; y = n *ℤ (f.a.y +ℤ f.b.y +ℤ f.c.y) +ℤ a.y; z = n *ℤ (f.a.z +ℤ f.b.z +ℤ f.c.z) +ℤ a.z; w = n *ℤ pos 3 +ℤ pos 1 }
 
 abbrev near_faceE : TriangleE → PointE → Expr → RationalE
 near_faceE f a n = record { x = n ⊗ (f.a.x ⊕ f.b.x ⊕ f.c.x) ⊕ a.x; y = n ⊗ (f.a.y ⊕ f.b.y ⊕ f.c.y) ⊕ a.y; z = n ⊗ (f.a.z ⊕ f.b.z ⊕ f.c.z) ⊕ a.z; w = n ⊗ num (pos 3) ⊕ num (pos 1) }
 
+-- its weights in the tetrahedron behind
 pub near-a : (f : Triangle) (a : Point) (n : ℤ) → side_rational (opposite_a (with_apex (reverse f) a)) (near_face f a n) ≡ n *ℤ volume (with_apex (reverse f) a)
 unfolding same det orient orient_rational
 near-a f a n = ring (side_rationalE (opposite_aE (with_apexE (reverseE (triangleE 0)) (pointE 9))) (near_faceE (triangleE 0) (pointE 9) (var 12))) (var 12 ⊗ volumeE (with_apexE (reverseE (triangleE 0)) (pointE 9))) tt (of_triangle f (of_point a (n ∷ [])))
@@ -373,6 +379,7 @@ walk-gap sk x sb y sn z e =
 
 -- ---- a point of the closed row and the squared lengths
 
+-- the square of the distance
 abbrev pub far : Point → Point → ℤ
 far v e = (v.x -ℤ e.x) *ℤ (v.x -ℤ e.x) +ℤ (v.y -ℤ e.y) *ℤ (v.y -ℤ e.y) +ℤ (v.z -ℤ e.z) *ℤ (v.z -ℤ e.z)
 
@@ -390,15 +397,14 @@ lift-closed t e =
     ⊕ (sideE (opposite_cE (cornersE 0)) (pointE 12) ⊗ farE (cornersE 0).c (pointE 12) ⊕ sideE (opposite_dE (cornersE 0)) (pointE 12) ⊗ farE (cornersE 0).d (pointE 12)))))
     tt (of_corners t (of_point e []))
 
-pub sides-sum : (t : Corners) (e : Point) → side (opposite_a t) e +ℤ (side (opposite_b t) e +ℤ (side (opposite_c t) e +ℤ side (opposite_d t) e)) ≡ volume t
-unfolding same det orient
-sides-sum t e =
-    ring (sideE (opposite_aE (cornersE 0)) (pointE 12) ⊕ (sideE (opposite_bE (cornersE 0)) (pointE 12) ⊕ (sideE (opposite_cE (cornersE 0)) (pointE 12) ⊕ sideE (opposite_dE (cornersE 0)) (pointE 12)))) (volumeE (cornersE 0)) tt (of_corners t (of_point e []))
-
 -- ---- sums of four that are grouped from the right
 
 grouped : (a b c d : ℤ) → a +ℤ (b +ℤ (c +ℤ d)) ≡ a +ℤ b +ℤ c +ℤ d
 grouped a b c d = omega (arith, ints)
+
+-- the sides of a point add up to the volume
+pub sides-sum : (t : Corners) (e : Point) → side (opposite_a t) e +ℤ (side (opposite_b t) e +ℤ (side (opposite_c t) e +ℤ side (opposite_d t) e)) ≡ volume t
+sides-sum t e = grouped (side (opposite_a t) e) (side (opposite_b t) e) (side (opposite_c t) e) (side (opposite_d t) e) ∙ determinants.sides-sum t e
 
 -- the side of a point at any plane is the sum of those of the corners, weighted
 pub sides-combine : (t : Corners) (f : Triangle) (x : RationalPoint)

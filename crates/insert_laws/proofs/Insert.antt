@@ -1,4 +1,5 @@
--- The Delaunay rows of the points and one more.
+-- The Delaunay tetrahedra of the points and one more. From a place of the cavity over a face and a clear place under it, the relation of the pencil of the
+-- face shows that the new point is on the cavity's side and that every point is above the new tetrahedron; and back, from the first point over the face.
 use Rattle.insert_laws.proofs.Identities as identity
 use Rattle.geo_laws.proofs.Corners.{AreDistinct}
 use Rattle.geo_laws.proofs.Arrangement.{even_residual, corner_to as even_corner_to, corner_from as even_corner_from}
@@ -18,7 +19,7 @@ use Rattle.geo_laws.proofs.Corners.{distinct, contains_corner}
 use Rattle.geo_laws.proofs.Lexicographic.{IsZeroAt, IsLexAbove, lex_sign_of, lex_same}
 use Rattle.insert_laws.specs.Face.{Face, triangle, reversed, beside, IsOther}
 use Rattle.insert_laws.specs.Insertion.{IsNew, IsFaceOf, HasNoneBeyond, HasOutside, Sees, IsCavityPlace, cavity_row, cavity_ghost, IsClearPlace, clear_row, clear_ghost, IsStarRow, InsertionLaw, RimLaw, FacePairingLaw, OneRowLaw}
-use Rattle.insert_laws.proofs.LexMore.{IsLexBelow, not_both}
+use Rattle.geo_laws.proofs.Lexicographic.{IsLexBelow, not_both}
 use Rattle.insert_laws.proofs.Pencil.{IsBare, IsBareUnder, IsFirst, first_of, neighbor, low_unique, above_not_zero}
 use Rattle.insert_laws.proofs.StarPencil as pencil
 use Rattle.insert_laws.proofs.StarPencil.{With, over_row, over_ghost, under_row, under_ghost}
@@ -36,14 +37,11 @@ pub new_outside : (ps : List Point) (ms : List ℕ) (p : ℕ) (new : IsNew ps ms
 new_outside ps ms p new t low = Bridge.outside_above ps t p (λ i c. new.within i (low.on i c)) low.positive new.on (old_corner ps ms p new t low.on)
 
 -- p is none of the numbers
-pub not_new : (ps : List Point) (ms : List ℕ) (p : ℕ) → IsNew ps ms p → (e : ℕ) → Contains ms e → e ≢ p
-not_new ps ms p new e h d = new.is_new (subst (Contains ms) d h)
-
-pub not_new' : (ps : List Point) (ms : List ℕ) (p : ℕ) → IsNew ps ms p → (e : ℕ) → Contains ms e → p ≢ e
-not_new' ps ms p new e h d = new.is_new (subst (Contains ms) (sym d) h)
+pub not_new : (ps : List Point) (ms : List ℕ) (p : ℕ) → IsNew ps ms p → (e : ℕ) → Contains ms e → p ≢ e
+not_new ps ms p new e h d = new.is_new (subst (Contains ms) (sym d) h)
 
 pub new_other : (ps : List Point) (ms : List ℕ) (p : ℕ) → IsNew ps ms p → (f : Face) → Bridge.IsFaceOn (Contains ms) f → IsOther f p
-new_other ps ms p new f on = record { not_a = not_new' ps ms p new f.a on.on_a; not_b = not_new' ps ms p new f.b on.on_b; not_c = not_new' ps ms p new f.c on.on_c }
+new_other ps ms p new f on = record { not_a = not_new ps ms p new f.a on.on_a; not_b = not_new ps ms p new f.b on.on_b; not_c = not_new ps ms p new f.c on.on_c }
 
 -- the same on a face of the row
 pub face_outside : (ps : List Point) (ms : List ℕ) (p : ℕ) (new : IsNew ps ms p) (f : Face) (o : ℕ) (t : Tet) → Bridge.IsFaceOn (Contains ms) f → Bridge.IsLowOn ps (Contains ms) f o → IsEven ps (beside f o) t
@@ -67,20 +65,23 @@ decided ps ms p new f o on low = go (lex_sign_of (gap_of ps f o p) (places (leng
         ⊎ (IsZeroAt (gap_of ps f o p) (places (length ps)) ⊎ IsLexBelow (gap_of ps f o p) (places (length ps)))
         → IsLexAbove (gap_of ps f o p) (places (length ps)) ⊎ IsLexBelow (gap_of ps f o p) (places (length ps))
     go (inl a) = inl a
-    go (inr (inl z)) = absurd ((face_pencil ps f).apart o p new.on (new_other ps ms p new f on) (not_new' ps ms p new o low.on) (above_not_zero _ low.over) z)
+    go (inr (inl z)) = absurd ((face_pencil ps f).apart o p new.on (new_other ps ms p new f on) (not_new ps ms p new o low.on) (above_not_zero _ low.over) z)
     go (inr (inr b)) = inr b
 
 -- ---- places
 
+-- what the new tetrahedron needs over the face
 abbrev pub OverOn : List Point → List ℕ → ℕ → Face → Type 0
 OverOn ps ms p f = pencil.IsCavityOver f (side_of ps f) (gap_of ps f) (places (length ps)) (Contains ms) p
 
+-- and under it
 abbrev pub UnderOn : List Point → List ℕ → ℕ → Face → Type 0
 UnderOn ps ms p f = pencil.IsClearUnder f (side_of ps f) (gap_of ps f) (places (length ps)) (Contains ms) p
 
 pub side_new : (ps : List Point) (ms : List ℕ) (p : ℕ) (new : IsNew ps ms p) (f : Face) → Bridge.IsFaceOn (Contains ms) f → side_of ps f p ≡ side (triangle ps f) (point ps p)
 side_new ps ms p new f on = refl
 
+-- no point is strictly beyond the face
 pub bare_of : (ps : List Point) (ms : List ℕ) (p : ℕ) (new : IsNew ps ms p) (f : Face) → Bridge.IsFaceOn (Contains ms) f → HasNoneBeyond ps ms f → IsBare (side_of ps f) (Contains ms)
 bare_of ps ms p new f on h e l k = h e l k
 
@@ -119,6 +120,7 @@ cavity_to ps ms p new f (cavity_ghost h s) = (on, over_ghost (bare_of ps ms p ne
     sees (inl k) = inl (subst (λ n. pos 0 <ℤ n) (sym (side_new ps ms p new f on)) k)
     sees (inr k) = inr (side_new ps ms p new f on ∙ k.0, above (decided ps ms p new (reversed f) r.apex r.on r.low) k.1)
 
+-- a clear place under the face has p above it
 pub clear_to : (ps : List Point) (ms : List ℕ) (p : ℕ) (new : IsNew ps ms p) (f : Face) → Bridge.IsFaceOn (Contains ms) f → IsClearPlace ps ms p (reversed f) → UnderOn ps ms p f
 clear_to ps ms p new f on (clear_row t d face n) = under_row r.apex (Bridge.under_of ps (Contains ms) f r.apex r.low)
     (lex_same (gap_of ps (reversed f) r.apex p) (λ k. neg_ℤ (gap_of ps f r.apex p k)) (places (length ps))
@@ -145,6 +147,7 @@ clear_to ps ms p new f on (clear_ghost h n) = under_ghost bare r.apex r.low (λ 
     sees (inl k) = inl (subst (λ n. pos 0 <ℤ n) (sym new_reversed) k)
     sees (inr k) = inr (neg_of_zero (side (triangle ps (reversed f)) (point ps p)) (side_of ps f p) new_reversed k.0, λ o. not_both (gap_of ps f r.apex p) (places (length ps)) ((face_outside ps ms p new f r.apex h.behind r.on r.low r.even).0 o) k.1)
 
+-- a place of the cavity, from p below a low tetrahedron
 pub of_cavity : (ps : List Point) (ms : List ℕ) (p : ℕ) (new : IsNew ps ms p) (f : Face) → Bridge.IsFaceOn (Contains ms) f → OverOn ps ms p f → IsCavityPlace ps ms p f
 of_cavity ps ms p new f on (over_row o low below) =
     let r = Bridge.row_of ps ms (Contains ms) (Bridge.of_list ps ms new.within) f o on low in
@@ -170,6 +173,7 @@ of_cavity ps ms p new f on (over_ghost bare a low s) =
           (λ k. Bridge.gap_over ps f a p k) ((face_outside ps ms p new (reversed f) a r.row back low' r.even).0 o)),
     )
 
+-- a clear place, from p above one
 pub of_clear : (ps : List Point) (ms : List ℕ) (p : ℕ) (new : IsNew ps ms p) (f : Face) → Bridge.IsFaceOn (Contains ms) f → UnderOn ps ms p f → IsClearPlace ps ms p (reversed f)
 of_clear ps ms p new f on (under_row a low below) = clear_row r.row r.is_row r.is_face
     ((face_outside ps ms p new (reversed f) a r.row back low' r.even).1 (lex_same (λ k. neg_ℤ (gap_of ps f a p k)) (gap_of ps (reversed f) a p) (places (length ps))
@@ -210,6 +214,7 @@ of_clear ps ms p new f on (under_ghost bare o low n) =
 
 -- ---- the laws
 
+-- by the four cases of a tetrahedron or a ghost on each side
 pub law_rim : RimLaw
 law_rim ps ms p new f cavity clear =
     let over = cavity_to ps ms p new f cavity in
@@ -259,6 +264,7 @@ is_corner_or_not t i = go (corner_or_not t i)
     go (inl c) = inl c
     go (inr n) = inr (λ c. n (contains_corner t i c))
 
+-- a tetrahedron with p is the star of the rim, and one without it is low for p too
 pub law_insertion : InsertionLaw
 law_insertion ps ms p new some some_is t = (to, from)
   where
@@ -361,6 +367,7 @@ law_insertion ps ms p new some some_is t = (to, from)
     from (inl h) = kept h.0 h.1
     from (inr s) = star s
 
+-- the first point over the face makes the neighbor
 pub law_face_pairing : FacePairingLaw
 law_face_pairing ps ms within f t d face = go (first_of (face_pencil ps f) (Contains ms) (Bridge.list_set ps ms within))
   where
@@ -376,6 +383,7 @@ law_face_pairing ps ms within f t d face = go (first_of (face_pencil ps f) (Cont
         let q = Bridge.row_of ps ms (Contains ms) (Bridge.of_list ps ms within) f o.0 (Bridge.reversed_on (Contains ms) (reversed f) r.on) (neighbor (face_pencil ps f) r.apex o.0 under o.1) in
         inr (q.row, q.is_row, q.is_face)
 
+-- the first point is unique
 pub law_one_row : OneRowLaw
 law_one_row ps ms within f s t ds fs dt ft = same_row ps s t ds.is_positive dt.is_positive ds.is_arranged dt.is_arranged
     (λ i c. even_corner_to ps (beside f q.apex) t q.even i (subst (λ o. IsCorner (beside f o) i) same (even_corner_from ps (beside f r.apex) s r.even i c)))

@@ -1,25 +1,25 @@
 -- Where the new point lies in a closed row of its cavity, each place of the cavity is joined to that row: a walk to a generic point near the new one.
+use Rattle.exact_algebra.proofs.Signs.{nonneg_of_pos}
 use Rattle.geo_laws.proofs.Arrangement.{even_volume, even_height}
 use Rattle.geo_laws.proofs.Heights.{order-trans}
-use Rattle.std.proofs.Common.{◌≡◌, ◌≢◌, ◌⊎◌, inl, inr, ℕ, ℤ, pos, neg_ℤ, ◌+ℤ◌, ◌-ℤ◌, ◌*ℤ◌, ◌<ℤ◌, ◌≤ℤ◌, List, [], ◌∷◌, map, length, ap, sym, subst, ◌∙◌, arith}
+use Rattle.std.proofs.Common.{◌≡◌, ◌≢◌, ◌⊎◌, inl, inr, ℕ, ℤ, pos, neg_ℤ, ◌+ℤ◌, ◌-ℤ◌, ◌*ℤ◌, ◌<ℤ◌, ◌≤ℤ◌, List, map, length, ap, sym, subst, ◌∙◌, arith}
 use Rattle.std.specs.Prelude.{Contains, flat_map}
-use Rattle.std.specs.List.{AllByRecursion}
 use Rattle.std.proofs.lemmas.Int.{ints}
 use Rattle.sign_predicates.specs.Point.{Point, RationalPoint}
 use Rattle.sign_predicates.specs.declared.tetrahedron.Corners.{Corners}
-use Rattle.sign_predicates.specs.Orientation.{Triangle, normal, volume, side, side_rational, opposite_a, opposite_b, opposite_c, opposite_d, IsPositive, StrictlyInside, InClosed, SpansPlane}
+use Rattle.sign_predicates.specs.Orientation.{Triangle, volume, side, side_rational, opposite_a, opposite_b, opposite_c, opposite_d, IsPositive, StrictlyInside, InClosed}
 use Rattle.geo_laws.specs.Delaunay.{point, corners, IsDelaunayAmong}
 use Rattle.geo_laws.specs.Height.{height, height_at, lifted, places}
 use Rattle.geo_laws.specs.declared.tetrahedra.Tet.{Tet}
 use Rattle.geo_laws.proofs.Determinants as ring
 use Rattle.exact_algebra.proofs.Signs.{sign_of, mul_pos}
 use Rattle.geo_laws.proofs.Lexicographic.{IsLexAbove, lex_same, lex_scale, above_not_zero, zero_everywhere}
-use Rattle.geo_laws.proofs.Members.{IsMember, here, there, in_flat_map, in_map, member_of}
+use Rattle.geo_laws.proofs.Members.{IsMember, in_flat_map, in_map, member_of}
 use Rattle.geo_laws.proofs.Heights.{gap_at}
 use Rattle.insert_laws.specs.Face.{Face, triangle, reversed, beside, IsOther}
 use Rattle.insert_laws.specs.Insertion.{IsNew, IsFaceOf, HasOutside, row_place, Touches, row_row}
 use Rattle.insert_laws.proofs.Identities as identity
-use Rattle.insert_laws.proofs.LexMore.{IsLexBelow, not_both, sum_first}
+use Rattle.geo_laws.proofs.Lexicographic.{IsLexBelow, not_both, sum_first}
 use Rattle.insert_laws.proofs.Pencil.{IsBare, IsFirst, first_of, neighbor, above_not_zero as positive_not_zero, apart_sides}
 use Rattle.geo_laws.proofs.Arrangement.{IsEven, even_self, even_trans, even_back, even-swap, even-cross, cross, swap_both}
 use Rattle.insert_laws.proofs.FacePencil.{side_of, gap_of, face_pencil}
@@ -27,61 +27,7 @@ use Rattle.insert_laws.proofs.Bridge
 use Rattle.insert_laws.proofs.Insert as insert
 use lib.IntN.{*ℤ-zero, zero-*ℤ}
 
--- ---- the planes through three of the first points
-
-zero_or_not : (n : ℤ) → (n ≡ pos 0) ⊎ ¬ (n ≡ pos 0)
-zero_or_not n = go (sign_of n)
-  where
-    go : (pos 0 <ℤ n) ⊎ ((n ≡ pos 0) ⊎ (pos 0 <ℤ neg_ℤ n)) → (n ≡ pos 0) ⊎ ¬ (n ≡ pos 0)
-    go (inl h) = inr (λ e. omega (arith, ints))
-    go (inr (inl e)) = inl e
-    go (inr (inr h)) = inr (λ e. omega (arith, ints))
-
-spans_or_not : (f : Triangle) → SpansPlane f ⊎ ¬ SpansPlane f
-spans_or_not f = go (zero_or_not (normal f).x) (zero_or_not (normal f).y) (zero_or_not (normal f).z)
-  where
-    go : ((normal f).x ≡ pos 0) ⊎ ¬ ((normal f).x ≡ pos 0) → ((normal f).y ≡ pos 0) ⊎ ¬ ((normal f).y ≡ pos 0) → ((normal f).z ≡ pos 0) ⊎ ¬ ((normal f).z ≡ pos 0)
-        → SpansPlane f ⊎ ¬ SpansPlane f
-    go (inr h) _ _ = inl (λ z. h z.0)
-    go (inl x) (inr h) _ = inl (λ z. h z.1)
-    go (inl x) (inl y) (inr h) = inl (λ z. h z.2)
-    go (inl x) (inl y) (inl z) = inr (λ s. s (x, y, z))
-
-kept : (f : Triangle) → SpansPlane f ⊎ ¬ SpansPlane f → List Triangle → List Triangle
-kept f (inl s) fs = f ∷ fs
-kept f (inr n) fs = fs
-
-pub planes : List Point → List Face → List Triangle
-planes qs [] = []
-planes qs (f ∷ fs) = kept (triangle qs f) (spans_or_not (triangle qs f)) (planes qs fs)
-
-pub planes_span : (qs : List Point) (fs : List Face) → AllByRecursion SpansPlane (planes qs fs)
-unfolding planes kept
-planes_span qs [] = tt
-planes_span qs (f ∷ fs) = go (spans_or_not (triangle qs f)) (planes_span qs fs)
-  where
-    go : (s : SpansPlane (triangle qs f) ⊎ ¬ SpansPlane (triangle qs f)) → AllByRecursion SpansPlane (planes qs fs) → AllByRecursion SpansPlane (kept (triangle qs f) s (planes qs fs))
-    go (inl s) r = (s, r)
-    go (inr n) r = r
-
-pub in_planes : (qs : List Point) (f : Face) (fs : List Face) → IsMember f fs → SpansPlane (triangle qs f) → IsMember (triangle qs f) (planes qs fs)
-unfolding planes kept
-in_planes qs f [] m s = elim m [ ]
-in_planes qs f (g ∷ fs) here s = go (spans_or_not (triangle qs g)) s
-  where
-    go : (q : SpansPlane (triangle qs g) ⊎ ¬ SpansPlane (triangle qs g)) → SpansPlane (triangle qs g) → IsMember (triangle qs g) (kept (triangle qs g) q (planes qs fs))
-    go (inl q) s = here
-    go (inr n) s = absurd (n s)
-in_planes qs f (g ∷ fs) (there m) s = go (spans_or_not (triangle qs g)) (in_planes qs f fs m s)
-  where
-    go : (q : SpansPlane (triangle qs g) ⊎ ¬ SpansPlane (triangle qs g)) → IsMember (triangle qs f) (planes qs fs) → IsMember (triangle qs f) (kept (triangle qs g) q (planes qs fs))
-    go (inl q) r = there r
-    go (inr n) r = r
-
-pub all_at : {A : Type 0} (P : A → Type 0) (x : A) (xs : List A) → AllByRecursion P xs → IsMember x xs → P x
-all_at P x [] h m = elim m [ ]
-all_at P x (y ∷ xs) h here = h.0
-all_at P x (y ∷ xs) h (there m) = all_at P x xs h.1 m
+-- ---- all faces on the numbers
 
 pub all_faces : List ℕ → List Face
 all_faces ms = flat_map (λ a. flat_map (λ b. map (λ c. record { a = a; b = b; c = c }) ms) ms) ms
@@ -120,12 +66,6 @@ not_beyond c f x p h na nb nc nd above =
   where
     clash : (a b c d v : ℤ) → a +ℤ (b +ℤ (c +ℤ d)) ≡ v → pos 0 <ℤ v → a ≤ℤ pos 0 → b ≤ℤ pos 0 → c ≤ℤ pos 0 → d ≤ℤ pos 0 → ⊥
     clash a b c d v e h ha hb hc hd = omega (arith, ints)
-
-weak : (a : ℤ) → pos 0 <ℤ a → pos 0 ≤ℤ a
-weak a h = omega (arith, ints)
-
-pub closed_of : (t : Corners) (x : RationalPoint) → StrictlyInside t x → InClosed t x
-closed_of t x h = (weak _ h.0, (weak _ h.1.0, (weak _ h.1.1.0, (weak _ h.1.1.1.0, tt))))
 
 -- ---- a row holds a point strictly, or the point is beyond one of its faces
 
@@ -172,15 +112,18 @@ inside_or_beyond qs t y na nb nc nd = go (sign_of (side_rational (opposite_a c) 
 
 -- ---- rows in the order of their heights at a point
 
+-- the height at y rises from s to t
 abbrev pub rises_at : List Point → RationalPoint → Tet → Tet → Type 0
 rises_at qs y s t = IsLexAbove (gap_at qs (lifted qs) y s t) (places (length qs))
 
+-- the order is transitive
 pub rises_trans : (qs : List Point) (y : RationalPoint) (s t u : Tet) → IsPositive (corners qs s) → IsPositive (corners qs t) → IsPositive (corners qs u) → rises_at qs y s t → rises_at qs y t u → rises_at qs y s u
 rises_trans qs y s t u hs ht hu st tu =
-    sum_first (volume (corners qs t)) (volume (corners qs u)) (volume (corners qs s)) (gap_at qs (lifted qs) y s u) (gap_at qs (lifted qs) y s t) (gap_at qs (lifted qs) y t u) (places (length qs)) ht hu (weak _ hs)
+    sum_first (volume (corners qs t)) (volume (corners qs u)) (volume (corners qs s)) (gap_at qs (lifted qs) y s u) (gap_at qs (lifted qs) y s t) (gap_at qs (lifted qs) y t u) (places (length qs)) ht hu (nonneg_of_pos _ hs)
     (λ k. sym (order-trans (volume (corners qs s)) (volume (corners qs t)) (volume (corners qs u)) (height_at qs (lifted qs) s y k) (height_at qs (lifted qs) t y k) (height_at qs (lifted qs) u y k)))
     st (inl tu)
 
+-- and strict
 pub rises_never : (qs : List Point) (y : RationalPoint) (s : Tet) → rises_at qs y s s → ⊥
 rises_never qs y s h = above_not_zero (gap_at qs (lifted qs) y s s) (places (length qs)) h (zero_everywhere (gap_at qs (lifted qs) y s s) (places (length qs)) (λ k. zero (volume (corners qs s) *ℤ height_at qs (lifted qs) s y k)))
   where
@@ -216,6 +159,7 @@ pub record IsNext (ps : List Point) (ms : List ℕ) (p : ℕ) (y : RationalPoint
   pub rises : rises_at ps y t row
   pub touches : Touches ps (row_place t) (row_place row)
 
+-- the tetrahedron across such a face is in the cavity, and higher at y
 pub next : (ps : List Point) (ms : List ℕ) (p : ℕ) (new : IsNew ps ms p) (y : RationalPoint) (t : Tet) → IsCavityRow ps ms p t → (b : IsBeyondFace ps t y) → pos 0 ≤ℤ side_of ps b.face p
     → (Bridge.IsFaceOn (Contains ms) b.face × IsBare (side_of ps b.face) (Contains ms)) ⊎ IsNext ps ms p y t
 next ps ms p new y t cavity b beyond = go (first_of (face_pencil qs f) (Contains ms) (Bridge.list_set ps ms new.within))

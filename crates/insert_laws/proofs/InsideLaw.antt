@@ -1,4 +1,5 @@
 -- Where the new point lies in a closed row of its cavity, each place of the cavity is joined to that row.
+use Rattle.geo_laws.proofs.General.{near_point, closed_of}
 use Rattle.geo_laws.proofs.Places.{number}
 use Rattle.std.proofs.Common.{◌≡◌, ◌⊎◌, inl, inr, ℤ, pos, neg_ℤ, ◌<ℤ◌, ◌≤ℤ◌, List, length, refl, ap, sym, subst, ◌∙◌, arith, ℕ}
 use Rattle.std.specs.Prelude.{Contains}
@@ -14,7 +15,6 @@ use Rattle.geo_laws.proofs.Places.{A, B, C, D}
 use Rattle.geo_laws.proofs.Heights.{all_fours, in_all_fours}
 use Rattle.geo_laws.proofs.Determinants.{spans}
 use Rattle.geo_laws.proofs.Radical.{law_radical}
-use Rattle.geo_laws.proofs.Nudge.{law_nudge}
 use Rattle.insert_laws.specs.Face.{Face, triangle, reversed, beside}
 use Rattle.insert_laws.specs.Insertion.{IsNew, IsHullFace, HasOutside, Sees, Place, row_place, ghost_place, IsInCavity, row_in, ghost_in, ghost_row, IsJoined, joined_self, joined_by, InsideCavityLaw}
 use Rattle.insert_laws.proofs.Identities as identity
@@ -31,22 +31,11 @@ record IsTarget (ps : List Point) (ms : List ℕ) (p : ℕ) (s : Tet) (y : Ratio
   strictly : StrictlyInside (corners ps s) y
   keeps : (f : Face) → Bridge.IsFaceOn (Contains ms) f → SpansPlane (triangle ps f) → KeepsSide (as_rational (point ps p)) y (triangle ps f)
 
-one_above : pos 0 <ℤ pos 1
-one_above = omega (arith, ints)
-
 target : (ps : List Point) (ms : List ℕ) (p : ℕ) (new : IsNew ps ms p) (s : Tet) → IsPositive (corners ps s) → InClosed (corners ps s) (as_rational (point ps p))
     → (y : RationalPoint) × IsTarget ps ms p s y
 target ps ms p new s positive closed =
-    let qs = ps in
-    let fs = inside.planes qs (inside.all_faces ms) in
-    let y = law_nudge (corners qs s) positive fs (inside.planes_span qs (inside.all_faces ms)) (as_rational (point qs p)) one_above closed in (
-      y.0,
-      record {
-        w = y.1;
-        strictly = y.2.0;
-        keeps = λ f on spans. inside.all_at (KeepsSide (as_rational (point qs p)) y.0) (triangle qs f) fs y.2.1 (inside.in_planes qs f (inside.all_faces ms) (inside.in_all_faces ms f on) spans);
-      },
-    )
+    let n = near_point ps ms (corners ps s) (as_rational (point ps p)) positive (omega (arith, ints)) closed in
+    (n.near, record { w = n.w; strictly = n.strictly; keeps = λ f on spans. n.keeps f.a f.b f.c on.on_a on.on_b on.on_c spans })
 
 not_below : (n : ℤ) → ¬ (pos 0 <ℤ n) → pos 0 ≤ℤ neg_ℤ n
 not_below n h = go (sign_of n)
@@ -83,7 +72,7 @@ rows_joined ps ms p new s is_s y target t cavity =
     onward : (t : Tet) → inside.IsCavityRow ps ms p t → (b : inside.IsBeyondFace ps t y)
         → (Bridge.IsFaceOn (Contains ms) b.face × IsBare (side_of ps b.face) (Contains ms)) ⊎ inside.IsNext ps ms p y t
         → IsJoined ps ms p (row_place t) (row_place s) ⊎ ((r : Tet) × inside.IsCavityRow ps ms p r × inside.rises_at ps y t r × (IsJoined ps ms p (row_place r) (row_place s) → IsJoined ps ms p (row_place t) (row_place s)))
-    onward t c b (inl h) = absurd (inside.not_beyond (corners ps s) (triangle ps b.face) y s_low.positive (inside.closed_of (corners ps s) y target.strictly)
+    onward t c b (inl h) = absurd (inside.not_beyond (corners ps s) (triangle ps b.face) y s_low.positive (closed_of (corners ps s) y target.strictly)
         (h.1 s.a (s_low.on s.a (A, refl))) (h.1 s.b (s_low.on s.b (B, refl))) (h.1 s.c (s_low.on s.c (C, refl))) (h.1 s.d (s_low.on s.d (D, refl))) b.beyond)
     onward t c b (inr n) = inr (n.row, n.cavity, n.rises, λ rest. joined_by (row_place t) (row_place n.row) (row_place s) n.touches (row_in n.row n.cavity.is_row n.cavity.not_outside) rest)
 
@@ -143,6 +132,7 @@ not_beyond_hull ps ms p new s is_s closed f h k =
     low : Bridge.IsLowFour ps (Contains ms) s
     low = Bridge.low_of_delaunay ps ms (Contains ms) (Bridge.of_list ps ms new.within) s is_s
 
+-- from each tetrahedron of the cavity a walk that rises at the near point ends in s
 pub law_inside_cavity : InsideCavityLaw
 law_inside_cavity ps ms p new s is_s closed in_s = go
   where

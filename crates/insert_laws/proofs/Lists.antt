@@ -1,4 +1,4 @@
--- Delaunay rows of a list, as rows among numbers.
+-- The Delaunay tetrahedra of a list are those among its numbers, in whatever order, and a hull face is a face of one of them only.
 use Rattle.geo_laws.proofs.Corners.{contains_corner}
 use Rattle.geo_laws.specs.Delaunay.{as_numbers}
 use Rattle.std.proofs.Common.{◌≡◌, ◌⊎◌, inl, inr, ℕ, zero, suc, ◌<◌, List, [], ◌∷◌, ◌++◌, length, refl, sym, subst, arith}
@@ -58,6 +58,7 @@ law_same_numbers ps ms ks same t d = record { is_on = λ i c. (same i).0 (d.is_o
 
 -- ---- hull faces
 
+-- by the law of face pairing
 pub law_hull_face : HullFaceLaw
 law_hull_face ps ms within f t d face = (to, from)
   where

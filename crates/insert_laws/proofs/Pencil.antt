@@ -1,4 +1,5 @@
 -- The pencil of rows on one face. For each point off the face's plane there is one row, and of two such points one is above the row of the other.
+use Rattle.geo_laws.proofs.Heights.{above_or_not}
 use Rattle.std.proofs.Common.{◌≡◌, ◌≢◌, ◌⊎◌, inl, inr, ℕ, zero, suc, ◌<◌, ◌≤◌, ℤ, pos, neg_ℤ, ◌+ℤ◌, ◌-ℤ◌, ◌*ℤ◌, ◌<ℤ◌, ◌≤ℤ◌, List, [], ◌∷◌, arith, ap, sym, subst, ◌∙◌}
 use Rattle.std.proofs.lemmas.Int.{ints}
 use Rattle.exact_algebra.proofs.Signs.{sign_of}
@@ -7,7 +8,7 @@ use Rattle.geo_laws.proofs.Ties.{order}
 use Rattle.geo_laws.proofs.Lexicographic.{IsZeroAt, none, more, IsLexAbove, IsLexAtLeast, lex_sign_of, lex_same, zero_everywhere}
 use Rattle.insert_laws.specs.Face.{Face, IsOther}
 use Rattle.insert_laws.proofs.Identities.{turned-relation, solve-middle, solve-under}
-use Rattle.insert_laws.proofs.LexMore.{IsLexBelow, not_both, sum_first, sum_second}
+use Rattle.geo_laws.proofs.Lexicographic.{IsLexBelow, not_both, sum_first, sum_second}
 
 -- s says on which side of the face's plane each point lies, and g o e how far e is above the row of o, at each place
 pub record IsPencil (f : Face) (s : ℕ → ℤ) (g : ℕ → ℕ → ℕ → ℤ) (ks : List ℕ) (n : ℕ) : Type 0 where
@@ -32,6 +33,7 @@ pub record IsLowUnder (f : Face) (s : ℕ → ℤ) (g : ℕ → ℕ → ℕ → 
 abbrev pub IsBare : (ℕ → ℤ) → (ℕ → Type 0) → Type 0
 IsBare s S = (e : ℕ) → S e → ¬ (pos 0 <ℤ s e)
 
+-- no point on the other side
 abbrev pub IsBareUnder : (ℕ → ℤ) → (ℕ → Type 0) → Type 0
 IsBareUnder s S = (e : ℕ) → S e → ¬ (pos 0 <ℤ neg_ℤ (s e))
 
@@ -58,15 +60,7 @@ not_opposite n h k = omega (arith, ints)
 neg_zero : (n : ℤ) → n ≡ neg_ℤ n → n ≡ pos 0
 neg_zero n e = omega (arith, ints)
 
-pub positive_or_not : (n : ℤ) → (pos 0 <ℤ n) ⊎ ¬ (pos 0 <ℤ n)
-positive_or_not n = go (sign_of n)
-  where
-    go : (pos 0 <ℤ n) ⊎ ((n ≡ pos 0) ⊎ (pos 0 <ℤ neg_ℤ n)) → (pos 0 <ℤ n) ⊎ ¬ (pos 0 <ℤ n)
-    go (inl h) = inl h
-    go (inr (inl e)) = inr (λ h. omega (arith, ints))
-    go (inr (inr h)) = inr (λ k. omega (arith, ints))
-
-flip : (m n : ℕ) → m ≢ n → n ≢ m
+pub flip : (m n : ℕ) → m ≢ n → n ≢ m
 flip m n h e = h (sym e)
 
 pub last_or : (m e : ℕ) → e < suc m → (e ≡ m) ⊎ (e < m)
@@ -112,7 +106,9 @@ above_of {g = g} {ks = ks} p o e h = lex_same (λ k. neg_ℤ (g o e k)) (g e o) 
 self_zero : {f : Face} {s : ℕ → ℤ} {g : ℕ → ℕ → ℕ → ℤ} {ks : List ℕ} {n : ℕ} → IsPencil f s g ks n → (o k : ℕ) → g o o k ≡ pos 0
 self_zero {g = g} p o k = neg_zero (g o o k) (p.opposite o o k)
 
+-- a low tetrahedron has no point below it
 pub low_at_least : {f : Face} {s : ℕ → ℤ} {g : ℕ → ℕ → ℕ → ℤ} {ks : List ℕ} {n : ℕ} {S : ℕ → Type 0} → IsPencil f s g ks n → (o : ℕ) → IsLow f s g ks S o → (e : ℕ) → S e → IsOther f e → IsLexAtLeast (g o e) ks
+-- a low tetrahedron has no point below it
 low_at_least {f} {s} {g} {ks} {n} {S} p o low e l h = go (same_or_not e o)
   where
     go : (e ≡ o) ⊎ (e ≡ o → ⊥) → IsLexAtLeast (g o e) ks
@@ -146,7 +142,7 @@ Upto S m e = (e < m) × S e
 
 first_upto : {f : Face} {s : ℕ → ℤ} {g : ℕ → ℕ → ℕ → ℤ} {ks : List ℕ} {n : ℕ} → IsPencil f s g ks n → (S : ℕ → Type 0) → ((e : ℕ) → S e ⊎ ¬ S e) → (m : ℕ) → m ≤ n → IsBare s (Upto S m) ⊎ ((o : ℕ) × IsFirst s g ks (Upto S m) o)
 first_upto p S decided zero h = inl (λ e l. absurd (omega (arith, l.0)))
-first_upto {f} {s} {g} {ks} {n} p S decided (suc m) h = go (first_upto p S decided m (omega arith)) (test (decided m) (positive_or_not (s m)))
+first_upto {f} {s} {g} {ks} {n} p S decided (suc m) h = go (first_upto p S decided m (omega arith)) (test (decided m) (above_or_not (s m)))
   where
     test : S m ⊎ ¬ S m → (pos 0 <ℤ s m) ⊎ ¬ (pos 0 <ℤ s m) → (S m × (pos 0 <ℤ s m)) ⊎ (S m → ¬ (pos 0 <ℤ s m))
     test (inl a) (inl b) = inl (a, b)

@@ -60,6 +60,7 @@ some_row : (ps : List Point) (ms : List ℕ) (p : ℕ) (f : Face) → IsCavityPl
 some_row ps ms p f (cavity_row t d face n) = (t, d)
 some_row ps ms p f (cavity_ghost h s) = (h.behind, h.is_row)
 
+-- the neighbor of the new tetrahedron across the edge is on another rim face, or the edge is on the hull
 pub law_rim_edge : RimEdgeLaw
 law_rim_edge ps ms p new i j k h = (go (first_of (face_pencil ps outer) (With (Contains ms) p) (Bridge.new_set ps ms p new)), unique)
   where

@@ -76,6 +76,7 @@ next_row ps ms within y t d b = go (first_of (face_pencil ps b.face) (Contains m
         apart : o ≢ b.apex
         apart = apart_sides (side_of ps b.face) o b.apex low_o.over under.under
 
+-- the walk to p ends in a tetrahedron that holds it, or leaves by a hull face
 pub law_locate : LocateLaw
 law_locate ps ms p new some some_is =
     climb Tet (inside.rises_at ps y) (IsDelaunayAmong ps ms) (λ t. Found)
@@ -137,6 +138,7 @@ far_above v e apart =
         let q = squares_zero (v.x -ℤ e.x) (v.y -ℤ e.y) (v.z -ℤ e.z) z in
         absurd (apart (λ j. record { x = same v.x e.x q.0 j; y = same v.y e.y q.1 j; z = same v.z e.z q.2 j }))
 
+-- the height of p is strictly below that of a closed tetrahedron whose corners are all apart from it
 pub law_start : StartLaw
 law_start ps ms p new apart t d closed o = not_above ((insert.new_outside ps ms p new t low).0 o)
   where

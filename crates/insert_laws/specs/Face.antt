@@ -11,6 +11,7 @@ pub record Face : Type 0 where
   pub b : ℕ
   pub c : ℕ
 
+-- the triangle of its points
 abbrev pub triangle : List Point → Face → Triangle
 triangle ps f = record { a = point ps f.a; b = point ps f.b; c = point ps f.c }
 

@@ -1,4 +1,7 @@
--- How the Delaunay list changes when a point is added. The points are those of a list whose numbers are among `ms`, and the new one may have any other number.
+-- How the Delaunay list changes when a point is added (incremental insertion: Bowyer 1981, Watson 1981). The points are those of a list whose numbers
+-- are among `ms`, and the new one may have any other number. The space outside of the hull is cut into ghosts, one over each face of the hull. The cavity
+-- of the new point are the tetrahedra that don't have it outside and the ghosts of the hull faces that it sees; its rim are the faces between the
+-- cavity and the rest; its star are the tetrahedra of the new point and the rim's faces.
 use Rattle.std.specs.Prelude.{◌≡◌, ◌≢◌, ◌↔◌, ◌⊎◌, ℕ, ◌<◌, pos, ◌<ℤ◌, IsTrue, List, [], ◌∷◌, ◌++◌, length, Contains}
 use Rattle.sign_predicates.specs.Point.{Point, as_rational}
 use Rattle.sign_predicates.specs.Orientation.{IsPositive, InClosed, side}
@@ -86,6 +89,7 @@ abbrev pub OldHullLaw : Type 0
 OldHullLaw = (ps : List Point) (ms : List ℕ) (p : ℕ) → IsNew ps ms p → (some : Tet) → IsDelaunayAmong ps ms some → (f : Face) → Contains ms f.a → Contains ms f.b → Contains ms f.c
     → IsHullFace ps (p ∷ ms) f ↔ ((h : IsHullFace ps ms f) × ¬ Sees ps p f h.behind)
 
+-- the face of an edge and a further corner
 abbrev pub edge_and : ℕ → ℕ → ℕ → Face
 edge_and i j o = record { a = i; b = j; c = o }
 
@@ -114,6 +118,7 @@ pub data Place : Type 0 where
   row_place : Tet → Place
   ghost_place : Face → Place
 
+-- the place is in the cavity of p
 pub data IsInCavity (ps : List Point) (ms : List ℕ) (p : ℕ) : Place → Type 0 where
   row_in : (t : Tet) → IsDelaunayAmong ps ms t → ¬ HasOutside ps t p → IsInCavity ps ms p (row_place t)
   ghost_in : (f : Face) → (h : IsHullFace ps ms f) → Sees ps p f h.behind → IsInCavity ps ms p (ghost_place f)
@@ -182,3 +187,21 @@ RimEdgeLaw = (ps : List Point) (ms : List ℕ) (p : ℕ) → IsNew ps ms p → (
 abbrev pub HullRimLaw : Type 0
 HullRimLaw = (ps : List Point) (ms : List ℕ) (p : ℕ) → IsNew ps ms p → (some : Tet) → IsDelaunayAmong ps ms some → (i j : ℕ) → IsHullRim ps ms p i j
     → ((k : ℕ) × IsRimFace ps ms p (edge_and i j k)) × ((q : ℕ) × IsHullRim ps ms p j q × ((r : ℕ) → IsHullRim ps ms p j r → q ≡ r))
+
+-- among its own corners a tetrahedron is the only Delaunay one, and its faces are those of the hull
+pub record IsFirst (ps : List Point) (t : Tet) : Type 0 where
+  pub only : (s : Tet) → IsDelaunayAmong ps (numbers t) s ↔ (s ≡ t)
+  pub hull : (f : Face) → IsFaceOf ps (reversed f) t → IsHullFace ps (numbers t) f
+
+-- the list of four points that are not coplanar
+abbrev pub FirstLaw : Type 0
+FirstLaw = (ps : List Point) (t : Tet) → IsPositive (corners ps t) → IsArranged t → IsFirst ps t
+
+-- on each side of a face of a Delaunay tetrahedron stands a place of the cavity or a clear one, and not both
+pub record IsDivided (ps : List Point) (ms : List ℕ) (p : ℕ) : Type 0 where
+  pub decided : (f : Face) (t : Tet) → IsDelaunayAmong ps ms t → IsFaceOf ps f t ⊎ IsFaceOf ps (reversed f) t → IsCavityPlace ps ms p f ⊎ IsClearPlace ps ms p f
+  pub exclusive : (f : Face) → IsCavityPlace ps ms p f → IsClearPlace ps ms p f → ⊥
+
+-- a new point divides the places into its cavity and the rest
+abbrev pub PlaceLaw : Type 0
+PlaceLaw = (ps : List Point) (ms : List ℕ) (p : ℕ) → IsNew ps ms p → IsDivided ps ms p

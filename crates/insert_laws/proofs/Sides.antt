@@ -1,0 +1,82 @@
+-- On each side of a face of a tetrahedron stands one place, of the cavity or clear: a tetrahedron by the rule for outside, a ghost by what the new point sees.
+use Rattle.std.proofs.Common.{◌≡◌, ◌⊎◌, inl, inr, ℕ, pos, neg_ℤ, ◌<ℤ◌, Bool, true, false, List, refl, subst, sym}
+use Rattle.std.specs.Prelude.{IsTrue}
+use Rattle.exact_algebra.proofs.Signs.{sign_of, pos_not_zero, pos_not_neg, neg_of_negated}
+use Rattle.sign_predicates.specs.Point.{Point}
+use Rattle.sign_predicates.specs.Orientation.{side}
+use Rattle.sign_predicates.specs.Sphere.{is_outside}
+use Rattle.geo_laws.specs.Delaunay.{point, corners, as_numbers, AreNumbersOf, IsDelaunayAmong}
+use Rattle.geo_laws.specs.declared.tetrahedra.Tet.{Tet}
+use Rattle.insert_laws.specs.Face.{Face, triangle, reversed}
+use Rattle.insert_laws.specs.Insertion.{IsFaceOf, IsHullFace, HasNoneBeyond, HasOutside, Sees, IsCavityPlace, cavity_row, cavity_ghost, IsClearPlace, clear_row, clear_ghost, PlaceLaw}
+use Rattle.insert_laws.proofs.Insert.{law_face_pairing, law_one_row}
+use Rattle.insert_laws.proofs.Lists.{law_hull_face}
+
+-- a test holds or not
+true_or_not : (b : Bool) → IsTrue b ⊎ ¬ IsTrue b
+true_or_not true = inl refl
+true_or_not false = inr (λ e. never e)
+  where
+    never : false ≡ true → ⊥
+    never e = cc
+
+outside_or_not : (ps : List Point) (t : Tet) (p : ℕ) → HasOutside ps t p ⊎ ¬ HasOutside ps t p
+outside_or_not ps t p = true_or_not (is_outside (corners ps t) (as_numbers t) (point ps p) p)
+
+-- p sees a face or not
+sees_or_not : (ps : List Point) (p : ℕ) (f : Face) (t : Tet) → Sees ps p f t ⊎ ¬ Sees ps p f t
+sees_or_not ps p f t = go (sign_of (side (triangle ps f) (point ps p))) (outside_or_not ps t p)
+  where
+    below : pos 0 <ℤ neg_ℤ (side (triangle ps f) (point ps p)) → Sees ps p f t → ⊥
+    below h (inl k) = pos_not_neg _ k (neg_of_negated _ h)
+    below h (inr k) = pos_not_zero _ (subst (λ n. pos 0 <ℤ neg_ℤ n) k.0 h) refl
+
+    on : side (triangle ps f) (point ps p) ≡ pos 0 → HasOutside ps t p → Sees ps p f t → ⊥
+    on e o (inl k) = pos_not_zero _ k e
+    on e o (inr k) = k.1 o
+
+    go : (pos 0 <ℤ side (triangle ps f) (point ps p)) ⊎ ((side (triangle ps f) (point ps p) ≡ pos 0) ⊎ (pos 0 <ℤ neg_ℤ (side (triangle ps f) (point ps p)))) → HasOutside ps t p ⊎ ¬ HasOutside ps t p → Sees ps p f t ⊎ ¬ Sees ps p f t
+    go (inl h) _ = inl (inl h)
+    go (inr (inl e)) (inl o) = inr (on e o)
+    go (inr (inl e)) (inr n) = inl (inr (e, n))
+    go (inr (inr h)) _ = inr (below h)
+
+-- a tetrahedron is of the cavity or clear
+row_place_of : (ps : List Point) (ms : List ℕ) (p : ℕ) (f : Face) (t : Tet) → IsDelaunayAmong ps ms t → IsFaceOf ps f t → IsCavityPlace ps ms p f ⊎ IsClearPlace ps ms p f
+row_place_of ps ms p f t d face = go (outside_or_not ps t p)
+  where
+    go : HasOutside ps t p ⊎ ¬ HasOutside ps t p → IsCavityPlace ps ms p f ⊎ IsClearPlace ps ms p f
+    go (inl o) = inr (clear_row t d face o)
+    go (inr n) = inl (cavity_row t d face n)
+
+-- and so is a ghost
+ghost_place_of : (ps : List Point) (ms : List ℕ) (p : ℕ) (f : Face) → IsHullFace ps ms f → IsCavityPlace ps ms p f ⊎ IsClearPlace ps ms p f
+ghost_place_of ps ms p f h = go (sees_or_not ps p f h.behind)
+  where
+    go : Sees ps p f h.behind ⊎ ¬ Sees ps p f h.behind → IsCavityPlace ps ms p f ⊎ IsClearPlace ps ms p f
+    go (inl s) = inl (cavity_ghost h s)
+    go (inr n) = inr (clear_ghost h n)
+
+-- behind a hull face is one tetrahedron, and before it none
+same_behind : (ps : List Point) (ms : List ℕ) → AreNumbersOf ps ms → (f : Face) (h k : IsHullFace ps ms f) → h.behind ≡ k.behind
+same_behind ps ms within f h k = law_one_row ps ms within (reversed f) h.behind k.behind h.is_row h.is_face k.is_row k.is_face
+
+no_row : (ps : List Point) (ms : List ℕ) → AreNumbersOf ps ms → (f : Face) → IsHullFace ps ms f → (t : Tet) → IsDelaunayAmong ps ms t → IsFaceOf ps f t → ⊥
+no_row ps ms within f h t d face = (law_hull_face ps ms within f h.behind h.is_row h.is_face).0 h t d face
+
+pub law_place : PlaceLaw
+law_place ps ms p new = record { decided = decided; exclusive = exclusive }
+  where
+    decided : (f : Face) (t : Tet) → IsDelaunayAmong ps ms t → IsFaceOf ps f t ⊎ IsFaceOf ps (reversed f) t → IsCavityPlace ps ms p f ⊎ IsClearPlace ps ms p f
+    decided f t d (inl face) = row_place_of ps ms p f t d face
+    decided f t d (inr face) = across (law_face_pairing ps ms new.within f t d face)
+      where
+        across : HasNoneBeyond ps ms f ⊎ ((s : Tet) × IsDelaunayAmong ps ms s × IsFaceOf ps f s) → IsCavityPlace ps ms p f ⊎ IsClearPlace ps ms p f
+        across (inl none) = ghost_place_of ps ms p f (record { behind = t; is_row = d; is_face = face; none_beyond = none })
+        across (inr s) = row_place_of ps ms p f s.0 s.1 s.2
+
+    exclusive : (f : Face) → IsCavityPlace ps ms p f → IsClearPlace ps ms p f → ⊥
+    exclusive f (cavity_row s d face n) (clear_row t e face' o) = n (subst (λ r. HasOutside ps r p) (sym (law_one_row ps ms new.within f s t d face e face')) o)
+    exclusive f (cavity_row s d face n) (clear_ghost h m) = no_row ps ms new.within f h s d face
+    exclusive f (cavity_ghost h s) (clear_row t e face o) = no_row ps ms new.within f h t e face
+    exclusive f (cavity_ghost h s) (clear_ghost k m) = m (subst (Sees ps p f) (same_behind ps ms new.within f h k) s)

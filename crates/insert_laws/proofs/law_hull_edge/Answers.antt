@@ -1,5 +1,0 @@
-use Rattle.insert_laws.proofs.Hull.{law_hull_edge}
-use Rattle.insert_laws.proofs.law_hull_edge.Goals as goal
-
-pub returns : goal.returns
-returns c = law_hull_edge

@@ -1,5 +1,0 @@
-use Rattle.insert_laws.proofs.Start.{law_hull_turn}
-use Rattle.insert_laws.proofs.law_hull_turn.Goals as goal
-
-pub returns : goal.returns
-returns c = law_hull_turn

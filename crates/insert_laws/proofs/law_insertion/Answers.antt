@@ -1,5 +1,0 @@
-use Rattle.insert_laws.proofs.Insert.{law_insertion}
-use Rattle.insert_laws.proofs.law_insertion.Goals as goal
-
-pub returns : goal.returns
-returns c = law_insertion

@@ -1,5 +1,0 @@
-use Rattle.insert_laws.proofs.HullLaws.{law_new_hull}
-use Rattle.insert_laws.proofs.law_new_hull.Goals as goal
-
-pub returns : goal.returns
-returns c = law_new_hull

@@ -1,5 +1,0 @@
-use Rattle.insert_laws.proofs.Insert.{law_rim}
-use Rattle.insert_laws.proofs.law_rim.Goals as goal
-
-pub returns : goal.returns
-returns c = law_rim

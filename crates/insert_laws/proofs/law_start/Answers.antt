@@ -1,5 +1,0 @@
-use Rattle.insert_laws.proofs.Start.{law_start}
-use Rattle.insert_laws.proofs.law_start.Goals as goal
-
-pub returns : goal.returns
-returns c = law_start
