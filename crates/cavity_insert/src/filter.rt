@@ -1,8 +1,7 @@
 //! The Delaunay list by the filter over all fours of points.
-ghost use Rattle.std.specs.Prelude.{◌≡◌, ◌+◌, ◌-◌, ◌<◌, ◌≤◌, ◌^◌, ◌++◌, ◌≢◌, length, filter, All, OnOk, IfOk, IsErrOf, IsTrue, ◌↔◌, pos, int_lt};
+ghost use Rattle.std.specs.Prelude.{◌≡◌, ◌-◌, ◌<◌, ◌^◌, ◌++◌, length, filter, All, OnOk, IfOk, IsErrOf};
 ghost use Rattle.std.specs.List.{list_all};
-ghost use Rattle.sign_predicates.specs.Orientation.{volume};
-ghost use Rattle.geo_laws.specs.Delaunay.{point, corners, numbers_below, has_corner, is_outside_of, is_delaunay, delaunay_rows, AreCoplanar, HasDistinctPoints, IsOn, IsDelaunayList};
+ghost use Rattle.geo_laws.specs.Delaunay.{corners, numbers_below, has_corner, is_delaunay, delaunay_rows, AreCoplanar, HasDistinctPoints, IsOn, IsDelaunayList};
 ghost use Rattle.cavity_insert.specs.Filter.{fours_of_one, fours_of_two, fours_of_three, is_corner_or_outside};
 
 use geo_laws::{Points, Tet, TetList};

@@ -1,4 +1,4 @@
-ghost use Rattle.std.specs.Prelude.{ℕ, ◌≡◌, ◌≢◌, ◌<◌, IsTrue, length};
+ghost use Rattle.std.specs.Prelude.{ℕ, ◌≢◌, ◌<◌, IsTrue, length};
 ghost use Rattle.geo_laws.specs.Delaunay.{point, HasDistinctPoints};
 
 use crate::{BuildFault, delaunay};

@@ -1,5 +1,5 @@
 //! Whether a point is outside of the sphere through the corners of a positive tetrahedron.
-ghost use Rattle.std.specs.Prelude.{◌≡◌, ◌+◌, ◌*◌, ◌^◌, ◌≤◌, ◌+ℤ◌, ◌-ℤ◌, ◌*ℤ◌, unsigned_abs};
+ghost use Rattle.std.specs.Prelude.{◌≡◌, ◌*◌, ◌^◌, ◌≤◌, ◌+ℤ◌, ◌-ℤ◌, ◌*ℤ◌, unsigned_abs};
 ghost use Rattle.sign_predicates.specs.Sphere.{in_sphere, least_of, wins_tie, is_outside};
 ghost use Rattle.sign_predicates.specs.Vector.{sphere_sum};
 
