@@ -1,11 +1,18 @@
 -- The points of a point list, where they can be meshed as they are.
-use Rattle.std.specs.Prelude.{◌≡◌, ℕ, ◌≤◌, Bool, false, ◌&&◌, ◌==◌, nat_le, IsTrue, unsigned_abs, List, length, map}
+use Rattle.std.specs.Prelude.{◌≡◌, ℕ, ◌≤◌, Bool, false, ◌&&◌, ◌==◌, nat_le, IsTrue, unsigned_abs, List, length, map, Result}
 use Rattle.std.specs.List.{list_all}
 use Rattle.sign_predicates.specs.Point.{Point}
 use Rattle.geo_laws.specs.Delaunay.{HasDistinctPoints}
+use Rattle.tet_text.specs.declared.fault.TextFault.{TextFault}
 use Rattle.tet_text.specs.Decimals.{Scaled}
+use Rattle.tet_text.specs.Lines.{content_lines, line_count_of}
+use Rattle.node_files.specs.Node.{node_of}
 use Rattle.grid_coords.specs.declared.points.DecimalPoint.{DecimalPoint}
 use Rattle.node_files.specs.declared.node_text.NodeText.{NodeText}
+
+-- the point list that the bytes of a file spell, or the first fault
+abbrev pub node_text_of : List ℕ → Result NodeText TextFault
+node_text_of bytes = node_of (line_count_of bytes) (content_lines bytes)
 
 -- a whole number of at most 2^23 in size
 abbrev pub is_coordinate : Scaled → Bool

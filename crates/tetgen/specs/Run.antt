@@ -5,11 +5,10 @@ use Rattle.geo_laws.specs.Laws.{IsTriangulation}
 use Rattle.tet_ports.specs.Counts.{Rose}
 use Rattle.tet_ports.specs.Files.{Files, Holds, IsAbsent, PartlyStored, with_file}
 use Rattle.tet_text.specs.declared.fault.TextFault.{TextFault}
-use Rattle.node_files.specs.Node.{node_text_of}
 use Rattle.node_files.specs.declared.node_text.NodeText.{NodeText}
 use Rattle.mesh_files.specs.Texts.{ele_text}
 use Rattle.tetgen.specs.Names.{node_name, ele_name}
-use Rattle.tetgen.specs.Points.{points_of, IsBuilt}
+use Rattle.tetgen.specs.Points.{node_text_of, points_of, IsBuilt}
 use Rattle.tetgen.specs.Words.{words_fault, options_of}
 use Rattle.tetgen.specs.declared.mesh.Unmeshed.{Unmeshed}
 use Rattle.tetgen.specs.declared.mesh.Unmeshed.TheVariants.{BadText as Malformed, NotBuilt as Unbuilt, Flat as Coplanar, NoMemory as Wanting}
