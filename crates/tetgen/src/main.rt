@@ -8,6 +8,8 @@ mod points;
 mod read_words;
 mod run;
 mod status;
+#[cfg(test)]
+mod tests;
 mod words;
 
 use run::run_tetgen;

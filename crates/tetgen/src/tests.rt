@@ -1,0 +1,174 @@
+use crate::run::run_tetgen;
+use crate::status::Status;
+use std::alloc::Global;
+use std::test::Fail;
+use tet_ports::{Bytes, MemFolder, MemSink, Name, NoMemory, Words};
+use tet_text::TextKind;
+
+/// What a run leaves.
+#[derive(Drop)]
+struct Left {
+    status: Status,
+    folder: MemFolder,
+    out: MemSink,
+    err: MemSink,
+}
+
+impl Left {
+    /// The bytes that the folder holds under a name, or none.
+    fn file(&self, alloc: Global, name: &[u8]) -> Result<Option<Bytes>, NoMemory> {
+        match self.folder.get(&Name::from_slice(alloc, name)?) {
+            Some(text) => Ok(Some(Bytes::from_slice(alloc, text.as_slice())?)),
+            None => Ok(None),
+        }
+    }
+
+    /// Whether the folder holds just this text under the name.
+    fn holds(&self, alloc: Global, name: &[u8], text: &[u8]) -> Result<bool, NoMemory> {
+        Ok(
+            self.file(alloc, name)?
+                .is_some_and(|held| held.as_slice() == text),
+        )
+    }
+}
+
+/// A folder with one file.
+fn folder_of(alloc: Global, name: &[u8], text: &[u8]) -> Result<MemFolder, NoMemory> {
+    let mut folder = MemFolder::new(alloc);
+    folder.add(
+        &Name::from_slice(alloc, name)?,
+        &Bytes::from_slice(alloc, text)?,
+    )?;
+    Ok(folder)
+}
+
+/// Runs the program on one word.
+fn run_in(alloc: Global, mut folder: MemFolder, word: &[u8]) -> Result<Left, NoMemory> {
+    let mut words = Words::new(alloc);
+    words.push(Name::from_slice(alloc, word)?)?;
+    let mut out = MemSink::new(alloc);
+    let mut err = MemSink::new(alloc);
+    let status = run_tetgen(alloc, &words, &mut folder, &mut out, &mut err);
+    Ok(Left {
+        status,
+        folder,
+        out,
+        err,
+    })
+}
+
+const SMALLEST: &[u8] = b"4 3 0 0\n1 0 0 0\n2 1 0 0\n3 0 1 0\n4 0 0 1\n";
+
+const NEGATIVE: &[u8] = b"4 3 0 0\n1 0 0 0\n2 0 1 0\n3 1 0 0\n4 0 0 1\n";
+
+const PYRAMID: &[u8] = b"5 3 0 0\n0 0 0 0\n1 2 0 0\n2 2 2 0\n3 0 2 0\n4 1 1 2\n";
+
+const CUBE: &[u8] =
+    b"8 3 0 0\n0 0 0 0\n1 1 0 0\n2 1 1 0\n3 0 1 0\n4 0 0 1\n5 1 0 1\n6 1 1 1\n7 0 1 1\n";
+
+const GREATEST: &[u8] =
+    b"5\n0 -8388608 -8388608 -8388608\n1 8388608 -8388608 -8388608\n2 -8388608 8388608 -8388608\n3 -8388608 -8388608 8388608\n4 8388608 8388608 8388608\n";
+
+#[test]
+fn points_are_meshed(rt: HostRuntime) -> Result<(), Fail> {
+    let alloc = rt.alloc();
+    let cases = [
+        (SMALLEST, b"1 4 0\n1 1 2 3 4\n".as_slice()),
+        (NEGATIVE, b"1 4 0\n1 1 2 4 3\n".as_slice()),
+        (PYRAMID, b"2 4 0\n0 0 1 3 4\n1 1 2 3 4\n".as_slice()),
+        (
+            CUBE,
+            b"6 4 0\n0 0 1 3 4\n1 1 2 3 5\n2 1 3 4 5\n3 2 3 5 6\n4 3 4 5 7\n5 3 5 6 7\n".as_slice(),
+        ),
+        (GREATEST, b"2 4 0\n0 0 1 2 3\n1 1 2 3 4\n".as_slice()),
+    ];
+    for (text, rows) in cases {
+        let left = run_in(alloc, folder_of(alloc, b"t.node", text)?, b"t")?;
+        assert_eq!(rt; left.status.code(), 0);
+        assert!(rt; left.holds(alloc, b"t.1.ele", rows)?);
+        assert!(rt; left.holds(alloc, b"t.node", text)?);
+    }
+    let left = run_in(alloc, folder_of(alloc, b"t.node", PYRAMID)?, b"t.node")?;
+    assert_eq!(rt; left.status.code(), 0);
+    assert!(rt; left.file(alloc, b"t.1.ele")?.is_some());
+    Ok(())
+}
+
+#[test]
+fn refusals_name_their_cause(rt: HostRuntime) -> Result<(), Fail> {
+    let alloc = rt.alloc();
+    let texts = [
+        (b"".as_slice(), 1, TextKind::Ended),
+        (b"4 2 0 0\n".as_slice(), 1, TextKind::BadCount),
+        (b"4 3 0 0 7\n".as_slice(), 1, TextKind::Extra),
+        (b"1234567890123456789\n".as_slice(), 1, TextKind::NotANumber),
+        (b"999999999999999999 3\n".as_slice(), 2, TextKind::Ended),
+        (b"1\n1 0 0 1e\n".as_slice(), 2, TextKind::NotANumber),
+        (b"# points\n1\n1 0 0\n".as_slice(), 3, TextKind::Ended),
+        (b"1\n2 0 0 0\n".as_slice(), 2, TextKind::BadIndex),
+        (b"1\n1 0 0 0\n2 0 0 0\n".as_slice(), 3, TextKind::Extra),
+    ];
+    for (text, line, kind) in texts {
+        let left = run_in(alloc, folder_of(alloc, b"t.node", text)?, b"t")?;
+        match &left.status {
+            Status::BadText { name, fault } => {
+                assert_eq!(rt; name.as_slice(), b"t.node".as_slice());
+                assert_eq!(rt; fault.line, line);
+                assert_eq!(rt; fault.kind, kind);
+            }
+            _ => return Err("not a bad text".into()),
+        }
+        assert!(rt; left.file(alloc, b"t.1.ele")?.is_none());
+    }
+    let others = [
+        (b"0\n".as_slice(), b"t".as_slice(), 6),
+        (
+            b"3\n1 0 0 0\n2 1 0 0\n3 0 1 0\n".as_slice(),
+            b"t".as_slice(),
+            6,
+        ),
+        (
+            b"9\n1 0 0 0\n2 1 0 0\n3 2 0 0\n4 0 1 0\n5 1 1 0\n6 2 1 0\n7 0 2 0\n8 1 2 0\n9 2 2 0\n".as_slice(),
+            b"t".as_slice(),
+            6,
+        ),
+        (b"1 3 1\n1 0 0 0 7\n".as_slice(), b"t".as_slice(), 12),
+        (b"1 3 0 1\n1 0 0 0 7\n".as_slice(), b"t".as_slice(), 12),
+        (b"1\n1 0 0 5e-1\n".as_slice(), b"t".as_slice(), 12),
+        (b"1\n1 0 0 8388609\n".as_slice(), b"t".as_slice(), 12),
+        (b"2\n1 1 0 0\n2 1.0 0 0\n".as_slice(), b"t".as_slice(), 12),
+        (PYRAMID, b"s".as_slice(), 2),
+        (PYRAMID, b"".as_slice(), 1),
+        (PYRAMID, b"-y".as_slice(), 1),
+        (PYRAMID, b"t.poly".as_slice(), 1),
+    ];
+    for (text, word, code) in others {
+        let left = run_in(alloc, folder_of(alloc, b"t.node", text)?, word)?;
+        assert_eq!(rt; left.status.code(), code);
+        assert!(rt; left.file(alloc, b"t.1.ele")?.is_none());
+        assert!(rt; left.holds(alloc, b"t.node", text)?);
+    }
+    Ok(())
+}
+
+#[test]
+fn set_failures_are_told(rt: HostRuntime) -> Result<(), Fail> {
+    let alloc = rt.alloc();
+    let mut folder = folder_of(alloc, b"t.node", PYRAMID)?;
+    folder.fail_fetch(1);
+    let left = run_in(alloc, folder, b"t")?;
+    assert_eq!(rt; left.status.code(), 3);
+    assert!(rt; left.file(alloc, b"t.1.ele")?.is_none());
+    for (kept, rest) in [
+        (0, b"".as_slice()),
+        (3, b"2 4".as_slice()),
+        (1000, b"2 4 0\n0 0 1 3 4\n1 1 2 3 4\n".as_slice()),
+    ] {
+        let mut folder = folder_of(alloc, b"t.node", PYRAMID)?;
+        folder.fail_store(1, kept);
+        let left = run_in(alloc, folder, b"t")?;
+        assert_eq!(rt; left.status.code(), 11);
+        assert!(rt; left.holds(alloc, b"t.1.ele", rest)?);
+    }
+    Ok(())
+}
