@@ -107,7 +107,8 @@ points_are attribute_count flag before (suc n) total lines x is =
     let rest = points_are attribute_count flag (Some point.0.number) n total line.0.1 others.0 others.1 in
     let first = point_is attribute_count flag before line.0.0 point.0 point.1 in
     let whole : ArePoints attribute_count flag lines (point.0 ∷ others.0.0) = one_more_point attribute_count flag before lines line.0.1 point.0 others.0.0 first rest (line_is total lines line.0 line.1) in
-    subst (λ (p : Listed). ArePoints attribute_count flag lines p.0) (ok_is (point.0 ∷ others.0.0, others.0.1) x others.2) whole
+    let made : Listed = (point.0 ∷ others.0.0, others.0.1) in
+    subst (λ (p : Listed). ArePoints attribute_count flag lines p.0) {x = made} (ok_is made x others.2) whole
 
 first_low : (attribute_count : ℕ) (flag : Bool) (n total : ℕ) (lines : List ContentLine) (x : Listed) → points_of attribute_count flag None n total lines ≡ Ok x → first_number x.0 ≤ 1
 unfolding points_of
@@ -117,7 +118,8 @@ first_low attribute_count flag (suc n) total lines x is =
     let point = bind_ok (point_of attribute_count flag None line.0.0) (λ point. points_of attribute_count flag (Some point.number) n total line.0.1 >>= λ others. Ok (point ∷ others.0, others.1)) x line.2 in
     let others = bind_ok (points_of attribute_count flag (Some point.0.number) n total line.0.1) (λ others. Ok (point.0 ∷ others.0, others.1)) x point.2 in
     let first = point_is attribute_count flag None line.0.0 point.0 point.1 in
-    subst (λ (p : Listed). first_number p.0 ≤ 1) (ok_is (point.0 ∷ others.0.0, others.0.1) x others.2) (leb-true point.0.number 1 first.number)
+    let made : Listed = (point.0 ∷ others.0.0, others.0.1) in
+    subst (λ (p : Listed). first_number p.0 ≤ 1) {x = made} (ok_is made x others.2) (leb-true point.0.number 1 first.number)
 
 table_is : (header : Header) (total : ℕ) (lines : List ContentLine) (x : NodeText × List ContentLine) → points_table header total lines ≡ Ok x → length lines < 2 ^ 32 - 1 → IsNodeText x.0
 unfolding points_table
