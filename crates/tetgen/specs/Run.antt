@@ -4,7 +4,6 @@ use Rattle.geo_laws.specs.Delaunay.{AreCoplanar, delaunay_rows}
 use Rattle.geo_laws.specs.Laws.{IsTriangulation}
 use Rattle.tet_ports.specs.Counts.{Rose}
 use Rattle.tet_ports.specs.Files.{Files, Holds, IsAbsent, PartlyStored, with_file}
-use Rattle.tet_text.specs.declared.fault.TextFault.{TextFault}
 use Rattle.node_files.specs.declared.node_text.NodeText.{NodeText}
 use Rattle.mesh_files.specs.Texts.{ele_text}
 use Rattle.tetgen.specs.Names.{node_name, ele_name}

@@ -1,5 +1,5 @@
 -- The words of the command line: which are understood, and what they ask for.
-use Rattle.std.specs.Prelude.{ℕ, ◌+◌, Bool, true, false, not, length, nat_eq, ◌==◌, ◌&&◌, ◌||◌, Option, Some, None, List, [], ◌∷◌, drop, codes, position, find, unwrap_or, if◌then◌else◌}
+use Rattle.std.specs.Prelude.{ℕ, ◌+◌, Bool, false, not, length, nat_eq, ◌==◌, ◌&&◌, ◌||◌, Option, Some, None, List, [], ◌∷◌, drop, codes, position, find, unwrap_or, if◌then◌else◌}
 use Rattle.std.specs.List.{list_any, starts_with}
 use Rattle.std.specs.Option.{option_map, option_map_or}
 use Rattle.tetgen.specs.Names.{has_extension, base_of}
