@@ -1,6 +1,6 @@
 -- The first place of a list, with its number, that passes a test.
-use Rattle.std.proofs.Common.{◌≡◌, ℕ, ◌+◌, ◌<◌, Bool, true, false, cond, List, [], ◌∷◌, length, get_or, Some, None, zero, suc, refl, sym, subst, ap, ◌∙◌, add-zero, zero-add, arith}
-use Rattle.std.specs.Prelude.{find, option_map}
+use Rattle.std.proofs.Common.{◌≡◌, ℕ, ◌+◌, ◌<◌, Bool, true, false, cond, List, [], ◌∷◌, length, get_or, Some, None, zero, suc, refl, sym, subst, ap, ◌∙◌, add-zero, zero-add, arith, rules}
+use Rattle.std.specs.Prelude.{Option, find, option_map, IfSome}
 use Rattle.std.specs.List.{enumerate_from}
 
 -- the place after n and one more
@@ -27,3 +27,15 @@ first_is_none p n (x ∷ xs) d b =
     let e : p (n, x) ≡ false = subst (λ m. p (m, x) ≡ false) (add-zero n) (b 0 (omega arith)) in
     ap (λ c. option_map (λ r. r.0) (cond c (Some (n, x)) (find p (enumerate_from (n + 1) xs)))) e
     ∙ first_is_none p (n + 1) xs d (λ k l. subst (λ m. p (m, get_or xs k d) ≡ false) (next n k) (b (suc k) (omega (arith, l))))
+
+pub first_within : {X : Type 0} (p : ℕ × X → Bool) (n : ℕ) (xs : List X) → IfSome (option_map (λ r. r.0) (find p (enumerate_from n xs))) (λ i. i < n + length xs)
+first_within p n [] = search rules
+first_within {X} p n (x ∷ xs) = at (p (n, x)) (subst (λ m. IfSome later (λ i. i < m)) (sym (next n (length xs))) (first_within p (n + 1) xs))
+  where
+    rest : Option (ℕ × X)
+    rest = find p (enumerate_from (n + 1) xs)
+    later : Option ℕ
+    later = option_map (λ r. r.0) rest
+    at : (b : Bool) → IfSome later (λ i. i < n + suc (length xs)) → IfSome (option_map (λ r. r.0) (cond b (Some (n, x)) rest)) (λ i. i < n + suc (length xs))
+    at true h = omega arith
+    at false h = h

@@ -10,8 +10,9 @@ use Rattle.geo_laws.specs.declared.faces.Face.{Face}
 use Rattle.geo_laws.specs.declared.tetrahedra.Tet.{Tet}
 use Rattle.hole_carve.specs.declared.uses.Use.{Use}
 use Rattle.hole_carve.specs.declared.pairs.Across.{Across}
-use Rattle.hole_carve.specs.Pairs.{is_face, has_face, partner, across_of, pairs_of, placed}
+use Rattle.hole_carve.specs.Pairs.{is_face, has_face, is_partner, partner, across_of, pairs_of, placed, IsAcrossWithin, AreAllWithin}
 use Rattle.hole_carve.specs.Uses.{AreUsesOf}
+use Rattle.hole_carve.proofs.Firsts.{first_within}
 use Rattle.hole_carve.proofs.Partners.{face_same, face_itself, at_place, has_0, has_1, has_2}
 
 -- what is across a face of a row is its partner, or the use of the face by the row is still to come
@@ -119,29 +120,44 @@ is_partner_now : (rows : List Tet) (uses : List Use) (at i : ℕ) (f : Face) (o 
 is_partner_now rows uses at i f o over (inl e) = e
 is_partner_now rows uses at i f o over (inr h) = absurd (omega (arith, over, h.1, h.2))
 
--- at the end each row has its partners
-pub settled_last : (rows : List Tet) (uses : List Use) (at : ℕ) (xs : List Across) → length xs ≡ length rows → length uses ≤ at → AllSettled rows uses at xs → xs ≡ pairs_of rows
-settled_last rows uses at xs long over s =
-    ext_get_or none xs (pairs_of rows) (long ∙ sym (length-map (enumerate_from 0 rows) at_row ∙ length-enumerate_from 0 rows)) at_place_i
+none : Across
+none = record { n0 = None; n1 = None; n2 = None; n3 = None }
+
+no_row : Tet
+no_row = record { a = 0; b = 0; c = 0; d = 0 }
+
+pairs_of-length : (rows : List Tet) → length (pairs_of rows) ≡ length rows
+pairs_of-length rows = length-map (enumerate_from 0 rows) (λ r. across_of rows r.0 r.1) ∙ length-enumerate_from 0 rows
+
+-- the row at a place has its partners
+pairs_of-at : (rows : List Tet) (i : ℕ) (d : Across) → i < length rows → get_or (pairs_of rows) i d ≡ across_of rows i (get_or rows i no_row)
+pairs_of-at rows i d l =
+    get_or-map at_row (enumerate_from 0 rows) i (0, no_row) d (omega (arith, l, length-enumerate_from 0 rows))
+    ∙ ap at_row (get_or-enumerate_from 0 rows i (0, no_row) l ∙ ap (λ k. (k, get_or rows i no_row)) (zero-add i))
   where
-    none : Across
-    none = record { n0 = None; n1 = None; n2 = None; n3 = None }
-
-    row : Tet
-    row = record { a = 0; b = 0; c = 0; d = 0 }
-
     at_row : ℕ × Tet → Across
     at_row r = across_of rows r.0 r.1
 
-    whole : (i : ℕ) → i < length rows → get_or (pairs_of rows) i none ≡ across_of rows i (get_or rows i row)
-    whole i l =
-        get_or-map at_row (enumerate_from 0 rows) i (0, row) none (omega (arith, l, length-enumerate_from 0 rows))
-        ∙ ap at_row (get_or-enumerate_from 0 rows i (0, row) l ∙ ap (λ k. (k, get_or rows i row)) (zero-add i))
+-- partners are rows
+pub pairs_within : (rows : List Tet) (xs : List Across) → xs ≡ pairs_of rows → AreAllWithin (length xs) xs
+pairs_within rows xs e i d l =
+    let long : length xs ≡ length rows = ap length e ∙ pairs_of-length rows in
+    let l' : i < length rows = omega (arith, l, long) in
+    let t : Tet = get_or rows i no_row in
+    let at : get_or xs i d ≡ across_of rows i t = ap (λ ys. get_or ys i d) e ∙ pairs_of-at rows i d l' in
+    let P : ℕ → Across → Type 0 = IsAcrossWithin in
+    subst (λ x. P (length xs) x) (sym at) (subst (λ n. P n (across_of rows i t)) (sym (long ∙ sym (zero-add (length rows))))
+      (first_within (is_partner i (face_of t.b t.c t.d)) 0 rows, first_within (is_partner i (face_of t.a t.c t.d)) 0 rows,
+       first_within (is_partner i (face_of t.a t.b t.d)) 0 rows, first_within (is_partner i (face_of t.a t.b t.c)) 0 rows))
 
-    at_place_i : (i : ℕ) → i < length xs → get_or xs i none ≡ get_or (pairs_of rows) i none
-    at_place_i i l =
-        let l' : i < length rows = omega (arith, l, long) in
-        let h = s i row none l' in
+-- at the end each row has its partners
+pub settled_last : (rows : List Tet) (uses : List Use) (at : ℕ) (xs : List Across) → length xs ≡ length rows → length uses ≤ at → AllSettled rows uses at xs → xs ≡ pairs_of rows
+settled_last rows uses at xs long over s = ext_get_or none xs (pairs_of rows) (long ∙ sym (pairs_of-length rows)) same
+  where
+    same : (i : ℕ) → i < length xs → get_or xs i none ≡ get_or (pairs_of rows) i none
+    same i l =
+        let within : i < length rows = omega (arith, l, long) in
+        let h = s i no_row none within in
         let now = is_partner_now rows uses at i in
-        by_corners (get_or xs i none) (across_of rows i (get_or rows i row)) (now _ _ over h.across_0) (now _ _ over h.across_1) (now _ _ over h.across_2) (now _ _ over h.across_3)
-        ∙ sym (whole i l')
+        by_corners (get_or xs i none) (across_of rows i (get_or rows i no_row)) (now _ _ over h.across_0) (now _ _ over h.across_1) (now _ _ over h.across_2) (now _ _ over h.across_3)
+        ∙ sym (pairs_of-at rows i none within)

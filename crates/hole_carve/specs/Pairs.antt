@@ -1,5 +1,5 @@
 -- The rows on the other sides of faces.
-use Rattle.std.specs.Prelude.{ℕ, ◌==◌, Bool, ◌&&◌, ◌||◌, not, cond, Option, List, map, find, option_map}
+use Rattle.std.specs.Prelude.{ℕ, ◌<◌, ◌==◌, Bool, ◌&&◌, ◌||◌, not, cond, Option, List, map, find, option_map, IfSome, All}
 use Rattle.std.specs.List.{enumerate_from}
 use Rattle.geo_laws.specs.Faces.{face_of}
 use Rattle.geo_laws.specs.declared.faces.Face.{Face}
@@ -41,3 +41,10 @@ placed t f o x = record {
   n2 = cond (is_face (face_of t.a t.b t.d) f) o x.n2;
   n3 = cond (is_face (face_of t.a t.b t.c) f) o x.n3;
 }
+
+-- each partner is below a number
+abbrev pub IsAcrossWithin : ℕ → Across → Type 0
+IsAcrossWithin n x = IfSome x.n0 (λ i. i < n) × IfSome x.n1 (λ i. i < n) × IfSome x.n2 (λ i. i < n) × IfSome x.n3 (λ i. i < n)
+
+abbrev pub AreAllWithin : ℕ → List Across → Type 0
+AreAllWithin n pairs = All (IsAcrossWithin n) pairs

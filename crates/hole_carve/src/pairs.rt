@@ -1,5 +1,5 @@
 ghost use Rattle.std.specs.Prelude.{◌≡◌, length, IfOk};
-ghost use Rattle.hole_carve.specs.Pairs.{pairs_of, placed};
+ghost use Rattle.hole_carve.specs.Pairs.{pairs_of, placed, AreAllWithin};
 ghost use Rattle.hole_carve.specs.Uses.{AreUsesOf};
 
 use crate::uses::{Uses, partner_at, run_start, use_at, uses_of};
@@ -25,7 +25,8 @@ pub type Marks = Items<Option<u32>>;
 /// For each row and corner the least other row that has the face opposite that corner, if there is one.
 /// The rows may be any.
 pub fn pair_faces(alloc: Global, list: &TetList) -> Result<Pairs, NoMemory>
-    ensures { IfOk result (λ pairs. pairs ≡ pairs_of list.now) }
+    ensures pairs { IfOk result (λ pairs. pairs ≡ pairs_of list.now) }
+    ensures places { IfOk result (λ pairs. AreAllWithin (length pairs) pairs) }
 {
     let uses = uses_of(alloc, list)?;
     let alone = Across {
