@@ -1,3 +1,8 @@
+ghost use Rattle.std.specs.Prelude.{◌≡◌};
+ghost use Rattle.geo_laws.specs.Faces.{face_of, side_of, row_faces, row_sides};
+
+use crate::Tet;
+
 /// A triangle of points by their numbers, which are places in a list, from 0.
 #[derive(Clone, Copy, Debug, PartialEq, Eq, PartialOrd, Ord)]
 pub struct Face {
@@ -11,4 +16,52 @@ pub struct Face {
 pub struct Side {
     pub a: u32,
     pub b: u32,
+}
+
+/// The triangle of three numbers, ascending.
+pub fn face_of(i: u32, j: u32, k: u32) -> Face
+    ensures { result ≡ face_of i j k }
+{
+    let (low, high) = (i.min(j), i.max(j));
+    Face {
+        a: low.min(k),
+        b: low.max(high.min(k)),
+        c: high.max(k),
+    }
+}
+
+/// The segment of two numbers, ascending.
+pub fn side_of(i: u32, j: u32) -> Side
+    ensures { result ≡ side_of i j }
+{
+    Side {
+        a: i.min(j),
+        b: i.max(j),
+    }
+}
+
+/// The faces of a row: opposite its first corner, and so on.
+pub fn row_faces(row: Tet) -> [Face; 4]
+    ensures { result ≡ row_faces row }
+{
+    [
+        face_of(row.b, row.c, row.d),
+        face_of(row.a, row.c, row.d),
+        face_of(row.a, row.b, row.d),
+        face_of(row.a, row.b, row.c),
+    ]
+}
+
+/// The six sides of a row.
+pub fn row_sides(row: Tet) -> [Side; 6]
+    ensures { result ≡ row_sides row }
+{
+    [
+        side_of(row.a, row.b),
+        side_of(row.a, row.c),
+        side_of(row.a, row.d),
+        side_of(row.b, row.c),
+        side_of(row.b, row.d),
+        side_of(row.c, row.d),
+    ]
 }

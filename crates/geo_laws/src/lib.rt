@@ -5,7 +5,7 @@ mod faces;
 mod laws;
 mod tetrahedra;
 
-pub use faces::{Face, Side};
+pub use faces::{Face, Side, face_of, row_faces, row_sides, side_of};
 pub use laws::{
     law_cover, law_delaunay_list, law_hull, law_least_height, law_lift, law_nudge, law_radical,
     law_residual, law_three_term,

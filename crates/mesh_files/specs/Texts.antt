@@ -1,9 +1,12 @@
 -- The texts of a mesh's files, as functions of its rows.
-use Rattle.std.specs.Prelude.{ℕ, ◌+◌, ℤ, pos, List, [], ◌∷◌, ◌++◌, map, flat_map, length}
+use Rattle.std.specs.Prelude.{ℕ, ◌+◌, ℤ, pos, negsuc, Option, Some, None, List, [], ◌∷◌, ◌++◌, map, flat_map, length}
 use Rattle.std.specs.List.{enumerate_from}
 use Rattle.std.specs.Fmt.{decimal, signed_decimal}
 use Rattle.geo_laws.specs.Delaunay.{numbers}
+use Rattle.geo_laws.specs.declared.faces.Side.{Side}
 use Rattle.geo_laws.specs.declared.tetrahedra.Tet.{Tet}
+use Rattle.hole_carve.specs.declared.pairs.Across.{Across}
+use Rattle.mesh_files.specs.declared.face_rows.FaceRow.{FaceRow}
 
 -- a line: a number, fields after it, each after a space, and a line feed
 abbrev pub line_of : ℕ → List ℤ → List ℕ
@@ -20,3 +23,41 @@ ele_lines first place rows = flat_map (λ r. ele_line first r.0 r.1) (enumerate_
 -- `.ele`: the number of rows, four corners and no attribute; then the rows, numbered from the first number
 abbrev pub ele_text : ℕ → List Tet → List ℕ
 ele_text first rows = line_of (length rows) (pos 4 ∷ pos 0 ∷ []) ++ ele_lines first 0 rows
+
+-- the line of the face at a place: its number, its three corners and its marker
+abbrev pub face_line : ℕ → ℕ → FaceRow → List ℕ
+face_line first place f = line_of (place + first) (pos (f.a + first) ∷ pos (f.b + first) ∷ pos (f.c + first) ∷ f.marker ∷ [])
+
+abbrev pub face_lines : ℕ → ℕ → List FaceRow → List ℕ
+face_lines first place faces = flat_map (λ r. face_line first r.0 r.1) (enumerate_from place faces)
+
+-- `.face`: the number of faces, and that they have markers; then the faces
+abbrev pub face_text : ℕ → List FaceRow → List ℕ
+face_text first faces = line_of (length faces) (pos 1 ∷ []) ++ face_lines first 0 faces
+
+-- the line of the side at a place: its number and its two ends
+abbrev pub edge_line : ℕ → ℕ → Side → List ℕ
+edge_line first place s = line_of (place + first) (pos (s.a + first) ∷ pos (s.b + first) ∷ [])
+
+abbrev pub edge_lines : ℕ → ℕ → List Side → List ℕ
+edge_lines first place sides = flat_map (λ r. edge_line first r.0 r.1) (enumerate_from place sides)
+
+-- `.edge`: the number of sides, and that they have no markers; then the sides
+abbrev pub edge_text : ℕ → List Side → List ℕ
+edge_text first sides = line_of (length sides) (pos 0 ∷ []) ++ edge_lines first 0 sides
+
+-- the number of a neighbor, and -1 where there is none
+abbrev pub neighbor : ℕ → Option ℕ → ℤ
+neighbor first None = negsuc 0
+neighbor first (Some place) = pos (place + first)
+
+-- the line of the row at a place: its number, and its neighbor across the face opposite each corner
+abbrev pub neigh_line : ℕ → ℕ → Across → List ℕ
+neigh_line first place x = line_of (place + first) (map (neighbor first) (x.n0 ∷ x.n1 ∷ x.n2 ∷ x.n3 ∷ []))
+
+abbrev pub neigh_lines : ℕ → ℕ → List Across → List ℕ
+neigh_lines first place rows = flat_map (λ r. neigh_line first r.0 r.1) (enumerate_from place rows)
+
+-- `.neigh`: the number of rows, and four neighbors; then the neighbors, row by row
+abbrev pub neigh_text : ℕ → List Across → List ℕ
+neigh_text first rows = line_of (length rows) (pos 4 ∷ []) ++ neigh_lines first 0 rows

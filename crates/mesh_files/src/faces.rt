@@ -1,7 +1,7 @@
 ghost use Rattle.std.specs.Prelude.{◌≡◌, IfOk};
-ghost use Rattle.geo_laws.specs.Faces.{face_of, side_of, row_faces, row_sides, faces_of_rows, sides_of_rows, AreFacesOf, AreSidesOf};
+ghost use Rattle.geo_laws.specs.Faces.{faces_of_rows, sides_of_rows, AreFacesOf, AreSidesOf};
 
-use geo_laws::{Face, Side, Tet, TetList};
+use geo_laws::{Face, Side, TetList, row_faces, row_sides};
 use std::alloc::Global;
 use tet_ports::{Items, NoMemory};
 
@@ -10,54 +10,6 @@ pub type Faces = Items<Face>;
 
 /// A list of sides.
 pub type Edges = Items<Side>;
-
-/// The triangle of three numbers, ascending.
-fn face_of(i: u32, j: u32, k: u32) -> Face
-    ensures { result ≡ face_of i j k }
-{
-    let (low, high) = (i.min(j), i.max(j));
-    Face {
-        a: low.min(k),
-        b: low.max(high.min(k)),
-        c: high.max(k),
-    }
-}
-
-/// The segment of two numbers, ascending.
-fn side_of(i: u32, j: u32) -> Side
-    ensures { result ≡ side_of i j }
-{
-    Side {
-        a: i.min(j),
-        b: i.max(j),
-    }
-}
-
-/// The faces of a row: opposite its first corner, and so on.
-fn row_faces(row: Tet) -> [Face; 4]
-    ensures { result ≡ row_faces row }
-{
-    [
-        face_of(row.b, row.c, row.d),
-        face_of(row.a, row.c, row.d),
-        face_of(row.a, row.b, row.d),
-        face_of(row.a, row.b, row.c),
-    ]
-}
-
-/// The six sides of a row.
-fn row_sides(row: Tet) -> [Side; 6]
-    ensures { result ≡ row_sides row }
-{
-    [
-        side_of(row.a, row.b),
-        side_of(row.a, row.c),
-        side_of(row.a, row.d),
-        side_of(row.b, row.c),
-        side_of(row.b, row.d),
-        side_of(row.c, row.d),
-    ]
-}
 
 /// The faces of all rows, row by row.
 fn all_faces(alloc: Global, list: &TetList) -> Result<Faces, NoMemory>

@@ -1,6 +1,6 @@
 use Rattle.std.proofs.Common.{◌↔◌, subst}
 use Rattle.std.specs.Prelude.{Contains}
-use Rattle.mesh_files.proofs.Orders.{face_before}
+use Rattle.hole_carve.proofs.Orders.{face_before}
 use Rattle.mesh_files.proofs.faces.faces_of.Goals as goal
 
 pub returns : goal.returns

@@ -1,0 +1,5 @@
+pub mod Orders
+pub mod Firsts
+pub mod Partners
+pub mod Runs
+pub mod Settled

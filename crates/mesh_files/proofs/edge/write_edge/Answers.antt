@@ -1,0 +1,8 @@
+use Rattle.std.proofs.Common.{arith}
+use Rattle.mesh_files.specs.Texts.{edge_line}
+use Rattle.mesh_files.proofs.Lines.{next_line}
+use Rattle.mesh_files.proofs.edge.write_edge.Goals as goal
+
+pub loop-i-preserved : goal.loop-i-preserved
+loop-i-preserved c =
+    next_line (edge_line c.args.first) c.loop-i.i c.args.edges.now c.at.result c.loop-i.out _ _ (omega arith) (c.at.ensures c.at.result) c.in_ok-append_edge.ensures c.loop-i.invariant

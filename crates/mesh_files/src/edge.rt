@@ -1,0 +1,35 @@
+ghost use Rattle.std.specs.Prelude.{◌≡◌, ◌++◌, ◌+◌, ◌<◌, ◌^◌, OnOk, IfOk};
+ghost use Rattle.mesh_files.specs.Texts.{edge_text, edge_line};
+
+use crate::faces::Edges;
+use crate::line::append_line;
+use geo_laws::Side;
+use std::alloc::Global;
+use tet_ports::{Bytes, NoMemory};
+
+/// The text of the `.edge` file of these sides. Sides and their ends are numbered from `first`.
+///
+/// Format: TetGen user's manual, "File formats".
+pub fn write_edge(alloc: Global, edges: &Edges, first: u32) -> Result<Bytes, NoMemory>
+    ensures { IfOk result (λ text. text ≡ edge_text first edges.now) }
+{
+    let mut out = Bytes::new(alloc);
+    append_line(&mut out, edges.len() as u64, &[0])?;
+    for i in 0..edges.len() {
+        append_edge(&mut out, i as u64, edges.at(i), first)?;
+    }
+    Ok(out)
+}
+
+/// Appends the line of the side at a place.
+fn append_edge(out: &mut Bytes, place: u64, side: Side, first: u32) -> Result<(), NoMemory>
+    requires { place < 2 ^ 63 }
+    ensures { OnOk result (out.new ≡ out.old ++ edge_line first place side) }
+{
+    let end = |number: u32| -> i64 { i64::from(number) + i64::from(first) };
+    append_line(
+        out,
+        place + u64::from(first),
+        &[end(side.a), end(side.b)],
+    )
+}

@@ -1,0 +1,39 @@
+ghost use Rattle.std.specs.Prelude.{◌≡◌, ◌++◌, ◌+◌, ◌<◌, ◌^◌, OnOk, IfOk};
+ghost use Rattle.mesh_files.specs.Texts.{face_text, face_line};
+
+use crate::face_rows::{FaceRow, FaceRows};
+use crate::line::append_line;
+use std::alloc::Global;
+use tet_ports::{Bytes, NoMemory};
+
+/// The text of the `.face` file of these faces. Faces and corners are numbered from `first`.
+///
+/// Format: TetGen user's manual, "File formats".
+pub fn write_face(alloc: Global, rows: &FaceRows, first: u32) -> Result<Bytes, NoMemory>
+    ensures { IfOk result (λ text. text ≡ face_text first rows.now) }
+{
+    let mut out = Bytes::new(alloc);
+    append_line(&mut out, rows.len() as u64, &[1])?;
+    for i in 0..rows.len() {
+        append_face(&mut out, i as u64, rows.at(i), first)?;
+    }
+    Ok(out)
+}
+
+/// Appends the line of the face at a place.
+fn append_face(out: &mut Bytes, place: u64, face: FaceRow, first: u32) -> Result<(), NoMemory>
+    requires { place < 2 ^ 63 }
+    ensures { OnOk result (out.new ≡ out.old ++ face_line first place face) }
+{
+    let corner = |number: u32| -> i64 { i64::from(number) + i64::from(first) };
+    append_line(
+        out,
+        place + u64::from(first),
+        &[
+            corner(face.a),
+            corner(face.b),
+            corner(face.c),
+            face.marker,
+        ],
+    )
+}
