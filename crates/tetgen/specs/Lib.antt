@@ -3,4 +3,5 @@ pub mod Messages
 pub mod Names
 pub mod Points
 pub mod Run
+pub mod Stores
 pub mod Words

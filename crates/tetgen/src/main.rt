@@ -8,6 +8,7 @@ mod points;
 mod read_words;
 mod run;
 mod status;
+mod store;
 #[cfg(test)]
 mod tests;
 mod words;

@@ -1,0 +1,35 @@
+-- Texts that are stored one after the other.
+use Rattle.std.specs.Prelude.{◌≡◌, List, [], ◌∷◌, ◌++◌, Option}
+use Rattle.tet_ports.specs.Files.{Files, PartlyStored, with_file}
+use Rattle.tetgen.specs.declared.store.NamedText.{NamedText}
+use Rattle.tetgen.specs.declared.store.StoreStop.{StoreStop}
+use Rattle.tetgen.specs.declared.store.StoreStop.TheVariants.{Failed, NoMemory}
+
+-- the files with each of these texts under its name, in order, and nothing else changed
+abbrev pub with_files : Option Files → List NamedText → Option Files
+with_files files [] = files
+with_files files (text ∷ more) = with_files (with_file files text.name text.content) more
+
+-- the texts from the first on to some one are stored whole
+pub record AreStoredTo (before : Option Files) (texts : List NamedText) (now : Option Files) : Type 0 where
+  pub stored : List NamedText
+  pub left : List NamedText
+  pub texts_are : texts ≡ stored ++ left
+  pub now_is : now ≡ with_files before stored
+
+-- the texts before this one are stored whole, and of this one a prefix or nothing
+pub record AreStoredInto (before : Option Files) (texts : List NamedText) (text : NamedText) (now : Option Files) : Type 0 where
+  pub stored : List NamedText
+  pub left : List NamedText
+  pub texts_are : texts ≡ stored ++ (text ∷ left)
+  pub partly : PartlyStored (with_files before stored) text.name text.content now
+
+-- what a stop leaves
+abbrev pub AreLeft : Option Files → List NamedText → Option Files → StoreStop → Type 0
+AreLeft before texts now (Failed text) = AreStoredInto before texts text now
+AreLeft before texts now NoMemory = AreStoredTo before texts now
+
+-- P holds where the folder failed
+abbrev pub IfFailed : StoreStop → Type 0 → Type 0
+IfFailed (Failed text) P = P
+IfFailed NoMemory P = Unit {0}
