@@ -27,9 +27,5 @@ fn append_edge(out: &mut Bytes, place: u64, side: Side, first: u32) -> Result<()
     ensures { OnOk result (out.new ≡ out.old ++ edge_line first place side) }
 {
     let end = |number: u32| -> i64 { i64::from(number) + i64::from(first) };
-    append_line(
-        out,
-        place + u64::from(first),
-        &[end(side.a), end(side.b)],
-    )
+    append_line(out, place + u64::from(first), &[end(side.a), end(side.b)])
 }

@@ -1,8 +1,8 @@
 ghost use Rattle.std.specs.Prelude.{◌≡◌, ◌++◌, ◌+◌, ◌<◌, ◌^◌, OnOk, IfOk};
 ghost use Rattle.mesh_files.specs.Texts.{face_text, face_line};
 
-use crate::face_rows::{FaceRow, FaceRows};
 use crate::line::append_line;
+use crate::markers::{FaceRow, FaceRows};
 use std::alloc::Global;
 use tet_ports::{Bytes, NoMemory};
 
@@ -29,11 +29,6 @@ fn append_face(out: &mut Bytes, place: u64, face: FaceRow, first: u32) -> Result
     append_line(
         out,
         place + u64::from(first),
-        &[
-            corner(face.a),
-            corner(face.b),
-            corner(face.c),
-            face.marker,
-        ],
+        &[corner(face.a), corner(face.b), corner(face.c), face.marker],
     )
 }
