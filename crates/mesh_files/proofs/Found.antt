@@ -1,5 +1,5 @@
 -- The faces of uses that are gone through.
-use Rattle.std.proofs.Common.{◌≡◌, ◌⊎◌, inl, inr, ℕ, ◌+◌, ◌-◌, ◌<◌, ◌≤◌, ◌==◌, Bool, true, false, not, List, [], ◌∷◌, ◌++◌, length, map, get_or, zero, suc, refl, sym, subst, ap, ◌∙◌, zero-add, arith}
+use Rattle.std.proofs.Common.{◌≡◌, ◌⊎◌, inl, inr, ℕ, ◌+◌, ◌-◌, ◌<◌, ◌≤◌, ◌==◌, Bool, true, false, not, List, [], ◌∷◌, ◌++◌, length, map, get_or, zero, suc, refl, sym, subst, ap, ◌∙◌, arith}
 use Rattle.std.specs.Prelude.{if◌then◌else◌, count_by, AllPairs, Contains, pos}
 use Rattle.std.proofs.lemmas.Bool.{cases_order, eq-eqb, ne_eqb, true≢false}
 use Rattle.std.proofs.lemmas.List.{get_or-map, length-map, get_or_default}
@@ -14,7 +14,7 @@ use Rattle.hole_carve.specs.Uses.{row_uses, UseBefore, AreUsesOf, IsRunStart, Fo
 use Rattle.hole_carve.proofs.Orders.{between, row_less}
 use Rattle.hole_carve.proofs.Partners.{face_same, face_itself, of_four, in_four, of_row, at_place, only_this, next_like}
 use Rattle.mesh_files.specs.declared.markers.FaceRow.{FaceRow}
-use Rattle.mesh_files.specs.FaceRows.{marker_of, face_row, IsAsked, IsFaceRow, corners_of, AreFaceRowsOf}
+use Rattle.mesh_files.specs.FaceRows.{face_row, IsAsked, IsFaceRow, corners_of, AreFaceRowsOf}
 use Rattle.mesh_files.proofs.Counts.{one_counted, two_counted}
 
 no_row : Tet

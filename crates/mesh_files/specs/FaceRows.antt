@@ -1,5 +1,5 @@
 -- The faces of rows with their markers.
-use Rattle.std.specs.Prelude.{◌≡◌, ◌↔◌, ◌⊎◌, ℕ, ◌==◌, ℤ, pos, Bool, IsTrue, if◌then◌else◌, List, count_by, AllPairs, Contains}
+use Rattle.std.specs.Prelude.{◌≡◌, ◌↔◌, ◌⊎◌, ◌==◌, ℤ, pos, Bool, IsTrue, if◌then◌else◌, List, count_by, AllPairs, Contains}
 use Rattle.geo_laws.specs.Faces.{faces_of_rows, FaceBefore}
 use Rattle.geo_laws.specs.declared.faces.Face.{Face}
 use Rattle.geo_laws.specs.declared.tetrahedra.Tet.{Tet}

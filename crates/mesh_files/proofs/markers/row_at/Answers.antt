@@ -1,5 +1,4 @@
-use Rattle.std.proofs.Common.{◌≡◌, true, false, sym, ap, subst, ◌∙◌}
-use Rattle.mesh_files.specs.FaceRows.{face_row}
+use Rattle.std.proofs.Common.{true, false, sym, ap, ◌∙◌}
 use Rattle.mesh_files.proofs.Found.{marked, row_is}
 use Rattle.mesh_files.proofs.markers.row_at.Goals as goal
 

@@ -1,4 +1,4 @@
-use Rattle.std.proofs.Common.{◌≡◌, ◌+◌, sym, subst, ◌∙◌, arith}
+use Rattle.std.proofs.Common.{◌+◌, sym, subst, ◌∙◌, arith}
 use Rattle.std.proofs.lemmas.Bool.{true≢false}
 use Rattle.mesh_files.proofs.Found.{AreFoundBefore, found_again, found_not_asked, found_pushed, found_all}
 use Rattle.mesh_files.specs.FaceRows.{IsAsked}
