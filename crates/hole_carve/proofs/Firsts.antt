@@ -1,5 +1,5 @@
 -- The first place of a list, with its number, that passes a test.
-use Rattle.std.proofs.Common.{◌≡◌, ℕ, ◌+◌, ◌<◌, Bool, true, false, cond, List, [], ◌∷◌, length, get_or, Some, None, zero, suc, refl, sym, subst, ap, ◌∙◌, add-zero, zero-add, arith, rules}
+use Rattle.std.proofs.Common.{◌≡◌, ℕ, ◌+◌, ◌<◌, Bool, true, false, cond, List, [], ◌∷◌, length, get_or, Some, None, zero, suc, refl, sym, subst, ap, ◌∙◌, add-zero, arith, rules}
 use Rattle.std.specs.Prelude.{Option, find, option_map, IfSome}
 use Rattle.std.specs.List.{enumerate_from}
 
@@ -34,8 +34,10 @@ first_within {X} p n (x ∷ xs) = at (p (n, x)) (subst (λ m. IfSome later (λ i
   where
     rest : Option (ℕ × X)
     rest = find p (enumerate_from (n + 1) xs)
+
     later : Option ℕ
     later = option_map (λ r. r.0) rest
+
     at : (b : Bool) → IfSome later (λ i. i < n + suc (length xs)) → IfSome (option_map (λ r. r.0) (cond b (Some (n, x)) rest)) (λ i. i < n + suc (length xs))
     at true h = omega arith
     at false h = h

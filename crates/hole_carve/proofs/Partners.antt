@@ -1,10 +1,9 @@
 -- The partner of a row across a face, from the uses of faces.
-use Rattle.std.proofs.Common.{◌≡◌, ◌↔◌, ◌⊎◌, inl, inr, ℕ, ◌+◌, ◌<◌, ◌≤◌, Bool, true, false, not, ◌&&◌, ◌||◌, ◌==◌, Option, Some, None, List, [], ◌∷◌, ◌++◌, length, get_or, zero, suc, refl, sym, subst, ap, ◌∙◌, add-zero, zero-add, arith}
+use Rattle.std.proofs.Common.{◌≡◌, ◌⊎◌, inl, inr, ℕ, ◌+◌, ◌<◌, ◌≤◌, Bool, true, false, not, ◌&&◌, ◌||◌, Some, None, List, [], ◌∷◌, length, get_or, zero, suc, refl, sym, subst, ap, ◌∙◌, add-zero, zero-add, arith}
 use Rattle.std.specs.Prelude.{Contains, AllPairs}
-use Rattle.std.specs.List.{enumerate_from}
 use Rattle.std.proofs.lemmas.List.Elements.{Contains-append_left, Contains-append_right, Contains-append_cases}
 use Rattle.std.proofs.lemmas.Bool.{eqb-true, eq-eqb, ne_eqb, or_cases, or_left, or_right, false_from_ne_true, true≢false, cases_order}
-use Rattle.geo_laws.specs.Faces.{face_of, row_faces, FaceBefore}
+use Rattle.geo_laws.specs.Faces.{face_of}
 use Rattle.geo_laws.specs.declared.faces.Face.{Face}
 use Rattle.geo_laws.specs.declared.tetrahedra.Tet.{Tet}
 use Rattle.hole_carve.specs.declared.uses.Use.{Use}
@@ -51,7 +50,7 @@ has_2 f t e =
     (or_right (is_face (face_of t.a t.c t.d) f) (is_face (face_of t.a t.b t.d) f || is_face (face_of t.a t.b t.c) f) e)
 
 -- a use in a list of four is one of the four
-of_four : (place : ℕ) (t : Tet) (u : Use) → Contains (row_uses place t) u → (u.row ≡ place) × (has_face u.face t ≡ true)
+pub of_four : (place : ℕ) (t : Tet) (u : Use) → Contains (row_uses place t) u → (u.row ≡ place) × (has_face u.face t ≡ true)
 of_four place t u h = first (cons_cases u (face (face_of t.b t.c t.d)) (face (face_of t.a t.c t.d) ∷ face (face_of t.a t.b t.d) ∷ face (face_of t.a t.b t.c) ∷ []) h)
   where
     face : Face → Use
@@ -80,7 +79,7 @@ of_four place t u h = first (cons_cases u (face (face_of t.b t.c t.d)) (face (fa
     first (inr k) = second (cons_cases u (face (face_of t.a t.c t.d)) (face (face_of t.a t.b t.d) ∷ face (face_of t.a t.b t.c) ∷ []) k)
 
 -- each face of a row is in its list of four
-in_four : (place : ℕ) (t : Tet) (f : Face) → has_face f t ≡ true → Contains (row_uses place t) (record { face = f; row = place })
+pub in_four : (place : ℕ) (t : Tet) (f : Face) → has_face f t ≡ true → Contains (row_uses place t) (record { face = f; row = place })
 in_four place t f h = first (or_cases _ _ h)
   where
     made : Face → Use
@@ -159,7 +158,7 @@ no_lesser rows uses first at d t a run there k l h y =
     place j b f r (inr (inr e)) = omega (arith, l, r, row_less (get_or uses first d) (get_or uses j d) (a.ascending first j d e b) (run.like d ∙ sym f))
 
 -- a row with the face of a first use is the one that uses it, or it uses it later
-only_this : (rows : List Tet) (uses : List Use) (first at : ℕ) (d : Use) (t : Tet) → AreUsesOf rows uses → IsRunStart uses first at → at ≤ first
+pub only_this : (rows : List Tet) (uses : List Use) (first at : ℕ) (d : Use) (t : Tet) → AreUsesOf rows uses → IsRunStart uses first at → at ≤ first
     → (k : ℕ) → k < length rows → has_face (get_or uses at d).face (get_or rows k t) ≡ true
     → ((j : ℕ) → at < j → j < length uses → get_or uses j d ≡ record { face = (get_or uses at d).face; row = k } → ⊥) → k ≡ (get_or uses at d).row
 only_this rows uses first at d t a run le k h y later =
@@ -198,7 +197,7 @@ partner_first rows uses first at d a run lt there =
     (λ k l y. absurd (no_lesser rows uses first at d t a run there k l (omega (arith, l, o.0)) y))
 
 -- the use after one is of its face where a later one is
-next_like : (uses : List Use) (at : ℕ) (d : Use) → AllPairs UseBefore uses → (j : ℕ) → at < j → j < length uses
+pub next_like : (uses : List Use) (at : ℕ) (d : Use) → AllPairs UseBefore uses → (j : ℕ) → at < j → j < length uses
     → (get_or uses j d).face ≡ (get_or uses at d).face → (get_or uses (at + 1) d).face ≡ (get_or uses at d).face
 next_like uses at d up j b h f = place (cases_order j (at + 1))
   where

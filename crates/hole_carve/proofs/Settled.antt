@@ -1,5 +1,5 @@
 -- What is across the faces of rows while the uses of faces are gone through.
-use Rattle.std.proofs.Common.{◌≡◌, ◌⊎◌, inl, inr, ℕ, ◌+◌, ◌<◌, ◌≤◌, Bool, true, false, cond, Option, None, List, map, length, get_or, set, refl, sym, subst, ap, ◌∙◌, zero-add, arith}
+use Rattle.std.proofs.Common.{◌≡◌, ◌⊎◌, inl, inr, ℕ, ◌+◌, ◌<◌, ◌≤◌, Bool, true, false, cond, Option, None, List, length, get_or, set, refl, sym, subst, ap, ◌∙◌, zero-add, arith}
 use Rattle.std.specs.List.{enumerate_from}
 use Rattle.std.proofs.lemmas.Grind.{get_or-set_at}
 use Rattle.std.proofs.lemmas.List.{get_or_default, get_or-set_other, get_or-map, length-map, ext_get_or}
@@ -146,9 +146,12 @@ pairs_within rows xs e i d l =
     let t : Tet = get_or rows i no_row in
     let at : get_or xs i d ≡ across_of rows i t = ap (λ ys. get_or ys i d) e ∙ pairs_of-at rows i d l' in
     let P : ℕ → Across → Type 0 = IsAcrossWithin in
-    subst (λ x. P (length xs) x) (sym at) (subst (λ n. P n (across_of rows i t)) (sym (long ∙ sym (zero-add (length rows))))
-      (first_within (is_partner i (face_of t.b t.c t.d)) 0 rows, first_within (is_partner i (face_of t.a t.c t.d)) 0 rows,
-       first_within (is_partner i (face_of t.a t.b t.d)) 0 rows, first_within (is_partner i (face_of t.a t.b t.c)) 0 rows))
+    subst (λ x. P (length xs) x) (sym at) (subst (λ n. P n (across_of rows i t)) (sym (long ∙ sym (zero-add (length rows)))) (
+      first_within (is_partner i (face_of t.b t.c t.d)) 0 rows,
+      first_within (is_partner i (face_of t.a t.c t.d)) 0 rows,
+      first_within (is_partner i (face_of t.a t.b t.d)) 0 rows,
+      first_within (is_partner i (face_of t.a t.b t.c)) 0 rows,
+    ))
 
 -- at the end each row has its partners
 pub settled_last : (rows : List Tet) (uses : List Use) (at : ℕ) (xs : List Across) → length xs ≡ length rows → length uses ≤ at → AllSettled rows uses at xs → xs ≡ pairs_of rows

@@ -7,3 +7,4 @@ mod tests;
 mod uses;
 
 pub use pairs::{Across, Marks, Pairs, pair_faces};
+pub use uses::{Use, Uses, uses_of};

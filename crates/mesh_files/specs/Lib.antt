@@ -1,1 +1,2 @@
+pub mod FaceRows
 pub mod Texts

@@ -6,7 +6,7 @@ use Rattle.geo_laws.specs.Delaunay.{numbers}
 use Rattle.geo_laws.specs.declared.faces.Side.{Side}
 use Rattle.geo_laws.specs.declared.tetrahedra.Tet.{Tet}
 use Rattle.hole_carve.specs.declared.pairs.Across.{Across}
-use Rattle.mesh_files.specs.declared.face_rows.FaceRow.{FaceRow}
+use Rattle.mesh_files.specs.declared.markers.FaceRow.{FaceRow}
 
 -- a line: a number, fields after it, each after a space, and a line feed
 abbrev pub line_of : ℕ → List ℤ → List ℕ

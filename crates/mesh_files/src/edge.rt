@@ -2,7 +2,7 @@ ghost use Rattle.std.specs.Prelude.{◌≡◌, ◌++◌, ◌+◌, ◌<◌, ◌^�
 ghost use Rattle.mesh_files.specs.Texts.{edge_text, edge_line};
 
 use crate::faces::Edges;
-use crate::line::append_line;
+use crate::line::{append_line, room_for_lines};
 use geo_laws::Side;
 use std::alloc::Global;
 use tet_ports::{Bytes, NoMemory};
@@ -13,7 +13,7 @@ use tet_ports::{Bytes, NoMemory};
 pub fn write_edge(alloc: Global, edges: &Edges, first: u32) -> Result<Bytes, NoMemory>
     ensures { IfOk result (λ text. text ≡ edge_text first edges.now) }
 {
-    let mut out = Bytes::new(alloc);
+    let mut out = room_for_lines(alloc, edges.len())?;
     append_line(&mut out, edges.len() as u64, &[0])?;
     for i in 0..edges.len() {
         append_edge(&mut out, i as u64, edges.at(i), first)?;
@@ -27,9 +27,5 @@ fn append_edge(out: &mut Bytes, place: u64, side: Side, first: u32) -> Result<()
     ensures { OnOk result (out.new ≡ out.old ++ edge_line first place side) }
 {
     let end = |number: u32| -> i64 { i64::from(number) + i64::from(first) };
-    append_line(
-        out,
-        place + u64::from(first),
-        &[end(side.a), end(side.b)],
-    )
+    append_line(out, place + u64::from(first), &[end(side.a), end(side.b)])
 }

@@ -1,7 +1,7 @@
 ghost use Rattle.std.specs.Prelude.{◌≡◌, ◌++◌, ◌+◌, ◌<◌, ◌^◌, OnOk, IfOk};
 ghost use Rattle.mesh_files.specs.Texts.{ele_text, ele_line};
 
-use crate::line::append_line;
+use crate::line::{append_line, room_for_lines};
 use geo_laws::{Tet, TetList};
 use std::alloc::Global;
 use tet_ports::{Bytes, NoMemory};
@@ -12,7 +12,7 @@ use tet_ports::{Bytes, NoMemory};
 pub fn write_ele(alloc: Global, list: &TetList, first: u32) -> Result<Bytes, NoMemory>
     ensures { IfOk result (λ text. text ≡ ele_text first list.now) }
 {
-    let mut out = Bytes::new(alloc);
+    let mut out = room_for_lines(alloc, list.len())?;
     append_line(&mut out, list.len() as u64, &[4, 0])?;
     for i in 0..list.len() {
         append_row(&mut out, i as u64, list.at(i), first)?;

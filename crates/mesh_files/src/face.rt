@@ -1,8 +1,8 @@
 ghost use Rattle.std.specs.Prelude.{◌≡◌, ◌++◌, ◌+◌, ◌<◌, ◌^◌, OnOk, IfOk};
 ghost use Rattle.mesh_files.specs.Texts.{face_text, face_line};
 
-use crate::face_rows::{FaceRow, FaceRows};
-use crate::line::append_line;
+use crate::line::{append_line, room_for_lines};
+use crate::markers::{FaceRow, FaceRows};
 use std::alloc::Global;
 use tet_ports::{Bytes, NoMemory};
 
@@ -12,7 +12,7 @@ use tet_ports::{Bytes, NoMemory};
 pub fn write_face(alloc: Global, rows: &FaceRows, first: u32) -> Result<Bytes, NoMemory>
     ensures { IfOk result (λ text. text ≡ face_text first rows.now) }
 {
-    let mut out = Bytes::new(alloc);
+    let mut out = room_for_lines(alloc, rows.len())?;
     append_line(&mut out, rows.len() as u64, &[1])?;
     for i in 0..rows.len() {
         append_face(&mut out, i as u64, rows.at(i), first)?;
@@ -29,11 +29,6 @@ fn append_face(out: &mut Bytes, place: u64, face: FaceRow, first: u32) -> Result
     append_line(
         out,
         place + u64::from(first),
-        &[
-            corner(face.a),
-            corner(face.b),
-            corner(face.c),
-            face.marker,
-        ],
+        &[corner(face.a), corner(face.b), corner(face.c), face.marker],
     )
 }

@@ -15,7 +15,7 @@ pub type Edges = Items<Side>;
 fn all_faces(alloc: Global, list: &TetList) -> Result<Faces, NoMemory>
     ensures { IfOk result (λ faces. faces ≡ faces_of_rows list.now) }
 {
-    let mut faces = Faces::new(alloc);
+    let mut faces = Faces::with_capacity(alloc, list.len().saturating_mul(4))?;
     for row in list.as_slice() {
         faces.extend_from_slice(&row_faces(*row))?;
     }
@@ -26,7 +26,7 @@ fn all_faces(alloc: Global, list: &TetList) -> Result<Faces, NoMemory>
 fn all_sides(alloc: Global, list: &TetList) -> Result<Edges, NoMemory>
     ensures { IfOk result (λ sides. sides ≡ sides_of_rows list.now) }
 {
-    let mut sides = Edges::new(alloc);
+    let mut sides = Edges::with_capacity(alloc, list.len().saturating_mul(6))?;
     for row in list.as_slice() {
         sides.extend_from_slice(&row_sides(*row))?;
     }

@@ -2,7 +2,7 @@ ghost use Rattle.std.specs.Prelude.{◌≡◌, ◌++◌, ◌+◌, ◌<◌, ◌^�
 ghost use Rattle.hole_carve.specs.Pairs.{pairs_of, IsAcrossWithin, AreAllWithin};
 ghost use Rattle.mesh_files.specs.Texts.{neigh_text, neigh_line, neighbor};
 
-use crate::line::append_line;
+use crate::line::{append_line, room_for_lines};
 use geo_laws::TetList;
 use hole_carve::{Across, Pairs, pair_faces};
 use std::alloc::Global;
@@ -23,8 +23,8 @@ pub fn write_neigh(alloc: Global, pairs: &Pairs, first: u32) -> Result<Bytes, No
     requires { AreAllWithin (length pairs.now) pairs.now }
     ensures { IfOk result (λ text. text ≡ neigh_text first pairs.now) }
 {
-    let mut out = Bytes::new(alloc);
     let count = row_count(pairs);
+    let mut out = room_for_lines(alloc, count)?;
     append_line(&mut out, count as u64, &[4])?;
     for i in 0..count {
         append_neighbors(&mut out, i as u64, pairs.at(i), first)?;

@@ -1,4 +1,4 @@
-use Rattle.std.proofs.Common.{◌≡◌, ◌<◌, ap, sym, ◌∙◌, arith}
+use Rattle.std.proofs.Common.{ap, ◌∙◌, arith}
 use Rattle.hole_carve.specs.Pairs.{partner}
 use Rattle.hole_carve.proofs.Runs.{run_before_next}
 use Rattle.hole_carve.proofs.Settled.{settled_first, settled_next, settled_last}
