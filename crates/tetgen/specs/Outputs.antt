@@ -1,0 +1,52 @@
+-- The files and the summary of a mesh.
+use Rattle.std.specs.Prelude.{◌≡◌, ℕ, Bool, ◌&&◌, not, List, [], ◌∷◌, ◌++◌, length, Option, Some, None, codes, if◌then◌else◌}
+use Rattle.std.specs.Fmt.{decimal}
+use Rattle.geo_laws.specs.Faces.{AreFacesOf, AreSidesOf}
+use Rattle.geo_laws.specs.declared.faces.Face.{Face}
+use Rattle.geo_laws.specs.declared.faces.Side.{Side}
+use Rattle.geo_laws.specs.declared.tetrahedra.Tet.{Tet}
+use Rattle.hole_carve.specs.Pairs.{pairs_of}
+use Rattle.mesh_files.specs.FaceRows.{AreFaceRowsOf}
+use Rattle.mesh_files.specs.Texts.{ele_text, face_text, edge_text, neigh_text}
+use Rattle.mesh_files.specs.declared.face_rows.FaceRow.{FaceRow}
+use Rattle.tetgen.specs.Messages.{file_message}
+use Rattle.tetgen.specs.declared.outputs.Outputs.{Outputs}
+use Rattle.tetgen.specs.declared.store.NamedText.{NamedText}
+use Rattle.tetgen.specs.declared.words.Options.{Options}
+
+-- a text under the base with an extension
+abbrev pub named : List ℕ → List ℕ → List ℕ → NamedText
+named base extension content = record {
+  name = base ++ extension;
+  content = content;
+  message = file_message (base ++ extension) (codes "write failed");
+}
+
+-- the text alone where it is asked for
+abbrev pub when : Bool → NamedText → List NamedText
+when asked text = if asked then text ∷ [] else []
+
+-- the files that the options ask for, in the order in which they are stored
+abbrev pub texts_of : Options → ℕ → List Tet → List FaceRow → List Side → List NamedText
+texts_of options first rows faces sides =
+    when (not options.no_ele) (named options.base (codes ".1.ele") (ele_text first rows))
+    ++ when (not options.no_face) (named options.base (codes ".1.face") (face_text first faces))
+    ++ when (options.edges && not options.no_face) (named options.base (codes ".1.edge") (edge_text first sides))
+    ++ when options.neighbors (named options.base (codes ".1.neigh") (neigh_text first (pairs_of rows)))
+
+-- `points P added A tetrahedra T faces F edges E`
+abbrev pub summary_text : ℕ → ℕ → ℕ → ℕ → ℕ → List ℕ
+summary_text points added rows faces sides =
+    codes "points " ++ decimal points ++ codes " added " ++ decimal added ++ codes " tetrahedra " ++ decimal rows
+    ++ codes " faces " ++ decimal faces ++ codes " edges " ++ decimal sides ++ (10 ∷ [])
+
+-- the files and the summary of these rows on so many points, numbered from the first number
+pub record AreOutputsOf (options : Options) (points first : ℕ) (rows : List Tet) (outputs : Outputs) : Type 0 where
+  pub marked : List FaceRow
+  pub marked_are : AreFaceRowsOf rows options.all_faces marked
+  pub faces : List Face
+  pub faces_are : AreFacesOf rows faces
+  pub sides : List Side
+  pub sides_are : AreSidesOf rows sides
+  pub texts_are : outputs.texts.items ≡ texts_of options first rows marked sides
+  pub summary_is : outputs.summary ≡ (if options.quiet then None else Some (summary_text points 0 (length rows) (length faces) (length sides)))
