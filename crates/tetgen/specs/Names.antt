@@ -13,7 +13,3 @@ base_of name = if has_extension name (codes ".node") then take (length name - 5)
 -- the file that is read
 abbrev pub node_name : List ℕ → List ℕ
 node_name base = base ++ codes ".node"
-
--- the files that are written
-abbrev pub ele_name : List ℕ → List ℕ
-ele_name base = base ++ codes ".1.ele"

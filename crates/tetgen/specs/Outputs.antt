@@ -1,5 +1,5 @@
 -- The files and the summary of a mesh.
-use Rattle.std.specs.Prelude.{◌≡◌, ℕ, Bool, ◌&&◌, not, List, [], ◌∷◌, ◌++◌, length, Option, Some, None, codes, if◌then◌else◌}
+use Rattle.std.specs.Prelude.{◌≡◌, ℕ, Bool, ◌||◌, not, List, [], ◌∷◌, ◌++◌, length, Option, Some, None, codes, if◌then◌else◌}
 use Rattle.std.specs.Fmt.{decimal}
 use Rattle.geo_laws.specs.Faces.{AreFacesOf, AreSidesOf}
 use Rattle.geo_laws.specs.declared.faces.Face.{Face}
@@ -8,7 +8,7 @@ use Rattle.geo_laws.specs.declared.tetrahedra.Tet.{Tet}
 use Rattle.hole_carve.specs.Pairs.{pairs_of}
 use Rattle.mesh_files.specs.FaceRows.{AreFaceRowsOf}
 use Rattle.mesh_files.specs.Texts.{ele_text, face_text, edge_text, neigh_text}
-use Rattle.mesh_files.specs.declared.face_rows.FaceRow.{FaceRow}
+use Rattle.mesh_files.specs.declared.markers.FaceRow.{FaceRow}
 use Rattle.tetgen.specs.Messages.{file_message}
 use Rattle.tetgen.specs.declared.outputs.Outputs.{Outputs}
 use Rattle.tetgen.specs.declared.store.NamedText.{NamedText}
@@ -22,17 +22,26 @@ named base extension content = record {
   message = file_message (base ++ extension) (codes "write failed");
 }
 
--- the text alone where it is asked for
-abbrev pub when : Bool → NamedText → List NamedText
-when asked text = if asked then text ∷ [] else []
+-- the text has the message that its file could not be written
+abbrev pub TellsFailure : NamedText → Type 0
+TellsFailure text = text.message ≡ file_message text.name (codes "write failed")
 
--- the files that the options ask for, in the order in which they are stored
+-- the files that the options ask for: each alone, or none
+abbrev pub ele_file : Options → ℕ → List Tet → List NamedText
+ele_file options first rows = if options.no_ele then [] else named options.base (codes ".1.ele") (ele_text first rows) ∷ []
+
+abbrev pub face_file : Options → ℕ → List FaceRow → List NamedText
+face_file options first faces = if options.no_face then [] else named options.base (codes ".1.face") (face_text first faces) ∷ []
+
+abbrev pub edge_file : Options → ℕ → List Side → List NamedText
+edge_file options first sides = if options.no_face || not options.edges then [] else named options.base (codes ".1.edge") (edge_text first sides) ∷ []
+
+abbrev pub neigh_file : Options → ℕ → List Tet → List NamedText
+neigh_file options first rows = if not options.neighbors then [] else named options.base (codes ".1.neigh") (neigh_text first (pairs_of rows)) ∷ []
+
+-- in the order in which they are stored
 abbrev pub texts_of : Options → ℕ → List Tet → List FaceRow → List Side → List NamedText
-texts_of options first rows faces sides =
-    when (not options.no_ele) (named options.base (codes ".1.ele") (ele_text first rows))
-    ++ when (not options.no_face) (named options.base (codes ".1.face") (face_text first faces))
-    ++ when (options.edges && not options.no_face) (named options.base (codes ".1.edge") (edge_text first sides))
-    ++ when options.neighbors (named options.base (codes ".1.neigh") (neigh_text first (pairs_of rows)))
+texts_of options first rows faces sides = ele_file options first rows ++ face_file options first faces ++ edge_file options first sides ++ neigh_file options first rows
 
 -- `points P added A tetrahedra T faces F edges E`
 abbrev pub summary_text : ℕ → ℕ → ℕ → ℕ → ℕ → List ℕ

@@ -1,5 +1,5 @@
 -- Texts that are stored one after the other.
-use Rattle.std.specs.Prelude.{◌≡◌, List, [], ◌∷◌, ◌++◌, Option}
+use Rattle.std.specs.Prelude.{◌≡◌, ℕ, List, [], ◌∷◌, ◌++◌, Option, Contains}
 use Rattle.tet_ports.specs.Files.{Files, PartlyStored, with_file}
 use Rattle.tetgen.specs.declared.store.NamedText.{NamedText}
 use Rattle.tetgen.specs.declared.store.StoreStop.{StoreStop}
@@ -17,16 +17,18 @@ pub record AreStoredTo (before : Option Files) (texts : List NamedText) (now : O
   pub texts_are : texts ≡ stored ++ left
   pub now_is : now ≡ with_files before stored
 
--- the texts before this one are stored whole, and of this one a prefix or nothing
-pub record AreStoredInto (before : Option Files) (texts : List NamedText) (text : NamedText) (now : Option Files) : Type 0 where
+-- the texts before the one with this name are stored whole, and of that one a prefix or nothing
+pub record AreStoredInto (before : Option Files) (texts : List NamedText) (name : List ℕ) (now : Option Files) : Type 0 where
   pub stored : List NamedText
+  pub text : NamedText
   pub left : List NamedText
   pub texts_are : texts ≡ stored ++ (text ∷ left)
-  pub partly : PartlyStored (with_files before stored) text.name text.content now
+  pub name_is : name ≡ text.name
+  pub partly : PartlyStored (with_files before stored) name text.content now
 
 -- what a stop leaves
 abbrev pub AreLeft : Option Files → List NamedText → Option Files → StoreStop → Type 0
-AreLeft before texts now (Failed text) = AreStoredInto before texts text now
+AreLeft before texts now (Failed text) = AreStoredInto before texts text.name now × Contains texts text
 AreLeft before texts now NoMemory = AreStoredTo before texts now
 
 -- P holds where the folder failed

@@ -4,6 +4,7 @@
 mod mesh;
 mod message;
 mod names;
+mod outputs;
 mod points;
 mod read_words;
 mod run;

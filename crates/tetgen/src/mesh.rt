@@ -1,11 +1,13 @@
-ghost use Rattle.std.specs.Prelude.{◌≡◌, ◌≤◌, length, IfOk, IfErr};
-ghost use Rattle.tetgen.specs.Run.{Spells, IsUnmeshed, mesh_text, most_bytes};
+ghost use Rattle.std.specs.Prelude.{◌≡◌, ◌≤◌, length, All, IfOk, IfErr};
+ghost use Rattle.tetgen.specs.Outputs.{TellsFailure};
+ghost use Rattle.tetgen.specs.Run.{Spells, IsUnmeshed, IsMeshOf, first_of, most_bytes};
 ghost use Rattle.node_files.specs.declared.node_text.NodeText.{NodeText};
 
+use crate::outputs::{Outputs, outputs_of};
 use crate::points::grid_points;
+use crate::words::Options;
 use cavity_insert::{BuildFault, delaunay};
-use mesh_files::write_ele;
-use node_files::{NodeFault, read_node};
+use node_files::{NodeFault, NodeText, read_node};
 use std::alloc::Global;
 use tet_ports::{Bytes, NoMemory};
 use tet_text::TextFault;
@@ -33,10 +35,11 @@ impl From<NoMemory> for Unmeshed {
     }
 }
 
-/// The `.ele` file of the points that the bytes spell.
-pub fn mesh_of(alloc: Global, bytes: &Bytes) -> Result<Bytes, Unmeshed>
+/// The outputs of the points that the bytes spell.
+pub fn mesh_of(alloc: Global, options: &Options, bytes: &Bytes) -> Result<Outputs, Unmeshed>
     requires { length bytes.now ≤ most_bytes }
-    ensures meshed { IfOk result (λ content. (text : NodeText) × Spells bytes.now text × (content ≡ mesh_text text)) }
+    ensures meshed { IfOk result (λ outputs. (text : NodeText) × Spells bytes.now text × IsMeshOf options.now text outputs) }
+    ensures told { IfOk result (λ outputs. All TellsFailure outputs.texts.items) }
     ensures unmeshed { IfErr result (IsUnmeshed bytes.now) }
 {
     let text = match read_node(alloc, bytes) {
@@ -48,8 +51,21 @@ pub fn mesh_of(alloc: Global, bytes: &Bytes) -> Result<Bytes, Unmeshed>
         return Err(Unmeshed::NotBuilt);
     };
     match delaunay(alloc, &points) {
-        Ok(rows) => Ok(write_ele(alloc, &rows, text.first)?),
+        Ok(rows) => Ok(outputs_of(
+            alloc,
+            options,
+            points.len(),
+            first_of(options, &text),
+            &rows,
+        )?),
         Err(BuildFault::Flat) => Err(Unmeshed::Flat),
         Err(BuildFault::NoMemory) => Err(Unmeshed::NoMemory),
     }
+}
+
+/// The number of the first row, face, side and point in what is written.
+fn first_of(options: &Options, text: &NodeText) -> u32
+    ensures { result ≡ first_of options.now text.now }
+{
+    if options.from_zero { 0 } else { text.first }
 }

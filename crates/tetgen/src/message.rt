@@ -29,6 +29,9 @@ pub fn message(alloc: Global, status: &Status) -> Result<Bytes, NoMemory>
 /// The message of want of memory, which takes none.
 pub const OUT_OF_MEMORY: &[u8] = b"tetgen: out of memory\n";
 
+/// The message that the summary could not be put.
+pub const SUMMARY_FAILED: &[u8] = b"tetgen: summary: write failed\n";
+
 /// A message that says nothing but a text.
 fn plain_message(alloc: Global, text: &[u8]) -> Result<Bytes, NoMemory>
     ensures { IfOk result (λ line. line ≡ plain_message text.now) }
@@ -40,7 +43,7 @@ fn plain_message(alloc: Global, text: &[u8]) -> Result<Bytes, NoMemory>
 }
 
 /// A message on a file.
-fn file_message(alloc: Global, name: &Name, text: &[u8]) -> Result<Bytes, NoMemory>
+pub fn file_message(alloc: Global, name: &Name, text: &[u8]) -> Result<Bytes, NoMemory>
     ensures { IfOk result (λ line. line ≡ file_message name.now text.now) }
 {
     let mut line = Bytes::from_slice(alloc, b"tetgen: ")?;
@@ -90,7 +93,7 @@ fn kind_text(kind: TextKind) -> &'static [u8]
 }
 
 /// Appends a number.
-fn append_number(line: &mut Bytes, n: usize) -> Result<(), NoMemory>
+pub fn append_number(line: &mut Bytes, n: usize) -> Result<(), NoMemory>
     ensures { OnOk result (line.new ≡ line.old ++ decimal n) }
 {
     let mut buffer = Buffer::new();

@@ -1,5 +1,5 @@
 ghost use Rattle.std.specs.Prelude.{◌≡◌, ◌++◌, IfOk};
-ghost use Rattle.tetgen.specs.Names.{base_of, node_name, ele_name};
+ghost use Rattle.tetgen.specs.Names.{base_of, node_name};
 
 use std::alloc::Global;
 use tet_ports::{Name, NoMemory};
@@ -12,7 +12,7 @@ pub fn base_of(name: &[u8]) -> &[u8]
 }
 
 /// The base with an extension.
-fn with_extension(alloc: Global, base: &Name, extension: &[u8]) -> Result<Name, NoMemory>
+pub fn with_extension(alloc: Global, base: &Name, extension: &[u8]) -> Result<Name, NoMemory>
     ensures { IfOk result (λ name. name ≡ base.now ++ extension.now) }
 {
     let mut name = Name::from_slice(alloc, base.as_slice())?;
@@ -25,11 +25,4 @@ pub fn node_name(alloc: Global, base: &Name) -> Result<Name, NoMemory>
     ensures { IfOk result (λ name. name ≡ node_name base.now) }
 {
     with_extension(alloc, base, b".node")
-}
-
-/// The name of the file of the rows.
-pub fn ele_name(alloc: Global, base: &Name) -> Result<Name, NoMemory>
-    ensures { IfOk result (λ name. name ≡ ele_name base.now) }
-{
-    with_extension(alloc, base, b".1.ele")
 }

@@ -1,12 +1,42 @@
-use Rattle.std.proofs.Common.{◌≡◌, ℕ, ◌+◌, ◌<◌, List, length, Option, Some, None, inl, subst, arith}
-use Rattle.tet_ports.specs.Files.{Files, Holds, HoldsMore}
+use Rattle.std.proofs.Common.{◌<◌, List, ℕ, length, inl, subst}
+use Rattle.tet_ports.specs.Files.{Holds}
+use Rattle.tetgen.specs.Run.{Seen, answer_of}
+use Rattle.tetgen.proofs.Runs.{cause_after, left_after, longer}
 use Rattle.tetgen.proofs.run.mesh_file.Goals as goal
 
--- a file that is too large has too many bytes
-longer : (files : Option Files) (name : List ℕ) (most : ℕ) (taken : List ℕ) → HoldsMore files name most taken → length taken ≡ most + 1
-    → (bytes : List ℕ) × Holds files name bytes × (most < length bytes)
-longer None name most taken h e = (taken, tt, omega (arith, e))
-longer (Some told) name most taken h e = (h.0, h.1, h.2)
+pub returns-in-Ok-fetch-clause-cause : goal.returns-in-Ok-fetch-clause-cause
+returns-in-Ok-fetch-clause-cause g c =
+    let seen : Seen = record {
+      files_before = g.F.Folder.held c.fetch.new.self;
+      files_now = g.F.Folder.held c.mesh_bytes.new.folder;
+      faults_before = g.F.Folder.faults c.fetch.new.self;
+      faults_now = g.F.Folder.faults c.mesh_bytes.new.folder;
+      misses_before = g.F.Folder.misses c.fetch.new.self;
+      misses_now = g.F.Folder.misses c.mesh_bytes.new.folder;
+      written_before = g.O.Sink.written c.args.out.now;
+      written_now = g.O.Sink.written c.mesh_bytes.new.out;
+      put_faults_before = g.O.Sink.faults c.args.out.now;
+      put_faults_now = g.O.Sink.faults c.mesh_bytes.new.out;
+    } in
+    cause_after c.args.options.now.base (g.F.Folder.held c.args.folder.now) (g.F.Folder.faults c.args.folder.now) (g.F.Folder.misses c.args.folder.now) seen
+    c.fetch.ensures.unchanged c.fetch.ensures.fault_count c.fetch.ensures.miss_count (answer_of c.mesh_bytes.result) c.mesh_bytes.ensures.cause
+
+pub returns-in-Ok-fetch-clause-left : goal.returns-in-Ok-fetch-clause-left
+returns-in-Ok-fetch-clause-left g c =
+    let seen : Seen = record {
+      files_before = g.F.Folder.held c.fetch.new.self;
+      files_now = g.F.Folder.held c.mesh_bytes.new.folder;
+      faults_before = g.F.Folder.faults c.fetch.new.self;
+      faults_now = g.F.Folder.faults c.mesh_bytes.new.folder;
+      misses_before = g.F.Folder.misses c.fetch.new.self;
+      misses_now = g.F.Folder.misses c.mesh_bytes.new.folder;
+      written_before = g.O.Sink.written c.args.out.now;
+      written_now = g.O.Sink.written c.mesh_bytes.new.out;
+      put_faults_before = g.O.Sink.faults c.args.out.now;
+      put_faults_now = g.O.Sink.faults c.mesh_bytes.new.out;
+    } in
+    left_after c.args.options.now (g.F.Folder.held c.args.folder.now) (g.F.Folder.faults c.args.folder.now) (g.F.Folder.misses c.args.folder.now) seen
+    c.fetch.ensures.unchanged (answer_of c.mesh_bytes.result) c.mesh_bytes.ensures.left
 
 pub returns-in-Err-TooLarge-clause-cause : goal.returns-in-Err-TooLarge-clause-cause
 returns-in-Err-TooLarge-clause-cause g c =
