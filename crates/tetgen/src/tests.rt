@@ -42,13 +42,29 @@ fn folder_of(alloc: Global, name: &[u8], text: &[u8]) -> Result<MemFolder, NoMem
     Ok(folder)
 }
 
-/// Runs the program on one word.
-fn run_in(alloc: Global, mut folder: MemFolder, word: &[u8]) -> Result<Left, NoMemory> {
-    let mut words = Words::new(alloc);
-    words.push(Name::from_slice(alloc, word)?)?;
-    let mut out = MemSink::new(alloc);
-    let mut err = MemSink::new(alloc);
-    let status = run_tetgen(alloc, &words, &mut folder, &mut out, &mut err);
+/// Runs the program on these words.
+fn run_in(alloc: Global, folder: MemFolder, words: &[&[u8]]) -> Result<Left, NoMemory> {
+    run_with(
+        alloc,
+        folder,
+        words,
+        MemSink::new(alloc),
+        MemSink::new(alloc),
+    )
+}
+
+fn run_with(
+    alloc: Global,
+    mut folder: MemFolder,
+    words: &[&[u8]],
+    mut out: MemSink,
+    mut err: MemSink,
+) -> Result<Left, NoMemory> {
+    let mut named = Words::new(alloc);
+    for word in words {
+        named.push(Name::from_slice(alloc, word)?)?;
+    }
+    let status = run_tetgen(alloc, &named, &mut folder, &mut out, &mut err);
     Ok(Left {
         status,
         folder,
@@ -73,24 +89,133 @@ const GREATEST: &[u8] =
 fn points_are_meshed(rt: HostRuntime) -> Result<(), Fail> {
     let alloc = rt.alloc();
     let cases = [
-        (SMALLEST, b"1 4 0\n1 1 2 3 4\n".as_slice()),
-        (NEGATIVE, b"1 4 0\n1 1 2 4 3\n".as_slice()),
-        (PYRAMID, b"2 4 0\n0 0 1 3 4\n1 1 2 3 4\n".as_slice()),
+        (
+            SMALLEST,
+            b"1 4 0\n1 1 2 3 4\n".as_slice(),
+            b"1 4\n1 -1 -1 -1 -1\n".as_slice(),
+            b"points 4 added 0 tetrahedra 1 faces 4 edges 6\n".as_slice(),
+        ),
+        (
+            NEGATIVE,
+            b"1 4 0\n1 1 2 4 3\n".as_slice(),
+            b"1 4\n1 -1 -1 -1 -1\n".as_slice(),
+            b"points 4 added 0 tetrahedra 1 faces 4 edges 6\n".as_slice(),
+        ),
+        (
+            PYRAMID,
+            b"2 4 0\n0 0 1 3 4\n1 1 2 3 4\n".as_slice(),
+            b"2 4\n0 1 -1 -1 -1\n1 -1 0 -1 -1\n".as_slice(),
+            b"points 5 added 0 tetrahedra 2 faces 7 edges 9\n".as_slice(),
+        ),
         (
             CUBE,
             b"6 4 0\n0 0 1 3 4\n1 1 2 3 5\n2 1 3 4 5\n3 2 3 5 6\n4 3 4 5 7\n5 3 5 6 7\n".as_slice(),
+            b"6 4\n0 2 -1 -1 -1\n1 3 2 -1 -1\n2 4 -1 1 0\n3 5 -1 -1 1\n4 -1 5 -1 2\n5 -1 -1 4 3\n".as_slice(),
+            b"points 8 added 0 tetrahedra 6 faces 18 edges 19\n".as_slice(),
         ),
-        (GREATEST, b"2 4 0\n0 0 1 2 3\n1 1 2 3 4\n".as_slice()),
+        (
+            GREATEST,
+            b"2 4 0\n0 0 1 2 3\n1 1 2 3 4\n".as_slice(),
+            b"2 4\n0 1 -1 -1 -1\n1 -1 -1 -1 0\n".as_slice(),
+            b"points 5 added 0 tetrahedra 2 faces 7 edges 9\n".as_slice(),
+        ),
     ];
-    for (text, rows) in cases {
-        let left = run_in(alloc, folder_of(alloc, b"t.node", text)?, b"t")?;
+    for (text, rows, neighbors, summary) in cases {
+        let left = run_in(alloc, folder_of(alloc, b"t.node", text)?, &[b"-n", b"t"])?;
         assert_eq!(rt; left.status.code(), 0);
         assert!(rt; left.holds(alloc, b"t.1.ele", rows)?);
+        assert!(rt; left.holds(alloc, b"t.1.neigh", neighbors)?);
+        assert!(rt; left.file(alloc, b"t.1.edge")?.is_none());
         assert!(rt; left.holds(alloc, b"t.node", text)?);
+        assert_eq!(rt; left.out.bytes().as_slice(), summary);
+        assert!(rt; left.err.bytes().is_empty());
     }
-    let left = run_in(alloc, folder_of(alloc, b"t.node", PYRAMID)?, b"t.node")?;
-    assert_eq!(rt; left.status.code(), 0);
-    assert!(rt; left.file(alloc, b"t.1.ele")?.is_some());
+    Ok(())
+}
+
+#[test]
+fn switches_choose_the_files(rt: HostRuntime) -> Result<(), Fail> {
+    let alloc = rt.alloc();
+    let left = run_in(alloc, folder_of(alloc, b"t.node", PYRAMID)?, &[b"t.node"])?;
+    assert!(rt;
+        left.holds(
+            alloc,
+            b"t.1.face",
+            b"6 1\n0 0 1 3 1\n1 0 1 4 1\n2 0 3 4 1\n3 1 2 3 1\n4 1 2 4 1\n5 2 3 4 1\n"
+        )?
+    );
+    assert!(rt; left.file(alloc, b"t.1.neigh")?.is_none());
+    let left = run_in(
+        alloc,
+        folder_of(alloc, b"t.node", PYRAMID)?,
+        &[b"-fQ", b"t", b"-E"],
+    )?;
+    assert!(rt;
+        left.holds(
+            alloc,
+            b"t.1.face",
+            b"7 1\n0 0 1 3 1\n1 0 1 4 1\n2 0 3 4 1\n3 1 2 3 1\n4 1 2 4 1\n5 1 3 4 0\n6 2 3 4 1\n"
+        )?
+    );
+    assert!(rt; left.file(alloc, b"t.1.ele")?.is_none());
+    assert!(rt; left.out.bytes().is_empty());
+    let left = run_in(
+        alloc,
+        folder_of(alloc, b"t.node", SMALLEST)?,
+        &[b"-ez", b"t"],
+    )?;
+    assert!(rt;
+        left.holds(
+            alloc,
+            b"t.1.edge",
+            b"6 0\n0 0 1\n1 0 2\n2 0 3\n3 1 2\n4 1 3\n5 2 3\n"
+        )?
+    );
+    assert!(rt; left.holds(alloc, b"t.1.ele", b"1 4 0\n0 0 1 2 3\n")?);
+    let left = run_in(
+        alloc,
+        folder_of(alloc, b"t.node", SMALLEST)?,
+        &[b"-eFn", b"t"],
+    )?;
+    assert!(rt; left.file(alloc, b"t.1.face")?.is_none());
+    assert!(rt; left.file(alloc, b"t.1.edge")?.is_none());
+    assert!(rt; left.file(alloc, b"t.1.neigh")?.is_some());
+    Ok(())
+}
+
+#[test]
+fn words_are_read(rt: HostRuntime) -> Result<(), Fail> {
+    let alloc = rt.alloc();
+    let faults: [(&[&[u8]], &[u8]); 10] = [
+        (&[], b"tetgen: word 1, place 1: not understood\n"),
+        (&[b""], b"tetgen: word 1, place 1: not understood\n"),
+        (&[b"-"], b"tetgen: word 1, place 2: not understood\n"),
+        (
+            &[b"-y", b"name"],
+            b"tetgen: word 1, place 2: not understood\n",
+        ),
+        (
+            &[b"-nfx", b"name"],
+            b"tetgen: word 1, place 4: not understood\n",
+        ),
+        (
+            &[b"name", b"--quality=2"],
+            b"tetgen: word 2, place 3: not understood\n",
+        ),
+        (&[b"a", b"b"], b"tetgen: word 2, place 1: not understood\n"),
+        (
+            &[b"a", b"-n", b"b"],
+            b"tetgen: word 3, place 1: not understood\n",
+        ),
+        (&[b"bar.poly"], b"tetgen: word 1, place 1: not understood\n"),
+        (&[b"-nQ"], b"tetgen: word 2, place 1: not understood\n"),
+    ];
+    for (words, message) in faults {
+        let left = run_in(alloc, folder_of(alloc, b"name.node", PYRAMID)?, words)?;
+        assert_eq!(rt; left.status.code(), 1);
+        assert_eq!(rt; left.err.bytes().as_slice(), message);
+        assert!(rt; left.out.bytes().is_empty());
+    }
     Ok(())
 }
 
@@ -109,7 +234,7 @@ fn refusals_name_their_cause(rt: HostRuntime) -> Result<(), Fail> {
         (b"1\n1 0 0 0\n2 0 0 0\n".as_slice(), 3, TextKind::Extra),
     ];
     for (text, line, kind) in texts {
-        let left = run_in(alloc, folder_of(alloc, b"t.node", text)?, b"t")?;
+        let left = run_in(alloc, folder_of(alloc, b"t.node", text)?, &[b"t"])?;
         match &left.status {
             Status::BadText { name, fault } => {
                 assert_eq!(rt; name.as_slice(), b"t.node".as_slice());
@@ -143,7 +268,7 @@ fn refusals_name_their_cause(rt: HostRuntime) -> Result<(), Fail> {
         (PYRAMID, b"t.poly".as_slice(), 1),
     ];
     for (text, word, code) in others {
-        let left = run_in(alloc, folder_of(alloc, b"t.node", text)?, word)?;
+        let left = run_in(alloc, folder_of(alloc, b"t.node", text)?, &[word])?;
         assert_eq!(rt; left.status.code(), code);
         assert!(rt; left.file(alloc, b"t.1.ele")?.is_none());
         assert!(rt; left.holds(alloc, b"t.node", text)?);
@@ -156,8 +281,12 @@ fn set_failures_are_told(rt: HostRuntime) -> Result<(), Fail> {
     let alloc = rt.alloc();
     let mut folder = folder_of(alloc, b"t.node", PYRAMID)?;
     folder.fail_fetch(1);
-    let left = run_in(alloc, folder, b"t")?;
+    let left = run_in(alloc, folder, &[b"t"])?;
     assert_eq!(rt; left.status.code(), 3);
+    assert_eq!(rt;
+        left.err.bytes().as_slice(),
+        b"tetgen: t.node: read failed\n".as_slice()
+    );
     assert!(rt; left.file(alloc, b"t.1.ele")?.is_none());
     for (kept, rest) in [
         (0, b"".as_slice()),
@@ -166,9 +295,38 @@ fn set_failures_are_told(rt: HostRuntime) -> Result<(), Fail> {
     ] {
         let mut folder = folder_of(alloc, b"t.node", PYRAMID)?;
         folder.fail_store(1, kept);
-        let left = run_in(alloc, folder, b"t")?;
+        let left = run_in(alloc, folder, &[b"t"])?;
         assert_eq!(rt; left.status.code(), 11);
         assert!(rt; left.holds(alloc, b"t.1.ele", rest)?);
+        assert!(rt; left.file(alloc, b"t.1.face")?.is_none());
+        assert_eq!(rt;
+            left.err.bytes().as_slice(),
+            b"tetgen: t.1.ele: write failed\n".as_slice()
+        );
+        assert!(rt; left.out.bytes().is_empty());
     }
+    let mut folder = folder_of(alloc, b"t.node", PYRAMID)?;
+    folder.fail_store(2, 4);
+    let left = run_in(alloc, folder, &[b"t"])?;
+    assert_eq!(rt; left.status.code(), 11);
+    assert!(rt; left.holds(alloc, b"t.1.ele", b"2 4 0\n0 0 1 3 4\n1 1 2 3 4\n")?);
+    assert!(rt; left.holds(alloc, b"t.1.face", b"6 1\n")?);
+    let mut out = MemSink::new(alloc);
+    out.fail_put(1, 6);
+    let folder = folder_of(alloc, b"t.node", PYRAMID)?;
+    let left = run_with(alloc, folder, &[b"t"], out, MemSink::new(alloc))?;
+    assert_eq!(rt; left.status.code(), 11);
+    assert_eq!(rt; left.out.bytes().as_slice(), b"points".as_slice());
+    assert_eq!(rt;
+        left.err.bytes().as_slice(),
+        b"tetgen: summary: write failed\n".as_slice()
+    );
+    assert!(rt; left.file(alloc, b"t.1.face")?.is_some());
+    let mut err = MemSink::new(alloc);
+    err.fail_put(1, 7);
+    let folder = folder_of(alloc, b"t.node", PYRAMID)?;
+    let left = run_with(alloc, folder, &[b"-y", b"name"], MemSink::new(alloc), err)?;
+    assert_eq!(rt; left.status.code(), 1);
+    assert_eq!(rt; left.err.bytes().as_slice(), b"tetgen:".as_slice());
     Ok(())
 }
