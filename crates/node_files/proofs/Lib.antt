@@ -2,3 +2,4 @@ pub mod Counts
 pub mod Attributes
 pub mod Points
 pub mod Tables
+pub mod KnownPlaces

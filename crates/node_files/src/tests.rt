@@ -1,7 +1,9 @@
 use super::*;
+use grid_coords::{DecimalPoint, DecimalPoints};
+use std::alloc::Global;
 use std::test::Fail;
-use tet_ports::Bytes;
-use tet_text::{Lines, TextFault, TextKind};
+use tet_ports::{Bytes, Words};
+use tet_text::{Decimal, Lines, TextFault, TextKind};
 
 const SMALLEST: &[u8] = b"4 3 0 0\n1 0 0 0\n2 1 0 0\n3 0 1 0\n4 0 0 1\n";
 
@@ -135,5 +137,125 @@ fn no_points(rt: HostRuntime) -> Result<(), Fail> {
     let text = read_node(rt.alloc(), &bytes).ok().ok_or("a list")?;
     assert_eq!(rt; (text.first, text.attribute_count, text.flag), (1, 2, true));
     assert!(rt; text.decimals.len() == 0 && text.attributes.len() == 0 && text.markers.len() == 0);
+    Ok(())
+}
+
+/// What settling this list with these options gives.
+fn settled(
+    alloc: Global,
+    text: &[u8],
+    options: GridOptions,
+) -> Result<Result<NodeTable, NodeFault>, Fail> {
+    let mut lines = Lines::new(text);
+    let text = read_node_list(alloc, &mut lines).ok().ok_or("a list")?;
+    Ok(settle(alloc, text, &options))
+}
+
+const PLAIN: GridOptions = GridOptions {
+    decimals: None,
+    halvings: 12,
+};
+
+#[test]
+fn refusals(rt: HostRuntime) -> Result<(), Fail> {
+    let thousandths = GridOptions {
+        decimals: Some(3),
+        halvings: 12,
+    };
+    let units = GridOptions {
+        decimals: Some(0),
+        halvings: 12,
+    };
+    let rows: [(&[u8], GridOptions, Option<NodeFault>); 7] = [
+        (SMALLEST, PLAIN, None),
+        (
+            b"5\n1 0 0 0\n2 1 0 0\n3 0 1 0\n4 0 0 1\n5 1.0 0 0\n",
+            PLAIN,
+            Some(NodeFault::Twin {
+                first: 1,
+                second: 4,
+            }),
+        ),
+        (
+            b"5\n0 0 0 0\n1 1 0 0\n2 0 1 0\n3 0 1 0\n4 1 0 0\n",
+            PLAIN,
+            Some(NodeFault::Twin {
+                first: 2,
+                second: 3,
+            }),
+        ),
+        (
+            b"4\n1 0 0 0\n2 1 0 0\n3 0 1 0\n4 0 0 0.33333333333333331\n",
+            PLAIN,
+            Some(NodeFault::Range { line: 3 }),
+        ),
+        (
+            b"4\n1 0 0 0\n2 1 0 0\n3 0 1 0\n4 0 0 0.33333333333333331\n",
+            thousandths,
+            None,
+        ),
+        (
+            b"2\n1 0 0 0.4\n2 0 0 -0.4\n",
+            units,
+            Some(NodeFault::Twin {
+                first: 0,
+                second: 1,
+            }),
+        ),
+        (
+            b"2\n1 -8388608 0 8388608\n2 0 -8388609 0\n",
+            PLAIN,
+            Some(NodeFault::Range { line: 3 }),
+        ),
+    ];
+    for (text, options, fault) in rows {
+        assert_eq!(rt; settled(rt.alloc(), text, options)?.err(), fault);
+    }
+    Ok(())
+}
+
+#[test]
+fn points_on_a_grid(rt: HostRuntime) -> Result<(), Fail> {
+    let table = settled(rt.alloc(), DECIMALS, PLAIN)?.ok().ok_or("a table")?;
+    assert_eq!(rt; (table.grid.decimals, table.grid.halvings), (2, 12));
+    assert_eq!(rt; table.points.len(), 4);
+    let second = table.points.at(1);
+    assert_eq!(rt; (second.x, second.y, second.z), (-512_000, 0, 0));
+    assert_eq!(rt; (table.attributes.len(), table.markers.len()), (4, 4));
+    Ok(())
+}
+
+#[test]
+fn too_many_points(rt: HostRuntime) -> Result<(), Fail> {
+    let place = Decimal { value: 0, scale: 0 };
+    for count in [64, 65] {
+        let mut decimals = DecimalPoints::new(rt.alloc());
+        for _ in 0..count {
+            let p = DecimalPoint {
+                x: place,
+                y: place,
+                z: place,
+                line: 1,
+            };
+            decimals.push(p).ok().ok_or("memory")?;
+        }
+        let text = NodeText {
+            first: 0,
+            attribute_count: 0,
+            flag: false,
+            decimals,
+            attributes: Words::new(rt.alloc()),
+            markers: Markers::new(rt.alloc()),
+        };
+        let fault = if count > 64 {
+            NodeFault::TooMany { count: 65 }
+        } else {
+            NodeFault::Twin {
+                first: 0,
+                second: 1,
+            }
+        };
+        assert_eq!(rt; settle(rt.alloc(), text, &PLAIN).err(), Some(fault));
+    }
     Ok(())
 }
