@@ -3,3 +3,4 @@ pub mod Attributes
 pub mod Points
 pub mod Tables
 pub mod KnownPlaces
+pub mod Written

@@ -4,3 +4,4 @@ pub mod Point
 pub mod Node
 pub mod Twins
 pub mod Settling
+pub mod Writing

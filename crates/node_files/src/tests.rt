@@ -259,3 +259,15 @@ fn too_many_points(rt: HostRuntime) -> Result<(), Fail> {
     }
     Ok(())
 }
+
+/// The text that writing this list gives, with these points added.
+fn written(
+    alloc: Global,
+    text: &[u8],
+    options: GridOptions,
+    added: &Points,
+    first: u32,
+) -> Result<Bytes, Fail> {
+    let table = settled(alloc, text, options)?.ok().ok_or("a table")?;
+    Ok(write_node(alloc, &table, added, first).ok().ok_or("memory")?)
+}
