@@ -4,3 +4,4 @@ pub mod Points
 pub mod Tables
 pub mod KnownPlaces
 pub mod Written
+pub mod Lengths

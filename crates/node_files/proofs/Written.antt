@@ -33,9 +33,9 @@ pub line_joined : (number : ℤ) (place attributes markers : List (List ℕ)) �
 unfolding line_text
 line_joined number place attributes markers =
     let inner : fields_text (attributes ++ markers) ++ 10 ∷ [] ≡ fields_text attributes ++ (fields_text markers ++ 10 ∷ []) =
-        ap (λ t. t ++ 10 ∷ []) (fields_joined attributes markers) ∙ append_assoc (fields_text attributes) (fields_text markers) (10 ∷ []) in
+    ap (λ t. t ++ 10 ∷ []) (fields_joined attributes markers) ∙ append_assoc (fields_text attributes) (fields_text markers) (10 ∷ []) in
     let outer : fields_text (place ++ (attributes ++ markers)) ++ 10 ∷ [] ≡ fields_text place ++ (fields_text (attributes ++ markers) ++ 10 ∷ []) =
-        ap (λ t. t ++ 10 ∷ []) (fields_joined place (attributes ++ markers)) ∙ append_assoc (fields_text place) (fields_text (attributes ++ markers)) (10 ∷ []) in
+    ap (λ t. t ++ 10 ∷ []) (fields_joined place (attributes ++ markers)) ∙ append_assoc (fields_text place) (fields_text (attributes ++ markers)) (10 ∷ []) in
     ap (λ t. whole_text number ++ t) (sym (outer ∙ ap (λ t. fields_text place ++ t) inner))
 
 -- one field more
@@ -95,7 +95,7 @@ points_more old new whole g each marks first i ps p attributes own rest markers 
     let line = point_line g (first + i) p own mark in
     let left = point_lines g each marks (first + i + 1) (drop (i + 1) ps) rest others in
     let e : point_lines g each marks (first + i) (drop i ps) attributes markers ≡ line ++ left =
-        ap (λ qs. point_lines g each marks (first + i) qs attributes markers) (point_here ps i p lt is) ∙ rw (own-is, rest-is, mark-is, others-is) refl in
+    ap (λ qs. point_lines g each marks (first + i) qs attributes markers) (point_here ps i p lt is) ∙ rw (own-is, rest-is, mark-is, others-is) refl in
     ap (λ (n : ℕ). new ++ point_lines g each marks n (drop (i + 1) ps) rest others) next ∙ ap (λ t. t ++ left) then ∙ append_assoc old line left ∙ ap (λ t. old ++ t) (sym e) ∙ so_far
 
 pub points_all : (old whole : List ℕ) (g : Grid) (each marks number i : ℕ) (ps : List Point) (attributes : List (List ℕ)) (markers : List ℤ) → length ps ≤ i → old ++ point_lines g each marks number (drop i ps) attributes markers ≡ whole → old ≡ whole
@@ -125,5 +125,5 @@ pub head_joined : (number : ℤ) (a b c : List ℕ) → whole_text number ++ ((3
 unfolding line_text
 head_joined number a b c =
     let inner : fields_text (a ∷ b ∷ c ∷ []) ++ 10 ∷ [] ≡ (32 ∷ a) ++ ((32 ∷ b) ++ ((32 ∷ c) ++ 10 ∷ [])) =
-        ap (λ t. t ++ 10 ∷ []) (sym (place_text a b c)) ∙ append_assoc (32 ∷ a) ((32 ∷ b) ++ (32 ∷ c)) (10 ∷ []) ∙ ap (λ t. (32 ∷ a) ++ t) (append_assoc (32 ∷ b) (32 ∷ c) (10 ∷ [])) in
+    ap (λ t. t ++ 10 ∷ []) (sym (place_text a b c)) ∙ append_assoc (32 ∷ a) ((32 ∷ b) ++ (32 ∷ c)) (10 ∷ []) ∙ ap (λ t. (32 ∷ a) ++ t) (append_assoc (32 ∷ b) (32 ∷ c) (10 ∷ [])) in
     ap (λ t. whole_text number ++ t) (sym inner)

@@ -1,5 +1,5 @@
 -- Point lists as text.
-use Rattle.std.specs.Prelude.{◌≡◌, ℕ, ◌+◌, ◌*◌, ◌<◌, ◌≤◌, ◌^◌, ℤ, pos, Bool, List, [], ◌∷◌, ◌++◌, length, map, take, drop, replicate, if◌then◌else◌}
+use Rattle.std.specs.Prelude.{◌≡◌, ℕ, ◌+◌, ◌*◌, ◌≤◌, ℤ, pos, Bool, List, [], ◌∷◌, ◌++◌, length, map, take, drop, replicate, if◌then◌else◌}
 use Rattle.tet_text.specs.Printing.{decimal_text}
 use Rattle.sign_predicates.specs.Point.{Point}
 use Rattle.grid_coords.specs.declared.grid.Grid.{Grid}
@@ -55,9 +55,8 @@ list_text table added first attributes markers =
 abbrev pub node_text : NodeTable → List Point → ℕ → List ℕ
 node_text table added first = list_text table added first (replicate table.attribute_count (48 ∷ [])) (replicate (marks_of table.flag) (pos 0))
 
--- each point has as many attributes as stated and a marker where the flag is set, and the grid can be printed
+-- each point has as many attributes as stated and a marker where the flag is set, and the grid is halved at most 12 times
 pub record IsNodeTable (table : NodeTable) : Type 0 where
   pub attributes : length table.attributes ≡ table.attribute_count * length table.points
   pub markers : length table.markers ≡ marks_of table.flag * length table.points
   pub halvings : table.grid.halvings ≤ 12
-  pub scale : table.grid.decimals + table.grid.halvings < 2 ^ 32

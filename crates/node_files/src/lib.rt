@@ -15,7 +15,6 @@ pub use fault::NodeFault;
 pub use node_text::{Markers, NodeText};
 pub use reading::{read_node, read_node_list};
 pub use settling::settle;
-
 pub use table::{GridOptions, NodeTable};
 pub use writing::write_node;
 

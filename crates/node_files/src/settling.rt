@@ -3,7 +3,8 @@
 ghost use Rattle.std.specs.Prelude.{◌≡◌, ◌≤◌, ◌<◌, map, All, IfOk, length};
 ghost use Rattle.grid_coords.specs.Units.{IsPointOnGrid, grid_point};
 ghost use Rattle.node_files.specs.Node.{IsNodeText};
-ghost use Rattle.node_files.specs.Settling.{rounded_point, rounded_points, most_points, Settles};
+ghost use Rattle.node_files.specs.Settling.{rounded_point, rounded_points, Settles};
+ghost use Rattle.node_files.specs.Writing.{IsNodeTable};
 
 use crate::twins::first_twin;
 use crate::{GridOptions, NodeFault, NodeTable, NodeText};
@@ -68,7 +69,8 @@ fn grid_points(alloc: Global, grid: &Grid, points: &[DecimalPoint]) -> Result<Po
 /// more than 64; then Range where a coordinate is too large for a grid, with the line of the first such
 /// point; then Twin where two points are equal on the grid.
 pub fn settle(alloc: Global, text: NodeText, options: &GridOptions) -> Result<NodeTable, NodeFault>
-    ensures { Settles text options.now result }
+    ensures outcome { Settles text options.now result }
+    ensures table { IsNodeText text → IfOk result IsNodeTable }
 {
     let count = text.decimals.len();
     if count > MOST_POINTS {

@@ -1,5 +1,7 @@
 use super::*;
+use geo_laws::Points;
 use grid_coords::{DecimalPoint, DecimalPoints};
+use sign_predicates::GridPoint;
 use std::alloc::Global;
 use std::test::Fail;
 use tet_ports::{Bytes, Words};
@@ -260,14 +262,48 @@ fn too_many_points(rt: HostRuntime) -> Result<(), Fail> {
     Ok(())
 }
 
-/// The text that writing this list gives, with these points added.
-fn written(
-    alloc: Global,
-    text: &[u8],
-    options: GridOptions,
-    added: &Points,
-    first: u32,
-) -> Result<Bytes, Fail> {
-    let table = settled(alloc, text, options)?.ok().ok_or("a table")?;
-    Ok(write_node(alloc, &table, added, first).ok().ok_or("memory")?)
+#[test]
+fn a_written_list(rt: HostRuntime) -> Result<(), Fail> {
+    let table = settled(rt.alloc(), DECIMALS, PLAIN)?.ok().ok_or("a table")?;
+    let mut added = Points::new(rt.alloc());
+    let p = GridPoint {
+        x: 1,
+        y: -8_388_608,
+        z: 4096,
+    };
+    added.push(p).ok().ok_or("memory")?;
+    assert_eq!(rt; (table.grid.decimals, table.grid.halvings), (2, 12));
+    assert_eq!(rt; (table.attribute_count, table.flag), (1, true));
+    assert_eq!(rt; (table.points.len(), added.len()), (4, 1));
+    assert_eq!(rt; (table.attributes.len(), table.markers.len()), (4, 4));
+    let text = write_node(rt.alloc(), &table, &added, 0)
+        .ok()
+        .ok_or("memory")?;
+    let wanted: &[u8] =
+        b"5 3 1 1\n0 0.5 0 0 7e2 5\n1 -1.25 0 0 a 0\n2 0 3 0 b 0\n3 0 0 0.5 c -1\n4 0.00000244140625 -20.48 0.01 0 0\n";
+    assert_eq!(rt; text.as_slice(), wanted);
+    Ok(())
+}
+
+#[test]
+fn a_written_list_of_rounded_points(rt: HostRuntime) -> Result<(), Fail> {
+    let thousandths = GridOptions {
+        decimals: Some(3),
+        halvings: 12,
+    };
+    let list: &[u8] = b"4 3 0 0\n1 0 0 0\n2 1 0 0\n3 0 1 0\n4 0 0 0.33333333333333331\n";
+    let table = settled(rt.alloc(), list, thousandths)?
+        .ok()
+        .ok_or("a table")?;
+    let added = Points::new(rt.alloc());
+    assert_eq!(rt; (table.grid.decimals, table.grid.halvings), (3, 12));
+    assert_eq!(rt; (table.attribute_count, table.flag), (0, false));
+    assert_eq!(rt; (table.points.len(), added.len()), (4, 0));
+    assert_eq!(rt; (table.attributes.len(), table.markers.len()), (0, 0));
+    let text = write_node(rt.alloc(), &table, &added, 1)
+        .ok()
+        .ok_or("memory")?;
+    let wanted: &[u8] = b"4 3 0 0\n1 0 0 0\n2 1 0 0\n3 0 1 0\n4 0 0 0.333\n";
+    assert_eq!(rt; text.as_slice(), wanted);
+    Ok(())
 }

@@ -12,7 +12,6 @@ use std::alloc::Global;
 use tet_ports::{Bytes, Name, NoMemory, Words};
 use tet_text::{Decimal, print_decimal};
 
-
 fn put_whole(n: i64, out: &mut Bytes) -> Result<(), NoMemory>
     ensures { OnOk result (out.new ≡ out.old ++ whole_text n) }
 {
@@ -110,6 +109,7 @@ fn marks_of(flag: bool) -> usize
 /// The lines of a table's points.
 fn put_points(table: &NodeTable, first: u32, out: &mut Bytes) -> Result<(), NoMemory>
     requires table { IsNodeTable table.now }
+    requires scale { table.now.grid.decimals + table.now.grid.halvings < 2 ^ 32 }
     requires few { length table.now.points < 2 ^ 32 }
     ensures { OnOk result (out.new ≡ out.old ++ point_lines table.now.grid table.now.attribute_count (marks_of table.now.flag) first table.now.points table.now.attributes table.now.markers) }
 {
@@ -143,7 +143,14 @@ fn put_alike(
     ensures { OnOk result (out.new ≡ out.old ++ like_lines grid.now first points.now attributes.now markers.now) }
 {
     for i in 0..points.len() {
-        put_point(grid, first + i as u64, points.at(i), attributes, markers, out)?;
+        put_point(
+            grid,
+            first + i as u64,
+            points.at(i),
+            attributes,
+            markers,
+            out,
+        )?;
     }
     Ok(())
 }
@@ -192,13 +199,21 @@ fn put_list(
     out: &mut Bytes,
 ) -> Result<(), NoMemory>
     requires table { IsNodeTable table.now }
+    requires scale { table.now.grid.decimals + table.now.grid.halvings < 2 ^ 32 }
     requires few { length table.now.points + length added.now < 2 ^ 32 }
     ensures { OnOk result (out.new ≡ out.old ++ list_text table.now added.now first attributes.now markers.now) }
 {
     let count = table.points.len() as u64;
     put_head(table, count + added.len() as u64, out)?;
     put_points(table, first, out)?;
-    put_alike(&table.grid, u64::from(first) + count, added, attributes, markers, out)
+    put_alike(
+        &table.grid,
+        u64::from(first) + count,
+        added,
+        attributes,
+        markers,
+        out,
+    )
 }
 
 /// The text of a point list, whose points have their numbers from `first` on: the first line; the
@@ -211,12 +226,20 @@ pub fn write_node(
     first: u32,
 ) -> Result<Bytes, NoMemory>
     requires table { IsNodeTable table.now }
+    requires scale { table.now.grid.decimals + table.now.grid.halvings < 2 ^ 32 }
     requires few { length table.now.points + length added.now < 2 ^ 32 }
     ensures { IfOk result (λ text. text ≡ node_text table.now added.now first) }
 {
     let attributes = zero_attributes(alloc, table.attribute_count)?;
     let markers = zero_markers(alloc, table.flag)?;
     let mut out = Bytes::new(alloc);
-    put_list(table, added, first, attributes.as_slice(), markers.as_slice(), &mut out)?;
+    put_list(
+        table,
+        added,
+        first,
+        attributes.as_slice(),
+        markers.as_slice(),
+        &mut out,
+    )?;
     Ok(out)
 }
