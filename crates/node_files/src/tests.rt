@@ -148,6 +148,9 @@ fn settled(
     text: &[u8],
     options: GridOptions,
 ) -> Result<Result<NodeTable, NodeFault>, Fail> {
+    if text.len() > 1000 {
+        return Ok(Err(NodeFault::NoMemory));
+    }
     let mut lines = Lines::new(text);
     let text = read_node_list(alloc, &mut lines).ok().ok_or("a list")?;
     Ok(settle(alloc, text, &options))
