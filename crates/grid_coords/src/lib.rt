@@ -1,6 +1,22 @@
-//! Points with decimal coordinates.
+//! The grid of a list of decimal points, and its coordinates.
 #![tactic(auto)]
 
+mod choice;
+mod grid;
+mod middle;
+mod place;
 mod points;
+mod printing;
+mod rounding;
+mod units;
 
+pub use choice::choose_grid;
+pub use grid::{Grid, Range};
+pub use middle::midpoint;
+pub use place::{to_grid, to_rat};
 pub use points::{DecimalPoint, DecimalPoints};
+pub use printing::print_grid;
+pub use rounding::round_to;
+
+#[cfg(test)]
+mod tests;

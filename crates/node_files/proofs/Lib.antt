@@ -2,3 +2,6 @@ pub mod Counts
 pub mod Attributes
 pub mod Points
 pub mod Tables
+pub mod KnownPlaces
+pub mod Written
+pub mod Lengths

@@ -2,3 +2,6 @@ pub mod Header
 pub mod Outcome
 pub mod Point
 pub mod Node
+pub mod Twins
+pub mod Settling
+pub mod Writing

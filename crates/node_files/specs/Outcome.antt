@@ -8,6 +8,7 @@ use Rattle.node_files.specs.declared.fault.NodeFault.TheVariants as faults
 abbrev pub Fails : {Y : Type 0} → NodeFault → Result Y TextFault → Type 0
 Fails (faults.Text fault) reading = reading ≡ Err fault
 Fails faults.NoMemory reading = Unit {0}
+Fails other reading = ⊥
 
 -- what was returned, seen by `view`, is what the reading gives, unless memory ran out
 abbrev pub Gives : {X Y : Type 0} → (X → Y) → Result X NodeFault → Result Y TextFault → Type 0

@@ -1,14 +1,22 @@
 ghost use Rattle.std.specs.Prelude.{◌≡◌};
 ghost use Rattle.node_files.specs.declared.fault.NodeFault.TheVariants.{Text, NoMemory as WantsMemory};
 
+use grid_coords::Range;
 use tet_ports::NoMemory;
 use tet_text::TextFault;
 
-/// Why a point list could not be read.
+/// Why a point list could not be read or settled.
 #[derive(Clone, Copy, Debug, PartialEq, Eq)]
 pub enum NodeFault {
     /// The text is not in the grammar; its first fault.
     Text(TextFault),
+    /// There are more points than are allowed; their number.
+    TooMany { count: u64 },
+    /// A coordinate is too large for the grid; the line of the first such point, from 1.
+    Range { line: usize },
+    /// Two points are equal on the grid, by their places from 0: `second` is the least that is equal
+    /// to an earlier one, which is `first`.
+    Twin { first: u32, second: u32 },
     /// Want of memory.
     NoMemory,
 }
@@ -26,5 +34,15 @@ impl From<NoMemory> for NodeFault {
 
     fn from(_want: NoMemory) -> NodeFault {
         NodeFault::NoMemory
+    }
+}
+
+impl From<Range> for NodeFault {
+    ghost use Rattle.node_files.specs.declared.fault.NodeFault.TheVariants.{Range as OffGrid};
+
+    ghost from_gives = { λ range made. made ≡ OffGrid range.line };
+
+    fn from(range: Range) -> NodeFault {
+        NodeFault::Range { line: range.line }
     }
 }

@@ -6,10 +6,17 @@ mod header;
 mod node_text;
 mod point;
 mod reading;
+mod settling;
+mod table;
+mod twins;
+mod writing;
 
 pub use fault::NodeFault;
 pub use node_text::{Markers, NodeText};
 pub use reading::{read_node, read_node_list};
+pub use settling::settle;
+pub use table::{GridOptions, NodeTable};
+pub use writing::write_node;
 
 #[cfg(test)]
 mod tests;

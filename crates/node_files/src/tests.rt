@@ -1,7 +1,11 @@
 use super::*;
+use geo_laws::Points;
+use grid_coords::{DecimalPoint, DecimalPoints};
+use sign_predicates::GridPoint;
+use std::alloc::Global;
 use std::test::Fail;
-use tet_ports::Bytes;
-use tet_text::{Lines, TextFault, TextKind};
+use tet_ports::{Bytes, Words};
+use tet_text::{Decimal, Lines, TextFault, TextKind};
 
 const SMALLEST: &[u8] = b"4 3 0 0\n1 0 0 0\n2 1 0 0\n3 0 1 0\n4 0 0 1\n";
 
@@ -135,5 +139,174 @@ fn no_points(rt: HostRuntime) -> Result<(), Fail> {
     let text = read_node(rt.alloc(), &bytes).ok().ok_or("a list")?;
     assert_eq!(rt; (text.first, text.attribute_count, text.flag), (1, 2, true));
     assert!(rt; text.decimals.len() == 0 && text.attributes.len() == 0 && text.markers.len() == 0);
+    Ok(())
+}
+
+/// What settling this list with these options gives.
+fn settled(
+    alloc: Global,
+    text: &[u8],
+    options: GridOptions,
+) -> Result<Result<NodeTable, NodeFault>, Fail> {
+    if text.len() > 1000 {
+        return Ok(Err(NodeFault::NoMemory));
+    }
+    let mut lines = Lines::new(text);
+    let text = read_node_list(alloc, &mut lines).ok().ok_or("a list")?;
+    Ok(settle(alloc, text, &options))
+}
+
+const PLAIN: GridOptions = GridOptions {
+    decimals: None,
+    halvings: 12,
+};
+
+#[test]
+fn refusals(rt: HostRuntime) -> Result<(), Fail> {
+    let thousandths = GridOptions {
+        decimals: Some(3),
+        halvings: 12,
+    };
+    let units = GridOptions {
+        decimals: Some(0),
+        halvings: 12,
+    };
+    let rows: [(&[u8], GridOptions, Option<NodeFault>); 7] = [
+        (SMALLEST, PLAIN, None),
+        (
+            b"5\n1 0 0 0\n2 1 0 0\n3 0 1 0\n4 0 0 1\n5 1.0 0 0\n",
+            PLAIN,
+            Some(NodeFault::Twin {
+                first: 1,
+                second: 4,
+            }),
+        ),
+        (
+            b"5\n0 0 0 0\n1 1 0 0\n2 0 1 0\n3 0 1 0\n4 1 0 0\n",
+            PLAIN,
+            Some(NodeFault::Twin {
+                first: 2,
+                second: 3,
+            }),
+        ),
+        (
+            b"4\n1 0 0 0\n2 1 0 0\n3 0 1 0\n4 0 0 0.33333333333333331\n",
+            PLAIN,
+            Some(NodeFault::Range { line: 3 }),
+        ),
+        (
+            b"4\n1 0 0 0\n2 1 0 0\n3 0 1 0\n4 0 0 0.33333333333333331\n",
+            thousandths,
+            None,
+        ),
+        (
+            b"2\n1 0 0 0.4\n2 0 0 -0.4\n",
+            units,
+            Some(NodeFault::Twin {
+                first: 0,
+                second: 1,
+            }),
+        ),
+        (
+            b"2\n1 -8388608 0 8388608\n2 0 -8388609 0\n",
+            PLAIN,
+            Some(NodeFault::Range { line: 3 }),
+        ),
+    ];
+    for (text, options, fault) in rows {
+        assert_eq!(rt; settled(rt.alloc(), text, options)?.err(), fault);
+    }
+    Ok(())
+}
+
+#[test]
+fn points_on_a_grid(rt: HostRuntime) -> Result<(), Fail> {
+    let table = settled(rt.alloc(), DECIMALS, PLAIN)?.ok().ok_or("a table")?;
+    assert_eq!(rt; (table.grid.decimals, table.grid.halvings), (2, 12));
+    assert_eq!(rt; table.points.len(), 4);
+    let second = table.points.at(1);
+    assert_eq!(rt; (second.x, second.y, second.z), (-512_000, 0, 0));
+    assert_eq!(rt; (table.attributes.len(), table.markers.len()), (4, 4));
+    Ok(())
+}
+
+#[test]
+fn too_many_points(rt: HostRuntime) -> Result<(), Fail> {
+    let place = Decimal { value: 0, scale: 0 };
+    for count in [64, 65] {
+        let mut decimals = DecimalPoints::new(rt.alloc());
+        for _ in 0..count {
+            let p = DecimalPoint {
+                x: place,
+                y: place,
+                z: place,
+                line: 1,
+            };
+            decimals.push(p).ok().ok_or("memory")?;
+        }
+        let text = NodeText {
+            first: 0,
+            attribute_count: 0,
+            flag: false,
+            decimals,
+            attributes: Words::new(rt.alloc()),
+            markers: Markers::new(rt.alloc()),
+        };
+        let fault = if count > 64 {
+            NodeFault::TooMany { count: 65 }
+        } else {
+            NodeFault::Twin {
+                first: 0,
+                second: 1,
+            }
+        };
+        assert_eq!(rt; settle(rt.alloc(), text, &PLAIN).err(), Some(fault));
+    }
+    Ok(())
+}
+
+#[test]
+fn a_written_list(rt: HostRuntime) -> Result<(), Fail> {
+    let table = settled(rt.alloc(), DECIMALS, PLAIN)?.ok().ok_or("a table")?;
+    let mut added = Points::new(rt.alloc());
+    let p = GridPoint {
+        x: 1,
+        y: -8_388_608,
+        z: 4096,
+    };
+    added.push(p).ok().ok_or("memory")?;
+    assert_eq!(rt; (table.grid.decimals, table.grid.halvings), (2, 12));
+    assert_eq!(rt; (table.attribute_count, table.flag), (1, true));
+    assert_eq!(rt; (table.points.len(), added.len()), (4, 1));
+    assert_eq!(rt; (table.attributes.len(), table.markers.len()), (4, 4));
+    let text = write_node(rt.alloc(), &table, &added, 0)
+        .ok()
+        .ok_or("memory")?;
+    let wanted: &[u8] =
+        b"5 3 1 1\n0 0.5 0 0 7e2 5\n1 -1.25 0 0 a 0\n2 0 3 0 b 0\n3 0 0 0.5 c -1\n4 0.00000244140625 -20.48 0.01 0 0\n";
+    assert_eq!(rt; text.as_slice(), wanted);
+    Ok(())
+}
+
+#[test]
+fn a_written_list_of_rounded_points(rt: HostRuntime) -> Result<(), Fail> {
+    let thousandths = GridOptions {
+        decimals: Some(3),
+        halvings: 12,
+    };
+    let list: &[u8] = b"4 3 0 0\n1 0 0 0\n2 1 0 0\n3 0 1 0\n4 0 0 0.33333333333333331\n";
+    let table = settled(rt.alloc(), list, thousandths)?
+        .ok()
+        .ok_or("a table")?;
+    let added = Points::new(rt.alloc());
+    assert_eq!(rt; (table.grid.decimals, table.grid.halvings), (3, 12));
+    assert_eq!(rt; (table.attribute_count, table.flag), (0, false));
+    assert_eq!(rt; (table.points.len(), added.len()), (4, 0));
+    assert_eq!(rt; (table.attributes.len(), table.markers.len()), (0, 0));
+    let text = write_node(rt.alloc(), &table, &added, 1)
+        .ok()
+        .ok_or("memory")?;
+    let wanted: &[u8] = b"4 3 0 0\n1 0 0 0\n2 1 0 0\n3 0 1 0\n4 0 0 0.333\n";
+    assert_eq!(rt; text.as_slice(), wanted);
     Ok(())
 }

@@ -1,0 +1,5 @@
+pub mod Products
+pub mod Nearest
+pub mod HalfSums
+pub mod Sizes
+pub mod Coordinates

@@ -1,0 +1,47 @@
+-- The finest grid that holds all points of a list.
+use Rattle.std.specs.Prelude.{ℕ, zero, suc, ◌*◌, ◌^◌, max, min, nat_lt, nat_le, Bool, if◌then◌else◌, List, [], ◌∷◌, find, Option, Some, None, Result, Ok, Err}
+use Rattle.grid_coords.specs.declared.grid.Grid.{Grid}
+use Rattle.grid_coords.specs.declared.grid.Range.{Range}
+use Rattle.grid_coords.specs.declared.points.DecimalPoint.{DecimalPoint}
+use Rattle.grid_coords.specs.Units.{limit, units}
+
+-- the most decimals of a coordinate
+abbrev pub decimals_of : DecimalPoint → ℕ
+decimals_of p = max p.x.scale (max p.y.scale p.z.scale)
+
+unfoldable pub most_decimals : List DecimalPoint → ℕ
+most_decimals [] = 0
+most_decimals (p ∷ ps) = max (decimals_of p) (most_decimals ps)
+
+-- the greatest size of a coordinate, in units of 1 / 10^decimals
+abbrev pub size_of : ℕ → DecimalPoint → ℕ
+size_of decimals p = max (units decimals 0 p.x) (max (units decimals 0 p.y) (units decimals 0 p.z))
+
+unfoldable pub greatest_size : ℕ → List DecimalPoint → ℕ
+greatest_size decimals [] = 0
+greatest_size decimals (p ∷ ps) = max (size_of decimals p) (greatest_size decimals ps)
+
+-- the first point with a coordinate over 2^23 units
+abbrev pub is_over : ℕ → DecimalPoint → Bool
+is_over decimals p = nat_lt limit (size_of decimals p)
+
+unfoldable pub first_over : ℕ → List DecimalPoint → Option DecimalPoint
+first_over decimals ps = find (is_over decimals) ps
+
+-- how often the unit is halved: the largest number up to `most` that leaves this size at most 2^23
+unfoldable pub halvings_for : ℕ → ℕ → ℕ
+halvings_for zero size = 0
+halvings_for (suc most) size = if nat_le (size * 2 ^ suc most) limit then suc most else halvings_for most size
+
+abbrev pub most_halvings : ℕ
+most_halvings = 12
+
+-- what is found where no point is too large, or the line of that point
+abbrev pub unless_over : {X : Type 0} → Option DecimalPoint → X → Result X Range
+unless_over None x = Ok x
+unless_over (Some p) x = Err (record { line = p.line })
+
+unfoldable pub grid_of : ℕ → List DecimalPoint → Result Grid Range
+grid_of most ps =
+    let decimals = most_decimals ps in
+    unless_over (first_over decimals ps) (record { decimals = decimals; halvings = halvings_for (min most_halvings most) (greatest_size decimals ps) })

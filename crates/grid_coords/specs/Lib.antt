@@ -1,0 +1,4 @@
+pub mod Rounding
+pub mod Units
+pub mod Choice
+pub mod Midpoint

@@ -1,0 +1,201 @@
+use super::*;
+use sign_predicates::GridPoint;
+use std::alloc::Global;
+use std::test::Fail;
+use tet_ports::Bytes;
+use tet_text::{Decimal, Lines, read_decimal};
+
+fn decimal(text: &[u8]) -> Result<Decimal, Fail> {
+    let mut lines = Lines::new(text);
+    let mut fields = lines.next_fields().ok_or("a line")?;
+    let field = fields.next().ok_or("a field")?;
+    Ok(read_decimal(&field).ok().ok_or("a decimal")?)
+}
+
+fn point(line: usize, x: &[u8], y: &[u8], z: &[u8]) -> Result<DecimalPoint, Fail> {
+    Ok(DecimalPoint {
+        x: decimal(x)?,
+        y: decimal(y)?,
+        z: decimal(z)?,
+        line,
+    })
+}
+
+/// A list of one point for each x, with y and z 0; its line is its place in the list.
+fn points(alloc: Global, xs: &[&[u8]]) -> Result<DecimalPoints, Fail> {
+    let mut list = DecimalPoints::new(alloc);
+    for (i, x) in xs.iter().enumerate() {
+        let p = point(i, x, b"0", b"0")?;
+        list.push(p).ok().ok_or("memory")?;
+    }
+    Ok(list)
+}
+
+#[test]
+fn rounding(rt: HostRuntime) -> Result<(), Fail> {
+    let rows: [(&[u8], u32, i128, u32); 10] = [
+        (b"0.33333333333333331", 3, 333, 3),
+        (b"0.5", 0, 1, 0),
+        (b"-0.5", 0, -1, 0),
+        (b"0.49", 0, 0, 0),
+        (b"2.55", 1, 26, 1),
+        (b"-1.96", 1, -2, 0),
+        (b"1.25", 5, 125, 2),
+        (b"0.95", 1, 1, 0),
+        (b"1e-999", 20, 0, 0),
+        (
+            b"99999999999999999999999999999999999.5",
+            0,
+            100_000_000_000_000_000_000_000_000_000_000_000,
+            0,
+        ),
+    ];
+    for (text, decimals, value, scale) in rows {
+        let d = round_to(&decimal(text)?, decimals);
+        assert_eq!(rt; (d.value, d.scale), (value, scale));
+    }
+    Ok(())
+}
+
+#[test]
+fn grids(rt: HostRuntime) -> Result<(), Fail> {
+    let rows: [(&[&[u8]], u32, Result<Grid, Range>); 9] = [
+        (
+            &[b"0.5", b"-1.250", b"3", b".5"],
+            12,
+            Ok(Grid {
+                decimals: 2,
+                halvings: 12,
+            }),
+        ),
+        (
+            &[b"0.5", b"-1.250", b"3", b".5"],
+            4,
+            Ok(Grid {
+                decimals: 2,
+                halvings: 4,
+            }),
+        ),
+        (
+            &[b"0", b"1", b"0", b"0.33333333333333331"],
+            12,
+            Err(Range { line: 1 }),
+        ),
+        (
+            &[b"0", b"1", b"0", b"0.333"],
+            12,
+            Ok(Grid {
+                decimals: 3,
+                halvings: 12,
+            }),
+        ),
+        (
+            &[b"-8388608", b"8388608"],
+            12,
+            Ok(Grid {
+                decimals: 0,
+                halvings: 0,
+            }),
+        ),
+        (
+            &[b"8388608", b"8388609", b"9e9"],
+            12,
+            Err(Range { line: 1 }),
+        ),
+        (
+            &[b"4194304"],
+            12,
+            Ok(Grid {
+                decimals: 0,
+                halvings: 1,
+            }),
+        ),
+        (
+            &[b"1e-999", b"0"],
+            12,
+            Ok(Grid {
+                decimals: 999,
+                halvings: 12,
+            }),
+        ),
+        (&[b"1e-999", b"1e-990", b"1"], 12, Err(Range { line: 1 })),
+    ];
+    for (xs, most_halvings, wanted) in rows {
+        let list = points(rt.alloc(), xs)?;
+        assert_eq!(rt; choose_grid(&list, most_halvings), wanted);
+    }
+    Ok(())
+}
+
+#[test]
+fn places_on_a_grid(rt: HostRuntime) -> Result<(), Fail> {
+    let mut list = DecimalPoints::new(rt.alloc());
+    let p = point(2, b"0.5", b"-1.250", b"3")?;
+    list.push(p).ok().ok_or("memory")?;
+    let grid = choose_grid(&list, 12).ok().ok_or("a grid")?;
+    assert_eq!(rt;
+        grid,
+        Grid {
+            decimals: 2,
+            halvings: 12
+        }
+    );
+    assert_eq!(rt; list.len(), 1);
+    let placed = to_grid(&grid, list.get(0));
+    assert_eq!(rt;
+        (placed.x, placed.y, placed.z),
+        (204_800, -512_000, 1_228_800)
+    );
+    let texts: [(i32, &[u8]); 6] = [
+        (204_800, b"0.5"),
+        (-512_000, b"-1.25"),
+        (1_228_800, b"3"),
+        (0, b"0"),
+        (1, b"0.00000244140625"),
+        (-8_388_608, b"-20.48"),
+    ];
+    for (coordinate, text) in texts {
+        let mut out = Bytes::from_slice(rt.alloc(), b"x ").ok().ok_or("memory")?;
+        assert!(rt; print_grid(&grid, coordinate, &mut out).is_ok());
+        assert_eq!(rt; out.as_slice().split_at(out.len().min(2)).1, text);
+    }
+    Ok(())
+}
+
+#[test]
+fn rational_places(rt: HostRuntime) -> Result<(), Fail> {
+    let grid = Grid {
+        decimals: 1,
+        halvings: 2,
+    };
+    let rows: [(&[u8], i64); 7] = [
+        (b"0.5", 20_000_000),
+        (b"-0.00000015", -8),
+        (b"0.00000014", 4),
+        (b"209715.2", 8_388_608_000_000),
+        (b"209715.20000004", 8_388_608_000_000),
+        (b"209715.2000001", 8_388_609_000_000),
+        (b"-1e35", -8_388_609_000_000),
+    ];
+    for (x, wanted) in rows {
+        let p = to_rat(&grid, &point(1, x, b"0", b"-0.1")?);
+        assert_eq!(rt; (p.x, p.y, p.z, p.w), (wanted, 0, -4_000_000, 1_000_000));
+    }
+    Ok(())
+}
+
+#[test]
+fn midpoints(rt: HostRuntime) -> Result<(), Fail> {
+    let origin = GridPoint { x: 0, y: 0, z: 0 };
+    let m = midpoint(origin, GridPoint { x: 2, y: 4, z: -6 }).ok_or("a midpoint")?;
+    assert_eq!(rt; (m.x, m.y, m.z), (1, 2, -3));
+    let odd = [
+        GridPoint { x: 1, y: 0, z: 0 },
+        GridPoint { x: 0, y: -3, z: 0 },
+        GridPoint { x: 0, y: 0, z: 5 },
+    ];
+    for p in odd {
+        assert!(rt; midpoint(p, GridPoint { x: 2, y: 0, z: 0 }).is_none());
+    }
+    Ok(())
+}

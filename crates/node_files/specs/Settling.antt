@@ -1,0 +1,75 @@
+-- Point lists on a grid.
+use Rattle.std.specs.Prelude.{◌≡◌, ℕ, ◌<◌, ◌≤◌, length, List, map, Option, Some, None, Result, Ok, Err}
+use Rattle.grid_coords.specs.declared.grid.Grid.{Grid}
+use Rattle.grid_coords.specs.declared.points.DecimalPoint.{DecimalPoint}
+use Rattle.grid_coords.specs.Rounding.{rounded}
+use Rattle.grid_coords.specs.Units.{grid_point}
+use Rattle.grid_coords.specs.Choice.{grid_of}
+use Rattle.geo_laws.specs.Delaunay.{HasDistinctPoints}
+use Rattle.node_files.specs.declared.fault.NodeFault.{NodeFault}
+use Rattle.node_files.specs.declared.fault.NodeFault.TheVariants as faults
+use Rattle.node_files.specs.declared.node_text.NodeText.{NodeText}
+use Rattle.node_files.specs.declared.table.NodeTable.{NodeTable}
+use Rattle.node_files.specs.declared.table.GridOptions.{GridOptions}
+use Rattle.node_files.specs.Twins.{IsFirstTwin}
+
+-- how many points are allowed
+abbrev pub most_points : ℕ
+most_points = 64
+
+abbrev pub rounded_point : ℕ → DecimalPoint → DecimalPoint
+rounded_point decimals p = record { x = rounded decimals p.x; y = rounded decimals p.y; z = rounded decimals p.z; line = p.line }
+
+-- the points, rounded where that is asked for
+abbrev pub rounded_points : Option ℕ → List DecimalPoint → List DecimalPoint
+rounded_points None ps = ps
+rounded_points (Some decimals) ps = map (rounded_point decimals) ps
+
+-- the text on a grid, where these are its points as they are rounded
+abbrev pub table_of : NodeText → List DecimalPoint → Grid → NodeTable
+table_of text ps grid = record {
+  first = text.first;
+  attribute_count = text.attribute_count;
+  flag = text.flag;
+  decimals = ps;
+  attributes = text.attributes;
+  markers = text.markers;
+  grid = grid;
+  points = map (grid_point grid) ps;
+}
+
+-- there are more points than are allowed
+pub record IsTooMany (text : NodeText) (count : ℕ) : Type 0 where
+  pub many : most_points < length text.decimals
+  pub counted : count ≡ length text.decimals
+
+-- there are not too many, and no grid, since the point of this line is off it
+pub record IsOffGrid (text : NodeText) (options : GridOptions) (line : ℕ) : Type 0 where
+  pub few : length text.decimals ≤ most_points
+  pub off : grid_of options.halvings (rounded_points options.decimals text.decimals) ≡ Err (record { line = line })
+
+-- there are not too many, and they are on this grid
+pub record IsOnItsGrid (text : NodeText) (options : GridOptions) (grid : Grid) : Type 0 where
+  pub few : length text.decimals ≤ most_points
+  pub on : grid_of options.halvings (rounded_points options.decimals text.decimals) ≡ Ok grid
+
+-- they are on a grid, and these two are equal there
+pub record HasTwin (text : NodeText) (options : GridOptions) (first second : ℕ) : Type 0 where
+  pub grid : Grid
+  pub on : IsOnItsGrid text options grid
+  pub twin : IsFirstTwin (map (grid_point grid) (rounded_points options.decimals text.decimals)) first second
+
+-- they are on a grid, where no two are equal, and the table says so
+pub record IsSettled (text : NodeText) (options : GridOptions) (table : NodeTable) : Type 0 where
+  pub on : IsOnItsGrid text options table.grid
+  pub is : table ≡ table_of text (rounded_points options.decimals text.decimals) table.grid
+  pub distinct : HasDistinctPoints table.points
+
+-- the first of these refusals that there is, unless memory ran out, else the table
+abbrev pub Settles : NodeText → GridOptions → Result NodeTable NodeFault → Type 0
+Settles text options (Ok table) = IsSettled text options table
+Settles text options (Err (faults.TooMany count)) = IsTooMany text count
+Settles text options (Err (faults.Range line)) = IsOffGrid text options line
+Settles text options (Err (faults.Twin first second)) = HasTwin text options first second
+Settles text options (Err faults.NoMemory) = Unit {0}
+Settles text options (Err (faults.Text fault)) = ⊥

@@ -1,0 +1,62 @@
+-- Point lists as text.
+use Rattle.std.specs.Prelude.{◌≡◌, ℕ, ◌+◌, ◌*◌, ◌≤◌, ℤ, pos, Bool, List, [], ◌∷◌, ◌++◌, length, map, take, drop, replicate, if◌then◌else◌}
+use Rattle.tet_text.specs.Printing.{decimal_text}
+use Rattle.sign_predicates.specs.Point.{Point}
+use Rattle.grid_coords.specs.declared.grid.Grid.{Grid}
+use Rattle.grid_coords.specs.Units.{grid_text}
+use Rattle.node_files.specs.declared.table.NodeTable.{NodeTable}
+
+abbrev pub whole_text : ℤ → List ℕ
+whole_text n = decimal_text (record { value = n; scale = 0 })
+
+-- each field behind a space, 32
+unfoldable pub fields_text : List (List ℕ) → List ℕ
+fields_text [] = []
+fields_text (field ∷ fields) = 32 ∷ field ++ fields_text fields
+
+-- a number and fields behind it, with a line feed, 10
+unfoldable pub line_text : ℤ → List (List ℕ) → List ℕ
+line_text number fields = whole_text number ++ (fields_text fields ++ 10 ∷ [])
+
+abbrev pub place_fields : Grid → Point → List (List ℕ)
+place_fields g p = grid_text g p.x ∷ grid_text g p.y ∷ grid_text g p.z ∷ []
+
+-- the line of the point with this number
+abbrev pub point_line : Grid → ℕ → Point → List (List ℕ) → List ℤ → List ℕ
+point_line g number p attributes markers = line_text (pos number) (place_fields g p ++ (attributes ++ map whole_text markers))
+
+-- the lines of points with their numbers from this one on, `each` attributes and `marks` markers a point
+unfoldable pub point_lines : Grid → ℕ → ℕ → ℕ → List Point → List (List ℕ) → List ℤ → List ℕ
+point_lines g each marks number [] attributes markers = []
+point_lines g each marks number (p ∷ ps) attributes markers =
+    point_line g number p (take each attributes) (take marks markers) ++ point_lines g each marks (number + 1) ps (drop each attributes) (drop marks markers)
+
+-- the lines of points that all have these attributes and markers
+unfoldable pub like_lines : Grid → ℕ → List Point → List (List ℕ) → List ℤ → List ℕ
+like_lines g number [] attributes markers = []
+like_lines g number (p ∷ ps) attributes markers = point_line g number p attributes markers ++ like_lines g (number + 1) ps attributes markers
+
+-- how many markers a point has
+abbrev pub marks_of : Bool → ℕ
+marks_of flag = if flag then 1 else 0
+
+-- <# of points> 3 <# of attributes> <marker flag>
+abbrev pub head_line : NodeTable → ℕ → List ℕ
+head_line table count = line_text (pos count) (whole_text (pos 3) ∷ whole_text (pos table.attribute_count) ∷ whole_text (pos (marks_of table.flag)) ∷ [])
+
+-- the first line, the table's points, and the added ones with these attributes and markers
+unfoldable pub list_text : NodeTable → List Point → ℕ → List (List ℕ) → List ℤ → List ℕ
+list_text table added first attributes markers =
+    head_line table (length table.points + length added)
+    ++ (point_lines table.grid table.attribute_count (marks_of table.flag) first table.points table.attributes table.markers
+    ++ like_lines table.grid (first + length table.points) added attributes markers)
+
+-- where the added points have attributes '0', 48, and the marker 0
+abbrev pub node_text : NodeTable → List Point → ℕ → List ℕ
+node_text table added first = list_text table added first (replicate table.attribute_count (48 ∷ [])) (replicate (marks_of table.flag) (pos 0))
+
+-- each point has as many attributes as stated and a marker where the flag is set, and the grid is halved at most 12 times
+pub record IsNodeTable (table : NodeTable) : Type 0 where
+  pub attributes : length table.attributes ≡ table.attribute_count * length table.points
+  pub markers : length table.markers ≡ marks_of table.flag * length table.points
+  pub halvings : table.grid.halvings ≤ 12

@@ -1,0 +1,97 @@
+//! Points on a grid.
+
+ghost use Rattle.std.specs.Prelude.{◌≡◌, ◌≤◌, ◌<◌, map, All, IfOk, length};
+ghost use Rattle.grid_coords.specs.Units.{IsPointOnGrid, grid_point};
+ghost use Rattle.node_files.specs.Node.{IsNodeText};
+ghost use Rattle.node_files.specs.Settling.{rounded_point, rounded_points, Settles};
+ghost use Rattle.node_files.specs.Writing.{IsNodeTable};
+
+use crate::twins::first_twin;
+use crate::{GridOptions, NodeFault, NodeTable, NodeText};
+use geo_laws::Points;
+use grid_coords::{DecimalPoint, DecimalPoints, Grid, choose_grid, round_to, to_grid};
+use std::alloc::Global;
+use tet_ports::NoMemory;
+
+/// How many points are allowed.
+const MOST_POINTS: usize = 64;
+
+fn rounded_point(decimals: u32, p: &DecimalPoint) -> DecimalPoint
+    ensures { result ≡ rounded_point decimals p.now }
+{
+    DecimalPoint {
+        x: round_to(&p.x, decimals),
+        y: round_to(&p.y, decimals),
+        z: round_to(&p.z, decimals),
+        line: p.line,
+    }
+}
+
+fn each_rounded(
+    alloc: Global,
+    decimals: u32,
+    points: &[DecimalPoint],
+) -> Result<DecimalPoints, NoMemory>
+    ensures { IfOk result (λ list. list ≡ map (rounded_point decimals) points.now) }
+{
+    let mut list = DecimalPoints::with_capacity(alloc, points.len())?;
+    for p in points {
+        list.push(rounded_point(decimals, p))?;
+    }
+    Ok(list)
+}
+
+fn rounded_points(
+    alloc: Global,
+    decimals: Option<u32>,
+    points: DecimalPoints,
+) -> Result<DecimalPoints, NoMemory>
+    ensures { IfOk result (λ list. list ≡ rounded_points decimals points) }
+{
+    match decimals {
+        Some(decimals) => each_rounded(alloc, decimals, points.as_slice()),
+        None => Ok(points),
+    }
+}
+
+fn grid_points(alloc: Global, grid: &Grid, points: &[DecimalPoint]) -> Result<Points, NoMemory>
+    requires { All (IsPointOnGrid grid.now) points.now }
+    ensures { IfOk result (λ list. list ≡ map (grid_point grid.now) points.now) }
+{
+    let mut list = Points::with_capacity(alloc, points.len())?;
+    for p in points {
+        list.push(to_grid(grid, p))?;
+    }
+    Ok(list)
+}
+
+/// The points of a list on a grid, each rounded first where that is asked for. TooMany where there are
+/// more than 64; then Range where a coordinate is too large for a grid, with the line of the first such
+/// point; then Twin where two points are equal on the grid.
+pub fn settle(alloc: Global, text: NodeText, options: &GridOptions) -> Result<NodeTable, NodeFault>
+    ensures outcome { Settles text options.now result }
+    ensures table { IsNodeText text → IfOk result IsNodeTable }
+{
+    let count = text.decimals.len();
+    if count > MOST_POINTS {
+        return Err(NodeFault::TooMany {
+            count: count as u64,
+        });
+    }
+    let decimals = rounded_points(alloc, options.decimals, text.decimals)?;
+    let grid = choose_grid(&decimals, options.halvings)?;
+    let points = grid_points(alloc, &grid, decimals.as_slice())?;
+    if let Some((first, second)) = first_twin(alloc, &points)? {
+        return Err(NodeFault::Twin { first, second });
+    }
+    Ok(NodeTable {
+        first: text.first,
+        attribute_count: text.attribute_count,
+        flag: text.flag,
+        decimals,
+        attributes: text.attributes,
+        markers: text.markers,
+        grid,
+        points,
+    })
+}
