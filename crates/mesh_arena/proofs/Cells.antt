@@ -331,7 +331,7 @@ Behind-read cells s i c two mesh some read found =
     record { was = was; slot = cell.0; face = there.1 }
 
 -- the neighbor of a live slot is live
-pub next_live : (cells : List Cell) (s i : ℕ) (c : Cell) (two : Side) → IsMesh (map tet_of cells) → IsSome (corners_at (map tet_of cells) s) → i < 4 → c ≡ get_or cells s c → get_or c.sides i None ≡ Some two → IsSome (corners_at (map tet_of cells) two.slot)
+pub next_live : (cells : List Cell) (s i : ℕ) (c : Cell) (two : Side) → IsMesh (map tet_of cells) → IsSome (corners_at (map tet_of cells) s) → i < 4 → c ≡ get_or cells s c → get_or c.sides i None ≡ Some two → IsSome (corners_at (map tet_of cells) two.slot) × (two.face < 4)
 next_live cells s i c two mesh live face read found =
     let was : side (map tet_of cells) s i ≡ Some two = sym (side_read cells s i c None mesh.shaped live face read) ∙ found in
-    (side_live (map tet_of cells) two.slot two.face (at s i) mesh.shaped (mesh.back s i two was)).0
+    side_live (map tet_of cells) two.slot two.face (at s i) mesh.shaped (mesh.back s i two was)

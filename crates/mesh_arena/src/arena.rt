@@ -104,7 +104,8 @@ impl Arena {
     pub fn across(&self, s: Slot, face: u8) -> Option<RimFace>
         requires live { IsLive self.now.slots s.index }
         requires face { face < 4 }
-        ensures { option_map (λ f. at f.slot.index f.face) result ≡ side self.now.slots s.index face }
+        ensures value { option_map (λ f. at f.slot.index f.face) result ≡ side self.now.slots s.index face }
+        ensures live { IfSome result (λ f. IsLive self.now.slots f.slot.index × (f.face < 4)) }
     {
         match self.cells[s.index].sides[face as usize] {
             Some(side) => Some(RimFace {
