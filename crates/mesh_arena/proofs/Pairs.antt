@@ -1,5 +1,5 @@
 -- That each face of a star's slot has a mate.
-use Rattle.std.proofs.Common.{◌≡◌, ◌≢◌, ◌⊎◌, ℕ, ◌-◌, ◌<◌, List, length, Option, Some, None, IsSome, refl, sym, ap, subst, ◌∙◌, inl, inr, arith}
+use Rattle.std.proofs.Common.{◌≡◌, ◌≢◌, ◌⊎◌, ℕ, ◌-◌, ◌<◌, ◌≤◌, List, length, Option, Some, None, IsSome, refl, sym, ap, subst, ◌∙◌, inl, inr, arith}
 use Rattle.std.proofs.lemmas.Bool.{cases_eq}
 use Rattle.mesh_arena.specs.declared.slot.Corner.{Corner}
 use Rattle.mesh_arena.specs.declared.arena.Side.{Side}
@@ -299,3 +299,29 @@ module _ (first now next : List (Option Tet)) (rim : List RimFace) (p : Corner) 
 pub LinksStar-none : (slots : List (Option Tet)) (rim : List RimFace) (p : Corner) → IsStar slots rim p → LinksStar slots slots rim p 0
 LinksStar-none slots rim p star =
     record { len = refl; corners = λ u. refl; star = star; sides = λ u m away. refl; linked = λ q m h. absurd (omega arith) }
+
+-- one more link
+pub LinksStar-face : (old new : List (Option Tet)) (rim : List RimFace) (p : Corner) (r k : ℕ) → LinksFace old new rim p r k → LinksStar old new rim p 0
+LinksStar-face old new rim p r k one =
+    record { len = one.len; corners = one.corners; star = one.star; sides = one.sides; linked = λ q m h. absurd (omega arith) }
+
+-- links after links
+pub LinksStar-then : (first mid next : List (Option Tet)) (rim : List RimFace) (p : Corner) (m n : ℕ) → IsStar first rim p → n ≤ length rim → LinksStar first mid rim p m → LinksStar mid next rim p n → LinksStar first next rim p n
+LinksStar-then first mid next rim p m n star few one two =
+    record {
+      len = two.len ∙ one.len;
+      corners = λ u. two.corners u ∙ one.corners u;
+      star = two.star;
+      sides = λ u k away. two.sides u k (λ q lt e. away q lt (ap (λ (b : Side). b.slot) (sym (kept q lt)) ∙ e)) ∙ one.sides u k away;
+      linked = λ q k lt k4. subst (λ (b : Side). IsSome (side next b.slot k)) (kept q (omega arith)) (two.linked q k lt k4);
+    }
+  where
+    kept : (t : ℕ) → t < length rim → behind_rim mid rim t ≡ behind_rim first rim t
+    kept t lt = ap behind (one.sides _ _ (λ q qlt e. star.outside q t qlt lt e))
+
+-- two faces with the same corners are linked
+pub LinksStar-mates : (old new : List (Option Tet)) (rim : List RimFace) (p : Corner) (r k q j s t : ℕ) → IsMesh old → IsStar old rim p → r < length rim → q < length rim → q ≢ r → j < 4 → s ≡ (behind_rim old rim r).slot → t ≡ (behind_rim old rim q).slot → side old t j ≡ None → SameFace old s k t j → Links old new s k t j → LinksStar old new rim p 0
+LinksStar-mates old new rim p r k q j s t mesh star hr hq differs j4 es et free same links =
+    let two : Side = at t j in
+    let mate : Mate old rim r k two = record { face = q; inside = hq; differs = differs; slot = et; below = j4; free = free; same = subst (λ n. SameFace old n k t j) es same } in
+    LinksStar-face old new rim p r k (LinksFace-links old new rim p mesh star r k hr two mate (subst (λ n. Links old new n k t j) es links))

@@ -2,6 +2,7 @@
 ghost use Rattle.std.specs.Prelude.{◌≡◌, ◌≢◌, ℕ, ◌+◌, ◌<◌, ◌≤◌, [], length, Some, None, IsSome, IfSome, IsOk, IfOk, OnOk, OnErr, MatchOption, option_map};
 ghost use Rattle.mesh_arena.specs.Mesh.{tet_at, corners_at, IsLive, at, side, corner_list, AllDiffer, SameFace, IsMesh, Links, Unlinks, Takes, Frees};
 
+use crate::edges::EdgeTable;
 use crate::{Corner, RimFace, Slot, SlotCorners};
 use std::alloc::Global;
 use std::marker::Model;
@@ -31,6 +32,8 @@ pub struct Arena {
     live: usize,
     // The first free cell, or `cells.len()` where there is none.
     next: usize,
+    // Finds the faces of a star that are to be linked.
+    pub(crate) edges: EdgeTable,
 }
 
 impl Model for Arena {
@@ -55,6 +58,7 @@ impl Arena {
             cells: Vec::new(alloc),
             live: 0,
             next: 0,
+            edges: EdgeTable::new(alloc),
         }
     }
 

@@ -5,6 +5,7 @@
 #![tactic(auto)]
 
 mod arena;
+mod edges;
 mod slot;
 mod surgery;
 

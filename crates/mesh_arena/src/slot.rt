@@ -3,6 +3,7 @@ ghost use Rattle.std.specs.Prelude.{◌≡◌, ◌<◌, ◌↔◌, IsTrue, slice
 ghost use Rattle.mesh_arena.specs.Mesh.{corner_list};
 ghost use Rattle.mesh_arena.specs.StarLinks.{CornerValue, Has};
 
+use crate::edges::Edge;
 use tet_ports::Items;
 
 /// A corner of a slot: a point by its number, or the point at infinity, which makes the slot a hull ghost.
@@ -74,4 +75,26 @@ pub(crate) fn with_corner(corners: SlotCorners, place: u8, to: Corner) -> SlotCo
     all[place as usize] = to;
     let [a, b, c, d] = all;
     SlotCorners { a, b, c, d }
+}
+
+// The number of a corner, or the greatest number for the point at infinity.
+fn corner_number(corner: Corner) -> u32 {
+    match corner {
+        Corner::Point(i) => i,
+        Corner::Ghost => u32::MAX,
+    }
+}
+
+// The edge of the corners off two places.
+pub(crate) fn edge_off(corners: &[Corner; 4], i: u8, j: u8) -> Edge {
+    let mut low = u32::MAX;
+    let mut high = 0;
+    for m in 0..4u8 {
+        if m != i && m != j {
+            let number = corner_number(corners[m as usize]);
+            low = low.min(number);
+            high = high.max(number);
+        }
+    }
+    Edge { low, high }
 }

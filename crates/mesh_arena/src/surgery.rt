@@ -1,5 +1,5 @@
 //! Surgery: the star of a new point takes the place of its cavity.
-ghost use Rattle.std.specs.Prelude.{◌≡◌, ℕ, ◌+◌, ◌<◌, ◌≤◌, ◌↔◌, length, Some, None, IsSome, IsOk, IfOk, OnErr, MatchOption, IsTrue};
+ghost use Rattle.std.specs.Prelude.{◌≡◌, ◌≢◌, ℕ, ◌+◌, ◌<◌, ◌≤◌, ◌↔◌, length, Some, None, IsSome, IsOk, IfOk, OnErr, MatchOption, IsTrue};
 ghost use Rattle.mesh_arena.specs.Mesh.{IsLive, side, SameFace, OnFace, IsMesh};
 ghost use Rattle.mesh_arena.specs.Star.{behind_rim, behind, AddsOne, CanAddStar, AddsStar};
 ghost use Rattle.mesh_arena.specs.Replace.{IsCavity, IsRim, IsOffRim, Replaces};
@@ -7,7 +7,8 @@ ghost use Rattle.mesh_arena.specs.Cavity.{UnlinksAll, CanFree, FreesCavity};
 ghost use Rattle.mesh_arena.specs.StarLinks.{IsStar, ArePaired, Mate, LinksFace, LinksStar};
 
 use crate::arena::{Arena, Side};
-use crate::slot::{covers, with_corner};
+use crate::edges::StarFace;
+use crate::slot::{covers, edge_off, with_corner};
 use crate::{Cavity, Corner, Rim, RimFace, Slot};
 use tet_ports::NoMemory;
 
@@ -139,17 +140,83 @@ impl Arena {
         }
     }
 
-    // Links the slots of the star with one another.
-    fn link_star(&mut self, rim: &[RimFace], point: u32)
+    // Links two faces of the star, if they have the same corners and no neighbor yet.
+    fn link_mates(&mut self, rim: &[RimFace], point: u32, one: StarFace, two: StarFace)
+        requires star { IsStar self.old.slots rim.now (Corner.Point point) }
+        requires first { (one.rim < length rim.now) × (one.face < 4) }
+        requires second { (two.rim < length rim.now) × (two.face < 4) }
+        requires differ { two.rim ≢ one.rim }
+        ensures { LinksStar self.old.slots self.new.slots rim.now (Corner.Point point) 0 }
+    {
+        let _ = &self.cells;
+        let s = self.over(rim[one.rim]).slot;
+        let t = self.over(rim[two.rim]).slot;
+        let is_open = self.side(s, one.face).is_none() && self.side(t, two.face).is_none();
+        if is_open && self.same_face(s, one.face, t, two.face) {
+            self.link(Slot { index: s }, one.face, Slot { index: t }, two.face);
+        }
+    }
+
+    // The face of the star that was met at the same edge as this one, if there was one.
+    fn meet_edge(&mut self, s: Side, at: StarFace) -> Option<StarFace>
+        requires { IsLive self.old.slots s.slot }
+        ensures { self.new ≡ self.old }
+    {
+        let edge = edge_off(&self.cells[s.slot].corners, s.face, at.face);
+        self.edges.meet(edge, at)
+    }
+
+    // Links a face of the star with the one that was met at the same edge.
+    fn link_at_edge(&mut self, rim: &[RimFace], point: u32, at: StarFace)
+        requires star { IsStar self.old.slots rim.now (Corner.Point point) }
+        requires at { (at.rim < length rim.now) × (at.face < 4) }
+        ensures { LinksStar self.old.slots self.new.slots rim.now (Corner.Point point) 0 }
+    {
+        let one = self.over(rim[at.rim]);
+        if at.face == one.face {
+            return;
+        }
+        if let Some(two) = self.meet_edge(one, at) {
+            if two.rim < rim.len() && two.rim != at.rim && two.face < 4 {
+                self.link_mates(rim, point, at, two);
+            }
+        }
+    }
+
+    // Links the faces of the star that find one another by their edges on the rim, in time linear in the rim.
+    fn link_edges(&mut self, rim: &[RimFace], point: u32)
+        requires star { IsStar self.old.slots rim.now (Corner.Point point) }
+        ensures { LinksStar self.old.slots self.new.slots rim.now (Corner.Point point) 0 }
+    {
+        self.edges.start(rim.len().saturating_mul(2));
+        for r in 0..rim.len() {
+            for face in 0..4u8 {
+                self.link_at_edge(rim, point, StarFace { rim: r, face });
+            }
+        }
+    }
+
+    // Links the faces of the star that have no neighbor yet.
+    fn link_rest(&mut self, rim: &[RimFace], point: u32)
         requires star { IsStar self.old.slots rim.now (Corner.Point point) }
         requires pairs { ArePaired self.old.slots rim.now }
-        ensures closed { LinksStar self.old.slots self.new.slots rim.now (Corner.Point point) (length rim.now) }
+        ensures links_star { LinksStar self.old.slots self.new.slots rim.now (Corner.Point point) (length rim.now) }
     {
         for r in 0..rim.len() {
             for k in 0..4u8 {
                 self.link_star_face(rim, point, r, k);
             }
         }
+    }
+
+    // Links the slots of the star with one another.
+    fn link_star(&mut self, rim: &[RimFace], point: u32)
+        requires star { IsStar self.old.slots rim.now (Corner.Point point) }
+        requires pairs { ArePaired self.old.slots rim.now }
+        ensures links_star { LinksStar self.old.slots self.new.slots rim.now (Corner.Point point) (length rim.now) }
+    {
+        self.link_edges(rim, point);
+        self.link_rest(rim, point);
     }
 
     // Takes away each side of a live slot, and what leads to it.

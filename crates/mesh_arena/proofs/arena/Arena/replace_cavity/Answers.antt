@@ -26,7 +26,7 @@ free_cavity-requires c =
     let before = c.in_ok-reserve.ensures in
     let mesh : IsMesh c.args.self.now.slots = rw before.slots at before.mesh in
     let adds_star : AddsStar c.args.self.now.slots c.add_star.new.self.slots c.args.rim.now (Point c.args.point) (length c.args.rim.now) = rw (before.slots, c.as_slice-faces.ensures) at c.add_star.ensures.adds_star in
-    let links_star : LinksStar c.add_star.new.self.slots c.link_star.new.self.slots c.args.rim.now (Point c.args.point) (length c.args.rim.now) = rw c.as_slice-faces.ensures at c.link_star.ensures.closed in
+    let links_star : LinksStar c.add_star.new.self.slots c.link_star.new.self.slots c.args.rim.now (Point c.args.point) (length c.args.rim.now) = rw c.as_slice-faces.ensures at c.link_star.ensures.links_star in
     rw c.as_slice.ensures (CanFree-linked _ c.args.cavity.now _ _ mesh c.requires.cavity c.requires.rim c.requires.pairs c.requires.point _ c.add_star.ensures.mesh adds_star _ links_star)
 
 pub over-one-requires : goal.over-one-requires
@@ -34,7 +34,7 @@ over-one-requires c =
     let before = c.in_ok-reserve.ensures in
     let mesh : IsMesh c.args.self.now.slots = rw before.slots at before.mesh in
     let adds_star : AddsStar c.args.self.now.slots c.add_star.new.self.slots c.args.rim.now (Point c.args.point) (length c.args.rim.now) = rw (before.slots, c.as_slice-faces.ensures) at c.add_star.ensures.adds_star in
-    let links_star : LinksStar c.add_star.new.self.slots c.link_star.new.self.slots c.args.rim.now (Point c.args.point) (length c.args.rim.now) = rw c.as_slice-faces.ensures at c.link_star.ensures.closed in
+    let links_star : LinksStar c.add_star.new.self.slots c.link_star.new.self.slots c.args.rim.now (Point c.args.point) (length c.args.rim.now) = rw c.as_slice-faces.ensures at c.link_star.ensures.links_star in
     let frees_cavity : FreesCavity c.link_star.new.self.slots c.free_cavity.new.self.slots c.args.cavity.now (length c.args.cavity.now) = rw c.as_slice.ensures at c.free_cavity.ensures.frees_cavity in
     rw c.as_slice-faces.ensures (rim_some _ c.args.cavity.now _ _ mesh c.requires.cavity c.requires.rim c.requires.pairs c.requires.point _ c.add_star.ensures.mesh adds_star _ links_star _ frees_cavity 0 c.requires.rim.some)
 
@@ -43,6 +43,6 @@ returns-clause-ok c =
     let before = c.in_ok-reserve.ensures in
     let mesh : IsMesh c.args.self.now.slots = rw before.slots at before.mesh in
     let adds_star : AddsStar c.args.self.now.slots c.add_star.new.self.slots c.args.rim.now (Point c.args.point) (length c.args.rim.now) = rw (before.slots, c.as_slice-faces.ensures) at c.add_star.ensures.adds_star in
-    let links_star : LinksStar c.add_star.new.self.slots c.link_star.new.self.slots c.args.rim.now (Point c.args.point) (length c.args.rim.now) = rw c.as_slice-faces.ensures at c.link_star.ensures.closed in
+    let links_star : LinksStar c.add_star.new.self.slots c.link_star.new.self.slots c.args.rim.now (Point c.args.point) (length c.args.rim.now) = rw c.as_slice-faces.ensures at c.link_star.ensures.links_star in
     let frees_cavity : FreesCavity c.link_star.new.self.slots c.free_cavity.new.self.slots c.args.cavity.now (length c.args.cavity.now) = rw c.as_slice.ensures at c.free_cavity.ensures.frees_cavity in
     Replaces-done _ c.args.cavity.now _ _ mesh c.requires.cavity c.requires.rim c.requires.pairs c.requires.point _ c.add_star.ensures.mesh adds_star _ links_star _ frees_cavity c.over-one.result.slot c.over-one.result (rw c.as_slice-faces.ensures at c.over-one.ensures) refl

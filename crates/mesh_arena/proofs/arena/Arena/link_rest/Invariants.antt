@@ -3,7 +3,7 @@ use Rattle.mesh_arena.specs.declared.slot.Corner.TheVariants.{Point}
 use Rattle.mesh_arena.specs.Mesh.{side}
 use Rattle.mesh_arena.specs.Star.{behind_rim}
 use Rattle.mesh_arena.specs.StarLinks.{LinksStar}
-use Rattle.mesh_arena.proofs.arena.Arena.link_star.Given as goal
+use Rattle.mesh_arena.proofs.arena.Arena.link_rest.Given as goal
 
 abbrev pub invariant-loop-r : goal.invariant-loop-r
 invariant-loop-r l = LinksStar l.fn.self.slots l.self.slots l.rim (Point l.point) l.r
