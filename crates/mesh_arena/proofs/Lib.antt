@@ -6,3 +6,4 @@ pub mod FaceCorners
 pub mod Pairs
 pub mod FreeCavity
 pub mod Replace
+mod OneSlot

@@ -11,3 +11,6 @@ mod surgery;
 
 pub use arena::Arena;
 pub use slot::{Cavity, Corner, Rim, RimFace, Slot, SlotCorners};
+
+#[cfg(test)]
+mod tests;

@@ -47,7 +47,7 @@ impl Arena {
     }
 
     // Whether the faces of two live slots have the same corners.
-    fn same_face(&self, s: usize, i: u8, t: usize, j: u8) -> bool
+    pub(crate) fn same_face(&self, s: usize, i: u8, t: usize, j: u8) -> bool
         requires first { IsLive self.now.slots s }
         requires second { IsLive self.now.slots t }
         ensures { IsTrue result ↔ SameFace self.now.slots s i t j }
@@ -58,7 +58,7 @@ impl Arena {
     }
 
     // The slot and face behind a face, if they are there.
-    fn side(&self, s: usize, face: u8) -> Option<Side>
+    pub(crate) fn side(&self, s: usize, face: u8) -> Option<Side>
         requires live { IsLive self.now.slots s }
         requires face { face < 4 }
         ensures { result ≡ side self.now.slots s face }
