@@ -8,7 +8,7 @@ use Rattle.mesh_arena.specs.Mesh.{Tet, tet_at, corners_at, side, at, SameFace, I
 use Rattle.mesh_arena.specs.declared.arena.Side.{Side}
 use Rattle.mesh_arena.specs.declared.slot.Corner.{Corner}
 use Rattle.mesh_arena.proofs.Mesh.{Writes, Writes-set, Links-writes, Unlinks-writes, IsMesh-links, IsMesh-unlinks, side_live, lone, Puts, Puts-set, Puts-push, Takes-puts, Frees-puts, IsMesh-takes, IsMesh-frees}
-use Rattle.mesh_arena.specs.Cells.{tet_in, tet_of, IsFreeList, IsCounted, IsSound}
+use Rattle.mesh_arena.specs.Cells.{tet_in, tet_of, IsFreeList, most_cells, IsCounted, IsSound}
 
 -- the count of a cell
 abbrev one_if : Bool → ℕ
@@ -201,7 +201,7 @@ Linked-writes cells live next s i t j one two sound live_s live_t hi hj differ f
     let w2 = Wrote-set _ live next t j two (Some (at s i)) w1.counted w1.writes.shaped (subst IsSome (sym (w1.writes.corners t)) live_t) hj read2 in
     let links = Links-writes _ _ _ s i t j differ w1.writes w2.writes in
     record {
-      sound = record { counted = w2.counted; mesh = IsMesh-links _ _ s i t j sound.mesh w2.writes.shaped differ faces free_s free_t links };
+      sound = record { counted = w2.counted; small = omega (arith, sound.small, length-set cells s (record one { sides = set one.sides i (Some (at t j)) }), length-set (with_side cells s i one (Some (at t j))) t (record two { sides = set two.sides j (Some (at s i)) })); mesh = IsMesh-links _ _ s i t j sound.mesh w2.writes.shaped differ faces free_s free_t links };
       links = links;
     }
 
@@ -219,7 +219,7 @@ Unlinked-writes cells live next s i t j one two sound was read read2 =
     let w2 = Wrote-set _ live next t j two None w1.counted w1.writes.shaped (subst IsSome (sym (w1.writes.corners t)) there.0) there.1 read2 in
     let unlinks = Unlinks-writes _ _ _ s i t j (λ same. apart (sym same)) w1.writes w2.writes in
     record {
-      sound = record { counted = w2.counted; mesh = IsMesh-unlinks _ _ s i t j sound.mesh w2.writes.shaped was unlinks };
+      sound = record { counted = w2.counted; small = omega (arith, sound.small, length-set cells s (record one { sides = set one.sides i None }), length-set (with_side cells s i one None) t (record two { sides = set two.sides j None })); mesh = IsMesh-unlinks _ _ s i t j sound.mesh w2.writes.shaped was unlinks };
       unlinks = unlinks;
     }
 
@@ -262,8 +262,8 @@ some_tet : (o : Option Tet) → IsSome o → option_map (λ (t : Tet). t.corners
 some_tet None some e = true≢false (sym some)
 some_tet (Some t) some e = cc
 
-pub Took-push : (cells : List Cell) (live next : ℕ) (cs : List Corner) → IsSound cells live next → next ≡ length cells → length cs ≡ 4 → AllDiffer cs → Took cells (cells ++ fresh cs ∷ []) (live + 1) (next + 1) next cs
-Took-push cells live next cs sound at_end four differ =
+pub Took-push : (cells : List Cell) (live next : ℕ) (cs : List Corner) → IsSound cells live next → next ≡ length cells → length cells < most_cells → length cs ≡ 4 → AllDiffer cs → Took cells (cells ++ fresh cs ∷ []) (live + 1) (next + 1) next cs
+Took-push cells live next cs sound at_end room four differ =
     let new = fresh cs in
     let end : next ≡ length (map tet_of cells) = omega (arith, length-map cells tet_of) in
     let puts : Puts (map tet_of cells) (map tet_of (cells ++ new ∷ [])) next (Some (lone cs)) =
@@ -273,7 +273,7 @@ Took-push cells live next cs sound at_end four differ =
     let all : (u : ℕ) → u < length (map tet_of cells) → corners_at (map tet_of cells) u ≡ None → next < length (map tet_of cells) = λ u lt free. absurd (none_free cells live next u sound.counted full (omega (arith, length-map cells tet_of)) free) in
     let takes = Takes-puts _ _ next cs puts (rw end (get_or_past (map tet_of cells) (length (map tet_of cells)) None (omega arith))) all (λ lt. absurd (omega arith)) (λ le. (end, omega (arith, length-map cells tet_of, length-map (cells ++ new ∷ []) tet_of))) in
     record {
-      sound = record { counted = IsCounted-push cells live next new sound.counted at_end refl; mesh = IsMesh-takes _ _ next cs sound.mesh puts four differ takes };
+      sound = record { counted = IsCounted-push cells live next new sound.counted at_end refl; small = omega (arith, length_push cells new); mesh = IsMesh-takes _ _ next cs sound.mesh puts four differ takes };
       takes = takes;
     }
   where
@@ -296,7 +296,7 @@ Took-fill cells live next cs old sound before read four differ =
     let was : tet_at (map tet_of cells) next ≡ None = get_or-map tet_of cells next old None within ∙ ap tet_of (sym read) ∙ tet_of-free old dead in
     let takes = Takes-puts _ _ next cs puts was (λ u lt e. inside) (λ lt. omega (arith, length-map cells tet_of, length-map (set cells next new) tet_of, length-set cells next new)) (λ le. absurd (omega arith)) in
     record {
-      sound = record { counted = IsCounted-fill cells live next old new sound.counted found refl; mesh = IsMesh-takes _ _ next cs sound.mesh puts four differ takes };
+      sound = record { counted = IsCounted-fill cells live next old new sound.counted found refl; small = omega (arith, sound.small, length-set cells next new); mesh = IsMesh-takes _ _ next cs sound.mesh puts four differ takes };
       takes = takes;
     }
 
@@ -312,7 +312,7 @@ Freed-set cells live next s c sound is_live bare read =
     rw (map-set tet_of cells s new) (Puts-set (map tet_of cells) s None (omega (arith, found.0, length-map cells tet_of))) in
     let frees = Frees-puts _ _ s puts bare (omega (arith, length-map cells tet_of, length-map (set cells s new) tet_of, length-set cells s new)) in
     record {
-      sound = record { counted = IsCounted-vacate cells live next s c new sound.counted found.1 found.2 refl refl; mesh = IsMesh-frees _ _ s sound.mesh puts bare frees };
+      sound = record { counted = IsCounted-vacate cells live next s c new sound.counted found.1 found.2 refl refl; small = omega (arith, sound.small, length-set cells s new); mesh = IsMesh-frees _ _ s sound.mesh puts bare frees };
       frees = frees;
     }
 

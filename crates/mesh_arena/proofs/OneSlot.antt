@@ -1,10 +1,10 @@
 -- One slot with four neighbors is a cavity, and its neighbors' faces are the rim.
-use Rattle.std.proofs.Common.{◌≡◌, ◌≢◌, ℕ, zero, suc, ◌<◌, List, [], ◌∷◌, length, Option, Some, None, IsSome, refl, sym, ap, subst, ◌∙◌, inl, inr, arith}
+use Rattle.std.proofs.Common.{◌≡◌, ◌≢◌, ℕ, zero, suc, ◌<◌, List, [], ◌∷◌, Option, Some, refl, sym, ap, subst, ◌∙◌, arith}
 use Rattle.mesh_arena.specs.declared.slot.Corner.{Corner}
 use Rattle.mesh_arena.specs.declared.slot.RimFace.{RimFace}
 use Rattle.mesh_arena.specs.declared.slot.Slot.{Slot}
 use Rattle.mesh_arena.specs.declared.arena.Side.{Side}
-use Rattle.mesh_arena.specs.Mesh.{Tet, corners_at, IsLive, corner, side, at, OnFace, IsMesh}
+use Rattle.mesh_arena.specs.Mesh.{Tet, IsLive, corner, side, at, OnFace, IsMesh}
 use Rattle.mesh_arena.specs.Star.{behind, rim_at, face_side, behind_rim}
 use Rattle.mesh_arena.specs.Cavity.{slot_at, IsIn}
 use Rattle.mesh_arena.specs.StarLinks.{OnRim, ArePaired}

@@ -1,5 +1,5 @@
 -- How an `Arena` lays out its slots. No public clause cites this module.
-use Rattle.std.specs.Prelude.{◌≡◌, ℕ, false, zero, suc, ◌+◌, List, map, length, Option, Some, None, is_some, count_by, slice_get, if◌then◌else◌}
+use Rattle.std.specs.Prelude.{◌≡◌, ℕ, false, zero, suc, ◌+◌, ◌≤◌, List, map, length, Option, Some, None, is_some, count_by, slice_get, if◌then◌else◌}
 use Rattle.mesh_arena.specs.declared.arena.Cell.{Cell}
 use Rattle.mesh_arena.specs.Mesh.{Tet, IsMesh}
 
@@ -16,6 +16,10 @@ IsFreeList cells zero at = at ≡ length cells
 IsFreeList cells (suc count) at = (c : Cell) × (slice_get cells at ≡ Some c) × (c.live ≡ false)
     × IsFreeList cells count c.next
 
+-- the most slots of an arena, so that a place fits 32 bits and so does the number past the end
+abbrev pub most_cells : ℕ
+most_cells = 4294967295
+
 -- `live` counts the live cells, and the list from `next` holds every free one
 pub record IsCounted (cells : List Cell) (live next : ℕ) : Type 0 where
   pub counted : live ≡ count_by is_some (map tet_of cells)
@@ -26,3 +30,4 @@ pub record IsCounted (cells : List Cell) (live next : ℕ) : Type 0 where
 pub record IsSound (cells : List Cell) (live next : ℕ) : Type 0 where
   pub counted : IsCounted cells live next
   pub mesh : IsMesh (map tet_of cells)
+  pub small : length cells ≤ most_cells

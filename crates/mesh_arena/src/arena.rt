@@ -11,7 +11,7 @@ use tet_ports::NoMemory;
 // A face of a slot, by its place.
 #[derive(Clone, Copy, PartialEq, Eq)]
 pub(crate) struct Side {
-    pub(crate) slot: usize,
+    pub(crate) slot: u32,
     pub(crate) face: u8,
 }
 
@@ -21,7 +21,7 @@ pub(crate) struct Cell {
     pub(crate) sides: [Option<Side>; 4],
     live: bool,
     // The next free cell, where this one is free.
-    next: usize,
+    next: u32,
 }
 
 /// Slots with four corners and a neighbor behind each face, live or free.
@@ -31,20 +31,23 @@ pub struct Arena {
     // How many cells are live.
     live: usize,
     // The first free cell, or `cells.len()` where there is none.
-    next: usize,
+    next: u32,
     // Finds the faces of a star that are to be linked.
     pub(crate) edges: EdgeTable,
 }
 
+// So that a place fits 32 bits, and so does the number past the end.
+const MOST_CELLS: usize = u32::MAX as usize;
+
 impl Model for Arena {
-    ghost use Rattle.std.specs.Prelude.{◌-◌, map, vec_capacity};
+    ghost use Rattle.std.specs.Prelude.{◌-◌, min, map, vec_capacity};
     ghost use Rattle.mesh_arena.specs.Mesh.{Mesh};
 
     ghost Value = { Mesh };
 
-    ghost use Rattle.mesh_arena.specs.Cells.{tet_of, IsSound};
+    ghost use Rattle.mesh_arena.specs.Cells.{tet_of, most_cells, IsSound};
 
-    ghost view = { λ a. record { slots = map tet_of a.cells.items; spare = vec_capacity a.cells - a.live } };
+    ghost view = { λ a. record { slots = map tet_of a.cells.items; spare = min (vec_capacity a.cells) most_cells - a.live } };
 
     ghost invariant = { λ a. IsSound a.cells.items a.live a.next };
 }
@@ -75,7 +78,7 @@ impl Arena {
         ensures { MatchOption result (tet_at self.now.slots i ≡ None) (λ s. (s.index ≡ i) × IsLive self.now.slots i) }
     {
         if self.cells[i].live {
-            Some(Slot { index: i })
+            Some(Slot { index: i as u32 })
         } else {
             None
         }
@@ -87,7 +90,7 @@ impl Arena {
         ensures corners { corners_at self.now.slots s.index ≡ Some (corner_list result) }
         ensures mesh { IsMesh self.now.slots }
     {
-        let [a, b, c, d] = self.cells[s.index].corners;
+        let [a, b, c, d] = self.cells[s.index as usize].corners;
         SlotCorners { a, b, c, d }
     }
 
@@ -98,7 +101,7 @@ impl Arena {
         ensures value { option_map (λ n. n.index) result ≡ option_map (λ b. b.slot) (side self.now.slots s.index face) }
         ensures live { IfSome result (λ n. IsLive self.now.slots n.index) }
     {
-        match self.cells[s.index].sides[face as usize] {
+        match self.cells[s.index as usize].sides[face as usize] {
             Some(side) => Some(Slot { index: side.slot }),
             None => None,
         }
@@ -111,7 +114,7 @@ impl Arena {
         ensures value { option_map (λ f. at f.slot.index f.face) result ≡ side self.now.slots s.index face }
         ensures live { IfSome result (λ f. IsLive self.now.slots f.slot.index × (f.face < 4)) }
     {
-        match self.cells[s.index].sides[face as usize] {
+        match self.cells[s.index as usize].sides[face as usize] {
             Some(side) => Some(RimFace {
                 slot: Slot { index: side.slot },
                 face: side.face,
@@ -132,12 +135,12 @@ impl Arena {
         ensures links { Links self.old.slots self.new.slots s.index i t.index j }
         ensures spare { self.new.spare ≡ self.old.spare }
     {
-        let one = &mut self.cells[s.index];
+        let one = &mut self.cells[s.index as usize];
         one.sides[i as usize] = Some(Side {
             slot: t.index,
             face: j,
         });
-        let two = &mut self.cells[t.index];
+        let two = &mut self.cells[t.index as usize];
         two.sides[j as usize] = Some(Side {
             slot: s.index,
             face: i,
@@ -152,12 +155,12 @@ impl Arena {
         ensures unlinks { Unlinks self.old.slots self.new.slots one.slot one.face result.slot result.face }
         ensures spare { self.new.spare ≡ self.old.spare }
     {
-        let Some(two) = self.cells[one.slot].sides[one.face as usize] else {
+        let Some(two) = self.cells[one.slot as usize].sides[one.face as usize] else {
             unreachable!();
         };
-        let first = &mut self.cells[one.slot];
+        let first = &mut self.cells[one.slot as usize];
         first.sides[one.face as usize] = None;
-        let second = &mut self.cells[two.slot];
+        let second = &mut self.cells[two.slot as usize];
         second.sides[two.face as usize] = None;
         two
     }
@@ -170,6 +173,9 @@ impl Arena {
         ensures mesh { IsMesh self.new.slots }
         ensures err { OnErr result (self.new ≡ self.old) }
     {
+        if faces > MOST_CELLS - self.live {
+            return Err(NoMemory);
+        }
         let free = self.cells.len() - self.live;
         if free < faces && self.cells.reserve(faces - free).is_err() {
             return Err(NoMemory);
@@ -189,7 +195,7 @@ impl Arena {
     }
 
     // `alloc_slot` where there is room.
-    pub(crate) fn take_slot(&mut self, corners: SlotCorners) -> usize
+    pub(crate) fn take_slot(&mut self, corners: SlotCorners) -> u32
         requires differ { AllDiffer (corner_list corners) }
         requires room { 0 < self.old.spare }
         ensures takes { Takes self.old.slots self.new.slots result (corner_list corners) }
@@ -204,25 +210,25 @@ impl Arena {
         };
         let place = self.next;
         self.live += 1;
-        if place == self.cells.len() {
+        if place as usize == self.cells.len() {
             self.cells.push_reserved(cell);
             self.next = place + 1;
         } else {
-            self.next = self.cells[place].next;
-            self.cells[place] = cell;
+            self.next = self.cells[place as usize].next;
+            self.cells[place as usize] = cell;
         }
         place
     }
 
     // Frees a live slot that has no neighbor.
-    pub(crate) fn release(&mut self, place: usize)
+    pub(crate) fn release(&mut self, place: u32)
         requires live { IsLive self.old.slots place }
         requires bare { (i : ℕ) → side self.old.slots place i ≡ None }
         ensures frees { Frees self.old.slots self.new.slots place }
         ensures spare { self.old.spare ≤ self.new.spare }
     {
         let next = self.next;
-        let cell = &mut self.cells[place];
+        let cell = &mut self.cells[place as usize];
         cell.live = false;
         cell.next = next;
         self.next = place;

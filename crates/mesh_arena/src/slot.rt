@@ -25,7 +25,7 @@ pub struct SlotCorners {
 /// The name of a slot: its place in the arena, from 0.
 #[derive(Clone, Copy, Debug, PartialEq, Eq)]
 pub struct Slot {
-    pub index: usize,
+    pub index: u32,
 }
 
 /// A face of a slot: the one opposite its corner in the place `face`, from 0.

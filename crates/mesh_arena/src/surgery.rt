@@ -47,27 +47,27 @@ impl Arena {
     }
 
     // Whether the faces of two live slots have the same corners.
-    pub(crate) fn same_face(&self, s: usize, i: u8, t: usize, j: u8) -> bool
+    pub(crate) fn same_face(&self, s: u32, i: u8, t: u32, j: u8) -> bool
         requires first { IsLive self.now.slots s }
         requires second { IsLive self.now.slots t }
         ensures { IsTrue result ↔ SameFace self.now.slots s i t j }
     {
-        let one = &self.cells[s].corners;
-        let two = &self.cells[t].corners;
+        let one = &self.cells[s as usize].corners;
+        let two = &self.cells[t as usize].corners;
         covers(one, i, two, j) && covers(two, j, one, i)
     }
 
     // The slot and face behind a face, if they are there.
-    pub(crate) fn side(&self, s: usize, face: u8) -> Option<Side>
+    pub(crate) fn side(&self, s: u32, face: u8) -> Option<Side>
         requires live { IsLive self.now.slots s }
         requires face { face < 4 }
         ensures { result ≡ side self.now.slots s face }
     {
-        self.cells[s].sides[face as usize]
+        self.cells[s as usize].sides[face as usize]
     }
 
     // A face of t that has no neighbor, and the same corners as the face of s.
-    fn mate_face(&self, s: usize, i: u8, t: usize) -> Option<u8>
+    fn mate_face(&self, s: u32, i: u8, t: u32) -> Option<u8>
         requires first { IsLive self.now.slots s }
         requires second { IsLive self.now.slots t }
         ensures { MatchOption result
@@ -87,7 +87,7 @@ impl Arena {
         requires { IsSome (side self.now.slots face.slot.index face.face) }
         ensures { side self.now.slots face.slot.index face.face ≡ Some result }
     {
-        let Some(side) = self.cells[face.slot.index].sides[face.face as usize] else {
+        let Some(side) = self.cells[face.slot.index as usize].sides[face.face as usize] else {
             unreachable!();
         };
         side
@@ -151,8 +151,13 @@ impl Arena {
         let _ = &self.cells;
         let s = self.over(rim[one.rim]).slot;
         let t = self.over(rim[two.rim]).slot;
-        let is_open = self.side(s, one.face).is_none() && self.side(t, two.face).is_none();
-        if is_open && self.same_face(s, one.face, t, two.face) {
+        let None = self.side(s, one.face) else {
+            return;
+        };
+        let None = self.side(t, two.face) else {
+            return;
+        };
+        if self.same_face(s, one.face, t, two.face) {
             self.link(Slot { index: s }, one.face, Slot { index: t }, two.face);
         }
     }
@@ -162,7 +167,7 @@ impl Arena {
         requires { IsLive self.old.slots s.slot }
         ensures { self.new ≡ self.old }
     {
-        let edge = edge_off(&self.cells[s.slot].corners, s.face, at.face);
+        let edge = edge_off(&self.cells[s.slot as usize].corners, s.face, at.face);
         self.edges.meet(edge, at)
     }
 
@@ -220,7 +225,7 @@ impl Arena {
     }
 
     // Takes away each side of a live slot, and what leads to it.
-    fn unlink_all(&mut self, s: usize)
+    fn unlink_all(&mut self, s: u32)
         requires { IsLive self.old.slots s }
         ensures mesh { IsMesh self.old.slots }
         ensures unlinks { UnlinksAll self.old.slots self.new.slots s 4 }
