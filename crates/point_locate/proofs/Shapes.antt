@@ -1,5 +1,6 @@
 -- A slot is a tetrahedron of points or a ghost, and not both; and what the signs at its faces tell.
-use Rattle.std.proofs.Common.{◌≡◌, ℕ, zero, suc, ◌<◌, ◌≤◌, pos, ◌≤ℤ◌, ◌<ℤ◌, List, length, get_or, Option, Some, None, option_map, refl, sym, ap, subst, ◌∙◌, arith}
+use Rattle.std.proofs.Common.{◌≡◌, ℕ, zero, suc, ◌+◌, ◌<◌, ◌≤◌, pos, ◌≤ℤ◌, ◌<ℤ◌, List, length, get_or, Option, Some, None, option_map, refl, sym, ap, subst, ◌∙◌, inl, inr, arith}
+use Rattle.std.proofs.lemmas.Bool.{cases_lt}
 use Rattle.std.proofs.lemmas.Int.{ints}
 use Rattle.std.proofs.lemmas.List.{get_or_past}
 use Rattle.sign_predicates.specs.Point.{Point, as_rational}
@@ -12,7 +13,7 @@ use Rattle.mesh_arena.specs.Mesh.{Tet, tet_at, corners_at, corner_list}
 use Rattle.mesh_arena.specs.declared.slot.Corner.{Corner}
 use Rattle.mesh_arena.specs.declared.slot.Corner.TheVariants.{Point as Numbered, Ghost}
 use Rattle.mesh_arena.specs.declared.slot.SlotCorners.{SlotCorners}
-use Rattle.point_locate.specs.Place.{row_corners, placed, IsInside, IsBeyond, IsPlace, IsSomePlace, Looks}
+use Rattle.point_locate.specs.Place.{AreOn, AreCornersOn, row_corners, placed, IsInside, IsBeyond, IsPlace, IsSomePlace, Looks}
 use Rattle.point_locate.specs.declared.look.Look.TheVariants.{Out}
 use Rattle.point_locate.specs.declared.walk.Place.{Place}
 use Rattle.point_locate.specs.declared.walk.Place.TheVariants.{Inside, Beyond}
@@ -91,17 +92,42 @@ looked_is_not_at slots ps p s cs is face out =
     same : (ds : List Corner) → corners_at slots s ≡ Some ds → ds ≡ cs
     same ds e = cc
 
+-- a live slot is before the end
+pub live_within : (slots : List (Option Tet)) (s : ℕ) (cs : List Corner) → corners_at slots s ≡ Some cs → s < length slots
+live_within slots s cs e = by_tet (tet_at slots s) refl e
+  where
+    by_tet : (o : Option Tet) → tet_at slots s ≡ o → option_map (λ (t : Tet). t.corners) o ≡ Some cs → s < length slots
+    by_tet None is e = absurd (cc)
+    by_tet (Some t) is e = grind (arith, get_or_past)
+
 -- where each place was looked at, the point is nowhere
 pub some_not_all : (slots : List (Option Tet)) (ps : List Point) (p : Point) (n : ℕ) → length slots ≤ n → ((s : ℕ) → s < n → IsNotAt slots ps p s) → IsSomePlace slots ps p → ⊥
 some_not_all slots ps p n long none some = by_place some.0 some.1
   where
-    within : (s : ℕ) (cs : List Corner) → corners_at slots s ≡ Some cs → s < length slots
-    within s cs e = by_tet (tet_at slots s) refl e
-      where
-        by_tet : (o : Option Tet) → tet_at slots s ≡ o → option_map (λ (t : Tet). t.corners) o ≡ Some cs → s < length slots
-        by_tet None is e = absurd (cc)
-        by_tet (Some t) is e = grind (arith, get_or_past)
-
     by_place : (place : Place) → IsPlace slots ps p place → ⊥
-    by_place (Inside s) h = (none s.index (omega (arith, within s.index h.corners h.is))).outside h.corners h.is h.here
-    by_place (Beyond s) h = (none s.index (omega (arith, within s.index h.corners h.is))).behind h.corners h.is h.here
+    by_place (Inside s) h = (none s.index (omega (arith, live_within slots s.index h.corners h.is))).outside h.corners h.is h.here
+    by_place (Beyond s) h = (none s.index (omega (arith, live_within slots s.index h.corners h.is))).behind h.corners h.is h.here
+
+-- what holds of the corners of each slot before a place
+pub record AreCornersOnBelow (slots : List (Option Tet)) (ps : List Point) (n : ℕ) : Type 0 where
+  pub below : (s : ℕ) (cs : List Corner) → s < n → corners_at slots s ≡ Some cs → AreOn ps cs
+
+pub below_more : (slots : List (Option Tet)) (ps : List Point) (n : ℕ) → AreCornersOnBelow slots ps n → ((cs : List Corner) → corners_at slots n ≡ Some cs → AreOn ps cs) → AreCornersOnBelow slots ps (n + 1)
+below_more slots ps n before here =
+    record {
+      below = λ s cs lt e. elim (cases_lt s n) [
+        | inl less ↦ before.below s cs less e
+        | inr more ↦ let same : s ≡ n = omega arith in here cs (subst (λ m. corners_at slots m ≡ Some cs) same e)
+      ];
+    }
+
+pub below_all : (slots : List (Option Tet)) (ps : List Point) (n : ℕ) → length slots ≤ n → AreCornersOnBelow slots ps n → AreCornersOn slots ps
+below_all slots ps n long all s cs e = all.below s cs (omega (arith, live_within slots s cs e)) e
+
+pub one_slot_on : (slots : List (Option Tet)) (ps : List Point) (s : ℕ) (cs : List Corner) → corners_at slots s ≡ Some cs → AreOn ps cs → (ds : List Corner) → corners_at slots s ≡ Some ds → AreOn ps ds
+one_slot_on slots ps s cs is on ds e = let same : cs ≡ ds = cc in subst (AreOn ps) same on
+
+pub free_slot_on : (slots : List (Option Tet)) (ps : List Point) (s : ℕ) → tet_at slots s ≡ None → (ds : List Corner) → corners_at slots s ≡ Some ds → AreOn ps ds
+free_slot_on slots ps s free ds e =
+    let gone : corners_at slots s ≡ None = ap (option_map (λ (t : Tet). t.corners)) free in
+    absurd (cc)

@@ -5,3 +5,6 @@ mod look;
 mod walk;
 
 pub use walk::{Place, locate};
+
+#[cfg(test)]
+mod tests;

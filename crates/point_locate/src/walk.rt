@@ -1,4 +1,4 @@
-ghost use Rattle.std.specs.Prelude.{◌<◌, Result};
+ghost use Rattle.std.specs.Prelude.{MatchOption};
 ghost use Rattle.mesh_arena.specs.Mesh.{IsLive};
 ghost use Rattle.point_locate.specs.Place.{AreCornersOn, IsPlace, IsSomePlace};
 
@@ -42,23 +42,25 @@ pub fn locate(arena: &Arena, points: &Points, start: Slot, p: GridPoint) -> Plac
             },
         }
     }
-    scan(arena, points, p)
+    let Some(place) = scan(arena, points, p) else {
+        unreachable!();
+    };
+    place
 }
 
-// The first slot in the order of places where the point is.
-fn scan(arena: &Arena, points: &Points, p: GridPoint) -> Place
-    requires corners { AreCornersOn arena.now.slots points.now }
-    requires somewhere { IsSomePlace arena.now.slots points.now p }
-    ensures { IsPlace arena.now.slots points.now p result }
+// The place of the point by a look at each slot in turn, if it is somewhere.
+pub(crate) fn scan(arena: &Arena, points: &Points, p: GridPoint) -> Option<Place>
+    requires { AreCornersOn arena.now.slots points.now }
+    ensures { MatchOption result (IsSomePlace arena.now.slots points.now p → ⊥) (IsPlace arena.now.slots points.now p) }
 {
     for i in 0..arena.slots() {
         if let Some(s) = arena.slot(i) {
             match look_at(points, arena.tet(s), 0, p) {
-                Look::Inside => return Place::Inside(s),
-                Look::Beyond => return Place::Beyond(s),
+                Look::Inside => return Some(Place::Inside(s)),
+                Look::Beyond => return Some(Place::Beyond(s)),
                 Look::Out(_) => {}
             }
         }
     }
-    unreachable!()
+    None
 }

@@ -5,7 +5,7 @@ use Rattle.point_locate.proofs.walk.scan.Goals.{in-Some+in-Out, in_default}
 use Rattle.point_locate.proofs.walk.scan.Goals as goal
 
 pub look_at-requires-clause-corners : goal.look_at-requires-clause-corners
-look_at-requires-clause-corners c = c.requires.corners _ _ c.tet.ensures.corners
+look_at-requires-clause-corners c = c.requires _ _ c.tet.ensures.corners
 
 pub loop-i-preserved : goal.loop-i-preserved
 loop-i-preserved c = λ s lt.
@@ -23,5 +23,5 @@ loop-i-preserved c = λ s lt.
           ]
     ]
 
-pub unreachable-requires : goal.unreachable-requires
-unreachable-requires c = some_not_all c.args.arena.now.slots c.args.points.now c.args.p c.loop-i.i (omega arith) c.loop-i.invariant c.requires.somewhere
+pub returns : goal.returns
+returns c = λ some. some_not_all c.args.arena.now.slots c.args.points.now c.args.p c.loop-i.i (omega arith) c.loop-i.invariant some
