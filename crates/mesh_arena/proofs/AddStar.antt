@@ -1,4 +1,4 @@
--- How the raise of one more slot extends the star.
+-- How one more slot extends the star.
 use Rattle.std.proofs.Common.{◌≡◌, ◌≢◌, ◌⊎◌, ℕ, ◌+◌, ◌<◌, List, length, set, Option, Some, None, IsSome, option_map, refl, sym, ap, subst, ◌∙◌, inl, inr, arith}
 use Rattle.std.proofs.lemmas.Bool.{cases_eq, cases_lt}
 use Rattle.mesh_arena.specs.declared.slot.Corner.{Corner}
@@ -66,7 +66,7 @@ module _ (first now next : List (Option Tet)) (rim : List RimFace) (p : Corner) 
   star_not_made : (r : ℕ) → r < n → (behind_rim now rim r).slot ≢ made
   star_not_made r h = live_not_free now _ made (live_by_side now _ _ _ (was.over r h).back) adds.fresh
 
-  -- what a slot adds_star before is not
+  -- what a slot added before is not
   star_not_live : (r u : ℕ) → r < n → IsLive first u → (behind_rim now rim r).slot ≢ u
   star_not_live r u h live e = live_not_free first u _ live (was.over r h).fresh (sym e)
 
@@ -90,7 +90,7 @@ module _ (first now next : List (Option Tet)) (rim : List RimFace) (p : Corner) 
       (inl (star_not_live r _ h (can.live n lt)))
       (star_not_made r h)
 
-  -- a slot that was adds_star before
+  -- a slot that was added before
   over_before : (r : ℕ) → r < n → IsOver first next rim p r
   over_before r h =
       let o = was.over r h in

@@ -112,7 +112,7 @@ module _ (A : List (Option Tet)) (cavity : List Slot) (rim : List RimFace) (p : 
         }
 
     module _ (C : List (Option Tet)) (links_star : LinksStar B C rim p (length rim)) where
-      -- what was live stays so, and its sides are those after the raise
+      -- what was live stays so, and its sides are those after the star was added
       live_C : (u : ℕ) → IsLive A u → corners_at C u ≡ corners_at A u
       live_C u live = links_star.corners u ∙ adds_star.kept u live
 
@@ -171,7 +171,7 @@ module _ (A : List (Option Tet)) (cavity : List Slot) (rim : List RimFace) (p : 
         same_slot : (r : ℕ) → r < length rim → (behind_rim D rim r).slot ≡ (behind_rim B rim r).slot
         same_slot r h = ap (λ (b : Side). b.slot) (same_behind r h)
 
-        stands : (r : ℕ) → r < length rim → IsStarSlot A D rim p r
+        stands : (r : ℕ) → r < length rim → IsStarSlot A D cavity rim p r
         stands r h =
             let o = adds_star.over r h in
             let inner = behind_rim A rim r in
@@ -182,7 +182,7 @@ module _ (A : List (Option Tet)) (cavity : List Slot) (rim : List RimFace) (p : 
               corners_D _ (star_out r h) ∙ links_star.corners _ ∙ o.corners,
               λ k k4. subst IsSome (sym (frees_cavity.sides _ k (star_out r h))) (links_star.linked r k h k4),
             ) in
-            record { is = all.0; fresh = all.1; corners = all.2; linked = all.3 }
+            record { is = all.0; fresh = λ live. absurd (none_live _ all.1 live); corners = all.2; linked = all.3 }
 
         live_after : (u : ℕ) → IsLive D u → (IsLive A u × (IsIn cavity u → ⊥)) ⊎ ((r : ℕ) × (r < length rim) × ((behind_rim D rim r).slot ≡ u))
         live_after u live =
@@ -197,7 +197,7 @@ module _ (A : List (Option Tet)) (cavity : List Slot) (rim : List RimFace) (p : 
             record {
               star = stands;
               apart = λ r q h g e. adds_star.apart r q h g (sym (same_slot r h) ∙ e ∙ same_slot q g);
-              gone = gone;
+              gone = λ u found away. gone u found;
               kept = λ u live out. corners_D u out ∙ live_C u live;
               live = live_after;
               sides = λ u k live out away.

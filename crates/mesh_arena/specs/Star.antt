@@ -31,7 +31,7 @@ rim_at rim r = slice_index_or rim r no_face
 abbrev pub face_side : List (Option Tet) → RimFace → Option Side
 face_side slots f = side slots f.slot.index f.face
 
--- the slot and face behind a face of the rim: before the star is adds_star in the cavity, and then in the star
+-- the slot and face behind a face of the rim: in the cavity before the star is added, and then in the star
 abbrev pub behind_rim : List (Option Tet) → List RimFace → ℕ → Side
 behind_rim slots rim r = behind (face_side slots (rim_at rim r))
 
@@ -52,7 +52,7 @@ pub record IsOver (old new : List (Option Tet)) (rim : List RimFace) (p : Corner
   pub bare : (k : ℕ) → k ≢ (behind_rim old rim r).face → side new (behind_rim new rim r).slot k ≡ None
   pub gone : side new (behind_rim old rim r).slot (behind_rim old rim r).face ≡ None
 
--- a slot was adds_star over each of the first n faces, and nothing else changed
+-- a slot was added over each of the first n faces, and nothing else changed
 pub record AddsStar (old new : List (Option Tet)) (rim : List RimFace) (p : Corner) (n : ℕ) : Type 0 where
   pub over : (r : ℕ) → r < n → IsOver old new rim p r
   pub apart : (r q : ℕ) → r < n → q < n → (behind_rim new rim r).slot ≡ (behind_rim new rim q).slot → r ≡ q

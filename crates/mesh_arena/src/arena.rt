@@ -24,7 +24,8 @@ pub(crate) struct Cell {
     next: u32,
 }
 
-/// Slots with four corners and a neighbor behind each face, live or free.
+/// Slots, live or free, numbered from 0. A live one has four different corners, and behind each face a neighbor or none; neighbors are mutual and have
+/// the face's three corners in common. Contracts see the list of slots, and `spare`, how many more slots have memory.
 #[derive(Drop)]
 pub struct Arena {
     pub(crate) cells: Vec<Cell>,
@@ -72,7 +73,7 @@ impl Arena {
         self.cells.len()
     }
 
-    /// The slot at a place, or nothing where it is free.
+    /// The slot at a place, or None where it is free.
     pub fn slot(&self, i: usize) -> Option<Slot>
         requires { i < length self.now.slots }
         ensures { MatchOption result (tet_at self.now.slots i ≡ None) (λ s. (s.index ≡ i) × IsLive self.now.slots i) }
@@ -84,7 +85,7 @@ impl Arena {
         }
     }
 
-    /// The corners of a live slot.
+    /// The corners of a live slot, in their places.
     pub fn tet(&self, s: Slot) -> SlotCorners
         requires { IsLive self.now.slots s.index }
         ensures corners { corners_at self.now.slots s.index ≡ Some (corner_list result) }
@@ -94,7 +95,7 @@ impl Arena {
         SlotCorners { a, b, c, d }
     }
 
-    /// The neighbor of a live slot behind a face.
+    /// The neighbor of a live slot behind the face opposite its corner in the place `face`, from 0. None exactly where none is linked.
     pub fn neighbor(&self, s: Slot, face: u8) -> Option<Slot>
         requires live { IsLive self.now.slots s.index }
         requires face { face < 4 }
@@ -107,7 +108,7 @@ impl Arena {
         }
     }
 
-    /// The neighbor behind a face, with the face that the two share as it is numbered there.
+    /// The same neighbor, with the place of the shared face in it.
     pub fn across(&self, s: Slot, face: u8) -> Option<RimFace>
         requires live { IsLive self.now.slots s.index }
         requires face { face < 4 }
@@ -123,7 +124,7 @@ impl Arena {
         }
     }
 
-    /// Makes two faces with the same corners each other's neighbors.
+    /// Makes two slots neighbors at these faces, which have the same three corners and no neighbor yet. No other neighbor changes.
     pub fn link(&mut self, s: Slot, i: u8, t: Slot, j: u8)
         requires first { IsLive self.old.slots s.index }
         requires second { IsLive self.old.slots t.index }
@@ -165,7 +166,7 @@ impl Arena {
         two
     }
 
-    /// Makes room for so many more slots.
+    /// Makes room for the star over a rim of this many faces, so that `spare` is at least that. All else stays, and on `NoMemory` `spare` too.
     pub fn reserve(&mut self, faces: usize) -> Result<(), NoMemory>
         ensures room { OnOk result (faces ≤ self.new.spare) }
         ensures succeeds { faces ≤ self.old.spare → IsOk result }
@@ -183,7 +184,8 @@ impl Arena {
         Ok(())
     }
 
-    /// A slot with these corners and no neighbor, at a free place where there is one.
+    /// A new slot with these four different corners and no neighbor, at a free place where there is one, and else past the end. On `NoMemory` the
+    /// arena is as before; it also comes at 2^32 - 1 live slots.
     pub fn alloc_slot(&mut self, corners: SlotCorners) -> Result<Slot, NoMemory>
         requires { AllDiffer (corner_list corners) }
         ensures ok { IfOk result (λ s. Takes self.old.slots self.new.slots s.index (corner_list corners)) }

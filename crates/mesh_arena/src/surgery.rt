@@ -33,7 +33,7 @@ impl Arena {
         self.link(outer.slot, outer.face, Slot { index: made }, inner.face);
     }
 
-    // AddsOne a slot over each face of the rim.
+    // Puts a slot over each face of the rim.
     fn add_star(&mut self, rim: &[RimFace], point: u32)
         requires rim { CanAddStar self.old.slots rim.now (Corner.Point point) }
         requires room { length rim.now ≤ self.old.spare }
@@ -255,7 +255,14 @@ impl Arena {
         let _ = &self.cells;
     }
 
-    /// Puts the star of a point over the rim in the place of the cavity, and names one slot of it.
+    /// Puts the star of a point in the place of a cavity (Bowyer 1981, Watson 1981): for each face of the rim a slot with the corners of the cavity's slot
+    /// behind that face, in their places, and the point in place of the corner opposite it. The star is linked within and to the outer sides of the rim.
+    /// It answers one slot of the star.
+    ///
+    /// The cavity lists different live slots. The rim is not empty and lists, each once, the faces of live slots outside of the cavity whose neighbor is
+    /// in it. Each two corners of a face of the rim are corners of exactly one other. No face of the rim has the point as a corner.
+    ///
+    /// `NoMemory` comes before the first change, and never where the rim has at most `spare` faces.
     pub fn replace_cavity(
         &mut self,
         cavity: &Cavity,
