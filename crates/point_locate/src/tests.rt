@@ -3,7 +3,7 @@ ghost use Rattle.mesh_arena.specs.Mesh.{IsLive, corner_list, AllDiffer};
 ghost use Rattle.point_locate.specs.Place.{IsOn, AreOn, AreCornersOn};
 
 use crate::walk::scan;
-use crate::{locate, Place};
+use crate::{Place, locate};
 use geo_laws::Points;
 use mesh_arena::{Arena, Corner, Slot, SlotCorners};
 use sign_predicates::GridPoint;
@@ -11,9 +11,13 @@ use std::alloc::Global;
 use std::test::Fail;
 
 const P0: Corner = Corner::Point(0);
+
 const P1: Corner = Corner::Point(1);
+
 const P2: Corner = Corner::Point(2);
+
 const P3: Corner = Corner::Point(3);
+
 const G: Corner = Corner::Ghost;
 
 fn grid_point(x: i8, y: i8, z: i8) -> GridPoint {
@@ -74,12 +78,37 @@ fn points_in_and_round_a_tetrahedron(rt: HostRuntime) -> Result<(), Fail> {
     }
     // Each ghost is positive where a point strictly beyond its face stands for infinity.
     let mut arena = Arena::new(alloc);
-    let row = arena.alloc_slot(SlotCorners { a: P0, b: P1, c: P2, d: P3 })?;
+    let row = arena.alloc_slot(SlotCorners {
+        a: P0,
+        b: P1,
+        c: P2,
+        d: P3,
+    })?;
     let ghosts = [
-        arena.alloc_slot(SlotCorners { a: P1, b: P2, c: P3, d: G })?,
-        arena.alloc_slot(SlotCorners { a: G, b: P0, c: P2, d: P3 })?,
-        arena.alloc_slot(SlotCorners { a: P0, b: P1, c: P3, d: G })?,
-        arena.alloc_slot(SlotCorners { a: P0, b: G, c: P2, d: P1 })?,
+        arena.alloc_slot(SlotCorners {
+            a: P1,
+            b: P2,
+            c: P3,
+            d: G,
+        })?,
+        arena.alloc_slot(SlotCorners {
+            a: G,
+            b: P0,
+            c: P2,
+            d: P3,
+        })?,
+        arena.alloc_slot(SlotCorners {
+            a: P0,
+            b: P1,
+            c: P3,
+            d: G,
+        })?,
+        arena.alloc_slot(SlotCorners {
+            a: P0,
+            b: G,
+            c: P2,
+            d: P1,
+        })?,
     ];
     for (at, want) in [
         ((1, 1, 1), Some(Place::Inside(row))),

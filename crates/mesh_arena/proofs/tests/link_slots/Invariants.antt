@@ -1,4 +1,3 @@
-use Rattle.std.proofs.Common.{◌<◌}
 use Rattle.mesh_arena.specs.Mesh.{IsLive}
 use Rattle.mesh_arena.proofs.tests.link_slots.Given as goal
 
