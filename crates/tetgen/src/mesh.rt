@@ -46,6 +46,10 @@ pub fn mesh_of(alloc: Global, options: &Options, bytes: &Bytes) -> Result<Output
         Ok(text) => text,
         Err(NodeFault::Text(fault)) => return Err(Unmeshed::BadText(fault)),
         Err(NodeFault::NoMemory) => return Err(Unmeshed::NoMemory),
+        // the reader answers none of these
+        Err(NodeFault::TooMany { .. } | NodeFault::Range { .. } | NodeFault::Twin { .. }) => {
+            return Err(Unmeshed::NotBuilt);
+        }
     };
     let Some(points) = grid_points(alloc, &text)? else {
         return Err(Unmeshed::NotBuilt);

@@ -1,0 +1,9 @@
+pub mod Cells
+pub mod Mesh
+pub mod Cone
+pub mod AddStar
+pub mod FaceCorners
+pub mod Pairs
+pub mod FreeCavity
+pub mod Replace
+mod OneSlot

@@ -1,0 +1,232 @@
+ghost use Rattle.std.specs.Prelude.{◌≡◌, ◌≢◌, ℕ, ◌<◌, IsTrue, IfSome};
+ghost use Rattle.mesh_arena.specs.Mesh.{corners_at, IsLive, corner_list, AllDiffer};
+
+use crate::slot::has_corner;
+use crate::*;
+use std::alloc::Global;
+use std::test::Fail;
+use tet_ports::NoMemory;
+
+// The corners in these places: a point's number, or -1 for the point at infinity.
+fn slot_corners(row: [i32; 4]) -> SlotCorners {
+    let [a, b, c, d] = row;
+    SlotCorners {
+        a: corner_of(a),
+        b: corner_of(b),
+        c: corner_of(c),
+        d: corner_of(d),
+    }
+}
+
+fn corner_of(i: i32) -> Corner {
+    match u32::try_from(i) {
+        Ok(i) => Corner::Point(i),
+        Err(_) => Corner::Ghost,
+    }
+}
+
+fn are_different(t: SlotCorners) -> bool
+    ensures { IsTrue result → AllDiffer (corner_list t) }
+{
+    let all = [t.a, t.b, t.c, t.d];
+    for i in 0..4u8 {
+        if has_corner(&all, i, all[i as usize]) {
+            return false;
+        }
+    }
+    true
+}
+
+fn link_faces(arena: &mut Arena, s: Slot, i: u8, t: Slot, j: u8)
+    requires first { IsLive arena.old.slots s.index }
+    requires second { IsLive arena.old.slots t.index }
+    requires faces { (i < 4) × (j < 4) }
+    requires differ { s.index ≢ t.index }
+    ensures { (u : ℕ) → corners_at arena.new.slots u ≡ corners_at arena.old.slots u }
+{
+    if arena.side(s.index, i).is_none() && arena.side(t.index, j).is_none() {
+        if arena.same_face(s.index, i, t.index, j) {
+            arena.link(s, i, t, j);
+        }
+    }
+}
+
+fn link_slots(arena: &mut Arena, s: Slot, t: Slot)
+    requires first { IsLive arena.old.slots s.index }
+    requires second { IsLive arena.old.slots t.index }
+    requires differ { s.index ≢ t.index }
+{
+    for i in 0..4u8 {
+        for j in 0..4u8 {
+            link_faces(arena, s, i, t, j);
+        }
+    }
+}
+
+fn link_places(arena: &mut Arena, i: usize, j: usize) {
+    if i < arena.slots() && j < arena.slots() && i != j {
+        if let Some(s) = arena.slot(i) {
+            if let Some(t) = arena.slot(j) {
+                link_slots(arena, s, t);
+            }
+        }
+    }
+}
+
+// A mesh of these slots, in which faces with the same corners are linked.
+fn linked_mesh(alloc: Global, rows: &[[i32; 4]]) -> Result<Arena, Fail> {
+    let mut arena = Arena::new(alloc);
+    for row in rows {
+        let t = slot_corners(*row);
+        if !are_different(t) {
+            return Err("a corner stands twice".into());
+        }
+        arena.alloc_slot(t)?;
+    }
+    for i in 0..rows.len() {
+        for j in 0..i {
+            link_places(&mut arena, i, j);
+        }
+    }
+    Ok(arena)
+}
+
+// Puts a point in the place of one slot, if that has four neighbors and lacks the point.
+fn split(alloc: Global, arena: &mut Arena, s: Slot, point: u32) -> Result<Option<Slot>, NoMemory>
+    requires { IsLive arena.old.slots s.index }
+{
+    let t = arena.tet(s);
+    let Some(a) = arena.across(s, 0) else {
+        return Ok(None);
+    };
+    let Some(b) = arena.across(s, 1) else {
+        return Ok(None);
+    };
+    let Some(c) = arena.across(s, 2) else {
+        return Ok(None);
+    };
+    let Some(d) = arena.across(s, 3) else {
+        return Ok(None);
+    };
+    if has_corner(&[t.a, t.b, t.c, t.d], 4, Corner::Point(point)) {
+        return Ok(None);
+    }
+    let mut cavity = Cavity::new(alloc);
+    cavity.push(s)?;
+    let mut rim = Rim::new(alloc);
+    rim.push(a)?;
+    rim.push(b)?;
+    rim.push(c)?;
+    rim.push(d)?;
+    let made = arena.replace_cavity(&cavity, &rim, point)?;
+    Ok(Some(made))
+}
+
+// The corners of the live slots.
+fn live_slots(alloc: Global, arena: &Arena) -> Result<Vec<SlotCorners>, Fail> {
+    let mut all = Vec::new(alloc);
+    for i in 0..arena.slots() {
+        if let Some(s) = arena.slot(i) {
+            all.push(arena.tet(s))?;
+        }
+    }
+    Ok(all)
+}
+
+// The corners of the slot behind each face of a live slot.
+fn neighbors(arena: &Arena, s: Slot) -> [Option<SlotCorners>; 4]
+    requires { IsLive arena.now.slots s.index }
+{
+    let mut all = [None; 4];
+    for face in 0..4u8 {
+        if let Some(n) = arena.neighbor(s, face) {
+            all[face as usize] = Some(arena.tet(n));
+        }
+    }
+    all
+}
+
+// The slot with these corners.
+fn find(arena: &Arena, row: [i32; 4]) -> Option<Slot>
+    ensures { IfSome result (λ s. IsLive arena.now.slots s.index) }
+{
+    let t = slot_corners(row);
+    for i in 0..arena.slots() {
+        if let Some(s) = arena.slot(i) {
+            if arena.tet(s) == t {
+                return Some(s);
+            }
+        }
+    }
+    None
+}
+
+// The Delaunay list of a cube's corners, and its ghosts.
+const CUBE: [[i32; 4]; 18] = [
+    [0, 1, 3, 4],
+    [1, 2, 3, 5],
+    [1, 3, 4, 5],
+    [2, 3, 5, 6],
+    [3, 4, 5, 7],
+    [3, 5, 6, 7],
+    [0, 1, 3, -1],
+    [0, 1, 4, -1],
+    [0, 3, 4, -1],
+    [1, 2, 3, -1],
+    [1, 2, 5, -1],
+    [1, 4, 5, -1],
+    [2, 3, 6, -1],
+    [2, 5, 6, -1],
+    [3, 4, 7, -1],
+    [3, 6, 7, -1],
+    [4, 5, 7, -1],
+    [5, 6, 7, -1],
+];
+
+#[test]
+fn a_point_replaces_a_tetrahedron_of_a_cube(rt: HostRuntime) -> Result<(), Fail> {
+    let alloc = rt.alloc();
+    let mut arena = linked_mesh(alloc, &CUBE)?;
+    arena.reserve(64)?;
+    let s = find(&arena, [1, 3, 4, 5]).ok_or("not there")?;
+    let made = split(alloc, &mut arena, s, 8)?.ok_or("not split")?;
+    let live = live_slots(alloc, &arena)?;
+    assert_eq!(rt; live.len(), 21);
+    assert!(rt; find(&arena, [1, 3, 4, 5]).is_none());
+    // The star: each slot, and what stands behind its faces.
+    for (row, want) in [
+        (
+            [8, 3, 4, 5],
+            [[3, 4, 5, 7], [1, 8, 4, 5], [1, 3, 8, 5], [1, 3, 4, 8]],
+        ),
+        (
+            [1, 8, 4, 5],
+            [[8, 3, 4, 5], [1, 4, 5, -1], [1, 3, 8, 5], [1, 3, 4, 8]],
+        ),
+        (
+            [1, 3, 8, 5],
+            [[8, 3, 4, 5], [1, 8, 4, 5], [1, 2, 3, 5], [1, 3, 4, 8]],
+        ),
+        (
+            [1, 3, 4, 8],
+            [[8, 3, 4, 5], [1, 8, 4, 5], [1, 3, 8, 5], [0, 1, 3, 4]],
+        ),
+        (
+            [0, 1, 3, 4],
+            [[1, 3, 4, 8], [0, 3, 4, -1], [0, 1, 4, -1], [0, 1, 3, -1]],
+        ),
+        (
+            [1, 2, 3, -1],
+            [[2, 3, 6, -1], [0, 1, 3, -1], [1, 2, 5, -1], [1, 2, 3, 5]],
+        ),
+    ] {
+        let s = find(&arena, row).ok_or("not there")?;
+        let found = neighbors(&arena, s);
+        for k in 0..4 {
+            assert_eq!(rt; found[k], Some(slot_corners(want[k])), "behind face {k}");
+        }
+    }
+    let i = made.index as usize;
+    assert!(rt; i < arena.slots());
+    Ok(())
+}
