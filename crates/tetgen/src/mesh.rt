@@ -48,7 +48,7 @@ pub fn mesh_of(alloc: Global, options: &Options, bytes: &Bytes) -> Result<Output
         Err(NodeFault::NoMemory) => return Err(Unmeshed::NoMemory),
         // the reader answers none of these
         Err(NodeFault::TooMany { .. } | NodeFault::Range { .. } | NodeFault::Twin { .. }) => {
-            return Err(Unmeshed::NotBuilt);
+            return Err(Unmeshed::NoMemory);
         }
     };
     let Some(points) = grid_points(alloc, &text)? else {
