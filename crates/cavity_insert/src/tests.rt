@@ -3,8 +3,9 @@ ghost use Rattle.geo_laws.specs.Delaunay.{point, HasDistinctPoints};
 
 use crate::{BuildFault, delaunay};
 use geo_laws::{Points, Tet, TetList};
-use sign_predicates::GridPoint;
+use sign_predicates::{Corners, GridPoint, Hold, RatPoint, in_tet};
 use std::alloc::Global;
+use std::test::Fail;
 use tet_ports::NoMemory;
 
 fn points(alloc: Global, coordinates: &[[i8; 3]]) -> Result<Points, NoMemory> {
@@ -116,4 +117,53 @@ fn lists(rt: HostRuntime) {
         [2, 2, 0],
     ];
     assert!(rt; has_list(alloc, &grid, &[]));
+}
+
+/// How many rows hold the point strictly.
+fn rows_round(points: &Points, rows: &TetList, x: RatPoint) -> usize {
+    let mut count = 0usize;
+    for row in rows.as_slice() {
+        let (a, b, c, d) = (
+            row.a as usize,
+            row.b as usize,
+            row.c as usize,
+            row.d as usize,
+        );
+        let most = points.len();
+        if a < most && b < most && c < most && d < most {
+            let corners = Corners {
+                a: points.at(a),
+                b: points.at(b),
+                c: points.at(c),
+                d: points.at(d),
+            };
+            if in_tet(corners, x) == Hold::Inside {
+                count = count.saturating_add(1);
+            }
+        }
+    }
+    count
+}
+
+#[test]
+fn one_row_round_a_point(rt: HostRuntime) -> Result<(), Fail> {
+    let alloc = rt.alloc();
+    let points = points(
+        alloc,
+        &[[0, 0, 0], [2, 0, 0], [2, 2, 0], [0, 2, 0], [1, 1, 2]],
+    )?;
+    assert!(rt; points.len() < 9 && are_distinct(&points));
+    let Ok(rows) = delaunay(alloc, &points) else {
+        return Err("no list".into());
+    };
+    for (z, count) in [(500_000, 1), (-1, 0)] {
+        let x = RatPoint {
+            x: 1_125_000,
+            y: 1_000_000,
+            z,
+            w: 1_000_000,
+        };
+        assert_eq!(rt; rows_round(&points, &rows, x), count);
+    }
+    Ok(())
 }

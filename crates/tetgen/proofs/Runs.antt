@@ -2,8 +2,6 @@
 use Rattle.std.proofs.Common.{◌≡◌, ◌≤◌, ◌<◌, ◌+◌, ◌-◌, ◌^◌, ◌⊎◌, inl, inr, ℕ, Bool, true, false, cond, List, [], ◌∷◌, ◌++◌, length, Option, Some, None, Result, Ok, Err, min, refl, sym, subst, arith}
 use Rattle.std.specs.Prelude.{All, codes, not, ◌||◌}
 use Rattle.std.proofs.lemmas.List.Elements.{All-nil, All-cons, All-append}
-use Rattle.geo_laws.specs.Delaunay.{delaunay_rows}
-use Rattle.geo_laws.proofs.DelaunayList.{triangulation_of_rows}
 use Rattle.geo_laws.specs.declared.faces.Side.{Side}
 use Rattle.geo_laws.specs.declared.tetrahedra.Tet.{Tet}
 use Rattle.hole_carve.specs.Pairs.{pairs_of}
@@ -12,8 +10,7 @@ use Rattle.mesh_files.specs.declared.markers.FaceRow.{FaceRow}
 use Rattle.tet_ports.specs.Counts.{Rose}
 use Rattle.tet_ports.specs.Files.{Files, Holds, HoldsMore, IsAbsent}
 use Rattle.tetgen.specs.Outputs.{TellsFailure, named, ele_file, face_file, edge_file, neigh_file, texts_of}
-use Rattle.tetgen.specs.Points.{points_of}
-use Rattle.tetgen.specs.Run.{Seen, IsMesh, IsCause, IsAnswer, IsLeft, IsWritten, IsTriangulated, answer_of}
+use Rattle.tetgen.specs.Run.{Seen, IsMesh, IsCause, IsAnswer, IsLeft, IsWritten, answer_of}
 use Rattle.tetgen.specs.Words.{words_fault, options_of}
 use Rattle.tetgen.specs.declared.outputs.Outputs.{Outputs}
 use Rattle.tetgen.specs.declared.run.Stop.{Stop}
@@ -121,13 +118,3 @@ answered words seen Done u h = (u, h)
 answered words seen (WriteFault None) u h = (u, h)
 answered words seen (WriteFault (Some name)) u h = (u, h)
 answered words seen NoMemory u h = tt
-
--- a run that is done stored the rows of a triangulation
-pub triangulated : (words : List (List ℕ)) (seen : Seen) → IsAnswer words seen Done → IsTriangulated (options_of words).base seen.files_before
-triangulated words seen (understood, cause) = record {
-  bytes = cause.0;
-  text = cause.1;
-  read = cause.2;
-  spells = cause.3;
-  triangulation = triangulation_of_rows (points_of cause.1) (delaunay_rows (points_of cause.1)) refl;
-}

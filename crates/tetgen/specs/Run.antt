@@ -94,13 +94,15 @@ IsAnswer words seen (Usage word place) = words_fault words ≡ Some (word, place
 IsAnswer words seen NoMemory = Unit {0}
 IsAnswer words seen status = (words_fault words ≡ None) × IsCause (options_of words).base seen status
 
--- the named file holds the points of a mesh with these outputs
+-- The named file holds the points of a mesh with these outputs. Its rows cover the hull of the points once: each rational point off all face
+-- planes is strictly inside exactly one where it is not beyond the hull, and else inside none; and any two of them are properly met.
 pub record IsMesh (options : Options) (files : Option Files) (outputs : Outputs) : Type 0 where
   pub bytes : List ℕ
   pub text : NodeText
   pub read : IsRead options.base files bytes
   pub spells : Spells bytes text
   pub mesh : IsMeshOf options text outputs
+  pub triangulation : IsTriangulation (points_of text) (delaunay_rows (points_of text))
 
 -- nothing is changed
 pub record IsUnchanged (seen : Seen) : Type 0 where
@@ -135,14 +137,6 @@ IsLeft options seen (ReadFault name) = IsUnchanged seen
 IsLeft options seen (BadText name fault) = IsUnchanged seen
 IsLeft options seen NotBuilt = IsUnchanged seen
 IsLeft options seen Flat = IsUnchanged seen
-
--- the rows of a stored mesh cover the hull of the points once, and any two of them are properly met
-pub record IsTriangulated (base : List ℕ) (files : Option Files) : Type 0 where
-  pub bytes : List ℕ
-  pub text : NodeText
-  pub read : IsRead base files bytes
-  pub spells : Spells bytes text
-  pub triangulation : IsTriangulation (points_of text) (delaunay_rows (points_of text))
 
 -- ---- the message
 

@@ -1,9 +1,9 @@
 ghost use Rattle.std.specs.Prelude.{◌≡◌, ◌≤◌, ◌⊎◌, All, IfErr};
 ghost use Rattle.tetgen.specs.Outputs.{TellsFailure};
-ghost use Rattle.tetgen.specs.Run.{IsRead, IsCause, IsAnswer, IsLeft, IsTriangulated, IsTold, IsRefusal, answer_of, IsTellable, IsSummed, IsWritten};
+ghost use Rattle.tetgen.specs.Run.{IsRead, IsCause, IsAnswer, IsLeft, IsTold, IsRefusal, answer_of, IsTellable, IsSummed, IsWritten};
 ghost use Rattle.tetgen.specs.Names.{node_name};
 ghost use Rattle.tetgen.specs.Words.{options_of};
-ghost use Rattle.tetgen.specs.declared.status.Status.TheVariants.{Done as IsDone, NoMemory as WantsMemory};
+ghost use Rattle.tetgen.specs.declared.status.Status.TheVariants.{NoMemory as WantsMemory};
 
 use crate::mesh::{Unmeshed, mesh_of};
 use crate::message::{OUT_OF_MEMORY, SUMMARY_FAILED, message};
@@ -66,7 +66,6 @@ pub fn run_tetgen<F: Folder, O: Sink, E: Sink>(
       put_faults_before = O.faults out.old;
       put_faults_now = O.faults out.new;
     }) result }
-    ensures triangulated { result ≡ IsDone → IsTriangulated (options_of words.now).base (F.held folder.old) }
     ensures told { IsTold result (E.written err.old) (E.written err.new) (E.faults err.old, E.wants err.old) (E.faults err.new, E.wants err.new) }
 {
     match run(alloc, words, folder, out) {
