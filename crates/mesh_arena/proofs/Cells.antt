@@ -1,0 +1,337 @@
+-- How each change of the cells keeps the count and the list of free cells.
+use Rattle.std.proofs.Common.{◌≡◌, ◌≢◌, ◌⊎◌, ℕ, zero, suc, ◌+◌, ◌-◌, ◌<◌, ◌≤◌, Bool, true, false, List, [], ◌∷◌, ◌++◌, map, length, get_or, set, Option, Some, None, is_some, IsSome, count_by, cond, slice_get, option_map, refl, sym, ap, subst, ◌∙◌, inl, inr, arith, length-set, true≢false}
+use Rattle.std.proofs.lemmas.List.{map-set, map_push, length-map, length_push, get_or-map, get_or-set_same, get_or-set_other, get_or_past, get_or_default}
+use Rattle.std.proofs.lemmas.List.Sums.{sum_by-set, sum_by_push, sum_by-cons}
+use Rattle.std.proofs.lemmas.Option.{slice_get_within, slice_get-get_or, get_or_from_slice_get}
+use Rattle.mesh_arena.specs.declared.arena.Cell.{Cell}
+use Rattle.mesh_arena.specs.Mesh.{Tet, tet_at, corners_at, side, at, SameFace, IsShaped, IsMesh, Links, Unlinks, Takes, Frees, AllDiffer, tet_with}
+use Rattle.mesh_arena.specs.declared.arena.Side.{Side}
+use Rattle.mesh_arena.specs.declared.slot.Corner.{Corner}
+use Rattle.mesh_arena.proofs.Mesh.{Writes, Writes-set, Links-writes, Unlinks-writes, IsMesh-links, IsMesh-unlinks, side_live, lone, Puts, Puts-set, Puts-push, Takes-puts, Frees-puts, IsMesh-takes, IsMesh-frees}
+use Rattle.mesh_arena.specs.Cells.{tet_in, tet_of, IsFreeList, IsCounted, IsSound}
+
+-- the count of a cell
+abbrev one_if : Bool → ℕ
+one_if b = cond b 1 0
+
+pub tet_of-live : (c : Cell) → c.live ≡ true → tet_of c ≡ Some (tet_in c)
+tet_of-live c h = rw h refl
+
+pub tet_of-free : (c : Cell) → c.live ≡ false → tet_of c ≡ None
+tet_of-free c h = rw h refl
+
+is_some-tet_of : (c : Cell) → is_some (tet_of c) ≡ c.live
+is_some-tet_of c = by_flag c.live refl
+  where
+    by_flag : (b : Bool) → c.live ≡ b → is_some (tet_of c) ≡ c.live
+    by_flag true h = rw h refl
+    by_flag false h = rw h refl
+
+-- a place starts one list of free cells at most
+pub IsFreeList-unique : (cells : List Cell) (m n at : ℕ) → IsFreeList cells m at → IsFreeList cells n at → m ≡ n
+IsFreeList-unique cells zero zero at p q = refl
+IsFreeList-unique cells zero (suc n) at p q = absurd (omega (arith, slice_get_within cells at _ q.1))
+IsFreeList-unique cells (suc m) zero at p q = absurd (omega (arith, slice_get_within cells at _ p.1))
+IsFreeList-unique cells (suc m) (suc n) at p q =
+    let first = p.1 in
+    let second = q.1 in
+    let same : q.0 ≡ p.0 = cc in
+    ap suc (IsFreeList-unique cells m n p.0.next p.3 (subst (λ (c : Cell). IsFreeList cells n c.next) same q.3))
+
+-- a write at a place that is not on the list keeps the list
+pub IsFreeList-set : (cells : List Cell) (at : ℕ) (e : Cell) (n from : ℕ) → ((m : ℕ) → m < n → IsFreeList cells (suc m) at → ⊥) → IsFreeList cells n from → IsFreeList (set cells at e) n from
+IsFreeList-set cells at e zero from off p = p ∙ sym (length-set cells at e)
+IsFreeList-set cells at e (suc n) from off p =
+    let other : from ≢ at = λ same. off n (omega arith) (subst (IsFreeList cells (suc n)) same p) in
+    let within = slice_get_within cells from _ p.1 in
+    let kept : slice_get (set cells at e) from ≡ Some p.0 =
+    slice_get-get_or (set cells at e) from e (omega (arith, length-set cells at e))
+    ∙ ap Some (get_or-set_other cells at from e e other ∙ get_or_from_slice_get cells from _ e p.1) in
+    (p.0, kept, p.2, IsFreeList-set cells at e n p.0.next (λ m below. off m (omega arith)) p.3)
+
+-- a live cell is on no list of free cells
+pub live_is_off_list : (cells : List Cell) (at : ℕ) (c : Cell) → slice_get cells at ≡ Some c → c.live ≡ true → (m : ℕ) → IsFreeList cells (suc m) at → ⊥
+live_is_off_list cells at c found live m p =
+    let listed = p.1 in
+    let same : p.0 ≡ c = cc in
+    true≢false (sym live ∙ ap (λ (x : Cell). x.live) (sym same) ∙ p.2)
+
+-- the count of live cells after a write
+count-set : (cells : List Cell) (at : ℕ) (old new : Cell) → slice_get cells at ≡ Some old → count_by is_some (map tet_of (set cells at new)) + one_if old.live ≡ count_by is_some (map tet_of cells) + one_if new.live
+count-set cells at old new found =
+    let within = slice_get_within cells at old found in
+    let read : get_or (map tet_of cells) at None ≡ tet_of old =
+    get_or-map tet_of cells at old None within ∙ ap tet_of (get_or_from_slice_get cells at old old found) in
+    let counted = sum_by-set (λ (o : Option Tet). cond (is_some o) 1 0) (map tet_of cells) at (tet_of new) None (omega (arith, length-map cells tet_of)) in
+    let was : one_if (is_some (get_or (map tet_of cells) at None)) ≡ one_if old.live = ap (λ (o : Option Tet). one_if (is_some o)) read ∙ ap one_if (is_some-tet_of old) in
+    let is : one_if (is_some (tet_of new)) ≡ one_if new.live = ap one_if (is_some-tet_of new) in
+    let moved : count_by is_some (map tet_of (set cells at new)) ≡ count_by is_some (set (map tet_of cells) at (tet_of new)) = ap (count_by is_some) (map-set tet_of cells at new) in
+    omega (arith, counted, was, is, moved)
+
+-- a live cell is rewritten
+pub IsCounted-rewrite : (cells : List Cell) (live next at : ℕ) (old new : Cell) → IsCounted cells live next → slice_get cells at ≡ Some old → old.live ≡ true → new.live ≡ true → IsCounted (set cells at new) live next
+IsCounted-rewrite cells live next at old new sound found was is =
+    let count = count-set cells at old new found in
+    let before = ap one_if was in
+    let after = ap one_if is in
+    record {
+      counted = omega (arith, sound.counted);
+      free = sound.free;
+      total = omega (arith, sound.total, length-set cells at new);
+      linked = IsFreeList-set cells at new sound.free next (λ m _. live_is_off_list cells at old found was m) sound.linked;
+    }
+
+-- the next cell is the end of full cells, or a free cell
+pub next_cases : (cells : List Cell) (live next : ℕ) → IsCounted cells live next → ((next ≡ length cells) × (live ≡ length cells)) ⊎ ((c : Cell) × (slice_get cells next ≡ Some c) × (c.live ≡ false))
+next_cases cells live next sound = by_count sound.free sound.total sound.linked
+  where
+    by_count : (n : ℕ) → live + n ≡ length cells → IsFreeList cells n next → ((next ≡ length cells) × (live ≡ length cells)) ⊎ ((c : Cell) × (slice_get cells next ≡ Some c) × (c.live ≡ false))
+    by_count zero total linked = inl (linked, omega arith)
+    by_count (suc n) total linked = inr (linked.0, linked.1, linked.2)
+
+pub full_at_end : (cells : List Cell) (live next : ℕ) → IsCounted cells live next → next ≡ length cells → live ≡ length cells
+full_at_end cells live next sound at_end =
+    elim (next_cases cells live next sound) [
+      | inl full ↦ full.1
+      | inr found ↦ omega (arith, slice_get_within cells next _ found.1)
+    ]
+
+-- before the end of the cells the next cell is a free one
+pub free_before_end : (cells : List Cell) (live next : ℕ) → IsCounted cells live next → next ≢ length cells → (c : Cell) × (slice_get cells next ≡ Some c) × (c.live ≡ false)
+free_before_end cells live next sound before =
+    elim (next_cases cells live next sound) [ inl full ↦ absurd (before full.0) | inr found ↦ found ]
+
+pub IsCounted-push : (cells : List Cell) (live next : ℕ) (new : Cell) → IsCounted cells live next → next ≡ length cells → new.live ≡ true → IsCounted (cells ++ new ∷ []) (live + 1) (next + 1)
+IsCounted-push cells live next new sound at_end is =
+    let full = full_at_end cells live next sound at_end in
+    let longer = length_push cells new in
+    let pushed = sum_by_push (λ (o : Option Tet). cond (is_some o) 1 0) (map tet_of cells) (tet_of new) in
+    let one : one_if (is_some (tet_of new)) ≡ 1 = ap one_if (is_some-tet_of new ∙ is) in
+    record {
+      counted = omega (arith, sound.counted, pushed, one, ap (count_by is_some) (map_push tet_of cells new));
+      free = 0;
+      total = omega arith;
+      linked = omega arith;
+    }
+
+-- the first free cell leaves the list: the rest of the list is shorter, so it does not come back to it
+pub IsCounted-fill : (cells : List Cell) (live next : ℕ) (old new : Cell) → IsCounted cells live next → slice_get cells next ≡ Some old → new.live ≡ true → IsCounted (set cells next new) (live + 1) old.next
+IsCounted-fill cells live next old new sound found is = by_count sound.free sound.total sound.linked
+  where
+    by_count : (n : ℕ) → live + n ≡ length cells → IsFreeList cells n next → IsCounted (set cells next new) (live + 1) old.next
+    by_count zero total linked = absurd (omega (arith, slice_get_within cells next _ found))
+    by_count (suc n) total linked =
+        let listed = linked.1 in
+        let same : linked.0 ≡ old = cc in
+        let off : (m : ℕ) → m < n → IsFreeList cells (suc m) next → ⊥ =
+        λ m below p. omega (arith, IsFreeList-unique cells (suc m) (suc n) next p linked) in
+        let was : old.live ≡ false = ap (λ (x : Cell). x.live) (sym same) ∙ linked.2 in
+        let before = ap one_if was in
+        let after = ap one_if is in
+        record {
+          counted = omega (arith, sound.counted, count-set cells next old new found);
+          free = n;
+          total = omega (arith, length-set cells next new);
+          linked = IsFreeList-set cells next new n old.next off (subst (λ (c : Cell). IsFreeList cells n c.next) same linked.3);
+        }
+
+pub IsCounted-vacate : (cells : List Cell) (live next at : ℕ) (old new : Cell) → IsCounted cells live next → slice_get cells at ≡ Some old → old.live ≡ true → new.live ≡ false → new.next ≡ next → IsCounted (set cells at new) (live - 1) at
+IsCounted-vacate cells live next at old new sound found was is links =
+    let within = slice_get_within cells at _ found in
+    let count = count-set cells at old new found in
+    let before = ap one_if was in
+    let after = ap one_if is in
+    let written : slice_get (set cells at new) at ≡ Some new =
+    slice_get-get_or _ at new (omega (arith, length-set cells at new))
+    ∙ ap Some (get_or-set_same cells at new new within) in
+    let rest : IsFreeList (set cells at new) sound.free next = IsFreeList-set cells at new sound.free next (λ m _. live_is_off_list cells at old found was m) sound.linked in
+    record {
+      counted = omega (arith, sound.counted);
+      free = suc sound.free;
+      total = omega (arith, sound.counted, sound.total, length-set cells at new);
+      linked = (new, written, is, subst (IsFreeList (set cells at new) sound.free) (sym links) rest);
+    }
+
+-- what a live place reads, from the list of slots and from the cells
+pub live_cell : (cells : List Cell) (s : ℕ) (d c : Cell) → IsSome (corners_at (map tet_of cells) s) → c ≡ get_or cells s d → (s < length cells) × (slice_get cells s ≡ Some c) × (c.live ≡ true) × (tet_at (map tet_of cells) s ≡ Some (tet_in c))
+live_cell cells s d c live read =
+    let inside : s < length (map tet_of cells) = within (map tet_of cells) s live in
+    let lt : s < length cells = omega (arith, length-map cells tet_of) in
+    let got : tet_at (map tet_of cells) s ≡ tet_of c = get_or-map tet_of cells s d None lt ∙ ap tet_of (sym read) in
+    let flag : c.live ≡ true = by_flag c.live refl got in
+    (lt, slice_get-get_or cells s d lt ∙ ap Some (sym read), flag, got ∙ tet_of-live c flag)
+  where
+    within : (slots : List (Option Tet)) (s : ℕ) → IsSome (corners_at slots s) → s < length slots
+    within slots s live = grind (arith, get_or_past)
+
+    by_flag : (b : Bool) → c.live ≡ b → tet_at (map tet_of cells) s ≡ tet_of c → c.live ≡ true
+    by_flag true e got = e
+    by_flag false e got =
+        let gone : tet_at (map tet_of cells) s ≡ None = got ∙ tet_of-free c e in
+        absurd (true≢false (sym (subst (λ (o : Option Tet). IsSome (option_map (λ (t : Tet). t.corners) o)) gone live)))
+
+-- a cell of a mesh with another side
+pub map-with_side : (cells : List Cell) (s i : ℕ) (c : Cell) (b : Option Side) → c.live ≡ true → map tet_of (set cells s (record c { sides = set c.sides i b })) ≡ set (map tet_of cells) s (Some (tet_with (tet_in c) i b))
+map-with_side cells s i c b live =
+    map-set tet_of cells s (record c { sides = set c.sides i b }) ∙ ap (set (map tet_of cells) s) (tet_of-live (record c { sides = set c.sides i b }) live)
+
+pub record Wrote (cells : List Cell) (live next : ℕ) (s i : ℕ) (c : Cell) (b : Option Side) : Type 0 where
+  pub counted : IsCounted (set cells s (record c { sides = set c.sides i b })) live next
+  pub writes : Writes (map tet_of cells) (map tet_of (set cells s (record c { sides = set c.sides i b }))) s i b
+
+pub Wrote-set : (cells : List Cell) (live next s i : ℕ) (c : Cell) (b : Option Side) → IsCounted cells live next → IsShaped (map tet_of cells) → IsSome (corners_at (map tet_of cells) s) → i < 4 → c ≡ get_or cells s c → Wrote cells live next s i c b
+Wrote-set cells live next s i c b counted shaped is_live face read =
+    let found = live_cell cells s c c is_live read in
+    record {
+      counted = IsCounted-rewrite cells live next s c _ counted found.1 found.2 found.2;
+      writes = rw (map-with_side cells s i c b found.2) (Writes-set (map tet_of cells) s i (tet_in c) b shaped found.3 face);
+    }
+
+-- the cells after two sides are written
+abbrev pub with_side : List Cell → ℕ → ℕ → Cell → Option Side → List Cell
+with_side cells s i c b = set cells s (record c { sides = set c.sides i b })
+
+pub record Linked (cells new : List Cell) (live next s i t j : ℕ) : Type 0 where
+  pub sound : IsSound new live next
+  pub links : Links (map tet_of cells) (map tet_of new) s i t j
+
+pub Linked-writes : (cells : List Cell) (live next s i t j : ℕ) (one two : Cell) → IsSound cells live next → IsSome (corners_at (map tet_of cells) s) → IsSome (corners_at (map tet_of cells) t) → i < 4 → j < 4 → s ≢ t → SameFace (map tet_of cells) s i t j → side (map tet_of cells) s i ≡ None → side (map tet_of cells) t j ≡ None → one ≡ get_or cells s one → two ≡ get_or (with_side cells s i one (Some (at t j))) t two → Linked cells (with_side (with_side cells s i one (Some (at t j))) t j two (Some (at s i))) live next s i t j
+Linked-writes cells live next s i t j one two sound live_s live_t hi hj differ faces free_s free_t read read2 =
+    let w1 = Wrote-set cells live next s i one (Some (at t j)) sound.counted sound.mesh.shaped live_s hi read in
+    let w2 = Wrote-set _ live next t j two (Some (at s i)) w1.counted w1.writes.shaped (subst IsSome (sym (w1.writes.corners t)) live_t) hj read2 in
+    let links = Links-writes _ _ _ s i t j differ w1.writes w2.writes in
+    record {
+      sound = record { counted = w2.counted; mesh = IsMesh-links _ _ s i t j sound.mesh w2.writes.shaped differ faces free_s free_t links };
+      links = links;
+    }
+
+pub record Unlinked (cells new : List Cell) (live next s i t j : ℕ) : Type 0 where
+  pub sound : IsSound new live next
+  pub unlinks : Unlinks (map tet_of cells) (map tet_of new) s i t j
+
+pub Unlinked-writes : (cells : List Cell) (live next s i t j : ℕ) (one two : Cell) → IsSound cells live next → side (map tet_of cells) s i ≡ Some (at t j) → one ≡ get_or cells s one → two ≡ get_or (with_side cells s i one None) t two → Unlinked cells (with_side (with_side cells s i one None) t j two None) live next s i t j
+Unlinked-writes cells live next s i t j one two sound was read read2 =
+    let here = side_live (map tet_of cells) s i (at t j) sound.mesh.shaped was in
+    let home : side (map tet_of cells) t j ≡ Some (at s i) = sound.mesh.back s i (at t j) was in
+    let there = side_live (map tet_of cells) t j (at s i) sound.mesh.shaped home in
+    let apart : t ≢ s = sound.mesh.apart s i (at t j) was in
+    let w1 = Wrote-set cells live next s i one None sound.counted sound.mesh.shaped here.0 here.1 read in
+    let w2 = Wrote-set _ live next t j two None w1.counted w1.writes.shaped (subst IsSome (sym (w1.writes.corners t)) there.0) there.1 read2 in
+    let unlinks = Unlinks-writes _ _ _ s i t j (λ same. apart (sym same)) w1.writes w2.writes in
+    record {
+      sound = record { counted = w2.counted; mesh = IsMesh-unlinks _ _ s i t j sound.mesh w2.writes.shaped was unlinks };
+      unlinks = unlinks;
+    }
+
+-- a side as it is read from a cell
+pub side_read : (cells : List Cell) (s i : ℕ) (c : Cell) (d : Option Side) → IsShaped (map tet_of cells) → IsSome (corners_at (map tet_of cells) s) → i < 4 → c ≡ get_or cells s c → get_or c.sides i d ≡ side (map tet_of cells) s i
+side_read cells s i c d shaped live face read =
+    let found = live_cell cells s c c live read in
+    let four = (shaped s (tet_in c) found.3).1 in
+    rw found.3 (get_or_default c.sides i d None (omega arith))
+
+-- what has a side, as a cell
+pub live_from_side : (slots : List (Option Tet)) (s i : ℕ) → IsShaped slots → IsSome (side slots s i) → IsSome (corners_at slots s) × (i < 4)
+live_from_side slots s i shaped some = by_side (side slots s i) refl some
+  where
+    by_side : (o : Option Side) → side slots s i ≡ o → IsSome o → IsSome (corners_at slots s) × (i < 4)
+    by_side None is some = absurd (true≢false (sym some))
+    by_side (Some b) is some = side_live slots s i b shaped is
+
+-- a new live cell
+abbrev pub fresh : List Corner → Cell
+fresh cs = record { corners = cs; sides = None ∷ None ∷ None ∷ None ∷ []; live = true; next = 0 }
+
+pub record Took (cells new : List Cell) (live next s : ℕ) (cs : List Corner) : Type 0 where
+  pub sound : IsSound new live next
+  pub takes : Takes (map tet_of cells) (map tet_of new) s cs
+
+count_le : (xs : List (Option Tet)) → count_by is_some xs ≤ length xs
+count_le [] = omega arith
+count_le (None ∷ xs) = omega (arith, count_le xs, sum_by-cons (λ (o : Option Tet). one_if (is_some o)) None xs)
+count_le (Some t ∷ xs) = omega (arith, count_le xs, sum_by-cons (λ (o : Option Tet). one_if (is_some o)) (Some t) xs)
+
+-- where all are counted, each is there
+all_some : (xs : List (Option Tet)) (u : ℕ) → count_by is_some xs ≡ length xs → u < length xs → IsSome (get_or xs u None)
+all_some [] u full lt = absurd (omega arith)
+all_some (None ∷ xs) u full lt = absurd (omega (arith, count_le xs, sum_by-cons (λ (o : Option Tet). one_if (is_some o)) None xs))
+all_some (Some t ∷ xs) zero full lt = refl
+all_some (Some t ∷ xs) (suc u) full lt = all_some xs u (omega (arith, sum_by-cons (λ (o : Option Tet). one_if (is_some o)) (Some t) xs)) (omega arith)
+
+some_tet : (o : Option Tet) → IsSome o → option_map (λ (t : Tet). t.corners) o ≡ None → ⊥
+some_tet None some e = true≢false (sym some)
+some_tet (Some t) some e = cc
+
+pub Took-push : (cells : List Cell) (live next : ℕ) (cs : List Corner) → IsSound cells live next → next ≡ length cells → length cs ≡ 4 → AllDiffer cs → Took cells (cells ++ fresh cs ∷ []) (live + 1) (next + 1) next cs
+Took-push cells live next cs sound at_end four differ =
+    let new = fresh cs in
+    let end : next ≡ length (map tet_of cells) = omega (arith, length-map cells tet_of) in
+    let puts : Puts (map tet_of cells) (map tet_of (cells ++ new ∷ [])) next (Some (lone cs)) =
+    rw (map_push tet_of cells new, end) (Puts-push (map tet_of cells) (Some (lone cs))) in
+    let longer = length_push cells new in
+    let full = full_at_end cells live next sound.counted at_end in
+    let all : (u : ℕ) → u < length (map tet_of cells) → corners_at (map tet_of cells) u ≡ None → next < length (map tet_of cells) = λ u lt free. absurd (none_free cells live next u sound.counted full (omega (arith, length-map cells tet_of)) free) in
+    let takes = Takes-puts _ _ next cs puts (rw end (get_or_past (map tet_of cells) (length (map tet_of cells)) None (omega arith))) all (λ lt. absurd (omega arith)) (λ le. (end, omega (arith, length-map cells tet_of, length-map (cells ++ new ∷ []) tet_of))) in
+    record {
+      sound = record { counted = IsCounted-push cells live next new sound.counted at_end refl; mesh = IsMesh-takes _ _ next cs sound.mesh puts four differ takes };
+      takes = takes;
+    }
+  where
+    none_free : (cells : List Cell) (live next u : ℕ) → IsCounted cells live next → live ≡ length cells → u < length cells → corners_at (map tet_of cells) u ≡ None → ⊥
+    none_free cells live next u counted full lt free =
+        let some = all_some (map tet_of cells) u (omega (arith, counted.counted, length-map cells tet_of)) (omega (arith, length-map cells tet_of)) in
+        absurd (some_tet (tet_at (map tet_of cells) u) some free)
+
+pub Took-fill : (cells : List Cell) (live next : ℕ) (cs : List Corner) (old : Cell) → IsSound cells live next → next ≢ length cells → old ≡ get_or cells next old → length cs ≡ 4 → AllDiffer cs → Took cells (set cells next (fresh cs)) (live + 1) old.next next cs
+Took-fill cells live next cs old sound before read four differ =
+    let new = fresh cs in
+    let free = free_before_end cells live next sound.counted before in
+    let within : next < length cells = slice_get_within cells next _ free.1 in
+    let found : slice_get cells next ≡ Some old = slice_get-get_or cells next old within ∙ ap Some (sym read) in
+    let same : free.0 ≡ old = let h = free.1 in cc in
+    let dead : old.live ≡ false = ap (λ (x : Cell). x.live) (sym same) ∙ free.2 in
+    let inside : next < length (map tet_of cells) = omega (arith, length-map cells tet_of) in
+    let puts : Puts (map tet_of cells) (map tet_of (set cells next new)) next (Some (lone cs)) =
+    rw (map-set tet_of cells next new) (Puts-set (map tet_of cells) next (Some (lone cs)) inside) in
+    let was : tet_at (map tet_of cells) next ≡ None = get_or-map tet_of cells next old None within ∙ ap tet_of (sym read) ∙ tet_of-free old dead in
+    let takes = Takes-puts _ _ next cs puts was (λ u lt e. inside) (λ lt. omega (arith, length-map cells tet_of, length-map (set cells next new) tet_of, length-set cells next new)) (λ le. absurd (omega arith)) in
+    record {
+      sound = record { counted = IsCounted-fill cells live next old new sound.counted found refl; mesh = IsMesh-takes _ _ next cs sound.mesh puts four differ takes };
+      takes = takes;
+    }
+
+pub record Freed (cells new : List Cell) (live next s : ℕ) : Type 0 where
+  pub sound : IsSound new live next
+  pub frees : Frees (map tet_of cells) (map tet_of new) s
+
+pub Freed-set : (cells : List Cell) (live next s : ℕ) (c : Cell) → IsSound cells live next → IsSome (corners_at (map tet_of cells) s) → ((i : ℕ) → side (map tet_of cells) s i ≡ None) → c ≡ get_or cells s c → Freed cells (set cells s (record c { live = false; next = next })) (live - 1) s s
+Freed-set cells live next s c sound is_live bare read =
+    let new : Cell = record c { live = false; next = next } in
+    let found = live_cell cells s c c is_live read in
+    let puts : Puts (map tet_of cells) (map tet_of (set cells s new)) s None =
+    rw (map-set tet_of cells s new) (Puts-set (map tet_of cells) s None (omega (arith, found.0, length-map cells tet_of))) in
+    let frees = Frees-puts _ _ s puts bare (omega (arith, length-map cells tet_of, length-map (set cells s new) tet_of, length-set cells s new)) in
+    record {
+      sound = record { counted = IsCounted-vacate cells live next s c new sound.counted found.1 found.2 refl refl; mesh = IsMesh-frees _ _ s sound.mesh puts bare frees };
+      frees = frees;
+    }
+
+-- what a read of a side that is there tells
+pub record Behind (cells : List Cell) (s i : ℕ) (two : Side) : Type 0 where
+  pub was : side (map tet_of cells) s i ≡ Some two
+  pub slot : two.slot < length cells
+  pub face : two.face < 4
+
+pub Behind-read : (cells : List Cell) (s i : ℕ) (c : Cell) (two : Side) → IsMesh (map tet_of cells) → IsSome (side (map tet_of cells) s i) → c ≡ get_or cells s c → get_or c.sides i None ≡ Some two → Behind cells s i two
+Behind-read cells s i c two mesh some read found =
+    let here = live_from_side (map tet_of cells) s i mesh.shaped some in
+    let was : side (map tet_of cells) s i ≡ Some two = sym (side_read cells s i c None mesh.shaped here.0 here.1 read) ∙ found in
+    let there = side_live (map tet_of cells) two.slot two.face (at s i) mesh.shaped (mesh.back s i two was) in
+    let cell = live_cell cells two.slot c (get_or cells two.slot c) there.0 refl in
+    record { was = was; slot = cell.0; face = there.1 }
+
+-- the neighbor of a live slot is live
+pub next_live : (cells : List Cell) (s i : ℕ) (c : Cell) (two : Side) → IsMesh (map tet_of cells) → IsSome (corners_at (map tet_of cells) s) → i < 4 → c ≡ get_or cells s c → get_or c.sides i None ≡ Some two → IsSome (corners_at (map tet_of cells) two.slot) × (two.face < 4)
+next_live cells s i c two mesh live face read found =
+    let was : side (map tet_of cells) s i ≡ Some two = sym (side_read cells s i c None mesh.shaped live face read) ∙ found in
+    side_live (map tet_of cells) two.slot two.face (at s i) mesh.shaped (mesh.back s i two was)

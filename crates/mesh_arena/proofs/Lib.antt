@@ -1,0 +1,8 @@
+pub mod Cells
+pub mod Mesh
+pub mod Cone
+pub mod AddStar
+pub mod FaceCorners
+pub mod Pairs
+pub mod FreeCavity
+pub mod Replace

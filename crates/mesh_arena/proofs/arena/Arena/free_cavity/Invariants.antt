@@ -1,0 +1,5 @@
+use Rattle.mesh_arena.proofs.FreeCavity.{FreesFirst}
+use Rattle.mesh_arena.proofs.arena.Arena.free_cavity.Given as goal
+
+abbrev pub invariant-loop-j : goal.invariant-loop-j
+invariant-loop-j l = FreesFirst l.fn.self.slots l.self.slots l.cavity l.j

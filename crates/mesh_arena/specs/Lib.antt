@@ -1,0 +1,6 @@
+pub mod Mesh
+pub mod Cells
+pub mod Star
+pub mod StarLinks
+pub mod Cavity
+pub mod Replace

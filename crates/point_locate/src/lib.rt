@@ -1,0 +1,7 @@
+//! Point location in a living Delaunay mesh: a visibility walk over the slots of an arena, and a scan where the walk does not end.
+#![tactic(auto)]
+
+mod look;
+mod walk;
+
+pub use walk::{Place, locate};

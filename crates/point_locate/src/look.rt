@@ -1,0 +1,119 @@
+//! What one slot tells of a point.
+ghost use Rattle.std.specs.Prelude.{◌≡◌, ℕ, ◌<◌, ◌≤ℤ◌, ◌<ℤ◌, ◌↔◌, pos, length, IsTrue, MatchOption};
+ghost use Rattle.sign_predicates.specs.Orientation.{side, opposite_face, IsPositive};
+ghost use Rattle.mesh_arena.specs.Mesh.{corner_list};
+ghost use Rattle.point_locate.specs.Place.{corner_point, placed, AreOn, IsOn, Looks, HasShape};
+
+use geo_laws::{Points, Tet};
+use mesh_arena::{Corner, SlotCorners};
+use sign_predicates::{Corners, GridPoint, Sign, beyond, orient};
+
+// The point is in the closed tetrahedron, strictly beyond the hull face of the ghost, or it is neither and this face leads on.
+#[derive(Clone, Copy)]
+pub(crate) enum Look {
+    Inside,
+    Beyond,
+    Out(u8),
+}
+
+// A tetrahedron of points, or a ghost with the point at infinity in this place.
+#[derive(Clone, Copy)]
+enum Shape {
+    Row(Tet),
+    Ghost(u8),
+}
+
+fn shape_of(t: SlotCorners) -> Shape
+    ensures { HasShape (corner_list t) result }
+{
+    let Corner::Point(a) = t.a else {
+        return Shape::Ghost(0);
+    };
+    let Corner::Point(b) = t.b else {
+        return Shape::Ghost(1);
+    };
+    let Corner::Point(c) = t.c else {
+        return Shape::Ghost(2);
+    };
+    let Corner::Point(d) = t.d else {
+        return Shape::Ghost(3);
+    };
+    Shape::Row(Tet { a, b, c, d })
+}
+
+// The point of a corner, or `p` for the point at infinity.
+fn corner_point(points: &Points, p: GridPoint, corner: Corner) -> GridPoint
+    requires { IsOn points.now corner }
+    ensures { result ≡ corner_point points.now p corner }
+{
+    match corner {
+        Corner::Point(i) => points.at(i as usize),
+        Corner::Ghost => p,
+    }
+}
+
+// The points of a slot's corners, with `p` in place of the point at infinity.
+fn placed(points: &Points, p: GridPoint, t: SlotCorners) -> Corners
+    requires { AreOn points.now (corner_list t) }
+    ensures { result ≡ placed points.now p t }
+{
+    Corners {
+        a: corner_point(points, p, t.a),
+        b: corner_point(points, p, t.b),
+        c: corner_point(points, p, t.c),
+        d: corner_point(points, p, t.d),
+    }
+}
+
+fn is_positive(t: Corners) -> bool
+    ensures { IsTrue result ↔ IsPositive t }
+{
+    matches!(orient(t.a, t.b, t.c, t.d), Sign::Above)
+}
+
+// Whether `p` is strictly beyond a face.
+fn is_beyond(t: &Corners, face: u8, p: GridPoint) -> bool
+    requires { face < 4 }
+    ensures { IsTrue result ↔ (side (opposite_face t.now face) p <ℤ pos 0) }
+{
+    matches!(beyond(*t, face, p), Sign::Above)
+}
+
+// A face that `p` is strictly beyond. The face `entry` is tested last: a walk that came through it has `p` on its inner side.
+fn face_beyond(t: &Corners, entry: u8, p: GridPoint) -> Option<u8>
+    requires { entry < 4 }
+    ensures { MatchOption result ((k : ℕ) → k < 4 → pos 0 ≤ℤ side (opposite_face t.now k) p) (λ k. (k < 4) × (side (opposite_face t.now k) p <ℤ pos 0)) }
+{
+    for k in 0..4u8 {
+        if k != entry && is_beyond(t, k, p) {
+            return Some(k);
+        }
+    }
+    if is_beyond(t, entry, p) {
+        Some(entry)
+    } else {
+        None
+    }
+}
+
+// What the corners of a slot tell of the point `p`.
+pub(crate) fn look_at(points: &Points, t: SlotCorners, entry: u8, p: GridPoint) -> Look
+    requires corners { AreOn points.now (corner_list t) }
+    requires entry { entry < 4 }
+    ensures { Looks points.now p (corner_list t) result }
+{
+    let placed = placed(points, p, t);
+    match shape_of(t) {
+        Shape::Row(_) => match face_beyond(&placed, entry, p) {
+            None => Look::Inside,
+            Some(face) => Look::Out(face),
+        },
+        Shape::Ghost(place) => {
+            if is_positive(placed) {
+                Look::Beyond
+            } else {
+                Look::Out(place)
+            }
+        }
+    }
+}
