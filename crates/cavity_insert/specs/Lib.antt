@@ -1,1 +1,4 @@
 pub mod Filter
+pub mod Rule
+pub mod Marks
+pub mod Grow

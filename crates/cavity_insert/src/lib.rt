@@ -1,9 +1,16 @@
-//! The Delaunay list of points.
+//! The Delaunay list of points, and the cavity of a new point in a living mesh.
 #![tactic(auto)]
 
 mod filter;
+mod grow;
+mod marks;
+mod rule;
+mod steps;
 
 pub use filter::{BuildFault, delaunay};
+pub use grow::grow_cavity;
+pub use rule::test_slot;
+pub use steps::Steps;
 
 #[cfg(test)]
 mod tests;
