@@ -4,3 +4,6 @@ pub mod Taken
 pub mod Chains
 pub mod Growth
 pub mod Pigeons
+pub mod Faces
+pub mod Rows
+pub mod Across

@@ -2,3 +2,4 @@ pub mod Filter
 pub mod Rule
 pub mod Marks
 pub mod Grow
+pub mod Living
