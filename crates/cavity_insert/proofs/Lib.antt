@@ -7,3 +7,4 @@ pub mod Pigeons
 pub mod Faces
 pub mod Rows
 pub mod Across
+pub mod Seen
