@@ -1,21 +1,18 @@
 -- What stands behind a face of a slot that is a row, or behind the hull face of a ghost.
-use Rattle.std.proofs.Common.{◌≡◌, ◌≢◌, ◌↔◌, ◌⊎◌, inl, inr, ℕ, zero, suc, ◌<◌, pos, neg_ℤ, ◌<ℤ◌, List, get_or, set, length, Option, Some, IsSome, refl, sym, ap, subst, ◌∙◌, arith}
+use Rattle.std.proofs.Common.{◌≡◌, ◌≢◌, ◌⊎◌, inl, inr, ℕ, zero, suc, ◌<◌, List, get_or, Option, None, Some, IsSome, refl, sym, ap, subst, ◌∙◌, arith}
 use Rattle.std.proofs.lemmas.Bool.{cases_eq}
 use Rattle.std.proofs.lemmas.List.{get_or-set_same, get_or-set_other}
 use Rattle.sign_predicates.specs.Point.{Point}
-use Rattle.sign_predicates.specs.Orientation.{side as side_at, IsPositive}
 use Rattle.std.specs.Prelude.{Contains}
-use Rattle.geo_laws.specs.Delaunay.{point, corners, numbers, IsDelaunayAmong}
+use Rattle.geo_laws.specs.Delaunay.{numbers}
 use Rattle.geo_laws.specs.declared.tetrahedra.Tet.{Tet as Row}
 use Rattle.geo_laws.proofs.Places.{number}
-use Rattle.insert_laws.specs.Face.{Face, triangle, reversed, beside}
-use Rattle.insert_laws.specs.Insertion.{HasSameCorners, IsFaceOf, IsHullFace}
-use Rattle.insert_laws.proofs.FacePencil.{side_of}
+use Rattle.insert_laws.specs.Face.{Face, reversed}
+use Rattle.insert_laws.specs.Insertion.{HasSameCorners, IsFaceOf}
 use Rattle.insert_laws.proofs.Insert.{law_one_row}
 use Rattle.insert_laws.proofs.Lists.{law_hull_face}
-use Rattle.mesh_arena.specs.Mesh.{Tet, corners_at, corner, corner_in, IsLive, side, at, OnFace, IsMesh}
+use Rattle.mesh_arena.specs.Mesh.{Tet, corner, corner_in, side, at, OnFace, IsMesh}
 use Rattle.mesh_arena.specs.declared.arena.Side.{Side}
-use Rattle.mesh_arena.specs.declared.slot.Corner.{Corner}
 use Rattle.mesh_arena.specs.declared.slot.Corner.TheVariants.{Point as Numbered, Ghost}
 use Rattle.mesh_arena.proofs.Mesh.{side_live}
 use Rattle.mesh_arena.proofs.AddStar.{live_by_side}
@@ -23,14 +20,18 @@ use Rattle.point_locate.specs.Place.{row_corners}
 use Rattle.cavity_insert.specs.Living.{face_off, IsFaceCorner, HasSameFaceCorners, IsRowSlot, IsGhostSlot, IsDelaunayMesh}
 use Rattle.cavity_insert.proofs.Faces.{AreApart, hull_apart, place_of, off_corner, corner_off, apart_off, row_beside, row_off}
 
-row_corner : (t : Row) (m : ℕ) → m < 4 → get_or (row_corners t) m Ghost ≡ Numbered (number t (place_of m))
+pub row_corner : (t : Row) (m : ℕ) → m < 4 → get_or (row_corners t) m Ghost ≡ Numbered (number t (place_of m))
 row_corner t zero h = refl
 row_corner t (suc zero) h = refl
 row_corner t (suc (suc zero)) h = refl
 row_corner t (suc (suc (suc zero))) h = refl
 row_corner t (suc (suc (suc (suc m)))) h = absurd (omega arith)
 
-same_number : (i j : ℕ) → Numbered i ≡ Numbered j → i ≡ j
+pub some_side : (o : Option Side) → IsSome o → (b : Side) × (o ≡ Some b)
+some_side None h = absurd (cc)
+some_side (Some b) h = (b, refl)
+
+pub same_number : (i j : ℕ) → Numbered i ≡ Numbered j → i ≡ j
 same_number i j e = cc
 
 -- the numbers on the face of the slot are the corners of f, and the point at infinity isn't on it
@@ -55,10 +56,10 @@ module _ (slots : List (Option Tet)) (ps : List Point) (ms : List ℕ) where
   pub row_shows : (s k : ℕ) (t : Row) → k < 4 → IsRowSlot slots ps ms s t → Shows slots s k (face_off t k)
   row_shows s k t k4 slot = shows slots s k t k4 (λ m m4 off. ap (λ o. corner_in o m) slot.is ∙ row_corner t m m4)
 
-  ghost_corner : (s k : ℕ) (t : Row) → IsGhostSlot slots ps ms s t k → (m : ℕ) → m < 4 → m ≢ k → corner slots s m ≡ Numbered (number t (place_of m))
+  pub ghost_corner : (s k : ℕ) (t : Row) → IsGhostSlot slots ps ms s t k → (m : ℕ) → m < 4 → m ≢ k → corner slots s m ≡ Numbered (number t (place_of m))
   ghost_corner s k t slot m m4 off = ap (λ o. corner_in o m) slot.is ∙ get_or-set_other (row_corners t) k m Ghost Ghost off ∙ row_corner t m m4
 
-  infinite_corner : (s k : ℕ) (t : Row) → IsGhostSlot slots ps ms s t k → corner slots s k ≡ Ghost
+  pub infinite_corner : (s k : ℕ) (t : Row) → IsGhostSlot slots ps ms s t k → corner slots s k ≡ Ghost
   infinite_corner s k t slot = ap (λ o. corner_in o k) slot.is ∙ get_or-set_same (row_corners t) k Ghost Ghost (omega (arith, slot.within))
 
   pub ghost_shows : (s k : ℕ) (t : Row) → IsGhostSlot slots ps ms s t k → Shows slots s k (face_off t k)

@@ -1,9 +1,9 @@
 -- Two faces with the same corners have the same sides, or exchanged ones; and the faces of a four.
-use Rattle.std.proofs.Common.{◌≡◌, ◌≢◌, ◌⊎◌, inl, inr, ℕ, zero, suc, ◌<◌, ℤ, pos, neg_ℤ, ◌<ℤ◌, List, refl, sym, ap, subst, ◌∙◌, arith}
+use Rattle.std.proofs.Common.{◌≡◌, ◌≢◌, ◌⊎◌, inl, inr, ℕ, zero, suc, ◌<◌, pos, neg_ℤ, ◌<ℤ◌, List, refl, sym, ap, subst, ◌∙◌, arith}
 use Rattle.std.proofs.Math.IntN.{neg_ℤ-neg_ℤ}
-use Rattle.std.specs.Prelude.{Contains, ◌↔◌}
+use Rattle.std.specs.Prelude.{Contains}
 use Rattle.sign_predicates.specs.Point.{Point}
-use Rattle.sign_predicates.specs.Orientation.{side, volume, IsPositive}
+use Rattle.sign_predicates.specs.Orientation.{side, IsPositive}
 use Rattle.geo_laws.specs.Delaunay.{point, corners, numbers}
 use Rattle.geo_laws.specs.declared.tetrahedra.Tet.{Tet as Row}
 use Rattle.geo_laws.proofs.Places.{Place, A, B, C, D, number, opposite}
@@ -170,7 +170,7 @@ beside_same t k f h same i = (λ c. to (corner_of (beside f o) i c), λ c. from 
     from (inl e) = contains_corner (beside f o) i (D, e)
     from (inr c) = back ((same i).1 c)
 
-same_trans : (r s t : Row) → HasSameCorners r s → HasSameCorners s t → HasSameCorners r t
+pub same_trans : (r s t : Row) → HasSameCorners r s → HasSameCorners s t → HasSameCorners r t
 same_trans r s t h g i = (λ c. (g i).0 ((h i).0 c), λ c. (h i).1 ((g i).1 c))
 
 -- A four's row is on the positive side of a face with the corners of one of the four's, or of that face reversed

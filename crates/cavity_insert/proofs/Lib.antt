@@ -8,3 +8,6 @@ pub mod Faces
 pub mod Rows
 pub mod Across
 pub mod Seen
+pub mod Joined
+pub mod NextHull
+pub mod Reached

@@ -1,16 +1,15 @@
 -- What the rule says of the slot of a row: the row is in the cavity.
-use Rattle.std.proofs.Common.{◌≡◌, ◌↔◌, ◌⊎◌, inl, inr, ℕ, ◌<◌, List, get_or, length, Option, Some, refl, sym, ap, subst, ◌∙◌}
-use Rattle.std.specs.Prelude.{Contains}
+use Rattle.std.proofs.Common.{◌≡◌, ◌↔◌, inl, inr, ℕ, ◌<◌, List, get_or, length, Option, refl, sym, ap, subst, ◌∙◌}
 use Rattle.sign_predicates.specs.Point.{Point}
 use Rattle.sign_predicates.specs.Orientation.{IsPositive}
-use Rattle.geo_laws.specs.Delaunay.{point, corners, numbers, IsArranged, AreNumbersOf}
+use Rattle.geo_laws.specs.Delaunay.{point, corners, IsArranged}
 use Rattle.geo_laws.specs.Height.{lifted, residual_at, places}
 use Rattle.geo_laws.specs.declared.tetrahedra.Tet.{Tet as Row}
 use Rattle.geo_laws.proofs.Corners.{IsCorner, contains_corner}
 use Rattle.geo_laws.proofs.Lexicographic.{lex_same}
-use Rattle.geo_laws.proofs.Arrangement.{IsEven, even_residual, even_back}
+use Rattle.geo_laws.proofs.Arrangement.{IsEven, even_residual}
 use Rattle.insert_laws.specs.Insertion.{IsNew, HasSameCorners, HasOutside}
-use Rattle.insert_laws.proofs.Bridge.{outside_above, even_of_same, corner_to, corner_from}
+use Rattle.insert_laws.proofs.Bridge.{outside_above, even_of_same, corner_to}
 use Rattle.mesh_arena.specs.Mesh.{Tet}
 use Rattle.mesh_arena.specs.declared.slot.Corner.TheVariants.{Ghost}
 use Rattle.point_locate.specs.Place.{row_corners}

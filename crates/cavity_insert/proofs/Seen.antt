@@ -1,27 +1,25 @@
 -- What the rule says of the slot of a ghost: the new point sees its hull face.
-use Rattle.std.proofs.Common.{◌≡◌, ◌↔◌, ◌⊎◌, inl, inr, ℕ, zero, suc, ◌<◌, pos, ◌<ℤ◌, List, get_or, set, length, Option, None, Some, IsSome, refl, sym, ap, subst, ◌∙◌, arith}
+use Rattle.std.proofs.Common.{◌≡◌, ◌↔◌, ◌⊎◌, inl, inr, ℕ, zero, suc, ◌<◌, pos, ◌<ℤ◌, List, get_or, set, Option, Some, refl, sym, ap, subst, ◌∙◌, arith}
 use Rattle.std.proofs.lemmas.List.{get_or-set_same}
 use Rattle.sign_predicates.specs.Point.{Point}
 use Rattle.sign_predicates.specs.Orientation.{side as side_at, volume}
 use Rattle.geo_laws.specs.Delaunay.{point, corners}
 use Rattle.geo_laws.specs.declared.tetrahedra.Tet.{Tet as Row}
-use Rattle.geo_laws.proofs.Places.{opposite, replaced}
+use Rattle.geo_laws.proofs.Places.{replaced}
 use Rattle.geo_laws.proofs.Determinants.{volume-replaced}
-use Rattle.insert_laws.specs.Face.{Face, triangle}
 use Rattle.insert_laws.specs.Insertion.{IsNew, HasOutside, Sees}
 use Rattle.insert_laws.proofs.FacePencil.{side_of}
-use Rattle.mesh_arena.specs.Mesh.{Tet, corners_at, corner_list, side, IsMesh}
+use Rattle.mesh_arena.specs.Mesh.{Tet, corner_list, side, IsMesh}
 use Rattle.mesh_arena.specs.declared.arena.Side.{Side}
-use Rattle.mesh_arena.specs.declared.slot.Corner.{Corner}
 use Rattle.mesh_arena.specs.declared.slot.Corner.TheVariants.{Point as Numbered, Ghost}
 use Rattle.mesh_arena.specs.declared.slot.SlotCorners.{SlotCorners}
 use Rattle.point_locate.specs.Place.{row_corners, placed}
 use Rattle.cavity_insert.specs.Rule.{IsTaken, IsInnerTaken, IsSeen}
-use Rattle.cavity_insert.specs.Living.{face_off, IsGhostSlot, IsRowSlot, IsDelaunayMesh}
+use Rattle.cavity_insert.specs.Living.{face_off, IsGhostSlot, IsDelaunayMesh}
 use Rattle.cavity_insert.proofs.Taken.{no_ghost, same_corners, one_ghost}
 use Rattle.cavity_insert.proofs.Rows.{taken_row, outside_slot}
 use Rattle.cavity_insert.proofs.Faces.{place_of, triangle_off}
-use Rattle.cavity_insert.proofs.Across.{behind_ghost}
+use Rattle.cavity_insert.proofs.Across.{some_side, behind_ghost}
 
 -- the corners of a ghost, in their places
 ghost_of : Row → ℕ → SlotCorners
@@ -86,10 +84,6 @@ module _ (slots : List (Option Tet)) (ps : List Point) (ms : List ℕ) (p : ℕ)
         };
       }
 
-  linked_some : (o : Option Side) → IsSome o → (b : Side) × (o ≡ Some b)
-  linked_some None h = absurd (cc)
-  linked_some (Some b) h = (b, refl)
-
   pub taken_sees : IsTaken slots ps (point ps p) p s ↔ Sees ps p (face_off t k) slot.is_hull.behind
   taken_sees = (to, from)
     where
@@ -119,5 +113,5 @@ module _ (slots : List (Option Tet)) (ps : List Point) (ms : List ℕ) (p : ℕ)
           go : Sees ps p (face_off t k) slot.is_hull.behind → (pos 0 <ℤ volume (placed ps (point ps p) (ghost_of t k))) ⊎ ((volume (placed ps (point ps p) (ghost_of t k)) ≡ pos 0) × IsInnerTaken slots ps (point ps p) p s k)
           go (inl over) = inl (subst (λ z. pos 0 <ℤ z) (sym same) over)
           go (inr level) =
-              let b = linked_some (side slots s k) (now.linked s k (rw slot.is refl) slot.within) in
+              let b = some_side (side slots s k) (now.linked s k (rw slot.is refl) slot.within) in
               inr (same ∙ level.0, inner_from level.1 b.0 b.1)

@@ -44,7 +44,7 @@ pub record IsGhostSlot (slots : List (Option Tet)) (ps : List Point) (ms : List 
 pub record IsDelaunayMesh (slots : List (Option Tet)) (ps : List Point) (ms : List ℕ) : Type 0 where
   pub within : AreNumbersOf ps ms
   pub each : (s : ℕ) → IsLive slots s → ((t : Row) × IsRowSlot slots ps ms s t) ⊎ ((t : Row) × (k : ℕ) × IsGhostSlot slots ps ms s t k)
-  pub rows : (r : Row) → IsDelaunayAmong ps ms r → (s : ℕ) × (t : Row) × IsRowSlot slots ps ms s t × HasSameCorners t r
+  pub rows : (r : Row) → IsDelaunayAmong ps ms r → (s : ℕ) × (t : Row) × (slot : IsRowSlot slots ps ms s t) × (slot.row ≡ r)
   pub one_row : (s u : ℕ) (t r : Row) → IsRowSlot slots ps ms s t → IsRowSlot slots ps ms u r → HasSameCorners t r → s ≡ u
   pub ghosts : (f : Face) → IsHullFace ps ms f → (s : ℕ) × (t : Row) × (k : ℕ) × IsGhostSlot slots ps ms s t k × HasSameFaceCorners (face_off t k) f
   pub one_ghost : (s u : ℕ) (t r : Row) (k j : ℕ) → IsGhostSlot slots ps ms s t k → IsGhostSlot slots ps ms u r j → HasSameFaceCorners (face_off t k) (face_off r j) → s ≡ u
