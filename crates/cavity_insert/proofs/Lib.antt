@@ -11,3 +11,4 @@ pub mod Seen
 pub mod Joined
 pub mod NextHull
 pub mod Reached
+pub mod Whole

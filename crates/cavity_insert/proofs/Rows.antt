@@ -23,8 +23,7 @@ outside_even ps t r p on pt pr arranged same here new =
     let even : IsEven ps t r = even_of_same ps t r pt pr arranged same in
     let of_t = outside_above ps t p (λ i c. on i (corner_to t r same i c)) pt here (λ c. new (corner_to t r same p c)) in
     let of_r = outside_above ps r p on pr here new in
-    let is : (k : ℕ) → residual_at ps (lifted ps) t p k ≡ residual_at ps (lifted ps) r p k = even_residual ps t r even (lifted ps) p in
-    (
+    let is : (k : ℕ) → residual_at ps (lifted ps) t p k ≡ residual_at ps (lifted ps) r p k = even_residual ps t r even (lifted ps) p in (
       λ o. of_r.1 (lex_same (residual_at ps (lifted ps) t p) (residual_at ps (lifted ps) r p) (places (length ps)) is (of_t.0 o)),
       λ o. of_t.1 (lex_same (residual_at ps (lifted ps) r p) (residual_at ps (lifted ps) t p) (places (length ps)) (λ k. sym (is k)) (of_r.0 o)),
     )

@@ -53,7 +53,7 @@ placed_ghost ps p t (suc (suc (suc zero))) h = refl
 placed_ghost ps p t (suc (suc (suc (suc k)))) h = absurd (omega arith)
 
 -- the ghost's volume with the point in place of the one at infinity is the side of the point at the hull face
-ghost_volume : (ps : List Point) (p : ℕ) (t : Row) (k : ℕ) (g : SlotCorners) → k < 4 → set (row_corners t) k Ghost ≡ corner_list g → volume (placed ps (point ps p) g) ≡ side_of ps (face_off t k) p
+pub ghost_volume : (ps : List Point) (p : ℕ) (t : Row) (k : ℕ) (g : SlotCorners) → k < 4 → set (row_corners t) k Ghost ≡ corner_list g → volume (placed ps (point ps p) g) ≡ side_of ps (face_off t k) p
 ghost_volume ps p t k g h e =
     let same : g ≡ ghost_of t k = same_ghost g (ghost_of t k) (sym e ∙ ghost_list t k h) in
     ap (λ (x : SlotCorners). volume (placed ps (point ps p) x)) same

@@ -3,3 +3,4 @@ pub mod Rule
 pub mod Marks
 pub mod Grow
 pub mod Living
+pub mod Laws

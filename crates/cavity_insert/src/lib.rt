@@ -3,12 +3,14 @@
 
 mod filter;
 mod grow;
+mod laws;
 mod marks;
 mod rule;
 mod steps;
 
 pub use filter::{BuildFault, delaunay};
 pub use grow::grow_cavity;
+pub use laws::law_cavity;
 pub use rule::test_slot;
 pub use steps::Steps;
 
