@@ -12,3 +12,4 @@ pub mod Joined
 pub mod NextHull
 pub mod Reached
 pub mod Whole
+pub mod CutOut

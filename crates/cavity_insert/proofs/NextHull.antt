@@ -56,7 +56,7 @@ module _ (slots : List (Option Tet)) (ps : List Point) (ms : List ℕ) (mesh : I
   edge_in f i j hull n (inr (inr p)) (inr (inr q)) = absurd (n (p ∙ sym q))
 
   -- a number on a ghost is a corner of its hull face
-  on_ghost : (s k j : ℕ) (t : Row) (i : ℕ) → IsGhostSlot slots ps ms s t k → OnFace slots s j (Numbered i) → IsFaceCorner (face_off t k) i
+  pub on_ghost : (s k j : ℕ) (t : Row) (i : ℕ) → IsGhostSlot slots ps ms s t k → OnFace slots s j (Numbered i) → IsFaceCorner (face_off t k) i
   on_ghost s k j t i slot on = elim (cases_eq on.place k) [
     | inl same ↦ absurd (never i (sym (infinite_corner slots ps ms s k t slot) ∙ ap (corner slots s) (sym same) ∙ on.is))
     | inr other ↦ subst (IsFaceCorner (face_off t k)) (same_number _ i (sym (ghost_corner slots ps ms s k t slot on.place on.within other) ∙ on.is)) (off_corner t k on.place slot.within on.within other)

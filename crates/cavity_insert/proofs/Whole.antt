@@ -1,25 +1,24 @@
 -- Where a point lies, as point location tells it, is where the search finds all that the point takes.
-use Rattle.std.proofs.Common.{◌≡◌, ◌≢◌, ◌↔◌, ◌⊎◌, inl, inr, ℕ, ◌<◌, pos, ◌<ℤ◌, ◌≤ℤ◌, List, get_or, set, length, Option, Some, refl, sym, ap, subst, ◌∙◌, arith}
+use Rattle.std.proofs.Common.{◌≡◌, ◌≢◌, ◌⊎◌, inl, inr, ℕ, ◌<◌, pos, ◌<ℤ◌, ◌≤ℤ◌, List, get_or, set, Option, refl, sym, ap, subst, ◌∙◌, arith}
 use Rattle.std.proofs.lemmas.List.{get_or-set_same}
 use Rattle.std.specs.Prelude.{Contains}
 use Rattle.sign_predicates.specs.Point.{Point, RationalPoint, as_rational}
-use Rattle.sign_predicates.specs.Orientation.{InClosed, side_rational, volume}
+use Rattle.sign_predicates.specs.Orientation.{InClosed, side_rational}
 use Rattle.geo_laws.specs.Delaunay.{point, corners}
 use Rattle.geo_laws.specs.declared.tetrahedra.Tet.{Tet as Row}
-use Rattle.geo_laws.proofs.Places.{at_face, all_faces, opposite}
+use Rattle.geo_laws.proofs.Places.{at_face, all_faces}
 use Rattle.geo_laws.proofs.Arrangement.{IsEven}
-use Rattle.insert_laws.specs.Insertion.{IsNew, HasOutside}
+use Rattle.insert_laws.specs.Insertion.{IsNew}
 use Rattle.insert_laws.proofs.Bridge.{even_of_same}
 use Rattle.insert_laws.proofs.FacePencil.{side_of}
 use Rattle.insert_laws.proofs.Start.{law_start}
-use Rattle.mesh_arena.specs.Mesh.{Tet, corners_at, IsLive, IsMesh}
+use Rattle.mesh_arena.specs.Mesh.{Tet, IsMesh}
 use Rattle.mesh_arena.specs.declared.slot.Corner.TheVariants.{Ghost}
-use Rattle.point_locate.specs.Place.{IsAt, IsPlace, IsInside, IsBeyond, row_corners, placed}
-use Rattle.point_locate.specs.declared.walk.Place.{Place}
+use Rattle.point_locate.specs.Place.{IsAt, IsInside, IsBeyond, row_corners}
 use Rattle.point_locate.specs.declared.walk.Place.TheVariants.{Inside, Beyond}
 use Rattle.cavity_insert.specs.Living.{face_off, IsRowSlot, IsGhostSlot, IsDelaunayMesh}
-use Rattle.cavity_insert.specs.Laws.{slot_of, IsWholeFrom, CavityLaw}
-use Rattle.cavity_insert.proofs.Taken.{no_ghost, same_corners, one_ghost}
+use Rattle.cavity_insert.specs.Laws.{IsWholeFrom, CavityLaw}
+use Rattle.cavity_insert.proofs.Taken.{no_ghost, same_corners}
 use Rattle.cavity_insert.proofs.Rows.{same_row, taken_row}
 use Rattle.cavity_insert.proofs.Seen.{ghost_volume, taken_sees}
 use Rattle.cavity_insert.proofs.Reached.{reached_inside, reached_beyond}

@@ -10,7 +10,7 @@ mod steps;
 
 pub use filter::{BuildFault, delaunay};
 pub use grow::grow_cavity;
-pub use laws::law_cavity;
+pub use laws::{law_cavity, law_cut_out};
 pub use rule::test_slot;
 pub use steps::Steps;
 
