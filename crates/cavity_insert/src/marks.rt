@@ -1,5 +1,5 @@
 //! What one growth of a cavity knows of the slots that it has tested, in a small hash table.
-ghost use Rattle.std.specs.Prelude.{◌≡◌, ◌<◌, ◌++◌, [], ◌∷◌, length, IfOk, OnOk, MatchOption};
+ghost use Rattle.std.specs.Prelude.{◌≡◌, ◌++◌, [], ◌∷◌, IfOk, OnOk, MatchOption};
 ghost use Rattle.cavity_insert.specs.Marks.{IsMarked, IsMarkedAs};
 
 use std::alloc::Global;

@@ -1,8 +1,6 @@
 //! Which slots of an arena a new point takes: the rows that don't have it outside, and the ghosts of the hull faces that it sees.
-ghost use Rattle.std.specs.Prelude.{◌≡◌, ◌+◌, ◌<◌, ◌↔◌, pos, ◌<ℤ◌, length, IsTrue};
-ghost use Rattle.sign_predicates.specs.Orientation.{volume};
-ghost use Rattle.geo_laws.specs.Delaunay.{IsOn};
-ghost use Rattle.mesh_arena.specs.Mesh.{IsLive, corners_at, corner_list};
+ghost use Rattle.std.specs.Prelude.{◌≡◌, ◌+◌, ◌<◌, ◌↔◌, IsTrue};
+ghost use Rattle.mesh_arena.specs.Mesh.{IsLive, corner_list};
 ghost use Rattle.point_locate.specs.Place.{AreCornersOn, AreOn, corner_point, placed};
 ghost use Rattle.point_locate.specs.Place.{IsOn as IsCornerOn};
 ghost use Rattle.cavity_insert.specs.Rule.{HasShape, IsTakenRow, IsSeen, IsInnerTaken, IsTaken};
