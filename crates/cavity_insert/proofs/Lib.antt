@@ -1,2 +1,15 @@
 pub mod Ranges
 pub mod Flat
+pub mod Taken
+pub mod Chains
+pub mod Growth
+pub mod Pigeons
+pub mod Faces
+pub mod Rows
+pub mod Across
+pub mod Seen
+pub mod Joined
+pub mod NextHull
+pub mod Reached
+pub mod Whole
+pub mod CutOut

@@ -1,0 +1,360 @@
+-- How a look over one face extends the search.
+use Rattle.std.proofs.Common.{◌≡◌, ◌≢◌, ◌⊎◌, ℕ, ◌+◌, ◌<◌, ◌≤◌, List, [], ◌∷◌, ◌++◌, length, get_or, Option, None, Some, refl, sym, ap, subst, ◌∙◌, inl, inr, arith}
+use Rattle.std.proofs.lemmas.Bool.{cases_lt}
+use Rattle.std.proofs.lemmas.List.{get_or_append_left, get_or_push, length_push}
+use Rattle.mesh_arena.specs.declared.arena.Side.{Side}
+use Rattle.mesh_arena.specs.declared.slot.Slot.{Slot}
+use Rattle.mesh_arena.specs.declared.slot.RimFace.{RimFace}
+use Rattle.mesh_arena.specs.Mesh.{Tet, IsLive, side, at, IsMesh}
+use Rattle.mesh_arena.specs.Star.{rim_at, no_face}
+use Rattle.mesh_arena.specs.Cavity.{slot_at, IsIn}
+use Rattle.mesh_arena.proofs.Mesh.{side_live}
+use Rattle.cavity_insert.specs.declared.marks.Mark.{Mark}
+use Rattle.cavity_insert.specs.declared.marks.Mark.TheVariants.{In, Out}
+use Rattle.cavity_insert.specs.declared.marks.Tested.{Tested}
+use Rattle.cavity_insert.specs.Marks.{tested_at, IsMarked, IsMarkedAs}
+use Rattle.cavity_insert.specs.Grow.{Reach, first, next, Before, Edge, OnEdge, Growing, Grown}
+
+split : (i k j m : ℕ) → Before i (k + 1) j m → Before i k j m ⊎ ((j ≡ i) × (m ≡ k))
+split i k j m (inl less) = inl (inl less)
+split i k j m (inr here) = elim (cases_lt m k) [ inl less ↦ inl (inr (here.0, less)) | inr more ↦ inr (here.0, omega (arith, here.1)) ]
+
+widen : (i k j m : ℕ) → Before i k j m → Before i (k + 1) j m
+widen i k j m (inl less) = inl less
+widen i k j m (inr here) = inr (here.0, omega (arith, here.1))
+
+rim_push : (rim : List RimFace) (f : RimFace) (r : ℕ) → r < length rim → rim_at (rim ++ f ∷ []) r ≡ rim_at rim r
+rim_push rim f r h = get_or_append_left rim (f ∷ []) no_face r h
+
+slot_push : (cavity : List Slot) (s : Slot) (j : ℕ) → j < length cavity → slot_at (cavity ++ s ∷ []) j ≡ slot_at cavity j
+slot_push cavity s j h = ap (λ (x : Slot). x.index) (get_or_append_left cavity (s ∷ []) (record { index = 0 }) j h)
+
+slot_last : (cavity : List Slot) (s : Slot) → slot_at (cavity ++ s ∷ []) (length cavity) ≡ s.index
+slot_last cavity s = ap (λ (x : Slot). x.index) (get_or_push cavity s (record { index = 0 }) (length cavity) refl)
+
+step_cases : (r n : ℕ) → r < n + 1 → (r < n) ⊎ (r ≡ n)
+step_cases r n h = elim (cases_lt r n) [ inl less ↦ inl less | inr more ↦ inr (omega arith) ]
+
+in_not_out : (x : Mark) → x ≡ In → x ≡ Out → ⊥
+in_not_out x e f = cc
+
+-- ---- a further slot is marked
+
+module _ (tested : List Tested) (t : Tested) where
+  marked_along : (u : ℕ) (m : Mark) → IsMarkedAs tested u m → IsMarkedAs (tested ++ t ∷ []) u m
+  marked_along u m was =
+      let same = get_or_append_left tested (t ∷ []) (record { slot = 0; mark = Out }) was.place was.inside in
+      record {
+        place = was.place;
+        inside = omega (arith, was.inside, length_push tested t);
+        is = ap (λ (x : Tested). x.slot) same ∙ was.is;
+        told = ap (λ (x : Tested). x.mark) same ∙ was.told;
+      }
+
+  marked_here : IsMarkedAs (tested ++ t ∷ []) t.slot t.mark
+  marked_here =
+      let same = get_or_push tested t (record { slot = 0; mark = Out }) (length tested) refl in
+      record { place = length tested; inside = omega (arith, length_push tested t); is = ap (λ (x : Tested). x.slot) same; told = ap (λ (x : Tested). x.mark) same }
+
+  marked_back : (u : ℕ) (m : Mark) → IsMarkedAs (tested ++ t ∷ []) u m → IsMarkedAs tested u m ⊎ ((t.slot ≡ u) × (t.mark ≡ m))
+  marked_back u m now =
+      elim (step_cases now.place (length tested) (omega (arith, now.inside, length_push tested t))) [
+        | inl less ↦
+            let same = get_or_append_left tested (t ∷ []) (record { slot = 0; mark = Out }) now.place less in
+            inl (record { place = now.place; inside = less; is = sym (ap (λ (x : Tested). x.slot) same) ∙ now.is; told = sym (ap (λ (x : Tested). x.mark) same) ∙ now.told })
+        | inr last ↦
+            let same = get_or_push tested t (record { slot = 0; mark = Out }) now.place (sym last) in
+            inr (sym (ap (λ (x : Tested). x.slot) same) ∙ now.is, sym (ap (λ (x : Tested). x.mark) same) ∙ now.told)
+      ]
+
+module _ (slots : List (Option Tet)) (rule : ℕ → Type 0) (start : ℕ) (mesh : IsMesh slots) where
+  edge_on : (cavity : List Slot) (i k : ℕ) (f : RimFace) → Edge slots rule cavity i k f → Edge slots rule cavity i (k + 1) f
+  edge_on cavity i k f e =
+      record { slot = e.slot; face = e.face; inside = e.inside; before = widen i k e.slot e.face e.before; is = e.is; out = e.out }
+
+  -- there is no slot behind the face, or it is in the cavity
+  pub Growing-in : (tested : List Tested) (cavity : List Slot) (rim : List RimFace) (i k : ℕ) → i < length cavity → ((b : Side) → side slots (slot_at cavity i) k ≡ Some b → IsIn cavity b.slot) → Growing slots rule start tested cavity rim i k → Growing slots rule start tested cavity rim i (k + 1)
+  Growing-in tested cavity rim i k inside found was =
+      record {
+        begun = was.begun;
+        reached = was.reached;
+        taken = was.taken;
+        live = was.live;
+        once = was.once;
+        marked = was.marked;
+        listed = was.listed;
+        out = was.out;
+        seen = λ j m c h before e. elim (split i k j m before) [
+          | inl old ↦ was.seen j m c h old e
+          | inr here ↦ inl (found c (subst (λ n. side slots (slot_at cavity i) n ≡ Some c) here.1 (subst (λ n. side slots (slot_at cavity n) m ≡ Some c) here.0 e)))
+        ];
+        edge = λ r h. edge_on cavity i k (rim_at rim r) (was.edge r h);
+        rim_once = was.rim_once;
+      }
+
+  -- the slot behind the face is not taken: the face is on the rim
+  pub Growing-out : (tested : List Tested) (cavity : List Slot) (rim : List RimFace) (i k : ℕ) (f : RimFace) → i < length cavity → side slots (slot_at cavity i) k ≡ Some (at f.slot.index f.face) → (rule f.slot.index → ⊥) → Growing slots rule start tested cavity rim i k → Growing slots rule start tested cavity (rim ++ f ∷ []) i (k + 1)
+  Growing-out tested cavity rim i k f inside is out was =
+      record {
+        begun = was.begun;
+        reached = was.reached;
+        taken = was.taken;
+        live = was.live;
+        once = was.once;
+        marked = was.marked;
+        listed = was.listed;
+        out = was.out;
+        seen = λ j m c h before e. elim (split i k j m before) [
+          | inl old ↦ elim (was.seen j m c h old e) [ inl found ↦ inl found | inr found ↦ inr (kept c found) ]
+          | inr here ↦
+              let there : side slots (slot_at cavity i) k ≡ Some c = subst (λ n. side slots (slot_at cavity i) n ≡ Some c) here.1 (subst (λ n. side slots (slot_at cavity n) m ≡ Some c) here.0 e) in
+              let same : at f.slot.index f.face ≡ c = cc in
+              inr (subst (OnEdge (rim ++ f ∷ [])) same new)
+        ];
+        edge = λ r h. elim (step_cases r (length rim) (omega (arith, length_push rim f))) [
+          | inl less ↦ rw (rim_push rim f r less) (edge_on cavity i k (rim_at rim r) (was.edge r less))
+          | inr last ↦ rw (last, get_or_push rim f no_face (length rim) refl) (record { slot = i; face = k; inside = inside; before = inr (refl, omega arith); is = is; out = out })
+        ];
+        rim_once = λ r q h g e d. once r q (step_cases r (length rim) (omega (arith, length_push rim f))) (step_cases q (length rim) (omega (arith, length_push rim f))) e d;
+      }
+    where
+      last_is : rim_at (rim ++ f ∷ []) (length rim) ≡ f
+      last_is = get_or_push rim f no_face (length rim) refl
+
+      kept : (c : Side) → OnEdge rim c → OnEdge (rim ++ f ∷ []) c
+      kept c on = record {
+        place = on.place;
+        inside = omega (arith, on.inside, length_push rim f);
+        slot = ap (λ (x : RimFace). x.slot.index) (rim_push rim f on.place on.inside) ∙ on.slot;
+        face = ap (λ (x : RimFace). x.face) (rim_push rim f on.place on.inside) ∙ on.face;
+      }
+
+      new : OnEdge (rim ++ f ∷ []) (at f.slot.index f.face)
+      new = record { place = length rim; inside = omega (arith, length_push rim f); slot = ap (λ (x : RimFace). x.slot.index) last_is; face = ap (λ (x : RimFace). x.face) last_is }
+
+      -- a face of the rim from before is not that face
+      fresh : (r : ℕ) → r < length rim → (rim_at rim r).slot.index ≡ f.slot.index → (rim_at rim r).face ≡ f.face → ⊥
+      fresh r h e d =
+          let old = was.edge r h in
+          let back = mesh.back _ _ _ old.is in
+          let now = mesh.back _ _ _ is in
+          let home : side slots f.slot.index f.face ≡ Some (at (slot_at cavity old.slot) old.face) = subst (λ n. side slots f.slot.index n ≡ Some (at (slot_at cavity old.slot) old.face)) d (subst (λ n. side slots n (rim_at rim r).face ≡ Some (at (slot_at cavity old.slot) old.face)) e back) in
+          let same : at (slot_at cavity old.slot) old.face ≡ at (slot_at cavity i) k = cc in
+          let level : old.slot ≡ i = was.once old.slot i old.inside inside (ap (λ (x : Side). x.slot) same) in
+          let place : old.face ≡ k = ap (λ (x : Side). x.face) same in
+          elim old.before [ inl less ↦ omega arith | inr here ↦ omega (arith, here.1) ]
+
+      once : (r q : ℕ) → (r < length rim) ⊎ (r ≡ length rim) → (q < length rim) ⊎ (q ≡ length rim) → (rim_at (rim ++ f ∷ []) r).slot.index ≡ (rim_at (rim ++ f ∷ []) q).slot.index → (rim_at (rim ++ f ∷ []) r).face ≡ (rim_at (rim ++ f ∷ []) q).face → r ≡ q
+      once r q (inl a) (inl b) e d =
+          let x = rim_push rim f r a in
+          let y = rim_push rim f q b in
+          was.rim_once r q a b (ap (λ (z : RimFace). z.slot.index) (sym x) ∙ e ∙ ap (λ (z : RimFace). z.slot.index) y) (ap (λ (z : RimFace). z.face) (sym x) ∙ d ∙ ap (λ (z : RimFace). z.face) y)
+      once r q (inl a) (inr b) e d =
+          let x = rim_push rim f r a in
+          let y = ap (rim_at (rim ++ f ∷ [])) b ∙ last_is in
+          absurd (fresh r a (ap (λ (z : RimFace). z.slot.index) (sym x) ∙ e ∙ ap (λ (z : RimFace). z.slot.index) y) (ap (λ (z : RimFace). z.face) (sym x) ∙ d ∙ ap (λ (z : RimFace). z.face) y))
+      once r q (inr a) (inl b) e d =
+          let x = rim_push rim f q b in
+          let y = ap (rim_at (rim ++ f ∷ [])) a ∙ last_is in
+          absurd (fresh q b (ap (λ (z : RimFace). z.slot.index) (sym x) ∙ sym e ∙ ap (λ (z : RimFace). z.slot.index) y) (ap (λ (z : RimFace). z.face) (sym x) ∙ sym d ∙ ap (λ (z : RimFace). z.face) y))
+      once r q (inr a) (inr b) e d = a ∙ sym b
+
+  module _ (tested : List Tested) (cavity : List Slot) (rim : List RimFace) (i k u : ℕ) (was : Growing slots rule start tested cavity rim i k) where
+    -- the slot is not taken
+    pub Growing-bar : (rule u → ⊥) → Growing slots rule start (tested ++ (record { slot = u; mark = Out }) ∷ []) cavity rim i k
+    Growing-bar not =
+        record {
+          begun = was.begun;
+          reached = was.reached;
+          taken = was.taken;
+          live = was.live;
+          once = was.once;
+          marked = λ j h. let old = was.marked j h in (old.0, marked_along tested t _ _ old.1);
+          listed = λ v now. elim (marked_back tested t v In now) [ inl old ↦ was.listed v old | inr new ↦ absurd (in_not_out In refl (sym new.1)) ];
+          out = λ v now. elim (marked_back tested t v Out now) [ inl old ↦ was.out v old | inr new ↦ λ yes. not (subst rule (sym new.0) yes) ];
+          seen = was.seen;
+          edge = was.edge;
+          rim_once = was.rim_once;
+        }
+      where
+        t : Tested
+        t = record { slot = u; mark = Out }
+
+    -- the slot is taken
+    pub Growing-add : (s : Slot) → s.index ≡ u → i < length cavity → (IsMarked tested u → ⊥) → Reach slots rule start u → rule u → IsLive slots u → Growing slots rule start (tested ++ (record { slot = u; mark = In }) ∷ []) (cavity ++ s ∷ []) rim i k
+    Growing-add s named inside fresh reach found live =
+        record {
+          begun = wider start was.begun;
+          reached = λ j h. elim (step_cases j (length cavity) (omega (arith, long))) [
+            | inl less ↦ rw (slot_push cavity s j less) (was.reached j less)
+            | inr end ↦ rw (end, last) reach
+          ];
+          taken = λ j h. elim (step_cases j (length cavity) (omega (arith, long))) [
+            | inl less ↦ rw (slot_push cavity s j less) (was.taken j less)
+            | inr end ↦ rw (end, last) found
+          ];
+          live = λ j h. elim (step_cases j (length cavity) (omega (arith, long))) [
+            | inl less ↦ rw (slot_push cavity s j less) (was.live j less)
+            | inr end ↦ rw (end, last) live
+          ];
+          once = λ j q h g e. once j q (step_cases j (length cavity) (omega (arith, long))) (step_cases q (length cavity) (omega (arith, long))) e;
+          marked = λ j h. elim (step_cases j (length cavity) (omega (arith, long))) [
+            | inl less ↦ rw (slot_push cavity s j less) (along j less)
+            | inr end ↦ rw (end, last) (In, marked_here tested t)
+          ];
+          listed = λ v now. elim (marked_back tested t v In now) [
+            | inl old ↦ wider v (was.listed v old)
+            | inr new ↦ record { place = length cavity; inside = omega (arith, long); is = last ∙ new.0 }
+          ];
+          out = λ v now. elim (marked_back tested t v Out now) [ inl old ↦ was.out v old | inr new ↦ absurd (in_not_out In refl new.1) ];
+          seen = λ j m b h before e. elim (step_cases j (length cavity) (omega (arith, long))) [
+            | inl less ↦ elim (was.seen j m b less before (subst (λ n. side slots n m ≡ Some b) (slot_push cavity s j less) e)) [ inl in_it ↦ inl (wider b.slot in_it) | inr on ↦ inr on ]
+            | inr end ↦ absurd (elim before [ inl less ↦ omega arith | inr level ↦ omega (arith, level.0) ])
+          ];
+          edge = λ r h.
+              let old = was.edge r h in
+              record {
+                slot = old.slot;
+                face = old.face;
+                inside = omega (arith, old.inside, long);
+                before = old.before;
+                is = rw (slot_push cavity s old.slot old.inside) old.is;
+                out = old.out;
+              };
+          rim_once = was.rim_once;
+        }
+      where
+        t : Tested
+        t = record { slot = u; mark = In }
+
+        long : length (cavity ++ s ∷ []) ≡ length cavity + 1
+        long = length_push cavity s
+
+        last : slot_at (cavity ++ s ∷ []) (length cavity) ≡ u
+        last = slot_last cavity s ∙ named
+
+        wider : (v : ℕ) → IsIn cavity v → IsIn (cavity ++ s ∷ []) v
+        wider v in_it = record { place = in_it.place; inside = omega (arith, in_it.inside, long); is = slot_push cavity s in_it.place in_it.inside ∙ in_it.is }
+
+        along : (j : ℕ) → j < length cavity → IsMarked (tested ++ t ∷ []) (slot_at cavity j)
+        along j h = let old = was.marked j h in (old.0, marked_along tested t _ _ old.1)
+
+        old_not : (j : ℕ) → j < length cavity → slot_at cavity j ≢ u
+        old_not j h e = fresh (subst (IsMarked tested) e (was.marked j h))
+
+        once : (j q : ℕ) → (j < length cavity) ⊎ (j ≡ length cavity) → (q < length cavity) ⊎ (q ≡ length cavity) → slot_at (cavity ++ s ∷ []) j ≡ slot_at (cavity ++ s ∷ []) q → j ≡ q
+        once j q (inl a) (inl b) e = was.once j q a b (sym (slot_push cavity s j a) ∙ e ∙ slot_push cavity s q b)
+        once j q (inl a) (inr b) e = absurd (old_not j a (sym (slot_push cavity s j a) ∙ e ∙ ap (slot_at (cavity ++ s ∷ [])) b ∙ last))
+        once j q (inr a) (inl b) e = absurd (old_not q b (sym (slot_push cavity s q b) ∙ sym e ∙ ap (slot_at (cavity ++ s ∷ [])) a ∙ last))
+        once j q (inr a) (inr b) e = a ∙ sym b
+
+module _ (slots : List (Option Tet)) (rule : ℕ → Type 0) (start : ℕ) (mesh : IsMesh slots) (tested : List Tested) (cavity : List Slot) (rim : List RimFace) (i k : ℕ) (f : RimFace) (inside : i < length cavity) (is : side slots (slot_at cavity i) k ≡ Some (at f.slot.index f.face)) (was : Growing slots rule start tested cavity rim i k) where
+  pub Grown-in : (IsMarked tested f.slot.index → ⊥) → IsLive slots f.slot.index → rule f.slot.index → Growing slots rule start (tested ++ (record { slot = f.slot.index; mark = In }) ∷ []) (cavity ++ f.slot ∷ []) rim i (k + 1)
+  Grown-in fresh live found =
+      let reach = next (slot_at cavity i) k (at f.slot.index f.face) (was.reached i inside) is found in
+      let added = Growing-add slots rule start mesh tested cavity rim i k f.slot.index was f.slot refl inside fresh reach found live in
+      let there : side slots (slot_at (cavity ++ f.slot ∷ []) i) k ≡ Some (at f.slot.index f.face) = rw (slot_push cavity f.slot i inside) is in
+      Growing-in slots rule start mesh _ _ rim i k (omega (arith, inside, length_push cavity f.slot))
+      (λ b e. record { place = length cavity; inside = omega (arith, length_push cavity f.slot); is = slot_last cavity f.slot ∙ same b there e })
+      added
+    where
+      same : (b : Side) → side slots (slot_at (cavity ++ f.slot ∷ []) i) k ≡ Some (at f.slot.index f.face) → side slots (slot_at (cavity ++ f.slot ∷ []) i) k ≡ Some b → f.slot.index ≡ b.slot
+      same b there e = let one : at f.slot.index f.face ≡ b = cc in ap (λ (x : Side). x.slot) one
+
+  pub Grown-out : (rule f.slot.index → ⊥) → Growing slots rule start (tested ++ (record { slot = f.slot.index; mark = Out }) ∷ []) cavity (rim ++ f ∷ []) i (k + 1)
+  Grown-out not = Growing-out slots rule start mesh _ cavity rim i k f inside is not (Growing-bar slots rule start mesh tested cavity rim i k f.slot.index was not)
+
+module _ (slots : List (Option Tet)) (rule : ℕ → Type 0) (start : ℕ) (mesh : IsMesh slots) (tested : List Tested) (cavity : List Slot) (rim : List RimFace) where
+  -- all four faces of a slot were looked over
+  pub Growing-row : (i : ℕ) → Growing slots rule start tested cavity rim i 4 → Growing slots rule start tested cavity rim (i + 1) 0
+  Growing-row i was =
+      record {
+        begun = was.begun;
+        reached = was.reached;
+        taken = was.taken;
+        live = was.live;
+        once = was.once;
+        marked = was.marked;
+        listed = was.listed;
+        out = was.out;
+        seen = λ j m b h before e. was.seen j m b h (back j m (side_live slots (slot_at cavity j) m b mesh.shaped e).1 before) e;
+        edge = λ r h.
+            let old = was.edge r h in
+            record { slot = old.slot; face = old.face; inside = old.inside; before = inl (ahead old.slot old.face old.before); is = old.is; out = old.out };
+        rim_once = was.rim_once;
+      }
+    where
+      back : (j m : ℕ) → m < 4 → Before (i + 1) 0 j m → Before i 4 j m
+      back j m m4 (inl less) = elim (step_cases j i less) [ inl a ↦ inl a | inr b ↦ inr (b, m4) ]
+      back j m m4 (inr here) = absurd (omega (arith, here.1))
+
+      ahead : (j m : ℕ) → Before i 4 j m → j < i + 1
+      ahead j m (inl less) = omega arith
+      ahead j m (inr here) = omega (arith, here.0)
+
+  module _ (i : ℕ) (done : length cavity ≤ i) (was : Growing slots rule start tested cavity rim i 0) where
+    all_seen : (u k : ℕ) (b : Side) → IsIn cavity u → side slots u k ≡ Some b → IsIn cavity b.slot ⊎ OnEdge rim b
+    all_seen u k b found e = was.seen found.place k b found.inside (inl (omega (arith, found.inside))) (rw found.is e)
+
+    every : (u : ℕ) → Reach slots rule start u → IsIn cavity u
+    every _ first = was.begun
+    every _ (next s k b reach e taken) =
+        elim (all_seen s k b (every s reach) e) [
+          | inl in_it ↦ in_it
+          | inr on ↦ absurd ((was.edge on.place on.inside).out (subst rule (sym on.slot) taken))
+        ]
+
+    pub Grown-done : Grown slots rule start cavity rim
+    Grown-done =
+        record {
+          reached = was.reached;
+          taken = was.taken;
+          live = was.live;
+          once = was.once;
+          all = every;
+          outer = λ r h found. (was.edge r h).out (subst rule found.is (was.taken found.place found.inside));
+          inner = λ r h.
+              let old = was.edge r h in
+              (at (slot_at cavity old.slot) old.face, mesh.back _ _ _ old.is, record { place = old.slot; inside = old.inside; is = refl });
+          rim_once = was.rim_once;
+          rim_all = λ u k b e out found.
+              elim (all_seen b.slot b.face (at u k) found (mesh.back u k b e)) [
+                | inl in_it ↦ absurd (out in_it)
+                | inr on ↦ (on.place, on.inside, on.slot, on.face)
+              ];
+        }
+
+pub Growing-begin : (slots : List (Option Tet)) (rule : ℕ → Type 0) (s : Slot) → rule s.index → IsLive slots s.index → Growing slots rule s.index ((record { slot = s.index; mark = In }) ∷ []) (s ∷ []) [] 0 0
+Growing-begin slots rule s found live =
+    record {
+      begun = record { place = 0; inside = omega arith; is = refl };
+      reached = λ j h. let z : j ≡ 0 = omega arith in rw z first;
+      taken = λ j h. let z : j ≡ 0 = omega arith in rw z found;
+      live = λ j h. let z : j ≡ 0 = omega arith in rw z live;
+      once = λ j q h g e. omega arith;
+      marked = λ j h. let z : j ≡ 0 = omega arith in rw z (In, record { place = 0; inside = omega arith; is = refl; told = refl });
+      listed = λ v now. let z : now.place ≡ 0 = omega (arith, now.inside) in record { place = 0; inside = omega arith; is = ap (λ i. (tested_at one i).slot) (sym z) ∙ now.is };
+      out = λ v now. let z : now.place ≡ 0 = omega (arith, now.inside) in absurd (in_not_out In refl (ap (λ i. (tested_at one i).mark) (sym z) ∙ now.told));
+      seen = λ j m b h before e. absurd (elim before [ inl less ↦ omega arith | inr level ↦ omega (arith, level.1) ]);
+      edge = λ r h. absurd (omega arith);
+      rim_once = λ r q h g e d. absurd (omega arith);
+    }
+  where
+    one : List Tested
+    one = (record { slot = s.index; mark = In }) ∷ []
+
+-- the slot behind a face, as a look at it reads it
+pub behind_is : (slots : List (Option Tet)) (cavity : List Slot) (i k : ℕ) (s : Slot) (b : Side) → ((d : Slot) → get_or cavity i d ≡ s) → Some b ≡ side slots s.index k → side slots (slot_at cavity i) k ≡ Some b
+behind_is slots cavity i k s b read e = ap (λ (x : Slot). side slots x.index k) (read (record { index = 0 })) ∙ sym e
+
+-- there is none
+pub none_behind : (slots : List (Option Tet)) (cavity : List Slot) (i k : ℕ) (s : Slot) → ((d : Slot) → get_or cavity i d ≡ s) → None ≡ side slots s.index k → (b : Side) → side slots (slot_at cavity i) k ≡ Some b → IsIn cavity b.slot
+none_behind slots cavity i k s read e b is =
+    let gone : side slots (slot_at cavity i) k ≡ None = ap (λ (x : Slot). side slots x.index k) (read (record { index = 0 })) ∙ sym e in
+    absurd (cc)
+
+-- it is in the cavity
+pub in_behind : (slots : List (Option Tet)) (cavity : List Slot) (i k : ℕ) (f : RimFace) → side slots (slot_at cavity i) k ≡ Some (at f.slot.index f.face) → IsIn cavity f.slot.index → (b : Side) → side slots (slot_at cavity i) k ≡ Some b → IsIn cavity b.slot
+in_behind slots cavity i k f is found b e =
+    let one : at f.slot.index f.face ≡ b = cc in
+    subst (IsIn cavity) (ap (λ (x : Side). x.slot) one) found

@@ -1,0 +1,64 @@
+-- The connected set of slots that a search from one finds, and what the search keeps.
+use Rattle.std.specs.Prelude.{◌≡◌, ℕ, ◌<◌, ◌⊎◌, List, length, Option, Some}
+use Rattle.mesh_arena.specs.declared.arena.Side.{Side}
+use Rattle.mesh_arena.specs.declared.slot.Slot.{Slot}
+use Rattle.mesh_arena.specs.declared.slot.RimFace.{RimFace}
+use Rattle.mesh_arena.specs.Mesh.{Tet, IsLive, side, at}
+use Rattle.mesh_arena.specs.Star.{rim_at}
+use Rattle.mesh_arena.specs.Cavity.{slot_at, IsIn}
+use Rattle.cavity_insert.specs.declared.marks.Mark.TheVariants.{In, Out}
+use Rattle.cavity_insert.specs.declared.marks.Tested.{Tested}
+use Rattle.cavity_insert.specs.Marks.{IsMarked, IsMarkedAs}
+
+-- a slot that is reached from `start` over neighbors that the rule takes
+pub data Reach (slots : List (Option Tet)) (rule : ℕ → Type 0) (start : ℕ) : ℕ → Type 0 where
+  first : Reach slots rule start start
+  next : (s k : ℕ) (b : Side) → Reach slots rule start s → side slots s k ≡ Some b → rule b.slot → Reach slots rule start b.slot
+
+-- The cavity lists, each once, the slots that are reached, and the rim, each once, the faces of slots outside of it whose neighbor is in it
+pub record Grown (slots : List (Option Tet)) (rule : ℕ → Type 0) (start : ℕ) (cavity : List Slot) (rim : List RimFace) : Type 0 where
+  pub reached : (j : ℕ) → j < length cavity → Reach slots rule start (slot_at cavity j)
+  pub taken : (j : ℕ) → j < length cavity → rule (slot_at cavity j)
+  pub live : (j : ℕ) → j < length cavity → IsLive slots (slot_at cavity j)
+  pub once : (j q : ℕ) → j < length cavity → q < length cavity → slot_at cavity j ≡ slot_at cavity q → j ≡ q
+  pub all : (u : ℕ) → Reach slots rule start u → IsIn cavity u
+  pub outer : (r : ℕ) → r < length rim → IsIn cavity (rim_at rim r).slot.index → ⊥
+  pub inner : (r : ℕ) → r < length rim → (b : Side) × (side slots (rim_at rim r).slot.index (rim_at rim r).face ≡ Some b) × IsIn cavity b.slot
+  pub rim_once : (r q : ℕ) → r < length rim → q < length rim → (rim_at rim r).slot.index ≡ (rim_at rim q).slot.index → (rim_at rim r).face ≡ (rim_at rim q).face → r ≡ q
+  pub rim_all : (u k : ℕ) (b : Side) → side slots u k ≡ Some b → (IsIn cavity u → ⊥) → IsIn cavity b.slot → (r : ℕ) × (r < length rim) × ((rim_at rim r).slot.index ≡ u) × ((rim_at rim r).face ≡ k)
+
+-- ---- the search
+
+-- the face m of the slot j comes before the face k of the slot i
+abbrev pub Before : ℕ → ℕ → ℕ → ℕ → Type 0
+Before i k j m = (j < i) ⊎ ((j ≡ i) × (m < k))
+
+-- a face of the rim: behind it stands the face m of the slot j
+pub record Edge (slots : List (Option Tet)) (rule : ℕ → Type 0) (cavity : List Slot) (i k : ℕ) (f : RimFace) : Type 0 where
+  pub slot : ℕ
+  pub face : ℕ
+  pub inside : slot < length cavity
+  pub before : Before i k slot face
+  pub is : side slots (slot_at cavity slot) face ≡ Some (at f.slot.index f.face)
+  pub out : rule f.slot.index → ⊥
+
+-- the face is on the rim
+pub record OnEdge (rim : List RimFace) (b : Side) : Type 0 where
+  pub place : ℕ
+  pub inside : place < length rim
+  pub slot : (rim_at rim place).slot.index ≡ b.slot
+  pub face : (rim_at rim place).face ≡ b.face
+
+-- the search has come to the face k of the slot i of the cavity
+pub record Growing (slots : List (Option Tet)) (rule : ℕ → Type 0) (start : ℕ) (tested : List Tested) (cavity : List Slot) (rim : List RimFace) (i k : ℕ) : Type 0 where
+  pub begun : IsIn cavity start
+  pub reached : (j : ℕ) → j < length cavity → Reach slots rule start (slot_at cavity j)
+  pub taken : (j : ℕ) → j < length cavity → rule (slot_at cavity j)
+  pub live : (j : ℕ) → j < length cavity → IsLive slots (slot_at cavity j)
+  pub once : (j q : ℕ) → j < length cavity → q < length cavity → slot_at cavity j ≡ slot_at cavity q → j ≡ q
+  pub marked : (j : ℕ) → j < length cavity → IsMarked tested (slot_at cavity j)
+  pub listed : (u : ℕ) → IsMarkedAs tested u In → IsIn cavity u
+  pub out : (u : ℕ) → IsMarkedAs tested u Out → rule u → ⊥
+  pub seen : (j m : ℕ) (b : Side) → j < length cavity → Before i k j m → side slots (slot_at cavity j) m ≡ Some b → IsIn cavity b.slot ⊎ OnEdge rim b
+  pub edge : (r : ℕ) → r < length rim → Edge slots rule cavity i k (rim_at rim r)
+  pub rim_once : (r q : ℕ) → r < length rim → q < length rim → (rim_at rim r).slot.index ≡ (rim_at rim q).slot.index → (rim_at rim r).face ≡ (rim_at rim q).face → r ≡ q

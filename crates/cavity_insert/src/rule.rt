@@ -1,0 +1,142 @@
+//! Which slots of an arena a new point takes: the rows that don't have it outside, and the ghosts of the hull faces that it sees.
+ghost use Rattle.std.specs.Prelude.{◌≡◌, ◌+◌, ◌<◌, ◌↔◌, IsTrue};
+ghost use Rattle.mesh_arena.specs.Mesh.{IsLive, corner_list};
+ghost use Rattle.point_locate.specs.Place.{AreCornersOn, AreOn, corner_point, placed};
+ghost use Rattle.point_locate.specs.Place.{IsOn as IsCornerOn};
+ghost use Rattle.cavity_insert.specs.Rule.{HasShape, IsTakenRow, IsSeen, IsInnerTaken, IsTaken};
+
+use crate::steps::Steps;
+use geo_laws::{Points, Tet};
+use mesh_arena::{Arena, Corner, Slot, SlotCorners};
+use sign_predicates::{Corners, GridPoint, Numbers, Sign, orient, outside};
+use std::sync::ledger::Ledger;
+
+// A tetrahedron of points, or a ghost with the point at infinity in this place.
+#[derive(Clone, Copy)]
+enum Shape {
+    Row(Tet),
+    Ghost(u8),
+}
+
+fn shape_of(t: SlotCorners) -> Shape
+    ensures { HasShape (corner_list t) result }
+{
+    let Corner::Point(a) = t.a else {
+        return Shape::Ghost(0);
+    };
+    let Corner::Point(b) = t.b else {
+        return Shape::Ghost(1);
+    };
+    let Corner::Point(c) = t.c else {
+        return Shape::Ghost(2);
+    };
+    let Corner::Point(d) = t.d else {
+        return Shape::Ghost(3);
+    };
+    Shape::Row(Tet { a, b, c, d })
+}
+
+// The point of a corner, or `p` for the point at infinity.
+fn corner_point(points: &Points, p: GridPoint, corner: Corner) -> GridPoint
+    requires { IsCornerOn points.now corner }
+    ensures { result ≡ corner_point points.now p corner }
+{
+    match corner {
+        Corner::Point(i) => points.at(i as usize),
+        Corner::Ghost => p,
+    }
+}
+
+// The points of a slot's corners, with `p` in place of the point at infinity.
+fn placed(points: &Points, p: GridPoint, t: SlotCorners) -> Corners
+    requires { AreOn points.now (corner_list t) }
+    ensures { result ≡ placed points.now p t }
+{
+    Corners {
+        a: corner_point(points, p, t.a),
+        b: corner_point(points, p, t.b),
+        c: corner_point(points, p, t.c),
+        d: corner_point(points, p, t.d),
+    }
+}
+
+// Whether the slot with these corners is a row that doesn't have the point outside.
+fn is_taken_row(points: &Points, t: SlotCorners, p: GridPoint, number: u32) -> bool
+    requires { AreOn points.now (corner_list t) }
+    ensures { IsTrue result ↔ IsTakenRow points.now p number (corner_list t) }
+{
+    match shape_of(t) {
+        Shape::Row(row) => {
+            let at = placed(points, p, t);
+            let numbers = Numbers {
+                a: row.a,
+                b: row.b,
+                c: row.c,
+                d: row.d,
+            };
+            !outside(at, numbers, p, number)
+        }
+        Shape::Ghost(_) => false,
+    }
+}
+
+// Whether the slot behind a face is a row that doesn't have the point outside.
+fn is_inner_taken(
+    arena: &Arena,
+    points: &Points,
+    s: Slot,
+    face: u8,
+    p: GridPoint,
+    number: u32,
+) -> bool
+    requires live { IsLive arena.now.slots s.index }
+    requires face { face < 4 }
+    requires corners { AreCornersOn arena.now.slots points.now }
+    ensures { IsTrue result ↔ IsInnerTaken arena.now.slots points.now p number s.index face }
+{
+    match arena.across(s, face) {
+        Some(inner) => is_taken_row(points, arena.tet(inner.slot), p, number),
+        None => false,
+    }
+}
+
+// Whether the point sees the hull face of a ghost with the point at infinity in this place.
+fn is_seen(arena: &Arena, points: &Points, s: Slot, place: u8, p: GridPoint, number: u32) -> bool
+    requires live { IsLive arena.now.slots s.index }
+    requires place { place < 4 }
+    requires corners { AreCornersOn arena.now.slots points.now }
+    ensures { IsTrue result ↔ IsSeen arena.now.slots points.now p number s.index place }
+{
+    let at = placed(points, p, arena.tet(s));
+    match orient(at.a, at.b, at.c, at.d) {
+        Sign::Above => true,
+        Sign::Zero => is_inner_taken(arena, points, s, place, p, number),
+        Sign::Below => false,
+    }
+}
+
+/// Whether the new point takes this live slot: a row that doesn't have the point outside, ties decided by the points' numbers; or a ghost whose
+/// hull face the point is strictly beyond, or whose hull face's plane it is on where the row on the inner side doesn't have it outside. One step
+/// is counted. It takes no memory. The corners are places in `points`, from 0, and coordinates are in grid units.
+///
+/// Source: incremental insertion (Bowyer 1981, Watson 1981), with ghosts over the hull.
+pub fn test_slot<L: Ledger>(
+    arena: &Arena,
+    points: &Points,
+    s: Slot,
+    p: GridPoint,
+    number: u32,
+    steps: &mut Steps<L>,
+) -> bool
+    requires live { IsLive arena.now.slots s.index }
+    requires corners { AreCornersOn arena.now.slots points.now }
+    ensures value { IsTrue result ↔ IsTaken arena.now.slots points.now p number s.index }
+    ensures step { steps.new ≡ steps.old + 1 }
+{
+    steps.tick();
+    let t = arena.tet(s);
+    match shape_of(t) {
+        Shape::Row(_) => is_taken_row(points, t, p, number),
+        Shape::Ghost(place) => is_seen(arena, points, s, place, p, number),
+    }
+}
