@@ -16,7 +16,7 @@ pub(crate) enum Mark {
 /// A slot that was tested.
 #[derive(Clone, Copy)]
 pub(crate) struct Tested {
-    pub(crate) slot: usize,
+    pub(crate) slot: u32,
     pub(crate) mark: Mark,
 }
 
@@ -59,10 +59,10 @@ impl Marks {
     }
 
     /// What was told of a slot, if it was tested.
-    pub(crate) fn find(&self, slot: usize) -> Option<Mark>
+    pub(crate) fn find(&self, slot: u32) -> Option<Mark>
         ensures { MatchOption result (IsMarked self.now slot → ⊥) (IsMarkedAs self.now slot) }
     {
-        let mut at = self.last[slot % BUCKETS];
+        let mut at = self.last[slot as usize % BUCKETS];
         while let Some(i) = at {
             let tested = self.tested[i];
             if tested.slot == slot {
@@ -79,7 +79,7 @@ impl Marks {
     {
         self.tested.reserve(1)?;
         self.earlier.reserve(1)?;
-        let bucket = tested.slot % BUCKETS;
+        let bucket = tested.slot as usize % BUCKETS;
         let i = self.tested.len();
         self.earlier.push_reserved(self.last[bucket]);
         self.tested.push_reserved(tested);
