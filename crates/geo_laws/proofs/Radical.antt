@@ -1,7 +1,7 @@
 -- Two lowest tetrahedra are properly met. Let x be the mean of the corners of s under weights m and of those of t under weights n. The residuals of
 -- s over the corners of t, weighted by n, add up to how far the mean height of the one is above that of the other, and those of t to the opposite:
 -- up to positive factors the two sums cancel. No residual is below 0, so each that weighs is 0: what weighs is a corner of both.
-use Rattle.std.proofs.Common.{◌≡◌, ◌⊎◌, inl, inr, ℕ, zero, suc, ◌+◌, ◌<◌, ℤ, pos, ◌+ℤ◌, ◌-ℤ◌, ◌*ℤ◌, ◌<ℤ◌, Bool, true, false, List, [], ◌∷◌, length, refl, ap, sym, subst, ◌∙◌, arith, eq-eqb, ne_eqb}
+use Rattle.std.proofs.Common.{◌≡◌, ◌⊎◌, inl, inr, ℕ, zero, suc, ◌+◌, ◌<◌, ℤ, pos, ◌+ℤ◌, ◌-ℤ◌, ◌*ℤ◌, ◌<ℤ◌, ◌≤ℤ◌, Bool, true, false, List, [], ◌∷◌, length, refl, ap, sym, subst, ◌∙◌, arith, eq-eqb, ne_eqb}
 use Rattle.std.proofs.lemmas.Int.{ints}
 use Rattle.std.specs.Prelude.{sum_by, Contains, ◌==◌, if◌then◌else◌}
 use lib.IntN.{*ℤ-zero, zero-*ℤ}
@@ -211,29 +211,45 @@ sum_of_four f t = shape (f t.a) (f t.b) (f t.c) (f t.d)
     shape : (p q r s : ℕ) → 0 + p + q + r + s ≡ p + q + r + s
     shape p q r s = omega arith
 
--- a point strictly inside is a mean to which each corner adds: by Cramer's rule its sides are weights
-pub inside_mean : (ps : List Point) (t : Tet) (x : RationalPoint) → IsPositive (corners ps t) → StrictlyInside (corners ps t) x → InsideMean ps t x
-inside_mean ps t x p h =
+-- x is the mean of the corners under its own sides
+pub record SidesMean (ps : List Point) (t : Tet) (x : RationalPoint) : Type 0 where
+  pub weight : ℕ → ℕ
+  pub mean : IsMean ps (numbers t) weight x
+  pub is : (u : Place) → pos (weight (number t u)) ≡ side_rational (opposite (corners ps t) u) x
+
+-- a point of the closed tetrahedron is a mean: by Cramer's rule its sides are weights
+pub sides_mean : (ps : List Point) (t : Tet) (x : RationalPoint) → IsPositive (corners ps t) → pos 0 <ℤ (volume (corners ps t) *ℤ x.w)
+    → ((u : Place) → pos 0 ≤ℤ side_rational (opposite (corners ps t) u) x) → SidesMean ps t x
+sides_mean ps t x p some at_least =
     let c = corners ps t in
-    let above = at_face (λ f. pos 0 <ℤ side_rational f x) c h in
-    let w = λ (u : Place). from_natural (side_rational (opposite c u) x) (nonneg_of_pos _ (above u)) in
+    let w = λ (u : Place). from_natural (side_rational (opposite c u) x) (at_least u) in
     let f = by_number t (λ u. (w u).0) in
     let is = λ (u : Place). ap pos (by_number-at ps t (λ v. (w v).0) p u) ∙ sym (w u).1 in
-    let weighs = λ (u : Place). above_zero (side_rational (opposite c u) x) (f (number t u)) (is u) (above u) in
-    let a_weighs : 0 < f t.a = weighs A in
     let total = ap pos (sum_of_four f t) ∙ sum-same (λ u. pos (f (number t u))) (λ u. side_rational (opposite c u) x) is ∙ weights-sum c x in
     let moment = λ (g : ℕ → ℤ). weighted_sum-numbers f g t ∙ sum-same (λ u. pos (f (number t u)) *ℤ g (number t u)) (λ u. side_rational (opposite c u) x *ℤ g (number t u)) (λ u j. is u j *ℤ g (number t u)) in
     let at = λ (g : ℕ → ℤ) (y : ℤ). cross_multiplied (weighted_sum f g (numbers t)) (pos (sum_by f (numbers t))) (volume c) x.w y in
     record {
       weight = f;
       mean = record {
-        some = subst (λ n. 0 < n) (sym (sum_of_four f t)) (omega arith);
+        some = above_zero (volume c *ℤ x.w) (sum_by f (numbers t)) total some;
         x_is = at (λ i. (point ps i).x) x.x (moment (λ i. (point ps i).x) ∙ weights-x c x) total;
         y_is = at (λ i. (point ps i).y) x.y (moment (λ i. (point ps i).y) ∙ weights-y c x) total;
         z_is = at (λ i. (point ps i).z) x.z (moment (λ i. (point ps i).z) ∙ weights-z c x) total;
       };
-      all_weigh = weighs;
+      is = is;
     }
+
+-- and to one strictly inside each corner adds
+pub inside_mean : (ps : List Point) (t : Tet) (x : RationalPoint) → IsPositive (corners ps t) → StrictlyInside (corners ps t) x → InsideMean ps t x
+inside_mean ps t x p h =
+    let c = corners ps t in
+    let above = at_face (λ f. pos 0 <ℤ side_rational f x) c h in
+    let some = sum_above (λ u. side_rational (opposite c u) x) above in
+    let of_sides = sides_mean ps t x p (subst (λ v. pos 0 <ℤ v) (weights-sum c x) some) (λ u. nonneg_of_pos _ (above u)) in
+    record { weight = of_sides.weight; mean = of_sides.mean; all_weigh = λ u. above_zero (side_rational (opposite c u) x) (of_sides.weight (number t u)) (of_sides.is u) (above u) }
+  where
+    sum_above : (f : Place → ℤ) → ((u : Place) → pos 0 <ℤ f u) → pos 0 <ℤ over_places f
+    sum_above f g = omega (arith, ints, g A, g B, g C, g D)
 
 -- so the corners of the one are corners of the other
 corners_shared : (ps : List Point) (ms : List ℕ) (first : ℕ → ℤ) (s t : Tet) (x : RationalPoint) → pos 0 <ℤ x.w → IsLowestAmong ps ms first s → IsLowestAmong ps ms first t

@@ -2,7 +2,7 @@ use sign_predicates::GridPoint;
 use tet_ports::Items;
 
 /// A row: the four corners of a tetrahedron by the numbers of their points, which are places in a list, from 0.
-#[derive(Clone, Copy, PartialEq, Eq)]
+#[derive(Clone, Copy, PartialEq, Eq, PartialOrd, Ord)]
 pub struct Tet {
     pub a: u32,
     pub b: u32,
