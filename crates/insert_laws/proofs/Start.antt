@@ -76,9 +76,10 @@ next_row ps ms within y t d b = go (first_of (face_pencil ps b.face) (Contains m
         apart : o ≢ b.apex
         apart = apart_sides (side_of ps b.face) o b.apex low_o.over under.under
 
--- the walk to p ends in a tetrahedron that holds it, or leaves by a hull face
-pub law_locate : LocateLaw
-law_locate ps ms p new some some_is =
+-- the walk to p, which may be one of the points, ends in a tetrahedron that holds it, or leaves by a hull face
+pub locate_among : (ps : List Point) (ms : List ℕ) → AreNumbersOf ps ms → (p : ℕ) (some : Tet) → IsDelaunayAmong ps ms some
+    → ((t : Tet) × IsDelaunayAmong ps ms t × InClosed (corners ps t) (as_rational (point ps p))) ⊎ ((f : Face) × IsHullFace ps ms f × (pos 0 <ℤ side (triangle ps f) (point ps p)))
+locate_among ps ms within p some some_is =
     climb Tet (inside.rises_at ps y) (IsDelaunayAmong ps ms) (λ t. Found)
     (λ x z u hx hz hu a b. inside.rises_trans ps y x z u hx.is_positive hz.is_positive hu.is_positive a b) (λ x h. inside.rises_never ps y x h) step
     (length (all_fours ms)) (all_fours ms) (omega arith) some some_is
@@ -114,7 +115,10 @@ law_locate ps ms p new some some_is =
             × ((((t : Tet) × IsDelaunayAmong ps ms t × InClosed (corners ps t) (as_rational (point ps p))) ⊎ ((f : Face) × IsHullFace ps ms f × (pos 0 <ℤ side (triangle ps f) (point ps p))))
             → (((t : Tet) × IsDelaunayAmong ps ms t × InClosed (corners ps t) (as_rational (point ps p))) ⊎ ((f : Face) × IsHullFace ps ms f × (pos 0 <ℤ side (triangle ps f) (point ps p))))))
         go (inl h) = inl (inl (t, d, h))
-        go (inr b) = onward b (next_row ps ms new.within (as_rational (point ps p)) t d b)
+        go (inr b) = onward b (next_row ps ms within (as_rational (point ps p)) t d b)
+
+pub law_locate : LocateLaw
+law_locate ps ms p new = locate_among ps ms new.within p
 
 -- ---- the row that holds p doesn't have it outside
 

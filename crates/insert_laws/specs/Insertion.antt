@@ -188,6 +188,11 @@ abbrev pub HullRimLaw : Type 0
 HullRimLaw = (ps : List Point) (ms : List ℕ) (p : ℕ) → IsNew ps ms p → (some : Tet) → IsDelaunayAmong ps ms some → (i j : ℕ) → IsHullRim ps ms p i j
     → ((k : ℕ) × IsRimFace ps ms p (edge_and i j k)) × ((q : ℕ) × IsHullRim ps ms p j q × ((r : ℕ) → IsHullRim ps ms p j r → q ≡ r))
 
+-- a further point, which is none of those there, has a rim face
+abbrev pub SomeRimFaceLaw : Type 0
+SomeRimFaceLaw = (ps : List Point) (ms : List ℕ) (p : ℕ) → IsNew ps ms p → ((i : ℕ) → Contains ms i → point ps i ≢ point ps p) → (some : Tet) → IsDelaunayAmong ps ms some
+    → (f : Face) × IsRimFace ps ms p f
+
 -- among its own corners a tetrahedron is the only Delaunay one, and its faces are those of the hull
 pub record IsFirst (ps : List Point) (t : Tet) : Type 0 where
   pub only : (s : Tet) → IsDelaunayAmong ps (numbers t) s ↔ (s ≡ t)

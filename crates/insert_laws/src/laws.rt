@@ -1,6 +1,7 @@
 //! How the Delaunay list and its hull change when a point is added, over the definitions alone. Each law is the contract of a function that does
 //! nothing. The points are those of a list that have some numbers, and the new one may have any other number: so points may be added in any order.
-ghost use Rattle.insert_laws.specs.Insertion.{InsertionLaw, RimLaw, FacePairingLaw, OneRowLaw, HullFaceLaw, HullTurnLaw, HullEdgeLaw, OldHullLaw, NewHullLaw, LocateLaw, StartLaw, InsideCavityLaw, BeyondCavityLaw, StartOfListLaw, SameNumbersLaw, RimEdgeLaw, HullRimLaw, FirstLaw, PlaceLaw};
+ghost use Rattle.insert_laws.specs.Insertion.{InsertionLaw, RimLaw, FacePairingLaw, OneRowLaw, HullFaceLaw, HullTurnLaw, HullEdgeLaw, OldHullLaw, NewHullLaw, LocateLaw, StartLaw, InsideCavityLaw, BeyondCavityLaw, StartOfListLaw, SameNumbersLaw, RimEdgeLaw, HullRimLaw, SomeRimFaceLaw, FirstLaw, PlaceLaw};
+ghost use Rattle.insert_laws.specs.Cone.{ConeLaw};
 
 /// The Delaunay tetrahedra with a new point are those before that have it outside, and the tetrahedra of the new point and the faces between its
 /// cavity and the rest. Source: incremental insertion (Bowyer 1981, Watson 1981), with ties broken by the points' numbers.
@@ -23,6 +24,12 @@ pub fn law_rim_edge()
 /// Behind each edge where the rim meets the hull lies a face of the rim, and these edges follow one another, each the next of one.
 pub fn law_hull_rim()
     ensures { HullRimLaw }
+{}
+
+/// A new point, which is none of those there, has a face between its cavity and the rest: the cavity is not all of space.
+/// Source: some tetrahedron of the new list holds the point, and it is one of its star.
+pub fn law_some_rim_face()
+    ensures { SomeRimFaceLaw }
 {}
 
 /// Across each face of a Delaunay tetrahedron lies another one, or no point.
@@ -103,4 +110,11 @@ pub fn law_first()
 /// and it is either in the cavity of the new point or not.
 pub fn law_place()
     ensures { PlaceLaw }
+{}
+
+/// Where a point lies in the closed cone of a Delaunay tetrahedron from one of its corners, it has a side of the list with that corner only where it is
+/// a corner of the same tetrahedron.
+/// Source: Delaunay tetrahedra meet in common faces (Delaunay, 1934).
+pub fn law_cone()
+    ensures { ConeLaw }
 {}

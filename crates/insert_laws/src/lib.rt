@@ -4,7 +4,8 @@
 mod laws;
 
 pub use laws::{
-    law_beyond_cavity, law_face_pairing, law_first, law_hull_edge, law_hull_face, law_hull_rim,
-    law_hull_turn, law_insertion, law_inside_cavity, law_locate, law_new_hull, law_old_hull,
-    law_one_row, law_place, law_rim, law_rim_edge, law_same_numbers, law_start, law_start_of_list,
+    law_beyond_cavity, law_cone, law_face_pairing, law_first, law_hull_edge, law_hull_face,
+    law_hull_rim, law_hull_turn, law_insertion, law_inside_cavity, law_locate, law_new_hull,
+    law_old_hull, law_one_row, law_place, law_rim, law_rim_edge, law_same_numbers,
+    law_some_rim_face, law_start, law_start_of_list,
 };
