@@ -1,14 +1,14 @@
 -- How each change of the cells keeps the count and the list of free cells.
 use Rattle.std.proofs.Common.{◌≡◌, ◌≢◌, ◌⊎◌, ℕ, zero, suc, ◌+◌, ◌-◌, ◌<◌, ◌≤◌, Bool, true, false, List, [], ◌∷◌, ◌++◌, map, length, get_or, set, Option, Some, None, is_some, IsSome, count_by, cond, slice_get, option_map, refl, sym, ap, subst, ◌∙◌, inl, inr, arith, length-set, true≢false}
-use Rattle.std.proofs.lemmas.List.{map-set, map_push, length-map, length_push, get_or-map, get_or-set_same, get_or-set_other, get_or_past, get_or_default}
+use Rattle.std.proofs.lemmas.List.{map-set, map_push, length-map, length_push, get_or-map, get_or-set_same, get_or-set_other, get_or_past}
 use Rattle.std.proofs.lemmas.List.Sums.{sum_by-set, sum_by_push, sum_by-cons}
 use Rattle.std.proofs.lemmas.Option.{slice_get_within, slice_get-get_or, get_or_from_slice_get}
-use Rattle.mesh_arena.specs.declared.arena.Cell.{Cell}
+use Rattle.mesh_arena.specs.declared.cell.Cell.{Cell}
 use Rattle.mesh_arena.specs.Mesh.{Tet, tet_at, corners_at, side, at, SameFace, IsShaped, IsMesh, Links, Unlinks, Takes, Frees, AllDiffer, tet_with}
 use Rattle.mesh_arena.specs.declared.arena.Side.{Side}
 use Rattle.mesh_arena.specs.declared.slot.Corner.{Corner}
 use Rattle.mesh_arena.proofs.Mesh.{Writes, Writes-set, Links-writes, Unlinks-writes, IsMesh-links, IsMesh-unlinks, side_live, lone, Puts, Puts-set, Puts-push, Takes-puts, Frees-puts, IsMesh-takes, IsMesh-frees}
-use Rattle.mesh_arena.specs.Cells.{tet_in, tet_of, IsFreeList, most_cells, IsCounted, IsSound}
+use Rattle.mesh_arena.specs.Cells.{corners_in, sides_in, tet_in, tet_of, next_of, IsFreeList, most_cells, IsCounted, IsSound}
 
 -- the count of a cell
 abbrev one_if : Bool → ℕ
@@ -36,7 +36,7 @@ IsFreeList-unique cells (suc m) (suc n) at p q =
     let first = p.1 in
     let second = q.1 in
     let same : q.0 ≡ p.0 = cc in
-    ap suc (IsFreeList-unique cells m n p.0.next p.3 (subst (λ (c : Cell). IsFreeList cells n c.next) same q.3))
+    ap suc (IsFreeList-unique cells m n (next_of p.0) p.3 (subst (λ (c : Cell). IsFreeList cells n (next_of c)) same q.3))
 
 -- a write at a place that is not on the list keeps the list
 pub IsFreeList-set : (cells : List Cell) (at : ℕ) (e : Cell) (n from : ℕ) → ((m : ℕ) → m < n → IsFreeList cells (suc m) at → ⊥) → IsFreeList cells n from → IsFreeList (set cells at e) n from
@@ -47,7 +47,7 @@ IsFreeList-set cells at e (suc n) from off p =
     let kept : slice_get (set cells at e) from ≡ Some p.0 =
     slice_get-get_or (set cells at e) from e (omega (arith, length-set cells at e))
     ∙ ap Some (get_or-set_other cells at from e e other ∙ get_or_from_slice_get cells from _ e p.1) in
-    (p.0, kept, p.2, IsFreeList-set cells at e n p.0.next (λ m below. off m (omega arith)) p.3)
+    (p.0, kept, p.2, IsFreeList-set cells at e n (next_of p.0) (λ m below. off m (omega arith)) p.3)
 
 -- a live cell is on no list of free cells
 pub live_is_off_list : (cells : List Cell) (at : ℕ) (c : Cell) → slice_get cells at ≡ Some c → c.live ≡ true → (m : ℕ) → IsFreeList cells (suc m) at → ⊥
@@ -115,10 +115,10 @@ IsCounted-push cells live next new sound at_end is =
     }
 
 -- the first free cell leaves the list: the rest of the list is shorter, so it does not come back to it
-pub IsCounted-fill : (cells : List Cell) (live next : ℕ) (old new : Cell) → IsCounted cells live next → slice_get cells next ≡ Some old → new.live ≡ true → IsCounted (set cells next new) (live + 1) old.next
+pub IsCounted-fill : (cells : List Cell) (live next : ℕ) (old new : Cell) → IsCounted cells live next → slice_get cells next ≡ Some old → new.live ≡ true → IsCounted (set cells next new) (live + 1) (next_of old)
 IsCounted-fill cells live next old new sound found is = by_count sound.free sound.total sound.linked
   where
-    by_count : (n : ℕ) → live + n ≡ length cells → IsFreeList cells n next → IsCounted (set cells next new) (live + 1) old.next
+    by_count : (n : ℕ) → live + n ≡ length cells → IsFreeList cells n next → IsCounted (set cells next new) (live + 1) (next_of old)
     by_count zero total linked = absurd (omega (arith, slice_get_within cells next _ found))
     by_count (suc n) total linked =
         let listed = linked.1 in
@@ -132,10 +132,10 @@ IsCounted-fill cells live next old new sound found is = by_count sound.free soun
           counted = omega (arith, sound.counted, count-set cells next old new found);
           free = n;
           total = omega (arith, length-set cells next new);
-          linked = IsFreeList-set cells next new n old.next off (subst (λ (c : Cell). IsFreeList cells n c.next) same linked.3);
+          linked = IsFreeList-set cells next new n (next_of old) off (subst (λ (c : Cell). IsFreeList cells n (next_of c)) same linked.3);
         }
 
-pub IsCounted-vacate : (cells : List Cell) (live next at : ℕ) (old new : Cell) → IsCounted cells live next → slice_get cells at ≡ Some old → old.live ≡ true → new.live ≡ false → new.next ≡ next → IsCounted (set cells at new) (live - 1) at
+pub IsCounted-vacate : (cells : List Cell) (live next at : ℕ) (old new : Cell) → IsCounted cells live next → slice_get cells at ≡ Some old → old.live ≡ true → new.live ≡ false → next_of new ≡ next → IsCounted (set cells at new) (live - 1) at
 IsCounted-vacate cells live next at old new sound found was is links =
     let within = slice_get_within cells at _ found in
     let count = count-set cells at old new found in
@@ -170,38 +170,37 @@ live_cell cells s d c live read =
         let gone : tet_at (map tet_of cells) s ≡ None = got ∙ tet_of-free c e in
         absurd (true≢false (sym (subst (λ (o : Option Tet). IsSome (option_map (λ (t : Tet). t.corners) o)) gone live)))
 
--- a cell of a mesh with another side
-pub map-with_side : (cells : List Cell) (s i : ℕ) (c : Cell) (b : Option Side) → c.live ≡ true → map tet_of (set cells s (record c { sides = set c.sides i b })) ≡ set (map tet_of cells) s (Some (tet_with (tet_in c) i b))
-map-with_side cells s i c b live =
-    map-set tet_of cells s (record c { sides = set c.sides i b }) ∙ ap (set (map tet_of cells) s) (tet_of-live (record c { sides = set c.sides i b }) live)
+-- the cell has another side, and else stays
+pub record Resided (c new : Cell) (i : ℕ) (b : Option Side) : Type 0 where
+  pub tet : tet_in new ≡ tet_with (tet_in c) i b
+  pub live : new.live ≡ c.live
 
-pub record Wrote (cells : List Cell) (live next : ℕ) (s i : ℕ) (c : Cell) (b : Option Side) : Type 0 where
-  pub counted : IsCounted (set cells s (record c { sides = set c.sides i b })) live next
-  pub writes : Writes (map tet_of cells) (map tet_of (set cells s (record c { sides = set c.sides i b }))) s i b
+pub record Wrote (cells : List Cell) (live next : ℕ) (s i : ℕ) (new : Cell) (b : Option Side) : Type 0 where
+  pub counted : IsCounted (set cells s new) live next
+  pub writes : Writes (map tet_of cells) (map tet_of (set cells s new)) s i b
 
-pub Wrote-set : (cells : List Cell) (live next s i : ℕ) (c : Cell) (b : Option Side) → IsCounted cells live next → IsShaped (map tet_of cells) → IsSome (corners_at (map tet_of cells) s) → i < 4 → c ≡ get_or cells s c → Wrote cells live next s i c b
-Wrote-set cells live next s i c b counted shaped is_live face read =
+pub Wrote-set : (cells : List Cell) (live next s i : ℕ) (c new : Cell) (b : Option Side) → IsCounted cells live next → IsShaped (map tet_of cells) → IsSome (corners_at (map tet_of cells) s) → i < 4 → c ≡ get_or cells s c → Resided c new i b → Wrote cells live next s i new b
+Wrote-set cells live next s i c new b counted shaped is_live face read resided =
     let found = live_cell cells s c c is_live read in
+    let is : new.live ≡ true = resided.live ∙ found.2 in
+    let written : map tet_of (set cells s new) ≡ set (map tet_of cells) s (Some (tet_with (tet_in c) i b)) =
+    map-set tet_of cells s new ∙ ap (set (map tet_of cells) s) (tet_of-live new is ∙ ap Some resided.tet) in
     record {
-      counted = IsCounted-rewrite cells live next s c _ counted found.1 found.2 found.2;
-      writes = rw (map-with_side cells s i c b found.2) (Writes-set (map tet_of cells) s i (tet_in c) b shaped found.3 face);
+      counted = IsCounted-rewrite cells live next s c new counted found.1 found.2 is;
+      writes = rw written (Writes-set (map tet_of cells) s i (tet_in c) b shaped found.3 face);
     }
-
--- the cells after two sides are written
-abbrev pub with_side : List Cell → ℕ → ℕ → Cell → Option Side → List Cell
-with_side cells s i c b = set cells s (record c { sides = set c.sides i b })
 
 pub record Linked (cells new : List Cell) (live next s i t j : ℕ) : Type 0 where
   pub sound : IsSound new live next
   pub links : Links (map tet_of cells) (map tet_of new) s i t j
 
-pub Linked-writes : (cells : List Cell) (live next s i t j : ℕ) (one two : Cell) → IsSound cells live next → IsSome (corners_at (map tet_of cells) s) → IsSome (corners_at (map tet_of cells) t) → i < 4 → j < 4 → s ≢ t → SameFace (map tet_of cells) s i t j → side (map tet_of cells) s i ≡ None → side (map tet_of cells) t j ≡ None → one ≡ get_or cells s one → two ≡ get_or (with_side cells s i one (Some (at t j))) t two → Linked cells (with_side (with_side cells s i one (Some (at t j))) t j two (Some (at s i))) live next s i t j
-Linked-writes cells live next s i t j one two sound live_s live_t hi hj differ faces free_s free_t read read2 =
-    let w1 = Wrote-set cells live next s i one (Some (at t j)) sound.counted sound.mesh.shaped live_s hi read in
-    let w2 = Wrote-set _ live next t j two (Some (at s i)) w1.counted w1.writes.shaped (subst IsSome (sym (w1.writes.corners t)) live_t) hj read2 in
+pub Linked-writes : (cells : List Cell) (live next s i t j : ℕ) (one two one2 two2 : Cell) → IsSound cells live next → IsSome (corners_at (map tet_of cells) s) → IsSome (corners_at (map tet_of cells) t) → i < 4 → j < 4 → s ≢ t → SameFace (map tet_of cells) s i t j → side (map tet_of cells) s i ≡ None → side (map tet_of cells) t j ≡ None → one ≡ get_or cells s one → Resided one one2 i (Some (at t j)) → two ≡ get_or (set cells s one2) t two → Resided two two2 j (Some (at s i)) → Linked cells (set (set cells s one2) t two2) live next s i t j
+Linked-writes cells live next s i t j one two one2 two2 sound live_s live_t hi hj differ faces free_s free_t read resided read2 resided2 =
+    let w1 = Wrote-set cells live next s i one one2 (Some (at t j)) sound.counted sound.mesh.shaped live_s hi read resided in
+    let w2 = Wrote-set _ live next t j two two2 (Some (at s i)) w1.counted w1.writes.shaped (subst IsSome (sym (w1.writes.corners t)) live_t) hj read2 resided2 in
     let links = Links-writes _ _ _ s i t j differ w1.writes w2.writes in
     record {
-      sound = record { counted = w2.counted; small = omega (arith, sound.small, length-set cells s (record one { sides = set one.sides i (Some (at t j)) }), length-set (with_side cells s i one (Some (at t j))) t (record two { sides = set two.sides j (Some (at s i)) })); mesh = IsMesh-links _ _ s i t j sound.mesh w2.writes.shaped differ faces free_s free_t links };
+      sound = record { counted = w2.counted; small = omega (arith, sound.small, length-set cells s one2, length-set (set cells s one2) t two2); mesh = IsMesh-links _ _ s i t j sound.mesh w2.writes.shaped differ faces free_s free_t links };
       links = links;
     }
 
@@ -209,26 +208,23 @@ pub record Unlinked (cells new : List Cell) (live next s i t j : ℕ) : Type 0 w
   pub sound : IsSound new live next
   pub unlinks : Unlinks (map tet_of cells) (map tet_of new) s i t j
 
-pub Unlinked-writes : (cells : List Cell) (live next s i t j : ℕ) (one two : Cell) → IsSound cells live next → side (map tet_of cells) s i ≡ Some (at t j) → one ≡ get_or cells s one → two ≡ get_or (with_side cells s i one None) t two → Unlinked cells (with_side (with_side cells s i one None) t j two None) live next s i t j
-Unlinked-writes cells live next s i t j one two sound was read read2 =
+pub Unlinked-writes : (cells : List Cell) (live next s i t j : ℕ) (one two one2 two2 : Cell) → IsSound cells live next → side (map tet_of cells) s i ≡ Some (at t j) → one ≡ get_or cells s one → Resided one one2 i None → two ≡ get_or (set cells s one2) t two → Resided two two2 j None → Unlinked cells (set (set cells s one2) t two2) live next s i t j
+Unlinked-writes cells live next s i t j one two one2 two2 sound was read resided read2 resided2 =
     let here = side_live (map tet_of cells) s i (at t j) sound.mesh.shaped was in
     let home : side (map tet_of cells) t j ≡ Some (at s i) = sound.mesh.back s i (at t j) was in
     let there = side_live (map tet_of cells) t j (at s i) sound.mesh.shaped home in
     let apart : t ≢ s = sound.mesh.apart s i (at t j) was in
-    let w1 = Wrote-set cells live next s i one None sound.counted sound.mesh.shaped here.0 here.1 read in
-    let w2 = Wrote-set _ live next t j two None w1.counted w1.writes.shaped (subst IsSome (sym (w1.writes.corners t)) there.0) there.1 read2 in
+    let w1 = Wrote-set cells live next s i one one2 None sound.counted sound.mesh.shaped here.0 here.1 read resided in
+    let w2 = Wrote-set _ live next t j two two2 None w1.counted w1.writes.shaped (subst IsSome (sym (w1.writes.corners t)) there.0) there.1 read2 resided2 in
     let unlinks = Unlinks-writes _ _ _ s i t j (λ same. apart (sym same)) w1.writes w2.writes in
     record {
-      sound = record { counted = w2.counted; small = omega (arith, sound.small, length-set cells s (record one { sides = set one.sides i None }), length-set (with_side cells s i one None) t (record two { sides = set two.sides j None })); mesh = IsMesh-unlinks _ _ s i t j sound.mesh w2.writes.shaped was unlinks };
+      sound = record { counted = w2.counted; small = omega (arith, sound.small, length-set cells s one2, length-set (set cells s one2) t two2); mesh = IsMesh-unlinks _ _ s i t j sound.mesh w2.writes.shaped was unlinks };
       unlinks = unlinks;
     }
 
 -- a side as it is read from a cell
-pub side_read : (cells : List Cell) (s i : ℕ) (c : Cell) (d : Option Side) → IsShaped (map tet_of cells) → IsSome (corners_at (map tet_of cells) s) → i < 4 → c ≡ get_or cells s c → get_or c.sides i d ≡ side (map tet_of cells) s i
-side_read cells s i c d shaped live face read =
-    let found = live_cell cells s c c live read in
-    let four = (shaped s (tet_in c) found.3).1 in
-    rw found.3 (get_or_default c.sides i d None (omega arith))
+pub side_read : (cells : List Cell) (s i : ℕ) (c : Cell) → IsSome (corners_at (map tet_of cells) s) → c ≡ get_or cells s c → get_or (sides_in c.slots c.faces) i None ≡ side (map tet_of cells) s i
+side_read cells s i c live read = rw (live_cell cells s c c live read).3 refl
 
 -- what has a side, as a cell
 pub live_from_side : (slots : List (Option Tet)) (s i : ℕ) → IsShaped slots → IsSome (side slots s i) → IsSome (corners_at slots s) × (i < 4)
@@ -238,9 +234,17 @@ live_from_side slots s i shaped some = by_side (side slots s i) refl some
     by_side None is some = absurd (true≢false (sym some))
     by_side (Some b) is some = side_live slots s i b shaped is
 
--- a new live cell
-abbrev pub fresh : List Corner → Cell
-fresh cs = record { corners = cs; sides = None ∷ None ∷ None ∷ None ∷ []; live = true; next = 0 }
+-- a live cell with these corners and no neighbor
+pub record IsFresh (c : Cell) (cs : List Corner) : Type 0 where
+  pub live : c.live ≡ true
+  pub corners : corners_in c.points c.infinite ≡ cs
+  pub sides : sides_in c.slots c.faces ≡ None ∷ None ∷ None ∷ None ∷ []
+
+tet_of-fresh : (c : Cell) (cs : List Corner) → IsFresh c cs → tet_of c ≡ Some (lone cs)
+tet_of-fresh c cs fresh = tet_of-live c fresh.live ∙ ap Some (by_parts fresh.corners fresh.sides)
+  where
+    by_parts : {xs : List Corner} {ys : List (Option Side)} → xs ≡ cs → ys ≡ None ∷ None ∷ None ∷ None ∷ [] → ◌≡◌ {A = Tet} (record { corners = xs; sides = ys }) (lone cs)
+    by_parts e f = rw (e, f) refl
 
 pub record Took (cells new : List Cell) (live next s : ℕ) (cs : List Corner) : Type 0 where
   pub sound : IsSound new live next
@@ -262,18 +266,17 @@ some_tet : (o : Option Tet) → IsSome o → option_map (λ (t : Tet). t.corners
 some_tet None some e = true≢false (sym some)
 some_tet (Some t) some e = cc
 
-pub Took-push : (cells : List Cell) (live next : ℕ) (cs : List Corner) → IsSound cells live next → next ≡ length cells → length cells < most_cells → length cs ≡ 4 → AllDiffer cs → Took cells (cells ++ fresh cs ∷ []) (live + 1) (next + 1) next cs
-Took-push cells live next cs sound at_end room four differ =
-    let new = fresh cs in
+pub Took-push : (cells : List Cell) (live next : ℕ) (cs : List Corner) (new : Cell) → IsSound cells live next → next ≡ length cells → length cells < most_cells → length cs ≡ 4 → AllDiffer cs → IsFresh new cs → Took cells (cells ++ new ∷ []) (live + 1) (next + 1) next cs
+Took-push cells live next cs new sound at_end room four differ fresh =
     let end : next ≡ length (map tet_of cells) = omega (arith, length-map cells tet_of) in
     let puts : Puts (map tet_of cells) (map tet_of (cells ++ new ∷ [])) next (Some (lone cs)) =
-    rw (map_push tet_of cells new, end) (Puts-push (map tet_of cells) (Some (lone cs))) in
+    rw (map_push tet_of cells new, tet_of-fresh new cs fresh, end) (Puts-push (map tet_of cells) (Some (lone cs))) in
     let longer = length_push cells new in
     let full = full_at_end cells live next sound.counted at_end in
     let all : (u : ℕ) → u < length (map tet_of cells) → corners_at (map tet_of cells) u ≡ None → next < length (map tet_of cells) = λ u lt free. absurd (none_free cells live next u sound.counted full (omega (arith, length-map cells tet_of)) free) in
     let takes = Takes-puts _ _ next cs puts (rw end (get_or_past (map tet_of cells) (length (map tet_of cells)) None (omega arith))) all (λ lt. absurd (omega arith)) (λ le. (end, omega (arith, length-map cells tet_of, length-map (cells ++ new ∷ []) tet_of))) in
     record {
-      sound = record { counted = IsCounted-push cells live next new sound.counted at_end refl; small = omega (arith, length_push cells new); mesh = IsMesh-takes _ _ next cs sound.mesh puts four differ takes };
+      sound = record { counted = IsCounted-push cells live next new sound.counted at_end fresh.live; small = omega (arith, length_push cells new); mesh = IsMesh-takes _ _ next cs sound.mesh puts four differ takes };
       takes = takes;
     }
   where
@@ -282,9 +285,8 @@ Took-push cells live next cs sound at_end room four differ =
         let some = all_some (map tet_of cells) u (omega (arith, counted.counted, length-map cells tet_of)) (omega (arith, length-map cells tet_of)) in
         absurd (some_tet (tet_at (map tet_of cells) u) some free)
 
-pub Took-fill : (cells : List Cell) (live next : ℕ) (cs : List Corner) (old : Cell) → IsSound cells live next → next ≢ length cells → old ≡ get_or cells next old → length cs ≡ 4 → AllDiffer cs → Took cells (set cells next (fresh cs)) (live + 1) old.next next cs
-Took-fill cells live next cs old sound before read four differ =
-    let new = fresh cs in
+pub Took-fill : (cells : List Cell) (live next : ℕ) (cs : List Corner) (old new : Cell) → IsSound cells live next → next ≢ length cells → old ≡ get_or cells next old → length cs ≡ 4 → AllDiffer cs → IsFresh new cs → Took cells (set cells next new) (live + 1) (next_of old) next cs
+Took-fill cells live next cs old new sound before read four differ fresh =
     let free = free_before_end cells live next sound.counted before in
     let within : next < length cells = slice_get_within cells next _ free.1 in
     let found : slice_get cells next ≡ Some old = slice_get-get_or cells next old within ∙ ap Some (sym read) in
@@ -292,11 +294,11 @@ Took-fill cells live next cs old sound before read four differ =
     let dead : old.live ≡ false = ap (λ (x : Cell). x.live) (sym same) ∙ free.2 in
     let inside : next < length (map tet_of cells) = omega (arith, length-map cells tet_of) in
     let puts : Puts (map tet_of cells) (map tet_of (set cells next new)) next (Some (lone cs)) =
-    rw (map-set tet_of cells next new) (Puts-set (map tet_of cells) next (Some (lone cs)) inside) in
+    rw (map-set tet_of cells next new, tet_of-fresh new cs fresh) (Puts-set (map tet_of cells) next (Some (lone cs)) inside) in
     let was : tet_at (map tet_of cells) next ≡ None = get_or-map tet_of cells next old None within ∙ ap tet_of (sym read) ∙ tet_of-free old dead in
     let takes = Takes-puts _ _ next cs puts was (λ u lt e. inside) (λ lt. omega (arith, length-map cells tet_of, length-map (set cells next new) tet_of, length-set cells next new)) (λ le. absurd (omega arith)) in
     record {
-      sound = record { counted = IsCounted-fill cells live next old new sound.counted found refl; small = omega (arith, sound.small, length-set cells next new); mesh = IsMesh-takes _ _ next cs sound.mesh puts four differ takes };
+      sound = record { counted = IsCounted-fill cells live next old new sound.counted found fresh.live; small = omega (arith, sound.small, length-set cells next new); mesh = IsMesh-takes _ _ next cs sound.mesh puts four differ takes };
       takes = takes;
     }
 
@@ -304,15 +306,14 @@ pub record Freed (cells new : List Cell) (live next s : ℕ) : Type 0 where
   pub sound : IsSound new live next
   pub frees : Frees (map tet_of cells) (map tet_of new) s
 
-pub Freed-set : (cells : List Cell) (live next s : ℕ) (c : Cell) → IsSound cells live next → IsSome (corners_at (map tet_of cells) s) → ((i : ℕ) → side (map tet_of cells) s i ≡ None) → c ≡ get_or cells s c → Freed cells (set cells s (record c { live = false; next = next })) (live - 1) s s
-Freed-set cells live next s c sound is_live bare read =
-    let new : Cell = record c { live = false; next = next } in
+pub Freed-set : (cells : List Cell) (live next s : ℕ) (c new : Cell) → IsSound cells live next → IsSome (corners_at (map tet_of cells) s) → ((i : ℕ) → side (map tet_of cells) s i ≡ None) → c ≡ get_or cells s c → new.live ≡ false → next_of new ≡ next → Freed cells (set cells s new) (live - 1) s s
+Freed-set cells live next s c new sound is_live bare read is names =
     let found = live_cell cells s c c is_live read in
     let puts : Puts (map tet_of cells) (map tet_of (set cells s new)) s None =
-    rw (map-set tet_of cells s new) (Puts-set (map tet_of cells) s None (omega (arith, found.0, length-map cells tet_of))) in
+    rw (map-set tet_of cells s new, tet_of-free new is) (Puts-set (map tet_of cells) s None (omega (arith, found.0, length-map cells tet_of))) in
     let frees = Frees-puts _ _ s puts bare (omega (arith, length-map cells tet_of, length-map (set cells s new) tet_of, length-set cells s new)) in
     record {
-      sound = record { counted = IsCounted-vacate cells live next s c new sound.counted found.1 found.2 refl refl; small = omega (arith, sound.small, length-set cells s new); mesh = IsMesh-frees _ _ s sound.mesh puts bare frees };
+      sound = record { counted = IsCounted-vacate cells live next s c new sound.counted found.1 found.2 is names; small = omega (arith, sound.small, length-set cells s new); mesh = IsMesh-frees _ _ s sound.mesh puts bare frees };
       frees = frees;
     }
 
@@ -322,16 +323,16 @@ pub record Behind (cells : List Cell) (s i : ℕ) (two : Side) : Type 0 where
   pub slot : two.slot < length cells
   pub face : two.face < 4
 
-pub Behind-read : (cells : List Cell) (s i : ℕ) (c : Cell) (two : Side) → IsMesh (map tet_of cells) → IsSome (side (map tet_of cells) s i) → c ≡ get_or cells s c → get_or c.sides i None ≡ Some two → Behind cells s i two
+pub Behind-read : (cells : List Cell) (s i : ℕ) (c : Cell) (two : Side) → IsMesh (map tet_of cells) → IsSome (side (map tet_of cells) s i) → c ≡ get_or cells s c → get_or (sides_in c.slots c.faces) i None ≡ Some two → Behind cells s i two
 Behind-read cells s i c two mesh some read found =
     let here = live_from_side (map tet_of cells) s i mesh.shaped some in
-    let was : side (map tet_of cells) s i ≡ Some two = sym (side_read cells s i c None mesh.shaped here.0 here.1 read) ∙ found in
+    let was : side (map tet_of cells) s i ≡ Some two = sym (side_read cells s i c here.0 read) ∙ found in
     let there = side_live (map tet_of cells) two.slot two.face (at s i) mesh.shaped (mesh.back s i two was) in
     let cell = live_cell cells two.slot c (get_or cells two.slot c) there.0 refl in
     record { was = was; slot = cell.0; face = there.1 }
 
 -- the neighbor of a live slot is live
-pub next_live : (cells : List Cell) (s i : ℕ) (c : Cell) (two : Side) → IsMesh (map tet_of cells) → IsSome (corners_at (map tet_of cells) s) → i < 4 → c ≡ get_or cells s c → get_or c.sides i None ≡ Some two → IsSome (corners_at (map tet_of cells) two.slot) × (two.face < 4)
+pub next_live : (cells : List Cell) (s i : ℕ) (c : Cell) (two : Side) → IsMesh (map tet_of cells) → IsSome (corners_at (map tet_of cells) s) → i < 4 → c ≡ get_or cells s c → get_or (sides_in c.slots c.faces) i None ≡ Some two → IsSome (corners_at (map tet_of cells) two.slot) × (two.face < 4)
 next_live cells s i c two mesh live face read found =
-    let was : side (map tet_of cells) s i ≡ Some two = sym (side_read cells s i c None mesh.shaped live face read) ∙ found in
+    let was : side (map tet_of cells) s i ≡ Some two = sym (side_read cells s i c live read) ∙ found in
     side_live (map tet_of cells) two.slot two.face (at s i) mesh.shaped (mesh.back s i two was)

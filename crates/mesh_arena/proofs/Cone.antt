@@ -6,6 +6,7 @@ use Rattle.mesh_arena.specs.declared.slot.Corner.{Corner}
 use Rattle.mesh_arena.specs.declared.slot.Corner.TheVariants.{Ghost}
 use Rattle.mesh_arena.specs.declared.arena.Side.{Side}
 use Rattle.mesh_arena.specs.Mesh.{Tet, tet_at, corners_at, corner_in, corner, side, at, OnFace, SameFace, IsShaped, IsMesh, AllDiffer}
+use Rattle.mesh_arena.specs.Surgery.{FitsFace}
 use Rattle.mesh_arena.proofs.Mesh.{side_live}
 
 -- a live slot has four corners
@@ -50,22 +51,33 @@ cone_differ slots s i inner p cs mesh was off is a b ha hb e =
         let both : get_or cs a Ghost ≡ get_or cs b Ghost = sym (get_or-set_other cs inner.face a p Ghost x) ∙ e ∙ get_or-set_other cs inner.face b p Ghost y in
         mesh.differ inner.slot a b (faces_below slots s i inner mesh was).3 ha hb (read_corner slots inner.slot cs a is ∙ both ∙ sym (read_corner slots inner.slot cs b is))
 
-pub cone_same : (slots new : List (Option Tet)) (s i : ℕ) (inner : Side) (made : ℕ) (p : Corner) (cs : List Corner) → IsMesh slots → side slots s i ≡ Some inner → corners_at slots inner.slot ≡ Some cs → corners_at new s ≡ corners_at slots s → corners_at new made ≡ Some (set cs inner.face p) → SameFace new s i made inner.face
-cone_same slots new s i inner made p cs mesh was is kept adds_star =
+-- the face of s fits those corners
+pub cone_fits : (slots : List (Option Tet)) (s i : ℕ) (inner : Side) (p : Corner) (cs : List Corner) → IsMesh slots → side slots s i ≡ Some inner → corners_at slots inner.slot ≡ Some cs → FitsFace slots s i (set cs inner.face p) inner.face
+cone_fits slots s i inner p cs mesh was is =
     record {
       to = λ x on.
-          let there = faces.to x (record { place = on.place; within = on.within; off = on.off; is = sym (same_s on.place) ∙ on.is }) in
-          record { place = there.place; within = there.within; off = there.off; is = at_made there.place there.off ∙ there.is };
-      from = λ x on.
-          let there = faces.from x (record { place = on.place; within = on.within; off = on.off; is = sym (at_made on.place on.off) ∙ on.is }) in
-          record { place = there.place; within = there.within; off = there.off; is = same_s there.place ∙ there.is };
+          let there = faces.to x on in
+          record { place = there.place; within = there.within; differs = there.off; is = kept there.place there.off ∙ there.is };
+      from = λ x has. faces.from x (record { place = has.place; within = has.within; off = has.differs; is = sym (kept has.place has.differs) ∙ has.is });
     }
   where
     faces : SameFace slots s i inner.slot inner.face
     faces = mesh.shared s i inner was
 
+    kept : (m : ℕ) → m ≢ inner.face → get_or (set cs inner.face p) m Ghost ≡ corner slots inner.slot m
+    kept m differ = get_or-set_other cs inner.face m p Ghost differ ∙ sym (read_corner slots inner.slot cs m is)
+
+-- a face that fits these corners is shared with the slot that has them
+pub fits_same : (slots new : List (Option Tet)) (s i made j : ℕ) (cs : List Corner) → FitsFace slots s i cs j → corners_at new s ≡ corners_at slots s → corners_at new made ≡ Some cs → SameFace new s i made j
+fits_same slots new s i made j cs fits kept is =
+    record {
+      to = λ x on.
+          let has = fits.to x (record { place = on.place; within = on.within; off = on.off; is = sym (same_s on.place) ∙ on.is }) in
+          record { place = has.place; within = has.within; off = has.differs; is = read_corner new made cs has.place is ∙ has.is };
+      from = λ x on.
+          let there = fits.from x (record { place = on.place; within = on.within; differs = on.off; is = sym (read_corner new made cs on.place is) ∙ on.is }) in
+          record { place = there.place; within = there.within; off = there.off; is = same_s there.place ∙ there.is };
+    }
+  where
     same_s : (m : ℕ) → corner new s m ≡ corner slots s m
     same_s m = ap (λ (o : Option (List Corner)). corner_in o m) kept
-
-    at_made : (m : ℕ) → m ≢ inner.face → corner new made m ≡ corner slots inner.slot m
-    at_made m differ = read_corner new made _ m adds_star ∙ get_or-set_other cs inner.face m p Ghost differ ∙ sym (read_corner slots inner.slot cs m is)

@@ -1,15 +1,15 @@
 -- How the slots of a star are linked with one another.
 use Rattle.std.proofs.Common.{◌≡◌, ℕ, List, map, get_or, Option, Some, option_map, sym, ap, ◌∙◌}
-use Rattle.mesh_arena.specs.declared.arena.Cell.{Cell}
+use Rattle.mesh_arena.specs.declared.cell.Cell.{Cell}
 use Rattle.mesh_arena.specs.declared.slot.Corner.{Corner}
 use Rattle.mesh_arena.specs.declared.slot.Corner.TheVariants.{Ghost}
 use Rattle.mesh_arena.specs.Mesh.{Tet, corners_at, corner_in, IsLive, corner, OnFace, SameFace}
-use Rattle.mesh_arena.specs.Cells.{tet_of}
+use Rattle.mesh_arena.specs.Cells.{corners_in, tet_of}
 use Rattle.mesh_arena.specs.StarLinks.{Has}
 use Rattle.mesh_arena.proofs.Cells.{live_cell}
 
 -- the corners of a live cell
-pub cell_corners : (cells : List Cell) (s : ℕ) (c : Cell) → IsLive (map tet_of cells) s → c ≡ get_or cells s c → corners_at (map tet_of cells) s ≡ Some c.corners
+pub cell_corners : (cells : List Cell) (s : ℕ) (c : Cell) → IsLive (map tet_of cells) s → c ≡ get_or cells s c → corners_at (map tet_of cells) s ≡ Some (corners_in c.points c.infinite)
 cell_corners cells s c live read = ap (option_map (λ (t : Tet). t.corners)) (live_cell cells s c c live read).3
 
 module _ (slots : List (Option Tet)) (s : ℕ) (cs : List Corner) (is : corners_at slots s ≡ Some cs) where

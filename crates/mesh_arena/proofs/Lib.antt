@@ -1,4 +1,5 @@
 pub mod Cells
+pub mod CellSides
 pub mod Mesh
 pub mod Cone
 pub mod AddStar

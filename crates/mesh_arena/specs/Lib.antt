@@ -4,3 +4,4 @@ pub mod Star
 pub mod StarLinks
 pub mod Cavity
 pub mod Replace
+pub mod Surgery

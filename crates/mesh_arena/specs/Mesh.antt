@@ -10,10 +10,11 @@ pub record Tet : Type 0 where
   pub corners : List Corner
   pub sides : List (Option Side)
 
--- nothing at a free slot; and how many more slots fit with no allocation
+-- Nothing at a free slot; how many faces a rim may have whose star needs no allocation; and how many more slots fit with none
 pub record Mesh : Type 0 where
   pub slots : List (Option Tet)
   pub spare : ℕ
+  pub room : ℕ
 
 -- what stands in a slot
 abbrev pub tet_at : List (Option Tet) → ℕ → Option Tet

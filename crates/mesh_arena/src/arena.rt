@@ -1,31 +1,27 @@
 //! The arena: its slots, and the changes of one slot or one pair of faces.
-ghost use Rattle.std.specs.Prelude.{◌≡◌, ◌≢◌, ℕ, ◌+◌, ◌<◌, ◌≤◌, [], length, Some, None, IsSome, IfSome, IsOk, IfOk, OnOk, OnErr, MatchOption, option_map};
+ghost use Rattle.std.specs.Prelude.{◌≡◌, ◌≢◌, ℕ, ◌+◌, ◌<◌, ◌≤◌, ◌↔◌, IsTrue, [], length, Some, None, IsSome, IfSome, IsOk, IfOk, OnOk, OnErr, MatchOption, option_map, vec_capacity};
 ghost use Rattle.mesh_arena.specs.Mesh.{tet_at, corners_at, IsLive, at, side, corner_list, AllDiffer, SameFace, IsMesh, Links, Unlinks, Takes, Frees};
 
+use crate::cell::Cell;
 use crate::edges::EdgeTable;
+use crate::slot::covers;
+use crate::star::StarSlot;
 use crate::{Corner, RimFace, Slot, SlotCorners};
 use std::alloc::Global;
 use std::marker::Model;
+use std::mem;
 use tet_ports::NoMemory;
 
-// A face of a slot, by its place.
+/// A face of a slot, by its place. Contracts name what stands behind a face so.
 #[derive(Clone, Copy, PartialEq, Eq)]
-pub(crate) struct Side {
-    pub(crate) slot: u32,
-    pub(crate) face: u8,
-}
-
-#[derive(Clone, Copy)]
-pub(crate) struct Cell {
-    pub(crate) corners: [Corner; 4],
-    pub(crate) sides: [Option<Side>; 4],
-    live: bool,
-    // The next free cell, where this one is free.
-    next: u32,
+pub struct Side {
+    pub slot: u32,
+    pub face: u8,
 }
 
 /// Slots, live or free, numbered from 0. A live one has four different corners, and behind each face a neighbor or none; neighbors are mutual and have
-/// the face's three corners in common. Contracts see the list of slots, and `spare`, how many more slots have memory.
+/// the face's three corners in common. Contracts see the list of slots; `spare`, of how many faces a rim may be whose star needs no allocation; and
+/// `room`, how many more slots have memory.
 #[derive(Drop)]
 pub struct Arena {
     pub(crate) cells: Vec<Cell>,
@@ -33,8 +29,13 @@ pub struct Arena {
     live: usize,
     // The first free cell, or `cells.len()` where there is none.
     next: u32,
+    // A rim of so many faces finds memory for its star.
+    spare: usize,
+    // The slots of the star that is being made.
+    star: Vec<StarSlot>,
     // Finds the faces of a star that are to be linked.
     pub(crate) edges: EdgeTable,
+    alloc: Global,
 }
 
 // So that a place fits 32 bits, and so does the number past the end.
@@ -46,11 +47,11 @@ impl Model for Arena {
 
     ghost Value = { Mesh };
 
-    ghost use Rattle.mesh_arena.specs.Cells.{tet_of, most_cells, IsSound};
+    ghost use Rattle.mesh_arena.specs.Cells.{tet_of, most_cells, IsReady};
 
-    ghost view = { λ a. record { slots = map tet_of a.cells.items; spare = min (vec_capacity a.cells) most_cells - a.live } };
+    ghost view = { λ a. record { slots = map tet_of a.cells.items; spare = a.spare; room = min (vec_capacity a.cells) most_cells - a.live } };
 
-    ghost invariant = { λ a. IsSound a.cells.items a.live a.next };
+    ghost invariant = { λ a. IsReady a.cells.items a.live a.next a.spare (vec_capacity a.cells) (vec_capacity a.star) };
 }
 
 impl Arena {
@@ -62,7 +63,10 @@ impl Arena {
             cells: Vec::new(alloc),
             live: 0,
             next: 0,
+            spare: 0,
+            star: Vec::new(alloc),
             edges: EdgeTable::new(alloc),
+            alloc,
         }
     }
 
@@ -91,7 +95,7 @@ impl Arena {
         ensures corners { corners_at self.now.slots s.index ≡ Some (corner_list result) }
         ensures mesh { IsMesh self.now.slots }
     {
-        let [a, b, c, d] = self.cells[s.index as usize].corners;
+        let [a, b, c, d] = self.cells[s.index as usize].corners();
         SlotCorners { a, b, c, d }
     }
 
@@ -102,7 +106,7 @@ impl Arena {
         ensures value { option_map (λ n. n.index) result ≡ option_map (λ b. b.slot) (side self.now.slots s.index face) }
         ensures live { IfSome result (λ n. IsLive self.now.slots n.index) }
     {
-        match self.cells[s.index as usize].sides[face as usize] {
+        match self.cells[s.index as usize].side(face) {
             Some(side) => Some(Slot { index: side.slot }),
             None => None,
         }
@@ -115,13 +119,24 @@ impl Arena {
         ensures value { option_map (λ f. at f.slot.index f.face) result ≡ side self.now.slots s.index face }
         ensures live { IfSome result (λ f. IsLive self.now.slots f.slot.index × (f.face < 4)) }
     {
-        match self.cells[s.index as usize].sides[face as usize] {
+        match self.cells[s.index as usize].side(face) {
             Some(side) => Some(RimFace {
                 slot: Slot { index: side.slot },
                 face: side.face,
             }),
             None => None,
         }
+    }
+
+    /// Whether two faces of live slots, opposite their corners in the places `i` and `j` from 0, have the same corners.
+    pub fn same_face(&self, s: Slot, i: u8, t: Slot, j: u8) -> bool
+        requires first { IsLive self.now.slots s.index }
+        requires second { IsLive self.now.slots t.index }
+        ensures { IsTrue result ↔ SameFace self.now.slots s.index i t.index j }
+    {
+        let one = self.cells[s.index as usize].corners();
+        let two = self.cells[t.index as usize].corners();
+        covers(&one, i, &two, j) && covers(&two, j, &one, i)
     }
 
     /// Makes two slots neighbors at these faces, which have the same three corners and no neighbor yet. No other neighbor changes.
@@ -135,17 +150,24 @@ impl Arena {
         requires second_free { side self.old.slots t.index j ≡ None }
         ensures links { Links self.old.slots self.new.slots s.index i t.index j }
         ensures spare { self.new.spare ≡ self.old.spare }
+        ensures room { self.new.room ≡ self.old.room }
     {
         let one = &mut self.cells[s.index as usize];
-        one.sides[i as usize] = Some(Side {
-            slot: t.index,
-            face: j,
-        });
+        one.put_side(
+            i,
+            Side {
+                slot: t.index,
+                face: j,
+            },
+        );
         let two = &mut self.cells[t.index as usize];
-        two.sides[j as usize] = Some(Side {
-            slot: s.index,
-            face: i,
-        });
+        two.put_side(
+            j,
+            Side {
+                slot: s.index,
+                face: i,
+            },
+        );
     }
 
     // Takes away what stands behind a face, and behind the face on its other side.
@@ -154,42 +176,52 @@ impl Arena {
         ensures mesh { IsMesh self.old.slots }
         ensures was { side self.old.slots one.slot one.face ≡ Some result }
         ensures unlinks { Unlinks self.old.slots self.new.slots one.slot one.face result.slot result.face }
-        ensures spare { self.new.spare ≡ self.old.spare }
+        ensures room { self.new.room ≡ self.old.room }
     {
-        let Some(two) = self.cells[one.slot as usize].sides[one.face as usize] else {
+        let Some(two) = self.cells[one.slot as usize].side(one.face) else {
             unreachable!();
         };
         let first = &mut self.cells[one.slot as usize];
-        first.sides[one.face as usize] = None;
+        first.clear_side(one.face);
         let second = &mut self.cells[two.slot as usize];
-        second.sides[two.face as usize] = None;
+        second.clear_side(two.face);
         two
     }
 
     /// Makes room for the star over a rim of this many faces, so that `spare` is at least that. All else stays, and on `NoMemory` `spare` too.
     pub fn reserve(&mut self, faces: usize) -> Result<(), NoMemory>
         ensures room { OnOk result (faces ≤ self.new.spare) }
+        ensures within { self.new.spare ≤ self.new.room }
         ensures succeeds { faces ≤ self.old.spare → IsOk result }
         ensures slots { self.new.slots ≡ self.old.slots }
         ensures mesh { IsMesh self.new.slots }
         ensures err { OnErr result (self.new ≡ self.old) }
     {
+        if faces <= self.spare {
+            return Ok(());
+        }
         if faces > MOST_CELLS - self.live {
+            return Err(NoMemory);
+        }
+        self.star.clear();
+        if self.star.reserve(faces).is_err() {
             return Err(NoMemory);
         }
         let free = self.cells.len() - self.live;
         if free < faces && self.cells.reserve(faces - free).is_err() {
             return Err(NoMemory);
         }
+        self.spare = faces;
         Ok(())
     }
 
     /// A new slot with these four different corners and no neighbor, at a free place where there is one, and else past the end. On `NoMemory` the
-    /// arena is as before; it also comes at 2^32 - 1 live slots.
+    /// arena is as before; it also comes at 2^32 - 1 live slots, and never where a rim of one face is spare.
     pub fn alloc_slot(&mut self, corners: SlotCorners) -> Result<Slot, NoMemory>
         requires { AllDiffer (corner_list corners) }
         ensures ok { IfOk result (λ s. Takes self.old.slots self.new.slots s.index (corner_list corners)) }
         ensures err { OnErr result (self.new ≡ self.old) }
+        ensures succeeds { 0 < self.old.spare → IsOk result }
     {
         self.reserve(1)?;
         let index = self.take_slot(corners);
@@ -199,24 +231,19 @@ impl Arena {
     // `alloc_slot` where there is room.
     pub(crate) fn take_slot(&mut self, corners: SlotCorners) -> u32
         requires differ { AllDiffer (corner_list corners) }
-        requires room { 0 < self.old.spare }
+        requires room { 0 < self.old.room }
         ensures takes { Takes self.old.slots self.new.slots result (corner_list corners) }
-        ensures spare { self.new.spare + 1 ≡ self.old.spare }
+        ensures room { self.new.room + 1 ≡ self.old.room }
     {
-        let SlotCorners { a, b, c, d } = corners;
-        let cell = Cell {
-            corners: [a, b, c, d],
-            sides: [None, None, None, None],
-            live: true,
-            next: 0,
-        };
+        let cell = Cell::new(corners);
         let place = self.next;
+        self.spare = self.spare.saturating_sub(1);
         self.live += 1;
         if place as usize == self.cells.len() {
             self.cells.push_reserved(cell);
             self.next = place + 1;
         } else {
-            self.next = self.cells[place as usize].next;
+            self.next = self.cells[place as usize].next_free();
             self.cells[place as usize] = cell;
         }
         place
@@ -227,13 +254,32 @@ impl Arena {
         requires live { IsLive self.old.slots place }
         requires bare { (i : ℕ) → side self.old.slots place i ≡ None }
         ensures frees { Frees self.old.slots self.new.slots place }
-        ensures spare { self.old.spare ≤ self.new.spare }
+        ensures room { self.old.room ≤ self.new.room }
     {
         let next = self.next;
         let cell = &mut self.cells[place as usize];
-        cell.live = false;
-        cell.next = next;
+        cell.free(next);
         self.next = place;
         self.live -= 1;
+    }
+    // Lends the list for the slots of a star, with the memory that it was promised.
+    pub(crate) fn lend_star(&mut self) -> Vec<StarSlot>
+        ensures capacity { self.old.spare ≤ vec_capacity result }
+        ensures room { self.old.spare ≤ self.old.room }
+        ensures same_room { self.new.room ≡ self.old.room }
+        ensures slots { self.new.slots ≡ self.old.slots }
+    {
+        self.spare = 0;
+        mem::replace(&mut self.star, Vec::new(self.alloc))
+    }
+
+    // Takes that list back.
+    pub(crate) fn keep_star(&mut self, star: Vec<StarSlot>)
+        ensures slots { self.new.slots ≡ self.old.slots }
+        ensures mesh { IsMesh self.new.slots }
+    {
+        let room = self.cells.capacity().min(MOST_CELLS) - self.live;
+        self.spare = room.min(star.capacity());
+        self.star = star;
     }
 }

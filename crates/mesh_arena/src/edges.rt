@@ -16,6 +16,15 @@ pub(crate) struct Edge {
     pub(crate) high: u32,
 }
 
+impl Edge {
+    pub(crate) fn new(a: u32, b: u32) -> Self {
+        Edge {
+            low: a.min(b),
+            high: a.max(b),
+        }
+    }
+}
+
 // The face that an edge was met at, in this round.
 #[derive(Clone, Copy)]
 struct Met {
@@ -89,7 +98,6 @@ impl EdgeTable {
 
 // Fibonacci hashing of the two corners.
 fn hash(edge: Edge) -> usize {
-    let low = u64::from(edge.low).wrapping_mul(0x9e37_79b9_7f4a_7c15);
-    let both = (low ^ u64::from(edge.high)).wrapping_mul(0x9e37_79b9_7f4a_7c15);
-    (both >> 32) as usize
+    let both = u64::from(edge.low) << 32 | u64::from(edge.high);
+    (both.wrapping_mul(0x9e37_79b9_7f4a_7c15) >> 32) as usize
 }

@@ -5,11 +5,13 @@
 #![tactic(auto)]
 
 mod arena;
+mod cell;
 mod edges;
 mod slot;
+mod star;
 mod surgery;
 
-pub use arena::Arena;
+pub use arena::{Arena, Side};
 pub use slot::{Cavity, Corner, Rim, RimFace, Slot, SlotCorners};
 
 #[cfg(test)]

@@ -42,6 +42,7 @@ pub type Cavity = Items<Slot>;
 pub type Rim = Items<RimFace>;
 
 // Whether x is one of the corners off this place.
+#[inline(always)]
 pub(crate) fn has_corner(corners: &[Corner; 4], off: u8, x: Corner) -> bool
     ensures { IsTrue result ↔ Has corners.now off x }
 {
@@ -54,6 +55,7 @@ pub(crate) fn has_corner(corners: &[Corner; 4], off: u8, x: Corner) -> bool
 }
 
 // Whether the corners off the one place are corners off the other.
+#[inline(always)]
 pub(crate) fn covers(a: &[Corner; 4], i: u8, b: &[Corner; 4], j: u8) -> bool
     ensures { IsTrue result ↔ ((x : CornerValue) → Has a.now i x → Has b.now j x) }
 {
@@ -85,16 +87,36 @@ fn corner_number(corner: Corner) -> u32 {
     }
 }
 
-// The edge of the corners off two places.
-pub(crate) fn edge_off(corners: &[Corner; 4], i: u8, j: u8) -> Edge {
-    let mut low = u32::MAX;
-    let mut high = 0;
-    for m in 0..4u8 {
-        if m != i && m != j {
-            let number = corner_number(corners[m as usize]);
-            low = low.min(number);
-            high = high.max(number);
-        }
+// The edges of the face opposite the corner in the place `apex`: in each other place the edge that lacks the corner there.
+pub(crate) fn edges_of_face(corners: SlotCorners, apex: u8) -> [Option<Edge>; 4] {
+    let a = corner_number(corners.a);
+    let b = corner_number(corners.b);
+    let c = corner_number(corners.c);
+    let d = corner_number(corners.d);
+    match apex {
+        0 => [
+            None,
+            Some(Edge::new(c, d)),
+            Some(Edge::new(b, d)),
+            Some(Edge::new(b, c)),
+        ],
+        1 => [
+            Some(Edge::new(c, d)),
+            None,
+            Some(Edge::new(a, d)),
+            Some(Edge::new(a, c)),
+        ],
+        2 => [
+            Some(Edge::new(b, d)),
+            Some(Edge::new(a, d)),
+            None,
+            Some(Edge::new(a, b)),
+        ],
+        _ => [
+            Some(Edge::new(b, c)),
+            Some(Edge::new(a, c)),
+            Some(Edge::new(a, b)),
+            None,
+        ],
     }
-    Edge { low, high }
 }

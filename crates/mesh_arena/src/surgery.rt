@@ -1,60 +1,61 @@
 //! Surgery: the star of a new point takes the place of its cavity.
 ghost use Rattle.std.specs.Prelude.{◌≡◌, ◌≢◌, ℕ, ◌+◌, ◌<◌, ◌≤◌, ◌↔◌, length, Some, None, IsSome, IsOk, IfOk, OnErr, MatchOption, IsTrue};
-ghost use Rattle.mesh_arena.specs.Mesh.{IsLive, side, SameFace, OnFace, IsMesh};
-ghost use Rattle.mesh_arena.specs.Star.{behind_rim, behind, AddsOne, CanAddStar, AddsStar};
+ghost use Rattle.mesh_arena.specs.Mesh.{IsLive, corner_list, side, SameFace, IsMesh, AllDiffer};
+ghost use Rattle.mesh_arena.specs.Star.{behind_rim};
+ghost use Rattle.mesh_arena.specs.Surgery.{CanOpen, Opens, FitsFace, AddsOver, CanAdd, AddsStar};
 ghost use Rattle.mesh_arena.specs.Replace.{IsCavity, IsRim, IsOffRim, Replaces};
 ghost use Rattle.mesh_arena.specs.Cavity.{UnlinksAll, CanFree, FreesCavity};
 ghost use Rattle.mesh_arena.specs.StarLinks.{IsStar, ArePaired, Mate, LinksFace, LinksStar};
 
 use crate::arena::{Arena, Side};
-use crate::edges::StarFace;
-use crate::slot::{covers, edge_off, with_corner};
+use crate::edges::{Edge, StarFace};
+use crate::slot::edges_of_face;
+use crate::star::StarSlot;
 use crate::{Cavity, Corner, Rim, RimFace, Slot};
 use tet_ports::NoMemory;
 
 impl Arena {
-    // Puts a new slot between a face and the slot behind it: the corners of that slot, with the point in place of the one
-    // opposite the face.
-    fn add_over(&mut self, outer: RimFace, point: u32)
-        requires side { IsSome (side self.old.slots outer.slot.index outer.face) }
-        requires point { OnFace self.old.slots outer.slot.index outer.face (Corner.Point point) → ⊥ }
-        requires room { 0 < self.old.spare }
-        ensures adds { let inner = behind (side self.old.slots outer.slot.index outer.face) in
-            (made : ℕ) × AddsOne self.old.slots self.new.slots outer.slot.index outer.face inner made (Corner.Point point) }
-        ensures spare { self.new.spare + 1 ≡ self.old.spare }
+    // Parts the faces of the rim from what stands behind them.
+    fn open_rim(&mut self, rim: &[RimFace])
+        requires { CanOpen self.old.slots rim.now }
+        ensures opens { Opens self.old.slots self.new.slots rim.now (length rim.now) }
+        ensures room { self.new.room ≡ self.old.room }
     {
-        let inner = self.unlink(Side {
-            slot: outer.slot.index,
-            face: outer.face,
-        });
-        let old = self.tet(Slot { index: inner.slot });
-        let corners = with_corner(old, inner.face, Corner::Point(point));
-        let made = self.take_slot(corners);
-        self.link(outer.slot, outer.face, Slot { index: made }, inner.face);
+        for r in 0..rim.len() {
+            self.unlink(Side {
+                slot: rim[r].slot.index,
+                face: rim[r].face,
+            });
+        }
+    }
+
+    // Puts a new slot behind a face that has no neighbor and fits it.
+    fn add_over(&mut self, outer: RimFace, slot: StarSlot)
+        requires live { IsLive self.old.slots outer.slot.index }
+        requires faces { (outer.face < 4) × (slot.face < 4) }
+        requires free { side self.old.slots outer.slot.index outer.face ≡ None }
+        requires differ { AllDiffer (corner_list slot.corners) }
+        requires fits { FitsFace self.old.slots outer.slot.index outer.face (corner_list slot.corners) slot.face }
+        requires room { 0 < self.old.room }
+        ensures adds { (made : ℕ) × AddsOver self.old.slots self.new.slots outer.slot.index outer.face made (corner_list slot.corners) slot.face }
+        ensures room { self.new.room + 1 ≡ self.old.room }
+    {
+        let made = self.take_slot(slot.corners);
+        self.link(outer.slot, outer.face, Slot { index: made }, slot.face);
     }
 
     // Puts a slot over each face of the rim.
-    fn add_star(&mut self, rim: &[RimFace], point: u32)
-        requires rim { CanAddStar self.old.slots rim.now (Corner.Point point) }
-        requires room { length rim.now ≤ self.old.spare }
+    fn add_star(&mut self, rim: &[RimFace], star: &[StarSlot])
+        requires rim { CanAdd self.old.slots rim.now star.now }
+        requires star { length star.now ≡ length rim.now }
+        requires room { length rim.now ≤ self.old.room }
         ensures mesh { IsMesh self.new.slots }
-        ensures adds_star { AddsStar self.old.slots self.new.slots rim.now (Corner.Point point) (length rim.now) }
+        ensures adds_star { AddsStar self.old.slots self.new.slots rim.now star.now (length rim.now) }
     {
         for r in 0..rim.len() {
-            self.add_over(rim[r], point);
+            self.add_over(rim[r], star[r]);
         }
         let _ = &self.cells;
-    }
-
-    // Whether the faces of two live slots have the same corners.
-    pub(crate) fn same_face(&self, s: u32, i: u8, t: u32, j: u8) -> bool
-        requires first { IsLive self.now.slots s }
-        requires second { IsLive self.now.slots t }
-        ensures { IsTrue result ↔ SameFace self.now.slots s i t j }
-    {
-        let one = &self.cells[s as usize].corners;
-        let two = &self.cells[t as usize].corners;
-        covers(one, i, two, j) && covers(two, j, one, i)
     }
 
     // The slot and face behind a face, if they are there.
@@ -63,7 +64,7 @@ impl Arena {
         requires face { face < 4 }
         ensures { result ≡ side self.now.slots s face }
     {
-        self.cells[s as usize].sides[face as usize]
+        self.cells[s as usize].side(face)
     }
 
     // A face of t that has no neighbor, and the same corners as the face of s.
@@ -75,7 +76,9 @@ impl Arena {
             (λ j. (j < 4) × (side self.now.slots t j ≡ None) × SameFace self.now.slots s i t j) }
     {
         for j in 0..4u8 {
-            if self.side(t, j).is_none() && self.same_face(s, i, t, j) {
+            if self.side(t, j).is_none()
+                && self.same_face(Slot { index: s }, i, Slot { index: t }, j)
+            {
                 return Some(j);
             }
         }
@@ -83,11 +86,12 @@ impl Arena {
     }
 
     // The slot and face behind a face.
-    fn over(&self, face: RimFace) -> Side
+    pub(crate) fn over(&self, face: RimFace) -> Side
         requires { IsSome (side self.now.slots face.slot.index face.face) }
-        ensures { side self.now.slots face.slot.index face.face ≡ Some result }
+        ensures value { side self.now.slots face.slot.index face.face ≡ Some result }
+        ensures live { IsLive self.now.slots result.slot × (result.face < 4) }
     {
-        let Some(side) = self.cells[face.slot.index as usize].sides[face.face as usize] else {
+        let Some(side) = self.cells[face.slot.index as usize].side(face.face) else {
             unreachable!();
         };
         side
@@ -157,31 +161,37 @@ impl Arena {
         let None = self.side(t, two.face) else {
             return;
         };
+        let s = Slot { index: s };
+        let t = Slot { index: t };
         if self.same_face(s, one.face, t, two.face) {
-            self.link(Slot { index: s }, one.face, Slot { index: t }, two.face);
+            self.link(s, one.face, t, two.face);
         }
     }
 
-    // The face of the star that was met at the same edge as this one, if there was one.
-    fn meet_edge(&mut self, s: Side, at: StarFace) -> Option<StarFace>
-        requires { IsLive self.old.slots s.slot }
+    // The edges of a face of the rim, in the places of the star's slot over it.
+    fn rim_edges(&self, face: RimFace) -> [Option<Edge>; 4]
+        requires { IsSome (side self.now.slots face.slot.index face.face) }
+    {
+        let over = self.over(face);
+        let slot = Slot { index: over.slot };
+        edges_of_face(self.tet(slot), over.face)
+    }
+
+    // The face of the star that was met at this edge, if there was one. Else the edge is met at `at` from now on.
+    fn meet_edge(&mut self, edge: Edge, at: StarFace) -> Option<StarFace>
         ensures { self.new ≡ self.old }
     {
-        let edge = edge_off(&self.cells[s.slot as usize].corners, s.face, at.face);
         self.edges.meet(edge, at)
     }
 
     // Links a face of the star with the one that was met at the same edge.
-    fn link_at_edge(&mut self, rim: &[RimFace], point: u32, at: StarFace)
+    fn link_at_edge(&mut self, rim: &[RimFace], point: u32, at: StarFace, edge: Edge)
         requires star { IsStar self.old.slots rim.now (Corner.Point point) }
         requires at { (at.rim < length rim.now) × (at.face < 4) }
         ensures { LinksStar self.old.slots self.new.slots rim.now (Corner.Point point) 0 }
     {
-        let one = self.over(rim[at.rim]);
-        if at.face == one.face {
-            return;
-        }
-        if let Some(two) = self.meet_edge(one, at) {
+        let _ = &self.cells;
+        if let Some(two) = self.meet_edge(edge, at) {
             if two.rim < rim.len() && two.rim != at.rim && two.face < 4 {
                 self.link_mates(rim, point, at, two);
             }
@@ -195,8 +205,11 @@ impl Arena {
     {
         self.edges.start(rim.len().saturating_mul(2));
         for r in 0..rim.len() {
+            let edges = self.rim_edges(rim[r]);
             for face in 0..4u8 {
-                self.link_at_edge(rim, point, StarFace { rim: r, face });
+                if let Some(edge) = edges[face as usize] {
+                    self.link_at_edge(rim, point, StarFace { rim: r, face }, edge);
+                }
             }
         }
     }
@@ -230,7 +243,7 @@ impl Arena {
         ensures mesh { IsMesh self.old.slots }
         ensures unlinks { UnlinksAll self.old.slots self.new.slots s 4 }
         ensures bare { (i : ℕ) → side self.new.slots s i ≡ None }
-        ensures spare { self.new.spare ≡ self.old.spare }
+        ensures room { self.new.room ≡ self.old.room }
     {
         let _ = &self.cells;
         for face in 0..4u8 {
@@ -245,14 +258,13 @@ impl Arena {
     fn free_cavity(&mut self, cavity: &[Slot])
         requires { CanFree self.old.slots cavity.now }
         ensures frees_cavity { FreesCavity self.old.slots self.new.slots cavity.now (length cavity.now) }
-        ensures mesh { IsMesh self.new.slots }
+        ensures room { self.old.room ≤ self.new.room }
     {
         let _ = &self.cells;
         for j in 0..cavity.len() {
             self.unlink_all(cavity[j].index);
             self.release(cavity[j].index);
         }
-        let _ = &self.cells;
     }
 
     /// Puts the star of a point in the place of a cavity (Bowyer 1981, Watson 1981): for each face of the rim a slot with the corners of the cavity's slot
@@ -280,9 +292,13 @@ impl Arena {
     {
         let faces = rim.as_slice();
         self.reserve(faces.len())?;
-        self.add_star(faces, point);
-        self.link_star(faces, point);
+        let mut star = self.lend_star();
+        self.plan_star(faces, point, &mut star);
+        self.open_rim(faces);
         self.free_cavity(cavity.as_slice());
+        self.add_star(faces, star.as_slice());
+        self.link_star(faces, point);
+        self.keep_star(star);
         let one = self.over(faces[0]);
         Ok(Slot { index: one.slot })
     }

@@ -9,7 +9,7 @@ pub unreachable-requires : goal.unreachable-requires
 unreachable-requires c =
     let slots = c.args.self.now.slots in
     let rim = c.args.rim.now in
-    let mesh : IsMesh slots = rw (← c.self.view_is) c.self.invariant.mesh in
+    let mesh : IsMesh slots = rw (← c.self.view_is) c.self.invariant.sound.mesh in
     let found = mate_exists slots rim (Point c.args.point) mesh c.requires.star c.requires.pairs c.args.r c.args.k c.requires.inside c.requires.face c.requires.free in
     let t = found.0 in
     let m = found.1 in

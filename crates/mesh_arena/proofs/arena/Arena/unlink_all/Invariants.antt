@@ -3,4 +3,4 @@ use Rattle.mesh_arena.specs.Cavity.{UnlinksAll}
 use Rattle.mesh_arena.proofs.arena.Arena.unlink_all.Given as goal
 
 abbrev pub invariant-loop-face : goal.invariant-loop-face
-invariant-loop-face l = record { unlinks : UnlinksAll l.fn.self.slots l.self.slots l.s l.face; spare : l.self.spare ≡ l.fn.self.spare }
+invariant-loop-face l = record { unlinks : UnlinksAll l.fn.self.slots l.self.slots l.s l.face; room : l.self.room ≡ l.fn.self.room }
