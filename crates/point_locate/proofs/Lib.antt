@@ -1,1 +1,1 @@
-mod Shapes
+pub mod Shapes

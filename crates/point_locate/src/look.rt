@@ -16,14 +16,15 @@ pub(crate) enum Look {
     Out(u8),
 }
 
-// A tetrahedron of points, or a ghost with the point at infinity in this place.
+/// What the corners of a slot make: a tetrahedron of points, or a hull ghost with the point at infinity in this place, from 0.
 #[derive(Clone, Copy)]
-enum Shape {
+pub enum Shape {
     Row(Tet),
     Ghost(u8),
 }
 
-fn shape_of(t: SlotCorners) -> Shape
+/// The shape of these corners. The first place with the point at infinity tells a ghost.
+pub fn shape_of(t: SlotCorners) -> Shape
     ensures { HasShape (corner_list t) result }
 {
     let Corner::Point(a) = t.a else {
@@ -41,8 +42,8 @@ fn shape_of(t: SlotCorners) -> Shape
     Shape::Row(Tet { a, b, c, d })
 }
 
-// The point of a corner, or `p` for the point at infinity.
-fn corner_point(points: &Points, p: GridPoint, corner: Corner) -> GridPoint
+/// The point of a corner, or `p` for the point at infinity. Corners are places in `points`, from 0, and coordinates are in grid units.
+pub fn corner_point(points: &Points, p: GridPoint, corner: Corner) -> GridPoint
     requires { IsOn points.now corner }
     ensures { result ≡ corner_point points.now p corner }
 {
@@ -52,8 +53,9 @@ fn corner_point(points: &Points, p: GridPoint, corner: Corner) -> GridPoint
     }
 }
 
-// The points of a slot's corners, with `p` in place of the point at infinity.
-fn placed(points: &Points, p: GridPoint, t: SlotCorners) -> Corners
+/// The points of a slot's corners in their places, with `p` in place of the point at infinity. A ghost so placed is positive exactly where `p` is
+/// strictly beyond its hull face. Corners are places in `points`, from 0, and coordinates are in grid units.
+pub fn placed(points: &Points, p: GridPoint, t: SlotCorners) -> Corners
     requires { AreOn points.now (corner_list t) }
     ensures { result ≡ placed points.now p t }
 {
