@@ -13,7 +13,8 @@ use Rattle.cavity_insert.specs.declared.marks.Mark.{Mark}
 use Rattle.cavity_insert.specs.declared.marks.Mark.TheVariants.{In, Out}
 use Rattle.cavity_insert.specs.declared.marks.Tested.{Tested}
 use Rattle.cavity_insert.specs.Marks.{tested_at, IsMarked, IsMarkedAs}
-use Rattle.cavity_insert.specs.Grow.{Reach, first, next, Before, Edge, OnEdge, Growing, Grown}
+use Rattle.mesh_laws.specs.Reach.{Reach, first, next, Grown}
+use Rattle.cavity_insert.specs.Grow.{Before, Edge, OnEdge, Growing}
 
 split : (i k j m : ℕ) → Before i (k + 1) j m → Before i k j m ⊎ ((j ≡ i) × (m ≡ k))
 split i k j m (inl less) = inl (inl less)

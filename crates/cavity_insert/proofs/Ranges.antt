@@ -34,13 +34,6 @@ pub filter_passes_over : {X : Type 0} (p : X → Bool) (f : ℕ → X) (xs : Lis
 filter_passes_over p f xs i n h e =
     ap (λ ys. xs ++ ys) (sym (ap (λ is. filter p (map f is)) (range_front i n h) ∙ ap (λ b. cond b (f i ∷ filter p (map f (numbers_from (i + 1) n))) (filter p (map f (numbers_from (i + 1) n)))) e))
 
-append_nil : {X : Type 0} (xs : List X) → xs ++ [] ≡ xs
-append_nil [] = refl
-append_nil (x ∷ xs) = ap (λ ys. x ∷ ys) (append_nil xs)
-
-pub filter_ends : {X : Type 0} (p : X → Bool) (f : ℕ → X) (xs : List X) (i n : ℕ) → i ≡ n → xs ++ filter p (map f (numbers_from i n)) ≡ xs
-filter_ends p f xs i n h = ap (λ is. xs ++ filter p (map f is)) (range_none i n h) ∙ append_nil xs
-
 -- the same for lists of rows
 filter_more : {X : Type 0} (p : X → Bool) (b : Bool) (x : X) (xs ys : List X) → filter p (xs ++ ys) ≡ filter p xs ++ filter p ys
     → cond b (x ∷ filter p (xs ++ ys)) (filter p (xs ++ ys)) ≡ cond b (x ∷ filter p xs) (filter p xs) ++ filter p ys
@@ -56,6 +49,3 @@ pub lists_take : {X : Type 0} (p : X → Bool) (f : ℕ → List X) (xs : List X
 lists_take p f xs i n h =
     append_assoc xs (filter p (f i)) (filter p (flat_map f (numbers_from (i + 1) n)))
     ∙ ap (λ ys. xs ++ ys) (sym (ap (λ is. filter p (flat_map f is)) (range_front i n h) ∙ filter_append p (f i) (flat_map f (numbers_from (i + 1) n))))
-
-pub lists_end : {X : Type 0} (p : X → Bool) (f : ℕ → List X) (xs : List X) (i n : ℕ) → i ≡ n → xs ++ filter p (flat_map f (numbers_from i n)) ≡ xs
-lists_end p f xs i n h = ap (λ is. xs ++ filter p (flat_map f is)) (range_none i n h) ∙ append_nil xs

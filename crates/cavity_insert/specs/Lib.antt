@@ -1,6 +1,11 @@
+pub mod Build
 pub mod Filter
-pub mod Rule
-pub mod Marks
+pub mod First
 pub mod Grow
+pub mod Insert
 pub mod Living
-pub mod Laws
+pub mod Marks
+pub mod Order
+pub mod Rows
+pub mod Sides
+pub mod Start

@@ -1,51 +1,44 @@
--- An arena whose live slots are the Delaunay list of some points, with its ghosts. The points are those of a list whose numbers are among `ms`.
-use Rattle.std.specs.Prelude.{◌≡◌, ◌↔◌, ◌⊎◌, ℕ, zero, suc, ◌<◌, List, Option, Some, IsSome, slice_set}
+-- What contracts see of a mesh that points are added to.
+use Rattle.std.specs.Prelude.{◌≡◌, ◌≢◌, ℕ, ◌-◌, ◌^◌, ◌<◌, List, [], ◌∷◌, ◌++◌, length, Option, Contains}
 use Rattle.sign_predicates.specs.Point.{Point}
-use Rattle.sign_predicates.specs.Orientation.{IsPositive}
-use Rattle.geo_laws.specs.Delaunay.{corners, AreNumbersOf, IsDelaunayAmong}
+use Rattle.geo_laws.specs.Delaunay.{point, numbers, all_numbers, HasDistinctPoints, IsDelaunay}
 use Rattle.geo_laws.specs.declared.tetrahedra.Tet.{Tet as Row}
-use Rattle.insert_laws.specs.Face.{Face}
-use Rattle.insert_laws.specs.Insertion.{HasSameCorners, IsHullFace}
-use Rattle.mesh_arena.specs.Mesh.{Tet, corners_at, IsLive, side}
-use Rattle.mesh_arena.specs.declared.slot.Corner.TheVariants.{Ghost}
+use Rattle.mesh_arena.specs.Mesh.{Tet, IsLive}
+use Rattle.mesh_arena.specs.declared.slot.Corner.{Corner}
 use Rattle.point_locate.specs.Place.{row_corners}
+use Rattle.mesh_laws.specs.Living.{IsDelaunayMesh}
 
--- the face opposite the corner in this place, from 0: where the four are positive, that corner is on its positive side
-abbrev pub face_off : Row → ℕ → Face
-face_off t zero = record { a = t.b; b = t.d; c = t.c }
-face_off t (suc zero) = record { a = t.a; b = t.c; c = t.d }
-face_off t (suc (suc zero)) = record { a = t.a; b = t.d; c = t.b }
-face_off t k = record { a = t.a; b = t.b; c = t.c }
+-- the points, and the slots of their mesh
+pub record LivingMesh : Type 0 where
+  pub points : List Point
+  pub slots : List (Option Tet)
 
--- the number is that of a corner of the face
-abbrev pub IsFaceCorner : Face → ℕ → Type 0
-IsFaceCorner f i = (i ≡ f.a) ⊎ ((i ≡ f.b) ⊎ (i ≡ f.c))
+-- the live slots are the Delaunay list of the distinct points, with its ghosts, and this is one of them
+pub record IsLiving (ps : List Point) (slots : List (Option Tet)) (last : ℕ) : Type 0 where
+  pub mesh : IsDelaunayMesh slots ps (all_numbers ps)
+  pub distinct : HasDistinctPoints ps
+  pub few : length ps < 2 ^ 32 - 1
+  pub live : IsLive slots last
 
--- the two faces have the same corners
-abbrev pub HasSameFaceCorners : Face → Face → Type 0
-HasSameFaceCorners f g = (i : ℕ) → IsFaceCorner f i ↔ IsFaceCorner g i
+-- the mesh of all points but the last one, which has this number and is none of the others
+pub record IsLonger (slots : List (Option Tet)) (ps : List Point) (number : ℕ) : Type 0 where
+  pub others : List Point
+  pub last : Point
+  pub is : ps ≡ others ++ last ∷ []
+  pub number_is : number ≡ length others
+  pub mesh : IsDelaunayMesh slots others (all_numbers others)
+  pub apart : (i : ℕ) → i < length others → point others i ≢ last
 
--- the slot has the corners of a Delaunay row, in the places of the four t: an even arrangement, since both are positive
-pub record IsRowSlot (slots : List (Option Tet)) (ps : List Point) (ms : List ℕ) (s : ℕ) (t : Row) : Type 0 where
-  pub is : corners_at slots s ≡ Some (row_corners t)
+-- the two points are corners of one row of the Delaunay list
+pub record HasSide (ps : List Point) (a b : ℕ) : Type 0 where
   pub row : Row
-  pub is_row : IsDelaunayAmong ps ms row
-  pub same_corners : HasSameCorners t row
-  pub is_positive : IsPositive (corners ps t)
+  pub is_row : IsDelaunay ps row
+  pub first : Contains (numbers row) a
+  pub second : Contains (numbers row) b
 
--- the slot has the corners of a hull face, and the point at infinity in the place k of the four t, in an order that is positive where a point
--- strictly beyond the face stands there
-pub record IsGhostSlot (slots : List (Option Tet)) (ps : List Point) (ms : List ℕ) (s : ℕ) (t : Row) (k : ℕ) : Type 0 where
-  pub within : k < 4
-  pub is : corners_at slots s ≡ Some (slice_set (row_corners t) k Ghost)
-  pub is_hull : IsHullFace ps ms (face_off t k)
-
--- There is one slot for each row and one for each hull face, no other live slot, and each face of a live slot has a neighbor
-pub record IsDelaunayMesh (slots : List (Option Tet)) (ps : List Point) (ms : List ℕ) : Type 0 where
-  pub within : AreNumbersOf ps ms
-  pub each : (s : ℕ) → IsLive slots s → ((t : Row) × IsRowSlot slots ps ms s t) ⊎ ((t : Row) × (k : ℕ) × IsGhostSlot slots ps ms s t k)
-  pub rows : (r : Row) → IsDelaunayAmong ps ms r → (s : ℕ) × (t : Row) × (slot : IsRowSlot slots ps ms s t) × (slot.row ≡ r)
-  pub one_row : (s u : ℕ) (t r : Row) → IsRowSlot slots ps ms s t → IsRowSlot slots ps ms u r → HasSameCorners t r → s ≡ u
-  pub ghosts : (f : Face) → IsHullFace ps ms f → (s : ℕ) × (t : Row) × (k : ℕ) × IsGhostSlot slots ps ms s t k × HasSameFaceCorners (face_off t k) f
-  pub one_ghost : (s u : ℕ) (t r : Row) (k j : ℕ) → IsGhostSlot slots ps ms s t k → IsGhostSlot slots ps ms u r j → HasSameFaceCorners (face_off t k) (face_off r j) → s ≡ u
-  pub linked : (s k : ℕ) → IsLive slots s → k < 4 → IsSome (side slots s k)
+-- these are the corners of a tetrahedron of points, and the two points are among them
+pub record HasBoth (cs : List Corner) (a b : ℕ) : Type 0 where
+  pub four : Row
+  pub is : cs ≡ row_corners four
+  pub first : Contains (numbers four) a
+  pub second : Contains (numbers four) b

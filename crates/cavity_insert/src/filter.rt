@@ -1,21 +1,13 @@
-//! The Delaunay list by the filter over all fours of points.
-ghost use Rattle.std.specs.Prelude.{◌≡◌, ◌-◌, ◌<◌, ◌^◌, ◌++◌, length, filter, All, OnOk, IfOk, IsErrOf};
+//! The Delaunay list by the filter over all fours of points: the plain program to compare with.
+ghost use Rattle.std.specs.Prelude.{◌≡◌, ◌-◌, ◌<◌, ◌^◌, ◌++◌, length, filter, OnOk, IfOk};
 ghost use Rattle.std.specs.List.{list_all};
-ghost use Rattle.geo_laws.specs.Delaunay.{corners, numbers_below, has_corner, is_delaunay, delaunay_rows, AreCoplanar, HasDistinctPoints, IsOn, IsDelaunayList};
+ghost use Rattle.geo_laws.specs.Delaunay.{corners, numbers_below, has_corner, is_delaunay, delaunay_rows};
 ghost use Rattle.cavity_insert.specs.Filter.{fours_of_one, fours_of_two, fours_of_three, is_corner_or_outside};
 
 use geo_laws::{Points, Tet, TetList};
 use sign_predicates::{Corners, Numbers, Sign, orient, outside};
 use std::alloc::Global;
 use tet_ports::NoMemory;
-
-/// Why there is no Delaunay list.
-#[derive(Clone, Copy, PartialEq, Eq)]
-pub enum BuildFault {
-    /// All points lie in one plane.
-    Flat,
-    NoMemory,
-}
 
 /// The corners of a row.
 #[inline]
@@ -136,7 +128,7 @@ fn append_of_one(points: &Points, a: u32, rows: &mut TetList) -> Result<(), NoMe
 }
 
 /// The Delaunay rows of the points.
-fn filtered(alloc: Global, points: &Points) -> Result<TetList, NoMemory>
+pub(crate) fn filtered(alloc: Global, points: &Points) -> Result<TetList, NoMemory>
     requires { length points.now < 2 ^ 32 - 1 }
     ensures { IfOk result (λ rows. rows ≡ delaunay_rows points.now) }
 {
@@ -145,27 +137,4 @@ fn filtered(alloc: Global, points: &Points) -> Result<TetList, NoMemory>
         append_of_one(points, a, &mut rows)?;
     }
     Ok(rows)
-}
-
-/// The Delaunay list of distinct points: the positive rows that have every other point outside, ties broken by the points'
-/// numbers, ascending. `Flat` comes exactly where all points lie in one plane; fewer than four do.
-pub fn delaunay(alloc: Global, points: &Points) -> Result<TetList, BuildFault>
-    requires distinct { HasDistinctPoints points.now }
-    requires few { length points.now < 2 ^ 32 - 1 }
-    ensures rows { IfOk result (λ rows. rows ≡ delaunay_rows points.now) }
-    ensures list { IfOk result (IsDelaunayList points.now) }
-    ensures numbers { IfOk result (All (IsOn points.now)) }
-    ensures not_flat { OnOk result (¬ AreCoplanar points.now) }
-    ensures flat { IsErrOf result BuildFault.Flat → AreCoplanar points.now }
-{
-    match filtered(alloc, points) {
-        Ok(rows) => {
-            if rows.len() == 0 {
-                Err(BuildFault::Flat)
-            } else {
-                Ok(rows)
-            }
-        }
-        Err(NoMemory) => Err(BuildFault::NoMemory),
-    }
 }

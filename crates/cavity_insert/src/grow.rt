@@ -3,9 +3,10 @@ ghost use Rattle.std.specs.Prelude.{◌≡◌, ◌+◌, ◌*◌, ◌<◌, ◌≤
 ghost use Rattle.mesh_arena.specs.Mesh.{IsLive, IsMesh, side, at};
 ghost use Rattle.mesh_arena.specs.Cavity.{slot_at};
 ghost use Rattle.point_locate.specs.Place.{AreCornersOn};
-ghost use Rattle.cavity_insert.specs.Rule.{IsTaken};
+ghost use Rattle.mesh_laws.specs.Rule.{IsTaken};
 ghost use Rattle.cavity_insert.specs.Marks.{IsMarked};
-ghost use Rattle.cavity_insert.specs.Grow.{Growing, Grown};
+ghost use Rattle.mesh_laws.specs.Reach.{Grown};
+ghost use Rattle.cavity_insert.specs.Grow.{Growing};
 
 use crate::marks::{Mark, Marks, Tested};
 use crate::rule::test_slot;
@@ -96,6 +97,9 @@ fn visit<L: Ledger>(
     }
 }
 
+// Room for the cavity and the rim of nearly every point of a cloud, so that their lists don't grow.
+const MOST_USUAL: usize = 64;
+
 /// The cavity of the new point `p`: the connected set of slots that it takes, `start` among them, and its rim. One step is one test of a slot, made by
 /// `test_slot`; with c slots in the cavity it makes at least c and at most `4c + 1` steps. The corners are places in `points`, from 0, and coordinates
 /// are in grid units. For want of memory nothing is said of the counter.
@@ -117,8 +121,8 @@ pub fn grow_cavity<L: Ledger>(
     ensures grown { IfOk result (λ grown. Grown arena.now.slots (IsTaken arena.now.slots points.now p number) start.index grown.0 grown.1) }
 {
     let mut marks = Marks::new(alloc)?;
-    let mut cavity = Cavity::new(alloc);
-    let mut rim = Rim::new(alloc);
+    let mut cavity = Cavity::with_capacity(alloc, MOST_USUAL)?;
+    let mut rim = Rim::with_capacity(alloc, MOST_USUAL)?;
     let _ = arena.tet(start);
     test_slot(arena, points, start, p, number, steps);
     marks.put(Tested {

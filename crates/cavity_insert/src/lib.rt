@@ -1,18 +1,26 @@
-//! The Delaunay list of points, and the cavity of a new point in a living mesh.
+//! The Delaunay list of points, built by inserting one point after another into a living mesh, and that mesh itself.
 #![tactic(auto)]
 
-mod filter;
+mod first;
 mod grow;
-mod laws;
+mod insert;
+mod living;
 mod marks;
+mod meshing;
+mod order;
+mod rows;
 mod rule;
+mod sides;
+mod start;
 mod steps;
 
-pub use filter::{BuildFault, delaunay};
 pub use grow::grow_cavity;
-pub use laws::{law_cavity, law_cut_out};
+pub use living::Living;
+pub use meshing::{BuildFault, delaunay};
 pub use rule::test_slot;
 pub use steps::Steps;
 
+#[cfg(test)]
+mod filter;
 #[cfg(test)]
 mod tests;

@@ -45,6 +45,9 @@ impl Model for Marks {
 // How many buckets there are.
 const BUCKETS: usize = 256;
 
+// How many slots are tested for nearly every point of a cloud.
+const MOST_USUAL: usize = 128;
+
 impl Marks {
     pub(crate) fn new(alloc: Global) -> Result<Self, NoMemory>
         ensures { IfOk result (λ marks. marks ≡ []) }
@@ -52,8 +55,8 @@ impl Marks {
         let mut last = Vec::new(alloc);
         last.resize(BUCKETS, None)?;
         Ok(Marks {
-            tested: Vec::new(alloc),
-            earlier: Vec::new(alloc),
+            tested: Vec::with_capacity(alloc, MOST_USUAL)?,
+            earlier: Vec::with_capacity(alloc, MOST_USUAL)?,
             last,
         })
     }

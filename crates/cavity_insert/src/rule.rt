@@ -1,64 +1,15 @@
 //! Which slots of an arena a new point takes: the rows that don't have it outside, and the ghosts of the hull faces that it sees.
 ghost use Rattle.std.specs.Prelude.{◌≡◌, ◌+◌, ◌<◌, ◌↔◌, IsTrue};
 ghost use Rattle.mesh_arena.specs.Mesh.{IsLive, corner_list};
-ghost use Rattle.point_locate.specs.Place.{AreCornersOn, AreOn, corner_point, placed};
-ghost use Rattle.point_locate.specs.Place.{IsOn as IsCornerOn};
-ghost use Rattle.cavity_insert.specs.Rule.{HasShape, IsTakenRow, IsSeen, IsInnerTaken, IsTaken};
+ghost use Rattle.point_locate.specs.Place.{AreCornersOn, AreOn, placed};
+ghost use Rattle.mesh_laws.specs.Rule.{IsTakenRow, IsSeen, IsInnerTaken, IsTaken};
 
 use crate::steps::Steps;
-use geo_laws::{Points, Tet};
-use mesh_arena::{Arena, Corner, Slot, SlotCorners};
-use sign_predicates::{Corners, GridPoint, Numbers, Sign, orient, outside};
+use geo_laws::Points;
+use mesh_arena::{Arena, Slot, SlotCorners};
+use point_locate::{Shape, placed, shape_of};
+use sign_predicates::{GridPoint, Numbers, Sign, orient, outside};
 use std::sync::ledger::Ledger;
-
-// A tetrahedron of points, or a ghost with the point at infinity in this place.
-#[derive(Clone, Copy)]
-enum Shape {
-    Row(Tet),
-    Ghost(u8),
-}
-
-fn shape_of(t: SlotCorners) -> Shape
-    ensures { HasShape (corner_list t) result }
-{
-    let Corner::Point(a) = t.a else {
-        return Shape::Ghost(0);
-    };
-    let Corner::Point(b) = t.b else {
-        return Shape::Ghost(1);
-    };
-    let Corner::Point(c) = t.c else {
-        return Shape::Ghost(2);
-    };
-    let Corner::Point(d) = t.d else {
-        return Shape::Ghost(3);
-    };
-    Shape::Row(Tet { a, b, c, d })
-}
-
-// The point of a corner, or `p` for the point at infinity.
-fn corner_point(points: &Points, p: GridPoint, corner: Corner) -> GridPoint
-    requires { IsCornerOn points.now corner }
-    ensures { result ≡ corner_point points.now p corner }
-{
-    match corner {
-        Corner::Point(i) => points.at(i as usize),
-        Corner::Ghost => p,
-    }
-}
-
-// The points of a slot's corners, with `p` in place of the point at infinity.
-fn placed(points: &Points, p: GridPoint, t: SlotCorners) -> Corners
-    requires { AreOn points.now (corner_list t) }
-    ensures { result ≡ placed points.now p t }
-{
-    Corners {
-        a: corner_point(points, p, t.a),
-        b: corner_point(points, p, t.b),
-        c: corner_point(points, p, t.c),
-        d: corner_point(points, p, t.d),
-    }
-}
 
 // Whether the slot with these corners is a row that doesn't have the point outside.
 fn is_taken_row(points: &Points, t: SlotCorners, p: GridPoint, number: u32) -> bool

@@ -1,18 +1,18 @@
 use Rattle.std.proofs.Common.{◌≡◌, List, [], ◌∷◌, ◌++◌, ap, ◌∙◌, length, arith}
 use Rattle.mesh_arena.specs.declared.slot.Slot.{Slot}
-use Rattle.cavity_insert.specs.Rule.{IsTaken}
+use Rattle.mesh_laws.specs.Rule.{IsTaken}
 use Rattle.cavity_insert.specs.declared.marks.Tested.{Tested}
 use Rattle.cavity_insert.specs.declared.marks.Mark.TheVariants.{In}
 use Rattle.cavity_insert.proofs.Growth.{Growing-begin, Growing-row, Grown-done}
 use Rattle.cavity_insert.proofs.Pigeons.{few_slots}
-use Rattle.cavity_insert.proofs.Taken.{taken_live}
+use Rattle.mesh_laws.proofs.Taken.{taken_live}
 use Rattle.cavity_insert.proofs.grow.grow_cavity.Goals as goal
 
 pub loop-i-init : goal.loop-i-init
 loop-i-init g c =
     let slots = c.args.arena.now.slots in
     let rule = IsTaken slots c.args.points.now c.args.p c.args.number in
-    let cavity : c.push.new.self ≡ c.args.start ∷ [] = c.in_ok-push.ensures.ok ∙ ap (λ (x : List Slot). x ++ c.args.start ∷ []) c.new-cavity.ensures in
+    let cavity : c.push.new.self ≡ c.args.start ∷ [] = c.in_ok-push.ensures.ok ∙ ap (λ (x : List Slot). x ++ c.args.start ∷ []) c.in_ok-cavity.ensures in
     let one : Tested = record { slot = c.args.start.index; mark = In } in
     let marks : c.put.new.self ≡ one ∷ [] = c.in_ok-put.ensures ∙ ap (λ (x : List Tested). x ++ one ∷ []) c.in_ok-marks.ensures in
     let live = taken_live slots c.args.points.now c.args.p c.args.number c.args.start.index c.requires.start in
@@ -20,7 +20,7 @@ loop-i-init g c =
       inside = omega arith;
       few = omega (arith, c.test_slot.ensures.step);
       many = omega (arith, c.test_slot.ensures.step, ap length cavity);
-      growing = rw (cavity, marks, c.new-rim.ensures) (Growing-begin slots rule c.args.start c.requires.start live);
+      growing = rw (cavity, marks, c.in_ok-rim.ensures) (Growing-begin slots rule c.args.start c.requires.start live);
     }
 
 pub loop-i-smaller : goal.loop-i-smaller

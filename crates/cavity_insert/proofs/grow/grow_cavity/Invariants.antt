@@ -1,6 +1,6 @@
 use Rattle.std.proofs.Common.{◌*◌, ◌<◌, ◌≤◌, ◌-◌, ◌+◌, length}
 use Rattle.cavity_insert.specs.Grow.{Growing}
-use Rattle.cavity_insert.specs.Rule.{IsTaken}
+use Rattle.mesh_laws.specs.Rule.{IsTaken}
 use Rattle.cavity_insert.proofs.grow.grow_cavity.Given as goal
 
 abbrev pub invariant-loop-i : goal.invariant-loop-i

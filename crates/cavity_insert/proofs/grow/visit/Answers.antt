@@ -1,6 +1,6 @@
 use Rattle.std.proofs.Common.{◌≡◌, [], ◌∷◌, ◌++◌}
 use Rattle.std.proofs.lemmas.Result.{on_ok_weaker}
-use Rattle.cavity_insert.specs.Rule.{IsTaken}
+use Rattle.mesh_laws.specs.Rule.{IsTaken}
 use Rattle.cavity_insert.proofs.Growth.{Growing-in, Growing-out, behind_is, none_behind, in_behind}
 use Rattle.cavity_insert.proofs.grow.visit.Goals as goal
 

@@ -1,6 +1,6 @@
 use Rattle.std.proofs.Common.{◌≡◌, [], ◌∷◌, ◌++◌, sym, ◌∙◌, true≢false}
 use Rattle.std.proofs.lemmas.Result.{on_ok_weaker}
-use Rattle.cavity_insert.specs.Rule.{IsTaken}
+use Rattle.mesh_laws.specs.Rule.{IsTaken}
 use Rattle.cavity_insert.proofs.Growth.{Grown-in, Grown-out}
 use Rattle.cavity_insert.proofs.grow.visit_new.Goals as goal
 

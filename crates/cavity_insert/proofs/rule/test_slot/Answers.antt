@@ -1,4 +1,4 @@
-use Rattle.cavity_insert.proofs.Taken.{taken_ghost}
+use Rattle.mesh_laws.proofs.Taken.{taken_ghost}
 use Rattle.cavity_insert.proofs.rule.test_slot.Goals as goal
 
 pub is_taken_row-requires : goal.is_taken_row-requires

@@ -11,5 +11,5 @@ itself p e =
 pub loop-i-preserved : goal.loop-i-preserved
 loop-i-preserved c =
     below_more _ _ c.loop-i.invariant (λ e.
-    let same : c.at.result ≡ c.at-in-loop-i.result = sym (c.at.ensures origin) ∙ e ∙ c.at-in-loop-i.ensures origin in
-    itself c.at-in-loop-i.result (c.if-eq.ensures ∙ (λ t. int_eq (same t).x c.at-in-loop-i.result.x && (int_eq (same t).y c.at-in-loop-i.result.y && int_eq (same t).z c.at-in-loop-i.result.z))))
+    let same : c.at.result ≡ c.args.p = sym (c.at.ensures origin) ∙ e in
+    itself c.args.p (c.if-eq.ensures ∙ (λ t. int_eq (same t).x c.args.p.x && (int_eq (same t).y c.args.p.y && int_eq (same t).z c.args.p.z))))

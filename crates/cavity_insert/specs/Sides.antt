@@ -1,0 +1,24 @@
+-- What a slot tells a walk that looks for a side of a Delaunay mesh.
+use Rattle.std.specs.Prelude.{◌≡◌, ◌↔◌, ℕ, ◌<◌, List, IsTrue, Contains, ⊤}
+use Rattle.sign_predicates.specs.Point.{Point}
+use Rattle.geo_laws.specs.Delaunay.{numbers}
+use Rattle.geo_laws.specs.declared.tetrahedra.Tet.{Tet as Row}
+use Rattle.insert_laws.specs.Cone.{IsInCone}
+use Rattle.mesh_arena.specs.declared.slot.Corner.{Corner}
+use Rattle.point_locate.specs.Place.{row_corners}
+use Rattle.cavity_insert.specs.Living.{HasBoth}
+use Rattle.cavity_insert.specs.declared.sides.Turn.{Turn}
+use Rattle.cavity_insert.specs.declared.sides.Turn.TheVariants.{Answer, Through, Lost}
+
+-- these are the corners of a row that has the corner a, and b lies in its closed cone from a
+pub record HasInCone (ps : List Point) (cs : List Corner) (a b : ℕ) : Type 0 where
+  pub row : Row
+  pub is : cs ≡ row_corners row
+  pub first : Contains (numbers row) a
+  pub holds : IsInCone ps row a b
+
+-- an answer comes from a row with b in its cone from a, and says whether b is a corner too
+abbrev pub Tells : List Point → List Corner → ℕ → ℕ → Turn → Type 0
+Tells ps cs a b (Answer is) = HasInCone ps cs a b × (IsTrue is ↔ HasBoth cs a b)
+Tells ps cs a b (Through face) = face < 4
+Tells ps cs a b Lost = ⊤

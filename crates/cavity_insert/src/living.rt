@@ -1,0 +1,150 @@
+//! A Delaunay mesh that points are added to.
+ghost use Rattle.std.specs.Prelude.{◌≡◌, ◌≢◌, ℕ, ◌+◌, ◌-◌, ◌^◌, ◌<◌, ◌++◌, [], ◌∷◌, ◌↔◌, length, IsTrue, IfOk, OnOk, OnErr, IsErrOf};
+ghost use Rattle.geo_laws.specs.Delaunay.{point, all_numbers, delaunay_rows, AreCoplanar, HasDistinctPoints, IsDelaunayList};
+ghost use Rattle.mesh_arena.specs.Mesh.{corners_at, IsLive};
+ghost use Rattle.mesh_laws.specs.Rule.{IsTaken};
+ghost use Rattle.mesh_laws.specs.Living.{IsDelaunayMesh};
+ghost use Rattle.cavity_insert.specs.Living.{IsLonger, HasSide};
+
+use crate::insert::insert_point;
+use crate::meshing::{BuildFault, Built, mesh_from};
+use crate::rows::rows_of;
+use crate::sides::{side_by_scan, side_by_walk};
+use crate::steps::Steps;
+use geo_laws::{Points, TetList};
+use mesh_arena::{Arena, Slot};
+use sign_predicates::GridPoint;
+use std::alloc::Global;
+use std::marker::{Brand, Model};
+use std::sync::ledger::{Blank, Ledger};
+use tet_ports::NoMemory;
+
+/// The points of a list and their Delaunay mesh, which stays one while points are added. Contracts see the points and the slots of the mesh.
+#[derive(Drop)]
+pub struct Living {
+    points: Points,
+    arena: Arena,
+    // A live slot, from which walks begin.
+    last: Slot,
+    alloc: Global,
+}
+
+impl Model for Living {
+    ghost use Rattle.cavity_insert.specs.Living.{LivingMesh, IsLiving};
+
+    ghost Value = { LivingMesh };
+
+    ghost view = { λ l. record { points = l.points; slots = l.arena.slots } };
+
+    ghost invariant = { λ l. IsLiving l.points l.arena.slots l.last.index };
+}
+
+/// Adds the last point of a list, which has this number, to the mesh of the others, and answers a slot of its star.
+fn insert_last<L: Ledger>(
+    alloc: Global,
+    arena: &mut Arena,
+    points: &Points,
+    number: u32,
+    near: Slot,
+    blank: Blank,
+) -> Result<Slot, NoMemory>
+    requires name { blank.name ≡ L.name }
+    requires parts { blank.parts ≡ L.parts }
+    requires some { 0 < blank.parts }
+    requires longer { IsLonger arena.old.slots points.now number }
+    requires near { IsLive arena.old.slots near.index }
+    ensures mesh { OnOk result (IsDelaunayMesh arena.new.slots points.now (all_numbers points.now)) }
+    ensures live { IfOk result (λ s. IsLive arena.new.slots s.index) }
+    ensures stays { OnOk result ((u : ℕ) → IsLive arena.old.slots u → (IsTaken arena.old.slots points.now (point points.now number) number u → ⊥) → corners_at arena.new.slots u ≡ corners_at arena.old.slots u) }
+    ensures err { OnErr result (arena.new ≡ arena.old) }
+{
+    let mut steps = Steps::<L>::new(blank);
+    insert_point(alloc, arena, points, number, near, &mut steps)
+}
+
+impl Living {
+    /// The mesh of distinct points. `Flat` comes exactly where all points lie in one plane; fewer than four do.
+    pub fn new(alloc: Global, points: Points) -> Result<Living, BuildFault>
+        requires distinct { HasDistinctPoints points }
+        requires few { length points < 2 ^ 32 - 1 }
+        ensures points { IfOk result (λ l. l.points ≡ points) }
+        ensures not_flat { OnOk result (¬ AreCoplanar points) }
+        ensures flat { IsErrOf result BuildFault.Flat → AreCoplanar points }
+    {
+        let Built { arena, last } = mesh_from::<Brand>(alloc, &points, Blank::new(1))?;
+        Ok(Living {
+            points,
+            arena,
+            last,
+            alloc,
+        })
+    }
+
+    /// The points, in the order of their numbers.
+    pub fn points(&self) -> &Points
+        ensures { result.now ≡ self.now.points }
+    {
+        &self.points
+    }
+
+    /// The mesh: its live slots are the Delaunay list of the points, with its ghosts.
+    pub fn arena(&self) -> &Arena
+        ensures slots { result.now.slots ≡ self.now.slots }
+        ensures mesh { IsDelaunayMesh self.now.slots self.now.points (all_numbers self.now.points) }
+    {
+        &self.arena
+    }
+
+    /// The Delaunay list of the points.
+    pub fn list(&self, alloc: Global) -> Result<TetList, NoMemory>
+        ensures rows { IfOk result (λ rows. rows ≡ delaunay_rows self.now.points) }
+        ensures list { IfOk result (IsDelaunayList self.now.points) }
+    {
+        rows_of(alloc, &self.arena)
+    }
+
+    /// Adds a point that is not there yet, and answers its number. Each slot that the point does not take stays live, at its place and with its
+    /// corners. On `NoMemory` all is as it was.
+    pub fn add_point(&mut self, p: GridPoint) -> Result<u32, NoMemory>
+        requires apart { (i : ℕ) → i < length self.old.points → point self.old.points i ≢ p }
+        requires few { length self.old.points + 1 < 2 ^ 32 - 1 }
+        ensures number { IfOk result (λ number. number ≡ length self.old.points) }
+        ensures points { OnOk result (self.new.points ≡ self.old.points ++ p ∷ []) }
+        ensures stays { IfOk result (λ number. (u : ℕ) → IsLive self.old.slots u → (IsTaken self.old.slots self.new.points p number u → ⊥)
+            → corners_at self.new.slots u ≡ corners_at self.old.slots u) }
+        ensures err { OnErr result (self.new ≡ self.old) }
+    {
+        let number = self.points.len() as u32;
+        self.points.push(p)?;
+        match insert_last::<Brand>(
+            self.alloc,
+            &mut self.arena,
+            &self.points,
+            number,
+            self.last,
+            Blank::new(1),
+        ) {
+            Ok(last) => {
+                self.last = last;
+                Ok(number)
+            }
+            Err(NoMemory) => {
+                self.points.drop_last();
+                Err(NoMemory)
+            }
+        }
+    }
+
+    /// Whether the two points are the ends of a side of a row of the Delaunay list. They are given by their numbers, which differ.
+    /// It takes no memory, and a walk through neighbors: to the first point, and round it to the second.
+    pub fn has_side(&self, a: u32, b: u32) -> bool
+        requires inside { (a < length self.now.points) × (b < length self.now.points) }
+        requires differ { a ≢ b }
+        ensures { IsTrue result ↔ HasSide self.now.points a b }
+    {
+        match side_by_walk(&self.arena, &self.points, self.last, a, b) {
+            Some(answer) => answer,
+            None => side_by_scan(&self.arena, &self.points, a, b),
+        }
+    }
+}

@@ -1,0 +1,136 @@
+//! The Delaunay mesh of a list of points, and its list.
+ghost use Rattle.std.specs.Prelude.{◌≡◌, ◌-◌, ◌^◌, ◌<◌, length, All, IfOk, OnOk, IsErrOf};
+ghost use Rattle.geo_laws.specs.Delaunay.{numbers, all_numbers, has_corner, delaunay_rows, AreCoplanar, HasDistinctPoints, IsOn, IsDelaunayList};
+ghost use Rattle.mesh_arena.specs.Mesh.{IsLive};
+ghost use Rattle.mesh_laws.specs.Living.{IsDelaunayMesh};
+ghost use Rattle.cavity_insert.specs.Order.{IsOrderOf};
+
+use crate::first::first_row;
+use crate::insert::insert_point;
+use crate::order::{Turn, insertion_order};
+use crate::rows::rows_of;
+use crate::start::start_mesh;
+use crate::steps::Steps;
+use geo_laws::{Points, Tet, TetList};
+use mesh_arena::{Arena, Slot};
+use std::alloc::Global;
+use std::marker::Brand;
+use std::sync::ledger::{Blank, Ledger};
+use tet_ports::NoMemory;
+
+/// Why there is no Delaunay list.
+#[derive(Clone, Copy, PartialEq, Eq)]
+pub enum BuildFault {
+    /// All points lie in one plane.
+    Flat,
+    NoMemory,
+}
+
+impl From<NoMemory> for BuildFault {
+    ghost use Rattle.std.specs.Prelude.{◌≡◌};
+    ghost use Rattle.cavity_insert.specs.declared.meshing.BuildFault.TheVariants.{NoMemory as OutOfMemory};
+
+    ghost from_gives = { λ _ fault. fault ≡ OutOfMemory };
+
+    fn from(_: NoMemory) -> BuildFault {
+        BuildFault::NoMemory
+    }
+}
+
+/// A Delaunay mesh, and one of its slots.
+#[derive(Drop)]
+pub(crate) struct Built {
+    pub(crate) arena: Arena,
+    pub(crate) last: Slot,
+}
+
+/// Whether a point is a corner of a row.
+pub(crate) fn has_corner(t: Tet, i: u32) -> bool
+    ensures { result ≡ has_corner t i }
+{
+    t.a == i || t.b == i || t.c == i || t.d == i
+}
+
+/// Inserts the points in their turns, but those of the first row, which are there. It answers a slot of the mesh.
+fn insert_all<L: Ledger>(
+    alloc: Global,
+    arena: &mut Arena,
+    points: &Points,
+    first: Tet,
+    turns: &[Turn],
+    near: Slot,
+    steps: &mut Steps<L>,
+) -> Result<Slot, NoMemory>
+    requires distinct { HasDistinctPoints points.now }
+    requires few { length points.now < 2 ^ 32 - 1 }
+    requires order { IsOrderOf (length points.now) turns.now }
+    requires mesh { IsDelaunayMesh arena.old.slots points.now (numbers first) }
+    requires near { IsLive arena.old.slots near.index }
+    ensures mesh { OnOk result (IsDelaunayMesh arena.new.slots points.now (all_numbers points.now)) }
+    ensures live { IfOk result (λ s. IsLive arena.new.slots s.index) }
+{
+    let mut last = near;
+    for turn in turns {
+        if !has_corner(first, turn.number) {
+            last = insert_point(alloc, arena, points, turn.number, last, steps)?;
+        }
+    }
+    Ok(last)
+}
+
+/// The Delaunay mesh of distinct points, which are inserted one after another. `Flat` comes exactly where all points lie in one plane.
+pub(crate) fn mesh_points<L: Ledger>(
+    alloc: Global,
+    points: &Points,
+    steps: &mut Steps<L>,
+) -> Result<Built, BuildFault>
+    requires distinct { HasDistinctPoints points.now }
+    requires few { length points.now < 2 ^ 32 - 1 }
+    ensures mesh { IfOk result (λ b. IsDelaunayMesh b.arena.slots points.now (all_numbers points.now)) }
+    ensures live { IfOk result (λ b. IsLive b.arena.slots b.last.index) }
+    ensures not_flat { OnOk result (¬ AreCoplanar points.now) }
+    ensures flat { IsErrOf result BuildFault.Flat → AreCoplanar points.now }
+{
+    let Some(first) = first_row(points) else {
+        return Err(BuildFault::Flat);
+    };
+    let turns = insertion_order(alloc, points)?;
+    let (mut arena, start) = start_mesh(alloc, points, first)?;
+    let last = insert_all(alloc, &mut arena, points, first, &turns, start, steps)?;
+    Ok(Built { arena, last })
+}
+
+/// The same with a counter of its own.
+pub(crate) fn mesh_from<L: Ledger>(
+    alloc: Global,
+    points: &Points,
+    blank: Blank,
+) -> Result<Built, BuildFault>
+    requires name { blank.name ≡ L.name }
+    requires parts { blank.parts ≡ L.parts }
+    requires some { 0 < blank.parts }
+    requires distinct { HasDistinctPoints points.now }
+    requires few { length points.now < 2 ^ 32 - 1 }
+    ensures mesh { IfOk result (λ b. IsDelaunayMesh b.arena.slots points.now (all_numbers points.now)) }
+    ensures live { IfOk result (λ b. IsLive b.arena.slots b.last.index) }
+    ensures not_flat { OnOk result (¬ AreCoplanar points.now) }
+    ensures flat { IsErrOf result BuildFault.Flat → AreCoplanar points.now }
+{
+    let mut steps = Steps::<L>::new(blank);
+    mesh_points(alloc, points, &mut steps)
+}
+
+/// The Delaunay list of distinct points: the positive rows that have every other point outside, ties broken by the points'
+/// numbers, ascending. `Flat` comes exactly where all points lie in one plane; fewer than four do.
+pub fn delaunay(alloc: Global, points: &Points) -> Result<TetList, BuildFault>
+    requires distinct { HasDistinctPoints points.now }
+    requires few { length points.now < 2 ^ 32 - 1 }
+    ensures rows { IfOk result (λ rows. rows ≡ delaunay_rows points.now) }
+    ensures list { IfOk result (IsDelaunayList points.now) }
+    ensures numbers { IfOk result (All (IsOn points.now)) }
+    ensures not_flat { OnOk result (¬ AreCoplanar points.now) }
+    ensures flat { IsErrOf result BuildFault.Flat → AreCoplanar points.now }
+{
+    let built = mesh_from::<Brand>(alloc, points, Blank::new(1))?;
+    Ok(rows_of(alloc, &built.arena)?)
+}

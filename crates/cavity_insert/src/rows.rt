@@ -1,0 +1,108 @@
+//! The Delaunay list of a mesh, read from its slots.
+ghost use Rattle.std.specs.Prelude.{◌≡◌, ℕ, ◌<◌, List, Some, IfOk, MatchOption, length};
+ghost use Rattle.sign_predicates.specs.Point.{Point};
+ghost use Rattle.geo_laws.specs.Delaunay.{IsDelaunayListAmong};
+ghost use Rattle.geo_laws.specs.declared.tetrahedra.Tet.{Tet as Row};
+ghost use Rattle.mesh_arena.specs.Mesh.{corners_at, corner_list};
+ghost use Rattle.point_locate.specs.Place.{row_corners, IsAt};
+ghost use Rattle.mesh_laws.specs.Living.{IsDelaunayMesh};
+ghost use Rattle.cavity_insert.specs.Rows.{IsEvenOf, HasLeastFirst, HasLeastSecond, IsRowOf};
+
+use geo_laws::{Tet, TetList};
+use mesh_arena::{Arena, SlotCorners};
+use point_locate::{Shape, shape_of};
+use std::alloc::Global;
+use tet_ports::NoMemory;
+
+/// The Delaunay rows of a mesh, ascending.
+pub(crate) fn rows_of(alloc: Global, arena: &Arena) -> Result<TetList, NoMemory>
+    ensures { IfOk result (λ rows. (ps : List Point) (ms : List ℕ) → IsDelaunayMesh arena.now.slots ps ms → IsDelaunayListAmong ps ms rows) }
+{
+    let mut rows = TetList::with_capacity(alloc, arena.slots())?;
+    for i in 0..arena.slots() {
+        if let Some(row) = row_at(arena, i) {
+            rows.push(row)?;
+        }
+    }
+    rows.keep_distinct();
+    Ok(rows)
+}
+
+/// The row of the slot at a place; None where it is free or a ghost.
+fn row_at(arena: &Arena, i: usize) -> Option<Tet>
+    requires { i < length arena.now.slots }
+    ensures { MatchOption result ((t : Row) → ¬ (corners_at arena.now.slots i ≡ Some (row_corners t))) (λ row. IsAt arena.now.slots (λ cs. IsRowOf cs row) i) }
+{
+    let s = arena.slot(i)?;
+    row_of(arena.tet(s))
+}
+
+/// The row of a slot, in its least even arrangement; None where the slot is a ghost.
+fn row_of(t: SlotCorners) -> Option<Tet>
+    ensures { MatchOption result ((row : Row) → ¬ (corner_list t ≡ row_corners row)) (IsRowOf (corner_list t)) }
+{
+    match shape_of(t) {
+        Shape::Row(four) => Some(least_second(least_first(four))),
+        Shape::Ghost(_) => None,
+    }
+}
+
+/// The least number first: two exchanges of corners keep the orientation.
+fn least_first(t: Tet) -> Tet
+    ensures even { IsEvenOf t result }
+    ensures least { HasLeastFirst result }
+{
+    let Tet { a, b, c, d } = t;
+    let least = a.min(b).min(c).min(d);
+    if a == least {
+        t
+    } else if b == least {
+        Tet {
+            a: b,
+            b: a,
+            c: d,
+            d: c,
+        }
+    } else if c == least {
+        Tet {
+            a: c,
+            b: d,
+            c: a,
+            d: b,
+        }
+    } else {
+        Tet {
+            a: d,
+            b: c,
+            c: b,
+            d: a,
+        }
+    }
+}
+
+/// The next least number second: a turn of three corners keeps the orientation.
+fn least_second(t: Tet) -> Tet
+    ensures even { IsEvenOf t result }
+    ensures first { HasLeastFirst t → HasLeastFirst result }
+    ensures least { HasLeastSecond result }
+{
+    let Tet { a, b, c, d } = t;
+    let least = b.min(c).min(d);
+    if b == least {
+        t
+    } else if c == least {
+        Tet {
+            a,
+            b: c,
+            c: d,
+            d: b,
+        }
+    } else {
+        Tet {
+            a,
+            b: d,
+            c: b,
+            d: c,
+        }
+    }
+}

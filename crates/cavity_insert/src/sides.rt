@@ -1,0 +1,138 @@
+//! Whether two points are the ends of a side of a Delaunay mesh: by a walk to the one and round it to the other, or by a look at each slot.
+ghost use Rattle.std.specs.Prelude.{◌≡◌, ◌≢◌, ℕ, ◌<◌, ◌≤ℤ◌, ◌↔◌, pos, length, IsTrue, IfSome, MatchOption, slice_index_or};
+ghost use Rattle.sign_predicates.specs.Orientation.{side, opposite_face};
+ghost use Rattle.geo_laws.specs.Delaunay.{numbers, all_numbers};
+ghost use Rattle.mesh_arena.specs.Mesh.{corner_list, IsLive};
+ghost use Rattle.point_locate.specs.Place.{row_corners, AreOn, IsAt};
+ghost use Rattle.mesh_laws.specs.Living.{IsDelaunayMesh};
+ghost use Rattle.cavity_insert.specs.Living.{HasSide, HasBoth};
+ghost use Rattle.cavity_insert.specs.Sides.{Tells};
+
+use crate::insert::point_at;
+use crate::meshing::has_corner;
+use geo_laws::{Points, Tet};
+use mesh_arena::{Arena, Slot, SlotCorners};
+use point_locate::{Shape, placed, shape_of};
+use sign_predicates::{Corners, GridPoint, Sign, beyond};
+
+/// Whether these are the corners of a row, and both points are among them.
+fn has_corners(t: SlotCorners, a: u32, b: u32) -> bool
+    ensures { IsTrue result ↔ HasBoth (corner_list t) a b }
+{
+    match shape_of(t) {
+        Shape::Row(row) => has_corner(row, a) && has_corner(row, b),
+        Shape::Ghost(_) => false,
+    }
+}
+
+/// Whether the slot at a place is a row that has both points as corners.
+fn slot_has_corners(arena: &Arena, i: usize, a: u32, b: u32) -> bool
+    requires { i < length arena.now.slots }
+    ensures { IsTrue result ↔ IsAt arena.now.slots (λ cs. HasBoth cs a b) i }
+{
+    match arena.slot(i) {
+        Some(s) => has_corners(arena.tet(s), a, b),
+        None => false,
+    }
+}
+
+/// Whether the two points are the ends of a side, by a look at each slot.
+pub(crate) fn side_by_scan(arena: &Arena, points: &Points, a: u32, b: u32) -> bool
+    requires { IsDelaunayMesh arena.now.slots points.now (all_numbers points.now) }
+    ensures { IsTrue result ↔ HasSide points.now a b }
+{
+    for i in 0..arena.slots() {
+        if slot_has_corners(arena, i, a, b) {
+            return true;
+        }
+    }
+    false
+}
+
+// What the corners of a slot tell a walk to the point a and round it to the point b.
+#[derive(Clone, Copy)]
+pub(crate) enum Turn {
+    // It is a row with the corner a, and b lies in its closed cone from a. Whether b is a corner too.
+    Answer(bool),
+    // This face leads on.
+    Through(u8),
+    // No face leads on.
+    Lost,
+}
+
+// A face of a row that `p` is strictly beyond, but not the one opposite its corner a.
+fn face_towards(at: &Corners, row: Tet, a: u32, p: GridPoint) -> Option<u8>
+    ensures { MatchOption result ((k : ℕ) → k < 4 → slice_index_or (numbers row) k a ≢ a → pos 0 ≤ℤ side (opposite_face at.now k) p) (λ k. k < 4) }
+{
+    let numbers = [row.a, row.b, row.c, row.d];
+    for k in 0..4u8 {
+        if numbers[k as usize] != a && matches!(beyond(*at, k, p), Sign::Above) {
+            return Some(k);
+        }
+    }
+    None
+}
+
+// What a row tells. One without the corner a leads towards a, and one with it leads on round a.
+fn row_turn(points: &Points, t: SlotCorners, row: Tet, a: u32, b: u32) -> Turn
+    requires corners { AreOn points.now (corner_list t) }
+    requires row { corner_list t ≡ row_corners row }
+    requires inside { (a < length points.now) × (b < length points.now) }
+    ensures { Tells points.now (corner_list t) a b result }
+{
+    let is_there = has_corner(row, a);
+    let goal = if is_there { b } else { a };
+    let p = point_at(points, goal);
+    if let Some(face) = face_towards(&placed(points, p, t), row, a, p) {
+        return Turn::Through(face);
+    }
+    if is_there {
+        Turn::Answer(has_corner(row, b))
+    } else {
+        Turn::Lost
+    }
+}
+
+// What a slot tells. A ghost leads through its hull face.
+fn turn_at(points: &Points, t: SlotCorners, a: u32, b: u32) -> Turn
+    requires corners { AreOn points.now (corner_list t) }
+    requires inside { (a < length points.now) × (b < length points.now) }
+    ensures { Tells points.now (corner_list t) a b result }
+{
+    match shape_of(t) {
+        Shape::Row(row) => row_turn(points, t, row, a, b),
+        Shape::Ghost(face) => Turn::Through(face),
+    }
+}
+
+/// Whether the two points are the ends of a side, by a walk from a live slot: from a row without the corner `a` through a face that this point is
+/// strictly beyond, and from one with it through a face at `a` that `b` is strictly beyond. The row where it ends has `b` in its closed cone from `a`, and
+/// only its own sides there are sides of the mesh. None where the walk leads nowhere or takes more turns than there are slots.
+///
+/// Source: the visibility walk (Devillers, Pion and Teillaud, 2002), and the same among the rows round a point. In a Delaunay mesh both end.
+pub(crate) fn side_by_walk(
+    arena: &Arena,
+    points: &Points,
+    start: Slot,
+    a: u32,
+    b: u32,
+) -> Option<bool>
+    requires mesh { IsDelaunayMesh arena.now.slots points.now (all_numbers points.now) }
+    requires start { IsLive arena.now.slots start.index }
+    requires inside { (a < length points.now) × (b < length points.now) }
+    requires differ { a ≢ b }
+    ensures { IfSome result (λ is. IsTrue is ↔ HasSide points.now a b) }
+{
+    let mut at = start;
+    for _ in 0..arena.slots() {
+        match turn_at(points, arena.tet(at), a, b) {
+            Turn::Answer(answer) => return Some(answer),
+            Turn::Through(face) => match arena.neighbor(at, face) {
+                Some(next) => at = next,
+                None => break,
+            },
+            Turn::Lost => break,
+        }
+    }
+    None
+}
