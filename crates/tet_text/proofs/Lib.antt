@@ -4,3 +4,4 @@ pub mod Numerals
 pub mod Scaling
 pub mod Texts
 pub mod Value
+pub mod Reread

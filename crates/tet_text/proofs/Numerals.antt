@@ -11,7 +11,7 @@ use Rattle.tet_text.specs.Numbers.{are_digits, number_of, digits_from}
 pub digit_bounds : (c : ℕ) → is_ascii_digit c ≡ true → (48 ≤ c) × (c ≤ 57)
 digit_bounds c is = let both = and_parts _ _ is in (leb-true 48 c both.0, leb-true c 57 both.1)
 
-digit_value_is : (c : ℕ) → 48 ≤ c → c ≤ 57 → digit_value c ≡ c - 48
+pub digit_value_is : (c : ℕ) → 48 ≤ c → c ≤ 57 → digit_value c ≡ c - 48
 digit_value_is c low high = cond-false _ _ _ (le-ltb c 48 low) ∙ cond-true _ _ _ (lt-ltb c 58 (omega arith))
 
 from_digit : (n c : ℕ) (cs : List ℕ) → is_ascii_digit c ≡ true → digits_from n (c ∷ cs) ≡ digits_from (n * 10 + (c - 48)) cs

@@ -9,10 +9,7 @@ use Rattle.std.proofs.lemmas.Int.Digits.{digits_of_step}
 use Rattle.std.proofs.lemmas.Nat.{div_below}
 use Rattle.std.proofs.Math.ListN.{drop_of_length-le}
 use Rattle.std.proofs.Math.Nat.{pow-suc}
-use Rattle.tet_text.specs.Printing.{numeral, with_point}
-
-abbrev pub glyphs : ℕ → List ℕ
-glyphs n = map (λ digit. 48 + digit) (digits_of 10 n)
+use Rattle.tet_text.specs.Printing.{glyphs, numeral, with_point}
 
 pub numeral_zero : (n : ℕ) → n ≡ 0 → numeral n ≡ 48 ∷ []
 unfolding numeral

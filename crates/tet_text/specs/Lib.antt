@@ -5,3 +5,4 @@ pub mod Decimals
 pub mod Faults
 pub mod Printing
 pub mod Reading
+pub mod Laws

@@ -3,9 +3,13 @@ use Rattle.std.specs.Prelude.{ℕ, ◌+◌, ◌-◌, Bool, unsigned_abs, int_lt,
 use Rattle.std.specs.Int.Digits.{digits_of}
 use Rattle.tet_text.specs.Decimals.{Scaled}
 
--- the digits of a number, at least one; '0' is 48
+-- the digits of a number, none for 0; '0' is 48
+abbrev pub glyphs : ℕ → List ℕ
+glyphs n = map (λ digit. 48 + digit) (digits_of 10 n)
+
+-- the digits of a number, at least one
 unfoldable pub numeral : ℕ → List ℕ
-numeral n = if n == 0 then 48 ∷ [] else map (λ digit. 48 + digit) (digits_of 10 n)
+numeral n = if n == 0 then 48 ∷ [] else glyphs n
 
 -- digits with zeros in front, so that there are more than `scale`
 abbrev pub with_zeros : ℕ → List ℕ → List ℕ

@@ -5,7 +5,7 @@ ghost use Rattle.tet_text.specs.Decimals.{IsDecimal, below_limit, scaled_of, low
 ghost use Rattle.tet_text.specs.Faults.{not_a_number};
 
 use crate::cuts::{cut_exponent, cut_point};
-use crate::digits::{cut_sign, digits, digits_after};
+use crate::digits::{cut_sign, digits_after, read_digits};
 use crate::numbers::no_number;
 use crate::{Field, TextFault};
 use std::marker::Model;
@@ -95,7 +95,7 @@ fn exponent_steps(exponent: &[u8]) -> Option<(u32, u32)>
     ensures small { IfSome result (λ s. (s.0 < 1000) × (s.1 < 1000)) }
 {
     let (falls, unsigned) = cut_sign(exponent);
-    let size = digits(unsigned, 3)? as u32;
+    let size = read_digits(unsigned, 3)? as u32;
     Some(if falls { (0, size) } else { (size, 0) })
 }
 

@@ -5,16 +5,19 @@ mod cuts;
 mod decimal;
 mod digits;
 mod fault;
+mod laws;
 mod lines;
 mod numbers;
 mod printing;
 mod wanted;
 
 pub use decimal::{Decimal, read_decimal};
+pub use digits::read_digits;
 pub use fault::{TextFault, TextKind};
+pub use laws::law_printed;
 pub use lines::{Field, Fields, Lines};
 pub use numbers::{read_count, read_whole};
-pub use printing::print_decimal;
+pub use printing::{print_decimal, print_scaled};
 
 #[cfg(test)]
 mod tests;

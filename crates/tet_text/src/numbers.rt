@@ -3,7 +3,7 @@ ghost use Rattle.std.specs.Option.{ok_or};
 ghost use Rattle.tet_text.specs.Numbers.{count_of, whole_of};
 ghost use Rattle.tet_text.specs.Faults.{not_a_number};
 
-use crate::digits::{cut_sign, digits};
+use crate::digits::{cut_sign, read_digits};
 use crate::{Field, TextFault, TextKind};
 
 /// The fault of a field that is not the number that is wanted.
@@ -20,7 +20,7 @@ fn count(text: &[u8]) -> Option<u64>
     ensures value { result ≡ count_of text.now }
     ensures small { IfSome result (λ n. n < 10 ^ 18) }
 {
-    let number = digits(text, 18)?;
+    let number = read_digits(text, 18)?;
     Some(number as u64)
 }
 
@@ -28,7 +28,7 @@ fn whole(text: &[u8]) -> Option<i64>
     ensures { result ≡ whole_of text.now }
 {
     let (negative, unsigned) = cut_sign(text);
-    let number = digits(unsigned, 18)? as i64;
+    let number = read_digits(unsigned, 18)? as i64;
     Some(if negative { -number } else { number })
 }
 

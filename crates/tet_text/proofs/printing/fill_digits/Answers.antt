@@ -1,26 +1,9 @@
-use Rattle.std.proofs.Common.{ℕ, List, ◌++◌, ◌-◌, ◌+◌, ◌%◌, sym, ap, ◌∙◌, arith, length-set}
-use Rattle.std.proofs.lemmas.List.{append-nil}
-use Rattle.std.proofs.Math.ListN.{drop_of_length-le}
-use Rattle.tet_text.proofs.Texts.{glyphs, numeral_zero, numeral_glyphs, digit_before, digits_left, last_only}
+use Rattle.std.proofs.Common.{sym, ◌∙◌}
+use Rattle.tet_text.proofs.Texts.{numeral_zero, numeral_glyphs, last_only}
 use Rattle.tet_text.proofs.printing.fill_digits.Goals as goal
 
 pub returns-then-number-eq0-clause-digits : goal.returns-then-number-eq0-clause-digits
 returns-then-number-eq0-clause-digits c = last_only c.args.buffer.now 35 48 c.told-buffer ∙ sym (numeral_zero c.args.number c.if-number-eq0.true)
 
-pub loop-left-init : goal.loop-left-init
-loop-left-init c =
-    let nothing = drop_of_length-le c.args.buffer.now {i = 36} (omega arith) in (
-      ap (λ (t : List ℕ). glyphs c.args.number ++ t) nothing ∙ append-nil (glyphs c.args.number) ∙ sym (numeral_glyphs c.args.number c.if-number-eq0.false),
-      c.requires,
-      omega arith,
-      c.told-buffer,
-    )
-
-pub loop-left-preserved : goal.loop-left-preserved
-loop-left-preserved c =
-    let left = digits_left c.loop-left.left c.loop-left.at (omega arith) c.loop-left.invariant.1 in (
-      digit_before c.loop-left.buffer c.loop-left.left c.loop-left.at (omega arith) left.0 (omega arith) ∙ c.loop-left.invariant.0,
-      left.1,
-      omega arith,
-      length-set c.loop-left.buffer (c.loop-left.at - 1) (48 + c.loop-left.left % 10) ∙ c.loop-left.invariant.3,
-    )
+pub returns-clause-digits : goal.returns-clause-digits
+returns-clause-digits c = c.fill_before.ensures.digits ∙ c.fill_wide-place.ensures.digits ∙ sym (numeral_glyphs c.args.number c.if-number-eq0.false)
