@@ -3,3 +3,4 @@ pub mod Nearest
 pub mod HalfSums
 pub mod Sizes
 pub mod Coordinates
+pub mod Printed

@@ -1,5 +1,5 @@
 -- Numbers and points in the units of a grid.
-use Rattle.std.specs.Prelude.{ℕ, ◌+◌, ◌-◌, ◌*◌, ◌^◌, ◌≤◌, ℤ, pos, int_lt, unsigned_abs, Bool, Option, Some, None, nat_le, if◌then◌else◌, List}
+use Rattle.std.specs.Prelude.{ℕ, ◌+◌, ◌-◌, ◌*◌, ◌^◌, ◌≤◌, ◌≡◌, ℤ, pos, int_lt, unsigned_abs, Bool, Option, Some, None, nat_le, if◌then◌else◌, List}
 use Rattle.sign_predicates.specs.Point.{Point, RationalPoint}
 use Rattle.tet_text.specs.Decimals.{Scaled, lowest, signed, with_sign}
 use Rattle.tet_text.specs.Printing.{decimal_text}
@@ -58,6 +58,11 @@ rational_point g p = record { x = rational_coordinate g p.x; y = rational_coordi
 -- the decimal that so many grid units are: c / (10^decimals × 2^halvings) is c × 5^halvings / 10^(decimals + halvings)
 unfoldable pub decimal_at : Grid → ℤ → Scaled
 decimal_at g c = with_sign (int_lt c (pos 0)) (lowest (unsigned_abs c * 5 ^ g.halvings) (g.decimals + g.halvings))
+
+-- the number value / 10^scale is so many grid units: value × 10^decimals × 2^halvings is c × 10^scale, with its sign
+pub record IsNumberAt (g : Grid) (c : ℤ) (d : Scaled) : Type 0 where
+  pub size : unsigned_abs d.value * 10 ^ g.decimals * 2 ^ g.halvings ≡ unsigned_abs c * 10 ^ d.scale
+  pub sign : d.value ≡ signed (int_lt c (pos 0)) (unsigned_abs d.value)
 
 -- and its text
 abbrev pub grid_text : Grid → ℤ → List ℕ

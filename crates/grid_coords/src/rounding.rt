@@ -7,7 +7,7 @@ ghost use Rattle.grid_coords.specs.Rounding.{nearest, rounded};
 use tet_text::Decimal;
 
 /// The number / 10^`scale` with no trailing zero in its fraction.
-pub(crate) fn lowest(number: u128, scale: u32) -> (u128, u32)
+fn lowest(number: u128, scale: u32) -> (u128, u32)
     ensures { result ≡ lowest number scale }
 {
     let mut value = number;
@@ -33,7 +33,7 @@ fn nearest(number: u128, steps: u32) -> u128
     (2 * number + unit) / (2 * unit)
 }
 
-pub(crate) fn signed(negative: bool, size: u128) -> i128
+fn signed(negative: bool, size: u128) -> i128
     requires { size < 10 ^ 36 }
     ensures { result ≡ signed negative size }
 {

@@ -1,4 +1,4 @@
-use Rattle.std.proofs.Common.{◌^◌, ◌≤◌, refl, arith}
+use Rattle.std.proofs.Common.{◌^◌, ◌≤◌, arith}
 use Rattle.std.proofs.lemmas.Nat.{mul-le}
 use Rattle.std.proofs.Math.Nat.{pow-le-pow_right}
 use Rattle.grid_coords.proofs.printing.with_fives.Goals as goal
@@ -13,9 +13,3 @@ overflow_mul-result c =
     let le : 5 ^ c.args.halvings ≤ 5 ^ 12 = pow-le-pow_right (omega arith) c.requires in
     let product = mul-le c.from.result c.pow.result (2 ^ 32) (5 ^ 12) (omega arith) (omega arith) in
     search (arith)
-
-pub returns : goal.returns
-returns c =
-    let le : 5 ^ c.args.halvings ≤ 5 ^ 12 = pow-le-pow_right (omega arith) c.requires in
-    let product = mul-le c.from.result c.pow.result (2 ^ 32) (5 ^ 12) (omega arith) (omega arith) in
-    record { value = rw (c.from.ensures, c.pow.ensures) refl; small = omega arith }
