@@ -1,16 +1,16 @@
 -- What a table that was read is like.
 use Rattle.std.proofs.Common.{◌≡◌, ℕ, zero, suc, ◌+◌, ◌-◌, ◌*◌, ◌^◌, ◌<◌, ◌≤◌, Bool, true, false, cond, List, [], ◌∷◌, length, Option, Some, None, Ok, Err, refl, sym, ap, ◌∙◌, subst, arith, length-append}
-use Rattle.std.specs.Prelude.{map, ℤ}
+use Rattle.std.specs.Prelude.{map, ℤ, ◌==◌}
 use Rattle.std.specs.List.{flat_map}
-use Rattle.std.proofs.lemmas.Bool.{leb-true}
+use Rattle.std.proofs.lemmas.Bool.{and_parts, leb-true}
 use Rattle.std.proofs.lemmas.List.{length-map}
 use Rattle.tet_text.specs.declared.fault.TextFault.{TextFault}
 use Rattle.tet_text.specs.Lines.{ContentLine}
-use Rattle.tet_text.specs.Faults.{bad_index}
+use Rattle.tet_text.specs.Faults.{bad_count, bad_index}
 use Rattle.tet_text.specs.Reading.{◌>>=◌, Fields, field_at, count_at, whole_at, end_at, line_at}
 use Rattle.node_files.specs.declared.header.Header.{Header}
 use Rattle.node_files.specs.declared.node_text.NodeText.{NodeText}
-use Rattle.node_files.specs.Header.{header_of}
+use Rattle.node_files.specs.Header.{is_within, count_within, count_or, header_of}
 use Rattle.node_files.specs.Point.{Point, is_next, index_at, place_at, attributes_at, markers_at, point_of}
 use Rattle.node_files.specs.Node.{points_of, points_table, node_list_of, text_of, first_number, IsNodeText}
 use Rattle.std.proofs.Math.Nat.{mul-suc}
@@ -121,15 +121,43 @@ first_low attribute_count flag (suc n) total lines x is =
     let made : Listed = (point.0 ∷ others.0.0, others.0.1) in
     subst (λ (p : Listed). first_number p.0 ≤ 1) {x = made} (ok_is made x others.2) (leb-true point.0.number 1 first.number)
 
-table_is : (header : Header) (total : ℕ) (lines : List ContentLine) (x : NodeText × List ContentLine) → points_table header total lines ≡ Ok x → length lines < 2 ^ 32 - 1 → IsNodeText x.0
+-- a count that was read, or that is not there, is in its range
+within_most : (least most line : ℕ) (fields : Fields) (x : ℕ × Fields) → count_within least most line fields ≡ Ok x → x.0 ≤ most
+unfolding count_within
+within_most least most line fields x is =
+    let count = bind_ok (count_at line fields) (λ n. cond (is_within least most n.0) (Ok n) (Err (bad_count line))) x is in
+    let both = if_ok (is_within least most count.0.0) count.0 x (bad_count line) count.2 in
+    ap_le (leb-true count.0.0 most (and_parts _ _ both.0).1) (ap (λ (p : ℕ × Fields). p.0) both.1)
+  where
+    ap_le : {a b m : ℕ} → a ≤ m → a ≡ b → b ≤ m
+    ap_le le e = omega arith
+
+or_most : (absent least most line : ℕ) (fields : Fields) (x : ℕ × Fields) → absent ≤ most → count_or absent least most line fields ≡ Ok x → x.0 ≤ most
+unfolding count_or
+or_most absent least most line [] x small is = subst (λ (p : ℕ × Fields). p.0 ≤ most) (ok_is (absent, []) x is) small
+or_most absent least most line (field ∷ fields) x small is = within_most least most line (field ∷ fields) x is
+
+header_small : (line : ContentLine) (header : Header) → header_of line ≡ Ok header → header.attribute_count ≤ 100
+unfolding header_of
+header_small line header is =
+    let count = bind_ok (count_at line.line line.fields) (λ count. count_or 3 3 3 line.line count.1 >>= λ dimension. count_or 0 0 100 line.line dimension.1 >>= λ attributes. count_or 0 0 1 line.line attributes.1 >>= λ flag. end_at line.line flag.1 >>= λ _. Ok (record { count = count.0; attribute_count = attributes.0; flag = flag.0 == 1 })) header is in
+    let dimension = bind_ok (count_or 3 3 3 line.line count.0.1) (λ dimension. count_or 0 0 100 line.line dimension.1 >>= λ attributes. count_or 0 0 1 line.line attributes.1 >>= λ flag. end_at line.line flag.1 >>= λ _. Ok (record { count = count.0.0; attribute_count = attributes.0; flag = flag.0 == 1 })) header count.2 in
+    let attributes = bind_ok (count_or 0 0 100 line.line dimension.0.1) (λ attributes. count_or 0 0 1 line.line attributes.1 >>= λ flag. end_at line.line flag.1 >>= λ _. Ok (record { count = count.0.0; attribute_count = attributes.0; flag = flag.0 == 1 })) header dimension.2 in
+    let flag = bind_ok (count_or 0 0 1 line.line attributes.0.1) (λ flag. end_at line.line flag.1 >>= λ _. Ok (record { count = count.0.0; attribute_count = attributes.0.0; flag = flag.0 == 1 })) header attributes.2 in
+    let ended = bind_ok (end_at line.line flag.0.1) (λ _. Ok (record { count = count.0.0; attribute_count = attributes.0.0; flag = flag.0.0 == 1 })) header flag.2 in
+    let made : Header = record { count = count.0.0; attribute_count = attributes.0.0; flag = flag.0.0 == 1 } in
+    subst (λ (h : Header). h.attribute_count ≤ 100) {x = made} (ok_is made header ended.2) (or_most 0 0 100 line.line dimension.0.1 attributes.0 (omega arith) attributes.1)
+
+table_is : (header : Header) (total : ℕ) (lines : List ContentLine) (x : NodeText × List ContentLine) → points_table header total lines ≡ Ok x → header.attribute_count ≤ 100 → length lines < 2 ^ 32 - 1 → IsNodeText x.0
 unfolding points_table
-table_is header total lines x is few =
+table_is header total lines x is small few =
     let points = bind_ok (points_of header.attribute_count header.flag None header.count total lines) (λ points. Ok (text_of header points.0, points.1)) x is in
     let are = points_are header.attribute_count header.flag None header.count total lines points.0 points.1 in
     let low = first_low header.attribute_count header.flag header.count total lines points.0 points.1 in
     let many : length (map (λ p. p.place) points.0.0) ≡ length points.0.0 = length-map points.0.0 (λ p. p.place) in
     let table : IsNodeText (text_of header points.0.0) = record {
       first = low;
+      few_attributes = small;
       attributes = are.attributes ∙ ap (λ (k : ℕ). header.attribute_count * k) (sym many);
       markers = are.markers ∙ ap (λ (k : ℕ). cond header.flag k 0) (sym many);
       few = omega (arith, are.few, many);
@@ -141,4 +169,4 @@ unfolding node_list_of
 node_list_is total lines x is few =
     let line = bind_ok (line_at total lines) (λ line. header_of line.0 >>= λ header. points_table header total line.1) x is in
     let header = bind_ok (header_of line.0.0) (λ header. points_table header total line.0.1) x line.2 in
-    table_is header.0 total line.0.1 x header.2 (omega (arith, line_is total lines line.0 line.1))
+    table_is header.0 total line.0.1 x header.2 (header_small line.0.0 header.0 header.1) (omega (arith, line_is total lines line.0 line.1))

@@ -16,10 +16,6 @@ pub ok_after : {X E : Type 0} (r : Result X E) (old front mid new t : List ℕ) 
 ok_after (Ok x) old front mid new t first then = written_after old front mid new t first then
 ok_after (Err e) old front mid new t first then = tt
 
-pub ok_same : {X E : Type 0} (r : Result X E) (old new t u : List ℕ) → t ≡ u → OnOk r (new ≡ old ++ t) → OnOk r (new ≡ old ++ u)
-ok_same (Ok x) old new t u same then = then ∙ ap (λ s. old ++ s) same
-ok_same (Err e) old new t u same then = tt
-
 pub place_text : (x y z : List ℕ) → (32 ∷ x) ++ ((32 ∷ y) ++ (32 ∷ z)) ≡ fields_text (x ∷ y ∷ z ∷ [])
 unfolding fields_text
 place_text x y z = ap (λ t. (32 ∷ x) ++ ((32 ∷ y) ++ (32 ∷ t))) (sym (append-nil z))

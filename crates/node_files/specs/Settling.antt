@@ -15,7 +15,7 @@ use Rattle.node_files.specs.Twins.{IsFirstTwin}
 
 -- how many points are allowed
 abbrev pub most_points : ℕ
-most_points = 64
+most_points = 20000
 
 abbrev pub rounded_point : ℕ → DecimalPoint → DecimalPoint
 rounded_point decimals p = record { x = rounded decimals p.x; y = rounded decimals p.y; z = rounded decimals p.z; line = p.line }

@@ -3,7 +3,7 @@
 ghost use Rattle.std.specs.Prelude.{◌≡◌, ◌≤◌, ◌<◌, map, All, IfOk, length};
 ghost use Rattle.grid_coords.specs.Units.{IsPointOnGrid, grid_point};
 ghost use Rattle.node_files.specs.Node.{IsNodeText};
-ghost use Rattle.node_files.specs.Settling.{rounded_point, rounded_points, Settles};
+ghost use Rattle.node_files.specs.Settling.{most_points, rounded_point, rounded_points, Settles};
 ghost use Rattle.node_files.specs.Writing.{IsNodeTable};
 
 use crate::twins::first_twin;
@@ -13,8 +13,8 @@ use grid_coords::{DecimalPoint, DecimalPoints, Grid, choose_grid, round_to, to_g
 use std::alloc::Global;
 use tet_ports::NoMemory;
 
-/// How many points are allowed.
-const MOST_POINTS: usize = 64;
+/// How many points are allowed at most.
+const MOST_POINTS: usize = 20_000;
 
 fn rounded_point(decimals: u32, p: &DecimalPoint) -> DecimalPoint
     ensures { result ≡ rounded_point decimals p.now }
@@ -66,11 +66,12 @@ fn grid_points(alloc: Global, grid: &Grid, points: &[DecimalPoint]) -> Result<Po
 }
 
 /// The points of a list on a grid, each rounded first where that is asked for. TooMany where there are
-/// more than 64; then Range where a coordinate is too large for a grid, with the line of the first such
+/// more than `MOST_POINTS`; then Range where a coordinate is too large for a grid, with the line of the first such
 /// point; then Twin where two points are equal on the grid.
 pub fn settle(alloc: Global, text: NodeText, options: &GridOptions) -> Result<NodeTable, NodeFault>
     ensures outcome { Settles text options.now result }
     ensures table { IsNodeText text → IfOk result IsNodeTable }
+    ensures few { IfOk result (λ table. length table.points ≤ most_points) }
 {
     let count = text.decimals.len();
     if count > MOST_POINTS {

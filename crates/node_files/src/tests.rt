@@ -233,7 +233,7 @@ fn points_on_a_grid(rt: HostRuntime) -> Result<(), Fail> {
 #[test]
 fn too_many_points(rt: HostRuntime) -> Result<(), Fail> {
     let place = Decimal { value: 0, scale: 0 };
-    for count in [64, 65] {
+    for count in [20_000, 20_001] {
         let mut decimals = DecimalPoints::new(rt.alloc());
         for _ in 0..count {
             let p = DecimalPoint {
@@ -252,8 +252,8 @@ fn too_many_points(rt: HostRuntime) -> Result<(), Fail> {
             attributes: Words::new(rt.alloc()),
             markers: Markers::new(rt.alloc()),
         };
-        let fault = if count > 64 {
-            NodeFault::TooMany { count: 65 }
+        let fault = if count > 20_000 {
+            NodeFault::TooMany { count: 20_001 }
         } else {
             NodeFault::Twin {
                 first: 0,

@@ -43,7 +43,6 @@ fn put_count_field(n: u64, out: &mut Bytes) -> Result<(), NoMemory>
 
 fn put_coordinate(grid: &Grid, coordinate: i32, out: &mut Bytes) -> Result<(), NoMemory>
     requires halvings { grid.now.halvings ≤ 12 }
-    requires scale { grid.now.decimals + grid.now.halvings < 2 ^ 32 }
     ensures { OnOk result (out.new ≡ out.old ++ 32 ∷ grid_text grid.now coordinate) }
 {
     out.push(b' ')?;
@@ -52,7 +51,6 @@ fn put_coordinate(grid: &Grid, coordinate: i32, out: &mut Bytes) -> Result<(), N
 
 fn put_place(grid: &Grid, p: GridPoint, out: &mut Bytes) -> Result<(), NoMemory>
     requires halvings { grid.now.halvings ≤ 12 }
-    requires scale { grid.now.decimals + grid.now.halvings < 2 ^ 32 }
     ensures { OnOk result (out.new ≡ out.old ++ fields_text (place_fields grid.now p)) }
 {
     put_coordinate(grid, p.x, out)?;
@@ -88,7 +86,6 @@ fn put_point(
     out: &mut Bytes,
 ) -> Result<(), NoMemory>
     requires halvings { grid.now.halvings ≤ 12 }
-    requires scale { grid.now.decimals + grid.now.halvings < 2 ^ 32 }
     requires number { number < 2 ^ 63 }
     ensures { OnOk result (out.new ≡ out.old ++ point_line grid.now number p attributes.now markers.now) }
 {
@@ -109,7 +106,6 @@ fn marks_of(flag: bool) -> usize
 /// The lines of a table's points.
 fn put_points(table: &NodeTable, first: u32, out: &mut Bytes) -> Result<(), NoMemory>
     requires table { IsNodeTable table.now }
-    requires scale { table.now.grid.decimals + table.now.grid.halvings < 2 ^ 32 }
     requires few { length table.now.points < 2 ^ 32 }
     ensures { OnOk result (out.new ≡ out.old ++ point_lines table.now.grid table.now.attribute_count (marks_of table.now.flag) first table.now.points table.now.attributes table.now.markers) }
 {
@@ -137,7 +133,6 @@ fn put_alike(
     out: &mut Bytes,
 ) -> Result<(), NoMemory>
     requires halvings { grid.now.halvings ≤ 12 }
-    requires scale { grid.now.decimals + grid.now.halvings < 2 ^ 32 }
     requires few { length points.now < 2 ^ 32 }
     requires first { first < 2 ^ 33 }
     ensures { OnOk result (out.new ≡ out.old ++ like_lines grid.now first points.now attributes.now markers.now) }
@@ -199,7 +194,6 @@ fn put_list(
     out: &mut Bytes,
 ) -> Result<(), NoMemory>
     requires table { IsNodeTable table.now }
-    requires scale { table.now.grid.decimals + table.now.grid.halvings < 2 ^ 32 }
     requires few { length table.now.points + length added.now < 2 ^ 32 }
     ensures { OnOk result (out.new ≡ out.old ++ list_text table.now added.now first attributes.now markers.now) }
 {
@@ -226,7 +220,6 @@ pub fn write_node(
     first: u32,
 ) -> Result<Bytes, NoMemory>
     requires table { IsNodeTable table.now }
-    requires scale { table.now.grid.decimals + table.now.grid.halvings < 2 ^ 32 }
     requires few { length table.now.points + length added.now < 2 ^ 32 }
     ensures { IfOk result (λ text. text ≡ node_text table.now added.now first) }
 {

@@ -1,7 +1,8 @@
 use Rattle.std.proofs.Common.{ℤ, ap, [], ◌∷◌, w32}
 use Rattle.std.proofs.lemmas.Int.{to_z-of_z}
 use Rattle.grid_coords.specs.Units.{grid_text}
-use Rattle.node_files.proofs.Written.{ok_after, ok_same}
+use Rattle.grid_coords.proofs.Printed.{ok_same}
+use Rattle.node_files.proofs.Written.{ok_after}
 use Rattle.node_files.proofs.writing.put_coordinate.Goals as goal
 
 pub returns : goal.returns

@@ -1,7 +1,7 @@
 use Rattle.std.proofs.Common.{ℤ, ap, pos, w64}
 use Rattle.std.proofs.lemmas.Int.{to_z_pos}
 use Rattle.node_files.specs.Writing.{whole_text}
-use Rattle.node_files.proofs.Written.{ok_same}
+use Rattle.grid_coords.proofs.Printed.{ok_same}
 use Rattle.node_files.proofs.writing.put_count.Goals as goal
 
 pub returns : goal.returns

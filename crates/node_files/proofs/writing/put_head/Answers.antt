@@ -1,6 +1,7 @@
 use Rattle.std.proofs.Common.{ℕ, ap, ◌∙◌, [], ◌∷◌, ◌++◌, pos}
 use Rattle.node_files.specs.Writing.{whole_text, line_text, head_line}
-use Rattle.node_files.proofs.Written.{ok_after, ok_same, head_joined}
+use Rattle.grid_coords.proofs.Printed.{ok_same}
+use Rattle.node_files.proofs.Written.{ok_after, head_joined}
 use Rattle.node_files.proofs.writing.put_head.Goals as goal
 
 pub returns : goal.returns

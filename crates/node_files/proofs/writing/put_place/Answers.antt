@@ -2,7 +2,8 @@ use Rattle.std.proofs.Common.{◌≡◌, ◌∙◌, [], ◌∷◌, ◌++◌, w32
 use Rattle.grid_coords.specs.Units.{grid_text}
 use Rattle.grid_coords.proofs.HalfSums.{kept, on_grid}
 use Rattle.node_files.specs.Writing.{fields_text, place_fields}
-use Rattle.node_files.proofs.Written.{ok_after, ok_same, place_text}
+use Rattle.grid_coords.proofs.Printed.{ok_same}
+use Rattle.node_files.proofs.Written.{ok_after, place_text}
 use Rattle.node_files.proofs.writing.put_place.Goals as goal
 
 pub returns : goal.returns

@@ -1,7 +1,8 @@
 use Rattle.std.proofs.Common.{ℤ, ap, ◌∙◌, [], ◌∷◌, ◌++◌, pos, map, w64}
 use Rattle.std.proofs.lemmas.Int.{to_z_pos}
 use Rattle.node_files.specs.Writing.{whole_text, fields_text, place_fields, point_line}
-use Rattle.node_files.proofs.Written.{ok_after, ok_same, line_joined}
+use Rattle.grid_coords.proofs.Printed.{ok_same}
+use Rattle.node_files.proofs.Written.{ok_after, line_joined}
 use Rattle.node_files.proofs.writing.put_point.Goals as goal
 
 pub returns : goal.returns
