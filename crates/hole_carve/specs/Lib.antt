@@ -1,2 +1,4 @@
+pub mod Gathered
+pub mod Incidences
 pub mod Pairs
 pub mod Uses

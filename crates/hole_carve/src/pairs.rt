@@ -29,6 +29,15 @@ pub fn pair_faces(alloc: Global, list: &TetList) -> Result<Pairs, NoMemory>
     ensures places { IfOk result (λ pairs. AreAllWithin (length pairs) pairs) }
 {
     let uses = uses_of(alloc, list)?;
+    pair_uses(alloc, list, &uses)
+}
+
+/// The same, where the uses of the faces are known already.
+pub fn pair_uses(alloc: Global, list: &TetList, uses: &Uses) -> Result<Pairs, NoMemory>
+    requires { AreUsesOf list.now uses.now }
+    ensures pairs { IfOk result (λ pairs. pairs ≡ pairs_of list.now) }
+    ensures places { IfOk result (λ pairs. AreAllWithin (length pairs) pairs) }
+{
     let alone = Across {
         n0: None,
         n1: None,
@@ -37,7 +46,7 @@ pub fn pair_faces(alloc: Global, list: &TetList) -> Result<Pairs, NoMemory>
     };
     let mut pairs = Vec::new(alloc);
     pairs.resize(list.len(), alone)?;
-    put_partners(list, &uses, &mut pairs);
+    put_partners(list, uses, &mut pairs);
     Ok(Pairs::from(pairs))
 }
 

@@ -1,5 +1,5 @@
 use crate::*;
-use geo_laws::{Tet, TetList};
+use geo_laws::{Face, Tet, TetList};
 use std::test::Fail;
 
 /// What is across the faces of a row, in one array.
@@ -60,6 +60,54 @@ fn rows_have_the_least_other_row_with_the_face(rt: HostRuntime) -> Result<(), Fa
                 assert_eq!(rt; partners(pairs.at(i)), *want, "{row:?}");
             }
         }
+    }
+    Ok(())
+}
+
+#[test]
+fn corners_stand_point_by_point(rt: HostRuntime) -> Result<(), Fail> {
+    let alloc = rt.alloc();
+    let mut list = TetList::new(alloc);
+    list.push(Tet {
+        a: 0,
+        b: 1,
+        c: 3,
+        d: 4,
+    })?;
+    list.push(Tet {
+        a: 1,
+        b: 2,
+        c: 3,
+        d: 4,
+    })?;
+    let found = incidences_of(alloc, &list)?;
+    let want = [
+        (0, Corner::A),
+        (1, Corner::A),
+        (0, Corner::B),
+        (1, Corner::B),
+        (0, Corner::C),
+        (1, Corner::C),
+    ];
+    assert_eq!(rt; found.len(), want.len());
+    for (at, (row, corner)) in found.as_slice().iter().zip(want) {
+        assert_eq!(rt; at.row, row);
+        assert_eq!(rt; at.corner, corner);
+    }
+    Ok(())
+}
+
+#[test]
+fn each_run_is_sorted_in_its_place(rt: HostRuntime) -> Result<(), Fail> {
+    let alloc = rt.alloc();
+    let mut faces = Vec::new(alloc);
+    for (a, b, c) in [(2, 5, 9), (2, 5, 7), (2, 3, 8), (1, 4, 6), (1, 3, 6)] {
+        faces.push(Face { a, b, c })?;
+    }
+    sort_runs(&mut faces);
+    let want = [(2, 3, 8), (2, 5, 7), (2, 5, 9), (1, 3, 6), (1, 4, 6)];
+    for (face, (a, b, c)) in faces.as_slice().iter().zip(want) {
+        assert_eq!(rt; *face, Face { a, b, c });
     }
     Ok(())
 }
