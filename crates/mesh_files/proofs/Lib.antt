@@ -1,3 +1,4 @@
 pub mod Lines
 pub mod Counts
 pub mod Found
+pub mod Gathered

@@ -1,2 +1,3 @@
 pub mod FaceRows
+pub mod Gathered
 pub mod Texts

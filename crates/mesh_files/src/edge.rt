@@ -1,8 +1,8 @@
 ghost use Rattle.std.specs.Prelude.{◌≡◌, ◌++◌, ◌+◌, ◌<◌, ◌^◌, OnOk, IfOk};
 ghost use Rattle.mesh_files.specs.Texts.{edge_text, edge_line};
 
-use crate::faces::Edges;
 use crate::line::{append_line, room_for_lines};
+use crate::sides::Edges;
 use geo_laws::Side;
 use std::alloc::Global;
 use tet_ports::{Bytes, NoMemory};

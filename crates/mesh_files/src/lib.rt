@@ -8,12 +8,14 @@ mod faces;
 mod line;
 mod markers;
 mod neigh;
+mod sides;
 #[cfg(test)]
 mod tests;
 
 pub use edge::write_edge;
 pub use ele::write_ele;
 pub use face::write_face;
-pub use faces::{Edges, Faces, edges_of, faces_of};
-pub use markers::{FaceRow, FaceRows, face_rows};
+pub use faces::{Faces, faces_of, gather_faces};
+pub use markers::{FaceRow, FaceRows, face_rows, used_faces};
 pub use neigh::{neighbors_of, write_neigh};
+pub use sides::{Edges, edges_of, gather_edges};

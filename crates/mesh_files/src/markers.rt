@@ -29,8 +29,13 @@ pub fn face_rows(alloc: Global, list: &TetList, all: bool) -> Result<FaceRows, N
     used_faces(alloc, list, &uses, all)
 }
 
-/// The faces that are used, with their markers.
-fn used_faces(alloc: Global, list: &TetList, uses: &Uses, all: bool) -> Result<FaceRows, NoMemory>
+/// The same, where the uses of the faces are known already.
+pub fn used_faces(
+    alloc: Global,
+    list: &TetList,
+    uses: &Uses,
+    all: bool,
+) -> Result<FaceRows, NoMemory>
     requires { AreUsesOf list.now uses.now }
     ensures { IfOk result (λ found. AreFaceRowsOf list.now all found) }
 {
