@@ -1,5 +1,5 @@
 -- The files and the summary of a mesh.
-use Rattle.std.specs.Prelude.{◌≡◌, ℕ, Bool, ◌||◌, not, List, [], ◌∷◌, ◌++◌, length, Option, Some, None, codes, if◌then◌else◌}
+use Rattle.std.specs.Prelude.{◌≡◌, ℕ, Bool, true, false, ◌||◌, ◌&&◌, not, List, [], ◌∷◌, ◌++◌, length, Option, Some, None, codes, if◌then◌else◌}
 use Rattle.std.specs.Fmt.{decimal}
 use Rattle.geo_laws.specs.Faces.{AreFacesOf, AreSidesOf}
 use Rattle.geo_laws.specs.declared.faces.Face.{Face}
@@ -9,6 +9,8 @@ use Rattle.hole_carve.specs.Pairs.{pairs_of}
 use Rattle.mesh_files.specs.FaceRows.{AreFaceRowsOf}
 use Rattle.mesh_files.specs.Texts.{ele_text, face_text, edge_text, neigh_text}
 use Rattle.mesh_files.specs.declared.markers.FaceRow.{FaceRow}
+use Rattle.node_files.specs.Writing.{node_text}
+use Rattle.node_files.specs.declared.table.NodeTable.{NodeTable}
 use Rattle.tetgen.specs.Messages.{file_message}
 use Rattle.tetgen.specs.declared.outputs.Outputs.{Outputs}
 use Rattle.tetgen.specs.declared.store.NamedText.{NamedText}
@@ -27,6 +29,9 @@ abbrev pub TellsFailure : NamedText → Type 0
 TellsFailure text = text.message ≡ file_message text.name (codes "write failed")
 
 -- the files that the options ask for: each alone, or none
+abbrev pub node_file : Options → ℕ → NodeTable → List NamedText
+node_file options first table = if options.no_node then [] else named options.base (codes ".1.node") (node_text table [] first) ∷ []
+
 abbrev pub ele_file : Options → ℕ → List Tet → List NamedText
 ele_file options first rows = if options.no_ele then [] else named options.base (codes ".1.ele") (ele_text first rows) ∷ []
 
@@ -40,8 +45,8 @@ abbrev pub neigh_file : Options → ℕ → List Tet → List NamedText
 neigh_file options first rows = if not options.neighbors then [] else named options.base (codes ".1.neigh") (neigh_text first (pairs_of rows)) ∷ []
 
 -- in the order in which they are stored
-abbrev pub texts_of : Options → ℕ → List Tet → List FaceRow → List Side → List NamedText
-texts_of options first rows faces sides = ele_file options first rows ++ face_file options first faces ++ edge_file options first sides ++ neigh_file options first rows
+abbrev pub texts_of : Options → ℕ → NodeTable → List Tet → List FaceRow → List Side → List NamedText
+texts_of options first table rows faces sides = node_file options first table ++ ele_file options first rows ++ face_file options first faces ++ edge_file options first sides ++ neigh_file options first rows
 
 -- `points P added A tetrahedra T faces F edges E`
 abbrev pub summary_text : ℕ → ℕ → ℕ → ℕ → ℕ → List ℕ
@@ -49,13 +54,26 @@ summary_text points added rows faces sides =
     codes "points " ++ decimal points ++ codes " added " ++ decimal added ++ codes " tetrahedra " ++ decimal rows
     ++ codes " faces " ++ decimal faces ++ codes " edges " ++ decimal sides ++ (10 ∷ [])
 
--- the files and the summary of these rows on so many points, numbered from the first number
-pub record AreOutputsOf (options : Options) (points first : ℕ) (rows : List Tet) (outputs : Outputs) : Type 0 where
+-- whether the edge file or the summary is asked for
+abbrev pub names_sides : Options → Bool
+names_sides options = not options.quiet || (not options.no_face && options.edges)
+
+-- whether the face file or the neighbor file is asked for, which speak of the uses of faces
+abbrev pub asks_uses : Options → Bool
+asks_uses options = not options.no_face || options.neighbors
+
+-- whether anything is asked for that is gathered at the corners of the rows
+abbrev pub asks_corners : Options → Bool
+asks_corners options = not options.quiet || asks_uses options
+
+-- The files and the summary of these rows on the points of a table, numbered from the first number. Faces and sides are those of the rows, where a file or
+-- the summary speaks of them
+pub record AreOutputsOf (options : Options) (table : NodeTable) (first : ℕ) (rows : List Tet) (outputs : Outputs) : Type 0 where
   pub marked : List FaceRow
-  pub marked_are : AreFaceRowsOf rows options.all_faces marked
+  pub marked_are : options.no_face ≡ false → AreFaceRowsOf rows options.all_faces marked
   pub faces : List Face
-  pub faces_are : AreFacesOf rows faces
+  pub faces_are : options.quiet ≡ false → AreFacesOf rows faces
   pub sides : List Side
-  pub sides_are : AreSidesOf rows sides
-  pub texts_are : outputs.texts.items ≡ texts_of options first rows marked sides
-  pub summary_is : outputs.summary ≡ (if options.quiet then None else Some (summary_text points 0 (length rows) (length faces) (length sides)))
+  pub sides_are : names_sides options ≡ true → AreSidesOf rows sides
+  pub texts_are : outputs.texts.items ≡ texts_of options first table rows marked sides
+  pub summary_is : outputs.summary ≡ (if options.quiet then None else Some (summary_text (length table.points) 0 (length rows) (length faces) (length sides)))

@@ -5,45 +5,49 @@ use Rattle.geo_laws.specs.Laws.{IsTriangulation}
 use Rattle.tet_ports.specs.Counts.{Rose}
 use Rattle.tet_ports.specs.Files.{Files, Holds, IsAbsent}
 use Rattle.tet_ports.specs.Written.{PartlyPut, with_piece}
-use Rattle.tet_text.specs.declared.fault.TextFault.{TextFault}
+use Rattle.node_files.specs.Settling.{IsTooMany, IsOffGrid, HasTwin}
 use Rattle.node_files.specs.declared.node_text.NodeText.{NodeText}
+use Rattle.node_files.specs.declared.table.NodeTable.{NodeTable}
 use Rattle.tetgen.specs.Messages.{message_of}
 use Rattle.tetgen.specs.Names.{node_name}
 use Rattle.tetgen.specs.Outputs.{TellsFailure, AreOutputsOf}
-use Rattle.tetgen.specs.Points.{node_text_of, points_of, IsBuilt}
+use Rattle.tetgen.specs.Points.{node_text_of, grid_options, IsTableOf}
 use Rattle.tetgen.specs.Stores.{with_files, AreStoredTo, AreStoredInto}
 use Rattle.tetgen.specs.Words.{words_fault, options_of}
 use Rattle.tetgen.specs.declared.mesh.Unmeshed.{Unmeshed}
-use Rattle.tetgen.specs.declared.mesh.Unmeshed.TheVariants.{BadText as Malformed, NotBuilt as Unbuilt, Flat as Coplanar, NoMemory as Wanting}
+use Rattle.tetgen.specs.declared.mesh.Unmeshed.TheVariants.{BadText as Malformed, TooMany as Many, OffGrid as Off, Twin as Equal, Flat as Coplanar, NoMemory as Wanting}
 use Rattle.tetgen.specs.declared.outputs.Outputs.{Outputs}
 use Rattle.tetgen.specs.declared.run.Stop.{Stop}
 use Rattle.tetgen.specs.declared.run.Stop.TheVariants.{Refused, Unwritten, Unsummed, NoMemory as Stopped}
+use Rattle.tetgen.specs.declared.status.LimitKind.TheVariants.{Bytes as TooLong, Points, Grid as OnGrid}
 use Rattle.tetgen.specs.declared.status.Status.{Status}
-use Rattle.tetgen.specs.declared.status.Status.TheVariants.{Done, Usage, Missing, ReadFault, BadText, NotBuilt, Flat, NoMemory, WriteFault}
+use Rattle.tetgen.specs.declared.status.Status.TheVariants.{Done, Usage, Missing, ReadFault, BadText, Limit, Twin, Flat, NoMemory, WriteFault}
 use Rattle.tetgen.specs.declared.words.Options.{Options}
 
 -- ---- the bytes of a file of points
 
--- the bytes spell this list of points, which is one that is meshed, and the points are not all in one plane
-pub record Spells (bytes : List ℕ) (text : NodeText) : Type 0 where
-  pub is : node_text_of bytes ≡ Ok text
-  pub built : IsBuilt text
-  pub solid : ¬ AreCoplanar (points_of text)
+-- the bytes spell the points of this table, which are not all in one plane
+pub record Spells (options : Options) (bytes : List ℕ) (table : NodeTable) : Type 0 where
+  pub on : IsTableOf options bytes table
+  pub solid : ¬ AreCoplanar table.points
 
 -- the number of the first row, face, side and point in what is written
-abbrev pub first_of : Options → NodeText → ℕ
-first_of options text = if options.from_zero then 0 else text.first
+abbrev pub first_of : Options → NodeTable → ℕ
+first_of options table = if options.from_zero then 0 else table.first
 
 -- the outputs are those of the Delaunay list of the points
-abbrev pub IsMeshOf : Options → NodeText → Outputs → Type 0
-IsMeshOf options text outputs = AreOutputsOf options (length text.decimals) (first_of options text) (delaunay_rows (points_of text)) outputs
+abbrev pub IsMeshOf : Options → NodeTable → Outputs → Type 0
+IsMeshOf options table outputs = AreOutputsOf options table (first_of options table) (delaunay_rows table.points) outputs
 
 -- why bytes give no mesh; want of memory is a free answer
-abbrev pub IsUnmeshed : List ℕ → Unmeshed → Type 0
-IsUnmeshed bytes (Malformed fault) = node_text_of bytes ≡ Err fault
-IsUnmeshed bytes Unbuilt = (text : NodeText) × (node_text_of bytes ≡ Ok text) × (¬ IsBuilt text)
-IsUnmeshed bytes Coplanar = (text : NodeText) × (node_text_of bytes ≡ Ok text) × IsBuilt text × AreCoplanar (points_of text)
-IsUnmeshed bytes Wanting = Unit {0}
+abbrev pub IsUnmeshed : Options → List ℕ → Unmeshed → Type 0
+IsUnmeshed options bytes (Malformed fault) = node_text_of bytes ≡ Err fault
+IsUnmeshed options bytes (Many count) = (text : NodeText) × (node_text_of bytes ≡ Ok text) × IsTooMany text count
+IsUnmeshed options bytes (Off line) = (text : NodeText) × (node_text_of bytes ≡ Ok text) × IsOffGrid text (grid_options options) line
+IsUnmeshed options bytes (Equal first second numbered_from) =
+    (text : NodeText) × (node_text_of bytes ≡ Ok text) × HasTwin text (grid_options options) first second × (numbered_from ≡ text.first)
+IsUnmeshed options bytes Coplanar = (table : NodeTable) × IsTableOf options bytes table × AreCoplanar table.points
+IsUnmeshed options bytes Wanting = Unit {0}
 
 -- ---- a run
 
@@ -69,40 +73,48 @@ pub record Seen : Type 0 where
   pub put_faults_before : ℕ
   pub put_faults_now : ℕ
 
--- The cause of each answer to a base. Over files that are told, each cause rules out those that stand earlier in the order: a missing
--- file, its size, its grammar, what is not built, points in one plane. So an answer comes exactly where its cause is the first, but for a
--- fault of the folder or the sink and for want of memory.
-abbrev pub IsCause : List ℕ → Seen → Status → Type 0
-IsCause base seen (Usage word place) = ⊥
-IsCause base seen (Missing name) = (name ≡ node_name base) × IsAbsent seen.files_before name seen.misses_before seen.misses_now
-IsCause base seen (ReadFault name) = (name ≡ node_name base) × Rose seen.faults_before seen.faults_now
-IsCause base seen (BadText name fault) =
-    (name ≡ node_name base) × ((bytes : List ℕ) × IsRead base seen.files_before bytes × (node_text_of bytes ≡ Err fault))
-IsCause base seen NotBuilt =
-    ((bytes : List ℕ) × Holds seen.files_before (node_name base) bytes × (most_bytes < length bytes))
-    ⊎ ((bytes : List ℕ) × (text : NodeText) × IsRead base seen.files_before bytes × (node_text_of bytes ≡ Ok text) × (¬ IsBuilt text))
-IsCause base seen Flat =
-    (bytes : List ℕ) × (text : NodeText) × IsRead base seen.files_before bytes × (node_text_of bytes ≡ Ok text) × IsBuilt text × AreCoplanar (points_of text)
-IsCause base seen Done = (bytes : List ℕ) × (text : NodeText) × IsRead base seen.files_before bytes × Spells bytes text
-IsCause base seen (WriteFault None) = Rose seen.put_faults_before seen.put_faults_now
-IsCause base seen (WriteFault (Some name)) = Rose seen.faults_before seen.faults_now
-IsCause base seen NoMemory = Unit {0}
+-- The cause of each answer to options. Over files that are told, each cause rules out those that stand earlier in the order: a missing
+-- file, its size, its grammar, the number of its points, a coordinate off the grid, equal points, points in one plane. So an answer comes
+-- exactly where its cause is the first, but for a fault of the folder or the sink and for want of memory.
+abbrev pub IsCause : Options → Seen → Status → Type 0
+IsCause options seen (Usage word place) = ⊥
+IsCause options seen (Missing name) = (name ≡ node_name options.base) × IsAbsent seen.files_before name seen.misses_before seen.misses_now
+IsCause options seen (ReadFault name) = (name ≡ node_name options.base) × Rose seen.faults_before seen.faults_now
+IsCause options seen (Limit (TooLong name)) =
+    (name ≡ node_name options.base) × ((bytes : List ℕ) × Holds seen.files_before name bytes × (most_bytes < length bytes))
+IsCause options seen (BadText name fault) =
+    (name ≡ node_name options.base) × ((bytes : List ℕ) × IsRead options.base seen.files_before bytes × (node_text_of bytes ≡ Err fault))
+IsCause options seen (Limit (Points count)) =
+    (bytes : List ℕ) × (text : NodeText) × IsRead options.base seen.files_before bytes × (node_text_of bytes ≡ Ok text) × IsTooMany text count
+IsCause options seen (Limit (OnGrid line)) =
+    (bytes : List ℕ) × (text : NodeText) × IsRead options.base seen.files_before bytes × (node_text_of bytes ≡ Ok text) × IsOffGrid text (grid_options options) line
+IsCause options seen (Twin first second numbered_from) =
+    (bytes : List ℕ) × (text : NodeText) × IsRead options.base seen.files_before bytes × (node_text_of bytes ≡ Ok text)
+    × HasTwin text (grid_options options) first second × (numbered_from ≡ text.first)
+IsCause options seen Flat =
+    (bytes : List ℕ) × (table : NodeTable) × IsRead options.base seen.files_before bytes × IsTableOf options bytes table × AreCoplanar table.points
+IsCause options seen Done = (bytes : List ℕ) × (table : NodeTable) × IsRead options.base seen.files_before bytes × Spells options bytes table
+IsCause options seen (WriteFault None) = Rose seen.put_faults_before seen.put_faults_now
+IsCause options seen (WriteFault (Some name)) = Rose seen.faults_before seen.faults_now
+IsCause options seen NoMemory = Unit {0}
 
 -- the cause of each answer to words: Usage exactly where they are not understood
 abbrev pub IsAnswer : List (List ℕ) → Seen → Status → Type 0
 IsAnswer words seen (Usage word place) = words_fault words ≡ Some (word, place)
 IsAnswer words seen NoMemory = Unit {0}
-IsAnswer words seen status = (words_fault words ≡ None) × IsCause (options_of words).base seen status
+IsAnswer words seen status = (words_fault words ≡ None) × IsCause (options_of words) seen status
 
 -- The named file holds the points of a mesh with these outputs. Its rows cover the hull of the points once: each rational point off all face
--- planes is strictly inside exactly one where it is not beyond the hull, and else inside none; and any two of them are properly met.
+-- planes is strictly inside exactly one where it is not beyond the hull, and else inside none; and any two of them are properly met. The outputs are
+-- a function of the options and of those bytes: no others are theirs.
 pub record IsMesh (options : Options) (files : Option Files) (outputs : Outputs) : Type 0 where
   pub bytes : List ℕ
-  pub text : NodeText
+  pub table : NodeTable
   pub read : IsRead options.base files bytes
-  pub spells : Spells bytes text
-  pub mesh : IsMeshOf options text outputs
-  pub triangulation : IsTriangulation (points_of text) (delaunay_rows (points_of text))
+  pub spells : Spells options bytes table
+  pub mesh : IsMeshOf options table outputs
+  pub only : (t : NodeTable) (other : Outputs) → IsTableOf options bytes t → IsMeshOf options t other → (other.texts.items ≡ outputs.texts.items) × (other.summary ≡ outputs.summary)
+  pub triangulation : IsTriangulation table.points (delaunay_rows table.points)
 
 -- nothing is changed
 pub record IsUnchanged (seen : Seen) : Type 0 where
@@ -135,7 +147,8 @@ IsLeft options seen (Usage word place) = IsUnchanged seen
 IsLeft options seen (Missing name) = IsUnchanged seen
 IsLeft options seen (ReadFault name) = IsUnchanged seen
 IsLeft options seen (BadText name fault) = IsUnchanged seen
-IsLeft options seen NotBuilt = IsUnchanged seen
+IsLeft options seen (Limit what) = IsUnchanged seen
+IsLeft options seen (Twin first second numbered_from) = IsUnchanged seen
 IsLeft options seen Flat = IsUnchanged seen
 
 -- ---- the message
@@ -158,7 +171,8 @@ IsRefusal (Usage word place) = Unit {0}
 IsRefusal (Missing name) = Unit {0}
 IsRefusal (ReadFault name) = Unit {0}
 IsRefusal (BadText name fault) = Unit {0}
-IsRefusal NotBuilt = Unit {0}
+IsRefusal (Limit what) = Unit {0}
+IsRefusal (Twin first second numbered_from) = Unit {0}
 IsRefusal Flat = Unit {0}
 
 -- the answer of a run that ended or stopped so

@@ -5,7 +5,6 @@ mod mesh;
 mod message;
 mod names;
 mod outputs;
-mod points;
 mod read_words;
 mod run;
 mod status;

@@ -1,8 +1,8 @@
 ghost use Rattle.std.specs.Prelude.{◌≡◌, ◌++◌, IfOk, OnOk};
 ghost use Rattle.std.specs.Fmt.{decimal};
-ghost use Rattle.tetgen.specs.Messages.{kind_text, plain_message, file_message, usage_message, text_message, message_of};
+ghost use Rattle.tetgen.specs.Messages.{kind_text, plain_message, file_message, usage_message, text_message, limit_message, twin_message, message_of};
 
-use crate::status::Status;
+use crate::status::{LimitKind, Status};
 use itoa::Buffer;
 use std::alloc::Global;
 use tet_ports::{Bytes, Name, NoMemory};
@@ -18,7 +18,15 @@ pub fn message(alloc: Global, status: &Status) -> Result<Bytes, NoMemory>
         Status::Missing { name } => file_message(alloc, name, b"not found"),
         Status::ReadFault { name } => file_message(alloc, name, b"read failed"),
         Status::BadText { name, fault } => text_message(alloc, name, *fault),
-        Status::NotBuilt => plain_message(alloc, b"not built yet"),
+        Status::Limit { what } => limit_message(alloc, what),
+        Status::Twin {
+            first,
+            second,
+            numbered_from,
+        } => {
+            let from = *numbered_from as usize;
+            twin_message(alloc, *first as usize + from, *second as usize + from)
+        }
         Status::Flat => plain_message(alloc, b"all points lie in one plane"),
         Status::NoMemory => plain_message(alloc, b"out of memory"),
         Status::WriteFault { name: None } => plain_message(alloc, b"summary: write failed"),
@@ -76,6 +84,42 @@ fn text_message(alloc: Global, name: &Name, fault: TextFault) -> Result<Bytes, N
     append_number(&mut line, fault.line)?;
     line.append(b": ")?;
     line.append(kind_text(fault.kind))?;
+    line.append(b"\n")?;
+    Ok(line)
+}
+
+/// A message on an input that is over a limit.
+fn limit_message(alloc: Global, what: &LimitKind) -> Result<Bytes, NoMemory>
+    ensures { IfOk result (λ line. line ≡ limit_message what.now) }
+{
+    match what {
+        LimitKind::Bytes { name } => file_message(alloc, name, b"over 67108864 bytes"),
+        LimitKind::Points { count } => {
+            let mut line = Bytes::from_slice(alloc, b"tetgen: ")?;
+            append_number(&mut line, *count as usize)?;
+            line.append(b" points, at most 20000")?;
+            line.append(b"\n")?;
+            Ok(line)
+        }
+        LimitKind::Grid { line: place } => {
+            let mut line = Bytes::from_slice(alloc, b"tetgen: line ")?;
+            append_number(&mut line, *place)?;
+            line.append(b": coordinate off the grid")?;
+            line.append(b"\n")?;
+            Ok(line)
+        }
+    }
+}
+
+/// A message on two equal points, by their numbers in the input.
+fn twin_message(alloc: Global, first: usize, second: usize) -> Result<Bytes, NoMemory>
+    ensures { IfOk result (λ line. line ≡ twin_message first second) }
+{
+    let mut line = Bytes::from_slice(alloc, b"tetgen: points ")?;
+    append_number(&mut line, first)?;
+    line.append(b" and ")?;
+    append_number(&mut line, second)?;
+    line.append(b" are equal")?;
     line.append(b"\n")?;
     Ok(line)
 }

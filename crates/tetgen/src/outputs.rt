@@ -1,15 +1,22 @@
-ghost use Rattle.std.specs.Prelude.{◌≡◌, ◌++◌, All, IfOk, OnOk};
-ghost use Rattle.tetgen.specs.Outputs.{named, ele_file, face_file, edge_file, neigh_file, texts_of, summary_text, TellsFailure, AreOutputsOf};
+ghost use Rattle.std.specs.Prelude.{◌≡◌, true, false, ◌<◌, ◌^◌, ◌++◌, length, All, IfOk, OnOk};
+ghost use Rattle.geo_laws.specs.Faces.{AreFacesOf, AreSidesOf};
+ghost use Rattle.hole_carve.specs.Incidences.{AreIncidencesOf};
+ghost use Rattle.hole_carve.specs.Uses.{AreUsesOf};
+ghost use Rattle.mesh_files.specs.FaceRows.{AreFaceRowsOf};
+ghost use Rattle.node_files.specs.Writing.{IsNodeTable};
+ghost use Rattle.tetgen.specs.Outputs.{named, node_file, ele_file, face_file, edge_file, neigh_file, texts_of, summary_text, names_sides, asks_uses, asks_corners, TellsFailure, AreOutputsOf};
 
 use crate::message::{append_number, file_message};
 use crate::names::with_extension;
 use crate::store::NamedText;
 use crate::words::Options;
-use geo_laws::TetList;
+use geo_laws::{Points, TetList};
+use hole_carve::{Incidences, Uses, gather_uses, incidences_of, pair_uses};
 use mesh_files::{
-    Edges, FaceRows, edges_of, face_rows, faces_of, neighbors_of, write_edge, write_ele,
+    Edges, FaceRows, Faces, gather_edges, gather_faces, used_faces, write_edge, write_ele,
     write_face, write_neigh,
 };
+use node_files::{NodeTable, write_node};
 use std::alloc::Global;
 use tet_ports::{Bytes, Name, NoMemory};
 
@@ -20,27 +27,136 @@ pub struct Outputs {
     pub summary: Option<Bytes>,
 }
 
-/// The files and the summary of these rows on so many points, numbered from the first number.
+/// The files and the summary of these rows on the points of a table, numbered from the first number.
 pub fn outputs_of(
     alloc: Global,
     options: &Options,
-    points: usize,
+    table: &NodeTable,
     first: u32,
     rows: &TetList,
 ) -> Result<Outputs, NoMemory>
-    ensures outputs { IfOk result (AreOutputsOf options.now points first rows.now) }
+    requires table { IsNodeTable table.now }
+    requires few { length table.now.points < 2 ^ 32 }
+    ensures outputs { IfOk result (AreOutputsOf options.now table.now first rows.now) }
     ensures told { IfOk result (λ outputs. All TellsFailure outputs.texts.items) }
 {
-    let marked = face_rows(alloc, rows, options.all_faces)?;
-    let faces = faces_of(alloc, rows)?;
-    let sides = edges_of(alloc, rows)?;
-    let texts = texts_of(alloc, options, first, rows, &marked, &sides)?;
+    let at = wanted_incidences(alloc, options, rows)?;
+    let uses = wanted_uses(alloc, options, rows, &at)?;
+    let marked = wanted_face_rows(alloc, options, rows, &uses)?;
+    let faces = wanted_faces(alloc, options, rows, &at)?;
+    let sides = wanted_sides(alloc, options, rows, &at)?;
+    let texts = texts_of(alloc, options, first, table, rows, &uses, &marked, &sides)?;
     let summary = if options.quiet {
         None
     } else {
-        Some(summary_of(alloc, points, rows.len(), faces.len(), sides.len())?)
+        Some(summary_of(
+            alloc,
+            table.points.len(),
+            rows.len(),
+            faces.len(),
+            sides.len(),
+        )?)
     };
     Ok(Outputs { texts, summary })
+}
+
+/// Whether the edge file or the summary is asked for.
+fn names_sides(options: &Options) -> bool
+    ensures { result ≡ names_sides options.now }
+{
+    !options.quiet || (!options.no_face && options.edges)
+}
+
+/// Whether the face file or the neighbor file is asked for, which speak of the uses of faces.
+fn asks_uses(options: &Options) -> bool
+    ensures { result ≡ asks_uses options.now }
+{
+    !options.no_face || options.neighbors
+}
+
+/// Whether anything is asked for that is gathered at the corners of the rows.
+fn asks_corners(options: &Options) -> bool
+    ensures { result ≡ asks_corners options.now }
+{
+    !options.quiet || asks_uses(options)
+}
+
+/// The corners of the rows, if something is asked for that is gathered at them.
+fn wanted_incidences(
+    alloc: Global,
+    options: &Options,
+    rows: &TetList,
+) -> Result<Incidences, NoMemory>
+    ensures { IfOk result (λ at. asks_corners options.now ≡ true → AreIncidencesOf rows.now at) }
+{
+    if !asks_corners(options) {
+        return Ok(Incidences::new(alloc));
+    }
+    incidences_of(alloc, rows)
+}
+
+/// The uses of the faces, if a file speaks of them.
+fn wanted_uses(
+    alloc: Global,
+    options: &Options,
+    rows: &TetList,
+    at: &Incidences,
+) -> Result<Uses, NoMemory>
+    requires { asks_corners options.now ≡ true → AreIncidencesOf rows.now at.now }
+    ensures { IfOk result (λ uses. asks_uses options.now ≡ true → AreUsesOf rows.now uses) }
+{
+    if !asks_uses(options) {
+        return Ok(Uses::new(alloc));
+    }
+    gather_uses(alloc, rows, at)
+}
+
+/// The rows of the face file, if it is asked for.
+fn wanted_face_rows(
+    alloc: Global,
+    options: &Options,
+    rows: &TetList,
+    uses: &Uses,
+) -> Result<FaceRows, NoMemory>
+    requires { asks_uses options.now ≡ true → AreUsesOf rows.now uses.now }
+    ensures { IfOk result (λ marked. options.now.no_face ≡ false → AreFaceRowsOf rows.now options.now.all_faces marked) }
+{
+    if options.no_face {
+        return Ok(FaceRows::new(alloc));
+    }
+    used_faces(alloc, rows, uses, options.all_faces)
+}
+
+/// The faces, if the summary tells how many there are.
+fn wanted_faces(
+    alloc: Global,
+    options: &Options,
+    rows: &TetList,
+    at: &Incidences,
+) -> Result<Faces, NoMemory>
+    requires { asks_corners options.now ≡ true → AreIncidencesOf rows.now at.now }
+    ensures { IfOk result (λ faces. options.now.quiet ≡ false → AreFacesOf rows.now faces) }
+{
+    if options.quiet {
+        return Ok(Faces::new(alloc));
+    }
+    gather_faces(alloc, rows, at)
+}
+
+/// The sides, if the edge file or the summary is asked for.
+fn wanted_sides(
+    alloc: Global,
+    options: &Options,
+    rows: &TetList,
+    at: &Incidences,
+) -> Result<Edges, NoMemory>
+    requires { asks_corners options.now ≡ true → AreIncidencesOf rows.now at.now }
+    ensures { IfOk result (λ sides. names_sides options.now ≡ true → AreSidesOf rows.now sides) }
+{
+    if !names_sides(options) {
+        return Ok(Edges::new(alloc));
+    }
+    gather_edges(alloc, rows, at)
 }
 
 /// The files that the options ask for.
@@ -48,18 +164,43 @@ fn texts_of(
     alloc: Global,
     options: &Options,
     first: u32,
+    table: &NodeTable,
     rows: &TetList,
+    uses: &Uses,
     marked: &FaceRows,
     sides: &Edges,
 ) -> Result<Vec<NamedText>, NoMemory>
-    ensures { IfOk result (λ texts. texts.items ≡ texts_of options.now first rows.now marked.now sides.now) }
+    requires uses { asks_uses options.now ≡ true → AreUsesOf rows.now uses.now }
+    requires table { IsNodeTable table.now }
+    requires few { length table.now.points < 2 ^ 32 }
+    ensures { IfOk result (λ texts. texts.items ≡ texts_of options.now first table.now rows.now marked.now sides.now) }
 {
     let mut texts = Vec::new(alloc);
+    append_node(alloc, options, first, table, &mut texts)?;
     append_ele(alloc, options, first, rows, &mut texts)?;
     append_face(alloc, options, first, marked, &mut texts)?;
     append_edge(alloc, options, first, sides, &mut texts)?;
-    append_neigh(alloc, options, first, rows, &mut texts)?;
+    append_neigh(alloc, options, first, rows, uses, &mut texts)?;
     Ok(texts)
+}
+
+fn append_node(
+    alloc: Global,
+    options: &Options,
+    first: u32,
+    table: &NodeTable,
+    texts: &mut Vec<NamedText>,
+) -> Result<(), NoMemory>
+    requires table { IsNodeTable table.now }
+    requires few { length table.now.points < 2 ^ 32 }
+    ensures { OnOk result (texts.new.items ≡ texts.old.items ++ node_file options.now first table.now) }
+{
+    if options.no_node {
+        return Ok(());
+    }
+    let text = write_node(alloc, table, &Points::new(alloc), first)?;
+    texts.push(named(alloc, &options.base, b".1.node", text)?)?;
+    Ok(())
 }
 
 fn append_ele(
@@ -118,14 +259,16 @@ fn append_neigh(
     options: &Options,
     first: u32,
     rows: &TetList,
+    uses: &Uses,
     texts: &mut Vec<NamedText>,
 ) -> Result<(), NoMemory>
+    requires { asks_uses options.now ≡ true → AreUsesOf rows.now uses.now }
     ensures { OnOk result (texts.new.items ≡ texts.old.items ++ neigh_file options.now first rows.now) }
 {
     if !options.neighbors {
         return Ok(());
     }
-    let pairs = neighbors_of(alloc, rows)?;
+    let pairs = pair_uses(alloc, rows, uses)?;
     let text = write_neigh(alloc, &pairs, first)?;
     texts.push(named(alloc, &options.base, b".1.neigh", text)?)?;
     Ok(())

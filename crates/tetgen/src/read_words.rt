@@ -1,11 +1,19 @@
-ghost use Rattle.std.specs.Prelude.{◌≡◌, ◌<◌, ℕ, Some, None, Err, IfOk, IfSome, IsTrue, length, position, not};
-ghost use Rattle.tetgen.specs.Words.{is_name, is_cluster, is_switch, has_switch, cluster_fault, is_complex_name, word_fault, words_fault, is_switched, name_of, extension_of, options_of};
+ghost use Rattle.std.specs.Prelude.{◌≡◌, ◌<◌, ◌≤◌, ℕ, Some, None, Err, IfOk, IfSome, IsTrue, length, position, not};
+ghost use Rattle.std.specs.Char.{is_ascii_digit};
+ghost use Rattle.tetgen.specs.Words.{is_name, is_cluster, is_long, is_switch, has_switch, cluster_fault, digit_count, is_at_most, number_fault, long_fault, is_complex_name, word_fault, words_fault, is_switched, number_in, last_number, name_of, extension_of, options_of};
 ghost use Rattle.tetgen.specs.declared.words.WordsFault.TheVariants.{Usage};
 
 use crate::names::base_of;
 use crate::words::{Extension, Options, WordsFault};
 use std::alloc::Global;
 use tet_ports::{Name, Words};
+use tet_text::read_digits;
+
+/// The front of the long word that bounds the halvings of the grid.
+const HALVINGS: &[u8] = b"--halvings=";
+
+/// The front of the long word that rounds coordinates.
+const DECIMALS: &[u8] = b"--decimals=";
 
 /// Reads the words of the command line.
 ///
@@ -28,12 +36,12 @@ pub fn read_words(alloc: Global, words: &Words) -> Result<Options, WordsFault>
         keep_hull: false,
         regions: false,
         quiet: is_switched(words, b'Q'),
-        no_node: false,
+        no_node: is_switched(words, b'N'),
         no_ele: is_switched(words, b'E'),
         no_face: is_switched(words, b'F'),
         budget: 100_000,
-        halvings: 12,
-        decimals: None,
+        halvings: last_number(HALVINGS, words).unwrap_or(12),
+        decimals: last_number(DECIMALS, words),
         sample: None,
         base: Name::from_slice(alloc, base_of(name))?,
         extension: extension_of(name),
@@ -66,6 +74,8 @@ fn word_fault(word: &[u8]) -> Option<usize>
 {
     if word.is_empty() {
         Some(1)
+    } else if is_long(word) {
+        long_fault(word)
     } else if is_cluster(word) {
         cluster_fault(&word[1..])
     } else if is_complex_name(word) {
@@ -81,9 +91,6 @@ fn cluster_fault(letters: &[u8]) -> Option<usize>
 {
     if letters.is_empty() {
         return Some(2);
-    }
-    if letters.starts_with(b"-") {
-        return Some(3);
     }
     match first_no_switch(letters) {
         Some(i) => Some(i + 2),
@@ -101,7 +108,7 @@ fn first_no_switch(letters: &[u8]) -> Option<usize>
 fn is_switch(letter: u8) -> bool
     ensures { result ≡ is_switch letter }
 {
-    b"nfezQEF".contains(&letter)
+    b"nfezQNEF".contains(&letter)
 }
 
 fn is_name(word: &[u8]) -> bool
@@ -117,6 +124,85 @@ fn is_cluster(word: &[u8]) -> bool
     word.starts_with(b"-")
 }
 
+/// Whether the word begins with two hyphens.
+fn is_long(word: &[u8]) -> bool
+    ensures { result ≡ is_long word.now }
+{
+    word.starts_with(b"--")
+}
+
+/// The place of the first byte that is no digit.
+fn first_no_digit(text: &[u8]) -> Option<usize>
+    ensures value { result ≡ position (λ byte. not (is_ascii_digit byte)) text.now }
+    ensures bound { IfSome result (λ i. i < length text.now) }
+{
+    text.iter().position(|byte| !byte.is_ascii_digit())
+}
+
+/// How many digits stand first.
+fn digit_count(text: &[u8]) -> usize
+    ensures value { result ≡ digit_count text.now }
+    ensures bound { result ≤ length text.now }
+{
+    first_no_digit(text).unwrap_or(text.len())
+}
+
+fn is_at_most(most: u128, number: Option<u128>) -> bool
+    ensures { result ≡ is_at_most most number }
+{
+    match number {
+        Some(number) => number <= most,
+        None => false,
+    }
+}
+
+/// The place of the fault of a long word, behind whose front of 11 bytes stands the text of its number.
+fn number_fault(most: u128, text: &[u8]) -> Option<usize>
+    ensures { result ≡ number_fault most text.now }
+{
+    let count = digit_count(text);
+    if !is_at_most(most, read_digits(&text[..count], 9)) {
+        Some(12)
+    } else if count < text.len() {
+        Some(count + 12)
+    } else {
+        None
+    }
+}
+
+/// The place of the fault of a word that begins with two hyphens.
+fn long_fault(word: &[u8]) -> Option<usize>
+    ensures { result ≡ long_fault word.now }
+{
+    if let Some(number) = word.strip_prefix(HALVINGS) {
+        return number_fault(12, number);
+    }
+    if let Some(number) = word.strip_prefix(DECIMALS) {
+        return number_fault(20, number);
+    }
+    Some(3)
+}
+
+/// The number of a long word with this front.
+fn number_in(front: &[u8], word: &[u8]) -> Option<u32>
+    ensures { result ≡ number_in front.now word.now }
+{
+    let text = word.strip_prefix(front)?;
+    let number = read_digits(text, 9)?;
+    Some(number as u32)
+}
+
+/// The number of the last long word with this front.
+fn last_number(front: &[u8], words: &Words) -> Option<u32>
+    ensures { result ≡ last_number front.now words.now }
+{
+    let mut last = None;
+    for word in words.as_slice() {
+        last = number_in(front, word.as_slice()).or(last);
+    }
+    last
+}
+
 /// Whether the name is that of a complex, which are not read yet.
 fn is_complex_name(word: &[u8]) -> bool
     ensures { result ≡ is_complex_name word.now }
@@ -128,7 +214,7 @@ fn is_complex_name(word: &[u8]) -> bool
 fn has_switch(word: &[u8], letter: u8) -> bool
     ensures { result ≡ has_switch word.now letter }
 {
-    is_cluster(word) && word.contains(&letter)
+    is_cluster(word) && !is_long(word) && word.contains(&letter)
 }
 
 /// Whether some word of switches has the letter.

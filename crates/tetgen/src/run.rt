@@ -10,7 +10,7 @@ use crate::message::{OUT_OF_MEMORY, SUMMARY_FAILED, message};
 use crate::names::node_name;
 use crate::outputs::Outputs;
 use crate::read_words::read_words;
-use crate::status::Status;
+use crate::status::{LimitKind, Status};
 use crate::store::{NamedText, StoreStop, store_all};
 use crate::words::{Options, WordsFault};
 use std::alloc::Global;
@@ -125,7 +125,7 @@ fn mesh_file<F: Folder, O: Sink>(
     folder: &mut F,
     out: &mut O,
 ) -> Result<(), Stop>
-    ensures cause { IsCause options.now.base (record {
+    ensures cause { IsCause options.now (record {
       files_before = F.held folder.old;
       files_now = F.held folder.new;
       faults_before = F.faults folder.old;
@@ -158,7 +158,9 @@ fn mesh_file<F: Folder, O: Sink>(
         Ok(bytes) => mesh_bytes(alloc, options, input, &bytes, folder, out),
         Err(FetchFault::Missing) => Err(Stop::Refused(Status::Missing { name: input })),
         Err(FetchFault::Failed) => Err(Stop::Refused(Status::ReadFault { name: input })),
-        Err(FetchFault::TooLarge { taken: _ }) => Err(Stop::Refused(Status::NotBuilt)),
+        Err(FetchFault::TooLarge { taken: _ }) => Err(Stop::Refused(Status::Limit {
+            what: LimitKind::Bytes { name: input },
+        })),
         Err(FetchFault::NoMemory) => Err(Stop::NoMemory),
     }
 }
@@ -174,7 +176,7 @@ fn mesh_bytes<F: Folder, O: Sink>(
 ) -> Result<(), Stop>
     requires input { input ≡ node_name options.now.base }
     requires read { IsRead options.now.base (F.held folder.old) bytes.now }
-    ensures cause { IsCause options.now.base (record {
+    ensures cause { IsCause options.now (record {
       files_before = F.held folder.old;
       files_now = F.held folder.new;
       faults_before = F.faults folder.old;
@@ -204,7 +206,23 @@ fn mesh_bytes<F: Folder, O: Sink>(
     match mesh_of(alloc, options, bytes) {
         Ok(outputs) => write(outputs, folder, out),
         Err(Unmeshed::BadText(fault)) => Err(Stop::Refused(Status::BadText { name: input, fault })),
-        Err(Unmeshed::NotBuilt) => Err(Stop::Refused(Status::NotBuilt)),
+        Err(Unmeshed::TooMany { count }) => Err(Stop::Refused(Status::Limit {
+            what: LimitKind::Points { count },
+        })),
+        Err(Unmeshed::OffGrid { line }) => Err(Stop::Refused(Status::Limit {
+            what: LimitKind::Grid { line },
+        })),
+        Err(
+            Unmeshed::Twin {
+                first,
+                second,
+                numbered_from,
+            },
+        ) => Err(Stop::Refused(Status::Twin {
+            first,
+            second,
+            numbered_from,
+        })),
         Err(Unmeshed::Flat) => Err(Stop::Refused(Status::Flat)),
         Err(Unmeshed::NoMemory) => Err(Stop::NoMemory),
     }

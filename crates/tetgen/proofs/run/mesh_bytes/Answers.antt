@@ -1,8 +1,8 @@
 use Rattle.std.proofs.Common.{refl}
 use Rattle.geo_laws.specs.Delaunay.{delaunay_rows}
 use Rattle.geo_laws.proofs.DelaunayList.{triangulation_of_rows}
-use Rattle.tetgen.specs.Points.{points_of}
 use Rattle.tetgen.specs.Run.{Seen, IsMesh}
+use Rattle.tetgen.proofs.Determined.{only_outputs}
 use Rattle.tetgen.proofs.Runs.{written_left}
 use Rattle.tetgen.proofs.run.mesh_bytes.Goals as goal
 
@@ -22,5 +22,5 @@ returns-in-Ok-clause-left g c =
     } in
     let made = c.in-Ok.ensures.meshed in
     let mesh : IsMesh c.args.options.now seen.files_before c.in-Ok.outputs =
-    record { bytes = c.args.bytes.now; text = made.0; read = c.requires.read; spells = made.1; mesh = made.2; triangulation = triangulation_of_rows (points_of made.0) (delaunay_rows (points_of made.0)) refl } in
+    record { bytes = c.args.bytes.now; table = made.0; read = c.requires.read; spells = made.1; mesh = made.2; only = λ t other on of. only_outputs c.args.options.now c.args.bytes.now t made.0 other c.in-Ok.outputs on of made.1.on made.2; triangulation = triangulation_of_rows made.0.points (delaunay_rows made.0.points) refl } in
     written_left c.args.options.now seen c.in-Ok.outputs c.write.result mesh c.write.ensures.written

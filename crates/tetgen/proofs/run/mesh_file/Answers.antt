@@ -1,5 +1,3 @@
-use Rattle.std.proofs.Common.{◌<◌, List, ℕ, length, inl, subst}
-use Rattle.tet_ports.specs.Files.{Holds}
 use Rattle.tetgen.specs.Run.{Seen, answer_of}
 use Rattle.tetgen.proofs.Runs.{cause_after, left_after, longer}
 use Rattle.tetgen.proofs.run.mesh_file.Goals as goal
@@ -18,7 +16,7 @@ returns-in-Ok-fetch-clause-cause g c =
       put_faults_before = g.O.Sink.faults c.args.out.now;
       put_faults_now = g.O.Sink.faults c.mesh_bytes.new.out;
     } in
-    cause_after c.args.options.now.base (g.F.Folder.held c.args.folder.now) (g.F.Folder.faults c.args.folder.now) (g.F.Folder.misses c.args.folder.now) seen
+    cause_after c.args.options.now (g.F.Folder.held c.args.folder.now) (g.F.Folder.faults c.args.folder.now) (g.F.Folder.misses c.args.folder.now) seen
     c.fetch.ensures.unchanged c.fetch.ensures.fault_count c.fetch.ensures.miss_count (answer_of c.mesh_bytes.result) c.mesh_bytes.ensures.cause
 
 pub returns-in-Ok-fetch-clause-left : goal.returns-in-Ok-fetch-clause-left
@@ -43,4 +41,4 @@ returns-in-Err-TooLarge-clause-cause g c =
     let files = g.F.Folder.held c.args.folder.now in
     let more = rw c.in-Err-TooLarge.field-0-is at c.in-Err-TooLarge.ensures.longer in
     let long = rw c.in-Err-TooLarge.field-0-is at c.in-Err-TooLarge.ensures.too_large in
-    inl (subst (λ name. (bytes : List ℕ) × Holds files name bytes × (67108864 < length bytes)) c.in-Ok.ensures (longer files c.in-Ok.input 67108864 c.in-Err-TooLarge.field-0-0 more long))
+    (c.in-Ok.ensures, longer files c.in-Ok.input 67108864 c.in-Err-TooLarge.field-0-0 more long)

@@ -18,7 +18,7 @@ returns-clause-answer g c =
       put_faults_now = g.O.Sink.faults c.mesh_file.new.out;
     } in
     answered c.args.words.now seen (answer_of c.mesh_file.result) c.in-Ok.ensures.understood
-    (subst (λ options. IsCause options.base seen (answer_of c.mesh_file.result)) c.in-Ok.ensures.options c.mesh_file.ensures.cause)
+    (subst (λ options. IsCause options seen (answer_of c.mesh_file.result)) c.in-Ok.ensures.options c.mesh_file.ensures.cause)
 
 pub returns-clause-left : goal.returns-clause-left
 returns-clause-left g c =
