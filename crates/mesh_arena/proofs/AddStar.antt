@@ -137,7 +137,7 @@ module _ (first now : List (Option Tet)) (rim : List RimFace) (star : List StarS
         (Off-faces rim r n can.once (omega arith) lt (λ e. omega arith))
         (not_made _ (can.live r (omega arith)))
 
-    same_star : (r : ℕ) → r < n → behind_rim next rim r ≡ behind_rim now rim r
+    pub same_star : (r : ℕ) → r < n → behind_rim next rim r ≡ behind_rim now rim r
     same_star r h = ap behind (added_before r h)
 
     star_side : (r k : ℕ) → r < n → side next (behind_rim now rim r).slot k ≡ side now (behind_rim now rim r).slot k
@@ -169,7 +169,7 @@ module _ (first now : List (Option Tet)) (rim : List RimFace) (star : List StarS
         ) in
         record { is = all.0; fresh = all.1; corners = all.2; bare = all.3 }
 
-    new_star : (behind_rim next rim n).slot ≡ made
+    pub new_star : (behind_rim next rim n).slot ≡ made
     new_star = ap (λ (b : Side). b.slot) new_inner
 
     old_star : (r : ℕ) → r < n → (behind_rim next rim r).slot ≡ (behind_rim now rim r).slot

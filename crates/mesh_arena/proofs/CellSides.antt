@@ -1,5 +1,5 @@
 -- How a cell keeps the sides of a slot.
-use Rattle.std.proofs.Common.{◌≡◌, ℕ, zero, suc, ◌<◌, ◌≤◌, List, [], ◌∷◌, length, get_or, set, Some, None, refl, ap, arith}
+use Rattle.std.proofs.Common.{◌≡◌, ℕ, zero, suc, ◌<◌, ◌≤◌, List, [], ◌∷◌, length, get_or, set, Some, None, IsSome, refl, ap, arith}
 use Rattle.std.proofs.lemmas.Bool.{le-ltb}
 use Rattle.mesh_arena.specs.Mesh.{at}
 use Rattle.mesh_arena.specs.Cells.{side_to, sides_in}
@@ -34,3 +34,14 @@ sides_in-read [] faces i h g = absurd (omega arith)
 sides_in-read (x ∷ xs) [] i h g = absurd (omega arith)
 sides_in-read (x ∷ xs) (y ∷ ys) zero h g = refl
 sides_in-read (x ∷ xs) (y ∷ ys) (suc i) h g = sides_in-read xs ys i (omega arith) (omega arith)
+
+pub side_there : (slots faces : List ℕ) (i : ℕ) → i < length slots → i < length faces → get_or faces i 0 < 4 → IsSome (get_or (sides_in slots faces) i None)
+side_there slots faces i h g below = rw (sides_in-read slots faces i h g, side_to-face (get_or slots i 0) (get_or faces i 0) below) refl
+
+-- a bound on each of four
+pub each_below : (f : ℕ → ℕ) → f 0 < 4 → f 1 < 4 → f 2 < 4 → f 3 < 4 → (k : ℕ) → k < 4 → f k < 4
+each_below f a b c d zero h = a
+each_below f a b c d (suc zero) h = b
+each_below f a b c d (suc (suc zero)) h = c
+each_below f a b c d (suc (suc (suc zero))) h = d
+each_below f a b c d (suc (suc (suc (suc k)))) h = absurd (omega arith)

@@ -7,4 +7,6 @@ pub mod FaceCorners
 pub mod Pairs
 pub mod FreeCavity
 pub mod Replace
+pub mod EdgeTable
+pub mod StarEdges
 mod OneSlot

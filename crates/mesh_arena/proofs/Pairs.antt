@@ -6,21 +6,8 @@ use Rattle.mesh_arena.specs.declared.arena.Side.{Side}
 use Rattle.mesh_arena.specs.declared.slot.RimFace.{RimFace}
 use Rattle.mesh_arena.specs.Mesh.{Tet, corners_at, corner_in, IsLive, corner, side, at, OnFace, SameFace, IsMesh, Links}
 use Rattle.mesh_arena.specs.Star.{behind, rim_at, face_side, behind_rim}
-use Rattle.mesh_arena.specs.StarLinks.{OnRim, Other, ArePaired, IsStar, Mate, LinksFace, LinksStar}
+use Rattle.mesh_arena.specs.StarLinks.{Places, OnRim, Other, ArePaired, IsStar, Mate, LinksFace, LinksStar}
 use Rattle.mesh_arena.proofs.Mesh.{none_some, side_live, same_or_off, OnFace-along, OnFace-back}
-
--- the four places of a slot
-pub record Places (k f a b : ℕ) : Type 0 where
-  pub k4 : k < 4
-  pub f4 : f < 4
-  pub a4 : a < 4
-  pub b4 : b < 4
-  pub fk : f ≢ k
-  pub ak : a ≢ k
-  pub bk : b ≢ k
-  pub fa : f ≢ a
-  pub fb : f ≢ b
-  pub ab : a ≢ b
 
 pub one_of_three : (k f a b m : ℕ) → Places k f a b → m < 4 → m ≢ k → (m ≡ f) ⊎ ((m ≡ a) ⊎ (m ≡ b))
 one_of_three k f a b m p m4 mk =

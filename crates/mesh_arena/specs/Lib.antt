@@ -5,3 +5,4 @@ pub mod StarLinks
 pub mod Cavity
 pub mod Replace
 pub mod Surgery
+pub mod Edges

@@ -6,6 +6,8 @@ use Rattle.mesh_arena.specs.declared.arena.Side.{Side}
 use Rattle.mesh_arena.specs.declared.slot.RimFace.{RimFace}
 use Rattle.mesh_arena.specs.Mesh.{Tet, corners_at, corner, side, OnFace, SameFace}
 use Rattle.mesh_arena.specs.Star.{rim_at, face_side, behind_rim}
+use Rattle.mesh_arena.specs.declared.edges.Edge.{Edge}
+use Rattle.mesh_arena.specs.Edges.{edge_between, Meetings, IsMet}
 
 abbrev pub CornerValue : Type 0
 CornerValue = Corner
@@ -16,6 +18,19 @@ pub record Has (cs : List Corner) (off : ℕ) (x : Corner) : Type 0 where
   pub within : place < 4
   pub differs : place ≢ off
   pub is : slice_index_or cs place Ghost ≡ x
+
+-- the four places of a slot
+pub record Places (k f a b : ℕ) : Type 0 where
+  pub k4 : k < 4
+  pub f4 : f < 4
+  pub a4 : a < 4
+  pub b4 : b < 4
+  pub fk : f ≢ k
+  pub ak : a ≢ k
+  pub bk : b ≢ k
+  pub fa : f ≢ a
+  pub fb : f ≢ b
+  pub ab : a ≢ b
 
 -- x is a corner of the face r of the rim
 abbrev pub OnRim : List (Option Tet) → List RimFace → ℕ → Corner → Type 0
@@ -68,3 +83,19 @@ pub record LinksStar (old new : List (Option Tet)) (rim : List RimFace) (p : Cor
   pub star : IsStar new rim p
   pub sides : (u m : ℕ) → ((q : ℕ) → q < length rim → (behind_rim old rim q).slot ≢ u) → side new u m ≡ side old u m
   pub linked : (q m : ℕ) → q < n → m < 4 → IsSome (side new (behind_rim old rim q).slot m)
+
+-- the face is of a slot of the star, and has the point and the ends of the edge
+pub record IsOverEdge (slots : List (Option Tet)) (rim : List RimFace) (p : Corner) (edge : Edge) (face : Side) : Type 0 where
+  pub over : ℕ
+  pub inside : over < length rim
+  pub slot : face.slot ≡ (behind_rim slots rim over).slot
+  pub apex : ℕ
+  pub first : ℕ
+  pub second : ℕ
+  pub places : Places face.face apex first second
+  pub point : corner slots face.slot apex ≡ p
+  pub ends : edge_between (corner slots face.slot first) (corner slots face.slot second) ≡ edge
+
+-- each edge was met at such a face
+abbrev pub AreOverEdges : List (Option Tet) → List RimFace → Corner → Meetings → Type 0
+AreOverEdges slots rim p table = (e : Edge) (s : Side) → IsMet table e s → IsOverEdge slots rim p e s

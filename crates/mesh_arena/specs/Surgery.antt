@@ -11,7 +11,7 @@ use Rattle.mesh_arena.specs.StarLinks.{Has}
 
 -- past the end of a list
 abbrev pub no_slot : StarSlot
-no_slot = record { corners = record { a = Point 0; b = Point 0; c = Point 0; d = Point 0 }; face = 0 }
+no_slot = record { corners = record { a = Point 0; b = Point 0; c = Point 0; d = Point 0 }; face = 0; slot = 0 }
 
 abbrev pub star_at : List StarSlot → ℕ → StarSlot
 star_at star r = slice_index_or star r no_slot
@@ -77,3 +77,12 @@ pub record AddsStar (old new : List (Option Tet)) (rim : List RimFace) (star : L
   pub kept : (u : ℕ) → IsLive old u → corners_at new u ≡ corners_at old u
   pub live : (u : ℕ) → IsLive new u → IsLive old u ⊎ ((r : ℕ) × (r < n) × ((behind_rim new rim r).slot ≡ u))
   pub sides : (u k : ℕ) → IsLive old u → ((r : ℕ) → r < n → Off u k (rim_at rim r).slot.index (rim_at rim r).face) → side new u k ≡ side old u k
+
+-- this is the slot over the face r
+pub record StandsOver (slots : List (Option Tet)) (rim : List RimFace) (r : ℕ) (s : StarSlot) : Type 0 where
+  pub slot : s.slot ≡ (behind_rim slots rim r).slot
+  pub face : s.face ≡ (behind_rim slots rim r).face
+  pub corners : corners_at slots s.slot ≡ Some (corner_list s.corners)
+
+abbrev pub AreOverRim : List (Option Tet) → List RimFace → List StarSlot → Type 0
+AreOverRim slots rim star = (r : ℕ) → r < length rim → StandsOver slots rim r (star_at star r)

@@ -34,7 +34,7 @@ pub struct Arena {
     // The slots of the star that is being made.
     star: Vec<StarSlot>,
     // Finds the faces of a star that are to be linked.
-    pub(crate) edges: EdgeTable,
+    edges: EdgeTable,
     alloc: Global,
 }
 
@@ -281,5 +281,19 @@ impl Arena {
         let room = self.cells.capacity().min(MOST_CELLS) - self.live;
         self.spare = room.min(star.capacity());
         self.star = star;
+    }
+
+    // Lends the table of edges.
+    pub(crate) fn lend_edges(&mut self) -> EdgeTable
+        ensures { self.new ≡ self.old }
+    {
+        mem::replace(&mut self.edges, EdgeTable::new(self.alloc))
+    }
+
+    // Takes that table back.
+    pub(crate) fn keep_edges(&mut self, edges: EdgeTable)
+        ensures { self.new ≡ self.old }
+    {
+        self.edges = edges;
     }
 }

@@ -1,5 +1,5 @@
 //! How a slot lies in memory: 40 bytes, with numbers in place of enums.
-ghost use Rattle.std.specs.Prelude.{◌≡◌, ◌<◌, true, false, [], ◌∷◌, Some, None, slice_index_or, if◌then◌else◌};
+ghost use Rattle.std.specs.Prelude.{◌≡◌, ℕ, ◌<◌, IsTrue, true, false, [], ◌∷◌, Some, None, IsSome, slice_index_or, if◌then◌else◌};
 ghost use Rattle.mesh_arena.specs.declared.slot.Corner.TheVariants.{Point as Numbered, Ghost as Infinite};
 ghost use Rattle.mesh_arena.specs.Mesh.{corner_list, AllDiffer, tet_with};
 ghost use Rattle.mesh_arena.specs.Cells.{number_in, infinite_in, corners_in, sides_in, tet_in, next_of};
@@ -68,6 +68,14 @@ impl Cell {
         } else {
             None
         }
+    }
+
+    // Whether each face has a neighbor.
+    pub(crate) fn is_linked(&self) -> bool
+        ensures { IsTrue result → (k : ℕ) → k < 4 → IsSome (slice_index_or (sides_in self.now.slots self.now.faces) k None) }
+    {
+        let [a, b, c, d] = self.faces;
+        a < NO_PLACE && b < NO_PLACE && c < NO_PLACE && d < NO_PLACE
     }
 
     // Puts a slot behind a face.

@@ -1,23 +1,25 @@
-//! A table of the edges of a star, by which the faces over the two sides of an edge find one another. It only guesses: no contract rests on it, and
-//! whoever asks it tests the answer.
+//! A table of the edges of a star, by which the two faces over an edge find one another.
+ghost use Rattle.std.specs.Prelude.{◌≡◌, IfSome};
+ghost use Rattle.mesh_arena.specs.Edges.{corner_number, edge_between, IsMet, IsUnmet, MeetsOnly};
+
+use crate::Corner;
+use crate::arena::Side;
 use std::alloc::Global;
+use std::marker::Model;
 
-/// A face of a star: of the slot over this face of the rim.
-#[derive(Clone, Copy)]
-pub(crate) struct StarFace {
-    pub(crate) rim: usize,
-    pub(crate) face: u8,
-}
-
-/// Two corners, the lesser first.
+/// The ends of an edge, by their numbers, the lesser first.
 #[derive(Clone, Copy, PartialEq, Eq)]
 pub(crate) struct Edge {
-    pub(crate) low: u32,
-    pub(crate) high: u32,
+    pub(crate) low: u64,
+    pub(crate) high: u64,
 }
 
 impl Edge {
-    pub(crate) fn new(a: u32, b: u32) -> Self {
+    pub(crate) fn between(a: Corner, b: Corner) -> Self
+        ensures { result ≡ edge_between a b }
+    {
+        let a = number_of(a);
+        let b = number_of(b);
         Edge {
             low: a.min(b),
             high: a.max(b),
@@ -25,19 +27,41 @@ impl Edge {
     }
 }
 
-// The face that an edge was met at, in this round.
+// A number of its own for each corner.
+fn number_of(corner: Corner) -> u64
+    ensures { result ≡ corner_number corner }
+{
+    match corner {
+        Corner::Point(i) => u64::from(i) + 1,
+        Corner::Ghost => 0,
+    }
+}
+
+// An edge, the face that it was met at, and in which round.
 #[derive(Clone, Copy)]
-struct Met {
+pub(crate) struct Met {
     edge: Edge,
-    at: StarFace,
+    at: Side,
     round: u32,
 }
 
-/// An open table of edges, used in rounds: what an earlier round left counts as empty.
+/// An open table of edges, used in rounds: what an earlier round left counts as empty. Contracts see what each place has of
+/// this round.
 #[derive(Drop)]
 pub(crate) struct EdgeTable {
     met: Vec<Met>,
+    // From 1.
     round: u32,
+}
+
+impl Model for EdgeTable {
+    ghost use Rattle.mesh_arena.specs.Edges.{Meetings, meetings_in, IsUpTo};
+
+    ghost Value = { Meetings };
+
+    ghost view = { λ t. meetings_in t.met.items t.round };
+
+    ghost invariant = { λ t. IsUpTo t.met.items t.round };
 }
 
 // How many places an edge may have.
@@ -47,28 +71,52 @@ impl EdgeTable {
     pub(crate) fn new(alloc: Global) -> Self {
         EdgeTable {
             met: Vec::new(alloc),
-            round: 0,
+            round: 1,
         }
     }
 
-    /// Begins a round for this many edges. Where there is no memory for them the table stays as large as it is.
-    pub(crate) fn start(&mut self, edges: usize) {
-        self.round = self.round.wrapping_add(1);
-        let Some(len) = edges.saturating_mul(2).checked_next_power_of_two() else {
-            return;
-        };
+    // Leaves all that was met to an earlier round.
+    fn next_round(&mut self)
+        ensures { IsUnmet self.new }
+    {
+        if self.round == u32::MAX {
+            self.met.clear();
+            self.round = 1;
+        } else {
+            self.round += 1;
+        }
+    }
+
+    // Makes the table this long, if it is shorter and there is memory.
+    fn grow(&mut self, len: usize)
+        requires { IsUnmet self.old }
+        ensures { IsUnmet self.new }
+    {
         if self.met.len() < len {
             let none = Met {
                 edge: Edge { low: 0, high: 0 },
-                at: StarFace { rim: 0, face: 0 },
-                round: self.round.wrapping_sub(1),
+                at: Side { slot: 0, face: 0 },
+                round: 0,
             };
             let _ = self.met.resize(len, none);
         }
     }
 
-    /// The face that this edge was met at before in this round. Where there is none, the edge is met at `at` from now on.
-    pub(crate) fn meet(&mut self, edge: Edge, at: StarFace) -> Option<StarFace> {
+    /// Begins a round for this many edges. Where there is no memory for them the table stays as large as it is.
+    pub(crate) fn start(&mut self, edges: usize)
+        ensures { IsUnmet self.new }
+    {
+        self.next_round();
+        if let Some(len) = edges.saturating_mul(2).checked_next_power_of_two() {
+            self.grow(len);
+        }
+    }
+
+    /// The face that this edge was met at before in this round. Where there is none, the edge is met at `face` from now on, if a place is free for it.
+    pub(crate) fn meet(&mut self, edge: Edge, face: Side) -> Option<Side>
+        ensures found { IfSome result (λ s. IsMet self.old edge s) }
+        ensures only { MeetsOnly self.old self.new edge face }
+    {
         let len = self.met.len();
         if len == 0 {
             return None;
@@ -83,7 +131,7 @@ impl EdgeTable {
             if met.round != self.round {
                 self.met[place] = Met {
                     edge,
-                    at,
+                    at: face,
                     round: self.round,
                 };
                 return None;
@@ -96,8 +144,8 @@ impl EdgeTable {
     }
 }
 
-// Fibonacci hashing of the two corners.
+// Fibonacci hashing of the two ends.
 fn hash(edge: Edge) -> usize {
-    let both = u64::from(edge.low) << 32 | u64::from(edge.high);
+    let both = edge.low.rotate_left(32) ^ edge.high;
     (both.wrapping_mul(0x9e37_79b9_7f4a_7c15) >> 32) as usize
 }

@@ -1,9 +1,8 @@
 //! Corners and slots, and the lists of them that surgery takes.
-ghost use Rattle.std.specs.Prelude.{◌≡◌, ◌<◌, ◌↔◌, IsTrue, slice_set};
+ghost use Rattle.std.specs.Prelude.{◌≡◌, ◌<◌, ◌↔◌, IsTrue, slice_set, slice_index_or};
 ghost use Rattle.mesh_arena.specs.Mesh.{corner_list};
-ghost use Rattle.mesh_arena.specs.StarLinks.{CornerValue, Has};
+ghost use Rattle.mesh_arena.specs.StarLinks.{CornerValue, Has, Places};
 
-use crate::edges::Edge;
 use tet_ports::Items;
 
 /// A corner of a slot: a point by its number, or the point at infinity, which makes the slot a hull ghost.
@@ -79,44 +78,25 @@ pub(crate) fn with_corner(corners: SlotCorners, place: u8, to: Corner) -> SlotCo
     SlotCorners { a, b, c, d }
 }
 
-// The number of a corner, or the greatest number for the point at infinity.
-fn corner_number(corner: Corner) -> u32 {
-    match corner {
-        Corner::Point(i) => i,
-        Corner::Ghost => u32::MAX,
-    }
+// The corner in this place.
+pub(crate) fn corner_at(corners: SlotCorners, place: u8) -> Corner
+    requires { place < 4 }
+    ensures { result ≡ slice_index_or (corner_list corners) place Corner.Ghost }
+{
+    let SlotCorners { a, b, c, d } = corners;
+    let all = [a, b, c, d];
+    all[place as usize]
 }
 
-// The edges of the face opposite the corner in the place `apex`: in each other place the edge that lacks the corner there.
-pub(crate) fn edges_of_face(corners: SlotCorners, apex: u8) -> [Option<Edge>; 4] {
-    let a = corner_number(corners.a);
-    let b = corner_number(corners.b);
-    let c = corner_number(corners.c);
-    let d = corner_number(corners.d);
-    match apex {
-        0 => [
-            None,
-            Some(Edge::new(c, d)),
-            Some(Edge::new(b, d)),
-            Some(Edge::new(b, c)),
-        ],
-        1 => [
-            Some(Edge::new(c, d)),
-            None,
-            Some(Edge::new(a, d)),
-            Some(Edge::new(a, c)),
-        ],
-        2 => [
-            Some(Edge::new(b, d)),
-            Some(Edge::new(a, d)),
-            None,
-            Some(Edge::new(a, b)),
-        ],
-        _ => [
-            Some(Edge::new(b, c)),
-            Some(Edge::new(a, c)),
-            Some(Edge::new(a, b)),
-            None,
-        ],
+// The three other places.
+pub(crate) fn other_places(place: u8) -> (u8, u8, u8)
+    requires { place < 4 }
+    ensures { Places place result.0 result.1 result.2 }
+{
+    match place {
+        0 => (1, 2, 3),
+        1 => (0, 2, 3),
+        2 => (0, 1, 3),
+        _ => (0, 1, 2),
     }
 }

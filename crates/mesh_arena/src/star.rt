@@ -7,11 +7,12 @@ ghost use Rattle.mesh_arena.specs.Surgery.{Plans};
 use crate::slot::with_corner;
 use crate::{Arena, Corner, RimFace, Slot, SlotCorners};
 
-// A slot that is to stand over a face: its corners, and its own face there.
+// A slot that is to stand over a face: its corners, its own face there, and its place once it is made.
 #[derive(Clone, Copy)]
 pub(crate) struct StarSlot {
     pub(crate) corners: SlotCorners,
     pub(crate) face: u8,
+    pub(crate) slot: u32,
 }
 
 impl Arena {
@@ -27,6 +28,7 @@ impl Arena {
         StarSlot {
             corners: with_corner(old, inner.face, Corner::Point(point)),
             face: inner.face,
+            slot: 0,
         }
     }
 

@@ -2,14 +2,14 @@
 ghost use Rattle.std.specs.Prelude.{◌≡◌, ◌≢◌, ℕ, ◌+◌, ◌<◌, ◌≤◌, ◌↔◌, length, Some, None, IsSome, IsOk, IfOk, OnErr, MatchOption, IsTrue};
 ghost use Rattle.mesh_arena.specs.Mesh.{IsLive, corner_list, side, SameFace, IsMesh, AllDiffer};
 ghost use Rattle.mesh_arena.specs.Star.{behind_rim};
-ghost use Rattle.mesh_arena.specs.Surgery.{CanOpen, Opens, FitsFace, AddsOver, CanAdd, AddsStar};
+ghost use Rattle.mesh_arena.specs.Surgery.{CanOpen, Opens, FitsFace, AddsOver, CanAdd, AddsStar, StandsOver, AreOverRim};
 ghost use Rattle.mesh_arena.specs.Replace.{IsCavity, IsRim, IsOffRim, Replaces};
 ghost use Rattle.mesh_arena.specs.Cavity.{UnlinksAll, CanFree, FreesCavity};
-ghost use Rattle.mesh_arena.specs.StarLinks.{IsStar, ArePaired, Mate, LinksFace, LinksStar};
+ghost use Rattle.mesh_arena.specs.StarLinks.{IsStar, ArePaired, Mate, LinksFace, LinksStar, IsOverEdge, AreOverEdges};
 
 use crate::arena::{Arena, Side};
-use crate::edges::{Edge, StarFace};
-use crate::slot::edges_of_face;
+use crate::edges::{Edge, EdgeTable};
+use crate::slot::{corner_at, other_places};
 use crate::star::StarSlot;
 use crate::{Cavity, Corner, Rim, RimFace, Slot};
 use tet_ports::NoMemory;
@@ -30,30 +30,34 @@ impl Arena {
     }
 
     // Puts a new slot behind a face that has no neighbor and fits it.
-    fn add_over(&mut self, outer: RimFace, slot: StarSlot)
+    fn add_over(&mut self, outer: RimFace, slot: StarSlot) -> u32
         requires live { IsLive self.old.slots outer.slot.index }
         requires faces { (outer.face < 4) × (slot.face < 4) }
         requires free { side self.old.slots outer.slot.index outer.face ≡ None }
         requires differ { AllDiffer (corner_list slot.corners) }
         requires fits { FitsFace self.old.slots outer.slot.index outer.face (corner_list slot.corners) slot.face }
         requires room { 0 < self.old.room }
-        ensures adds { (made : ℕ) × AddsOver self.old.slots self.new.slots outer.slot.index outer.face made (corner_list slot.corners) slot.face }
+        ensures adds { AddsOver self.old.slots self.new.slots outer.slot.index outer.face result (corner_list slot.corners) slot.face }
         ensures room { self.new.room + 1 ≡ self.old.room }
     {
         let made = self.take_slot(slot.corners);
         self.link(outer.slot, outer.face, Slot { index: made }, slot.face);
+        made
     }
 
-    // Puts a slot over each face of the rim.
-    fn add_star(&mut self, rim: &[RimFace], star: &[StarSlot])
-        requires rim { CanAdd self.old.slots rim.now star.now }
-        requires star { length star.now ≡ length rim.now }
+    // Puts a slot over each face of the rim, and notes its place.
+    fn add_star(&mut self, rim: &[RimFace], star: &mut Vec<StarSlot>)
+        requires rim { CanAdd self.old.slots rim.now star.old.items }
+        requires star { length star.old.items ≡ length rim.now }
         requires room { length rim.now ≤ self.old.room }
         ensures mesh { IsMesh self.new.slots }
-        ensures adds_star { AddsStar self.old.slots self.new.slots rim.now star.now (length rim.now) }
+        ensures adds_star { AddsStar self.old.slots self.new.slots rim.now star.old.items (length rim.now) }
+        ensures over { AreOverRim self.new.slots rim.now star.new.items }
+        ensures len { length star.new.items ≡ length rim.now }
     {
         for r in 0..rim.len() {
-            self.add_over(rim[r], star[r]);
+            let made = self.add_over(rim[r], star[r]);
+            star[r].slot = made;
         }
         let _ = &self.cells;
     }
@@ -144,83 +148,122 @@ impl Arena {
         }
     }
 
-    // Links two faces of the star, if they have the same corners and no neighbor yet.
-    fn link_mates(&mut self, rim: &[RimFace], point: u32, one: StarFace, two: StarFace)
+    // Links two faces of the star over the same edge, if they have no neighbor yet.
+    fn link_mates(&mut self, rim: &[RimFace], point: u32, edge: Edge, one: Side, two: Side)
         requires star { IsStar self.old.slots rim.now (Corner.Point point) }
-        requires first { (one.rim < length rim.now) × (one.face < 4) }
-        requires second { (two.rim < length rim.now) × (two.face < 4) }
-        requires differ { two.rim ≢ one.rim }
+        requires first { IsOverEdge self.old.slots rim.now (Corner.Point point) edge one }
+        requires second { IsOverEdge self.old.slots rim.now (Corner.Point point) edge two }
         ensures { LinksStar self.old.slots self.new.slots rim.now (Corner.Point point) 0 }
     {
         let _ = &self.cells;
-        let s = self.over(rim[one.rim]).slot;
-        let t = self.over(rim[two.rim]).slot;
-        let None = self.side(s, one.face) else {
-            return;
-        };
-        let None = self.side(t, two.face) else {
-            return;
-        };
-        let s = Slot { index: s };
-        let t = Slot { index: t };
-        if self.same_face(s, one.face, t, two.face) {
+        let s = Slot { index: one.slot };
+        let t = Slot { index: two.slot };
+        if one.slot != two.slot
+            && self.side(one.slot, one.face).is_none()
+            && self.side(two.slot, two.face).is_none()
+        {
             self.link(s, one.face, t, two.face);
         }
     }
 
-    // The edges of a face of the rim, in the places of the star's slot over it.
-    fn rim_edges(&self, face: RimFace) -> [Option<Edge>; 4]
-        requires { IsSome (side self.now.slots face.slot.index face.face) }
-    {
-        let over = self.over(face);
-        let slot = Slot { index: over.slot };
-        edges_of_face(self.tet(slot), over.face)
-    }
-
-    // The face of the star that was met at this edge, if there was one. Else the edge is met at `at` from now on.
-    fn meet_edge(&mut self, edge: Edge, at: StarFace) -> Option<StarFace>
-        ensures { self.new ≡ self.old }
-    {
-        self.edges.meet(edge, at)
-    }
-
     // Links a face of the star with the one that was met at the same edge.
-    fn link_at_edge(&mut self, rim: &[RimFace], point: u32, at: StarFace, edge: Edge)
+    fn link_at_edge(
+        &mut self,
+        rim: &[RimFace],
+        point: u32,
+        edge: Edge,
+        face: Side,
+        table: &mut EdgeTable,
+    )
         requires star { IsStar self.old.slots rim.now (Corner.Point point) }
-        requires at { (at.rim < length rim.now) × (at.face < 4) }
-        ensures { LinksStar self.old.slots self.new.slots rim.now (Corner.Point point) 0 }
+        requires over { IsOverEdge self.old.slots rim.now (Corner.Point point) edge face }
+        requires met { AreOverEdges self.old.slots rim.now (Corner.Point point) table.old }
+        ensures links { LinksStar self.old.slots self.new.slots rim.now (Corner.Point point) 0 }
+        ensures met { AreOverEdges self.new.slots rim.now (Corner.Point point) table.new }
+    {
+        if let Some(other) = table.meet(edge, face) {
+            self.link_mates(rim, point, edge, face, other);
+        }
+    }
+
+    // Links the faces of a slot of the star that find one another by their edges on the rim.
+    fn link_slot(
+        &mut self,
+        rim: &[RimFace],
+        point: u32,
+        r: usize,
+        one: StarSlot,
+        table: &mut EdgeTable,
+    )
+        requires star { IsStar self.old.slots rim.now (Corner.Point point) }
+        requires inside { r < length rim.now }
+        requires over { StandsOver self.old.slots rim.now r one }
+        requires met { AreOverEdges self.old.slots rim.now (Corner.Point point) table.old }
+        ensures links { LinksStar self.old.slots self.new.slots rim.now (Corner.Point point) 0 }
+        ensures met { AreOverEdges self.new.slots rim.now (Corner.Point point) table.new }
     {
         let _ = &self.cells;
-        if let Some(two) = self.meet_edge(edge, at) {
-            if two.rim < rim.len() && two.rim != at.rim && two.face < 4 {
-                self.link_mates(rim, point, at, two);
-            }
-        }
+        let (i, j, k) = other_places(one.face);
+        let x = corner_at(one.corners, i);
+        let y = corner_at(one.corners, j);
+        let z = corner_at(one.corners, k);
+        let slot = one.slot;
+        self.link_at_edge(
+            rim,
+            point,
+            Edge::between(y, z),
+            Side { slot, face: i },
+            table,
+        );
+        self.link_at_edge(
+            rim,
+            point,
+            Edge::between(x, z),
+            Side { slot, face: j },
+            table,
+        );
+        self.link_at_edge(
+            rim,
+            point,
+            Edge::between(x, y),
+            Side { slot, face: k },
+            table,
+        );
     }
 
     // Links the faces of the star that find one another by their edges on the rim, in time linear in the rim.
-    fn link_edges(&mut self, rim: &[RimFace], point: u32)
+    fn link_edges(&mut self, rim: &[RimFace], point: u32, star: &[StarSlot], table: &mut EdgeTable)
         requires star { IsStar self.old.slots rim.now (Corner.Point point) }
+        requires over { AreOverRim self.old.slots rim.now star.now }
+        requires len { length star.now ≡ length rim.now }
         ensures { LinksStar self.old.slots self.new.slots rim.now (Corner.Point point) 0 }
     {
-        self.edges.start(rim.len().saturating_mul(2));
+        table.start(rim.len().saturating_mul(2));
         for r in 0..rim.len() {
-            let edges = self.rim_edges(rim[r]);
-            for face in 0..4u8 {
-                if let Some(edge) = edges[face as usize] {
-                    self.link_at_edge(rim, point, StarFace { rim: r, face }, edge);
-                }
-            }
+            self.link_slot(rim, point, r, star[r], table);
         }
     }
 
+    // Whether each face has a neighbor.
+    fn is_linked(&self, s: u32) -> bool
+        requires { IsLive self.now.slots s }
+        ensures { IsTrue result → (k : ℕ) → k < 4 → IsSome (side self.now.slots s k) }
+    {
+        self.cells[s as usize].is_linked()
+    }
+
     // Links the faces of the star that have no neighbor yet.
-    fn link_rest(&mut self, rim: &[RimFace], point: u32)
+    fn link_rest(&mut self, rim: &[RimFace], point: u32, star: &[StarSlot])
         requires star { IsStar self.old.slots rim.now (Corner.Point point) }
         requires pairs { ArePaired self.old.slots rim.now }
+        requires over { AreOverRim self.old.slots rim.now star.now }
+        requires len { length star.now ≡ length rim.now }
         ensures links_star { LinksStar self.old.slots self.new.slots rim.now (Corner.Point point) (length rim.now) }
     {
         for r in 0..rim.len() {
+            if self.is_linked(star[r].slot) {
+                continue;
+            }
             for k in 0..4u8 {
                 self.link_star_face(rim, point, r, k);
             }
@@ -228,13 +271,17 @@ impl Arena {
     }
 
     // Links the slots of the star with one another.
-    fn link_star(&mut self, rim: &[RimFace], point: u32)
+    fn link_star(&mut self, rim: &[RimFace], point: u32, star: &[StarSlot])
         requires star { IsStar self.old.slots rim.now (Corner.Point point) }
         requires pairs { ArePaired self.old.slots rim.now }
+        requires over { AreOverRim self.old.slots rim.now star.now }
+        requires len { length star.now ≡ length rim.now }
         ensures links_star { LinksStar self.old.slots self.new.slots rim.now (Corner.Point point) (length rim.now) }
     {
-        self.link_edges(rim, point);
-        self.link_rest(rim, point);
+        let mut table = self.lend_edges();
+        self.link_edges(rim, point, star, &mut table);
+        self.keep_edges(table);
+        self.link_rest(rim, point, star);
     }
 
     // Takes away each side of a live slot, and what leads to it.
@@ -296,8 +343,8 @@ impl Arena {
         self.plan_star(faces, point, &mut star);
         self.open_rim(faces);
         self.free_cavity(cavity.as_slice());
-        self.add_star(faces, star.as_slice());
-        self.link_star(faces, point);
+        self.add_star(faces, &mut star);
+        self.link_star(faces, point, star.as_slice());
         self.keep_star(star);
         let one = self.over(faces[0]);
         Ok(Slot { index: one.slot })

@@ -1,9 +1,10 @@
 use Rattle.mesh_arena.specs.declared.slot.Corner.TheVariants.{Point}
-use Rattle.mesh_arena.specs.StarLinks.{LinksStar}
+use Rattle.mesh_arena.specs.StarLinks.{LinksStar, AreOverEdges}
 use Rattle.mesh_arena.proofs.arena.Arena.link_edges.Given as goal
 
 abbrev pub invariant-loop-r : goal.invariant-loop-r
-invariant-loop-r l = LinksStar l.fn.self.slots l.self.slots l.rim (Point l.point) 0
-
-abbrev pub invariant-loop-face : goal.invariant-loop-face
-invariant-loop-face l = LinksStar l.fn.self.slots l.self.slots l.rim (Point l.point) 0
+invariant-loop-r l =
+    record {
+      links : LinksStar l.fn.self.slots l.self.slots l.rim (Point l.point) 0;
+      met : AreOverEdges l.self.slots l.rim (Point l.point) l.table;
+    }

@@ -1,14 +1,15 @@
-use Rattle.std.proofs.Common.{sym, ap}
-use Rattle.mesh_arena.specs.declared.arena.Side.{Side}
+use Rattle.std.proofs.Common.{rules}
 use Rattle.mesh_arena.specs.declared.slot.Corner.TheVariants.{Point}
 use Rattle.mesh_arena.specs.Mesh.{IsMesh}
-use Rattle.mesh_arena.specs.Star.{behind}
-use Rattle.mesh_arena.proofs.Pairs.{LinksStar-mates}
+use Rattle.mesh_arena.proofs.StarEdges.{over_same, LinksStar-over}
 use Rattle.mesh_arena.proofs.arena.Arena.link_mates.Goals as goal
 
-pub returns-then-same_face : goal.returns-then-same_face
-returns-then-same_face c =
+pub link-requires-clause-same : goal.link-requires-clause-same
+link-requires-clause-same c =
     let mesh : IsMesh c.args.self.now.slots = rw (← c.self.view_is) c.self.invariant.sound.mesh in
-    let one = sym (ap (λ (b : Side). b.slot) (ap behind c.over-s.ensures.value)) in
-    let two = sym (ap (λ (b : Side). b.slot) (ap behind c.over-t.ensures.value)) in
-    LinksStar-mates _ c.link.new.self.slots c.args.rim.now (Point c.args.point) c.args.one.rim c.args.one.face c.args.two.rim c.args.two.face c.over-s.result.slot c.over-t.result.slot mesh c.requires.star c.requires.first.0 c.requires.second.0 c.requires.differ c.requires.second.1 one two (sym c.in-None-side.ensures) (c.same_face.ensures.0 c.if-same_face.true) c.link.ensures.links
+    over_same c.args.self.now.slots c.args.rim.now (Point c.args.point) mesh c.requires.star c.args.edge c.args.one c.args.two c.requires.first c.requires.second
+
+pub returns-then-is_none-2 : goal.returns-then-is_none-2
+returns-then-is_none-2 c =
+    let mesh : IsMesh c.args.self.now.slots = rw (← c.self.view_is) c.self.invariant.sound.mesh in
+    LinksStar-over c.args.self.now.slots c.args.rim.now (Point c.args.point) mesh c.requires.star c.link.new.self.slots c.args.edge c.args.one c.args.two c.requires.first c.requires.second c.if-one-two.true (search rules) c.link.ensures.links

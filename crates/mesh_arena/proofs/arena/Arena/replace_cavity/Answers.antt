@@ -21,7 +21,7 @@ add_star-requires-clause-rim c =
     let opens : Opens c.args.self.now.slots c.open_rim.new.self.slots c.args.rim.now (length c.args.rim.now) = rw (c.lend_star-star.ensures.slots, before.slots, c.as_slice-faces.ensures) at c.open_rim.ensures.opens in
     let frees_cavity : FreesCavity c.open_rim.new.self.slots c.free_cavity.new.self.slots c.args.cavity.now (length c.args.cavity.now) = rw c.as_slice.ensures at c.free_cavity.ensures.frees_cavity in
     let plans : Plans c.args.self.now.slots c.args.rim.now (Point c.args.point) c.plan_star.new.star.items (length c.args.rim.now) = rw (c.lend_star-star.ensures.slots, before.slots, c.as_slice-faces.ensures) at c.plan_star.ensures.plans in
-    rw (c.as_slice-faces.ensures, c.as_slice-2.ensures.value) (CanAdd-freed _ c.args.cavity.now _ _ mesh c.requires.cavity c.requires.rim c.requires.pairs c.requires.point _ opens _ frees_cavity _ plans)
+    rw c.as_slice-faces.ensures (CanAdd-freed _ c.args.cavity.now _ _ mesh c.requires.cavity c.requires.rim c.requires.pairs c.requires.point _ opens _ frees_cavity _ plans)
 
 pub link_star-requires-clause-star : goal.link_star-requires-clause-star
 link_star-requires-clause-star c =
@@ -30,7 +30,7 @@ link_star-requires-clause-star c =
     let opens : Opens c.args.self.now.slots c.open_rim.new.self.slots c.args.rim.now (length c.args.rim.now) = rw (c.lend_star-star.ensures.slots, before.slots, c.as_slice-faces.ensures) at c.open_rim.ensures.opens in
     let frees_cavity : FreesCavity c.open_rim.new.self.slots c.free_cavity.new.self.slots c.args.cavity.now (length c.args.cavity.now) = rw c.as_slice.ensures at c.free_cavity.ensures.frees_cavity in
     let plans : Plans c.args.self.now.slots c.args.rim.now (Point c.args.point) c.plan_star.new.star.items (length c.args.rim.now) = rw (c.lend_star-star.ensures.slots, before.slots, c.as_slice-faces.ensures) at c.plan_star.ensures.plans in
-    let adds_star : AddsStar c.free_cavity.new.self.slots c.add_star.new.self.slots c.args.rim.now c.plan_star.new.star.items (length c.args.rim.now) = rw (c.as_slice-faces.ensures, c.as_slice-2.ensures.value) at c.add_star.ensures.adds_star in
+    let adds_star : AddsStar c.free_cavity.new.self.slots c.add_star.new.self.slots c.args.rim.now c.plan_star.new.star.items (length c.args.rim.now) = rw c.as_slice-faces.ensures at c.add_star.ensures.adds_star in
     rw c.as_slice-faces.ensures (IsStar-added _ c.args.cavity.now _ _ mesh c.requires.cavity c.requires.rim c.requires.pairs c.requires.point _ opens _ frees_cavity _ plans _ adds_star)
 
 pub link_star-requires-clause-pairs : goal.link_star-requires-clause-pairs
@@ -40,7 +40,7 @@ link_star-requires-clause-pairs c =
     let opens : Opens c.args.self.now.slots c.open_rim.new.self.slots c.args.rim.now (length c.args.rim.now) = rw (c.lend_star-star.ensures.slots, before.slots, c.as_slice-faces.ensures) at c.open_rim.ensures.opens in
     let frees_cavity : FreesCavity c.open_rim.new.self.slots c.free_cavity.new.self.slots c.args.cavity.now (length c.args.cavity.now) = rw c.as_slice.ensures at c.free_cavity.ensures.frees_cavity in
     let plans : Plans c.args.self.now.slots c.args.rim.now (Point c.args.point) c.plan_star.new.star.items (length c.args.rim.now) = rw (c.lend_star-star.ensures.slots, before.slots, c.as_slice-faces.ensures) at c.plan_star.ensures.plans in
-    let adds_star : AddsStar c.free_cavity.new.self.slots c.add_star.new.self.slots c.args.rim.now c.plan_star.new.star.items (length c.args.rim.now) = rw (c.as_slice-faces.ensures, c.as_slice-2.ensures.value) at c.add_star.ensures.adds_star in
+    let adds_star : AddsStar c.free_cavity.new.self.slots c.add_star.new.self.slots c.args.rim.now c.plan_star.new.star.items (length c.args.rim.now) = rw c.as_slice-faces.ensures at c.add_star.ensures.adds_star in
     rw c.as_slice-faces.ensures (ArePaired-added _ c.args.cavity.now _ _ mesh c.requires.cavity c.requires.rim c.requires.pairs c.requires.point _ opens _ frees_cavity _ plans _ adds_star)
 
 pub over-one-requires : goal.over-one-requires
@@ -50,7 +50,7 @@ over-one-requires c =
     let opens : Opens c.args.self.now.slots c.open_rim.new.self.slots c.args.rim.now (length c.args.rim.now) = rw (c.lend_star-star.ensures.slots, before.slots, c.as_slice-faces.ensures) at c.open_rim.ensures.opens in
     let frees_cavity : FreesCavity c.open_rim.new.self.slots c.free_cavity.new.self.slots c.args.cavity.now (length c.args.cavity.now) = rw c.as_slice.ensures at c.free_cavity.ensures.frees_cavity in
     let plans : Plans c.args.self.now.slots c.args.rim.now (Point c.args.point) c.plan_star.new.star.items (length c.args.rim.now) = rw (c.lend_star-star.ensures.slots, before.slots, c.as_slice-faces.ensures) at c.plan_star.ensures.plans in
-    let adds_star : AddsStar c.free_cavity.new.self.slots c.add_star.new.self.slots c.args.rim.now c.plan_star.new.star.items (length c.args.rim.now) = rw (c.as_slice-faces.ensures, c.as_slice-2.ensures.value) at c.add_star.ensures.adds_star in
+    let adds_star : AddsStar c.free_cavity.new.self.slots c.add_star.new.self.slots c.args.rim.now c.plan_star.new.star.items (length c.args.rim.now) = rw c.as_slice-faces.ensures at c.add_star.ensures.adds_star in
     let links_star : LinksStar c.add_star.new.self.slots c.link_star.new.self.slots c.args.rim.now (Point c.args.point) (length c.args.rim.now) = rw c.as_slice-faces.ensures at c.link_star.ensures.links_star in
     rw (c.keep_star.ensures.slots, c.as_slice-faces.ensures) (rim_some _ c.args.cavity.now _ _ mesh c.requires.cavity c.requires.rim c.requires.pairs c.requires.point _ opens _ frees_cavity _ plans _ adds_star _ links_star 0 c.requires.rim.some)
 
@@ -61,6 +61,6 @@ returns-clause-ok c =
     let opens : Opens c.args.self.now.slots c.open_rim.new.self.slots c.args.rim.now (length c.args.rim.now) = rw (c.lend_star-star.ensures.slots, before.slots, c.as_slice-faces.ensures) at c.open_rim.ensures.opens in
     let frees_cavity : FreesCavity c.open_rim.new.self.slots c.free_cavity.new.self.slots c.args.cavity.now (length c.args.cavity.now) = rw c.as_slice.ensures at c.free_cavity.ensures.frees_cavity in
     let plans : Plans c.args.self.now.slots c.args.rim.now (Point c.args.point) c.plan_star.new.star.items (length c.args.rim.now) = rw (c.lend_star-star.ensures.slots, before.slots, c.as_slice-faces.ensures) at c.plan_star.ensures.plans in
-    let adds_star : AddsStar c.free_cavity.new.self.slots c.add_star.new.self.slots c.args.rim.now c.plan_star.new.star.items (length c.args.rim.now) = rw (c.as_slice-faces.ensures, c.as_slice-2.ensures.value) at c.add_star.ensures.adds_star in
+    let adds_star : AddsStar c.free_cavity.new.self.slots c.add_star.new.self.slots c.args.rim.now c.plan_star.new.star.items (length c.args.rim.now) = rw c.as_slice-faces.ensures at c.add_star.ensures.adds_star in
     let links_star : LinksStar c.add_star.new.self.slots c.link_star.new.self.slots c.args.rim.now (Point c.args.point) (length c.args.rim.now) = rw c.as_slice-faces.ensures at c.link_star.ensures.links_star in
     rw c.keep_star.ensures.slots (Replaces-done _ c.args.cavity.now _ _ mesh c.requires.cavity c.requires.rim c.requires.pairs c.requires.point _ opens _ frees_cavity _ plans _ adds_star _ links_star c.over-one.result.slot c.over-one.result (rw (c.keep_star.ensures.slots, c.as_slice-faces.ensures) at c.over-one.ensures.value) refl)
