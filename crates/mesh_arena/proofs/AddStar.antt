@@ -1,22 +1,14 @@
--- How the rim is parted from the cavity face by face, and how one more slot extends the star.
+-- How one more slot extends the star.
 use Rattle.std.proofs.Common.{◌≡◌, ◌≢◌, ◌⊎◌, ℕ, ◌+◌, ◌<◌, List, length, Option, Some, None, IsSome, option_map, refl, sym, ap, subst, ◌∙◌, inl, inr, arith}
 use Rattle.std.proofs.lemmas.Bool.{cases_eq, cases_lt}
 use Rattle.mesh_arena.specs.declared.slot.Corner.{Corner}
 use Rattle.mesh_arena.specs.declared.arena.Side.{Side}
 use Rattle.mesh_arena.specs.declared.slot.RimFace.{RimFace}
-use Rattle.mesh_arena.specs.Mesh.{Tet, tet_at, corners_at, corner_in, IsLive, side_in, side, at, Off, Unlinks}
+use Rattle.mesh_arena.specs.Mesh.{Tet, tet_at, corners_at, corner_in, IsLive, side_in, side, at, Off}
 use Rattle.mesh_arena.specs.Star.{behind, rim_at, face_side, behind_rim}
 use Rattle.mesh_arena.specs.declared.star.StarSlot.{StarSlot}
-use Rattle.mesh_arena.specs.Surgery.{star_at, star_corners, CanOpen, Opens, FitsFace, AddsOver, CanAdd, IsOver, AddsStar}
+use Rattle.mesh_arena.specs.Surgery.{star_at, star_corners, FitsFace, AddsOver, CanAdd, IsOver, AddsStar}
 use Rattle.mesh_arena.proofs.Mesh.{none_live, same_or_off}
-
--- a free slot has no side
-pub free_bare : (slots : List (Option Tet)) (u k : ℕ) → corners_at slots u ≡ None → side slots u k ≡ None
-free_bare slots u k free = by_tet (tet_at slots u) free
-  where
-    by_tet : (o : Option Tet) → option_map (λ (t : Tet). t.corners) o ≡ None → side_in o k ≡ None
-    by_tet None e = refl
-    by_tet (Some t) e = absurd (cc)
 
 -- a slot that is not live is free
 pub free_from_dead : (o : Option (List Corner)) → (IsSome o → ⊥) → o ≡ None
@@ -51,59 +43,7 @@ Off-faces rim r q once hr hq differ =
       | inl is ↦ absurd (differ (once r q hr hq is.0 is.1))
     ]
 
-pub Opens-none : (slots : List (Option Tet)) (rim : List RimFace) → Opens slots slots rim 0
-Opens-none slots rim = record { corners = λ u. refl; outer = λ r h. absurd (omega arith); inner = λ r h. absurd (omega arith); others = λ u k a b. refl }
-
-module _ (first now : List (Option Tet)) (rim : List RimFace) (n : ℕ) (can : CanOpen first rim) (lt : n < length rim) (was : Opens first now rim n) where
-  -- a face of the rim that was not come to
-  pub waiting_open : face_side now (rim_at rim n) ≡ face_side first (rim_at rim n)
-  waiting_open =
-      was.others _ _
-      (λ r h. Off-faces rim n r can.once lt (omega arith) (λ e. omega arith))
-      (λ r h. inl (λ e. can.inward r n (omega arith) lt (sym e)))
-
-  module _ (next : List (Option Tet)) (two : Side) (is : face_side now (rim_at rim n) ≡ Some two) (raw : Unlinks now next (rim_at rim n).slot.index (rim_at rim n).face two.slot two.face) where
-    same_inner : two ≡ behind_rim first rim n
-    same_inner = ap behind (sym is ∙ waiting_open)
-
-    unlinks : Unlinks now next (rim_at rim n).slot.index (rim_at rim n).face (behind_rim first rim n).slot (behind_rim first rim n).face
-    unlinks = subst (λ (b : Side). Unlinks now next (rim_at rim n).slot.index (rim_at rim n).face b.slot b.face) same_inner raw
-
-    outer_open : (r : ℕ) → (r < n) ⊎ (r ≡ n) → face_side next (rim_at rim r) ≡ None
-    outer_open r (inr same) = rw same unlinks.first
-    outer_open r (inl less) =
-        unlinks.others _ _
-        (Off-faces rim r n can.once (omega arith) lt (λ e. omega arith))
-        (inl (λ e. can.inward n r lt (omega arith) (sym e)))
-        ∙ was.outer r less
-
-    inner_open : (r : ℕ) → (r < n) ⊎ (r ≡ n) → side next (behind_rim first rim r).slot (behind_rim first rim r).face ≡ None
-    inner_open r (inr same) = rw same unlinks.second
-    inner_open r (inl less) =
-        elim (same_or_off (behind_rim first rim r).slot (behind_rim first rim r).face (behind_rim first rim n).slot (behind_rim first rim n).face) [
-          | inl both ↦ rw (both.0, both.1) unlinks.second
-          | inr off ↦ unlinks.others _ _ (inl (can.inward r n (omega arith) lt)) off ∙ was.inner r less
-        ]
-
-    pub Opens-step : Opens first next rim (n + 1)
-    Opens-step =
-        record {
-          corners = λ u. unlinks.corners u ∙ was.corners u;
-          outer = λ r h. outer_open r (step_cases r n h);
-          inner = λ r h. inner_open r (step_cases r n h);
-          others = λ u k off_rim off_inner.
-              unlinks.others u k (off_rim n (omega arith)) (off_inner n (omega arith))
-              ∙ was.others u k (λ r h. off_rim r (omega arith)) (λ r h. off_inner r (omega arith));
-        }
-
 module _ (first now : List (Option Tet)) (rim : List RimFace) (star : List StarSlot) (n : ℕ) (can : CanAdd first rim star) (lt : n < length rim) (was : AddsStar first now rim star n) where
-  pub waiting_live : IsLive now (rim_at rim n).slot.index
-  waiting_live = live_along first now _ (was.kept _ (can.live n lt)) (can.live n lt)
-
-  -- a face of the rim that was not come to
-  pub waiting_free : face_side now (rim_at rim n) ≡ None
-  waiting_free = was.sides _ _ (can.live n lt) (λ r h. Off-faces rim n r can.once lt (omega arith) (λ e. omega arith)) ∙ can.free n lt
-
   pub waiting_fits : FitsFace now (rim_at rim n).slot.index (rim_at rim n).face (star_corners star n) (star_at star n).face
   waiting_fits =
       let fits = can.fits n lt in
@@ -198,13 +138,3 @@ module _ (first now : List (Option Tet)) (rim : List RimFace) (star : List StarS
               adds.others u k (off_rim n (omega arith)) (not_made u live)
               ∙ was.sides u k live (λ r h. off_rim r (omega arith));
         }
-
-pub AddsStar-none : (slots : List (Option Tet)) (rim : List RimFace) (star : List StarSlot) → AddsStar slots slots rim star 0
-AddsStar-none slots rim star =
-    record {
-      over = λ r h. absurd (omega arith);
-      apart = λ r q h g e. absurd (omega arith);
-      kept = λ u live. refl;
-      live = λ u live. inl live;
-      sides = λ u k live a. refl;
-    }

@@ -4,10 +4,10 @@ use Rattle.std.proofs.lemmas.List.{map-set, map_push, length-map, length_push, g
 use Rattle.std.proofs.lemmas.List.Sums.{sum_by-set, sum_by_push, sum_by-cons}
 use Rattle.std.proofs.lemmas.Option.{slice_get_within, slice_get-get_or, get_or_from_slice_get}
 use Rattle.mesh_arena.specs.declared.cell.Cell.{Cell}
-use Rattle.mesh_arena.specs.Mesh.{Tet, tet_at, corners_at, side, at, SameFace, IsShaped, IsMesh, Links, Unlinks, Takes, Frees, AllDiffer, tet_with}
+use Rattle.mesh_arena.specs.Mesh.{Tet, tet_at, corners_at, side, at, SameFace, IsShaped, IsMesh, Links, Takes, AllDiffer, tet_with}
 use Rattle.mesh_arena.specs.declared.arena.Side.{Side}
 use Rattle.mesh_arena.specs.declared.slot.Corner.{Corner}
-use Rattle.mesh_arena.proofs.Mesh.{Writes, Writes-set, Links-writes, Unlinks-writes, IsMesh-links, IsMesh-unlinks, side_live, lone, Puts, Puts-set, Puts-push, Takes-puts, Frees-puts, IsMesh-takes, IsMesh-frees}
+use Rattle.mesh_arena.proofs.Mesh.{Writes, Writes-set, Links-writes, IsMesh-links, side_live, lone, Puts, Puts-set, Puts-push, Takes-puts, IsMesh-takes}
 use Rattle.mesh_arena.specs.Cells.{corners_in, sides_in, tet_in, tet_of, next_of, IsFreeList, most_cells, IsCounted, IsSound}
 
 -- the count of a cell
@@ -152,18 +152,21 @@ IsCounted-vacate cells live next at old new sound found was is links =
       linked = (new, written, is, subst (IsFreeList (set cells at new) sound.free) (sym links) rest);
     }
 
--- what a live place reads, from the list of slots and from the cells
-pub live_cell : (cells : List Cell) (s : ℕ) (d c : Cell) → IsSome (corners_at (map tet_of cells) s) → c ≡ get_or cells s d → (s < length cells) × (slice_get cells s ≡ Some c) × (c.live ≡ true) × (tet_at (map tet_of cells) s ≡ Some (tet_in c))
-live_cell cells s d c live read =
-    let inside : s < length (map tet_of cells) = within (map tet_of cells) s live in
-    let lt : s < length cells = omega (arith, length-map cells tet_of) in
-    let got : tet_at (map tet_of cells) s ≡ tet_of c = get_or-map tet_of cells s d None lt ∙ ap tet_of (sym read) in
-    let flag : c.live ≡ true = by_flag c.live refl got in
-    (lt, slice_get-get_or cells s d lt ∙ ap Some (sym read), flag, got ∙ tet_of-live c flag)
+-- a live place is one of the cells
+pub live_within : (cells : List Cell) (s : ℕ) → IsSome (corners_at (map tet_of cells) s) → s < length cells
+live_within cells s live = omega (arith, within (map tet_of cells) s live, length-map cells tet_of)
   where
     within : (slots : List (Option Tet)) (s : ℕ) → IsSome (corners_at slots s) → s < length slots
     within slots s live = grind (arith, get_or_past)
 
+-- what a live place reads, from the list of slots and from the cells
+pub live_cell : (cells : List Cell) (s : ℕ) (d c : Cell) → IsSome (corners_at (map tet_of cells) s) → c ≡ get_or cells s d → (s < length cells) × (slice_get cells s ≡ Some c) × (c.live ≡ true) × (tet_at (map tet_of cells) s ≡ Some (tet_in c))
+live_cell cells s d c live read =
+    let lt : s < length cells = live_within cells s live in
+    let got : tet_at (map tet_of cells) s ≡ tet_of c = get_or-map tet_of cells s d None lt ∙ ap tet_of (sym read) in
+    let flag : c.live ≡ true = by_flag c.live refl got in
+    (lt, slice_get-get_or cells s d lt ∙ ap Some (sym read), flag, got ∙ tet_of-live c flag)
+  where
     by_flag : (b : Bool) → c.live ≡ b → tet_at (map tet_of cells) s ≡ tet_of c → c.live ≡ true
     by_flag true e got = e
     by_flag false e got =
@@ -175,6 +178,15 @@ pub record Resided (c new : Cell) (i : ℕ) (b : Option Side) : Type 0 where
   pub tet : tet_in new ≡ tet_with (tet_in c) i b
   pub live : new.live ≡ c.live
 
+-- a side of a cell is rewritten
+pub Wrote-cell : (cells : List Cell) (s i : ℕ) (c new : Cell) (b : Option Side) → IsShaped (map tet_of cells) → IsSome (corners_at (map tet_of cells) s) → i < 4 → c ≡ get_or cells s c → Resided c new i b → Writes (map tet_of cells) (map tet_of (set cells s new)) s i b
+Wrote-cell cells s i c new b shaped is_live face read resided =
+    let found = live_cell cells s c c is_live read in
+    let is : new.live ≡ true = resided.live ∙ found.2 in
+    let written : map tet_of (set cells s new) ≡ set (map tet_of cells) s (Some (tet_with (tet_in c) i b)) =
+    map-set tet_of cells s new ∙ ap (set (map tet_of cells) s) (tet_of-live new is ∙ ap Some resided.tet) in
+    rw written (Writes-set (map tet_of cells) s i (tet_in c) b shaped found.3 face)
+
 pub record Wrote (cells : List Cell) (live next : ℕ) (s i : ℕ) (new : Cell) (b : Option Side) : Type 0 where
   pub counted : IsCounted (set cells s new) live next
   pub writes : Writes (map tet_of cells) (map tet_of (set cells s new)) s i b
@@ -182,12 +194,9 @@ pub record Wrote (cells : List Cell) (live next : ℕ) (s i : ℕ) (new : Cell) 
 pub Wrote-set : (cells : List Cell) (live next s i : ℕ) (c new : Cell) (b : Option Side) → IsCounted cells live next → IsShaped (map tet_of cells) → IsSome (corners_at (map tet_of cells) s) → i < 4 → c ≡ get_or cells s c → Resided c new i b → Wrote cells live next s i new b
 Wrote-set cells live next s i c new b counted shaped is_live face read resided =
     let found = live_cell cells s c c is_live read in
-    let is : new.live ≡ true = resided.live ∙ found.2 in
-    let written : map tet_of (set cells s new) ≡ set (map tet_of cells) s (Some (tet_with (tet_in c) i b)) =
-    map-set tet_of cells s new ∙ ap (set (map tet_of cells) s) (tet_of-live new is ∙ ap Some resided.tet) in
     record {
-      counted = IsCounted-rewrite cells live next s c new counted found.1 found.2 is;
-      writes = rw written (Writes-set (map tet_of cells) s i (tet_in c) b shaped found.3 face);
+      counted = IsCounted-rewrite cells live next s c new counted found.1 found.2 (resided.live ∙ found.2);
+      writes = Wrote-cell cells s i c new b shaped is_live face read resided;
     }
 
 pub record Linked (cells new : List Cell) (live next s i t j : ℕ) : Type 0 where
@@ -202,24 +211,6 @@ Linked-writes cells live next s i t j one two one2 two2 sound live_s live_t hi h
     record {
       sound = record { counted = w2.counted; small = omega (arith, sound.small, length-set cells s one2, length-set (set cells s one2) t two2); mesh = IsMesh-links _ _ s i t j sound.mesh w2.writes.shaped differ faces free_s free_t links };
       links = links;
-    }
-
-pub record Unlinked (cells new : List Cell) (live next s i t j : ℕ) : Type 0 where
-  pub sound : IsSound new live next
-  pub unlinks : Unlinks (map tet_of cells) (map tet_of new) s i t j
-
-pub Unlinked-writes : (cells : List Cell) (live next s i t j : ℕ) (one two one2 two2 : Cell) → IsSound cells live next → side (map tet_of cells) s i ≡ Some (at t j) → one ≡ get_or cells s one → Resided one one2 i None → two ≡ get_or (set cells s one2) t two → Resided two two2 j None → Unlinked cells (set (set cells s one2) t two2) live next s i t j
-Unlinked-writes cells live next s i t j one two one2 two2 sound was read resided read2 resided2 =
-    let here = side_live (map tet_of cells) s i (at t j) sound.mesh.shaped was in
-    let home : side (map tet_of cells) t j ≡ Some (at s i) = sound.mesh.back s i (at t j) was in
-    let there = side_live (map tet_of cells) t j (at s i) sound.mesh.shaped home in
-    let apart : t ≢ s = sound.mesh.apart s i (at t j) was in
-    let w1 = Wrote-set cells live next s i one one2 None sound.counted sound.mesh.shaped here.0 here.1 read resided in
-    let w2 = Wrote-set _ live next t j two two2 None w1.counted w1.writes.shaped (subst IsSome (sym (w1.writes.corners t)) there.0) there.1 read2 resided2 in
-    let unlinks = Unlinks-writes _ _ _ s i t j (λ same. apart (sym same)) w1.writes w2.writes in
-    record {
-      sound = record { counted = w2.counted; small = omega (arith, sound.small, length-set cells s one2, length-set (set cells s one2) t two2); mesh = IsMesh-unlinks _ _ s i t j sound.mesh w2.writes.shaped was unlinks };
-      unlinks = unlinks;
     }
 
 -- a side as it is read from a cell
@@ -301,35 +292,6 @@ Took-fill cells live next cs old new sound before read four differ fresh =
       sound = record { counted = IsCounted-fill cells live next old new sound.counted found fresh.live; small = omega (arith, sound.small, length-set cells next new); mesh = IsMesh-takes _ _ next cs sound.mesh puts four differ takes };
       takes = takes;
     }
-
-pub record Freed (cells new : List Cell) (live next s : ℕ) : Type 0 where
-  pub sound : IsSound new live next
-  pub frees : Frees (map tet_of cells) (map tet_of new) s
-
-pub Freed-set : (cells : List Cell) (live next s : ℕ) (c new : Cell) → IsSound cells live next → IsSome (corners_at (map tet_of cells) s) → ((i : ℕ) → side (map tet_of cells) s i ≡ None) → c ≡ get_or cells s c → new.live ≡ false → next_of new ≡ next → Freed cells (set cells s new) (live - 1) s s
-Freed-set cells live next s c new sound is_live bare read is names =
-    let found = live_cell cells s c c is_live read in
-    let puts : Puts (map tet_of cells) (map tet_of (set cells s new)) s None =
-    rw (map-set tet_of cells s new, tet_of-free new is) (Puts-set (map tet_of cells) s None (omega (arith, found.0, length-map cells tet_of))) in
-    let frees = Frees-puts _ _ s puts bare (omega (arith, length-map cells tet_of, length-map (set cells s new) tet_of, length-set cells s new)) in
-    record {
-      sound = record { counted = IsCounted-vacate cells live next s c new sound.counted found.1 found.2 is names; small = omega (arith, sound.small, length-set cells s new); mesh = IsMesh-frees _ _ s sound.mesh puts bare frees };
-      frees = frees;
-    }
-
--- what a read of a side that is there tells
-pub record Behind (cells : List Cell) (s i : ℕ) (two : Side) : Type 0 where
-  pub was : side (map tet_of cells) s i ≡ Some two
-  pub slot : two.slot < length cells
-  pub face : two.face < 4
-
-pub Behind-read : (cells : List Cell) (s i : ℕ) (c : Cell) (two : Side) → IsMesh (map tet_of cells) → IsSome (side (map tet_of cells) s i) → c ≡ get_or cells s c → get_or (sides_in c.slots c.faces) i None ≡ Some two → Behind cells s i two
-Behind-read cells s i c two mesh some read found =
-    let here = live_from_side (map tet_of cells) s i mesh.shaped some in
-    let was : side (map tet_of cells) s i ≡ Some two = sym (side_read cells s i c here.0 read) ∙ found in
-    let there = side_live (map tet_of cells) two.slot two.face (at s i) mesh.shaped (mesh.back s i two was) in
-    let cell = live_cell cells two.slot c (get_or cells two.slot c) there.0 refl in
-    record { was = was; slot = cell.0; face = there.1 }
 
 -- the neighbor of a live slot is live
 pub next_live : (cells : List Cell) (s i : ℕ) (c : Cell) (two : Side) → IsMesh (map tet_of cells) → IsSome (corners_at (map tet_of cells) s) → i < 4 → c ≡ get_or cells s c → get_or (sides_in c.slots c.faces) i None ≡ Some two → IsSome (corners_at (map tet_of cells) two.slot) × (two.face < 4)

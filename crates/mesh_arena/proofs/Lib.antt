@@ -5,8 +5,8 @@ pub mod Cone
 pub mod AddStar
 pub mod FaceCorners
 pub mod Pairs
-pub mod FreeCavity
 pub mod Replace
+pub mod CutCavity
 pub mod EdgeTable
 pub mod StarEdges
 mod OneSlot

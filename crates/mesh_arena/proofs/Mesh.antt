@@ -4,7 +4,7 @@ use Rattle.std.proofs.lemmas.Bool.{cases_eq, cases_lt}
 use Rattle.std.proofs.lemmas.List.{get_or-set_same, get_or-set_other, get_or_past, get_or_push, get_or_append_left, length_push}
 use Rattle.mesh_arena.specs.declared.slot.Corner.{Corner}
 use Rattle.mesh_arena.specs.declared.arena.Side.{Side}
-use Rattle.mesh_arena.specs.Mesh.{Tet, tet_at, corners_at, corner_in, IsLive, corner, side_in, side, at, OnFace, SameFace, IsShaped, IsMesh, Off, Links, Unlinks, Takes, Frees, AllDiffer, tet_with}
+use Rattle.mesh_arena.specs.Mesh.{Tet, tet_at, corners_at, corner_in, IsLive, corner, side_in, side, at, OnFace, SameFace, IsShaped, IsMesh, Off, Links, Takes, AllDiffer, tet_with}
 
 pub same_or_off : (u k s i : ℕ) → ((u ≡ s) × (k ≡ i)) ⊎ Off u k s i
 same_or_off u k s i =
@@ -50,24 +50,8 @@ Writes-set slots s i t b shaped found face =
       ];
     }
 
--- an equation of two faces, part by part
-same_place : (s i t j : ℕ) → ◌≡◌ {A = Option Side} (Some (at s i)) (Some (at t j)) → (s ≡ t) × (i ≡ j)
-same_place s i t j e =
-    let one : at s i ≡ at t j = cc in
-    (ap (λ (b : Side). b.slot) one, ap (λ (b : Side). b.face) one)
-
 pub Links-writes : (old mid new : List (Option Tet)) (s i t j : ℕ) → s ≢ t → Writes old mid s i (Some (at t j)) → Writes mid new t j (Some (at s i)) → Links old new s i t j
 Links-writes old mid new s i t j differ one two =
-    record {
-      len = two.len ∙ one.len;
-      corners = λ u. two.corners u ∙ one.corners u;
-      first = two.others s i (inl differ) ∙ one.here;
-      second = two.here;
-      others = λ u k off off2. two.others u k off2 ∙ one.others u k off;
-    }
-
-pub Unlinks-writes : (old mid new : List (Option Tet)) (s i t j : ℕ) → s ≢ t → Writes old mid s i None → Writes mid new t j None → Unlinks old new s i t j
-Unlinks-writes old mid new s i t j differ one two =
     record {
       len = two.len ∙ one.len;
       corners = λ u. two.corners u ∙ one.corners u;
@@ -149,51 +133,6 @@ IsMesh-links old new s i t j mesh shaped differ faces free_s free_t links =
     by_shared u k b e (inr off) (inl is) = rw (at_second u k b e is, is.0, is.1) (SameFace-along old new links.corners t j s i (SameFace-flip old s i t j faces))
     by_shared u k b e (inr off) (inr off2) = SameFace-along old new links.corners u k b.slot b.face (mesh.shared u k b (sym (links.others u k off off2) ∙ e))
 
-pub IsMesh-unlinks : (old new : List (Option Tet)) (s i t j : ℕ) → IsMesh old → IsShaped new → side old s i ≡ Some (at t j) → Unlinks old new s i t j → IsMesh new
-IsMesh-unlinks old new s i t j mesh shaped was unlinks =
-    record {
-      shaped = shaped;
-      differ = differ-along old new unlinks.corners mesh.differ;
-      back = λ u k b e. let old_e = before u k b e in unlinks.others b.slot b.face (off_s u k b e) (off_t u k b e) ∙ mesh.back u k b old_e;
-      apart = λ u k b e. mesh.apart u k b (before u k b e);
-      shared = λ u k b e. SameFace-along old new unlinks.corners u k b.slot b.face (mesh.shared u k b (before u k b e));
-    }
-  where
-    off_first : (u k : ℕ) (b : Side) → side new u k ≡ Some b → Off u k s i
-    off_first u k b e = elim (same_or_off u k s i) [
-      | inr off ↦ off
-      | inl is ↦ absurd (none_some b (side new s i) unlinks.first (subst (λ n. side new s n ≡ Some b) is.1 (subst (λ n. side new n k ≡ Some b) is.0 e)))
-    ]
-
-    off_second : (u k : ℕ) (b : Side) → side new u k ≡ Some b → Off u k t j
-    off_second u k b e = elim (same_or_off u k t j) [
-      | inr off ↦ off
-      | inl is ↦ absurd (none_some b (side new t j) unlinks.second (subst (λ n. side new t n ≡ Some b) is.1 (subst (λ n. side new n k ≡ Some b) is.0 e)))
-    ]
-
-    before : (u k : ℕ) (b : Side) → side new u k ≡ Some b → side old u k ≡ Some b
-    before u k b e = sym (unlinks.others u k (off_first u k b e) (off_second u k b e)) ∙ e
-
-    -- a face that leads to one of the two is the other
-    off_s : (u k : ℕ) (b : Side) → side new u k ≡ Some b → Off b.slot b.face s i
-    off_s u k b e = elim (same_or_off b.slot b.face s i) [
-      | inr off ↦ off
-      | inl is ↦
-          let back : side old s i ≡ Some (at u k) = subst (λ n. side old s n ≡ Some (at u k)) is.1 (subst (λ n. side old n b.face ≡ Some (at u k)) is.0 (mesh.back u k b (before u k b e))) in
-          let both = same_place u k t j (sym back ∙ was) in
-          absurd (elim (off_second u k b e) [ inl differ ↦ differ both.0 | inr differ ↦ differ both.1 ])
-    ]
-
-    off_t : (u k : ℕ) (b : Side) → side new u k ≡ Some b → Off b.slot b.face t j
-    off_t u k b e = elim (same_or_off b.slot b.face t j) [
-      | inr off ↦ off
-      | inl is ↦
-          let back : side old t j ≡ Some (at u k) = subst (λ n. side old t n ≡ Some (at u k)) is.1 (subst (λ n. side old n b.face ≡ Some (at u k)) is.0 (mesh.back u k b (before u k b e))) in
-          let home : side old t j ≡ Some (at s i) = mesh.back s i (at t j) was in
-          let both = same_place u k s i (sym back ∙ home) in
-          absurd (elim (off_first u k b e) [ inl differ ↦ differ both.0 | inr differ ↦ differ both.1 ])
-    ]
-
 abbrev pub lone : List Corner → Tet
 lone cs = record { corners = cs; sides = None ∷ None ∷ None ∷ None ∷ [] }
 
@@ -239,23 +178,11 @@ Takes-puts old new s cs puts free reuses within past =
       past = past;
     }
 
-pub Frees-puts : (old new : List (Option Tet)) (s : ℕ) → Puts old new s None → ((i : ℕ) → side old s i ≡ None) → length new ≡ length old → Frees old new s
-Frees-puts old new s puts bare len =
-    record {
-      len = len;
-      gone = rw puts.here refl;
-      corners = λ u differ. rw (puts.others u differ) refl;
-      sides = λ u k. elim (cases_eq u s) [
-        | inl same ↦ rw (same, puts.here) (sym (bare k))
-        | inr differ ↦ rw (puts.others u differ) refl
-      ];
-    }
-
 pub none_live : (o : Option (List Corner)) → o ≡ None → IsSome o → ⊥
 none_live o e live = let h : IsSome {T = List Corner} None = subst IsSome e live in absurd (search rules)
 
 -- the faces of a slot whose corners stay
-face_kept : (old new : List (Option Tet)) (s i t j : ℕ) → corners_at new s ≡ corners_at old s → corners_at new t ≡ corners_at old t → SameFace old s i t j → SameFace new s i t j
+pub face_kept : (old new : List (Option Tet)) (s i t j : ℕ) → corners_at new s ≡ corners_at old s → corners_at new t ≡ corners_at old t → SameFace old s i t j → SameFace new s i t j
 face_kept old new s i t j e f faces =
     let at_s : (p : ℕ) → corner new s p ≡ corner old s p = λ p. ap (λ (o : Option (List Corner)). corner_in o p) e in
     let at_t : (p : ℕ) → corner new t p ≡ corner old t p = λ p. ap (λ (o : Option (List Corner)). corner_in o p) f in
@@ -299,26 +226,3 @@ IsMesh-takes old new s cs mesh puts four differ takes =
   where
     off : (u k : ℕ) (b : Side) → side old u k ≡ Some b → u ≢ s
     off u k b e same = none_live (corners_at old s) takes.free (subst (λ n. IsSome (corners_at old n)) same (side_live old u k b mesh.shaped e).0)
-
-pub IsMesh-frees : (old new : List (Option Tet)) (s : ℕ) → IsMesh old → Puts old new s None → ((i : ℕ) → side old s i ≡ None) → Frees old new s → IsMesh new
-IsMesh-frees old new s mesh puts bare frees =
-    record {
-      shaped = λ u t e. elim (cases_eq u s) [
-        | inr other ↦ mesh.shaped u t (sym (puts.others u other) ∙ e)
-        | inl same ↦ let e2 = subst (λ n. tet_at new n ≡ Some t) same e in let h = puts.here in absurd (cc)
-      ];
-      differ = λ u i j live hi hj e. elim (cases_eq u s) [
-        | inr other ↦
-            let kept = frees.corners u other in
-            mesh.differ u i j (subst IsSome kept live) hi hj (subst (λ (o : Option (List Corner)). corner_in o i ≡ corner_in o j) kept e)
-        | inl same ↦ absurd (none_live (corners_at new s) frees.gone (subst (λ n. IsSome (corners_at new n)) same live))
-      ];
-      back = λ u k b e. let was = sym (frees.sides u k) ∙ e in frees.sides b.slot b.face ∙ mesh.back u k b was;
-      apart = λ u k b e. mesh.apart u k b (sym (frees.sides u k) ∙ e);
-      shared = λ u k b e.
-          let was = sym (frees.sides u k) ∙ e in
-          face_kept old new u k b.slot b.face (frees.corners u (off u k b was)) (frees.corners b.slot (off b.slot b.face (at u k) (mesh.back u k b was))) (mesh.shared u k b was);
-    }
-  where
-    off : (u k : ℕ) (b : Side) → side old u k ≡ Some b → u ≢ s
-    off u k b e same = none_some b (side old s k) (bare k) (subst (λ n. side old n k ≡ Some b) same e)

@@ -249,10 +249,6 @@ module _ (old new : List (Option Tet)) (rim : List RimFace) (p : Corner) (mesh :
         here = rw links.first refl;
       }
 
-pub LinksFace-already : (slots : List (Option Tet)) (rim : List RimFace) (p : Corner) (r k : ℕ) → IsStar slots rim p → IsSome (side slots (behind_rim slots rim r).slot k) → LinksFace slots slots rim p r k
-LinksFace-already slots rim p r k star some =
-    record { len = refl; corners = λ u. refl; star = star; sides = λ u m away. refl; keeps = λ u m h. h; here = some }
-
 -- pairs are a matter of corners alone
 pub ArePaired-along : (old new : List (Option Tet)) (rim : List RimFace) → ((u : ℕ) → corners_at new u ≡ corners_at old u) → ArePaired old rim → ArePaired new rim
 ArePaired-along old new rim same pairs r x y h on_x on_y differ =

@@ -1,5 +1,5 @@
 -- How the faces of a star over the same edge are linked.
-use Rattle.std.proofs.Common.{◌≡◌, ◌≢◌, ℕ, ◌+◌, ◌<◌, ◌≤◌, List, length, get_or, set, Option, None, refl, sym, ap, subst, ◌∙◌, inl, inr, arith}
+use Rattle.std.proofs.Common.{◌≡◌, ◌≢◌, ℕ, ◌+◌, ◌<◌, ◌≤◌, List, length, get_or, set, Option, None, refl, sym, ap, ◌∙◌, inl, inr, arith}
 use Rattle.std.proofs.lemmas.Bool.{cases_eq}
 use Rattle.std.proofs.lemmas.List.{get_or_default, get_or-set_same, get_or-set_other, length-set}
 use Rattle.mesh_arena.specs.declared.slot.Corner.{Corner}
@@ -8,14 +8,14 @@ use Rattle.mesh_arena.specs.declared.arena.Side.{Side}
 use Rattle.mesh_arena.specs.declared.edges.Edge.{Edge}
 use Rattle.mesh_arena.specs.declared.slot.RimFace.{RimFace}
 use Rattle.mesh_arena.specs.declared.star.StarSlot.{StarSlot}
-use Rattle.mesh_arena.specs.Mesh.{Tet, corner_in, corner_list, IsLive, corner, side, at, SameFace, IsMesh, Links}
+use Rattle.mesh_arena.specs.Mesh.{Tet, corner_in, corner_list, corner, side, at, SameFace, IsMesh, Links}
 use Rattle.mesh_arena.specs.Star.{behind, behind_rim}
 use Rattle.mesh_arena.specs.StarLinks.{Places, IsStar, LinksStar, IsOverEdge, AreOverEdges}
 use Rattle.mesh_arena.specs.Surgery.{no_slot, star_at, AddsStar, StandsOver, AreOverRim}
 use Rattle.mesh_arena.specs.Edges.{edge_between, Meetings, MeetsOnly}
 use Rattle.mesh_arena.proofs.Mesh.{same_corner}
 use Rattle.mesh_arena.proofs.EdgeTable.{same_ends}
-use Rattle.mesh_arena.proofs.Pairs.{SameFace-three, star_live, LinksStar-mates}
+use Rattle.mesh_arena.proofs.Pairs.{SameFace-three, LinksStar-mates}
 
 -- the places of a slot in another order
 pub turned : (k f a b : ℕ) → Places k f a b → Places k f b a
@@ -111,9 +111,6 @@ pub record ArePlaced (slots : List (Option Tet)) (rim : List RimFace) (old new :
   pub len : length new ≡ length old
   pub made : (q : ℕ) → q < n → star_at new q ≡ placed (star_at old q) (behind_rim slots rim q).slot
   pub rest : (q : ℕ) → n ≤ q → star_at new q ≡ star_at old q
-
-pub ArePlaced-none : (slots : List (Option Tet)) (rim : List RimFace) (star : List StarSlot) → ArePlaced slots rim star star 0
-ArePlaced-none slots rim star = record { len = refl; made = λ q h. absurd (omega arith); rest = λ q h. refl }
 
 pub ArePlaced-step : (was now : List (Option Tet)) (rim : List RimFace) (old mid : List StarSlot) (n made : ℕ) (s : StarSlot) → n < length old → s ≡ star_at mid n → ArePlaced was rim old mid n → ((q : ℕ) → q < n → behind_rim now rim q ≡ behind_rim was rim q) → (behind_rim now rim n).slot ≡ made → ArePlaced now rim old (set mid n (placed s made)) (n + 1)
 ArePlaced-step was now rim old mid n made s lt read before kept is =

@@ -6,3 +6,4 @@ pub mod Cavity
 pub mod Replace
 pub mod Surgery
 pub mod Edges
+pub mod Cut

@@ -83,14 +83,6 @@ pub record Links (old new : List (Option Tet)) (s i t j : ℕ) : Type 0 where
   pub second : side new t j ≡ Some (at s i)
   pub others : (u k : ℕ) → Off u k s i → Off u k t j → side new u k ≡ side old u k
 
--- the same, where the two have no side any more
-pub record Unlinks (old new : List (Option Tet)) (s i t j : ℕ) : Type 0 where
-  pub len : length new ≡ length old
-  pub corners : (u : ℕ) → corners_at new u ≡ corners_at old u
-  pub first : side new s i ≡ None
-  pub second : side new t j ≡ None
-  pub others : (u k : ℕ) → Off u k s i → Off u k t j → side new u k ≡ side old u k
-
 abbrev pub corner_list : SlotCorners → List Corner
 corner_list c = c.a ∷ c.b ∷ c.c ∷ c.d ∷ []
 
@@ -109,13 +101,6 @@ pub record Takes (old new : List (Option Tet)) (s : ℕ) (cs : List Corner) : Ty
   pub reuses : (u : ℕ) → u < length old → corners_at old u ≡ None → s < length old
   pub within : s < length old → length new ≡ length old
   pub past : length old ≤ s → (s ≡ length old) × (length new ≡ length old + 1)
-
--- a slot with no neighbor becomes free, and all else stays
-pub record Frees (old new : List (Option Tet)) (s : ℕ) : Type 0 where
-  pub len : length new ≡ length old
-  pub gone : corners_at new s ≡ None
-  pub corners : (u : ℕ) → u ≢ s → corners_at new u ≡ corners_at old u
-  pub sides : (u k : ℕ) → side new u k ≡ side old u k
 
 -- the tetrahedron with this behind the face
 abbrev pub tet_with : Tet → ℕ → Option Side → Tet

@@ -1,5 +1,5 @@
--- The steps of a surgery. The corners of the star are read while the cavity stands. Then the rim is parted from the cavity, the cavity's slots are freed,
--- and the star is put over the rim, first in the places that were freed last.
+-- The steps of a surgery. The corners of the star are read while the cavity stands. Then the cavity is cut out, and the star is put over the rim, first in
+-- the places that were freed last.
 use Rattle.std.specs.Prelude.{◌≡◌, ◌≢◌, ℕ, ◌<◌, ◌⊎◌, List, length, Option, Some, None, slice_index_or, slice_set, option_map}
 use Rattle.mesh_arena.specs.declared.slot.Corner.{Corner}
 use Rattle.mesh_arena.specs.declared.slot.Corner.TheVariants.{Point}
@@ -25,19 +25,6 @@ pub record Plans (slots : List (Option Tet)) (rim : List RimFace) (p : Corner) (
   pub len : length star ≡ n
   pub face : (r : ℕ) → r < n → (star_at star r).face ≡ (behind_rim slots rim r).face
   pub corners : (r : ℕ) → r < n → Some (star_corners star r) ≡ option_map (λ cs. slice_set cs (behind_rim slots rim r).face p) (corners_at slots (behind_rim slots rim r).slot)
-
--- the faces differ, and each has a slot behind it that is no slot of the rim
-pub record CanOpen (slots : List (Option Tet)) (rim : List RimFace) : Type 0 where
-  pub has : (r : ℕ) → r < length rim → face_side slots (rim_at rim r) ≡ Some (behind_rim slots rim r)
-  pub once : (r q : ℕ) → r < length rim → q < length rim → (rim_at rim r).slot.index ≡ (rim_at rim q).slot.index → (rim_at rim r).face ≡ (rim_at rim q).face → r ≡ q
-  pub inward : (r q : ℕ) → r < length rim → q < length rim → (behind_rim slots rim r).slot ≢ (rim_at rim q).slot.index
-
--- the first n faces have no neighbor any more, and nothing else changed
-pub record Opens (old new : List (Option Tet)) (rim : List RimFace) (n : ℕ) : Type 0 where
-  pub corners : (u : ℕ) → corners_at new u ≡ corners_at old u
-  pub outer : (r : ℕ) → r < n → face_side new (rim_at rim r) ≡ None
-  pub inner : (r : ℕ) → r < n → side new (behind_rim old rim r).slot (behind_rim old rim r).face ≡ None
-  pub others : (u k : ℕ) → ((r : ℕ) → r < n → Off u k (rim_at rim r).slot.index (rim_at rim r).face) → ((r : ℕ) → r < n → Off u k (behind_rim old rim r).slot (behind_rim old rim r).face) → side new u k ≡ side old u k
 
 -- the face of the slot s has the same corners as the face opposite the place j of these
 pub record FitsFace (slots : List (Option Tet)) (s i : ℕ) (cs : List Corner) (j : ℕ) : Type 0 where

@@ -1,8 +1,11 @@
 //! The arena: its slots, and the changes of one slot or one pair of faces.
 ghost use Rattle.std.specs.Prelude.{◌≡◌, ◌≢◌, ℕ, ◌+◌, ◌<◌, ◌≤◌, ◌↔◌, IsTrue, [], length, Some, None, IsSome, IfSome, IsOk, IfOk, OnOk, OnErr, MatchOption, option_map, vec_capacity};
-ghost use Rattle.mesh_arena.specs.Mesh.{tet_at, corners_at, IsLive, at, side, corner_list, AllDiffer, SameFace, IsMesh, Links, Unlinks, Takes, Frees};
+ghost use Rattle.mesh_arena.specs.Mesh.{tet_at, corners_at, IsLive, at, side, corner_list, AllDiffer, SameFace, IsMesh, Links, Takes};
+ghost use Rattle.mesh_arena.specs.Replace.{IsCavity, IsRim};
+ghost use Rattle.mesh_arena.specs.Cut.{Cuts};
 
 use crate::cell::Cell;
+use crate::cut::{clear_rim, free_cells};
 use crate::edges::EdgeTable;
 use crate::slot::covers;
 use crate::star::StarSlot;
@@ -170,24 +173,6 @@ impl Arena {
         );
     }
 
-    // Takes away what stands behind a face, and behind the face on its other side.
-    pub(crate) fn unlink(&mut self, one: Side) -> Side
-        requires { IsSome (side self.old.slots one.slot one.face) }
-        ensures mesh { IsMesh self.old.slots }
-        ensures was { side self.old.slots one.slot one.face ≡ Some result }
-        ensures unlinks { Unlinks self.old.slots self.new.slots one.slot one.face result.slot result.face }
-        ensures room { self.new.room ≡ self.old.room }
-    {
-        let Some(two) = self.cells[one.slot as usize].side(one.face) else {
-            unreachable!();
-        };
-        let first = &mut self.cells[one.slot as usize];
-        first.clear_side(one.face);
-        let second = &mut self.cells[two.slot as usize];
-        second.clear_side(two.face);
-        two
-    }
-
     /// Makes room for the star over a rim of this many faces, so that `spare` is at least that. All else stays, and on `NoMemory` `spare` too.
     pub fn reserve(&mut self, faces: usize) -> Result<(), NoMemory>
         ensures room { OnOk result (faces ≤ self.new.spare) }
@@ -249,19 +234,18 @@ impl Arena {
         place
     }
 
-    // Frees a live slot that has no neighbor.
-    pub(crate) fn release(&mut self, place: u32)
-        requires live { IsLive self.old.slots place }
-        requires bare { (i : ℕ) → side self.old.slots place i ≡ None }
-        ensures frees { Frees self.old.slots self.new.slots place }
+    // Frees the slots of a cavity, and takes them away from behind the faces of its rim.
+    pub(crate) fn cut_cavity(&mut self, cavity: &[Slot], rim: &[RimFace])
+        requires cavity { IsCavity self.old.slots cavity.now }
+        requires rim { IsRim self.old.slots cavity.now rim.now }
+        ensures cuts { Cuts self.old.slots self.new.slots cavity.now rim.now }
         ensures room { self.old.room ≤ self.new.room }
     {
-        let next = self.next;
-        let cell = &mut self.cells[place as usize];
-        cell.free(next);
-        self.next = place;
-        self.live -= 1;
+        clear_rim(&mut self.cells, rim);
+        self.next = free_cells(&mut self.cells, cavity, self.next);
+        self.live = self.live.saturating_sub(cavity.len());
     }
+
     // Lends the list for the slots of a star, with the memory that it was promised.
     pub(crate) fn lend_star(&mut self) -> Vec<StarSlot>
         ensures capacity { self.old.spare ≤ vec_capacity result }

@@ -6,6 +6,7 @@
 
 mod arena;
 mod cell;
+mod cut;
 mod edges;
 mod slot;
 mod star;

@@ -2,9 +2,8 @@
 ghost use Rattle.std.specs.Prelude.{◌≡◌, ◌≢◌, ℕ, ◌+◌, ◌<◌, ◌≤◌, ◌↔◌, length, Some, None, IsSome, IsOk, IfOk, OnErr, MatchOption, IsTrue};
 ghost use Rattle.mesh_arena.specs.Mesh.{IsLive, corner_list, side, SameFace, IsMesh, AllDiffer};
 ghost use Rattle.mesh_arena.specs.Star.{behind_rim};
-ghost use Rattle.mesh_arena.specs.Surgery.{CanOpen, Opens, FitsFace, AddsOver, CanAdd, AddsStar, StandsOver, AreOverRim};
+ghost use Rattle.mesh_arena.specs.Surgery.{FitsFace, AddsOver, CanAdd, AddsStar, StandsOver, AreOverRim};
 ghost use Rattle.mesh_arena.specs.Replace.{IsCavity, IsRim, IsOffRim, Replaces};
-ghost use Rattle.mesh_arena.specs.Cavity.{UnlinksAll, CanFree, FreesCavity};
 ghost use Rattle.mesh_arena.specs.StarLinks.{IsStar, ArePaired, Mate, LinksFace, LinksStar, IsOverEdge, AreOverEdges};
 
 use crate::arena::{Arena, Side};
@@ -15,20 +14,6 @@ use crate::{Cavity, Corner, Rim, RimFace, Slot};
 use tet_ports::NoMemory;
 
 impl Arena {
-    // Parts the faces of the rim from what stands behind them.
-    fn open_rim(&mut self, rim: &[RimFace])
-        requires { CanOpen self.old.slots rim.now }
-        ensures opens { Opens self.old.slots self.new.slots rim.now (length rim.now) }
-        ensures room { self.new.room ≡ self.old.room }
-    {
-        for r in 0..rim.len() {
-            self.unlink(Side {
-                slot: rim[r].slot.index,
-                face: rim[r].face,
-            });
-        }
-    }
-
     // Puts a new slot behind a face that has no neighbor and fits it.
     fn add_over(&mut self, outer: RimFace, slot: StarSlot) -> u32
         requires live { IsLive self.old.slots outer.slot.index }
@@ -284,36 +269,6 @@ impl Arena {
         self.link_rest(rim, point, star);
     }
 
-    // Takes away each side of a live slot, and what leads to it.
-    fn unlink_all(&mut self, s: u32)
-        requires { IsLive self.old.slots s }
-        ensures mesh { IsMesh self.old.slots }
-        ensures unlinks { UnlinksAll self.old.slots self.new.slots s 4 }
-        ensures bare { (i : ℕ) → side self.new.slots s i ≡ None }
-        ensures room { self.new.room ≡ self.old.room }
-    {
-        let _ = &self.cells;
-        for face in 0..4u8 {
-            if self.side(s, face).is_some() {
-                self.unlink(Side { slot: s, face });
-            }
-        }
-        let _ = &self.cells;
-    }
-
-    // Frees the slots of the cavity.
-    fn free_cavity(&mut self, cavity: &[Slot])
-        requires { CanFree self.old.slots cavity.now }
-        ensures frees_cavity { FreesCavity self.old.slots self.new.slots cavity.now (length cavity.now) }
-        ensures room { self.old.room ≤ self.new.room }
-    {
-        let _ = &self.cells;
-        for j in 0..cavity.len() {
-            self.unlink_all(cavity[j].index);
-            self.release(cavity[j].index);
-        }
-    }
-
     /// Puts the star of a point in the place of a cavity (Bowyer 1981, Watson 1981): for each face of the rim a slot with the corners of the cavity's slot
     /// behind that face, in their places, and the point in place of the corner opposite it. The star is linked within and to the outer sides of the rim.
     /// It answers one slot of the star.
@@ -341,8 +296,7 @@ impl Arena {
         self.reserve(faces.len())?;
         let mut star = self.lend_star();
         self.plan_star(faces, point, &mut star);
-        self.open_rim(faces);
-        self.free_cavity(cavity.as_slice());
+        self.cut_cavity(cavity.as_slice(), faces);
         self.add_star(faces, &mut star);
         self.link_star(faces, point, star.as_slice());
         self.keep_star(star);
