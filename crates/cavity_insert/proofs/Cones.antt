@@ -1,5 +1,5 @@
 -- What a walk round a point tells of its sides.
-use Rattle.std.proofs.Common.{◌≡◌, ◌≢◌, ◌↔◌, ℕ, ◌<◌, pos, ◌≤ℤ◌, Bool, true, List, Option, Some, sym, ap, subst, ◌∙◌}
+use Rattle.std.proofs.Common.{◌≡◌, ◌≢◌, ◌↔◌, ℕ, ◌<◌, pos, ◌≤ℤ◌, Bool, true, List, Option, Some, refl, sym, ap, subst, ◌∙◌}
 use Rattle.std.specs.Prelude.{IsTrue, slice_index_or}
 use Rattle.sign_predicates.specs.Point.{Point}
 use Rattle.sign_predicates.specs.Orientation.{side, opposite_face}
@@ -10,8 +10,7 @@ use Rattle.insert_laws.proofs.Cone.{law_cone}
 use Rattle.mesh_arena.specs.Mesh.{Tet, corners_at, corner_list, IsMesh}
 use Rattle.mesh_arena.specs.declared.slot.Corner.{Corner}
 use Rattle.mesh_arena.specs.declared.slot.SlotCorners.{SlotCorners}
-use Rattle.point_locate.specs.Place.{row_corners, placed, AreOn}
-use Rattle.point_locate.proofs.Shapes.{placed_row}
+use Rattle.point_locate.specs.Place.{row_corners, AreOn}
 use Rattle.mesh_laws.specs.Living.{IsDelaunayMesh}
 use Rattle.mesh_laws.proofs.Placed.{law_placed}
 use Rattle.cavity_insert.specs.Living.{HasSide, HasBoth}
@@ -20,14 +19,13 @@ use Rattle.cavity_insert.proofs.SlotRows.{slot_of_row}
 use Rattle.cavity_insert.proofs.SlotSides.{corner_found, both_in_row, side_of_slot}
 
 -- a row with the corner a, none of whose faces there b is strictly beyond
-pub row_answers : (ps : List Point) (t : SlotCorners) (r : Row) (a b : ℕ) (p : Point) (q : Corners) (is : Bool) → corner_list t ≡ row_corners r → has_corner r a ≡ true → p ≡ point ps b → q ≡ placed ps p t
+pub row_answers : (ps : List Point) (r : Row) (a b : ℕ) (p : Point) (q : Corners) (is : Bool) → has_corner r a ≡ true → p ≡ point ps b → q ≡ corners ps r
     → ((k : ℕ) → k < 4 → slice_index_or (numbers r) k a ≢ a → pos 0 ≤ℤ side (opposite_face q k) p) → is ≡ has_corner r b
-    → HasInCone ps (corner_list t) a b × (IsTrue is ↔ HasBoth (corner_list t) a b)
-row_answers ps t r a b p q is e first p_is q_is holds answer =
-    let c : q ≡ corners ps r = q_is ∙ placed_row ps p t r e in (
-      record { row = r; is = e; first = corner_found r a first; holds = λ k k4 d. subst (λ x. pos 0 ≤ℤ x) (λ j. side (opposite_face (c j) k) (p_is j)) (holds k k4 d) },
-      (λ h. record { four = r; is = e; first = corner_found r a first; second = corner_found r b (sym answer ∙ h) }, λ both. answer ∙ (both_in_row (corner_list t) r a b e both).1),
-    )
+    → HasInCone ps (row_corners r) a b × (IsTrue is ↔ HasBoth (row_corners r) a b)
+row_answers ps r a b p q is first p_is q_is holds answer = (
+  record { row = r; is = refl; first = corner_found r a first; holds = λ k k4 d. subst (λ x. pos 0 ≤ℤ x) (λ j. side (opposite_face (q_is j) k) (p_is j)) (holds k k4 d) },
+  (λ h. record { four = r; is = refl; first = corner_found r a first; second = corner_found r b (sym answer ∙ h) }, λ both. answer ∙ (both_in_row (row_corners r) r a b refl both).1),
+)
 
 module _ (slots : List (Option Tet)) (ps : List Point) (now : IsDelaunayMesh slots ps (all_numbers ps)) (s : ℕ) where
   -- the corners of a slot are points
@@ -36,7 +34,7 @@ module _ (slots : List (Option Tet)) (ps : List Point) (now : IsDelaunayMesh slo
 
   -- a slot with b in its cone from a answers for all
   pub slot_answers : (cs : List Corner) (a b : ℕ) (is : Bool) → a ≢ b → corners_at slots s ≡ Some cs → HasInCone ps cs a b → (IsTrue is ↔ HasBoth cs a b) → IsTrue is ↔ HasSide ps a b
-  slot_answers cs a b is apart e cone answer = (λ h. side_of_slot slots ps now a b s (record { corners = cs; is = e; here = answer.0 h }), from)
+  slot_answers cs a b is apart e cone answer = (λ h. side_of_slot slots ps now a b s apart (record { corners = cs; is = e; here = answer.0 h }), from)
     where
       from : HasSide ps a b → IsTrue is
       from h =

@@ -1,5 +1,5 @@
 -- A side of the Delaunay list is a side of a slot's row.
-use Rattle.std.proofs.Common.{◌≡◌, ℕ, ◌<◌, List, length, Option, Some, refl, sym, ap, subst, ◌∙◌}
+use Rattle.std.proofs.Common.{◌≡◌, ◌≢◌, ℕ, ◌<◌, List, length, Option, Some, refl, sym, ap, subst, ◌∙◌}
 use Rattle.std.specs.Prelude.{Contains, ◌==◌, true}
 use Rattle.std.proofs.lemmas.Bool.{eqb-true}
 use Rattle.std.proofs.lemmas.Map.Views.{Contains-from_any}
@@ -17,10 +17,10 @@ use Rattle.cavity_insert.proofs.SlotRows.{slot_within, slot_of_row}
 
 module _ (slots : List (Option Tet)) (ps : List Point) (mesh : IsDelaunayMesh slots ps (all_numbers ps)) (a b : ℕ) where
   -- a slot with both points tells of a side
-  pub side_of_slot : (s : ℕ) → IsAt slots (λ cs. HasBoth cs a b) s → HasSide ps a b
-  side_of_slot s at =
+  pub side_of_slot : (s : ℕ) → a ≢ b → IsAt slots (λ cs. HasBoth cs a b) s → HasSide ps a b
+  side_of_slot s apart at =
       let slot = slot_of_row slots ps (all_numbers ps) mesh s at.here.four (at.is ∙ ap Some at.here.is) in
-      record { row = slot.row; is_row = slot.is_row; first = (slot.same_corners a).0 at.here.first; second = (slot.same_corners b).0 at.here.second }
+      record { differ = apart; row = slot.row; is_row = slot.is_row; first = (slot.same_corners a).0 at.here.first; second = (slot.same_corners b).0 at.here.second }
 
   -- each side has a slot with both points
   pub slot_of_side : HasSide ps a b → (s : ℕ) × (s < length slots) × IsAt slots (λ cs. HasBoth cs a b) s

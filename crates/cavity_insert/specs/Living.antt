@@ -29,8 +29,9 @@ pub record IsLonger (slots : List (Option Tet)) (ps : List Point) (number : ℕ)
   pub mesh : IsDelaunayMesh slots others (all_numbers others)
   pub apart : (i : ℕ) → i < length others → point others i ≢ last
 
--- the two points are corners of one row of the Delaunay list
+-- the two points differ, and are corners of one row of the Delaunay list
 pub record HasSide (ps : List Point) (a b : ℕ) : Type 0 where
+  pub differ : a ≢ b
   pub row : Row
   pub is_row : IsDelaunay ps row
   pub first : Contains (numbers row) a

@@ -7,8 +7,8 @@ use Rattle.insert_laws.specs.Cone.{IsInCone}
 use Rattle.mesh_arena.specs.declared.slot.Corner.{Corner}
 use Rattle.point_locate.specs.Place.{row_corners}
 use Rattle.cavity_insert.specs.Living.{HasBoth}
-use Rattle.cavity_insert.specs.declared.sides.Turn.{Turn}
-use Rattle.cavity_insert.specs.declared.sides.Turn.TheVariants.{Answer, Through, Lost}
+use Rattle.cavity_insert.specs.declared.sides.WalkStep.{WalkStep}
+use Rattle.cavity_insert.specs.declared.sides.WalkStep.TheVariants.{Answer, Through, Lost}
 
 -- these are the corners of a row that has the corner a, and b lies in its closed cone from a
 pub record HasInCone (ps : List Point) (cs : List Corner) (a b : ℕ) : Type 0 where
@@ -18,7 +18,7 @@ pub record HasInCone (ps : List Point) (cs : List Corner) (a b : ℕ) : Type 0 w
   pub holds : IsInCone ps row a b
 
 -- an answer comes from a row with b in its cone from a, and says whether b is a corner too
-abbrev pub Tells : List Point → List Corner → ℕ → ℕ → Turn → Type 0
+abbrev pub Tells : List Point → List Corner → ℕ → ℕ → WalkStep → Type 0
 Tells ps cs a b (Answer is) = HasInCone ps cs a b × (IsTrue is ↔ HasBoth cs a b)
 Tells ps cs a b (Through face) = face < 4
 Tells ps cs a b Lost = ⊤

@@ -135,13 +135,15 @@ impl Living {
         }
     }
 
-    /// Whether the two points are the ends of a side of a row of the Delaunay list. They are given by their numbers, which differ.
-    /// It takes no memory, and a walk through neighbors: to the first point, and round it to the second.
+    /// Whether the two points are the ends of a side of a row of the Delaunay list. They are given by their numbers. A point and itself
+    /// are no side. It takes no memory, and a walk through neighbors: to the first point, and round it to the second.
     pub fn has_side(&self, a: u32, b: u32) -> bool
         requires inside { (a < length self.now.points) × (b < length self.now.points) }
-        requires differ { a ≢ b }
         ensures { IsTrue result ↔ HasSide self.now.points a b }
     {
+        if a == b {
+            return false;
+        }
         match side_by_walk(&self.arena, &self.points, self.last, a, b) {
             Some(answer) => answer,
             None => side_by_scan(&self.arena, &self.points, a, b),

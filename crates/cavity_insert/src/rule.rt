@@ -1,15 +1,30 @@
 //! Which slots of an arena a new point takes: the rows that don't have it outside, and the ghosts of the hull faces that it sees.
 ghost use Rattle.std.specs.Prelude.{◌≡◌, ◌+◌, ◌<◌, ◌↔◌, IsTrue};
 ghost use Rattle.mesh_arena.specs.Mesh.{IsLive, corner_list};
-ghost use Rattle.point_locate.specs.Place.{AreCornersOn, AreOn, placed};
+ghost use Rattle.point_locate.specs.Place.{AreCornersOn, AreOn, row_corners, placed};
 ghost use Rattle.mesh_laws.specs.Rule.{IsTakenRow, IsSeen, IsInnerTaken, IsTaken};
 
 use crate::steps::Steps;
-use geo_laws::Points;
+use geo_laws::{Points, Tet};
 use mesh_arena::{Arena, Slot, SlotCorners};
-use point_locate::{Shape, placed, shape_of};
+use point_locate::{Shape, placed, row_points, shape_of};
 use sign_predicates::{GridPoint, Numbers, Sign, orient, outside};
 use std::sync::ledger::Ledger;
+
+// Whether the row doesn't have the point outside.
+#[inline]
+fn takes_row(points: &Points, row: Tet, p: GridPoint, number: u32) -> bool
+    requires { AreOn points.now (row_corners row) }
+    ensures { IsTrue result ↔ IsTakenRow points.now p number (row_corners row) }
+{
+    let numbers = Numbers {
+        a: row.a,
+        b: row.b,
+        c: row.c,
+        d: row.d,
+    };
+    !outside(row_points(points, row), numbers, p, number)
+}
 
 // Whether the slot with these corners is a row that doesn't have the point outside.
 fn is_taken_row(points: &Points, t: SlotCorners, p: GridPoint, number: u32) -> bool
@@ -17,16 +32,7 @@ fn is_taken_row(points: &Points, t: SlotCorners, p: GridPoint, number: u32) -> b
     ensures { IsTrue result ↔ IsTakenRow points.now p number (corner_list t) }
 {
     match shape_of(t) {
-        Shape::Row(row) => {
-            let at = placed(points, p, t);
-            let numbers = Numbers {
-                a: row.a,
-                b: row.b,
-                c: row.c,
-                d: row.d,
-            };
-            !outside(at, numbers, p, number)
-        }
+        Shape::Row(row) => takes_row(points, row, p, number),
         Shape::Ghost(_) => false,
     }
 }
@@ -87,7 +93,7 @@ pub fn test_slot<L: Ledger>(
     steps.tick();
     let t = arena.tet(s);
     match shape_of(t) {
-        Shape::Row(_) => is_taken_row(points, t, p, number),
+        Shape::Row(row) => takes_row(points, row, p, number),
         Shape::Ghost(place) => is_seen(arena, points, s, place, p, number),
     }
 }

@@ -12,7 +12,7 @@ use crate::insert::point_at;
 use crate::meshing::has_corner;
 use geo_laws::{Points, Tet};
 use mesh_arena::{Arena, Slot, SlotCorners};
-use point_locate::{Shape, placed, shape_of};
+use point_locate::{Shape, row_points, shape_of};
 use sign_predicates::{Corners, GridPoint, Sign, beyond};
 
 /// Whether these are the corners of a row, and both points are among them.
@@ -38,7 +38,8 @@ fn slot_has_corners(arena: &Arena, i: usize, a: u32, b: u32) -> bool
 
 /// Whether the two points are the ends of a side, by a look at each slot.
 pub(crate) fn side_by_scan(arena: &Arena, points: &Points, a: u32, b: u32) -> bool
-    requires { IsDelaunayMesh arena.now.slots points.now (all_numbers points.now) }
+    requires mesh { IsDelaunayMesh arena.now.slots points.now (all_numbers points.now) }
+    requires differ { a ≢ b }
     ensures { IsTrue result ↔ HasSide points.now a b }
 {
     for i in 0..arena.slots() {
@@ -51,7 +52,7 @@ pub(crate) fn side_by_scan(arena: &Arena, points: &Points, a: u32, b: u32) -> bo
 
 // What the corners of a slot tell a walk to the point a and round it to the point b.
 #[derive(Clone, Copy)]
-pub(crate) enum Turn {
+pub(crate) enum WalkStep {
     // It is a row with the corner a, and b lies in its closed cone from a. Whether b is a corner too.
     Answer(bool),
     // This face leads on.
@@ -74,42 +75,42 @@ fn face_towards(at: &Corners, row: Tet, a: u32, p: GridPoint) -> Option<u8>
 }
 
 // What a row tells. One without the corner a leads towards a, and one with it leads on round a.
-fn row_turn(points: &Points, t: SlotCorners, row: Tet, a: u32, b: u32) -> Turn
-    requires corners { AreOn points.now (corner_list t) }
-    requires row { corner_list t ≡ row_corners row }
+fn row_step(points: &Points, row: Tet, a: u32, b: u32) -> WalkStep
+    requires corners { AreOn points.now (row_corners row) }
     requires inside { (a < length points.now) × (b < length points.now) }
-    ensures { Tells points.now (corner_list t) a b result }
+    ensures { Tells points.now (row_corners row) a b result }
 {
     let is_there = has_corner(row, a);
     let goal = if is_there { b } else { a };
     let p = point_at(points, goal);
-    if let Some(face) = face_towards(&placed(points, p, t), row, a, p) {
-        return Turn::Through(face);
+    if let Some(face) = face_towards(&row_points(points, row), row, a, p) {
+        return WalkStep::Through(face);
     }
     if is_there {
-        Turn::Answer(has_corner(row, b))
+        WalkStep::Answer(has_corner(row, b))
     } else {
-        Turn::Lost
+        WalkStep::Lost
     }
 }
 
 // What a slot tells. A ghost leads through its hull face.
-fn turn_at(points: &Points, t: SlotCorners, a: u32, b: u32) -> Turn
+fn step_at(points: &Points, t: SlotCorners, a: u32, b: u32) -> WalkStep
     requires corners { AreOn points.now (corner_list t) }
     requires inside { (a < length points.now) × (b < length points.now) }
     ensures { Tells points.now (corner_list t) a b result }
 {
     match shape_of(t) {
-        Shape::Row(row) => row_turn(points, t, row, a, b),
-        Shape::Ghost(face) => Turn::Through(face),
+        Shape::Row(row) => row_step(points, row, a, b),
+        Shape::Ghost(face) => WalkStep::Through(face),
     }
 }
 
 /// Whether the two points are the ends of a side, by a walk from a live slot: from a row without the corner `a` through a face that this point is
 /// strictly beyond, and from one with it through a face at `a` that `b` is strictly beyond. The row where it ends has `b` in its closed cone from `a`, and
-/// only its own sides there are sides of the mesh. None where the walk leads nowhere or takes more turns than there are slots.
+/// only its own sides there are sides of the mesh. None where the walk leads nowhere or takes more steps than there are slots;
+/// each other answer is right.
 ///
-/// Source: the visibility walk (Devillers, Pion and Teillaud, 2002), and the same among the rows round a point. In a Delaunay mesh both end.
+/// Source: the visibility walk (Devillers, Pion and Teillaud, 2002), and the same rule among the rows round a point.
 pub(crate) fn side_by_walk(
     arena: &Arena,
     points: &Points,
@@ -125,13 +126,13 @@ pub(crate) fn side_by_walk(
 {
     let mut at = start;
     for _ in 0..arena.slots() {
-        match turn_at(points, arena.tet(at), a, b) {
-            Turn::Answer(answer) => return Some(answer),
-            Turn::Through(face) => match arena.neighbor(at, face) {
+        match step_at(points, arena.tet(at), a, b) {
+            WalkStep::Answer(answer) => return Some(answer),
+            WalkStep::Through(face) => match arena.neighbor(at, face) {
                 Some(next) => at = next,
                 None => break,
             },
-            Turn::Lost => break,
+            WalkStep::Lost => break,
         }
     }
     None

@@ -11,9 +11,9 @@ use Rattle.geo_laws.specs.declared.tetrahedra.Tet.{Tet as Row}
 use Rattle.geo_laws.proofs.Determinants.{side_rational-as_rational}
 use Rattle.mesh_arena.specs.Mesh.{Tet, tet_at, corners_at, corner_list}
 use Rattle.mesh_arena.specs.declared.slot.Corner.{Corner}
-use Rattle.mesh_arena.specs.declared.slot.Corner.TheVariants.{Point as Numbered, Ghost}
+use Rattle.mesh_arena.specs.declared.slot.Corner.TheVariants.{Ghost}
 use Rattle.mesh_arena.specs.declared.slot.SlotCorners.{SlotCorners}
-use Rattle.point_locate.specs.Place.{AreOn, AreCornersOn, row_corners, placed, IsInside, IsBeyond, IsPlace, IsSomePlace, Looks}
+use Rattle.point_locate.specs.Place.{AreOn, AreCornersOn, row_corners, IsInside, IsBeyond, IsPlace, IsSomePlace, Looks}
 use Rattle.point_locate.specs.declared.look.Look.TheVariants.{Out}
 use Rattle.point_locate.specs.declared.walk.Place.{Place}
 use Rattle.point_locate.specs.declared.walk.Place.TheVariants.{Inside, Beyond}
@@ -49,27 +49,27 @@ closed_not_beyond t p k h lt e = by_place k h lt e
     by_place (suc (suc (suc zero))) h lt e = not_both (opposite_d t) h.1.1.1.0 e
     by_place (suc (suc (suc (suc k)))) h lt e = absurd (omega arith)
 
--- the points of a tetrahedron of points
-pub placed_row : (ps : List Point) (p : Point) (t : SlotCorners) (r : Row) → corner_list t ≡ row_corners r → placed ps p t ≡ corners ps r
-placed_row ps p t r e =
-    let a : t.a ≡ Numbered r.a = cc in
-    let b : t.b ≡ Numbered r.b = cc in
-    let c : t.c ≡ Numbered r.c = cc in
-    let d : t.d ≡ Numbered r.d = cc in
-    rw (a, b, c, d) refl
-
-pub inside_by_faces : (ps : List Point) (p : Point) (t : SlotCorners) (r : Row) (q : Corners) → corner_list t ≡ row_corners r → q ≡ placed ps p t → ((k : ℕ) → k < 4 → pos 0 ≤ℤ side (opposite_face q k) p) → IsInside ps p (corner_list t)
+pub inside_by_faces : (ps : List Point) (p : Point) (t : SlotCorners) (r : Row) (q : Corners) → corner_list t ≡ row_corners r → q ≡ corners ps r → ((k : ℕ) → k < 4 → pos 0 ≤ℤ side (opposite_face q k) p) → IsInside ps p (corner_list t)
 inside_by_faces ps p t r q e is h =
-    record { row = r; is = e; holds = subst (λ x. InClosed x (as_rational p)) (is ∙ placed_row ps p t r e) (closed_by_faces q p h) }
+    record { row = r; is = e; holds = subst (λ x. InClosed x (as_rational p)) is (closed_by_faces q p h) }
 
 -- a tetrahedron of points with a face that p is strictly beyond
-pub row_leads_out : (ps : List Point) (p : Point) (t : SlotCorners) (r : Row) (q : Corners) (k : ℕ) → corner_list t ≡ row_corners r → q ≡ placed ps p t → k < 4 → side (opposite_face q k) p <ℤ pos 0 → (IsInside ps p (corner_list t) → ⊥) × (IsBeyond ps p (corner_list t) → ⊥)
+pub row_leads_out : (ps : List Point) (p : Point) (t : SlotCorners) (r : Row) (q : Corners) (k : ℕ) → corner_list t ≡ row_corners r → q ≡ corners ps r → k < 4 → side (opposite_face q k) p <ℤ pos 0 → (IsInside ps p (corner_list t) → ⊥) × (IsBeyond ps p (corner_list t) → ⊥)
 row_leads_out ps p t r q k e is lt out = (
   λ h.
-      let same : corners ps h.row ≡ q = sym (is ∙ placed_row ps p t h.row h.is) in
+      let row : r ≡ h.row = one_row h.row (sym e ∙ h.is) in
+      let same : corners ps h.row ≡ q = sym (is ∙ ap (corners ps) row) in
       closed_not_beyond q p k (subst (λ x. InClosed x (as_rational p)) same h.holds) lt out,
   λ h. row_not_ghost r h.place h.within (sym (ap (λ cs. get_or cs h.place Ghost) e) ∙ h.infinite),
 )
+  where
+    one_row : (s : Row) → row_corners r ≡ row_corners s → r ≡ s
+    one_row s same =
+        let a : r.a ≡ s.a = cc in
+        let b : r.b ≡ s.b = cc in
+        let c : r.c ≡ s.c = cc in
+        let d : r.d ≡ s.d = cc in
+        λ i. record { a = a i; b = b i; c = c i; d = d i }
 
 -- the point is not in this place of the mesh
 pub record IsNotAt (slots : List (Option Tet)) (ps : List Point) (p : Point) (s : ℕ) : Type 0 where

@@ -4,7 +4,7 @@
 mod look;
 mod walk;
 
-pub use look::{Shape, corner_point, placed, shape_of};
+pub use look::{Shape, corner_point, placed, row_points, shape_of};
 pub use walk::{Place, locate};
 
 #[cfg(test)]

@@ -1,8 +1,9 @@
 //! What one slot tells of a point.
 ghost use Rattle.std.specs.Prelude.{◌≡◌, ℕ, ◌<◌, ◌≤ℤ◌, ◌<ℤ◌, ◌↔◌, pos, length, IsTrue, MatchOption};
 ghost use Rattle.sign_predicates.specs.Orientation.{side, opposite_face, IsPositive};
+ghost use Rattle.geo_laws.specs.Delaunay.{corners};
 ghost use Rattle.mesh_arena.specs.Mesh.{corner_list};
-ghost use Rattle.point_locate.specs.Place.{corner_point, placed, AreOn, IsOn, Looks, HasShape};
+ghost use Rattle.point_locate.specs.Place.{corner_point, placed, row_corners, AreOn, IsOn, Looks, HasShape};
 
 use geo_laws::{Points, Tet};
 use mesh_arena::{Corner, SlotCorners};
@@ -67,6 +68,20 @@ pub fn placed(points: &Points, p: GridPoint, t: SlotCorners) -> Corners
     }
 }
 
+/// The points of a row's corners, whose numbers are places in `points`, from 0. Coordinates are in grid units.
+#[inline]
+pub fn row_points(points: &Points, row: Tet) -> Corners
+    requires { AreOn points.now (row_corners row) }
+    ensures { result ≡ corners points.now row }
+{
+    Corners {
+        a: points.at(row.a as usize),
+        b: points.at(row.b as usize),
+        c: points.at(row.c as usize),
+        d: points.at(row.d as usize),
+    }
+}
+
 fn is_positive(t: Corners) -> bool
     ensures { IsTrue result ↔ IsPositive t }
 {
@@ -104,14 +119,13 @@ pub(crate) fn look_at(points: &Points, t: SlotCorners, entry: u8, p: GridPoint) 
     requires entry { entry < 4 }
     ensures { Looks points.now p (corner_list t) result }
 {
-    let placed = placed(points, p, t);
     match shape_of(t) {
-        Shape::Row(_) => match face_beyond(&placed, entry, p) {
+        Shape::Row(row) => match face_beyond(&row_points(points, row), entry, p) {
             None => Look::Inside,
             Some(face) => Look::Out(face),
         },
         Shape::Ghost(place) => {
-            if is_positive(placed) {
+            if is_positive(placed(points, p, t)) {
                 Look::Beyond
             } else {
                 Look::Out(place)

@@ -11,13 +11,13 @@ loop-i-preserved c =
 
 pub returns-then-slot_has_corners : goal.returns-then-slot_has_corners
 returns-then-slot_has_corners c =
-    let side = side_of_slot c.args.arena.now.slots c.args.points.now c.requires c.args.a c.args.b c.loop-i.i (c.if-slot_has_corners.ensures.0 refl) in
+    let side = side_of_slot c.args.arena.now.slots c.args.points.now c.requires.mesh c.args.a c.args.b c.loop-i.i c.requires.differ (c.if-slot_has_corners.ensures.0 refl) in
     (λ h. side, λ h. refl)
 
 pub returns : goal.returns
 returns c = (
   λ h. absurd cc,
   λ side.
-      let at = slot_of_side c.args.arena.now.slots c.args.points.now c.requires c.args.a c.args.b side in
+      let at = slot_of_side c.args.arena.now.slots c.args.points.now c.requires.mesh c.args.a c.args.b side in
       absurd (c.loop-i.invariant at.0 (omega (arith, at.1)) at.2),
 )

@@ -1,8 +1,8 @@
 use Rattle.cavity_insert.proofs.Cones.{slot_on, slot_answers}
 use Rattle.cavity_insert.proofs.sides.side_by_walk.Goals as goal
 
-pub turn_at-requires-clause-corners : goal.turn_at-requires-clause-corners
-turn_at-requires-clause-corners c = slot_on c.args.arena.now.slots c.args.points.now c.requires.mesh c.loop.at.index c.tet.result c.tet.ensures.mesh c.tet.ensures.corners
+pub step_at-requires-clause-corners : goal.step_at-requires-clause-corners
+step_at-requires-clause-corners c = slot_on c.args.arena.now.slots c.args.points.now c.requires.mesh c.loop.at.index c.tet.result c.tet.ensures.mesh c.tet.ensures.corners
 
 pub returns-in-Answer : goal.returns-in-Answer
 returns-in-Answer c =
