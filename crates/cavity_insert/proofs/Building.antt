@@ -1,10 +1,9 @@
 -- The points are inserted in their turns, each once.
-use Rattle.std.proofs.Common.{◌≡◌, ◌≢◌, ◌↔◌, ◌⊎◌, inl, inr, ℕ, zero, suc, ◌+◌, ◌<◌, ◌≤◌, true, false, ◌||◌, ◌==◌, List, [], ◌∷◌, ◌++◌, length, take, take_all, get_or, Option, refl, sym, ap, subst, ◌∙◌, arith}
+use Rattle.std.proofs.Common.{◌≡◌, ◌≢◌, ◌↔◌, ◌⊎◌, inl, inr, ℕ, zero, suc, ◌+◌, ◌<◌, ◌≤◌, false, ◌==◌, List, [], ◌∷◌, ◌++◌, length, take, take_all, get_or, Option, refl, sym, ap, subst, ◌∙◌, arith}
 use Rattle.std.specs.Prelude.{Contains, if◌then◌else◌}
 use Rattle.std.specs.List.{sum_by, range_with_len}
 use Rattle.std.specs.List.Sorted.{IsPermutation}
-use Rattle.std.proofs.lemmas.Bool.{cases_eq, cases_order, or_cases, eqb-true, eq-eqb, ne_eqb, true≢false, cond-true, cond-false}
-use Rattle.std.proofs.Math.Bool.{or-true}
+use Rattle.std.proofs.lemmas.Bool.{cases_eq, cases_order, eq-eqb, ne_eqb, true≢false, cond-true, cond-false}
 use Rattle.std.proofs.lemmas.List.{take_more, get_or-map, length-map}
 use Rattle.std.proofs.lemmas.List.Elements.{Contains-append_left, Contains-append_right, Contains-append_cases, Contains-push, Contains-push_cases}
 use Rattle.std.proofs.lemmas.List.Sorted.{Contains-permutation, IsPermutation-sym, sum_by-IsPermutation}
@@ -12,8 +11,7 @@ use Rattle.std.proofs.lemmas.List.Sums.{sum_by-append, sum_by-cons, sum_by-take-
 use Rattle.sign_predicates.specs.Point.{Point}
 use Rattle.geo_laws.specs.Delaunay.{point, numbers, numbers_below, all_numbers, has_corner, HasDistinctPoints}
 use Rattle.geo_laws.specs.declared.tetrahedra.Tet.{Tet as Row}
-use Rattle.geo_laws.proofs.Places.{A, B, C, D}
-use Rattle.geo_laws.proofs.Corners.{IsCorner, corner_of, contains_corner, contains_below, below_of}
+use Rattle.geo_laws.proofs.Corners.{found, contains_below, below_of}
 use Rattle.mesh_arena.specs.Mesh.{Tet}
 use Rattle.mesh_laws.specs.Living.{IsDelaunayMesh}
 use Rattle.mesh_laws.proofs.ReplacedLists.{law_same_mesh}
@@ -201,34 +199,6 @@ module _ (ps : List Point) (first : Row) (turns : List Turn) where
       from : (i : ℕ) → Contains (all_numbers ps) i → Contains now.ms i
       from i c = (now.exactly i).1 (inr (subst (λ xs. Contains (turn_numbers xs) i) (sym (take_all k turns all)) (Contains-permutation _ _ i order c)))
 
--- the test of a corner tells whether it is one
-pub has_corner_is : (t : Row) (i : ℕ) → has_corner t i ≡ true → Contains (numbers t) i
-has_corner_is t i h = first (or_cases _ _ h)
-  where
-    fourth : ((t.d == i) ≡ true) ⊎ (false ≡ true) → Contains (numbers t) i
-    fourth (inl e) = contains_corner t i (D, sym (eqb-true t.d i e))
-    fourth (inr e) = absurd (true≢false (sym e))
-
-    third : ((t.c == i) ≡ true) ⊎ ((t.d == i || false) ≡ true) → Contains (numbers t) i
-    third (inl e) = contains_corner t i (C, sym (eqb-true t.c i e))
-    third (inr e) = fourth (or_cases _ _ e)
-
-    second : ((t.b == i) ≡ true) ⊎ ((t.c == i || (t.d == i || false)) ≡ true) → Contains (numbers t) i
-    second (inl e) = contains_corner t i (B, sym (eqb-true t.b i e))
-    second (inr e) = third (or_cases _ _ e)
-
-    first : ((t.a == i) ≡ true) ⊎ ((t.b == i || (t.c == i || (t.d == i || false))) ≡ true) → Contains (numbers t) i
-    first (inl e) = contains_corner t i (A, sym (eqb-true t.a i e))
-    first (inr e) = second (or_cases _ _ e)
-
+-- a number that the test of a corner refuses is none
 pub has_corner_not : (t : Row) (i : ℕ) → has_corner t i ≡ false → ¬ Contains (numbers t) i
-has_corner_not t i h c = by (corner_of t i c)
-  where
-    same : (j : ℕ) → i ≡ j → (j == i) ≡ true
-    same j e = eq-eqb j i (sym e)
-
-    by : IsCorner t i → ⊥
-    by (A, e) = true≢false (sym (ap (λ b. b || (t.b == i || (t.c == i || (t.d == i || false)))) (same t.a e)) ∙ h)
-    by (B, e) = true≢false (sym (ap (λ b. t.a == i || (b || (t.c == i || (t.d == i || false)))) (same t.b e) ∙ or-true (t.a == i)) ∙ h)
-    by (C, e) = true≢false (sym (ap (λ b. t.a == i || (t.b == i || (b || (t.d == i || false)))) (same t.c e) ∙ ap (λ b. t.a == i || b) (or-true (t.b == i)) ∙ or-true (t.a == i)) ∙ h)
-    by (D, e) = true≢false (sym (ap (λ b. t.a == i || (t.b == i || (t.c == i || (b || false)))) (same t.d e) ∙ ap (λ b. t.a == i || (t.b == i || b)) (or-true (t.c == i)) ∙ ap (λ b. t.a == i || b) (or-true (t.b == i)) ∙ or-true (t.a == i)) ∙ h)
+has_corner_not t i h c = true≢false (sym (found (numbers t) i c) ∙ h)

@@ -37,7 +37,7 @@ behind_face (l ∷ ls) s k =
     else if s == l.behind && k == l.back then Some (at l.slot l.face)
     else behind_face ls s k
 
--- the slots of the first n corners' lists, with these pairs of faces linked
+-- the slots are the tetrahedron and its ghosts, with their corners in these places; and just these pairs of faces are linked
 pub record AreStartSlots (slots : List (Option Tet)) (t : Row) (linked : List Shared) : Type 0 where
   pub corners : (s : ℕ) → corners_at slots s ≡ named t (start_places s)
   pub sides : (s k : ℕ) → side slots s k ≡ behind_face linked s k

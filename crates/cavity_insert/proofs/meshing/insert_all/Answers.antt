@@ -1,5 +1,6 @@
 use Rattle.std.proofs.Common.{◌∙◌, sym}
-use Rattle.cavity_insert.proofs.Building.{no_turn, begun, passed, added, ready, finished, has_corner_is, has_corner_not}
+use Rattle.cavity_insert.proofs.Building.{no_turn, begun, passed, added, ready, finished, has_corner_not}
+use Rattle.cavity_insert.proofs.SlotSides.{corner_found}
 use Rattle.cavity_insert.proofs.meshing.insert_all.Goals as goal
 use Rattle.cavity_insert.proofs.meshing.insert_all.Goals.{then-not-has_corner+in_ok-last, else-not-has_corner}
 
@@ -25,7 +26,7 @@ loop-turn-preserved g c =
           }
       | else-not-has_corner w ↦
           record {
-            inserted = rw w.arena-is (passed c.args.points.now c.args.first c.args.turns.now c.loop-turn.turn-index no_turn c.loop-turn-test.true _ now (has_corner_is c.args.first _ (sym c.has_corner.ensures ∙ w.if-not-has_corner.false)));
+            inserted = rw w.arena-is (passed c.args.points.now c.args.first c.args.turns.now c.loop-turn.turn-index no_turn c.loop-turn-test.true _ now (corner_found c.args.first _ (sym c.has_corner.ensures ∙ w.if-not-has_corner.false)));
             live = rw (w.arena-is, w.last-is) c.loop-turn.invariant.live;
           }
     ]
