@@ -1,5 +1,5 @@
 -- What a growth knows of the slots that it has tested, and how the table of them is chained.
-use Rattle.std.specs.Prelude.{◌≡◌, ◌≢◌, ℕ, ◌<◌, ◌%◌, List, length, Option, None, Some}
+use Rattle.std.specs.Prelude.{◌≡◌, ℕ, ◌<◌, ◌≤◌, ◌%◌, List, length}
 use Rattle.std.specs.List.{slice_index_or}
 use Rattle.cavity_insert.specs.declared.marks.Mark.{Mark}
 use Rattle.cavity_insert.specs.declared.marks.Mark.TheVariants.{Out}
@@ -22,19 +22,18 @@ IsMarked tested slot = (mark : Mark) × IsMarkedAs tested slot mark
 
 -- the bucket of a slot
 abbrev pub bucket : ℕ → ℕ
-bucket slot = slot % 256
+bucket slot = slot % 1024
 
--- none of the first n is in the bucket; or this one is the last of them that is
-abbrev pub IsLastIn : List Tested → ℕ → ℕ → Option ℕ → Type 0
-IsLastIn tested b n None = (j : ℕ) → j < n → bucket (tested_at tested j).slot ≢ b
-IsLastIn tested b n (Some i) = (i < n) × (bucket (tested_at tested i).slot ≡ b) × ((j : ℕ) → i < j → j < n → bucket (tested_at tested j).slot ≢ b)
+-- each of the first n that is in the bucket stands at this place or before it; and where there is one, the place has one of them
+abbrev pub IsLastIn : List Tested → ℕ → ℕ → ℕ → Type 0
+IsLastIn tested b n place = (j : ℕ) → j < n → bucket (tested_at tested j).slot ≡ b → (place < n) × (bucket (tested_at tested place).slot ≡ b) × (j ≤ place)
 
-abbrev pub link_at : List (Option ℕ) → ℕ → Option ℕ
-link_at links i = slice_index_or links i None
+abbrev pub link_at : List ℕ → ℕ → ℕ
+link_at links i = slice_index_or links i 0
 
 -- the links lead through each bucket, from the last slot back to the first
-pub record IsChained (tested : List Tested) (earlier last : List (Option ℕ)) : Type 0 where
-  pub buckets : length last ≡ 256
+pub record IsChained (tested : List Tested) (earlier last : List ℕ) : Type 0 where
+  pub buckets : length last ≡ 1024
   pub links : length earlier ≡ length tested
-  pub ends : (b : ℕ) → b < 256 → IsLastIn tested b (length tested) (link_at last b)
+  pub ends : (b : ℕ) → b < 1024 → IsLastIn tested b (length tested) (link_at last b)
   pub steps : (i : ℕ) → i < length tested → IsLastIn tested (bucket (tested_at tested i).slot) i (link_at earlier i)

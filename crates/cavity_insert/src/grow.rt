@@ -121,6 +121,27 @@ pub fn grow_cavity<L: Ledger>(
     ensures grown { IfOk result (λ grown. Grown arena.now.slots (IsTaken arena.now.slots points.now p number) start.index grown.0 grown.1) }
 {
     let mut marks = Marks::new(alloc)?;
+    grow_with_marks(alloc, arena, points, start, p, number, &mut marks, steps)
+}
+
+/// The same with marks that serve one growth after another, whatever they hold.
+pub(crate) fn grow_with_marks<L: Ledger>(
+    alloc: Global,
+    arena: &Arena,
+    points: &Points,
+    start: Slot,
+    p: GridPoint,
+    number: u32,
+    marks: &mut Marks,
+    steps: &mut Steps<L>,
+) -> Result<(Cavity, Rim), NoMemory>
+    requires corners { AreCornersOn arena.now.slots points.now }
+    requires start { IsTaken arena.now.slots points.now p number start.index }
+    ensures few { IfOk result (λ grown. steps.new ≤ steps.old + (4 * length grown.0 + 1)) }
+    ensures many { IfOk result (λ grown. steps.old + length grown.0 ≤ steps.new) }
+    ensures grown { IfOk result (λ grown. Grown arena.now.slots (IsTaken arena.now.slots points.now p number) start.index grown.0 grown.1) }
+{
+    marks.clear();
     let mut cavity = Cavity::with_capacity(alloc, MOST_USUAL)?;
     let mut rim = Rim::with_capacity(alloc, MOST_USUAL)?;
     let _ = arena.tet(start);
@@ -141,7 +162,7 @@ pub fn grow_cavity<L: Ledger>(
                 start,
                 i,
                 k,
-                &mut marks,
+                marks,
                 &mut cavity,
                 &mut rim,
                 steps,

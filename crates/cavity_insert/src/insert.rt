@@ -7,7 +7,8 @@ ghost use Rattle.mesh_laws.specs.Laws.{slot_of};
 ghost use Rattle.mesh_laws.specs.Living.{IsDelaunayMesh};
 ghost use Rattle.cavity_insert.specs.Insert.{IsReadyFor};
 
-use crate::grow::grow_cavity;
+use crate::grow::grow_with_marks;
+use crate::marks::Marks;
 use crate::steps::Steps;
 use geo_laws::Points;
 use mesh_arena::{Arena, Slot};
@@ -25,6 +26,7 @@ pub(crate) fn insert_point<L: Ledger>(
     points: &Points,
     number: u32,
     near: Slot,
+    marks: &mut Marks,
     steps: &mut Steps<L>,
 ) -> Result<Slot, NoMemory>
     requires ready { (ms : List ℕ) × IsReadyFor arena.old.slots points.now ms number }
@@ -37,7 +39,7 @@ pub(crate) fn insert_point<L: Ledger>(
     let _ = arena.tet(near);
     let p = point_at(points, number);
     let first = slot_of(locate(arena, points, near, p));
-    let (cavity, rim) = grow_cavity(alloc, arena, points, first, p, number, steps)?;
+    let (cavity, rim) = grow_with_marks(alloc, arena, points, first, p, number, marks, steps)?;
     arena.reserve(rim.len())?;
     arena.replace_cavity(&cavity, &rim, number)
 }

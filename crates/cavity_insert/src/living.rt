@@ -7,6 +7,7 @@ ghost use Rattle.mesh_laws.specs.Living.{IsDelaunayMesh};
 ghost use Rattle.cavity_insert.specs.Living.{IsLonger, HasSide};
 
 use crate::insert::insert_point;
+use crate::marks::Marks;
 use crate::meshing::{BuildFault, Built, mesh_from};
 use crate::rows::rows_of;
 use crate::sides::{side_by_scan, side_by_walk};
@@ -58,8 +59,9 @@ fn insert_last<L: Ledger>(
     ensures stays { OnOk result ((u : ℕ) → IsLive arena.old.slots u → (IsTaken arena.old.slots points.now (point points.now number) number u → ⊥) → corners_at arena.new.slots u ≡ corners_at arena.old.slots u) }
     ensures err { OnErr result (arena.new ≡ arena.old) }
 {
+    let mut marks = Marks::new(alloc)?;
     let mut steps = Steps::<L>::new(blank);
-    insert_point(alloc, arena, points, number, near, &mut steps)
+    insert_point(alloc, arena, points, number, near, &mut marks, &mut steps)
 }
 
 impl Living {

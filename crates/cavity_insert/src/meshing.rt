@@ -7,6 +7,7 @@ ghost use Rattle.cavity_insert.specs.Order.{IsOrderOf};
 
 use crate::first::first_row;
 use crate::insert::insert_point;
+use crate::marks::Marks;
 use crate::order::{Turn, insertion_order};
 use crate::rows::rows_of;
 use crate::start::start_mesh;
@@ -69,10 +70,11 @@ fn insert_all<L: Ledger>(
     ensures mesh { OnOk result (IsDelaunayMesh arena.new.slots points.now (all_numbers points.now)) }
     ensures live { IfOk result (λ s. IsLive arena.new.slots s.index) }
 {
+    let mut marks = Marks::new(alloc)?;
     let mut last = near;
     for turn in turns {
         if !has_corner(first, turn.number) {
-            last = insert_point(alloc, arena, points, turn.number, last, steps)?;
+            last = insert_point(alloc, arena, points, turn.number, last, &mut marks, steps)?;
         }
     }
     Ok(last)

@@ -20,11 +20,11 @@ locate-requires-clause-somewhere g c =
     subst (IsSomePlace c.args.arena.now.slots c.args.points.now) (sym c.point_at-p.ensures)
     (somewhere _ c.args.points.now c.requires.ready.0 c.args.number c.tet.ensures.mesh c.requires.ready.1 c.args.near.index c.requires.near)
 
-pub grow_cavity-requires-clause-corners : goal.grow_cavity-requires-clause-corners
-grow_cavity-requires-clause-corners g c = corners_on _ c.args.points.now c.requires.ready.0 c.args.number c.tet.ensures.mesh c.requires.ready.1
+pub grow_with_marks-requires-clause-corners : goal.grow_with_marks-requires-clause-corners
+grow_with_marks-requires-clause-corners g c = corners_on _ c.args.points.now c.requires.ready.0 c.args.number c.tet.ensures.mesh c.requires.ready.1
 
-pub grow_cavity-requires-clause-start : goal.grow_cavity-requires-clause-start
-grow_cavity-requires-clause-start g c =
+pub grow_with_marks-requires-clause-start : goal.grow_with_marks-requires-clause-start
+grow_with_marks-requires-clause-start g c =
     let whole : IsWholeFrom c.args.arena.now.slots c.args.points.now c.args.number c.slot_of-first.result.index =
     whole_at _ c.args.points.now c.requires.ready.0 c.args.number c.tet.ensures.mesh c.requires.ready.1 c.point_at-p.result c.locate.result _ c.point_at-p.ensures c.slot_of-first.ensures c.locate.ensures in
     subst (λ q. IsTaken c.args.arena.now.slots c.args.points.now q c.args.number c.slot_of-first.result.index) (sym c.point_at-p.ensures) whole.takes_start

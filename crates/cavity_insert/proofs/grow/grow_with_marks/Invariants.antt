@@ -1,7 +1,7 @@
 use Rattle.std.proofs.Common.{◌*◌, ◌<◌, ◌≤◌, ◌-◌, ◌+◌, length}
 use Rattle.cavity_insert.specs.Grow.{Growing}
 use Rattle.mesh_laws.specs.Rule.{IsTaken}
-use Rattle.cavity_insert.proofs.grow.grow_cavity.Given as goal
+use Rattle.cavity_insert.proofs.grow.grow_with_marks.Given as goal
 
 abbrev pub invariant-loop-i : goal.invariant-loop-i
 invariant-loop-i g l =

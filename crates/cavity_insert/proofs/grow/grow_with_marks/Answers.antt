@@ -6,7 +6,7 @@ use Rattle.cavity_insert.specs.declared.marks.Mark.TheVariants.{In}
 use Rattle.cavity_insert.proofs.Growth.{Growing-begin, Growing-row, Grown-done}
 use Rattle.cavity_insert.proofs.Pigeons.{few_slots}
 use Rattle.mesh_laws.proofs.Taken.{taken_live}
-use Rattle.cavity_insert.proofs.grow.grow_cavity.Goals as goal
+use Rattle.cavity_insert.proofs.grow.grow_with_marks.Goals as goal
 
 pub loop-i-init : goal.loop-i-init
 loop-i-init g c =
@@ -14,7 +14,7 @@ loop-i-init g c =
     let rule = IsTaken slots c.args.points.now c.args.p c.args.number in
     let cavity : c.push.new.self ≡ c.args.start ∷ [] = c.in_ok-push.ensures.ok ∙ ap (λ (x : List Slot). x ++ c.args.start ∷ []) c.in_ok-cavity.ensures in
     let one : Tested = record { slot = c.args.start.index; mark = In } in
-    let marks : c.put.new.self ≡ one ∷ [] = c.in_ok-put.ensures ∙ ap (λ (x : List Tested). x ++ one ∷ []) c.in_ok-marks.ensures in
+    let marks : c.put.new.self ≡ one ∷ [] = c.in_ok-put.ensures ∙ ap (λ (x : List Tested). x ++ one ∷ []) c.clear.ensures in
     let live = taken_live slots c.args.points.now c.args.p c.args.number c.args.start.index c.requires.start in
     record {
       inside = omega arith;
