@@ -12,7 +12,7 @@ use sign_predicates::{GridPoint, Numbers, Sign, orient, outside};
 use std::sync::ledger::Ledger;
 
 // Whether the row doesn't have the point outside.
-#[inline]
+#[inline(always)]
 fn takes_row(points: &Points, row: Tet, p: GridPoint, number: u32) -> bool
     requires { AreOn points.now (row_corners row) }
     ensures { IsTrue result ↔ IsTakenRow points.now p number (row_corners row) }
@@ -77,6 +77,7 @@ fn is_seen(arena: &Arena, points: &Points, s: Slot, place: u8, p: GridPoint, num
 /// is counted. It takes no memory. The corners are places in `points`, from 0, and coordinates are in grid units.
 ///
 /// Source: incremental insertion (Bowyer 1981, Watson 1981), with ghosts over the hull.
+#[inline(always)]
 pub fn test_slot<L: Ledger>(
     arena: &Arena,
     points: &Points,

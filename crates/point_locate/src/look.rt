@@ -89,6 +89,7 @@ fn is_positive(t: Corners) -> bool
 }
 
 // Whether `p` is strictly beyond a face.
+#[inline(always)]
 fn is_beyond(t: &Corners, face: u8, p: GridPoint) -> bool
     requires { face < 4 }
     ensures { IsTrue result ↔ (side (opposite_face t.now face) p <ℤ pos 0) }
@@ -97,6 +98,7 @@ fn is_beyond(t: &Corners, face: u8, p: GridPoint) -> bool
 }
 
 // A face that `p` is strictly beyond. The face `entry` is tested last: a walk that came through it has `p` on its inner side.
+#[inline(always)]
 fn face_beyond(t: &Corners, entry: u8, p: GridPoint) -> Option<u8>
     requires { entry < 4 }
     ensures { MatchOption result ((k : ℕ) → k < 4 → pos 0 ≤ℤ side (opposite_face t.now k) p) (λ k. (k < 4) × (side (opposite_face t.now k) p <ℤ pos 0)) }
@@ -114,6 +116,7 @@ fn face_beyond(t: &Corners, entry: u8, p: GridPoint) -> Option<u8>
 }
 
 // What the corners of a slot tell of the point `p`.
+#[inline(always)]
 pub(crate) fn look_at(points: &Points, t: SlotCorners, entry: u8, p: GridPoint) -> Look
     requires corners { AreOn points.now (corner_list t) }
     requires entry { entry < 4 }
