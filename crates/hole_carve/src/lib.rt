@@ -8,7 +8,7 @@ mod sorting;
 mod tests;
 mod uses;
 
-pub use incidences::{Corner, Incidence, Incidences, incidence_at, incidences_of};
+pub use incidences::{Incidence, Incidences, RowCorner, incidence_at, incidences_of};
 pub use pairs::{Across, Marks, Pairs, pair_faces, pair_uses};
 pub use sorting::{Simplex, sort_runs};
 pub use uses::{Use, Uses, gather_uses, uses_of};

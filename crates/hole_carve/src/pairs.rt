@@ -61,20 +61,25 @@ fn put_partners(list: &TetList, uses: &Uses, pairs: &mut [Across])
         first = run_start(uses, first, at, list);
         let partner = partner_at(uses, first, at, list);
         let here = use_at(uses, at, list);
-        let across = pairs[here.row];
-        pairs[here.row] = placed(list.at(here.row), here.face, partner, across);
+        put_partner(list.at(here.row), here.face, partner, &mut pairs[here.row]);
     }
 }
 
-/// What is across the faces of a row, with the partner across this face put in.
-fn placed(row: Tet, face: Face, partner: Option<usize>, across: Across) -> Across
-    ensures { result ≡ placed row face partner across }
+/// Puts in the partner across this face of a row.
+fn put_partner(row: Tet, face: Face, partner: Option<usize>, across: &mut Across)
+    ensures { across.new ≡ placed row face partner across.old }
 {
     let [a, b, c, d] = row_faces(row);
-    Across {
-        n0: if a == face { partner } else { across.n0 },
-        n1: if b == face { partner } else { across.n1 },
-        n2: if c == face { partner } else { across.n2 },
-        n3: if d == face { partner } else { across.n3 },
+    if a == face {
+        across.n0 = partner;
+    }
+    if b == face {
+        across.n1 = partner;
+    }
+    if c == face {
+        across.n2 = partner;
+    }
+    if d == face {
+        across.n3 = partner;
     }
 }

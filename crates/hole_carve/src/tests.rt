@@ -82,12 +82,12 @@ fn corners_stand_point_by_point(rt: HostRuntime) -> Result<(), Fail> {
     })?;
     let found = incidences_of(alloc, &list)?;
     let want = [
-        (0, Corner::A),
-        (1, Corner::A),
-        (0, Corner::B),
-        (1, Corner::B),
-        (0, Corner::C),
-        (1, Corner::C),
+        (0, RowCorner::A),
+        (1, RowCorner::A),
+        (0, RowCorner::B),
+        (1, RowCorner::B),
+        (0, RowCorner::C),
+        (1, RowCorner::C),
     ];
     assert_eq!(rt; found.len(), want.len());
     for (at, (row, corner)) in found.as_slice().iter().zip(want) {

@@ -4,7 +4,7 @@ ghost use Rattle.hole_carve.specs.Incidences.{AreIncidencesOf};
 ghost use Rattle.mesh_files.specs.Gathered.{faces_at, faces_by};
 
 use geo_laws::{Face, Tet, TetList, face_of};
-use hole_carve::{Corner, Incidences, incidence_at, incidences_of, sort_runs};
+use hole_carve::{Incidences, RowCorner, incidence_at, incidences_of, sort_runs};
 use std::alloc::Global;
 use tet_ports::{Items, NoMemory};
 
@@ -45,16 +45,16 @@ fn gathered_faces(alloc: Global, list: &TetList, at: &Incidences) -> Result<Vec<
 }
 
 /// Appends the faces that are gathered at a corner of a row.
-fn append_faces(faces: &mut Vec<Face>, row: Tet, corner: Corner) -> Result<(), NoMemory>
+fn append_faces(faces: &mut Vec<Face>, row: Tet, corner: RowCorner) -> Result<(), NoMemory>
     ensures { OnOk result (faces.new.items ≡ faces.old.items ++ faces_at row corner) }
 {
     let Tet { a, b, c, d } = row;
     match corner {
-        Corner::A => {
+        RowCorner::A => {
             faces.extend_from_slice(&[face_of(a, c, d), face_of(a, b, d), face_of(a, b, c)])?
         }
-        Corner::B => faces.push(face_of(b, c, d))?,
-        Corner::C => {}
+        RowCorner::B => faces.push(face_of(b, c, d))?,
+        RowCorner::C => {}
     }
     Ok(())
 }

@@ -17,8 +17,8 @@ loop-at-preserved c =
     let here = c.use_at-here.result in
     let its_partner = c.partner_at-partner.ensures here ∙ ap (λ u. partner rows u.row u.face) (c.use_at-here.ensures.same here) in
     record {
-      settled = settled_next rows uses c.loop-at.at c.loop-at.pairs here c.at.result c.partner_at-partner.result _ c.placed.result (omega arith) c.use_at-here.ensures.of_row
-          c.use_at-here.ensures.same c.at.ensures its_partner c.placed.ensures c.loop-at.invariant.settled;
+      settled = settled_next rows uses c.loop-at.at c.loop-at.pairs here c.at.result c.partner_at-partner.result _ _ (omega arith) c.use_at-here.ensures.of_row
+          c.use_at-here.ensures.same c.at.ensures its_partner c.put_partner.ensures c.loop-at.invariant.settled;
       run = run_before_next uses c.run_start-first.result c.loop-at.at c.requires.uses.ascending (omega arith) c.run_start-first.ensures;
     }
 
