@@ -1,4 +1,4 @@
 pub mod Gathered
-pub mod Incidences
+pub mod Links
 pub mod Pairs
 pub mod Uses

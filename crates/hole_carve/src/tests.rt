@@ -65,39 +65,6 @@ fn rows_have_the_least_other_row_with_the_face(rt: HostRuntime) -> Result<(), Fa
 }
 
 #[test]
-fn corners_stand_point_by_point(rt: HostRuntime) -> Result<(), Fail> {
-    let alloc = rt.alloc();
-    let mut list = TetList::new(alloc);
-    list.push(Tet {
-        a: 0,
-        b: 1,
-        c: 3,
-        d: 4,
-    })?;
-    list.push(Tet {
-        a: 1,
-        b: 2,
-        c: 3,
-        d: 4,
-    })?;
-    let found = incidences_of(alloc, &list)?;
-    let want = [
-        (0, RowCorner::A),
-        (1, RowCorner::A),
-        (0, RowCorner::B),
-        (1, RowCorner::B),
-        (0, RowCorner::C),
-        (1, RowCorner::C),
-    ];
-    assert_eq!(rt; found.len(), want.len());
-    for (at, (row, corner)) in found.as_slice().iter().zip(want) {
-        assert_eq!(rt; at.row, row);
-        assert_eq!(rt; at.corner, corner);
-    }
-    Ok(())
-}
-
-#[test]
 fn each_run_is_sorted_in_its_place(rt: HostRuntime) -> Result<(), Fail> {
     let alloc = rt.alloc();
     let mut faces = Vec::new(alloc);

@@ -2,10 +2,10 @@
 use Rattle.std.proofs.Common.{◌≡◌, ◌⊎◌, inl, inr, ℕ, ◌+◌, ◌-◌, ◌<◌, ◌≤◌, ◌==◌, Bool, true, false, not, List, [], ◌∷◌, ◌++◌, length, map, get_or, zero, suc, refl, sym, subst, ap, ◌∙◌, arith}
 use Rattle.std.specs.Prelude.{if◌then◌else◌, count_by, AllPairs, Contains, pos}
 use Rattle.std.proofs.lemmas.Bool.{cases_order, eq-eqb, ne_eqb, true≢false}
-use Rattle.std.proofs.lemmas.List.{get_or-map, length-map, get_or_default}
+use Rattle.std.proofs.lemmas.List.{get_or-map, length-map, get_or_default, map-append}
 use Rattle.std.proofs.lemmas.List.Elements.{Contains-append_left, Contains-append_right, Contains-append_cases, Contains-push, Contains-push_cases}
 use Rattle.std.proofs.lemmas.List.Quantifiers.{all_pairs_push}
-use Rattle.geo_laws.specs.Faces.{row_faces, faces_of_rows, FaceBefore}
+use Rattle.geo_laws.specs.Faces.{row_faces, faces_of_rows, FaceBefore, AreFacesOf}
 use Rattle.geo_laws.specs.declared.faces.Face.{Face}
 use Rattle.geo_laws.specs.declared.tetrahedra.Tet.{Tet}
 use Rattle.hole_carve.specs.declared.uses.Use.{Use}
@@ -20,7 +20,7 @@ use Rattle.mesh_files.proofs.Counts.{one_counted, two_counted}
 no_row : Tet
 no_row = record { a = 0; b = 0; c = 0; d = 0 }
 
-no_use : Use
+pub no_use : Use
 no_use = record { face = record { a = 0; b = 0; c = 0 }; row = 0 }
 
 -- a face whose first use is followed by another face belongs to one row
@@ -194,3 +194,51 @@ found_all rows uses all at found a end f = record {
         let P : Face → Type 0 = λ x. IsAsked all (face_row rows x) → Contains found (face_row rows x) in
         let same = subst P (ap (λ x. x.face) u.2) (f.served u.0 no_use (omega (arith, u.1, end))) in
         subst (Contains found) (sym w.2) (same (subst (IsAsked all) w.2 w.3))
+
+-- all faces of rows without their markers
+pub faces_found : (rows : List Tet) (found : List FaceRow) → AreFaceRowsOf rows true found → AreFacesOf rows (map corners_of found)
+faces_found rows found a = record {
+  exactly = λ f. (forth f, back f);
+  ascending = λ i j d l h.
+      let up = a.ascending i j (face_row rows d) l (omega (arith, h, length-map found corners_of)) in
+      subst (λ x. FaceBefore x (get_or (map corners_of found) j d)) (sym (at i d (omega (arith, l, h, length-map found corners_of))))
+      (subst (FaceBefore (corners_of (get_or found i (face_row rows d)))) (sym (at j d (omega (arith, h, length-map found corners_of)))) up);
+}
+  where
+    at : (i : ℕ) (d : Face) → i < length found → get_or (map corners_of found) i d ≡ corners_of (get_or found i (face_row rows d))
+    at i d l = get_or-map corners_of found i (face_row rows d) d l
+
+    forth : (f : Face) → Contains (map corners_of found) f → Contains (faces_of_rows rows) f
+    forth f h =
+        let l : h.0 < length found = omega (arith, h.1, length-map found corners_of) in
+        let r = get_or found h.0 (face_row rows f) in
+        let w = (a.exactly r).0 (h.0, l, get_or_default found h.0 r (face_row rows f) l) in
+        subst (Contains (faces_of_rows rows)) (ap corners_of (sym w.2) ∙ sym (at h.0 f l) ∙ h.2) w.1
+
+    back : (f : Face) → Contains (faces_of_rows rows) f → Contains (map corners_of found) f
+    back f h = Contains-map corners_of found (face_row rows f) ((a.exactly (face_row rows f)).1 (f, h, refl, inl refl))
+
+-- the faces of the uses before a place, where a list or a number of them is kept
+pub record AreFacesBefore (rows : List Tet) (uses : List Use) (at : ℕ) (faces : List Face) : Type 0 where
+  pub rows_found : List FaceRow
+  pub found : AreFoundBefore rows uses true at rows_found
+  pub faces_are : faces ≡ map corners_of rows_found
+
+pub faces_first : (rows : List Tet) (uses : List Use) → AreFacesBefore rows uses 0 []
+faces_first rows uses = record { rows_found = []; found = found_first rows uses true; faces_are = refl }
+
+pub faces_again : (rows : List Tet) (uses : List Use) (at : ℕ) (faces : List Face) → FollowsLike uses at → AreFacesBefore rows uses at faces → AreFacesBefore rows uses (at + 1) faces
+faces_again rows uses at faces g f = record { rows_found = f.rows_found; found = found_again rows uses true at f.rows_found g f.found; faces_are = f.faces_are }
+
+pub faces_pushed : (rows : List Tet) (uses : List Use) (at : ℕ) (faces : List Face) (u : Use) → AllPairs UseBefore uses → at < length uses → IsRunStart uses at at → ((d : Use) → get_or uses at d ≡ u)
+    → AreFacesBefore rows uses at faces → AreFacesBefore rows uses (at + 1) (faces ++ u.face ∷ [])
+faces_pushed rows uses at faces u up there run is f =
+    let r = face_row rows u.face in
+    record {
+      rows_found = f.rows_found ++ r ∷ [];
+      found = found_pushed rows uses true at f.rows_found r up there run (λ d. ap (λ v. face_row rows v.face) (sym (is d))) (inl refl) f.found;
+      faces_are = ap (λ fs. fs ++ u.face ∷ []) f.faces_are ∙ sym (map-append corners_of f.rows_found (r ∷ []));
+    }
+
+pub faces_last : (rows : List Tet) (uses : List Use) (at : ℕ) (faces : List Face) → AreUsesOf rows uses → at ≡ length uses → AreFacesBefore rows uses at faces → AreFacesOf rows faces
+faces_last rows uses at faces a end f = subst (AreFacesOf rows) (sym f.faces_are) (faces_found rows f.rows_found (found_all rows uses true at f.rows_found a end f.found))

@@ -76,7 +76,7 @@ fn row_at(list: &TetList, uses: &Uses, at: usize) -> FaceRow
 }
 
 /// Whether the use at a place is the first one of its face.
-fn is_first(list: &TetList, uses: &Uses, at: usize) -> bool
+pub(crate) fn is_first(list: &TetList, uses: &Uses, at: usize) -> bool
     requires uses { AreUsesOf list.now uses.now }
     requires there { at < length uses.now }
     ensures first { IsTrue result → IsRunStart uses.now at at }

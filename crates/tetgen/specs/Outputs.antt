@@ -12,7 +12,9 @@ use Rattle.mesh_files.specs.declared.markers.FaceRow.{FaceRow}
 use Rattle.node_files.specs.Writing.{node_text}
 use Rattle.node_files.specs.declared.table.NodeTable.{NodeTable}
 use Rattle.tetgen.specs.Messages.{file_message}
+use Rattle.tetgen.specs.declared.outputs.FaceOutputs.{FaceOutputs}
 use Rattle.tetgen.specs.declared.outputs.Outputs.{Outputs}
+use Rattle.tetgen.specs.declared.outputs.SideOutputs.{SideOutputs}
 use Rattle.tetgen.specs.declared.store.NamedText.{NamedText}
 use Rattle.tetgen.specs.declared.words.Options.{Options}
 
@@ -58,13 +60,26 @@ summary_text points added rows faces sides =
 abbrev pub names_sides : Options → Bool
 names_sides options = not options.quiet || (not options.no_face && options.edges)
 
--- whether the face file or the neighbor file is asked for, which speak of the uses of faces
+-- whether the face file, the neighbor file or the summary is asked for, which speak of the uses of faces
 abbrev pub asks_uses : Options → Bool
-asks_uses options = not options.no_face || options.neighbors
+asks_uses options = not options.quiet || (not options.no_face || options.neighbors)
 
--- whether anything is asked for that is gathered at the corners of the rows
-abbrev pub asks_corners : Options → Bool
-asks_corners options = not options.quiet || asks_uses options
+-- what is told of the faces of rows, where a file or the summary speaks of them
+pub record AreFaceOutputsOf (options : Options) (first : ℕ) (rows : List Tet) (outputs : FaceOutputs) : Type 0 where
+  pub marked : List FaceRow
+  pub marked_are : options.no_face ≡ false → AreFaceRowsOf rows options.all_faces marked
+  pub faces : List Face
+  pub faces_are : options.quiet ≡ false → AreFacesOf rows faces
+  pub marked_is : outputs.marked.items ≡ face_file options first marked
+  pub neighbors_is : outputs.neighbors.items ≡ neigh_file options first rows
+  pub count_is : outputs.count ≡ length faces
+
+-- and of their sides
+pub record AreSideOutputsOf (options : Options) (first : ℕ) (rows : List Tet) (outputs : SideOutputs) : Type 0 where
+  pub sides : List Side
+  pub sides_are : names_sides options ≡ true → AreSidesOf rows sides
+  pub edges_is : outputs.edges.items ≡ edge_file options first sides
+  pub count_is : outputs.count ≡ length sides
 
 -- The files and the summary of these rows on the points of a table, numbered from the first number. Faces and sides are those of the rows, where a file or
 -- the summary speaks of them

@@ -1,20 +1,20 @@
-ghost use Rattle.std.specs.Prelude.{◌≡◌, true, false, ◌<◌, ◌^◌, ◌++◌, length, All, IfOk, OnOk};
+ghost use Rattle.std.specs.Prelude.{◌≡◌, true, false, ◌<◌, ◌^◌, ◌++◌, List, length, All, IfOk, OnOk};
 ghost use Rattle.geo_laws.specs.Faces.{AreFacesOf, AreSidesOf};
-ghost use Rattle.hole_carve.specs.Incidences.{AreIncidencesOf};
+ghost use Rattle.geo_laws.specs.declared.faces.Face.{Face};
 ghost use Rattle.hole_carve.specs.Uses.{AreUsesOf};
 ghost use Rattle.mesh_files.specs.FaceRows.{AreFaceRowsOf};
 ghost use Rattle.node_files.specs.Writing.{IsNodeTable};
-ghost use Rattle.tetgen.specs.Outputs.{named, node_file, ele_file, face_file, edge_file, neigh_file, texts_of, summary_text, names_sides, asks_uses, asks_corners, TellsFailure, AreOutputsOf};
+ghost use Rattle.tetgen.specs.Outputs.{named, node_file, ele_file, face_file, edge_file, neigh_file, summary_text, names_sides, asks_uses, TellsFailure, AreFaceOutputsOf, AreSideOutputsOf, AreOutputsOf};
 
 use crate::message::{append_number, file_message};
 use crate::names::with_extension;
 use crate::store::NamedText;
 use crate::words::Options;
 use geo_laws::{Points, TetList};
-use hole_carve::{Incidences, Uses, gather_uses, incidences_of, pair_uses};
+use hole_carve::{Uses, pair_uses, uses_of};
 use mesh_files::{
-    Edges, FaceRows, Faces, gather_edges, gather_faces, used_faces, write_edge, write_ele,
-    write_face, write_neigh,
+    Edges, FaceRows, edges_of, face_count, used_faces, write_edge, write_ele, write_face,
+    write_neigh,
 };
 use node_files::{NodeTable, write_node};
 use std::alloc::Global;
@@ -25,6 +25,21 @@ use tet_ports::{Bytes, Name, NoMemory};
 pub struct Outputs {
     pub texts: Vec<NamedText>,
     pub summary: Option<Bytes>,
+}
+
+/// The face file and the neighbor file, each alone or none, and the number of faces, if the summary tells it.
+#[derive(Drop)]
+struct FaceOutputs {
+    marked: Vec<NamedText>,
+    neighbors: Vec<NamedText>,
+    count: usize,
+}
+
+/// The edge file, alone or none, and the number of sides, if the summary tells it.
+#[derive(Drop)]
+struct SideOutputs {
+    edges: Vec<NamedText>,
+    count: usize,
 }
 
 /// The files and the summary of these rows on the points of a table, numbered from the first number.
@@ -40,22 +55,20 @@ pub fn outputs_of(
     ensures outputs { IfOk result (AreOutputsOf options.now table.now first rows.now) }
     ensures told { IfOk result (λ outputs. All TellsFailure outputs.texts.items) }
 {
-    let at = wanted_incidences(alloc, options, rows)?;
-    let uses = wanted_uses(alloc, options, rows, &at)?;
-    let marked = wanted_face_rows(alloc, options, rows, &uses)?;
-    let faces = wanted_faces(alloc, options, rows, &at)?;
-    let sides = wanted_sides(alloc, options, rows, &at)?;
-    let texts = texts_of(alloc, options, first, table, rows, &uses, &marked, &sides)?;
+    let FaceOutputs {
+        marked,
+        neighbors,
+        count: faces,
+    } = face_outputs(alloc, options, first, rows)?;
+    let SideOutputs {
+        edges,
+        count: sides,
+    } = side_outputs(alloc, options, first, rows)?;
+    let texts = texts_of(alloc, options, first, table, rows, marked, edges, neighbors)?;
     let summary = if options.quiet {
         None
     } else {
-        Some(summary_of(
-            alloc,
-            table.points.len(),
-            rows.len(),
-            faces.len(),
-            sides.len(),
-        )?)
+        Some(summary_of(alloc, table.points.len(), rows.len(), faces, sides)?)
     };
     Ok(Outputs { texts, summary })
 }
@@ -67,120 +80,122 @@ fn names_sides(options: &Options) -> bool
     !options.quiet || (!options.no_face && options.edges)
 }
 
-/// Whether the face file or the neighbor file is asked for, which speak of the uses of faces.
+/// Whether the face file, the neighbor file or the summary is asked for, which speak of the uses of faces.
 fn asks_uses(options: &Options) -> bool
     ensures { result ≡ asks_uses options.now }
 {
-    !options.no_face || options.neighbors
+    !options.quiet || (!options.no_face || options.neighbors)
 }
 
-/// Whether anything is asked for that is gathered at the corners of the rows.
-fn asks_corners(options: &Options) -> bool
-    ensures { result ≡ asks_corners options.now }
-{
-    !options.quiet || asks_uses(options)
-}
-
-/// The corners of the rows, if something is asked for that is gathered at them.
-fn wanted_incidences(
+/// What is told of the faces. Each list is let go before the next one is made.
+fn face_outputs(
     alloc: Global,
     options: &Options,
+    first: u32,
     rows: &TetList,
-) -> Result<Incidences, NoMemory>
-    ensures { IfOk result (λ at. asks_corners options.now ≡ true → AreIncidencesOf rows.now at) }
+) -> Result<FaceOutputs, NoMemory>
+    ensures { IfOk result (AreFaceOutputsOf options.now first rows.now) }
 {
-    if !asks_corners(options) {
-        return Ok(Incidences::new(alloc));
-    }
-    incidences_of(alloc, rows)
+    let uses = wanted_uses(alloc, options, rows)?;
+    let count = wanted_face_count(options, rows, &uses);
+    let mut neighbors = Vec::new(alloc);
+    append_neigh(alloc, options, first, rows, &uses, &mut neighbors)?;
+    let faces = wanted_face_rows(alloc, options, rows, uses)?;
+    let mut marked = Vec::new(alloc);
+    append_face(alloc, options, first, &faces, &mut marked)?;
+    Ok(FaceOutputs {
+        marked,
+        neighbors,
+        count,
+    })
 }
 
-/// The uses of the faces, if a file speaks of them.
-fn wanted_uses(
+/// What is told of the sides.
+fn side_outputs(
     alloc: Global,
     options: &Options,
+    first: u32,
     rows: &TetList,
-    at: &Incidences,
-) -> Result<Uses, NoMemory>
-    requires { asks_corners options.now ≡ true → AreIncidencesOf rows.now at.now }
+) -> Result<SideOutputs, NoMemory>
+    ensures { IfOk result (AreSideOutputsOf options.now first rows.now) }
+{
+    let sides = wanted_sides(alloc, options, rows)?;
+    let mut edges = Vec::new(alloc);
+    append_edge(alloc, options, first, &sides, &mut edges)?;
+    Ok(SideOutputs {
+        edges,
+        count: sides.len(),
+    })
+}
+
+/// The uses of the faces, if something speaks of them.
+fn wanted_uses(alloc: Global, options: &Options, rows: &TetList) -> Result<Uses, NoMemory>
     ensures { IfOk result (λ uses. asks_uses options.now ≡ true → AreUsesOf rows.now uses) }
 {
     if !asks_uses(options) {
         return Ok(Uses::new(alloc));
     }
-    gather_uses(alloc, rows, at)
+    uses_of(alloc, rows)
 }
 
-/// The rows of the face file, if it is asked for.
+/// The number of faces, if the summary tells it.
+fn wanted_face_count(options: &Options, rows: &TetList, uses: &Uses) -> usize
+    requires { asks_uses options.now ≡ true → AreUsesOf rows.now uses.now }
+    ensures { (faces : List Face) × (options.now.quiet ≡ false → AreFacesOf rows.now faces) × (result ≡ length faces) }
+{
+    if options.quiet {
+        return 0;
+    }
+    face_count(rows, uses)
+}
+
+/// The rows of the face file, if it is asked for. The uses are let go.
 fn wanted_face_rows(
     alloc: Global,
     options: &Options,
     rows: &TetList,
-    uses: &Uses,
+    uses: Uses,
 ) -> Result<FaceRows, NoMemory>
-    requires { asks_uses options.now ≡ true → AreUsesOf rows.now uses.now }
+    requires { asks_uses options.now ≡ true → AreUsesOf rows.now uses }
     ensures { IfOk result (λ marked. options.now.no_face ≡ false → AreFaceRowsOf rows.now options.now.all_faces marked) }
 {
     if options.no_face {
         return Ok(FaceRows::new(alloc));
     }
-    used_faces(alloc, rows, uses, options.all_faces)
-}
-
-/// The faces, if the summary tells how many there are.
-fn wanted_faces(
-    alloc: Global,
-    options: &Options,
-    rows: &TetList,
-    at: &Incidences,
-) -> Result<Faces, NoMemory>
-    requires { asks_corners options.now ≡ true → AreIncidencesOf rows.now at.now }
-    ensures { IfOk result (λ faces. options.now.quiet ≡ false → AreFacesOf rows.now faces) }
-{
-    if options.quiet {
-        return Ok(Faces::new(alloc));
-    }
-    gather_faces(alloc, rows, at)
+    used_faces(alloc, rows, &uses, options.all_faces)
 }
 
 /// The sides, if the edge file or the summary is asked for.
-fn wanted_sides(
-    alloc: Global,
-    options: &Options,
-    rows: &TetList,
-    at: &Incidences,
-) -> Result<Edges, NoMemory>
-    requires { asks_corners options.now ≡ true → AreIncidencesOf rows.now at.now }
+fn wanted_sides(alloc: Global, options: &Options, rows: &TetList) -> Result<Edges, NoMemory>
     ensures { IfOk result (λ sides. names_sides options.now ≡ true → AreSidesOf rows.now sides) }
 {
     if !names_sides(options) {
         return Ok(Edges::new(alloc));
     }
-    gather_edges(alloc, rows, at)
+    edges_of(alloc, rows)
 }
 
-/// The files that the options ask for.
+/// The files that the options ask for, where those of the faces, the sides and the neighbors are made already.
 fn texts_of(
     alloc: Global,
     options: &Options,
     first: u32,
     table: &NodeTable,
     rows: &TetList,
-    uses: &Uses,
-    marked: &FaceRows,
-    sides: &Edges,
+    mut marked: Vec<NamedText>,
+    mut edges: Vec<NamedText>,
+    mut neighbors: Vec<NamedText>,
 ) -> Result<Vec<NamedText>, NoMemory>
-    requires uses { asks_uses options.now ≡ true → AreUsesOf rows.now uses.now }
     requires table { IsNodeTable table.now }
     requires few { length table.now.points < 2 ^ 32 }
-    ensures { IfOk result (λ texts. texts.items ≡ texts_of options.now first table.now rows.now marked.now sides.now) }
+    ensures { IfOk result (λ texts. texts.items ≡ node_file options.now first table.now ++ ele_file options.now first rows.now ++ marked.items ++ edges.items ++ neighbors.items) }
 {
     let mut texts = Vec::new(alloc);
     append_node(alloc, options, first, table, &mut texts)?;
     append_ele(alloc, options, first, rows, &mut texts)?;
-    append_face(alloc, options, first, marked, &mut texts)?;
-    append_edge(alloc, options, first, sides, &mut texts)?;
-    append_neigh(alloc, options, first, rows, uses, &mut texts)?;
+    texts.append(&mut marked)?;
+    texts.append(&mut edges)?;
+    texts.append(&mut neighbors)?;
     Ok(texts)
 }
 
