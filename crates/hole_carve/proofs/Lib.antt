@@ -5,3 +5,4 @@ pub mod Linked
 pub mod Partners
 pub mod Runs
 pub mod Settled
+pub mod SortedRuns

@@ -1,4 +1,5 @@
 pub mod Gathered
 pub mod Links
 pub mod Pairs
+pub mod Runs
 pub mod Uses

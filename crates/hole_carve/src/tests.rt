@@ -1,5 +1,5 @@
 use crate::*;
-use geo_laws::{Face, Tet, TetList};
+use geo_laws::{Side, Tet, TetList};
 use std::test::Fail;
 
 /// What is across the faces of a row, in one array.
@@ -67,14 +67,14 @@ fn rows_have_the_least_other_row_with_the_face(rt: HostRuntime) -> Result<(), Fa
 #[test]
 fn each_run_is_sorted_in_its_place(rt: HostRuntime) -> Result<(), Fail> {
     let alloc = rt.alloc();
-    let mut faces = Vec::new(alloc);
-    for (a, b, c) in [(2, 5, 9), (2, 5, 7), (2, 3, 8), (1, 4, 6), (1, 3, 6)] {
-        faces.push(Face { a, b, c })?;
+    let mut sides = Vec::new(alloc);
+    for (a, b) in [(2, 5), (2, 7), (2, 3), (1, 6), (1, 4)] {
+        sides.push(Side { a, b })?;
     }
-    sort_runs(&mut faces);
-    let want = [(2, 3, 8), (2, 5, 7), (2, 5, 9), (1, 3, 6), (1, 4, 6)];
-    for (face, (a, b, c)) in faces.as_slice().iter().zip(want) {
-        assert_eq!(rt; *face, Face { a, b, c });
+    sort_runs(&mut sides);
+    let want = [(2, 3), (2, 5), (2, 7), (1, 4), (1, 6)];
+    for (side, (a, b)) in sides.as_slice().iter().zip(want) {
+        assert_eq!(rt; *side, Side { a, b });
     }
     Ok(())
 }
