@@ -87,7 +87,7 @@ fn asks_uses(options: &Options) -> bool
     !options.quiet || (!options.no_face || options.neighbors)
 }
 
-/// What is told of the faces. Each list is let go before the next one is made.
+/// What is told of the faces. The neighbors are let go once their text is made, and the uses before the text of the faces is.
 fn face_outputs(
     alloc: Global,
     options: &Options,
