@@ -61,7 +61,8 @@ fn put_partners(list: &TetList, uses: &Uses, pairs: &mut [Across])
         first = run_start(uses, first, at, list);
         let partner = partner_at(uses, first, at, list);
         let here = use_at(uses, at, list);
-        put_partner(list.at(here.row), here.face, partner, &mut pairs[here.row]);
+        let row = here.row as usize;
+        put_partner(list.at(row), here.face, partner, &mut pairs[row]);
     }
 }
 
