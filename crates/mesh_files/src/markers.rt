@@ -39,7 +39,7 @@ pub fn used_faces(
     requires { AreUsesOf list.now uses.now }
     ensures { IfOk result (λ found. AreFaceRowsOf list.now all found) }
 {
-    let mut found = FaceRows::new(alloc);
+    let mut found = FaceRows::with_capacity(alloc, face_room(uses, all))?;
     for at in 0..uses.len() {
         if is_first(list, uses, at) {
             let row = row_at(list, uses, at);
@@ -49,6 +49,15 @@ pub fn used_faces(
         }
     }
     Ok(found)
+}
+
+/// For how many faces memory is asked at once: most faces of a mesh have two uses, and few are on its hull.
+fn face_room(uses: &Uses, all: bool) -> usize {
+    if all {
+        uses.len() / 2 + uses.len() / 16
+    } else {
+        0
+    }
 }
 
 /// Whether a face is asked for: any, or one on the hull.

@@ -1,9 +1,12 @@
 use Rattle.std.proofs.Common.{◌+◌, sym, subst, ◌∙◌, arith}
 use Rattle.std.proofs.lemmas.Bool.{true≢false}
-use Rattle.mesh_files.proofs.Found.{AreFoundBefore, found_again, found_not_asked, found_pushed, found_all}
+use Rattle.mesh_files.proofs.Found.{AreFoundBefore, found_first, found_again, found_not_asked, found_pushed, found_all}
 use Rattle.mesh_files.specs.FaceRows.{IsAsked}
 use Rattle.mesh_files.proofs.markers.used_faces.Goals.{then-is_first+then-is_asked+in_ok-push, then-is_first+else-is_asked, else-is_first}
 use Rattle.mesh_files.proofs.markers.used_faces.Goals as goal
+
+pub loop-at-init : goal.loop-at-init
+loop-at-init c = subst (AreFoundBefore c.args.list.now c.args.uses.now c.args.all 0) (sym c.in_ok-found.ensures) (found_first c.args.list.now c.args.uses.now c.args.all)
 
 pub loop-at-preserved : goal.loop-at-preserved
 loop-at-preserved c =
