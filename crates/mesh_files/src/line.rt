@@ -20,6 +20,7 @@ pub(crate) fn room_for_lines(alloc: Global, count: usize) -> Result<Bytes, NoMem
 }
 
 /// Appends a line: a number, and up to four fields after it. It is written from its end.
+#[inline(always)]
 pub(crate) fn append_line(out: &mut Bytes, number: u64, fields: &[i64]) -> Result<(), NoMemory>
     requires { length fields.now ≤ 4 }
     ensures { OnOk result (out.new ≡ out.old ++ line_of number fields.now) }
@@ -36,6 +37,7 @@ pub(crate) fn append_line(out: &mut Bytes, number: u64, fields: &[i64]) -> Resul
 }
 
 /// Writes a space and a field so that they end at a place, and returns where they start.
+#[inline(always)]
 fn write_field(line: &mut [u8], end: usize, field: i64) -> usize
     requires room { 21 ≤ end }
     requires within { end ≤ length line.old }
@@ -49,6 +51,7 @@ fn write_field(line: &mut [u8], end: usize, field: i64) -> usize
 }
 
 /// Writes a number so that it ends at a place, and returns where it starts.
+#[inline(always)]
 fn write_signed(line: &mut [u8], end: usize, number: i64) -> usize
     requires room { 20 ≤ end }
     requires within { end ≤ length line.old }
