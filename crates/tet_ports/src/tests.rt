@@ -9,54 +9,78 @@ use std::test::Fail;
 use std::{fs, io, process};
 
 #[test]
-fn lists_keep_their_items(rt: HostRuntime) -> Result<(), Fail> {
-    let alloc = rt.alloc();
-    let mut bytes = Bytes::from_slice(alloc, b"mesh")?;
+fn bytes_are_appended_and_cut(rt: HostRuntime) -> Result<(), Fail> {
+    let mut bytes = Bytes::from_slice(rt.alloc(), b"mesh")?;
     bytes.append(b".1.ele")?;
-    assert_eq!(rt; bytes.as_slice(), b"mesh.1.ele".as_slice());
-    let count = bytes.len();
-    assert_eq!(rt; count, 10);
-    assert!(rt; bytes.len() >= 6);
-    bytes.cut(6);
-    assert_eq!(rt; bytes.as_slice(), b"mesh.1".as_slice());
+    let whole = bytes.as_slice() == b"mesh.1.ele".as_slice();
+    if bytes.len() >= 6 {
+        bytes.cut(6);
+    }
+    assert!(rt; whole && bytes.as_slice() == b"mesh.1".as_slice());
+    Ok(())
+}
 
-    let mut numbers = Items::with_capacity(alloc, 2)?;
-    assert!(rt; numbers.is_empty());
+#[test]
+fn items_are_pushed(rt: HostRuntime) -> Result<(), Fail> {
+    let mut numbers = Items::with_capacity(rt.alloc(), 2)?;
+    let was_empty = numbers.is_empty();
     numbers.reserve(5)?;
     numbers.push(7u32)?;
-    assert_eq!(rt; numbers.as_slice(), [7].as_slice());
-    assert!(rt; numbers.len() == 1);
-    assert_eq!(rt; (numbers.at(0), *numbers.get(0)), (7, 7));
+    let one = if numbers.len() == 1 {
+        (numbers.at(0), *numbers.get(0))
+    } else {
+        (0, 0)
+    };
+    assert_eq!(rt; (was_empty, one), (true, (7, 7)));
+    Ok(())
+}
 
+#[test]
+fn words_are_pushed(rt: HostRuntime) -> Result<(), Fail> {
+    let alloc = rt.alloc();
     let mut words = Words::new(alloc);
     words.push(Name::from_slice(alloc, b"-pS100nz")?)?;
     words.push(Name::from_slice(alloc, b"bar")?)?;
-    assert!(rt; words.len() == 2);
-    assert_eq!(rt; words.word(1).as_slice(), b"bar".as_slice());
+    let is_last = words.len() == 2 && words.word(1).as_slice() == b"bar".as_slice();
+    assert!(rt; is_last);
     Ok(())
+}
+
+/// The bytes that a folder answers, whole or cut off; None where it answers none.
+fn fetched(
+    alloc: Global,
+    folder: &mut MemFolder,
+    name: &[u8],
+    most: usize,
+) -> Result<Option<Bytes>, NoMemory> {
+    let name = Name::from_slice(alloc, name)?;
+    match folder.fetch(alloc, &name, most) {
+        Ok(text) | Err(FetchFault::TooLarge { taken: text }) => Ok(Some(text)),
+        Err(_) => Ok(None),
+    }
 }
 
 #[test]
 fn memory_folder_holds_what_was_stored(rt: HostRuntime) -> Result<(), Fail> {
     let alloc = rt.alloc();
     let mut folder = MemFolder::new(alloc);
-    let (old, new) = (
-        Name::from_slice(alloc, b"old")?,
-        Name::from_slice(alloc, b"new")?,
-    );
-    folder.add(&old, &Bytes::from_slice(alloc, b"first")?)?;
-    folder.add(&old, &Bytes::from_slice(alloc, b"12 1\n")?)?;
-    assert!(rt; matches!(folder.fetch(alloc, &new, 9), Err(FetchFault::Missing)));
-    let text = folder.fetch(alloc, &old, 5)?;
-    assert_eq!(rt; text.as_slice(), b"12 1\n".as_slice());
-    assert!(rt; folder.store(&new, &text).is_ok());
-    let held = folder.get(&new).ok_or("not stored")?;
-    assert_eq!(rt; held.as_slice(), b"12 1\n".as_slice());
-    match folder.fetch(alloc, &old, 3) {
-        Err(FetchFault::TooLarge { taken }) => {
-            assert_eq!(rt; taken.as_slice(), b"12 1".as_slice());
-        }
-        _ => return Err("not too large".into()),
+    let name = Name::from_slice(alloc, b"old")?;
+    for text in [b"first".as_slice(), b"12 1\n"] {
+        folder.add(&name, &Bytes::from_slice(alloc, text)?)?;
+    }
+    let text = Bytes::from_slice(alloc, b"2 1")?;
+    let is_stored = folder
+        .store(&Name::from_slice(alloc, b"new")?, &text)
+        .is_ok();
+    assert!(rt; is_stored);
+    for (name, most, want) in [
+        (b"none".as_slice(), 9, None),
+        (b"old", 5, Some(b"12 1\n".as_slice())),
+        (b"old", 3, Some(b"12 1")),
+        (b"new", 9, Some(b"2 1")),
+    ] {
+        let text = fetched(alloc, &mut folder, name, most)?;
+        assert_eq!(rt; text.as_ref().map(|text| text.as_slice()), want);
     }
     Ok(())
 }
@@ -124,56 +148,81 @@ fn memory_sink_fails_where_it_is_set(rt: HostRuntime) -> Result<(), Fail> {
     Ok(())
 }
 
-#[test]
-fn system_folder_reaches_files(rt: HostRuntime) -> Result<(), Fail> {
-    let alloc = rt.alloc();
-    let id = process::id(rt.process());
-    let dir = format!(in alloc; "/tmp/tet_ports_{id}")?;
-    fs::create_dir(&rt, dir.as_str())?;
-    let path = format!(in alloc; "{dir}/a.node")?;
-    let name = Name::from_slice(alloc, path.as_bytes())?;
-    let mut folder = OsFolder::new(&rt);
-    assert!(rt; matches!(folder.fetch(alloc, &name, 9), Err(FetchFault::Missing)));
+/// Whether a file has just this text, which is no longer than allowed.
+fn holds<F: Folder>(alloc: Global, folder: &mut F, name: &Name, most: usize, text: &[u8]) -> bool {
+    match folder.fetch(alloc, name, most) {
+        Ok(held) => held.as_slice() == text,
+        Err(_) => false,
+    }
+}
 
-    // Three blocks and a part.
+/// How many bytes are taken of a file that is longer than allowed; None where it is not.
+fn taken<F: Folder>(alloc: Global, folder: &mut F, name: &Name, most: usize) -> Option<usize> {
+    match folder.fetch(alloc, name, most) {
+        Err(FetchFault::TooLarge { taken }) => Some(taken.len()),
+        _ => None,
+    }
+}
+
+/// Whether a name can be neither fetched nor stored.
+fn fails<F: Folder>(alloc: Global, folder: &mut F, path: &[u8]) -> Result<bool, NoMemory> {
+    let name = Name::from_slice(alloc, path)?;
+    let is_unread = matches!(folder.fetch(alloc, &name, 9), Err(FetchFault::Failed));
+    let stored = folder.store(&name, &Bytes::new(alloc));
+    Ok(is_unread && stored == Err(StoreFault::Failed))
+}
+
+/// A text of three blocks and a part.
+fn long_text(alloc: Global) -> Result<Bytes, NoMemory> {
     let mut text = Bytes::new(alloc);
     for i in 0..40_000u32 {
         text.append(&i.to_be_bytes())?;
         text.append(b"\n")?;
     }
-    assert!(rt; folder.store(&name, &text).is_ok());
+    Ok(text)
+}
+
+/// What a folder of the system does with a file at this path, which is not there yet: each answer is yes.
+fn answers<F: Folder>(alloc: Global, folder: &mut F, path: &[u8]) -> Result<[bool; 7], NoMemory> {
+    let name = Name::from_slice(alloc, path)?;
+    let is_missing = matches!(folder.fetch(alloc, &name, 9), Err(FetchFault::Missing));
+    let text = long_text(alloc)?;
     let most = text.len();
-    let back = folder.fetch(alloc, &name, most)?;
-    assert!(rt; back.as_slice() == text.as_slice());
-    let back = folder.fetch(alloc, &name, usize::MAX)?;
-    assert!(rt; back.as_slice() == text.as_slice());
-    for most in [0, 70_000, 199_999] {
-        match folder.fetch(alloc, &name, most) {
-            Err(FetchFault::TooLarge { taken }) => {
-                assert_eq!(rt; taken.len(), most + 1);
-            }
-            _ => return Err("not too large".into()),
-        }
-    }
-
+    let is_stored = folder.store(&name, &text).is_ok();
+    let is_held = holds(alloc, folder, &name, most, text.as_slice());
+    let has_no_limit = holds(alloc, folder, &name, usize::MAX, text.as_slice());
+    let takes_one_more = taken(alloc, folder, &name, 0) == Some(1)
+        && taken(alloc, folder, &name, 199_999) == Some(200_000);
     // A shorter text leaves nothing of the longer one.
-    assert!(rt;
-        folder
-            .store(&name, &Bytes::from_slice(alloc, b"4 3")?)
-            .is_ok()
-    );
-    assert_eq!(rt;
-        folder.fetch(alloc, &name, 3)?.as_slice(),
-        b"4 3".as_slice()
-    );
+    let is_stored_again = folder
+        .store(&name, &Bytes::from_slice(alloc, b"4 3")?)
+        .is_ok();
+    let is_shorter = holds(alloc, folder, &name, 3, b"4 3");
+    Ok([
+        is_missing,
+        is_stored,
+        is_held,
+        has_no_limit,
+        takes_one_more,
+        is_stored_again,
+        is_shorter,
+    ])
+}
 
+#[test]
+fn system_folder_reaches_files(rt: HostRuntime) -> Result<(), Fail> {
+    let alloc = rt.alloc();
+    let id = process::id(rt.process());
+    let dir = format!(in alloc; "/tmp/tet_ports_{id}")?;
+    let path = format!(in alloc; "{dir}/a.node")?;
+    fs::create_dir(&rt, dir.as_str())?;
+    let mut folder = OsFolder::new(&rt);
+    let answers = answers(alloc, &mut folder, path.as_bytes())?;
     // No name in UTF-8, and a folder.
-    for path in [b"\xff".as_slice(), dir.as_bytes()] {
-        let name = Name::from_slice(alloc, path)?;
-        assert!(rt; matches!(folder.fetch(alloc, &name, 9), Err(FetchFault::Failed)));
-        assert_eq!(rt; folder.store(&name, &text), Err(StoreFault::Failed));
-    }
+    let fails_both = fails(alloc, &mut folder, b"\xff")?
+        && fails(alloc, &mut folder, dir.as_bytes())?;
     fs::remove_dir_all(&rt, dir.as_str())?;
+    assert_eq!(rt; (answers, fails_both), ([true; 7], true));
     Ok(())
 }
 
