@@ -2,7 +2,7 @@ use crate::*;
 use geo_laws::{Tet, TetList};
 use std::alloc::Global;
 use std::test::Fail;
-use tet_ports::NoMemory;
+use tet_ports::{Bytes, NoMemory};
 
 const SMALLEST: [[u32; 4]; 1] = [[0, 1, 2, 3]];
 
@@ -31,9 +31,16 @@ fn list_of(alloc: Global, rows: &[[u32; 4]]) -> Result<TetList, NoMemory> {
     Ok(list)
 }
 
+/// The rows and their neighbors as text.
+fn row_texts(alloc: Global, rows: &[[u32; 4]], first: u32) -> Result<(Bytes, Bytes), NoMemory> {
+    let list = list_of(alloc, rows)?;
+    let ele = write_ele(alloc, &list, first)?;
+    let pairs = neighbors_of(alloc, &list)?;
+    Ok((ele, write_neigh(alloc, &pairs, first)?))
+}
+
 #[test]
 fn texts_of_rows_and_neighbors(rt: HostRuntime) -> Result<(), Fail> {
-    let alloc = rt.alloc();
     for (rows, first, ele, neigh) in [
         (
             SMALLEST.as_slice(),
@@ -61,17 +68,21 @@ fn texts_of_rows_and_neighbors(rt: HostRuntime) -> Result<(), Fail> {
         ),
         ([].as_slice(), 0, b"0 4 0\n".as_slice(), b"0 4\n".as_slice()),
     ] {
-        let list = list_of(alloc, rows)?;
-        assert_eq!(rt; write_ele(alloc, &list, first)?.as_slice(), ele);
-        let pairs = neighbors_of(alloc, &list)?;
-        assert_eq!(rt; write_neigh(alloc, &pairs, first)?.as_slice(), neigh);
+        let texts = row_texts(rt.alloc(), rows, first)?;
+        assert_eq!(rt; (texts.0.as_slice(), texts.1.as_slice()), (ele, neigh));
     }
     Ok(())
 }
 
+/// The faces as text, all of them or those on the surface.
+fn face_text(alloc: Global, rows: &[[u32; 4]], first: u32, all: bool) -> Result<Bytes, NoMemory> {
+    let list = list_of(alloc, rows)?;
+    let faces = face_rows(alloc, &list, all)?;
+    write_face(alloc, &faces, first)
+}
+
 #[test]
 fn texts_of_faces(rt: HostRuntime) -> Result<(), Fail> {
-    let alloc = rt.alloc();
     for (rows, first, all, want) in [
         (
             PYRAMID.as_slice(),
@@ -93,16 +104,21 @@ fn texts_of_faces(rt: HostRuntime) -> Result<(), Fail> {
         ),
         ([].as_slice(), 1, true, b"0 1\n".as_slice()),
     ] {
-        let list = list_of(alloc, rows)?;
-        let faces = face_rows(alloc, &list, all)?;
-        assert_eq!(rt; write_face(alloc, &faces, first)?.as_slice(), want);
+        let text = face_text(rt.alloc(), rows, first, all)?;
+        assert_eq!(rt; text.as_slice(), want);
     }
     Ok(())
 }
 
+/// The sides as text.
+fn side_text(alloc: Global, rows: &[[u32; 4]], first: u32) -> Result<Bytes, NoMemory> {
+    let list = list_of(alloc, rows)?;
+    let sides = edges_of(alloc, &list)?;
+    write_edge(alloc, &sides, first)
+}
+
 #[test]
 fn texts_of_sides(rt: HostRuntime) -> Result<(), Fail> {
-    let alloc = rt.alloc();
     for (rows, first, want) in [
         (
             SMALLEST.as_slice(),
@@ -116,32 +132,36 @@ fn texts_of_sides(rt: HostRuntime) -> Result<(), Fail> {
         ),
         ([].as_slice(), 0, b"0 0\n".as_slice()),
     ] {
-        let list = list_of(alloc, rows)?;
-        let sides = edges_of(alloc, &list)?;
-        assert_eq!(rt; write_edge(alloc, &sides, first)?.as_slice(), want);
+        let text = side_text(rt.alloc(), rows, first)?;
+        assert_eq!(rt; text.as_slice(), want);
     }
     Ok(())
 }
 
+/// How many faces, sides, rows of faces and faces on the surface there are.
+fn counts(alloc: Global, rows: &[[u32; 4]]) -> Result<[usize; 4], NoMemory> {
+    let list = list_of(alloc, rows)?;
+    Ok([
+        faces_of(alloc, &list)?.len(),
+        edges_of(alloc, &list)?.len(),
+        face_rows(alloc, &list, true)?.len(),
+        face_rows(alloc, &list, false)?.len(),
+    ])
+}
+
 /// With T rows, P points in all and B of them on the surface, a ball has 2T + B - 2 faces, T + P + B - 3 sides and
-/// 2B - 4 faces on the surface.
+/// 2B - 4 faces on the surface. Here all points are on it.
 #[test]
 fn counts_of_balls(rt: HostRuntime) -> Result<(), Fail> {
-    let alloc = rt.alloc();
     for (rows, points) in [
         (SMALLEST.as_slice(), 4),
         (PYRAMID.as_slice(), 5),
         (CUBE.as_slice(), 8),
     ] {
-        let list = list_of(alloc, rows)?;
         let count = rows.len();
-        assert_eq!(rt; faces_of(alloc, &list)?.len() + 2, 2 * count + points);
-        assert_eq!(rt; edges_of(alloc, &list)?.len() + 3, count + 2 * points);
-        assert_eq!(rt;
-            face_rows(alloc, &list, true)?.len() + 2,
-            2 * count + points
-        );
-        assert_eq!(rt; face_rows(alloc, &list, false)?.len() + 4, 2 * points);
+        let faces = 2 * count + points - 2;
+        let wanted = [faces, count + 2 * points - 3, faces, 2 * points - 4];
+        assert_eq!(rt; counts(rt.alloc(), rows)?, wanted);
     }
     Ok(())
 }
