@@ -1,6 +1,7 @@
 use super::*;
+use std::alloc::Global;
 use std::test::Fail;
-use tet_ports::Bytes;
+use tet_ports::{Bytes, NoMemory};
 
 /// The first field of a text.
 fn first_field(text: &[u8]) -> Option<Field<'_>> {
@@ -9,27 +10,48 @@ fn first_field(text: &[u8]) -> Option<Field<'_>> {
     fields.next()
 }
 
+const TEXT: &[u8] = b"# head\n\n 1\t2 #3\r\n#\na#b\n\r\n  x";
+
+/// A field of a text by the number of its content line and its place there, both from 0, with the line that it is in.
+fn field_at(text: &[u8], line: usize, place: usize) -> Option<(usize, &[u8])> {
+    let mut lines = Lines::new(text);
+    for _ in 0..line {
+        lines.next_fields()?;
+    }
+    let mut fields = lines.next_fields()?;
+    for _ in 0..place {
+        fields.next()?;
+    }
+    let field = fields.next()?;
+    Some((field.line, field.bytes()))
+}
+
 #[test]
 fn lines_and_fields(rt: HostRuntime) -> Result<(), Fail> {
-    let mut lines = Lines::new(b"# head\n\n 1\t2 #3\r\n#\na#b\n\r\n  x");
-    assert_eq!(rt; lines.line_count(), 7);
-    let wanted: [(usize, &[u8]); 4] = [(3, b"1"), (3, b"2"), (5, b"a"), (7, b"x")];
-    let mut found = 0;
-    for _ in 0..3 {
-        let mut fields = lines.next_fields().ok_or("a content line")?;
-        for _ in 0..2 {
-            if let Some(field) = fields.next() {
-                assert!(rt; found < 4);
-                assert_eq!(rt; field.line, wanted[found].0);
-                assert_eq!(rt; field.bytes(), wanted[found].1);
-                found += 1;
-            }
-        }
-        assert!(rt; fields.next().is_none());
+    let rows: [(usize, usize, Option<(usize, &[u8])>); 8] = [
+        (0, 0, Some((3, b"1"))),
+        (0, 1, Some((3, b"2"))),
+        (0, 2, None),
+        (1, 0, Some((5, b"a"))),
+        (1, 1, None),
+        (2, 0, Some((7, b"x"))),
+        (2, 1, None),
+        (3, 0, None),
+    ];
+    for (line, place, wanted) in rows {
+        assert_eq!(rt; field_at(TEXT, line, place), wanted);
     }
-    assert_eq!(rt; found, 4);
-    assert!(rt; lines.next_fields().is_none());
-    assert_eq!(rt; lines.line_count(), 7);
+    Ok(())
+}
+
+#[test]
+fn lines_are_counted(rt: HostRuntime) -> Result<(), Fail> {
+    let mut lines = Lines::new(TEXT);
+    let count = lines.line_count();
+    for _ in 0..4 {
+        lines.next_fields();
+    }
+    assert_eq!(rt; (count, lines.line_count()), (7, 7));
     Ok(())
 }
 
@@ -50,13 +72,27 @@ fn counts_and_wholes(rt: HostRuntime) -> Result<(), Fail> {
     ];
     for (text, count, whole) in rows {
         let field = first_field(text).ok_or("a field")?;
-        assert_eq!(rt; read_count(&field).ok(), count);
-        assert_eq!(rt; read_whole(&field).ok(), whole);
+        assert_eq!(rt;
+            (read_count(&field).ok(), read_whole(&field).ok()),
+            (count, whole)
+        );
     }
     Ok(())
 }
 
 const LARGEST: i128 = 999_999_999_999_999_999_999_999_999_999_999_999;
+
+/// The decimal that a text begins with.
+fn first_decimal(text: &[u8]) -> Option<Decimal> {
+    read_decimal(&first_field(text)?).ok()
+}
+
+/// The text of a decimal.
+fn printed(alloc: Global, decimal: &Decimal) -> Result<Bytes, NoMemory> {
+    let mut out = Bytes::new(alloc);
+    print_decimal(decimal, &mut out)?;
+    Ok(out)
+}
 
 #[test]
 fn decimals(rt: HostRuntime) -> Result<(), Fail> {
@@ -92,26 +128,22 @@ fn decimals(rt: HostRuntime) -> Result<(), Fail> {
             b"-999999999999999999999999999999999999",
         ),
     ];
-    for (text, value, scale, printed) in rows {
-        let field = first_field(text).ok_or("a field")?;
-        let decimal = read_decimal(&field).ok().ok_or("a decimal")?;
-        assert_eq!(rt; decimal.value, value);
-        assert_eq!(rt; decimal.scale, scale);
-        let mut out = Bytes::new(rt.alloc());
-        assert!(rt; print_decimal(&decimal, &mut out).is_ok());
-        assert_eq!(rt; out.as_slice(), printed);
+    for (text, value, scale, wanted) in rows {
+        let decimal = first_decimal(text).ok_or("a decimal")?;
+        let out = printed(rt.alloc(), &decimal)?;
+        assert_eq!(rt;
+            (decimal.value, decimal.scale, out.as_slice()),
+            (value, scale, wanted)
+        );
     }
     Ok(())
 }
 
 #[test]
 fn a_far_fraction(rt: HostRuntime) -> Result<(), Fail> {
-    let field = first_field(b"1e-999").ok_or("a field")?;
-    let decimal = read_decimal(&field).ok().ok_or("a decimal")?;
-    assert_eq!(rt; (decimal.value, decimal.scale), (1, 999));
-    let mut out = Bytes::new(rt.alloc());
-    assert!(rt; print_decimal(&decimal, &mut out).is_ok());
-    assert_eq!(rt; out.len(), 1001);
+    let decimal = first_decimal(b"1e-999").ok_or("a decimal")?;
+    let count = printed(rt.alloc(), &decimal)?.len();
+    assert_eq!(rt; (decimal.value, decimal.scale, count), (1, 999, 1001));
     Ok(())
 }
 
