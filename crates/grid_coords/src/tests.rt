@@ -2,33 +2,28 @@ use super::*;
 use sign_predicates::GridPoint;
 use std::alloc::Global;
 use std::test::Fail;
-use tet_ports::Bytes;
+use tet_ports::{Bytes, NoMemory};
 use tet_text::{Decimal, Lines, read_decimal};
 
-fn decimal(text: &[u8]) -> Result<Decimal, Fail> {
+/// The decimal that a text begins with.
+fn decimal(text: &[u8]) -> Option<Decimal> {
     let mut lines = Lines::new(text);
-    let mut fields = lines.next_fields().ok_or("a line")?;
-    let field = fields.next().ok_or("a field")?;
-    Ok(read_decimal(&field).ok().ok_or("a decimal")?)
+    let mut fields = lines.next_fields()?;
+    read_decimal(&fields.next()?).ok()
 }
 
-fn point(line: usize, x: &[u8], y: &[u8], z: &[u8]) -> Result<DecimalPoint, Fail> {
-    Ok(DecimalPoint {
-        x: decimal(x)?,
-        y: decimal(y)?,
-        z: decimal(z)?,
-        line,
-    })
+fn point(line: usize, x: &[u8], y: &[u8], z: &[u8]) -> Option<DecimalPoint> {
+    let (x, y, z) = (decimal(x)?, decimal(y)?, decimal(z)?);
+    Some(DecimalPoint { x, y, z, line })
 }
 
 /// A list of one point for each x, with y and z 0; its line is its place in the list.
-fn points(alloc: Global, xs: &[&[u8]]) -> Result<DecimalPoints, Fail> {
+fn points(alloc: Global, xs: &[&[u8]]) -> Option<DecimalPoints> {
     let mut list = DecimalPoints::new(alloc);
     for (i, x) in xs.iter().enumerate() {
-        let p = point(i, x, b"0", b"0")?;
-        list.push(p).ok().ok_or("memory")?;
+        list.push(point(i, x, b"0", b"0")?).ok()?;
     }
-    Ok(list)
+    Some(list)
 }
 
 #[test]
@@ -51,7 +46,7 @@ fn rounding(rt: HostRuntime) -> Result<(), Fail> {
         ),
     ];
     for (text, decimals, value, scale) in rows {
-        let d = round_to(&decimal(text)?, decimals);
+        let d = round_to(&decimal(text).ok_or("a decimal")?, decimals);
         assert_eq!(rt; (d.value, d.scale), (value, scale));
     }
     Ok(())
@@ -121,43 +116,57 @@ fn grids(rt: HostRuntime) -> Result<(), Fail> {
         (&[b"1e-999", b"1e-990", b"1"], 12, Err(Range { line: 1 })),
     ];
     for (xs, most_halvings, wanted) in rows {
-        let list = points(rt.alloc(), xs)?;
+        let list = points(rt.alloc(), xs).ok_or("points")?;
         assert_eq!(rt; choose_grid(&list, most_halvings), wanted);
     }
     Ok(())
 }
 
+/// The grid of a point, and where the point is on it.
+fn placed(alloc: Global, p: DecimalPoint) -> Option<(Grid, [i32; 3])> {
+    let mut list = DecimalPoints::new(alloc);
+    list.push(p).ok()?;
+    let grid = choose_grid(&list, 12).ok()?;
+    if list.len() != 1 {
+        return None;
+    }
+    let placed = to_grid(&grid, list.get(0));
+    Some((grid, [placed.x, placed.y, placed.z]))
+}
+
+const HUNDREDTHS: Grid = Grid {
+    decimals: 2,
+    halvings: 12,
+};
+
 #[test]
 fn places_on_a_grid(rt: HostRuntime) -> Result<(), Fail> {
-    let mut list = DecimalPoints::new(rt.alloc());
-    let p = point(2, b"0.5", b"-1.250", b"3")?;
-    list.push(p).ok().ok_or("memory")?;
-    let grid = choose_grid(&list, 12).ok().ok_or("a grid")?;
-    assert_eq!(rt;
-        grid,
-        Grid {
-            decimals: 2,
-            halvings: 12
-        }
-    );
-    assert_eq!(rt; list.len(), 1);
-    let placed = to_grid(&grid, list.get(0));
-    assert_eq!(rt;
-        (placed.x, placed.y, placed.z),
-        (204_800, -512_000, 1_228_800)
-    );
+    let p = point(2, b"0.5", b"-1.250", b"3").ok_or("a point")?;
+    let wanted = (HUNDREDTHS, [204_800, -512_000, 1_228_800]);
+    assert_eq!(rt; placed(rt.alloc(), p), Some(wanted));
+    Ok(())
+}
+
+/// A coordinate in hundredths as text, behind `x `.
+fn printed(alloc: Global, coordinate: i32) -> Result<Bytes, NoMemory> {
+    let mut out = Bytes::from_slice(alloc, b"x ")?;
+    print_grid(&HUNDREDTHS, coordinate, &mut out)?;
+    Ok(out)
+}
+
+#[test]
+fn texts_of_coordinates(rt: HostRuntime) -> Result<(), Fail> {
     let texts: [(i32, &[u8]); 6] = [
-        (204_800, b"0.5"),
-        (-512_000, b"-1.25"),
-        (1_228_800, b"3"),
-        (0, b"0"),
-        (1, b"0.00000244140625"),
-        (-8_388_608, b"-20.48"),
+        (204_800, b"x 0.5"),
+        (-512_000, b"x -1.25"),
+        (1_228_800, b"x 3"),
+        (0, b"x 0"),
+        (1, b"x 0.00000244140625"),
+        (-8_388_608, b"x -20.48"),
     ];
-    for (coordinate, text) in texts {
-        let mut out = Bytes::from_slice(rt.alloc(), b"x ").ok().ok_or("memory")?;
-        assert!(rt; print_grid(&grid, coordinate, &mut out).is_ok());
-        assert_eq!(rt; out.as_slice().split_at(out.len().min(2)).1, text);
+    for (coordinate, wanted) in texts {
+        let text = printed(rt.alloc(), coordinate)?;
+        assert_eq!(rt; text.as_slice(), wanted);
     }
     Ok(())
 }
@@ -178,7 +187,8 @@ fn rational_places(rt: HostRuntime) -> Result<(), Fail> {
         (b"-1e35", -8_388_609_000_000),
     ];
     for (x, wanted) in rows {
-        let p = to_rat(&grid, &point(1, x, b"0", b"-0.1")?);
+        let p = point(1, x, b"0", b"-0.1").ok_or("a point")?;
+        let p = to_rat(&grid, &p);
         assert_eq!(rt; (p.x, p.y, p.z, p.w), (wanted, 0, -4_000_000, 1_000_000));
     }
     Ok(())
