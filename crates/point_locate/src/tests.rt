@@ -9,6 +9,7 @@ use mesh_arena::{Arena, Corner, Slot, SlotCorners};
 use sign_predicates::GridPoint;
 use std::alloc::Global;
 use std::test::Fail;
+use tet_ports::NoMemory;
 
 const P0: Corner = Corner::Point(0);
 
@@ -58,6 +59,53 @@ fn are_corners_on(arena: &Arena, points: &Points) -> bool
     true
 }
 
+// Whether the corners differ.
+fn are_different(t: SlotCorners) -> bool
+    ensures { IsTrue result → AllDiffer (corner_list t) }
+{
+    t.a != t.b && t.a != t.c && t.a != t.d && t.b != t.c && t.b != t.d && t.c != t.d
+}
+
+// These slots, with no neighbors.
+fn unlinked(alloc: Global, rows: &[[Corner; 4]]) -> Result<Arena, Fail> {
+    let mut arena = Arena::new(alloc);
+    for row in rows {
+        let [a, b, c, d] = *row;
+        let t = SlotCorners { a, b, c, d };
+        if !are_different(t) {
+            return Err("a corner stands twice".into());
+        }
+        arena.alloc_slot(t)?;
+    }
+    Ok(arena)
+}
+
+// The place of a point, by the place of its slot in the arena.
+#[derive(Clone, Copy, Debug, PartialEq, Eq)]
+enum SlotPlace {
+    Inside(u32),
+    Beyond(u32),
+}
+
+// Where a point is found from the slot at a place.
+fn found_from(arena: &Arena, points: &Points, start: usize, p: GridPoint) -> Option<SlotPlace> {
+    if start >= arena.slots() {
+        return None;
+    }
+    match found(arena, points, arena.slot(start)?, p)? {
+        Place::Inside(s) => Some(SlotPlace::Inside(s.index)),
+        Place::Beyond(s) => Some(SlotPlace::Beyond(s.index)),
+    }
+}
+
+fn points_at(alloc: Global, places: &[(i8, i8, i8)]) -> Result<Points, NoMemory> {
+    let mut points = Points::new(alloc);
+    for (x, y, z) in places {
+        points.push(grid_point(*x, *y, *z))?;
+    }
+    Ok(points)
+}
+
 // Where a point is found from a slot, if the corners are points and it is somewhere.
 fn found(arena: &Arena, points: &Points, start: Slot, p: GridPoint) -> Option<Place>
     requires { IsLive arena.now.slots start.index }
@@ -71,61 +119,35 @@ fn found(arena: &Arena, points: &Points, start: Slot, p: GridPoint) -> Option<Pl
     }
 }
 
+// A tetrahedron and its ghosts. Each ghost is positive where a point strictly beyond its face stands for infinity.
+const ONE: [[Corner; 4]; 5] = [
+    [P0, P1, P2, P3],
+    [P1, P2, P3, G],
+    [G, P0, P2, P3],
+    [P0, P1, P3, G],
+    [P0, G, P2, P1],
+];
+
+// Where a point is found in a tetrahedron and round it, all slots being looked at.
+fn in_one(alloc: Global, p: GridPoint) -> Result<Option<SlotPlace>, Fail> {
+    let points = points_at(alloc, &[(0, 0, 0), (4, 0, 0), (0, 4, 0), (0, 0, 4)])?;
+    let arena = unlinked(alloc, &ONE)?;
+    Ok(found_from(&arena, &points, 0, p))
+}
+
 #[test]
 fn points_in_and_round_a_tetrahedron(rt: HostRuntime) -> Result<(), Fail> {
-    let alloc = rt.alloc();
-    let mut points = Points::new(alloc);
-    for (x, y, z) in [(0, 0, 0), (4, 0, 0), (0, 4, 0), (0, 0, 4)] {
-        points.push(grid_point(x, y, z))?;
-    }
-    // Each ghost is positive where a point strictly beyond its face stands for infinity.
-    let mut arena = Arena::new(alloc);
-    let row = arena.alloc_slot(SlotCorners {
-        a: P0,
-        b: P1,
-        c: P2,
-        d: P3,
-    })?;
-    let ghosts = [
-        arena.alloc_slot(SlotCorners {
-            a: P1,
-            b: P2,
-            c: P3,
-            d: G,
-        })?,
-        arena.alloc_slot(SlotCorners {
-            a: G,
-            b: P0,
-            c: P2,
-            d: P3,
-        })?,
-        arena.alloc_slot(SlotCorners {
-            a: P0,
-            b: P1,
-            c: P3,
-            d: G,
-        })?,
-        arena.alloc_slot(SlotCorners {
-            a: P0,
-            b: G,
-            c: P2,
-            d: P1,
-        })?,
-    ];
-    for (at, want) in [
-        ((1, 1, 1), Some(Place::Inside(row))),
-        ((0, 0, 0), Some(Place::Inside(row))),
-        ((0, 2, 2), Some(Place::Inside(row))),
-        ((2, 2, 2), Some(Place::Beyond(ghosts[0]))),
-        ((-1, 1, 1), Some(Place::Beyond(ghosts[1]))),
-        ((1, -1, 1), Some(Place::Beyond(ghosts[2]))),
-        ((1, 1, -1), Some(Place::Beyond(ghosts[3]))),
+    for ((x, y, z), want) in [
+        ((1, 1, 1), SlotPlace::Inside(0)),
+        ((0, 0, 0), SlotPlace::Inside(0)),
+        ((0, 2, 2), SlotPlace::Inside(0)),
+        ((2, 2, 2), SlotPlace::Beyond(1)),
+        ((-1, 1, 1), SlotPlace::Beyond(2)),
+        ((1, -1, 1), SlotPlace::Beyond(3)),
+        ((1, 1, -1), SlotPlace::Beyond(4)),
     ] {
-        let (x, y, z) = at;
-        let p = grid_point(x, y, z);
-        if let Some(start) = arena.slot(0) {
-            assert_eq!(rt; found(&arena, &points, start, p), want, "{x} {y} {z}");
-        }
+        let found = in_one(rt.alloc(), grid_point(x, y, z))?;
+        assert_eq!(rt; found, Some(want), "{x} {y} {z}");
     }
     Ok(())
 }
@@ -175,105 +197,71 @@ fn link_places(arena: &mut Arena, i: usize, j: usize) {
     }
 }
 
-// Two tetrahedra with a common face, and the ghosts round them, all linked.
-fn two_tetrahedra(alloc: Global) -> Result<Arena, Fail> {
-    let mut arena = Arena::new(alloc);
-    arena.alloc_slot(SlotCorners {
-        a: P0,
-        b: P1,
-        c: P2,
-        d: P3,
-    })?;
-    arena.alloc_slot(SlotCorners {
-        a: P4,
-        b: P2,
-        c: P1,
-        d: P3,
-    })?;
-    arena.alloc_slot(SlotCorners {
-        a: G,
-        b: P0,
-        c: P2,
-        d: P3,
-    })?;
-    arena.alloc_slot(SlotCorners {
-        a: P0,
-        b: P1,
-        c: P3,
-        d: G,
-    })?;
-    arena.alloc_slot(SlotCorners {
-        a: P0,
-        b: G,
-        c: P2,
-        d: P1,
-    })?;
-    arena.alloc_slot(SlotCorners {
-        a: P4,
-        b: G,
-        c: P3,
-        d: P1,
-    })?;
-    arena.alloc_slot(SlotCorners {
-        a: P2,
-        b: P4,
-        c: G,
-        d: P3,
-    })?;
-    arena.alloc_slot(SlotCorners {
-        a: P2,
-        b: P4,
-        c: P1,
-        d: G,
-    })?;
+// Two tetrahedra with a common face, and the ghosts round them.
+const TWO: [[Corner; 4]; 8] = [
+    [P0, P1, P2, P3],
+    [P4, P2, P1, P3],
+    [G, P0, P2, P3],
+    [P0, P1, P3, G],
+    [P0, G, P2, P1],
+    [P4, G, P3, P1],
+    [P2, P4, G, P3],
+    [P2, P4, P1, G],
+];
+
+// These slots, all linked.
+fn linked(alloc: Global, rows: &[[Corner; 4]]) -> Result<Arena, Fail> {
+    let mut arena = unlinked(alloc, rows)?;
     link_all(&mut arena);
     Ok(arena)
 }
 
-#[test]
-fn walks_through_linked_slots(rt: HostRuntime) -> Result<(), Fail> {
-    let alloc = rt.alloc();
-    let mut points = Points::new(alloc);
-    for (x, y, z) in [(0, 0, 0), (4, 0, 0), (0, 4, 0), (0, 0, 4), (4, 4, 4)] {
-        points.push(grid_point(x, y, z))?;
-    }
-    let arena = two_tetrahedra(alloc)?;
+// Whether each face of each slot has a neighbor.
+fn are_linked(arena: &Arena) -> bool {
     for i in 0..arena.slots() {
         if let Some(s) = arena.slot(i) {
             for face in 0..4u8 {
-                assert!(rt; arena.neighbor(s, face).is_some(), "slot {i} face {face}");
+                if arena.neighbor(s, face).is_none() {
+                    return false;
+                }
             }
         }
     }
+    true
+}
+
+// Where a point is found in two tetrahedra and round them by a walk from the slot at a place; None where some face has no neighbor.
+fn in_two(alloc: Global, start: usize, p: GridPoint) -> Result<Option<SlotPlace>, Fail> {
+    let points = points_at(
+        alloc,
+        &[(0, 0, 0), (4, 0, 0), (0, 4, 0), (0, 0, 4), (4, 4, 4)],
+    )?;
+    let arena = linked(alloc, &TWO)?;
+    if are_linked(&arena) {
+        Ok(found_from(&arena, &points, start, p))
+    } else {
+        Ok(None)
+    }
+}
+
+#[test]
+fn walks_through_linked_slots(rt: HostRuntime) -> Result<(), Fail> {
     // From each slot to a point in each tetrahedron, and to one strictly beyond each hull face.
-    for (at, inside, place) in [
-        ((1, 1, 1), true, 0),
-        ((0, 0, 1), true, 0),
-        ((2, 2, 2), true, 1),
-        ((3, 3, 4), true, 1),
-        ((-1, 1, 1), false, 2),
-        ((1, 1, -1), false, 4),
-        ((1, -1, 1), false, 3),
-        ((4, 1, 4), false, 5),
-        ((1, 4, 4), false, 6),
-        ((4, 4, 1), false, 7),
+    for ((x, y, z), want) in [
+        ((1, 1, 1), SlotPlace::Inside(0)),
+        ((0, 0, 1), SlotPlace::Inside(0)),
+        ((2, 2, 2), SlotPlace::Inside(1)),
+        ((3, 3, 4), SlotPlace::Inside(1)),
+        ((-1, 1, 1), SlotPlace::Beyond(2)),
+        ((1, 1, -1), SlotPlace::Beyond(4)),
+        ((1, -1, 1), SlotPlace::Beyond(3)),
+        ((4, 1, 4), SlotPlace::Beyond(5)),
+        ((1, 4, 4), SlotPlace::Beyond(6)),
+        ((4, 4, 1), SlotPlace::Beyond(7)),
     ] {
-        let (x, y, z) = at;
-        let p = grid_point(x, y, z);
-        let slot = Slot { index: place };
-        let want = if inside {
-            Place::Inside(slot)
-        } else {
-            Place::Beyond(slot)
-        };
-        for i in 0..arena.slots() {
-            if let Some(start) = arena.slot(i) {
-                assert_eq!(rt;
-                    found(&arena, &points, start, p),
-                    Some(want),
-                    "{x} {y} {z} from {i}"
-                );
-            }
+        for start in 0..TWO.len() {
+            let found = in_two(rt.alloc(), start, grid_point(x, y, z))?;
+            assert_eq!(rt; found, Some(want), "{x} {y} {z} from {start}");
         }
     }
     Ok(())
