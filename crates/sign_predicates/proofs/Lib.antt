@@ -3,3 +3,16 @@ pub mod Products
 pub mod Vectors
 pub mod Ties
 pub mod Holds
+pub mod Exit
+pub mod Shared
+pub mod Moves
+pub mod Flat
+pub mod Segments
+pub mod Pierce
+pub mod Meets
+pub mod Helly
+pub mod Places
+pub mod Legs
+pub mod Enter
+pub mod Triangles
+pub mod Apart

@@ -30,6 +30,15 @@ two_products = sub one_product (mul (var 2) (var 3))
 abbrev pub three_products : Expr
 three_products = add two_products (mul (var 4) (var 5))
 
+abbrev pub sum_of_two_products : Expr
+sum_of_two_products = add one_product (mul (var 2) (var 3))
+
+abbrev pub sum_of_three_products : Expr
+sum_of_three_products = add sum_of_two_products (mul (var 4) (var 5))
+
+abbrev pub normal_bounds : List ℕ
+normal_bounds = 2 ^ 49 ∷ 2 ^ 49 ∷ 2 ^ 49 ∷ 2 ^ 49 ∷ 2 ^ 49 ∷ 2 ^ 49 ∷ []
+
 abbrev pub four_products : Expr
 four_products = sub three_products (mul (var 6) (var 7))
 

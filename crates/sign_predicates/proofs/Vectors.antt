@@ -80,3 +80,9 @@ denominator_size_back w e = subst (λ y. unsigned_abs y ≤ 1000000) (sym (denom
 
 pub near_back : (w x : ℤ) → (w ≡ pos 1) ⊎ (w ≡ pos 1000000) → IsNear w x → to_z w64 (of_z w64 x) ≡ x
 near_back w x e h = let k = denominator_size w e in back w64 (8388609 * 1000000) x tt (omega arith)
+
+-- a minor of two vectors
+pub minor_back : (a b c d : ℤ) → unsigned_abs a ≤ 2 ^ 24 → unsigned_abs b ≤ 2 ^ 24 → unsigned_abs c ≤ 2 ^ 24 → unsigned_abs d ≤ 2 ^ 24
+    → det_of_two (to_z w32 (of_z w32 a)) (to_z w32 (of_z w32 b)) (to_z w32 (of_z w32 c)) (to_z w32 (of_z w32 d)) ≡ a *ℤ d -ℤ b *ℤ c
+unfolding det_of_two
+minor_back a b c d h i j k = det_of_two_back a b c d h i j k

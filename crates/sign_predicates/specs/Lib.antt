@@ -3,3 +3,7 @@ pub mod Orientation
 pub mod Sphere
 pub mod Vector
 pub mod Sign
+pub mod Meeting
+pub mod Turns
+pub mod Entering
+pub mod Centroid

@@ -25,3 +25,9 @@ minor u v = det_of_two u.x u.y v.x v.y
 -- the sum of `in_sphere` at the vectors from the point to the corners
 unfoldable pub sphere_sum : Point → Point → Point → Point → ℤ
 sphere_sum a b c d = square_length a *ℤ det b c d -ℤ square_length b *ℤ det a c d +ℤ square_length c *ℤ det a b d -ℤ square_length d *ℤ det a b c
+
+-- each coordinate is at most that of a cross product of two such vectors
+pub record IsSmallNormal (v : Point) : Type 0 where
+  pub x_small : unsigned_abs v.x ≤ 2 ^ 49
+  pub y_small : unsigned_abs v.y ≤ 2 ^ 49
+  pub z_small : unsigned_abs v.z ≤ 2 ^ 49

@@ -1,6 +1,10 @@
 //! Exact signs of points on the grid: on which side of a plane a point lies, and whether it is inside a sphere.
 #![tactic(auto)]
 
+mod boxes;
+mod centroid;
+mod entering;
+mod meeting;
 mod orientation;
 mod point;
 mod sign;
@@ -8,6 +12,10 @@ mod sphere;
 mod tetrahedron;
 mod vector;
 
+pub use boxes::boxes_apart;
+pub use centroid::{normal_sign, orient_centroid, turn_centroid, turn_sign};
+pub use entering::triangle_enters;
+pub use meeting::{segment_meets_triangle, segments_meet, spans_plane, triangles_meet};
 pub use orientation::{beyond, coplanar, in_tet, orient, orient_rat};
 pub use point::{GridPoint, RatPoint};
 pub use sphere::outside;

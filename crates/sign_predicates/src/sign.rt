@@ -1,5 +1,5 @@
 //! The sign of a sum.
-ghost use Rattle.std.specs.Prelude.{◌≡◌, pos, int_lt};
+ghost use Rattle.std.specs.Prelude.{◌≡◌, pos, int_lt, ◌<ℤ◌, ◌≤ℤ◌, IsTrue, ◌↔◌};
 ghost use Rattle.sign_predicates.specs.Sign.{IsSignOf, least_sign};
 
 use crate::Sign;
@@ -44,4 +44,25 @@ pub(crate) fn least_sign(s: Sign, t: Sign) -> Sign
         },
         Sign::Above => t,
     }
+}
+
+#[inline]
+pub(crate) fn is_not_below(n: i128) -> bool
+    ensures { IsTrue result ↔ pos 0 ≤ℤ n }
+{
+    n >= 0
+}
+
+#[inline]
+pub(crate) fn is_not_above(n: i128) -> bool
+    ensures { IsTrue result ↔ n ≤ℤ pos 0 }
+{
+    n <= 0
+}
+
+#[inline]
+pub(crate) fn is_strictly_above(n: i128) -> bool
+    ensures { IsTrue result ↔ pos 0 <ℤ n }
+{
+    n > 0
 }

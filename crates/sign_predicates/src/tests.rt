@@ -2,7 +2,8 @@ use crate::orientation::orient_sum;
 use crate::sphere::in_sphere;
 use crate::{
     Corners, GridPoint, Hold, Numbers, RatPoint, Sign, beyond, coplanar, in_tet, orient,
-    orient_rat, outside,
+    orient_rat, outside, segment_meets_triangle, segments_meet, spans_plane, triangle_enters,
+    triangles_meet,
 };
 
 const FAR: i32 = 8_388_608;
@@ -175,4 +176,97 @@ fn rational_points(rt: HostRuntime) {
         };
         assert!(rt; in_tet(tet(UNIT), x) == want);
     }
+}
+
+#[test]
+fn segments_that_meet(rt: HostRuntime) {
+    let cases: [([[i8; 3]; 4], bool); 9] = [
+        ([[0, 0, 0], [2, 2, 0], [0, 2, 0], [2, 0, 0]], true),
+        ([[0, 0, 0], [2, 2, 0], [0, 2, 1], [2, 0, 1]], false),
+        ([[0, 0, 0], [2, 2, 0], [1, 1, 0], [2, 0, 0]], true),
+        ([[0, 0, 0], [2, 2, 0], [3, 3, 0], [4, 4, 0]], false),
+        ([[0, 0, 0], [2, 2, 2], [1, 1, 1], [4, 4, 4]], true),
+        ([[0, 0, 0], [2, 2, 0], [0, 1, 0], [2, 3, 0]], false),
+        ([[1, 1, 1], [1, 1, 1], [0, 0, 0], [3, 3, 3]], true),
+        ([[1, 1, 1], [1, 1, 1], [1, 1, 1], [1, 1, 1]], true),
+        ([[1, 1, 1], [1, 1, 1], [1, 1, 2], [1, 1, 3]], false),
+    ];
+    for (p, want) in cases {
+        assert_eq!(rt; segments_meet(at(p[0]), at(p[1]), at(p[2]), at(p[3])), want);
+    }
+}
+
+#[test]
+fn segments_and_triangles(rt: HostRuntime) {
+    let flat = [[0, 0, 0], [4, 0, 0], [0, 4, 0]];
+    let line = [[0, 0, 0], [4, 0, 0], [2, 0, 0]];
+    let cases: [([[i8; 3]; 3], [[i8; 3]; 2], bool); 11] = [
+        (flat, [[1, 1, 1], [1, 1, -1]], true),
+        (flat, [[1, 1, -1], [1, 1, 1]], true),
+        (flat, [[3, 3, 1], [3, 3, -1]], false),
+        (flat, [[1, 1, 1], [1, 1, 2]], false),
+        (flat, [[0, 0, 0], [0, 0, 5]], true),
+        (flat, [[2, 2, 3], [2, 2, 0]], true),
+        (flat, [[-1, 1, 0], [5, 1, 0]], true),
+        (flat, [[1, 1, 0], [1, 1, 0]], true),
+        (flat, [[5, 0, 0], [9, 0, 0]], false),
+        (line, [[3, 0, 1], [3, 0, -1]], true),
+        (line, [[5, 0, 1], [5, 0, -1]], false),
+    ];
+    for (f, s, want) in cases {
+        let got = segment_meets_triangle(at(s[0]), at(s[1]), at(f[0]), at(f[1]), at(f[2]));
+        assert_eq!(rt; got, want);
+    }
+}
+
+#[test]
+fn triangles_that_meet(rt: HostRuntime) {
+    let flat = [[0, 0, 0], [4, 0, 0], [0, 4, 0]];
+    let cases: [([[i8; 3]; 3], bool); 6] = [
+        ([[1, 1, -1], [1, 1, 1], [9, 9, 1]], true),
+        ([[1, 1, 1], [2, 1, 1], [1, 2, 1]], false),
+        ([[1, 1, 0], [2, 1, 0], [1, 2, 0]], true),
+        ([[-9, -9, 0], [40, -9, 0], [-9, 40, 0]], true),
+        ([[9, 9, 0], [8, 9, 0], [9, 8, 0]], false),
+        ([[3, 3, -1], [3, 3, 1], [9, 9, 1]], false),
+    ];
+    for (f, want) in cases {
+        let got = triangles_meet(
+            at(flat[0]),
+            at(flat[1]),
+            at(flat[2]),
+            at(f[0]),
+            at(f[1]),
+            at(f[2]),
+        );
+        assert_eq!(rt; got, want);
+    }
+}
+
+fn enters(t: [[i8; 3]; 4], f: [[i8; 3]; 3]) -> Option<bool> {
+    let t = tet(t);
+    let (a, b, c) = (at(f[0]), at(f[1]), at(f[2]));
+    if orient(t.a, t.b, t.c, t.d) == Sign::Above && spans_plane(a, b, c) {
+        Some(triangle_enters(t, a, b, c))
+    } else {
+        None
+    }
+}
+
+#[test]
+fn triangles_that_enter(rt: HostRuntime) {
+    let cases: [([[i8; 3]; 3], bool); 8] = [
+        ([[1, 1, 1], [9, 9, 9], [9, 0, 9]], true),
+        ([[-9, -9, 1], [30, -9, 1], [-9, 30, 1]], true),
+        ([[0, 0, 0], [4, 0, 0], [0, 4, 0]], false),
+        ([[0, 0, -1], [4, 0, -1], [0, 4, -1]], false),
+        ([[0, 0, 0], [-4, 0, 1], [0, -4, 1]], false),
+        ([[-1, 1, 1], [9, 1, 1], [9, 9, 9]], true),
+        ([[0, 0, 0], [4, 4, 0], [0, 0, 4]], true),
+        ([[4, 0, 0], [0, 4, 0], [9, 9, -9]], false),
+    ];
+    for (f, want) in cases {
+        assert_eq!(rt; enters(FOUR, f), Some(want));
+    }
+    assert_eq!(rt; enters(FOUR, [[0, 0, 0], [1, 1, 1], [2, 2, 2]]), None);
 }

@@ -1,11 +1,14 @@
 //! Vectors between points of the grid, and the exact products of them that the predicates sum.
-ghost use Rattle.std.specs.Prelude.{◌≡◌, ◌+◌, ◌*◌, ◌^◌, ◌≤◌, ◌+ℤ◌, ◌-ℤ◌, ◌*ℤ◌, unsigned_abs};
+ghost use Rattle.std.specs.Prelude.{◌≡◌, ◌+◌, ◌*◌, ◌^◌, ◌≤◌, ◌+ℤ◌, ◌-ℤ◌, ◌*ℤ◌, unsigned_abs, IsTrue, ◌↔◌};
 ghost use Rattle.sign_predicates.specs.Point.{from_to};
-ghost use Rattle.sign_predicates.specs.Orientation.{det};
+ghost use Rattle.sign_predicates.specs.Orientation.{det, dot, cross};
+ghost use Rattle.sign_predicates.specs.Turns.{IsZeroVector};
+ghost use Rattle.sign_predicates.specs.Centroid.{IsFirstSignOf};
 ghost use Rattle.sign_predicates.specs.Sphere.{square_length};
 ghost use Rattle.sign_predicates.specs.Vector.{det_of_two, minor};
 
-use crate::GridPoint;
+use crate::sign::sign_of;
+use crate::{GridPoint, Sign};
 use std::marker::Model;
 
 /// The vector from one grid point to another. Each coordinate is at most `2^24` in size.
@@ -138,4 +141,133 @@ pub(crate) fn det_of_minors(u: Vector, v: Vector, w: Vector, vw: i64, uw: i64, u
     ensures size { unsigned_abs result ≤ 3 * 2 ^ 73 }
 {
     sum_of_three(vw, u.z as i64, uw, v.z as i64, uv, w.z as i64)
+}
+
+/// A vector at right angles to two others, their cross product. Each coordinate is at most `2^49` in size.
+#[derive(Clone, Copy)]
+pub(crate) struct Normal {
+    x: i64,
+    y: i64,
+    z: i64,
+}
+
+impl Model for Normal {
+    ghost use Rattle.sign_predicates.specs.Point.{Point};
+    ghost use Rattle.sign_predicates.specs.Vector.{IsSmallNormal};
+
+    ghost Value = { Point };
+
+    ghost view = { λ v. record { x = v.x; y = v.y; z = v.z } };
+
+    ghost invariant = { λ v. IsSmallNormal (record { x = v.x; y = v.y; z = v.z }) };
+
+    ghost inverse = { λ v. record { x = v.x; y = v.y; z = v.z } };
+}
+
+/// The cross product.
+#[inline]
+pub(crate) fn cross(u: Vector, v: Vector) -> Normal
+    ensures { result ≡ cross u v }
+{
+    Normal {
+        x: det_of_two(u.y, u.z, v.y, v.z),
+        y: det_of_two(u.z, u.x, v.z, v.x),
+        z: det_of_two(u.x, u.y, v.x, v.y),
+    }
+}
+
+/// Whether all coordinates are 0: the two vectors were parallel.
+#[inline]
+pub(crate) fn is_zero(n: Normal) -> bool
+    ensures { IsTrue result ↔ IsZeroVector n }
+{
+    n.x == 0 && n.y == 0 && n.z == 0
+}
+
+/// The sum of three products.
+#[inline]
+fn sum_of_products(a: i64, x: i64, b: i64, y: i64, c: i64, z: i64) -> i128
+    requires a_small { unsigned_abs a ≤ 2 ^ 49 }
+    requires b_small { unsigned_abs b ≤ 2 ^ 49 }
+    requires c_small { unsigned_abs c ≤ 2 ^ 49 }
+    requires x_small { unsigned_abs x ≤ 2 ^ 49 }
+    requires y_small { unsigned_abs y ≤ 2 ^ 49 }
+    requires z_small { unsigned_abs z ≤ 2 ^ 49 }
+    ensures { result ≡ a *ℤ x +ℤ b *ℤ y +ℤ c *ℤ z }
+{
+    a as i128 * x as i128 + b as i128 * y as i128 + c as i128 * z as i128
+}
+
+/// The scalar product of two cross products. It is at most `3 * 2^98` in size.
+#[inline]
+pub(crate) fn dot_normals(n: Normal, m: Normal) -> i128
+    ensures { result ≡ dot n m }
+{
+    sum_of_products(n.x, m.x, n.y, m.y, n.z, m.z)
+}
+
+/// The scalar product.
+#[inline]
+pub(crate) fn dot(u: Vector, v: Vector) -> i128
+    ensures { result ≡ dot u v }
+{
+    sum_of_products(
+        u.x as i64, v.x as i64, u.y as i64, v.y as i64, u.z as i64, v.z as i64,
+    )
+}
+
+/// The determinant of three vectors, of which the first may be a normal and the last four times as long as one between grid points.
+#[inline]
+fn triple_of(n: i64, o: i64, p: i64, u: i64, v: i64, w: i64, x: i64, y: i64, z: i64) -> i128
+    requires n_small { unsigned_abs n ≤ 2 ^ 49 }
+    requires o_small { unsigned_abs o ≤ 2 ^ 49 }
+    requires p_small { unsigned_abs p ≤ 2 ^ 49 }
+    requires u_small { unsigned_abs u ≤ 2 ^ 24 }
+    requires v_small { unsigned_abs v ≤ 2 ^ 24 }
+    requires w_small { unsigned_abs w ≤ 2 ^ 24 }
+    requires x_small { unsigned_abs x ≤ 2 ^ 26 }
+    requires y_small { unsigned_abs y ≤ 2 ^ 26 }
+    requires z_small { unsigned_abs z ≤ 2 ^ 26 }
+    ensures { result ≡ n *ℤ (v *ℤ z -ℤ w *ℤ y) +ℤ o *ℤ (w *ℤ x -ℤ u *ℤ z) +ℤ p *ℤ (u *ℤ y -ℤ v *ℤ x) }
+{
+    n as i128 * (v as i128 * z as i128 - w as i128 * y as i128)
+        + o as i128 * (w as i128 * x as i128 - u as i128 * z as i128)
+        + p as i128 * (u as i128 * y as i128 - v as i128 * x as i128)
+}
+
+/// The scalar product of a normal and the cross product of two vectors, of which the second may be four times as long as one between
+/// grid points. It is at most `3 * 2^100` in size.
+#[inline]
+pub(crate) fn triple(n: Normal, u: Vector, x: i64, y: i64, z: i64) -> i128
+    requires x_small { unsigned_abs x ≤ 2 ^ 26 }
+    requires y_small { unsigned_abs y ≤ 2 ^ 26 }
+    requires z_small { unsigned_abs z ≤ 2 ^ 26 }
+    ensures { result ≡ dot n (cross u (record { x = x; y = y; z = z })) }
+{
+    triple_of(n.x, n.y, n.z, u.x as i64, u.y as i64, u.z as i64, x, y, z)
+}
+
+/// The sign of the first number that is not 0, or of the last one.
+#[inline]
+fn first_of(x: i64, y: i64, z: i64) -> Sign
+    requires x_small { unsigned_abs x ≤ 2 ^ 49 }
+    requires y_small { unsigned_abs y ≤ 2 ^ 49 }
+    requires z_small { unsigned_abs z ≤ 2 ^ 49 }
+    ensures { IsFirstSignOf result (record { x = x; y = y; z = z }) }
+{
+    if x != 0 {
+        sign_of(x as i128)
+    } else if y != 0 {
+        sign_of(y as i128)
+    } else {
+        sign_of(z as i128)
+    }
+}
+
+/// The sign of the first coordinate that is not 0, or of the last one.
+#[inline]
+pub(crate) fn first_sign(n: Normal) -> Sign
+    ensures { IsFirstSignOf result n }
+{
+    first_of(n.x, n.y, n.z)
 }

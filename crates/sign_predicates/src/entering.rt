@@ -1,0 +1,336 @@
+//! Whether a triangle enters the inside of a tetrahedron. All sums are orientations.
+ghost use Rattle.std.specs.Prelude.{◌≡◌, ◌⊎◌, pos, ◌<ℤ◌, ◌≤ℤ◌, IsTrue, ◌↔◌};
+ghost use Rattle.sign_predicates.specs.Orientation.{orient, IsPositive, SpansPlane, side};
+ghost use Rattle.sign_predicates.specs.Meeting.{triangle, segment, TriangleEnters};
+ghost use Rattle.sign_predicates.specs.Turns.{PassesWithin};
+ghost use Rattle.sign_predicates.specs.Entering.{AreLows, FacesOpen, FacesOpenToSome, PassesFace, EdgesOpen, SideEnters, CrossesWithin, CrossesFrom, SectionWithin, Straddles, SomeAbove, SomeBelow, IsSpot};
+
+use crate::meeting::passes_within;
+use crate::orientation::orient_sum;
+use crate::sign::{is_not_above, is_strictly_above};
+use crate::{Corners, GridPoint};
+
+/// Of each face of a tetrahedron, by the opposite corner: whether a point isn't strictly on its inner side.
+#[derive(Clone, Copy)]
+struct Lows {
+    a: bool,
+    b: bool,
+    c: bool,
+    d: bool,
+}
+
+#[inline]
+fn is_low(a: GridPoint, b: GridPoint, c: GridPoint, p: GridPoint) -> bool
+    ensures { IsTrue result ↔ orient a b c p ≤ℤ pos 0 }
+{
+    is_not_above(orient_sum(a, b, c, p))
+}
+
+#[inline]
+fn is_high(a: GridPoint, b: GridPoint, c: GridPoint, p: GridPoint) -> bool
+    ensures { IsTrue result ↔ pos 0 <ℤ orient a b c p }
+{
+    is_strictly_above(orient_sum(a, b, c, p))
+}
+
+#[inline]
+fn find_lows(t: &Corners, p: GridPoint) -> Lows
+    ensures { AreLows t.now p result }
+{
+    Lows {
+        a: is_low(t.b, t.d, t.c, p),
+        b: is_low(t.a, t.c, t.d, p),
+        c: is_low(t.a, t.d, t.b, p),
+        d: is_low(t.a, t.b, t.c, p),
+    }
+}
+
+// ---- a leg
+
+/// Whether each face has one of the two points strictly on its inner side.
+#[inline]
+fn faces_open(p: Lows, q: Lows) -> bool
+    ensures { IsTrue result ↔ FacesOpen p q }
+{
+    !(p.a && q.a) && !(p.b && q.b) && !(p.c && q.c) && !(p.d && q.d)
+}
+
+/// Whether the leg from `p` to `q` passes the edge from `u` to `v` on its inner side, where that is asked.
+#[inline]
+fn passes_edge(
+    first: bool,
+    second: bool,
+    u: GridPoint,
+    v: GridPoint,
+    p: GridPoint,
+    q: GridPoint,
+) -> bool
+    ensures { IsTrue result ↔ (IsTrue first → IsTrue second → pos 0 <ℤ orient u v q p) }
+{
+    if first && second {
+        is_high(u, v, q, p)
+    } else {
+        true
+    }
+}
+
+/// So at the three edges of a face with the corners `b`, `c` and `d`, where `low` says that `q` isn't on the face's inner side, and the other marks
+/// say so of `p` and the faces opposite these corners.
+#[inline]
+fn passes_face(
+    low: bool,
+    low_b: bool,
+    low_c: bool,
+    low_d: bool,
+    b: GridPoint,
+    c: GridPoint,
+    d: GridPoint,
+    p: GridPoint,
+    q: GridPoint,
+) -> bool
+    ensures { IsTrue result ↔ PassesFace low low_b low_c low_d b c d p q }
+{
+    passes_edge(low, low_b, d, c, p, q)
+        && passes_edge(low, low_c, b, d, p, q)
+        && passes_edge(low, low_d, c, b, p, q)
+}
+
+/// Whether the leg passes each edge on its inner side where it leaves the inner side of one of the edge's faces and comes to that of the other.
+fn edges_open(t: &Corners, p: GridPoint, q: GridPoint, lp: Lows, lq: Lows) -> bool
+    ensures { IsTrue result ↔ EdgesOpen t.now p q lp lq }
+{
+    passes_face(lq.a, lp.b, lp.c, lp.d, t.b, t.c, t.d, p, q)
+        && passes_face(lq.b, lp.a, lp.d, lp.c, t.a, t.d, t.c, p, q)
+        && passes_face(lq.c, lp.d, lp.a, lp.b, t.d, t.a, t.b, p, q)
+        && passes_face(lq.d, lp.c, lp.b, lp.a, t.c, t.b, t.a, p, q)
+}
+
+/// Whether some point of the closed segment from `p` to `q` is strictly inside the tetrahedron. Source: Helly's theorem on a line.
+fn leg_enters(t: &Corners, p: GridPoint, q: GridPoint, lp: Lows, lq: Lows) -> bool
+    requires positive { IsPositive t.now }
+    requires lp_is { AreLows t.now p lp }
+    requires lq_is { AreLows t.now q lq }
+    ensures { IsTrue result ↔ TriangleEnters t.now (segment p q) }
+{
+    faces_open(lp, lq) && edges_open(t, p, q, lp, lq)
+}
+
+/// Whether a side of the triangle has a point strictly inside.
+fn side_enters(
+    t: &Corners,
+    a: GridPoint,
+    b: GridPoint,
+    c: GridPoint,
+    la: Lows,
+    lb: Lows,
+    lc: Lows,
+) -> bool
+    requires positive { IsPositive t.now }
+    requires la_is { AreLows t.now a la }
+    requires lb_is { AreLows t.now b lb }
+    requires lc_is { AreLows t.now c lc }
+    ensures { IsTrue result ↔ SideEnters t.now (triangle a b c) }
+{
+    if leg_enters(t, a, b, la, lb) {
+        true
+    } else {
+        leg_enters(t, b, c, lb, lc) || leg_enters(t, c, a, lc, la)
+    }
+}
+
+/// Whether each face has one of three points strictly on its inner side.
+#[inline]
+fn faces_open_to_some(p: Lows, q: Lows, r: Lows) -> bool
+    ensures { IsTrue result ↔ FacesOpenToSome p q r }
+{
+    !(p.a && q.a && r.a) && !(p.b && q.b && r.b) && !(p.c && q.c && r.c) && !(p.d && q.d && r.d)
+}
+
+// ---- the section
+
+/// A corner, and whether it is strictly above the triangle's plane.
+#[derive(Clone, Copy)]
+struct Spot {
+    at: GridPoint,
+    above: bool,
+}
+
+#[inline]
+fn find_spot(a: GridPoint, b: GridPoint, c: GridPoint, p: GridPoint, side: i128) -> Spot
+    requires { side ≡ orient a b c p }
+    ensures at { result.at ≡ p }
+    ensures spot { IsSpot (triangle a b c) result }
+{
+    Spot {
+        at: p,
+        above: is_strictly_above(side),
+    }
+}
+
+/// Whether the edge from `p` to `q` meets the plane within the triangle, where `p` is strictly above the plane and `q` isn't.
+fn crosses_within(p: &Spot, q: &Spot, a: GridPoint, b: GridPoint, c: GridPoint) -> bool
+    requires p_is { IsSpot (triangle a b c) p.now }
+    requires q_is { IsSpot (triangle a b c) q.now }
+    ensures { IsTrue result ↔ CrossesWithin (triangle a b c) p.now.at q.now.at }
+{
+    if p.above && !q.above {
+        passes_within(p.at, q.at, a, b, c)
+    } else {
+        true
+    }
+}
+
+/// So for the three edges from `p`.
+fn crosses_from(
+    p: &Spot,
+    q: &Spot,
+    r: &Spot,
+    s: &Spot,
+    a: GridPoint,
+    b: GridPoint,
+    c: GridPoint,
+) -> bool
+    requires p_is { IsSpot (triangle a b c) p.now }
+    requires q_is { IsSpot (triangle a b c) q.now }
+    requires r_is { IsSpot (triangle a b c) r.now }
+    requires s_is { IsSpot (triangle a b c) s.now }
+    ensures { IsTrue result ↔ CrossesFrom (triangle a b c) p.now.at q.now.at r.now.at s.now.at }
+{
+    crosses_within(p, q, a, b, c) && crosses_within(p, r, a, b, c) && crosses_within(p, s, a, b, c)
+}
+
+/// So for the edges from `p` and from `q`.
+fn crosses_from_both(
+    p: &Spot,
+    q: &Spot,
+    r: &Spot,
+    s: &Spot,
+    a: GridPoint,
+    b: GridPoint,
+    c: GridPoint,
+) -> bool
+    requires p_is { IsSpot (triangle a b c) p.now }
+    requires q_is { IsSpot (triangle a b c) q.now }
+    requires r_is { IsSpot (triangle a b c) r.now }
+    requires s_is { IsSpot (triangle a b c) s.now }
+    ensures { IsTrue result ↔ (CrossesFrom (triangle a b c) p.now.at q.now.at r.now.at s.now.at × CrossesFrom (triangle a b c) q.now.at p.now.at r.now.at s.now.at) }
+{
+    crosses_from(p, q, r, s, a, b, c) && crosses_from(q, p, r, s, a, b, c)
+}
+
+/// Whether the plane cuts the tetrahedron within the triangle.
+fn section_within(
+    p: &Spot,
+    q: &Spot,
+    r: &Spot,
+    s: &Spot,
+    a: GridPoint,
+    b: GridPoint,
+    c: GridPoint,
+) -> bool
+    requires p_is { IsSpot (triangle a b c) p.now }
+    requires q_is { IsSpot (triangle a b c) q.now }
+    requires r_is { IsSpot (triangle a b c) r.now }
+    requires s_is { IsSpot (triangle a b c) s.now }
+    ensures { IsTrue result ↔ SectionWithin (record { a = p.now.at; b = q.now.at; c = r.now.at; d = s.now.at }) (triangle a b c) }
+{
+    crosses_from_both(p, q, r, s, a, b, c) && crosses_from_both(r, s, p, q, a, b, c)
+}
+
+#[inline]
+fn some_above(a: i128, b: i128, c: i128, d: i128) -> bool
+    ensures { IsTrue result ↔ SomeAbove a b c d }
+{
+    a > 0 || b > 0 || c > 0 || d > 0
+}
+
+#[inline]
+fn some_below(a: i128, b: i128, c: i128, d: i128) -> bool
+    ensures { IsTrue result ↔ SomeBelow a b c d }
+{
+    a < 0 || b < 0 || c < 0 || d < 0
+}
+
+/// Whether some of four numbers is above 0, and some is below.
+#[inline]
+fn has_both_signs(a: i128, b: i128, c: i128, d: i128) -> bool
+    ensures { IsTrue result ↔ (SomeAbove a b c d × SomeBelow a b c d) }
+{
+    some_above(a, b, c, d) && some_below(a, b, c, d)
+}
+
+/// `triangle_enters`, where the plane has corners strictly on both sides.
+fn enters_across(
+    t: &Corners,
+    a: GridPoint,
+    b: GridPoint,
+    c: GridPoint,
+    p: &Spot,
+    q: &Spot,
+    r: &Spot,
+    s: &Spot,
+) -> bool
+    requires positive { IsPositive t.now }
+    requires p_is { IsSpot (triangle a b c) p.now }
+    requires q_is { IsSpot (triangle a b c) q.now }
+    requires r_is { IsSpot (triangle a b c) r.now }
+    requires s_is { IsSpot (triangle a b c) s.now }
+    requires spans { SpansPlane (triangle a b c) }
+    requires straddles { Straddles t.now (triangle a b c) }
+    requires corners { t.now ≡ record { a = p.now.at; b = q.now.at; c = r.now.at; d = s.now.at } }
+    ensures { IsTrue result ↔ TriangleEnters t.now (triangle a b c) }
+{
+    let la = find_lows(t, a);
+    let lb = find_lows(t, b);
+    let lc = find_lows(t, c);
+    if faces_open_to_some(la, lb, lc) {
+        side_enters(t, a, b, c, la, lb, lc) || section_within(p, q, r, s, a, b, c)
+    } else {
+        false
+    }
+}
+
+/// `triangle_enters`, where the last four numbers say on which sides of the triangle's plane the corners lie.
+fn enters_at(
+    t: &Corners,
+    a: GridPoint,
+    b: GridPoint,
+    c: GridPoint,
+    sa: i128,
+    sb: i128,
+    sc: i128,
+    sd: i128,
+) -> bool
+    requires positive { IsPositive t.now }
+    requires spans { SpansPlane (triangle a b c) }
+    requires sa_is { sa ≡ orient a b c t.now.a }
+    requires sb_is { sb ≡ orient a b c t.now.b }
+    requires sc_is { sc ≡ orient a b c t.now.c }
+    requires sd_is { sd ≡ orient a b c t.now.d }
+    ensures { IsTrue result ↔ TriangleEnters t.now (triangle a b c) }
+{
+    if has_both_signs(sa, sb, sc, sd) {
+        let p = find_spot(a, b, c, t.a, sa);
+        let q = find_spot(a, b, c, t.b, sb);
+        let r = find_spot(a, b, c, t.c, sc);
+        let s = find_spot(a, b, c, t.d, sd);
+        enters_across(t, a, b, c, &p, &q, &r, &s)
+    } else {
+        false
+    }
+}
+
+/// Whether some rational point strictly inside the positive tetrahedron `t` lies in the closed triangle `a b c`, whose corners are not on a line.
+/// Source: a side of the triangle has such a point, or the plane cuts the tetrahedron within the triangle; else the leg from such a point to a corner
+/// of the section leaves the triangle through a side.
+pub fn triangle_enters(t: Corners, a: GridPoint, b: GridPoint, c: GridPoint) -> bool
+    requires positive { IsPositive t }
+    requires spans { SpansPlane (triangle a b c) }
+    ensures { IsTrue result ↔ TriangleEnters t (triangle a b c) }
+{
+    let sa = orient_sum(a, b, c, t.a);
+    let sb = orient_sum(a, b, c, t.b);
+    let sc = orient_sum(a, b, c, t.c);
+    let sd = orient_sum(a, b, c, t.d);
+    enters_at(&t, a, b, c, sa, sb, sc, sd)
+}
