@@ -65,7 +65,7 @@ count-cons : (test : Tet → Bool) (t : Tet) (rows : List Tet) → count_by test
 count-cons test t rows = sum_by-cons (λ u. cond (test u) 1 0) t rows
 
 -- where none passes the count is 0
-count_none : (test : Tet → Bool) (rows : List Tet) → ((t : Tet) → IsMember t rows → test t ≡ true → ⊥) → count_by test rows ≡ 0
+pub count_none : (test : Tet → Bool) (rows : List Tet) → ((t : Tet) → IsMember t rows → test t ≡ true → ⊥) → count_by test rows ≡ 0
 count_none test [] h = refl
 count_none test (t ∷ rows) h = count-cons test t rows ∙ go (test t) (h t here) (count_none test rows (λ u m. h u (there m)))
   where
@@ -74,7 +74,7 @@ count_none test (t ∷ rows) h = count-cons test t rows ∙ go (test t) (h t her
     go false n r = omega arith
 
 -- in a strictly ascending list no tetrahedron stands twice
-count_one : (test : Tet → Bool) (rows : List Tet) (t : Tet) → Rises RowBefore rows → IsMember t rows → test t ≡ true
+pub count_one : (test : Tet → Bool) (rows : List Tet) (t : Tet) → Rises RowBefore rows → IsMember t rows → test t ≡ true
     → ((u : Tet) → IsMember u rows → test u ≡ true → u ≡ t) → count_by test rows ≡ 1
 count_one test [] t d m e same = elim m [ ]
 count_one test (u ∷ rows) t (more first d) here e same =

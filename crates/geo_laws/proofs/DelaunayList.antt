@@ -59,7 +59,7 @@ four_of n t m =
     subst (IsFour n) (sym d.2) (record { arranged = record { first = omega arith; second = omega arith; second' = omega arith }; within_c = hc.1; within_d = hd.1 })
 
 -- and each such one is there
-in_fours : (n : ℕ) (t : Tet) → IsArranged t → t.c < n → t.d < n → IsMember t (fours n)
+pub in_fours : (n : ℕ) (t : Tet) → IsArranged t → t.c < n → t.d < n → IsMember t (fours n)
 in_fours n t h c d =
     let k1 = h.first in
     let k2 = h.second in
@@ -89,7 +89,7 @@ abc_is n a b c t m =
     (ap (λ (u : Tet). u.a) d.2, ap (λ (u : Tet). u.b) d.2, ap (λ (u : Tet). u.c) d.2)
 
 -- the fours are strictly ascending
-rises-fours : (n : ℕ) → Rises RowBefore (fours n)
+pub rises-fours : (n : ℕ) → Rises RowBefore (fours n)
 rises-fours n =
     rises-flat_map ◌<◌ RowBefore (fours_a n) (numbers_below n) (rises-range 0 n)
     (λ a. rises-flat_map ◌<◌ RowBefore (fours_ab n a) (numbers_from (a + 1) n) (rises-range (a + 1) (n - (a + 1)))

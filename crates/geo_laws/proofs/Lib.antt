@@ -5,6 +5,7 @@ pub mod Ascending
 pub mod Corners
 pub mod Lexicographic
 pub mod Means
+pub mod Simplices
 pub mod Ties
 pub mod Lift
 pub mod Arrangement
@@ -18,3 +19,4 @@ pub mod General
 pub mod Cover
 pub mod DelaunayList
 pub mod Worked
+pub mod Complexes

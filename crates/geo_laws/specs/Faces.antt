@@ -20,6 +20,14 @@ row_faces t = face_of t.b t.c t.d ∷ face_of t.a t.c t.d ∷ face_of t.a t.b t.
 abbrev pub row_sides : Tet → List Side
 row_sides t = side_of t.a t.b ∷ side_of t.a t.c ∷ side_of t.a t.d ∷ side_of t.b t.c ∷ side_of t.b t.d ∷ side_of t.c t.d ∷ []
 
+-- the numbers of a face's corners
+abbrev pub face_numbers : Face → List ℕ
+face_numbers f = f.a ∷ f.b ∷ f.c ∷ []
+
+-- and of a side's ends
+abbrev pub side_numbers : Side → List ℕ
+side_numbers s = s.a ∷ s.b ∷ []
+
 -- the faces of all rows: one that two rows share stands twice
 abbrev pub faces_of_rows : List Tet → List Face
 faces_of_rows rows = flat_map row_faces rows

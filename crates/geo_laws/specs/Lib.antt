@@ -4,3 +4,10 @@ pub mod Simplex
 pub mod Height
 pub mod Laws
 pub mod Faces
+pub mod OrientedFace
+pub mod Segment
+pub mod Facet
+pub mod Complex
+pub mod Stored
+pub mod Path
+pub mod Mesh

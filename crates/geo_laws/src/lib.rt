@@ -1,10 +1,14 @@
 //! Points, tetrahedra, the definitions over them, and the laws of the Delaunay list.
 #![tactic(auto)]
 
+mod complex;
 mod faces;
 mod laws;
 mod tetrahedra;
 
+pub use complex::{
+    Complex, Facet, FacetTriangle, FacetTriangles, Piece, Pieces, RatPoints, Region, Segments,
+};
 pub use faces::{Face, Side, face_of, row_faces, row_sides, side_of};
 pub use laws::{
     law_cover, law_delaunay_list, law_hull, law_least_height, law_lift, law_nudge, law_radical,
