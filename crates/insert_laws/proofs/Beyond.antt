@@ -11,7 +11,7 @@ use Rattle.geo_laws.specs.Delaunay.{point}
 use Rattle.geo_laws.specs.Height.{height, lifted, places}
 use Rattle.geo_laws.specs.declared.tetrahedra.Tet.{Tet}
 use Rattle.geo_laws.proofs.Lexicographic.{IsLexAbove, lex_same, lex_scale, above_not_zero, zero_everywhere}
-use Rattle.insert_laws.specs.Face.{Face, triangle, beside, IsOther}
+use Rattle.geo_laws.specs.OrientedFace.{Face, triangle, beside, IsOther}
 use Rattle.insert_laws.specs.Insertion.{IsNew, edge_and}
 use Rattle.insert_laws.proofs.Bridge
 use Rattle.insert_laws.proofs.Identities as identity

@@ -16,7 +16,7 @@ use Rattle.geo_laws.proofs.Corners.{same_or_not}
 use Rattle.geo_laws.proofs.Lexicographic.{IsLexAbove, IsLexAtLeast, lex_same, lex_scale, above_add, at_least_add, above_not_zero, zero_everywhere}
 use Rattle.geo_laws.proofs.Lexicographic.{at_least_same}
 use Rattle.geo_laws.proofs.Heights.{all_fours, in_all_fours}
-use Rattle.insert_laws.specs.Face.{Face, triangle, reversed, beside}
+use Rattle.geo_laws.specs.OrientedFace.{Face, triangle, reversed, beside}
 use Rattle.insert_laws.specs.Insertion.{IsNew, IsFaceOf, IsHullFace, Sees, edge_and, Place, row_place, ghost_place, IsInCavity, row_in, ghost_in, row_ghost, ghost_ghost, ghost_turned, IsJoined, joined_self, joined_by, BeyondCavityLaw}
 use Rattle.insert_laws.proofs.Identities as identity
 use Rattle.geo_laws.proofs.Lexicographic.{at_least_multiple}

@@ -17,7 +17,7 @@ use Rattle.geo_laws.proofs.Corners.{on_of_corners}
 use Rattle.geo_laws.proofs.Corners.{contains_corner}
 use Rattle.geo_laws.proofs.Lexicographic.{IsLexAbove, lex_same}
 use Rattle.geo_laws.proofs.Lift.{law_lift}
-use Rattle.insert_laws.specs.Face.{Face, reversed, beside, IsOther}
+use Rattle.geo_laws.specs.OrientedFace.{Face, reversed, beside, IsOther}
 use Rattle.insert_laws.specs.Insertion.{HasSameCorners, IsFaceOf, IsNew}
 use Rattle.insert_laws.proofs.StarPencil.{With}
 use Rattle.insert_laws.proofs.Pencil.{IsSet, IsLow, IsLowUnder}

@@ -12,7 +12,7 @@ use Rattle.exact_algebra.proofs.Signs.{sign_of}
 use Rattle.geo_laws.proofs.Corners.{IsCorner}
 use Rattle.geo_laws.proofs.Lexicographic.{IsLexAbove, lex_scale, lex_same}
 use Rattle.geo_laws.proofs.Members.{there, in_map, in_range}
-use Rattle.insert_laws.specs.Face.{Face, triangle}
+use Rattle.geo_laws.specs.OrientedFace.{Face, triangle}
 use Rattle.insert_laws.proofs.Identities as identity
 use Rattle.geo_laws.proofs.Lexicographic.{IsLexBelow, above_unscale}
 use Rattle.insert_laws.proofs.Pencil.{IsPencil, IsBare}

@@ -11,7 +11,7 @@ use Rattle.geo_laws.proofs.Determinants as ring
 use Rattle.geo_laws.proofs.Lexicographic.{zero_at}
 use Rattle.geo_laws.proofs.Members.{there, in_map, in_range}
 use Rattle.geo_laws.proofs.Lift.{vote, vote-own}
-use Rattle.insert_laws.specs.Face.{Face, triangle, reversed, beside}
+use Rattle.geo_laws.specs.OrientedFace.{Face, triangle, reversed, beside}
 use Rattle.insert_laws.proofs.Identities as identity
 use Rattle.insert_laws.proofs.Pencil.{IsPencil}
 

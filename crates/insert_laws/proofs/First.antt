@@ -10,7 +10,7 @@ use Rattle.geo_laws.proofs.Places.{Place, A, B, C, D, number}
 use Rattle.geo_laws.proofs.Determinants.{side-other}
 use Rattle.geo_laws.proofs.Corners.{IsCorner, corner_of, corner_among, distinct}
 use Rattle.geo_laws.proofs.Arrangement.{at_least_a, at_least_b, last_two, same_row}
-use Rattle.insert_laws.specs.Face.{Face, reversed, beside}
+use Rattle.geo_laws.specs.OrientedFace.{Face, reversed, beside}
 use Rattle.insert_laws.specs.Insertion.{IsFaceOf, HasNoneBeyond, FirstLaw}
 use Rattle.insert_laws.proofs.FacePencil.{side_of, side_of-reversed}
 

@@ -14,7 +14,7 @@ use lib.IntN.{*ℤ-zero}
 use Rattle.geo_laws.proofs.Corners.{IsCorner}
 use Rattle.geo_laws.proofs.Places.{A, B, C, D}
 use Rattle.geo_laws.proofs.Lexicographic.{IsLexAbove, lex_same}
-use Rattle.insert_laws.specs.Face.{Face, triangle, reversed, IsOther}
+use Rattle.geo_laws.specs.OrientedFace.{Face, triangle, reversed, IsOther}
 use Rattle.insert_laws.specs.Insertion.{IsHullFace, edge_and, HullEdgeLaw}
 use Rattle.insert_laws.proofs.Identities as identity
 use Rattle.geo_laws.proofs.Lexicographic.{IsLexBelow}

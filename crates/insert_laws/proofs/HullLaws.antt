@@ -9,7 +9,7 @@ use Rattle.geo_laws.specs.declared.tetrahedra.Tet.{Tet}
 use Rattle.geo_laws.proofs.Corners.{IsCorner}
 use Rattle.geo_laws.proofs.Corners.{distinct}
 use Rattle.geo_laws.proofs.Lexicographic.{IsZeroAt, IsLexAbove, lex_sign_of, lex_same}
-use Rattle.insert_laws.specs.Face.{Face, reversed, beside, IsOther}
+use Rattle.geo_laws.specs.OrientedFace.{Face, reversed, beside, IsOther}
 use Rattle.insert_laws.specs.Insertion.{IsNew, IsHullFace, HasOutside, Sees, IsClearPlace, clear_row, clear_ghost, edge_and, IsHullRim, OldHullLaw, NewHullLaw}
 use Rattle.geo_laws.proofs.Lexicographic.{IsLexBelow, not_both}
 use Rattle.insert_laws.proofs.Pencil.{IsPencil, IsBare, IsFirst, first_of, above_not_zero, under_unique}

@@ -17,7 +17,7 @@ use Rattle.geo_laws.proofs.Corners.{IsCorner, corner_or_not}
 use Rattle.geo_laws.proofs.Places.{A, B, C, D}
 use Rattle.geo_laws.proofs.Corners.{distinct, contains_corner}
 use Rattle.geo_laws.proofs.Lexicographic.{IsZeroAt, IsLexAbove, lex_sign_of, lex_same}
-use Rattle.insert_laws.specs.Face.{Face, triangle, reversed, beside, IsOther}
+use Rattle.geo_laws.specs.OrientedFace.{Face, triangle, reversed, beside, IsOther}
 use Rattle.insert_laws.specs.Insertion.{IsNew, IsFaceOf, HasNoneBeyond, HasOutside, Sees, IsCavityPlace, cavity_row, cavity_ghost, IsClearPlace, clear_row, clear_ghost, IsStarRow, InsertionLaw, RimLaw, FacePairingLaw, OneRowLaw}
 use Rattle.geo_laws.proofs.Lexicographic.{IsLexBelow, not_both}
 use Rattle.insert_laws.proofs.Pencil.{IsBare, IsBareUnder, IsFirst, first_of, neighbor, low_unique, above_not_zero}

@@ -16,7 +16,7 @@ use Rattle.exact_algebra.proofs.Signs.{sign_of, mul_pos}
 use Rattle.geo_laws.proofs.Lexicographic.{IsLexAbove, lex_same, lex_scale, above_not_zero, zero_everywhere}
 use Rattle.geo_laws.proofs.Members.{IsMember, in_flat_map, in_map, member_of}
 use Rattle.geo_laws.proofs.Heights.{gap_at}
-use Rattle.insert_laws.specs.Face.{Face, triangle, reversed, beside, IsOther}
+use Rattle.geo_laws.specs.OrientedFace.{Face, triangle, reversed, beside, IsOther}
 use Rattle.insert_laws.specs.Insertion.{IsNew, IsFaceOf, HasOutside, row_place, Touches, row_row}
 use Rattle.insert_laws.proofs.Identities as identity
 use Rattle.geo_laws.proofs.Lexicographic.{IsLexBelow, not_both, sum_first}

@@ -15,7 +15,7 @@ use Rattle.geo_laws.proofs.Places.{A, B, C, D}
 use Rattle.geo_laws.proofs.Heights.{all_fours, in_all_fours}
 use Rattle.geo_laws.proofs.Determinants.{spans}
 use Rattle.geo_laws.proofs.Radical.{law_radical}
-use Rattle.insert_laws.specs.Face.{Face, triangle, reversed, beside}
+use Rattle.geo_laws.specs.OrientedFace.{Face, triangle, reversed, beside}
 use Rattle.insert_laws.specs.Insertion.{IsNew, IsHullFace, HasOutside, Sees, Place, row_place, ghost_place, IsInCavity, row_in, ghost_in, ghost_row, IsJoined, joined_self, joined_by, InsideCavityLaw}
 use Rattle.insert_laws.proofs.Identities as identity
 use Rattle.insert_laws.proofs.Pencil.{IsBare}

@@ -6,7 +6,7 @@ use Rattle.exact_algebra.proofs.Signs.{sign_of}
 use Rattle.geo_laws.proofs.Corners.{same_or_not}
 use Rattle.geo_laws.proofs.Ties.{order}
 use Rattle.geo_laws.proofs.Lexicographic.{IsZeroAt, none, more, IsLexAbove, IsLexAtLeast, lex_sign_of, lex_same, zero_everywhere}
-use Rattle.insert_laws.specs.Face.{Face, IsOther}
+use Rattle.geo_laws.specs.OrientedFace.{Face, IsOther}
 use Rattle.insert_laws.proofs.Identities.{turned-relation, solve-middle, solve-under}
 use Rattle.geo_laws.proofs.Lexicographic.{IsLexBelow, not_both, sum_first, sum_second}
 

@@ -10,7 +10,7 @@ use Rattle.geo_laws.specs.declared.tetrahedra.Tet.{Tet}
 use Rattle.geo_laws.proofs.Corners.{IsCorner}
 use Rattle.geo_laws.proofs.Places.{A, B, C}
 use Rattle.geo_laws.proofs.Corners.{distinct}
-use Rattle.insert_laws.specs.Face.{Face, reversed, beside}
+use Rattle.geo_laws.specs.OrientedFace.{Face, reversed, beside}
 use Rattle.geo_laws.specs.Delaunay.{IsDelaunayAmong}
 use Rattle.insert_laws.specs.Insertion.{IsNew, IsHullRim, IsRimFace, edge_and, IsHullFace, RimEdgeLaw, HullRimLaw, cavity_row, cavity_ghost, IsCavityPlace}
 use Rattle.insert_laws.proofs.Pencil.{IsBare, IsFirst, first_of, neighbor, low_unique, above_not_zero}

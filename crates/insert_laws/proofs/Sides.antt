@@ -7,7 +7,7 @@ use Rattle.sign_predicates.specs.Orientation.{side}
 use Rattle.sign_predicates.specs.Sphere.{is_outside}
 use Rattle.geo_laws.specs.Delaunay.{point, corners, as_numbers, AreNumbersOf, IsDelaunayAmong}
 use Rattle.geo_laws.specs.declared.tetrahedra.Tet.{Tet}
-use Rattle.insert_laws.specs.Face.{Face, triangle, reversed}
+use Rattle.geo_laws.specs.OrientedFace.{Face, triangle, reversed}
 use Rattle.insert_laws.specs.Insertion.{IsFaceOf, IsHullFace, HasNoneBeyond, HasOutside, Sees, IsCavityPlace, cavity_row, cavity_ghost, IsClearPlace, clear_row, clear_ghost, PlaceLaw}
 use Rattle.insert_laws.proofs.Insert.{law_face_pairing, law_one_row}
 use Rattle.insert_laws.proofs.Lists.{law_hull_face}

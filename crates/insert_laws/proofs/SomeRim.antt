@@ -8,7 +8,7 @@ use Rattle.geo_laws.specs.Delaunay.{point, corners, IsDelaunayAmong}
 use Rattle.geo_laws.specs.declared.tetrahedra.Tet.{Tet}
 use Rattle.geo_laws.proofs.General.{near_point, closed_of}
 use Rattle.geo_laws.proofs.LeastHeight.{law_least_height}
-use Rattle.insert_laws.specs.Face.{Face, triangle}
+use Rattle.geo_laws.specs.OrientedFace.{Face, triangle}
 use Rattle.insert_laws.specs.Insertion.{IsNew, HasOutside, IsHullFace, IsStarRow, IsRimFace, SomeRimFaceLaw}
 use Rattle.insert_laws.proofs.Bridge
 use Rattle.insert_laws.proofs.Hull as hull

@@ -3,7 +3,7 @@ use Rattle.std.proofs.Common.{◌≡◌, ◌≢◌, ◌⊎◌, inl, inr, ℕ, �
 use Rattle.std.proofs.lemmas.Int.{ints}
 use Rattle.exact_algebra.proofs.Signs.{sign_of}
 use Rattle.geo_laws.proofs.Lexicographic.{IsLexAbove, lex_scale, above_add}
-use Rattle.insert_laws.specs.Face.{Face, IsOther}
+use Rattle.geo_laws.specs.OrientedFace.{Face, IsOther}
 use Rattle.insert_laws.proofs.Identities.{solve-under, solve-over, solve-low, solve-side}
 use Rattle.geo_laws.proofs.Lexicographic.{IsLexBelow, not_both, above_below, sum_first, sum_second, factor_above}
 use Rattle.insert_laws.proofs.Pencil.{IsSet, IsPencil, IsLow, IsLowUnder, IsBare, IsBareUnder, IsFirst, above_not_zero, below_not_zero, at_least, neg_zero_at_least, apart_sides, below_of, low_at_least, under_at_most, not_opposite, turned, first_of, neighbor, low_unique, under_unique}

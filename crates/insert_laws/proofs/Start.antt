@@ -17,7 +17,7 @@ use Rattle.geo_laws.proofs.Corners.{contains_corner}
 use Rattle.geo_laws.proofs.Lexicographic.{IsLexAbove}
 use Rattle.geo_laws.proofs.Heights.{all_fours, in_all_fours}
 use lib.IntN.{zero-*ℤ}
-use Rattle.insert_laws.specs.Face.{Face, triangle, reversed, beside, IsOther}
+use Rattle.geo_laws.specs.OrientedFace.{Face, triangle, reversed, beside, IsOther}
 use Rattle.insert_laws.specs.Insertion.{IsHullFace, edge_and, HullTurnLaw, LocateLaw, StartLaw}
 use Rattle.insert_laws.proofs.Identities as identity
 use Rattle.insert_laws.proofs.Pencil.{IsBare, IsFirst, first_of, neighbor, above_not_zero, apart_sides}

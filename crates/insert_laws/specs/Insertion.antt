@@ -8,7 +8,7 @@ use Rattle.sign_predicates.specs.Orientation.{IsPositive, InClosed, side}
 use Rattle.sign_predicates.specs.Sphere.{is_outside}
 use Rattle.geo_laws.specs.Delaunay.{point, corners, numbers, as_numbers, all_numbers, AreNumbersOf, IsArranged, IsDelaunay, IsDelaunayAmong}
 use Rattle.geo_laws.specs.declared.tetrahedra.Tet.{Tet}
-use Rattle.insert_laws.specs.Face.{Face, triangle, reversed, beside}
+use Rattle.geo_laws.specs.OrientedFace.{Face, triangle, reversed, beside}
 
 -- p is the number of a further point
 pub record IsNew (ps : List Point) (ms : List ℕ) (p : ℕ) : Type 0 where
