@@ -37,9 +37,10 @@ fn count_within(least: u64, most: u64, fields: &mut Fields) -> Result<u64, TextF
     })
 }
 
-/// The same, or this count where there is no further field.
+/// The next field as a count from `least` to `most`, or the count `absent` where the line has no further field. NotANumber where it is no count,
+/// BadCount where it is none of these.
 #[tactic(auto, using(crate::proofs::Counts::count_or_none, crate::proofs::Counts::count_or_some))]
-fn count_or(absent: u64, least: u64, most: u64, fields: &mut Fields) -> Result<u64, TextFault>
+pub fn count_or(absent: u64, least: u64, most: u64, fields: &mut Fields) -> Result<u64, TextFault>
     requires { absent ≤ most }
     ensures value { left_after (λ n. n) result fields.new.fields ≡ count_or absent least most fields.old.line fields.old.fields }
     ensures range { IfOk result (λ n. n ≤ most) }

@@ -12,7 +12,9 @@ mod twins;
 mod writing;
 
 pub use fault::NodeFault;
+pub use header::count_or;
 pub use node_text::{Markers, NodeText};
+pub use point::read_place;
 pub use reading::{read_node, read_node_list};
 pub use settling::settle;
 pub use table::{GridOptions, NodeTable};

@@ -37,9 +37,9 @@ pub(crate) fn read_index(before: Option<u64>, fields: &mut Fields) -> Result<u64
     })
 }
 
-/// The coordinates of a point.
+/// The next three fields as the coordinates of a point; Ended or NotANumber where they are none.
 #[tactic(auto, unfolding(crate::specs::Point::place_at))]
-pub(crate) fn read_place(fields: &mut Fields) -> Result<DecimalPoint, TextFault>
+pub fn read_place(fields: &mut Fields) -> Result<DecimalPoint, TextFault>
     ensures value { left_after (λ p. p) result fields.new.fields ≡ place_at fields.old.line fields.old.fields }
     ensures line { fields.new.line ≡ fields.old.line }
 {
