@@ -6,7 +6,7 @@ use Rattle.geo_laws.specs.Delaunay.{numbers}
 use Rattle.geo_laws.specs.declared.tetrahedra.Tet.{Tet as Row}
 use Rattle.geo_laws.proofs.Places.{A, B, C, number}
 use Rattle.geo_laws.proofs.Corners.{contains_corner}
-use Rattle.insert_laws.specs.Face.{Face, reversed, beside}
+use Rattle.geo_laws.specs.OrientedFace.{Face, reversed, beside}
 use Rattle.insert_laws.specs.Insertion.{IsHullFace}
 use Rattle.mesh_arena.specs.Mesh.{Tet, corner_in, IsLive, OnFace, IsMesh}
 use Rattle.mesh_arena.specs.Star.{rim_at, behind}

@@ -8,7 +8,7 @@ use Rattle.geo_laws.specs.Delaunay.{point, corners, numbers}
 use Rattle.geo_laws.specs.declared.tetrahedra.Tet.{Tet as Row}
 use Rattle.geo_laws.proofs.Places.{Place, A, B, C, D, number, opposite}
 use Rattle.geo_laws.proofs.Corners.{IsCorner, corner_of, contains_corner, distinct, side-own_point}
-use Rattle.insert_laws.specs.Face.{Face, triangle, reversed, beside}
+use Rattle.geo_laws.specs.OrientedFace.{Face, triangle, reversed, beside}
 use Rattle.insert_laws.specs.Insertion.{HasSameCorners, IsFaceOf, IsHullFace}
 use Rattle.insert_laws.proofs.FacePencil.{side_of, side_of-reversed}
 use Rattle.insert_laws.proofs.Beyond.{turn, side-turn}

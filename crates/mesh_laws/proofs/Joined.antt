@@ -7,7 +7,7 @@ use Rattle.geo_laws.specs.Delaunay.{corners, numbers, IsDelaunayAmong}
 use Rattle.geo_laws.specs.declared.tetrahedra.Tet.{Tet as Row}
 use Rattle.geo_laws.proofs.Places.{A, B, C, D, number, IsOther}
 use Rattle.geo_laws.proofs.Corners.{IsCorner, corner_of, contains_corner, distinct}
-use Rattle.insert_laws.specs.Face.{Face, reversed, beside}
+use Rattle.geo_laws.specs.OrientedFace.{Face, reversed, beside}
 use Rattle.insert_laws.specs.Insertion.{HasSameCorners, IsFaceOf, IsHullFace}
 use Rattle.insert_laws.proofs.FacePencil.{side_of, side_of-reversed}
 use Rattle.insert_laws.proofs.Insert.{law_one_row}

@@ -2,7 +2,7 @@
 use Rattle.std.proofs.Common.{◌≡◌, ◌≢◌, ◌⊎◌, inl, inr, ℕ, ◌<◌, List, length, Option, refl, sym, ap, subst, ◌∙◌}
 use Rattle.sign_predicates.specs.Point.{Point}
 use Rattle.geo_laws.specs.Delaunay.{point}
-use Rattle.insert_laws.specs.Face.{Face}
+use Rattle.geo_laws.specs.OrientedFace.{Face}
 use Rattle.insert_laws.specs.Insertion.{IsNew, IsHullRim, IsRimFace, edge_and}
 use Rattle.insert_laws.proofs.Beyond.{turn}
 use Rattle.insert_laws.proofs.Rim.{law_rim_edge, law_hull_rim}

@@ -6,7 +6,7 @@ use Rattle.sign_predicates.specs.Orientation.{InClosed, side as side_at}
 use Rattle.geo_laws.specs.Delaunay.{point, corners, IsDelaunayAmong}
 use Rattle.geo_laws.specs.declared.tetrahedra.Tet.{Tet as Row}
 use Rattle.geo_laws.proofs.Arrangement.{even_back}
-use Rattle.insert_laws.specs.Face.{Face, triangle}
+use Rattle.geo_laws.specs.OrientedFace.{Face, triangle}
 use Rattle.insert_laws.specs.Insertion.{IsNew, IsHullFace}
 use Rattle.insert_laws.proofs.Bridge.{even_of_same}
 use Rattle.insert_laws.proofs.Start.{law_locate}

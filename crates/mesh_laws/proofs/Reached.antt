@@ -4,7 +4,7 @@ use Rattle.sign_predicates.specs.Point.{Point, as_rational}
 use Rattle.sign_predicates.specs.Orientation.{InClosed, side as side_at}
 use Rattle.geo_laws.specs.Delaunay.{point, corners}
 use Rattle.geo_laws.specs.declared.tetrahedra.Tet.{Tet as Row}
-use Rattle.insert_laws.specs.Face.{Face, triangle, reversed}
+use Rattle.geo_laws.specs.OrientedFace.{Face, triangle, reversed}
 use Rattle.insert_laws.specs.Insertion.{IsNew, HasOutside, Sees, IsFaceOf, IsHullFace, edge_and, Place, row_place, ghost_place, IsInCavity, row_in, ghost_in, Touches, row_row, row_ghost, ghost_row, ghost_ghost, ghost_turned, IsJoined, joined_self, joined_by}
 use Rattle.insert_laws.proofs.FacePencil.{side_of, side_of-reversed}
 use Rattle.insert_laws.proofs.Insert.{law_one_row}

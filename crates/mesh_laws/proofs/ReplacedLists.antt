@@ -9,7 +9,7 @@ use Rattle.geo_laws.specs.Delaunay.{point, corners, as_numbers, AreNumbersOf, Is
 use Rattle.geo_laws.specs.declared.tetrahedra.Tet.{Tet as Row}
 use Rattle.geo_laws.proofs.Places.{Place, A, B, C, D, number}
 use Rattle.geo_laws.proofs.Corners.{corner_among}
-use Rattle.insert_laws.specs.Face.{Face, reversed}
+use Rattle.geo_laws.specs.OrientedFace.{Face, reversed}
 use Rattle.insert_laws.specs.Insertion.{IsHullFace}
 use Rattle.insert_laws.proofs.FacePencil.{side_of}
 use Rattle.insert_laws.proofs.Lists.{law_same_numbers}

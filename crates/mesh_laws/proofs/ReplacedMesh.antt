@@ -8,7 +8,7 @@ use Rattle.geo_laws.specs.Delaunay.{point, numbers, AreNumbersOf, IsDelaunayAmon
 use Rattle.geo_laws.specs.declared.tetrahedra.Tet.{Tet as Row}
 use Rattle.geo_laws.proofs.Places.{A, B, C, D, with_number}
 use Rattle.geo_laws.proofs.Corners.{IsCorner, corner_of, contains_corner, distinct}
-use Rattle.insert_laws.specs.Face.{Face, reversed, beside}
+use Rattle.geo_laws.specs.OrientedFace.{Face, reversed, beside}
 use Rattle.insert_laws.specs.Insertion.{HasSameCorners, HasOutside, Sees, IsNew, IsHullFace, IsStarRow, edge_and}
 use Rattle.insert_laws.proofs.FacePencil.{side_of}
 use Rattle.insert_laws.proofs.Beyond.{turn}

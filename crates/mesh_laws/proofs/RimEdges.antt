@@ -6,7 +6,7 @@ use Rattle.sign_predicates.specs.Point.{Point}
 use Rattle.geo_laws.proofs.Places.{A, B, C}
 use Rattle.geo_laws.proofs.Corners.{distinct}
 use Rattle.geo_laws.proofs.Arrangement.{even-swap, even_positive}
-use Rattle.insert_laws.specs.Face.{Face, reversed, beside}
+use Rattle.geo_laws.specs.OrientedFace.{Face, reversed, beside}
 use Rattle.insert_laws.specs.Insertion.{IsNew, IsHullFace, IsHullRim, IsRimFace, edge_and}
 use Rattle.insert_laws.proofs.Bridge
 use Rattle.insert_laws.proofs.Insert as insert

@@ -4,7 +4,7 @@ use Rattle.std.proofs.lemmas.Bool.{cases_eq}
 use Rattle.sign_predicates.specs.Point.{Point}
 use Rattle.geo_laws.specs.Delaunay.{point}
 use Rattle.geo_laws.specs.declared.tetrahedra.Tet.{Tet as Row}
-use Rattle.insert_laws.specs.Face.{Face, reversed}
+use Rattle.geo_laws.specs.OrientedFace.{Face, reversed}
 use Rattle.insert_laws.specs.Insertion.{IsNew, IsHullRim, IsRimFace}
 use Rattle.insert_laws.proofs.Beyond.{turn}
 use Rattle.mesh_arena.specs.Mesh.{Tet, IsLive, side, OnFace, IsMesh}

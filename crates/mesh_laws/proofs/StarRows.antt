@@ -10,7 +10,7 @@ use Rattle.geo_laws.proofs.Places.{A, B, C, with_number, number-with, corners-wi
 use Rattle.geo_laws.proofs.Corners.{AreDistinct, distinct}
 use Rattle.geo_laws.proofs.Determinants.{volume-replaced}
 use Rattle.geo_laws.proofs.Arrangement.{arranged, even_positive}
-use Rattle.insert_laws.specs.Face.{Face, reversed, beside}
+use Rattle.geo_laws.specs.OrientedFace.{Face, reversed, beside}
 use Rattle.insert_laws.specs.Insertion.{HasSameCorners, IsNew, IsRimFace}
 use Rattle.insert_laws.proofs.FacePencil.{side_of}
 use Rattle.insert_laws.proofs.Insert.{law_rim, law_insertion}

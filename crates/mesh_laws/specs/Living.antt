@@ -4,7 +4,7 @@ use Rattle.sign_predicates.specs.Point.{Point}
 use Rattle.sign_predicates.specs.Orientation.{IsPositive}
 use Rattle.geo_laws.specs.Delaunay.{corners, AreNumbersOf, IsDelaunayAmong}
 use Rattle.geo_laws.specs.declared.tetrahedra.Tet.{Tet as Row}
-use Rattle.insert_laws.specs.Face.{Face}
+use Rattle.geo_laws.specs.OrientedFace.{Face}
 use Rattle.insert_laws.specs.Insertion.{HasSameCorners, IsHullFace}
 use Rattle.mesh_arena.specs.Mesh.{Tet, corners_at, IsLive, side}
 use Rattle.mesh_arena.specs.declared.slot.Corner.TheVariants.{Ghost}
