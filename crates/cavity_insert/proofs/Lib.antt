@@ -7,6 +7,7 @@ pub mod StartMesh
 pub mod Insertion
 pub mod Building
 pub mod Planes
+pub mod LostSides
 pub mod Minors
 pub mod RowOrder
 pub mod SlotRows

@@ -4,7 +4,7 @@ use Rattle.std.specs.Prelude.{Contains}
 use Rattle.std.proofs.lemmas.Bool.{cases_order}
 use Rattle.std.proofs.lemmas.List.{get_or_append_left, get_or_push, length_push}
 use Rattle.sign_predicates.specs.Point.{Point, origin}
-use Rattle.geo_laws.specs.Delaunay.{point, all_numbers}
+use Rattle.geo_laws.specs.Delaunay.{point, all_numbers, HasDistinctPoints}
 use Rattle.geo_laws.proofs.Corners.{contains_below, below_of}
 use Rattle.mesh_arena.specs.Mesh.{Tet, corners_at, IsLive}
 use Rattle.mesh_laws.specs.Rule.{IsTaken}
@@ -69,3 +69,17 @@ pub stays_of : (slots new : List (Option Tet)) (before ps : List Point) (p : Poi
 stays_of slots new before ps p n e m stay u live not =
     let is : point ps n ≡ p = ap (λ xs. point xs n) e ∙ ap (point (before ++ p ∷ [])) m ∙ point_last before p in
     stay u live (λ taken. not (subst (λ q. IsTaken slots ps q n u) is taken))
+
+-- distinct points with one more that is none of them
+pub distinct_more : (before ps : List Point) (p : Point) → HasDistinctPoints before → ((i : ℕ) → i < length before → point before i ≢ p) → ps ≡ before ++ p ∷ [] → HasDistinctPoints ps
+distinct_more before ps p distinct apart is = subst HasDistinctPoints (sym is) all
+  where
+    last_or : (j n : ℕ) → j < n + 1 → (j < n) ⊎ (j ≡ n)
+    last_or j n h = grind arith
+
+    all : HasDistinctPoints (before ++ p ∷ [])
+    all i j h k e = let l = count before p in go (last_or j (length before) (omega arith))
+      where
+        go : (j < length before) ⊎ (j ≡ length before) → ⊥
+        go (inl l) = distinct i j h l (sym (point_before before p i (omega arith)) ∙ e ∙ point_before before p j l)
+        go (inr d) = apart i (omega arith) (sym (point_before before p i (omega arith)) ∙ e ∙ ap (point (before ++ p ∷ [])) d ∙ point_last before p)

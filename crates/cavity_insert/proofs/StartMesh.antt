@@ -10,7 +10,7 @@ use Rattle.geo_laws.proofs.Places.{Place, A, B, C, D, number}
 use Rattle.std.proofs.lemmas.List.{get_or_past}
 use Rattle.geo_laws.proofs.Corners.{IsCorner, contains_corner, distinct}
 use Rattle.geo_laws.proofs.Corners.{corner_of as corner_of_row}
-use Rattle.insert_laws.specs.Face.{Face, reversed, beside}
+use Rattle.geo_laws.specs.OrientedFace.{Face, reversed, beside}
 use Rattle.insert_laws.specs.Insertion.{IsFirst, IsFaceOf, IsHullFace, HasSameCorners}
 use Rattle.insert_laws.proofs.First.{law_first}
 use Rattle.mesh_laws.specs.Living.{face_off, IsFaceCorner, HasSameFaceCorners, IsRowSlot, IsGhostSlot, IsDelaunayMesh}

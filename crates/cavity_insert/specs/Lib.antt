@@ -4,6 +4,7 @@ pub mod First
 pub mod Grow
 pub mod Insert
 pub mod Living
+pub mod Lost
 pub mod Marks
 pub mod Order
 pub mod Rows

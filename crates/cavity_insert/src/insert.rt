@@ -1,13 +1,15 @@
 //! One point into a Delaunay mesh.
-ghost use Rattle.std.specs.Prelude.{◌≡◌, ℕ, ◌^◌, ◌<◌, ◌∷◌, List, length, IfOk, OnErr};
+ghost use Rattle.std.specs.Prelude.{◌≡◌, ◌⊎◌, ℕ, ◌^◌, ◌<◌, ◌∷◌, List, length, IfOk, OnErr};
 ghost use Rattle.mesh_arena.specs.Mesh.{corners_at, IsLive};
 ghost use Rattle.geo_laws.specs.Delaunay.{point};
 ghost use Rattle.mesh_laws.specs.Rule.{IsTaken};
 ghost use Rattle.mesh_laws.specs.Laws.{slot_of};
 ghost use Rattle.mesh_laws.specs.Living.{IsDelaunayMesh};
 ghost use Rattle.cavity_insert.specs.Insert.{IsReadyFor};
+ghost use Rattle.cavity_insert.specs.Lost.{IsToldOf};
 
 use crate::grow::grow_with_marks;
+use crate::lost::tell_cavity;
 use crate::marks::Marks;
 use crate::steps::Steps;
 use geo_laws::Points;
@@ -33,13 +35,39 @@ pub(crate) fn insert_point<L: Ledger>(
     requires near { IsLive arena.old.slots near.index }
     ensures mesh { IfOk result (λ s. (ms : List ℕ) → IsReadyFor arena.old.slots points.now ms number → IsDelaunayMesh arena.new.slots points.now (number ∷ ms)) }
     ensures live { IfOk result (λ s. IsLive arena.new.slots s.index) }
+{
+    let _ = arena.tet(near);
+    let p = point_at(points, number);
+    let first = slot_of(locate(arena, points, near, p));
+    let (cavity, rim) = grow_with_marks(alloc, arena, points, first, p, number, marks, steps)?;
+    arena.reserve(rim.len())?;
+    arena.replace_cavity(&cavity, &rim, number)
+}
+
+/// The same, and the corners of the tetrahedra that are taken away are appended to `lost`.
+pub(crate) fn insert_telling<L: Ledger>(
+    alloc: Global,
+    arena: &mut Arena,
+    points: &Points,
+    number: u32,
+    near: Slot,
+    marks: &mut Marks,
+    steps: &mut Steps<L>,
+    lost: &mut Vec<u32>,
+) -> Result<Slot, NoMemory>
+    requires ready { (ms : List ℕ) × IsReadyFor arena.old.slots points.now ms number }
+    requires near { IsLive arena.old.slots near.index }
+    ensures mesh { IfOk result (λ s. (ms : List ℕ) → IsReadyFor arena.old.slots points.now ms number → IsDelaunayMesh arena.new.slots points.now (number ∷ ms)) }
+    ensures live { IfOk result (λ s. IsLive arena.new.slots s.index) }
     ensures stays { IfOk result (λ s. (u : ℕ) → IsLive arena.old.slots u → (IsTaken arena.old.slots points.now (point points.now number) number u → ⊥) → corners_at arena.new.slots u ≡ corners_at arena.old.slots u) }
+    ensures told { IfOk result (λ s. (u : ℕ) → IsLive arena.old.slots u → IsToldOf lost.new.items arena.old.slots u ⊎ (corners_at arena.new.slots u ≡ corners_at arena.old.slots u)) }
     ensures err { OnErr result (arena.new ≡ arena.old) }
 {
     let _ = arena.tet(near);
     let p = point_at(points, number);
     let first = slot_of(locate(arena, points, near, p));
     let (cavity, rim) = grow_with_marks(alloc, arena, points, first, p, number, marks, steps)?;
+    tell_cavity(arena, &cavity, lost)?;
     arena.reserve(rim.len())?;
     arena.replace_cavity(&cavity, &rim, number)
 }

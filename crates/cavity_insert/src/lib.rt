@@ -5,6 +5,7 @@ mod first;
 mod grow;
 mod insert;
 mod living;
+mod lost;
 mod marks;
 mod meshing;
 mod order;

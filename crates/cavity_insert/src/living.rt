@@ -1,12 +1,13 @@
 //! A Delaunay mesh that points are added to.
-ghost use Rattle.std.specs.Prelude.{◌≡◌, ◌≢◌, ℕ, ◌+◌, ◌-◌, ◌^◌, ◌<◌, ◌++◌, [], ◌∷◌, ◌↔◌, length, IsTrue, IfOk, OnOk, OnErr, IsErrOf};
+ghost use Rattle.std.specs.Prelude.{◌≡◌, ◌≢◌, ◌⊎◌, ℕ, ◌+◌, ◌-◌, ◌^◌, ◌<◌, ◌++◌, [], ◌∷◌, ◌↔◌, length, IsTrue, IfOk, OnOk, OnErr, IsErrOf};
 ghost use Rattle.geo_laws.specs.Delaunay.{point, all_numbers, delaunay_rows, AreCoplanar, HasDistinctPoints, IsDelaunayList};
 ghost use Rattle.mesh_arena.specs.Mesh.{corners_at, IsLive};
 ghost use Rattle.mesh_laws.specs.Rule.{IsTaken};
 ghost use Rattle.mesh_laws.specs.Living.{IsDelaunayMesh};
 ghost use Rattle.cavity_insert.specs.Living.{IsLonger, HasSide};
+ghost use Rattle.cavity_insert.specs.Lost.{IsToldOf, AreLostSides};
 
-use crate::insert::insert_point;
+use crate::insert::insert_telling;
 use crate::marks::Marks;
 use crate::meshing::{BuildFault, Built, mesh_from};
 use crate::rows::rows_of;
@@ -40,7 +41,8 @@ impl Model for Living {
     ghost invariant = { λ l. IsLiving l.points l.arena.slots l.last.index };
 }
 
-/// Adds the last point of a list, which has this number, to the mesh of the others, and answers a slot of its star.
+/// Adds the last point of a list, which has this number, to the mesh of the others, and answers a slot of its star. The corners of the tetrahedra that
+/// are taken away are appended to `lost`.
 fn insert_last<L: Ledger>(
     alloc: Global,
     arena: &mut Arena,
@@ -48,6 +50,7 @@ fn insert_last<L: Ledger>(
     number: u32,
     near: Slot,
     blank: Blank,
+    lost: &mut Vec<u32>,
 ) -> Result<Slot, NoMemory>
     requires name { blank.name ≡ L.name }
     requires parts { blank.parts ≡ L.parts }
@@ -57,11 +60,14 @@ fn insert_last<L: Ledger>(
     ensures mesh { OnOk result (IsDelaunayMesh arena.new.slots points.now (all_numbers points.now)) }
     ensures live { IfOk result (λ s. IsLive arena.new.slots s.index) }
     ensures stays { OnOk result ((u : ℕ) → IsLive arena.old.slots u → (IsTaken arena.old.slots points.now (point points.now number) number u → ⊥) → corners_at arena.new.slots u ≡ corners_at arena.old.slots u) }
+    ensures told { OnOk result ((u : ℕ) → IsLive arena.old.slots u → IsToldOf lost.new.items arena.old.slots u ⊎ (corners_at arena.new.slots u ≡ corners_at arena.old.slots u)) }
     ensures err { OnErr result (arena.new ≡ arena.old) }
 {
     let mut marks = Marks::new(alloc)?;
     let mut steps = Steps::<L>::new(blank);
-    insert_point(alloc, arena, points, number, near, &mut marks, &mut steps)
+    insert_telling(
+        alloc, arena, points, number, near, &mut marks, &mut steps, lost,
+    )
 }
 
 impl Living {
@@ -116,6 +122,24 @@ impl Living {
             → corners_at self.new.slots u ≡ corners_at self.old.slots u) }
         ensures err { OnErr result (self.new ≡ self.old) }
     {
+        let mut lost = Vec::new(self.alloc);
+        self.add_point_telling(p, &mut lost)
+    }
+
+    /// The same, and tells which sides of the Delaunay list may be lost: each that is has both its ends among the numbers in `lost`, whose former
+    /// items are dropped. These are the corners of the tetrahedra that have the new point in their circumsphere. On `NoMemory` the points and
+    /// the mesh are as they were.
+    pub fn add_point_telling(&mut self, p: GridPoint, lost: &mut Vec<u32>) -> Result<u32, NoMemory>
+        requires apart { (i : ℕ) → i < length self.old.points → point self.old.points i ≢ p }
+        requires few { length self.old.points + 1 < 2 ^ 32 - 1 }
+        ensures number { IfOk result (λ number. number ≡ length self.old.points) }
+        ensures points { OnOk result (self.new.points ≡ self.old.points ++ p ∷ []) }
+        ensures stays { IfOk result (λ number. (u : ℕ) → IsLive self.old.slots u → (IsTaken self.old.slots self.new.points p number u → ⊥)
+            → corners_at self.new.slots u ≡ corners_at self.old.slots u) }
+        ensures lost { OnOk result (AreLostSides self.old.points self.new.points lost.new.items) }
+        ensures err { OnErr result (self.new ≡ self.old) }
+    {
+        lost.clear();
         let number = self.points.len() as u32;
         self.points.push(p)?;
         match insert_last::<Brand>(
@@ -125,6 +149,7 @@ impl Living {
             number,
             self.last,
             Blank::new(1),
+            lost,
         ) {
             Ok(last) => {
                 self.last = last;

@@ -9,7 +9,7 @@ use Rattle.mesh_laws.specs.Rule.{IsTaken}
 use Rattle.mesh_laws.specs.Laws.{IsWholeFrom}
 use Rattle.mesh_laws.specs.Living.{IsDelaunayMesh}
 use Rattle.cavity_insert.specs.Insert.{IsReadyFor}
-use Rattle.cavity_insert.proofs.Insertion.{CanReplace, corners_on, somewhere, whole_at, replace_at, inserted_at, stays_at, star_live, if_ok}
+use Rattle.cavity_insert.proofs.Insertion.{CanReplace, corners_on, somewhere, whole_at, replace_at, inserted_at, star_live, if_ok}
 use Rattle.cavity_insert.proofs.insert.insert_point.Goals as goal
 
 pub locate-requires-clause-corners : goal.locate-requires-clause-corners
@@ -52,13 +52,3 @@ returns-clause-live g c =
     let P : Slot → Type 0 = λ s. Replaces c.reserve.new.self.slots c.replace_cavity.new.self.slots c.in_ok-cavity.cavity c.in_ok-cavity.rim (Numbered c.args.number) s.index in
     let Q : Slot → Type 0 = λ s. IsLive c.replace_cavity.new.self.slots s.index in
     if_ok P Q (λ s replaces. star_live _ _ _ _ _ _ replaces) c.replace_cavity.result c.replace_cavity.ensures.ok
-
-pub returns-clause-stays : goal.returns-clause-stays
-returns-clause-stays g c =
-    let P : Slot → Type 0 = λ s. Replaces c.reserve.new.self.slots c.replace_cavity.new.self.slots c.in_ok-cavity.cavity c.in_ok-cavity.rim (Numbered c.args.number) s.index in
-    let Q : Slot → Type 0 = λ s. (u : ℕ) → IsLive c.args.arena.now.slots u → (IsTaken c.args.arena.now.slots c.args.points.now (point c.args.points.now c.args.number) c.args.number u → ⊥)
-    → corners_at c.replace_cavity.new.self.slots u ≡ corners_at c.args.arena.now.slots u in
-    if_ok P Q (λ s replaces u live not.
-    stays_at c.args.arena.now.slots _ c.args.points.now c.args.number c.slot_of-first.result.index c.point_at-p.result _ _ c.in_ok-reserve.ensures.slots c.point_at-p.ensures c.tet.ensures.mesh
-    c.in_ok-cavity.ensures.grown _ s.index u replaces live not)
-    c.replace_cavity.result c.replace_cavity.ensures.ok

@@ -1,4 +1,4 @@
-use Rattle.cavity_insert.proofs.living.Living.add_point.Given as goal
+use Rattle.cavity_insert.proofs.living.Living.add_point_telling.Given as goal
 
 -- a ledger of its own
 abbrev pub ghosts-insert_last : goal.ghosts-insert_last
