@@ -1,3 +1,12 @@
+pub mod Begun
+pub mod Carved
+pub mod KeptRows
+pub mod Seeding
+pub mod Holding
+pub mod Reached
+pub mod Steps
+pub mod FacetFaces
+pub mod Flooding
 pub mod Orders
 pub mod Firsts
 pub mod Gathered
@@ -6,3 +15,5 @@ pub mod Partners
 pub mod Runs
 pub mod Settled
 pub mod SortedRuns
+pub mod Marked
+pub mod KeptMarks

@@ -3,3 +3,8 @@ pub mod Links
 pub mod Pairs
 pub mod Runs
 pub mod Uses
+pub mod Flooding
+pub mod Ways
+pub mod Seeds
+pub mod Kept
+pub mod Marks

@@ -1,0 +1,10 @@
+use Rattle.sign_predicates.specs.Point.{as_rational, origin}
+use Rattle.hole_carve.proofs.Begun.{begins_next}
+use Rattle.hole_carve.proofs.carving.mark_holes.Goals as goal
+
+-- src/carving.rt:77:5
+pub loop-at-preserved : goal.loop-at-preserved
+loop-at-preserved c = record {
+  long = c.in_ok-mark_seeds.ensures.long;
+  marked = begins_next c.args.keep_hull c.args.points.now c.args.closed.now c.args.list.now c.args.holes.now c.loop-at.at c.at.result _ _ (c.at.ensures (as_rational origin)) c.loop-at.invariant.marked c.in_ok-mark_seeds.ensures.marked;
+}

@@ -1,0 +1,11 @@
+use Rattle.std.proofs.Common.{◌≡◌, ℕ, ◌+◌, true, length}
+use Rattle.std.specs.Prelude.{◌↔◌}
+use Rattle.hole_carve.specs.Flooding.{is_marked}
+use Rattle.hole_carve.specs.Seeds.{BeginsAt}
+use Rattle.hole_carve.proofs.carving.mark_holes.Given as goal
+
+abbrev pub invariant-loop-at : goal.invariant-loop-at
+invariant-loop-at l = record {
+  long : length l.seeds ≡ length l.list + 1;
+  marked : (i : ℕ) → (is_marked l.seeds i ≡ true) ↔ BeginsAt l.keep_hull l.points l.closed l.list l.holes l.at i;
+}

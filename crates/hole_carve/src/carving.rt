@@ -1,0 +1,143 @@
+ghost use Rattle.std.specs.Prelude.{pos, ◌<ℤ◌, ◌≡◌, ◌<◌, ◌≤◌, ◌↔◌, ◌⊎◌, ◌+◌, ℕ, true, false, AllPairs, All, Any, length, take, IfOk, OnOk};
+ghost use Rattle.sign_predicates.specs.Point.{RationalPoint};
+ghost use Rattle.geo_laws.specs.Delaunay.{IsOn, RowBefore};
+ghost use Rattle.geo_laws.specs.Faces.{FaceBefore};
+ghost use Rattle.path_laws.specs.Places.{IsFilling, IsKeptPart};
+ghost use Rattle.path_laws.specs.Flood.{carving_of};
+ghost use Rattle.hole_carve.specs.Flooding.{is_marked};
+ghost use Rattle.hole_carve.specs.Kept.{unmarked};
+ghost use Rattle.hole_carve.specs.Seeds.{BeginsAt};
+
+use crate::facet_faces::{FacetFaces, facet_faces};
+use crate::flood::flood;
+use crate::pairs::pair_faces;
+use crate::seeds::mark_seeds;
+use crate::ways::ways_of;
+use geo_laws::{FacetTriangles, Points, RatPoints, TetList};
+use std::alloc::Global;
+use tet_ports::NoMemory;
+
+/// Appends the row at a place if it has no mark.
+fn keep_row(list: &TetList, marks: &[bool], at: usize, rows: &mut TetList) -> Result<(), NoMemory>
+    requires there { at < length list.now }
+    requires long { length list.now ≤ length marks.now }
+    requires before { rows.old ≡ unmarked (take at list.now) marks.now }
+    ensures { OnOk result (rows.new ≡ unmarked (take (at + 1) list.now) marks.now) }
+{
+    if marks[at] {
+        return Ok(());
+    }
+    rows.push(list.at(at))?;
+    Ok(())
+}
+
+/// The rows without a mark, in order.
+fn rows_unmarked(alloc: Global, list: &TetList, marks: &[bool]) -> Result<TetList, NoMemory>
+    requires { length list.now ≤ length marks.now }
+    ensures { IfOk result (λ rows. rows ≡ unmarked list.now marks.now) }
+{
+    let mut rows = TetList::new(alloc);
+    for at in 0..list.len() {
+        keep_row(list, marks, at, &mut rows)?;
+    }
+    Ok(rows)
+}
+
+/// Marks what lies beyond the hull, if that isn't kept. Nothing is marked before.
+fn mark_hull(list: &TetList, keep_hull: bool, seeds: &mut [bool])
+    requires long { length seeds.old ≡ length list.now + 1 }
+    requires clear { (i : ℕ) → is_marked seeds.old i ≡ false }
+    ensures long { length seeds.new ≡ length list.now + 1 }
+    ensures marked { (i : ℕ) → (is_marked seeds.new i ≡ true) ↔ ((keep_hull ≡ false) × (i ≡ length list.now)) }
+{
+    if keep_hull {
+        return;
+    }
+    seeds[list.len()] = true;
+}
+
+/// Marks where the floods from the hole points begin, too.
+fn mark_holes(
+    alloc: Global,
+    points: &Points,
+    list: &TetList,
+    closed: &FacetFaces,
+    holes: &RatPoints,
+    keep_hull: bool,
+    seeds: &mut [bool],
+) -> Result<(), NoMemory>
+    requires on { All (IsOn points.now) list.now }
+    requires ascending { AllPairs FaceBefore closed.now }
+    requires long { length seeds.old ≡ length list.now + 1 }
+    requires marked { (i : ℕ) → (is_marked seeds.old i ≡ true) ↔ BeginsAt keep_hull points.now closed.now list.now holes.now 0 i }
+    ensures long { OnOk result (length seeds.new ≡ length list.now + 1) }
+    ensures marked { OnOk result ((i : ℕ) → (is_marked seeds.new i ≡ true) ↔ BeginsAt keep_hull points.now closed.now list.now holes.now (length holes.now) i) }
+{
+    for at in 0..holes.len() {
+        mark_seeds(alloc, points, list, closed, holes.at(at), seeds)?;
+    }
+    Ok(())
+}
+
+/// Marks where a flood begins that carves: beyond the hull if that isn't kept, and at each hole point.
+fn mark_all(
+    alloc: Global,
+    points: &Points,
+    list: &TetList,
+    closed: &FacetFaces,
+    holes: &RatPoints,
+    keep_hull: bool,
+    seeds: &mut [bool],
+) -> Result<(), NoMemory>
+    requires on { All (IsOn points.now) list.now }
+    requires ascending { AllPairs FaceBefore closed.now }
+    requires long { length seeds.old ≡ length list.now + 1 }
+    requires clear { (i : ℕ) → is_marked seeds.old i ≡ false }
+    ensures long { OnOk result (length seeds.new ≡ length list.now + 1) }
+    ensures marked { OnOk result ((i : ℕ) → (is_marked seeds.new i ≡ true) ↔ BeginsAt keep_hull points.now closed.now list.now holes.now (length holes.now) i) }
+{
+    mark_hull(list, keep_hull, seeds);
+    mark_holes(alloc, points, list, closed, holes, keep_hull, seeds)
+}
+
+/// Where a flood begins that carves: beyond the hull if that isn't kept, and at each hole point.
+fn seeds_of(
+    alloc: Global,
+    points: &Points,
+    list: &TetList,
+    closed: &FacetFaces,
+    holes: &RatPoints,
+    keep_hull: bool,
+) -> Result<Vec<bool>, NoMemory>
+    requires on { All (IsOn points.now) list.now }
+    requires ascending { AllPairs FaceBefore closed.now }
+    ensures long { IfOk result (λ seeds. length seeds.items ≡ length list.now + 1) }
+    ensures marked { IfOk result (λ seeds. (i : ℕ) → (is_marked seeds.items i ≡ true) ↔ BeginsAt keep_hull points.now closed.now list.now holes.now (length holes.now) i) }
+{
+    let mut seeds = Vec::new(alloc);
+    seeds.resize(list.len() + 1, false)?;
+    mark_all(alloc, points, list, closed, holes, keep_hull, &mut seeds)?;
+    Ok(seeds)
+}
+
+/// The tetrahedra that carving keeps: those whose inner points no free path joins to a hole point, nor to what lies beyond the hull where that isn't kept.
+pub fn carve(
+    alloc: Global,
+    points: &Points,
+    list: &TetList,
+    triangles: &FacetTriangles,
+    holes: &RatPoints,
+    keep_hull: bool,
+) -> Result<TetList, NoMemory>
+    requires filling { IsFilling points.now triangles.now list.now }
+    requires holes { All (λ h. pos 0 <ℤ h.w) holes.now }
+    ensures kept { IfOk result (λ rows. IsKeptPart (carving_of keep_hull) points.now triangles.now list.now holes.now rows) }
+    ensures ascending { AllPairs RowBefore list.now → IfOk result (λ rows. AllPairs RowBefore rows) }
+{
+    let closed = facet_faces(alloc, triangles)?;
+    let pairs = pair_faces(alloc, list)?;
+    let ways = ways_of(alloc, list, &pairs, &closed)?;
+    let seeds = seeds_of(alloc, points, list, &closed, holes, keep_hull)?;
+    let marks = flood(alloc, &ways, &seeds)?;
+    rows_unmarked(alloc, list, &marks)
+}

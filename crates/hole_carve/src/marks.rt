@@ -1,0 +1,213 @@
+ghost use Rattle.std.specs.Prelude.{◌≡◌, ◌≢◌, ◌+◌, ◌<◌, ◌≤◌, ◌↔◌, ◌<ℤ◌, pos, ℕ, true, false, AllPairs, All, Contains, Some, None, length, IfOk, OnOk};
+ghost use Rattle.geo_laws.specs.Delaunay.{IsOn, RowBefore};
+ghost use Rattle.geo_laws.specs.Faces.{FaceBefore};
+ghost use Rattle.path_laws.specs.Places.{IsFilling};
+ghost use Rattle.hole_carve.specs.Flooding.{is_marked, queue_at, IsFlooded, IsFilled, IsDone, Extends, LeadsWithin};
+ghost use Rattle.hole_carve.specs.Marks.{mark_at, IsPutFrom, AreNumbered, AreMarks, AreKeptMarks, IsPlaceFrom, KeptMarksLaw};
+
+use crate::facet_faces::{FacetFaces, facet_faces};
+use crate::flood::fill;
+use crate::pairs::{Across, Marks, pair_faces};
+use crate::seeds::mark_seeds;
+use crate::ways::ways_of;
+use geo_laws::{Complex, FacetTriangles, Points, Tet, TetList};
+use std::alloc::Global;
+use tet_ports::NoMemory;
+
+/// Puts a number at a place, if that is a row.
+fn put_at(place: usize, number: u32, marks: &mut [Option<u32>])
+    ensures long { length marks.new ≡ length marks.old }
+    ensures here { place < length marks.old → mark_at marks.new place ≡ Some number }
+    ensures others { (i : ℕ) → i ≢ place → mark_at marks.new i ≡ mark_at marks.old i }
+{
+    if place < marks.len() {
+        marks[place] = Some(number);
+    }
+}
+
+/// Puts a number at the rows that stand in a queue from a place on.
+fn put_from(queue: &[usize], from: usize, number: u32, marks: &mut [Option<u32>])
+    requires { from ≤ length queue.now }
+    ensures { IsPutFrom queue.now from (length queue.now) number marks.old marks.new }
+{
+    for at in from..queue.len() {
+        put_at(queue[at], number, marks);
+    }
+}
+
+/// Goes on with the flood, and puts a number at the rows to which it comes now. The rows to which it came before keep theirs.
+fn put_flood(
+    ways: &[Across],
+    seeds: &[bool],
+    number: u32,
+    reached: &mut [bool],
+    queue: &mut Vec<usize>,
+    marks: &mut [Option<u32>],
+) -> Result<(), NoMemory>
+    requires long { length reached.old ≡ length ways.now + 1 }
+    requires seeds { length seeds.now ≡ length ways.now + 1 }
+    requires within { LeadsWithin ways.now }
+    requires filled { IsFilled ways.now seeds.now reached.old queue.old.items }
+    requires done { (q : ℕ) → q < length queue.old.items → IsDone ways.now reached.old (queue_at queue.old.items q) }
+    ensures long { OnOk result (length reached.new ≡ length ways.now + 1) }
+    ensures exactly { OnOk result ((i : ℕ) → (is_marked reached.new i ≡ true) ↔ IsFlooded ways.now seeds.now i) }
+    ensures filled { OnOk result (IsFilled ways.now seeds.now reached.new queue.new.items) }
+    ensures done { OnOk result ((q : ℕ) → q < length queue.new.items → IsDone ways.now reached.new (queue_at queue.new.items q)) }
+    ensures grown { OnOk result (Extends reached.old queue.old.items reached.new queue.new.items) }
+    ensures put { OnOk result (IsPutFrom queue.new.items (length queue.old.items) (length queue.new.items) number marks.old marks.new) }
+{
+    let from = queue.len();
+    fill(ways, seeds, reached, queue)?;
+    put_from(queue, from, number, marks);
+    Ok(())
+}
+
+/// Puts the numbers of the region points, the first one first, by one flood that goes on from each point to the next. It has not begun before.
+fn put_each(
+    alloc: Global,
+    points: &Points,
+    list: &TetList,
+    closed: &FacetFaces,
+    ways: &[Across],
+    complex: &Complex,
+    seeds: &mut [bool],
+    reached: &mut [bool],
+    marks: &mut [Option<u32>],
+) -> Result<(), NoMemory>
+    requires on { All (IsOn points.now) list.now }
+    requires ascending { AllPairs FaceBefore closed.now }
+    requires ways { length ways.now ≡ length list.now }
+    requires within { LeadsWithin ways.now }
+    requires seeds { length seeds.old ≡ length list.now + 1 }
+    requires no_seeds { (i : ℕ) → is_marked seeds.old i ≡ false }
+    requires reached { length reached.old ≡ length list.now + 1 }
+    requires none_reached { (i : ℕ) → is_marked reached.old i ≡ false }
+    requires long { length marks.old ≡ length list.now }
+    requires clear { (i : ℕ) → mark_at marks.old i ≡ None }
+    ensures long { OnOk result (length marks.new ≡ length list.now) }
+    ensures numbered { OnOk result (AreNumbered points.now closed.now list.now ways.now complex.now.regions (length complex.now.regions) marks.new) }
+{
+    let mut queue = Vec::new(alloc);
+    for k in 0..complex.region_count() {
+        mark_seeds(alloc, points, list, closed, complex.region(k).at, seeds)?;
+        put_flood(ways, seeds, k, reached, &mut queue, marks)?;
+    }
+    Ok(())
+}
+
+/// The same from no seeds, where nothing is reached.
+fn put_all(
+    alloc: Global,
+    points: &Points,
+    list: &TetList,
+    closed: &FacetFaces,
+    ways: &[Across],
+    complex: &Complex,
+    marks: &mut [Option<u32>],
+) -> Result<(), NoMemory>
+    requires on { All (IsOn points.now) list.now }
+    requires ascending { AllPairs FaceBefore closed.now }
+    requires ways { length ways.now ≡ length list.now }
+    requires within { LeadsWithin ways.now }
+    requires long { length marks.old ≡ length list.now }
+    requires clear { (i : ℕ) → mark_at marks.old i ≡ None }
+    ensures long { OnOk result (length marks.new ≡ length list.now) }
+    ensures numbered { OnOk result (AreNumbered points.now closed.now list.now ways.now complex.now.regions (length complex.now.regions) marks.new) }
+{
+    let mut seeds = Vec::new(alloc);
+    seeds.resize(list.len() + 1, false)?;
+    let mut reached = Vec::new(alloc);
+    reached.resize(list.len() + 1, false)?;
+    put_each(
+        alloc,
+        points,
+        list,
+        closed,
+        ways,
+        complex,
+        &mut seeds,
+        &mut reached,
+        marks,
+    )
+}
+
+/// The numbers of the region points, by the rows to which the floods from them come.
+fn numbers_of(
+    alloc: Global,
+    points: &Points,
+    list: &TetList,
+    closed: &FacetFaces,
+    ways: &[Across],
+    complex: &Complex,
+) -> Result<Vec<Option<u32>>, NoMemory>
+    requires on { All (IsOn points.now) list.now }
+    requires ascending { AllPairs FaceBefore closed.now }
+    requires ways { length ways.now ≡ length list.now }
+    requires within { LeadsWithin ways.now }
+    ensures long { IfOk result (λ marks. length marks.items ≡ length list.now) }
+    ensures numbered { IfOk result (λ marks. AreNumbered points.now closed.now list.now ways.now complex.now.regions (length complex.now.regions) marks.items) }
+{
+    let mut marks = Vec::new(alloc);
+    marks.resize(list.len(), None)?;
+    put_all(alloc, points, list, closed, ways, complex, &mut marks)?;
+    Ok(marks)
+}
+
+/// For each tetrahedron the number of the first region point, from 0 in file order, that a free path joins with some point inside it, or none.
+pub fn mark_regions(
+    alloc: Global,
+    points: &Points,
+    list: &TetList,
+    triangles: &FacetTriangles,
+    complex: &Complex,
+) -> Result<Marks, NoMemory>
+    requires filling { IsFilling points.now triangles.now list.now }
+    requires regions { All (λ r. pos 0 <ℤ r.at.w) complex.now.regions }
+    ensures { IfOk result (λ marks. AreMarks points.now triangles.now list.now complex.now.regions marks) }
+{
+    let closed = facet_faces(alloc, triangles)?;
+    let pairs = pair_faces(alloc, list)?;
+    let ways = ways_of(alloc, list, &pairs, &closed)?;
+    let marks = numbers_of(alloc, points, list, &closed, &ways, complex)?;
+    Ok(Marks::from(marks))
+}
+
+/// The first place from one on where a list has a row, or its end.
+fn place_from(list: &TetList, row: Tet, from: usize) -> usize
+    requires { from ≤ length list.now }
+    ensures { IsPlaceFrom list.now row from result }
+{
+    for at in from..list.len() {
+        if list.at(at) == row {
+            return at;
+        }
+    }
+    list.len()
+}
+
+/// For each row of a part of a list the mark of that row in the list. Both ascend.
+pub fn kept_marks(
+    alloc: Global,
+    list: &TetList,
+    marks: &Marks,
+    kept: &TetList,
+) -> Result<Marks, NoMemory>
+    requires ascending { AllPairs RowBefore list.now }
+    requires kept_ascending { AllPairs RowBefore kept.now }
+    requires long { length marks.now ≡ length list.now }
+    requires part { (t : Tet) → Contains kept.now t → Contains list.now t }
+    ensures { IfOk result (λ own. AreKeptMarks list.now marks.now kept.now own) }
+{
+    let mut own = Marks::new(alloc);
+    let mut place = 0;
+    for at in 0..kept.len() {
+        place = place_from(list, kept.at(at), place);
+        own.push(marks.at(place))?;
+    }
+    Ok(own)
+}
+
+/// The marks that the kept tetrahedra have in the whole list are those that they have among themselves.
+pub fn law_kept_marks()
+    ensures { KeptMarksLaw }
+{}

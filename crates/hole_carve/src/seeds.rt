@@ -1,0 +1,218 @@
+ghost use Rattle.std.specs.Prelude.{◌≡◌, ◌↔◌, ◌⊎◌, ◌+◌, ◌<◌, ℕ, pos, true, AllPairs, All, Contains, length, IfOk, OnOk};
+ghost use Rattle.sign_predicates.specs.Orientation.{InClosed, orient_rational, side_rational, opposite_face};
+ghost use Rattle.geo_laws.specs.Delaunay.{corners, IsOn};
+ghost use Rattle.geo_laws.specs.Faces.{FaceBefore};
+ghost use Rattle.hole_carve.specs.Links.{row_at};
+ghost use Rattle.hole_carve.specs.Flooding.{is_marked};
+ghost use Rattle.hole_carve.specs.Ways.{face_opposite};
+ghost use Rattle.hole_carve.specs.Seeds.{Holds, HoldsOnSome, IsSeedAt};
+
+use crate::facet_faces::{FacetFaces, has_face};
+use geo_laws::{Face, Points, Tet, TetList, row_faces};
+use sign_predicates::{Corners, GridPoint, Hold, RatPoint, Sign, in_tet, orient_rat};
+use std::alloc::Global;
+use tet_ports::NoMemory;
+
+/// The corners of a row.
+fn corners(points: &Points, row: Tet) -> Corners
+    requires { IsOn points.now row }
+    ensures { result ≡ corners points.now row }
+{
+    Corners {
+        a: points.at(row.a as usize),
+        b: points.at(row.b as usize),
+        c: points.at(row.c as usize),
+        d: points.at(row.d as usize),
+    }
+}
+
+/// The row at a place, which is on the points.
+fn row_on(points: &Points, list: &TetList, at: usize) -> Tet
+    requires there { at < length list.now }
+    requires on { All (IsOn points.now) list.now }
+    ensures is { result ≡ row_at list.now at }
+    ensures on { IsOn points.now result }
+{
+    list.at(at)
+}
+
+/// Whether the closed row holds a point.
+fn holds(points: &Points, row: Tet, x: RatPoint) -> bool
+    requires { IsOn points.now row }
+    ensures { (result ≡ true) ↔ InClosed (corners points.now row) x }
+{
+    match in_tet(corners(points, row), x) {
+        Hold::Outside => false,
+        Hold::Inside => true,
+        Hold::Touching => true,
+    }
+}
+
+/// Whether a point lies on the plane through `a`, `b` and `c`, and the face is closed.
+fn lies_on(
+    closed: &FacetFaces,
+    face: Face,
+    a: GridPoint,
+    b: GridPoint,
+    c: GridPoint,
+    x: RatPoint,
+) -> bool
+    requires { AllPairs FaceBefore closed.now }
+    ensures { (result ≡ true) ↔ ((orient_rational a b c x ≡ pos 0) × Contains closed.now face) }
+{
+    matches!(orient_rat(a, b, c, x), Sign::Zero) && has_face(closed, face)
+}
+
+/// The same for the face opposite a corner of a row, by the corner's place, from 0.
+fn lies_on_face(row: Tet, t: &Corners, closed: &FacetFaces, corner: usize, x: RatPoint) -> bool
+    requires place { corner < 4 }
+    requires ascending { AllPairs FaceBefore closed.now }
+    ensures { (result ≡ true) ↔ ((side_rational (opposite_face t.now corner) x ≡ pos 0) × Contains closed.now (face_opposite row corner)) }
+{
+    let [a, b, c, d] = row_faces(row);
+    match corner {
+        0 => lies_on(closed, a, t.b, t.d, t.c, x),
+        1 => lies_on(closed, b, t.a, t.c, t.d, x),
+        2 => lies_on(closed, c, t.a, t.d, t.b, x),
+        _ => lies_on(closed, d, t.a, t.b, t.c, x),
+    }
+}
+
+/// Whether a point lies on the plane of a face of the row that is closed.
+fn lies_on_some(row: Tet, t: &Corners, closed: &FacetFaces, x: RatPoint) -> bool
+    requires { AllPairs FaceBefore closed.now }
+    ensures { (result ≡ true) ↔ ((k : ℕ) × (k < 4) × (side_rational (opposite_face t.now k) x ≡ pos 0) × Contains closed.now (face_opposite row k)) }
+{
+    for corner in 0..4 {
+        if lies_on_face(row, t, closed, corner, x) {
+            return true;
+        }
+    }
+    false
+}
+
+/// Appends the place of a row if its closure holds a point.
+fn add_holder(
+    points: &Points,
+    list: &TetList,
+    at: usize,
+    x: RatPoint,
+    holders: &mut Vec<usize>,
+) -> Result<(), NoMemory>
+    requires on { All (IsOn points.now) list.now }
+    requires there { at < length list.now }
+    requires before { (i : ℕ) → Contains holders.old.items i ↔ ((i < at) × Holds points.now list.now x i) }
+    ensures { OnOk result ((i : ℕ) → Contains holders.new.items i ↔ ((i < at + 1) × Holds points.now list.now x i)) }
+{
+    if holds(points, row_on(points, list, at), x) {
+        holders.push(at)?;
+        return Ok(());
+    }
+    Ok(())
+}
+
+/// The places of the rows whose closure holds a point.
+fn holders_of(
+    alloc: Global,
+    points: &Points,
+    list: &TetList,
+    x: RatPoint,
+) -> Result<Vec<usize>, NoMemory>
+    requires { All (IsOn points.now) list.now }
+    ensures { IfOk result (λ holders. (i : ℕ) → Contains holders.items i ↔ Holds points.now list.now x i) }
+{
+    let mut holders = Vec::new(alloc);
+    for at in 0..list.len() {
+        add_holder(points, list, at, x, &mut holders)?;
+    }
+    Ok(holders)
+}
+
+/// Whether a row that holds a point has it on the plane of a face that is closed.
+fn is_on_closed(
+    points: &Points,
+    list: &TetList,
+    closed: &FacetFaces,
+    x: RatPoint,
+    holders: &[usize],
+) -> bool
+    requires on { All (IsOn points.now) list.now }
+    requires ascending { AllPairs FaceBefore closed.now }
+    requires holders { (i : ℕ) → Contains holders.now i ↔ Holds points.now list.now x i }
+    ensures { (result ≡ true) ↔ HoldsOnSome points.now closed.now list.now x }
+{
+    for at in 0..holders.len() {
+        let row = row_on(points, list, holders[at]);
+        if lies_on_some(row, &corners(points, row), closed, x) {
+            return true;
+        }
+    }
+    false
+}
+
+/// Marks a place.
+fn mark_one(place: usize, marks: &mut [bool])
+    requires { place < length marks.old }
+    ensures long { length marks.new ≡ length marks.old }
+    ensures marked { (i : ℕ) → (is_marked marks.new i ≡ true) ↔ ((is_marked marks.old i ≡ true) ⊎ (i ≡ place)) }
+{
+    marks[place] = true;
+}
+
+/// Marks these places.
+fn mark_all(places: &[usize], marks: &mut [bool])
+    requires { (i : ℕ) → Contains places.now i → i < length marks.old }
+    ensures long { length marks.new ≡ length marks.old }
+    ensures marked { (i : ℕ) → (is_marked marks.new i ≡ true) ↔ ((is_marked marks.old i ≡ true) ⊎ Contains places.now i) }
+{
+    for at in 0..places.len() {
+        mark_one(places[at], marks);
+    }
+}
+
+/// Marks where the flood from a point begins, where the places of the rows are known whose closure holds it.
+fn mark_found(
+    points: &Points,
+    list: &TetList,
+    closed: &FacetFaces,
+    x: RatPoint,
+    holders: &[usize],
+    seeds: &mut [bool],
+)
+    requires on { All (IsOn points.now) list.now }
+    requires ascending { AllPairs FaceBefore closed.now }
+    requires long { length seeds.old ≡ length list.now + 1 }
+    requires holders { (i : ℕ) → Contains holders.now i ↔ Holds points.now list.now x i }
+    ensures long { length seeds.new ≡ length list.now + 1 }
+    ensures marked { (i : ℕ) → (is_marked seeds.new i ≡ true) ↔ ((is_marked seeds.old i ≡ true) ⊎ IsSeedAt points.now closed.now list.now x i) }
+{
+    if is_on_closed(points, list, closed, x, holders) {
+        return;
+    }
+    if holders.is_empty() {
+        mark_one(list.len(), seeds);
+        return;
+    }
+    mark_all(holders, seeds);
+}
+
+/// Marks where the flood from a hole or region point begins: nowhere if the point is on a facet, else at each row whose
+/// closure holds it, or where there is none past the last row, for what lies beyond the hull.
+pub(crate) fn mark_seeds(
+    alloc: Global,
+    points: &Points,
+    list: &TetList,
+    closed: &FacetFaces,
+    x: RatPoint,
+    seeds: &mut [bool],
+) -> Result<(), NoMemory>
+    requires on { All (IsOn points.now) list.now }
+    requires ascending { AllPairs FaceBefore closed.now }
+    requires long { length seeds.old ≡ length list.now + 1 }
+    ensures long { OnOk result (length seeds.new ≡ length list.now + 1) }
+    ensures marked { OnOk result ((i : ℕ) → (is_marked seeds.new i ≡ true) ↔ ((is_marked seeds.old i ≡ true) ⊎ IsSeedAt points.now closed.now list.now x i)) }
+{
+    let holders = holders_of(alloc, points, list, x)?;
+    mark_found(points, list, closed, x, &holders, seeds);
+    Ok(())
+}
