@@ -1,6 +1,12 @@
 -- Texts that are made line by line.
 use Rattle.std.proofs.Common.{◌≡◌, ◌++◌, ◌+◌, ◌<◌, ℕ, List, length, drop, sym, ap, ◌∙◌, append_assoc, suc, add-one, get_or, drop-cons}
-use Rattle.std.specs.Prelude.{flat_map}
+use Rattle.std.specs.Prelude.{flat_map, map, pos, [], ◌∷◌, Option, Some}
+use Rattle.std.specs.Fmt.{decimal, signed_decimal}
+use Rattle.geo_laws.specs.Delaunay.{numbers}
+use Rattle.geo_laws.specs.declared.tetrahedra.Tet.{Tet}
+use Rattle.std.proofs.lemmas.List.{get_or-map}
+use Rattle.geo_laws.specs.declared.complex.Region.{Region}
+use Rattle.mesh_files.specs.Texts.{attribute_of, fields_then, marked_line}
 use Rattle.std.specs.List.{enumerate_from}
 
 -- the lines of items, numbered from a place
@@ -23,3 +29,20 @@ next_line line i xs x out new whole h e added left =
     ∙ append_assoc out _ _
     ∙ ap (λ s. out ++ s) (sym (lines_from-drop line i xs x h e))
     ∙ left
+
+-- a line with a last field that is appended on its own
+last_field : (out front last : List ℕ) → ((out ++ (front ++ (32 ∷ []))) ++ last) ++ (10 ∷ []) ≡ out ++ (front ++ (32 ∷ (last ++ (10 ∷ []))))
+last_field out front last =
+    let rest = last ++ (10 ∷ []) in
+    append_assoc (out ++ (front ++ (32 ∷ []))) last (10 ∷ []) ∙ append_assoc out (front ++ (32 ∷ [])) rest ∙ ap (λ s. out ++ s) (append_assoc front (32 ∷ []) rest)
+
+-- as the attribute of a row is
+pub line_with_mark : (regions : List Region) (first place : ℕ) (row : Tet) (mark : Option ℕ) (out numbered whole : List ℕ) → numbered ≡ out ++ fields_then (place + first) (map (λ n. pos (n + first)) (numbers row)) (32 ∷ [])
+    → whole ≡ numbered ++ attribute_of regions mark → whole ++ (10 ∷ []) ≡ out ++ marked_line regions first place row mark
+line_with_mark regions first place row mark out numbered whole e f =
+    ap (λ s. s ++ (10 ∷ [])) (f ∙ ap (λ s. s ++ attribute_of regions mark) e)
+    ∙ last_field out (decimal (place + first) ++ flat_map (λ z. 32 ∷ signed_decimal z) (map (λ n. pos (n + first)) (numbers row))) (attribute_of regions mark)
+
+-- the attribute of a region that is there
+pub attribute_at : (regions : List Region) (mark : Option ℕ) (k : ℕ) (r : Region) → mark ≡ Some k → k < length regions → ((d : Region) → get_or regions k d ≡ r) → r.attribute ≡ attribute_of regions mark
+attribute_at regions mark k r e l at = sym (ap (attribute_of regions) e ∙ get_or-map (λ (x : Region). x.attribute) regions k r [] l ∙ ap (λ x. x.attribute) (at r))

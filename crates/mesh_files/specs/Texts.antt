@@ -1,16 +1,21 @@
 -- The texts of a mesh's files, as functions of its rows.
-use Rattle.std.specs.Prelude.{ℕ, ◌+◌, ℤ, pos, negsuc, Option, Some, None, List, [], ◌∷◌, ◌++◌, map, flat_map, length}
+use Rattle.std.specs.Prelude.{ℕ, ◌+◌, ℤ, pos, negsuc, Option, Some, None, List, [], ◌∷◌, ◌++◌, map, flat_map, length, slice_index_or}
 use Rattle.std.specs.List.{enumerate_from}
 use Rattle.std.specs.Fmt.{decimal, signed_decimal}
 use Rattle.geo_laws.specs.Delaunay.{numbers}
+use Rattle.geo_laws.specs.declared.complex.Region.{Region}
 use Rattle.geo_laws.specs.declared.faces.Side.{Side}
 use Rattle.geo_laws.specs.declared.tetrahedra.Tet.{Tet}
 use Rattle.hole_carve.specs.declared.pairs.Across.{Across}
 use Rattle.mesh_files.specs.declared.markers.FaceRow.{FaceRow}
 
--- a line: a number, fields after it, each after a space, and a line feed
+-- a number, fields after it, each after a space, and what follows
+abbrev pub fields_then : ℕ → List ℤ → List ℕ → List ℕ
+fields_then number fields rest = decimal number ++ flat_map (λ z. 32 ∷ signed_decimal z) fields ++ rest
+
+-- a line: a number, fields after it, and a line feed
 abbrev pub line_of : ℕ → List ℤ → List ℕ
-line_of number fields = decimal number ++ flat_map (λ z. 32 ∷ signed_decimal z) fields ++ (10 ∷ [])
+line_of number fields = fields_then number fields (10 ∷ [])
 
 -- the line of the row at a place: its number and its four corners
 abbrev pub ele_line : ℕ → ℕ → Tet → List ℕ
@@ -23,6 +28,31 @@ ele_lines first place rows = flat_map (λ r. ele_line first r.0 r.1) (enumerate_
 -- `.ele`: the number of rows, four corners and no attribute; then the rows, numbered from the first number
 abbrev pub ele_text : ℕ → List Tet → List ℕ
 ele_text first rows = line_of (length rows) (pos 4 ∷ pos 0 ∷ []) ++ ele_lines first 0 rows
+
+-- the attribute of a region, and 0 where there is none
+abbrev pub attribute_of : List Region → Option ℕ → List ℕ
+attribute_of regions None = 48 ∷ []
+attribute_of regions (Some region) = slice_index_or (map (λ r. r.attribute) regions) region []
+
+-- the line of the row at a place, with the attribute of the region that its mark names
+abbrev pub marked_line : List Region → ℕ → ℕ → Tet → Option ℕ → List ℕ
+marked_line regions first place row mark = fields_then (place + first) (map (λ n. pos (n + first)) (numbers row)) (32 ∷ attribute_of regions mark ++ (10 ∷ []))
+
+-- its mark is the one at the same place
+abbrev pub attributed_line : List (Option ℕ) → List Region → ℕ → ℕ → Tet → List ℕ
+attributed_line marks regions first place row = marked_line regions first place row (slice_index_or marks place None)
+
+abbrev pub attributed_lines : List (Option ℕ) → List Region → ℕ → ℕ → List Tet → List ℕ
+attributed_lines marks regions first place rows = flat_map (λ r. attributed_line marks regions first r.0 r.1) (enumerate_from place rows)
+
+-- `.ele` with marks: the number of rows, four corners and one attribute; then the rows
+abbrev pub attributed_text : List (Option ℕ) → List Region → ℕ → List Tet → List ℕ
+attributed_text marks regions first rows = line_of (length rows) (pos 4 ∷ pos 1 ∷ []) ++ attributed_lines marks regions first 0 rows
+
+-- `.ele` with or without marks
+abbrev pub ele_text_of : Option (List (Option ℕ)) → List Region → ℕ → List Tet → List ℕ
+ele_text_of None regions first rows = ele_text first rows
+ele_text_of (Some marks) regions first rows = attributed_text marks regions first rows
 
 -- the line of the face at a place: its number, its three corners and its marker
 abbrev pub face_line : ℕ → ℕ → FaceRow → List ℕ

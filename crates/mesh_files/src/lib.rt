@@ -5,6 +5,7 @@ mod edge;
 mod ele;
 mod face;
 mod faces;
+mod facet_faces;
 mod line;
 mod markers;
 mod neigh;

@@ -1,6 +1,6 @@
 ghost use Rattle.std.specs.Prelude.{◌≡◌, [], ◌∷◌, ◌++◌, ◌+◌, ◌≤◌, length, drop, IfOk, OnOk};
 ghost use Rattle.std.specs.Fmt.{signed_decimal};
-ghost use Rattle.mesh_files.specs.Texts.{line_of};
+ghost use Rattle.mesh_files.specs.Texts.{fields_then, line_of};
 
 use itoa::write_digits;
 use std::alloc::Global;
@@ -19,13 +19,27 @@ pub(crate) fn room_for_lines(alloc: Global, count: usize) -> Result<Bytes, NoMem
     Bytes::with_capacity(alloc, count.saturating_mul(LINE))
 }
 
-/// Appends a line: a number, and up to four fields after it. It is written from its end.
+/// Appends a line: a number, and up to four fields after it.
 #[inline(always)]
 pub(crate) fn append_line(out: &mut Bytes, number: u64, fields: &[i64]) -> Result<(), NoMemory>
     requires { length fields.now ≤ 4 }
     ensures { OnOk result (out.new ≡ out.old ++ line_of number fields.now) }
 {
-    let mut line = [b'\n'; LONGEST];
+    append_fields(out, number, fields, b'\n')
+}
+
+/// Appends a number, up to four fields after it, and a byte. They are written from their end.
+#[inline(always)]
+pub(crate) fn append_fields(
+    out: &mut Bytes,
+    number: u64,
+    fields: &[i64],
+    end: u8,
+) -> Result<(), NoMemory>
+    requires { length fields.now ≤ 4 }
+    ensures { OnOk result (out.new ≡ out.old ++ fields_then number fields.now (end ∷ [])) }
+{
+    let mut line = [end; LONGEST];
     let mut at = LONGEST - 1;
     let mut left = fields.len();
     while left > 0 {

@@ -1,9 +1,10 @@
-ghost use Rattle.std.specs.Prelude.{◌≡◌, ◌↔◌, ◌<◌, ◌==◌, length, count_by, HoldsAt, IfOk, IsTrue, IsFalse};
-ghost use Rattle.hole_carve.specs.Pairs.{has_face};
+ghost use Rattle.std.specs.Prelude.{◌≡◌, ◌<◌, pos, if◌then◌else◌, length, All, AllPairs, HoldsAt, IfOk, IsTrue, IsFalse};
 ghost use Rattle.hole_carve.specs.Uses.{AreUsesOf, IsRunStart, FollowsLike};
-ghost use Rattle.mesh_files.specs.FaceRows.{AreFaceRowsOf, IsAsked, face_row};
+ghost use Rattle.mesh_files.specs.FaceRows.{AreFaceRowsOf, AreFacesMet, AreFacetsThere, IsRowOf, corners_of, is_on_hull, marker_or_1};
+ghost use Rattle.mesh_files.specs.FacetFaces.{FacetFaceBefore, IsIn, IsRowOrNone};
 
-use geo_laws::TetList;
+use crate::facet_faces::{FacetFaces, facet_faces, first_facet};
+use geo_laws::{Complex, Face, FacetTriangles, Points, TetList};
 use hole_carve::{Uses, uses_of};
 use std::alloc::Global;
 use tet_ports::{Items, NoMemory};
@@ -20,30 +21,45 @@ pub struct FaceRow {
 /// A list of faces with their markers.
 pub type FaceRows = Items<FaceRow>;
 
-/// The faces of rows, each once, ascending. The marker is 1 where one row alone has the face, so that it is on the
-/// hull of the mesh, else 0. Without `all` there are only those with the marker 1.
-pub fn face_rows(alloc: Global, list: &TetList, all: bool) -> Result<FaceRows, NoMemory>
-    ensures { IfOk result (λ found. AreFaceRowsOf list.now all found) }
+/// The faces of rows, each once, ascending, with their markers. The marker is that of the first facet in which the face lies, by its place in the complex,
+/// and 1 where that facet has none. A face in no facet has 1 where one row alone has it, so that it is on the hull of the mesh, else 0. Without `all` there are
+/// only the faces on the hull and those that lie in facets. It refuses for want of memory alone.
+pub fn face_rows(
+    alloc: Global,
+    points: &Points,
+    list: &TetList,
+    complex: &Complex,
+    triangles: &FacetTriangles,
+    all: bool,
+) -> Result<FaceRows, NoMemory>
+    requires met { AreFacesMet points.now triangles.now list.now }
+    requires facets { AreFacetsThere triangles.now complex.now }
+    ensures { IfOk result (λ found. AreFaceRowsOf points.now list.now complex.now triangles.now all found) }
 {
     let uses = uses_of(alloc, list)?;
-    used_faces(alloc, list, &uses, all)
+    used_faces(alloc, points, list, &uses, complex, triangles, all)
 }
 
 /// The same, where the uses of the faces are known already.
 pub fn used_faces(
     alloc: Global,
+    points: &Points,
     list: &TetList,
     uses: &Uses,
+    complex: &Complex,
+    triangles: &FacetTriangles,
     all: bool,
 ) -> Result<FaceRows, NoMemory>
-    requires { AreUsesOf list.now uses.now }
-    ensures { IfOk result (λ found. AreFaceRowsOf list.now all found) }
+    requires met { AreFacesMet points.now triangles.now list.now }
+    requires facets { AreFacetsThere triangles.now complex.now }
+    requires uses { AreUsesOf list.now uses.now }
+    ensures { IfOk result (λ found. AreFaceRowsOf points.now list.now complex.now triangles.now all found) }
 {
+    let facets = facet_faces(alloc, triangles)?;
     let mut found = FaceRows::with_capacity(alloc, face_room(uses, all))?;
     for at in 0..uses.len() {
         if is_first(list, uses, at) {
-            let row = row_at(list, uses, at);
-            if is_asked(all, row) {
+            if let Some(row) = row_at(list, uses, complex, &facets, all, at) {
                 found.push(row)?;
             }
         }
@@ -60,28 +76,63 @@ fn face_room(uses: &Uses, all: bool) -> usize {
     }
 }
 
-/// Whether a face is asked for: any, or one on the hull.
-fn is_asked(all: bool, row: FaceRow) -> bool
-    ensures { IsTrue result ↔ IsAsked all row }
+/// A face with the marker of the facet at this place, from 0, and 1 where that has none.
+fn in_facet(face: Face, complex: &Complex, facet: u32) -> FaceRow
+    requires { facet < length complex.now.facets }
+    ensures corners { corners_of result ≡ face }
+    ensures marker { HoldsAt (λ f. result.marker ≡ marker_or_1 f.marker) complex.now.facets facet }
 {
-    all || row.marker == 1
-}
-
-/// The face whose first use is at a place, with its marker.
-fn row_at(list: &TetList, uses: &Uses, at: usize) -> FaceRow
-    requires uses { AreUsesOf list.now uses.now }
-    requires there { at < length uses.now }
-    requires run { IsRunStart uses.now at at }
-    ensures { HoldsAt (λ u. result ≡ face_row list.now u.face) uses.now at }
-{
-    let face = uses.at(at).face;
-    let marker = if is_of_one_row(list, uses, at) { 1 } else { 0 };
+    let marker = match complex.facet(facet).marker {
+        Some(marker) => marker,
+        None => 1,
+    };
     FaceRow {
         a: face.a,
         b: face.b,
         c: face.c,
         marker,
     }
+}
+
+/// A face with the marker of those in no facet: 1 on the hull, else 0.
+fn in_no_facet(face: Face, on_hull: bool) -> FaceRow
+    ensures corners { corners_of result ≡ face }
+    ensures marker { result.marker ≡ (if on_hull then pos 1 else pos 0) }
+{
+    let marker = if on_hull { 1 } else { 0 };
+    FaceRow {
+        a: face.a,
+        b: face.b,
+        c: face.c,
+        marker,
+    }
+}
+
+/// The face whose first use is at a place, with its marker, if it is asked for.
+fn row_at(
+    list: &TetList,
+    uses: &Uses,
+    complex: &Complex,
+    facets: &FacetFaces,
+    all: bool,
+    at: usize,
+) -> Option<FaceRow>
+    requires uses { AreUsesOf list.now uses.now }
+    requires there { at < length uses.now }
+    requires run { IsRunStart uses.now at at }
+    requires ascending { AllPairs FacetFaceBefore facets.now }
+    requires facets { All (λ x. x.facet < length complex.now.facets) facets.now }
+    ensures { HoldsAt (λ u. IsRowOrNone (IsRowOf (IsIn facets.now) complex.now.facets list.now all u.face) result) uses.now at }
+{
+    let face = uses.at(at).face;
+    if let Some(facet) = first_facet(facets, face) {
+        return Some(in_facet(face, complex, facet));
+    }
+    let on_hull = is_of_one_row(list, uses, at);
+    if all || on_hull {
+        return Some(in_no_facet(face, on_hull));
+    }
+    None
 }
 
 /// Whether the use at a place is the first one of its face.
@@ -102,7 +153,7 @@ fn is_of_one_row(list: &TetList, uses: &Uses, at: usize) -> bool
     requires uses { AreUsesOf list.now uses.now }
     requires there { at < length uses.now }
     requires run { IsRunStart uses.now at at }
-    ensures { HoldsAt (λ u. result ≡ (count_by (has_face u.face) list.now == 1)) uses.now at }
+    ensures { HoldsAt (λ u. result ≡ is_on_hull list.now u.face) uses.now at }
 {
     let count = uses.len();
     if at + 1 < count {

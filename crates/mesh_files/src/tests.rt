@@ -1,5 +1,9 @@
+ghost use Rattle.std.specs.Prelude.{◌<◌, IfSome};
+
 use crate::*;
-use geo_laws::{Tet, TetList};
+use geo_laws::{Complex, FacetTriangles, Points, Tet, TetList};
+use hole_carve::Marks;
+use sign_predicates::RatPoint;
 use std::alloc::Global;
 use std::test::Fail;
 use tet_ports::{Bytes, NoMemory};
@@ -34,7 +38,7 @@ fn list_of(alloc: Global, rows: &[[u32; 4]]) -> Result<TetList, NoMemory> {
 /// The rows and their neighbors as text.
 fn row_texts(alloc: Global, rows: &[[u32; 4]], first: u32) -> Result<(Bytes, Bytes), NoMemory> {
     let list = list_of(alloc, rows)?;
-    let ele = write_ele(alloc, &list, first)?;
+    let ele = write_ele(alloc, &list, None, &Complex::new(alloc), first)?;
     let pairs = neighbors_of(alloc, &list)?;
     Ok((ele, write_neigh(alloc, &pairs, first)?))
 }
@@ -74,10 +78,54 @@ fn texts_of_rows_and_neighbors(rt: HostRuntime) -> Result<(), Fail> {
     Ok(())
 }
 
+/// A row with the mark of the second of two regions, or with none.
+fn marked_text(alloc: Global, mark: Option<u32>) -> Result<Bytes, NoMemory>
+    requires { IfSome mark (λ r. r < 2) }
+{
+    let mut complex = Complex::new(alloc);
+    let at = RatPoint {
+        x: 1,
+        y: 2,
+        z: 3,
+        w: 1,
+    };
+    complex.add_region(at, &Bytes::from_slice(alloc, b"10")?)?;
+    complex.add_region(at, &Bytes::from_slice(alloc, b"-x")?)?;
+    let mut marks = Marks::new(alloc);
+    marks.push(mark)?;
+    let mut list = TetList::new(alloc);
+    list.push(Tet {
+        a: 0,
+        b: 1,
+        c: 2,
+        d: 3,
+    })?;
+    write_ele(alloc, &list, Some(&marks), &complex, 1)
+}
+
+#[test]
+fn attributes_of_rows(rt: HostRuntime) -> Result<(), Fail> {
+    for (mark, want) in [
+        (Some(1), b"1 4 1\n1 1 2 3 4 -x\n".as_slice()),
+        (None, b"1 4 1\n1 1 2 3 4 0\n".as_slice()),
+    ] {
+        let text = marked_text(rt.alloc(), mark)?;
+        assert_eq!(rt; text.as_slice(), want);
+    }
+    Ok(())
+}
+
+/// The faces without facets, all of them or those on the surface.
+fn bare_face_rows(alloc: Global, list: &TetList, all: bool) -> Result<FaceRows, NoMemory> {
+    let points = Points::new(alloc);
+    let complex = Complex::new(alloc);
+    face_rows(alloc, &points, list, &complex, &FacetTriangles::new(alloc), all)
+}
+
 /// The faces as text, all of them or those on the surface.
 fn face_text(alloc: Global, rows: &[[u32; 4]], first: u32, all: bool) -> Result<Bytes, NoMemory> {
     let list = list_of(alloc, rows)?;
-    let faces = face_rows(alloc, &list, all)?;
+    let faces = bare_face_rows(alloc, &list, all)?;
     write_face(alloc, &faces, first)
 }
 
@@ -144,8 +192,8 @@ fn counts(alloc: Global, rows: &[[u32; 4]]) -> Result<[usize; 4], NoMemory> {
     Ok([
         faces_of(alloc, &list)?.len(),
         edges_of(alloc, &list)?.len(),
-        face_rows(alloc, &list, true)?.len(),
-        face_rows(alloc, &list, false)?.len(),
+        bare_face_rows(alloc, &list, true)?.len(),
+        bare_face_rows(alloc, &list, false)?.len(),
     ])
 }
 

@@ -7,7 +7,7 @@ use Rattle.mesh_files.proofs.faces.face_count.Goals.{then-is_first, else-is_firs
 use Rattle.mesh_files.proofs.faces.face_count.Goals as goal
 
 pub loop-at-init : goal.loop-at-init
-loop-at-init c = record { within = omega arith; counted = ([], faces_first c.args.list.now c.args.uses.now, refl) }
+loop-at-init c = record { within = omega arith; counted = ([], faces_first c.args.uses.now, refl) }
 
 pub loop-at-preserved : goal.loop-at-preserved
 loop-at-preserved c =
@@ -21,13 +21,13 @@ loop-at-preserved c =
         within = omega (arith, w.count-is, c.loop-at.invariant.within);
         counted = (
           o.0 ++ u.face ∷ [],
-          faces_pushed rows uses at o.0 u c.requires.ascending (omega arith) (c.is_first.ensures.first w.if-is_first.true) (λ d. get_or_default uses at d no_use (omega arith)) o.1,
+          faces_pushed uses at o.0 u c.requires.ascending (omega arith) (c.is_first.ensures.first w.if-is_first.true) (λ d. get_or_default uses at d no_use (omega arith)) o.1,
           omega (arith, w.count-is, o.2, length-append o.0 (u.face ∷ [])),
         );
       }
       | else-is_first w ↦ record {
         within = omega (arith, w.count-is, c.loop-at.invariant.within);
-        counted = (o.0, faces_again rows uses at o.0 (c.is_first.ensures.later w.if-is_first.false) o.1, w.count-is ∙ o.2);
+        counted = (o.0, faces_again uses at o.0 (c.is_first.ensures.later w.if-is_first.false) o.1, w.count-is ∙ o.2);
       }
     ]
 

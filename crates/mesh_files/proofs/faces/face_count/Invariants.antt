@@ -7,5 +7,5 @@ use Rattle.mesh_files.proofs.faces.face_count.Given as goal
 abbrev pub invariant-loop-at : goal.invariant-loop-at
 invariant-loop-at l = record {
   within : l.count ≤ l.at;
-  counted : (faces : List Face) × AreFacesBefore l.list l.uses l.at faces × (l.count ≡ length faces);
+  counted : (faces : List Face) × AreFacesBefore l.uses l.at faces × (l.count ≡ length faces);
 }

@@ -4,7 +4,7 @@ use Rattle.mesh_files.proofs.faces.first_faces.Goals.{then-is_first+in_ok-push, 
 use Rattle.mesh_files.proofs.faces.first_faces.Goals as goal
 
 pub loop-at-init : goal.loop-at-init
-loop-at-init c = subst (AreFacesBefore c.args.list.now c.args.uses.now 0) (sym c.in_ok-faces.ensures) (faces_first c.args.list.now c.args.uses.now)
+loop-at-init c = subst (AreFacesBefore c.args.uses.now 0) (sym c.in_ok-faces.ensures) (faces_first c.args.uses.now)
 
 pub loop-at-preserved : goal.loop-at-preserved
 loop-at-preserved c =
@@ -14,10 +14,10 @@ loop-at-preserved c =
     let faces = c.loop-at.faces in
     elim c.if-is_first.branch [
       | then-is_first+in_ok-push w ↦
-          subst (AreFacesBefore rows uses (at + 1)) (sym (w.faces-is ∙ w.in_ok-push.ensures.ok))
-          (faces_pushed rows uses at faces w.at.result c.requires.ascending (omega arith) (c.is_first.ensures.first w.if-is_first.true) w.at.ensures c.loop-at.invariant)
+          subst (AreFacesBefore uses (at + 1)) (sym (w.faces-is ∙ w.in_ok-push.ensures.ok))
+          (faces_pushed uses at faces w.at.result c.requires.ascending (omega arith) (c.is_first.ensures.first w.if-is_first.true) w.at.ensures c.loop-at.invariant)
       | else-is_first w ↦
-          subst (AreFacesBefore rows uses (at + 1)) (sym w.faces-is) (faces_again rows uses at faces (c.is_first.ensures.later w.if-is_first.false) c.loop-at.invariant)
+          subst (AreFacesBefore uses (at + 1)) (sym w.faces-is) (faces_again uses at faces (c.is_first.ensures.later w.if-is_first.false) c.loop-at.invariant)
     ]
 
 pub returns : goal.returns

@@ -1,11 +1,38 @@
-use Rattle.std.proofs.Common.{true, false, sym, ap, ◌∙◌}
-use Rattle.mesh_files.proofs.Found.{marked, row_is}
+use Rattle.std.proofs.Common.{inl, inr, Bool, pos, sym, subst, ap, ◌∙◌}
+use Rattle.std.specs.Prelude.{ℕ, if◌then◌else◌, slice_index_or}
+use Rattle.std.proofs.lemmas.Bool.{true≢false}
+use Rattle.mesh_files.specs.FaceRows.{IsMarker, is_on_hull}
+use Rattle.mesh_files.specs.FacetFaces.{IsIn}
+use Rattle.mesh_files.proofs.markers.row_at.Goals.{then-all-via-then-all, then-all-via-else-all+then-on_hull}
 use Rattle.mesh_files.proofs.markers.row_at.Goals as goal
 
-pub returns-then-is_of_one_row : goal.returns-then-is_of_one_row
-returns-then-is_of_one_row c d =
-    ap (λ u. marked u.face true) (sym (c.at.ensures d)) ∙ row_is c.args.list.now _ true (sym c.if-is_of_one_row.true ∙ c.is_of_one_row.ensures d)
+pub returns-in-Some : goal.returns-in-Some
+returns-in-Some c d =
+    let same = ap (λ u. u.face) (sym (c.at.ensures d)) in
+    record {
+      corners_are = c.in_facet.ensures.corners ∙ same;
+      marker_is = subst (λ g. IsMarker (IsIn c.args.facets.now g) c.args.complex.now.facets (is_on_hull c.args.list.now (slice_index_or c.args.uses.now c.args.at d).face) c.in_facet.result.marker) same
+          (inl (c.in-Some.facet, c.in-Some.ensures, c.in_facet.ensures.marker));
+      asked = inr (inr (c.in-Some.facet, subst (λ g. IsIn c.args.facets.now g c.in-Some.facet) same c.in-Some.ensures.0));
+    }
 
-pub returns-else-is_of_one_row : goal.returns-else-is_of_one_row
-returns-else-is_of_one_row c d =
-    ap (λ u. marked u.face false) (sym (c.at.ensures d)) ∙ row_is c.args.list.now _ false (sym c.if-is_of_one_row.false ∙ c.is_of_one_row.ensures d)
+pub returns-then-all : goal.returns-then-all
+returns-then-all c d =
+    let same = ap (λ u. u.face) (sym (c.at.ensures d)) in
+    let hull = c.is_of_one_row-on_hull.ensures d in
+    record {
+      corners_are = c.in_no_facet.ensures.corners ∙ same;
+      marker_is = inr (subst (λ g. ¬ ((facet : ℕ) × IsIn c.args.facets.now g facet)) same c.in_default.ensures, c.in_no_facet.ensures.marker ∙ ap (λ (b : Bool). if b then pos 1 else pos 0) hull);
+      asked = elim c.then-all.branch [ then-all-via-then-all w ↦ inl w.if-all.true | then-all-via-else-all+then-on_hull w ↦ inr (inl (sym hull ∙ w.if-on_hull.true)) ];
+    }
+
+pub returns : goal.returns
+returns c d r w =
+    let same = ap (λ u. u.face) (sym (c.at.ensures d)) in
+    elim w.asked [
+      | inl h ↦ true≢false (sym h ∙ c.if-all.false)
+      | inr k ↦ elim k [
+        | inl h ↦ true≢false (sym h ∙ sym (c.is_of_one_row-on_hull.ensures d) ∙ c.if-on_hull.false)
+        | inr h ↦ subst (λ g. ¬ ((facet : ℕ) × IsIn c.args.facets.now g facet)) same c.in_default.ensures h
+      ]
+    ]

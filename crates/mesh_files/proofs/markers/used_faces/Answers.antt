@@ -1,31 +1,45 @@
 use Rattle.std.proofs.Common.{◌+◌, sym, subst, ◌∙◌, arith}
-use Rattle.std.proofs.lemmas.Bool.{true≢false}
-use Rattle.mesh_files.proofs.Found.{AreFoundBefore, found_first, found_again, found_not_asked, found_pushed, found_all}
-use Rattle.mesh_files.specs.FaceRows.{IsAsked}
-use Rattle.mesh_files.proofs.markers.used_faces.Goals.{then-is_first+then-is_asked+in_ok-push, then-is_first+else-is_asked, else-is_first}
+use Rattle.std.specs.Prelude.{◌↔◌}
+use Rattle.geo_laws.specs.declared.faces.Face.{Face}
+use Rattle.mesh_files.specs.FaceRows.{IsRowOf, corners_of}
+use Rattle.mesh_files.specs.FacetFaces.{IsIn}
+use Rattle.mesh_files.specs.declared.markers.FaceRow.{FaceRow}
+use Rattle.mesh_files.proofs.FacetFaces.{facets_there}
+use Rattle.mesh_files.proofs.Found.{AreFoundBefore, found_first, found_again, found_none, found_pushed}
+use Rattle.mesh_files.proofs.Marked.{IsListedRow, IsTriangleOf, listed_row, row_items, rows_found}
+use Rattle.mesh_files.proofs.markers.used_faces.Goals.{then-is_first+in-Some+in_ok-push, then-is_first+in_default, else-is_first}
 use Rattle.mesh_files.proofs.markers.used_faces.Goals as goal
 
 pub loop-at-init : goal.loop-at-init
-loop-at-init c = subst (AreFoundBefore c.args.list.now c.args.uses.now c.args.all 0) (sym c.in_ok-found.ensures) (found_first c.args.list.now c.args.uses.now c.args.all)
+loop-at-init c =
+    subst (AreFoundBefore corners_of (IsListedRow c.args.triangles.now c.args.complex.now c.args.list.now c.args.all) c.args.uses.now 0) (sym c.in_ok-found.ensures)
+    (found_first corners_of (IsListedRow c.args.triangles.now c.args.complex.now c.args.list.now c.args.all) c.args.uses.now)
+
+pub row_at-requires-clause-facets : goal.row_at-requires-clause-facets
+row_at-requires-clause-facets c = facets_there c.args.triangles.now c.in_ok-facets.facets c.args.complex.now c.in_ok-facets.ensures c.requires.facets
 
 pub loop-at-preserved : goal.loop-at-preserved
 loop-at-preserved c =
+    let triangles = c.args.triangles.now in
+    let complex = c.args.complex.now in
     let rows = c.args.list.now in
-    let uses = c.args.uses.now in
     let all = c.args.all in
+    let uses = c.args.uses.now in
     let at = c.loop-at.at in
     let found = c.loop-at.found in
+    let is = IsListedRow triangles complex rows all in
+    let listed : (f : Face) (r : FaceRow) → IsRowOf (IsIn c.in_ok-facets.facets) complex.facets rows all f r ↔ is f r = listed_row triangles c.in_ok-facets.facets c.in_ok-facets.ensures complex rows all in
     elim c.if-is_first.branch [
-      | then-is_first+then-is_asked+in_ok-push w ↦
-          subst (AreFoundBefore rows uses all (at + 1)) (sym (w.found-is ∙ w.in_ok-push.ensures.ok))
-          (found_pushed rows uses all at found w.row_at-row.result c.requires.ascending (omega arith) (c.is_first.ensures.first w.if-is_first.true) w.row_at-row.ensures
-          (w.is_asked.ensures.0 w.if-is_asked.true) c.loop-at.invariant)
-      | then-is_first+else-is_asked w ↦
-          subst (AreFoundBefore rows uses all (at + 1)) (sym w.found-is) (found_not_asked rows uses all at found
-          (λ d k. true≢false (sym (w.is_asked.ensures.1 (subst (IsAsked all) (sym (w.row_at-row.ensures d)) k)) ∙ w.if-is_asked.false)) c.loop-at.invariant)
+      | then-is_first+in-Some+in_ok-push w ↦
+          subst (AreFoundBefore corners_of is uses (at + 1)) (sym (w.found-is ∙ w.in_ok-push.ensures.ok))
+          (found_pushed corners_of is (row_items (IsTriangleOf triangles) complex.facets rows all) uses at found w.in-Some.row c.requires.uses.ascending (omega arith) (c.is_first.ensures.first w.if-is_first.true)
+          (λ d. (listed _ w.in-Some.row).0 (w.in-Some.ensures d)) c.loop-at.invariant)
+      | then-is_first+in_default w ↦
+          subst (AreFoundBefore corners_of is uses (at + 1)) (sym w.found-is) (found_none corners_of is uses at found (λ d r k. w.in_default.ensures d r ((listed _ r).1 k)) c.loop-at.invariant)
       | else-is_first w ↦
-          subst (AreFoundBefore rows uses all (at + 1)) (sym w.found-is) (found_again rows uses all at found (c.is_first.ensures.later w.if-is_first.false) c.loop-at.invariant)
+          subst (AreFoundBefore corners_of is uses (at + 1)) (sym w.found-is) (found_again corners_of is uses at found (c.is_first.ensures.later w.if-is_first.false) c.loop-at.invariant)
     ]
 
 pub returns : goal.returns
-returns c = found_all c.args.list.now c.args.uses.now c.args.all c.loop-at.at c.loop-at.found c.requires (omega arith) c.loop-at.invariant
+returns c =
+    rows_found c.args.points.now c.args.triangles.now c.args.list.now c.args.complex.now c.args.all c.args.uses.now c.loop-at.at c.loop-at.found c.requires.met c.requires.uses (omega arith) c.loop-at.invariant

@@ -1,6 +1,6 @@
 use Rattle.std.proofs.Common.{◌≡◌, ◌++◌, drop}
 use Rattle.mesh_files.specs.Texts.{ele_lines, ele_text}
-use Rattle.mesh_files.proofs.ele.write_ele.Given as goal
+use Rattle.mesh_files.proofs.ele.write_rows.Given as goal
 
 -- the text so far, and the lines of the rows that are left, make up the whole
 abbrev pub invariant-loop-i : goal.invariant-loop-i

@@ -1,7 +1,7 @@
 use Rattle.std.proofs.Common.{arith}
 use Rattle.mesh_files.specs.Texts.{ele_line}
 use Rattle.mesh_files.proofs.Lines.{next_line}
-use Rattle.mesh_files.proofs.ele.write_ele.Goals as goal
+use Rattle.mesh_files.proofs.ele.write_rows.Goals as goal
 
 pub loop-i-preserved : goal.loop-i-preserved
 loop-i-preserved c =
