@@ -2,6 +2,7 @@
 use Rattle.std.proofs.Common.{◌≡◌, ◌⊎◌, inl, inr, ℕ, zero, suc, ◌<◌, Bool, true, false, not, ◌||◌, ◌&&◌, List, [], ◌∷◌, ◌++◌, length, Option, Some, None, Result, Ok, if◌then◌else◌, refl, sym, ap, ◌∙◌, subst, arith}
 use Rattle.std.specs.Prelude.{AllPairs, Contains, ◌↔◌, codes}
 use Rattle.std.proofs.lemmas.Bool.{true≢false}
+use Rattle.geo_laws.specs.Complex.{empty_complex}
 use Rattle.geo_laws.specs.Delaunay.{delaunay_rows}
 use Rattle.geo_laws.specs.Faces.{FaceBefore, SideBefore, faces_of_rows, sides_of_rows, AreFacesOf, AreSidesOf}
 use Rattle.geo_laws.specs.declared.faces.Face.{Face}
@@ -89,7 +90,7 @@ module _ (options : Options) (table : NodeTable) (first : ℕ) (rows : List Tet)
   marked_same e =
       let one = a.marked_are e in
       let two = b.marked_are e in
-      lists_same (λ r s. FaceBefore (corners_of r) (corners_of s)) (λ r s. faces_never (corners_of r) (corners_of s)) (IsFaceRow rows options.all_faces) a.marked b.marked one.ascending two.ascending one.exactly two.exactly
+      lists_same (λ r s. FaceBefore (corners_of r) (corners_of s)) (λ r s. faces_never (corners_of r) (corners_of s)) (IsFaceRow table.points rows empty_complex [] options.all_faces) a.marked b.marked one.ascending two.ascending one.exactly two.exactly
 
   faces_same : options.quiet ≡ false → a.faces ≡ b.faces
   faces_same e =

@@ -1,6 +1,7 @@
 -- The files and the summary of a mesh.
 use Rattle.std.specs.Prelude.{◌≡◌, ℕ, Bool, true, false, ◌||◌, ◌&&◌, not, List, [], ◌∷◌, ◌++◌, length, Option, Some, None, codes, if◌then◌else◌}
 use Rattle.std.specs.Fmt.{decimal}
+use Rattle.geo_laws.specs.Complex.{empty_complex}
 use Rattle.geo_laws.specs.Faces.{AreFacesOf, AreSidesOf}
 use Rattle.geo_laws.specs.declared.faces.Face.{Face}
 use Rattle.geo_laws.specs.declared.faces.Side.{Side}
@@ -11,6 +12,7 @@ use Rattle.mesh_files.specs.Texts.{ele_text, face_text, edge_text, neigh_text}
 use Rattle.mesh_files.specs.declared.markers.FaceRow.{FaceRow}
 use Rattle.node_files.specs.Writing.{node_text}
 use Rattle.node_files.specs.declared.table.NodeTable.{NodeTable}
+use Rattle.sign_predicates.specs.Point.{Point}
 use Rattle.tetgen.specs.Messages.{file_message}
 use Rattle.tetgen.specs.declared.outputs.FaceOutputs.{FaceOutputs}
 use Rattle.tetgen.specs.declared.outputs.Outputs.{Outputs}
@@ -64,10 +66,10 @@ names_sides options = not options.quiet || (not options.no_face && options.edges
 abbrev pub asks_uses : Options → Bool
 asks_uses options = not options.quiet || (not options.no_face || options.neighbors)
 
--- what is told of the faces of rows, where a file or the summary speaks of them
-pub record AreFaceOutputsOf (options : Options) (first : ℕ) (rows : List Tet) (outputs : FaceOutputs) : Type 0 where
+-- what is told of the faces of rows on points without facets, where a file or the summary speaks of them
+pub record AreFaceOutputsOf (options : Options) (first : ℕ) (points : List Point) (rows : List Tet) (outputs : FaceOutputs) : Type 0 where
   pub marked : List FaceRow
-  pub marked_are : options.no_face ≡ false → AreFaceRowsOf rows options.all_faces marked
+  pub marked_are : options.no_face ≡ false → AreFaceRowsOf points rows empty_complex [] options.all_faces marked
   pub faces : List Face
   pub faces_are : options.quiet ≡ false → AreFacesOf rows faces
   pub marked_is : outputs.marked.items ≡ face_file options first marked
@@ -85,7 +87,7 @@ pub record AreSideOutputsOf (options : Options) (first : ℕ) (rows : List Tet) 
 -- the summary speaks of them
 pub record AreOutputsOf (options : Options) (table : NodeTable) (first : ℕ) (rows : List Tet) (outputs : Outputs) : Type 0 where
   pub marked : List FaceRow
-  pub marked_are : options.no_face ≡ false → AreFaceRowsOf rows options.all_faces marked
+  pub marked_are : options.no_face ≡ false → AreFaceRowsOf table.points rows empty_complex [] options.all_faces marked
   pub faces : List Face
   pub faces_are : options.quiet ≡ false → AreFacesOf rows faces
   pub sides : List Side

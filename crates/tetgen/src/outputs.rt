@@ -1,4 +1,5 @@
-ghost use Rattle.std.specs.Prelude.{◌≡◌, true, false, ◌<◌, ◌^◌, ◌++◌, List, length, All, IfOk, OnOk};
+ghost use Rattle.std.specs.Prelude.{◌≡◌, [], true, false, ◌<◌, ◌^◌, ◌++◌, List, length, All, IfOk, OnOk};
+ghost use Rattle.geo_laws.specs.Complex.{empty_complex};
 ghost use Rattle.geo_laws.specs.Faces.{AreFacesOf, AreSidesOf};
 ghost use Rattle.geo_laws.specs.declared.faces.Face.{Face};
 ghost use Rattle.hole_carve.specs.Uses.{AreUsesOf};
@@ -10,7 +11,7 @@ use crate::message::{append_number, file_message};
 use crate::names::with_extension;
 use crate::store::NamedText;
 use crate::words::Options;
-use geo_laws::{Points, TetList};
+use geo_laws::{Complex, FacetTriangles, Points, TetList};
 use hole_carve::{Uses, pair_uses, uses_of};
 use mesh_files::{
     Edges, FaceRows, edges_of, face_count, used_faces, write_edge, write_ele, write_face,
@@ -59,7 +60,7 @@ pub fn outputs_of(
         marked,
         neighbors,
         count: faces,
-    } = face_outputs(alloc, options, first, rows)?;
+    } = face_outputs(alloc, options, first, &table.points, rows)?;
     let SideOutputs {
         edges,
         count: sides,
@@ -92,15 +93,16 @@ fn face_outputs(
     alloc: Global,
     options: &Options,
     first: u32,
+    points: &Points,
     rows: &TetList,
 ) -> Result<FaceOutputs, NoMemory>
-    ensures { IfOk result (AreFaceOutputsOf options.now first rows.now) }
+    ensures { IfOk result (AreFaceOutputsOf options.now first points.now rows.now) }
 {
     let uses = wanted_uses(alloc, options, rows)?;
     let count = wanted_face_count(options, rows, &uses);
     let mut neighbors = Vec::new(alloc);
     append_neigh(alloc, options, first, rows, &uses, &mut neighbors)?;
-    let faces = wanted_face_rows(alloc, options, rows, uses)?;
+    let faces = wanted_face_rows(alloc, options, points, rows, uses)?;
     let mut marked = Vec::new(alloc);
     append_face(alloc, options, first, &faces, &mut marked)?;
     Ok(FaceOutputs {
@@ -149,20 +151,23 @@ fn wanted_face_count(options: &Options, rows: &TetList, uses: &Uses) -> usize
     face_count(rows, uses)
 }
 
-/// The rows of the face file, if it is asked for. The uses are let go.
+/// The rows of the face file, if it is asked for, on points without facets. The uses are let go.
 fn wanted_face_rows(
     alloc: Global,
     options: &Options,
+    points: &Points,
     rows: &TetList,
     uses: Uses,
 ) -> Result<FaceRows, NoMemory>
     requires { asks_uses options.now ≡ true → AreUsesOf rows.now uses }
-    ensures { IfOk result (λ marked. options.now.no_face ≡ false → AreFaceRowsOf rows.now options.now.all_faces marked) }
+    ensures { IfOk result (λ marked. options.now.no_face ≡ false → AreFaceRowsOf points.now rows.now empty_complex [] options.now.all_faces marked) }
 {
     if options.no_face {
         return Ok(FaceRows::new(alloc));
     }
-    used_faces(alloc, rows, &uses, options.all_faces)
+    let complex = Complex::new(alloc);
+    let triangles = FacetTriangles::new(alloc);
+    used_faces(alloc, points, rows, &uses, &complex, &triangles, options.all_faces)
 }
 
 /// The sides, if the edge file or the summary is asked for.
@@ -230,7 +235,7 @@ fn append_ele(
     if options.no_ele {
         return Ok(());
     }
-    let text = write_ele(alloc, rows, first)?;
+    let text = write_ele(alloc, rows, None, &Complex::new(alloc), first)?;
     texts.push(named(alloc, &options.base, b".1.ele", text)?)?;
     Ok(())
 }
