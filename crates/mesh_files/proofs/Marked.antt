@@ -136,8 +136,9 @@ pub rows_found : (ps : List Point) (ts : List FacetTriangle) (rows : List Tet) (
     → at ≡ length uses → AreFoundBefore corners_of (IsListedRow ts complex rows all) uses at found → AreFaceRowsOf ps rows complex ts all found
 rows_found ps ts rows complex all uses at found met a end f = record {
   exactly = λ r.
-      let o = found_all corners_of (IsListedRow ts complex rows all) rows uses at found a end f r in
-      (λ h. let w = o.0 h in (w.0, w.1, row_by (IsTriangleOf ts) (λ g facet. LiesIn ps ts facet g) complex.facets rows all w.0 r (λ facet. let s = lies_in ps ts rows met w.0 w.1 facet in (s.1, s.0)) w.2),
-      λ w. o.1 (w.0, w.1, row_by (λ g facet. LiesIn ps ts facet g) (IsTriangleOf ts) complex.facets rows all w.0 r (lies_in ps ts rows met w.0 w.1) w.2));
+      let o = found_all corners_of (IsListedRow ts complex rows all) rows uses at found a end f r in (
+        λ h. let w = o.0 h in (w.0, w.1, row_by (IsTriangleOf ts) (λ g facet. LiesIn ps ts facet g) complex.facets rows all w.0 r (λ facet. let s = lies_in ps ts rows met w.0 w.1 facet in (s.1, s.0)) w.2),
+        λ w. o.1 (w.0, w.1, row_by (λ g facet. LiesIn ps ts facet g) (IsTriangleOf ts) complex.facets rows all w.0 r (lies_in ps ts rows met w.0 w.1) w.2),
+      );
   ascending = f.ascending;
 }

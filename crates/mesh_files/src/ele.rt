@@ -110,11 +110,7 @@ fn append_attributed(
 }
 
 /// Appends the attribute of the region that the mark names, and `0` where there is none.
-fn append_attribute(
-    out: &mut Bytes,
-    complex: &Complex,
-    mark: Option<u32>,
-) -> Result<(), NoMemory>
+fn append_attribute(out: &mut Bytes, complex: &Complex, mark: Option<u32>) -> Result<(), NoMemory>
     requires { IfSome mark (λ r. r < length complex.now.regions) }
     ensures { OnOk result (out.new ≡ out.old ++ attribute_of complex.now.regions mark) }
 {

@@ -119,7 +119,14 @@ fn attributes_of_rows(rt: HostRuntime) -> Result<(), Fail> {
 fn bare_face_rows(alloc: Global, list: &TetList, all: bool) -> Result<FaceRows, NoMemory> {
     let points = Points::new(alloc);
     let complex = Complex::new(alloc);
-    face_rows(alloc, &points, list, &complex, &FacetTriangles::new(alloc), all)
+    face_rows(
+        alloc,
+        &points,
+        list,
+        &complex,
+        &FacetTriangles::new(alloc),
+        all,
+    )
 }
 
 /// The faces as text, all of them or those on the surface.

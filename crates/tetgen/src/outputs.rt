@@ -167,7 +167,15 @@ fn wanted_face_rows(
     }
     let complex = Complex::new(alloc);
     let triangles = FacetTriangles::new(alloc);
-    used_faces(alloc, points, rows, &uses, &complex, &triangles, options.all_faces)
+    used_faces(
+        alloc,
+        points,
+        rows,
+        &uses,
+        &complex,
+        &triangles,
+        options.all_faces,
+    )
 }
 
 /// The sides, if the edge file or the summary is asked for.
