@@ -7,3 +7,4 @@ pub mod Meeting
 pub mod Turns
 pub mod Entering
 pub mod Centroid
+pub mod Ties

@@ -4,6 +4,7 @@
 mod boxes;
 mod centroid;
 mod entering;
+mod laws;
 mod meeting;
 mod orientation;
 mod point;
@@ -15,6 +16,7 @@ mod vector;
 pub use boxes::boxes_apart;
 pub use centroid::{normal_sign, orient_centroid, turn_centroid, turn_sign};
 pub use entering::triangle_enters;
+pub use laws::law_ties;
 pub use meeting::{segment_meets_triangle, segments_meet, spans_plane, triangles_meet};
 pub use orientation::{beyond, coplanar, in_tet, orient, orient_rat};
 pub use point::{GridPoint, RatPoint};

@@ -1,6 +1,6 @@
-use Rattle.std.proofs.Common.{◌≡◌, ℕ, ◌^◌, ◌≤◌, List, [], ◌∷◌, refl, arith, ℤ, pos, w32, w64, to_z, of_z, unsigned_abs, subst, sym}
+use Rattle.std.proofs.Common.{◌≡◌, ℕ, ◌^◌, ◌≤◌, List, [], ◌∷◌, arith, ℤ, pos, w32, w64, to_z, of_z, unsigned_abs, subst, sym}
 use Rattle.exact_algebra.proofs.Ring.{Expr, num, var, add, sub, mul, eval}
-use Rattle.exact_algebra.proofs.Size.{machine, machine_at, raw_fits_at, back, eval_within, AllWithin, AllSame}
+use Rattle.exact_algebra.proofs.Size.{machine, machine_at, raw_fits_at, back, eval_within, AllWithin}
 use Rattle.sign_predicates.proofs.centroid.four_times.Goals as goal
 
 abbrev four : Expr

@@ -1,4 +1,4 @@
-use Rattle.std.proofs.Common.{◌≡◌, ◌^◌, ◌≤◌, ℕ, List, [], ◌∷◌, arith, ℤ, w64}
+use Rattle.std.proofs.Common.{◌^◌, ℕ, List, [], ◌∷◌, arith, ℤ, w64}
 use Rattle.exact_algebra.proofs.Ring.{Expr, var, add, sub, mul}
 use Rattle.exact_algebra.proofs.Size.{machine_cast, raw_fits_cast, AllWithin}
 use mir.Syntax.{w128}
