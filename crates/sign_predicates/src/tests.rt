@@ -1,3 +1,5 @@
+//! Signs at worked points.
+
 use crate::orientation::orient_sum;
 use crate::sphere::in_sphere;
 use crate::{
@@ -5,8 +7,6 @@ use crate::{
     orient_rat, outside, segment_meets_triangle, segments_meet, spans_plane, triangle_enters,
     triangles_meet,
 };
-
-const FAR: i32 = 8_388_608;
 
 fn at(p: [i8; 3]) -> GridPoint {
     GridPoint {
@@ -25,50 +25,63 @@ fn tet(p: [[i8; 3]; 4]) -> Corners {
     }
 }
 
+fn numbers(n: [u32; 4]) -> Numbers {
+    Numbers {
+        a: n[0],
+        b: n[1],
+        c: n[2],
+        d: n[3],
+    }
+}
+
 const UNIT: [[i8; 3]; 4] = [[0, 0, 0], [1, 0, 0], [0, 1, 0], [0, 0, 1]];
 
 const FOUR: [[i8; 3]; 4] = [[0, 0, 0], [4, 0, 0], [0, 4, 0], [0, 0, 4]];
 
+// Two halves of a pyramid over a square.
+const LEFT: [[i8; 3]; 4] = [[0, 0, 0], [2, 0, 0], [0, 2, 0], [1, 1, 2]];
+
+const RIGHT: [[i8; 3]; 4] = [[0, 0, 0], [2, 0, 0], [2, 2, 0], [1, 1, 2]];
+
+// A triangle, and three points of a line.
+const FLAT: [[i8; 3]; 3] = [[0, 0, 0], [4, 0, 0], [0, 4, 0]];
+
+const LINE: [[i8; 3]; 3] = [[0, 0, 0], [4, 0, 0], [2, 0, 0]];
+
 #[test]
-fn spheres(rt: HostRuntime) {
-    assert_eq!(rt; in_sphere(tet(UNIT), at([2, 2, 2])), -6);
-    assert_eq!(rt; in_sphere(tet(UNIT), at([1, 1, 1])), 0);
-    let left = [[0, 0, 0], [2, 0, 0], [0, 2, 0], [1, 1, 2]];
-    let right = [[0, 0, 0], [2, 0, 0], [2, 2, 0], [1, 1, 2]];
-    let cases = [
-        ("off the sphere", UNIT, [0, 1, 2, 3], [2, 2, 2], 4, true),
-        ("in the sphere", FOUR, [0, 1, 2, 3], [1, 1, 1], 4, false),
-        (
-            "beyond the face of 0",
-            UNIT,
-            [0, 1, 2, 3],
-            [1, 1, 1],
-            4,
-            true,
-        ),
-        ("the point is 0", UNIT, [4, 1, 2, 3], [1, 1, 1], 0, true),
-        ("on the side of 0", UNIT, [4, 0, 2, 3], [1, 1, 1], 1, false),
-        ("pyramid, beyond", left, [0, 1, 3, 4], [2, 2, 0], 2, true),
-        (
-            "pyramid, on a plane",
-            right,
-            [0, 1, 2, 4],
-            [0, 2, 0],
-            3,
-            false,
-        ),
-    ];
-    for (name, corners, n, p, m, want) in cases {
-        let numbers = Numbers {
-            a: n[0],
-            b: n[1],
-            c: n[2],
-            d: n[3],
-        };
-        assert_eq!(rt; outside(tet(corners), numbers, at(p), m), want, "{name}");
+fn sphere_sums(rt: HostRuntime) {
+    let cases = [([2, 2, 2], -6), ([1, 1, 1], 0)];
+    for (p, want) in cases {
+        assert_eq!(rt; in_sphere(tet(UNIT), at(p)), want);
     }
 }
 
+fn is_outside(corners: [[i8; 3]; 4], n: [u32; 4], p: [i8; 3], m: u32) -> bool {
+    outside(tet(corners), numbers(n), at(p), m)
+}
+
+#[test]
+fn spheres(rt: HostRuntime) {
+    let cases = [
+        ("off the sphere", UNIT, [0, 1, 2, 3], [2, 2, 2], 4, true),
+        ("in the sphere", FOUR, [0, 1, 2, 3], [1, 1, 1], 4, false),
+        ("beyond face 0", UNIT, [0, 1, 2, 3], [1, 1, 1], 4, true),
+        ("the point is 0", UNIT, [4, 1, 2, 3], [1, 1, 1], 0, true),
+        ("on the side of 0", UNIT, [4, 0, 2, 3], [1, 1, 1], 1, false),
+        ("pyramid, beyond", LEFT, [0, 1, 3, 4], [2, 2, 0], 2, true),
+        ("pyramid, plane", RIGHT, [0, 1, 2, 4], [0, 2, 0], 3, false),
+    ];
+    for (name, corners, n, p, m, want) in cases {
+        assert_eq!(rt; is_outside(corners, n, p, m), want, "{name}");
+    }
+}
+
+const FAR: i32 = 8_388_608;
+
+// The greatest size of a coordinate of a rational point, over 10^6.
+const BEYOND: i64 = 8_388_609_000_000;
+
+// Five corners of the cube of all points.
 fn far() -> [GridPoint; 5] {
     [
         GridPoint {
@@ -99,62 +112,119 @@ fn far() -> [GridPoint; 5] {
     ]
 }
 
-#[test]
-fn greatest_coordinates(rt: HostRuntime) {
+// The orientation of the first four of these, and of the last four.
+fn far_sums() -> [i128; 2] {
     let [a, b, c, d, e] = far();
-    assert_eq!(rt; orient_sum(a, b, c, d), 4_722_366_482_869_645_213_696);
-    assert_eq!(rt; orient_sum(b, c, d, e), 9_444_732_965_739_290_427_392);
-    let first = &Corners { a, b, c, d };
-    let second = Corners {
+    [orient_sum(a, b, c, d), orient_sum(b, c, d, e)]
+}
+
+#[test]
+fn greatest_sums(rt: HostRuntime) {
+    let want = [4_722_366_482_869_645_213_696, 9_444_732_965_739_290_427_392];
+    assert_eq!(rt; far_sums(), want);
+}
+
+fn far_sphere_sum() -> i128 {
+    let [a, b, c, d, e] = far();
+    in_sphere(Corners { a, b, c, d }, e)
+}
+
+#[test]
+fn greatest_sphere(rt: HostRuntime) {
+    assert_eq!(rt; far_sphere_sum(), 0);
+}
+
+// Whether the last is outside of the first four, and the first outside of the last four.
+fn far_outside() -> [bool; 2] {
+    let [a, b, c, d, e] = far();
+    let last = outside(Corners { a, b, c, d }, numbers([0, 1, 2, 3]), e, 4);
+    let others = Corners {
         a: b,
         b: c,
         c: d,
         d: e,
     };
-    assert_eq!(rt; in_sphere(*first, e), 0);
-    let numbers = Numbers {
-        a: 0,
-        b: 1,
-        c: 2,
-        d: 3,
-    };
-    assert!(rt; outside(*first, numbers, e, 4));
-    let numbers = Numbers {
-        a: 1,
-        b: 2,
-        c: 3,
-        d: 4,
-    };
-    assert!(rt; outside(second, numbers, a, 0));
-    let x = 8_388_609_000_000;
+    [last, outside(others, numbers([1, 2, 3, 4]), a, 0)]
+}
+
+#[test]
+fn greatest_ties(rt: HostRuntime) {
+    assert_eq!(rt; far_outside(), [true, true]);
+}
+
+// The farthest rational point against a face, and a corner against its own face.
+fn far_rational() -> [Sign; 2] {
+    let [a, b, c, d, _] = far();
     let corner = RatPoint {
-        x,
-        y: x,
-        z: x,
+        x: BEYOND,
+        y: BEYOND,
+        z: BEYOND,
         w: 1_000_000,
     };
-    assert!(rt; orient_rat(b, d, c, corner) == Sign::Below);
-    assert!(rt; orient_rat(a, b, c, RatPoint::of(b)) == Sign::Zero);
+    [
+        orient_rat(b, d, c, corner),
+        orient_rat(a, b, c, RatPoint::of(b)),
+    ]
+}
+
+#[test]
+fn greatest_rational_points(rt: HostRuntime) {
+    assert_eq!(rt; far_rational(), [Sign::Below, Sign::Zero]);
+}
+
+fn orientation(p: [[i8; 3]; 4]) -> Sign {
+    orient(at(p[0]), at(p[1]), at(p[2]), at(p[3]))
+}
+
+#[test]
+fn orientations(rt: HostRuntime) {
+    let turned = [UNIT[0], UNIT[2], UNIT[1], UNIT[3]];
+    let signs = [orientation(UNIT), orientation(turned)];
+    assert_eq!(rt; signs, [Sign::Above, Sign::Below]);
+}
+
+fn lie_in_a_plane(p: [[i8; 3]; 4]) -> bool {
+    coplanar(at(p[0]), at(p[1]), at(p[2]), at(p[3]))
 }
 
 #[test]
 fn planes(rt: HostRuntime) {
-    let t = tet(UNIT);
-    assert!(rt; orient(t.a, t.b, t.c, t.d) == Sign::Above);
-    assert!(rt; orient(t.a, t.c, t.b, t.d) == Sign::Below);
-    assert!(rt; coplanar(t.a, t.b, t.c, at([1, 1, 0])));
-    assert!(rt; !coplanar(t.a, t.b, t.c, t.d));
+    let square = [UNIT[0], UNIT[1], UNIT[2], [1, 1, 0]];
+    let flat = [lie_in_a_plane(square), lie_in_a_plane(UNIT)];
+    assert_eq!(rt; flat, [true, false]);
+}
+
+fn beyond_unit(corner: u8, p: [i8; 3]) -> Option<Sign> {
+    if corner < 4 {
+        Some(beyond(tet(UNIT), corner, at(p)))
+    } else {
+        None
+    }
+}
+
+#[test]
+fn faces(rt: HostRuntime) {
     let cases = [
-        (0u8, [2, 2, 2], Sign::Above),
+        (0, [2, 2, 2], Sign::Above),
         (1, [2, 2, 2], Sign::Below),
         (1, [0, 5, 5], Sign::Zero),
         (2, [0, -1, 0], Sign::Above),
         (3, [0, 0, -1], Sign::Above),
     ];
     for (corner, p, want) in cases {
-        assert!(rt; corner < 4);
-        assert!(rt; beyond(tet(UNIT), corner, at(p)) == want, "{corner}");
+        assert_eq!(rt; beyond_unit(corner, p), Some(want), "{corner}");
     }
+}
+
+// How the unit tetrahedron holds the point, in millionths.
+fn holds(p: [i32; 3]) -> Hold {
+    let x = RatPoint {
+        x: p[0] as i64,
+        y: p[1] as i64,
+        z: p[2] as i64,
+        w: 1_000_000,
+    };
+    in_tet(tet(UNIT), x)
 }
 
 #[test]
@@ -167,20 +237,17 @@ fn rational_points(rt: HostRuntime) {
         ([-1, 500_000, 0], Hold::Outside),
     ];
     for (p, want) in cases {
-        let p: [i32; 3] = p;
-        let x = RatPoint {
-            x: p[0] as i64,
-            y: p[1] as i64,
-            z: p[2] as i64,
-            w: 1_000_000,
-        };
-        assert!(rt; in_tet(tet(UNIT), x) == want);
+        assert_eq!(rt; holds(p), want);
     }
+}
+
+fn segments(p: [[i8; 3]; 4]) -> bool {
+    segments_meet(at(p[0]), at(p[1]), at(p[2]), at(p[3]))
 }
 
 #[test]
 fn segments_that_meet(rt: HostRuntime) {
-    let cases: [([[i8; 3]; 4], bool); 9] = [
+    let cases = [
         ([[0, 0, 0], [2, 2, 0], [0, 2, 0], [2, 0, 0]], true),
         ([[0, 0, 0], [2, 2, 0], [0, 2, 1], [2, 0, 1]], false),
         ([[0, 0, 0], [2, 2, 0], [1, 1, 0], [2, 0, 0]], true),
@@ -192,37 +259,42 @@ fn segments_that_meet(rt: HostRuntime) {
         ([[1, 1, 1], [1, 1, 1], [1, 1, 2], [1, 1, 3]], false),
     ];
     for (p, want) in cases {
-        assert_eq!(rt; segments_meet(at(p[0]), at(p[1]), at(p[2]), at(p[3])), want);
+        assert_eq!(rt; segments(p), want);
     }
+}
+
+fn segment_and_triangle(s: [[i8; 3]; 2], f: [[i8; 3]; 3]) -> bool {
+    segment_meets_triangle(at(s[0]), at(s[1]), at(f[0]), at(f[1]), at(f[2]))
 }
 
 #[test]
 fn segments_and_triangles(rt: HostRuntime) {
-    let flat = [[0, 0, 0], [4, 0, 0], [0, 4, 0]];
-    let line = [[0, 0, 0], [4, 0, 0], [2, 0, 0]];
-    let cases: [([[i8; 3]; 3], [[i8; 3]; 2], bool); 11] = [
-        (flat, [[1, 1, 1], [1, 1, -1]], true),
-        (flat, [[1, 1, -1], [1, 1, 1]], true),
-        (flat, [[3, 3, 1], [3, 3, -1]], false),
-        (flat, [[1, 1, 1], [1, 1, 2]], false),
-        (flat, [[0, 0, 0], [0, 0, 5]], true),
-        (flat, [[2, 2, 3], [2, 2, 0]], true),
-        (flat, [[-1, 1, 0], [5, 1, 0]], true),
-        (flat, [[1, 1, 0], [1, 1, 0]], true),
-        (flat, [[5, 0, 0], [9, 0, 0]], false),
-        (line, [[3, 0, 1], [3, 0, -1]], true),
-        (line, [[5, 0, 1], [5, 0, -1]], false),
+    let cases = [
+        (FLAT, [[1, 1, 1], [1, 1, -1]], true),
+        (FLAT, [[1, 1, -1], [1, 1, 1]], true),
+        (FLAT, [[3, 3, 1], [3, 3, -1]], false),
+        (FLAT, [[1, 1, 1], [1, 1, 2]], false),
+        (FLAT, [[0, 0, 0], [0, 0, 5]], true),
+        (FLAT, [[2, 2, 3], [2, 2, 0]], true),
+        (FLAT, [[-1, 1, 0], [5, 1, 0]], true),
+        (FLAT, [[1, 1, 0], [1, 1, 0]], true),
+        (FLAT, [[5, 0, 0], [9, 0, 0]], false),
+        (LINE, [[3, 0, 1], [3, 0, -1]], true),
+        (LINE, [[5, 0, 1], [5, 0, -1]], false),
     ];
     for (f, s, want) in cases {
-        let got = segment_meets_triangle(at(s[0]), at(s[1]), at(f[0]), at(f[1]), at(f[2]));
-        assert_eq!(rt; got, want);
+        assert_eq!(rt; segment_and_triangle(s, f), want);
     }
+}
+
+fn meets_flat(f: [[i8; 3]; 3]) -> bool {
+    let [a, b, c] = FLAT;
+    triangles_meet(at(a), at(b), at(c), at(f[0]), at(f[1]), at(f[2]))
 }
 
 #[test]
 fn triangles_that_meet(rt: HostRuntime) {
-    let flat = [[0, 0, 0], [4, 0, 0], [0, 4, 0]];
-    let cases: [([[i8; 3]; 3], bool); 6] = [
+    let cases = [
         ([[1, 1, -1], [1, 1, 1], [9, 9, 1]], true),
         ([[1, 1, 1], [2, 1, 1], [1, 2, 1]], false),
         ([[1, 1, 0], [2, 1, 0], [1, 2, 0]], true),
@@ -231,20 +303,13 @@ fn triangles_that_meet(rt: HostRuntime) {
         ([[3, 3, -1], [3, 3, 1], [9, 9, 1]], false),
     ];
     for (f, want) in cases {
-        let got = triangles_meet(
-            at(flat[0]),
-            at(flat[1]),
-            at(flat[2]),
-            at(f[0]),
-            at(f[1]),
-            at(f[2]),
-        );
-        assert_eq!(rt; got, want);
+        assert_eq!(rt; meets_flat(f), want);
     }
 }
 
-fn enters(t: [[i8; 3]; 4], f: [[i8; 3]; 3]) -> Option<bool> {
-    let t = tet(t);
+// Whether the triangle enters the tetrahedron, or None where its corners are on a line.
+fn enters_four(f: [[i8; 3]; 3]) -> Option<bool> {
+    let t = tet(FOUR);
     let (a, b, c) = (at(f[0]), at(f[1]), at(f[2]));
     if orient(t.a, t.b, t.c, t.d) == Sign::Above && spans_plane(a, b, c) {
         Some(triangle_enters(t, a, b, c))
@@ -255,18 +320,18 @@ fn enters(t: [[i8; 3]; 4], f: [[i8; 3]; 3]) -> Option<bool> {
 
 #[test]
 fn triangles_that_enter(rt: HostRuntime) {
-    let cases: [([[i8; 3]; 3], bool); 8] = [
-        ([[1, 1, 1], [9, 9, 9], [9, 0, 9]], true),
-        ([[-9, -9, 1], [30, -9, 1], [-9, 30, 1]], true),
-        ([[0, 0, 0], [4, 0, 0], [0, 4, 0]], false),
-        ([[0, 0, -1], [4, 0, -1], [0, 4, -1]], false),
-        ([[0, 0, 0], [-4, 0, 1], [0, -4, 1]], false),
-        ([[-1, 1, 1], [9, 1, 1], [9, 9, 9]], true),
-        ([[0, 0, 0], [4, 4, 0], [0, 0, 4]], true),
-        ([[4, 0, 0], [0, 4, 0], [9, 9, -9]], false),
+    let cases = [
+        ([[1, 1, 1], [9, 9, 9], [9, 0, 9]], Some(true)),
+        ([[-9, -9, 1], [30, -9, 1], [-9, 30, 1]], Some(true)),
+        ([[0, 0, 0], [4, 0, 0], [0, 4, 0]], Some(false)),
+        ([[0, 0, -1], [4, 0, -1], [0, 4, -1]], Some(false)),
+        ([[0, 0, 0], [-4, 0, 1], [0, -4, 1]], Some(false)),
+        ([[-1, 1, 1], [9, 1, 1], [9, 9, 9]], Some(true)),
+        ([[0, 0, 0], [4, 4, 0], [0, 0, 4]], Some(true)),
+        ([[4, 0, 0], [0, 4, 0], [9, 9, -9]], Some(false)),
+        ([[0, 0, 0], [1, 1, 1], [2, 2, 2]], None),
     ];
     for (f, want) in cases {
-        assert_eq!(rt; enters(FOUR, f), Some(want));
+        assert_eq!(rt; enters_four(f), want);
     }
-    assert_eq!(rt; enters(FOUR, [[0, 0, 0], [1, 1, 1], [2, 2, 2]]), None);
 }

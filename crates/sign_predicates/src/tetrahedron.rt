@@ -1,7 +1,7 @@
 use crate::GridPoint;
 
 /// The four corners of a tetrahedron. It is positive where `orient(a, b, c, d)` is above 0.
-#[derive(Clone, Copy, PartialEq, Eq)]
+#[derive(Clone, Copy, Debug, PartialEq, Eq)]
 pub struct Corners {
     pub a: GridPoint,
     pub b: GridPoint,
@@ -10,7 +10,7 @@ pub struct Corners {
 }
 
 /// The numbers of a tetrahedron's corners, which are places in a list of points, from 0.
-#[derive(Clone, Copy, PartialEq, Eq)]
+#[derive(Clone, Copy, Debug, PartialEq, Eq)]
 pub struct Numbers {
     pub a: u32,
     pub b: u32,
@@ -19,7 +19,7 @@ pub struct Numbers {
 }
 
 /// The sign of a number.
-#[derive(Clone, Copy, PartialEq, Eq)]
+#[derive(Clone, Copy, Debug, PartialEq, Eq)]
 pub enum Sign {
     Below,
     Zero,
@@ -27,7 +27,7 @@ pub enum Sign {
 }
 
 /// How a tetrahedron holds a point: strictly inside, on its surface, or not at all.
-#[derive(Clone, Copy, PartialEq, Eq)]
+#[derive(Clone, Copy, Debug, PartialEq, Eq)]
 pub enum Hold {
     Inside,
     Touching,
