@@ -1,7 +1,9 @@
-//! Fields and lines that are wanted, and the first fault where they are not there.
+//! Fields and lines that are wanted, and the first fault where they are not there. Each call passes
+//! over the field or line that it asks for, where there is one, also if it refuses it.
 
-ghost use Rattle.std.specs.Prelude.{◌≡◌, ◌<◌, ◌+◌, ◌^◌, IfOk};
-ghost use Rattle.tet_text.specs.Reading.{left_after, field_at, count_at, whole_at, decimal_at, end_at, line_at, text_end_at};
+ghost use Rattle.std.specs.Prelude.{◌≡◌, ◌<◌, ◌+◌, ◌^◌, drop, IfOk};
+ghost use Rattle.tet_text.specs.Reading.{left_after, field_at, count_at, whole_at, decimal_at};
+ghost use Rattle.tet_text.specs.Reading.{end_at, line_at, text_end_at};
 
 use crate::{
     Decimal, Field, Fields, Lines, TextFault, TextKind, read_count, read_decimal, read_whole,
@@ -10,7 +12,9 @@ use crate::{
 impl<'a> Fields<'a> {
     /// The next field; Ended where the line has no further one.
     pub fn want_field(&mut self) -> Result<Field<'a>, TextFault>
-        ensures value { left_after (λ field. field.text.now) result self.new.fields ≡ field_at self.old.line self.old.fields }
+        ensures value { left_after (λ field. field.text.now) result self.new.fields
+            ≡ field_at self.old.line self.old.fields }
+        ensures passed { self.new.fields ≡ drop 1 self.old.fields }
         ensures field_line { IfOk result (λ field. field.line ≡ self.old.line) }
         ensures line { self.new.line ≡ self.old.line }
     {
@@ -23,7 +27,9 @@ impl<'a> Fields<'a> {
 
     /// The next field as a count; Ended or NotANumber where it is none.
     pub fn want_count(&mut self) -> Result<u64, TextFault>
-        ensures value { left_after (λ x. x) result self.new.fields ≡ count_at self.old.line self.old.fields }
+        ensures value { left_after (λ x. x) result self.new.fields
+            ≡ count_at self.old.line self.old.fields }
+        ensures passed { self.new.fields ≡ drop 1 self.old.fields }
         ensures small { IfOk result (λ n. n < 10 ^ 18) }
         ensures line { self.new.line ≡ self.old.line }
     {
@@ -32,7 +38,9 @@ impl<'a> Fields<'a> {
 
     /// The next field as a whole number; Ended or NotANumber where it is none.
     pub fn want_whole(&mut self) -> Result<i64, TextFault>
-        ensures value { left_after (λ x. x) result self.new.fields ≡ whole_at self.old.line self.old.fields }
+        ensures value { left_after (λ x. x) result self.new.fields
+            ≡ whole_at self.old.line self.old.fields }
+        ensures passed { self.new.fields ≡ drop 1 self.old.fields }
         ensures line { self.new.line ≡ self.old.line }
     {
         read_whole(&self.want_field()?)
@@ -40,7 +48,9 @@ impl<'a> Fields<'a> {
 
     /// The next field as a decimal; Ended or NotANumber where it is none.
     pub fn want_decimal(&mut self) -> Result<Decimal, TextFault>
-        ensures value { left_after (λ x. x) result self.new.fields ≡ decimal_at self.old.line self.old.fields }
+        ensures value { left_after (λ x. x) result self.new.fields
+            ≡ decimal_at self.old.line self.old.fields }
+        ensures passed { self.new.fields ≡ drop 1 self.old.fields }
         ensures line { self.new.line ≡ self.old.line }
     {
         read_decimal(&self.want_field()?)
@@ -49,6 +59,8 @@ impl<'a> Fields<'a> {
     /// The end of the line; Extra where it has a further field.
     pub fn want_end(&mut self) -> Result<(), TextFault>
         ensures value { result ≡ end_at self.old.line self.old.fields }
+        ensures passed { self.new.fields ≡ drop 1 self.old.fields }
+        ensures line { self.new.line ≡ self.old.line }
     {
         let line = self.line();
         match self.next() {
@@ -67,7 +79,9 @@ impl<'a> Lines<'a> {
     /// The next content line; Ended, in the line behind the last, where there is none.
     pub fn want_line(&mut self) -> Result<Fields<'a>, TextFault>
         requires { line_total self.old + 1 < 2 ^ 64 }
-        ensures value { left_after (λ x. x) result (content_left self.new) ≡ line_at (line_total self.old) (content_left self.old) }
+        ensures value { left_after (λ x. x) result (content_left self.new)
+            ≡ line_at (line_total self.old) (content_left self.old) }
+        ensures passed { content_left self.new ≡ drop 1 (content_left self.old) }
         ensures count { line_total self.new ≡ line_total self.old }
     {
         match self.next_fields() {
@@ -82,6 +96,8 @@ impl<'a> Lines<'a> {
     /// The end of the text; Extra, in the next content line, where there is one.
     pub fn want_end(&mut self) -> Result<(), TextFault>
         ensures value { result ≡ text_end_at (content_left self.old) }
+        ensures passed { content_left self.new ≡ drop 1 (content_left self.old) }
+        ensures count { line_total self.new ≡ line_total self.old }
     {
         match self.next_fields() {
             None => Ok(()),
