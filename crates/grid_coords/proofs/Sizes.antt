@@ -1,6 +1,8 @@
 -- The greatest numbers of a list of points, front to back.
-use Rattle.std.proofs.Common.{◌≡◌, ℕ, zero, suc, ◌+◌, ◌-◌, ◌*◌, ◌^◌, ◌<◌, ◌≤◌, List, ◌∷◌, length, get_or, drop, Option, Some, None, refl, sym, ap, ◌∙◌, arith, inl, inr, Ok, Err}
-use Rattle.std.specs.Prelude.{max, All, unsigned_abs}
+use Rattle.std.proofs.Common.{◌≡◌, ℕ, zero, suc, ◌+◌, ◌-◌, ◌*◌, ◌^◌, ◌<◌, ◌≤◌, Bool, true, false, cond, List, [], ◌∷◌, ◌++◌, length, get_or, drop, Option, Some, None, refl, sym, ap, ◌∙◌, arith, inl, inr, Ok, Err}
+use Rattle.std.specs.Prelude.{max, All, unsigned_abs, filter}
+use Rattle.std.specs.List.{range_with_len}
+use Rattle.std.proofs.lemmas.List.Elements.{filter-append}
 use Rattle.std.proofs.Math.Nat.{mul-le-mul_right}
 use Rattle.std.proofs.lemmas.List.Recursion.{max_bounds}
 use Rattle.tet_text.specs.Decimals.{Scaled}
@@ -10,7 +12,7 @@ use Rattle.std.proofs.lemmas.List.{at_drop_all}
 use Rattle.std.proofs.lemmas.Bool.{cond-true, cond-false, le-leb, lt-leb, lt-ltb, le-ltb, cases_lt}
 use Rattle.grid_coords.specs.declared.points.DecimalPoint.{DecimalPoint}
 use Rattle.grid_coords.specs.Units.{limit, units, IsOnGrid, IsPointOnGrid}
-use Rattle.grid_coords.specs.Choice.{decimals_of, most_decimals, size_of, greatest_size, first_over, halvings_for, unless_over}
+use Rattle.grid_coords.specs.Choice.{decimals_of, most_decimals, size_of, greatest_size, first_over, fits, numbers_up_to, largest, halvings_for, unless_over}
 
 -- the rest of a list from the place of p on
 from_here : {X : Type 0} (xs : List X) (i : ℕ) (x : X) → i < length xs → x ≡ get_or xs i x → drop i xs ≡ x ∷ drop (i + 1) xs
@@ -51,42 +53,92 @@ pub first_all : (decimals : ℕ) (ps : List DecimalPoint) (i : ℕ) → length p
 unfolding first_over
 first_all decimals ps i le = at_drop_all (first_over decimals) ps i le
 
--- one halving less where there are too many
-pub halvings_less : (halvings size : ℕ) → 0 < halvings → limit < size * 2 ^ halvings → halvings_for (halvings - 1) size ≡ halvings_for halvings size
-unfolding halvings_for
-halvings_less zero size some over = absurd (omega arith)
-halvings_less (suc halvings) size some over =
-    let e : suc halvings - 1 ≡ halvings = omega arith in
-    rw e (sym (cond-false _ _ _ (lt-leb (size * 2 ^ suc halvings) limit over)))
+-- ---- the largest number of halvings
 
-pub halvings_found : (halvings size : ℕ) → size * 2 ^ halvings ≤ limit → halvings_for halvings size ≡ halvings
-unfolding halvings_for
-halvings_found zero size small = refl
-halvings_found (suc halvings) size small = cond-true _ _ _ (le-leb (size * 2 ^ suc halvings) limit small)
+largest-append : (xs ys : List ℕ) → largest (xs ++ ys) ≡ max (largest xs) (largest ys)
+unfolding largest
+largest-append [] ys = omega arith
+largest-append (x ∷ xs) ys = omega (arith, largest-append xs ys)
 
-pub halvings_none : (halvings size : ℕ) → halvings ≡ 0 → halvings_for halvings size ≡ 0
+numbers_more : (a n : ℕ) → range_with_len a (suc n) ≡ range_with_len a n ++ (a + n) ∷ []
+numbers_more a zero = ap (λ (k : ℕ). k ∷ []) (let e : a ≡ a + 0 = omega arith in e)
+numbers_more a (suc n) =
+    let e : a + 1 + n ≡ a + suc n = omega arith in
+    ap (λ (ks : List ℕ). a ∷ ks) (numbers_more (a + 1) n) ∙ ap (λ (k : ℕ). a ∷ (range_with_len (a + 1) n ++ k ∷ [])) e
+
+one_more : (p : ℕ → Bool) (most : ℕ) → largest (filter p (numbers_up_to (most + 1))) ≡ max (largest (filter p (numbers_up_to most))) (cond (p (most + 1)) (most + 1) 0)
+unfolding largest
+one_more p most =
+    let e : most + 1 + 1 ≡ suc (most + 1) = omega arith in
+    let z : 0 + (most + 1) ≡ most + 1 = omega arith in
+    ap (λ (n : ℕ). largest (filter p (range_with_len 0 n))) e
+    ∙ ap (λ (ks : List ℕ). largest (filter p ks)) (numbers_more 0 (most + 1) ∙ ap (λ (k : ℕ). numbers_up_to most ++ k ∷ []) z)
+    ∙ ap largest (filter-append p (numbers_up_to most) ((most + 1) ∷ []))
+    ∙ largest-append (filter p (numbers_up_to most)) (filter p ((most + 1) ∷ []))
+    ∙ ap (max (largest (filter p (numbers_up_to most)))) (last (p (most + 1)))
+  where
+    last : (b : Bool) → largest (cond b ((most + 1) ∷ []) []) ≡ cond b (most + 1) 0
+    last true = omega arith
+    last false = refl
+
+none_halved : (size : ℕ) → halvings_for 0 size ≡ 0
+unfolding halvings_for largest
+none_halved size = at (fits size 0)
+  where
+    at : (b : Bool) → largest (cond b (0 ∷ []) []) ≡ 0
+    at true = refl
+    at false = refl
+
+once_more : (most size : ℕ) → halvings_for (most + 1) size ≡ max (halvings_for most size) (cond (fits size (most + 1)) (most + 1) 0)
 unfolding halvings_for
-halvings_none zero size none = refl
-halvings_none (suc halvings) size none = absurd (omega arith)
+once_more most size = one_more (fits size) most
+
+cond_le : (b : Bool) (n : ℕ) → cond b n 0 ≤ n
+cond_le true n = omega arith
+cond_le false n = omega arith
 
 pub halvings_le : (most size : ℕ) → halvings_for most size ≤ most
-unfolding halvings_for
-halvings_le zero size = omega arith
+halvings_le zero size = omega (arith, none_halved size)
 halvings_le (suc most) size =
-    elim (cases_lt limit (size * 2 ^ suc most)) [
-      | inl over ↦ rw (lt-leb (size * 2 ^ suc most) limit over) (omega (arith, halvings_le most size))
-      | inr le ↦ rw (le-leb (size * 2 ^ suc most) limit le) (omega arith)
-    ]
+    let e : suc most ≡ most + 1 = omega arith in
+    rw e (omega (arith, once_more most size, halvings_le most size, cond_le (fits size (most + 1)) (most + 1)))
+
+-- with one more halving allowed, that many where the size still fits, and else as many as before
+halvings_more : (most size : ℕ) → halvings_for (most + 1) size ≡ cond (fits size (most + 1)) (most + 1) (halvings_for most size)
+halvings_more most size = once_more most size ∙ by_test (fits size (most + 1)) (halvings_for most size) (halvings_le most size)
+  where
+    by_test : (b : Bool) (before : ℕ) → before ≤ most → max before (cond b (most + 1) 0) ≡ cond b (most + 1) before
+    by_test true before le = omega arith
+    by_test false before le = omega arith
+
+-- one halving less where there are too many
+pub halvings_less : (halvings size : ℕ) → 0 < halvings → limit < size * 2 ^ halvings → halvings_for (halvings - 1) size ≡ halvings_for halvings size
+halvings_less zero size some over = absurd (omega arith)
+halvings_less (suc halvings) size some over =
+    let e : suc halvings ≡ halvings + 1 = omega arith in
+    let less : suc halvings - 1 ≡ halvings = omega arith in
+    let too_large : limit < size * 2 ^ (halvings + 1) = rw e at over in
+    rw (less, e) (sym (halvings_more halvings size ∙ cond-false _ _ _ (lt-leb (size * 2 ^ (halvings + 1)) limit too_large)))
+
+pub halvings_found : (halvings size : ℕ) → size * 2 ^ halvings ≤ limit → halvings_for halvings size ≡ halvings
+halvings_found zero size small = none_halved size
+halvings_found (suc halvings) size small =
+    let e : suc halvings ≡ halvings + 1 = omega arith in
+    let fits_so : size * 2 ^ (halvings + 1) ≤ limit = rw e at small in
+    rw e (halvings_more halvings size ∙ cond-true _ _ _ (le-leb (size * 2 ^ (halvings + 1)) limit fits_so))
+
+pub halvings_none : (halvings size : ℕ) → halvings ≡ 0 → halvings_for halvings size ≡ 0
+halvings_none halvings size none = omega (arith, halvings_le halvings size, none)
 
 -- the size still fits with the halvings
 pub halvings_fit : (most size : ℕ) → size ≤ limit → size * 2 ^ halvings_for most size ≤ limit
-unfolding halvings_for
-halvings_fit zero size small = omega arith
+halvings_fit zero size small = rw (none_halved size) (omega arith)
 halvings_fit (suc most) size small =
-    elim (cases_lt limit (size * 2 ^ suc most)) [
-      | inl over ↦ rw (lt-leb (size * 2 ^ suc most) limit over) (halvings_fit most size small)
-      | inr le ↦ rw (le-leb (size * 2 ^ suc most) limit le) le
-    ]
+    let e : suc most ≡ most + 1 = omega arith in
+    rw (e, halvings_more most size) (elim (cases_lt limit (size * 2 ^ (most + 1))) [
+      | inl over ↦ rw (lt-leb (size * 2 ^ (most + 1)) limit over) (halvings_fit most size small)
+      | inr le ↦ rw (le-leb (size * 2 ^ (most + 1)) limit le) le
+    ])
 
 -- what was found, or the point that was too large
 pub over_same : {X Y : Type 0} (o : Option DecimalPoint) (x : X) (y : Y) (r : Range) → unless_over o x ≡ Err r → unless_over o y ≡ Err r

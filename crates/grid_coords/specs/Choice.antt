@@ -1,5 +1,6 @@
 -- The finest grid that holds all points of a list.
-use Rattle.std.specs.Prelude.{ℕ, zero, suc, ◌*◌, ◌^◌, max, min, nat_lt, nat_le, Bool, if◌then◌else◌, List, [], ◌∷◌, find, Option, Some, None, Result, Ok, Err}
+use Rattle.std.specs.Prelude.{ℕ, ◌+◌, ◌*◌, ◌^◌, max, min, nat_lt, nat_le, Bool, List, [], ◌∷◌, find, filter, Option, Some, None, Result, Ok, Err}
+use Rattle.std.specs.List.{range_with_len}
 use Rattle.grid_coords.specs.declared.grid.Grid.{Grid}
 use Rattle.grid_coords.specs.declared.grid.Range.{Range}
 use Rattle.grid_coords.specs.declared.points.DecimalPoint.{DecimalPoint}
@@ -28,10 +29,21 @@ is_over decimals p = nat_lt limit (size_of decimals p)
 unfoldable pub first_over : ℕ → List DecimalPoint → Option DecimalPoint
 first_over decimals ps = find (is_over decimals) ps
 
--- how often the unit is halved: the largest number up to `most` that leaves this size at most 2^23
+-- with so many halvings a coordinate of this size is at most 2^23
+abbrev pub fits : ℕ → ℕ → Bool
+fits size halvings = nat_le (size * 2 ^ halvings) limit
+
+abbrev pub numbers_up_to : ℕ → List ℕ
+numbers_up_to most = range_with_len 0 (most + 1)
+
+-- the largest number of a list, and 0 where it is empty
+unfoldable pub largest : List ℕ → ℕ
+largest [] = 0
+largest (n ∷ ns) = max n (largest ns)
+
+-- how often the unit is halved: the largest number up to `most` with which each coordinate fits, where this is the greatest size of one
 unfoldable pub halvings_for : ℕ → ℕ → ℕ
-halvings_for zero size = 0
-halvings_for (suc most) size = if nat_le (size * 2 ^ suc most) limit then suc most else halvings_for most size
+halvings_for most size = largest (filter (fits size) (numbers_up_to most))
 
 abbrev pub most_halvings : ℕ
 most_halvings = 12
@@ -44,4 +56,5 @@ unless_over (Some p) x = Err (record { line = p.line })
 unfoldable pub grid_of : ℕ → List DecimalPoint → Result Grid Range
 grid_of most ps =
     let decimals = most_decimals ps in
-    unless_over (first_over decimals ps) (record { decimals = decimals; halvings = halvings_for (min most_halvings most) (greatest_size decimals ps) })
+    let halvings = halvings_for (min most_halvings most) (greatest_size decimals ps) in
+    unless_over (first_over decimals ps) (record { decimals = decimals; halvings = halvings })
