@@ -1,6 +1,6 @@
 //! The first line of a point list.
 
-ghost use Rattle.std.specs.Prelude.{◌≡◌, ◌≤◌, IfOk};
+ghost use Rattle.std.specs.Prelude.{◌≡◌, ◌≤◌, drop, IfOk};
 ghost use Rattle.tet_text.specs.Reading.{left_after};
 ghost use Rattle.node_files.specs.Header.{is_within, count_within, count_or, header_of};
 
@@ -23,7 +23,9 @@ fn is_within(least: u64, most: u64, count: u64) -> bool
 /// The next field as a count from `least` to `most`.
 #[tactic(auto, unfolding(crate::specs::Header::count_within))]
 fn count_within(least: u64, most: u64, fields: &mut Fields) -> Result<u64, TextFault>
-    ensures value { left_after (λ n. n) result fields.new.fields ≡ count_within least most fields.old.line fields.old.fields }
+    ensures value { left_after (λ n. n) result fields.new.fields
+        ≡ count_within least most fields.old.line fields.old.fields }
+    ensures passed { fields.new.fields ≡ drop 1 fields.old.fields }
     ensures range { IfOk result (λ n. n ≤ most) }
     ensures line { fields.new.line ≡ fields.old.line }
 {
@@ -37,12 +39,15 @@ fn count_within(least: u64, most: u64, fields: &mut Fields) -> Result<u64, TextF
     })
 }
 
-/// The next field as a count from `least` to `most`, or the count `absent` where the line has no further field. NotANumber where it is no count,
-/// BadCount where it is none of these.
-#[tactic(auto, using(crate::proofs::Counts::count_or_none, crate::proofs::Counts::count_or_some))]
+/// The next field as a count from `least` to `most`, or the count `absent` where the line has no
+/// further field. NotANumber where it is no count, BadCount where it is none of these. The field is
+/// passed over, also if it is refused.
+#[tactic(auto, using(crate::proofs::Counts::count_or_none, crate::proofs::Counts::count_or_some, crate::proofs::Counts::none_passed))]
 pub fn count_or(absent: u64, least: u64, most: u64, fields: &mut Fields) -> Result<u64, TextFault>
     requires { absent ≤ most }
-    ensures value { left_after (λ n. n) result fields.new.fields ≡ count_or absent least most fields.old.line fields.old.fields }
+    ensures value { left_after (λ n. n) result fields.new.fields
+        ≡ count_or absent least most fields.old.line fields.old.fields }
+    ensures passed { fields.new.fields ≡ drop 1 fields.old.fields }
     ensures range { IfOk result (λ n. n ≤ most) }
     ensures line { fields.new.line ≡ fields.old.line }
 {

@@ -1,6 +1,7 @@
 //! Point lists as text.
 
-ghost use Rattle.std.specs.Prelude.{◌≡◌, ◌≤◌, ◌<◌, ◌+◌, ◌*◌, ◌^◌, ◌++◌, [], ◌∷◌, ℤ, pos, length, map, replicate, OnOk, IfOk};
+ghost use Rattle.std.specs.Prelude.{◌≡◌, ◌≤◌, ◌<◌, ◌+◌, ◌*◌, ◌^◌, ◌++◌, [], ◌∷◌, ℤ, pos, length};
+ghost use Rattle.std.specs.Prelude.{map, replicate, OnOk, IfOk};
 ghost use Rattle.grid_coords.specs.Units.{grid_text};
 ghost use Rattle.node_files.specs.Writing.{whole_text, fields_text, place_fields, point_line, point_lines, like_lines, marks_of, head_line, list_text, node_text, IsNodeTable};
 
@@ -194,7 +195,8 @@ fn put_list(
     out: &mut Bytes,
 ) -> Result<(), NoMemory>
     requires table { IsNodeTable table.now }
-    requires few { length table.now.points + length added.now < 2 ^ 32 }
+    requires few { length table.now.points < 2 ^ 32 }
+    requires few_added { length added.now < 2 ^ 32 }
     ensures { OnOk result (out.new ≡ out.old ++ list_text table.now added.now first attributes.now markers.now) }
 {
     let count = table.points.len() as u64;
@@ -220,7 +222,8 @@ pub fn write_node(
     first: u32,
 ) -> Result<Bytes, NoMemory>
     requires table { IsNodeTable table.now }
-    requires few { length table.now.points + length added.now < 2 ^ 32 }
+    requires few { length table.now.points < 2 ^ 32 }
+    requires few_added { length added.now < 2 ^ 32 }
     ensures { IfOk result (λ text. text ≡ node_text table.now added.now first) }
 {
     let attributes = zero_attributes(alloc, table.attribute_count)?;
