@@ -1,4 +1,5 @@
-ghost use Rattle.std.specs.Prelude.{◌≡◌, ◌≢◌, ℕ, ◌<◌, IsTrue, IfSome};
+//! Surgery on the mesh of a cube, by hand.
+ghost use Rattle.std.specs.Prelude.{◌≡◌, ◌≢◌, ℕ, ◌<◌, [], ◌∷◌, IsTrue, IfOk, IfSome};
 ghost use Rattle.mesh_arena.specs.Mesh.{corners_at, IsLive, corner_list, AllDiffer};
 
 use crate::slot::has_corner;
@@ -91,46 +92,58 @@ fn linked_mesh(alloc: Global, rows: &[[i32; 4]]) -> Result<Arena, Fail> {
     Ok(arena)
 }
 
-// Puts a point in the place of one slot, if that has four neighbors and lacks the point.
-fn split(alloc: Global, arena: &mut Arena, s: Slot, point: u32) -> Result<Option<Slot>, NoMemory>
+fn one_slot(alloc: Global, s: Slot) -> Result<Cavity, NoMemory>
+    ensures { IfOk result (λ cavity. cavity ≡ s ∷ []) }
+{
+    let mut cavity = Cavity::new(alloc);
+    cavity.push(s)?;
+    Ok(cavity)
+}
+
+fn rim_of(alloc: Global, faces: &[RimFace]) -> Result<Rim, NoMemory>
+    ensures { IfOk result (λ rim. rim ≡ faces.now) }
+{
+    let mut rim = Rim::new(alloc);
+    rim.extend_from_slice(faces)?;
+    Ok(rim)
+}
+
+// Puts a point in the place of one slot, and tells whether it did: the slot has to have four
+// neighbors and to lack the point.
+fn split(alloc: Global, arena: &mut Arena, s: Slot, point: u32) -> Result<bool, NoMemory>
     requires { IsLive arena.old.slots s.index }
 {
     let t = arena.tet(s);
     let Some(a) = arena.across(s, 0) else {
-        return Ok(None);
+        return Ok(false);
     };
     let Some(b) = arena.across(s, 1) else {
-        return Ok(None);
+        return Ok(false);
     };
     let Some(c) = arena.across(s, 2) else {
-        return Ok(None);
+        return Ok(false);
     };
     let Some(d) = arena.across(s, 3) else {
-        return Ok(None);
+        return Ok(false);
     };
     if has_corner(&[t.a, t.b, t.c, t.d], 4, Corner::Point(point)) {
-        return Ok(None);
+        return Ok(false);
     }
-    let mut cavity = Cavity::new(alloc);
-    cavity.push(s)?;
-    let mut rim = Rim::new(alloc);
-    rim.push(a)?;
-    rim.push(b)?;
-    rim.push(c)?;
-    rim.push(d)?;
-    let made = arena.replace_cavity(&cavity, &rim, point)?;
-    Ok(Some(made))
+    let cavity = one_slot(alloc, s)?;
+    let rim = rim_of(alloc, &[a, b, c, d])?;
+    arena.replace_cavity(&cavity, &rim, point)?;
+    Ok(true)
 }
 
-// The corners of the live slots.
-fn live_slots(alloc: Global, arena: &Arena) -> Result<Vec<SlotCorners>, Fail> {
-    let mut all = Vec::new(alloc);
+// The number of live slots.
+fn live_slots(arena: &Arena) -> usize {
+    let mut count = 0usize;
     for i in 0..arena.slots() {
-        if let Some(s) = arena.slot(i) {
-            all.push(arena.tet(s))?;
+        if arena.slot(i).is_some() {
+            count = count.saturating_add(1);
         }
     }
-    Ok(all)
+    count
 }
 
 // The corners of the slot behind each face of a live slot.
@@ -183,75 +196,101 @@ const CUBE: [[i32; 4]; 18] = [
     [5, 6, 7, -1],
 ];
 
-#[test]
-fn a_point_replaces_a_tetrahedron_of_a_cube(rt: HostRuntime) -> Result<(), Fail> {
-    let alloc = rt.alloc();
+// The mesh of the cube with the point 8 in place of one of its tetrahedra.
+fn split_cube(alloc: Global) -> Result<Arena, Fail> {
     let mut arena = linked_mesh(alloc, &CUBE)?;
     arena.reserve(64)?;
     let s = find(&arena, [1, 3, 4, 5]).ok_or("not there")?;
-    let made = split(alloc, &mut arena, s, 8)?.ok_or("not split")?;
-    let live = live_slots(alloc, &arena)?;
-    assert_eq!(rt; live.len(), 21);
-    assert!(rt; find(&arena, [1, 3, 4, 5]).is_none());
-    // The star: each slot, and what stands behind its faces.
-    for (row, want) in [
-        (
-            [8, 3, 4, 5],
-            [[3, 4, 5, 7], [1, 8, 4, 5], [1, 3, 8, 5], [1, 3, 4, 8]],
-        ),
-        (
-            [1, 8, 4, 5],
-            [[8, 3, 4, 5], [1, 4, 5, -1], [1, 3, 8, 5], [1, 3, 4, 8]],
-        ),
-        (
-            [1, 3, 8, 5],
-            [[8, 3, 4, 5], [1, 8, 4, 5], [1, 2, 3, 5], [1, 3, 4, 8]],
-        ),
-        (
-            [1, 3, 4, 8],
-            [[8, 3, 4, 5], [1, 8, 4, 5], [1, 3, 8, 5], [0, 1, 3, 4]],
-        ),
-        (
-            [0, 1, 3, 4],
-            [[1, 3, 4, 8], [0, 3, 4, -1], [0, 1, 4, -1], [0, 1, 3, -1]],
-        ),
-        (
-            [1, 2, 3, -1],
-            [[2, 3, 6, -1], [0, 1, 3, -1], [1, 2, 5, -1], [1, 2, 3, 5]],
-        ),
-    ] {
-        let s = find(&arena, row).ok_or("not there")?;
-        let found = neighbors(&arena, s);
-        for k in 0..4 {
-            assert_eq!(rt; found[k], Some(slot_corners(want[k])), "behind face {k}");
-        }
+    split(alloc, &mut arena, s, 8)?;
+    Ok(arena)
+}
+
+// A slot, and what stands behind its faces.
+struct SlotCase {
+    slot: [i32; 4],
+    behind: [[i32; 4]; 4],
+}
+
+// The star of the point 8, and two of the slots round it.
+const STAR: [SlotCase; 6] = [
+    SlotCase {
+        slot: [8, 3, 4, 5],
+        behind: [[3, 4, 5, 7], [1, 8, 4, 5], [1, 3, 8, 5], [1, 3, 4, 8]],
+    },
+    SlotCase {
+        slot: [1, 8, 4, 5],
+        behind: [[8, 3, 4, 5], [1, 4, 5, -1], [1, 3, 8, 5], [1, 3, 4, 8]],
+    },
+    SlotCase {
+        slot: [1, 3, 8, 5],
+        behind: [[8, 3, 4, 5], [1, 8, 4, 5], [1, 2, 3, 5], [1, 3, 4, 8]],
+    },
+    SlotCase {
+        slot: [1, 3, 4, 8],
+        behind: [[8, 3, 4, 5], [1, 8, 4, 5], [1, 3, 8, 5], [0, 1, 3, 4]],
+    },
+    SlotCase {
+        slot: [0, 1, 3, 4],
+        behind: [[1, 3, 4, 8], [0, 3, 4, -1], [0, 1, 4, -1], [0, 1, 3, -1]],
+    },
+    SlotCase {
+        slot: [1, 2, 3, -1],
+        behind: [[2, 3, 6, -1], [0, 1, 3, -1], [1, 2, 5, -1], [1, 2, 3, 5]],
+    },
+];
+
+// Whether a slot has these neighbors.
+fn has_neighbors(arena: &Arena, row: &SlotCase) -> bool {
+    match find(arena, row.slot) {
+        Some(s) => neighbors(arena, s) == row.behind.map(|n| Some(slot_corners(n))),
+        None => false,
     }
-    let i = made.index as usize;
-    assert!(rt; i < arena.slots());
+}
+
+#[test]
+fn a_point_replaces_a_tetrahedron_of_a_cube(rt: HostRuntime) -> Result<(), Fail> {
+    let arena = split_cube(rt.alloc())?;
+    let wrong = STAR.iter().position(|row| !has_neighbors(&arena, row));
+    let replaced = find(&arena, [1, 3, 4, 5]);
+    assert_eq!(rt; (wrong, replaced, live_slots(&arena)), (None, None, 21));
     Ok(())
 }
 
-// How many tetrahedra are replaced in turn. To see what a million of them cost, write 1_000_000 and time the test: about a second and 120 MB where it is
-// compiled. With a cavity of 20 slots and a rim of 27 faces, as in a cloud of points, a surgery takes some 5 microseconds.
+// Puts a point in the place of the slot at a place, and tells whether it did.
+fn split_at(alloc: Global, arena: &mut Arena, place: usize, point: u32) -> Result<bool, NoMemory> {
+    if place >= arena.slots() {
+        return Ok(false);
+    }
+    match arena.slot(place) {
+        Some(s) => split(alloc, arena, s, point),
+        None => Ok(false),
+    }
+}
+
+// How many tetrahedra are replaced in turn. To see what a million of them cost, write 1_000_000 and
+// time the test: about a second and 120 MB where it is compiled. With a cavity of 20 slots and a
+// rim of 27 faces, as in a cloud of points, a surgery takes some 5 microseconds.
 const SURGERIES: u32 = 20_000;
+
+// How many tetrahedra of a cube are replaced.
+fn split_in_turn(alloc: Global, arena: &mut Arena) -> Result<usize, NoMemory> {
+    let mut made = 0usize;
+    for i in 0..SURGERIES {
+        let place = i as usize * 7919 % arena.slots().max(1);
+        if split_at(alloc, arena, place, 8 + i)? {
+            made = made.saturating_add(1);
+        }
+    }
+    Ok(made)
+}
 
 #[test]
 fn many_surgeries_in_turn(rt: HostRuntime) -> Result<(), Fail> {
     let alloc = rt.alloc();
     let mut arena = linked_mesh(alloc, &CUBE)?;
-    let mut made = CUBE.len();
-    for i in 0..SURGERIES {
-        let place = i as usize * 7919 % arena.slots().max(1);
-        if place < arena.slots() {
-            if let Some(s) = arena.slot(place) {
-                if split(alloc, &mut arena, s, 8 + i)?.is_some() {
-                    made = made.saturating_add(3);
-                }
-            }
-        }
-    }
+    let made = split_in_turn(alloc, &mut arena)?;
     // Each surgery takes the place of the slot that it removes, and three more.
-    assert_eq!(rt; made, CUBE.len() + 3 * SURGERIES as usize);
-    assert_eq!(rt; arena.slots(), made);
+    let slots = CUBE.len() + 3 * SURGERIES as usize;
+    assert_eq!(rt; (made, arena.slots()), (SURGERIES as usize, slots));
     Ok(())
 }

@@ -7,12 +7,12 @@ use Rattle.mesh_arena.proofs.tests.split.Goals as goal
 
 pub replace_cavity-requires-clause-rim : goal.replace_cavity-requires-clause-rim
 replace_cavity-requires-clause-rim c =
-    rw (c.in_ok-push-5.ensures.ok, c.in_ok-push-4.ensures.ok, c.in_ok-push-3.ensures.ok, c.in_ok-push-2.ensures.ok, c.new-rim.ensures, c.in_ok-push.ensures.ok, c.new-cavity.ensures)
+    rw (c.in_ok-rim.ensures, c.in_ok-cavity.ensures)
     (IsRim-one _ c.args.s c.in-Some.a c.in-Some-across.b c.in-Some-across-2.c c.in-Some-across-3.d c.tet-t.ensures.mesh (sym c.in-Some.ensures.value) (sym c.in-Some-across.ensures.value) (sym c.in-Some-across-2.ensures.value) (sym c.in-Some-across-3.ensures.value))
 
 pub replace_cavity-requires-clause-pairs : goal.replace_cavity-requires-clause-pairs
 replace_cavity-requires-clause-pairs c =
-    rw (c.in_ok-push-5.ensures.ok, c.in_ok-push-4.ensures.ok, c.in_ok-push-3.ensures.ok, c.in_ok-push-2.ensures.ok, c.new-rim.ensures)
+    rw c.in_ok-rim.ensures
     (ArePaired-one _ c.args.s c.in-Some.a c.in-Some-across.b c.in-Some-across-2.c c.in-Some-across-3.d c.tet-t.ensures.mesh (sym c.in-Some.ensures.value) (sym c.in-Some-across.ensures.value) (sym c.in-Some-across-2.ensures.value) (sym c.in-Some-across-3.ensures.value))
 
 pub replace_cavity-requires-clause-point : goal.replace_cavity-requires-clause-point
@@ -22,5 +22,5 @@ replace_cavity-requires-clause-point c =
     sym (c.has_corner.ensures.1 (record { place = k; within = lt; differs = λ f. omega arith; is = sym (ap (λ (o : Option (List Corner)). corner_in o k) c.tet-t.ensures.corners) ∙ e }))
     ∙ c.if-has_corner.false
     ) in
-    rw (c.in_ok-push-5.ensures.ok, c.in_ok-push-4.ensures.ok, c.in_ok-push-3.ensures.ok, c.in_ok-push-2.ensures.ok, c.new-rim.ensures)
+    rw c.in_ok-rim.ensures
     (IsOffRim-one _ c.args.s c.in-Some.a c.in-Some-across.b c.in-Some-across-2.c c.in-Some-across-3.d c.tet-t.ensures.mesh (sym c.in-Some.ensures.value) (sym c.in-Some-across.ensures.value) (sym c.in-Some-across-2.ensures.value) (sym c.in-Some-across-3.ensures.value) (Point c.args.point) none)
