@@ -9,7 +9,6 @@ pub mod Building
 pub mod Planes
 pub mod LostSides
 pub mod Minors
-pub mod RowOrder
 pub mod SlotRows
 pub mod OneMore
 pub mod SlotSides

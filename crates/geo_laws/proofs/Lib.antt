@@ -20,3 +20,4 @@ pub mod Cover
 pub mod DelaunayList
 pub mod Worked
 pub mod Complexes
+pub mod RowOrder

@@ -1,5 +1,5 @@
 use Rattle.std.proofs.Common.{◌≡◌, ◌+◌, length, sym, subst, ◌∙◌, arith}
-use Rattle.cavity_insert.proofs.RowOrder.{row_before}
+use Rattle.geo_laws.proofs.RowOrder.{row_before}
 use Rattle.cavity_insert.proofs.SlotRows.{AreRowsBelow, rows_pass, rows_more, list_of_rows}
 use Rattle.cavity_insert.proofs.rows.rows_of.Goals.{in-Some+in_ok-push, in_default}
 use Rattle.cavity_insert.proofs.rows.rows_of.Goals as goal
