@@ -12,7 +12,7 @@ use Rattle.sign_predicates.specs.Point.{Point}
 use Rattle.geo_laws.specs.Delaunay.{point, numbers, numbers_below, all_numbers, has_corner, HasDistinctPoints}
 use Rattle.geo_laws.specs.declared.tetrahedra.Tet.{Tet as Row}
 use Rattle.geo_laws.proofs.Corners.{found, contains_below, below_of}
-use Rattle.mesh_arena.specs.Mesh.{Tet}
+use Rattle.mesh_arena.specs.Mesh.{SlotValue}
 use Rattle.mesh_laws.specs.Living.{IsDelaunayMesh}
 use Rattle.mesh_laws.proofs.ReplacedLists.{law_same_mesh}
 use Rattle.cavity_insert.specs.declared.order.Turn.{Turn}
@@ -115,7 +115,7 @@ in_cons x xs i = (λ c. to (Contains-append_cases (x ∷ []) xs i c), from)
     from (inr c) = Contains-append_right (x ∷ []) xs i c
 
 module _ (ps : List Point) (first : Row) (turns : List Turn) where
-  pub begun : (slots : List (Option Tet)) → IsDelaunayMesh slots ps (numbers first) → HasInserted slots ps first (take 0 turns)
+  pub begun : (slots : List (Option SlotValue)) → IsDelaunayMesh slots ps (numbers first) → HasInserted slots ps first (take 0 turns)
   begun slots mesh = record { ms = numbers first; mesh = mesh; exactly = λ i. (λ c. inl c, back i) }
     where
       back : (i : ℕ) → Contains (numbers first) i ⊎ Contains [] i → Contains (numbers first) i
@@ -127,7 +127,7 @@ module _ (ps : List Point) (first : Row) (turns : List Turn) where
     x = (get_or turns k d).number
 
     -- a corner of the first row is there already
-    pub passed : (slots : List (Option Tet)) → HasInserted slots ps first (take k turns) → Contains (numbers first) x → HasInserted slots ps first (take (k + 1) turns)
+    pub passed : (slots : List (Option SlotValue)) → HasInserted slots ps first (take k turns) → Contains (numbers first) x → HasInserted slots ps first (take (k + 1) turns)
     passed slots now corner = record {
       ms = now.ms;
       mesh = now.mesh;
@@ -146,7 +146,7 @@ module _ (ps : List Point) (first : Row) (turns : List Turn) where
             by (inl c) = inr c
             by (inr e) = inl (subst (Contains (numbers first)) e corner)
 
-    pub added : (old new : List (Option Tet)) (now : HasInserted old ps first (take k turns)) → IsDelaunayMesh new ps (x ∷ now.ms) → HasInserted new ps first (take (k + 1) turns)
+    pub added : (old new : List (Option SlotValue)) (now : HasInserted old ps first (take k turns)) → IsDelaunayMesh new ps (x ∷ now.ms) → HasInserted new ps first (take (k + 1) turns)
     added old new now mesh = record {
       ms = x ∷ now.ms;
       mesh = mesh;
@@ -168,7 +168,7 @@ module _ (ps : List Point) (first : Row) (turns : List Turn) where
         ]
 
     -- and any other one is new
-    pub ready : (slots : List (Option Tet)) → IsOrderOf (length ps) turns → HasDistinctPoints ps → (now : HasInserted slots ps first (take k turns)) → ¬ Contains (numbers first) x → IsReadyFor slots ps now.ms x
+    pub ready : (slots : List (Option SlotValue)) → IsOrderOf (length ps) turns → HasDistinctPoints ps → (now : HasInserted slots ps first (take k turns)) → ¬ Contains (numbers first) x → IsReadyFor slots ps now.ms x
     ready slots order distinct now not = record {
       mesh = now.mesh;
       is_new = record { within = now.mesh.within; on = on; is_new = fresh };
@@ -193,7 +193,7 @@ module _ (ps : List Point) (first : Row) (turns : List Turn) where
         apart i c (inr (inl h)) = distinct i x h on
         apart i c (inr (inr h)) = λ e. distinct x i h (now.mesh.within i c) (sym e)
 
-  pub finished : (slots : List (Option Tet)) → IsOrderOf (length ps) turns → (k : ℕ) → length turns ≤ k → HasInserted slots ps first (take k turns) → IsDelaunayMesh slots ps (all_numbers ps)
+  pub finished : (slots : List (Option SlotValue)) → IsOrderOf (length ps) turns → (k : ℕ) → length turns ≤ k → HasInserted slots ps first (take k turns) → IsDelaunayMesh slots ps (all_numbers ps)
   finished slots order k all now = law_same_mesh slots ps now.ms (all_numbers ps) now.mesh (λ i. (λ c. contains_below (length ps) i (now.mesh.within i c), from i))
     where
       from : (i : ℕ) → Contains (all_numbers ps) i → Contains now.ms i

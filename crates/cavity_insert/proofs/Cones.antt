@@ -7,7 +7,7 @@ use Rattle.sign_predicates.specs.declared.tetrahedron.Corners.{Corners}
 use Rattle.geo_laws.specs.Delaunay.{point, corners, numbers, all_numbers, has_corner}
 use Rattle.geo_laws.specs.declared.tetrahedra.Tet.{Tet as Row}
 use Rattle.insert_laws.proofs.Cone.{law_cone}
-use Rattle.mesh_arena.specs.Mesh.{Tet, corners_at, corner_list, IsMesh}
+use Rattle.mesh_arena.specs.Mesh.{SlotValue, corners_at, corner_list, IsMesh}
 use Rattle.mesh_arena.specs.declared.slot.Corner.{Corner}
 use Rattle.mesh_arena.specs.declared.slot.SlotCorners.{SlotCorners}
 use Rattle.point_locate.specs.Place.{row_corners, AreOn}
@@ -27,7 +27,7 @@ row_answers ps r a b p q is first p_is q_is holds answer = (
   (λ h. record { four = r; is = refl; first = corner_found r a first; second = corner_found r b (sym answer ∙ h) }, λ both. answer ∙ (both_in_row (row_corners r) r a b refl both).1),
 )
 
-module _ (slots : List (Option Tet)) (ps : List Point) (now : IsDelaunayMesh slots ps (all_numbers ps)) (s : ℕ) where
+module _ (slots : List (Option SlotValue)) (ps : List Point) (now : IsDelaunayMesh slots ps (all_numbers ps)) (s : ℕ) where
   -- the corners of a slot are points
   pub slot_on : (t : SlotCorners) → IsMesh slots → corners_at slots s ≡ Some (corner_list t) → AreOn ps (corner_list t)
   slot_on t mesh e = law_placed.corners slots ps (all_numbers ps) mesh now s (corner_list t) e

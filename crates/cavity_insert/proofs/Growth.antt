@@ -2,10 +2,10 @@
 use Rattle.std.proofs.Common.{◌≡◌, ◌≢◌, ◌⊎◌, ℕ, ◌+◌, ◌<◌, ◌≤◌, List, [], ◌∷◌, ◌++◌, length, get_or, Option, None, Some, refl, sym, ap, subst, ◌∙◌, inl, inr, arith}
 use Rattle.std.proofs.lemmas.Bool.{cases_lt}
 use Rattle.std.proofs.lemmas.List.{get_or_append_left, get_or_push, length_push}
-use Rattle.mesh_arena.specs.declared.arena.Side.{Side}
+use Rattle.mesh_arena.specs.declared.arena.SlotFace.{SlotFace}
 use Rattle.mesh_arena.specs.declared.slot.Slot.{Slot}
 use Rattle.mesh_arena.specs.declared.slot.RimFace.{RimFace}
-use Rattle.mesh_arena.specs.Mesh.{Tet, IsLive, side, at, IsMesh}
+use Rattle.mesh_arena.specs.Mesh.{SlotValue, IsLive, side, at, IsMesh}
 use Rattle.mesh_arena.specs.Star.{rim_at, no_face}
 use Rattle.mesh_arena.specs.Cavity.{slot_at, IsIn}
 use Rattle.mesh_arena.proofs.Mesh.{side_live}
@@ -14,7 +14,7 @@ use Rattle.cavity_insert.specs.declared.marks.Mark.TheVariants.{In, Out}
 use Rattle.cavity_insert.specs.declared.marks.Tested.{Tested}
 use Rattle.cavity_insert.specs.Marks.{tested_at, IsMarked, IsMarkedAs}
 use Rattle.mesh_laws.specs.Reach.{Reach, first, next, Grown}
-use Rattle.cavity_insert.specs.Grow.{Before, Edge, OnEdge, Growing}
+use Rattle.cavity_insert.specs.Grow.{Before, BordersCavity, IsListed, Growing}
 
 split : (i k j m : ℕ) → Before i (k + 1) j m → Before i k j m ⊎ ((j ≡ i) × (m ≡ k))
 split i k j m (inl less) = inl (inl less)
@@ -68,13 +68,13 @@ module _ (tested : List Tested) (t : Tested) where
             inr (sym (ap (λ (x : Tested). x.slot) same) ∙ now.is, sym (ap (λ (x : Tested). x.mark) same) ∙ now.told)
       ]
 
-module _ (slots : List (Option Tet)) (rule : ℕ → Type 0) (start : ℕ) (mesh : IsMesh slots) where
-  edge_on : (cavity : List Slot) (i k : ℕ) (f : RimFace) → Edge slots rule cavity i k f → Edge slots rule cavity i (k + 1) f
-  edge_on cavity i k f e =
+module _ (slots : List (Option SlotValue)) (rule : ℕ → Type 0) (start : ℕ) (mesh : IsMesh slots) where
+  borders_on : (cavity : List Slot) (i k : ℕ) (f : RimFace) → BordersCavity slots rule cavity i k f → BordersCavity slots rule cavity i (k + 1) f
+  borders_on cavity i k f e =
       record { slot = e.slot; face = e.face; inside = e.inside; before = widen i k e.slot e.face e.before; is = e.is; out = e.out }
 
   -- there is no slot behind the face, or it is in the cavity
-  pub Growing-in : (tested : List Tested) (cavity : List Slot) (rim : List RimFace) (i k : ℕ) → i < length cavity → ((b : Side) → side slots (slot_at cavity i) k ≡ Some b → IsIn cavity b.slot) → Growing slots rule start tested cavity rim i k → Growing slots rule start tested cavity rim i (k + 1)
+  pub Growing-in : (tested : List Tested) (cavity : List Slot) (rim : List RimFace) (i k : ℕ) → i < length cavity → ((b : SlotFace) → side slots (slot_at cavity i) k ≡ Some b → IsIn cavity b.slot) → Growing slots rule start tested cavity rim i k → Growing slots rule start tested cavity rim i (k + 1)
   Growing-in tested cavity rim i k inside found was =
       record {
         begun = was.begun;
@@ -89,7 +89,7 @@ module _ (slots : List (Option Tet)) (rule : ℕ → Type 0) (start : ℕ) (mesh
           | inl old ↦ was.seen j m c h old e
           | inr here ↦ inl (found c (subst (λ n. side slots (slot_at cavity i) n ≡ Some c) here.1 (subst (λ n. side slots (slot_at cavity n) m ≡ Some c) here.0 e)))
         ];
-        edge = λ r h. edge_on cavity i k (rim_at rim r) (was.edge r h);
+        borders = λ r h. borders_on cavity i k (rim_at rim r) (was.borders r h);
         rim_once = was.rim_once;
       }
 
@@ -110,10 +110,10 @@ module _ (slots : List (Option Tet)) (rule : ℕ → Type 0) (start : ℕ) (mesh
           | inr here ↦
               let there : side slots (slot_at cavity i) k ≡ Some c = subst (λ n. side slots (slot_at cavity i) n ≡ Some c) here.1 (subst (λ n. side slots (slot_at cavity n) m ≡ Some c) here.0 e) in
               let same : at f.slot.index f.face ≡ c = cc in
-              inr (subst (OnEdge (rim ++ f ∷ [])) same new)
+              inr (subst (IsListed (rim ++ f ∷ [])) same new)
         ];
-        edge = λ r h. elim (step_cases r (length rim) (omega (arith, length_push rim f))) [
-          | inl less ↦ rw (rim_push rim f r less) (edge_on cavity i k (rim_at rim r) (was.edge r less))
+        borders = λ r h. elim (step_cases r (length rim) (omega (arith, length_push rim f))) [
+          | inl less ↦ rw (rim_push rim f r less) (borders_on cavity i k (rim_at rim r) (was.borders r less))
           | inr last ↦ rw (last, get_or_push rim f no_face (length rim) refl) (record { slot = i; face = k; inside = inside; before = inr (refl, omega arith); is = is; out = out })
         ];
         rim_once = λ r q h g e d. once r q (step_cases r (length rim) (omega (arith, length_push rim f))) (step_cases q (length rim) (omega (arith, length_push rim f))) e d;
@@ -122,7 +122,7 @@ module _ (slots : List (Option Tet)) (rule : ℕ → Type 0) (start : ℕ) (mesh
       last_is : rim_at (rim ++ f ∷ []) (length rim) ≡ f
       last_is = get_or_push rim f no_face (length rim) refl
 
-      kept : (c : Side) → OnEdge rim c → OnEdge (rim ++ f ∷ []) c
+      kept : (c : SlotFace) → IsListed rim c → IsListed (rim ++ f ∷ []) c
       kept c on = record {
         place = on.place;
         inside = omega (arith, on.inside, length_push rim f);
@@ -130,19 +130,19 @@ module _ (slots : List (Option Tet)) (rule : ℕ → Type 0) (start : ℕ) (mesh
         face = ap (λ (x : RimFace). x.face) (rim_push rim f on.place on.inside) ∙ on.face;
       }
 
-      new : OnEdge (rim ++ f ∷ []) (at f.slot.index f.face)
+      new : IsListed (rim ++ f ∷ []) (at f.slot.index f.face)
       new = record { place = length rim; inside = omega (arith, length_push rim f); slot = ap (λ (x : RimFace). x.slot.index) last_is; face = ap (λ (x : RimFace). x.face) last_is }
 
       -- a face of the rim from before is not that face
       fresh : (r : ℕ) → r < length rim → (rim_at rim r).slot.index ≡ f.slot.index → (rim_at rim r).face ≡ f.face → ⊥
       fresh r h e d =
-          let old = was.edge r h in
+          let old = was.borders r h in
           let back = mesh.back _ _ _ old.is in
           let now = mesh.back _ _ _ is in
           let home : side slots f.slot.index f.face ≡ Some (at (slot_at cavity old.slot) old.face) = subst (λ n. side slots f.slot.index n ≡ Some (at (slot_at cavity old.slot) old.face)) d (subst (λ n. side slots n (rim_at rim r).face ≡ Some (at (slot_at cavity old.slot) old.face)) e back) in
           let same : at (slot_at cavity old.slot) old.face ≡ at (slot_at cavity i) k = cc in
-          let level : old.slot ≡ i = was.once old.slot i old.inside inside (ap (λ (x : Side). x.slot) same) in
-          let place : old.face ≡ k = ap (λ (x : Side). x.face) same in
+          let level : old.slot ≡ i = was.once old.slot i old.inside inside (ap (λ (x : SlotFace). x.slot) same) in
+          let place : old.face ≡ k = ap (λ (x : SlotFace). x.face) same in
           elim old.before [ inl less ↦ omega arith | inr here ↦ omega (arith, here.1) ]
 
       once : (r q : ℕ) → (r < length rim) ⊎ (r ≡ length rim) → (q < length rim) ⊎ (q ≡ length rim) → (rim_at (rim ++ f ∷ []) r).slot.index ≡ (rim_at (rim ++ f ∷ []) q).slot.index → (rim_at (rim ++ f ∷ []) r).face ≡ (rim_at (rim ++ f ∷ []) q).face → r ≡ q
@@ -174,7 +174,7 @@ module _ (slots : List (Option Tet)) (rule : ℕ → Type 0) (start : ℕ) (mesh
           listed = λ v now. elim (marked_back tested t v In now) [ inl old ↦ was.listed v old | inr new ↦ absurd (in_not_out In refl (sym new.1)) ];
           out = λ v now. elim (marked_back tested t v Out now) [ inl old ↦ was.out v old | inr new ↦ λ yes. not (subst rule (sym new.0) yes) ];
           seen = was.seen;
-          edge = was.edge;
+          borders = was.borders;
           rim_once = was.rim_once;
         }
       where
@@ -212,8 +212,8 @@ module _ (slots : List (Option Tet)) (rule : ℕ → Type 0) (start : ℕ) (mesh
             | inl less ↦ elim (was.seen j m b less before (subst (λ n. side slots n m ≡ Some b) (slot_push cavity s j less) e)) [ inl in_it ↦ inl (wider b.slot in_it) | inr on ↦ inr on ]
             | inr end ↦ absurd (elim before [ inl less ↦ omega arith | inr level ↦ omega (arith, level.0) ])
           ];
-          edge = λ r h.
-              let old = was.edge r h in
+          borders = λ r h.
+              let old = was.borders r h in
               record {
                 slot = old.slot;
                 face = old.face;
@@ -249,7 +249,7 @@ module _ (slots : List (Option Tet)) (rule : ℕ → Type 0) (start : ℕ) (mesh
         once j q (inr a) (inl b) e = absurd (old_not q b (sym (slot_push cavity s q b) ∙ sym e ∙ ap (slot_at (cavity ++ s ∷ [])) a ∙ last))
         once j q (inr a) (inr b) e = a ∙ sym b
 
-module _ (slots : List (Option Tet)) (rule : ℕ → Type 0) (start : ℕ) (mesh : IsMesh slots) (tested : List Tested) (cavity : List Slot) (rim : List RimFace) (i k : ℕ) (f : RimFace) (inside : i < length cavity) (is : side slots (slot_at cavity i) k ≡ Some (at f.slot.index f.face)) (was : Growing slots rule start tested cavity rim i k) where
+module _ (slots : List (Option SlotValue)) (rule : ℕ → Type 0) (start : ℕ) (mesh : IsMesh slots) (tested : List Tested) (cavity : List Slot) (rim : List RimFace) (i k : ℕ) (f : RimFace) (inside : i < length cavity) (is : side slots (slot_at cavity i) k ≡ Some (at f.slot.index f.face)) (was : Growing slots rule start tested cavity rim i k) where
   pub Grown-in : (IsMarked tested f.slot.index → ⊥) → IsLive slots f.slot.index → rule f.slot.index → Growing slots rule start (tested ++ (record { slot = f.slot.index; mark = In }) ∷ []) (cavity ++ f.slot ∷ []) rim i (k + 1)
   Grown-in fresh live found =
       let reach = next (slot_at cavity i) k (at f.slot.index f.face) (was.reached i inside) is found in
@@ -259,13 +259,13 @@ module _ (slots : List (Option Tet)) (rule : ℕ → Type 0) (start : ℕ) (mesh
       (λ b e. record { place = length cavity; inside = omega (arith, length_push cavity f.slot); is = slot_last cavity f.slot ∙ same b there e })
       added
     where
-      same : (b : Side) → side slots (slot_at (cavity ++ f.slot ∷ []) i) k ≡ Some (at f.slot.index f.face) → side slots (slot_at (cavity ++ f.slot ∷ []) i) k ≡ Some b → f.slot.index ≡ b.slot
-      same b there e = let one : at f.slot.index f.face ≡ b = cc in ap (λ (x : Side). x.slot) one
+      same : (b : SlotFace) → side slots (slot_at (cavity ++ f.slot ∷ []) i) k ≡ Some (at f.slot.index f.face) → side slots (slot_at (cavity ++ f.slot ∷ []) i) k ≡ Some b → f.slot.index ≡ b.slot
+      same b there e = let one : at f.slot.index f.face ≡ b = cc in ap (λ (x : SlotFace). x.slot) one
 
   pub Grown-out : (rule f.slot.index → ⊥) → Growing slots rule start (tested ++ (record { slot = f.slot.index; mark = Out }) ∷ []) cavity (rim ++ f ∷ []) i (k + 1)
   Grown-out not = Growing-out slots rule start mesh _ cavity rim i k f inside is not (Growing-bar slots rule start mesh tested cavity rim i k f.slot.index was not)
 
-module _ (slots : List (Option Tet)) (rule : ℕ → Type 0) (start : ℕ) (mesh : IsMesh slots) (tested : List Tested) (cavity : List Slot) (rim : List RimFace) where
+module _ (slots : List (Option SlotValue)) (rule : ℕ → Type 0) (start : ℕ) (mesh : IsMesh slots) (tested : List Tested) (cavity : List Slot) (rim : List RimFace) where
   -- all four faces of a slot were looked over
   pub Growing-row : (i : ℕ) → Growing slots rule start tested cavity rim i 4 → Growing slots rule start tested cavity rim (i + 1) 0
   Growing-row i was =
@@ -279,8 +279,8 @@ module _ (slots : List (Option Tet)) (rule : ℕ → Type 0) (start : ℕ) (mesh
         listed = was.listed;
         out = was.out;
         seen = λ j m b h before e. was.seen j m b h (back j m (side_live slots (slot_at cavity j) m b mesh.shaped e).1 before) e;
-        edge = λ r h.
-            let old = was.edge r h in
+        borders = λ r h.
+            let old = was.borders r h in
             record { slot = old.slot; face = old.face; inside = old.inside; before = inl (ahead old.slot old.face old.before); is = old.is; out = old.out };
         rim_once = was.rim_once;
       }
@@ -294,7 +294,7 @@ module _ (slots : List (Option Tet)) (rule : ℕ → Type 0) (start : ℕ) (mesh
       ahead j m (inr here) = omega (arith, here.0)
 
   module _ (i : ℕ) (done : length cavity ≤ i) (was : Growing slots rule start tested cavity rim i 0) where
-    all_seen : (u k : ℕ) (b : Side) → IsIn cavity u → side slots u k ≡ Some b → IsIn cavity b.slot ⊎ OnEdge rim b
+    all_seen : (u k : ℕ) (b : SlotFace) → IsIn cavity u → side slots u k ≡ Some b → IsIn cavity b.slot ⊎ IsListed rim b
     all_seen u k b found e = was.seen found.place k b found.inside (inl (omega (arith, found.inside))) (rw found.is e)
 
     every : (u : ℕ) → Reach slots rule start u → IsIn cavity u
@@ -302,7 +302,7 @@ module _ (slots : List (Option Tet)) (rule : ℕ → Type 0) (start : ℕ) (mesh
     every _ (next s k b reach e taken) =
         elim (all_seen s k b (every s reach) e) [
           | inl in_it ↦ in_it
-          | inr on ↦ absurd ((was.edge on.place on.inside).out (subst rule (sym on.slot) taken))
+          | inr on ↦ absurd ((was.borders on.place on.inside).out (subst rule (sym on.slot) taken))
         ]
 
     pub Grown-done : Grown slots rule start cavity rim
@@ -313,9 +313,9 @@ module _ (slots : List (Option Tet)) (rule : ℕ → Type 0) (start : ℕ) (mesh
           live = was.live;
           once = was.once;
           all = every;
-          outer = λ r h found. (was.edge r h).out (subst rule found.is (was.taken found.place found.inside));
+          outer = λ r h found. (was.borders r h).out (subst rule found.is (was.taken found.place found.inside));
           inner = λ r h.
-              let old = was.edge r h in
+              let old = was.borders r h in
               (at (slot_at cavity old.slot) old.face, mesh.back _ _ _ old.is, record { place = old.slot; inside = old.inside; is = refl });
           rim_once = was.rim_once;
           rim_all = λ u k b e out found.
@@ -325,7 +325,7 @@ module _ (slots : List (Option Tet)) (rule : ℕ → Type 0) (start : ℕ) (mesh
               ];
         }
 
-pub Growing-begin : (slots : List (Option Tet)) (rule : ℕ → Type 0) (s : Slot) → rule s.index → IsLive slots s.index → Growing slots rule s.index ((record { slot = s.index; mark = In }) ∷ []) (s ∷ []) [] 0 0
+pub Growing-begin : (slots : List (Option SlotValue)) (rule : ℕ → Type 0) (s : Slot) → rule s.index → IsLive slots s.index → Growing slots rule s.index ((record { slot = s.index; mark = In }) ∷ []) (s ∷ []) [] 0 0
 Growing-begin slots rule s found live =
     record {
       begun = record { place = 0; inside = omega arith; is = refl };
@@ -337,7 +337,7 @@ Growing-begin slots rule s found live =
       listed = λ v now. let z : now.place ≡ 0 = omega (arith, now.inside) in record { place = 0; inside = omega arith; is = ap (λ i. (tested_at one i).slot) (sym z) ∙ now.is };
       out = λ v now. let z : now.place ≡ 0 = omega (arith, now.inside) in absurd (in_not_out In refl (ap (λ i. (tested_at one i).mark) (sym z) ∙ now.told));
       seen = λ j m b h before e. absurd (elim before [ inl less ↦ omega arith | inr level ↦ omega (arith, level.1) ]);
-      edge = λ r h. absurd (omega arith);
+      borders = λ r h. absurd (omega arith);
       rim_once = λ r q h g e d. absurd (omega arith);
     }
   where
@@ -345,17 +345,17 @@ Growing-begin slots rule s found live =
     one = (record { slot = s.index; mark = In }) ∷ []
 
 -- the slot behind a face, as a look at it reads it
-pub behind_is : (slots : List (Option Tet)) (cavity : List Slot) (i k : ℕ) (s : Slot) (b : Side) → ((d : Slot) → get_or cavity i d ≡ s) → Some b ≡ side slots s.index k → side slots (slot_at cavity i) k ≡ Some b
+pub behind_is : (slots : List (Option SlotValue)) (cavity : List Slot) (i k : ℕ) (s : Slot) (b : SlotFace) → ((d : Slot) → get_or cavity i d ≡ s) → Some b ≡ side slots s.index k → side slots (slot_at cavity i) k ≡ Some b
 behind_is slots cavity i k s b read e = ap (λ (x : Slot). side slots x.index k) (read (record { index = 0 })) ∙ sym e
 
 -- there is none
-pub none_behind : (slots : List (Option Tet)) (cavity : List Slot) (i k : ℕ) (s : Slot) → ((d : Slot) → get_or cavity i d ≡ s) → None ≡ side slots s.index k → (b : Side) → side slots (slot_at cavity i) k ≡ Some b → IsIn cavity b.slot
+pub none_behind : (slots : List (Option SlotValue)) (cavity : List Slot) (i k : ℕ) (s : Slot) → ((d : Slot) → get_or cavity i d ≡ s) → None ≡ side slots s.index k → (b : SlotFace) → side slots (slot_at cavity i) k ≡ Some b → IsIn cavity b.slot
 none_behind slots cavity i k s read e b is =
     let gone : side slots (slot_at cavity i) k ≡ None = ap (λ (x : Slot). side slots x.index k) (read (record { index = 0 })) ∙ sym e in
     absurd (cc)
 
 -- it is in the cavity
-pub in_behind : (slots : List (Option Tet)) (cavity : List Slot) (i k : ℕ) (f : RimFace) → side slots (slot_at cavity i) k ≡ Some (at f.slot.index f.face) → IsIn cavity f.slot.index → (b : Side) → side slots (slot_at cavity i) k ≡ Some b → IsIn cavity b.slot
+pub in_behind : (slots : List (Option SlotValue)) (cavity : List Slot) (i k : ℕ) (f : RimFace) → side slots (slot_at cavity i) k ≡ Some (at f.slot.index f.face) → IsIn cavity f.slot.index → (b : SlotFace) → side slots (slot_at cavity i) k ≡ Some b → IsIn cavity b.slot
 in_behind slots cavity i k f is found b e =
     let one : at f.slot.index f.face ≡ b = cc in
-    subst (IsIn cavity) (ap (λ (x : Side). x.slot) one) found
+    subst (IsIn cavity) (ap (λ (x : SlotFace). x.slot) one) found

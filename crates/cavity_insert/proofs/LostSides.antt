@@ -4,7 +4,7 @@ use Rattle.std.specs.Prelude.{Contains, IsSome}
 use Rattle.sign_predicates.specs.Point.{Point}
 use Rattle.geo_laws.specs.Delaunay.{numbers, all_numbers}
 use Rattle.geo_laws.specs.declared.tetrahedra.Tet.{Tet as Row}
-use Rattle.mesh_arena.specs.Mesh.{Tet, corners_at, IsLive}
+use Rattle.mesh_arena.specs.Mesh.{SlotValue, corners_at, IsLive}
 use Rattle.mesh_arena.specs.Cavity.{slot_at, IsIn}
 use Rattle.mesh_arena.specs.declared.slot.Corner.{Corner}
 use Rattle.mesh_arena.specs.declared.slot.Slot.{Slot}
@@ -17,14 +17,14 @@ use Rattle.cavity_insert.specs.Lost.{IsToldOf, AreLostSides}
 use Rattle.cavity_insert.proofs.SlotSides.{side_of_slot, slot_of_side}
 
 -- the corners of a slot's row are among the numbers
-pub told_row : (slots : List (Option Tet)) (u : ℕ) (cs : List Corner) (row : Row) (lost : List ℕ) → corners_at slots u ≡ Some cs → cs ≡ row_corners row → ((i : ℕ) → Contains (numbers row) i → Contains lost i)
+pub told_row : (slots : List (Option SlotValue)) (u : ℕ) (cs : List Corner) (row : Row) (lost : List ℕ) → corners_at slots u ≡ Some cs → cs ≡ row_corners row → ((i : ℕ) → Contains (numbers row) i → Contains lost i)
     → IsToldOf lost slots u
 told_row slots u cs row lost is shape all a b at =
     let same : at.here.four ≡ row = same_row at.here.four row (sym at.here.is ∙ same_corners slots u _ _ at.is is ∙ shape) in
     (all a (subst (λ (r : Row). Contains (numbers r) a) same at.here.first), all b (subst (λ (r : Row). Contains (numbers r) b) same at.here.second))
 
 -- further numbers keep it so
-pub told_more : (slots : List (Option Tet)) (u : ℕ) (lost more : List ℕ) → ((i : ℕ) → Contains lost i → Contains more i) → IsToldOf lost slots u → IsToldOf more slots u
+pub told_more : (slots : List (Option SlotValue)) (u : ℕ) (lost more : List ℕ) → ((i : ℕ) → Contains lost i → Contains more i) → IsToldOf lost slots u → IsToldOf more slots u
 told_more slots u lost more all told a b at = let r = told a b at in (all a r.0, all b r.1)
 
 -- the slot is in the cavity or not
@@ -50,11 +50,11 @@ in_or_not (s ∷ cavity) u = go (same_or_not s.index u) (in_or_not cavity u)
     go (inr differs) (inl is) = inl (later is)
     go (inr differs) (inr off) = inr (λ is. neither differs off is.place is.inside is.is)
 
-live_at : (slots : List (Option Tet)) (s : ℕ) (cs : List Corner) → corners_at slots s ≡ Some cs → IsLive slots s
+live_at : (slots : List (Option SlotValue)) (s : ℕ) (cs : List Corner) → corners_at slots s ≡ Some cs → IsLive slots s
 live_at slots s cs e = subst (λ (o : Option (List Corner)). IsSome o) (sym e) refl
 
 -- a side whose slot is not told of stays
-pub lost_sides : (old new : List (Option Tet)) (before after : List Point) (lost : List ℕ) → IsDelaunayMesh old before (all_numbers before) → IsDelaunayMesh new after (all_numbers after)
+pub lost_sides : (old new : List (Option SlotValue)) (before after : List Point) (lost : List ℕ) → IsDelaunayMesh old before (all_numbers before) → IsDelaunayMesh new after (all_numbers after)
     → ((u : ℕ) → IsLive old u → IsToldOf lost old u ⊎ (corners_at new u ≡ corners_at old u)) → AreLostSides before after lost
 lost_sides old new before after lost mesh next told a b side =
     let found = slot_of_side old before mesh a b side in

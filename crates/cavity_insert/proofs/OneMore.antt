@@ -1,12 +1,12 @@
 -- A list of points with one more.
-use Rattle.std.proofs.Common.{◌≡◌, ◌≢◌, ◌⊎◌, inl, inr, ℕ, ◌+◌, ◌<◌, List, [], ◌∷◌, ◌++◌, length, Option, refl, sym, ap, subst, ◌∙◌, arith}
+use Rattle.std.proofs.Common.{◌≡◌, ◌≢◌, ◌⊎◌, inl, inr, ℕ, ◌+◌, ◌-◌, ◌<◌, List, [], ◌∷◌, ◌++◌, length, Option, refl, sym, ap, subst, ◌∙◌, arith}
 use Rattle.std.specs.Prelude.{Contains}
 use Rattle.std.proofs.lemmas.Bool.{cases_order}
 use Rattle.std.proofs.lemmas.List.{get_or_append_left, get_or_push, length_push}
 use Rattle.sign_predicates.specs.Point.{Point, origin}
 use Rattle.geo_laws.specs.Delaunay.{point, all_numbers, HasDistinctPoints}
 use Rattle.geo_laws.proofs.Corners.{contains_below, below_of}
-use Rattle.mesh_arena.specs.Mesh.{Tet, corners_at, IsLive}
+use Rattle.mesh_arena.specs.Mesh.{SlotValue, corners_at, IsLive}
 use Rattle.mesh_laws.specs.Rule.{IsTaken}
 use Rattle.mesh_laws.specs.Living.{IsDelaunayMesh}
 use Rattle.mesh_laws.proofs.ReplacedLists.{law_same_mesh, law_longer_list}
@@ -28,7 +28,7 @@ module _ (others : List Point) (last : Point) where
   point_last = get_or_push others last origin (length others) refl
 
   -- the points before are meshed, and the last one is new
-  pub longer_ready : (slots : List (Option Tet)) → IsDelaunayMesh slots others (all_numbers others) → ((i : ℕ) → i < length others → point others i ≢ last) → IsReadyFor slots longer (all_numbers others) (length others)
+  pub longer_ready : (slots : List (Option SlotValue)) → IsDelaunayMesh slots others (all_numbers others) → ((i : ℕ) → i < length others → point others i ≢ last) → IsReadyFor slots longer (all_numbers others) (length others)
   longer_ready slots mesh apart = record {
     mesh = law_longer_list slots others (all_numbers others) last mesh;
     is_new = record {
@@ -39,7 +39,7 @@ module _ (others : List Point) (last : Point) where
     apart = λ i c e. let h = below_of (length others) i c in apart i h (sym (point_before i h) ∙ e ∙ point_last);
   }
 
-  pub all_longer : (slots : List (Option Tet)) → IsDelaunayMesh slots longer (length others ∷ all_numbers others) → IsDelaunayMesh slots longer (all_numbers longer)
+  pub all_longer : (slots : List (Option SlotValue)) → IsDelaunayMesh slots longer (length others ∷ all_numbers others) → IsDelaunayMesh slots longer (all_numbers longer)
   all_longer slots mesh = law_same_mesh slots longer (length others ∷ all_numbers others) (all_numbers longer) mesh (λ i. (λ c. to i ((in_cons (length others) (all_numbers others) i).0 c), λ c. (in_cons (length others) (all_numbers others) i).1 (from i (cases_order i (length others)) (below_of (length longer) i c))))
     where
       to : (i : ℕ) → (length others ≡ i) ⊎ Contains (all_numbers others) i → Contains (all_numbers longer) i
@@ -52,18 +52,23 @@ module _ (others : List Point) (last : Point) where
       from i (inr (inr k)) l = absurd (omega (arith, k, l, count))
 
 -- the same for a list that is one with one more
-pub ready_of : (slots : List (Option Tet)) (ps : List Point) (number : ℕ) (l : IsLonger slots ps number) → IsReadyFor slots ps (all_numbers l.others) number
+pub ready_of : (slots : List (Option SlotValue)) (ps : List Point) (number : ℕ) (l : IsLonger slots ps number) → IsReadyFor slots ps (all_numbers l.others) number
 ready_of slots ps number l =
     subst (λ xs. IsReadyFor slots xs (all_numbers l.others) number) (sym l.is)
     (subst (IsReadyFor slots (l.others ++ l.last ∷ []) (all_numbers l.others)) (sym l.number_is) (longer_ready l.others l.last slots l.mesh l.apart))
 
-pub mesh_of : (slots new : List (Option Tet)) (ps : List Point) (number : ℕ) (l : IsLonger slots ps number) → IsDelaunayMesh new ps (number ∷ all_numbers l.others) → IsDelaunayMesh new ps (all_numbers ps)
+pub mesh_of : (slots new : List (Option SlotValue)) (ps : List Point) (number : ℕ) (l : IsLonger slots ps number) → IsDelaunayMesh new ps (number ∷ all_numbers l.others) → IsDelaunayMesh new ps (all_numbers ps)
 mesh_of slots new ps number l mesh =
     subst (λ xs. IsDelaunayMesh new xs (all_numbers xs)) (sym l.is)
     (all_longer l.others l.last new (subst (λ n. IsDelaunayMesh new (l.others ++ l.last ∷ []) (n ∷ all_numbers l.others)) l.number_is (subst (λ xs. IsDelaunayMesh new xs (number ∷ all_numbers l.others)) l.is mesh)))
 
+-- the list after a push is one with one more
+pub longer_of : (slots : List (Option SlotValue)) (before ps : List Point) (p : Point) → ps ≡ before ++ p ∷ [] → IsDelaunayMesh slots before (all_numbers before) → ((i : ℕ) → i < length before → point before i ≢ p)
+    → IsLonger slots ps (length ps - 1)
+longer_of slots before ps p e mesh apart = record { others = before; last = p; is = e; number_is = omega (arith, ap length e, length_push before p); mesh = mesh; apart = apart }
+
 -- what stays, told of the last point itself
-pub stays_of : (slots new : List (Option Tet)) (before ps : List Point) (p : Point) (n : ℕ) → ps ≡ before ++ p ∷ [] → n ≡ length before
+pub stays_of : (slots new : List (Option SlotValue)) (before ps : List Point) (p : Point) (n : ℕ) → ps ≡ before ++ p ∷ [] → n ≡ length before
     → ((u : ℕ) → IsLive slots u → (IsTaken slots ps (point ps n) n u → ⊥) → corners_at new u ≡ corners_at slots u)
     → (u : ℕ) → IsLive slots u → (IsTaken slots ps p n u → ⊥) → corners_at new u ≡ corners_at slots u
 stays_of slots new before ps p n e m stay u live not =

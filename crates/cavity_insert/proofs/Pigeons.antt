@@ -3,7 +3,7 @@ use Rattle.std.proofs.Common.{◌≡◌, ◌≢◌, ◌⊎◌, inl, inr, ℕ, ze
 use Rattle.std.proofs.lemmas.Bool.{cases_eq, cases_lt}
 use Rattle.std.proofs.lemmas.List.{get_or_past}
 use Rattle.mesh_arena.specs.declared.slot.Slot.{Slot}
-use Rattle.mesh_arena.specs.Mesh.{Tet, IsLive}
+use Rattle.mesh_arena.specs.Mesh.{SlotValue, IsLive}
 use Rattle.mesh_arena.specs.Cavity.{slot_at}
 
 -- f takes the value m below n, or not
@@ -60,7 +60,7 @@ pigeons (suc m) (suc n) f within once = elim (find f m (suc n)) [
   | inr none ↦ omega (arith, pigeons m (suc n) f (λ j h. omega (arith, within j h, none j h)) once)
 ]
 
-pub few_slots : (slots : List (Option Tet)) (cavity : List Slot) → ((j : ℕ) → j < length cavity → IsLive slots (slot_at cavity j)) → ((i j : ℕ) → i < length cavity → j < length cavity → slot_at cavity i ≡ slot_at cavity j → i ≡ j) → length cavity ≤ length slots
+pub few_slots : (slots : List (Option SlotValue)) (cavity : List Slot) → ((j : ℕ) → j < length cavity → IsLive slots (slot_at cavity j)) → ((i j : ℕ) → i < length cavity → j < length cavity → slot_at cavity i ≡ slot_at cavity j → i ≡ j) → length cavity ≤ length slots
 few_slots slots cavity live once = pigeons (length slots) (length cavity) (slot_at cavity) (λ j h. live_within (slot_at cavity j) (live j h)) once
   where
     live_within : (u : ℕ) → IsLive slots u → u < length slots

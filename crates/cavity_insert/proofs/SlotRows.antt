@@ -13,7 +13,7 @@ use Rattle.geo_laws.proofs.Arrangement as arrangement
 use Rattle.geo_laws.proofs.Corners.{distinct}
 use Rattle.geo_laws.proofs.Places.{A, B, C, D}
 use Rattle.insert_laws.proofs.Bridge.{same_of_even, corner_to, corner_from}
-use Rattle.mesh_arena.specs.Mesh.{Tet, corners_at, corner_in}
+use Rattle.mesh_arena.specs.Mesh.{SlotValue, corners_at, corner_in}
 use Rattle.mesh_arena.specs.declared.slot.Corner.{Corner}
 use Rattle.point_locate.specs.Place.{row_corners, IsAt}
 use Rattle.mesh_laws.specs.Living.{IsRowSlot, IsGhostSlot, IsDelaunayMesh}
@@ -59,12 +59,12 @@ arranged_of ps t p first second =
 -- ---- the rows of the first slots
 
 -- these are the rows of the slots below n
-pub record AreRowsBelow (slots : List (Option Tet)) (rows : List Row) (n : ℕ) : Type 0 where
+pub record AreRowsBelow (slots : List (Option SlotValue)) (rows : List Row) (n : ℕ) : Type 0 where
   pub from : (row : Row) → Contains rows row → (s : ℕ) × IsAt slots (λ cs. IsRowOf cs row) s
   pub to : (s : ℕ) → s < n → (t : Row) → corners_at slots s ≡ Some (row_corners t) → (row : Row) × Contains rows row × IsRowOf (row_corners t) row
 
 -- the next slot has no row
-pub rows_pass : (slots : List (Option Tet)) (rows : List Row) (n : ℕ) → ((t : Row) → ¬ (corners_at slots n ≡ Some (row_corners t))) → AreRowsBelow slots rows n → AreRowsBelow slots rows (n + 1)
+pub rows_pass : (slots : List (Option SlotValue)) (rows : List Row) (n : ℕ) → ((t : Row) → ¬ (corners_at slots n ≡ Some (row_corners t))) → AreRowsBelow slots rows n → AreRowsBelow slots rows (n + 1)
 rows_pass slots rows n none before = record { from = before.from; to = λ s h t e. by s t e (cases_lt s n) h }
   where
     by : (s : ℕ) (t : Row) → corners_at slots s ≡ Some (row_corners t) → (s < n) ⊎ (n ≤ s) → s < n + 1 → (row : Row) × Contains rows row × IsRowOf (row_corners t) row
@@ -72,7 +72,7 @@ rows_pass slots rows n none before = record { from = before.from; to = λ s h t 
     by s t e (inr l) h = let here : s ≡ n = omega (arith, h, l) in absurd (none t (ap (corners_at slots) (sym here) ∙ e))
 
 -- it has one
-pub rows_more : (slots : List (Option Tet)) (rows : List Row) (n : ℕ) (row : Row) → IsAt slots (λ cs. IsRowOf cs row) n → AreRowsBelow slots rows n → AreRowsBelow slots (rows ++ row ∷ []) (n + 1)
+pub rows_more : (slots : List (Option SlotValue)) (rows : List Row) (n : ℕ) (row : Row) → IsAt slots (λ cs. IsRowOf cs row) n → AreRowsBelow slots rows n → AreRowsBelow slots (rows ++ row ∷ []) (n + 1)
 rows_more slots rows n row at before = record { from = λ r h. from r (Contains-push_cases rows row r h); to = λ s h t e. by s t e (cases_lt s n) h }
   where
     from : (r : Row) → Contains rows r ⊎ (row ≡ r) → (s : ℕ) × IsAt slots (λ cs. IsRowOf cs r) s
@@ -88,14 +88,14 @@ rows_more slots rows n row at before = record { from = λ r h. from r (Contains-
 -- ---- the list
 
 -- a slot of a row is below the end
-pub slot_within : (slots : List (Option Tet)) (s : ℕ) (cs : List Corner) → corners_at slots s ≡ Some cs → s < length slots
+pub slot_within : (slots : List (Option SlotValue)) (s : ℕ) (cs : List Corner) → corners_at slots s ≡ Some cs → s < length slots
 slot_within slots s cs e = by (cases_lt s (length slots))
   where
     by : (s < length slots) ⊎ (length slots ≤ s) → s < length slots
     by (inl h) = h
-    by (inr h) = let none = ap (option_map (λ (t : Tet). t.corners)) (get_or_past slots s None h) in absurd (cc (none, e))
+    by (inr h) = let none = ap (option_map (λ (t : SlotValue). t.corners)) (get_or_past slots s None h) in absurd (cc (none, e))
 
-module _ (slots : List (Option Tet)) (ps : List Point) (ms : List ℕ) (mesh : IsDelaunayMesh slots ps ms) where
+module _ (slots : List (Option SlotValue)) (ps : List Point) (ms : List ℕ) (mesh : IsDelaunayMesh slots ps ms) where
   -- the least even arrangement of a row slot's corners is its row
   row_is : (s : ℕ) (t row : Row) (slot : IsRowSlot slots ps ms s t) → IsRowOf (row_corners t) row → row ≡ slot.row
   row_is s t row slot is =

@@ -7,7 +7,7 @@ use Rattle.sign_predicates.specs.Point.{Point}
 use Rattle.geo_laws.specs.Delaunay.{numbers, all_numbers, has_corner}
 use Rattle.geo_laws.specs.declared.tetrahedra.Tet.{Tet as Row}
 use Rattle.geo_laws.proofs.Corners.{found}
-use Rattle.mesh_arena.specs.Mesh.{Tet}
+use Rattle.mesh_arena.specs.Mesh.{SlotValue}
 use Rattle.mesh_arena.specs.declared.slot.Corner.{Corner}
 use Rattle.point_locate.specs.Place.{row_corners, IsAt}
 use Rattle.mesh_laws.specs.Living.{IsRowSlot, IsDelaunayMesh}
@@ -15,7 +15,7 @@ use Rattle.mesh_laws.proofs.Rows.{same_row}
 use Rattle.cavity_insert.specs.Living.{HasSide, HasBoth}
 use Rattle.cavity_insert.proofs.SlotRows.{slot_within, slot_of_row}
 
-module _ (slots : List (Option Tet)) (ps : List Point) (mesh : IsDelaunayMesh slots ps (all_numbers ps)) (a b : ℕ) where
+module _ (slots : List (Option SlotValue)) (ps : List Point) (mesh : IsDelaunayMesh slots ps (all_numbers ps)) (a b : ℕ) where
   -- a slot with both points tells of a side
   pub side_of_slot : (s : ℕ) → a ≢ b → IsAt slots (λ cs. HasBoth cs a b) s → HasSide ps a b
   side_of_slot s apart at =

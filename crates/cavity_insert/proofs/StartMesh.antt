@@ -17,8 +17,8 @@ use Rattle.mesh_laws.specs.Living.{face_off, IsFaceCorner, HasSameFaceCorners, I
 use Rattle.mesh_laws.proofs.Faces.{place_of, off_corner, corner_off, corner_split, row_off}
 use Rattle.mesh_laws.proofs.Across.{ghost_shows, infinite_corner}
 use Rattle.mesh_laws.proofs.Joined.{place_other}
-use Rattle.mesh_arena.specs.Mesh.{Tet, corners_at, corner, corner_in, side, at, IsLive, OnFace, SameFace, Links, Takes, Off}
-use Rattle.mesh_arena.specs.declared.arena.Side.{Side}
+use Rattle.mesh_arena.specs.Mesh.{SlotValue, corners_at, corner, corner_in, side, at, IsLive, OnFace, SameFace, Links, Takes, Off}
+use Rattle.mesh_arena.specs.declared.arena.SlotFace.{SlotFace}
 use Rattle.mesh_arena.specs.declared.slot.Corner.{Corner}
 use Rattle.mesh_arena.specs.declared.slot.Corner.TheVariants.{Point as Numbered, Ghost}
 use Rattle.cavity_insert.specs.declared.start.Shared.{Shared}
@@ -78,7 +78,7 @@ covered one two i j m h l off =
     by (suc (suc (suc zero))) h4 n a b c d = at 3 n d
     by (suc (suc (suc (suc k)))) h4 n a b c d = absurd (omega (arith, h4))
 
-module _ (slots : List (Option Tet)) (t : Row) (linked : List Shared) (are : AreStartSlots slots t linked) where
+module _ (slots : List (Option SlotValue)) (t : Row) (linked : List Shared) (are : AreStartSlots slots t linked) where
   corner_is : (s m : ℕ) → corner slots s m ≡ corner_of t (place_in (start_places s) m)
   corner_is s m = ap (λ o. corner_in o m) (are.corners s) ∙ corner_named t (start_places s) m
 
@@ -97,12 +97,12 @@ module _ (slots : List (Option Tet)) (t : Row) (linked : List Shared) (are : Are
       by None e = absurd (true≢false (sym e))
       by (Some ps) e = refl
 
-none_of : (o : Option Side) → is_none o ≡ true → o ≡ None
+none_of : (o : Option SlotFace) → is_none o ≡ true → o ≡ None
 none_of None h = refl
 none_of (Some b) h = absurd (true≢false (sym h))
 
 -- what `link` asks of a pair of faces that fits
-pub record CanLink (slots : List (Option Tet)) (p : Shared) : Type 0 where
+pub record CanLink (slots : List (Option SlotValue)) (p : Shared) : Type 0 where
   pub first : IsLive slots p.slot
   pub second : IsLive slots p.behind
   pub faces : (p.face < 4) × (p.back < 4)
@@ -111,7 +111,7 @@ pub record CanLink (slots : List (Option Tet)) (p : Shared) : Type 0 where
   pub first_free : side slots p.slot p.face ≡ None
   pub second_free : side slots p.behind p.back ≡ None
 
-pub can_link : (slots : List (Option Tet)) (t : Row) (linked : List Shared) (p : Shared) → AreStartSlots slots t linked → fits linked p ≡ true → CanLink slots p
+pub can_link : (slots : List (Option SlotValue)) (t : Row) (linked : List Shared) (p : Shared) → AreStartSlots slots t linked → fits linked p ≡ true → CanLink slots p
 can_link slots t linked p are h =
     let a = and_parts _ _ h in
     let live = and_parts _ _ a.0 in
@@ -132,7 +132,7 @@ can_link slots t linked p are h =
     }
 
 -- the pair is linked
-pub linked_one : (old new : List (Option Tet)) (t : Row) (linked : List Shared) (p : Shared) → AreStartSlots old t linked → Links old new p.slot p.face p.behind p.back → AreStartSlots new t (p ∷ linked)
+pub linked_one : (old new : List (Option SlotValue)) (t : Row) (linked : List Shared) (p : Shared) → AreStartSlots old t linked → Links old new p.slot p.face p.behind p.back → AreStartSlots new t (p ∷ linked)
 linked_one old new t linked p are links = record {
   corners = λ s. links.corners s ∙ are.corners s;
   sides = λ s k. first s k (cases_Bool (s == p.slot && k == p.face));
@@ -145,7 +145,7 @@ linked_one old new t linked p are links = record {
         by (inr n) = inl n
         by (inl e) = inr (λ f. true≢false (sym (ap (λ b. b && (k == j)) (eq-eqb s u e) ∙ eq-eqb k j f) ∙ h))
 
-    here : (s k u j : ℕ) → (s == u && k == j) ≡ true → (b : Option Side) → side new u j ≡ b → side new s k ≡ b
+    here : (s k u j : ℕ) → (s == u && k == j) ≡ true → (b : Option SlotFace) → side new u j ≡ b → side new s k ≡ b
     here s k u j h b e =
         let parts = and_parts _ _ h in
         ap (λ z. side new z k) (eqb-true s u parts.0) ∙ ap (λ z. side new u z) (eqb-true k j parts.1) ∙ e
@@ -162,7 +162,7 @@ linked_one old new t linked p are links = record {
 -- ---- the slots
 
 -- the first n slots are there, and none is linked
-pub record AreMade (slots : List (Option Tet)) (t : Row) (n : ℕ) : Type 0 where
+pub record AreMade (slots : List (Option SlotValue)) (t : Row) (n : ℕ) : Type 0 where
   pub len : length slots ≡ n
   pub corners : (s : ℕ) → s < n → corners_at slots s ≡ named t (start_places s)
   pub bare : (s k : ℕ) → side slots s k ≡ None
@@ -183,7 +183,7 @@ not_none None h e = absurd (cc)
 not_none (Some x) h e = cc
 
 -- and the next one is made
-pub one_made : (old new : List (Option Tet)) (t : Row) (n s : ℕ) (cs : List Corner) → n < 5 → AreMade old t n → Takes old new s cs → Some cs ≡ named t (start_places n) → AreMade new t (n + 1)
+pub one_made : (old new : List (Option SlotValue)) (t : Row) (n s : ℕ) (cs : List Corner) → n < 5 → AreMade old t n → Takes old new s cs → Some cs ≡ named t (start_places n) → AreMade new t (n + 1)
 one_made old new t n s cs few are takes is = record {
   len = past.1 ∙ ap (λ z. z + 1) are.len;
   corners = λ u l. by u l (cases_eq u s);
@@ -205,7 +205,7 @@ one_made old new t n s cs few are takes is = record {
         ap (corners_at new) e ∙ takes.made ∙ is ∙ ap (λ z. named t (start_places z)) (sym here)
     by u l (inr m) = takes.corners u m ∙ are.corners u (omega (arith, l, m, past.0, are.len))
 
-pub all_made : (slots : List (Option Tet)) (t : Row) → AreMade slots t 5 → AreStartSlots slots t []
+pub all_made : (slots : List (Option SlotValue)) (t : Row) → AreMade slots t 5 → AreStartSlots slots t []
 all_made slots t are = record {
   corners = λ s. by s (cases_lt s 5);
   sides = λ s k. are.bare s k;
@@ -232,7 +232,7 @@ ghost_four t (suc zero) = record { a = t.a; b = t.d; c = t.c; d = 0 }
 ghost_four t (suc (suc zero)) = record { a = t.a; b = t.b; c = t.d; d = 0 }
 ghost_four t k = record { a = t.a; b = t.c; c = t.b; d = 0 }
 
-module _ (slots : List (Option Tet)) (ps : List Point) (t : Row) (are : AreStartSlots slots t start_links) (on : AreNumbersOf ps (numbers t)) (positive : IsPositive (corners ps t)) (arranged : IsArranged t) where
+module _ (slots : List (Option SlotValue)) (ps : List Point) (t : Row) (are : AreStartSlots slots t start_links) (on : AreNumbersOf ps (numbers t)) (positive : IsPositive (corners ps t)) (arranged : IsArranged t) where
   first : IsFirst ps t
   first = law_first ps t positive arranged
 

@@ -3,13 +3,13 @@ use Rattle.std.specs.Prelude.{◌↔◌, ◌⊎◌, ℕ, List, Option, Contains}
 use Rattle.sign_predicates.specs.Point.{Point}
 use Rattle.geo_laws.specs.Delaunay.{numbers}
 use Rattle.geo_laws.specs.declared.tetrahedra.Tet.{Tet as Row}
-use Rattle.mesh_arena.specs.Mesh.{Tet}
+use Rattle.mesh_arena.specs.Mesh.{SlotValue}
 use Rattle.mesh_laws.specs.Living.{IsDelaunayMesh}
 use Rattle.cavity_insert.specs.declared.order.Turn.{Turn}
 use Rattle.cavity_insert.specs.Order.{turn_numbers}
 
 -- the mesh of the corners of the first row and of the points whose turns have come
-pub record HasInserted (slots : List (Option Tet)) (ps : List Point) (first : Row) (turns : List Turn) : Type 0 where
+pub record HasInserted (slots : List (Option SlotValue)) (ps : List Point) (first : Row) (turns : List Turn) : Type 0 where
   pub ms : List ℕ
   pub mesh : IsDelaunayMesh slots ps ms
   pub exactly : (i : ℕ) → Contains ms i ↔ (Contains (numbers first) i ⊎ Contains (turn_numbers turns) i)

@@ -1,9 +1,9 @@
 -- What the search for a cavity keeps.
 use Rattle.std.specs.Prelude.{◌≡◌, ℕ, ◌<◌, ◌⊎◌, List, length, Option, Some}
-use Rattle.mesh_arena.specs.declared.arena.Side.{Side}
+use Rattle.mesh_arena.specs.declared.arena.SlotFace.{SlotFace}
 use Rattle.mesh_arena.specs.declared.slot.Slot.{Slot}
 use Rattle.mesh_arena.specs.declared.slot.RimFace.{RimFace}
-use Rattle.mesh_arena.specs.Mesh.{Tet, IsLive, side, at}
+use Rattle.mesh_arena.specs.Mesh.{SlotValue, IsLive, side, at}
 use Rattle.mesh_arena.specs.Star.{rim_at}
 use Rattle.mesh_arena.specs.Cavity.{slot_at, IsIn}
 use Rattle.mesh_laws.specs.Reach.{Reach}
@@ -16,7 +16,7 @@ abbrev pub Before : ℕ → ℕ → ℕ → ℕ → Type 0
 Before i k j m = (j < i) ⊎ ((j ≡ i) × (m < k))
 
 -- a face of the rim: behind it stands the face m of the slot j
-pub record Edge (slots : List (Option Tet)) (rule : ℕ → Type 0) (cavity : List Slot) (i k : ℕ) (f : RimFace) : Type 0 where
+pub record BordersCavity (slots : List (Option SlotValue)) (rule : ℕ → Type 0) (cavity : List Slot) (i k : ℕ) (f : RimFace) : Type 0 where
   pub slot : ℕ
   pub face : ℕ
   pub inside : slot < length cavity
@@ -25,14 +25,15 @@ pub record Edge (slots : List (Option Tet)) (rule : ℕ → Type 0) (cavity : Li
   pub out : rule f.slot.index → ⊥
 
 -- the face is on the rim
-pub record OnEdge (rim : List RimFace) (b : Side) : Type 0 where
+pub record IsListed (rim : List RimFace) (b : SlotFace) : Type 0 where
   pub place : ℕ
   pub inside : place < length rim
   pub slot : (rim_at rim place).slot.index ≡ b.slot
   pub face : (rim_at rim place).face ≡ b.face
 
 -- the search has come to the face k of the slot i of the cavity
-pub record Growing (slots : List (Option Tet)) (rule : ℕ → Type 0) (start : ℕ) (tested : List Tested) (cavity : List Slot) (rim : List RimFace) (i k : ℕ) : Type 0 where
+pub record Growing (slots : List (Option SlotValue)) (rule : ℕ
+    → Type 0) (start : ℕ) (tested : List Tested) (cavity : List Slot) (rim : List RimFace) (i k : ℕ) : Type 0 where
   pub begun : IsIn cavity start
   pub reached : (j : ℕ) → j < length cavity → Reach slots rule start (slot_at cavity j)
   pub taken : (j : ℕ) → j < length cavity → rule (slot_at cavity j)
@@ -41,6 +42,8 @@ pub record Growing (slots : List (Option Tet)) (rule : ℕ → Type 0) (start : 
   pub marked : (j : ℕ) → j < length cavity → IsMarked tested (slot_at cavity j)
   pub listed : (u : ℕ) → IsMarkedAs tested u In → IsIn cavity u
   pub out : (u : ℕ) → IsMarkedAs tested u Out → rule u → ⊥
-  pub seen : (j m : ℕ) (b : Side) → j < length cavity → Before i k j m → side slots (slot_at cavity j) m ≡ Some b → IsIn cavity b.slot ⊎ OnEdge rim b
-  pub edge : (r : ℕ) → r < length rim → Edge slots rule cavity i k (rim_at rim r)
-  pub rim_once : (r q : ℕ) → r < length rim → q < length rim → (rim_at rim r).slot.index ≡ (rim_at rim q).slot.index → (rim_at rim r).face ≡ (rim_at rim q).face → r ≡ q
+  pub seen : (j m : ℕ) (b : SlotFace) → j < length cavity → Before i k j m → side slots (slot_at cavity j) m ≡ Some b → IsIn cavity b.slot
+      ⊎ IsListed rim b
+  pub borders : (r : ℕ) → r < length rim → BordersCavity slots rule cavity i k (rim_at rim r)
+  pub rim_once : (r q : ℕ) → r < length rim → q < length rim → (rim_at rim r).slot.index ≡ (rim_at rim q).slot.index
+      → (rim_at rim r).face ≡ (rim_at rim q).face → r ≡ q

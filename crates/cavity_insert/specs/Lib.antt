@@ -2,11 +2,13 @@ pub mod Build
 pub mod Filter
 pub mod First
 pub mod Grow
+pub mod Growth
 pub mod Insert
 pub mod Living
 pub mod Lost
 pub mod Marks
 pub mod Order
 pub mod Rows
+pub mod Search
 pub mod Sides
 pub mod Start

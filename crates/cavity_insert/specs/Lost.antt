@@ -1,12 +1,12 @@
 -- The sides that an insertion takes away.
 use Rattle.std.specs.Prelude.{ℕ, ◌⊎◌, List, Option, Contains}
 use Rattle.sign_predicates.specs.Point.{Point}
-use Rattle.mesh_arena.specs.Mesh.{Tet}
+use Rattle.mesh_arena.specs.Mesh.{SlotValue}
 use Rattle.point_locate.specs.Place.{IsAt}
 use Rattle.cavity_insert.specs.Living.{HasSide, HasBoth}
 
 -- each two corners of the slot's row are among the numbers
-abbrev pub IsToldOf : List ℕ → List (Option Tet) → ℕ → Type 0
+abbrev pub IsToldOf : List ℕ → List (Option SlotValue) → ℕ → Type 0
 IsToldOf lost slots u = (a b : ℕ) → IsAt slots (λ cs. HasBoth cs a b) u → Contains lost a × Contains lost b
 
 -- each side of the Delaunay list of the points before is one of the points after, or both its ends are among the numbers

@@ -26,7 +26,8 @@ bucket slot = slot % 1024
 
 -- each of the first n that is in the bucket stands at this place or before it; and where there is one, the place has one of them
 abbrev pub IsLastIn : List Tested → ℕ → ℕ → ℕ → Type 0
-IsLastIn tested b n place = (j : ℕ) → j < n → bucket (tested_at tested j).slot ≡ b → (place < n) × (bucket (tested_at tested place).slot ≡ b) × (j ≤ place)
+IsLastIn tested b n place = (j : ℕ) → j < n → bucket (tested_at tested j).slot ≡ b → (place < n)
+    × (bucket (tested_at tested place).slot ≡ b) × (j ≤ place)
 
 abbrev pub link_at : List ℕ → ℕ → ℕ
 link_at links i = slice_index_or links i 0

@@ -2,8 +2,8 @@
 use Rattle.std.specs.Prelude.{◌≡◌, ℕ, zero, suc, nat_lt, is_some, is_none, List, [], ◌∷◌, map, Option, Some, None, not, Bool, ◌&&◌, ◌||◌, ◌==◌, if◌then◌else◌}
 use Rattle.std.specs.List.{slice_index_or}
 use Rattle.geo_laws.specs.declared.tetrahedra.Tet.{Tet as Row}
-use Rattle.mesh_arena.specs.Mesh.{Tet, corners_at, side, at}
-use Rattle.mesh_arena.specs.declared.arena.Side.{Side}
+use Rattle.mesh_arena.specs.Mesh.{SlotValue, corners_at, side, at}
+use Rattle.mesh_arena.specs.declared.arena.SlotFace.{SlotFace}
 use Rattle.mesh_arena.specs.declared.slot.Corner.{Corner}
 use Rattle.mesh_arena.specs.declared.slot.Corner.TheVariants.{Point as Numbered, Ghost}
 use Rattle.cavity_insert.specs.declared.start.Shared.{Shared}
@@ -30,7 +30,7 @@ named t None = None
 named t (Some places) = Some (map (corner_of t) places)
 
 -- what stands behind a face, if these pairs of faces are linked
-abbrev pub behind_face : List Shared → ℕ → ℕ → Option Side
+abbrev pub behind_face : List Shared → ℕ → ℕ → Option SlotFace
 behind_face [] s k = None
 behind_face (l ∷ ls) s k =
     if s == l.slot && k == l.face then Some (at l.behind l.back)
@@ -38,7 +38,7 @@ behind_face (l ∷ ls) s k =
     else behind_face ls s k
 
 -- the slots are the tetrahedron and its ghosts, with their corners in these places; and just these pairs of faces are linked
-pub record AreStartSlots (slots : List (Option Tet)) (t : Row) (linked : List Shared) : Type 0 where
+pub record AreStartSlots (slots : List (Option SlotValue)) (t : Row) (linked : List Shared) : Type 0 where
   pub corners : (s : ℕ) → corners_at slots s ≡ named t (start_places s)
   pub sides : (s k : ℕ) → side slots s k ≡ behind_face linked s k
 

@@ -1,8 +1,10 @@
 //! The Delaunay list by the filter over all fours of points: the plain program to compare with.
 ghost use Rattle.std.specs.Prelude.{◌≡◌, ◌-◌, ◌<◌, ◌^◌, ◌++◌, length, filter, OnOk, IfOk};
 ghost use Rattle.std.specs.List.{list_all};
-ghost use Rattle.geo_laws.specs.Delaunay.{corners, numbers_below, has_corner, is_delaunay, delaunay_rows};
-ghost use Rattle.cavity_insert.specs.Filter.{fours_of_one, fours_of_two, fours_of_three, is_corner_or_outside};
+ghost use Rattle.geo_laws.specs.Delaunay.{corners, numbers_below, has_corner, is_delaunay};
+ghost use Rattle.geo_laws.specs.Delaunay.{delaunay_rows};
+ghost use Rattle.cavity_insert.specs.Filter.{fours_of_one, fours_of_two, fours_of_three};
+ghost use Rattle.cavity_insert.specs.Filter.{is_corner_or_outside};
 
 use geo_laws::{Points, Tet, TetList};
 use sign_predicates::{Corners, Numbers, Sign, orient, outside};
@@ -53,7 +55,8 @@ fn is_corner_or_outside(points: &Points, t: Tet, at: &Corners, i: u32) -> bool
 fn has_others_outside(points: &Points, t: Tet, at: &Corners) -> bool
     requires corners { at.now ≡ corners points.now t }
     requires few { length points.now < 2 ^ 32 - 1 }
-    ensures { result ≡ list_all (is_corner_or_outside points.now t) (numbers_below (length points.now)) }
+    ensures { result
+        ≡ list_all (is_corner_or_outside points.now t) (numbers_below (length points.now)) }
 {
     for i in 0..points.len() as u32 {
         if !is_corner_or_outside(points, t, at, i) {
@@ -91,7 +94,8 @@ fn append_of_three(
     requires first { a < b }
     requires second { b < c }
     requires c_is_there { c < length points.now }
-    ensures { OnOk result (rows.new ≡ rows.old ++ filter (is_delaunay points.now) (fours_of_three (length points.now) a b c)) }
+    ensures { OnOk result (rows.new
+        ≡ rows.old ++ filter (is_delaunay points.now) (fours_of_three (length points.now) a b c)) }
 {
     for d in b + 1..points.len() as u32 {
         let row = Tet { a, b, c, d };
@@ -107,7 +111,8 @@ fn append_of_two(points: &Points, a: u32, b: u32, rows: &mut TetList) -> Result<
     requires few { length points.now < 2 ^ 32 - 1 }
     requires first { a < b }
     requires b_is_there { b < length points.now }
-    ensures { OnOk result (rows.new ≡ rows.old ++ filter (is_delaunay points.now) (fours_of_two (length points.now) a b)) }
+    ensures { OnOk result (rows.new
+        ≡ rows.old ++ filter (is_delaunay points.now) (fours_of_two (length points.now) a b)) }
 {
     for c in b + 1..points.len() as u32 {
         append_of_three(points, a, b, c, rows)?;
@@ -119,7 +124,8 @@ fn append_of_two(points: &Points, a: u32, b: u32, rows: &mut TetList) -> Result<
 fn append_of_one(points: &Points, a: u32, rows: &mut TetList) -> Result<(), NoMemory>
     requires few { length points.now < 2 ^ 32 - 1 }
     requires a_is_there { a < length points.now }
-    ensures { OnOk result (rows.new ≡ rows.old ++ filter (is_delaunay points.now) (fours_of_one (length points.now) a)) }
+    ensures { OnOk result (rows.new
+        ≡ rows.old ++ filter (is_delaunay points.now) (fours_of_one (length points.now) a)) }
 {
     for b in a + 1..points.len() as u32 {
         append_of_two(points, a, b, rows)?;

@@ -1,14 +1,16 @@
 //! The first tetrahedron: four points that do not lie in one plane, with the least numbers.
-ghost use Rattle.std.specs.Prelude.{◌≡◌, ℕ, ◌-◌, ◌<◌, ◌≤◌, ◌^◌, ◌↔◌, ◌-ℤ◌, ◌*ℤ◌, pos, unsigned_abs, IsTrue, IsNone, IfSome, length, MatchOption};
+ghost use Rattle.std.specs.Prelude.{◌≡◌, ℕ, ◌-◌, ◌<◌, ◌≤◌, ◌^◌, ◌↔◌, ◌-ℤ◌, ◌*ℤ◌, pos, unsigned_abs};
+ghost use Rattle.std.specs.Prelude.{IsTrue, IsNone, IfSome, length, MatchOption};
 ghost use Rattle.sign_predicates.specs.Orientation.{orient, IsPositive};
-ghost use Rattle.geo_laws.specs.Delaunay.{point, corners, HasDistinctPoints, AreCoplanar, IsOn, IsArranged};
+ghost use Rattle.geo_laws.specs.Delaunay.{point, corners, HasDistinctPoints, AreCoplanar, IsOn};
+ghost use Rattle.geo_laws.specs.Delaunay.{IsArranged};
 ghost use Rattle.cavity_insert.specs.First.{IsOnLine};
 
 use geo_laws::{Points, Tet};
 use sign_predicates::{GridPoint, Sign, orient};
 
-/// Four points that do not lie in one plane, as a positive row in the least even arrangement: the four whose ascending numbers are the least.
-/// None exactly where all points lie in one plane.
+/// Four points that do not lie in one plane, as a positive row in the least even arrangement: the
+/// four whose ascending numbers are the least. None exactly where all points lie in one plane.
 pub(crate) fn first_row(points: &Points) -> Option<Tet>
     requires distinct { HasDistinctPoints points.now }
     requires few { length points.now < 2 ^ 32 - 1 }
@@ -29,8 +31,10 @@ fn off_line(points: &Points) -> Option<u32>
     requires some { 2 ≤ length points.now }
     requires few { length points.now < 2 ^ 32 - 1 }
     ensures { MatchOption result
-        ((i : ℕ) → i < length points.now → IsOnLine (point points.now 0) (point points.now 1) (point points.now i))
-        (λ c. (1 < c) × (c < length points.now) × ¬ IsOnLine (point points.now 0) (point points.now 1) (point points.now c)) }
+        ((i : ℕ) → i < length points.now
+        → IsOnLine (point points.now 0) (point points.now 1) (point points.now i))
+        (λ c. (1 < c) × (c < length points.now)
+        × ¬ IsOnLine (point points.now 0) (point points.now 1) (point points.now c)) }
 {
     let (a, b) = (points.at(0), points.at(1));
     for c in 2..points.len() as u32 {
@@ -48,7 +52,9 @@ fn off_plane(points: &Points, c: u32) -> Option<Tet>
     ensures on { IfSome result (IsOn points.now) }
     ensures positive { IfSome result (λ t. IsPositive (corners points.now t)) }
     ensures arranged { IfSome result IsArranged }
-    ensures flat { IsNone result → (i : ℕ) → i < length points.now → orient (point points.now 0) (point points.now 1) (point points.now c) (point points.now i) ≡ pos 0 }
+    ensures flat { IsNone result → (i : ℕ) → i < length points.now
+        → orient (point points.now 0) (point points.now 1) (point points.now c) (point points.now i)
+        ≡ pos 0 }
 {
     let (p, q, r) = (points.at(0), points.at(1), points.at(c as usize));
     for d in 2..points.len() as u32 {

@@ -1,15 +1,16 @@
-//! The cavity of a new point: a search from one slot over neighbors that the point takes.
-ghost use Rattle.std.specs.Prelude.{◌≡◌, ◌+◌, ◌*◌, ◌<◌, ◌≤◌, length, IfOk, OnOk};
+//! The cavity of a new point: a search from one slot over neighbors in the point's conflict zone.
+ghost use Rattle.std.specs.Prelude.{◌≡◌, ℕ, ◌+◌, ◌*◌, ◌<◌, ◌≤◌, List, [], length, IfOk, OnOk};
 ghost use Rattle.mesh_arena.specs.Mesh.{IsLive, IsMesh, side, at};
 ghost use Rattle.mesh_arena.specs.Cavity.{slot_at};
 ghost use Rattle.point_locate.specs.Place.{AreCornersOn};
 ghost use Rattle.mesh_laws.specs.Rule.{IsTaken};
-ghost use Rattle.cavity_insert.specs.Marks.{IsMarked};
 ghost use Rattle.mesh_laws.specs.Reach.{Grown};
-ghost use Rattle.cavity_insert.specs.Grow.{Growing};
+ghost use Rattle.cavity_insert.specs.Marks.{IsMarked};
+ghost use Rattle.cavity_insert.specs.Search.{IsInZone};
+ghost use Rattle.cavity_insert.specs.Growth.{HasBegun, IsGrowing};
 
 use crate::marks::{Mark, Marks, Tested};
-use crate::rule::test_slot;
+use crate::search::Search;
 use crate::steps::Steps;
 use geo_laws::Points;
 use mesh_arena::{Arena, Cavity, Rim, RimFace, Slot};
@@ -18,91 +19,170 @@ use std::alloc::Global;
 use std::sync::ledger::Ledger;
 use tet_ports::NoMemory;
 
-// Tests the slot of `f`, which is behind the face k of the slot i of the cavity, and was not tested before.
-fn visit_new<L: Ledger>(
-    arena: &Arena,
-    points: &Points,
-    p: GridPoint,
-    number: u32,
-    start: Slot,
-    i: usize,
-    k: u8,
-    f: RimFace,
-    marks: &mut Marks,
-    cavity: &mut Cavity,
-    rim: &mut Rim,
-    steps: &mut Steps<L>,
-) -> Result<(), NoMemory>
-    requires corners { AreCornersOn arena.now.slots points.now }
-    requires mesh { IsMesh arena.now.slots }
-    requires inside { i < length cavity.old }
-    requires behind { side arena.now.slots (slot_at cavity.old i) k ≡ Some (at f.slot.index f.face) }
-    requires live { IsLive arena.now.slots f.slot.index }
-    requires fresh { IsMarked marks.old f.slot.index → ⊥ }
-    requires growing { Growing arena.now.slots (IsTaken arena.now.slots points.now p number) start.index marks.old cavity.old rim.old i k }
-    ensures growing { OnOk result (Growing arena.now.slots (IsTaken arena.now.slots points.now p number) start.index marks.new cavity.new rim.new i (k + 1)) }
-    ensures few { OnOk result (steps.new ≤ steps.old + 1) }
-    ensures many { OnOk result (length cavity.new + steps.old ≤ length cavity.old + steps.new) }
-    ensures longer { OnOk result (length cavity.old ≤ length cavity.new) }
-{
-    let slot = f.slot.index;
-    if test_slot(arena, points, f.slot, p, number, steps) {
-        marks.put(Tested {
-            slot,
-            mark: Mark::In,
-        })?;
-        cavity.push(f.slot)
-    } else {
-        marks.put(Tested {
-            slot,
-            mark: Mark::Out,
-        })?;
-        rim.push(f)
-    }
-}
-
-// Looks over the face k of the slot i of the cavity.
-fn visit<L: Ledger>(
-    arena: &Arena,
-    points: &Points,
-    p: GridPoint,
-    number: u32,
-    start: Slot,
-    i: usize,
-    k: u8,
-    marks: &mut Marks,
-    cavity: &mut Cavity,
-    rim: &mut Rim,
-    steps: &mut Steps<L>,
-) -> Result<(), NoMemory>
-    requires corners { AreCornersOn arena.now.slots points.now }
-    requires mesh { IsMesh arena.now.slots }
-    requires inside { i < length cavity.old }
-    requires face { k < 4 }
-    requires growing { Growing arena.now.slots (IsTaken arena.now.slots points.now p number) start.index marks.old cavity.old rim.old i k }
-    ensures growing { OnOk result (Growing arena.now.slots (IsTaken arena.now.slots points.now p number) start.index marks.new cavity.new rim.new i (k + 1)) }
-    ensures few { OnOk result (steps.new ≤ steps.old + 1) }
-    ensures many { OnOk result (length cavity.new + steps.old ≤ length cavity.old + steps.new) }
-    ensures longer { OnOk result (length cavity.old ≤ length cavity.new) }
-{
-    let Some(f) = arena.across(cavity.at(i), k) else {
-        return Ok(());
-    };
-    match marks.find(f.slot.index) {
-        Some(Mark::In) => Ok(()),
-        Some(Mark::Out) => rim.push(f),
-        None => visit_new(
-            arena, points, p, number, start, i, k, f, marks, cavity, rim, steps,
-        ),
-    }
-}
-
 // Room for the cavity and the rim of nearly every point of a cloud, so that their lists don't grow.
 const MOST_USUAL: usize = 64;
 
-/// The cavity of the new point `p`: the connected set of slots that it takes, `start` among them, and its rim. One step is one test of a slot, made by
-/// `test_slot`; with c slots in the cavity it makes at least c and at most `4c + 1` steps. The corners are places in `points`, from 0, and coordinates
-/// are in grid units. For want of memory nothing is said of the counter.
+/// The growth of a cavity, with marks that serve one growth after another.
+#[derive(Drop)]
+pub(crate) struct Growth {
+    start: Slot,
+    // The slots that were tested.
+    marks: Marks,
+    // The slots of the conflict zone that were found, and the faces round them.
+    pub(crate) cavity: Cavity,
+    pub(crate) rim: Rim,
+    alloc: Global,
+}
+
+impl Growth {
+    /// A growth that has not begun.
+    pub(crate) fn new(alloc: Global) -> Result<Self, NoMemory> {
+        Ok(Growth {
+            start: Slot { index: 0 },
+            marks: Marks::new(alloc)?,
+            cavity: Cavity::new(alloc),
+            rim: Rim::new(alloc),
+            alloc,
+        })
+    }
+
+    /// Begins a growth from a slot.
+    pub(crate) fn begin(&mut self, start: Slot) -> Result<(), NoMemory>
+        ensures { OnOk result (HasBegun self.new start) }
+    {
+        self.start = start;
+        self.marks.clear();
+        self.cavity = Cavity::with_capacity(self.alloc, MOST_USUAL)?;
+        self.rim = Rim::with_capacity(self.alloc, MOST_USUAL)?;
+        Ok(())
+    }
+
+    // Tests the slot of `f`, which is behind the face k of the slot i of the cavity, and was not
+    // tested before.
+    fn visit_new<L: Ledger>(
+        &mut self,
+        search: &Search<'_>,
+        i: usize,
+        k: u8,
+        f: RimFace,
+        steps: &mut Steps<L>,
+    ) -> Result<(), NoMemory>
+        requires mesh { IsMesh search.now.slots }
+        requires inside { i < length self.old.cavity }
+        requires behind { side search.now.slots (slot_at self.old.cavity i) k
+            ≡ Some (at f.slot.index f.face) }
+        requires live { IsLive search.now.slots f.slot.index }
+        requires fresh { IsMarked self.old.marks f.slot.index → ⊥ }
+        requires growing { IsGrowing search.now self.old i k }
+        ensures growing { OnOk result (IsGrowing search.now self.new i (k + 1)) }
+        ensures start { self.new.start ≡ self.old.start }
+        ensures few { OnOk result (steps.new ≤ steps.old + 1) }
+        ensures many { OnOk result (length self.new.cavity + steps.old
+            ≤ length self.old.cavity + steps.new) }
+        ensures longer { OnOk result (length self.old.cavity ≤ length self.new.cavity) }
+    {
+        let slot = f.slot.index;
+        if search.test(f.slot, steps) {
+            self.marks.put(Tested {
+                slot,
+                mark: Mark::In,
+            })?;
+            self.cavity.push(f.slot)
+        } else {
+            self.marks.put(Tested {
+                slot,
+                mark: Mark::Out,
+            })?;
+            self.rim.push(f)
+        }
+    }
+
+    // Looks over the face k of the slot i of the cavity.
+    fn visit<L: Ledger>(
+        &mut self,
+        search: &Search<'_>,
+        i: usize,
+        k: u8,
+        steps: &mut Steps<L>,
+    ) -> Result<(), NoMemory>
+        requires mesh { IsMesh search.now.slots }
+        requires inside { i < length self.old.cavity }
+        requires face { k < 4 }
+        requires growing { IsGrowing search.now self.old i k }
+        ensures growing { OnOk result (IsGrowing search.now self.new i (k + 1)) }
+        ensures start { self.new.start ≡ self.old.start }
+        ensures few { OnOk result (steps.new ≤ steps.old + 1) }
+        ensures many { OnOk result (length self.new.cavity + steps.old
+            ≤ length self.old.cavity + steps.new) }
+        ensures longer { OnOk result (length self.old.cavity ≤ length self.new.cavity) }
+    {
+        let Some(f) = search.across(self.cavity.at(i), k) else {
+            return Ok(());
+        };
+        match self.marks.find(f.slot.index) {
+            Some(Mark::In) => Ok(()),
+            Some(Mark::Out) => self.rim.push(f),
+            None => self.visit_new(search, i, k, f, steps),
+        }
+    }
+
+    // Looks over the faces of the slot i of the cavity.
+    fn visit_faces<L: Ledger>(
+        &mut self,
+        search: &Search<'_>,
+        i: usize,
+        steps: &mut Steps<L>,
+    ) -> Result<(), NoMemory>
+        requires mesh { IsMesh search.now.slots }
+        requires inside { i < length self.old.cavity }
+        requires growing { IsGrowing search.now self.old i 0 }
+        ensures growing { OnOk result (IsGrowing search.now self.new (i + 1) 0) }
+        ensures start { self.new.start ≡ self.old.start }
+        ensures few { OnOk result (steps.new ≤ steps.old + 4) }
+        ensures many { OnOk result (length self.new.cavity + steps.old
+            ≤ length self.old.cavity + steps.new) }
+        ensures longer { OnOk result (length self.old.cavity ≤ length self.new.cavity) }
+    {
+        for k in 0..4u8 {
+            self.visit(search, i, k, steps)?;
+        }
+        Ok(())
+    }
+
+    /// Grows the cavity from its start, which is in the conflict zone of the new point.
+    pub(crate) fn grow<L: Ledger>(
+        &mut self,
+        search: &Search<'_>,
+        steps: &mut Steps<L>,
+    ) -> Result<(), NoMemory>
+        requires begun { HasBegun self.old self.old.start }
+        requires start { IsInZone search.now self.old.start.index }
+        ensures few { OnOk result (steps.new ≤ steps.old + (4 * length self.new.cavity + 1)) }
+        ensures many { OnOk result (steps.old + length self.new.cavity ≤ steps.new) }
+        ensures grown { OnOk result (Grown search.now.slots (IsInZone search.now)
+            self.old.start.index self.new.cavity self.new.rim) }
+    {
+        let start = self.start;
+        search.see(start);
+        search.test(start, steps);
+        self.marks.put(Tested {
+            slot: start.index,
+            mark: Mark::In,
+        })?;
+        self.cavity.push(start)?;
+        let mut i = 0;
+        while i < self.cavity.len() {
+            self.visit_faces(search, i, steps)?;
+            i += 1;
+        }
+        Ok(())
+    }
+}
+
+/// The cavity of the new point `p`: the connected set of slots in its conflict zone, `start` among
+/// them, and its rim. One step is one test of a slot, made by `test_slot`; with c slots in the
+/// cavity it makes at least c and at most `4c + 1` steps. The corners are places in `points`, from
+/// 0, and coordinates are in grid units. For want of memory nothing is said of the counter.
 ///
 /// Source: incremental insertion (Bowyer 1981, Watson 1981).
 pub fn grow_cavity<L: Ledger>(
@@ -118,57 +198,14 @@ pub fn grow_cavity<L: Ledger>(
     requires start { IsTaken arena.now.slots points.now p number start.index }
     ensures few { IfOk result (λ grown. steps.new ≤ steps.old + (4 * length grown.0 + 1)) }
     ensures many { IfOk result (λ grown. steps.old + length grown.0 ≤ steps.new) }
-    ensures grown { IfOk result (λ grown. Grown arena.now.slots (IsTaken arena.now.slots points.now p number) start.index grown.0 grown.1) }
+    ensures grown { IfOk result (λ grown.
+        Grown arena.now.slots (IsTaken arena.now.slots points.now p number) start.index grown.0
+        grown.1) }
 {
-    let mut marks = Marks::new(alloc)?;
-    grow_with_marks(alloc, arena, points, start, p, number, &mut marks, steps)
-}
-
-/// The same with marks that serve one growth after another, whatever they hold.
-pub(crate) fn grow_with_marks<L: Ledger>(
-    alloc: Global,
-    arena: &Arena,
-    points: &Points,
-    start: Slot,
-    p: GridPoint,
-    number: u32,
-    marks: &mut Marks,
-    steps: &mut Steps<L>,
-) -> Result<(Cavity, Rim), NoMemory>
-    requires corners { AreCornersOn arena.now.slots points.now }
-    requires start { IsTaken arena.now.slots points.now p number start.index }
-    ensures few { IfOk result (λ grown. steps.new ≤ steps.old + (4 * length grown.0 + 1)) }
-    ensures many { IfOk result (λ grown. steps.old + length grown.0 ≤ steps.new) }
-    ensures grown { IfOk result (λ grown. Grown arena.now.slots (IsTaken arena.now.slots points.now p number) start.index grown.0 grown.1) }
-{
-    marks.clear();
-    let mut cavity = Cavity::with_capacity(alloc, MOST_USUAL)?;
-    let mut rim = Rim::with_capacity(alloc, MOST_USUAL)?;
-    let _ = arena.tet(start);
-    test_slot(arena, points, start, p, number, steps);
-    marks.put(Tested {
-        slot: start.index,
-        mark: Mark::In,
-    })?;
-    cavity.push(start)?;
-    let mut i = 0;
-    while i < cavity.len() {
-        for k in 0..4u8 {
-            visit(
-                arena,
-                points,
-                p,
-                number,
-                start,
-                i,
-                k,
-                marks,
-                &mut cavity,
-                &mut rim,
-                steps,
-            )?;
-        }
-        i += 1;
-    }
+    let mut growth = Growth::new(alloc)?;
+    growth.begin(start)?;
+    let search = Search::new(arena, points, p, number);
+    growth.grow(&search, steps)?;
+    let Growth { cavity, rim, .. } = growth;
     Ok((cavity, rim))
 }

@@ -1,4 +1,4 @@
-//! The Delaunay list of points, built by inserting one point after another into a living mesh, and that mesh itself.
+//! The living Delaunay mesh of a list of points, built by insertion, and its Delaunay list.
 #![tactic(auto)]
 
 mod first;
@@ -11,6 +11,7 @@ mod meshing;
 mod order;
 mod rows;
 mod rule;
+mod search;
 mod sides;
 mod start;
 mod steps;

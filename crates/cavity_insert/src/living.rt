@@ -1,14 +1,17 @@
 //! A Delaunay mesh that points are added to.
-ghost use Rattle.std.specs.Prelude.{◌≡◌, ◌≢◌, ◌⊎◌, ℕ, ◌+◌, ◌-◌, ◌^◌, ◌<◌, ◌++◌, [], ◌∷◌, ◌↔◌, length, IsTrue, IfOk, OnOk, OnErr, IsErrOf};
-ghost use Rattle.geo_laws.specs.Delaunay.{point, all_numbers, delaunay_rows, AreCoplanar, HasDistinctPoints, IsDelaunayList};
+ghost use Rattle.std.specs.Prelude.{◌≡◌, ◌≢◌, ◌⊎◌, ℕ, ◌+◌, ◌-◌, ◌^◌, ◌<◌, ◌++◌, [], ◌∷◌, ◌↔◌};
+ghost use Rattle.std.specs.Prelude.{length, IsTrue, IfOk, OnOk, OnErr, IsErrOf};
+ghost use Rattle.geo_laws.specs.Delaunay.{point, all_numbers, delaunay_rows, AreCoplanar};
+ghost use Rattle.geo_laws.specs.Delaunay.{HasDistinctPoints, IsDelaunayList};
 ghost use Rattle.mesh_arena.specs.Mesh.{corners_at, IsLive};
 ghost use Rattle.mesh_laws.specs.Rule.{IsTaken};
 ghost use Rattle.mesh_laws.specs.Living.{IsDelaunayMesh};
 ghost use Rattle.cavity_insert.specs.Living.{IsLonger, HasSide};
 ghost use Rattle.cavity_insert.specs.Lost.{IsToldOf, AreLostSides};
 
-use crate::insert::insert_telling;
-use crate::marks::Marks;
+use crate::grow::Growth;
+use crate::insert::grow_at;
+use crate::lost::tell_cavity;
 use crate::meshing::{BuildFault, Built, mesh_from};
 use crate::rows::rows_of;
 use crate::sides::{side_by_scan, side_by_walk};
@@ -21,7 +24,8 @@ use std::marker::{Brand, Model};
 use std::sync::ledger::{Blank, Ledger};
 use tet_ports::NoMemory;
 
-/// The points of a list and their Delaunay mesh, which stays one while points are added. Contracts see the points and the slots of the mesh.
+/// The points of a list and their Delaunay mesh, which stays one while points are added. Contracts
+/// see the points and the slots of the mesh.
 #[derive(Drop)]
 pub struct Living {
     points: Points,
@@ -41,13 +45,12 @@ impl Model for Living {
     ghost invariant = { λ l. IsLiving l.points l.arena.slots l.last.index };
 }
 
-/// Adds the last point of a list, which has this number, to the mesh of the others, and answers a slot of its star. The corners of the tetrahedra that
-/// are taken away are appended to `lost`.
+/// Adds the last point of a list to the mesh of the others, and answers a slot of its star. The
+/// corners of the tetrahedra that are taken away are appended to `lost`.
 fn insert_last<L: Ledger>(
     alloc: Global,
     arena: &mut Arena,
     points: &Points,
-    number: u32,
     near: Slot,
     blank: Blank,
     lost: &mut Vec<u32>,
@@ -55,23 +58,33 @@ fn insert_last<L: Ledger>(
     requires name { blank.name ≡ L.name }
     requires parts { blank.parts ≡ L.parts }
     requires some { 0 < blank.parts }
-    requires longer { IsLonger arena.old.slots points.now number }
+    requires longer { IsLonger arena.old.slots points.now (length points.now - 1) }
+    requires few { length points.now < 2 ^ 32 - 1 }
     requires near { IsLive arena.old.slots near.index }
-    ensures mesh { OnOk result (IsDelaunayMesh arena.new.slots points.now (all_numbers points.now)) }
+    ensures mesh { OnOk result
+        (IsDelaunayMesh arena.new.slots points.now (all_numbers points.now)) }
     ensures live { IfOk result (λ s. IsLive arena.new.slots s.index) }
-    ensures stays { OnOk result ((u : ℕ) → IsLive arena.old.slots u → (IsTaken arena.old.slots points.now (point points.now number) number u → ⊥) → corners_at arena.new.slots u ≡ corners_at arena.old.slots u) }
-    ensures told { OnOk result ((u : ℕ) → IsLive arena.old.slots u → IsToldOf lost.new.items arena.old.slots u ⊎ (corners_at arena.new.slots u ≡ corners_at arena.old.slots u)) }
+    ensures stays { IfOk result (λ s. (u : ℕ) → IsLive arena.old.slots u
+        → (IsTaken arena.old.slots points.now (point points.now (length points.now - 1))
+        (length points.now - 1) u → ⊥)
+        → corners_at arena.new.slots u ≡ corners_at arena.old.slots u) }
+    ensures told { IfOk result (λ s. (u : ℕ) → IsLive arena.old.slots u
+        → IsToldOf lost.new.items arena.old.slots u
+        ⊎ (corners_at arena.new.slots u ≡ corners_at arena.old.slots u)) }
     ensures err { OnErr result (arena.new ≡ arena.old) }
 {
-    let mut marks = Marks::new(alloc)?;
+    let number = (points.len() - 1) as u32;
+    let mut growth = Growth::new(alloc)?;
     let mut steps = Steps::<L>::new(blank);
-    insert_telling(
-        alloc, arena, points, number, near, &mut marks, &mut steps, lost,
-    )
+    grow_at(arena, points, number, near, &mut growth, &mut steps)?;
+    tell_cavity(arena, &growth.cavity, lost)?;
+    arena.reserve(growth.rim.len())?;
+    arena.replace_cavity(&growth.cavity, &growth.rim, number)
 }
 
 impl Living {
-    /// The mesh of distinct points. `Flat` comes exactly where all points lie in one plane; fewer than four do.
+    /// The mesh of distinct points. `Flat` comes exactly where all points lie in one plane; fewer
+    /// than four do.
     pub fn new(alloc: Global, points: Points) -> Result<Living, BuildFault>
         requires distinct { HasDistinctPoints points }
         requires few { length points < 2 ^ 32 - 1 }
@@ -111,14 +124,16 @@ impl Living {
         rows_of(alloc, &self.arena)
     }
 
-    /// Adds a point that is not there yet, and answers its number. Each slot that the point does not take stays live, at its place and with its
-    /// corners. On `NoMemory` all is as it was.
+    /// Adds a point that is not there yet, and answers its number. Each slot outside of its conflict
+    /// zone stays live, at its place and with its corners. On `NoMemory` all is as it was.
     pub fn add_point(&mut self, p: GridPoint) -> Result<u32, NoMemory>
         requires apart { (i : ℕ) → i < length self.old.points → point self.old.points i ≢ p }
         requires few { length self.old.points + 1 < 2 ^ 32 - 1 }
         ensures number { IfOk result (λ number. number ≡ length self.old.points) }
         ensures points { OnOk result (self.new.points ≡ self.old.points ++ p ∷ []) }
-        ensures stays { IfOk result (λ number. (u : ℕ) → IsLive self.old.slots u → (IsTaken self.old.slots self.new.points p number u → ⊥)
+        ensures stays { IfOk result
+            (λ number. (u : ℕ) → IsLive self.old.slots u
+            → (IsTaken self.old.slots self.new.points p number u → ⊥)
             → corners_at self.new.slots u ≡ corners_at self.old.slots u) }
         ensures err { OnErr result (self.new ≡ self.old) }
     {
@@ -126,15 +141,18 @@ impl Living {
         self.add_point_telling(p, &mut lost)
     }
 
-    /// The same, and tells which sides of the Delaunay list may be lost: each that is has both its ends among the numbers in `lost`, whose former
-    /// items are dropped. These are the corners of the tetrahedra that have the new point in their circumsphere. On `NoMemory` the points and
+    /// The same, and tells which sides of the Delaunay list may be lost: each that is has both its
+    /// ends among the numbers in `lost`, whose former items are dropped. These are the corners of
+    /// the tetrahedra that have the new point in their circumsphere. On `NoMemory` the points and
     /// the mesh are as they were.
     pub fn add_point_telling(&mut self, p: GridPoint, lost: &mut Vec<u32>) -> Result<u32, NoMemory>
         requires apart { (i : ℕ) → i < length self.old.points → point self.old.points i ≢ p }
         requires few { length self.old.points + 1 < 2 ^ 32 - 1 }
         ensures number { IfOk result (λ number. number ≡ length self.old.points) }
         ensures points { OnOk result (self.new.points ≡ self.old.points ++ p ∷ []) }
-        ensures stays { IfOk result (λ number. (u : ℕ) → IsLive self.old.slots u → (IsTaken self.old.slots self.new.points p number u → ⊥)
+        ensures stays { IfOk result
+            (λ number. (u : ℕ) → IsLive self.old.slots u
+            → (IsTaken self.old.slots self.new.points p number u → ⊥)
             → corners_at self.new.slots u ≡ corners_at self.old.slots u) }
         ensures lost { OnOk result (AreLostSides self.old.points self.new.points lost.new.items) }
         ensures err { OnErr result (self.new ≡ self.old) }
@@ -146,7 +164,6 @@ impl Living {
             self.alloc,
             &mut self.arena,
             &self.points,
-            number,
             self.last,
             Blank::new(1),
             lost,
@@ -162,8 +179,9 @@ impl Living {
         }
     }
 
-    /// Whether the two points are the ends of a side of a row of the Delaunay list. They are given by their numbers. A point and itself
-    /// are no side. It takes no memory, and a walk through neighbors: to the first point, and round it to the second.
+    /// Whether the two points are the ends of a side of a row of the Delaunay list. They are given
+    /// by their numbers. A point and itself are no side. It takes no memory, and a walk through
+    /// neighbors: to the first point, and round it to the second.
     pub fn has_side(&self, a: u32, b: u32) -> bool
         requires inside { (a < length self.now.points) × (b < length self.now.points) }
         ensures { IsTrue result ↔ HasSide self.now.points a b }

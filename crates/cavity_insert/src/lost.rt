@@ -27,7 +27,8 @@ pub(crate) fn tell_cavity(
     lost: &mut Vec<u32>,
 ) -> Result<(), NoMemory>
     requires { (j : ℕ) → j < length cavity.now → IsLive arena.now.slots (slot_at cavity.now j) }
-    ensures { OnOk result ((u : ℕ) → IsIn cavity.now u → IsToldOf lost.new.items arena.now.slots u) }
+    ensures { OnOk result ((u : ℕ) → IsIn cavity.now u
+        → IsToldOf lost.new.items arena.now.slots u) }
 {
     for i in 0..cavity.len() {
         tell_corners(arena, cavity.at(i), lost)?;

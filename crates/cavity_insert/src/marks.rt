@@ -1,4 +1,4 @@
-//! What the growth of a cavity knows of the slots that it has tested, in a small hash table that serves one growth after another.
+//! A small hash table of the slots that the growth of a cavity has tested.
 ghost use Rattle.std.specs.Prelude.{◌≡◌, ◌<◌, ◌++◌, [], ◌∷◌, IfOk, OnOk, MatchOption};
 ghost use Rattle.cavity_insert.specs.Marks.{IsMarked, IsMarkedAs, bucket};
 
@@ -20,8 +20,9 @@ pub(crate) struct Tested {
     pub(crate) mark: Mark,
 }
 
-/// The slots that were tested, in order, and for each bucket of slots the place of the last one in it, from which the others follow. A place past
-/// the end, or of a slot in another bucket, is left from an earlier growth, and tells that the bucket has no more slots.
+/// The slots that were tested, in order, and for each bucket of slots the place of the last one in
+/// it, from which the others follow. A place past the end, or of a slot in another bucket, is left
+/// from an earlier growth, and tells that the bucket has no more slots.
 #[derive(Drop)]
 pub(crate) struct Marks {
     tested: Vec<Tested>,

@@ -1,13 +1,14 @@
 //! The Delaunay mesh of a list of points, and its list.
 ghost use Rattle.std.specs.Prelude.{◌≡◌, ◌-◌, ◌^◌, ◌<◌, length, All, IfOk, OnOk, IsErrOf};
-ghost use Rattle.geo_laws.specs.Delaunay.{numbers, all_numbers, has_corner, delaunay_rows, AreCoplanar, HasDistinctPoints, IsOn, IsDelaunayList};
+ghost use Rattle.geo_laws.specs.Delaunay.{numbers, all_numbers, has_corner, delaunay_rows};
+ghost use Rattle.geo_laws.specs.Delaunay.{AreCoplanar, HasDistinctPoints, IsOn, IsDelaunayList};
 ghost use Rattle.mesh_arena.specs.Mesh.{IsLive};
 ghost use Rattle.mesh_laws.specs.Living.{IsDelaunayMesh};
 ghost use Rattle.cavity_insert.specs.Order.{IsOrderOf};
 
 use crate::first::first_row;
+use crate::grow::Growth;
 use crate::insert::insert_point;
-use crate::marks::Marks;
 use crate::order::{Turn, insertion_order};
 use crate::rows::rows_of;
 use crate::start::start_mesh;
@@ -20,7 +21,7 @@ use std::sync::ledger::{Blank, Ledger};
 use tet_ports::NoMemory;
 
 /// Why there is no Delaunay list.
-#[derive(Clone, Copy, PartialEq, Eq)]
+#[derive(Clone, Copy, Debug, PartialEq, Eq)]
 pub enum BuildFault {
     /// All points lie in one plane.
     Flat,
@@ -29,7 +30,9 @@ pub enum BuildFault {
 
 impl From<NoMemory> for BuildFault {
     ghost use Rattle.std.specs.Prelude.{◌≡◌};
-    ghost use Rattle.cavity_insert.specs.declared.meshing.BuildFault.TheVariants.{NoMemory as OutOfMemory};
+    ghost use Rattle.cavity_insert.specs.declared.meshing.BuildFault.TheVariants.{
+      NoMemory as OutOfMemory,
+    };
 
     ghost from_gives = { λ _ fault. fault ≡ OutOfMemory };
 
@@ -52,35 +55,39 @@ pub(crate) fn has_corner(t: Tet, i: u32) -> bool
     t.a == i || t.b == i || t.c == i || t.d == i
 }
 
-/// Inserts the points in their turns, but those of the first row, which are there. It answers a slot of the mesh.
+/// Inserts the points in their turns into the mesh of the first row, but those that are its
+/// corners.
 fn insert_all<L: Ledger>(
     alloc: Global,
-    arena: &mut Arena,
+    built: &mut Built,
     points: &Points,
     first: Tet,
     turns: &[Turn],
-    near: Slot,
     steps: &mut Steps<L>,
-) -> Result<Slot, NoMemory>
+) -> Result<(), NoMemory>
     requires distinct { HasDistinctPoints points.now }
     requires few { length points.now < 2 ^ 32 - 1 }
     requires order { IsOrderOf (length points.now) turns.now }
-    requires mesh { IsDelaunayMesh arena.old.slots points.now (numbers first) }
-    requires near { IsLive arena.old.slots near.index }
-    ensures mesh { OnOk result (IsDelaunayMesh arena.new.slots points.now (all_numbers points.now)) }
-    ensures live { IfOk result (λ s. IsLive arena.new.slots s.index) }
+    requires mesh { IsDelaunayMesh built.old.arena.slots points.now (numbers first) }
+    requires near { IsLive built.old.arena.slots built.old.last.index }
+    ensures mesh { OnOk result
+        (IsDelaunayMesh built.new.arena.slots points.now (all_numbers points.now)) }
+    ensures live { OnOk result (IsLive built.new.arena.slots built.new.last.index) }
 {
-    let mut marks = Marks::new(alloc)?;
-    let mut last = near;
+    let mut growth = Growth::new(alloc)?;
     for turn in turns {
         if !has_corner(first, turn.number) {
-            last = insert_point(alloc, arena, points, turn.number, last, &mut marks, steps)?;
+            let near = built.last;
+            let arena = &mut built.arena;
+            let last = insert_point(arena, points, turn.number, near, &mut growth, steps)?;
+            built.last = last;
         }
     }
-    Ok(last)
+    Ok(())
 }
 
-/// The Delaunay mesh of distinct points, which are inserted one after another. `Flat` comes exactly where all points lie in one plane.
+/// The Delaunay mesh of distinct points, which are inserted one after another. `Flat` comes exactly
+/// where all points lie in one plane.
 pub(crate) fn mesh_points<L: Ledger>(
     alloc: Global,
     points: &Points,
@@ -88,7 +95,8 @@ pub(crate) fn mesh_points<L: Ledger>(
 ) -> Result<Built, BuildFault>
     requires distinct { HasDistinctPoints points.now }
     requires few { length points.now < 2 ^ 32 - 1 }
-    ensures mesh { IfOk result (λ b. IsDelaunayMesh b.arena.slots points.now (all_numbers points.now)) }
+    ensures mesh { IfOk result
+        (λ b. IsDelaunayMesh b.arena.slots points.now (all_numbers points.now)) }
     ensures live { IfOk result (λ b. IsLive b.arena.slots b.last.index) }
     ensures not_flat { OnOk result (¬ AreCoplanar points.now) }
     ensures flat { IsErrOf result BuildFault.Flat → AreCoplanar points.now }
@@ -97,9 +105,10 @@ pub(crate) fn mesh_points<L: Ledger>(
         return Err(BuildFault::Flat);
     };
     let turns = insertion_order(alloc, points)?;
-    let (mut arena, start) = start_mesh(alloc, points, first)?;
-    let last = insert_all(alloc, &mut arena, points, first, &turns, start, steps)?;
-    Ok(Built { arena, last })
+    let (arena, last) = start_mesh(alloc, points, first)?;
+    let mut built = Built { arena, last };
+    insert_all(alloc, &mut built, points, first, &turns, steps)?;
+    Ok(built)
 }
 
 /// The same with a counter of its own.
@@ -113,7 +122,8 @@ pub(crate) fn mesh_from<L: Ledger>(
     requires some { 0 < blank.parts }
     requires distinct { HasDistinctPoints points.now }
     requires few { length points.now < 2 ^ 32 - 1 }
-    ensures mesh { IfOk result (λ b. IsDelaunayMesh b.arena.slots points.now (all_numbers points.now)) }
+    ensures mesh { IfOk result
+        (λ b. IsDelaunayMesh b.arena.slots points.now (all_numbers points.now)) }
     ensures live { IfOk result (λ b. IsLive b.arena.slots b.last.index) }
     ensures not_flat { OnOk result (¬ AreCoplanar points.now) }
     ensures flat { IsErrOf result BuildFault.Flat → AreCoplanar points.now }
@@ -122,8 +132,9 @@ pub(crate) fn mesh_from<L: Ledger>(
     mesh_points(alloc, points, &mut steps)
 }
 
-/// The Delaunay list of distinct points: the positive rows that have every other point outside, ties broken by the points'
-/// numbers, ascending. `Flat` comes exactly where all points lie in one plane; fewer than four do.
+/// The Delaunay list of distinct points: the positive rows that have every other point outside,
+/// ties broken by the points' numbers, ascending. `Flat` comes exactly where all points lie in one
+/// plane; fewer than four do.
 pub fn delaunay(alloc: Global, points: &Points) -> Result<TetList, BuildFault>
     requires distinct { HasDistinctPoints points.now }
     requires few { length points.now < 2 ^ 32 - 1 }

@@ -1,5 +1,8 @@
-//! The order in which points are inserted: in rounds, each about twice as long as the one before, and each along a space-filling curve.
-//! The Delaunay list does not depend on it; the time to build it does (Amenta, Choi and Rote, 2003: incremental constructions con BRIO).
+//! The order in which points are inserted.
+//!
+//! In rounds, each about twice as long as the one before, and each along a space-filling curve. The
+//! Delaunay list does not depend on it; the time to build it does (Amenta, Choi and Rote, 2003:
+//! incremental constructions con BRIO).
 ghost use Rattle.std.specs.Prelude.{◌≡◌, ◌-◌, ◌^◌, ◌<◌, ◌≤◌, length, IfOk};
 ghost use Rattle.cavity_insert.specs.Order.{IsOrderOf};
 
@@ -16,7 +19,8 @@ pub(crate) struct Turn {
     pub(crate) number: u32,
 }
 
-/// The least box round points: its least corner, and how far its coordinates are shifted to have 21 bits.
+/// The least box round points: its least corner, and how far its coordinates are shifted to have 21
+/// bits.
 #[derive(Clone, Copy)]
 struct Frame {
     x: i32,

@@ -16,7 +16,9 @@ use tet_ports::NoMemory;
 
 /// The Delaunay rows of a mesh, ascending.
 pub(crate) fn rows_of(alloc: Global, arena: &Arena) -> Result<TetList, NoMemory>
-    ensures { IfOk result (λ rows. (ps : List Point) (ms : List ℕ) → IsDelaunayMesh arena.now.slots ps ms → IsDelaunayListAmong ps ms rows) }
+    ensures { IfOk result
+        (λ rows. (ps : List Point) (ms : List ℕ) → IsDelaunayMesh arena.now.slots ps ms
+        → IsDelaunayListAmong ps ms rows) }
 {
     let mut rows = TetList::with_capacity(alloc, arena.slots())?;
     for i in 0..arena.slots() {
@@ -31,7 +33,9 @@ pub(crate) fn rows_of(alloc: Global, arena: &Arena) -> Result<TetList, NoMemory>
 /// The row of the slot at a place; None where it is free or a ghost.
 fn row_at(arena: &Arena, i: usize) -> Option<Tet>
     requires { i < length arena.now.slots }
-    ensures { MatchOption result ((t : Row) → ¬ (corners_at arena.now.slots i ≡ Some (row_corners t))) (λ row. IsAt arena.now.slots (λ cs. IsRowOf cs row) i) }
+    ensures { MatchOption result
+        ((t : Row) → ¬ (corners_at arena.now.slots i ≡ Some (row_corners t)))
+        (λ row. IsAt arena.now.slots (λ cs. IsRowOf cs row) i) }
 {
     let s = arena.slot(i)?;
     row_of(arena.tet(s))
@@ -39,7 +43,8 @@ fn row_at(arena: &Arena, i: usize) -> Option<Tet>
 
 /// The row of a slot, in its least even arrangement; None where the slot is a ghost.
 fn row_of(t: SlotCorners) -> Option<Tet>
-    ensures { MatchOption result ((row : Row) → ¬ (corner_list t ≡ row_corners row)) (IsRowOf (corner_list t)) }
+    ensures { MatchOption result ((row : Row) → ¬ (corner_list t ≡ row_corners row))
+        (IsRowOf (corner_list t)) }
 {
     match shape_of(t) {
         Shape::Row(four) => Some(least_second(least_first(four))),

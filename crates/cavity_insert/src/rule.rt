@@ -1,4 +1,6 @@
-//! Which slots of an arena a new point takes: the rows that don't have it outside, and the ghosts of the hull faces that it sees.
+//! Which slots of an arena are in the conflict zone of a new point.
+//!
+//! They are the rows that do not have it outside, and the ghosts of the hull faces that it sees.
 ghost use Rattle.std.specs.Prelude.{◌≡◌, ◌+◌, ◌<◌, ◌↔◌, IsTrue};
 ghost use Rattle.mesh_arena.specs.Mesh.{IsLive, corner_list};
 ghost use Rattle.point_locate.specs.Place.{AreCornersOn, AreOn, row_corners, placed};
@@ -11,9 +13,9 @@ use point_locate::{Shape, placed, row_points, shape_of};
 use sign_predicates::{GridPoint, Numbers, Sign, orient, outside};
 use std::sync::ledger::Ledger;
 
-// Whether the row doesn't have the point outside.
+// Whether a row is in conflict with the point: it does not have the point outside.
 #[inline(always)]
-fn takes_row(points: &Points, row: Tet, p: GridPoint, number: u32) -> bool
+fn row_conflicts(points: &Points, row: Tet, p: GridPoint, number: u32) -> bool
     requires { AreOn points.now (row_corners row) }
     ensures { IsTrue result ↔ IsTakenRow points.now p number (row_corners row) }
 {
@@ -26,19 +28,19 @@ fn takes_row(points: &Points, row: Tet, p: GridPoint, number: u32) -> bool
     !outside(row_points(points, row), numbers, p, number)
 }
 
-// Whether the slot with these corners is a row that doesn't have the point outside.
-fn is_taken_row(points: &Points, t: SlotCorners, p: GridPoint, number: u32) -> bool
+// Whether these are the corners of such a row.
+fn corners_conflict(points: &Points, t: SlotCorners, p: GridPoint, number: u32) -> bool
     requires { AreOn points.now (corner_list t) }
     ensures { IsTrue result ↔ IsTakenRow points.now p number (corner_list t) }
 {
     match shape_of(t) {
-        Shape::Row(row) => takes_row(points, row, p, number),
+        Shape::Row(row) => row_conflicts(points, row, p, number),
         Shape::Ghost(_) => false,
     }
 }
 
-// Whether the slot behind a face is a row that doesn't have the point outside.
-fn is_inner_taken(
+// Whether such a row stands behind a face.
+fn inner_conflicts(
     arena: &Arena,
     points: &Points,
     s: Slot,
@@ -52,7 +54,7 @@ fn is_inner_taken(
     ensures { IsTrue result ↔ IsInnerTaken arena.now.slots points.now p number s.index face }
 {
     match arena.across(s, face) {
-        Some(inner) => is_taken_row(points, arena.tet(inner.slot), p, number),
+        Some(inner) => corners_conflict(points, arena.tet(inner.slot), p, number),
         None => false,
     }
 }
@@ -67,14 +69,16 @@ fn is_seen(arena: &Arena, points: &Points, s: Slot, place: u8, p: GridPoint, num
     let at = placed(points, p, arena.tet(s));
     match orient(at.a, at.b, at.c, at.d) {
         Sign::Above => true,
-        Sign::Zero => is_inner_taken(arena, points, s, place, p, number),
+        Sign::Zero => inner_conflicts(arena, points, s, place, p, number),
         Sign::Below => false,
     }
 }
 
-/// Whether the new point takes this live slot: a row that doesn't have the point outside, ties decided by the points' numbers; or a ghost whose
-/// hull face the point is strictly beyond, or whose hull face's plane it is on where the row on the inner side doesn't have it outside. One step
-/// is counted. It takes no memory. The corners are places in `points`, from 0, and coordinates are in grid units.
+/// Whether this live slot is in the conflict zone of the new point: a row that does not have the
+/// point outside, ties decided by the points' numbers; or a ghost whose hull face the point is
+/// strictly beyond, or whose hull face's plane it is on where the row on the inner side is in
+/// conflict with it. One step is counted. It takes no memory. The corners are places in `points`,
+/// from 0, and coordinates are in grid units.
 ///
 /// Source: incremental insertion (Bowyer 1981, Watson 1981), with ghosts over the hull.
 #[inline(always)]
@@ -94,7 +98,7 @@ pub fn test_slot<L: Ledger>(
     steps.tick();
     let t = arena.tet(s);
     match shape_of(t) {
-        Shape::Row(row) => takes_row(points, row, p, number),
+        Shape::Row(row) => row_conflicts(points, row, p, number),
         Shape::Ghost(place) => is_seen(arena, points, s, place, p, number),
     }
 }

@@ -1,5 +1,8 @@
-//! Whether two points are the ends of a side of a Delaunay mesh: by a walk to the one and round it to the other, or by a look at each slot.
-ghost use Rattle.std.specs.Prelude.{◌≡◌, ◌≢◌, ℕ, ◌<◌, ◌≤ℤ◌, ◌↔◌, pos, length, IsTrue, IfSome, MatchOption, slice_index_or};
+//! Whether two points are the ends of a side of a Delaunay mesh.
+//!
+//! By a walk to the one and round it to the other, or by a look at each slot.
+ghost use Rattle.std.specs.Prelude.{◌≡◌, ◌≢◌, ℕ, ◌<◌, ◌≤ℤ◌, ◌↔◌, pos, length, IsTrue, IfSome};
+ghost use Rattle.std.specs.Prelude.{MatchOption, slice_index_or};
 ghost use Rattle.sign_predicates.specs.Orientation.{side, opposite_face};
 ghost use Rattle.geo_laws.specs.Delaunay.{numbers, all_numbers};
 ghost use Rattle.mesh_arena.specs.Mesh.{corner_list, IsLive};
@@ -53,7 +56,8 @@ pub(crate) fn side_by_scan(arena: &Arena, points: &Points, a: u32, b: u32) -> bo
 // What the corners of a slot tell a walk to the point a and round it to the point b.
 #[derive(Clone, Copy)]
 pub(crate) enum WalkStep {
-    // It is a row with the corner a, and b lies in its closed cone from a. Whether b is a corner too.
+    // It is a row with the corner a, and b lies in its closed cone from a. Whether b is a corner
+    // too.
     Answer(bool),
     // This face leads on.
     Through(u8),
@@ -63,7 +67,8 @@ pub(crate) enum WalkStep {
 
 // A face of a row that `p` is strictly beyond, but not the one opposite its corner a.
 fn face_towards(at: &Corners, row: Tet, a: u32, p: GridPoint) -> Option<u8>
-    ensures { MatchOption result ((k : ℕ) → k < 4 → slice_index_or (numbers row) k a ≢ a → pos 0 ≤ℤ side (opposite_face at.now k) p) (λ k. k < 4) }
+    ensures { MatchOption result ((k : ℕ) → k < 4 → slice_index_or (numbers row) k a ≢ a
+        → pos 0 ≤ℤ side (opposite_face at.now k) p) (λ k. k < 4) }
 {
     let numbers = [row.a, row.b, row.c, row.d];
     for k in 0..4u8 {
@@ -105,12 +110,14 @@ fn step_at(points: &Points, t: SlotCorners, a: u32, b: u32) -> WalkStep
     }
 }
 
-/// Whether the two points are the ends of a side, by a walk from a live slot: from a row without the corner `a` through a face that this point is
-/// strictly beyond, and from one with it through a face at `a` that `b` is strictly beyond. The row where it ends has `b` in its closed cone from `a`, and
-/// only its own sides there are sides of the mesh. None where the walk leads nowhere or takes more steps than there are slots;
-/// each other answer is right.
+/// Whether the two points are the ends of a side, by a walk from a live slot: from a row without
+/// the corner `a` through a face that this point is strictly beyond, and from one with it through a
+/// face at `a` that `b` is strictly beyond. The row where it ends has `b` in its closed cone from
+/// `a`, and only its own sides there are sides of the mesh. None where the walk leads nowhere or
+/// takes more steps than there are slots; each other answer is right.
 ///
-/// Source: the visibility walk (Devillers, Pion and Teillaud, 2002), and the same rule among the rows round a point.
+/// Source: the visibility walk (Devillers, Pion and Teillaud, 2002), and the same rule among the
+/// rows round a point.
 pub(crate) fn side_by_walk(
     arena: &Arena,
     points: &Points,

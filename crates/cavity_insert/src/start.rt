@@ -23,7 +23,8 @@ struct Shared {
     back: u8,
 }
 
-/// An arena that is the mesh of one positive tetrahedron, with its ghosts, and the slot of the tetrahedron.
+/// An arena that is the mesh of one positive tetrahedron, with its ghosts, and the slot of the
+/// tetrahedron.
 pub(crate) fn start_mesh(alloc: Global, points: &Points, t: Tet) -> Result<(Arena, Slot), NoMemory>
     requires numbers { AreNumbersOf points.now (numbers t) }
     requires positive { IsPositive (corners points.now t) }
@@ -70,10 +71,12 @@ fn ghost_over(a: Corner, b: Corner, c: Corner) -> SlotCorners
     }
 }
 
-/// Links the tetrahedron with its ghosts. Slot 1 + k is the ghost over the face opposite the corner in the place k.
+/// Links the tetrahedron with its ghosts. Slot 1 + k is the ghost over the face opposite the corner
+/// in the place k.
 fn link_row(arena: &mut Arena)
     requires { (t : TetValue) × AreStartSlots arena.old.slots t [] }
-    ensures { (t : TetValue) → AreStartSlots arena.old.slots t [] → AreStartSlots arena.new.slots t row_links }
+    ensures { (t : TetValue) → AreStartSlots arena.old.slots t []
+        → AreStartSlots arena.new.slots t row_links }
 {
     link_faces(arena, pair(0, 0, 1, 3));
     link_faces(arena, pair(0, 1, 2, 3));
@@ -84,7 +87,8 @@ fn link_row(arena: &mut Arena)
 /// Links the ghosts with one another.
 fn link_ghosts(arena: &mut Arena)
     requires { (t : TetValue) × AreStartSlots arena.old.slots t row_links }
-    ensures { (t : TetValue) → AreStartSlots arena.old.slots t row_links → AreStartSlots arena.new.slots t start_links }
+    ensures { (t : TetValue) → AreStartSlots arena.old.slots t row_links
+        → AreStartSlots arena.new.slots t start_links }
 {
     link_faces(arena, pair(1, 0, 2, 0));
     link_faces(arena, pair(1, 1, 3, 0));
@@ -107,8 +111,10 @@ fn pair(slot: u32, face: u8, behind: u32, back: u8) -> Shared
 
 /// Links two faces with the same corners.
 fn link_faces(arena: &mut Arena, shared: Shared)
-    requires { (t : TetValue) × (linked : List SharedValue) × AreStartSlots arena.old.slots t linked × IsTrue (fits linked shared) }
-    ensures { (t : TetValue) (linked : List SharedValue) → AreStartSlots arena.old.slots t linked → AreStartSlots arena.new.slots t (shared ∷ linked) }
+    requires { (t : TetValue) × (linked : List SharedValue) × AreStartSlots arena.old.slots t linked
+        × IsTrue (fits linked shared) }
+    ensures { (t : TetValue) (linked : List SharedValue) → AreStartSlots arena.old.slots t linked
+        → AreStartSlots arena.new.slots t (shared ∷ linked) }
 {
     arena.link(
         Slot { index: shared.slot },

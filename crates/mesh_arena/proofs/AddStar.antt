@@ -2,9 +2,9 @@
 use Rattle.std.proofs.Common.{◌≡◌, ◌≢◌, ◌⊎◌, ℕ, ◌+◌, ◌<◌, List, length, Option, Some, None, IsSome, option_map, refl, sym, ap, subst, ◌∙◌, inl, inr, arith}
 use Rattle.std.proofs.lemmas.Bool.{cases_eq, cases_lt}
 use Rattle.mesh_arena.specs.declared.slot.Corner.{Corner}
-use Rattle.mesh_arena.specs.declared.arena.Side.{Side}
+use Rattle.mesh_arena.specs.declared.arena.SlotFace.{SlotFace}
 use Rattle.mesh_arena.specs.declared.slot.RimFace.{RimFace}
-use Rattle.mesh_arena.specs.Mesh.{Tet, tet_at, corners_at, corner_in, IsLive, side_in, side, at, Off}
+use Rattle.mesh_arena.specs.Mesh.{SlotValue, tet_at, corners_at, corner_in, IsLive, side_in, side, at, Off}
 use Rattle.mesh_arena.specs.Star.{behind, rim_at, face_side, behind_rim}
 use Rattle.mesh_arena.specs.declared.star.StarSlot.{StarSlot}
 use Rattle.mesh_arena.specs.Surgery.{star_at, star_corners, FitsFace, AddsOver, CanAdd, IsOver, AddsStar}
@@ -15,18 +15,18 @@ pub free_from_dead : (o : Option (List Corner)) → (IsSome o → ⊥) → o ≡
 free_from_dead None dead = refl
 free_from_dead (Some cs) dead = absurd (dead refl)
 
-pub live_by_side : (slots : List (Option Tet)) (u k : ℕ) (b : Side) → side slots u k ≡ Some b → IsLive slots u
+pub live_by_side : (slots : List (Option SlotValue)) (u k : ℕ) (b : SlotFace) → side slots u k ≡ Some b → IsLive slots u
 live_by_side slots u k b e = by_tet (tet_at slots u) e
   where
-    by_tet : (o : Option Tet) → side_in o k ≡ Some b → IsSome (option_map (λ (t : Tet). t.corners) o)
+    by_tet : (o : Option SlotValue) → side_in o k ≡ Some b → IsSome (option_map (λ (t : SlotValue). t.corners) o)
     by_tet None e = absurd (cc)
     by_tet (Some t) e = refl
 
 -- slots of which one is live and the other free are two
-pub live_not_free : (slots : List (Option Tet)) (u v : ℕ) → IsLive slots u → corners_at slots v ≡ None → u ≢ v
+pub live_not_free : (slots : List (Option SlotValue)) (u v : ℕ) → IsLive slots u → corners_at slots v ≡ None → u ≢ v
 live_not_free slots u v live free same = none_live (corners_at slots v) free (subst (λ n. IsLive slots n) same live)
 
-pub live_along : (old new : List (Option Tet)) (u : ℕ) → corners_at new u ≡ corners_at old u → IsLive old u → IsLive new u
+pub live_along : (old new : List (Option SlotValue)) (u : ℕ) → corners_at new u ≡ corners_at old u → IsLive old u → IsLive new u
 live_along old new u same live = subst IsSome (sym same) live
 
 pub step_cases : (r n : ℕ) → r < n + 1 → (r < n) ⊎ (r ≡ n)
@@ -43,7 +43,7 @@ Off-faces rim r q once hr hq differ =
       | inl is ↦ absurd (differ (once r q hr hq is.0 is.1))
     ]
 
-module _ (first now : List (Option Tet)) (rim : List RimFace) (star : List StarSlot) (n : ℕ) (can : CanAdd first rim star) (lt : n < length rim) (was : AddsStar first now rim star n) where
+module _ (first now : List (Option SlotValue)) (rim : List RimFace) (star : List StarSlot) (n : ℕ) (can : CanAdd first rim star) (lt : n < length rim) (was : AddsStar first now rim star n) where
   pub waiting_fits : FitsFace now (rim_at rim n).slot.index (rim_at rim n).face (star_corners star n) (star_at star n).face
   waiting_fits =
       let fits = can.fits n lt in
@@ -53,7 +53,7 @@ module _ (first now : List (Option Tet)) (rim : List RimFace) (star : List StarS
         from = λ x has. let on = fits.from x has in record { place = on.place; within = on.within; off = on.off; is = ap (λ (o : Option (List Corner)). corner_in o on.place) kept ∙ on.is };
       }
 
-  module _ (next : List (Option Tet)) (made : ℕ) (adds : AddsOver now next (rim_at rim n).slot.index (rim_at rim n).face made (star_corners star n) (star_at star n).face) where
+  module _ (next : List (Option SlotValue)) (made : ℕ) (adds : AddsOver now next (rim_at rim n).slot.index (rim_at rim n).face made (star_corners star n) (star_at star n).face) where
     -- what was live at first is not the new slot
     not_made : (u : ℕ) → IsLive first u → u ≢ made
     not_made u live = live_not_free now u made (live_along first now u (was.kept u live) live) adds.fresh
@@ -88,7 +88,7 @@ module _ (first now : List (Option Tet)) (rim : List RimFace) (star : List StarS
     over_before r h =
         let o = was.over r h in
         let face = (star_at star r).face in
-        let P : Side → Type 0 = λ x. (face_side next (rim_at rim r) ≡ Some (at x.slot face)) × (corners_at first x.slot ≡ None) × (corners_at next x.slot ≡ Some (star_corners star r)) × ((k : ℕ) → k ≢ face → side next x.slot k ≡ None) in
+        let P : SlotFace → Type 0 = λ x. (face_side next (rim_at rim r) ≡ Some (at x.slot face)) × (corners_at first x.slot ≡ None) × (corners_at next x.slot ≡ Some (star_corners star r)) × ((k : ℕ) → k ≢ face → side next x.slot k ≡ None) in
         let all : P (behind_rim next rim r) = subst P (sym (same_star r h)) (
           added_before r h ∙ o.is,
           o.fresh,
@@ -100,7 +100,7 @@ module _ (first now : List (Option Tet)) (rim : List RimFace) (star : List StarS
     over_new : IsOver first next rim star n
     over_new =
         let face = (star_at star n).face in
-        let P : Side → Type 0 = λ x. (face_side next (rim_at rim n) ≡ Some (at x.slot face)) × (corners_at first x.slot ≡ None) × (corners_at next x.slot ≡ Some (star_corners star n)) × ((k : ℕ) → k ≢ face → side next x.slot k ≡ None) in
+        let P : SlotFace → Type 0 = λ x. (face_side next (rim_at rim n) ≡ Some (at x.slot face)) × (corners_at first x.slot ≡ None) × (corners_at next x.slot ≡ Some (star_corners star n)) × ((k : ℕ) → k ≢ face → side next x.slot k ≡ None) in
         let all : P (behind_rim next rim n) = subst P (sym new_inner) (
           adds.to,
           free_from_dead (corners_at first made) (λ live. not_made made live refl),
@@ -110,10 +110,10 @@ module _ (first now : List (Option Tet)) (rim : List RimFace) (star : List StarS
         record { is = all.0; fresh = all.1; corners = all.2; bare = all.3 }
 
     pub new_star : (behind_rim next rim n).slot ≡ made
-    new_star = ap (λ (b : Side). b.slot) new_inner
+    new_star = ap (λ (b : SlotFace). b.slot) new_inner
 
     old_star : (r : ℕ) → r < n → (behind_rim next rim r).slot ≡ (behind_rim now rim r).slot
-    old_star r h = ap (λ (b : Side). b.slot) (same_star r h)
+    old_star r h = ap (λ (b : SlotFace). b.slot) (same_star r h)
 
     stars_apart : (r q : ℕ) → (r < n) ⊎ (r ≡ n) → (q < n) ⊎ (q ≡ n) → (behind_rim next rim r).slot ≡ (behind_rim next rim q).slot → r ≡ q
     stars_apart r q (inl a) (inl b) e = was.apart r q a b (sym (old_star r a) ∙ e ∙ old_star q b)

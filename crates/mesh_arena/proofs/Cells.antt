@@ -4,8 +4,8 @@ use Rattle.std.proofs.lemmas.List.{map-set, map_push, length-map, length_push, g
 use Rattle.std.proofs.lemmas.List.Sums.{sum_by-set, sum_by_push, sum_by-cons}
 use Rattle.std.proofs.lemmas.Option.{slice_get_within, slice_get-get_or, get_or_from_slice_get}
 use Rattle.mesh_arena.specs.declared.cell.Cell.{Cell}
-use Rattle.mesh_arena.specs.Mesh.{Tet, tet_at, corners_at, side, at, SameFace, IsShaped, IsMesh, Links, Takes, AllDiffer, tet_with}
-use Rattle.mesh_arena.specs.declared.arena.Side.{Side}
+use Rattle.mesh_arena.specs.Mesh.{SlotValue, tet_at, corners_at, side, at, SameFace, IsShaped, IsMesh, Links, Takes, AllDiffer, tet_with}
+use Rattle.mesh_arena.specs.declared.arena.SlotFace.{SlotFace}
 use Rattle.mesh_arena.specs.declared.slot.Corner.{Corner}
 use Rattle.mesh_arena.proofs.Mesh.{Writes, Writes-set, Links-writes, IsMesh-links, side_live, lone, Puts, Puts-set, Puts-push, Takes-puts, IsMesh-takes}
 use Rattle.mesh_arena.specs.Cells.{corners_in, sides_in, tet_in, tet_of, next_of, IsFreeList, most_cells, IsCounted, IsSound}
@@ -62,8 +62,8 @@ count-set cells at old new found =
     let within = slice_get_within cells at old found in
     let read : get_or (map tet_of cells) at None ≡ tet_of old =
     get_or-map tet_of cells at old None within ∙ ap tet_of (get_or_from_slice_get cells at old old found) in
-    let counted = sum_by-set (λ (o : Option Tet). cond (is_some o) 1 0) (map tet_of cells) at (tet_of new) None (omega (arith, length-map cells tet_of)) in
-    let was : one_if (is_some (get_or (map tet_of cells) at None)) ≡ one_if old.live = ap (λ (o : Option Tet). one_if (is_some o)) read ∙ ap one_if (is_some-tet_of old) in
+    let counted = sum_by-set (λ (o : Option SlotValue). cond (is_some o) 1 0) (map tet_of cells) at (tet_of new) None (omega (arith, length-map cells tet_of)) in
+    let was : one_if (is_some (get_or (map tet_of cells) at None)) ≡ one_if old.live = ap (λ (o : Option SlotValue). one_if (is_some o)) read ∙ ap one_if (is_some-tet_of old) in
     let is : one_if (is_some (tet_of new)) ≡ one_if new.live = ap one_if (is_some-tet_of new) in
     let moved : count_by is_some (map tet_of (set cells at new)) ≡ count_by is_some (set (map tet_of cells) at (tet_of new)) = ap (count_by is_some) (map-set tet_of cells at new) in
     omega (arith, counted, was, is, moved)
@@ -105,7 +105,7 @@ pub IsCounted-push : (cells : List Cell) (live next : ℕ) (new : Cell) → IsCo
 IsCounted-push cells live next new sound at_end is =
     let full = full_at_end cells live next sound at_end in
     let longer = length_push cells new in
-    let pushed = sum_by_push (λ (o : Option Tet). cond (is_some o) 1 0) (map tet_of cells) (tet_of new) in
+    let pushed = sum_by_push (λ (o : Option SlotValue). cond (is_some o) 1 0) (map tet_of cells) (tet_of new) in
     let one : one_if (is_some (tet_of new)) ≡ 1 = ap one_if (is_some-tet_of new ∙ is) in
     record {
       counted = omega (arith, sound.counted, pushed, one, ap (count_by is_some) (map_push tet_of cells new));
@@ -156,7 +156,7 @@ IsCounted-vacate cells live next at old new sound found was is links =
 pub live_within : (cells : List Cell) (s : ℕ) → IsSome (corners_at (map tet_of cells) s) → s < length cells
 live_within cells s live = omega (arith, within (map tet_of cells) s live, length-map cells tet_of)
   where
-    within : (slots : List (Option Tet)) (s : ℕ) → IsSome (corners_at slots s) → s < length slots
+    within : (slots : List (Option SlotValue)) (s : ℕ) → IsSome (corners_at slots s) → s < length slots
     within slots s live = grind (arith, get_or_past)
 
 -- what a live place reads, from the list of slots and from the cells
@@ -171,15 +171,15 @@ live_cell cells s d c live read =
     by_flag true e got = e
     by_flag false e got =
         let gone : tet_at (map tet_of cells) s ≡ None = got ∙ tet_of-free c e in
-        absurd (true≢false (sym (subst (λ (o : Option Tet). IsSome (option_map (λ (t : Tet). t.corners) o)) gone live)))
+        absurd (true≢false (sym (subst (λ (o : Option SlotValue). IsSome (option_map (λ (t : SlotValue). t.corners) o)) gone live)))
 
 -- the cell has another side, and else stays
-pub record Resided (c new : Cell) (i : ℕ) (b : Option Side) : Type 0 where
+pub record Resided (c new : Cell) (i : ℕ) (b : Option SlotFace) : Type 0 where
   pub tet : tet_in new ≡ tet_with (tet_in c) i b
   pub live : new.live ≡ c.live
 
 -- a side of a cell is rewritten
-pub Wrote-cell : (cells : List Cell) (s i : ℕ) (c new : Cell) (b : Option Side) → IsShaped (map tet_of cells) → IsSome (corners_at (map tet_of cells) s) → i < 4 → c ≡ get_or cells s c → Resided c new i b → Writes (map tet_of cells) (map tet_of (set cells s new)) s i b
+pub Wrote-cell : (cells : List Cell) (s i : ℕ) (c new : Cell) (b : Option SlotFace) → IsShaped (map tet_of cells) → IsSome (corners_at (map tet_of cells) s) → i < 4 → c ≡ get_or cells s c → Resided c new i b → Writes (map tet_of cells) (map tet_of (set cells s new)) s i b
 Wrote-cell cells s i c new b shaped is_live face read resided =
     let found = live_cell cells s c c is_live read in
     let is : new.live ≡ true = resided.live ∙ found.2 in
@@ -187,11 +187,11 @@ Wrote-cell cells s i c new b shaped is_live face read resided =
     map-set tet_of cells s new ∙ ap (set (map tet_of cells) s) (tet_of-live new is ∙ ap Some resided.tet) in
     rw written (Writes-set (map tet_of cells) s i (tet_in c) b shaped found.3 face)
 
-pub record Wrote (cells : List Cell) (live next : ℕ) (s i : ℕ) (new : Cell) (b : Option Side) : Type 0 where
+pub record Wrote (cells : List Cell) (live next : ℕ) (s i : ℕ) (new : Cell) (b : Option SlotFace) : Type 0 where
   pub counted : IsCounted (set cells s new) live next
   pub writes : Writes (map tet_of cells) (map tet_of (set cells s new)) s i b
 
-pub Wrote-set : (cells : List Cell) (live next s i : ℕ) (c new : Cell) (b : Option Side) → IsCounted cells live next → IsShaped (map tet_of cells) → IsSome (corners_at (map tet_of cells) s) → i < 4 → c ≡ get_or cells s c → Resided c new i b → Wrote cells live next s i new b
+pub Wrote-set : (cells : List Cell) (live next s i : ℕ) (c new : Cell) (b : Option SlotFace) → IsCounted cells live next → IsShaped (map tet_of cells) → IsSome (corners_at (map tet_of cells) s) → i < 4 → c ≡ get_or cells s c → Resided c new i b → Wrote cells live next s i new b
 Wrote-set cells live next s i c new b counted shaped is_live face read resided =
     let found = live_cell cells s c c is_live read in
     record {
@@ -218,10 +218,10 @@ pub side_read : (cells : List Cell) (s i : ℕ) (c : Cell) → IsSome (corners_a
 side_read cells s i c live read = rw (live_cell cells s c c live read).3 refl
 
 -- what has a side, as a cell
-pub live_from_side : (slots : List (Option Tet)) (s i : ℕ) → IsShaped slots → IsSome (side slots s i) → IsSome (corners_at slots s) × (i < 4)
+pub live_from_side : (slots : List (Option SlotValue)) (s i : ℕ) → IsShaped slots → IsSome (side slots s i) → IsSome (corners_at slots s) × (i < 4)
 live_from_side slots s i shaped some = by_side (side slots s i) refl some
   where
-    by_side : (o : Option Side) → side slots s i ≡ o → IsSome o → IsSome (corners_at slots s) × (i < 4)
+    by_side : (o : Option SlotFace) → side slots s i ≡ o → IsSome o → IsSome (corners_at slots s) × (i < 4)
     by_side None is some = absurd (true≢false (sym some))
     by_side (Some b) is some = side_live slots s i b shaped is
 
@@ -234,26 +234,26 @@ pub record IsFresh (c : Cell) (cs : List Corner) : Type 0 where
 tet_of-fresh : (c : Cell) (cs : List Corner) → IsFresh c cs → tet_of c ≡ Some (lone cs)
 tet_of-fresh c cs fresh = tet_of-live c fresh.live ∙ ap Some (by_parts fresh.corners fresh.sides)
   where
-    by_parts : {xs : List Corner} {ys : List (Option Side)} → xs ≡ cs → ys ≡ None ∷ None ∷ None ∷ None ∷ [] → ◌≡◌ {A = Tet} (record { corners = xs; sides = ys }) (lone cs)
+    by_parts : {xs : List Corner} {ys : List (Option SlotFace)} → xs ≡ cs → ys ≡ None ∷ None ∷ None ∷ None ∷ [] → ◌≡◌ {A = SlotValue} (record { corners = xs; sides = ys }) (lone cs)
     by_parts e f = rw (e, f) refl
 
 pub record Took (cells new : List Cell) (live next s : ℕ) (cs : List Corner) : Type 0 where
   pub sound : IsSound new live next
   pub takes : Takes (map tet_of cells) (map tet_of new) s cs
 
-count_le : (xs : List (Option Tet)) → count_by is_some xs ≤ length xs
+count_le : (xs : List (Option SlotValue)) → count_by is_some xs ≤ length xs
 count_le [] = omega arith
-count_le (None ∷ xs) = omega (arith, count_le xs, sum_by-cons (λ (o : Option Tet). one_if (is_some o)) None xs)
-count_le (Some t ∷ xs) = omega (arith, count_le xs, sum_by-cons (λ (o : Option Tet). one_if (is_some o)) (Some t) xs)
+count_le (None ∷ xs) = omega (arith, count_le xs, sum_by-cons (λ (o : Option SlotValue). one_if (is_some o)) None xs)
+count_le (Some t ∷ xs) = omega (arith, count_le xs, sum_by-cons (λ (o : Option SlotValue). one_if (is_some o)) (Some t) xs)
 
 -- where all are counted, each is there
-all_some : (xs : List (Option Tet)) (u : ℕ) → count_by is_some xs ≡ length xs → u < length xs → IsSome (get_or xs u None)
+all_some : (xs : List (Option SlotValue)) (u : ℕ) → count_by is_some xs ≡ length xs → u < length xs → IsSome (get_or xs u None)
 all_some [] u full lt = absurd (omega arith)
-all_some (None ∷ xs) u full lt = absurd (omega (arith, count_le xs, sum_by-cons (λ (o : Option Tet). one_if (is_some o)) None xs))
+all_some (None ∷ xs) u full lt = absurd (omega (arith, count_le xs, sum_by-cons (λ (o : Option SlotValue). one_if (is_some o)) None xs))
 all_some (Some t ∷ xs) zero full lt = refl
-all_some (Some t ∷ xs) (suc u) full lt = all_some xs u (omega (arith, sum_by-cons (λ (o : Option Tet). one_if (is_some o)) (Some t) xs)) (omega arith)
+all_some (Some t ∷ xs) (suc u) full lt = all_some xs u (omega (arith, sum_by-cons (λ (o : Option SlotValue). one_if (is_some o)) (Some t) xs)) (omega arith)
 
-some_tet : (o : Option Tet) → IsSome o → option_map (λ (t : Tet). t.corners) o ≡ None → ⊥
+some_tet : (o : Option SlotValue) → IsSome o → option_map (λ (t : SlotValue). t.corners) o ≡ None → ⊥
 some_tet None some e = true≢false (sym some)
 some_tet (Some t) some e = cc
 
@@ -294,7 +294,7 @@ Took-fill cells live next cs old new sound before read four differ fresh =
     }
 
 -- the neighbor of a live slot is live
-pub next_live : (cells : List Cell) (s i : ℕ) (c : Cell) (two : Side) → IsMesh (map tet_of cells) → IsSome (corners_at (map tet_of cells) s) → i < 4 → c ≡ get_or cells s c → get_or (sides_in c.slots c.faces) i None ≡ Some two → IsSome (corners_at (map tet_of cells) two.slot) × (two.face < 4)
+pub next_live : (cells : List Cell) (s i : ℕ) (c : Cell) (two : SlotFace) → IsMesh (map tet_of cells) → IsSome (corners_at (map tet_of cells) s) → i < 4 → c ≡ get_or cells s c → get_or (sides_in c.slots c.faces) i None ≡ Some two → IsSome (corners_at (map tet_of cells) two.slot) × (two.face < 4)
 next_live cells s i c two mesh live face read found =
     let was : side (map tet_of cells) s i ≡ Some two = sym (side_read cells s i c live read) ∙ found in
     side_live (map tet_of cells) two.slot two.face (at s i) mesh.shaped (mesh.back s i two was)

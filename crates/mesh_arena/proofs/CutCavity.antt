@@ -2,12 +2,12 @@
 use Rattle.std.proofs.Common.{◌≡◌, ℕ, ◌+◌, ◌-◌, ◌<◌, List, length, get_or, set, Option, Some, None, IsSome, false, option_map, refl, sym, ap, subst, ◌∙◌, inl, inr, arith, length-set}
 use Rattle.std.proofs.lemmas.Bool.{cases_eq}
 use Rattle.std.proofs.lemmas.List.{map-set, length-map}
-use Rattle.mesh_arena.specs.declared.arena.Side.{Side}
+use Rattle.mesh_arena.specs.declared.arena.SlotFace.{SlotFace}
 use Rattle.mesh_arena.specs.declared.cell.Cell.{Cell}
 use Rattle.mesh_arena.specs.declared.slot.Corner.{Corner}
 use Rattle.mesh_arena.specs.declared.slot.RimFace.{RimFace}
 use Rattle.mesh_arena.specs.declared.slot.Slot.{Slot}
-use Rattle.mesh_arena.specs.Mesh.{Tet, tet_at, corners_at, corner_in, IsLive, side_in, side, at, IsShaped, IsMesh, Off}
+use Rattle.mesh_arena.specs.Mesh.{SlotValue, tet_at, corners_at, corner_in, IsLive, side_in, side, at, IsShaped, IsMesh, Off}
 use Rattle.mesh_arena.specs.Cells.{tet_of, next_of, IsCounted}
 use Rattle.mesh_arena.specs.Star.{behind, rim_at, face_side, behind_rim}
 use Rattle.mesh_arena.specs.Cavity.{slot_at, IsIn}
@@ -60,7 +60,7 @@ module _ (first now : List Cell) (cavity : List Slot) (n next from : ℕ) (was :
   place = slot_at cavity n
 
   pub live_ahead : IsLive (slots_in now) place
-  live_ahead = subst (λ (o : Option Tet). IsSome (option_map (λ (t : Tet). t.corners) o)) (sym (was.kept place (λ j h e. let same : j ≡ n = once j n (omega arith) lt e in omega arith))) is_live
+  live_ahead = subst (λ (o : Option SlotValue). IsSome (option_map (λ (t : SlotValue). t.corners) o)) (sym (was.kept place (λ j h e. let same : j ≡ n = once j n (omega arith) lt e in omega arith))) is_live
 
   pub FreesCells-step : (c new : Cell) → c ≡ get_or now place c → new.live ≡ false → next_of new ≡ from → FreesCells first (set now place new) cavity (n + 1) next place
   FreesCells-step c new read dead names =
@@ -88,33 +88,33 @@ module _ (A : List Cell) (C : List Cell) (F : List Cell) (cavity : List Slot) (r
   stays u out = frees.kept u (λ j h e. out (record { place = j; inside = h; is = e }))
 
   corners_stay : (u : ℕ) → (IsIn cavity u → ⊥) → corners_at (slots_in F) u ≡ corners_at (slots_in A) u
-  corners_stay u out = ap (option_map (λ (t : Tet). t.corners)) (stays u out) ∙ clears.corners u
+  corners_stay u out = ap (option_map (λ (t : SlotValue). t.corners)) (stays u out) ∙ clears.corners u
 
   side_stays : (u k : ℕ) → (IsIn cavity u → ⊥) → side (slots_in F) u k ≡ side (slots_in C) u k
-  side_stays u k out = ap (λ (o : Option Tet). side_in o k) (stays u out)
+  side_stays u k out = ap (λ (o : Option SlotValue). side_in o k) (stays u out)
 
   -- what has a side is not in the cavity
-  has_out : (u k : ℕ) (b : Side) → side (slots_in F) u k ≡ Some b → IsIn cavity u → ⊥
-  has_out u k b e found = none_some b (side (slots_in F) u k) (ap (λ (o : Option Tet). side_in o k) (freed u found)) e
+  has_out : (u k : ℕ) (b : SlotFace) → side (slots_in F) u k ≡ Some b → IsIn cavity u → ⊥
+  has_out u k b e found = none_some b (side (slots_in F) u k) (ap (λ (o : Option SlotValue). side_in o k) (freed u found)) e
 
   -- nor on its rim
-  has_off : (u k : ℕ) (b : Side) → side (slots_in F) u k ≡ Some b → (r : ℕ) → r < length rim → Off u k (rim_at rim r).slot.index (rim_at rim r).face
+  has_off : (u k : ℕ) (b : SlotFace) → side (slots_in F) u k ≡ Some b → (r : ℕ) → r < length rim → Off u k (rim_at rim r).slot.index (rim_at rim r).face
   has_off u k b e r h =
       elim (same_or_off u k (rim_at rim r).slot.index (rim_at rim r).face) [
         | inr off ↦ off
         | inl is ↦ absurd (none_some b (side (slots_in F) u k) (side_stays u k (has_out u k b e) ∙ rw (is.0, is.1) (clears.outer r h)) e)
       ]
 
-  before : (u k : ℕ) (b : Side) → side (slots_in F) u k ≡ Some b → side (slots_in A) u k ≡ Some b
+  before : (u k : ℕ) (b : SlotFace) → side (slots_in F) u k ≡ Some b → side (slots_in A) u k ≡ Some b
   before u k b e = sym (side_stays u k (has_out u k b e) ∙ clears.others u k (has_off u k b e)) ∙ e
 
   -- and neither does it lead there
-  leads_out : (u k : ℕ) (b : Side) → side (slots_in F) u k ≡ Some b → IsIn cavity b.slot → ⊥
+  leads_out : (u k : ℕ) (b : SlotFace) → side (slots_in F) u k ≡ Some b → IsIn cavity b.slot → ⊥
   leads_out u k b e found =
       let r = edge.all u k b (before u k b e) (has_out u k b e) found in
       elim (has_off u k b e r.0 r.1) [ inl differ ↦ differ (sym r.2) | inr differ ↦ differ (sym r.3) ]
 
-  back : (u k : ℕ) (b : Side) → side (slots_in F) u k ≡ Some b → side (slots_in F) b.slot b.face ≡ Some (at u k)
+  back : (u k : ℕ) (b : SlotFace) → side (slots_in F) u k ≡ Some b → side (slots_in F) b.slot b.face ≡ Some (at u k)
   back u k b e =
       let home : side (slots_in A) b.slot b.face ≡ Some (at u k) = mesh.back u k b (before u k b e) in
       let off : (r : ℕ) → r < length rim → Off b.slot b.face (rim_at rim r).slot.index (rim_at rim r).face =
@@ -122,7 +122,7 @@ module _ (A : List Cell) (C : List Cell) (F : List Cell) (cavity : List Slot) (r
         | inr away ↦ away
         | inl is ↦
             let there : face_side (slots_in A) (rim_at rim r) ≡ Some (at u k) = rw (← is.0, ← is.1) home in
-            let same : (behind_rim (slots_in A) rim r).slot ≡ u = ap (λ (x : Side). x.slot) (ap behind there) in
+            let same : (behind_rim (slots_in A) rim r).slot ≡ u = ap (λ (x : SlotFace). x.slot) (ap behind there) in
             absurd (has_out u k b e (subst (IsIn cavity) same (edge.inner r h)))
       ] in
       side_stays b.slot b.face (leads_out u k b e) ∙ clears.others b.slot b.face off ∙ home
@@ -135,7 +135,7 @@ module _ (A : List Cell) (C : List Cell) (F : List Cell) (cavity : List Slot) (r
           | inr out ↦ clears.shaped u t (sym (stays u out) ∙ e)
         ];
         differ = λ u i j live hi hj e. elim (in_or_not cavity u) [
-          | inl found ↦ absurd (none_live _ (ap (option_map (λ (t : Tet). t.corners)) (freed u found)) live)
+          | inl found ↦ absurd (none_live _ (ap (option_map (λ (t : SlotValue). t.corners)) (freed u found)) live)
           | inr out ↦
               let kept = corners_stay u out in
               mesh.differ u i j (subst IsSome kept live) hi hj (subst (λ (o : Option (List Corner)). corner_in o i ≡ corner_in o j) kept e)
@@ -148,7 +148,7 @@ module _ (A : List Cell) (C : List Cell) (F : List Cell) (cavity : List Slot) (r
   pub Cuts-done : Cuts (slots_in A) (slots_in F) cavity rim
   Cuts-done =
       record {
-        gone = λ u found. ap (option_map (λ (t : Tet). t.corners)) (freed u found);
+        gone = λ u found. ap (option_map (λ (t : SlotValue). t.corners)) (freed u found);
         kept = corners_stay;
         outer = λ r h. side_stays _ _ (edge.outer r h) ∙ clears.outer r h;
         sides = λ u k out off. side_stays u k out ∙ clears.others u k off;

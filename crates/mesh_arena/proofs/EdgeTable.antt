@@ -6,7 +6,7 @@ use Rattle.std.proofs.lemmas.Option.{none-some, some_pair_parts}
 use Rattle.std.specs.List.{All}
 use Rattle.mesh_arena.specs.declared.slot.Corner.{Corner}
 use Rattle.mesh_arena.specs.declared.slot.Corner.TheVariants.{Point, Ghost}
-use Rattle.mesh_arena.specs.declared.arena.Side.{Side}
+use Rattle.mesh_arena.specs.declared.arena.SlotFace.{SlotFace}
 use Rattle.mesh_arena.specs.declared.edges.Edge.{Edge}
 use Rattle.mesh_arena.specs.declared.edges.Met.{Met}
 use Rattle.mesh_arena.specs.Edges.{corner_number, edge_between, Meetings, meeting_of, meetings_in, IsMet, IsUnmet, MeetsOnly}
@@ -22,7 +22,7 @@ read : (met : List Met) (round k : ℕ) (d : Met) → k < length met → get_or 
 read met round k d lt = get_or-map (meeting_of round) met k d None lt
 
 -- what was met stands in the table
-within : (met : List Met) (round : ℕ) (e : Edge) (s : Side) (is_met : IsMet (meetings_in met round) e s) → is_met.place < length met
+within : (met : List Met) (round : ℕ) (e : Edge) (s : SlotFace) (is_met : IsMet (meetings_in met round) e s) → is_met.place < length met
 within met round e s is_met =
     elim (cases_lt is_met.place (length met)) [
       | inl lt ↦ lt
@@ -46,7 +46,7 @@ others-IsUnmet met round unmet k d lt same =
     unmet (get_or met k d).edge (get_or met k d).at (record { place = k; is = read met round k d lt ∙ now round (get_or met k d) same })
 
 -- one place is written
-pub MeetsOnly-set : (met : List Met) (round place : ℕ) (e : Edge) (s : Side) (m : Met) → place < length met → m ≡ record { edge = e; at = s; round = round } → MeetsOnly (meetings_in met round) (meetings_in (set met place m) round) e s
+pub MeetsOnly-set : (met : List Met) (round place : ℕ) (e : Edge) (s : SlotFace) (m : Met) → place < length met → m ≡ record { edge = e; at = s; round = round } → MeetsOnly (meetings_in met round) (meetings_in (set met place m) round) e s
 MeetsOnly-set met round place e s m lt is e2 s2 is_met =
     let written : meetings_in (set met place m) round ≡ set (meetings_in met round) place (Some (e, s)) =
     map-set (meeting_of round) met place m ∙ ap (set (meetings_in met round) place) (ap (meeting_of round) is ∙ now round (record { edge = e; at = s; round = round }) refl) in

@@ -3,8 +3,8 @@ use Rattle.std.proofs.Common.{◌≡◌, ◌≢◌, ℕ, zero, suc, ◌<◌, Lis
 use Rattle.mesh_arena.specs.declared.slot.Corner.{Corner}
 use Rattle.mesh_arena.specs.declared.slot.RimFace.{RimFace}
 use Rattle.mesh_arena.specs.declared.slot.Slot.{Slot}
-use Rattle.mesh_arena.specs.declared.arena.Side.{Side}
-use Rattle.mesh_arena.specs.Mesh.{Tet, IsLive, corner, side, at, OnFace, IsMesh}
+use Rattle.mesh_arena.specs.declared.arena.SlotFace.{SlotFace}
+use Rattle.mesh_arena.specs.Mesh.{SlotValue, IsLive, corner, side, at, OnFace, IsMesh}
 use Rattle.mesh_arena.specs.Star.{behind, rim_at, face_side, behind_rim}
 use Rattle.mesh_arena.specs.Cavity.{slot_at, IsIn}
 use Rattle.mesh_arena.specs.StarLinks.{OnRim, ArePaired}
@@ -13,10 +13,10 @@ use Rattle.mesh_arena.proofs.Mesh.{side_live}
 use Rattle.mesh_arena.proofs.Pairs.{one_left}
 
 -- the face stands behind the face k of the slot
-abbrev pub IsAcross : List (Option Tet) → Slot → ℕ → RimFace → Type 0
+abbrev pub IsAcross : List (Option SlotValue) → Slot → ℕ → RimFace → Type 0
 IsAcross slots s k f = side slots s.index k ≡ Some (at f.slot.index f.face)
 
-module _ (slots : List (Option Tet)) (s : Slot) (a b c d : RimFace) (mesh : IsMesh slots) (is_a : IsAcross slots s 0 a) (is_b : IsAcross slots s 1 b) (is_c : IsAcross slots s 2 c) (is_d : IsAcross slots s 3 d) where
+module _ (slots : List (Option SlotValue)) (s : Slot) (a b c d : RimFace) (mesh : IsMesh slots) (is_a : IsAcross slots s 0 a) (is_b : IsAcross slots s 1 b) (is_c : IsAcross slots s 2 c) (is_d : IsAcross slots s 3 d) where
   abbrev cavity : List Slot
   cavity = s ∷ []
 
@@ -67,14 +67,14 @@ module _ (slots : List (Option Tet)) (s : Slot) (a b c d : RimFace) (mesh : IsMe
             let left = back r h in
             let right : side slots (rim_at rim r).slot.index (rim_at rim r).face ≡ Some (at s.index q) = rw (e, f) (back q g) in
             let both : at s.index r ≡ at s.index q = cc in
-            ap (λ (x : Side). x.face) both;
+            ap (λ (x : SlotFace). x.face) both;
         all = λ u k x e out found.
             let home : side slots x.slot x.face ≡ Some (at u k) = mesh.back u k x e in
             let is : x.slot ≡ s.index = in_is x.slot found in
             let below : x.face < 4 = (side_live slots x.slot x.face _ mesh.shaped home).1 in
             let there : side slots s.index x.face ≡ Some (at u k) = subst (λ n. side slots n x.face ≡ Some (at u k)) is home in
             let both : at (rim_at rim x.face).slot.index (rim_at rim x.face).face ≡ at u k = let g = across x.face below in cc in
-            (x.face, below, ap (λ (y : Side). y.slot) both, ap (λ (y : Side). y.face) both);
+            (x.face, below, ap (λ (y : SlotFace). y.slot) both, ap (λ (y : SlotFace). y.face) both);
       }
 
   on_slot : (r : ℕ) (x : Corner) → r < 4 → OnRim slots rim r x → OnFace slots s.index r x

@@ -2,9 +2,9 @@
 use Rattle.std.proofs.Common.{◌≡◌, ◌≢◌, ◌⊎◌, ℕ, ◌-◌, ◌<◌, ◌≤◌, List, length, Option, Some, None, IsSome, refl, sym, ap, subst, ◌∙◌, inl, inr, arith}
 use Rattle.std.proofs.lemmas.Bool.{cases_eq}
 use Rattle.mesh_arena.specs.declared.slot.Corner.{Corner}
-use Rattle.mesh_arena.specs.declared.arena.Side.{Side}
+use Rattle.mesh_arena.specs.declared.arena.SlotFace.{SlotFace}
 use Rattle.mesh_arena.specs.declared.slot.RimFace.{RimFace}
-use Rattle.mesh_arena.specs.Mesh.{Tet, corners_at, corner_in, IsLive, corner, side, at, OnFace, SameFace, IsMesh, Links}
+use Rattle.mesh_arena.specs.Mesh.{SlotValue, corners_at, corner_in, IsLive, corner, side, at, OnFace, SameFace, IsMesh, Links}
 use Rattle.mesh_arena.specs.Star.{behind, rim_at, face_side, behind_rim}
 use Rattle.mesh_arena.specs.StarLinks.{Places, OnRim, Other, ArePaired, IsStar, Mate, LinksFace, LinksStar}
 use Rattle.mesh_arena.proofs.Mesh.{none_some, side_live, same_or_off, OnFace-along, OnFace-back}
@@ -38,7 +38,7 @@ pub one_left : (f a b : ℕ) → f < 4 → a < 4 → b < 4 → f ≢ a → f ≢
 one_left f a b f4 a4 b4 fa fb ab =
     (6 - f - a - b, record { k4 = omega arith; f4 = f4; a4 = a4; b4 = b4; fk = λ e. omega arith; ak = λ e. omega arith; bk = λ e. omega arith; fa = fa; fb = fb; ab = ab })
 
-module _ (slots : List (Option Tet)) where
+module _ (slots : List (Option SlotValue)) where
   face_to : (s k f a b t l g c d : ℕ) → Places k f a b → Places l g c d → corner slots s f ≡ corner slots t g → corner slots s a ≡ corner slots t c → corner slots s b ≡ corner slots t d → (x : Corner) → OnFace slots s k x → OnFace slots t l x
   face_to s k f a b t l g c d p q ef ea eb x on =
       elim (one_of_three k f a b on.place p on.within on.off) [
@@ -56,7 +56,7 @@ module _ (slots : List (Option Tet)) where
         from = face_to t l g c d s k f a b q p (sym ef) (sym ea) (sym eb);
       }
 
-module _ (slots : List (Option Tet)) (rim : List RimFace) (p : Corner) (mesh : IsMesh slots) (star : IsStar slots rim p) where
+module _ (slots : List (Option SlotValue)) (rim : List RimFace) (p : Corner) (mesh : IsMesh slots) (star : IsStar slots rim p) where
   -- the side of a star's slot on the rim
   pub rim_side : (r : ℕ) → r < length rim → side slots (behind_rim slots rim r).slot (behind_rim slots rim r).face ≡ Some (at (rim_at rim r).slot.index (rim_at rim r).face)
   rim_side r h = mesh.back _ _ _ (star.has r h)
@@ -132,7 +132,7 @@ module _ (slots : List (Option Tet)) (rim : List RimFace) (p : Corner) (mesh : I
         same = SameFace-three slots mine k apex_at a b theirs left.0 their_apex on_x.place on_y.place here left.1 (star.apex r h ∙ sym (star.apex o.face o.inside)) (sym on_x.is) (sym on_y.is)
 
         -- were that face linked, it would be so to the face that is free
-        linked_is : (z : Side) → side slots theirs left.0 ≡ Some z → ⊥
+        linked_is : (z : SlotFace) → side slots theirs left.0 ≡ Some z → ⊥
         linked_is z e =
             let there = star.closed o.face left.0 z o.inside (λ q. left.1.fk (sym q)) e in
             let t = there.0 in
@@ -157,7 +157,7 @@ module _ (slots : List (Option Tet)) (rim : List RimFace) (p : Corner) (mesh : I
                   ]
             ]
 
-        their_free : (v : Option Side) → side slots theirs left.0 ≡ v → side slots theirs left.0 ≡ None
+        their_free : (v : Option SlotFace) → side slots theirs left.0 ≡ v → side slots theirs left.0 ≡ None
         their_free None e = e
         their_free (Some z) e = absurd (linked_is z e)
 
@@ -173,13 +173,13 @@ module _ (slots : List (Option Tet)) (rim : List RimFace) (p : Corner) (mesh : I
               same = same;
             }
 
-    pub mate_exists : (t : Side) × Mate slots rim r k t
+    pub mate_exists : (t : SlotFace) × Mate slots rim r k t
     mate_exists =
         let two = two_left k apex_at k4 (star_live r h).1 (λ e. free_off r k h free (sym e)) in
         let o = other two.0 two.1 two.2 in
         (at (theirs two.0 two.1 two.2 o) (left two.0 two.1 two.2 o).0, mate two.0 two.1 two.2 o)
 
-module _ (old new : List (Option Tet)) (rim : List RimFace) (p : Corner) (mesh : IsMesh old) (star : IsStar old rim p) (r k : ℕ) (h : r < length rim) (two : Side) (mate : Mate old rim r k two) (links : Links old new (behind_rim old rim r).slot k two.slot two.face) where
+module _ (old new : List (Option SlotValue)) (rim : List RimFace) (p : Corner) (mesh : IsMesh old) (star : IsStar old rim p) (r k : ℕ) (h : r < length rim) (two : SlotFace) (mate : Mate old rim r k two) (links : Links old new (behind_rim old rim r).slot k two.slot two.face) where
   abbrev first : ℕ
   first = (behind_rim old rim r).slot
 
@@ -193,20 +193,20 @@ module _ (old new : List (Option Tet)) (rim : List RimFace) (p : Corner) (mesh :
   same_behind t lt = ap behind (rim_kept t lt)
 
   same_slot : (t : ℕ) → t < length rim → (behind_rim new rim t).slot ≡ (behind_rim old rim t).slot
-  same_slot t lt = ap (λ (b : Side). b.slot) (same_behind t lt)
+  same_slot t lt = ap (λ (b : SlotFace). b.slot) (same_behind t lt)
 
-  closed_old : (t m : ℕ) (b : Side) → t < length rim → m ≢ (behind_rim old rim t).face → side new (behind_rim old rim t).slot m ≡ Some b → (q : ℕ) × (q < length rim) × (b.slot ≡ (behind_rim old rim q).slot)
+  closed_old : (t m : ℕ) (b : SlotFace) → t < length rim → m ≢ (behind_rim old rim t).face → side new (behind_rim old rim t).slot m ≡ Some b → (q : ℕ) × (q < length rim) × (b.slot ≡ (behind_rim old rim q).slot)
   closed_old t m b lt off e =
       elim (same_or_off (behind_rim old rim t).slot m first k) [
         | inl is ↦
             let there : side new first k ≡ Some b = subst (λ n. side new first n ≡ Some b) is.1 (subst (λ n. side new n m ≡ Some b) is.0 e) in
             let both : at two.slot two.face ≡ b = let f = links.first in cc in
-            (mate.face, mate.inside, ap (λ (x : Side). x.slot) (sym both) ∙ mate.slot)
+            (mate.face, mate.inside, ap (λ (x : SlotFace). x.slot) (sym both) ∙ mate.slot)
         | inr off_first ↦ elim (same_or_off (behind_rim old rim t).slot m two.slot two.face) [
           | inl is ↦
               let there : side new two.slot two.face ≡ Some b = subst (λ n. side new two.slot n ≡ Some b) is.1 (subst (λ n. side new n m ≡ Some b) is.0 e) in
               let both : at first k ≡ b = let f = links.second in cc in
-              (r, h, ap (λ (x : Side). x.slot) (sym both))
+              (r, h, ap (λ (x : SlotFace). x.slot) (sym both))
           | inr off_second ↦ star.closed t m b lt off (sym (links.others _ _ off_first off_second) ∙ e)
         ]
       ]
@@ -218,10 +218,10 @@ module _ (old new : List (Option Tet)) (rim : List RimFace) (p : Corner) (mesh :
         apart = λ t q a b e. star.apart t q a b (sym (same_slot t a) ∙ e ∙ same_slot q b);
         outside = λ t q a b e. star.outside t q a b (sym (same_slot t a) ∙ e);
         apex = λ t lt.
-            subst (λ (x : Side). corner new x.slot x.face ≡ p) (sym (same_behind t lt))
+            subst (λ (x : SlotFace). corner new x.slot x.face ≡ p) (sym (same_behind t lt))
             (ap (λ (o : Option (List Corner)). corner_in o (behind_rim old rim t).face) (links.corners (behind_rim old rim t).slot) ∙ star.apex t lt);
         closed = λ t m b lt off e.
-            let found = closed_old t m b lt (λ q. off (q ∙ ap (λ (x : Side). x.face) (sym (same_behind t lt)))) (subst (λ n. side new n m ≡ Some b) (same_slot t lt) e) in
+            let found = closed_old t m b lt (λ q. off (q ∙ ap (λ (x : SlotFace). x.face) (sym (same_behind t lt)))) (subst (λ n. side new n m ≡ Some b) (same_slot t lt) e) in
             (found.0, found.1, found.2 ∙ sym (same_slot found.0 found.1));
       }
 
@@ -235,7 +235,7 @@ module _ (old new : List (Option Tet)) (rim : List RimFace) (p : Corner) (mesh :
         ]
       ]
     where
-      some_at : (u m s i : ℕ) (b : Side) → u ≡ s → m ≡ i → side new s i ≡ Some b → IsSome (side new u m)
+      some_at : (u m s i : ℕ) (b : SlotFace) → u ≡ s → m ≡ i → side new s i ≡ Some b → IsSome (side new u m)
       some_at u m s i b us mi e = rw (us, mi, e) refl
 
   pub LinksFace-links : LinksFace old new rim p r k
@@ -250,7 +250,7 @@ module _ (old new : List (Option Tet)) (rim : List RimFace) (p : Corner) (mesh :
       }
 
 -- pairs are a matter of corners alone
-pub ArePaired-along : (old new : List (Option Tet)) (rim : List RimFace) → ((u : ℕ) → corners_at new u ≡ corners_at old u) → ArePaired old rim → ArePaired new rim
+pub ArePaired-along : (old new : List (Option SlotValue)) (rim : List RimFace) → ((u : ℕ) → corners_at new u ≡ corners_at old u) → ArePaired old rim → ArePaired new rim
 ArePaired-along old new rim same pairs r x y h on_x on_y differ =
     let o = pairs r x y h (OnFace-back old new same _ _ x on_x) (OnFace-back old new same _ _ y on_y) differ in
     record {
@@ -262,7 +262,7 @@ ArePaired-along old new rim same pairs r x y h on_x on_y differ =
       only = λ t lt tr on_x2 on_y2. o.only t lt tr (OnFace-back old new same _ _ x on_x2) (OnFace-back old new same _ _ y on_y2);
     }
 
-module _ (first now next : List (Option Tet)) (rim : List RimFace) (p : Corner) (r k n : ℕ) (h : r < length rim) (outside : (r q : ℕ) → r < length rim → q < length rim → (behind_rim first rim r).slot ≢ (rim_at rim q).slot.index) (was : LinksStar first now rim p n) (one : LinksFace now next rim p r k) where
+module _ (first now next : List (Option SlotValue)) (rim : List RimFace) (p : Corner) (r k n : ℕ) (h : r < length rim) (outside : (r q : ℕ) → r < length rim → q < length rim → (behind_rim first rim r).slot ≢ (rim_at rim q).slot.index) (was : LinksStar first now rim p n) (one : LinksFace now next rim p r k) where
   behind_kept : (t : ℕ) → t < length rim → behind_rim now rim t ≡ behind_rim first rim t
   behind_kept t lt = ap behind (was.sides _ _ (λ q qlt e. outside q t qlt lt e))
 
@@ -272,39 +272,39 @@ module _ (first now next : List (Option Tet)) (rim : List RimFace) (p : Corner) 
         len = one.len ∙ was.len;
         corners = λ u. one.corners u ∙ was.corners u;
         star = one.star;
-        sides = λ u m away. one.sides u m (λ q lt e. away q lt (ap (λ (b : Side). b.slot) (sym (behind_kept q lt)) ∙ e)) ∙ was.sides u m away;
+        sides = λ u m away. one.sides u m (λ q lt e. away q lt (ap (λ (b : SlotFace). b.slot) (sym (behind_kept q lt)) ∙ e)) ∙ was.sides u m away;
         linked = λ q m qn m4. one.keeps _ m (was.linked q m qn m4);
       }
 
   pub here_one : IsSome (side next (behind_rim first rim r).slot k)
-  here_one = subst (λ (b : Side). IsSome (side next b.slot k)) (behind_kept r h) one.here
+  here_one = subst (λ (b : SlotFace). IsSome (side next b.slot k)) (behind_kept r h) one.here
 
-pub LinksStar-none : (slots : List (Option Tet)) (rim : List RimFace) (p : Corner) → IsStar slots rim p → LinksStar slots slots rim p 0
+pub LinksStar-none : (slots : List (Option SlotValue)) (rim : List RimFace) (p : Corner) → IsStar slots rim p → LinksStar slots slots rim p 0
 LinksStar-none slots rim p star =
     record { len = refl; corners = λ u. refl; star = star; sides = λ u m away. refl; linked = λ q m h. absurd (omega arith) }
 
 -- one more link
-pub LinksStar-face : (old new : List (Option Tet)) (rim : List RimFace) (p : Corner) (r k : ℕ) → LinksFace old new rim p r k → LinksStar old new rim p 0
+pub LinksStar-face : (old new : List (Option SlotValue)) (rim : List RimFace) (p : Corner) (r k : ℕ) → LinksFace old new rim p r k → LinksStar old new rim p 0
 LinksStar-face old new rim p r k one =
     record { len = one.len; corners = one.corners; star = one.star; sides = one.sides; linked = λ q m h. absurd (omega arith) }
 
 -- links after links
-pub LinksStar-then : (first mid next : List (Option Tet)) (rim : List RimFace) (p : Corner) (m n : ℕ) → IsStar first rim p → n ≤ length rim → LinksStar first mid rim p m → LinksStar mid next rim p n → LinksStar first next rim p n
+pub LinksStar-then : (first mid next : List (Option SlotValue)) (rim : List RimFace) (p : Corner) (m n : ℕ) → IsStar first rim p → n ≤ length rim → LinksStar first mid rim p m → LinksStar mid next rim p n → LinksStar first next rim p n
 LinksStar-then first mid next rim p m n star few one two =
     record {
       len = two.len ∙ one.len;
       corners = λ u. two.corners u ∙ one.corners u;
       star = two.star;
-      sides = λ u k away. two.sides u k (λ q lt e. away q lt (ap (λ (b : Side). b.slot) (sym (kept q lt)) ∙ e)) ∙ one.sides u k away;
-      linked = λ q k lt k4. subst (λ (b : Side). IsSome (side next b.slot k)) (kept q (omega arith)) (two.linked q k lt k4);
+      sides = λ u k away. two.sides u k (λ q lt e. away q lt (ap (λ (b : SlotFace). b.slot) (sym (kept q lt)) ∙ e)) ∙ one.sides u k away;
+      linked = λ q k lt k4. subst (λ (b : SlotFace). IsSome (side next b.slot k)) (kept q (omega arith)) (two.linked q k lt k4);
     }
   where
     kept : (t : ℕ) → t < length rim → behind_rim mid rim t ≡ behind_rim first rim t
     kept t lt = ap behind (one.sides _ _ (λ q qlt e. star.outside q t qlt lt e))
 
 -- two faces with the same corners are linked
-pub LinksStar-mates : (old new : List (Option Tet)) (rim : List RimFace) (p : Corner) (r k q j s t : ℕ) → IsMesh old → IsStar old rim p → r < length rim → q < length rim → q ≢ r → j < 4 → s ≡ (behind_rim old rim r).slot → t ≡ (behind_rim old rim q).slot → side old t j ≡ None → SameFace old s k t j → Links old new s k t j → LinksStar old new rim p 0
+pub LinksStar-mates : (old new : List (Option SlotValue)) (rim : List RimFace) (p : Corner) (r k q j s t : ℕ) → IsMesh old → IsStar old rim p → r < length rim → q < length rim → q ≢ r → j < 4 → s ≡ (behind_rim old rim r).slot → t ≡ (behind_rim old rim q).slot → side old t j ≡ None → SameFace old s k t j → Links old new s k t j → LinksStar old new rim p 0
 LinksStar-mates old new rim p r k q j s t mesh star hr hq differs j4 es et free same links =
-    let two : Side = at t j in
+    let two : SlotFace = at t j in
     let mate : Mate old rim r k two = record { face = q; inside = hq; differs = differs; slot = et; below = j4; free = free; same = subst (λ n. SameFace old n k t j) es same } in
     LinksStar-face old new rim p r k (LinksFace-links old new rim p mesh star r k hr two mate (subst (λ n. Links old new n k t j) es links))

@@ -4,10 +4,10 @@ use Rattle.std.proofs.lemmas.Bool.{cases_eq}
 use Rattle.std.proofs.lemmas.List.{get_or-set_same}
 use Rattle.mesh_arena.specs.declared.slot.Corner.{Corner}
 use Rattle.mesh_arena.specs.declared.slot.Corner.TheVariants.{Ghost}
-use Rattle.mesh_arena.specs.declared.arena.Side.{Side}
+use Rattle.mesh_arena.specs.declared.arena.SlotFace.{SlotFace}
 use Rattle.mesh_arena.specs.declared.slot.Slot.{Slot}
 use Rattle.mesh_arena.specs.declared.slot.RimFace.{RimFace}
-use Rattle.mesh_arena.specs.Mesh.{Tet, corners_at, corner_in, IsLive, corner, side, at, IsMesh, AllDiffer}
+use Rattle.mesh_arena.specs.Mesh.{SlotValue, corners_at, corner_in, IsLive, corner, side, at, IsMesh, AllDiffer}
 use Rattle.mesh_arena.specs.Star.{behind, rim_at, face_side, behind_rim}
 use Rattle.mesh_arena.specs.declared.star.StarSlot.{StarSlot}
 use Rattle.mesh_arena.specs.Surgery.{star_at, star_corners, Plans, FitsFace, CanAdd, AddsStar}
@@ -42,7 +42,7 @@ some_corners : (o : Option (List Corner)) → IsSome o → (cs : List Corner) ×
 some_corners None some = absurd (search rules)
 some_corners (Some cs) some = (cs, refl)
 
-module _ (A : List (Option Tet)) (cavity : List Slot) (rim : List RimFace) (p : Corner) (mesh_A : IsMesh A) (hole : IsCavity A cavity) (edge : IsRim A cavity rim) (pairs : ArePaired A rim) (off : IsOffRim A rim p) where
+module _ (A : List (Option SlotValue)) (cavity : List Slot) (rim : List RimFace) (p : Corner) (mesh_A : IsMesh A) (hole : IsCavity A cavity) (edge : IsRim A cavity rim) (pairs : ArePaired A rim) (off : IsOffRim A rim p) where
   in_live : (u : ℕ) → IsIn cavity u → IsLive A u
   in_live u found = subst (IsLive A) found.is (hole.live found.place found.inside)
 
@@ -52,7 +52,7 @@ module _ (A : List (Option Tet)) (cavity : List Slot) (rim : List RimFace) (p : 
   outer_live : (r : ℕ) → r < length rim → IsLive A (rim_at rim r).slot.index
   outer_live r h = live_by_side A _ _ _ (edge.has r h)
 
-  module _ (F : List (Option Tet)) (cuts : Cuts A F cavity rim) where
+  module _ (F : List (Option SlotValue)) (cuts : Cuts A F cavity rim) where
     live_F : (u : ℕ) → IsLive A u → (IsIn cavity u → ⊥) → IsLive F u
     live_F u live out = subst IsSome (sym (cuts.kept u out)) live
 
@@ -93,12 +93,12 @@ module _ (A : List (Option Tet)) (cavity : List Slot) (rim : List RimFace) (p : 
             fits = fits_star;
           }
 
-      module _ (S : List (Option Tet)) (adds_star : AddsStar F S rim star (length rim)) where
+      module _ (S : List (Option SlotValue)) (adds_star : AddsStar F S rim star (length rim)) where
         new_behind : (r : ℕ) → r < length rim → behind_rim S rim r ≡ at (behind_rim S rim r).slot (star_at star r).face
         new_behind r h = ap behind (adds_star.over r h).is
 
         same_face : (r : ℕ) → r < length rim → (behind_rim S rim r).face ≡ (star_at star r).face
-        same_face r h = ap (λ (b : Side). b.face) (new_behind r h)
+        same_face r h = ap (λ (b : SlotFace). b.face) (new_behind r h)
 
         -- a slot of the star is not one that stayed
         star_new : (r u : ℕ) → r < length rim → IsLive F u → (behind_rim S rim r).slot ≢ u
@@ -143,7 +143,7 @@ module _ (A : List (Option Tet)) (cavity : List Slot) (rim : List RimFace) (p : 
               only = λ t lt tr on_x2 on_y2. o.only t lt tr (on_back t x lt on_x2) (on_back t y lt on_y2);
             }
 
-        module _ (L : List (Option Tet)) (links_star : LinksStar S L rim p (length rim)) where
+        module _ (L : List (Option SlotValue)) (links_star : LinksStar S L rim p (length rim)) where
           corners_L : (u : ℕ) → IsLive A u → (IsIn cavity u → ⊥) → corners_at L u ≡ corners_at A u
           corners_L u live out = links_star.corners u ∙ adds_star.kept u (live_F u live out) ∙ cuts.kept u out
 
@@ -157,7 +157,7 @@ module _ (A : List (Option Tet)) (cavity : List Slot) (rim : List RimFace) (p : 
           rim_some r h = subst IsSome (sym (rim_side r h ∙ (adds_star.over r h).is)) refl
 
           same_slot : (r : ℕ) → r < length rim → (behind_rim L rim r).slot ≡ (behind_rim S rim r).slot
-          same_slot r h = ap (λ (b : Side). b.slot) (ap behind (rim_side r h))
+          same_slot r h = ap (λ (b : SlotFace). b.slot) (ap behind (rim_side r h))
 
           -- a place that was not free is the cavity's
           star_fresh : (r : ℕ) → r < length rim → IsLive A (behind_rim S rim r).slot → IsIn cavity (behind_rim S rim r).slot
@@ -189,7 +189,7 @@ module _ (A : List (Option Tet)) (cavity : List Slot) (rim : List RimFace) (p : 
                 | inr found ↦ inr (found.0, found.1, same_slot found.0 found.1 ∙ found.2)
               ]
 
-          pub Replaces-done : (s : ℕ) (b : Side) → face_side L (rim_at rim 0) ≡ Some b → s ≡ b.slot → Replaces A L cavity rim p s
+          pub Replaces-done : (s : ℕ) (b : SlotFace) → face_side L (rim_at rim 0) ≡ Some b → s ≡ b.slot → Replaces A L cavity rim p s
           Replaces-done s b is named =
               record {
                 star = stands;
@@ -204,5 +204,5 @@ module _ (A : List (Option Tet)) (cavity : List Slot) (rim : List RimFace) (p : 
                     sides_L u k (live_F u live out)
                     ∙ adds_star.sides u k (live_F u live out) away
                     ∙ cuts.sides u k out away;
-                answer = (0, edge.some, ap (λ (x : Side). x.slot) (ap behind is) ∙ sym named);
+                answer = (0, edge.some, ap (λ (x : SlotFace). x.slot) (ap behind is) ∙ sym named);
               }

@@ -1,11 +1,12 @@
 -- How an `Arena` lays out its slots. No public clause cites this module.
-use Rattle.std.specs.Prelude.{◌≡◌, ℕ, false, zero, suc, ◌+◌, ◌-◌, ◌≤◌, min, List, [], ◌∷◌, map, length, Option, Some, None, is_some, count_by, slice_get, slice_set, slice_index_or, nat_lt, if◌then◌else◌}
+use Rattle.std.specs.Prelude.{◌≡◌, ℕ, false, zero, suc, ◌+◌, ◌-◌, ◌≤◌, min, List, [], ◌∷◌, map, length, Option, Some, None, is_some}
+use Rattle.std.specs.Prelude.{count_by, slice_get, slice_set, slice_index_or, nat_lt, if◌then◌else◌}
 use Rattle.mesh_arena.specs.declared.cell.Cell.{Cell}
-use Rattle.mesh_arena.specs.declared.arena.Side.{Side}
+use Rattle.mesh_arena.specs.declared.arena.SlotFace.{SlotFace}
 use Rattle.mesh_arena.specs.declared.slot.Corner.{Corner}
 use Rattle.mesh_arena.specs.declared.slot.Corner.TheVariants.{Point, Ghost}
 use Rattle.mesh_arena.specs.declared.slot.SlotCorners.{SlotCorners}
-use Rattle.mesh_arena.specs.Mesh.{Tet, at, IsMesh}
+use Rattle.mesh_arena.specs.Mesh.{SlotValue, at, IsMesh}
 
 -- the number that is kept of a corner
 abbrev pub number_in : Corner → ℕ
@@ -28,15 +29,15 @@ abbrev pub corners_in : List ℕ → ℕ → List Corner
 corners_in points infinite = slice_set (map Point points) infinite Ghost
 
 -- the slot and face behind a face, if that is a face
-abbrev pub side_to : ℕ → ℕ → Option Side
+abbrev pub side_to : ℕ → ℕ → Option SlotFace
 side_to slot face = if nat_lt face 4 then Some (at slot face) else None
 
-abbrev pub sides_in : List ℕ → List ℕ → List (Option Side)
+abbrev pub sides_in : List ℕ → List ℕ → List (Option SlotFace)
 sides_in [] faces = []
 sides_in (slot ∷ slots) [] = []
 sides_in (slot ∷ slots) (face ∷ faces) = side_to slot face ∷ sides_in slots faces
 
-abbrev pub tet_in : Cell → Tet
+abbrev pub tet_in : Cell → SlotValue
 tet_in c = record { corners = corners_in c.points c.infinite; sides = sides_in c.slots c.faces }
 
 -- the next free cell, where this one is free
@@ -44,7 +45,7 @@ abbrev pub next_of : Cell → ℕ
 next_of c = slice_index_or c.slots 0 0
 
 -- the tetrahedron of a live cell
-abbrev pub tet_of : Cell → Option Tet
+abbrev pub tet_of : Cell → Option SlotValue
 tet_of c = if c.live then Some (tet_in c) else None
 
 -- from this place on, so many free cells each name the next, and the last names the end of the cells

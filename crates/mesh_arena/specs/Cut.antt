@@ -3,13 +3,13 @@ use Rattle.std.specs.Prelude.{◌≡◌, ◌≢◌, ℕ, ◌-◌, ◌<◌, List,
 use Rattle.mesh_arena.specs.declared.cell.Cell.{Cell}
 use Rattle.mesh_arena.specs.declared.slot.Slot.{Slot}
 use Rattle.mesh_arena.specs.declared.slot.RimFace.{RimFace}
-use Rattle.mesh_arena.specs.Mesh.{Tet, tet_at, corners_at, side, IsShaped, Off}
+use Rattle.mesh_arena.specs.Mesh.{SlotValue, tet_at, corners_at, side, IsShaped, Off}
 use Rattle.mesh_arena.specs.Cells.{tet_of, IsCounted}
 use Rattle.mesh_arena.specs.Star.{rim_at, face_side}
 use Rattle.mesh_arena.specs.Cavity.{slot_at, IsIn}
 
 -- the slots of the cells
-abbrev pub slots_in : List Cell → List (Option Tet)
+abbrev pub slots_in : List Cell → List (Option SlotValue)
 slots_in cells = map tet_of cells
 
 -- the first n faces of the rim have nothing behind them any more, and all else stays
@@ -19,7 +19,8 @@ pub record ClearsRim (old new : List Cell) (rim : List RimFace) (n : ℕ) : Type
   pub shaped : IsShaped (slots_in new)
   pub corners : (u : ℕ) → corners_at (slots_in new) u ≡ corners_at (slots_in old) u
   pub outer : (r : ℕ) → r < n → face_side (slots_in new) (rim_at rim r) ≡ None
-  pub others : (u k : ℕ) → ((r : ℕ) → r < n → Off u k (rim_at rim r).slot.index (rim_at rim r).face) → side (slots_in new) u k ≡ side (slots_in old) u k
+  pub others : (u k : ℕ) → ((r : ℕ) → r < n → Off u k (rim_at rim r).slot.index (rim_at rim r).face)
+      → side (slots_in new) u k ≡ side (slots_in old) u k
 
 -- the first n slots are free, the last of them the first free one, and all else stays
 pub record FreesCells (old new : List Cell) (cavity : List Slot) (n next first : ℕ) : Type 0 where
@@ -29,8 +30,9 @@ pub record FreesCells (old new : List Cell) (cavity : List Slot) (n next first :
   pub kept : (u : ℕ) → ((j : ℕ) → j < n → slot_at cavity j ≢ u) → tet_at (slots_in new) u ≡ tet_at (slots_in old) u
 
 -- the slots of the cavity are free, the faces of its rim have no neighbor, and all else stays
-pub record Cuts (old new : List (Option Tet)) (cavity : List Slot) (rim : List RimFace) : Type 0 where
+pub record Cuts (old new : List (Option SlotValue)) (cavity : List Slot) (rim : List RimFace) : Type 0 where
   pub gone : (u : ℕ) → IsIn cavity u → corners_at new u ≡ None
   pub kept : (u : ℕ) → (IsIn cavity u → ⊥) → corners_at new u ≡ corners_at old u
   pub outer : (r : ℕ) → r < length rim → face_side new (rim_at rim r) ≡ None
-  pub sides : (u k : ℕ) → (IsIn cavity u → ⊥) → ((r : ℕ) → r < length rim → Off u k (rim_at rim r).slot.index (rim_at rim r).face) → side new u k ≡ side old u k
+  pub sides : (u k : ℕ) → (IsIn cavity u → ⊥) → ((r : ℕ) → r < length rim → Off u k (rim_at rim r).slot.index (rim_at rim r).face)
+      → side new u k ≡ side old u k

@@ -2,7 +2,7 @@
 use Rattle.std.specs.Prelude.{◌≡◌, ℕ, ◌+◌, min, max, ◌<◌, ◌≤◌, ◌⊎◌, ◌==◌, if◌then◌else◌, List, map, All, Option, Some, None, slice_index_or}
 use Rattle.mesh_arena.specs.declared.slot.Corner.{Corner}
 use Rattle.mesh_arena.specs.declared.slot.Corner.TheVariants.{Point, Ghost}
-use Rattle.mesh_arena.specs.declared.arena.Side.{Side}
+use Rattle.mesh_arena.specs.declared.arena.SlotFace.{SlotFace}
 use Rattle.mesh_arena.specs.declared.edges.Edge.{Edge}
 use Rattle.mesh_arena.specs.declared.edges.Met.{Met}
 
@@ -20,10 +20,10 @@ edge_between x y =
 
 -- in each place of the table an edge and the face that it was met at, or nothing
 abbrev pub Meetings : Type 0
-Meetings = List (Option (Edge × Side))
+Meetings = List (Option (Edge × SlotFace))
 
 -- what a place has, if it is of this round
-abbrev pub meeting_of : ℕ → Met → Option (Edge × Side)
+abbrev pub meeting_of : ℕ → Met → Option (Edge × SlotFace)
 meeting_of round m = if m.round == round then Some (m.edge, m.at) else None
 
 abbrev pub meetings_in : List Met → ℕ → Meetings
@@ -35,14 +35,14 @@ pub record IsUpTo (met : List Met) (round : ℕ) : Type 0 where
   pub all : All (λ m. m.round ≤ round) met
 
 -- this edge was met at this face
-pub record IsMet (table : Meetings) (edge : Edge) (face : Side) : Type 0 where
+pub record IsMet (table : Meetings) (edge : Edge) (face : SlotFace) : Type 0 where
   pub place : ℕ
   pub is : slice_index_or table place None ≡ Some (edge, face)
 
 -- no edge was met
 abbrev pub IsUnmet : Meetings → Type 0
-IsUnmet table = (e : Edge) (s : Side) → IsMet table e s → ⊥
+IsUnmet table = (e : Edge) (s : SlotFace) → IsMet table e s → ⊥
 
 -- at most this was met besides
-abbrev pub MeetsOnly : Meetings → Meetings → Edge → Side → Type 0
-MeetsOnly old new edge face = (e : Edge) (s : Side) → IsMet new e s → IsMet old e s ⊎ ((e ≡ edge) × (s ≡ face))
+abbrev pub MeetsOnly : Meetings → Meetings → Edge → SlotFace → Type 0
+MeetsOnly old new edge face = (e : Edge) (s : SlotFace) → IsMet new e s → IsMet old e s ⊎ ((e ≡ edge) × (s ≡ face))

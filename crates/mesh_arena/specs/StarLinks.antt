@@ -2,9 +2,9 @@
 use Rattle.std.specs.Prelude.{◌≡◌, ◌≢◌, ℕ, ◌<◌, List, length, Option, Some, None, IsSome, slice_index_or}
 use Rattle.mesh_arena.specs.declared.slot.Corner.{Corner}
 use Rattle.mesh_arena.specs.declared.slot.Corner.TheVariants.{Ghost}
-use Rattle.mesh_arena.specs.declared.arena.Side.{Side}
+use Rattle.mesh_arena.specs.declared.arena.SlotFace.{SlotFace}
 use Rattle.mesh_arena.specs.declared.slot.RimFace.{RimFace}
-use Rattle.mesh_arena.specs.Mesh.{Tet, corners_at, corner, side, OnFace, SameFace}
+use Rattle.mesh_arena.specs.Mesh.{SlotValue, corners_at, corner, side, OnFace, SameFace}
 use Rattle.mesh_arena.specs.Star.{rim_at, face_side, behind_rim}
 use Rattle.mesh_arena.specs.declared.edges.Edge.{Edge}
 use Rattle.mesh_arena.specs.Edges.{edge_between, Meetings, IsMet}
@@ -33,11 +33,11 @@ pub record Places (k f a b : ℕ) : Type 0 where
   pub ab : a ≢ b
 
 -- x is a corner of the face r of the rim
-abbrev pub OnRim : List (Option Tet) → List RimFace → ℕ → Corner → Type 0
+abbrev pub OnRim : List (Option SlotValue) → List RimFace → ℕ → Corner → Type 0
 OnRim slots rim r x = OnFace slots (rim_at rim r).slot.index (rim_at rim r).face x
 
 -- one other face of the rim has both corners, and no third
-pub record Other (slots : List (Option Tet)) (rim : List RimFace) (r : ℕ) (x y : Corner) : Type 0 where
+pub record Other (slots : List (Option SlotValue)) (rim : List RimFace) (r : ℕ) (x y : Corner) : Type 0 where
   pub face : ℕ
   pub inside : face < length rim
   pub differs : face ≢ r
@@ -46,19 +46,20 @@ pub record Other (slots : List (Option Tet)) (rim : List RimFace) (r : ℕ) (x y
   pub only : (t : ℕ) → t < length rim → t ≢ r → OnRim slots rim t x → OnRim slots rim t y → t ≡ face
 
 -- each two corners of a face of the rim are corners of exactly one other
-abbrev pub ArePaired : List (Option Tet) → List RimFace → Type 0
+abbrev pub ArePaired : List (Option SlotValue) → List RimFace → Type 0
 ArePaired slots rim = (r : ℕ) (x y : Corner) → r < length rim → OnRim slots rim r x → OnRim slots rim r y → x ≢ y → Other slots rim r x y
 
 -- the slots behind the rim are different, each has the point, and they have neighbors on the rim and among one another alone
-pub record IsStar (slots : List (Option Tet)) (rim : List RimFace) (p : Corner) : Type 0 where
+pub record IsStar (slots : List (Option SlotValue)) (rim : List RimFace) (p : Corner) : Type 0 where
   pub has : (r : ℕ) → r < length rim → face_side slots (rim_at rim r) ≡ Some (behind_rim slots rim r)
   pub apart : (r q : ℕ) → r < length rim → q < length rim → (behind_rim slots rim r).slot ≡ (behind_rim slots rim q).slot → r ≡ q
   pub outside : (r q : ℕ) → r < length rim → q < length rim → (behind_rim slots rim r).slot ≢ (rim_at rim q).slot.index
   pub apex : (r : ℕ) → r < length rim → corner slots (behind_rim slots rim r).slot (behind_rim slots rim r).face ≡ p
-  pub closed : (r k : ℕ) (b : Side) → r < length rim → k ≢ (behind_rim slots rim r).face → side slots (behind_rim slots rim r).slot k ≡ Some b → (q : ℕ) × (q < length rim) × (b.slot ≡ (behind_rim slots rim q).slot)
+  pub closed : (r k : ℕ) (b : SlotFace) → r < length rim → k ≢ (behind_rim slots rim r).face
+      → side slots (behind_rim slots rim r).slot k ≡ Some b → (q : ℕ) × (q < length rim) × (b.slot ≡ (behind_rim slots rim q).slot)
 
 -- a face of another slot of the star with no neighbor and the same corners as the face k of the slot over r
-pub record Mate (slots : List (Option Tet)) (rim : List RimFace) (r k : ℕ) (t : Side) : Type 0 where
+pub record Mate (slots : List (Option SlotValue)) (rim : List RimFace) (r k : ℕ) (t : SlotFace) : Type 0 where
   pub face : ℕ
   pub inside : face < length rim
   pub differs : face ≢ r
@@ -68,7 +69,7 @@ pub record Mate (slots : List (Option Tet)) (rim : List RimFace) (r k : ℕ) (t 
   pub same : SameFace slots (behind_rim slots rim r).slot k t.slot t.face
 
 -- the face k of the slot over r has a neighbor now, no side goes away, and the slots outside of the star stay
-pub record LinksFace (old new : List (Option Tet)) (rim : List RimFace) (p : Corner) (r k : ℕ) : Type 0 where
+pub record LinksFace (old new : List (Option SlotValue)) (rim : List RimFace) (p : Corner) (r k : ℕ) : Type 0 where
   pub len : length new ≡ length old
   pub corners : (u : ℕ) → corners_at new u ≡ corners_at old u
   pub star : IsStar new rim p
@@ -77,7 +78,7 @@ pub record LinksFace (old new : List (Option Tet)) (rim : List RimFace) (p : Cor
   pub here : IsSome (side new (behind_rim old rim r).slot k)
 
 -- each face of the slots over the first n faces has a neighbor, and the slots outside of the star stay
-pub record LinksStar (old new : List (Option Tet)) (rim : List RimFace) (p : Corner) (n : ℕ) : Type 0 where
+pub record LinksStar (old new : List (Option SlotValue)) (rim : List RimFace) (p : Corner) (n : ℕ) : Type 0 where
   pub len : length new ≡ length old
   pub corners : (u : ℕ) → corners_at new u ≡ corners_at old u
   pub star : IsStar new rim p
@@ -85,7 +86,7 @@ pub record LinksStar (old new : List (Option Tet)) (rim : List RimFace) (p : Cor
   pub linked : (q m : ℕ) → q < n → m < 4 → IsSome (side new (behind_rim old rim q).slot m)
 
 -- the face is of a slot of the star, and has the point and the ends of the edge
-pub record IsOverEdge (slots : List (Option Tet)) (rim : List RimFace) (p : Corner) (edge : Edge) (face : Side) : Type 0 where
+pub record IsOverEdge (slots : List (Option SlotValue)) (rim : List RimFace) (p : Corner) (edge : Edge) (face : SlotFace) : Type 0 where
   pub over : ℕ
   pub inside : over < length rim
   pub slot : face.slot ≡ (behind_rim slots rim over).slot
@@ -97,5 +98,5 @@ pub record IsOverEdge (slots : List (Option Tet)) (rim : List RimFace) (p : Corn
   pub ends : edge_between (corner slots face.slot first) (corner slots face.slot second) ≡ edge
 
 -- each edge was met at such a face
-abbrev pub AreOverEdges : List (Option Tet) → List RimFace → Corner → Meetings → Type 0
-AreOverEdges slots rim p table = (e : Edge) (s : Side) → IsMet table e s → IsOverEdge slots rim p e s
+abbrev pub AreOverEdges : List (Option SlotValue) → List RimFace → Corner → Meetings → Type 0
+AreOverEdges slots rim p table = (e : Edge) (s : SlotFace) → IsMet table e s → IsOverEdge slots rim p e s

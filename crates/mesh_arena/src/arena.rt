@@ -1,6 +1,9 @@
 //! The arena: its slots, and the changes of one slot or one pair of faces.
-ghost use Rattle.std.specs.Prelude.{◌≡◌, ◌≢◌, ℕ, ◌+◌, ◌<◌, ◌≤◌, ◌↔◌, IsTrue, [], length, Some, None, IsSome, IfSome, IsOk, IfOk, OnOk, OnErr, MatchOption, option_map, vec_capacity};
-ghost use Rattle.mesh_arena.specs.Mesh.{tet_at, corners_at, IsLive, at, side, corner_list, AllDiffer, SameFace, IsMesh, Links, Takes};
+ghost use Rattle.std.specs.Prelude.{◌≡◌, ◌≢◌, ℕ, ◌+◌, ◌<◌, ◌≤◌, ◌↔◌, IsTrue, [], length, Some};
+ghost use Rattle.std.specs.Prelude.{None, IsSome, IfSome, IsOk, IfOk, OnOk, OnErr, MatchOption};
+ghost use Rattle.std.specs.Prelude.{option_map, vec_capacity};
+ghost use Rattle.mesh_arena.specs.Mesh.{tet_at, corners_at, IsLive, at, side, corner_list};
+ghost use Rattle.mesh_arena.specs.Mesh.{AllDiffer, SameFace, IsMesh, Links, Takes};
 ghost use Rattle.mesh_arena.specs.Replace.{IsCavity, IsRim};
 ghost use Rattle.mesh_arena.specs.Cut.{Cuts};
 
@@ -15,17 +18,19 @@ use std::marker::Model;
 use std::mem;
 use tet_ports::NoMemory;
 
-/// A face of a slot, by its place. Contracts name what stands behind a face so.
-#[derive(Clone, Copy, PartialEq, Eq)]
-pub struct Side {
+/// A face of a slot: the places of the slot in its arena and of the opposite corner in the slot,
+/// from 0. Contracts name what stands behind a face so.
+#[derive(Clone, Copy, Debug, PartialEq, Eq)]
+pub struct SlotFace {
     pub slot: u32,
     pub face: u8,
 }
 
-/// Slots, live or free, numbered from 0. A live one has four different corners, and behind each face a neighbor or none; neighbors are mutual and have
-/// the face's three corners in common. Contracts see the list of slots; `spare`, of how many faces a rim may be whose star needs no allocation; and
-/// `room`, how many more slots have memory.
-#[derive(Drop)]
+/// Slots, live or free, numbered from 0. A live one has four different corners, and behind each
+/// face a neighbor or none; neighbors are mutual and have the face's three corners in common.
+/// Contracts see the list of slots; `spare`, of how many faces a rim may be whose star needs no
+/// allocation; and `room`, how many more slots have memory.
+#[derive(Debug, Drop)]
 pub struct Arena {
     pub(crate) cells: Vec<Cell>,
     // How many cells are live.
@@ -52,9 +57,14 @@ impl Model for Arena {
 
     ghost use Rattle.mesh_arena.specs.Cells.{tet_of, most_cells, IsReady};
 
-    ghost view = { λ a. record { slots = map tet_of a.cells.items; spare = a.spare; room = min (vec_capacity a.cells) most_cells - a.live } };
+    ghost view = { λ a. record {
+      slots = map tet_of a.cells.items;
+      spare = a.spare;
+      room = min (vec_capacity a.cells) most_cells - a.live;
+    } };
 
-    ghost invariant = { λ a. IsReady a.cells.items a.live a.next a.spare (vec_capacity a.cells) (vec_capacity a.star) };
+    ghost invariant = { λ a.
+        IsReady a.cells.items a.live a.next a.spare (vec_capacity a.cells) (vec_capacity a.star) };
 }
 
 impl Arena {
@@ -83,7 +93,8 @@ impl Arena {
     /// The slot at a place, or None where it is free.
     pub fn slot(&self, i: usize) -> Option<Slot>
         requires { i < length self.now.slots }
-        ensures { MatchOption result (tet_at self.now.slots i ≡ None) (λ s. (s.index ≡ i) × IsLive self.now.slots i) }
+        ensures { MatchOption result (tet_at self.now.slots i ≡ None)
+            (λ s. (s.index ≡ i) × IsLive self.now.slots i) }
     {
         if self.cells[i].live {
             Some(Slot { index: i as u32 })
@@ -102,11 +113,13 @@ impl Arena {
         SlotCorners { a, b, c, d }
     }
 
-    /// The neighbor of a live slot behind the face opposite its corner in the place `face`, from 0. None exactly where none is linked.
+    /// The neighbor of a live slot behind the face opposite its corner in the place `face`, from 0.
+    /// None exactly where none is linked.
     pub fn neighbor(&self, s: Slot, face: u8) -> Option<Slot>
         requires live { IsLive self.now.slots s.index }
         requires face { face < 4 }
-        ensures value { option_map (λ n. n.index) result ≡ option_map (λ b. b.slot) (side self.now.slots s.index face) }
+        ensures value { option_map (λ n. n.index) result
+            ≡ option_map (λ b. b.slot) (side self.now.slots s.index face) }
         ensures live { IfSome result (λ n. IsLive self.now.slots n.index) }
     {
         match self.cells[s.index as usize].side(face) {
@@ -119,7 +132,8 @@ impl Arena {
     pub fn across(&self, s: Slot, face: u8) -> Option<RimFace>
         requires live { IsLive self.now.slots s.index }
         requires face { face < 4 }
-        ensures value { option_map (λ f. at f.slot.index f.face) result ≡ side self.now.slots s.index face }
+        ensures value { option_map (λ f. at f.slot.index f.face) result
+            ≡ side self.now.slots s.index face }
         ensures live { IfSome result (λ f. IsLive self.now.slots f.slot.index × (f.face < 4)) }
     {
         match self.cells[s.index as usize].side(face) {
@@ -131,7 +145,8 @@ impl Arena {
         }
     }
 
-    /// Whether two faces of live slots, opposite their corners in the places `i` and `j` from 0, have the same corners.
+    /// Whether two faces of live slots, opposite their corners in the places `i` and `j` from 0,
+    /// have the same corners.
     pub fn same_face(&self, s: Slot, i: u8, t: Slot, j: u8) -> bool
         requires first { IsLive self.now.slots s.index }
         requires second { IsLive self.now.slots t.index }
@@ -142,7 +157,8 @@ impl Arena {
         covers(&one, i, &two, j) && covers(&two, j, &one, i)
     }
 
-    /// Makes two slots neighbors at these faces, which have the same three corners and no neighbor yet. No other neighbor changes.
+    /// Makes two slots neighbors at these faces, which have the same three corners and no neighbor
+    /// yet. No other neighbor changes.
     pub fn link(&mut self, s: Slot, i: u8, t: Slot, j: u8)
         requires first { IsLive self.old.slots s.index }
         requires second { IsLive self.old.slots t.index }
@@ -158,7 +174,7 @@ impl Arena {
         let one = &mut self.cells[s.index as usize];
         one.put_side(
             i,
-            Side {
+            SlotFace {
                 slot: t.index,
                 face: j,
             },
@@ -166,14 +182,15 @@ impl Arena {
         let two = &mut self.cells[t.index as usize];
         two.put_side(
             j,
-            Side {
+            SlotFace {
                 slot: s.index,
                 face: i,
             },
         );
     }
 
-    /// Makes room for the star over a rim of this many faces, so that `spare` is at least that. All else stays, and on `NoMemory` `spare` too.
+    /// Makes room for the star over a rim of this many faces, so that `spare` is at least that. All
+    /// else stays, and on `NoMemory` `spare` too.
     pub fn reserve(&mut self, faces: usize) -> Result<(), NoMemory>
         ensures room { OnOk result (faces ≤ self.new.spare) }
         ensures within { self.new.spare ≤ self.new.room }
@@ -200,11 +217,13 @@ impl Arena {
         Ok(())
     }
 
-    /// A new slot with these four different corners and no neighbor, at a free place where there is one, and else past the end. On `NoMemory` the
-    /// arena is as before; it also comes at 2^32 - 1 live slots, and never where a rim of one face is spare.
+    /// A new slot with these four different corners and no neighbor, at a free place where there is
+    /// one, and else past the end. On `NoMemory` the arena is as before; it also comes at 2^32 - 1
+    /// live slots, and never where a rim of one face is spare.
     pub fn alloc_slot(&mut self, corners: SlotCorners) -> Result<Slot, NoMemory>
         requires { AllDiffer (corner_list corners) }
-        ensures ok { IfOk result (λ s. Takes self.old.slots self.new.slots s.index (corner_list corners)) }
+        ensures ok { IfOk result
+            (λ s. Takes self.old.slots self.new.slots s.index (corner_list corners)) }
         ensures err { OnErr result (self.new ≡ self.old) }
         ensures succeeds { 0 < self.old.spare → IsOk result }
     {

@@ -1,17 +1,21 @@
 //! How a slot lies in memory: 40 bytes, with numbers in place of enums.
-ghost use Rattle.std.specs.Prelude.{◌≡◌, ℕ, ◌<◌, IsTrue, true, false, [], ◌∷◌, Some, None, IsSome, slice_index_or, if◌then◌else◌};
-ghost use Rattle.mesh_arena.specs.declared.slot.Corner.TheVariants.{Point as Numbered, Ghost as Infinite};
+ghost use Rattle.std.specs.Prelude.{◌≡◌, ℕ, ◌<◌, IsTrue, true, false, [], ◌∷◌, Some, None, IsSome};
+ghost use Rattle.std.specs.Prelude.{slice_index_or, if◌then◌else◌};
+ghost use Rattle.mesh_arena.specs.declared.slot.Corner.TheVariants.{Point as Numbered};
+ghost use Rattle.mesh_arena.specs.declared.slot.Corner.TheVariants.{Ghost as Infinite};
 ghost use Rattle.mesh_arena.specs.Mesh.{corner_list, AllDiffer, tet_with};
-ghost use Rattle.mesh_arena.specs.Cells.{number_in, infinite_in, corners_in, sides_in, tet_in, next_of};
+ghost use Rattle.mesh_arena.specs.Cells.{number_in, infinite_in, corners_in, sides_in, tet_in};
+ghost use Rattle.mesh_arena.specs.Cells.{next_of};
 
-use crate::arena::Side;
+use crate::arena::SlotFace;
 use crate::{Corner, SlotCorners};
 
-#[derive(Clone, Copy)]
+#[derive(Clone, Copy, Debug)]
 pub(crate) struct Cell {
     // The numbers of the corners. In the place of the point at infinity the number is idle.
     points: [u32; 4],
-    // The slots behind the faces, idle where there is none. In a free cell the first is the next free cell.
+    // The slots behind the faces, idle where there is none. In a free cell the first is the next
+    // free cell.
     slots: [u32; 4],
     // The faces of those slots, or 4 where there is no slot.
     faces: [u8; 4],
@@ -55,13 +59,13 @@ impl Cell {
     }
 
     // The slot and face behind a face, if they are there.
-    pub(crate) fn side(&self, face: u8) -> Option<Side>
+    pub(crate) fn side(&self, face: u8) -> Option<SlotFace>
         requires { face < 4 }
         ensures { result ≡ slice_index_or (sides_in self.now.slots self.now.faces) face None }
     {
         let there = self.faces[face as usize];
         if there < NO_PLACE {
-            Some(Side {
+            Some(SlotFace {
                 slot: self.slots[face as usize],
                 face: there,
             })
@@ -72,14 +76,15 @@ impl Cell {
 
     // Whether each face has a neighbor.
     pub(crate) fn is_linked(&self) -> bool
-        ensures { IsTrue result → (k : ℕ) → k < 4 → IsSome (slice_index_or (sides_in self.now.slots self.now.faces) k None) }
+        ensures { IsTrue result → (k : ℕ) → k < 4
+            → IsSome (slice_index_or (sides_in self.now.slots self.now.faces) k None) }
     {
         let [a, b, c, d] = self.faces;
         a < NO_PLACE && b < NO_PLACE && c < NO_PLACE && d < NO_PLACE
     }
 
     // Puts a slot behind a face.
-    pub(crate) fn put_side(&mut self, face: u8, side: Side)
+    pub(crate) fn put_side(&mut self, face: u8, side: SlotFace)
         requires face { face < 4 }
         requires there { side.face < 4 }
         ensures tet { tet_in self.new ≡ tet_with (tet_in self.old) face (Some side) }

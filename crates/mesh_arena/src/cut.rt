@@ -11,7 +11,8 @@ use crate::{RimFace, Slot};
 // Takes away what stands behind the faces of the rim.
 pub(crate) fn clear_rim(cells: &mut Vec<Cell>, rim: &[RimFace])
     requires shaped { IsShaped (slots_in cells.old.items) }
-    requires live { (r : ℕ) → r < length rim.now → IsLive (slots_in cells.old.items) (rim_at rim.now r).slot.index }
+    requires live { (r : ℕ) → r < length rim.now
+        → IsLive (slots_in cells.old.items) (rim_at rim.now r).slot.index }
     requires faces { (r : ℕ) → r < length rim.now → (rim_at rim.now r).face < 4 }
     ensures clears { ClearsRim cells.old.items cells.new.items rim.now (length rim.now) }
     ensures capacity { vec_capacity cells.new ≡ vec_capacity cells.old }
@@ -22,11 +23,15 @@ pub(crate) fn clear_rim(cells: &mut Vec<Cell>, rim: &[RimFace])
     }
 }
 
-// Frees the slots of the cavity, where `next` is the first free cell, and answers the new first free cell.
+// Frees the slots of the cavity, where `next` is the first free cell, and answers the new first
+// free cell.
 pub(crate) fn free_cells(cells: &mut Vec<Cell>, cavity: &[Slot], next: u32) -> u32
-    requires live { (j : ℕ) → j < length cavity.now → IsLive (slots_in cells.old.items) (slot_at cavity.now j) }
-    requires once { (i j : ℕ) → i < length cavity.now → j < length cavity.now → slot_at cavity.now i ≡ slot_at cavity.now j → i ≡ j }
-    ensures frees { FreesCells cells.old.items cells.new.items cavity.now (length cavity.now) next result }
+    requires live { (j : ℕ) → j < length cavity.now
+        → IsLive (slots_in cells.old.items) (slot_at cavity.now j) }
+    requires once { (i j : ℕ) → i < length cavity.now → j < length cavity.now
+        → slot_at cavity.now i ≡ slot_at cavity.now j → i ≡ j }
+    ensures frees { FreesCells cells.old.items cells.new.items cavity.now (length cavity.now) next
+        result }
     ensures capacity { vec_capacity cells.new ≡ vec_capacity cells.old }
 {
     let mut first = next;

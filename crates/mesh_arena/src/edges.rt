@@ -3,12 +3,12 @@ ghost use Rattle.std.specs.Prelude.{◌≡◌, IfSome};
 ghost use Rattle.mesh_arena.specs.Edges.{corner_number, edge_between, IsMet, IsUnmet, MeetsOnly};
 
 use crate::Corner;
-use crate::arena::Side;
+use crate::arena::SlotFace;
 use std::alloc::Global;
 use std::marker::Model;
 
 /// The ends of an edge, by their numbers, the lesser first.
-#[derive(Clone, Copy, PartialEq, Eq)]
+#[derive(Clone, Copy, Debug, PartialEq, Eq)]
 pub(crate) struct Edge {
     pub(crate) low: u64,
     pub(crate) high: u64,
@@ -38,16 +38,16 @@ fn number_of(corner: Corner) -> u64
 }
 
 // An edge, the face that it was met at, and in which round.
-#[derive(Clone, Copy)]
+#[derive(Clone, Copy, Debug)]
 pub(crate) struct Met {
     edge: Edge,
-    at: Side,
+    at: SlotFace,
     round: u32,
 }
 
-/// An open table of edges, used in rounds: what an earlier round left counts as empty. Contracts see what each place has of
-/// this round.
-#[derive(Drop)]
+/// An open table of edges, used in rounds: what an earlier round left counts as empty. Contracts
+/// see what each place has of this round.
+#[derive(Debug, Drop)]
 pub(crate) struct EdgeTable {
     met: Vec<Met>,
     // From 1.
@@ -95,14 +95,15 @@ impl EdgeTable {
         if self.met.len() < len {
             let none = Met {
                 edge: Edge { low: 0, high: 0 },
-                at: Side { slot: 0, face: 0 },
+                at: SlotFace { slot: 0, face: 0 },
                 round: 0,
             };
             let _ = self.met.resize(len, none);
         }
     }
 
-    /// Begins a round for this many edges. Where there is no memory for them the table stays as large as it is.
+    /// Begins a round for this many edges. Where there is no memory for them the table stays as
+    /// large as it is.
     pub(crate) fn start(&mut self, edges: usize)
         ensures { IsUnmet self.new }
     {
@@ -112,8 +113,9 @@ impl EdgeTable {
         }
     }
 
-    /// The face that this edge was met at before in this round. Where there is none, the edge is met at `face` from now on, if a place is free for it.
-    pub(crate) fn meet(&mut self, edge: Edge, face: Side) -> Option<Side>
+    /// The face that this edge was met at before in this round. Where there is none, the edge is
+    /// met at `face` from now on, if a place is free for it.
+    pub(crate) fn meet(&mut self, edge: Edge, face: SlotFace) -> Option<SlotFace>
         ensures found { IfSome result (λ s. IsMet self.old edge s) }
         ensures only { MeetsOnly self.old self.new edge face }
     {

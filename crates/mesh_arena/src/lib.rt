@@ -1,7 +1,9 @@
-//! A living tetrahedral mesh in an arena of slots: each live slot has four corners, and behind each of its four faces a neighbor or none. Points are
-//! known by their numbers alone. The space outside of the hull is cut into ghosts, slots with one corner at infinity.
+//! A living tetrahedral mesh in an arena of slots.
 //!
-//! The face with a number below 4 is the one opposite the corner in that place. Neighbors are mutual, and share the face's three corners.
+//! Each live slot has four corners, and behind each of its four faces a neighbor or none. Points
+//! are known by their numbers alone. The space outside of the hull is cut into ghosts, slots with
+//! one corner at infinity. The face with a number below 4 is the one opposite the corner in that
+//! place. Neighbors are mutual, and share the face's three corners.
 #![tactic(auto)]
 
 mod arena;
@@ -12,7 +14,7 @@ mod slot;
 mod star;
 mod surgery;
 
-pub use arena::{Arena, Side};
+pub use arena::{Arena, SlotFace};
 pub use slot::{Cavity, Corner, Rim, RimFace, Slot, SlotCorners};
 
 #[cfg(test)]

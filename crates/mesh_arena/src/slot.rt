@@ -5,7 +5,8 @@ ghost use Rattle.mesh_arena.specs.StarLinks.{CornerValue, Has, Places};
 
 use tet_ports::Items;
 
-/// A corner of a slot: a point by its number, or the point at infinity, which makes the slot a hull ghost.
+/// A corner of a slot: a point by its number, or the point at infinity, which makes the slot a hull
+/// ghost.
 #[derive(Clone, Copy, Debug, PartialEq, Eq)]
 pub enum Corner {
     Point(u32),

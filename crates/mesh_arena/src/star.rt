@@ -1,5 +1,6 @@
 //! The star of a point, planned while its cavity stands.
-ghost use Rattle.std.specs.Prelude.{◌≡◌, ℕ, ◌<◌, ◌≤◌, length, Some, IsSome, slice_set, option_map, vec_capacity};
+ghost use Rattle.std.specs.Prelude.{◌≡◌, ℕ, ◌<◌, ◌≤◌, length, Some, IsSome, slice_set, option_map};
+ghost use Rattle.std.specs.Prelude.{vec_capacity};
 ghost use Rattle.mesh_arena.specs.Mesh.{corners_at, corner_list, side, IsMesh};
 ghost use Rattle.mesh_arena.specs.Star.{behind, rim_at, face_side};
 ghost use Rattle.mesh_arena.specs.Surgery.{Plans};
@@ -7,8 +8,9 @@ ghost use Rattle.mesh_arena.specs.Surgery.{Plans};
 use crate::slot::with_corner;
 use crate::{Arena, Corner, RimFace, Slot, SlotCorners};
 
-// A slot that is to stand over a face: its corners, its own face there, and its place once it is made.
-#[derive(Clone, Copy)]
+// A slot that is to stand over a face: its corners, its own face there, and its place once it is
+// made.
+#[derive(Clone, Copy, Debug)]
 pub(crate) struct StarSlot {
     pub(crate) corners: SlotCorners,
     pub(crate) face: u8,
@@ -16,12 +18,16 @@ pub(crate) struct StarSlot {
 }
 
 impl Arena {
-    // The slot that is to stand over a face: the corners of the slot behind it, with the point in place of the one opposite the face.
+    // The slot that is to stand over a face: the corners of the slot behind it, with the point in
+    // place of the one opposite the face.
     fn star_slot(&self, outer: RimFace, point: u32) -> StarSlot
         requires { IsSome (side self.now.slots outer.slot.index outer.face) }
-        ensures face { result.face ≡ (behind (side self.now.slots outer.slot.index outer.face)).face }
+        ensures face { result.face
+            ≡ (behind (side self.now.slots outer.slot.index outer.face)).face }
         ensures corners { let inner = behind (side self.now.slots outer.slot.index outer.face) in
-            Some (corner_list result.corners) ≡ option_map (λ cs. slice_set cs inner.face (Corner.Point point)) (corners_at self.now.slots inner.slot) }
+            Some (corner_list result.corners)
+            ≡ option_map (λ cs. slice_set cs inner.face (Corner.Point point))
+            (corners_at self.now.slots inner.slot) }
     {
         let inner = self.over(outer);
         let old = self.tet(Slot { index: inner.slot });
@@ -34,9 +40,11 @@ impl Arena {
 
     // Lists the slots that are to stand over the rim.
     pub(crate) fn plan_star(&self, rim: &[RimFace], point: u32, star: &mut Vec<StarSlot>)
-        requires has { (r : ℕ) → r < length rim.now → IsSome (face_side self.now.slots (rim_at rim.now r)) }
+        requires has { (r : ℕ) → r < length rim.now
+            → IsSome (face_side self.now.slots (rim_at rim.now r)) }
         requires room { length rim.now ≤ vec_capacity star.old }
-        ensures plans { Plans self.now.slots rim.now (Corner.Point point) star.new.items (length rim.now) }
+        ensures plans { Plans self.now.slots rim.now (Corner.Point point) star.new.items
+            (length rim.now) }
         ensures capacity { vec_capacity star.new ≡ vec_capacity star.old }
     {
         star.clear();

@@ -1,12 +1,15 @@
 //! Surgery: the star of a new point takes the place of its cavity.
-ghost use Rattle.std.specs.Prelude.{◌≡◌, ◌≢◌, ℕ, ◌+◌, ◌<◌, ◌≤◌, ◌↔◌, length, Some, None, IsSome, IsOk, IfOk, OnErr, MatchOption, IsTrue};
+ghost use Rattle.std.specs.Prelude.{◌≡◌, ◌≢◌, ℕ, ◌+◌, ◌<◌, ◌≤◌, ◌↔◌, length, Some, None, IsSome};
+ghost use Rattle.std.specs.Prelude.{IsOk, IfOk, OnErr, MatchOption, IsTrue};
 ghost use Rattle.mesh_arena.specs.Mesh.{IsLive, corner_list, side, SameFace, IsMesh, AllDiffer};
 ghost use Rattle.mesh_arena.specs.Star.{behind_rim};
-ghost use Rattle.mesh_arena.specs.Surgery.{FitsFace, AddsOver, CanAdd, AddsStar, StandsOver, AreOverRim};
+ghost use Rattle.mesh_arena.specs.Surgery.{FitsFace, AddsOver, CanAdd, AddsStar, StandsOver};
+ghost use Rattle.mesh_arena.specs.Surgery.{AreOverRim};
 ghost use Rattle.mesh_arena.specs.Replace.{IsCavity, IsRim, IsOffRim, Replaces};
-ghost use Rattle.mesh_arena.specs.StarLinks.{IsStar, ArePaired, Mate, LinksFace, LinksStar, IsOverEdge, AreOverEdges};
+ghost use Rattle.mesh_arena.specs.StarLinks.{IsStar, ArePaired, Mate, LinksFace, LinksStar};
+ghost use Rattle.mesh_arena.specs.StarLinks.{IsOverEdge, AreOverEdges};
 
-use crate::arena::{Arena, Side};
+use crate::arena::{Arena, SlotFace};
 use crate::edges::{Edge, EdgeTable};
 use crate::slot::{corner_at, other_places};
 use crate::star::StarSlot;
@@ -20,9 +23,11 @@ impl Arena {
         requires faces { (outer.face < 4) × (slot.face < 4) }
         requires free { side self.old.slots outer.slot.index outer.face ≡ None }
         requires differ { AllDiffer (corner_list slot.corners) }
-        requires fits { FitsFace self.old.slots outer.slot.index outer.face (corner_list slot.corners) slot.face }
+        requires fits { FitsFace self.old.slots outer.slot.index outer.face
+            (corner_list slot.corners) slot.face }
         requires room { 0 < self.old.room }
-        ensures adds { AddsOver self.old.slots self.new.slots outer.slot.index outer.face result (corner_list slot.corners) slot.face }
+        ensures adds { AddsOver self.old.slots self.new.slots outer.slot.index outer.face result
+            (corner_list slot.corners) slot.face }
         ensures room { self.new.room + 1 ≡ self.old.room }
     {
         let made = self.take_slot(slot.corners);
@@ -36,7 +41,8 @@ impl Arena {
         requires star { length star.old.items ≡ length rim.now }
         requires room { length rim.now ≤ self.old.room }
         ensures mesh { IsMesh self.new.slots }
-        ensures adds_star { AddsStar self.old.slots self.new.slots rim.now star.old.items (length rim.now) }
+        ensures adds_star { AddsStar self.old.slots self.new.slots rim.now star.old.items
+            (length rim.now) }
         ensures over { AreOverRim self.new.slots rim.now star.new.items }
         ensures len { length star.new.items ≡ length rim.now }
     {
@@ -48,7 +54,7 @@ impl Arena {
     }
 
     // The slot and face behind a face, if they are there.
-    pub(crate) fn side(&self, s: u32, face: u8) -> Option<Side>
+    pub(crate) fn side(&self, s: u32, face: u8) -> Option<SlotFace>
         requires live { IsLive self.now.slots s }
         requires face { face < 4 }
         ensures { result ≡ side self.now.slots s face }
@@ -75,7 +81,7 @@ impl Arena {
     }
 
     // The slot and face behind a face.
-    pub(crate) fn over(&self, face: RimFace) -> Side
+    pub(crate) fn over(&self, face: RimFace) -> SlotFace
         requires { IsSome (side self.now.slots face.slot.index face.face) }
         ensures value { side self.now.slots face.slot.index face.face ≡ Some result }
         ensures live { IsLive self.now.slots result.slot × (result.face < 4) }
@@ -87,7 +93,7 @@ impl Arena {
     }
 
     // The face of the star that has the same corners as the face k of the slot over r.
-    fn find_mate(&self, rim: &[RimFace], point: u32, r: usize, k: u8) -> Side
+    fn find_mate(&self, rim: &[RimFace], point: u32, r: usize, k: u8) -> SlotFace
         requires star { IsStar self.now.slots rim.now (Corner.Point point) }
         requires pairs { ArePaired self.now.slots rim.now }
         requires inside { r < length rim.now }
@@ -103,7 +109,7 @@ impl Arena {
             }
             let two = self.over(rim[q]);
             if let Some(face) = self.mate_face(one.slot, k, two.slot) {
-                return Side {
+                return SlotFace {
                     slot: two.slot,
                     face,
                 };
@@ -134,7 +140,7 @@ impl Arena {
     }
 
     // Links two faces of the star over the same edge, if they have no neighbor yet.
-    fn link_mates(&mut self, rim: &[RimFace], point: u32, edge: Edge, one: Side, two: Side)
+    fn link_mates(&mut self, rim: &[RimFace], point: u32, edge: Edge, one: SlotFace, two: SlotFace)
         requires star { IsStar self.old.slots rim.now (Corner.Point point) }
         requires first { IsOverEdge self.old.slots rim.now (Corner.Point point) edge one }
         requires second { IsOverEdge self.old.slots rim.now (Corner.Point point) edge two }
@@ -157,7 +163,7 @@ impl Arena {
         rim: &[RimFace],
         point: u32,
         edge: Edge,
-        face: Side,
+        face: SlotFace,
         table: &mut EdgeTable,
     )
         requires star { IsStar self.old.slots rim.now (Corner.Point point) }
@@ -197,26 +203,27 @@ impl Arena {
             rim,
             point,
             Edge::between(y, z),
-            Side { slot, face: i },
+            SlotFace { slot, face: i },
             table,
         );
         self.link_at_edge(
             rim,
             point,
             Edge::between(x, z),
-            Side { slot, face: j },
+            SlotFace { slot, face: j },
             table,
         );
         self.link_at_edge(
             rim,
             point,
             Edge::between(x, y),
-            Side { slot, face: k },
+            SlotFace { slot, face: k },
             table,
         );
     }
 
-    // Links the faces of the star that find one another by their edges on the rim, in time linear in the rim.
+    // Links the faces of the star that find one another by their edges on the rim, in time linear
+    // in the rim.
     fn link_edges(&mut self, rim: &[RimFace], point: u32, star: &[StarSlot], table: &mut EdgeTable)
         requires star { IsStar self.old.slots rim.now (Corner.Point point) }
         requires over { AreOverRim self.old.slots rim.now star.now }
@@ -243,7 +250,8 @@ impl Arena {
         requires pairs { ArePaired self.old.slots rim.now }
         requires over { AreOverRim self.old.slots rim.now star.now }
         requires len { length star.now ≡ length rim.now }
-        ensures links_star { LinksStar self.old.slots self.new.slots rim.now (Corner.Point point) (length rim.now) }
+        ensures links_star { LinksStar self.old.slots self.new.slots rim.now (Corner.Point point)
+            (length rim.now) }
     {
         for r in 0..rim.len() {
             if self.is_linked(star[r].slot) {
@@ -261,7 +269,8 @@ impl Arena {
         requires pairs { ArePaired self.old.slots rim.now }
         requires over { AreOverRim self.old.slots rim.now star.now }
         requires len { length star.now ≡ length rim.now }
-        ensures links_star { LinksStar self.old.slots self.new.slots rim.now (Corner.Point point) (length rim.now) }
+        ensures links_star { LinksStar self.old.slots self.new.slots rim.now (Corner.Point point)
+            (length rim.now) }
     {
         let mut table = self.lend_edges();
         self.link_edges(rim, point, star, &mut table);
@@ -269,12 +278,14 @@ impl Arena {
         self.link_rest(rim, point, star);
     }
 
-    /// Puts the star of a point in the place of a cavity (Bowyer 1981, Watson 1981): for each face of the rim a slot with the corners of the cavity's slot
-    /// behind that face, in their places, and the point in place of the corner opposite it. The star is linked within and to the outer sides of the rim.
-    /// It answers one slot of the star.
+    /// Puts the star of a point in the place of a cavity (Bowyer 1981, Watson 1981): for each face
+    /// of the rim a slot with the corners of the cavity's slot behind that face, in their places,
+    /// and the point in place of the corner opposite it. The star is linked within and to the outer
+    /// sides of the rim. It answers one slot of the star.
     ///
-    /// The cavity lists different live slots. The rim is not empty and lists, each once, the faces of live slots outside of the cavity whose neighbor is
-    /// in it. Each two corners of a face of the rim are corners of exactly one other. No face of the rim has the point as a corner.
+    /// The cavity lists different live slots. The rim is not empty and lists, each once, the faces
+    /// of live slots outside of the cavity whose neighbor is in it. Each two corners of a face of
+    /// the rim are corners of exactly one other. No face of the rim has the point as a corner.
     ///
     /// `NoMemory` comes before the first change, and never where the rim has at most `spare` faces.
     pub fn replace_cavity(
@@ -287,7 +298,9 @@ impl Arena {
         requires rim { IsRim self.old.slots cavity.now rim.now }
         requires pairs { ArePaired self.old.slots rim.now }
         requires point { IsOffRim self.old.slots rim.now (Corner.Point point) }
-        ensures ok { IfOk result (λ s. Replaces self.old.slots self.new.slots cavity.now rim.now (Corner.Point point) s.index) }
+        ensures ok { IfOk result
+            (λ s. Replaces self.old.slots self.new.slots cavity.now rim.now (Corner.Point point)
+            s.index) }
         ensures mesh { IsMesh self.new.slots }
         ensures err { OnErr result (self.new ≡ self.old) }
         ensures succeeds { length rim.now ≤ self.old.spare → IsOk result }

@@ -11,8 +11,8 @@ use Rattle.geo_laws.specs.OrientedFace.{Face, reversed}
 use Rattle.insert_laws.specs.Insertion.{HasSameCorners, IsFaceOf}
 use Rattle.insert_laws.proofs.Insert.{law_one_row}
 use Rattle.insert_laws.proofs.Lists.{law_hull_face}
-use Rattle.mesh_arena.specs.Mesh.{Tet, corner, corner_in, side, at, OnFace, IsMesh}
-use Rattle.mesh_arena.specs.declared.arena.Side.{Side}
+use Rattle.mesh_arena.specs.Mesh.{SlotValue, corner, corner_in, side, at, OnFace, IsMesh}
+use Rattle.mesh_arena.specs.declared.arena.SlotFace.{SlotFace}
 use Rattle.mesh_arena.specs.declared.slot.Corner.TheVariants.{Point as Numbered, Ghost}
 use Rattle.mesh_arena.proofs.Mesh.{side_live}
 use Rattle.mesh_arena.proofs.AddStar.{live_by_side}
@@ -27,7 +27,7 @@ row_corner t (suc (suc zero)) h = refl
 row_corner t (suc (suc (suc zero))) h = refl
 row_corner t (suc (suc (suc (suc m)))) h = absurd (omega arith)
 
-pub some_side : (o : Option Side) → IsSome o → (b : Side) × (o ≡ Some b)
+pub some_side : (o : Option SlotFace) → IsSome o → (b : SlotFace) × (o ≡ Some b)
 some_side None h = absurd (cc)
 some_side (Some b) h = (b, refl)
 
@@ -35,13 +35,13 @@ pub same_number : (i j : ℕ) → Numbered i ≡ Numbered j → i ≡ j
 same_number i j e = cc
 
 -- the numbers on the face of the slot are the corners of f, and the point at infinity isn't on it
-pub record Shows (slots : List (Option Tet)) (s k : ℕ) (f : Face) : Type 0 where
+pub record Shows (slots : List (Option SlotValue)) (s k : ℕ) (f : Face) : Type 0 where
   pub to : (i : ℕ) → OnFace slots s k (Numbered i) → IsFaceCorner f i
   pub from : (i : ℕ) → IsFaceCorner f i → OnFace slots s k (Numbered i)
   pub finite : OnFace slots s k Ghost → ⊥
 
 -- the corners off the place k are those of the four t
-module _ (slots : List (Option Tet)) (s k : ℕ) (t : Row) (k4 : k < 4) (is : (m : ℕ) → m < 4 → m ≢ k → corner slots s m ≡ Numbered (number t (place_of m))) where
+module _ (slots : List (Option SlotValue)) (s k : ℕ) (t : Row) (k4 : k < 4) (is : (m : ℕ) → m < 4 → m ≢ k → corner slots s m ≡ Numbered (number t (place_of m))) where
   pub shows : Shows slots s k (face_off t k)
   shows = record {
     to = λ i on. subst (IsFaceCorner (face_off t k)) (same_number _ i (sym (is on.place on.within on.off) ∙ on.is)) (off_corner t k on.place k4 on.within on.off);
@@ -52,7 +52,7 @@ module _ (slots : List (Option Tet)) (s k : ℕ) (t : Row) (k4 : k < 4) (is : (m
       never : (i : ℕ) → Numbered i ≡ Ghost → ⊥
       never i e = cc
 
-module _ (slots : List (Option Tet)) (ps : List Point) (ms : List ℕ) where
+module _ (slots : List (Option SlotValue)) (ps : List Point) (ms : List ℕ) where
   pub row_shows : (s k : ℕ) (t : Row) → k < 4 → IsRowSlot slots ps ms s t → Shows slots s k (face_off t k)
   row_shows s k t k4 slot = shows slots s k t k4 (λ m m4 off. ap (λ o. corner_in o m) slot.is ∙ row_corner t m m4)
 
@@ -65,7 +65,7 @@ module _ (slots : List (Option Tet)) (ps : List Point) (ms : List ℕ) where
   pub ghost_shows : (s k : ℕ) (t : Row) → IsGhostSlot slots ps ms s t k → Shows slots s k (face_off t k)
   ghost_shows s k t slot = shows slots s k t slot.within (ghost_corner s k t slot)
 
-  module _ (mesh : IsMesh slots) (now : IsDelaunayMesh slots ps ms) (s k : ℕ) (f : Face) (b : Side) (shown : Shows slots s k f) (is : side slots s k ≡ Some b) where
+  module _ (mesh : IsMesh slots) (now : IsDelaunayMesh slots ps ms) (s k : ℕ) (f : Face) (b : SlotFace) (shown : Shows slots s k f) (is : side slots s k ≡ Some b) where
     -- the neighbor shows the same face
     pub behind_shows : Shows slots b.slot b.face f
     behind_shows =
@@ -93,7 +93,7 @@ module _ (slots : List (Option Tet)) (ps : List Point) (ms : List ℕ) where
         ]
 
   -- behind the hull face of a ghost stands the row behind that face
-  pub behind_ghost : (mesh : IsMesh slots) (now : IsDelaunayMesh slots ps ms) (s k : ℕ) (t : Row) (b : Side) (slot : IsGhostSlot slots ps ms s t k) → side slots s k ≡ Some b → (r : Row) × (inner : IsRowSlot slots ps ms b.slot r) × (inner.row ≡ slot.is_hull.behind)
+  pub behind_ghost : (mesh : IsMesh slots) (now : IsDelaunayMesh slots ps ms) (s k : ℕ) (t : Row) (b : SlotFace) (slot : IsGhostSlot slots ps ms s t k) → side slots s k ≡ Some b → (r : Row) × (inner : IsRowSlot slots ps ms b.slot r) × (inner.row ≡ slot.is_hull.behind)
   behind_ghost mesh now s k t b slot is = by (behind mesh now s k f b (ghost_shows s k t slot) is)
     where
       f : Face
@@ -113,7 +113,7 @@ module _ (slots : List (Option Tet)) (ps : List Point) (ms : List ℕ) where
       by (inr ghost) = absurd (mesh.apart s k b is (sym (now.one_ghost s b.slot t ghost.0 k b.face slot ghost.1 ghost.2)))
 
   -- behind a face of a row stands the row on its other side, or the ghost of a hull face with those corners
-  pub behind_row : (mesh : IsMesh slots) (now : IsDelaunayMesh slots ps ms) (s k : ℕ) (t : Row) (b : Side) (slot : IsRowSlot slots ps ms s t) → side slots s k ≡ Some b
+  pub behind_row : (mesh : IsMesh slots) (now : IsDelaunayMesh slots ps ms) (s k : ℕ) (t : Row) (b : SlotFace) (slot : IsRowSlot slots ps ms s t) → side slots s k ≡ Some b
       → ((r : Row) × (other : IsRowSlot slots ps ms b.slot r) × IsFaceOf ps (reversed (face_off t k)) other.row) ⊎ ((r : Row) × IsGhostSlot slots ps ms b.slot r b.face × HasSameFaceCorners (face_off t k) (face_off r b.face))
   behind_row mesh now s k t b slot is = by (behind mesh now s k f b (row_shows s k t k4 slot) is)
     where

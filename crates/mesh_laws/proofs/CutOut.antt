@@ -8,10 +8,10 @@ use Rattle.geo_laws.proofs.Places.{A, B, C, number}
 use Rattle.geo_laws.proofs.Corners.{contains_corner}
 use Rattle.geo_laws.specs.OrientedFace.{Face, reversed, beside}
 use Rattle.insert_laws.specs.Insertion.{IsHullFace}
-use Rattle.mesh_arena.specs.Mesh.{Tet, corner_in, IsLive, OnFace, IsMesh}
+use Rattle.mesh_arena.specs.Mesh.{SlotValue, corner_in, IsLive, OnFace, IsMesh}
 use Rattle.mesh_arena.specs.Star.{rim_at, behind}
 use Rattle.mesh_arena.specs.Cavity.{IsIn}
-use Rattle.mesh_arena.specs.declared.arena.Side.{Side}
+use Rattle.mesh_arena.specs.declared.arena.SlotFace.{SlotFace}
 use Rattle.mesh_arena.specs.declared.slot.Corner.TheVariants.{Point as Numbered}
 use Rattle.mesh_arena.proofs.AddStar.{live_by_side}
 use Rattle.mesh_laws.specs.Living.{face_off, IsFaceCorner, IsRowSlot, IsGhostSlot, IsDelaunayMesh}
@@ -30,7 +30,7 @@ hull_corner ps ms f i hull c = hull.is_row.is_on i ((hull.is_face.same_corners i
     at (inr (inr e)) = contains_corner (beside (reversed f) hull.is_face.opposite) i (B, e)
 
 -- the numbers on a live slot are those of the mesh
-pub number_in : (slots : List (Option Tet)) (ps : List Point) (ms : List ℕ) (s k i : ℕ) → IsMesh slots → IsDelaunayMesh slots ps ms → IsLive slots s → OnFace slots s k (Numbered i) → Contains ms i
+pub number_in : (slots : List (Option SlotValue)) (ps : List Point) (ms : List ℕ) (s k i : ℕ) → IsMesh slots → IsDelaunayMesh slots ps ms → IsLive slots s → OnFace slots s k (Numbered i) → Contains ms i
 number_in slots ps ms s k i mesh now live on = by (now.each s live)
   where
     by : ((t : Row) × IsRowSlot slots ps ms s t) ⊎ ((t : Row) × (j : ℕ) × IsGhostSlot slots ps ms s t j) → Contains ms i
@@ -47,7 +47,7 @@ law_cut_out slots ps ms p start cavity rim mesh now new grown some =
         some = some;
         outer = grown.outer;
         has = λ r h. let inner = grown.inner r h in inner.1 ∙ ap Some (sym (ap behind inner.1));
-        inner = λ r h. let inner = grown.inner r h in subst (IsIn cavity) (sym (ap (λ (o : Option Side). (behind o).slot) inner.1)) inner.2;
+        inner = λ r h. let inner = grown.inner r h in subst (IsIn cavity) (sym (ap (λ (o : Option SlotFace). (behind o).slot) inner.1)) inner.2;
         once = grown.rim_once;
         all = grown.rim_all;
       };

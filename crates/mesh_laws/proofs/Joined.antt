@@ -12,8 +12,8 @@ use Rattle.insert_laws.specs.Insertion.{HasSameCorners, IsFaceOf, IsHullFace}
 use Rattle.insert_laws.proofs.FacePencil.{side_of, side_of-reversed}
 use Rattle.insert_laws.proofs.Insert.{law_one_row}
 use Rattle.insert_laws.proofs.Lists.{law_hull_face}
-use Rattle.mesh_arena.specs.Mesh.{Tet, side, at, IsMesh}
-use Rattle.mesh_arena.specs.declared.arena.Side.{Side}
+use Rattle.mesh_arena.specs.Mesh.{SlotValue, side, at, IsMesh}
+use Rattle.mesh_arena.specs.declared.arena.SlotFace.{SlotFace}
 use Rattle.mesh_arena.proofs.Mesh.{side_live}
 use Rattle.mesh_laws.specs.Living.{face_off, IsFaceCorner, HasSameFaceCorners, IsRowSlot, IsGhostSlot, IsDelaunayMesh}
 use Rattle.mesh_laws.proofs.Faces.{AreApart, faces_agree, hull_apart, place_of, corner_off, corner_split, row_beside, same_trans}
@@ -110,7 +110,7 @@ same_reversed f i = (λ c. go c, λ c. back c)
     back (inr (inl e)) = inr (inr e)
     back (inr (inr e)) = inr (inl e)
 
-pub shows_with : (slots : List (Option Tet)) (s k : ℕ) (f g : Face) → HasSameFaceCorners f g → Shows slots s k g → Shows slots s k f
+pub shows_with : (slots : List (Option SlotValue)) (s k : ℕ) (f g : Face) → HasSameFaceCorners f g → Shows slots s k g → Shows slots s k f
 shows_with slots s k f g same was = record { to = λ i on. (same i).1 (was.to i on); from = λ i c. was.from i ((same i).0 c); finite = was.finite }
 
 -- faces with the same corners make, with one point, fours with the same corners
@@ -160,13 +160,13 @@ module _ (ps : List Point) (ms : List ℕ) where
       ]
 
 -- the slot v has the slot u as a neighbor
-pub record IsNextTo (slots : List (Option Tet)) (v u : ℕ) : Type 0 where
+pub record IsNextTo (slots : List (Option SlotValue)) (v u : ℕ) : Type 0 where
   pub face : ℕ
-  pub over : Side
+  pub over : SlotFace
   pub is : side slots v face ≡ Some over
   pub there : over.slot ≡ u
 
-module _ (slots : List (Option Tet)) (ps : List Point) (ms : List ℕ) (mesh : IsMesh slots) (now : IsDelaunayMesh slots ps ms) where
+module _ (slots : List (Option SlotValue)) (ps : List Point) (ms : List ℕ) (mesh : IsMesh slots) (now : IsDelaunayMesh slots ps ms) where
   same_rows : (t r x y : Row) → HasSameCorners t x → HasSameCorners r y → x ≡ y → HasSameCorners t r
   same_rows t r x y h g e i = (λ c. (g i).1 (subst (λ (z : Row). Contains (numbers z) i) e ((h i).0 c)), λ c. (h i).1 (subst (λ (z : Row). Contains (numbers z) i) (sym e) ((g i).0 c)))
 
@@ -178,7 +178,7 @@ module _ (slots : List (Option Tet)) (ps : List Point) (ms : List ℕ) (mesh : I
     spot : (k : ℕ) × (k < 4) × HasSameFaceCorners f (face_off t k)
     spot = place_of_face ps t slot.row f slot.is_positive slot.same_corners face
 
-    over : (b : Side) × (side slots v spot.0 ≡ Some b)
+    over : (b : SlotFace) × (side slots v spot.0 ≡ Some b)
     over = some_side (side slots v spot.0) (now.linked v spot.0 (rw slot.is refl) spot.1)
 
     apart_face : AreApart f

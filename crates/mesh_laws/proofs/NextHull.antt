@@ -9,8 +9,8 @@ use Rattle.insert_laws.specs.Insertion.{IsHullFace, edge_and}
 use Rattle.insert_laws.proofs.Beyond.{turn}
 use Rattle.insert_laws.proofs.Start.{law_hull_turn}
 use Rattle.insert_laws.proofs.Hull.{law_hull_edge}
-use Rattle.mesh_arena.specs.Mesh.{Tet, corner, corner_in, IsLive, side, at, OnFace, IsMesh}
-use Rattle.mesh_arena.specs.declared.arena.Side.{Side}
+use Rattle.mesh_arena.specs.Mesh.{SlotValue, corner, corner_in, IsLive, side, at, OnFace, IsMesh}
+use Rattle.mesh_arena.specs.declared.arena.SlotFace.{SlotFace}
 use Rattle.mesh_arena.specs.declared.slot.Corner.TheVariants.{Point as Numbered, Ghost}
 use Rattle.mesh_arena.proofs.Mesh.{side_live}
 use Rattle.mesh_arena.proofs.AddStar.{live_by_side}
@@ -39,7 +39,7 @@ pub along : (P : ℕ → ℕ → Type 0) {a b c d : ℕ} → a ≡ c → b ≡ d
 along P {a} {b} {c} {d} e g x = subst (λ m. P m d) e (subst (λ n. P a n) g x)
 
 -- The slot u is the ghost of a hull face (j, i, apex), and its face off the place k is the one of the edge and the point at infinity
-pub record IsOverEdge (slots : List (Option Tet)) (ps : List Point) (ms : List ℕ) (i j u k : ℕ) : Type 0 where
+pub record IsOverEdge (slots : List (Option SlotValue)) (ps : List Point) (ms : List ℕ) (i j u k : ℕ) : Type 0 where
   pub row : Row
   pub place : ℕ
   pub slot : IsGhostSlot slots ps ms u row place
@@ -51,13 +51,13 @@ pub record IsOverEdge (slots : List (Option Tet)) (ps : List Point) (ms : List �
   pub is : number row (place_of k) ≡ apex
 
 -- the corners of the face are i, j and the point at infinity
-pub record ShowsEdge (slots : List (Option Tet)) (u k i j : ℕ) : Type 0 where
+pub record ShowsEdge (slots : List (Option SlotValue)) (u k i j : ℕ) : Type 0 where
   pub to : (x : ℕ) → OnFace slots u k (Numbered x) → (x ≡ i) ⊎ (x ≡ j)
   pub first : OnFace slots u k (Numbered i)
   pub second : OnFace slots u k (Numbered j)
   pub infinite : OnFace slots u k Ghost
 
-module _ (slots : List (Option Tet)) (ps : List Point) (ms : List ℕ) (mesh : IsMesh slots) (now : IsDelaunayMesh slots ps ms) where
+module _ (slots : List (Option SlotValue)) (ps : List Point) (ms : List ℕ) (mesh : IsMesh slots) (now : IsDelaunayMesh slots ps ms) where
   pub turned : (f : Face) → IsHullFace ps ms f → IsHullFace ps ms (turn f)
   turned f h = law_hull_turn ps ms now.within f.a f.b f.c h
 
@@ -154,7 +154,7 @@ module _ (slots : List (Option Tet)) (ps : List Point) (ms : List ℕ) (mesh : I
   edge_once i j u k v l e d = now.one_ghost u v e.row d.row e.place d.place e.slot d.slot (same_then (face_off e.row e.place) (edge_and j i e.apex) (face_off d.row d.place) e.same (same_back (face_off d.row d.place) (edge_and j i e.apex) (edge_corners i j v l e.apex d e.hull)))
 
   -- behind it stands the ghost of the hull face across the edge
-  pub edge_across : (i j u k : ℕ) (b : Side) → IsOverEdge slots ps ms i j u k → side slots u k ≡ Some b → IsOverEdge slots ps ms j i b.slot b.face
+  pub edge_across : (i j u k : ℕ) (b : SlotFace) → IsOverEdge slots ps ms i j u k → side slots u k ≡ Some b → IsOverEdge slots ps ms j i b.slot b.face
   edge_across i j u k b e is = by (now.each b.slot live)
     where
       shown : ShowsEdge slots u k i j

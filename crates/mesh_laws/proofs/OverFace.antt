@@ -13,8 +13,8 @@ use Rattle.insert_laws.proofs.FacePencil.{side_of, side_of-reversed}
 use Rattle.insert_laws.proofs.Beyond.{turn, side-turn}
 use Rattle.insert_laws.proofs.Insert.{law_one_row}
 use Rattle.insert_laws.proofs.Sides.{law_place}
-use Rattle.mesh_arena.specs.Mesh.{Tet, IsLive, corner, side, at, OnFace, IsMesh}
-use Rattle.mesh_arena.specs.declared.arena.Side.{Side}
+use Rattle.mesh_arena.specs.Mesh.{SlotValue, IsLive, corner, side, at, OnFace, IsMesh}
+use Rattle.mesh_arena.specs.declared.arena.SlotFace.{SlotFace}
 use Rattle.mesh_arena.proofs.Mesh.{side_live}
 use Rattle.mesh_laws.specs.Rule.{IsTaken}
 use Rattle.mesh_laws.specs.Living.{face_off, HasSameFaceCorners, IsRowSlot, IsGhostSlot, IsDelaunayMesh}
@@ -27,7 +27,7 @@ use Rattle.mesh_laws.proofs.NextHull.{turned_corners}
 use Rattle.mesh_laws.proofs.Reached.{sees_same, taken_at}
 
 -- The slot u has the face f off its place k and stands on the positive side of f: a row there, or the ghost of a hull face
-pub data IsOver (slots : List (Option Tet)) (ps : List Point) (ms : List ℕ) (f : Face) (u k : ℕ) : Type 0 where
+pub data IsOver (slots : List (Option SlotValue)) (ps : List Point) (ms : List ℕ) (f : Face) (u k : ℕ) : Type 0 where
   row_over : (t : Row) (slot : IsRowSlot slots ps ms u t) → k < 4 → HasSameFaceCorners f (face_off t k) → IsFaceOf ps f slot.row → IsOver slots ps ms f u k
   ghost_over : (t : Row) → IsGhostSlot slots ps ms u t k → HasSameFaceCorners f (face_off t k) → IsHullFace ps ms f → IsOver slots ps ms f u k
 
@@ -58,7 +58,7 @@ hull_named ps ms f g same sides hull = record {
 not_before : (ps : List Point) (ms : List ℕ) (f : Face) (t : Row) → IsHullFace ps ms f → IsDelaunayAmong ps ms t → IsFaceOf ps f t → ⊥
 not_before ps ms f t hull row face = hull.none_beyond face.opposite (opposite_in ps ms f t row face) face.over
 
-module _ (slots : List (Option Tet)) (ps : List Point) (ms : List ℕ) where
+module _ (slots : List (Option SlotValue)) (ps : List Point) (ms : List ℕ) where
   pub over_shows : (f : Face) (u k : ℕ) → IsOver slots ps ms f u k → Shows slots u k f
   over_shows f u k (row_over t slot k4 same face) = shows_with slots u k f (face_off t k) same (row_shows slots ps ms u k t k4 slot)
   over_shows f u k (ghost_over t slot same hull) = shows_with slots u k f (face_off t k) same (ghost_shows slots ps ms u k t slot)
@@ -88,7 +88,7 @@ module _ (slots : List (Option Tet)) (ps : List Point) (ms : List ℕ) where
     over_once f u k v l (ghost_over t slot same hull) (ghost_over r other same' hull') = now.one_ghost u v t r k l slot other (same_then (face_off t k) f (face_off r l) (same_back f (face_off t k) same) same')
 
     -- behind the face stands what is on its other side
-    pub over_across : (f : Face) (u k : ℕ) (b : Side) → IsOver slots ps ms f u k → side slots u k ≡ Some b → IsOver slots ps ms (reversed f) b.slot b.face
+    pub over_across : (f : Face) (u k : ℕ) (b : SlotFace) → IsOver slots ps ms f u k → side slots u k ≡ Some b → IsOver slots ps ms (reversed f) b.slot b.face
     over_across f u k b over is = by over (behind slots ps ms mesh now u k f b (over_shows f u k over) is)
       where
         b4 : b.face < 4
@@ -152,7 +152,7 @@ module _ (slots : List (Option Tet)) (ps : List Point) (ms : List ℕ) where
       clear_slot f (clear_ghost hull not) = let s = now.ghosts f hull in (s.0, s.2, ghost_over s.1 s.3 (same_back (face_off s.1 s.2) f s.4) hull)
 
       -- a rim face is one between a slot that is taken and one that isn't
-      pub rim_face : (f : Face) (u k : ℕ) (b : Side) → IsOver slots ps ms (reversed f) u k → side slots u k ≡ Some b → (IsTaken slots ps (point ps p) p u → ⊥) → IsTaken slots ps (point ps p) p b.slot → IsRimFace ps ms p f
+      pub rim_face : (f : Face) (u k : ℕ) (b : SlotFace) → IsOver slots ps ms (reversed f) u k → side slots u k ≡ Some b → (IsTaken slots ps (point ps p) p u → ⊥) → IsTaken slots ps (point ps p) p b.slot → IsRimFace ps ms p f
       rim_face f u k b over is not taken = record {
         cavity = taken_cavity f b.slot b.face (over_across (reversed f) u k b over is) taken;
         clear = clear_of_not (reversed f) u k over not;

@@ -6,7 +6,7 @@ use Rattle.geo_laws.specs.OrientedFace.{Face}
 use Rattle.insert_laws.specs.Insertion.{IsNew, IsHullRim, IsRimFace, edge_and}
 use Rattle.insert_laws.proofs.Beyond.{turn}
 use Rattle.insert_laws.proofs.Rim.{law_rim_edge, law_hull_rim}
-use Rattle.mesh_arena.specs.Mesh.{Tet, IsMesh}
+use Rattle.mesh_arena.specs.Mesh.{SlotValue, IsMesh}
 use Rattle.mesh_arena.specs.Star.{rim_at}
 use Rattle.mesh_arena.specs.StarLinks.{OnRim, Other}
 use Rattle.mesh_arena.specs.declared.slot.Corner.{Corner}
@@ -25,16 +25,16 @@ use Rattle.mesh_laws.proofs.RimNames.{IsTriangle, IsEdge, triangle_shows, shows_
 use Rattle.mesh_laws.proofs.RimEdges.{rim_apart, one_side, hull_rim_apart, rim_ends, edge_before, one_before}
 
 -- the face t of the rim has the corners i and j: a triangle goes from the one to the other, or back, or t is over their edge
-data HasEdge (slots : List (Option Tet)) (ps : List Point) (ms : List ℕ) (rim : List RimFace) (t i j : ℕ) : Type 0 where
+data HasEdge (slots : List (Option SlotValue)) (ps : List Point) (ms : List ℕ) (rim : List RimFace) (t i j : ℕ) : Type 0 where
   onward : (k : ℕ) → IsTriangle slots ps ms rim t (edge_and i j k) → HasEdge slots ps ms rim t i j
   back : (k : ℕ) → IsTriangle slots ps ms rim t (edge_and j i k) → HasEdge slots ps ms rim t i j
   over : IsEdge slots ps ms rim t i j → HasEdge slots ps ms rim t i j
   over_back : IsEdge slots ps ms rim t j i → HasEdge slots ps ms rim t i j
 
-swap : (slots : List (Option Tet)) (rim : List RimFace) (r : ℕ) (x y : Corner) → Other slots rim r x y → Other slots rim r y x
+swap : (slots : List (Option SlotValue)) (rim : List RimFace) (r : ℕ) (x y : Corner) → Other slots rim r x y → Other slots rim r y x
 swap slots rim r x y o = record { face = o.face; inside = o.inside; differs = o.differs; first = o.second; second = o.first; only = λ t h n on_y on_x. o.only t h n on_x on_y }
 
-module _ (slots : List (Option Tet)) (ps : List Point) (ms : List ℕ) (mesh : IsMesh slots) (now : IsDelaunayMesh slots ps ms) (rim : List RimFace) (p start : ℕ) (cavity : List Slot) (new : IsNew ps ms p) (grown : Grown slots (IsTaken slots ps (point ps p) p) start cavity rim) (whole : IsWholeFrom slots ps p start) where
+module _ (slots : List (Option SlotValue)) (ps : List Point) (ms : List ℕ) (mesh : IsMesh slots) (now : IsDelaunayMesh slots ps ms) (rim : List RimFace) (p start : ℕ) (cavity : List Slot) (new : IsNew ps ms p) (grown : Grown slots (IsTaken slots ps (point ps p) p) start cavity rim) (whole : IsWholeFrom slots ps p start) where
   rim_of : (r : ℕ) (f : Face) → r < length rim → IsTriangle slots ps ms rim r f → IsRimFace ps ms p f
   rim_of = triangle_rim slots ps ms mesh now rim p start cavity new grown whole
 

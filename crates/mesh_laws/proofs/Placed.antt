@@ -10,7 +10,7 @@ use Rattle.geo_laws.specs.OrientedFace.{Face, triangle}
 use Rattle.insert_laws.specs.Insertion.{IsNew, IsHullFace}
 use Rattle.insert_laws.proofs.Bridge.{even_of_same}
 use Rattle.insert_laws.proofs.Start.{law_locate}
-use Rattle.mesh_arena.specs.Mesh.{Tet, corner_in, IsLive, IsMesh}
+use Rattle.mesh_arena.specs.Mesh.{SlotValue, corner_in, IsLive, IsMesh}
 use Rattle.mesh_arena.specs.declared.slot.Corner.{Corner}
 use Rattle.mesh_arena.specs.declared.slot.Corner.TheVariants.{Point as Numbered, Ghost}
 use Rattle.point_locate.specs.Place.{IsOn, AreCornersOn, IsSomePlace, row_corners}
@@ -24,7 +24,7 @@ use Rattle.mesh_laws.proofs.Whole.{closed_even}
 use Rattle.mesh_laws.proofs.CutOut.{number_in}
 use Rattle.mesh_laws.proofs.SomeRim.{row_of_slot}
 
-corners_on : (slots : List (Option Tet)) (ps : List Point) (ms : List ℕ) → IsMesh slots → IsDelaunayMesh slots ps ms → AreCornersOn slots ps
+corners_on : (slots : List (Option SlotValue)) (ps : List Point) (ms : List ℕ) → IsMesh slots → IsDelaunayMesh slots ps ms → AreCornersOn slots ps
 corners_on slots ps ms mesh now s cs is k k4 = by (get_or cs k Ghost) refl
   where
     live : IsLive slots s
@@ -38,7 +38,7 @@ corners_on slots ps ms mesh now s cs is k k4 = by (get_or cs k Ghost) refl
     by Ghost e = tt
 
 -- the row that holds the point has a slot, and so has the hull face that it is strictly beyond
-somewhere : (slots : List (Option Tet)) (ps : List Point) (ms : List ℕ) (p start : ℕ) → IsMesh slots → IsDelaunayMesh slots ps ms → IsNew ps ms p → IsLive slots start → IsSomePlace slots ps (point ps p)
+somewhere : (slots : List (Option SlotValue)) (ps : List Point) (ms : List ℕ) (p start : ℕ) → IsMesh slots → IsDelaunayMesh slots ps ms → IsNew ps ms p → IsLive slots start → IsSomePlace slots ps (point ps p)
 somewhere slots ps ms p start mesh now new live = by (let some = row_of_slot slots ps ms start now live in law_locate ps ms p new some.0 some.1)
   where
     by : ((t : Row) × IsDelaunayAmong ps ms t × InClosed (corners ps t) (as_rational (point ps p))) ⊎ ((f : Face) × IsHullFace ps ms f × (pos 0 <ℤ side_at (triangle ps f) (point ps p))) → IsSomePlace slots ps (point ps p)

@@ -10,7 +10,7 @@ use Rattle.insert_laws.proofs.FacePencil.{side_of, side_of-reversed}
 use Rattle.insert_laws.proofs.Insert.{law_one_row}
 use Rattle.insert_laws.proofs.InsideLaw.{law_inside_cavity}
 use Rattle.insert_laws.proofs.BeyondLaw.{law_beyond_cavity}
-use Rattle.mesh_arena.specs.Mesh.{Tet, IsMesh}
+use Rattle.mesh_arena.specs.Mesh.{SlotValue, IsMesh}
 use Rattle.mesh_laws.specs.Rule.{IsTaken}
 use Rattle.mesh_laws.specs.Reach.{Reach, first, next}
 use Rattle.mesh_laws.specs.Living.{face_off, HasSameFaceCorners, IsRowSlot, IsGhostSlot, IsDelaunayMesh}
@@ -31,7 +31,7 @@ hull_sides ps ms f g same hf hg =
           absurd (hf.none_beyond o (opposite_in ps ms (reversed g) hg.behind hg.is_row hg.is_face) (subst (λ z. pos 0 <ℤ z) (side_of-reversed ps g o ∙ sym (agree o)) hg.is_face.over))
     ]
 
-module _ (slots : List (Option Tet)) (ps : List Point) (ms : List ℕ) where
+module _ (slots : List (Option SlotValue)) (ps : List Point) (ms : List ℕ) where
   -- the slot is that of the place
   abbrev pub Stands : Place → ℕ → Type 0
   Stands (row_place r) u = (t : Row) × (slot : IsRowSlot slots ps ms u t) × (slot.row ≡ r)

@@ -13,7 +13,7 @@ use Rattle.geo_laws.specs.OrientedFace.{Face, reversed}
 use Rattle.insert_laws.specs.Insertion.{IsHullFace}
 use Rattle.insert_laws.proofs.FacePencil.{side_of}
 use Rattle.insert_laws.proofs.Lists.{law_same_numbers}
-use Rattle.mesh_arena.specs.Mesh.{Tet, IsLive}
+use Rattle.mesh_arena.specs.Mesh.{SlotValue, IsLive}
 use Rattle.mesh_laws.specs.Living.{IsRowSlot, IsGhostSlot, IsDelaunayMesh}
 use Rattle.mesh_laws.specs.Replaced.{SameMeshLaw, LongerListLaw}
 use Rattle.mesh_laws.proofs.Joined.{opposite_in}
@@ -25,14 +25,14 @@ record Carries (ps : List Point) (ms : List ℕ) (qs : List Point) (ks : List �
   hull : (f : Face) → IsHullFace ps ms f → IsHullFace qs ks f
   positive : (t : Row) → IsAmong ms t → IsPositive (corners ps t) → IsPositive (corners qs t)
 
-module _ (slots : List (Option Tet)) (ps : List Point) (ms : List ℕ) (qs : List Point) (ks : List ℕ) (carries : Carries ps ms qs ks) where
+module _ (slots : List (Option SlotValue)) (ps : List Point) (ms : List ℕ) (qs : List Point) (ks : List ℕ) (carries : Carries ps ms qs ks) where
   abbrev row_slot : (s : ℕ) (t : Row) → IsRowSlot slots ps ms s t → IsRowSlot slots qs ks s t
   row_slot s t x = record { is = x.is; row = x.row; is_row = carries.row x.row x.is_row; same_corners = x.same_corners; is_positive = carries.positive t (λ i c. x.is_row.is_on i ((x.same_corners i).0 c)) x.is_positive }
 
   ghost_slot : (s : ℕ) (t : Row) (k : ℕ) → IsGhostSlot slots ps ms s t k → IsGhostSlot slots qs ks s t k
   ghost_slot s t k x = record { within = x.within; is = x.is; is_hull = carries.hull _ x.is_hull }
 
-carried : (slots : List (Option Tet)) (ps : List Point) (ms : List ℕ) (qs : List Point) (ks : List ℕ) → Carries ps ms qs ks → Carries qs ks ps ms → AreNumbersOf qs ks → IsDelaunayMesh slots ps ms → IsDelaunayMesh slots qs ks
+carried : (slots : List (Option SlotValue)) (ps : List Point) (ms : List ℕ) (qs : List Point) (ks : List ℕ) → Carries ps ms qs ks → Carries qs ks ps ms → AreNumbersOf qs ks → IsDelaunayMesh slots ps ms → IsDelaunayMesh slots qs ks
 carried slots ps ms qs ks to from within now = record {
   within = within;
   each = each;

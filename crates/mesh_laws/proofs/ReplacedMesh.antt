@@ -16,11 +16,11 @@ use Rattle.insert_laws.proofs.Bridge.{of_cons, of_new}
 use Rattle.insert_laws.proofs.Insert.{law_insertion}
 use Rattle.insert_laws.proofs.HullLaws.{law_new_hull, law_old_hull}
 use Rattle.insert_laws.proofs.Start.{law_hull_turn}
-use Rattle.mesh_arena.specs.Mesh.{Tet, corners_at, corner_in, IsLive, side, at, IsMesh, Off}
+use Rattle.mesh_arena.specs.Mesh.{SlotValue, corners_at, corner_in, IsLive, side, at, IsMesh, Off}
 use Rattle.mesh_arena.specs.Star.{rim_at, behind_rim}
 use Rattle.mesh_arena.specs.Cavity.{IsIn}
 use Rattle.mesh_arena.specs.Replace.{Replaces}
-use Rattle.mesh_arena.specs.declared.arena.Side.{Side}
+use Rattle.mesh_arena.specs.declared.arena.SlotFace.{SlotFace}
 use Rattle.mesh_arena.specs.declared.slot.Corner.TheVariants.{Point as Numbered, Ghost}
 use Rattle.mesh_arena.specs.declared.slot.Slot.{Slot}
 use Rattle.mesh_arena.specs.declared.slot.RimFace.{RimFace}
@@ -79,7 +79,7 @@ same_under ps f g p over_f over_g same i = (go f g over_f (same i).0, go g f ove
     go e d over to on = elim (split d (corner_of (beside d p) i (to (put e on)))) [ inl w ↦ absurd (not_p e over on w) | inr z ↦ z ]
 
 -- a slot with the corners of two ghosts has the same hull face
-same_hull : (slots : List (Option Tet)) (u k l : ℕ) (t r : Row) → IsMesh slots → k < 4 → l < 4 → corners_at slots u ≡ Some (set (row_corners t) k Ghost) → corners_at slots u ≡ Some (set (row_corners r) l Ghost) → HasSameFaceCorners (face_off t k) (face_off r l)
+same_hull : (slots : List (Option SlotValue)) (u k l : ℕ) (t r : Row) → IsMesh slots → k < 4 → l < 4 → corners_at slots u ≡ Some (set (row_corners t) k Ghost) → corners_at slots u ≡ Some (set (row_corners r) l Ghost) → HasSameFaceCorners (face_off t k) (face_off r l)
 same_hull slots u k l t r mesh k4 l4 is_t is_r i = (λ c. two.to i (one.from i c), λ c. one.to i (two.from i c))
   where
     infinite : (v : Row) (m : ℕ) → m < 4 → get_or (set (row_corners v) m Ghost) m Ghost ≡ Ghost
@@ -98,10 +98,10 @@ same_hull slots u k l t r mesh k4 l4 is_t is_r i = (λ c. two.to i (one.from i c
     two = shown r l l4 is_r
 
 -- a slot is no row and ghost at once
-row_or_ghost : (slots : List (Option Tet)) (u k : ℕ) (t r : Row) → k < 4 → corners_at slots u ≡ Some (row_corners t) → corners_at slots u ≡ Some (set (row_corners r) k Ghost) → ⊥
+row_or_ghost : (slots : List (Option SlotValue)) (u k : ℕ) (t r : Row) → k < 4 → corners_at slots u ≡ Some (row_corners t) → corners_at slots u ≡ Some (set (row_corners r) k Ghost) → ⊥
 row_or_ghost slots u k t r k4 is_t is_r = no_ghost t k k4 (ap (λ cs. get_or cs k Ghost) (same_corners slots u _ _ is_t is_r) ∙ get_or-set_same (row_corners r) k Ghost Ghost (omega arith))
 
-module _ (old new : List (Option Tet)) (ps : List Point) (ms : List ℕ) (p start : ℕ) (cavity : List Slot) (rim : List RimFace) (s : ℕ) (mesh : IsMesh old) (mesh_new : IsMesh new) (now : IsDelaunayMesh old ps ms) (fresh : IsNew ps ms p) (some : Row) (some_is : IsDelaunayAmong ps ms some) (grown : Grown old (IsTaken old ps (point ps p) p) start cavity rim) (whole : (u : ℕ) → IsTaken old ps (point ps p) p u → IsIn cavity u) (star : Replaces old new cavity rim (Numbered p) s) where
+module _ (old new : List (Option SlotValue)) (ps : List Point) (ms : List ℕ) (p start : ℕ) (cavity : List Slot) (rim : List RimFace) (s : ℕ) (mesh : IsMesh old) (mesh_new : IsMesh new) (now : IsDelaunayMesh old ps ms) (fresh : IsNew ps ms p) (some : Row) (some_is : IsDelaunayAmong ps ms some) (grown : Grown old (IsTaken old ps (point ps p) p) start cavity rim) (whole : (u : ℕ) → IsTaken old ps (point ps p) p u → IsIn cavity u) (star : Replaces old new cavity rim (Numbered p) s) where
   within : AreNumbersOf ps (p ∷ ms)
   within = (of_new ps ms p fresh).within
 
@@ -126,7 +126,7 @@ module _ (old new : List (Option Tet)) (ps : List Point) (ms : List ℕ) (p star
   over_rim : (r : ℕ) → r < length rim → RowOver r ⊎ EdgeOver r
   over_rim r h = by (now.each b.slot (live_by_side old b.slot b.face (at (rim_at rim r).slot.index (rim_at rim r).face) behind.back))
     where
-      b : Side
+      b : SlotFace
       b = (rows.rim_behind old new ps ms p start cavity rim s mesh now fresh grown whole star r h).0
 
       behind : rows.IsBehind old new ps ms p start cavity rim s mesh now fresh grown whole star r b
@@ -385,7 +385,7 @@ module _ (old new : List (Option Tet)) (ps : List Point) (ms : List ℕ) (p star
   linked : (u k : ℕ) → IsLive new u → k < 4 → IsSome (side new u k)
   linked u k live k4 = by (star.live u live)
     where
-      kept : IsLive old u → (IsIn cavity u → ⊥) → (b : Side) → side old u k ≡ Some b → IsIn cavity b.slot ⊎ (IsIn cavity b.slot → ⊥) → IsSome (side new u k)
+      kept : IsLive old u → (IsIn cavity u → ⊥) → (b : SlotFace) → side old u k ≡ Some b → IsIn cavity b.slot ⊎ (IsIn cavity b.slot → ⊥) → IsSome (side new u k)
       kept was out b is (inl found) =
           let r = grown.rim_all u k b is out found in
           let there : side new u k ≡ Some (at (made r.0) (behind_rim old rim r.0).face) = ap (λ n. side new n k) (sym r.2) ∙ ap (side new (rim_at rim r.0).slot.index) (sym r.3) ∙ (star.star r.0 r.1).is in
@@ -402,8 +402,8 @@ module _ (old new : List (Option Tet)) (ps : List Point) (ms : List ℕ) (p star
             | inr other ↦ other
           ]
             where
-              same_slot : (d e : Side) → Some d ≡ Some e → d.slot ≡ e.slot
-              same_slot d e z = let one : d ≡ e = cc in ap (λ (x : Side). x.slot) one
+              same_slot : (d e : SlotFace) → Some d ≡ Some e → d.slot ≡ e.slot
+              same_slot d e z = let one : d ≡ e = cc in ap (λ (x : SlotFace). x.slot) one
 
       by : Kind u → IsSome (side new u k)
       by (inl x) =

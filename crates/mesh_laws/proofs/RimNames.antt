@@ -7,7 +7,7 @@ use Rattle.geo_laws.specs.declared.tetrahedra.Tet.{Tet as Row}
 use Rattle.geo_laws.specs.OrientedFace.{Face, reversed}
 use Rattle.insert_laws.specs.Insertion.{IsNew, IsHullRim, IsRimFace}
 use Rattle.insert_laws.proofs.Beyond.{turn}
-use Rattle.mesh_arena.specs.Mesh.{Tet, IsLive, side, OnFace, IsMesh}
+use Rattle.mesh_arena.specs.Mesh.{SlotValue, IsLive, side, OnFace, IsMesh}
 use Rattle.mesh_arena.specs.Star.{rim_at}
 use Rattle.mesh_arena.specs.StarLinks.{OnRim}
 use Rattle.mesh_arena.specs.Cavity.{IsIn}
@@ -27,14 +27,14 @@ use Rattle.mesh_laws.proofs.NextHull.{IsOverEdge, ShowsEdge, edge_shows, edge_of
 use Rattle.mesh_laws.proofs.SeenEdge.{edge_sees, edge_taken, rim_edge}
 
 -- the face r of the rim is f, turned to the cavity
-abbrev pub IsTriangle : List (Option Tet) → List Point → List ℕ → List RimFace → ℕ → Face → Type 0
+abbrev pub IsTriangle : List (Option SlotValue) → List Point → List ℕ → List RimFace → ℕ → Face → Type 0
 IsTriangle slots ps ms rim r f = IsOver slots ps ms (reversed f) (rim_at rim r).slot.index (rim_at rim r).face
 
 -- or it stands over the edge from i to j
-abbrev pub IsEdge : List (Option Tet) → List Point → List ℕ → List RimFace → ℕ → ℕ → ℕ → Type 0
+abbrev pub IsEdge : List (Option SlotValue) → List Point → List ℕ → List RimFace → ℕ → ℕ → ℕ → Type 0
 IsEdge slots ps ms rim r i j = IsOverEdge slots ps ms i j (rim_at rim r).slot.index (rim_at rim r).face
 
-module _ (slots : List (Option Tet)) (ps : List Point) (ms : List ℕ) (mesh : IsMesh slots) (now : IsDelaunayMesh slots ps ms) (rim : List RimFace) where
+module _ (slots : List (Option SlotValue)) (ps : List Point) (ms : List ℕ) (mesh : IsMesh slots) (now : IsDelaunayMesh slots ps ms) (rim : List RimFace) where
   pub triangle_shows : (r : ℕ) (f : Face) → IsTriangle slots ps ms rim r f → Shows slots (rim_at rim r).slot.index (rim_at rim r).face (reversed f)
   triangle_shows r f is = over_shows slots ps ms (reversed f) (rim_at rim r).slot.index (rim_at rim r).face is
 

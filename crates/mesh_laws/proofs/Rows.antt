@@ -10,7 +10,7 @@ use Rattle.geo_laws.proofs.Lexicographic.{lex_same}
 use Rattle.geo_laws.proofs.Arrangement.{IsEven, even_residual}
 use Rattle.insert_laws.specs.Insertion.{IsNew, HasSameCorners, HasOutside}
 use Rattle.insert_laws.proofs.Bridge.{outside_above, even_of_same, corner_to}
-use Rattle.mesh_arena.specs.Mesh.{Tet}
+use Rattle.mesh_arena.specs.Mesh.{SlotValue}
 use Rattle.mesh_arena.specs.declared.slot.Corner.TheVariants.{Ghost}
 use Rattle.point_locate.specs.Place.{row_corners}
 use Rattle.mesh_laws.specs.Rule.{IsTaken}
@@ -36,7 +36,7 @@ same_row u t e =
     let d : u.d ≡ t.d = cc in
     λ i. record { a = a i; b = b i; c = c i; d = d i }
 
-module _ (slots : List (Option Tet)) (ps : List Point) (ms : List ℕ) (p : ℕ) (new : IsNew ps ms p) (s : ℕ) (t : Row) (slot : IsRowSlot slots ps ms s t) where
+module _ (slots : List (Option SlotValue)) (ps : List Point) (ms : List ℕ) (p : ℕ) (new : IsNew ps ms p) (s : ℕ) (t : Row) (slot : IsRowSlot slots ps ms s t) where
   pub outside_slot : HasOutside ps t p ↔ HasOutside ps slot.row p
   outside_slot = outside_even ps t slot.row p (λ i c. new.within i (slot.is_row.is_on i (contains_corner slot.row i c))) slot.is_positive slot.is_row.is_positive slot.is_row.is_arranged slot.same_corners new.on (λ c. new.is_new (slot.is_row.is_on p (contains_corner slot.row p c)))
 

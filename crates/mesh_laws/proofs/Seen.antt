@@ -9,8 +9,8 @@ use Rattle.geo_laws.proofs.Places.{replaced}
 use Rattle.geo_laws.proofs.Determinants.{volume-replaced}
 use Rattle.insert_laws.specs.Insertion.{IsNew, HasOutside, Sees}
 use Rattle.insert_laws.proofs.FacePencil.{side_of}
-use Rattle.mesh_arena.specs.Mesh.{Tet, corner_list, side, IsMesh}
-use Rattle.mesh_arena.specs.declared.arena.Side.{Side}
+use Rattle.mesh_arena.specs.Mesh.{SlotValue, corner_list, side, IsMesh}
+use Rattle.mesh_arena.specs.declared.arena.SlotFace.{SlotFace}
 use Rattle.mesh_arena.specs.declared.slot.Corner.TheVariants.{Point as Numbered, Ghost}
 use Rattle.mesh_arena.specs.declared.slot.SlotCorners.{SlotCorners}
 use Rattle.point_locate.specs.Place.{row_corners, placed}
@@ -61,7 +61,7 @@ ghost_volume ps p t k g h e =
     ∙ volume-replaced (corners ps t) (place_of k) (point ps p)
     ∙ ap (λ f. side_at f (point ps p)) (sym (triangle_off ps t k h))
 
-module _ (slots : List (Option Tet)) (ps : List Point) (ms : List ℕ) (p : ℕ) (new : IsNew ps ms p) (mesh : IsMesh slots) (now : IsDelaunayMesh slots ps ms) (s k : ℕ) (t : Row) (slot : IsGhostSlot slots ps ms s t k) where
+module _ (slots : List (Option SlotValue)) (ps : List Point) (ms : List ℕ) (p : ℕ) (new : IsNew ps ms p) (mesh : IsMesh slots) (now : IsDelaunayMesh slots ps ms) (s k : ℕ) (t : Row) (slot : IsGhostSlot slots ps ms s t k) where
   infinite : get_or (set (row_corners t) k Ghost) k Ghost ≡ Ghost
   infinite = get_or-set_same (row_corners t) k Ghost Ghost (omega (arith, slot.within))
 
@@ -71,7 +71,7 @@ module _ (slots : List (Option Tet)) (ps : List Point) (ms : List ℕ) (p : ℕ)
       let there = behind_ghost slots ps ms mesh now s k t inner.inner slot inner.is in
       subst (λ (r : Row). ¬ HasOutside ps r p) there.2 ((taken_row slots ps ms p new inner.inner.slot there.0 there.1).0 (inl inner.takes))
 
-  inner_from : (¬ HasOutside ps slot.is_hull.behind p) → (b : Side) → side slots s k ≡ Some b → IsInnerTaken slots ps (point ps p) p s k
+  inner_from : (¬ HasOutside ps slot.is_hull.behind p) → (b : SlotFace) → side slots s k ≡ Some b → IsInnerTaken slots ps (point ps p) p s k
   inner_from not b is =
       let there = behind_ghost slots ps ms mesh now s k t b slot is in
       record {

@@ -3,15 +3,15 @@ use Rattle.std.proofs.Common.{◌≡◌, ℕ, List, Option, Some}
 use Rattle.sign_predicates.specs.Point.{Point}
 use Rattle.geo_laws.specs.Delaunay.{point}
 use Rattle.insert_laws.specs.Insertion.{IsNew, Sees, IsHullFace, edge_and, IsHullRim, ghost_place, ghost_in}
-use Rattle.mesh_arena.specs.Mesh.{Tet, side, IsMesh}
-use Rattle.mesh_arena.specs.declared.arena.Side.{Side}
+use Rattle.mesh_arena.specs.Mesh.{SlotValue, side, IsMesh}
+use Rattle.mesh_arena.specs.declared.arena.SlotFace.{SlotFace}
 use Rattle.mesh_laws.specs.Rule.{IsTaken}
 use Rattle.mesh_laws.specs.Living.{face_off, IsDelaunayMesh}
 use Rattle.mesh_laws.proofs.Seen.{taken_sees}
 use Rattle.mesh_laws.proofs.NextHull.{IsOverEdge, edge_corners, edge_across}
 use Rattle.mesh_laws.proofs.Reached.{sees_same, taken_at}
 
-module _ (slots : List (Option Tet)) (ps : List Point) (ms : List ℕ) (mesh : IsMesh slots) (now : IsDelaunayMesh slots ps ms) (p : ℕ) (new : IsNew ps ms p) where
+module _ (slots : List (Option SlotValue)) (ps : List Point) (ms : List ℕ) (mesh : IsMesh slots) (now : IsDelaunayMesh slots ps ms) (p : ℕ) (new : IsNew ps ms p) where
   -- the ghost over an edge is taken where p sees the hull face on its side of the edge
   pub edge_sees : (i j u k q : ℕ) → IsOverEdge slots ps ms i j u k → (hull : IsHullFace ps ms (edge_and j i q)) → IsTaken slots ps (point ps p) p u → Sees ps p (edge_and j i q) hull.behind
   edge_sees i j u k q e hull taken = sees_same slots ps ms mesh now p new (face_off e.row e.place) (edge_and j i q) (edge_corners slots ps ms mesh now i j u k q e hull) e.slot.is_hull hull ((taken_sees slots ps ms p new mesh now u e.place e.row e.slot).0 taken)
@@ -20,7 +20,7 @@ module _ (slots : List (Option Tet)) (ps : List Point) (ms : List ℕ) (mesh : I
   edge_taken i j u k q e hull sees = taken_at slots ps ms mesh now p new (ghost_place (edge_and j i q)) (ghost_in (edge_and j i q) hull sees) u (e.row, e.place, e.slot, edge_corners slots ps ms mesh now i j u k q e hull, hull)
 
   -- the rim meets the hull at an edge between a ghost that is taken and one that isn't
-  pub rim_edge : (i j u k : ℕ) (b : Side) → IsOverEdge slots ps ms i j u k → side slots u k ≡ Some b → (IsTaken slots ps (point ps p) p u → ⊥) → IsTaken slots ps (point ps p) p b.slot → IsHullRim ps ms p i j
+  pub rim_edge : (i j u k : ℕ) (b : SlotFace) → IsOverEdge slots ps ms i j u k → side slots u k ≡ Some b → (IsTaken slots ps (point ps p) p u → ⊥) → IsTaken slots ps (point ps p) p b.slot → IsHullRim ps ms p i j
   rim_edge i j u k b e is not taken =
       let behind = edge_across slots ps ms mesh now i j u k b e is in
       record {

@@ -4,14 +4,14 @@ use Rattle.sign_predicates.specs.Point.{Point}
 use Rattle.geo_laws.specs.Delaunay.{point, IsDelaunayAmong}
 use Rattle.geo_laws.specs.declared.tetrahedra.Tet.{Tet as Row}
 use Rattle.insert_laws.proofs.SomeRim.{law_some_rim_face}
-use Rattle.mesh_arena.specs.Mesh.{Tet, IsLive}
+use Rattle.mesh_arena.specs.Mesh.{SlotValue, IsLive}
 use Rattle.mesh_laws.specs.Living.{IsRowSlot, IsGhostSlot, IsDelaunayMesh}
 use Rattle.mesh_laws.specs.RimLaws.{SomeRimLaw}
 use Rattle.mesh_laws.proofs.Taken.{taken_live}
 use Rattle.mesh_laws.proofs.RimNames.{triangle_at}
 
 -- a mesh with a slot has a row: the slot's, or the one behind its hull face
-pub row_of_slot : (slots : List (Option Tet)) (ps : List Point) (ms : List ℕ) (u : ℕ) → IsDelaunayMesh slots ps ms → IsLive slots u → (t : Row) × IsDelaunayAmong ps ms t
+pub row_of_slot : (slots : List (Option SlotValue)) (ps : List Point) (ms : List ℕ) (u : ℕ) → IsDelaunayMesh slots ps ms → IsLive slots u → (t : Row) × IsDelaunayAmong ps ms t
 row_of_slot slots ps ms u now live = by (now.each u live)
   where
     by : ((t : Row) × IsRowSlot slots ps ms u t) ⊎ ((t : Row) × (k : ℕ) × IsGhostSlot slots ps ms u t k) → (t : Row) × IsDelaunayAmong ps ms t

@@ -11,11 +11,11 @@ use Rattle.insert_laws.proofs.FacePencil.{side_of, side_of-reversed}
 use Rattle.insert_laws.proofs.Beyond.{turn, side-turn}
 use Rattle.insert_laws.proofs.Start.{law_hull_turn}
 use Rattle.insert_laws.proofs.HullLaws.{law_new_hull}
-use Rattle.mesh_arena.specs.Mesh.{Tet, at, IsMesh}
+use Rattle.mesh_arena.specs.Mesh.{SlotValue, at, IsMesh}
 use Rattle.mesh_arena.specs.Star.{rim_at}
 use Rattle.mesh_arena.specs.Cavity.{IsIn}
 use Rattle.mesh_arena.specs.Replace.{Replaces}
-use Rattle.mesh_arena.specs.declared.arena.Side.{Side}
+use Rattle.mesh_arena.specs.declared.arena.SlotFace.{SlotFace}
 use Rattle.mesh_arena.specs.declared.slot.Corner.TheVariants.{Point as Numbered, Ghost}
 use Rattle.mesh_arena.specs.declared.slot.Slot.{Slot}
 use Rattle.mesh_arena.specs.declared.slot.RimFace.{RimFace}
@@ -117,10 +117,10 @@ edge_off t (suc (suc (suc (suc l)))) k p h g n = absurd (omega arith)
 
 -- ---- the faces of the rim
 
-module _ (old new : List (Option Tet)) (ps : List Point) (ms : List ℕ) (p start : ℕ) (cavity : List Slot) (rim : List RimFace) (s : ℕ) (mesh : IsMesh old) (now : IsDelaunayMesh old ps ms) (fresh : IsNew ps ms p) (grown : Grown old (IsTaken old ps (point ps p) p) start cavity rim) (whole : (u : ℕ) → IsTaken old ps (point ps p) p u → IsIn cavity u) (star : Replaces old new cavity rim (Numbered p) s) (within_new : AreNumbersOf ps (p ∷ ms)) (some : Row) (some_is : IsDelaunayAmong ps ms some) where
+module _ (old new : List (Option SlotValue)) (ps : List Point) (ms : List ℕ) (p start : ℕ) (cavity : List Slot) (rim : List RimFace) (s : ℕ) (mesh : IsMesh old) (now : IsDelaunayMesh old ps ms) (fresh : IsNew ps ms p) (grown : Grown old (IsTaken old ps (point ps p) p) start cavity rim) (whole : (u : ℕ) → IsTaken old ps (point ps p) p u → IsIn cavity u) (star : Replaces old new cavity rim (Numbered p) s) (within_new : AreNumbersOf ps (p ∷ ms)) (some : Row) (some_is : IsDelaunayAmong ps ms some) where
   -- the face r has the point at infinity: behind it is a ghost, and the face is no hull face
   pub record IsEdgeOver (r : ℕ) : Type 0 where
-    pub inner : Side
+    pub inner : SlotFace
     pub is_behind : IsBehind old new ps ms p start cavity rim s mesh now fresh grown whole star r inner
     pub row : Row
     pub place : ℕ
@@ -216,7 +216,7 @@ module _ (old new : List (Option Tet)) (ps : List Point) (ms : List ℕ) (p star
       r : (q : ℕ) × (q < length rim) × IsEdge old ps ms rim q i j
       r = edge_at old ps ms mesh now rim p start cavity fresh grown (whole_from old new ps ms p start cavity rim s mesh now fresh grown whole star) i j h
 
-      b : (b : Side) × IsBehind old new ps ms p start cavity rim s mesh now fresh grown whole star r.0 b
+      b : (b : SlotFace) × IsBehind old new ps ms p start cavity rim s mesh now fresh grown whole star r.0 b
       b = rim_behind old new ps ms p start cavity rim s mesh now fresh grown whole star r.0 r.1
 
       -- the ghost behind

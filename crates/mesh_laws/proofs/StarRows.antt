@@ -15,11 +15,11 @@ use Rattle.insert_laws.specs.Insertion.{HasSameCorners, IsNew, IsRimFace}
 use Rattle.insert_laws.proofs.FacePencil.{side_of}
 use Rattle.insert_laws.proofs.Insert.{law_rim, law_insertion}
 use Rattle.insert_laws.proofs.Bridge.{same_of_even}
-use Rattle.mesh_arena.specs.Mesh.{Tet, corners_at, side, at, IsMesh}
+use Rattle.mesh_arena.specs.Mesh.{SlotValue, corners_at, side, at, IsMesh}
 use Rattle.mesh_arena.specs.Star.{behind, rim_at, behind_rim}
 use Rattle.mesh_arena.specs.Cavity.{IsIn}
 use Rattle.mesh_arena.specs.Replace.{Replaces}
-use Rattle.mesh_arena.specs.declared.arena.Side.{Side}
+use Rattle.mesh_arena.specs.declared.arena.SlotFace.{SlotFace}
 use Rattle.mesh_arena.specs.declared.slot.Corner.TheVariants.{Point as Numbered, Ghost}
 use Rattle.mesh_arena.specs.declared.slot.Slot.{Slot}
 use Rattle.mesh_arena.specs.declared.slot.RimFace.{RimFace}
@@ -69,7 +69,7 @@ no_both m n e h k = omega (arith, ints)
 
 -- ---- the faces of the rim
 
-module _ (old new : List (Option Tet)) (ps : List Point) (ms : List ℕ) (p start : ℕ) (cavity : List Slot) (rim : List RimFace) (s : ℕ) (mesh : IsMesh old) (now : IsDelaunayMesh old ps ms) (fresh : IsNew ps ms p) (grown : Grown old (IsTaken old ps (point ps p) p) start cavity rim) (whole : (u : ℕ) → IsTaken old ps (point ps p) p u → IsIn cavity u) (star : Replaces old new cavity rim (Numbered p) s) where
+module _ (old new : List (Option SlotValue)) (ps : List Point) (ms : List ℕ) (p start : ℕ) (cavity : List Slot) (rim : List RimFace) (s : ℕ) (mesh : IsMesh old) (now : IsDelaunayMesh old ps ms) (fresh : IsNew ps ms p) (grown : Grown old (IsTaken old ps (point ps p) p) start cavity rim) (whole : (u : ℕ) → IsTaken old ps (point ps p) p u → IsIn cavity u) (star : Replaces old new cavity rim (Numbered p) s) where
   pub in_taken : (u : ℕ) → IsIn cavity u → IsTaken old ps (point ps p) p u
   in_taken u found = subst (IsTaken old ps (point ps p) p) found.is (grown.taken found.place found.inside)
 
@@ -84,14 +84,14 @@ module _ (old new : List (Option Tet)) (ps : List Point) (ms : List ℕ) (p star
   made r = (behind_rim new rim r).slot
 
   -- the slot and face behind the face r, in the cavity
-  pub record IsBehind (r : ℕ) (b : Side) : Type 0 where
+  pub record IsBehind (r : ℕ) (b : SlotFace) : Type 0 where
     pub inside : r < length rim
     pub is : side old (rim_at rim r).slot.index (rim_at rim r).face ≡ Some b
     pub back : side old b.slot b.face ≡ Some (at (rim_at rim r).slot.index (rim_at rim r).face)
     pub within : b.face < 4
     pub corners : corners_at new (made r) ≡ option_map (λ cs. set cs b.face (Numbered p)) (corners_at old b.slot)
 
-  pub rim_behind : (r : ℕ) → r < length rim → (b : Side) × IsBehind r b
+  pub rim_behind : (r : ℕ) → r < length rim → (b : SlotFace) × IsBehind r b
   rim_behind r h =
       let u = (rim_at rim r).slot.index in
       let k = (rim_at rim r).face in
@@ -104,13 +104,13 @@ module _ (old new : List (Option Tet)) (ps : List Point) (ms : List ℕ) (p star
           is = inner.1;
           back = back;
           within = (side_live old b.slot b.face (at u k) mesh.shaped back).1;
-          corners = (star.star r h).corners ∙ ap (λ (o : Option Side). option_map (λ cs. set cs (behind o).face (Numbered p)) (corners_at old (behind o).slot)) inner.1;
+          corners = (star.star r h).corners ∙ ap (λ (o : Option SlotFace). option_map (λ cs. set cs (behind o).face (Numbered p)) (corners_at old (behind o).slot)) inner.1;
         },
       )
 
   -- the face r has three points: behind it is a row, or a ghost whose hull face it is
   pub record IsRowOver (r : ℕ) : Type 0 where
-    pub inner : Side
+    pub inner : SlotFace
     pub is_behind : IsBehind r inner
     pub row : Row
     pub slot : IsRowSlot old ps ms inner.slot row ⊎ IsGhostSlot old ps ms inner.slot row inner.face

@@ -12,7 +12,7 @@ use Rattle.insert_laws.specs.Insertion.{IsNew}
 use Rattle.insert_laws.proofs.Bridge.{even_of_same}
 use Rattle.insert_laws.proofs.FacePencil.{side_of}
 use Rattle.insert_laws.proofs.Start.{law_start}
-use Rattle.mesh_arena.specs.Mesh.{Tet, IsMesh}
+use Rattle.mesh_arena.specs.Mesh.{SlotValue, IsMesh}
 use Rattle.mesh_arena.specs.declared.slot.Corner.TheVariants.{Ghost}
 use Rattle.point_locate.specs.Place.{IsAt, IsInside, IsBeyond, row_corners}
 use Rattle.point_locate.specs.declared.walk.Place.TheVariants.{Inside, Beyond}
@@ -27,7 +27,7 @@ use Rattle.mesh_laws.proofs.Reached.{reached_inside, reached_beyond}
 pub closed_even : (ps : List Point) (t r : Row) (x : RationalPoint) → IsEven ps t r → InClosed (corners ps t) x → InClosed (corners ps r) x
 closed_even ps t r x even holds = all_faces (λ f. pos 0 ≤ℤ side_rational f x) (corners ps r) (λ u. subst (λ z. pos 0 ≤ℤ z) (sym (even.side_is u x)) (at_face (λ f. pos 0 ≤ℤ side_rational f x) (corners ps t) holds (even.to u)))
 
-module _ (slots : List (Option Tet)) (ps : List Point) (ms : List ℕ) (p : ℕ) (mesh : IsMesh slots) (now : IsDelaunayMesh slots ps ms) (new : IsNew ps ms p) (apart : (i : ℕ) → Contains ms i → point ps i ≢ point ps p) where
+module _ (slots : List (Option SlotValue)) (ps : List Point) (ms : List ℕ) (p : ℕ) (mesh : IsMesh slots) (now : IsDelaunayMesh slots ps ms) (new : IsNew ps ms p) (apart : (i : ℕ) → Contains ms i → point ps i ≢ point ps p) where
   infinite_at : (t : Row) (k : ℕ) → k < 4 → get_or (set (row_corners t) k Ghost) k Ghost ≡ Ghost
   infinite_at t k k4 = get_or-set_same (row_corners t) k Ghost Ghost (omega arith)
 

@@ -3,7 +3,7 @@ use Rattle.std.specs.Prelude.{◌≢◌, ℕ, ◌<◌, List, length, Option, Con
 use Rattle.sign_predicates.specs.Point.{Point}
 use Rattle.geo_laws.specs.Delaunay.{point}
 use Rattle.insert_laws.specs.Insertion.{IsNew}
-use Rattle.mesh_arena.specs.Mesh.{Tet, IsMesh}
+use Rattle.mesh_arena.specs.Mesh.{SlotValue, IsMesh}
 use Rattle.mesh_arena.specs.Replace.{IsCavity, IsRim, IsOffRim}
 use Rattle.mesh_arena.specs.declared.slot.Corner.TheVariants.{Point as Numbered}
 use Rattle.mesh_arena.specs.declared.slot.Slot.{Slot}
@@ -21,22 +21,24 @@ slot_of (Inside s) = s.index
 slot_of (Beyond s) = s.index
 
 -- the point takes the start, and each slot that it takes is reached from there
-pub record IsWholeFrom (slots : List (Option Tet)) (ps : List Point) (p start : ℕ) : Type 0 where
+pub record IsWholeFrom (slots : List (Option SlotValue)) (ps : List Point) (p start : ℕ) : Type 0 where
   pub takes_start : IsTaken slots ps (point ps p) p start
   pub all : (u : ℕ) → IsTaken slots ps (point ps p) p u → Reach slots (IsTaken slots ps (point ps p) p) start u
 
 -- From the place of a new point, which is none of the points there, the search finds all that the point takes
 abbrev pub CavityLaw : Type 0
-CavityLaw = (slots : List (Option Tet)) (ps : List Point) (ms : List ℕ) (p : ℕ) → IsMesh slots → IsDelaunayMesh slots ps ms → IsNew ps ms p → ((i : ℕ) → Contains ms i → point ps i ≢ point ps p)
+CavityLaw = (slots : List (Option SlotValue)) (ps : List Point) (ms : List ℕ) (p : ℕ) → IsMesh slots → IsDelaunayMesh slots ps ms
+    → IsNew ps ms p → ((i : ℕ) → Contains ms i → point ps i ≢ point ps p)
     → (place : Place) → IsPlace slots ps (point ps p) place → IsWholeFrom slots ps p (slot_of place)
 
 -- what `replace_cavity` asks of a cavity and its rim, but that the rim's faces are paired
-pub record IsCutOut (slots : List (Option Tet)) (cavity : List Slot) (rim : List RimFace) (p : ℕ) : Type 0 where
+pub record IsCutOut (slots : List (Option SlotValue)) (cavity : List Slot) (rim : List RimFace) (p : ℕ) : Type 0 where
   pub is_cavity : IsCavity slots cavity
   pub is_rim : IsRim slots cavity rim
   pub is_off_rim : IsOffRim slots rim (Numbered p)
 
 -- a cavity that was grown in a Delaunay mesh is cut out, if it has a rim
 abbrev pub CutOutLaw : Type 0
-CutOutLaw = (slots : List (Option Tet)) (ps : List Point) (ms : List ℕ) (p start : ℕ) (cavity : List Slot) (rim : List RimFace) → IsMesh slots → IsDelaunayMesh slots ps ms → IsNew ps ms p
+CutOutLaw = (slots : List (Option SlotValue)) (ps : List Point) (ms : List ℕ) (p start : ℕ) (cavity : List Slot) (rim : List RimFace)
+    → IsMesh slots → IsDelaunayMesh slots ps ms → IsNew ps ms p
     → Grown slots (IsTaken slots ps (point ps p) p) start cavity rim → 0 < length rim → IsCutOut slots cavity rim p

@@ -1,25 +1,28 @@
 -- The connected set of slots that a search from one finds, and its rim.
 use Rattle.std.specs.Prelude.{◌≡◌, ℕ, ◌<◌, List, length, Option, Some}
-use Rattle.mesh_arena.specs.declared.arena.Side.{Side}
+use Rattle.mesh_arena.specs.declared.arena.SlotFace.{SlotFace}
 use Rattle.mesh_arena.specs.declared.slot.Slot.{Slot}
 use Rattle.mesh_arena.specs.declared.slot.RimFace.{RimFace}
-use Rattle.mesh_arena.specs.Mesh.{Tet, IsLive, side}
+use Rattle.mesh_arena.specs.Mesh.{SlotValue, IsLive, side}
 use Rattle.mesh_arena.specs.Star.{rim_at}
 use Rattle.mesh_arena.specs.Cavity.{slot_at, IsIn}
 
 -- a slot that is reached from `start` over neighbors that the rule takes
-pub data Reach (slots : List (Option Tet)) (rule : ℕ → Type 0) (start : ℕ) : ℕ → Type 0 where
+pub data Reach (slots : List (Option SlotValue)) (rule : ℕ → Type 0) (start : ℕ) : ℕ → Type 0 where
   first : Reach slots rule start start
-  next : (s k : ℕ) (b : Side) → Reach slots rule start s → side slots s k ≡ Some b → rule b.slot → Reach slots rule start b.slot
+  next : (s k : ℕ) (b : SlotFace) → Reach slots rule start s → side slots s k ≡ Some b → rule b.slot → Reach slots rule start b.slot
 
 -- The cavity lists, each once, the slots that are reached, and the rim, each once, the faces of slots outside of it whose neighbor is in it
-pub record Grown (slots : List (Option Tet)) (rule : ℕ → Type 0) (start : ℕ) (cavity : List Slot) (rim : List RimFace) : Type 0 where
+pub record Grown (slots : List (Option SlotValue)) (rule : ℕ → Type 0) (start : ℕ) (cavity : List Slot) (rim : List RimFace) : Type 0 where
   pub reached : (j : ℕ) → j < length cavity → Reach slots rule start (slot_at cavity j)
   pub taken : (j : ℕ) → j < length cavity → rule (slot_at cavity j)
   pub live : (j : ℕ) → j < length cavity → IsLive slots (slot_at cavity j)
   pub once : (j q : ℕ) → j < length cavity → q < length cavity → slot_at cavity j ≡ slot_at cavity q → j ≡ q
   pub all : (u : ℕ) → Reach slots rule start u → IsIn cavity u
   pub outer : (r : ℕ) → r < length rim → IsIn cavity (rim_at rim r).slot.index → ⊥
-  pub inner : (r : ℕ) → r < length rim → (b : Side) × (side slots (rim_at rim r).slot.index (rim_at rim r).face ≡ Some b) × IsIn cavity b.slot
-  pub rim_once : (r q : ℕ) → r < length rim → q < length rim → (rim_at rim r).slot.index ≡ (rim_at rim q).slot.index → (rim_at rim r).face ≡ (rim_at rim q).face → r ≡ q
-  pub rim_all : (u k : ℕ) (b : Side) → side slots u k ≡ Some b → (IsIn cavity u → ⊥) → IsIn cavity b.slot → (r : ℕ) × (r < length rim) × ((rim_at rim r).slot.index ≡ u) × ((rim_at rim r).face ≡ k)
+  pub inner : (r : ℕ) → r < length rim → (b : SlotFace) × (side slots (rim_at rim r).slot.index (rim_at rim r).face ≡ Some b)
+      × IsIn cavity b.slot
+  pub rim_once : (r q : ℕ) → r < length rim → q < length rim → (rim_at rim r).slot.index ≡ (rim_at rim q).slot.index
+      → (rim_at rim r).face ≡ (rim_at rim q).face → r ≡ q
+  pub rim_all : (u k : ℕ) (b : SlotFace) → side slots u k ≡ Some b → (IsIn cavity u → ⊥) → IsIn cavity b.slot → (r : ℕ) × (r < length rim)
+      × ((rim_at rim r).slot.index ≡ u) × ((rim_at rim r).face ≡ k)

@@ -3,7 +3,7 @@ use Rattle.std.specs.Prelude.{◌≢◌, ℕ, ◌<◌, List, length, Option, Con
 use Rattle.sign_predicates.specs.Point.{Point}
 use Rattle.geo_laws.specs.Delaunay.{point}
 use Rattle.insert_laws.specs.Insertion.{IsNew}
-use Rattle.mesh_arena.specs.Mesh.{Tet, IsLive, IsMesh}
+use Rattle.mesh_arena.specs.Mesh.{SlotValue, IsLive, IsMesh}
 use Rattle.mesh_arena.specs.StarLinks.{ArePaired}
 use Rattle.mesh_arena.specs.declared.slot.Slot.{Slot}
 use Rattle.mesh_arena.specs.declared.slot.RimFace.{RimFace}
@@ -13,18 +13,23 @@ use Rattle.mesh_laws.specs.Reach.{Grown}
 use Rattle.mesh_laws.specs.Living.{IsDelaunayMesh}
 use Rattle.mesh_laws.specs.Laws.{IsWholeFrom}
 
--- The rim of a cavity with all that a new point takes is a closed surface: each edge of a face of it is that of exactly one other face, where the point
--- at infinity counts as a corner
+-- The rim of a cavity with all that a new point takes is a closed surface: each edge of a face of it is that of exactly one other face,
+-- where the point at infinity counts as a corner
 abbrev pub PairedLaw : Type 0
-PairedLaw = (slots : List (Option Tet)) (ps : List Point) (ms : List ℕ) (p start : ℕ) (cavity : List Slot) (rim : List RimFace) → IsMesh slots → IsDelaunayMesh slots ps ms → IsNew ps ms p
+PairedLaw = (slots : List (Option SlotValue)) (ps : List Point) (ms : List ℕ) (p start : ℕ) (cavity : List Slot) (rim : List RimFace)
+    → IsMesh slots → IsDelaunayMesh slots ps ms → IsNew ps ms p
     → Grown slots (IsTaken slots ps (point ps p) p) start cavity rim → IsWholeFrom slots ps p start → ArePaired slots rim
 
 -- and it is not empty, where the point is none of those there
 abbrev pub SomeRimLaw : Type 0
-SomeRimLaw = (slots : List (Option Tet)) (ps : List Point) (ms : List ℕ) (p start : ℕ) (cavity : List Slot) (rim : List RimFace) → IsMesh slots → IsDelaunayMesh slots ps ms → IsNew ps ms p
-    → ((i : ℕ) → Contains ms i → point ps i ≢ point ps p) → Grown slots (IsTaken slots ps (point ps p) p) start cavity rim → IsWholeFrom slots ps p start → 0 < length rim
+SomeRimLaw = (slots : List (Option SlotValue)) (ps : List Point) (ms : List ℕ) (p start : ℕ) (cavity : List Slot) (rim : List RimFace)
+    → IsMesh slots → IsDelaunayMesh slots ps ms → IsNew ps ms p
+    → ((i : ℕ) → Contains ms i → point ps i ≢ point ps p) → Grown slots (IsTaken slots ps (point ps p) p) start cavity rim
+    → IsWholeFrom slots ps p start → 0 < length rim
 
 -- The corners of a Delaunay mesh are points of the list, and a new point is somewhere in it, if it has a slot
 pub record PlacedLaw : Type 0 where
-  pub corners : (slots : List (Option Tet)) (ps : List Point) (ms : List ℕ) → IsMesh slots → IsDelaunayMesh slots ps ms → AreCornersOn slots ps
-  pub somewhere : (slots : List (Option Tet)) (ps : List Point) (ms : List ℕ) (p start : ℕ) → IsMesh slots → IsDelaunayMesh slots ps ms → IsNew ps ms p → IsLive slots start → IsSomePlace slots ps (point ps p)
+  pub corners : (slots : List (Option SlotValue)) (ps : List Point) (ms : List ℕ) → IsMesh slots → IsDelaunayMesh slots ps ms
+      → AreCornersOn slots ps
+  pub somewhere : (slots : List (Option SlotValue)) (ps : List Point) (ms : List ℕ) (p start : ℕ) → IsMesh slots
+      → IsDelaunayMesh slots ps ms → IsNew ps ms p → IsLive slots start → IsSomePlace slots ps (point ps p)

@@ -1,4 +1,4 @@
-//! The laws of a Delaunay mesh in an arena: which of its slots a new point takes, and what surgery makes of it.
+//! Laws of a Delaunay mesh in an arena: the conflict zone of a point, and what surgery makes of it.
 #![tactic(auto)]
 
 mod laws;

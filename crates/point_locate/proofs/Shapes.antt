@@ -9,7 +9,7 @@ use Rattle.sign_predicates.specs.declared.tetrahedron.Corners.{Corners}
 use Rattle.geo_laws.specs.Delaunay.{corners}
 use Rattle.geo_laws.specs.declared.tetrahedra.Tet.{Tet as Row}
 use Rattle.geo_laws.proofs.Determinants.{side_rational-as_rational}
-use Rattle.mesh_arena.specs.Mesh.{Tet, tet_at, corners_at, corner_list}
+use Rattle.mesh_arena.specs.Mesh.{SlotValue, tet_at, corners_at, corner_list}
 use Rattle.mesh_arena.specs.declared.slot.Corner.{Corner}
 use Rattle.mesh_arena.specs.declared.slot.Corner.TheVariants.{Ghost}
 use Rattle.mesh_arena.specs.declared.slot.SlotCorners.{SlotCorners}
@@ -72,20 +72,20 @@ row_leads_out ps p t r q k e is lt out = (
         λ i. record { a = a i; b = b i; c = c i; d = d i }
 
 -- the point is not in this place of the mesh
-pub record IsNotAt (slots : List (Option Tet)) (ps : List Point) (p : Point) (s : ℕ) : Type 0 where
+pub record IsNotAt (slots : List (Option SlotValue)) (ps : List Point) (p : Point) (s : ℕ) : Type 0 where
   pub outside : (cs : List Corner) → corners_at slots s ≡ Some cs → IsInside ps p cs → ⊥
   pub behind : (cs : List Corner) → corners_at slots s ≡ Some cs → IsBeyond ps p cs → ⊥
 
-pub free_is_not_at : (slots : List (Option Tet)) (ps : List Point) (p : Point) (s : ℕ) → tet_at slots s ≡ None → IsNotAt slots ps p s
+pub free_is_not_at : (slots : List (Option SlotValue)) (ps : List Point) (p : Point) (s : ℕ) → tet_at slots s ≡ None → IsNotAt slots ps p s
 free_is_not_at slots ps p s free =
     record { outside = λ cs e h. none cs e; behind = λ cs e h. none cs e }
   where
     none : (cs : List Corner) → corners_at slots s ≡ Some cs → ⊥
     none cs e =
-        let gone : corners_at slots s ≡ None = ap (option_map (λ (t : Tet). t.corners)) free in
+        let gone : corners_at slots s ≡ None = ap (option_map (λ (t : SlotValue). t.corners)) free in
         absurd (cc)
 
-pub looked_is_not_at : (slots : List (Option Tet)) (ps : List Point) (p : Point) (s : ℕ) (cs : List Corner) → corners_at slots s ≡ Some cs → (face : ℕ) → Looks ps p cs (Out face) → IsNotAt slots ps p s
+pub looked_is_not_at : (slots : List (Option SlotValue)) (ps : List Point) (p : Point) (s : ℕ) (cs : List Corner) → corners_at slots s ≡ Some cs → (face : ℕ) → Looks ps p cs (Out face) → IsNotAt slots ps p s
 looked_is_not_at slots ps p s cs is face out =
     record { outside = λ ds e h. out.1 (subst (IsInside ps p) (same ds e) h); behind = λ ds e h. out.2 (subst (IsBeyond ps p) (same ds e) h) }
   where
@@ -93,15 +93,15 @@ looked_is_not_at slots ps p s cs is face out =
     same ds e = cc
 
 -- a live slot is before the end
-pub live_within : (slots : List (Option Tet)) (s : ℕ) (cs : List Corner) → corners_at slots s ≡ Some cs → s < length slots
+pub live_within : (slots : List (Option SlotValue)) (s : ℕ) (cs : List Corner) → corners_at slots s ≡ Some cs → s < length slots
 live_within slots s cs e = by_tet (tet_at slots s) refl e
   where
-    by_tet : (o : Option Tet) → tet_at slots s ≡ o → option_map (λ (t : Tet). t.corners) o ≡ Some cs → s < length slots
+    by_tet : (o : Option SlotValue) → tet_at slots s ≡ o → option_map (λ (t : SlotValue). t.corners) o ≡ Some cs → s < length slots
     by_tet None is e = absurd (cc)
     by_tet (Some t) is e = grind (arith, get_or_past)
 
 -- where each place was looked at, the point is nowhere
-pub some_not_all : (slots : List (Option Tet)) (ps : List Point) (p : Point) (n : ℕ) → length slots ≤ n → ((s : ℕ) → s < n → IsNotAt slots ps p s) → IsSomePlace slots ps p → ⊥
+pub some_not_all : (slots : List (Option SlotValue)) (ps : List Point) (p : Point) (n : ℕ) → length slots ≤ n → ((s : ℕ) → s < n → IsNotAt slots ps p s) → IsSomePlace slots ps p → ⊥
 some_not_all slots ps p n long none some = by_place some.0 some.1
   where
     by_place : (place : Place) → IsPlace slots ps p place → ⊥
@@ -109,10 +109,10 @@ some_not_all slots ps p n long none some = by_place some.0 some.1
     by_place (Beyond s) h = (none s.index (omega (arith, live_within slots s.index h.corners h.is))).behind h.corners h.is h.here
 
 -- what holds of the corners of each slot before a place
-pub record AreCornersOnBelow (slots : List (Option Tet)) (ps : List Point) (n : ℕ) : Type 0 where
+pub record AreCornersOnBelow (slots : List (Option SlotValue)) (ps : List Point) (n : ℕ) : Type 0 where
   pub below : (s : ℕ) (cs : List Corner) → s < n → corners_at slots s ≡ Some cs → AreOn ps cs
 
-pub below_more : (slots : List (Option Tet)) (ps : List Point) (n : ℕ) → AreCornersOnBelow slots ps n → ((cs : List Corner) → corners_at slots n ≡ Some cs → AreOn ps cs) → AreCornersOnBelow slots ps (n + 1)
+pub below_more : (slots : List (Option SlotValue)) (ps : List Point) (n : ℕ) → AreCornersOnBelow slots ps n → ((cs : List Corner) → corners_at slots n ≡ Some cs → AreOn ps cs) → AreCornersOnBelow slots ps (n + 1)
 below_more slots ps n before here =
     record {
       below = λ s cs lt e. elim (cases_lt s n) [
@@ -121,13 +121,13 @@ below_more slots ps n before here =
       ];
     }
 
-pub below_all : (slots : List (Option Tet)) (ps : List Point) (n : ℕ) → length slots ≤ n → AreCornersOnBelow slots ps n → AreCornersOn slots ps
+pub below_all : (slots : List (Option SlotValue)) (ps : List Point) (n : ℕ) → length slots ≤ n → AreCornersOnBelow slots ps n → AreCornersOn slots ps
 below_all slots ps n long all s cs e = all.below s cs (omega (arith, live_within slots s cs e)) e
 
-pub one_slot_on : (slots : List (Option Tet)) (ps : List Point) (s : ℕ) (cs : List Corner) → corners_at slots s ≡ Some cs → AreOn ps cs → (ds : List Corner) → corners_at slots s ≡ Some ds → AreOn ps ds
+pub one_slot_on : (slots : List (Option SlotValue)) (ps : List Point) (s : ℕ) (cs : List Corner) → corners_at slots s ≡ Some cs → AreOn ps cs → (ds : List Corner) → corners_at slots s ≡ Some ds → AreOn ps ds
 one_slot_on slots ps s cs is on ds e = let same : cs ≡ ds = cc in subst (AreOn ps) same on
 
-pub free_slot_on : (slots : List (Option Tet)) (ps : List Point) (s : ℕ) → tet_at slots s ≡ None → (ds : List Corner) → corners_at slots s ≡ Some ds → AreOn ps ds
+pub free_slot_on : (slots : List (Option SlotValue)) (ps : List Point) (s : ℕ) → tet_at slots s ≡ None → (ds : List Corner) → corners_at slots s ≡ Some ds → AreOn ps ds
 free_slot_on slots ps s free ds e =
-    let gone : corners_at slots s ≡ None = ap (option_map (λ (t : Tet). t.corners)) free in
+    let gone : corners_at slots s ≡ None = ap (option_map (λ (t : SlotValue). t.corners)) free in
     absurd (cc)

@@ -1,5 +1,5 @@
--- Where a point lies in a mesh: in the closed tetrahedron of a slot, or strictly beyond the hull face of a ghost. The four corners of a ghost are in an
--- order that is positive where a point strictly beyond its hull face stands in place of the point at infinity.
+-- Where a point lies in a mesh: in the closed tetrahedron of a slot, or strictly beyond the hull face of a ghost. The four corners of a
+-- ghost are in an order that is positive where a point strictly beyond its hull face stands in place of the point at infinity.
 use Rattle.std.specs.Prelude.{◌≡◌, ℕ, ◌<◌, List, [], ◌∷◌, length, Option, Some, ⊤}
 use Rattle.std.specs.List.{slice_index_or}
 use Rattle.sign_predicates.specs.Point.{Point, as_rational}
@@ -7,7 +7,7 @@ use Rattle.sign_predicates.specs.Orientation.{IsPositive, InClosed}
 use Rattle.sign_predicates.specs.declared.tetrahedron.Corners.{Corners}
 use Rattle.geo_laws.specs.Delaunay.{point, corners}
 use Rattle.geo_laws.specs.declared.tetrahedra.Tet.{Tet as Row}
-use Rattle.mesh_arena.specs.Mesh.{Tet, corners_at, corner_list}
+use Rattle.mesh_arena.specs.Mesh.{SlotValue, corners_at, corner_list}
 use Rattle.mesh_arena.specs.declared.slot.Corner.{Corner}
 use Rattle.mesh_arena.specs.declared.slot.Corner.TheVariants.{Point as Numbered, Ghost}
 use Rattle.mesh_arena.specs.declared.slot.SlotCorners.{SlotCorners}
@@ -28,7 +28,7 @@ abbrev pub AreOn : List Point → List Corner → Type 0
 AreOn ps cs = (k : ℕ) → k < 4 → IsOn ps (slice_index_or cs k Ghost)
 
 -- the corners of each live slot are points of the list, or the point at infinity
-abbrev pub AreCornersOn : List (Option Tet) → List Point → Type 0
+abbrev pub AreCornersOn : List (Option SlotValue) → List Point → Type 0
 AreCornersOn slots ps = (s : ℕ) (cs : List Corner) → corners_at slots s ≡ Some cs → AreOn ps cs
 
 -- the corners of a tetrahedron of points, by their numbers
@@ -60,18 +60,18 @@ pub record IsBeyond (ps : List Point) (p : Point) (cs : List Corner) : Type 0 wh
   pub sees : IsPositive (placed ps p ghost)
 
 -- the slot is live, and P holds of its corners
-pub record IsAt (slots : List (Option Tet)) (P : List Corner → Type 0) (s : ℕ) : Type 0 where
+pub record IsAt (slots : List (Option SlotValue)) (P : List Corner → Type 0) (s : ℕ) : Type 0 where
   pub corners : List Corner
   pub is : corners_at slots s ≡ Some corners
   pub here : P corners
 
 -- the point is in this place of the mesh
-abbrev pub IsPlace : List (Option Tet) → List Point → Point → Place → Type 0
+abbrev pub IsPlace : List (Option SlotValue) → List Point → Point → Place → Type 0
 IsPlace slots ps p (Inside s) = IsAt slots (IsInside ps p) s.index
 IsPlace slots ps p (Beyond s) = IsAt slots (IsBeyond ps p) s.index
 
 -- The point is somewhere in the mesh. In a Delaunay mesh with its ghosts each point is
-abbrev pub IsSomePlace : List (Option Tet) → List Point → Point → Type 0
+abbrev pub IsSomePlace : List (Option SlotValue) → List Point → Point → Type 0
 IsSomePlace slots ps p = (place : Place) × IsPlace slots ps p place
 
 -- these are the corners of a tetrahedron of points, or have the point at infinity in a place

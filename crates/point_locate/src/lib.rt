@@ -1,4 +1,4 @@
-//! Point location in a living Delaunay mesh: a visibility walk over the slots of an arena, and a scan where the walk does not end.
+//! Point location in a living Delaunay mesh: a walk over its slots, and a scan where it does not end.
 #![tactic(auto)]
 
 mod look;

@@ -3,21 +3,24 @@ ghost use Rattle.std.specs.Prelude.{◌≡◌, ℕ, ◌<◌, ◌≤ℤ◌, ◌<�
 ghost use Rattle.sign_predicates.specs.Orientation.{side, opposite_face, IsPositive};
 ghost use Rattle.geo_laws.specs.Delaunay.{corners};
 ghost use Rattle.mesh_arena.specs.Mesh.{corner_list};
-ghost use Rattle.point_locate.specs.Place.{corner_point, placed, row_corners, AreOn, IsOn, Looks, HasShape};
+ghost use Rattle.point_locate.specs.Place.{corner_point, placed, row_corners, AreOn, IsOn, Looks};
+ghost use Rattle.point_locate.specs.Place.{HasShape};
 
 use geo_laws::{Points, Tet};
 use mesh_arena::{Corner, SlotCorners};
 use sign_predicates::{Corners, GridPoint, Sign, beyond, orient};
 
-// The point is in the closed tetrahedron, strictly beyond the hull face of the ghost, or it is neither and this face leads on.
-#[derive(Clone, Copy)]
+// The point is in the closed tetrahedron, strictly beyond the hull face of the ghost, or it is
+// neither and this face leads on.
+#[derive(Clone, Copy, Debug)]
 pub(crate) enum Look {
     Inside,
     Beyond,
     Out(u8),
 }
 
-/// What the corners of a slot make: a tetrahedron of points, or a hull ghost with the point at infinity in this place, from 0.
+/// What the corners of a slot make: a tetrahedron of points, or a hull ghost with the point at
+/// infinity in this place, from 0.
 #[derive(Clone, Copy)]
 pub enum Shape {
     Row(Tet),
@@ -43,7 +46,8 @@ pub fn shape_of(t: SlotCorners) -> Shape
     Shape::Row(Tet { a, b, c, d })
 }
 
-/// The point of a corner, or `p` for the point at infinity. Corners are places in `points`, from 0, and coordinates are in grid units.
+/// The point of a corner, or `p` for the point at infinity. Corners are places in `points`, from 0,
+/// and coordinates are in grid units.
 pub fn corner_point(points: &Points, p: GridPoint, corner: Corner) -> GridPoint
     requires { IsOn points.now corner }
     ensures { result ≡ corner_point points.now p corner }
@@ -54,8 +58,9 @@ pub fn corner_point(points: &Points, p: GridPoint, corner: Corner) -> GridPoint
     }
 }
 
-/// The points of a slot's corners in their places, with `p` in place of the point at infinity. A ghost so placed is positive exactly where `p` is
-/// strictly beyond its hull face. Corners are places in `points`, from 0, and coordinates are in grid units.
+/// The points of a slot's corners in their places, with `p` in place of the point at infinity. A
+/// ghost so placed is positive exactly where `p` is strictly beyond its hull face. Corners are
+/// places in `points`, from 0, and coordinates are in grid units.
 pub fn placed(points: &Points, p: GridPoint, t: SlotCorners) -> Corners
     requires { AreOn points.now (corner_list t) }
     ensures { result ≡ placed points.now p t }
@@ -68,7 +73,8 @@ pub fn placed(points: &Points, p: GridPoint, t: SlotCorners) -> Corners
     }
 }
 
-/// The points of a row's corners, whose numbers are places in `points`, from 0. Coordinates are in grid units.
+/// The points of a row's corners, whose numbers are places in `points`, from 0. Coordinates are in
+/// grid units.
 #[inline]
 pub fn row_points(points: &Points, row: Tet) -> Corners
     requires { AreOn points.now (row_corners row) }
@@ -97,11 +103,13 @@ fn is_beyond(t: &Corners, face: u8, p: GridPoint) -> bool
     matches!(beyond(*t, face, p), Sign::Above)
 }
 
-// A face that `p` is strictly beyond. The face `entry` is tested last: a walk that came through it has `p` on its inner side.
+// A face that `p` is strictly beyond. The face `entry` is tested last: a walk that came through it
+// has `p` on its inner side.
 #[inline(always)]
 fn face_beyond(t: &Corners, entry: u8, p: GridPoint) -> Option<u8>
     requires { entry < 4 }
-    ensures { MatchOption result ((k : ℕ) → k < 4 → pos 0 ≤ℤ side (opposite_face t.now k) p) (λ k. (k < 4) × (side (opposite_face t.now k) p <ℤ pos 0)) }
+    ensures { MatchOption result ((k : ℕ) → k < 4 → pos 0 ≤ℤ side (opposite_face t.now k) p)
+        (λ k. (k < 4) × (side (opposite_face t.now k) p <ℤ pos 0)) }
 {
     for k in 0..4u8 {
         if k != entry && is_beyond(t, k, p) {

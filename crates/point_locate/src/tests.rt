@@ -1,3 +1,4 @@
+//! Points in and round one tetrahedron, and two.
 ghost use Rattle.std.specs.Prelude.{◌≡◌, ◌≢◌, ℕ, ◌<◌, IsTrue};
 ghost use Rattle.mesh_arena.specs.Mesh.{IsLive, corners_at, corner_list, AllDiffer};
 ghost use Rattle.point_locate.specs.Place.{IsOn, AreOn, AreCornersOn};
@@ -119,7 +120,8 @@ fn found(arena: &Arena, points: &Points, start: Slot, p: GridPoint) -> Option<Pl
     }
 }
 
-// A tetrahedron and its ghosts. Each ghost is positive where a point strictly beyond its face stands for infinity.
+// A tetrahedron and its ghosts. Each ghost is positive where a point strictly beyond its face
+// stands for infinity.
 const ONE: [[Corner; 4]; 5] = [
     [P0, P1, P2, P3],
     [P1, P2, P3, G],
@@ -230,7 +232,8 @@ fn are_linked(arena: &Arena) -> bool {
     true
 }
 
-// Where a point is found in two tetrahedra and round them by a walk from the slot at a place; None where some face has no neighbor.
+// Where a point is found in two tetrahedra and round them by a walk from the slot at a place; None
+// where some face has no neighbor.
 fn in_two(alloc: Global, start: usize, p: GridPoint) -> Result<Option<SlotPlace>, Fail> {
     let points = points_at(
         alloc,

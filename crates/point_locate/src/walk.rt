@@ -1,3 +1,4 @@
+//! The walk to a point, and the scan of all slots.
 ghost use Rattle.std.specs.Prelude.{MatchOption};
 ghost use Rattle.mesh_arena.specs.Mesh.{IsLive};
 ghost use Rattle.point_locate.specs.Place.{AreCornersOn, IsPlace, IsSomePlace};
@@ -16,9 +17,11 @@ pub enum Place {
     Beyond(Slot),
 }
 
-/// The place of the point `p` in the mesh, found by a walk from the live slot `start`: from a tetrahedron through a face that `p` is strictly
-/// beyond, and from a ghost through its hull face. The walk takes at most as many turns as there are slots; where that is not enough, all slots are
-/// looked at in turn. It takes no memory. The corners are places in `points`, from 0, and coordinates are in grid units.
+/// The place of the point `p` in the mesh, found by a walk from the live slot `start`: from a
+/// tetrahedron through a face that `p` is strictly beyond, and from a ghost through its hull face.
+/// The walk takes at most as many turns as there are slots; where that is not enough, all slots are
+/// looked at in turn. It takes no memory. The corners are places in `points`, from 0, and
+/// coordinates are in grid units.
 ///
 /// Source: the visibility walk (Devillers, Pion and Teillaud, 2002). It ends in a Delaunay mesh.
 pub fn locate(arena: &Arena, points: &Points, start: Slot, p: GridPoint) -> Place
@@ -51,7 +54,8 @@ pub fn locate(arena: &Arena, points: &Points, start: Slot, p: GridPoint) -> Plac
 // The place of the point by a look at each slot in turn, if it is somewhere.
 pub(crate) fn scan(arena: &Arena, points: &Points, p: GridPoint) -> Option<Place>
     requires { AreCornersOn arena.now.slots points.now }
-    ensures { MatchOption result (IsSomePlace arena.now.slots points.now p → ⊥) (IsPlace arena.now.slots points.now p) }
+    ensures { MatchOption result (IsSomePlace arena.now.slots points.now p → ⊥)
+        (IsPlace arena.now.slots points.now p) }
 {
     for i in 0..arena.slots() {
         if let Some(s) = arena.slot(i) {

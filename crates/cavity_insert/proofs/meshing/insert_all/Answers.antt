@@ -21,13 +21,13 @@ loop-turn-preserved g c =
       | then-not-has_corner+in_ok-last w ↦
           let is_ready = ready c.args.points.now c.args.first c.args.turns.now c.loop-turn.turn-index no_turn c.loop-turn-test.true _ c.requires.order c.requires.distinct now (has_corner_not c.args.first _ (sym c.has_corner.ensures ∙ w.if-not-has_corner.true)) in
           record {
-            inserted = rw w.arena-is (added c.args.points.now c.args.first c.args.turns.now c.loop-turn.turn-index no_turn c.loop-turn-test.true _ _ now (w.in_ok-last.ensures.mesh now.ms is_ready));
-            live = rw (w.arena-is, w.last-is) w.in_ok-last.ensures.live;
+            inserted = rw w.built-is (added c.args.points.now c.args.first c.args.turns.now c.loop-turn.turn-index no_turn c.loop-turn-test.true _ _ now (w.in_ok-last.ensures.mesh now.ms is_ready));
+            live = rw (w.built-is) w.in_ok-last.ensures.live;
           }
       | else-not-has_corner w ↦
           record {
-            inserted = rw w.arena-is (passed c.args.points.now c.args.first c.args.turns.now c.loop-turn.turn-index no_turn c.loop-turn-test.true _ now (corner_found c.args.first _ (sym c.has_corner.ensures ∙ w.if-not-has_corner.false)));
-            live = rw (w.arena-is, w.last-is) c.loop-turn.invariant.live;
+            inserted = rw w.built-is (passed c.args.points.now c.args.first c.args.turns.now c.loop-turn.turn-index no_turn c.loop-turn-test.true _ now (corner_found c.args.first _ (sym c.has_corner.ensures ∙ w.if-not-has_corner.false)));
+            live = rw (w.built-is) c.loop-turn.invariant.live;
           }
     ]
 

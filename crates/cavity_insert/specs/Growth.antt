@@ -1,0 +1,31 @@
+-- The growth of a cavity, from its start on.
+use Rattle.std.specs.Prelude.{◌≡◌, ℕ, [], List, Option}
+use Rattle.sign_predicates.specs.Point.{Point}
+use Rattle.geo_laws.specs.Delaunay.{point}
+use Rattle.mesh_arena.specs.Mesh.{SlotValue, IsMesh}
+use Rattle.mesh_arena.specs.declared.slot.Slot.{Slot}
+use Rattle.mesh_arena.specs.declared.slot.RimFace.{RimFace}
+use Rattle.mesh_laws.specs.Rule.{IsTaken}
+use Rattle.mesh_laws.specs.Reach.{Grown}
+use Rattle.mesh_laws.specs.Laws.{IsWholeFrom}
+use Rattle.cavity_insert.specs.declared.grow.Growth.{Growth}
+use Rattle.cavity_insert.specs.Search.{SearchValue, IsInZone}
+use Rattle.cavity_insert.specs.Grow.{Growing}
+
+-- nothing has been found yet
+pub record HasBegun (g : Growth) (start : Slot) : Type 0 where
+  pub start_is : g.start ≡ start
+  pub marks : g.marks ≡ []
+  pub cavity : g.cavity ≡ []
+  pub rim : g.rim ≡ []
+
+-- the growth has come to the face k of the slot i of its cavity
+abbrev pub IsGrowing : SearchValue → Growth → ℕ → ℕ → Type 0
+IsGrowing search g i k = Growing search.slots (IsInZone search) g.start.index g.marks g.cavity g.rim i k
+
+-- the cavity has the conflict zone of the point with the number p, and this is its rim
+pub record IsCavityOf (slots : List (Option SlotValue)) (ps : List Point) (p : ℕ) (cavity : List Slot) (rim : List RimFace) : Type 0 where
+  pub mesh : IsMesh slots
+  pub start : ℕ
+  pub whole : IsWholeFrom slots ps p start
+  pub grown : Grown slots (IsTaken slots ps (point ps p) p) start cavity rim
