@@ -19,3 +19,4 @@ pub mod StarRows
 pub mod StarGhosts
 pub mod ReplacedMesh
 pub mod ReplacedLists
+pub mod Somewhere

@@ -33,3 +33,8 @@ pub record PlacedLaw : Type 0 where
       → AreCornersOn slots ps
   pub somewhere : (slots : List (Option SlotValue)) (ps : List Point) (ms : List ℕ) (p start : ℕ) → IsMesh slots
       → IsDelaunayMesh slots ps ms → IsNew ps ms p → IsLive slots start → IsSomePlace slots ps (point ps p)
+
+-- What `locate` asks holds for each point of the grid, from each live slot of a Delaunay mesh: the point is somewhere in it
+abbrev pub SomewhereLaw : Type 0
+SomewhereLaw = (slots : List (Option SlotValue)) (ps : List Point) (ms : List ℕ) (q : Point) (start : ℕ) → IsMesh slots
+    → IsDelaunayMesh slots ps ms → IsLive slots start → AreCornersOn slots ps × IsSomePlace slots ps q

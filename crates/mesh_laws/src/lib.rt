@@ -7,4 +7,4 @@ mod rim_laws;
 
 pub use laws::{law_cavity, law_cut_out};
 pub use replaced::{law_longer_list, law_replaced, law_same_mesh};
-pub use rim_laws::{law_paired, law_placed, law_some_rim};
+pub use rim_laws::{law_paired, law_placed, law_some_rim, law_somewhere};

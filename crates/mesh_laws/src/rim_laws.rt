@@ -1,7 +1,7 @@
 //! Laws of the place of a point in a Delaunay mesh, and of the rim of its cavity.
 //!
 //! Each is the contract of a function that does nothing.
-ghost use Rattle.mesh_laws.specs.RimLaws.{PairedLaw, SomeRimLaw, PlacedLaw};
+ghost use Rattle.mesh_laws.specs.RimLaws.{PairedLaw, SomeRimLaw, PlacedLaw, SomewhereLaw};
 
 /// The rim of a cavity that was grown in a Delaunay mesh is a closed surface: each two corners of a
 /// face of it are corners of exactly one other face, where the point at infinity counts as a
@@ -23,4 +23,10 @@ pub fn law_some_rim()
 /// from any slot.
 pub fn law_placed()
     ensures { PlacedLaw }
+{}
+
+/// Each point of the grid, new or not, is in the closed tetrahedron of a slot of a Delaunay mesh or
+/// strictly beyond the hull face of a ghost: what `locate` asks of the mesh holds, from any live slot.
+pub fn law_somewhere()
+    ensures { SomewhereLaw }
 {}
