@@ -1,3 +1,4 @@
+//! Lists, cavities and sides of small sets of points.
 ghost use Rattle.std.specs.Prelude.{ℕ, ◌≡◌, ◌≢◌, ◌+◌, ◌*◌, ◌^◌, ◌<◌, ◌≤◌, IsTrue, IfOk, length};
 ghost use Rattle.geo_laws.specs.Delaunay.{point, all_numbers, HasDistinctPoints};
 ghost use Rattle.mesh_arena.specs.Mesh.{IsLive};
@@ -13,7 +14,6 @@ use sign_predicates::{Corners, GridPoint, Hold, RatPoint, in_tet};
 use std::alloc::Global;
 use std::marker::Brand;
 use std::sync::ledger::{Blank, Ledger};
-use std::test::Fail;
 use tet_ports::NoMemory;
 
 fn grid_point(p: [i8; 3]) -> GridPoint {
@@ -89,6 +89,8 @@ fn has_list(alloc: Global, coordinates: &[[i8; 3]], want: &[[u32; 4]]) -> bool {
     }
 }
 
+const PYRAMID: [[i8; 3]; 5] = [[0, 0, 0], [2, 0, 0], [2, 2, 0], [0, 2, 0], [1, 1, 2]];
+
 // The corners of a cube.
 const CUBE: [[i8; 3]; 8] = [
     [0, 0, 0],
@@ -101,37 +103,63 @@ const CUBE: [[i8; 3]; 8] = [
     [0, 2, 2],
 ];
 
+/// Points, and the rows of their list; none stands for `Flat`.
+struct ListCase {
+    points: &'static [[i8; 3]],
+    rows: &'static [[u32; 4]],
+}
+
+const LISTS: [ListCase; 6] = [
+    ListCase {
+        points: &[[0, 0, 0], [1, 0, 0], [0, 1, 0], [0, 0, 1]],
+        rows: &[[0, 1, 2, 3]],
+    },
+    // The same in an order that is negative.
+    ListCase {
+        points: &[[0, 0, 0], [0, 1, 0], [1, 0, 0], [0, 0, 1]],
+        rows: &[[0, 1, 3, 2]],
+    },
+    ListCase {
+        points: &PYRAMID,
+        rows: &[[0, 1, 3, 4], [1, 2, 3, 4]],
+    },
+    ListCase {
+        points: &CUBE,
+        rows: &[
+            [0, 1, 3, 4],
+            [1, 2, 3, 5],
+            [1, 3, 4, 5],
+            [2, 3, 5, 6],
+            [3, 4, 5, 7],
+            [3, 5, 6, 7],
+        ],
+    },
+    ListCase {
+        points: &[[0, 0, 0], [1, 0, 0], [0, 1, 0]],
+        rows: &[],
+    },
+    ListCase {
+        points: &[
+            [0, 0, 0],
+            [1, 0, 0],
+            [2, 0, 0],
+            [0, 1, 0],
+            [1, 1, 0],
+            [2, 1, 0],
+            [0, 2, 0],
+            [1, 2, 0],
+            [2, 2, 0],
+        ],
+        rows: &[],
+    },
+];
+
 #[test]
 fn lists(rt: HostRuntime) {
     let alloc = rt.alloc();
-    let smallest = [[0, 0, 0], [1, 0, 0], [0, 1, 0], [0, 0, 1]];
-    assert!(rt; has_list(alloc, &smallest, &[[0, 1, 2, 3]]));
-    let negative = [[0, 0, 0], [0, 1, 0], [1, 0, 0], [0, 0, 1]];
-    assert!(rt; has_list(alloc, &negative, &[[0, 1, 3, 2]]));
-    let pyramid = [[0, 0, 0], [2, 0, 0], [2, 2, 0], [0, 2, 0], [1, 1, 2]];
-    assert!(rt; has_list(alloc, &pyramid, &[[0, 1, 3, 4], [1, 2, 3, 4]]));
-    let six = [
-        [0, 1, 3, 4],
-        [1, 2, 3, 5],
-        [1, 3, 4, 5],
-        [2, 3, 5, 6],
-        [3, 4, 5, 7],
-        [3, 5, 6, 7],
-    ];
-    assert!(rt; has_list(alloc, &CUBE, &six));
-    assert!(rt; has_list(alloc, &[[0, 0, 0], [1, 0, 0], [0, 1, 0]], &[]));
-    let grid = [
-        [0, 0, 0],
-        [1, 0, 0],
-        [2, 0, 0],
-        [0, 1, 0],
-        [1, 1, 0],
-        [2, 1, 0],
-        [0, 2, 0],
-        [1, 2, 0],
-        [2, 2, 0],
-    ];
-    assert!(rt; has_list(alloc, &grid, &[]));
+    for (i, case) in LISTS.iter().enumerate() {
+        assert!(rt; has_list(alloc, case.points, case.rows), "case {i}");
+    }
 }
 
 /// How many rows hold the point strictly.
@@ -160,17 +188,22 @@ fn rows_round(points: &Points, rows: &TetList, x: RatPoint) -> usize {
     count
 }
 
-#[test]
-fn one_row_round_a_point(rt: HostRuntime) -> Result<(), Fail> {
-    let alloc = rt.alloc();
-    let points = points(
-        alloc,
-        &[[0, 0, 0], [2, 0, 0], [2, 2, 0], [0, 2, 0], [1, 1, 2]],
-    )?;
-    assert!(rt; points.len() < 9 && are_distinct(&points));
-    let Ok(rows) = delaunay(alloc, &points) else {
-        return Err("no list".into());
+/// How many rows of the list of these points hold a point strictly.
+fn rows_of_list_round(alloc: Global, set: &[[i8; 3]], x: RatPoint) -> Option<usize> {
+    let Ok(points) = points(alloc, set) else {
+        return None;
     };
+    if points.len() > 1000 || !are_distinct(&points) {
+        return None;
+    }
+    match delaunay(alloc, &points) {
+        Ok(rows) => Some(rows_round(&points, &rows, x)),
+        Err(_) => None,
+    }
+}
+
+#[test]
+fn one_row_round_a_point(rt: HostRuntime) {
     for (z, count) in [(500_000, 1), (-1, 0)] {
         let x = RatPoint {
             x: 1_125_000,
@@ -178,9 +211,9 @@ fn one_row_round_a_point(rt: HostRuntime) -> Result<(), Fail> {
             z,
             w: 1_000_000,
         };
-        assert_eq!(rt; rows_round(&points, &rows, x), count);
+        let found = rows_of_list_round(rt.alloc(), &PYRAMID, x);
+        assert_eq!(rt; found, Some(count), "at {z}");
     }
-    Ok(())
 }
 
 /// Whether the list is that of the filter over all fours.
@@ -255,12 +288,29 @@ const NEARLY_STRAIGHT: [[i8; 3]; 7] = [
     [0, 3, 1],
 ];
 
-#[test]
-fn the_list_is_that_of_the_filter(rt: HostRuntime) -> Result<(), Fail> {
-    let alloc = rt.alloc();
-    for step in [1u32, 2, 5, 10] {
-        assert!(rt; is_filtered(alloc, &grid(alloc, step)?), "step {step}");
+fn is_grid_filtered(alloc: Global, step: u32) -> bool {
+    match grid(alloc, step) {
+        Ok(points) => is_filtered(alloc, &points),
+        Err(NoMemory) => false,
     }
+}
+
+fn is_set_filtered(alloc: Global, set: &[[i8; 3]]) -> bool {
+    match points(alloc, set) {
+        Ok(points) => is_filtered(alloc, &points),
+        Err(NoMemory) => false,
+    }
+}
+
+#[test]
+fn the_list_of_a_grid_is_that_of_the_filter(rt: HostRuntime) {
+    for step in [1u32, 2, 5, 10] {
+        assert!(rt; is_grid_filtered(rt.alloc(), step), "step {step}");
+    }
+}
+
+#[test]
+fn the_list_of_a_set_is_that_of_the_filter(rt: HostRuntime) {
     let sets = [
         &ON_A_SPHERE[..],
         &ON_A_SPHERE[..8],
@@ -272,9 +322,8 @@ fn the_list_is_that_of_the_filter(rt: HostRuntime) -> Result<(), Fail> {
         &NEARLY_STRAIGHT[..5],
     ];
     for (i, set) in sets.iter().enumerate() {
-        assert!(rt; is_filtered(alloc, &points(alloc, set)?), "set {i}");
+        assert!(rt; is_set_filtered(rt.alloc(), set), "set {i}");
     }
-    Ok(())
 }
 
 /// An odd number below 2^20, drawn by a linear congruential generator.
@@ -322,25 +371,38 @@ fn cloud(alloc: Global, inner: usize) -> Result<Points, NoMemory> {
     Ok(points)
 }
 
-#[test]
-fn a_cloud(rt: HostRuntime) -> Result<(), Fail> {
-    let alloc = rt.alloc();
-    let points = cloud(alloc, 2000)?;
-    assert!(rt; points.len() < 3000 && are_distinct(&points));
-    let Ok(rows) = delaunay(alloc, &points) else {
-        return Err("no list".into());
+/// How many rows the list of a cloud has.
+fn cloud_rows(alloc: Global, inner: usize) -> Option<usize> {
+    let Ok(points) = cloud(alloc, inner) else {
+        return None;
     };
-    assert_eq!(rt; rows.len(), 13_200);
-    Ok(())
+    if points.len() > 3000 || !are_distinct(&points) {
+        return None;
+    }
+    match delaunay(alloc, &points) {
+        Ok(rows) => Some(rows.len()),
+        Err(_) => None,
+    }
 }
 
-/// Whether a new point takes a slot.
+#[test]
+fn a_cloud(rt: HostRuntime) {
+    assert_eq!(rt; cloud_rows(rt.alloc(), 2000), Some(13_200));
+}
+
+/// A point that is to be added, and its number.
+#[derive(Drop)]
+struct NewPoint {
+    p: GridPoint,
+    number: u32,
+}
+
+/// Whether a slot is in the conflict zone of a new point.
 fn is_taken<L: Ledger>(
     arena: &Arena,
     points: &Points,
     s: Slot,
-    p: GridPoint,
-    number: u32,
+    new: &NewPoint,
     blank: Blank,
 ) -> bool
     requires name { blank.name ≡ L.name }
@@ -348,11 +410,11 @@ fn is_taken<L: Ledger>(
     requires some { 0 < blank.parts }
     requires mesh { IsDelaunayMesh arena.now.slots points.now (all_numbers points.now) }
     requires live { IsLive arena.now.slots s.index }
-    ensures { IsTrue result → IsTaken arena.now.slots points.now p number s.index }
+    ensures { IsTrue result → IsTaken arena.now.slots points.now new.now.p new.now.number s.index }
 {
     let _ = arena.tet(s);
     let mut steps = Steps::<L>::new(blank);
-    test_slot(arena, points, s, p, number, &mut steps)
+    test_slot(arena, points, s, new.p, new.number, &mut steps)
 }
 
 /// The cavity and the rim of a new point, grown from this slot with a counter that stands at 0.
@@ -361,91 +423,103 @@ fn grown<L: Ledger>(
     arena: &Arena,
     points: &Points,
     start: Slot,
-    p: GridPoint,
-    number: u32,
+    new: &NewPoint,
     steps: &mut Steps<L>,
 ) -> Result<(Cavity, Rim), NoMemory>
     requires mesh { IsDelaunayMesh arena.now.slots points.now (all_numbers points.now) }
     requires live { IsLive arena.now.slots start.index }
-    requires start { IsTaken arena.now.slots points.now p number start.index }
+    requires start { IsTaken arena.now.slots points.now new.now.p new.now.number start.index }
     requires steps { steps.old ≡ 0 }
     ensures few { IfOk result (λ grown. steps.new ≤ 4 * length grown.0 + 1) }
     ensures many { IfOk result (λ grown. length grown.0 ≤ steps.new) }
 {
     let _ = arena.tet(start);
-    grow_cavity(alloc, arena, points, start, p, number, steps)
+    grow_cavity(alloc, arena, points, start, new.p, new.number, steps)
 }
 
-fn grown_from<L: Ledger>(
+/// How many slots and faces they have.
+fn grown_size<L: Ledger>(
     alloc: Global,
     arena: &Arena,
     points: &Points,
     start: Slot,
-    p: GridPoint,
-    number: u32,
+    new: &NewPoint,
     blank: Blank,
-) -> Result<(Cavity, Rim), NoMemory>
+) -> Option<(usize, usize)>
     requires name { blank.name ≡ L.name }
     requires parts { blank.parts ≡ L.parts }
     requires some { 0 < blank.parts }
     requires mesh { IsDelaunayMesh arena.now.slots points.now (all_numbers points.now) }
     requires live { IsLive arena.now.slots start.index }
-    requires start { IsTaken arena.now.slots points.now p number start.index }
+    requires start { IsTaken arena.now.slots points.now new.now.p new.now.number start.index }
 {
     let mut steps = Steps::<L>::new(blank);
-    grown(alloc, arena, points, start, p, number, &mut steps)
+    match grown(alloc, arena, points, start, new, &mut steps) {
+        Ok((cavity, rim)) => Some((cavity.len(), rim.len())),
+        Err(NoMemory) => None,
+    }
 }
 
-/// How many slots and faces the cavity and the rim of a new point have, from whichever slot it is grown.
-fn sizes(
-    alloc: Global,
-    living: &Living,
-    p: GridPoint,
-    number: u32,
-) -> Result<Option<(usize, usize)>, NoMemory> {
+/// How many slots and faces the cavity and the rim of a new point have, from whichever slot it is
+/// grown.
+fn sizes(alloc: Global, living: &Living, new: &NewPoint) -> Option<(usize, usize)> {
     let (arena, points) = (living.arena(), living.points());
     let mut sizes = None;
     for i in 0..arena.slots() {
         if let Some(s) = arena.slot(i) {
-            if is_taken::<Brand>(arena, points, s, p, number, Blank::new(1)) {
-                let (cavity, rim) = grown_from::<Brand>(
-                    alloc,
-                    arena,
-                    points,
-                    s,
-                    p,
-                    number,
-                    Blank::new(1),
-                )?;
-                let found = (cavity.len(), rim.len());
-                if sizes.is_some_and(|other| other != found) {
-                    return Ok(None);
+            if is_taken::<Brand>(arena, points, s, new, Blank::new(1)) {
+                let found = grown_size::<Brand>(alloc, arena, points, s, new, Blank::new(1));
+                if sizes.is_some() && sizes != found {
+                    return None;
                 }
-                sizes = Some(found);
+                sizes = found;
             }
         }
     }
-    Ok(sizes)
+    sizes
+}
+
+/// The mesh of these points.
+fn living_of(alloc: Global, set: &[[i8; 3]]) -> Option<Living> {
+    let Ok(points) = points(alloc, set) else {
+        return None;
+    };
+    if points.len() > 1000 || !are_distinct(&points) {
+        return None;
+    }
+    match Living::new(alloc, points) {
+        Ok(living) => Some(living),
+        Err(_) => None,
+    }
+}
+
+/// How many slots and faces the cavity and the rim of a point have in the mesh of the cube.
+fn sizes_in_cube(alloc: Global, p: [i8; 3]) -> Option<(usize, usize)> {
+    match living_of(alloc, &CUBE) {
+        Some(living) => sizes(
+            alloc,
+            &living,
+            &NewPoint {
+                p: grid_point(p),
+                number: 8,
+            },
+        ),
+        None => None,
+    }
 }
 
 #[test]
-fn cavities_in_a_cube(rt: HostRuntime) -> Result<(), Fail> {
-    let alloc = rt.alloc();
-    let points = points(alloc, &CUBE)?;
-    assert!(rt; points.len() == 8 && are_distinct(&points));
-    let Ok(living) = Living::new(alloc, points) else {
-        return Err("no mesh".into());
-    };
-    // In the middle, strictly beyond a face of the cube, in the middle of one, and in its plane outside of the sphere.
+fn cavities_in_a_cube(rt: HostRuntime) {
+    // In the middle, strictly beyond a face of the cube, in the middle of one, and in its plane
+    // outside of the sphere.
     for (p, want) in [
-        ([1, 1, 1], Some((6, 12))),
-        ([3, 1, 1], Some((2, 6))),
-        ([2, 1, 1], Some((8, 14))),
-        ([2, 4, 1], Some((2, 6))),
+        ([1, 1, 1], (6, 12)),
+        ([3, 1, 1], (2, 6)),
+        ([2, 1, 1], (8, 14)),
+        ([2, 4, 1], (2, 6)),
     ] {
-        assert_eq!(rt; sizes(alloc, &living, grid_point(p), 8)?, want);
+        assert_eq!(rt; sizes_in_cube(rt.alloc(), p), Some(want));
     }
-    Ok(())
 }
 
 /// A slot that stays, with its corners.
@@ -455,18 +529,13 @@ struct Kept {
     corners: SlotCorners,
 }
 
-/// The slots that a new point does not take.
-fn not_taken(
-    alloc: Global,
-    living: &Living,
-    p: GridPoint,
-    number: u32,
-) -> Result<Vec<Kept>, NoMemory> {
+/// The slots outside of the conflict zone of a new point.
+fn not_taken(alloc: Global, living: &Living, new: &NewPoint) -> Result<Vec<Kept>, NoMemory> {
     let (arena, points) = (living.arena(), living.points());
     let mut kept = Vec::new(alloc);
     for place in 0..arena.slots() {
         if let Some(s) = arena.slot(place) {
-            if !is_taken::<Brand>(arena, points, s, p, number, Blank::new(1)) {
+            if !is_taken::<Brand>(arena, points, s, new, Blank::new(1)) {
                 let corners = arena.tet(s);
                 kept.push(Kept { place, corners })?;
             }
@@ -498,45 +567,6 @@ fn has_the_list(alloc: Global, living: &Living) -> bool {
     }
 }
 
-/// Whether the sides of the mesh are those of its rows.
-fn has_the_sides(living: &Living, rows: &TetList) -> bool {
-    for b in 0..living.points().len().min(100) as u32 {
-        for a in 0..b {
-            let want = rows
-                .as_slice()
-                .iter()
-                .any(|row| has_corner(*row, a) && has_corner(*row, b));
-            if living.has_side(a, b) != want {
-                return false;
-            }
-        }
-    }
-    true
-}
-
-#[test]
-fn points_are_added(rt: HostRuntime) -> Result<(), Fail> {
-    let alloc = rt.alloc();
-    let first = points(alloc, &[[0, 0, 0], [4, 0, 0], [0, 4, 0], [0, 0, 4]])?;
-    assert!(rt; first.len() == 4 && are_distinct(&first));
-    let Ok(mut living) = Living::new(alloc, first) else {
-        return Err("no mesh".into());
-    };
-    // In the tetrahedron, beyond a face of it, and in the plane of another.
-    for (number, p) in [(4, [1, 1, 1]), (5, [4, 4, 4]), (6, [-1, 0, 3])] {
-        let p = grid_point(p);
-        let kept = not_taken(alloc, &living, p, number)?;
-        let most = living.points().len();
-        assert!(rt; most < 100 && is_new(living.points(), most, p));
-        assert_eq!(rt; living.add_point(p)?, number);
-        assert!(rt; kept.len() > 2 && are_kept(living.arena(), &kept));
-        assert!(rt; has_the_list(alloc, &living));
-        let rows = living.list(alloc)?;
-        assert!(rt; has_the_sides(&living, &rows));
-    }
-    Ok(())
-}
-
 /// Whether two points are the ends of a side of one of the rows.
 fn is_side_of(rows: &TetList, a: u32, b: u32) -> bool {
     for row in rows.as_slice() {
@@ -547,7 +577,8 @@ fn is_side_of(rows: &TetList, a: u32, b: u32) -> bool {
     false
 }
 
-/// How many sides the mesh has among its first 64 points, each from both ends, if they are those of its rows.
+/// How many sides the mesh has among its first 64 points, each from both ends, if they are those of
+/// its rows.
 fn sides(alloc: Global, mesh: &Living) -> Option<usize> {
     let Ok(rows) = mesh.list(alloc) else {
         return None;
@@ -569,26 +600,80 @@ fn sides(alloc: Global, mesh: &Living) -> Option<usize> {
     Some(count)
 }
 
-#[test]
-fn the_sides_are_those_of_the_list(rt: HostRuntime) -> Result<(), Fail> {
-    let alloc = rt.alloc();
-    // Points of a grid of 4 by 4 by 4, in orders that go round it.
-    for step in [1u32, 7, 25] {
-        let mut points = Points::new(alloc);
-        for i in 0..64u32 {
-            let j = (i * step) % 64;
-            points.push(GridPoint {
-                x: (j % 4) as i32,
-                y: (j / 4 % 4) as i32,
-                z: (j / 16) as i32,
-            })?;
+/// Adds a point that is not there, and answers its number, if more than two slots are kept and are
+/// where they were.
+fn added(alloc: Global, living: &mut Living, p: GridPoint) -> Result<Option<u32>, NoMemory> {
+    let most = living.points().len();
+    if most > 100 || !is_new(living.points(), most, p) {
+        return Ok(None);
+    }
+    let number = most as u32;
+    let kept = not_taken(alloc, living, &NewPoint { p, number })?;
+    let number = living.add_point(p)?;
+    let stays = kept.len() > 2 && are_kept(living.arena(), &kept);
+    Ok(if stays { Some(number) } else { None })
+}
+
+/// The mesh of a tetrahedron, of which these points are added, if all is right after each.
+fn sides_after(alloc: Global, more: &[[i8; 3]]) -> Option<usize> {
+    let Some(mut living) = living_of(alloc, &[[0, 0, 0], [4, 0, 0], [0, 4, 0], [0, 0, 4]]) else {
+        return None;
+    };
+    let mut count = None;
+    for (i, p) in more.iter().enumerate() {
+        match added(alloc, &mut living, grid_point(*p)) {
+            Ok(Some(number)) if number as usize == 4 + i && has_the_list(alloc, &living) => {
+                count = sides(alloc, &living);
+            }
+            _ => return None,
         }
-        assert!(rt; points.len() < 65 && are_distinct(&points));
-        let Ok(mesh) = Living::new(alloc, points) else {
-            return Err("no mesh".into());
-        };
-        let count = sides(alloc, &mesh);
+    }
+    count
+}
+
+#[test]
+fn points_are_added(rt: HostRuntime) {
+    // In the tetrahedron, beyond a face of it, and in the plane of another.
+    for (more, want) in [
+        (&[[1, 1, 1]][..], 20),
+        (&[[1, 1, 1], [4, 4, 4]], 28),
+        (&[[1, 1, 1], [4, 4, 4], [-1, 0, 3]], 36),
+    ] {
+        assert_eq!(rt; sides_after(rt.alloc(), more), Some(want));
+    }
+}
+
+/// How many sides the mesh of a grid of 4 by 4 by 4 points has, in an order that goes round it.
+fn sides_of_grid(alloc: Global, step: u32) -> Option<usize> {
+    let Ok(points) = cubic_grid(alloc, step) else {
+        return None;
+    };
+    if points.len() > 64 || !are_distinct(&points) {
+        return None;
+    }
+    match Living::new(alloc, points) {
+        Ok(mesh) => sides(alloc, &mesh),
+        Err(_) => None,
+    }
+}
+
+fn cubic_grid(alloc: Global, step: u32) -> Result<Points, NoMemory> {
+    let mut points = Points::new(alloc);
+    for i in 0..64u32 {
+        let j = i.wrapping_mul(step) % 64;
+        points.push(GridPoint {
+            x: (j % 4) as i32,
+            y: (j / 4 % 4) as i32,
+            z: (j / 16) as i32,
+        })?;
+    }
+    Ok(points)
+}
+
+#[test]
+fn the_sides_are_those_of_the_list(rt: HostRuntime) {
+    for step in [1u32, 7, 25] {
+        let count = sides_of_grid(rt.alloc(), step);
         assert!(rt; count.is_some(), "step {step}");
     }
-    Ok(())
 }

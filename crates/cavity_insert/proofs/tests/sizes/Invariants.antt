@@ -4,5 +4,5 @@ use Rattle.cavity_insert.proofs.tests.sizes.Given as goal
 abbrev pub ghosts-is_taken : goal.ghosts-is_taken
 ghosts-is_taken a = record { name = a.blank.name; parts = a.blank.parts }
 
-abbrev pub ghosts-grown_from : goal.ghosts-grown_from
-ghosts-grown_from a = record { name = a.blank.name; parts = a.blank.parts }
+abbrev pub ghosts-grown_size : goal.ghosts-grown_size
+ghosts-grown_size a = record { name = a.blank.name; parts = a.blank.parts }
