@@ -19,12 +19,16 @@ use std::alloc::Global;
 use std::marker::Brand;
 use std::sync::ledger::{Blank, Ledger};
 use tet_ports::NoMemory;
+use thiserror::Error;
 
 /// Why there is no Delaunay list.
-#[derive(Clone, Copy, Debug, PartialEq, Eq)]
+#[derive(Clone, Copy, Debug, PartialEq, Eq, Error)]
 pub enum BuildFault {
     /// All points lie in one plane.
+    #[error("all points lie in one plane")]
     Flat,
+    /// Want of memory.
+    #[error("out of memory")]
     NoMemory,
 }
 
