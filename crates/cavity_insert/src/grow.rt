@@ -1,5 +1,5 @@
 //! The cavity of a new point: a search from one slot over neighbors in the point's conflict zone.
-ghost use Rattle.std.specs.Prelude.{◌≡◌, ℕ, ◌+◌, ◌*◌, ◌<◌, ◌≤◌, List, [], length, IfOk, OnOk};
+ghost use Rattle.std.specs.Prelude.{◌≡◌, ◌+◌, ◌*◌, ◌<◌, ◌≤◌, length, IfOk, OnOk};
 ghost use Rattle.mesh_arena.specs.Mesh.{IsLive, IsMesh, side, at};
 ghost use Rattle.mesh_arena.specs.Cavity.{slot_at};
 ghost use Rattle.point_locate.specs.Place.{AreCornersOn};

@@ -9,7 +9,7 @@ use Rattle.sign_predicates.specs.declared.tetrahedron.Corners.{Corners}
 use Rattle.geo_laws.specs.Delaunay.{point, corners}
 use Rattle.geo_laws.specs.declared.tetrahedra.Tet.{Tet as Row}
 use Rattle.insert_laws.specs.Insertion.{IsNew}
-use Rattle.mesh_arena.specs.Mesh.{SlotValue, corner_list, IsLive, IsMesh}
+use Rattle.mesh_arena.specs.Mesh.{SlotValue, corner_list}
 use Rattle.mesh_arena.specs.declared.slot.Corner.{Corner}
 use Rattle.mesh_arena.specs.declared.slot.Corner.TheVariants.{Point as Numbered, Ghost}
 use Rattle.mesh_arena.specs.declared.slot.SlotCorners.{SlotCorners}

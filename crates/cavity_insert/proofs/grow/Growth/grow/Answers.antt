@@ -1,5 +1,4 @@
 use Rattle.std.proofs.Common.{◌≡◌, List, [], ◌∷◌, ◌++◌, refl, ap, subst, ◌∙◌, length, arith}
-use Rattle.mesh_arena.specs.Mesh.{IsLive}
 use Rattle.mesh_arena.specs.declared.slot.Slot.{Slot}
 use Rattle.mesh_laws.specs.Reach.{Grown}
 use Rattle.mesh_laws.proofs.Taken.{taken_live}
