@@ -65,11 +65,19 @@ second_of_two DropX v = v.z
 second_of_two DropY v = v.z
 second_of_two DropZ v = v.y
 
+-- in the two coordinates: the determinant of two vectors, 0 where they are along one line
+abbrev pub cross_of_two : Axis → Point → Point → ℤ
+cross_of_two axis u v = first_of_two axis u *ℤ second_of_two axis v -ℤ second_of_two axis u *ℤ first_of_two axis v
+
+-- and the sum of their products, not above 0 where the angle between them is right or more
+abbrev pub dot_of_two : Axis → Point → Point → ℤ
+dot_of_two axis u v = first_of_two axis u *ℤ first_of_two axis v +ℤ second_of_two axis u *ℤ second_of_two axis v
+
 -- Whether the ray from x along the first coordinate meets the side from a to b. Its lower end belongs to a side, and its upper end doesn't.
 -- u and v lead from a and b to x.
 abbrev pub crosses_ray : Axis → Point → Point → Bool
 crosses_ray axis u v =
-    let turn = first_of_two axis u *ℤ second_of_two axis v -ℤ second_of_two axis u *ℤ first_of_two axis v in
+    let turn = cross_of_two axis u v in
     let a_is_below = int_le (pos 0) (second_of_two axis u) in
     let b_is_below = int_le (pos 0) (second_of_two axis v) in
     (a_is_below && not b_is_below && int_lt (pos 0) turn) || (b_is_below && not a_is_below && int_lt turn (pos 0))
@@ -83,12 +91,25 @@ is_on_piece ps s x =
     let v = from_to_rational (point ps s.b) x in
     is_zero_vector (cross u v) && int_le (dot u v) (pos 0)
 
+-- Whether x lies on the segment in the two coordinates: there it is on the line of the segment's ends, and not beyond one of them.
+-- How far x is from the segment along the dropped axis doesn't matter
+abbrev pub is_over_piece : List Point → Axis → Piece → RationalPoint → Bool
+is_over_piece ps axis s x =
+    let u = from_to_rational (point ps s.a) x in
+    let v = from_to_rational (point ps s.b) x in
+    is_zero (cross_of_two axis u v) && int_le (dot_of_two axis u v) (pos 0)
+
 -- the polygons with three or more corners
 abbrev pub areas : Facet → List (List ℕ)
 areas f = filter (λ p. nat_lt 2 (length p)) f.polygons
 
+-- x lies on a side of one of these
 abbrev pub is_on_side : List Point → Facet → RationalPoint → Bool
 is_on_side ps f x = list_any (λ p. list_any (λ s. is_on_piece ps s x) (sides p)) (areas f)
+
+-- in the two coordinates x lies on a side of any polygon of the facet, also of one with two corners
+abbrev pub is_over_side : List Point → Axis → Facet → RationalPoint → Bool
+is_over_side ps axis f x = list_any (λ p. list_any (λ s. is_over_piece ps axis s x) (sides p)) f.polygons
 
 -- the polygon is round x: an odd number of its sides crosses a ray from x
 abbrev pub is_round : List Point → Axis → List ℕ → RationalPoint → Bool
@@ -102,12 +123,14 @@ same a b = if a then b else not b
 abbrev pub is_round_alike : List Point → Axis → Facet → RationalPoint → RationalPoint → Bool
 is_round_alike ps axis f x y = list_all (λ p. same (is_round ps axis p x) (is_round ps axis p y)) (areas f)
 
--- x, on the facet's plane, lies on a side, or some polygons are round it and no hole point has the same polygons round it
+-- The hole point h leaves x in the facet: it lies on a side of a polygon, and so counts for nothing, or other polygons are round it than round x.
+-- Hole points are taken by the two coordinates: they are rounded, and so may be off the facet's plane
+abbrev pub keeps : List Point → Axis → Facet → RationalPoint → RationalPoint → Bool
+keeps ps axis f x h = is_over_side ps axis f h || not (is_round_alike ps axis f x h)
+
+-- x, on the facet's plane, lies on a side of a polygon with three or more corners, or such a polygon is round it and each hole point leaves it in
 abbrev pub is_within : List Point → Axis → Facet → RationalPoint → Bool
-is_within ps axis f x =
-    is_on_side ps f x
-    || list_any (λ p. is_round ps axis p x) (areas f)
-    && list_all (λ h. is_on_side ps f h || not (is_round_alike ps axis f x h)) f.holes
+is_within ps axis f x = is_on_side ps f x || list_any (λ p. is_round ps axis p x) (areas f) && list_all (keeps ps axis f x) f.holes
 
 -- x lies on the plane through these three corners, and within the facet there
 abbrev pub is_within_plane : List Point → Facet → RationalPoint → Option (ℕ × ℕ × ℕ) → Bool
