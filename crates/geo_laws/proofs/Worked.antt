@@ -1,9 +1,10 @@
 -- Small inputs whose definitions compute.
-use Rattle.std.specs.Prelude.{◌≡◌, ℕ, pos, List, [], ◌∷◌, refl}
-use Rattle.sign_predicates.specs.Point.{Point}
+use Rattle.std.specs.Prelude.{◌≡◌, ℕ, pos, true, false, List, [], ◌∷◌, map, refl}
+use Rattle.sign_predicates.specs.Point.{Point, RationalPoint}
 use Rattle.sign_predicates.specs.Orientation.{det, orient, orient_rational}
 use Rattle.sign_predicates.specs.Sphere.{in_sphere}
 use Rattle.geo_laws.specs.Delaunay.{delaunay_rows}
+use Rattle.geo_laws.specs.Facet.{Facet, in_region}
 use Rattle.geo_laws.specs.Hull.{rows_round}
 use Rattle.geo_laws.specs.declared.tetrahedra.Tet.{Tet}
 
@@ -34,3 +35,41 @@ cube = at 0 0 0 ∷ at 1 0 0 ∷ at 1 1 0 ∷ at 0 1 0 ∷ at 0 0 1 ∷ at 1 0 1
 pub delaunay_rows-cube : delaunay_rows cube ≡ row 0 1 3 4 ∷ row 1 2 3 5 ∷ row 1 3 4 5 ∷ row 2 3 5 6 ∷ row 3 4 5 7 ∷ row 3 5 6 7 ∷ []
 unfolding det orient in_sphere
 delaunay_rows-cube = refl
+
+-- ---- the region of a facet
+
+-- the corners of two squares, the one in the other
+abbrev squares : List Point
+squares = at 0 0 0 ∷ at 3 0 0 ∷ at 3 3 0 ∷ at 0 3 0 ∷ at 1 1 0 ∷ at 2 1 0 ∷ at 2 2 0 ∷ at 1 2 0 ∷ []
+
+-- the facet of the two squares, with other polygons and with hole points
+abbrev holed : List (List ℕ) → List RationalPoint → Facet
+holed others holes = record { polygons = (0 ∷ 1 ∷ 2 ∷ 3 ∷ []) ∷ (4 ∷ 5 ∷ 6 ∷ 7 ∷ []) ∷ others; holes = holes }
+
+-- the point (x/2, y/2, z/2)
+abbrev half : ℕ → ℕ → ℕ → RationalPoint
+half x y z = record { x = pos x; y = pos y; z = pos z; w = pos 2 }
+
+-- a hole point in the inner square takes out what is in that square, but not its sides
+pub in_region-holed : map (in_region squares (holed [] (half 3 3 0 ∷ []))) (half 1 1 0 ∷ half 2 3 0 ∷ half 3 3 0 ∷ half 8 2 0 ∷ []) ≡ true ∷ true ∷ false ∷ false ∷ []
+unfolding det orient_rational
+in_region-holed = refl
+
+pub in_region-whole : in_region squares (holed [] []) (half 3 3 0) ≡ true
+unfolding det orient_rational
+in_region-whole = refl
+
+-- also one off the facet's plane
+pub in_region-off_plane : in_region squares (holed [] (half 3 3 1 ∷ [])) (half 3 3 0) ≡ false
+unfolding det orient_rational
+in_region-off_plane = refl
+
+-- one over a side counts for nothing
+pub in_region-over_side : in_region squares (holed [] (half 2 3 1 ∷ [])) (half 3 3 0) ≡ true
+unfolding det orient_rational
+in_region-over_side = refl
+
+-- and so does one over the side of a polygon with two corners
+pub in_region-over_segment : in_region squares (holed ((4 ∷ 6 ∷ []) ∷ []) (half 3 3 1 ∷ [])) (half 3 3 0) ≡ true
+unfolding det orient_rational
+in_region-over_segment = refl
