@@ -69,6 +69,14 @@ rises-same R never (x ∷ xs) (y ∷ ys) (more first h) (more first' k) to from 
     later z u v e r (inr m) = m
     later z u v e r (inl d) = let s = subst (λ w. R w z) (e ∙ sym d) r in absurd (never z z s s)
 
+-- rising, by the places of the list
+pub all_pairs : {X : Type 0} (R : X → X → Type 0) (xs : List X) → Rises R xs → AllPairs R xs
+all_pairs R [] h i j d l k = absurd (omega arith)
+all_pairs R (x ∷ xs) (more first rest) zero zero d l k = absurd (omega arith)
+all_pairs R (x ∷ xs) (more first rest) zero (suc j) d l k = first (slice_index_or xs j d) (at_place xs j d (omega arith))
+all_pairs R (x ∷ xs) (more first rest) (suc i) zero d l k = absurd (omega arith)
+all_pairs R (x ∷ xs) (more first rest) (suc i) (suc j) d l k = all_pairs R xs rest i j d (omega arith) (omega arith)
+
 -- ---- lists of tetrahedra
 
 -- of two pairs in the order from the left not each is before the other
@@ -86,22 +94,13 @@ before_not_both s t h k = lex_not_both s.a t.a (lex_not_both s.b t.b (lex_not_bo
 pub before_itself : (t : Tet) → RowBefore t t → ⊥
 before_itself t h = before_not_both t t h h
 
--- rising, by the places of the list
+-- so of rows
 pub pairs_of : (rows : List Tet) → Rises RowBefore rows → AllPairs RowBefore rows
-pairs_of [] h i j d l k = absurd (omega arith)
--- rising, by the places of the list
-pairs_of (t ∷ rows) (more first rest) zero zero d l k = absurd (omega arith)
--- rising, by the places of the list
-pairs_of (t ∷ rows) (more first rest) zero (suc j) d l k = first (slice_index_or rows j d) (at_place rows j d (omega arith))
--- rising, by the places of the list
-pairs_of (t ∷ rows) (more first rest) (suc i) zero d l k = absurd (omega arith)
--- rising, by the places of the list
-pairs_of (t ∷ rows) (more first rest) (suc i) (suc j) d l k = pairs_of rows rest i j d (omega arith) (omega arith)
+pairs_of rows = all_pairs RowBefore rows
 
 -- and back
 pub rises_of : (rows : List Tet) → AllPairs RowBefore rows → Rises RowBefore rows
 rises_of [] h = none
--- and back
 rises_of (t ∷ rows) h =
     more (λ u m. let f = found_of rows u m in let l = f.within in subst (RowBefore t) (f.is t) (h 0 (suc f.place) t (omega arith) (omega arith)))
     (rises_of rows (λ i j d l k. h (suc i) (suc j) d (omega arith) (omega arith)))

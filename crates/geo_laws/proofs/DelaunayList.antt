@@ -37,10 +37,10 @@ record IsFour (n : ℕ) (t : Tet) : Type 0 where
   within_d : t.d < n
 
 -- the numbers from low up to n
-from_bounds : (low n i : ℕ) → IsMember i (numbers_from low n) → (low ≤ i) × (i < n)
+pub from_bounds : (low n i : ℕ) → IsMember i (numbers_from low n) → (low ≤ i) × (i < n)
 from_bounds low n i m = let r = range_bounds low (n - low) i m in let a = r.0 in let b = r.1 in (omega arith, omega arith)
 
-in_from : (low n i : ℕ) → low ≤ i → i < n → IsMember i (numbers_from low n)
+pub in_from : (low n i : ℕ) → low ≤ i → i < n → IsMember i (numbers_from low n)
 in_from low n i h k = in_range low (n - low) i h (omega arith)
 
 -- each of the fours is arranged, of numbers below n
