@@ -29,7 +29,8 @@ flat_facet ps f = record { polygons = corner_lists (slice_range ps f.first f.pas
 abbrev pub facets : Complex → List FlatFacet
 facets c = map (flat_facet c.polygons) c.facets
 
--- the first facet has the polygons from this one on, each further one those behind the facet before, and the last ends where the polygons end
+-- the first facet has the polygons from this one on, each further one those behind the facet before, and the last ends where the polygons
+-- end
 abbrev pub AreFollowing : ℕ → List Facet → ℕ → Type 0
 AreFollowing from [] end = from ≡ end
 AreFollowing from (f ∷ fs) end = (f.first ≡ from) × (f.first ≤ f.past) × AreFollowing f.past fs end
@@ -47,12 +48,15 @@ empty_complex = record { polygons = []; facets = []; holes = []; regions = [] }
 
 -- with a facet that has no polygon yet
 abbrev pub with_facet : Option ℤ → Complex → Complex
-with_facet marker c = record c { facets = c.facets ++ record { first = length c.polygons; past = length c.polygons; holes = []; marker = marker } ∷ [] }
+with_facet marker c =
+    record c { facets = c.facets ++ record { first = length c.polygons; past = length c.polygons; holes = []; marker = marker } ∷ [] }
 
 -- with a polygon of the last facet
 abbrev pub with_polygon : List ℕ → ℕ → Complex → Complex
-with_polygon corners line c =
-    record c { polygons = c.polygons ++ record { corners = corners; line = line } ∷ []; facets = change_last (λ f. record f { past = f.past + 1 }) c.facets }
+with_polygon corners line c = record c {
+  polygons = c.polygons ++ record { corners = corners; line = line } ∷ [];
+  facets = change_last (λ f. record f { past = f.past + 1 }) c.facets;
+}
 
 -- with a hole point of the last facet
 abbrev pub with_facet_hole : RationalPoint → Complex → Complex

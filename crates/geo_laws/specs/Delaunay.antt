@@ -21,7 +21,8 @@ HasDistinctPoints ps = (i j : ℕ) → i < j → j < length ps → point ps i �
 -- any four of the points lie in one plane, and so all do
 abbrev pub AreCoplanar : List Point → Type 0
 AreCoplanar ps =
-    (i j k l : ℕ) → i < length ps → j < length ps → k < length ps → l < length ps → orient (point ps i) (point ps j) (point ps k) (point ps l) ≡ pos 0
+    (i j k l : ℕ) → i < length ps → j < length ps → k < length ps → l < length ps
+    → orient (point ps i) (point ps j) (point ps k) (point ps l) ≡ pos 0
 
 -- the corners of a row
 abbrev pub corners : List Point → Tet → Corners
@@ -59,8 +60,8 @@ numbers_below n = range_with_len 0 n
 abbrev pub all_numbers : List Point → List ℕ
 all_numbers ps = numbers_below (length ps)
 
--- Of a positive row: it is the least even arrangement of its corners, `a b c d` or `a b d c` for rising a, b, c, d. The two least numbers stand
--- first, and which of the other two comes next decides the orientation
+-- Of a positive row: it is the least even arrangement of its corners, `a b c d` or `a b d c` for rising a, b, c, d. The two least numbers
+-- stand first, and which of the other two comes next decides the orientation
 pub record IsArranged (t : Tet) : Type 0 where
   pub first : t.a < t.b
   pub second : t.b < t.c

@@ -35,7 +35,8 @@ plane ps f =
 
 -- any four corners of the facet lie in one plane
 abbrev pub IsFlat : List Point → Facet → Type 0
-IsFlat ps f = (a b c d : ℕ) → Contains (all_corners f) a → Contains (all_corners f) b → Contains (all_corners f) c → Contains (all_corners f) d
+IsFlat ps f = (a b c d : ℕ)
+    → Contains (all_corners f) a → Contains (all_corners f) b → Contains (all_corners f) c → Contains (all_corners f) d
     → orient (point ps a) (point ps b) (point ps c) (point ps d) ≡ pos 0
 
 -- ---- two coordinates
@@ -123,12 +124,13 @@ same a b = if a then b else not b
 abbrev pub is_round_alike : List Point → Axis → Facet → RationalPoint → RationalPoint → Bool
 is_round_alike ps axis f x y = list_all (λ p. same (is_round ps axis p x) (is_round ps axis p y)) (areas f)
 
--- The hole point h leaves x in the facet: it lies on a side of a polygon, and so counts for nothing, or other polygons are round it than round x.
--- Hole points are taken by the two coordinates: they are rounded, and so may be off the facet's plane
+-- The hole point h leaves x in the facet: it lies on a side of a polygon, and so counts for nothing, or other polygons are round it than
+-- round x. Hole points are taken by the two coordinates: they are rounded, and so may be off the facet's plane
 abbrev pub keeps : List Point → Axis → Facet → RationalPoint → RationalPoint → Bool
 keeps ps axis f x h = is_over_side ps axis f h || not (is_round_alike ps axis f x h)
 
--- x, on the facet's plane, lies on a side of a polygon with three or more corners, or such a polygon is round it and each hole point leaves it in
+-- x, on the facet's plane, lies on a side of a polygon with three or more corners, or such a polygon is round it and each hole point leaves
+-- it in
 abbrev pub is_within : List Point → Axis → Facet → RationalPoint → Bool
 is_within ps axis f x = is_on_side ps f x || list_any (λ p. is_round ps axis p x) (areas f) && list_all (keeps ps axis f x) f.holes
 
@@ -173,13 +175,15 @@ abbrev pub is_facet_triangle : List Point → Facet → FacetTriangle → Bool
 is_facet_triangle ps f t =
     spans_plane ps t.a t.b t.c
     && list_all (is_on_plane ps t.a t.b t.c) (all_corners f)
-    && list_all (λ i. has_number (corner_numbers t) i || not (is_on_plane ps t.a t.b t.c i) || is_outside_circle ps t.a t.b t.c i) (numbers_below (length ps))
+    && list_all (λ i. has_number (corner_numbers t) i || not (is_on_plane ps t.a t.b t.c i) || is_outside_circle ps t.a t.b t.c i)
+    (numbers_below (length ps))
     && in_region ps f (centroid (point ps t.a) (point ps t.b) (point ps t.c))
 
 -- all ascending threes of numbers below n, ascending
 abbrev pub threes : ℕ → ℕ → List FacetTriangle
 threes facet n =
-    flat_map (λ a. flat_map (λ b. map (λ c. record { facet = facet; a = a; b = b; c = c }) (numbers_from (b + 1) n)) (numbers_from (a + 1) n)) (numbers_below n)
+    flat_map (λ a. flat_map (λ b. map (λ c. record { facet = facet; a = a; b = b; c = c }) (numbers_from (b + 1) n))
+    (numbers_from (a + 1) n)) (numbers_below n)
 
 -- the triangles of a facet, by its number
 abbrev pub facet_triangles : List Point → ℕ → Facet → List FacetTriangle

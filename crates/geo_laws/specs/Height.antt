@@ -1,6 +1,7 @@
--- The lifting map: each point of space gets a height, and the Delaunay tetrahedra are the faces of the lower hull of the lifted points. For points on one
--- sphere the heights are perturbed in the order of the numbers (simulation of simplicity), so a height is a list of numbers, compared from the left:
--- first the squared length, or any other number, as in regular triangulations; then for each point by rising number 1 for itself and 0 for every other.
+-- The lifting map: each point of space gets a height, and the Delaunay tetrahedra are the faces of the lower hull of the lifted points. For
+-- points on one sphere the heights are perturbed in the order of the numbers (simulation of simplicity), so a height is a list of numbers,
+-- compared from the left: first the squared length, or any other number, as in regular triangulations; then for each point by rising number
+-- 1 for itself and 0 for every other.
 use Rattle.std.specs.Prelude.{◌≡◌, ◌⊎◌, ℕ, zero, suc, ◌==◌, if◌then◌else◌, ℤ, pos, ◌+ℤ◌, ◌-ℤ◌, ◌*ℤ◌, ◌<ℤ◌, List, [], ◌∷◌, map, length, Contains}
 use Rattle.sign_predicates.specs.Point.{Point, RationalPoint}
 use Rattle.sign_predicates.specs.Orientation.{volume, IsPositive, side, side_rational, opposite_a, opposite_b, opposite_c, opposite_d}
@@ -26,8 +27,8 @@ places n = zero ∷ map suc (numbers_below n)
 abbrev pub lifted : List Point → ℕ → ℤ
 lifted ps i = square_length (point ps i)
 
--- At a place: how far the height of e is above the plane through the row's lifted corners, times the row's volume. The side of e at the face opposite a
--- corner is the volume with e in place of that corner, and so e's weight at it (Cramer's rule)
+-- At a place: how far the height of e is above the plane through the row's lifted corners, times the row's volume. The side of e at the
+-- face opposite a corner is the volume with e in place of that corner, and so e's weight at it (Cramer's rule)
 abbrev pub residual_at : List Point → (ℕ → ℤ) → Tet → ℕ → ℕ → ℤ
 residual_at ps first t e k =
     volume (corners ps t) *ℤ height first e k

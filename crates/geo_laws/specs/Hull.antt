@@ -1,5 +1,5 @@
--- The convex hull of points, all those of a list or those with some numbers, and lists of rows that cover it once. By Caratheodory's theorem a point
--- lies in the hull where it lies in a tetrahedron on four of the points.
+-- The convex hull of points, all those of a list or those with some numbers, and lists of rows that cover it once. By Caratheodory's
+-- theorem a point lies in the hull where it lies in a tetrahedron on four of the points.
 use Rattle.std.specs.Prelude.{◌≡◌, ℕ, List, All, count_by}
 use Rattle.sign_predicates.specs.Point.{Point, RationalPoint, EachRational}
 use Rattle.sign_predicates.specs.Orientation.{IsPositive, InClosed, OffFacePlanes, strictly_inside}
@@ -29,7 +29,8 @@ OffPlanes ps rows x = All (λ t. OffFacePlanes (corners ps t) x) rows
 abbrev pub rows_round : List Point → List Tet → RationalPoint → ℕ
 rows_round ps rows x = count_by (λ t. strictly_inside (corners ps t) x) rows
 
--- each rational point off all face planes of the rows lies strictly inside exactly one row where it is in the hull of these points, and in none where it is not
+-- each rational point off all face planes of the rows lies strictly inside exactly one row where it is in the hull of these points, and in
+-- none where it is not
 pub record CoversHullOnceAmong (ps : List Point) (ms : List ℕ) (rows : List Tet) : Type 0 where
   pub inside : EachRational (λ x. OffPlanes ps rows x → InHullAmong ps ms x → rows_round ps rows x ≡ 1)
   pub beyond : EachRational (λ x. OffPlanes ps rows x → ¬ InHullAmong ps ms x → rows_round ps rows x ≡ 0)

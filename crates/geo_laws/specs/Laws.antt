@@ -16,7 +16,8 @@ abbrev pub ThreeTermLaw : Type 0
 ThreeTermLaw = (a b c d e f : Point)
     → orient a b c d *ℤ orient a b e f -ℤ orient a b c e *ℤ orient a b d f +ℤ orient a b c f *ℤ orient a b d e ≡ pos 0
 
--- The lifting map: a further point is outside of a positive tetrahedron, ties included, exactly where its lifted height is above the tetrahedron's
+-- The lifting map: a further point is outside of a positive tetrahedron, ties included, exactly where its lifted height is above the
+-- tetrahedron's
 abbrev pub LiftLaw : Type 0
 LiftLaw = (ps : List Point) (t : Tet) (e : ℕ) → IsOn ps t → e < length ps → IsPositive (corners ps t) → ¬ Contains (numbers t) e
     → IsTrue (is_outside_of ps t e) ↔ IsLexPositive (residual ps (lifted ps) t e)
@@ -31,10 +32,13 @@ abbrev pub IsMetOrSame : List Point → Tet → Tet → Type 0
 IsMetOrSame ps s t = ProperlyMet ps (numbers s) (numbers t)
     × (SomeRational (λ x. StrictlyInside (corners ps s) x × StrictlyInside (corners ps t) x) → s ≡ t)
 
--- Power diagrams: two lowest tetrahedra, and so two Delaunay ones, are properly met, and they are equal where a rational point is strictly inside both
+-- Power diagrams: two lowest tetrahedra, and so two Delaunay ones, are properly met, and they are equal where a rational point is strictly
+-- inside both
 pub record RadicalLaw : Type 0 where
-  pub lowest : (ps : List Point) (ms : List ℕ) (first : ℕ → ℤ) (s t : Tet) → IsLowestAmong ps ms first s → IsLowestAmong ps ms first t → IsMetOrSame ps s t
-  pub delaunay : (ps : List Point) (ms : List ℕ) → AreNumbersOf ps ms → (s t : Tet) → IsDelaunayAmong ps ms s → IsDelaunayAmong ps ms t → IsMetOrSame ps s t
+  pub lowest : (ps : List Point) (ms : List ℕ) (first : ℕ → ℤ) (s t : Tet) → IsLowestAmong ps ms first s → IsLowestAmong ps ms first t
+      → IsMetOrSame ps s t
+  pub delaunay : (ps : List Point) (ms : List ℕ) → AreNumbersOf ps ms → (s t : Tet) → IsDelaunayAmong ps ms s → IsDelaunayAmong ps ms t
+      → IsMetOrSame ps s t
 
 -- y is off the plane, and on the side of x where x is off it
 pub record KeepsSide (x y : RationalPoint) (f : Triangle) : Type 0 where
@@ -42,8 +46,8 @@ pub record KeepsSide (x y : RationalPoint) (f : Triangle) : Type 0 where
   pub above : pos 0 <ℤ side_rational f x → pos 0 <ℤ side_rational f y
   pub below : side_rational f x <ℤ pos 0 → side_rational f y <ℤ pos 0
 
--- General position by perturbation: for a rational point of a closed positive tetrahedron and finitely many planes there is a rational point
--- strictly inside it and off all the planes that keeps each sign of the first that is not 0
+-- General position by perturbation: for a rational point of a closed positive tetrahedron and finitely many planes there is a rational
+-- point strictly inside it and off all the planes that keeps each sign of the first that is not 0
 abbrev pub NudgeLaw : Type 0
 NudgeLaw = (t : Corners) → IsPositive t → (planes : List Triangle) → AllByRecursion SpansPlane planes
     → EachRational (λ x. InClosed t x → SomeRational (λ y. StrictlyInside t y × AllByRecursion (KeepsSide x y) planes))
@@ -54,7 +58,8 @@ plane_through ps i j k = record { a = point ps i; b = point ps j; c = point ps k
 
 -- x is off each plane through three points with these numbers
 abbrev pub IsGeneric : List Point → List ℕ → RationalPoint → Type 0
-IsGeneric ps ms x = (i j k : ℕ) → Contains ms i → Contains ms j → Contains ms k → SpansPlane (plane_through ps i j k) → side_rational (plane_through ps i j k) x ≢ pos 0
+IsGeneric ps ms x = (i j k : ℕ) → Contains ms i → Contains ms j → Contains ms k → SpansPlane (plane_through ps i j k)
+    → side_rational (plane_through ps i j k) x ≢ pos 0
 
 -- A rational point is in the hull of points or beyond it
 abbrev pub HullLaw : Type 0
@@ -64,7 +69,8 @@ HullLaw = (ps : List Point) (ms : List ℕ) (x : RationalPoint) → InHullAmong 
 -- is strictly inside a lowest tetrahedron, and so inside a Delaunay one
 pub record LeastHeightLaw : Type 0 where
   pub lowest : (ps : List Point) (ms : List ℕ) → AreNumbersOf ps ms → (first : ℕ → ℤ)
-      → EachRational (λ x. InHullAmong ps ms x → IsGeneric ps ms x → (t : Tet) × IsLowestAmong ps ms first t × StrictlyInside (corners ps t) x)
+      → EachRational (λ x. InHullAmong ps ms x → IsGeneric ps ms x
+      → (t : Tet) × IsLowestAmong ps ms first t × StrictlyInside (corners ps t) x)
   pub delaunay : (ps : List Point) (ms : List ℕ) → AreNumbersOf ps ms
       → EachRational (λ x. InHullAmong ps ms x → IsGeneric ps ms x → (t : Tet) × IsDelaunayAmong ps ms t × StrictlyInside (corners ps t) x)
 
@@ -79,7 +85,8 @@ IsTriangulation ps rows = IsTriangulationAmong ps (all_numbers ps) rows
 
 -- The Delaunay list triangulates the hull of its points
 abbrev pub CoverLaw : Type 0
-CoverLaw = (ps : List Point) (ms : List ℕ) → AreNumbersOf ps ms → (rows : List Tet) → IsDelaunayListAmong ps ms rows → IsTriangulationAmong ps ms rows
+CoverLaw = (ps : List Point) (ms : List ℕ) → AreNumbersOf ps ms → (rows : List Tet) → IsDelaunayListAmong ps ms rows
+    → IsTriangulationAmong ps ms rows
 
 -- The list that computes is the Delaunay list
 abbrev pub DelaunayListLaw : Type 0

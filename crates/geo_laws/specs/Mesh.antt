@@ -23,7 +23,8 @@ abbrev pub PairwiseProperlyMet : List Point → List (List ℕ) → Type 0
 PairwiseProperlyMet ps simplices = AllPairs (ProperlyMet ps) simplices
 
 -- Facets are flat, the input's pieces meet properly, and so do the facet triangles and the protected pieces
-pub record IsValidComplex (input : List Point) (input_pieces : List Piece) (facets : List Facet) (ps : List Point) (ts : List FacetTriangle) (pieces : List Piece) : Type 0 where
+pub record IsValidComplex (input : List Point) (input_pieces : List Piece) (facets : List Facet) (ps : List Point) (ts : List FacetTriangle)
+    (pieces : List Piece) : Type 0 where
   pub flat : All (IsFlat input) facets
   pub pieces_meet : PairwiseProperlyMet input (map ends input_pieces)
   pub triangles_meet : PairwiseProperlyMet ps (map corner_numbers ts)
@@ -39,12 +40,17 @@ abbrev pub IsLocallyDelaunay : List Point → Tet → Tet → Type 0
 IsLocallyDelaunay ps s t = IsOutsideOf ps s t × IsOutsideOf ps t s
 
 -- a mesh of the complex: rows that fill what is not out, keep the facets as faces, and are locally Delaunay elsewhere
-pub record IsMesh (carving : Carving) (ps : List Point) (ts : List FacetTriangle) (holes : List RationalPoint) (rows : List Tet) : Type 0 where
+pub record IsMesh (carving : Carving) (ps : List Point) (ts : List FacetTriangle) (holes : List RationalPoint)
+    (rows : List Tet) : Type 0 where
   pub positive : All (λ t. IsOn ps t × IsPositive (corners ps t) × IsArranged t) rows
   pub ascending : AllPairs RowBefore rows
-  pub filled : EachRational (λ x. ¬ IsOnSomeFacet ps ts x → OffPlanes ps rows x → ¬ IsOut carving ps ts rows holes x → rows_round ps rows x ≡ 1)
-  pub empty : EachRational (λ x. ¬ IsOnSomeFacet ps ts x → OffPlanes ps rows x → IsOut carving ps ts rows holes x → rows_round ps rows x ≡ 0)
-  pub facets_kept : EachRational (λ x. (facet : ℕ) → IsOnFacet ps ts facet x → Any (λ t. InClosed (corners ps t) x) rows → ¬ IsOnRowSide ps rows x
+  pub filled : EachRational (λ x. ¬ IsOnSomeFacet ps ts x → OffPlanes ps rows x → ¬ IsOut carving ps ts rows holes x
+      → rows_round ps rows x ≡ 1)
+  pub empty : EachRational (λ x. ¬ IsOnSomeFacet ps ts x → OffPlanes ps rows x → IsOut carving ps ts rows holes x
+      → rows_round ps rows x ≡ 0)
+  pub facets_kept : EachRational (λ x. (facet : ℕ) → IsOnFacet ps ts facet x → Any (λ t. InClosed (corners ps t) x) rows
+      → ¬ IsOnRowSide ps rows x
       → Any (λ t. Any (λ face. InSimplex ps (face_numbers face) x × LiesIn ps ts facet face) (row_faces t)) rows)
-  pub locally_delaunay : AllPairs (λ s t. (face : Face) → Contains (row_faces s) face → Contains (row_faces t) face → ¬ LiesInSome ps ts face → IsLocallyDelaunay ps s t) rows
+  pub locally_delaunay : AllPairs (λ s t. (face : Face) → Contains (row_faces s) face → Contains (row_faces t) face
+      → ¬ LiesInSome ps ts face → IsLocallyDelaunay ps s t) rows
   pub properly_met : RowsProperlyMet ps rows

@@ -26,11 +26,13 @@ pub record SamePoint (x y : RationalPoint) : Type 0 where
   pub z_same : x.z *ℤ y.w ≡ y.z *ℤ x.w
 
 -- the leg meets no facet, and no side of a row but at a marked point in which the path ends
-pub record IsFreeLeg (ps : List Point) (ts : List FacetTriangle) (rows : List Tet) (ends_marked : Type 0) (x y : RationalPoint) : Type 0 where
+pub record IsFreeLeg (ps : List Point) (ts : List FacetTriangle) (rows : List Tet) (ends_marked : Type 0)
+    (x y : RationalPoint) : Type 0 where
   pub off_facets : EachRational (λ z. IsOnLeg x y z → ¬ IsOnSomeFacet ps ts z)
   pub off_sides : EachRational (λ z. IsOnLeg x y z → IsOnRowSide ps rows z → ends_marked × SamePoint z y)
 
--- From x by straight legs through the points. Each point is off all planes of the rows; a last point that is marked, as a hole point is, may lie on them
+-- From x by straight legs through the points. Each point is off all planes of the rows; a last point that is marked, as a hole point is,
+-- may lie on them
 abbrev pub IsFreePath : List Point → List FacetTriangle → List Tet → Type 0 → RationalPoint → List RationalPoint → Type 0
 IsFreePath ps ts rows marked x [] = OffPlanes ps rows x ⊎ marked
 IsFreePath ps ts rows marked x (y ∷ []) = OffPlanes ps rows x × IsFreeLeg ps ts rows marked x y × (OffPlanes ps rows y ⊎ marked)
@@ -48,7 +50,8 @@ IsJoined ps ts rows marked x y =
 abbrev pub ReachesHole : List Point → List FacetTriangle → List Tet → List RationalPoint → RationalPoint → Type 0
 ReachesHole ps ts rows holes x = Any (IsJoined ps ts rows (Unit {0}) x) holes
 
--- what is cut away: with a piecewise linear complex what is joined with the outside or a hole; where the hull is kept, what is beyond it or joined with a hole; without a complex what is beyond the hull
+-- what is cut away: with a piecewise linear complex what is joined with the outside or a hole; where the hull is kept, what is beyond it or
+-- joined with a hole; without a complex what is beyond the hull
 pub data Carving : Type 0 where
   HullOnly : Carving
   KeepHull : Carving

@@ -41,7 +41,8 @@ along a b p = dot (from_to a b) (from_to a p)
 
 -- whether p lies on the segment from a to b
 abbrev pub is_on_segment : Point → Point → Point → Bool
-is_on_segment a b p = is_zero_vector (cross (from_to a b) (from_to a p)) && int_le (pos 0) (along a b p) && int_le (along a b p) (along a b b)
+is_on_segment a b p = is_zero_vector (cross (from_to a b) (from_to a p)) && int_le (pos 0) (along a b p)
+    && int_le (along a b p) (along a b b)
 
 -- i among the others by rising key
 abbrev pub place_by : (ℕ → ℤ) → ℕ → List ℕ → List ℕ
@@ -91,7 +92,8 @@ with_midpoint ps p = ps ++ midpoint (point ps p.a) (point ps p.b) ∷ []
 
 -- the pieces with the two halves of p in its place, where the midpoint has the number m
 abbrev pub with_halves : Piece → ℕ → List Piece → List Piece
-with_halves p m pieces = flat_map (λ q. if same_ends p q then piece p.a m (p.halvings + 1) ∷ piece m p.b (p.halvings + 1) ∷ [] else q ∷ []) pieces
+with_halves p m pieces =
+    flat_map (λ q. if same_ends p q then piece p.a m (p.halvings + 1) ∷ piece m p.b (p.halvings + 1) ∷ [] else q ∷ []) pieces
 
 -- the end, where it comes before the next split
 abbrev pub end_or : ℕ → Option Piece → ProtectionEnd → (Piece → ProtectionEnd) → ProtectionEnd
@@ -103,4 +105,5 @@ end_or depth (Some p) done split = elim (p.halvings == depth) [ true ↦ GridEnd
 abbrev pub protect : ℕ → ℕ → List Point → List Piece → ProtectionEnd
 protect depth zero ps pieces = end_or depth (first_missing ps pieces) (Protected ps pieces) BudgetEnd
 protect depth (suc splits) ps pieces =
-    end_or depth (first_missing ps pieces) (Protected ps pieces) (λ p. protect depth splits (with_midpoint ps p) (with_halves p (length ps) pieces))
+    end_or depth (first_missing ps pieces) (Protected ps pieces)
+    (λ p. protect depth splits (with_midpoint ps p) (with_halves p (length ps) pieces))

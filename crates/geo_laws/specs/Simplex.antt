@@ -1,4 +1,5 @@
--- Simplices by the numbers of their corners: points, segments, triangles and tetrahedra. In a simplicial complex any two meet in a common face.
+-- Simplices by the numbers of their corners: points, segments, triangles and tetrahedra. In a simplicial complex any two meet in a common
+-- face.
 use Rattle.std.specs.Prelude.{◌≡◌, ℕ, ◌<◌, ℤ, pos, ◌+ℤ◌, ◌*ℤ◌, List, [], ◌∷◌, filter, sum_by, ◌==◌, Bool, AllPairs}
 use Rattle.std.specs.List.{list_any}
 use Rattle.sign_predicates.specs.Point.{Point, RationalPoint, EachRational}

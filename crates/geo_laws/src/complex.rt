@@ -1,3 +1,4 @@
+//! Piecewise linear complexes, the pieces of their segments and the triangles of their facets.
 ghost use Rattle.std.specs.Prelude.{◌≡◌, ◌<◌, ◌≤◌, ◌-◌, ◌^◌, length, slice_index, HoldsAt, OnOk, OnErr};
 ghost use Rattle.geo_laws.specs.Complex.{AreFollowing, empty_complex, with_facet, with_polygon, with_facet_hole, with_hole, with_region};
 
@@ -6,7 +7,8 @@ use std::alloc::Global;
 use std::marker::Model;
 use tet_ports::{Bytes, Items, NoMemory};
 
-/// A subsegment between two points by their numbers, which are places in a list, from 0, and how often a segment was halved for it.
+/// A subsegment between two points by their numbers, which are places in a list, from 0, and how
+/// often a segment was halved for it.
 #[derive(Clone, Copy, Debug, PartialEq, Eq)]
 pub struct Piece {
     pub a: u32,
@@ -14,7 +16,8 @@ pub struct Piece {
     pub halvings: u32,
 }
 
-/// A triangle of a facet: the facet's place in the complex, from 0, and the numbers of the corners, ascending.
+/// A triangle of a facet: the facet's place in the complex, from 0, and the numbers of the corners,
+/// ascending.
 #[derive(Clone, Copy, Debug, PartialEq, Eq, PartialOrd, Ord)]
 pub struct FacetTriangle {
     pub facet: u32,
@@ -35,7 +38,8 @@ pub type FacetTriangles = Items<FacetTriangle>;
 /// A list of rational points.
 pub type RatPoints = Items<RatPoint>;
 
-/// A facet of a complex: its polygons are those from `first` to before `past`, by their places in the complex, from 0.
+/// A facet of a complex: its polygons are those from `first` to before `past`, by their places in
+/// the complex, from 0.
 #[derive(Drop)]
 pub struct Facet {
     pub first: u32,
@@ -52,7 +56,8 @@ pub struct Region {
     pub attribute: Bytes,
 }
 
-// The corners of a polygon, from `first` to before `past` in the list of all corners, and the line that states it.
+// The corners of a polygon, from `first` to before `past` in the list of all corners, and the line
+// that states it.
 #[derive(Clone, Copy)]
 struct Span {
     first: usize,
@@ -60,8 +65,9 @@ struct Span {
     line: usize,
 }
 
-/// A piecewise linear complex: polygons in file order, each of some facet; facets, each with its polygons, hole points and marker; hole points; and
-/// regions. Points are named by their places in a list, from 0; lines count from 1. Contracts see the lists of these.
+/// A piecewise linear complex: polygons in file order, each of some facet; facets, each with its
+/// polygons, hole points and marker; hole points; and regions. Points are named by their places in
+/// a list, from 0; lines count from 1. Contracts see the lists of these.
 #[derive(Drop)]
 pub struct Complex {
     // The corners of all polygons, one polygon after the other.
@@ -80,7 +86,12 @@ impl Model for Complex {
 
     ghost use Rattle.geo_laws.specs.Stored.{polygons_at, IsStored};
 
-    ghost view = { λ c. record { polygons = polygons_at c.corners c.polygons; facets = c.facets.items; holes = c.holes; regions = c.regions } };
+    ghost view = { λ c. record {
+      polygons = polygons_at c.corners c.polygons;
+      facets = c.facets.items;
+      holes = c.holes;
+      regions = c.regions;
+    } };
 
     ghost invariant = { λ c. IsStored c.corners c.polygons c.facets.items c.regions };
 }
@@ -116,7 +127,8 @@ impl Complex {
         Ok(())
     }
 
-    /// Appends a polygon to the last facet: its corners, by their numbers, and the line that states it.
+    /// Appends a polygon to the last facet: its corners, by their numbers, and the line that states
+    /// it.
     pub fn add_polygon(&mut self, corners: &[u32], line: usize) -> Result<(), NoMemory>
         requires facet { 0 < length self.old.facets }
         requires few { length self.old.polygons < 2 ^ 32 - 1 }
@@ -204,7 +216,8 @@ impl Complex {
         self.corners(polygon).len()
     }
 
-    /// A corner of the polygon at this place, by its place in the polygon: both from 0. It is the number of a point.
+    /// A corner of the polygon at this place, by its place in the polygon: both from 0. It is the
+    /// number of a point.
     pub fn corner(&self, polygon: u32, i: usize) -> u32
         requires there { polygon < length self.now.polygons }
         requires place { HoldsAt (λ p. i < length p.corners) self.now.polygons polygon }

@@ -1,3 +1,4 @@
+//! The faces and the sides of tetrahedra, each with its numbers ascending.
 ghost use Rattle.std.specs.Prelude.{◌≡◌};
 ghost use Rattle.geo_laws.specs.Faces.{face_of, side_of, row_faces, row_sides};
 
