@@ -1,11 +1,12 @@
 -- Small inputs whose definitions compute.
-use Rattle.std.specs.Prelude.{◌≡◌, ℕ, pos, true, false, List, [], ◌∷◌, map, refl}
+use Rattle.std.specs.Prelude.{◌≡◌, ℕ, pos, true, false, List, [], ◌∷◌, ◌++◌, map, refl}
 use Rattle.sign_predicates.specs.Point.{Point, RationalPoint}
 use Rattle.sign_predicates.specs.Orientation.{det, orient, orient_rational}
 use Rattle.sign_predicates.specs.Sphere.{in_sphere}
 use Rattle.geo_laws.specs.Delaunay.{delaunay_rows}
 use Rattle.geo_laws.specs.Facet.{Facet, in_region}
 use Rattle.geo_laws.specs.Hull.{rows_round}
+use Rattle.geo_laws.specs.Segment.{piece, segments, pieces, protect, Protected, GridEnd, BudgetEnd}
 use Rattle.geo_laws.specs.declared.tetrahedra.Tet.{Tet}
 
 abbrev at : ℕ → ℕ → ℕ → Point
@@ -73,3 +74,25 @@ in_region-over_side = refl
 pub in_region-over_segment : in_region squares (holed ((4 ∷ 6 ∷ []) ∷ []) (half 3 3 1 ∷ [])) (half 3 3 0) ≡ true
 unfolding det orient_rational
 in_region-over_segment = refl
+
+-- ---- protection
+
+-- a segment from 0 to 1, and points near it that keep its halves from being sides
+abbrev needle : List Point
+needle = at 0 1 1 ∷ at 16 1 1 ∷ at 4 2 1 ∷ at 4 0 2 ∷ at 4 0 0 ∷ at 12 2 1 ∷ at 12 0 2 ∷ at 12 0 0 ∷ []
+
+-- both halves are halved again
+pub protect-needle : protect 2 3 needle (pieces needle (segments ((0 ∷ 1 ∷ []) ∷ [])))
+    ≡ Protected (needle ++ at 8 1 1 ∷ at 4 1 1 ∷ at 12 1 1 ∷ []) (piece 0 9 2 ∷ piece 9 8 2 ∷ piece 8 10 2 ∷ piece 10 1 2 ∷ [])
+unfolding det orient in_sphere
+protect-needle = refl
+
+-- not where a segment may be halved once
+pub protect-coarse : protect 1 3 needle (pieces needle (segments ((0 ∷ 1 ∷ []) ∷ []))) ≡ GridEnd (piece 0 8 1)
+unfolding det orient in_sphere
+protect-coarse = refl
+
+-- and the last of three splits is missing where there may be two
+pub protect-budget : protect 2 2 needle (pieces needle (segments ((0 ∷ 1 ∷ []) ∷ []))) ≡ BudgetEnd (piece 8 1 1)
+unfolding det orient in_sphere
+protect-budget = refl
