@@ -5,3 +5,4 @@ pub mod Gathered
 pub mod FacetFaces
 pub mod Marked
 pub mod Spans
+pub mod EleTexts

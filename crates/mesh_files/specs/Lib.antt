@@ -1,4 +1,5 @@
 pub mod FaceRows
 pub mod FacetFaces
 pub mod Gathered
+pub mod Laws
 pub mod Texts
