@@ -14,8 +14,8 @@ use Rattle.path_laws.specs.Places.{IsFilling, IsKeptPart}
 use Rattle.path_laws.specs.Flood.{IsFacetFace, HoldsOnFacet, IsHoleSeed, IsSeed, IsReached, IsLeftByFlood, IsDecidedByFlood, carving_of}
 use Rattle.path_laws.proofs.FacetFaces.{law_two_rows}
 use Rattle.path_laws.proofs.FloodChains.{law_carve, law_region}
-use Rattle.hole_carve.specs.declared.pairs.Across.{Across}
-use Rattle.hole_carve.specs.Links.{row_at}
+use Rattle.incidence.specs.declared.pairs.Across.{Across}
+use Rattle.incidence.specs.Links.{row_at}
 use Rattle.hole_carve.specs.Flooding.{is_marked, IsFlooded, IsFloodedFrom}
 use Rattle.hole_carve.specs.Ways.{face_opposite}
 use Rattle.hole_carve.specs.Seeds.{HoldsOn, HoldsOnSome, Holds, IsSeedAt, BeginsAt}

@@ -4,7 +4,7 @@ use Rattle.std.specs.Prelude.{slice_index_or, Contains}
 use Rattle.std.specs.List.{range_with_len}
 use Rattle.geo_laws.proofs.Members.{IsMember, in_range, found_of}
 use Rattle.path_laws.proofs.Room.{AllDiffer, none, more, no_room}
-use Rattle.hole_carve.specs.declared.pairs.Across.{Across}
+use Rattle.incidence.specs.declared.pairs.Across.{Across}
 use Rattle.hole_carve.specs.Flooding.{way, across_at, IsWay, is_marked, IsFlooded, IsFloodedFrom, begins, goes_on, comes_in, queue_at, IsFilled, Extends, IsDone}
 
 pub extends_itself : (marks : List Bool) (queue : List ℕ) → Extends marks queue marks queue

@@ -7,7 +7,7 @@ use Rattle.geo_laws.specs.declared.tetrahedra.Tet.{Tet}
 use Rattle.geo_laws.proofs.Ascending.{before_itself}
 use Rattle.path_laws.specs.Places.{KeepsOut}
 use Rattle.path_laws.proofs.KeptPart.{law_kept_part}
-use Rattle.hole_carve.specs.Links.{row_at}
+use Rattle.incidence.specs.Links.{row_at}
 use Rattle.hole_carve.specs.Marks.{mark_at, region_point, IsInRegion, IsFirstOf, IsPlaceFrom, KeptMarksLaw}
 use Rattle.hole_carve.proofs.Carved.{listed, numbered}
 use Rattle.hole_carve.proofs.Marked.{first_as}

@@ -7,13 +7,5 @@ pub mod Reached
 pub mod Steps
 pub mod FacetFaces
 pub mod Flooding
-pub mod Orders
-pub mod Firsts
-pub mod Gathered
-pub mod Linked
-pub mod Partners
-pub mod Runs
-pub mod Settled
-pub mod SortedRuns
 pub mod Marked
 pub mod KeptMarks

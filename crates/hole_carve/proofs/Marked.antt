@@ -7,8 +7,8 @@ use Rattle.geo_laws.specs.declared.tetrahedra.Tet.{Tet}
 use Rattle.geo_laws.specs.declared.complex.FacetTriangle.{FacetTriangle}
 use Rattle.geo_laws.specs.declared.complex.Region.{Region}
 use Rattle.geo_laws.proofs.Corners.{same_or_not}
-use Rattle.hole_carve.specs.declared.pairs.Across.{Across}
-use Rattle.hole_carve.specs.Links.{row_at}
+use Rattle.incidence.specs.declared.pairs.Across.{Across}
+use Rattle.incidence.specs.Links.{row_at}
 use Rattle.hole_carve.specs.Flooding.{is_marked, queue_at, IsFlooded, IsFloodedFrom, IsFilled, Extends}
 use Rattle.hole_carve.specs.Seeds.{IsSeedAt}
 use Rattle.hole_carve.specs.Marks.{mark_at, region_point, IsInRegion, IsFirstOf, AreMarks, AreNumbered, AreRegionSeeds, IsPutFrom}

@@ -4,9 +4,9 @@ use Rattle.std.specs.Prelude.{slice_index_or}
 use Rattle.std.specs.List.{enumerate_from}
 use Rattle.geo_laws.specs.declared.faces.Face.{Face}
 use Rattle.geo_laws.specs.declared.tetrahedra.Tet.{Tet}
-use Rattle.hole_carve.specs.declared.pairs.Across.{Across}
-use Rattle.hole_carve.specs.Links.{row_at}
-use Rattle.hole_carve.specs.Pairs.{across_of, pairs_of}
+use Rattle.incidence.specs.declared.pairs.Across.{Across}
+use Rattle.incidence.specs.Links.{row_at}
+use Rattle.incidence.specs.Pairs.{across_of, pairs_of}
 use Rattle.hole_carve.specs.Ways.{AreWaysThrough}
 
 at_numbered : (f : ℕ × Tet → Across) (from : ℕ) (rows : List Tet) (i : ℕ) (d : Across) (e : Tet) → i < length rows → slice_index_or (map f (enumerate_from from rows)) i d ≡ f (from + i, slice_index_or rows i e)

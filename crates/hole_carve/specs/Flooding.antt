@@ -1,6 +1,6 @@
 -- A flood over rows by their places in a list; the place past the last row is for what lies beyond the hull.
 use Rattle.std.specs.Prelude.{◌≡◌, ◌≢◌, ℕ, ◌+◌, ◌<◌, ◌≤◌, ◌==◌, Bool, true, false, if◌then◌else◌, Option, Some, None, List, length, slice_index_or, Contains}
-use Rattle.hole_carve.specs.declared.pairs.Across.{Across}
+use Rattle.incidence.specs.declared.pairs.Across.{Across}
 
 -- what one comes to through the face opposite a corner
 abbrev pub way : Across → ℕ → Option ℕ

@@ -1,8 +1,3 @@
-pub mod Gathered
-pub mod Links
-pub mod Pairs
-pub mod Runs
-pub mod Uses
 pub mod Flooding
 pub mod Ways
 pub mod Seeds

@@ -9,8 +9,8 @@ use Rattle.geo_laws.specs.declared.tetrahedra.Tet.{Tet}
 use Rattle.geo_laws.specs.declared.complex.FacetTriangle.{FacetTriangle}
 use Rattle.geo_laws.specs.declared.complex.Region.{Region}
 use Rattle.path_laws.specs.Places.{IsFilling, IsKeptPart}
-use Rattle.hole_carve.specs.declared.pairs.Across.{Across}
-use Rattle.hole_carve.specs.Links.{row_at}
+use Rattle.incidence.specs.declared.pairs.Across.{Across}
+use Rattle.incidence.specs.Links.{row_at}
 use Rattle.hole_carve.specs.Flooding.{is_marked, queue_at, IsFloodedFrom}
 use Rattle.hole_carve.specs.Seeds.{IsSeedAt}
 
@@ -31,9 +31,11 @@ IsFirstOf P count None = (j : ℕ) → j < count → ¬ P j
 IsFirstOf P count (Some k) = (k < count) × P k × ((j : ℕ) → j < k → ¬ P j)
 
 -- each row has the number of the first region point that a free path joins with it, or none
-pub record AreMarks (ps : List Point) (ts : List FacetTriangle) (rows : List Tet) (regions : List Region) (marks : List (Option ℕ)) : Type 0 where
+pub record AreMarks (ps : List Point) (ts : List FacetTriangle) (rows : List Tet) (regions : List Region)
+    (marks : List (Option ℕ)) : Type 0 where
   pub long : length marks ≡ length rows
-  pub each : (i : ℕ) → i < length rows → IsFirstOf (λ k. IsInRegion ps ts rows (region_point regions k) (row_at rows i)) (length regions) (mark_at marks i)
+  pub each : (i : ℕ) → i < length rows
+      → IsFirstOf (λ k. IsInRegion ps ts rows (region_point regions k) (row_at rows i)) (length regions) (mark_at marks i)
 
 -- each row of the part has the mark that it has in the whole list
 pub record AreKeptMarks (whole : List Tet) (marks : List (Option ℕ)) (part : List Tet) (kept : List (Option ℕ)) : Type 0 where
@@ -42,7 +44,8 @@ pub record AreKeptMarks (whole : List Tet) (marks : List (Option ℕ)) (part : L
 
 -- the marks that the rows of the kept part have in the whole list are those that they have in the part alone
 abbrev pub KeptMarksLaw : Type 0
-KeptMarksLaw = (carving : Carving) (ps : List Point) (ts : List FacetTriangle) (whole : List Tet) (holes : List RationalPoint) (regions : List Region) (part : List Tet) (marks kept : List (Option ℕ))
+KeptMarksLaw = (carving : Carving) (ps : List Point) (ts : List FacetTriangle) (whole : List Tet) (holes : List RationalPoint)
+    (regions : List Region) (part : List Tet) (marks kept : List (Option ℕ))
     → IsFilling ps ts whole → All (λ h. pos 0 <ℤ h.w) holes → All (λ r. pos 0 <ℤ r.at.w) regions → IsKeptPart carving ps ts whole holes part
     → AreMarks ps ts whole regions marks → AreKeptMarks whole marks part kept → AreMarks ps ts part regions kept
 
@@ -51,7 +54,8 @@ KeptMarksLaw = (carving : Carving) (ps : List Point) (ts : List FacetTriangle) (
 -- each row has the number of the first of some region points whose flood comes to it
 abbrev pub AreNumbered : List Point → List Face → List Tet → List Across → List Region → ℕ → List (Option ℕ) → Type 0
 AreNumbered ps closed rows ways regions count marks =
-    (i : ℕ) → i < length rows → IsFirstOf (λ k. IsFloodedFrom ways (IsSeedAt ps closed rows (region_point regions k)) i) count (mark_at marks i)
+    (i : ℕ) → i < length rows
+        → IsFirstOf (λ k. IsFloodedFrom ways (IsSeedAt ps closed rows (region_point regions k)) i) count (mark_at marks i)
 
 -- a number that is put in at the rows that stand in a queue from one place to before another
 pub record IsPutFrom (queue : List ℕ) (from past number : ℕ) (old new : List (Option ℕ)) : Type 0 where
@@ -61,7 +65,8 @@ pub record IsPutFrom (queue : List ℕ) (from past number : ℕ) (old new : List
 
 -- at each place a flood begins where one from some of the region points does
 abbrev pub AreRegionSeeds : List Point → List Face → List Tet → List Region → ℕ → List Bool → Type 0
-AreRegionSeeds ps closed rows regions count seeds = (i : ℕ) → (is_marked seeds i ≡ true) ↔ ((k : ℕ) × (k < count) × IsSeedAt ps closed rows (region_point regions k) i)
+AreRegionSeeds ps closed rows regions count seeds = (i : ℕ)
+    → (is_marked seeds i ≡ true) ↔ ((k : ℕ) × (k < count) × IsSeedAt ps closed rows (region_point regions k) i)
 
 -- the first place from one on where the rows have a row, or their end
 pub record IsPlaceFrom (rows : List Tet) (row : Tet) (from place : ℕ) : Type 0 where

@@ -5,12 +5,13 @@ use Rattle.sign_predicates.specs.Orientation.{InClosed, side_rational, opposite_
 use Rattle.geo_laws.specs.Delaunay.{corners}
 use Rattle.geo_laws.specs.declared.faces.Face.{Face}
 use Rattle.geo_laws.specs.declared.tetrahedra.Tet.{Tet}
-use Rattle.hole_carve.specs.Links.{row_at}
+use Rattle.incidence.specs.Links.{row_at}
 use Rattle.hole_carve.specs.Ways.{face_opposite}
 
 -- the closed row holds the point, on the plane of a face that is closed
 abbrev pub HoldsOn : List Point → List Face → Tet → RationalPoint → Type 0
-HoldsOn ps closed t x = InClosed (corners ps t) x × ((k : ℕ) × (k < 4) × (side_rational (opposite_face (corners ps t) k) x ≡ pos 0) × Contains closed (face_opposite t k))
+HoldsOn ps closed t x = InClosed (corners ps t) x
+    × ((k : ℕ) × (k < 4) × (side_rational (opposite_face (corners ps t) k) x ≡ pos 0) × Contains closed (face_opposite t k))
 
 -- the closed row at a place holds the point
 abbrev pub Holds : List Point → List Tet → RationalPoint → ℕ → Type 0

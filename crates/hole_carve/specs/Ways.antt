@@ -3,9 +3,9 @@ use Rattle.std.specs.Prelude.{◌≡◌, ℕ, ◌<◌, Option, Some, None, List,
 use Rattle.geo_laws.specs.Faces.{row_faces}
 use Rattle.geo_laws.specs.declared.faces.Face.{Face}
 use Rattle.geo_laws.specs.declared.tetrahedra.Tet.{Tet}
-use Rattle.hole_carve.specs.declared.pairs.Across.{Across}
-use Rattle.hole_carve.specs.Links.{row_at}
-use Rattle.hole_carve.specs.Pairs.{across_of}
+use Rattle.incidence.specs.declared.pairs.Across.{Across}
+use Rattle.incidence.specs.Links.{row_at}
+use Rattle.incidence.specs.Pairs.{across_of}
 use Rattle.hole_carve.specs.Flooding.{way, across_at}
 
 -- the partner, or what lies beyond the hull
@@ -29,4 +29,5 @@ AreWaysThrough closed t across beyond x = (k : ℕ) → k < 4 → IsWayThrough c
 -- the ways from all rows
 pub record AreWays (closed : List Face) (rows : List Tet) (ways : List Across) : Type 0 where
   pub long : length ways ≡ length rows
-  pub each : (i : ℕ) → i < length rows → AreWaysThrough closed (row_at rows i) (across_of rows i (row_at rows i)) (length rows) (across_at ways i)
+  pub each : (i : ℕ) → i < length rows
+      → AreWaysThrough closed (row_at rows i) (across_of rows i (row_at rows i)) (length rows) (across_at ways i)

@@ -1,4 +1,6 @@
-ghost use Rattle.std.specs.Prelude.{pos, ◌<ℤ◌, ◌≡◌, ◌<◌, ◌≤◌, ◌↔◌, ◌⊎◌, ◌+◌, ℕ, true, false, AllPairs, All, Any, length, take, IfOk, OnOk};
+//! The tetrahedra that are left when the outside and the holes are cut away.
+ghost use Rattle.std.specs.Prelude.{pos, ◌<ℤ◌, ◌≡◌, ◌<◌, ◌≤◌, ◌↔◌, ◌⊎◌, ◌+◌, ℕ, true, false};
+ghost use Rattle.std.specs.Prelude.{AllPairs, All, Any, length, take, IfOk, OnOk};
 ghost use Rattle.sign_predicates.specs.Point.{RationalPoint};
 ghost use Rattle.geo_laws.specs.Delaunay.{IsOn, RowBefore};
 ghost use Rattle.geo_laws.specs.Faces.{FaceBefore};
@@ -10,7 +12,7 @@ ghost use Rattle.hole_carve.specs.Seeds.{BeginsAt};
 
 use crate::facet_faces::{FacetFaces, facet_faces};
 use crate::flood::flood;
-use crate::pairs::pair_faces;
+use incidence::pair_faces;
 use crate::seeds::mark_seeds;
 use crate::ways::ways_of;
 use geo_laws::{FacetTriangles, Points, RatPoints, TetList};
@@ -48,7 +50,9 @@ fn mark_hull(list: &TetList, keep_hull: bool, seeds: &mut [bool])
     requires long { length seeds.old ≡ length list.now + 1 }
     requires clear { (i : ℕ) → is_marked seeds.old i ≡ false }
     ensures long { length seeds.new ≡ length list.now + 1 }
-    ensures marked { (i : ℕ) → (is_marked seeds.new i ≡ true) ↔ ((keep_hull ≡ false) × (i ≡ length list.now)) }
+    ensures marked {
+      (i : ℕ) → (is_marked seeds.new i ≡ true) ↔ ((keep_hull ≡ false) × (i ≡ length list.now))
+    }
 {
     if keep_hull {
         return;
@@ -69,9 +73,15 @@ fn mark_holes(
     requires on { All (IsOn points.now) list.now }
     requires ascending { AllPairs FaceBefore closed.now }
     requires long { length seeds.old ≡ length list.now + 1 }
-    requires marked { (i : ℕ) → (is_marked seeds.old i ≡ true) ↔ BeginsAt keep_hull points.now closed.now list.now holes.now 0 i }
+    requires marked {
+      (i : ℕ) → (is_marked seeds.old i ≡ true)
+        ↔ BeginsAt keep_hull points.now closed.now list.now holes.now 0 i
+    }
     ensures long { OnOk result (length seeds.new ≡ length list.now + 1) }
-    ensures marked { OnOk result ((i : ℕ) → (is_marked seeds.new i ≡ true) ↔ BeginsAt keep_hull points.now closed.now list.now holes.now (length holes.now) i) }
+    ensures marked {
+      OnOk result ((i : ℕ) → (is_marked seeds.new i ≡ true)
+        ↔ BeginsAt keep_hull points.now closed.now list.now holes.now (length holes.now) i)
+    }
 {
     for at in 0..holes.len() {
         mark_seeds(alloc, points, list, closed, holes.at(at), seeds)?;
@@ -79,7 +89,8 @@ fn mark_holes(
     Ok(())
 }
 
-/// Marks where a flood begins that carves: beyond the hull if that isn't kept, and at each hole point.
+/// Marks where a flood begins that carves: beyond the hull if that isn't kept, and at each hole
+/// point.
 fn mark_all(
     alloc: Global,
     points: &Points,
@@ -94,7 +105,10 @@ fn mark_all(
     requires long { length seeds.old ≡ length list.now + 1 }
     requires clear { (i : ℕ) → is_marked seeds.old i ≡ false }
     ensures long { OnOk result (length seeds.new ≡ length list.now + 1) }
-    ensures marked { OnOk result ((i : ℕ) → (is_marked seeds.new i ≡ true) ↔ BeginsAt keep_hull points.now closed.now list.now holes.now (length holes.now) i) }
+    ensures marked {
+      OnOk result ((i : ℕ) → (is_marked seeds.new i ≡ true)
+        ↔ BeginsAt keep_hull points.now closed.now list.now holes.now (length holes.now) i)
+    }
 {
     mark_hull(list, keep_hull, seeds);
     mark_holes(alloc, points, list, closed, holes, keep_hull, seeds)
@@ -112,7 +126,11 @@ fn seeds_of(
     requires on { All (IsOn points.now) list.now }
     requires ascending { AllPairs FaceBefore closed.now }
     ensures long { IfOk result (λ seeds. length seeds.items ≡ length list.now + 1) }
-    ensures marked { IfOk result (λ seeds. (i : ℕ) → (is_marked seeds.items i ≡ true) ↔ BeginsAt keep_hull points.now closed.now list.now holes.now (length holes.now) i) }
+    ensures marked {
+      IfOk result (λ seeds. (i : ℕ)
+        → (is_marked seeds.items i ≡ true)
+        ↔ BeginsAt keep_hull points.now closed.now list.now holes.now (length holes.now) i)
+    }
 {
     let mut seeds = Vec::new(alloc);
     seeds.resize(list.len() + 1, false)?;
@@ -120,7 +138,8 @@ fn seeds_of(
     Ok(seeds)
 }
 
-/// The tetrahedra that carving keeps: those whose inner points no free path joins to a hole point, nor to what lies beyond the hull where that isn't kept.
+/// The tetrahedra that carving keeps: those whose inner points no free path joins to a hole point,
+/// nor to what lies beyond the hull where that isn't kept.
 pub fn carve(
     alloc: Global,
     points: &Points,
@@ -131,8 +150,13 @@ pub fn carve(
 ) -> Result<TetList, NoMemory>
     requires filling { IsFilling points.now triangles.now list.now }
     requires holes { All (λ h. pos 0 <ℤ h.w) holes.now }
-    ensures kept { IfOk result (λ rows. IsKeptPart (carving_of keep_hull) points.now triangles.now list.now holes.now rows) }
-    ensures ascending { AllPairs RowBefore list.now → IfOk result (λ rows. AllPairs RowBefore rows) }
+    ensures kept {
+      IfOk result (λ rows. IsKeptPart
+        (carving_of keep_hull) points.now triangles.now list.now holes.now rows)
+    }
+    ensures ascending {
+      AllPairs RowBefore list.now → IfOk result (λ rows. AllPairs RowBefore rows)
+    }
 {
     let closed = facet_faces(alloc, triangles)?;
     let pairs = pair_faces(alloc, list)?;

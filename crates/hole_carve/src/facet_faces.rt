@@ -1,3 +1,4 @@
+//! The facet triangles as faces, in the order in which they are looked up.
 ghost use Rattle.std.specs.Prelude.{◌≡◌, ◌↔◌, true, AllPairs, Contains, IfOk};
 ghost use Rattle.geo_laws.specs.Faces.{FaceBefore};
 ghost use Rattle.geo_laws.specs.declared.faces.Face.{Face};
@@ -12,7 +13,9 @@ pub(crate) type FacetFaces = Items<Face>;
 
 /// The triangles as faces.
 pub(crate) fn facet_faces(alloc: Global, triangles: &FacetTriangles) -> Result<FacetFaces, NoMemory>
-    ensures exactly { IfOk result (λ faces. (f : Face) → Contains faces f ↔ IsFacetFace triangles.now f) }
+    ensures exactly {
+      IfOk result (λ faces. (f : Face) → Contains faces f ↔ IsFacetFace triangles.now f)
+    }
     ensures ascending { IfOk result (λ faces. AllPairs FaceBefore faces) }
 {
     let mut faces = FacetFaces::with_capacity(alloc, triangles.len())?;

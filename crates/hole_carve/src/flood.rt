@@ -1,7 +1,11 @@
-ghost use Rattle.std.specs.Prelude.{◌≡◌, ◌↔◌, ◌+◌, ◌<◌, ◌≤◌, ℕ, true, length, IfOk, OnOk, Option, Some};
-ghost use Rattle.hole_carve.specs.Flooding.{way, across_at, IsWay, is_marked, IsFlooded, IsFilled, Extends, queue_at, LeadsWithin, IsClosedAt, IsClosedBeyond, IsDone};
+//! A flood over the tetrahedra and what lies beyond the hull, breadth first.
+ghost use Rattle.std.specs.Prelude.{◌≡◌, ◌↔◌, ◌+◌, ◌<◌, ◌≤◌, ℕ, true, length, IfOk, OnOk, Option};
+ghost use Rattle.std.specs.Prelude.{Some};
+ghost use Rattle.hole_carve.specs.Flooding.{way, across_at, IsWay, is_marked, IsFlooded, IsFilled};
+ghost use Rattle.hole_carve.specs.Flooding.{Extends, queue_at, LeadsWithin, IsClosedAt};
+ghost use Rattle.hole_carve.specs.Flooding.{IsClosedBeyond, IsDone};
 
-use crate::pairs::Across;
+use incidence::Across;
 use std::alloc::Global;
 use tet_ports::NoMemory;
 
@@ -92,7 +96,9 @@ fn reach_back(
     requires comes { IsFlooded ways.now seeds.now (length ways.now) }
     requires filled { IsFilled ways.now seeds.now marks.old queue.old.items }
     ensures filled { OnOk result (IsFilled ways.now seeds.now marks.new queue.new.items) }
-    ensures reached { OnOk result (IsWay ways.now row (length ways.now) → is_marked marks.new row ≡ true) }
+    ensures reached {
+      OnOk result (IsWay ways.now row (length ways.now) → is_marked marks.new row ≡ true)
+    }
     ensures grown { OnOk result (Extends marks.old queue.old.items marks.new queue.new.items) }
 {
     if leads_to(ways[row], ways.len()) {
@@ -144,7 +150,8 @@ fn reach_next(
     reach_from_beyond(ways, seeds, marks, queue)
 }
 
-/// Marks the places that a flood comes to. Those in the queue before are marked, with what one comes to from them; the further ones are put behind them.
+/// Marks the places that a flood comes to. Those in the queue before are marked, with what one
+/// comes to from them; the further ones are put behind them.
 pub(crate) fn fill(
     ways: &[Across],
     seeds: &[bool],
@@ -155,11 +162,18 @@ pub(crate) fn fill(
     requires seeds { length seeds.now ≡ length ways.now + 1 }
     requires within { LeadsWithin ways.now }
     requires filled { IsFilled ways.now seeds.now marks.old queue.old.items }
-    requires done { (q : ℕ) → q < length queue.old.items → IsDone ways.now marks.old (queue_at queue.old.items q) }
+    requires done {
+      (q : ℕ) → q < length queue.old.items → IsDone ways.now marks.old (queue_at queue.old.items q)
+    }
     ensures long { OnOk result (length marks.new ≡ length ways.now + 1) }
-    ensures exactly { OnOk result ((i : ℕ) → (is_marked marks.new i ≡ true) ↔ IsFlooded ways.now seeds.now i) }
+    ensures exactly {
+      OnOk result ((i : ℕ) → (is_marked marks.new i ≡ true) ↔ IsFlooded ways.now seeds.now i)
+    }
     ensures filled { OnOk result (IsFilled ways.now seeds.now marks.new queue.new.items) }
-    ensures done { OnOk result ((q : ℕ) → q < length queue.new.items → IsDone ways.now marks.new (queue_at queue.new.items q)) }
+    ensures done {
+      OnOk result ((q : ℕ) → q < length queue.new.items
+        → IsDone ways.now marks.new (queue_at queue.new.items q))
+    }
     ensures grown { OnOk result (Extends marks.old queue.old.items marks.new queue.new.items) }
 {
     let mut at = queue.len();
@@ -176,13 +190,16 @@ pub(crate) fn fill(
     Ok(())
 }
 
-/// Marks the places that a flood comes to, of the rows and, past the last row, of what lies beyond the hull. It begins at the
-/// places that are marked as seeds.
+/// Marks the places that a flood comes to, of the rows and, past the last row, of what lies beyond
+/// the hull. It begins at the places that are marked as seeds.
 pub(crate) fn flood(alloc: Global, ways: &[Across], seeds: &[bool]) -> Result<Vec<bool>, NoMemory>
     requires seeds { length seeds.now ≡ length ways.now + 1 }
     requires within { LeadsWithin ways.now }
     ensures long { IfOk result (λ marks. length marks.items ≡ length ways.now + 1) }
-    ensures exactly { IfOk result (λ marks. (i : ℕ) → (is_marked marks.items i ≡ true) ↔ IsFlooded ways.now seeds.now i) }
+    ensures exactly {
+      IfOk result (λ marks. (i : ℕ)
+        → (is_marked marks.items i ≡ true) ↔ IsFlooded ways.now seeds.now i)
+    }
 {
     let mut marks = Vec::new(alloc);
     marks.resize(seeds.len(), false)?;

@@ -1,13 +1,17 @@
-ghost use Rattle.std.specs.Prelude.{◌≡◌, ◌≢◌, ◌+◌, ◌<◌, ◌≤◌, ◌↔◌, ◌<ℤ◌, pos, ℕ, true, false, AllPairs, All, Contains, Some, None, length, IfOk, OnOk};
+//! The region of each tetrahedron: the first region point that a free path joins with it.
+ghost use Rattle.std.specs.Prelude.{◌≡◌, ◌≢◌, ◌+◌, ◌<◌, ◌≤◌, ◌↔◌, ◌<ℤ◌, pos, ℕ, true, false};
+ghost use Rattle.std.specs.Prelude.{AllPairs, All, Contains, Some, None, length, IfOk, OnOk};
 ghost use Rattle.geo_laws.specs.Delaunay.{IsOn, RowBefore};
 ghost use Rattle.geo_laws.specs.Faces.{FaceBefore};
 ghost use Rattle.path_laws.specs.Places.{IsFilling};
-ghost use Rattle.hole_carve.specs.Flooding.{is_marked, queue_at, IsFlooded, IsFilled, IsDone, Extends, LeadsWithin};
-ghost use Rattle.hole_carve.specs.Marks.{mark_at, IsPutFrom, AreNumbered, AreMarks, AreKeptMarks, IsPlaceFrom, KeptMarksLaw};
+ghost use Rattle.hole_carve.specs.Flooding.{is_marked, queue_at, IsFlooded, IsFilled, IsDone};
+ghost use Rattle.hole_carve.specs.Flooding.{Extends, LeadsWithin};
+ghost use Rattle.hole_carve.specs.Marks.{mark_at, IsPutFrom, AreNumbered, AreMarks, AreKeptMarks};
+ghost use Rattle.hole_carve.specs.Marks.{IsPlaceFrom, KeptMarksLaw};
 
 use crate::facet_faces::{FacetFaces, facet_faces};
 use crate::flood::fill;
-use crate::pairs::{Across, Marks, pair_faces};
+use incidence::{Across, Marks, pair_faces};
 use crate::seeds::mark_seeds;
 use crate::ways::ways_of;
 use geo_laws::{Complex, FacetTriangles, Points, Tet, TetList};
@@ -35,7 +39,8 @@ fn put_from(queue: &[usize], from: usize, number: u32, marks: &mut [Option<u32>]
     }
 }
 
-/// Goes on with the flood, and puts a number at the rows to which it comes now. The rows to which it came before keep theirs.
+/// Goes on with the flood, and puts a number at the rows to which it comes now. The rows to which
+/// it came before keep theirs.
 fn put_flood(
     ways: &[Across],
     seeds: &[bool],
@@ -48,13 +53,24 @@ fn put_flood(
     requires seeds { length seeds.now ≡ length ways.now + 1 }
     requires within { LeadsWithin ways.now }
     requires filled { IsFilled ways.now seeds.now reached.old queue.old.items }
-    requires done { (q : ℕ) → q < length queue.old.items → IsDone ways.now reached.old (queue_at queue.old.items q) }
+    requires done {
+      (q : ℕ) → q < length queue.old.items
+        → IsDone ways.now reached.old (queue_at queue.old.items q)
+    }
     ensures long { OnOk result (length reached.new ≡ length ways.now + 1) }
-    ensures exactly { OnOk result ((i : ℕ) → (is_marked reached.new i ≡ true) ↔ IsFlooded ways.now seeds.now i) }
+    ensures exactly {
+      OnOk result ((i : ℕ) → (is_marked reached.new i ≡ true) ↔ IsFlooded ways.now seeds.now i)
+    }
     ensures filled { OnOk result (IsFilled ways.now seeds.now reached.new queue.new.items) }
-    ensures done { OnOk result ((q : ℕ) → q < length queue.new.items → IsDone ways.now reached.new (queue_at queue.new.items q)) }
+    ensures done {
+      OnOk result ((q : ℕ) → q < length queue.new.items
+        → IsDone ways.now reached.new (queue_at queue.new.items q))
+    }
     ensures grown { OnOk result (Extends reached.old queue.old.items reached.new queue.new.items) }
-    ensures put { OnOk result (IsPutFrom queue.new.items (length queue.old.items) (length queue.new.items) number marks.old marks.new) }
+    ensures put {
+      OnOk result (IsPutFrom queue.new.items (length queue.old.items)
+        (length queue.new.items) number marks.old marks.new)
+    }
 {
     let from = queue.len();
     fill(ways, seeds, reached, queue)?;
@@ -62,7 +78,8 @@ fn put_flood(
     Ok(())
 }
 
-/// Puts the numbers of the region points, the first one first, by one flood that goes on from each point to the next. It has not begun before.
+/// Puts the numbers of the region points, the first one first, by one flood that goes on from each
+/// point to the next. It has not begun before.
 fn put_each(
     alloc: Global,
     points: &Points,
@@ -85,7 +102,10 @@ fn put_each(
     requires long { length marks.old ≡ length list.now }
     requires clear { (i : ℕ) → mark_at marks.old i ≡ None }
     ensures long { OnOk result (length marks.new ≡ length list.now) }
-    ensures numbered { OnOk result (AreNumbered points.now closed.now list.now ways.now complex.now.regions (length complex.now.regions) marks.new) }
+    ensures numbered {
+      OnOk result (AreNumbered points.now closed.now list.now ways.now complex.now.regions
+        (length complex.now.regions) marks.new)
+    }
 {
     let mut queue = Vec::new(alloc);
     for k in 0..complex.region_count() {
@@ -112,7 +132,10 @@ fn put_all(
     requires long { length marks.old ≡ length list.now }
     requires clear { (i : ℕ) → mark_at marks.old i ≡ None }
     ensures long { OnOk result (length marks.new ≡ length list.now) }
-    ensures numbered { OnOk result (AreNumbered points.now closed.now list.now ways.now complex.now.regions (length complex.now.regions) marks.new) }
+    ensures numbered {
+      OnOk result (AreNumbered points.now closed.now list.now ways.now complex.now.regions
+        (length complex.now.regions) marks.new)
+    }
 {
     let mut seeds = Vec::new(alloc);
     seeds.resize(list.len() + 1, false)?;
@@ -145,7 +168,10 @@ fn numbers_of(
     requires ways { length ways.now ≡ length list.now }
     requires within { LeadsWithin ways.now }
     ensures long { IfOk result (λ marks. length marks.items ≡ length list.now) }
-    ensures numbered { IfOk result (λ marks. AreNumbered points.now closed.now list.now ways.now complex.now.regions (length complex.now.regions) marks.items) }
+    ensures numbered {
+      IfOk result (λ marks. AreNumbered points.now closed.now list.now ways.now
+        complex.now.regions (length complex.now.regions) marks.items)
+    }
 {
     let mut marks = Vec::new(alloc);
     marks.resize(list.len(), None)?;
@@ -153,7 +179,8 @@ fn numbers_of(
     Ok(marks)
 }
 
-/// For each tetrahedron the number of the first region point, from 0 in file order, that a free path joins with some point inside it, or none.
+/// For each tetrahedron the number of the first region point, from 0 in file order, that a free
+/// path joins with some point inside it, or none.
 pub fn mark_regions(
     alloc: Global,
     points: &Points,
@@ -163,7 +190,9 @@ pub fn mark_regions(
 ) -> Result<Marks, NoMemory>
     requires filling { IsFilling points.now triangles.now list.now }
     requires regions { All (λ r. pos 0 <ℤ r.at.w) complex.now.regions }
-    ensures { IfOk result (λ marks. AreMarks points.now triangles.now list.now complex.now.regions marks) }
+    ensures {
+      IfOk result (λ marks. AreMarks points.now triangles.now list.now complex.now.regions marks)
+    }
 {
     let closed = facet_faces(alloc, triangles)?;
     let pairs = pair_faces(alloc, list)?;
@@ -207,7 +236,8 @@ pub fn kept_marks(
     Ok(own)
 }
 
-/// The marks that the kept tetrahedra have in the whole list are those that they have among themselves.
+/// The marks that the kept tetrahedra have in the whole list are those that they have among
+/// themselves.
 pub fn law_kept_marks()
     ensures { KeptMarksLaw }
 {}

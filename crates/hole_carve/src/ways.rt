@@ -1,15 +1,17 @@
+//! Where one comes to through the faces of tetrahedra that lie in no facet.
 ghost use Rattle.std.specs.Prelude.{◌≡◌, AllPairs, length, IfOk};
 ghost use Rattle.geo_laws.specs.Faces.{FaceBefore};
-ghost use Rattle.hole_carve.specs.Pairs.{pairs_of};
+ghost use Rattle.incidence.specs.Pairs.{pairs_of};
 ghost use Rattle.hole_carve.specs.Ways.{face_opposite, IsWayThrough, AreWaysThrough, AreWays};
 
 use crate::facet_faces::{FacetFaces, has_face};
-use crate::pairs::{Across, Pairs};
+use incidence::{Across, Pairs};
 use geo_laws::{Face, Tet, TetList, row_faces};
 use std::alloc::Global;
 use tet_ports::NoMemory;
 
-/// Where one comes to through a face: nowhere if it is a facet triangle, else to the other row that has it, or beyond the hull.
+/// Where one comes to through a face: nowhere if it is a facet triangle, else to the other row that
+/// has it, or beyond the hull.
 fn way_through(
     closed: &FacetFaces,
     face: Face,

@@ -91,7 +91,7 @@ numbers_same count first few (n ∷ ns) (m ∷ ms) s t long small small' stop st
     let lt' : m < count = All-head below m ms small' in
     let after : decimal (n + first) ++ numbers_then first ns s ≡ decimal (m + first) ++ numbers_then first ms t = cc in
     let both = cut IsGlyph (decimal (n + first)) (decimal (m + first)) (numbers_then first ns s) (numbers_then first ms t)
-        (glyphs (n + first)) (glyphs (m + first)) (stops_then first ns s stop) (stops_then first ms t stop') after in
+    (glyphs (n + first)) (glyphs (m + first)) (stops_then first ns s stop) (stops_then first ms t stop') after in
     let sums : n + first ≡ m + first = decimal_injective (n + first) (m + first) (omega arith) (omega arith) both.0 in
     let same : n ≡ m = omega arith in
     let rest = numbers_same count first few ns ms s t (suc_inj long) (All-tail below n ns small) (All-tail below m ms small') stop stop' both.1 in
@@ -145,10 +145,10 @@ rows_same end end' ends ps first few place (t ∷ ts) (u ∷ us) on on' e =
     let whole = sym (line_then end first place t left) ∙ e ∙ line_then end' first place u left' in
     let fields = append_cancel_left (decimal (place + first)) _ _ whole in
     let both = numbers_same (length ps) first few (numbers t) (numbers u) (end place ++ left) (end' place ++ left') refl
-        (All-head (IsOn ps) t ts on) (All-head (IsOn ps) u us on') (ends.stops place left) (ends.stops' place left') fields in
+    (All-head (IsOn ps) t ts on) (All-head (IsOn ps) u us on') (ends.stops place left) (ends.stops' place left') fields in
     let same : t ≡ u = same_row t u both.0 in
     let others : ts ≡ us = rows_same end end' ends ps first few (place + 1) ts us (All-tail (IsOn ps) t ts on) (All-tail (IsOn ps) u us on')
-        (ends.cuts place left left' both.1) in
+    (ends.cuts place left left' both.1) in
     cc
 
 -- ---- attributes
@@ -165,8 +165,8 @@ attribute_in_line regions lines None = All-cons InLine 48 [] (λ e. omega arith)
 attribute_in_line regions lines (Some k) =
     let texts = map (λ (r : Region). r.attribute) regions in
     let each : All (λ text. All InLine text) texts =
-        All-map (λ text. All InLine text) (λ (r : Region). r.attribute) regions
-        (All-weaker (λ (r : Region). ¬ Contains r.attribute 10) (λ r. All InLine r.attribute) (λ r. in_line r.attribute) regions lines) in
+    All-map (λ text. All InLine text) (λ (r : Region). r.attribute) regions
+    (All-weaker (λ (r : Region). ¬ Contains r.attribute 10) (λ r. All InLine r.attribute) (λ r. in_line r.attribute) regions lines) in
     elim (cases_lt k (length texts)) [
       | inl lt ↦ each k [] lt
       | inr past ↦ rw (get_or_past texts k [] past) (All-nil InLine)
@@ -213,19 +213,19 @@ header_same : (n n' k k' : ℕ) (s t : List ℕ) → k < 10 → k' < 10
 header_same n n' k k' s t lt lt' e =
     let front = λ (j : ℕ). flat_map (λ z. 32 ∷ signed_decimal z) (pos 4 ∷ pos j ∷ []) in
     let apart = λ (m j : ℕ) (r : List ℕ). append_assoc (decimal m ++ front j) (10 ∷ []) r ∙ append_assoc (decimal m) (front j) (10 ∷ r)
-        ∙ ap (λ (s : List ℕ). decimal m ++ s) (counts_are j r) in
+    ∙ ap (λ (s : List ℕ). decimal m ++ s) (counts_are j r) in
     let whole = sym (apart n k s) ∙ e ∙ apart n' k' t in
     let both = cut IsGlyph (decimal n) (decimal n') _ _ (glyphs n) (glyphs n') (stops_then 0 (4 ∷ k ∷ []) (10 ∷ s) (λ h. absurd (omega arith)))
-        (stops_then 0 (4 ∷ k' ∷ []) (10 ∷ t) (λ h. absurd (omega arith))) whole in
+    (stops_then 0 (4 ∷ k' ∷ []) (10 ∷ t) (λ h. absurd (omega arith))) whole in
     let below = λ (j : ℕ). j < 10 in
     let small = λ (j : ℕ) (l : j < 10). All-cons below 4 (j ∷ []) (omega arith) (All-cons below j [] l (All-nil below)) in
     let counts = numbers_same 10 0 (omega arith) (4 ∷ k ∷ []) (4 ∷ k' ∷ []) (10 ∷ s) (10 ∷ t) refl (small k lt) (small k' lt')
-        (λ h. absurd (omega arith)) (λ h. absurd (omega arith)) both.1 in
+    (λ h. absurd (omega arith)) (λ h. absurd (omega arith)) both.1 in
     let same : 4 ∷ k ∷ [] ≡ 4 ∷ k' ∷ [] = counts.0 in
     (cc, append_cancel_left (10 ∷ []) s t counts.1)
- where
-  counts_are : (j : ℕ) (r : List ℕ) → flat_map (λ z. 32 ∷ signed_decimal z) (pos 4 ∷ pos j ∷ []) ++ (10 ∷ r) ≡ numbers_then 0 (4 ∷ j ∷ []) (10 ∷ r)
-  counts_are j r = ap (λ i. flat_map (λ z. 32 ∷ signed_decimal z) (pos 4 ∷ pos i ∷ []) ++ (10 ∷ r)) (sym (add-zero j)) ∙ fields_are 0 (4 ∷ j ∷ []) (10 ∷ r)
+  where
+    counts_are : (j : ℕ) (r : List ℕ) → flat_map (λ z. 32 ∷ signed_decimal z) (pos 4 ∷ pos j ∷ []) ++ (10 ∷ r) ≡ numbers_then 0 (4 ∷ j ∷ []) (10 ∷ r)
+    counts_are j r = ap (λ i. flat_map (λ z. 32 ∷ signed_decimal z) (pos 4 ∷ pos i ∷ []) ++ (10 ∷ r)) (sym (add-zero j)) ∙ fields_are 0 (4 ∷ j ∷ []) (10 ∷ r)
 
 pub law_ele_text : EleTextLaw
 law_ele_text ps first None None regions regions' rows rows' few on on' lines lines' e =

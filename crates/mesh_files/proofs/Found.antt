@@ -8,11 +8,11 @@ use Rattle.std.proofs.lemmas.List.Quantifiers.{all_pairs_push}
 use Rattle.geo_laws.specs.Faces.{row_faces, faces_of_rows, FaceBefore, AreFacesOf}
 use Rattle.geo_laws.specs.declared.faces.Face.{Face}
 use Rattle.geo_laws.specs.declared.tetrahedra.Tet.{Tet}
-use Rattle.hole_carve.specs.declared.uses.Use.{Use}
-use Rattle.hole_carve.specs.Pairs.{is_face, has_face}
-use Rattle.hole_carve.specs.Uses.{row_uses, UseBefore, AreUsesOf, IsRunStart, FollowsLike}
-use Rattle.hole_carve.proofs.Orders.{between, row_less}
-use Rattle.hole_carve.proofs.Partners.{face_same, face_itself, of_four, in_four, of_row, at_place, only_this, next_like}
+use Rattle.incidence.specs.declared.uses.Use.{Use}
+use Rattle.incidence.specs.Pairs.{is_face, has_face}
+use Rattle.incidence.specs.Uses.{row_uses, UseBefore, AreUsesOf, IsRunStart, FollowsLike}
+use Rattle.incidence.proofs.Orders.{between, row_less}
+use Rattle.incidence.proofs.Partners.{face_same, face_itself, of_four, in_four, of_row, at_place, only_this, next_like}
 use Rattle.mesh_files.proofs.Counts.{one_counted, two_counted}
 
 pub no_row : Tet

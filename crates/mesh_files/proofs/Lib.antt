@@ -1,7 +1,6 @@
 pub mod Lines
 pub mod Counts
 pub mod Found
-pub mod Gathered
 pub mod FacetFaces
 pub mod Marked
 pub mod Spans

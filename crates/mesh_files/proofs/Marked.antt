@@ -19,9 +19,9 @@ use Rattle.geo_laws.proofs.Places.{Place}
 use Rattle.path_laws.proofs.Faces.{Ascends as IsAscending, face_at, face_place, face_ascends}
 use Rattle.facet_laws.specs.Faces.{Ascends, as_triangle}
 use Rattle.facet_laws.proofs.FaceIn.{centroid_in, law_face_in_facet}
-use Rattle.hole_carve.specs.Pairs.{has_face}
-use Rattle.hole_carve.specs.declared.uses.Use.{Use}
-use Rattle.hole_carve.specs.Uses.{AreUsesOf}
+use Rattle.incidence.specs.Pairs.{has_face}
+use Rattle.incidence.specs.declared.uses.Use.{Use}
+use Rattle.incidence.specs.Uses.{AreUsesOf}
 use Rattle.mesh_files.specs.FaceRows.{AreFacesMet, IsFirst, IsMarker, IsAsked, IsRowOf, IsFaceRow, AreFaceRowsOf, is_on_hull, corners_of, marker_or_1}
 use Rattle.mesh_files.specs.FacetFaces.{IsIn, AreFacetFaces}
 use Rattle.mesh_files.specs.declared.facet_faces.FacetFace.{FacetFace}

@@ -12,7 +12,7 @@ use Rattle.geo_laws.specs.declared.complex.Facet.{Facet}
 use Rattle.geo_laws.specs.declared.complex.FacetTriangle.{FacetTriangle}
 use Rattle.geo_laws.specs.declared.faces.Face.{Face}
 use Rattle.geo_laws.specs.declared.tetrahedra.Tet.{Tet}
-use Rattle.hole_carve.specs.Pairs.{has_face}
+use Rattle.incidence.specs.Pairs.{has_face}
 use Rattle.mesh_files.specs.declared.markers.FaceRow.{FaceRow}
 
 -- the triangle ascends, and is properly met with each face of the rows, which are positive
@@ -71,6 +71,7 @@ IsFaceRow ps rows complex ts all r =
     (f : Face) × Contains (faces_of_rows rows) f × IsRowOf (λ g facet. LiesIn ps ts facet g) complex.facets rows all f r
 
 -- each face that is asked for once, with its marker, ascending
-pub record AreFaceRowsOf (ps : List Point) (rows : List Tet) (complex : Complex) (ts : List FacetTriangle) (all : Bool) (found : List FaceRow) : Type 0 where
+pub record AreFaceRowsOf (ps : List Point) (rows : List Tet) (complex : Complex) (ts : List FacetTriangle) (all : Bool)
+    (found : List FaceRow) : Type 0 where
   pub exactly : (r : FaceRow) → Contains found r ↔ IsFaceRow ps rows complex ts all r
   pub ascending : AllPairs (λ r s. FaceBefore (corners_of r) (corners_of s)) found

@@ -6,7 +6,7 @@ use Rattle.geo_laws.specs.Delaunay.{numbers}
 use Rattle.geo_laws.specs.declared.complex.Region.{Region}
 use Rattle.geo_laws.specs.declared.faces.Side.{Side}
 use Rattle.geo_laws.specs.declared.tetrahedra.Tet.{Tet}
-use Rattle.hole_carve.specs.declared.pairs.Across.{Across}
+use Rattle.incidence.specs.declared.pairs.Across.{Across}
 use Rattle.mesh_files.specs.declared.markers.FaceRow.{FaceRow}
 
 -- a number, fields after it, each after a space, and what follows
@@ -36,7 +36,8 @@ attribute_of regions (Some region) = slice_index_or (map (λ r. r.attribute) reg
 
 -- the line of the row at a place, with the attribute of the region that its mark names
 abbrev pub marked_line : List Region → ℕ → ℕ → Tet → Option ℕ → List ℕ
-marked_line regions first place row mark = fields_then (place + first) (map (λ n. pos (n + first)) (numbers row)) (32 ∷ attribute_of regions mark ++ (10 ∷ []))
+marked_line regions first place row mark = fields_then (place + first) (map (λ n. pos (n + first)) (numbers row))
+    (32 ∷ attribute_of regions mark ++ (10 ∷ []))
 
 -- its mark is the one at the same place
 abbrev pub attributed_line : List (Option ℕ) → List Region → ℕ → ℕ → Tet → List ℕ

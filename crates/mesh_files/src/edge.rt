@@ -1,9 +1,10 @@
+//! The text of the `.edge` file.
 ghost use Rattle.std.specs.Prelude.{◌≡◌, ◌++◌, ◌+◌, ◌<◌, ◌^◌, OnOk, IfOk};
 ghost use Rattle.mesh_files.specs.Texts.{edge_text, edge_line};
 
 use crate::line::{append_line, room_for_lines};
-use crate::sides::Edges;
 use geo_laws::Side;
+use incidence::Edges;
 use std::alloc::Global;
 use tet_ports::{Bytes, NoMemory};
 

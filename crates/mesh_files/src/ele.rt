@@ -1,16 +1,21 @@
-ghost use Rattle.std.specs.Prelude.{◌≡◌, [], ◌∷◌, ◌++◌, ◌+◌, ◌<◌, ◌^◌, pos, map, length, All, IfSome, OnOk, IfOk};
+//! The text of the `.ele` file, with the attributes of regions.
+ghost use Rattle.std.specs.Prelude.{◌≡◌, [], ◌∷◌, ◌++◌, ◌+◌, ◌<◌, ◌^◌, pos, map, length, All};
+ghost use Rattle.std.specs.Prelude.{IfSome, OnOk, IfOk};
 ghost use Rattle.std.specs.Option.{option_copied};
 ghost use Rattle.geo_laws.specs.Delaunay.{numbers};
-ghost use Rattle.mesh_files.specs.Texts.{attribute_of, attributed_text, fields_then, ele_line, ele_text, ele_text_of, marked_line};
+ghost use Rattle.mesh_files.specs.Texts.{attribute_of, attributed_text, fields_then, ele_line};
+ghost use Rattle.mesh_files.specs.Texts.{ele_text, ele_text_of, marked_line};
 
 use crate::line::{append_fields, append_line, room_for_lines};
 use geo_laws::{Complex, Tet, TetList};
-use hole_carve::Marks;
+use incidence::Marks;
 use std::alloc::Global;
 use tet_ports::{Bytes, NoMemory};
 
-/// The text of the `.ele` file of these rows. Rows and corners are numbered from `first`. With marks, one for each row, each row ends with the attribute of the
-/// region that its mark names, by its place in the complex, from 0, and with `0` where it has none. It refuses for want of memory alone.
+/// The text of the `.ele` file of these rows. Rows and corners are numbered from `first`. With
+/// marks, one for each row, each row ends with the attribute of the region that its mark names, by
+/// its place in the complex, from 0, and with `0` where it has none. It refuses for want of memory
+/// alone.
 ///
 /// Format: TetGen user's manual, "File formats".
 pub fn write_ele(
@@ -22,7 +27,8 @@ pub fn write_ele(
 ) -> Result<Bytes, NoMemory>
     requires long { IfSome marks (λ m. length m.now ≡ length list.now) }
     requires regions { IfSome marks (λ m. All (λ mark. IfSome mark (λ r. r < length complex.now.regions)) m.now) }
-    ensures { IfOk result (λ text. text ≡ ele_text_of (option_copied marks.entry) complex.now.regions first list.now) }
+    ensures { IfOk result (λ text. text ≡ ele_text_of
+        (option_copied marks.entry) complex.now.regions first list.now) }
 {
     match marks {
         Some(marks) => write_attributed(alloc, list, marks, complex, first),
@@ -60,7 +66,8 @@ fn append_corners(
     end: u8,
 ) -> Result<(), NoMemory>
     requires { place < 2 ^ 63 }
-    ensures { OnOk result (out.new ≡ out.old ++ fields_then (place + first) (map (λ n. pos (n + first)) (numbers row)) (end ∷ [])) }
+    ensures { OnOk result (out.new ≡ out.old ++ fields_then (place + first) (map (λ n. pos (n + first))
+        (numbers row)) (end ∷ [])) }
 {
     let corner = |number: u32| -> i64 { i64::from(number) + i64::from(first) };
     append_fields(

@@ -1,3 +1,4 @@
+//! The text of the `.face` file.
 ghost use Rattle.std.specs.Prelude.{◌≡◌, ◌++◌, ◌+◌, ◌<◌, ◌^◌, OnOk, IfOk};
 ghost use Rattle.mesh_files.specs.Texts.{face_text, face_line};
 

@@ -1,18 +1,20 @@
+//! The faces of tetrahedra, each once.
 ghost use Rattle.std.specs.Prelude.{◌≡◌, List, length, IfOk};
 ghost use Rattle.geo_laws.specs.Faces.{AreFacesOf};
 ghost use Rattle.geo_laws.specs.declared.faces.Face.{Face};
-ghost use Rattle.hole_carve.specs.Uses.{AreUsesOf};
+ghost use Rattle.incidence.specs.Uses.{AreUsesOf};
 
 use crate::markers::is_first;
 use geo_laws::{Face, TetList};
-use hole_carve::{Uses, uses_of};
+use incidence::{Uses, uses_of};
 use std::alloc::Global;
 use tet_ports::{Items, NoMemory};
 
 /// A list of faces.
 pub type Faces = Items<Face>;
 
-/// All faces of rows: each set of three corners of a row once, its numbers ascending, the faces ascending.
+/// All faces of rows: each set of three corners of a row once, its numbers ascending, the faces
+/// ascending.
 pub fn faces_of(alloc: Global, list: &TetList) -> Result<Faces, NoMemory>
     ensures { IfOk result (λ faces. AreFacesOf list.now faces) }
 {

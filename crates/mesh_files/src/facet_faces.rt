@@ -1,3 +1,4 @@
+//! The facet triangles as faces, with the first facet of which a face is a triangle.
 ghost use Rattle.std.specs.Prelude.{◌≡◌, ◌↔◌, ◌<◌, true, length, All, AllPairs, IfOk, IfSome};
 ghost use Rattle.geo_laws.specs.Faces.{FaceBefore};
 ghost use Rattle.mesh_files.specs.FacetFaces.{AreFacetFaces, FacetFaceBefore, IsFirstOrNone, IsIn};
@@ -42,7 +43,8 @@ fn is_before(f: Face, g: Face) -> bool
     f.a < g.a || f.a == g.a && (f.b < g.b || f.b == g.b && f.c < g.c)
 }
 
-/// The first facet of which the face is a triangle, if there is one, by halving the part of the list in which it may be.
+/// The first facet of which the face is a triangle, if there is one, by halving the part of the
+/// list in which it may be.
 pub(crate) fn first_facet(faces: &FacetFaces, face: Face) -> Option<u32>
     requires { AllPairs FacetFaceBefore faces.now }
     ensures { IsFirstOrNone (IsIn faces.now face) result }

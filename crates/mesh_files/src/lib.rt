@@ -10,7 +10,6 @@ mod laws;
 mod line;
 mod markers;
 mod neigh;
-mod sides;
 #[cfg(test)]
 mod tests;
 
@@ -18,7 +17,7 @@ pub use edge::write_edge;
 pub use ele::write_ele;
 pub use face::write_face;
 pub use faces::{Faces, face_count, faces_of};
+pub use incidence::{Edges, edges_of};
 pub use laws::law_ele_text;
 pub use markers::{FaceRow, FaceRows, face_rows, used_faces};
 pub use neigh::{neighbors_of, write_neigh};
-pub use sides::{Edges, edges_of};

@@ -1,3 +1,4 @@
+//! Lines of numbers.
 ghost use Rattle.std.specs.Prelude.{◌≡◌, [], ◌∷◌, ◌++◌, ◌+◌, ◌≤◌, length, drop, IfOk, OnOk};
 ghost use Rattle.std.specs.Fmt.{signed_decimal};
 ghost use Rattle.mesh_files.specs.Texts.{fields_then, line_of};
@@ -6,10 +7,12 @@ use itoa::write_digits;
 use std::alloc::Global;
 use tet_ports::{Bytes, NoMemory};
 
-/// The bytes that are asked for each line at once: a number and four fields of up to six digits take 35.
+/// The bytes that are asked for each line at once: a number and four fields of up to six digits
+/// take 35.
 const LINE: usize = 36;
 
-/// The bytes that a line takes at most: a number and four fields, each of up to twenty bytes with one after it.
+/// The bytes that a line takes at most: a number and four fields, each of up to twenty bytes with
+/// one after it.
 const LONGEST: usize = 105;
 
 /// A text without lines, and with memory for this many.

@@ -1,11 +1,14 @@
-ghost use Rattle.std.specs.Prelude.{◌≡◌, ◌<◌, pos, if◌then◌else◌, length, All, AllPairs, HoldsAt, IfOk, IsTrue, IsFalse};
-ghost use Rattle.hole_carve.specs.Uses.{AreUsesOf, IsRunStart, FollowsLike};
-ghost use Rattle.mesh_files.specs.FaceRows.{AreFaceRowsOf, AreFacesMet, AreFacetsThere, IsRowOf, corners_of, is_on_hull, marker_or_1};
+//! The faces of tetrahedra with the markers of their facets.
+ghost use Rattle.std.specs.Prelude.{◌≡◌, ◌<◌, pos, if◌then◌else◌, length, All, AllPairs, HoldsAt};
+ghost use Rattle.std.specs.Prelude.{IfOk, IsTrue, IsFalse};
+ghost use Rattle.incidence.specs.Uses.{AreUsesOf, IsRunStart, FollowsLike};
+ghost use Rattle.mesh_files.specs.FaceRows.{AreFaceRowsOf, AreFacesMet, AreFacetsThere, IsRowOf};
+ghost use Rattle.mesh_files.specs.FaceRows.{corners_of, is_on_hull, marker_or_1};
 ghost use Rattle.mesh_files.specs.FacetFaces.{FacetFaceBefore, IsIn, IsRowOrNone};
 
 use crate::facet_faces::{FacetFaces, facet_faces, first_facet};
 use geo_laws::{Complex, Face, FacetTriangles, Points, TetList};
-use hole_carve::{Uses, uses_of};
+use incidence::{Uses, uses_of};
 use std::alloc::Global;
 use tet_ports::{Items, NoMemory};
 
@@ -21,9 +24,11 @@ pub struct FaceRow {
 /// A list of faces with their markers.
 pub type FaceRows = Items<FaceRow>;
 
-/// The faces of rows, each once, ascending, with their markers. The marker is that of the first facet in which the face lies, by its place in the complex,
-/// and 1 where that facet has none. A face in no facet has 1 where one row alone has it, so that it is on the hull of the mesh, else 0. Without `all` there are
-/// only the faces on the hull and those that lie in facets. It refuses for want of memory alone.
+/// The faces of rows, each once, ascending, with their markers. The marker is that of the first
+/// facet in which the face lies, by its place in the complex, and 1 where that facet has none. A
+/// face in no facet has 1 where one row alone has it, so that it is on the hull of the mesh, else
+/// 0. Without `all` there are only the faces on the hull and those that lie in facets. It refuses
+/// for want of memory alone.
 pub fn face_rows(
     alloc: Global,
     points: &Points,
@@ -67,7 +72,8 @@ pub fn used_faces(
     Ok(found)
 }
 
-/// For how many faces memory is asked at once: most faces of a mesh have two uses, and few are on its hull.
+/// For how many faces memory is asked at once: most faces of a mesh have two uses, and few are on
+/// its hull.
 fn face_room(uses: &Uses, all: bool) -> usize {
     if all {
         uses.len() / 2 + uses.len() / 16
@@ -122,7 +128,8 @@ fn row_at(
     requires run { IsRunStart uses.now at at }
     requires ascending { AllPairs FacetFaceBefore facets.now }
     requires facets { All (λ x. x.facet < length complex.now.facets) facets.now }
-    ensures { HoldsAt (λ u. IsRowOrNone (IsRowOf (IsIn facets.now) complex.now.facets list.now all u.face) result) uses.now at }
+    ensures { HoldsAt (λ u. IsRowOrNone (IsRowOf
+        (IsIn facets.now) complex.now.facets list.now all u.face) result) uses.now at }
 {
     let face = uses.at(at).face;
     if let Some(facet) = first_facet(facets, face) {

@@ -1,8 +1,9 @@
+//! Texts of small meshes, against the formats of the manual.
 ghost use Rattle.std.specs.Prelude.{◌<◌, IfSome};
 
 use crate::*;
 use geo_laws::{Complex, FacetTriangles, Points, Tet, TetList};
-use hole_carve::Marks;
+use incidence::Marks;
 use sign_predicates::RatPoint;
 use std::alloc::Global;
 use std::test::Fail;
@@ -204,8 +205,8 @@ fn counts(alloc: Global, rows: &[[u32; 4]]) -> Result<[usize; 4], NoMemory> {
     ])
 }
 
-/// With T rows, P points in all and B of them on the surface, a ball has 2T + B - 2 faces, T + P + B - 3 sides and
-/// 2B - 4 faces on the surface. Here all points are on it.
+/// With T rows, P points in all and B of them on the surface, a ball has 2T + B - 2 faces, T + P +
+/// B - 3 sides and 2B - 4 faces on the surface. Here all points are on it.
 #[test]
 fn counts_of_balls(rt: HostRuntime) -> Result<(), Fail> {
     for (rows, points) in [

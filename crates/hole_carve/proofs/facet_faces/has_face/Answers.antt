@@ -1,7 +1,7 @@
 use Rattle.std.proofs.Common.{sym, ◌∙◌, arith}
 use Rattle.std.proofs.lemmas.Bool.{true≢false}
 use Rattle.hole_carve.proofs.FacetFaces.{all_before, none_before, not_elsewhere}
-use Rattle.hole_carve.proofs.Partners.{face_same, face_itself}
+use Rattle.incidence.proofs.Partners.{face_same, face_itself}
 use Rattle.hole_carve.proofs.facet_faces.has_face.Goals as goal
 
 pub loop-low-preserved-then-is_before : goal.loop-low-preserved-then-is_before

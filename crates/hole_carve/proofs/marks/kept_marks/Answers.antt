@@ -1,5 +1,5 @@
 use Rattle.std.proofs.Common.{◌≡◌, ◌+◌, ◌<◌, None, length, sym, ap, ◌∙◌, arith}
-use Rattle.hole_carve.specs.Links.{row_at}
+use Rattle.incidence.specs.Links.{row_at}
 use Rattle.hole_carve.proofs.KeptMarks.{row_found, still_ahead, one_longer, each_next}
 use Rattle.hole_carve.proofs.marks.kept_marks.Goals as goal
 

@@ -1,5 +1,5 @@
 use Rattle.std.proofs.Common.{◌≡◌, ℕ, ◌<◌, ◌≤◌, length}
-use Rattle.hole_carve.specs.Links.{row_at}
+use Rattle.incidence.specs.Links.{row_at}
 use Rattle.hole_carve.specs.Marks.{mark_at}
 use Rattle.hole_carve.proofs.marks.kept_marks.Given as goal
 

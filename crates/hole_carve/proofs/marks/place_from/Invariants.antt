@@ -1,5 +1,5 @@
 use Rattle.std.proofs.Common.{◌≡◌, ℕ, ◌<◌, ◌≤◌}
-use Rattle.hole_carve.specs.Links.{row_at}
+use Rattle.incidence.specs.Links.{row_at}
 use Rattle.hole_carve.proofs.marks.place_from.Given as goal
 
 abbrev pub invariant-loop-at : goal.invariant-loop-at

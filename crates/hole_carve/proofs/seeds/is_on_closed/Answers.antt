@@ -1,6 +1,6 @@
 use Rattle.std.proofs.Common.{refl, sym, subst, ◌∙◌, arith}
 use Rattle.std.proofs.lemmas.Bool.{true≢false}
-use Rattle.hole_carve.specs.Links.{row_at}
+use Rattle.incidence.specs.Links.{row_at}
 use Rattle.hole_carve.specs.Flooding.{queue_at}
 use Rattle.hole_carve.specs.Seeds.{HoldsOn}
 use Rattle.hole_carve.proofs.Flooding.{below_next}

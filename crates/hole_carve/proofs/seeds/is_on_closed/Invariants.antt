@@ -1,5 +1,5 @@
 use Rattle.std.proofs.Common.{ℕ, ◌<◌}
-use Rattle.hole_carve.specs.Links.{row_at}
+use Rattle.incidence.specs.Links.{row_at}
 use Rattle.hole_carve.specs.Flooding.{queue_at}
 use Rattle.hole_carve.specs.Seeds.{HoldsOn}
 use Rattle.hole_carve.proofs.seeds.is_on_closed.Given as goal

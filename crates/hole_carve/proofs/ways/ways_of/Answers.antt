@@ -1,8 +1,8 @@
 use Rattle.std.proofs.Common.{◌≡◌, ℕ, ◌+◌, ◌<◌, None, length, length-append, ap, sym, subst, ◌∙◌, arith}
 use Rattle.std.specs.Prelude.{slice_index_or}
-use Rattle.hole_carve.specs.declared.pairs.Across.{Across}
-use Rattle.hole_carve.specs.Links.{row_at}
-use Rattle.hole_carve.specs.Pairs.{across_of}
+use Rattle.incidence.specs.declared.pairs.Across.{Across}
+use Rattle.incidence.specs.Links.{row_at}
+use Rattle.incidence.specs.Pairs.{across_of}
 use Rattle.hole_carve.specs.Flooding.{across_at}
 use Rattle.hole_carve.specs.Ways.{AreWaysThrough}
 use Rattle.hole_carve.proofs.Steps.{pairs_at, pairs-length, each_appended, through_same}

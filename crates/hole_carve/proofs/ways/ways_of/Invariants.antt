@@ -1,6 +1,6 @@
 use Rattle.std.proofs.Common.{◌≡◌, ℕ, ◌<◌, length}
-use Rattle.hole_carve.specs.Links.{row_at}
-use Rattle.hole_carve.specs.Pairs.{across_of}
+use Rattle.incidence.specs.Links.{row_at}
+use Rattle.incidence.specs.Pairs.{across_of}
 use Rattle.hole_carve.specs.Flooding.{across_at}
 use Rattle.hole_carve.specs.Ways.{AreWaysThrough}
 use Rattle.hole_carve.proofs.ways.ways_of.Given as goal

@@ -1,7 +1,7 @@
 use Rattle.std.proofs.Common.{◌++◌, ◌∷◌, [], refl, ◌∙◌, arith}
 use Rattle.std.specs.Prelude.{slice_index_or}
 use Rattle.std.proofs.lemmas.List.{length-append, get_or_default}
-use Rattle.hole_carve.specs.declared.uses.Use.{Use}
+use Rattle.incidence.specs.declared.uses.Use.{Use}
 use Rattle.mesh_files.proofs.Found.{no_use, faces_first, faces_again, faces_pushed, faces_last}
 use Rattle.mesh_files.proofs.faces.face_count.Goals.{then-is_first, else-is_first}
 use Rattle.mesh_files.proofs.faces.face_count.Goals as goal

@@ -1,6 +1,6 @@
 use Rattle.std.proofs.Common.{sym, ap, ◌∙◌, arith}
 use Rattle.std.proofs.lemmas.Bool.{true≢false}
-use Rattle.hole_carve.proofs.Partners.{face_same, face_itself}
+use Rattle.incidence.proofs.Partners.{face_same, face_itself}
 use Rattle.mesh_files.proofs.FacetFaces.{all_before, none_before, first_there, none_there}
 use Rattle.mesh_files.proofs.facet_faces.first_facet.Goals.{else-low-len-via-then-low-len+else-eq, else-low-len-via-else-low-len}
 use Rattle.mesh_files.proofs.facet_faces.first_facet.Goals as goal

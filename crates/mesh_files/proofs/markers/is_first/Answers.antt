@@ -1,6 +1,6 @@
 use Rattle.std.proofs.Common.{not, sym, ap, ◌∙◌, arith}
 use Rattle.std.proofs.lemmas.Bool.{true≢false}
-use Rattle.hole_carve.proofs.Partners.{face_itself}
+use Rattle.incidence.proofs.Partners.{face_itself}
 use Rattle.mesh_files.proofs.Found.{is_run_start}
 use Rattle.mesh_files.proofs.markers.is_first.Goals as goal
 

@@ -1,7 +1,0 @@
-use Rattle.std.proofs.Common.{arith}
-use Rattle.std.proofs.lemmas.Grind.{common_steps}
-use Rattle.hole_carve.proofs.Settled.{pairs_within}
-use Rattle.hole_carve.proofs.pairs.pair_uses.Goals as goal
-
-pub returns-clause-places : goal.returns-clause-places
-returns-clause-places c = pairs_within c.args.list.now c.from.result (grind (arith, common_steps))

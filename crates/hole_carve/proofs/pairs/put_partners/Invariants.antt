@@ -1,9 +1,0 @@
-use Rattle.hole_carve.specs.Uses.{IsRunBefore}
-use Rattle.hole_carve.proofs.Settled.{AllSettled}
-use Rattle.hole_carve.proofs.pairs.put_partners.Given as goal
-
-abbrev pub invariant-loop-at : goal.invariant-loop-at
-invariant-loop-at l = record {
-  settled : AllSettled l.list l.uses l.at l.pairs;
-  run : IsRunBefore l.uses l.first l.at;
-}

@@ -1,0 +1,9 @@
+pub mod Firsts
+pub mod Gathered
+pub mod GatheredSides
+pub mod Linked
+pub mod Orders
+pub mod Partners
+pub mod Runs
+pub mod Settled
+pub mod SortedRuns

@@ -1,0 +1,9 @@
+use Rattle.incidence.specs.Uses.{IsRunBefore}
+use Rattle.incidence.proofs.Settled.{AllSettled}
+use Rattle.incidence.proofs.pairs.put_partners.Given as goal
+
+abbrev pub invariant-loop-at : goal.invariant-loop-at
+invariant-loop-at l = record {
+  settled : AllSettled l.list l.uses l.at l.pairs;
+  run : IsRunBefore l.uses l.first l.at;
+}

@@ -1,0 +1,6 @@
+pub mod Gathered
+pub mod GatheredSides
+pub mod Links
+pub mod Pairs
+pub mod Runs
+pub mod Uses

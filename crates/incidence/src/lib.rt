@@ -1,0 +1,15 @@
+//! Which tetrahedra have a face and which faces and edges a list of tetrahedra has: the uses of
+//! faces, the tetrahedra on the other sides of faces, and the edges.
+#![tactic(auto)]
+
+mod links;
+mod pairs;
+mod sides;
+mod sorting;
+#[cfg(test)]
+mod tests;
+mod uses;
+
+pub use pairs::{Across, Marks, Pairs, pair_faces, pair_uses};
+pub use sides::{Edges, edges_of};
+pub use uses::{Use, Uses, uses_of};
