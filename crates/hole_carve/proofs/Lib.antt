@@ -9,3 +9,4 @@ pub mod FacetFaces
 pub mod Flooding
 pub mod Marked
 pub mod KeptMarks
+pub mod Apart

@@ -3,3 +3,4 @@ pub mod Ways
 pub mod Seeds
 pub mod Kept
 pub mod Marks
+pub mod Boxes

@@ -55,7 +55,7 @@ KeptMarksLaw = (carving : Carving) (ps : List Point) (ts : List FacetTriangle) (
 abbrev pub AreNumbered : List Point → List Face → List Tet → List Across → List Region → ℕ → List (Option ℕ) → Type 0
 AreNumbered ps closed rows ways regions count marks =
     (i : ℕ) → i < length rows
-        → IsFirstOf (λ k. IsFloodedFrom ways (IsSeedAt ps closed rows (region_point regions k)) i) count (mark_at marks i)
+    → IsFirstOf (λ k. IsFloodedFrom ways (IsSeedAt ps closed rows (region_point regions k)) i) count (mark_at marks i)
 
 -- a number that is put in at the rows that stand in a queue from one place to before another
 pub record IsPutFrom (queue : List ℕ) (from past number : ℕ) (old new : List (Option ℕ)) : Type 0 where

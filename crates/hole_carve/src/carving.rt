@@ -2,7 +2,8 @@
 ghost use Rattle.std.specs.Prelude.{pos, ◌<ℤ◌, ◌≡◌, ◌<◌, ◌≤◌, ◌↔◌, ◌⊎◌, ◌+◌, ℕ, true, false};
 ghost use Rattle.std.specs.Prelude.{AllPairs, All, Any, length, take, IfOk, OnOk};
 ghost use Rattle.sign_predicates.specs.Point.{RationalPoint};
-ghost use Rattle.geo_laws.specs.Delaunay.{IsOn, RowBefore};
+ghost use Rattle.sign_predicates.specs.Orientation.{IsPositive};
+ghost use Rattle.geo_laws.specs.Delaunay.{corners, IsOn, RowBefore};
 ghost use Rattle.geo_laws.specs.Faces.{FaceBefore};
 ghost use Rattle.path_laws.specs.Places.{IsFilling, IsKeptPart};
 ghost use Rattle.path_laws.specs.Flood.{carving_of};
@@ -12,10 +13,10 @@ ghost use Rattle.hole_carve.specs.Seeds.{BeginsAt};
 
 use crate::facet_faces::{FacetFaces, facet_faces};
 use crate::flood::flood;
-use incidence::pair_faces;
 use crate::seeds::mark_seeds;
 use crate::ways::ways_of;
 use geo_laws::{FacetTriangles, Points, RatPoints, TetList};
+use incidence::pair_faces;
 use std::alloc::Global;
 use tet_ports::NoMemory;
 
@@ -50,9 +51,7 @@ fn mark_hull(list: &TetList, keep_hull: bool, seeds: &mut [bool])
     requires long { length seeds.old ≡ length list.now + 1 }
     requires clear { (i : ℕ) → is_marked seeds.old i ≡ false }
     ensures long { length seeds.new ≡ length list.now + 1 }
-    ensures marked {
-      (i : ℕ) → (is_marked seeds.new i ≡ true) ↔ ((keep_hull ≡ false) × (i ≡ length list.now))
-    }
+    ensures marked { (i : ℕ) → (is_marked seeds.new i ≡ true) ↔ ((keep_hull ≡ false) × (i ≡ length list.now)) }
 {
     if keep_hull {
         return;
@@ -71,17 +70,14 @@ fn mark_holes(
     seeds: &mut [bool],
 ) -> Result<(), NoMemory>
     requires on { All (IsOn points.now) list.now }
+    requires positive { All (λ t. IsPositive (corners points.now t)) list.now }
     requires ascending { AllPairs FaceBefore closed.now }
     requires long { length seeds.old ≡ length list.now + 1 }
-    requires marked {
-      (i : ℕ) → (is_marked seeds.old i ≡ true)
-        ↔ BeginsAt keep_hull points.now closed.now list.now holes.now 0 i
-    }
+    requires marked { (i : ℕ) → (is_marked seeds.old i ≡ true)
+        ↔ BeginsAt keep_hull points.now closed.now list.now holes.now 0 i }
     ensures long { OnOk result (length seeds.new ≡ length list.now + 1) }
-    ensures marked {
-      OnOk result ((i : ℕ) → (is_marked seeds.new i ≡ true)
-        ↔ BeginsAt keep_hull points.now closed.now list.now holes.now (length holes.now) i)
-    }
+    ensures marked { OnOk result ((i : ℕ) → (is_marked seeds.new i ≡ true)
+        ↔ BeginsAt keep_hull points.now closed.now list.now holes.now (length holes.now) i) }
 {
     for at in 0..holes.len() {
         mark_seeds(alloc, points, list, closed, holes.at(at), seeds)?;
@@ -101,14 +97,13 @@ fn mark_all(
     seeds: &mut [bool],
 ) -> Result<(), NoMemory>
     requires on { All (IsOn points.now) list.now }
+    requires positive { All (λ t. IsPositive (corners points.now t)) list.now }
     requires ascending { AllPairs FaceBefore closed.now }
     requires long { length seeds.old ≡ length list.now + 1 }
     requires clear { (i : ℕ) → is_marked seeds.old i ≡ false }
     ensures long { OnOk result (length seeds.new ≡ length list.now + 1) }
-    ensures marked {
-      OnOk result ((i : ℕ) → (is_marked seeds.new i ≡ true)
-        ↔ BeginsAt keep_hull points.now closed.now list.now holes.now (length holes.now) i)
-    }
+    ensures marked { OnOk result ((i : ℕ) → (is_marked seeds.new i ≡ true)
+        ↔ BeginsAt keep_hull points.now closed.now list.now holes.now (length holes.now) i) }
 {
     mark_hull(list, keep_hull, seeds);
     mark_holes(alloc, points, list, closed, holes, keep_hull, seeds)
@@ -124,13 +119,12 @@ fn seeds_of(
     keep_hull: bool,
 ) -> Result<Vec<bool>, NoMemory>
     requires on { All (IsOn points.now) list.now }
+    requires positive { All (λ t. IsPositive (corners points.now t)) list.now }
     requires ascending { AllPairs FaceBefore closed.now }
     ensures long { IfOk result (λ seeds. length seeds.items ≡ length list.now + 1) }
-    ensures marked {
-      IfOk result (λ seeds. (i : ℕ)
+    ensures marked { IfOk result (λ seeds. (i : ℕ)
         → (is_marked seeds.items i ≡ true)
-        ↔ BeginsAt keep_hull points.now closed.now list.now holes.now (length holes.now) i)
-    }
+        ↔ BeginsAt keep_hull points.now closed.now list.now holes.now (length holes.now) i) }
 {
     let mut seeds = Vec::new(alloc);
     seeds.resize(list.len() + 1, false)?;
@@ -150,13 +144,9 @@ pub fn carve(
 ) -> Result<TetList, NoMemory>
     requires filling { IsFilling points.now triangles.now list.now }
     requires holes { All (λ h. pos 0 <ℤ h.w) holes.now }
-    ensures kept {
-      IfOk result (λ rows. IsKeptPart
-        (carving_of keep_hull) points.now triangles.now list.now holes.now rows)
-    }
-    ensures ascending {
-      AllPairs RowBefore list.now → IfOk result (λ rows. AllPairs RowBefore rows)
-    }
+    ensures kept { IfOk result (λ rows. IsKeptPart
+        (carving_of keep_hull) points.now triangles.now list.now holes.now rows) }
+    ensures ascending { AllPairs RowBefore list.now → IfOk result (λ rows. AllPairs RowBefore rows) }
 {
     let closed = facet_faces(alloc, triangles)?;
     let pairs = pair_faces(alloc, list)?;

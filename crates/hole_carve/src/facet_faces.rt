@@ -13,9 +13,7 @@ pub(crate) type FacetFaces = Items<Face>;
 
 /// The triangles as faces.
 pub(crate) fn facet_faces(alloc: Global, triangles: &FacetTriangles) -> Result<FacetFaces, NoMemory>
-    ensures exactly {
-      IfOk result (λ faces. (f : Face) → Contains faces f ↔ IsFacetFace triangles.now f)
-    }
+    ensures exactly { IfOk result (λ faces. (f : Face) → Contains faces f ↔ IsFacetFace triangles.now f) }
     ensures ascending { IfOk result (λ faces. AllPairs FaceBefore faces) }
 {
     let mut faces = FacetFaces::with_capacity(alloc, triangles.len())?;

@@ -96,9 +96,7 @@ fn reach_back(
     requires comes { IsFlooded ways.now seeds.now (length ways.now) }
     requires filled { IsFilled ways.now seeds.now marks.old queue.old.items }
     ensures filled { OnOk result (IsFilled ways.now seeds.now marks.new queue.new.items) }
-    ensures reached {
-      OnOk result (IsWay ways.now row (length ways.now) → is_marked marks.new row ≡ true)
-    }
+    ensures reached { OnOk result (IsWay ways.now row (length ways.now) → is_marked marks.new row ≡ true) }
     ensures grown { OnOk result (Extends marks.old queue.old.items marks.new queue.new.items) }
 {
     if leads_to(ways[row], ways.len()) {
@@ -162,18 +160,12 @@ pub(crate) fn fill(
     requires seeds { length seeds.now ≡ length ways.now + 1 }
     requires within { LeadsWithin ways.now }
     requires filled { IsFilled ways.now seeds.now marks.old queue.old.items }
-    requires done {
-      (q : ℕ) → q < length queue.old.items → IsDone ways.now marks.old (queue_at queue.old.items q)
-    }
+    requires done { (q : ℕ) → q < length queue.old.items → IsDone ways.now marks.old (queue_at queue.old.items q) }
     ensures long { OnOk result (length marks.new ≡ length ways.now + 1) }
-    ensures exactly {
-      OnOk result ((i : ℕ) → (is_marked marks.new i ≡ true) ↔ IsFlooded ways.now seeds.now i)
-    }
+    ensures exactly { OnOk result ((i : ℕ) → (is_marked marks.new i ≡ true) ↔ IsFlooded ways.now seeds.now i) }
     ensures filled { OnOk result (IsFilled ways.now seeds.now marks.new queue.new.items) }
-    ensures done {
-      OnOk result ((q : ℕ) → q < length queue.new.items
-        → IsDone ways.now marks.new (queue_at queue.new.items q))
-    }
+    ensures done { OnOk result ((q : ℕ) → q < length queue.new.items
+        → IsDone ways.now marks.new (queue_at queue.new.items q)) }
     ensures grown { OnOk result (Extends marks.old queue.old.items marks.new queue.new.items) }
 {
     let mut at = queue.len();
@@ -196,10 +188,8 @@ pub(crate) fn flood(alloc: Global, ways: &[Across], seeds: &[bool]) -> Result<Ve
     requires seeds { length seeds.now ≡ length ways.now + 1 }
     requires within { LeadsWithin ways.now }
     ensures long { IfOk result (λ marks. length marks.items ≡ length ways.now + 1) }
-    ensures exactly {
-      IfOk result (λ marks. (i : ℕ)
-        → (is_marked marks.items i ≡ true) ↔ IsFlooded ways.now seeds.now i)
-    }
+    ensures exactly { IfOk result (λ marks. (i : ℕ)
+        → (is_marked marks.items i ≡ true) ↔ IsFlooded ways.now seeds.now i) }
 {
     let mut marks = Vec::new(alloc);
     marks.resize(seeds.len(), false)?;

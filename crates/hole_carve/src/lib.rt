@@ -2,6 +2,7 @@
 //! away, and those of a region.
 #![tactic(auto)]
 
+mod boxes;
 mod carving;
 mod facet_faces;
 mod flood;

@@ -1,7 +1,8 @@
 //! The region of each tetrahedron: the first region point that a free path joins with it.
 ghost use Rattle.std.specs.Prelude.{◌≡◌, ◌≢◌, ◌+◌, ◌<◌, ◌≤◌, ◌↔◌, ◌<ℤ◌, pos, ℕ, true, false};
 ghost use Rattle.std.specs.Prelude.{AllPairs, All, Contains, Some, None, length, IfOk, OnOk};
-ghost use Rattle.geo_laws.specs.Delaunay.{IsOn, RowBefore};
+ghost use Rattle.sign_predicates.specs.Orientation.{IsPositive};
+ghost use Rattle.geo_laws.specs.Delaunay.{corners, IsOn, RowBefore};
 ghost use Rattle.geo_laws.specs.Faces.{FaceBefore};
 ghost use Rattle.path_laws.specs.Places.{IsFilling};
 ghost use Rattle.hole_carve.specs.Flooding.{is_marked, queue_at, IsFlooded, IsFilled, IsDone};
@@ -11,10 +12,10 @@ ghost use Rattle.hole_carve.specs.Marks.{IsPlaceFrom, KeptMarksLaw};
 
 use crate::facet_faces::{FacetFaces, facet_faces};
 use crate::flood::fill;
-use incidence::{Across, Marks, pair_faces};
 use crate::seeds::mark_seeds;
 use crate::ways::ways_of;
 use geo_laws::{Complex, FacetTriangles, Points, Tet, TetList};
+use incidence::{Across, Marks, pair_faces};
 use std::alloc::Global;
 use tet_ports::NoMemory;
 
@@ -53,24 +54,16 @@ fn put_flood(
     requires seeds { length seeds.now ≡ length ways.now + 1 }
     requires within { LeadsWithin ways.now }
     requires filled { IsFilled ways.now seeds.now reached.old queue.old.items }
-    requires done {
-      (q : ℕ) → q < length queue.old.items
-        → IsDone ways.now reached.old (queue_at queue.old.items q)
-    }
+    requires done { (q : ℕ) → q < length queue.old.items
+        → IsDone ways.now reached.old (queue_at queue.old.items q) }
     ensures long { OnOk result (length reached.new ≡ length ways.now + 1) }
-    ensures exactly {
-      OnOk result ((i : ℕ) → (is_marked reached.new i ≡ true) ↔ IsFlooded ways.now seeds.now i)
-    }
+    ensures exactly { OnOk result ((i : ℕ) → (is_marked reached.new i ≡ true) ↔ IsFlooded ways.now seeds.now i) }
     ensures filled { OnOk result (IsFilled ways.now seeds.now reached.new queue.new.items) }
-    ensures done {
-      OnOk result ((q : ℕ) → q < length queue.new.items
-        → IsDone ways.now reached.new (queue_at queue.new.items q))
-    }
+    ensures done { OnOk result ((q : ℕ) → q < length queue.new.items
+        → IsDone ways.now reached.new (queue_at queue.new.items q)) }
     ensures grown { OnOk result (Extends reached.old queue.old.items reached.new queue.new.items) }
-    ensures put {
-      OnOk result (IsPutFrom queue.new.items (length queue.old.items)
-        (length queue.new.items) number marks.old marks.new)
-    }
+    ensures put { OnOk result (IsPutFrom queue.new.items (length queue.old.items)
+        (length queue.new.items) number marks.old marks.new) }
 {
     let from = queue.len();
     fill(ways, seeds, reached, queue)?;
@@ -92,6 +85,7 @@ fn put_each(
     marks: &mut [Option<u32>],
 ) -> Result<(), NoMemory>
     requires on { All (IsOn points.now) list.now }
+    requires positive { All (λ t. IsPositive (corners points.now t)) list.now }
     requires ascending { AllPairs FaceBefore closed.now }
     requires ways { length ways.now ≡ length list.now }
     requires within { LeadsWithin ways.now }
@@ -102,10 +96,8 @@ fn put_each(
     requires long { length marks.old ≡ length list.now }
     requires clear { (i : ℕ) → mark_at marks.old i ≡ None }
     ensures long { OnOk result (length marks.new ≡ length list.now) }
-    ensures numbered {
-      OnOk result (AreNumbered points.now closed.now list.now ways.now complex.now.regions
-        (length complex.now.regions) marks.new)
-    }
+    ensures numbered { OnOk result (AreNumbered points.now closed.now list.now ways.now complex.now.regions
+        (length complex.now.regions) marks.new) }
 {
     let mut queue = Vec::new(alloc);
     for k in 0..complex.region_count() {
@@ -126,16 +118,15 @@ fn put_all(
     marks: &mut [Option<u32>],
 ) -> Result<(), NoMemory>
     requires on { All (IsOn points.now) list.now }
+    requires positive { All (λ t. IsPositive (corners points.now t)) list.now }
     requires ascending { AllPairs FaceBefore closed.now }
     requires ways { length ways.now ≡ length list.now }
     requires within { LeadsWithin ways.now }
     requires long { length marks.old ≡ length list.now }
     requires clear { (i : ℕ) → mark_at marks.old i ≡ None }
     ensures long { OnOk result (length marks.new ≡ length list.now) }
-    ensures numbered {
-      OnOk result (AreNumbered points.now closed.now list.now ways.now complex.now.regions
-        (length complex.now.regions) marks.new)
-    }
+    ensures numbered { OnOk result (AreNumbered points.now closed.now list.now ways.now complex.now.regions
+        (length complex.now.regions) marks.new) }
 {
     let mut seeds = Vec::new(alloc);
     seeds.resize(list.len() + 1, false)?;
@@ -164,14 +155,13 @@ fn numbers_of(
     complex: &Complex,
 ) -> Result<Vec<Option<u32>>, NoMemory>
     requires on { All (IsOn points.now) list.now }
+    requires positive { All (λ t. IsPositive (corners points.now t)) list.now }
     requires ascending { AllPairs FaceBefore closed.now }
     requires ways { length ways.now ≡ length list.now }
     requires within { LeadsWithin ways.now }
     ensures long { IfOk result (λ marks. length marks.items ≡ length list.now) }
-    ensures numbered {
-      IfOk result (λ marks. AreNumbered points.now closed.now list.now ways.now
-        complex.now.regions (length complex.now.regions) marks.items)
-    }
+    ensures numbered { IfOk result (λ marks. AreNumbered points.now closed.now list.now ways.now
+        complex.now.regions (length complex.now.regions) marks.items) }
 {
     let mut marks = Vec::new(alloc);
     marks.resize(list.len(), None)?;
@@ -190,9 +180,7 @@ pub fn mark_regions(
 ) -> Result<Marks, NoMemory>
     requires filling { IsFilling points.now triangles.now list.now }
     requires regions { All (λ r. pos 0 <ℤ r.at.w) complex.now.regions }
-    ensures {
-      IfOk result (λ marks. AreMarks points.now triangles.now list.now complex.now.regions marks)
-    }
+    ensures { IfOk result (λ marks. AreMarks points.now triangles.now list.now complex.now.regions marks) }
 {
     let closed = facet_faces(alloc, triangles)?;
     let pairs = pair_faces(alloc, list)?;

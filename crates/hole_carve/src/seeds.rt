@@ -1,7 +1,7 @@
 //! Where the flood from a hole or region point begins.
 ghost use Rattle.std.specs.Prelude.{◌≡◌, ◌↔◌, ◌⊎◌, ◌+◌, ◌<◌, ℕ, pos, true, AllPairs, All, Contains};
 ghost use Rattle.std.specs.Prelude.{length, IfOk, OnOk};
-ghost use Rattle.sign_predicates.specs.Orientation.{InClosed, orient_rational, side_rational};
+ghost use Rattle.sign_predicates.specs.Orientation.{IsPositive, InClosed, orient_rational, side_rational};
 ghost use Rattle.sign_predicates.specs.Orientation.{opposite_face};
 ghost use Rattle.geo_laws.specs.Delaunay.{corners, IsOn};
 ghost use Rattle.geo_laws.specs.Faces.{FaceBefore};
@@ -10,6 +10,7 @@ ghost use Rattle.hole_carve.specs.Flooding.{is_marked};
 ghost use Rattle.hole_carve.specs.Ways.{face_opposite};
 ghost use Rattle.hole_carve.specs.Seeds.{Holds, HoldsOnSome, IsSeedAt};
 
+use crate::boxes::is_off_box;
 use crate::facet_faces::{FacetFaces, has_face};
 use geo_laws::{Face, Points, Tet, TetList, row_faces};
 use sign_predicates::{Corners, GridPoint, Hold, RatPoint, Sign, in_tet, orient_rat};
@@ -41,10 +42,15 @@ fn row_on(points: &Points, list: &TetList, at: usize) -> Tet
 
 /// Whether the closed row holds a point.
 fn holds(points: &Points, row: Tet, x: RatPoint) -> bool
-    requires { IsOn points.now row }
+    requires on { IsOn points.now row }
+    requires positive { IsPositive (corners points.now row) }
     ensures { (result ≡ true) ↔ InClosed (corners points.now row) x }
 {
-    match in_tet(corners(points, row), x) {
+    let t = corners(points, row);
+    if is_off_box(&t, x) {
+        return false;
+    }
+    match in_tet(t, x) {
         Hold::Outside => false,
         Hold::Inside => true,
         Hold::Touching => true,
@@ -70,10 +76,8 @@ fn lies_on(
 fn lies_on_face(row: Tet, t: &Corners, closed: &FacetFaces, corner: usize, x: RatPoint) -> bool
     requires place { corner < 4 }
     requires ascending { AllPairs FaceBefore closed.now }
-    ensures {
-      (result ≡ true) ↔ ((side_rational (opposite_face t.now corner) x ≡ pos 0)
-        × Contains closed.now (face_opposite row corner))
-    }
+    ensures { (result ≡ true) ↔ ((side_rational (opposite_face t.now corner) x ≡ pos 0)
+        × Contains closed.now (face_opposite row corner)) }
 {
     let [a, b, c, d] = row_faces(row);
     match corner {
@@ -87,10 +91,8 @@ fn lies_on_face(row: Tet, t: &Corners, closed: &FacetFaces, corner: usize, x: Ra
 /// Whether a point lies on the plane of a face of the row that is closed.
 fn lies_on_some(row: Tet, t: &Corners, closed: &FacetFaces, x: RatPoint) -> bool
     requires { AllPairs FaceBefore closed.now }
-    ensures {
-      (result ≡ true) ↔ ((k : ℕ) × (k < 4) × (side_rational (opposite_face t.now k) x ≡ pos 0)
-        × Contains closed.now (face_opposite row k))
-    }
+    ensures { (result ≡ true) ↔ ((k : ℕ) × (k < 4) × (side_rational (opposite_face t.now k) x ≡ pos 0)
+        × Contains closed.now (face_opposite row k)) }
 {
     for corner in 0..4 {
         if lies_on_face(row, t, closed, corner, x) {
@@ -109,14 +111,11 @@ fn add_holder(
     holders: &mut Vec<usize>,
 ) -> Result<(), NoMemory>
     requires on { All (IsOn points.now) list.now }
+    requires positive { All (λ t. IsPositive (corners points.now t)) list.now }
     requires there { at < length list.now }
-    requires before {
-      (i : ℕ) → Contains holders.old.items i ↔ ((i < at) × Holds points.now list.now x i)
-    }
-    ensures {
-      OnOk result ((i : ℕ) → Contains holders.new.items i
-        ↔ ((i < at + 1) × Holds points.now list.now x i))
-    }
+    requires before { (i : ℕ) → Contains holders.old.items i ↔ ((i < at) × Holds points.now list.now x i) }
+    ensures { OnOk result ((i : ℕ) → Contains holders.new.items i
+        ↔ ((i < at + 1) × Holds points.now list.now x i)) }
 {
     if holds(points, row_on(points, list, at), x) {
         holders.push(at)?;
@@ -132,10 +131,9 @@ fn holders_of(
     list: &TetList,
     x: RatPoint,
 ) -> Result<Vec<usize>, NoMemory>
-    requires { All (IsOn points.now) list.now }
-    ensures {
-      IfOk result (λ holders. (i : ℕ) → Contains holders.items i ↔ Holds points.now list.now x i)
-    }
+    requires on { All (IsOn points.now) list.now }
+    requires positive { All (λ t. IsPositive (corners points.now t)) list.now }
+    ensures { IfOk result (λ holders. (i : ℕ) → Contains holders.items i ↔ Holds points.now list.now x i) }
 {
     let mut holders = Vec::new(alloc);
     for at in 0..list.len() {
@@ -170,9 +168,7 @@ fn is_on_closed(
 fn mark_one(place: usize, marks: &mut [bool])
     requires { place < length marks.old }
     ensures long { length marks.new ≡ length marks.old }
-    ensures marked {
-      (i : ℕ) → (is_marked marks.new i ≡ true) ↔ ((is_marked marks.old i ≡ true) ⊎ (i ≡ place))
-    }
+    ensures marked { (i : ℕ) → (is_marked marks.new i ≡ true) ↔ ((is_marked marks.old i ≡ true) ⊎ (i ≡ place)) }
 {
     marks[place] = true;
 }
@@ -181,10 +177,8 @@ fn mark_one(place: usize, marks: &mut [bool])
 fn mark_all(places: &[usize], marks: &mut [bool])
     requires { (i : ℕ) → Contains places.now i → i < length marks.old }
     ensures long { length marks.new ≡ length marks.old }
-    ensures marked {
-      (i : ℕ) → (is_marked marks.new i ≡ true)
-        ↔ ((is_marked marks.old i ≡ true) ⊎ Contains places.now i)
-    }
+    ensures marked { (i : ℕ) → (is_marked marks.new i ≡ true)
+        ↔ ((is_marked marks.old i ≡ true) ⊎ Contains places.now i) }
 {
     for at in 0..places.len() {
         mark_one(places[at], marks);
@@ -206,10 +200,8 @@ fn mark_found(
     requires long { length seeds.old ≡ length list.now + 1 }
     requires holders { (i : ℕ) → Contains holders.now i ↔ Holds points.now list.now x i }
     ensures long { length seeds.new ≡ length list.now + 1 }
-    ensures marked {
-      (i : ℕ) → (is_marked seeds.new i ≡ true)
-        ↔ ((is_marked seeds.old i ≡ true) ⊎ IsSeedAt points.now closed.now list.now x i)
-    }
+    ensures marked { (i : ℕ) → (is_marked seeds.new i ≡ true)
+        ↔ ((is_marked seeds.old i ≡ true) ⊎ IsSeedAt points.now closed.now list.now x i) }
 {
     if is_on_closed(points, list, closed, x, holders) {
         return;
@@ -233,13 +225,12 @@ pub(crate) fn mark_seeds(
     seeds: &mut [bool],
 ) -> Result<(), NoMemory>
     requires on { All (IsOn points.now) list.now }
+    requires positive { All (λ t. IsPositive (corners points.now t)) list.now }
     requires ascending { AllPairs FaceBefore closed.now }
     requires long { length seeds.old ≡ length list.now + 1 }
     ensures long { OnOk result (length seeds.new ≡ length list.now + 1) }
-    ensures marked {
-      OnOk result ((i : ℕ) → (is_marked seeds.new i ≡ true)
-        ↔ ((is_marked seeds.old i ≡ true) ⊎ IsSeedAt points.now closed.now list.now x i))
-    }
+    ensures marked { OnOk result ((i : ℕ) → (is_marked seeds.new i ≡ true)
+        ↔ ((is_marked seeds.old i ≡ true) ⊎ IsSeedAt points.now closed.now list.now x i)) }
 {
     let holders = holders_of(alloc, points, list, x)?;
     mark_found(points, list, closed, x, &holders, seeds);

@@ -5,8 +5,8 @@ ghost use Rattle.incidence.specs.Pairs.{pairs_of};
 ghost use Rattle.hole_carve.specs.Ways.{face_opposite, IsWayThrough, AreWaysThrough, AreWays};
 
 use crate::facet_faces::{FacetFaces, has_face};
-use incidence::{Across, Pairs};
 use geo_laws::{Face, Tet, TetList, row_faces};
+use incidence::{Across, Pairs};
 use std::alloc::Global;
 use tet_ports::NoMemory;
 

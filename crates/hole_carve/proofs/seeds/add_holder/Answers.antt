@@ -1,10 +1,16 @@
 use Rattle.std.proofs.Common.{sym, subst, ◌∙◌}
 use Rattle.std.proofs.lemmas.Bool.{true≢false}
-use Rattle.sign_predicates.specs.Orientation.{InClosed}
+use Rattle.sign_predicates.specs.Orientation.{IsPositive, InClosed}
+use Rattle.geo_laws.specs.declared.tetrahedra.Tet.{Tet}
 use Rattle.geo_laws.specs.Delaunay.{corners}
 use Rattle.hole_carve.specs.Seeds.{Holds}
 use Rattle.hole_carve.proofs.Seeding.{gathered_next, gathered_past}
 use Rattle.hole_carve.proofs.seeds.add_holder.Goals as goal
+
+pub holds-requires-clause-positive : goal.holds-requires-clause-positive
+holds-requires-clause-positive c =
+    let d : Tet = record { a = 0; b = 0; c = 0; d = 0 } in
+    subst (λ t. IsPositive (corners c.args.points.now t)) (sym c.row_on.ensures.is) (c.requires.positive c.args.at d c.requires.there)
 
 pub returns-then-holds : goal.returns-then-holds
 returns-then-holds c =

@@ -1,0 +1,48 @@
+//! Whether a point is outside of the box of a tetrahedron, which costs less than the exact test.
+ghost use Rattle.std.specs.Prelude.{◌≡◌, ◌≤◌, ◌^◌, ◌*ℤ◌, unsigned_abs, IsTrue};
+ghost use Rattle.sign_predicates.specs.Orientation.{IsPositive, InClosed};
+ghost use Rattle.hole_carve.specs.Boxes.{AreApart};
+
+use sign_predicates::{Corners, RatPoint};
+
+/// A coordinate of the grid times a denominator.
+fn scaled(a: i32, w: i64) -> i64
+    requires a_small { unsigned_abs a ≤ 2 ^ 23 }
+    requires w_small { unsigned_abs w ≤ 1000000 }
+    ensures { result ≡ a *ℤ w }
+{
+    a as i64 * w
+}
+
+/// Whether four numbers are all less than another one, or all greater.
+fn are_apart(a: i64, b: i64, c: i64, d: i64, x: i64) -> bool
+    ensures { IsTrue result → AreApart a b c d x }
+{
+    a < x && b < x && c < x && d < x || x < a && x < b && x < c && x < d
+}
+
+/// The same of four coordinates and that of a point, by its denominator.
+fn are_apart_over(a: i32, b: i32, c: i32, d: i32, x: i64, w: i64) -> bool
+    requires a_small { unsigned_abs a ≤ 2 ^ 23 }
+    requires b_small { unsigned_abs b ≤ 2 ^ 23 }
+    requires c_small { unsigned_abs c ≤ 2 ^ 23 }
+    requires d_small { unsigned_abs d ≤ 2 ^ 23 }
+    requires w_small { unsigned_abs w ≤ 1000000 }
+    ensures { IsTrue result → AreApart (a *ℤ w) (b *ℤ w) (c *ℤ w) (d *ℤ w) x }
+{
+    are_apart(scaled(a, w), scaled(b, w), scaled(c, w), scaled(d, w), x)
+}
+
+/// Whether the point lies outside of the box of a tetrahedron.
+pub(crate) fn is_off_box(t: &Corners, x: RatPoint) -> bool
+    requires { IsPositive t.now }
+    ensures { IsTrue result → ¬ InClosed t.now x }
+{
+    if are_apart_over(t.a.x, t.b.x, t.c.x, t.d.x, x.x, x.w) {
+        return true;
+    }
+    if are_apart_over(t.a.y, t.b.y, t.c.y, t.d.y, x.y, x.w) {
+        return true;
+    }
+    are_apart_over(t.a.z, t.b.z, t.c.z, t.d.z, x.z, x.w)
+}
