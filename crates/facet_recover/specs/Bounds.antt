@@ -1,6 +1,6 @@
 -- Boxes along the axes.
-use Rattle.std.specs.Prelude.{◌≡◌, ◌⊎◌, ℕ, ℤ, ◌<ℤ◌, ◌≤ℤ◌, true, List}
-use Rattle.sign_predicates.specs.Point.{Point}
+use Rattle.std.specs.Prelude.{◌≡◌, ◌⊎◌, ℕ, ℤ, ◌<ℤ◌, ◌*ℤ◌, ◌≤ℤ◌, true, List}
+use Rattle.sign_predicates.specs.Point.{Point, RationalPoint}
 use Rattle.geo_laws.specs.Delaunay.{point}
 use Rattle.geo_laws.specs.Simplex.{has_number}
 use Rattle.facet_recover.specs.declared.bounds.Interval.{Interval}
@@ -37,3 +37,13 @@ pub record HoldsPoint (b : Bounds) (p : Point) : Type 0 where
 -- the box holds the corners of the simplex
 abbrev pub HoldsCorners : List Point → List ℕ → Bounds → Type 0
 HoldsCorners ps s b = (i : ℕ) → has_number s i ≡ true → HoldsPoint b (point ps i)
+
+-- the interval holds the number x over w
+abbrev pub HoldsQuotient : Interval → ℤ → ℤ → Type 0
+HoldsQuotient i x w = ((i.low *ℤ w) ≤ℤ x) × (x ≤ℤ (i.high *ℤ w))
+
+-- the box holds the rational point
+pub record HoldsRational (b : Bounds) (p : RationalPoint) : Type 0 where
+  pub x : HoldsQuotient b.x p.x p.w
+  pub y : HoldsQuotient b.y p.y p.w
+  pub z : HoldsQuotient b.z p.z p.w

@@ -1,0 +1,9 @@
+use Rattle.std.specs.List.{slice_index_or}
+use Rattle.geo_laws.specs.Delaunay.{numbers}
+use Rattle.geo_laws.specs.declared.tetrahedra.Tet.{Tet}
+use Rattle.facet_recover.specs.Bounds.{HoldsCorners}
+use Rattle.facet_recover.proofs.Trees.{AreBoxesTo}
+use Rattle.facet_recover.proofs.fill.cavity_tree.Given as goal
+
+abbrev pub invariant-loop-place : goal.invariant-loop-place
+invariant-loop-place l = AreBoxesTo (λ i b. (d : Tet) → HoldsCorners l.points (numbers (slice_index_or l.cavity i d)) b) l.place l.boxes
