@@ -23,7 +23,6 @@ use Rattle.facet_recover.specs.Cavity.{IsRowOn, holds_centroid, lies_in_cavity, 
 use Rattle.facet_recover.specs.Tree.{AreApartBetween}
 use Rattle.facet_recover.proofs.Lists.{less_or_more, all_at, any_found}
 use Rattle.facet_recover.proofs.Centroid.{closed_test}
-use Rattle.facet_recover.proofs.Trees.{any_default}
 
 -- ---- a coordinate of a point of a simplex is between those of the corners
 

@@ -17,7 +17,6 @@ use Rattle.facet_recover.specs.Crossed.{IsBetter, IsLeastEntering, IsTriangleTre
 use Rattle.facet_recover.specs.Tree.{AreApartBetween}
 use Rattle.facet_recover.proofs.Lists.{less_or_more}
 use Rattle.facet_recover.proofs.Boxes.{not_entering}
-use Rattle.facet_recover.proofs.Trees.{any_default}
 
 -- the triangle that was found enters the row
 abbrev pub IsFound : List Point → List FacetTriangle → Tet → ℕ → Option FacetTriangle → Type 0

@@ -17,12 +17,6 @@ use Rattle.facet_recover.proofs.Boxes.{within_more, within_self, bounds_apart_sm
 
 -- ---- one element more
 
--- what stands at a place does not depend on the default
-pub any_default : {X : Type 0} (xs : List X) (k : ℕ) (d e : X) → k < length xs → get_or xs k d ≡ get_or xs k e
-any_default [] k d e l = absurd (omega arith)
-any_default (x ∷ xs) zero d e l = refl
-any_default (x ∷ xs) (suc k) d e l = any_default xs k d e (omega arith)
-
 -- the last element
 pub last_is : {X : Type 0} (xs : List X) (x : X) (k : ℕ) (d : X) → k ≡ length xs → get_or (xs ++ x ∷ []) k d ≡ x
 last_is xs x k d e = get_or-append_right xs (x ∷ []) k k d (sym e) (omega arith) ∙ ap (λ n. get_or (x ∷ []) n d) (none k)

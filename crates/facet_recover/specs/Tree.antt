@@ -25,7 +25,8 @@ pub record AreNodes (boxes : List Boxed) (count : ℕ) (nodes : List Node) : Typ
 pub record IsTree (nodes : List Node) : Type 0 where
   pub onward : (i : ℕ) (d : Node) → i < length nodes → i < (slice_index_or nodes i d).past
   pub there : (i : ℕ) (d : Node) → i < length nodes → (slice_index_or nodes i d).past ≤ length nodes
-  pub holds : (i j : ℕ) (d : Node) → i ≤ j → i < length nodes → j < (slice_index_or nodes i d).past → IsWithin (slice_index_or nodes j d).own.bounds (slice_index_or nodes i d).wide
+  pub holds : (i j : ℕ) (d : Node) → i ≤ j → i < length nodes → j < (slice_index_or nodes i d).past
+      → IsWithin (slice_index_or nodes j d).own.bounds (slice_index_or nodes i d).wide
 
 -- a tree with the boxes of the list
 pub record IsTreeOf (boxes : List Boxed) (nodes : List Node) : Type 0 where

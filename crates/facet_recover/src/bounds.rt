@@ -3,7 +3,8 @@ ghost use Rattle.std.specs.Prelude.{◌<◌, IsTrue, length};
 ghost use Rattle.geo_laws.specs.Delaunay.{point, numbers, IsOn};
 ghost use Rattle.geo_laws.specs.Facet.{corner_numbers};
 ghost use Rattle.simplex_meets.specs.Proper.{IsTriangle, triangle_face};
-ghost use Rattle.facet_recover.specs.Bounds.{IsIn, AreApart, AreBoundsApart, IsPart, IsWithin, HoldsPoint, HoldsCorners};
+ghost use Rattle.facet_recover.specs.Bounds.{IsIn, AreApart, AreBoundsApart, IsPart, IsWithin};
+ghost use Rattle.facet_recover.specs.Bounds.{HoldsPoint, HoldsCorners};
 
 use geo_laws::{FacetTriangle, Points, Tet};
 use sign_predicates::GridPoint;

@@ -1,4 +1,5 @@
-//! A tree of boxes in the order of a space-filling curve, in which those that meet a box are found without looking at all.
+//! A tree of boxes in the order of a space-filling curve, in which those that meet a box are found
+//! without looking at all.
 ghost use Rattle.std.specs.Prelude.{◌≡◌, ℕ, ◌+◌, ◌<◌, ◌≤◌, length, IfOk, slice_index_or};
 ghost use Rattle.facet_recover.specs.Bounds.{IsWithin, AreBoundsApart};
 ghost use Rattle.facet_recover.specs.Tree.{HoldsFrom, AreNodes, IsTree, IsTreeOf, AreApartBetween};
@@ -7,7 +8,8 @@ use crate::bounds::{Bounds, are_bounds_apart, joined};
 use std::alloc::Global;
 use tet_ports::{Items, NoMemory};
 
-/// The box of a body, the place of the body in its list, from 0, and a key along the curve. The order is by key first.
+/// The box of a body, the place of the body in its list, from 0, and a key along the curve. The
+/// order is by key first.
 #[derive(Clone, Copy, Debug, PartialEq, Eq, PartialOrd, Ord)]
 pub(crate) struct Boxed {
     key: u64,
@@ -15,7 +17,8 @@ pub(crate) struct Boxed {
     pub(crate) bounds: Bounds,
 }
 
-/// A node of a tree: a box, and a wide one that holds the boxes of this node and of those after it before the place `past`.
+/// A node of a tree: a box, and a wide one that holds the boxes of this node and of those after it
+/// before the place `past`.
 #[derive(Clone, Copy, Debug)]
 pub(crate) struct Node {
     pub(crate) own: Boxed,
@@ -69,7 +72,8 @@ fn wide_bounds(boxes: &Items<Boxed>, from: usize, past: usize) -> Bounds
     wide
 }
 
-/// The place after the last node that the wide box of the node at `i` holds: as many as the greatest power of two that divides `i`.
+/// The place after the last node that the wide box of the node at `i` holds: as many as the
+/// greatest power of two that divides `i`.
 fn past_of(i: usize, count: usize) -> usize
     requires { i < count }
     ensures after { i < result }
@@ -103,7 +107,8 @@ pub(crate) fn tree_of(alloc: Global, mut boxes: Items<Boxed>) -> Result<Tree, No
     nodes_of(alloc, &boxes)
 }
 
-/// The first place from `from` on whose box is not apart from this one; the number of nodes, where all are.
+/// The first place from `from` on whose box is not apart from this one; the number of nodes, where
+/// all are.
 pub(crate) fn next_meeting(tree: &Tree, bounds: &Bounds, from: usize) -> usize
     requires tree { IsTree tree.now }
     requires there { from ≤ length tree.now }
