@@ -1,13 +1,13 @@
 -- Whether a row of a cavity holds a centroid, by the tree of the rows' boxes.
-use Rattle.std.proofs.Common.{◌≡◌, ◌⊎◌, inl, inr, ℕ, suc, ◌+◌, ◌<◌, ◌≤◌, ℤ, pos, ◌+ℤ◌, ◌*ℤ◌, ◌<ℤ◌, ◌≤ℤ◌, Bool, true, false, List, [], ◌∷◌, ◌||◌, length, get_or, refl, ap, sym, subst, ◌∙◌, arith}
-use Rattle.std.specs.Prelude.{Any, All, IsTrue}
+use Rattle.std.proofs.Common.{◌≡◌, ◌⊎◌, inl, inr, ℕ, suc, ◌+◌, ◌<◌, ◌≤◌, ℤ, pos, ◌+ℤ◌, ◌*ℤ◌, ◌<ℤ◌, ◌≤ℤ◌, Bool, true, false, List, [], ◌∷◌, ◌||◌, length, get_or, refl, ap, sym, ◌∙◌, arith}
+use Rattle.std.specs.Prelude.{Any, All}
 use Rattle.std.specs.List.{HoldsAt, list_any}
 use Rattle.std.proofs.lemmas.Int.{ints}
 use Rattle.exact_algebra.proofs.Ring.{var, ring, same, ◌⊗◌}
 use Rattle.exact_algebra.proofs.Signs.{mul_le, mul_lt, le_of_mul}
 use Rattle.sign_predicates.specs.Point.{Point, RationalPoint}
-use Rattle.sign_predicates.specs.Orientation.{IsPositive, InClosed, in_closed}
-use Rattle.geo_laws.specs.Delaunay.{point, corners, numbers}
+use Rattle.sign_predicates.specs.Orientation.{IsPositive, InClosed}
+use Rattle.geo_laws.specs.Delaunay.{corners, numbers}
 use Rattle.geo_laws.specs.Simplex.{InSimplex, has_number}
 use Rattle.geo_laws.specs.declared.tetrahedra.Tet.{Tet}
 use Rattle.simplex_meets.proofs.Along.{sum_most, sum_least}
@@ -21,7 +21,7 @@ use Rattle.facet_recover.specs.declared.tree.Node.{Node}
 use Rattle.facet_recover.specs.Bounds.{IsIn, AreApart, AreBoundsApart, HoldsCorners, HoldsQuotient, HoldsRational}
 use Rattle.facet_recover.specs.Cavity.{IsRowOn, holds_centroid, lies_in_cavity, IsCavityTree}
 use Rattle.facet_recover.specs.Tree.{AreApartBetween}
-use Rattle.facet_recover.proofs.Lists.{less_or_more, all_at, any_found}
+use Rattle.facet_recover.proofs.Lists.{less_or_more}
 use Rattle.facet_recover.proofs.Centroid.{closed_test}
 
 -- ---- a coordinate of a point of a simplex is between those of the corners

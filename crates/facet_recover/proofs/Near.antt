@@ -1,14 +1,12 @@
 -- The least facet that has a triangle that enters a row, by the tree of the triangles' boxes.
-use Rattle.std.proofs.Common.{◌≡◌, ◌⊎◌, inl, inr, ℕ, ◌+◌, ◌<◌, ◌≤◌, List, length, get_or, refl, ap, sym, subst, ◌∙◌, arith}
+use Rattle.std.proofs.Common.{◌≡◌, ◌⊎◌, inl, inr, ℕ, ◌+◌, ◌<◌, ◌≤◌, List, length, get_or, ap, sym, subst, ◌∙◌, arith}
 use Rattle.std.specs.Prelude.{Contains, Option, Some, None, IfSome, Any}
 use Rattle.std.specs.List.{HoldsAt}
 use Rattle.sign_predicates.specs.Point.{Point}
 use Rattle.sign_predicates.specs.Orientation.{IsPositive}
 use Rattle.geo_laws.specs.Delaunay.{corners, numbers}
-use Rattle.geo_laws.specs.Facet.{corner_numbers}
 use Rattle.geo_laws.specs.declared.tetrahedra.Tet.{Tet}
 use Rattle.geo_laws.specs.declared.complex.FacetTriangle.{FacetTriangle}
-use Rattle.geo_laws.proofs.Members.{contains_of, at_place}
 use Rattle.simplex_meets.specs.Proper.{FaceEnters, triangle_face}
 use Rattle.facet_recover.specs.declared.bounds.Bounds.{Bounds}
 use Rattle.facet_recover.specs.declared.tree.Node.{Node}

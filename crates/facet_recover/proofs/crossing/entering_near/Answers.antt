@@ -1,5 +1,5 @@
 use Rattle.std.proofs.Common.{◌+◌, subst, sym, arith}
-use Rattle.std.specs.Prelude.{Some, None}
+use Rattle.std.specs.Prelude.{None}
 use Rattle.simplex_meets.specs.Proper.{IsTriangle, triangle_face}
 use Rattle.facet_recover.proofs.Lists.{all_at}
 use Rattle.facet_recover.proofs.Near.{IsLeastBefore, least_start, least_further, near_taken, near_left, least_of_all}

@@ -1,4 +1,4 @@
-use Rattle.std.proofs.Common.{◌<◌, ◌≤◌, length, arith}
+use Rattle.std.proofs.Common.{arith}
 use Rattle.facet_recover.proofs.Trees.{apart_wide, apart_own, onward_at}
 use Rattle.facet_recover.proofs.tree.next_meeting.Goals as goal
 

@@ -1,4 +1,4 @@
-use Rattle.std.proofs.Common.{◌+◌, ◌++◌, ◌∷◌, [], length, subst, sym, arith}
+use Rattle.std.proofs.Common.{◌+◌, subst, sym, arith}
 use Rattle.facet_recover.specs.Tree.{AreNodes}
 use Rattle.facet_recover.proofs.Trees.{nodes_more, nodes_none}
 use Rattle.facet_recover.proofs.tree.nodes_of.Goals as goal

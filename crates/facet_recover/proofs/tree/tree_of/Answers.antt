@@ -1,4 +1,3 @@
-use Rattle.std.specs.Prelude.{IfOk}
 use Rattle.facet_recover.proofs.Trees.{same_boxed, tree_of_boxes}
 use Rattle.facet_recover.proofs.Lists.{if_ok}
 use Rattle.facet_recover.proofs.tree.tree_of.Goals as goal
