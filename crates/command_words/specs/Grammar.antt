@@ -1,0 +1,126 @@
+-- The grammar of the words of the command line, and where words are against it. Words and places are counted from 1.
+use Rattle.std.specs.Prelude.{ℕ, ◌+◌, Bool, true, false, not, length, take, drop, nat_eq, nat_le, nat_lt, ◌==◌, ◌&&◌, ◌||◌, Option, Some, None, List, [], ◌∷◌, codes, position, unwrap_or, is_some, if◌then◌else◌}
+use Rattle.std.specs.List.{list_any, starts_with}
+use Rattle.std.specs.Option.{option_map_or, option_or}
+use Rattle.std.specs.Char.{is_ascii_digit}
+use Rattle.tet_text.specs.Numbers.{number_of}
+
+-- ---- the three kinds of words
+
+abbrev pub has_hyphen : List ℕ → Bool
+has_hyphen word = starts_with nat_eq word (codes "-")
+
+-- a long word begins with two hyphens
+abbrev pub is_long : List ℕ → Bool
+is_long word = starts_with nat_eq word (codes "--")
+
+-- a cluster of switches begins with one hyphen
+abbrev pub is_cluster : List ℕ → Bool
+is_cluster word = has_hyphen word && not (is_long word)
+
+-- a name is not empty and begins with no hyphen
+abbrev pub is_name : List ℕ → Bool
+is_name word = not (length word == 0) && not (has_hyphen word)
+
+-- ---- numbers
+
+-- how many digits stand at the front
+abbrev pub digit_count : List ℕ → ℕ
+digit_count text = unwrap_or (position (λ byte. not (is_ascii_digit byte)) text) (length text)
+
+abbrev pub within : ℕ → Option ℕ → Option ℕ
+within most None = None
+within most (Some n) = if nat_le n most then Some n else None
+
+-- the number that all digits at the front write, where there are 1 to 9 of them and it is at most `most`
+abbrev pub number_at_front : ℕ → List ℕ → Option ℕ
+number_at_front most text = within most (number_of 9 (take (digit_count text) text))
+
+-- ---- clusters: a hyphen, then one or more switches, each of which is a letter of the table, or S (83) with its number
+
+-- the letters of the table that have no number
+abbrev pub is_letter : ℕ → Bool
+is_letter byte = list_any (λ known. known == byte) (codes "pnfezcAQNEF")
+
+-- the number of an S, where these bytes stand behind it: at most 100,000 points may be added
+abbrev pub budget_at_front : List ℕ → Option ℕ
+budget_at_front text = number_at_front 100000 text
+
+-- The place of the first fault of switches, where the first of these bytes has this place: that of a byte that is no letter of the table,
+-- or that behind an S with no number, where the number's first digit is wanted or stands. The digits of a number belong to its S: `numbered`
+-- says that an S stands before these bytes, with at most digits between.
+abbrev pub switches_fault : Bool → ℕ → List ℕ → Option ℕ
+switches_fault numbered place [] = None
+switches_fault numbered place (byte ∷ more) =
+    if numbered && is_ascii_digit byte then switches_fault true (place + 1) more else
+    if byte == 83 then (if is_some (budget_at_front more) then switches_fault true (place + 1) more else Some (place + 1)) else
+    if is_letter byte then switches_fault false (place + 1) more else Some place
+
+-- a hyphen alone is at fault past its end
+abbrev pub cluster_fault : List ℕ → Option ℕ
+cluster_fault word =
+    if length word == 1 then Some 2 else switches_fault false 2 (drop 1 word)
+
+-- ---- long words: a front, then a number
+
+-- The place of the fault of a long word, where these bytes have this place and stand behind its front: at the first of them, where they do not
+-- begin with a number up to `most`, and else at the first byte behind the digits.
+abbrev pub number_fault : ℕ → ℕ → List ℕ → Option ℕ
+number_fault place most text =
+    if not (is_some (number_at_front most text)) then Some place else
+    if nat_lt (digit_count text) (length text) then Some (digit_count text + place) else None
+
+-- at most 12 halvings, 20 decimals, and 10,000 points of the sample
+abbrev pub long_fault : List ℕ → Option ℕ
+long_fault word =
+    if starts_with nat_eq word (codes "--halvings=") then number_fault 12 12 (drop 11 word) else
+    if starts_with nat_eq word (codes "--decimals=") then number_fault 12 20 (drop 11 word) else
+    if starts_with nat_eq word (codes "--sample=") then number_fault 10 10000 (drop 9 word) else Some 3
+
+-- the number of a long word with this front
+abbrev pub number_in : List ℕ → ℕ → List ℕ → Option ℕ
+number_in front most word = if starts_with nat_eq word front then number_at_front most (drop (length front) word) else None
+
+-- what the last of the words gives for which this gives something, or else what stood before them
+abbrev pub last_from : (List ℕ → Option ℕ) → Option ℕ → List (List ℕ) → Option ℕ
+last_from number last [] = last
+last_from number last (word ∷ more) = last_from number (option_or (number word) last) more
+
+-- the last number counts
+abbrev pub last_number : List ℕ → ℕ → List (List ℕ) → Option ℕ
+last_number front most words = last_from (number_in front most) None words
+
+abbrev pub sample_of : List (List ℕ) → Option ℕ
+sample_of words = last_number (codes "--sample=") 10000 words
+
+-- ---- all words
+
+-- the place of the fault of a word by itself, or None where it has none
+abbrev pub word_fault : List ℕ → Option ℕ
+word_fault word =
+    if length word == 0 then Some 1 else
+    if is_long word then long_fault word else
+    if is_cluster word then cluster_fault word else None
+
+-- The first bad word and the place in it, where the first of these words has this number, and `named` says that a name stands before them:
+-- a second name is bad.
+abbrev pub bad_word_from : ℕ → Bool → List (List ℕ) → Option (ℕ × ℕ)
+bad_word_from number named [] = None
+bad_word_from number named (word ∷ more) =
+    if named && is_name word then Some (number, 1)
+    else option_map_or (λ place. Some (number, place)) (word_fault word) (bad_word_from (number + 1) (named || is_name word) more)
+
+-- the words have a name
+abbrev pub is_named : List (List ℕ) → Bool
+is_named words = list_any is_name words
+
+-- the words ask for the sample
+abbrev pub is_sampled : List (List ℕ) → Bool
+is_sampled words = is_some (sample_of words)
+
+-- The first fault of the words: the number of the word and the place in it. All together they have a name or ask for the sample, and not both;
+-- that is told after the last word.
+abbrev pub words_fault : List (List ℕ) → Option (ℕ × ℕ)
+words_fault words =
+    option_or (bad_word_from 1 false words)
+    (if is_named words && is_sampled words || not (is_named words || is_sampled words) then Some (length words + 1, 1) else None)

@@ -1,0 +1,83 @@
+-- What the words of the command line ask for.
+use Rattle.std.specs.Prelude.{ℕ, ◌≡◌, ◌≤◌, Bool, false, true, ◌==◌, ◌&&◌, ◌||◌, Option, Some, None, IfSome, List, [], ◌∷◌, codes, find, unwrap_or, IsSome, if◌then◌else◌}
+use Rattle.std.specs.List.{list_any}
+use Rattle.std.specs.Option.{option_or}
+use Rattle.command_words.specs.Grammar.{is_cluster, is_name, is_sampled, budget_at_front, last_from, last_number, sample_of}
+use Rattle.command_words.specs.Names.{extension_of, base_of}
+use Rattle.command_words.specs.declared.options.Options.{Options}
+use Rattle.command_words.specs.declared.options.Extension.{Extension}
+use Rattle.command_words.specs.declared.options.Extension.TheVariants.{Node, Poly, Smesh}
+
+-- ---- switches
+
+-- the word is a cluster and has the letter
+abbrev pub has_switch : List ℕ → ℕ → Bool
+has_switch word letter = is_cluster word && list_any (λ l. l == letter) word
+
+-- some cluster has the letter
+abbrev pub is_switched : List (List ℕ) → ℕ → Bool
+is_switched words letter = list_any (λ word. has_switch word letter) words
+
+-- ---- the number of S
+
+-- the number of the last S among these bytes, or else what stood before them
+abbrev pub budget_from : Option ℕ → List ℕ → Option ℕ
+budget_from last [] = last
+budget_from last (byte ∷ more) = budget_from (if byte == 83 then option_or (budget_at_front more) last else last) more
+
+abbrev pub budget_in : List ℕ → Option ℕ
+budget_in word = if is_cluster word then budget_from None word else None
+
+-- the last number counts
+abbrev pub last_budget : List (List ℕ) → Option ℕ
+last_budget words = last_from budget_in None words
+
+-- ---- names
+
+-- the first name among the words
+abbrev pub name_of : List (List ℕ) → List ℕ
+name_of words = unwrap_or (find is_name words) []
+
+-- Whether a complex is meshed, where `asked` says that the words ask for it: the extension of a complex puts it on, and that of points off.
+abbrev pub is_piecewise : Bool → Option Extension → Bool
+is_piecewise asked None = asked
+is_piecewise asked (Some Node) = false
+is_piecewise asked (Some Poly) = true
+is_piecewise asked (Some Smesh) = true
+
+-- ---- the options
+
+-- what the words ask for; 112 is p, 110 n, 102 f, 101 e, 122 z, 99 c, 65 A, 81 Q, 78 N, 69 E and 70 F
+abbrev pub options_of : List (List ℕ) → Options
+options_of words = record {
+  piecewise = is_piecewise (is_switched words 112 || is_sampled words) (extension_of (name_of words));
+  neighbors = is_switched words 110;
+  all_faces = is_switched words 102;
+  edges = is_switched words 101;
+  from_zero = is_switched words 122;
+  keep_hull = is_switched words 99;
+  regions = is_switched words 65;
+  quiet = is_switched words 81;
+  no_node = is_switched words 78;
+  no_ele = is_switched words 69;
+  no_face = is_switched words 70;
+  budget = unwrap_or (last_budget words) 100000;
+  halvings = unwrap_or (last_number (codes "--halvings=") 12 words) 12;
+  decimals = last_number (codes "--decimals=") 20 words;
+  sample = sample_of words;
+  base = base_of (name_of words);
+  extension = extension_of (name_of words);
+}
+
+-- the numbers of options are in their ranges
+pub record AreInRange (options : Options) : Type 0 where
+  pub budget : options.budget ≤ 100000
+  pub halvings : options.halvings ≤ 12
+  pub decimals : IfSome options.decimals (λ n. n ≤ 20)
+  pub sample : IfSome options.sample (λ n. n ≤ 10000)
+
+-- the options of words that ask for the sample name no file, and a complex is meshed
+pub record AreOfSample (options : Options) : Type 0 where
+  pub base : options.base ≡ []
+  pub extension : options.extension ≡ None
+  pub piecewise : options.piecewise ≡ true

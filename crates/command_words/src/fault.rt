@@ -1,0 +1,24 @@
+use tet_ports::NoMemory;
+use thiserror::Error;
+
+/// Why words give no options.
+#[derive(Clone, Copy, Debug, PartialEq, Eq, Error)]
+pub enum WordsFault {
+    /// The first bad word and the place of the first bad byte in it, both counted from 1.
+    #[error("word {word}, place {place}: not understood")]
+    Usage { word: usize, place: usize },
+    /// Want of memory.
+    #[error("out of memory")]
+    NoMemory,
+}
+
+impl From<NoMemory> for WordsFault {
+    ghost use Rattle.std.specs.Prelude.{◌≡◌};
+    ghost use Rattle.command_words.specs.declared.fault.WordsFault.TheVariants.{NoMemory as OutOfMemory};
+
+    ghost from_gives = { λ _ e. e ≡ OutOfMemory };
+
+    fn from(_: NoMemory) -> WordsFault {
+        WordsFault::NoMemory
+    }
+}

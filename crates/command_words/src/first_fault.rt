@@ -1,0 +1,123 @@
+//! Where words are against their grammar.
+
+ghost use Rattle.std.specs.Prelude.{◌≡◌, ◌≤◌, ◌<◌, false, length, drop};
+ghost use Rattle.command_words.specs.Grammar.{bad_word_from, cluster_fault, long_fault, number_fault, switches_fault, word_fault, words_fault};
+
+use crate::budget::budget_at_front;
+use crate::grammar::{is_cluster, is_letter, is_long, is_name, is_named};
+use crate::numbers::{
+    DECIMALS, HALVINGS, MOST_DECIMALS, MOST_HALVINGS, MOST_SAMPLE, SAMPLE, digit_count,
+    number_at_front, sample_of,
+};
+use tet_ports::Words;
+
+/// The first fault of the words: the number of the word and the place in it, both counted from 1.
+pub(crate) fn words_fault(words: &Words) -> Option<(usize, usize)>
+    ensures { result ≡ words_fault words.now }
+{
+    if let Some(fault) = bad_word(words) {
+        return Some(fault);
+    }
+    if is_named(words) == sample_of(words).is_some() {
+        Some((words.len() + 1, 1))
+    } else {
+        None
+    }
+}
+
+/// The first bad word and the place in it.
+fn bad_word(words: &Words) -> Option<(usize, usize)>
+    ensures { result ≡ bad_word_from 1 false words.now }
+{
+    let mut named = false;
+    for (i, word) in words.as_slice().iter().enumerate() {
+        let bytes = word.as_slice();
+        if named && is_name(bytes) {
+            return Some((i + 1, 1));
+        }
+        if let Some(place) = word_fault(bytes) {
+            return Some((i + 1, place));
+        }
+        named = named || is_name(bytes);
+    }
+    None
+}
+
+/// The place of the fault of a word by itself, counted from 1.
+fn word_fault(word: &[u8]) -> Option<usize>
+    ensures { result ≡ word_fault word.now }
+{
+    if word.is_empty() {
+        Some(1)
+    } else if is_long(word) {
+        long_fault(word)
+    } else if is_cluster(word) {
+        cluster_fault(word)
+    } else {
+        None
+    }
+}
+
+/// The place of the first fault of a word that begins with one hyphen.
+fn cluster_fault(word: &[u8]) -> Option<usize>
+    requires { 0 < length word.now }
+    ensures { result ≡ cluster_fault word.now }
+{
+    if word.len() == 1 {
+        Some(2)
+    } else {
+        switches_fault(&word[1..])
+    }
+}
+
+/// The place of the first fault of the switches that stand from place 2 on.
+fn switches_fault(switches: &[u8]) -> Option<usize>
+    ensures { result ≡ switches_fault false 2 switches.now }
+{
+    let mut numbered = false;
+    for (i, byte) in switches.iter().enumerate() {
+        if numbered && byte.is_ascii_digit() {
+            continue;
+        }
+        numbered = *byte == b'S';
+        if numbered {
+            if budget_at_front(&switches[i + 1..]).is_none() {
+                return Some(i + 3);
+            }
+        } else if !is_letter(*byte) {
+            return Some(i + 2);
+        }
+    }
+    None
+}
+
+/// The place of the fault of a long word, where this text stands behind its front, from this place on.
+fn number_fault(place: usize, most: u32, text: &[u8]) -> Option<usize>
+    requires { place ≤ 12 }
+    ensures { result ≡ number_fault place most text.now }
+{
+    if number_at_front(most, text).is_none() {
+        return Some(place);
+    }
+    let count = digit_count(text);
+    if count < text.len() {
+        Some(count + place)
+    } else {
+        None
+    }
+}
+
+/// The place of the fault of a word that begins with two hyphens.
+fn long_fault(word: &[u8]) -> Option<usize>
+    ensures { result ≡ long_fault word.now }
+{
+    if word.starts_with(HALVINGS) {
+        number_fault(HALVINGS.len() + 1, MOST_HALVINGS, &word[HALVINGS.len()..])
+    } else if word.starts_with(DECIMALS) {
+        number_fault(DECIMALS.len() + 1, MOST_DECIMALS, &word[DECIMALS.len()..])
+    } else if word.starts_with(SAMPLE) {
+        number_fault(SAMPLE.len() + 1, MOST_SAMPLE, &word[SAMPLE.len()..])
+    } else {
+        Some(3)
+    }
+}

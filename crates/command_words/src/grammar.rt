@@ -1,0 +1,48 @@
+//! The three kinds of words.
+
+ghost use Rattle.std.specs.Prelude.{◌≡◌, ◌<◌, IsTrue, length};
+ghost use Rattle.command_words.specs.Grammar.{has_hyphen, is_cluster, is_letter, is_long, is_name, is_named};
+
+use tet_ports::Words;
+
+fn has_hyphen(word: &[u8]) -> bool
+    ensures { result ≡ has_hyphen word.now }
+{
+    word.starts_with(b"-")
+}
+
+/// Whether the word begins with two hyphens.
+pub(crate) fn is_long(word: &[u8]) -> bool
+    ensures { result ≡ is_long word.now }
+{
+    word.starts_with(b"--")
+}
+
+/// Whether the word begins with one hyphen.
+pub(crate) fn is_cluster(word: &[u8]) -> bool
+    ensures value { result ≡ is_cluster word.now }
+    ensures bound { IsTrue result → 0 < length word.now }
+{
+    word.starts_with(b"-") && !is_long(word)
+}
+
+/// Whether the word is not empty and begins with no hyphen.
+pub(crate) fn is_name(word: &[u8]) -> bool
+    ensures { result ≡ is_name word.now }
+{
+    !word.is_empty() && !has_hyphen(word)
+}
+
+/// Whether the byte is a switch that has no number.
+pub(crate) fn is_letter(byte: u8) -> bool
+    ensures { result ≡ is_letter byte }
+{
+    b"pnfezcAQNEF".contains(&byte)
+}
+
+/// Whether there is a name among the words.
+pub(crate) fn is_named(words: &Words) -> bool
+    ensures { result ≡ is_named words.now }
+{
+    words.as_slice().iter().any(|word| is_name(word.as_slice()))
+}

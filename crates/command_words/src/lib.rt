@@ -1,0 +1,18 @@
+//! The words of the command line: their grammar, their first fault, and what they ask for.
+#![tactic(auto)]
+
+mod budget;
+mod fault;
+mod first_fault;
+mod grammar;
+mod names;
+mod numbers;
+mod options;
+mod reading;
+#[cfg(test)]
+mod tests;
+
+pub use fault::WordsFault;
+pub use names::{base_of, extension_of, file_name, with_extension};
+pub use options::{Extension, Options};
+pub use reading::read_words;

@@ -1,0 +1,55 @@
+use tet_ports::Name;
+
+/// The extension with which a name on the command line ends.
+#[derive(Clone, Copy, Debug, PartialEq, Eq)]
+pub enum Extension {
+    /// A file of points, `.node`.
+    Node,
+    /// A file of a piecewise linear complex, `.poly`.
+    Poly,
+    /// A file of a piecewise linear complex, `.smesh`.
+    Smesh,
+}
+
+/// What the words of the command line ask for.
+///
+/// The switches stand in the order of the letters p, n, f, e, z, c, A, Q, N, E, F.
+#[derive(Debug, Drop)]
+pub struct Options {
+    /// Mesh a piecewise linear complex.
+    ///
+    /// The letter p, the sample and an extension of a complex put this on; the extension `.node` puts it off.
+    pub piecewise: bool,
+    /// Write the `.neigh` file.
+    pub neighbors: bool,
+    /// Write all faces into the `.face` file.
+    pub all_faces: bool,
+    /// Write the `.edge` file.
+    pub edges: bool,
+    /// Number the output from 0.
+    pub from_zero: bool,
+    /// Keep the convex hull of a complex.
+    pub keep_hull: bool,
+    /// Write the attributes of the regions of a complex.
+    pub regions: bool,
+    /// No summary.
+    pub quiet: bool,
+    /// No `.node` file.
+    pub no_node: bool,
+    /// No `.ele` file.
+    pub no_ele: bool,
+    /// No `.face` file and no `.edge` file.
+    pub no_face: bool,
+    /// At most this many points are added to a complex, at most 100,000; so many where no number is given.
+    pub budget: u32,
+    /// At most this many halvings of the grid, at most 12; so many where no number is given.
+    pub halvings: u32,
+    /// Round coordinates to this many decimals first, at most 20.
+    pub decimals: Option<u32>,
+    /// Mesh the sample with this many points, at most 10,000.
+    pub sample: Option<u32>,
+    /// The name without its extension; empty with the sample.
+    pub base: Name,
+    /// The extension with which the name ends, if it is a known one.
+    pub extension: Option<Extension>,
+}

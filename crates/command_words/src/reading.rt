@@ -1,0 +1,94 @@
+//! What the words of the command line ask for.
+
+ghost use Rattle.std.specs.Prelude.{◌≡◌, ℕ, Some, None, Err, IfOk, IsSome};
+ghost use Rattle.command_words.specs.Grammar.{words_fault};
+ghost use Rattle.command_words.specs.Meaning.{has_switch, is_switched, name_of, is_piecewise, options_of, AreInRange, AreOfSample};
+ghost use Rattle.command_words.specs.declared.fault.WordsFault.TheVariants.{Usage};
+
+use crate::budget::{MOST_BUDGET, last_budget};
+use crate::fault::WordsFault;
+use crate::first_fault::words_fault;
+use crate::grammar::{is_cluster, is_name};
+use crate::names::{base_of, extension_of};
+use crate::numbers::{DECIMALS, HALVINGS, MOST_DECIMALS, MOST_HALVINGS, last_number, sample_of};
+use crate::options::{Extension, Options};
+use std::alloc::Global;
+use tet_ports::{Name, Words};
+
+/// Reads the words of the command line.
+///
+/// `Usage` exactly where they are not in the grammar, with the first fault: the word's number and the place in it.
+/// The words after `--sample` are as any others; what the switches c, A and S ask for has a meaning only with a complex.
+pub fn read_words(alloc: Global, words: &Words) -> Result<Options, WordsFault>
+    ensures understood { IfOk result (λ options. words_fault words.now ≡ None) }
+    ensures options { IfOk result (λ options. options ≡ options_of words.now) }
+    ensures usage { (word place : ℕ) → result ≡ Err (Usage word place) → words_fault words.now ≡ Some (word, place) }
+    ensures ranges { IfOk result (λ options. AreInRange options) }
+    ensures sampled { IfOk result (λ options. IsSome options.sample → AreOfSample options) }
+{
+    if let Some((word, place)) = words_fault(words) {
+        return Err(WordsFault::Usage { word, place });
+    }
+    let name = name_of(words);
+    let extension = extension_of(name);
+    let sample = sample_of(words);
+    Ok(Options {
+        piecewise: is_piecewise(is_switched(words, b'p') || sample.is_some(), extension),
+        neighbors: is_switched(words, b'n'),
+        all_faces: is_switched(words, b'f'),
+        edges: is_switched(words, b'e'),
+        from_zero: is_switched(words, b'z'),
+        keep_hull: is_switched(words, b'c'),
+        regions: is_switched(words, b'A'),
+        quiet: is_switched(words, b'Q'),
+        no_node: is_switched(words, b'N'),
+        no_ele: is_switched(words, b'E'),
+        no_face: is_switched(words, b'F'),
+        budget: last_budget(words).unwrap_or(MOST_BUDGET),
+        halvings: last_number(HALVINGS, MOST_HALVINGS, words).unwrap_or(MOST_HALVINGS),
+        decimals: last_number(DECIMALS, MOST_DECIMALS, words),
+        sample,
+        base: Name::from_slice(alloc, base_of(name))?,
+        extension,
+    })
+}
+
+/// Whether the word is a cluster and has the letter.
+fn has_switch(word: &[u8], letter: u8) -> bool
+    ensures { result ≡ has_switch word.now letter }
+{
+    is_cluster(word) && word.contains(&letter)
+}
+
+/// Whether some cluster has the letter.
+fn is_switched(words: &Words, letter: u8) -> bool
+    ensures { result ≡ is_switched words.now letter }
+{
+    words
+        .as_slice()
+        .iter()
+        .any(|word| has_switch(word.as_slice(), letter))
+}
+
+/// The first name among the words, or the empty one.
+fn name_of(words: &Words) -> &[u8]
+    ensures { result.now ≡ name_of words.now }
+{
+    for word in words.as_slice() {
+        if is_name(word.as_slice()) {
+            return word.as_slice();
+        }
+    }
+    b""
+}
+
+/// Whether a complex is meshed, where `asked` says that the words ask for it.
+fn is_piecewise(asked: bool, extension: Option<Extension>) -> bool
+    ensures { result ≡ is_piecewise asked extension }
+{
+    match extension {
+        Some(Extension::Node) => false,
+        Some(Extension::Poly | Extension::Smesh) => true,
+        None => asked,
+    }
+}
