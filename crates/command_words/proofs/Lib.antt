@@ -1,1 +1,2 @@
 pub mod Sampled
+pub mod Switches

@@ -1,6 +1,6 @@
 -- Words that ask for the sample have no name.
-use Rattle.std.proofs.Common.{◌≡◌, ℕ, ◌+◌, Bool, true, false, not, ◌&&◌, ◌||◌, List, [], ◌∷◌, length, Option, Some, None, if◌then◌else◌, refl, ap, ◌∙◌}
-use Rattle.std.specs.Prelude.{find, unwrap_or, is_some, IsSome}
+use Rattle.std.proofs.Common.{◌≡◌, ℕ, ◌+◌, Bool, true, false, not, ◌&&◌, ◌||◌, List, [], ◌∷◌, length, Option, Some, None, if◌then◌else◌, refl, ap}
+use Rattle.std.specs.Prelude.{find, unwrap_or, IsSome}
 use Rattle.std.specs.List.{list_any}
 use Rattle.std.specs.Option.{option_or}
 use Rattle.command_words.specs.Grammar.{bad_word_from, is_name, is_named, is_sampled, sample_of, words_fault}

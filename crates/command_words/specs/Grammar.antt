@@ -1,5 +1,5 @@
 -- The grammar of the words of the command line, and where words are against it. Words and places are counted from 1.
-use Rattle.std.specs.Prelude.{ℕ, ◌+◌, Bool, true, false, not, length, take, drop, nat_eq, nat_le, nat_lt, ◌==◌, ◌&&◌, ◌||◌, Option, Some, None, List, [], ◌∷◌, codes, position, unwrap_or, is_some, if◌then◌else◌}
+use Rattle.std.specs.Prelude.{◌≡◌, ℕ, ◌+◌, Bool, true, false, not, length, take, drop, nat_eq, nat_le, nat_lt, ◌==◌, ◌&&◌, ◌||◌, Option, Some, None, List, [], ◌∷◌, codes, position, unwrap_or, is_some, if◌then◌else◌}
 use Rattle.std.specs.List.{list_any, starts_with}
 use Rattle.std.specs.Option.{option_map_or, option_or}
 use Rattle.std.specs.Char.{is_ascii_digit}
@@ -46,9 +46,20 @@ is_letter byte = list_any (λ known. known == byte) (codes "pnfezcAQNEF")
 abbrev pub budget_at_front : List ℕ → Option ℕ
 budget_at_front text = number_at_front 100000 text
 
+abbrev pub starts_with_digit : List ℕ → Bool
+starts_with_digit [] = false
+starts_with_digit (byte ∷ more) = is_ascii_digit byte
+
+-- these bytes are switches: a letter, or S with a number, then the switches behind it and behind all its digits
+pub data AreSwitches : List ℕ → Type 0 where
+  nothing : AreSwitches []
+  a_letter : (byte : ℕ) (more : List ℕ) → is_letter byte ≡ true → AreSwitches more → AreSwitches (byte ∷ more)
+  a_number : (byte : ℕ) (more : List ℕ) → byte ≡ 83 → is_some (budget_at_front more) ≡ true
+      → AreSwitches (drop (digit_count more) more) → AreSwitches (byte ∷ more)
+
 -- The place of the first fault of switches, where the first of these bytes has this place: that of a byte that is no letter of the table,
--- or that behind an S with no number, where the number's first digit is wanted or stands. The digits of a number belong to its S: `numbered`
--- says that an S stands before these bytes, with at most digits between.
+-- or that behind an S with no number, where the number's first digit is wanted or stands. The digits of a number belong to its S:
+-- `numbered` says that an S stands before these bytes, with at most digits between.
 abbrev pub switches_fault : Bool → ℕ → List ℕ → Option ℕ
 switches_fault numbered place [] = None
 switches_fault numbered place (byte ∷ more) =
@@ -63,8 +74,8 @@ cluster_fault word =
 
 -- ---- long words: a front, then a number
 
--- The place of the fault of a long word, where these bytes have this place and stand behind its front: at the first of them, where they do not
--- begin with a number up to `most`, and else at the first byte behind the digits.
+-- The place of the fault of a long word, where these bytes have this place and stand behind its front: at the first of them, where they
+-- do not begin with a number up to `most`, and else at the first byte behind the digits.
 abbrev pub number_fault : ℕ → ℕ → List ℕ → Option ℕ
 number_fault place most text =
     if not (is_some (number_at_front most text)) then Some place else
@@ -118,8 +129,8 @@ is_named words = list_any is_name words
 abbrev pub is_sampled : List (List ℕ) → Bool
 is_sampled words = is_some (sample_of words)
 
--- The first fault of the words: the number of the word and the place in it. All together they have a name or ask for the sample, and not both;
--- that is told after the last word.
+-- The first fault of the words: the number of the word and the place in it. All together they have a name or ask for the sample, and not
+-- both; that is told after the last word.
 abbrev pub words_fault : List (List ℕ) → Option (ℕ × ℕ)
 words_fault words =
     option_or (bad_word_from 1 false words)

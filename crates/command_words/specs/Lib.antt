@@ -1,3 +1,4 @@
 pub mod Names
 pub mod Grammar
 pub mod Meaning
+pub mod Laws

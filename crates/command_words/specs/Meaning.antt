@@ -1,5 +1,5 @@
 -- What the words of the command line ask for.
-use Rattle.std.specs.Prelude.{ℕ, ◌≡◌, ◌≤◌, Bool, false, true, ◌==◌, ◌&&◌, ◌||◌, Option, Some, None, IfSome, List, [], ◌∷◌, codes, find, unwrap_or, IsSome, if◌then◌else◌}
+use Rattle.std.specs.Prelude.{ℕ, ◌≡◌, ◌≤◌, Bool, false, true, ◌==◌, ◌&&◌, ◌||◌, Option, Some, None, IfSome, List, [], ◌∷◌, codes, find, unwrap_or, if◌then◌else◌}
 use Rattle.std.specs.List.{list_any}
 use Rattle.std.specs.Option.{option_or}
 use Rattle.command_words.specs.Grammar.{is_cluster, is_name, is_sampled, budget_at_front, last_from, last_number, sample_of}

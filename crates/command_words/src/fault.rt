@@ -1,3 +1,5 @@
+//! Why words give no options.
+
 use tet_ports::NoMemory;
 use thiserror::Error;
 

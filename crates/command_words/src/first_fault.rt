@@ -91,7 +91,8 @@ fn switches_fault(switches: &[u8]) -> Option<usize>
     None
 }
 
-/// The place of the fault of a long word, where this text stands behind its front, from this place on.
+/// The place of the fault of a long word, where this text stands behind its front, from this place
+/// on.
 fn number_fault(place: usize, most: u32, text: &[u8]) -> Option<usize>
     requires { place ≤ 12 }
     ensures { result ≡ number_fault place most text.now }

@@ -5,6 +5,7 @@ mod budget;
 mod fault;
 mod first_fault;
 mod grammar;
+mod laws;
 mod names;
 mod numbers;
 mod options;
@@ -13,6 +14,7 @@ mod reading;
 mod tests;
 
 pub use fault::WordsFault;
+pub use laws::law_switches;
 pub use names::{base_of, extension_of, file_name, with_extension};
 pub use options::{Extension, Options};
 pub use reading::read_words;

@@ -1,3 +1,5 @@
+//! The names of files and their extensions.
+
 ghost use Rattle.std.specs.Prelude.{◌≡◌, ◌++◌, IfOk};
 ghost use Rattle.command_words.specs.Names.{base_of, extension_of, file_name, has_extension, text_of};
 

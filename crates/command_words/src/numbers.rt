@@ -40,7 +40,8 @@ pub(crate) fn digit_count(text: &[u8]) -> usize
     first_no_digit(text).unwrap_or(text.len())
 }
 
-/// The number that all digits at the front write, where there are 1 to 9 of them and it is at most `most`.
+/// The number that all digits at the front write, where there are 1 to 9 of them and it is at most
+/// `most`.
 pub(crate) fn number_at_front(most: u32, text: &[u8]) -> Option<u32>
     ensures value { result ≡ number_at_front most text.now }
     ensures bound { IfSome result (λ n. n ≤ most) }

@@ -1,3 +1,5 @@
+//! What the words of the command line ask for, as a value.
+
 use tet_ports::Name;
 
 /// The extension with which a name on the command line ends.
@@ -18,7 +20,8 @@ pub enum Extension {
 pub struct Options {
     /// Mesh a piecewise linear complex.
     ///
-    /// The letter p, the sample and an extension of a complex put this on; the extension `.node` puts it off.
+    /// The letter p, the sample and an extension of a complex put this on; the extension `.node`
+    /// puts it off.
     pub piecewise: bool,
     /// Write the `.neigh` file.
     pub neighbors: bool,
@@ -40,7 +43,8 @@ pub struct Options {
     pub no_ele: bool,
     /// No `.face` file and no `.edge` file.
     pub no_face: bool,
-    /// At most this many points are added to a complex, at most 100,000; so many where no number is given.
+    /// At most this many points are added to a complex, at most 100,000; so many where no number
+    /// is given.
     pub budget: u32,
     /// At most this many halvings of the grid, at most 12; so many where no number is given.
     pub halvings: u32,

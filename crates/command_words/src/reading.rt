@@ -1,4 +1,4 @@
-//! What the words of the command line ask for.
+//! The options that the words of the command line ask for.
 
 ghost use Rattle.std.specs.Prelude.{◌≡◌, ℕ, Some, None, Err, IfOk, IsSome};
 ghost use Rattle.command_words.specs.Grammar.{words_fault};
@@ -17,12 +17,14 @@ use tet_ports::{Name, Words};
 
 /// Reads the words of the command line.
 ///
-/// `Usage` exactly where they are not in the grammar, with the first fault: the word's number and the place in it.
-/// The words after `--sample` are as any others; what the switches c, A and S ask for has a meaning only with a complex.
+/// `Usage` exactly where they are not in the grammar, with the first fault: the word's number and
+/// the place in it.
+/// The switches c, A and S are read also where no complex is meshed, and have no effect there.
 pub fn read_words(alloc: Global, words: &Words) -> Result<Options, WordsFault>
     ensures understood { IfOk result (λ options. words_fault words.now ≡ None) }
     ensures options { IfOk result (λ options. options ≡ options_of words.now) }
-    ensures usage { (word place : ℕ) → result ≡ Err (Usage word place) → words_fault words.now ≡ Some (word, place) }
+    ensures usage { (word place : ℕ) → result ≡ Err (Usage word place)
+        → words_fault words.now ≡ Some (word, place) }
     ensures ranges { IfOk result (λ options. AreInRange options) }
     ensures sampled { IfOk result (λ options. IsSome options.sample → AreOfSample options) }
 {

@@ -1,3 +1,5 @@
+//! Words of the command line with what they ask for, or where they are against the grammar.
+
 use super::*;
 use std::alloc::Global;
 use std::test::Fail;

@@ -1,6 +1,6 @@
 use Rattle.std.proofs.Common.{◌≡◌, ℕ, ◌-◌, Bool, true, false, if◌then◌else◌, List, length, take, drop, ◌∙◌, sym, ap, refl, arith}
 use Rattle.std.proofs.lemmas.Grind.{common_steps}
-use Rattle.command_words.specs.Grammar.{number_fault, long_fault}
+use Rattle.command_words.specs.Grammar.{number_fault}
 use Rattle.command_words.proofs.first_fault.long_fault.Goals as goal
 
 -- what stands from a place on is whole

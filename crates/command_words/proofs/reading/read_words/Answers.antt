@@ -1,10 +1,9 @@
-use Rattle.std.proofs.Common.{◌≡◌, ℕ, Bool, List, [], Option, None, ◌∙◌, sym, ap, true, false}
+use Rattle.std.proofs.Common.{◌≡◌, ℕ, [], Option, None, ◌∙◌, sym, ap, true}
 use Rattle.std.specs.Prelude.{is_some, IsSome}
 use Rattle.command_words.proofs.Sampled.{name_of-sampled}
 use Rattle.command_words.specs.Grammar.{sample_of}
 use Rattle.command_words.specs.Meaning.{is_piecewise}
 use Rattle.command_words.specs.Names.{base_of, extension_of}
-use Rattle.command_words.specs.declared.options.Extension.{Extension}
 use Rattle.command_words.proofs.reading.read_words.Goals as goal
 use Rattle.command_words.proofs.reading.read_words.Goals.{then-is_switched, else-is_switched}
 
