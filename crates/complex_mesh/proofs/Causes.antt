@@ -1,0 +1,86 @@
+-- The causes of the steps' faults, as causes of the whole.
+use Rattle.std.proofs.Common.{◌≡◌, ℕ, List, [], Some, None, sym, subst, ◌∙◌}
+use Rattle.std.specs.Prelude.{All}
+use Rattle.sign_predicates.specs.Point.{Point}
+use Rattle.geo_laws.specs.Complex.{Complex, facets}
+use Rattle.geo_laws.specs.Delaunay.{delaunay_rows, AreCoplanar}
+use Rattle.geo_laws.specs.Facet.{IsFlat}
+use Rattle.geo_laws.specs.declared.tetrahedra.Tet.{Tet}
+use Rattle.geo_laws.specs.declared.complex.Piece.{Piece}
+use Rattle.geo_laws.specs.declared.complex.FacetTriangle.{FacetTriangle}
+use Rattle.border_laws.specs.Complex.{facet_at}
+use Rattle.facet_laws.proofs.FlatTest.{law_flat}
+use Rattle.facet_plane.specs.Corners.{HasCornersOf}
+use Rattle.facet_plane.specs.Flat.{IsFirstNotFlat}
+use Rattle.facet_plane.specs.declared.flat.NotFlat.{NotFlat as Bent}
+use Rattle.segment_protect.specs.Ends.{IsProtectFault}
+use Rattle.segment_protect.specs.declared.fault.ProtectFault.{ProtectFault}
+use Rattle.segment_protect.specs.declared.fault.ProtectFault.TheVariants as protection
+use Rattle.box_pairs.specs.Crossing.{AreTrianglesMet, IsPlaneFault}
+use Rattle.box_pairs.specs.declared.crossing.PlaneFault.{PlaneFault}
+use Rattle.box_pairs.specs.declared.crossing.PlaneFault.TheVariants as planes
+use Rattle.facet_recover.specs.Parted.{IsCause}
+use Rattle.facet_recover.specs.declared.recover.RecoverFault.{RecoverFault}
+use Rattle.facet_recover.specs.declared.recover.RecoverFault.TheVariants as recovery
+use Rattle.complex_mesh.specs.Faults.{protect_fault, plane_fault, recover_fault}
+use Rattle.complex_mesh.specs.Protection.{IsProtectedComplex, input_pieces, complex_triangles}
+use Rattle.complex_mesh.specs.Steps.{IsCrossingFault, IsTangleFault}
+use Rattle.complex_mesh.specs.Meshing.{IsMeshFault}
+use Rattle.complex_mesh.specs.declared.fault.MeshFault.{MeshFault}
+use Rattle.complex_mesh.specs.declared.fault.MeshFault.TheVariants.{Flat, NotFlat, SegmentsCross, GridEnd, BudgetEnd, Crossing, Tangled, NoMemory}
+use Rattle.complex_mesh.proofs.Triangles.{coplanar_flat}
+
+-- where a facet is not flat, the points are not all in one plane
+pub not_flat_cause : (halvings budget : ℕ) (ps : List Point) (c : Complex) (bent : Bent) → HasCornersOf ps c → IsFirstNotFlat ps (facets c) bent → IsMeshFault halvings budget ps c (NotFlat bent.facet bent.four)
+not_flat_cause halvings budget ps c bent on h = (solid, h)
+  where
+    never : None ≡ Some bent.four → ⊥
+    never e = cc
+
+    solid : ¬ AreCoplanar ps
+    solid flat =
+        never (sym ((law_flat ps (facet_at (facets c) bent.facet)).1 (coplanar_flat ps c on flat bent.facet h.there)) ∙ h.four (record { polygons = []; holes = [] }))
+
+pub protect_cause : (halvings budget : ℕ) (ps : List Point) (c : Complex) → All (IsFlat ps) (facets c) → (f : ProtectFault) → IsProtectFault halvings budget ps (input_pieces ps c) f → IsMeshFault halvings budget ps c (protect_fault f)
+protect_cause halvings budget ps c flat protection.Flat h = h
+protect_cause halvings budget ps c flat (protection.SegmentsCross one two) h = (h.0, flat, h.1)
+protect_cause halvings budget ps c flat (protection.GridEnd piece) h = (flat, h.0, h.1)
+protect_cause halvings budget ps c flat (protection.BudgetEnd made piece) h = (flat, h.0, h.1, h.2)
+protect_cause halvings budget ps c flat protection.NoMemory h = tt
+
+pub plane_cause : (qs : List Point) (rest : List Piece) (c : Complex) (ts : List FacetTriangle) → ts ≡ complex_triangles qs c → (f : PlaneFault) → IsPlaneFault qs ts rest f → IsCrossingFault qs rest c (plane_fault f)
+plane_cause qs rest c ts e f h = by f (subst (λ us. IsPlaneFault qs us rest f) e h)
+  where
+    by : (f : PlaneFault) → IsPlaneFault qs (complex_triangles qs c) rest f → IsCrossingFault qs rest c (plane_fault f)
+    by (planes.Crossing one two) h = h
+    by planes.NoMemory h = tt
+
+pub recover_cause : (qs : List Point) (ts : List FacetTriangle) (rows : List Tet) → rows ≡ delaunay_rows qs → (f : RecoverFault) → IsCause qs ts rows f → IsTangleFault qs ts (recover_fault f)
+recover_cause qs ts rows e f h = by f (subst (λ us. IsCause qs ts us f) e h)
+  where
+    by : (f : RecoverFault) → IsCause qs ts (delaunay_rows qs) f → IsTangleFault qs ts (recover_fault f)
+    by (recovery.Tangled t a b) h = h
+    by recovery.NoMemory h = tt
+
+pub crossing_cause : (halvings budget : ℕ) (ps : List Point) (c : Complex) (qs : List Point) (rest : List Piece) → IsProtectedComplex halvings budget ps c qs rest → (f : MeshFault) → IsCrossingFault qs rest c f
+    → IsMeshFault halvings budget ps c f
+crossing_cause halvings budget ps c qs rest p (Crossing one two) h = (qs, rest, p, h)
+crossing_cause halvings budget ps c qs rest p NoMemory h = tt
+crossing_cause halvings budget ps c qs rest p Flat h = absurd h
+crossing_cause halvings budget ps c qs rest p (NotFlat facet four) h = absurd h
+crossing_cause halvings budget ps c qs rest p (SegmentsCross one two) h = absurd h
+crossing_cause halvings budget ps c qs rest p (GridEnd piece) h = absurd h
+crossing_cause halvings budget ps c qs rest p (BudgetEnd made piece) h = absurd h
+crossing_cause halvings budget ps c qs rest p (Tangled tet a b) h = absurd h
+
+pub tangle_cause : (halvings budget : ℕ) (ps : List Point) (c : Complex) (qs : List Point) (rest : List Piece) (ts : List FacetTriangle) → IsProtectedComplex halvings budget ps c qs rest → ts ≡ complex_triangles qs c
+    → AreTrianglesMet qs ts rest → (f : MeshFault) → IsTangleFault qs ts f → IsMeshFault halvings budget ps c f
+tangle_cause halvings budget ps c qs rest ts p e met (Tangled tet a b) h =
+    (qs, rest, p, subst (λ us. AreTrianglesMet qs us rest) e met, subst (λ us. IsTangleFault qs us (Tangled tet a b)) e h)
+tangle_cause halvings budget ps c qs rest ts p e met NoMemory h = tt
+tangle_cause halvings budget ps c qs rest ts p e met Flat h = absurd h
+tangle_cause halvings budget ps c qs rest ts p e met (NotFlat facet four) h = absurd h
+tangle_cause halvings budget ps c qs rest ts p e met (SegmentsCross one two) h = absurd h
+tangle_cause halvings budget ps c qs rest ts p e met (GridEnd piece) h = absurd h
+tangle_cause halvings budget ps c qs rest ts p e met (BudgetEnd made piece) h = absurd h
+tangle_cause halvings budget ps c qs rest ts p e met (Crossing one two) h = absurd h

@@ -1,0 +1,6 @@
+pub mod Triangles
+pub mod Added
+pub mod Protected
+pub mod Causes
+pub mod Recovered
+pub mod Kept

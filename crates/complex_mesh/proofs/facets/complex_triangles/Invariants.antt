@@ -1,0 +1,7 @@
+use Rattle.std.proofs.Common.{◌≡◌}
+use Rattle.complex_mesh.specs.Protection.{first_triangles}
+use Rattle.complex_mesh.proofs.facets.complex_triangles.Given as goal
+
+-- the triangles of the facets so far
+abbrev pub invariant-loop-facet : goal.invariant-loop-facet
+invariant-loop-facet l = l.triangles ≡ first_triangles l.points l.complex l.facet

@@ -1,0 +1,4 @@
+pub mod Faults
+pub mod Protection
+pub mod Meshing
+pub mod Steps

@@ -1,0 +1,57 @@
+-- What the steps from protection to the mesh leave for the next ones.
+use Rattle.std.specs.Prelude.{ℕ, ◌<◌, ◌-◌, ◌^◌, List, length, All, IfSome, IsSome, ◌↔◌, IsTrue}
+use Rattle.sign_predicates.specs.Point.{Point}
+use Rattle.geo_laws.specs.Complex.{Complex, corner_lists, facets}
+use Rattle.geo_laws.specs.Delaunay.{delaunay_rows, HasDistinctPoints}
+use Rattle.geo_laws.specs.declared.complex.Piece.{Piece}
+use Rattle.geo_laws.specs.declared.complex.FacetTriangle.{FacetTriangle}
+use Rattle.border_laws.specs.Complex.{IsSound, facet_at}
+use Rattle.facet_laws.specs.Region.{HasPiecesOf}
+use Rattle.facet_plane.specs.Corners.{HasCornersOf}
+use Rattle.segment_protect.specs.Spots.{HasTwoEnds}
+use Rattle.box_pairs.specs.Crossing.{IsFirstCrossing}
+use Rattle.facet_recover.specs.Parted.{IsFirstTangled}
+use Rattle.complex_mesh.specs.Protection.{complex_triangles}
+use Rattle.refill_laws.specs.Refill.{IsRefill}
+use Rattle.path_laws.specs.KeptMesh.{IsWholeMesh}
+use Rattle.complex_laws.specs.ComplexMesh.{IsUntangled, IsCarved}
+use Rattle.hole_carve.specs.Marks.{AreMarks}
+use Rattle.path_laws.specs.Flood.{carving_of}
+use Rattle.geo_laws.specs.declared.tetrahedra.Tet.{Tet}
+use Rattle.complex_mesh.specs.declared.mesh.MeshOptions.{MeshOptions}
+use Rattle.complex_mesh.specs.declared.mesh.ComplexMesh.{ComplexMesh}
+use Rattle.complex_mesh.specs.declared.fault.MeshFault.{MeshFault}
+use Rattle.complex_mesh.specs.declared.fault.MeshFault.TheVariants.{Crossing, Tangled, NoMemory}
+
+-- the points after protection, with pieces that have two ends: flat facets, whose pieces are sides of Delaunay rows
+pub record HasSoundFacets (qs : List Point) (rest : List Piece) (c : Complex) : Type 0 where
+  pub distinct : HasDistinctPoints qs
+  pub few : length qs < 2 ^ 32 - 2
+  pub corners : HasCornersOf qs c
+  pub sound : (k : ℕ) → k < length (facets c) → IsSound qs (corner_lists c.polygons) (facet_at (facets c) k)
+  pub has_pieces : HasPiecesOf qs (corner_lists c.polygons)
+  pub two_ends : All (HasTwoEnds (length qs)) rest
+
+-- the fault names the first two parts that are not properly met
+abbrev pub IsCrossingFault : List Point → List Piece → Complex → MeshFault → Type 0
+IsCrossingFault qs rest c (Crossing one two) = IsFirstCrossing qs (complex_triangles qs c) rest one two
+IsCrossingFault qs rest c NoMemory = Unit {0}
+IsCrossingFault qs rest c _ = ⊥
+
+-- no row is tangled, and the whole list is the Delaunay list filled again: it fills the hull and has the facets as faces
+pub record IsRecovered (qs : List Point) (ts : List FacetTriangle) (whole : List Tet) : Type 0 where
+  pub untangled : IsUntangled qs ts
+  pub refill : IsRefill qs ts (delaunay_rows qs) whole
+  pub whole_mesh : IsWholeMesh qs ts whole
+
+-- the fault names the first tangled row
+abbrev pub IsTangleFault : List Point → List FacetTriangle → MeshFault → Type 0
+IsTangleFault qs ts (Tangled tet facet_a facet_b) = IsFirstTangled qs ts (delaunay_rows qs) tet facet_a facet_b
+IsTangleFault qs ts NoMemory = Unit {0}
+IsTangleFault qs ts _ = ⊥
+
+-- the mesh has the rows that are kept of the whole list, and their marks where regions are asked for
+pub record IsKeptMesh (o : MeshOptions) (c : Complex) (whole : List Tet) (m : ComplexMesh) : Type 0 where
+  pub carved : IsCarved (carving_of o.keep_hull) m.points m.triangles c.holes whole m.tetrahedra
+  pub marked : IsSome m.marks ↔ IsTrue o.regions
+  pub marks : IfSome m.marks (AreMarks m.points m.triangles m.tetrahedra c.regions)

@@ -1,0 +1,45 @@
+//! The triangles of all facets.
+ghost use Rattle.std.specs.Prelude.{◌≡◌, MatchResult, IfOk};
+ghost use Rattle.box_pairs.specs.Crossing.{AreTrianglesMet};
+ghost use Rattle.complex_mesh.specs.Protection.{complex_triangles};
+ghost use Rattle.complex_mesh.specs.Steps.{HasSoundFacets, IsCrossingFault};
+
+use crate::fault::MeshFault;
+use box_pairs::crossings;
+use facet_plane::facet_triangles;
+use geo_laws::{Complex, FacetTriangles, Pieces, Points};
+use std::alloc::Global;
+use tet_ports::NoMemory;
+
+/// The triangles of all facets, facet by facet. The pieces only say what is known of the points.
+fn complex_triangles(
+    alloc: Global,
+    points: &Points,
+    _pieces: &Pieces,
+    complex: &Complex,
+) -> Result<FacetTriangles, NoMemory>
+    requires { HasSoundFacets points.now _pieces.now complex.now }
+    ensures { IfOk result (λ triangles. triangles ≡ complex_triangles points.now complex.now) }
+{
+    let mut triangles = FacetTriangles::new(alloc);
+    for facet in 0..complex.facet_count() {
+        let found = facet_triangles(alloc, points, complex, facet)?;
+        triangles.extend_from_slice(found.as_slice())?;
+    }
+    Ok(triangles)
+}
+
+/// The triangles of all facets, facet by facet: any two are properly met, and each with each piece. `Crossing` names the first two parts that are not.
+pub(crate) fn met_triangles(
+    alloc: Global,
+    points: &Points,
+    pieces: &Pieces,
+    complex: &Complex,
+) -> Result<FacetTriangles, MeshFault>
+    requires { HasSoundFacets points.now pieces.now complex.now }
+    ensures { MatchResult result (λ triangles. (triangles ≡ complex_triangles points.now complex.now) × AreTrianglesMet points.now triangles pieces.now) (IsCrossingFault points.now pieces.now complex.now) }
+{
+    let triangles = complex_triangles(alloc, points, pieces, complex)?;
+    crossings(alloc, points, pieces, &triangles)?;
+    Ok(triangles)
+}
