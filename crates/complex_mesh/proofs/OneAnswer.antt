@@ -1,0 +1,206 @@
+-- A complex has one answer. The causes are asked for one after another, each where none before it holds, and a mesh is what is left.
+use Rattle.std.proofs.Common.{◌≡◌, ℕ, List, Option, None, Some, refl, ap, sym, subst, ◌∙◌}
+use Rattle.std.specs.Prelude.{◌≢◌, All, Contains}
+use Rattle.sign_predicates.specs.Point.{Point}
+use Rattle.geo_laws.specs.Complex.{Complex, facets}
+use Rattle.geo_laws.specs.Delaunay.{delaunay_rows, AreCoplanar}
+use Rattle.geo_laws.specs.Segment.{protect, ProtectionEnd, Protected, GridEnd as GridEndOf, BudgetEnd as BudgetEndOf}
+use Rattle.geo_laws.specs.Facet.{Facet, IsFlat, IsTangled}
+use Rattle.geo_laws.specs.declared.tetrahedra.Tet.{Tet}
+use Rattle.geo_laws.specs.declared.complex.Piece.{Piece}
+use Rattle.geo_laws.specs.declared.complex.FacetTriangle.{FacetTriangle}
+use Rattle.segment_protect.specs.Ends.{CanSplit}
+use Rattle.segment_protect.specs.Crossing.{ArePairwiseMet, IsFirstCrossing as IsFirstSegments}
+use Rattle.facet_plane.specs.Flat.{IsFirstNotFlat}
+use Rattle.facet_plane.specs.declared.flat.NotFlat.{NotFlat as Bent}
+use Rattle.box_pairs.specs.declared.complex_parts.Part.{Part}
+use Rattle.box_pairs.specs.Crossing.{AreTrianglesMet, IsFirstCrossing as IsFirstParts}
+use Rattle.facet_recover.specs.Parted.{IsFirstTangled}
+use Rattle.complex_mesh.specs.Protection.{IsProtectedComplex, input_pieces, complex_triangles}
+use Rattle.complex_mesh.specs.Meshing.{IsComplexMesh, IsMeshFault}
+use Rattle.complex_mesh.specs.OneAnswer.{OneFaultLaw, NoFaultLaw}
+use Rattle.complex_mesh.specs.declared.mesh.MeshOptions.{MeshOptions}
+use Rattle.complex_mesh.specs.declared.mesh.ComplexMesh.{ComplexMesh}
+use Rattle.complex_mesh.specs.declared.fault.MeshFault.{MeshFault}
+use Rattle.complex_mesh.specs.declared.fault.MeshFault.TheVariants.{Flat, NotFlat, SegmentsCross, GridEnd, BudgetEnd, Crossing, Tangled, NoMemory}
+use Rattle.complex_mesh.proofs.OneAnswerParts.{not_flat_once, flat_none, segments_once, segments_none, parts_once, parts_none, tangled_once, tangled_none}
+
+-- ---- one cause after another
+
+-- the fault of a complex, or none where it has a mesh
+abbrev Outcome : Type 0
+Outcome = Option MeshFault
+
+abbrev IsOnce : (Outcome → Type 0) → Type 0
+IsOnce P = (a b : Outcome) → P a → P b → a ≡ b
+
+-- the cause holds, or it does not and the outcome is one of the next
+data Step (Cause : Outcome → Type 0) (Passed : Type 0) (Next : Outcome → Type 0) (a : Outcome) : Type 0 where
+  stops : Cause a → Step Cause Passed Next a
+  passes : Passed → Next a → Step Cause Passed Next a
+
+step_once : (Cause : Outcome → Type 0) (Passed : Type 0) (Next : Outcome → Type 0) → IsOnce Cause → ((a : Outcome) → Cause a → ¬ Passed) → IsOnce Next → IsOnce (Step Cause Passed Next)
+step_once Cause Passed Next once never next a b (stops h) (stops k) = once a b h k
+step_once Cause Passed Next once never next a b (stops h) (passes p k) = absurd (never a h p)
+step_once Cause Passed Next once never next a b (passes p h) (stops k) = absurd (never b k p)
+step_once Cause Passed Next once never next a b (passes p h) (passes q k) = next a b h k
+
+-- ---- the causes in their order
+
+record IsFlatFault (ps : List Point) (a : Outcome) : Type 0 where
+  flat : AreCoplanar ps
+  is : a ≡ Some Flat
+
+record IsBentFault (ps : List Point) (fs : List Facet) (a : Outcome) : Type 0 where
+  bent : Bent
+  first : IsFirstNotFlat ps fs bent
+  is : a ≡ Some (NotFlat bent.facet bent.four)
+
+record IsSegmentFault (ps : List Point) (pieces : List Piece) (a : Outcome) : Type 0 where
+  one : Piece
+  two : Piece
+  first : IsFirstSegments ps pieces one two
+  is : a ≡ Some (SegmentsCross one two)
+
+record IsPartFault (qs : List Point) (ts : List FacetTriangle) (rest : List Piece) (a : Outcome) : Type 0 where
+  one : Part
+  two : Part
+  first : IsFirstParts qs ts rest one two
+  is : a ≡ Some (Crossing one two)
+
+record IsTangledFault (qs : List Point) (ts : List FacetTriangle) (rows : List Tet) (a : Outcome) : Type 0 where
+  row : Tet
+  facet_a : ℕ
+  facet_b : ℕ
+  first : IsFirstTangled qs ts rows row facet_a facet_b
+  is : a ≡ Some (Tangled row facet_a facet_b)
+
+-- a row is tangled, or none is
+abbrev Recovers : List Point → List FacetTriangle → List Tet → Outcome → Type 0
+Recovers qs ts rows = Step (IsTangledFault qs ts rows) ((t : Tet) → Contains rows t → ¬ IsTangled qs ts t) (λ a. a ≡ None)
+
+-- a triangle is not properly met, or all are
+abbrev Meets : List Point → List FacetTriangle → List Piece → Outcome → Type 0
+Meets qs ts rest = Step (IsPartFault qs ts rest) (AreTrianglesMet qs ts rest) (Recovers qs ts (delaunay_rows qs))
+
+-- protection ends at a piece, or it protects
+abbrev Ends : ℕ → Complex → ProtectionEnd → Outcome → Type 0
+Ends budget c (Protected qs rest) a = Meets qs (complex_triangles qs c) rest a
+Ends budget c (GridEndOf piece) a = a ≡ Some (GridEnd piece)
+Ends budget c (BudgetEndOf piece) a = a ≡ Some (BudgetEnd budget piece)
+
+-- two pieces are not properly met, or all are and protection begins
+abbrev Protects : ℕ → ℕ → List Point → Complex → List Piece → Outcome → Type 0
+Protects halvings budget ps c pieces = Step (IsSegmentFault ps pieces) (ArePairwiseMet ps pieces) (Ends budget c (protect halvings budget ps pieces))
+
+-- a facet is not flat, or all are
+abbrev LiesFlat : ℕ → ℕ → List Point → Complex → Outcome → Type 0
+LiesFlat halvings budget ps c = Step (IsBentFault ps (facets c)) (All (IsFlat ps) (facets c)) (Protects halvings budget ps c (input_pieces ps c))
+
+-- the points are all in one plane, or they are not
+abbrev Answers : ℕ → ℕ → List Point → Complex → Outcome → Type 0
+Answers halvings budget ps c = Step (IsFlatFault ps) (¬ AreCoplanar ps) (LiesFlat halvings budget ps c)
+
+-- ---- each comes once
+
+-- two outcomes that are the same fault
+some_once : (x y : MeshFault) (a b : Outcome) → x ≡ y → a ≡ Some x → b ≡ Some y → a ≡ b
+some_once x y a b e f g = cc
+
+bent_same : (x y : Bent) → (x.facet ≡ y.facet) × (x.four ≡ y.four) → NotFlat x.facet x.four ≡ NotFlat y.facet y.four
+bent_same x y e = ap (λ n. NotFlat n x.four) e.0 ∙ ap (λ t. NotFlat y.facet t) e.1
+
+bent_once : (ps : List Point) (fs : List Facet) → IsOnce (IsBentFault ps fs)
+bent_once ps fs a b h k =
+    some_once (NotFlat h.bent.facet h.bent.four) (NotFlat k.bent.facet k.bent.four) a b (bent_same h.bent k.bent (not_flat_once ps fs h.bent k.bent h.first k.first)) h.is k.is
+
+segment_once : (ps : List Point) (pieces : List Piece) → IsOnce (IsSegmentFault ps pieces)
+segment_once ps pieces a b h k =
+    let e = segments_once ps pieces h.one h.two k.one k.two h.first k.first in
+    some_once (SegmentsCross h.one h.two) (SegmentsCross k.one k.two) a b (ap (λ p. SegmentsCross p h.two) e.0 ∙ ap (λ p. SegmentsCross k.one p) e.1) h.is k.is
+
+part_once : (qs : List Point) (ts : List FacetTriangle) (rest : List Piece) → IsOnce (IsPartFault qs ts rest)
+part_once qs ts rest a b h k =
+    let e = parts_once qs ts rest h.one h.two k.one k.two h.first k.first in
+    some_once (Crossing h.one h.two) (Crossing k.one k.two) a b (ap (λ p. Crossing p h.two) e.0 ∙ ap (λ p. Crossing k.one p) e.1) h.is k.is
+
+tangle_once : (qs : List Point) (ts : List FacetTriangle) (rows : List Tet) → IsOnce (IsTangledFault qs ts rows)
+tangle_once qs ts rows a b h k =
+    let e = tangled_once qs ts rows h.row k.row h.facet_a h.facet_b k.facet_a k.facet_b h.first k.first in
+    some_once (Tangled h.row h.facet_a h.facet_b) (Tangled k.row k.facet_a k.facet_b) a b
+    (ap (λ t. Tangled t h.facet_a h.facet_b) e.0 ∙ ap (λ f. Tangled k.row f h.facet_b) e.1 ∙ ap (λ f. Tangled k.row k.facet_a f) e.2) h.is k.is
+
+recovers_once : (qs : List Point) (ts : List FacetTriangle) (rows : List Tet) → IsOnce (Recovers qs ts rows)
+recovers_once qs ts rows =
+    step_once (IsTangledFault qs ts rows) ((t : Tet) → Contains rows t → ¬ IsTangled qs ts t) (λ a. a ≡ None) (tangle_once qs ts rows)
+    (λ a h. tangled_none qs ts rows h.row h.facet_a h.facet_b h.first) (λ a b e f. e ∙ sym f)
+
+meets_once : (qs : List Point) (ts : List FacetTriangle) (rest : List Piece) → IsOnce (Meets qs ts rest)
+meets_once qs ts rest =
+    step_once (IsPartFault qs ts rest) (AreTrianglesMet qs ts rest) (Recovers qs ts (delaunay_rows qs)) (part_once qs ts rest)
+    (λ a h. parts_none qs ts rest h.one h.two h.first) (recovers_once qs ts (delaunay_rows qs))
+
+ends_once : (budget : ℕ) (c : Complex) (end : ProtectionEnd) → IsOnce (Ends budget c end)
+ends_once budget c (Protected qs rest) = meets_once qs (complex_triangles qs c) rest
+ends_once budget c (GridEndOf piece) = λ a b e f. e ∙ sym f
+ends_once budget c (BudgetEndOf piece) = λ a b e f. e ∙ sym f
+
+protects_once : (halvings budget : ℕ) (ps : List Point) (c : Complex) (pieces : List Piece) → IsOnce (Protects halvings budget ps c pieces)
+protects_once halvings budget ps c pieces =
+    step_once (IsSegmentFault ps pieces) (ArePairwiseMet ps pieces) (Ends budget c (protect halvings budget ps pieces)) (segment_once ps pieces)
+    (λ a h. segments_none ps pieces h.one h.two h.first) (ends_once budget c (protect halvings budget ps pieces))
+
+lies_flat_once : (halvings budget : ℕ) (ps : List Point) (c : Complex) → IsOnce (LiesFlat halvings budget ps c)
+lies_flat_once halvings budget ps c =
+    step_once (IsBentFault ps (facets c)) (All (IsFlat ps) (facets c)) (Protects halvings budget ps c (input_pieces ps c)) (bent_once ps (facets c))
+    (λ a h. flat_none ps (facets c) h.bent h.first) (protects_once halvings budget ps c (input_pieces ps c))
+
+answers_once : (halvings budget : ℕ) (ps : List Point) (c : Complex) → IsOnce (Answers halvings budget ps c)
+answers_once halvings budget ps c =
+    step_once (IsFlatFault ps) (¬ AreCoplanar ps) (LiesFlat halvings budget ps c) (λ a b h k. h.is ∙ sym k.is) (λ a h solid. solid h.flat) (lies_flat_once halvings budget ps c)
+
+-- ---- faults and meshes are such outcomes
+
+-- protection begins, and ends so
+begun : (halvings budget : ℕ) (ps : List Point) (c : Complex) (end : ProtectionEnd) (a : Outcome) → All (IsFlat ps) (facets c) → CanSplit ps (input_pieces ps c)
+    → protect halvings budget ps (input_pieces ps c) ≡ end → Ends budget c end a → Answers halvings budget ps c a
+begun halvings budget ps c end a flat can e h = passes can.0 (passes flat (passes can.1 (subst (λ u. Ends budget c u a) (sym e) h)))
+
+met : (halvings budget : ℕ) (ps : List Point) (c : Complex) (qs : List Point) (rest : List Piece) (a : Outcome) → IsProtectedComplex halvings budget ps c qs rest
+    → Meets qs (complex_triangles qs c) rest a → Answers halvings budget ps c a
+met halvings budget ps c qs rest a h k = begun halvings budget ps c (Protected qs rest) a h.flat h.can_split h.ends k
+
+fault_answers : (halvings budget : ℕ) (ps : List Point) (c : Complex) (a : MeshFault) → a ≢ NoMemory → IsMeshFault halvings budget ps c a → Answers halvings budget ps c (Some a)
+fault_answers halvings budget ps c Flat n h = stops (record { flat = h; is = refl })
+fault_answers halvings budget ps c (NotFlat facet four) n h = passes h.0 (stops (record { bent = record { facet = facet; four = four }; first = h.1; is = refl }))
+fault_answers halvings budget ps c (SegmentsCross one two) n h = passes h.0 (passes h.1 (stops (record { one = one; two = two; first = h.2; is = refl })))
+fault_answers halvings budget ps c (GridEnd piece) n h = begun halvings budget ps c (GridEndOf piece) (Some (GridEnd piece)) h.0 h.1 h.2 refl
+fault_answers halvings budget ps c (BudgetEnd made piece) n h =
+    begun halvings budget ps c (BudgetEndOf piece) (Some (BudgetEnd made piece)) h.0 h.1 h.3 (ap (λ m. Some (BudgetEnd m piece)) h.2)
+fault_answers halvings budget ps c (Crossing one two) n h =
+    met halvings budget ps c h.0 h.1 (Some (Crossing one two)) h.2 (stops (record { one = one; two = two; first = h.3; is = refl }))
+fault_answers halvings budget ps c (Tangled row facet_a facet_b) n h =
+    met halvings budget ps c h.0 h.1 (Some (Tangled row facet_a facet_b)) h.2
+    (passes h.3 (stops (record { row = row; facet_a = facet_a; facet_b = facet_b; first = h.4; is = refl })))
+fault_answers halvings budget ps c NoMemory n h = absurd (n refl)
+
+mesh_answers : (o : MeshOptions) (ps : List Point) (c : Complex) (m : ComplexMesh) → IsComplexMesh o ps c m → Answers o.halvings o.budget ps c None
+mesh_answers o ps c m h =
+    met o.halvings o.budget ps c m.points h.rest None h.protected
+    (subst (λ ts. Meets m.points ts h.rest None) h.triangles (passes h.met (passes h.untangled refl)))
+
+-- ---- the laws
+
+pub law_one_fault : OneFaultLaw
+law_one_fault halvings budget ps c a b n m h k =
+    some_same a b (answers_once halvings budget ps c (Some a) (Some b) (fault_answers halvings budget ps c a n h) (fault_answers halvings budget ps c b m k))
+  where
+    some_same : (a b : MeshFault) → Some a ≡ Some b → a ≡ b
+    some_same a b e = cc
+
+pub law_no_fault : NoFaultLaw
+law_no_fault o ps c m mesh a n h =
+    never a (answers_once o.halvings o.budget ps c None (Some a) (mesh_answers o ps c m mesh) (fault_answers o.halvings o.budget ps c a n h))
+  where
+    never : (a : MeshFault) → None ≡ Some a → ⊥
+    never a e = cc
