@@ -4,3 +4,5 @@ pub mod Protected
 pub mod Causes
 pub mod Recovered
 pub mod Kept
+pub mod OneAnswerParts
+pub mod OneAnswer

@@ -2,3 +2,4 @@ pub mod Faults
 pub mod Protection
 pub mod Meshing
 pub mod Steps
+pub mod OneAnswer

@@ -4,11 +4,13 @@
 mod facets;
 mod fault;
 mod keeping;
+mod laws;
 mod mesh;
 mod meshing;
 mod protecting;
 mod recovering;
 
 pub use fault::MeshFault;
+pub use laws::{law_no_fault, law_one_fault};
 pub use mesh::{ComplexMesh, MeshOptions};
 pub use meshing::mesh_complex;
