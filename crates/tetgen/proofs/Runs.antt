@@ -1,129 +1,378 @@
--- What the parts of a run leave and answer, put together.
-use Rattle.std.proofs.Common.{◌≡◌, ◌≤◌, ◌<◌, ◌+◌, inr, ℕ, Bool, true, false, cond, List, [], ◌∷◌, ◌++◌, length, Option, Some, None, Result, Ok, Err, refl, subst, arith}
-use Rattle.std.specs.Prelude.{All, codes, not, ◌||◌}
-use Rattle.std.proofs.lemmas.List.Elements.{All-nil, All-cons, All-append}
-use Rattle.geo_laws.specs.declared.faces.Side.{Side}
-use Rattle.geo_laws.specs.declared.tetrahedra.Tet.{Tet}
-use Rattle.hole_carve.specs.Pairs.{pairs_of}
-use Rattle.mesh_files.specs.Texts.{ele_text, face_text, edge_text, neigh_text}
-use Rattle.mesh_files.specs.declared.markers.FaceRow.{FaceRow}
-use Rattle.node_files.specs.Writing.{node_text}
-use Rattle.node_files.specs.declared.table.NodeTable.{NodeTable}
+-- What a run leaves, answers and tells, put together.
+use Rattle.std.proofs.Common.{◌≡◌, ◌≤◌, ◌<◌, ◌⊎◌, inl, inr, ℕ, Bool, true, false, List, [], ◌∷◌, ◌++◌, length, Option, Some, None, Result, Ok, Err, if◌then◌else◌, refl, sym, ap, subst, ◌∙◌, arith}
+use Rattle.std.specs.Prelude.{◌≢◌, IsTrue, All, Contains, codes, not, ◌||◌}
+use Rattle.std.proofs.lemmas.List.Elements.{All-nil, All-cons, All-append, All-contains}
+use Rattle.std.proofs.lemmas.List.{append-nil}
+use Rattle.command_words.specs.Grammar.{words_fault}
+use Rattle.command_words.specs.Meaning.{options_of}
+use Rattle.command_words.specs.Names.{file_name}
+use Rattle.command_words.specs.declared.options.Extension.{Extension}
+use Rattle.command_words.specs.declared.options.Extension.TheVariants.{Node, Poly, Smesh}
+use Rattle.command_words.specs.declared.options.Options.{Options}
+use Rattle.complex_laws.proofs.ComplexMesh.{law_hull_mesh}
+use Rattle.complex_mesh.specs.declared.fault.MeshFault.{MeshFault}
+use Rattle.complex_mesh.specs.declared.fault.MeshFault.TheVariants as fault
+use Rattle.geo_laws.specs.Delaunay.{IsDelaunayList, delaunay_rows}
+use Rattle.geo_laws.specs.Laws.{IsTriangulation}
+use Rattle.geo_laws.specs.Mesh.{IsMesh}
+use Rattle.geo_laws.specs.Path.{HullOnly}
+use Rattle.geo_laws.proofs.DelaunayList.{triangulation_of_rows, law_delaunay_list}
+use Rattle.node_files.specs.declared.node_text.NodeText.{NodeText}
+use Rattle.path_laws.specs.Flood.{carving_of}
+use Rattle.plc_files.specs.Checks.{corners_check}
+use Rattle.plc_files.specs.Text.{plc_with}
 use Rattle.tet_ports.specs.Counts.{Rose}
-use Rattle.tet_ports.specs.Files.{Files, Holds, HoldsMore, IsAbsent}
-use Rattle.tetgen.specs.Outputs.{TellsFailure, named, node_file, ele_file, face_file, edge_file, neigh_file, texts_of}
-use Rattle.tetgen.specs.Run.{Seen, IsMesh, IsCause, IsAnswer, IsLeft, IsWritten, answer_of}
-use Rattle.tetgen.specs.Words.{words_fault, options_of}
+use Rattle.tet_ports.specs.Files.{Files}
+use Rattle.tet_text.specs.declared.fault.TextFault.{TextFault}
+use Rattle.tetgen.specs.Codes.{status_of_fault}
+use Rattle.tetgen.specs.Messages.{message_of}
+use Rattle.tetgen.specs.Meshing.{BoundAnswer, IsUnbound, MeshOf, MeshAnswer, IsFlatRefusal, OutputsAnswer, MeshedAnswer, mesh_of_points, mesh_of_complex}
+use Rattle.tetgen.specs.Outputs.{named, AreOutputsOf}
+use Rattle.tetgen.specs.Reading.{complex_file, points_alone, on_points, WordsAnswer, FetchAnswer, TextAnswer, PointsAnswer, FormAnswer, ComplexFileAnswer, SourceAnswer, NodesAnswer, BoundedAnswer, InputOf, InputAnswer, IsUsage, IsUnfetched, IsBadText, node_text_of, plc_text_of}
+use Rattle.tetgen.specs.Run.{OutputsOfRun, IsAnswer, IsComplete, IsLeft, IsMeshOfRun, IsUnchanged, IsTold, IsPut, IsNumbering, IsToldAs, IsEarly, IsSummed, IsTellable, EndsSo, answer_of, numbering_of, HasNoFault, carving_by, names_points}
+use Rattle.tetgen.specs.Seen.{FolderSeen, SinkSeen}
+use Rattle.tetgen.specs.Stops.{stop_of_words, stop_of_store}
+use Rattle.tetgen.specs.Stores.{given, in_order, with_files, AreLeft, IfFailed, TellsFailure}
+use Rattle.command_words.specs.declared.fault.WordsFault.{WordsFault}
+use Rattle.command_words.specs.declared.fault.WordsFault.TheVariants.{Usage as Misunderstood, NoMemory as WordsWanting}
+use Rattle.tetgen.specs.declared.store.NamedText.{NamedText}
+use Rattle.tetgen.specs.declared.store.StoreStop.{StoreStop}
+use Rattle.tetgen.specs.declared.store.StoreStop.TheVariants.{Failed, NoMemory as StoreWanting}
+use Rattle.tetgen.specs.Steps.{AndThen, IfMissing, Gives}
+use Rattle.tetgen.specs.declared.input.ComplexFile.{ComplexFile}
+use Rattle.tetgen.specs.declared.input.Input.{Input}
+use Rattle.tetgen.specs.declared.mesh.Bound.{Bound}
+use Rattle.tetgen.specs.declared.meshed.Meshed.{Meshed}
 use Rattle.tetgen.specs.declared.outputs.Outputs.{Outputs}
-use Rattle.tetgen.specs.declared.run.Stop.{Stop}
-use Rattle.tetgen.specs.declared.run.Stop.TheVariants.{Refused, Unwritten, Unsummed, NoMemory as Stopped}
-use Rattle.tetgen.specs.declared.status.LimitKind.TheVariants.{Bytes as TooLong, Points, Grid as OnGrid}
+use Rattle.tetgen.specs.declared.status.LimitKind.{LimitKind}
 use Rattle.tetgen.specs.declared.status.Status.{Status}
 use Rattle.tetgen.specs.declared.status.Status.TheVariants.{Done, Usage, Missing, ReadFault, BadText, Limit, Twin, Flat, NoMemory, WriteFault}
-use Rattle.tetgen.specs.declared.words.Options.{Options}
+use Rattle.tetgen.specs.declared.stop.Stop.{Stop}
+use Rattle.tetgen.specs.declared.stop.Stop.TheVariants.{Refused, Unwritten, Unsummed, NoMemory as Wanting}
+use Rattle.tetgen.proofs.Determined.{outputs_same}
+use Rattle.tetgen.proofs.Once.{run_same}
+use Rattle.tetgen.proofs.Steps.{IsDecided, status_of, and_then_refuses}
 
--- ---- the files
+not_true : IsTrue false → ⊥
+not_true t = cc
 
--- one text with its message, or none
-told_unless : (b : Bool) (base extension content : List ℕ) → All TellsFailure (cond b [] (named base extension content ∷ []))
-told_unless true base extension content = All-nil TellsFailure
-told_unless false base extension content = All-cons TellsFailure (named base extension content) [] refl (All-nil TellsFailure)
+-- ---- refusals
 
--- each file has its message
-pub texts_told : (options : Options) (first : ℕ) (table : NodeTable) (rows : List Tet) (faces : List FaceRow) (sides : List Side) → All TellsFailure (texts_of options first table rows faces sides)
-texts_told options first table rows faces sides =
-    All-append TellsFailure (node_file options first table ++ ele_file options first rows ++ face_file options first faces ++ edge_file options first sides) (neigh_file options first rows)
-    (All-append TellsFailure (node_file options first table ++ ele_file options first rows ++ face_file options first faces) (edge_file options first sides)
-    (All-append TellsFailure (node_file options first table ++ ele_file options first rows) (face_file options first faces)
-    (All-append TellsFailure (node_file options first table) (ele_file options first rows)
-    (told_unless options.no_node options.base (codes ".1.node") (node_text table [] first))
-    (told_unless options.no_ele options.base (codes ".1.ele") (ele_text first rows)))
-    (told_unless options.no_face options.base (codes ".1.face") (face_text first faces)))
-    (told_unless (options.no_face || not options.edges) options.base (codes ".1.edge") (edge_text first sides)))
-    (told_unless (not options.neighbors) options.base (codes ".1.neigh") (neigh_text first (pairs_of rows)))
+-- a refusal is neither Done nor a fault of a store or of the summary
+abbrev pub IsRefusal : Status → Type 0
+IsRefusal Done = ⊥
+IsRefusal (WriteFault name) = ⊥
+IsRefusal status = Unit {0}
 
--- ---- the end of a run
+words_refuse : (words : List (List ℕ)) (s : Status) → IsUsage words s → IsRefusal s
+words_refuse words (Usage word place) h = tt
+words_refuse words NoMemory h = tt
+words_refuse words s h = absurd h
 
--- what the outputs leave is what the answer leaves
-pub written_left : (options : Options) (seen : Seen) (outputs : Outputs) (result : Result (Unit {0}) Stop)
-    → IsMesh options seen.files_before outputs → IsWritten outputs seen result → IsLeft options seen (answer_of result)
-written_left options seen outputs (Ok done) mesh w = (outputs, mesh, w.0, w.1)
-written_left options seen outputs (Err (Unwritten text)) mesh w = (outputs, mesh, w.0, w.1)
-written_left options seen outputs (Err Unsummed) mesh w = (outputs, mesh, w.0, w.1)
-written_left options seen outputs (Err Stopped) mesh w = (w.1, inr (outputs, mesh, w.0))
-written_left options seen outputs (Err (Refused status)) mesh w = absurd w
+-- what each refusal of the reading of an input has
+module _ (P : Status → Type 0) (missing : (name : List ℕ) → P (Missing name)) (failed : (name : List ℕ) → P (ReadFault name)) (bad : (name : List ℕ) (fault : TextFault) → P (BadText name fault))
+    (limit : (what : LimitKind) → P (Limit what)) (want : P NoMemory) where
+  want_has : (s : Status) → s ≡ NoMemory → P s
+  want_has s e = subst P (sym e) want
 
--- ---- the beginning of a run
+  fetch_has : (seen : FolderSeen) (name : List ℕ) (s : Status) → IsUnfetched seen name s → P s
+  fetch_has seen name (Missing name') h = missing name'
+  fetch_has seen name (ReadFault name') h = failed name'
+  fetch_has seen name (Limit what) h = limit what
+  fetch_has seen name NoMemory h = want
+  fetch_has seen name s h = absurd h
 
--- a file that is too large has too many bytes
-pub longer : (files : Option Files) (name : List ℕ) (most : ℕ) (taken : List ℕ) → HoldsMore files name most taken → length taken ≡ most + 1
-    → (bytes : List ℕ) × Holds files name bytes × (most < length bytes)
-longer None name most taken h e = (taken, tt, omega (arith, e))
-longer (Some told) name most taken h e = (h.0, h.1, h.2)
+  text_has : {A : Type 0} (name : List ℕ) (reading : Result A TextFault) (s : Status) → IsBadText name reading s → P s
+  text_has name reading (BadText name' fault) h = bad name' fault
+  text_has name reading NoMemory h = want
+  text_has name reading s h = absurd h
 
--- a count that rose from a later value rose from an earlier one
-rose_from : (earlier before now : ℕ) → earlier ≤ before → Rose before now → Rose earlier now
-rose_from earlier before now h r = omega arith
+  points_have : (seen : FolderSeen) (base : List ℕ) (s : Status) → PointsAnswer seen base (Err s) → P s
+  points_have seen base =
+      let name = file_name base Node in
+      and_then_refuses P (FetchAnswer seen name) (λ bytes. TextAnswer name (node_text_of bytes)) (fetch_has seen name) (λ bytes. text_has name (node_text_of bytes))
 
-absent_from : (files : Option Files) (name : List ℕ) (earlier before now : ℕ) → earlier ≤ before → IsAbsent files name before now → IsAbsent files name earlier now
-absent_from None name earlier before now h a = rose_from earlier before now h a
-absent_from (Some told) name earlier before now h a = a
+  form_has : (seen : FolderSeen) (base : List ℕ) (extension : Extension) (s : Status) → FormAnswer seen base extension (Err s) → P s
+  form_has seen base extension =
+      let name = file_name base extension in
+      and_then_refuses P (FetchAnswer seen name) (λ bytes. AndThen (TextAnswer name (plc_text_of extension bytes)) (λ text. Gives (complex_file name text))) (fetch_has seen name)
+      (λ bytes. and_then_refuses P (TextAnswer name (plc_text_of extension bytes)) (λ text. Gives (complex_file name text)) (text_has name (plc_text_of extension bytes)) (λ text. want_has))
 
--- what is seen from an earlier moment, at which the counts were lower
-abbrev pub seen_from : ℕ → ℕ → Seen → Seen
-seen_from faults misses seen = record seen { faults_before = faults; misses_before = misses }
+  bare_has : (seen : FolderSeen) (base : List ℕ) (s : Status) → IfMissing (FormAnswer seen base Poly) (FormAnswer seen base Smesh) (Err s) → P s
+  bare_has seen base s (inl h) = form_has seen base Poly s h.0
+  bare_has seen base s (inr h) = form_has seen base Smesh s h.2
 
-pub cause_from : (options : Options) (faults misses : ℕ) (seen : Seen) → faults ≤ seen.faults_before → misses ≤ seen.misses_before
-    → (status : Status) → IsCause options seen status → IsCause options (seen_from faults misses seen) status
-cause_from options faults misses seen f m (Usage word place) h = h
-cause_from options faults misses seen f m (Missing name) h = (h.0, absent_from seen.files_before name misses seen.misses_before seen.misses_now m h.1)
-cause_from options faults misses seen f m (ReadFault name) h = (h.0, rose_from faults seen.faults_before seen.faults_now f h.1)
-cause_from options faults misses seen f m (BadText name fault) h = h
-cause_from options faults misses seen f m (Limit (TooLong name)) h = h
-cause_from options faults misses seen f m (Limit (Points count)) h = h
-cause_from options faults misses seen f m (Limit (OnGrid line)) h = h
-cause_from options faults misses seen f m (Twin first second numbered_from) h = h
-cause_from options faults misses seen f m Flat h = h
-cause_from options faults misses seen f m Done h = h
-cause_from options faults misses seen f m (WriteFault None) h = h
-cause_from options faults misses seen f m (WriteFault (Some name)) h = rose_from faults seen.faults_before seen.faults_now f h
-cause_from options faults misses seen f m NoMemory h = tt
+  file_has : (seen : FolderSeen) (base : List ℕ) (extension : Option Extension) (s : Status) → ComplexFileAnswer seen base extension (Err s) → P s
+  file_has seen base (Some Smesh) = form_has seen base Smesh
+  file_has seen base (Some Poly) = form_has seen base Poly
+  file_has seen base (Some Node) = bare_has seen base
+  file_has seen base None = bare_has seen base
 
--- what is left does not depend on the counts
-pub left_from : (options : Options) (faults misses : ℕ) (seen : Seen) (status : Status) → IsLeft options seen status → IsLeft options (seen_from faults misses seen) status
-left_from options faults misses seen (Usage word place) h = record { files = h.files; written = h.written }
-left_from options faults misses seen (Missing name) h = record { files = h.files; written = h.written }
-left_from options faults misses seen (ReadFault name) h = record { files = h.files; written = h.written }
-left_from options faults misses seen (BadText name fault) h = record { files = h.files; written = h.written }
-left_from options faults misses seen (Limit what) h = record { files = h.files; written = h.written }
-left_from options faults misses seen (Twin first second numbered_from) h = record { files = h.files; written = h.written }
-left_from options faults misses seen Flat h = record { files = h.files; written = h.written }
-left_from options faults misses seen Done h = h
-left_from options faults misses seen (WriteFault None) h = h
-left_from options faults misses seen (WriteFault (Some name)) h = h
-left_from options faults misses seen NoMemory h = h
+  source_has : (seen : FolderSeen) (base : List ℕ) (extension : Option Extension) (sample : Option ℕ) (s : Status) → SourceAnswer seen base extension sample (Err s) → P s
+  source_has seen base extension (Some n) = want_has
+  source_has seen base extension None = file_has seen base extension
 
--- both, where the files at the earlier moment were the same
-pub cause_after : (options : Options) (files : Option Files) (faults misses : ℕ) (seen : Seen) → seen.files_before ≡ files → faults ≤ seen.faults_before → misses ≤ seen.misses_before
-    → (status : Status) → IsCause options seen status → IsCause options (seen_from faults misses (record seen { files_before = files })) status
-cause_after options files faults misses seen e f m status h =
-    cause_from options faults misses (record seen { files_before = files }) f m status (subst (λ now. IsCause options (record seen { files_before = now }) status) e h)
+  nodes_have : (seen : FolderSeen) (base : List ℕ) (own : Option NodeText) (s : Status) → NodesAnswer seen base own (Err s) → P s
+  nodes_have seen base (Some nodes) = want_has
+  nodes_have seen base None = points_have seen base
 
-pub left_after : (options : Options) (files : Option Files) (faults misses : ℕ) (seen : Seen) → seen.files_before ≡ files
-    → (status : Status) → IsLeft options seen status → IsLeft options (seen_from faults misses (record seen { files_before = files })) status
-left_after options files faults misses seen e status h =
-    left_from options faults misses (record seen { files_before = files }) status (subst (λ now. IsLeft options (record seen { files_before = now }) status) e h)
+  bounded_has : (file : ComplexFile) (nodes : NodeText) (s : Status) → BoundedAnswer file nodes (Err s) → P s
+  bounded_has file nodes =
+      let input = on_points file nodes in
+      let reading = corners_check nodes.first (length nodes.decimals) file.text in
+      and_then_refuses P (TextAnswer file.name reading) (λ checked. Gives input) (text_has file.name reading) (λ checked. want_has)
 
--- understood words have the cause of their base
-pub answered : (words : List (List ℕ)) (seen : Seen) (status : Status) → words_fault words ≡ None → IsCause (options_of words) seen status → IsAnswer words seen status
-answered words seen (Usage word place) u h = absurd h
-answered words seen (Missing name) u h = (u, h)
-answered words seen (ReadFault name) u h = (u, h)
-answered words seen (BadText name fault) u h = (u, h)
-answered words seen (Limit what) u h = (u, h)
-answered words seen (Twin first second numbered_from) u h = (u, h)
-answered words seen Flat u h = (u, h)
-answered words seen Done u h = (u, h)
-answered words seen (WriteFault None) u h = (u, h)
-answered words seen (WriteFault (Some name)) u h = (u, h)
-answered words seen NoMemory u h = tt
+  input_has : (seen : FolderSeen) (options : Options) (piecewise : Bool) (s : Status) → InputOf piecewise seen options (Err s) → P s
+  input_has seen options false =
+      and_then_refuses P (PointsAnswer seen options.base) (λ nodes. Gives (points_alone nodes)) (points_have seen options.base) (λ nodes. want_has)
+  input_has seen options true =
+      and_then_refuses P (SourceAnswer seen options.base options.extension options.sample) (λ file. AndThen (NodesAnswer seen options.base file.text.nodes) (BoundedAnswer file))
+      (source_has seen options.base options.extension options.sample)
+      (λ file. and_then_refuses P (NodesAnswer seen options.base file.text.nodes) (BoundedAnswer file) (nodes_have seen options.base file.text.nodes) (bounded_has file))
+
+input_refuses : (seen : FolderSeen) (options : Options) (piecewise : Bool) (s : Status) → InputOf piecewise seen options (Err s) → IsRefusal s
+input_refuses = input_has IsRefusal (λ name. tt) (λ name. tt) (λ name fault. tt) (λ what. tt) tt
+
+-- the message of such a refusal prints no points
+abbrev IsSilent : Status → Type 0
+IsSilent s = names_points s ≡ false
+
+input_silent : (seen : FolderSeen) (options : Options) (piecewise : Bool) (s : Status) → InputOf piecewise seen options (Err s) → IsSilent s
+input_silent = input_has IsSilent (λ name. refl) (λ name. refl) (λ name fault. refl) (λ what. refl) refl
+
+want_refuses : (s : Status) → s ≡ NoMemory → IsRefusal s
+want_refuses s e = subst IsRefusal (sym e) tt
+
+bound_refuses : (options : Options) (input : Input) (s : Status) → IsUnbound options input s → IsRefusal s
+bound_refuses options input (Limit what) h = tt
+bound_refuses options input (Twin first second) h = tt
+bound_refuses options input NoMemory h = tt
+bound_refuses options input s h = absurd h
+
+fault_refuses : (f : MeshFault) → IsRefusal (status_of_fault f)
+fault_refuses fault.Flat = tt
+fault_refuses (fault.NotFlat facet four) = tt
+fault_refuses (fault.SegmentsCross one two) = tt
+fault_refuses (fault.GridEnd piece) = tt
+fault_refuses (fault.BudgetEnd made piece) = tt
+fault_refuses (fault.Crossing one two) = tt
+fault_refuses (fault.Tangled tet facet_a facet_b) = tt
+fault_refuses fault.NoMemory = tt
+
+flat_refuses : (bound : Bound) (s : Status) → IsFlatRefusal bound s → IsRefusal s
+flat_refuses bound Flat h = tt
+flat_refuses bound NoMemory h = tt
+flat_refuses bound s h = absurd h
+
+mesh_refuses : (options : Options) (bound : Bound) (piecewise : Bool) (s : Status) → MeshOf piecewise options bound (Err s) → IsRefusal s
+mesh_refuses options bound false s h = flat_refuses bound s h
+mesh_refuses options bound true s h = subst IsRefusal (sym h.1) (fault_refuses h.0)
+
+pub run_refuses : (words : List (List ℕ)) (seen : FolderSeen) (s : Status) → OutputsOfRun words seen (Err s) → IsRefusal s
+run_refuses words seen =
+    and_then_refuses IsRefusal (WordsAnswer words) (λ options. AndThen (InputAnswer seen options) (MeshedAnswer options)) (words_refuse words)
+    (λ options. and_then_refuses IsRefusal (InputAnswer seen options) (MeshedAnswer options) (input_refuses seen options options.piecewise)
+    (λ input. and_then_refuses IsRefusal (BoundAnswer options input) (λ bound. AndThen (MeshAnswer options bound) (OutputsAnswer options)) (bound_refuses options input)
+    (λ bound. and_then_refuses IsRefusal (MeshAnswer options bound) (OutputsAnswer options) (mesh_refuses options bound options.piecewise) (λ mesh. want_refuses))))
+
+-- ---- the answer
+
+refusal_answer : (words : List (List ℕ)) (folder : FolderSeen) (out : SinkSeen) (s : Status) → OutputsOfRun words folder (Err s) → IsRefusal s → IsAnswer words folder out s
+refusal_answer words folder out Done h r = absurd r
+refusal_answer words folder out (WriteFault name) h r = absurd r
+refusal_answer words folder out NoMemory h r = tt
+refusal_answer words folder out s h r = h
+
+pub end_answer : (words : List (List ℕ)) (folder : FolderSeen) (out : SinkSeen) (result : Result (Unit {0}) Stop) → EndsSo words folder out result → IsAnswer words folder out (answer_of result)
+end_answer words folder out (Ok done) h = (h.0, h.1)
+end_answer words folder out (Err (Refused status from)) h = refusal_answer words folder out status h.1 (run_refuses words folder status h.1)
+end_answer words folder out (Err (Unwritten text)) h = h.4
+end_answer words folder out (Err Unsummed) h = h.4
+end_answer words folder out (Err Wanting) h = tt
+
+-- what answers so has such outputs, or such a refusal
+record Outcome (words : List (List ℕ)) (folder : FolderSeen) (s : Status) : Type 0 where
+  result : Result Outputs Status
+  ran : OutputsOfRun words folder result
+  decided : IsDecided result
+  is : s ≡ status_of result
+
+outcome_of : (words : List (List ℕ)) (folder : FolderSeen) (out : SinkSeen) (s : Status) → HasNoFault folder out → s ≢ NoMemory → IsAnswer words folder out s → Outcome words folder s
+outcome_of words folder out Done f n h = record { result = Ok h.0; ran = h.1; decided = tt; is = refl }
+outcome_of words folder out (WriteFault None) f n h = absurd (f.1 h)
+outcome_of words folder out (WriteFault (Some name)) f n h = absurd (f.0 h)
+outcome_of words folder out NoMemory f n h = absurd (n refl)
+outcome_of words folder out s f n h = record { result = Err s; ran = h; decided = n; is = refl }
+
+pub answer_complete : (words : List (List ℕ)) (folder : FolderSeen) (out : SinkSeen) (s : Status) → IsAnswer words folder out s → IsComplete words folder out s
+answer_complete words folder out s h told e f n other m k =
+    let a = outcome_of words folder out s f n h in
+    let b = outcome_of words folder out other f m k in
+    a.is ∙ run_same told words folder e f.0 a.result b.result a.decided b.decided a.ran b.ran ∙ sym b.is
+
+-- ---- what is left
+
+mesh_whole : (options : Options) (bound : Bound) (piecewise : Bool) (mesh : Meshed) → MeshOf piecewise options bound (Ok mesh)
+    → IsMesh (if piecewise then carving_of options.keep_hull else HullOnly) mesh.points mesh.triangles mesh.complex.holes mesh.tetrahedra
+mesh_whole options bound false mesh h =
+    let ps = bound.table.points in
+    subst (λ (m : Meshed). IsMesh HullOnly m.points m.triangles m.complex.holes m.tetrahedra) (sym h.1) (law_hull_mesh ps (delaunay_rows ps) (law_delaunay_list ps))
+mesh_whole options bound true mesh h =
+    subst (λ (m : Meshed). IsMesh (carving_of options.keep_hull) m.points m.triangles m.complex.holes m.tetrahedra) (sym h.2) h.1.mesh
+
+mesh_delaunay : (options : Options) (bound : Bound) (piecewise : Bool) (mesh : Meshed) → MeshOf piecewise options bound (Ok mesh) → piecewise ≡ false
+    → IsDelaunayList mesh.points mesh.tetrahedra × IsTriangulation mesh.points mesh.tetrahedra
+mesh_delaunay options bound true mesh h e = absurd (cc)
+mesh_delaunay options bound false mesh h e =
+    let ps = bound.table.points in
+    subst (λ (m : Meshed). IsDelaunayList m.points m.tetrahedra × IsTriangulation m.points m.tetrahedra) (sym h.1) (law_delaunay_list ps, triangulation_of_rows ps (delaunay_rows ps) refl)
+
+pub mesh_of_run : (words : List (List ℕ)) (folder : FolderSeen) (outputs : Outputs) → OutputsOfRun words folder (Ok outputs) → IsMeshOfRun words folder outputs
+mesh_of_run words folder outputs h =
+    let o = options_of words in
+    let e = h.1.1 in
+    let read = subst (λ q. InputAnswer folder q (Ok h.2.0)) e h.2.1 in
+    let m = subst (λ q. MeshedAnswer q h.2.0 (Ok outputs)) e h.2.2 in
+    let made = m.2 in record {
+      understood = h.1.0;
+      input = h.2.0;
+      read = read;
+      bound = m.0;
+      on_grid = m.1;
+      mesh = made.0;
+      made = made.1;
+      whole = mesh_whole o m.0 o.piecewise made.0 made.1;
+      delaunay = λ p. (mesh_delaunay o m.0 o.piecewise made.0 made.1 p).0;
+      triangulation = λ p. (mesh_delaunay o m.0 o.piecewise made.0 made.1 p).1;
+      outputs_are = made.2;
+      only = λ other on. outputs_same o made.0 other outputs on made.2;
+    }
+
+refusal_left : (words : List (List ℕ)) (folder : FolderSeen) (out : SinkSeen) (s : Status) → IsRefusal s → IsUnchanged folder out → IsLeft words folder out s
+refusal_left words folder out Done r h = absurd r
+refusal_left words folder out (WriteFault name) r h = absurd r
+refusal_left words folder out NoMemory r h = (h.written, inl h.files)
+refusal_left words folder out s r h = h
+
+pub end_left : (words : List (List ℕ)) (folder : FolderSeen) (out : SinkSeen) (result : Result (Unit {0}) Stop) → EndsSo words folder out result → IsLeft words folder out (answer_of result)
+end_left words folder out (Ok done) h = (h.0, mesh_of_run words folder h.0 h.1, h.2, h.3)
+end_left words folder out (Err (Refused status from)) h = refusal_left words folder out status (run_refuses words folder status h.1) h.0
+end_left words folder out (Err (Unwritten text)) h = (h.0, mesh_of_run words folder h.0 h.1, h.2, h.3)
+end_left words folder out (Err Unsummed) h = (h.0, mesh_of_run words folder h.0 h.1, h.2, h.3)
+end_left words folder out (Err Wanting) (w, inl h) = (w, inl h)
+end_left words folder out (Err Wanting) (w, inr h) = (w, inr (h.0, mesh_of_run words folder h.0 h.1, h.2))
+
+-- ---- what is told
+
+refusal_told : (words : List (List ℕ)) (folder : FolderSeen) (err : SinkSeen) (s : Status) (from : ℕ) → s ≢ Done → IsNumbering words folder s from → IsPut (message_of from s) err
+    → IsTold words folder err s
+refusal_told words folder err Done from n h p = absurd (n refl)
+refusal_told words folder err s from n h p = (from, h, p)
+
+not_done : (s : Status) → IsRefusal s → s ≢ Done
+not_done Done r = absurd r
+not_done s r = λ e. cc
+
+-- the answer after a stop has its cause, leaves what it may, and has its message
+pub stop_answer : (words : List (List ℕ)) (folder : FolderSeen) (out err : SinkSeen) (stop : Stop) (s : Status) → EndsSo words folder out (Err stop) → IsToldAs stop err s → IsAnswer words folder out s
+stop_answer words folder out err stop s h (inl t) = subst (IsAnswer words folder out) (sym t.0) (end_answer words folder out (Err stop) h)
+stop_answer words folder out err stop s h (inr t) = subst (IsAnswer words folder out) (sym t.0) tt
+
+early_left : (words : List (List ℕ)) (folder : FolderSeen) (out : SinkSeen) (stop : Stop) → EndsSo words folder out (Err stop) → IsEarly stop → IsLeft words folder out NoMemory
+early_left words folder out (Refused status from) h e = (h.0.written, inl h.0.files)
+early_left words folder out (Unwritten text) h e = absurd e
+early_left words folder out Unsummed h e = absurd e
+early_left words folder out Wanting h e = absurd e
+
+pub stop_left : (words : List (List ℕ)) (folder : FolderSeen) (out err : SinkSeen) (stop : Stop) (s : Status) → EndsSo words folder out (Err stop) → IsToldAs stop err s → IsLeft words folder out s
+stop_left words folder out err stop s h (inl t) = subst (IsLeft words folder out) (sym t.0) (end_left words folder out (Err stop) h)
+stop_left words folder out err stop s h (inr t) = subst (IsLeft words folder out) (sym t.0) (early_left words folder out stop h t.1)
+
+first_told : (words : List (List ℕ)) (folder : FolderSeen) (out err : SinkSeen) (stop : Stop) → EndsSo words folder out (Err stop)
+    → IsPut (message_of (numbering_of stop) (answer_of (Err stop))) err → IsTold words folder err (answer_of (Err stop))
+first_told words folder out err (Refused status from) h p = refusal_told words folder err status from (not_done status (run_refuses words folder status h.1)) h.2 p
+first_told words folder out err (Unwritten text) h p = (0, (λ t. absurd (not_true t)), p)
+first_told words folder out err Unsummed h p = (0, (λ t. absurd (not_true t)), p)
+first_told words folder out err Wanting h p = (0, (λ t. absurd (not_true t)), p)
+
+pub stop_told : (words : List (List ℕ)) (folder : FolderSeen) (out err : SinkSeen) (stop : Stop) (s : Status) → EndsSo words folder out (Err stop) → IsToldAs stop err s → IsTold words folder err s
+stop_told words folder out err stop s h (inl t) = subst (IsTold words folder err) (sym t.0) (first_told words folder out err stop h t.1)
+stop_told words folder out err stop s h (inr t) = subst (IsTold words folder err) (sym t.0) (0, (λ e. absurd (not_true e)), t.2)
+
+-- the text at which a store failed has its message
+pub end_tellable : (words : List (List ℕ)) (folder : FolderSeen) (out : SinkSeen) (stop : Stop) → EndsSo words folder out (Err stop) → IsTellable stop
+end_tellable words folder out (Refused status from) h = tt
+end_tellable words folder out (Unwritten text) h = h.5
+end_tellable words folder out Unsummed h = tt
+end_tellable words folder out Wanting h = tt
+
+-- ---- the steps of the run
+
+-- where the words are not understood, or no memory was there for them
+pub words_end : (words : List (List ℕ)) (folder : FolderSeen) (out : SinkSeen) (answer : Result Options WordsFault) (f : WordsFault) → answer ≡ Err f
+    → ((word place : ℕ) → answer ≡ Err (Misunderstood word place) → words_fault words ≡ Some (word, place)) → IsUnchanged folder out → EndsSo words folder out (Err (stop_of_words f))
+words_end words folder out answer (Misunderstood word place) e usage h = (h, inl (usage word place e), λ t. absurd (not_true t))
+words_end words folder out answer WordsWanting e usage h = (h.written, inl h.files)
+
+-- where there is no input
+pub input_end : (words : List (List ℕ)) (folder : FolderSeen) (out : SinkSeen) (options : Options) (s : Status) → WordsAnswer words (Ok options) → InputAnswer folder options (Err s)
+    → IsUnchanged folder out → EndsSo words folder out (Err (Refused s 0))
+input_end words folder out options s w r h = (h, inr (options, w, inl r), λ t. absurd (not_true (subst IsTrue (input_silent folder options options.piecewise s r) t)))
+
+-- where the input has no mesh
+pub mesh_end : (words : List (List ℕ)) (folder : FolderSeen) (out : SinkSeen) (options : Options) (input : Input) (s : Status) → WordsAnswer words (Ok options)
+    → InputAnswer folder options (Ok input) → MeshedAnswer options input (Err s) → IsUnchanged folder out → EndsSo words folder out (Err (Refused s input.nodes.first))
+mesh_end words folder out options input s w r m h = (h, inr (options, w, inr (input, r, m)), λ t. (input, subst (λ o. InputAnswer folder o (Ok input)) w.1 r, refl))
+
+-- where there are outputs
+pub outputs_run : (words : List (List ℕ)) (folder : FolderSeen) (options : Options) (input : Input) (outputs : Outputs) → WordsAnswer words (Ok options)
+    → InputAnswer folder options (Ok input) → MeshedAnswer options input (Ok outputs) → OutputsOfRun words folder (Ok outputs)
+outputs_run words folder options input outputs w r m = (options, w, (input, r, m))
+
+-- where a store is refused
+pub store_end : (words : List (List ℕ)) (folder : FolderSeen) (out : SinkSeen) (outputs : Outputs) (stop : StoreStop) → OutputsOfRun words folder (Ok outputs)
+    → AreLeft folder.files_before (in_order outputs.texts) folder.files_now stop → IfFailed stop (Rose folder.faults_before folder.faults_now)
+    → All TellsFailure (in_order outputs.texts) → out.written_now ≡ out.written_before → EndsSo words folder out (Err (stop_of_store stop))
+store_end words folder out outputs (Failed text) ran left rose told w = (outputs, ran, left.0, w, rose, All-contains TellsFailure (in_order outputs.texts) text told left.1)
+store_end words folder out outputs StoreWanting ran left rose told w = (w, inr (outputs, ran, left))
+
+-- where all is stored
+pub summed_end : (words : List (List ℕ)) (folder : FolderSeen) (out : SinkSeen) (outputs : Outputs) (result : Result (Unit {0}) Stop) → OutputsOfRun words folder (Ok outputs)
+    → folder.files_now ≡ with_files folder.files_before (in_order outputs.texts) → IsSummed outputs.summary out result → EndsSo words folder out result
+summed_end words folder out outputs (Ok done) ran f s = (outputs, ran, f, s)
+summed_end words folder out outputs (Err Unsummed) ran f s = (outputs, ran, f, s.0, s.1)
+summed_end words folder out outputs (Err Wanting) ran f s =
+    (s, inr (outputs, ran, record { stored = in_order outputs.texts; left = []; texts_are = sym (append-nil (in_order outputs.texts)); now_is = f }))
+summed_end words folder out outputs (Err (Refused status from)) ran f s = absurd s
+summed_end words folder out outputs (Err (Unwritten text)) ran f s = absurd s
+
+-- ---- the texts
+
+told_unless : (b : Bool) (base extension content : List ℕ) (o : Option NamedText) → o ≡ (if b then None else Some (named base extension content)) → All TellsFailure (given (o ∷ []))
+told_unless true base extension content o e = subst (λ o. All TellsFailure (given (o ∷ []))) (sym e) (All-nil TellsFailure)
+told_unless false base extension content o e = subst (λ o. All TellsFailure (given (o ∷ []))) (sym e) (All-cons TellsFailure (named base extension content) [] refl (All-nil TellsFailure))
+
+given_cons : (o : Option NamedText) (os : List (Option NamedText)) → given (o ∷ os) ≡ given (o ∷ []) ++ given os
+given_cons None os = refl
+given_cons (Some text) os = refl
+
+told_cons : (o : Option NamedText) (os : List (Option NamedText)) → All TellsFailure (given (o ∷ [])) → All TellsFailure (given os) → All TellsFailure (given (o ∷ os))
+told_cons o os h k = subst (All TellsFailure) (sym (given_cons o os)) (All-append TellsFailure (given (o ∷ [])) (given os) h k)
+
+-- each text has its message
+pub outputs_told : (options : Options) (mesh : Meshed) (outputs : Outputs) → AreOutputsOf options mesh outputs → All TellsFailure (in_order outputs.texts)
+outputs_told options mesh outputs a =
+    let t = outputs.texts in
+    told_cons t.node (t.ele ∷ t.face ∷ t.edge ∷ t.neigh ∷ []) (told_unless options.no_node options.base (codes ".1.node") _ t.node a.node_is)
+    (told_cons t.ele (t.face ∷ t.edge ∷ t.neigh ∷ []) (told_unless options.no_ele options.base (codes ".1.ele") _ t.ele a.ele_is)
+    (told_cons t.face (t.edge ∷ t.neigh ∷ []) (told_unless options.no_face options.base (codes ".1.face") _ t.face a.face_is)
+    (told_cons t.edge (t.neigh ∷ []) (told_unless (options.no_face || not options.edges) options.base (codes ".1.edge") _ t.edge a.edge_is)
+    (told_unless (not options.neighbors) options.base (codes ".1.neigh") _ t.neigh a.neigh_is))))
+
+pub run_told : (words : List (List ℕ)) (folder : FolderSeen) (outputs : Outputs) → OutputsOfRun words folder (Ok outputs) → All TellsFailure (in_order outputs.texts)
+run_told words folder outputs h = let m = h.2.2 in outputs_told h.0 m.2.0 outputs m.2.2
+
+-- the count of faults rose from an earlier value too
+pub failed_wider : (stop : StoreStop) (earlier before now : ℕ) → earlier ≤ before → IfFailed stop (Rose before now) → IfFailed stop (Rose earlier now)
+failed_wider (Failed text) earlier before now h r = omega arith
+failed_wider StoreWanting earlier before now h r = tt

@@ -1,8 +1,10 @@
 pub mod Codes
+pub mod Meshing
 pub mod Messages
-pub mod Names
 pub mod Outputs
-pub mod Points
+pub mod Reading
 pub mod Run
+pub mod Seen
+pub mod Steps
+pub mod Stops
 pub mod Stores
-pub mod Words

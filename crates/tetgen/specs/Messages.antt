@@ -1,13 +1,20 @@
--- The line that each refusal is told in.
-use Rattle.std.specs.Prelude.{ℕ, ◌+◌, List, [], ◌∷◌, ◌++◌, Some, None, codes}
+-- The line that each refusal is told in. Points are told by their numbers in the input, which numbers them from `from` on, and facets from 1.
+use Rattle.std.specs.Prelude.{ℕ, ◌+◌, List, [], ◌∷◌, ◌++◌, Some, None, codes, min, max}
 use Rattle.std.specs.Fmt.{decimal}
+use Rattle.box_pairs.specs.declared.complex_parts.Part.{Part}
+use Rattle.box_pairs.specs.declared.complex_parts.Part.TheVariants.{Triangle, Segment}
+use Rattle.geo_laws.specs.declared.complex.FacetTriangle.{FacetTriangle}
+use Rattle.geo_laws.specs.declared.complex.Piece.{Piece}
+use Rattle.geo_laws.specs.declared.tetrahedra.Tet.{Tet}
 use Rattle.tet_text.specs.declared.fault.TextFault.{TextFault}
 use Rattle.tet_text.specs.declared.fault.TextKind.{TextKind}
 use Rattle.tet_text.specs.declared.fault.TextKind.TheVariants.{Ended, NotANumber, Extra, BadCount, BadIndex}
 use Rattle.tetgen.specs.declared.status.LimitKind.{LimitKind}
-use Rattle.tetgen.specs.declared.status.LimitKind.TheVariants.{Bytes, Points, Grid}
+use Rattle.tetgen.specs.declared.status.LimitKind.TheVariants.{Bytes, Points, Facets, Corners, Grid}
 use Rattle.tetgen.specs.declared.status.Status.{Status}
-use Rattle.tetgen.specs.declared.status.Status.TheVariants.{Done, Usage, Missing, ReadFault, BadText, Limit, Twin, Flat, NoMemory, WriteFault}
+use Rattle.tetgen.specs.declared.status.Status.TheVariants.{Done, Usage, Missing, ReadFault, BadText, Limit, Twin, Flat, NotFlat, SegmentsCross, Crossing, GridEnd, BudgetEnd, Tangled, NoMemory, WriteFault}
+
+-- ---- parts of a line
 
 abbrev pub kind_text : TextKind → List ℕ
 kind_text Ended = codes "too few"
@@ -16,38 +23,69 @@ kind_text Extra = codes "too many"
 kind_text BadCount = codes "bad count"
 kind_text BadIndex = codes "bad number"
 
-abbrev pub plain_message : List ℕ → List ℕ
-plain_message text = codes "tetgen: " ++ text ++ (10 ∷ [])
+-- the number of a point, behind a space
+abbrev pub point_text : ℕ → ℕ → List ℕ
+point_text from n = codes " " ++ decimal (n + from)
 
+-- the two ends of a piece, the less first
+abbrev pub ends_text : ℕ → Piece → List ℕ
+ends_text from p = point_text from (min p.a p.b) ++ point_text from (max p.a p.b)
+
+abbrev pub triangle_text : ℕ → FacetTriangle → List ℕ
+triangle_text from t = point_text from t.a ++ point_text from t.b ++ point_text from t.c
+
+abbrev pub tetrahedron_text : ℕ → Tet → List ℕ
+tetrahedron_text from t = point_text from t.a ++ point_text from t.b ++ point_text from t.c ++ point_text from t.d
+
+-- a facet by its number
+abbrev pub facet_text : ℕ → List ℕ
+facet_text facet = decimal (facet + 1)
+
+abbrev pub part_text : ℕ → Part → List ℕ
+part_text from (Triangle t) = codes "facet " ++ facet_text t.facet ++ codes " triangle" ++ triangle_text from t
+part_text from (Segment p) = codes "segment" ++ ends_text from p
+
+-- ---- lines
+
+-- a line that begins with the program's name
+abbrev pub line : List ℕ → List ℕ
+line text = codes "tetgen: " ++ text ++ (10 ∷ [])
+
+-- a line on a file
 abbrev pub file_message : List ℕ → List ℕ → List ℕ
-file_message name text = codes "tetgen: " ++ name ++ codes ": " ++ text ++ (10 ∷ [])
+file_message name text = line (name ++ codes ": " ++ text)
 
 abbrev pub usage_message : ℕ → ℕ → List ℕ
-usage_message word place = codes "tetgen: word " ++ decimal word ++ codes ", place " ++ decimal place ++ codes ": not understood" ++ (10 ∷ [])
+usage_message word place = line (codes "word " ++ decimal word ++ codes ", place " ++ decimal place ++ codes ": not understood")
 
 abbrev pub text_message : List ℕ → TextFault → List ℕ
-text_message name fault = codes "tetgen: " ++ name ++ codes ": line " ++ decimal fault.line ++ codes ": " ++ kind_text fault.kind ++ (10 ∷ [])
+text_message name fault = line (name ++ codes ": line " ++ decimal fault.line ++ codes ": " ++ kind_text fault.kind)
 
 -- the limit of bytes is 2^26
 abbrev pub limit_message : LimitKind → List ℕ
 limit_message (Bytes name) = file_message name (codes "over 67108864 bytes")
-limit_message (Points count) = codes "tetgen: " ++ decimal count ++ codes " points, at most 20000" ++ (10 ∷ [])
-limit_message (Grid line) = codes "tetgen: line " ++ decimal line ++ codes ": coordinate off the grid" ++ (10 ∷ [])
-
--- two points by their numbers in the input
-abbrev pub twin_message : ℕ → ℕ → List ℕ
-twin_message first second = codes "tetgen: points " ++ decimal first ++ codes " and " ++ decimal second ++ codes " are equal" ++ (10 ∷ [])
+limit_message (Points count) = line (decimal count ++ codes " points, at most 20000")
+limit_message (Facets count) = line (decimal count ++ codes " facets, at most 2000")
+limit_message (Corners place count) = line (codes "line " ++ decimal place ++ codes ": " ++ decimal count ++ codes " corners, at most 1000")
+limit_message (Grid place) = line (codes "line " ++ decimal place ++ codes ": coordinate off the grid")
 
 -- the message of a refusal; a run that is done has none
-abbrev pub message_of : Status → List ℕ
-message_of Done = []
-message_of (Usage word place) = usage_message word place
-message_of (Missing name) = file_message name (codes "not found")
-message_of (ReadFault name) = file_message name (codes "read failed")
-message_of (BadText name fault) = text_message name fault
-message_of (Limit what) = limit_message what
-message_of (Twin first second numbered_from) = twin_message (first + numbered_from) (second + numbered_from)
-message_of Flat = plain_message (codes "all points lie in one plane")
-message_of NoMemory = plain_message (codes "out of memory")
-message_of (WriteFault None) = plain_message (codes "summary: write failed")
-message_of (WriteFault (Some name)) = file_message name (codes "write failed")
+abbrev pub message_of : ℕ → Status → List ℕ
+message_of from Done = []
+message_of from (Usage word place) = usage_message word place
+message_of from (Missing name) = file_message name (codes "not found")
+message_of from (ReadFault name) = file_message name (codes "read failed")
+message_of from (BadText name fault) = text_message name fault
+message_of from (Limit what) = limit_message what
+message_of from (Twin first second) = line (codes "points " ++ decimal (first + from) ++ codes " and " ++ decimal (second + from) ++ codes " are equal")
+message_of from Flat = line (codes "all points lie in one plane")
+message_of from (NotFlat facet four) = line (codes "facet " ++ facet_text facet ++ codes " is not flat: points" ++ tetrahedron_text from four)
+message_of from (SegmentsCross one two) = line (codes "segments" ++ ends_text from one ++ codes " and" ++ ends_text from two ++ codes " cross")
+message_of from (Crossing one two) = line (codes "crossing: " ++ part_text from one ++ codes " and " ++ part_text from two)
+message_of from (GridEnd piece) = line (codes "segment" ++ ends_text from piece ++ codes " needs a finer grid")
+message_of from (BudgetEnd made piece) = line (decimal made ++ codes " splits used, segment" ++ ends_text from piece ++ codes " is missing")
+message_of from (Tangled tet facet_a facet_b) =
+    line (codes "facets " ++ facet_text facet_a ++ codes " and " ++ facet_text facet_b ++ codes " meet in tetrahedron" ++ tetrahedron_text from tet)
+message_of from NoMemory = line (codes "out of memory")
+message_of from (WriteFault None) = line (codes "summary: write failed")
+message_of from (WriteFault (Some name)) = file_message name (codes "write failed")

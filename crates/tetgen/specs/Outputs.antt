@@ -1,24 +1,21 @@
 -- The files and the summary of a mesh.
-use Rattle.std.specs.Prelude.{◌≡◌, ℕ, Bool, true, false, ◌||◌, ◌&&◌, not, List, [], ◌∷◌, ◌++◌, length, Option, Some, None, codes, if◌then◌else◌}
+use Rattle.std.specs.Prelude.{◌≡◌, ℕ, ◌+◌, ◌<◌, ◌^◌, Bool, true, false, ◌||◌, ◌&&◌, not, List, [], ◌∷◌, ◌++◌, length, All, Option, Some, None, IfSome, codes, if◌then◌else◌}
 use Rattle.std.specs.Fmt.{decimal}
-use Rattle.geo_laws.specs.Complex.{empty_complex}
 use Rattle.geo_laws.specs.Faces.{AreFacesOf, AreSidesOf}
 use Rattle.geo_laws.specs.declared.faces.Face.{Face}
 use Rattle.geo_laws.specs.declared.faces.Side.{Side}
-use Rattle.geo_laws.specs.declared.tetrahedra.Tet.{Tet}
-use Rattle.hole_carve.specs.Pairs.{pairs_of}
-use Rattle.mesh_files.specs.FaceRows.{AreFaceRowsOf}
-use Rattle.mesh_files.specs.Texts.{ele_text, face_text, edge_text, neigh_text}
+use Rattle.incidence.specs.Pairs.{pairs_of}
+use Rattle.mesh_files.specs.FaceRows.{AreFaceRowsOf, AreFacesMet, AreFacetsThere}
+use Rattle.mesh_files.specs.Texts.{ele_text_of, face_text, edge_text, neigh_text}
 use Rattle.mesh_files.specs.declared.markers.FaceRow.{FaceRow}
-use Rattle.node_files.specs.Writing.{node_text}
-use Rattle.node_files.specs.declared.table.NodeTable.{NodeTable}
-use Rattle.sign_predicates.specs.Point.{Point}
+use Rattle.node_files.specs.Writing.{node_text, IsNodeTable}
 use Rattle.tetgen.specs.Messages.{file_message}
-use Rattle.tetgen.specs.declared.outputs.FaceOutputs.{FaceOutputs}
+use Rattle.tetgen.specs.declared.meshed.Meshed.{Meshed}
 use Rattle.tetgen.specs.declared.outputs.Outputs.{Outputs}
-use Rattle.tetgen.specs.declared.outputs.SideOutputs.{SideOutputs}
+use Rattle.tetgen.specs.declared.outputs.FaceOutputs.{FaceOutputs}
 use Rattle.tetgen.specs.declared.store.NamedText.{NamedText}
-use Rattle.tetgen.specs.declared.words.Options.{Options}
+use Rattle.tetgen.specs.declared.store.Texts.{Texts}
+use Rattle.command_words.specs.declared.options.Options.{Options}
 
 -- a text under the base with an extension
 abbrev pub named : List ℕ → List ℕ → List ℕ → NamedText
@@ -28,35 +25,42 @@ named base extension content = record {
   message = file_message (base ++ extension) (codes "write failed");
 }
 
--- the text has the message that its file could not be written
-abbrev pub TellsFailure : NamedText → Type 0
-TellsFailure text = text.message ≡ file_message text.name (codes "write failed")
+-- the number of the first row, face, side and point in what is written
+abbrev pub first_of : Options → Meshed → ℕ
+first_of options mesh = if options.from_zero then 0 else mesh.table.first
 
--- the files that the options ask for: each alone, or none
-abbrev pub node_file : Options → ℕ → NodeTable → List NamedText
-node_file options first table = if options.no_node then [] else named options.base (codes ".1.node") (node_text table [] first) ∷ []
+-- ---- the files that the options ask for
 
-abbrev pub ele_file : Options → ℕ → List Tet → List NamedText
-ele_file options first rows = if options.no_ele then [] else named options.base (codes ".1.ele") (ele_text first rows) ∷ []
+abbrev pub node_file : Options → Meshed → Option NamedText
+node_file options mesh =
+    if options.no_node then None else Some (named options.base (codes ".1.node") (node_text mesh.table mesh.added (first_of options mesh)))
 
-abbrev pub face_file : Options → ℕ → List FaceRow → List NamedText
-face_file options first faces = if options.no_face then [] else named options.base (codes ".1.face") (face_text first faces) ∷ []
+abbrev pub ele_file : Options → Meshed → Option NamedText
+ele_file options mesh =
+    if options.no_ele then None
+    else Some (named options.base (codes ".1.ele") (ele_text_of mesh.marks mesh.complex.regions (first_of options mesh) mesh.tetrahedra))
 
-abbrev pub edge_file : Options → ℕ → List Side → List NamedText
-edge_file options first sides = if options.no_face || not options.edges then [] else named options.base (codes ".1.edge") (edge_text first sides) ∷ []
+abbrev pub face_file : Options → Meshed → List FaceRow → Option NamedText
+face_file options mesh faces =
+    if options.no_face then None else Some (named options.base (codes ".1.face") (face_text (first_of options mesh) faces))
 
-abbrev pub neigh_file : Options → ℕ → List Tet → List NamedText
-neigh_file options first rows = if not options.neighbors then [] else named options.base (codes ".1.neigh") (neigh_text first (pairs_of rows)) ∷ []
+abbrev pub edge_file : Options → Meshed → List Side → Option NamedText
+edge_file options mesh sides =
+    if options.no_face || not options.edges then None else Some (named options.base (codes ".1.edge") (edge_text (first_of options mesh) sides))
 
--- in the order in which they are stored
-abbrev pub texts_of : Options → ℕ → NodeTable → List Tet → List FaceRow → List Side → List NamedText
-texts_of options first table rows faces sides = node_file options first table ++ ele_file options first rows ++ face_file options first faces ++ edge_file options first sides ++ neigh_file options first rows
+abbrev pub neigh_file : Options → Meshed → Option NamedText
+neigh_file options mesh =
+    if not options.neighbors then None
+    else Some (named options.base (codes ".1.neigh") (neigh_text (first_of options mesh) (pairs_of mesh.tetrahedra)))
 
--- `points P added A tetrahedra T faces F edges E`
-abbrev pub summary_text : ℕ → ℕ → ℕ → ℕ → ℕ → List ℕ
-summary_text points added rows faces sides =
-    codes "points " ++ decimal points ++ codes " added " ++ decimal added ++ codes " tetrahedra " ++ decimal rows
-    ++ codes " faces " ++ decimal faces ++ codes " edges " ++ decimal sides ++ (10 ∷ [])
+-- `points P added A tetrahedra T faces F edges E`, for so many faces and edges
+abbrev pub summary_text : Meshed → ℕ → ℕ → List ℕ
+summary_text mesh faces edges =
+    codes "points " ++ decimal (length mesh.table.points) ++ codes " added " ++ decimal (length mesh.added)
+    ++ codes " tetrahedra " ++ decimal (length mesh.tetrahedra) ++ codes " faces " ++ decimal faces ++ codes " edges " ++ decimal edges ++ (10 ∷ [])
+
+abbrev pub summary_of : Options → Meshed → ℕ → ℕ → Option (List ℕ)
+summary_of options mesh faces edges = if options.quiet then None else Some (summary_text mesh faces edges)
 
 -- whether the edge file or the summary is asked for
 abbrev pub names_sides : Options → Bool
@@ -66,31 +70,39 @@ names_sides options = not options.quiet || (not options.no_face && options.edges
 abbrev pub asks_uses : Options → Bool
 asks_uses options = not options.quiet || (not options.no_face || options.neighbors)
 
--- what is told of the faces of rows on points without facets, where a file or the summary speaks of them
-pub record AreFaceOutputsOf (options : Options) (first : ℕ) (points : List Point) (rows : List Tet) (outputs : FaceOutputs) : Type 0 where
+-- ---- the outputs
+
+-- A mesh that can be written: its triangles are met by the faces of its tetrahedra and are of facets of the complex, and its marks, where it has
+-- some, are one for each tetrahedron, of regions of the complex
+pub record IsWritable (mesh : Meshed) : Type 0 where
+  pub table : IsNodeTable mesh.table
+  pub few : length mesh.table.points + length mesh.added < 2 ^ 32
+  pub met : AreFacesMet mesh.points mesh.triangles mesh.tetrahedra
+  pub there : AreFacetsThere mesh.triangles mesh.complex
+  pub marks_long : IfSome mesh.marks (λ marks. length marks ≡ length mesh.tetrahedra)
+  pub marks_there : IfSome mesh.marks (λ marks. All (λ mark. IfSome mark (λ region. region < length mesh.complex.regions)) marks)
+
+-- what is told of the faces of a mesh, where a file or the summary speaks of them
+pub record AreFaceOutputsOf (options : Options) (mesh : Meshed) (outputs : FaceOutputs) : Type 0 where
   pub marked : List FaceRow
-  pub marked_are : options.no_face ≡ false → AreFaceRowsOf points rows empty_complex [] options.all_faces marked
+  pub marked_are : options.no_face ≡ false → AreFaceRowsOf mesh.points mesh.tetrahedra mesh.complex mesh.triangles options.all_faces marked
   pub faces : List Face
-  pub faces_are : options.quiet ≡ false → AreFacesOf rows faces
-  pub marked_is : outputs.marked.items ≡ face_file options first marked
-  pub neighbors_is : outputs.neighbors.items ≡ neigh_file options first rows
+  pub faces_are : options.quiet ≡ false → AreFacesOf mesh.tetrahedra faces
+  pub face_is : outputs.face ≡ face_file options mesh marked
+  pub neigh_is : outputs.neigh ≡ neigh_file options mesh
   pub count_is : outputs.count ≡ length faces
 
--- and of their sides
-pub record AreSideOutputsOf (options : Options) (first : ℕ) (rows : List Tet) (outputs : SideOutputs) : Type 0 where
-  pub sides : List Side
-  pub sides_are : names_sides options ≡ true → AreSidesOf rows sides
-  pub edges_is : outputs.edges.items ≡ edge_file options first sides
-  pub count_is : outputs.count ≡ length sides
-
--- The files and the summary of these rows on the points of a table, numbered from the first number. Faces and sides are those of the rows, where a file or
--- the summary speaks of them
-pub record AreOutputsOf (options : Options) (table : NodeTable) (first : ℕ) (rows : List Tet) (outputs : Outputs) : Type 0 where
+-- The files and the summary of a mesh. Faces and sides are those of its tetrahedra, where a file or the summary speaks of them
+pub record AreOutputsOf (options : Options) (mesh : Meshed) (outputs : Outputs) : Type 0 where
   pub marked : List FaceRow
-  pub marked_are : options.no_face ≡ false → AreFaceRowsOf table.points rows empty_complex [] options.all_faces marked
+  pub marked_are : options.no_face ≡ false → AreFaceRowsOf mesh.points mesh.tetrahedra mesh.complex mesh.triangles options.all_faces marked
   pub faces : List Face
-  pub faces_are : options.quiet ≡ false → AreFacesOf rows faces
+  pub faces_are : options.quiet ≡ false → AreFacesOf mesh.tetrahedra faces
   pub sides : List Side
-  pub sides_are : names_sides options ≡ true → AreSidesOf rows sides
-  pub texts_are : outputs.texts.items ≡ texts_of options first table rows marked sides
-  pub summary_is : outputs.summary ≡ (if options.quiet then None else Some (summary_text (length table.points) 0 (length rows) (length faces) (length sides)))
+  pub sides_are : names_sides options ≡ true → AreSidesOf mesh.tetrahedra sides
+  pub node_is : outputs.texts.node ≡ node_file options mesh
+  pub ele_is : outputs.texts.ele ≡ ele_file options mesh
+  pub face_is : outputs.texts.face ≡ face_file options mesh marked
+  pub edge_is : outputs.texts.edge ≡ edge_file options mesh sides
+  pub neigh_is : outputs.texts.neigh ≡ neigh_file options mesh
+  pub summary_is : outputs.summary ≡ summary_of options mesh (length faces) (length sides)

@@ -1,9 +1,21 @@
 -- Texts that are stored one after the other.
-use Rattle.std.specs.Prelude.{◌≡◌, ℕ, List, [], ◌∷◌, ◌++◌, Option, Contains}
+use Rattle.std.specs.Prelude.{◌≡◌, ℕ, List, [], ◌∷◌, ◌++◌, Option, Some, None, Contains, codes}
 use Rattle.tet_ports.specs.Files.{Files, PartlyStored, with_file}
+use Rattle.tetgen.specs.Messages.{file_message}
 use Rattle.tetgen.specs.declared.store.NamedText.{NamedText}
 use Rattle.tetgen.specs.declared.store.StoreStop.{StoreStop}
 use Rattle.tetgen.specs.declared.store.StoreStop.TheVariants.{Failed, NoMemory}
+use Rattle.tetgen.specs.declared.store.Texts.{Texts}
+
+-- the texts that are there
+abbrev pub given : List (Option NamedText) → List NamedText
+given [] = []
+given (None ∷ more) = given more
+given (Some text ∷ more) = text ∷ given more
+
+-- the texts in the order in which they are stored
+abbrev pub in_order : Texts → List NamedText
+in_order texts = given (texts.node ∷ texts.ele ∷ texts.face ∷ texts.edge ∷ texts.neigh ∷ [])
 
 -- the files with each of these texts under its name, in order, and nothing else changed
 abbrev pub with_files : Option Files → List NamedText → Option Files
@@ -25,6 +37,10 @@ pub record AreStoredInto (before : Option Files) (texts : List NamedText) (name 
   pub texts_are : texts ≡ stored ++ (text ∷ left)
   pub name_is : name ≡ text.name
   pub partly : PartlyStored (with_files before stored) name text.content now
+
+-- the message says that the file with this name could not be written
+abbrev pub TellsFailure : NamedText → Type 0
+TellsFailure text = text.message ≡ file_message text.name (codes "write failed")
 
 -- what a stop leaves
 abbrev pub AreLeft : Option Files → List NamedText → Option Files → StoreStop → Type 0

@@ -1,17 +1,19 @@
-//! The program `tetgen`: the Delaunay tetrahedralization of a set of points.
+//! The program `tetgen`: tetrahedral meshes of sets of points and of complexes of segments and facets.
 #![tactic(auto)]
 
+mod input;
 mod mesh;
+mod meshed;
 mod message;
-mod names;
 mod outputs;
-mod read_words;
 mod run;
 mod status;
+mod stop;
 mod store;
 #[cfg(test)]
+mod test_inputs;
+#[cfg(test)]
 mod tests;
-mod words;
 
 use run::run_tetgen;
 use status::Status;

@@ -1,52 +1,43 @@
-ghost use Rattle.std.specs.Prelude.{◌≡◌, ◌≤◌, ◌<◌, length, All, IfOk, IfErr};
-ghost use Rattle.node_files.specs.Settling.{most_points};
-ghost use Rattle.node_files.specs.Writing.{IsNodeTable};
-ghost use Rattle.node_files.specs.declared.table.NodeTable.{NodeTable};
-ghost use Rattle.tetgen.specs.Outputs.{TellsFailure};
-ghost use Rattle.tetgen.specs.Points.{grid_options, IsTableOf};
-ghost use Rattle.tetgen.specs.Run.{Spells, IsUnmeshed, IsMeshOf, first_of, most_bytes};
+//! What a run makes of its input.
 
+ghost use Rattle.std.specs.Prelude.{◌≡◌, ◌≤◌, ◌⊎◌, ◌<◌, ◌-◌, ◌^◌, true, false, Ok, length, drop, IfOk, IfErr};
+ghost use Rattle.command_words.specs.Meaning.{AreInRange};
+ghost use Rattle.plc_files.specs.Binding.{IsBound, HasCornersBelow, HasWeights};
+ghost use Rattle.plc_files.specs.Checks.{corners_check, HasFewParts};
+ghost use Rattle.tetgen.specs.Meshing.{grid_options, mesh_options, IsSmall, IsOverLimit, IsMeshableBound, BoundAnswer, MeshOf, MeshAnswer, OutputsAnswer, MeshedAnswer};
+ghost use Rattle.tetgen.specs.Outputs.{IsWritable};
+ghost use Rattle.tetgen.specs.Reading.{IsSound};
+
+use crate::input::Input;
+use crate::meshed::Meshed;
 use crate::outputs::{Outputs, outputs_of};
-use crate::words::Options;
+use crate::status::{LimitKind, Status};
 use cavity_insert::{BuildFault, delaunay};
-use node_files::{GridOptions, NodeFault, NodeTable, read_node, settle};
+use command_words::Options;
+use complex_mesh::{ComplexMesh, MeshOptions, mesh_complex};
+use geo_laws::{Complex, FacetTriangles, Points};
+use grid_coords::Grid;
+use node_files::{GridOptions, NodeFault, NodeTable, settle};
+use plc_files::{PlcFault, PlcText, bind};
 use std::alloc::Global;
-use tet_ports::{Bytes, NoMemory};
-use tet_text::TextFault;
+use tet_ports::NoMemory;
 
-/// Why the bytes of a file of points give no mesh.
-#[derive(Clone, Copy, Debug, PartialEq, Eq)]
-pub enum Unmeshed {
-    /// They are not in the grammar.
-    BadText(TextFault),
-    /// There are too many points; their number.
-    TooMany {
-        count: u64,
-    },
-    /// A coordinate is off the grid; the line of the first such point, from 1.
-    OffGrid {
-        line: usize,
-    },
-    /// Two points are equal on the grid, by their places from 0. The file numbers its points from `numbered_from` on.
-    Twin {
-        first: u32,
-        second: u32,
-        numbered_from: u32,
-    },
-    /// All points lie in one plane.
-    Flat,
-    NoMemory,
+/// The points and the complex of an input on their grid.
+#[derive(Drop)]
+pub struct Bound {
+    pub table: NodeTable,
+    pub complex: Complex,
 }
 
-impl From<NoMemory> for Unmeshed {
-    ghost use Rattle.std.specs.Prelude.{◌≡◌};
-    ghost use Rattle.tetgen.specs.declared.mesh.Unmeshed.TheVariants.{NoMemory as OutOfMemory};
-
-    ghost from_gives = { λ _ unmeshed. unmeshed ≡ OutOfMemory };
-
-    fn from(_: NoMemory) -> Unmeshed {
-        Unmeshed::NoMemory
-    }
+/// The files and the summary of the mesh of an input.
+pub fn mesh_of(alloc: Global, options: &Options, input: Input) -> Result<Outputs, Status>
+    requires input { IsSound input }
+    requires ranges { AreInRange options.now }
+    ensures { MeshedAnswer options.now input result }
+{
+    let bound = bind_input(alloc, options, input)?;
+    let mesh = mesh_bound(alloc, options, bound)?;
+    write_out(alloc, options, &mesh)
 }
 
 /// How the options put points on a grid.
@@ -59,53 +50,175 @@ fn grid_options(options: &Options) -> GridOptions
     }
 }
 
-/// The points that the bytes spell, on their grid.
-fn table_of(alloc: Global, options: &Options, bytes: &Bytes) -> Result<NodeTable, Unmeshed>
-    requires { length bytes.now ≤ most_bytes }
-    ensures on { IfOk result (IsTableOf options.now bytes.now) }
-    ensures table { IfOk result IsNodeTable }
-    ensures few { IfOk result (λ table. length table.points ≤ most_points) }
-    ensures unmeshed { IfErr result (IsUnmeshed options.now bytes.now) }
+/// The points and the complex on their grid.
+fn bind_input(alloc: Global, options: &Options, input: Input) -> Result<Bound, Status>
+    requires input { IsSound input }
+    requires ranges { AreInRange options.now }
+    ensures answer { BoundAnswer options.now input result }
+    ensures meshable { IfOk result (IsMeshableBound options.now) }
 {
-    let text = match read_node(alloc, bytes) {
-        Ok(text) => text,
-        Err(NodeFault::Text(fault)) => return Err(Unmeshed::BadText(fault)),
-        // the reader has no further refusal
-        Err(_) => return Err(Unmeshed::NoMemory),
-    };
-    let numbered_from = text.first;
-    match settle(alloc, text, &grid_options(options)) {
-        Ok(table) => Ok(table),
-        Err(NodeFault::TooMany { count }) => Err(Unmeshed::TooMany { count }),
-        Err(NodeFault::Range { line }) => Err(Unmeshed::OffGrid { line }),
-        Err(NodeFault::Twin { first, second }) => Err(Unmeshed::Twin {
-            first,
-            second,
-            numbered_from,
+    let Input { nodes, complex } = input;
+    let first = nodes.first;
+    let count = nodes.decimals.len() as u64;
+    match settle(alloc, nodes, &grid_options(options)) {
+        Ok(table) => {
+            let complex = bind_complex(alloc, &complex, first, count, &table.grid)?;
+            Ok(Bound { table, complex })
+        }
+        Err(NodeFault::TooMany { count }) => Err(Status::Limit {
+            what: LimitKind::Points { count },
         }),
-        Err(NodeFault::Text(fault)) => Err(Unmeshed::BadText(fault)),
-        Err(NodeFault::NoMemory) => Err(Unmeshed::NoMemory),
+        Err(NodeFault::Range { line }) => {
+            let status = Status::Limit {
+                what: LimitKind::Grid { line },
+            };
+            Err(limit_before(alloc, &complex, first, count, status))
+        }
+        Err(NodeFault::Twin { first: one, second }) => {
+            let status = Status::Twin { first: one, second };
+            Err(limit_before(alloc, &complex, first, count, status))
+        }
+        Err(NodeFault::NoMemory) => Err(Status::NoMemory),
+        Err(NodeFault::Text(_)) => unreachable!(),
     }
 }
 
-/// The outputs of the points that the bytes spell.
-pub fn mesh_of(alloc: Global, options: &Options, bytes: &Bytes) -> Result<Outputs, Unmeshed>
-    requires { length bytes.now ≤ most_bytes }
-    ensures meshed { IfOk result (λ outputs. (table : NodeTable) × Spells options.now bytes.now table × IsMeshOf options.now table outputs) }
-    ensures told { IfOk result (λ outputs. All TellsFailure outputs.texts.items) }
-    ensures unmeshed { IfErr result (IsUnmeshed options.now bytes.now) }
+/// The complex on a grid.
+fn bind_complex(
+    alloc: Global,
+    text: &PlcText,
+    first: u32,
+    count: u64,
+    grid: &Grid,
+) -> Result<Complex, Status>
+    requires corners { corners_check first count text.now ≡ Ok tt }
+    requires count { count < 2 ^ 32 - 1 }
+    requires few { HasFewParts text.now }
+    ensures bound { IfOk result (IsBound text.now first grid.now) }
+    ensures over { IfErr result (IsOverLimit text.now) }
+    ensures corners { IfOk result (HasCornersBelow count) }
+    ensures weights { IfOk result HasWeights }
 {
-    let table = table_of(alloc, options, bytes)?;
-    match delaunay(alloc, &table.points) {
-        Ok(rows) => Ok(outputs_of(alloc, options, &table, first_of(options, &table), &rows)?),
-        Err(BuildFault::Flat) => Err(Unmeshed::Flat),
-        Err(BuildFault::NoMemory) => Err(Unmeshed::NoMemory),
+    match bind(alloc, text, first, count, grid) {
+        Ok(complex) => Ok(complex),
+        Err(PlcFault::Facets { count }) => Err(Status::Limit {
+            what: LimitKind::Facets { count },
+        }),
+        Err(PlcFault::Corners { line, count }) => Err(Status::Limit {
+            what: LimitKind::Corners { line, count },
+        }),
+        Err(PlcFault::NoMemory) => Err(Status::NoMemory),
+        Err(PlcFault::Text(_)) => unreachable!(),
     }
 }
 
-/// The number of the first row, face, side and point in what is written.
-fn first_of(options: &Options, table: &NodeTable) -> u32
-    ensures { result ≡ first_of options.now table.now }
+/// The limit that the complex is over, which comes before this refusal; or the refusal. The grid serves no other end.
+fn limit_before(alloc: Global, text: &PlcText, first: u32, count: u64, status: Status) -> Status
+    requires corners { corners_check first count text.now ≡ Ok tt }
+    requires count { count < 2 ^ 32 - 1 }
+    requires few { HasFewParts text.now }
+    ensures { IsSmall text.now × (result ≡ status) ⊎ IsOverLimit text.now result }
 {
-    if options.from_zero { 0 } else { table.first }
+    let grid = Grid {
+        decimals: 0,
+        halvings: 0,
+    };
+    match bind_complex(alloc, text, first, count, &grid) {
+        Ok(_) => status,
+        Err(limit) => limit,
+    }
+}
+
+/// The mesh of points alone, or of a complex.
+fn mesh_bound(alloc: Global, options: &Options, bound: Bound) -> Result<Meshed, Status>
+    requires { IsMeshableBound options.now bound }
+    ensures answer { MeshAnswer options.now bound result }
+    ensures writable { IfOk result IsWritable }
+{
+    if options.piecewise {
+        mesh_plc(alloc, options, bound)
+    } else {
+        mesh_points(alloc, options, bound)
+    }
+}
+
+/// The mesh of points alone.
+fn mesh_points(alloc: Global, _options: &Options, bound: Bound) -> Result<Meshed, Status>
+    requires { IsMeshableBound _options.now bound }
+    ensures answer { MeshOf false _options.now bound result }
+    ensures writable { IfOk result IsWritable }
+{
+    let table = bound.table;
+    let tetrahedra = match delaunay(alloc, &table.points) {
+        Ok(rows) => rows,
+        Err(BuildFault::Flat) => return Err(Status::Flat),
+        Err(BuildFault::NoMemory) => return Err(Status::NoMemory),
+    };
+    let points = points_from(alloc, &table.points, 0)?;
+    Ok(Meshed {
+        table,
+        added: Points::new(alloc),
+        points,
+        complex: Complex::new(alloc),
+        triangles: FacetTriangles::new(alloc),
+        tetrahedra,
+        marks: None,
+    })
+}
+
+/// The mesh of a complex.
+fn mesh_plc(alloc: Global, options: &Options, bound: Bound) -> Result<Meshed, Status>
+    requires { IsMeshableBound options.now bound }
+    ensures answer { MeshOf true options.now bound result }
+    ensures writable { IfOk result IsWritable }
+{
+    let Bound { table, complex } = bound;
+    let points = points_from(alloc, &table.points, 0)?;
+    let made = mesh_complex(alloc, points, &complex, &mesh_options(options, &table))?;
+    let added = points_from(alloc, &made.points, table.points.len())?;
+    let ComplexMesh {
+        points,
+        triangles,
+        tetrahedra,
+        marks,
+    } = made;
+    Ok(Meshed {
+        table,
+        added,
+        points,
+        complex,
+        triangles,
+        tetrahedra,
+        marks,
+    })
+}
+
+/// How the options make the mesh of a complex.
+fn mesh_options(options: &Options, table: &NodeTable) -> MeshOptions
+    ensures { result ≡ mesh_options options.now table.now }
+{
+    MeshOptions {
+        halvings: table.grid.halvings,
+        budget: options.budget,
+        keep_hull: options.keep_hull,
+        regions: options.regions,
+    }
+}
+
+/// The points of a list from this place on.
+fn points_from(alloc: Global, points: &Points, first: usize) -> Result<Points, NoMemory>
+    requires { first ≤ length points.now }
+    ensures { IfOk result (λ list. list ≡ drop first points.now) }
+{
+    let mut list = Points::new(alloc);
+    list.extend_from_slice(&points.as_slice()[first..])?;
+    Ok(list)
+}
+
+/// The files and the summary of a mesh.
+fn write_out(alloc: Global, options: &Options, mesh: &Meshed) -> Result<Outputs, Status>
+    requires { IsWritable mesh.now }
+    ensures { OutputsAnswer options.now mesh.now result }
+{
+    Ok(outputs_of(alloc, options, mesh)?)
 }

@@ -1,16 +1,28 @@
-ghost use Rattle.std.specs.Prelude.{◌≡◌, ◌++◌, IfOk, OnOk};
+//! The line that each refusal is told in.
+
+ghost use Rattle.std.specs.Prelude.{◌≡◌, ◌∷◌, [], ◌++◌, ◌+◌, IfOk, OnOk};
 ghost use Rattle.std.specs.Fmt.{decimal};
-ghost use Rattle.tetgen.specs.Messages.{kind_text, plain_message, file_message, usage_message, text_message, limit_message, twin_message, message_of};
+ghost use Rattle.tetgen.specs.Messages.{line, point_text, ends_text, triangle_text, tetrahedron_text, facet_text, part_text, kind_text, file_message, usage_message, text_message, limit_message, message_of};
+ghost use Rattle.tetgen.specs.declared.status.LimitKind.TheVariants.{Corners, Grid};
+ghost use Rattle.tetgen.specs.declared.status.Status.TheVariants.{Twin, NotFlat, SegmentsCross, Crossing, GridEnd, BudgetEnd, Tangled};
 
 use crate::status::{LimitKind, Status};
+use box_pairs::Part;
+use geo_laws::{FacetTriangle, Piece, Tet};
 use itoa::Buffer;
 use std::alloc::Global;
 use tet_ports::{Bytes, Name, NoMemory};
 use tet_text::{TextFault, TextKind};
 
-/// The line that tells a refusal.
-pub fn message(alloc: Global, status: &Status) -> Result<Bytes, NoMemory>
-    ensures { IfOk result (λ line. line ≡ message_of status.now) }
+/// The message of want of memory, which takes none.
+pub const OUT_OF_MEMORY: &[u8] = b"tetgen: out of memory\n";
+
+/// The message that the summary could not be put.
+pub const SUMMARY_FAILED: &[u8] = b"tetgen: summary: write failed\n";
+
+/// The line that tells a refusal, where the input numbers its points from `from` on.
+pub fn message(alloc: Global, from: u32, status: &Status) -> Result<Bytes, NoMemory>
+    ensures { IfOk result (λ line. line ≡ message_of from status.now) }
 {
     match status {
         Status::Done => Ok(Bytes::new(alloc)),
@@ -19,73 +31,65 @@ pub fn message(alloc: Global, status: &Status) -> Result<Bytes, NoMemory>
         Status::ReadFault { name } => file_message(alloc, name, b"read failed"),
         Status::BadText { name, fault } => text_message(alloc, name, *fault),
         Status::Limit { what } => limit_message(alloc, what),
-        Status::Twin {
-            first,
-            second,
-            numbered_from,
-        } => {
-            let from = *numbered_from as usize;
-            twin_message(alloc, *first as usize + from, *second as usize + from)
-        }
-        Status::Flat => plain_message(alloc, b"all points lie in one plane"),
-        Status::NoMemory => plain_message(alloc, b"out of memory"),
-        Status::WriteFault { name: None } => plain_message(alloc, b"summary: write failed"),
+        Status::Twin { first, second } => twin_message(alloc, from, *first, *second),
+        Status::Flat => line(alloc, b"all points lie in one plane"),
+        Status::NotFlat { facet, four } => not_flat_message(alloc, from, *facet, *four),
+        Status::SegmentsCross { one, two } => segments_message(alloc, from, *one, *two),
+        Status::Crossing { one, two } => crossing_message(alloc, from, *one, *two),
+        Status::GridEnd { piece } => grid_message(alloc, from, *piece),
+        Status::BudgetEnd { made, piece } => budget_message(alloc, from, *made, *piece),
+        Status::Tangled {
+            tet,
+            facet_a,
+            facet_b,
+        } => tangled_message(alloc, from, *tet, *facet_a, *facet_b),
+        Status::NoMemory => line(alloc, b"out of memory"),
+        Status::WriteFault { name: None } => line(alloc, b"summary: write failed"),
         Status::WriteFault { name: Some(name) } => file_message(alloc, name, b"write failed"),
     }
 }
 
-/// The message of want of memory, which takes none.
-pub const OUT_OF_MEMORY: &[u8] = b"tetgen: out of memory\n";
-
-/// The message that the summary could not be put.
-pub const SUMMARY_FAILED: &[u8] = b"tetgen: summary: write failed\n";
-
-/// A message that says nothing but a text.
-fn plain_message(alloc: Global, text: &[u8]) -> Result<Bytes, NoMemory>
-    ensures { IfOk result (λ line. line ≡ plain_message text.now) }
+/// A line that begins with the program's name.
+fn line(alloc: Global, text: &[u8]) -> Result<Bytes, NoMemory>
+    ensures { IfOk result (λ made. made ≡ line text.now) }
 {
-    let mut line = Bytes::from_slice(alloc, b"tetgen: ")?;
-    line.append(text)?;
-    line.append(b"\n")?;
-    Ok(line)
+    let mut made = Bytes::from_slice(alloc, b"tetgen: ")?;
+    made.append(text)?;
+    made.append(b"\n")?;
+    Ok(made)
 }
 
-/// A message on a file.
-pub fn file_message(alloc: Global, name: &Name, text: &[u8]) -> Result<Bytes, NoMemory>
-    ensures { IfOk result (λ line. line ≡ file_message name.now text.now) }
+/// A line on a file.
+pub fn file_message(alloc: Global, name: &Name, told: &[u8]) -> Result<Bytes, NoMemory>
+    ensures { IfOk result (λ line. line ≡ file_message name.now told.now) }
 {
-    let mut line = Bytes::from_slice(alloc, b"tetgen: ")?;
-    line.append(name.as_slice())?;
-    line.append(b": ")?;
-    line.append(text)?;
-    line.append(b"\n")?;
-    Ok(line)
+    let mut text = Bytes::from_slice(alloc, name.as_slice())?;
+    text.append(b": ")?;
+    text.append(told)?;
+    line(alloc, text.as_slice())
 }
 
 fn usage_message(alloc: Global, word: usize, place: usize) -> Result<Bytes, NoMemory>
     ensures { IfOk result (λ line. line ≡ usage_message word place) }
 {
-    let mut line = Bytes::from_slice(alloc, b"tetgen: word ")?;
-    append_number(&mut line, word)?;
-    line.append(b", place ")?;
-    append_number(&mut line, place)?;
-    line.append(b": not understood")?;
-    line.append(b"\n")?;
-    Ok(line)
+    let mut text = Bytes::from_slice(alloc, b"word ")?;
+    append_number(&mut text, word)?;
+    text.append(b", place ")?;
+    append_number(&mut text, place)?;
+    text.append(b": not understood")?;
+    line(alloc, text.as_slice())
 }
 
 /// A message on a text that is not in its grammar.
 fn text_message(alloc: Global, name: &Name, fault: TextFault) -> Result<Bytes, NoMemory>
     ensures { IfOk result (λ line. line ≡ text_message name.now fault) }
 {
-    let mut line = Bytes::from_slice(alloc, b"tetgen: ")?;
-    line.append(name.as_slice())?;
-    line.append(b": line ")?;
-    append_number(&mut line, fault.line)?;
-    line.append(b": ")?;
-    line.append(kind_text(fault.kind))?;
-    line.append(b"\n")?;
-    Ok(line)
+    let mut text = Bytes::from_slice(alloc, name.as_slice())?;
+    text.append(b": line ")?;
+    append_number(&mut text, fault.line)?;
+    text.append(b": ")?;
+    text.append(kind_text(fault.kind))?;
+    line(alloc, text.as_slice())
 }
 
 /// A message on an input that is over a limit.
@@ -94,34 +98,121 @@ fn limit_message(alloc: Global, what: &LimitKind) -> Result<Bytes, NoMemory>
 {
     match what {
         LimitKind::Bytes { name } => file_message(alloc, name, b"over 67108864 bytes"),
-        LimitKind::Points { count } => {
-            let mut line = Bytes::from_slice(alloc, b"tetgen: ")?;
-            append_number(&mut line, *count as usize)?;
-            line.append(b" points, at most 20000")?;
-            line.append(b"\n")?;
-            Ok(line)
-        }
-        LimitKind::Grid { line: place } => {
-            let mut line = Bytes::from_slice(alloc, b"tetgen: line ")?;
-            append_number(&mut line, *place)?;
-            line.append(b": coordinate off the grid")?;
-            line.append(b"\n")?;
-            Ok(line)
-        }
+        LimitKind::Points { count } => count_message(alloc, *count, b" points, at most 20000"),
+        LimitKind::Facets { count } => count_message(alloc, *count, b" facets, at most 2000"),
+        LimitKind::Corners { line, count } => corners_message(alloc, *line, *count),
+        LimitKind::Grid { line } => grid_limit_message(alloc, *line),
     }
 }
 
-/// A message on two equal points, by their numbers in the input.
-fn twin_message(alloc: Global, first: usize, second: usize) -> Result<Bytes, NoMemory>
-    ensures { IfOk result (λ line. line ≡ twin_message first second) }
+/// A line that begins with a number.
+fn count_message(alloc: Global, count: u64, behind: &[u8]) -> Result<Bytes, NoMemory>
+    ensures { IfOk result (λ made. made ≡ line (decimal count ++ behind.now)) }
 {
-    let mut line = Bytes::from_slice(alloc, b"tetgen: points ")?;
-    append_number(&mut line, first)?;
-    line.append(b" and ")?;
-    append_number(&mut line, second)?;
-    line.append(b" are equal")?;
-    line.append(b"\n")?;
-    Ok(line)
+    let mut text = Bytes::new(alloc);
+    append_number(&mut text, count as usize)?;
+    text.append(behind)?;
+    line(alloc, text.as_slice())
+}
+
+fn corners_message(alloc: Global, place: usize, count: u64) -> Result<Bytes, NoMemory>
+    ensures { IfOk result (λ line. line ≡ limit_message (Corners place count)) }
+{
+    let mut text = Bytes::from_slice(alloc, b"line ")?;
+    append_number(&mut text, place)?;
+    text.append(b": ")?;
+    append_number(&mut text, count as usize)?;
+    text.append(b" corners, at most 1000")?;
+    line(alloc, text.as_slice())
+}
+
+fn grid_limit_message(alloc: Global, place: usize) -> Result<Bytes, NoMemory>
+    ensures { IfOk result (λ line. line ≡ limit_message (Grid place)) }
+{
+    let mut text = Bytes::from_slice(alloc, b"line ")?;
+    append_number(&mut text, place)?;
+    text.append(b": coordinate off the grid")?;
+    line(alloc, text.as_slice())
+}
+
+fn twin_message(alloc: Global, from: u32, first: u32, second: u32) -> Result<Bytes, NoMemory>
+    ensures { IfOk result (λ line. line ≡ message_of from (Twin first second)) }
+{
+    let mut text = Bytes::from_slice(alloc, b"points ")?;
+    append_number(&mut text, first as usize + from as usize)?;
+    text.append(b" and ")?;
+    append_number(&mut text, second as usize + from as usize)?;
+    text.append(b" are equal")?;
+    line(alloc, text.as_slice())
+}
+
+fn not_flat_message(alloc: Global, from: u32, facet: u32, four: Tet) -> Result<Bytes, NoMemory>
+    ensures { IfOk result (λ line. line ≡ message_of from (NotFlat facet four)) }
+{
+    let mut text = Bytes::from_slice(alloc, b"facet ")?;
+    append_facet(&mut text, facet)?;
+    text.append(b" is not flat: points")?;
+    append_tetrahedron(&mut text, from, four)?;
+    line(alloc, text.as_slice())
+}
+
+fn segments_message(alloc: Global, from: u32, one: Piece, two: Piece) -> Result<Bytes, NoMemory>
+    ensures { IfOk result (λ line. line ≡ message_of from (SegmentsCross one two)) }
+{
+    let mut text = Bytes::from_slice(alloc, b"segments")?;
+    append_ends(&mut text, from, one)?;
+    text.append(b" and")?;
+    append_ends(&mut text, from, two)?;
+    text.append(b" cross")?;
+    line(alloc, text.as_slice())
+}
+
+fn crossing_message(alloc: Global, from: u32, one: Part, two: Part) -> Result<Bytes, NoMemory>
+    ensures { IfOk result (λ line. line ≡ message_of from (Crossing one two)) }
+{
+    let mut text = Bytes::from_slice(alloc, b"crossing: ")?;
+    text.append(part_text(alloc, from, one)?.as_slice())?;
+    text.append(b" and ")?;
+    text.append(part_text(alloc, from, two)?.as_slice())?;
+    line(alloc, text.as_slice())
+}
+
+fn grid_message(alloc: Global, from: u32, piece: Piece) -> Result<Bytes, NoMemory>
+    ensures { IfOk result (λ line. line ≡ message_of from (GridEnd piece)) }
+{
+    let mut text = Bytes::from_slice(alloc, b"segment")?;
+    append_ends(&mut text, from, piece)?;
+    text.append(b" needs a finer grid")?;
+    line(alloc, text.as_slice())
+}
+
+fn budget_message(alloc: Global, from: u32, made: u32, piece: Piece) -> Result<Bytes, NoMemory>
+    ensures { IfOk result (λ line. line ≡ message_of from (BudgetEnd made piece)) }
+{
+    let mut text = Bytes::new(alloc);
+    append_number(&mut text, made as usize)?;
+    text.append(b" splits used, segment")?;
+    append_ends(&mut text, from, piece)?;
+    text.append(b" is missing")?;
+    line(alloc, text.as_slice())
+}
+
+fn tangled_message(
+    alloc: Global,
+    from: u32,
+    tet: Tet,
+    facet_a: u32,
+    facet_b: u32,
+) -> Result<Bytes, NoMemory>
+    ensures { IfOk result (λ line. line ≡ message_of from (Tangled tet facet_a facet_b)) }
+{
+    let mut text = Bytes::from_slice(alloc, b"facets ")?;
+    append_facet(&mut text, facet_a)?;
+    text.append(b" and ")?;
+    append_facet(&mut text, facet_b)?;
+    text.append(b" meet in tetrahedron")?;
+    append_tetrahedron(&mut text, from, tet)?;
+    line(alloc, text.as_slice())
 }
 
 fn kind_text(kind: TextKind) -> &'static [u8]
@@ -137,9 +228,69 @@ fn kind_text(kind: TextKind) -> &'static [u8]
 }
 
 /// Appends a number.
-pub fn append_number(line: &mut Bytes, n: usize) -> Result<(), NoMemory>
-    ensures { OnOk result (line.new ≡ line.old ++ decimal n) }
+pub fn append_number(text: &mut Bytes, n: usize) -> Result<(), NoMemory>
+    ensures { OnOk result (text.new ≡ text.old ++ decimal n) }
 {
     let mut buffer = Buffer::new();
-    line.append(buffer.format(n).as_bytes())
+    text.append(buffer.format(n).as_bytes())
+}
+
+/// Appends the number of a facet, which counts from 1.
+fn append_facet(text: &mut Bytes, facet: u32) -> Result<(), NoMemory>
+    ensures { OnOk result (text.new ≡ text.old ++ facet_text facet) }
+{
+    append_number(text, facet as usize + 1)
+}
+
+/// Appends the number of a point behind a space.
+fn append_point(text: &mut Bytes, from: u32, point: u32) -> Result<(), NoMemory>
+    ensures { OnOk result (text.new ≡ text.old ++ point_text from point) }
+{
+    text.append(b" ")?;
+    append_number(text, point as usize + from as usize)
+}
+
+/// Appends the two ends of a piece, the less first.
+fn append_ends(text: &mut Bytes, from: u32, piece: Piece) -> Result<(), NoMemory>
+    ensures { OnOk result (text.new ≡ text.old ++ ends_text from piece) }
+{
+    append_point(text, from, piece.a.min(piece.b))?;
+    append_point(text, from, piece.a.max(piece.b))
+}
+
+fn append_triangle(text: &mut Bytes, from: u32, t: FacetTriangle) -> Result<(), NoMemory>
+    ensures { OnOk result (text.new ≡ text.old ++ triangle_text from t) }
+{
+    append_point(text, from, t.a)?;
+    append_point(text, from, t.b)?;
+    append_point(text, from, t.c)
+}
+
+fn append_tetrahedron(text: &mut Bytes, from: u32, t: Tet) -> Result<(), NoMemory>
+    ensures { OnOk result (text.new ≡ text.old ++ tetrahedron_text from t) }
+{
+    append_point(text, from, t.a)?;
+    append_point(text, from, t.b)?;
+    append_point(text, from, t.c)?;
+    append_point(text, from, t.d)
+}
+
+/// A triangle of a facet, or a piece.
+fn part_text(alloc: Global, from: u32, part: Part) -> Result<Bytes, NoMemory>
+    ensures { IfOk result (λ text. text ≡ part_text from part) }
+{
+    match part {
+        Part::Triangle(triangle) => {
+            let mut text = Bytes::from_slice(alloc, b"facet ")?;
+            append_facet(&mut text, triangle.facet)?;
+            text.append(b" triangle")?;
+            append_triangle(&mut text, from, triangle)?;
+            Ok(text)
+        }
+        Part::Segment(piece) => {
+            let mut text = Bytes::from_slice(alloc, b"segment")?;
+            append_ends(&mut text, from, piece)?;
+            Ok(text)
+        }
+    }
 }

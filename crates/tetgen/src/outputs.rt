@@ -1,77 +1,69 @@
-ghost use Rattle.std.specs.Prelude.{◌≡◌, [], true, false, ◌<◌, ◌^◌, ◌++◌, List, length, All, IfOk, OnOk};
-ghost use Rattle.geo_laws.specs.Complex.{empty_complex};
+//! The files and the summary of a mesh.
+
+ghost use Rattle.std.specs.Prelude.{◌≡◌, true, false, ◌<◌, ◌^◌, ◌++◌, length, All, List, IfOk};
+ghost use Rattle.std.specs.Option.{option_copied};
 ghost use Rattle.geo_laws.specs.Faces.{AreFacesOf, AreSidesOf};
 ghost use Rattle.geo_laws.specs.declared.faces.Face.{Face};
-ghost use Rattle.hole_carve.specs.Uses.{AreUsesOf};
+ghost use Rattle.incidence.specs.Uses.{AreUsesOf};
 ghost use Rattle.mesh_files.specs.FaceRows.{AreFaceRowsOf};
-ghost use Rattle.node_files.specs.Writing.{IsNodeTable};
-ghost use Rattle.tetgen.specs.Outputs.{named, node_file, ele_file, face_file, edge_file, neigh_file, summary_text, names_sides, asks_uses, TellsFailure, AreFaceOutputsOf, AreSideOutputsOf, AreOutputsOf};
+ghost use Rattle.tetgen.specs.Outputs.{named, first_of, node_file, ele_file, face_file, edge_file, neigh_file, summary_of, names_sides, asks_uses, IsWritable, AreFaceOutputsOf, AreOutputsOf};
+ghost use Rattle.tetgen.specs.Stores.{in_order, TellsFailure};
 
+use crate::meshed::Meshed;
 use crate::message::{append_number, file_message};
-use crate::names::with_extension;
-use crate::store::NamedText;
-use crate::words::Options;
-use geo_laws::{Complex, FacetTriangles, Points, TetList};
-use hole_carve::{Uses, pair_uses, uses_of};
+use crate::store::{NamedText, Texts};
+use command_words::{Options, with_extension};
+use incidence::{Uses, pair_uses, uses_of};
 use mesh_files::{
     Edges, FaceRows, edges_of, face_count, used_faces, write_edge, write_ele, write_face,
     write_neigh,
 };
-use node_files::{NodeTable, write_node};
+use node_files::write_node;
 use std::alloc::Global;
-use tet_ports::{Bytes, Name, NoMemory};
+use tet_ports::{Bytes, NoMemory};
 
-/// The files of a mesh, in the order in which they are stored, and the line that sums it up.
+/// The files of a mesh, and the line that sums it up.
 #[derive(Debug, Drop)]
 pub struct Outputs {
-    pub texts: Vec<NamedText>,
+    pub texts: Texts,
     pub summary: Option<Bytes>,
 }
 
-/// The face file and the neighbor file, each alone or none, and the number of faces, if the summary tells it.
+/// The face file and the neighbor file, where they are asked for, and the number of faces, if the summary tells it.
 #[derive(Drop)]
 struct FaceOutputs {
-    marked: Vec<NamedText>,
-    neighbors: Vec<NamedText>,
+    face: Option<NamedText>,
+    neigh: Option<NamedText>,
     count: usize,
 }
 
-/// The edge file, alone or none, and the number of sides, if the summary tells it.
-#[derive(Drop)]
-struct SideOutputs {
-    edges: Vec<NamedText>,
-    count: usize,
-}
-
-/// The files and the summary of these rows on the points of a table, numbered from the first number.
-pub fn outputs_of(
-    alloc: Global,
-    options: &Options,
-    table: &NodeTable,
-    first: u32,
-    rows: &TetList,
-) -> Result<Outputs, NoMemory>
-    requires table { IsNodeTable table.now }
-    requires few { length table.now.points < 2 ^ 32 }
-    ensures outputs { IfOk result (AreOutputsOf options.now table.now first rows.now) }
-    ensures told { IfOk result (λ outputs. All TellsFailure outputs.texts.items) }
+/// The files and the summary that the options ask for.
+pub fn outputs_of(alloc: Global, options: &Options, mesh: &Meshed) -> Result<Outputs, NoMemory>
+    requires { IsWritable mesh.now }
+    ensures { IfOk result (AreOutputsOf options.now mesh.now) }
 {
-    let FaceOutputs {
-        marked,
-        neighbors,
-        count: faces,
-    } = face_outputs(alloc, options, first, &table.points, rows)?;
-    let SideOutputs {
-        edges,
-        count: sides,
-    } = side_outputs(alloc, options, first, rows)?;
-    let texts = texts_of(alloc, options, first, table, rows, marked, edges, neighbors)?;
-    let summary = if options.quiet {
-        None
-    } else {
-        Some(summary_of(alloc, table.points.len(), rows.len(), faces, sides)?)
+    let FaceOutputs { face, neigh, count } = face_outputs(alloc, options, mesh)?;
+    let sides = wanted_sides(alloc, options, mesh)?;
+    let texts = Texts {
+        node: node_file(alloc, options, mesh)?,
+        ele: ele_file(alloc, options, mesh)?,
+        face,
+        edge: edge_file(alloc, options, mesh, &sides)?,
+        neigh,
     };
+    let summary = summary_of(alloc, options, mesh, count, sides.len())?;
     Ok(Outputs { texts, summary })
+}
+
+/// The number of the first row, face, side and point in what is written.
+fn first_of(options: &Options, mesh: &Meshed) -> u32
+    ensures { result ≡ first_of options.now mesh.now }
+{
+    if options.from_zero {
+        0
+    } else {
+        mesh.table.first
+    }
 }
 
 /// Whether the edge file or the summary is asked for.
@@ -89,229 +81,172 @@ fn asks_uses(options: &Options) -> bool
 }
 
 /// What is told of the faces. The neighbors are let go once their text is made, and the uses before the text of the faces is.
-fn face_outputs(
-    alloc: Global,
-    options: &Options,
-    first: u32,
-    points: &Points,
-    rows: &TetList,
-) -> Result<FaceOutputs, NoMemory>
-    ensures { IfOk result (AreFaceOutputsOf options.now first points.now rows.now) }
+fn face_outputs(alloc: Global, options: &Options, mesh: &Meshed) -> Result<FaceOutputs, NoMemory>
+    requires { IsWritable mesh.now }
+    ensures { IfOk result (AreFaceOutputsOf options.now mesh.now) }
 {
-    let uses = wanted_uses(alloc, options, rows)?;
-    let count = wanted_face_count(options, rows, &uses);
-    let mut neighbors = Vec::new(alloc);
-    append_neigh(alloc, options, first, rows, &uses, &mut neighbors)?;
-    let faces = wanted_face_rows(alloc, options, points, rows, uses)?;
-    let mut marked = Vec::new(alloc);
-    append_face(alloc, options, first, &faces, &mut marked)?;
-    Ok(FaceOutputs {
-        marked,
-        neighbors,
-        count,
-    })
-}
-
-/// What is told of the sides.
-fn side_outputs(
-    alloc: Global,
-    options: &Options,
-    first: u32,
-    rows: &TetList,
-) -> Result<SideOutputs, NoMemory>
-    ensures { IfOk result (AreSideOutputsOf options.now first rows.now) }
-{
-    let sides = wanted_sides(alloc, options, rows)?;
-    let mut edges = Vec::new(alloc);
-    append_edge(alloc, options, first, &sides, &mut edges)?;
-    Ok(SideOutputs {
-        edges,
-        count: sides.len(),
-    })
+    let uses = wanted_uses(alloc, options, mesh)?;
+    let count = wanted_face_count(options, mesh, &uses);
+    let neigh = neigh_file(alloc, options, mesh, &uses)?;
+    let faces = wanted_face_rows(alloc, options, mesh, uses)?;
+    let face = face_file(alloc, options, mesh, &faces)?;
+    Ok(FaceOutputs { face, neigh, count })
 }
 
 /// The uses of the faces, if something speaks of them.
-fn wanted_uses(alloc: Global, options: &Options, rows: &TetList) -> Result<Uses, NoMemory>
-    ensures { IfOk result (λ uses. asks_uses options.now ≡ true → AreUsesOf rows.now uses) }
+fn wanted_uses(alloc: Global, options: &Options, mesh: &Meshed) -> Result<Uses, NoMemory>
+    ensures { IfOk result (λ uses. asks_uses options.now ≡ true → AreUsesOf mesh.now.tetrahedra uses) }
 {
     if !asks_uses(options) {
         return Ok(Uses::new(alloc));
     }
-    uses_of(alloc, rows)
+    uses_of(alloc, &mesh.tetrahedra)
 }
 
 /// The number of faces, if the summary tells it.
-fn wanted_face_count(options: &Options, rows: &TetList, uses: &Uses) -> usize
-    requires { asks_uses options.now ≡ true → AreUsesOf rows.now uses.now }
-    ensures { (faces : List Face) × (options.now.quiet ≡ false → AreFacesOf rows.now faces) × (result ≡ length faces) }
+fn wanted_face_count(options: &Options, mesh: &Meshed, uses: &Uses) -> usize
+    requires { asks_uses options.now ≡ true → AreUsesOf mesh.now.tetrahedra uses.now }
+    ensures { (faces : List Face) × (options.now.quiet ≡ false → AreFacesOf mesh.now.tetrahedra faces) × (result ≡ length faces) }
 {
     if options.quiet {
         return 0;
     }
-    face_count(rows, uses)
+    face_count(&mesh.tetrahedra, uses)
 }
 
-/// The rows of the face file, if it is asked for, on points without facets. The uses are let go.
+/// The rows of the face file, if it is asked for. The uses are let go.
 fn wanted_face_rows(
     alloc: Global,
     options: &Options,
-    points: &Points,
-    rows: &TetList,
+    mesh: &Meshed,
     uses: Uses,
 ) -> Result<FaceRows, NoMemory>
-    requires { asks_uses options.now ≡ true → AreUsesOf rows.now uses }
-    ensures { IfOk result (λ marked. options.now.no_face ≡ false → AreFaceRowsOf points.now rows.now empty_complex [] options.now.all_faces marked) }
+    requires mesh { IsWritable mesh.now }
+    requires uses { asks_uses options.now ≡ true → AreUsesOf mesh.now.tetrahedra uses }
+    ensures { IfOk result (λ marked. options.now.no_face ≡ false → AreFaceRowsOf mesh.now.points mesh.now.tetrahedra mesh.now.complex mesh.now.triangles options.now.all_faces marked) }
 {
     if options.no_face {
         return Ok(FaceRows::new(alloc));
     }
-    let complex = Complex::new(alloc);
-    let triangles = FacetTriangles::new(alloc);
+    let Meshed {
+        points,
+        complex,
+        triangles,
+        tetrahedra,
+        ..
+    } = mesh;
     used_faces(
         alloc,
         points,
-        rows,
+        tetrahedra,
         &uses,
-        &complex,
-        &triangles,
+        complex,
+        triangles,
         options.all_faces,
     )
 }
 
 /// The sides, if the edge file or the summary is asked for.
-fn wanted_sides(alloc: Global, options: &Options, rows: &TetList) -> Result<Edges, NoMemory>
-    ensures { IfOk result (λ sides. names_sides options.now ≡ true → AreSidesOf rows.now sides) }
+fn wanted_sides(alloc: Global, options: &Options, mesh: &Meshed) -> Result<Edges, NoMemory>
+    ensures { IfOk result (λ sides. names_sides options.now ≡ true → AreSidesOf mesh.now.tetrahedra sides) }
 {
     if !names_sides(options) {
         return Ok(Edges::new(alloc));
     }
-    edges_of(alloc, rows)
+    edges_of(alloc, &mesh.tetrahedra)
 }
 
-/// The files that the options ask for, where those of the faces, the sides and the neighbors are made already.
-fn texts_of(
-    alloc: Global,
-    options: &Options,
-    first: u32,
-    table: &NodeTable,
-    rows: &TetList,
-    mut marked: Vec<NamedText>,
-    mut edges: Vec<NamedText>,
-    mut neighbors: Vec<NamedText>,
-) -> Result<Vec<NamedText>, NoMemory>
-    requires table { IsNodeTable table.now }
-    requires few { length table.now.points < 2 ^ 32 }
-    ensures { IfOk result (λ texts. texts.items ≡ node_file options.now first table.now ++ ele_file options.now first rows.now ++ marked.items ++ edges.items ++ neighbors.items) }
-{
-    let mut texts = Vec::new(alloc);
-    append_node(alloc, options, first, table, &mut texts)?;
-    append_ele(alloc, options, first, rows, &mut texts)?;
-    texts.append(&mut marked)?;
-    texts.append(&mut edges)?;
-    texts.append(&mut neighbors)?;
-    Ok(texts)
-}
-
-fn append_node(
-    alloc: Global,
-    options: &Options,
-    first: u32,
-    table: &NodeTable,
-    texts: &mut Vec<NamedText>,
-) -> Result<(), NoMemory>
-    requires table { IsNodeTable table.now }
-    requires few { length table.now.points < 2 ^ 32 }
-    ensures { OnOk result (texts.new.items ≡ texts.old.items ++ node_file options.now first table.now) }
+/// The points of the input and the added ones.
+fn node_file(alloc: Global, options: &Options, mesh: &Meshed) -> Result<Option<NamedText>, NoMemory>
+    requires { IsWritable mesh.now }
+    ensures { IfOk result (λ file. file ≡ node_file options.now mesh.now) }
 {
     if options.no_node {
-        return Ok(());
+        return Ok(None);
     }
-    let text = write_node(alloc, table, &Points::new(alloc), first)?;
-    texts.push(named(alloc, &options.base, b".1.node", text)?)?;
-    Ok(())
+    let text = write_node(alloc, &mesh.table, &mesh.added, first_of(options, mesh))?;
+    Ok(Some(named(alloc, options, b".1.node", text)?))
 }
 
-fn append_ele(
-    alloc: Global,
-    options: &Options,
-    first: u32,
-    rows: &TetList,
-    texts: &mut Vec<NamedText>,
-) -> Result<(), NoMemory>
-    ensures { OnOk result (texts.new.items ≡ texts.old.items ++ ele_file options.now first rows.now) }
+/// The tetrahedra, with the attributes of their regions where these are asked for.
+fn ele_file(alloc: Global, options: &Options, mesh: &Meshed) -> Result<Option<NamedText>, NoMemory>
+    requires { IsWritable mesh.now }
+    ensures { IfOk result (λ file. file ≡ ele_file options.now mesh.now) }
 {
     if options.no_ele {
-        return Ok(());
+        return Ok(None);
     }
-    let text = write_ele(alloc, rows, None, &Complex::new(alloc), first)?;
-    texts.push(named(alloc, &options.base, b".1.ele", text)?)?;
-    Ok(())
+    let first = first_of(options, mesh);
+    let text = write_ele(
+        alloc,
+        &mesh.tetrahedra,
+        mesh.marks.as_ref(),
+        &mesh.complex,
+        first,
+    )?;
+    Ok(Some(named(alloc, options, b".1.ele", text)?))
 }
 
-fn append_face(
+/// The faces that are asked for, with their markers.
+fn face_file(
     alloc: Global,
     options: &Options,
-    first: u32,
+    mesh: &Meshed,
     marked: &FaceRows,
-    texts: &mut Vec<NamedText>,
-) -> Result<(), NoMemory>
-    ensures { OnOk result (texts.new.items ≡ texts.old.items ++ face_file options.now first marked.now) }
+) -> Result<Option<NamedText>, NoMemory>
+    ensures { IfOk result (λ file. file ≡ face_file options.now mesh.now marked.now) }
 {
     if options.no_face {
-        return Ok(());
+        return Ok(None);
     }
-    let text = write_face(alloc, marked, first)?;
-    texts.push(named(alloc, &options.base, b".1.face", text)?)?;
-    Ok(())
+    let text = write_face(alloc, marked, first_of(options, mesh))?;
+    Ok(Some(named(alloc, options, b".1.face", text)?))
 }
 
-fn append_edge(
+/// The sides of all tetrahedra.
+fn edge_file(
     alloc: Global,
     options: &Options,
-    first: u32,
+    mesh: &Meshed,
     sides: &Edges,
-    texts: &mut Vec<NamedText>,
-) -> Result<(), NoMemory>
-    ensures { OnOk result (texts.new.items ≡ texts.old.items ++ edge_file options.now first sides.now) }
+) -> Result<Option<NamedText>, NoMemory>
+    ensures { IfOk result (λ file. file ≡ edge_file options.now mesh.now sides.now) }
 {
     if options.no_face || !options.edges {
-        return Ok(());
+        return Ok(None);
     }
-    let text = write_edge(alloc, sides, first)?;
-    texts.push(named(alloc, &options.base, b".1.edge", text)?)?;
-    Ok(())
+    let text = write_edge(alloc, sides, first_of(options, mesh))?;
+    Ok(Some(named(alloc, options, b".1.edge", text)?))
 }
 
-fn append_neigh(
+/// The neighbors of each tetrahedron.
+fn neigh_file(
     alloc: Global,
     options: &Options,
-    first: u32,
-    rows: &TetList,
+    mesh: &Meshed,
     uses: &Uses,
-    texts: &mut Vec<NamedText>,
-) -> Result<(), NoMemory>
-    requires { asks_uses options.now ≡ true → AreUsesOf rows.now uses.now }
-    ensures { OnOk result (texts.new.items ≡ texts.old.items ++ neigh_file options.now first rows.now) }
+) -> Result<Option<NamedText>, NoMemory>
+    requires { asks_uses options.now ≡ true → AreUsesOf mesh.now.tetrahedra uses.now }
+    ensures { IfOk result (λ file. file ≡ neigh_file options.now mesh.now) }
 {
     if !options.neighbors {
-        return Ok(());
+        return Ok(None);
     }
-    let pairs = pair_uses(alloc, rows, uses)?;
-    let text = write_neigh(alloc, &pairs, first)?;
-    texts.push(named(alloc, &options.base, b".1.neigh", text)?)?;
-    Ok(())
+    let pairs = pair_uses(alloc, &mesh.tetrahedra, uses)?;
+    let text = write_neigh(alloc, &pairs, first_of(options, mesh))?;
+    Ok(Some(named(alloc, options, b".1.neigh", text)?))
 }
 
 /// A text under the base with an extension.
 fn named(
     alloc: Global,
-    base: &Name,
+    options: &Options,
     extension: &[u8],
     content: Bytes,
 ) -> Result<NamedText, NoMemory>
-    ensures { IfOk result (λ text. text ≡ named base.now extension.now content) }
+    ensures { IfOk result (λ text. text ≡ named options.now.base extension.now content) }
 {
-    let name = with_extension(alloc, base, extension)?;
+    let name = with_extension(alloc, &options.base, extension)?;
     let message = file_message(alloc, &name, b"write failed")?;
     Ok(NamedText {
         name,
@@ -320,26 +255,29 @@ fn named(
     })
 }
 
-/// The line that sums up a mesh without added points.
+/// The line that sums up the mesh, if it is asked for.
 fn summary_of(
     alloc: Global,
-    points: usize,
-    rows: usize,
+    options: &Options,
+    mesh: &Meshed,
     faces: usize,
     sides: usize,
-) -> Result<Bytes, NoMemory>
-    ensures { IfOk result (λ line. line ≡ summary_text points 0 rows faces sides) }
+) -> Result<Option<Bytes>, NoMemory>
+    ensures { IfOk result (λ line. line ≡ summary_of options.now mesh.now faces sides) }
 {
+    if options.quiet {
+        return Ok(None);
+    }
     let mut line = Bytes::from_slice(alloc, b"points ")?;
-    append_number(&mut line, points)?;
+    append_number(&mut line, mesh.table.points.len())?;
     line.append(b" added ")?;
-    append_number(&mut line, 0)?;
+    append_number(&mut line, mesh.added.len())?;
     line.append(b" tetrahedra ")?;
-    append_number(&mut line, rows)?;
+    append_number(&mut line, mesh.tetrahedra.len())?;
     line.append(b" faces ")?;
     append_number(&mut line, faces)?;
     line.append(b" edges ")?;
     append_number(&mut line, sides)?;
     line.append(b"\n")?;
-    Ok(line)
+    Ok(Some(line))
 }

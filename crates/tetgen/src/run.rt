@@ -1,38 +1,22 @@
-ghost use Rattle.std.specs.Prelude.{◌≡◌, ◌≤◌, ◌⊎◌, All, IfErr};
-ghost use Rattle.tetgen.specs.Outputs.{TellsFailure};
-ghost use Rattle.tetgen.specs.Run.{IsRead, IsCause, IsAnswer, IsLeft, IsTold, IsRefusal, answer_of, IsTellable, IsSummed, IsWritten};
-ghost use Rattle.tetgen.specs.Names.{node_name};
-ghost use Rattle.tetgen.specs.Words.{options_of};
-ghost use Rattle.tetgen.specs.declared.status.Status.TheVariants.{NoMemory as WantsMemory};
+//! The run of the program: from its words to the files of a mesh.
 
-use crate::mesh::{Unmeshed, mesh_of};
+ghost use Rattle.std.specs.Prelude.{◌≡◌, ◌≤◌, ◌⊎◌, IsErrOf, Err};
+ghost use Rattle.tetgen.specs.Run.{IsAnswer, IsComplete, IsLeft, IsTold, IsPut, EndsSo, IsSummed, IsTellable, IsToldAs};
+ghost use Rattle.tetgen.specs.Seen.{folder_seen, sink_seen};
+
+use crate::input::read_input;
+use crate::mesh::mesh_of;
 use crate::message::{OUT_OF_MEMORY, SUMMARY_FAILED, message};
-use crate::names::node_name;
 use crate::outputs::Outputs;
-use crate::read_words::read_words;
-use crate::status::{LimitKind, Status};
-use crate::store::{NamedText, StoreStop, store_all};
-use crate::words::{Options, WordsFault};
+use crate::status::Status;
+use crate::stop::Stop;
+use crate::store::store_all;
+use command_words::read_words;
 use std::alloc::Global;
-use tet_ports::{Bytes, FetchFault, Folder, Name, PutFault, Sink, Words};
+use tet_ports::{Bytes, Folder, PutFault, Sink, Words};
 
-/// How many bytes of a file are read at most.
-const MOST_BYTES: usize = 67_108_864;
-
-/// Why a run stopped before its end.
-#[derive(Debug, Drop)]
-pub enum Stop {
-    /// An answer before which nothing was stored.
-    Refused(Status),
-    /// The folder failed in the store of this text.
-    Unwritten(NamedText),
-    /// The summary could not be put.
-    Unsummed,
-    NoMemory,
-}
-
-/// Reads the words, fetches the file of points that they name, stores the files of its Delaunay list that the words ask for, and puts
-/// the summary to `out`. On every answer but Done it puts one message to `err`; a failure there changes no status.
+/// Reads the words, fetches the input that they name, stores the files of its mesh that the words ask for, and puts the summary to `out`. On
+/// every answer but Done it puts one message to `err`; a failure there changes no status.
 ///
 /// Nothing is stored before all texts are made.
 pub fn run_tetgen<F: Folder, O: Sink, E: Sink>(
@@ -42,31 +26,10 @@ pub fn run_tetgen<F: Folder, O: Sink, E: Sink>(
     out: &mut O,
     err: &mut E,
 ) -> Status
-    ensures answer { IsAnswer words.now (record {
-      files_before = F.held folder.old;
-      files_now = F.held folder.new;
-      faults_before = F.faults folder.old;
-      faults_now = F.faults folder.new;
-      misses_before = F.misses folder.old;
-      misses_now = F.misses folder.new;
-      written_before = O.written out.old;
-      written_now = O.written out.new;
-      put_faults_before = O.faults out.old;
-      put_faults_now = O.faults out.new;
-    }) result }
-    ensures left { IsLeft (options_of words.now) (record {
-      files_before = F.held folder.old;
-      files_now = F.held folder.new;
-      faults_before = F.faults folder.old;
-      faults_now = F.faults folder.new;
-      misses_before = F.misses folder.old;
-      misses_now = F.misses folder.new;
-      written_before = O.written out.old;
-      written_now = O.written out.new;
-      put_faults_before = O.faults out.old;
-      put_faults_now = O.faults out.new;
-    }) result }
-    ensures told { IsTold result (E.written err.old) (E.written err.new) (E.faults err.old, E.wants err.old) (E.faults err.new, E.wants err.new) }
+    ensures answer { IsAnswer words.now (folder_seen F.held F.faults F.misses folder.old folder.new) (sink_seen O.written O.faults O.wants out.old out.new) result }
+    ensures complete { IsComplete words.now (folder_seen F.held F.faults F.misses folder.old folder.new) (sink_seen O.written O.faults O.wants out.old out.new) result }
+    ensures left { IsLeft words.now (folder_seen F.held F.faults F.misses folder.old folder.new) (sink_seen O.written O.faults O.wants out.old out.new) result }
+    ensures told { IsTold words.now (folder_seen F.held F.faults F.misses folder.old folder.new) (sink_seen E.written E.faults E.wants err.old err.new) result }
 {
     match run(alloc, words, folder, out) {
         Ok(()) => Status::Done,
@@ -81,182 +44,28 @@ fn run<F: Folder, O: Sink>(
     folder: &mut F,
     out: &mut O,
 ) -> Result<(), Stop>
-    ensures answer { IsAnswer words.now (record {
-      files_before = F.held folder.old;
-      files_now = F.held folder.new;
-      faults_before = F.faults folder.old;
-      faults_now = F.faults folder.new;
-      misses_before = F.misses folder.old;
-      misses_now = F.misses folder.new;
-      written_before = O.written out.old;
-      written_now = O.written out.new;
-      put_faults_before = O.faults out.old;
-      put_faults_now = O.faults out.new;
-    }) (answer_of result) }
-    ensures left { IsLeft (options_of words.now) (record {
-      files_before = F.held folder.old;
-      files_now = F.held folder.new;
-      faults_before = F.faults folder.old;
-      faults_now = F.faults folder.new;
-      misses_before = F.misses folder.old;
-      misses_now = F.misses folder.new;
-      written_before = O.written out.old;
-      written_now = O.written out.new;
-      put_faults_before = O.faults out.old;
-      put_faults_now = O.faults out.new;
-    }) (answer_of result) }
-    ensures tellable { IfErr result IsTellable }
+    ensures { EndsSo words.now (folder_seen F.held F.faults F.misses folder.old folder.new) (sink_seen O.written O.faults O.wants out.old out.new) result }
 {
-    let options = match read_words(alloc, words) {
-        Ok(options) => options,
-        Err(WordsFault::Usage { word, place }) => return Err(Stop::Refused(Status::Usage {
-            word,
-            place,
-        })),
-        Err(WordsFault::NoMemory) => return Err(Stop::NoMemory),
-    };
-    mesh_file(alloc, &options, folder, out)
-}
-
-/// Meshes the file of points that the options name.
-fn mesh_file<F: Folder, O: Sink>(
-    alloc: Global,
-    options: &Options,
-    folder: &mut F,
-    out: &mut O,
-) -> Result<(), Stop>
-    ensures cause { IsCause options.now (record {
-      files_before = F.held folder.old;
-      files_now = F.held folder.new;
-      faults_before = F.faults folder.old;
-      faults_now = F.faults folder.new;
-      misses_before = F.misses folder.old;
-      misses_now = F.misses folder.new;
-      written_before = O.written out.old;
-      written_now = O.written out.new;
-      put_faults_before = O.faults out.old;
-      put_faults_now = O.faults out.new;
-    }) (answer_of result) }
-    ensures left { IsLeft options.now (record {
-      files_before = F.held folder.old;
-      files_now = F.held folder.new;
-      faults_before = F.faults folder.old;
-      faults_now = F.faults folder.new;
-      misses_before = F.misses folder.old;
-      misses_now = F.misses folder.new;
-      written_before = O.written out.old;
-      written_now = O.written out.new;
-      put_faults_before = O.faults out.old;
-      put_faults_now = O.faults out.new;
-    }) (answer_of result) }
-    ensures tellable { IfErr result IsTellable }
-{
-    let Ok(input) = node_name(alloc, &options.base) else {
-        return Err(Stop::NoMemory);
-    };
-    match folder.fetch(alloc, &input, MOST_BYTES) {
-        Ok(bytes) => mesh_bytes(alloc, options, input, &bytes, folder, out),
-        Err(FetchFault::Missing) => Err(Stop::Refused(Status::Missing { name: input })),
-        Err(FetchFault::Failed) => Err(Stop::Refused(Status::ReadFault { name: input })),
-        Err(FetchFault::TooLarge { taken: _ }) => Err(Stop::Refused(Status::Limit {
-            what: LimitKind::Bytes { name: input },
-        })),
-        Err(FetchFault::NoMemory) => Err(Stop::NoMemory),
-    }
-}
-
-/// Meshes the bytes of the file of points, and writes the outputs.
-fn mesh_bytes<F: Folder, O: Sink>(
-    alloc: Global,
-    options: &Options,
-    input: Name,
-    bytes: &Bytes,
-    folder: &mut F,
-    out: &mut O,
-) -> Result<(), Stop>
-    requires input { input ≡ node_name options.now.base }
-    requires read { IsRead options.now.base (F.held folder.old) bytes.now }
-    ensures cause { IsCause options.now (record {
-      files_before = F.held folder.old;
-      files_now = F.held folder.new;
-      faults_before = F.faults folder.old;
-      faults_now = F.faults folder.new;
-      misses_before = F.misses folder.old;
-      misses_now = F.misses folder.new;
-      written_before = O.written out.old;
-      written_now = O.written out.new;
-      put_faults_before = O.faults out.old;
-      put_faults_now = O.faults out.new;
-    }) (answer_of result) }
-    ensures left { IsLeft options.now (record {
-      files_before = F.held folder.old;
-      files_now = F.held folder.new;
-      faults_before = F.faults folder.old;
-      faults_now = F.faults folder.new;
-      misses_before = F.misses folder.old;
-      misses_now = F.misses folder.new;
-      written_before = O.written out.old;
-      written_now = O.written out.new;
-      put_faults_before = O.faults out.old;
-      put_faults_now = O.faults out.new;
-    }) (answer_of result) }
-    ensures tellable { IfErr result IsTellable }
-    ensures faults { F.faults folder.old ≤ F.faults folder.new }
-{
-    match mesh_of(alloc, options, bytes) {
-        Ok(outputs) => write(outputs, folder, out),
-        Err(Unmeshed::BadText(fault)) => Err(Stop::Refused(Status::BadText { name: input, fault })),
-        Err(Unmeshed::TooMany { count }) => Err(Stop::Refused(Status::Limit {
-            what: LimitKind::Points { count },
-        })),
-        Err(Unmeshed::OffGrid { line }) => Err(Stop::Refused(Status::Limit {
-            what: LimitKind::Grid { line },
-        })),
-        Err(
-            Unmeshed::Twin {
-                first,
-                second,
+    let options = read_words(alloc, words)?;
+    let input = read_input(alloc, &options, folder)?;
+    let numbered_from = input.nodes.first;
+    let outputs = match mesh_of(alloc, &options, input) {
+        Ok(outputs) => outputs,
+        Err(status) => {
+            return Err(Stop::Refused {
+                status,
                 numbered_from,
-            },
-        ) => Err(Stop::Refused(Status::Twin {
-            first,
-            second,
-            numbered_from,
-        })),
-        Err(Unmeshed::Flat) => Err(Stop::Refused(Status::Flat)),
-        Err(Unmeshed::NoMemory) => Err(Stop::NoMemory),
-    }
-}
-
-/// Stores the texts and puts the summary.
-fn write<F: Folder, O: Sink>(outputs: Outputs, folder: &mut F, out: &mut O) -> Result<(), Stop>
-    requires { All TellsFailure outputs.texts.items }
-    ensures written { IsWritten outputs (record {
-      files_before = F.held folder.old;
-      files_now = F.held folder.new;
-      faults_before = F.faults folder.old;
-      faults_now = F.faults folder.new;
-      misses_before = F.misses folder.old;
-      misses_now = F.misses folder.new;
-      written_before = O.written out.old;
-      written_now = O.written out.new;
-      put_faults_before = O.faults out.old;
-      put_faults_now = O.faults out.new;
-    }) result }
-    ensures tellable { IfErr result IsTellable }
-    ensures faults { F.faults folder.old ≤ F.faults folder.new }
-{
+            });
+        }
+    };
     let Outputs { texts, summary } = outputs;
-    match store_all(texts, folder) {
-        Ok(()) => sum_up(summary, out),
-        Err(StoreStop::Failed(text)) => Err(Stop::Unwritten(text)),
-        Err(StoreStop::NoMemory) => Err(Stop::NoMemory),
-    }
+    store_all(texts.in_order(alloc)?, folder)?;
+    sum_up(summary, out)
 }
 
 /// Puts the summary, where there is one.
 fn sum_up<O: Sink>(summary: Option<Bytes>, out: &mut O) -> Result<(), Stop>
-    ensures { IsSummed summary (O.written out.old) (O.written out.new) (O.faults out.old) (O.faults out.new) result }
+    ensures { IsSummed summary (sink_seen O.written O.faults O.wants out.old out.new) result }
 {
     let Some(line) = summary else {
         return Ok(());
@@ -268,35 +77,44 @@ fn sum_up<O: Sink>(summary: Option<Bytes>, out: &mut O) -> Result<(), Stop>
     }
 }
 
+/// Puts a message; a failure there changes nothing.
+fn put<E: Sink>(line: &[u8], err: &mut E)
+    ensures { IsPut line.now (sink_seen E.written E.faults E.wants err.old err.new) }
+{
+    let _ = err.put(line);
+}
+
 /// Puts the message of a stop, and answers its status. Where there is no memory for the message, the answer is want of memory.
 fn tell<E: Sink>(alloc: Global, stop: Stop, err: &mut E) -> Status
     requires { IsTellable stop }
-    ensures status { (result ≡ answer_of (Err stop)) ⊎ ((result ≡ WantsMemory) × IsRefusal (answer_of (Err stop))) }
-    ensures told { IsTold result (E.written err.old) (E.written err.new) (E.faults err.old, E.wants err.old) (E.faults err.new, E.wants err.new) }
+    ensures { IsToldAs stop (sink_seen E.written E.faults E.wants err.old err.new) result }
 {
     match stop {
-        Stop::Refused(status) => match message(alloc, &status) {
+        Stop::Refused {
+            status,
+            numbered_from,
+        } => match message(alloc, numbered_from, &status) {
             Ok(line) => {
-                let _ = err.put(line.as_slice());
+                put(line.as_slice(), err);
                 status
             }
             Err(_) => {
-                let _ = err.put(OUT_OF_MEMORY);
+                put(OUT_OF_MEMORY, err);
                 Status::NoMemory
             }
         },
         Stop::Unwritten(text) => {
-            let _ = err.put(text.message.as_slice());
+            put(text.message.as_slice(), err);
             Status::WriteFault {
                 name: Some(text.name),
             }
         }
         Stop::Unsummed => {
-            let _ = err.put(SUMMARY_FAILED);
+            put(SUMMARY_FAILED, err);
             Status::WriteFault { name: None }
         }
         Stop::NoMemory => {
-            let _ = err.put(OUT_OF_MEMORY);
+            put(OUT_OF_MEMORY, err);
             Status::NoMemory
         }
     }

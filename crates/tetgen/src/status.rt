@@ -1,5 +1,8 @@
-ghost use Rattle.std.specs.Prelude.{◌≡◌};
+//! How a run ends.
 
+use box_pairs::Part;
+use complex_mesh::MeshFault;
+use geo_laws::{Piece, Tet};
 use tet_ports::{Name, NoMemory};
 use tet_text::TextFault;
 
@@ -10,12 +13,16 @@ pub enum LimitKind {
     Bytes { name: Name },
     /// The number of points; it carries that of the input.
     Points { count: u64 },
+    /// The number of facets; it carries that of the input.
+    Facets { count: u64 },
+    /// The number of corners of a polygon; the line of the first such polygon, from 1, and how many it has.
+    Corners { line: usize, count: u64 },
     /// The size of a grid coordinate without halvings; the line of the first point that is off the grid, from 1.
     Grid { line: usize },
 }
 
-/// How a run ends. Names are those of files; the points of a status are named by their places, from 0.
-#[derive(Debug, Drop)]
+/// How a run ends. Names are those of files; points and facets are named by their places, from 0, added points after those of the input.
+#[derive(Drop)]
 pub enum Status {
     /// The files are stored and the summary is put.
     Done,
@@ -32,7 +39,7 @@ pub enum Status {
     ReadFault {
         name: Name,
     },
-    /// A file is not in its grammar.
+    /// A file is not in its grammar, or a corner of it names no point.
     BadText {
         name: Name,
         fault: TextFault,
@@ -41,15 +48,43 @@ pub enum Status {
     Limit {
         what: LimitKind,
     },
-    /// Two points are equal on the grid: `second` is the least that is equal to an earlier one, which is `first`. The input numbers its
-    /// points from `numbered_from` on.
+    /// Two points are equal on the grid: `second` is the least that is equal to an earlier one, which is `first`.
     Twin {
         first: u32,
         second: u32,
-        numbered_from: u32,
     },
     /// All points lie in one plane.
     Flat,
+    /// Four corners of the first facet that is not flat do not lie in one plane.
+    NotFlat {
+        facet: u32,
+        four: Tet,
+    },
+    /// The first two pieces of segments that are not properly met.
+    SegmentsCross {
+        one: Piece,
+        two: Piece,
+    },
+    /// The first two parts of facets, triangles or pieces, that are not properly met.
+    Crossing {
+        one: Part,
+        two: Part,
+    },
+    /// A piece is no side of the mesh, and was halved as often as the grid allows.
+    GridEnd {
+        piece: Piece,
+    },
+    /// A piece is no side of the mesh, and as many points were added as are allowed.
+    BudgetEnd {
+        made: u32,
+        piece: Piece,
+    },
+    /// The first Delaunay tetrahedron that two facets cross, and the two least of these.
+    Tangled {
+        tet: Tet,
+        facet_a: u32,
+        facet_b: u32,
+    },
     /// Want of memory.
     NoMemory,
     /// The folder failed in a store, or the sink of the summary, which has no name.
@@ -59,6 +94,7 @@ pub enum Status {
 }
 
 impl Status {
+    ghost use Rattle.std.specs.Prelude.{◌≡◌};
     ghost use Rattle.tetgen.specs.Codes.{code_of};
 
     /// The status with which the program ends.
@@ -74,6 +110,12 @@ impl Status {
             Status::Limit { .. } => 5,
             Status::Twin { .. } => 6,
             Status::Flat => 6,
+            Status::NotFlat { .. } => 6,
+            Status::SegmentsCross { .. } => 6,
+            Status::Crossing { .. } => 6,
+            Status::GridEnd { .. } => 7,
+            Status::BudgetEnd { .. } => 8,
+            Status::Tangled { .. } => 9,
             Status::NoMemory => 10,
             Status::WriteFault { .. } => 11,
         }
@@ -88,5 +130,33 @@ impl From<NoMemory> for Status {
 
     fn from(_: NoMemory) -> Status {
         Status::NoMemory
+    }
+}
+
+impl From<MeshFault> for Status {
+    ghost use Rattle.std.specs.Prelude.{◌≡◌};
+    ghost use Rattle.tetgen.specs.Codes.{status_of_fault};
+
+    ghost from_gives = { λ fault status. status ≡ status_of_fault fault };
+
+    fn from(fault: MeshFault) -> Status {
+        match fault {
+            MeshFault::Flat => Status::Flat,
+            MeshFault::NotFlat { facet, four } => Status::NotFlat { facet, four },
+            MeshFault::SegmentsCross { one, two } => Status::SegmentsCross { one, two },
+            MeshFault::GridEnd { piece } => Status::GridEnd { piece },
+            MeshFault::BudgetEnd { made, piece } => Status::BudgetEnd { made, piece },
+            MeshFault::Crossing { one, two } => Status::Crossing { one, two },
+            MeshFault::Tangled {
+                tet,
+                facet_a,
+                facet_b,
+            } => Status::Tangled {
+                tet,
+                facet_a,
+                facet_b,
+            },
+            MeshFault::NoMemory => Status::NoMemory,
+        }
     }
 }

@@ -1,8 +1,11 @@
-ghost use Rattle.std.specs.Prelude.{◌≡◌, ◌≤◌, OnOk, IfErr};
-ghost use Rattle.tet_ports.specs.Counts.{Rose};
-ghost use Rattle.tetgen.specs.Stores.{with_files, AreLeft, IfFailed};
+//! The files of a mesh, stored one after the other.
 
-use tet_ports::{Bytes, Folder, Name, StoreFault};
+ghost use Rattle.std.specs.Prelude.{◌≡◌, ◌≤◌, ◌++◌, ◌∷◌, [], OnOk, IfOk, IfErr};
+ghost use Rattle.tet_ports.specs.Counts.{Rose};
+ghost use Rattle.tetgen.specs.Stores.{given, with_files, AreLeft, IfFailed};
+
+use std::alloc::Global;
+use tet_ports::{Bytes, Folder, Name, NoMemory, StoreFault};
 
 /// A text, the name of its file, and the message that the file could not be written.
 #[derive(Debug, Drop)]
@@ -12,12 +15,49 @@ pub struct NamedText {
     pub message: Bytes,
 }
 
+/// The texts of a mesh's files, each where it is asked for, in the order in which they are stored.
+#[derive(Debug, Drop)]
+pub struct Texts {
+    pub node: Option<NamedText>,
+    pub ele: Option<NamedText>,
+    pub face: Option<NamedText>,
+    pub edge: Option<NamedText>,
+    pub neigh: Option<NamedText>,
+}
+
 /// Why not all texts are stored.
 #[derive(Debug, Drop)]
 pub enum StoreStop {
     /// The folder failed at this text.
     Failed(NamedText),
     NoMemory,
+}
+
+impl Texts {
+    ghost use Rattle.tetgen.specs.Stores.{in_order};
+
+    /// The texts that are there, in the order in which they are stored.
+    pub fn in_order(self, alloc: Global) -> Result<Vec<NamedText>, NoMemory>
+        ensures { IfOk result (λ list. list.items ≡ in_order self) }
+    {
+        let mut list = Vec::with_capacity(alloc, 5)?;
+        append(self.node, &mut list)?;
+        append(self.ele, &mut list)?;
+        append(self.face, &mut list)?;
+        append(self.edge, &mut list)?;
+        append(self.neigh, &mut list)?;
+        Ok(list)
+    }
+}
+
+/// Appends a text, if it is there.
+fn append(text: Option<NamedText>, list: &mut Vec<NamedText>) -> Result<(), NoMemory>
+    ensures { OnOk result (list.new.items ≡ list.old.items ++ given (text ∷ [])) }
+{
+    if let Some(text) = text {
+        list.push(text)?;
+    }
+    Ok(())
 }
 
 /// Stores the texts in their order, until a store is refused.

@@ -1,37 +1,69 @@
-use Rattle.std.proofs.Common.{subst}
-use Rattle.tetgen.specs.Run.{Seen, IsCause, IsLeft, answer_of}
-use Rattle.tetgen.proofs.Runs.{answered}
+use Rattle.std.proofs.Common.{◌≡◌, refl, sym, subst, Ok, Err, arith}
+use Rattle.std.proofs.lemmas.Result.{err_from_is_err_and}
+use Rattle.tetgen.specs.Seen.{FolderSeen, SinkSeen, folder_seen, sink_seen}
+use Rattle.tetgen.specs.Stores.{AreLeft, with_files}
+use Rattle.tetgen.proofs.Runs.{failed_wider, mesh_end, store_end, summed_end, outputs_run, run_told}
+use Rattle.tetgen.proofs.Wider.{IsWithin, input_wider}
 use Rattle.tetgen.proofs.run.run.Goals as goal
 
-pub returns-clause-answer : goal.returns-clause-answer
-returns-clause-answer g c =
-    let seen : Seen = record {
-      files_before = g.F.Folder.held c.args.folder.now;
-      files_now = g.F.Folder.held c.mesh_file.new.folder;
-      faults_before = g.F.Folder.faults c.args.folder.now;
-      faults_now = g.F.Folder.faults c.mesh_file.new.folder;
-      misses_before = g.F.Folder.misses c.args.folder.now;
-      misses_now = g.F.Folder.misses c.mesh_file.new.folder;
-      written_before = g.O.Sink.written c.args.out.now;
-      written_now = g.O.Sink.written c.mesh_file.new.out;
-      put_faults_before = g.O.Sink.faults c.args.out.now;
-      put_faults_now = g.O.Sink.faults c.mesh_file.new.out;
-    } in
-    answered c.args.words.now seen (answer_of c.mesh_file.result) c.in-Ok.ensures.understood
-    (subst (λ options. IsCause options seen (answer_of c.mesh_file.result)) c.in-Ok.ensures.options c.mesh_file.ensures.cause)
+pub returns-in-Err : goal.returns-in-Err
+returns-in-Err g c =
+    let F = g.F.Folder in
+    let O = g.O.Sink in
+    let folder : FolderSeen = folder_seen F.held F.faults F.misses c.args.folder.now c.read_input.new.folder in
+    let out : SinkSeen = sink_seen O.written O.faults O.wants c.args.out.now c.args.out.now in
+    mesh_end c.args.words.now folder out c.in_ok-options.options c.in_ok-input.input c.in-Err.status (c.in_ok-options.ensures.understood, c.in_ok-options.ensures.options)
+    c.in_ok-input.ensures.answer c.in-Err.ensures (record { files = c.read_input.ensures.unchanged; written = refl })
 
-pub returns-clause-left : goal.returns-clause-left
-returns-clause-left g c =
-    let seen : Seen = record {
-      files_before = g.F.Folder.held c.args.folder.now;
-      files_now = g.F.Folder.held c.mesh_file.new.folder;
-      faults_before = g.F.Folder.faults c.args.folder.now;
-      faults_now = g.F.Folder.faults c.mesh_file.new.folder;
-      misses_before = g.F.Folder.misses c.args.folder.now;
-      misses_now = g.F.Folder.misses c.mesh_file.new.folder;
-      written_before = g.O.Sink.written c.args.out.now;
-      written_now = g.O.Sink.written c.mesh_file.new.out;
-      put_faults_before = g.O.Sink.faults c.args.out.now;
-      put_faults_now = g.O.Sink.faults c.mesh_file.new.out;
+pub returns-in_err-store_all : goal.returns-in_err-store_all
+returns-in_err-store_all g c =
+    let F = g.F.Folder in
+    let O = g.O.Sink in
+    let part : FolderSeen = folder_seen F.held F.faults F.misses c.args.folder.now c.read_input.new.folder in
+    let folder : FolderSeen = folder_seen F.held F.faults F.misses c.args.folder.now c.store_all.new.folder in
+    let a = c.read_input.ensures in
+    let b = c.store_all.ensures in
+    let within : IsWithin part folder = record {
+      files = refl;
+      faults_before = omega arith;
+      faults_now = b.faults;
+      misses_before = omega arith;
+      misses_now = b.misses;
     } in
-    subst (λ options. IsLeft options seen (answer_of c.mesh_file.result)) c.in-Ok.ensures.options c.mesh_file.ensures.left
+    let o = c.in_ok-options.options in
+    let outputs = c.in-Ok.outputs in
+    let read = input_wider part folder within o (Ok c.in_ok-input.input) c.in_ok-input.ensures.answer in
+    let ran = outputs_run c.args.words.now folder o c.in_ok-input.input outputs (c.in_ok-options.ensures.understood, c.in_ok-options.ensures.options) read c.in-Ok.ensures in
+    let out : SinkSeen = sink_seen O.written O.faults O.wants c.args.out.now c.args.out.now in
+    let stop = c.in_err-store_all.field-0.0 in
+    let now = F.held c.store_all.new.folder in
+    let left = subst (λ texts. AreLeft (F.held c.args.folder.now) texts now stop) c.in_ok-in_order.ensures
+    (subst (λ files. AreLeft files c.in_ok-in_order.field-0.items now stop) a.unchanged c.in_err-store_all.ensures.stopped) in
+    let rose = failed_wider stop (F.faults c.args.folder.now) (F.faults c.read_input.new.folder) (F.faults c.store_all.new.folder) a.faults c.in_err-store_all.ensures.failed in
+    let p = err_from_is_err_and c.from_residual-in_err-store_all.result c.from_residual-in_err-store_all.ensures.1 in
+    rw (p.1, p.2) (store_end c.args.words.now folder out outputs stop ran left rose (run_told c.args.words.now folder outputs ran) refl)
+
+pub returns : goal.returns
+returns g c =
+    let F = g.F.Folder in
+    let O = g.O.Sink in
+    let part : FolderSeen = folder_seen F.held F.faults F.misses c.args.folder.now c.read_input.new.folder in
+    let folder : FolderSeen = folder_seen F.held F.faults F.misses c.args.folder.now c.store_all.new.folder in
+    let a = c.read_input.ensures in
+    let b = c.store_all.ensures in
+    let within : IsWithin part folder = record {
+      files = refl;
+      faults_before = omega arith;
+      faults_now = b.faults;
+      misses_before = omega arith;
+      misses_now = b.misses;
+    } in
+    let o = c.in_ok-options.options in
+    let outputs = c.in-Ok.outputs in
+    let read = input_wider part folder within o (Ok c.in_ok-input.input) c.in_ok-input.ensures.answer in
+    let ran = outputs_run c.args.words.now folder o c.in_ok-input.input outputs (c.in_ok-options.ensures.understood, c.in_ok-options.ensures.options) read c.in-Ok.ensures in
+    let out : SinkSeen = sink_seen O.written O.faults O.wants c.args.out.now c.sum_up.new.out in
+    let now = F.held c.store_all.new.folder in
+    let stored = subst (λ texts. now ≡ with_files (F.held c.args.folder.now) texts) c.in_ok-in_order.ensures
+    (subst (λ files. now ≡ with_files files c.in_ok-in_order.field-0.items) a.unchanged c.in_ok-store_all.ensures.stored) in
+    summed_end c.args.words.now folder out outputs c.sum_up.result ran stored c.sum_up.ensures
