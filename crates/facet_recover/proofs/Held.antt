@@ -15,13 +15,13 @@ use Rattle.simplex_meets.proofs.Step.{Coordinate, X, Y, Z, at, coordinate, mean_
 use Rattle.simplex_meets.proofs.Sums.{total}
 use Rattle.refill_laws.proofs.Weights.{closed_weights}
 use Rattle.refill_laws.specs.Refill.{row_centroid}
-use Rattle.facet_recover.specs.declared.bounds.Interval.{Interval}
-use Rattle.facet_recover.specs.declared.bounds.Bounds.{Bounds}
-use Rattle.facet_recover.specs.declared.tree.Node.{Node}
-use Rattle.facet_recover.specs.Bounds.{IsIn, AreApart, AreBoundsApart, HoldsCorners, HoldsQuotient, HoldsRational}
+use Rattle.box_tree.specs.declared.bounds.Interval.{Interval}
+use Rattle.box_tree.specs.declared.bounds.Bounds.{Bounds}
+use Rattle.box_tree.specs.declared.tree.Node.{Node}
+use Rattle.box_tree.specs.Bounds.{IsIn, AreApart, AreBoundsApart, HoldsCorners, HoldsQuotient, HoldsRational}
 use Rattle.facet_recover.specs.Cavity.{IsRowOn, holds_centroid, lies_in_cavity, IsCavityTree}
-use Rattle.facet_recover.specs.Tree.{AreApartBetween}
-use Rattle.facet_recover.proofs.Lists.{less_or_more}
+use Rattle.box_tree.specs.Tree.{AreApartBetween}
+use Rattle.box_tree.proofs.Lists.{less_or_more}
 use Rattle.facet_recover.proofs.Centroid.{closed_test}
 
 -- ---- a coordinate of a point of a simplex is between those of the corners

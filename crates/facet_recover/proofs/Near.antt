@@ -8,12 +8,13 @@ use Rattle.geo_laws.specs.Delaunay.{corners, numbers}
 use Rattle.geo_laws.specs.declared.tetrahedra.Tet.{Tet}
 use Rattle.geo_laws.specs.declared.complex.FacetTriangle.{FacetTriangle}
 use Rattle.simplex_meets.specs.Proper.{FaceEnters, triangle_face}
-use Rattle.facet_recover.specs.declared.bounds.Bounds.{Bounds}
-use Rattle.facet_recover.specs.declared.tree.Node.{Node}
-use Rattle.facet_recover.specs.Bounds.{AreBoundsApart, HoldsCorners}
-use Rattle.facet_recover.specs.Crossed.{IsBetter, IsLeastEntering, IsTriangleTree}
-use Rattle.facet_recover.specs.Tree.{AreApartBetween}
-use Rattle.facet_recover.proofs.Lists.{less_or_more}
+use Rattle.box_tree.specs.declared.bounds.Bounds.{Bounds}
+use Rattle.box_tree.specs.declared.tree.Node.{Node}
+use Rattle.box_tree.specs.Bounds.{AreBoundsApart, HoldsCorners}
+use Rattle.box_tree.specs.Bodies.{IsTriangleTree}
+use Rattle.facet_recover.specs.Crossed.{IsBetter, IsLeastEntering}
+use Rattle.box_tree.specs.Tree.{AreApartBetween}
+use Rattle.box_tree.proofs.Lists.{less_or_more}
 use Rattle.facet_recover.proofs.Boxes.{not_entering}
 
 -- the triangle that was found enters the row

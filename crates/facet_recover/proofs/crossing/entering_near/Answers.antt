@@ -1,9 +1,9 @@
 use Rattle.std.proofs.Common.{◌+◌, subst, sym, arith}
 use Rattle.std.specs.Prelude.{None}
 use Rattle.simplex_meets.specs.Proper.{IsTriangle, triangle_face}
-use Rattle.facet_recover.proofs.Lists.{all_at}
+use Rattle.box_tree.proofs.Lists.{all_at}
 use Rattle.facet_recover.proofs.Near.{IsLeastBefore, least_start, least_further, near_taken, near_left, least_of_all}
-use Rattle.facet_recover.proofs.Trees.{place_there}
+use Rattle.box_tree.proofs.Trees.{place_there}
 use Rattle.facet_recover.proofs.crossing.entering_near.Goals as goal
 use Rattle.facet_recover.proofs.crossing.entering_near.Goals.{then-is_better, else-is_better}
 

@@ -2,10 +2,10 @@ use Rattle.std.proofs.Common.{◌+◌, subst, sym, arith, length}
 use Rattle.std.specs.List.{slice_index_or}
 use Rattle.geo_laws.specs.Delaunay.{numbers}
 use Rattle.geo_laws.specs.declared.tetrahedra.Tet.{Tet}
-use Rattle.facet_recover.specs.Bounds.{HoldsCorners}
+use Rattle.box_tree.specs.Bounds.{HoldsCorners}
 use Rattle.facet_recover.specs.Cavity.{IsRowOn}
-use Rattle.facet_recover.proofs.Lists.{all_at, if_ok}
-use Rattle.facet_recover.proofs.Trees.{AreBoxesTo, boxes_none, boxes_more, tree_over}
+use Rattle.box_tree.proofs.Lists.{if_ok, all_at}
+use Rattle.box_tree.proofs.Trees.{AreBoxesTo, boxes_none, boxes_more, tree_over}
 use Rattle.facet_recover.proofs.fill.cavity_tree.Goals as goal
 
 pub loop-place-init : goal.loop-place-init

@@ -1,8 +1,8 @@
 use Rattle.std.specs.List.{slice_index_or}
 use Rattle.geo_laws.specs.Delaunay.{numbers}
 use Rattle.geo_laws.specs.declared.tetrahedra.Tet.{Tet}
-use Rattle.facet_recover.specs.Bounds.{HoldsCorners}
-use Rattle.facet_recover.proofs.Trees.{AreBoxesTo}
+use Rattle.box_tree.specs.Bounds.{HoldsCorners}
+use Rattle.box_tree.proofs.Trees.{AreBoxesTo}
 use Rattle.facet_recover.proofs.fill.cavity_tree.Given as goal
 
 abbrev pub invariant-loop-place : goal.invariant-loop-place

@@ -1,7 +1,7 @@
 use Rattle.std.proofs.Common.{subst, sym}
 use Rattle.sign_predicates.specs.Point.{origin}
 use Rattle.refill_laws.specs.Refill.{row_centroid}
-use Rattle.facet_recover.specs.Bounds.{HoldsRational}
+use Rattle.box_tree.specs.Bounds.{HoldsRational}
 use Rattle.facet_recover.proofs.fill.centroid_bounds.Goals as goal
 
 pub returns : goal.returns

@@ -1,0 +1,170 @@
+-- Trees of boxes.
+use Rattle.std.proofs.Common.{◌≡◌, ◌⊎◌, inl, inr, ℕ, ◌+◌, ◌-◌, ◌<◌, ◌≤◌, true, List, [], ◌∷◌, ◌++◌, length, get_or, refl, ap, sym, subst, ◌∙◌, arith, eqb-true}
+use Rattle.std.specs.Prelude.{◌↔◌, Any, Contains, ◌&&◌, nat_eq}
+use Rattle.std.specs.List.{HoldsAt}
+use Rattle.std.specs.Ordering.{int_eq}
+use Rattle.std.proofs.lemmas.Bool.Decides.{Decides-int_eq}
+use Rattle.std.proofs.lemmas.List.{get_or_append_left, get_or-append_right, length-append}
+use Rattle.geo_laws.proofs.Members.{contains_of, at_place, both_true}
+use Rattle.box_tree.specs.declared.bounds.Interval.{Interval}
+use Rattle.box_tree.specs.declared.bounds.Bounds.{Bounds}
+use Rattle.box_tree.specs.declared.tree.Boxed.{Boxed}
+use Rattle.box_tree.specs.declared.tree.Node.{Node}
+use Rattle.box_tree.specs.Bounds.{IsWithin, AreBoundsApart}
+use Rattle.box_tree.specs.Tree.{HoldsFrom, IsNode, AreNodes, IsTree, IsTreeOf, AreApartBetween, IsTreeOver}
+use Rattle.box_tree.proofs.Lists.{less_or_more, more_cases, in_more, in_last, any_of, any_member}
+use Rattle.box_tree.proofs.Boxes.{within_more, within_self, bounds_apart_smaller}
+
+-- ---- one element more
+
+-- the last element
+pub last_is : {X : Type 0} (xs : List X) (x : X) (k : ℕ) (d : X) → k ≡ length xs → get_or (xs ++ x ∷ []) k d ≡ x
+last_is xs x k d e = get_or-append_right xs (x ∷ []) k k d (sym e) (omega arith) ∙ ap (λ n. get_or (x ∷ []) n d) (none k)
+  where
+    none : (k : ℕ) → k - k ≡ 0
+    none k = omega arith
+
+-- ---- equal boxes
+
+same_interval : (i j : Interval) → int_eq i.low j.low && int_eq i.high j.high ≡ true → i ≡ j
+same_interval i j e =
+    let p = both_true (int_eq i.low j.low) (int_eq i.high j.high) e in
+    λ z. record { low = (Decides-int_eq i.low j.low).0 p.0 z; high = (Decides-int_eq i.high j.high).0 p.1 z }
+
+same_bounds : (b c : Bounds)
+    → (int_eq b.x.low c.x.low && int_eq b.x.high c.x.high) && ((int_eq b.y.low c.y.low && int_eq b.y.high c.y.high) && (int_eq b.z.low c.z.low && int_eq b.z.high c.z.high)) ≡ true → b ≡ c
+same_bounds b c e =
+    let p = both_true _ _ e in
+    let q = both_true _ _ p.1 in
+    λ z. record { x = same_interval b.x c.x p.0 z; y = same_interval b.y c.y q.0 z; z = same_interval b.z c.z q.1 z }
+
+pub same_boxed : (b c : Boxed)
+    → nat_eq b.key c.key && (nat_eq b.place c.place && ((int_eq b.bounds.x.low c.bounds.x.low && int_eq b.bounds.x.high c.bounds.x.high) && ((int_eq b.bounds.y.low c.bounds.y.low && int_eq b.bounds.y.high c.bounds.y.high) && (int_eq b.bounds.z.low c.bounds.z.low && int_eq b.bounds.z.high c.bounds.z.high)))) ≡ true
+    → b ≡ c
+same_boxed b c e =
+    let p = both_true _ _ e in
+    let q = both_true _ _ p.1 in
+    λ z. record { key = eqb-true b.key c.key p.0 z; place = eqb-true b.place c.place q.0 z; bounds = same_bounds b.bounds c.bounds q.1 z }
+
+-- ---- wide boxes
+
+pub holds_first : (boxes : List Boxed) (i : ℕ) (b : Boxed) → i < length boxes → HoldsAt (λ c. c ≡ b) boxes i → HoldsFrom boxes i (i + 1) b.bounds
+holds_first boxes i b l at j d from to =
+    let e : j ≡ i = omega arith in
+    subst (λ (c : Boxed). IsWithin c.bounds b.bounds) (sym (ap (λ k. get_or boxes k d) e ∙ at d)) (within_self b.bounds)
+
+pub holds_next : (boxes : List Boxed) (first i : ℕ) (b : Boxed) (old new : Bounds) → HoldsAt (λ c. c ≡ b) boxes i → HoldsFrom boxes first i old → IsWithin old new → IsWithin b.bounds new → HoldsFrom boxes first (i + 1) new
+holds_next boxes first i b old new at h w v j d from to = go (less_or_more j i)
+  where
+    go : (j < i) ⊎ ((j ≡ i) ⊎ (i < j)) → IsWithin (get_or boxes j d).bounds new
+    go (inl l) = within_more (get_or boxes j d).bounds old new (h j d from l) w
+    go (inr (inl e)) = subst (λ (c : Boxed). IsWithin c.bounds new) (sym (ap (λ k. get_or boxes k d) e ∙ at d)) v
+    go (inr (inr g)) = absurd (omega arith)
+
+-- ---- nodes
+
+pub nodes_more : (boxes : List Boxed) (i : ℕ) (nodes : List Node) (n : Node) → AreNodes boxes i nodes → IsNode boxes i n → AreNodes boxes (i + 1) (nodes ++ n ∷ [])
+nodes_more boxes i nodes n h is = record {
+  counted = (let l = length-append nodes (n ∷ []) in let c = h.counted in omega arith);
+  each = λ j d l. go j d l (less_or_more j i);
+}
+  where
+    go : (j : ℕ) (d : Node) → j < i + 1 → (j < i) ⊎ ((j ≡ i) ⊎ (i < j)) → IsNode boxes j (get_or (nodes ++ n ∷ []) j d)
+    go j d l (inl m) = let c = h.counted in subst (IsNode boxes j) (sym (get_or_append_left nodes (n ∷ []) d j (omega arith))) (h.each j d m)
+    go j d l (inr (inl e)) =
+        let c = h.counted in
+        subst (IsNode boxes j) (sym (last_is nodes n j d (omega arith))) (subst (λ k. IsNode boxes k n) (sym e) is)
+    go j d l (inr (inr g)) = absurd (omega arith)
+
+pub nodes_none : (boxes : List Boxed) → AreNodes boxes 0 []
+nodes_none boxes = record { counted = refl; each = λ i d l. absurd (omega arith) }
+
+-- all nodes are a tree
+pub tree_is : (boxes : List Boxed) (nodes : List Node) → AreNodes boxes (length boxes) nodes → IsTree nodes
+tree_is boxes nodes h = record {
+  onward = λ i d l. (h.each i d (count i l)).onward;
+  there = λ i d l. (let q = (h.each i d (count i l)).there in let c = h.counted in omega arith);
+  holds = λ i j d o l p. (let n = h.each i d (count i l) in let q = n.there in let m = h.each j d (omega arith) in subst (λ (b : Boxed). IsWithin b.bounds (get_or nodes i d).wide) (m.own (get_or nodes j d).own) (n.holds j (get_or nodes j d).own o p));
+}
+  where
+    count : (i : ℕ) → i < length nodes → i < length boxes
+    count i l = let c = h.counted in omega arith
+
+pub tree_of_boxes : (boxes sorted : List Boxed) (nodes : List Node) → ((b : Boxed) → Contains sorted b ↔ Contains boxes b) → AreNodes sorted (length sorted) nodes → IsTreeOf boxes nodes
+tree_of_boxes boxes sorted nodes same h = record {
+  tree = tree_is sorted nodes h;
+  listed = λ i d l. (let c = h.counted in (same (get_or nodes i d).own).0 (listed i d (omega arith)));
+  each = λ b m. each b ((same b).1 m);
+}
+  where
+    listed : (i : ℕ) (d : Node) → i < length sorted → Contains sorted (get_or nodes i d).own
+    listed i d l = subst (Contains sorted) ((h.each i d l).own (get_or nodes i d).own) (contains_of sorted (get_or sorted i (get_or nodes i d).own) (at_place sorted i (get_or nodes i d).own l))
+
+    each : (b : Boxed) → Contains sorted b → Any (λ n. n.own ≡ b) nodes
+    each b m =
+        let c = h.counted in
+        let k = m.0 in
+        let l = m.1 in
+        let d : Node = record { own = b; wide = b.bounds; past = 0 } in
+        any_of (λ n. n.own ≡ b) nodes (get_or nodes k d) (contains_of nodes (get_or nodes k d) (at_place nodes k d (omega arith))) (sym ((h.each k d l).own b) ∙ m.2)
+
+-- ---- boxes apart
+
+pub apart_wide : (nodes : List Node) (b : Bounds) (first i : ℕ) (n : Node) → IsTree nodes → i < length nodes → HoldsAt (λ m. m ≡ n) nodes i → AreApartBetween nodes b first i → AreBoundsApart n.wide b → AreApartBetween nodes b first n.past
+apart_wide nodes b first i n tree l at h apart j d from to = go (less_or_more j i)
+  where
+    here : i ≤ j → AreBoundsApart (get_or nodes j d).own.bounds b
+    here o =
+        bounds_apart_smaller (get_or nodes j d).own.bounds (get_or nodes i d).wide b (tree.holds i j d o l (subst (λ (m : Node). j < m.past) (sym (at d)) to))
+        (subst (λ (m : Node). AreBoundsApart m.wide b) (sym (at d)) apart)
+
+    go : (j < i) ⊎ ((j ≡ i) ⊎ (i < j)) → AreBoundsApart (get_or nodes j d).own.bounds b
+    go (inl m) = h j d from m
+    go (inr (inl e)) = here (omega arith)
+    go (inr (inr g)) = here (omega arith)
+
+pub apart_own : (nodes : List Node) (b : Bounds) (first i : ℕ) (n : Node) → HoldsAt (λ m. m ≡ n) nodes i → AreApartBetween nodes b first i → AreBoundsApart n.own.bounds b → AreApartBetween nodes b first (i + 1)
+apart_own nodes b first i n at h apart j d from to = go (less_or_more j i)
+  where
+    go : (j < i) ⊎ ((j ≡ i) ⊎ (i < j)) → AreBoundsApart (get_or nodes j d).own.bounds b
+    go (inl m) = h j d from m
+    go (inr (inl e)) = subst (λ (m : Node). AreBoundsApart m.own.bounds b) (sym (ap (λ k. get_or nodes k d) e ∙ at d)) apart
+    go (inr (inr g)) = absurd (omega arith)
+
+-- a node ends after its place, and not after the end of the tree
+pub onward_at : (nodes : List Node) (i : ℕ) (n : Node) → IsTree nodes → i < length nodes → HoldsAt (λ m. m ≡ n) nodes i → (i < n.past) × (n.past ≤ length nodes)
+onward_at nodes i n tree l at = subst (λ (m : Node). (i < m.past) × (m.past ≤ length nodes)) (at n) (tree.onward i n l, tree.there i n l)
+
+-- ---- a box for each place
+
+-- the boxes are those of the first places
+pub record AreBoxesTo (holds : ℕ → Bounds → Type 0) (count : ℕ) (boxes : List Boxed) : Type 0 where
+  pub listed : (b : Boxed) → Contains boxes b → (b.place < count) × holds b.place b.bounds
+  pub each : (i : ℕ) → i < count → Any (λ b. b.place ≡ i) boxes
+
+pub boxes_none : (holds : ℕ → Bounds → Type 0) → AreBoxesTo holds 0 []
+boxes_none holds = record { listed = λ b m. absurd (let l = m.1 in omega arith); each = λ i l. absurd (omega arith) }
+
+pub boxes_more : (holds : ℕ → Bounds → Type 0) (i : ℕ) (boxes : List Boxed) (b : Boxed) → AreBoxesTo holds i boxes → b.place ≡ i → holds i b.bounds → AreBoxesTo holds (i + 1) (boxes ++ b ∷ [])
+boxes_more holds i boxes b h e p = record { listed = λ c m. listed c (more_cases c b boxes m); each = λ j l. each j l (less_or_more j i) }
+  where
+    listed : (c : Boxed) → Contains boxes c ⊎ (c ≡ b) → (c.place < i + 1) × holds c.place c.bounds
+    listed c (inl m) = let q = h.listed c m in let l = q.0 in (omega arith, q.1)
+    listed c (inr d) = subst (λ (c : Boxed). (c.place < i + 1) × holds c.place c.bounds) (sym d) (omega arith, subst (λ k. holds k b.bounds) (sym e) p)
+
+    each : (j : ℕ) → j < i + 1 → (j < i) ⊎ ((j ≡ i) ⊎ (i < j)) → Any (λ c. c.place ≡ j) (boxes ++ b ∷ [])
+    each j l (inl m) = let q = h.each j m in any_of (λ c. c.place ≡ j) (boxes ++ b ∷ []) q.1 (in_more q.1 b boxes (any_member (λ c. c.place ≡ j) boxes q)) q.4
+    each j l (inr (inl d)) = any_of (λ c. c.place ≡ j) (boxes ++ b ∷ []) b (in_last b boxes) (e ∙ sym d)
+    each j l (inr (inr g)) = absurd (omega arith)
+
+pub tree_over : (holds : ℕ → Bounds → Type 0) (count : ℕ) (boxes : List Boxed) (nodes : List Node) → AreBoxesTo holds count boxes → IsTreeOf boxes nodes → IsTreeOver count holds nodes
+tree_over holds count boxes nodes h t = record { tree = t.tree; listed = λ i d l. h.listed (get_or nodes i d).own (t.listed i d l); each = λ i l. each i (h.each i l) }
+  where
+    each : (i : ℕ) → Any (λ b. b.place ≡ i) boxes → Any (λ n. n.own.place ≡ i) nodes
+    each i a =
+        let q = t.each a.1 (any_member (λ b. b.place ≡ i) boxes a) in
+        any_of (λ n. n.own.place ≡ i) nodes q.1 (any_member (λ n. n.own ≡ a.1) nodes q) (ap (λ (b : Boxed). b.place) q.4 ∙ a.4)
+
+-- the place of a node is one of the list
+pub place_there : {holds : ℕ → Bounds → Type 0} {count : ℕ} (nodes : List Node) (i : ℕ) (n : Node) → IsTreeOver count holds nodes → i < length nodes → HoldsAt (λ m. m ≡ n) nodes i → n.own.place < count
+place_there {holds} {count} nodes i n t l at = subst (λ (m : Node). m.own.place < count) (at n) (t.listed i n l).0

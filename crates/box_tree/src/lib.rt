@@ -1,0 +1,13 @@
+//! Boxes with their sides along the axes, and trees of them in which those that meet a box are
+//! found without looking at all.
+#![tactic(auto)]
+
+mod bodies;
+mod bounds;
+mod tree;
+
+pub use bodies::{point_tree, triangle_tree};
+pub use bounds::{
+    Bounds, Interval, are_bounds_apart, joined, point_bounds, tet_bounds, triangle_bounds,
+};
+pub use tree::{Boxed, Node, Tree, next_meeting, tree_of, with_key};

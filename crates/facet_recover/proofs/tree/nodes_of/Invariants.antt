@@ -1,5 +1,0 @@
-use Rattle.facet_recover.specs.Tree.{AreNodes}
-use Rattle.facet_recover.proofs.tree.nodes_of.Given as goal
-
-abbrev pub invariant-loop-i : goal.invariant-loop-i
-invariant-loop-i l = AreNodes l.boxes l.i l.nodes
