@@ -44,21 +44,23 @@ def ratio(ours, theirs):
     return f"{ours / theirs:.2f}" if ours is not None and theirs else ""
 
 
-def row(name, switches, path, count):
-    """A line of the table: the least of so many runs each. A run that ends with another status than 0 has that in place of its time."""
+def row(name, switches, path, count, own=None):
+    """A line of the table: the least of so many runs each. A run that ends with another status than 0 has that in place of its time. This program gets
+    the words `own` where they are given, and the switches and the path as TetGen does where they are not."""
     programs = [it for it in (PROGRAM, PEER) if it is not None and os.path.exists(it)]
+    words = {PEER: [switches, path], PROGRAM: own or [switches, path]}
     least, failed, peak = {}, {}, {}
     for _ in range(count):
         for program in programs:
             if program in failed:
                 continue
-            status, time = seconds([program, switches, path])
+            status, time = seconds([program, *words[program]])
             if status != 0:
                 failed[program] = f"status {status}" if status > 0 else f"signal {-status}"
             least[program] = min(time, least.get(program, time))
     for program in programs:
         if program not in failed:
-            peak[program] = megabytes([program, switches, path], os.path.dirname(path))
+            peak[program] = megabytes([program, *words[program]], os.path.dirname(path))
     times = [failed.get(it, f"{least[it] * 1000:.0f}" if it in least else "") for it in (PROGRAM, PEER)]
     whole = PROGRAM in peak and PEER in peak
     fields = [name, f"`{switches}`", *times, ratio(least[PROGRAM], least[PEER]) if whole else ""]

@@ -1,6 +1,5 @@
 -- Bodies whose boxes are apart have no common point.
-use Rattle.std.proofs.Common.{◌≡◌, ◌⊎◌, inl, inr, ℕ, ℤ, pos, ◌<ℤ◌, ◌≤ℤ◌, true, false, List, [], ◌∷◌, sym, subst, ◌∙◌, arith, eqb-true}
-use Rattle.std.specs.Prelude.{◌==◌}
+use Rattle.std.proofs.Common.{◌≡◌, inl, inr, ℕ, ℤ, pos, ◌<ℤ◌, ◌≤ℤ◌, true, List, arith}
 use Rattle.std.proofs.lemmas.Int.{ints}
 use Rattle.sign_predicates.specs.Point.{Point, RationalPoint}
 use Rattle.sign_predicates.specs.Orientation.{IsPositive}
@@ -12,11 +11,10 @@ use Rattle.geo_laws.specs.declared.complex.FacetTriangle.{FacetTriangle}
 use Rattle.geo_laws.proofs.General.{closed_of}
 use Rattle.simplex_meets.specs.Proper.{Axis, AlongX, AlongY, AlongZ, along, LiesBelow, FaceEnters, triangle_face}
 use Rattle.simplex_meets.proofs.Along as intervals
-use Rattle.simplex_meets.proofs.Sums.{either, has-tail}
 use Rattle.refill_laws.proofs.Weights.{closed_weights}
 use Rattle.box_tree.specs.declared.bounds.Interval.{Interval}
 use Rattle.box_tree.specs.declared.bounds.Bounds.{Bounds}
-use Rattle.box_tree.specs.Bounds.{IsIn, AreApart, AreBoundsApart, IsPart, IsWithin, HoldsPoint, HoldsCorners}
+use Rattle.box_tree.specs.Bounds.{IsIn, AreApart, AreBoundsApart, HoldsCorners}
 
 -- ---- no common point
 
