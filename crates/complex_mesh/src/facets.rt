@@ -6,7 +6,8 @@ ghost use Rattle.complex_mesh.specs.Steps.{HasSoundFacets, IsCrossingFault};
 
 use crate::fault::MeshFault;
 use box_pairs::crossings;
-use facet_plane::facet_triangles;
+use box_tree::point_tree;
+use facet_plane::facet_triangles_in;
 use geo_laws::{Complex, FacetTriangles, Pieces, Points};
 use std::alloc::Global;
 use tet_ports::NoMemory;
@@ -21,15 +22,17 @@ fn complex_triangles(
     requires { HasSoundFacets points.now _pieces.now complex.now }
     ensures { IfOk result (λ triangles. triangles ≡ complex_triangles points.now complex.now) }
 {
+    let tree = point_tree(alloc, points)?;
     let mut triangles = FacetTriangles::new(alloc);
     for facet in 0..complex.facet_count() {
-        let found = facet_triangles(alloc, points, complex, facet)?;
+        let found = facet_triangles_in(alloc, points, &tree, complex, facet)?;
         triangles.extend_from_slice(found.as_slice())?;
     }
     Ok(triangles)
 }
 
-/// The triangles of all facets, facet by facet: any two are properly met, and each with each piece. `Crossing` names the first two parts that are not.
+/// The triangles of all facets, facet by facet: any two are properly met, and each with each piece.
+/// `Crossing` names the first two parts that are not.
 pub(crate) fn met_triangles(
     alloc: Global,
     points: &Points,
@@ -37,7 +40,10 @@ pub(crate) fn met_triangles(
     complex: &Complex,
 ) -> Result<FacetTriangles, MeshFault>
     requires { HasSoundFacets points.now pieces.now complex.now }
-    ensures { MatchResult result (λ triangles. (triangles ≡ complex_triangles points.now complex.now) × AreTrianglesMet points.now triangles pieces.now) (IsCrossingFault points.now pieces.now complex.now) }
+    ensures { MatchResult result
+        (λ triangles. (triangles ≡ complex_triangles points.now complex.now)
+        × AreTrianglesMet points.now triangles pieces.now)
+        (IsCrossingFault points.now pieces.now complex.now) }
 {
     let triangles = complex_triangles(alloc, points, pieces, complex)?;
     crossings(alloc, points, pieces, &triangles)?;

@@ -1,8 +1,8 @@
 use Rattle.complex_mesh.proofs.Triangles.{flat_at, added_triangles}
 use Rattle.complex_mesh.proofs.facets.complex_triangles.Goals as goal
 
-pub facet_triangles-requires-clause-flat : goal.facet_triangles-requires-clause-flat
-facet_triangles-requires-clause-flat c =
+pub facet_triangles_in-requires-clause-flat : goal.facet_triangles_in-requires-clause-flat
+facet_triangles_in-requires-clause-flat c =
     let n = c.facet_count-facet-end.ensures.count in
     flat_at c.args.points.now c.args.complex.now c.loop-facet.facet c.facet_count-facet-end.result n c.loop-facet-test.true c.requires.sound
 
