@@ -1,10 +1,10 @@
 //! A tree of boxes in the order of a space-filling curve, in which those that meet a box are found
 //! without looking at all.
-ghost use Rattle.std.specs.Prelude.{◌≡◌, ℕ, ◌+◌, ◌<◌, ◌≤◌, length, IfOk, slice_index_or};
+ghost use Rattle.std.specs.Prelude.{◌≡◌, ℕ, ◌+◌, ◌^◌, ◌<◌, ◌≤◌, length, IfOk, slice_index_or};
 ghost use Rattle.box_tree.specs.Bounds.{IsWithin, AreBoundsApart};
 ghost use Rattle.box_tree.specs.Tree.{HoldsFrom, AreNodes, IsTree, IsTreeOf, AreApartBetween};
 
-use crate::bounds::{Bounds, are_bounds_apart, joined};
+use crate::bounds::{Bounds, Interval, are_bounds_apart, joined};
 use std::alloc::Global;
 use tet_ports::{Items, NoMemory};
 
@@ -30,8 +30,8 @@ pub struct Node {
 pub type Tree = Items<Node>;
 
 /// The lowest 21 bits, each followed by two zeros.
-fn spread_bits(bits: u32) -> u64 {
-    let mut all = u64::from(bits) & 0x1f_ffff;
+fn spread_bits(bits: u64) -> u64 {
+    let mut all = bits & 0x1f_ffff;
     all = (all | all << 32) & 0x1f_0000_0000_ffff;
     all = (all | all << 16) & 0x1f_0000_ff00_00ff;
     all = (all | all << 8) & 0x100f_00f0_0f00_f00f;
@@ -39,19 +39,27 @@ fn spread_bits(bits: u32) -> u64 {
     (all | all << 2) & 0x1249_2492_4924_9249
 }
 
-/// The 21 leading bits of a coordinate of the grid, spread.
-fn spread_coordinate(x: i32) -> u64 {
-    spread_bits(x.abs_diff(-(1 << 23)) >> 3)
+/// The coordinate, counted from the least of the grid.
+fn from_least(x: i32) -> u64
+    ensures { result < 2 ^ 32 }
+{
+    u64::from(x.abs_diff(-(1 << 23)))
 }
 
-/// The box with its key: the place of its least corner on the curve (Morton, 1966).
+/// The 21 leading bits of the middle of an interval of the grid, spread.
+fn spread_middle(i: Interval) -> u64 {
+    spread_bits((from_least(i.low) + from_least(i.high)) >> 4)
+}
+
+/// The box with its key: the place of its middle on the curve (Morton, 1966). So those sides of
+/// nested boxes that face one way follow one another, and the wide boxes round them are thin.
 pub fn with_key(bounds: Bounds, place: usize) -> Boxed
     ensures place { result.place ≡ place }
     ensures bounds { result.bounds ≡ bounds }
 {
-    let x = spread_coordinate(bounds.x.low);
-    let y = spread_coordinate(bounds.y.low);
-    let z = spread_coordinate(bounds.z.low);
+    let x = spread_middle(bounds.x);
+    let y = spread_middle(bounds.y);
+    let z = spread_middle(bounds.z);
     Boxed {
         key: x | y << 1 | z << 2,
         place,
