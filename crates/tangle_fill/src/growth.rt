@@ -1,0 +1,136 @@
+//! Rows that grow, and the sides of faces on which they lie.
+ghost use Rattle.std.specs.Prelude.{◌≡◌, [], ◌∷◌, ◌++◌, ◌==◌, ◌&&◌, IsTrue, All, Contains, MatchOption, OnOk, false};
+ghost use Rattle.std.specs.List.{list_any};
+ghost use Rattle.std.specs.Hash as fed;
+ghost use Rattle.std.specs.Cmp.Rules.{comparing, hashing};
+ghost use Rattle.std.proofs.Common.{rules};
+ghost use Rattle.indexmap.specs.IndexMap.{get};
+ghost use Rattle.crossing_laws.specs.Crossing.{faces_of};
+ghost use Rattle.tangle_laws.specs.Tangle.{lies_on};
+ghost use Rattle.tangle_fill.specs.Fill.{oriented};
+ghost use Rattle.tangle_fill.specs.Indexed.{same_side, IsIndexed, IsPut};
+
+use geo_laws::{Face, Tet, TetList};
+use indexmap::IndexMap;
+use std::alloc::Global;
+use std::hash::{Hash, Hasher};
+use tet_ports::NoMemory;
+
+/// A side of a face: its corners in this order.
+#[derive(Clone, Copy)]
+pub(crate) struct FaceSide {
+    pub(crate) face: Face,
+}
+
+impl PartialEq for FaceSide {
+    ghost eq = { λ p q. (p.face.a == q.face.a && p.face.b == q.face.b) && p.face.c == q.face.c };
+
+    ghost laws = { Prim.search (comparing, rules) };
+
+    fn eq(&self, other: &FaceSide) -> bool {
+        self.face.a == other.face.a && self.face.b == other.face.b && self.face.c == other.face.c
+    }
+}
+
+impl Eq for FaceSide {
+    ghost laws = { Prim.search (comparing, rules) };
+}
+
+impl Hash for FaceSide {
+    ghost hash_input = { λ p. (fed.u32 p.face.a ++ fed.u32 p.face.b) ++ fed.u32 p.face.c };
+
+    ghost respects_eq = { Prim.search (hashing, rules) };
+
+    fn hash<H: Hasher>(&self, state: &mut H) {
+        self.face.a.hash(state);
+        self.face.b.hash(state);
+        self.face.c.hash(state);
+    }
+}
+
+/// Rows in the order in which they were added, and the row that lies on each side of a face, where
+/// one does. A side is kept by the corners in the order that its row has.
+#[derive(Drop)]
+pub(crate) struct Growth {
+    pub(crate) rows: TetList,
+    pub(crate) sides: IndexMap<FaceSide, Tet>,
+}
+
+impl Growth {
+    /// No row yet.
+    pub(crate) fn new(alloc: Global) -> Self
+        ensures rows { result.rows ≡ [] }
+        ensures indexed { IsIndexed result }
+    {
+        Growth {
+            rows: TetList::new(alloc),
+            sides: IndexMap::new(alloc),
+        }
+    }
+
+    /// The row that is kept for these corners in this order.
+    fn row_of(&self, face: Face) -> Option<Tet>
+        ensures { result ≡ get same_side self.now.sides (record { face = face }) }
+    {
+        self.sides.get(&FaceSide { face }).copied()
+    }
+
+    /// The row that lies on the face's positive side; None where none does.
+    pub(crate) fn row_on(&self, f: Face) -> Option<Tet>
+        requires { IsIndexed self.now }
+        ensures { MatchOption result (All (λ t. lies_on (oriented f) t ≡ false) self.now.rows)
+            (λ t. Contains self.now.rows t × IsTrue (lies_on (oriented f) t)) }
+    {
+        let Face { a, b, c } = f;
+        if let Some(row) = self.row_of(f) {
+            return Some(row);
+        }
+        if let Some(row) = self.row_of(Face { a: b, b: c, c: a }) {
+            return Some(row);
+        }
+        self.row_of(Face { a: c, b: a, c: b })
+    }
+
+    /// A row that lies with this one on one side of a face; None where each lies apart.
+    pub(crate) fn rival(&self, row: Tet) -> Option<Tet>
+        requires { IsIndexed self.now }
+        ensures { MatchOption result (All (λ t. list_any (λ f. lies_on f t) (faces_of row) ≡ false) self.now.rows)
+            (λ t. Contains self.now.rows t × IsTrue (list_any (λ f. lies_on f t) (faces_of row))) }
+    {
+        let Tet { a, b, c, d } = row;
+        if let Some(other) = self.row_on(Face { a: b, b: d, c }) {
+            return Some(other);
+        }
+        if let Some(other) = self.row_on(Face { a, b: c, c: d }) {
+            return Some(other);
+        }
+        if let Some(other) = self.row_on(Face { a, b: d, c: b }) {
+            return Some(other);
+        }
+        self.row_on(Face { a, b, c })
+    }
+
+    /// Keeps the row for the corners of a face of it.
+    fn put_side(&mut self, face: Face, row: Tet) -> Result<(), NoMemory>
+        ensures rows { OnOk result (self.new.rows ≡ self.old.rows) }
+        ensures put { OnOk result (IsPut self.old.sides self.new.sides (record { face = face }) row) }
+    {
+        self.sides.insert(FaceSide { face }, row)?;
+        Ok(())
+    }
+
+    /// Appends the row.
+    pub(crate) fn put(&mut self, row: Tet) -> Result<(), NoMemory>
+        requires { IsIndexed self.old }
+        ensures rows { OnOk result (self.new.rows ≡ self.old.rows ++ row ∷ []) }
+        ensures indexed { OnOk result (IsIndexed self.new) }
+    {
+        let Tet { a, b, c, d } = row;
+        self.put_side(Face { a: b, b: d, c }, row)?;
+        self.put_side(Face { a, b: c, c: d }, row)?;
+        self.put_side(Face { a, b: d, c: b }, row)?;
+        self.put_side(Face { a, b, c }, row)?;
+        self.rows.push(row)?;
+        Ok(())
+    }
+}
