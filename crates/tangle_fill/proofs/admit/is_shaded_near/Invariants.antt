@@ -1,0 +1,18 @@
+use Rattle.std.proofs.Common.{◌≡◌, false, ◌≤◌, ◌-◌, length}
+use Rattle.sign_predicates.specs.Point.{as_rational}
+use Rattle.sign_predicates.specs.Centroid.{centroid}
+use Rattle.geo_laws.specs.Delaunay.{point, corners}
+use Rattle.geo_laws.specs.OrientedFace.{triangle}
+use Rattle.tangle_laws.specs.Tangle.{facet_face}
+use Rattle.tangle_laws.specs.Hidden.{hides}
+use Rattle.tangle_fill.proofs.Near.{AreDone}
+use Rattle.tangle_fill.proofs.admit.is_shaded_near.Given as goal
+
+abbrev pub invariant-loop-k : goal.invariant-loop-k
+invariant-loop-k l = record {
+  there : l.k ≤ length l.tree;
+  done : AreDone (λ k. hides (triangle l.points (facet_face k)) (centroid (corners l.points l.row)) (as_rational (point l.points l.i)) ≡ false) l.triangles l.tree l.k;
+}
+
+abbrev pub decreases-loop-k : goal.decreases-loop-k
+decreases-loop-k l = length l.tree - l.k
