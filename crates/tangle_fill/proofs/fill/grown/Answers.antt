@@ -10,7 +10,10 @@ fill_rows-requires-clause-growth c =
     goes_on c.args.points.now c.args.triangles.now c.in_ok-growth.growth c.fill_facets.new.growth c.in_ok-fill_facets.ensures.0
     (some_growth c.args.points.now c.args.triangles.now c.args.list.now c.in_ok-growth.growth c.in_ok-growth.ensures.growth c.in_ok-growth.ensures.indexed)
 
-pub returns : goal.returns
-returns c =
+pub returns-clause-grown : goal.returns-clause-grown
+returns-clause-grown c =
     grown_of c.args.points.now c.args.triangles.now c.args.list.now c.in_ok-growth.growth c.fill_facets.new.growth c.fill_rows.new.growth c.in_ok-growth.ensures.growth
     c.in_ok-fill_facets.ensures.0 c.in_ok-fill_facets.ensures.1 c.in_ok-fill_rows.ensures.0 c.in_ok-fill_rows.ensures.1
+
+pub returns-clause-indexed : goal.returns-clause-indexed
+returns-clause-indexed c = c.in_ok-fill_rows.ensures.0.indexed
