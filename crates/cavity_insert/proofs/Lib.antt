@@ -1,4 +1,3 @@
-pub mod Ranges
 pub mod Flat
 pub mod Chains
 pub mod Growth

@@ -1,5 +1,4 @@
 pub mod Build
-pub mod Filter
 pub mod First
 pub mod Grow
 pub mod Growth

@@ -23,6 +23,4 @@ pub use rule::test_slot;
 pub use steps::Steps;
 
 #[cfg(test)]
-mod filter;
-#[cfg(test)]
 mod tests;

@@ -1,16 +1,13 @@
 //! Lists, cavities and sides of small sets of points.
-ghost use Rattle.std.specs.Prelude.{ℕ, ◌≡◌, ◌≢◌, ◌+◌, ◌*◌, ◌^◌, ◌<◌, ◌≤◌, IsTrue, IfOk, length};
+ghost use Rattle.std.specs.Prelude.{ℕ, ◌≡◌, ◌≢◌, ◌^◌, ◌<◌, ◌≤◌, IsTrue, IfSome, length};
 ghost use Rattle.geo_laws.specs.Delaunay.{point, all_numbers, HasDistinctPoints};
 ghost use Rattle.mesh_arena.specs.Mesh.{IsLive};
-ghost use Rattle.mesh_laws.specs.Rule.{IsTaken};
 ghost use Rattle.mesh_laws.specs.Living.{IsDelaunayMesh};
 
-use crate::filter::filtered;
-use crate::meshing::has_corner;
 use crate::{BuildFault, Living, Steps, delaunay, grow_cavity, test_slot};
 use geo_laws::{Points, Tet, TetList};
-use mesh_arena::{Arena, Cavity, Rim, Slot, SlotCorners};
-use sign_predicates::{Corners, GridPoint, Hold, RatPoint, in_tet};
+use mesh_arena::{Arena, Slot};
+use sign_predicates::GridPoint;
 use std::alloc::Global;
 use std::marker::Brand;
 use std::sync::ledger::{Blank, Ledger};
@@ -74,17 +71,25 @@ fn are_rows(rows: &TetList, want: &[[u32; 4]]) -> bool {
     true
 }
 
+/// These points, if they are distinct and few.
+fn distinct_points(alloc: Global, coordinates: &[[i8; 3]]) -> Option<Points>
+    ensures distinct { IfSome result HasDistinctPoints }
+    ensures few { IfSome result (λ points. length points ≤ 1000) }
+{
+    match points(alloc, coordinates) {
+        Ok(points) if points.len() <= 1000 && are_distinct(&points) => Some(points),
+        _ => None,
+    }
+}
+
 /// Whether the list of the points has these rows; none stands for `Flat`.
 fn has_list(alloc: Global, coordinates: &[[i8; 3]], want: &[[u32; 4]]) -> bool {
-    let Ok(points) = points(alloc, coordinates) else {
+    let Some(points) = distinct_points(alloc, coordinates) else {
         return false;
     };
-    if points.len() > 1000 || !are_distinct(&points) {
-        return false;
-    }
     match delaunay(alloc, &points) {
         Ok(rows) => are_rows(&rows, want),
-        Err(BuildFault::Flat) => want.len() == 0,
+        Err(BuildFault::Flat) => want.is_empty(),
         Err(BuildFault::NoMemory) => false,
     }
 }
@@ -103,13 +108,100 @@ const CUBE: [[i8; 3]; 8] = [
     [0, 2, 2],
 ];
 
+// A box and the ends of three axes on a sphere of radius 3.
+const ON_A_SPHERE: [[i8; 3]; 14] = [
+    [1, 2, 2],
+    [-3, 0, 0],
+    [-1, 2, 2],
+    [1, -2, 2],
+    [0, 0, 3],
+    [1, 2, -2],
+    [3, 0, 0],
+    [-1, -2, 2],
+    [-1, 2, -2],
+    [0, -3, 0],
+    [1, -2, -2],
+    [0, 3, 0],
+    [-1, -2, -2],
+    [0, 0, -3],
+];
+
+// Points of one plane with two off it, on either side.
+const NEARLY_FLAT: [[i8; 3]; 10] = [
+    [1, 1, 0],
+    [0, 0, 0],
+    [2, 2, 0],
+    [1, 0, 0],
+    [0, 2, 0],
+    [1, 2, 0],
+    [2, 0, 0],
+    [0, 1, 0],
+    [1, 1, 1],
+    [2, 1, -1],
+];
+
+// The same without the point below the plane.
+const NEARLY_FLAT_ABOVE: [[i8; 3]; 9] = [
+    [1, 1, 0],
+    [0, 0, 0],
+    [2, 2, 0],
+    [1, 0, 0],
+    [0, 2, 0],
+    [1, 2, 0],
+    [2, 0, 0],
+    [0, 1, 0],
+    [1, 1, 1],
+];
+
+// Points of one line with two off it.
+const NEARLY_STRAIGHT: [[i8; 3]; 7] = [
+    [2, 2, 2],
+    [0, 0, 0],
+    [4, 4, 4],
+    [1, 1, 1],
+    [3, 3, 3],
+    [2, 0, 0],
+    [0, 3, 1],
+];
+
+// A grid of 3 by 3 by 3 points, in an order that goes round it twice.
+const GRID: [[i8; 3]; 27] = [
+    [0, 0, 0],
+    [2, 0, 0],
+    [1, 1, 0],
+    [0, 2, 0],
+    [2, 2, 0],
+    [1, 0, 1],
+    [0, 1, 1],
+    [2, 1, 1],
+    [1, 2, 1],
+    [0, 0, 2],
+    [2, 0, 2],
+    [1, 1, 2],
+    [0, 2, 2],
+    [2, 2, 2],
+    [1, 0, 0],
+    [0, 1, 0],
+    [2, 1, 0],
+    [1, 2, 0],
+    [0, 0, 1],
+    [2, 0, 1],
+    [1, 1, 1],
+    [0, 2, 1],
+    [2, 2, 1],
+    [1, 0, 2],
+    [0, 1, 2],
+    [2, 1, 2],
+    [1, 2, 2],
+];
+
 /// Points, and the rows of their list; none stands for `Flat`.
 struct ListCase {
     points: &'static [[i8; 3]],
     rows: &'static [[u32; 4]],
 }
 
-const LISTS: [ListCase; 6] = [
+const LISTS: [ListCase; 11] = [
     ListCase {
         points: &[[0, 0, 0], [1, 0, 0], [0, 1, 0], [0, 0, 1]],
         rows: &[[0, 1, 2, 3]],
@@ -152,6 +244,110 @@ const LISTS: [ListCase; 6] = [
         ],
         rows: &[],
     },
+    ListCase {
+        points: &ON_A_SPHERE,
+        rows: &[
+            [0, 2, 11, 4],
+            [0, 4, 11, 6],
+            [1, 2, 7, 8],
+            [1, 7, 12, 8],
+            [2, 4, 7, 11],
+            [2, 7, 8, 11],
+            [3, 4, 6, 7],
+            [3, 6, 9, 7],
+            [4, 6, 7, 11],
+            [5, 6, 11, 13],
+            [5, 8, 13, 11],
+            [6, 7, 11, 9],
+            [6, 9, 11, 10],
+            [6, 10, 11, 13],
+            [7, 8, 11, 12],
+            [7, 9, 12, 11],
+            [8, 11, 12, 13],
+            [9, 10, 12, 11],
+            [10, 11, 13, 12],
+        ],
+    },
+    ListCase {
+        points: &NEARLY_FLAT,
+        rows: &[
+            [0, 2, 5, 8],
+            [0, 2, 6, 9],
+            [0, 2, 8, 6],
+            [0, 2, 9, 5],
+            [0, 3, 6, 8],
+            [0, 3, 7, 9],
+            [0, 3, 8, 7],
+            [0, 3, 9, 6],
+            [0, 5, 7, 8],
+            [0, 5, 9, 7],
+            [1, 3, 7, 8],
+            [1, 3, 9, 7],
+            [4, 5, 7, 9],
+            [4, 5, 8, 7],
+        ],
+    },
+    ListCase {
+        points: &NEARLY_FLAT_ABOVE,
+        rows: &[
+            [0, 2, 5, 8],
+            [0, 2, 8, 6],
+            [0, 3, 6, 8],
+            [0, 3, 8, 7],
+            [0, 5, 7, 8],
+            [1, 3, 7, 8],
+            [4, 5, 8, 7],
+        ],
+    },
+    ListCase {
+        points: &NEARLY_STRAIGHT,
+        rows: &[[0, 3, 6, 5], [0, 4, 5, 6], [1, 3, 5, 6], [2, 4, 6, 5]],
+    },
+    ListCase {
+        points: &GRID,
+        rows: &[
+            [0, 14, 15, 18],
+            [1, 14, 19, 16],
+            [2, 14, 16, 20],
+            [2, 14, 20, 15],
+            [2, 15, 20, 17],
+            [2, 16, 17, 20],
+            [3, 15, 17, 21],
+            [4, 16, 22, 17],
+            [5, 14, 18, 20],
+            [5, 14, 20, 19],
+            [5, 18, 23, 20],
+            [5, 19, 20, 23],
+            [6, 15, 20, 18],
+            [6, 15, 21, 20],
+            [6, 18, 20, 24],
+            [6, 20, 21, 24],
+            [7, 16, 19, 20],
+            [7, 16, 20, 22],
+            [7, 19, 25, 20],
+            [7, 20, 25, 22],
+            [8, 17, 20, 21],
+            [8, 17, 22, 20],
+            [8, 20, 22, 26],
+            [8, 20, 26, 21],
+            [9, 18, 24, 23],
+            [10, 19, 23, 25],
+            [11, 20, 23, 24],
+            [11, 20, 24, 26],
+            [11, 20, 25, 23],
+            [11, 20, 26, 25],
+            [12, 21, 26, 24],
+            [13, 22, 25, 26],
+            [14, 15, 18, 20],
+            [14, 16, 20, 19],
+            [15, 17, 21, 20],
+            [16, 17, 20, 22],
+            [18, 20, 24, 23],
+            [19, 20, 23, 25],
+            [20, 21, 24, 26],
+            [20, 22, 26, 25],
+        ],
+    },
 ];
 
 #[test]
@@ -159,170 +355,6 @@ fn lists(rt: HostRuntime) {
     let alloc = rt.alloc();
     for (i, case) in LISTS.iter().enumerate() {
         assert!(rt; has_list(alloc, case.points, case.rows), "case {i}");
-    }
-}
-
-/// How many rows hold the point strictly.
-fn rows_round(points: &Points, rows: &TetList, x: RatPoint) -> usize {
-    let mut count = 0usize;
-    for row in rows.as_slice() {
-        let (a, b, c, d) = (
-            row.a as usize,
-            row.b as usize,
-            row.c as usize,
-            row.d as usize,
-        );
-        let most = points.len();
-        if a < most && b < most && c < most && d < most {
-            let corners = Corners {
-                a: points.at(a),
-                b: points.at(b),
-                c: points.at(c),
-                d: points.at(d),
-            };
-            if in_tet(corners, x) == Hold::Inside {
-                count = count.saturating_add(1);
-            }
-        }
-    }
-    count
-}
-
-/// How many rows of the list of these points hold a point strictly.
-fn rows_of_list_round(alloc: Global, set: &[[i8; 3]], x: RatPoint) -> Option<usize> {
-    let Ok(points) = points(alloc, set) else {
-        return None;
-    };
-    if points.len() > 1000 || !are_distinct(&points) {
-        return None;
-    }
-    match delaunay(alloc, &points) {
-        Ok(rows) => Some(rows_round(&points, &rows, x)),
-        Err(_) => None,
-    }
-}
-
-#[test]
-fn one_row_round_a_point(rt: HostRuntime) {
-    for (z, count) in [(500_000, 1), (-1, 0)] {
-        let x = RatPoint {
-            x: 1_125_000,
-            y: 1_000_000,
-            z,
-            w: 1_000_000,
-        };
-        let found = rows_of_list_round(rt.alloc(), &PYRAMID, x);
-        assert_eq!(rt; found, Some(count), "at {z}");
-    }
-}
-
-/// Whether the list is that of the filter over all fours.
-fn is_filtered(alloc: Global, points: &Points) -> bool {
-    if points.len() > 1000 || !are_distinct(points) {
-        return false;
-    }
-    let Ok(want) = filtered(alloc, points) else {
-        return false;
-    };
-    match delaunay(alloc, points) {
-        Ok(rows) => rows.as_slice() == want.as_slice(),
-        Err(BuildFault::Flat) => want.is_empty(),
-        Err(BuildFault::NoMemory) => false,
-    }
-}
-
-/// A grid of 3 by 3 by 3 points in an order that goes round it.
-fn grid(alloc: Global, step: u32) -> Result<Points, NoMemory> {
-    let mut points = Points::new(alloc);
-    for i in 0..27u32 {
-        let j = i.wrapping_mul(step) % 27;
-        points.push(GridPoint {
-            x: (j % 3) as i32,
-            y: (j / 3 % 3) as i32,
-            z: (j / 9) as i32,
-        })?;
-    }
-    Ok(points)
-}
-
-// A box and the ends of three axes on a sphere of radius 3.
-const ON_A_SPHERE: [[i8; 3]; 14] = [
-    [1, 2, 2],
-    [-3, 0, 0],
-    [-1, 2, 2],
-    [1, -2, 2],
-    [0, 0, 3],
-    [1, 2, -2],
-    [3, 0, 0],
-    [-1, -2, 2],
-    [-1, 2, -2],
-    [0, -3, 0],
-    [1, -2, -2],
-    [0, 3, 0],
-    [-1, -2, -2],
-    [0, 0, -3],
-];
-
-// Points of one plane with two off it, on either side.
-const NEARLY_FLAT: [[i8; 3]; 10] = [
-    [1, 1, 0],
-    [0, 0, 0],
-    [2, 2, 0],
-    [1, 0, 0],
-    [0, 2, 0],
-    [1, 2, 0],
-    [2, 0, 0],
-    [0, 1, 0],
-    [1, 1, 1],
-    [2, 1, -1],
-];
-
-// Points of one line with two off it.
-const NEARLY_STRAIGHT: [[i8; 3]; 7] = [
-    [2, 2, 2],
-    [0, 0, 0],
-    [4, 4, 4],
-    [1, 1, 1],
-    [3, 3, 3],
-    [2, 0, 0],
-    [0, 3, 1],
-];
-
-fn is_grid_filtered(alloc: Global, step: u32) -> bool {
-    match grid(alloc, step) {
-        Ok(points) => is_filtered(alloc, &points),
-        Err(NoMemory) => false,
-    }
-}
-
-fn is_set_filtered(alloc: Global, set: &[[i8; 3]]) -> bool {
-    match points(alloc, set) {
-        Ok(points) => is_filtered(alloc, &points),
-        Err(NoMemory) => false,
-    }
-}
-
-#[test]
-fn the_list_of_a_grid_is_that_of_the_filter(rt: HostRuntime) {
-    for step in [1u32, 2, 5, 10] {
-        assert!(rt; is_grid_filtered(rt.alloc(), step), "step {step}");
-    }
-}
-
-#[test]
-fn the_list_of_a_set_is_that_of_the_filter(rt: HostRuntime) {
-    let sets = [
-        &ON_A_SPHERE[..],
-        &ON_A_SPHERE[..8],
-        &NEARLY_FLAT,
-        &NEARLY_FLAT[..9],
-        &NEARLY_FLAT[..8],
-        &NEARLY_STRAIGHT,
-        &NEARLY_STRAIGHT[..6],
-        &NEARLY_STRAIGHT[..5],
-    ];
-    for (i, set) in sets.iter().enumerate() {
-        assert!(rt; is_set_filtered(rt.alloc(), set), "set {i}");
     }
 }
 
@@ -397,48 +429,9 @@ struct NewPoint {
     number: u32,
 }
 
-/// Whether a slot is in the conflict zone of a new point.
-fn is_taken<L: Ledger>(
-    arena: &Arena,
-    points: &Points,
-    s: Slot,
-    new: &NewPoint,
-    blank: Blank,
-) -> bool
-    requires name { blank.name ≡ L.name }
-    requires parts { blank.parts ≡ L.parts }
-    requires some { 0 < blank.parts }
-    requires mesh { IsDelaunayMesh arena.now.slots points.now (all_numbers points.now) }
-    requires live { IsLive arena.now.slots s.index }
-    ensures { IsTrue result → IsTaken arena.now.slots points.now new.now.p new.now.number s.index }
-{
-    let _ = arena.tet(s);
-    let mut steps = Steps::<L>::new(blank);
-    test_slot(arena, points, s, new.p, new.number, &mut steps)
-}
-
-/// The cavity and the rim of a new point, grown from this slot with a counter that stands at 0.
-fn grown<L: Ledger>(
-    alloc: Global,
-    arena: &Arena,
-    points: &Points,
-    start: Slot,
-    new: &NewPoint,
-    steps: &mut Steps<L>,
-) -> Result<(Cavity, Rim), NoMemory>
-    requires mesh { IsDelaunayMesh arena.now.slots points.now (all_numbers points.now) }
-    requires live { IsLive arena.now.slots start.index }
-    requires start { IsTaken arena.now.slots points.now new.now.p new.now.number start.index }
-    requires steps { steps.old ≡ 0 }
-    ensures few { IfOk result (λ grown. steps.new ≤ 4 * length grown.0 + 1) }
-    ensures many { IfOk result (λ grown. length grown.0 ≤ steps.new) }
-{
-    let _ = arena.tet(start);
-    grow_cavity(alloc, arena, points, start, new.p, new.number, steps)
-}
-
-/// How many slots and faces they have.
-fn grown_size<L: Ledger>(
+/// How many slots and faces the cavity and the rim of a new point have, grown from this slot, if it
+/// is in the conflict zone of the point.
+fn size_from<L: Ledger>(
     alloc: Global,
     arena: &Arena,
     points: &Points,
@@ -451,10 +444,13 @@ fn grown_size<L: Ledger>(
     requires some { 0 < blank.parts }
     requires mesh { IsDelaunayMesh arena.now.slots points.now (all_numbers points.now) }
     requires live { IsLive arena.now.slots start.index }
-    requires start { IsTaken arena.now.slots points.now new.now.p new.now.number start.index }
 {
+    let _ = arena.tet(start);
     let mut steps = Steps::<L>::new(blank);
-    match grown(alloc, arena, points, start, new, &mut steps) {
+    if !test_slot(arena, points, start, new.p, new.number, &mut steps) {
+        return None;
+    }
+    match grow_cavity(alloc, arena, points, start, new.p, new.number, &mut steps) {
         Ok((cavity, rim)) => Some((cavity.len(), rim.len())),
         Err(NoMemory) => None,
     }
@@ -467,8 +463,8 @@ fn sizes(alloc: Global, living: &Living, new: &NewPoint) -> Option<(usize, usize
     let mut sizes = None;
     for i in 0..arena.slots() {
         if let Some(s) = arena.slot(i) {
-            if is_taken::<Brand>(arena, points, s, new, Blank::new(1)) {
-                let found = grown_size::<Brand>(alloc, arena, points, s, new, Blank::new(1));
+            let found = size_from::<Brand>(alloc, arena, points, s, new, Blank::new(1));
+            if found.is_some() {
                 if sizes.is_some() && sizes != found {
                     return None;
                 }
@@ -481,12 +477,7 @@ fn sizes(alloc: Global, living: &Living, new: &NewPoint) -> Option<(usize, usize
 
 /// The mesh of these points.
 fn living_of(alloc: Global, set: &[[i8; 3]]) -> Option<Living> {
-    let Ok(points) = points(alloc, set) else {
-        return None;
-    };
-    if points.len() > 1000 || !are_distinct(&points) {
-        return None;
-    }
+    let points = distinct_points(alloc, set)?;
     match Living::new(alloc, points) {
         Ok(living) => Some(living),
         Err(_) => None,
@@ -522,158 +513,55 @@ fn cavities_in_a_cube(rt: HostRuntime) {
     }
 }
 
-/// A slot that stays, with its corners.
-#[derive(Clone, Copy)]
-struct Kept {
-    place: usize,
-    corners: SlotCorners,
-}
-
-/// The slots outside of the conflict zone of a new point.
-fn not_taken(alloc: Global, living: &Living, new: &NewPoint) -> Result<Vec<Kept>, NoMemory> {
-    let (arena, points) = (living.arena(), living.points());
-    let mut kept = Vec::new(alloc);
-    for place in 0..arena.slots() {
-        if let Some(s) = arena.slot(place) {
-            if !is_taken::<Brand>(arena, points, s, new, Blank::new(1)) {
-                let corners = arena.tet(s);
-                kept.push(Kept { place, corners })?;
-            }
-        }
-    }
-    Ok(kept)
-}
-
-/// Whether these slots are at their places with their corners.
-fn are_kept(arena: &Arena, kept: &[Kept]) -> bool {
-    kept.iter().all(|k| {
-        k.place < arena.slots()
-            && match arena.slot(k.place) {
-                Some(s) => arena.tet(s) == k.corners,
-                None => false,
-            }
-    })
-}
-
-/// Whether the list of the mesh is that of its points.
-fn has_the_list(alloc: Global, living: &Living) -> bool {
-    let points = living.points();
-    if points.len() > 1000 || !are_distinct(points) {
-        return false;
-    }
-    match (living.list(alloc), delaunay(alloc, points)) {
-        (Ok(rows), Ok(want)) => rows.as_slice() == want.as_slice(),
-        _ => false,
-    }
-}
-
-/// Whether two points are the ends of a side of one of the rows.
-fn is_side_of(rows: &TetList, a: u32, b: u32) -> bool {
-    for row in rows.as_slice() {
-        if has_corner(*row, a) && has_corner(*row, b) {
-            return true;
-        }
-    }
-    false
-}
-
-/// How many sides the mesh has among its first 64 points, each from both ends, if they are those of
-/// its rows.
-fn sides(alloc: Global, mesh: &Living) -> Option<usize> {
-    let Ok(rows) = mesh.list(alloc) else {
-        return None;
-    };
+/// How many sides the mesh has among its first 64 points, each from both ends.
+fn sides(mesh: &Living) -> usize {
     let most = mesh.points().len();
     let mut count = 0usize;
     for i in 0..4096usize {
         let (a, b) = (i / 64, i % 64);
-        if a != b && a < most && b < most {
-            let is = mesh.has_side(a as u32, b as u32);
-            if is != is_side_of(&rows, a as u32, b as u32) {
-                return None;
-            }
-            if is {
-                count = count.saturating_add(1);
-            }
-        }
-    }
-    Some(count)
-}
-
-/// Adds a point that is not there, and answers its number, if more than two slots are kept and are
-/// where they were.
-fn added(alloc: Global, living: &mut Living, p: GridPoint) -> Result<Option<u32>, NoMemory> {
-    let most = living.points().len();
-    if most > 100 || !is_new(living.points(), most, p) {
-        return Ok(None);
-    }
-    let number = most as u32;
-    let kept = not_taken(alloc, living, &NewPoint { p, number })?;
-    let number = living.add_point(p)?;
-    let stays = kept.len() > 2 && are_kept(living.arena(), &kept);
-    Ok(if stays { Some(number) } else { None })
-}
-
-/// The mesh of a tetrahedron, of which these points are added, if all is right after each.
-fn sides_after(alloc: Global, more: &[[i8; 3]]) -> Option<usize> {
-    let Some(mut living) = living_of(alloc, &[[0, 0, 0], [4, 0, 0], [0, 4, 0], [0, 0, 4]]) else {
-        return None;
-    };
-    let mut count = None;
-    for (i, p) in more.iter().enumerate() {
-        match added(alloc, &mut living, grid_point(*p)) {
-            Ok(Some(number)) if number as usize == 4 + i && has_the_list(alloc, &living) => {
-                count = sides(alloc, &living);
-            }
-            _ => return None,
+        if a < most && b < most && mesh.has_side(a as u32, b as u32) {
+            count = count.saturating_add(1);
         }
     }
     count
 }
 
+/// Adds a point, and tells whether it was not there yet and has the next number.
+fn is_added(mesh: &mut Living, p: GridPoint) -> bool {
+    let most = mesh.points().len();
+    most <= 100
+        && is_new(mesh.points(), most, p)
+        && matches!(mesh.add_point(p), Ok(number) if number as usize == most)
+}
+
+fn are_added(mesh: &mut Living, more: &[[i8; 3]]) -> bool {
+    more.iter().all(|p| is_added(mesh, grid_point(*p)))
+}
+
+/// How many rows the mesh of these points has once more are added, and how many sides, each from
+/// both ends.
+fn rows_and_sides(alloc: Global, set: &[[i8; 3]], more: &[[i8; 3]]) -> Option<(usize, usize)> {
+    let mut mesh = living_of(alloc, set)?;
+    if !are_added(&mut mesh, more) {
+        return None;
+    }
+    match mesh.list(alloc) {
+        Ok(rows) => Some((rows.len(), sides(&mesh))),
+        Err(NoMemory) => None,
+    }
+}
+
+const TETRAHEDRON: [[i8; 3]; 4] = [[0, 0, 0], [4, 0, 0], [0, 4, 0], [0, 0, 4]];
+
 #[test]
 fn points_are_added(rt: HostRuntime) {
-    // In the tetrahedron, beyond a face of it, and in the plane of another.
-    for (more, want) in [
-        (&[[1, 1, 1]][..], 20),
-        (&[[1, 1, 1], [4, 4, 4]], 28),
-        (&[[1, 1, 1], [4, 4, 4], [-1, 0, 3]], 36),
+    // In the tetrahedron, beyond a face of it, and in the plane of another; none.
+    for (set, more, want) in [
+        (&TETRAHEDRON[..], &[[1, 1, 1]][..], (4, 20)),
+        (&TETRAHEDRON, &[[1, 1, 1], [4, 4, 4]], (6, 28)),
+        (&TETRAHEDRON, &[[1, 1, 1], [4, 4, 4], [-1, 0, 3]], (8, 36)),
+        (&GRID, &[], (40, 180)),
     ] {
-        assert_eq!(rt; sides_after(rt.alloc(), more), Some(want));
-    }
-}
-
-/// How many sides the mesh of a grid of 4 by 4 by 4 points has, in an order that goes round it.
-fn sides_of_grid(alloc: Global, step: u32) -> Option<usize> {
-    let Ok(points) = cubic_grid(alloc, step) else {
-        return None;
-    };
-    if points.len() > 64 || !are_distinct(&points) {
-        return None;
-    }
-    match Living::new(alloc, points) {
-        Ok(mesh) => sides(alloc, &mesh),
-        Err(_) => None,
-    }
-}
-
-fn cubic_grid(alloc: Global, step: u32) -> Result<Points, NoMemory> {
-    let mut points = Points::new(alloc);
-    for i in 0..64u32 {
-        let j = i.wrapping_mul(step) % 64;
-        points.push(GridPoint {
-            x: (j % 4) as i32,
-            y: (j / 4 % 4) as i32,
-            z: (j / 16) as i32,
-        })?;
-    }
-    Ok(points)
-}
-
-#[test]
-fn the_sides_are_those_of_the_list(rt: HostRuntime) {
-    for step in [1u32, 7, 25] {
-        let count = sides_of_grid(rt.alloc(), step);
-        assert!(rt; count.is_some(), "step {step}");
+        assert_eq!(rt; rows_and_sides(rt.alloc(), set, more), Some(want));
     }
 }
