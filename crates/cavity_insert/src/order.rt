@@ -1,8 +1,8 @@
 //! The order in which points are inserted.
 //!
-//! In rounds, each about twice as long as the one before, and each along a space-filling curve. The
-//! Delaunay list does not depend on it; the time to build it does (Amenta, Choi and Rote, 2003:
-//! incremental constructions con BRIO).
+//! In rounds, each about eight times as long as the one before, and each along a space-filling
+//! curve. The Delaunay list does not depend on it; the time to build it does (Amenta, Choi and Rote,
+//! 2003: incremental constructions con BRIO).
 ghost use Rattle.std.specs.Prelude.{◌≡◌, ◌-◌, ◌^◌, ◌<◌, ◌≤◌, length, IfOk};
 ghost use Rattle.cavity_insert.specs.Order.{IsOrderOf};
 
@@ -78,13 +78,13 @@ fn turn_of(frame: Frame, p: GridPoint, number: u32) -> Turn
     ensures { result.number ≡ number }
 {
     Turn {
-        round: 32 - hash(number).trailing_zeros(),
+        round: 32 - hash(number).trailing_zeros() / 3,
         curve: on_curve(frame, p),
         number,
     }
 }
 
-/// A fixed scattering of the numbers, so that half of the points come in the last round.
+/// A fixed scattering of the numbers, so that seven eighths of the points come in the last round.
 fn hash(number: u32) -> u32 {
     let mixed = number ^ (number >> 16);
     let mixed = mixed.wrapping_mul(0x7feb_352d);

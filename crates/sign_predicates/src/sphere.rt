@@ -99,7 +99,7 @@ fn wins_tie(t: &Corners, n: Numbers, p: GridPoint, m: u32) -> bool
 /// number: `p` itself for outside; a corner for outside where `p` is strictly beyond the face opposite that corner, against it
 /// where `p` is strictly on the corner's side of that face, and not at all where `p` lies on that face's plane. It is the
 /// rule of points lifted by heights that differ by indicators, and so the Delaunay tetrahedra of any points are determined.
-#[inline]
+#[inline(always)]
 pub fn outside(t: Corners, n: Numbers, p: GridPoint, m: u32) -> bool
     ensures { result ≡ is_outside t n p m }
 {
