@@ -1,0 +1,139 @@
+//! Which pieces are sides of the mesh, by one pass over its tetrahedra.
+ghost use Rattle.std.specs.Prelude.{◌≡◌, ◌≢◌, ◌^◌, ◌<◌, [], IsTrue, length, All, Contains};
+ghost use Rattle.std.specs.Prelude.{IfOk};
+ghost use Rattle.geo_laws.specs.Delaunay.{numbers, has_corner};
+ghost use Rattle.piece_set.specs.Found.{with_pieces};
+ghost use Rattle.segment_protect.specs.Watch.{pieces_of, HasSidesOf, IsSeen};
+
+use crate::watch::Watched;
+use cavity_insert::Living;
+use geo_laws::{Piece, Pieces, Tet};
+use piece_set::PieceSet;
+use point_locate::{Shape, shape_of};
+use std::alloc::Global;
+use tet_ports::NoMemory;
+
+/// Whether a point is a corner of the tetrahedron.
+#[inline]
+fn has_corner(row: Tet, i: u32) -> bool
+    ensures { result ≡ has_corner row i }
+{
+    row.a == i || row.b == i || row.c == i || row.d == i
+}
+
+/// Whether the ends of the piece are two corners of the tetrahedron.
+fn has_ends(row: Tet, piece: Piece) -> bool
+    ensures differ { IsTrue result → piece.a ≢ piece.b }
+    ensures first { IsTrue result → Contains (numbers row) piece.a }
+    ensures second { IsTrue result → Contains (numbers row) piece.b }
+{
+    if piece.a == piece.b || !has_corner(row, piece.a) {
+        return false;
+    }
+    has_corner(row, piece.b)
+}
+
+/// Notes that the piece at this place was seen to be a side, where the tetrahedron has it.
+fn see_piece(living: &Living, watched: &mut Vec<Watched>, row: Tet, k: usize)
+    requires row { HasSidesOf living.now.points row }
+    requires few { length living.now.points < 2 ^ 32 }
+    requires seen { All (IsSeen living.now.points) watched.old.items }
+    ensures pieces { pieces_of watched.new.items ≡ pieces_of watched.old.items }
+    ensures seen { All (IsSeen living.now.points) watched.new.items }
+{
+    if k >= watched.len() {
+        return;
+    }
+    let w = watched[k];
+    if !has_ends(row, w.piece) {
+        return;
+    }
+    let now = living.points().len() as u32;
+    watched[k] = Watched {
+        piece: w.piece,
+        seen: now,
+    };
+}
+
+/// The same for the piece that joins two points, if there is one.
+fn see_side(
+    living: &Living,
+    places: &PieceSet,
+    watched: &mut Vec<Watched>,
+    row: Tet,
+    a: u32,
+    b: u32,
+)
+    requires row { HasSidesOf living.now.points row }
+    requires few { length living.now.points < 2 ^ 32 }
+    requires seen { All (IsSeen living.now.points) watched.old.items }
+    ensures pieces { pieces_of watched.new.items ≡ pieces_of watched.old.items }
+    ensures seen { All (IsSeen living.now.points) watched.new.items }
+{
+    let Some(k) = places.place_of(Piece { a, b, halvings: 0 }) else {
+        return;
+    };
+    see_piece(living, watched, row, k);
+}
+
+/// Notes the pieces that are sides of the tetrahedron.
+fn see_row(living: &Living, places: &PieceSet, watched: &mut Vec<Watched>, row: Tet)
+    requires row { HasSidesOf living.now.points row }
+    requires few { length living.now.points < 2 ^ 32 }
+    requires seen { All (IsSeen living.now.points) watched.old.items }
+    ensures pieces { pieces_of watched.new.items ≡ pieces_of watched.old.items }
+    ensures seen { All (IsSeen living.now.points) watched.new.items }
+{
+    let sides = [
+        (row.a, row.b),
+        (row.a, row.c),
+        (row.a, row.d),
+        (row.b, row.c),
+        (row.b, row.d),
+        (row.c, row.d),
+    ];
+    for (a, b) in sides {
+        see_side(living, places, watched, row, a, b);
+    }
+}
+
+/// The same for the tetrahedron at a place of the mesh, if there is one.
+fn see_slot(living: &Living, places: &PieceSet, watched: &mut Vec<Watched>, i: usize)
+    requires there { i < length living.now.slots }
+    requires few { length living.now.points < 2 ^ 32 }
+    requires seen { All (IsSeen living.now.points) watched.old.items }
+    ensures pieces { pieces_of watched.new.items ≡ pieces_of watched.old.items }
+    ensures seen { All (IsSeen living.now.points) watched.new.items }
+{
+    let arena = living.arena();
+    let Some(s) = arena.slot(i) else {
+        return;
+    };
+    let Shape::Row(row) = shape_of(arena.tet(s)) else {
+        return;
+    };
+    see_row(living, places, watched, row);
+}
+
+/// Notes the pieces that are sides of the mesh.
+pub(crate) fn see_sides(living: &Living, places: &PieceSet, watched: &mut Vec<Watched>)
+    requires few { length living.now.points < 2 ^ 32 }
+    requires seen { All (IsSeen living.now.points) watched.old.items }
+    ensures pieces { pieces_of watched.new.items ≡ pieces_of watched.old.items }
+    ensures seen { All (IsSeen living.now.points) watched.new.items }
+{
+    for i in 0..living.arena().slots() {
+        see_slot(living, places, watched, i);
+    }
+}
+
+/// The pieces in a set, where they are found by their ends.
+pub(crate) fn set_of(alloc: Global, pieces: &Pieces) -> Result<PieceSet, NoMemory>
+    ensures { IfOk result (λ set. set ≡ with_pieces [] pieces.now) }
+{
+    let mut set = PieceSet::new(alloc);
+    for i in 0..pieces.len() {
+        set.put(pieces.at(i))?;
+    }
+    Ok(set)
+}
