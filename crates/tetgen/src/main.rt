@@ -1,6 +1,8 @@
 //! The program `tetgen`: tetrahedral meshes of sets of points and of complexes of segments and facets.
 #![tactic(auto)]
 
+#[cfg(test)]
+mod complex_tests;
 mod input;
 mod mesh;
 mod meshed;

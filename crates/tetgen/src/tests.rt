@@ -4,21 +4,21 @@ use crate::message::append_number;
 use crate::run::run_tetgen;
 use crate::status::Status;
 use crate::test_inputs::{
-    BAR, BAR_ELE, BAR_FACE, BAR_NODE, BAR_SMESH, BENT, CUBE, DECIMALS, GREATEST, NEGATIVE, PLATE,
-    PRISM, PYRAMID, SMALLEST, SPLIT, THIRD, WRITTEN,
+    BAR, BAR_ELE, BAR_FACE, BAR_NODE, BAR_SMESH, CUBE, DECIMALS, GREATEST, NEGATIVE, PYRAMID,
+    SMALLEST, THIRD, WRITTEN,
 };
 use std::alloc::Global;
 use std::test::Fail;
 use tet_ports::{Bytes, MemFolder, MemSink, Name, NoMemory, Words};
 
 /// A file by its name, with its text.
-type File<'a> = (&'a [u8], &'a [u8]);
+pub(crate) type File<'a> = (&'a [u8], &'a [u8]);
 
 /// The status with which a run ends, and what it puts to the two streams, where that is told.
-type End<'a> = (u8, Option<&'a [u8]>, Option<&'a [u8]>);
+pub(crate) type End<'a> = (u8, Option<&'a [u8]>, Option<&'a [u8]>);
 
 /// A name with the text of its file, or that there is none.
-type Left<'a> = (&'a [u8], Option<&'a [u8]>);
+pub(crate) type Left<'a> = (&'a [u8], Option<&'a [u8]>);
 
 /// A folder and the two streams, and how the last run with them ended.
 #[derive(Drop)]
@@ -100,7 +100,7 @@ impl Place {
 }
 
 /// Whether a run on these words, where the folder holds these files, ends so and leaves these files.
-fn leaves(
+pub(crate) fn leaves(
     alloc: Global,
     held: &[File],
     words: &[&[u8]],
@@ -243,212 +243,8 @@ fn switches_choose_the_files(rt: HostRuntime) -> Result<(), Fail> {
 }
 
 #[test]
-fn a_bar_is_meshed(rt: HostRuntime) -> Result<(), Fail> {
-    let cases: [(&[File], &[&[u8]], End, &[Left]); 3] = [
-        // Poly.
-        (
-            &[(b"bar.poly", BAR)],
-            &[b"-p", b"bar"],
-            (
-                0,
-                Some(b"points 8 added 0 tetrahedra 6 faces 18 edges 19\n"),
-                Some(b""),
-            ),
-            &[
-                (b"bar.1.node", Some(BAR_NODE)),
-                (b"bar.1.ele", Some(BAR_ELE)),
-                (b"bar.1.face", Some(BAR_FACE)),
-            ],
-        ),
-        // Smesh.
-        (
-            &[(b"bar.smesh", BAR_SMESH)],
-            &[b"-p", b"bar"],
-            (0, None, Some(b"")),
-            &[
-                (b"bar.1.node", Some(BAR_NODE)),
-                (b"bar.1.ele", Some(BAR_ELE)),
-                (b"bar.1.face", Some(BAR_FACE)),
-            ],
-        ),
-        // By its extension, with the hull.
-        (
-            &[(b"bar.poly", BAR), (b"bar.smesh", b"0 0\n")],
-            &[b"bar.poly", b"-c"],
-            (0, None, Some(b"")),
-            &[
-                (b"bar.1.node", Some(BAR_NODE)),
-                (b"bar.1.ele", Some(BAR_ELE)),
-                (b"bar.1.face", Some(BAR_FACE)),
-            ],
-        ),
-    ];
-    for (held, words, end, files) in cases {
-        assert!(rt; leaves(rt.alloc(), held, words, end, files)?);
-    }
-    Ok(())
-}
-
-#[test]
-fn complexes_are_meshed(rt: HostRuntime) -> Result<(), Fail> {
-    let cases: [(&[File], &[&[u8]], End, &[Left]); 6] = [
-        // Prism with a notch.
-        (
-            &[(b"t.poly", PRISM)],
-            &[b"-p", b"t"],
-            (
-                0,
-                Some(b"points 12 added 0 tetrahedra 12 faces 34 edges 33\n"),
-                Some(b""),
-            ),
-            &[],
-        ),
-        // Prism with its hull.
-        (
-            &[(b"t.poly", PRISM)],
-            &[b"-pc", b"t"],
-            (
-                0,
-                Some(b"points 12 added 0 tetrahedra 15 faces 40 edges 36\n"),
-                Some(b""),
-            ),
-            &[],
-        ),
-        // Three splits.
-        (
-            &[(b"t.poly", SPLIT)],
-            &[b"-pcS3", b"t"],
-            (
-                0,
-                Some(b"points 8 added 3 tetrahedra 18 faces 42 edges 34\n"),
-                Some(b""),
-            ),
-            &[],
-        ),
-        // No facet and no hull.
-        (
-            &[(b"t.poly", SPLIT)],
-            &[b"-p", b"t"],
-            (
-                0,
-                Some(b"points 8 added 3 tetrahedra 0 faces 0 edges 0\n"),
-                Some(b""),
-            ),
-            &[(b"t.1.ele", Some(b"0 4 0\n"))],
-        ),
-        // A plate through three tetrahedra.
-        (
-            &[(b"t.poly", PLATE)],
-            &[b"-pc", b"t"],
-            (0, None, Some(b"")),
-            &[
-                (b"t.1.ele", Some(b"2 4 0\n0 0 1 2 3\n1 0 1 4 2\n")),
-                (
-                    b"t.1.face",
-                    Some(
-                        b"7 1\n0 0 1 2 5\n1 0 1 3 1\n2 0 1 4 1\n3 0 2 3 1\n4 0 2 4 1\n5 1 2 3 1\n6 1 2 4 1\n",
-                    ),
-                ),
-            ],
-        ),
-        // Sample.
-        (
-            &[],
-            &[b"--sample=1"],
-            (
-                0,
-                Some(b"points 9 added 0 tetrahedra 12 faces 30 edges 26\n"),
-                Some(b""),
-            ),
-            &[],
-        ),
-    ];
-    for (held, words, end, files) in cases {
-        assert!(rt; leaves(rt.alloc(), held, words, end, files)?);
-    }
-    Ok(())
-}
-
-#[test]
-fn complexes_are_refused(rt: HostRuntime) -> Result<(), Fail> {
-    let cases: [(&[File], &[&[u8]], End, &[Left]); 6] = [
-        // Not flat.
-        (
-            &[(b"bar.poly", BENT)],
-            &[b"-p", b"bar"],
-            (
-                6,
-                Some(b""),
-                Some(b"tetgen: facet 1 is not flat: points 1 2 3 4\n"),
-            ),
-            &[(b"bar.1.node", None)],
-        ),
-        // Segments cross.
-        (
-            &[(
-                b"t.poly",
-                b"5 3 0 0\n0 0 0 0\n1 2 2 0\n2 2 0 0\n3 0 2 0\n4 1 1 2\n2\n1\n2 0 1\n1\n2 2 3\n",
-            )],
-            &[b"-p", b"t"],
-            (6, Some(b""), Some(b"tetgen: segments 0 1 and 2 3 cross\n")),
-            &[],
-        ),
-        // A segment through a facet.
-        (
-            &[(
-                b"t.poly",
-                b"5 3 0 0\n0 0 0 0\n1 4 0 0\n2 0 4 0\n3 1 1 -2\n4 1 1 2\n2\n1\n3 0 1 2\n1\n2 3 4\n",
-            )],
-            &[b"-p", b"t"],
-            (
-                6,
-                Some(b""),
-                Some(b"tetgen: crossing: facet 1 triangle 0 1 2 and segment 3 4\n"),
-            ),
-            &[],
-        ),
-        // A finer grid.
-        (
-            &[(b"t.poly", SPLIT)],
-            &[b"-pc", b"--halvings=1", b"t"],
-            (
-                7,
-                Some(b""),
-                Some(b"tetgen: segment 0 8 needs a finer grid\n"),
-            ),
-            &[],
-        ),
-        // Two splits.
-        (
-            &[(b"t.poly", SPLIT)],
-            &[b"-pcS2", b"t"],
-            (
-                8,
-                Some(b""),
-                Some(b"tetgen: 2 splits used, segment 1 8 is missing\n"),
-            ),
-            &[],
-        ),
-        // Two plates.
-        (
-            &[(
-                b"t.poly",
-                b"8 3 0 0\n0 -9 -9 0\n1 9 -9 0\n2 0 9 0\n3 -9 -9 1\n4 9 -9 1\n5 0 9 1\n6 0 0 3\n7 0 0 -2\n2\n1\n3 0 1 2\n1\n3 3 4 5\n",
-            )],
-            &[b"-pc", b"t"],
-            (9, Some(b""), None),
-            &[],
-        ),
-    ];
-    for (held, words, end, files) in cases {
-        assert!(rt; leaves(rt.alloc(), held, words, end, files)?);
-    }
-    Ok(())
-}
-
-#[test]
 fn files_are_refused(rt: HostRuntime) -> Result<(), Fail> {
-    let cases: [(&[File], &[&[u8]], End, &[Left]); 10] = [
+    let cases: [(&[File], &[&[u8]], End, &[Left]); 12] = [
         // No word.
         (
             &[],
@@ -457,6 +253,28 @@ fn files_are_refused(rt: HostRuntime) -> Result<(), Fail> {
                 1,
                 Some(b""),
                 Some(b"tetgen: word 1, place 1: not understood\n"),
+            ),
+            &[],
+        ),
+        // A sample of too many points.
+        (
+            &[],
+            &[b"--sample=10001"],
+            (
+                1,
+                Some(b""),
+                Some(b"tetgen: word 1, place 10: not understood\n"),
+            ),
+            &[],
+        ),
+        // A sample and a name.
+        (
+            &[(b"t.node", PYRAMID)],
+            &[b"t", b"--sample=5"],
+            (
+                1,
+                Some(b""),
+                Some(b"tetgen: word 3, place 1: not understood\n"),
             ),
             &[],
         ),
@@ -628,7 +446,7 @@ fn leaves_after(
 
 #[test]
 fn failing_calls_are_told(rt: HostRuntime) -> Result<(), Fail> {
-    let cases: [(Failing, &[File], &[&[u8]], End, &[Left]); 6] = [
+    let cases: [(Failing, &[File], &[&[u8]], End, &[Left]); 8] = [
         // First fetch.
         (
             Failing::Fetch { nth: 1 },
@@ -652,6 +470,26 @@ fn failing_calls_are_told(rt: HostRuntime) -> Result<(), Fail> {
             &[b"-p", b"bar"],
             (11, Some(b""), Some(b"tetgen: bar.1.node: write failed\n")),
             &[(b"bar.1.node", Some(b"")), (b"bar.1.ele", None)],
+        ),
+        // Second file.
+        (
+            Failing::Fetch { nth: 2 },
+            &[(b"q.poly", b"0 3 0 0\n0\n"), (b"q.node", SMALLEST)],
+            &[b"-p", b"q"],
+            (3, Some(b""), Some(b"tetgen: q.node: read failed\n")),
+            &[(b"q.1.node", None)],
+        ),
+        // Second store.
+        (
+            Failing::Store { nth: 2, kept: 3 },
+            &[(b"bar.poly", BAR)],
+            &[b"-p", b"bar"],
+            (11, Some(b""), Some(b"tetgen: bar.1.ele: write failed\n")),
+            &[
+                (b"bar.1.node", Some(BAR_NODE)),
+                (b"bar.1.ele", Some(b"6 4")),
+                (b"bar.1.face", None),
+            ],
         ),
         // Third store.
         (
