@@ -19,7 +19,7 @@ use Rattle.segment_protect.specs.declared.fault.ProtectFault.TheVariants as prot
 use Rattle.box_pairs.specs.Crossing.{AreTrianglesMet, IsPlaneFault}
 use Rattle.box_pairs.specs.declared.crossing.PlaneFault.{PlaneFault}
 use Rattle.box_pairs.specs.declared.crossing.PlaneFault.TheVariants as planes
-use Rattle.facet_recover.specs.Parted.{IsCause}
+use Rattle.facet_recover.specs.Refilled.{IsCause}
 use Rattle.facet_recover.specs.declared.recover.RecoverFault.{RecoverFault}
 use Rattle.facet_recover.specs.declared.recover.RecoverFault.TheVariants as recovery
 use Rattle.complex_mesh.specs.Faults.{protect_fault, plane_fault, recover_fault}
@@ -27,7 +27,7 @@ use Rattle.complex_mesh.specs.Protection.{IsProtectedComplex, input_pieces, comp
 use Rattle.complex_mesh.specs.Steps.{IsCrossingFault, IsTangleFault}
 use Rattle.complex_mesh.specs.Meshing.{IsMeshFault}
 use Rattle.complex_mesh.specs.declared.fault.MeshFault.{MeshFault}
-use Rattle.complex_mesh.specs.declared.fault.MeshFault.TheVariants.{Flat, NotFlat, SegmentsCross, GridEnd, BudgetEnd, Crossing, Tangled, NoMemory}
+use Rattle.complex_mesh.specs.declared.fault.MeshFault.TheVariants.{Flat, NotFlat, SegmentsCross, GridEnd, BudgetEnd, Crossing, NoFill, NoMemory}
 use Rattle.complex_mesh.proofs.Triangles.{coplanar_flat}
 
 -- where a facet is not flat, the points are not all in one plane
@@ -59,7 +59,7 @@ pub recover_cause : (qs : List Point) (ts : List FacetTriangle) (rows : List Tet
 recover_cause qs ts rows e f h = by f (subst (λ us. IsCause qs ts us f) e h)
   where
     by : (f : RecoverFault) → IsCause qs ts (delaunay_rows qs) f → IsTangleFault qs ts (recover_fault f)
-    by (recovery.Tangled t a b) h = h
+    by (recovery.NoFill anomaly) h = h
     by recovery.NoMemory h = tt
 
 pub crossing_cause : (halvings budget : ℕ) (ps : List Point) (c : Complex) (qs : List Point) (rest : List Piece) → IsProtectedComplex halvings budget ps c qs rest → (f : MeshFault) → IsCrossingFault qs rest c f
@@ -71,12 +71,13 @@ crossing_cause halvings budget ps c qs rest p (NotFlat facet four) h = absurd h
 crossing_cause halvings budget ps c qs rest p (SegmentsCross one two) h = absurd h
 crossing_cause halvings budget ps c qs rest p (GridEnd piece) h = absurd h
 crossing_cause halvings budget ps c qs rest p (BudgetEnd made piece) h = absurd h
-crossing_cause halvings budget ps c qs rest p (Tangled tet a b) h = absurd h
+crossing_cause halvings budget ps c qs rest p (NoFill anomaly) h = absurd h
 
 pub tangle_cause : (halvings budget : ℕ) (ps : List Point) (c : Complex) (qs : List Point) (rest : List Piece) (ts : List FacetTriangle) → IsProtectedComplex halvings budget ps c qs rest → ts ≡ complex_triangles qs c
     → AreTrianglesMet qs ts rest → (f : MeshFault) → IsTangleFault qs ts f → IsMeshFault halvings budget ps c f
-tangle_cause halvings budget ps c qs rest ts p e met (Tangled tet a b) h =
-    (qs, rest, p, subst (λ us. AreTrianglesMet qs us rest) e met, subst (λ us. IsTangleFault qs us (Tangled tet a b)) e h)
+tangle_cause halvings budget ps c qs rest ts p e met (NoFill anomaly) h =
+    let k = subst (λ us. IsTangleFault qs us (NoFill anomaly)) e h in
+    (qs, rest, p, subst (λ us. AreTrianglesMet qs us rest) e met, k.0, k.1)
 tangle_cause halvings budget ps c qs rest ts p e met NoMemory h = tt
 tangle_cause halvings budget ps c qs rest ts p e met Flat h = absurd h
 tangle_cause halvings budget ps c qs rest ts p e met (NotFlat facet four) h = absurd h

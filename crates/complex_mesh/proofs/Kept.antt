@@ -21,9 +21,10 @@ use Rattle.segment_protect.proofs.Splits.{each_member}
 use Rattle.complex_laws.specs.ComplexMesh.{HasNoCrossing, IsCarved}
 use Rattle.complex_laws.proofs.ComplexMesh.{law_uncrossed}
 use Rattle.complex_laws.proofs.NoFacets.{law_no_facets}
+use Rattle.path_laws.proofs.KeptMesh.{law_kept_mesh}
 use Rattle.complex_laws.proofs.MetFaces.{law_faces_met}
 use Rattle.recovery_laws.specs.Recovery.{IsRecovery}
-use Rattle.recovery_laws.proofs.Chain.{law_recovery_mesh, law_piece_of_rest}
+use Rattle.recovery_laws.proofs.Chain.{law_piece_of_rest}
 use Rattle.mesh_files.specs.FaceRows.{AreFacesMet, AreFacetsThere}
 use Rattle.facet_laws.specs.Faces.{Ascends}
 use Rattle.facet_plane.proofs.FlatFacets.{facet_count}
@@ -42,12 +43,12 @@ module _ (o : MeshOptions) (ps : List Point) (c : Complex) (m : ComplexMesh) (re
   has = recovery o.halvings o.budget ps c m.points rest given protected m.triangles triangles met
 
   is_mesh : IsMesh (carving_of o.keep_hull) m.points m.triangles c.holes m.tetrahedra
-  is_mesh =
-      law_recovery_mesh o.halvings o.budget ps (corner_lists c.polygons) (facets c) m.points rest m.triangles has recovered.untangled (carving_of o.keep_hull) c.holes whole m.tetrahedra
-      recovered.refill kept.carved
+  is_mesh = law_kept_mesh (carving_of o.keep_hull) m.points m.triangles whole c.holes m.tetrahedra recovered.whole_mesh kept.carved.weights kept.carved.kept kept.carved.ascending
 
   uncrossed : HasNoCrossing m.points m.triangles → IsCarved (carving_of o.keep_hull) m.points m.triangles c.holes (delaunay_rows m.points) m.tetrahedra
-  uncrossed none = subst (λ rows. IsCarved (carving_of o.keep_hull) m.points m.triangles c.holes rows m.tetrahedra) ((law_uncrossed m.points m.triangles whole none).0 recovered.refill) kept.carved
+  uncrossed none =
+      subst (λ rows. IsCarved (carving_of o.keep_hull) m.points m.triangles c.holes rows m.tetrahedra)
+      ((law_uncrossed m.points m.triangles whole none).0 (recovered.by_sides (λ t l tangle. none t l tangle.0 tangle.3))) kept.carved
 
   no_facets : o.keep_hull ≡ false → c.facets ≡ [] → m.tetrahedra ≡ []
   no_facets all none =
@@ -89,13 +90,15 @@ module _ (o : MeshOptions) (ps : List Point) (c : Complex) (m : ComplexMesh) (re
     protected = protected;
     triangles = triangles;
     met = met;
-    untangled = recovered.untangled;
     mesh = is_mesh;
-    uncrossed = uncrossed;
+    whole = whole;
+    refilled = recovered.refilled;
+    carved = kept.carved;
+    by_sides = recovered.by_sides;
     no_facets = no_facets;
-    pieces_kept = λ p l.
-        law_piece_of_rest o.halvings o.budget ps (corner_lists c.polygons) (facets c) m.points rest m.triangles has recovered.untangled (carving_of o.keep_hull) c.holes whole m.tetrahedra
-        recovered.refill kept.carved p l (pieces_met p l);
+    pieces_kept = λ untangled p l.
+        law_piece_of_rest o.halvings o.budget ps (corner_lists c.polygons) (facets c) m.points rest m.triangles has untangled (carving_of o.keep_hull) c.holes whole m.tetrahedra
+        (recovered.by_sides untangled) kept.carved p l (pieces_met p l);
     faces_met = faces_met;
     facets_there = facets_there;
     marked = kept.marked;

@@ -1,12 +1,11 @@
 -- A complex has one answer. The causes are asked for one after another, each where none before it holds, and a mesh is what is left.
 use Rattle.std.proofs.Common.{◌≡◌, ℕ, List, Option, None, Some, refl, ap, sym, subst, ◌∙◌}
-use Rattle.std.specs.Prelude.{◌≢◌, All, Contains}
+use Rattle.std.specs.Prelude.{◌≢◌, All}
 use Rattle.sign_predicates.specs.Point.{Point}
 use Rattle.geo_laws.specs.Complex.{Complex, facets}
-use Rattle.geo_laws.specs.Delaunay.{delaunay_rows, AreCoplanar}
+use Rattle.geo_laws.specs.Delaunay.{AreCoplanar}
 use Rattle.geo_laws.specs.Segment.{protect, ProtectionEnd, Protected, GridEnd as GridEndOf, BudgetEnd as BudgetEndOf}
-use Rattle.geo_laws.specs.Facet.{Facet, IsFlat, IsTangled}
-use Rattle.geo_laws.specs.declared.tetrahedra.Tet.{Tet}
+use Rattle.geo_laws.specs.Facet.{Facet, IsFlat}
 use Rattle.geo_laws.specs.declared.complex.Piece.{Piece}
 use Rattle.geo_laws.specs.declared.complex.FacetTriangle.{FacetTriangle}
 use Rattle.segment_protect.specs.Ends.{CanSplit}
@@ -15,19 +14,18 @@ use Rattle.facet_plane.specs.Flat.{IsFirstNotFlat}
 use Rattle.facet_plane.specs.declared.flat.NotFlat.{NotFlat as Bent}
 use Rattle.box_pairs.specs.declared.complex_parts.Part.{Part}
 use Rattle.box_pairs.specs.Crossing.{AreTrianglesMet, IsFirstCrossing as IsFirstParts}
-use Rattle.facet_recover.specs.Parted.{IsFirstTangled}
 use Rattle.complex_mesh.specs.Protection.{IsProtectedComplex, input_pieces, complex_triangles}
 use Rattle.complex_mesh.specs.Meshing.{IsComplexMesh, IsMeshFault}
-use Rattle.complex_mesh.specs.OneAnswer.{OneFaultLaw, NoFaultLaw}
+use Rattle.complex_mesh.specs.OneAnswer.{IsForcing, OneFaultLaw, NoFaultLaw}
 use Rattle.complex_mesh.specs.declared.mesh.MeshOptions.{MeshOptions}
 use Rattle.complex_mesh.specs.declared.mesh.ComplexMesh.{ComplexMesh}
 use Rattle.complex_mesh.specs.declared.fault.MeshFault.{MeshFault}
-use Rattle.complex_mesh.specs.declared.fault.MeshFault.TheVariants.{Flat, NotFlat, SegmentsCross, GridEnd, BudgetEnd, Crossing, Tangled, NoMemory}
-use Rattle.complex_mesh.proofs.OneAnswerParts.{not_flat_once, flat_none, segments_once, segments_none, parts_once, parts_none, tangled_once, tangled_none}
+use Rattle.complex_mesh.specs.declared.fault.MeshFault.TheVariants.{Flat, NotFlat, SegmentsCross, GridEnd, BudgetEnd, Crossing, NoFill, NoMemory}
+use Rattle.complex_mesh.proofs.OneAnswerParts.{not_flat_once, flat_none, segments_once, segments_none, parts_once, parts_none}
 
 -- ---- one cause after another
 
--- the fault of a complex, or none where it has a mesh
+-- the fault of a complex that forces its answer, or none where it has a mesh or facets are tangled
 abbrev Outcome : Type 0
 Outcome = Option MeshFault
 
@@ -68,20 +66,9 @@ record IsPartFault (qs : List Point) (ts : List FacetTriangle) (rest : List Piec
   first : IsFirstParts qs ts rest one two
   is : a ≡ Some (Crossing one two)
 
-record IsTangledFault (qs : List Point) (ts : List FacetTriangle) (rows : List Tet) (a : Outcome) : Type 0 where
-  row : Tet
-  facet_a : ℕ
-  facet_b : ℕ
-  first : IsFirstTangled qs ts rows row facet_a facet_b
-  is : a ≡ Some (Tangled row facet_a facet_b)
-
--- a row is tangled, or none is
-abbrev Recovers : List Point → List FacetTriangle → List Tet → Outcome → Type 0
-Recovers qs ts rows = Step (IsTangledFault qs ts rows) ((t : Tet) → Contains rows t → ¬ IsTangled qs ts t) (λ a. a ≡ None)
-
 -- a triangle is not properly met, or all are
 abbrev Meets : List Point → List FacetTriangle → List Piece → Outcome → Type 0
-Meets qs ts rest = Step (IsPartFault qs ts rest) (AreTrianglesMet qs ts rest) (Recovers qs ts (delaunay_rows qs))
+Meets qs ts rest = Step (IsPartFault qs ts rest) (AreTrianglesMet qs ts rest) (λ a. a ≡ None)
 
 -- protection ends at a piece, or it protects
 abbrev Ends : ℕ → Complex → ProtectionEnd → Outcome → Type 0
@@ -124,21 +111,10 @@ part_once qs ts rest a b h k =
     let e = parts_once qs ts rest h.one h.two k.one k.two h.first k.first in
     some_once (Crossing h.one h.two) (Crossing k.one k.two) a b (ap (λ p. Crossing p h.two) e.0 ∙ ap (λ p. Crossing k.one p) e.1) h.is k.is
 
-tangle_once : (qs : List Point) (ts : List FacetTriangle) (rows : List Tet) → IsOnce (IsTangledFault qs ts rows)
-tangle_once qs ts rows a b h k =
-    let e = tangled_once qs ts rows h.row k.row h.facet_a h.facet_b k.facet_a k.facet_b h.first k.first in
-    some_once (Tangled h.row h.facet_a h.facet_b) (Tangled k.row k.facet_a k.facet_b) a b
-    (ap (λ t. Tangled t h.facet_a h.facet_b) e.0 ∙ ap (λ f. Tangled k.row f h.facet_b) e.1 ∙ ap (λ f. Tangled k.row k.facet_a f) e.2) h.is k.is
-
-recovers_once : (qs : List Point) (ts : List FacetTriangle) (rows : List Tet) → IsOnce (Recovers qs ts rows)
-recovers_once qs ts rows =
-    step_once (IsTangledFault qs ts rows) ((t : Tet) → Contains rows t → ¬ IsTangled qs ts t) (λ a. a ≡ None) (tangle_once qs ts rows)
-    (λ a h. tangled_none qs ts rows h.row h.facet_a h.facet_b h.first) (λ a b e f. e ∙ sym f)
-
 meets_once : (qs : List Point) (ts : List FacetTriangle) (rest : List Piece) → IsOnce (Meets qs ts rest)
 meets_once qs ts rest =
-    step_once (IsPartFault qs ts rest) (AreTrianglesMet qs ts rest) (Recovers qs ts (delaunay_rows qs)) (part_once qs ts rest)
-    (λ a h. parts_none qs ts rest h.one h.two h.first) (recovers_once qs ts (delaunay_rows qs))
+    step_once (IsPartFault qs ts rest) (AreTrianglesMet qs ts rest) (λ a. a ≡ None) (part_once qs ts rest) (λ a h. parts_none qs ts rest h.one h.two h.first)
+    (λ a b e f. e ∙ sym f)
 
 ends_once : (budget : ℕ) (c : Complex) (end : ProtectionEnd) → IsOnce (Ends budget c end)
 ends_once budget c (Protected qs rest) = meets_once qs (complex_triangles qs c) rest
@@ -170,7 +146,12 @@ met : (halvings budget : ℕ) (ps : List Point) (c : Complex) (qs : List Point) 
     → Meets qs (complex_triangles qs c) rest a → Answers halvings budget ps c a
 met halvings budget ps c qs rest a h k = begun halvings budget ps c (Protected qs rest) a h.flat h.can_split h.ends k
 
-fault_answers : (halvings budget : ℕ) (ps : List Point) (c : Complex) (a : MeshFault) → a ≢ NoMemory → IsMeshFault halvings budget ps c a → Answers halvings budget ps c (Some a)
+-- what a fault leaves to be told apart: an anomaly forces nothing
+abbrev outcome_of : MeshFault → Outcome
+outcome_of (NoFill anomaly) = None
+outcome_of fault = Some fault
+
+fault_answers : (halvings budget : ℕ) (ps : List Point) (c : Complex) (a : MeshFault) → a ≢ NoMemory → IsMeshFault halvings budget ps c a → Answers halvings budget ps c (outcome_of a)
 fault_answers halvings budget ps c Flat n h = stops (record { flat = h; is = refl })
 fault_answers halvings budget ps c (NotFlat facet four) n h = passes h.0 (stops (record { bent = record { facet = facet; four = four }; first = h.1; is = refl }))
 fault_answers halvings budget ps c (SegmentsCross one two) n h = passes h.0 (passes h.1 (stops (record { one = one; two = two; first = h.2; is = refl })))
@@ -179,28 +160,45 @@ fault_answers halvings budget ps c (BudgetEnd made piece) n h =
     begun halvings budget ps c (BudgetEndOf piece) (Some (BudgetEnd made piece)) h.0 h.1 h.3 (ap (λ m. Some (BudgetEnd m piece)) h.2)
 fault_answers halvings budget ps c (Crossing one two) n h =
     met halvings budget ps c h.0 h.1 (Some (Crossing one two)) h.2 (stops (record { one = one; two = two; first = h.3; is = refl }))
-fault_answers halvings budget ps c (Tangled row facet_a facet_b) n h =
-    met halvings budget ps c h.0 h.1 (Some (Tangled row facet_a facet_b)) h.2
-    (passes h.3 (stops (record { row = row; facet_a = facet_a; facet_b = facet_b; first = h.4; is = refl })))
+fault_answers halvings budget ps c (NoFill anomaly) n h = met halvings budget ps c h.0 h.1 None h.2 (passes h.3 refl)
 fault_answers halvings budget ps c NoMemory n h = absurd (n refl)
 
 mesh_answers : (o : MeshOptions) (ps : List Point) (c : Complex) (m : ComplexMesh) → IsComplexMesh o ps c m → Answers o.halvings o.budget ps c None
 mesh_answers o ps c m h =
     met o.halvings o.budget ps c m.points h.rest None h.protected
-    (subst (λ ts. Meets m.points ts h.rest None) h.triangles (passes h.met (passes h.untangled refl)))
+    (subst (λ ts. Meets m.points ts h.rest None) h.triangles (passes h.met refl))
 
 -- ---- the laws
 
-pub law_one_fault : OneFaultLaw
-law_one_fault halvings budget ps c a b n m h k =
-    some_same a b (answers_once halvings budget ps c (Some a) (Some b) (fault_answers halvings budget ps c a n h) (fault_answers halvings budget ps c b m k))
+no_want : (a : MeshFault) → IsForcing a → a ≢ NoMemory
+no_want a f e = subst IsForcing e f
+
+-- a forcing cause is an outcome
+forced : (a : MeshFault) → IsForcing a → outcome_of a ≡ Some a
+forced NoMemory f = absurd f
+forced (NoFill anomaly) f = absurd f
+forced a f = refl
+
+same : (a b : MeshFault) → IsForcing a → outcome_of a ≡ outcome_of b → a ≡ b
+same a (NoFill anomaly) f e = absurd (none a (sym e ∙ forced a f))
+  where
+    none : (a : MeshFault) → None ≡ Some a → ⊥
+    none a e = cc
+same a b f e = some_same a b (sym (forced a f) ∙ e)
   where
     some_same : (a b : MeshFault) → Some a ≡ Some b → a ≡ b
     some_same a b e = cc
 
+pub law_one_fault : OneFaultLaw
+law_one_fault halvings budget ps c a b f m h k =
+    same a b f (answers_once halvings budget ps c (outcome_of a) (outcome_of b) (fault_answers halvings budget ps c a (no_want a f) h) (fault_answers halvings budget ps c b m k))
+
 pub law_no_fault : NoFaultLaw
-law_no_fault o ps c m mesh a n h =
-    never a (answers_once o.halvings o.budget ps c None (Some a) (mesh_answers o ps c m mesh) (fault_answers o.halvings o.budget ps c a n h))
+law_no_fault o ps c m mesh a f h =
+    never a f (answers_once o.halvings o.budget ps c None (outcome_of a) (mesh_answers o ps c m mesh) (fault_answers o.halvings o.budget ps c a (no_want a f) h))
   where
-    never : (a : MeshFault) → None ≡ Some a → ⊥
-    never a e = cc
+    none : (a : MeshFault) → None ≡ Some a → ⊥
+    none a e = cc
+
+    never : (a : MeshFault) → IsForcing a → None ≡ outcome_of a → ⊥
+    never a f e = none a (e ∙ forced a f)

@@ -1,13 +1,12 @@
--- What comes first comes at one place: the first facet that is not flat, the first pieces and the first parts that are not properly met, the first
--- tangled row. And where all is well nothing comes first.
+-- What comes first comes at one place: the first facet that is not flat, the first pieces and the first parts that are not properly met. And where all
+-- is well nothing comes first.
 use Rattle.std.proofs.Common.{◌≡◌, ◌⊎◌, inl, inr, ℕ, ◌+◌, ◌-◌, ◌<◌, ◌≤◌, true, false, List, [], map, take, length, get_or, None, Some, ap, sym, subst, ◌∙◌, arith}
-use Rattle.std.specs.Prelude.{All, Contains}
+use Rattle.std.specs.Prelude.{All}
 use Rattle.std.proofs.lemmas.Bool.{cases_order, cases_lt}
 use Rattle.std.proofs.lemmas.List.{get_or-map, length-map, get_or_append_left, get_or-append_right, length-append, length-take-le, get_or-take}
-use Rattle.std.proofs.lemmas.List.Elements.{Contains-from_at}
 use Rattle.sign_predicates.specs.Point.{Point}
 use Rattle.geo_laws.specs.Simplex.{ProperlyMet}
-use Rattle.geo_laws.specs.Facet.{Facet, IsFlat, IsTangled, corner_numbers}
+use Rattle.geo_laws.specs.Facet.{Facet, IsFlat, corner_numbers}
 use Rattle.geo_laws.specs.declared.tetrahedra.Tet.{Tet}
 use Rattle.geo_laws.specs.declared.complex.Piece.{Piece}
 use Rattle.geo_laws.specs.declared.complex.FacetTriangle.{FacetTriangle}
@@ -21,7 +20,6 @@ use Rattle.box_pairs.specs.declared.complex_parts.Part.TheVariants.{Triangle, Se
 use Rattle.box_pairs.specs.Parts.{IsPairMet}
 use Rattle.box_pairs.specs.Pairs.{IsUnmet}
 use Rattle.box_pairs.specs.Crossing.{parts_in, AreTrianglesMet, IsFirstCrossing as IsFirstParts}
-use Rattle.facet_recover.specs.Parted.{AreTwoLeast, IsFirstTangled}
 
 -- ---- the first of places, and of pairs of places
 
@@ -187,43 +185,3 @@ parts_none ps ts pieces one two h met =
     let within : h.j < length (parts_in ts pieces) = bad.within in
     bad.unmet one
     (parts_met ps ts pieces met h.i h.j (get_or (parts_in ts pieces) h.i one) (get_or (parts_in ts pieces) h.j one) order (part_at ts pieces h.i one (omega arith)) (part_at ts pieces h.j one within))
-
--- ---- tangled rows
-
-least_once : (ps : List Point) (ts : List FacetTriangle) (t : Tet) (f g f' g' : ℕ) → AreTwoLeast ps ts t f g → AreTwoLeast ps ts t f' g' → (f ≡ f') × (g ≡ g')
-least_once ps ts t f g f' g' h k =
-    let first = one h.order k.order (h.least f' k.first) (k.least f h.first) in
-    (first, two h.order k.order first (h.least g' k.second) (k.least g h.second))
-  where
-    one : f < g → f' < g' → (f' ≡ f) ⊎ (g ≤ f') → (f ≡ f') ⊎ (g' ≤ f) → f ≡ f'
-    one l m (inl a) b = sym a
-    one l m (inr a) (inl b) = b
-    one l m (inr a) (inr b) = absurd (omega arith)
-
-    two : f < g → f' < g' → f ≡ f' → (g' ≡ f) ⊎ (g ≤ g') → (g ≡ f') ⊎ (g' ≤ g) → g ≡ g'
-    two l m e (inl a) b = absurd (omega arith)
-    two l m e (inr a) (inl b) = absurd (omega arith)
-    two l m e (inr a) (inr b) = omega arith
-
-no_row : Tet
-no_row = record { a = 0; b = 0; c = 0; d = 0 }
-
-pub tangled_once : (ps : List Point) (ts : List FacetTriangle) (rows : List Tet) (t t' : Tet) (f g f' g' : ℕ) → IsFirstTangled ps ts rows t f g → IsFirstTangled ps ts rows t' f' g' → (t ≡ t') × (f ≡ f') × (g ≡ g')
-tangled_once ps ts rows t t' f g f' g' h k =
-    let least = least_once ps ts t' f g f' g' (subst (λ u. AreTwoLeast ps ts u f g) row h.least) k.least in
-    (row, least.0, least.1)
-  where
-    bad : (u : Tet) (a b : ℕ) (m : IsFirstTangled ps ts rows u a b) → IsTangled ps ts (get_or rows m.place no_row)
-    bad u a b m = subst (IsTangled ps ts) (sym (m.is no_row)) (a, b, m.least.order, m.least.first, m.least.second)
-
-    before : (u : Tet) (a b : ℕ) (m : IsFirstTangled ps ts rows u a b) → (n : ℕ) → n < m.place → ¬ IsTangled ps ts (get_or rows n no_row)
-    before u a b m n l = all_before (λ r. ¬ IsTangled ps ts r) rows m.place n no_row m.there m.before l
-
-    same : h.place ≡ k.place
-    same = first_place (λ n. IsTangled ps ts (get_or rows n no_row)) h.place k.place (bad t f g h) (bad t' f' g' k) (before t f g h) (before t' f' g' k)
-
-    row : t ≡ t'
-    row = at_same rows h.place k.place t t' same h.is k.is
-
-pub tangled_none : (ps : List Point) (ts : List FacetTriangle) (rows : List Tet) (t : Tet) (f g : ℕ) → IsFirstTangled ps ts rows t f g → ¬ ((u : Tet) → Contains rows u → ¬ IsTangled ps ts u)
-tangled_none ps ts rows t f g h none = none t (Contains-from_at rows t (h.place, h.there, h.is)) (f, g, h.least.order, h.least.first, h.least.second)

@@ -6,7 +6,7 @@ use Rattle.box_pairs.specs.declared.crossing.PlaneFault.TheVariants as planes
 use Rattle.facet_recover.specs.declared.recover.RecoverFault.{RecoverFault}
 use Rattle.facet_recover.specs.declared.recover.RecoverFault.TheVariants as recovery
 use Rattle.complex_mesh.specs.declared.fault.MeshFault.{MeshFault}
-use Rattle.complex_mesh.specs.declared.fault.MeshFault.TheVariants.{Flat, SegmentsCross, GridEnd, BudgetEnd, Crossing, Tangled, NoMemory}
+use Rattle.complex_mesh.specs.declared.fault.MeshFault.TheVariants.{Flat, SegmentsCross, GridEnd, BudgetEnd, Crossing, NoFill, NoMemory}
 
 abbrev pub protect_fault : ProtectFault → MeshFault
 protect_fault protection.Flat = Flat
@@ -20,5 +20,5 @@ plane_fault (planes.Crossing one two) = Crossing one two
 plane_fault planes.NoMemory = NoMemory
 
 abbrev pub recover_fault : RecoverFault → MeshFault
-recover_fault (recovery.Tangled tet facet_a facet_b) = Tangled tet facet_a facet_b
+recover_fault (recovery.NoFill anomaly) = NoFill anomaly
 recover_fault recovery.NoMemory = NoMemory

@@ -7,14 +7,18 @@ use Rattle.geo_laws.specs.Delaunay.{corners, delaunay_rows, AreCoplanar}
 use Rattle.geo_laws.specs.Segment.{protect, GridEnd as GridEndOf, BudgetEnd as BudgetEndOf, is_side}
 use Rattle.geo_laws.specs.Facet.{IsFlat}
 use Rattle.geo_laws.specs.Mesh.{IsMesh}
+use Rattle.geo_laws.specs.declared.tetrahedra.Tet.{Tet}
 use Rattle.geo_laws.specs.declared.complex.Piece.{Piece}
 use Rattle.path_laws.specs.Flood.{carving_of}
 use Rattle.segment_protect.specs.Ends.{CanSplit}
 use Rattle.segment_protect.specs.Crossing as segment
 use Rattle.facet_plane.specs.Flat.{IsFirstNotFlat}
 use Rattle.box_pairs.specs.Crossing.{AreTrianglesMet, IsFirstCrossing}
-use Rattle.facet_recover.specs.Parted.{IsFirstTangled}
-use Rattle.complex_laws.specs.ComplexMesh.{IsUntangled, HasNoCrossing, IsCarved}
+use Rattle.refill_laws.specs.Refill.{IsRefill}
+use Rattle.tangle_laws.specs.Tangle.{Holds}
+use Rattle.tangle_laws.specs.Growth.{IsRefilled}
+use Rattle.facet_recover.specs.Refilled.{HasTangle}
+use Rattle.complex_laws.specs.ComplexMesh.{IsUntangled, IsCarved}
 use Rattle.complex_laws.specs.Sides.{IsInnerOf}
 use Rattle.hole_carve.specs.Marks.{AreMarks}
 use Rattle.mesh_files.specs.FaceRows.{AreFacesMet, AreFacetsThere}
@@ -22,23 +26,26 @@ use Rattle.complex_mesh.specs.Protection.{input_pieces, IsProtectedComplex, comp
 use Rattle.complex_mesh.specs.declared.mesh.MeshOptions.{MeshOptions}
 use Rattle.complex_mesh.specs.declared.mesh.ComplexMesh.{ComplexMesh}
 use Rattle.complex_mesh.specs.declared.fault.MeshFault.{MeshFault}
-use Rattle.complex_mesh.specs.declared.fault.MeshFault.TheVariants.{Flat, NotFlat, SegmentsCross, GridEnd, BudgetEnd, Crossing, Tangled, NoMemory}
+use Rattle.complex_mesh.specs.declared.fault.MeshFault.TheVariants.{Flat, NotFlat, SegmentsCross, GridEnd, BudgetEnd, Crossing, NoFill, NoMemory}
 
--- Protection ends with the mesh's points and some pieces, the triangles are exactly those of the facets, any two are properly met and each with each piece,
--- and no Delaunay row is tangled; the rows are a mesh of the complex
+-- Protection ends with the mesh's points and some pieces, the triangles are exactly those of the facets, any two are properly met and each with each piece;
+-- the rows are a mesh of the complex
 pub record IsComplexMesh (o : MeshOptions) (ps : List Point) (c : Complex) (m : ComplexMesh) : Type 0 where
   pub rest : List Piece
   pub protected : IsProtectedComplex o.halvings o.budget ps c m.points rest
   pub triangles : m.triangles ≡ complex_triangles m.points c
   pub met : AreTrianglesMet m.points m.triangles rest
-  pub untangled : IsUntangled m.points m.triangles
   pub mesh : IsMesh (carving_of o.keep_hull) m.points m.triangles c.holes m.tetrahedra
-  -- where no facet crosses a Delaunay row, the rows are those that are kept of the Delaunay list
-  pub uncrossed : HasNoCrossing m.points m.triangles → IsCarved (carving_of o.keep_hull) m.points m.triangles c.holes (delaunay_rows m.points) m.tetrahedra
+  -- The rows are those that are kept of a list that fills the hull, to which each Delaunay row belongs that no facet crosses
+  pub whole : List Tet
+  pub refilled : IsRefilled m.points m.triangles (delaunay_rows m.points) whole
+  pub carved : IsCarved (carving_of o.keep_hull) m.points m.triangles c.holes whole m.tetrahedra
+  -- where no two facets cross one Delaunay row, it is the Delaunay list with the cavities of the facets filled on both sides
+  pub by_sides : IsUntangled m.points m.triangles → IsRefill m.points m.triangles (delaunay_rows m.points) whole
   -- without facets there are none, unless the hull is kept
   pub no_facets : o.keep_hull ≡ false → c.facets ≡ [] → m.tetrahedra ≡ []
-  -- a piece with an inner point in the mesh is a side of the mesh
-  pub pieces_kept : (p : Piece) → Contains rest p → EachRational (λ x. IsInnerOf m.points p x → Any (λ t. InClosed (corners m.points t) x) m.tetrahedra → is_side m.tetrahedra p ≡ true)
+  -- where no two facets cross one Delaunay row, a piece with an inner point in the mesh is a side of the mesh
+  pub pieces_kept : IsUntangled m.points m.triangles → (p : Piece) → Contains rest p → EachRational (λ x. IsInnerOf m.points p x → Any (λ t. InClosed (corners m.points t) x) m.tetrahedra → is_side m.tetrahedra p ≡ true)
   -- each face of the mesh is properly met with each triangle, as its marker asks for
   pub faces_met : AreFacesMet m.points m.triangles m.tetrahedra
   pub facets_there : AreFacetsThere m.triangles c
@@ -46,7 +53,8 @@ pub record IsComplexMesh (o : MeshOptions) (ps : List Point) (c : Complex) (m : 
   pub marked : IsSome m.marks ↔ IsTrue o.regions
   pub marks : IfSome m.marks (AreMarks m.points m.triangles m.tetrahedra c.regions)
 
--- Why a complex has no mesh. Each cause says that none before it holds
+-- Why a complex has no mesh. Each cause says that none before it holds. The last one, an anomaly where two facets cross a Delaunay row, may hold beside others of
+-- its kind, and beside a mesh
 abbrev pub IsMeshFault : ℕ → ℕ → List Point → Complex → MeshFault → Type 0
 IsMeshFault halvings budget ps c Flat = AreCoplanar ps
 IsMeshFault halvings budget ps c (NotFlat facet four) = (¬ AreCoplanar ps) × IsFirstNotFlat ps (facets c) (record { facet = facet; four = four })
@@ -56,9 +64,9 @@ IsMeshFault halvings budget ps c (BudgetEnd made piece) =
     All (IsFlat ps) (facets c) × CanSplit ps (input_pieces ps c) × (made ≡ budget) × (protect halvings budget ps (input_pieces ps c) ≡ BudgetEndOf piece)
 IsMeshFault halvings budget ps c (Crossing one two) =
     (qs : List Point) × (rest : List Piece) × IsProtectedComplex halvings budget ps c qs rest × IsFirstCrossing qs (complex_triangles qs c) rest one two
-IsMeshFault halvings budget ps c (Tangled tet facet_a facet_b) =
+IsMeshFault halvings budget ps c (NoFill anomaly) =
     (qs : List Point) × (rest : List Piece) × IsProtectedComplex halvings budget ps c qs rest × AreTrianglesMet qs (complex_triangles qs c) rest
-    × IsFirstTangled qs (complex_triangles qs c) (delaunay_rows qs) tet facet_a facet_b
+    × HasTangle qs (complex_triangles qs c) (delaunay_rows qs) × Holds qs (complex_triangles qs c) anomaly
 IsMeshFault halvings budget ps c NoMemory = Unit {0}
 
 -- the answer is a mesh of the complex, or says why there is none

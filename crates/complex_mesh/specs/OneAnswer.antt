@@ -1,4 +1,4 @@
--- A complex has one answer: it has a mesh, or one cause why there is none.
+-- A complex has one answer: it has a mesh, or one cause why there is none. Only where facets are tangled there may be both, and several such causes.
 use Rattle.std.specs.Prelude.{◌≡◌, ◌≢◌, ℕ, List}
 use Rattle.sign_predicates.specs.Point.{Point}
 use Rattle.geo_laws.specs.Complex.{Complex}
@@ -6,14 +6,20 @@ use Rattle.complex_mesh.specs.Meshing.{IsComplexMesh, IsMeshFault}
 use Rattle.complex_mesh.specs.declared.mesh.MeshOptions.{MeshOptions}
 use Rattle.complex_mesh.specs.declared.mesh.ComplexMesh.{ComplexMesh}
 use Rattle.complex_mesh.specs.declared.fault.MeshFault.{MeshFault}
-use Rattle.complex_mesh.specs.declared.fault.MeshFault.TheVariants.{NoMemory}
+use Rattle.complex_mesh.specs.declared.fault.MeshFault.TheVariants.{NoFill, NoMemory}
 
--- Besides want of memory, at most one cause holds
+-- The cause forces its answer: it is neither want of memory nor an anomaly, which only permit theirs
+abbrev pub IsForcing : MeshFault → Type 0
+IsForcing NoMemory = ⊥
+IsForcing (NoFill anomaly) = ⊥
+IsForcing fault = Unit {0}
+
+-- Beside a forcing cause no other one holds but want of memory, also no anomaly
 abbrev pub OneFaultLaw : Type 0
-OneFaultLaw = (halvings budget : ℕ) (ps : List Point) (c : Complex) (a b : MeshFault) → a ≢ NoMemory → b ≢ NoMemory
+OneFaultLaw = (halvings budget : ℕ) (ps : List Point) (c : Complex) (a b : MeshFault) → IsForcing a → b ≢ NoMemory
     → IsMeshFault halvings budget ps c a → IsMeshFault halvings budget ps c b → a ≡ b
 
--- And where there is a mesh none holds
+-- And where there is a mesh no forcing cause holds
 abbrev pub NoFaultLaw : Type 0
 NoFaultLaw = (o : MeshOptions) (ps : List Point) (c : Complex) (m : ComplexMesh) → IsComplexMesh o ps c m
-    → (a : MeshFault) → a ≢ NoMemory → ¬ IsMeshFault o.halvings o.budget ps c a
+    → (a : MeshFault) → IsForcing a → ¬ IsMeshFault o.halvings o.budget ps c a

@@ -10,9 +10,11 @@ use Rattle.facet_laws.specs.Region.{HasPiecesOf}
 use Rattle.facet_plane.specs.Corners.{HasCornersOf}
 use Rattle.segment_protect.specs.Spots.{HasTwoEnds}
 use Rattle.box_pairs.specs.Crossing.{IsFirstCrossing}
-use Rattle.facet_recover.specs.Parted.{IsFirstTangled}
+use Rattle.facet_recover.specs.Refilled.{HasTangle}
 use Rattle.complex_mesh.specs.Protection.{complex_triangles}
 use Rattle.refill_laws.specs.Refill.{IsRefill}
+use Rattle.tangle_laws.specs.Tangle.{Holds}
+use Rattle.tangle_laws.specs.Growth.{IsRefilled}
 use Rattle.path_laws.specs.KeptMesh.{IsWholeMesh}
 use Rattle.complex_laws.specs.ComplexMesh.{IsUntangled, IsCarved}
 use Rattle.hole_carve.specs.Marks.{AreMarks}
@@ -21,7 +23,7 @@ use Rattle.geo_laws.specs.declared.tetrahedra.Tet.{Tet}
 use Rattle.complex_mesh.specs.declared.mesh.MeshOptions.{MeshOptions}
 use Rattle.complex_mesh.specs.declared.mesh.ComplexMesh.{ComplexMesh}
 use Rattle.complex_mesh.specs.declared.fault.MeshFault.{MeshFault}
-use Rattle.complex_mesh.specs.declared.fault.MeshFault.TheVariants.{Crossing, Tangled, NoMemory}
+use Rattle.complex_mesh.specs.declared.fault.MeshFault.TheVariants.{Crossing, NoFill, NoMemory}
 
 -- the points after protection, with pieces that have two ends: flat facets, whose pieces are sides of Delaunay rows
 pub record HasSoundFacets (qs : List Point) (rest : List Piece) (c : Complex) : Type 0 where
@@ -38,15 +40,15 @@ IsCrossingFault qs rest c (Crossing one two) = IsFirstCrossing qs (complex_trian
 IsCrossingFault qs rest c NoMemory = Unit {0}
 IsCrossingFault qs rest c _ = ⊥
 
--- no row is tangled, and the whole list is the Delaunay list filled again: it fills the hull and has the facets as faces
+-- the whole list is the Delaunay list filled again: it fills the hull and has the facets as faces
 pub record IsRecovered (qs : List Point) (ts : List FacetTriangle) (whole : List Tet) : Type 0 where
-  pub untangled : IsUntangled qs ts
-  pub refill : IsRefill qs ts (delaunay_rows qs) whole
+  pub refilled : IsRefilled qs ts (delaunay_rows qs) whole
+  pub by_sides : IsUntangled qs ts → IsRefill qs ts (delaunay_rows qs) whole
   pub whole_mesh : IsWholeMesh qs ts whole
 
--- the fault names the first tangled row
+-- the fault carries an anomaly, where a row is tangled
 abbrev pub IsTangleFault : List Point → List FacetTriangle → MeshFault → Type 0
-IsTangleFault qs ts (Tangled tet facet_a facet_b) = IsFirstTangled qs ts (delaunay_rows qs) tet facet_a facet_b
+IsTangleFault qs ts (NoFill anomaly) = HasTangle qs ts (delaunay_rows qs) × Holds qs ts anomaly
 IsTangleFault qs ts NoMemory = Unit {0}
 IsTangleFault qs ts _ = ⊥
 

@@ -4,6 +4,7 @@ use facet_plane::NotFlat;
 use facet_recover::RecoverFault;
 use geo_laws::{Piece, Tet};
 use segment_protect::ProtectFault;
+use tangle_laws::Anomaly;
 use tet_ports::NoMemory;
 
 /// Why a complex has no mesh. Points are named by their numbers and facets by their places in the complex, both from 0.
@@ -12,35 +13,17 @@ pub enum MeshFault {
     /// All points lie in one plane.
     Flat,
     /// Four corners of this facet, the first such facet, are not in one plane.
-    NotFlat {
-        facet: u32,
-        four: Tet,
-    },
+    NotFlat { facet: u32, four: Tet },
     /// These two pieces of segments, the first such two, have a common point that is no common end.
-    SegmentsCross {
-        one: Piece,
-        two: Piece,
-    },
+    SegmentsCross { one: Piece, two: Piece },
     /// This piece is no side of a Delaunay tetrahedron, and was halved as often as the grid allows.
-    GridEnd {
-        piece: Piece,
-    },
+    GridEnd { piece: Piece },
     /// This piece is no side of a Delaunay tetrahedron, and as many points were added as allowed.
-    BudgetEnd {
-        made: u32,
-        piece: Piece,
-    },
+    BudgetEnd { made: u32, piece: Piece },
     /// A triangle of a facet and another one or a piece, the first such two, have a common point that is not in the hull of their common corners.
-    Crossing {
-        one: Part,
-        two: Part,
-    },
-    /// This Delaunay tetrahedron, the first such one, is crossed by two facets or more, of which these are the least two.
-    Tangled {
-        tet: Tet,
-        facet_a: u32,
-        facet_b: u32,
-    },
+    Crossing { one: Part, two: Part },
+    /// Two facets cross a Delaunay tetrahedron, and this stands against tetrahedra grown round the facets.
+    NoFill { anomaly: Anomaly },
     /// Memory ran out.
     NoMemory,
 }
@@ -109,15 +92,7 @@ impl From<RecoverFault> for MeshFault {
 
     fn from(cause: RecoverFault) -> MeshFault {
         match cause {
-            RecoverFault::Tangled {
-                tet,
-                facet_a,
-                facet_b,
-            } => MeshFault::Tangled {
-                tet,
-                facet_a,
-                facet_b,
-            },
+            RecoverFault::NoFill { anomaly } => MeshFault::NoFill { anomaly },
             RecoverFault::NoMemory => MeshFault::NoMemory,
         }
     }

@@ -13,12 +13,13 @@ use std::alloc::Global;
 
 /// The mesh of a complex: points are added on segments until each piece of these is a side of a Delaunay tetrahedron; each facet's triangles are those of
 /// its plane's Delaunay triangulation; the Delaunay tetrahedra that a facet crosses are replaced, on each side of the facet's plane, by those of the
-/// cavity's corners on that side; and what a free path joins with the outside, where the hull isn't kept, or with a hole point is carved away.
+/// cavity's corners on that side, or where two facets cross one, by tetrahedra grown from face to face; and what a free path joins with the outside, where
+/// the hull isn't kept, or with a hole point is carved away.
 ///
-/// The answer is the mesh exactly where the memory is enough and no cause holds of the following, else the first of these: all points lie in one plane
+/// The answer is the mesh where the memory is enough and no cause holds of the following, else the first of these: all points lie in one plane
 /// (`Flat`); a facet is not flat (`NotFlat`); two pieces of segments are not properly met (`SegmentsCross`); protection ends at a missing piece that may
 /// not be halved again (`GridEnd`), or after as many added points as allowed (`BudgetEnd`); two triangles, or a triangle and a piece, are not properly met
-/// (`Crossing`); two facets cross a Delaunay tetrahedron (`Tangled`).
+/// (`Crossing`). Where two facets cross a Delaunay tetrahedron, the answer is the mesh, or an anomaly that stands against it (`NoFill`).
 ///
 /// Source: constrained Delaunay tetrahedralizations of a complex whose segments are protected (Shewchuk, 2002).
 pub fn mesh_complex(
@@ -32,7 +33,7 @@ pub fn mesh_complex(
 {
     let protected = protected_complex(alloc, points, complex, options.halvings, options.budget)?;
     let triangles = met_triangles(alloc, &protected.points, &protected.pieces, complex)?;
-    let whole = recovered(alloc, &protected.points, &triangles)?;
+    let whole = recovered(alloc, &protected.points, &protected.tetrahedra, &triangles)?;
     let mesh = kept_mesh(alloc, protected.points, triangles, &whole, complex, options)?;
     Ok(mesh)
 }

@@ -1,5 +1,6 @@
 //! The points and pieces after protection.
 ghost use Rattle.std.specs.Prelude.{MatchResult};
+ghost use Rattle.segment_protect.specs.Ends.{HasDelaunayList};
 ghost use Rattle.complex_mesh.specs.Protection.{IsMeshable, IsProtectedComplex};
 ghost use Rattle.complex_mesh.specs.Meshing.{IsMeshFault};
 
@@ -10,8 +11,8 @@ use plc_files::segments;
 use segment_protect::{Protected, pieces, protect};
 use std::alloc::Global;
 
-/// The points, with those that are added on segments of the complex, and the pieces of these: each is a side of a Delaunay tetrahedron. A segment is
-/// halved so often at most, and so many points are added.
+/// The points, with those that are added on segments of the complex, and the pieces of these: each is a side of the Delaunay list, which is there too. A
+/// segment is halved so often at most, and so many points are added.
 pub(crate) fn protected_complex(
     alloc: Global,
     points: Points,
@@ -20,7 +21,7 @@ pub(crate) fn protected_complex(
     budget: u32,
 ) -> Result<Protected, MeshFault>
     requires { IsMeshable halvings budget points complex.now }
-    ensures { MatchResult result (λ p. IsProtectedComplex halvings budget points complex.now p.points p.pieces) (IsMeshFault halvings budget points complex.now) }
+    ensures { MatchResult result (λ p. IsProtectedComplex halvings budget points complex.now p.points p.pieces × HasDelaunayList p) (IsMeshFault halvings budget points complex.now) }
 {
     check_flat(&points, complex)?;
     let segments = segments(alloc, complex)?;

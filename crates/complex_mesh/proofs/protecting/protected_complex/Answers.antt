@@ -25,9 +25,11 @@ returns-in_err-protected c =
 
 pub returns : goal.returns
 returns c =
-    let e = pieces_are c.args.points c.args.complex.now c.in_ok-segments.segments c.in_ok-pieces.pieces c.in_ok-segments.ensures c.in_ok-pieces.ensures.list in
-    record {
-      flat = c.in_ok-check_flat.ensures.flat;
-      can_split = subst (CanSplit c.args.points) e c.in_ok-protected.ensures.0;
-      ends = sym (ap (protect c.args.halvings c.args.budget c.args.points) e) ∙ c.in_ok-protected.ensures.1;
-    }
+    let e = pieces_are c.args.points c.args.complex.now c.in_ok-segments.segments c.in_ok-pieces.pieces c.in_ok-segments.ensures c.in_ok-pieces.ensures.list in (
+      record {
+        flat = c.in_ok-check_flat.ensures.flat;
+        can_split = subst (CanSplit c.args.points) e c.in_ok-protected.ensures.0;
+        ends = sym (ap (protect c.args.halvings c.args.budget c.args.points) e) ∙ c.in_ok-protected.ensures.1;
+      },
+      c.in_ok-protected.ensures.2,
+    )
