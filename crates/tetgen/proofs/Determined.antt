@@ -1,5 +1,5 @@
 -- The outputs of a mesh are a function of the options and of the mesh.
-use Rattle.std.proofs.Common.{◌≡◌, ◌⊎◌, inl, inr, ℕ, zero, suc, ◌<◌, Bool, true, false, not, ◌||◌, ◌&&◌, List, [], ◌∷◌, length, Option, Some, None, if◌then◌else◌, refl, sym, ap, ◌∙◌, subst, arith}
+use Rattle.std.proofs.Common.{◌≡◌, ◌⊎◌, inl, inr, ℕ, suc, ◌<◌, Bool, true, false, not, ◌||◌, ◌&&◌, List, [], ◌∷◌, length, Some, None, if◌then◌else◌, refl, sym, ap, ◌∙◌, subst, arith}
 use Rattle.std.specs.Prelude.{AllPairs, Contains, ◌↔◌, codes}
 use Rattle.std.proofs.lemmas.Bool.{true≢false}
 use Rattle.geo_laws.specs.Faces.{FaceBefore, SideBefore, faces_of_rows, sides_of_rows}

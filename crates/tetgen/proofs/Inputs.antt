@@ -1,9 +1,8 @@
 -- Points alone are a sound input.
-use Rattle.std.proofs.Common.{◌≡◌, ◌<◌, None, length, refl, arith}
+use Rattle.std.proofs.Common.{refl, arith}
 use Rattle.node_files.specs.Node.{IsNodeText}
 use Rattle.node_files.specs.declared.node_text.NodeText.{NodeText}
-use Rattle.plc_files.specs.Checks.{HasFewParts, corners_check, first_fault}
-use Rattle.plc_files.specs.Text.{plc_with}
+use Rattle.plc_files.specs.Checks.{first_fault}
 use Rattle.tetgen.specs.Reading.{points_alone, IsSound}
 
 pub alone_sound : (nodes : NodeText) → IsNodeText nodes → IsSound (points_alone nodes)

@@ -1,5 +1,5 @@
 -- What the mesh of a complex is made of, from its points and its facets on their grid.
-use Rattle.std.proofs.Common.{length-drop, drop, ◌≡◌, ◌≤◌, ◌<◌, ◌+◌, ◌-◌, ◌^◌, pos, ℕ, zero, suc, Bool, true, false, List, length, map, Option, Some, None, IfSome, All, refl, sym, ap, subst, ◌∙◌, arith}
+use Rattle.std.proofs.Common.{length-drop, drop, ◌≡◌, ◌≤◌, ◌<◌, ◌^◌, pos, ℕ, List, length, map, Option, Some, None, IfSome, All, refl, sym, ap, subst, ◌∙◌, arith}
 use Rattle.std.proofs.lemmas.List.{get_or-map, length-map, get_or_default}
 use Rattle.std.specs.Prelude.{slice_index_or}
 use Rattle.command_words.specs.Meaning.{AreInRange}
@@ -13,7 +13,6 @@ use Rattle.hole_carve.specs.Marks.{AreMarks, IsFirstOf, mark_at}
 use Rattle.geo_laws.specs.Complex.{Complex}
 use Rattle.geo_laws.specs.Delaunay.{point}
 use Rattle.grid_coords.specs.Units.{grid_point}
-use Rattle.grid_coords.specs.declared.grid.Grid.{Grid}
 use Rattle.grid_coords.specs.declared.points.DecimalPoint.{DecimalPoint}
 use Rattle.node_files.specs.Settling.{IsSettled, rounded_points, rounded_point, most_points}
 use Rattle.node_files.specs.Writing.{IsNodeTable}

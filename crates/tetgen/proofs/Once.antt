@@ -4,12 +4,12 @@ use Rattle.std.proofs.lemmas.Bool.{cases_order}
 use Rattle.std.specs.FinMap as map_of
 use Rattle.std.specs.Prelude.{◌≢◌, map}
 use Rattle.command_words.specs.Grammar.{words_fault}
-use Rattle.command_words.specs.Meaning.{options_of}
 use Rattle.command_words.specs.Names.{file_name}
 use Rattle.command_words.specs.declared.options.Extension.{Extension}
 use Rattle.command_words.specs.declared.options.Extension.TheVariants.{Node, Poly, Smesh}
 use Rattle.command_words.specs.declared.options.Options.{Options}
 use Rattle.complex_mesh.proofs.OneAnswer.{law_one_fault, law_no_fault}
+use Rattle.complex_mesh.specs.OneAnswer.{IsForcing}
 use Rattle.complex_mesh.specs.declared.fault.MeshFault.{MeshFault}
 use Rattle.complex_mesh.specs.declared.fault.MeshFault.TheVariants as mesh_faults
 use Rattle.geo_laws.specs.Delaunay.{AreCoplanar, point}
@@ -23,7 +23,6 @@ use Rattle.node_files.specs.declared.table.NodeTable.{NodeTable}
 use Rattle.plc_files.specs.Binding.{IsBound, HasManyFacets, HasLongPolygon, complex_of}
 use Rattle.plc_files.specs.Checks.{corners_check}
 use Rattle.plc_files.specs.Sample.{sample_of}
-use Rattle.plc_files.specs.Text.{plc_with}
 use Rattle.plc_files.specs.declared.fault.PlcFault.{PlcFault}
 use Rattle.plc_files.specs.declared.fault.PlcFault.TheVariants as plc_faults
 use Rattle.sign_predicates.specs.Point.{Point}
@@ -33,7 +32,7 @@ use Rattle.tet_text.specs.declared.fault.TextFault.{TextFault}
 use Rattle.tetgen.specs.Codes.{status_of_fault}
 use Rattle.tetgen.specs.Meshing.{grid_options, mesh_options, IsSmall, BoundAnswer, IsFlatRefusal, MeshOf, MeshAnswer, OutputsAnswer, MeshedAnswer}
 use Rattle.tetgen.specs.Reading.{complex_file, points_alone, on_points, most_bytes, node_text_of, plc_text_of, IsUsage, WordsAnswer, FetchAnswer, IsBadText, TextAnswer, PointsAnswer, FormAnswer, ComplexFileAnswer, SourceAnswer, NodesAnswer, BoundedAnswer, InputOf, InputAnswer}
-use Rattle.tetgen.specs.Run.{OutputsOfRun}
+use Rattle.tetgen.specs.Run.{OutputsOfRun, forced_answer}
 use Rattle.tetgen.specs.Seen.{FolderSeen}
 use Rattle.tetgen.specs.Steps.{AndThen, IfMissing, Gives}
 use Rattle.tetgen.specs.declared.input.ComplexFile.{ComplexFile}
@@ -41,7 +40,7 @@ use Rattle.tetgen.specs.declared.input.Input.{Input}
 use Rattle.tetgen.specs.declared.mesh.Bound.{Bound}
 use Rattle.tetgen.specs.declared.status.LimitKind.TheVariants.{Bytes as TooLong, Points, Facets, Corners, Grid as OnGrid}
 use Rattle.tetgen.specs.declared.status.Status.{Status}
-use Rattle.tetgen.specs.declared.status.Status.TheVariants.{Usage, Missing, ReadFault, BadText, Limit, Twin, Flat, NoMemory}
+use Rattle.tetgen.specs.declared.status.Status.TheVariants.{Done, Usage, Missing, ReadFault, BadText, Limit, Twin, Flat, NoMemory}
 use Rattle.tetgen.proofs.Steps.{IsDecided, IsOnce, IsSame, gives_once, if_missing_once, and_then_once, and_then_same, and_then_sure}
 
 -- ---- the words
@@ -312,18 +311,40 @@ flat_is bound Flat n h = (h, refl)
 flat_is bound NoMemory n h = absurd (n refl)
 flat_is bound s n h = absurd h
 
+-- the status of a cause, as it is forced
+abbrev forced_fault : MeshFault → Status
+forced_fault fault = forced_answer (status_of_fault fault)
+
+-- a cause that stands beside a mesh
+beside_mesh : (f : MeshFault) → f ≢ mesh_faults.NoMemory → ¬ IsForcing f → Done ≡ forced_fault f
+beside_mesh (mesh_faults.NoFill anomaly) n never = refl
+beside_mesh mesh_faults.NoMemory n never = absurd (n refl)
+beside_mesh f n never = absurd (never tt)
+
+-- two causes that stand beside each other
+beside_fault : (f g : MeshFault) → f ≢ mesh_faults.NoMemory → g ≢ mesh_faults.NoMemory → (IsForcing f → f ≡ g) → (IsForcing g → g ≡ f) → forced_fault f ≡ forced_fault g
+beside_fault (mesh_faults.NoFill anomaly) (mesh_faults.NoFill other) n m to from = refl
+beside_fault (mesh_faults.NoFill anomaly) mesh_faults.NoMemory n m to from = absurd (m refl)
+beside_fault (mesh_faults.NoFill anomaly) g n m to from = ap forced_fault (sym (from tt))
+beside_fault mesh_faults.NoMemory g n m to from = absurd (n refl)
+beside_fault f g n m to from = ap forced_fault (to tt)
+
 mesh_of_same : (options : Options) (bound : Bound) (piecewise : Bool) → IsSame (MeshOf piecewise options bound)
 mesh_of_same options bound false (Ok a) (Ok b) n m h k = refl
 mesh_of_same options bound false (Ok a) (Err t) n m h k = absurd (h.0 (flat_is bound t m k).0)
 mesh_of_same options bound false (Err s) (Ok b) n m h k = absurd (k.0 (flat_is bound s n h).0)
-mesh_of_same options bound false (Err s) (Err t) n m h k = (flat_is bound s n h).1 ∙ sym (flat_is bound t m k).1
+mesh_of_same options bound false (Err s) (Err t) n m h k = ap forced_answer ((flat_is bound s n h).1 ∙ sym (flat_is bound t m k).1)
 mesh_of_same options bound true (Ok a) (Ok b) n m h k = refl
 mesh_of_same options bound true (Ok a) (Err t) n m h k =
-    absurd (law_no_fault (mesh_options options bound.table) bound.table.points bound.complex h.0 h.1 k.0 (no_want k.0 t k.1 m) k.2)
+    beside_mesh k.0 (no_want k.0 t k.1 m) (λ f. law_no_fault (mesh_options options bound.table) bound.table.points bound.complex h.0 h.1 k.0 f k.2) ∙ sym (ap forced_answer k.1)
 mesh_of_same options bound true (Err s) (Ok b) n m h k =
-    absurd (law_no_fault (mesh_options options bound.table) bound.table.points bound.complex k.0 k.1 h.0 (no_want h.0 s h.1 n) h.2)
+    ap forced_answer h.1 ∙ sym (beside_mesh h.0 (no_want h.0 s h.1 n) (λ f. law_no_fault (mesh_options options bound.table) bound.table.points bound.complex k.0 k.1 h.0 f h.2))
 mesh_of_same options bound true (Err s) (Err t) n m h k =
-    h.1 ∙ ap status_of_fault (law_one_fault bound.table.grid.halvings options.budget bound.table.points bound.complex h.0 k.0 (no_want h.0 s h.1 n) (no_want k.0 t k.1 m) h.2 k.2) ∙ sym k.1
+    let want = no_want h.0 s h.1 n in
+    let wants = no_want k.0 t k.1 m in
+    ap forced_answer h.1
+    ∙ beside_fault h.0 k.0 want wants (λ f. law_one_fault bound.table.grid.halvings options.budget bound.table.points bound.complex h.0 k.0 f wants h.2 k.2)
+    (λ f. law_one_fault bound.table.grid.halvings options.budget bound.table.points bound.complex k.0 h.0 f want k.2 h.2) ∙ sym (ap forced_answer k.1)
 
 -- ---- the run
 

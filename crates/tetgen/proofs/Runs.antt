@@ -1,6 +1,6 @@
 -- What a run leaves, answers and tells, put together.
-use Rattle.std.proofs.Common.{◌≡◌, ◌≤◌, ◌<◌, ◌⊎◌, inl, inr, ℕ, Bool, true, false, List, [], ◌∷◌, ◌++◌, length, Option, Some, None, Result, Ok, Err, if◌then◌else◌, refl, sym, ap, subst, ◌∙◌, arith}
-use Rattle.std.specs.Prelude.{◌≢◌, IsTrue, All, Contains, codes, not, ◌||◌}
+use Rattle.std.proofs.Common.{◌≡◌, ◌≤◌, inl, inr, ℕ, Bool, true, false, List, [], ◌∷◌, ◌++◌, length, Option, Some, None, Result, Ok, Err, if◌then◌else◌, refl, sym, subst, ◌∙◌, arith}
+use Rattle.std.specs.Prelude.{◌≢◌, IsTrue, All, codes, not, ◌||◌}
 use Rattle.std.proofs.lemmas.List.Elements.{All-nil, All-cons, All-append, All-contains}
 use Rattle.std.proofs.lemmas.List.{append-nil}
 use Rattle.command_words.specs.Grammar.{words_fault}
@@ -20,16 +20,14 @@ use Rattle.geo_laws.proofs.DelaunayList.{triangulation_of_rows, law_delaunay_lis
 use Rattle.node_files.specs.declared.node_text.NodeText.{NodeText}
 use Rattle.path_laws.specs.Flood.{carving_of}
 use Rattle.plc_files.specs.Checks.{corners_check}
-use Rattle.plc_files.specs.Text.{plc_with}
 use Rattle.tet_ports.specs.Counts.{Rose}
-use Rattle.tet_ports.specs.Files.{Files}
 use Rattle.tet_text.specs.declared.fault.TextFault.{TextFault}
 use Rattle.tetgen.specs.Codes.{status_of_fault}
 use Rattle.tetgen.specs.Messages.{message_of}
-use Rattle.tetgen.specs.Meshing.{BoundAnswer, IsUnbound, MeshOf, MeshAnswer, IsFlatRefusal, OutputsAnswer, MeshedAnswer, mesh_of_points, mesh_of_complex}
+use Rattle.tetgen.specs.Meshing.{BoundAnswer, IsUnbound, MeshOf, MeshAnswer, IsFlatRefusal, OutputsAnswer, MeshedAnswer}
 use Rattle.tetgen.specs.Outputs.{named, AreOutputsOf}
 use Rattle.tetgen.specs.Reading.{complex_file, points_alone, on_points, WordsAnswer, FetchAnswer, TextAnswer, PointsAnswer, FormAnswer, ComplexFileAnswer, SourceAnswer, NodesAnswer, BoundedAnswer, InputOf, InputAnswer, IsUsage, IsUnfetched, IsBadText, node_text_of, plc_text_of}
-use Rattle.tetgen.specs.Run.{OutputsOfRun, IsAnswer, IsComplete, IsLeft, IsMeshOfRun, IsUnchanged, IsTold, IsPut, IsNumbering, IsToldAs, IsEarly, IsSummed, IsTellable, EndsSo, answer_of, numbering_of, HasNoFault, carving_by, names_points}
+use Rattle.tetgen.specs.Run.{OutputsOfRun, IsAnswer, IsComplete, IsLeft, IsMeshOfRun, IsUnchanged, IsTold, IsPut, IsNumbering, IsToldAs, IsEarly, IsSummed, IsTellable, EndsSo, answer_of, numbering_of, HasNoFault, forced_answer, names_points}
 use Rattle.tetgen.specs.Seen.{FolderSeen, SinkSeen}
 use Rattle.tetgen.specs.Stops.{stop_of_words, stop_of_store}
 use Rattle.tetgen.specs.Stores.{given, in_order, with_files, AreLeft, IfFailed, TellsFailure}
@@ -156,7 +154,7 @@ fault_refuses (fault.SegmentsCross one two) = tt
 fault_refuses (fault.GridEnd piece) = tt
 fault_refuses (fault.BudgetEnd made piece) = tt
 fault_refuses (fault.Crossing one two) = tt
-fault_refuses (fault.Tangled tet facet_a facet_b) = tt
+fault_refuses (fault.NoFill anomaly) = tt
 fault_refuses fault.NoMemory = tt
 
 flat_refuses : (bound : Bound) (s : Status) → IsFlatRefusal bound s → IsRefusal s
@@ -195,7 +193,7 @@ record Outcome (words : List (List ℕ)) (folder : FolderSeen) (s : Status) : Ty
   result : Result Outputs Status
   ran : OutputsOfRun words folder result
   decided : IsDecided result
-  is : s ≡ status_of result
+  is : forced_answer s ≡ status_of result
 
 outcome_of : (words : List (List ℕ)) (folder : FolderSeen) (out : SinkSeen) (s : Status) → HasNoFault folder out → s ≢ NoMemory → IsAnswer words folder out s → Outcome words folder s
 outcome_of words folder out Done f n h = record { result = Ok h.0; ran = h.1; decided = tt; is = refl }

@@ -1,5 +1,6 @@
 -- Steps one after another: each answers in one way at most, if it does not want memory.
-use Rattle.std.proofs.Common.{◌≡◌, ◌≢◌, ◌⊎◌, inl, inr, ℕ, List, Result, Ok, Err, refl, subst, sym, ap, ◌∙◌}
+use Rattle.std.proofs.Common.{◌≡◌, ◌≢◌, inl, inr, ℕ, List, Result, Ok, Err, refl, subst, sym, ap, ◌∙◌}
+use Rattle.tetgen.specs.Run.{forced_answer}
 use Rattle.tetgen.specs.Steps.{AndThen, IsFound, IfMissing, Gives}
 use Rattle.tetgen.specs.declared.status.Status.{Status}
 use Rattle.tetgen.specs.declared.status.Status.TheVariants.{Done, Missing, NoMemory}
@@ -69,10 +70,10 @@ if_missing_once first second one two r s n m (inr f) (inr g) = two r s n m f.2 g
 
 -- ---- steps that answer with one status
 
--- the status of an answer: Done where there is a value
+-- the status of an answer, as it is forced: Done where there is a value
 abbrev pub status_of : {A : Type 0} → Result A Status → Status
 status_of (Ok a) = Done
-status_of (Err status) = status
+status_of (Err status) = forced_answer status
 
 -- any two answers of the step have one status
 abbrev pub IsSame : {A : Type 0} → (Result A Status → Type 0) → Type 0

@@ -3,7 +3,7 @@ use Rattle.std.specs.Prelude.{ℕ}
 use Rattle.complex_mesh.specs.declared.fault.MeshFault.{MeshFault}
 use Rattle.complex_mesh.specs.declared.fault.MeshFault.TheVariants as fault
 use Rattle.tetgen.specs.declared.status.Status.{Status}
-use Rattle.tetgen.specs.declared.status.Status.TheVariants.{Done, Usage, Missing, ReadFault, BadText, Limit, Twin, Flat, NotFlat, SegmentsCross, Crossing, GridEnd, BudgetEnd, Tangled, NoMemory, WriteFault}
+use Rattle.tetgen.specs.declared.status.Status.TheVariants.{Done, Usage, Missing, ReadFault, BadText, Limit, Twin, Flat, NotFlat, SegmentsCross, Crossing, GridEnd, BudgetEnd, NoFill, NoMemory, WriteFault}
 
 abbrev pub code_of : Status → ℕ
 code_of Done = 0
@@ -19,7 +19,7 @@ code_of (SegmentsCross one two) = 6
 code_of (Crossing one two) = 6
 code_of (GridEnd piece) = 7
 code_of (BudgetEnd made piece) = 8
-code_of (Tangled tet facet_a facet_b) = 9
+code_of (NoFill anomaly) = 9
 code_of NoMemory = 10
 code_of (WriteFault name) = 11
 
@@ -30,5 +30,5 @@ status_of_fault (fault.SegmentsCross one two) = SegmentsCross one two
 status_of_fault (fault.GridEnd piece) = GridEnd piece
 status_of_fault (fault.BudgetEnd made piece) = BudgetEnd made piece
 status_of_fault (fault.Crossing one two) = Crossing one two
-status_of_fault (fault.Tangled tet facet_a facet_b) = Tangled tet facet_a facet_b
+status_of_fault (fault.NoFill anomaly) = NoFill anomaly
 status_of_fault fault.NoMemory = NoMemory

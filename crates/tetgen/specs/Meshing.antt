@@ -1,5 +1,5 @@
 -- What a run makes of its input.
-use Rattle.std.specs.Prelude.{◌≡◌, ℕ, ◌≤◌, Bool, true, false, List, [], length, drop, Option, None, Result, Ok, Err}
+use Rattle.std.specs.Prelude.{◌≡◌, ◌≤◌, Bool, true, false, [], length, drop, None, Result, Ok, Err}
 use Rattle.command_words.specs.declared.options.Options.{Options}
 use Rattle.complex_mesh.specs.Meshing.{IsComplexMesh, IsMeshFault}
 use Rattle.complex_mesh.specs.Protection.{IsMeshable}
@@ -8,7 +8,6 @@ use Rattle.complex_mesh.specs.declared.mesh.ComplexMesh.{ComplexMesh}
 use Rattle.complex_mesh.specs.declared.mesh.MeshOptions.{MeshOptions}
 use Rattle.geo_laws.specs.Complex.{empty_complex}
 use Rattle.geo_laws.specs.Delaunay.{AreCoplanar, delaunay_rows}
-use Rattle.geo_laws.specs.declared.tetrahedra.Tet.{Tet}
 use Rattle.node_files.specs.Settling.{IsSettled, IsTooMany, IsOffGrid, HasTwin, most_points}
 use Rattle.node_files.specs.Writing.{IsNodeTable}
 use Rattle.node_files.specs.declared.table.GridOptions.{GridOptions}

@@ -6,13 +6,15 @@ use Rattle.box_pairs.specs.declared.complex_parts.Part.TheVariants.{Triangle, Se
 use Rattle.geo_laws.specs.declared.complex.FacetTriangle.{FacetTriangle}
 use Rattle.geo_laws.specs.declared.complex.Piece.{Piece}
 use Rattle.geo_laws.specs.declared.tetrahedra.Tet.{Tet}
+use Rattle.tangle_laws.specs.declared.anomaly.Anomaly.{Anomaly}
+use Rattle.tangle_laws.specs.declared.anomaly.Anomaly.TheVariants.{Bare, Doubled, Bent}
 use Rattle.tet_text.specs.declared.fault.TextFault.{TextFault}
 use Rattle.tet_text.specs.declared.fault.TextKind.{TextKind}
 use Rattle.tet_text.specs.declared.fault.TextKind.TheVariants.{Ended, NotANumber, Extra, BadCount, BadIndex}
 use Rattle.tetgen.specs.declared.status.LimitKind.{LimitKind}
 use Rattle.tetgen.specs.declared.status.LimitKind.TheVariants.{Bytes, Points, Facets, Corners, Grid}
 use Rattle.tetgen.specs.declared.status.Status.{Status}
-use Rattle.tetgen.specs.declared.status.Status.TheVariants.{Done, Usage, Missing, ReadFault, BadText, Limit, Twin, Flat, NotFlat, SegmentsCross, Crossing, GridEnd, BudgetEnd, Tangled, NoMemory, WriteFault}
+use Rattle.tetgen.specs.declared.status.Status.TheVariants.{Done, Usage, Missing, ReadFault, BadText, Limit, Twin, Flat, NotFlat, SegmentsCross, Crossing, GridEnd, BudgetEnd, NoFill, NoMemory, WriteFault}
 
 -- ---- parts of a line
 
@@ -36,6 +38,15 @@ triangle_text from t = point_text from t.a ++ point_text from t.b ++ point_text 
 
 abbrev pub tetrahedron_text : ℕ → Tet → List ℕ
 tetrahedron_text from t = point_text from t.a ++ point_text from t.b ++ point_text from t.c ++ point_text from t.d
+
+abbrev pub two_tetrahedra_text : ℕ → Tet → Tet → List ℕ
+two_tetrahedra_text from s t = tetrahedron_text from s ++ codes " and" ++ tetrahedron_text from t
+
+-- what stands against a filling
+abbrev pub anomaly_text : ℕ → Anomaly → List ℕ
+anomaly_text from (Bare f) = codes "no filling at face" ++ point_text from f.a ++ point_text from f.b ++ point_text from f.c
+anomaly_text from (Doubled one two) = codes "two fillings" ++ two_tetrahedra_text from one two
+anomaly_text from (Bent one two) = codes "bent fillings" ++ two_tetrahedra_text from one two
 
 -- a facet by its number
 abbrev pub facet_text : ℕ → List ℕ
@@ -84,8 +95,7 @@ message_of from (SegmentsCross one two) = line (codes "segments" ++ ends_text fr
 message_of from (Crossing one two) = line (codes "crossing: " ++ part_text from one ++ codes " and " ++ part_text from two)
 message_of from (GridEnd piece) = line (codes "segment" ++ ends_text from piece ++ codes " needs a finer grid")
 message_of from (BudgetEnd made piece) = line (decimal made ++ codes " splits used, segment" ++ ends_text from piece ++ codes " is missing")
-message_of from (Tangled tet facet_a facet_b) =
-    line (codes "facets " ++ facet_text facet_a ++ codes " and " ++ facet_text facet_b ++ codes " meet in tetrahedron" ++ tetrahedron_text from tet)
+message_of from (NoFill anomaly) = line (anomaly_text from anomaly)
 message_of from NoMemory = line (codes "out of memory")
 message_of from (WriteFault None) = line (codes "summary: write failed")
 message_of from (WriteFault (Some name)) = file_message name (codes "write failed")

@@ -14,7 +14,6 @@ use Rattle.tetgen.specs.declared.meshed.Meshed.{Meshed}
 use Rattle.tetgen.specs.declared.outputs.Outputs.{Outputs}
 use Rattle.tetgen.specs.declared.outputs.FaceOutputs.{FaceOutputs}
 use Rattle.tetgen.specs.declared.store.NamedText.{NamedText}
-use Rattle.tetgen.specs.declared.store.Texts.{Texts}
 use Rattle.command_words.specs.declared.options.Options.{Options}
 
 -- a text under the base with an extension

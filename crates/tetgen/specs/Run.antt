@@ -23,7 +23,7 @@ use Rattle.tetgen.specs.declared.mesh.Bound.{Bound}
 use Rattle.tetgen.specs.declared.meshed.Meshed.{Meshed}
 use Rattle.tetgen.specs.declared.outputs.Outputs.{Outputs}
 use Rattle.tetgen.specs.declared.status.Status.{Status}
-use Rattle.tetgen.specs.declared.status.Status.TheVariants.{Done, Twin, NotFlat, SegmentsCross, Crossing, GridEnd, BudgetEnd, Tangled, NoMemory, WriteFault}
+use Rattle.tetgen.specs.declared.status.Status.TheVariants.{Done, Twin, NotFlat, SegmentsCross, Crossing, GridEnd, BudgetEnd, NoFill, NoMemory, WriteFault}
 use Rattle.tetgen.specs.declared.stop.Stop.{Stop}
 use Rattle.tetgen.specs.declared.stop.Stop.TheVariants.{Refused, Unwritten, Unsummed, NoMemory as Wanting}
 
@@ -47,12 +47,17 @@ IsAnswer words folder out status = OutputsOfRun words folder (Err status)
 abbrev pub HasNoFault : FolderSeen → SinkSeen → Type 0
 HasNoFault folder out = ¬ Rose folder.faults_before folder.faults_now × ¬ Rose out.faults_before out.faults_now
 
+-- the answer as it is forced: an anomaly permits its refusal, and stands beside Done
+abbrev pub forced_answer : Status → Status
+forced_answer (NoFill anomaly) = Done
+forced_answer status = status
+
 -- Where the files are told, no count of faults rose and memory was not wanting, each answer that has a cause is the answer: the refusal of the
--- first step that refuses, and Done where none does
+-- first step that refuses, and Done where none does. Only where facets are tangled there may be more: Done, and the anomalies that hold
 abbrev pub IsComplete : List (List ℕ) → FolderSeen → SinkSeen → Status → Type 0
 IsComplete words folder out status =
     (told : Files) → folder.files_before ≡ Some told → HasNoFault folder out → status ≢ NoMemory
-    → (other : Status) → other ≢ NoMemory → IsAnswer words folder out other → status ≡ other
+    → (other : Status) → other ≢ NoMemory → IsAnswer words folder out other → forced_answer status ≡ forced_answer other
 
 -- ---- what is left
 
@@ -118,7 +123,7 @@ names_points (SegmentsCross one two) = true
 names_points (Crossing one two) = true
 names_points (GridEnd piece) = true
 names_points (BudgetEnd made piece) = true
-names_points (Tangled tet facet_a facet_b) = true
+names_points (NoFill anomaly) = true
 names_points status = false
 
 -- where the message of the status prints points, the input numbers them from this number on

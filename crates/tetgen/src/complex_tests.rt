@@ -437,15 +437,22 @@ fn complexes_are_refused(rt: HostRuntime) -> Result<(), Fail> {
             ),
             &[],
         ),
-        // Two plates.
+        // Two plates that cross one tetrahedron.
         (
             &[(
                 b"t.poly",
                 b"8 3 0 0\n0 -9 -9 0\n1 9 -9 0\n2 0 9 0\n3 -9 -9 1\n4 9 -9 1\n5 0 9 1\n6 0 0 3\n7 0 0 -2\n2\n1\n3 0 1 2\n1\n3 3 4 5\n",
             )],
             &[b"-pc", b"t"],
-            (9, Some(b""), None),
-            &[],
+            (
+                0,
+                Some(b"points 8 added 0 tetrahedra 5 faces 16 edges 18\n"),
+                Some(b""),
+            ),
+            &[(
+                b"t.1.ele",
+                Some(b"5 4 0\n0 0 1 2 3\n1 0 1 7 2\n2 1 2 3 4\n3 2 3 4 5\n4 3 4 5 6\n"),
+            )],
         ),
     ];
     for (held, words, end, files) in cases {

@@ -2,15 +2,17 @@
 
 ghost use Rattle.std.specs.Prelude.{◌≡◌, ◌∷◌, [], ◌++◌, ◌+◌, IfOk, OnOk};
 ghost use Rattle.std.specs.Fmt.{decimal};
-ghost use Rattle.tetgen.specs.Messages.{line, point_text, ends_text, triangle_text, tetrahedron_text, facet_text, part_text, kind_text, file_message, usage_message, text_message, limit_message, message_of};
+ghost use Rattle.tetgen.specs.Messages.{line, point_text, ends_text, triangle_text, tetrahedron_text, two_tetrahedra_text, facet_text, part_text, kind_text, file_message, usage_message, text_message, limit_message, message_of};
+ghost use Rattle.tangle_laws.specs.declared.anomaly.Anomaly.TheVariants.{Bare};
 ghost use Rattle.tetgen.specs.declared.status.LimitKind.TheVariants.{Corners, Grid};
-ghost use Rattle.tetgen.specs.declared.status.Status.TheVariants.{Twin, NotFlat, SegmentsCross, Crossing, GridEnd, BudgetEnd, Tangled};
+ghost use Rattle.tetgen.specs.declared.status.Status.TheVariants.{Twin, NotFlat, SegmentsCross, Crossing, GridEnd, BudgetEnd, NoFill};
 
 use crate::status::{LimitKind, Status};
 use box_pairs::Part;
-use geo_laws::{FacetTriangle, Piece, Tet};
+use geo_laws::{Face, FacetTriangle, Piece, Tet};
 use itoa::Buffer;
 use std::alloc::Global;
+use tangle_laws::Anomaly;
 use tet_ports::{Bytes, Name, NoMemory};
 use tet_text::{TextFault, TextKind};
 
@@ -38,11 +40,7 @@ pub fn message(alloc: Global, from: u32, status: &Status) -> Result<Bytes, NoMem
         Status::Crossing { one, two } => crossing_message(alloc, from, *one, *two),
         Status::GridEnd { piece } => grid_message(alloc, from, *piece),
         Status::BudgetEnd { made, piece } => budget_message(alloc, from, *made, *piece),
-        Status::Tangled {
-            tet,
-            facet_a,
-            facet_b,
-        } => tangled_message(alloc, from, *tet, *facet_a, *facet_b),
+        Status::NoFill { anomaly } => no_fill_message(alloc, from, *anomaly),
         Status::NoMemory => line(alloc, b"out of memory"),
         Status::WriteFault { name: None } => line(alloc, b"summary: write failed"),
         Status::WriteFault { name: Some(name) } => file_message(alloc, name, b"write failed"),
@@ -197,21 +195,40 @@ fn budget_message(alloc: Global, from: u32, made: u32, piece: Piece) -> Result<B
     line(alloc, text.as_slice())
 }
 
-fn tangled_message(
+fn no_fill_message(alloc: Global, from: u32, anomaly: Anomaly) -> Result<Bytes, NoMemory>
+    ensures { IfOk result (λ line. line ≡ message_of from (NoFill anomaly)) }
+{
+    match anomaly {
+        Anomaly::Bare { face } => bare_message(alloc, from, face),
+        Anomaly::Doubled { one, two } => fillings_message(alloc, from, b"two fillings", one, two),
+        Anomaly::Bent { one, two } => fillings_message(alloc, from, b"bent fillings", one, two),
+    }
+}
+
+fn bare_message(alloc: Global, from: u32, face: Face) -> Result<Bytes, NoMemory>
+    ensures { IfOk result (λ line. line ≡ message_of from (NoFill (Bare face))) }
+{
+    let mut text = Bytes::from_slice(alloc, b"no filling at face")?;
+    append_point(&mut text, from, face.a)?;
+    append_point(&mut text, from, face.b)?;
+    append_point(&mut text, from, face.c)?;
+    line(alloc, text.as_slice())
+}
+
+/// A line on two tetrahedra.
+fn fillings_message(
     alloc: Global,
     from: u32,
-    tet: Tet,
-    facet_a: u32,
-    facet_b: u32,
+    told: &[u8],
+    one: Tet,
+    two: Tet,
 ) -> Result<Bytes, NoMemory>
-    ensures { IfOk result (λ line. line ≡ message_of from (Tangled tet facet_a facet_b)) }
+    ensures { IfOk result (λ made. made ≡ line (told.now ++ two_tetrahedra_text from one two)) }
 {
-    let mut text = Bytes::from_slice(alloc, b"facets ")?;
-    append_facet(&mut text, facet_a)?;
-    text.append(b" and ")?;
-    append_facet(&mut text, facet_b)?;
-    text.append(b" meet in tetrahedron")?;
-    append_tetrahedron(&mut text, from, tet)?;
+    let mut text = Bytes::from_slice(alloc, told)?;
+    append_tetrahedron(&mut text, from, one)?;
+    text.append(b" and")?;
+    append_tetrahedron(&mut text, from, two)?;
     line(alloc, text.as_slice())
 }
 

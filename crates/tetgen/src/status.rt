@@ -3,6 +3,7 @@
 use box_pairs::Part;
 use complex_mesh::MeshFault;
 use geo_laws::{Piece, Tet};
+use tangle_laws::Anomaly;
 use tet_ports::{Name, NoMemory};
 use tet_text::TextFault;
 
@@ -27,70 +28,35 @@ pub enum Status {
     /// The files are stored and the summary is put.
     Done,
     /// The words are not in the grammar: the first bad word and the place in it, both counted from 1.
-    Usage {
-        word: usize,
-        place: usize,
-    },
+    Usage { word: usize, place: usize },
     /// The folder lacks the input.
-    Missing {
-        name: Name,
-    },
+    Missing { name: Name },
     /// The folder failed in a fetch.
-    ReadFault {
-        name: Name,
-    },
+    ReadFault { name: Name },
     /// A file is not in its grammar, or a corner of it names no point.
-    BadText {
-        name: Name,
-        fault: TextFault,
-    },
+    BadText { name: Name, fault: TextFault },
     /// The input is over a limit.
-    Limit {
-        what: LimitKind,
-    },
+    Limit { what: LimitKind },
     /// Two points are equal on the grid: `second` is the least that is equal to an earlier one, which is `first`.
-    Twin {
-        first: u32,
-        second: u32,
-    },
+    Twin { first: u32, second: u32 },
     /// All points lie in one plane.
     Flat,
     /// Four corners of the first facet that is not flat do not lie in one plane.
-    NotFlat {
-        facet: u32,
-        four: Tet,
-    },
+    NotFlat { facet: u32, four: Tet },
     /// The first two pieces of segments that are not properly met.
-    SegmentsCross {
-        one: Piece,
-        two: Piece,
-    },
+    SegmentsCross { one: Piece, two: Piece },
     /// The first two parts of facets, triangles or pieces, that are not properly met.
-    Crossing {
-        one: Part,
-        two: Part,
-    },
+    Crossing { one: Part, two: Part },
     /// A piece is no side of the mesh, and was halved as often as the grid allows.
-    GridEnd {
-        piece: Piece,
-    },
+    GridEnd { piece: Piece },
     /// A piece is no side of the mesh, and as many points were added as are allowed.
-    BudgetEnd {
-        made: u32,
-        piece: Piece,
-    },
-    /// The first Delaunay tetrahedron that two facets cross, and the two least of these.
-    Tangled {
-        tet: Tet,
-        facet_a: u32,
-        facet_b: u32,
-    },
+    BudgetEnd { made: u32, piece: Piece },
+    /// Two facets cross a Delaunay tetrahedron, and this stands against tetrahedra grown round the facets.
+    NoFill { anomaly: Anomaly },
     /// Want of memory.
     NoMemory,
     /// The folder failed in a store, or the sink of the summary, which has no name.
-    WriteFault {
-        name: Option<Name>,
-    },
+    WriteFault { name: Option<Name> },
 }
 
 impl Status {
@@ -115,7 +81,7 @@ impl Status {
             Status::Crossing { .. } => 6,
             Status::GridEnd { .. } => 7,
             Status::BudgetEnd { .. } => 8,
-            Status::Tangled { .. } => 9,
+            Status::NoFill { .. } => 9,
             Status::NoMemory => 10,
             Status::WriteFault { .. } => 11,
         }
@@ -147,15 +113,7 @@ impl From<MeshFault> for Status {
             MeshFault::GridEnd { piece } => Status::GridEnd { piece },
             MeshFault::BudgetEnd { made, piece } => Status::BudgetEnd { made, piece },
             MeshFault::Crossing { one, two } => Status::Crossing { one, two },
-            MeshFault::Tangled {
-                tet,
-                facet_a,
-                facet_b,
-            } => Status::Tangled {
-                tet,
-                facet_a,
-                facet_b,
-            },
+            MeshFault::NoFill { anomaly } => Status::NoFill { anomaly },
             MeshFault::NoMemory => Status::NoMemory,
         }
     }

@@ -1,4 +1,4 @@
-use Rattle.std.proofs.Common.{◌≡◌, subst, Ok, Err}
+use Rattle.std.proofs.Common.{subst, Ok}
 use Rattle.tetgen.specs.Run.{EndsSo}
 use Rattle.tetgen.specs.Seen.{FolderSeen, SinkSeen, folder_seen, sink_seen}
 use Rattle.tetgen.proofs.Runs.{end_answer, end_left, answer_complete, stop_answer, stop_left, stop_told}

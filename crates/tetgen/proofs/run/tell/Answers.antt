@@ -1,5 +1,5 @@
-use Rattle.std.proofs.Common.{◌≡◌, inl, refl, sym, subst}
-use Rattle.tetgen.specs.Run.{IsPut, IsToldAs}
+use Rattle.std.proofs.Common.{inl, refl, subst}
+use Rattle.tetgen.specs.Run.{IsPut}
 use Rattle.tetgen.specs.Seen.{SinkSeen, sink_seen}
 use Rattle.tetgen.proofs.run.tell.Goals as goal
 
