@@ -53,7 +53,7 @@ fn a_bar_is_meshed(rt: HostRuntime) -> Result<(), Fail> {
 
 #[test]
 fn complexes_are_meshed(rt: HostRuntime) -> Result<(), Fail> {
-    let cases: [(&[File], &[&[u8]], End, &[Left]); 13] = [
+    let cases: [(&[File], &[&[u8]], End, &[Left]); 14] = [
         // Prism with a notch.
         (
             &[(b"t.poly", PRISM)],
@@ -205,6 +205,23 @@ fn complexes_are_meshed(rt: HostRuntime) -> Result<(), Fail> {
                 Some(b""),
             ),
             &[],
+        ),
+        // Two plates that cross one tetrahedron.
+        (
+            &[(
+                b"t.poly",
+                b"8 3 0 0\n0 -9 -9 0\n1 9 -9 0\n2 0 9 0\n3 -9 -9 1\n4 9 -9 1\n5 0 9 1\n6 0 0 3\n7 0 0 -2\n2\n1\n3 0 1 2\n1\n3 3 4 5\n",
+            )],
+            &[b"-pc", b"t"],
+            (
+                0,
+                Some(b"points 8 added 0 tetrahedra 5 faces 16 edges 18\n"),
+                Some(b""),
+            ),
+            &[(
+                b"t.1.ele",
+                Some(b"5 4 0\n0 0 1 2 3\n1 0 1 7 2\n2 1 2 3 4\n3 2 3 4 5\n4 3 4 5 6\n"),
+            )],
         ),
     ];
     for (held, words, end, files) in cases {
@@ -436,23 +453,6 @@ fn complexes_are_refused(rt: HostRuntime) -> Result<(), Fail> {
                 Some(b"tetgen: 2 splits used, segment 1 8 is missing\n"),
             ),
             &[],
-        ),
-        // Two plates that cross one tetrahedron.
-        (
-            &[(
-                b"t.poly",
-                b"8 3 0 0\n0 -9 -9 0\n1 9 -9 0\n2 0 9 0\n3 -9 -9 1\n4 9 -9 1\n5 0 9 1\n6 0 0 3\n7 0 0 -2\n2\n1\n3 0 1 2\n1\n3 3 4 5\n",
-            )],
-            &[b"-pc", b"t"],
-            (
-                0,
-                Some(b"points 8 added 0 tetrahedra 5 faces 16 edges 18\n"),
-                Some(b""),
-            ),
-            &[(
-                b"t.1.ele",
-                Some(b"5 4 0\n0 0 1 2 3\n1 0 1 7 2\n2 1 2 3 4\n3 2 3 4 5\n4 3 4 5 6\n"),
-            )],
         ),
     ];
     for (held, words, end, files) in cases {
