@@ -1,23 +1,31 @@
+//! Why a point list could not be read or settled.
+
 ghost use Rattle.std.specs.Prelude.{◌≡◌};
 ghost use Rattle.node_files.specs.declared.fault.NodeFault.TheVariants.{Text, NoMemory as WantsMemory};
 
 use grid_coords::Range;
 use tet_ports::NoMemory;
 use tet_text::TextFault;
+use thiserror::Error;
 
 /// Why a point list could not be read or settled.
-#[derive(Clone, Copy, Debug, PartialEq, Eq)]
+#[derive(Clone, Copy, Debug, PartialEq, Eq, Error)]
 pub enum NodeFault {
     /// The text is not in the grammar; its first fault.
+    #[error("{0}")]
     Text(TextFault),
     /// There are more points than are allowed; their number.
+    #[error("{count} points, at most 20000")]
     TooMany { count: u64 },
     /// A coordinate is too large for the grid; the line of the first such point, from 1.
+    #[error("line {line}: coordinate off the grid")]
     Range { line: usize },
-    /// Two points are equal on the grid, by their places from 0: `second` is the least that is equal
-    /// to an earlier one, which is `first`.
+    /// Two points are equal on the grid, by their places from 0: `second` is the least that is
+    /// equal to an earlier one, which is `first`.
+    #[error("the points at the places {first} and {second} are equal")]
     Twin { first: u32, second: u32 },
     /// Want of memory.
+    #[error("out of memory")]
     NoMemory,
 }
 

@@ -1,3 +1,5 @@
+//! The folder from which files are fetched, and in which they are stored.
+
 ghost use Rattle.std.specs.Prelude.{◌≡◌, ◌≤◌, ◌+◌, ℕ, Option, length, IfErr, IfOk, OnErr, OnOk, IsErrOf};
 ghost use Rattle.tet_ports.specs.Counts.{Rose};
 ghost use Rattle.tet_ports.specs.Files.{Files, Holds, HoldsMore, IsAbsent, PartlyStored, with_file};
@@ -7,17 +9,22 @@ ghost use Rattle.tet_ports.specs.declared.folder.FetchFault.TheVariants.{Missing
 
 use crate::{Bytes, Name, NoMemory};
 use std::alloc::Global;
+use thiserror::Error;
 
 /// Why a fetch gave no file.
-#[derive(Debug, Drop)]
+#[derive(Debug, Drop, Error)]
 pub enum FetchFault {
     /// The folder lacks the name.
+    #[error("not found")]
     Missing,
     /// The folder failed.
+    #[error("read failed")]
     Failed,
     /// The file is longer than was allowed. `taken` has its first bytes, one more than that.
+    #[error("too long")]
     TooLarge { taken: Bytes },
     /// Want of memory.
+    #[error("out of memory")]
     NoMemory,
 }
 
@@ -30,11 +37,13 @@ impl From<NoMemory> for FetchFault {
 }
 
 /// Why a store was refused.
-#[derive(Clone, Copy, Debug, PartialEq, Eq)]
+#[derive(Clone, Copy, Debug, PartialEq, Eq, Error)]
 pub enum StoreFault {
     /// The folder failed.
+    #[error("write failed")]
     Failed,
     /// Want of memory.
+    #[error("out of memory")]
     NoMemory,
 }
 
@@ -54,32 +63,37 @@ pub trait Folder {
     /// How often a fetch or a store has failed. It stays at the last value of a u64.
     ghost faults: { Self → ℕ };
 
-    /// How often a fetched name was absent, where the files are not told. It stays at the last value of a u64.
+    /// How often a fetched name was absent, where the files are not told. It stays at the last
+    /// value of a u64.
     ghost misses: { Self → ℕ };
 
     /// The bytes of the file with this name, of which there are at most `most`.
     ///
-    /// Refusals: `Missing`, the folder lacks the name; `Failed`, the folder failed; `TooLarge`, the file has more
-    /// bytes; `NoMemory`.
+    /// Refusals: `Missing`, the folder lacks the name; `Failed`, the folder failed; `TooLarge`, the
+    /// file has more bytes; `NoMemory`.
     fn fetch(&mut self, alloc: Global, name: &Name, most: usize) -> Result<Bytes, FetchFault>
         ensures found { IfOk result (λ bytes. Holds (held self.old) name.now bytes) }
         ensures bounded { IfOk result (λ bytes. length bytes ≤ most) }
-        ensures missing { IsErrOf result Missing → IsAbsent (held self.old) name.now (misses self.old) (misses self.new) }
+        ensures missing { IsErrOf result Missing
+            → IsAbsent (held self.old) name.now (misses self.old) (misses self.new) }
         ensures failed { IsErrOf result Failed → Rose (faults self.old) (faults self.new) }
-        ensures too_large { IfErr result (λ fault. IfTooLarge fault (λ taken. length taken ≡ most + 1)) }
-        ensures longer { IfErr result (λ fault. IfTooLarge fault (HoldsMore (held self.old) name.now most)) }
+        ensures too_large { IfErr result
+            (λ fault. IfTooLarge fault (λ taken. length taken ≡ most + 1)) }
+        ensures longer { IfErr result
+            (λ fault. IfTooLarge fault (HoldsMore (held self.old) name.now most)) }
         ensures unchanged { held self.new ≡ held self.old }
         ensures fault_count { faults self.old ≤ faults self.new }
         ensures miss_count { misses self.old ≤ misses self.new };
 
     /// Sets the file with this name to this text.
     ///
-    /// Refusals: `Failed`, the folder failed, and may have kept a prefix of the text under the name; `NoMemory`,
-    /// with nothing changed.
+    /// Refusals: `Failed`, the folder failed, and may have kept a prefix of the text under the
+    /// name; `NoMemory`, with nothing changed.
     fn store(&mut self, name: &Name, text: &Bytes) -> Result<(), StoreFault>
         ensures stored { OnOk result (held self.new ≡ with_file (held self.old) name.now text.now) }
         ensures failed { IsErrOf result StoreFailed → Rose (faults self.old) (faults self.new) }
-        ensures partly { IsErrOf result StoreFailed → PartlyStored (held self.old) name.now text.now (held self.new) }
+        ensures partly { IsErrOf result StoreFailed
+            → PartlyStored (held self.old) name.now text.now (held self.new) }
         ensures kept { IsErrOf result StoreNoMemory → held self.new ≡ held self.old }
         ensures fault_count { faults self.old ≤ faults self.new }
         ensures miss_count { misses self.old ≤ misses self.new };

@@ -1,16 +1,21 @@
+//! What takes the program's lines.
+
 ghost use Rattle.std.specs.Prelude.{◌≡◌, ◌≤◌, ℕ, List, Option, OnOk, IsErrOf};
 ghost use Rattle.tet_ports.specs.Counts.{Rose};
 ghost use Rattle.tet_ports.specs.Written.{PartlyPut, with_piece};
 ghost use Rattle.tet_ports.specs.declared.sink.PutFault.TheVariants.{Failed, NoMemory as PutNoMemory};
 
 use crate::NoMemory;
+use thiserror::Error;
 
 /// Why a put was refused.
-#[derive(Clone, Copy, Debug, PartialEq, Eq)]
+#[derive(Clone, Copy, Debug, PartialEq, Eq, Error)]
 pub enum PutFault {
     /// The sink failed.
+    #[error("write failed")]
     Failed,
     /// Want of memory.
+    #[error("out of memory")]
     NoMemory,
 }
 
@@ -35,12 +40,14 @@ pub trait Sink {
 
     /// Appends this piece.
     ///
-    /// Refusals: `Failed`, the sink failed, and may have appended a prefix of the piece; `NoMemory`, with nothing
-    /// appended.
+    /// Refusals: `Failed`, the sink failed, and may have appended a prefix of the piece;
+    /// `NoMemory`, with nothing appended.
     fn put(&mut self, piece: &[u8]) -> Result<(), PutFault>
-        ensures appended { OnOk result (written self.new ≡ with_piece (written self.old) piece.now) }
+        ensures appended { OnOk result (written self.new
+            ≡ with_piece (written self.old) piece.now) }
         ensures failed { IsErrOf result Failed → Rose (faults self.old) (faults self.new) }
-        ensures partly { IsErrOf result Failed → PartlyPut (written self.old) piece.now (written self.new) }
+        ensures partly { IsErrOf result Failed
+            → PartlyPut (written self.old) piece.now (written self.new) }
         ensures wanting { IsErrOf result PutNoMemory → Rose (wants self.old) (wants self.new) }
         ensures kept { IsErrOf result PutNoMemory → written self.new ≡ written self.old }
         ensures fault_count { faults self.old ≤ faults self.new }
