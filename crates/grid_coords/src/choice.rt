@@ -39,7 +39,8 @@ fn size_of(decimals: u32, p: &DecimalPoint) -> Option<u64>
 
 /// The greatest size of all coordinates, or the line of the first point with one over the limit.
 fn greatest_size(decimals: u32, points: &[DecimalPoint]) -> Result<u64, Range>
-    ensures value { result ≡ unless_over (first_over decimals points.now) (greatest_size decimals points.now) }
+    ensures value { result ≡ unless_over (first_over decimals points.now)
+        (greatest_size decimals points.now) }
     ensures small { IfOk result (λ size. size ≤ limit) }
 {
     let mut greatest = 0;
@@ -67,8 +68,8 @@ fn halvings_for(most: u32, size: u64) -> u32
 
 /// The finest grid that holds all points: as many decimals as any coordinate has, and the largest
 /// number of halvings up to 12 and up to `most_halvings` with which each coordinate is at most 2^23
-/// units in size. Range exactly where a coordinate is too large without any halving; its line is that
-/// of the first such point.
+/// units in size. Range exactly where a coordinate is too large without any halving; its line is
+/// that of the first such point.
 pub fn choose_grid(points: &DecimalPoints, most_halvings: u32) -> Result<Grid, Range>
     ensures value { result ≡ grid_of most_halvings points.now }
 

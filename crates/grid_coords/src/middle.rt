@@ -1,3 +1,5 @@
+//! The grid point halfway between two others.
+
 ghost use Rattle.std.specs.Prelude.{◌≡◌, ◌≤◌, ◌+ℤ◌, ℤ, unsigned_abs, MatchOption};
 ghost use Rattle.grid_coords.specs.Midpoint.{IsMidpoint, HasNoMidpoint};
 
@@ -7,7 +9,8 @@ use sign_predicates::GridPoint;
 fn half_sum(a: i32, b: i32) -> Option<i32>
     requires a_small { unsigned_abs a ≤ 8388608 }
     requires b_small { unsigned_abs b ≤ 8388608 }
-    ensures { MatchOption result ((h : ℤ) → ¬ (h +ℤ h ≡ a +ℤ b)) (λ h. (h +ℤ h ≡ a +ℤ b) × (unsigned_abs h ≤ 8388608)) }
+    ensures { MatchOption result ((h : ℤ) → ¬ (h +ℤ h ≡ a +ℤ b))
+        (λ h. (h +ℤ h ≡ a +ℤ b) × (unsigned_abs h ≤ 8388608)) }
 {
     let sum = a + b;
     if sum % 2 != 0 {

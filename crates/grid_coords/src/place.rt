@@ -52,9 +52,9 @@ fn to_parts(grid: &Grid, d: &Decimal) -> i64
     if rounded.value < 0 { -size } else { size }
 }
 
-/// The point over the denominator 10^6 of grid units. Each coordinate is first rounded to six decimals
-/// more than the grid has, halves away from zero; a coordinate that is then over 2^23 grid units in size
-/// becomes 2^23 + 1 with its sign.
+/// The point over the denominator 10^6 of grid units. Each coordinate is first rounded to six
+/// decimals more than the grid has, halves away from zero; a coordinate that is then over 2^23 grid
+/// units in size becomes 2^23 + 1 with its sign.
 pub fn to_rat(grid: &Grid, p: &DecimalPoint) -> RatPoint
     ensures { result ≡ rational_point grid.now p.now }
 {

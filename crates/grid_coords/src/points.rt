@@ -1,8 +1,10 @@
+//! Points as a text states them.
+
 use tet_ports::Items;
 use tet_text::Decimal;
 
 /// A point as a text states it, and the line that states it, counted from 1.
-#[derive(Clone, Copy)]
+#[derive(Clone, Copy, Debug)]
 pub struct DecimalPoint {
     pub x: Decimal,
     pub y: Decimal,

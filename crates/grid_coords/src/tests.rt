@@ -1,3 +1,5 @@
+//! Grids of points, roundings, and what is printed of grid coordinates.
+
 use super::*;
 use sign_predicates::GridPoint;
 use std::alloc::Global;

@@ -30,8 +30,8 @@ fn raised(number: u128, base: u32, steps: u64, most: u64) -> Option<u64>
     Some(product as u64)
 }
 
-/// The size of the number in units of 1 / (10^`decimals` × 2^`halvings`), or None where that is over
-/// `most`.
+/// The size of the number in units of 1 / (10^`decimals` × 2^`halvings`), or None where that is
+/// over `most`.
 pub(crate) fn units_within(d: &Decimal, decimals: u64, halvings: u32, most: u64) -> Option<u64>
     ensures { result ≡ within most (units decimals halvings d.now) }
 {

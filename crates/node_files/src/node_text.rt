@@ -1,3 +1,5 @@
+//! A point list as its text states it.
+
 use grid_coords::DecimalPoints;
 use tet_ports::{Items, Words};
 
@@ -6,7 +8,7 @@ pub type Markers = Items<i64>;
 
 /// A point list as its text states it. The attributes stand point by point, `attribute_count` for
 /// each, as they are written; there is a marker for each point where `flag` is set, and else none.
-#[derive(Drop)]
+#[derive(Debug, Drop)]
 pub struct NodeText {
     /// The number of the first point, 0 or 1.
     pub first: u32,

@@ -23,7 +23,8 @@ fn is_next(before: Option<u64>, number: u64) -> bool
 /// The number of a point, behind that of the point before.
 #[tactic(auto, unfolding(crate::specs::Point::index_at))]
 pub(crate) fn read_index(before: Option<u64>, fields: &mut Fields) -> Result<u64, TextFault>
-    ensures value { left_after (λ n. n) result fields.new.fields ≡ index_at before fields.old.line fields.old.fields }
+    ensures value { left_after (λ n. n) result fields.new.fields
+        ≡ index_at before fields.old.line fields.old.fields }
     ensures next { IfOk result (λ n. is_next before n ≡ true) }
     ensures line { fields.new.line ≡ fields.old.line }
 {
@@ -40,7 +41,8 @@ pub(crate) fn read_index(before: Option<u64>, fields: &mut Fields) -> Result<u64
 /// The next three fields as the coordinates of a point; Ended or NotANumber where they are none.
 #[tactic(auto, unfolding(crate::specs::Point::place_at))]
 pub fn read_place(fields: &mut Fields) -> Result<DecimalPoint, TextFault>
-    ensures value { left_after (λ p. p) result fields.new.fields ≡ place_at fields.old.line fields.old.fields }
+    ensures value { left_after (λ p. p) result fields.new.fields
+        ≡ place_at fields.old.line fields.old.fields }
     ensures line { fields.new.line ≡ fields.old.line }
 {
     let line = fields.line();
@@ -57,7 +59,8 @@ pub(crate) fn read_attributes(
     fields: &mut Fields,
     attributes: &mut Words,
 ) -> Result<(), NodeFault>
-    ensures value { Gives (λ _. (attributes.new, fields.new.fields)) result (onto attributes.old (attributes_at count fields.old.line fields.old.fields)) }
+    ensures value { Gives (λ _. (attributes.new, fields.new.fields)) result
+        (onto attributes.old (attributes_at count fields.old.line fields.old.fields)) }
     ensures line { fields.new.line ≡ fields.old.line }
 {
     for _ in 0..count {
@@ -75,7 +78,8 @@ pub(crate) fn read_marker(
     fields: &mut Fields,
     markers: &mut Markers,
 ) -> Result<(), NodeFault>
-    ensures value { Gives (λ _. (markers.new, fields.new.fields)) result (onto markers.old (markers_at flag fields.old.line fields.old.fields)) }
+    ensures value { Gives (λ _. (markers.new, fields.new.fields)) result
+        (onto markers.old (markers_at flag fields.old.line fields.old.fields)) }
     ensures line { fields.new.line ≡ fields.old.line }
 {
     if flag {

@@ -35,7 +35,8 @@ fn read_point(
     fields: &mut Fields,
     text: &mut NodeText,
 ) -> Result<u64, NodeFault>
-    ensures { Gives (λ number. (number, text.new)) result (point_onto header before fields.old text.old) }
+    ensures { Gives (λ number. (number, text.new)) result
+        (point_onto header before fields.old text.old) }
 {
     let number = read_index(before, fields)?;
     let place = read_place(fields)?;
@@ -50,7 +51,8 @@ fn read_point(
 /// The points that the first line states.
 fn read_points(alloc: Global, header: Header, lines: &mut Lines) -> Result<NodeText, NodeFault>
     requires { line_total lines.old + 1 < 2 ^ 64 }
-    ensures value { Gives (λ text. (text, content_left lines.new)) result (points_table header (line_total lines.old) (content_left lines.old)) }
+    ensures value { Gives (λ text. (text, content_left lines.new)) result
+        (points_table header (line_total lines.old) (content_left lines.old)) }
     ensures count { line_total lines.new ≡ line_total lines.old }
 {
     let mut text = NodeText {
@@ -73,7 +75,8 @@ fn read_points(alloc: Global, header: Header, lines: &mut Lines) -> Result<NodeT
 #[tactic(auto, unfolding(crate::specs::Node::node_list_of))]
 fn node_list(alloc: Global, lines: &mut Lines) -> Result<NodeText, NodeFault>
     requires { line_total lines.old + 1 < 2 ^ 64 }
-    ensures value { Gives (λ text. (text, content_left lines.new)) result (node_list_of (line_total lines.old) (content_left lines.old)) }
+    ensures value { Gives (λ text. (text, content_left lines.new)) result
+        (node_list_of (line_total lines.old) (content_left lines.old)) }
     ensures count { line_total lines.new ≡ line_total lines.old }
 {
     let mut fields = lines.want_line()?;
@@ -81,11 +84,12 @@ fn node_list(alloc: Global, lines: &mut Lines) -> Result<NodeText, NodeFault>
     read_points(alloc, header, lines)
 }
 
-/// A point list inside a text of fewer than 2^32 - 1 lines. The lines behind it are left; on a refusal
-/// the lines are as they were.
+/// A point list inside a text of fewer than 2^32 - 1 lines. The lines behind it are left; on a
+/// refusal the lines are as they were.
 pub fn read_node_list(alloc: Global, lines: &mut Lines) -> Result<NodeText, NodeFault>
     requires { line_total lines.old < 2 ^ 32 - 1 }
-    ensures value { Gives (λ text. (text, content_left lines.new)) result (node_list_of (line_total lines.old) (content_left lines.old)) }
+    ensures value { Gives (λ text. (text, content_left lines.new)) result
+        (node_list_of (line_total lines.old) (content_left lines.old)) }
     ensures count { line_total lines.new ≡ line_total lines.old }
     ensures err { OnErr result (lines.new ≡ lines.old) }
     ensures table { IfOk result IsNodeText }
@@ -100,7 +104,8 @@ pub fn read_node_list(alloc: Global, lines: &mut Lines) -> Result<NodeText, Node
 #[tactic(auto, unfolding(crate::specs::Node::node_of))]
 pub fn read_node(alloc: Global, bytes: &Bytes) -> Result<NodeText, NodeFault>
     requires { length bytes.now < 2 ^ 32 - 1 }
-    ensures value { Gives (λ text. text) result (node_of (line_count_of bytes.now) (content_lines bytes.now)) }
+    ensures value { Gives (λ text. text) result
+        (node_of (line_count_of bytes.now) (content_lines bytes.now)) }
     ensures table { IfOk result IsNodeText }
 {
     let mut lines = Lines::new(bytes.as_slice());

@@ -65,9 +65,9 @@ fn grid_points(alloc: Global, grid: &Grid, points: &[DecimalPoint]) -> Result<Po
     Ok(list)
 }
 
-/// The points of a list on a grid, each rounded first where that is asked for. TooMany where there are
-/// more than `MOST_POINTS`; then Range where a coordinate is too large for a grid, with the line of the first such
-/// point; then Twin where two points are equal on the grid.
+/// The points of a list on a grid, each rounded first where that is asked for. TooMany where there
+/// are more than `MOST_POINTS`; then Range where a coordinate is too large for a grid, with the
+/// line of the first such point; then Twin where two points are equal on the grid.
 pub fn settle(alloc: Global, text: NodeText, options: &GridOptions) -> Result<NodeTable, NodeFault>
     ensures outcome { Settles text options.now result }
     ensures table { IsNodeText text → IfOk result IsNodeTable }

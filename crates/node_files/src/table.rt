@@ -1,3 +1,5 @@
+//! A point list on a grid, and how it is put there.
+
 use crate::Markers;
 use geo_laws::Points;
 use grid_coords::{DecimalPoints, Grid};
@@ -12,9 +14,9 @@ pub struct GridOptions {
     pub halvings: u32,
 }
 
-/// A point list on a grid. The attributes and markers stand as in its text; there is a grid point for
-/// each decimal point.
-#[derive(Drop)]
+/// A point list on a grid. The attributes and markers stand as in its text; there is a grid point
+/// for each decimal point.
+#[derive(Debug, Drop)]
 pub struct NodeTable {
     /// The number of the first point, 0 or 1.
     pub first: u32,

@@ -20,7 +20,8 @@ fn coordinates(p: GridPoint) -> (i32, i32, i32)
 /// The first point that is equal to an earlier one, behind that one, by their places.
 pub(crate) fn first_twin(alloc: Global, points: &Points) -> Result<Option<(u32, u32)>, NoMemory>
     requires { length points.now < 2 ^ 32 }
-    ensures { IfOk result (λ twin. MatchOption twin (HasDistinctPoints points.now) (λ places. IsFirstTwin points.now places.0 places.1)) }
+    ensures { IfOk result (λ twin. MatchOption twin (HasDistinctPoints points.now)
+        (λ places. IsFirstTwin points.now places.0 places.1)) }
 {
     let mut places = HashMap::new(alloc);
     for i in 0..points.len() {

@@ -88,7 +88,8 @@ fn put_point(
 ) -> Result<(), NoMemory>
     requires halvings { grid.now.halvings ≤ 12 }
     requires number { number < 2 ^ 63 }
-    ensures { OnOk result (out.new ≡ out.old ++ point_line grid.now number p attributes.now markers.now) }
+    ensures { OnOk result (out.new
+        ≡ out.old ++ point_line grid.now number p attributes.now markers.now) }
 {
     put_whole(number as i64, out)?;
     put_place(grid, p, out)?;
@@ -108,7 +109,9 @@ fn marks_of(flag: bool) -> usize
 fn put_points(table: &NodeTable, first: u32, out: &mut Bytes) -> Result<(), NoMemory>
     requires table { IsNodeTable table.now }
     requires few { length table.now.points < 2 ^ 32 }
-    ensures { OnOk result (out.new ≡ out.old ++ point_lines table.now.grid table.now.attribute_count (marks_of table.now.flag) first table.now.points table.now.attributes table.now.markers) }
+    ensures { OnOk result (out.new
+        ≡ out.old ++ point_lines table.now.grid table.now.attribute_count
+        (marks_of table.now.flag) first table.now.points table.now.attributes table.now.markers) }
 {
     let mut attributes = table.attributes.as_slice();
     let mut markers = table.markers.as_slice();
@@ -136,7 +139,8 @@ fn put_alike(
     requires halvings { grid.now.halvings ≤ 12 }
     requires few { length points.now < 2 ^ 32 }
     requires first { first < 2 ^ 33 }
-    ensures { OnOk result (out.new ≡ out.old ++ like_lines grid.now first points.now attributes.now markers.now) }
+    ensures { OnOk result (out.new
+        ≡ out.old ++ like_lines grid.now first points.now attributes.now markers.now) }
 {
     for i in 0..points.len() {
         put_point(
@@ -197,7 +201,8 @@ fn put_list(
     requires table { IsNodeTable table.now }
     requires few { length table.now.points < 2 ^ 32 }
     requires few_added { length added.now < 2 ^ 32 }
-    ensures { OnOk result (out.new ≡ out.old ++ list_text table.now added.now first attributes.now markers.now) }
+    ensures { OnOk result (out.new
+        ≡ out.old ++ list_text table.now added.now first attributes.now markers.now) }
 {
     let count = table.points.len() as u64;
     put_head(table, count + added.len() as u64, out)?;
@@ -213,8 +218,8 @@ fn put_list(
 }
 
 /// The text of a point list, whose points have their numbers from `first` on: the first line; the
-/// table's points with their attributes, byte for byte, and their markers; then the added points, with
-/// attributes 0 and the marker 0. Coordinates are exact decimals.
+/// table's points with their attributes, byte for byte, and their markers; then the added points,
+/// with attributes 0 and the marker 0. Coordinates are exact decimals.
 pub fn write_node(
     alloc: Global,
     table: &NodeTable,

@@ -1,3 +1,5 @@
+//! Counts of calls, one of which fails.
+
 ghost use Rattle.std.specs.Prelude.{◌≡◌, ◌≤◌, ◌+◌, ◌↔◌, Some, None, IsTrue};
 ghost use Rattle.tet_ports.specs.Calls.{failing_at, failures, fresh_calls, one_more, IsNextFailing};
 

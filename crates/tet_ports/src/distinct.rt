@@ -1,3 +1,5 @@
+//! Sorted items, each once.
+
 ghost use Rattle.std.specs.Prelude.{◌≡◌, ◌↔◌, true, AllPairs, Contains};
 ghost use Rattle.std.specs.declared.cmp.Ordering.TheVariants.{Less};
 

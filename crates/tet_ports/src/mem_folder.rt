@@ -1,3 +1,5 @@
+//! A folder in memory.
+
 ghost use Rattle.std.specs.Prelude.{◌≡◌, ◌≤◌, ◌+◌, ◌↔◌, Some, None, OnOk, OnErr, IsNone, IfSome, IfOk, IfErr, IsErrOf, IsTrue, length, take};
 ghost use Rattle.std.specs.FinMap as map;
 ghost use Rattle.tet_ports.specs.Calls.{failing_at, fresh_calls, one_more, IsNextFailing};
@@ -29,13 +31,20 @@ impl Model for MemFolder {
 
     ghost coded = { memory_files_code };
 
-    ghost view = { λ s. record { files = map.from_entries s.log.items; fetches = s.fetches; stores = s.stores; kept = s.kept } };
+    ghost view = { λ s.
+        record {
+          files = map.from_entries s.log.items;
+          fetches = s.fetches;
+          stores = s.stores;
+          kept = s.kept;
+        } };
 }
 
 impl MemFolder {
     /// A folder with no file, of which no call is set to fail.
     pub fn new(alloc: Global) -> Self
-        ensures { result ≡ record { files = map.empty; fetches = fresh_calls; stores = fresh_calls; kept = 0 } }
+        ensures { result
+            ≡ record { files = map.empty; fetches = fresh_calls; stores = fresh_calls; kept = 0 } }
     {
         MemFolder {
             alloc,
@@ -48,7 +57,8 @@ impl MemFolder {
 
     /// Adds a file, or sets it anew.
     pub fn add(&mut self, name: &Name, text: &Bytes) -> Result<(), NoMemory>
-        ensures ok { OnOk result (self.new ≡ record self.old { files = map.insert self.old.files name.now text.now }) }
+        ensures ok { OnOk result (self.new
+            ≡ record self.old { files = map.insert self.old.files name.now text.now }) }
         ensures err { OnErr result (self.new ≡ self.old) }
     {
         self.set(name, text.as_slice())
@@ -61,10 +71,11 @@ impl MemFolder {
         self.fetches.fail(nth);
     }
 
-    /// Lets the store with this number fail, counted from 1, in place of one that was set before. It leaves the
-    /// first `kept` bytes of its text, or the whole text where that is shorter.
+    /// Lets the store with this number fail, counted from 1, in place of one that was set before.
+    /// It leaves the first `kept` bytes of its text, or the whole text where that is shorter.
     pub fn fail_store(&mut self, nth: u32, kept: usize)
-        ensures { self.new ≡ record self.old { stores = failing_at nth self.old.stores; kept = kept } }
+        ensures { self.new
+            ≡ record self.old { stores = failing_at nth self.old.stores; kept = kept } }
     {
         self.stores.fail(nth);
         self.kept = kept;
@@ -84,7 +95,8 @@ impl MemFolder {
     }
 
     fn set(&mut self, name: &Name, text: &[u8]) -> Result<(), NoMemory>
-        ensures ok { OnOk result (self.new ≡ record self.old { files = map.insert self.old.files name.now text.now }) }
+        ensures ok { OnOk result (self.new
+            ≡ record self.old { files = map.insert self.old.files name.now text.now }) }
         ensures err { OnErr result (self.new ≡ self.old) }
     {
         let name = Name::from_slice(self.alloc, name.as_slice())?;
@@ -102,13 +114,17 @@ impl Folder for MemFolder {
     ghost misses = { λ _. 0 };
 
     fn fetch(&mut self, alloc: Global, name: &Name, most: usize) -> Result<Bytes, FetchFault>
-        ensures found { IfOk result (λ bytes. (map.get self.old.files name.now ≡ Some bytes) × (length bytes ≤ most)) }
+        ensures found { IfOk result (λ bytes. (map.get self.old.files name.now ≡ Some bytes)
+            × (length bytes ≤ most)) }
         ensures missing { IsErrOf result Missing → map.get self.old.files name.now ≡ None }
         ensures failed { IsErrOf result FetchFailed ↔ IsNextFailing self.old.fetches }
-        ensures too_large { IfErr result (λ fault. IfTooLarge fault (λ taken. length taken ≡ most + 1)) }
-        ensures longer { IfErr result (λ fault. IfTooLarge fault (HoldsMore (Some self.old.files) name.now most)) }
+        ensures too_large { IfErr result
+            (λ fault. IfTooLarge fault (λ taken. length taken ≡ most + 1)) }
+        ensures longer { IfErr result
+            (λ fault. IfTooLarge fault (HoldsMore (Some self.old.files) name.now most)) }
         ensures counted { self.new ≡ record self.old { fetches = one_more self.old.fetches } }
-        ensures failures { IsNextFailing self.old.fetches → failures_of self.new ≡ failures_of self.old + 1 }
+        ensures failures { IsNextFailing self.old.fetches
+            → failures_of self.new ≡ failures_of self.old + 1 }
         ensures failure_count { failures_of self.old ≤ failures_of self.new }
     {
         if self.fetches.count() {
@@ -127,11 +143,14 @@ impl Folder for MemFolder {
 
     fn store(&mut self, name: &Name, text: &Bytes) -> Result<(), StoreFault>
         ensures stored { OnOk result (self.new ≡ stored self.old name.now text.now) }
-        ensures partly { IsErrOf result StoreFailed → self.new ≡ stored self.old name.now (take self.old.kept text.now) }
-        ensures kept { IsErrOf result StoreNoMemory → self.new ≡ record self.old { stores = one_more self.old.stores } }
+        ensures partly { IsErrOf result StoreFailed
+            → self.new ≡ stored self.old name.now (take self.old.kept text.now) }
+        ensures kept { IsErrOf result StoreNoMemory
+            → self.new ≡ record self.old { stores = one_more self.old.stores } }
         ensures next { OnOk result (¬ IsNextFailing self.old.stores) }
         ensures failed { IsErrOf result StoreFailed → IsNextFailing self.old.stores }
-        ensures failures { IsNextFailing self.old.stores → failures_of self.new ≡ failures_of self.old + 1 }
+        ensures failures { IsNextFailing self.old.stores
+            → failures_of self.new ≡ failures_of self.old + 1 }
         ensures failure_count { failures_of self.old ≤ failures_of self.new }
     {
         let text = text.as_slice();

@@ -1,3 +1,5 @@
+//! A sink in memory.
+
 ghost use Rattle.std.specs.Prelude.{◌≡◌, ◌≤◌, ◌+◌, [], Some, OnOk, IsErrOf, take};
 ghost use Rattle.tet_ports.specs.Calls.{failing_at, failures, fresh_calls, IsNextFailing};
 ghost use Rattle.tet_ports.specs.MemSink.{MemoryBytes, appended, memory_bytes_code, wanting};
@@ -38,8 +40,8 @@ impl MemSink {
         }
     }
 
-    /// Lets the put with this number fail, counted from 1, in place of one that was set before. It appends the
-    /// first `kept` bytes of its piece, or the whole piece where that is shorter.
+    /// Lets the put with this number fail, counted from 1, in place of one that was set before. It
+    /// appends the first `kept` bytes of its piece, or the whole piece where that is shorter.
     pub fn fail_put(&mut self, nth: u32, kept: usize)
         ensures { self.new ≡ record self.old { puts = failing_at nth self.old.puts; kept = kept } }
     {
@@ -64,11 +66,13 @@ impl Sink for MemSink {
 
     fn put(&mut self, piece: &[u8]) -> Result<(), PutFault>
         ensures appended { OnOk result (self.new ≡ appended self.old piece.now) }
-        ensures partly { IsErrOf result Failed → self.new ≡ appended self.old (take self.old.kept piece.now) }
+        ensures partly { IsErrOf result Failed
+            → self.new ≡ appended self.old (take self.old.kept piece.now) }
         ensures wanting { IsErrOf result PutNoMemory → self.new ≡ wanting self.old }
         ensures next { OnOk result (¬ IsNextFailing self.old.puts) }
         ensures failed { IsErrOf result Failed → IsNextFailing self.old.puts }
-        ensures failures { IsNextFailing self.old.puts → failures self.new.puts ≡ failures self.old.puts + 1 }
+        ensures failures { IsNextFailing self.old.puts
+            → failures self.new.puts ≡ failures self.old.puts + 1 }
         ensures failure_count { failures self.old.puts ≤ failures self.new.puts }
         ensures want_count { self.old.wants ≤ self.new.wants }
     {

@@ -1,3 +1,5 @@
+//! The folder of the system in which the program runs.
+
 ghost use Rattle.std.specs.Prelude.{◌≡◌, ◌≤◌, ◌+◌, None, length, IfErr, IfOk, IsErrOf};
 ghost use Rattle.tet_ports.specs.Counts.{Rose};
 ghost use Rattle.tet_ports.specs.declared.folder.StoreFault.TheVariants.{Failed as StoreFailed, NoMemory as StoreNoMemory};
@@ -11,7 +13,7 @@ use std::str::from_utf8;
 use std::{fs, io};
 
 /// The files of the system, by names that are paths in UTF-8. It tells no content.
-#[derive(Drop)]
+#[derive(Debug, Drop)]
 pub struct OsFolder<R> {
     rt: R,
     faults: u64,
@@ -66,7 +68,8 @@ impl<R: Files + Drop> Folder for OsFolder<R> {
 
 fn read_file<R: Files>(alloc: Global, rt: &R, name: &Name, most: usize) -> Result<Bytes, FetchFault>
     ensures bounded { IfOk result (λ bytes. length bytes ≤ most) }
-    ensures too_large { IfErr result (λ fault. IfTooLarge fault (λ taken. length taken ≡ most + 1)) }
+    ensures too_large { IfErr result
+        (λ fault. IfTooLarge fault (λ taken. length taken ≡ most + 1)) }
 {
     let Ok(path) = from_utf8(name.as_slice()) else {
         return Err(FetchFault::Failed);

@@ -1,3 +1,5 @@
+//! A sink over a writer of the library.
+
 ghost use Rattle.std.specs.Io.KnownBytes.{Appends};
 ghost use Rattle.std.specs.Prelude.{◌≡◌, ◌≤◌, None, IsErrOf, OnOk};
 ghost use Rattle.tet_ports.specs.Counts.{Rose};
@@ -7,9 +9,9 @@ use crate::streams::write_whole;
 use crate::{PutFault, Sink};
 use std::io::Write;
 
-/// A writer of the library, such as the standard output. It tells no content, takes no memory, and flushes after
-/// each piece.
-#[derive(Drop)]
+/// A writer of the library, such as the standard output. It tells no content, takes no memory, and
+/// flushes after each piece.
+#[derive(Debug, Drop)]
 pub struct StdSink<W> {
     writer: W,
     faults: u64,
@@ -32,7 +34,8 @@ impl<W: Write + Drop> Sink for StdSink<W> {
     ghost wants = { λ _. 0 };
 
     fn put(&mut self, piece: &[u8]) -> Result<(), PutFault>
-        ensures whole { OnOk result (Appends (W.contents self.old.writer) (W.contents self.new.writer) piece.now) }
+        ensures whole { OnOk result (Appends (W.contents self.old.writer)
+            (W.contents self.new.writer) piece.now) }
         ensures failed { IsErrOf result Failed → Rose self.old.faults self.new.faults }
         ensures takes_no_memory { ¬ IsErrOf result PutNoMemory }
         ensures fault_count { self.old.faults ≤ self.new.faults }

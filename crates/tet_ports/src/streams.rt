@@ -1,4 +1,5 @@
-// Reading and writing whole streams, a block at a time.
+//! Whole streams, read and written a block at a time.
+
 ghost use Rattle.std.specs.Prelude.{◌≡◌, ◌<◌, ◌≤◌, ◌+◌, ℕ, length, take, IfErr, IfOk, IfSome, IsErrOf, OnErr, OnOk};
 ghost use Rattle.std.specs.Io.{ReadsAtMost, WritesAtMost};
 ghost use Rattle.std.specs.Io.KnownBytes.{Appends, Consumes, IsAtEnd, Keeps};
@@ -21,8 +22,10 @@ pub(crate) fn read_whole<R: Read>(
 ) -> Result<Bytes, FetchFault>
     ensures whole { IfOk result (λ bytes. IfSome (R.remaining reader.old) (λ told. bytes ≡ told)) }
     ensures bounded { IfOk result (λ bytes. length bytes ≤ most) }
-    ensures too_large { IfErr result (λ fault. IfTooLarge fault (λ taken. length taken ≡ most + 1)) }
-    ensures first { IfErr result (λ fault. IfTooLarge fault (Consumes (R.remaining reader.old) (R.remaining reader.new))) }
+    ensures too_large { IfErr result
+        (λ fault. IfTooLarge fault (λ taken. length taken ≡ most + 1)) }
+    ensures first { IfErr result
+        (λ fault. IfTooLarge fault (Consumes (R.remaining reader.old) (R.remaining reader.new))) }
     ensures present { ¬ IsErrOf result Missing }
 {
     let mut block = block_of_zeros(alloc)?;
@@ -46,8 +49,10 @@ fn read_blocks<R: Read>(
     requires { 0 < length block.old }
     ensures whole { IfOk result (λ bytes. IfSome (R.remaining reader.old) (λ told. bytes ≡ told)) }
     ensures bounded { IfOk result (λ bytes. length bytes ≤ most) }
-    ensures too_large { IfErr result (λ fault. IfTooLarge fault (λ taken. length taken ≡ most + 1)) }
-    ensures first { IfErr result (λ fault. IfTooLarge fault (Consumes (R.remaining reader.old) (R.remaining reader.new))) }
+    ensures too_large { IfErr result
+        (λ fault. IfTooLarge fault (λ taken. length taken ≡ most + 1)) }
+    ensures first { IfErr result
+        (λ fault. IfTooLarge fault (Consumes (R.remaining reader.old) (R.remaining reader.new))) }
     ensures present { ¬ IsErrOf result Missing }
 {
     let mut text = Bytes::new(alloc);
@@ -68,7 +73,8 @@ fn read_blocks<R: Read>(
 /// One read, tried again where a signal interrupts it.
 fn read_some<R: Read>(reader: &mut R, buf: &mut [u8]) -> io::Result<usize>
     ensures bound { ReadsAtMost result buf.new }
-    ensures ok { IfOk result (λ n. Consumes (R.remaining reader.old) (R.remaining reader.new) (take n buf.new)) }
+    ensures ok { IfOk result (λ n. Consumes (R.remaining reader.old) (R.remaining reader.new)
+        (take n buf.new)) }
     ensures end { IfOk result (λ n. n ≡ 0 → 0 < length buf.old → IsAtEnd (R.remaining reader.new)) }
 {
     for _ in 0..u64::MAX {
@@ -86,8 +92,11 @@ fn read_some<R: Read>(reader: &mut R, buf: &mut [u8]) -> io::Result<usize>
 
 /// Writes all bytes and flushes, or else a prefix of them.
 pub(crate) fn write_whole<W: Write>(writer: &mut W, bytes: &[u8]) -> io::Result<()>
-    ensures whole { OnOk result (Appends (W.contents writer.old) (W.contents writer.new) bytes.now) }
-    ensures partly { OnErr result ((kept : ℕ) × Appends (W.contents writer.old) (W.contents writer.new) (take kept bytes.now)) }
+    ensures whole { OnOk result (Appends (W.contents writer.old)
+        (W.contents writer.new) bytes.now) }
+    ensures partly { OnErr result
+        ((kept : ℕ) × Appends (W.contents writer.old) (W.contents writer.new)
+        (take kept bytes.now)) }
 {
     let mut written = 0;
     while written < bytes.len() {
@@ -103,7 +112,8 @@ pub(crate) fn write_whole<W: Write>(writer: &mut W, bytes: &[u8]) -> io::Result<
 /// One write, tried again where a signal interrupts it.
 fn write_some<W: Write>(writer: &mut W, bytes: &[u8]) -> io::Result<usize>
     ensures bound { WritesAtMost result bytes.now }
-    ensures ok { IfOk result (λ n. Appends (W.contents writer.old) (W.contents writer.new) (take n bytes.now)) }
+    ensures ok { IfOk result (λ n. Appends (W.contents writer.old) (W.contents writer.new)
+        (take n bytes.now)) }
     ensures err { OnErr result (Keeps (W.contents writer.old) (W.contents writer.new)) }
 {
     for _ in 0..u64::MAX {

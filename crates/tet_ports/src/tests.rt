@@ -1,3 +1,5 @@
+//! Folders and sinks, in memory and of the system, whose calls fail in turn.
+
 ghost use Rattle.std.specs.Prelude.{◌≡◌, ℕ, List, None, OnErr, OnOk};
 ghost use Rattle.tet_ports.specs.Files.{Holds, PartlyStored, with_file};
 
@@ -182,7 +184,8 @@ fn long_text(alloc: Global) -> Result<Bytes, NoMemory> {
     Ok(text)
 }
 
-/// What a folder of the system does with a file at this path, which is not there yet: each answer is yes.
+/// What a folder of the system does with a file at this path, which is not there yet: each answer
+/// is yes.
 fn answers<F: Folder>(alloc: Global, folder: &mut F, path: &[u8]) -> Result<[bool; 7], NoMemory> {
     let name = Name::from_slice(alloc, path)?;
     let is_missing = matches!(folder.fetch(alloc, &name, 9), Err(FetchFault::Missing));
@@ -226,7 +229,8 @@ fn system_folder_reaches_files(rt: HostRuntime) -> Result<(), Fail> {
     Ok(())
 }
 
-/// Gives or takes at most three bytes at a call, is interrupted once, and fails where it is at `cut`.
+/// Gives or takes at most three bytes at a call, is interrupted once, and fails where it is at
+/// `cut`.
 #[derive(Drop)]
 struct Choppy {
     bytes: Vec<u8>,
@@ -347,8 +351,10 @@ fn standard_sink_writes_and_flushes(rt: HostRuntime) -> Result<(), Fail> {
 
 /// Sets one file to the bytes of another, over any folder, also one that tells nothing.
 fn copy_file<F: Folder>(alloc: Global, folder: &mut F, from: &Name, to: &Name) -> Result<(), NoCopy>
-    ensures done { OnOk result ((text : List ℕ) × Holds (F.held folder.old) from.now text × (F.held folder.new ≡ with_file (F.held folder.old) to.now text)) }
-    ensures refused { OnErr result ((text : List ℕ) × PartlyStored (F.held folder.old) to.now text (F.held folder.new)) }
+    ensures done { OnOk result ((text : List ℕ) × Holds (F.held folder.old) from.now text
+        × (F.held folder.new ≡ with_file (F.held folder.old) to.now text)) }
+    ensures refused { OnErr result
+        ((text : List ℕ) × PartlyStored (F.held folder.old) to.now text (F.held folder.new)) }
     ensures untold { F.held folder.old ≡ None → F.held folder.new ≡ None }
 {
     let Ok(text) = folder.fetch(alloc, from, 100) else {

@@ -1,3 +1,5 @@
+//! Lists of names.
+
 ghost use Rattle.std.specs.Prelude.{◌≡◌, ◌<◌, length, HoldsAt};
 
 use crate::{Items, Name};

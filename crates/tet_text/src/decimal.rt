@@ -1,3 +1,5 @@
+//! Decimals, exactly.
+
 ghost use Rattle.std.specs.Prelude.{◌≡◌, IfOk, ◌≤◌, ◌<◌, ◌*◌, ◌^◌, ◌++◌, length, IfSome, pos};
 ghost use Rattle.std.specs.Option.{ok_or};
 ghost use Rattle.tet_text.specs.Numbers.{number_of};

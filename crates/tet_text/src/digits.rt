@@ -20,7 +20,8 @@ pub(crate) fn digits_after(before: u128, text: &[u8]) -> Option<u128>
     Some(number)
 }
 
-/// The number that the digits write, of which there are 1 to `most`; None where the text is not of that form.
+/// The number that the digits write, of which there are 1 to `most`; None where the text is not of
+/// that form.
 #[tactic(auto, using(crate::proofs::Numerals::number_of_fits, crate::proofs::Numerals::number_of_nothing, crate::proofs::Numerals::number_of_many, crate::proofs::Numerals::tens_le))]
 pub fn read_digits(text: &[u8], most: usize) -> Option<u128>
     requires { most ≤ 36 }

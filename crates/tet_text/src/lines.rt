@@ -1,3 +1,5 @@
+//! The content lines of a text, and their fields.
+
 ghost use Rattle.std.specs.Prelude.{◌≡◌, ◌==◌, ◌<◌, ◌≤◌, ◌^◌, ◌+◌, [], ◌∷◌, length, MatchOption, IfSome};
 
 use crate::cuts::{before_comment, cut_field, cut_line, skip_blanks};
@@ -5,7 +7,7 @@ use std::marker::Model;
 
 /// The content lines of a text that are left, from the first to the last: those with a field.
 /// Lines are counted from 1, those without a field too. A copy goes on by itself.
-#[derive(Clone, Copy)]
+#[derive(Clone, Copy, Debug)]
 pub struct Lines<'a> {
     rest: &'a [u8],
     passed: usize,
@@ -13,14 +15,14 @@ pub struct Lines<'a> {
 }
 
 /// The fields of a content line that are left.
-#[derive(Drop)]
+#[derive(Debug, Drop)]
 pub struct Fields<'a> {
     line: usize,
     rest: &'a [u8],
 }
 
 /// A field: its bytes, of which there is at least one, and the number of its line.
-#[derive(Clone, Copy)]
+#[derive(Clone, Copy, Debug)]
 pub struct Field<'a> {
     pub line: usize,
     text: &'a [u8],
@@ -56,7 +58,9 @@ impl<'a> Lines<'a> {
 
     /// The fields of the next content line, or None where the text has no further one.
     pub fn next_fields(&mut self) -> Option<Fields<'a>>
-        ensures next { MatchOption result ((content_left self.old ≡ []) × (content_left self.new ≡ [])) (λ fields. content_left self.old ≡ fields ∷ content_left self.new) }
+        ensures next { MatchOption result
+            ((content_left self.old ≡ []) × (content_left self.new ≡ []))
+            (λ fields. content_left self.old ≡ fields ∷ content_left self.new) }
         ensures count { line_total self.new ≡ line_total self.old }
     {
         while !self.rest.is_empty() {
@@ -113,7 +117,8 @@ impl<'a> Fields<'a> {
 
     /// The next field, or None where the line has no further one.
     pub fn next(&mut self) -> Option<Field<'a>>
-        ensures next { MatchOption result ((self.old.fields ≡ []) × (self.new.fields ≡ [])) (λ field. self.old.fields ≡ field.text.now ∷ self.new.fields) }
+        ensures next { MatchOption result ((self.old.fields ≡ []) × (self.new.fields ≡ []))
+            (λ field. self.old.fields ≡ field.text.now ∷ self.new.fields) }
         ensures field_line { IfSome result (λ field. field.line ≡ self.old.line) }
         ensures line { self.new.line ≡ self.old.line }
     {

@@ -12,7 +12,8 @@ const MOST_DIGITS: usize = 36;
 /// The greatest number of 64 bits.
 const MOST_NARROW: u128 = 18_446_744_073_709_551_615;
 
-/// Writes the digits of the number before a place of the buffer, none for 0, and gives the place where they begin.
+/// Writes the digits of the number before a place of the buffer, none for 0, and gives the place
+/// where they begin.
 fn fill_before(buffer: &mut [u8; MOST_DIGITS], place: usize, number: u64) -> usize
     requires place { place ≤ 36 }
     requires room { number < 10 ^ place }
@@ -29,7 +30,8 @@ fn fill_before(buffer: &mut [u8; MOST_DIGITS], place: usize, number: u64) -> usi
     at
 }
 
-/// Writes low digits of the number to the end of the buffer, until the rest fits into 64 bits; gives the place where they begin, and the rest.
+/// Writes low digits of the number to the end of the buffer, until the rest fits into 64 bits;
+/// gives the place where they begin, and the rest.
 fn fill_wide(buffer: &mut [u8; MOST_DIGITS], number: u128) -> (usize, u64)
     requires { number < 10 ^ 36 }
     ensures place { result.0 ≤ 36 }
@@ -72,7 +74,8 @@ fn put_zeros(count: u64, out: &mut Bytes) -> Result<(), NoMemory>
 
 fn put_fraction(digits: &[u8], scale: u64, out: &mut Bytes) -> Result<(), NoMemory>
     requires { length digits.now ≤ scale }
-    ensures ok { OnOk result (out.new ≡ out.old ++ 48 ∷ 46 ∷ replicate (scale - length digits.now) 48 ++ digits.now) }
+    ensures ok { OnOk result (out.new
+        ≡ out.old ++ 48 ∷ 46 ∷ replicate (scale - length digits.now) 48 ++ digits.now) }
     ensures err { OnErr result (take (length out.old) out.new ≡ out.old) }
 {
     out.append(b"0.")?;
@@ -136,7 +139,8 @@ fn put_value(negative: bool, size: u128, scale: u64, out: &mut Bytes) -> Result<
     put_size(size, scale, out)
 }
 
-/// Appends `size` / 10^`scale` with all `scale` digits of its fraction, and a minus before it where it is `negative`.
+/// Appends `size` / 10^`scale` with all `scale` digits of its fraction, and a minus before it where
+/// it is `negative`.
 pub fn print_scaled(negative: bool, size: u128, scale: u64, out: &mut Bytes) -> Result<(), NoMemory>
     requires { size < 10 ^ 36 }
     ensures ok { OnOk result (out.new ≡ out.old ++ (sign_text negative ++ size_text size scale)) }
@@ -150,8 +154,8 @@ pub fn print_scaled(negative: bool, size: u128, scale: u64, out: &mut Bytes) -> 
     Err(NoMemory)
 }
 
-/// Appends the shortest exact decimal: a minus where it is below zero, at least one digit before the
-/// point, no trailing zero in the fraction, and no point where it is whole.
+/// Appends the exact decimal, plain, with no exponent and no trailing zero: a minus where it is
+/// below zero, at least one digit before the point, and no point where it is whole.
 pub fn print_decimal(d: &Decimal, out: &mut Bytes) -> Result<(), NoMemory>
     ensures ok { OnOk result (out.new ≡ out.old ++ decimal_text d.now) }
     ensures err { OnErr result (out.new ≡ out.old) }

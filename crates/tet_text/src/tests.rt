@@ -1,3 +1,5 @@
+//! Lines and fields, numbers and their faults, and what is printed of decimals.
+
 use super::*;
 use std::alloc::Global;
 use std::test::Fail;
@@ -12,7 +14,8 @@ fn first_field(text: &[u8]) -> Option<Field<'_>> {
 
 const TEXT: &[u8] = b"# head\n\n 1\t2 #3\r\n#\na#b\n\r\n  x";
 
-/// A field of a text by the number of its content line and its place there, both from 0, with the line that it is in.
+/// A field of a text by the number of its content line and its place there, both from 0, with the
+/// line that it is in.
 fn field_at(text: &[u8], line: usize, place: usize) -> Option<(usize, &[u8])> {
     let mut lines = Lines::new(text);
     for _ in 0..line {
