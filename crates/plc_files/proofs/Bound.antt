@@ -11,7 +11,8 @@ use Rattle.geo_laws.specs.declared.complex.Region.{Region}
 use Rattle.geo_laws.specs.declared.complex.Complex.{Complex as BoundComplex}
 use Rattle.geo_laws.specs.Complex.{Complex}
 use Rattle.plc_files.specs.declared.fault.PlcFault.{PlcFault}
-use Rattle.plc_files.specs.Text.{Facet, Plc}
+use Rattle.tet_text.specs.Lines.{IsField}
+use Rattle.plc_files.specs.Text.{AreWritten, Facet, Plc}
 use Rattle.plc_files.specs.Checks.{corners_check}
 use Rattle.plc_files.specs.Binding.{bound_facets, bound_region, complex_of, HasCornersBelow, HasWeights, Binds}
 use Rattle.plc_files.proofs.Ranges.{corners_below}
@@ -45,3 +46,10 @@ has_weights first grid t (Ok complex) binds =
     let P : Complex → Type 0 = HasWeights in
     subst P (sym binds.is) (weights first grid t)
 has_weights first grid t (Err fault) binds = tt
+
+pub has_attributes : (first : ℕ) (grid : Grid) (t : Plc) (r : Result BoundComplex PlcFault) → Binds t first grid r → IfOk r (λ complex. AreWritten t.regions → All (λ r. IsField r.attribute) complex.regions)
+has_attributes first grid t (Ok complex) binds =
+    let P : Complex → Type 0 = λ c. All (λ r. IsField r.attribute) c.regions in
+    let IsWritten : Region → Type 0 = λ r. IsField r.attribute in
+    λ h. subst P (sym binds.is) (All-map IsWritten (bound_region grid) t.regions h)
+has_attributes first grid t (Err fault) binds = tt

@@ -5,3 +5,4 @@ pub mod Scaling
 pub mod Texts
 pub mod Value
 pub mod Reread
+pub mod FieldBytes

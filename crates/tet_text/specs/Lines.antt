@@ -1,5 +1,5 @@
 -- The lines of a text and their fields.
-use Rattle.std.specs.Prelude.{ℕ, Bool, not, ◌||◌, List, [], ◌∷◌, length, drop, map, filter, ◌==◌, nat_lt, if◌then◌else◌}
+use Rattle.std.specs.Prelude.{◌≡◌, ℕ, ◌<◌, Bool, false, not, ◌||◌, List, [], ◌∷◌, length, drop, map, filter, All, ◌==◌, nat_lt, if◌then◌else◌}
 use Rattle.std.specs.List.{slice_split, before_first, position_or_len, enumerate_from}
 
 -- the line feed, 10
@@ -57,3 +57,9 @@ content_lines_from number lines = filter (λ line. nat_lt 0 (length line.fields)
 -- the lines of a text with a field
 abbrev pub content_lines : List ℕ → List ContentLine
 content_lines bytes = content_lines_from 1 (lines_of bytes)
+
+-- a field has a byte, and lies in one line: none of its bytes is a line feed or a blank
+pub record IsField (bytes : List ℕ) : Type 0 where
+  pub some : 0 < length bytes
+  pub one_line : All (λ byte. is_line_feed byte ≡ false) bytes
+  pub no_blank : All (λ byte. is_blank byte ≡ false) bytes

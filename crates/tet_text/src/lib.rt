@@ -14,7 +14,7 @@ mod wanted;
 pub use decimal::{Decimal, read_decimal};
 pub use digits::read_digits;
 pub use fault::{TextFault, TextKind};
-pub use laws::law_printed;
+pub use laws::{law_fields, law_printed};
 pub use lines::{Field, Fields, Lines};
 pub use numbers::{read_count, read_whole};
 pub use printing::{print_decimal, print_scaled};
