@@ -1,7 +1,7 @@
 -- Boxes round facets, and the points of a plane that the tree of all points finds.
 use Rattle.std.proofs.Common.{◌≡◌, ◌⊎◌, inl, inr, ℕ, ◌+◌, ◌<◌, ◌≤◌, ℤ, pos, ◌<ℤ◌, ◌≤ℤ◌, true, List, [], ◌∷◌, ◌++◌, length, take, get_or}
 use Rattle.std.proofs.Common.{refl, ap, sym, subst, ◌∙◌, arith}
-use Rattle.std.specs.Prelude.{◌↔◌, All, Any, AllPairs, Contains, Some, flat_map}
+use Rattle.std.specs.Prelude.{◌↔◌, Any, AllPairs, Contains, Some, flat_map}
 use Rattle.std.specs.List.{HoldsAt, slice_index_or}
 use Rattle.std.specs.Ordering.{nat_cmp, MatchOrdering}
 use Rattle.std.specs.declared.cmp.Ordering.{Ordering}
@@ -15,7 +15,7 @@ use Rattle.geo_laws.specs.Complex.{Polygon}
 use Rattle.geo_laws.specs.Delaunay.{point}
 use Rattle.geo_laws.specs.Segment.{is_zero}
 use Rattle.geo_laws.specs.Facet.{Facet, IsFlat, all_corners, plane, axis_of, is_within, in_region}
-use Rattle.geo_laws.proofs.Ascending.{Rises, more, none}
+use Rattle.geo_laws.proofs.Ascending.{Rises, more}
 use Rattle.geo_laws.proofs.Determinants.{side_rational-as_rational}
 use Rattle.geo_laws.proofs.Members.{IsMember, here, there, contains_of, member_of, both_true}
 use Rattle.facet_laws.specs.Box.{in_box}

@@ -1,4 +1,4 @@
-use Rattle.std.proofs.Common.{◌≡◌, pos, ◌+◌, ◌<◌, Bool, true, false, [], length, ap, subst, sym, ◌∙◌, arith}
+use Rattle.std.proofs.Common.{◌≡◌, ◌+◌, ◌<◌, Bool, true, false, [], length, ap, subst, sym, ◌∙◌, arith}
 use Rattle.sign_predicates.specs.Point.{origin}
 use Rattle.sign_predicates.specs.Orientation.{Triangle, orient, side}
 use Rattle.geo_laws.specs.Delaunay.{point}

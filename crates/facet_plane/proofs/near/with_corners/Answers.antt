@@ -1,5 +1,4 @@
 use Rattle.std.proofs.Common.{subst, sym, arith}
-use Rattle.std.specs.List.{slice_index_or}
 use Rattle.std.proofs.lemmas.List.{take_all}
 use Rattle.sign_predicates.specs.Point.{origin}
 use Rattle.box_tree.specs.Bounds.{HoldsPoint}

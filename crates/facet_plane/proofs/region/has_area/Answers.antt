@@ -1,4 +1,4 @@
-use Rattle.std.proofs.Common.{◌+◌, sym, ◌∙◌, nat_lt, length, arith, lt-ltb, le-ltb}
+use Rattle.std.proofs.Common.{sym, ◌∙◌, nat_lt, length, arith, lt-ltb, le-ltb}
 use Rattle.facet_plane.proofs.Polygons.{any_hit, any_miss, any_end}
 use Rattle.facet_plane.proofs.region.has_area.Goals as goal
 
