@@ -6,7 +6,7 @@ ghost use Rattle.tangle_fill.specs.Sample.{IsFacetTriangle};
 
 use crate::{FillFault, admissible, fill_tangle};
 use cavity_insert::delaunay;
-use geo_laws::{Face, FacetTriangle, FacetTriangles, Points, Tet, TetList};
+use geo_laws::{Face, FacetTriangle, FacetTriangles, Points, Tet};
 use sign_predicates::GridPoint;
 use simplex_meets::is_triangle;
 use std::alloc::Global;
@@ -118,45 +118,72 @@ fn are_facet_triangles(points: &Points, triangles: &FacetTriangles) -> bool
     true
 }
 
-/// How many tetrahedra the Delaunay list has when it is filled; None where it is refused with an
-/// anomaly, or may not be filled.
-fn filled(
-    alloc: Global,
-    places: &[[i8; 3]],
-    corners: &[[u32; 3]],
-) -> Result<Option<usize>, FillFault> {
+fn is_on(points: &Points, row: Tet) -> bool
+    ensures { IsTrue result → IsOn points.now row }
+{
+    (row.a as usize) < points.len()
+        && (row.b as usize) < points.len()
+        && (row.c as usize) < points.len()
+        && (row.d as usize) < points.len()
+}
+
+/// Where a sample ends.
+#[derive(Clone, Copy, PartialEq, Eq)]
+enum End {
+    /// With so many tetrahedra.
+    Filled(usize),
+    /// With an anomaly.
+    Refused,
+    /// It may not be filled.
+    Unfit,
+}
+
+/// Where the points with these facets end.
+fn end_of(alloc: Global, places: &[[i8; 3]], corners: &[[u32; 3]]) -> Result<End, FillFault> {
     let points = points_of(alloc, places)?;
     let triangles = triangles_of(alloc, corners)?;
     if points.len() > 99 || !are_distinct(&points) || !are_facet_triangles(&points, &triangles) {
-        return Ok(None);
+        return Ok(End::Unfit);
     }
     let Ok(list) = delaunay(alloc, &points) else {
-        return Ok(None);
+        return Ok(End::Unfit);
     };
     if list.is_empty() {
-        return Ok(None);
+        return Ok(End::Unfit);
     }
     match fill_tangle(alloc, &points, &list, &triangles) {
-        Ok(rows) => Ok(Some(rows.len())),
-        Err(FillFault::NoFill { anomaly: _ }) => Ok(None),
+        Ok(rows) => Ok(End::Filled(rows.len())),
+        Err(FillFault::NoFill { anomaly: _ }) => Ok(End::Refused),
         Err(FillFault::NoMemory) => Err(FillFault::NoMemory),
     }
 }
 
-/// Where a sample ends: so many tetrahedra, or an anomaly.
+/// Whether the tetrahedron of the two plates is admissible; None where it may not be asked.
+fn is_admissible(alloc: Global, row: [u32; 4]) -> Result<Option<bool>, NoMemory> {
+    let points = points_of(alloc, TWO_PLATES)?;
+    let triangles = triangles_of(alloc, &[[0, 1, 2], [3, 4, 5]])?;
+    let [a, b, c, d] = row;
+    let row = Tet { a, b, c, d };
+    if points.len() < 99 && is_on(&points, row) && are_facet_triangles(&points, &triangles) {
+        Ok(Some(admissible(&points, row, &triangles)))
+    } else {
+        Ok(None)
+    }
+}
+
 #[test]
 fn tangled_samples(rt: HostRuntime) -> Result<(), Fail> {
     let alloc = rt.alloc();
     let samples = [
         // Each plate parts the tetrahedra, and a prism between two plates has three.
-        (TWO_PLATES, &[[0, 1, 2], [3, 4, 5]][..], Some(5)),
+        (TWO_PLATES, &[[0, 1, 2], [3, 4, 5]][..], End::Filled(5)),
         (
             THREE_PLATES,
             &[[0, 1, 2], [3, 4, 5], [6, 7, 8]][..],
-            Some(8),
+            End::Filled(8),
         ),
         // One plate, with the corners of the other as further points.
-        (TWO_PLATES, &[[0, 1, 2]][..], Some(8)),
+        (TWO_PLATES, &[[0, 1, 2]][..], End::Filled(8)),
         // The twisted prism can't be cut into tetrahedra (Schoenhardt, 1928).
         (
             TWISTED_PRISM,
@@ -170,11 +197,33 @@ fn tangled_samples(rt: HostRuntime) -> Result<(), Fail> {
                 [0, 2, 3],
                 [2, 3, 5],
             ][..],
-            None,
+            End::Refused,
         ),
     ];
     for (places, corners, want) in samples {
-        assert!(rt; filled(alloc, places, corners).ok() == Some(want));
+        assert!(rt; end_of(alloc, places, corners).ok() == Some(want));
+    }
+    Ok(())
+}
+
+#[test]
+fn admissible_on_two_plates(rt: HostRuntime) -> Result<(), Fail> {
+    let rows = [
+        // The five of the mesh.
+        ([0, 1, 2, 3], true),
+        ([0, 1, 7, 2], true),
+        ([1, 2, 3, 4], true),
+        ([2, 3, 4, 5], true),
+        ([3, 4, 5, 6], true),
+        // A facet crosses it.
+        ([0, 1, 7, 6], false),
+        // It is not in the least even arrangement.
+        ([1, 2, 0, 3], false),
+        // It is not positive.
+        ([0, 1, 3, 2], false),
+    ];
+    for (row, want) in rows {
+        assert!(rt; is_admissible(rt.alloc(), row).ok() == Some(Some(want)));
     }
     Ok(())
 }
