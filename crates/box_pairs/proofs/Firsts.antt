@@ -24,17 +24,20 @@ pub below_or : (k j : ℕ) → k < j + 1 → (k < j) ⊎ (k ≡ j)
 below_or k j h = grind arith
 
 -- two parts that are not properly met
-pub unmet_of : (among : Bool) (ps : List Point) (parts : List Part) (i j : ℕ) → i < j → j < length parts → ¬ IsPairMet among ps (get_or parts i no_part) (get_or parts j no_part) → IsUnmet among ps parts i j
+pub unmet_of : (among : Bool) (ps : List Point) (parts : List Part) (i j : ℕ) → i < j → j < length parts
+    → ¬ IsPairMet among ps (get_or parts i no_part) (get_or parts j no_part) → IsUnmet among ps parts i j
 unmet_of among ps parts i j h n unmet = record { order = h; within = n; unmet = λ d met. unmet (moved d met) }
   where
-    moved : (d : Part) → IsPairMet among ps (get_or parts i d) (get_or parts j d) → IsPairMet among ps (get_or parts i no_part) (get_or parts j no_part)
+    moved : (d : Part) → IsPairMet among ps (get_or parts i d) (get_or parts j d)
+        → IsPairMet among ps (get_or parts i no_part) (get_or parts j no_part)
     moved d met =
         let P : Part → Type 0 = λ u. IsPairMet among ps u (get_or parts j d) in
         let Q : Part → Type 0 = λ u. IsPairMet among ps (get_or parts i no_part) u in
         subst Q (get_or_default parts j d no_part n) (subst P (get_or_default parts i d no_part (omega arith)) met)
 
 -- what holds a part as it was read holds the part at its place
-pub holds_at : (ps : List Point) (parts : List Part) (i : ℕ) (b : Bounds) → i < length parts → HoldsCorners ps (part_numbers (get_or parts i no_part)) b → HoldsPart ps parts i b
+pub holds_at : (ps : List Point) (parts : List Part) (i : ℕ) (b : Bounds) → i < length parts
+    → HoldsCorners ps (part_numbers (get_or parts i no_part)) b → HoldsPart ps parts i b
 holds_at ps parts i b h holds d = subst (λ (p : Part). HoldsCorners ps (part_numbers p) b) (get_or_default parts i no_part d h) holds
 
 -- ---- one part and the later ones
@@ -48,9 +51,13 @@ pub first_start : (among : Bool) (ps : List Point) (parts : List Part) (i : ℕ)
 first_start among ps parts i nodes = record { is_found = tt; settled = λ m d l. absurd (omega arith) }
 
 -- nodes whose boxes are apart from that of the part are done with
-pub first_further : (among : Bool) (ps : List Point) (parts : List Part) (i : ℕ) (nodes : List Node) (n k : ℕ) (found : Option ℕ) (b : Bounds) → IsPartTree ps parts nodes → HoldsPart ps parts i b
+pub first_further : (among : Bool) (ps : List Point) (parts : List Part) (i : ℕ) (nodes : List Node) (n k : ℕ) (found : Option ℕ) (b : Bounds)
+    → IsPartTree ps parts nodes → HoldsPart ps parts i b
     → IsFirstTo among ps parts i nodes n found → AreApartBetween nodes b n k → k ≤ length nodes → IsFirstTo among ps parts i nodes k found
-first_further among ps parts i nodes n k found b tree holds to apart l = record { is_found = to.is_found; settled = λ m d h. go m d h (less_or_more m n) }
+first_further among ps parts i nodes n k found b tree holds to apart l = record {
+  is_found = to.is_found;
+  settled = λ m d h. go m d h (less_or_more m n);
+}
   where
     past : (m : ℕ) (d : Node) → n ≤ m → m < k → IsSettled among ps parts i found (get_or nodes m d).own.place
     past m d o h after =
@@ -62,7 +69,8 @@ first_further among ps parts i nodes n k found b tree holds to apart l = record 
     go m d h (inr (inl a)) = past m d (omega arith) h
     go m d h (inr (inr a)) = past m d (omega arith) h
 
-settled_still : (among : Bool) (ps : List Point) (parts : List Part) (i : ℕ) (a b : Option ℕ) (j : ℕ) → IsNoLater a b → IsSettled among ps parts i a j → IsSettled among ps parts i b j
+settled_still : (among : Bool) (ps : List Point) (parts : List Part) (i : ℕ) (a b : Option ℕ) (j : ℕ) → IsNoLater a b
+    → IsSettled among ps parts i a j → IsSettled among ps parts i b j
 settled_still among ps parts i a b j less before after = go (before after)
   where
     go : AreMetAt among ps parts i j ⊎ IsUpTo a j → AreMetAt among ps parts i j ⊎ IsUpTo b j
@@ -70,7 +78,8 @@ settled_still among ps parts i a b j less before after = go (before after)
     go (inr u) = inr (less j u)
 
 -- one node more
-pub first_more : (among : Bool) (ps : List Point) (parts : List Part) (i : ℕ) (nodes : List Node) (n : ℕ) (x : Node) (a b : Option ℕ) → HoldsAt (λ m. m ≡ x) nodes n → IsFound among ps parts i b → IsNoLater a b
+pub first_more : (among : Bool) (ps : List Point) (parts : List Part) (i : ℕ) (nodes : List Node) (n : ℕ) (x : Node) (a b : Option ℕ)
+    → HoldsAt (λ m. m ≡ x) nodes n → IsFound among ps parts i b → IsNoLater a b
     → IsSettled among ps parts i b x.own.place → IsFirstTo among ps parts i nodes n a → IsFirstTo among ps parts i nodes (n + 1) b
 first_more among ps parts i nodes n x a b at is less here to = record { is_found = is; settled = λ m d h. go m d h (below_or m n h) }
   where
@@ -79,7 +88,8 @@ first_more among ps parts i nodes n x a b at is less here to = record { is_found
     go m d h (inr e) = subst (λ (y : Node). IsSettled among ps parts i b y.own.place) (sym (ap (λ k. get_or nodes k d) e ∙ at d)) here
 
 -- when all nodes are done with
-pub first_of_all : (among : Bool) (ps : List Point) (parts : List Part) (i : ℕ) (nodes : List Node) (n : ℕ) (found : Option ℕ) → IsPartTree ps parts nodes → length nodes ≤ n → IsFirstTo among ps parts i nodes n found
+pub first_of_all : (among : Bool) (ps : List Point) (parts : List Part) (i : ℕ) (nodes : List Node) (n : ℕ) (found : Option ℕ)
+    → IsPartTree ps parts nodes → length nodes ≤ n → IsFirstTo among ps parts i nodes n found
     → IsFirstAfter among ps parts i found
 first_of_all among ps parts i nodes n found tree l to = (to.is_found, λ j h. at j (tree.each j h))
   where
@@ -89,14 +99,16 @@ first_of_all among ps parts i nodes n found tree l to = (to.is_found, λ j h. at
 -- ---- all parts
 
 -- the parts after the one at i are properly met with it, where none is found
-none_after : (among : Bool) (ps : List Point) (parts : List Part) (i : ℕ) → IsFirstAfter among ps parts i None → (j : ℕ) → i < j → j < length parts → AreMetAt among ps parts i j
+none_after : (among : Bool) (ps : List Point) (parts : List Part) (i : ℕ) → IsFirstAfter among ps parts i None → (j : ℕ) → i < j
+    → j < length parts → AreMetAt among ps parts i j
 none_after among ps parts i first j o h = go (first.1 j h o)
   where
     go : AreMetAt among ps parts i j ⊎ IsUpTo None j → AreMetAt among ps parts i j
     go (inl met) = met
     go (inr u) = absurd u
 
-pub met_more : (among : Bool) (ps : List Point) (parts : List Part) (i : ℕ) → ((k l : ℕ) → k < i → k < l → l < length parts → AreMetAt among ps parts k l) → IsFirstAfter among ps parts i None
+pub met_more : (among : Bool) (ps : List Point) (parts : List Part) (i : ℕ)
+    → ((k l : ℕ) → k < i → k < l → l < length parts → AreMetAt among ps parts k l) → IsFirstAfter among ps parts i None
     → (k l : ℕ) → k < i + 1 → k < l → l < length parts → AreMetAt among ps parts k l
 met_more among ps parts i before first k l o h n = go (below_or k i o)
   where
@@ -105,7 +117,8 @@ met_more among ps parts i before first k l o h n = go (below_or k i o)
     go (inr e) = subst (λ m. AreMetAt among ps parts m l) (sym e) (none_after among ps parts i first l (omega arith) n)
 
 -- the first pair is that of the first part that has one, and the first after it
-pub first_pair_is : (among : Bool) (ps : List Point) (parts : List Part) (i j : ℕ) → ((k l : ℕ) → k < i → k < l → l < length parts → AreMetAt among ps parts k l) → IsFirstAfter among ps parts i (Some j)
+pub first_pair_is : (among : Bool) (ps : List Point) (parts : List Part) (i j : ℕ)
+    → ((k l : ℕ) → k < i → k < l → l < length parts → AreMetAt among ps parts k l) → IsFirstAfter among ps parts i (Some j)
     → IsFirstPair among ps parts i j
 first_pair_is among ps parts i j before first = record { is = first.0; first = λ k l h n c. go k l h n c }
   where
