@@ -62,92 +62,123 @@ fn fetched(
     }
 }
 
+/// Adds a file twice, and stores another.
+fn fill(alloc: Global, folder: &mut MemFolder) -> Result<bool, NoMemory> {
+    let (old, new) = (
+        Name::from_slice(alloc, b"old")?,
+        Name::from_slice(alloc, b"new")?,
+    );
+    folder.add(&old, &Bytes::from_slice(alloc, b"first")?)?;
+    folder.add(&old, &Bytes::from_slice(alloc, b"12 1\n")?)?;
+    let text = Bytes::from_slice(alloc, b"2 1")?;
+    Ok(folder.store(&new, &text).is_ok())
+}
+
+/// Whether a folder with these files answers this.
+fn answers_with(
+    alloc: Global,
+    name: &[u8],
+    most: usize,
+    want: Option<&[u8]>,
+) -> Result<bool, NoMemory> {
+    let mut folder = MemFolder::new(alloc);
+    let is_filled = fill(alloc, &mut folder)?;
+    let text = fetched(alloc, &mut folder, name, most)?;
+    Ok(is_filled && text.as_ref().map(|text| text.as_slice()) == want)
+}
+
 #[test]
 fn memory_folder_holds_what_was_stored(rt: HostRuntime) -> Result<(), Fail> {
-    let alloc = rt.alloc();
-    let mut folder = MemFolder::new(alloc);
-    let name = Name::from_slice(alloc, b"old")?;
-    for text in [b"first".as_slice(), b"12 1\n"] {
-        folder.add(&name, &Bytes::from_slice(alloc, text)?)?;
-    }
-    let text = Bytes::from_slice(alloc, b"2 1")?;
-    let is_stored = folder
-        .store(&Name::from_slice(alloc, b"new")?, &text)
-        .is_ok();
-    assert!(rt; is_stored);
     for (name, most, want) in [
         (b"none".as_slice(), 9, None),
         (b"old", 5, Some(b"12 1\n".as_slice())),
         (b"old", 3, Some(b"12 1")),
         (b"new", 9, Some(b"2 1")),
     ] {
-        let text = fetched(alloc, &mut folder, name, most)?;
-        assert_eq!(rt; text.as_ref().map(|text| text.as_slice()), want);
+        let is_right = answers_with(rt.alloc(), name, most, want)?;
+        assert!(rt; is_right, "at most {most}");
     }
     Ok(())
 }
 
-#[test]
-fn memory_folder_fails_where_it_is_set(rt: HostRuntime) -> Result<(), Fail> {
-    let alloc = rt.alloc();
+/// Whether the folder has just this text under the name.
+fn has_text(folder: &MemFolder, name: &Name, text: &[u8]) -> bool {
+    match folder.get(name) {
+        Some(held) => held.as_slice() == text,
+        None => false,
+    }
+}
+
+fn fetch_fails(alloc: Global, folder: &mut MemFolder, name: &Name) -> bool {
+    matches!(folder.fetch(alloc, name, 9), Err(FetchFault::Failed))
+}
+
+/// Whether of four stores and four fetches just those with this number fail, and that store leaves
+/// this text.
+fn fails_at(alloc: Global, name: &Name, text: &Bytes, nth: u32, kept: usize, want: &[u8]) -> bool {
+    let mut folder = MemFolder::new(alloc);
+    folder.fail_fetch(9);
+    folder.fail_fetch(nth);
+    folder.fail_store(nth, kept);
+    let mut is_right = true;
+    for number in 1..=4u32 {
+        let stored = folder.store(name, text);
+        if number == nth {
+            is_right &= stored == Err(StoreFault::Failed) && has_text(&folder, name, want);
+        } else {
+            is_right &= stored.is_ok();
+        }
+        is_right &= fetch_fails(alloc, &mut folder, name) == (number == nth);
+    }
+    is_right
+}
+
+fn face_fails_at(alloc: Global, nth: u32, kept: usize, want: &[u8]) -> Result<bool, NoMemory> {
     let name = Name::from_slice(alloc, b"bar.1.face")?;
     let text = Bytes::from_slice(alloc, b"12 1\n")?;
+    Ok(fails_at(alloc, &name, &text, nth, kept, want))
+}
+
+#[test]
+fn memory_folder_fails_where_it_is_set(rt: HostRuntime) -> Result<(), Fail> {
     for (nth, kept, want) in [
         (1, 0, b"".as_slice()),
         (2, 3, b"12 ".as_slice()),
         (3, 1000, b"12 1\n".as_slice()),
     ] {
-        let mut folder = MemFolder::new(alloc);
-        folder.fail_fetch(9);
-        folder.fail_fetch(nth);
-        folder.fail_store(nth, kept);
-        for number in 1..=4u32 {
-            let stored = folder.store(&name, &text);
-            assert_eq!(rt; stored.is_err(), number == nth, "store {number}");
-            if number == nth {
-                assert_eq!(rt; stored, Err(StoreFault::Failed));
-                let held = folder.get(&name).ok_or("not stored")?;
-                assert_eq!(rt; held.as_slice(), want, "store {number}");
-            }
-            let fetched = folder.fetch(alloc, &name, 9);
-            let is_failed = matches!(fetched, Err(FetchFault::Failed));
-            assert_eq!(rt; is_failed, number == nth, "fetch {number}");
-        }
+        let is_right = face_fails_at(rt.alloc(), nth, kept, want)?;
+        assert!(rt; is_right, "call {nth}");
     }
     Ok(())
 }
 
+/// What two puts answer where one is set to fail, and whether the sink then has this text.
+fn two_puts(
+    alloc: Global,
+    nth: u32,
+    kept: usize,
+    want: &[u8],
+) -> (Result<(), PutFault>, Result<(), PutFault>, bool) {
+    let mut sink = MemSink::new(alloc);
+    sink.fail_put(9, 9);
+    sink.fail_put(nth, kept);
+    let first = sink.put(b"one");
+    let second = sink.put(b"two");
+    (first, second, sink.bytes().as_slice() == want)
+}
+
 #[test]
-fn memory_sink_fails_where_it_is_set(rt: HostRuntime) -> Result<(), Fail> {
-    for (nth, kept, want) in [
-        (1, 0, b"two".as_slice()),
-        (1, 2, b"ontwo".as_slice()),
-        (2, 1000, b"onetwo".as_slice()),
-        (3, 1, b"onetwo".as_slice()),
+fn memory_sink_fails_where_it_is_set(rt: HostRuntime) {
+    let failed = Err(PutFault::Failed);
+    for (nth, kept, first, second, want) in [
+        (1, 0, failed, Ok(()), b"two".as_slice()),
+        (1, 2, failed, Ok(()), b"ontwo".as_slice()),
+        (2, 1000, Ok(()), failed, b"onetwo".as_slice()),
+        (3, 1, Ok(()), Ok(()), b"onetwo".as_slice()),
     ] {
-        let mut sink = MemSink::new(rt.alloc());
-        sink.fail_put(9, 9);
-        sink.fail_put(nth, kept);
-        let puts = [sink.put(b"one"), sink.put(b"two")];
-        assert_eq!(rt;
-            puts[0],
-            if nth == 1 {
-                Err(PutFault::Failed)
-            } else {
-                Ok(())
-            }
-        );
-        assert_eq!(rt;
-            puts[1],
-            if nth == 2 {
-                Err(PutFault::Failed)
-            } else {
-                Ok(())
-            }
-        );
-        assert_eq!(rt; sink.bytes().as_slice(), want, "put {nth}");
+        let puts = two_puts(rt.alloc(), nth, kept, want);
+        assert_eq!(rt; puts, (first, second, true), "put {nth}");
     }
-    Ok(())
 }
 
 /// Whether a file has just this text, which is no longer than allowed.
@@ -184,24 +215,25 @@ fn long_text(alloc: Global) -> Result<Bytes, NoMemory> {
     Ok(text)
 }
 
-/// What a folder of the system does with a file at this path, which is not there yet: each answer
-/// is yes.
-fn answers<F: Folder>(alloc: Global, folder: &mut F, path: &[u8]) -> Result<[bool; 7], NoMemory> {
-    let name = Name::from_slice(alloc, path)?;
-    let is_missing = matches!(folder.fetch(alloc, &name, 9), Err(FetchFault::Missing));
-    let text = long_text(alloc)?;
-    let most = text.len();
-    let is_stored = folder.store(&name, &text).is_ok();
-    let is_held = holds(alloc, folder, &name, most, text.as_slice());
-    let has_no_limit = holds(alloc, folder, &name, usize::MAX, text.as_slice());
-    let takes_one_more = taken(alloc, folder, &name, 0) == Some(1)
-        && taken(alloc, folder, &name, 199_999) == Some(200_000);
+/// What a folder of the system does with a file, which is not there yet, and these texts: each
+/// answer is yes.
+fn answers_to<F: Folder>(
+    alloc: Global,
+    folder: &mut F,
+    name: &Name,
+    text: &Bytes,
+    short: &Bytes,
+) -> [bool; 7] {
+    let is_missing = matches!(folder.fetch(alloc, name, 9), Err(FetchFault::Missing));
+    let is_stored = folder.store(name, text).is_ok();
+    let is_held = holds(alloc, folder, name, text.len(), text.as_slice());
+    let has_no_limit = holds(alloc, folder, name, usize::MAX, text.as_slice());
+    let takes_one_more = taken(alloc, folder, name, 0) == Some(1)
+        && taken(alloc, folder, name, 199_999) == Some(200_000);
     // A shorter text leaves nothing of the longer one.
-    let is_stored_again = folder
-        .store(&name, &Bytes::from_slice(alloc, b"4 3")?)
-        .is_ok();
-    let is_shorter = holds(alloc, folder, &name, 3, b"4 3");
-    Ok([
+    let is_stored_again = folder.store(name, short).is_ok();
+    let is_shorter = holds(alloc, folder, name, short.len(), short.as_slice());
+    [
         is_missing,
         is_stored,
         is_held,
@@ -209,7 +241,15 @@ fn answers<F: Folder>(alloc: Global, folder: &mut F, path: &[u8]) -> Result<[boo
         takes_one_more,
         is_stored_again,
         is_shorter,
-    ])
+    ]
+}
+
+/// The same of a file at this path.
+fn answers<F: Folder>(alloc: Global, folder: &mut F, path: &[u8]) -> Result<[bool; 7], NoMemory> {
+    let name = Name::from_slice(alloc, path)?;
+    let text = long_text(alloc)?;
+    let short = Bytes::from_slice(alloc, b"4 3")?;
+    Ok(answers_to(alloc, folder, &name, &text, &short))
 }
 
 #[test]
@@ -369,23 +409,39 @@ fn copy_file<F: Folder>(alloc: Global, folder: &mut F, from: &Name, to: &Name) -
 #[derive(Debug, PartialEq, Eq, Clone, Copy)]
 struct NoCopy;
 
+/// How a file is copied before it is there and after, and whether the copy then has its text.
+fn copied(
+    alloc: Global,
+    from: &Name,
+    to: &Name,
+    text: &Bytes,
+) -> (Result<(), NoCopy>, Result<(), NoCopy>, bool) {
+    let mut folder = MemFolder::new(alloc);
+    let before = copy_file(alloc, &mut folder, from, to);
+    let is_added = folder.add(from, text).is_ok();
+    let after = copy_file(alloc, &mut folder, from, to);
+    let is_held = has_text(&folder, to, text.as_slice());
+    (before, after, is_added && is_held)
+}
+
+fn text_is_copied(alloc: Global) -> Result<bool, NoMemory> {
+    let from = Name::from_slice(alloc, b"from")?;
+    let to = Name::from_slice(alloc, b"to")?;
+    let text = Bytes::from_slice(alloc, b"text")?;
+    Ok(copied(alloc, &from, &to, &text) == (Err(NoCopy), Ok(()), true))
+}
+
+/// Whether a folder copies no file with no name.
+fn copies_no_name<F: Folder>(alloc: Global, folder: &mut F) -> bool {
+    let name = Name::new(alloc);
+    copy_file(alloc, folder, &name, &name) == Err(NoCopy)
+}
+
 #[test]
 fn any_folder_copies_a_file(rt: HostRuntime) -> Result<(), Fail> {
-    let alloc = rt.alloc();
-    let (from, to) = (
-        Name::from_slice(alloc, b"from")?,
-        Name::from_slice(alloc, b"to")?,
-    );
-    let mut folder = MemFolder::new(alloc);
-    assert_eq!(rt; copy_file(alloc, &mut folder, &from, &to), Err(NoCopy));
-    folder.add(&from, &Bytes::from_slice(alloc, b"text")?)?;
-    assert_eq!(rt; copy_file(alloc, &mut folder, &from, &to), Ok(()));
-    let held = folder.get(&to).ok_or("not stored")?;
-    assert_eq!(rt; held.as_slice(), b"text".as_slice());
+    let is_copied = text_is_copied(rt.alloc())?;
     let mut files = OsFolder::new(&rt);
-    assert_eq!(rt;
-        copy_file(alloc, &mut files, &Name::new(alloc), &to),
-        Err(NoCopy)
-    );
+    let is_refused = copies_no_name(rt.alloc(), &mut files);
+    assert_eq!(rt; (is_copied, is_refused), (true, true));
     Ok(())
 }
