@@ -55,16 +55,6 @@ smooth_pair ps ts g face s t whole hs ht smooth u v cu cv on_u on_v =
     subst (λ (w : Tet). AreSmooth ps ts w v) (only_one g.rows whole.one_a_side s u hs.0 cu (oriented face) hs.1 on_u)
     (subst (AreSmooth ps ts s) (only_one g.rows whole.one_a_side t v ht.0 cv (reversed (oriented face)) ht.1 on_v) smooth)
 
-absent : (rows : List Tet) (f : Face) (u : Tet) → All (λ t. lies_on f t ≡ false) rows → Contains rows u → lies_on f u ≡ true → ⊥
-absent rows f u none c h = let m = found_of rows u (member_of rows u c) in fails_true (lies_on f u) (subst (λ t. lies_on f t ≡ false) (m.is u) (none m.place u m.within)) h
-
--- where no row lies on a side
-pub smooth_front : (ps : List Point) (ts : List FacetTriangle) (rows : List Tet) (face : sorted_face.Face) → All (λ t. lies_on (oriented face) t ≡ false) rows → IsSmoothAt ps ts rows face
-smooth_front ps ts rows face none u v cu cv on_u on_v = absurd (absent rows (oriented face) u none cu on_u)
-
-pub smooth_back : (ps : List Point) (ts : List FacetTriangle) (rows : List Tet) (face : sorted_face.Face) → All (λ t. lies_on (reversed (oriented face)) t ≡ false) rows → IsSmoothAt ps ts rows face
-smooth_back ps ts rows face none u v cu cv on_u on_v = absurd (absent rows (reversed (oriented face)) v none cv on_v)
-
 -- ---- all rows
 
 turned : (ps : List Point) (ts : List FacetTriangle) (s t : Tet) → AreSmooth ps ts s t → AreSmooth ps ts t s
