@@ -1,4 +1,4 @@
--- Words that ask for the sample have no name.
+-- Words that ask for the sample have no name, and no file is stored.
 use Rattle.std.proofs.Common.{◌≡◌, ℕ, ◌+◌, Bool, true, false, not, ◌&&◌, ◌||◌, List, [], ◌∷◌, length, Option, Some, None, if◌then◌else◌, refl, ap}
 use Rattle.std.specs.Prelude.{find, unwrap_or, IsSome}
 use Rattle.std.specs.List.{list_any}
@@ -27,3 +27,13 @@ pub name_of-sampled : (words : List (List ℕ)) → words_fault words ≡ None �
 name_of-sampled words is h =
     let none = find-list_any is_name words (name_or_sample (bad_word_from 1 false words) (is_named words) (is_sampled words) (length words + 1, 1) is h) in
     ap (λ (name : Option (List ℕ)). unwrap_or name []) none
+
+-- ---- of the sample no file is stored
+
+pub left_out : (asked sampled : Bool) → sampled ≡ true → asked || sampled ≡ true
+left_out true sampled h = refl
+left_out false sampled h = h
+
+pub not_stored : (asked sampled : Bool) → sampled ≡ true → asked && not sampled ≡ false
+not_stored true sampled h = ap not h
+not_stored false sampled h = refl

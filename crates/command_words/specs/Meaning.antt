@@ -1,5 +1,5 @@
 -- What the words of the command line ask for.
-use Rattle.std.specs.Prelude.{ℕ, ◌≡◌, ◌≤◌, Bool, false, true, ◌==◌, ◌&&◌, ◌||◌, Option, Some, None, IfSome, List, [], ◌∷◌, codes, find, unwrap_or, if◌then◌else◌}
+use Rattle.std.specs.Prelude.{ℕ, ◌≡◌, ◌≤◌, Bool, false, true, ◌==◌, ◌&&◌, ◌||◌, not, Option, Some, None, IfSome, List, [], ◌∷◌, codes, find, unwrap_or, if◌then◌else◌}
 use Rattle.std.specs.List.{list_any}
 use Rattle.std.specs.Option.{option_or}
 use Rattle.command_words.specs.Grammar.{is_cluster, is_name, is_sampled, budget_at_front, last_from, last_number, sample_of}
@@ -47,20 +47,20 @@ is_piecewise asked (Some Smesh) = true
 
 -- ---- the options
 
--- what the words ask for; 112 is p, 110 n, 102 f, 101 e, 122 z, 99 c, 65 A, 81 Q, 78 N, 69 E and 70 F
+-- what the words ask for; 112 is p, 110 n, 102 f, 101 e, 122 z, 99 c, 65 A, 81 Q, 78 N, 69 E and 70 F. Of the sample no file is stored
 abbrev pub options_of : List (List ℕ) → Options
 options_of words = record {
   piecewise = is_piecewise (is_switched words 112 || is_sampled words) (extension_of (name_of words));
-  neighbors = is_switched words 110;
+  neighbors = is_switched words 110 && not (is_sampled words);
   all_faces = is_switched words 102;
   edges = is_switched words 101;
   from_zero = is_switched words 122;
   keep_hull = is_switched words 99;
   regions = is_switched words 65;
   quiet = is_switched words 81;
-  no_node = is_switched words 78;
-  no_ele = is_switched words 69;
-  no_face = is_switched words 70;
+  no_node = is_switched words 78 || is_sampled words;
+  no_ele = is_switched words 69 || is_sampled words;
+  no_face = is_switched words 70 || is_sampled words;
   budget = unwrap_or (last_budget words) 100000;
   halvings = unwrap_or (last_number (codes "--halvings=") 12 words) 12;
   decimals = last_number (codes "--decimals=") 20 words;
@@ -76,8 +76,12 @@ pub record AreInRange (options : Options) : Type 0 where
   pub decimals : IfSome options.decimals (λ n. n ≤ 20)
   pub sample : IfSome options.sample (λ n. n ≤ 10000)
 
--- the options of words that ask for the sample name no file, and a complex is meshed
+-- the options of words that ask for the sample name no file to read and none to store, and a complex is meshed
 pub record AreOfSample (options : Options) : Type 0 where
   pub base : options.base ≡ []
   pub extension : options.extension ≡ None
   pub piecewise : options.piecewise ≡ true
+  pub no_node : options.no_node ≡ true
+  pub no_ele : options.no_ele ≡ true
+  pub no_face : options.no_face ≡ true
+  pub no_neighbors : options.neighbors ≡ false

@@ -23,7 +23,7 @@ pub struct Options {
     /// The letter p, the sample and an extension of a complex put this on; the extension `.node`
     /// puts it off.
     pub piecewise: bool,
-    /// Write the `.neigh` file.
+    /// Write the `.neigh` file; not of the sample.
     pub neighbors: bool,
     /// Write all faces into the `.face` file.
     pub all_faces: bool,
@@ -37,7 +37,7 @@ pub struct Options {
     pub regions: bool,
     /// No summary.
     pub quiet: bool,
-    /// No `.node` file.
+    /// No `.node` file; so of the sample, as the two below.
     pub no_node: bool,
     /// No `.ele` file.
     pub no_ele: bool,

@@ -1,6 +1,6 @@
 //! The options that the words of the command line ask for.
 
-ghost use Rattle.std.specs.Prelude.{◌≡◌, ℕ, Some, None, Err, IfOk, IsSome};
+ghost use Rattle.std.specs.Prelude.{◌≡◌, ◌||◌, ◌&&◌, not, ℕ, Some, None, Err, IfOk, IsSome};
 ghost use Rattle.command_words.specs.Grammar.{words_fault};
 ghost use Rattle.command_words.specs.Meaning.{has_switch, is_switched, name_of, is_piecewise, options_of, AreInRange, AreOfSample};
 ghost use Rattle.command_words.specs.declared.fault.WordsFault.TheVariants.{Usage};
@@ -34,18 +34,19 @@ pub fn read_words(alloc: Global, words: &Words) -> Result<Options, WordsFault>
     let name = name_of(words);
     let extension = extension_of(name);
     let sample = sample_of(words);
+    let sampled = sample.is_some();
     Ok(Options {
-        piecewise: is_piecewise(is_switched(words, b'p') || sample.is_some(), extension),
-        neighbors: is_switched(words, b'n'),
+        piecewise: is_piecewise(is_switched(words, b'p') || sampled, extension),
+        neighbors: is_stored(is_switched(words, b'n'), sampled),
         all_faces: is_switched(words, b'f'),
         edges: is_switched(words, b'e'),
         from_zero: is_switched(words, b'z'),
         keep_hull: is_switched(words, b'c'),
         regions: is_switched(words, b'A'),
         quiet: is_switched(words, b'Q'),
-        no_node: is_switched(words, b'N'),
-        no_ele: is_switched(words, b'E'),
-        no_face: is_switched(words, b'F'),
+        no_node: is_left_out(is_switched(words, b'N'), sampled),
+        no_ele: is_left_out(is_switched(words, b'E'), sampled),
+        no_face: is_left_out(is_switched(words, b'F'), sampled),
         budget: last_budget(words).unwrap_or(MOST_BUDGET),
         halvings: last_number(HALVINGS, MOST_HALVINGS, words).unwrap_or(MOST_HALVINGS),
         decimals: last_number(DECIMALS, MOST_DECIMALS, words),
@@ -53,6 +54,20 @@ pub fn read_words(alloc: Global, words: &Words) -> Result<Options, WordsFault>
         base: Name::from_slice(alloc, base_of(name))?,
         extension,
     })
+}
+
+/// Whether a file is left out: the words ask for that, or for the sample, of which none is stored.
+fn is_left_out(asked: bool, sampled: bool) -> bool
+    ensures { result ≡ asked || sampled }
+{
+    asked || sampled
+}
+
+/// Whether a file is stored that the words ask for: not of the sample.
+fn is_stored(asked: bool, sampled: bool) -> bool
+    ensures { result ≡ asked && not sampled }
+{
+    asked && !sampled
 }
 
 /// Whether the word is a cluster and has the letter.

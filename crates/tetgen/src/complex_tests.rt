@@ -198,13 +198,19 @@ fn complexes_are_meshed(rt: HostRuntime) -> Result<(), Fail> {
         ),
         (
             &[],
-            &[b"--sample=2000"],
+            &[b"-nef", b"--sample=2000"],
             (
                 0,
                 Some(b"points 2008 added 0 tetrahedra 13200 faces 26406 edges 15213\n"),
                 Some(b""),
             ),
-            &[],
+            &[
+                (b".1.node", None),
+                (b".1.ele", None),
+                (b".1.face", None),
+                (b".1.edge", None),
+                (b".1.neigh", None),
+            ],
         ),
         // Two plates that cross one tetrahedron.
         (
