@@ -53,7 +53,7 @@ fn a_bar_is_meshed(rt: HostRuntime) -> Result<(), Fail> {
 
 #[test]
 fn complexes_are_meshed(rt: HostRuntime) -> Result<(), Fail> {
-    let cases: [(&[File], &[&[u8]], End, &[Left]); 14] = [
+    let cases: [(&[File], &[&[u8]], End, &[Left]); 15] = [
         // Prism with a notch.
         (
             &[(b"t.poly", PRISM)],
@@ -85,7 +85,12 @@ fn complexes_are_meshed(rt: HostRuntime) -> Result<(), Fail> {
                 Some(b"points 8 added 3 tetrahedra 18 faces 42 edges 34\n"),
                 Some(b""),
             ),
-            &[],
+            &[(
+                b"t.1.node",
+                Some(
+                    b"11 3 0 0\n0 -8 0 0\n1 8 0 0\n2 -4 1 0\n3 -4 -1 1\n4 -4 -1 -1\n5 4 1 0\n6 4 -1 1\n7 4 -1 -1\n8 0 0 0\n9 -4 0 0\n10 4 0 0\n",
+                ),
+            )],
         ),
         // No facet and no hull.
         (
@@ -229,6 +234,25 @@ fn complexes_are_meshed(rt: HostRuntime) -> Result<(), Fail> {
                 Some(b"5 4 0\n0 0 1 2 3\n1 0 1 7 2\n2 1 2 3 4\n3 2 3 4 5\n4 3 4 5 6\n"),
             )],
         ),
+        // Regions of a box in a box.
+        (
+            &[(
+                b"t.poly",
+                b"16 3 0 0\n1 0 0 0\n2 3 0 0\n3 3 3 0\n4 0 3 0\n5 0 0 3\n6 3 0 3\n7 3 3 3\n8 0 3 3\n9 1 1 1\n10 2 1 1\n11 2 2 1\n12 1 2 1\n13 1 1 2\n14 2 1 2\n15 2 2 2\n16 1 2 2\n12\n1\n4 1 2 3 4\n1\n4 5 6 7 8\n1\n4 1 5 6 2\n1\n4 2 6 7 3\n1\n4 3 7 8 4\n1\n4 4 8 5 1\n1\n4 9 10 11 12\n1\n4 13 14 15 16\n1\n4 9 13 14 10\n1\n4 10 14 15 11\n1\n4 11 15 16 12\n1\n4 12 16 13 9\n0\n2\n1 0.5 1.4 1.6 10\n2 1.4 1.5 1.6 20\n",
+            )],
+            &[b"-pA", b"t"],
+            (
+                0,
+                Some(b"points 16 added 0 tetrahedra 42 faces 90 edges 63\n"),
+                Some(b""),
+            ),
+            &[(
+                b"t.1.ele",
+                Some(
+                    b"42 4 1\n1 1 2 4 9 10\n2 1 2 9 5 10\n3 1 4 5 9 10\n4 2 3 4 10 10\n5 2 3 10 6 10\n6 2 4 9 10 10\n7 2 5 6 9 10\n8 2 6 10 9 10\n9 3 4 10 11 10\n10 3 4 11 7 10\n11 3 6 7 10 10\n12 3 7 11 10 10\n13 4 5 9 8 10\n14 4 7 8 11 10\n15 4 8 9 12 10\n16 4 8 12 11 10\n17 4 9 10 12 10\n18 4 10 11 12 10\n19 5 6 9 13 10\n20 5 6 13 8 10\n21 5 8 13 9 10\n22 6 7 10 14 10\n23 6 7 14 8 10\n24 6 8 14 13 10\n25 6 9 13 10 10\n26 6 10 13 14 10\n27 7 8 11 15 10\n28 7 8 15 14 10\n29 7 10 14 11 10\n30 7 11 14 15 10\n31 8 9 12 13 10\n32 8 11 15 12 10\n33 8 12 15 16 10\n34 8 12 16 13 10\n35 8 13 16 14 10\n36 8 14 16 15 10\n37 9 10 12 13 20\n38 10 11 12 14 20\n39 10 12 13 14 20\n40 11 12 14 15 20\n41 12 13 14 16 20\n42 12 14 15 16 20\n",
+                ),
+            )],
+        ),
     ];
     for (held, words, end, files) in cases {
         assert!(rt; leaves(rt.alloc(), held, words, end, files)?);
@@ -238,7 +262,7 @@ fn complexes_are_meshed(rt: HostRuntime) -> Result<(), Fail> {
 
 #[test]
 fn holes_are_carved(rt: HostRuntime) -> Result<(), Fail> {
-    let cases: [(&[File], &[&[u8]], End, &[Left]); 11] = [
+    let cases: [(&[File], &[&[u8]], End, &[Left]); 14] = [
         // Hole points on a facet, its side, its corner, and beyond the hull.
         (
             &[(
@@ -389,6 +413,48 @@ fn holes_are_carved(rt: HostRuntime) -> Result<(), Fail> {
             (
                 0,
                 Some(b"points 6 added 0 tetrahedra 2 faces 8 edges 11\n"),
+                Some(b""),
+            ),
+            &[],
+        ),
+        // A box in a box.
+        (
+            &[(
+                b"t.poly",
+                b"16 3 0 0\n1 0 0 0\n2 3 0 0\n3 3 3 0\n4 0 3 0\n5 0 0 3\n6 3 0 3\n7 3 3 3\n8 0 3 3\n9 1 1 1\n10 2 1 1\n11 2 2 1\n12 1 2 1\n13 1 1 2\n14 2 1 2\n15 2 2 2\n16 1 2 2\n12\n1\n4 1 2 3 4\n1\n4 5 6 7 8\n1\n4 1 5 6 2\n1\n4 2 6 7 3\n1\n4 3 7 8 4\n1\n4 4 8 5 1\n1\n4 9 10 11 12\n1\n4 13 14 15 16\n1\n4 9 13 14 10\n1\n4 10 14 15 11\n1\n4 11 15 16 12\n1\n4 12 16 13 9\n0\n",
+            )],
+            &[b"-p", b"t"],
+            (
+                0,
+                Some(b"points 16 added 0 tetrahedra 42 faces 90 edges 63\n"),
+                Some(b""),
+            ),
+            &[],
+        ),
+        // With a hole in the inner box.
+        (
+            &[(
+                b"t.poly",
+                b"16 3 0 0\n1 0 0 0\n2 3 0 0\n3 3 3 0\n4 0 3 0\n5 0 0 3\n6 3 0 3\n7 3 3 3\n8 0 3 3\n9 1 1 1\n10 2 1 1\n11 2 2 1\n12 1 2 1\n13 1 1 2\n14 2 1 2\n15 2 2 2\n16 1 2 2\n12\n1\n4 1 2 3 4\n1\n4 5 6 7 8\n1\n4 1 5 6 2\n1\n4 2 6 7 3\n1\n4 3 7 8 4\n1\n4 4 8 5 1\n1\n4 9 10 11 12\n1\n4 13 14 15 16\n1\n4 9 13 14 10\n1\n4 10 14 15 11\n1\n4 11 15 16 12\n1\n4 12 16 13 9\n1\n1 1.4 1.5 1.6\n",
+            )],
+            &[b"-p", b"t"],
+            (
+                0,
+                Some(b"points 16 added 0 tetrahedra 36 faces 84 edges 62\n"),
+                Some(b""),
+            ),
+            &[],
+        ),
+        // With a hole point on a facet.
+        (
+            &[(
+                b"t.poly",
+                b"16 3 0 0\n1 0 0 0\n2 3 0 0\n3 3 3 0\n4 0 3 0\n5 0 0 3\n6 3 0 3\n7 3 3 3\n8 0 3 3\n9 1 1 1\n10 2 1 1\n11 2 2 1\n12 1 2 1\n13 1 1 2\n14 2 1 2\n15 2 2 2\n16 1 2 2\n12\n1\n4 1 2 3 4\n1\n4 5 6 7 8\n1\n4 1 5 6 2\n1\n4 2 6 7 3\n1\n4 3 7 8 4\n1\n4 4 8 5 1\n1\n4 9 10 11 12\n1\n4 13 14 15 16\n1\n4 9 13 14 10\n1\n4 10 14 15 11\n1\n4 11 15 16 12\n1\n4 12 16 13 9\n1\n1 2 1.5 1.5\n",
+            )],
+            &[b"-p", b"t"],
+            (
+                0,
+                Some(b"points 16 added 0 tetrahedra 42 faces 90 edges 63\n"),
                 Some(b""),
             ),
             &[],
