@@ -468,7 +468,7 @@ fn holes_are_carved(rt: HostRuntime) -> Result<(), Fail> {
 
 #[test]
 fn complexes_are_refused(rt: HostRuntime) -> Result<(), Fail> {
-    let cases: [(&[File], &[&[u8]], End, &[Left]); 6] = [
+    let cases: [(&[File], &[&[u8]], End, &[Left]); 5] = [
         // Not flat.
         (
             &[(b"bar.poly", BENT)],
