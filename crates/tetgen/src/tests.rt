@@ -572,13 +572,27 @@ fn long_comment(alloc: Global) -> Result<Bytes, NoMemory> {
     Ok(text)
 }
 
+/// A complex with one facet of one polygon, whose corners are three points again and again.
+fn wide_polygon(alloc: Global) -> Result<Bytes, NoMemory> {
+    let mut text = Bytes::from_slice(alloc, b"3\n0 0 0 0\n1 1 0 0\n2 0 1 0\n1\n1\n1001")?;
+    for n in 0..1_001 {
+        text.append(b" ")?;
+        append_number(&mut text, n % 3)?;
+    }
+    text.append(b"\n0\n")?;
+    Ok(text)
+}
+
 /// Whether a run on one large file is refused with this message.
-fn refuses_large(alloc: Global, text: &Bytes, message: &[u8]) -> Result<bool, NoMemory> {
+fn refuses_large(
+    alloc: Global,
+    name: &[u8],
+    text: &Bytes,
+    message: &[u8],
+) -> Result<bool, NoMemory> {
     let mut place = Place::with_files(alloc, &[])?;
-    place
-        .folder
-        .add(&Name::from_slice(alloc, b"t.node")?, text)?;
-    place.run(alloc, &[b"t"])?;
+    place.folder.add(&Name::from_slice(alloc, name)?, text)?;
+    place.run(alloc, &[name])?;
     place.has(alloc, (5, Some(b""), Some(message)), &[])
 }
 
@@ -586,7 +600,14 @@ fn refuses_large(alloc: Global, text: &Bytes, message: &[u8]) -> Result<bool, No
 fn large_files_are_refused(rt: HostRuntime) -> Result<(), Fail> {
     let alloc = rt.alloc();
     let many = slanted(alloc, 20_001)?;
-    assert!(rt; refuses_large(alloc, &many, b"tetgen: 20001 points, at most 20000\n")?);
+    assert!(rt;
+        refuses_large(
+            alloc,
+            b"t.node",
+            &many,
+            b"tetgen: 20001 points, at most 20000\n"
+        )?
+    );
     Ok(())
 }
 
@@ -594,6 +615,28 @@ fn large_files_are_refused(rt: HostRuntime) -> Result<(), Fail> {
 fn a_file_of_too_many_bytes_is_refused(rt: HostRuntime) -> Result<(), Fail> {
     let alloc = rt.alloc();
     let long = long_comment(alloc)?;
-    assert!(rt; refuses_large(alloc, &long, b"tetgen: t.node: over 67108864 bytes\n")?);
+    assert!(rt;
+        refuses_large(
+            alloc,
+            b"t.node",
+            &long,
+            b"tetgen: t.node: over 67108864 bytes\n"
+        )?
+    );
+    Ok(())
+}
+
+#[test]
+fn a_polygon_of_too_many_corners_is_refused(rt: HostRuntime) -> Result<(), Fail> {
+    let alloc = rt.alloc();
+    let wide = wide_polygon(alloc)?;
+    assert!(rt;
+        refuses_large(
+            alloc,
+            b"t.poly",
+            &wide,
+            b"tetgen: line 7: 1001 corners, at most 1000\n"
+        )?
+    );
     Ok(())
 }
