@@ -1,47 +1,32 @@
 -- How a cell keeps the sides of a slot.
-use Rattle.std.proofs.Common.{◌≡◌, ℕ, zero, suc, ◌<◌, ◌≤◌, List, [], ◌∷◌, length, get_or, set, Some, None, IsSome, refl, ap, arith}
-use Rattle.std.proofs.lemmas.Bool.{le-ltb}
-use Rattle.mesh_arena.specs.Mesh.{at}
-use Rattle.mesh_arena.specs.Cells.{side_to, sides_in}
+use Rattle.std.proofs.Common.{◌≡◌, ℕ, zero, suc, ◌<◌, List, [], ◌∷◌, length, map, get_or, set, Option, Some, None, nat_lt, if◌then◌else◌, refl, ap, ◌∙◌, arith}
+use Rattle.std.proofs.lemmas.Bool.{lt-ltb}
+use Rattle.std.proofs.lemmas.List.{map-set}
+use Rattle.mesh_arena.specs.declared.arena.SlotFace.{SlotFace}
+use Rattle.mesh_arena.specs.declared.cell.Cell.{Cell}
+use Rattle.mesh_arena.specs.declared.slot.Corner.{Corner}
+use Rattle.mesh_arena.specs.Mesh.{SlotValue, at, tet_with}
+use Rattle.mesh_arena.specs.Cells.{corner_with, corners_in, is_infinite, slot_in, face_in, side_to, sides_in, tet_in}
 
-pub side_to-face : (slot face : ℕ) → face < 4 → side_to slot face ≡ Some (at slot face)
-side_to-face slot zero h = refl
-side_to-face slot (suc zero) h = refl
-side_to-face slot (suc (suc zero)) h = refl
-side_to-face slot (suc (suc (suc zero))) h = refl
-side_to-face slot (suc (suc (suc (suc n)))) h = absurd (omega arith)
+-- what a link leads to
+pub side_to-parts : (link slot face : ℕ) → slot_in link ≡ slot → face_in link ≡ face → face < 4 → side_to link ≡ Some (at slot face)
+side_to-parts link slot face s f below = rw (s, f) (yes face below)
+  where
+    yes : (face : ℕ) → face < 4 → (if nat_lt face 4 then Some (at slot face) else None) ≡ Some (at slot face)
+    yes face below = rw (lt-ltb face 4 below) refl
 
-pub side_to-none : (slot face : ℕ) → 4 ≤ face → side_to slot face ≡ None
-side_to-none slot face h = rw (le-ltb face 4 h) refl
+-- a link to another slot and face leaves the corners
+corners_in-set : (numbers links : List ℕ) (i link : ℕ) → i < length links → is_infinite link ≡ is_infinite (get_or links i 0) → corners_in numbers (set links i link) ≡ corners_in numbers links
+corners_in-set [] links i link h e = refl
+corners_in-set (n ∷ ns) [] zero link h e = refl
+corners_in-set (n ∷ ns) [] (suc i) link h e = refl
+corners_in-set (n ∷ ns) (x ∷ xs) zero link h e = rw e refl
+corners_in-set (n ∷ ns) (x ∷ xs) (suc i) link h e = ap (λ rest. corner_with n x ∷ rest) (corners_in-set ns xs i link (omega arith) e)
 
--- slot and face are written together
-pub sides_in-set : (slots faces : List ℕ) (i slot face : ℕ) → sides_in (set slots i slot) (set faces i face) ≡ set (sides_in slots faces) i (side_to slot face)
-sides_in-set [] faces i slot face = refl
-sides_in-set (x ∷ xs) [] zero slot face = refl
-sides_in-set (x ∷ xs) [] (suc i) slot face = refl
-sides_in-set (x ∷ xs) (y ∷ ys) zero slot face = refl
-sides_in-set (x ∷ xs) (y ∷ ys) (suc i) slot face = ap (λ rest. side_to x y ∷ rest) (sides_in-set xs ys i slot face)
-
--- no face, and so no side
-pub sides_in-clear : (slots faces : List ℕ) (i : ℕ) → sides_in slots (set faces i 4) ≡ set (sides_in slots faces) i None
-sides_in-clear [] faces i = refl
-sides_in-clear (x ∷ xs) [] i = refl
-sides_in-clear (x ∷ xs) (y ∷ ys) zero = refl
-sides_in-clear (x ∷ xs) (y ∷ ys) (suc i) = ap (λ rest. side_to x y ∷ rest) (sides_in-clear xs ys i)
-
-pub sides_in-read : (slots faces : List ℕ) (i : ℕ) → i < length slots → i < length faces → get_or (sides_in slots faces) i None ≡ side_to (get_or slots i 0) (get_or faces i 0)
-sides_in-read [] faces i h g = absurd (omega arith)
-sides_in-read (x ∷ xs) [] i h g = absurd (omega arith)
-sides_in-read (x ∷ xs) (y ∷ ys) zero h g = refl
-sides_in-read (x ∷ xs) (y ∷ ys) (suc i) h g = sides_in-read xs ys i (omega arith) (omega arith)
-
-pub side_there : (slots faces : List ℕ) (i : ℕ) → i < length slots → i < length faces → get_or faces i 0 < 4 → IsSome (get_or (sides_in slots faces) i None)
-side_there slots faces i h g below = rw (sides_in-read slots faces i h g, side_to-face (get_or slots i 0) (get_or faces i 0) below) refl
-
--- a bound on each of four
-pub each_below : (f : ℕ → ℕ) → f 0 < 4 → f 1 < 4 → f 2 < 4 → f 3 < 4 → (k : ℕ) → k < 4 → f k < 4
-each_below f a b c d zero h = a
-each_below f a b c d (suc zero) h = b
-each_below f a b c d (suc (suc zero)) h = c
-each_below f a b c d (suc (suc (suc zero))) h = d
-each_below f a b c d (suc (suc (suc (suc k)))) h = absurd (omega arith)
+-- and becomes the side behind its face
+pub tet_in-set : (c : Cell) (i link : ℕ) (b : Option SlotFace) → i < length c.links → is_infinite link ≡ is_infinite (get_or c.links i 0) → side_to link ≡ b
+    → tet_in (record { points = c.points; links = set c.links i link }) ≡ tet_with (tet_in c) i b
+tet_in-set c i link b h e s = by_parts (corners_in-set c.points c.links i link h e) (map-set side_to c.links i link ∙ ap (set (sides_in c.links) i) s)
+  where
+    by_parts : {xs : List Corner} {ys : List (Option SlotFace)} → xs ≡ corners_in c.points c.links → ys ≡ set (sides_in c.links) i b → ◌≡◌ {A = SlotValue} (record { corners = xs; sides = ys }) (tet_with (tet_in c) i b)
+    by_parts p q = rw (p, q) refl

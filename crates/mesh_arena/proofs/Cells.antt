@@ -8,22 +8,22 @@ use Rattle.mesh_arena.specs.Mesh.{SlotValue, tet_at, corners_at, side, at, SameF
 use Rattle.mesh_arena.specs.declared.arena.SlotFace.{SlotFace}
 use Rattle.mesh_arena.specs.declared.slot.Corner.{Corner}
 use Rattle.mesh_arena.proofs.Mesh.{Writes, Writes-set, Links-writes, IsMesh-links, side_live, lone, Puts, Puts-set, Puts-push, Takes-puts, IsMesh-takes}
-use Rattle.mesh_arena.specs.Cells.{corners_in, sides_in, tet_in, tet_of, next_of, IsFreeList, most_cells, IsCounted, IsSound}
+use Rattle.mesh_arena.specs.Cells.{corners_in, sides_in, live_in, tet_in, tet_of, next_of, IsFreeList, most_cells, IsCounted, IsSound}
 
 -- the count of a cell
 abbrev one_if : Bool → ℕ
 one_if b = cond b 1 0
 
-pub tet_of-live : (c : Cell) → c.live ≡ true → tet_of c ≡ Some (tet_in c)
+pub tet_of-live : (c : Cell) → live_in c ≡ true → tet_of c ≡ Some (tet_in c)
 tet_of-live c h = rw h refl
 
-pub tet_of-free : (c : Cell) → c.live ≡ false → tet_of c ≡ None
+pub tet_of-free : (c : Cell) → live_in c ≡ false → tet_of c ≡ None
 tet_of-free c h = rw h refl
 
-is_some-tet_of : (c : Cell) → is_some (tet_of c) ≡ c.live
-is_some-tet_of c = by_flag c.live refl
+is_some-tet_of : (c : Cell) → is_some (tet_of c) ≡ live_in c
+is_some-tet_of c = by_flag (live_in c) refl
   where
-    by_flag : (b : Bool) → c.live ≡ b → is_some (tet_of c) ≡ c.live
+    by_flag : (b : Bool) → live_in c ≡ b → is_some (tet_of c) ≡ live_in c
     by_flag true h = rw h refl
     by_flag false h = rw h refl
 
@@ -50,26 +50,26 @@ IsFreeList-set cells at e (suc n) from off p =
     (p.0, kept, p.2, IsFreeList-set cells at e n (next_of p.0) (λ m below. off m (omega arith)) p.3)
 
 -- a live cell is on no list of free cells
-pub live_is_off_list : (cells : List Cell) (at : ℕ) (c : Cell) → slice_get cells at ≡ Some c → c.live ≡ true → (m : ℕ) → IsFreeList cells (suc m) at → ⊥
+pub live_is_off_list : (cells : List Cell) (at : ℕ) (c : Cell) → slice_get cells at ≡ Some c → live_in c ≡ true → (m : ℕ) → IsFreeList cells (suc m) at → ⊥
 live_is_off_list cells at c found live m p =
     let listed = p.1 in
     let same : p.0 ≡ c = cc in
-    true≢false (sym live ∙ ap (λ (x : Cell). x.live) (sym same) ∙ p.2)
+    true≢false (sym live ∙ ap live_in (sym same) ∙ p.2)
 
 -- the count of live cells after a write
-count-set : (cells : List Cell) (at : ℕ) (old new : Cell) → slice_get cells at ≡ Some old → count_by is_some (map tet_of (set cells at new)) + one_if old.live ≡ count_by is_some (map tet_of cells) + one_if new.live
+count-set : (cells : List Cell) (at : ℕ) (old new : Cell) → slice_get cells at ≡ Some old → count_by is_some (map tet_of (set cells at new)) + one_if (live_in old) ≡ count_by is_some (map tet_of cells) + one_if (live_in new)
 count-set cells at old new found =
     let within = slice_get_within cells at old found in
     let read : get_or (map tet_of cells) at None ≡ tet_of old =
     get_or-map tet_of cells at old None within ∙ ap tet_of (get_or_from_slice_get cells at old old found) in
     let counted = sum_by-set (λ (o : Option SlotValue). cond (is_some o) 1 0) (map tet_of cells) at (tet_of new) None (omega (arith, length-map cells tet_of)) in
-    let was : one_if (is_some (get_or (map tet_of cells) at None)) ≡ one_if old.live = ap (λ (o : Option SlotValue). one_if (is_some o)) read ∙ ap one_if (is_some-tet_of old) in
-    let is : one_if (is_some (tet_of new)) ≡ one_if new.live = ap one_if (is_some-tet_of new) in
+    let was : one_if (is_some (get_or (map tet_of cells) at None)) ≡ one_if (live_in old) = ap (λ (o : Option SlotValue). one_if (is_some o)) read ∙ ap one_if (is_some-tet_of old) in
+    let is : one_if (is_some (tet_of new)) ≡ one_if (live_in new) = ap one_if (is_some-tet_of new) in
     let moved : count_by is_some (map tet_of (set cells at new)) ≡ count_by is_some (set (map tet_of cells) at (tet_of new)) = ap (count_by is_some) (map-set tet_of cells at new) in
     omega (arith, counted, was, is, moved)
 
 -- a live cell is rewritten
-pub IsCounted-rewrite : (cells : List Cell) (live next at : ℕ) (old new : Cell) → IsCounted cells live next → slice_get cells at ≡ Some old → old.live ≡ true → new.live ≡ true → IsCounted (set cells at new) live next
+pub IsCounted-rewrite : (cells : List Cell) (live next at : ℕ) (old new : Cell) → IsCounted cells live next → slice_get cells at ≡ Some old → live_in old ≡ true → live_in new ≡ true → IsCounted (set cells at new) live next
 IsCounted-rewrite cells live next at old new sound found was is =
     let count = count-set cells at old new found in
     let before = ap one_if was in
@@ -82,10 +82,10 @@ IsCounted-rewrite cells live next at old new sound found was is =
     }
 
 -- the next cell is the end of full cells, or a free cell
-pub next_cases : (cells : List Cell) (live next : ℕ) → IsCounted cells live next → ((next ≡ length cells) × (live ≡ length cells)) ⊎ ((c : Cell) × (slice_get cells next ≡ Some c) × (c.live ≡ false))
+pub next_cases : (cells : List Cell) (live next : ℕ) → IsCounted cells live next → ((next ≡ length cells) × (live ≡ length cells)) ⊎ ((c : Cell) × (slice_get cells next ≡ Some c) × (live_in c ≡ false))
 next_cases cells live next sound = by_count sound.free sound.total sound.linked
   where
-    by_count : (n : ℕ) → live + n ≡ length cells → IsFreeList cells n next → ((next ≡ length cells) × (live ≡ length cells)) ⊎ ((c : Cell) × (slice_get cells next ≡ Some c) × (c.live ≡ false))
+    by_count : (n : ℕ) → live + n ≡ length cells → IsFreeList cells n next → ((next ≡ length cells) × (live ≡ length cells)) ⊎ ((c : Cell) × (slice_get cells next ≡ Some c) × (live_in c ≡ false))
     by_count zero total linked = inl (linked, omega arith)
     by_count (suc n) total linked = inr (linked.0, linked.1, linked.2)
 
@@ -96,12 +96,20 @@ full_at_end cells live next sound at_end =
       | inr found ↦ omega (arith, slice_get_within cells next _ found.1)
     ]
 
+-- the next cell is no further than the end
+pub next_within : (cells : List Cell) (live next : ℕ) → IsCounted cells live next → next ≤ length cells
+next_within cells live next sound =
+    elim (next_cases cells live next sound) [
+      | inl full ↦ omega (arith, full.0)
+      | inr found ↦ omega (arith, slice_get_within cells next _ found.1)
+    ]
+
 -- before the end of the cells the next cell is a free one
-pub free_before_end : (cells : List Cell) (live next : ℕ) → IsCounted cells live next → next ≢ length cells → (c : Cell) × (slice_get cells next ≡ Some c) × (c.live ≡ false)
+pub free_before_end : (cells : List Cell) (live next : ℕ) → IsCounted cells live next → next ≢ length cells → (c : Cell) × (slice_get cells next ≡ Some c) × (live_in c ≡ false)
 free_before_end cells live next sound before =
     elim (next_cases cells live next sound) [ inl full ↦ absurd (before full.0) | inr found ↦ found ]
 
-pub IsCounted-push : (cells : List Cell) (live next : ℕ) (new : Cell) → IsCounted cells live next → next ≡ length cells → new.live ≡ true → IsCounted (cells ++ new ∷ []) (live + 1) (next + 1)
+pub IsCounted-push : (cells : List Cell) (live next : ℕ) (new : Cell) → IsCounted cells live next → next ≡ length cells → live_in new ≡ true → IsCounted (cells ++ new ∷ []) (live + 1) (next + 1)
 IsCounted-push cells live next new sound at_end is =
     let full = full_at_end cells live next sound at_end in
     let longer = length_push cells new in
@@ -115,7 +123,7 @@ IsCounted-push cells live next new sound at_end is =
     }
 
 -- the first free cell leaves the list: the rest of the list is shorter, so it does not come back to it
-pub IsCounted-fill : (cells : List Cell) (live next : ℕ) (old new : Cell) → IsCounted cells live next → slice_get cells next ≡ Some old → new.live ≡ true → IsCounted (set cells next new) (live + 1) (next_of old)
+pub IsCounted-fill : (cells : List Cell) (live next : ℕ) (old new : Cell) → IsCounted cells live next → slice_get cells next ≡ Some old → live_in new ≡ true → IsCounted (set cells next new) (live + 1) (next_of old)
 IsCounted-fill cells live next old new sound found is = by_count sound.free sound.total sound.linked
   where
     by_count : (n : ℕ) → live + n ≡ length cells → IsFreeList cells n next → IsCounted (set cells next new) (live + 1) (next_of old)
@@ -125,7 +133,7 @@ IsCounted-fill cells live next old new sound found is = by_count sound.free soun
         let same : linked.0 ≡ old = cc in
         let off : (m : ℕ) → m < n → IsFreeList cells (suc m) next → ⊥ =
         λ m below p. omega (arith, IsFreeList-unique cells (suc m) (suc n) next p linked) in
-        let was : old.live ≡ false = ap (λ (x : Cell). x.live) (sym same) ∙ linked.2 in
+        let was : live_in old ≡ false = ap live_in (sym same) ∙ linked.2 in
         let before = ap one_if was in
         let after = ap one_if is in
         record {
@@ -135,7 +143,7 @@ IsCounted-fill cells live next old new sound found is = by_count sound.free soun
           linked = IsFreeList-set cells next new n (next_of old) off (subst (λ (c : Cell). IsFreeList cells n (next_of c)) same linked.3);
         }
 
-pub IsCounted-vacate : (cells : List Cell) (live next at : ℕ) (old new : Cell) → IsCounted cells live next → slice_get cells at ≡ Some old → old.live ≡ true → new.live ≡ false → next_of new ≡ next → IsCounted (set cells at new) (live - 1) at
+pub IsCounted-vacate : (cells : List Cell) (live next at : ℕ) (old new : Cell) → IsCounted cells live next → slice_get cells at ≡ Some old → live_in old ≡ true → live_in new ≡ false → next_of new ≡ next → IsCounted (set cells at new) (live - 1) at
 IsCounted-vacate cells live next at old new sound found was is links =
     let within = slice_get_within cells at _ found in
     let count = count-set cells at old new found in
@@ -160,14 +168,14 @@ live_within cells s live = omega (arith, within (map tet_of cells) s live, lengt
     within slots s live = grind (arith, get_or_past)
 
 -- what a live place reads, from the list of slots and from the cells
-pub live_cell : (cells : List Cell) (s : ℕ) (d c : Cell) → IsSome (corners_at (map tet_of cells) s) → c ≡ get_or cells s d → (s < length cells) × (slice_get cells s ≡ Some c) × (c.live ≡ true) × (tet_at (map tet_of cells) s ≡ Some (tet_in c))
+pub live_cell : (cells : List Cell) (s : ℕ) (d c : Cell) → IsSome (corners_at (map tet_of cells) s) → c ≡ get_or cells s d → (s < length cells) × (slice_get cells s ≡ Some c) × (live_in c ≡ true) × (tet_at (map tet_of cells) s ≡ Some (tet_in c))
 live_cell cells s d c live read =
     let lt : s < length cells = live_within cells s live in
     let got : tet_at (map tet_of cells) s ≡ tet_of c = get_or-map tet_of cells s d None lt ∙ ap tet_of (sym read) in
-    let flag : c.live ≡ true = by_flag c.live refl got in
+    let flag : live_in c ≡ true = by_flag (live_in c) refl got in
     (lt, slice_get-get_or cells s d lt ∙ ap Some (sym read), flag, got ∙ tet_of-live c flag)
   where
-    by_flag : (b : Bool) → c.live ≡ b → tet_at (map tet_of cells) s ≡ tet_of c → c.live ≡ true
+    by_flag : (b : Bool) → live_in c ≡ b → tet_at (map tet_of cells) s ≡ tet_of c → live_in c ≡ true
     by_flag true e got = e
     by_flag false e got =
         let gone : tet_at (map tet_of cells) s ≡ None = got ∙ tet_of-free c e in
@@ -176,13 +184,13 @@ live_cell cells s d c live read =
 -- the cell has another side, and else stays
 pub record Resided (c new : Cell) (i : ℕ) (b : Option SlotFace) : Type 0 where
   pub tet : tet_in new ≡ tet_with (tet_in c) i b
-  pub live : new.live ≡ c.live
+  pub live : live_in new ≡ live_in c
 
 -- a side of a cell is rewritten
 pub Wrote-cell : (cells : List Cell) (s i : ℕ) (c new : Cell) (b : Option SlotFace) → IsShaped (map tet_of cells) → IsSome (corners_at (map tet_of cells) s) → i < 4 → c ≡ get_or cells s c → Resided c new i b → Writes (map tet_of cells) (map tet_of (set cells s new)) s i b
 Wrote-cell cells s i c new b shaped is_live face read resided =
     let found = live_cell cells s c c is_live read in
-    let is : new.live ≡ true = resided.live ∙ found.2 in
+    let is : live_in new ≡ true = resided.live ∙ found.2 in
     let written : map tet_of (set cells s new) ≡ set (map tet_of cells) s (Some (tet_with (tet_in c) i b)) =
     map-set tet_of cells s new ∙ ap (set (map tet_of cells) s) (tet_of-live new is ∙ ap Some resided.tet) in
     rw written (Writes-set (map tet_of cells) s i (tet_in c) b shaped found.3 face)
@@ -214,7 +222,7 @@ Linked-writes cells live next s i t j one two one2 two2 sound live_s live_t hi h
     }
 
 -- a side as it is read from a cell
-pub side_read : (cells : List Cell) (s i : ℕ) (c : Cell) → IsSome (corners_at (map tet_of cells) s) → c ≡ get_or cells s c → get_or (sides_in c.slots c.faces) i None ≡ side (map tet_of cells) s i
+pub side_read : (cells : List Cell) (s i : ℕ) (c : Cell) → IsSome (corners_at (map tet_of cells) s) → c ≡ get_or cells s c → get_or (sides_in c.links) i None ≡ side (map tet_of cells) s i
 side_read cells s i c live read = rw (live_cell cells s c c live read).3 refl
 
 -- what has a side, as a cell
@@ -227,9 +235,9 @@ live_from_side slots s i shaped some = by_side (side slots s i) refl some
 
 -- a live cell with these corners and no neighbor
 pub record IsFresh (c : Cell) (cs : List Corner) : Type 0 where
-  pub live : c.live ≡ true
-  pub corners : corners_in c.points c.infinite ≡ cs
-  pub sides : sides_in c.slots c.faces ≡ None ∷ None ∷ None ∷ None ∷ []
+  pub live : live_in c ≡ true
+  pub corners : corners_in c.points c.links ≡ cs
+  pub sides : sides_in c.links ≡ None ∷ None ∷ None ∷ None ∷ []
 
 tet_of-fresh : (c : Cell) (cs : List Corner) → IsFresh c cs → tet_of c ≡ Some (lone cs)
 tet_of-fresh c cs fresh = tet_of-live c fresh.live ∙ ap Some (by_parts fresh.corners fresh.sides)
@@ -282,7 +290,7 @@ Took-fill cells live next cs old new sound before read four differ fresh =
     let within : next < length cells = slice_get_within cells next _ free.1 in
     let found : slice_get cells next ≡ Some old = slice_get-get_or cells next old within ∙ ap Some (sym read) in
     let same : free.0 ≡ old = let h = free.1 in cc in
-    let dead : old.live ≡ false = ap (λ (x : Cell). x.live) (sym same) ∙ free.2 in
+    let dead : live_in old ≡ false = ap live_in (sym same) ∙ free.2 in
     let inside : next < length (map tet_of cells) = omega (arith, length-map cells tet_of) in
     let puts : Puts (map tet_of cells) (map tet_of (set cells next new)) next (Some (lone cs)) =
     rw (map-set tet_of cells next new, tet_of-fresh new cs fresh) (Puts-set (map tet_of cells) next (Some (lone cs)) inside) in
@@ -294,7 +302,7 @@ Took-fill cells live next cs old new sound before read four differ fresh =
     }
 
 -- the neighbor of a live slot is live
-pub next_live : (cells : List Cell) (s i : ℕ) (c : Cell) (two : SlotFace) → IsMesh (map tet_of cells) → IsSome (corners_at (map tet_of cells) s) → i < 4 → c ≡ get_or cells s c → get_or (sides_in c.slots c.faces) i None ≡ Some two → IsSome (corners_at (map tet_of cells) two.slot) × (two.face < 4)
+pub next_live : (cells : List Cell) (s i : ℕ) (c : Cell) (two : SlotFace) → IsMesh (map tet_of cells) → IsSome (corners_at (map tet_of cells) s) → i < 4 → c ≡ get_or cells s c → get_or (sides_in c.links) i None ≡ Some two → IsSome (corners_at (map tet_of cells) two.slot) × (two.face < 4)
 next_live cells s i c two mesh live face read found =
     let was : side (map tet_of cells) s i ≡ Some two = sym (side_read cells s i c live read) ∙ found in
     side_live (map tet_of cells) two.slot two.face (at s i) mesh.shaped (mesh.back s i two was)

@@ -8,7 +8,7 @@ use Rattle.mesh_arena.specs.declared.slot.Corner.{Corner}
 use Rattle.mesh_arena.specs.declared.slot.RimFace.{RimFace}
 use Rattle.mesh_arena.specs.declared.slot.Slot.{Slot}
 use Rattle.mesh_arena.specs.Mesh.{SlotValue, tet_at, corners_at, corner_in, IsLive, side_in, side, at, IsShaped, IsMesh, Off}
-use Rattle.mesh_arena.specs.Cells.{tet_of, next_of, IsCounted}
+use Rattle.mesh_arena.specs.Cells.{live_in, tet_of, next_of, IsCounted}
 use Rattle.mesh_arena.specs.Star.{behind, rim_at, face_side, behind_rim}
 use Rattle.mesh_arena.specs.Cavity.{slot_at, IsIn}
 use Rattle.mesh_arena.specs.Replace.{IsCavity, IsRim}
@@ -62,7 +62,7 @@ module _ (first now : List Cell) (cavity : List Slot) (n next from : ℕ) (was :
   pub live_ahead : IsLive (slots_in now) place
   live_ahead = subst (λ (o : Option SlotValue). IsSome (option_map (λ (t : SlotValue). t.corners) o)) (sym (was.kept place (λ j h e. let same : j ≡ n = once j n (omega arith) lt e in omega arith))) is_live
 
-  pub FreesCells-step : (c new : Cell) → c ≡ get_or now place c → new.live ≡ false → next_of new ≡ from → FreesCells first (set now place new) cavity (n + 1) next place
+  pub FreesCells-step : (c new : Cell) → c ≡ get_or now place c → live_in new ≡ false → next_of new ≡ from → FreesCells first (set now place new) cavity (n + 1) next place
   FreesCells-step c new read dead names =
       let found = live_cell now place c c live_ahead read in
       let puts : Puts (slots_in now) (slots_in (set now place new)) place None =

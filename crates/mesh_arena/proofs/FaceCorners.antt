@@ -9,7 +9,7 @@ use Rattle.mesh_arena.specs.StarLinks.{Has}
 use Rattle.mesh_arena.proofs.Cells.{live_cell}
 
 -- the corners of a live cell
-pub cell_corners : (cells : List Cell) (s : ℕ) (c : Cell) → IsLive (map tet_of cells) s → c ≡ get_or cells s c → corners_at (map tet_of cells) s ≡ Some (corners_in c.points c.infinite)
+pub cell_corners : (cells : List Cell) (s : ℕ) (c : Cell) → IsLive (map tet_of cells) s → c ≡ get_or cells s c → corners_at (map tet_of cells) s ≡ Some (corners_in c.points c.links)
 cell_corners cells s c live read = ap (option_map (λ (t : SlotValue). t.corners)) (live_cell cells s c c live read).3
 
 module _ (slots : List (Option SlotValue)) (s : ℕ) (cs : List Corner) (is : corners_at slots s ≡ Some cs) where

@@ -1,11 +1,10 @@
 -- How an `Arena` lays out its slots. No public clause cites this module.
-use Rattle.std.specs.Prelude.{◌≡◌, ℕ, false, zero, suc, ◌+◌, ◌-◌, ◌≤◌, min, List, [], ◌∷◌, map, length, Option, Some, None, is_some}
-use Rattle.std.specs.Prelude.{count_by, slice_get, slice_set, slice_index_or, nat_lt, if◌then◌else◌}
+use Rattle.std.specs.Prelude.{◌≡◌, ℕ, Bool, false, not, zero, suc, ◌+◌, ◌-◌, ◌*◌, ◌/◌, ◌%◌, ◌≤◌, ◌==◌, min, List, [], ◌∷◌, map, length, Option, Some, None, is_some}
+use Rattle.std.specs.Prelude.{count_by, slice_get, slice_index_or, nat_lt, if◌then◌else◌}
 use Rattle.mesh_arena.specs.declared.cell.Cell.{Cell}
 use Rattle.mesh_arena.specs.declared.arena.SlotFace.{SlotFace}
 use Rattle.mesh_arena.specs.declared.slot.Corner.{Corner}
 use Rattle.mesh_arena.specs.declared.slot.Corner.TheVariants.{Point, Ghost}
-use Rattle.mesh_arena.specs.declared.slot.SlotCorners.{SlotCorners}
 use Rattle.mesh_arena.specs.Mesh.{SlotValue, at, IsMesh}
 
 -- the number that is kept of a corner
@@ -13,50 +12,61 @@ abbrev pub number_in : Corner → ℕ
 number_in (Point i) = i
 number_in Ghost = 0
 
--- the first place of the point at infinity, or 4
-abbrev pub infinite_place : Corner → Corner → Corner → Corner → ℕ
-infinite_place Ghost b c d = 0
-infinite_place (Point i) Ghost c d = 1
-infinite_place (Point i) (Point j) Ghost d = 2
-infinite_place (Point i) (Point j) (Point k) Ghost = 3
-infinite_place (Point i) (Point j) (Point k) (Point l) = 4
+-- A link is one number for a face: the slot behind it times 16, and the place of the shared face in that slot, or 4 where there is none, and 8
+-- more where the corner opposite the face is the point at infinity. The first link of a free cell has the next free cell and 5
+abbrev pub slot_in : ℕ → ℕ
+slot_in link = link / 16
 
-abbrev pub infinite_in : SlotCorners → ℕ
-infinite_in t = infinite_place t.a t.b t.c t.d
+abbrev pub face_in : ℕ → ℕ
+face_in link = link % 8
 
--- the corners with these numbers, but the point at infinity in one place, if that is a place
-abbrev pub corners_in : List ℕ → ℕ → List Corner
-corners_in points infinite = slice_set (map Point points) infinite Ghost
+abbrev pub is_infinite : ℕ → Bool
+is_infinite link = (link / 8) % 2 == 1
 
--- the slot and face behind a face, if that is a face
-abbrev pub side_to : ℕ → ℕ → Option SlotFace
-side_to slot face = if nat_lt face 4 then Some (at slot face) else None
+-- the link with these parts
+abbrev pub link_with : ℕ → Bool → ℕ → ℕ
+link_with slot infinite face = slot * 16 + (if infinite then 8 else 0) + face
 
-abbrev pub sides_in : List ℕ → List ℕ → List (Option SlotFace)
-sides_in [] faces = []
-sides_in (slot ∷ slots) [] = []
-sides_in (slot ∷ slots) (face ∷ faces) = side_to slot face ∷ sides_in slots faces
+-- the corner with this number and link
+abbrev pub corner_with : ℕ → ℕ → Corner
+corner_with number link = if is_infinite link then Ghost else Point number
+
+abbrev pub corners_in : List ℕ → List ℕ → List Corner
+corners_in [] links = []
+corners_in (number ∷ numbers) [] = []
+corners_in (number ∷ numbers) (link ∷ links) = corner_with number link ∷ corners_in numbers links
+
+-- the slot and face behind a face, if there is one
+abbrev pub side_to : ℕ → Option SlotFace
+side_to link = if nat_lt (face_in link) 4 then Some (at (slot_in link) (face_in link)) else None
+
+abbrev pub sides_in : List ℕ → List (Option SlotFace)
+sides_in links = map side_to links
 
 abbrev pub tet_in : Cell → SlotValue
-tet_in c = record { corners = corners_in c.points c.infinite; sides = sides_in c.slots c.faces }
+tet_in c = record { corners = corners_in c.points c.links; sides = sides_in c.links }
+
+-- whether the cell is live
+abbrev pub live_in : Cell → Bool
+live_in c = not (face_in (slice_index_or c.links 0 0) == 5)
 
 -- the next free cell, where this one is free
 abbrev pub next_of : Cell → ℕ
-next_of c = slice_index_or c.slots 0 0
+next_of c = slot_in (slice_index_or c.links 0 0)
 
 -- the tetrahedron of a live cell
 abbrev pub tet_of : Cell → Option SlotValue
-tet_of c = if c.live then Some (tet_in c) else None
+tet_of c = if live_in c then Some (tet_in c) else None
 
 -- from this place on, so many free cells each name the next, and the last names the end of the cells
 abbrev pub IsFreeList : List Cell → ℕ → ℕ → Type 0
 IsFreeList cells zero at = at ≡ length cells
-IsFreeList cells (suc count) at = (c : Cell) × (slice_get cells at ≡ Some c) × (c.live ≡ false)
+IsFreeList cells (suc count) at = (c : Cell) × (slice_get cells at ≡ Some c) × (live_in c ≡ false)
     × IsFreeList cells count (next_of c)
 
--- the most slots of an arena, so that a place fits 32 bits and so does the number past the end
+-- the most slots of an arena, so that a place fits 28 bits and so does the number past the end
 abbrev pub most_cells : ℕ
-most_cells = 4294967295
+most_cells = 268435455
 
 -- `live` counts the live cells, and the list from `next` holds every free one
 pub record IsCounted (cells : List Cell) (live next : ℕ) : Type 0 where

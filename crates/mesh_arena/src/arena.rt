@@ -46,8 +46,8 @@ pub struct Arena {
     alloc: Global,
 }
 
-// So that a place fits 32 bits, and so does the number past the end.
-const MOST_CELLS: usize = u32::MAX as usize;
+// So that a place fits 28 bits, and so does the number past the end.
+const MOST_CELLS: usize = (1 << 28) - 1;
 
 impl Model for Arena {
     ghost use Rattle.std.specs.Prelude.{◌-◌, min, map, vec_capacity};
@@ -96,7 +96,7 @@ impl Arena {
         ensures { MatchOption result (tet_at self.now.slots i ≡ None)
             (λ s. (s.index ≡ i) × IsLive self.now.slots i) }
     {
-        if self.cells[i].live {
+        if self.cells[i].is_live() {
             Some(Slot { index: i as u32 })
         } else {
             None
@@ -218,7 +218,7 @@ impl Arena {
     }
 
     /// A new slot with these four different corners and no neighbor, at a free place where there is
-    /// one, and else past the end. On `NoMemory` the arena is as before; it also comes at 2^32 - 1
+    /// one, and else past the end. On `NoMemory` the arena is as before; it also comes at 2^28 - 1
     /// live slots, and never where a rim of one face is spare.
     pub fn alloc_slot(&mut self, corners: SlotCorners) -> Result<Slot, NoMemory>
         requires { AllDiffer (corner_list corners) }

@@ -1,11 +1,10 @@
-//! How a slot lies in memory: 40 bytes, with numbers in place of enums.
-ghost use Rattle.std.specs.Prelude.{◌≡◌, ℕ, ◌<◌, IsTrue, true, false, [], ◌∷◌, Some, None, IsSome};
-ghost use Rattle.std.specs.Prelude.{slice_index_or, if◌then◌else◌};
-ghost use Rattle.mesh_arena.specs.declared.slot.Corner.TheVariants.{Point as Numbered};
+//! How a slot lies in memory: 32 bytes, so that two lie in each line of the near cache.
+ghost use Rattle.std.specs.Prelude.{◌≡◌, ℕ, ◌<◌, ◌^◌, IsTrue, true, false, [], ◌∷◌, Some, None};
+ghost use Rattle.std.specs.Prelude.{IsSome, slice_index_or, if◌then◌else◌};
 ghost use Rattle.mesh_arena.specs.declared.slot.Corner.TheVariants.{Ghost as Infinite};
-ghost use Rattle.mesh_arena.specs.Mesh.{corner_list, AllDiffer, tet_with};
-ghost use Rattle.mesh_arena.specs.Cells.{number_in, infinite_in, corners_in, sides_in, tet_in};
-ghost use Rattle.mesh_arena.specs.Cells.{next_of};
+ghost use Rattle.mesh_arena.specs.Mesh.{corner_list, at, tet_with};
+ghost use Rattle.mesh_arena.specs.Cells.{number_in, corners_in, corner_with, sides_in, side_to};
+ghost use Rattle.mesh_arena.specs.Cells.{is_infinite, slot_in, face_in, live_in, tet_in, next_of};
 
 use crate::arena::SlotFace;
 use crate::{Corner, SlotCorners};
@@ -14,119 +13,168 @@ use crate::{Corner, SlotCorners};
 pub(crate) struct Cell {
     // The numbers of the corners. In the place of the point at infinity the number is idle.
     points: [u32; 4],
-    // The slots behind the faces, idle where there is none. In a free cell the first is the next
-    // free cell.
-    slots: [u32; 4],
-    // The faces of those slots, or 4 where there is no slot.
-    faces: [u8; 4],
-    // The place of the point at infinity, or 4 where all corners are points.
-    infinite: u8,
-    pub(crate) live: bool,
+    // What stands behind the faces.
+    links: [u32; 4],
 }
 
-// No place of a corner and no face.
-const NO_PLACE: u8 = 4;
+// No face, and the face of a free cell. All faces are less.
+const NO_FACE: u32 = 4;
+
+const FREE: u32 = 5;
+
+// A slot takes its number times this, and the point at infinity this.
+const SLOT: u32 = 16;
+
+const INFINITE: u32 = 8;
+
+// The link of a face that nothing stands behind, opposite this corner.
+fn bare(corner: Corner) -> u32
+    ensures corner { corner_with (number_in corner) result ≡ corner }
+    ensures side { side_to result ≡ None }
+    ensures face { face_in result ≡ 4 }
+{
+    match corner {
+        Corner::Point(_) => NO_FACE,
+        Corner::Ghost => INFINITE + NO_FACE,
+    }
+}
+
+// The link with another slot and face.
+fn linked(link: u32, slot: u32, face: u32) -> u32
+    requires slot { slot < 2 ^ 28 }
+    requires face { face < 8 }
+    ensures infinite { is_infinite result ≡ is_infinite link }
+    ensures slot { slot_in result ≡ slot }
+    ensures face { face_in result ≡ face }
+{
+    slot * SLOT + link % SLOT / INFINITE * INFINITE + face
+}
 
 impl Cell {
     // A live cell with these corners and no neighbor.
     pub(crate) fn new(corners: SlotCorners) -> Self
-        requires { AllDiffer (corner_list corners) }
-        ensures live { result.live ≡ true }
-        ensures corners { corners_in result.points result.infinite ≡ corner_list corners }
-        ensures sides { sides_in result.slots result.faces ≡ None ∷ None ∷ None ∷ None ∷ [] }
+        ensures live { live_in result ≡ true }
+        ensures corners { corners_in result.points result.links ≡ corner_list corners }
+        ensures sides { sides_in result.links ≡ None ∷ None ∷ None ∷ None ∷ [] }
     {
         let SlotCorners { a, b, c, d } = corners;
         Cell {
             points: [number_of(a), number_of(b), number_of(c), number_of(d)],
-            slots: [0; 4],
-            faces: [NO_PLACE; 4],
-            infinite: infinite_place(corners),
-            live: true,
+            links: [bare(a), bare(b), bare(c), bare(d)],
         }
+    }
+
+    // Whether the cell is no free one.
+    pub(crate) fn is_live(&self) -> bool
+        ensures { result ≡ live_in self.now }
+    {
+        self.links[0] % INFINITE != FREE
     }
 
     // The corners, in their places.
     pub(crate) fn corners(&self) -> [Corner; 4]
-        ensures { result ≡ corners_in self.now.points self.now.infinite }
+        ensures { result ≡ corners_in self.now.points self.now.links }
     {
         let [a, b, c, d] = self.points;
+        let [i, j, k, l] = self.links;
         [
-            corner_of(a, self.infinite == 0),
-            corner_of(b, self.infinite == 1),
-            corner_of(c, self.infinite == 2),
-            corner_of(d, self.infinite == 3),
+            corner_of(a, i),
+            corner_of(b, j),
+            corner_of(c, k),
+            corner_of(d, l),
         ]
     }
 
     // The slot and face behind a face, if they are there.
     pub(crate) fn side(&self, face: u8) -> Option<SlotFace>
         requires { face < 4 }
-        ensures { result ≡ slice_index_or (sides_in self.now.slots self.now.faces) face None }
+        ensures { result ≡ slice_index_or (sides_in self.now.links) face None }
     {
-        let there = self.faces[face as usize];
-        if there < NO_PLACE {
-            Some(SlotFace {
-                slot: self.slots[face as usize],
-                face: there,
-            })
-        } else {
-            None
-        }
+        side_of(self.links[face as usize])
     }
 
     // Whether each face has a neighbor.
     pub(crate) fn is_linked(&self) -> bool
         ensures { IsTrue result → (k : ℕ) → k < 4
-            → IsSome (slice_index_or (sides_in self.now.slots self.now.faces) k None) }
+            → IsSome (slice_index_or (sides_in self.now.links) k None) }
     {
-        let [a, b, c, d] = self.faces;
-        a < NO_PLACE && b < NO_PLACE && c < NO_PLACE && d < NO_PLACE
+        let [a, b, c, d] = self.links;
+        has_face(a) && has_face(b) && has_face(c) && has_face(d)
     }
 
     // Puts a slot behind a face.
     pub(crate) fn put_side(&mut self, face: u8, side: SlotFace)
         requires face { face < 4 }
         requires there { side.face < 4 }
+        requires slot { side.slot < 2 ^ 28 }
+        requires live { live_in self.old ≡ true }
         ensures tet { tet_in self.new ≡ tet_with (tet_in self.old) face (Some side) }
-        ensures live { self.new.live ≡ self.old.live }
+        ensures live { live_in self.new ≡ live_in self.old }
     {
-        self.slots[face as usize] = side.slot;
-        self.faces[face as usize] = side.face;
+        let link = self.links[face as usize];
+        self.links[face as usize] = linked(link, side.slot, u32::from(side.face));
     }
 
     // Takes away what stands behind a face.
     pub(crate) fn clear_side(&mut self, face: u8)
-        requires { face < 4 }
+        requires face { face < 4 }
+        requires live { live_in self.old ≡ true }
         ensures tet { tet_in self.new ≡ tet_with (tet_in self.old) face None }
-        ensures live { self.new.live ≡ self.old.live }
+        ensures live { live_in self.new ≡ live_in self.old }
     {
-        self.faces[face as usize] = NO_PLACE;
+        let link = self.links[face as usize];
+        self.links[face as usize] = linked(link, 0, NO_FACE);
     }
 
     // The next free cell, where this one is free.
     pub(crate) fn next_free(&self) -> u32
         ensures { result ≡ next_of self.now }
     {
-        self.slots[0]
+        self.links[0] / SLOT
     }
 
     // Frees the cell, which names the next free one from now on.
     pub(crate) fn free(&mut self, next: u32)
-        ensures live { self.new.live ≡ false }
+        requires { next < 2 ^ 28 }
+        ensures live { live_in self.new ≡ false }
         ensures next { next_of self.new ≡ next }
     {
-        self.slots[0] = next;
-        self.live = false;
+        self.links[0] = linked(self.links[0], next, FREE);
     }
 }
 
-fn corner_of(number: u32, infinite: bool) -> Corner
-    ensures { result ≡ (if infinite then Infinite else Numbered number) }
+// The corner with this number, or the point at infinity where the link says so.
+#[inline]
+fn corner_of(number: u32, link: u32) -> Corner
+    ensures { result ≡ corner_with number link }
 {
-    if infinite {
+    if link / INFINITE % 2 == 1 {
         Corner::Ghost
     } else {
         Corner::Point(number)
+    }
+}
+
+// Whether a slot and face stand behind the face with this link.
+#[inline]
+fn has_face(link: u32) -> bool
+    ensures { IsTrue result → IsSome (side_to link) }
+{
+    link % INFINITE < NO_FACE
+}
+
+// They, if they do.
+#[inline]
+fn side_of(link: u32) -> Option<SlotFace>
+    ensures { result ≡ side_to link }
+{
+    if link % INFINITE < NO_FACE {
+        Some(SlotFace {
+            slot: link / SLOT,
+            face: (link % INFINITE) as u8,
+        })
+    } else {
+        None
     }
 }
 
@@ -136,30 +184,5 @@ fn number_of(corner: Corner) -> u32
     match corner {
         Corner::Point(number) => number,
         Corner::Ghost => 0,
-    }
-}
-
-// The first place of the point at infinity.
-fn infinite_place(corners: SlotCorners) -> u8
-    ensures { result ≡ infinite_in corners }
-{
-    match corners {
-        SlotCorners {
-            a: Corner::Ghost,
-            ..
-        } => 0,
-        SlotCorners {
-            b: Corner::Ghost,
-            ..
-        } => 1,
-        SlotCorners {
-            c: Corner::Ghost,
-            ..
-        } => 2,
-        SlotCorners {
-            d: Corner::Ghost,
-            ..
-        } => 3,
-        _ => NO_PLACE,
     }
 }

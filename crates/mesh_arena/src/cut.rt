@@ -1,5 +1,5 @@
 //! How a cavity is cut out of the cells of a mesh.
-ghost use Rattle.std.specs.Prelude.{◌≡◌, ℕ, ◌<◌, length, vec_capacity};
+ghost use Rattle.std.specs.Prelude.{◌≡◌, ℕ, ◌<◌, ◌^◌, length, vec_capacity};
 ghost use Rattle.mesh_arena.specs.Mesh.{IsLive, IsShaped};
 ghost use Rattle.mesh_arena.specs.Star.{rim_at};
 ghost use Rattle.mesh_arena.specs.Cavity.{slot_at};
@@ -30,6 +30,8 @@ pub(crate) fn free_cells(cells: &mut Vec<Cell>, cavity: &[Slot], next: u32) -> u
         → IsLive (slots_in cells.old.items) (slot_at cavity.now j) }
     requires once { (i j : ℕ) → i < length cavity.now → j < length cavity.now
         → slot_at cavity.now i ≡ slot_at cavity.now j → i ≡ j }
+    requires few { length cells.old.items < 2 ^ 28 }
+    requires next { next < 2 ^ 28 }
     ensures frees { FreesCells cells.old.items cells.new.items cavity.now (length cavity.now) next
         result }
     ensures capacity { vec_capacity cells.new ≡ vec_capacity cells.old }

@@ -1,5 +1,6 @@
 use Rattle.std.proofs.Common.{arith}
 use Rattle.mesh_arena.proofs.Cone.{faces_below}
+use Rattle.mesh_arena.proofs.Cells.{next_within}
 use Rattle.mesh_arena.proofs.CutCavity.{IsMesh-cut, Cuts-done}
 use Rattle.mesh_arena.proofs.arena.Arena.cut_cavity.Goals as goal
 
@@ -28,3 +29,7 @@ pub returns-clause-cuts : goal.returns-clause-cuts
 returns-clause-cuts c =
     let given = rw (← c.self.view_is) at c.requires in
     rw (← c.self.view_is) (Cuts-done c.self.inside.cells.items c.clear_rim.new.cells.items c.free_cells-self-inside.new.cells.items c.args.cavity.now c.args.rim.now _ _ c.self.invariant.sound.mesh given.cavity given.rim c.clear_rim.ensures.clears c.free_cells-self-inside.ensures.frees)
+
+pub free_cells-self-inside-requires-clause-next : goal.free_cells-self-inside-requires-clause-next
+free_cells-self-inside-requires-clause-next c =
+    omega (arith, c.self.invariant.sound.small, next_within c.self.inside.cells.items c.self.inside.live c.self.inside.next c.self.invariant.sound.counted)
