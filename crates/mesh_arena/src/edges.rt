@@ -10,30 +10,31 @@ use std::marker::Model;
 /// The ends of an edge, by their numbers, the lesser first.
 #[derive(Clone, Copy, Debug, PartialEq, Eq)]
 pub(crate) struct Edge {
-    pub(crate) low: u64,
-    pub(crate) high: u64,
+    pub(crate) low: u32,
+    pub(crate) high: u32,
 }
 
 impl Edge {
-    pub(crate) fn between(a: Corner, b: Corner) -> Self
-        ensures { result ≡ edge_between a b }
+    // The edge between two corners; None where a point's number is the greatest of all.
+    pub(crate) fn between(a: Corner, b: Corner) -> Option<Self>
+        ensures { IfSome result (λ edge. edge ≡ edge_between a b) }
     {
-        let a = number_of(a);
-        let b = number_of(b);
-        Edge {
+        let a = number_of(a)?;
+        let b = number_of(b)?;
+        Some(Edge {
             low: a.min(b),
             high: a.max(b),
-        }
+        })
     }
 }
 
-// A number of its own for each corner.
-fn number_of(corner: Corner) -> u64
-    ensures { result ≡ corner_number corner }
+// A number of its own for each corner, if there is one.
+fn number_of(corner: Corner) -> Option<u32>
+    ensures { IfSome result (λ number. number ≡ corner_number corner) }
 {
     match corner {
-        Corner::Point(i) => u64::from(i) + 1,
-        Corner::Ghost => 0,
+        Corner::Point(i) => i.checked_add(1),
+        Corner::Ghost => Some(0),
     }
 }
 
@@ -148,6 +149,6 @@ impl EdgeTable {
 
 // Fibonacci hashing of the two ends.
 fn hash(edge: Edge) -> usize {
-    let both = edge.low.rotate_left(32) ^ edge.high;
+    let both = u64::from(edge.low) << 32 | u64::from(edge.high);
     (both.wrapping_mul(0x9e37_79b9_7f4a_7c15) >> 32) as usize
 }

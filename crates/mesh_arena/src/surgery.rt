@@ -1,6 +1,6 @@
 //! Surgery: the star of a new point takes the place of its cavity.
 ghost use Rattle.std.specs.Prelude.{◌≡◌, ◌≢◌, ℕ, ◌+◌, ◌<◌, ◌≤◌, ◌↔◌, length, Some, None, IsSome};
-ghost use Rattle.std.specs.Prelude.{IsOk, IfOk, OnErr, MatchOption, IsTrue};
+ghost use Rattle.std.specs.Prelude.{IsOk, IfOk, IfSome, OnErr, MatchOption, IsTrue};
 ghost use Rattle.mesh_arena.specs.Mesh.{IsLive, corner_list, side, SameFace, IsMesh, AllDiffer};
 ghost use Rattle.mesh_arena.specs.Star.{behind_rim};
 ghost use Rattle.mesh_arena.specs.Surgery.{FitsFace, AddsOver, CanAdd, AddsStar, StandsOver};
@@ -162,16 +162,20 @@ impl Arena {
         &mut self,
         rim: &[RimFace],
         point: u32,
-        edge: Edge,
+        edge: Option<Edge>,
         face: SlotFace,
         table: &mut EdgeTable,
     )
         requires star { IsStar self.old.slots rim.now (Corner.Point point) }
-        requires over { IsOverEdge self.old.slots rim.now (Corner.Point point) edge face }
+        requires over { IfSome edge
+            (λ e. IsOverEdge self.old.slots rim.now (Corner.Point point) e face) }
         requires met { AreOverEdges self.old.slots rim.now (Corner.Point point) table.old }
         ensures links { LinksStar self.old.slots self.new.slots rim.now (Corner.Point point) 0 }
         ensures met { AreOverEdges self.new.slots rim.now (Corner.Point point) table.new }
     {
+        let Some(edge) = edge else {
+            return;
+        };
         if let Some(other) = table.meet(edge, face) {
             self.link_mates(rim, point, edge, face, other);
         }
