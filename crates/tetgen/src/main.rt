@@ -2,6 +2,8 @@
 #![tactic(auto)]
 
 #[cfg(test)]
+mod cloud_tests;
+#[cfg(test)]
 mod complex_tests;
 mod input;
 mod mesh;

@@ -244,7 +244,7 @@ fn switches_choose_the_files(rt: HostRuntime) -> Result<(), Fail> {
 
 #[test]
 fn files_are_refused(rt: HostRuntime) -> Result<(), Fail> {
-    let cases: [(&[File], &[&[u8]], End, &[Left]); 12] = [
+    let cases: [(&[File], &[&[u8]], End, &[Left]); 13] = [
         // No word.
         (
             &[],
@@ -333,6 +333,20 @@ fn files_are_refused(rt: HostRuntime) -> Result<(), Fail> {
         // Off the grid.
         (
             &[(b"t.node", THIRD)],
+            &[b"t"],
+            (
+                5,
+                Some(b""),
+                Some(b"tetgen: line 3: coordinate off the grid\n"),
+            ),
+            &[(b"t.1.node", None)],
+        ),
+        // One beyond the greatest coordinate.
+        (
+            &[(
+                b"t.node",
+                b"5\n0 -8388608 -8388608 -8388608\n1 8388609 -8388608 -8388608\n2 -8388608 8388608 -8388608\n3 -8388608 -8388608 8388608\n4 8388608 8388608 8388608\n",
+            )],
             &[b"t"],
             (
                 5,
@@ -446,7 +460,7 @@ fn leaves_after(
 
 #[test]
 fn failing_calls_are_told(rt: HostRuntime) -> Result<(), Fail> {
-    let cases: [(Failing, &[File], &[&[u8]], End, &[Left]); 8] = [
+    let cases: [(Failing, &[File], &[&[u8]], End, &[Left]); 9] = [
         // First fetch.
         (
             Failing::Fetch { nth: 1 },
@@ -503,6 +517,18 @@ fn failing_calls_are_told(rt: HostRuntime) -> Result<(), Fail> {
                 (b"bar.1.face", Some(b"12 1\n")),
             ],
         ),
+        // A store that keeps all.
+        (
+            Failing::Store { nth: 3, kept: 1000 },
+            &[(b"bar.poly", BAR)],
+            &[b"-p", b"bar"],
+            (11, Some(b""), Some(b"tetgen: bar.1.face: write failed\n")),
+            &[
+                (b"bar.1.node", Some(BAR_NODE)),
+                (b"bar.1.ele", Some(BAR_ELE)),
+                (b"bar.1.face", Some(BAR_FACE)),
+            ],
+        ),
         // Summary.
         (
             Failing::Summary { kept: 6 },
@@ -531,7 +557,7 @@ fn failing_calls_are_told(rt: HostRuntime) -> Result<(), Fail> {
 }
 
 /// Appends the line of a point, each coordinate with this text behind it.
-fn add_point(
+pub(crate) fn add_point(
     text: &mut Bytes,
     number: usize,
     place: [usize; 3],
