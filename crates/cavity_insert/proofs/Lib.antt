@@ -12,3 +12,4 @@ pub mod SlotRows
 pub mod OneMore
 pub mod SlotSides
 pub mod Cones
+pub mod RowKeys

@@ -20,7 +20,7 @@ use Rattle.mesh_laws.specs.Living.{IsRowSlot, IsGhostSlot, IsDelaunayMesh}
 use Rattle.mesh_laws.proofs.Taken.{no_ghost, same_corners}
 use Rattle.mesh_laws.proofs.Rows.{same_row}
 use Rattle.mesh_laws.proofs.Across.{infinite_corner}
-use Rattle.cavity_insert.specs.Rows.{IsEvenOf, HasLeastFirst, HasLeastSecond, IsRowOf}
+use Rattle.cavity_insert.specs.Rows.{IsEvenOf, HasLeastFirst, HasLeastSecond, IsRowOf, AreRowsBelow}
 
 -- ---- even arrangements
 
@@ -57,11 +57,6 @@ arranged_of ps t p first second =
     record { first = omega arith; second = omega arith; second' = omega arith }
 
 -- ---- the rows of the first slots
-
--- these are the rows of the slots below n
-pub record AreRowsBelow (slots : List (Option SlotValue)) (rows : List Row) (n : ℕ) : Type 0 where
-  pub from : (row : Row) → Contains rows row → (s : ℕ) × IsAt slots (λ cs. IsRowOf cs row) s
-  pub to : (s : ℕ) → s < n → (t : Row) → corners_at slots s ≡ Some (row_corners t) → (row : Row) × Contains rows row × IsRowOf (row_corners t) row
 
 -- the next slot has no row
 pub rows_pass : (slots : List (Option SlotValue)) (rows : List Row) (n : ℕ) → ((t : Row) → ¬ (corners_at slots n ≡ Some (row_corners t))) → AreRowsBelow slots rows n → AreRowsBelow slots rows (n + 1)

@@ -7,6 +7,7 @@ pub mod Living
 pub mod Lost
 pub mod Marks
 pub mod Order
+pub mod RowKeys
 pub mod Rows
 pub mod Search
 pub mod Sides

@@ -9,6 +9,7 @@ mod lost;
 mod marks;
 mod meshing;
 mod order;
+mod row_keys;
 mod rows;
 mod rule;
 mod search;

@@ -1,5 +1,5 @@
 //! The Delaunay list of a mesh, read from its slots.
-ghost use Rattle.std.specs.Prelude.{◌≡◌, ℕ, ◌<◌, List, Some, IfOk, MatchOption, length};
+ghost use Rattle.std.specs.Prelude.{◌≡◌, ℕ, ◌<◌, List, Some, IfOk, IfSome, MatchOption, length, map};
 ghost use Rattle.sign_predicates.specs.Point.{Point};
 ghost use Rattle.geo_laws.specs.Delaunay.{IsDelaunayListAmong};
 ghost use Rattle.geo_laws.specs.declared.tetrahedra.Tet.{Tet as Row};
@@ -7,12 +7,15 @@ ghost use Rattle.mesh_arena.specs.Mesh.{corners_at, corner_list};
 ghost use Rattle.point_locate.specs.Place.{row_corners, IsAt};
 ghost use Rattle.mesh_laws.specs.Living.{IsDelaunayMesh};
 ghost use Rattle.cavity_insert.specs.Rows.{IsEvenOf, HasLeastFirst, HasLeastSecond, IsRowOf};
+ghost use Rattle.cavity_insert.specs.Rows.{AreRowsBelow};
+ghost use Rattle.cavity_insert.specs.RowKeys.{row_of_key};
 
+use crate::row_keys::{RowKey, key_of, row_of_key};
 use geo_laws::{Tet, TetList};
 use mesh_arena::{Arena, SlotCorners};
 use point_locate::{Shape, shape_of};
 use std::alloc::Global;
-use tet_ports::NoMemory;
+use tet_ports::{Items, NoMemory};
 
 /// The Delaunay rows of a mesh, ascending.
 pub(crate) fn rows_of(alloc: Global, arena: &Arena) -> Result<TetList, NoMemory>
@@ -20,9 +23,52 @@ pub(crate) fn rows_of(alloc: Global, arena: &Arena) -> Result<TetList, NoMemory>
         (λ rows. (ps : List Point) (ms : List ℕ) → IsDelaunayMesh arena.now.slots ps ms
         → IsDelaunayListAmong ps ms rows) }
 {
-    let mut rows = TetList::with_capacity(alloc, arena.slots())?;
+    match keys_of(alloc, arena)? {
+        Some(mut keys) => {
+            keys.keep_distinct();
+            rows_of_keys(alloc, &keys)
+        }
+        None => sorted_rows(alloc, arena),
+    }
+}
+
+/// The keys of the rows of all slots; None where a row has no key.
+fn keys_of(alloc: Global, arena: &Arena) -> Result<Option<Items<RowKey>>, NoMemory>
+    ensures { IfOk result (λ found. IfSome found
+        (λ keys. AreRowsBelow arena.now.slots (map row_of_key keys) (length arena.now.slots))) }
+{
+    let mut keys = Items::with_capacity(alloc, arena.slots())?;
     for i in 0..arena.slots() {
         if let Some(row) = row_at(arena, i) {
+            let Some(key) = key_of(row) else {
+                return Ok(None);
+            };
+            keys.push(key)?;
+        }
+    }
+    Ok(Some(keys))
+}
+
+/// The rows of these keys, in the same order.
+fn rows_of_keys(alloc: Global, keys: &Items<RowKey>) -> Result<TetList, NoMemory>
+    ensures { IfOk result (λ rows. rows ≡ map row_of_key keys.now) }
+{
+    let mut rows = TetList::with_capacity(alloc, keys.len())?;
+    for key in keys.as_slice() {
+        rows.push(row_of_key(*key))?;
+    }
+    Ok(rows)
+}
+
+/// The Delaunay rows of a mesh, ascending, by comparison of rows.
+fn sorted_rows(alloc: Global, arena: &Arena) -> Result<TetList, NoMemory>
+    ensures { IfOk result
+        (λ rows. (ps : List Point) (ms : List ℕ) → IsDelaunayMesh arena.now.slots ps ms
+        → IsDelaunayListAmong ps ms rows) }
+{
+    let mut rows = TetList::with_capacity(alloc, arena.slots())?;
+    for slot in 0..arena.slots() {
+        if let Some(row) = row_at(arena, slot) {
             rows.push(row)?;
         }
     }

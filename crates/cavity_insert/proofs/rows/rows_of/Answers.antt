@@ -1,22 +1,19 @@
-use Rattle.std.proofs.Common.{◌≡◌, ◌+◌, length, sym, subst, ◌∙◌, arith}
-use Rattle.geo_laws.proofs.RowOrder.{row_before}
-use Rattle.cavity_insert.proofs.SlotRows.{AreRowsBelow, rows_pass, rows_more, list_of_rows}
-use Rattle.cavity_insert.proofs.rows.rows_of.Goals.{in-Some+in_ok-push, in_default}
+use Rattle.std.proofs.Common.{◌≡◌, ℕ, List, sym, subst, map}
+use Rattle.sign_predicates.specs.Point.{Point}
+use Rattle.geo_laws.specs.Delaunay.{IsDelaunayListAmong}
+use Rattle.geo_laws.specs.declared.tetrahedra.Tet.{Tet as Row}
+use Rattle.mesh_laws.specs.Living.{IsDelaunayMesh}
+use Rattle.cavity_insert.specs.RowKeys.{row_of_key}
+use Rattle.cavity_insert.proofs.Insertion.{if_ok}
+use Rattle.cavity_insert.proofs.RowKeys.{list_of_keys}
 use Rattle.cavity_insert.proofs.rows.rows_of.Goals as goal
 
-pub loop-i-preserved : goal.loop-i-preserved
-loop-i-preserved c =
+pub returns-in-Some : goal.returns-in-Some
+returns-in-Some c =
     let slots = c.args.arena.now.slots in
-    let n = c.loop-i.i in
-    let rows = c.loop-i.rows in
-    elim c.match-row_at.branch [
-      | in-Some+in_ok-push w ↦ subst (λ rs. AreRowsBelow slots rs (n + 1)) (sym w.in_ok-push.ensures.ok ∙ sym w.rows-is) (rows_more slots rows n w.in-Some.row w.in-Some.ensures c.loop-i.invariant)
-      | in_default w ↦ subst (λ rs. AreRowsBelow slots rs (n + 1)) (sym w.rows-is) (rows_pass slots rows n w.in_default.ensures c.loop-i.invariant)
-    ]
-
-pub returns : goal.returns
-returns c ps ms mesh =
-    let all : c.loop-i.i ≡ length c.args.arena.now.slots = omega arith in
-    list_of_rows c.args.arena.now.slots ps ms mesh c.loop-i.rows c.keep_distinct.new.self (subst (AreRowsBelow c.args.arena.now.slots c.loop-i.rows) all c.loop-i.invariant)
-    c.keep_distinct.ensures.exactly
-    (λ i j d h k. row_before _ _ (c.keep_distinct.ensures.ascending i j d h k))
+    let kept = c.keep_distinct.new.self in
+    let P : List Row → Type 0 = λ rows. rows ≡ map row_of_key kept in
+    let Q : List Row → Type 0 = λ rows. (ps : List Point) (ms : List ℕ) → IsDelaunayMesh slots ps ms → IsDelaunayListAmong ps ms rows in
+    if_ok P Q (λ rows is ps ms mesh. subst (IsDelaunayListAmong ps ms) (sym is)
+    (list_of_keys slots c.in-Some.keys kept (rw c.in-Some.is at c.in_ok-keys.ensures) c.keep_distinct.ensures.exactly c.keep_distinct.ensures.ascending ps ms mesh))
+    c.rows_of_keys.result c.rows_of_keys.ensures
