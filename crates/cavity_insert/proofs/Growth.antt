@@ -9,10 +9,6 @@ use Rattle.mesh_arena.specs.Mesh.{SlotValue, IsLive, side, at, IsMesh}
 use Rattle.mesh_arena.specs.Star.{rim_at, no_face}
 use Rattle.mesh_arena.specs.Cavity.{slot_at, IsIn}
 use Rattle.mesh_arena.proofs.Mesh.{side_live}
-use Rattle.cavity_insert.specs.declared.marks.Mark.{Mark}
-use Rattle.cavity_insert.specs.declared.marks.Mark.TheVariants.{In, Out}
-use Rattle.cavity_insert.specs.declared.marks.Tested.{Tested}
-use Rattle.cavity_insert.specs.Marks.{tested_at, IsMarked, IsMarkedAs}
 use Rattle.mesh_laws.specs.Reach.{Reach, first, next, Grown}
 use Rattle.cavity_insert.specs.Grow.{Before, BordersCavity, IsListed, Growing}
 
@@ -27,46 +23,14 @@ widen i k j m (inr here) = inr (here.0, omega (arith, here.1))
 rim_push : (rim : List RimFace) (f : RimFace) (r : ℕ) → r < length rim → rim_at (rim ++ f ∷ []) r ≡ rim_at rim r
 rim_push rim f r h = get_or_append_left rim (f ∷ []) no_face r h
 
-slot_push : (cavity : List Slot) (s : Slot) (j : ℕ) → j < length cavity → slot_at (cavity ++ s ∷ []) j ≡ slot_at cavity j
+pub slot_push : (cavity : List Slot) (s : Slot) (j : ℕ) → j < length cavity → slot_at (cavity ++ s ∷ []) j ≡ slot_at cavity j
 slot_push cavity s j h = ap (λ (x : Slot). x.index) (get_or_append_left cavity (s ∷ []) (record { index = 0 }) j h)
 
-slot_last : (cavity : List Slot) (s : Slot) → slot_at (cavity ++ s ∷ []) (length cavity) ≡ s.index
+pub slot_last : (cavity : List Slot) (s : Slot) → slot_at (cavity ++ s ∷ []) (length cavity) ≡ s.index
 slot_last cavity s = ap (λ (x : Slot). x.index) (get_or_push cavity s (record { index = 0 }) (length cavity) refl)
 
-step_cases : (r n : ℕ) → r < n + 1 → (r < n) ⊎ (r ≡ n)
+pub step_cases : (r n : ℕ) → r < n + 1 → (r < n) ⊎ (r ≡ n)
 step_cases r n h = elim (cases_lt r n) [ inl less ↦ inl less | inr more ↦ inr (omega arith) ]
-
-in_not_out : (x : Mark) → x ≡ In → x ≡ Out → ⊥
-in_not_out x e f = cc
-
--- ---- a further slot is marked
-
-module _ (tested : List Tested) (t : Tested) where
-  marked_along : (u : ℕ) (m : Mark) → IsMarkedAs tested u m → IsMarkedAs (tested ++ t ∷ []) u m
-  marked_along u m was =
-      let same = get_or_append_left tested (t ∷ []) (record { slot = 0; mark = Out }) was.place was.inside in
-      record {
-        place = was.place;
-        inside = omega (arith, was.inside, length_push tested t);
-        is = ap (λ (x : Tested). x.slot) same ∙ was.is;
-        told = ap (λ (x : Tested). x.mark) same ∙ was.told;
-      }
-
-  marked_here : IsMarkedAs (tested ++ t ∷ []) t.slot t.mark
-  marked_here =
-      let same = get_or_push tested t (record { slot = 0; mark = Out }) (length tested) refl in
-      record { place = length tested; inside = omega (arith, length_push tested t); is = ap (λ (x : Tested). x.slot) same; told = ap (λ (x : Tested). x.mark) same }
-
-  marked_back : (u : ℕ) (m : Mark) → IsMarkedAs (tested ++ t ∷ []) u m → IsMarkedAs tested u m ⊎ ((t.slot ≡ u) × (t.mark ≡ m))
-  marked_back u m now =
-      elim (step_cases now.place (length tested) (omega (arith, now.inside, length_push tested t))) [
-        | inl less ↦
-            let same = get_or_append_left tested (t ∷ []) (record { slot = 0; mark = Out }) now.place less in
-            inl (record { place = now.place; inside = less; is = sym (ap (λ (x : Tested). x.slot) same) ∙ now.is; told = sym (ap (λ (x : Tested). x.mark) same) ∙ now.told })
-        | inr last ↦
-            let same = get_or_push tested t (record { slot = 0; mark = Out }) now.place (sym last) in
-            inr (sym (ap (λ (x : Tested). x.slot) same) ∙ now.is, sym (ap (λ (x : Tested). x.mark) same) ∙ now.told)
-      ]
 
 module _ (slots : List (Option SlotValue)) (rule : ℕ → Type 0) (start : ℕ) (mesh : IsMesh slots) where
   borders_on : (cavity : List Slot) (i k : ℕ) (f : RimFace) → BordersCavity slots rule cavity i k f → BordersCavity slots rule cavity i (k + 1) f
@@ -74,17 +38,14 @@ module _ (slots : List (Option SlotValue)) (rule : ℕ → Type 0) (start : ℕ)
       record { slot = e.slot; face = e.face; inside = e.inside; before = widen i k e.slot e.face e.before; is = e.is; out = e.out }
 
   -- there is no slot behind the face, or it is in the cavity
-  pub Growing-in : (tested : List Tested) (cavity : List Slot) (rim : List RimFace) (i k : ℕ) → i < length cavity → ((b : SlotFace) → side slots (slot_at cavity i) k ≡ Some b → IsIn cavity b.slot) → Growing slots rule start tested cavity rim i k → Growing slots rule start tested cavity rim i (k + 1)
-  Growing-in tested cavity rim i k inside found was =
+  pub Growing-in : (cavity : List Slot) (rim : List RimFace) (i k : ℕ) → i < length cavity → ((b : SlotFace) → side slots (slot_at cavity i) k ≡ Some b → IsIn cavity b.slot) → Growing slots rule start cavity rim i k → Growing slots rule start cavity rim i (k + 1)
+  Growing-in cavity rim i k inside found was =
       record {
         begun = was.begun;
         reached = was.reached;
         taken = was.taken;
         live = was.live;
         once = was.once;
-        marked = was.marked;
-        listed = was.listed;
-        out = was.out;
         seen = λ j m c h before e. elim (split i k j m before) [
           | inl old ↦ was.seen j m c h old e
           | inr here ↦ inl (found c (subst (λ n. side slots (slot_at cavity i) n ≡ Some c) here.1 (subst (λ n. side slots (slot_at cavity n) m ≡ Some c) here.0 e)))
@@ -94,17 +55,14 @@ module _ (slots : List (Option SlotValue)) (rule : ℕ → Type 0) (start : ℕ)
       }
 
   -- the slot behind the face is not taken: the face is on the rim
-  pub Growing-out : (tested : List Tested) (cavity : List Slot) (rim : List RimFace) (i k : ℕ) (f : RimFace) → i < length cavity → side slots (slot_at cavity i) k ≡ Some (at f.slot.index f.face) → (rule f.slot.index → ⊥) → Growing slots rule start tested cavity rim i k → Growing slots rule start tested cavity (rim ++ f ∷ []) i (k + 1)
-  Growing-out tested cavity rim i k f inside is out was =
+  pub Growing-out : (cavity : List Slot) (rim : List RimFace) (i k : ℕ) (f : RimFace) → i < length cavity → side slots (slot_at cavity i) k ≡ Some (at f.slot.index f.face) → (rule f.slot.index → ⊥) → Growing slots rule start cavity rim i k → Growing slots rule start cavity (rim ++ f ∷ []) i (k + 1)
+  Growing-out cavity rim i k f inside is out was =
       record {
         begun = was.begun;
         reached = was.reached;
         taken = was.taken;
         live = was.live;
         once = was.once;
-        marked = was.marked;
-        listed = was.listed;
-        out = was.out;
         seen = λ j m c h before e. elim (split i k j m before) [
           | inl old ↦ elim (was.seen j m c h old e) [ inl found ↦ inl found | inr found ↦ inr (kept c found) ]
           | inr here ↦
@@ -160,29 +118,9 @@ module _ (slots : List (Option SlotValue)) (rule : ℕ → Type 0) (start : ℕ)
           absurd (fresh q b (ap (λ (z : RimFace). z.slot.index) (sym x) ∙ sym e ∙ ap (λ (z : RimFace). z.slot.index) y) (ap (λ (z : RimFace). z.face) (sym x) ∙ sym d ∙ ap (λ (z : RimFace). z.face) y))
       once r q (inr a) (inr b) e d = a ∙ sym b
 
-  module _ (tested : List Tested) (cavity : List Slot) (rim : List RimFace) (i k u : ℕ) (was : Growing slots rule start tested cavity rim i k) where
-    -- the slot is not taken
-    pub Growing-bar : (rule u → ⊥) → Growing slots rule start (tested ++ (record { slot = u; mark = Out }) ∷ []) cavity rim i k
-    Growing-bar not =
-        record {
-          begun = was.begun;
-          reached = was.reached;
-          taken = was.taken;
-          live = was.live;
-          once = was.once;
-          marked = λ j h. let old = was.marked j h in (old.0, marked_along tested t _ _ old.1);
-          listed = λ v now. elim (marked_back tested t v In now) [ inl old ↦ was.listed v old | inr new ↦ absurd (in_not_out In refl (sym new.1)) ];
-          out = λ v now. elim (marked_back tested t v Out now) [ inl old ↦ was.out v old | inr new ↦ λ yes. not (subst rule (sym new.0) yes) ];
-          seen = was.seen;
-          borders = was.borders;
-          rim_once = was.rim_once;
-        }
-      where
-        t : Tested
-        t = record { slot = u; mark = Out }
-
+  module _ (cavity : List Slot) (rim : List RimFace) (i k u : ℕ) (was : Growing slots rule start cavity rim i k) where
     -- the slot is taken
-    pub Growing-add : (s : Slot) → s.index ≡ u → i < length cavity → (IsMarked tested u → ⊥) → Reach slots rule start u → rule u → IsLive slots u → Growing slots rule start (tested ++ (record { slot = u; mark = In }) ∷ []) (cavity ++ s ∷ []) rim i k
+    pub Growing-add : (s : Slot) → s.index ≡ u → i < length cavity → (IsIn cavity u → ⊥) → Reach slots rule start u → rule u → IsLive slots u → Growing slots rule start (cavity ++ s ∷ []) rim i k
     Growing-add s named inside fresh reach found live =
         record {
           begun = wider start was.begun;
@@ -199,15 +137,6 @@ module _ (slots : List (Option SlotValue)) (rule : ℕ → Type 0) (start : ℕ)
             | inr end ↦ rw (end, last) live
           ];
           once = λ j q h g e. once j q (step_cases j (length cavity) (omega (arith, long))) (step_cases q (length cavity) (omega (arith, long))) e;
-          marked = λ j h. elim (step_cases j (length cavity) (omega (arith, long))) [
-            | inl less ↦ rw (slot_push cavity s j less) (along j less)
-            | inr end ↦ rw (end, last) (In, marked_here tested t)
-          ];
-          listed = λ v now. elim (marked_back tested t v In now) [
-            | inl old ↦ wider v (was.listed v old)
-            | inr new ↦ record { place = length cavity; inside = omega (arith, long); is = last ∙ new.0 }
-          ];
-          out = λ v now. elim (marked_back tested t v Out now) [ inl old ↦ was.out v old | inr new ↦ absurd (in_not_out In refl new.1) ];
           seen = λ j m b h before e. elim (step_cases j (length cavity) (omega (arith, long))) [
             | inl less ↦ elim (was.seen j m b less before (subst (λ n. side slots n m ≡ Some b) (slot_push cavity s j less) e)) [ inl in_it ↦ inl (wider b.slot in_it) | inr on ↦ inr on ]
             | inr end ↦ absurd (elim before [ inl less ↦ omega arith | inr level ↦ omega (arith, level.0) ])
@@ -225,9 +154,6 @@ module _ (slots : List (Option SlotValue)) (rule : ℕ → Type 0) (start : ℕ)
           rim_once = was.rim_once;
         }
       where
-        t : Tested
-        t = record { slot = u; mark = In }
-
         long : length (cavity ++ s ∷ []) ≡ length cavity + 1
         long = length_push cavity s
 
@@ -237,11 +163,8 @@ module _ (slots : List (Option SlotValue)) (rule : ℕ → Type 0) (start : ℕ)
         wider : (v : ℕ) → IsIn cavity v → IsIn (cavity ++ s ∷ []) v
         wider v in_it = record { place = in_it.place; inside = omega (arith, in_it.inside, long); is = slot_push cavity s in_it.place in_it.inside ∙ in_it.is }
 
-        along : (j : ℕ) → j < length cavity → IsMarked (tested ++ t ∷ []) (slot_at cavity j)
-        along j h = let old = was.marked j h in (old.0, marked_along tested t _ _ old.1)
-
         old_not : (j : ℕ) → j < length cavity → slot_at cavity j ≢ u
-        old_not j h e = fresh (subst (IsMarked tested) e (was.marked j h))
+        old_not j h e = fresh (record { place = j; inside = h; is = e })
 
         once : (j q : ℕ) → (j < length cavity) ⊎ (j ≡ length cavity) → (q < length cavity) ⊎ (q ≡ length cavity) → slot_at (cavity ++ s ∷ []) j ≡ slot_at (cavity ++ s ∷ []) q → j ≡ q
         once j q (inl a) (inl b) e = was.once j q a b (sym (slot_push cavity s j a) ∙ e ∙ slot_push cavity s q b)
@@ -249,25 +172,22 @@ module _ (slots : List (Option SlotValue)) (rule : ℕ → Type 0) (start : ℕ)
         once j q (inr a) (inl b) e = absurd (old_not q b (sym (slot_push cavity s q b) ∙ sym e ∙ ap (slot_at (cavity ++ s ∷ [])) a ∙ last))
         once j q (inr a) (inr b) e = a ∙ sym b
 
-module _ (slots : List (Option SlotValue)) (rule : ℕ → Type 0) (start : ℕ) (mesh : IsMesh slots) (tested : List Tested) (cavity : List Slot) (rim : List RimFace) (i k : ℕ) (f : RimFace) (inside : i < length cavity) (is : side slots (slot_at cavity i) k ≡ Some (at f.slot.index f.face)) (was : Growing slots rule start tested cavity rim i k) where
-  pub Grown-in : (IsMarked tested f.slot.index → ⊥) → IsLive slots f.slot.index → rule f.slot.index → Growing slots rule start (tested ++ (record { slot = f.slot.index; mark = In }) ∷ []) (cavity ++ f.slot ∷ []) rim i (k + 1)
+module _ (slots : List (Option SlotValue)) (rule : ℕ → Type 0) (start : ℕ) (mesh : IsMesh slots) (cavity : List Slot) (rim : List RimFace) (i k : ℕ) (f : RimFace) (inside : i < length cavity) (is : side slots (slot_at cavity i) k ≡ Some (at f.slot.index f.face)) (was : Growing slots rule start cavity rim i k) where
+  pub Grown-in : (IsIn cavity f.slot.index → ⊥) → IsLive slots f.slot.index → rule f.slot.index → Growing slots rule start (cavity ++ f.slot ∷ []) rim i (k + 1)
   Grown-in fresh live found =
       let reach = next (slot_at cavity i) k (at f.slot.index f.face) (was.reached i inside) is found in
-      let added = Growing-add slots rule start mesh tested cavity rim i k f.slot.index was f.slot refl inside fresh reach found live in
+      let added = Growing-add slots rule start mesh cavity rim i k f.slot.index was f.slot refl inside fresh reach found live in
       let there : side slots (slot_at (cavity ++ f.slot ∷ []) i) k ≡ Some (at f.slot.index f.face) = rw (slot_push cavity f.slot i inside) is in
-      Growing-in slots rule start mesh _ _ rim i k (omega (arith, inside, length_push cavity f.slot))
+      Growing-in slots rule start mesh _ rim i k (omega (arith, inside, length_push cavity f.slot))
       (λ b e. record { place = length cavity; inside = omega (arith, length_push cavity f.slot); is = slot_last cavity f.slot ∙ same b there e })
       added
     where
       same : (b : SlotFace) → side slots (slot_at (cavity ++ f.slot ∷ []) i) k ≡ Some (at f.slot.index f.face) → side slots (slot_at (cavity ++ f.slot ∷ []) i) k ≡ Some b → f.slot.index ≡ b.slot
       same b there e = let one : at f.slot.index f.face ≡ b = cc in ap (λ (x : SlotFace). x.slot) one
 
-  pub Grown-out : (rule f.slot.index → ⊥) → Growing slots rule start (tested ++ (record { slot = f.slot.index; mark = Out }) ∷ []) cavity (rim ++ f ∷ []) i (k + 1)
-  Grown-out not = Growing-out slots rule start mesh _ cavity rim i k f inside is not (Growing-bar slots rule start mesh tested cavity rim i k f.slot.index was not)
-
-module _ (slots : List (Option SlotValue)) (rule : ℕ → Type 0) (start : ℕ) (mesh : IsMesh slots) (tested : List Tested) (cavity : List Slot) (rim : List RimFace) where
+module _ (slots : List (Option SlotValue)) (rule : ℕ → Type 0) (start : ℕ) (mesh : IsMesh slots) (cavity : List Slot) (rim : List RimFace) where
   -- all four faces of a slot were looked over
-  pub Growing-row : (i : ℕ) → Growing slots rule start tested cavity rim i 4 → Growing slots rule start tested cavity rim (i + 1) 0
+  pub Growing-row : (i : ℕ) → Growing slots rule start cavity rim i 4 → Growing slots rule start cavity rim (i + 1) 0
   Growing-row i was =
       record {
         begun = was.begun;
@@ -275,9 +195,6 @@ module _ (slots : List (Option SlotValue)) (rule : ℕ → Type 0) (start : ℕ)
         taken = was.taken;
         live = was.live;
         once = was.once;
-        marked = was.marked;
-        listed = was.listed;
-        out = was.out;
         seen = λ j m b h before e. was.seen j m b h (back j m (side_live slots (slot_at cavity j) m b mesh.shaped e).1 before) e;
         borders = λ r h.
             let old = was.borders r h in
@@ -293,7 +210,7 @@ module _ (slots : List (Option SlotValue)) (rule : ℕ → Type 0) (start : ℕ)
       ahead j m (inl less) = omega arith
       ahead j m (inr here) = omega (arith, here.0)
 
-  module _ (i : ℕ) (done : length cavity ≤ i) (was : Growing slots rule start tested cavity rim i 0) where
+  module _ (i : ℕ) (done : length cavity ≤ i) (was : Growing slots rule start cavity rim i 0) where
     all_seen : (u k : ℕ) (b : SlotFace) → IsIn cavity u → side slots u k ≡ Some b → IsIn cavity b.slot ⊎ IsListed rim b
     all_seen u k b found e = was.seen found.place k b found.inside (inl (omega (arith, found.inside))) (rw found.is e)
 
@@ -325,7 +242,7 @@ module _ (slots : List (Option SlotValue)) (rule : ℕ → Type 0) (start : ℕ)
               ];
         }
 
-pub Growing-begin : (slots : List (Option SlotValue)) (rule : ℕ → Type 0) (s : Slot) → rule s.index → IsLive slots s.index → Growing slots rule s.index ((record { slot = s.index; mark = In }) ∷ []) (s ∷ []) [] 0 0
+pub Growing-begin : (slots : List (Option SlotValue)) (rule : ℕ → Type 0) (s : Slot) → rule s.index → IsLive slots s.index → Growing slots rule s.index (s ∷ []) [] 0 0
 Growing-begin slots rule s found live =
     record {
       begun = record { place = 0; inside = omega arith; is = refl };
@@ -333,16 +250,10 @@ Growing-begin slots rule s found live =
       taken = λ j h. let z : j ≡ 0 = omega arith in rw z found;
       live = λ j h. let z : j ≡ 0 = omega arith in rw z live;
       once = λ j q h g e. omega arith;
-      marked = λ j h. let z : j ≡ 0 = omega arith in rw z (In, record { place = 0; inside = omega arith; is = refl; told = refl });
-      listed = λ v now. let z : now.place ≡ 0 = omega (arith, now.inside) in record { place = 0; inside = omega arith; is = ap (λ i. (tested_at one i).slot) (sym z) ∙ now.is };
-      out = λ v now. let z : now.place ≡ 0 = omega (arith, now.inside) in absurd (in_not_out In refl (ap (λ i. (tested_at one i).mark) (sym z) ∙ now.told));
       seen = λ j m b h before e. absurd (elim before [ inl less ↦ omega arith | inr level ↦ omega (arith, level.1) ]);
       borders = λ r h. absurd (omega arith);
       rim_once = λ r q h g e d. absurd (omega arith);
     }
-  where
-    one : List Tested
-    one = (record { slot = s.index; mark = In }) ∷ []
 
 -- the slot behind a face, as a look at it reads it
 pub behind_is : (slots : List (Option SlotValue)) (cavity : List Slot) (i k : ℕ) (s : Slot) (b : SlotFace) → ((d : Slot) → get_or cavity i d ≡ s) → Some b ≡ side slots s.index k → side slots (slot_at cavity i) k ≡ Some b

@@ -1,5 +1,5 @@
 pub mod Flat
-pub mod Chains
+pub mod Marking
 pub mod Growth
 pub mod Pigeons
 pub mod StartMesh

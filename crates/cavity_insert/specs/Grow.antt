@@ -7,9 +7,6 @@ use Rattle.mesh_arena.specs.Mesh.{SlotValue, IsLive, side, at}
 use Rattle.mesh_arena.specs.Star.{rim_at}
 use Rattle.mesh_arena.specs.Cavity.{slot_at, IsIn}
 use Rattle.mesh_laws.specs.Reach.{Reach}
-use Rattle.cavity_insert.specs.declared.marks.Mark.TheVariants.{In, Out}
-use Rattle.cavity_insert.specs.declared.marks.Tested.{Tested}
-use Rattle.cavity_insert.specs.Marks.{IsMarked, IsMarkedAs}
 
 -- the face m of the slot j comes before the face k of the slot i
 abbrev pub Before : ℕ → ℕ → ℕ → ℕ → Type 0
@@ -32,16 +29,13 @@ pub record IsListed (rim : List RimFace) (b : SlotFace) : Type 0 where
   pub face : (rim_at rim place).face ≡ b.face
 
 -- the search has come to the face k of the slot i of the cavity
-pub record Growing (slots : List (Option SlotValue)) (rule : ℕ
-    → Type 0) (start : ℕ) (tested : List Tested) (cavity : List Slot) (rim : List RimFace) (i k : ℕ) : Type 0 where
+pub record Growing (slots : List (Option SlotValue)) (rule : ℕ → Type 0) (start : ℕ) (cavity : List Slot) (rim : List RimFace)
+    (i k : ℕ) : Type 0 where
   pub begun : IsIn cavity start
   pub reached : (j : ℕ) → j < length cavity → Reach slots rule start (slot_at cavity j)
   pub taken : (j : ℕ) → j < length cavity → rule (slot_at cavity j)
   pub live : (j : ℕ) → j < length cavity → IsLive slots (slot_at cavity j)
   pub once : (j q : ℕ) → j < length cavity → q < length cavity → slot_at cavity j ≡ slot_at cavity q → j ≡ q
-  pub marked : (j : ℕ) → j < length cavity → IsMarked tested (slot_at cavity j)
-  pub listed : (u : ℕ) → IsMarkedAs tested u In → IsIn cavity u
-  pub out : (u : ℕ) → IsMarkedAs tested u Out → rule u → ⊥
   pub seen : (j m : ℕ) (b : SlotFace) → j < length cavity → Before i k j m → side slots (slot_at cavity j) m ≡ Some b → IsIn cavity b.slot
       ⊎ IsListed rim b
   pub borders : (r : ℕ) → r < length rim → BordersCavity slots rule cavity i k (rim_at rim r)

@@ -15,13 +15,12 @@ use Rattle.cavity_insert.specs.Grow.{Growing}
 -- nothing has been found yet
 pub record HasBegun (g : Growth) (start : Slot) : Type 0 where
   pub start_is : g.start ≡ start
-  pub marks : g.marks ≡ []
   pub cavity : g.cavity ≡ []
   pub rim : g.rim ≡ []
 
 -- the growth has come to the face k of the slot i of its cavity
 abbrev pub IsGrowing : SearchValue → Growth → ℕ → ℕ → Type 0
-IsGrowing search g i k = Growing search.slots (IsInZone search) g.start.index g.marks g.cavity g.rim i k
+IsGrowing search g i k = Growing search.slots (IsInZone search) g.start.index g.cavity g.rim i k
 
 -- the cavity has the conflict zone of the point with the number p, and this is its rim
 pub record IsCavityOf (slots : List (Option SlotValue)) (ps : List Point) (p : ℕ) (cavity : List Slot) (rim : List RimFace) : Type 0 where

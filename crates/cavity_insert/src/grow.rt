@@ -1,49 +1,44 @@
 //! The cavity of a new point: a search from one slot over neighbors in the point's conflict zone.
 ghost use Rattle.std.specs.Prelude.{◌≡◌, ◌+◌, ◌*◌, ◌<◌, ◌≤◌, length, IfOk, OnOk};
-ghost use Rattle.mesh_arena.specs.Mesh.{IsLive, IsMesh, side, at};
-ghost use Rattle.mesh_arena.specs.Cavity.{slot_at};
+ghost use Rattle.mesh_arena.specs.Mesh.{IsMesh};
 ghost use Rattle.point_locate.specs.Place.{AreCornersOn};
 ghost use Rattle.mesh_laws.specs.Rule.{IsTaken};
 ghost use Rattle.mesh_laws.specs.Reach.{Grown};
-ghost use Rattle.cavity_insert.specs.Marks.{IsMarked};
 ghost use Rattle.cavity_insert.specs.Search.{IsInZone};
 ghost use Rattle.cavity_insert.specs.Growth.{HasBegun, IsGrowing};
 
-use crate::marks::{Mark, Marks, Tested};
+use crate::marks::MarkedCavity;
 use crate::search::Search;
 use crate::steps::Steps;
 use geo_laws::Points;
-use mesh_arena::{Arena, Cavity, Rim, RimFace, Slot};
+use mesh_arena::{Arena, Cavity, Rim, Slot};
 use sign_predicates::GridPoint;
 use std::alloc::Global;
 use std::sync::ledger::Ledger;
 use tet_ports::NoMemory;
 
-// Room for the cavity and the rim of nearly every point of a cloud, so that their lists don't grow.
+// Room for the rim of nearly every point of a cloud, so that its list does not grow.
 const MOST_USUAL: usize = 64;
 
-/// The growth of a cavity, with marks that serve one growth after another.
+/// The growth of a cavity. It serves one point after another.
 #[derive(Drop)]
 pub(crate) struct Growth {
     start: Slot,
-    // The slots that were tested.
-    marks: Marks,
     // The slots of the conflict zone that were found, and the faces round them.
-    pub(crate) cavity: Cavity,
+    pub(crate) cavity: MarkedCavity,
     pub(crate) rim: Rim,
     alloc: Global,
 }
 
 impl Growth {
-    /// A growth that has not begun.
-    pub(crate) fn new(alloc: Global) -> Result<Self, NoMemory> {
-        Ok(Growth {
+    /// A growth that has not begun. It takes no memory yet.
+    pub(crate) fn new(alloc: Global) -> Self {
+        Growth {
             start: Slot { index: 0 },
-            marks: Marks::new(alloc)?,
-            cavity: Cavity::new(alloc),
+            cavity: MarkedCavity::new(alloc),
             rim: Rim::new(alloc),
             alloc,
-        })
+        }
     }
 
     /// Begins a growth from a slot.
@@ -51,53 +46,13 @@ impl Growth {
         ensures { OnOk result (HasBegun self.new start) }
     {
         self.start = start;
-        self.marks.clear();
-        self.cavity = Cavity::with_capacity(self.alloc, MOST_USUAL)?;
+        self.cavity.clear();
         self.rim = Rim::with_capacity(self.alloc, MOST_USUAL)?;
         Ok(())
     }
 
-    // Tests the slot of `f`, which is behind the face k of the slot i of the cavity, and was not
-    // tested before.
-    fn visit_new<L: Ledger>(
-        &mut self,
-        search: &Search<'_>,
-        i: usize,
-        k: u8,
-        f: RimFace,
-        steps: &mut Steps<L>,
-    ) -> Result<(), NoMemory>
-        requires mesh { IsMesh search.now.slots }
-        requires inside { i < length self.old.cavity }
-        requires behind { side search.now.slots (slot_at self.old.cavity i) k
-            ≡ Some (at f.slot.index f.face) }
-        requires live { IsLive search.now.slots f.slot.index }
-        requires fresh { IsMarked self.old.marks f.slot.index → ⊥ }
-        requires growing { IsGrowing search.now self.old i k }
-        ensures growing { OnOk result (IsGrowing search.now self.new i (k + 1)) }
-        ensures start { self.new.start ≡ self.old.start }
-        ensures few { OnOk result (steps.new ≤ steps.old + 1) }
-        ensures many { OnOk result (length self.new.cavity + steps.old
-            ≤ length self.old.cavity + steps.new) }
-        ensures longer { OnOk result (length self.old.cavity ≤ length self.new.cavity) }
-    {
-        let slot = f.slot.index;
-        if search.test(f.slot, steps) {
-            self.marks.put(Tested {
-                slot,
-                mark: Mark::In,
-            })?;
-            self.cavity.push(f.slot)
-        } else {
-            self.marks.put(Tested {
-                slot,
-                mark: Mark::Out,
-            })?;
-            self.rim.push(f)
-        }
-    }
-
-    // Looks over the face k of the slot i of the cavity.
+    // Looks over the face k of the slot i of the cavity. A slot that is not taken is tested again
+    // from each face of the cavity that it is behind.
     fn visit<L: Ledger>(
         &mut self,
         search: &Search<'_>,
@@ -119,10 +74,12 @@ impl Growth {
         let Some(f) = search.across(self.cavity.at(i), k) else {
             return Ok(());
         };
-        match self.marks.find(f.slot.index) {
-            Some(Mark::In) => Ok(()),
-            Some(Mark::Out) => self.rim.push(f),
-            None => self.visit_new(search, i, k, f, steps),
+        if self.cavity.has(f.slot) {
+            Ok(())
+        } else if search.test(f.slot, steps) {
+            self.cavity.push(f.slot)
+        } else {
+            self.rim.push(f)
         }
     }
 
@@ -165,10 +122,6 @@ impl Growth {
         let start = self.start;
         search.see(start);
         search.test(start, steps);
-        self.marks.put(Tested {
-            slot: start.index,
-            mark: Mark::In,
-        })?;
         self.cavity.push(start)?;
         let mut i = 0;
         while i < self.cavity.len() {
@@ -202,10 +155,10 @@ pub fn grow_cavity<L: Ledger>(
         Grown arena.now.slots (IsTaken arena.now.slots points.now p number) start.index grown.0
         grown.1) }
 {
-    let mut growth = Growth::new(alloc)?;
+    let mut growth = Growth::new(alloc);
     growth.begin(start)?;
     let search = Search::new(arena, points, p, number);
     growth.grow(&search, steps)?;
     let Growth { cavity, rim, .. } = growth;
-    Ok((cavity, rim))
+    Ok((cavity.into_cavity(), rim))
 }

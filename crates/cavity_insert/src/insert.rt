@@ -59,7 +59,7 @@ pub(crate) fn insert_point<L: Ledger>(
 {
     grow_at(arena, points, number, near, growth, steps)?;
     arena.reserve(growth.rim.len())?;
-    arena.replace_cavity(&growth.cavity, &growth.rim, number)
+    arena.replace_cavity(growth.cavity.as_cavity(), &growth.rim, number)
 }
 
 /// The point with this number.

@@ -32,6 +32,7 @@ pub struct Living {
     arena: Arena,
     // A live slot, from which walks begin.
     last: Slot,
+    growth: Growth,
     alloc: Global,
 }
 
@@ -48,10 +49,10 @@ impl Model for Living {
 /// Adds the last point of a list to the mesh of the others, and answers a slot of its star. The
 /// corners of the tetrahedra that are taken away are appended to `lost`.
 fn insert_last<L: Ledger>(
-    alloc: Global,
     arena: &mut Arena,
     points: &Points,
     near: Slot,
+    growth: &mut Growth,
     blank: Blank,
     lost: &mut Vec<u32>,
 ) -> Result<Slot, NoMemory>
@@ -74,12 +75,12 @@ fn insert_last<L: Ledger>(
     ensures err { OnErr result (arena.new ≡ arena.old) }
 {
     let number = (points.len() - 1) as u32;
-    let mut growth = Growth::new(alloc)?;
     let mut steps = Steps::<L>::new(blank);
-    grow_at(arena, points, number, near, &mut growth, &mut steps)?;
-    tell_cavity(arena, &growth.cavity, lost)?;
+    grow_at(arena, points, number, near, growth, &mut steps)?;
+    let cavity = growth.cavity.as_cavity();
+    tell_cavity(arena, cavity, lost)?;
     arena.reserve(growth.rim.len())?;
-    arena.replace_cavity(&growth.cavity, &growth.rim, number)
+    arena.replace_cavity(cavity, &growth.rim, number)
 }
 
 impl Living {
@@ -97,6 +98,7 @@ impl Living {
             points,
             arena,
             last,
+            growth: Growth::new(alloc),
             alloc,
         })
     }
@@ -161,10 +163,10 @@ impl Living {
         let number = self.points.len() as u32;
         self.points.push(p)?;
         match insert_last::<Brand>(
-            self.alloc,
             &mut self.arena,
             &self.points,
             self.last,
+            &mut self.growth,
             Blank::new(1),
             lost,
         ) {

@@ -1,122 +1,118 @@
-//! A small hash table of the slots that the growth of a cavity has tested.
-ghost use Rattle.std.specs.Prelude.{◌≡◌, ◌<◌, ◌++◌, [], ◌∷◌, IfOk, OnOk, MatchOption};
-ghost use Rattle.cavity_insert.specs.Marks.{IsMarked, IsMarkedAs, bucket};
+//! A cavity with marks that tell which slots are in it.
+ghost use Rattle.std.specs.Prelude.{◌≡◌, ℕ, ◌<◌, ◌^◌, ◌++◌, [], ◌∷◌, ◌↔◌, length};
+ghost use Rattle.std.specs.Prelude.{IsTrue, OnOk, HoldsAt};
+ghost use Rattle.mesh_arena.specs.Cavity.{IsIn};
+ghost use Rattle.cavity_insert.specs.Marks.{is_marked};
 
+use mesh_arena::{Cavity, Slot};
 use std::alloc::Global;
 use std::marker::Model;
 use tet_ports::NoMemory;
 
-/// What a test told of a slot.
-#[derive(Clone, Copy)]
-pub(crate) enum Mark {
-    In,
-    Out,
-}
-
-/// A slot that was tested.
-#[derive(Clone, Copy)]
-pub(crate) struct Tested {
-    pub(crate) slot: u32,
-    pub(crate) mark: Mark,
-}
-
-/// The slots that were tested, in order, and for each bucket of slots the place of the last one in
-/// it, from which the others follow. A place past the end, or of a slot in another bucket, is left
-/// from an earlier growth, and tells that the bucket has no more slots.
+/// A cavity, which contracts see, and a mark for each of its slots. It serves one growth after
+/// another: to clear it takes the time of its own size, and not of the arena's.
 #[derive(Drop)]
-pub(crate) struct Marks {
-    tested: Vec<Tested>,
-    // For each of them the place of the one before it in its bucket.
-    earlier: Vec<u32>,
-    last: Vec<u32>,
+pub(crate) struct MarkedCavity {
+    found: Cavity,
+    // Whether a slot is in the cavity, by its place in the arena. Those past the end are not.
+    marks: Vec<bool>,
 }
 
-impl Model for Marks {
+impl Model for MarkedCavity {
     ghost use Rattle.std.specs.Prelude.{List};
-    ghost use Rattle.cavity_insert.specs.declared.marks.Tested.{Tested as TestedValue};
+    ghost use Rattle.mesh_arena.specs.declared.slot.Slot.{Slot as SlotValue};
+    ghost use Rattle.cavity_insert.specs.Marks.{AreMarksOf};
 
-    ghost Value = { List TestedValue };
+    ghost Value = { List SlotValue };
 
-    ghost use Rattle.cavity_insert.specs.Marks.{IsChained};
+    ghost view = { λ m. m.found };
 
-    ghost view = { λ m. m.tested.items };
-
-    ghost invariant = { λ m. IsChained m.tested.items m.earlier.items m.last.items };
+    ghost invariant = { λ m. AreMarksOf m.found m.marks.items };
 }
 
-// How many buckets there are.
-const BUCKETS: usize = 1024;
-
-// How many slots are tested for nearly every point of a cloud.
-const MOST_USUAL: usize = 128;
-
-// So that a place fits 32 bits.
-const MOST_TESTED: usize = u32::MAX as usize;
-
+/// Makes the marks so many that this place has one.
 #[inline]
-fn bucket_of(slot: u32) -> usize
-    ensures is { result ≡ bucket slot }
-    ensures within { result < 1024 }
+fn lengthen(marks: &mut Vec<bool>, place: usize) -> Result<(), NoMemory>
+    requires { place < 2 ^ 32 }
+    ensures same { (u : ℕ) → is_marked marks.new.items u ≡ is_marked marks.old.items u }
+    ensures inside { OnOk result (place < length marks.new.items) }
 {
-    slot as usize % BUCKETS
+    if marks.len() <= place {
+        marks.resize(place + 1, false)?;
+    }
+    Ok(())
 }
 
-impl Marks {
-    pub(crate) fn new(alloc: Global) -> Result<Self, NoMemory>
-        ensures { IfOk result (λ marks. marks ≡ []) }
+impl MarkedCavity {
+    /// A cavity with no slot. It takes no memory yet.
+    pub(crate) fn new(alloc: Global) -> Self
+        ensures { result ≡ [] }
     {
-        let mut last = Vec::new(alloc);
-        last.resize(BUCKETS, 0)?;
-        Ok(Marks {
-            tested: Vec::with_capacity(alloc, MOST_USUAL)?,
-            earlier: Vec::with_capacity(alloc, MOST_USUAL)?,
-            last,
-        })
+        MarkedCavity {
+            found: Cavity::new(alloc),
+            marks: Vec::new(alloc),
+        }
     }
 
-    /// Forgets all marks. What the buckets name is then past the end.
+    /// Takes all slots out. It keeps its memory.
     pub(crate) fn clear(&mut self)
         ensures { self.new ≡ [] }
     {
-        self.tested.clear();
-        self.earlier.clear();
+        let mut left = self.found.len();
+        while left > 0 {
+            left -= 1;
+            self.marks[self.found.at(left).index as usize] = false;
+            self.found.drop_last();
+        }
     }
 
-    /// What was told of a slot, if it was tested.
-    pub(crate) fn find(&self, slot: u32) -> Option<Mark>
-        ensures { MatchOption result (IsMarked self.now slot → ⊥) (IsMarkedAs self.now slot) }
+    /// Whether a slot is in the cavity.
+    #[inline]
+    pub(crate) fn has(&self, s: Slot) -> bool
+        ensures { IsTrue result ↔ IsIn self.now s.index }
     {
-        let bucket = bucket_of(slot);
-        let mut end = self.tested.len();
-        let mut at = self.last[bucket] as usize;
-        while at < end {
-            let tested = self.tested[at];
-            if tested.slot == slot {
-                return Some(tested.mark);
-            }
-            if bucket_of(tested.slot) != bucket {
-                return None;
-            }
-            end = at;
-            at = self.earlier[at] as usize;
-        }
-        None
+        let place = s.index as usize;
+        place < self.marks.len() && self.marks[place]
     }
 
-    /// Marks a slot.
-    pub(crate) fn put(&mut self, tested: Tested) -> Result<(), NoMemory>
-        ensures { OnOk result (self.new ≡ self.old ++ tested ∷ []) }
+    /// Appends a slot.
+    pub(crate) fn push(&mut self, s: Slot) -> Result<(), NoMemory>
+        ensures { OnOk result (self.new ≡ self.old ++ s ∷ []) }
     {
-        let i = self.tested.len();
-        if i >= MOST_TESTED {
-            return Err(NoMemory);
-        }
-        self.tested.reserve(1)?;
-        self.earlier.reserve(1)?;
-        let bucket = bucket_of(tested.slot);
-        self.earlier.push_reserved(self.last[bucket]);
-        self.tested.push_reserved(tested);
-        self.last[bucket] = i as u32;
+        let place = s.index as usize;
+        lengthen(&mut self.marks, place)?;
+        self.found.push(s)?;
+        self.marks[place] = true;
         Ok(())
+    }
+
+    /// The number of slots.
+    pub(crate) fn len(&self) -> usize
+        ensures { result ≡ length self.now }
+    {
+        self.found.len()
+    }
+
+    /// The slot at this place of the cavity.
+    pub(crate) fn at(&self, i: usize) -> Slot
+        requires { i < length self.now }
+        ensures { HoldsAt (λ s. s ≡ result) self.now i }
+    {
+        self.found.at(i)
+    }
+
+    /// The slots.
+    pub(crate) fn as_cavity(&self) -> &Cavity
+        ensures { result.now ≡ self.now }
+    {
+        &self.found
+    }
+
+    /// The slots, without their marks.
+    pub(crate) fn into_cavity(self) -> Cavity
+        ensures { result ≡ self }
+    {
+        let MarkedCavity { found, .. } = self;
+        found
     }
 }

@@ -78,7 +78,7 @@ fn insert_all<L: Ledger>(
         (IsDelaunayMesh built.new.arena.slots points.now (all_numbers points.now)) }
     ensures live { OnOk result (IsLive built.new.arena.slots built.new.last.index) }
 {
-    let mut growth = Growth::new(alloc)?;
+    let mut growth = Growth::new(alloc);
     for turn in turns {
         if !has_corner(first, turn.number) {
             let near = built.last;

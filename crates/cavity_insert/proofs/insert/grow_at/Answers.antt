@@ -19,7 +19,7 @@ pub new-search-requires : goal.new-search-requires
 new-search-requires g c = corners_on _ c.args.points.now c.requires.ready.0 c.args.number c.tet.ensures.mesh c.requires.ready.1
 
 pub grow-requires-clause-begun : goal.grow-requires-clause-begun
-grow-requires-clause-begun g c = let begun = c.in_ok-begin.ensures in record { start_is = refl; marks = begun.marks; cavity = begun.cavity; rim = begun.rim }
+grow-requires-clause-begun g c = let begun = c.in_ok-begin.ensures in record { start_is = refl; cavity = begun.cavity; rim = begun.rim }
 
 pub grow-requires-clause-start : goal.grow-requires-clause-start
 grow-requires-clause-start g c =

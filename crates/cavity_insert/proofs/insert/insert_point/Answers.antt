@@ -1,4 +1,5 @@
 use Rattle.std.proofs.Common.{ℕ, List, ◌∷◌}
+use Rattle.std.specs.Prelude.{IfOk}
 use Rattle.mesh_arena.specs.Mesh.{IsLive}
 use Rattle.mesh_arena.specs.Replace.{Replaces}
 use Rattle.mesh_arena.specs.declared.slot.Corner.TheVariants.{Point as Numbered}
@@ -13,7 +14,7 @@ replace_cavity-requires g c =
     let found = c.grow_at.new.growth in
     let can : CanReplace c.reserve.new.self.slots found.cavity found.rim c.args.number =
     replace_at _ _ c.args.points.now c.args.number _ _ c.in_ok-reserve.ensures.slots c.in_ok-grow_at.ensures c.requires.ready.0 c.requires.ready.1 in
-    record { cavity = can.is_cavity; rim = can.is_rim; pairs = can.paired; point = can.off_rim }
+    rw c.as_cavity.ensures (record { cavity = can.is_cavity; rim = can.is_rim; pairs = can.paired; point = can.off_rim })
 
 pub returns-clause-mesh : goal.returns-clause-mesh
 returns-clause-mesh g c =
@@ -21,13 +22,15 @@ returns-clause-mesh g c =
     let new = c.replace_cavity.new.self.slots in
     let P : Slot → Type 0 = λ s. Replaces c.reserve.new.self.slots new found.cavity found.rim (Numbered c.args.number) s.index in
     let Q : Slot → Type 0 = λ s. (ms : List ℕ) → IsReadyFor c.args.arena.now.slots c.args.points.now ms c.args.number → IsDelaunayMesh new c.args.points.now (c.args.number ∷ ms) in
+    let ok : IfOk c.replace_cavity.result P = rw c.as_cavity.ensures at c.replace_cavity.ensures.ok in
     if_ok P Q (λ s replaces ms ready.
     inserted_at _ _ c.args.points.now c.args.number _ _ c.in_ok-reserve.ensures.slots c.in_ok-grow_at.ensures ms ready new s.index c.args.near.index c.requires.near c.replace_cavity.ensures.mesh replaces)
-    c.replace_cavity.result c.replace_cavity.ensures.ok
+    c.replace_cavity.result ok
 
 pub returns-clause-live : goal.returns-clause-live
 returns-clause-live g c =
     let found = c.grow_at.new.growth in
     let P : Slot → Type 0 = λ s. Replaces c.reserve.new.self.slots c.replace_cavity.new.self.slots found.cavity found.rim (Numbered c.args.number) s.index in
     let Q : Slot → Type 0 = λ s. IsLive c.replace_cavity.new.self.slots s.index in
-    if_ok P Q (λ s replaces. star_live _ _ _ _ _ _ replaces) c.replace_cavity.result c.replace_cavity.ensures.ok
+    let ok : IfOk c.replace_cavity.result P = rw c.as_cavity.ensures at c.replace_cavity.ensures.ok in
+    if_ok P Q (λ s replaces. star_live _ _ _ _ _ _ replaces) c.replace_cavity.result ok

@@ -22,7 +22,7 @@ pub grow_at-requires-clause-ready : goal.grow_at-requires-clause-ready
 grow_at-requires-clause-ready g c = rw c.len.ensures.count (all_numbers c.requires.longer.others, ready_of _ c.args.points.now (length c.args.points.now - 1) c.requires.longer)
 
 pub tell_cavity-requires : goal.tell_cavity-requires
-tell_cavity-requires g c = c.in_ok-grow_at.ensures.grown.live
+tell_cavity-requires g c = rw c.as_cavity-cavity.ensures c.in_ok-grow_at.ensures.grown.live
 
 pub replace_cavity-requires : goal.replace_cavity-requires
 replace_cavity-requires g c =
@@ -31,7 +31,7 @@ replace_cavity-requires g c =
     let made = c.grow_at.new.growth in
     let found : IsCavityOf c.args.arena.now.slots ps n made.cavity made.rim = rw c.len.ensures.count at c.in_ok-grow_at.ensures in
     let can : CanReplace c.reserve.new.self.slots made.cavity made.rim n = replace_at _ _ ps n _ _ c.in_ok-reserve.ensures.slots found (all_numbers c.requires.longer.others) (ready_of _ ps n c.requires.longer) in
-    rw c.len.ensures.count (record { cavity = can.is_cavity; rim = can.is_rim; pairs = can.paired; point = can.off_rim })
+    rw (c.len.ensures.count, c.as_cavity-cavity.ensures) (record { cavity = can.is_cavity; rim = can.is_rim; pairs = can.paired; point = can.off_rim })
 
 pub returns-clause-mesh : goal.returns-clause-mesh
 returns-clause-mesh g c =
@@ -41,7 +41,7 @@ returns-clause-mesh g c =
     let new = c.replace_cavity.new.self.slots in
     let found : IsCavityOf c.args.arena.now.slots ps n made.cavity made.rim = rw c.len.ensures.count at c.in_ok-grow_at.ensures in
     let P : Slot → Type 0 = λ s. Replaces c.reserve.new.self.slots new made.cavity made.rim (Numbered n) s.index in
-    let ok : IfOk c.replace_cavity.result P = rw c.len.ensures.count at c.replace_cavity.ensures.ok in
+    let ok : IfOk c.replace_cavity.result P = rw (c.len.ensures.count, c.as_cavity-cavity.ensures) at c.replace_cavity.ensures.ok in
     let Q : Slot → Type 0 = λ s. IsDelaunayMesh new ps (all_numbers ps) in
     if_ok P Q (λ s replaces.
     mesh_of _ _ ps n c.requires.longer
@@ -53,7 +53,8 @@ returns-clause-live g c =
     let made = c.grow_at.new.growth in
     let P : Slot → Type 0 = λ s. Replaces c.reserve.new.self.slots c.replace_cavity.new.self.slots made.cavity made.rim (Numbered (c.len.result - 1)) s.index in
     let Q : Slot → Type 0 = λ s. IsLive c.replace_cavity.new.self.slots s.index in
-    if_ok P Q (λ s replaces. star_live _ _ _ _ _ _ replaces) c.replace_cavity.result c.replace_cavity.ensures.ok
+    let ok : IfOk c.replace_cavity.result P = rw c.as_cavity-cavity.ensures at c.replace_cavity.ensures.ok in
+    if_ok P Q (λ s replaces. star_live _ _ _ _ _ _ replaces) c.replace_cavity.result ok
 
 pub returns-clause-stays : goal.returns-clause-stays
 returns-clause-stays g c =
@@ -64,7 +65,7 @@ returns-clause-stays g c =
     let new = c.replace_cavity.new.self.slots in
     let found : IsCavityOf old ps n made.cavity made.rim = rw c.len.ensures.count at c.in_ok-grow_at.ensures in
     let P : Slot → Type 0 = λ s. Replaces c.reserve.new.self.slots new made.cavity made.rim (Numbered n) s.index in
-    let ok : IfOk c.replace_cavity.result P = rw c.len.ensures.count at c.replace_cavity.ensures.ok in
+    let ok : IfOk c.replace_cavity.result P = rw (c.len.ensures.count, c.as_cavity-cavity.ensures) at c.replace_cavity.ensures.ok in
     let Q : Slot → Type 0 = λ s. (u : ℕ) → IsLive old u → (IsTaken old ps (point ps n) n u → ⊥) → corners_at new u ≡ corners_at old u in
     if_ok P Q (λ s replaces u live not. stays_at _ _ ps n _ _ c.in_ok-reserve.ensures.slots found new s.index u replaces live not) c.replace_cavity.result ok
 
@@ -77,7 +78,8 @@ returns-clause-told g c =
     let P : Slot → Type 0 = λ s. Replaces c.reserve.new.self.slots new made.cavity made.rim (Numbered (c.len.result - 1)) s.index in
     let Q : Slot → Type 0 = λ s. (u : ℕ) → IsLive old u → IsToldOf lost old u ⊎ (corners_at new u ≡ corners_at old u) in
     let by : (s : Slot) → P s → Q s = λ s replaces u live. elim (in_or_not made.cavity u) [
-      | inl is ↦ inl (c.in_ok-tell_cavity.ensures u is)
+      | inl is ↦ inl (c.in_ok-tell_cavity.ensures u (rw c.as_cavity-cavity.ensures is))
       | inr off ↦ inr ((subst (λ x. Replaces x new made.cavity made.rim (Numbered (c.len.result - 1)) s.index) c.in_ok-reserve.ensures.slots replaces).kept u live off)
     ] in
-    if_ok P Q by c.replace_cavity.result c.replace_cavity.ensures.ok
+    let ok : IfOk c.replace_cavity.result P = rw c.as_cavity-cavity.ensures at c.replace_cavity.ensures.ok in
+    if_ok P Q by c.replace_cavity.result ok

@@ -3,8 +3,6 @@ use Rattle.mesh_arena.specs.declared.slot.Slot.{Slot}
 use Rattle.mesh_laws.specs.Reach.{Grown}
 use Rattle.mesh_laws.proofs.Taken.{taken_live}
 use Rattle.cavity_insert.specs.Search.{IsInZone}
-use Rattle.cavity_insert.specs.declared.marks.Tested.{Tested}
-use Rattle.cavity_insert.specs.declared.marks.Mark.TheVariants.{In}
 use Rattle.cavity_insert.proofs.Growth.{Growing-begin, Grown-done}
 use Rattle.cavity_insert.proofs.Pigeons.{few_slots}
 use Rattle.cavity_insert.proofs.grow.Growth.grow.Goals as goal
@@ -19,16 +17,14 @@ pub loop-i-init : goal.loop-i-init
 loop-i-init g c =
     let search = c.args.search.now in
     let was = c.args.self.now in
-    let cavity : c.push.new.self ≡ was.start ∷ [] = c.in_ok-push.ensures.ok ∙ ap (λ (x : List Slot). x ++ was.start ∷ []) c.requires.begun.cavity in
-    let one : Tested = record { slot = was.start.index; mark = In } in
-    let marks : c.put.new.self ≡ one ∷ [] = c.in_ok-put.ensures ∙ ap (λ (x : List Tested). x ++ one ∷ []) c.requires.begun.marks in
+    let cavity : c.push.new.self ≡ was.start ∷ [] = c.in_ok-push.ensures ∙ ap (λ (x : List Slot). x ++ was.start ∷ []) c.requires.begun.cavity in
     let live = taken_live search.slots search.points search.p search.number was.start.index c.requires.start in
     record {
       inside = omega arith;
       few = omega (arith, c.test.ensures.step);
       many = omega (arith, c.test.ensures.step, ap length cavity);
       start = refl;
-      growing = rw (cavity, marks, c.requires.begun.rim) (Growing-begin search.slots (IsInZone search) was.start c.requires.start live);
+      growing = rw (cavity, c.requires.begun.rim) (Growing-begin search.slots (IsInZone search) was.start c.requires.start live);
     }
 
 pub loop-i-smaller : goal.loop-i-smaller
@@ -50,4 +46,4 @@ returns-clause-grown g c =
     let search = c.args.search.now in
     let found = c.loop-i.self in
     subst (λ (s : Slot). Grown search.slots (IsInZone search) s.index found.cavity found.rim) c.loop-i.invariant.start
-    (Grown-done _ _ _ c.see.ensures _ _ _ c.loop-i.i (omega arith) c.loop-i.invariant.growing)
+    (Grown-done _ _ _ c.see.ensures _ _ c.loop-i.i (omega arith) c.loop-i.invariant.growing)
