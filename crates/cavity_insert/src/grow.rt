@@ -1,5 +1,5 @@
 //! The cavity of a new point: a search from one slot over neighbors in the point's conflict zone.
-ghost use Rattle.std.specs.Prelude.{◌≡◌, ◌+◌, ◌*◌, ◌<◌, ◌≤◌, length, IfOk, OnOk};
+ghost use Rattle.std.specs.Prelude.{◌≡◌, ◌+◌, ◌*◌, ◌<◌, ◌≤◌, [], length, IfOk, OnOk};
 ghost use Rattle.mesh_arena.specs.Mesh.{IsMesh};
 ghost use Rattle.point_locate.specs.Place.{AreCornersOn};
 ghost use Rattle.mesh_laws.specs.Rule.{IsTaken};
@@ -17,9 +17,6 @@ use std::alloc::Global;
 use std::sync::ledger::Ledger;
 use tet_ports::NoMemory;
 
-// Room for the rim of nearly every point of a cloud, so that its list does not grow.
-const MOST_USUAL: usize = 64;
-
 /// The growth of a cavity. It serves one point after another.
 #[derive(Drop)]
 pub(crate) struct Growth {
@@ -27,7 +24,17 @@ pub(crate) struct Growth {
     // The slots of the conflict zone that were found, and the faces round them.
     pub(crate) cavity: MarkedCavity,
     pub(crate) rim: Rim,
-    alloc: Global,
+}
+
+/// Takes all faces off. The rim keeps its memory.
+fn clear_rim(rim: &mut Rim)
+    ensures { rim.new ≡ [] }
+{
+    let mut left = rim.len();
+    while left > 0 {
+        left -= 1;
+        rim.drop_last();
+    }
 }
 
 impl Growth {
@@ -37,18 +44,16 @@ impl Growth {
             start: Slot { index: 0 },
             cavity: MarkedCavity::new(alloc),
             rim: Rim::new(alloc),
-            alloc,
         }
     }
 
-    /// Begins a growth from a slot.
-    pub(crate) fn begin(&mut self, start: Slot) -> Result<(), NoMemory>
-        ensures { OnOk result (HasBegun self.new start) }
+    /// Begins a growth from a slot. The lists of the last one keep their memory.
+    pub(crate) fn begin(&mut self, start: Slot)
+        ensures { HasBegun self.new start }
     {
         self.start = start;
         self.cavity.clear();
-        self.rim = Rim::with_capacity(self.alloc, MOST_USUAL)?;
-        Ok(())
+        clear_rim(&mut self.rim);
     }
 
     // Looks over the face k of the slot i of the cavity. A slot that is not taken is tested again
@@ -156,7 +161,7 @@ pub fn grow_cavity<L: Ledger>(
         grown.1) }
 {
     let mut growth = Growth::new(alloc);
-    growth.begin(start)?;
+    growth.begin(start);
     let search = Search::new(arena, points, p, number);
     growth.grow(&search, steps)?;
     let Growth { cavity, rim, .. } = growth;

@@ -35,7 +35,7 @@ pub(crate) fn grow_at<L: Ledger>(
     let _ = arena.tet(near);
     let p = point_at(points, number);
     let first = slot_of(locate(arena, points, near, p));
-    growth.begin(first)?;
+    growth.begin(first);
     let search = Search::new(arena, points, p, number);
     growth.grow(&search, steps)
 }

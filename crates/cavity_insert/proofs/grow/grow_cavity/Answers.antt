@@ -3,10 +3,10 @@ use Rattle.cavity_insert.proofs.Insertion.{grown_for}
 use Rattle.cavity_insert.proofs.grow.grow_cavity.Goals as goal
 
 pub grow-requires-clause-begun : goal.grow-requires-clause-begun
-grow-requires-clause-begun g c = let begun = c.in_ok-begin.ensures in record { start_is = refl; cavity = begun.cavity; rim = begun.rim }
+grow-requires-clause-begun g c = let begun = c.begin.ensures in record { start_is = refl; cavity = begun.cavity; rim = begun.rim }
 
 pub grow-requires-clause-start : goal.grow-requires-clause-start
-grow-requires-clause-start g c = rw (c.new-search.ensures, c.in_ok-begin.ensures.start_is) c.requires.start
+grow-requires-clause-start g c = rw (c.new-search.ensures, c.begin.ensures.start_is) c.requires.start
 
 pub returns-clause-grown : goal.returns-clause-grown
-returns-clause-grown g c = rw c.into_cavity.ensures (grown_for _ _ _ _ _ _ _ _ _ c.new-search.ensures c.in_ok-begin.ensures.start_is c.in_ok-grow.ensures.grown)
+returns-clause-grown g c = rw c.into_cavity.ensures (grown_for _ _ _ _ _ _ _ _ _ c.new-search.ensures c.begin.ensures.start_is c.in_ok-grow.ensures.grown)

@@ -19,13 +19,13 @@ pub new-search-requires : goal.new-search-requires
 new-search-requires g c = corners_on _ c.args.points.now c.requires.ready.0 c.args.number c.tet.ensures.mesh c.requires.ready.1
 
 pub grow-requires-clause-begun : goal.grow-requires-clause-begun
-grow-requires-clause-begun g c = let begun = c.in_ok-begin.ensures in record { start_is = refl; cavity = begun.cavity; rim = begun.rim }
+grow-requires-clause-begun g c = let begun = c.begin.ensures in record { start_is = refl; cavity = begun.cavity; rim = begun.rim }
 
 pub grow-requires-clause-start : goal.grow-requires-clause-start
 grow-requires-clause-start g c =
     let whole : IsWholeFrom c.args.arena.now.slots c.args.points.now c.args.number c.slot_of-first.result.index =
     whole_at _ c.args.points.now c.requires.ready.0 c.args.number c.tet.ensures.mesh c.requires.ready.1 c.point_at-p.result c.locate.result _ c.point_at-p.ensures c.slot_of-first.ensures c.locate.ensures in
-    rw (c.new-search.ensures, c.in_ok-begin.ensures.start_is, c.point_at-p.ensures) whole.takes_start
+    rw (c.new-search.ensures, c.begin.ensures.start_is, c.point_at-p.ensures) whole.takes_start
 
 pub returns : goal.returns
 returns g c =
@@ -34,5 +34,5 @@ returns g c =
     let found = c.new-search.result in
     on_ok_weaker c.grow.result
     (λ (grown : Grown found.slots (IsInZone found) c.begin.new.self.start.index c.grow.new.self.cavity c.grow.new.self.rim).
-    cavity_for _ _ _ _ _ _ _ _ _ c.new-search.ensures c.in_ok-begin.ensures.start_is c.point_at-p.ensures c.tet.ensures.mesh whole grown)
+    cavity_for _ _ _ _ _ _ _ _ _ c.new-search.ensures c.begin.ensures.start_is c.point_at-p.ensures c.tet.ensures.mesh whole grown)
     c.grow.ensures.grown
