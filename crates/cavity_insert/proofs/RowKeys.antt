@@ -6,17 +6,15 @@ use Rattle.std.specs.Ordering.{nat_cmp}
 use Rattle.std.specs.declared.cmp.Ordering.TheVariants.{Less}
 use Rattle.std.proofs.lemmas.Bool.{cases_lt}
 use Rattle.std.proofs.lemmas.List.{get_or-map, length-map, map_push}
-use Rattle.sign_predicates.specs.Point.{Point}
-use Rattle.geo_laws.specs.Delaunay.{RowBefore, IsDelaunayListAmong}
+use Rattle.geo_laws.specs.Delaunay.{RowBefore}
 use Rattle.geo_laws.specs.declared.tetrahedra.Tet.{Tet as Row}
 use Rattle.geo_laws.proofs.Members.{IsMember, contains_of, member_of, in_map, map_cases}
 use Rattle.geo_laws.proofs.RowOrder.{by_last}
 use Rattle.mesh_arena.specs.Mesh.{SlotValue}
 use Rattle.point_locate.specs.Place.{IsAt}
-use Rattle.mesh_laws.specs.Living.{IsDelaunayMesh}
-use Rattle.cavity_insert.specs.Rows.{IsRowOf, AreRowsBelow}
+use Rattle.cavity_insert.specs.Rows.{IsRowOf, AreRowsBelow, IsListOf}
 use Rattle.cavity_insert.specs.RowKeys.{row_of_key}
-use Rattle.cavity_insert.proofs.SlotRows.{rows_more, list_of_rows}
+use Rattle.cavity_insert.proofs.SlotRows.{rows_more}
 
 -- of two numbers the lesser has a lesser front, or the same and a lesser last digit
 by_digit : (x y : ℕ) → x < y → (x / 65536 < y / 65536) ⊎ (x / 65536 ≡ y / 65536) × (x % 65536 < y % 65536)
@@ -70,8 +68,6 @@ keys_more slots keys n key row is at before =
     let pushed : map row_of_key (keys ++ key ∷ []) ≡ map row_of_key keys ++ row ∷ [] = map_push row_of_key keys key ∙ ap (λ r. map row_of_key keys ++ r ∷ []) is in
     subst (λ rows. AreRowsBelow slots rows (n + 1)) (sym pushed) (rows_more slots (map row_of_key keys) n row at before)
 
--- sorted, they have the rows of the Delaunay list
-pub list_of_keys : (slots : List (Option SlotValue)) (keys kept : List ℕ) → AreRowsBelow slots (map row_of_key keys) (length slots) → ((key : ℕ) → Contains kept key ↔ Contains keys key)
-    → AllPairs (λ x y. nat_cmp x y ≡ Less) kept → (ps : List Point) (ms : List ℕ) → IsDelaunayMesh slots ps ms → IsDelaunayListAmong ps ms (map row_of_key kept)
-list_of_keys slots keys kept are same ascending ps ms mesh =
-    list_of_rows slots ps ms mesh (map row_of_key keys) (map row_of_key kept) are (same_rows kept keys same) (rows_ascend kept ascending)
+-- sorted, they have the rows sorted
+pub list_of_keys : (keys kept : List ℕ) → ((key : ℕ) → Contains kept key ↔ Contains keys key) → AllPairs (λ x y. nat_cmp x y ≡ Less) kept → IsListOf (map row_of_key keys) (map row_of_key kept)
+list_of_keys keys kept same ascending = record { exactly = same_rows kept keys same; ascending = rows_ascend kept ascending }

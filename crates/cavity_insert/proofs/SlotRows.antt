@@ -1,12 +1,12 @@
 -- The rows of a mesh's slots are its Delaunay list.
-use Rattle.std.proofs.Common.{◌≡◌, ◌≢◌, ◌↔◌, ◌⊎◌, inl, inr, ℕ, ◌+◌, ◌<◌, ◌≤◌, List, [], ◌∷◌, ◌++◌, length, Option, Some, None, option_map, refl, sym, ap, subst, ◌∙◌, arith}
-use Rattle.std.specs.Prelude.{Contains, AllPairs, IsSome}
+use Rattle.std.proofs.Common.{◌≡◌, ◌≢◌, ◌⊎◌, inl, inr, ℕ, ◌+◌, ◌<◌, ◌≤◌, List, [], ◌∷◌, ◌++◌, length, Option, Some, None, option_map, refl, sym, ap, subst, ◌∙◌, arith}
+use Rattle.std.specs.Prelude.{Contains, IsSome}
 use Rattle.std.proofs.lemmas.Bool.{cases_lt}
 use Rattle.std.proofs.lemmas.List.{get_or_past}
 use Rattle.std.proofs.lemmas.List.Elements.{Contains-append_left, Contains-push, Contains-push_cases}
 use Rattle.sign_predicates.specs.Point.{Point}
 use Rattle.sign_predicates.specs.Orientation.{IsPositive}
-use Rattle.geo_laws.specs.Delaunay.{corners, IsArranged, RowBefore, IsDelaunayAmong, IsDelaunayListAmong}
+use Rattle.geo_laws.specs.Delaunay.{corners, IsArranged, IsDelaunayAmong, IsDelaunayListAmong}
 use Rattle.geo_laws.specs.declared.tetrahedra.Tet.{Tet as Row}
 use Rattle.geo_laws.proofs.Arrangement.{IsEven, even_self, even_trans, even_positive, even-rotate, even-swap, even-cross, rotate, swap_both, cross}
 use Rattle.geo_laws.proofs.Arrangement as arrangement
@@ -20,7 +20,7 @@ use Rattle.mesh_laws.specs.Living.{IsRowSlot, IsGhostSlot, IsDelaunayMesh}
 use Rattle.mesh_laws.proofs.Taken.{no_ghost, same_corners}
 use Rattle.mesh_laws.proofs.Rows.{same_row}
 use Rattle.mesh_laws.proofs.Across.{infinite_corner}
-use Rattle.cavity_insert.specs.Rows.{IsEvenOf, HasLeastFirst, HasLeastSecond, IsRowOf, AreRowsBelow}
+use Rattle.cavity_insert.specs.Rows.{IsEvenOf, HasLeastFirst, HasLeastSecond, IsRowOf, AreRowsBelow, IsListOf}
 
 -- ---- even arrangements
 
@@ -113,8 +113,12 @@ module _ (slots : List (Option SlotValue)) (ps : List Point) (ms : List ℕ) (me
       let slot = slot_of_row s at.here.four (at.is ∙ ap Some at.here.is) in
       subst (IsDelaunayAmong ps ms) (sym (row_is s at.here.four row slot (subst (λ cs. IsRowOf cs row) at.here.is at.here))) slot.is_row
 
-  pub list_of_rows : (rows kept : List Row) → AreRowsBelow slots rows (length slots) → ((row : Row) → Contains kept row ↔ Contains rows row) → AllPairs RowBefore kept → IsDelaunayListAmong ps ms kept
-  list_of_rows rows kept are same ascending = record { exactly = λ row. (λ c. to row (are.from row ((same row).0 c)), λ d. (same row).1 (from row (mesh.rows row d))); ascending = ascending }
+  pub list_of_rows : (rows list : List Row) → AreRowsBelow slots rows (length slots) → IsListOf rows list → IsDelaunayListAmong ps ms list
+  list_of_rows rows list are listed =
+      record {
+        exactly = λ row. (λ c. to row (are.from row ((listed.exactly row).0 c)), λ d. (listed.exactly row).1 (from row (mesh.rows row d)));
+        ascending = listed.ascending;
+      }
     where
       to : (row : Row) → (s : ℕ) × IsAt slots (λ cs. IsRowOf cs row) s → IsDelaunayAmong ps ms row
       to row at = delaunay_of at.0 row at.1

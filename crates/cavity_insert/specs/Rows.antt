@@ -1,8 +1,8 @@
 -- The rows of a mesh's slots, each in the least even arrangement of the slot's corners.
-use Rattle.std.specs.Prelude.{◌≡◌, ℕ, ◌<◌, ◌≤◌, List, Option, Some, Contains}
+use Rattle.std.specs.Prelude.{◌≡◌, ◌↔◌, ℕ, ◌<◌, ◌≤◌, List, Option, Some, AllPairs, Contains}
 use Rattle.sign_predicates.specs.Point.{Point}
 use Rattle.sign_predicates.specs.Orientation.{IsPositive}
-use Rattle.geo_laws.specs.Delaunay.{corners}
+use Rattle.geo_laws.specs.Delaunay.{corners, RowBefore}
 use Rattle.geo_laws.specs.declared.tetrahedra.Tet.{Tet as Row}
 use Rattle.insert_laws.specs.Insertion.{HasSameCorners}
 use Rattle.mesh_arena.specs.Mesh.{SlotValue, corners_at}
@@ -33,4 +33,10 @@ pub record IsRowOf (cs : List Corner) (row : Row) : Type 0 where
 -- these are the rows of the slots below n
 pub record AreRowsBelow (slots : List (Option SlotValue)) (rows : List Row) (n : ℕ) : Type 0 where
   pub from : (row : Row) → Contains rows row → (s : ℕ) × IsAt slots (λ cs. IsRowOf cs row) s
-  pub to : (s : ℕ) → s < n → (t : Row) → corners_at slots s ≡ Some (row_corners t) → (row : Row) × Contains rows row × IsRowOf (row_corners t) row
+  pub to : (s : ℕ) → s < n → (t : Row) → corners_at slots s ≡ Some (row_corners t) → (row : Row) × Contains rows row
+      × IsRowOf (row_corners t) row
+
+-- the list has these rows, each once, ascending
+pub record IsListOf (rows list : List Row) : Type 0 where
+  pub exactly : (row : Row) → Contains list row ↔ Contains rows row
+  pub ascending : AllPairs RowBefore list

@@ -10,7 +10,7 @@ use crate::first::first_row;
 use crate::grow::Growth;
 use crate::insert::insert_point;
 use crate::order::{Turn, insertion_order};
-use crate::rows::rows_of;
+use crate::rows::slot_rows;
 use crate::start::start_mesh;
 use crate::steps::Steps;
 use geo_laws::{Points, Tet, TetList};
@@ -148,6 +148,9 @@ pub fn delaunay(alloc: Global, points: &Points) -> Result<TetList, BuildFault>
     ensures not_flat { OnOk result (¬ AreCoplanar points.now) }
     ensures flat { IsErrOf result BuildFault.Flat → AreCoplanar points.now }
 {
-    let built = mesh_from::<Brand>(alloc, points, Blank::new(1))?;
-    Ok(rows_of(alloc, &built.arena)?)
+    let Built { arena, .. } = mesh_from::<Brand>(alloc, points, Blank::new(1))?;
+    let found = slot_rows(alloc, &arena)?;
+    // Before the list is made, so that less memory is taken at once.
+    drop(arena);
+    Ok(found.into_list(alloc)?)
 }

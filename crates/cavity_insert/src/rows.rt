@@ -1,5 +1,6 @@
 //! The Delaunay list of a mesh, read from its slots.
-ghost use Rattle.std.specs.Prelude.{◌≡◌, ℕ, ◌<◌, List, Some, IfOk, IfSome, MatchOption, length, map};
+ghost use Rattle.std.specs.Prelude.{◌≡◌, ℕ, ◌<◌, List, Some, length, map};
+ghost use Rattle.std.specs.Prelude.{IfOk, IfSome, MatchOption};
 ghost use Rattle.sign_predicates.specs.Point.{Point};
 ghost use Rattle.geo_laws.specs.Delaunay.{IsDelaunayListAmong};
 ghost use Rattle.geo_laws.specs.declared.tetrahedra.Tet.{Tet as Row};
@@ -7,8 +8,8 @@ ghost use Rattle.mesh_arena.specs.Mesh.{corners_at, corner_list};
 ghost use Rattle.point_locate.specs.Place.{row_corners, IsAt};
 ghost use Rattle.mesh_laws.specs.Living.{IsDelaunayMesh};
 ghost use Rattle.cavity_insert.specs.Rows.{IsEvenOf, HasLeastFirst, HasLeastSecond, IsRowOf};
-ghost use Rattle.cavity_insert.specs.Rows.{AreRowsBelow};
-ghost use Rattle.cavity_insert.specs.RowKeys.{row_of_key};
+ghost use Rattle.cavity_insert.specs.Rows.{AreRowsBelow, IsListOf};
+ghost use Rattle.cavity_insert.specs.RowKeys.{row_of_key, rows_in};
 
 use crate::row_keys::{RowKey, key_of, row_of_key};
 use geo_laws::{Tet, TetList};
@@ -17,23 +18,53 @@ use point_locate::{Shape, shape_of};
 use std::alloc::Global;
 use tet_ports::{Items, NoMemory};
 
+/// The rows of the slots of a mesh, in the order of the slots: as keys, where each has one.
+#[derive(Drop)]
+pub(crate) enum SlotRows {
+    Keys(Items<RowKey>),
+    Rows(TetList),
+}
+
+impl SlotRows {
+    /// Sorts the rows, each once.
+    pub(crate) fn into_list(self, alloc: Global) -> Result<TetList, NoMemory>
+        ensures { IfOk result (IsListOf (rows_in self)) }
+    {
+        match self {
+            SlotRows::Keys(mut keys) => {
+                keys.keep_distinct();
+                rows_of_keys(alloc, &keys)
+            }
+            SlotRows::Rows(mut rows) => {
+                rows.keep_distinct();
+                Ok(rows)
+            }
+        }
+    }
+}
+
 /// The Delaunay rows of a mesh, ascending.
 pub(crate) fn rows_of(alloc: Global, arena: &Arena) -> Result<TetList, NoMemory>
     ensures { IfOk result
         (λ rows. (ps : List Point) (ms : List ℕ) → IsDelaunayMesh arena.now.slots ps ms
         → IsDelaunayListAmong ps ms rows) }
 {
-    match keys_of(alloc, arena)? {
-        Some(mut keys) => {
-            keys.keep_distinct();
-            rows_of_keys(alloc, &keys)
-        }
-        None => sorted_rows(alloc, arena),
+    slot_rows(alloc, arena)?.into_list(alloc)
+}
+
+/// The rows of all slots.
+pub(crate) fn slot_rows(alloc: Global, arena: &Arena) -> Result<SlotRows, NoMemory>
+    ensures { IfOk result
+        (λ found. AreRowsBelow arena.now.slots (rows_in found) (length arena.now.slots)) }
+{
+    match keys_at(alloc, arena)? {
+        Some(keys) => Ok(SlotRows::Keys(keys)),
+        None => Ok(SlotRows::Rows(rows_at(alloc, arena)?)),
     }
 }
 
 /// The keys of the rows of all slots; None where a row has no key.
-fn keys_of(alloc: Global, arena: &Arena) -> Result<Option<Items<RowKey>>, NoMemory>
+fn keys_at(alloc: Global, arena: &Arena) -> Result<Option<Items<RowKey>>, NoMemory>
     ensures { IfOk result (λ found. IfSome found
         (λ keys. AreRowsBelow arena.now.slots (map row_of_key keys) (length arena.now.slots))) }
 {
@@ -49,6 +80,20 @@ fn keys_of(alloc: Global, arena: &Arena) -> Result<Option<Items<RowKey>>, NoMemo
     Ok(Some(keys))
 }
 
+/// The rows of all slots, whatever their numbers.
+fn rows_at(alloc: Global, arena: &Arena) -> Result<TetList, NoMemory>
+    ensures { IfOk result
+        (λ rows. AreRowsBelow arena.now.slots rows (length arena.now.slots)) }
+{
+    let mut rows = TetList::with_capacity(alloc, arena.slots())?;
+    for slot in 0..arena.slots() {
+        if let Some(row) = row_at(arena, slot) {
+            rows.push(row)?;
+        }
+    }
+    Ok(rows)
+}
+
 /// The rows of these keys, in the same order.
 fn rows_of_keys(alloc: Global, keys: &Items<RowKey>) -> Result<TetList, NoMemory>
     ensures { IfOk result (λ rows. rows ≡ map row_of_key keys.now) }
@@ -57,22 +102,6 @@ fn rows_of_keys(alloc: Global, keys: &Items<RowKey>) -> Result<TetList, NoMemory
     for key in keys.as_slice() {
         rows.push(row_of_key(*key))?;
     }
-    Ok(rows)
-}
-
-/// The Delaunay rows of a mesh, ascending, by comparison of rows.
-fn sorted_rows(alloc: Global, arena: &Arena) -> Result<TetList, NoMemory>
-    ensures { IfOk result
-        (λ rows. (ps : List Point) (ms : List ℕ) → IsDelaunayMesh arena.now.slots ps ms
-        → IsDelaunayListAmong ps ms rows) }
-{
-    let mut rows = TetList::with_capacity(alloc, arena.slots())?;
-    for slot in 0..arena.slots() {
-        if let Some(row) = row_at(arena, slot) {
-            rows.push(row)?;
-        }
-    }
-    rows.keep_distinct();
     Ok(rows)
 }
 

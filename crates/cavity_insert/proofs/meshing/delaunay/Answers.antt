@@ -1,10 +1,18 @@
 use Rattle.geo_laws.specs.Delaunay.{all_numbers}
 use Rattle.geo_laws.proofs.DelaunayList.{delaunay_list_is}
+use Rattle.cavity_insert.specs.RowKeys.{rows_in}
 use Rattle.cavity_insert.proofs.Flat.{rows_on_points}
+use Rattle.cavity_insert.proofs.SlotRows.{list_of_rows}
 use Rattle.cavity_insert.proofs.meshing.delaunay.Goals as goal
 
+pub returns-clause-list : goal.returns-clause-list
+returns-clause-list c =
+    let ps = c.args.points.now in
+    let slots = c.in_ok-arena.field-0.arena.slots in
+    list_of_rows slots ps (all_numbers ps) c.in_ok-arena.ensures.mesh (rows_in c.in_ok-found.found) _ c.in_ok-found.ensures c.in_ok-into_list.ensures
+
 pub returns-clause-rows : goal.returns-clause-rows
-returns-clause-rows c = delaunay_list_is c.args.points.now _ (c.in_ok-rows_of.ensures c.args.points.now (all_numbers c.args.points.now) c.in_ok-built.ensures.mesh)
+returns-clause-rows c = delaunay_list_is c.args.points.now _ (returns-clause-list c)
 
 pub returns-clause-numbers : goal.returns-clause-numbers
-returns-clause-numbers c = rows_on_points c.args.points.now _ (c.in_ok-rows_of.ensures c.args.points.now (all_numbers c.args.points.now) c.in_ok-built.ensures.mesh)
+returns-clause-numbers c = rows_on_points c.args.points.now _ (returns-clause-list c)

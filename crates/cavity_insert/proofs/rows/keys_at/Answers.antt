@@ -3,8 +3,8 @@ use Rattle.cavity_insert.specs.Rows.{AreRowsBelow}
 use Rattle.cavity_insert.specs.RowKeys.{row_of_key}
 use Rattle.cavity_insert.proofs.SlotRows.{rows_pass}
 use Rattle.cavity_insert.proofs.RowKeys.{keys_more}
-use Rattle.cavity_insert.proofs.rows.keys_of.Goals.{in-Some+in-Some-key_of+in_ok-push, in_default}
-use Rattle.cavity_insert.proofs.rows.keys_of.Goals as goal
+use Rattle.cavity_insert.proofs.rows.keys_at.Goals.{in-Some+in-Some-key_of+in_ok-push, in_default}
+use Rattle.cavity_insert.proofs.rows.keys_at.Goals as goal
 
 pub loop-i-preserved : goal.loop-i-preserved
 loop-i-preserved c =
