@@ -2,6 +2,7 @@ pub mod Firsts
 pub mod Gathered
 pub mod GatheredSides
 pub mod Linked
+pub mod Opposite
 pub mod Orders
 pub mod Partners
 pub mod Runs

@@ -1,10 +1,11 @@
 -- The rows on the other sides of faces.
-use Rattle.std.specs.Prelude.{ℕ, ◌<◌, ◌==◌, Bool, ◌&&◌, ◌||◌, not, cond, Option, List, map, find, option_map, IfSome, All}
+use Rattle.std.specs.Prelude.{ℕ, ◌<◌, ◌==◌, Bool, ◌&&◌, ◌||◌, not, cond, Option, Some, None, List, map, find, option_map, IfSome, All}
 use Rattle.std.specs.List.{enumerate_from}
 use Rattle.geo_laws.specs.Faces.{face_of}
 use Rattle.geo_laws.specs.declared.faces.Face.{Face}
 use Rattle.geo_laws.specs.declared.tetrahedra.Tet.{Tet}
 use Rattle.incidence.specs.declared.pairs.Across.{Across}
+use Rattle.incidence.specs.declared.pairs.Places.{Places}
 
 abbrev pub is_face : Face → Face → Bool
 is_face f g = (f.a == g.a) && ((f.b == g.b) && (f.c == g.c))
@@ -49,3 +50,10 @@ IsAcrossWithin n x = IfSome x.n0 (λ i. i < n) × IfSome x.n1 (λ i. i < n) × I
 
 abbrev pub AreAllWithin : ℕ → List Across → Type 0
 AreAllWithin n pairs = All (IsAcrossWithin n) pairs
+
+-- the row at a place that is kept in 32 bits; the greatest number stands for none
+abbrev pub place_in : ℕ → Option ℕ
+place_in k = cond (k == 4294967295) None (Some k)
+
+abbrev pub across_in : Places → Across
+across_in p = record { n0 = place_in p.n0; n1 = place_in p.n1; n2 = place_in p.n2; n3 = place_in p.n3 }

@@ -1,11 +1,13 @@
 //! The tetrahedra on the other sides of faces.
-ghost use Rattle.std.specs.Prelude.{◌≡◌, length, IfOk};
-ghost use Rattle.incidence.specs.Pairs.{pairs_of, placed, AreAllWithin};
+ghost use Rattle.std.specs.Prelude.{◌≡◌, [], ◌∷◌, ◌+◌, ◌-◌, ◌<◌, ◌^◌, true, length, map, IfOk, IfSome, HoldsAt};
+ghost use Rattle.geo_laws.specs.Faces.{face_of};
+ghost use Rattle.incidence.specs.Pairs.{pairs_of, placed, is_face, has_face, place_in, across_in, AreAllWithin};
 ghost use Rattle.incidence.specs.Uses.{AreUsesOf};
 
 use crate::uses::{Uses, partner_at, run_start, use_at, uses_of};
-use geo_laws::{Face, Tet, TetList, row_faces};
+use geo_laws::{Face, Tet, TetList};
 use std::alloc::Global;
+use std::marker::Model;
 use tet_ports::{Items, NoMemory};
 
 /// For each corner of a row the place of the row on the other side of the face opposite that
@@ -18,8 +20,48 @@ pub struct Across {
     pub n3: Option<usize>,
 }
 
-/// For each row of a list what is across its faces.
-pub type Pairs = Items<Across>;
+/// The same in 32 bits each. Where there is no row stands the greatest number.
+#[derive(Clone, Copy)]
+struct Places {
+    n0: u32,
+    n1: u32,
+    n2: u32,
+    n3: u32,
+}
+
+/// For each row of a list what is across its faces, in 16 bytes.
+#[derive(Drop)]
+pub struct Pairs {
+    kept: Vec<Places>,
+}
+
+impl Model for Pairs {
+    ghost use Rattle.std.specs.Prelude.{List, map};
+    ghost use Rattle.incidence.specs.Pairs.{across_in};
+    ghost use Rattle.incidence.specs.declared.pairs.Across.{Across};
+
+    ghost Value = { List Across };
+
+    ghost view = { λ pairs. map across_in pairs.kept.items };
+}
+
+impl Pairs {
+    /// The number of rows.
+    pub fn len(&self) -> usize
+        ensures count { result ≡ length self.now }
+        ensures small { result < 2 ^ 63 }
+    {
+        self.kept.len()
+    }
+
+    /// What is across the faces of the row at this place, counted from 0.
+    pub fn at(&self, i: usize) -> Across
+        requires { i < length self.now }
+        ensures { HoldsAt (λ across. across ≡ result) self.now i }
+    {
+        across_in(self.kept[i])
+    }
+}
 
 /// For each row of a list a number, or none.
 pub type Marks = Items<Option<u32>>;
@@ -40,49 +82,121 @@ pub fn pair_uses(alloc: Global, list: &TetList, uses: &Uses) -> Result<Pairs, No
     ensures pairs { IfOk result (λ pairs. pairs ≡ pairs_of list.now) }
     ensures places { IfOk result (λ pairs. AreAllWithin (length pairs) pairs) }
 {
-    let alone = Across {
-        n0: None,
-        n1: None,
-        n2: None,
-        n3: None,
+    let kept = places_of(alloc, list, uses)?;
+    Ok(Pairs { kept })
+}
+
+/// The places of what is across the faces of each row. More rows than 32 bits count are answered as
+/// want of memory.
+fn places_of(alloc: Global, list: &TetList, uses: &Uses) -> Result<Vec<Places>, NoMemory>
+    requires { AreUsesOf list.now uses.now }
+    ensures { IfOk result (λ places. map across_in places.items ≡ pairs_of list.now) }
+{
+    if list.len() > u32::MAX as usize {
+        return Err(NoMemory);
+    }
+    let alone = Places {
+        n0: u32::MAX,
+        n1: u32::MAX,
+        n2: u32::MAX,
+        n3: u32::MAX,
     };
-    let mut pairs = Vec::new(alloc);
-    pairs.resize(list.len(), alone)?;
-    put_partners(list, uses, &mut pairs);
-    Ok(Pairs::from(pairs))
+    let mut places = Vec::new(alloc);
+    places.resize(list.len(), alone)?;
+    put_partners(list, uses, &mut places);
+    Ok(places)
+}
+
+/// What is across the faces of a row by these places.
+fn across_in(places: Places) -> Across
+    ensures { result ≡ across_in places }
+{
+    Across {
+        n0: place_in(places.n0),
+        n1: place_in(places.n1),
+        n2: place_in(places.n2),
+        n3: place_in(places.n3),
+    }
+}
+
+/// The place of a row, or none where it is the greatest number.
+fn place_in(place: u32) -> Option<usize>
+    ensures { result ≡ place_in place }
+{
+    if place == u32::MAX {
+        return None;
+    }
+    Some(place as usize)
+}
+
+/// The place of a row, or the greatest number where there is none.
+fn place_or_greatest(row: Option<u32>) -> u32
+    requires { IfSome row (λ place. place < 2 ^ 32 - 1) }
+    ensures { place_in result ≡ row }
+{
+    match row {
+        Some(place) => place,
+        None => u32::MAX,
+    }
 }
 
 /// Puts in the partners of all rows, use by use.
-fn put_partners(list: &TetList, uses: &Uses, pairs: &mut [Across])
+fn put_partners(list: &TetList, uses: &Uses, places: &mut [Places])
     requires uses { AreUsesOf list.now uses.now }
-    requires long { length pairs.old ≡ length list.now }
-    ensures { pairs.new ≡ pairs_of list.now }
+    requires long { length places.old ≡ length list.now }
+    requires few { length list.now < 2 ^ 32 }
+    ensures { map across_in places.new ≡ pairs_of list.now }
 {
     let mut first = 0;
     for at in 0..uses.len() {
         first = run_start(uses, first, at, list);
         let partner = partner_at(uses, first, at, list);
+        let place = place_or_greatest(partner);
         let here = use_at(uses, at, list);
         let row = here.row as usize;
-        put_partner(list.at(row), here.face, partner, &mut pairs[row]);
+        put_partner(list.at(row), here.face, place, &mut places[row]);
     }
 }
 
 /// Puts in the partner across this face of a row.
-fn put_partner(row: Tet, face: Face, partner: Option<usize>, across: &mut Across)
-    ensures { across.new ≡ placed row face partner across.old }
+fn put_partner(row: Tet, face: Face, place: u32, places: &mut Places)
+    requires { has_face face row ≡ true }
+    ensures { across_in places.new ≡ placed row face (place_in place) (across_in places.old) }
 {
-    let [a, b, c, d] = row_faces(row);
-    if a == face {
-        across.n0 = partner;
+    let [a, b, c, d] = are_opposite(row, face);
+    if a {
+        places.n0 = place;
     }
-    if b == face {
-        across.n1 = partner;
+    if b {
+        places.n1 = place;
     }
-    if c == face {
-        across.n2 = partner;
+    if c {
+        places.n2 = place;
     }
-    if d == face {
-        across.n3 = partner;
+    if d {
+        places.n3 = place;
     }
+}
+
+/// For each corner whether this face of the row is the one opposite it. That is so where the face
+/// and the corner add up to the row.
+fn are_opposite(row: Tet, face: Face) -> [bool; 4]
+    requires { has_face face row ≡ true }
+    ensures { result ≡ is_face (face_of row.b row.c row.d) face ∷ is_face (face_of row.a row.c row.d) face
+        ∷ is_face (face_of row.a row.b row.d) face ∷ is_face (face_of row.a row.b row.c) face ∷ [] }
+{
+    let of_face = u64::from(face.a) + u64::from(face.b) + u64::from(face.c);
+    let [a, b, c, d] = [
+        u64::from(row.a),
+        u64::from(row.b),
+        u64::from(row.c),
+        u64::from(row.d),
+    ];
+    let of_row = a + b + c + d;
+    [
+        a + of_face == of_row,
+        b + of_face == of_row,
+        c + of_face == of_row,
+        d + of_face == of_row,
+    ]
 }
