@@ -2,6 +2,7 @@
 //! faces, the tetrahedra on the other sides of faces, and the edges.
 #![tactic(auto)]
 
+mod gathering;
 mod links;
 mod pairs;
 mod sides;
