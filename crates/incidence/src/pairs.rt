@@ -1,7 +1,7 @@
 //! The tetrahedra on the other sides of faces.
 ghost use Rattle.std.specs.Prelude.{◌≡◌, [], ◌∷◌, ◌+◌, ◌-◌, ◌<◌, ◌^◌, true, length, map, IfOk, IfSome, HoldsAt};
 ghost use Rattle.geo_laws.specs.Faces.{face_of};
-ghost use Rattle.incidence.specs.Pairs.{pairs_of, placed, is_face, has_face, place_in, across_in, AreAllWithin};
+ghost use Rattle.incidence.specs.Pairs.{pairs_of, placed, is_face, has_face, place_in, across_in, IsAcrossWithin, AreAllWithin};
 ghost use Rattle.incidence.specs.Uses.{AreUsesOf};
 
 use crate::uses::{Uses, partner_at, run_start, use_at, uses_of};
@@ -57,7 +57,8 @@ impl Pairs {
     /// What is across the faces of the row at this place, counted from 0.
     pub fn at(&self, i: usize) -> Across
         requires { i < length self.now }
-        ensures { HoldsAt (λ across. across ≡ result) self.now i }
+        ensures same { HoldsAt (λ across. across ≡ result) self.now i }
+        ensures within { IsAcrossWithin (2 ^ 32) result }
     {
         across_in(self.kept[i])
     }
@@ -109,7 +110,8 @@ fn places_of(alloc: Global, list: &TetList, uses: &Uses) -> Result<Vec<Places>, 
 
 /// What is across the faces of a row by these places.
 fn across_in(places: Places) -> Across
-    ensures { result ≡ across_in places }
+    ensures same { result ≡ across_in places }
+    ensures within { IsAcrossWithin (2 ^ 32) result }
 {
     Across {
         n0: place_in(places.n0),
@@ -121,7 +123,8 @@ fn across_in(places: Places) -> Across
 
 /// The place of a row, or none where it is the greatest number.
 fn place_in(place: u32) -> Option<usize>
-    ensures { result ≡ place_in place }
+    ensures same { result ≡ place_in place }
+    ensures within { IfSome result (λ row. row < 2 ^ 32) }
 {
     if place == u32::MAX {
         return None;

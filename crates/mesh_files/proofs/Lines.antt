@@ -4,7 +4,7 @@ use Rattle.std.specs.Prelude.{flat_map, map, pos, [], ◌∷◌, Option, Some}
 use Rattle.std.specs.Fmt.{decimal, signed_decimal}
 use Rattle.geo_laws.specs.Delaunay.{numbers}
 use Rattle.geo_laws.specs.declared.tetrahedra.Tet.{Tet}
-use Rattle.std.proofs.lemmas.List.{get_or-map, append-nil}
+use Rattle.std.proofs.lemmas.List.{get_or-map}
 use Rattle.geo_laws.specs.declared.complex.Region.{Region}
 use Rattle.mesh_files.specs.Texts.{attribute_of, fields_then, marked_line}
 use Rattle.std.specs.List.{enumerate_from}
@@ -46,14 +46,3 @@ line_with_mark regions first place row mark out numbered whole e f =
 -- the attribute of a region that is there
 pub attribute_at : (regions : List Region) (mark : Option ℕ) (k : ℕ) (r : Region) → mark ≡ Some k → k < length regions → ((d : Region) → get_or regions k d ≡ r) → r.attribute ≡ attribute_of regions mark
 attribute_at regions mark k r e l at = sym (ap (attribute_of regions) e ∙ get_or-map (λ (x : Region). x.attribute) regions k r [] l ∙ ap (λ x. x.attribute) (at r))
-
--- a number and four fields, which were appended one by one, and a line feed
-four_fields : (out number a b c d : List ℕ)
-    → (((((out ++ number) ++ a) ++ b) ++ c) ++ d) ++ (10 ∷ []) ≡ out ++ ((number ++ (a ++ (b ++ (c ++ (d ++ []))))) ++ (10 ∷ []))
-four_fields out number a b c d = simp (append_assoc, append-nil)
-
-pub fields_appended : (out number a b c d o p q r s : List ℕ) → o ≡ out ++ number → p ≡ o ++ a → q ≡ p ++ b → r ≡ q ++ c → s ≡ r ++ d
-    → s ++ (10 ∷ []) ≡ out ++ ((number ++ (a ++ (b ++ (c ++ (d ++ []))))) ++ (10 ∷ []))
-fields_appended out number a b c d o p q r s e f g h i =
-    ap (λ t. t ++ (10 ∷ [])) (i ∙ ap (λ t. t ++ d) (h ∙ ap (λ t. t ++ c) (g ∙ ap (λ t. t ++ b) (f ∙ ap (λ t. t ++ a) e))))
-    ∙ four_fields out number a b c d

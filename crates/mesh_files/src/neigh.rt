@@ -1,13 +1,11 @@
 //! The neighbors of tetrahedra, and the text of the `.neigh` file.
-ghost use Rattle.std.specs.Prelude.{◌≡◌, ◌∷◌, ◌++◌, ◌+◌, length, OnOk, IfOk};
-ghost use Rattle.std.specs.Fmt.{decimal, signed_decimal};
-ghost use Rattle.incidence.specs.Pairs.{pairs_of, AreAllWithin};
+ghost use Rattle.std.specs.Prelude.{◌≡◌, ◌++◌, ◌<◌, ◌^◌, length, OnOk, IfOk, IfSome};
+ghost use Rattle.incidence.specs.Pairs.{pairs_of, IsAcrossWithin, AreAllWithin};
 ghost use Rattle.mesh_files.specs.Texts.{neigh_text, neigh_line, neighbor};
 
 use crate::line::{append_line, room_for_lines};
 use geo_laws::TetList;
 use incidence::{Across, Pairs, pair_faces};
-use itoa::Buffer;
 use std::alloc::Global;
 use tet_ports::{Bytes, NoMemory};
 
@@ -30,45 +28,37 @@ pub fn write_neigh(alloc: Global, pairs: &Pairs, first: u32) -> Result<Bytes, No
     let mut out = room_for_lines(alloc, pairs.len())?;
     append_line(&mut out, pairs.len() as u64, &[4])?;
     for i in 0..pairs.len() {
-        append_neighbors(&mut out, i, pairs.at(i), first)?;
+        append_neighbors(&mut out, i as u64, pairs.at(i), first)?;
     }
     Ok(out)
 }
 
 /// Appends the line of the row at a place.
-fn append_neighbors(
-    out: &mut Bytes,
-    place: usize,
-    across: Across,
-    first: u32,
-) -> Result<(), NoMemory>
+fn append_neighbors(out: &mut Bytes, place: u64, across: Across, first: u32) -> Result<(), NoMemory>
+    requires place { place < 2 ^ 63 }
+    requires within { IsAcrossWithin (2 ^ 32) across }
     ensures { OnOk result (out.new ≡ out.old ++ neigh_line first place across) }
 {
-    append_place(out, place, first)?;
-    append_neighbor(out, across.n0, first)?;
-    append_neighbor(out, across.n1, first)?;
-    append_neighbor(out, across.n2, first)?;
-    append_neighbor(out, across.n3, first)?;
-    out.append(b"\n")
+    let Across { n0, n1, n2, n3 } = across;
+    append_line(
+        out,
+        place + u64::from(first),
+        &[
+            neighbor(n0, first),
+            neighbor(n1, first),
+            neighbor(n2, first),
+            neighbor(n3, first),
+        ],
+    )
 }
 
-/// Appends a space and the number of a neighbor, or -1 where there is none.
-fn append_neighbor(out: &mut Bytes, place: Option<usize>, first: u32) -> Result<(), NoMemory>
-    ensures { OnOk result (out.new ≡ out.old ++ 32 ∷ signed_decimal (neighbor first place)) }
+/// The number of the row at a place, or -1 where there is none.
+fn neighbor(place: Option<usize>, first: u32) -> i64
+    requires { IfSome place (λ i. i < 2 ^ 32) }
+    ensures { result ≡ neighbor first place }
 {
     match place {
-        Some(place) => {
-            out.append(b" ")?;
-            append_place(out, place, first)
-        }
-        None => out.append(b" -1"),
+        Some(place) => place as i64 + i64::from(first),
+        None => -1,
     }
-}
-
-/// Appends the number of the row at a place. A place may be any: the sum is taken in 128 bits.
-fn append_place(out: &mut Bytes, place: usize, first: u32) -> Result<(), NoMemory>
-    ensures { OnOk result (out.new ≡ out.old ++ decimal (place + first)) }
-{
-    let mut buffer = Buffer::new();
-    out.append(buffer.format(place as u128 + u128::from(first)).as_bytes())
 }

@@ -22,7 +22,7 @@ loop-at-preserved c =
     let was = c.loop-at.invariant in
     let below : at < length rows = omega (arith, c.loop-at-test.true, c.len-beyond.ensures.count) in
     let row_is : c.at.result ≡ row_at rows at = sym (c.at.ensures _) in
-    let across_is : c.at-in-loop-at.result ≡ across_of rows at (row_at rows at) = sym (c.at-in-loop-at.ensures nothing) ∙ ap (λ s. slice_index_or s at nothing) c.requires.pairs ∙ pairs_at rows at nothing below in
+    let across_is : c.at-in-loop-at.result ≡ across_of rows at (row_at rows at) = sym (c.at-in-loop-at.ensures.same nothing) ∙ ap (λ s. slice_index_or s at nothing) c.requires.pairs ∙ pairs_at rows at nothing below in
     let last = through_same closed c.at.result (row_at rows at) c.at-in-loop-at.result (across_of rows at (row_at rows at)) c.len-beyond.result (length rows) c.ways_through.result
     row_is across_is c.len-beyond.ensures.count c.ways_through.ensures in
     let P : ℕ → Across → Type 0 = λ i x. AreWaysThrough closed (row_at rows i) (across_of rows i (row_at rows i)) (length rows) x in
