@@ -17,6 +17,7 @@ IsBeyond axis u v = AreBeyond (first_of_two axis u) (first_of_two axis v) ⊎ Ar
 -- is behind the point; or the point is behind all
 abbrev pub Tells : Axis → Point → Point → Crossing → Type 0
 Tells axis u v Never =
-    (int_le (pos 0) (second_of_two axis u) ≡ int_le (pos 0) (second_of_two axis v)) ⊎ (pos 0 <ℤ first_of_two axis u) × (pos 0 <ℤ first_of_two axis v)
+    (int_le (pos 0) (second_of_two axis u) ≡ int_le (pos 0) (second_of_two axis v))
+    ⊎ (pos 0 <ℤ first_of_two axis u) × (pos 0 <ℤ first_of_two axis v)
 Tells axis u v Between = (first_of_two axis u <ℤ pos 0) × (first_of_two axis v <ℤ pos 0)
 Tells axis u v Unknown = Unit {0}

@@ -23,9 +23,11 @@ ends_of ps ss = map (ends ps) (filter (λ s. not (s.a == s.b)) ss)
 -- x lies on the side, or over it in the two coordinates
 abbrev pub side_meets : Reach → Axis → RationalPoint → Side → Bool
 side_meets On axis x s =
-    is_zero_vector (cross (from_to_rational s.from x) (from_to_rational s.to x)) && int_le (dot (from_to_rational s.from x) (from_to_rational s.to x)) (pos 0)
+    is_zero_vector (cross (from_to_rational s.from x) (from_to_rational s.to x))
+    && int_le (dot (from_to_rational s.from x) (from_to_rational s.to x)) (pos 0)
 side_meets Over axis x s =
-    is_zero (cross_of_two axis (from_to_rational s.from x) (from_to_rational s.to x)) && int_le (dot_of_two axis (from_to_rational s.from x) (from_to_rational s.to x)) (pos 0)
+    is_zero (cross_of_two axis (from_to_rational s.from x) (from_to_rational s.to x))
+    && int_le (dot_of_two axis (from_to_rational s.from x) (from_to_rational s.to x)) (pos 0)
 
 -- the ray from x crosses the side
 abbrev pub side_crosses : Axis → RationalPoint → Side → Bool

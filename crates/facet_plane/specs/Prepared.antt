@@ -86,7 +86,8 @@ AreHoles o holes lists = (places : List ℕ) → list_any (pointwise nat_eq plac
 abbrev pub prepared_holds : Prepared → RationalPoint → Bool
 prepared_holds r x =
     is_zero (dot r.normal (from_to_rational r.from x))
-    && (outlines_meet On r.outlines x || not (is_none (places_round r.outlines x)) && not (list_any (pointwise nat_eq (places_round r.outlines x)) r.holes))
+    && (outlines_meet On r.outlines x || not (is_none (places_round r.outlines x))
+    && not (list_any (pointwise nat_eq (places_round r.outlines x)) r.holes))
 
 -- the region of the facet
 pub record IsPreparedOf (ps : List Point) (f : Facet) (r : Prepared) : Type 0 where

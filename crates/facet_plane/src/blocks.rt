@@ -1,6 +1,7 @@
 //! Boxes round runs of a list, by which a walk along the list passes over what it need not see.
 ghost use Rattle.std.specs.Prelude.{◌<◌, ◌≤◌, ◌≤ℤ◌, pos, negsuc, length, IfOk};
-ghost use Rattle.facet_plane.specs.Blocks.{IsBelow, IsHeld, IsPart, HoldsBox, HoldsBetween, AreBlocks};
+ghost use Rattle.facet_plane.specs.Blocks.{IsBelow, IsHeld, IsPart};
+ghost use Rattle.facet_plane.specs.Blocks.{HoldsBox, HoldsBetween, AreBlocks};
 
 use sign_predicates::GridPoint;
 use std::alloc::Global;
