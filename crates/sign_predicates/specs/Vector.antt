@@ -14,6 +14,12 @@ pub record IsGridVector (v : Point) : Type 0 where
   pub y_small : IsDifference v.y
   pub z_small : IsDifference v.z
 
+-- each coordinate is at most 2^20 in size
+pub record IsShort (v : Point) : Type 0 where
+  pub x_short : unsigned_abs v.x ≤ 2 ^ 20
+  pub y_short : unsigned_abs v.y ≤ 2 ^ 20
+  pub z_short : unsigned_abs v.z ≤ 2 ^ 20
+
 -- the determinant of two rows of two numbers
 unfoldable pub det_of_two : ℤ → ℤ → ℤ → ℤ → ℤ
 det_of_two a b c d = a *ℤ d -ℤ b *ℤ c

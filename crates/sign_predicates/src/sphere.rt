@@ -1,11 +1,13 @@
 //! Whether a point is outside of the sphere through the corners of a positive tetrahedron.
 ghost use Rattle.std.specs.Prelude.{◌≡◌, ◌*◌, ◌^◌, ◌≤◌, ◌+ℤ◌, ◌-ℤ◌, ◌*ℤ◌, unsigned_abs};
 ghost use Rattle.sign_predicates.specs.Sphere.{in_sphere, least_of, wins_tie, is_outside};
-ghost use Rattle.sign_predicates.specs.Vector.{sphere_sum};
+ghost use Rattle.sign_predicates.specs.Vector.{IsShort, sphere_sum};
 
 use crate::orientation::orient_sum;
 use crate::sign::{is_above, is_below, sign_of};
-use crate::vector::{Vector, det_of_minors, from_to, minor, square_length};
+use crate::vector::{
+    Vector, are_short, det_of_minors, from_to, minor, short_det_of_minors, square_length,
+};
 use crate::{Corners, GridPoint, Numbers, Sign};
 
 /// It is above each number of a point.
@@ -27,9 +29,52 @@ fn sum_of_four(a: i64, p: i128, b: i64, q: i128, c: i64, r: i128, d: i64, s: i12
     a as i128 * p - b as i128 * q + c as i128 * r - d as i128 * s
 }
 
-/// The sphere's sum at the vectors from the point to the corners. It has each minor once.
+/// The same where the determinants fit 64 bits.
 #[inline]
-fn sphere_sum(a: Vector, b: Vector, c: Vector, d: Vector) -> i128
+fn short_sum_of_four(a: i64, p: i64, b: i64, q: i64, c: i64, r: i64, d: i64, s: i64) -> i128
+    requires a_small { unsigned_abs a ≤ 3 * 2 ^ 48 }
+    requires b_small { unsigned_abs b ≤ 3 * 2 ^ 48 }
+    requires c_small { unsigned_abs c ≤ 3 * 2 ^ 48 }
+    requires d_small { unsigned_abs d ≤ 3 * 2 ^ 48 }
+    requires p_small { unsigned_abs p ≤ 3 * 2 ^ 61 }
+    requires q_small { unsigned_abs q ≤ 3 * 2 ^ 61 }
+    requires r_small { unsigned_abs r ≤ 3 * 2 ^ 61 }
+    requires s_small { unsigned_abs s ≤ 3 * 2 ^ 61 }
+    ensures { result ≡ a *ℤ p -ℤ b *ℤ q +ℤ c *ℤ r -ℤ d *ℤ s }
+{
+    a as i128 * p as i128 - b as i128 * q as i128 + c as i128 * r as i128 - d as i128 * s as i128
+}
+
+/// The sphere's sum at short vectors. It has each minor once.
+#[inline(always)]
+fn short_sphere_sum(a: Vector, b: Vector, c: Vector, d: Vector) -> i128
+    requires a_short { IsShort a }
+    requires b_short { IsShort b }
+    requires c_short { IsShort c }
+    requires d_short { IsShort d }
+    ensures { result ≡ sphere_sum a b c d }
+{
+    let ab = minor(a, b);
+    let ac = minor(a, c);
+    let ad = minor(a, d);
+    let bc = minor(b, c);
+    let bd = minor(b, d);
+    let cd = minor(c, d);
+    short_sum_of_four(
+        square_length(a),
+        short_det_of_minors(b, c, d, cd, bd, bc),
+        square_length(b),
+        short_det_of_minors(a, c, d, cd, ad, ac),
+        square_length(c),
+        short_det_of_minors(a, b, d, bd, ad, ab),
+        square_length(d),
+        short_det_of_minors(a, b, c, bc, ac, ab),
+    )
+}
+
+/// The sphere's sum at any vectors, with its determinants in 128 bits.
+#[inline(always)]
+fn long_sphere_sum(a: Vector, b: Vector, c: Vector, d: Vector) -> i128
     ensures { result ≡ sphere_sum a b c d }
 {
     let ab = minor(a, b);
@@ -50,8 +95,20 @@ fn sphere_sum(a: Vector, b: Vector, c: Vector, d: Vector) -> i128
     )
 }
 
+/// The sphere's sum at the vectors from the point to the corners. Where they are short, its determinants fit 64 bits.
+#[inline(always)]
+fn sphere_sum(a: Vector, b: Vector, c: Vector, d: Vector) -> i128
+    ensures { result ≡ sphere_sum a b c d }
+{
+    if are_short(a, b, c, d) {
+        short_sphere_sum(a, b, c, d)
+    } else {
+        long_sphere_sum(a, b, c, d)
+    }
+}
+
 /// The sum whose sign says where `e` lies: below 0 outside of the sphere, 0 on it. Its size is at most `72 * 2^120`.
-#[inline]
+#[inline(always)]
 pub(crate) fn in_sphere(t: Corners, e: GridPoint) -> i128
     ensures { result ≡ in_sphere t e }
 {

@@ -1,11 +1,11 @@
 //! Vectors between points of the grid, and the exact products of them that the predicates sum.
-ghost use Rattle.std.specs.Prelude.{◌≡◌, ◌+◌, ◌*◌, ◌^◌, ◌≤◌, ◌+ℤ◌, ◌-ℤ◌, ◌*ℤ◌, unsigned_abs, IsTrue, ◌↔◌};
+ghost use Rattle.std.specs.Prelude.{◌≡◌, ◌+◌, ◌*◌, ◌^◌, ◌<◌, ◌≤◌, ◌+ℤ◌, ◌-ℤ◌, ◌*ℤ◌, unsigned_abs, IsTrue, ◌↔◌};
 ghost use Rattle.sign_predicates.specs.Point.{from_to};
 ghost use Rattle.sign_predicates.specs.Orientation.{det, dot, cross};
 ghost use Rattle.sign_predicates.specs.Turns.{IsZeroVector};
 ghost use Rattle.sign_predicates.specs.Centroid.{IsFirstSignOf};
 ghost use Rattle.sign_predicates.specs.Sphere.{square_length};
-ghost use Rattle.sign_predicates.specs.Vector.{det_of_two, minor};
+ghost use Rattle.sign_predicates.specs.Vector.{IsShort, det_of_two, minor};
 
 use crate::sign::sign_of;
 use crate::{GridPoint, Sign};
@@ -44,6 +44,34 @@ pub(crate) fn from_to(a: GridPoint, b: GridPoint) -> Vector
     }
 }
 
+/// The bits of a coordinate raised by `2^20`.
+#[inline(always)]
+fn raised(x: i32) -> u32
+    requires { unsigned_abs x ≤ 2 ^ 24 }
+    ensures { result < 2 ^ 21 → unsigned_abs x ≤ 2 ^ 20 }
+{
+    (x + (1 << 20)).cast_unsigned()
+}
+
+/// The bits of the coordinates, each raised by `2^20`: those from `-2^20` to below `2^20` have at most 21 bits.
+#[inline(always)]
+fn raised_bits(v: Vector) -> u32
+    ensures { result < 2 ^ 21 → IsShort v }
+{
+    raised(v.x) | raised(v.y) | raised(v.z)
+}
+
+/// Whether the coordinates of all four are from `-2^20` to below `2^20`.
+#[inline(always)]
+pub(crate) fn are_short(a: Vector, b: Vector, c: Vector, d: Vector) -> bool
+    ensures a { IsTrue result → IsShort a }
+    ensures b { IsTrue result → IsShort b }
+    ensures c { IsTrue result → IsShort c }
+    ensures d { IsTrue result → IsShort d }
+{
+    raised_bits(a) | raised_bits(b) | raised_bits(c) | raised_bits(d) < 1 << 21
+}
+
 /// The determinant of the rows `a b` and `c d`.
 #[inline]
 fn det_of_two(a: i32, b: i32, c: i32, d: i32) -> i64
@@ -53,6 +81,8 @@ fn det_of_two(a: i32, b: i32, c: i32, d: i32) -> i64
     requires d_small { unsigned_abs d ≤ 2 ^ 24 }
     ensures value { result ≡ det_of_two a b c d }
     ensures size { unsigned_abs result ≤ 2 ^ 49 }
+    ensures short { unsigned_abs a ≤ 2 ^ 20 → unsigned_abs b ≤ 2 ^ 20 → unsigned_abs c ≤ 2 ^ 20 → unsigned_abs d ≤ 2 ^ 20
+        → unsigned_abs result ≤ 2 ^ 41 }
 {
     a as i64 * d as i64 - b as i64 * c as i64
 }
@@ -62,6 +92,7 @@ fn det_of_two(a: i32, b: i32, c: i32, d: i32) -> i64
 pub(crate) fn minor(u: Vector, v: Vector) -> i64
     ensures value { result ≡ minor u v }
     ensures size { unsigned_abs result ≤ 2 ^ 49 }
+    ensures short { IsShort u → IsShort v → unsigned_abs result ≤ 2 ^ 41 }
 {
     det_of_two(u.x, u.y, v.x, v.y)
 }
@@ -141,6 +172,39 @@ pub(crate) fn det_of_minors(u: Vector, v: Vector, w: Vector, vw: i64, uw: i64, u
     ensures size { unsigned_abs result ≤ 3 * 2 ^ 73 }
 {
     sum_of_three(vw, u.z as i64, uw, v.z as i64, uv, w.z as i64)
+}
+
+/// Three products of a minor and a number, with alternating signs, in 64 bits.
+#[inline]
+fn short_sum_of_three(a: i64, x: i64, b: i64, y: i64, c: i64, z: i64) -> i64
+    requires a_small { unsigned_abs a ≤ 2 ^ 41 }
+    requires b_small { unsigned_abs b ≤ 2 ^ 41 }
+    requires c_small { unsigned_abs c ≤ 2 ^ 41 }
+    requires x_small { unsigned_abs x ≤ 2 ^ 20 }
+    requires y_small { unsigned_abs y ≤ 2 ^ 20 }
+    requires z_small { unsigned_abs z ≤ 2 ^ 20 }
+    ensures value { result ≡ a *ℤ x -ℤ b *ℤ y +ℤ c *ℤ z }
+    ensures size { unsigned_abs result ≤ 3 * 2 ^ 61 }
+{
+    a * x - b * y + c * z
+}
+
+/// The determinant of three short vectors, by the minors of each two of them.
+#[inline]
+pub(crate) fn short_det_of_minors(u: Vector, v: Vector, w: Vector, vw: i64, uw: i64, uv: i64) -> i64
+    requires u_short { IsShort u }
+    requires v_short { IsShort v }
+    requires w_short { IsShort w }
+    requires vw_is { vw ≡ minor v w }
+    requires uw_is { uw ≡ minor u w }
+    requires uv_is { uv ≡ minor u v }
+    requires vw_small { unsigned_abs vw ≤ 2 ^ 41 }
+    requires uw_small { unsigned_abs uw ≤ 2 ^ 41 }
+    requires uv_small { unsigned_abs uv ≤ 2 ^ 41 }
+    ensures value { result ≡ det u v w }
+    ensures size { unsigned_abs result ≤ 3 * 2 ^ 61 }
+{
+    short_sum_of_three(vw, u.z as i64, uw, v.z as i64, uv, w.z as i64)
 }
 
 /// A vector at right angles to two others, their cross product. Each coordinate is at most `2^49` in size.

@@ -2,7 +2,7 @@ use Rattle.std.proofs.Common.{◌∙◌, w64}
 use Rattle.exact_algebra.proofs.Size.{read}
 use Rattle.sign_predicates.proofs.Vectors.{sphere_sum_is}
 use mir.Syntax.{w128}
-use Rattle.sign_predicates.proofs.sphere.sphere_sum.Goals as goal
+use Rattle.sign_predicates.proofs.sphere.long_sphere_sum.Goals as goal
 
 pub returns : goal.returns
 returns c =
