@@ -18,3 +18,4 @@ pub mod Legs
 pub mod Enter
 pub mod Triangles
 pub mod Apart
+pub mod SphereReach

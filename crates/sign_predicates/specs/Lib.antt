@@ -8,3 +8,4 @@ pub mod Turns
 pub mod Entering
 pub mod Centroid
 pub mod Ties
+pub mod Reach

@@ -8,6 +8,7 @@ mod laws;
 mod meeting;
 mod orientation;
 mod point;
+mod reach;
 mod sign;
 mod sphere;
 mod tetrahedron;
@@ -20,6 +21,7 @@ pub use laws::law_ties;
 pub use meeting::{segment_meets_triangle, segments_meet, spans_plane, triangles_meet};
 pub use orientation::{beyond, coplanar, in_tet, orient, orient_rat};
 pub use point::{GridPoint, RatPoint};
+pub use reach::sphere_reach;
 pub use sphere::outside;
 pub use tetrahedron::{Corners, Hold, Numbers, Sign};
 

@@ -210,9 +210,9 @@ pub(crate) fn short_det_of_minors(u: Vector, v: Vector, w: Vector, vw: i64, uw: 
 /// A vector at right angles to two others, their cross product. Each coordinate is at most `2^49` in size.
 #[derive(Clone, Copy)]
 pub(crate) struct Normal {
-    x: i64,
-    y: i64,
-    z: i64,
+    pub(crate) x: i64,
+    pub(crate) y: i64,
+    pub(crate) z: i64,
 }
 
 impl Model for Normal {
