@@ -1,0 +1,12 @@
+use Rattle.std.proofs.Common.{◌≤◌, ◌-◌, length}
+use Rattle.tangle_fill.proofs.Spheres.{ArePassed}
+use Rattle.tangle_fill.proofs.admit.all_pass_in.Given as goal
+
+abbrev pub invariant-loop-k : goal.invariant-loop-k
+invariant-loop-k l = record {
+  there : l.k ≤ length l.point_tree;
+  passed : ArePassed l.points l.triangles l.row l.point_tree l.k;
+}
+
+abbrev pub decreases-loop-k : goal.decreases-loop-k
+decreases-loop-k l = length l.point_tree - l.k

@@ -1,0 +1,13 @@
+use Rattle.std.proofs.Common.{◌≤◌, ◌-◌, length}
+use Rattle.std.specs.Prelude.{IfSome}
+use Rattle.tangle_fill.specs.Fill.{IsRowOfFace}
+use Rattle.tangle_fill.proofs.search.emptiest_near.Given as goal
+
+abbrev pub invariant-loop-k : goal.invariant-loop-k
+invariant-loop-k l = record {
+  there : l.k ≤ length l.point_tree;
+  row : IfSome l.row (IsRowOfFace l.points l.f);
+}
+
+abbrev pub decreases-loop-k : goal.decreases-loop-k
+decreases-loop-k l = length l.point_tree - l.k

@@ -1,0 +1,72 @@
+//! A box round the sphere through the corners of a row.
+ghost use Rattle.std.specs.Prelude.{◌^◌, ◌≤◌, ℤ, ◌-ℤ◌, unsigned_abs, IfSome};
+ghost use Rattle.sign_predicates.specs.Orientation.{IsPositive};
+ghost use Rattle.geo_laws.specs.Delaunay.{corners, IsOn};
+ghost use Rattle.box_tree.specs.Bounds.{IsIn};
+ghost use Rattle.tangle_fill.specs.Sphere.{HoldsSphere};
+
+use crate::smooth::corners;
+use box_tree::{Bounds, Interval};
+use geo_laws::{Points, Tet};
+use sign_predicates::{GridPoint, sphere_reach};
+
+/// The interval of the numbers that differ by no more than the reach from a coordinate of the grid.
+fn around(x: i32, reach: u32) -> Interval
+    requires coordinate { unsigned_abs x ≤ 2 ^ 23 }
+    requires reach { reach ≤ 2 ^ 24 }
+    ensures { (z : ℤ) → unsigned_abs (z -ℤ x) ≤ reach → IsIn result z }
+{
+    Interval {
+        low: x - reach as i32,
+        high: x + reach as i32,
+    }
+}
+
+/// A box that holds all points that are not outside of the row; None where it would be wider than
+/// the grid.
+pub(crate) fn sphere_bounds(points: &Points, row: Tet) -> Option<Bounds>
+    requires on { IsOn points.now row }
+    requires positive { IsPositive (corners points.now row) }
+    ensures { IfSome result (HoldsSphere (corners points.now row)) }
+{
+    let reach = sphere_reach(corners(points, row))?;
+    let a = points.at(row.a as usize);
+    Some(Bounds {
+        x: around(a.x, reach),
+        y: around(a.y, reach),
+        z: around(a.z, reach),
+    })
+}
+
+/// The least and the greatest of three coordinates.
+fn span_of(a: i32, b: i32, c: i32) -> Interval {
+    Interval {
+        low: a.min(b).min(c),
+        high: a.max(b).max(c),
+    }
+}
+
+/// The interval with this much more at both ends.
+fn widened(i: Interval, by: u32) -> Interval {
+    Interval {
+        low: i.low.saturating_sub_unsigned(by),
+        high: i.high.saturating_add_unsigned(by),
+    }
+}
+
+/// The box of three points with its greatest width more on each side.
+pub(crate) fn face_surroundings(a: GridPoint, b: GridPoint, c: GridPoint) -> Bounds {
+    let x = span_of(a.x, b.x, c.x);
+    let y = span_of(a.y, b.y, c.y);
+    let z = span_of(a.z, b.z, c.z);
+    let width = x
+        .high
+        .abs_diff(x.low)
+        .max(y.high.abs_diff(y.low))
+        .max(z.high.abs_diff(z.low));
+    Bounds {
+        x: widened(x, width),
+        y: widened(y, width),
+        z: widened(z, width),
+    }
+}
