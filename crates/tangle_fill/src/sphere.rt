@@ -54,19 +54,24 @@ fn widened(i: Interval, by: u32) -> Interval {
     }
 }
 
+fn width(i: Interval) -> u32 {
+    i.high.abs_diff(i.low)
+}
+
+/// The greatest width of the box of three points.
+pub(crate) fn greatest_width(a: GridPoint, b: GridPoint, c: GridPoint) -> u32 {
+    let x = width(span_of(a.x, b.x, c.x));
+    let y = width(span_of(a.y, b.y, c.y));
+    let z = width(span_of(a.z, b.z, c.z));
+    x.max(y).max(z)
+}
+
 /// The box of three points with its greatest width more on each side.
 pub(crate) fn face_surroundings(a: GridPoint, b: GridPoint, c: GridPoint) -> Bounds {
-    let x = span_of(a.x, b.x, c.x);
-    let y = span_of(a.y, b.y, c.y);
-    let z = span_of(a.z, b.z, c.z);
-    let width = x
-        .high
-        .abs_diff(x.low)
-        .max(y.high.abs_diff(y.low))
-        .max(z.high.abs_diff(z.low));
+    let more = greatest_width(a, b, c);
     Bounds {
-        x: widened(x, width),
-        y: widened(y, width),
-        z: widened(z, width),
+        x: widened(span_of(a.x, b.x, c.x), more),
+        y: widened(span_of(a.y, b.y, c.y), more),
+        z: widened(span_of(a.z, b.z, c.z), more),
     }
 }
