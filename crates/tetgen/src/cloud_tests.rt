@@ -1,4 +1,5 @@
 //! Runs on thousands of points with facets among them, drawn by a linear congruential generator.
+ghost use Rattle.std.specs.Prelude.{◌<◌, ◌≤◌};
 
 use crate::message::append_number;
 use crate::tests::{add_point, leaves};
@@ -22,18 +23,23 @@ struct Draws {
 }
 
 impl Draws {
-    /// The next number, below a count from 1 on.
-    fn below(&mut self, count: usize) -> usize {
+    /// The next number, below a count.
+    fn below(&mut self, count: usize) -> usize
+        requires { 0 < count }
+        ensures { result < count }
+    {
         self.state = self
             .state
             .wrapping_mul(6_364_136_223_846_793_005)
             .wrapping_add(1_442_695_040_888_963_407);
-        (self.state >> 33) as usize % count.max(1)
+        (self.state >> 33) as usize % count
     }
 }
 
 /// Appends the corner of the plate at a place of its rim, a little off a square.
-fn add_rim_point(text: &mut Bytes, draws: &mut Draws, k: usize) -> Result<(), NoMemory> {
+fn add_rim_point(text: &mut Bytes, draws: &mut Draws, k: usize) -> Result<(), NoMemory>
+    requires { k < 128 }
+{
     let along = 48 * (k % STEPS);
     let (x, y) = match k / STEPS {
         0 => (LOW + along, LOW),
@@ -63,8 +69,20 @@ fn add_cloud_point(text: &mut Bytes, draws: &mut Draws, number: usize) -> Result
     add_point(text, number, [x, y, z + lift], b"")
 }
 
+/// Appends a facet of one polygon, with the first points as its corners, and no hole.
+fn add_plate(text: &mut Bytes) -> Result<(), NoMemory> {
+    text.append(b"1 1\n1 0 5\n128")?;
+    for k in 0..4 * STEPS {
+        text.append(b" ")?;
+        append_number(text, k)?;
+    }
+    text.append(b"\n0\n")
+}
+
 /// A cloud of so many points, and in its middle a plate with 128 corners.
-fn plate_in_cloud(alloc: Global, count: usize) -> Result<Bytes, NoMemory> {
+fn plate_in_cloud(alloc: Global, count: usize) -> Result<Bytes, NoMemory>
+    requires { count ≤ 10000 }
+{
     let mut text = Bytes::new(alloc);
     let mut draws = Draws { state: 1 };
     append_number(&mut text, 4 * STEPS + count)?;
@@ -76,17 +94,12 @@ fn plate_in_cloud(alloc: Global, count: usize) -> Result<Bytes, NoMemory> {
             add_cloud_point(&mut text, &mut draws, k)?;
         }
     }
-    text.append(b"1 1\n1 0 5\n128")?;
-    for k in 0..4 * STEPS {
-        text.append(b" ")?;
-        append_number(&mut text, k)?;
-    }
-    text.append(b"\n0\n")?;
+    add_plate(&mut text)?;
     Ok(text)
 }
 
 /// The corners of a small plate, and a point over its middle and one under it.
-const SMALL: [[usize; 3]; 5] = [
+const SMALL: [[u8; 3]; 5] = [
     [0, 0, 50],
     [90, 0, 50],
     [0, 90, 50],
@@ -100,13 +113,35 @@ fn add_small_plate(text: &mut Bytes, draws: &mut Draws, cell: usize) -> Result<(
     requires { cell < 125 }
 {
     let corner = [400 * (cell % 5), 400 * (cell / 5 % 5), 400 * (cell / 25)];
-    for (k, [x, y, z]) in SMALL.into_iter().enumerate() {
+    for k in 0..5 {
+        let [x, y, z] = SMALL[k];
         let place = [
-            corner[0] + x + draws.below(8),
-            corner[1] + y + draws.below(8),
-            corner[2] + z + draws.below(8),
+            corner[0] + usize::from(x) + draws.below(8),
+            corner[1] + usize::from(y) + draws.below(8),
+            corner[2] + usize::from(z) + draws.below(8),
         ];
         add_point(text, 5 * cell + k, place, b"")?;
+    }
+    Ok(())
+}
+
+/// Appends a facet of one triangle, whose corners are numbered from this one on.
+fn add_triangle(text: &mut Bytes, first: usize) -> Result<(), NoMemory>
+    requires { first < 625 }
+{
+    text.append(b"1\n3")?;
+    for k in first..first + 3 {
+        text.append(b" ")?;
+        append_number(text, k)?;
+    }
+    text.append(b"\n")
+}
+
+/// Appends the points of all small plates.
+fn add_small_plates(text: &mut Bytes) -> Result<(), NoMemory> {
+    let mut draws = Draws { state: 1 };
+    for cell in 0..125 {
+        add_small_plate(text, &mut draws, cell)?;
     }
     Ok(())
 }
@@ -114,18 +149,10 @@ fn add_small_plate(text: &mut Bytes, draws: &mut Draws, cell: usize) -> Result<(
 /// Many small plates, none of which comes near another.
 fn small_plates(alloc: Global) -> Result<Bytes, NoMemory> {
     let mut text = Bytes::from_slice(alloc, b"625\n")?;
-    let mut draws = Draws { state: 1 };
-    for cell in 0..125 {
-        add_small_plate(&mut text, &mut draws, cell)?;
-    }
+    add_small_plates(&mut text)?;
     text.append(b"125\n")?;
     for cell in 0..125 {
-        text.append(b"1\n3")?;
-        for k in 0..3 {
-            text.append(b" ")?;
-            append_number(&mut text, 5 * cell + k)?;
-        }
-        text.append(b"\n")?;
+        add_triangle(&mut text, 5 * cell)?;
     }
     text.append(b"0\n")?;
     Ok(text)
