@@ -1,7 +1,7 @@
 -- How far from a corner of a tetrahedron the points in the sphere through its corners can be.
-use Rattle.std.specs.Prelude.{ℕ, ◌+◌, ◌≤◌, ℤ, pos, ◌+ℤ◌, ◌-ℤ◌, ◌*ℤ◌, ◌≤ℤ◌, unsigned_abs}
-use Rattle.sign_predicates.specs.Point.{Point}
-use Rattle.sign_predicates.specs.Orientation.{cross}
+use Rattle.std.specs.Prelude.{ℕ, ◌+◌, ◌/◌, ◌≤◌, ℤ, pos, ◌+ℤ◌, ◌-ℤ◌, ◌*ℤ◌, ◌≤ℤ◌, unsigned_abs}
+use Rattle.sign_predicates.specs.Point.{Point, from_to}
+use Rattle.sign_predicates.specs.Orientation.{cross, volume}
 use Rattle.sign_predicates.specs.Sphere.{square_length, in_sphere}
 use Rattle.sign_predicates.specs.declared.tetrahedron.Corners.{Corners}
 
@@ -20,6 +20,10 @@ pull b c d = record {
 -- the sizes of the coordinates together
 abbrev pub sizes : Point → ℕ
 sizes v = unsigned_abs v.x + unsigned_abs v.y + unsigned_abs v.z
+
+-- how far is told: at least the diameter of the sphere, and at most twice that, rounded down
+abbrev pub reach_of : Corners → ℕ
+reach_of t = sizes (pull (from_to t.a t.b) (from_to t.a t.c) (from_to t.a t.d)) / unsigned_abs (volume t)
 
 -- each coordinate of the points differs by at most r
 pub record AreWithin (r : ℕ) (a e : Point) : Type 0 where

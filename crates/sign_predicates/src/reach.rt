@@ -1,7 +1,8 @@
 //! How far from a corner of a tetrahedron the points in the sphere through its corners can be.
-ghost use Rattle.std.specs.Prelude.{◌≡◌, ◌+◌, ◌*◌, ◌^◌, ◌≤◌, unsigned_abs, IfSome};
+ghost use Rattle.std.specs.Prelude.{◌≡◌, ◌+◌, ◌*◌, ◌^◌, ◌<◌, ◌≤◌, unsigned_abs, IfSome};
+ghost use Rattle.std.specs.Prelude.{MatchOption};
 ghost use Rattle.sign_predicates.specs.Orientation.{IsPositive};
-ghost use Rattle.sign_predicates.specs.Reach.{combined, pull, sizes, IsReach};
+ghost use Rattle.sign_predicates.specs.Reach.{combined, pull, sizes, reach_of, IsReach};
 
 use crate::Corners;
 use crate::vector::{Vector, cross, det, from_to, square_length};
@@ -41,6 +42,7 @@ const WIDTH: u128 = 1 << 24;
 pub fn sphere_reach(t: Corners) -> Option<u32>
     requires { IsPositive t }
     ensures reach { IfSome result (IsReach t) }
+    ensures value { MatchOption result (2 ^ 24 < reach_of t) (λ reach. reach ≡ reach_of t) }
     ensures small { IfSome result (λ reach. reach ≤ 2 ^ 24) }
 {
     let b = from_to(t.a, t.b);

@@ -1,4 +1,4 @@
-use Rattle.std.proofs.Common.{◌≤◌, ◌^◌, ap, sym, subst, ◌∙◌, pos, ◌-ℤ◌, unsigned_abs, w32}
+use Rattle.std.proofs.Common.{◌≤◌, ◌^◌, ap, sym, subst, ◌∙◌, pos, ◌-ℤ◌, unsigned_abs, w32, arith}
 use Rattle.std.specs.Prelude.{◌≤ℤ◌}
 use Rattle.exact_algebra.proofs.Size.{back}
 use Rattle.sign_predicates.specs.Point.{Point, origin}
@@ -7,6 +7,9 @@ use Rattle.sign_predicates.specs.Reach.{AreWithin}
 use Rattle.sign_predicates.specs.declared.tetrahedron.Corners.{Corners}
 use Rattle.sign_predicates.proofs.Vectors.{grid_size}
 use Rattle.tangle_fill.proofs.sphere.sphere_bounds.Goals as goal
+
+pub at-a-requires : goal.at-a-requires
+at-a-requires c = c.requires.on 0 0 (omega arith)
 
 pub returns : goal.returns
 returns c e h =
