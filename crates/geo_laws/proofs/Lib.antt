@@ -3,6 +3,7 @@ pub mod Determinants
 pub mod Members
 pub mod Ascending
 pub mod Corners
+pub mod RowFaces
 pub mod Lexicographic
 pub mod Means
 pub mod Simplices

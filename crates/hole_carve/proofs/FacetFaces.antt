@@ -1,6 +1,7 @@
 -- The faces that are facet triangles, in a list that ascends.
 use Rattle.std.proofs.Common.{◌≡◌, ◌⊎◌, inl, inr, ℕ, zero, suc, ◌+◌, ◌<◌, ◌≤◌, List, [], ◌∷◌, length, map, refl, ap, sym, subst, ◌∙◌, arith}
 use Rattle.std.specs.Prelude.{Contains, ◌↔◌, take, AllPairs, slice_index_or}
+use Rattle.std.proofs.lemmas.List.{take_all}
 use Rattle.geo_laws.specs.Faces.{face_of, FaceBefore}
 use Rattle.geo_laws.specs.declared.faces.Face.{Face}
 use Rattle.geo_laws.specs.declared.complex.FacetTriangle.{FacetTriangle}
@@ -10,18 +11,12 @@ use Rattle.path_laws.specs.Flood.{IsFacetFace}
 abbrev pub as_face : FacetTriangle → Face
 as_face t = face_of t.a t.b t.c
 
-take_all : (ts : List FacetTriangle) (k : ℕ) → length ts ≤ k → take k ts ≡ ts
-take_all [] zero h = refl
-take_all [] (suc k) h = refl
-take_all (t ∷ ts) zero h = absurd (omega arith)
-take_all (t ∷ ts) (suc k) h = ap (λ s. t ∷ s) (take_all ts k (omega arith))
-
 -- the triangles as faces
 pub faces_are : (ts : List FacetTriangle) (faces : List Face) (k : ℕ) → faces ≡ map (λ (t : FacetTriangle). face_of t.a t.b t.c) (take k ts) → length ts ≤ k → (f : Face) → Contains faces f ↔ IsFacetFace ts f
 faces_are ts faces k e h f = (to, from)
   where
     all : faces ≡ map as_face ts
-    all = e ∙ ap (map as_face) (take_all ts k h)
+    all = e ∙ ap (map as_face) (take_all k ts h)
 
     to : Contains faces f → IsFacetFace ts f
     to c = let t = map_cases as_face f ts (subst (IsMember f) all (member_of faces f c)) in let k = contains_of ts t.0 t.1 in (k.0, t.0, k.1, k.2, sym t.2)

@@ -36,12 +36,6 @@ unmarked_next (t ∷ rows) (m ∷ marks) (suc k) h l e =
     ∙ ap (λ s. cond m s (t ∷ s)) (unmarked_next rows marks k (omega arith) (omega arith) e)
     ∙ appended_past m t (unmarked (take k rows) marks) (row_at rows k ∷ [])
 
-pub take_whole : (rows : List Tet) (k : ℕ) → length rows ≤ k → take k rows ≡ rows
-take_whole [] zero h = refl
-take_whole [] (suc k) h = refl
-take_whole (t ∷ rows) zero h = absurd (omega arith)
-take_whole (t ∷ rows) (suc k) h = ap (λ s. t ∷ s) (take_whole rows k (omega arith))
-
 -- ---- which rows they are
 
 pub of_unmarked : (rows : List Tet) (marks : List Bool) → length rows ≤ length marks → (t : Tet) → IsMember t (unmarked rows marks) → (i : ℕ) × (i < length rows) × (row_at rows i ≡ t) × (is_marked marks i ≡ false)

@@ -13,7 +13,8 @@ use Rattle.geo_laws.specs.Faces.{FaceBefore}
 use Rattle.geo_laws.specs.declared.complex.FacetTriangle.{FacetTriangle}
 use Rattle.geo_laws.specs.declared.faces.Face.{Face}
 use Rattle.geo_laws.proofs.Members.{IsMember, contains_of, member_of, in_map, map_cases, at_place}
-use Rattle.incidence.proofs.Orders.{by_last, face_cmp, face_before, same_face, face_not_before}
+use Rattle.geo_laws.proofs.RowOrder.{by_last, face_before}
+use Rattle.incidence.proofs.Orders.{face_cmp, same_face, face_not_before}
 use Rattle.mesh_files.specs.FaceRows.{IsFirst, AreFacetsThere}
 use Rattle.mesh_files.specs.FacetFaces.{IsIn, FacetFaceBefore, AreFacetFaces}
 use Rattle.mesh_files.specs.declared.facet_faces.FacetFace.{FacetFace}

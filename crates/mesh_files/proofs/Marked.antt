@@ -16,7 +16,7 @@ use Rattle.geo_laws.specs.declared.faces.Face.{Face}
 use Rattle.geo_laws.specs.declared.tetrahedra.Tet.{Tet}
 use Rattle.geo_laws.proofs.Corners.{distinct}
 use Rattle.geo_laws.proofs.Places.{Place}
-use Rattle.path_laws.proofs.Faces.{Ascends as IsAscending, face_at, face_place, face_ascends}
+use Rattle.geo_laws.proofs.RowFaces.{Ascends as IsAscending, face_at, face_place, face_ascends}
 use Rattle.facet_laws.specs.Faces.{Ascends, as_triangle}
 use Rattle.facet_laws.proofs.FaceIn.{centroid_in, law_face_in_facet}
 use Rattle.incidence.specs.Pairs.{has_face}
@@ -92,7 +92,7 @@ listed_row ts faces a complex rows all f r = (
 )
 
 -- without triangles no face lies in a facet
-nothing_lies : (ps : List Point) (facet : ℕ) (f : Face) → ¬ LiesIn ps [] facet f
+pub nothing_lies : (ps : List Point) (facet : ℕ) (f : Face) → ¬ LiesIn ps [] facet f
 nothing_lies ps facet f lies = let on = lies (centroid (point ps f.a) (point ps f.b) (point ps f.c)) (omega (arith, ints)) (centroid_in ps f.a f.b f.c) in omega (arith, on.2)
 
 -- a face of positive rows lies in a facet exactly where it is one of its triangles

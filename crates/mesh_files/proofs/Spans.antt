@@ -11,7 +11,7 @@ use Rattle.geo_laws.specs.Laws.{plane_through}
 use Rattle.geo_laws.specs.declared.tetrahedra.Tet.{Tet}
 use Rattle.geo_laws.proofs.Places.{Place, A, B, C, D}
 use Rattle.geo_laws.proofs.Determinants.{spans}
-use Rattle.path_laws.proofs.Faces.{face_at}
+use Rattle.geo_laws.proofs.RowFaces.{face_at}
 
 neg_zero : (a b : ℤ) → a ≡ neg_ℤ b → a ≡ pos 0 → b ≡ pos 0
 neg_zero a b e z = omega (arith, ints)

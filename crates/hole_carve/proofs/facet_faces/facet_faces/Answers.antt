@@ -1,6 +1,6 @@
 use Rattle.std.proofs.Common.{length, ap, arith}
 use Rattle.hole_carve.proofs.FacetFaces.{faces_are}
-use Rattle.incidence.proofs.Orders.{face_before}
+use Rattle.geo_laws.proofs.RowOrder.{face_before}
 use Rattle.hole_carve.proofs.facet_faces.facet_faces.Goals as goal
 
 pub returns-clause-exactly : goal.returns-clause-exactly
