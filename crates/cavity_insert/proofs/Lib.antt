@@ -9,6 +9,7 @@ pub mod Planes
 pub mod LostSides
 pub mod Minors
 pub mod SlotRows
+pub mod HullFaces
 pub mod OneMore
 pub mod SlotSides
 pub mod Cones

@@ -2,6 +2,7 @@ pub mod Build
 pub mod First
 pub mod Grow
 pub mod Growth
+pub mod Hull
 pub mod Insert
 pub mod Living
 pub mod Lost

@@ -3,6 +3,7 @@
 
 mod first;
 mod grow;
+mod hull;
 mod insert;
 mod living;
 mod lost;
@@ -18,6 +19,7 @@ mod start;
 mod steps;
 
 pub use grow::grow_cavity;
+pub use hull::{HulledList, delaunay_with_hull};
 pub use living::Living;
 pub use meshing::{BuildFault, delaunay};
 pub use rule::test_slot;

@@ -51,3 +51,15 @@ pub record AreFacesOf (rows : List Tet) (faces : List Face) : Type 0 where
 pub record AreSidesOf (rows : List Tet) (sides : List Side) : Type 0 where
   pub exactly : (s : Side) → Contains sides s ↔ Contains (sides_of_rows rows) s
   pub ascending : AllPairs SideBefore sides
+
+-- one row alone has the face: it is on the hull of the rows
+pub record IsOfOneRow (rows : List Tet) (f : Face) : Type 0 where
+  pub row : Tet
+  pub is_row : Contains rows row
+  pub has : Contains (row_faces row) f
+  pub only : (t : Tet) → Contains rows t → Contains (row_faces t) f → t ≡ row
+
+-- each such face once, ascending
+pub record AreHullFacesOf (rows : List Tet) (faces : List Face) : Type 0 where
+  pub exactly : (f : Face) → Contains faces f ↔ IsOfOneRow rows f
+  pub ascending : AllPairs FaceBefore faces

@@ -147,11 +147,11 @@ Contains-map g xs x h = (h.0, omega (arith, h.1, length-map xs g), get_or-map g 
 pub in_row : (t : Tet) (f : Face) → has_face f t ≡ true → Contains (row_faces t) f
 in_row t f h = Contains-map (λ u. u.face) (row_uses 0 t) (record { face = f; row = 0 }) (in_four 0 t f h)
 
-from_row : (t : Tet) (f : Face) → Contains (row_faces t) f → has_face f t ≡ true
+pub from_row : (t : Tet) (f : Face) → Contains (row_faces t) f → has_face f t ≡ true
 from_row t f h = (of_four 0 t (record { face = f; row = 0 }) (Contains-map (λ g. record { face = g; row = 0 }) (row_faces t) f h)).1
 
 -- the faces of rows are those that some row has
-face_of_row : (rows : List Tet) (k : ℕ) (f : Face) → k < length rows → has_face f (get_or rows k no_row) ≡ true → Contains (faces_of_rows rows) f
+pub face_of_row : (rows : List Tet) (k : ℕ) (f : Face) → k < length rows → has_face f (get_or rows k no_row) ≡ true → Contains (faces_of_rows rows) f
 face_of_row [] k f l h = absurd (omega (arith, l))
 face_of_row (t ∷ ts) zero f l h = Contains-append_left (row_faces t) (faces_of_rows ts) f (in_row t f h)
 face_of_row (t ∷ ts) (suc k) f l h = Contains-append_right (row_faces t) (faces_of_rows ts) f (face_of_row ts k f (omega (arith, l)) h)

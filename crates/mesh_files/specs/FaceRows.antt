@@ -75,3 +75,7 @@ pub record AreFaceRowsOf (ps : List Point) (rows : List Tet) (complex : Complex)
     (found : List FaceRow) : Type 0 where
   pub exactly : (r : FaceRow) → Contains found r ↔ IsFaceRow ps rows complex ts all r
   pub ascending : AllPairs (λ r s. FaceBefore (corners_of r) (corners_of s)) found
+
+-- a face on the hull that lies in no facet
+abbrev pub hull_row : Face → FaceRow
+hull_row f = record { a = f.a; b = f.b; c = f.c; marker = pos 1 }

@@ -101,7 +101,7 @@ fn in_facet(face: Face, complex: &Complex, facet: u32) -> FaceRow
 }
 
 /// A face with the marker of those in no facet: 1 on the hull, else 0.
-fn in_no_facet(face: Face, on_hull: bool) -> FaceRow
+pub(crate) fn in_no_facet(face: Face, on_hull: bool) -> FaceRow
     ensures corners { corners_of result ≡ face }
     ensures marker { result.marker ≡ (if on_hull then pos 1 else pos 0) }
 {

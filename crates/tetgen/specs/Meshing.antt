@@ -20,6 +20,7 @@ use Rattle.tetgen.specs.Outputs.{AreOutputsOf}
 use Rattle.tetgen.specs.Steps.{AndThen}
 use Rattle.tetgen.specs.declared.input.Input.{Input}
 use Rattle.tetgen.specs.declared.mesh.Bound.{Bound}
+use Rattle.tetgen.specs.declared.meshed.HulledMesh.{HulledMesh}
 use Rattle.tetgen.specs.declared.meshed.Meshed.{Meshed}
 use Rattle.tetgen.specs.declared.outputs.Outputs.{Outputs}
 use Rattle.tetgen.specs.declared.status.LimitKind.TheVariants.{Points, Facets, Corners, Grid as OnGrid}
@@ -110,6 +111,11 @@ MeshOf true options bound (Err status) = IsUnmeshed options bound status
 
 abbrev pub MeshAnswer : Options → Bound → Result Meshed Status → Type 0
 MeshAnswer options bound = MeshOf options.piecewise options bound
+
+-- without its hull
+abbrev pub mesh_in : Result HulledMesh Status → Result Meshed Status
+mesh_in (Ok made) = Ok made.mesh
+mesh_in (Err status) = Err status
 
 -- ---- the outputs
 

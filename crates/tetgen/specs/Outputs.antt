@@ -1,7 +1,8 @@
 -- The files and the summary of a mesh.
-use Rattle.std.specs.Prelude.{◌≡◌, ℕ, ◌+◌, ◌<◌, ◌^◌, Bool, true, false, ◌||◌, ◌&&◌, not, List, [], ◌∷◌, ◌++◌, length, All, Option, Some, None, IfSome, codes, if◌then◌else◌}
+use Rattle.std.specs.Prelude.{◌≡◌, ℕ, ◌+◌, ◌<◌, ◌^◌, Bool, true, false, ◌||◌, ◌&&◌, not, List, [], ◌∷◌, ◌++◌, length, All, AllPairs, Option, Some, None, IfSome, codes, if◌then◌else◌}
 use Rattle.std.specs.Fmt.{decimal}
-use Rattle.geo_laws.specs.Faces.{AreFacesOf, AreSidesOf}
+use Rattle.geo_laws.specs.Delaunay.{RowBefore}
+use Rattle.geo_laws.specs.Faces.{AreFacesOf, AreHullFacesOf, AreSidesOf}
 use Rattle.geo_laws.specs.declared.faces.Face.{Face}
 use Rattle.geo_laws.specs.declared.faces.Side.{Side}
 use Rattle.incidence.specs.Pairs.{pairs_of}
@@ -65,6 +66,10 @@ summary_of options mesh faces edges = if options.quiet then None else Some (summ
 abbrev pub names_sides : Options → Bool
 names_sides options = not options.quiet || (not options.no_face && options.edges)
 
+-- whether nothing is asked for of the faces but those on the hull and in facets
+abbrev pub asks_hull_alone : Options → Bool
+asks_hull_alone options = options.quiet && (not options.no_face && (not options.all_faces && not options.neighbors))
+
 -- whether the face file, the neighbor file or the summary is asked for, which speak of the uses of faces
 abbrev pub asks_uses : Options → Bool
 asks_uses options = not options.quiet || (not options.no_face || options.neighbors)
@@ -80,6 +85,12 @@ pub record IsWritable (mesh : Meshed) : Type 0 where
   pub there : AreFacetsThere mesh.triangles mesh.complex
   pub marks_long : IfSome mesh.marks (λ marks. length marks ≡ length mesh.tetrahedra)
   pub marks_there : IfSome mesh.marks (λ marks. All (λ mark. IfSome mark (λ region. region < length mesh.complex.regions)) marks)
+
+-- these are the faces of the hull of a mesh without facets, whose rows ascend
+pub record IsHullOf (mesh : Meshed) (hull : List Face) : Type 0 where
+  pub bare : mesh.triangles ≡ []
+  pub ascending : AllPairs RowBefore mesh.tetrahedra
+  pub faces : AreHullFacesOf mesh.tetrahedra hull
 
 -- what is told of the faces of a mesh, where a file or the summary speaks of them
 pub record AreFaceOutputsOf (options : Options) (mesh : Meshed) (outputs : FaceOutputs) : Type 0 where

@@ -1,22 +1,25 @@
 //! What a run makes of its input.
 
-ghost use Rattle.std.specs.Prelude.{◌≡◌, ◌≤◌, ◌⊎◌, ◌<◌, ◌-◌, ◌^◌, true, false, Ok, length, drop, IfOk, IfErr};
+ghost use Rattle.std.specs.Prelude.{◌≡◌, ◌≤◌, ◌⊎◌, ◌<◌, ◌-◌, ◌^◌, true, false, Ok, length, drop, AllPairs, IfOk, IfErr, IfSome, OnOk};
 ghost use Rattle.command_words.specs.Meaning.{AreInRange};
+ghost use Rattle.geo_laws.specs.Delaunay.{delaunay_rows, AreCoplanar, RowBefore};
+ghost use Rattle.geo_laws.specs.Faces.{AreHullFacesOf};
 ghost use Rattle.plc_files.specs.Binding.{IsBound, HasCornersBelow, HasWeights};
 ghost use Rattle.plc_files.specs.Checks.{corners_check, HasFewParts};
-ghost use Rattle.tetgen.specs.Meshing.{grid_options, mesh_options, IsSmall, IsOverLimit, IsMeshableBound, BoundAnswer, MeshOf, MeshAnswer, OutputsAnswer, MeshedAnswer};
-ghost use Rattle.tetgen.specs.Outputs.{IsWritable};
+ghost use Rattle.tetgen.specs.Meshing.{grid_options, mesh_options, IsSmall, IsOverLimit, IsMeshableBound, BoundAnswer, IsFlatRefusal, mesh_in, MeshOf, MeshAnswer, OutputsAnswer, MeshedAnswer};
+ghost use Rattle.tetgen.specs.Outputs.{IsWritable, IsHullOf};
 ghost use Rattle.tetgen.specs.Reading.{IsSound};
 
 use crate::input::Input;
-use crate::meshed::Meshed;
-use crate::outputs::{Outputs, outputs_of};
+use crate::meshed::{HulledMesh, Meshed};
+use crate::outputs::{Outputs, asks_hull_alone, outputs_of};
 use crate::status::{LimitKind, Status};
-use cavity_insert::{BuildFault, delaunay};
+use cavity_insert::{BuildFault, HulledList, delaunay, delaunay_with_hull};
 use command_words::Options;
 use complex_mesh::{ComplexMesh, MeshOptions, mesh_complex};
-use geo_laws::{Complex, FacetTriangles, Points};
+use geo_laws::{Complex, FacetTriangles, Points, TetList};
 use grid_coords::Grid;
+use mesh_files::Faces;
 use node_files::{GridOptions, NodeFault, NodeTable, settle};
 use plc_files::{PlcFault, PlcText, bind};
 use std::alloc::Global;
@@ -36,8 +39,8 @@ pub fn mesh_of(alloc: Global, options: &Options, input: Input) -> Result<Outputs
     ensures { MeshedAnswer options.now input result }
 {
     let bound = bind_input(alloc, options, input)?;
-    let mesh = mesh_bound(alloc, options, bound)?;
-    write_out(alloc, options, &mesh)
+    let made = mesh_bound(alloc, options, bound)?;
+    write_out(alloc, options, &made)
 }
 
 /// How the options put points on a grid.
@@ -130,40 +133,74 @@ fn limit_before(alloc: Global, text: &PlcText, first: u32, count: u64, status: S
 }
 
 /// The mesh of points alone, or of a complex.
-fn mesh_bound(alloc: Global, options: &Options, bound: Bound) -> Result<Meshed, Status>
+fn mesh_bound(alloc: Global, options: &Options, bound: Bound) -> Result<HulledMesh, Status>
     requires { IsMeshableBound options.now bound }
-    ensures answer { MeshAnswer options.now bound result }
-    ensures writable { IfOk result IsWritable }
+    ensures answer { MeshAnswer options.now bound (mesh_in result) }
+    ensures writable { IfOk result (λ made. IsWritable made.mesh) }
+    ensures hull { IfOk result (λ made. IfSome made.hull (IsHullOf made.mesh)) }
 {
     if options.piecewise {
-        mesh_plc(alloc, options, bound)
+        let mesh = mesh_plc(alloc, options, bound)?;
+        Ok(HulledMesh { mesh, hull: None })
     } else {
         mesh_points(alloc, options, bound)
     }
 }
 
-/// The mesh of points alone.
-fn mesh_points(alloc: Global, _options: &Options, bound: Bound) -> Result<Meshed, Status>
-    requires { IsMeshableBound _options.now bound }
-    ensures answer { MeshOf false _options.now bound result }
-    ensures writable { IfOk result IsWritable }
+/// The mesh of points alone, with its hull where nothing else is asked for of the faces.
+fn mesh_points(alloc: Global, options: &Options, bound: Bound) -> Result<HulledMesh, Status>
+    requires { IsMeshableBound options.now bound }
+    ensures answer { MeshOf false options.now bound (mesh_in result) }
+    ensures writable { IfOk result (λ made. IsWritable made.mesh) }
+    ensures hull { IfOk result (λ made. IfSome made.hull (IsHullOf made.mesh)) }
 {
+    let ListAndHull { rows, hull } = rows_and_hull(alloc, options, &bound)?;
     let table = bound.table;
-    let tetrahedra = match delaunay(alloc, &table.points) {
-        Ok(rows) => rows,
-        Err(BuildFault::Flat) => return Err(Status::Flat),
-        Err(BuildFault::NoMemory) => return Err(Status::NoMemory),
-    };
     let points = points_from(alloc, &table.points, 0)?;
-    Ok(Meshed {
+    let mesh = Meshed {
         table,
         added: Points::new(alloc),
         points,
         complex: Complex::new(alloc),
         triangles: FacetTriangles::new(alloc),
-        tetrahedra,
+        tetrahedra: rows,
         marks: None,
-    })
+    };
+    Ok(HulledMesh { mesh, hull })
+}
+
+/// A list of tetrahedra, and the faces of its hull, where they are known.
+#[derive(Drop)]
+pub struct ListAndHull {
+    pub rows: TetList,
+    pub hull: Option<Faces>,
+}
+
+/// The Delaunay list of points, with its hull where nothing else is asked for of the faces.
+fn rows_and_hull(alloc: Global, options: &Options, bound: &Bound) -> Result<ListAndHull, Status>
+    requires { IsMeshableBound options.now bound.now }
+    ensures rows { IfOk result (λ made. made.rows ≡ delaunay_rows bound.now.table.points) }
+    ensures ascending { IfOk result (λ made. AllPairs RowBefore made.rows) }
+    ensures hull { IfOk result (λ made. IfSome made.hull (AreHullFacesOf made.rows)) }
+    ensures not_flat { OnOk result (¬ AreCoplanar bound.now.table.points) }
+    ensures refused { IfErr result (IsFlatRefusal bound.now) }
+{
+    if asks_hull_alone(options) {
+        match delaunay_with_hull(alloc, &bound.table.points) {
+            Ok(HulledList { rows, hull }) => Ok(ListAndHull {
+                rows,
+                hull: Some(hull),
+            }),
+            Err(BuildFault::Flat) => Err(Status::Flat),
+            Err(BuildFault::NoMemory) => Err(Status::NoMemory),
+        }
+    } else {
+        match delaunay(alloc, &bound.table.points) {
+            Ok(rows) => Ok(ListAndHull { rows, hull: None }),
+            Err(BuildFault::Flat) => Err(Status::Flat),
+            Err(BuildFault::NoMemory) => Err(Status::NoMemory),
+        }
+    }
 }
 
 /// The mesh of a complex.
@@ -216,9 +253,10 @@ fn points_from(alloc: Global, points: &Points, first: usize) -> Result<Points, N
 }
 
 /// The files and the summary of a mesh.
-fn write_out(alloc: Global, options: &Options, mesh: &Meshed) -> Result<Outputs, Status>
-    requires { IsWritable mesh.now }
-    ensures { OutputsAnswer options.now mesh.now result }
+fn write_out(alloc: Global, options: &Options, made: &HulledMesh) -> Result<Outputs, Status>
+    requires mesh { IsWritable made.now.mesh }
+    requires hull { IfSome made.now.hull (IsHullOf made.now.mesh) }
+    ensures { OutputsAnswer options.now made.now.mesh result }
 {
-    Ok(outputs_of(alloc, options, mesh)?)
+    Ok(outputs_of(alloc, options, made)?)
 }

@@ -2,6 +2,7 @@
 
 use geo_laws::{Complex, FacetTriangles, Points, TetList};
 use hole_carve::Marks;
+use mesh_files::Faces;
 use node_files::NodeTable;
 
 /// A mesh, with the points and the complex that it is one of. Points are named by their places, from 0, the added ones after those of the table.
@@ -19,4 +20,11 @@ pub struct Meshed {
     pub tetrahedra: TetList,
     /// For each tetrahedron the place of its region in the complex, from 0, if attributes are asked for.
     pub marks: Option<Marks>,
+}
+
+/// A mesh, and the faces of its hull, ascending, where they are known.
+#[derive(Drop)]
+pub struct HulledMesh {
+    pub mesh: Meshed,
+    pub hull: Option<Faces>,
 }

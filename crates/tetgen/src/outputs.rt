@@ -1,22 +1,22 @@
 //! The files and the summary of a mesh.
 
-ghost use Rattle.std.specs.Prelude.{◌≡◌, true, false, ◌<◌, ◌^◌, ◌++◌, length, All, List, IfOk};
+ghost use Rattle.std.specs.Prelude.{◌≡◌, true, false, ◌<◌, ◌^◌, ◌++◌, length, All, List, IfOk, IfSome};
 ghost use Rattle.std.specs.Option.{option_copied};
 ghost use Rattle.geo_laws.specs.Faces.{AreFacesOf, AreSidesOf};
 ghost use Rattle.geo_laws.specs.declared.faces.Face.{Face};
 ghost use Rattle.incidence.specs.Uses.{AreUsesOf};
 ghost use Rattle.mesh_files.specs.FaceRows.{AreFaceRowsOf};
-ghost use Rattle.tetgen.specs.Outputs.{named, first_of, node_file, ele_file, face_file, edge_file, neigh_file, summary_of, names_sides, asks_uses, IsWritable, AreFaceOutputsOf, AreOutputsOf};
+ghost use Rattle.tetgen.specs.Outputs.{named, first_of, node_file, ele_file, face_file, edge_file, neigh_file, summary_of, names_sides, asks_uses, asks_hull_alone, IsWritable, IsHullOf, AreFaceOutputsOf, AreOutputsOf};
 ghost use Rattle.tetgen.specs.Stores.{in_order, TellsFailure};
 
-use crate::meshed::Meshed;
+use crate::meshed::{HulledMesh, Meshed};
 use crate::message::{append_number, file_message};
 use crate::store::{NamedText, Texts};
 use command_words::{Options, with_extension};
 use incidence::{Uses, pair_uses, uses_of};
 use mesh_files::{
-    Edges, FaceRows, edges_of, face_count, used_faces, write_edge, write_ele, write_face,
-    write_neigh,
+    Edges, FaceRows, Faces, edges_of, face_count, hull_rows, used_faces, write_edge, write_ele,
+    write_face, write_neigh,
 };
 use node_files::write_node;
 use std::alloc::Global;
@@ -38,11 +38,13 @@ struct FaceOutputs {
 }
 
 /// The files and the summary that the options ask for.
-pub fn outputs_of(alloc: Global, options: &Options, mesh: &Meshed) -> Result<Outputs, NoMemory>
-    requires { IsWritable mesh.now }
-    ensures { IfOk result (AreOutputsOf options.now mesh.now) }
+pub fn outputs_of(alloc: Global, options: &Options, made: &HulledMesh) -> Result<Outputs, NoMemory>
+    requires mesh { IsWritable made.now.mesh }
+    requires hull { IfSome made.now.hull (IsHullOf made.now.mesh) }
+    ensures { IfOk result (AreOutputsOf options.now made.now.mesh) }
 {
-    let FaceOutputs { face, neigh, count } = face_outputs(alloc, options, mesh)?;
+    let mesh = &made.mesh;
+    let FaceOutputs { face, neigh, count } = face_outputs(alloc, options, made)?;
     let sides = wanted_sides(alloc, options, mesh)?;
     let texts = Texts {
         node: node_file(alloc, options, mesh)?,
@@ -73,6 +75,13 @@ fn names_sides(options: &Options) -> bool
     !options.quiet || (!options.no_face && options.edges)
 }
 
+/// Whether nothing is asked for of the faces but those on the hull and in facets.
+pub fn asks_hull_alone(options: &Options) -> bool
+    ensures { result ≡ asks_hull_alone options.now }
+{
+    options.quiet && !options.no_face && !options.all_faces && !options.neighbors
+}
+
 /// Whether the face file, the neighbor file or the summary is asked for, which speak of the uses of faces.
 fn asks_uses(options: &Options) -> bool
     ensures { result ≡ asks_uses options.now }
@@ -80,8 +89,26 @@ fn asks_uses(options: &Options) -> bool
     !options.quiet || (!options.no_face || options.neighbors)
 }
 
-/// What is told of the faces. The neighbors are let go once their text is made, and the uses before the text of the faces is.
-fn face_outputs(alloc: Global, options: &Options, mesh: &Meshed) -> Result<FaceOutputs, NoMemory>
+/// What is told of the faces: from those of the hull where they are known and enough, and else from the uses of all faces.
+fn face_outputs(
+    alloc: Global,
+    options: &Options,
+    made: &HulledMesh,
+) -> Result<FaceOutputs, NoMemory>
+    requires mesh { IsWritable made.now.mesh }
+    requires hull { IfSome made.now.hull (IsHullOf made.now.mesh) }
+    ensures { IfOk result (AreFaceOutputsOf options.now made.now.mesh) }
+{
+    if let Some(hull) = &made.hull {
+        if asks_hull_alone(options) {
+            return hull_outputs(alloc, options, &made.mesh, hull);
+        }
+    }
+    used_outputs(alloc, options, &made.mesh)
+}
+
+/// What is told of the faces by their uses. The neighbors are let go once their text is made, and the uses before the text of the faces is.
+fn used_outputs(alloc: Global, options: &Options, mesh: &Meshed) -> Result<FaceOutputs, NoMemory>
     requires { IsWritable mesh.now }
     ensures { IfOk result (AreFaceOutputsOf options.now mesh.now) }
 {
@@ -91,6 +118,26 @@ fn face_outputs(alloc: Global, options: &Options, mesh: &Meshed) -> Result<FaceO
     let faces = wanted_face_rows(alloc, options, mesh, uses)?;
     let face = face_file(alloc, options, mesh, &faces)?;
     Ok(FaceOutputs { face, neigh, count })
+}
+
+/// What is told of the faces, where only those on the hull are asked for and are known.
+fn hull_outputs(
+    alloc: Global,
+    options: &Options,
+    mesh: &Meshed,
+    hull: &Faces,
+) -> Result<FaceOutputs, NoMemory>
+    requires asks { asks_hull_alone options.now ≡ true }
+    requires hull { IsHullOf mesh.now hull.now }
+    ensures { IfOk result (AreFaceOutputsOf options.now mesh.now) }
+{
+    let faces = hull_rows(alloc, hull)?;
+    let face = face_file(alloc, options, mesh, &faces)?;
+    Ok(FaceOutputs {
+        face,
+        neigh: None,
+        count: 0,
+    })
 }
 
 /// The uses of the faces, if something speaks of them.
