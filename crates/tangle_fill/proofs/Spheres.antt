@@ -4,31 +4,21 @@ use Rattle.std.specs.Prelude.{◌<ℤ◌, ◌≤ℤ◌, neg_ℤ, Any}
 use Rattle.std.specs.List.{HoldsAt}
 use Rattle.std.proofs.lemmas.Int.{ints}
 use Rattle.exact_algebra.proofs.Signs.{sign_of, test_neg}
-use Rattle.sign_predicates.specs.Point.{Point}
+use Rattle.sign_predicates.specs.Point.{Point, as_rational}
 use Rattle.sign_predicates.specs.Sphere.{in_sphere}
 use Rattle.geo_laws.specs.Delaunay.{point, corners, numbers}
 use Rattle.geo_laws.specs.Simplex.{has_number}
 use Rattle.geo_laws.specs.declared.tetrahedra.Tet.{Tet}
 use Rattle.geo_laws.specs.declared.complex.FacetTriangle.{FacetTriangle}
-use Rattle.box_tree.specs.declared.bounds.Interval.{Interval}
 use Rattle.box_tree.specs.declared.bounds.Bounds.{Bounds}
 use Rattle.box_tree.specs.declared.tree.Node.{Node}
-use Rattle.box_tree.specs.Bounds.{IsIn, AreApart, AreBoundsApart, HoldsPoint}
+use Rattle.box_tree.specs.Bounds.{AreBoundsApart, HoldsPoint}
 use Rattle.box_tree.specs.Bodies.{IsPointTree}
 use Rattle.box_tree.specs.Tree.{AreApartBetween}
 use Rattle.box_tree.proofs.Lists.{less_or_more}
 use Rattle.tangle_fill.specs.Fill.{is_corner_or_outside, Passes}
 use Rattle.tangle_fill.specs.Sphere.{HoldsSphere}
-
-apart_none : (i j : Interval) (z : ℤ) → IsIn i z → IsIn j z → AreApart i j → ⊥
-apart_none i j z p q (inl h) = omega (arith, ints, p.1, q.0)
-apart_none i j z p q (inr h) = omega (arith, ints, q.1, p.0)
-
--- no point lies in two boxes that are apart
-bounds_apart_none : (b c : Bounds) (p : Point) → HoldsPoint b p → HoldsPoint c p → AreBoundsApart b c → ⊥
-bounds_apart_none b c p h k (inl a) = apart_none b.x c.x p.x h.x k.x a
-bounds_apart_none b c p h k (inr (inl a)) = apart_none b.y c.y p.y h.y k.y a
-bounds_apart_none b c p h k (inr (inr a)) = apart_none b.z c.z p.z h.z k.z a
+use Rattle.tangle_fill.proofs.Boxed.{common_point, held_point}
 
 or_yes : (a : Bool) → (a || true) ≡ true
 or_yes true = refl
@@ -39,7 +29,9 @@ pub far_passes : (ps : List Point) (ts : List FacetTriangle) (t : Tet) (i : ℕ)
 far_passes ps ts t i b c sphere holds apart = record { either = inl (by (sign_of (in_sphere (corners ps t) (point ps i)))) }
   where
     within : pos 0 ≤ℤ in_sphere (corners ps t) (point ps i) → ⊥
-    within h = bounds_apart_none c b (point ps i) holds (sphere (point ps i) h) apart
+    within h =
+        let one : pos 0 <ℤ pos 1 = omega (arith, ints) in
+        common_point c b (as_rational (point ps i)) one (held_point c (point ps i) holds) (held_point b (point ps i) (sphere (point ps i) h)) apart
 
     by : (pos 0 <ℤ in_sphere (corners ps t) (point ps i)) ⊎ ((in_sphere (corners ps t) (point ps i) ≡ pos 0) ⊎ (pos 0 <ℤ neg_ℤ (in_sphere (corners ps t) (point ps i)))) → is_corner_or_outside ps t i ≡ true
     by (inl h) = absurd (within (omega (arith, ints)))
