@@ -30,6 +30,20 @@ fn raised(number: u128, base: u32, steps: u64, most: u64) -> Option<u64>
     Some(product as u64)
 }
 
+/// The number times 2^`steps`, or None where that is over `most`.
+fn doubled(number: u64, steps: u32, most: u64) -> Option<u64>
+    ensures { result ≡ within most (number * 2 ^ steps) }
+{
+    if steps > 63 {
+        return raised(u128::from(number), 2, u64::from(steps), most);
+    }
+    let product = u128::from(number) * (1 << steps);
+    if product > u128::from(most) {
+        return None;
+    }
+    Some(product as u64)
+}
+
 /// The size of the number in units of 1 / (10^`decimals` × 2^`halvings`), or None where that is
 /// over `most`.
 pub(crate) fn units_within(d: &Decimal, decimals: u64, halvings: u32, most: u64) -> Option<u64>
@@ -37,5 +51,5 @@ pub(crate) fn units_within(d: &Decimal, decimals: u64, halvings: u32, most: u64)
 {
     let steps = decimals.saturating_sub(u64::from(d.scale));
     let tens = raised(d.value.unsigned_abs(), 10, steps, most)?;
-    raised(u128::from(tens), 2, u64::from(halvings), most)
+    doubled(tens, halvings, most)
 }

@@ -22,4 +22,4 @@ returns c =
     let e = tens_are c.args.most c.args.decimals c.unsigned_abs.result c.saturating_sub-steps.result c.args.d.now
     (c.unsigned_abs.ensures.value ∙ ap unsigned_abs value ∙ ap (λ (d : Scaled). unsigned_abs d.value) c.d.view_is)
     (c.saturating_sub-steps.ensures ∙ ap (λ (s : ℕ). c.args.decimals - s) (c.from.ensures ∙ ap (λ (d : Scaled). d.scale) c.d.view_is)) in
-    c.raised-2.ensures ∙ rw (c.from-2.ensures, c.from-3.ensures) (sym (units_some c.args.most c.args.decimals c.args.halvings c.in_ok-tens.tens c.args.d.now (sym e ∙ sym c.raised.ensures ∙ c.in_ok-tens.was)))
+    c.doubled.ensures ∙ sym (units_some c.args.most c.args.decimals c.args.halvings c.in_ok-tens.tens c.args.d.now (sym e ∙ sym c.raised.ensures ∙ c.in_ok-tens.was))
