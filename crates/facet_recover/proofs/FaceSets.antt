@@ -1,0 +1,184 @@
+-- Sets of faces, from which faces are taken.
+use Rattle.std.proofs.Common.{◌≡◌, ◌⊎◌, inl, inr, ℕ, Bool, true, false, cond, nat_eq, ◌&&◌, List, [], ◌∷◌, ◌++◌, take, drop, length, refl, ap, sym, subst, ◌∙◌, arith, eqb-true}
+use Rattle.std.specs.Prelude.{◌↔◌, Any, Contains}
+use Rattle.std.specs.List.{list_any}
+use Rattle.std.specs.HashSet.{HashSet, contains}
+use Rattle.std.proofs.lemmas.List.{flat_map_more, take-append-drop}
+use Rattle.geo_laws.specs.Faces.{row_faces, faces_of_rows}
+use Rattle.geo_laws.specs.declared.faces.Face.{Face}
+use Rattle.geo_laws.specs.declared.tetrahedra.Tet.{Tet}
+use Rattle.geo_laws.specs.declared.complex.FacetTriangle.{FacetTriangle}
+use Rattle.geo_laws.proofs.Members.{IsMember, here, in_cons, both_true, member_of, contains_of, append_cases, in_append_left, in_append_right, flat_map_cases, in_flat_map}
+use Rattle.box_tree.proofs.Lists.{more_cases, in_more, in_last, any_of, any_member}
+use Rattle.facet_recover.specs.declared.missing.FaceKey.{FaceKey}
+use Rattle.facet_recover.specs.Missing.{key, same_key, HasFace, face_of_triangle, HasTriangles, IsWithout, AreMissing}
+
+-- ---- keys
+
+same_face : (f g : Face) → same_key (key f) (key g) ≡ true → f ≡ g
+same_face f g e =
+    let h = both_true (nat_eq f.a g.a) (nat_eq f.b g.b && nat_eq f.c g.c) e in
+    let k = both_true (nat_eq f.b g.b) (nat_eq f.c g.c) h.1 in
+    λ j. record { a = eqb-true f.a g.a h.0 j; b = eqb-true f.b g.b k.0 j; c = eqb-true f.c g.c k.1 j }
+
+nat_self : (n : ℕ) → nat_eq n n ≡ true
+nat_self n = grind arith
+
+self_key : (f : Face) → same_key (key f) (key f) ≡ true
+self_key f = λ j. nat_self f.a j && (nat_self f.b j && nat_self f.c j)
+
+put_cases : (b c : Bool) → cond b true c ≡ true → (b ≡ true) ⊎ (c ≡ true)
+put_cases true c e = inl refl
+put_cases false c e = inr e
+
+put_old : (b c : Bool) → c ≡ true → cond b true c ≡ true
+put_old true c e = refl
+put_old false c e = e
+
+put_new : (b c : Bool) → b ≡ true → cond b true c ≡ true
+put_new b c e = ap (λ d. cond d true c) e
+
+pub not_both : false ≡ true → ⊥
+not_both e = cc
+
+taken_cases : (b c : Bool) → cond b false c ≡ true → (b ≡ true → ⊥) × (c ≡ true)
+taken_cases true c e = absurd (not_both e)
+taken_cases false c e = (not_both, e)
+
+taken_other : (b c : Bool) → (b ≡ true → ⊥) → c ≡ true → cond b false c ≡ true
+taken_other true c n e = absurd (n refl)
+taken_other false c n e = e
+
+only : {X : Type 0} (x y : X) → Contains (x ∷ []) y → y ≡ x
+only x y m = go (in_cons y x [] (member_of (x ∷ []) y m))
+  where
+    go : (y ≡ x) ⊎ IsMember y [] → y ≡ x
+    go (inl e) = e
+    go (inr n) = elim n [ ]
+
+module _ {S : Type 0} where
+  -- the second set has the key exactly at true, and each other key exactly where the first has it
+  abbrev IsSetAt : HashSet FaceKey S → HashSet FaceKey S → FaceKey → Bool → Type 0
+  IsSetAt s n k b = (q : FaceKey) → contains same_key n q ≡ cond (same_key k q) b (contains same_key s q)
+
+  empty_has_none : (s : HashSet FaceKey S) (k : FaceKey) → length s.keys ≡ 0 → contains same_key s k ≡ false
+  empty_has_none s k e = go s.keys e
+    where
+      go : (ks : List FaceKey) → length ks ≡ 0 → list_any (same_key k) ks ≡ false
+      go [] e = refl
+      go (q ∷ ks) e = absurd (omega arith)
+
+  -- ---- faces are put in
+
+  pub has_none : (s : HashSet FaceKey S) → s.keys ≡ [] → HasTriangles [] s
+  has_none s e f = (λ h. absurd (not_both (sym (empty_has_none s (key f) (ap (λ (ks : List FaceKey). length ks) e)) ∙ h)), λ a. absurd (let l = a.2 in omega arith))
+
+  pub has_more : (ts : List FacetTriangle) (t : FacetTriangle) (s n : HashSet FaceKey S) (k : FaceKey) → k ≡ key (face_of_triangle t) → HasTriangles ts s → IsSetAt s n k true → HasTriangles (ts ++ t ∷ []) n
+  has_more ts t s n k is h u f = (λ e. to (put_cases same old (sym at ∙ e)), λ a. at ∙ from a (more_cases a.1 t ts (any_member IsOne (ts ++ t ∷ []) a)))
+    where
+      at : contains same_key n (key f) ≡ cond (same_key (key (face_of_triangle t)) (key f)) true (contains same_key s (key f))
+      at = u (key f) ∙ (λ j. cond (same_key (is j) (key f)) true (contains same_key s (key f)))
+
+      IsOne : FacetTriangle → Type 0
+      IsOne v = face_of_triangle v ≡ f
+
+      same : Bool
+      same = same_key (key (face_of_triangle t)) (key f)
+
+      old : Bool
+      old = contains same_key s (key f)
+
+      to : (same ≡ true) ⊎ (old ≡ true) → Any IsOne (ts ++ t ∷ [])
+      to (inl k) = any_of IsOne (ts ++ t ∷ []) t (in_last t ts) (same_face (face_of_triangle t) f k)
+      to (inr k) = let a = (h f).0 k in any_of IsOne (ts ++ t ∷ []) a.1 (in_more a.1 t ts (any_member IsOne ts a)) a.4
+
+      from : (a : Any IsOne (ts ++ t ∷ [])) → Contains ts a.1 ⊎ (a.1 ≡ t) → cond same true old ≡ true
+      from a (inl m) = put_old same old ((h f).1 (any_of IsOne ts a.1 m a.4))
+      from a (inr e) =
+          put_new same old
+          (subst (λ (v : FacetTriangle). same_key (key (face_of_triangle v)) (key f) ≡ true) e
+          (subst (λ (g : Face). same_key (key (face_of_triangle a.1)) (key g) ≡ true) a.4 (self_key (face_of_triangle a.1))))
+
+  -- ---- faces are taken out
+
+  pub without_none : (s : HashSet FaceKey S) → IsWithout s s []
+  without_none s f = (λ h. (h, λ m. absurd (let l = m.1 in omega arith)), λ h. h.0)
+
+  pub without_one : (s n : HashSet FaceKey S) (k : FaceKey) (g : Face) → k ≡ key g → IsSetAt s n k false → IsWithout s n (g ∷ [])
+  without_one s n k g is u f = (λ e. to (taken_cases same old (sym at ∙ e)), λ h. at ∙ taken_other same old (other h.1) h.0)
+    where
+      at : contains same_key n (key f) ≡ cond (same_key (key g) (key f)) false (contains same_key s (key f))
+      at = u (key f) ∙ (λ j. cond (same_key (is j) (key f)) false (contains same_key s (key f)))
+
+      same : Bool
+      same = same_key (key g) (key f)
+
+      old : Bool
+      old = contains same_key s (key f)
+
+      to : (same ≡ true → ⊥) × (old ≡ true) → HasFace s f × ¬ Contains (g ∷ []) f
+      to (k, e) = (e, λ m. k (subst (λ (q : Face). same_key (key g) (key q) ≡ true) (sym (only g f m)) (self_key g)))
+
+      other : ¬ Contains (g ∷ []) f → same ≡ true → ⊥
+      other k e = k (contains_of (g ∷ []) f (subst (λ (q : Face). IsMember q (g ∷ [])) (same_face g f e) here))
+
+  pub without_both : (s m n : HashSet FaceKey S) (fs gs : List Face) → IsWithout s m fs → IsWithout m n gs → IsWithout s n (fs ++ gs)
+  without_both s m n fs gs h k f = (to, from)
+    where
+      to : HasFace n f → HasFace s f × ¬ Contains (fs ++ gs) f
+      to e =
+          let p = (k f).0 e in
+          let q = (h f).0 p.0 in (
+            q.0,
+            λ c. elim (append_cases f fs gs (member_of (fs ++ gs) f c)) [ inl i ↦ q.1 (contains_of fs f i) | inr i ↦ p.1 (contains_of gs f i) ],
+          )
+
+      from : HasFace s f × ¬ Contains (fs ++ gs) f → HasFace n f
+      from (e, c) =
+          (k f).1
+          ((h f).1 (e, λ i. c (contains_of (fs ++ gs) f (in_append_left f fs gs (member_of fs f i)))), λ i. c (contains_of (fs ++ gs) f (in_append_right f fs gs (member_of gs f i))))
+
+  pub without_row : (s m n o p : HashSet FaceKey S) (f g h i : Face) → IsWithout s m (f ∷ []) → IsWithout m n (g ∷ []) → IsWithout n o (h ∷ []) → IsWithout o p (i ∷ []) → IsWithout s p (f ∷ g ∷ h ∷ i ∷ [])
+  without_row s m n o p f g h i a b c d =
+      without_both s m p (f ∷ []) (g ∷ h ∷ i ∷ []) a (without_both m n p (g ∷ []) (h ∷ i ∷ []) b (without_both n o p (h ∷ []) (i ∷ []) c d))
+
+  pub without_more : (s m n : HashSet FaceKey S) (rows : List Tet) (t : Tet) → IsWithout s m (faces_of_rows rows) → IsWithout m n (row_faces t) → IsWithout s n (faces_of_rows (rows ++ t ∷ []))
+  without_more s m n rows t h k = subst (IsWithout s n) (flat_map_more row_faces [] rows t) (without_both s m n (faces_of_rows rows) (row_faces t) h k)
+
+  -- when none is left, no other row has one
+  pub without_rest : (s n : HashSet FaceKey S) (rows : List Tet) (i : ℕ) → length n.keys ≡ 0 → IsWithout s n (faces_of_rows (take i rows)) → IsWithout s n (faces_of_rows rows)
+  without_rest s n rows i e h f = (λ k. absurd (not_both (sym (empty_has_none n (key f) e) ∙ k)), λ k. (h f).1 (k.0, λ m. k.1 (all m)))
+    where
+      all : Contains (faces_of_rows (take i rows)) f → Contains (faces_of_rows rows) f
+      all m =
+          let q = flat_map_cases row_faces f (take i rows) (member_of (faces_of_rows (take i rows)) f m) in
+          contains_of (faces_of_rows rows) f (in_flat_map row_faces q.0 f rows (subst (IsMember q.0) (take-append-drop i rows) (in_append_left q.0 (take i rows) (drop i rows) q.1)) q.2)
+
+  -- ---- triangles that are left
+
+  abbrev pub AreLeft : HashSet FaceKey S → List FacetTriangle → List FacetTriangle → Type 0
+  AreLeft s ts left = (t : FacetTriangle) → Contains left t ↔ (Contains ts t × HasFace s (face_of_triangle t))
+
+  pub left_none : (s : HashSet FaceKey S) → AreLeft s [] []
+  left_none s t = (λ m. absurd (let l = m.1 in omega arith), λ m. absurd (let l = m.0.1 in omega arith))
+
+  pub left_more : (s : HashSet FaceKey S) (ts left : List FacetTriangle) (t : FacetTriangle) → AreLeft s ts left → HasFace s (face_of_triangle t) → AreLeft s (ts ++ t ∷ []) (left ++ t ∷ [])
+  left_more s ts left t h is u = (λ m. to (more_cases u t left m), λ m. from (more_cases u t ts m.0) m.1)
+    where
+      to : Contains left u ⊎ (u ≡ t) → Contains (ts ++ t ∷ []) u × HasFace s (face_of_triangle u)
+      to (inl m) = let q = (h u).0 m in (in_more u t ts q.0, q.1)
+      to (inr e) = subst (λ v. Contains (ts ++ t ∷ []) v × HasFace s (face_of_triangle v)) (sym e) (in_last t ts, is)
+
+      from : Contains ts u ⊎ (u ≡ t) → HasFace s (face_of_triangle u) → Contains (left ++ t ∷ []) u
+      from (inl m) k = in_more u t left ((h u).1 (m, k))
+      from (inr e) k = subst (Contains (left ++ t ∷ [])) (sym e) (in_last t left)
+
+  pub left_same : (s : HashSet FaceKey S) (ts left : List FacetTriangle) (t : FacetTriangle) → AreLeft s ts left → ¬ HasFace s (face_of_triangle t) → AreLeft s (ts ++ t ∷ []) left
+  left_same s ts left t h not u = (λ m. (let q = (h u).0 m in (in_more u t ts q.0, q.1)), λ m. from (more_cases u t ts m.0) m.1)
+    where
+      from : Contains ts u ⊎ (u ≡ t) → HasFace s (face_of_triangle u) → Contains left u
+      from (inl m) k = (h u).1 (m, k)
+      from (inr e) k = absurd (not (subst (λ v. HasFace s (face_of_triangle v)) e k))
+
+  pub missing_are : (ts left : List FacetTriangle) (rows : List Tet) (s n : HashSet FaceKey S) → HasTriangles ts s → IsWithout s n (faces_of_rows rows) → AreLeft n ts left → AreMissing ts rows left
+  missing_are ts left rows s n has out are t = (λ m. (let q = (are t).0 m in (q.0, ((out (face_of_triangle t)).0 q.1).1)), λ m. (are t).1 (m.0, (out (face_of_triangle t)).1 ((has (face_of_triangle t)).1 (any_of (λ u. face_of_triangle u ≡ face_of_triangle t) ts t m.0 refl), m.1)))
