@@ -9,7 +9,7 @@ use Rattle.mesh_arena.specs.declared.slot.Corner.TheVariants.{Point, Ghost}
 use Rattle.mesh_arena.specs.declared.arena.SlotFace.{SlotFace}
 use Rattle.mesh_arena.specs.declared.edges.Edge.{Edge}
 use Rattle.mesh_arena.specs.declared.edges.Met.{Met}
-use Rattle.mesh_arena.specs.Edges.{corner_number, edge_between, Meetings, meeting_of, meetings_in, IsMet, IsUnmet, MeetsOnly}
+use Rattle.mesh_arena.specs.Edges.{corner_number, edge_of, edge_between, Meetings, meeting_of, meetings_in, IsMet, IsUnmet, MeetsOnly}
 
 -- what is of another round counts as nothing
 not_now : (round : ℕ) (m : Met) → m.round ≢ round → meeting_of round m ≡ None
@@ -58,6 +58,9 @@ MeetsOnly-set met round place e s m lt is e2 s2 is_met =
           let parts = some_pair_parts e e2 s s2 (sym (get_or-set_same (meetings_in met round) place (Some (e, s)) None (omega (arith, lt, length-map met (meeting_of round)))) ∙ here) in
           inr (sym parts.0, sym parts.1)
     ]
+
+pub edge_of-numbers : (a b : ℕ) (x y : Corner) → a ≡ corner_number x → b ≡ corner_number y → edge_of a b ≡ edge_between x y
+edge_of-numbers a b x y is_a is_b = rw (is_a, is_b) refl
 
 same_number : (x y : Corner) → corner_number x ≡ corner_number y → x ≡ y
 same_number (Point i) (Point j) e = ap Point (omega arith)

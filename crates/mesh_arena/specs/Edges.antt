@@ -11,12 +11,12 @@ abbrev pub corner_number : Corner → ℕ
 corner_number (Point i) = i + 1
 corner_number Ghost = 0
 
+-- the edge between the corners with these numbers
+abbrev pub edge_of : ℕ → ℕ → Edge
+edge_of a b = record { low = min a b; high = max a b }
+
 abbrev pub edge_between : Corner → Corner → Edge
-edge_between x y =
-    record {
-      low = min (corner_number x) (corner_number y);
-      high = max (corner_number x) (corner_number y);
-    }
+edge_between x y = edge_of (corner_number x) (corner_number y)
 
 -- in each place of the table an edge and the face that it was met at, or nothing
 abbrev pub Meetings : Type 0

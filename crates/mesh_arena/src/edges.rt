@@ -1,40 +1,60 @@
 //! A table of the edges of a star, by which the two faces over an edge find one another.
 ghost use Rattle.std.specs.Prelude.{◌≡◌, IfSome};
-ghost use Rattle.mesh_arena.specs.Edges.{corner_number, edge_between, IsMet, IsUnmet, MeetsOnly};
+ghost use Rattle.mesh_arena.specs.Edges.{corner_number, edge_of, IsMet, IsUnmet, MeetsOnly};
 
 use crate::Corner;
 use crate::arena::SlotFace;
+use crate::rows::{ROWS, Rows};
 use std::alloc::Global;
 use std::marker::Model;
 
 /// The ends of an edge, by their numbers, the lesser first.
 #[derive(Clone, Copy, Debug, PartialEq, Eq)]
 pub(crate) struct Edge {
-    pub(crate) low: u32,
-    pub(crate) high: u32,
+    low: usize,
+    high: usize,
 }
 
-impl Edge {
-    // The edge between two corners; None where a point's number is the greatest of all.
-    pub(crate) fn between(a: Corner, b: Corner) -> Option<Self>
-        ensures { IfSome result (λ edge. edge ≡ edge_between a b) }
+/// An end of an edge: the number of the corner, and its row in the square, or ROWS if it has none.
+#[derive(Clone, Copy, Debug)]
+pub(crate) struct End {
+    number: usize,
+    row: usize,
+}
+
+/// An edge, and its place in the square, which is past the end of the square if it has none.
+#[derive(Clone, Copy, Debug)]
+pub(crate) struct EdgePlace {
+    pub(crate) edge: Edge,
+    place: usize,
+}
+
+impl EdgePlace {
+    // The edge between two ends. The edges between the first n rows lie before n times ROWS.
+    #[inline(always)]
+    pub(crate) fn between(a: End, b: End) -> Self
+        ensures { result.edge ≡ edge_of a.number b.number }
     {
-        let a = number_of(a)?;
-        let b = number_of(b)?;
-        Some(Edge {
-            low: a.min(b),
-            high: a.max(b),
-        })
+        let edge = Edge {
+            low: a.number.min(b.number),
+            high: a.number.max(b.number),
+        };
+        let (low, high) = (a.row.min(b.row), a.row.max(b.row));
+        EdgePlace {
+            edge,
+            place: high.wrapping_mul(ROWS).wrapping_add(low),
+        }
     }
 }
 
-// A number of its own for each corner, if there is one.
-fn number_of(corner: Corner) -> Option<u32>
-    ensures { IfSome result (λ number. number ≡ corner_number corner) }
+// A number of its own for each corner.
+#[inline(always)]
+fn number_of(corner: Corner) -> usize
+    ensures { result ≡ corner_number corner }
 {
     match corner {
-        Corner::Point(i) => i.checked_add(1),
-        Corner::Ghost => Some(0),
+        Corner::Point(i) => i as usize + 1,
+        Corner::Ghost => 0,
     }
 }
 
@@ -46,13 +66,15 @@ pub(crate) struct Met {
     round: u32,
 }
 
-/// An open table of edges, used in rounds: what an earlier round left counts as empty. Contracts
-/// see what each place has of this round.
+/// A table of edges, used in rounds: what an earlier round left counts as empty. An edge whose ends
+/// have rows has a place in a square of rows, and another is sought by a hash, in open addressing.
+/// Contracts see what each place has of this round.
 #[derive(Debug, Drop)]
 pub(crate) struct EdgeTable {
     met: Vec<Met>,
     // From 1.
     round: u32,
+    rows: Rows,
 }
 
 impl Model for EdgeTable {
@@ -73,6 +95,7 @@ impl EdgeTable {
         EdgeTable {
             met: Vec::new(alloc),
             round: 1,
+            rows: Rows::new(alloc),
         }
     }
 
@@ -103,20 +126,58 @@ impl EdgeTable {
         }
     }
 
-    /// Begins a round for this many edges. Where there is no memory for them the table stays as
-    /// large as it is.
-    pub(crate) fn start(&mut self, edges: usize)
+    /// Begins a round for the edges of a rim of this many faces, in a mesh of this many slots. Where
+    /// there is no memory for the edges the table stays as large as it is.
+    pub(crate) fn start(&mut self, faces: usize, slots: usize)
         ensures { IsUnmet self.new }
     {
         self.next_round();
-        if let Some(len) = edges.saturating_mul(2).checked_next_power_of_two() {
+        let (rows, places) = room_for(faces);
+        self.rows.start(rows, slots);
+        if let Some(len) = places.checked_next_power_of_two() {
             self.grow(len);
         }
     }
 
+    /// The end of an edge at this corner.
+    #[inline(always)]
+    pub(crate) fn end(&mut self, corner: Corner) -> End
+        ensures number { result.number ≡ corner_number corner }
+        ensures met { self.new ≡ self.old }
+    {
+        let number = number_of(corner);
+        let row = self.rows.row_of(number);
+        End { number, row }
+    }
+
     /// The face that this edge was met at before in this round. Where there is none, the edge is
     /// met at `face` from now on, if a place is free for it.
-    pub(crate) fn meet(&mut self, edge: Edge, face: SlotFace) -> Option<SlotFace>
+    #[inline(always)]
+    pub(crate) fn meet(&mut self, at: EdgePlace, face: SlotFace) -> Option<SlotFace>
+        ensures found { IfSome result (λ s. IsMet self.old at.edge s) }
+        ensures only { MeetsOnly self.old self.new at.edge face }
+    {
+        let EdgePlace { edge, place } = at;
+        if place < self.met.len() {
+            let met = self.met[place];
+            if met.round != self.round {
+                self.met[place] = Met {
+                    edge,
+                    at: face,
+                    round: self.round,
+                };
+                return None;
+            }
+            if met.edge == edge {
+                return Some(met.at);
+            }
+        }
+        self.probe(edge, face)
+    }
+
+    // The same by a hash, where the place in the square is of another edge or there is none.
+    #[inline(never)]
+    fn probe(&mut self, edge: Edge, face: SlotFace) -> Option<SlotFace>
         ensures found { IfSome result (λ s. IsMet self.old edge s) }
         ensures only { MeetsOnly self.old self.new edge face }
     {
@@ -147,8 +208,19 @@ impl EdgeTable {
     }
 }
 
+// How many rows and places the edges of a rim of so many faces have. The boundary of a ball has half
+// as many corners as faces, and two more.
+fn room_for(faces: usize) -> (usize, usize) {
+    let corners = faces / 2 + 2;
+    if corners <= ROWS {
+        (ROWS, corners * ROWS)
+    } else {
+        (0, faces.saturating_mul(4))
+    }
+}
+
 // Fibonacci hashing of the two ends.
 fn hash(edge: Edge) -> usize {
-    let both = u64::from(edge.low) << 32 | u64::from(edge.high);
-    (both.wrapping_mul(0x9e37_79b9_7f4a_7c15) >> 32) as usize
+    let both = edge.low.wrapping_mul(1 << 32) ^ edge.high;
+    both.wrapping_mul(0x9e37_79b9_7f4a_7c15) >> 32
 }

@@ -10,6 +10,7 @@ mod arena;
 mod cell;
 mod cut;
 mod edges;
+mod rows;
 mod slot;
 mod star;
 mod surgery;

@@ -10,7 +10,7 @@ ghost use Rattle.mesh_arena.specs.StarLinks.{IsStar, ArePaired, Mate, LinksFace,
 ghost use Rattle.mesh_arena.specs.StarLinks.{IsOverEdge, AreOverEdges};
 
 use crate::arena::{Arena, SlotFace};
-use crate::edges::{Edge, EdgeTable};
+use crate::edges::{Edge, EdgePlace, EdgeTable};
 use crate::slot::{corner_at, other_places};
 use crate::star::StarSlot;
 use crate::{Cavity, Corner, Rim, RimFace, Slot};
@@ -158,26 +158,23 @@ impl Arena {
     }
 
     // Links a face of the star with the one that was met at the same edge.
+    #[inline(always)]
     fn link_at_edge(
         &mut self,
         rim: &[RimFace],
         point: u32,
-        edge: Option<Edge>,
+        at: EdgePlace,
         face: SlotFace,
         table: &mut EdgeTable,
     )
         requires star { IsStar self.old.slots rim.now (Corner.Point point) }
-        requires over { IfSome edge
-            (λ e. IsOverEdge self.old.slots rim.now (Corner.Point point) e face) }
+        requires over { IsOverEdge self.old.slots rim.now (Corner.Point point) at.edge face }
         requires met { AreOverEdges self.old.slots rim.now (Corner.Point point) table.old }
         ensures links { LinksStar self.old.slots self.new.slots rim.now (Corner.Point point) 0 }
         ensures met { AreOverEdges self.new.slots rim.now (Corner.Point point) table.new }
     {
-        let Some(edge) = edge else {
-            return;
-        };
-        if let Some(other) = table.meet(edge, face) {
-            self.link_mates(rim, point, edge, face, other);
+        if let Some(other) = table.meet(at, face) {
+            self.link_mates(rim, point, at.edge, face, other);
         }
     }
 
@@ -199,42 +196,30 @@ impl Arena {
     {
         let _ = &self.cells;
         let (i, j, k) = other_places(one.face);
-        let x = corner_at(one.corners, i);
-        let y = corner_at(one.corners, j);
-        let z = corner_at(one.corners, k);
+        let x = table.end(corner_at(one.corners, i));
+        let y = table.end(corner_at(one.corners, j));
+        let z = table.end(corner_at(one.corners, k));
+        let (yz, xz, xy) = (
+            EdgePlace::between(y, z),
+            EdgePlace::between(x, z),
+            EdgePlace::between(x, y),
+        );
         let slot = one.slot;
-        self.link_at_edge(
-            rim,
-            point,
-            Edge::between(y, z),
-            SlotFace { slot, face: i },
-            table,
-        );
-        self.link_at_edge(
-            rim,
-            point,
-            Edge::between(x, z),
-            SlotFace { slot, face: j },
-            table,
-        );
-        self.link_at_edge(
-            rim,
-            point,
-            Edge::between(x, y),
-            SlotFace { slot, face: k },
-            table,
-        );
+        self.link_at_edge(rim, point, yz, SlotFace { slot, face: i }, table);
+        self.link_at_edge(rim, point, xz, SlotFace { slot, face: j }, table);
+        self.link_at_edge(rim, point, xy, SlotFace { slot, face: k }, table);
     }
 
     // Links the faces of the star that find one another by their edges on the rim, in time linear
     // in the rim.
+    #[inline(never)]
     fn link_edges(&mut self, rim: &[RimFace], point: u32, star: &[StarSlot], table: &mut EdgeTable)
         requires star { IsStar self.old.slots rim.now (Corner.Point point) }
         requires over { AreOverRim self.old.slots rim.now star.now }
         requires len { length star.now ≡ length rim.now }
         ensures { LinksStar self.old.slots self.new.slots rim.now (Corner.Point point) 0 }
     {
-        table.start(rim.len().saturating_mul(2));
+        table.start(rim.len(), self.cells.len());
         for r in 0..rim.len() {
             self.link_slot(rim, point, r, star[r], table);
         }

@@ -1,15 +1,18 @@
-use Rattle.std.proofs.Common.{arith}
-use Rattle.std.proofs.lemmas.Option.{IfSome_then}
+use Rattle.std.proofs.Common.{◌≡◌, ◌∙◌, arith}
 use Rattle.mesh_arena.specs.declared.slot.Corner.TheVariants.{Point}
+use Rattle.mesh_arena.specs.Edges.{edge_between}
+use Rattle.mesh_arena.proofs.EdgeTable.{edge_of-numbers}
 use Rattle.mesh_arena.proofs.Pairs.{LinksStar-then}
 use Rattle.mesh_arena.proofs.StarEdges.{turned, opposite, first_last, StandsOver-along, IsOverEdge-face}
 use Rattle.mesh_arena.proofs.arena.Arena.link_slot.Goals as goal
 
 pub link_at_edge-requires-clause-over : goal.link_at_edge-requires-clause-over
 link_at_edge-requires-clause-over c =
-    IfSome_then c.between.result c.between.ensures (λ e is.
+    let e = c.between-yz.result.edge in
+    let is : e ≡ edge_between c.corner_at-2.result c.corner_at-3.result =
+    c.between-yz.ensures ∙ edge_of-numbers _ _ _ _ c.end-y.ensures.number c.end-z.ensures.number in
     IsOverEdge-face _ c.args.rim.now (Point c.args.point) c.requires.star c.args.r c.args.one _ _ _ _ _ e c.requires.inside c.requires.over
-    (opposite _ _ _ _ c.other_places-i.ensures) c.corner_at-y.ensures c.corner_at-z.ensures is)
+    (opposite _ _ _ _ c.other_places-i.ensures) c.corner_at-2.ensures c.corner_at-3.ensures is
 
 pub link_at_edge-requires-2-clause-over : goal.link_at_edge-requires-2-clause-over
 link_at_edge-requires-2-clause-over c =
@@ -17,9 +20,11 @@ link_at_edge-requires-2-clause-over c =
     let point = Point c.args.point in
     let one = c.link_at_edge.ensures.links in
     let over = StandsOver-along slots _ c.args.rim.now point 0 c.requires.star one c.args.r c.args.one c.requires.inside c.requires.over in
-    IfSome_then c.between-2.result c.between-2.ensures (λ e is.
+    let e = c.between-xz.result.edge in
+    let is : e ≡ edge_between c.corner_at.result c.corner_at-3.result =
+    c.between-xz.ensures ∙ edge_of-numbers _ _ _ _ c.end-x.ensures.number c.end-z.ensures.number in
     IsOverEdge-face _ c.args.rim.now point one.star c.args.r c.args.one _ _ _ _ _ e c.requires.inside over
-    (opposite _ _ _ _ (first_last _ _ _ _ c.other_places-i.ensures)) c.corner_at-x.ensures c.corner_at-z.ensures is)
+    (opposite _ _ _ _ (first_last _ _ _ _ c.other_places-i.ensures)) c.corner_at.ensures c.corner_at-3.ensures is
 
 pub link_at_edge-requires-3-clause-over : goal.link_at_edge-requires-3-clause-over
 link_at_edge-requires-3-clause-over c =
@@ -29,14 +34,8 @@ link_at_edge-requires-3-clause-over c =
     let one = c.link_at_edge.ensures.links in
     let two = LinksStar-then slots _ _ rim point 0 0 c.requires.star (omega arith) one c.link_at_edge-2.ensures.links in
     let over = StandsOver-along slots _ rim point 0 c.requires.star two c.args.r c.args.one c.requires.inside c.requires.over in
-    IfSome_then c.between-3.result c.between-3.ensures (λ e is.
+    let e = c.between-xy.result.edge in
+    let is : e ≡ edge_between c.corner_at.result c.corner_at-2.result =
+    c.between-xy.ensures ∙ edge_of-numbers _ _ _ _ c.end-x.ensures.number c.end-y.ensures.number in
     IsOverEdge-face _ rim point two.star c.args.r c.args.one _ _ _ _ _ e c.requires.inside over
-    (opposite _ _ _ _ (first_last _ _ _ _ (turned _ _ _ _ c.other_places-i.ensures))) c.corner_at-x.ensures c.corner_at-y.ensures is)
-
-pub returns-clause-links : goal.returns-clause-links
-returns-clause-links c =
-    let slots = c.args.self.now.slots in
-    let rim = c.args.rim.now in
-    let point = Point c.args.point in
-    let two = LinksStar-then slots _ _ rim point 0 0 c.requires.star (omega arith) c.link_at_edge.ensures.links c.link_at_edge-2.ensures.links in
-    LinksStar-then slots _ _ rim point 0 0 c.requires.star (omega arith) two c.link_at_edge-3.ensures.links
+    (opposite _ _ _ _ (first_last _ _ _ _ (turned _ _ _ _ c.other_places-i.ensures))) c.corner_at.ensures c.corner_at-2.ensures is
