@@ -8,7 +8,7 @@ use Rattle.mesh_arena.specs.Mesh.{SlotValue, tet_at, corners_at, side, at, SameF
 use Rattle.mesh_arena.specs.declared.arena.SlotFace.{SlotFace}
 use Rattle.mesh_arena.specs.declared.slot.Corner.{Corner}
 use Rattle.mesh_arena.proofs.Mesh.{Writes, Writes-set, Links-writes, IsMesh-links, side_live, lone, Puts, Puts-set, Puts-push, Takes-puts, IsMesh-takes}
-use Rattle.mesh_arena.specs.Cells.{corners_in, sides_in, live_in, tet_in, tet_of, next_of, IsFreeList, most_cells, IsCounted, IsSound}
+use Rattle.mesh_arena.specs.Cells.{cell_corners, sides_in, live_in, tet_in, tet_of, IsBare, next_of, IsFreeList, most_cells, IsCounted, IsSound}
 
 -- the count of a cell
 abbrev one_if : Bool → ℕ
@@ -233,17 +233,8 @@ live_from_side slots s i shaped some = by_side (side slots s i) refl some
     by_side None is some = absurd (true≢false (sym some))
     by_side (Some b) is some = side_live slots s i b shaped is
 
--- a live cell with these corners and no neighbor
-pub record IsFresh (c : Cell) (cs : List Corner) : Type 0 where
-  pub live : live_in c ≡ true
-  pub corners : corners_in c.points c.links ≡ cs
-  pub sides : sides_in c.links ≡ None ∷ None ∷ None ∷ None ∷ []
-
-tet_of-fresh : (c : Cell) (cs : List Corner) → IsFresh c cs → tet_of c ≡ Some (lone cs)
-tet_of-fresh c cs fresh = tet_of-live c fresh.live ∙ ap Some (by_parts fresh.corners fresh.sides)
-  where
-    by_parts : {xs : List Corner} {ys : List (Option SlotFace)} → xs ≡ cs → ys ≡ None ∷ None ∷ None ∷ None ∷ [] → ◌≡◌ {A = SlotValue} (record { corners = xs; sides = ys }) (lone cs)
-    by_parts e f = rw (e, f) refl
+tet_of-bare : (c : Cell) → IsBare c → tet_of c ≡ Some (lone (cell_corners c))
+tet_of-bare c bare = tet_of-live c bare.live ∙ ap (λ (sides : List (Option SlotFace)). Some (record { corners = cell_corners c; sides = sides })) bare.sides
 
 pub record Took (cells new : List Cell) (live next s : ℕ) (cs : List Corner) : Type 0 where
   pub sound : IsSound new live next
@@ -265,17 +256,18 @@ some_tet : (o : Option SlotValue) → IsSome o → option_map (λ (t : SlotValue
 some_tet None some e = true≢false (sym some)
 some_tet (Some t) some e = cc
 
-pub Took-push : (cells : List Cell) (live next : ℕ) (cs : List Corner) (new : Cell) → IsSound cells live next → next ≡ length cells → length cells < most_cells → length cs ≡ 4 → AllDiffer cs → IsFresh new cs → Took cells (cells ++ new ∷ []) (live + 1) (next + 1) next cs
-Took-push cells live next cs new sound at_end room four differ fresh =
+pub Took-push : (cells : List Cell) (live next : ℕ) (new : Cell) → IsSound cells live next → next ≡ length cells → length cells < most_cells → AllDiffer (cell_corners new) → IsBare new → Took cells (cells ++ new ∷ []) (live + 1) (next + 1) next (cell_corners new)
+Took-push cells live next new sound at_end room differ bare =
+    let cs = cell_corners new in
     let end : next ≡ length (map tet_of cells) = omega (arith, length-map cells tet_of) in
     let puts : Puts (map tet_of cells) (map tet_of (cells ++ new ∷ [])) next (Some (lone cs)) =
-    rw (map_push tet_of cells new, tet_of-fresh new cs fresh, end) (Puts-push (map tet_of cells) (Some (lone cs))) in
+    rw (map_push tet_of cells new, tet_of-bare new bare, end) (Puts-push (map tet_of cells) (Some (lone cs))) in
     let longer = length_push cells new in
     let full = full_at_end cells live next sound.counted at_end in
     let all : (u : ℕ) → u < length (map tet_of cells) → corners_at (map tet_of cells) u ≡ None → next < length (map tet_of cells) = λ u lt free. absurd (none_free cells live next u sound.counted full (omega (arith, length-map cells tet_of)) free) in
     let takes = Takes-puts _ _ next cs puts (rw end (get_or_past (map tet_of cells) (length (map tet_of cells)) None (omega arith))) all (λ lt. absurd (omega arith)) (λ le. (end, omega (arith, length-map cells tet_of, length-map (cells ++ new ∷ []) tet_of))) in
     record {
-      sound = record { counted = IsCounted-push cells live next new sound.counted at_end fresh.live; small = omega (arith, length_push cells new); mesh = IsMesh-takes _ _ next cs sound.mesh puts four differ takes };
+      sound = record { counted = IsCounted-push cells live next new sound.counted at_end bare.live; small = omega (arith, length_push cells new); mesh = IsMesh-takes _ _ next cs sound.mesh puts bare.corners differ takes };
       takes = takes;
     }
   where
@@ -284,8 +276,9 @@ Took-push cells live next cs new sound at_end room four differ fresh =
         let some = all_some (map tet_of cells) u (omega (arith, counted.counted, length-map cells tet_of)) (omega (arith, length-map cells tet_of)) in
         absurd (some_tet (tet_at (map tet_of cells) u) some free)
 
-pub Took-fill : (cells : List Cell) (live next : ℕ) (cs : List Corner) (old new : Cell) → IsSound cells live next → next ≢ length cells → old ≡ get_or cells next old → length cs ≡ 4 → AllDiffer cs → IsFresh new cs → Took cells (set cells next new) (live + 1) (next_of old) next cs
-Took-fill cells live next cs old new sound before read four differ fresh =
+pub Took-fill : (cells : List Cell) (live next : ℕ) (old new : Cell) → IsSound cells live next → next ≢ length cells → old ≡ get_or cells next old → AllDiffer (cell_corners new) → IsBare new → Took cells (set cells next new) (live + 1) (next_of old) next (cell_corners new)
+Took-fill cells live next old new sound before read differ bare =
+    let cs = cell_corners new in
     let free = free_before_end cells live next sound.counted before in
     let within : next < length cells = slice_get_within cells next _ free.1 in
     let found : slice_get cells next ≡ Some old = slice_get-get_or cells next old within ∙ ap Some (sym read) in
@@ -293,11 +286,11 @@ Took-fill cells live next cs old new sound before read four differ fresh =
     let dead : live_in old ≡ false = ap live_in (sym same) ∙ free.2 in
     let inside : next < length (map tet_of cells) = omega (arith, length-map cells tet_of) in
     let puts : Puts (map tet_of cells) (map tet_of (set cells next new)) next (Some (lone cs)) =
-    rw (map-set tet_of cells next new, tet_of-fresh new cs fresh) (Puts-set (map tet_of cells) next (Some (lone cs)) inside) in
+    rw (map-set tet_of cells next new, tet_of-bare new bare) (Puts-set (map tet_of cells) next (Some (lone cs)) inside) in
     let was : tet_at (map tet_of cells) next ≡ None = get_or-map tet_of cells next old None within ∙ ap tet_of (sym read) ∙ tet_of-free old dead in
     let takes = Takes-puts _ _ next cs puts was (λ u lt e. inside) (λ lt. omega (arith, length-map cells tet_of, length-map (set cells next new) tet_of, length-set cells next new)) (λ le. absurd (omega arith)) in
     record {
-      sound = record { counted = IsCounted-fill cells live next old new sound.counted found fresh.live; small = omega (arith, sound.small, length-set cells next new); mesh = IsMesh-takes _ _ next cs sound.mesh puts four differ takes };
+      sound = record { counted = IsCounted-fill cells live next old new sound.counted found bare.live; small = omega (arith, sound.small, length-set cells next new); mesh = IsMesh-takes _ _ next cs sound.mesh puts bare.corners differ takes };
       takes = takes;
     }
 

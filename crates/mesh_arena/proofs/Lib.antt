@@ -1,5 +1,6 @@
 pub mod Cells
 pub mod CellSides
+pub mod ConeCell
 pub mod Mesh
 pub mod Cone
 pub mod AddStar

@@ -87,6 +87,7 @@ module _ (A : List (Option SlotValue)) (cavity : List Slot) (rim : List RimFace)
             live = outer_live_F;
             below = λ r h. (faces_below A _ _ (behind_rim A rim r) mesh_A (edge.has r h)).0;
             free = cuts.outer;
+            bare = plans.bare;
             once = edge.once;
             face = λ r h. rw (plans.face r h) (faces_below A _ _ (behind_rim A rim r) mesh_A (edge.has r h)).1;
             differ = λ r h. subst AllDiffer (sym (planned r h)) (cone_differ A _ _ (behind_rim A rim r) p (inner_corners r h).0 mesh_A (edge.has r h) (off r h) (inner_corners r h).1);

@@ -8,7 +8,8 @@ use Rattle.mesh_arena.specs.declared.arena.SlotFace.{SlotFace}
 use Rattle.mesh_arena.specs.declared.edges.Edge.{Edge}
 use Rattle.mesh_arena.specs.declared.slot.RimFace.{RimFace}
 use Rattle.mesh_arena.specs.declared.star.StarSlot.{StarSlot}
-use Rattle.mesh_arena.specs.Mesh.{SlotValue, corner_in, corner_list, corner, side, at, SameFace, IsMesh, Links}
+use Rattle.mesh_arena.specs.Mesh.{SlotValue, corner_in, corner, side, at, SameFace, IsMesh, Links}
+use Rattle.mesh_arena.specs.Cells.{cell_corners}
 use Rattle.mesh_arena.specs.Star.{behind, behind_rim}
 use Rattle.mesh_arena.specs.StarLinks.{Places, IsStar, LinksStar, IsOverEdge, AreOverEdges}
 use Rattle.mesh_arena.specs.Surgery.{no_slot, star_at, AddsStar, StandsOver, AreOverRim}
@@ -68,9 +69,10 @@ AreOverEdges-met slots rim p old new e s only here before e2 s2 met =
     ]
 
 -- a face of the slot over the face r
-pub IsOverEdge-face : (slots : List (Option SlotValue)) (rim : List RimFace) (p : Corner) → IsStar slots rim p → (r : ℕ) (s : StarSlot) (k a b : ℕ) (x y : Corner) (e : Edge) → r < length rim → StandsOver slots rim r s → Places k s.face a b → x ≡ get_or (corner_list s.corners) a Ghost → y ≡ get_or (corner_list s.corners) b Ghost → e ≡ edge_between x y → IsOverEdge slots rim p e (at s.slot k)
-IsOverEdge-face slots rim p star r s k a b x y e lt over places is_x is_y is_e =
-    let at_s : (m : ℕ) → corner slots s.slot m ≡ get_or (corner_list s.corners) m Ghost = λ m. ap (λ (o : Option (List Corner)). corner_in o m) over.corners in
+pub IsOverEdge-face : (slots : List (Option SlotValue)) (rim : List RimFace) (p : Corner) → IsStar slots rim p → (r : ℕ) (s : StarSlot) (k a b : ℕ) (e : Edge) → r < length rim → StandsOver slots rim r s → Places k s.face a b → e ≡ edge_between (get_or (cell_corners s.cell) a Ghost) (get_or (cell_corners s.cell) b Ghost) → IsOverEdge slots rim p e (at s.slot k)
+IsOverEdge-face slots rim p star r s k a b e lt over places is =
+    let corners = cell_corners s.cell in
+    let at_s : (m : ℕ) → corner slots s.slot m ≡ get_or corners m Ghost = λ m. ap (λ (o : Option (List Corner)). corner_in o m) over.corners in
     record {
       over = r;
       inside = lt;
@@ -80,7 +82,7 @@ IsOverEdge-face slots rim p star r s k a b x y e lt over places is_x is_y is_e =
       second = b;
       places = places;
       point = ap (λ n. corner slots n s.face) over.slot ∙ ap (corner slots (behind_rim slots rim r).slot) over.face ∙ star.apex r lt;
-      ends = ap (λ (z : Corner). edge_between z (corner slots s.slot b)) (at_s a ∙ sym is_x) ∙ ap (edge_between x) (at_s b ∙ sym is_y) ∙ sym is_e;
+      ends = ap (λ (x : Corner). edge_between x (corner slots s.slot b)) (at_s a) ∙ ap (edge_between (get_or corners a Ghost)) (at_s b) ∙ sym is;
     }
 
 module _ (slots : List (Option SlotValue)) (rim : List RimFace) (p : Corner) (mesh : IsMesh slots) (star : IsStar slots rim p) where

@@ -1,5 +1,5 @@
 -- How an `Arena` lays out its slots. No public clause cites this module.
-use Rattle.std.specs.Prelude.{◌≡◌, ℕ, Bool, false, not, zero, suc, ◌+◌, ◌-◌, ◌*◌, ◌/◌, ◌%◌, ◌≤◌, ◌==◌, min, List, [], ◌∷◌, map, length, Option, Some, None, is_some}
+use Rattle.std.specs.Prelude.{◌≡◌, ℕ, Bool, true, false, not, zero, suc, ◌+◌, ◌-◌, ◌/◌, ◌%◌, ◌≤◌, ◌==◌, min, List, [], ◌∷◌, map, length, Option, Some, None, is_some}
 use Rattle.std.specs.Prelude.{count_by, slice_get, slice_index_or, nat_lt, if◌then◌else◌}
 use Rattle.mesh_arena.specs.declared.cell.Cell.{Cell}
 use Rattle.mesh_arena.specs.declared.arena.SlotFace.{SlotFace}
@@ -23,10 +23,6 @@ face_in link = link % 8
 abbrev pub is_infinite : ℕ → Bool
 is_infinite link = (link / 8) % 2 == 1
 
--- the link with these parts
-abbrev pub link_with : ℕ → Bool → ℕ → ℕ
-link_with slot infinite face = slot * 16 + (if infinite then 8 else 0) + face
-
 -- the corner with this number and link
 abbrev pub corner_with : ℕ → ℕ → Corner
 corner_with number link = if is_infinite link then Ghost else Point number
@@ -35,6 +31,9 @@ abbrev pub corners_in : List ℕ → List ℕ → List Corner
 corners_in [] links = []
 corners_in (number ∷ numbers) [] = []
 corners_in (number ∷ numbers) (link ∷ links) = corner_with number link ∷ corners_in numbers links
+
+abbrev pub cell_corners : Cell → List Corner
+cell_corners c = corners_in c.points c.links
 
 -- the slot and face behind a face, if there is one
 abbrev pub side_to : ℕ → Option SlotFace
@@ -49,6 +48,12 @@ tet_in c = record { corners = corners_in c.points c.links; sides = sides_in c.li
 -- whether the cell is live
 abbrev pub live_in : Cell → Bool
 live_in c = not (face_in (slice_index_or c.links 0 0) == 5)
+
+-- a live cell with four corners and no neighbor
+pub record IsBare (c : Cell) : Type 0 where
+  pub live : live_in c ≡ true
+  pub corners : length (cell_corners c) ≡ 4
+  pub sides : sides_in c.links ≡ None ∷ None ∷ None ∷ None ∷ []
 
 -- the next free cell, where this one is free
 abbrev pub next_of : Cell → ℕ

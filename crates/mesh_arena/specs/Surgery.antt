@@ -1,28 +1,29 @@
 -- The steps of a surgery. The corners of the star are read while the cavity stands. Then the cavity is cut out, and the star is put over
 -- the rim, first in the places that were freed last.
-use Rattle.std.specs.Prelude.{◌≡◌, ◌≢◌, ℕ, ◌<◌, ◌⊎◌, List, length, Option, Some, None, slice_index_or, slice_set, option_map}
+use Rattle.std.specs.Prelude.{◌≡◌, ◌≢◌, ℕ, ◌<◌, ◌⊎◌, List, [], length, Option, Some, None, slice_index_or, slice_set, option_map}
 use Rattle.mesh_arena.specs.declared.slot.Corner.{Corner}
-use Rattle.mesh_arena.specs.declared.slot.Corner.TheVariants.{Point}
 use Rattle.mesh_arena.specs.declared.slot.RimFace.{RimFace}
 use Rattle.mesh_arena.specs.declared.star.StarSlot.{StarSlot}
-use Rattle.mesh_arena.specs.Mesh.{SlotValue, corners_at, corner_list, IsLive, side, at, OnFace, Off, AllDiffer}
+use Rattle.mesh_arena.specs.Mesh.{SlotValue, corners_at, IsLive, side, at, OnFace, Off, AllDiffer}
+use Rattle.mesh_arena.specs.Cells.{cell_corners, IsBare}
 use Rattle.mesh_arena.specs.Star.{rim_at, face_side, behind_rim}
 use Rattle.mesh_arena.specs.StarLinks.{Has}
 
 -- past the end of a list
 abbrev pub no_slot : StarSlot
-no_slot = record { corners = record { a = Point 0; b = Point 0; c = Point 0; d = Point 0 }; face = 0; slot = 0 }
+no_slot = record { cell = record { points = []; links = [] }; face = 0; slot = 0 }
 
 abbrev pub star_at : List StarSlot → ℕ → StarSlot
 star_at star r = slice_index_or star r no_slot
 
 -- the corners of the slot that is to stand over the face r
 abbrev pub star_corners : List StarSlot → ℕ → List Corner
-star_corners star r = corner_list (star_at star r).corners
+star_corners star r = cell_corners (star_at star r).cell
 
--- a slot for each of the first n faces: it has the corners of the slot behind the face, p in place of the corner opposite it
+-- a slot for each of the first n faces, with no neighbor: it has the corners of the slot behind the face, p in place of the corner opposite it
 pub record Plans (slots : List (Option SlotValue)) (rim : List RimFace) (p : Corner) (star : List StarSlot) (n : ℕ) : Type 0 where
   pub len : length star ≡ n
+  pub bare : (r : ℕ) → r < n → IsBare (star_at star r).cell
   pub face : (r : ℕ) → r < n → (star_at star r).face ≡ (behind_rim slots rim r).face
   pub corners : (r : ℕ) → r < n
       → Some (star_corners star r) ≡ option_map
@@ -49,6 +50,7 @@ pub record CanAdd (slots : List (Option SlotValue)) (rim : List RimFace) (star :
   pub free : (r : ℕ) → r < length rim → face_side slots (rim_at rim r) ≡ None
   pub once : (r q : ℕ) → r < length rim → q < length rim → (rim_at rim r).slot.index ≡ (rim_at rim q).slot.index
       → (rim_at rim r).face ≡ (rim_at rim q).face → r ≡ q
+  pub bare : (r : ℕ) → r < length rim → IsBare (star_at star r).cell
   pub face : (r : ℕ) → r < length rim → (star_at star r).face < 4
   pub differ : (r : ℕ) → r < length rim → AllDiffer (star_corners star r)
   pub fits : (r : ℕ) → r < length rim
@@ -74,7 +76,7 @@ pub record AddsStar (old new : List (Option SlotValue)) (rim : List RimFace) (st
 pub record StandsOver (slots : List (Option SlotValue)) (rim : List RimFace) (r : ℕ) (s : StarSlot) : Type 0 where
   pub slot : s.slot ≡ (behind_rim slots rim r).slot
   pub face : s.face ≡ (behind_rim slots rim r).face
-  pub corners : corners_at slots s.slot ≡ Some (corner_list s.corners)
+  pub corners : corners_at slots s.slot ≡ Some (cell_corners s.cell)
 
 abbrev pub AreOverRim : List (Option SlotValue) → List RimFace → List StarSlot → Type 0
 AreOverRim slots rim star = (r : ℕ) → r < length rim → StandsOver slots rim r (star_at star r)

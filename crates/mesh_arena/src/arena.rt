@@ -4,6 +4,7 @@ ghost use Rattle.std.specs.Prelude.{None, IsSome, IfSome, IsOk, IfOk, OnOk, OnEr
 ghost use Rattle.std.specs.Prelude.{option_map, vec_capacity};
 ghost use Rattle.mesh_arena.specs.Mesh.{tet_at, corners_at, IsLive, at, side, corner_list};
 ghost use Rattle.mesh_arena.specs.Mesh.{AllDiffer, SameFace, IsMesh, Links, Takes};
+ghost use Rattle.mesh_arena.specs.Cells.{cell_corners, IsBare};
 ghost use Rattle.mesh_arena.specs.Replace.{IsCavity, IsRim};
 ghost use Rattle.mesh_arena.specs.Cut.{Cuts};
 
@@ -228,18 +229,18 @@ impl Arena {
         ensures succeeds { 0 < self.old.spare → IsOk result }
     {
         self.reserve(1)?;
-        let index = self.take_slot(corners);
+        let index = self.take_slot(Cell::new(corners));
         Ok(Slot { index })
     }
 
     // `alloc_slot` where there is room.
-    pub(crate) fn take_slot(&mut self, corners: SlotCorners) -> u32
-        requires differ { AllDiffer (corner_list corners) }
+    pub(crate) fn take_slot(&mut self, cell: Cell) -> u32
+        requires bare { IsBare cell }
+        requires differ { AllDiffer (cell_corners cell) }
         requires room { 0 < self.old.room }
-        ensures takes { Takes self.old.slots self.new.slots result (corner_list corners) }
+        ensures takes { Takes self.old.slots self.new.slots result (cell_corners cell) }
         ensures room { self.new.room + 1 ≡ self.old.room }
     {
-        let cell = Cell::new(corners);
         let place = self.next;
         self.spare = self.spare.saturating_sub(1);
         self.live += 1;

@@ -1,10 +1,12 @@
 //! How a slot lies in memory: 32 bytes, so that two lie in each line of the near cache.
-ghost use Rattle.std.specs.Prelude.{◌≡◌, ℕ, ◌<◌, ◌^◌, IsTrue, true, false, [], ◌∷◌, Some, None};
-ghost use Rattle.std.specs.Prelude.{IsSome, slice_index_or, if◌then◌else◌};
+ghost use Rattle.std.specs.Prelude.{◌≡◌, ℕ, ◌<◌, ◌^◌, IsTrue, true, false, Some, None};
+ghost use Rattle.std.specs.Prelude.{IsSome, slice_index_or, slice_set};
 ghost use Rattle.mesh_arena.specs.declared.slot.Corner.TheVariants.{Ghost as Infinite};
 ghost use Rattle.mesh_arena.specs.Mesh.{corner_list, at, tet_with};
 ghost use Rattle.mesh_arena.specs.Cells.{number_in, corners_in, corner_with, sides_in, side_to};
 ghost use Rattle.mesh_arena.specs.Cells.{is_infinite, slot_in, face_in, live_in, tet_in, next_of};
+ghost use Rattle.mesh_arena.specs.Cells.{cell_corners, IsBare};
+ghost use Rattle.mesh_arena.specs.Edges.{corner_number};
 
 use crate::arena::SlotFace;
 use crate::{Corner, SlotCorners};
@@ -39,6 +41,15 @@ fn bare(corner: Corner) -> u32
     }
 }
 
+// The link with nothing behind its face.
+fn unlinked(link: u32) -> u32
+    ensures infinite { is_infinite result ≡ is_infinite link }
+    ensures side { side_to result ≡ None }
+    ensures face { face_in result ≡ 4 }
+{
+    link / INFINITE % 2 * INFINITE + NO_FACE
+}
+
 // The link with another slot and face.
 fn linked(link: u32, slot: u32, face: u32) -> u32
     requires slot { slot < 2 ^ 28 }
@@ -51,17 +62,31 @@ fn linked(link: u32, slot: u32, face: u32) -> u32
 }
 
 impl Cell {
-    // A live cell with these corners and no neighbor.
+    // A cell with these corners and no neighbor.
     pub(crate) fn new(corners: SlotCorners) -> Self
-        ensures live { live_in result ≡ true }
-        ensures corners { corners_in result.points result.links ≡ corner_list corners }
-        ensures sides { sides_in result.links ≡ None ∷ None ∷ None ∷ None ∷ [] }
+        ensures bare { IsBare result }
+        ensures corners { cell_corners result ≡ corner_list corners }
     {
         let SlotCorners { a, b, c, d } = corners;
         Cell {
             points: [number_of(a), number_of(b), number_of(c), number_of(d)],
             links: [bare(a), bare(b), bare(c), bare(d)],
         }
+    }
+
+    // A cell with no neighbor that has a point in this place, and else these corners.
+    pub(crate) fn cone(&self, place: u8, point: u32) -> Self
+        requires { place < 4 }
+        ensures bare { IsBare result }
+        ensures corners { cell_corners result
+            ≡ slice_set (cell_corners self.now) place (Corner.Point point) }
+    {
+        let mut points = self.points;
+        let [i, j, k, l] = self.links;
+        let mut links = [unlinked(i), unlinked(j), unlinked(k), unlinked(l)];
+        points[place as usize] = point;
+        links[place as usize] = NO_FACE;
+        Cell { points, links }
     }
 
     // Whether the cell is no free one.
@@ -83,6 +108,20 @@ impl Cell {
             corner_of(c, k),
             corner_of(d, l),
         ]
+    }
+
+    // A number of its own for the corner in a place.
+    #[inline(always)]
+    pub(crate) fn number(&self, place: u8) -> usize
+        requires { place < 4 }
+        ensures { result
+            ≡ corner_number (slice_index_or (cell_corners self.now) place Corner.Ghost) }
+    {
+        if self.links[place as usize] / INFINITE % 2 == 1 {
+            0
+        } else {
+            self.points[place as usize] as usize + 1
+        }
     }
 
     // The slot and face behind a face, if they are there.

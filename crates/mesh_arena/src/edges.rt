@@ -1,8 +1,7 @@
 //! A table of the edges of a star, by which the two faces over an edge find one another.
 ghost use Rattle.std.specs.Prelude.{◌≡◌, IfSome};
-ghost use Rattle.mesh_arena.specs.Edges.{corner_number, edge_of, IsMet, IsUnmet, MeetsOnly};
+ghost use Rattle.mesh_arena.specs.Edges.{edge_of, IsMet, IsUnmet, MeetsOnly};
 
-use crate::Corner;
 use crate::arena::SlotFace;
 use crate::rows::{ROWS, Rows};
 use std::alloc::Global;
@@ -44,17 +43,6 @@ impl EdgePlace {
             edge,
             place: high.wrapping_mul(ROWS).wrapping_add(low),
         }
-    }
-}
-
-// A number of its own for each corner.
-#[inline(always)]
-fn number_of(corner: Corner) -> usize
-    ensures { result ≡ corner_number corner }
-{
-    match corner {
-        Corner::Point(i) => i as usize + 1,
-        Corner::Ghost => 0,
     }
 }
 
@@ -139,13 +127,12 @@ impl EdgeTable {
         }
     }
 
-    /// The end of an edge at this corner.
+    /// The end of an edge at the corner with this number.
     #[inline(always)]
-    pub(crate) fn end(&mut self, corner: Corner) -> End
-        ensures number { result.number ≡ corner_number corner }
+    pub(crate) fn end(&mut self, number: usize) -> End
+        ensures number { result.number ≡ number }
         ensures met { self.new ≡ self.old }
     {
-        let number = number_of(corner);
         let row = self.rows.row_of(number);
         End { number, row }
     }

@@ -1,6 +1,5 @@
 //! Corners and slots, and the lists of them that surgery takes.
-ghost use Rattle.std.specs.Prelude.{◌≡◌, ◌<◌, ◌↔◌, IsTrue, slice_set, slice_index_or};
-ghost use Rattle.mesh_arena.specs.Mesh.{corner_list};
+ghost use Rattle.std.specs.Prelude.{◌<◌, ◌↔◌, IsTrue};
 ghost use Rattle.mesh_arena.specs.StarLinks.{CornerValue, Has, Places};
 
 use tet_ports::Items;
@@ -65,28 +64,6 @@ pub(crate) fn covers(a: &[Corner; 4], i: u8, b: &[Corner; 4], j: u8) -> bool
         }
     }
     true
-}
-
-// The corners with another one at this place.
-pub(crate) fn with_corner(corners: SlotCorners, place: u8, to: Corner) -> SlotCorners
-    requires { place < 4 }
-    ensures { corner_list result ≡ slice_set (corner_list corners) place to }
-{
-    let SlotCorners { a, b, c, d } = corners;
-    let mut all = [a, b, c, d];
-    all[place as usize] = to;
-    let [a, b, c, d] = all;
-    SlotCorners { a, b, c, d }
-}
-
-// The corner in this place.
-pub(crate) fn corner_at(corners: SlotCorners, place: u8) -> Corner
-    requires { place < 4 }
-    ensures { result ≡ slice_index_or (corner_list corners) place Corner.Ghost }
-{
-    let SlotCorners { a, b, c, d } = corners;
-    let all = [a, b, c, d];
-    all[place as usize]
 }
 
 // The three other places.

@@ -1,18 +1,19 @@
 //! The star of a point, planned while its cavity stands.
 ghost use Rattle.std.specs.Prelude.{◌≡◌, ℕ, ◌<◌, ◌≤◌, length, Some, IsSome, slice_set, option_map};
 ghost use Rattle.std.specs.Prelude.{vec_capacity};
-ghost use Rattle.mesh_arena.specs.Mesh.{corners_at, corner_list, side, IsMesh};
+ghost use Rattle.mesh_arena.specs.Cells.{cell_corners, IsBare};
+ghost use Rattle.mesh_arena.specs.Mesh.{corners_at, side};
 ghost use Rattle.mesh_arena.specs.Star.{behind, rim_at, face_side};
 ghost use Rattle.mesh_arena.specs.Surgery.{Plans};
 
-use crate::slot::with_corner;
-use crate::{Arena, Corner, RimFace, Slot, SlotCorners};
+use crate::cell::Cell;
+use crate::{Arena, Corner, RimFace};
 
-// A slot that is to stand over a face: its corners, its own face there, and its place once it is
-// made.
+// A slot that is to stand over a face, as it will lie in the arena; its own face there; and its
+// place once it is made.
 #[derive(Clone, Copy, Debug)]
 pub(crate) struct StarSlot {
-    pub(crate) corners: SlotCorners,
+    pub(crate) cell: Cell,
     pub(crate) face: u8,
     pub(crate) slot: u32,
 }
@@ -25,14 +26,14 @@ impl Arena {
         ensures face { result.face
             ≡ (behind (side self.now.slots outer.slot.index outer.face)).face }
         ensures corners { let inner = behind (side self.now.slots outer.slot.index outer.face) in
-            Some (corner_list result.corners)
+            Some (cell_corners result.cell)
             ≡ option_map (λ cs. slice_set cs inner.face (Corner.Point point))
             (corners_at self.now.slots inner.slot) }
+        ensures bare { IsBare result.cell }
     {
         let inner = self.over(outer);
-        let old = self.tet(Slot { index: inner.slot });
         StarSlot {
-            corners: with_corner(old, inner.face, Corner::Point(point)),
+            cell: self.cells[inner.slot as usize].cone(inner.face, point),
             face: inner.face,
             slot: 0,
         }

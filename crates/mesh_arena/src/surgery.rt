@@ -1,7 +1,8 @@
 //! Surgery: the star of a new point takes the place of its cavity.
 ghost use Rattle.std.specs.Prelude.{◌≡◌, ◌≢◌, ℕ, ◌+◌, ◌<◌, ◌≤◌, ◌↔◌, length, Some, None, IsSome};
 ghost use Rattle.std.specs.Prelude.{IsOk, IfOk, IfSome, OnErr, MatchOption, IsTrue};
-ghost use Rattle.mesh_arena.specs.Mesh.{IsLive, corner_list, side, SameFace, IsMesh, AllDiffer};
+ghost use Rattle.mesh_arena.specs.Cells.{cell_corners, IsBare};
+ghost use Rattle.mesh_arena.specs.Mesh.{IsLive, side, SameFace, IsMesh, AllDiffer};
 ghost use Rattle.mesh_arena.specs.Star.{behind_rim};
 ghost use Rattle.mesh_arena.specs.Surgery.{FitsFace, AddsOver, CanAdd, AddsStar, StandsOver};
 ghost use Rattle.mesh_arena.specs.Surgery.{AreOverRim};
@@ -11,7 +12,7 @@ ghost use Rattle.mesh_arena.specs.StarLinks.{IsOverEdge, AreOverEdges};
 
 use crate::arena::{Arena, SlotFace};
 use crate::edges::{Edge, EdgePlace, EdgeTable};
-use crate::slot::{corner_at, other_places};
+use crate::slot::other_places;
 use crate::star::StarSlot;
 use crate::{Cavity, Corner, Rim, RimFace, Slot};
 use tet_ports::NoMemory;
@@ -22,15 +23,16 @@ impl Arena {
         requires live { IsLive self.old.slots outer.slot.index }
         requires faces { (outer.face < 4) × (slot.face < 4) }
         requires free { side self.old.slots outer.slot.index outer.face ≡ None }
-        requires differ { AllDiffer (corner_list slot.corners) }
+        requires bare { IsBare slot.cell }
+        requires differ { AllDiffer (cell_corners slot.cell) }
         requires fits { FitsFace self.old.slots outer.slot.index outer.face
-            (corner_list slot.corners) slot.face }
+            (cell_corners slot.cell) slot.face }
         requires room { 0 < self.old.room }
         ensures adds { AddsOver self.old.slots self.new.slots outer.slot.index outer.face result
-            (corner_list slot.corners) slot.face }
+            (cell_corners slot.cell) slot.face }
         ensures room { self.new.room + 1 ≡ self.old.room }
     {
-        let made = self.take_slot(slot.corners);
+        let made = self.take_slot(slot.cell);
         self.link(outer.slot, outer.face, Slot { index: made }, slot.face);
         made
     }
@@ -196,9 +198,9 @@ impl Arena {
     {
         let _ = &self.cells;
         let (i, j, k) = other_places(one.face);
-        let x = table.end(corner_at(one.corners, i));
-        let y = table.end(corner_at(one.corners, j));
-        let z = table.end(corner_at(one.corners, k));
+        let x = table.end(one.cell.number(i));
+        let y = table.end(one.cell.number(j));
+        let z = table.end(one.cell.number(k));
         let (yz, xz, xy) = (
             EdgePlace::between(y, z),
             EdgePlace::between(x, z),

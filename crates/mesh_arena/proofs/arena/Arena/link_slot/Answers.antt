@@ -1,6 +1,5 @@
-use Rattle.std.proofs.Common.{◌≡◌, ◌∙◌, arith}
+use Rattle.std.proofs.Common.{◌∙◌, arith}
 use Rattle.mesh_arena.specs.declared.slot.Corner.TheVariants.{Point}
-use Rattle.mesh_arena.specs.Edges.{edge_between}
 use Rattle.mesh_arena.proofs.EdgeTable.{edge_of-numbers}
 use Rattle.mesh_arena.proofs.Pairs.{LinksStar-then}
 use Rattle.mesh_arena.proofs.StarEdges.{turned, opposite, first_last, StandsOver-along, IsOverEdge-face}
@@ -9,10 +8,9 @@ use Rattle.mesh_arena.proofs.arena.Arena.link_slot.Goals as goal
 pub link_at_edge-requires-clause-over : goal.link_at_edge-requires-clause-over
 link_at_edge-requires-clause-over c =
     let e = c.between-yz.result.edge in
-    let is : e ≡ edge_between c.corner_at-2.result c.corner_at-3.result =
-    c.between-yz.ensures ∙ edge_of-numbers _ _ _ _ c.end-y.ensures.number c.end-z.ensures.number in
-    IsOverEdge-face _ c.args.rim.now (Point c.args.point) c.requires.star c.args.r c.args.one _ _ _ _ _ e c.requires.inside c.requires.over
-    (opposite _ _ _ _ c.other_places-i.ensures) c.corner_at-2.ensures c.corner_at-3.ensures is
+    let is = c.between-yz.ensures ∙ edge_of-numbers _ _ _ _ (c.end-y.ensures.number ∙ c.number-2.ensures) (c.end-z.ensures.number ∙ c.number-3.ensures) in
+    IsOverEdge-face _ c.args.rim.now (Point c.args.point) c.requires.star c.args.r c.args.one _ _ _ e c.requires.inside c.requires.over
+    (opposite _ _ _ _ c.other_places-i.ensures) is
 
 pub link_at_edge-requires-2-clause-over : goal.link_at_edge-requires-2-clause-over
 link_at_edge-requires-2-clause-over c =
@@ -21,10 +19,9 @@ link_at_edge-requires-2-clause-over c =
     let one = c.link_at_edge.ensures.links in
     let over = StandsOver-along slots _ c.args.rim.now point 0 c.requires.star one c.args.r c.args.one c.requires.inside c.requires.over in
     let e = c.between-xz.result.edge in
-    let is : e ≡ edge_between c.corner_at.result c.corner_at-3.result =
-    c.between-xz.ensures ∙ edge_of-numbers _ _ _ _ c.end-x.ensures.number c.end-z.ensures.number in
-    IsOverEdge-face _ c.args.rim.now point one.star c.args.r c.args.one _ _ _ _ _ e c.requires.inside over
-    (opposite _ _ _ _ (first_last _ _ _ _ c.other_places-i.ensures)) c.corner_at.ensures c.corner_at-3.ensures is
+    let is = c.between-xz.ensures ∙ edge_of-numbers _ _ _ _ (c.end-x.ensures.number ∙ c.number.ensures) (c.end-z.ensures.number ∙ c.number-3.ensures) in
+    IsOverEdge-face _ c.args.rim.now point one.star c.args.r c.args.one _ _ _ e c.requires.inside over
+    (opposite _ _ _ _ (first_last _ _ _ _ c.other_places-i.ensures)) is
 
 pub link_at_edge-requires-3-clause-over : goal.link_at_edge-requires-3-clause-over
 link_at_edge-requires-3-clause-over c =
@@ -35,7 +32,6 @@ link_at_edge-requires-3-clause-over c =
     let two = LinksStar-then slots _ _ rim point 0 0 c.requires.star (omega arith) one c.link_at_edge-2.ensures.links in
     let over = StandsOver-along slots _ rim point 0 c.requires.star two c.args.r c.args.one c.requires.inside c.requires.over in
     let e = c.between-xy.result.edge in
-    let is : e ≡ edge_between c.corner_at.result c.corner_at-2.result =
-    c.between-xy.ensures ∙ edge_of-numbers _ _ _ _ c.end-x.ensures.number c.end-y.ensures.number in
-    IsOverEdge-face _ rim point two.star c.args.r c.args.one _ _ _ _ _ e c.requires.inside over
-    (opposite _ _ _ _ (first_last _ _ _ _ (turned _ _ _ _ c.other_places-i.ensures))) c.corner_at.ensures c.corner_at-2.ensures is
+    let is = c.between-xy.ensures ∙ edge_of-numbers _ _ _ _ (c.end-x.ensures.number ∙ c.number.ensures) (c.end-y.ensures.number ∙ c.number-2.ensures) in
+    IsOverEdge-face _ rim point two.star c.args.r c.args.one _ _ _ e c.requires.inside over
+    (opposite _ _ _ _ (first_last _ _ _ _ (turned _ _ _ _ c.other_places-i.ensures))) is
