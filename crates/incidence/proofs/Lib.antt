@@ -1,6 +1,7 @@
 pub mod Firsts
 pub mod Gathered
 pub mod GatheredSides
+pub mod Halves
 pub mod Linked
 pub mod Opposite
 pub mod Orders
@@ -8,3 +9,4 @@ pub mod Partners
 pub mod Runs
 pub mod Settled
 pub mod SortedRuns
+pub mod Turns

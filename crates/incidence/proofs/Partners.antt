@@ -7,8 +7,10 @@ use Rattle.geo_laws.specs.Faces.{face_of}
 use Rattle.geo_laws.specs.declared.faces.Face.{Face}
 use Rattle.geo_laws.specs.declared.tetrahedra.Tet.{Tet}
 use Rattle.incidence.specs.declared.uses.Use.{Use}
+use Rattle.incidence.specs.HalfFaces.{IsByRow}
+use Rattle.incidence.specs.Links.{row_at}
 use Rattle.incidence.specs.Pairs.{is_face, has_face, is_partner, partner}
-use Rattle.incidence.specs.Uses.{row_uses, uses_from, uses_of_rows, UseBefore, AreUsesOf, IsRunStart}
+use Rattle.incidence.specs.Uses.{row_uses, uses_from, uses_of_rows, UseBefore, AreAllUses, IsRunStart}
 use Rattle.std.proofs.lemmas.List.{get_or_read, get_or_default}
 use Rattle.incidence.proofs.Firsts.{first_is, first_is_none}
 use Rattle.incidence.proofs.Orders.{face_by_numbers, row_less, between}
@@ -120,8 +122,15 @@ has_use n (t ∷ ts) (suc k) d f h e =
     let same : (n + 1) + k ≡ n + suc k = omega arith in
     subst P same (Contains-append_right (row_uses n t) (uses_from (n + 1) ts) _ (has_use (n + 1) ts k d f (omega (arith, h)) e))
 
+-- a use of a row's face is by a row that is there and has the face
+pub by_row : (rows : List Tet) (u : Use) → Contains (uses_of_rows rows) u → IsByRow rows u
+by_row rows u h =
+    let o = is_use 0 rows u h in
+    let same : o.0 ≡ u.row = omega (arith, o.2) in
+    (subst (λ r. r < length rows) same o.1, subst (λ r. has_face u.face (row_at rows r) ≡ true) same (o.3 (record { a = 0; b = 0; c = 0; d = 0 })))
+
 -- each use in the list is by a row that has the face
-pub of_row : (rows : List Tet) (uses : List Use) → AreUsesOf rows uses → (k : ℕ) (d : Use) → k < length uses
+pub of_row : (rows : List Tet) (uses : List Use) → AreAllUses rows uses → (k : ℕ) (d : Use) → k < length uses
     → ((get_or uses k d).row < length rows) × ((e : Tet) → has_face (get_or uses k d).face (get_or rows (get_or uses k d).row e) ≡ true)
 of_row rows uses a k d h =
     let u = get_or uses k d in
@@ -130,7 +139,7 @@ of_row rows uses a k d h =
     (subst (λ r. r < length rows) same o.1, λ e. subst (λ r. has_face u.face (get_or rows r e) ≡ true) same (o.3 e))
 
 -- a row that has a face is in the list with it
-pub at_place : (rows : List Tet) (uses : List Use) → AreUsesOf rows uses → (k : ℕ) (e : Tet) (f : Face) (d : Use) → k < length rows → has_face f (get_or rows k e) ≡ true
+pub at_place : (rows : List Tet) (uses : List Use) → AreAllUses rows uses → (k : ℕ) (e : Tet) (f : Face) (d : Use) → k < length rows → has_face f (get_or rows k e) ≡ true
     → (j : ℕ) × (j < length uses) × (get_or uses j d ≡ record { face = f; row = k })
 at_place rows uses a k e f d h y =
     let u : Use = record { face = f; row = k } in
@@ -142,7 +151,7 @@ not_partner : (i k : ℕ) (f : Face) (t : Tet) → (has_face f t ≡ true → k 
 not_partner i k f t b = false_from_ne_true _ (λ e. let h = and_true _ _ e in absurd (true≢false (sym h.0 ∙ ap not (eq-eqb k i (b h.1)))))
 
 -- no row with the face is less than the one that uses it first
-no_lesser : (rows : List Tet) (uses : List Use) (first at : ℕ) (d : Use) (t : Tet) → AreUsesOf rows uses → IsRunStart uses first at → at < length uses
+no_lesser : (rows : List Tet) (uses : List Use) (first at : ℕ) (d : Use) (t : Tet) → AreAllUses rows uses → IsRunStart uses first at → at < length uses
     → (k : ℕ) → k < (get_or uses first d).row → k < length rows → has_face (get_or uses at d).face (get_or rows k t) ≡ true → ⊥
 no_lesser rows uses first at d t a run there k l h y =
     let v = get_or uses at d in
@@ -158,7 +167,7 @@ no_lesser rows uses first at d t a run there k l h y =
     place j b f r (inr (inr e)) = omega (arith, l, r, row_less (get_or uses first d) (get_or uses j d) (a.ascending first j d e b) (run.like d ∙ sym f))
 
 -- a row with the face of a first use is the one that uses it, or it uses it later
-pub only_this : (rows : List Tet) (uses : List Use) (first at : ℕ) (d : Use) (t : Tet) → AreUsesOf rows uses → IsRunStart uses first at → at ≤ first
+pub only_this : (rows : List Tet) (uses : List Use) (first at : ℕ) (d : Use) (t : Tet) → AreAllUses rows uses → IsRunStart uses first at → at ≤ first
     → (k : ℕ) → k < length rows → has_face (get_or uses at d).face (get_or rows k t) ≡ true
     → ((j : ℕ) → at < j → j < length uses → get_or uses j d ≡ record { face = (get_or uses at d).face; row = k } → ⊥) → k ≡ (get_or uses at d).row
 only_this rows uses first at d t a run le k h y later =
@@ -185,7 +194,7 @@ partner_is_none rows i f d b =
     first_is_none (is_partner i f) 0 rows d (λ k l. subst (λ m. is_partner i f (m, get_or rows k d) ≡ false) (sym (zero-add k)) (not_partner i k f (get_or rows k d) (b k l)))
 
 -- the least row that uses a face is the partner of the other rows that use it
-pub partner_first : (rows : List Tet) (uses : List Use) (first at : ℕ) (d : Use) → AreUsesOf rows uses → IsRunStart uses first at → first < at → at < length uses
+pub partner_first : (rows : List Tet) (uses : List Use) (first at : ℕ) (d : Use) → AreAllUses rows uses → IsRunStart uses first at → first < at → at < length uses
     → partner rows (get_or uses at d).row (get_or uses at d).face ≡ Some (get_or uses first d).row
 partner_first rows uses first at d a run lt there =
     let u = get_or uses first d in
@@ -217,7 +226,7 @@ after_next uses at d up j b h {k} r f e l = place (cases_order j (at + 1))
     place (inr (inr p)) = omega (arith, l, r, row_less (get_or uses (at + 1) d) (get_or uses j d) (up (at + 1) j d p h) (e ∙ sym f))
 
 -- a use that follows the first one of its face has the least other row that uses it
-pub partner_next : (rows : List Tet) (uses : List Use) (first at : ℕ) (d : Use) → AreUsesOf rows uses → IsRunStart uses first at → at ≤ first → at + 1 < length uses
+pub partner_next : (rows : List Tet) (uses : List Use) (first at : ℕ) (d : Use) → AreAllUses rows uses → IsRunStart uses first at → at ≤ first → at + 1 < length uses
     → (get_or uses (at + 1) d).face ≡ (get_or uses at d).face → partner rows (get_or uses at d).row (get_or uses at d).face ≡ Some (get_or uses (at + 1) d).row
 partner_next rows uses first at d a run le there e =
     let v = get_or uses at d in
@@ -229,7 +238,7 @@ partner_next rows uses first at d a run le there e =
     (λ k l y. only_this rows uses first at d t a run le k (omega (arith, l, o.0)) y (λ j b h u. after_next uses at d a.ascending j b h (ap (λ x. x.row) u) (ap (λ x. x.face) u) e l))
 
 -- a use has no partner where no other one is of its face
-pub partner_none : (rows : List Tet) (uses : List Use) (first at : ℕ) (d : Use) → AreUsesOf rows uses → IsRunStart uses first at → at ≤ first → at < length uses
+pub partner_none : (rows : List Tet) (uses : List Use) (first at : ℕ) (d : Use) → AreAllUses rows uses → IsRunStart uses first at → at ≤ first → at < length uses
     → (at + 1 < length uses → ¬ ((get_or uses (at + 1) d).face ≡ (get_or uses at d).face)) → partner rows (get_or uses at d).row (get_or uses at d).face ≡ None
 partner_none rows uses first at d a run le there n =
     let t : Tet = record { a = 0; b = 0; c = 0; d = 0 } in

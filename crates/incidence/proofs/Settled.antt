@@ -11,7 +11,7 @@ use Rattle.geo_laws.specs.declared.tetrahedra.Tet.{Tet}
 use Rattle.incidence.specs.declared.uses.Use.{Use}
 use Rattle.incidence.specs.declared.pairs.Across.{Across}
 use Rattle.incidence.specs.Pairs.{is_face, has_face, is_partner, partner, across_of, pairs_of, placed, IsAcrossWithin, AreAllWithin}
-use Rattle.incidence.specs.Uses.{AreUsesOf}
+use Rattle.incidence.specs.Uses.{AreAllUses}
 use Rattle.incidence.proofs.Firsts.{first_within}
 use Rattle.incidence.proofs.Partners.{face_same, face_itself, at_place, has_0, has_1, has_2}
 
@@ -95,7 +95,7 @@ settled_next rows uses at xs here row p d new long within is is_row e made s i t
     by (inr (inr q)) = other (λ e. omega (arith, q, e))
 
 -- at the beginning all uses are still to come
-pub settled_first : (rows : List Tet) (uses : List Use) (xs : List Across) → AreUsesOf rows uses → AllSettled rows uses 0 xs
+pub settled_first : (rows : List Tet) (uses : List Use) (xs : List Across) → AreAllUses rows uses → AllSettled rows uses 0 xs
 settled_first rows uses xs a i t x l = record {
   across_0 = to_come (face_of r.b r.c r.d) (get_or xs i x).n0 (has_0 (face_of r.b r.c r.d) r (face_itself (face_of r.b r.c r.d) (face_of r.b r.c r.d) refl));
   across_1 = to_come (face_of r.a r.c r.d) (get_or xs i x).n1 (has_1 (face_of r.a r.c r.d) r (face_itself (face_of r.a r.c r.d) (face_of r.a r.c r.d) refl));

@@ -1,5 +1,6 @@
 pub mod Gathered
 pub mod GatheredSides
+pub mod HalfFaces
 pub mod Links
 pub mod Pairs
 pub mod Runs

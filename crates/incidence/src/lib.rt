@@ -3,6 +3,7 @@
 #![tactic(auto)]
 
 mod gathering;
+mod half_faces;
 mod links;
 mod pairs;
 mod sides;
@@ -11,6 +12,7 @@ mod sorting;
 mod tests;
 mod uses;
 
+pub use half_faces::{Corner, HalfFace};
 pub use pairs::{Across, Marks, Pairs, pair_faces, pair_uses};
 pub use sides::{Edges, edges_of};
-pub use uses::{Use, Uses, uses_of};
+pub use uses::{Use, Uses, use_at, uses_of};

@@ -4,6 +4,7 @@ ghost use Rattle.geo_laws.specs.Faces.{face_of};
 ghost use Rattle.incidence.specs.Pairs.{pairs_of, placed, is_face, has_face, place_in, across_in, IsAcrossWithin, AreAllWithin};
 ghost use Rattle.incidence.specs.Uses.{AreUsesOf};
 
+use crate::half_faces::are_opposite;
 use crate::uses::{Uses, partner_at, run_start, use_at, uses_of};
 use geo_laws::{Face, Tet, TetList};
 use std::alloc::Global;
@@ -179,27 +180,4 @@ fn put_partner(row: Tet, face: Face, place: u32, places: &mut Places)
     if d {
         places.n3 = place;
     }
-}
-
-/// For each corner whether this face of the row is the one opposite it. That is so where the face
-/// and the corner add up to the row.
-fn are_opposite(row: Tet, face: Face) -> [bool; 4]
-    requires { has_face face row ≡ true }
-    ensures { result ≡ is_face (face_of row.b row.c row.d) face ∷ is_face (face_of row.a row.c row.d) face
-        ∷ is_face (face_of row.a row.b row.d) face ∷ is_face (face_of row.a row.b row.c) face ∷ [] }
-{
-    let of_face = u64::from(face.a) + u64::from(face.b) + u64::from(face.c);
-    let [a, b, c, d] = [
-        u64::from(row.a),
-        u64::from(row.b),
-        u64::from(row.c),
-        u64::from(row.d),
-    ];
-    let of_row = a + b + c + d;
-    [
-        a + of_face == of_row,
-        b + of_face == of_row,
-        c + of_face == of_row,
-        d + of_face == of_row,
-    ]
 }

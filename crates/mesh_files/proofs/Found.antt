@@ -1,7 +1,7 @@
 -- The faces of uses that are gone through.
-use Rattle.std.proofs.Common.{◌≡◌, ◌⊎◌, inl, inr, ℕ, ◌+◌, ◌-◌, ◌<◌, ◌≤◌, ◌==◌, Bool, true, false, not, List, [], ◌∷◌, ◌++◌, length, map, get_or, zero, suc, refl, sym, subst, ap, ◌∙◌, arith}
+use Rattle.std.proofs.Common.{◌≡◌, ◌⊎◌, inl, inr, ℕ, ◌+◌, ◌-◌, ◌<◌, ◌≤◌, ◌==◌, Bool, true, false, List, [], ◌∷◌, ◌++◌, length, map, get_or, zero, suc, refl, sym, subst, ap, ◌∙◌, arith}
 use Rattle.std.specs.Prelude.{◌↔◌, count_by, AllPairs, Contains}
-use Rattle.std.proofs.lemmas.Bool.{cases_order, eq-eqb, ne_eqb, true≢false}
+use Rattle.std.proofs.lemmas.Bool.{cases_order, eq-eqb, ne_eqb}
 use Rattle.std.proofs.lemmas.List.{get_or-map, length-map, get_or_default}
 use Rattle.std.proofs.lemmas.List.Elements.{Contains-append_left, Contains-append_right, Contains-append_cases, Contains-push, Contains-push_cases}
 use Rattle.std.proofs.lemmas.List.Quantifiers.{all_pairs_push}
@@ -9,10 +9,10 @@ use Rattle.geo_laws.specs.Faces.{row_faces, faces_of_rows, FaceBefore, AreFacesO
 use Rattle.geo_laws.specs.declared.faces.Face.{Face}
 use Rattle.geo_laws.specs.declared.tetrahedra.Tet.{Tet}
 use Rattle.incidence.specs.declared.uses.Use.{Use}
-use Rattle.incidence.specs.Pairs.{is_face, has_face}
-use Rattle.incidence.specs.Uses.{row_uses, UseBefore, AreUsesOf, IsRunStart, FollowsLike}
-use Rattle.incidence.proofs.Orders.{between, row_less}
-use Rattle.incidence.proofs.Partners.{face_same, face_itself, of_four, in_four, of_row, at_place, only_this, next_like}
+use Rattle.incidence.specs.Pairs.{has_face}
+use Rattle.incidence.specs.Uses.{row_uses, UseBefore, AreAllUses, IsRunStart, FollowsLike}
+use Rattle.incidence.proofs.Orders.{row_less}
+use Rattle.incidence.proofs.Partners.{of_four, in_four, of_row, at_place, only_this, next_like}
 use Rattle.mesh_files.proofs.Counts.{one_counted, two_counted}
 
 pub no_row : Tet
@@ -22,7 +22,7 @@ pub no_use : Use
 no_use = record { face = record { a = 0; b = 0; c = 0 }; row = 0 }
 
 -- a face whose first use is followed by another face belongs to one row
-pub is_of_one : (rows : List Tet) (uses : List Use) (at : ℕ) (d : Use) → AreUsesOf rows uses → IsRunStart uses at at → at < length uses
+pub is_of_one : (rows : List Tet) (uses : List Use) (at : ℕ) (d : Use) → AreAllUses rows uses → IsRunStart uses at at → at < length uses
     → (at + 1 < length uses → ¬ ((get_or uses (at + 1) d).face ≡ (get_or uses at d).face)) → count_by (has_face (get_or uses at d).face) rows ≡ 1
 is_of_one rows uses at d a run there n =
     let o = of_row rows uses a at d there in
@@ -30,7 +30,7 @@ is_of_one rows uses at d a run there n =
     (λ k l y. only_this rows uses at at d no_row a run (omega arith) k l y (λ j b h u. n (omega (arith, b, h)) (next_like uses at d a.ascending j b h (ap (λ x. x.face) u))))
 
 -- a face that is used twice belongs to two rows
-pub is_of_two : (rows : List Tet) (uses : List Use) (at : ℕ) (d : Use) → AreUsesOf rows uses → at + 1 < length uses
+pub is_of_two : (rows : List Tet) (uses : List Use) (at : ℕ) (d : Use) → AreAllUses rows uses → at + 1 < length uses
     → (get_or uses (at + 1) d).face ≡ (get_or uses at d).face → 2 ≤ count_by (has_face (get_or uses at d).face) rows
 is_of_two rows uses at d a there e =
     let u = get_or uses at d in
@@ -40,27 +40,10 @@ is_of_two rows uses at d a there e =
     two_counted (has_face u.face) rows u.row v.row no_row (row_less u v (a.ascending at (at + 1) d (omega arith) there) (sym e)) p.0 (o.1 no_row)
     (subst (λ f. has_face f (get_or rows v.row no_row) ≡ true) e (p.1 no_row))
 
--- what the faces of two uses tell of a number
-pub one_or_more : (b : Bool) (f g : Face) (n : ℕ) → b ≡ not (is_face f g) → (¬ (f ≡ g) → n ≡ 1) → (f ≡ g → 2 ≤ n) → b ≡ (n == 1)
-one_or_more b f g n e one two = by (is_face f g) refl
-  where
-    by : (same : Bool) → is_face f g ≡ same → b ≡ (n == 1)
-    by true h = e ∙ ap not h ∙ sym (ne_eqb n 1 (λ k. omega (arith, k, two (face_same f g h))))
-    by false h = e ∙ ap not h ∙ sym (eq-eqb n 1 (one (λ k. true≢false (sym (face_itself f g k) ∙ h))))
-
--- where the use before is of another face, the use is the first one of its face
-pub is_run_start : (uses : List Use) (at : ℕ) → AllPairs UseBefore uses → 0 < at → at < length uses
-    → ((d : Use) → ¬ ((get_or uses (at - 1) d).face ≡ (get_or uses at d).face)) → IsRunStart uses at at
-is_run_start uses at up later there n = record {
-  within = omega arith;
-  like = λ d. refl;
-  least = λ k d l e. place k d l e (cases_order k (at - 1));
-}
-  where
-    place : (k : ℕ) (d : Use) → k < at → (get_or uses k d).face ≡ (get_or uses at d).face → (k ≡ at - 1) ⊎ ((k < at - 1) ⊎ (at - 1 < k)) → ⊥
-    place k d l e (inl p) = n d (sym (ap (λ i. (get_or uses i d).face) p) ∙ e)
-    place k d l e (inr (inl p)) = n d (between (get_or uses k d) (get_or uses (at - 1) d) (get_or uses at d) (up k (at - 1) d p (omega (arith, later, there))) (up (at - 1) at d (omega (arith, later)) there) e)
-    place k d l e (inr (inr p)) = omega (arith, p, l)
+-- whether a number is one, where it is one or more
+pub one_or_more : (b : Bool) (n : ℕ) → (b ≡ true → n ≡ 1) → (b ≡ false → 2 ≤ n) → b ≡ (n == 1)
+one_or_more true n one two = sym (eq-eqb n 1 (one refl))
+one_or_more false n one two = sym (ne_eqb n 1 (λ k. omega (arith, k, two refl)))
 
 -- ---- what is found while uses are gone through: of each face that has an item, that item
 
@@ -165,7 +148,7 @@ row_of_face (t ∷ ts) f h =
     ]
 
 -- after all uses what is found is the items of the rows' faces
-pub found_all : {X : Type 0} (corners : X → Face) (Is : Face → X → Type 0) (rows : List Tet) (uses : List Use) (at : ℕ) (found : List X) → AreUsesOf rows uses → at ≡ length uses → AreFoundBefore corners Is uses at found
+pub found_all : {X : Type 0} (corners : X → Face) (Is : Face → X → Type 0) (rows : List Tet) (uses : List Use) (at : ℕ) (found : List X) → AreAllUses rows uses → at ≡ length uses → AreFoundBefore corners Is uses at found
     → (x : X) → Contains found x ↔ ((f : Face) × Contains (faces_of_rows rows) f × Is f x)
 found_all {X} corners Is rows uses at found a end f x = (forth, back)
   where
@@ -197,7 +180,7 @@ pub faces_pushed : (uses : List Use) (at : ℕ) (faces : List Face) (u : Use) �
 faces_pushed uses at faces u up there run is f =
     found_pushed (λ h. h) (λ h k. h ≡ k) (record { own = λ h k e. sym e; one = λ h j k p q. sym p ∙ q }) uses at faces u.face up there run (λ d. ap (λ v. v.face) (is d)) f
 
-pub faces_last : (rows : List Tet) (uses : List Use) (at : ℕ) (faces : List Face) → AreUsesOf rows uses → at ≡ length uses → AreFacesBefore uses at faces → AreFacesOf rows faces
+pub faces_last : (rows : List Tet) (uses : List Use) (at : ℕ) (faces : List Face) → AreAllUses rows uses → at ≡ length uses → AreFacesBefore uses at faces → AreFacesOf rows faces
 faces_last rows uses at faces a end f = record {
   exactly = λ g.
       let o = found_all (λ h. h) (λ h k. h ≡ k) rows uses at faces a end f g in

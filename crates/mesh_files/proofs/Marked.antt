@@ -21,7 +21,7 @@ use Rattle.facet_laws.specs.Faces.{Ascends, as_triangle}
 use Rattle.facet_laws.proofs.FaceIn.{centroid_in, law_face_in_facet}
 use Rattle.incidence.specs.Pairs.{has_face}
 use Rattle.incidence.specs.declared.uses.Use.{Use}
-use Rattle.incidence.specs.Uses.{AreUsesOf}
+use Rattle.incidence.specs.Uses.{AreAllUses}
 use Rattle.mesh_files.specs.FaceRows.{AreFacesMet, IsFirst, IsMarker, IsAsked, IsRowOf, IsFaceRow, AreFaceRowsOf, is_on_hull, corners_of, marker_or_1}
 use Rattle.mesh_files.specs.FacetFaces.{IsIn, AreFacetFaces}
 use Rattle.mesh_files.specs.declared.facet_faces.FacetFace.{FacetFace}
@@ -132,7 +132,7 @@ without_facets ps rows complex all r (f, c, w) = (f, c, w.corners_are, by_marker
     by_asked (inr (inr (facet, h))) = absurd (nothing_lies ps facet f h)
 
 -- what is found after all uses
-pub rows_found : (ps : List Point) (ts : List FacetTriangle) (rows : List Tet) (complex : Complex) (all : Bool) (uses : List Use) (at : ℕ) (found : List FaceRow) → AreFacesMet ps ts rows → AreUsesOf rows uses
+pub rows_found : (ps : List Point) (ts : List FacetTriangle) (rows : List Tet) (complex : Complex) (all : Bool) (uses : List Use) (at : ℕ) (found : List FaceRow) → AreFacesMet ps ts rows → AreAllUses rows uses
     → at ≡ length uses → AreFoundBefore corners_of (IsListedRow ts complex rows all) uses at found → AreFaceRowsOf ps rows complex ts all found
 rows_found ps ts rows complex all uses at found met a end f = record {
   exactly = λ r.

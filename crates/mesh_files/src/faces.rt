@@ -6,7 +6,7 @@ ghost use Rattle.incidence.specs.Uses.{AreUsesOf};
 
 use crate::markers::is_first;
 use geo_laws::{Face, TetList};
-use incidence::{Uses, uses_of};
+use incidence::{Uses, use_at, uses_of};
 use std::alloc::Global;
 use tet_ports::{Items, NoMemory};
 
@@ -30,7 +30,7 @@ fn first_faces(alloc: Global, list: &TetList, uses: &Uses) -> Result<Faces, NoMe
     let mut faces = Faces::with_capacity(alloc, uses.len() / 2)?;
     for at in 0..uses.len() {
         if is_first(list, uses, at) {
-            faces.push(uses.at(at).face)?;
+            faces.push(use_at(uses, at, list).face)?;
         }
     }
     Ok(faces)

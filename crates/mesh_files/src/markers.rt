@@ -1,6 +1,7 @@
 //! The faces of tetrahedra with the markers of their facets.
 ghost use Rattle.std.specs.Prelude.{◌≡◌, ◌<◌, pos, if◌then◌else◌, length, All, AllPairs, HoldsAt};
 ghost use Rattle.std.specs.Prelude.{IfOk, IsTrue, IsFalse};
+ghost use Rattle.incidence.specs.HalfFaces.{used};
 ghost use Rattle.incidence.specs.Uses.{AreUsesOf, IsRunStart, FollowsLike};
 ghost use Rattle.mesh_files.specs.FaceRows.{AreFaceRowsOf, AreFacesMet, AreFacetsThere, IsRowOf};
 ghost use Rattle.mesh_files.specs.FaceRows.{corners_of, is_on_hull, marker_or_1};
@@ -8,7 +9,7 @@ ghost use Rattle.mesh_files.specs.FacetFaces.{FacetFaceBefore, IsIn, IsRowOrNone
 
 use crate::facet_faces::{FacetFaces, facet_faces, first_facet};
 use geo_laws::{Complex, Face, FacetTriangles, Points, TetList};
-use incidence::{Uses, uses_of};
+use incidence::{Uses, use_at, uses_of};
 use std::alloc::Global;
 use tet_ports::{Items, NoMemory};
 
@@ -125,13 +126,13 @@ fn row_at(
 ) -> Option<FaceRow>
     requires uses { AreUsesOf list.now uses.now }
     requires there { at < length uses.now }
-    requires run { IsRunStart uses.now at at }
+    requires run { IsRunStart (used list.now uses.now) at at }
     requires ascending { AllPairs FacetFaceBefore facets.now }
     requires facets { All (λ x. x.facet < length complex.now.facets) facets.now }
     ensures { HoldsAt (λ u. IsRowOrNone (IsRowOf
-        (IsIn facets.now) complex.now.facets list.now all u.face) result) uses.now at }
+        (IsIn facets.now) complex.now.facets list.now all u.face) result) (used list.now uses.now) at }
 {
-    let face = uses.at(at).face;
+    let face = use_at(uses, at, list).face;
     if let Some(facet) = first_facet(facets, face) {
         return Some(in_facet(face, complex, facet));
     }
@@ -146,25 +147,22 @@ fn row_at(
 pub(crate) fn is_first(list: &TetList, uses: &Uses, at: usize) -> bool
     requires uses { AreUsesOf list.now uses.now }
     requires there { at < length uses.now }
-    ensures first { IsTrue result → IsRunStart uses.now at at }
-    ensures later { IsFalse result → FollowsLike uses.now at }
+    ensures first { IsTrue result → IsRunStart (used list.now uses.now) at at }
+    ensures later { IsFalse result → FollowsLike (used list.now uses.now) at }
 {
-    if at == 0 {
-        return true;
-    }
-    uses.at(at - 1).face != uses.at(at).face
+    uses.at(at).first
 }
 
 /// Whether one row alone has the face whose first use is at a place.
 fn is_of_one_row(list: &TetList, uses: &Uses, at: usize) -> bool
     requires uses { AreUsesOf list.now uses.now }
     requires there { at < length uses.now }
-    requires run { IsRunStart uses.now at at }
-    ensures { HoldsAt (λ u. result ≡ is_on_hull list.now u.face) uses.now at }
+    requires run { IsRunStart (used list.now uses.now) at at }
+    ensures { HoldsAt (λ u. result ≡ is_on_hull list.now u.face) (used list.now uses.now) at }
 {
     let count = uses.len();
     if at + 1 < count {
-        return uses.at(at + 1).face != uses.at(at).face;
+        return uses.at(at + 1).first;
     }
     true
 }

@@ -1,6 +1,7 @@
 use Rattle.std.proofs.Common.{inl, inr, Bool, pos, sym, subst, ap, ◌∙◌}
 use Rattle.std.specs.Prelude.{ℕ, if◌then◌else◌, slice_index_or}
 use Rattle.std.proofs.lemmas.Bool.{true≢false}
+use Rattle.incidence.specs.HalfFaces.{used}
 use Rattle.mesh_files.specs.FaceRows.{IsMarker, is_on_hull}
 use Rattle.mesh_files.specs.FacetFaces.{IsIn}
 use Rattle.mesh_files.proofs.markers.row_at.Goals.{then-all-via-then-all, then-all-via-else-all+then-on_hull}
@@ -8,17 +9,17 @@ use Rattle.mesh_files.proofs.markers.row_at.Goals as goal
 
 pub returns-in-Some : goal.returns-in-Some
 returns-in-Some c d =
-    let same = ap (λ u. u.face) (sym (c.at.ensures d)) in
+    let same = ap (λ u. u.face) (sym (c.use_at.ensures.same d)) in
     record {
       corners_are = c.in_facet.ensures.corners ∙ same;
-      marker_is = subst (λ g. IsMarker (IsIn c.args.facets.now g) c.args.complex.now.facets (is_on_hull c.args.list.now (slice_index_or c.args.uses.now c.args.at d).face) c.in_facet.result.marker) same
+      marker_is = subst (λ g. IsMarker (IsIn c.args.facets.now g) c.args.complex.now.facets (is_on_hull c.args.list.now (slice_index_or (used c.args.list.now c.args.uses.now) c.args.at d).face) c.in_facet.result.marker) same
           (inl (c.in-Some.facet, c.in-Some.ensures, c.in_facet.ensures.marker));
       asked = inr (inr (c.in-Some.facet, subst (λ g. IsIn c.args.facets.now g c.in-Some.facet) same c.in-Some.ensures.0));
     }
 
 pub returns-then-all : goal.returns-then-all
 returns-then-all c d =
-    let same = ap (λ u. u.face) (sym (c.at.ensures d)) in
+    let same = ap (λ u. u.face) (sym (c.use_at.ensures.same d)) in
     let hull = c.is_of_one_row-on_hull.ensures d in
     record {
       corners_are = c.in_no_facet.ensures.corners ∙ same;
@@ -28,7 +29,7 @@ returns-then-all c d =
 
 pub returns : goal.returns
 returns c d r w =
-    let same = ap (λ u. u.face) (sym (c.at.ensures d)) in
+    let same = ap (λ u. u.face) (sym (c.use_at.ensures.same d)) in
     elim w.asked [
       | inl h ↦ true≢false (sym h ∙ c.if-all.false)
       | inr k ↦ elim k [

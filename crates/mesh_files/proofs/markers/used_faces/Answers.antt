@@ -1,6 +1,8 @@
-use Rattle.std.proofs.Common.{◌+◌, sym, subst, ◌∙◌, arith}
+use Rattle.std.proofs.Common.{◌+◌, ◌<◌, length, sym, subst, ◌∙◌, arith}
 use Rattle.std.specs.Prelude.{◌↔◌}
 use Rattle.geo_laws.specs.declared.faces.Face.{Face}
+use Rattle.incidence.specs.HalfFaces.{used}
+use Rattle.incidence.proofs.Halves.{used_length}
 use Rattle.mesh_files.specs.FaceRows.{IsRowOf, corners_of}
 use Rattle.mesh_files.specs.FacetFaces.{IsIn}
 use Rattle.mesh_files.specs.declared.markers.FaceRow.{FaceRow}
@@ -12,8 +14,8 @@ use Rattle.mesh_files.proofs.markers.used_faces.Goals as goal
 
 pub loop-at-init : goal.loop-at-init
 loop-at-init c =
-    subst (AreFoundBefore corners_of (IsListedRow c.args.triangles.now c.args.complex.now c.args.list.now c.args.all) c.args.uses.now 0) (sym c.in_ok-found.ensures)
-    (found_first corners_of (IsListedRow c.args.triangles.now c.args.complex.now c.args.list.now c.args.all) c.args.uses.now)
+    subst (AreFoundBefore corners_of (IsListedRow c.args.triangles.now c.args.complex.now c.args.list.now c.args.all) (used c.args.list.now c.args.uses.now) 0) (sym c.in_ok-found.ensures)
+    (found_first corners_of (IsListedRow c.args.triangles.now c.args.complex.now c.args.list.now c.args.all) (used c.args.list.now c.args.uses.now))
 
 pub row_at-requires-clause-facets : goal.row_at-requires-clause-facets
 row_at-requires-clause-facets c = facets_there c.args.triangles.now c.in_ok-facets.facets c.args.complex.now c.in_ok-facets.ensures c.requires.facets
@@ -24,7 +26,8 @@ loop-at-preserved c =
     let complex = c.args.complex.now in
     let rows = c.args.list.now in
     let all = c.args.all in
-    let uses = c.args.uses.now in
+    let uses = used rows c.args.uses.now in
+    let there : c.loop-at.at < length uses = omega (arith, used_length rows c.args.uses.now) in
     let at = c.loop-at.at in
     let found = c.loop-at.found in
     let is = IsListedRow triangles complex rows all in
@@ -32,7 +35,7 @@ loop-at-preserved c =
     elim c.if-is_first.branch [
       | then-is_first+in-Some+in_ok-push w ↦
           subst (AreFoundBefore corners_of is uses (at + 1)) (sym (w.found-is ∙ w.in_ok-push.ensures.ok))
-          (found_pushed corners_of is (row_items (IsTriangleOf triangles) complex.facets rows all) uses at found w.in-Some.row c.requires.uses.ascending (omega arith) (c.is_first.ensures.first w.if-is_first.true)
+          (found_pushed corners_of is (row_items (IsTriangleOf triangles) complex.facets rows all) uses at found w.in-Some.row c.requires.uses.uses.ascending there (c.is_first.ensures.first w.if-is_first.true)
           (λ d. (listed _ w.in-Some.row).0 (w.in-Some.ensures d)) c.loop-at.invariant)
       | then-is_first+in_default w ↦
           subst (AreFoundBefore corners_of is uses (at + 1)) (sym w.found-is) (found_none corners_of is uses at found (λ d r k. w.in_default.ensures d r ((listed _ r).1 k)) c.loop-at.invariant)
@@ -42,4 +45,4 @@ loop-at-preserved c =
 
 pub returns : goal.returns
 returns c =
-    rows_found c.args.points.now c.args.triangles.now c.args.list.now c.args.complex.now c.args.all c.args.uses.now c.loop-at.at c.loop-at.found c.requires.met c.requires.uses (omega arith) c.loop-at.invariant
+    rows_found c.args.points.now c.args.triangles.now c.args.list.now c.args.complex.now c.args.all (used c.args.list.now c.args.uses.now) c.loop-at.at c.loop-at.found c.requires.met c.requires.uses.uses (omega (arith, used_length c.args.list.now c.args.uses.now)) c.loop-at.invariant

@@ -1,5 +1,5 @@
 use Rattle.incidence.proofs.Opposite.{opposite_a, opposite_b, opposite_c, opposite_d}
-use Rattle.incidence.proofs.pairs.are_opposite.Goals as goal
+use Rattle.incidence.proofs.half_faces.are_opposite.Goals as goal
 
 pub returns : goal.returns
 returns c =

@@ -1,0 +1,150 @@
+//! Faces of tetrahedra by the corners opposite them.
+ghost use Rattle.std.specs.Prelude.{◌≡◌, [], ◌∷◌, ◌++◌, ◌<◌, true, length, All, AllPairs, Contains};
+ghost use Rattle.std.specs.Prelude.{OnOk};
+ghost use Rattle.geo_laws.specs.Faces.{face_of};
+ghost use Rattle.incidence.specs.HalfFaces.{opposite_face, use_of, used, marks_of, IsByRow};
+ghost use Rattle.incidence.specs.Pairs.{is_face, has_face};
+ghost use Rattle.incidence.specs.Uses.{AreFirstsMarked};
+ghost use Rattle.incidence.specs.declared.uses.Use.{Use};
+
+use crate::uses::Use;
+use geo_laws::{Face, Tet, TetList, face_of};
+use tet_ports::NoMemory;
+
+/// A corner of a row.
+#[derive(Clone, Copy, Debug, PartialEq, Eq)]
+pub enum Corner {
+    A,
+    B,
+    C,
+    D,
+}
+
+/// A face of a row of a list, by the place of the row, from 0, and the corner opposite the face. It
+/// is marked whether it is the first use of its face in a list of uses.
+#[derive(Clone, Copy, Debug, PartialEq, Eq)]
+pub struct HalfFace {
+    pub row: u32,
+    pub opposite: Corner,
+    pub first: bool,
+}
+
+/// The face of a row opposite a corner.
+pub(crate) fn opposite_face(row: Tet, corner: Corner) -> Face
+    ensures { result ≡ opposite_face row corner }
+{
+    let Tet { a, b, c, d } = row;
+    match corner {
+        Corner::A => face_of(b, c, d),
+        Corner::B => face_of(a, c, d),
+        Corner::C => face_of(a, b, d),
+        Corner::D => face_of(a, b, c),
+    }
+}
+
+/// For each corner whether this face of the row is the one opposite it. That is so where the face
+/// and the corner add up to the row.
+pub(crate) fn are_opposite(row: Tet, face: Face) -> [bool; 4]
+    requires { has_face face row ≡ true }
+    ensures { result ≡ is_face (face_of row.b row.c row.d) face ∷ is_face (face_of row.a row.c row.d) face
+        ∷ is_face (face_of row.a row.b row.d) face ∷ is_face (face_of row.a row.b row.c) face ∷ [] }
+{
+    let of_face = u64::from(face.a) + u64::from(face.b) + u64::from(face.c);
+    let [a, b, c, d] = [
+        u64::from(row.a),
+        u64::from(row.b),
+        u64::from(row.c),
+        u64::from(row.d),
+    ];
+    let of_row = a + b + c + d;
+    [
+        a + of_face == of_row,
+        b + of_face == of_row,
+        c + of_face == of_row,
+        d + of_face == of_row,
+    ]
+}
+
+/// The first corner that this face of the row is opposite.
+fn corner_opposite(row: Tet, face: Face) -> Corner
+    requires { has_face face row ≡ true }
+    ensures { opposite_face row result ≡ face }
+{
+    let [a, b, c, _] = are_opposite(row, face);
+    if a {
+        return Corner::A;
+    }
+    if b {
+        return Corner::B;
+    }
+    if c {
+        return Corner::C;
+    }
+    Corner::D
+}
+
+/// The use that a half-face is.
+pub(crate) fn use_of(list: &TetList, half: HalfFace) -> Use
+    requires { half.row < length list.now }
+    ensures { result ≡ use_of list.now half }
+{
+    Use {
+        face: opposite_face(list.at(half.row as usize), half.opposite),
+        row: half.row,
+    }
+}
+
+/// Appends a use, and marks whether it is the first one of its face.
+fn push_half(
+    halves: &mut Vec<HalfFace>,
+    list: &TetList,
+    new_use: Use,
+    first: bool,
+) -> Result<(), NoMemory>
+    requires { IsByRow list.now new_use }
+    ensures used { OnOk result (used list.now halves.new.items ≡ used list.now halves.old.items ++ new_use ∷ []) }
+    ensures marked { OnOk result (marks_of halves.new.items ≡ marks_of halves.old.items ++ first ∷ []) }
+{
+    let Use { face, row } = new_use;
+    halves.push(HalfFace {
+        row,
+        opposite: corner_opposite(list.at(row as usize), face),
+        first,
+    })?;
+    Ok(())
+}
+
+/// Appends uses of faces that are not used before, and marks the first one of each face.
+pub(crate) fn push_halves(
+    halves: &mut Vec<HalfFace>,
+    list: &TetList,
+    uses: &[Use],
+) -> Result<(), NoMemory>
+    requires by_rows { All (IsByRow list.now) uses.now }
+    requires marked { AreFirstsMarked (used list.now halves.old.items) (marks_of halves.old.items) }
+    requires apart { (u v : Use) → Contains (used list.now halves.old.items) u → Contains uses.now v
+        → ¬ (u.face ≡ v.face) }
+    ensures used { OnOk result (used list.now halves.new.items ≡ used list.now halves.old.items ++ uses.now) }
+    ensures marked { OnOk result (AreFirstsMarked (used list.now halves.new.items) (marks_of halves.new.items)) }
+{
+    for at in 0..uses.len() {
+        let first = at == 0 || uses[at - 1].face != uses[at].face;
+        push_half(halves, list, uses[at], first)?;
+    }
+    Ok(())
+}
+
+/// Appends the uses that half-faces are.
+pub(crate) fn append_uses(
+    uses: &mut Vec<Use>,
+    list: &TetList,
+    halves: &[HalfFace],
+) -> Result<(), NoMemory>
+    requires { All (λ h. h.row < length list.now) halves.now }
+    ensures { OnOk result (uses.new.items ≡ uses.old.items ++ used list.now halves.now) }
+{
+    for half in halves {
+        uses.push(use_of(list, *half))?;
+    }
+    Ok(())
+}
