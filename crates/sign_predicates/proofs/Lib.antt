@@ -2,6 +2,7 @@ pub mod Terms
 pub mod Products
 pub mod Vectors
 pub mod Short
+pub mod Lifting
 pub mod Ties
 pub mod RisingNumber
 pub mod Holds

@@ -1,6 +1,7 @@
 pub mod Point
 pub mod Orientation
 pub mod Sphere
+pub mod Lifted
 pub mod Vector
 pub mod Sign
 pub mod Meeting

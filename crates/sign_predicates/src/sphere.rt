@@ -31,7 +31,16 @@ fn sum_of_four(a: i64, p: i128, b: i64, q: i128, c: i64, r: i128, d: i64, s: i12
 
 /// The same where the determinants fit 64 bits.
 #[inline]
-fn short_sum_of_four(a: i64, p: i64, b: i64, q: i64, c: i64, r: i64, d: i64, s: i64) -> i128
+pub(crate) fn short_sum_of_four(
+    a: i64,
+    p: i64,
+    b: i64,
+    q: i64,
+    c: i64,
+    r: i64,
+    d: i64,
+    s: i64,
+) -> i128
     requires a_small { unsigned_abs a ≤ 3 * 2 ^ 48 }
     requires b_small { unsigned_abs b ≤ 3 * 2 ^ 48 }
     requires c_small { unsigned_abs c ≤ 3 * 2 ^ 48 }

@@ -1,11 +1,13 @@
 //! Signs at worked points.
 
+ghost use Rattle.std.specs.Prelude.{◌<◌};
+
 use crate::orientation::orient_sum;
 use crate::sphere::in_sphere;
 use crate::{
-    Corners, GridPoint, Hold, Numbers, RatPoint, Sign, beyond, coplanar, in_tet, orient,
-    orient_rat, outside, segment_meets_triangle, segments_meet, spans_plane, triangle_enters,
-    triangles_meet,
+    Corners, Frame, GridPoint, Hold, Numbers, RatPoint, Sign, beyond, coplanar, in_lifted_sphere,
+    in_tet, orient, orient_rat, outside, segment_meets_triangle, segments_meet, spans_plane,
+    triangle_enters, triangles_meet,
 };
 
 fn at(p: [i8; 3]) -> GridPoint {
@@ -110,6 +112,54 @@ fn far() -> [GridPoint; 5] {
             z: FAR,
         },
     ]
+}
+
+// Where the last point lies to the sphere through the others, if the frame has them all.
+fn lifted_sign(frame: Frame, points: [GridPoint; 5]) -> Option<Sign>
+    requires { 0 < frame.step }
+{
+    let [a, b, c, d, e] = points;
+    let (a, b) = (frame.lift(a)?, frame.lift(b)?);
+    let (c, d) = (frame.lift(c)?, frame.lift(d)?);
+    Some(in_lifted_sphere(a, b, c, d, frame.lift(e)?))
+}
+
+// So for a tetrahedron in a frame of small steps.
+fn sign_at(p: [i8; 3]) -> Option<Sign> {
+    let frame = Frame {
+        corner: at([-4, -2, -2]),
+        step: 2,
+    };
+    let t = tet(FOUR);
+    lifted_sign(frame, [t.a, t.b, t.c, t.d, at(p)])
+}
+
+#[test]
+fn lifted_spheres(rt: HostRuntime) {
+    let cases = [
+        ([6, 6, 6], Some(Sign::Below)),
+        ([4, 4, 4], Some(Sign::Zero)),
+        ([2, 2, 2], Some(Sign::Above)),
+        ([2, 3, 2], None),
+        ([-6, 2, 2], None),
+    ];
+    for (p, want) in cases {
+        assert_eq!(rt; sign_at(p), want);
+    }
+}
+
+// And for the corners of the cube of all points, in a frame of this step.
+fn far_sign(step: u32) -> Option<Sign>
+    requires { 0 < step }
+{
+    let [a, b, c, d, e] = far();
+    lifted_sign(Frame { corner: a, step }, [a, b, c, d, e])
+}
+
+#[test]
+fn widest_frame(rt: HostRuntime) {
+    assert_eq!(rt; far_sign(16), Some(Sign::Zero));
+    assert_eq!(rt; far_sign(8), None);
 }
 
 // The orientation of the first four of these, and of the last four.

@@ -14,9 +14,9 @@ use std::marker::Model;
 /// The vector from one grid point to another. Each coordinate is at most `2^24` in size.
 #[derive(Clone, Copy)]
 pub(crate) struct Vector {
-    x: i32,
-    y: i32,
-    z: i32,
+    pub(crate) x: i32,
+    pub(crate) y: i32,
+    pub(crate) z: i32,
 }
 
 impl Model for Vector {
@@ -99,7 +99,7 @@ pub(crate) fn minor(u: Vector, v: Vector) -> i64
 
 /// The sum of three squares.
 #[inline]
-fn sum_of_squares(x: i32, y: i32, z: i32) -> i64
+pub(crate) fn sum_of_squares(x: i32, y: i32, z: i32) -> i64
     requires x_small { unsigned_abs x ≤ 2 ^ 24 }
     requires y_small { unsigned_abs y ≤ 2 ^ 24 }
     requires z_small { unsigned_abs z ≤ 2 ^ 24 }
