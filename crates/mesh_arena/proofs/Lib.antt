@@ -1,6 +1,7 @@
 pub mod Cells
 pub mod CellSides
 pub mod ConeCell
+pub mod CellCorners
 pub mod Mesh
 pub mod Cone
 pub mod AddStar

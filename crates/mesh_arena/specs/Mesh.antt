@@ -1,8 +1,8 @@
 -- What a contract sees of an `Arena`: a list of slots, each free or with a tetrahedron.
-use Rattle.std.specs.Prelude.{◌≡◌, ◌≢◌, ℕ, ◌+◌, ◌<◌, ◌≤◌, ◌⊎◌, List, [], ◌∷◌, length, slice_index_or, slice_set}
+use Rattle.std.specs.Prelude.{◌≡◌, ◌≢◌, ℕ, ◌+◌, ◌<◌, ◌≤◌, ◌⊎◌, List, [], ◌∷◌, length, map, slice_index_or, slice_set}
 use Rattle.std.specs.Prelude.{Option, Some, None, IsSome, option_map}
 use Rattle.mesh_arena.specs.declared.slot.Corner.{Corner}
-use Rattle.mesh_arena.specs.declared.slot.Corner.TheVariants.{Ghost}
+use Rattle.mesh_arena.specs.declared.slot.Corner.TheVariants.{Point as Numbered, Ghost}
 use Rattle.mesh_arena.specs.declared.arena.SlotFace.{SlotFace}
 use Rattle.mesh_arena.specs.declared.slot.SlotCorners.{SlotCorners}
 
@@ -83,6 +83,10 @@ pub record Links (old new : List (Option SlotValue)) (s i t j : ℕ) : Type 0 wh
   pub first : side new s i ≡ Some (at t j)
   pub second : side new t j ≡ Some (at s i)
   pub others : (u k : ℕ) → Off u k s i → Off u k t j → side new u k ≡ side old u k
+
+-- the corners of a tetrahedron, which are the points with these numbers
+abbrev pub numbered : List ℕ → List Corner
+numbered ns = map Numbered ns
 
 abbrev pub corner_list : SlotCorners → List Corner
 corner_list c = c.a ∷ c.b ∷ c.c ∷ c.d ∷ []

@@ -1,8 +1,9 @@
 //! The arena: its slots, and the changes of one slot or one pair of faces.
 ghost use Rattle.std.specs.Prelude.{◌≡◌, ◌≢◌, ℕ, ◌+◌, ◌<◌, ◌≤◌, ◌↔◌, IsTrue, [], length, Some};
 ghost use Rattle.std.specs.Prelude.{None, IsSome, IfSome, IsOk, IfOk, OnOk, OnErr, MatchOption};
-ghost use Rattle.std.specs.Prelude.{option_map, vec_capacity};
+ghost use Rattle.std.specs.Prelude.{option_map, vec_capacity, List};
 ghost use Rattle.mesh_arena.specs.Mesh.{tet_at, corners_at, IsLive, at, side, corner_list};
+ghost use Rattle.mesh_arena.specs.Mesh.{numbered};
 ghost use Rattle.mesh_arena.specs.Mesh.{AllDiffer, SameFace, IsMesh, Links, Takes};
 ghost use Rattle.mesh_arena.specs.Cells.{cell_corners, IsBare};
 ghost use Rattle.mesh_arena.specs.Replace.{IsCavity, IsRim};
@@ -112,6 +113,18 @@ impl Arena {
     {
         let [a, b, c, d] = self.cells[s.index as usize].corners();
         SlotCorners { a, b, c, d }
+    }
+
+    /// The numbers of a live slot's corners, in their places. None where one is the point at
+    /// infinity.
+    #[inline]
+    pub fn tetrahedron(&self, s: Slot) -> Option<[u32; 4]>
+        requires { IsLive self.now.slots s.index }
+        ensures { MatchOption result
+            ((ns : List ℕ) → corners_at self.now.slots s.index ≢ Some (numbered ns))
+            (λ ns. corners_at self.now.slots s.index ≡ Some (numbered ns)) }
+    {
+        self.cells[s.index as usize].numbers()
     }
 
     /// The neighbor of a live slot behind the face opposite its corner in the place `face`, from 0.

@@ -2,7 +2,8 @@
 ghost use Rattle.std.specs.Prelude.{◌≡◌, ℕ, ◌<◌, ◌^◌, IsTrue, true, false, Some, None};
 ghost use Rattle.std.specs.Prelude.{IsSome, slice_index_or, slice_set};
 ghost use Rattle.mesh_arena.specs.declared.slot.Corner.TheVariants.{Ghost as Infinite};
-ghost use Rattle.mesh_arena.specs.Mesh.{corner_list, at, tet_with};
+ghost use Rattle.std.specs.Prelude.{MatchOption, List, ◌≢◌};
+ghost use Rattle.mesh_arena.specs.Mesh.{corner_list, at, tet_with, numbered};
 ghost use Rattle.mesh_arena.specs.Cells.{number_in, corners_in, corner_with, sides_in, side_to};
 ghost use Rattle.mesh_arena.specs.Cells.{is_infinite, slot_in, face_in, live_in, tet_in, next_of};
 ghost use Rattle.mesh_arena.specs.Cells.{cell_corners, IsBare};
@@ -124,6 +125,19 @@ impl Cell {
         }
     }
 
+    // The numbers of the corners, in their places. None where one is the point at infinity.
+    pub(crate) fn numbers(&self) -> Option<[u32; 4]>
+        ensures { MatchOption result
+            ((ns : List ℕ) → corners_in self.now.points self.now.links ≢ numbered ns)
+            (λ ns. corners_in self.now.points self.now.links ≡ numbered ns) }
+    {
+        let [i, j, k, l] = self.links;
+        if is_infinite(i) || is_infinite(j) || is_infinite(k) || is_infinite(l) {
+            return None;
+        }
+        Some(self.points)
+    }
+
     // The slot and face behind a face, if they are there.
     pub(crate) fn side(&self, face: u8) -> Option<SlotFace>
         requires { face < 4 }
@@ -182,12 +196,20 @@ impl Cell {
     }
 }
 
+// Whether the corner with this link is the point at infinity.
+#[inline]
+fn is_infinite(link: u32) -> bool
+    ensures { result ≡ is_infinite link }
+{
+    link / INFINITE % 2 == 1
+}
+
 // The corner with this number, or the point at infinity where the link says so.
 #[inline]
 fn corner_of(number: u32, link: u32) -> Corner
     ensures { result ≡ corner_with number link }
 {
-    if link / INFINITE % 2 == 1 {
+    if is_infinite(link) {
         Corner::Ghost
     } else {
         Corner::Point(number)

@@ -256,6 +256,22 @@ fn a_point_replaces_a_tetrahedron_of_a_cube(rt: HostRuntime) -> Result<(), Fail>
     Ok(())
 }
 
+// The numbers of the slot with these corners.
+fn numbers_of(arena: &Arena, row: [i32; 4]) -> Option<[u32; 4]> {
+    arena.tetrahedron(find(arena, row)?)
+}
+
+#[test]
+fn numbers_of_tetrahedra(rt: HostRuntime) -> Result<(), Fail> {
+    let arena = linked_mesh(rt.alloc(), &CUBE)?;
+    let numbers = (
+        numbers_of(&arena, [1, 3, 4, 5]),
+        numbers_of(&arena, [1, 2, 3, -1]),
+    );
+    assert_eq!(rt; numbers, (Some([1, 3, 4, 5]), None));
+    Ok(())
+}
+
 // Puts a point in the place of the slot at a place, and tells whether it did.
 fn split_at(alloc: Global, arena: &mut Arena, place: usize, point: u32) -> Result<bool, NoMemory> {
     if place >= arena.slots() {
