@@ -1,5 +1,5 @@
 -- The corners of a cell, and how it is made from another, with a point in place of one corner.
-use Rattle.std.proofs.Common.{◌≡◌, ◌≢◌, ℕ, zero, suc, ◌+◌, ◌/◌, ◌%◌, ◌<◌, Bool, false, List, [], ◌∷◌, length, map, get_or, set, None, if◌then◌else◌, refl, sym, ap, ◌∙◌, arith}
+use Rattle.std.proofs.Common.{◌≡◌, ◌≢◌, ℕ, zero, suc, ◌+◌, ◌/◌, ◌%◌, ◌<◌, ◌==◌, Bool, false, List, [], ◌∷◌, length, map, get_or, set, None, if◌then◌else◌, refl, sym, ap, ◌∙◌, arith}
 use Rattle.std.proofs.lemmas.Bool.{ne_eqb, eq-eqb}
 use Rattle.mesh_arena.specs.declared.slot.Corner.{Corner}
 use Rattle.mesh_arena.specs.declared.slot.Corner.TheVariants.{Point, Ghost}
@@ -25,6 +25,22 @@ corners_in-point [] links i point link e h g = absurd (omega arith)
 corners_in-point (n ∷ ns) [] i point link e h g = absurd (omega arith)
 corners_in-point (n ∷ ns) (x ∷ xs) zero point link e h g = rw e refl
 corners_in-point (n ∷ ns) (x ∷ xs) (suc i) point link e h g = ap (λ rest. corner_with n x ∷ rest) (corners_in-point ns xs i point link e (omega arith) (omega arith))
+
+-- four numbers of which each is this one or stays
+pub picked : (xs : List ℕ) (i to p q r s : ℕ) → length xs ≡ 4 → i < 4 → p ≡ (if i == 0 then to else get_or xs 0 0) → q ≡ (if i == 1 then to else get_or xs 1 0) → r ≡ (if i == 2 then to else get_or xs 2 0) → s ≡ (if i == 3 then to else get_or xs 3 0) → p ∷ q ∷ r ∷ s ∷ [] ≡ set xs i to
+picked [] i to p q r s four below e f g h = absurd (omega arith)
+picked (x ∷ []) i to p q r s four below e f g h = absurd (omega arith)
+picked (x ∷ y ∷ []) i to p q r s four below e f g h = absurd (omega arith)
+picked (x ∷ y ∷ z ∷ []) i to p q r s four below e f g h = absurd (omega arith)
+picked (x ∷ y ∷ z ∷ w ∷ []) zero to p q r s four below e f g h = rw (e, f, g, h) refl
+picked (x ∷ y ∷ z ∷ w ∷ []) (suc zero) to p q r s four below e f g h = rw (e, f, g, h) refl
+picked (x ∷ y ∷ z ∷ w ∷ []) (suc (suc zero)) to p q r s four below e f g h = rw (e, f, g, h) refl
+picked (x ∷ y ∷ z ∷ w ∷ []) (suc (suc (suc zero))) to p q r s four below e f g h = rw (e, f, g, h) refl
+picked (x ∷ y ∷ z ∷ w ∷ []) (suc (suc (suc (suc i)))) to p q r s four below e f g h = absurd (omega arith)
+picked (x ∷ y ∷ z ∷ w ∷ v ∷ rest) i to p q r s four below e f g h = absurd (omega arith)
+
+pub same_lists : (points numbers links others : List ℕ) → points ≡ numbers → links ≡ others → corners_in points links ≡ corners_in numbers others
+same_lists points numbers links others e f = rw (e, f) refl
 
 -- the links of the same corners with nothing behind the faces
 pub record Unlinked (links : List ℕ) (a b c d : ℕ) : Type 0 where

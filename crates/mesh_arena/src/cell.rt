@@ -1,6 +1,6 @@
 //! How a slot lies in memory: 32 bytes, so that two lie in each line of the near cache.
 ghost use Rattle.std.specs.Prelude.{◌≡◌, ℕ, ◌<◌, ◌^◌, IsTrue, true, false, Some, None};
-ghost use Rattle.std.specs.Prelude.{IsSome, slice_index_or, slice_set};
+ghost use Rattle.std.specs.Prelude.{IsSome, slice_index_or, slice_set, if◌then◌else◌};
 ghost use Rattle.mesh_arena.specs.declared.slot.Corner.TheVariants.{Ghost as Infinite};
 ghost use Rattle.std.specs.Prelude.{MatchOption, List, ◌≢◌};
 ghost use Rattle.mesh_arena.specs.Mesh.{corner_list, at, tet_with, numbered};
@@ -40,6 +40,14 @@ fn bare(corner: Corner) -> u32
         Corner::Point(_) => NO_FACE,
         Corner::Ghost => INFINITE + NO_FACE,
     }
+}
+
+// The first number or the second.
+#[inline(always)]
+fn either(first: bool, one: u32, two: u32) -> u32
+    ensures { result ≡ (if first then one else two) }
+{
+    if first { one } else { two }
 }
 
 // The link with nothing behind its face.
@@ -82,12 +90,22 @@ impl Cell {
         ensures corners { cell_corners result
             ≡ slice_set (cell_corners self.now) place (Corner.Point point) }
     {
-        let mut points = self.points;
+        let [a, b, c, d] = self.points;
         let [i, j, k, l] = self.links;
-        let mut links = [unlinked(i), unlinked(j), unlinked(k), unlinked(l)];
-        points[place as usize] = point;
-        links[place as usize] = NO_FACE;
-        Cell { points, links }
+        Cell {
+            points: [
+                either(place == 0, point, a),
+                either(place == 1, point, b),
+                either(place == 2, point, c),
+                either(place == 3, point, d),
+            ],
+            links: [
+                either(place == 0, NO_FACE, unlinked(i)),
+                either(place == 1, NO_FACE, unlinked(j)),
+                either(place == 2, NO_FACE, unlinked(k)),
+                either(place == 3, NO_FACE, unlinked(l)),
+            ],
+        }
     }
 
     // Whether the cell is no free one.

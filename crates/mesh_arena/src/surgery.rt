@@ -19,17 +19,17 @@ use tet_ports::NoMemory;
 
 impl Arena {
     // Puts a new slot behind a face that has no neighbor and fits it.
-    fn add_over(&mut self, outer: RimFace, slot: StarSlot) -> u32
+    fn add_over(&mut self, outer: RimFace, slot: &StarSlot) -> u32
         requires live { IsLive self.old.slots outer.slot.index }
-        requires faces { (outer.face < 4) × (slot.face < 4) }
+        requires faces { (outer.face < 4) × (slot.now.face < 4) }
         requires free { side self.old.slots outer.slot.index outer.face ≡ None }
-        requires bare { IsBare slot.cell }
-        requires differ { AllDiffer (cell_corners slot.cell) }
+        requires bare { IsBare slot.now.cell }
+        requires differ { AllDiffer (cell_corners slot.now.cell) }
         requires fits { FitsFace self.old.slots outer.slot.index outer.face
-            (cell_corners slot.cell) slot.face }
+            (cell_corners slot.now.cell) slot.now.face }
         requires room { 0 < self.old.room }
         ensures adds { AddsOver self.old.slots self.new.slots outer.slot.index outer.face result
-            (cell_corners slot.cell) slot.face }
+            (cell_corners slot.now.cell) slot.now.face }
         ensures room { self.new.room + 1 ≡ self.old.room }
     {
         let made = self.take_slot(slot.cell);
@@ -49,7 +49,7 @@ impl Arena {
         ensures len { length star.new.items ≡ length rim.now }
     {
         for r in 0..rim.len() {
-            let made = self.add_over(rim[r], star[r]);
+            let made = self.add_over(rim[r], &star[r]);
             star[r].slot = made;
         }
         let _ = &self.cells;
@@ -186,12 +186,12 @@ impl Arena {
         rim: &[RimFace],
         point: u32,
         r: usize,
-        one: StarSlot,
+        one: &StarSlot,
         table: &mut EdgeTable,
     )
         requires star { IsStar self.old.slots rim.now (Corner.Point point) }
         requires inside { r < length rim.now }
-        requires over { StandsOver self.old.slots rim.now r one }
+        requires over { StandsOver self.old.slots rim.now r one.now }
         requires met { AreOverEdges self.old.slots rim.now (Corner.Point point) table.old }
         ensures links { LinksStar self.old.slots self.new.slots rim.now (Corner.Point point) 0 }
         ensures met { AreOverEdges self.new.slots rim.now (Corner.Point point) table.new }
@@ -201,14 +201,12 @@ impl Arena {
         let x = table.end(one.cell.number(i));
         let y = table.end(one.cell.number(j));
         let z = table.end(one.cell.number(k));
-        let (yz, xz, xy) = (
-            EdgePlace::between(y, z),
-            EdgePlace::between(x, z),
-            EdgePlace::between(x, y),
-        );
         let slot = one.slot;
+        let yz = EdgePlace::between(y, z);
         self.link_at_edge(rim, point, yz, SlotFace { slot, face: i }, table);
+        let xz = EdgePlace::between(x, z);
         self.link_at_edge(rim, point, xz, SlotFace { slot, face: j }, table);
+        let xy = EdgePlace::between(x, y);
         self.link_at_edge(rim, point, xy, SlotFace { slot, face: k }, table);
     }
 
@@ -223,7 +221,7 @@ impl Arena {
     {
         table.start(rim.len(), self.cells.len());
         for r in 0..rim.len() {
-            self.link_slot(rim, point, r, star[r], table);
+            self.link_slot(rim, point, r, &star[r], table);
         }
     }
 

@@ -10,4 +10,4 @@ link-requires-clause-same c =
     let takes = c.take_slot-made.ensures.takes in
     let apart : c.args.outer.slot.index ≢ c.take_slot-made.result =
     λ e. none_live _ (ap (corners_at c.args.self.now.slots) e ∙ takes.free) c.requires.live in
-    fits_same _ _ _ _ _ _ (cell_corners c.args.slot.cell) c.requires.fits (takes.corners _ apart) takes.made
+    fits_same _ _ _ _ _ _ (cell_corners c.args.slot.now.cell) c.requires.fits (takes.corners _ apart) takes.made

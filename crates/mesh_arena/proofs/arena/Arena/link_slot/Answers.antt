@@ -9,7 +9,7 @@ pub link_at_edge-requires-clause-over : goal.link_at_edge-requires-clause-over
 link_at_edge-requires-clause-over c =
     let e = c.between-yz.result.edge in
     let is = c.between-yz.ensures ∙ edge_of-numbers _ _ _ _ (c.end-y.ensures.number ∙ c.number-2.ensures) (c.end-z.ensures.number ∙ c.number-3.ensures) in
-    IsOverEdge-face _ c.args.rim.now (Point c.args.point) c.requires.star c.args.r c.args.one _ _ _ e c.requires.inside c.requires.over
+    IsOverEdge-face _ c.args.rim.now (Point c.args.point) c.requires.star c.args.r c.args.one.now _ _ _ e c.requires.inside c.requires.over
     (opposite _ _ _ _ c.other_places-i.ensures) is
 
 pub link_at_edge-requires-2-clause-over : goal.link_at_edge-requires-2-clause-over
@@ -17,10 +17,10 @@ link_at_edge-requires-2-clause-over c =
     let slots = c.args.self.now.slots in
     let point = Point c.args.point in
     let one = c.link_at_edge.ensures.links in
-    let over = StandsOver-along slots _ c.args.rim.now point 0 c.requires.star one c.args.r c.args.one c.requires.inside c.requires.over in
+    let over = StandsOver-along slots _ c.args.rim.now point 0 c.requires.star one c.args.r c.args.one.now c.requires.inside c.requires.over in
     let e = c.between-xz.result.edge in
     let is = c.between-xz.ensures ∙ edge_of-numbers _ _ _ _ (c.end-x.ensures.number ∙ c.number.ensures) (c.end-z.ensures.number ∙ c.number-3.ensures) in
-    IsOverEdge-face _ c.args.rim.now point one.star c.args.r c.args.one _ _ _ e c.requires.inside over
+    IsOverEdge-face _ c.args.rim.now point one.star c.args.r c.args.one.now _ _ _ e c.requires.inside over
     (opposite _ _ _ _ (first_last _ _ _ _ c.other_places-i.ensures)) is
 
 pub link_at_edge-requires-3-clause-over : goal.link_at_edge-requires-3-clause-over
@@ -30,8 +30,8 @@ link_at_edge-requires-3-clause-over c =
     let point = Point c.args.point in
     let one = c.link_at_edge.ensures.links in
     let two = LinksStar-then slots _ _ rim point 0 0 c.requires.star (omega arith) one c.link_at_edge-2.ensures.links in
-    let over = StandsOver-along slots _ rim point 0 c.requires.star two c.args.r c.args.one c.requires.inside c.requires.over in
+    let over = StandsOver-along slots _ rim point 0 c.requires.star two c.args.r c.args.one.now c.requires.inside c.requires.over in
     let e = c.between-xy.result.edge in
     let is = c.between-xy.ensures ∙ edge_of-numbers _ _ _ _ (c.end-x.ensures.number ∙ c.number.ensures) (c.end-y.ensures.number ∙ c.number-2.ensures) in
-    IsOverEdge-face _ rim point two.star c.args.r c.args.one _ _ _ e c.requires.inside over
+    IsOverEdge-face _ rim point two.star c.args.r c.args.one.now _ _ _ e c.requires.inside over
     (opposite _ _ _ _ (first_last _ _ _ _ (turned _ _ _ _ c.other_places-i.ensures))) is
