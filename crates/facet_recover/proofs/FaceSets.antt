@@ -4,14 +4,15 @@ use Rattle.std.specs.Prelude.{◌↔◌, Any, Contains}
 use Rattle.std.specs.List.{list_any}
 use Rattle.std.specs.HashSet.{HashSet, contains}
 use Rattle.std.proofs.lemmas.List.{flat_map_more, take-append-drop}
-use Rattle.geo_laws.specs.Faces.{row_faces, faces_of_rows}
+use Rattle.geo_laws.specs.Faces.{face_of, row_faces, faces_of_rows}
 use Rattle.geo_laws.specs.declared.faces.Face.{Face}
 use Rattle.geo_laws.specs.declared.tetrahedra.Tet.{Tet}
 use Rattle.geo_laws.specs.declared.complex.FacetTriangle.{FacetTriangle}
-use Rattle.geo_laws.proofs.Members.{IsMember, here, in_cons, both_true, member_of, contains_of, append_cases, in_append_left, in_append_right, flat_map_cases, in_flat_map}
+use Rattle.geo_laws.proofs.Members.{IsMember, here, there, in_cons, both_true, member_of, contains_of, append_cases, in_append_left, in_append_right, flat_map_cases, in_flat_map}
 use Rattle.box_tree.proofs.Lists.{more_cases, in_more, in_last, any_of, any_member}
+use Rattle.refill_laws.proofs.SortedFaces.{to_sorted}
 use Rattle.facet_recover.specs.declared.missing.FaceKey.{FaceKey}
-use Rattle.facet_recover.specs.Missing.{key, same_key, HasFace, face_of_triangle, HasTriangles, IsWithout, AreMissing}
+use Rattle.facet_recover.specs.Missing.{key, same_key, HasFace, IsMarked, KeepsMarks, HasMarks, AreMarked, face_of_triangle, HasTriangles, IsWithout, AreMissing}
 
 -- ---- keys
 
@@ -99,6 +100,20 @@ module _ {S : Type 0} where
           (subst (λ (v : FacetTriangle). same_key (key (face_of_triangle v)) (key f) ≡ true) e
           (subst (λ (g : Face). same_key (key (face_of_triangle a.1)) (key g) ≡ true) a.4 (self_key (face_of_triangle a.1))))
 
+  -- all corners are marked when those of the new face are
+  pub marked_more : (s n : HashSet FaceKey S) (k : FaceKey) (old new : List Bool) → IsSetAt s n k true → AreMarked s old → KeepsMarks old new → IsMarked new k.a → IsMarked new k.b → IsMarked new k.c → AreMarked n new
+  marked_more s n k old new u h keep a b c f e = go (put_cases (same_key k (key f)) (contains same_key s (key f)) (sym (u (key f)) ∙ e))
+    where
+      at : same_key k (key f) ≡ true → HasMarks new f
+      at d = let g = same_face (record { a = k.a; b = k.b; c = k.c }) f d in subst (HasMarks new) g (a, b, c)
+
+      go : (same_key k (key f) ≡ true) ⊎ HasFace s f → HasMarks new f
+      go (inl d) = at d
+      go (inr d) = let m = h f d in (keep f.a m.0, keep f.b m.1, keep f.c m.2)
+
+  pub marked_none : (s : HashSet FaceKey S) (marks : List Bool) → s.keys ≡ [] → AreMarked s marks
+  marked_none s marks e f h = absurd (not_both (sym (empty_has_none s (key f) (ap (λ (ks : List FaceKey). length ks) e)) ∙ h))
+
   -- ---- faces are taken out
 
   pub without_none : (s : HashSet FaceKey S) → IsWithout s s []
@@ -145,6 +160,10 @@ module _ {S : Type 0} where
   pub without_more : (s m n : HashSet FaceKey S) (rows : List Tet) (t : Tet) → IsWithout s m (faces_of_rows rows) → IsWithout m n (row_faces t) → IsWithout s n (faces_of_rows (rows ++ t ∷ []))
   without_more s m n rows t h k = subst (IsWithout s n) (flat_map_more row_faces [] rows t) (without_both s m n (faces_of_rows rows) (row_faces t) h k)
 
+  -- a row none of whose faces has all corners marked has none in the set
+  pub without_unmarked : (s n : HashSet FaceKey S) (marks : List Bool) (fs gs : List Face) → AreMarked s marks → IsWithout s n gs → ((f : Face) → Contains fs f → ¬ HasMarks marks f) → IsWithout n n fs
+  without_unmarked s n marks fs gs h out unmarked f = (λ e. (e, λ m. unmarked f m (h f ((out f).0 e).0)), λ e. e.0)
+
   -- when none is left, no other row has one
   pub without_rest : (s n : HashSet FaceKey S) (rows : List Tet) (i : ℕ) → length n.keys ≡ 0 → IsWithout s n (faces_of_rows (take i rows)) → IsWithout s n (faces_of_rows rows)
   without_rest s n rows i e h f = (λ k. absurd (not_both (sym (empty_has_none n (key f) e) ∙ k)), λ k. (h f).1 (k.0, λ m. k.1 (all m)))
@@ -182,3 +201,44 @@ module _ {S : Type 0} where
 
   pub missing_are : (ts left : List FacetTriangle) (rows : List Tet) (s n : HashSet FaceKey S) → HasTriangles ts s → IsWithout s n (faces_of_rows rows) → AreLeft n ts left → AreMissing ts rows left
   missing_are ts left rows s n has out are t = (λ m. (let q = (are t).0 m in (q.0, ((out (face_of_triangle t)).0 q.1).1)), λ m. (are t).1 (m.0, (out (face_of_triangle t)).1 ((has (face_of_triangle t)).1 (any_of (λ u. face_of_triangle u ≡ face_of_triangle t) ts t m.0 refl), m.1)))
+
+-- ---- marks
+
+-- a corner of a face that has all corners marked
+marked_corner : (marks : List Bool) (i j k l : ℕ) → IsMember l (i ∷ j ∷ k ∷ []) → HasMarks marks (face_of i j k) → IsMarked marks l
+marked_corner marks i j k l m h = go (in_cons l f.a (f.b ∷ f.c ∷ []) (to_sorted i j k l m))
+  where
+    f : Face
+    f = face_of i j k
+
+    last : (l ≡ f.c) ⊎ IsMember l [] → IsMarked marks l
+    last (inl e) = subst (IsMarked marks) (sym e) h.2
+    last (inr n) = elim n [ ]
+
+    next : (l ≡ f.b) ⊎ IsMember l (f.c ∷ []) → IsMarked marks l
+    next (inl e) = subst (IsMarked marks) (sym e) h.1
+    next (inr n) = last (in_cons l f.c [] n)
+
+    go : (l ≡ f.a) ⊎ IsMember l (f.b ∷ f.c ∷ []) → IsMarked marks l
+    go (inl e) = subst (IsMarked marks) (sym e) h.0
+    go (inr n) = next (in_cons l f.b (f.c ∷ []) n)
+
+-- three corners of the row are marked
+pub data HasThree (marks : List Bool) (t : Tet) : Type 0 where
+  but_first : IsMarked marks t.b → IsMarked marks t.c → IsMarked marks t.d → HasThree marks t
+  but_second : IsMarked marks t.a → IsMarked marks t.c → IsMarked marks t.d → HasThree marks t
+  but_third : IsMarked marks t.a → IsMarked marks t.b → IsMarked marks t.d → HasThree marks t
+  but_last : IsMarked marks t.a → IsMarked marks t.b → IsMarked marks t.c → HasThree marks t
+
+pub three_of_face : (marks : List Bool) (t : Tet) (f : Face) → Contains (row_faces t) f → HasMarks marks f → HasThree marks t
+three_of_face marks t f m h = go f (member_of (row_faces t) f m) h
+  where
+    each : (i j k : ℕ) → HasMarks marks (face_of i j k) → IsMarked marks i × IsMarked marks j × IsMarked marks k
+    each i j k h = (marked_corner marks i j k i here h, marked_corner marks i j k j (there here) h, marked_corner marks i j k k (there (there here)) h)
+
+    go : (g : Face) → IsMember g (row_faces t) → HasMarks marks g → HasThree marks t
+    go g here h = let e = each t.b t.c t.d h in but_first e.0 e.1 e.2
+    go g (there here) h = let e = each t.a t.c t.d h in but_second e.0 e.1 e.2
+    go g (there (there here)) h = let e = each t.a t.b t.d h in but_third e.0 e.1 e.2
+    go g (there (there (there here))) h = let e = each t.a t.b t.c h in but_last e.0 e.1 e.2
+    go g (there (there (there (there n)))) h = elim n [ ]

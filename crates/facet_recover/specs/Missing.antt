@@ -1,5 +1,5 @@
 -- The facet triangles that are no faces of the rows.
-use Rattle.std.specs.Prelude.{◌≡◌, ◌↔◌, ◌==◌, ◌&&◌, Bool, IsTrue, List, Any, Contains}
+use Rattle.std.specs.Prelude.{◌≡◌, ◌↔◌, ℕ, ◌==◌, ◌&&◌, Bool, false, IsTrue, List, slice_index_or, Any, Contains}
 use Rattle.std.specs.HashSet.{HashSet, contains}
 use Rattle.geo_laws.specs.Faces.{face_of, faces_of_rows}
 use Rattle.geo_laws.specs.declared.faces.Face.{Face}
@@ -16,6 +16,25 @@ same_key p q = p.a == q.a && (p.b == q.b && p.c == q.c)
 -- the face is in the set
 abbrev pub HasFace : {S : Type 0} → HashSet FaceKey S → Face → Type 0
 HasFace s f = IsTrue (contains same_key s (key f))
+
+-- ---- marks at points
+
+abbrev pub IsMarked : List Bool → ℕ → Type 0
+IsMarked marks i = IsTrue (slice_index_or marks i false)
+
+-- what was marked still is
+abbrev pub KeepsMarks : List Bool → List Bool → Type 0
+KeepsMarks old new = (i : ℕ) → IsMarked old i → IsMarked new i
+
+-- all three corners are marked
+abbrev pub HasMarks : List Bool → Face → Type 0
+HasMarks marks f = IsMarked marks f.a × IsMarked marks f.b × IsMarked marks f.c
+
+-- all corners of the faces in the set are marked
+abbrev pub AreMarked : {S : Type 0} → HashSet FaceKey S → List Bool → Type 0
+AreMarked s marks = (f : Face) → HasFace s f → HasMarks marks f
+
+-- ---- triangles
 
 -- the triangle as a face, its corners ascending
 abbrev pub face_of_triangle : FacetTriangle → Face

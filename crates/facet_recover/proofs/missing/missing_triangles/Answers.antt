@@ -26,5 +26,5 @@ loop-i-preserved c =
 
 pub returns : goal.returns
 returns c =
-    missing_are c.args.triangles.now c.loop-i.missing c.args.list.now c.in_ok-faces.faces c.take_all_faces.new.faces c.in_ok-faces.ensures c.take_all_faces.ensures
+    missing_are c.args.triangles.now c.loop-i.missing c.args.list.now c.in_ok-faces.faces.found c.take_all_faces.new.faces c.in_ok-faces.ensures.has c.take_all_faces.ensures
     (subst (λ vs. AreLeft c.take_all_faces.new.faces vs c.loop-i.missing) (take_all c.loop-i.i c.args.triangles.now (omega arith)) c.loop-i.invariant)
