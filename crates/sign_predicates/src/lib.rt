@@ -24,7 +24,7 @@ pub use meeting::{segment_meets_triangle, segments_meet, spans_plane, triangles_
 pub use orientation::{beyond, coplanar, in_tet, orient, orient_rat};
 pub use point::{GridPoint, RatPoint};
 pub use reach::sphere_reach;
-pub use sphere::outside;
+pub use sphere::{outside, wins_tie};
 pub use tetrahedron::{Corners, Hold, Numbers, Sign};
 
 #[cfg(test)]

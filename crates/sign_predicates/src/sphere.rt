@@ -141,8 +141,9 @@ fn least_of(counts: bool, number: u64, least: u64) -> u64
     }
 }
 
-/// The decision for a point on the sphere: the least number for outside against the least one for inside.
-fn wins_tie(t: &Corners, n: Numbers, p: GridPoint, m: u32) -> bool
+/// Whether a point on the sphere through the corners of the positive tetrahedron `t` is outside, by the rule of `outside`: the least
+/// number for outside against the least one for inside.
+pub fn wins_tie(t: &Corners, n: Numbers, p: GridPoint, m: u32) -> bool
     ensures { result ≡ wins_tie t.now n p m }
 {
     let a = orient_sum(t.b, t.d, t.c, p);

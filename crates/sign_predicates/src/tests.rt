@@ -7,7 +7,7 @@ use crate::sphere::in_sphere;
 use crate::{
     Corners, Frame, GridPoint, Hold, Numbers, RatPoint, Sign, beyond, coplanar, in_lifted_sphere,
     in_tet, orient, orient_rat, outside, segment_meets_triangle, segments_meet, spans_plane,
-    triangle_enters, triangles_meet,
+    triangle_enters, triangles_meet, wins_tie,
 };
 
 fn at(p: [i8; 3]) -> GridPoint {
@@ -76,6 +76,20 @@ fn spheres(rt: HostRuntime) {
     for (name, corners, n, p, m, want) in cases {
         assert_eq!(rt; is_outside(corners, n, p, m), want, "{name}");
     }
+}
+
+// The rule for ties at points on the sphere.
+fn ties() -> [bool; 2] {
+    let unit = tet(UNIT);
+    [
+        wins_tie(&unit, numbers([0, 1, 2, 3]), at([1, 1, 1]), 4),
+        wins_tie(&unit, numbers([4, 0, 2, 3]), at([1, 1, 1]), 1),
+    ]
+}
+
+#[test]
+fn least_numbers(rt: HostRuntime) {
+    assert_eq!(rt; ties(), [true, false]);
 }
 
 const FAR: i32 = 8_388_608;
