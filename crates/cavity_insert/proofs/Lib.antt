@@ -4,6 +4,7 @@ pub mod Growth
 pub mod Pigeons
 pub mod StartMesh
 pub mod Insertion
+pub mod Lifts
 pub mod Building
 pub mod Planes
 pub mod LostSides

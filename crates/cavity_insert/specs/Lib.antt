@@ -10,6 +10,7 @@ pub mod Marks
 pub mod Order
 pub mod RowKeys
 pub mod Rows
+pub mod Lifting
 pub mod Search
 pub mod Sides
 pub mod Start

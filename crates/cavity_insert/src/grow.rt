@@ -7,6 +7,7 @@ ghost use Rattle.mesh_laws.specs.Reach.{Grown};
 ghost use Rattle.cavity_insert.specs.Search.{IsInZone};
 ghost use Rattle.cavity_insert.specs.Growth.{HasBegun, IsGrowing};
 
+use crate::lifting::Sites;
 use crate::marks::MarkedCavity;
 use crate::search::Search;
 use crate::steps::Steps;
@@ -162,7 +163,12 @@ pub fn grow_cavity<L: Ledger>(
 {
     let mut growth = Growth::new(alloc);
     growth.begin(start);
-    let search = Search::new(arena, points, p, number);
+    let none = None;
+    let sites = Sites {
+        points,
+        lifted: &none,
+    };
+    let search = Search::new(arena, &sites, p, number);
     growth.grow(&search, steps)?;
     let Growth { cavity, rim, .. } = growth;
     Ok((cavity.into_cavity(), rim))

@@ -5,9 +5,11 @@ ghost use Rattle.geo_laws.specs.Delaunay.{point};
 ghost use Rattle.mesh_laws.specs.Laws.{slot_of};
 ghost use Rattle.mesh_laws.specs.Living.{IsDelaunayMesh};
 ghost use Rattle.cavity_insert.specs.Insert.{IsReadyFor};
+ghost use Rattle.cavity_insert.specs.Lifting.{MayBeLifted};
 ghost use Rattle.cavity_insert.specs.Growth.{IsCavityOf};
 
 use crate::grow::Growth;
+use crate::lifting::Sites;
 use crate::search::Search;
 use crate::steps::Steps;
 use geo_laws::Points;
@@ -21,22 +23,23 @@ use tet_ports::NoMemory;
 /// some other points. The walk to the point begins at `near`, a live slot.
 pub(crate) fn grow_at<L: Ledger>(
     arena: &Arena,
-    points: &Points,
+    sites: &Sites<'_>,
     number: u32,
     near: Slot,
     growth: &mut Growth,
     steps: &mut Steps<L>,
 ) -> Result<(), NoMemory>
-    requires ready { (ms : List ℕ) × IsReadyFor arena.now.slots points.now ms number }
+    requires ready { (ms : List ℕ) × IsReadyFor arena.now.slots sites.now.points.now ms number }
+    requires lifted { MayBeLifted sites.now.lifted.now sites.now.points.now }
     requires near { IsLive arena.now.slots near.index }
-    ensures { OnOk result (IsCavityOf arena.now.slots points.now number growth.new.cavity
+    ensures { OnOk result (IsCavityOf arena.now.slots sites.now.points.now number growth.new.cavity
         growth.new.rim) }
 {
     let _ = arena.tet(near);
-    let p = point_at(points, number);
-    let first = slot_of(locate(arena, points, near, p));
+    let p = point_at(sites.points, number);
+    let first = slot_of(locate(arena, sites.points, near, p));
     growth.begin(first);
-    let search = Search::new(arena, points, p, number);
+    let search = Search::new(arena, sites, p, number);
     growth.grow(&search, steps)
 }
 
@@ -45,19 +48,21 @@ pub(crate) fn grow_at<L: Ledger>(
 /// slot. On `NoMemory` the mesh is as it was.
 pub(crate) fn insert_point<L: Ledger>(
     arena: &mut Arena,
-    points: &Points,
+    sites: &Sites<'_>,
     number: u32,
     near: Slot,
     growth: &mut Growth,
     steps: &mut Steps<L>,
 ) -> Result<Slot, NoMemory>
-    requires ready { (ms : List ℕ) × IsReadyFor arena.old.slots points.now ms number }
+    requires ready { (ms : List ℕ) × IsReadyFor arena.old.slots sites.now.points.now ms number }
+    requires lifted { MayBeLifted sites.now.lifted.now sites.now.points.now }
     requires near { IsLive arena.old.slots near.index }
-    ensures mesh { IfOk result (λ s. (ms : List ℕ) → IsReadyFor arena.old.slots points.now ms number
-        → IsDelaunayMesh arena.new.slots points.now (number ∷ ms)) }
+    ensures mesh { IfOk result (λ s. (ms : List ℕ)
+        → IsReadyFor arena.old.slots sites.now.points.now ms number
+        → IsDelaunayMesh arena.new.slots sites.now.points.now (number ∷ ms)) }
     ensures live { IfOk result (λ s. IsLive arena.new.slots s.index) }
 {
-    grow_at(arena, points, number, near, growth, steps)?;
+    grow_at(arena, sites, number, near, growth, steps)?;
     arena.reserve(growth.rim.len())?;
     arena.replace_cavity(growth.cavity.as_cavity(), &growth.rim, number)
 }

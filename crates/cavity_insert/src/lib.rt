@@ -5,6 +5,7 @@ mod first;
 mod grow;
 mod hull;
 mod insert;
+mod lifting;
 mod living;
 mod lost;
 mod marks;

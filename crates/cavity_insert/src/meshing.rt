@@ -4,11 +4,13 @@ ghost use Rattle.geo_laws.specs.Delaunay.{numbers, all_numbers, has_corner, dela
 ghost use Rattle.geo_laws.specs.Delaunay.{AreCoplanar, HasDistinctPoints, IsOn, IsDelaunayList};
 ghost use Rattle.mesh_arena.specs.Mesh.{IsLive};
 ghost use Rattle.mesh_laws.specs.Living.{IsDelaunayMesh};
+ghost use Rattle.cavity_insert.specs.Lifting.{MayBeLifted};
 ghost use Rattle.cavity_insert.specs.Order.{IsOrderOf};
 
 use crate::first::first_row;
 use crate::grow::Growth;
 use crate::insert::insert_point;
+use crate::lifting::{Sites, lift_points};
 use crate::order::{Turn, insertion_order};
 use crate::rows::slot_rows;
 use crate::start::start_mesh;
@@ -64,18 +66,20 @@ pub(crate) fn has_corner(t: Tet, i: u32) -> bool
 fn insert_all<L: Ledger>(
     alloc: Global,
     built: &mut Built,
-    points: &Points,
+    sites: &Sites<'_>,
     first: Tet,
     turns: &[Turn],
     steps: &mut Steps<L>,
 ) -> Result<(), NoMemory>
-    requires distinct { HasDistinctPoints points.now }
-    requires few { length points.now < 2 ^ 32 - 1 }
-    requires order { IsOrderOf (length points.now) turns.now }
-    requires mesh { IsDelaunayMesh built.old.arena.slots points.now (numbers first) }
+    requires distinct { HasDistinctPoints sites.now.points.now }
+    requires few { length sites.now.points.now < 2 ^ 32 - 1 }
+    requires order { IsOrderOf (length sites.now.points.now) turns.now }
+    requires mesh { IsDelaunayMesh built.old.arena.slots sites.now.points.now (numbers first) }
+    requires lifted { MayBeLifted sites.now.lifted.now sites.now.points.now }
     requires near { IsLive built.old.arena.slots built.old.last.index }
     ensures mesh { OnOk result
-        (IsDelaunayMesh built.new.arena.slots points.now (all_numbers points.now)) }
+        (IsDelaunayMesh built.new.arena.slots sites.now.points.now
+        (all_numbers sites.now.points.now)) }
     ensures live { OnOk result (IsLive built.new.arena.slots built.new.last.index) }
 {
     let mut growth = Growth::new(alloc);
@@ -83,7 +87,7 @@ fn insert_all<L: Ledger>(
         if !has_corner(first, turn.number) {
             let near = built.last;
             let arena = &mut built.arena;
-            let last = insert_point(arena, points, turn.number, near, &mut growth, steps)?;
+            let last = insert_point(arena, sites, turn.number, near, &mut growth, steps)?;
             built.last = last;
         }
     }
@@ -111,7 +115,12 @@ pub(crate) fn mesh_points<L: Ledger>(
     let turns = insertion_order(alloc, points)?;
     let (arena, last) = start_mesh(alloc, points, first)?;
     let mut built = Built { arena, last };
-    insert_all(alloc, &mut built, points, first, &turns, steps)?;
+    let lifted = lift_points(alloc, points);
+    let sites = Sites {
+        points,
+        lifted: &lifted,
+    };
+    insert_all(alloc, &mut built, &sites, first, &turns, steps)?;
     Ok(built)
 }
 

@@ -4,13 +4,15 @@
 ghost use Rattle.std.specs.Prelude.{◌≡◌, ◌+◌, ◌<◌, ◌↔◌, IsTrue};
 ghost use Rattle.mesh_arena.specs.Mesh.{IsLive, corner_list};
 ghost use Rattle.point_locate.specs.Place.{AreCornersOn, AreOn, row_corners, placed};
+ghost use Rattle.cavity_insert.specs.Lifting.{IsLift};
 ghost use Rattle.mesh_laws.specs.Rule.{IsTakenRow, IsSeen, IsInnerTaken, IsTaken};
 
+use crate::lifting::{LiftedPoints, NewPoint, is_outside, numbers_of};
 use crate::steps::Steps;
 use geo_laws::{Points, Tet};
 use mesh_arena::{Arena, Slot, SlotCorners};
 use point_locate::{Shape, placed, row_points, shape_of};
-use sign_predicates::{GridPoint, Numbers, Sign, orient, outside};
+use sign_predicates::{GridPoint, Sign, orient, outside};
 use std::sync::ledger::Ledger;
 
 // Whether a row is in conflict with the point: it does not have the point outside.
@@ -19,13 +21,17 @@ fn row_conflicts(points: &Points, row: Tet, p: GridPoint, number: u32) -> bool
     requires { AreOn points.now (row_corners row) }
     ensures { IsTrue result ↔ IsTakenRow points.now p number (row_corners row) }
 {
-    let numbers = Numbers {
-        a: row.a,
-        b: row.b,
-        c: row.c,
-        d: row.d,
-    };
-    !outside(row_points(points, row), numbers, p, number)
+    !outside(row_points(points, row), numbers_of(row), p, number)
+}
+
+// The same by lifted points.
+#[inline(always)]
+fn lifted_conflicts(points: &Points, row: Tet, lifted: &LiftedPoints, new: NewPoint) -> bool
+    requires on { AreOn points.now (row_corners row) }
+    requires lift { IsLift lifted.now points.now new }
+    ensures { IsTrue result ↔ IsTakenRow points.now new.p new.number (row_corners row) }
+{
+    !is_outside(points, row, lifted, new)
 }
 
 // Whether these are the corners of such a row.
@@ -74,6 +80,20 @@ fn is_seen(arena: &Arena, points: &Points, s: Slot, place: u8, p: GridPoint, num
     }
 }
 
+// Whether this live slot is in the conflict zone.
+#[inline(always)]
+fn slot_conflicts(arena: &Arena, points: &Points, s: Slot, p: GridPoint, number: u32) -> bool
+    requires live { IsLive arena.now.slots s.index }
+    requires corners { AreCornersOn arena.now.slots points.now }
+    ensures { IsTrue result ↔ IsTaken arena.now.slots points.now p number s.index }
+{
+    let t = arena.tet(s);
+    match shape_of(t) {
+        Shape::Row(row) => row_conflicts(points, row, p, number),
+        Shape::Ghost(place) => is_seen(arena, points, s, place, p, number),
+    }
+}
+
 /// Whether this live slot is in the conflict zone of the new point: a row that does not have the
 /// point outside, ties decided by the points' numbers; or a ghost whose hull face the point is
 /// strictly beyond, or whose hull face's plane it is on where the row on the inner side is in
@@ -96,9 +116,38 @@ pub fn test_slot<L: Ledger>(
     ensures step { steps.new ≡ steps.old + 1 }
 {
     steps.tick();
-    let t = arena.tet(s);
-    match shape_of(t) {
-        Shape::Row(row) => row_conflicts(points, row, p, number),
-        Shape::Ghost(place) => is_seen(arena, points, s, place, p, number),
+    slot_conflicts(arena, points, s, p, number)
+}
+
+// The same, for ghosts. It is no part of the loop of tests of rows.
+#[inline(never)]
+fn ghost_conflicts(arena: &Arena, points: &Points, s: Slot, p: GridPoint, number: u32) -> bool
+    requires live { IsLive arena.now.slots s.index }
+    requires corners { AreCornersOn arena.now.slots points.now }
+    ensures { IsTrue result ↔ IsTaken arena.now.slots points.now p number s.index }
+{
+    slot_conflicts(arena, points, s, p, number)
+}
+
+/// The same test by lifted points. No step is counted.
+#[inline(always)]
+pub(crate) fn test_lifted(
+    arena: &Arena,
+    points: &Points,
+    s: Slot,
+    lifted: &LiftedPoints,
+    new: NewPoint,
+) -> bool
+    requires live { IsLive arena.now.slots s.index }
+    requires corners { AreCornersOn arena.now.slots points.now }
+    requires lift { IsLift lifted.now points.now new }
+    ensures { IsTrue result ↔ IsTaken arena.now.slots points.now new.p new.number s.index }
+{
+    match arena.tetrahedron(s) {
+        Some(numbers) => {
+            let [a, b, c, d] = numbers;
+            lifted_conflicts(points, Tet { a, b, c, d }, lifted, new)
+        }
+        None => ghost_conflicts(arena, points, s, new.p, new.number),
     }
 }

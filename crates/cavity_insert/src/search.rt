@@ -2,13 +2,15 @@
 ghost use Rattle.std.specs.Prelude.{◌≡◌, ◌+◌, ◌<◌, ◌↔◌, option_map, IsTrue, IfSome};
 ghost use Rattle.mesh_arena.specs.Mesh.{IsLive, IsMesh, side, at};
 ghost use Rattle.point_locate.specs.Place.{AreCornersOn};
+ghost use Rattle.cavity_insert.specs.Lifting.{MayBeLifted};
 ghost use Rattle.cavity_insert.specs.Search.{search_for, IsInZone};
 
-use crate::rule::test_slot;
+use crate::lifting::{LiftedPoints, NewPoint, Sites, lift_point};
+use crate::rule::{test_lifted, test_slot};
 use crate::steps::Steps;
 use geo_laws::Points;
 use mesh_arena::{Arena, RimFace, Slot};
-use sign_predicates::GridPoint;
+use sign_predicates::{GridPoint, Lifted};
 use std::marker::Model;
 use std::sync::ledger::Ledger;
 
@@ -18,30 +20,40 @@ use std::sync::ledger::Ledger;
 pub(crate) struct Search<'a> {
     arena: &'a Arena,
     points: &'a Points,
+    lifted: &'a Option<LiftedPoints>,
     p: GridPoint,
+    // The point, lifted, where all points are.
+    lifted_p: Option<Lifted>,
     number: u32,
 }
 
 impl<'a> Model for Search<'a> {
     ghost use Rattle.cavity_insert.specs.Search.{SearchValue, search_for as search_of};
     ghost use Rattle.point_locate.specs.Place.{AreCornersOn as AreOnPoints};
+    ghost use Rattle.cavity_insert.specs.Lifting.{MayBeLifted, MayHaveLift};
 
     ghost Value = { SearchValue };
 
     ghost view = { λ s. search_of s.arena.now.slots s.points.now s.p s.number };
 
-    ghost invariant = { λ s. AreOnPoints s.arena.now.slots s.points.now };
+    ghost invariant = { λ s. AreOnPoints s.arena.now.slots s.points.now
+        × MayBeLifted s.lifted.now s.points.now × MayHaveLift s.lifted.now s.lifted_p s.p };
 }
 
 impl<'a> Search<'a> {
-    pub(crate) fn new(arena: &'a Arena, points: &'a Points, p: GridPoint, number: u32) -> Self
-        requires { AreCornersOn arena.now.slots points.now }
-        ensures { result ≡ search_for arena.now.slots points.now p number }
+    pub(crate) fn new(arena: &'a Arena, sites: &Sites<'a>, p: GridPoint, number: u32) -> Self
+        requires corners { AreCornersOn arena.now.slots sites.now.points.now }
+        requires lifted { MayBeLifted sites.now.lifted.now sites.now.points.now }
+        ensures { result ≡ search_for arena.now.slots sites.now.points.now p number }
     {
+        let points = sites.points;
+        let lifted = sites.lifted;
         Search {
             arena,
             points,
+            lifted,
             p,
+            lifted_p: lift_point(lifted, p),
             number,
         }
     }
@@ -64,6 +76,17 @@ impl<'a> Search<'a> {
         ensures value { IsTrue result ↔ IsInZone self.now s.index }
         ensures step { steps.new ≡ steps.old + 1 }
     {
+        if let Some(list) = self.lifted {
+            if let Some(lifted) = self.lifted_p {
+                steps.tick();
+                let new = NewPoint {
+                    p: self.p,
+                    lifted,
+                    number: self.number,
+                };
+                return test_lifted(self.arena, self.points, s, list, new);
+            }
+        }
         test_slot(self.arena, self.points, s, self.p, self.number, steps)
     }
 

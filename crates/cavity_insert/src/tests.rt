@@ -1,5 +1,5 @@
 //! Lists, cavities and sides of small sets of points.
-ghost use Rattle.std.specs.Prelude.{ℕ, ◌≡◌, ◌≢◌, ◌^◌, ◌<◌, ◌≤◌, IsTrue, IfSome, length};
+ghost use Rattle.std.specs.Prelude.{ℕ, ◌≡◌, ◌≢◌, ◌^◌, ◌<◌, ◌≤◌, ◌≤ℤ◌, pos, IsTrue, IfSome, length};
 ghost use Rattle.geo_laws.specs.Delaunay.{point, all_numbers, HasDistinctPoints};
 ghost use Rattle.mesh_arena.specs.Mesh.{IsLive};
 ghost use Rattle.mesh_laws.specs.Living.{IsDelaunayMesh};
@@ -84,10 +84,17 @@ fn distinct_points(alloc: Global, coordinates: &[[i8; 3]]) -> Option<Points>
 
 /// Whether the list of the points has these rows; none stands for `Flat`.
 fn has_list(alloc: Global, coordinates: &[[i8; 3]], want: &[[u32; 4]]) -> bool {
-    let Some(points) = distinct_points(alloc, coordinates) else {
-        return false;
-    };
-    match delaunay(alloc, &points) {
+    match distinct_points(alloc, coordinates) {
+        Some(points) => has_rows(alloc, &points, want),
+        None => false,
+    }
+}
+
+fn has_rows(alloc: Global, points: &Points, want: &[[u32; 4]]) -> bool
+    requires distinct { HasDistinctPoints points.now }
+    requires few { length points.now ≤ 1000 }
+{
+    match delaunay(alloc, points) {
         Ok(rows) => are_rows(&rows, want),
         Err(BuildFault::Flat) => want.is_empty(),
         Err(BuildFault::NoMemory) => false,
@@ -95,6 +102,8 @@ fn has_list(alloc: Global, coordinates: &[[i8; 3]], want: &[[u32; 4]]) -> bool {
 }
 
 const PYRAMID: [[i8; 3]; 5] = [[0, 0, 0], [2, 0, 0], [2, 2, 0], [0, 2, 0], [1, 1, 2]];
+
+const PYRAMID_ROWS: [[u32; 4]; 2] = [[0, 1, 3, 4], [1, 2, 3, 4]];
 
 // The corners of a cube.
 const CUBE: [[i8; 3]; 8] = [
@@ -213,7 +222,7 @@ const LISTS: [ListCase; 11] = [
     },
     ListCase {
         points: &PYRAMID,
-        rows: &[[0, 1, 3, 4], [1, 2, 3, 4]],
+        rows: &PYRAMID_ROWS,
     },
     ListCase {
         points: &CUBE,
@@ -356,6 +365,47 @@ fn lists(rt: HostRuntime) {
     for (i, case) in LISTS.iter().enumerate() {
         assert!(rt; has_list(alloc, case.points, case.rows), "case {i}");
     }
+}
+
+/// A coordinate of the pyramid, with wide odd steps.
+fn wide(coordinate: i8) -> i32
+    ensures low { pos 0 ≤ℤ result }
+    ensures high { result ≤ℤ pos 8388608 }
+{
+    if coordinate == 0 {
+        0
+    } else if coordinate == 1 {
+        4_000_001
+    } else {
+        8_000_002
+    }
+}
+
+/// The pyramid, so wide that no frame has it.
+fn wide_pyramid(alloc: Global) -> Result<Points, NoMemory> {
+    let mut points = Points::new(alloc);
+    for [x, y, z] in PYRAMID {
+        points.push(GridPoint {
+            x: wide(x),
+            y: wide(y),
+            z: wide(z),
+        })?;
+    }
+    Ok(points)
+}
+
+fn has_wide_list(alloc: Global) -> bool {
+    match wide_pyramid(alloc) {
+        Ok(points) if points.len() <= 1000 && are_distinct(&points) => {
+            has_rows(alloc, &points, &PYRAMID_ROWS)
+        }
+        _ => false,
+    }
+}
+
+#[test]
+fn wide_points(rt: HostRuntime) {
+    assert!(rt; has_wide_list(rt.alloc()));
 }
 
 /// An odd number below 2^20, drawn by a linear congruential generator.

@@ -8,29 +8,29 @@ use Rattle.cavity_insert.proofs.Insertion.{corners_on, somewhere, whole_at, cavi
 use Rattle.cavity_insert.proofs.insert.grow_at.Goals as goal
 
 pub locate-requires-clause-corners : goal.locate-requires-clause-corners
-locate-requires-clause-corners g c = corners_on _ c.args.points.now c.requires.ready.0 c.args.number c.tet.ensures.mesh c.requires.ready.1
+locate-requires-clause-corners g c = corners_on _ c.args.sites.now.points.now c.requires.ready.0 c.args.number c.tet.ensures.mesh c.requires.ready.1
 
 pub locate-requires-clause-somewhere : goal.locate-requires-clause-somewhere
 locate-requires-clause-somewhere g c =
-    subst (IsSomePlace c.args.arena.now.slots c.args.points.now) (sym c.point_at-p.ensures)
-    (somewhere _ c.args.points.now c.requires.ready.0 c.args.number c.tet.ensures.mesh c.requires.ready.1 c.args.near.index c.requires.near)
+    subst (IsSomePlace c.args.arena.now.slots c.args.sites.now.points.now) (sym c.point_at-p.ensures)
+    (somewhere _ c.args.sites.now.points.now c.requires.ready.0 c.args.number c.tet.ensures.mesh c.requires.ready.1 c.args.near.index c.requires.near)
 
-pub new-search-requires : goal.new-search-requires
-new-search-requires g c = corners_on _ c.args.points.now c.requires.ready.0 c.args.number c.tet.ensures.mesh c.requires.ready.1
+pub new-search-requires-clause-corners : goal.new-search-requires-clause-corners
+new-search-requires-clause-corners g c = corners_on _ c.args.sites.now.points.now c.requires.ready.0 c.args.number c.tet.ensures.mesh c.requires.ready.1
 
 pub grow-requires-clause-begun : goal.grow-requires-clause-begun
 grow-requires-clause-begun g c = let begun = c.begin.ensures in record { start_is = refl; cavity = begun.cavity; rim = begun.rim }
 
 pub grow-requires-clause-start : goal.grow-requires-clause-start
 grow-requires-clause-start g c =
-    let whole : IsWholeFrom c.args.arena.now.slots c.args.points.now c.args.number c.slot_of-first.result.index =
-    whole_at _ c.args.points.now c.requires.ready.0 c.args.number c.tet.ensures.mesh c.requires.ready.1 c.point_at-p.result c.locate.result _ c.point_at-p.ensures c.slot_of-first.ensures c.locate.ensures in
+    let whole : IsWholeFrom c.args.arena.now.slots c.args.sites.now.points.now c.args.number c.slot_of-first.result.index =
+    whole_at _ c.args.sites.now.points.now c.requires.ready.0 c.args.number c.tet.ensures.mesh c.requires.ready.1 c.point_at-p.result c.locate.result _ c.point_at-p.ensures c.slot_of-first.ensures c.locate.ensures in
     rw (c.new-search.ensures, c.begin.ensures.start_is, c.point_at-p.ensures) whole.takes_start
 
 pub returns : goal.returns
 returns g c =
-    let whole : IsWholeFrom c.args.arena.now.slots c.args.points.now c.args.number c.slot_of-first.result.index =
-    whole_at _ c.args.points.now c.requires.ready.0 c.args.number c.tet.ensures.mesh c.requires.ready.1 c.point_at-p.result c.locate.result _ c.point_at-p.ensures c.slot_of-first.ensures c.locate.ensures in
+    let whole : IsWholeFrom c.args.arena.now.slots c.args.sites.now.points.now c.args.number c.slot_of-first.result.index =
+    whole_at _ c.args.sites.now.points.now c.requires.ready.0 c.args.number c.tet.ensures.mesh c.requires.ready.1 c.point_at-p.result c.locate.result _ c.point_at-p.ensures c.slot_of-first.ensures c.locate.ensures in
     let found = c.new-search.result in
     on_ok_weaker c.grow.result
     (λ (grown : Grown found.slots (IsInZone found) c.begin.new.self.start.index c.grow.new.self.cavity c.grow.new.self.rim).

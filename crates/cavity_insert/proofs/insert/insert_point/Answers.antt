@@ -13,7 +13,7 @@ pub replace_cavity-requires : goal.replace_cavity-requires
 replace_cavity-requires g c =
     let found = c.grow_at.new.growth in
     let can : CanReplace c.reserve.new.self.slots found.cavity found.rim c.args.number =
-    replace_at _ _ c.args.points.now c.args.number _ _ c.in_ok-reserve.ensures.slots c.in_ok-grow_at.ensures c.requires.ready.0 c.requires.ready.1 in
+    replace_at _ _ c.args.sites.now.points.now c.args.number _ _ c.in_ok-reserve.ensures.slots c.in_ok-grow_at.ensures c.requires.ready.0 c.requires.ready.1 in
     rw c.as_cavity.ensures (record { cavity = can.is_cavity; rim = can.is_rim; pairs = can.paired; point = can.off_rim })
 
 pub returns-clause-mesh : goal.returns-clause-mesh
@@ -21,10 +21,10 @@ returns-clause-mesh g c =
     let found = c.grow_at.new.growth in
     let new = c.replace_cavity.new.self.slots in
     let P : Slot → Type 0 = λ s. Replaces c.reserve.new.self.slots new found.cavity found.rim (Numbered c.args.number) s.index in
-    let Q : Slot → Type 0 = λ s. (ms : List ℕ) → IsReadyFor c.args.arena.now.slots c.args.points.now ms c.args.number → IsDelaunayMesh new c.args.points.now (c.args.number ∷ ms) in
+    let Q : Slot → Type 0 = λ s. (ms : List ℕ) → IsReadyFor c.args.arena.now.slots c.args.sites.now.points.now ms c.args.number → IsDelaunayMesh new c.args.sites.now.points.now (c.args.number ∷ ms) in
     let ok : IfOk c.replace_cavity.result P = rw c.as_cavity.ensures at c.replace_cavity.ensures.ok in
     if_ok P Q (λ s replaces ms ready.
-    inserted_at _ _ c.args.points.now c.args.number _ _ c.in_ok-reserve.ensures.slots c.in_ok-grow_at.ensures ms ready new s.index c.args.near.index c.requires.near c.replace_cavity.ensures.mesh replaces)
+    inserted_at _ _ c.args.sites.now.points.now c.args.number _ _ c.in_ok-reserve.ensures.slots c.in_ok-grow_at.ensures ms ready new s.index c.args.near.index c.requires.near c.replace_cavity.ensures.mesh replaces)
     c.replace_cavity.result ok
 
 pub returns-clause-live : goal.returns-clause-live

@@ -1,0 +1,86 @@
+-- The sign that lifted points have is that of the points.
+use Rattle.std.proofs.Common.{◌≡◌, ℕ, zero, suc, ◌+◌, ◌<◌, ℤ, pos, Bool, List, [], ◌∷◌, ◌++◌, length, refl, sym, ap, subst, ◌∙◌, below_more, arith, get_or, inl, inr, IsTrue, ◌↔◌, Option, Some}
+use Rattle.std.specs.Prelude.{◌&&◌, ◌||◌, int_lt, int_le}
+use Rattle.std.proofs.lemmas.List.{get_or_append_left, get_or_push, get_or_default}
+use Rattle.sign_predicates.specs.Point.{Point, origin}
+use Rattle.sign_predicates.specs.Sign.{IsSignOf}
+use Rattle.sign_predicates.specs.Sphere.{in_sphere}
+use Rattle.sign_predicates.specs.Lifted.{IsSphereSign, IsInFrame}
+use Rattle.sign_predicates.specs.declared.lifted.Frame.{Frame}
+use Rattle.sign_predicates.specs.declared.tetrahedron.Sign.{Sign}
+use Rattle.geo_laws.specs.Delaunay.{point, corners}
+use Rattle.geo_laws.specs.declared.tetrahedra.Tet.{Tet as Row}
+use Rattle.mesh_arena.specs.Mesh.{SlotValue, corners_at, numbered}
+use Rattle.mesh_arena.specs.declared.slot.Corner.TheVariants.{Ghost}
+use Rattle.mesh_laws.specs.Rule.{IsTakenRow, IsTaken}
+use Rattle.mesh_laws.proofs.Taken.{no_ghost, same_corners}
+use Rattle.point_locate.specs.Place.{AreOn, row_corners}
+use Rattle.cavity_insert.specs.Lifting.{AreLifted, IsLift}
+use Rattle.cavity_insert.specs.declared.lifting.LiftedPoints.{LiftedPoints}
+use Rattle.cavity_insert.specs.declared.lifting.NewPoint.{NewPoint}
+
+-- a row of the points is one of the lifted points
+pub lifted_row : (lifted : LiftedPoints) (ps : List Point) (t : Row) → AreLifted lifted ps → AreOn ps (row_corners t) → AreOn lifted.points (row_corners t)
+lifted_row lifted ps t are on = λ k below. by_four k below
+  where
+    fits : (i : ℕ) → i < length ps → i < length lifted.points
+    fits i h = omega (arith, are.count)
+
+    by_four : AreOn lifted.points (row_corners t)
+    by_four zero below = fits t.a (on 0 below)
+    by_four (suc zero) below = fits t.b (on 1 below)
+    by_four (suc (suc zero)) below = fits t.c (on 2 below)
+    by_four (suc (suc (suc zero))) below = fits t.d (on 3 below)
+    by_four (suc (suc (suc (suc k)))) below = absurd (omega arith)
+
+pub lifted_sign : (sign : Sign) (lifted : LiftedPoints) (ps : List Point) (t : Row) (new : NewPoint) → IsLift lifted ps new → AreOn ps (row_corners t)
+    → IsSphereSign sign (corners lifted.points t) new.lifted → IsSignOf sign (in_sphere (corners ps t) new.p)
+lifted_sign sign lifted ps t new is on same =
+    let each = is.list.each in
+    same lifted.frame (corners ps t) new.p is.list.some (record {
+      a_in = each t.a (on 0 (omega arith));
+      b_in = each t.b (on 1 (omega arith));
+      c_in = each t.c (on 2 (omega arith));
+      d_in = each t.d (on 3 (omega arith));
+    }) is.new_in
+
+pub tests_zero : (z : ℤ) (tie : Bool) → z ≡ pos 0 → tie ≡ int_lt z (pos 0) || int_le z (pos 0) && tie
+tests_zero z tie h = rw h refl
+
+-- one point more
+pub one_more : (frame : Frame) (ps qs rs : List Point) (n : ℕ) (q p : Point) → length qs ≡ n → ((i : ℕ) → i < n → IsInFrame frame (point qs i) (point ps i))
+    → rs ≡ qs ++ q ∷ [] → point ps n ≡ p → IsInFrame frame q p → (i : ℕ) → i < n + 1 → IsInFrame frame (point rs i) (point ps i)
+one_more frame ps qs rs n q p len each pushed at new = below_more _ _ before here
+  where
+    before : (i : ℕ) → i < n → IsInFrame frame (point rs i) (point ps i)
+    before i h = subst (λ r. IsInFrame frame r (point ps i)) (sym (ap (λ ls. point ls i) pushed ∙ get_or_append_left qs (q ∷ []) origin i (omega arith))) (each i h)
+
+    here : IsInFrame frame (point rs n) (point ps n)
+    here = subst (λ r. IsInFrame frame r (point ps n)) (sym (ap (λ ls. point ls n) pushed ∙ get_or_push qs q origin n len)) (subst (λ e. IsInFrame frame q e) (sym at) new)
+
+-- the corners of four points
+pub four_numbered : (ns : List ℕ) → length ns ≡ 4 → numbered ns ≡ row_corners (record { a = get_or ns 0 0; b = get_or ns 1 0; c = get_or ns 2 0; d = get_or ns 3 0 })
+four_numbered [] h = absurd (omega arith)
+four_numbered (a ∷ []) h = absurd (omega arith)
+four_numbered (a ∷ b ∷ []) h = absurd (omega arith)
+four_numbered (a ∷ b ∷ c ∷ []) h = absurd (omega arith)
+four_numbered (a ∷ b ∷ c ∷ d ∷ []) h = refl
+four_numbered (a ∷ b ∷ c ∷ d ∷ e ∷ ns) h = absurd (omega arith)
+
+-- a row is taken where it is in conflict
+pub taken_row : (slots : List (Option SlotValue)) (ps : List Point) (p : Point) (number s : ℕ) (t : Row) (b : Bool) → corners_at slots s ≡ Some (row_corners t)
+    → IsTrue b ↔ IsTakenRow ps p number (row_corners t) → IsTrue b ↔ IsTaken slots ps p number s
+taken_row slots ps p number s t b is told = (to, from)
+  where
+    to : IsTrue b → IsTaken slots ps p number s
+    to holds = inl (record { corners = row_corners t; is = is; here = told.0 holds })
+
+    from : IsTaken slots ps p number s → IsTrue b
+    from (inl row) = told.1 (subst (IsTakenRow ps p number) (same_corners slots s _ _ row.is is) row.here)
+    from (inr ghost) =
+        let same = same_corners slots s _ _ ghost.infinite.is is in
+        absurd (no_ghost t ghost.place ghost.within (ap (λ cs. get_or cs ghost.place Ghost) (sym same) ∙ ghost.infinite.here))
+
+-- the point that a list has at a place
+pub point_read : (ps : List Point) (n : ℕ) (p : Point) → n < length ps → p ≡ get_or ps n p → point ps n ≡ p
+point_read ps n p h e = get_or_default ps n origin p h ∙ sym e
