@@ -4,8 +4,8 @@ ghost use Rattle.geo_laws.specs.Delaunay.{point, all_numbers, HasDistinctPoints}
 ghost use Rattle.mesh_arena.specs.Mesh.{IsLive};
 ghost use Rattle.mesh_laws.specs.Living.{IsDelaunayMesh};
 
-use crate::{BuildFault, Living, Steps, delaunay, grow_cavity, test_slot};
-use geo_laws::{Points, Tet, TetList};
+use crate::{BuildFault, Living, Steps, delaunay, delaunay_with_hull, grow_cavity, test_slot};
+use geo_laws::{Face, Points, Tet, TetList};
 use mesh_arena::{Arena, Slot};
 use sign_predicates::GridPoint;
 use std::alloc::Global;
@@ -365,6 +365,38 @@ fn lists(rt: HostRuntime) {
     for (i, case) in LISTS.iter().enumerate() {
         assert!(rt; has_list(alloc, case.points, case.rows), "case {i}");
     }
+}
+
+/// Whether the hull of the points has these faces.
+fn has_hull(alloc: Global, coordinates: &[[i8; 3]], want: &[[u32; 3]]) -> bool {
+    let Some(points) = distinct_points(alloc, coordinates) else {
+        return false;
+    };
+    match delaunay_with_hull(alloc, &points) {
+        Ok(made) => are_faces(made.hull.as_slice(), want),
+        Err(_) => false,
+    }
+}
+
+fn are_faces(faces: &[Face], want: &[[u32; 3]]) -> bool {
+    faces.len() == want.len()
+        && faces
+            .iter()
+            .zip(want.iter())
+            .all(|(f, w)| [f.a, f.b, f.c] == *w)
+}
+
+#[test]
+fn hull_of_a_pyramid(rt: HostRuntime) {
+    let hull = [
+        [0, 1, 3],
+        [0, 1, 4],
+        [0, 3, 4],
+        [1, 2, 3],
+        [1, 2, 4],
+        [2, 3, 4],
+    ];
+    assert!(rt; has_hull(rt.alloc(), &PYRAMID, &hull));
 }
 
 /// A coordinate of the pyramid, with wide odd steps.

@@ -2,7 +2,7 @@
 ghost use Rattle.std.specs.Prelude.{◌<◌, IfSome};
 
 use crate::*;
-use geo_laws::{Complex, FacetTriangles, Points, Tet, TetList};
+use geo_laws::{Complex, Face, FacetTriangles, Points, Tet, TetList};
 use incidence::Marks;
 use sign_predicates::RatPoint;
 use std::alloc::Global;
@@ -163,6 +163,17 @@ fn texts_of_faces(rt: HostRuntime) -> Result<(), Fail> {
         let text = face_text(rt.alloc(), rows, first, all)?;
         assert_eq!(rt; text.as_slice(), want);
     }
+    Ok(())
+}
+
+#[test]
+fn faces_of_a_hull(rt: HostRuntime) -> Result<(), Fail> {
+    let alloc = rt.alloc();
+    let mut hull = Faces::new(alloc);
+    hull.push(Face { a: 0, b: 1, c: 3 })?;
+    let rows = hull_rows(alloc, &hull)?;
+    let text = write_face(alloc, &rows, 1)?;
+    assert_eq!(rt; text.as_slice(), b"1 1\n1 1 2 4 1\n".as_slice());
     Ok(())
 }
 
