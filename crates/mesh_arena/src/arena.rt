@@ -242,27 +242,27 @@ impl Arena {
         ensures succeeds { 0 < self.old.spare → IsOk result }
     {
         self.reserve(1)?;
-        let index = self.take_slot(Cell::new(corners));
+        let index = self.take_slot(&Cell::new(corners));
         Ok(Slot { index })
     }
 
     // `alloc_slot` where there is room.
-    pub(crate) fn take_slot(&mut self, cell: Cell) -> u32
-        requires bare { IsBare cell }
-        requires differ { AllDiffer (cell_corners cell) }
+    pub(crate) fn take_slot(&mut self, cell: &Cell) -> u32
+        requires bare { IsBare cell.now }
+        requires differ { AllDiffer (cell_corners cell.now) }
         requires room { 0 < self.old.room }
-        ensures takes { Takes self.old.slots self.new.slots result (cell_corners cell) }
+        ensures takes { Takes self.old.slots self.new.slots result (cell_corners cell.now) }
         ensures room { self.new.room + 1 ≡ self.old.room }
     {
         let place = self.next;
         self.spare = self.spare.saturating_sub(1);
         self.live += 1;
         if place as usize == self.cells.len() {
-            self.cells.push_reserved(cell);
+            self.cells.push_reserved(*cell);
             self.next = place + 1;
         } else {
             self.next = self.cells[place as usize].next_free();
-            self.cells[place as usize] = cell;
+            self.cells[place as usize] = *cell;
         }
         place
     }

@@ -114,8 +114,8 @@ impl EdgeTable {
         }
     }
 
-    /// Begins a round for the edges of a rim of this many faces, in a mesh of this many slots. Where
-    /// there is no memory for the edges the table stays as large as it is.
+    /// Begins a round for the edges of a rim of this many faces, in a mesh of this many slots.
+    /// Where there is no memory for the edges the table stays as large as it is.
     pub(crate) fn start(&mut self, faces: usize, slots: usize)
         ensures { IsUnmet self.new }
     {
@@ -195,8 +195,8 @@ impl EdgeTable {
     }
 }
 
-// How many rows and places the edges of a rim of so many faces have. The boundary of a ball has half
-// as many corners as faces, and two more.
+// How many rows and places the edges of a rim of so many faces have. The boundary of a ball has
+// half as many corners as faces, and two more.
 fn room_for(faces: usize) -> (usize, usize) {
     let corners = faces / 2 + 2;
     if corners <= ROWS {

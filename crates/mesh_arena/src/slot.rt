@@ -66,15 +66,13 @@ pub(crate) fn covers(a: &[Corner; 4], i: u8, b: &[Corner; 4], j: u8) -> bool
     true
 }
 
-// The three other places.
+// The three other places, in ascending order.
 pub(crate) fn other_places(place: u8) -> (u8, u8, u8)
     requires { place < 4 }
     ensures { Places place result.0 result.1 result.2 }
 {
-    match place {
-        0 => (1, 2, 3),
-        1 => (0, 2, 3),
-        2 => (0, 1, 3),
-        _ => (0, 1, 2),
-    }
+    let first = u8::from(place == 0);
+    let second = 1 + u8::from(place < 2);
+    let third = 3 - u8::from(place == 3);
+    (first, second, third)
 }

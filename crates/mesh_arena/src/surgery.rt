@@ -32,7 +32,7 @@ impl Arena {
             (cell_corners slot.now.cell) slot.now.face }
         ensures room { self.new.room + 1 ≡ self.old.room }
     {
-        let made = self.take_slot(slot.cell);
+        let made = self.take_slot(&slot.cell);
         self.link(outer.slot, outer.face, Slot { index: made }, slot.face);
         made
     }

@@ -22,10 +22,10 @@ index_mut-requires c = omega (arith, slice_get_within c.self.inside.cells.items 
 pub invariant_of-self-else-place-len : goal.invariant_of-self-else-place-len
 invariant_of-self-else-place-len c =
     let given = rw (← c.self.view_is) at c.requires in
-    rw c.next_free-self-inside.ensures (record { sound = (Took-fill _ _ _ _ c.args.cell c.self.invariant.sound (λ e. omega arith) c.index.ensures c.requires.differ c.requires.bare).sound; room = omega (arith, c.self.invariant.room, given.room); star = omega (arith, c.self.invariant.star) })
+    rw c.next_free-self-inside.ensures (record { sound = (Took-fill _ _ _ _ c.args.cell.now c.self.invariant.sound (λ e. omega arith) c.index.ensures c.requires.differ c.requires.bare).sound; room = omega (arith, c.self.invariant.room, given.room); star = omega (arith, c.self.invariant.star) })
 
 pub returns-else-place-len-clause-takes : goal.returns-else-place-len-clause-takes
-returns-else-place-len-clause-takes c = rw (← c.self.view_is) (Took-fill _ _ _ _ c.args.cell c.self.invariant.sound (λ e. omega arith) c.index.ensures c.requires.differ c.requires.bare).takes
+returns-else-place-len-clause-takes c = rw (← c.self.view_is) (Took-fill _ _ _ _ c.args.cell.now c.self.invariant.sound (λ e. omega arith) c.index.ensures c.requires.differ c.requires.bare).takes
 
 pub overflow_add-self-then-place-len : goal.overflow_add-self-then-place-len
 overflow_add-self-then-place-len c =
