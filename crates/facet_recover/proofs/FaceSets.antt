@@ -10,7 +10,7 @@ use Rattle.geo_laws.specs.declared.tetrahedra.Tet.{Tet}
 use Rattle.geo_laws.specs.declared.complex.FacetTriangle.{FacetTriangle}
 use Rattle.geo_laws.proofs.Members.{IsMember, here, there, in_cons, both_true, member_of, contains_of, append_cases, in_append_left, in_append_right, flat_map_cases, in_flat_map}
 use Rattle.box_tree.proofs.Lists.{more_cases, in_more, in_last, any_of, any_member}
-use Rattle.refill_laws.proofs.SortedFaces.{to_sorted}
+use Rattle.geo_laws.proofs.RowFaces.{in_face_of}
 use Rattle.facet_recover.specs.declared.missing.FaceKey.{FaceKey}
 use Rattle.facet_recover.specs.Missing.{key, same_key, HasFace, IsMarked, KeepsMarks, HasMarks, AreMarked, face_of_triangle, HasTriangles, IsWithout, AreMissing}
 
@@ -206,7 +206,7 @@ module _ {S : Type 0} where
 
 -- a corner of a face that has all corners marked
 marked_corner : (marks : List Bool) (i j k l : ℕ) → IsMember l (i ∷ j ∷ k ∷ []) → HasMarks marks (face_of i j k) → IsMarked marks l
-marked_corner marks i j k l m h = go (in_cons l f.a (f.b ∷ f.c ∷ []) (to_sorted i j k l m))
+marked_corner marks i j k l m h = go (in_cons l f.a (f.b ∷ f.c ∷ []) (in_face_of i j k l m))
   where
     f : Face
     f = face_of i j k

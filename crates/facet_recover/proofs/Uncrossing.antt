@@ -18,7 +18,7 @@ use Rattle.simplex_meets.specs.Proper.{FaceEnters, triangle_face}
 use Rattle.crossing_laws.specs.Crossing.{faces_of}
 use Rattle.crossing_laws.proofs.Part.{law_part}
 use Rattle.refill_laws.proofs.Region.{lowest_row}
-use Rattle.refill_laws.proofs.SortedFaces.{of_sorted, to_sorted}
+use Rattle.geo_laws.proofs.RowFaces.{in_face_of, of_face_of}
 use Rattle.facet_recover.specs.declared.cavity.Crossed.{Crossed}
 use Rattle.facet_recover.specs.declared.cavity.Parted.{Parted}
 use Rattle.facet_recover.specs.Missing.{face_of_triangle, AreMissing}
@@ -60,10 +60,10 @@ face_apart ps r q low_r low_q f m x w s inside = go f m s
     on_d = on q.d (there (there (there here)))
 
     unsorted : (i j k : ℕ) → InSimplex ps (face_numbers (face_of i j k)) x → InSimplex ps (i ∷ j ∷ k ∷ []) x
-    unsorted i j k p = simplex_of_members ps (i ∷ j ∷ k ∷ []) (face_numbers (face_of i j k)) (λ l n. of_sorted i j k l n) x w p
+    unsorted i j k p = simplex_of_members ps (i ∷ j ∷ k ∷ []) (face_numbers (face_of i j k)) (λ l n. of_face_of i j k l n) x w p
 
     swapped : (i j k : ℕ) → InSimplex ps (face_numbers (face_of i j k)) x → InSimplex ps (i ∷ k ∷ j ∷ []) x
-    swapped i j k p = simplex_of_members ps (i ∷ k ∷ j ∷ []) (face_numbers (face_of i j k)) (λ l n. swap_last l i j k (of_sorted i j k l n)) x w p
+    swapped i j k p = simplex_of_members ps (i ∷ k ∷ j ∷ []) (face_numbers (face_of i j k)) (λ l n. swap_last l i j k (of_face_of i j k l n)) x w p
 
     go : (g : Face) → IsMember g (row_faces q) → InSimplex ps (face_numbers g) x → ⊥
     go g here p = law.0 on_b on_d on_c x w (swapped q.b q.c q.d p) inside
@@ -77,7 +77,7 @@ pub face_enters_none : (ps : List Point) (rows : List Tet) → IsDelaunayList ps
 face_enters_none ps rows list r m t is_face (x, w, e) =
     let q = flat_map_cases row_faces (face_of_triangle t) rows (member_of (faces_of_rows rows) (face_of_triangle t) is_face) in
     face_apart ps r q.0 (lowest_row ps rows list r (member_of rows r m)) (lowest_row ps rows list q.0 q.1) (face_of_triangle t) q.2 x w
-    (simplex_of_members ps (face_numbers (face_of_triangle t)) (corner_numbers t) (λ i n. to_sorted t.a t.b t.c i n) x w e.1) e.0
+    (simplex_of_members ps (face_numbers (face_of_triangle t)) (corner_numbers t) (λ i n. in_face_of t.a t.b t.c i n) x w e.1) e.0
 
 -- ---- the missing triangles alone
 

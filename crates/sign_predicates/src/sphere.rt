@@ -143,6 +143,7 @@ fn least_of(counts: bool, number: u64, least: u64) -> u64
 
 /// Whether a point on the sphere through the corners of the positive tetrahedron `t` is outside, by the rule of `outside`: the least
 /// number for outside against the least one for inside.
+#[inline(never)]
 pub fn wins_tie(t: &Corners, n: Numbers, p: GridPoint, m: u32) -> bool
     ensures { result ≡ wins_tie t.now n p m }
 {
