@@ -1,5 +1,5 @@
 -- The faces under the ghosts of a mesh are those of one row of its list alone.
-use Rattle.std.proofs.Common.{◌≡◌, ◌≢◌, ◌↔◌, ◌⊎◌, inl, inr, ℕ, zero, suc, ◌+◌, ◌<◌, ◌≤◌, List, [], ◌∷◌, ◌++◌, length, get_or, set, Option, None, Some, option_map, refl, sym, ap, subst, ◌∙◌, arith}
+use Rattle.std.proofs.Common.{◌≡◌, ◌≢◌, ◌↔◌, ◌⊎◌, inl, inr, ℕ, zero, suc, ◌+◌, ◌<◌, ◌≤◌, List, [], ◌∷◌, ◌++◌, length, get_or, set, Option, None, Some, refl, sym, ap, subst, ◌∙◌, arith}
 use Rattle.std.specs.Prelude.{Contains, AllPairs, MatchOption}
 use Rattle.std.proofs.lemmas.Bool.{cases_eq, cases_lt}
 use Rattle.std.proofs.lemmas.List.{get_or-set_same, get_or-set_other}
@@ -16,13 +16,13 @@ use Rattle.geo_laws.proofs.RowFaces.{of_three, in_three, in_face_of, of_face_of,
 use Rattle.insert_laws.specs.Insertion.{HasSameCorners, IsFaceOf, IsHullFace}
 use Rattle.insert_laws.proofs.Insert.{law_one_row}
 use Rattle.insert_laws.proofs.Lists.{law_hull_face}
-use Rattle.mesh_arena.specs.Mesh.{SlotValue, IsLive, tet_at, corners_at, corner_list, side, IsMesh}
+use Rattle.mesh_arena.specs.Mesh.{SlotValue, IsLive, corners_at, corner_list, side, IsMesh}
 use Rattle.mesh_arena.specs.declared.arena.SlotFace.{SlotFace}
 use Rattle.mesh_arena.specs.declared.slot.Corner.TheVariants.{Point as Numbered, Ghost}
 use Rattle.mesh_arena.specs.declared.slot.SlotCorners.{SlotCorners}
 use Rattle.point_locate.specs.Place.{row_corners}
 use Rattle.mesh_laws.specs.Living.{face_off, IsFaceCorner, HasSameFaceCorners, IsRowSlot, IsGhostSlot, IsDelaunayMesh}
-use Rattle.mesh_laws.proofs.Faces.{AreApart, hull_apart, place_of, apart_off, row_beside, row_off, same_trans}
+use Rattle.mesh_laws.proofs.Faces.{AreApart, hull_apart, place_of, apart_off, row_beside, row_off}
 use Rattle.mesh_laws.proofs.Taken.{no_ghost, same_corners}
 use Rattle.mesh_laws.proofs.Across.{row_corner, ghost_corner, infinite_corner, ghost_shows, some_side, behind_row}
 use Rattle.mesh_laws.proofs.Joined.{place_of_face}
@@ -116,10 +116,6 @@ module _ (slots : List (Option SlotValue)) (ps : List Point) where
           ∙ same_ascending (face_off o.four p.place) (face_off p.four p.place) (hull_apart ps (all_numbers ps) _ ghost.is_hull) (hull_apart ps (all_numbers ps) _ p.ghost.is_hull)
           (λ i. (λ c. two.to i (one.from i c), λ c. one.to i (two.from i c))) ∙ sym p.is
       by (inr n) = absurd (never _ (sym (infinite_corner slots ps (all_numbers ps) s o.place o.four o.ghost) ∙ ghost_corner slots ps (all_numbers ps) s p.place p.four p.ghost o.place o.ghost.within n))
-
-  -- a free slot is over none
-  pub free_slot : (s : ℕ) → tet_at slots s ≡ None → (f : Face) → ¬ IsOverFace slots ps s f
-  free_slot s free f o = let none : corners_at slots s ≡ None = ap (option_map (λ (t : SlotValue). t.corners)) free in absurd (cc (none, o.ghost.is))
 
   -- what is told of the corners of a slot
   pub at_slot : (now : IsDelaunayMesh slots ps (all_numbers ps)) (s : ℕ) (t : SlotCorners) (found : Option Face) → corners_at slots s ≡ Some (corner_list t)

@@ -6,7 +6,7 @@ use Rattle.std.proofs.lemmas.Int.{ints}
 use Rattle.sign_predicates.specs.Point.{Point, RationalPoint}
 use Rattle.sign_predicates.specs.Orientation.{IsPositive, InClosed}
 use Rattle.geo_laws.specs.Delaunay.{corners, numbers}
-use Rattle.geo_laws.specs.Simplex.{InSimplex, has_number}
+use Rattle.geo_laws.specs.Simplex.{InSimplex}
 use Rattle.geo_laws.specs.declared.tetrahedra.Tet.{Tet}
 use Rattle.refill_laws.proofs.Weights.{closed_weights}
 use Rattle.refill_laws.specs.Refill.{row_centroid}

@@ -1,5 +1,5 @@
 -- The faces of one row alone, as rows of the face file.
-use Rattle.std.proofs.Common.{◌≡◌, ◌⊎◌, inl, inr, ℕ, ◌<◌, ◌==◌, Bool, true, false, List, [], map, length, get_or, refl, ap, sym, subst, ◌∙◌, arith}
+use Rattle.std.proofs.Common.{◌≡◌, ◌⊎◌, inl, inr, ℕ, ◌<◌, true, false, List, [], map, length, get_or, refl, ap, sym, subst, ◌∙◌, arith}
 use Rattle.std.specs.Prelude.{◌↔◌, pos, if◌then◌else◌, IsTrue, AllPairs, Contains, count_by}
 use Rattle.std.proofs.lemmas.Bool.{cases_order, eq-eqb, eqb-true, true≢false}
 use Rattle.std.proofs.lemmas.List.{get_or-map, length-map, get_or_default}
@@ -43,7 +43,7 @@ of_one_row rows up f = (to, from)
         let is = at k there o.row o.is_row.2 in
         let here : has_face f (get_or rows k no_row) ≡ true = subst (λ (t : Tet). has_face f t ≡ true) (sym is) (from_row o.row f o.has) in
         let only : (j : ℕ) → j < length rows → has_face f (get_or rows j no_row) ≡ true → j ≡ k =
-            λ j h y. one_place rows up j k h there (o.only (get_or rows j no_row) (j, h, get_or_default rows j (get_or rows j no_row) no_row h) (in_row (get_or rows j no_row) f y) ∙ sym is) in
+        λ j h y. one_place rows up j k h there (o.only (get_or rows j no_row) (j, h, get_or_default rows j (get_or rows j no_row) no_row h) (in_row (get_or rows j no_row) f y) ∙ sym is) in
         (face_of_row rows k f there here, eq-eqb _ 1 (one_counted (has_face f) rows k no_row there here only))
 
     from : Contains (faces_of_rows rows) f × (is_on_hull rows f ≡ true) → IsOfOneRow rows f
@@ -76,11 +76,15 @@ rows_of_hull rows hull ps complex up are = record { exactly = λ r. (to r, from 
         let m = map_cases hull_row r hull (member_of (map hull_row hull) r c) in
         let f = m.0 in
         let o = (of_one_row rows up f).0 ((are.exactly f).0 (contains_of hull f m.1)) in
-        subst (IsFaceRow ps rows complex [] false) (sym m.2) (f, o.0, record {
-          corners_are = refl;
-          marker_is = inr (λ lies. nothing_lies ps lies.0 f lies.1, sym (ap (λ b. if b then pos 1 else pos 0) o.1));
-          asked = inr (inl (subst IsTrue (sym o.1) refl));
-        })
+        subst (IsFaceRow ps rows complex [] false) (sym m.2) (
+          f,
+          o.0,
+          record {
+            corners_are = refl;
+            marker_is = inr (λ lies. nothing_lies ps lies.0 f lies.1, sym (ap (λ b. if b then pos 1 else pos 0) o.1));
+            asked = inr (inl (subst IsTrue (sym o.1) refl));
+          },
+        )
 
     from : (r : FaceRow) → IsFaceRow ps rows complex [] false r → Contains (map hull_row hull) r
     from r w = by (without_facets ps rows complex false r w)

@@ -1,6 +1,6 @@
-use Rattle.std.proofs.Common.{◌≡◌, Some, ap, sym, ◌∙◌}
+use Rattle.std.proofs.Common.{ap, sym, ◌∙◌}
 use Rattle.mesh_arena.specs.Mesh.{corners_at}
-use Rattle.cavity_insert.proofs.HullFaces.{at_slot, free_slot}
+use Rattle.cavity_insert.proofs.HullFaces.{at_slot}
 use Rattle.cavity_insert.proofs.hull.face_at.Goals as goal
 
 pub returns : goal.returns

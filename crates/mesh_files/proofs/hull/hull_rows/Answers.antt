@@ -1,4 +1,4 @@
-use Rattle.std.proofs.Common.{◌≡◌, ◌≤◌, map, length, ap, sym, subst, ◌∙◌, arith}
+use Rattle.std.proofs.Common.{◌≤◌, map, length, ap, sym, subst, ◌∙◌, arith}
 use Rattle.std.specs.Prelude.{false, []}
 use Rattle.std.proofs.lemmas.List.{take_all}
 use Rattle.mesh_files.specs.FaceRows.{AreFaceRowsOf, hull_row}

@@ -1,6 +1,5 @@
 use Rattle.std.proofs.Common.{◌≡◌, Bool, true, false, not, ◌&&◌, [], refl, sym, subst, ◌∙◌}
 use Rattle.std.proofs.lemmas.Bool.{true≢false}
-use Rattle.geo_laws.specs.declared.complex.FacetTriangle.{FacetTriangle}
 use Rattle.mesh_files.specs.FaceRows.{AreFaceRowsOf}
 use Rattle.tetgen.proofs.outputs.hull_outputs.Goals as goal
 
@@ -22,7 +21,7 @@ returns c =
     record {
       marked = c.in_ok-faces.faces;
       marked_are = λ _. subst (λ all. AreFaceRowsOf mesh.points mesh.tetrahedra mesh.complex mesh.triangles all c.in_ok-faces.faces) (sym asked.2)
-      (subst (λ ts. AreFaceRowsOf mesh.points mesh.tetrahedra mesh.complex ts false c.in_ok-faces.faces) (sym hull.bare) found);
+          (subst (λ ts. AreFaceRowsOf mesh.points mesh.tetrahedra mesh.complex ts false c.in_ok-faces.faces) (sym hull.bare) found);
       faces = [];
       faces_are = λ loud. absurd (true≢false (sym asked.0 ∙ loud));
       face_is = c.in_ok-face.ensures;
