@@ -25,6 +25,3 @@ pub use living::Living;
 pub use meshing::{BuildFault, delaunay};
 pub use rule::test_slot;
 pub use steps::Steps;
-
-#[cfg(test)]
-mod tests;

@@ -10,8 +10,6 @@ mod names;
 mod numbers;
 mod options;
 mod reading;
-#[cfg(test)]
-mod tests;
 
 pub use fault::WordsFault;
 pub use laws::law_switches;

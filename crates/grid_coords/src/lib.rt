@@ -17,6 +17,3 @@ pub use place::{to_grid, to_rat};
 pub use points::{DecimalPoint, DecimalPoints};
 pub use printing::print_grid;
 pub use rounding::round_to;
-
-#[cfg(test)]
-mod tests;

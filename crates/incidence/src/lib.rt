@@ -8,8 +8,6 @@ mod links;
 mod pairs;
 mod sides;
 mod sorting;
-#[cfg(test)]
-mod tests;
 mod uses;
 
 pub use half_faces::{Corner, HalfFace};

@@ -11,8 +11,6 @@ mod laws;
 mod line;
 mod markers;
 mod neigh;
-#[cfg(test)]
-mod tests;
 
 pub use edge::write_edge;
 pub use ele::write_ele;

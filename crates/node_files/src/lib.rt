@@ -19,6 +19,3 @@ pub use reading::{read_node, read_node_list};
 pub use settling::settle;
 pub use table::{GridOptions, NodeTable};
 pub use writing::write_node;
-
-#[cfg(test)]
-mod tests;

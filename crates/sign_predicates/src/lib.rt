@@ -26,6 +26,3 @@ pub use point::{GridPoint, RatPoint};
 pub use reach::sphere_reach;
 pub use sphere::{outside, wins_tie};
 pub use tetrahedron::{Corners, Hold, Numbers, Sign};
-
-#[cfg(test)]
-mod tests;

@@ -18,6 +18,3 @@ pub use laws::{law_fields, law_printed};
 pub use lines::{Field, Fields, Lines};
 pub use numbers::{read_count, read_whole};
 pub use printing::{print_decimal, print_scaled};
-
-#[cfg(test)]
-mod tests;

@@ -1,0 +1,13 @@
+//! Lists, cavities, pieces, facets and tangles of small sets of points.
+#![tactic(auto)]
+
+#[cfg(test)]
+mod delaunay_lists;
+#[cfg(test)]
+mod pieces;
+#[cfg(test)]
+mod protection;
+#[cfg(test)]
+mod regions;
+#[cfg(test)]
+mod tangles;

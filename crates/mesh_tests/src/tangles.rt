@@ -1,0 +1,229 @@
+//! Tangled cavities of a few points.
+ghost use Rattle.std.specs.Prelude.{ℕ, ◌≢◌, ◌<◌, ◌≤◌, IsTrue, length};
+ghost use Rattle.geo_laws.specs.Delaunay.{point, HasDistinctPoints, IsOn};
+ghost use Rattle.tangle_fill.specs.Fill.{AreFacetTriangles};
+ghost use Rattle.tangle_fill.specs.Sample.{IsFacetTriangle};
+
+use tangle_fill::{FillFault, admissible, fill_tangle};
+use cavity_insert::delaunay;
+use geo_laws::{Face, FacetTriangle, FacetTriangles, Points, Tet};
+use sign_predicates::GridPoint;
+use simplex_meets::is_triangle;
+use std::alloc::Global;
+use std::test::Fail;
+use tet_ports::NoMemory;
+
+/// Two thin plates over one another, with a point above and one below.
+const TWO_PLATES: &[[i8; 3]] = &[
+    [-9, -9, 0],
+    [9, -9, 0],
+    [0, 9, 0],
+    [-9, -9, 1],
+    [9, -9, 1],
+    [0, 9, 1],
+    [0, 0, 3],
+    [0, 0, -2],
+];
+
+/// Three thin plates over one another, with a point above and one below.
+const THREE_PLATES: &[[i8; 3]] = &[
+    [-9, -9, 0],
+    [9, -9, 0],
+    [0, 9, 0],
+    [-9, -9, 1],
+    [9, -9, 1],
+    [0, 9, 1],
+    [-9, -9, 2],
+    [9, -9, 2],
+    [0, 9, 2],
+    [0, 0, 4],
+    [0, 0, -2],
+];
+
+/// A prism whose upper triangle is turned against the lower one.
+const TWISTED_PRISM: &[[i8; 3]] = &[
+    [20, 0, 0],
+    [-10, 17, 0],
+    [-10, -17, 0],
+    [17, 10, 20],
+    [-17, 10, 20],
+    [0, -20, 20],
+];
+
+fn points_of(alloc: Global, places: &[[i8; 3]]) -> Result<Points, NoMemory> {
+    let mut points = Points::new(alloc);
+    for p in places {
+        points.push(GridPoint {
+            x: p[0] as i32,
+            y: p[1] as i32,
+            z: p[2] as i32,
+        })?;
+    }
+    Ok(points)
+}
+
+fn triangles_of(alloc: Global, corners: &[[u32; 3]]) -> Result<FacetTriangles, NoMemory> {
+    let mut triangles = FacetTriangles::new(alloc);
+    for f in corners {
+        triangles.push(FacetTriangle {
+            facet: 0,
+            a: f[0],
+            b: f[1],
+            c: f[2],
+        })?;
+    }
+    Ok(triangles)
+}
+
+/// Whether the point is none of the first n.
+fn is_new(points: &Points, n: usize, p: GridPoint) -> bool
+    requires { n ≤ length points.now }
+    ensures { IsTrue result → (i : ℕ) → i < n → point points.now i ≢ p }
+{
+    for i in 0..n {
+        if points.at(i) == p {
+            return false;
+        }
+    }
+    true
+}
+
+fn are_distinct(points: &Points) -> bool
+    ensures { IsTrue result → HasDistinctPoints points.now }
+{
+    for j in 0..points.len() {
+        if !is_new(points, j, points.at(j)) {
+            return false;
+        }
+    }
+    true
+}
+
+/// Whether the triangle ascends, is on the points and not on a line.
+fn is_facet_triangle(points: &Points, t: FacetTriangle) -> bool
+    ensures { IsTrue result → IsFacetTriangle points.now t }
+{
+    let FacetTriangle { facet: _, a, b, c } = t;
+    a < b && b < c && is_triangle(points, Face { a, b, c })
+}
+
+fn are_facet_triangles(points: &Points, triangles: &FacetTriangles) -> bool
+    ensures { IsTrue result → AreFacetTriangles points.now triangles.now }
+{
+    for i in 0..triangles.len() {
+        if !is_facet_triangle(points, triangles.at(i)) {
+            return false;
+        }
+    }
+    true
+}
+
+fn is_on(points: &Points, row: Tet) -> bool
+    ensures { IsTrue result → IsOn points.now row }
+{
+    (row.a as usize) < points.len()
+        && (row.b as usize) < points.len()
+        && (row.c as usize) < points.len()
+        && (row.d as usize) < points.len()
+}
+
+/// Where a sample ends.
+#[derive(Clone, Copy, PartialEq, Eq)]
+enum End {
+    /// With so many tetrahedra.
+    Filled(usize),
+    /// With an anomaly.
+    Refused,
+    /// It may not be filled.
+    Unfit,
+}
+
+/// Where the points with these facets end.
+fn end_of(alloc: Global, places: &[[i8; 3]], corners: &[[u32; 3]]) -> Result<End, FillFault> {
+    let points = points_of(alloc, places)?;
+    let triangles = triangles_of(alloc, corners)?;
+    if points.len() > 99 || !are_distinct(&points) || !are_facet_triangles(&points, &triangles) {
+        return Ok(End::Unfit);
+    }
+    let Ok(list) = delaunay(alloc, &points) else {
+        return Ok(End::Unfit);
+    };
+    if list.is_empty() {
+        return Ok(End::Unfit);
+    }
+    match fill_tangle(alloc, &points, &list, &triangles) {
+        Ok(rows) => Ok(End::Filled(rows.len())),
+        Err(FillFault::NoFill { anomaly: _ }) => Ok(End::Refused),
+        Err(FillFault::NoMemory) => Err(FillFault::NoMemory),
+    }
+}
+
+/// Whether the tetrahedron of the two plates is admissible; None where it may not be asked.
+fn is_admissible(alloc: Global, row: [u32; 4]) -> Result<Option<bool>, NoMemory> {
+    let points = points_of(alloc, TWO_PLATES)?;
+    let triangles = triangles_of(alloc, &[[0, 1, 2], [3, 4, 5]])?;
+    let [a, b, c, d] = row;
+    let row = Tet { a, b, c, d };
+    if points.len() < 99 && is_on(&points, row) && are_facet_triangles(&points, &triangles) {
+        Ok(Some(admissible(&points, row, &triangles)))
+    } else {
+        Ok(None)
+    }
+}
+
+#[test]
+fn tangled_samples(rt: HostRuntime) -> Result<(), Fail> {
+    let alloc = rt.alloc();
+    let samples = [
+        // Each plate parts the tetrahedra, and a prism between two plates has three.
+        (TWO_PLATES, &[[0, 1, 2], [3, 4, 5]][..], End::Filled(5)),
+        (
+            THREE_PLATES,
+            &[[0, 1, 2], [3, 4, 5], [6, 7, 8]][..],
+            End::Filled(8),
+        ),
+        // One plate, with the corners of the other as further points.
+        (TWO_PLATES, &[[0, 1, 2]][..], End::Filled(8)),
+        // The twisted prism can't be cut into tetrahedra (Schoenhardt, 1928).
+        (
+            TWISTED_PRISM,
+            &[
+                [0, 1, 2],
+                [3, 4, 5],
+                [0, 1, 4],
+                [0, 3, 4],
+                [1, 2, 5],
+                [1, 4, 5],
+                [0, 2, 3],
+                [2, 3, 5],
+            ][..],
+            End::Refused,
+        ),
+    ];
+    for (places, corners, want) in samples {
+        assert!(rt; end_of(alloc, places, corners).ok() == Some(want));
+    }
+    Ok(())
+}
+
+#[test]
+fn admissible_on_two_plates(rt: HostRuntime) -> Result<(), Fail> {
+    let rows = [
+        // The five of the mesh.
+        ([0, 1, 2, 3], true),
+        ([0, 1, 7, 2], true),
+        ([1, 2, 3, 4], true),
+        ([2, 3, 4, 5], true),
+        ([3, 4, 5, 6], true),
+        // A facet crosses it.
+        ([0, 1, 7, 6], false),
+        // It is not in the least even arrangement.
+        ([1, 2, 0, 3], false),
+        // It is not positive.
+        ([0, 1, 3, 2], false),
+    ];
+    for (row, want) in rows {
+        assert!(rt; is_admissible(rt.alloc(), row).ok() == Some(Some(want)));
+    }
+    Ok(())
+}

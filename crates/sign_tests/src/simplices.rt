@@ -1,0 +1,125 @@
+use simplex_meets::{face_met_segment, faces_met, is_segment, is_triangle, segment_met_face, segments_met};
+use geo_laws::{Face, Points, Side};
+use sign_predicates::GridPoint;
+use std::alloc::Global;
+use std::test::Fail;
+use tet_ports::NoMemory;
+
+/// A square with its center, a point above the center and one far off in the square's plane.
+const PLACES: [[i8; 3]; 7] = [
+    [0, 0, 0],
+    [4, 0, 0],
+    [4, 4, 0],
+    [0, 4, 0],
+    [2, 2, 0],
+    [2, 2, 4],
+    [9, 9, 0],
+];
+
+fn places(alloc: Global) -> Result<Points, NoMemory> {
+    let mut points = Points::new(alloc);
+    for p in PLACES {
+        points.push(GridPoint {
+            x: p[0] as i32,
+            y: p[1] as i32,
+            z: p[2] as i32,
+        })?;
+    }
+    Ok(points)
+}
+
+fn side(s: [u32; 2]) -> Side {
+    Side { a: s[0], b: s[1] }
+}
+
+fn face(f: [u32; 3]) -> Face {
+    Face {
+        a: f[0],
+        b: f[1],
+        c: f[2],
+    }
+}
+
+fn two_sides(points: &Points, s: Side, t: Side) -> Option<bool> {
+    if is_segment(points, s) && is_segment(points, t) {
+        Some(segments_met(points, s, t))
+    } else {
+        None
+    }
+}
+
+fn side_and_face(points: &Points, s: Side, f: Face) -> Option<bool> {
+    if is_segment(points, s) && is_triangle(points, f) {
+        if segment_met_face(points, s, f) == face_met_segment(points, f, s) {
+            Some(segment_met_face(points, s, f))
+        } else {
+            None
+        }
+    } else {
+        None
+    }
+}
+
+fn two_faces(points: &Points, f: Face, g: Face) -> Option<bool> {
+    if is_triangle(points, f) && is_triangle(points, g) {
+        Some(faces_met(points, f, g))
+    } else {
+        None
+    }
+}
+
+#[test]
+fn segments(rt: HostRuntime) -> Result<(), Fail> {
+    let points = places(rt.alloc())?;
+    let cases = [
+        ([0, 1], [2, 3], Some(true)),
+        ([0, 2], [1, 3], Some(false)),
+        ([0, 2], [2, 3], Some(true)),
+        ([0, 2], [0, 4], Some(false)),
+        ([0, 2], [2, 0], Some(true)),
+        ([0, 4], [4, 2], Some(true)),
+        ([0, 0], [4, 2], None),
+    ];
+    for (s, t, want) in cases {
+        assert_eq!(rt; two_sides(&points, side(s), side(t)), want);
+    }
+    Ok(())
+}
+
+#[test]
+fn segments_and_triangles(rt: HostRuntime) -> Result<(), Fail> {
+    let points = places(rt.alloc())?;
+    let cases = [
+        ([4, 5], [0, 1, 2], Some(false)),
+        ([4, 5], [0, 1, 4], Some(true)),
+        ([2, 6], [0, 1, 2], Some(true)),
+        ([0, 6], [0, 1, 2], Some(false)),
+        ([0, 1], [0, 1, 2], Some(true)),
+        ([3, 1], [0, 1, 2], Some(false)),
+        ([3, 5], [0, 1, 2], Some(true)),
+        ([3, 5], [0, 2, 4], None),
+    ];
+    for (s, f, want) in cases {
+        assert_eq!(rt; side_and_face(&points, side(s), face(f)), want);
+    }
+    Ok(())
+}
+
+#[test]
+fn triangles(rt: HostRuntime) -> Result<(), Fail> {
+    let points = places(rt.alloc())?;
+    let cases = [
+        ([0, 1, 2], [0, 2, 3], Some(true)),
+        ([0, 1, 2], [0, 1, 3], Some(false)),
+        ([0, 1, 2], [0, 1, 5], Some(true)),
+        ([0, 1, 2], [3, 4, 5], Some(false)),
+        ([0, 1, 4], [2, 3, 4], Some(true)),
+        ([0, 1, 2], [0, 6, 5], Some(false)),
+        ([0, 1, 2], [2, 0, 1], Some(true)),
+        ([0, 1, 4], [2, 3, 5], Some(true)),
+    ];
+    for (f, g, want) in cases {
+        assert_eq!(rt; two_faces(&points, face(f), face(g)), want);
+    }
+    Ok(())
+}

@@ -1,6 +1,0 @@
-use Rattle.std.specs.List.{AllWithin}
-use Rattle.tangle_fill.specs.Sample.{IsFacetTriangle}
-use Rattle.tangle_fill.proofs.tests.are_facet_triangles.Given as goal
-
-abbrev pub invariant-loop-i : goal.invariant-loop-i
-invariant-loop-i l = AllWithin (IsFacetTriangle l.points) l.triangles 0 l.i

@@ -1,0 +1,378 @@
+//! Words of the command line with what they ask for, or where they are against the grammar.
+
+use command_words::*;
+use std::alloc::Global;
+use std::test::Fail;
+use tet_ports::{Name, NoMemory, Words};
+
+/// These words as the program gets them.
+fn words_of(alloc: Global, words: &[&[u8]]) -> Result<Words, NoMemory> {
+    let mut named = Words::new(alloc);
+    for word in words {
+        named.push(Name::from_slice(alloc, word)?)?;
+    }
+    Ok(named)
+}
+
+/// Words that are against the grammar, with the bad word and the place in it.
+struct Faulty {
+    name: &'static str,
+    words: &'static [&'static [u8]],
+    word: usize,
+    place: usize,
+}
+
+/// How reading these words is refused, if it is.
+fn refusal_of(alloc: Global, words: &[&[u8]]) -> Result<Option<WordsFault>, NoMemory> {
+    let words = words_of(alloc, words)?;
+    Ok(read_words(alloc, &words).err())
+}
+
+const FAULTY: [Faulty; 28] = [
+    Faulty {
+        name: "no word",
+        words: &[],
+        word: 1,
+        place: 1,
+    },
+    Faulty {
+        name: "an empty word",
+        words: &[b"t", b""],
+        word: 2,
+        place: 1,
+    },
+    Faulty {
+        name: "a hyphen alone",
+        words: &[b"-", b"t"],
+        word: 1,
+        place: 2,
+    },
+    Faulty {
+        name: "no letter of the table",
+        words: &[b"-y", b"name"],
+        word: 1,
+        place: 2,
+    },
+    Faulty {
+        name: "a hyphen among letters",
+        words: &[b"-nf-", b"t"],
+        word: 1,
+        place: 4,
+    },
+    Faulty {
+        name: "a digit behind no S",
+        words: &[b"-p5", b"t"],
+        word: 1,
+        place: 3,
+    },
+    Faulty {
+        name: "S at the end",
+        words: &[b"-pS", b"name"],
+        word: 1,
+        place: 4,
+    },
+    Faulty {
+        name: "S before a letter",
+        words: &[b"-Sp7", b"t"],
+        word: 1,
+        place: 3,
+    },
+    Faulty {
+        name: "S out of its range",
+        words: &[b"-pS100001", b"t"],
+        word: 1,
+        place: 4,
+    },
+    Faulty {
+        name: "S with ten digits",
+        words: &[b"-S0000000007x", b"t"],
+        word: 1,
+        place: 3,
+    },
+    Faulty {
+        name: "a letter behind S and its number",
+        words: &[b"-S12zx", b"t"],
+        word: 1,
+        place: 6,
+    },
+    Faulty {
+        name: "two hyphens",
+        words: &[b"--", b"t"],
+        word: 1,
+        place: 3,
+    },
+    Faulty {
+        name: "another long word",
+        words: &[b"t", b"--quality=2"],
+        word: 2,
+        place: 3,
+    },
+    Faulty {
+        name: "no equals sign",
+        words: &[b"t", b"--halvings"],
+        word: 2,
+        place: 3,
+    },
+    Faulty {
+        name: "no digit",
+        words: &[b"t", b"--halvings="],
+        word: 2,
+        place: 12,
+    },
+    Faulty {
+        name: "a letter for a digit",
+        words: &[b"--sample=x"],
+        word: 1,
+        place: 10,
+    },
+    Faulty {
+        name: "a letter behind digits",
+        words: &[b"--halvings=12x", b"t"],
+        word: 1,
+        place: 14,
+    },
+    Faulty {
+        name: "two faults",
+        words: &[b"--halvings=13x", b"t"],
+        word: 1,
+        place: 12,
+    },
+    Faulty {
+        name: "halvings out of range",
+        words: &[b"--halvings=13", b"t"],
+        word: 1,
+        place: 12,
+    },
+    Faulty {
+        name: "decimals out of range",
+        words: &[b"--decimals=20", b"--decimals=21", b"t"],
+        word: 2,
+        place: 12,
+    },
+    Faulty {
+        name: "ten digits",
+        words: &[b"--decimals=0000000001", b"t"],
+        word: 1,
+        place: 12,
+    },
+    Faulty {
+        name: "a sample out of range",
+        words: &[b"--sample=10001"],
+        word: 1,
+        place: 10,
+    },
+    Faulty {
+        name: "a second name",
+        words: &[b"a", b"b"],
+        word: 2,
+        place: 1,
+    },
+    Faulty {
+        name: "a later second name",
+        words: &[b"a", b"-n", b"b.poly"],
+        word: 3,
+        place: 1,
+    },
+    Faulty {
+        name: "no name",
+        words: &[b"-nQ"],
+        word: 2,
+        place: 1,
+    },
+    Faulty {
+        name: "a name and the sample",
+        words: &[b"--sample=3", b"t"],
+        word: 3,
+        place: 1,
+    },
+    Faulty {
+        name: "two names and the sample",
+        words: &[b"a", b"b", b"--sample=3"],
+        word: 2,
+        place: 1,
+    },
+    Faulty {
+        name: "two bad words",
+        words: &[b"t", b"-x", b""],
+        word: 2,
+        place: 2,
+    },
+];
+
+#[test]
+fn faults_are_told(rt: HostRuntime) -> Result<(), Fail> {
+    for case in &FAULTY {
+        let wanted = WordsFault::Usage {
+            word: case.word,
+            place: case.place,
+        };
+        assert_eq!(rt;
+            refusal_of(rt.alloc(), case.words)?,
+            Some(wanted),
+            "{}",
+            case.name
+        );
+    }
+    Ok(())
+}
+
+/// What is asked for, in part.
+#[derive(Clone, Copy, Debug, PartialEq, Eq)]
+struct Asked<'a> {
+    piecewise: bool,
+    from_zero: bool,
+    keep_hull: bool,
+    budget: u32,
+    halvings: u32,
+    decimals: Option<u32>,
+    sample: Option<u32>,
+    base: &'a [u8],
+    extension: Option<Extension>,
+}
+
+/// What a base alone asks for.
+const PLAIN: Asked<'static> = Asked {
+    piecewise: false,
+    from_zero: false,
+    keep_hull: false,
+    budget: 100_000,
+    halvings: 12,
+    decimals: None,
+    sample: None,
+    base: b"name",
+    extension: None,
+};
+
+/// Words, and what they ask for.
+struct Asking {
+    name: &'static str,
+    words: &'static [&'static [u8]],
+    asked: Asked<'static>,
+}
+
+const ASKING: [Asking; 9] = [
+    Asking {
+        name: "a base",
+        words: &[b"name"],
+        asked: PLAIN,
+    },
+    Asking {
+        name: "a cluster",
+        words: &[b"-pS100nz", b"name"],
+        asked: Asked {
+            piecewise: true,
+            from_zero: true,
+            budget: 100,
+            ..PLAIN
+        },
+    },
+    Asking {
+        name: "the last numbers",
+        words: &[
+            b"-S5S7",
+            b"name",
+            b"--halvings=3",
+            b"-cS000000020c",
+            b"--halvings=012",
+        ],
+        asked: Asked {
+            keep_hull: true,
+            budget: 20,
+            ..PLAIN
+        },
+    },
+    Asking {
+        name: "the ends of the ranges",
+        words: &[b"-S100000", b"--halvings=0", b"--decimals=20", b"name"],
+        asked: Asked {
+            halvings: 0,
+            decimals: Some(20),
+            ..PLAIN
+        },
+    },
+    Asking {
+        name: "letters of long words",
+        words: &[b"--decimals=0", b"name"],
+        asked: Asked {
+            decimals: Some(0),
+            ..PLAIN
+        },
+    },
+    Asking {
+        name: "points",
+        words: &[b"-p", b"name.node"],
+        asked: Asked {
+            extension: Some(Extension::Node),
+            ..PLAIN
+        },
+    },
+    Asking {
+        name: "a complex",
+        words: &[b"name.poly"],
+        asked: Asked {
+            piecewise: true,
+            extension: Some(Extension::Poly),
+            ..PLAIN
+        },
+    },
+    Asking {
+        name: "another complex",
+        words: &[b"name.smesh"],
+        asked: Asked {
+            piecewise: true,
+            extension: Some(Extension::Smesh),
+            ..PLAIN
+        },
+    },
+    Asking {
+        name: "the sample",
+        words: &[b"--sample=3", b"--sample=10000", b"-c"],
+        asked: Asked {
+            piecewise: true,
+            keep_hull: true,
+            sample: Some(10_000),
+            base: b"",
+            ..PLAIN
+        },
+    },
+];
+
+/// What the options ask for.
+fn asked_of(options: &Options) -> Asked<'_> {
+    Asked {
+        piecewise: options.piecewise,
+        from_zero: options.from_zero,
+        keep_hull: options.keep_hull,
+        budget: options.budget,
+        halvings: options.halvings,
+        decimals: options.decimals,
+        sample: options.sample,
+        base: options.base.as_slice(),
+        extension: options.extension,
+    }
+}
+
+/// Whether these words ask for this.
+fn asks(alloc: Global, words: &[&[u8]], asked: Asked) -> Result<bool, NoMemory> {
+    let words = words_of(alloc, words)?;
+    match read_words(alloc, &words) {
+        Ok(options) => Ok(asked_of(&options) == asked),
+        Err(_) => Ok(false),
+    }
+}
+
+#[test]
+fn options_are_read(rt: HostRuntime) -> Result<(), Fail> {
+    for case in &ASKING {
+        assert!(rt; asks(rt.alloc(), case.words, case.asked)?, "{}", case.name);
+    }
+    Ok(())
+}
+
+#[test]
+fn files_are_named(rt: HostRuntime) -> Result<(), Fail> {
+    let base = Name::from_slice(rt.alloc(), base_of(b"a.b.smesh"))?;
+    let name = file_name(rt.alloc(), &base, Extension::Poly)?;
+    assert_eq!(rt; name.as_slice(), b"a.b.poly".as_slice());
+    Ok(())
+}

@@ -1,0 +1,179 @@
+//! Lines and fields, numbers and their faults, and what is printed of decimals.
+
+use tet_text::*;
+use std::alloc::Global;
+use std::test::Fail;
+use tet_ports::{Bytes, NoMemory};
+
+/// The first field of a text.
+fn first_field(text: &[u8]) -> Option<Field<'_>> {
+    let mut lines = Lines::new(text);
+    let mut fields = lines.next_fields()?;
+    fields.next()
+}
+
+const TEXT: &[u8] = b"# head\n\n 1\t2 #3\r\n#\na#b\n\r\n  x";
+
+/// A field of a text by the number of its content line and its place there, both from 0, with the
+/// line that it is in.
+fn field_at(text: &[u8], line: usize, place: usize) -> Option<(usize, &[u8])> {
+    let mut lines = Lines::new(text);
+    for _ in 0..line {
+        lines.next_fields()?;
+    }
+    let mut fields = lines.next_fields()?;
+    for _ in 0..place {
+        fields.next()?;
+    }
+    let field = fields.next()?;
+    Some((field.line, field.bytes()))
+}
+
+#[test]
+fn lines_and_fields(rt: HostRuntime) -> Result<(), Fail> {
+    let rows: [(usize, usize, Option<(usize, &[u8])>); 8] = [
+        (0, 0, Some((3, b"1"))),
+        (0, 1, Some((3, b"2"))),
+        (0, 2, None),
+        (1, 0, Some((5, b"a"))),
+        (1, 1, None),
+        (2, 0, Some((7, b"x"))),
+        (2, 1, None),
+        (3, 0, None),
+    ];
+    for (line, place, wanted) in rows {
+        assert_eq!(rt; field_at(TEXT, line, place), wanted);
+    }
+    Ok(())
+}
+
+#[test]
+fn lines_are_counted(rt: HostRuntime) -> Result<(), Fail> {
+    let mut lines = Lines::new(TEXT);
+    let count = lines.line_count();
+    for _ in 0..4 {
+        lines.next_fields();
+    }
+    assert_eq!(rt; (count, lines.line_count()), (7, 7));
+    Ok(())
+}
+
+#[test]
+fn counts_and_wholes(rt: HostRuntime) -> Result<(), Fail> {
+    let rows: [(&[u8], Option<u64>, Option<i64>); 7] = [
+        (b"0", Some(0), Some(0)),
+        (b"007", Some(7), Some(7)),
+        (
+            b"999999999999999999",
+            Some(999_999_999_999_999_999),
+            Some(999_999_999_999_999_999),
+        ),
+        (b"1234567890123456789", None, None),
+        (b"-12", None, Some(-12)),
+        (b"+12", None, Some(12)),
+        (b"1.0", None, None),
+    ];
+    for (text, count, whole) in rows {
+        let field = first_field(text).ok_or("a field")?;
+        assert_eq!(rt;
+            (read_count(&field).ok(), read_whole(&field).ok()),
+            (count, whole)
+        );
+    }
+    Ok(())
+}
+
+const LARGEST: i128 = 999_999_999_999_999_999_999_999_999_999_999_999;
+
+/// The decimal that a text begins with.
+fn first_decimal(text: &[u8]) -> Option<Decimal> {
+    read_decimal(&first_field(text)?).ok()
+}
+
+/// The text of a decimal.
+fn printed(alloc: Global, decimal: &Decimal) -> Result<Bytes, NoMemory> {
+    let mut out = Bytes::new(alloc);
+    print_decimal(decimal, &mut out)?;
+    Ok(out)
+}
+
+#[test]
+fn decimals(rt: HostRuntime) -> Result<(), Fail> {
+    let rows: [(&[u8], i128, u32, &[u8]); 15] = [
+        (b"-1.250", -125, 2, b"-1.25"),
+        (b".5", 5, 1, b"0.5"),
+        (b"5.", 5, 0, b"5"),
+        (b"1.25e-1", 125, 3, b"0.125"),
+        (b"7e2", 700, 0, b"700"),
+        (b"100e-2", 1, 0, b"1"),
+        (b"-0", 0, 0, b"0"),
+        (b"0.0", 0, 0, b"0"),
+        (b".0", 0, 0, b"0"),
+        (b"0e999", 0, 0, b"0"),
+        (b"+1E+2", 100, 0, b"100"),
+        (b"-0.05", -5, 2, b"-0.05"),
+        (
+            b"0.001e38",
+            100_000_000_000_000_000_000_000_000_000_000_000,
+            0,
+            b"100000000000000000000000000000000000",
+        ),
+        (
+            b"1e35",
+            100_000_000_000_000_000_000_000_000_000_000_000,
+            0,
+            b"100000000000000000000000000000000000",
+        ),
+        (
+            b"-999999999999999999999999999999999999",
+            -LARGEST,
+            0,
+            b"-999999999999999999999999999999999999",
+        ),
+    ];
+    for (text, value, scale, wanted) in rows {
+        let decimal = first_decimal(text).ok_or("a decimal")?;
+        let out = printed(rt.alloc(), &decimal)?;
+        assert_eq!(rt;
+            (decimal.value, decimal.scale, out.as_slice()),
+            (value, scale, wanted)
+        );
+    }
+    Ok(())
+}
+
+#[test]
+fn a_far_fraction(rt: HostRuntime) -> Result<(), Fail> {
+    let decimal = first_decimal(b"1e-999").ok_or("a decimal")?;
+    let count = printed(rt.alloc(), &decimal)?.len();
+    assert_eq!(rt; (decimal.value, decimal.scale, count), (1, 999, 1001));
+    Ok(())
+}
+
+#[test]
+fn no_decimals(rt: HostRuntime) -> Result<(), Fail> {
+    let rows: [&[u8]; 13] = [
+        b".",
+        b"1e",
+        b"+.e1",
+        b"1e36",
+        b"1..2",
+        b"1.2.3",
+        b"e1",
+        b"1e1234",
+        b"--1",
+        b"1-",
+        b"1e+",
+        b"0x1",
+        b"0.000000000000000000000000000000000000",
+    ];
+    for text in rows {
+        let field = first_field(text).ok_or("a field")?;
+        let fault = TextFault {
+            line: 1,
+            kind: TextKind::NotANumber,
+        };
+        assert_eq!(rt; read_decimal(&field).err(), Some(fault));
+    }
+    Ok(())
+}

@@ -1,0 +1,213 @@
+//! Grids of points, roundings, and what is printed of grid coordinates.
+
+use grid_coords::*;
+use sign_predicates::GridPoint;
+use std::alloc::Global;
+use std::test::Fail;
+use tet_ports::{Bytes, NoMemory};
+use tet_text::{Decimal, Lines, read_decimal};
+
+/// The decimal that a text begins with.
+fn decimal(text: &[u8]) -> Option<Decimal> {
+    let mut lines = Lines::new(text);
+    let mut fields = lines.next_fields()?;
+    read_decimal(&fields.next()?).ok()
+}
+
+fn point(line: usize, x: &[u8], y: &[u8], z: &[u8]) -> Option<DecimalPoint> {
+    let (x, y, z) = (decimal(x)?, decimal(y)?, decimal(z)?);
+    Some(DecimalPoint { x, y, z, line })
+}
+
+/// A list of one point for each x, with y and z 0; its line is its place in the list.
+fn points(alloc: Global, xs: &[&[u8]]) -> Option<DecimalPoints> {
+    let mut list = DecimalPoints::new(alloc);
+    for (i, x) in xs.iter().enumerate() {
+        list.push(point(i, x, b"0", b"0")?).ok()?;
+    }
+    Some(list)
+}
+
+#[test]
+fn rounding(rt: HostRuntime) -> Result<(), Fail> {
+    let rows: [(&[u8], u32, i128, u32); 10] = [
+        (b"0.33333333333333331", 3, 333, 3),
+        (b"0.5", 0, 1, 0),
+        (b"-0.5", 0, -1, 0),
+        (b"0.49", 0, 0, 0),
+        (b"2.55", 1, 26, 1),
+        (b"-1.96", 1, -2, 0),
+        (b"1.25", 5, 125, 2),
+        (b"0.95", 1, 1, 0),
+        (b"1e-999", 20, 0, 0),
+        (
+            b"99999999999999999999999999999999999.5",
+            0,
+            100_000_000_000_000_000_000_000_000_000_000_000,
+            0,
+        ),
+    ];
+    for (text, decimals, value, scale) in rows {
+        let d = round_to(&decimal(text).ok_or("a decimal")?, decimals);
+        assert_eq!(rt; (d.value, d.scale), (value, scale));
+    }
+    Ok(())
+}
+
+#[test]
+fn grids(rt: HostRuntime) -> Result<(), Fail> {
+    let rows: [(&[&[u8]], u32, Result<Grid, Range>); 9] = [
+        (
+            &[b"0.5", b"-1.250", b"3", b".5"],
+            12,
+            Ok(Grid {
+                decimals: 2,
+                halvings: 12,
+            }),
+        ),
+        (
+            &[b"0.5", b"-1.250", b"3", b".5"],
+            4,
+            Ok(Grid {
+                decimals: 2,
+                halvings: 4,
+            }),
+        ),
+        (
+            &[b"0", b"1", b"0", b"0.33333333333333331"],
+            12,
+            Err(Range { line: 1 }),
+        ),
+        (
+            &[b"0", b"1", b"0", b"0.333"],
+            12,
+            Ok(Grid {
+                decimals: 3,
+                halvings: 12,
+            }),
+        ),
+        (
+            &[b"-8388608", b"8388608"],
+            12,
+            Ok(Grid {
+                decimals: 0,
+                halvings: 0,
+            }),
+        ),
+        (
+            &[b"8388608", b"8388609", b"9e9"],
+            12,
+            Err(Range { line: 1 }),
+        ),
+        (
+            &[b"4194304"],
+            12,
+            Ok(Grid {
+                decimals: 0,
+                halvings: 1,
+            }),
+        ),
+        (
+            &[b"1e-999", b"0"],
+            12,
+            Ok(Grid {
+                decimals: 999,
+                halvings: 12,
+            }),
+        ),
+        (&[b"1e-999", b"1e-990", b"1"], 12, Err(Range { line: 1 })),
+    ];
+    for (xs, most_halvings, wanted) in rows {
+        let list = points(rt.alloc(), xs).ok_or("points")?;
+        assert_eq!(rt; choose_grid(&list, most_halvings), wanted);
+    }
+    Ok(())
+}
+
+/// The grid of a point, and where the point is on it.
+fn placed(alloc: Global, p: DecimalPoint) -> Option<(Grid, [i32; 3])> {
+    let mut list = DecimalPoints::new(alloc);
+    list.push(p).ok()?;
+    let grid = choose_grid(&list, 12).ok()?;
+    if list.len() != 1 {
+        return None;
+    }
+    let placed = to_grid(&grid, list.get(0));
+    Some((grid, [placed.x, placed.y, placed.z]))
+}
+
+const HUNDREDTHS: Grid = Grid {
+    decimals: 2,
+    halvings: 12,
+};
+
+#[test]
+fn places_on_a_grid(rt: HostRuntime) -> Result<(), Fail> {
+    let p = point(2, b"0.5", b"-1.250", b"3").ok_or("a point")?;
+    let wanted = (HUNDREDTHS, [204_800, -512_000, 1_228_800]);
+    assert_eq!(rt; placed(rt.alloc(), p), Some(wanted));
+    Ok(())
+}
+
+/// A coordinate in hundredths as text, behind `x `.
+fn printed(alloc: Global, coordinate: i32) -> Result<Bytes, NoMemory> {
+    let mut out = Bytes::from_slice(alloc, b"x ")?;
+    print_grid(&HUNDREDTHS, coordinate, &mut out)?;
+    Ok(out)
+}
+
+#[test]
+fn texts_of_coordinates(rt: HostRuntime) -> Result<(), Fail> {
+    let texts: [(i32, &[u8]); 6] = [
+        (204_800, b"x 0.5"),
+        (-512_000, b"x -1.25"),
+        (1_228_800, b"x 3"),
+        (0, b"x 0"),
+        (1, b"x 0.00000244140625"),
+        (-8_388_608, b"x -20.48"),
+    ];
+    for (coordinate, wanted) in texts {
+        let text = printed(rt.alloc(), coordinate)?;
+        assert_eq!(rt; text.as_slice(), wanted);
+    }
+    Ok(())
+}
+
+#[test]
+fn rational_places(rt: HostRuntime) -> Result<(), Fail> {
+    let grid = Grid {
+        decimals: 1,
+        halvings: 2,
+    };
+    let rows: [(&[u8], i64); 7] = [
+        (b"0.5", 20_000_000),
+        (b"-0.00000015", -8),
+        (b"0.00000014", 4),
+        (b"209715.2", 8_388_608_000_000),
+        (b"209715.20000004", 8_388_608_000_000),
+        (b"209715.2000001", 8_388_609_000_000),
+        (b"-1e35", -8_388_609_000_000),
+    ];
+    for (x, wanted) in rows {
+        let p = point(1, x, b"0", b"-0.1").ok_or("a point")?;
+        let p = to_rat(&grid, &p);
+        assert_eq!(rt; (p.x, p.y, p.z, p.w), (wanted, 0, -4_000_000, 1_000_000));
+    }
+    Ok(())
+}
+
+#[test]
+fn midpoints(rt: HostRuntime) -> Result<(), Fail> {
+    let origin = GridPoint { x: 0, y: 0, z: 0 };
+    let m = midpoint(origin, GridPoint { x: 2, y: 4, z: -6 }).ok_or("a midpoint")?;
+    assert_eq!(rt; (m.x, m.y, m.z), (1, 2, -3));
+    let odd = [
+        GridPoint { x: 1, y: 0, z: 0 },
+        GridPoint { x: 0, y: -3, z: 0 },
+        GridPoint { x: 0, y: 0, z: 5 },
+    ];
+    for p in odd {
+        assert!(rt; midpoint(p, GridPoint { x: 2, y: 0, z: 0 }).is_none());
+    }
+    Ok(())
+}

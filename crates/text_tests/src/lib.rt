@@ -1,0 +1,13 @@
+//! Texts and words that are read, and what is printed, on worked lines.
+#![tactic(auto)]
+
+#[cfg(test)]
+mod command_line;
+#[cfg(test)]
+mod complexes;
+#[cfg(test)]
+mod fields;
+#[cfg(test)]
+mod grids;
+#[cfg(test)]
+mod point_lists;
