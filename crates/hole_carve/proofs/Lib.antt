@@ -2,7 +2,6 @@ pub mod Begun
 pub mod Carved
 pub mod KeptRows
 pub mod Seeding
-pub mod Holding
 pub mod Reached
 pub mod Steps
 pub mod FacetFaces

@@ -11,4 +11,3 @@ pub mod Replace
 pub mod CutCavity
 pub mod EdgeTable
 pub mod StarEdges
-mod OneSlot

@@ -17,6 +17,3 @@ mod surgery;
 
 pub use arena::{Arena, SlotFace};
 pub use slot::{Cavity, Corner, Rim, RimFace, Slot, SlotCorners};
-
-#[cfg(test)]
-mod tests;

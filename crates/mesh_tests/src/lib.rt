@@ -10,4 +10,6 @@ mod protection;
 #[cfg(test)]
 mod regions;
 #[cfg(test)]
+mod surgery;
+#[cfg(test)]
 mod tangles;

@@ -1,9 +1,9 @@
 //! Points in a frame so narrow that the sum of the sphere through four of them takes few bits.
-ghost use Rattle.std.specs.Prelude.{◌≡◌, ◌*◌, ◌^◌, ◌<◌, ◌≤◌, ◌≤ℤ◌, pos, unsigned_abs, IfSome};
-ghost use Rattle.sign_predicates.specs.Point.{from_to};
+ghost use Rattle.std.specs.Prelude.{◌≡◌, ◌*◌, ◌^◌, ◌<◌, ◌≤◌, ◌≤ℤ◌, pos, unsigned_abs, IfSome, IfNone};
+ghost use Rattle.sign_predicates.specs.Point.{Point, from_to};
 ghost use Rattle.sign_predicates.specs.Sphere.{in_sphere};
 ghost use Rattle.sign_predicates.specs.Vector.{IsShort};
-ghost use Rattle.sign_predicates.specs.Lifted.{rise, IsStepsFrom, IsInFrame, IsSphereSign};
+ghost use Rattle.sign_predicates.specs.Lifted.{rise, IsNarrow, IsStepsFrom, IsInFrame, IsSphereSign};
 
 use crate::sign::sign_of;
 use crate::sphere::short_sum_of_four;
@@ -56,7 +56,8 @@ fn steps_from(corner: i32, step: u32, x: i32) -> Option<i32>
     requires step { 0 < step }
     requires corner { unsigned_abs corner ≤ 2 ^ 23 }
     requires x { unsigned_abs x ≤ 2 ^ 23 }
-    ensures { IfSome result (λ q. IsStepsFrom corner (pos step) q x × (pos 0 ≤ℤ q) × (q ≤ℤ pos 1048576)) }
+    ensures there { IfSome result (λ q. IsStepsFrom corner (pos step) q x × (pos 0 ≤ℤ q) × (q ≤ℤ pos 1048576)) }
+    ensures none { IfNone result ((q : ℤ) → pos 0 ≤ℤ q → q ≤ℤ pos 1048576 → IsStepsFrom corner (pos step) q x → ⊥) }
 {
     if x < corner {
         return None;
@@ -90,7 +91,8 @@ impl Frame {
     /// The point in the frame. None where it is not there.
     pub fn lift(&self, p: GridPoint) -> Option<Lifted>
         requires { 0 < self.now.step }
-        ensures { IfSome result (λ q. IsInFrame self.now q p) }
+        ensures there { IfSome result (λ q. IsInFrame self.now q p) }
+        ensures none { IfNone result ((q : Point) → IsNarrow q → IsInFrame self.now q p → ⊥) }
     {
         let x = steps_from(self.corner.x, self.step, p.x)?;
         let y = steps_from(self.corner.y, self.step, p.y)?;

@@ -14,5 +14,5 @@ loop-p-preserved c =
     let pushed = c.in-Ok.ensures.ok in
     record {
       count = omega (arith, ap length pushed, length_push c.loop-p.lifted c.in_ok-lift.field-0);
-      each = one_more _ ps c.loop-p.lifted c.push.new.self n c.in_ok-lift.field-0 c.p-item.result c.loop-p.invariant.count c.loop-p.invariant.each pushed read c.in_ok-lift.ensures;
+      each = one_more _ ps c.loop-p.lifted c.push.new.self n c.in_ok-lift.field-0 c.p-item.result c.loop-p.invariant.count c.loop-p.invariant.each pushed read c.in_ok-lift.ensures.there;
     }

@@ -2,8 +2,8 @@ use Rattle.std.proofs.Common.{◌≡◌, ℕ, ◌<◌, List, Option, sym, ap, �
 use Rattle.mesh_arena.specs.declared.slot.Corner.{Corner}
 use Rattle.mesh_arena.specs.declared.slot.Corner.TheVariants.{Point}
 use Rattle.mesh_arena.specs.Mesh.{corner, corner_in}
-use Rattle.mesh_arena.proofs.OneSlot.{IsRim-one, ArePaired-one, IsOffRim-one}
-use Rattle.mesh_arena.proofs.tests.split.Goals as goal
+use Rattle.mesh_tests.proofs.OneSlot.{IsRim-one, ArePaired-one, IsOffRim-one}
+use Rattle.mesh_tests.proofs.surgery.split.Goals as goal
 
 pub replace_cavity-requires-clause-rim : goal.replace_cavity-requires-clause-rim
 replace_cavity-requires-clause-rim c =

@@ -2,8 +2,7 @@
 ghost use Rattle.std.specs.Prelude.{◌≡◌, ◌≢◌, ℕ, ◌<◌, [], ◌∷◌, IsTrue, IfOk, IfSome};
 ghost use Rattle.mesh_arena.specs.Mesh.{corners_at, IsLive, corner_list, AllDiffer};
 
-use crate::slot::has_corner;
-use crate::*;
+use mesh_arena::{Arena, Cavity, Corner, Rim, RimFace, Slot, SlotCorners};
 use std::alloc::Global;
 use std::test::Fail;
 use tet_ports::NoMemory;
@@ -26,16 +25,18 @@ fn corner_of(i: i32) -> Corner {
     }
 }
 
+// Whether the corners differ.
 fn are_different(t: SlotCorners) -> bool
     ensures { IsTrue result → AllDiffer (corner_list t) }
 {
-    let all = [t.a, t.b, t.c, t.d];
-    for i in 0..4u8 {
-        if has_corner(&all, i, all[i as usize]) {
-            return false;
-        }
-    }
-    true
+    t.a != t.b && t.a != t.c && t.a != t.d && t.b != t.c && t.b != t.d && t.c != t.d
+}
+
+// Whether no corner is x.
+fn lacks(t: SlotCorners, x: Corner) -> bool
+    ensures { IsTrue result → (k : ℕ) → k < 4 → slice_index_or (corner_list t) k Ghost ≢ x }
+{
+    t.a != x && t.b != x && t.c != x && t.d != x
 }
 
 fn link_faces(arena: &mut Arena, s: Slot, i: u8, t: Slot, j: u8)
@@ -126,7 +127,7 @@ fn split(alloc: Global, arena: &mut Arena, s: Slot, point: u32) -> Result<bool, 
     let Some(d) = arena.across(s, 3) else {
         return Ok(false);
     };
-    if has_corner(&[t.a, t.b, t.c, t.d], 4, Corner::Point(point)) {
+    if !lacks(t, Corner::Point(point)) {
         return Ok(false);
     }
     let cavity = one_slot(alloc, s)?;
