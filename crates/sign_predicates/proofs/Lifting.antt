@@ -1,6 +1,8 @@
 -- The sphere's sum by the heights of the lifting map, and in a frame.
-use Rattle.std.proofs.Common.{◌≡◌, ℕ, ◌≤◌, ◌*◌, ◌^◌, List, [], ◌∷◌, ap, sym, subst, ◌∙◌, ℤ, pos, negsuc, ◌+ℤ◌, ◌-ℤ◌, ◌*ℤ◌, ◌<ℤ◌, ◌≤ℤ◌, unsigned_abs, w32, w64, to_z, of_z, arith}
+use Rattle.std.proofs.Common.{◌≡◌, ℕ, ◌≤◌, ◌<◌, ◌*◌, ◌/◌, ◌%◌, ◌^◌, nat_abs, List, [], ◌∷◌, ap, sym, subst, ◌∙◌, ℤ, pos, negsuc, ◌+ℤ◌, ◌-ℤ◌, ◌*ℤ◌, ◌<ℤ◌, ◌≤ℤ◌, unsigned_abs, w32, w64, to_z, of_z, arith}
 use Rattle.std.proofs.lemmas.Int.{ints}
+use Rattle.std.proofs.Math.Nat.{mul-div_cancel_left, mul-mod_right}
+use Rattle.std.proofs.Math.IntN.{pos-*ℤ-pos}
 use Rattle.exact_algebra.proofs.Ring.{Expr, num, var, sub, ring, same, ◌⊕◌, ◌⊖◌, ◌⊗◌}
 use Rattle.exact_algebra.proofs.Signs.{mul_pos, mul_neg}
 use Rattle.exact_algebra.proofs.Size.{eval_within, machine_is}
@@ -200,3 +202,23 @@ pub steps_in_frame : (step : ℕ) (corner q x : ℤ) → negsuc 8388607 ≤ℤ c
 steps_in_frame step corner q x cl ch xl xh (h, ql, qh) =
     let back_q = grid_back q (omega (arith, ints)) (omega (arith, ints)) in
     sym (grid_back x xl xh) ∙ h ∙ (λ i. grid_back corner cl ch i +ℤ pos step *ℤ sym back_q i)
+
+-- the same, of the coordinates as they are read
+pub steps_as_read : (step : ℕ) (corner q x : ℤ) → negsuc 8388607 ≤ℤ corner → corner ≤ℤ pos 8388608 → negsuc 8388607 ≤ℤ x → x ≤ℤ pos 8388608
+    → IsStepsFrom corner (pos step) q x → IsStepsFrom (to_z w32 (of_z w32 corner)) (pos step) q (to_z w32 (of_z w32 x))
+steps_as_read step corner q x cl ch xl xh h = grid_back x xl xh ∙ h ∙ (λ i. sym (grid_back corner cl ch) i +ℤ pos step *ℤ q)
+
+-- so many units above the corner are whole steps, and no more than the frame has
+pub whole_steps : (step units : ℕ) (corner q x : ℤ) → 0 < step → unsigned_abs corner ≤ 2 ^ 23 → unsigned_abs x ≤ 2 ^ 23
+    → units ≡ nat_abs (to_z w32 (of_z w32 (to_z w32 (of_z w32 x) -ℤ to_z w32 (of_z w32 corner))))
+    → pos 0 ≤ℤ q → q ≤ℤ pos 1048576 → IsStepsFrom corner (pos step) q x
+    → (units / step ≤ 1048576) × (units % step ≡ 0)
+whole_steps step units corner (negsuc n) x s ch xh u low high is = absurd (omega (arith, ints))
+whole_steps step units corner (pos n) x s ch xh u low high is =
+    let difference : to_z w32 (of_z w32 (to_z w32 (of_z w32 x) -ℤ to_z w32 (of_z w32 corner))) ≡ x -ℤ corner =
+    machine_is w32 (2 ^ 23 ∷ 2 ^ 23 ∷ []) (corner ∷ x ∷ []) (sub (var 1) (var 0)) (ch, (xh, tt)) tt in
+    let product = pos-*ℤ-pos step n in
+    let steps : x -ℤ corner ≡ pos (step * n) = omega (arith, ints) in
+    let whole : units ≡ step * n = u ∙ ap nat_abs (difference ∙ steps) in
+    (subst (λ d. d ≤ 1048576) (sym (ap (λ k. k / step) whole ∙ mul-div_cancel_left n s)) (omega (arith, ints)),
+    ap (λ k. k % step) whole ∙ mul-mod_right step n)

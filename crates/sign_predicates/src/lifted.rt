@@ -1,5 +1,5 @@
 //! Points in a frame so narrow that the sum of the sphere through four of them takes few bits.
-ghost use Rattle.std.specs.Prelude.{◌≡◌, ◌*◌, ◌^◌, ◌<◌, ◌≤◌, ◌≤ℤ◌, pos, unsigned_abs, IfSome, IfNone};
+ghost use Rattle.std.specs.Prelude.{◌≡◌, ◌*◌, ◌^◌, ◌<◌, ◌≤◌, ◌≤ℤ◌, pos, unsigned_abs, ℤ, IfSome, IfNone};
 ghost use Rattle.sign_predicates.specs.Point.{Point, from_to};
 ghost use Rattle.sign_predicates.specs.Sphere.{in_sphere};
 ghost use Rattle.sign_predicates.specs.Vector.{IsShort};
