@@ -23,7 +23,7 @@ use Rattle.sign_predicates.proofs.Vectors.{difference_back, grid_back, in_sphere
 -- ---- heights in place of squared lengths
 
 -- numbers times the determinants of the other three of four vectors, with alternating signs
-abbrev by_others : ℤ → ℤ → ℤ → ℤ → Point → Point → Point → Point → ℤ
+abbrev pub by_others : ℤ → ℤ → ℤ → ℤ → Point → Point → Point → Point → ℤ
 by_others k l m n a b c d = k *ℤ det b c d -ℤ l *ℤ det a c d +ℤ m *ℤ det a b d -ℤ n *ℤ det a b c
 
 by_othersE : Expr → Expr → Expr → Expr → Expr → Expr → Expr → Expr → Expr
