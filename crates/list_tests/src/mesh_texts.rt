@@ -1,9 +1,9 @@
 //! Texts of small meshes, against the formats of the manual.
 ghost use Rattle.std.specs.Prelude.{◌<◌, IfSome};
 
-use mesh_files::*;
 use geo_laws::{Complex, Face, FacetTriangles, Points, Tet, TetList};
 use incidence::Marks;
+use mesh_files::*;
 use sign_predicates::RatPoint;
 use std::alloc::Global;
 use std::test::Fail;

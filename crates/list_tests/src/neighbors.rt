@@ -1,6 +1,6 @@
 //! Pairs of small meshes, drawn by hand.
-use incidence::{Across, pair_faces};
 use geo_laws::{Tet, TetList};
+use incidence::{Across, pair_faces};
 use std::test::Fail;
 
 /// What is across the faces of a row, in one array.

@@ -4,7 +4,9 @@ ghost use Rattle.geo_laws.specs.Delaunay.{point, all_numbers, HasDistinctPoints}
 ghost use Rattle.mesh_arena.specs.Mesh.{IsLive};
 ghost use Rattle.mesh_laws.specs.Living.{IsDelaunayMesh};
 
-use cavity_insert::{BuildFault, Living, Steps, delaunay, delaunay_with_hull, grow_cavity, test_slot};
+use cavity_insert::{
+    BuildFault, Living, Steps, delaunay, delaunay_with_hull, grow_cavity, test_slot,
+};
 use geo_laws::{Face, Points, Tet, TetList};
 use mesh_arena::{Arena, Slot};
 use sign_predicates::GridPoint;

@@ -1,5 +1,5 @@
-use piece_set::{PieceSet, Polygon, Polygons, put_sides, segments_of};
 use geo_laws::{Piece, Segments};
+use piece_set::{PieceSet, Polygon, Polygons, put_sides, segments_of};
 use std::alloc::Global;
 use std::test::Fail;
 use tet_ports::NoMemory;

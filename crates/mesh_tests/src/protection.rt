@@ -3,10 +3,10 @@ ghost use Rattle.geo_laws.specs.Delaunay.{point, HasDistinctPoints};
 ghost use Rattle.segment_protect.specs.Spots.{HasTwoEnds};
 ghost use Rattle.segment_protect.specs.Protection.{IsMultiple, AreCut};
 
-use segment_protect::{ProtectFault, Protected, pieces, protect};
 use cavity_insert::{Living, delaunay};
 use geo_laws::{Piece, Pieces, Points, Segments, TetList};
 use piece_set::{Polygon, Polygons, segments_of};
+use segment_protect::{ProtectFault, Protected, pieces, protect};
 use sign_predicates::GridPoint;
 use std::alloc::Global;
 use std::test::Fail;

@@ -1,5 +1,6 @@
 //! Surgery on the mesh of a cube, by hand.
-ghost use Rattle.std.specs.Prelude.{◌≡◌, ◌≢◌, ℕ, ◌<◌, [], ◌∷◌, IsTrue, IfOk, IfSome};
+ghost use Rattle.std.specs.Prelude.{◌≡◌, ◌≢◌, ℕ, ◌<◌, [], ◌∷◌, IsTrue, IfOk, IfSome, slice_index_or};
+ghost use Rattle.mesh_arena.specs.declared.slot.Corner.TheVariants.{Ghost};
 ghost use Rattle.mesh_arena.specs.Mesh.{corners_at, IsLive, corner_list, AllDiffer};
 
 use mesh_arena::{Arena, Cavity, Corner, Rim, RimFace, Slot, SlotCorners};
@@ -46,7 +47,7 @@ fn link_faces(arena: &mut Arena, s: Slot, i: u8, t: Slot, j: u8)
     requires differ { s.index ≢ t.index }
     ensures { (u : ℕ) → corners_at arena.new.slots u ≡ corners_at arena.old.slots u }
 {
-    if arena.side(s.index, i).is_none() && arena.side(t.index, j).is_none() {
+    if arena.neighbor(s, i).is_none() && arena.neighbor(t, j).is_none() {
         if arena.same_face(s, i, t, j) {
             arena.link(s, i, t, j);
         }

@@ -4,13 +4,13 @@ ghost use Rattle.geo_laws.specs.Delaunay.{point, HasDistinctPoints, IsOn};
 ghost use Rattle.tangle_fill.specs.Fill.{AreFacetTriangles};
 ghost use Rattle.tangle_fill.specs.Sample.{IsFacetTriangle};
 
-use tangle_fill::{FillFault, admissible, fill_tangle};
 use cavity_insert::delaunay;
 use geo_laws::{Face, FacetTriangle, FacetTriangles, Points, Tet};
 use sign_predicates::GridPoint;
 use simplex_meets::is_triangle;
 use std::alloc::Global;
 use std::test::Fail;
+use tangle_fill::{FillFault, admissible, fill_tangle};
 use tet_ports::NoMemory;
 
 /// Two thin plates over one another, with a point above and one below.

@@ -219,6 +219,7 @@ whole_steps step units corner (pos n) x s ch xh u low high is =
     machine_is w32 (2 ^ 23 ∷ 2 ^ 23 ∷ []) (corner ∷ x ∷ []) (sub (var 1) (var 0)) (ch, (xh, tt)) tt in
     let product = pos-*ℤ-pos step n in
     let steps : x -ℤ corner ≡ pos (step * n) = omega (arith, ints) in
-    let whole : units ≡ step * n = u ∙ ap nat_abs (difference ∙ steps) in
-    (subst (λ d. d ≤ 1048576) (sym (ap (λ k. k / step) whole ∙ mul-div_cancel_left n s)) (omega (arith, ints)),
-    ap (λ k. k % step) whole ∙ mul-mod_right step n)
+    let whole : units ≡ step * n = u ∙ ap nat_abs (difference ∙ steps) in (
+      subst (λ d. d ≤ 1048576) (sym (ap (λ k. k / step) whole ∙ mul-div_cancel_left n s)) (omega (arith, ints)),
+      ap (λ k. k % step) whole ∙ mul-mod_right step n,
+    )

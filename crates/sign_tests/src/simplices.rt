@@ -1,6 +1,8 @@
-use simplex_meets::{face_met_segment, faces_met, is_segment, is_triangle, segment_met_face, segments_met};
 use geo_laws::{Face, Points, Side};
 use sign_predicates::GridPoint;
+use simplex_meets::{
+    face_met_segment, faces_met, is_segment, is_triangle, segment_met_face, segments_met,
+};
 use std::alloc::Global;
 use std::test::Fail;
 use tet_ports::NoMemory;

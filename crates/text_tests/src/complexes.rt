@@ -4,11 +4,11 @@ ghost use Rattle.std.specs.Prelude.{◌≡◌, None, IfOk};
 ghost use Rattle.plc_files.specs.Checks.{HasFewParts};
 ghost use Rattle.plc_files.specs.Text.{plc_with};
 
-use plc_files::Form::{Poly, Smesh};
-use plc_files::*;
 use geo_laws::{Complex, RatPoints};
 use grid_coords::{DecimalPoint, Grid};
 use node_files::NodeText;
+use plc_files::Form::{Poly, Smesh};
+use plc_files::*;
 use sign_predicates::RatPoint;
 use std::alloc::Global;
 use std::test::Fail;

@@ -1,9 +1,9 @@
 //! Lines and fields, numbers and their faults, and what is printed of decimals.
 
-use tet_text::*;
 use std::alloc::Global;
 use std::test::Fail;
 use tet_ports::{Bytes, NoMemory};
+use tet_text::*;
 
 /// The first field of a text.
 fn first_field(text: &[u8]) -> Option<Field<'_>> {

@@ -5,9 +5,9 @@ ghost use Rattle.node_files.specs.Node.{IsNodeText};
 ghost use Rattle.node_files.specs.Settling.{most_points};
 ghost use Rattle.node_files.specs.Writing.{IsNodeTable};
 
-use node_files::*;
 use geo_laws::Points;
 use grid_coords::{DecimalPoint, DecimalPoints, Grid};
+use node_files::*;
 use sign_predicates::GridPoint;
 use std::alloc::Global;
 use tet_ports::{Bytes, Name, NoMemory, Words};

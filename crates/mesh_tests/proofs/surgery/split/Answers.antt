@@ -1,4 +1,4 @@
-use Rattle.std.proofs.Common.{◌≡◌, ℕ, ◌<◌, List, Option, sym, ap, ◌∙◌, arith, true≢false}
+use Rattle.std.proofs.Common.{◌≡◌, ℕ, ◌<◌, List, Option, sym, ap, ◌∙◌}
 use Rattle.mesh_arena.specs.declared.slot.Corner.{Corner}
 use Rattle.mesh_arena.specs.declared.slot.Corner.TheVariants.{Point}
 use Rattle.mesh_arena.specs.Mesh.{corner, corner_in}
@@ -17,10 +17,7 @@ replace_cavity-requires-clause-pairs c =
 
 pub replace_cavity-requires-clause-point : goal.replace_cavity-requires-clause-point
 replace_cavity-requires-clause-point c =
-    let none : (k : ℕ) → k < 4 → corner c.args.arena.now.slots c.args.s.index k ≡ Point c.args.point → ⊥ = λ k lt e.
-    true≢false (
-    sym (c.has_corner.ensures.1 (record { place = k; within = lt; differs = λ f. omega arith; is = sym (ap (λ (o : Option (List Corner)). corner_in o k) c.tet-t.ensures.corners) ∙ e }))
-    ∙ c.if-has_corner.false
-    ) in
+    let none : (k : ℕ) → k < 4 → corner c.args.arena.now.slots c.args.s.index k ≡ Point c.args.point → ⊥ =
+    λ k lt e. c.lacks.ensures c.if-not-lacks.false k lt (sym (ap (λ (o : Option (List Corner)). corner_in o k) c.tet-t.ensures.corners) ∙ e) in
     rw c.in_ok-rim.ensures
     (IsOffRim-one _ c.args.s c.in-Some.a c.in-Some-across.b c.in-Some-across-2.c c.in-Some-across-3.d c.tet-t.ensures.mesh (sym c.in-Some.ensures.value) (sym c.in-Some-across.ensures.value) (sym c.in-Some-across-2.ensures.value) (sym c.in-Some-across-3.ensures.value) (Point c.args.point) none)

@@ -8,6 +8,6 @@ returns-then-steps-gt-WIDTH-clause-none c = λ q low high is.
     let r = c.requires in
     let h = whole_steps c.args.step _ c.args.corner q c.args.x r.step r.corner r.x c.unsigned_abs-units.ensures.value low high is in
     elim c.then-steps-gt-WIDTH.branch [
-      then-steps-gt-WIDTH-via-then-steps-gt-WIDTH w ↦ (let wide = w.if-steps-gt-WIDTH.true in let few = h.0 in omega arith)
-    | then-steps-gt-WIDTH-via-else-steps-gt-WIDTH+then-units-step-ne0 w ↦ w.if-units-step-ne0.true h.1
+      | then-steps-gt-WIDTH-via-then-steps-gt-WIDTH w ↦ (let wide = w.if-steps-gt-WIDTH.true in let few = h.0 in omega arith)
+      | then-steps-gt-WIDTH-via-else-steps-gt-WIDTH+then-units-step-ne0 w ↦ w.if-units-step-ne0.true h.1
     ]
