@@ -46,7 +46,7 @@ pub fn delaunay_with_hull(alloc: Global, points: &Points) -> Result<HulledList, 
     let hull = hull_of(alloc, &arena, points, last)?;
     let found = slot_rows(alloc, &arena)?;
     // Before the list is made, so that less memory is taken at once.
-    drop(arena);
+    arena.let_go();
     let rows = found.into_list(alloc)?;
     Ok(HulledList { rows, hull })
 }

@@ -160,6 +160,6 @@ pub fn delaunay(alloc: Global, points: &Points) -> Result<TetList, BuildFault>
     let Built { arena, .. } = mesh_from::<Brand>(alloc, points, Blank::new(1))?;
     let found = slot_rows(alloc, &arena)?;
     // Before the list is made, so that less memory is taken at once.
-    drop(arena);
+    arena.let_go();
     Ok(found.into_list(alloc)?)
 }

@@ -85,6 +85,14 @@ impl Arena {
         }
     }
 
+    /// Lets the slots go. Their memory is made small before it is given back: what the C library
+    /// keeps of what it gets back, and where it puts later lists, goes by the largest block.
+    pub fn let_go(self) {
+        let Arena { mut cells, .. } = self;
+        cells.clear();
+        cells.shrink_to(1);
+    }
+
     /// The number of slots, live and free.
     pub fn slots(&self) -> usize
         ensures { result ≡ length self.now.slots }
