@@ -2,7 +2,7 @@
 ghost use Rattle.std.specs.Prelude.{◌<◌, ◌≤◌};
 
 use crate::message::append_number;
-use crate::tests::{add_point, leaves};
+use crate::tests::{Run, add_point, leaves};
 use std::alloc::Global;
 use std::test::Fail;
 use tet_ports::{Bytes, NoMemory};
@@ -164,15 +164,13 @@ fn a_plate_crosses_thousands_of_tetrahedra(rt: HostRuntime) -> Result<(), Fail> 
     let text = plate_in_cloud(alloc, 10_000)?;
     let held = [(b"t.poly".as_slice(), text.as_slice())];
     let summary = b"points 10128 added 0 tetrahedra 67642 faces 135415 edges 77900\n";
-    assert!(rt;
-        leaves(
-            alloc,
-            &held,
-            &[b"-pc", b"t"],
-            (0, Some(summary), Some(b"")),
-            &[]
-        )?
-    );
+    let run = Run {
+        held: &held,
+        words: &[b"-pc", b"t"],
+        end: (0, Some(summary), Some(b"")),
+        files: &[],
+    };
+    assert!(rt; leaves(alloc, &run)?);
     Ok(())
 }
 
@@ -182,14 +180,12 @@ fn many_plates_are_crossed(rt: HostRuntime) -> Result<(), Fail> {
     let text = small_plates(alloc)?;
     let held = [(b"t.poly".as_slice(), text.as_slice())];
     let summary = b"points 625 added 0 tetrahedra 3401 faces 6873 edges 4096\n";
-    assert!(rt;
-        leaves(
-            alloc,
-            &held,
-            &[b"-pc", b"t"],
-            (0, Some(summary), Some(b"")),
-            &[]
-        )?
-    );
+    let run = Run {
+        held: &held,
+        words: &[b"-pc", b"t"],
+        end: (0, Some(summary), Some(b"")),
+        files: &[],
+    };
+    assert!(rt; leaves(alloc, &run)?);
     Ok(())
 }

@@ -99,326 +99,331 @@ impl Place {
     }
 }
 
-/// Whether a run on these words, where the folder holds these files, ends so and leaves these files.
-pub(crate) fn leaves(
-    alloc: Global,
-    held: &[File],
-    words: &[&[u8]],
-    end: End,
-    files: &[Left],
-) -> Result<bool, NoMemory> {
-    let mut place = Place::with_files(alloc, held)?;
-    place.run(alloc, words)?;
-    place.has(alloc, end, files)
+/// A run: the files that the folder holds, the words, how it ends, and what it leaves.
+#[derive(Clone, Copy)]
+pub(crate) struct Run<'a> {
+    pub(crate) held: &'a [File<'a>],
+    pub(crate) words: &'a [&'a [u8]],
+    pub(crate) end: End<'a>,
+    pub(crate) files: &'a [Left<'a>],
 }
+
+/// Whether a run ends and leaves files as it is said.
+pub(crate) fn leaves(alloc: Global, run: &Run) -> Result<bool, NoMemory> {
+    let mut place = Place::with_files(alloc, run.held)?;
+    place.run(alloc, run.words)?;
+    place.has(alloc, run.end, run.files)
+}
+
+const POINTS: [Run<'static>; 5] = [
+    // Smallest.
+    Run {
+        held: &[(b"t.node", SMALLEST)],
+        words: &[b"-n", b"t"],
+        end: (
+            0,
+            Some(b"points 4 added 0 tetrahedra 1 faces 4 edges 6\n"),
+            Some(b""),
+        ),
+        files: &[
+            (b"t.1.ele", Some(b"1 4 0\n1 1 2 3 4\n")),
+            (b"t.1.neigh", Some(b"1 4\n1 -1 -1 -1 -1\n")),
+            (b"t.1.edge", None),
+            (b"t.node", Some(SMALLEST)),
+        ],
+    },
+    // Negative order.
+    Run {
+        held: &[(b"t.node", NEGATIVE)],
+        words: &[b"-n", b"t"],
+        end: (0, None, Some(b"")),
+        files: &[(b"t.1.ele", Some(b"1 4 0\n1 1 2 4 3\n"))],
+    },
+    // Pyramid.
+    Run {
+        held: &[(b"t.node", PYRAMID)],
+        words: &[b"-nf", b"t"],
+        end: (
+            0,
+            Some(b"points 5 added 0 tetrahedra 2 faces 7 edges 9\n"),
+            Some(b""),
+        ),
+        files: &[
+            (b"t.1.ele", Some(b"2 4 0\n0 0 1 3 4\n1 1 2 3 4\n")),
+            (b"t.1.neigh", Some(b"2 4\n0 1 -1 -1 -1\n1 -1 0 -1 -1\n")),
+            (
+                b"t.1.face",
+                Some(
+                    b"7 1\n0 0 1 3 1\n1 0 1 4 1\n2 0 3 4 1\n3 1 2 3 1\n4 1 2 4 1\n5 1 3 4 0\n6 2 3 4 1\n",
+                ),
+            ),
+        ],
+    },
+    // Cube.
+    Run {
+        held: &[(b"t.node", CUBE)],
+        words: &[b"-n", b"t"],
+        end: (
+            0,
+            Some(b"points 8 added 0 tetrahedra 6 faces 18 edges 19\n"),
+            Some(b""),
+        ),
+        files: &[
+            (
+                b"t.1.ele",
+                Some(b"6 4 0\n0 0 1 3 4\n1 1 2 3 5\n2 1 3 4 5\n3 2 3 5 6\n4 3 4 5 7\n5 3 5 6 7\n"),
+            ),
+            (
+                b"t.1.neigh",
+                Some(
+                    b"6 4\n0 2 -1 -1 -1\n1 3 2 -1 -1\n2 4 -1 1 0\n3 5 -1 -1 1\n4 -1 5 -1 2\n5 -1 -1 4 3\n",
+                ),
+            ),
+        ],
+    },
+    // Greatest coordinates.
+    Run {
+        held: &[(b"t.node", GREATEST)],
+        words: &[b"t"],
+        end: (
+            0,
+            Some(b"points 5 added 0 tetrahedra 2 faces 7 edges 9\n"),
+            Some(b""),
+        ),
+        files: &[(b"t.1.ele", Some(b"2 4 0\n0 0 1 2 3\n1 1 2 3 4\n"))],
+    },
+];
 
 #[test]
 fn points_are_meshed(rt: HostRuntime) -> Result<(), Fail> {
-    let cases: [(&[File], &[&[u8]], End, &[Left]); 5] = [
-        // Smallest.
-        (
-            &[(b"t.node", SMALLEST)],
-            &[b"-n", b"t"],
-            (
-                0,
-                Some(b"points 4 added 0 tetrahedra 1 faces 4 edges 6\n"),
-                Some(b""),
-            ),
-            &[
-                (b"t.1.ele", Some(b"1 4 0\n1 1 2 3 4\n")),
-                (b"t.1.neigh", Some(b"1 4\n1 -1 -1 -1 -1\n")),
-                (b"t.1.edge", None),
-                (b"t.node", Some(SMALLEST)),
-            ],
-        ),
-        // Negative order.
-        (
-            &[(b"t.node", NEGATIVE)],
-            &[b"-n", b"t"],
-            (0, None, Some(b"")),
-            &[(b"t.1.ele", Some(b"1 4 0\n1 1 2 4 3\n"))],
-        ),
-        // Pyramid.
-        (
-            &[(b"t.node", PYRAMID)],
-            &[b"-nf", b"t"],
-            (
-                0,
-                Some(b"points 5 added 0 tetrahedra 2 faces 7 edges 9\n"),
-                Some(b""),
-            ),
-            &[
-                (b"t.1.ele", Some(b"2 4 0\n0 0 1 3 4\n1 1 2 3 4\n")),
-                (b"t.1.neigh", Some(b"2 4\n0 1 -1 -1 -1\n1 -1 0 -1 -1\n")),
-                (
-                    b"t.1.face",
-                    Some(
-                        b"7 1\n0 0 1 3 1\n1 0 1 4 1\n2 0 3 4 1\n3 1 2 3 1\n4 1 2 4 1\n5 1 3 4 0\n6 2 3 4 1\n",
-                    ),
-                ),
-            ],
-        ),
-        // Cube.
-        (
-            &[(b"t.node", CUBE)],
-            &[b"-n", b"t"],
-            (
-                0,
-                Some(b"points 8 added 0 tetrahedra 6 faces 18 edges 19\n"),
-                Some(b""),
-            ),
-            &[
-                (
-                    b"t.1.ele",
-                    Some(
-                        b"6 4 0\n0 0 1 3 4\n1 1 2 3 5\n2 1 3 4 5\n3 2 3 5 6\n4 3 4 5 7\n5 3 5 6 7\n",
-                    ),
-                ),
-                (
-                    b"t.1.neigh",
-                    Some(
-                        b"6 4\n0 2 -1 -1 -1\n1 3 2 -1 -1\n2 4 -1 1 0\n3 5 -1 -1 1\n4 -1 5 -1 2\n5 -1 -1 4 3\n",
-                    ),
-                ),
-            ],
-        ),
-        // Greatest coordinates.
-        (
-            &[(b"t.node", GREATEST)],
-            &[b"t"],
-            (
-                0,
-                Some(b"points 5 added 0 tetrahedra 2 faces 7 edges 9\n"),
-                Some(b""),
-            ),
-            &[(b"t.1.ele", Some(b"2 4 0\n0 0 1 2 3\n1 1 2 3 4\n"))],
-        ),
-    ];
-    for (held, words, end, files) in cases {
-        assert!(rt; leaves(rt.alloc(), held, words, end, files)?);
+    for case in &POINTS {
+        assert!(rt; leaves(rt.alloc(), case)?);
     }
     Ok(())
 }
+
+const SWITCHES: [Run<'static>; 3] = [
+    // Quiet, with no rows.
+    Run {
+        held: &[(b"t.node", PYRAMID)],
+        words: &[b"-fQ", b"t", b"-E"],
+        end: (0, Some(b""), Some(b"")),
+        files: &[(b"t.1.ele", None), (b"t.1.neigh", None)],
+    },
+    // Edges from 0.
+    Run {
+        held: &[(b"t.node", SMALLEST)],
+        words: &[b"-ez", b"t"],
+        end: (0, None, Some(b"")),
+        files: &[
+            (
+                b"t.1.edge",
+                Some(b"6 0\n0 0 1\n1 0 2\n2 0 3\n3 1 2\n4 1 3\n5 2 3\n"),
+            ),
+            (b"t.1.ele", Some(b"1 4 0\n0 0 1 2 3\n")),
+        ],
+    },
+    // No faces and no edges.
+    Run {
+        held: &[(b"t.node", SMALLEST)],
+        words: &[b"-eFnN", b"t"],
+        end: (0, None, Some(b"")),
+        files: &[
+            (b"t.1.face", None),
+            (b"t.1.edge", None),
+            (b"t.1.node", None),
+            (b"t.1.neigh", Some(b"1 4\n1 -1 -1 -1 -1\n")),
+        ],
+    },
+];
 
 #[test]
 fn switches_choose_the_files(rt: HostRuntime) -> Result<(), Fail> {
-    let cases: [(&[File], &[&[u8]], End, &[Left]); 3] = [
-        // Quiet, with no rows.
-        (
-            &[(b"t.node", PYRAMID)],
-            &[b"-fQ", b"t", b"-E"],
-            (0, Some(b""), Some(b"")),
-            &[(b"t.1.ele", None), (b"t.1.neigh", None)],
-        ),
-        // Edges from 0.
-        (
-            &[(b"t.node", SMALLEST)],
-            &[b"-ez", b"t"],
-            (0, None, Some(b"")),
-            &[
-                (
-                    b"t.1.edge",
-                    Some(b"6 0\n0 0 1\n1 0 2\n2 0 3\n3 1 2\n4 1 3\n5 2 3\n"),
-                ),
-                (b"t.1.ele", Some(b"1 4 0\n0 0 1 2 3\n")),
-            ],
-        ),
-        // No faces and no edges.
-        (
-            &[(b"t.node", SMALLEST)],
-            &[b"-eFnN", b"t"],
-            (0, None, Some(b"")),
-            &[
-                (b"t.1.face", None),
-                (b"t.1.edge", None),
-                (b"t.1.node", None),
-                (b"t.1.neigh", Some(b"1 4\n1 -1 -1 -1 -1\n")),
-            ],
-        ),
-    ];
-    for (held, words, end, files) in cases {
-        assert!(rt; leaves(rt.alloc(), held, words, end, files)?);
+    for case in &SWITCHES {
+        assert!(rt; leaves(rt.alloc(), case)?);
     }
     Ok(())
 }
+
+const REFUSALS: [Run<'static>; 13] = [
+    // No word.
+    Run {
+        held: &[],
+        words: &[],
+        end: (
+            1,
+            Some(b""),
+            Some(b"tetgen: word 1, place 1: not understood\n"),
+        ),
+        files: &[],
+    },
+    // A sample of too many points.
+    Run {
+        held: &[],
+        words: &[b"--sample=10001"],
+        end: (
+            1,
+            Some(b""),
+            Some(b"tetgen: word 1, place 10: not understood\n"),
+        ),
+        files: &[],
+    },
+    // A sample and a name.
+    Run {
+        held: &[(b"t.node", PYRAMID)],
+        words: &[b"t", b"--sample=5"],
+        end: (
+            1,
+            Some(b""),
+            Some(b"tetgen: word 3, place 1: not understood\n"),
+        ),
+        files: &[],
+    },
+    // No file.
+    Run {
+        held: &[(b"s.node", PYRAMID)],
+        words: &[b"t"],
+        end: (2, Some(b""), Some(b"tetgen: t.node: not found\n")),
+        files: &[],
+    },
+    // No complex.
+    Run {
+        held: &[(b"t.node", PYRAMID)],
+        words: &[b"-p", b"t"],
+        end: (2, Some(b""), Some(b"tetgen: t.smesh: not found\n")),
+        files: &[],
+    },
+    // No second file.
+    Run {
+        held: &[(b"q.poly", b"0 3 0 0\n0\n")],
+        words: &[b"-p", b"q"],
+        end: (2, Some(b""), Some(b"tetgen: q.node: not found\n")),
+        files: &[],
+    },
+    // Empty.
+    Run {
+        held: &[(b"t.node", b"")],
+        words: &[b"t"],
+        end: (4, Some(b""), Some(b"tetgen: t.node: line 1: too few\n")),
+        files: &[],
+    },
+    // Cut off.
+    Run {
+        held: &[(
+            b"bar.poly",
+            b"# Part 1 - node list\n8 3 0 0\n1 0.0 0.0 0.0\n2 2.0 0.0 0.0\n3 2.0 2.0 0.0\n4 0.0 2.0 0.0\n5 0.0 0.0 12.0\n6 2.0 0.0 12.0\n7 2.0 2.0 12.0\n8 0.0 2.0 12.0\n# Part 2 - facet list\n6 1\n1 0 -1   # one polygon, no hole, marker\n4 1 2 3 4\n1 0 -2\n4 5 6 7 8\n",
+        )],
+        words: &[b"-p", b"bar"],
+        end: (4, Some(b""), Some(b"tetgen: bar.poly: line 17: too few\n")),
+        files: &[],
+    },
+    // A corner that is no point.
+    Run {
+        held: &[(
+            b"bar.poly",
+            b"# Part 1 - node list\n8 3 0 0\n1 0.0 0.0 0.0\n2 2.0 0.0 0.0\n3 2.0 2.0 0.0\n4 0.0 2.0 0.0\n5 0.0 0.0 12.0\n6 2.0 0.0 12.0\n7 2.0 2.0 12.0\n8 0.0 2.0 12.0\n# Part 2 - facet list\n6 1\n1 0 -1   # one polygon, no hole, marker\n4 1 2 3 9\n1 0 -2\n4 5 6 7 8\n1 0 0\n4 1 5 6 2\n1 0 0\n4 2 6 7 3\n1 0 0\n4 3 7 8 4\n1 0 0\n4 4 8 5 1\n# Part 3 - hole list\n0\n# Part 4 - region list\n0\n",
+        )],
+        words: &[b"-p", b"bar"],
+        end: (
+            4,
+            Some(b""),
+            Some(b"tetgen: bar.poly: line 14: bad number\n"),
+        ),
+        files: &[],
+    },
+    // Off the grid.
+    Run {
+        held: &[(b"t.node", THIRD)],
+        words: &[b"t"],
+        end: (
+            5,
+            Some(b""),
+            Some(b"tetgen: line 3: coordinate off the grid\n"),
+        ),
+        files: &[(b"t.1.node", None)],
+    },
+    // One beyond the greatest coordinate.
+    Run {
+        held: &[(
+            b"t.node",
+            b"5\n0 -8388608 -8388608 -8388608\n1 8388609 -8388608 -8388608\n2 -8388608 8388608 -8388608\n3 -8388608 -8388608 8388608\n4 8388608 8388608 8388608\n",
+        )],
+        words: &[b"t"],
+        end: (
+            5,
+            Some(b""),
+            Some(b"tetgen: line 3: coordinate off the grid\n"),
+        ),
+        files: &[(b"t.1.node", None)],
+    },
+    // Equal points.
+    Run {
+        held: &[(
+            b"t.node",
+            b"5\n1 0 0 0\n2 1 0 0\n3 0 1 0\n4 0 0 1\n5 1.0 0 0\n",
+        )],
+        words: &[b"-z", b"t"],
+        end: (6, Some(b""), Some(b"tetgen: points 2 and 5 are equal\n")),
+        files: &[],
+    },
+    // Points of a plane.
+    Run {
+        held: &[(b"t.node", b"3\n1 0 0 0\n2 1 0 0\n3 0 1 0\n")],
+        words: &[b"t"],
+        end: (6, Some(b""), Some(b"tetgen: all points lie in one plane\n")),
+        files: &[],
+    },
+];
 
 #[test]
 fn files_are_refused(rt: HostRuntime) -> Result<(), Fail> {
-    let cases: [(&[File], &[&[u8]], End, &[Left]); 13] = [
-        // No word.
-        (
-            &[],
-            &[],
-            (
-                1,
-                Some(b""),
-                Some(b"tetgen: word 1, place 1: not understood\n"),
-            ),
-            &[],
-        ),
-        // A sample of too many points.
-        (
-            &[],
-            &[b"--sample=10001"],
-            (
-                1,
-                Some(b""),
-                Some(b"tetgen: word 1, place 10: not understood\n"),
-            ),
-            &[],
-        ),
-        // A sample and a name.
-        (
-            &[(b"t.node", PYRAMID)],
-            &[b"t", b"--sample=5"],
-            (
-                1,
-                Some(b""),
-                Some(b"tetgen: word 3, place 1: not understood\n"),
-            ),
-            &[],
-        ),
-        // No file.
-        (
-            &[(b"s.node", PYRAMID)],
-            &[b"t"],
-            (2, Some(b""), Some(b"tetgen: t.node: not found\n")),
-            &[],
-        ),
-        // No complex.
-        (
-            &[(b"t.node", PYRAMID)],
-            &[b"-p", b"t"],
-            (2, Some(b""), Some(b"tetgen: t.smesh: not found\n")),
-            &[],
-        ),
-        // No second file.
-        (
-            &[(b"q.poly", b"0 3 0 0\n0\n")],
-            &[b"-p", b"q"],
-            (2, Some(b""), Some(b"tetgen: q.node: not found\n")),
-            &[],
-        ),
-        // Empty.
-        (
-            &[(b"t.node", b"")],
-            &[b"t"],
-            (4, Some(b""), Some(b"tetgen: t.node: line 1: too few\n")),
-            &[],
-        ),
-        // Cut off.
-        (
-            &[(
-                b"bar.poly",
-                b"# Part 1 - node list\n8 3 0 0\n1 0.0 0.0 0.0\n2 2.0 0.0 0.0\n3 2.0 2.0 0.0\n4 0.0 2.0 0.0\n5 0.0 0.0 12.0\n6 2.0 0.0 12.0\n7 2.0 2.0 12.0\n8 0.0 2.0 12.0\n# Part 2 - facet list\n6 1\n1 0 -1   # one polygon, no hole, marker\n4 1 2 3 4\n1 0 -2\n4 5 6 7 8\n",
-            )],
-            &[b"-p", b"bar"],
-            (4, Some(b""), Some(b"tetgen: bar.poly: line 17: too few\n")),
-            &[],
-        ),
-        // A corner that is no point.
-        (
-            &[(
-                b"bar.poly",
-                b"# Part 1 - node list\n8 3 0 0\n1 0.0 0.0 0.0\n2 2.0 0.0 0.0\n3 2.0 2.0 0.0\n4 0.0 2.0 0.0\n5 0.0 0.0 12.0\n6 2.0 0.0 12.0\n7 2.0 2.0 12.0\n8 0.0 2.0 12.0\n# Part 2 - facet list\n6 1\n1 0 -1   # one polygon, no hole, marker\n4 1 2 3 9\n1 0 -2\n4 5 6 7 8\n1 0 0\n4 1 5 6 2\n1 0 0\n4 2 6 7 3\n1 0 0\n4 3 7 8 4\n1 0 0\n4 4 8 5 1\n# Part 3 - hole list\n0\n# Part 4 - region list\n0\n",
-            )],
-            &[b"-p", b"bar"],
-            (
-                4,
-                Some(b""),
-                Some(b"tetgen: bar.poly: line 14: bad number\n"),
-            ),
-            &[],
-        ),
-        // Off the grid.
-        (
-            &[(b"t.node", THIRD)],
-            &[b"t"],
-            (
-                5,
-                Some(b""),
-                Some(b"tetgen: line 3: coordinate off the grid\n"),
-            ),
-            &[(b"t.1.node", None)],
-        ),
-        // One beyond the greatest coordinate.
-        (
-            &[(
-                b"t.node",
-                b"5\n0 -8388608 -8388608 -8388608\n1 8388609 -8388608 -8388608\n2 -8388608 8388608 -8388608\n3 -8388608 -8388608 8388608\n4 8388608 8388608 8388608\n",
-            )],
-            &[b"t"],
-            (
-                5,
-                Some(b""),
-                Some(b"tetgen: line 3: coordinate off the grid\n"),
-            ),
-            &[(b"t.1.node", None)],
-        ),
-        // Equal points.
-        (
-            &[(
-                b"t.node",
-                b"5\n1 0 0 0\n2 1 0 0\n3 0 1 0\n4 0 0 1\n5 1.0 0 0\n",
-            )],
-            &[b"-z", b"t"],
-            (6, Some(b""), Some(b"tetgen: points 2 and 5 are equal\n")),
-            &[],
-        ),
-        // Points of a plane.
-        (
-            &[(b"t.node", b"3\n1 0 0 0\n2 1 0 0\n3 0 1 0\n")],
-            &[b"t"],
-            (6, Some(b""), Some(b"tetgen: all points lie in one plane\n")),
-            &[],
-        ),
-    ];
-    for (held, words, end, files) in cases {
-        assert!(rt; leaves(rt.alloc(), held, words, end, files)?);
+    for case in &REFUSALS {
+        assert!(rt; leaves(rt.alloc(), case)?);
     }
     Ok(())
 }
 
+const WRITTEN_BACK: [Run<'static>; 4] = [
+    // Attributes and markers.
+    Run {
+        held: &[(b"d.node", DECIMALS)],
+        words: &[b"d"],
+        end: (0, None, Some(b"")),
+        files: &[
+            (b"d.1.node", Some(WRITTEN)),
+            (b"d.1.ele", Some(b"1 4 0\n1 1 2 4 3\n")),
+        ],
+    },
+    // What was written.
+    Run {
+        held: &[(b"d.1.node", WRITTEN)],
+        words: &[b"d.1"],
+        end: (0, None, Some(b"")),
+        files: &[(b"d.1.1.node", Some(WRITTEN))],
+    },
+    // Rounded.
+    Run {
+        held: &[(b"t.node", THIRD)],
+        words: &[b"t", b"--decimals=3"],
+        end: (0, None, Some(b"")),
+        files: &[(
+            b"t.1.node",
+            Some(b"4 3 0 0\n1 0 0 0\n2 1 0 0\n3 0 1 0\n4 0 0 0.333\n"),
+        )],
+    },
+    // Rounded to a point that is there.
+    Run {
+        held: &[(b"t.node", THIRD)],
+        words: &[b"--decimals=3", b"t", b"--decimals=0"],
+        end: (6, Some(b""), Some(b"tetgen: points 1 and 4 are equal\n")),
+        files: &[],
+    },
+];
+
 #[test]
 fn decimals_are_written_back(rt: HostRuntime) -> Result<(), Fail> {
-    let cases: [(&[File], &[&[u8]], End, &[Left]); 4] = [
-        // Attributes and markers.
-        (
-            &[(b"d.node", DECIMALS)],
-            &[b"d"],
-            (0, None, Some(b"")),
-            &[
-                (b"d.1.node", Some(WRITTEN)),
-                (b"d.1.ele", Some(b"1 4 0\n1 1 2 4 3\n")),
-            ],
-        ),
-        // What was written.
-        (
-            &[(b"d.1.node", WRITTEN)],
-            &[b"d.1"],
-            (0, None, Some(b"")),
-            &[(b"d.1.1.node", Some(WRITTEN))],
-        ),
-        // Rounded.
-        (
-            &[(b"t.node", THIRD)],
-            &[b"t", b"--decimals=3"],
-            (0, None, Some(b"")),
-            &[(
-                b"t.1.node",
-                Some(b"4 3 0 0\n1 0 0 0\n2 1 0 0\n3 0 1 0\n4 0 0 0.333\n"),
-            )],
-        ),
-        // Rounded to a point that is there.
-        (
-            &[(b"t.node", THIRD)],
-            &[b"--decimals=3", b"t", b"--decimals=0"],
-            (6, Some(b""), Some(b"tetgen: points 1 and 4 are equal\n")),
-            &[],
-        ),
-    ];
-    for (held, words, end, files) in cases {
-        assert!(rt; leaves(rt.alloc(), held, words, end, files)?);
+    for case in &WRITTEN_BACK {
+        assert!(rt; leaves(rt.alloc(), case)?);
     }
     Ok(())
 }
@@ -443,115 +448,135 @@ impl Place {
     }
 }
 
-/// The same, where this fails.
-fn leaves_after(
-    alloc: Global,
+/// A run in which a call fails.
+#[derive(Clone, Copy)]
+struct Failure<'a> {
     call: Failing,
-    held: &[File],
-    words: &[&[u8]],
-    end: End,
-    files: &[Left],
-) -> Result<bool, NoMemory> {
-    let mut place = Place::with_files(alloc, held)?;
-    place.fail(call);
-    place.run(alloc, words)?;
-    place.has(alloc, end, files)
+    run: Run<'a>,
 }
 
-#[test]
-fn failing_calls_are_told(rt: HostRuntime) -> Result<(), Fail> {
-    let cases: [(Failing, &[File], &[&[u8]], End, &[Left]); 9] = [
-        // First fetch.
-        (
-            Failing::Fetch { nth: 1 },
-            &[(b"bar.poly", BAR)],
-            &[b"-p", b"bar"],
-            (3, Some(b""), Some(b"tetgen: bar.poly: read failed\n")),
-            &[(b"bar.1.node", None)],
-        ),
-        // Second fetch.
-        (
-            Failing::Fetch { nth: 2 },
-            &[(b"bar.smesh", BAR_SMESH)],
-            &[b"-p", b"bar"],
-            (3, Some(b""), Some(b"tetgen: bar.smesh: read failed\n")),
-            &[(b"bar.1.node", None)],
-        ),
-        // First store.
-        (
-            Failing::Store { nth: 1, kept: 0 },
-            &[(b"bar.poly", BAR)],
-            &[b"-p", b"bar"],
-            (11, Some(b""), Some(b"tetgen: bar.1.node: write failed\n")),
-            &[(b"bar.1.node", Some(b"")), (b"bar.1.ele", None)],
-        ),
-        // Second file.
-        (
-            Failing::Fetch { nth: 2 },
-            &[(b"q.poly", b"0 3 0 0\n0\n"), (b"q.node", SMALLEST)],
-            &[b"-p", b"q"],
-            (3, Some(b""), Some(b"tetgen: q.node: read failed\n")),
-            &[(b"q.1.node", None)],
-        ),
-        // Second store.
-        (
-            Failing::Store { nth: 2, kept: 3 },
-            &[(b"bar.poly", BAR)],
-            &[b"-p", b"bar"],
-            (11, Some(b""), Some(b"tetgen: bar.1.ele: write failed\n")),
-            &[
+/// The same of a run in which a call fails.
+fn leaves_after(alloc: Global, failure: &Failure) -> Result<bool, NoMemory> {
+    let run = failure.run;
+    let mut place = Place::with_files(alloc, run.held)?;
+    place.fail(failure.call);
+    place.run(alloc, run.words)?;
+    place.has(alloc, run.end, run.files)
+}
+
+const FAILURES: [Failure<'static>; 9] = [
+    // First fetch.
+    Failure {
+        call: Failing::Fetch { nth: 1 },
+        run: Run {
+            held: &[(b"bar.poly", BAR)],
+            words: &[b"-p", b"bar"],
+            end: (3, Some(b""), Some(b"tetgen: bar.poly: read failed\n")),
+            files: &[(b"bar.1.node", None)],
+        },
+    },
+    // Second fetch.
+    Failure {
+        call: Failing::Fetch { nth: 2 },
+        run: Run {
+            held: &[(b"bar.smesh", BAR_SMESH)],
+            words: &[b"-p", b"bar"],
+            end: (3, Some(b""), Some(b"tetgen: bar.smesh: read failed\n")),
+            files: &[(b"bar.1.node", None)],
+        },
+    },
+    // First store.
+    Failure {
+        call: Failing::Store { nth: 1, kept: 0 },
+        run: Run {
+            held: &[(b"bar.poly", BAR)],
+            words: &[b"-p", b"bar"],
+            end: (11, Some(b""), Some(b"tetgen: bar.1.node: write failed\n")),
+            files: &[(b"bar.1.node", Some(b"")), (b"bar.1.ele", None)],
+        },
+    },
+    // Second file.
+    Failure {
+        call: Failing::Fetch { nth: 2 },
+        run: Run {
+            held: &[(b"q.poly", b"0 3 0 0\n0\n"), (b"q.node", SMALLEST)],
+            words: &[b"-p", b"q"],
+            end: (3, Some(b""), Some(b"tetgen: q.node: read failed\n")),
+            files: &[(b"q.1.node", None)],
+        },
+    },
+    // Second store.
+    Failure {
+        call: Failing::Store { nth: 2, kept: 3 },
+        run: Run {
+            held: &[(b"bar.poly", BAR)],
+            words: &[b"-p", b"bar"],
+            end: (11, Some(b""), Some(b"tetgen: bar.1.ele: write failed\n")),
+            files: &[
                 (b"bar.1.node", Some(BAR_NODE)),
                 (b"bar.1.ele", Some(b"6 4")),
                 (b"bar.1.face", None),
             ],
-        ),
-        // Third store.
-        (
-            Failing::Store { nth: 3, kept: 5 },
-            &[(b"bar.poly", BAR)],
-            &[b"-p", b"bar"],
-            (11, Some(b""), Some(b"tetgen: bar.1.face: write failed\n")),
-            &[
+        },
+    },
+    // Third store.
+    Failure {
+        call: Failing::Store { nth: 3, kept: 5 },
+        run: Run {
+            held: &[(b"bar.poly", BAR)],
+            words: &[b"-p", b"bar"],
+            end: (11, Some(b""), Some(b"tetgen: bar.1.face: write failed\n")),
+            files: &[
                 (b"bar.1.node", Some(BAR_NODE)),
                 (b"bar.1.ele", Some(BAR_ELE)),
                 (b"bar.1.face", Some(b"12 1\n")),
             ],
-        ),
-        // A store that keeps all.
-        (
-            Failing::Store { nth: 3, kept: 1000 },
-            &[(b"bar.poly", BAR)],
-            &[b"-p", b"bar"],
-            (11, Some(b""), Some(b"tetgen: bar.1.face: write failed\n")),
-            &[
+        },
+    },
+    // A store that keeps all.
+    Failure {
+        call: Failing::Store { nth: 3, kept: 1000 },
+        run: Run {
+            held: &[(b"bar.poly", BAR)],
+            words: &[b"-p", b"bar"],
+            end: (11, Some(b""), Some(b"tetgen: bar.1.face: write failed\n")),
+            files: &[
                 (b"bar.1.node", Some(BAR_NODE)),
                 (b"bar.1.ele", Some(BAR_ELE)),
                 (b"bar.1.face", Some(BAR_FACE)),
             ],
-        ),
-        // Summary.
-        (
-            Failing::Summary { kept: 6 },
-            &[(b"bar.poly", BAR)],
-            &[b"-p", b"bar"],
-            (
+        },
+    },
+    // Summary.
+    Failure {
+        call: Failing::Summary { kept: 6 },
+        run: Run {
+            held: &[(b"bar.poly", BAR)],
+            words: &[b"-p", b"bar"],
+            end: (
                 11,
                 Some(b"points"),
                 Some(b"tetgen: summary: write failed\n"),
             ),
-            &[(b"bar.1.face", Some(BAR_FACE))],
-        ),
-        // Message.
-        (
-            Failing::Message { kept: 7 },
-            &[],
-            &[b"-y", b"name"],
-            (1, Some(b""), Some(b"tetgen:")),
-            &[],
-        ),
-    ];
-    for (call, held, words, end, files) in cases {
-        assert!(rt; leaves_after(rt.alloc(), call, held, words, end, files)?);
+            files: &[(b"bar.1.face", Some(BAR_FACE))],
+        },
+    },
+    // Message.
+    Failure {
+        call: Failing::Message { kept: 7 },
+        run: Run {
+            held: &[],
+            words: &[b"-y", b"name"],
+            end: (1, Some(b""), Some(b"tetgen:")),
+            files: &[],
+        },
+    },
+];
+
+#[test]
+fn failing_calls_are_told(rt: HostRuntime) -> Result<(), Fail> {
+    for case in &FAILURES {
+        assert!(rt; leaves_after(rt.alloc(), case)?);
     }
     Ok(())
 }
