@@ -2,7 +2,7 @@
 ghost use Rattle.std.specs.Prelude.{◌<◌, IfSome};
 
 use geo_laws::{Complex, Face, FacetTriangles, Points, Tet, TetList};
-use incidence::Marks;
+use incidence::{Marks, uses_of};
 use mesh_files::*;
 use sign_predicates::RatPoint;
 use std::alloc::Global;
@@ -162,6 +162,33 @@ fn texts_of_faces(rt: HostRuntime) -> Result<(), Fail> {
     ] {
         let text = face_text(rt.alloc(), rows, first, all)?;
         assert_eq!(rt; text.as_slice(), want);
+    }
+    Ok(())
+}
+
+/// The text of all faces without facets, from their uses and from their rows.
+fn all_face_texts(
+    alloc: Global,
+    rows: &[[u32; 4]],
+    first: u32,
+) -> Result<(Bytes, Bytes), NoMemory> {
+    let list = list_of(alloc, rows)?;
+    let mesh = MarkedList {
+        points: &Points::new(alloc),
+        list: &list,
+        complex: &Complex::new(alloc),
+        triangles: &FacetTriangles::new(alloc),
+    };
+    let straight = write_all_faces(alloc, &mesh, &uses_of(alloc, &list)?, first)?;
+    let faces = bare_face_rows(alloc, &list, true)?;
+    Ok((straight, write_face(alloc, &faces, first)?))
+}
+
+#[test]
+fn texts_of_all_faces(rt: HostRuntime) -> Result<(), Fail> {
+    for (rows, first) in [(CUBE.as_slice(), 1), ([].as_slice(), 0)] {
+        let (straight, by_rows) = all_face_texts(rt.alloc(), rows, first)?;
+        assert_eq!(rt; straight.as_slice(), by_rows.as_slice());
     }
     Ok(())
 }

@@ -1,5 +1,5 @@
 -- Texts that are made line by line.
-use Rattle.std.proofs.Common.{◌≡◌, ◌++◌, ◌+◌, ◌<◌, ℕ, List, length, drop, sym, ap, ◌∙◌, append_assoc, suc, add-one, get_or, drop-cons}
+use Rattle.std.proofs.Common.{◌≡◌, ◌++◌, ◌+◌, ◌<◌, ℕ, List, length, drop, sym, ap, ◌∙◌, append_assoc, suc, add-one, append-nil, get_or, drop-cons, arith}
 use Rattle.std.specs.Prelude.{flat_map, map, pos, [], ◌∷◌, Option, Some}
 use Rattle.std.specs.Fmt.{decimal, signed_decimal}
 use Rattle.geo_laws.specs.Delaunay.{numbers}
@@ -29,6 +29,23 @@ next_line line i xs x out new whole h e added left =
     ∙ append_assoc out _ _
     ∙ ap (λ s. out ++ s) (sym (lines_from-drop line i xs x h e))
     ∙ left
+
+-- the lines of items and of one more are the lines of the items and its own
+lines_from-push : {X : Type 0} (line : ℕ → X → List ℕ) (place : ℕ) (xs : List X) (x : X) → lines_from line place (xs ++ x ∷ []) ≡ lines_from line place xs ++ line (place + length xs) x
+lines_from-push line place [] x = append-nil (line place x) ∙ ap (λ n. line n x) (omega arith)
+lines_from-push line place (y ∷ xs) x =
+    ap (λ s. line place y ++ s) (lines_from-push line (place + 1) xs x)
+    ∙ sym (append_assoc (line place y) (lines_from line (place + 1) xs) _)
+    ∙ ap (λ n. (line place y ++ lines_from line (place + 1) xs) ++ line n x) (omega arith)
+
+-- after a line is appended, the text is that of one item more
+pub line_pushed : {X : Type 0} (line : ℕ → X → List ℕ) (place : ℕ) (xs : List X) (x : X) (out head : List ℕ) → place ≡ length xs → out ≡ head ++ lines_from line 0 xs
+    → out ++ line place x ≡ head ++ lines_from line 0 (xs ++ x ∷ [])
+line_pushed line place xs x out head long e =
+    ap (λ s. s ++ line place x) e
+    ∙ append_assoc head (lines_from line 0 xs) (line place x)
+    ∙ ap (λ n. head ++ (lines_from line 0 xs ++ line n x)) (omega (arith, long))
+    ∙ ap (λ s. head ++ s) (sym (lines_from-push line 0 xs x))
 
 -- a line with a last field that is appended on its own
 last_field : (out front last : List ℕ) → ((out ++ (front ++ (32 ∷ []))) ++ last) ++ (10 ∷ []) ≡ out ++ (front ++ (32 ∷ (last ++ (10 ∷ []))))

@@ -22,7 +22,12 @@ pub fn write_face(alloc: Global, rows: &FaceRows, first: u32) -> Result<Bytes, N
 }
 
 /// Appends the line of the face at a place.
-fn append_face(out: &mut Bytes, place: u64, face: FaceRow, first: u32) -> Result<(), NoMemory>
+pub(crate) fn append_face(
+    out: &mut Bytes,
+    place: u64,
+    face: FaceRow,
+    first: u32,
+) -> Result<(), NoMemory>
     requires { place < 2 ^ 63 }
     ensures { OnOk result (out.new ≡ out.old ++ face_line first place face) }
 {

@@ -4,6 +4,7 @@
 mod edge;
 mod ele;
 mod face;
+mod face_lines;
 mod faces;
 mod facet_faces;
 mod hull;
@@ -15,6 +16,7 @@ mod neigh;
 pub use edge::write_edge;
 pub use ele::write_ele;
 pub use face::write_face;
+pub use face_lines::{MarkedList, write_all_faces};
 pub use faces::{Faces, face_count, faces_of};
 pub use hull::hull_rows;
 pub use incidence::{Edges, edges_of};

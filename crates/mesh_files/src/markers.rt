@@ -1,6 +1,6 @@
 //! The faces of tetrahedra with the markers of their facets.
 ghost use Rattle.std.specs.Prelude.{◌≡◌, ◌<◌, pos, if◌then◌else◌, length, All, AllPairs, HoldsAt};
-ghost use Rattle.std.specs.Prelude.{IfOk, IsTrue, IsFalse};
+ghost use Rattle.std.specs.Prelude.{IfOk, IsSome, IsTrue, IsFalse};
 ghost use Rattle.incidence.specs.HalfFaces.{used};
 ghost use Rattle.incidence.specs.Uses.{AreUsesOf, IsRunStart, FollowsLike};
 ghost use Rattle.mesh_files.specs.FaceRows.{AreFaceRowsOf, AreFacesMet, AreFacetsThere, IsRowOf};
@@ -116,7 +116,7 @@ pub(crate) fn in_no_facet(face: Face, on_hull: bool) -> FaceRow
 }
 
 /// The face whose first use is at a place, with its marker, if it is asked for.
-fn row_at(
+pub(crate) fn row_at(
     list: &TetList,
     uses: &Uses,
     complex: &Complex,
@@ -129,8 +129,9 @@ fn row_at(
     requires run { IsRunStart (used list.now uses.now) at at }
     requires ascending { AllPairs FacetFaceBefore facets.now }
     requires facets { All (λ x. x.facet < length complex.now.facets) facets.now }
-    ensures { HoldsAt (λ u. IsRowOrNone (IsRowOf
+    ensures row { HoldsAt (λ u. IsRowOrNone (IsRowOf
         (IsIn facets.now) complex.now.facets list.now all u.face) result) (used list.now uses.now) at }
+    ensures asked { IsTrue all → IsSome result }
 {
     let face = use_at(uses, at, list).face;
     if let Some(facet) = first_facet(facets, face) {
@@ -149,6 +150,7 @@ pub(crate) fn is_first(list: &TetList, uses: &Uses, at: usize) -> bool
     requires there { at < length uses.now }
     ensures first { IsTrue result → IsRunStart (used list.now uses.now) at at }
     ensures later { IsFalse result → FollowsLike (used list.now uses.now) at }
+    ensures marked { HoldsAt (λ u. result ≡ u.first) uses.now at }
 {
     uses.at(at).first
 }

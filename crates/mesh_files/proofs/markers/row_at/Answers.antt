@@ -7,8 +7,8 @@ use Rattle.mesh_files.specs.FacetFaces.{IsIn}
 use Rattle.mesh_files.proofs.markers.row_at.Goals.{then-all-via-then-all, then-all-via-else-all+then-on_hull}
 use Rattle.mesh_files.proofs.markers.row_at.Goals as goal
 
-pub returns-in-Some : goal.returns-in-Some
-returns-in-Some c d =
+pub returns-in-Some-clause-row : goal.returns-in-Some-clause-row
+returns-in-Some-clause-row c d =
     let same = ap (λ u. u.face) (sym (c.use_at.ensures.same d)) in
     record {
       corners_are = c.in_facet.ensures.corners ∙ same;
@@ -17,8 +17,8 @@ returns-in-Some c d =
       asked = inr (inr (c.in-Some.facet, subst (λ g. IsIn c.args.facets.now g c.in-Some.facet) same c.in-Some.ensures.0));
     }
 
-pub returns-then-all : goal.returns-then-all
-returns-then-all c d =
+pub returns-then-all-clause-row : goal.returns-then-all-clause-row
+returns-then-all-clause-row c d =
     let same = ap (λ u. u.face) (sym (c.use_at.ensures.same d)) in
     let hull = c.is_of_one_row-on_hull.ensures d in
     record {
@@ -27,8 +27,8 @@ returns-then-all c d =
       asked = elim c.then-all.branch [ then-all-via-then-all w ↦ inl w.if-all.true | then-all-via-else-all+then-on_hull w ↦ inr (inl (sym hull ∙ w.if-on_hull.true)) ];
     }
 
-pub returns : goal.returns
-returns c d r w =
+pub returns-clause-row : goal.returns-clause-row
+returns-clause-row c d r w =
     let same = ap (λ u. u.face) (sym (c.use_at.ensures.same d)) in
     elim w.asked [
       | inl h ↦ true≢false (sym h ∙ c.if-all.false)

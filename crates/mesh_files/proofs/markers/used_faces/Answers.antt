@@ -36,9 +36,9 @@ loop-at-preserved c =
       | then-is_first+in-Some+in_ok-push w ↦
           subst (AreFoundBefore corners_of is uses (at + 1)) (sym (w.found-is ∙ w.in_ok-push.ensures.ok))
           (found_pushed corners_of is (row_items (IsTriangleOf triangles) complex.facets rows all) uses at found w.in-Some.row c.requires.uses.uses.ascending there (c.is_first.ensures.first w.if-is_first.true)
-          (λ d. (listed _ w.in-Some.row).0 (w.in-Some.ensures d)) c.loop-at.invariant)
+          (λ d. (listed _ w.in-Some.row).0 (w.in-Some.ensures.row d)) c.loop-at.invariant)
       | then-is_first+in_default w ↦
-          subst (AreFoundBefore corners_of is uses (at + 1)) (sym w.found-is) (found_none corners_of is uses at found (λ d r k. w.in_default.ensures d r ((listed _ r).1 k)) c.loop-at.invariant)
+          subst (AreFoundBefore corners_of is uses (at + 1)) (sym w.found-is) (found_none corners_of is uses at found (λ d r k. w.in_default.ensures.row d r ((listed _ r).1 k)) c.loop-at.invariant)
       | else-is_first w ↦
           subst (AreFoundBefore corners_of is uses (at + 1)) (sym w.found-is) (found_again corners_of is uses at found (c.is_first.ensures.later w.if-is_first.false) c.loop-at.invariant)
     ]
