@@ -6,3 +6,4 @@ pub mod Marked
 pub mod OnHull
 pub mod Spans
 pub mod EleTexts
+pub mod Pieces

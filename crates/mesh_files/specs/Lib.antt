@@ -1,4 +1,5 @@
 pub mod FaceRows
+pub mod Fields
 pub mod FacetFaces
 pub mod Laws
 pub mod Texts

@@ -6,7 +6,7 @@ ghost use Rattle.geo_laws.specs.Delaunay.{numbers};
 ghost use Rattle.mesh_files.specs.Texts.{attribute_of, attributed_text, fields_then, ele_line};
 ghost use Rattle.mesh_files.specs.Texts.{ele_text, ele_text_of, marked_line};
 
-use crate::line::{append_fields, append_line, room_for_lines};
+use crate::line::{Lines, append_fields, append_line, room_for_lines};
 use geo_laws::{Complex, Tet, TetList};
 use incidence::Marks;
 use std::alloc::Global;
@@ -40,16 +40,25 @@ pub fn write_ele(
 fn write_rows(alloc: Global, list: &TetList, first: u32) -> Result<Bytes, NoMemory>
     ensures { IfOk result (λ text. text ≡ ele_text first list.now) }
 {
-    let mut out = room_for_lines(alloc, list.len())?;
+    let mut out = room_for_lines(alloc, list.len(), numbers_of(list, first))?;
     append_line(&mut out, list.len() as u64, &[4, 0])?;
     for i in 0..list.len() {
         append_row(&mut out, i as u64, list.at(i), first)?;
     }
-    Ok(out)
+    out.finish()
+}
+
+/// How many numbers from 0 on there are up to that of the greatest corner.
+pub(crate) fn numbers_of(list: &TetList, first: u32) -> u32 {
+    let mut greatest = 0;
+    for row in list.as_slice() {
+        greatest = greatest.max(row.a).max(row.b).max(row.c).max(row.d);
+    }
+    greatest.saturating_add(first).saturating_add(1)
 }
 
 /// Appends the line of the row at a place.
-fn append_row(out: &mut Bytes, place: u64, row: Tet, first: u32) -> Result<(), NoMemory>
+fn append_row(out: &mut Lines, place: u64, row: Tet, first: u32) -> Result<(), NoMemory>
     requires { place < 2 ^ 63 }
     ensures { OnOk result (out.new ≡ out.old ++ ele_line first place row) }
 {
@@ -59,7 +68,7 @@ fn append_row(out: &mut Bytes, place: u64, row: Tet, first: u32) -> Result<(), N
 /// Appends the number and the corners of the row at a place, and a byte.
 #[inline(always)]
 fn append_corners(
-    out: &mut Bytes,
+    out: &mut Lines,
     place: u64,
     row: Tet,
     first: u32,
@@ -90,17 +99,17 @@ fn write_attributed(
     requires regions { All (λ mark. IfSome mark (λ r. r < length complex.now.regions)) marks.now }
     ensures { IfOk result (λ text. text ≡ attributed_text marks.now complex.now.regions first list.now) }
 {
-    let mut out = room_for_lines(alloc, list.len())?;
+    let mut out = room_for_lines(alloc, list.len(), numbers_of(list, first))?;
     append_line(&mut out, list.len() as u64, &[4, 1])?;
     for i in 0..list.len() {
         append_attributed(&mut out, i as u64, list.at(i), marks.at(i), complex, first)?;
     }
-    Ok(out)
+    out.finish()
 }
 
 /// Appends the line of the row at a place, with the attribute of its region.
 fn append_attributed(
-    out: &mut Bytes,
+    out: &mut Lines,
     place: u64,
     row: Tet,
     mark: Option<u32>,
@@ -117,7 +126,7 @@ fn append_attributed(
 }
 
 /// Appends the attribute of the region that the mark names, and `0` where there is none.
-fn append_attribute(out: &mut Bytes, complex: &Complex, mark: Option<u32>) -> Result<(), NoMemory>
+fn append_attribute(out: &mut Lines, complex: &Complex, mark: Option<u32>) -> Result<(), NoMemory>
     requires { IfSome mark (λ r. r < length complex.now.regions) }
     ensures { OnOk result (out.new ≡ out.old ++ attribute_of complex.now.regions mark) }
 {

@@ -5,6 +5,7 @@ ghost use Rattle.mesh_files.specs.FaceRows.{AreFaceRowsOf, AreFacesMet, AreFacet
 ghost use Rattle.mesh_files.specs.Texts.{face_text};
 ghost use Rattle.mesh_files.specs.declared.markers.FaceRow.{FaceRow};
 
+use crate::ele::numbers_of;
 use crate::face::append_face;
 use crate::facet_faces::facet_faces;
 use crate::line::{append_line, room_for_lines};
@@ -44,7 +45,7 @@ pub fn write_all_faces(
     let MarkedList { list, complex, .. } = *mesh;
     let facets = facet_faces(alloc, mesh.triangles)?;
     let count = first_count(uses);
-    let mut out = room_for_lines(alloc, count)?;
+    let mut out = room_for_lines(alloc, count, numbers_of(list, first))?;
     append_line(&mut out, count as u64, &[1])?;
     let mut place = 0;
     for at in 0..uses.len() {
@@ -55,7 +56,7 @@ pub fn write_all_faces(
             }
         }
     }
-    Ok(out)
+    out.finish()
 }
 
 /// How many uses are marked as the first ones of their faces.

@@ -1,17 +1,20 @@
 //! The texts of a mesh's files, and the faces and edges of its rows.
 #![tactic(auto)]
 
+mod counter;
 mod edge;
 mod ele;
 mod face;
 mod face_lines;
 mod faces;
 mod facet_faces;
+mod fields;
 mod hull;
 mod laws;
 mod line;
 mod markers;
 mod neigh;
+mod piece;
 
 pub use edge::write_edge;
 pub use ele::write_ele;

@@ -3,7 +3,7 @@ ghost use Rattle.std.specs.Prelude.{◌≡◌, ◌++◌, ◌<◌, ◌^◌, lengt
 ghost use Rattle.incidence.specs.Pairs.{pairs_of, IsAcrossWithin, AreAllWithin};
 ghost use Rattle.mesh_files.specs.Texts.{neigh_text, neigh_line, neighbor};
 
-use crate::line::{append_line, room_for_lines};
+use crate::line::{Lines, append_line, room_for_lines};
 use geo_laws::TetList;
 use incidence::{Across, Pairs, pair_faces};
 use std::alloc::Global;
@@ -25,16 +25,22 @@ pub fn neighbors_of(alloc: Global, list: &TetList) -> Result<Pairs, NoMemory>
 pub fn write_neigh(alloc: Global, pairs: &Pairs, first: u32) -> Result<Bytes, NoMemory>
     ensures { IfOk result (λ text. text ≡ neigh_text first pairs.now) }
 {
-    let mut out = room_for_lines(alloc, pairs.len())?;
+    let mut out = room_for_lines(alloc, pairs.len(), numbers_of(pairs))?;
     append_line(&mut out, pairs.len() as u64, &[4])?;
     for i in 0..pairs.len() {
         append_neighbors(&mut out, i as u64, pairs.at(i), first)?;
     }
-    Ok(out)
+    out.finish()
+}
+
+/// How many numbers from 0 on there are up to the last row, counted from 0; 0 where there are more
+/// than fit.
+fn numbers_of(pairs: &Pairs) -> u32 {
+    u32::try_from(pairs.len()).unwrap_or(0)
 }
 
 /// Appends the line of the row at a place.
-fn append_neighbors(out: &mut Bytes, place: u64, across: Across, first: u32) -> Result<(), NoMemory>
+fn append_neighbors(out: &mut Lines, place: u64, across: Across, first: u32) -> Result<(), NoMemory>
     requires place { place < 2 ^ 63 }
     requires within { IsAcrossWithin (2 ^ 32) across }
     ensures { OnOk result (out.new ≡ out.old ++ neigh_line first place across) }

@@ -8,4 +8,4 @@ returns-in-Some c =
     let regions = c.args.complex.now.regions in
     subst (λ bytes. OnOk c.append.result (c.append.new.self ≡ c.args.out.now ++ bytes))
     (c.as_slice.ensures ∙ attribute_at regions c.args.mark c.in-Some.region c.region.result.now c.in-Some.is (subst (λ m. IfSome m (λ r. r < length regions)) c.in-Some.is c.requires) c.region.ensures)
-    c.append.ensures.ok
+    c.append.ensures

@@ -7,4 +7,4 @@ pub returns : goal.returns
 returns c =
     subst (λ bytes. OnOk c.append.result (c.append.new.self ≡ bytes))
     (line_with_mark c.args.complex.now.regions c.args.first c.args.place c.args.row c.args.mark c.args.out.now _ _ c.in_ok-append_corners.ensures c.in_ok-append_attribute.ensures)
-    c.append.ensures.ok
+    c.append.ensures

@@ -1,16 +1,12 @@
-use Rattle.std.proofs.Common.{◌≡◌, ◌++◌, [], ◌∷◌, ◌+◌, ◌*◌, ◌≤◌, drop, length}
-use Rattle.std.specs.Prelude.{flat_map}
-use Rattle.std.specs.Fmt.{signed_decimal}
+use Rattle.std.proofs.Common.{◌≡◌, ◌++◌, ◌+◌, ◌-◌, ◌*◌, ◌≤◌, take, length}
+use Rattle.std.specs.Fmt.{decimal}
+use Rattle.mesh_files.proofs.Pieces.{fields_text}
 use Rattle.mesh_files.proofs.line.append_fields.Given as goal
 
--- the fields from one on are written at the end of the line, and there is room for those that are left
-abbrev pub invariant-loop-left : goal.invariant-loop-left
-invariant-loop-left l = record {
-  within : l.left ≤ length l.fields;
-  room : 20 + 21 * l.left ≤ l.at;
-  inside : l.at ≤ 104;
-  written : drop l.at l.line ≡ flat_map (λ z. 32 ∷ signed_decimal z) (drop l.left l.fields) ++ (l.end ∷ []);
+-- the number and the fields so far are written after what was in the block, and there is room for those that are left
+abbrev pub invariant-loop-field : goal.invariant-loop-field
+invariant-loop-field l = record {
+  room : l.at + 21 * (length l.fields - l.field-index) ≤ 992;
+  used : l.out-inside.used ≤ 888;
+  written : l.out-inside.text ++ take l.at l.out-inside.block ≡ l.fn.out ++ (decimal l.number ++ fields_text (take l.field-index l.fields));
 }
-
-abbrev pub decreases-loop-left : goal.decreases-loop-left
-decreases-loop-left l = l.left

@@ -1,0 +1,12 @@
+-- Numbers as fields that are at hand.
+use Rattle.std.specs.Prelude.{◌≡◌, ℕ, ◌≤◌, ◌<◌, List, ◌∷◌, take, length, HoldsAt}
+use Rattle.std.specs.Fmt.{decimal}
+use Rattle.mesh_files.specs.declared.fields.Field.{Field}
+
+-- a space and the decimals of the number
+abbrev pub IsField : ℕ → Field → Type 0
+IsField number f = (f.len ≤ 16) × (take f.len f.text ≡ 32 ∷ decimal number)
+
+-- those of the numbers from 0 on
+abbrev pub AreFields : List Field → Type 0
+AreFields fields = (k : ℕ) → k < length fields → HoldsAt (IsField k) fields k

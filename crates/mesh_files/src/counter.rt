@@ -1,0 +1,55 @@
+//! A number that steps, with its decimals.
+ghost use Rattle.std.specs.Prelude.{◌≡◌, ◌++◌, ◌+◌, ◌≤◌, length, drop, take};
+ghost use Rattle.std.specs.Fmt.{decimal};
+
+use crate::piece::{SPAN, put};
+use itoa::write_digits;
+
+/// A number with its decimals, which end in the middle of the bytes.
+#[derive(Drop)]
+pub(crate) struct Counter {
+    number: u64,
+    digits: [u8; 48],
+    start: usize,
+    ghost starts: { start ≤ 24 },
+    ghost ends: { drop start digits ≡ decimal number ++ drop 24 digits },
+}
+
+impl Counter {
+    /// Zero.
+    pub(crate) fn new() -> Self {
+        Counter {
+            number: 0,
+            digits: [b'0'; 48],
+            start: SPAN - 1,
+        }
+    }
+
+    /// Steps to a number. Where it is the next one and the last digit has one after it, no other
+    /// digit changes.
+    #[inline(always)]
+    pub(crate) fn reach(&mut self, number: u64)
+        ensures { self.new.number ≡ number }
+    {
+        let last = self.digits[SPAN - 1];
+        if last < b'9' && self.number < number && number - self.number == 1 {
+            self.digits[SPAN - 1] = last + 1;
+            self.number = number;
+            return;
+        }
+        self.start = write_digits(number, &mut self.digits, SPAN);
+        self.number = number;
+    }
+
+    /// Writes the number at a place of a block, and returns where it ends. Other bytes after that
+    /// are changed too.
+    #[inline(always)]
+    pub(crate) fn put(&self, block: &mut [u8], at: usize) -> usize
+        requires { at + 24 ≤ length block.old }
+        ensures short { result ≤ at + 20 }
+        ensures written { take result block.new ≡ take at block.old ++ decimal self.now.number }
+    {
+        let start = self.start;
+        put(block, at, &self.digits[start..start + SPAN], SPAN - start)
+    }
+}

@@ -1,0 +1,77 @@
+//! Numbers as fields of a line.
+ghost use Rattle.std.specs.Prelude.{◌≡◌, ◌∷◌, ◌++◌, ◌+◌, ◌≤◌, length, drop, take};
+ghost use Rattle.std.specs.Fmt.{signed_decimal};
+ghost use Rattle.mesh_files.specs.Fields.{AreFields, IsField};
+
+use crate::piece::{SPAN, put, write_field};
+use std::alloc::Global;
+use tet_ports::{Items, NoMemory};
+
+/// The bytes that are copied for a field that is at hand, which takes up to eleven.
+const SHORT: usize = 16;
+
+/// A space and the decimals of a number, which are so many of the first bytes.
+#[derive(Clone, Copy)]
+pub(crate) struct Field {
+    pub(crate) text: [u8; SHORT],
+    pub(crate) len: u8,
+}
+
+/// The fields of the numbers from 0 on.
+#[derive(Drop)]
+pub(crate) struct Fields {
+    known: Items<Field>,
+    ghost right: { AreFields known },
+}
+
+impl Fields {
+    /// Those of the numbers below this one.
+    pub(crate) fn below(alloc: Global, count: u32) -> Result<Self, NoMemory> {
+        let mut known = Items::with_capacity(alloc, count as usize)?;
+        for number in 0..count {
+            known.push(field_of(number))?;
+        }
+        Ok(Fields { known })
+    }
+}
+
+/// The field of a number.
+fn field_of(number: u32) -> Field
+    ensures { IsField number result }
+{
+    let mut line = [b' '; SPAN + SHORT];
+    let start = write_field(&mut line, SPAN, i64::from(number));
+    let mut text = [b' '; SHORT];
+    text.copy_from_slice(&line[start..start + SHORT]);
+    Field {
+        text,
+        len: (SPAN - start) as u8,
+    }
+}
+
+/// Writes a space and a field at a place of a block, and returns where they end. Other bytes after
+/// that are changed too.
+#[inline(always)]
+pub(crate) fn put_field(block: &mut [u8], at: usize, field: i64, fields: &Fields) -> usize
+    requires { at + 24 ≤ length block.old }
+    ensures short { result ≤ at + 21 }
+    ensures written { take result block.new ≡ take at block.old ++ 32 ∷ signed_decimal field }
+{
+    let number = field.unsigned_abs() as usize;
+    if field >= 0 && number < fields.known.len() {
+        let known = fields.known.at(number);
+        return put(block, at, &known.text, usize::from(known.len));
+    }
+    put_any(block, at, field)
+}
+
+/// The same, where the field is not at hand.
+fn put_any(block: &mut [u8], at: usize, field: i64) -> usize
+    requires { at + 24 ≤ length block.old }
+    ensures short { result ≤ at + 21 }
+    ensures written { take result block.new ≡ take at block.old ++ 32 ∷ signed_decimal field }
+{
+    let mut line = [b' '; SPAN + SPAN];
+    let start = write_field(&mut line, SPAN, field);
+    put(block, at, &line[start..start + SPAN], SPAN - start)
+}
