@@ -39,8 +39,9 @@ pub fn write_all_faces(
     requires met { AreFacesMet mesh.now.points.now mesh.now.triangles.now mesh.now.list.now }
     requires facets { AreFacetsThere mesh.now.triangles.now mesh.now.complex.now }
     requires uses { AreUsesOf mesh.now.list.now uses.now }
-    ensures { IfOk result (λ text. (found : List FaceRow)
-        × AreFaceRowsOf mesh.now.points.now mesh.now.list.now mesh.now.complex.now mesh.now.triangles.now true found × (text ≡ face_text first found)) }
+    ensures { IfOk result (λ text. (found : List FaceRow) × AreFaceRowsOf
+        mesh.now.points.now mesh.now.list.now mesh.now.complex.now mesh.now.triangles.now true found
+        × (text ≡ face_text first found)) }
 {
     let MarkedList { list, complex, .. } = *mesh;
     let facets = facet_faces(alloc, mesh.triangles)?;

@@ -1,6 +1,7 @@
 use Rattle.std.proofs.Common.{◌≡◌, ℕ, ◌+◌, ◌<◌, ◌≤◌, true, List, [], ◌∷◌, ◌++◌, length, take, refl, sym, ap, ◌∙◌, append-nil, arith}
 use Rattle.std.specs.Prelude.{◌↔◌, pos, count_by}
 use Rattle.std.proofs.lemmas.Bool.{true≢false}
+use Rattle.std.proofs.lemmas.Result.{IfOk-weaker}
 use Rattle.std.proofs.lemmas.List.{length-append, length-take-le, take_all}
 use Rattle.std.proofs.lemmas.List.Sums.{count_by-le-length, count_by_more_no, count_by_more_yes}
 use Rattle.geo_laws.specs.declared.faces.Face.{Face}
@@ -93,8 +94,11 @@ returns c =
     let o = c.loop-at.invariant.written in
     let whole : take c.loop-at.at halves ≡ halves = take_all c.loop-at.at halves (omega arith) in
     let all : c.first_count-count.result ≡ length o.0 =
-    c.first_count-count.ensures ∙ ap (count_by (λ (h : HalfFace). h.first)) (sym whole) ∙ sym c.loop-at.invariant.counted ∙ o.2 in (
+    c.first_count-count.ensures ∙ ap (count_by (λ (h : HalfFace). h.first)) (sym whole) ∙ sym c.loop-at.invariant.counted ∙ o.2 in
+    IfOk-weaker c.finish.result (λ text. text ≡ c.loop-at.out) _
+    (λ text is. (
       o.0,
       rows_found mesh.points.now mesh.triangles.now rows mesh.complex.now true (used rows halves) c.loop-at.at o.0 c.requires.met c.requires.uses.uses (omega (arith, used_length rows halves)) o.1,
-      o.3 ∙ ap (λ n. line_of n (pos 1 ∷ []) ++ face_lines c.args.first 0 o.0) all,
-    )
+      is ∙ o.3 ∙ ap (λ n. line_of n (pos 1 ∷ []) ++ face_lines c.args.first 0 o.0) all,
+    ))
+    c.finish.ensures
