@@ -1,8 +1,9 @@
 //! Numbers as fields of a line.
-ghost use Rattle.std.specs.Prelude.{◌≡◌, ◌∷◌, ◌++◌, ◌+◌, ◌≤◌, length, drop, take};
+ghost use Rattle.std.specs.Prelude.{◌≡◌, ◌∷◌, ◌++◌, ◌+◌, ◌≤◌, ◌<◌, ◌^◌, length, drop, take};
 ghost use Rattle.std.specs.Fmt.{signed_decimal};
 ghost use Rattle.mesh_files.specs.Fields.{AreFields, IsField};
 
+use crate::counter::Counter;
 use crate::piece::{SPAN, put, write_field};
 use std::alloc::Global;
 use tet_ports::{Items, NoMemory};
@@ -28,24 +29,28 @@ impl Fields {
     /// Those of the numbers below this one.
     pub(crate) fn below(alloc: Global, count: u32) -> Result<Self, NoMemory> {
         let mut known = Items::with_capacity(alloc, count as usize)?;
+        let mut counter = Counter::new();
         for number in 0..count {
-            known.push(field_of(number))?;
+            counter.reach(u64::from(number));
+            known.push(field_of(&counter))?;
         }
         Ok(Fields { known })
     }
 }
 
 /// The field of a number.
-fn field_of(number: u32) -> Field
-    ensures { IsField number result }
+#[inline(always)]
+fn field_of(counter: &Counter) -> Field
+    requires { counter.now.number < 2 ^ 32 }
+    ensures { IsField counter.now.number result }
 {
-    let mut line = [b' '; SPAN + SHORT];
-    let start = write_field(&mut line, SPAN, i64::from(number));
+    let mut line = [b' '; 1 + SPAN];
+    let len = counter.put(&mut line, 1);
     let mut text = [b' '; SHORT];
-    text.copy_from_slice(&line[start..start + SHORT]);
+    text.copy_from_slice(&line[..SHORT]);
     Field {
         text,
-        len: (SPAN - start) as u8,
+        len: len as u8,
     }
 }
 
@@ -71,6 +76,9 @@ fn put_any(block: &mut [u8], at: usize, field: i64) -> usize
     ensures short { result ≤ at + 21 }
     ensures written { take result block.new ≡ take at block.old ++ 32 ∷ signed_decimal field }
 {
+    if field == -1 {
+        return put(block, at, b" -1", 3);
+    }
     let mut line = [b' '; SPAN + SPAN];
     let start = write_field(&mut line, SPAN, field);
     put(block, at, &line[start..start + SPAN], SPAN - start)

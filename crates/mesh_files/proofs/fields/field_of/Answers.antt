@@ -1,17 +1,13 @@
-use Rattle.std.proofs.Common.{◌∷◌, ◌+◌, ◌-◌, ◌≤◌, ℕ, List, replicate, w64, arith}
-use Rattle.std.specs.Fmt.{decimal}
+use Rattle.std.proofs.Common.{◌≤◌, length, take, ap, ◌∙◌, arith}
 use Rattle.std.proofs.lemmas.Fmt.{length-decimal-le}
-use Rattle.std.proofs.lemmas.Int.{to_z_pos}
-use Rattle.mesh_files.proofs.Pieces.{written_first, written_length}
+use Rattle.std.proofs.lemmas.List.{length-take, take-take}
 use Rattle.mesh_files.proofs.fields.field_of.Goals as goal
 
 pub returns : goal.returns
 returns c =
-    let w = c.write_field-start in
-    let n = c.args.number in
-    let e = rw (c.from.ensures, to_z_pos w64 n (omega arith)) at w.ensures.written in
-    let old : List ℕ = replicate 40 32 in
-    let long = written_length w.new.line old (32 ∷ decimal n) w.result 24 (omega arith) w.ensures.before (omega arith) e in
+    let n = c.args.counter.now.number in
+    let w = c.put-len in
+    let h = w.ensures.written in
     let short = length-decimal-le 10 n (omega arith) (omega arith) (omega arith) in
-    let fits : 24 - w.result ≤ 16 = omega (arith, long, short) in
-    (fits, rw c.copy_from_slice.ensures.after (written_first w.new.line old (32 ∷ decimal n) w.result 24 (w.result + 16 - w.result) (omega arith) w.ensures.before (omega arith) (omega arith) e))
+    let fits : w.result ≤ 16 = omega (arith, length-take w.result w.new.block, ap length h, short) in
+    (fits, ap (take w.result) c.copy_from_slice.ensures.after ∙ take-take w.result 16 w.new.block fits ∙ h)

@@ -1,4 +1,4 @@
-use Rattle.std.proofs.Common.{◌≡◌, ◌++◌, ◌∷◌, take, ap, ◌∙◌, to_z-of_z, arith}
+use Rattle.std.proofs.Common.{◌++◌, ◌∷◌, take, ap, ◌∙◌, to_z-of_z, arith}
 use Rattle.std.specs.Fmt.{decimal}
 use Rattle.mesh_files.proofs.Pieces.{field_at, not_negative}
 use Rattle.mesh_files.proofs.fields.put_field.Goals as goal
