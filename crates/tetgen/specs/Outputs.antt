@@ -14,6 +14,7 @@ use Rattle.tetgen.specs.Messages.{file_message}
 use Rattle.tetgen.specs.declared.meshed.Meshed.{Meshed}
 use Rattle.tetgen.specs.declared.outputs.Outputs.{Outputs}
 use Rattle.tetgen.specs.declared.outputs.FaceOutputs.{FaceOutputs}
+use Rattle.tetgen.specs.declared.outputs.SideOutputs.{SideOutputs}
 use Rattle.tetgen.specs.declared.store.NamedText.{NamedText}
 use Rattle.command_words.specs.declared.options.Options.{Options}
 
@@ -92,6 +93,12 @@ pub record IsHullOf (mesh : Meshed) (hull : List Face) : Type 0 where
   pub ascending : AllPairs RowBefore mesh.tetrahedra
   pub faces : AreHullFacesOf mesh.tetrahedra hull
 
+-- the face file of a mesh
+pub record IsFaceFileOf (options : Options) (mesh : Meshed) (file : Option NamedText) : Type 0 where
+  pub marked : List FaceRow
+  pub marked_are : options.no_face ≡ false → AreFaceRowsOf mesh.points mesh.tetrahedra mesh.complex mesh.triangles options.all_faces marked
+  pub face_is : file ≡ face_file options mesh marked
+
 -- what is told of the faces of a mesh, where a file or the summary speaks of them
 pub record AreFaceOutputsOf (options : Options) (mesh : Meshed) (outputs : FaceOutputs) : Type 0 where
   pub marked : List FaceRow
@@ -101,6 +108,13 @@ pub record AreFaceOutputsOf (options : Options) (mesh : Meshed) (outputs : FaceO
   pub face_is : outputs.face ≡ face_file options mesh marked
   pub neigh_is : outputs.neigh ≡ neigh_file options mesh
   pub count_is : outputs.count ≡ length faces
+
+-- what is told of the sides of a mesh, where a file or the summary speaks of them
+pub record AreSideOutputsOf (options : Options) (mesh : Meshed) (outputs : SideOutputs) : Type 0 where
+  pub sides : List Side
+  pub sides_are : names_sides options ≡ true → AreSidesOf mesh.tetrahedra sides
+  pub edge_is : outputs.edge ≡ edge_file options mesh sides
+  pub count_is : outputs.count ≡ length sides
 
 -- The files and the summary of a mesh. Faces and sides are those of its tetrahedra, where a file or the summary speaks of them
 pub record AreOutputsOf (options : Options) (mesh : Meshed) (outputs : Outputs) : Type 0 where

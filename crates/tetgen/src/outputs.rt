@@ -6,7 +6,7 @@ ghost use Rattle.geo_laws.specs.Faces.{AreFacesOf, AreSidesOf};
 ghost use Rattle.geo_laws.specs.declared.faces.Face.{Face};
 ghost use Rattle.incidence.specs.Uses.{AreUsesOf};
 ghost use Rattle.mesh_files.specs.FaceRows.{AreFaceRowsOf};
-ghost use Rattle.tetgen.specs.Outputs.{named, first_of, node_file, ele_file, face_file, edge_file, neigh_file, summary_of, names_sides, asks_uses, asks_hull_alone, IsWritable, IsHullOf, AreFaceOutputsOf, AreOutputsOf};
+ghost use Rattle.tetgen.specs.Outputs.{named, first_of, node_file, ele_file, face_file, edge_file, neigh_file, summary_of, names_sides, asks_uses, asks_hull_alone, IsWritable, IsHullOf, IsFaceFileOf, AreFaceOutputsOf, AreSideOutputsOf, AreOutputsOf};
 ghost use Rattle.tetgen.specs.Stores.{in_order, TellsFailure};
 
 use crate::meshed::{HulledMesh, Meshed};
@@ -15,8 +15,8 @@ use crate::store::{NamedText, Texts};
 use command_words::{Options, with_extension};
 use incidence::{Uses, pair_uses, uses_of};
 use mesh_files::{
-    Edges, FaceRows, Faces, edges_of, face_count, hull_rows, used_faces, write_edge, write_ele,
-    write_face, write_neigh,
+    Edges, FaceRows, Faces, MarkedList, edges_of, face_count, hull_rows, used_faces,
+    write_all_faces, write_edge, write_ele, write_face, write_neigh,
 };
 use node_files::write_node;
 use std::alloc::Global;
@@ -37,6 +37,13 @@ struct FaceOutputs {
     count: usize,
 }
 
+/// The edge file, where it is asked for, and the number of sides, if something speaks of them.
+#[derive(Drop)]
+struct SideOutputs {
+    edge: Option<NamedText>,
+    count: usize,
+}
+
 /// The files and the summary that the options ask for.
 pub fn outputs_of(alloc: Global, options: &Options, made: &HulledMesh) -> Result<Outputs, NoMemory>
     requires mesh { IsWritable made.now.mesh }
@@ -45,15 +52,15 @@ pub fn outputs_of(alloc: Global, options: &Options, made: &HulledMesh) -> Result
 {
     let mesh = &made.mesh;
     let FaceOutputs { face, neigh, count } = face_outputs(alloc, options, made)?;
-    let sides = wanted_sides(alloc, options, mesh)?;
+    let sides = side_outputs(alloc, options, mesh)?;
     let texts = Texts {
         node: node_file(alloc, options, mesh)?,
         ele: ele_file(alloc, options, mesh)?,
         face,
-        edge: edge_file(alloc, options, mesh, &sides)?,
+        edge: sides.edge,
         neigh,
     };
-    let summary = summary_of(alloc, options, mesh, count, sides.len())?;
+    let summary = summary_of(alloc, options, mesh, count, sides.count)?;
     Ok(Outputs { texts, summary })
 }
 
@@ -107,7 +114,7 @@ fn face_outputs(
     used_outputs(alloc, options, &made.mesh)
 }
 
-/// What is told of the faces by their uses. The neighbors are let go once their text is made, and the uses before the text of the faces is.
+/// What is told of the faces by their uses. The neighbors are let go once their text is made.
 fn used_outputs(alloc: Global, options: &Options, mesh: &Meshed) -> Result<FaceOutputs, NoMemory>
     requires { IsWritable mesh.now }
     ensures { IfOk result (AreFaceOutputsOf options.now mesh.now) }
@@ -115,9 +122,49 @@ fn used_outputs(alloc: Global, options: &Options, mesh: &Meshed) -> Result<FaceO
     let uses = wanted_uses(alloc, options, mesh)?;
     let count = wanted_face_count(options, mesh, &uses);
     let neigh = neigh_file(alloc, options, mesh, &uses)?;
-    let faces = wanted_face_rows(alloc, options, mesh, uses)?;
-    let face = face_file(alloc, options, mesh, &faces)?;
+    let face = used_face_file(alloc, options, mesh, uses)?;
     Ok(FaceOutputs { face, neigh, count })
+}
+
+/// The face file by the uses of the faces: straight from them where all faces are asked for, and else from rows, for whose text the uses are let go.
+fn used_face_file(
+    alloc: Global,
+    options: &Options,
+    mesh: &Meshed,
+    uses: Uses,
+) -> Result<Option<NamedText>, NoMemory>
+    requires mesh { IsWritable mesh.now }
+    requires uses { asks_uses options.now ≡ true → AreUsesOf mesh.now.tetrahedra uses }
+    ensures { IfOk result (IsFaceFileOf options.now mesh.now) }
+{
+    if !options.no_face && options.all_faces {
+        return all_face_file(alloc, options, mesh, &uses);
+    }
+    let faces = wanted_face_rows(alloc, options, mesh, uses)?;
+    face_file(alloc, options, mesh, &faces)
+}
+
+/// The file of all faces with their markers.
+fn all_face_file(
+    alloc: Global,
+    options: &Options,
+    mesh: &Meshed,
+    uses: &Uses,
+) -> Result<Option<NamedText>, NoMemory>
+    requires mesh { IsWritable mesh.now }
+    requires uses { AreUsesOf mesh.now.tetrahedra uses.now }
+    requires written { options.now.no_face ≡ false }
+    requires all { options.now.all_faces ≡ true }
+    ensures { IfOk result (IsFaceFileOf options.now mesh.now) }
+{
+    let rows = MarkedList {
+        points: &mesh.points,
+        list: &mesh.tetrahedra,
+        complex: &mesh.complex,
+        triangles: &mesh.triangles,
+    };
+    let text = write_all_faces(alloc, &rows, uses, first_of(options, mesh))?;
+    Ok(Some(named(alloc, options, b".1.face", text)?))
 }
 
 /// What is told of the faces, where only those on the hull are asked for and are known.
@@ -191,6 +238,18 @@ fn wanted_face_rows(
         triangles,
         options.all_faces,
     )
+}
+
+/// What is told of the sides, which are let go.
+fn side_outputs(alloc: Global, options: &Options, mesh: &Meshed) -> Result<SideOutputs, NoMemory>
+    ensures { IfOk result (AreSideOutputsOf options.now mesh.now) }
+{
+    let sides = wanted_sides(alloc, options, mesh)?;
+    let edge = edge_file(alloc, options, mesh, &sides)?;
+    Ok(SideOutputs {
+        edge,
+        count: sides.len(),
+    })
 }
 
 /// The sides, if the edge file or the summary is asked for.
