@@ -1,5 +1,5 @@
 //! Numbers as fields of a line.
-ghost use Rattle.std.specs.Prelude.{◌≡◌, ◌∷◌, ◌++◌, ◌+◌, ◌≤◌, ◌<◌, ◌^◌, length, drop, take};
+ghost use Rattle.std.specs.Prelude.{◌≡◌, ◌∷◌, ◌++◌, ◌+◌, ◌≤◌, ◌<◌, ◌^◌, length, take};
 ghost use Rattle.std.specs.Fmt.{signed_decimal};
 ghost use Rattle.mesh_files.specs.Fields.{AreFields, IsField};
 
@@ -11,7 +11,7 @@ use tet_ports::{Items, NoMemory};
 /// The bytes that are copied for a field that is at hand, which takes up to eleven.
 const SHORT: usize = 16;
 
-/// A space and the decimals of a number, which are so many of the first bytes.
+/// The field of a number: the first `len` bytes of the text are a space and the decimals.
 #[derive(Clone, Copy)]
 pub(crate) struct Field {
     pub(crate) text: [u8; SHORT],
@@ -38,7 +38,7 @@ impl Fields {
     }
 }
 
-/// The field of a number.
+/// The field of the number of a counter.
 #[inline(always)]
 fn field_of(counter: &Counter) -> Field
     requires { counter.now.number < 2 ^ 32 }
