@@ -63,6 +63,11 @@ impl Pairs {
     {
         across_in(self.kept[i])
     }
+
+    /// Lets all go, as a list of items is.
+    pub fn let_go(self) {
+        Items::from(self.kept).let_go();
+    }
 }
 
 /// For each row of a list a number, or none.

@@ -18,7 +18,7 @@ use crate::{Corner, RimFace, Slot, SlotCorners};
 use std::alloc::Global;
 use std::marker::Model;
 use std::mem;
-use tet_ports::NoMemory;
+use tet_ports::{Items, NoMemory};
 
 /// A face of a slot: the places of the slot in its arena and of the opposite corner in the slot,
 /// from 0. Contracts name what stands behind a face so.
@@ -85,12 +85,10 @@ impl Arena {
         }
     }
 
-    /// Lets the slots go. Their memory is made small before it is given back: what the C library
-    /// keeps of what it gets back, and where it puts later lists, goes by the largest block.
+    /// Lets the slots go, as a list of items is.
     pub fn let_go(self) {
-        let Arena { mut cells, .. } = self;
-        cells.clear();
-        cells.shrink_to(1);
+        let Arena { cells, .. } = self;
+        Items::from(cells).let_go();
     }
 
     /// The number of slots, live and free.

@@ -36,6 +36,11 @@ impl Fields {
         }
         Ok(Fields { known })
     }
+
+    /// Lets all go, as a list of items is.
+    pub(crate) fn let_go(self) {
+        self.known.let_go();
+    }
 }
 
 /// The field of the number of a counter.

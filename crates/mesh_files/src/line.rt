@@ -81,8 +81,15 @@ impl Lines {
     pub(crate) fn finish(self) -> Result<Bytes, NoMemory>
         ensures { IfOk result (λ text. text ≡ self) }
     {
-        let mut text = self.text;
-        text.append(&self.block[..self.used])?;
+        let Lines {
+            mut text,
+            block,
+            used,
+            fields,
+            ..
+        } = self;
+        fields.let_go();
+        text.append(&block[..used])?;
         Ok(text)
     }
 }
