@@ -4,28 +4,17 @@ use Rattle.std.proofs.Common.{◌≡◌, ℤ, pos, neg_ℤ, ◌+ℤ◌, ◌-ℤ�
 use Rattle.std.specs.Prelude.{T}
 use Rattle.exact_algebra.proofs.Ring.{Expr, num, var, neg, eval, ring, ring_given, given, same}
 use Rattle.exact_algebra.proofs.Ring.{◌⊕◌, ◌⊖◌, ◌⊗◌}
-use Rattle.sign_predicates.proofs.Terms.{PointE, TriangleE, CornersE, pointE, rationalE, triangleE, cornersE, of_point, of_rational, of_triangle, of_corners, orientE, sideE, side_rationalE, volumeE, opposite_aE, opposite_bE, opposite_cE, opposite_dE, normalE, offsetE, combinedE, middleE, as_rationalE, off_planeE, with_aE, with_bE, with_cE, with_dE, minorE, square_lengthE, in_sphereE, turnedE}
+use Rattle.sign_predicates.proofs.Terms.{PointE, CornersE, pointE, rationalE, triangleE, cornersE, of_point, of_rational, of_triangle, of_corners, orientE, sideE, side_rationalE, volumeE, normalE, offsetE, combinedE, middleE, as_rationalE, off_planeE, with_aE, with_bE, with_cE, with_dE, minorE, square_lengthE, in_sphereE, turnedE}
 use Rattle.sign_predicates.specs.Point.{Point, RationalPoint, as_rational}
 use Rattle.sign_predicates.specs.Sphere.{square_length, in_sphere}
 use Rattle.sign_predicates.specs.Orientation.{Triangle, volume, normal, dot, side, side_rational, orient, orient_rational, det, IsPositive, SpansPlane}
 use Rattle.sign_predicates.specs.declared.tetrahedron.Corners.{Corners}
 use Rattle.exact_algebra.proofs.Signs.{pos_not_zero}
 use Rattle.geo_laws.specs.Laws.{ThreeTermLaw}
-use Rattle.geo_laws.proofs.Places.{Place, A, B, C, D, IsOther, corner, opposite, replaced, over_places}
+use Rattle.sign_predicates.proofs.Places.{Place, A, B, C, D, IsOther, corner, opposite, cornerE, oppositeE, side-own}
+use Rattle.geo_laws.proofs.Places.{replaced, over_places}
 
 -- ---- terms by place
-
-abbrev cornerE : CornersE → Place → PointE
-cornerE t A = t.a
-cornerE t B = t.b
-cornerE t C = t.c
-cornerE t D = t.d
-
-abbrev oppositeE : CornersE → Place → TriangleE
-oppositeE t A = opposite_aE t
-oppositeE t B = opposite_bE t
-oppositeE t C = opposite_cE t
-oppositeE t D = opposite_dE t
 
 abbrev replacedE : CornersE → Place → PointE → CornersE
 replacedE t A e = with_aE t e
@@ -86,30 +75,6 @@ mean-affine nx ny nz o sx sy sz m w x y z ex ey ez =
     tt (nx ∷ ny ∷ nz ∷ o ∷ sx ∷ sy ∷ sz ∷ m ∷ w ∷ x ∷ y ∷ z ∷ []) (ex, (ey, (ez, tt)))
 
 -- ---- and alternating: the side of a corner at its opposite face is the volume, and at another face 0
-
--- a corner at its opposite face
-pub side-own : (t : Corners) (u : Place) → side (opposite t u) (corner t u) ≡ volume t
-unfolding same det orient
-side-own t u = go u
-  where
-    by : (u : Place) → T (same (sideE (oppositeE (cornersE 0) u) (cornerE (cornersE 0) u)) (volumeE (cornersE 0)))
-        → eval (of_corners t []) (sideE (oppositeE (cornersE 0) u) (cornerE (cornersE 0) u)) ≡ eval (of_corners t []) (volumeE (cornersE 0))
-    by u h = ring (sideE (oppositeE (cornersE 0) u) (cornerE (cornersE 0) u)) (volumeE (cornersE 0)) h (of_corners t [])
-
-    go : (u : Place) → side (opposite t u) (corner t u) ≡ volume t
-    go A = by A tt
-    go B = by B tt
-    go C = by C tt
-    go D = by D tt
-
--- a corner at the face opposite another one
-pub side-other : (t : Corners) (u v : Place) → IsOther u v → side (opposite t u) (corner t v) ≡ pos 0
-unfolding same det orient
-side-other t A A o = absurd o
-side-other t B B o = absurd o
-side-other t C C o = absurd o
-side-other t D D o = absurd o
-side-other t u v o = ring (sideE (oppositeE (cornersE 0) u) (cornerE (cornersE 0) v)) (num (pos 0)) tt (of_corners t [])
 
 -- the volume with a point in place of a corner is the point's side at the face opposite
 pub volume-replaced : (t : Corners) (u : Place) (e : Point) → volume (replaced t u e) ≡ side (opposite t u) e

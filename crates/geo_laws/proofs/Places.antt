@@ -4,34 +4,12 @@ use Rattle.std.proofs.lemmas.Int.{ints}
 use Rattle.std.specs.List.{AllByRecursion}
 use Rattle.std.specs.Prelude.{List, Contains}
 use Rattle.sign_predicates.specs.Point.{Point}
-use Rattle.sign_predicates.specs.Orientation.{Triangle, opposite_a, opposite_b, opposite_c, opposite_d, faces}
+use Rattle.sign_predicates.specs.Orientation.{Triangle, faces}
 use Rattle.sign_predicates.specs.declared.tetrahedron.Corners.{Corners}
+use Rattle.sign_predicates.proofs.Places.{Place, A, B, C, D, IsOther, corner, opposite}
 use Rattle.geo_laws.specs.Delaunay.{point, corners}
 use Rattle.geo_laws.specs.Laws.{plane_through}
 use Rattle.geo_laws.specs.declared.tetrahedra.Tet.{Tet}
-
--- the place of a corner
-pub data Place : Type 0 where
-  A : Place
-  B : Place
-  C : Place
-  D : Place
-
--- the places are different
-abbrev pub IsOther : Place → Place → Type 0
-IsOther A A = ⊥
-IsOther B B = ⊥
-IsOther C C = ⊥
-IsOther D D = ⊥
-IsOther u v = Unit {0}
-
--- two places are the same or not
-pub same_or_other : (u v : Place) → (u ≡ v) ⊎ IsOther u v
-same_or_other A A = inl refl
-same_or_other B B = inl refl
-same_or_other C C = inl refl
-same_or_other D D = inl refl
-same_or_other u v = inr tt
 
 pub other_back : (u v : Place) → IsOther u v → IsOther v u
 other_back A A o = o
@@ -40,21 +18,7 @@ other_back C C o = o
 other_back D D o = o
 other_back u v o = tt
 
--- ---- corners and faces
-
--- the corner at the place
-abbrev pub corner : Corners → Place → Point
-corner t A = t.a
-corner t B = t.b
-corner t C = t.c
-corner t D = t.d
-
--- the face opposite the corner
-abbrev pub opposite : Corners → Place → Triangle
-opposite t A = opposite_a t
-opposite t B = opposite_b t
-opposite t C = opposite_c t
-opposite t D = opposite_d t
+-- ---- other corners and numbers
 
 -- the tetrahedron with e in place of the corner
 abbrev pub replaced : Corners → Place → Point → Corners

@@ -6,7 +6,8 @@ use Rattle.sign_predicates.specs.Point.{Point}
 use Rattle.sign_predicates.specs.Orientation.{side, IsPositive}
 use Rattle.geo_laws.specs.Delaunay.{point, corners, numbers}
 use Rattle.geo_laws.specs.declared.tetrahedra.Tet.{Tet as Row}
-use Rattle.geo_laws.proofs.Places.{Place, A, B, C, D, number, opposite}
+use Rattle.sign_predicates.proofs.Places.{Place, A, B, C, D, opposite}
+use Rattle.geo_laws.proofs.Places.{number}
 use Rattle.geo_laws.proofs.Corners.{IsCorner, corner_of, contains_corner, distinct, side-own_point}
 use Rattle.geo_laws.specs.OrientedFace.{Face, triangle, reversed, beside}
 use Rattle.insert_laws.specs.Insertion.{HasSameCorners, IsFaceOf, IsHullFace}

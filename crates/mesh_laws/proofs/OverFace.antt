@@ -5,7 +5,7 @@ use Rattle.std.proofs.lemmas.Bool.{cases_eq}
 use Rattle.sign_predicates.specs.Point.{Point}
 use Rattle.geo_laws.specs.Delaunay.{point, IsDelaunayAmong}
 use Rattle.geo_laws.specs.declared.tetrahedra.Tet.{Tet as Row}
-use Rattle.geo_laws.proofs.Places.{A, B, C}
+use Rattle.sign_predicates.proofs.Places.{A, B, C}
 use Rattle.geo_laws.proofs.Corners.{distinct}
 use Rattle.geo_laws.specs.OrientedFace.{Face, reversed, beside}
 use Rattle.insert_laws.specs.Insertion.{IsNew, IsFaceOf, IsHullFace, IsCavityPlace, cavity_row, cavity_ghost, IsClearPlace, clear_row, clear_ghost, IsRimFace, row_place, ghost_place, row_in, ghost_in}

@@ -7,7 +7,8 @@ use Rattle.sign_predicates.specs.Orientation.{IsPositive, orient}
 use Rattle.sign_predicates.specs.Sphere.{is_outside}
 use Rattle.geo_laws.specs.Delaunay.{point, corners, as_numbers, AreNumbersOf, IsAmong, IsDelaunayAmong}
 use Rattle.geo_laws.specs.declared.tetrahedra.Tet.{Tet as Row}
-use Rattle.geo_laws.proofs.Places.{Place, A, B, C, D, number}
+use Rattle.sign_predicates.proofs.Places.{Place, A, B, C, D}
+use Rattle.geo_laws.proofs.Places.{number}
 use Rattle.geo_laws.proofs.Corners.{corner_among}
 use Rattle.geo_laws.specs.OrientedFace.{Face, reversed}
 use Rattle.insert_laws.specs.Insertion.{IsHullFace}

@@ -6,7 +6,8 @@ use Rattle.std.specs.Prelude.{Contains, IsTrue}
 use Rattle.sign_predicates.specs.Point.{Point}
 use Rattle.geo_laws.specs.Delaunay.{point, numbers, AreNumbersOf, IsDelaunayAmong}
 use Rattle.geo_laws.specs.declared.tetrahedra.Tet.{Tet as Row}
-use Rattle.geo_laws.proofs.Places.{A, B, C, D, with_number}
+use Rattle.sign_predicates.proofs.Places.{A, B, C, D}
+use Rattle.geo_laws.proofs.Places.{with_number}
 use Rattle.geo_laws.proofs.Corners.{IsCorner, corner_of, contains_corner, distinct}
 use Rattle.geo_laws.specs.OrientedFace.{Face, reversed, beside}
 use Rattle.insert_laws.specs.Insertion.{HasSameCorners, HasOutside, Sees, IsNew, IsHullFace, IsStarRow, edge_and}

@@ -3,7 +3,7 @@ use Rattle.std.proofs.Common.{◌≡◌, ◌≢◌, inr, ℕ, ◌<◌, pos, neg_
 use Rattle.std.proofs.lemmas.Int.{ints}
 use Rattle.std.specs.Prelude.{Contains}
 use Rattle.sign_predicates.specs.Point.{Point}
-use Rattle.geo_laws.proofs.Places.{A, B, C}
+use Rattle.sign_predicates.proofs.Places.{A, B, C}
 use Rattle.geo_laws.proofs.Corners.{distinct}
 use Rattle.geo_laws.proofs.Arrangement.{even-swap, even_positive}
 use Rattle.geo_laws.specs.OrientedFace.{Face, reversed, beside}

@@ -6,7 +6,8 @@ use Rattle.sign_predicates.specs.Point.{Point}
 use Rattle.sign_predicates.specs.Orientation.{IsPositive, volume, side as side_at}
 use Rattle.geo_laws.specs.Delaunay.{point, corners, IsDelaunayAmong}
 use Rattle.geo_laws.specs.declared.tetrahedra.Tet.{Tet as Row}
-use Rattle.geo_laws.proofs.Places.{A, B, C, with_number, number-with, corners-with_number}
+use Rattle.sign_predicates.proofs.Places.{A, B, C}
+use Rattle.geo_laws.proofs.Places.{with_number, number-with, corners-with_number}
 use Rattle.geo_laws.proofs.Corners.{AreDistinct, distinct}
 use Rattle.geo_laws.proofs.Determinants.{volume-replaced}
 use Rattle.geo_laws.proofs.Arrangement.{arranged, even_positive}

@@ -8,12 +8,14 @@ use Rattle.sign_predicates.specs.Orientation.{Triangle, side, volume, orient, de
 use Rattle.sign_predicates.specs.declared.tetrahedron.Corners.{Corners}
 use Rattle.sign_predicates.proofs.Terms.{PointE, TriangleE, CornersE, cornersE, triangleE, pointE, of_corners, of_triangle, of_point, sideE, volumeE, opposite_aE, opposite_bE, opposite_cE, opposite_dE}
 
+-- the place of a corner
 pub data Place : Type 0 where
   A : Place
   B : Place
   C : Place
   D : Place
 
+-- the places are different
 abbrev pub IsOther : Place → Place → Type 0
 IsOther A A = ⊥
 IsOther B B = ⊥
@@ -21,6 +23,7 @@ IsOther C C = ⊥
 IsOther D D = ⊥
 IsOther u v = Unit {0}
 
+-- two places are the same or not
 pub same_or_other : (u v : Place) → (u ≡ v) ⊎ IsOther u v
 same_or_other A A = inl refl
 same_or_other B B = inl refl
@@ -28,25 +31,27 @@ same_or_other C C = inl refl
 same_or_other D D = inl refl
 same_or_other u v = inr tt
 
+-- the corner at the place
 abbrev pub corner : Corners → Place → Point
 corner t A = t.a
 corner t B = t.b
 corner t C = t.c
 corner t D = t.d
 
+-- the face opposite the corner
 abbrev pub opposite : Corners → Place → Triangle
 opposite t A = opposite_a t
 opposite t B = opposite_b t
 opposite t C = opposite_c t
 opposite t D = opposite_d t
 
-abbrev cornerE : CornersE → Place → PointE
+abbrev pub cornerE : CornersE → Place → PointE
 cornerE t A = t.a
 cornerE t B = t.b
 cornerE t C = t.c
 cornerE t D = t.d
 
-abbrev oppositeE : CornersE → Place → TriangleE
+abbrev pub oppositeE : CornersE → Place → TriangleE
 oppositeE t A = opposite_aE t
 oppositeE t B = opposite_bE t
 oppositeE t C = opposite_cE t
