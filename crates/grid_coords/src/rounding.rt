@@ -1,23 +1,10 @@
 //! Rounding.
 
 ghost use Rattle.std.specs.Prelude.{◌≡◌, ◌≤◌, ◌<◌, ◌*◌, ◌^◌, pos};
-ghost use Rattle.tet_text.specs.Decimals.{IsDecimal, lowest, signed};
+ghost use Rattle.tet_text.specs.Decimals.{IsDecimal, signed};
 ghost use Rattle.grid_coords.specs.Rounding.{nearest, rounded};
 
-use tet_text::Decimal;
-
-/// The number / 10^`scale` with no trailing zero in its fraction.
-fn lowest(number: u128, scale: u32) -> (u128, u32)
-    ensures { result ≡ lowest number scale }
-{
-    let mut value = number;
-    let mut left = scale;
-    while left > 0 && value % 10 == 0 {
-        value /= 10;
-        left -= 1;
-    }
-    (value, left)
-}
+use tet_text::{Decimal, without_trailing_zeros};
 
 /// The whole number nearest to `number` / 10^`steps`, and the larger of two.
 fn nearest(number: u128, steps: u32) -> u128
@@ -51,7 +38,7 @@ pub fn round_to(d: &Decimal, decimals: u32) -> Decimal
         return *d;
     }
     let size = nearest(d.value.unsigned_abs(), d.scale - decimals);
-    let (size, scale) = lowest(size, decimals);
+    let (size, scale) = without_trailing_zeros(size, decimals);
     let value = signed(d.value < 0, size);
     Decimal { value, scale }
 }

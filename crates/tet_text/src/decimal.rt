@@ -51,8 +51,9 @@ fn raised(number: u128, by: u32) -> Option<u128>
     Some(product)
 }
 
-/// The number / 10^`scale` with no trailing zero in its fraction.
-fn without_trailing_zeros(number: u128, scale: u32) -> (u128, u32)
+/// The number / 10^`scale` with no trailing zero in its fraction: what is left of the number, and
+/// of the scale.
+pub fn without_trailing_zeros(number: u128, scale: u32) -> (u128, u32)
     ensures { result ≡ lowest number scale }
 {
     let mut value = number;

@@ -11,7 +11,7 @@ mod numbers;
 mod printing;
 mod wanted;
 
-pub use decimal::{Decimal, read_decimal};
+pub use decimal::{Decimal, read_decimal, without_trailing_zeros};
 pub use digits::read_digits;
 pub use fault::{TextFault, TextKind};
 pub use laws::{law_fields, law_printed};
