@@ -48,9 +48,10 @@ pub fn beyond(t: Corners, corner: u8, p: GridPoint) -> Sign
     }
 }
 
-/// The coordinate of a rational point less that of a grid point, times the denominator.
+/// The coordinate of a rational point, or of one near the grid, less that of a grid point, times
+/// the denominator, which is at most a million.
 #[inline]
-fn scaled_difference(a: i32, x: i64, w: i64) -> i64
+pub fn scaled_difference(a: i32, x: i64, w: i64) -> i64
     requires a_small { unsigned_abs a ≤ 2 ^ 23 }
     requires w_small { unsigned_abs w ≤ 1000000 }
     requires x_small { unsigned_abs x ≤ 8388609 * unsigned_abs w }

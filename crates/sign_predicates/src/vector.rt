@@ -13,10 +13,10 @@ use std::marker::Model;
 
 /// The vector from one grid point to another. Each coordinate is at most `2^24` in size.
 #[derive(Clone, Copy)]
-pub(crate) struct Vector {
-    pub(crate) x: i32,
-    pub(crate) y: i32,
-    pub(crate) z: i32,
+pub struct Vector {
+    pub x: i32,
+    pub y: i32,
+    pub z: i32,
 }
 
 impl Model for Vector {
@@ -34,7 +34,7 @@ impl Model for Vector {
 
 /// The vector from `a` to `b`.
 #[inline]
-pub(crate) fn from_to(a: GridPoint, b: GridPoint) -> Vector
+pub fn from_to(a: GridPoint, b: GridPoint) -> Vector
     ensures { result ≡ from_to a b }
 {
     Vector {
