@@ -106,7 +106,7 @@ module _ (halvings budget : ℕ) (ps : List Point) (c : Complex) (qs : List Poin
   })).0
 
   pub still_few : length qs < 2 ^ 32 - 2
-  still_few = most_less (length qs) (length ps + budget) (2 ^ 32 - 2) (added halvings qs rest budget ps (input_pieces ps c) protected.ends) given.few
+  still_few = most_less (length qs) (length ps + budget) (2 ^ 32 - 2) (added halvings qs rest budget ps (input_pieces ps c) protected.ends).1 given.few
 
   -- what the facets ask for
   pub sound_facets : HasSoundFacets qs rest c
