@@ -1,6 +1,6 @@
 //! The faces and the sides of tetrahedra, each with its numbers ascending.
-ghost use Rattle.std.specs.Prelude.{◌≡◌};
-ghost use Rattle.geo_laws.specs.Faces.{face_of, side_of, row_faces, row_sides};
+ghost use Rattle.std.specs.Prelude.{◌≡◌, ◌↔◌, true};
+ghost use Rattle.geo_laws.specs.Faces.{face_of, side_of, row_faces, row_sides, FaceBefore};
 
 use crate::Tet;
 
@@ -29,6 +29,14 @@ pub fn face_of(i: u32, j: u32, k: u32) -> Face
         b: low.max(high.min(k)),
         c: high.max(k),
     }
+}
+
+/// Whether one face stands before another: by their first numbers, then by the next ones.
+#[inline]
+pub fn stands_before(f: Face, g: Face) -> bool
+    ensures { (result ≡ true) ↔ FaceBefore f g }
+{
+    f.a < g.a || f.a == g.a && (f.b < g.b || f.b == g.b && f.c < g.c)
 }
 
 /// The segment of two numbers, ascending.

@@ -4,7 +4,7 @@ ghost use Rattle.geo_laws.specs.Faces.{FaceBefore};
 ghost use Rattle.geo_laws.specs.declared.faces.Face.{Face};
 ghost use Rattle.path_laws.specs.Flood.{IsFacetFace};
 
-use geo_laws::{Face, FacetTriangles, face_of};
+use geo_laws::{Face, FacetTriangles, face_of, stands_before};
 use std::alloc::Global;
 use tet_ports::{Items, NoMemory};
 
@@ -24,13 +24,6 @@ pub(crate) fn facet_faces(alloc: Global, triangles: &FacetTriangles) -> Result<F
     Ok(faces)
 }
 
-/// Whether one face stands before another: by their first numbers, then by the next ones.
-fn is_before(f: Face, g: Face) -> bool
-    ensures { (result ≡ true) ↔ FaceBefore f g }
-{
-    f.a < g.a || f.a == g.a && (f.b < g.b || f.b == g.b && f.c < g.c)
-}
-
 /// Whether the face is one of these, by halving the part of the list in which it may be.
 pub(crate) fn has_face(faces: &FacetFaces, face: Face) -> bool
     requires { AllPairs FaceBefore faces.now }
@@ -40,7 +33,7 @@ pub(crate) fn has_face(faces: &FacetFaces, face: Face) -> bool
     let mut high = faces.len();
     while low < high {
         let middle = low + (high - low) / 2;
-        if is_before(faces.at(middle), face) {
+        if stands_before(faces.at(middle), face) {
             low = middle + 1;
         } else {
             high = middle;

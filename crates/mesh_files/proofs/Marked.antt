@@ -15,7 +15,7 @@ use Rattle.geo_laws.specs.declared.complex.FacetTriangle.{FacetTriangle}
 use Rattle.geo_laws.specs.declared.faces.Face.{Face}
 use Rattle.geo_laws.specs.declared.tetrahedra.Tet.{Tet}
 use Rattle.geo_laws.proofs.Corners.{distinct}
-use Rattle.geo_laws.proofs.Places.{Place}
+use Rattle.sign_predicates.proofs.Places.{Place}
 use Rattle.geo_laws.proofs.RowFaces.{Ascends as IsAscending, face_at, face_place, face_ascends}
 use Rattle.facet_laws.specs.Faces.{Ascends, as_triangle}
 use Rattle.facet_laws.proofs.FaceIn.{centroid_in, law_face_in_facet}

@@ -9,7 +9,7 @@ use Rattle.geo_laws.specs.Delaunay.{point, corners}
 use Rattle.geo_laws.specs.Faces.{face_of}
 use Rattle.geo_laws.specs.Laws.{plane_through}
 use Rattle.geo_laws.specs.declared.tetrahedra.Tet.{Tet}
-use Rattle.geo_laws.proofs.Places.{Place, A, B, C, D}
+use Rattle.sign_predicates.proofs.Places.{Place, A, B, C, D}
 use Rattle.geo_laws.proofs.Determinants.{spans}
 use Rattle.geo_laws.proofs.RowFaces.{face_at}
 

@@ -1,9 +1,8 @@
 //! The facet triangles as faces, with the first facet of which a face is a triangle.
 ghost use Rattle.std.specs.Prelude.{◌≡◌, ◌↔◌, ◌<◌, true, length, All, AllPairs, IfOk, IfSome};
-ghost use Rattle.geo_laws.specs.Faces.{FaceBefore};
 ghost use Rattle.mesh_files.specs.FacetFaces.{AreFacetFaces, FacetFaceBefore, IsFirstOrNone, IsIn};
 
-use geo_laws::{Face, FacetTriangles};
+use geo_laws::{Face, FacetTriangles, stands_before};
 use std::alloc::Global;
 use tet_ports::{Items, NoMemory};
 
@@ -36,13 +35,6 @@ pub(crate) fn facet_faces(alloc: Global, triangles: &FacetTriangles) -> Result<F
     Ok(faces)
 }
 
-/// Whether one face stands before another: by their first numbers, then by the next ones.
-fn is_before(f: Face, g: Face) -> bool
-    ensures { (result ≡ true) ↔ FaceBefore f g }
-{
-    f.a < g.a || f.a == g.a && (f.b < g.b || f.b == g.b && f.c < g.c)
-}
-
 /// The first facet of which the face is a triangle, if there is one, by halving the part of the
 /// list in which it may be.
 pub(crate) fn first_facet(faces: &FacetFaces, face: Face) -> Option<u32>
@@ -53,7 +45,7 @@ pub(crate) fn first_facet(faces: &FacetFaces, face: Face) -> Option<u32>
     let mut high = faces.len();
     while low < high {
         let middle = low + (high - low) / 2;
-        if is_before(faces.at(middle).face, face) {
+        if stands_before(faces.at(middle).face, face) {
             low = middle + 1;
         } else {
             high = middle;

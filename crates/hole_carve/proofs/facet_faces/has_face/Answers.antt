@@ -4,13 +4,13 @@ use Rattle.hole_carve.proofs.FacetFaces.{all_before, none_before, not_elsewhere}
 use Rattle.incidence.proofs.Partners.{face_same, face_itself}
 use Rattle.hole_carve.proofs.facet_faces.has_face.Goals as goal
 
-pub loop-low-preserved-then-is_before : goal.loop-low-preserved-then-is_before
-loop-low-preserved-then-is_before c =
+pub loop-low-preserved-then-stands_before : goal.loop-low-preserved-then-stands_before
+loop-low-preserved-then-stands_before c =
     let was = c.loop-low.invariant in
     record {
       order = omega (arith, c.loop-low-test.true);
       within = was.within;
-      before = all_before c.args.faces.now c.requires c.args.face c.at.result _ (omega (arith, c.loop-low-test.true, was.within)) c.at.ensures (c.is_before.ensures.0 c.if-is_before.true);
+      before = all_before c.args.faces.now c.requires c.args.face c.at.result _ (omega (arith, c.loop-low-test.true, was.within)) c.at.ensures (c.stands_before.ensures.0 c.if-stands_before.true);
       after = was.after;
     }
 
@@ -21,7 +21,7 @@ loop-low-preserved c =
       order = omega (arith, c.loop-low-test.true);
       within = omega (arith, c.loop-low-test.true, was.within);
       before = was.before;
-      after = none_before c.args.faces.now c.requires c.args.face c.at.result _ c.at.ensures (λ h. true≢false (sym (c.is_before.ensures.1 h) ∙ c.if-is_before.false));
+      after = none_before c.args.faces.now c.requires c.args.face c.at.result _ c.at.ensures (λ h. true≢false (sym (c.stands_before.ensures.1 h) ∙ c.if-stands_before.false));
     }
 
 pub returns-then-low-len : goal.returns-then-low-len

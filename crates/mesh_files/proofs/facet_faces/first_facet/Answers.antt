@@ -5,13 +5,13 @@ use Rattle.mesh_files.proofs.FacetFaces.{all_before, none_before, first_there, n
 use Rattle.mesh_files.proofs.facet_faces.first_facet.Goals.{else-low-len-via-then-low-len+else-eq, else-low-len-via-else-low-len}
 use Rattle.mesh_files.proofs.facet_faces.first_facet.Goals as goal
 
-pub loop-low-preserved-then-is_before : goal.loop-low-preserved-then-is_before
-loop-low-preserved-then-is_before c =
+pub loop-low-preserved-then-stands_before : goal.loop-low-preserved-then-stands_before
+loop-low-preserved-then-stands_before c =
     let was = c.loop-low.invariant in
     record {
       order = omega (arith, c.loop-low-test.true);
       within = was.within;
-      before = all_before c.args.faces.now c.requires c.args.face c.at.result _ (omega (arith, c.loop-low-test.true, was.within)) c.at.ensures (c.is_before.ensures.0 c.if-is_before.true);
+      before = all_before c.args.faces.now c.requires c.args.face c.at.result _ (omega (arith, c.loop-low-test.true, was.within)) c.at.ensures (c.stands_before.ensures.0 c.if-stands_before.true);
       after = was.after;
     }
 
@@ -22,7 +22,7 @@ loop-low-preserved c =
       order = omega (arith, c.loop-low-test.true);
       within = omega (arith, c.loop-low-test.true, was.within);
       before = was.before;
-      after = none_before c.args.faces.now c.requires c.args.face c.at.result _ c.at.ensures (λ h. true≢false (sym (c.is_before.ensures.1 h) ∙ c.if-is_before.false));
+      after = none_before c.args.faces.now c.requires c.args.face c.at.result _ c.at.ensures (λ h. true≢false (sym (c.stands_before.ensures.1 h) ∙ c.if-stands_before.false));
     }
 
 pub returns-then-eq : goal.returns-then-eq
