@@ -9,7 +9,7 @@ use Rattle.sign_predicates.specs.Orientation.{volume, IsPositive}
 use Rattle.geo_laws.specs.Delaunay.{corners, all_numbers, IsOn, IsDelaunayList, AreCoplanar}
 use Rattle.geo_laws.specs.declared.tetrahedra.Tet.{Tet}
 use Rattle.geo_laws.proofs.Corners.{on_of_among, on_corner, all_within}
-use Rattle.geo_laws.proofs.Places.{A, B, C, D}
+use Rattle.sign_predicates.proofs.Places.{A, B, C, D}
 
 -- the numbers of each row are those of points
 pub rows_on_points : (ps : List Point) (rows : List Tet) → IsDelaunayList ps rows → All (IsOn ps) rows

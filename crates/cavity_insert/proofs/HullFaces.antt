@@ -11,7 +11,8 @@ use Rattle.geo_laws.specs.OrientedFace.{Face as Oriented, reversed}
 use Rattle.geo_laws.specs.declared.faces.Face.{Face}
 use Rattle.geo_laws.specs.declared.tetrahedra.Tet.{Tet as Row}
 use Rattle.geo_laws.proofs.Members.{IsMember}
-use Rattle.geo_laws.proofs.Places.{Place, A, B, C, D, number}
+use Rattle.sign_predicates.proofs.Places.{Place, A, B, C, D}
+use Rattle.geo_laws.proofs.Places.{number}
 use Rattle.geo_laws.proofs.RowFaces.{of_three, in_three, in_face_of, of_face_of, swap_second, ascends, same_face, face_at, face_place, has_face}
 use Rattle.insert_laws.specs.Insertion.{HasSameCorners, IsFaceOf, IsHullFace}
 use Rattle.insert_laws.proofs.Insert.{law_one_row}

@@ -6,12 +6,13 @@ use Rattle.std.proofs.lemmas.List.{get_or_past}
 use Rattle.std.proofs.lemmas.List.Elements.{Contains-append_left, Contains-push, Contains-push_cases}
 use Rattle.sign_predicates.specs.Point.{Point}
 use Rattle.sign_predicates.specs.Orientation.{IsPositive}
+use Rattle.geo_laws.specs.Arrangement.{IsEvenOf, HasLeastFirst, HasLeastSecond}
 use Rattle.geo_laws.specs.Delaunay.{corners, IsArranged, IsDelaunayAmong, IsDelaunayListAmong}
 use Rattle.geo_laws.specs.declared.tetrahedra.Tet.{Tet as Row}
-use Rattle.geo_laws.proofs.Arrangement.{IsEven, even_self, even_trans, even_positive, even-rotate, even-swap, even-cross, rotate, swap_both, cross}
+use Rattle.geo_laws.proofs.Arrangement.{even_of, even_positive}
 use Rattle.geo_laws.proofs.Arrangement as arrangement
 use Rattle.geo_laws.proofs.Corners.{distinct}
-use Rattle.geo_laws.proofs.Places.{A, B, C, D}
+use Rattle.sign_predicates.proofs.Places.{A, B, C, D}
 use Rattle.insert_laws.proofs.Bridge.{same_of_even, corner_to, corner_from}
 use Rattle.mesh_arena.specs.Mesh.{SlotValue, corners_at, corner_in}
 use Rattle.mesh_arena.specs.declared.slot.Corner.{Corner}
@@ -20,33 +21,9 @@ use Rattle.mesh_laws.specs.Living.{IsRowSlot, IsGhostSlot, IsDelaunayMesh}
 use Rattle.mesh_laws.proofs.Taken.{no_ghost, same_corners}
 use Rattle.mesh_laws.proofs.Rows.{same_row}
 use Rattle.mesh_laws.proofs.Across.{infinite_corner}
-use Rattle.cavity_insert.specs.Rows.{IsEvenOf, HasLeastFirst, HasLeastSecond, IsRowOf, AreRowsBelow, IsListOf}
+use Rattle.cavity_insert.specs.Rows.{IsRowOf, AreRowsBelow, IsListOf}
 
 -- ---- even arrangements
-
-even_of : (t s : Row) → ((ps : List Point) → IsEven ps t s) → IsEvenOf t s
-even_of t s even = record { same_corners = same_of_even [] t s (even []); positive = λ ps. even_positive ps t s (even ps) }
-
-pub even_swapped : (t : Row) → IsEvenOf t (swap_both t)
-even_swapped t = even_of t (swap_both t) (λ ps. even-swap ps t)
-
-pub even_crossed : (t : Row) → IsEvenOf t (cross t)
-even_crossed t = even_of t (cross t) (λ ps. even-cross ps t)
-
-pub even_crossed_swapped : (t : Row) → IsEvenOf t (swap_both (cross t))
-even_crossed_swapped t = even_of t (swap_both (cross t)) (λ ps. even_trans ps t (cross t) (swap_both (cross t)) (even-cross ps t) (even-swap ps (cross t)))
-
-pub even_rotated : (t : Row) → IsEvenOf t (rotate t)
-even_rotated t = even_of t (rotate t) (λ ps. even-rotate ps t)
-
-pub even_rotated_twice : (t : Row) → IsEvenOf t (rotate (rotate t))
-even_rotated_twice t = even_of t (rotate (rotate t)) (λ ps. even_trans ps t (rotate t) (rotate (rotate t)) (even-rotate ps t) (even-rotate ps (rotate t)))
-
-pub even_after : (t s r : Row) → IsEvenOf t s → IsEvenOf s r → IsEvenOf t r
-even_after t s r h k = record {
-  same_corners = λ i. (λ c. (k.same_corners i).0 ((h.same_corners i).0 c), λ c. (h.same_corners i).1 ((k.same_corners i).1 c));
-  positive = λ ps p. k.positive ps (h.positive ps p);
-}
 
 -- a positive row whose least numbers stand first is arranged, since its numbers differ
 arranged_of : (ps : List Point) (t : Row) → IsPositive (corners ps t) → HasLeastFirst t → HasLeastSecond t → IsArranged t
@@ -95,10 +72,11 @@ module _ (slots : List (Option SlotValue)) (ps : List Point) (ms : List ℕ) (me
   row_is : (s : ℕ) (t row : Row) (slot : IsRowSlot slots ps ms s t) → IsRowOf (row_corners t) row → row ≡ slot.row
   row_is s t row slot is =
       let even : IsEvenOf t row = subst (λ (z : Row). IsEvenOf z row) (same_row is.four t (sym is.is)) is.even in
-      let positive : IsPositive (corners ps row) = even.positive ps slot.is_positive in
+      let positive : IsPositive (corners ps row) = even_positive ps t row (even_of ps t row even) slot.is_positive in
+      let same = same_of_even ps t row (even_of ps t row even) in
       arrangement.same_row ps row slot.row positive slot.is_row.is_positive (arranged_of ps row positive is.first is.second) slot.is_row.is_arranged
-      (λ i c. corner_to t slot.row slot.same_corners i (corner_from t row even.same_corners i c))
-      (λ i c. corner_to t row even.same_corners i (corner_from t slot.row slot.same_corners i c))
+      (λ i c. corner_to t slot.row slot.same_corners i (corner_from t row same i c))
+      (λ i c. corner_to t row same i (corner_from t slot.row slot.same_corners i c))
 
   -- a slot of a tetrahedron of points is the slot of a row
   pub slot_of_row : (s : ℕ) (t : Row) → corners_at slots s ≡ Some (row_corners t) → IsRowSlot slots ps ms s t

@@ -6,7 +6,8 @@ use Rattle.sign_predicates.specs.Point.{Point}
 use Rattle.sign_predicates.specs.Orientation.{IsPositive}
 use Rattle.geo_laws.specs.Delaunay.{corners, numbers, AreNumbersOf, IsArranged, IsDelaunayAmong}
 use Rattle.geo_laws.specs.declared.tetrahedra.Tet.{Tet as Row}
-use Rattle.geo_laws.proofs.Places.{Place, A, B, C, D, number}
+use Rattle.sign_predicates.proofs.Places.{Place, A, B, C, D}
+use Rattle.geo_laws.proofs.Places.{number}
 use Rattle.std.proofs.lemmas.List.{get_or_past}
 use Rattle.geo_laws.proofs.Corners.{IsCorner, contains_corner, distinct}
 use Rattle.geo_laws.proofs.Corners.{corner_of as corner_of_row}

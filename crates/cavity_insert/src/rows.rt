@@ -7,12 +7,12 @@ ghost use Rattle.geo_laws.specs.declared.tetrahedra.Tet.{Tet as Row};
 ghost use Rattle.mesh_arena.specs.Mesh.{corners_at, corner_list};
 ghost use Rattle.point_locate.specs.Place.{row_corners, IsAt};
 ghost use Rattle.mesh_laws.specs.Living.{IsDelaunayMesh};
-ghost use Rattle.cavity_insert.specs.Rows.{IsEvenOf, HasLeastFirst, HasLeastSecond, IsRowOf};
+ghost use Rattle.cavity_insert.specs.Rows.{IsRowOf};
 ghost use Rattle.cavity_insert.specs.Rows.{AreRowsBelow, IsListOf};
 ghost use Rattle.cavity_insert.specs.RowKeys.{row_of_key, rows_in};
 
 use crate::row_keys::{RowKey, key_of, row_of_key};
-use geo_laws::{Tet, TetList};
+use geo_laws::{Tet, TetList, arranged};
 use mesh_arena::{Arena, SlotCorners};
 use point_locate::{Shape, shape_of};
 use std::alloc::Global;
@@ -33,7 +33,9 @@ impl SlotRows {
         match self {
             SlotRows::Keys(mut keys) => {
                 keys.keep_distinct();
-                rows_of_keys(alloc, &keys)
+                let rows = rows_of_keys(alloc, &keys)?;
+                keys.let_go();
+                Ok(rows)
             }
             SlotRows::Rows(mut rows) => {
                 rows.keep_distinct();
@@ -122,67 +124,7 @@ fn row_of(t: SlotCorners) -> Option<Tet>
         (IsRowOf (corner_list t)) }
 {
     match shape_of(t) {
-        Shape::Row(four) => Some(least_second(least_first(four))),
+        Shape::Row(four) => Some(arranged(four)),
         Shape::Ghost(_) => None,
-    }
-}
-
-/// The least number first: two exchanges of corners keep the orientation.
-fn least_first(t: Tet) -> Tet
-    ensures even { IsEvenOf t result }
-    ensures least { HasLeastFirst result }
-{
-    let Tet { a, b, c, d } = t;
-    let least = a.min(b).min(c).min(d);
-    if a == least {
-        t
-    } else if b == least {
-        Tet {
-            a: b,
-            b: a,
-            c: d,
-            d: c,
-        }
-    } else if c == least {
-        Tet {
-            a: c,
-            b: d,
-            c: a,
-            d: b,
-        }
-    } else {
-        Tet {
-            a: d,
-            b: c,
-            c: b,
-            d: a,
-        }
-    }
-}
-
-/// The next least number second: a turn of three corners keeps the orientation.
-fn least_second(t: Tet) -> Tet
-    ensures even { IsEvenOf t result }
-    ensures first { HasLeastFirst t → HasLeastFirst result }
-    ensures least { HasLeastSecond result }
-{
-    let Tet { a, b, c, d } = t;
-    let least = b.min(c).min(d);
-    if b == least {
-        t
-    } else if c == least {
-        Tet {
-            a,
-            b: c,
-            c: d,
-            d: b,
-        }
-    } else {
-        Tet {
-            a,
-            b: d,
-            c: b,
-            d: c,
-        }
     }
 }

@@ -6,10 +6,12 @@ use lib.IntN.{*ℤ-one}
 use Rattle.exact_algebra.proofs.Signs.{pos_same}
 use Rattle.sign_predicates.specs.Point.{Point, RationalPoint, as_rational, origin}
 use Rattle.sign_predicates.specs.Orientation.{Triangle, volume, side, side_rational, IsPositive, StrictlyInside}
+use Rattle.geo_laws.specs.Arrangement.{rotate, swap_both, IsEvenOf, itself, rotated, swapped}
 use Rattle.geo_laws.specs.Delaunay.{point, corners, IsArranged}
 use Rattle.geo_laws.specs.Height.{height, height_at, residual_at}
 use Rattle.geo_laws.specs.declared.tetrahedra.Tet.{Tet}
-use Rattle.geo_laws.proofs.Places.{Place, A, B, C, D, opposite, number, over_places, sum-same, at_face, all_faces}
+use Rattle.sign_predicates.proofs.Places.{Place, A, B, C, D, opposite}
+use Rattle.geo_laws.proofs.Places.{number, over_places, sum-same, at_face, all_faces}
 use Rattle.geo_laws.proofs.Determinants.{weights-sum, turned, side_rational-turned, side_rational-as_rational, orient-swap_cd}
 use Rattle.geo_laws.proofs.Corners.{IsCorner, distinct}
 use Rattle.geo_laws.proofs.Ties.{order}
@@ -95,19 +97,11 @@ even_height ps t s h first x k =
     let part = λ (r : Tet) (u : Place). side_rational (opposite (corners ps r) u) x *ℤ height first (number r u) k in
     sym (h.sum_is (part t)) ∙ sum-same (λ u. part t (h.to u)) (part s) (λ u j. sym (h.side_is u x) j *ℤ height first (sym (h.number_is u) j) k)
 
--- ---- three permutations, which make all
-
--- the first two corners change places, and the last two
-abbrev pub swap_both : Tet → Tet
-swap_both t = record { a = t.b; b = t.a; c = t.d; d = t.c }
+-- ---- permutations, of which two make all
 
 -- the first two corners change places with the last two
 abbrev pub cross : Tet → Tet
 cross t = record { a = t.c; b = t.d; c = t.a; d = t.b }
-
--- the last three corners go round
-abbrev pub rotate : Tet → Tet
-rotate t = record { a = t.a; b = t.c; c = t.d; d = t.b }
 
 -- a face that is turned twice has the same sides
 twice : (f : Triangle) (x : RationalPoint) → side_rational (turned (turned f)) x ≡ side_rational f x
@@ -169,33 +163,23 @@ even-swap ps t = record { to = swapping; back = swapping; to_back = to_back; bac
     side_is C x = side_rational-turned (opposite (corners ps t) D) x
     side_is D x = twice (opposite (corners ps t) C) x
 
--- where each corner of `cross t` stands in t
-abbrev crossing : Place → Place
-crossing A = C
-crossing B = D
-crossing C = A
-crossing D = B
+-- an even arrangement of a row is such a permutation
+pub even_of : (ps : List Point) (t s : Tet) → IsEvenOf t s → IsEven ps t s
+even_of ps t s itself = even_self ps t
+even_of ps t r (rotated s h) = even_trans ps t s (rotate s) (even_of ps t s h) (even-rotate ps s)
+even_of ps t r (swapped s h) = even_trans ps t s (swap_both s) (even_of ps t s h) (even-swap ps s)
+
+-- arranged evenly again
+pub even_after : (t s r : Tet) → IsEvenOf t s → IsEvenOf s r → IsEvenOf t r
+even_after t s r h itself = h
+even_after t s r h (rotated q k) = rotated q (even_after t s q h k)
+even_after t s r h (swapped q k) = swapped q (even_after t s q h k)
+
+pub crossed : (t : Tet) → IsEvenOf t (cross t)
+crossed t = rotated _ (rotated _ (swapped _ (rotated t itself)))
 
 pub even-cross : (ps : List Point) (t : Tet) → IsEven ps t (cross t)
-even-cross ps t = record { to = crossing; back = crossing; to_back = to_back; back_to = to_back; number_is = number_is; side_is = side_is; sum_is = λ f. omega (arith, ints) }
-  where
-    to_back : (u : Place) → crossing (crossing u) ≡ u
-    to_back A = refl
-    to_back B = refl
-    to_back C = refl
-    to_back D = refl
-
-    number_is : (u : Place) → number (cross t) u ≡ number t (crossing u)
-    number_is A = refl
-    number_is B = refl
-    number_is C = refl
-    number_is D = refl
-
-    side_is : (u : Place) (x : RationalPoint) → side_rational (opposite (corners ps (cross t)) u) x ≡ side_rational (opposite (corners ps t) (crossing u)) x
-    side_is A x = side_rational-turned (opposite (corners ps t) C) x
-    side_is B x = twice (opposite (corners ps t) D) x
-    side_is C x = twice (opposite (corners ps t) A) x
-    side_is D x = side_rational-turned (opposite (corners ps t) B) x
+even-cross ps t = even_of ps t (cross t) (crossed t)
 
 -- ---- the least arrangement
 

@@ -8,9 +8,9 @@ use Rattle.sign_predicates.specs.Orientation.{volume, side, IsPositive}
 use Rattle.geo_laws.specs.Delaunay.{point, corners, numbers, numbers_below, all_numbers, IsOn, IsAmong, AreNumbersOf}
 use Rattle.geo_laws.specs.Simplex.{has_number}
 use Rattle.geo_laws.specs.declared.tetrahedra.Tet.{Tet}
-use Rattle.geo_laws.proofs.Determinants.{side-own, side-other}
 use Rattle.geo_laws.proofs.Members.{IsMember, here, there, contains_of, member_of, in_range, range_bounds, any_true}
-use Rattle.geo_laws.proofs.Places.{Place, A, B, C, D, IsOther, opposite, number, corner-point}
+use Rattle.sign_predicates.proofs.Places.{Place, A, B, C, D, IsOther, opposite, side-own, side-other}
+use Rattle.geo_laws.proofs.Places.{number, corner-point}
 
 -- i is the number of a corner
 abbrev pub IsCorner : Tet → ℕ → Type 0

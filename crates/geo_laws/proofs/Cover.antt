@@ -14,7 +14,8 @@ use Rattle.geo_laws.specs.Hull.{InHullAmong, OffPlanes, rows_round, CoversHullOn
 use Rattle.geo_laws.specs.Simplex.{RowsProperlyMet}
 use Rattle.geo_laws.specs.Laws.{KeepsSide, IsTriangulation, CoverLaw}
 use Rattle.geo_laws.specs.declared.tetrahedra.Tet.{Tet}
-use Rattle.geo_laws.proofs.Places.{Place, A, B, C, D, opposite, at_planes, at_face, all_faces}
+use Rattle.sign_predicates.proofs.Places.{Place, A, B, C, D, opposite}
+use Rattle.geo_laws.proofs.Places.{at_planes, at_face, all_faces}
 use Rattle.geo_laws.proofs.Determinants.{spans}
 use Rattle.geo_laws.proofs.Members.{IsMember, here, there, found_of, member_of, at_place, contains_of, each_true}
 use Rattle.geo_laws.proofs.Ascending.{Rises, more, before_itself, rises_of}

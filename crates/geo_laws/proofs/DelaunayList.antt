@@ -9,7 +9,8 @@ use Rattle.sign_predicates.specs.Orientation.{volume}
 use Rattle.geo_laws.specs.Delaunay.{corners, numbers, is_outside_of, all_numbers, IsArranged, IsDelaunay, IsDelaunayList, IsDelaunayListAmong, RowBefore, numbers_below, numbers_from, has_corner, is_delaunay, fours, delaunay_rows}
 use Rattle.geo_laws.specs.Laws.{DelaunayListLaw, IsTriangulation}
 use Rattle.geo_laws.specs.declared.tetrahedra.Tet.{Tet}
-use Rattle.geo_laws.proofs.Places.{Place, A, B, C, D, number}
+use Rattle.sign_predicates.proofs.Places.{Place, A, B, C, D}
+use Rattle.geo_laws.proofs.Places.{number}
 use Rattle.geo_laws.proofs.Members.{IsMember, in_map, map_cases, in_flat_map, flat_map_cases, in_filter, filter_cases, in_range, range_bounds, contains_of, member_of, both_true, either_true, some_true, each_true, all_true, or_true}
 use Rattle.geo_laws.proofs.Ascending.{Rises, rises-range, rises-map, rises-flat_map, rises-filter, pairs_of, ascending-same}
 use Rattle.geo_laws.proofs.Corners.{IsCorner, corner_or_not, contains_corner, found, contains_below, below_of, all_within, corner_among, among_of_corners}

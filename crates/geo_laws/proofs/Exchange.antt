@@ -13,7 +13,8 @@ use Rattle.geo_laws.specs.Delaunay.{point, corners}
 use Rattle.geo_laws.specs.Height.{height, residual_at, places}
 use Rattle.geo_laws.specs.Laws.{IsGeneric}
 use Rattle.geo_laws.specs.declared.tetrahedra.Tet.{Tet}
-use Rattle.geo_laws.proofs.Places.{Place, A, B, C, D, IsOther, same_or_other, second, third, fourth, other-second, other-third, other-fourth, opposite, number, with_number, corners-with_number, number-with, number-with_other, opposite-replaced, at_planes, at_face, all_faces, over_places, sum-front}
+use Rattle.sign_predicates.proofs.Places.{Place, A, B, C, D, IsOther, same_or_other, opposite}
+use Rattle.geo_laws.proofs.Places.{second, third, fourth, other-second, other-third, other-fourth, number, with_number, corners-with_number, number-with, number-with_other, opposite-replaced, at_planes, at_face, all_faces, over_places, sum-front}
 use Rattle.geo_laws.proofs.Determinants.{sides-sum, spans, volume-replaced, minor, weight-replaced}
 use Rattle.geo_laws.proofs.Members.{IsMember, here, there}
 use Rattle.geo_laws.proofs.Lexicographic.{IsLexAbove, at_least_same, not_below}

@@ -10,7 +10,8 @@ use Rattle.sign_predicates.specs.Orientation.{volume, IsPositive, StrictlyInside
 use Rattle.geo_laws.specs.Delaunay.{corners}
 use Rattle.geo_laws.specs.Height.{height_at, places}
 use Rattle.geo_laws.specs.declared.tetrahedra.Tet.{Tet}
-use Rattle.geo_laws.proofs.Places.{Place, A, B, C, D, opposite, number, at_face, all_faces, each_or_not}
+use Rattle.sign_predicates.proofs.Places.{Place, A, B, C, D, opposite}
+use Rattle.geo_laws.proofs.Places.{number, at_face, all_faces, each_or_not}
 use Rattle.geo_laws.proofs.Members.{IsMember, here, there, in_flat_map, flat_map_cases, in_map, map_cases, contains_of, member_of}
 use Rattle.geo_laws.proofs.Corners.{contains_or_not}
 use Rattle.geo_laws.proofs.Lexicographic.{IsZeroAt, IsLexAbove, IsLexAtLeast, lex_sign_of, at_least_add, at_least_scale, at_least_same, at_least_unscale, lex_same}

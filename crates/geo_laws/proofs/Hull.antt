@@ -8,7 +8,8 @@ use Rattle.geo_laws.specs.Delaunay.{corners}
 use Rattle.geo_laws.specs.Hull.{InHullAmong}
 use Rattle.geo_laws.specs.Laws.{HullLaw}
 use Rattle.geo_laws.specs.declared.tetrahedra.Tet.{Tet}
-use Rattle.geo_laws.proofs.Places.{Place, opposite, each_or_not, at_face, all_faces}
+use Rattle.sign_predicates.proofs.Places.{Place, opposite}
+use Rattle.geo_laws.proofs.Places.{each_or_not, at_face, all_faces}
 use Rattle.geo_laws.proofs.Members.{IsMember, here, there}
 use Rattle.geo_laws.proofs.Corners.{corner_among, among_of_corners}
 use Rattle.geo_laws.proofs.Heights.{above_or_not, both_or_not, all_fours, in_all_fours, of_all_fours}

@@ -10,7 +10,8 @@ use Rattle.geo_laws.specs.Hull.{InHullAmong}
 use Rattle.geo_laws.specs.Height.{IsLexPositive, lifted, residual_at, residual, places, IsLowestAmong}
 use Rattle.geo_laws.specs.Laws.{IsGeneric, LeastHeightLaw, ResidualLaw}
 use Rattle.geo_laws.specs.declared.tetrahedra.Tet.{Tet}
-use Rattle.geo_laws.proofs.Places.{opposite, at_face, all_faces}
+use Rattle.sign_predicates.proofs.Places.{opposite}
+use Rattle.geo_laws.proofs.Places.{at_face, all_faces}
 use Rattle.geo_laws.proofs.Members.{there, in_map, member_of}
 use Rattle.geo_laws.proofs.Corners.{corner_of, contains_corner, contains_below, corner_among, among_of_corners}
 use Rattle.geo_laws.proofs.Lexicographic.{IsZeroAt, IsLexAbove, lex_sign_of, lex_same, zero_at}

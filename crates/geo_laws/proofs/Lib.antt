@@ -22,3 +22,4 @@ pub mod DelaunayList
 pub mod Worked
 pub mod Complexes
 pub mod RowOrder
+pub mod Sorting

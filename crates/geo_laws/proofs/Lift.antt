@@ -14,7 +14,8 @@ use Rattle.geo_laws.specs.Delaunay.{point, corners, numbers, numbers_below, as_n
 use Rattle.geo_laws.specs.Height.{IsLexPositive, lifted, residual_at, residual, IsLowestAmong}
 use Rattle.geo_laws.specs.Laws.{LiftLaw}
 use Rattle.geo_laws.specs.declared.tetrahedra.Tet.{Tet}
-use Rattle.geo_laws.proofs.Places.{Place, A, B, C, D, opposite, number, over_places, sum-only, sum-none}
+use Rattle.sign_predicates.proofs.Places.{Place, A, B, C, D, opposite}
+use Rattle.geo_laws.proofs.Places.{number, over_places, sum-only, sum-none}
 use Rattle.geo_laws.proofs.Determinants.{sphere-lift}
 use Rattle.geo_laws.proofs.Members.{IsMember, here, there, in_cons, in_map, map_cases, in_filter, filter_cases, both_true, either_true, some_true, any_true, each_true, all_true, or_true}
 use Rattle.geo_laws.proofs.Corners.{IsCorner, same_or_not, corner_or_not, no_corner, distinct, on_corner, on_of_among}

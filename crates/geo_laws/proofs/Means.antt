@@ -7,7 +7,8 @@ use Rattle.sign_predicates.specs.Orientation.{Triangle, normal, side, side_ratio
 use Rattle.geo_laws.specs.Delaunay.{point, numbers}
 use Rattle.geo_laws.specs.Simplex.{weighted_sum, IsMean}
 use Rattle.geo_laws.specs.declared.tetrahedra.Tet.{Tet}
-use Rattle.geo_laws.proofs.Places.{Place, A, B, C, D, over_places, number}
+use Rattle.sign_predicates.proofs.Places.{Place, A, B, C, D}
+use Rattle.geo_laws.proofs.Places.{over_places, number}
 use Rattle.geo_laws.proofs.Determinants.{offset, side-linear, side_rational-linear, mean-affine}
 use Rattle.std.proofs.lemmas.List.Sums.{sum_by-cons}
 use Rattle.exact_algebra.proofs.Ring.{var, ring, same, ◌⊕◌, ◌⊖◌, ◌⊗◌}

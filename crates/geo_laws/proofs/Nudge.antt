@@ -10,8 +10,9 @@ use Rattle.sign_predicates.specs.Point.{RationalPoint, SomeRational, as_rational
 use Rattle.sign_predicates.specs.Orientation.{Triangle, volume, normal, side, side_rational, IsPositive, StrictlyInside, InClosed, SpansPlane}
 use Rattle.sign_predicates.specs.declared.tetrahedron.Corners.{Corners}
 use Rattle.geo_laws.specs.Laws.{KeepsSide, NudgeLaw}
-use Rattle.geo_laws.proofs.Places.{Place, A, B, C, D, IsOther, same_or_other, corner, opposite, at_face, all_faces, sum-none}
-use Rattle.geo_laws.proofs.Determinants.{combined, middle, off_plane, side-own, side-other, side-middle, weights-side, side_rational-combined, side_rational-as_rational, side_rational-off_plane}
+use Rattle.sign_predicates.proofs.Places.{Place, A, B, C, D, IsOther, same_or_other, corner, opposite, side-own, side-other}
+use Rattle.geo_laws.proofs.Places.{at_face, all_faces, sum-none}
+use Rattle.geo_laws.proofs.Determinants.{combined, middle, off_plane, side-middle, weights-side, side_rational-combined, side_rational-as_rational, side_rational-off_plane}
 
 -- ---- a corner off a plane
 

@@ -14,7 +14,8 @@ use Rattle.geo_laws.specs.Simplex.{weighted_sum, IsMean, has_number, ProperlyMet
 use Rattle.geo_laws.specs.Height.{height, residual_at, places, lifted, IsLowestAmong}
 use Rattle.geo_laws.specs.Laws.{RadicalLaw, IsMetOrSame}
 use Rattle.geo_laws.specs.declared.tetrahedra.Tet.{Tet}
-use Rattle.geo_laws.proofs.Places.{Place, A, B, C, D, other_back, opposite, number, over_places, sum-same, sum-only, at_face}
+use Rattle.sign_predicates.proofs.Places.{Place, A, B, C, D, opposite}
+use Rattle.geo_laws.proofs.Places.{other_back, number, over_places, sum-same, sum-only, at_face}
 use Rattle.geo_laws.proofs.Determinants.{weights-sum, weights-x, weights-y, weights-z}
 use Rattle.geo_laws.proofs.Members.{IsMember}
 use Rattle.geo_laws.proofs.Corners.{IsCorner, member_among, member_corner, corner_or_not, found, distinct, side-own_point, side-other_point}

@@ -9,7 +9,7 @@ use Rattle.exact_algebra.proofs.Signs.{pred_of, mul_pos}
 use Rattle.sign_predicates.specs.Point.{Point, RationalPoint, as_rational}
 use Rattle.geo_laws.specs.Delaunay.{point}
 use Rattle.geo_laws.specs.Simplex.{weighted_sum, InSimplex, has_number, common_corners, ProperlyMet}
-use Rattle.geo_laws.proofs.Places.{Place, A, B, C, D}
+use Rattle.sign_predicates.proofs.Places.{Place, A, B, C, D}
 use Rattle.geo_laws.proofs.Means.{weighted_sum-const}
 use Rattle.geo_laws.proofs.Members.{IsMember, here, there, in_filter, filter_cases, some_true, any_true}
 

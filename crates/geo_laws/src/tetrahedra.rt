@@ -1,4 +1,6 @@
 //! Tetrahedra by the numbers of their corners, and lists of points and of tetrahedra.
+ghost use Rattle.geo_laws.specs.Arrangement.{IsEvenOf, HasLeastFirst, HasLeastSecond};
+
 use sign_predicates::GridPoint;
 use tet_ports::Items;
 
@@ -17,3 +19,74 @@ pub type Points = Items<GridPoint>;
 
 /// A list of tetrahedra.
 pub type TetList = Items<Tet>;
+
+/// The least even arrangement of a row: the least number stands first, and the next least of the
+/// others second. A row keeps its corners and its orientation so.
+#[inline]
+pub fn arranged(t: Tet) -> Tet
+    ensures even { IsEvenOf t result }
+    ensures first { HasLeastFirst result }
+    ensures second { HasLeastSecond result }
+{
+    least_second(least_first(t))
+}
+
+/// The least number first: two exchanges of corners keep the orientation.
+fn least_first(t: Tet) -> Tet
+    ensures even { IsEvenOf t result }
+    ensures least { HasLeastFirst result }
+{
+    let Tet { a, b, c, d } = t;
+    let least = a.min(b).min(c).min(d);
+    if a == least {
+        t
+    } else if b == least {
+        Tet {
+            a: b,
+            b: a,
+            c: d,
+            d: c,
+        }
+    } else if c == least {
+        Tet {
+            a: c,
+            b: d,
+            c: a,
+            d: b,
+        }
+    } else {
+        Tet {
+            a: d,
+            b: c,
+            c: b,
+            d: a,
+        }
+    }
+}
+
+/// The next least number second: a turn of three corners keeps the orientation.
+fn least_second(t: Tet) -> Tet
+    ensures even { IsEvenOf t result }
+    ensures first { HasLeastFirst t → HasLeastFirst result }
+    ensures least { HasLeastSecond result }
+{
+    let Tet { a, b, c, d } = t;
+    let least = b.min(c).min(d);
+    if b == least {
+        t
+    } else if c == least {
+        Tet {
+            a,
+            b: c,
+            c: d,
+            d: b,
+        }
+    } else {
+        Tet {
+            a,
+            b: d,
+            c: b,
+            d: c,
+        }
+    }
+}

@@ -2,6 +2,7 @@
 -- middle of the last face crosses an edge, and the face across that edge is seen too and nearer to its end.
 use Rattle.exact_algebra.proofs.Signs.{nonneg_of_pos}
 use Rattle.geo_laws.proofs.Heights.{order-trans}
+use Rattle.geo_laws.specs.Arrangement.{}
 use Rattle.geo_laws.proofs.Arrangement.{even_residual}
 use Rattle.std.proofs.Common.{◌≡◌, ◌≢◌, ◌⊎◌, inl, inr, ℕ, zero, suc, ℤ, pos, neg_ℤ, ◌-ℤ◌, ◌*ℤ◌, ◌<ℤ◌, List, length, ap, sym, subst, ◌∙◌, arith}
 use Rattle.std.specs.Prelude.{Contains}
@@ -17,7 +18,8 @@ use Rattle.insert_laws.proofs.Bridge
 use Rattle.insert_laws.proofs.Identities as identity
 use Rattle.geo_laws.proofs.Lexicographic.{IsLexBelow, sum_first}
 use Rattle.insert_laws.proofs.Pencil.{IsBare, IsFirst, first_of, neighbor, above_not_zero as positive_not_zero, apart_sides}
-use Rattle.geo_laws.proofs.Arrangement.{IsEven, even_trans, even-swap, even-rotate, swap_both, rotate}
+use Rattle.geo_laws.specs.Arrangement.{swap_both, rotate}
+use Rattle.geo_laws.proofs.Arrangement.{IsEven, even_trans, even-swap, even-rotate}
 use Rattle.insert_laws.proofs.FacePencil.{side_of, gap_of}
 use Rattle.insert_laws.proofs.EdgePencil as edge
 use Rattle.insert_laws.proofs.EdgePencil.{edge_face, edge_side, edge_gap, edge_places, IsHullOn, IsSome}

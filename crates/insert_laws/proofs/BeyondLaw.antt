@@ -11,7 +11,7 @@ use Rattle.geo_laws.specs.Height.{height, lifted}
 use Rattle.geo_laws.specs.declared.tetrahedra.Tet.{Tet}
 use Rattle.geo_laws.proofs.Determinants as ring
 use Rattle.exact_algebra.proofs.Signs.{sign_of, mul_pos, multiple_above}
-use Rattle.geo_laws.proofs.Places.{A, B, C, D}
+use Rattle.sign_predicates.proofs.Places.{A, B, C, D}
 use Rattle.geo_laws.proofs.Corners.{same_or_not}
 use Rattle.geo_laws.proofs.Lexicographic.{IsLexAbove, IsLexAtLeast, lex_same, lex_scale, above_add, at_least_add, above_not_zero, zero_everywhere}
 use Rattle.geo_laws.proofs.Lexicographic.{at_least_same}
@@ -21,11 +21,12 @@ use Rattle.insert_laws.specs.Insertion.{IsNew, IsFaceOf, IsHullFace, Sees, edge_
 use Rattle.insert_laws.proofs.Identities as identity
 use Rattle.geo_laws.proofs.Lexicographic.{at_least_multiple}
 use Rattle.insert_laws.proofs.Pencil.{IsBare}
-use Rattle.geo_laws.proofs.Arrangement.{even_self, even_trans, even_back, even-swap, even-cross, cross, swap_both}
+use Rattle.geo_laws.specs.Arrangement.{swap_both}
+use Rattle.geo_laws.proofs.Arrangement.{even_self, even_trans, even_back, even-swap, even-cross, cross}
 use Rattle.insert_laws.proofs.FacePencil.{side_of}
 use Rattle.insert_laws.proofs.Bridge
 use Rattle.insert_laws.proofs.EdgePencil as edge
-use Rattle.insert_laws.proofs.EdgePencil.{edge_face, edge_side, edge_gap, edge_places, IsHullOn, IsSome}
+use Rattle.insert_laws.proofs.EdgePencil.{edge_side, edge_places, IsHullOn, IsSome}
 use Rattle.insert_laws.proofs.Insert as insert
 use Rattle.insert_laws.proofs.Hull as hull
 use Rattle.insert_laws.proofs.HullLaws as laws

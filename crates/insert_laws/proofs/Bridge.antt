@@ -12,7 +12,7 @@ use Rattle.geo_laws.specs.Delaunay.{point, corners, as_numbers, IsArranged, IsDe
 use Rattle.geo_laws.specs.Height.{lifted, residual_at, places}
 use Rattle.geo_laws.specs.declared.tetrahedra.Tet.{Tet}
 use Rattle.geo_laws.proofs.Corners.{IsCorner, corner_of}
-use Rattle.geo_laws.proofs.Places.{A, B, C, D}
+use Rattle.sign_predicates.proofs.Places.{A, B, C, D}
 use Rattle.geo_laws.proofs.Corners.{on_of_corners}
 use Rattle.geo_laws.proofs.Corners.{contains_corner}
 use Rattle.geo_laws.proofs.Lexicographic.{IsLexAbove, lex_same}

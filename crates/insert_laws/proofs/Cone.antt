@@ -18,7 +18,8 @@ use Rattle.geo_laws.proofs.Determinants.{combined, side_rational-combined, side_
 use Rattle.geo_laws.proofs.Lift.{lowest_of}
 use Rattle.geo_laws.proofs.Means.{weighted_sum-const, weighted_sum-numbers}
 use Rattle.geo_laws.proofs.Members.{member_of}
-use Rattle.geo_laws.proofs.Places.{Place, A, B, C, D, IsOther, same_or_other, opposite, number, over_places}
+use Rattle.sign_predicates.proofs.Places.{Place, A, B, C, D, IsOther, same_or_other, opposite}
+use Rattle.geo_laws.proofs.Places.{number, over_places}
 use Rattle.geo_laws.proofs.Radical.{sides_mean, weight-own}
 use Rattle.insert_laws.specs.Cone.{IsInCone, ConeLaw}
 use Rattle.insert_laws.proofs.Bridge.{even_of_same}

@@ -1,6 +1,6 @@
 -- The tetrahedra on a face of a list of points are a pencil, by the sides of the points and their residuals.
 use Rattle.geo_laws.proofs.Corners.{IsCorner, corner_of}
-use Rattle.geo_laws.proofs.Places.{A, B, C, D}
+use Rattle.sign_predicates.proofs.Places.{A, B, C, D, side-other}
 use Rattle.std.proofs.Common.{◌≡◌, ◌≢◌, ℕ, suc, ℤ, neg_ℤ, List, length, ap, sym, ◌∙◌, arith}
 use Rattle.sign_predicates.specs.Point.{Point}
 use Rattle.sign_predicates.specs.Orientation.{volume, side}
@@ -40,9 +40,9 @@ face_pencil ps f = record {
   relation = λ o q e k. identity.pencil (triangle ps f) (point ps o) (point ps q) (point ps e) (height (lifted ps) f.a k) (height (lifted ps) f.b k) (height (lifted ps) f.c k) (height (lifted ps) o k) (height (lifted ps) q k) (height (lifted ps) e k);
   opposite = λ o e k. identity.opposite (triangle ps f) (point ps o) (point ps e) (height (lifted ps) f.a k) (height (lifted ps) f.b k) (height (lifted ps) f.c k) (height (lifted ps) o k) (height (lifted ps) e k);
   other = λ e h. record {
-    not_a = λ d. h (ap (side_of ps f) d ∙ ring.side-other (corners ps (beside f e)) D A tt);
-    not_b = λ d. h (ap (side_of ps f) d ∙ ring.side-other (corners ps (beside f e)) D B tt);
-    not_c = λ d. h (ap (side_of ps f) d ∙ ring.side-other (corners ps (beside f e)) D C tt);
+    not_a = λ d. h (ap (side_of ps f) d ∙ side-other (corners ps (beside f e)) D A tt);
+    not_b = λ d. h (ap (side_of ps f) d ∙ side-other (corners ps (beside f e)) D B tt);
+    not_c = λ d. h (ap (side_of ps f) d ∙ side-other (corners ps (beside f e)) D C tt);
   };
   apart = λ o e l h d so z. so (sym (residual-own_place ps (lifted ps) (beside f o) e h.not_a h.not_b h.not_c d)
       ∙ zero_at (gap_of ps f o e) (places (length ps)) (suc e) z (there (in_map suc e (numbers_below (length ps)) (in_range 0 (length ps) e (omega arith) (omega arith)))));

@@ -6,8 +6,8 @@ use Rattle.sign_predicates.specs.Point.{Point}
 use Rattle.sign_predicates.specs.Orientation.{IsPositive}
 use Rattle.geo_laws.specs.Delaunay.{corners, numbers, IsArranged, IsDelaunayAmong}
 use Rattle.geo_laws.specs.declared.tetrahedra.Tet.{Tet}
-use Rattle.geo_laws.proofs.Places.{Place, A, B, C, D, number}
-use Rattle.geo_laws.proofs.Determinants.{side-other}
+use Rattle.sign_predicates.proofs.Places.{Place, A, B, C, D, side-other}
+use Rattle.geo_laws.proofs.Places.{number}
 use Rattle.geo_laws.proofs.Corners.{IsCorner, corner_of, corner_among, distinct}
 use Rattle.geo_laws.proofs.Arrangement.{at_least_a, at_least_b, last_two, same_row}
 use Rattle.geo_laws.specs.OrientedFace.{Face, reversed, beside}

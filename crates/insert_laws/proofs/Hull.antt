@@ -12,7 +12,7 @@ use Rattle.geo_laws.proofs.Determinants as ring
 use Rattle.exact_algebra.proofs.Signs.{sign_of, zero_of_mul, mul_pos}
 use lib.IntN.{*ℤ-zero}
 use Rattle.geo_laws.proofs.Corners.{IsCorner}
-use Rattle.geo_laws.proofs.Places.{A, B, C, D}
+use Rattle.sign_predicates.proofs.Places.{A, B, C, D}
 use Rattle.geo_laws.proofs.Lexicographic.{IsLexAbove, lex_same}
 use Rattle.geo_laws.specs.OrientedFace.{Face, triangle, reversed, IsOther}
 use Rattle.insert_laws.specs.Insertion.{IsHullFace, edge_and, HullEdgeLaw}

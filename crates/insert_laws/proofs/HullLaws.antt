@@ -1,6 +1,6 @@
 -- The hull faces after a point was added: those with it stand over the horizon, and those without it are the ones that it didn't see.
 use Rattle.geo_laws.proofs.Corners.{AreDistinct}
-use Rattle.geo_laws.proofs.Places.{A, B, C}
+use Rattle.sign_predicates.proofs.Places.{A, B, C}
 use Rattle.std.proofs.Common.{◌≡◌, ◌≢◌, ◌⊎◌, inl, inr, ℕ, pos, neg_ℤ, ◌<ℤ◌, List, ◌∷◌, length, sym, subst, ◌∙◌, refl}
 use Rattle.std.specs.Prelude.{Contains, ◌↔◌}
 use Rattle.sign_predicates.specs.Point.{Point, RationalPoint}

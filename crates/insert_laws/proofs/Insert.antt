@@ -2,6 +2,7 @@
 -- face shows that the new point is on the cavity's side and that every point is above the new tetrahedron; and back, from the first point over the face.
 use Rattle.insert_laws.proofs.Identities as identity
 use Rattle.geo_laws.proofs.Corners.{AreDistinct}
+use Rattle.geo_laws.specs.Arrangement.{}
 use Rattle.geo_laws.proofs.Arrangement.{even_residual, corner_to as even_corner_to, corner_from as even_corner_from}
 use Rattle.std.proofs.Common.{◌≡◌, ◌≢◌, ◌⊎◌, inl, inr, ℕ, ℤ, pos, neg_ℤ, ◌+ℤ◌, ◌*ℤ◌, ◌<ℤ◌, List, ◌∷◌, length, refl, sym, subst, ◌∙◌, arith}
 use Rattle.std.specs.Prelude.{Contains, ◌↔◌}
@@ -14,7 +15,7 @@ use Rattle.geo_laws.specs.declared.tetrahedra.Tet.{Tet}
 use Rattle.geo_laws.proofs.Determinants as ring
 use Rattle.exact_algebra.proofs.Signs.{sign_of, zero_of_mul}
 use Rattle.geo_laws.proofs.Corners.{IsCorner, corner_or_not}
-use Rattle.geo_laws.proofs.Places.{A, B, C, D}
+use Rattle.sign_predicates.proofs.Places.{A, B, C, D}
 use Rattle.geo_laws.proofs.Corners.{distinct, contains_corner}
 use Rattle.geo_laws.proofs.Lexicographic.{IsZeroAt, IsLexAbove, lex_sign_of, lex_same}
 use Rattle.geo_laws.specs.OrientedFace.{Face, triangle, reversed, beside, IsOther}
@@ -23,7 +24,8 @@ use Rattle.geo_laws.proofs.Lexicographic.{IsLexBelow, not_both}
 use Rattle.insert_laws.proofs.Pencil.{IsBare, IsBareUnder, IsFirst, first_of, neighbor, low_unique, above_not_zero}
 use Rattle.insert_laws.proofs.StarPencil as pencil
 use Rattle.insert_laws.proofs.StarPencil.{With, over_row, over_ghost, under_row, under_ghost}
-use Rattle.geo_laws.proofs.Arrangement.{IsEven, even_self, even_trans, even_back, even-swap, even-cross, same_row, cross, swap_both}
+use Rattle.geo_laws.specs.Arrangement.{swap_both}
+use Rattle.geo_laws.proofs.Arrangement.{IsEven, even_self, even_trans, even_back, even-swap, even-cross, same_row, cross}
 use Rattle.insert_laws.proofs.FacePencil.{side_of, gap_of, face_pencil, side_of-reversed}
 use Rattle.insert_laws.proofs.Bridge
 

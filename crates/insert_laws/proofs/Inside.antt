@@ -1,5 +1,6 @@
 -- Where the new point lies in a closed row of its cavity, each place of the cavity is joined to that row: a walk to a generic point near the new one.
 use Rattle.exact_algebra.proofs.Signs.{nonneg_of_pos}
+use Rattle.geo_laws.specs.Arrangement.{}
 use Rattle.geo_laws.proofs.Arrangement.{even_volume, even_height}
 use Rattle.geo_laws.proofs.Heights.{order-trans}
 use Rattle.std.proofs.Common.{◌≡◌, ◌≢◌, ◌⊎◌, inl, inr, ℕ, ℤ, pos, neg_ℤ, ◌+ℤ◌, ◌-ℤ◌, ◌*ℤ◌, ◌<ℤ◌, ◌≤ℤ◌, List, map, length, ap, sym, subst, ◌∙◌, arith}
@@ -21,7 +22,8 @@ use Rattle.insert_laws.specs.Insertion.{IsNew, IsFaceOf, HasOutside, row_place, 
 use Rattle.insert_laws.proofs.Identities as identity
 use Rattle.geo_laws.proofs.Lexicographic.{IsLexBelow, not_both, sum_first}
 use Rattle.insert_laws.proofs.Pencil.{IsBare, IsFirst, first_of, neighbor, above_not_zero as positive_not_zero, apart_sides}
-use Rattle.geo_laws.proofs.Arrangement.{IsEven, even_self, even_trans, even_back, even-swap, even-cross, cross, swap_both}
+use Rattle.geo_laws.specs.Arrangement.{swap_both}
+use Rattle.geo_laws.proofs.Arrangement.{IsEven, even_self, even_trans, even_back, even-swap, even-cross, cross}
 use Rattle.insert_laws.proofs.FacePencil.{side_of, gap_of, face_pencil}
 use Rattle.insert_laws.proofs.Bridge
 use Rattle.insert_laws.proofs.Insert as insert

@@ -11,7 +11,7 @@ use Rattle.geo_laws.specs.Laws.{KeepsSide}
 use Rattle.geo_laws.specs.declared.tetrahedra.Tet.{Tet}
 use Rattle.geo_laws.proofs.Determinants as ring
 use Rattle.exact_algebra.proofs.Signs.{sign_of}
-use Rattle.geo_laws.proofs.Places.{A, B, C, D}
+use Rattle.sign_predicates.proofs.Places.{A, B, C, D}
 use Rattle.geo_laws.proofs.Heights.{all_fours, in_all_fours}
 use Rattle.geo_laws.proofs.Determinants.{spans}
 use Rattle.geo_laws.proofs.Radical.{law_radical}

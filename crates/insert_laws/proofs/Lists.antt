@@ -10,7 +10,7 @@ use Rattle.sign_predicates.specs.Sphere.{is_outside}
 use Rattle.geo_laws.specs.Delaunay.{point, corners, all_numbers, IsAmong, IsDelaunay, IsDelaunayAmong}
 use Rattle.geo_laws.specs.declared.tetrahedra.Tet.{Tet}
 use Rattle.geo_laws.proofs.Corners.{IsCorner}
-use Rattle.geo_laws.proofs.Places.{A, B, C, D}
+use Rattle.sign_predicates.proofs.Places.{A, B, C, D}
 use Rattle.geo_laws.proofs.Corners.{all_within}
 use Rattle.insert_laws.specs.Insertion.{IsFaceOf, IsHullFace, HasNoneBeyond, StartOfListLaw, SameNumbersLaw, HullFaceLaw}
 use Rattle.insert_laws.proofs.Insert as insert

@@ -1,6 +1,6 @@
 -- The faces of the rim close up: across each edge lies one other.
 use Rattle.geo_laws.proofs.Corners.{AreDistinct}
-use Rattle.geo_laws.proofs.Places.{D}
+use Rattle.sign_predicates.proofs.Places.{D, A, B, C}
 use Rattle.insert_laws.proofs.EdgePencil.{IsHullOn}
 use Rattle.std.proofs.Common.{◌≡◌, ◌≢◌, ◌⊎◌, inl, inr, ℕ, ◌<◌, pos, List, ◌∷◌, length, refl}
 use Rattle.std.specs.Prelude.{Contains}
@@ -8,7 +8,6 @@ use Rattle.sign_predicates.specs.Point.{Point}
 use Rattle.geo_laws.specs.Height.{places}
 use Rattle.geo_laws.specs.declared.tetrahedra.Tet.{Tet}
 use Rattle.geo_laws.proofs.Corners.{IsCorner}
-use Rattle.geo_laws.proofs.Places.{A, B, C}
 use Rattle.geo_laws.proofs.Corners.{distinct}
 use Rattle.geo_laws.specs.OrientedFace.{Face, reversed, beside}
 use Rattle.geo_laws.specs.Delaunay.{IsDelaunayAmong}
@@ -16,7 +15,8 @@ use Rattle.insert_laws.specs.Insertion.{IsNew, IsHullRim, IsRimFace, edge_and, I
 use Rattle.insert_laws.proofs.Pencil.{IsBare, IsFirst, first_of, neighbor, low_unique, above_not_zero}
 use Rattle.insert_laws.proofs.StarPencil as pencil
 use Rattle.insert_laws.proofs.StarPencil.{With}
-use Rattle.geo_laws.proofs.Arrangement.{IsEven, even_trans, even-swap, even-rotate, rotate}
+use Rattle.geo_laws.specs.Arrangement.{rotate}
+use Rattle.geo_laws.proofs.Arrangement.{IsEven, even_trans, even-swap, even-rotate}
 use Rattle.insert_laws.proofs.FacePencil.{side_of, gap_of, face_pencil}
 use Rattle.insert_laws.proofs.Bridge
 use Rattle.insert_laws.proofs.Hull as hull

@@ -12,7 +12,7 @@ use Rattle.geo_laws.specs.declared.tetrahedra.Tet.{Tet}
 use Rattle.geo_laws.proofs.Determinants as ring
 use Rattle.exact_algebra.proofs.Signs.{sign_of, mul_pos, square, squares_zero}
 use Rattle.geo_laws.proofs.Corners.{IsCorner}
-use Rattle.geo_laws.proofs.Places.{A, B, C, D}
+use Rattle.sign_predicates.proofs.Places.{A, B, C, D}
 use Rattle.geo_laws.proofs.Corners.{contains_corner}
 use Rattle.geo_laws.proofs.Lexicographic.{IsLexAbove}
 use Rattle.geo_laws.proofs.Heights.{all_fours, in_all_fours}

@@ -1,4 +1,4 @@
-use Rattle.std.proofs.Common.{◌≡◌, ℕ, sym, subst, arith, below_more}
+use Rattle.std.proofs.Common.{◌≡◌, sym, subst, arith, below_more}
 use Rattle.mesh_arena.specs.Cavity.{slot_at}
 use Rattle.cavity_insert.specs.Lost.{IsToldOf}
 use Rattle.cavity_insert.proofs.LostSides.{told_more}

@@ -1,4 +1,4 @@
-use Rattle.geo_laws.proofs.Places.{C, D}
+use Rattle.sign_predicates.proofs.Places.{C, D}
 use Rattle.geo_laws.proofs.Corners.{distinct}
 use Rattle.cavity_insert.proofs.StartMesh.{start_mesh}
 use Rattle.cavity_insert.proofs.start.start_mesh.Goals as goal

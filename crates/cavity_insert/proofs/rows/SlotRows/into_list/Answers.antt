@@ -1,20 +1,16 @@
-use Rattle.std.proofs.Common.{◌≡◌, List, sym, subst, map}
-use Rattle.geo_laws.specs.declared.tetrahedra.Tet.{Tet as Row}
+use Rattle.std.proofs.Common.{sym, subst, map}
 use Rattle.geo_laws.proofs.RowOrder.{row_before}
 use Rattle.cavity_insert.specs.Rows.{IsListOf}
 use Rattle.cavity_insert.specs.RowKeys.{row_of_key}
-use Rattle.cavity_insert.proofs.Insertion.{if_ok}
 use Rattle.cavity_insert.proofs.RowKeys.{list_of_keys}
 use Rattle.cavity_insert.proofs.rows.SlotRows.into_list.Goals as goal
 
-pub returns-in-Keys : goal.returns-in-Keys
-returns-in-Keys c =
+pub returns-in_ok-rows-in-Keys : goal.returns-in_ok-rows-in-Keys
+returns-in_ok-rows-in-Keys c =
     let keys = c.in-Keys.keys in
     let kept = c.keep_distinct.new.self in
-    let P : List Row → Type 0 = λ rows. rows ≡ map row_of_key kept in
     rw c.in-Keys.is
-    (if_ok P (IsListOf (map row_of_key keys)) (λ rows is. subst (IsListOf (map row_of_key keys)) (sym is) (list_of_keys keys kept c.keep_distinct.ensures.exactly c.keep_distinct.ensures.ascending))
-    c.rows_of_keys.result c.rows_of_keys.ensures)
+    (subst (IsListOf (map row_of_key keys)) (sym c.in_ok-rows-in-Keys.ensures) (list_of_keys keys kept c.keep_distinct.ensures.exactly c.keep_distinct.ensures.ascending))
 
 pub returns-in-Rows : goal.returns-in-Rows
 returns-in-Rows c =
