@@ -22,34 +22,34 @@ use Rattle.path_laws.specs.Flood.{carving_of}
 use Rattle.plc_files.specs.Checks.{corners_check}
 use Rattle.tet_ports.specs.Counts.{Rose}
 use Rattle.tet_text.specs.declared.fault.TextFault.{TextFault}
-use Rattle.tetgen.specs.Codes.{status_of_fault}
-use Rattle.tetgen.specs.Messages.{message_of}
-use Rattle.tetgen.specs.Meshing.{BoundAnswer, IsUnbound, MeshOf, MeshAnswer, IsFlatRefusal, OutputsAnswer, MeshedAnswer}
-use Rattle.tetgen.specs.Outputs.{named, AreOutputsOf}
-use Rattle.tetgen.specs.Reading.{complex_file, points_alone, on_points, WordsAnswer, FetchAnswer, TextAnswer, PointsAnswer, FormAnswer, ComplexFileAnswer, SourceAnswer, NodesAnswer, BoundedAnswer, InputOf, InputAnswer, IsUsage, IsUnfetched, IsBadText, node_text_of, plc_text_of}
-use Rattle.tetgen.specs.Run.{OutputsOfRun, IsAnswer, IsComplete, IsLeft, IsMeshOfRun, IsUnchanged, IsTold, IsPut, IsNumbering, IsToldAs, IsEarly, IsSummed, IsTellable, EndsSo, answer_of, numbering_of, HasNoFault, forced_answer, names_points}
-use Rattle.tetgen.specs.Seen.{FolderSeen, SinkSeen}
+use Rattle.run_steps.specs.Codes.{status_of_fault}
+use Rattle.run_steps.specs.Messages.{message_of}
+use Rattle.run_steps.specs.Meshing.{OutputsOfRun, BoundAnswer, IsUnbound, MeshOf, MeshAnswer, IsFlatRefusal, OutputsAnswer, MeshedAnswer}
+use Rattle.run_steps.specs.Outputs.{named, AreOutputsOf}
+use Rattle.run_steps.specs.Reading.{complex_file, points_alone, on_points, WordsAnswer, FetchAnswer, TextAnswer, PointsAnswer, FormAnswer, ComplexFileAnswer, SourceAnswer, NodesAnswer, BoundedAnswer, InputOf, InputAnswer, IsUsage, IsUnfetched, IsBadText, node_text_of, plc_text_of}
+use Rattle.tetgen.specs.Run.{IsAnswer, IsComplete, IsLeft, IsMeshOfRun, IsUnchanged, IsTold, IsPut, IsNumbering, IsToldAs, IsEarly, IsSummed, IsTellable, EndsSo, answer_of, numbering_of, HasNoFault, names_points}
+use Rattle.run_steps.specs.Seen.{FolderSeen, SinkSeen}
 use Rattle.tetgen.specs.Stops.{stop_of_words, stop_of_store}
-use Rattle.tetgen.specs.Stores.{given, in_order, with_files, AreLeft, IfFailed, TellsFailure}
+use Rattle.run_steps.specs.Stores.{given, in_order, with_files, AreLeft, IfFailed, TellsFailure}
 use Rattle.command_words.specs.declared.fault.WordsFault.{WordsFault}
 use Rattle.command_words.specs.declared.fault.WordsFault.TheVariants.{Usage as Misunderstood, NoMemory as WordsWanting}
-use Rattle.tetgen.specs.declared.store.NamedText.{NamedText}
-use Rattle.tetgen.specs.declared.store.StoreStop.{StoreStop}
-use Rattle.tetgen.specs.declared.store.StoreStop.TheVariants.{Failed, NoMemory as StoreWanting}
-use Rattle.tetgen.specs.Steps.{AndThen, IfMissing, Gives}
-use Rattle.tetgen.specs.declared.input.ComplexFile.{ComplexFile}
-use Rattle.tetgen.specs.declared.input.Input.{Input}
-use Rattle.tetgen.specs.declared.mesh.Bound.{Bound}
-use Rattle.tetgen.specs.declared.meshed.Meshed.{Meshed}
-use Rattle.tetgen.specs.declared.outputs.Outputs.{Outputs}
-use Rattle.tetgen.specs.declared.status.LimitKind.{LimitKind}
-use Rattle.tetgen.specs.declared.status.Status.{Status}
-use Rattle.tetgen.specs.declared.status.Status.TheVariants.{Done, Usage, Missing, ReadFault, BadText, Limit, Twin, Flat, NoMemory, WriteFault}
+use Rattle.run_steps.specs.declared.store.NamedText.{NamedText}
+use Rattle.run_steps.specs.declared.store.StoreStop.{StoreStop}
+use Rattle.run_steps.specs.declared.store.StoreStop.TheVariants.{Failed, NoMemory as StoreWanting}
+use Rattle.run_steps.specs.Steps.{AndThen, IfMissing, Gives, forced_answer}
+use Rattle.run_steps.specs.declared.input.ComplexFile.{ComplexFile}
+use Rattle.run_steps.specs.declared.input.Input.{Input}
+use Rattle.run_steps.specs.declared.mesh.Bound.{Bound}
+use Rattle.run_steps.specs.declared.meshed.Meshed.{Meshed}
+use Rattle.run_steps.specs.declared.outputs.Outputs.{Outputs}
+use Rattle.run_steps.specs.declared.status.LimitKind.{LimitKind}
+use Rattle.run_steps.specs.declared.status.Status.{Status}
+use Rattle.run_steps.specs.declared.status.Status.TheVariants.{Done, Usage, Missing, ReadFault, BadText, Limit, Twin, Flat, NoMemory, WriteFault}
 use Rattle.tetgen.specs.declared.stop.Stop.{Stop}
 use Rattle.tetgen.specs.declared.stop.Stop.TheVariants.{Refused, Unwritten, Unsummed, NoMemory as Wanting}
-use Rattle.tetgen.proofs.Determined.{outputs_same}
-use Rattle.tetgen.proofs.Once.{run_same}
-use Rattle.tetgen.proofs.Steps.{IsDecided, status_of, and_then_refuses}
+use Rattle.run_steps.proofs.Determined.{outputs_same}
+use Rattle.run_steps.proofs.Once.{run_same}
+use Rattle.run_steps.proofs.Steps.{IsDecided, status_of, and_then_refuses}
 
 not_true : IsTrue false → ⊥
 not_true t = cc

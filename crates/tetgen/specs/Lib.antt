@@ -1,10 +1,2 @@
-pub mod Codes
-pub mod Meshing
-pub mod Messages
-pub mod Outputs
-pub mod Reading
 pub mod Run
-pub mod Seen
-pub mod Steps
 pub mod Stops
-pub mod Stores

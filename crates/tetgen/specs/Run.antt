@@ -11,28 +11,23 @@ use Rattle.path_laws.specs.Flood.{carving_of}
 use Rattle.tet_ports.specs.Counts.{Rose}
 use Rattle.tet_ports.specs.Files.{Files}
 use Rattle.tet_ports.specs.Written.{PartlyPut, with_piece}
-use Rattle.tetgen.specs.Messages.{message_of}
-use Rattle.tetgen.specs.Meshing.{BoundAnswer, MeshAnswer, MeshedAnswer}
-use Rattle.tetgen.specs.Outputs.{AreOutputsOf}
-use Rattle.tetgen.specs.Reading.{WordsAnswer, InputAnswer}
-use Rattle.tetgen.specs.Seen.{FolderSeen, SinkSeen}
-use Rattle.tetgen.specs.Steps.{AndThen}
-use Rattle.tetgen.specs.Stores.{in_order, with_files, AreStoredTo, AreStoredInto, TellsFailure}
-use Rattle.tetgen.specs.declared.input.Input.{Input}
-use Rattle.tetgen.specs.declared.mesh.Bound.{Bound}
-use Rattle.tetgen.specs.declared.meshed.Meshed.{Meshed}
-use Rattle.tetgen.specs.declared.outputs.Outputs.{Outputs}
-use Rattle.tetgen.specs.declared.status.Status.{Status}
-use Rattle.tetgen.specs.declared.status.Status.TheVariants.{Done, Twin, NotFlat, SegmentsCross, Crossing, GridEnd, BudgetEnd, NoFill, NoMemory, WriteFault}
+use Rattle.run_steps.specs.Messages.{message_of}
+use Rattle.run_steps.specs.Meshing.{BoundAnswer, MeshAnswer, OutputsOfRun}
+use Rattle.run_steps.specs.Outputs.{AreOutputsOf}
+use Rattle.run_steps.specs.Reading.{InputAnswer}
+use Rattle.run_steps.specs.Seen.{FolderSeen, SinkSeen}
+use Rattle.run_steps.specs.Steps.{forced_answer}
+use Rattle.run_steps.specs.Stores.{in_order, with_files, AreStoredTo, AreStoredInto, TellsFailure}
+use Rattle.run_steps.specs.declared.input.Input.{Input}
+use Rattle.run_steps.specs.declared.mesh.Bound.{Bound}
+use Rattle.run_steps.specs.declared.meshed.Meshed.{Meshed}
+use Rattle.run_steps.specs.declared.outputs.Outputs.{Outputs}
+use Rattle.run_steps.specs.declared.status.Status.{Status}
+use Rattle.run_steps.specs.declared.status.Status.TheVariants.{Done, Twin, NotFlat, SegmentsCross, Crossing, GridEnd, BudgetEnd, NoFill, NoMemory, WriteFault}
 use Rattle.tetgen.specs.declared.stop.Stop.{Stop}
 use Rattle.tetgen.specs.declared.stop.Stop.TheVariants.{Refused, Unwritten, Unsummed, NoMemory as Wanting}
 
 -- ---- the answer
-
--- The steps of a run up to its first store: the words are read, then the input that they name, and the outputs of its mesh are made.
--- Each refusal is one of the first step that refuses
-abbrev pub OutputsOfRun : List (List ℕ) → FolderSeen → Result Outputs Status → Type 0
-OutputsOfRun words seen = AndThen (WordsAnswer words) (λ options. AndThen (InputAnswer seen options) (MeshedAnswer options))
 
 -- The cause of each answer: Done where there are outputs; a fault of the folder in a store; a fault of the sink of the summary; want of
 -- memory is free; and any other answer is the refusal of a step
@@ -46,11 +41,6 @@ IsAnswer words folder out status = OutputsOfRun words folder (Err status)
 -- no count of faults rose
 abbrev pub HasNoFault : FolderSeen → SinkSeen → Type 0
 HasNoFault folder out = ¬ Rose folder.faults_before folder.faults_now × ¬ Rose out.faults_before out.faults_now
-
--- the answer as it is forced: an anomaly permits its refusal, and stands beside Done
-abbrev pub forced_answer : Status → Status
-forced_answer (NoFill anomaly) = Done
-forced_answer status = status
 
 -- Where the files are told, no count of faults rose and memory was not wanting, each answer that has a cause is the answer: the refusal of the
 -- first step that refuses, and Done where none does. Only where facets are tangled there may be more: Done, and the anomalies that hold

@@ -1,9 +1,9 @@
 -- Why a run stopped before its end, by the step in which it did.
-use Rattle.tetgen.specs.declared.status.Status.TheVariants.{Usage}
+use Rattle.run_steps.specs.declared.status.Status.TheVariants.{Usage}
 use Rattle.tetgen.specs.declared.stop.Stop.{Stop}
 use Rattle.tetgen.specs.declared.stop.Stop.TheVariants.{Refused, Unwritten, NoMemory}
-use Rattle.tetgen.specs.declared.store.StoreStop.{StoreStop}
-use Rattle.tetgen.specs.declared.store.StoreStop.TheVariants.{Failed, NoMemory as StoreWanting}
+use Rattle.run_steps.specs.declared.store.StoreStop.{StoreStop}
+use Rattle.run_steps.specs.declared.store.StoreStop.TheVariants.{Failed, NoMemory as StoreWanting}
 use Rattle.command_words.specs.declared.fault.WordsFault.{WordsFault}
 use Rattle.command_words.specs.declared.fault.WordsFault.TheVariants.{Usage as Misunderstood, NoMemory as WordsWanting}
 

@@ -1,8 +1,8 @@
 //! Runs on thousands of points with facets among them, drawn by a linear congruential generator.
 ghost use Rattle.std.specs.Prelude.{◌<◌, ◌≤◌};
 
-use crate::message::append_number;
 use crate::tests::{Run, add_point, leaves};
+use run_steps::append_number;
 use std::alloc::Global;
 use std::test::Fail;
 use tet_ports::{Bytes, NoMemory};

@@ -262,7 +262,7 @@ fn complexes_are_meshed(rt: HostRuntime) -> Result<(), Fail> {
     Ok(())
 }
 
-const HOLES_ARE_CARVED: [Run<'static>; 14] = [
+const CARVED: [Run<'static>; 14] = [
     // Hole points on a facet, its side, its corner, and beyond the hull.
     Run {
         held: &[(
@@ -463,13 +463,13 @@ const HOLES_ARE_CARVED: [Run<'static>; 14] = [
 
 #[test]
 fn holes_are_carved(rt: HostRuntime) -> Result<(), Fail> {
-    for case in &HOLES_ARE_CARVED {
+    for case in &CARVED {
         assert!(rt; leaves(rt.alloc(), case)?);
     }
     Ok(())
 }
 
-const COMPLEXES_ARE_REFUSED: [Run<'static>; 5] = [
+const REFUSED_COMPLEXES: [Run<'static>; 5] = [
     // Not flat.
     Run {
         held: &[(b"bar.poly", BENT)],
@@ -531,7 +531,7 @@ const COMPLEXES_ARE_REFUSED: [Run<'static>; 5] = [
 
 #[test]
 fn complexes_are_refused(rt: HostRuntime) -> Result<(), Fail> {
-    for case in &COMPLEXES_ARE_REFUSED {
+    for case in &REFUSED_COMPLEXES {
         assert!(rt; leaves(rt.alloc(), case)?);
     }
     Ok(())

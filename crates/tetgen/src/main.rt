@@ -5,22 +5,15 @@
 mod cloud_tests;
 #[cfg(test)]
 mod complex_tests;
-mod input;
-mod mesh;
-mod meshed;
-mod message;
-mod outputs;
 mod run;
-mod status;
 mod stop;
-mod store;
 #[cfg(test)]
 mod test_inputs;
 #[cfg(test)]
 mod tests;
 
 use run::run_tetgen;
-use status::Status;
+use run_steps::Status;
 use std::alloc::Global;
 use std::process::ExitCode;
 use std::{env, io};

@@ -2,16 +2,13 @@
 
 ghost use Rattle.std.specs.Prelude.{◌≡◌, ◌≤◌, ◌⊎◌, IsErrOf, Err};
 ghost use Rattle.tetgen.specs.Run.{IsAnswer, IsComplete, IsLeft, IsTold, IsPut, EndsSo, IsSummed, IsTellable, IsToldAs};
-ghost use Rattle.tetgen.specs.Seen.{folder_seen, sink_seen};
+ghost use Rattle.run_steps.specs.Seen.{folder_seen, sink_seen};
 
-use crate::input::read_input;
-use crate::mesh::mesh_of;
-use crate::message::{OUT_OF_MEMORY, SUMMARY_FAILED, message};
-use crate::outputs::Outputs;
-use crate::status::Status;
 use crate::stop::Stop;
-use crate::store::store_all;
 use command_words::read_words;
+use run_steps::{
+    OUT_OF_MEMORY, Outputs, SUMMARY_FAILED, Status, mesh_of, message, read_input, store_all,
+};
 use std::alloc::Global;
 use tet_ports::{Bytes, Folder, PutFault, Sink, Words};
 

@@ -4,9 +4,8 @@ ghost use Rattle.std.specs.Prelude.{◌≡◌};
 ghost use Rattle.tetgen.specs.Stops.{stop_of_words, stop_of_store};
 ghost use Rattle.tetgen.specs.declared.stop.Stop.TheVariants.{Refused};
 
-use crate::status::Status;
-use crate::store::{NamedText, StoreStop};
 use command_words::WordsFault;
+use run_steps::{NamedText, Status, StoreStop};
 use tet_ports::NoMemory;
 
 /// Why a run stopped before its end.

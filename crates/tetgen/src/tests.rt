@@ -1,12 +1,11 @@
 //! Runs over a folder and streams in memory.
 
-use crate::message::append_number;
 use crate::run::run_tetgen;
-use crate::status::Status;
 use crate::test_inputs::{
     BAR, BAR_ELE, BAR_FACE, BAR_NODE, BAR_SMESH, CUBE, DECIMALS, GREATEST, NEGATIVE, PYRAMID,
     SMALLEST, THIRD, WRITTEN,
 };
+use run_steps::{Status, append_number};
 use std::alloc::Global;
 use std::test::Fail;
 use tet_ports::{Bytes, MemFolder, MemSink, Name, NoMemory, Words};

@@ -1,9 +1,9 @@
 use Rattle.std.proofs.Common.{◌≡◌, refl, subst, Ok, arith}
 use Rattle.std.proofs.lemmas.Result.{err_from_is_err_and}
-use Rattle.tetgen.specs.Seen.{FolderSeen, SinkSeen, folder_seen, sink_seen}
-use Rattle.tetgen.specs.Stores.{AreLeft, with_files}
+use Rattle.run_steps.specs.Seen.{FolderSeen, SinkSeen, folder_seen, sink_seen}
+use Rattle.run_steps.specs.Stores.{AreLeft, with_files}
 use Rattle.tetgen.proofs.Runs.{failed_wider, mesh_end, store_end, summed_end, outputs_run, run_told}
-use Rattle.tetgen.proofs.Wider.{IsWithin, input_wider}
+use Rattle.run_steps.proofs.Wider.{IsWithin, input_wider}
 use Rattle.tetgen.proofs.run.run.Goals as goal
 
 pub returns-in-Err : goal.returns-in-Err

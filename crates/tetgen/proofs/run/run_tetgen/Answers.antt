@@ -1,6 +1,6 @@
 use Rattle.std.proofs.Common.{subst, Ok}
 use Rattle.tetgen.specs.Run.{EndsSo}
-use Rattle.tetgen.specs.Seen.{FolderSeen, SinkSeen, folder_seen, sink_seen}
+use Rattle.run_steps.specs.Seen.{FolderSeen, SinkSeen, folder_seen, sink_seen}
 use Rattle.tetgen.proofs.Runs.{end_answer, end_left, answer_complete, stop_answer, stop_left, stop_told}
 use Rattle.tetgen.proofs.run.run_tetgen.Goals as goal
 

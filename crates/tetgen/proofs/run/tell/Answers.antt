@@ -1,6 +1,6 @@
 use Rattle.std.proofs.Common.{inl, refl, subst}
 use Rattle.tetgen.specs.Run.{IsPut}
-use Rattle.tetgen.specs.Seen.{SinkSeen, sink_seen}
+use Rattle.run_steps.specs.Seen.{SinkSeen, sink_seen}
 use Rattle.tetgen.proofs.run.tell.Goals as goal
 
 pub returns-in-Ok : goal.returns-in-Ok

@@ -1,0 +1,6 @@
+pub mod Determined
+pub mod Inputs
+pub mod Meshables
+pub mod Once
+pub mod Steps
+pub mod Wider

@@ -1,0 +1,358 @@
+-- Each step of a run answers in one way at most, where the files are told and no fault rose.
+use Rattle.std.proofs.Common.{◌≡◌, ◌≤◌, ◌<◌, ◌⊎◌, inl, inr, ℕ, Bool, true, false, List, [], length, Option, Some, None, Result, Ok, Err, refl, sym, ap, subst, ◌∙◌, arith}
+use Rattle.std.proofs.lemmas.Bool.{cases_order}
+use Rattle.std.specs.FinMap as map_of
+use Rattle.std.specs.Prelude.{◌≢◌, map}
+use Rattle.command_words.specs.Grammar.{words_fault}
+use Rattle.command_words.specs.Names.{file_name}
+use Rattle.command_words.specs.declared.options.Extension.{Extension}
+use Rattle.command_words.specs.declared.options.Extension.TheVariants.{Node, Poly, Smesh}
+use Rattle.command_words.specs.declared.options.Options.{Options}
+use Rattle.complex_mesh.proofs.OneAnswer.{law_one_fault, law_no_fault}
+use Rattle.complex_mesh.specs.OneAnswer.{IsForcing}
+use Rattle.complex_mesh.specs.declared.fault.MeshFault.{MeshFault}
+use Rattle.complex_mesh.specs.declared.fault.MeshFault.TheVariants as mesh_faults
+use Rattle.geo_laws.specs.Delaunay.{AreCoplanar, point}
+use Rattle.grid_coords.specs.Units.{grid_point}
+use Rattle.grid_coords.specs.declared.grid.Grid.{Grid}
+use Rattle.grid_coords.specs.declared.grid.Range.{Range}
+use Rattle.node_files.specs.Settling.{IsSettled, IsTooMany, IsOffGrid, HasTwin, most_points, rounded_points, table_of}
+use Rattle.node_files.specs.Twins.{IsFirstTwin}
+use Rattle.node_files.specs.declared.node_text.NodeText.{NodeText}
+use Rattle.node_files.specs.declared.table.NodeTable.{NodeTable}
+use Rattle.plc_files.specs.Binding.{IsBound, HasManyFacets, HasLongPolygon, complex_of}
+use Rattle.plc_files.specs.Checks.{corners_check}
+use Rattle.plc_files.specs.Sample.{sample_of}
+use Rattle.plc_files.specs.declared.fault.PlcFault.{PlcFault}
+use Rattle.plc_files.specs.declared.fault.PlcFault.TheVariants as plc_faults
+use Rattle.sign_predicates.specs.Point.{Point}
+use Rattle.tet_ports.specs.Counts.{Rose}
+use Rattle.tet_ports.specs.Files.{Files}
+use Rattle.tet_text.specs.declared.fault.TextFault.{TextFault}
+use Rattle.run_steps.specs.Codes.{status_of_fault}
+use Rattle.run_steps.specs.Meshing.{grid_options, mesh_options, IsSmall, BoundAnswer, IsFlatRefusal, MeshOf, MeshAnswer, OutputsAnswer, MeshedAnswer, OutputsOfRun}
+use Rattle.run_steps.specs.Reading.{complex_file, points_alone, on_points, most_bytes, node_text_of, plc_text_of, IsUsage, WordsAnswer, FetchAnswer, IsBadText, TextAnswer, PointsAnswer, FormAnswer, ComplexFileAnswer, SourceAnswer, NodesAnswer, BoundedAnswer, InputOf, InputAnswer}
+use Rattle.run_steps.specs.Seen.{FolderSeen}
+use Rattle.run_steps.specs.Steps.{AndThen, IfMissing, Gives, forced_answer}
+use Rattle.run_steps.specs.declared.input.ComplexFile.{ComplexFile}
+use Rattle.run_steps.specs.declared.input.Input.{Input}
+use Rattle.run_steps.specs.declared.mesh.Bound.{Bound}
+use Rattle.run_steps.specs.declared.status.LimitKind.TheVariants.{Bytes as TooLong, Points, Facets, Corners, Grid as OnGrid}
+use Rattle.run_steps.specs.declared.status.Status.{Status}
+use Rattle.run_steps.specs.declared.status.Status.TheVariants.{Done, Usage, Missing, ReadFault, BadText, Limit, Twin, Flat, NoMemory}
+use Rattle.run_steps.proofs.Steps.{IsDecided, IsOnce, IsSame, gives_once, if_missing_once, and_then_once, and_then_same, and_then_sure}
+
+-- ---- the words
+
+some_same : {A : Type 0} (a b : A) → Some a ≡ Some b → a ≡ b
+some_same a b e = cc
+
+usage_is : (words : List (List ℕ)) (s : Status) → s ≢ NoMemory → IsUsage words s → (p : ℕ × ℕ) × (words_fault words ≡ Some p) × (s ≡ Usage p.0 p.1)
+usage_is words (Usage word place) n h = ((word, place), h, refl)
+usage_is words NoMemory n h = absurd (n refl)
+usage_is words s n h = absurd h
+
+pub words_once : (words : List (List ℕ)) → IsOnce (WordsAnswer words)
+words_once words (Ok o) (Ok q) n m h k = ap (λ x. Ok x) (h.1 ∙ sym k.1)
+words_once words (Ok o) (Err t) n m h k = let u = usage_is words t m k in let e = u.1 in let f = h.0 in absurd (cc)
+words_once words (Err s) (Ok q) n m h k = let u = usage_is words s n h in let e = u.1 in let f = k.0 in absurd (cc)
+words_once words (Err s) (Err t) n m h k =
+    let u = usage_is words s n h in
+    let v = usage_is words t m k in
+    ap (λ x. Err x) (u.2 ∙ ap (λ p. Usage p.0 p.1) (some_same u.0 v.0 (sym u.1 ∙ v.1)) ∙ sym v.2)
+
+-- ---- the files
+
+-- what a fetch from told files answers
+data FetchCase (told : Files) (name : List ℕ) (r : Result (List ℕ) Status) : Type 0 where
+  found : (bytes : List ℕ) → map_of.get told name ≡ Some bytes → length bytes ≤ most_bytes → r ≡ Ok bytes → FetchCase told name r
+  absent : map_of.get told name ≡ None → r ≡ Err (Missing name) → FetchCase told name r
+  long : (bytes : List ℕ) → map_of.get told name ≡ Some bytes → most_bytes < length bytes → r ≡ Err (Limit (TooLong name)) → FetchCase told name r
+
+fetch_case : (told : Files) (seen : FolderSeen) (name : List ℕ) (r : Result (List ℕ) Status) → ¬ Rose seen.faults_before seen.faults_now → IsDecided r
+    → FetchAnswer (record seen { files_before = Some told }) name r → FetchCase told name r
+fetch_case told seen name (Ok bytes) f n h = found bytes h.0 h.1 refl
+fetch_case told seen name (Err (Missing missing)) f n h = absent h.1 (ap (λ x. Err (Missing x)) h.0)
+fetch_case told seen name (Err (ReadFault failed)) f n h = absurd (f h.1)
+fetch_case told seen name (Err (Limit (TooLong large))) f n h = long h.1.0 h.1.1 h.1.2 (ap (λ x. Err (Limit (TooLong x))) h.0)
+fetch_case told seen name (Err NoMemory) f n h = absurd (n refl)
+fetch_case told seen name (Err s) f n h = absurd h
+
+fetch_same : (told : Files) (name : List ℕ) (r s : Result (List ℕ) Status) → FetchCase told name r → FetchCase told name s → r ≡ s
+fetch_same told name r s (found b e l h) (found c f m k) = h ∙ ap (λ x. Ok x) (some_same b c (sym e ∙ f)) ∙ sym k
+fetch_same told name r s (found b e l h) (absent f k) = absurd (cc)
+fetch_same told name r s (found b e l h) (long c f m k) = let same = ap (λ (x : List ℕ). length x) (some_same b c (sym e ∙ f)) in absurd (omega (arith, same))
+fetch_same told name r s (absent e h) (found c f m k) = absurd (cc)
+fetch_same told name r s (absent e h) (absent f k) = h ∙ sym k
+fetch_same told name r s (absent e h) (long c f m k) = absurd (cc)
+fetch_same told name r s (long b e l h) (found c f m k) = let same = ap (λ (x : List ℕ). length x) (some_same b c (sym e ∙ f)) in absurd (omega (arith, same))
+fetch_same told name r s (long b e l h) (absent f k) = absurd (cc)
+fetch_same told name r s (long b e l h) (long c f m k) = h ∙ sym k
+
+fetch_once : (told : Files) (seen : FolderSeen) (name : List ℕ) → seen.files_before ≡ Some told → ¬ Rose seen.faults_before seen.faults_now → IsOnce (FetchAnswer seen name)
+fetch_once told seen name e f = subst (λ files. IsOnce (FetchAnswer (record seen { files_before = files }) name)) (sym e)
+    (λ r s n m h k. fetch_same told name r s (fetch_case told seen name r f n h) (fetch_case told seen name s f m k))
+
+-- ---- the texts
+
+bad_text_is : {A : Type 0} (name : List ℕ) (reading : Result A TextFault) (s : Status) → s ≢ NoMemory → IsBadText name reading s
+    → (fault : TextFault) × (reading ≡ Err fault) × (s ≡ BadText name fault)
+bad_text_is name reading (BadText bad fault) n h = (fault, h.1, ap (λ x. BadText x fault) h.0)
+bad_text_is name reading NoMemory n h = absurd (n refl)
+bad_text_is name reading s n h = absurd h
+
+abbrev unread : (A : Type 0) → TextFault → Result A TextFault
+unread A fault = Err fault
+
+fault_same : (A : Type 0) (f g : TextFault) → unread A f ≡ unread A g → f ≡ g
+fault_same A f g e = cc
+
+pub text_once : {A : Type 0} (name : List ℕ) (reading : Result A TextFault) → IsOnce (TextAnswer name reading)
+text_once name reading (Ok a) (Ok b) n m h k = cc
+text_once name reading (Ok a) (Err t) n m h k = let v = bad_text_is name reading t m k in let e = v.1 in absurd (cc)
+text_once name reading (Err s) (Ok b) n m h k = let u = bad_text_is name reading s n h in let e = u.1 in absurd (cc)
+text_once {A = A} name reading (Err s) (Err t) n m h k =
+    let u = bad_text_is name reading s n h in
+    let v = bad_text_is name reading t m k in
+    ap (λ x. Err x) (u.2 ∙ ap (λ f. BadText name f) (fault_same A u.0 v.0 (sym u.1 ∙ v.1)) ∙ sym v.2)
+
+-- ---- the input
+
+-- the files are told, and no fault rose
+pub record IsTold (told : Files) (seen : FolderSeen) : Type 0 where
+  pub files : seen.files_before ≡ Some told
+  pub no_fault : ¬ Rose seen.faults_before seen.faults_now
+
+points_once : (told : Files) (seen : FolderSeen) (base : List ℕ) → IsTold told seen → IsOnce (PointsAnswer seen base)
+points_once told seen base h =
+    let name = file_name base Node in
+    and_then_once (FetchAnswer seen name) (λ bytes. TextAnswer name (node_text_of bytes)) (fetch_once told seen name h.files h.no_fault) (λ bytes. text_once name (node_text_of bytes))
+
+form_once : (told : Files) (seen : FolderSeen) (base : List ℕ) (extension : Extension) → IsTold told seen → IsOnce (FormAnswer seen base extension)
+form_once told seen base extension h =
+    let name = file_name base extension in
+    and_then_once (FetchAnswer seen name) (λ bytes. AndThen (TextAnswer name (plc_text_of extension bytes)) (λ text. Gives (complex_file name text)))
+    (fetch_once told seen name h.files h.no_fault)
+    (λ bytes. and_then_once (TextAnswer name (plc_text_of extension bytes)) (λ text. Gives (complex_file name text)) (text_once name (plc_text_of extension bytes)) (λ text. gives_once (complex_file name text)))
+
+bare_once : (told : Files) (seen : FolderSeen) (base : List ℕ) → IsTold told seen → IsOnce (IfMissing (FormAnswer seen base Poly) (FormAnswer seen base Smesh))
+bare_once told seen base h = if_missing_once (FormAnswer seen base Poly) (FormAnswer seen base Smesh) (form_once told seen base Poly h) (form_once told seen base Smesh h)
+
+complex_file_once : (told : Files) (seen : FolderSeen) (base : List ℕ) (extension : Option Extension) → IsTold told seen → IsOnce (ComplexFileAnswer seen base extension)
+complex_file_once told seen base (Some Smesh) h = form_once told seen base Smesh h
+complex_file_once told seen base (Some Poly) h = form_once told seen base Poly h
+complex_file_once told seen base (Some Node) h = bare_once told seen base h
+complex_file_once told seen base None h = bare_once told seen base h
+
+source_once : (told : Files) (seen : FolderSeen) (base : List ℕ) (extension : Option Extension) (sample : Option ℕ) → IsTold told seen → IsOnce (SourceAnswer seen base extension sample)
+source_once told seen base extension (Some n) h = gives_once (complex_file [] (sample_of n))
+source_once told seen base extension None h = complex_file_once told seen base extension h
+
+nodes_once : (told : Files) (seen : FolderSeen) (base : List ℕ) (own : Option NodeText) → IsTold told seen → IsOnce (NodesAnswer seen base own)
+nodes_once told seen base (Some nodes) h = gives_once nodes
+nodes_once told seen base None h = points_once told seen base h
+
+bounded_once : (file : ComplexFile) (nodes : NodeText) → IsOnce (BoundedAnswer file nodes)
+bounded_once file nodes =
+    let input = on_points file nodes in
+    and_then_once (TextAnswer file.name (corners_check nodes.first (length nodes.decimals) file.text)) (λ checked. Gives input)
+    (text_once file.name (corners_check nodes.first (length nodes.decimals) file.text)) (λ checked. gives_once input)
+
+input_of_once : (told : Files) (seen : FolderSeen) (options : Options) (piecewise : Bool) → IsTold told seen → IsOnce (InputOf piecewise seen options)
+input_of_once told seen options false h =
+    and_then_once (PointsAnswer seen options.base) (λ nodes. Gives (points_alone nodes)) (points_once told seen options.base h) (λ nodes. gives_once (points_alone nodes))
+input_of_once told seen options true h =
+    and_then_once (SourceAnswer seen options.base options.extension options.sample) (λ file. AndThen (NodesAnswer seen options.base file.text.nodes) (BoundedAnswer file))
+    (source_once told seen options.base options.extension options.sample h)
+    (λ file. and_then_once (NodesAnswer seen options.base file.text.nodes) (BoundedAnswer file) (nodes_once told seen options.base file.text.nodes h) (bounded_once file))
+
+pub input_once : (told : Files) (seen : FolderSeen) (options : Options) → IsTold told seen → IsOnce (InputAnswer seen options)
+input_once told seen options h = input_of_once told seen options options.piecewise h
+
+-- ---- the grid
+
+-- what the binding of an input answers
+data BoundCase (options : Options) (input : Input) (r : Result Bound Status) : Type 0 where
+  fits : (bound : Bound) → IsSettled input.nodes (grid_options options) bound.table → IsBound input.complex input.nodes.first bound.table.grid bound.complex → r ≡ Ok bound → BoundCase options input r
+  many : (count : ℕ) → IsTooMany input.nodes count → r ≡ Err (Limit (Points count)) → BoundCase options input r
+  facets : (count : ℕ) → length input.nodes.decimals ≤ most_points → HasManyFacets input.complex count → r ≡ Err (Limit (Facets count)) → BoundCase options input r
+  corners : (line count : ℕ) → length input.nodes.decimals ≤ most_points → HasLongPolygon input.complex line count → r ≡ Err (Limit (Corners line count)) → BoundCase options input r
+  off : (line : ℕ) → IsSmall input.complex → IsOffGrid input.nodes (grid_options options) line → r ≡ Err (Limit (OnGrid line)) → BoundCase options input r
+  equal : (i j : ℕ) → IsSmall input.complex → HasTwin input.nodes (grid_options options) i j → r ≡ Err (Twin i j) → BoundCase options input r
+
+bound_case : (options : Options) (input : Input) (r : Result Bound Status) → IsDecided r → BoundAnswer options input r → BoundCase options input r
+bound_case options input (Ok bound) n h = fits bound h.0 h.1 refl
+bound_case options input (Err (Limit (Points count))) n h = many count h refl
+bound_case options input (Err (Limit (Facets count))) n h = facets count h.0 h.1 refl
+bound_case options input (Err (Limit (Corners line count))) n h = corners line count h.0 h.1 refl
+bound_case options input (Err (Limit (OnGrid line))) n h = off line h.0 h.1 refl
+bound_case options input (Err (Twin i j)) n h = equal i j h.0 h.1 refl
+bound_case options input (Err NoMemory) n h = absurd (n refl)
+bound_case options input (Err s) n h = absurd h
+
+abbrev off_at : ℕ → Result Grid Range
+off_at line = Err (record { line = line })
+
+abbrev on_grid : Grid → Result Grid Range
+on_grid g = Ok g
+
+abbrev long_at : ℕ → ℕ → Result (Unit {0}) PlcFault
+long_at line count = Err (plc_faults.Corners line count)
+
+abbrev corners_refused : ℕ → ℕ → Result Bound Status
+corners_refused line count = Err (Limit (Corners line count))
+
+abbrev line_of : Result Grid Range → ℕ
+line_of (Ok g) = 0
+line_of (Err range) = range.line
+
+off_same : (line other : ℕ) → off_at line ≡ off_at other → line ≡ other
+off_same line other e = ap line_of e
+
+grid_same : (g h : Grid) → on_grid g ≡ on_grid h → g ≡ h
+grid_same g h e = cc
+
+-- two numbers of which none is less than the other
+least_is : (i k : ℕ) → (i < k → ⊥) → (k < i → ⊥) → i ≡ k
+least_is i k a b = go (cases_order i k)
+  where
+    go : (i ≡ k) ⊎ ((i < k) ⊎ (k < i)) → i ≡ k
+    go (inl e) = e
+    go (inr (inl h)) = absurd (a h)
+    go (inr (inr h)) = absurd (b h)
+
+-- the first twin of a list is one
+twin_same : (ps : List Point) (i j k l : ℕ) → IsFirstTwin ps i j → IsFirstTwin ps k l → (i ≡ k) × (j ≡ l)
+twin_same ps i j k l a b =
+    let seconds = least_is j l (λ less. b.second_least i j a.earlier less a.equal) (λ less. a.second_least k l b.earlier less b.equal) in
+    let there = subst (λ n. point ps k ≡ point ps n) (sym seconds) b.equal in
+    let least = subst (λ n. (m : ℕ) → m < k → point ps m ≢ point ps n) (sym seconds) b.first_least in
+    (least_is i k (λ less. least i less a.equal) (λ less. a.first_least k less there), seconds)
+
+twins_same : (options : Options) (text : NodeText) (i j k l : ℕ) → HasTwin text (grid_options options) i j → HasTwin text (grid_options options) k l → (i ≡ k) × (j ≡ l)
+twins_same options text i j k l a b =
+    let g = grid_same a.grid b.grid (sym a.on.on ∙ b.on.on) in
+    twin_same (map (grid_point b.grid) (rounded_points options.decimals text.decimals)) i j k l
+    (subst (λ grid. IsFirstTwin (map (grid_point grid) (rounded_points options.decimals text.decimals)) i j) g a.twin) b.twin
+
+-- points that are distinct on their grid have no twin there
+settled_no_twin : (options : Options) (text : NodeText) (table : NodeTable) (i j : ℕ) → IsSettled text (grid_options options) table → HasTwin text (grid_options options) i j → ⊥
+settled_no_twin options text table i j a b =
+    let g = grid_same table.grid b.grid (sym a.on.on ∙ b.on.on) in
+    let points : table.points ≡ map (grid_point b.grid) (rounded_points options.decimals text.decimals) =
+    ap (λ (t : NodeTable). t.points) a.is ∙ ap (λ (grid : Grid). map (grid_point grid) (rounded_points options.decimals text.decimals)) g in
+    let t = subst (λ ps. IsFirstTwin ps i j) (sym points) b.twin in
+    a.distinct i j t.earlier t.listed t.equal
+
+tables_same : (options : Options) (text : NodeText) (t u : NodeTable) → IsSettled text (grid_options options) t → IsSettled text (grid_options options) u → t ≡ u
+tables_same options text t u a b =
+    let g = grid_same t.grid u.grid (sym a.on.on ∙ b.on.on) in
+    a.is ∙ ap (λ (grid : Grid). table_of text (rounded_points options.decimals text.decimals) grid) g ∙ sym b.is
+
+corners_same : (i j k l : ℕ) → long_at i j ≡ long_at k l → corners_refused i j ≡ corners_refused k l
+corners_same i j k l e = cc
+
+bounds_same : (options : Options) (input : Input) (t u : Bound) → IsSettled input.nodes (grid_options options) t.table → IsSettled input.nodes (grid_options options) u.table
+    → IsBound input.complex input.nodes.first t.table.grid t.complex → IsBound input.complex input.nodes.first u.table.grid u.complex → t ≡ u
+bounds_same options input t u a b p q =
+    let tables = tables_same options input.nodes t.table u.table a b in
+    let complexes = p.is ∙ ap (λ (table : NodeTable). complex_of input.nodes.first table.grid input.complex) tables ∙ sym q.is in
+    λ i. record { table = tables i; complex = complexes i }
+
+bound_same : (options : Options) (input : Input) (r s : Result Bound Status) → BoundCase options input r → BoundCase options input s → r ≡ s
+bound_same options input r s (fits t a p e) (fits u b q h) = e ∙ ap (λ x. Ok x) (bounds_same options input t u a b p q) ∙ sym h
+bound_same options input r s (fits t a p e) (many d b h) = let v = a.on.few in let w = b.many in absurd (omega arith)
+bound_same options input r s (fits t a p e) (facets d g b h) = let v = b.many in let w = p.few in absurd (omega arith)
+bound_same options input r s (fits t a p e) (corners m d g b h) = let v = b.long in let w = p.short in absurd (cc)
+bound_same options input r s (fits t a p e) (off m y b h) = let v = a.on.on in let w = b.off in absurd (cc)
+bound_same options input r s (fits t a p e) (equal k q y b h) = absurd (settled_no_twin options input.nodes t.table k q a b)
+bound_same options input r s (many c a e) (fits u b q h) = let v = a.many in let w = b.on.few in absurd (omega arith)
+bound_same options input r s (many c a e) (many d b h) = e ∙ ap (λ x. Err (Limit (Points x))) (a.counted ∙ sym b.counted) ∙ sym h
+bound_same options input r s (many c a e) (facets d g b h) = let v = a.many in let w = g in absurd (omega arith)
+bound_same options input r s (many c a e) (corners m d g b h) = let v = a.many in let w = g in absurd (omega arith)
+bound_same options input r s (many c a e) (off m y b h) = let v = a.many in let w = b.few in absurd (omega arith)
+bound_same options input r s (many c a e) (equal k q y b h) = let v = a.many in let w = b.on.few in absurd (omega arith)
+bound_same options input r s (facets c f a e) (fits u b q h) = let v = a.many in let w = q.few in absurd (omega arith)
+bound_same options input r s (facets c f a e) (many d b h) = let v = f in let w = b.many in absurd (omega arith)
+bound_same options input r s (facets c f a e) (facets d g b h) = e ∙ ap (λ x. Err (Limit (Facets x))) (a.counted ∙ sym b.counted) ∙ sym h
+bound_same options input r s (facets c f a e) (corners m d g b h) = let v = a.many in let w = b.few in absurd (omega arith)
+bound_same options input r s (facets c f a e) (off m y b h) = let v = a.many in let w = y.few in absurd (omega arith)
+bound_same options input r s (facets c f a e) (equal k q y b h) = let v = a.many in let w = y.few in absurd (omega arith)
+bound_same options input r s (corners l c f a e) (fits u b q h) = let v = a.long in let w = q.short in absurd (cc)
+bound_same options input r s (corners l c f a e) (many d b h) = let v = f in let w = b.many in absurd (omega arith)
+bound_same options input r s (corners l c f a e) (facets d g b h) = let v = b.many in let w = a.few in absurd (omega arith)
+bound_same options input r s (corners l c f a e) (corners m d g b h) = e ∙ corners_same l c m d (sym a.long ∙ b.long) ∙ sym h
+bound_same options input r s (corners l c f a e) (off m y b h) = let v = a.long in let w = y.short in absurd (cc)
+bound_same options input r s (corners l c f a e) (equal k q y b h) = let v = a.long in let w = y.short in absurd (cc)
+bound_same options input r s (off l z a e) (fits u b q h) = let v = a.off in let w = b.on.on in absurd (cc)
+bound_same options input r s (off l z a e) (many d b h) = let v = a.few in let w = b.many in absurd (omega arith)
+bound_same options input r s (off l z a e) (facets d g b h) = let v = b.many in let w = z.few in absurd (omega arith)
+bound_same options input r s (off l z a e) (corners m d g b h) = let v = b.long in let w = z.short in absurd (cc)
+bound_same options input r s (off l z a e) (off m y b h) = e ∙ ap (λ x. Err (Limit (OnGrid x))) (off_same l m (sym a.off ∙ b.off)) ∙ sym h
+bound_same options input r s (off l z a e) (equal k q y b h) = let v = a.off in let w = b.on.on in absurd (cc)
+bound_same options input r s (equal i j z a e) (fits u b q h) = absurd (settled_no_twin options input.nodes u.table i j b a)
+bound_same options input r s (equal i j z a e) (many d b h) = let v = a.on.few in let w = b.many in absurd (omega arith)
+bound_same options input r s (equal i j z a e) (facets d g b h) = let v = b.many in let w = z.few in absurd (omega arith)
+bound_same options input r s (equal i j z a e) (corners m d g b h) = let v = b.long in let w = z.short in absurd (cc)
+bound_same options input r s (equal i j z a e) (off m y b h) = let v = a.on.on in let w = b.off in absurd (cc)
+bound_same options input r s (equal i j z a e) (equal k q y b h) = let w = twins_same options input.nodes i j k q a b in e ∙ (λ x. Err (Twin (w.0 x) (w.1 x))) ∙ sym h
+
+pub bound_once : (options : Options) (input : Input) → IsOnce (BoundAnswer options input)
+bound_once options input r s n m h k = bound_same options input r s (bound_case options input r n h) (bound_case options input s m k)
+
+-- ---- the mesh and its outputs
+
+no_want : (fault : MeshFault) (s : Status) → s ≡ status_of_fault fault → s ≢ NoMemory → fault ≢ mesh_faults.NoMemory
+no_want fault s e n f = n (e ∙ ap status_of_fault f)
+
+flat_is : (bound : Bound) (s : Status) → s ≢ NoMemory → IsFlatRefusal bound s → AreCoplanar bound.table.points × (s ≡ Flat)
+flat_is bound Flat n h = (h, refl)
+flat_is bound NoMemory n h = absurd (n refl)
+flat_is bound s n h = absurd h
+
+-- the status of a cause, as it is forced
+abbrev forced_fault : MeshFault → Status
+forced_fault fault = forced_answer (status_of_fault fault)
+
+-- a cause that stands beside a mesh
+beside_mesh : (f : MeshFault) → f ≢ mesh_faults.NoMemory → ¬ IsForcing f → Done ≡ forced_fault f
+beside_mesh (mesh_faults.NoFill anomaly) n never = refl
+beside_mesh mesh_faults.NoMemory n never = absurd (n refl)
+beside_mesh f n never = absurd (never tt)
+
+-- two causes that stand beside each other
+beside_fault : (f g : MeshFault) → f ≢ mesh_faults.NoMemory → g ≢ mesh_faults.NoMemory → (IsForcing f → f ≡ g) → (IsForcing g → g ≡ f) → forced_fault f ≡ forced_fault g
+beside_fault (mesh_faults.NoFill anomaly) (mesh_faults.NoFill other) n m to from = refl
+beside_fault (mesh_faults.NoFill anomaly) mesh_faults.NoMemory n m to from = absurd (m refl)
+beside_fault (mesh_faults.NoFill anomaly) g n m to from = ap forced_fault (sym (from tt))
+beside_fault mesh_faults.NoMemory g n m to from = absurd (n refl)
+beside_fault f g n m to from = ap forced_fault (to tt)
+
+mesh_of_same : (options : Options) (bound : Bound) (piecewise : Bool) → IsSame (MeshOf piecewise options bound)
+mesh_of_same options bound false (Ok a) (Ok b) n m h k = refl
+mesh_of_same options bound false (Ok a) (Err t) n m h k = absurd (h.0 (flat_is bound t m k).0)
+mesh_of_same options bound false (Err s) (Ok b) n m h k = absurd (k.0 (flat_is bound s n h).0)
+mesh_of_same options bound false (Err s) (Err t) n m h k = ap forced_answer ((flat_is bound s n h).1 ∙ sym (flat_is bound t m k).1)
+mesh_of_same options bound true (Ok a) (Ok b) n m h k = refl
+mesh_of_same options bound true (Ok a) (Err t) n m h k =
+    beside_mesh k.0 (no_want k.0 t k.1 m) (λ f. law_no_fault (mesh_options options bound.table) bound.table.points bound.complex h.0 h.1 k.0 f k.2) ∙ sym (ap forced_answer k.1)
+mesh_of_same options bound true (Err s) (Ok b) n m h k =
+    ap forced_answer h.1 ∙ sym (beside_mesh h.0 (no_want h.0 s h.1 n) (λ f. law_no_fault (mesh_options options bound.table) bound.table.points bound.complex k.0 k.1 h.0 f h.2))
+mesh_of_same options bound true (Err s) (Err t) n m h k =
+    let want = no_want h.0 s h.1 n in
+    let wants = no_want k.0 t k.1 m in
+    ap forced_answer h.1
+    ∙ beside_fault h.0 k.0 want wants (λ f. law_one_fault bound.table.grid.halvings options.budget bound.table.points bound.complex h.0 k.0 f wants h.2 k.2)
+    (λ f. law_one_fault bound.table.grid.halvings options.budget bound.table.points bound.complex k.0 h.0 f want k.2 h.2) ∙ sym (ap forced_answer k.1)
+
+-- ---- the run
+
+meshed_same : (options : Options) (input : Input) → IsSame (MeshedAnswer options input)
+meshed_same options input =
+    and_then_same (BoundAnswer options input) (λ bound. AndThen (MeshAnswer options bound) (OutputsAnswer options)) (bound_once options input)
+    (λ bound. and_then_sure (MeshAnswer options bound) (OutputsAnswer options) (mesh_of_same options bound options.piecewise) (λ mesh s h. h))
+
+pub run_same : (told : Files) (words : List (List ℕ)) (seen : FolderSeen) → seen.files_before ≡ Some told → ¬ Rose seen.faults_before seen.faults_now → IsSame (OutputsOfRun words seen)
+run_same told words seen e f =
+    and_then_same (WordsAnswer words) (λ options. AndThen (InputAnswer seen options) (MeshedAnswer options)) (words_once words)
+    (λ options. and_then_same (InputAnswer seen options) (MeshedAnswer options) (input_once told seen options (record { files = e; no_fault = f })) (meshed_same options))

@@ -1,0 +1,34 @@
+use Rattle.std.proofs.Common.{refl, Ok, arith}
+use Rattle.run_steps.specs.Reading.{SourceAnswer, NodesAnswer, BoundedAnswer}
+use Rattle.run_steps.specs.Seen.{FolderSeen, folder_seen}
+use Rattle.run_steps.specs.Steps.{AndThen}
+use Rattle.run_steps.proofs.Steps.{and_then_ok}
+use Rattle.run_steps.proofs.Wider.{IsWithin, source_wider, bounded_wider}
+use Rattle.run_steps.proofs.input.read_complex.Goals as goal
+
+pub returns-clause-answer : goal.returns-clause-answer
+returns-clause-answer g c =
+    let F = g.F.Folder in
+    let o = c.args.options.now in
+    let file = c.in_ok-file.file in
+    let first : FolderSeen = folder_seen F.held F.faults F.misses c.args.folder.now c.read_source.new.folder in
+    let second : FolderSeen = folder_seen F.held F.faults F.misses c.read_source.new.folder c.with_points.new.folder in
+    let wide : FolderSeen = folder_seen F.held F.faults F.misses c.args.folder.now c.with_points.new.folder in
+    let a = c.read_source.ensures in
+    let b = c.with_points.ensures in
+    let one : IsWithin first wide = record {
+      files = refl;
+      faults_before = omega arith;
+      faults_now = b.faults;
+      misses_before = omega arith;
+      misses_now = b.misses;
+    } in
+    let two : IsWithin second wide = record {
+      files = a.unchanged;
+      faults_before = a.faults;
+      faults_now = omega arith;
+      misses_before = a.misses;
+      misses_now = omega arith;
+    } in
+    and_then_ok (SourceAnswer wide o.base o.extension o.sample) (λ f. AndThen (NodesAnswer wide o.base f.text.nodes) (BoundedAnswer f)) file c.with_points.result
+    (source_wider first wide one o.base o.extension o.sample (Ok file) c.in_ok-file.ensures.answer) (bounded_wider second wide two o.base file c.with_points.result b.answer)

@@ -1,0 +1,30 @@
+use Rattle.std.proofs.Common.{◌≡◌, Bool, true, false, not, ◌&&◌, [], refl, sym, subst, ◌∙◌}
+use Rattle.std.proofs.lemmas.Bool.{true≢false}
+use Rattle.mesh_files.specs.FaceRows.{AreFaceRowsOf}
+use Rattle.run_steps.proofs.outputs.hull_outputs.Goals as goal
+
+-- what is asked for
+parts : (a b c d : Bool) → (a && (not b && (not c && not d))) ≡ true → (a ≡ true) × (b ≡ false) × (c ≡ false) × (d ≡ false)
+parts false b c d h = absurd (true≢false (sym h))
+parts true true c d h = absurd (true≢false (sym h))
+parts true false true d h = absurd (true≢false (sym h))
+parts true false false true h = absurd (true≢false (sym h))
+parts true false false false h = (refl, refl, refl, refl)
+
+pub returns : goal.returns
+returns c =
+    let options = c.args.options.now in
+    let mesh = c.args.mesh.now in
+    let hull = c.requires.hull in
+    let asked = parts options.quiet options.no_face options.all_faces options.neighbors c.requires.asks in
+    let found = c.in_ok-faces.ensures mesh.points mesh.complex mesh.tetrahedra hull.ascending hull.faces in
+    record {
+      marked = c.in_ok-faces.faces;
+      marked_are = λ _. subst (λ all. AreFaceRowsOf mesh.points mesh.tetrahedra mesh.complex mesh.triangles all c.in_ok-faces.faces) (sym asked.2)
+          (subst (λ ts. AreFaceRowsOf mesh.points mesh.tetrahedra mesh.complex ts false c.in_ok-faces.faces) (sym hull.bare) found);
+      faces = [];
+      faces_are = λ loud. absurd (true≢false (sym asked.0 ∙ loud));
+      face_is = c.in_ok-face.ensures;
+      neigh_is = rw asked.3 refl;
+      count_is = refl;
+    }

@@ -1,0 +1,34 @@
+-- The status with which the program ends, and the status of a complex that has no mesh.
+use Rattle.std.specs.Prelude.{ℕ}
+use Rattle.complex_mesh.specs.declared.fault.MeshFault.{MeshFault}
+use Rattle.complex_mesh.specs.declared.fault.MeshFault.TheVariants as fault
+use Rattle.run_steps.specs.declared.status.Status.{Status}
+use Rattle.run_steps.specs.declared.status.Status.TheVariants.{Done, Usage, Missing, ReadFault, BadText, Limit, Twin, Flat, NotFlat, SegmentsCross, Crossing, GridEnd, BudgetEnd, NoFill, NoMemory, WriteFault}
+
+abbrev pub code_of : Status → ℕ
+code_of Done = 0
+code_of (Usage word place) = 1
+code_of (Missing name) = 2
+code_of (ReadFault name) = 3
+code_of (BadText name fault) = 4
+code_of (Limit what) = 5
+code_of (Twin first second) = 6
+code_of Flat = 6
+code_of (NotFlat facet four) = 6
+code_of (SegmentsCross one two) = 6
+code_of (Crossing one two) = 6
+code_of (GridEnd piece) = 7
+code_of (BudgetEnd made piece) = 8
+code_of (NoFill anomaly) = 9
+code_of NoMemory = 10
+code_of (WriteFault name) = 11
+
+abbrev pub status_of_fault : MeshFault → Status
+status_of_fault fault.Flat = Flat
+status_of_fault (fault.NotFlat facet four) = NotFlat facet four
+status_of_fault (fault.SegmentsCross one two) = SegmentsCross one two
+status_of_fault (fault.GridEnd piece) = GridEnd piece
+status_of_fault (fault.BudgetEnd made piece) = BudgetEnd made piece
+status_of_fault (fault.Crossing one two) = Crossing one two
+status_of_fault (fault.NoFill anomaly) = NoFill anomaly
+status_of_fault fault.NoMemory = NoMemory

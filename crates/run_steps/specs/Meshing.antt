@@ -1,0 +1,156 @@
+-- What a run makes of its input.
+use Rattle.std.specs.Prelude.{◌≡◌, ◌≤◌, ℕ, Bool, true, false, List, [], length, drop, None, Result, Ok, Err}
+use Rattle.command_words.specs.declared.options.Options.{Options}
+use Rattle.complex_mesh.specs.Meshing.{IsComplexMesh, IsMeshFault}
+use Rattle.complex_mesh.specs.Protection.{IsMeshable}
+use Rattle.complex_mesh.specs.declared.fault.MeshFault.{MeshFault}
+use Rattle.complex_mesh.specs.declared.mesh.ComplexMesh.{ComplexMesh}
+use Rattle.complex_mesh.specs.declared.mesh.MeshOptions.{MeshOptions}
+use Rattle.geo_laws.specs.Complex.{empty_complex}
+use Rattle.geo_laws.specs.Delaunay.{AreCoplanar, delaunay_rows}
+use Rattle.node_files.specs.Settling.{IsSettled, IsTooMany, IsOffGrid, HasTwin, most_points}
+use Rattle.node_files.specs.Writing.{IsNodeTable}
+use Rattle.node_files.specs.declared.table.GridOptions.{GridOptions}
+use Rattle.node_files.specs.declared.table.NodeTable.{NodeTable}
+use Rattle.plc_files.specs.Binding.{IsBound, HasManyFacets, HasLongPolygon}
+use Rattle.plc_files.specs.Checks.{most_facets, sizes_check}
+use Rattle.plc_files.specs.Text.{Plc}
+use Rattle.run_steps.specs.Codes.{status_of_fault}
+use Rattle.run_steps.specs.Outputs.{AreOutputsOf}
+use Rattle.run_steps.specs.Reading.{WordsAnswer, InputAnswer}
+use Rattle.run_steps.specs.Seen.{FolderSeen}
+use Rattle.run_steps.specs.Steps.{AndThen}
+use Rattle.run_steps.specs.declared.input.Input.{Input}
+use Rattle.run_steps.specs.declared.mesh.Bound.{Bound}
+use Rattle.run_steps.specs.declared.meshed.HulledMesh.{HulledMesh}
+use Rattle.run_steps.specs.declared.meshed.Meshed.{Meshed}
+use Rattle.run_steps.specs.declared.outputs.Outputs.{Outputs}
+use Rattle.run_steps.specs.declared.status.LimitKind.TheVariants.{Points, Facets, Corners, Grid as OnGrid}
+use Rattle.run_steps.specs.declared.status.Status.{Status}
+use Rattle.run_steps.specs.declared.status.Status.TheVariants.{Limit, Twin, Flat, NoMemory}
+
+-- ---- the grid
+
+-- how the options put points on a grid
+abbrev pub grid_options : Options → GridOptions
+grid_options options = record { decimals = options.decimals; halvings = options.halvings }
+
+-- neither too many facets nor too many corners of a polygon
+pub record IsSmall (text : Plc) : Type 0 where
+  pub few : length text.facets ≤ most_facets
+  pub short : sizes_check text ≡ Ok tt
+
+-- Why an input is on no grid. Each limit comes before those behind it
+abbrev pub IsUnbound : Options → Input → Status → Type 0
+IsUnbound options input (Limit (Points count)) = IsTooMany input.nodes count
+IsUnbound options input (Limit (Facets count)) = (length input.nodes.decimals ≤ most_points) × HasManyFacets input.complex count
+IsUnbound options input (Limit (Corners line count)) = (length input.nodes.decimals ≤ most_points) × HasLongPolygon input.complex line count
+IsUnbound options input (Limit (OnGrid line)) = IsSmall input.complex × IsOffGrid input.nodes (grid_options options) line
+IsUnbound options input (Twin first second) = IsSmall input.complex × HasTwin input.nodes (grid_options options) first second
+IsUnbound options input NoMemory = Unit {0}
+IsUnbound options input status = ⊥
+
+-- the points and the complex on their grid
+abbrev pub BoundAnswer : Options → Input → Result Bound Status → Type 0
+BoundAnswer options input (Ok bound) =
+    IsSettled input.nodes (grid_options options) bound.table × IsBound input.complex input.nodes.first bound.table.grid bound.complex
+BoundAnswer options input (Err status) = IsUnbound options input status
+
+-- ---- the mesh
+
+-- the point list without the decimals of its points, which are read no more once the points are on their grid
+abbrev pub without_decimals : NodeTable → NodeTable
+without_decimals table = record table { decimals = [] }
+
+-- the mesh of points alone: their Delaunay list
+abbrev pub mesh_of_points : NodeTable → Meshed
+mesh_of_points table = record {
+  table = without_decimals table;
+  added = [];
+  points = table.points;
+  complex = empty_complex;
+  triangles = [];
+  tetrahedra = delaunay_rows table.points;
+  marks = None;
+}
+
+-- how the options make the mesh of a complex
+abbrev pub mesh_options : Options → NodeTable → MeshOptions
+mesh_options options table = record {
+  halvings = table.grid.halvings;
+  budget = options.budget;
+  keep_hull = options.keep_hull;
+  regions = options.regions;
+}
+
+-- the mesh of a complex on its table of points
+abbrev pub mesh_of_complex : Bound → ComplexMesh → Meshed
+mesh_of_complex bound made = record {
+  table = without_decimals bound.table;
+  added = drop (length bound.table.points) made.points;
+  points = made.points;
+  complex = bound.complex;
+  triangles = made.triangles;
+  tetrahedra = made.tetrahedra;
+  marks = made.marks;
+}
+
+-- why points alone have no mesh
+abbrev pub IsFlatRefusal : Bound → Status → Type 0
+IsFlatRefusal bound Flat = AreCoplanar bound.table.points
+IsFlatRefusal bound NoMemory = Unit {0}
+IsFlatRefusal bound status = ⊥
+
+-- why a complex has no mesh
+abbrev pub IsUnmeshed : Options → Bound → Status → Type 0
+IsUnmeshed options bound status =
+    (fault : MeshFault) × (status ≡ status_of_fault fault)
+    × IsMeshFault bound.table.grid.halvings options.budget bound.table.points bound.complex fault
+
+-- the mesh of points alone, or of a complex
+abbrev pub MeshOf : Bool → Options → Bound → Result Meshed Status → Type 0
+MeshOf false options bound (Ok mesh) = ¬ AreCoplanar bound.table.points × (mesh ≡ mesh_of_points bound.table)
+MeshOf false options bound (Err status) = IsFlatRefusal bound status
+MeshOf true options bound (Ok mesh) =
+    (made : ComplexMesh) × IsComplexMesh (mesh_options options bound.table) bound.table.points bound.complex made × (mesh ≡ mesh_of_complex bound made)
+MeshOf true options bound (Err status) = IsUnmeshed options bound status
+
+abbrev pub MeshAnswer : Options → Bound → Result Meshed Status → Type 0
+MeshAnswer options bound = MeshOf options.piecewise options bound
+
+-- without its hull
+abbrev pub mesh_in : Result HulledMesh Status → Result Meshed Status
+mesh_in (Ok made) = Ok made.mesh
+mesh_in (Err status) = Err status
+
+-- ---- the outputs
+
+-- its files and its summary
+abbrev pub OutputsAnswer : Options → Meshed → Result Outputs Status → Type 0
+OutputsAnswer options mesh (Ok outputs) = AreOutputsOf options mesh outputs
+OutputsAnswer options mesh (Err status) = status ≡ NoMemory
+
+-- the outputs of an input
+abbrev pub MeshedAnswer : Options → Input → Result Outputs Status → Type 0
+MeshedAnswer options input = AndThen (BoundAnswer options input) (λ bound. AndThen (MeshAnswer options bound) (OutputsAnswer options))
+
+-- The steps of a run up to its first store: the words are read, then the input that they name, and the outputs of its mesh are made.
+-- Each refusal is one of the first step that refuses
+abbrev pub OutputsOfRun : List (List ℕ) → FolderSeen → Result Outputs Status → Type 0
+OutputsOfRun words seen = AndThen (WordsAnswer words) (λ options. AndThen (InputAnswer seen options) (MeshedAnswer options))
+
+-- ---- the parts of the way
+
+-- the complex is over a limit
+abbrev pub IsOverLimit : Plc → Status → Type 0
+IsOverLimit text (Limit (Facets count)) = HasManyFacets text count
+IsOverLimit text (Limit (Corners line count)) = HasLongPolygon text line count
+IsOverLimit text NoMemory = Unit {0}
+IsOverLimit text status = ⊥
+
+-- what the mesh is made of
+pub record IsMeshableBound (options : Options) (bound : Bound) : Type 0 where
+  pub table : IsNodeTable bound.table
+  pub few : length bound.table.points ≤ most_points
+  pub budget : options.budget ≤ 100000
+  pub meshable : IsMeshable bound.table.grid.halvings options.budget bound.table.points bound.complex

@@ -1,0 +1,132 @@
+-- The files and the summary of a mesh.
+use Rattle.std.specs.Prelude.{◌≡◌, ℕ, ◌+◌, ◌<◌, ◌^◌, Bool, true, false, ◌||◌, ◌&&◌, not, List, [], ◌∷◌, ◌++◌, length, All, AllPairs, Option, Some, None, IfSome, codes, if◌then◌else◌}
+use Rattle.std.specs.Fmt.{decimal}
+use Rattle.geo_laws.specs.Delaunay.{RowBefore}
+use Rattle.geo_laws.specs.Faces.{AreFacesOf, AreHullFacesOf, AreSidesOf}
+use Rattle.geo_laws.specs.declared.faces.Face.{Face}
+use Rattle.geo_laws.specs.declared.faces.Side.{Side}
+use Rattle.incidence.specs.Pairs.{pairs_of}
+use Rattle.mesh_files.specs.FaceRows.{AreFaceRowsOf, AreFacesMet, AreFacetsThere}
+use Rattle.mesh_files.specs.Texts.{ele_text_of, face_text, edge_text, neigh_text}
+use Rattle.mesh_files.specs.declared.markers.FaceRow.{FaceRow}
+use Rattle.node_files.specs.Writing.{node_text, IsNodeTable}
+use Rattle.run_steps.specs.Messages.{file_message}
+use Rattle.run_steps.specs.declared.meshed.Meshed.{Meshed}
+use Rattle.run_steps.specs.declared.outputs.Outputs.{Outputs}
+use Rattle.run_steps.specs.declared.outputs.FaceOutputs.{FaceOutputs}
+use Rattle.run_steps.specs.declared.outputs.SideOutputs.{SideOutputs}
+use Rattle.run_steps.specs.declared.store.NamedText.{NamedText}
+use Rattle.command_words.specs.declared.options.Options.{Options}
+
+-- a text under the base with an extension
+abbrev pub named : List ℕ → List ℕ → List ℕ → NamedText
+named base extension content = record {
+  name = base ++ extension;
+  content = content;
+  message = file_message (base ++ extension) (codes "write failed");
+}
+
+-- the number of the first row, face, side and point in what is written
+abbrev pub first_of : Options → Meshed → ℕ
+first_of options mesh = if options.from_zero then 0 else mesh.table.first
+
+-- ---- the files that the options ask for
+
+abbrev pub node_file : Options → Meshed → Option NamedText
+node_file options mesh =
+    if options.no_node then None else Some (named options.base (codes ".1.node") (node_text mesh.table mesh.added (first_of options mesh)))
+
+abbrev pub ele_file : Options → Meshed → Option NamedText
+ele_file options mesh =
+    if options.no_ele then None
+    else Some (named options.base (codes ".1.ele") (ele_text_of mesh.marks mesh.complex.regions (first_of options mesh) mesh.tetrahedra))
+
+abbrev pub face_file : Options → Meshed → List FaceRow → Option NamedText
+face_file options mesh faces =
+    if options.no_face then None else Some (named options.base (codes ".1.face") (face_text (first_of options mesh) faces))
+
+abbrev pub edge_file : Options → Meshed → List Side → Option NamedText
+edge_file options mesh sides =
+    if options.no_face || not options.edges then None else Some (named options.base (codes ".1.edge") (edge_text (first_of options mesh) sides))
+
+abbrev pub neigh_file : Options → Meshed → Option NamedText
+neigh_file options mesh =
+    if not options.neighbors then None
+    else Some (named options.base (codes ".1.neigh") (neigh_text (first_of options mesh) (pairs_of mesh.tetrahedra)))
+
+-- `points P added A tetrahedra T faces F edges E`, for so many faces and edges
+abbrev pub summary_text : Meshed → ℕ → ℕ → List ℕ
+summary_text mesh faces edges =
+    codes "points " ++ decimal (length mesh.table.points) ++ codes " added " ++ decimal (length mesh.added)
+    ++ codes " tetrahedra " ++ decimal (length mesh.tetrahedra) ++ codes " faces " ++ decimal faces ++ codes " edges " ++ decimal edges ++ (10 ∷ [])
+
+abbrev pub summary_of : Options → Meshed → ℕ → ℕ → Option (List ℕ)
+summary_of options mesh faces edges = if options.quiet then None else Some (summary_text mesh faces edges)
+
+-- whether the edge file or the summary is asked for
+abbrev pub names_sides : Options → Bool
+names_sides options = not options.quiet || (not options.no_face && options.edges)
+
+-- whether nothing is asked for of the faces but those on the hull and in facets
+abbrev pub asks_hull_alone : Options → Bool
+asks_hull_alone options = options.quiet && (not options.no_face && (not options.all_faces && not options.neighbors))
+
+-- whether the face file, the neighbor file or the summary is asked for, which speak of the uses of faces
+abbrev pub asks_uses : Options → Bool
+asks_uses options = not options.quiet || (not options.no_face || options.neighbors)
+
+-- ---- the outputs
+
+-- A mesh that can be written: its triangles are met by the faces of its tetrahedra and are of facets of the complex, and its marks, where it has
+-- some, are one for each tetrahedron, of regions of the complex
+pub record IsWritable (mesh : Meshed) : Type 0 where
+  pub table : IsNodeTable mesh.table
+  pub few : length mesh.table.points + length mesh.added < 2 ^ 32
+  pub met : AreFacesMet mesh.points mesh.triangles mesh.tetrahedra
+  pub there : AreFacetsThere mesh.triangles mesh.complex
+  pub marks_long : IfSome mesh.marks (λ marks. length marks ≡ length mesh.tetrahedra)
+  pub marks_there : IfSome mesh.marks (λ marks. All (λ mark. IfSome mark (λ region. region < length mesh.complex.regions)) marks)
+
+-- these are the faces of the hull of a mesh without facets, whose rows ascend
+pub record IsHullOf (mesh : Meshed) (hull : List Face) : Type 0 where
+  pub bare : mesh.triangles ≡ []
+  pub ascending : AllPairs RowBefore mesh.tetrahedra
+  pub faces : AreHullFacesOf mesh.tetrahedra hull
+
+-- the face file of a mesh
+pub record IsFaceFileOf (options : Options) (mesh : Meshed) (file : Option NamedText) : Type 0 where
+  pub marked : List FaceRow
+  pub marked_are : options.no_face ≡ false → AreFaceRowsOf mesh.points mesh.tetrahedra mesh.complex mesh.triangles options.all_faces marked
+  pub face_is : file ≡ face_file options mesh marked
+
+-- what is told of the faces of a mesh, where a file or the summary speaks of them
+pub record AreFaceOutputsOf (options : Options) (mesh : Meshed) (outputs : FaceOutputs) : Type 0 where
+  pub marked : List FaceRow
+  pub marked_are : options.no_face ≡ false → AreFaceRowsOf mesh.points mesh.tetrahedra mesh.complex mesh.triangles options.all_faces marked
+  pub faces : List Face
+  pub faces_are : options.quiet ≡ false → AreFacesOf mesh.tetrahedra faces
+  pub face_is : outputs.face ≡ face_file options mesh marked
+  pub neigh_is : outputs.neigh ≡ neigh_file options mesh
+  pub count_is : outputs.count ≡ length faces
+
+-- what is told of the sides of a mesh, where a file or the summary speaks of them
+pub record AreSideOutputsOf (options : Options) (mesh : Meshed) (outputs : SideOutputs) : Type 0 where
+  pub sides : List Side
+  pub sides_are : names_sides options ≡ true → AreSidesOf mesh.tetrahedra sides
+  pub edge_is : outputs.edge ≡ edge_file options mesh sides
+  pub count_is : outputs.count ≡ length sides
+
+-- The files and the summary of a mesh. Faces and sides are those of its tetrahedra, where a file or the summary speaks of them
+pub record AreOutputsOf (options : Options) (mesh : Meshed) (outputs : Outputs) : Type 0 where
+  pub marked : List FaceRow
+  pub marked_are : options.no_face ≡ false → AreFaceRowsOf mesh.points mesh.tetrahedra mesh.complex mesh.triangles options.all_faces marked
+  pub faces : List Face
+  pub faces_are : options.quiet ≡ false → AreFacesOf mesh.tetrahedra faces
+  pub sides : List Side
+  pub sides_are : names_sides options ≡ true → AreSidesOf mesh.tetrahedra sides
+  pub node_is : outputs.texts.node ≡ node_file options mesh
+  pub ele_is : outputs.texts.ele ≡ ele_file options mesh
+  pub face_is : outputs.texts.face ≡ face_file options mesh marked
+  pub edge_is : outputs.texts.edge ≡ edge_file options mesh sides
+  pub neigh_is : outputs.texts.neigh ≡ neigh_file options mesh
+  pub summary_is : outputs.summary ≡ summary_of options mesh (length faces) (length sides)

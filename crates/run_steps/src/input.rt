@@ -1,0 +1,288 @@
+//! What a run reads.
+
+ghost use Rattle.std.specs.Prelude.{◌≡◌, ◌≤◌, [], None, true, false, IfSome, length, IfOk, IfErr};
+ghost use Rattle.command_words.specs.declared.options.Extension.TheVariants.{Poly, Smesh};
+ghost use Rattle.node_files.specs.Node.{IsNodeText};
+ghost use Rattle.plc_files.specs.Checks.{HasFewParts};
+ghost use Rattle.plc_files.specs.Sample.{sample_of};
+ghost use Rattle.run_steps.specs.Reading.{complex_file, node_text_of, plc_text_of, most_bytes, IsRead, IsUnfetched, TextAnswer, PointsAnswer, FormAnswer, ComplexFileAnswer, SourceAnswer, NodesAnswer, BoundedAnswer, InputOf, InputAnswer, IsSound};
+ghost use Rattle.run_steps.specs.Seen.{folder_seen};
+ghost use Rattle.run_steps.specs.Steps.{AndThen, IfMissing, Gives};
+
+use crate::status::{LimitKind, Status};
+use command_words::{Extension, Options, file_name};
+use node_files::{NodeFault, NodeText, read_node};
+use plc_files::{PlcFault, PlcText, check_corners, read_poly, read_smesh, sample};
+use std::alloc::Global;
+use tet_ports::{Bytes, FetchFault, Folder, Name};
+
+/// How many bytes of a file are read at most.
+const MOST_BYTES: usize = 67_108_864;
+
+/// What a run is made of: points, and a complex on them, whose own point list was handed out.
+#[derive(Drop)]
+pub struct Input {
+    pub nodes: NodeText,
+    pub complex: PlcText,
+}
+
+/// A file that was fetched.
+#[derive(Drop)]
+struct Fetched {
+    name: Name,
+    bytes: Bytes,
+}
+
+/// A complex and the name of its file.
+#[derive(Drop)]
+struct ComplexFile {
+    name: Name,
+    text: PlcText,
+}
+
+/// The input that the options name.
+pub fn read_input<F: Folder>(
+    alloc: Global,
+    options: &Options,
+    folder: &mut F,
+) -> Result<Input, Status>
+    requires { IfSome options.now.sample (λ n. n ≤ 10000) }
+    ensures answer { InputAnswer (folder_seen F.held F.faults F.misses folder.old folder.new) options.now result }
+    ensures sound { IfOk result IsSound }
+    ensures unchanged { F.held folder.new ≡ F.held folder.old }
+    ensures faults { F.faults folder.old ≤ F.faults folder.new }
+    ensures misses { F.misses folder.old ≤ F.misses folder.new }
+{
+    if options.piecewise {
+        return read_complex(alloc, options, folder);
+    }
+    read_points_alone(alloc, options, folder)
+}
+
+/// A complex on its points.
+fn read_complex<F: Folder>(
+    alloc: Global,
+    options: &Options,
+    folder: &mut F,
+) -> Result<Input, Status>
+    requires { IfSome options.now.sample (λ n. n ≤ 10000) }
+    ensures answer { InputOf true (folder_seen F.held F.faults F.misses folder.old folder.new) options.now result }
+    ensures sound { IfOk result IsSound }
+    ensures unchanged { F.held folder.new ≡ F.held folder.old }
+    ensures faults { F.faults folder.old ≤ F.faults folder.new }
+    ensures misses { F.misses folder.old ≤ F.misses folder.new }
+{
+    let file = read_source(alloc, options, folder)?;
+    with_points(alloc, &options.base, file, folder)
+}
+
+/// The points of a file, with no complex.
+fn read_points_alone<F: Folder>(
+    alloc: Global,
+    options: &Options,
+    folder: &mut F,
+) -> Result<Input, Status>
+    ensures answer { InputOf false (folder_seen F.held F.faults F.misses folder.old folder.new) options.now result }
+    ensures sound { IfOk result IsSound }
+    ensures unchanged { F.held folder.new ≡ F.held folder.old }
+    ensures faults { F.faults folder.old ≤ F.faults folder.new }
+    ensures misses { F.misses folder.old ≤ F.misses folder.new }
+{
+    let nodes = read_points(alloc, &options.base, folder)?;
+    Ok(Input {
+        nodes,
+        complex: PlcText::new(alloc, None),
+    })
+}
+
+/// The complex that the options name: the sample, or that of a file.
+fn read_source<F: Folder>(
+    alloc: Global,
+    options: &Options,
+    folder: &mut F,
+) -> Result<ComplexFile, Status>
+    requires { IfSome options.now.sample (λ n. n ≤ 10000) }
+    ensures answer { SourceAnswer (folder_seen F.held F.faults F.misses folder.old folder.new) options.now.base options.now.extension options.now.sample result }
+    ensures few { IfOk result (λ file. HasFewParts file.text) }
+    ensures unchanged { F.held folder.new ≡ F.held folder.old }
+    ensures faults { F.faults folder.old ≤ F.faults folder.new }
+    ensures misses { F.misses folder.old ≤ F.misses folder.new }
+{
+    match options.sample {
+        Some(n) => read_sample(alloc, n),
+        None => read_complex_file(alloc, &options.base, options.extension, folder),
+    }
+}
+
+/// The sample, which has no file.
+fn read_sample(alloc: Global, n: u32) -> Result<ComplexFile, Status>
+    requires { n ≤ 10000 }
+    ensures answer { Gives (complex_file [] (sample_of n)) result }
+    ensures few { IfOk result (λ file. HasFewParts file.text) }
+{
+    let text = sample(alloc, n)?;
+    Ok(ComplexFile {
+        name: Name::new(alloc),
+        text,
+    })
+}
+
+/// The complex of the file with this base: of its `.poly` file, or where there is none of its `.smesh` file, if no extension says which.
+fn read_complex_file<F: Folder>(
+    alloc: Global,
+    base: &Name,
+    extension: Option<Extension>,
+    folder: &mut F,
+) -> Result<ComplexFile, Status>
+    ensures answer { ComplexFileAnswer (folder_seen F.held F.faults F.misses folder.old folder.new) base.now extension result }
+    ensures few { IfOk result (λ file. HasFewParts file.text) }
+    ensures unchanged { F.held folder.new ≡ F.held folder.old }
+    ensures faults { F.faults folder.old ≤ F.faults folder.new }
+    ensures misses { F.misses folder.old ≤ F.misses folder.new }
+{
+    match extension {
+        Some(Extension::Smesh) => read_form(alloc, base, Extension::Smesh, folder),
+        Some(Extension::Poly) => read_form(alloc, base, Extension::Poly, folder),
+        Some(Extension::Node) => read_bare(alloc, base, folder),
+        None => read_bare(alloc, base, folder),
+    }
+}
+
+/// The complex of the `.poly` file with this base, or where there is none of its `.smesh` file.
+fn read_bare<F: Folder>(alloc: Global, base: &Name, folder: &mut F) -> Result<ComplexFile, Status>
+    ensures answer { IfMissing (FormAnswer (folder_seen F.held F.faults F.misses folder.old folder.new) base.now Poly) (FormAnswer (folder_seen F.held F.faults F.misses folder.old folder.new) base.now Smesh) result }
+    ensures few { IfOk result (λ file. HasFewParts file.text) }
+    ensures unchanged { F.held folder.new ≡ F.held folder.old }
+    ensures faults { F.faults folder.old ≤ F.faults folder.new }
+    ensures misses { F.misses folder.old ≤ F.misses folder.new }
+{
+    match read_form(alloc, base, Extension::Poly, folder) {
+        Err(Status::Missing { name: _ }) => read_form(alloc, base, Extension::Smesh, folder),
+        answer => answer,
+    }
+}
+
+/// The complex of a file in one form.
+fn read_form<F: Folder>(
+    alloc: Global,
+    base: &Name,
+    extension: Extension,
+    folder: &mut F,
+) -> Result<ComplexFile, Status>
+    ensures answer { FormAnswer (folder_seen F.held F.faults F.misses folder.old folder.new) base.now extension result }
+    ensures few { IfOk result (λ file. HasFewParts file.text) }
+    ensures unchanged { F.held folder.new ≡ F.held folder.old }
+    ensures faults { F.faults folder.old ≤ F.faults folder.new }
+    ensures misses { F.misses folder.old ≤ F.misses folder.new }
+{
+    let name = file_name(alloc, base, extension)?;
+    let file = fetch(alloc, name, folder)?;
+    complex_of(alloc, extension, file)
+}
+
+/// The points of a complex: its own, or where it has none those of the `.node` file with the same base. Each corner has to be one of them.
+fn with_points<F: Folder>(
+    alloc: Global,
+    base: &Name,
+    file: ComplexFile,
+    folder: &mut F,
+) -> Result<Input, Status>
+    requires { HasFewParts file.text }
+    ensures answer { AndThen (NodesAnswer (folder_seen F.held F.faults F.misses folder.old folder.new) base.now file.text.nodes) (BoundedAnswer file) result }
+    ensures sound { IfOk result IsSound }
+    ensures unchanged { F.held folder.new ≡ F.held folder.old }
+    ensures faults { F.faults folder.old ≤ F.faults folder.new }
+    ensures misses { F.misses folder.old ≤ F.misses folder.new }
+{
+    let ComplexFile { name, mut text } = file;
+    let own = text.take_nodes();
+    let nodes = match own {
+        Some(nodes) => nodes,
+        None => read_points(alloc, base, folder)?,
+    };
+    bounded(name, nodes, text)
+}
+
+/// The input, where each corner of the complex is one of its points.
+fn bounded(name: Name, nodes: NodeText, complex: PlcText) -> Result<Input, Status>
+    requires nodes { IsNodeText nodes }
+    requires few { HasFewParts complex }
+    requires own { complex.nodes ≡ None }
+    ensures answer { BoundedAnswer (complex_file name complex) nodes result }
+    ensures sound { IfOk result IsSound }
+{
+    match check_corners(&complex, nodes.first, nodes.decimals.len() as u64) {
+        Ok(()) => Ok(Input { nodes, complex }),
+        Err(fault) => Err(Status::BadText { name, fault }),
+    }
+}
+
+/// The point list of the `.node` file with this base.
+fn read_points<F: Folder>(alloc: Global, base: &Name, folder: &mut F) -> Result<NodeText, Status>
+    ensures answer { PointsAnswer (folder_seen F.held F.faults F.misses folder.old folder.new) base.now result }
+    ensures table { IfOk result IsNodeText }
+    ensures unchanged { F.held folder.new ≡ F.held folder.old }
+    ensures faults { F.faults folder.old ≤ F.faults folder.new }
+    ensures misses { F.misses folder.old ≤ F.misses folder.new }
+{
+    let name = file_name(alloc, base, Extension::Node)?;
+    let file = fetch(alloc, name, folder)?;
+    points_of(alloc, file)
+}
+
+/// The bytes of a file.
+fn fetch<F: Folder>(alloc: Global, name: Name, folder: &mut F) -> Result<Fetched, Status>
+    ensures named { IfOk result (λ file. file.name ≡ name) }
+    ensures read { IfOk result (λ file. IsRead (F.held folder.old) name file.bytes) }
+    ensures err { IfErr result (IsUnfetched (folder_seen F.held F.faults F.misses folder.old folder.new) name) }
+    ensures unchanged { F.held folder.new ≡ F.held folder.old }
+    ensures faults { F.faults folder.old ≤ F.faults folder.new }
+    ensures misses { F.misses folder.old ≤ F.misses folder.new }
+{
+    match folder.fetch(alloc, &name, MOST_BYTES) {
+        Ok(bytes) => Ok(Fetched { name, bytes }),
+        Err(FetchFault::Missing) => Err(Status::Missing { name }),
+        Err(FetchFault::Failed) => Err(Status::ReadFault { name }),
+        Err(FetchFault::TooLarge { taken: _ }) => Err(Status::Limit {
+            what: LimitKind::Bytes { name },
+        }),
+        Err(FetchFault::NoMemory) => Err(Status::NoMemory),
+    }
+}
+
+/// The point list that a file spells.
+fn points_of(alloc: Global, file: Fetched) -> Result<NodeText, Status>
+    requires { length file.bytes ≤ most_bytes }
+    ensures answer { TextAnswer file.name (node_text_of file.bytes) result }
+    ensures table { IfOk result IsNodeText }
+{
+    let Fetched { name, bytes } = file;
+    let read = read_node(alloc, &bytes);
+    bytes.let_go();
+    match read {
+        Ok(text) => Ok(text),
+        Err(NodeFault::Text(fault)) => Err(Status::BadText { name, fault }),
+        Err(NodeFault::NoMemory) => Err(Status::NoMemory),
+        Err(_) => unreachable!(),
+    }
+}
+
+/// The complex that a file spells in one form.
+fn complex_of(alloc: Global, extension: Extension, file: Fetched) -> Result<ComplexFile, Status>
+    requires { length file.bytes ≤ most_bytes }
+    ensures answer { AndThen (TextAnswer file.name (plc_text_of extension file.bytes)) (λ text. Gives (complex_file file.name text)) result }
+    ensures few { IfOk result (λ made. HasFewParts made.text) }
+{
+    let Fetched { name, bytes } = file;
+    let read = match extension {
+        Extension::Smesh => read_smesh(alloc, &bytes),
+        _ => read_poly(alloc, &bytes),
+    };
+    bytes.let_go();
+    match read {
+        Ok(text) => Ok(ComplexFile { name, text }),
+        Err(PlcFault::Text(fault)) => Err(Status::BadText { name, fault }),
+        Err(PlcFault::NoMemory) => Err(Status::NoMemory),
+        Err(_) => unreachable!(),
+    }
+}

@@ -1,0 +1,274 @@
+//! What a run makes of its input.
+
+ghost use Rattle.std.specs.Prelude.{◌≡◌, ◌≤◌, ◌⊎◌, ◌<◌, ◌-◌, ◌^◌, true, false, Ok, length, drop, AllPairs, IfOk, IfErr, IfSome, OnOk};
+ghost use Rattle.command_words.specs.Meaning.{AreInRange};
+ghost use Rattle.geo_laws.specs.Delaunay.{delaunay_rows, AreCoplanar, RowBefore};
+ghost use Rattle.geo_laws.specs.Faces.{AreHullFacesOf};
+ghost use Rattle.node_files.specs.Writing.{IsNodeTable};
+ghost use Rattle.plc_files.specs.Binding.{IsBound, HasCornersBelow, HasWeights};
+ghost use Rattle.plc_files.specs.Checks.{corners_check, HasFewParts};
+ghost use Rattle.run_steps.specs.Meshing.{grid_options, mesh_options, IsSmall, IsOverLimit, IsMeshableBound, BoundAnswer, IsFlatRefusal, mesh_in, without_decimals, MeshOf, MeshAnswer, OutputsAnswer, MeshedAnswer};
+ghost use Rattle.run_steps.specs.Outputs.{IsWritable, IsHullOf};
+ghost use Rattle.run_steps.specs.Reading.{IsSound};
+
+use crate::input::Input;
+use crate::meshed::{HulledMesh, Meshed};
+use crate::outputs::{Outputs, asks_hull_alone, outputs_of};
+use crate::status::{LimitKind, Status};
+use cavity_insert::{BuildFault, HulledList, delaunay, delaunay_with_hull};
+use command_words::Options;
+use complex_mesh::{ComplexMesh, MeshOptions, mesh_complex};
+use geo_laws::{Complex, FacetTriangles, Points, TetList};
+use grid_coords::{DecimalPoints, Grid};
+use mesh_files::Faces;
+use node_files::{GridOptions, NodeFault, NodeTable, settle};
+use plc_files::{PlcFault, PlcText, bind};
+use std::alloc::Global;
+use std::mem;
+use tet_ports::NoMemory;
+
+/// The points and the complex of an input on their grid.
+#[derive(Drop)]
+pub struct Bound {
+    pub table: NodeTable,
+    pub complex: Complex,
+}
+
+/// The files and the summary of the mesh of an input.
+pub fn mesh_of(alloc: Global, options: &Options, input: Input) -> Result<Outputs, Status>
+    requires input { IsSound input }
+    requires ranges { AreInRange options.now }
+    ensures { MeshedAnswer options.now input result }
+{
+    let bound = bind_input(alloc, options, input)?;
+    let made = mesh_bound(alloc, options, bound)?;
+    write_out(alloc, options, &made)
+}
+
+/// How the options put points on a grid.
+fn grid_options(options: &Options) -> GridOptions
+    ensures { result ≡ grid_options options.now }
+{
+    GridOptions {
+        decimals: options.decimals,
+        halvings: options.halvings,
+    }
+}
+
+/// The points and the complex on their grid.
+fn bind_input(alloc: Global, options: &Options, input: Input) -> Result<Bound, Status>
+    requires input { IsSound input }
+    requires ranges { AreInRange options.now }
+    ensures answer { BoundAnswer options.now input result }
+    ensures meshable { IfOk result (IsMeshableBound options.now) }
+{
+    let Input { nodes, complex } = input;
+    let first = nodes.first;
+    let count = nodes.decimals.len() as u64;
+    match settle(alloc, nodes, &grid_options(options)) {
+        Ok(table) => {
+            let complex = bind_complex(alloc, &complex, first, count, &table.grid)?;
+            Ok(Bound { table, complex })
+        }
+        Err(NodeFault::TooMany { count }) => Err(Status::Limit {
+            what: LimitKind::Points { count },
+        }),
+        Err(NodeFault::Range { line }) => {
+            let status = Status::Limit {
+                what: LimitKind::Grid { line },
+            };
+            Err(limit_before(alloc, &complex, first, count, status))
+        }
+        Err(NodeFault::Twin { first: one, second }) => {
+            let status = Status::Twin { first: one, second };
+            Err(limit_before(alloc, &complex, first, count, status))
+        }
+        Err(NodeFault::NoMemory) => Err(Status::NoMemory),
+        Err(NodeFault::Text(_)) => unreachable!(),
+    }
+}
+
+/// The complex on a grid.
+fn bind_complex(
+    alloc: Global,
+    text: &PlcText,
+    first: u32,
+    count: u64,
+    grid: &Grid,
+) -> Result<Complex, Status>
+    requires corners { corners_check first count text.now ≡ Ok tt }
+    requires count { count < 2 ^ 32 - 1 }
+    requires few { HasFewParts text.now }
+    ensures bound { IfOk result (IsBound text.now first grid.now) }
+    ensures over { IfErr result (IsOverLimit text.now) }
+    ensures corners { IfOk result (HasCornersBelow count) }
+    ensures weights { IfOk result HasWeights }
+{
+    match bind(alloc, text, first, count, grid) {
+        Ok(complex) => Ok(complex),
+        Err(PlcFault::Facets { count }) => Err(Status::Limit {
+            what: LimitKind::Facets { count },
+        }),
+        Err(PlcFault::Corners { line, count }) => Err(Status::Limit {
+            what: LimitKind::Corners { line, count },
+        }),
+        Err(PlcFault::NoMemory) => Err(Status::NoMemory),
+        Err(PlcFault::Text(_)) => unreachable!(),
+    }
+}
+
+/// The limit that the complex is over, which comes before this refusal; or the refusal. The grid serves no other end.
+fn limit_before(alloc: Global, text: &PlcText, first: u32, count: u64, status: Status) -> Status
+    requires corners { corners_check first count text.now ≡ Ok tt }
+    requires count { count < 2 ^ 32 - 1 }
+    requires few { HasFewParts text.now }
+    ensures { IsSmall text.now × (result ≡ status) ⊎ IsOverLimit text.now result }
+{
+    let grid = Grid {
+        decimals: 0,
+        halvings: 0,
+    };
+    match bind_complex(alloc, text, first, count, &grid) {
+        Ok(_) => status,
+        Err(limit) => limit,
+    }
+}
+
+/// The mesh of points alone, or of a complex.
+fn mesh_bound(alloc: Global, options: &Options, bound: Bound) -> Result<HulledMesh, Status>
+    requires { IsMeshableBound options.now bound }
+    ensures answer { MeshAnswer options.now bound (mesh_in result) }
+    ensures writable { IfOk result (λ made. IsWritable made.mesh) }
+    ensures hull { IfOk result (λ made. IfSome made.hull (IsHullOf made.mesh)) }
+{
+    if options.piecewise {
+        let mesh = mesh_plc(alloc, options, bound)?;
+        Ok(HulledMesh { mesh, hull: None })
+    } else {
+        mesh_points(alloc, options, bound)
+    }
+}
+
+/// The mesh of points alone, with its hull where nothing else is asked for of the faces.
+fn mesh_points(alloc: Global, options: &Options, bound: Bound) -> Result<HulledMesh, Status>
+    requires { IsMeshableBound options.now bound }
+    ensures answer { MeshOf false options.now bound (mesh_in result) }
+    ensures writable { IfOk result (λ made. IsWritable made.mesh) }
+    ensures hull { IfOk result (λ made. IfSome made.hull (IsHullOf made.mesh)) }
+{
+    let ListAndHull { rows, hull } = rows_and_hull(alloc, options, &bound)?;
+    let table = bound.table;
+    let points = points_from(alloc, &table.points, 0)?;
+    let mesh = Meshed {
+        table: without_decimals(alloc, table),
+        added: Points::new(alloc),
+        points,
+        complex: Complex::new(alloc),
+        triangles: FacetTriangles::new(alloc),
+        tetrahedra: rows,
+        marks: None,
+    };
+    Ok(HulledMesh { mesh, hull })
+}
+
+/// A list of tetrahedra, and the faces of its hull, where they are known.
+#[derive(Drop)]
+pub struct ListAndHull {
+    pub rows: TetList,
+    pub hull: Option<Faces>,
+}
+
+/// The Delaunay list of points, with its hull where nothing else is asked for of the faces.
+fn rows_and_hull(alloc: Global, options: &Options, bound: &Bound) -> Result<ListAndHull, Status>
+    requires { IsMeshableBound options.now bound.now }
+    ensures rows { IfOk result (λ made. made.rows ≡ delaunay_rows bound.now.table.points) }
+    ensures ascending { IfOk result (λ made. AllPairs RowBefore made.rows) }
+    ensures hull { IfOk result (λ made. IfSome made.hull (AreHullFacesOf made.rows)) }
+    ensures not_flat { OnOk result (¬ AreCoplanar bound.now.table.points) }
+    ensures refused { IfErr result (IsFlatRefusal bound.now) }
+{
+    if asks_hull_alone(options) {
+        match delaunay_with_hull(alloc, &bound.table.points) {
+            Ok(HulledList { rows, hull }) => Ok(ListAndHull {
+                rows,
+                hull: Some(hull),
+            }),
+            Err(BuildFault::Flat) => Err(Status::Flat),
+            Err(BuildFault::NoMemory) => Err(Status::NoMemory),
+        }
+    } else {
+        match delaunay(alloc, &bound.table.points) {
+            Ok(rows) => Ok(ListAndHull { rows, hull: None }),
+            Err(BuildFault::Flat) => Err(Status::Flat),
+            Err(BuildFault::NoMemory) => Err(Status::NoMemory),
+        }
+    }
+}
+
+/// The mesh of a complex.
+fn mesh_plc(alloc: Global, options: &Options, bound: Bound) -> Result<Meshed, Status>
+    requires { IsMeshableBound options.now bound }
+    ensures answer { MeshOf true options.now bound result }
+    ensures writable { IfOk result IsWritable }
+{
+    let Bound { table, complex } = bound;
+    let points = points_from(alloc, &table.points, 0)?;
+    let made = mesh_complex(alloc, points, &complex, &mesh_options(options, &table))?;
+    let added = points_from(alloc, &made.points, table.points.len())?;
+    let ComplexMesh {
+        points,
+        triangles,
+        tetrahedra,
+        marks,
+    } = made;
+    Ok(Meshed {
+        table: without_decimals(alloc, table),
+        added,
+        points,
+        complex,
+        triangles,
+        tetrahedra,
+        marks,
+    })
+}
+
+/// A point list without the decimals of its points, which are let go: once the points are on their grid nothing is written from them.
+fn without_decimals(alloc: Global, mut table: NodeTable) -> NodeTable
+    requires { IsNodeTable table }
+    ensures same { result ≡ without_decimals table }
+    ensures table { IsNodeTable result }
+{
+    mem::replace(&mut table.decimals, DecimalPoints::new(alloc)).let_go();
+    table
+}
+
+/// How the options make the mesh of a complex.
+fn mesh_options(options: &Options, table: &NodeTable) -> MeshOptions
+    ensures { result ≡ mesh_options options.now table.now }
+{
+    MeshOptions {
+        halvings: table.grid.halvings,
+        budget: options.budget,
+        keep_hull: options.keep_hull,
+        regions: options.regions,
+    }
+}
+
+/// The points of a list from this place on.
+fn points_from(alloc: Global, points: &Points, first: usize) -> Result<Points, NoMemory>
+    requires { first ≤ length points.now }
+    ensures { IfOk result (λ list. list ≡ drop first points.now) }
+{
+    let mut list = Points::new(alloc);
+    list.extend_from_slice(&points.as_slice()[first..])?;
+    Ok(list)
+}
+
+/// The files and the summary of a mesh.
+fn write_out(alloc: Global, options: &Options, made: &HulledMesh) -> Result<Outputs, Status>
+    requires mesh { IsWritable made.now.mesh }
+    requires hull { IfSome made.now.hull (IsHullOf made.now.mesh) }
+    ensures { OutputsAnswer options.now made.now.mesh result }
+{
+    Ok(outputs_of(alloc, options, made)?)
+}

@@ -1,0 +1,392 @@
+//! The files and the summary of a mesh.
+
+ghost use Rattle.std.specs.Prelude.{◌≡◌, true, false, ◌<◌, ◌^◌, ◌++◌, length, All, List, IfOk, IfSome};
+ghost use Rattle.std.specs.Option.{option_copied};
+ghost use Rattle.geo_laws.specs.Faces.{AreFacesOf, AreSidesOf};
+ghost use Rattle.geo_laws.specs.declared.faces.Face.{Face};
+ghost use Rattle.incidence.specs.Uses.{AreUsesOf};
+ghost use Rattle.mesh_files.specs.FaceRows.{AreFaceRowsOf};
+ghost use Rattle.run_steps.specs.Outputs.{named, first_of, node_file, ele_file, face_file, edge_file, neigh_file, summary_of, names_sides, asks_uses, asks_hull_alone, IsWritable, IsHullOf, IsFaceFileOf, AreFaceOutputsOf, AreSideOutputsOf, AreOutputsOf};
+ghost use Rattle.run_steps.specs.Stores.{in_order, TellsFailure};
+
+use crate::meshed::{HulledMesh, Meshed};
+use crate::messages::{append_number, file_message};
+use crate::store::{NamedText, Texts};
+use command_words::{Options, with_extension};
+use incidence::{Uses, pair_uses, uses_of};
+use mesh_files::{
+    Edges, FaceRows, Faces, MarkedList, edges_of, face_count, hull_rows, used_faces,
+    write_all_faces, write_edge, write_ele, write_face, write_neigh,
+};
+use node_files::write_node;
+use std::alloc::Global;
+use tet_ports::{Bytes, NoMemory};
+
+/// The files of a mesh, and the line that sums it up.
+#[derive(Debug, Drop)]
+pub struct Outputs {
+    pub texts: Texts,
+    pub summary: Option<Bytes>,
+}
+
+/// The face file and the neighbor file, where they are asked for, and the number of faces, if the summary tells it.
+#[derive(Drop)]
+struct FaceOutputs {
+    face: Option<NamedText>,
+    neigh: Option<NamedText>,
+    count: usize,
+}
+
+/// The edge file, where it is asked for, and the number of sides, if something speaks of them.
+#[derive(Drop)]
+struct SideOutputs {
+    edge: Option<NamedText>,
+    count: usize,
+}
+
+/// The files and the summary that the options ask for.
+pub fn outputs_of(alloc: Global, options: &Options, made: &HulledMesh) -> Result<Outputs, NoMemory>
+    requires mesh { IsWritable made.now.mesh }
+    requires hull { IfSome made.now.hull (IsHullOf made.now.mesh) }
+    ensures { IfOk result (AreOutputsOf options.now made.now.mesh) }
+{
+    let mesh = &made.mesh;
+    let FaceOutputs { face, neigh, count } = face_outputs(alloc, options, made)?;
+    let sides = side_outputs(alloc, options, mesh)?;
+    let texts = Texts {
+        node: node_file(alloc, options, mesh)?,
+        ele: ele_file(alloc, options, mesh)?,
+        face,
+        edge: sides.edge,
+        neigh,
+    };
+    let summary = summary_of(alloc, options, mesh, count, sides.count)?;
+    Ok(Outputs { texts, summary })
+}
+
+/// The number of the first row, face, side and point in what is written.
+fn first_of(options: &Options, mesh: &Meshed) -> u32
+    ensures { result ≡ first_of options.now mesh.now }
+{
+    if options.from_zero {
+        0
+    } else {
+        mesh.table.first
+    }
+}
+
+/// Whether the edge file or the summary is asked for.
+fn names_sides(options: &Options) -> bool
+    ensures { result ≡ names_sides options.now }
+{
+    !options.quiet || (!options.no_face && options.edges)
+}
+
+/// Whether nothing is asked for of the faces but those on the hull and in facets.
+pub fn asks_hull_alone(options: &Options) -> bool
+    ensures { result ≡ asks_hull_alone options.now }
+{
+    options.quiet && !options.no_face && !options.all_faces && !options.neighbors
+}
+
+/// Whether the face file, the neighbor file or the summary is asked for, which speak of the uses of faces.
+fn asks_uses(options: &Options) -> bool
+    ensures { result ≡ asks_uses options.now }
+{
+    !options.quiet || (!options.no_face || options.neighbors)
+}
+
+/// What is told of the faces: from those of the hull where they are known and enough, and else from the uses of all faces.
+fn face_outputs(
+    alloc: Global,
+    options: &Options,
+    made: &HulledMesh,
+) -> Result<FaceOutputs, NoMemory>
+    requires mesh { IsWritable made.now.mesh }
+    requires hull { IfSome made.now.hull (IsHullOf made.now.mesh) }
+    ensures { IfOk result (AreFaceOutputsOf options.now made.now.mesh) }
+{
+    if let Some(hull) = &made.hull {
+        if asks_hull_alone(options) {
+            return hull_outputs(alloc, options, &made.mesh, hull);
+        }
+    }
+    used_outputs(alloc, options, &made.mesh)
+}
+
+/// What is told of the faces by their uses. The neighbors are let go once their text is made.
+fn used_outputs(alloc: Global, options: &Options, mesh: &Meshed) -> Result<FaceOutputs, NoMemory>
+    requires { IsWritable mesh.now }
+    ensures { IfOk result (AreFaceOutputsOf options.now mesh.now) }
+{
+    let uses = wanted_uses(alloc, options, mesh)?;
+    let count = wanted_face_count(options, mesh, &uses);
+    let neigh = neigh_file(alloc, options, mesh, &uses)?;
+    let face = used_face_file(alloc, options, mesh, uses)?;
+    Ok(FaceOutputs { face, neigh, count })
+}
+
+/// The face file by the uses of the faces: straight from them where all faces are asked for, and else from rows, for whose text the uses are let go.
+fn used_face_file(
+    alloc: Global,
+    options: &Options,
+    mesh: &Meshed,
+    uses: Uses,
+) -> Result<Option<NamedText>, NoMemory>
+    requires mesh { IsWritable mesh.now }
+    requires uses { asks_uses options.now ≡ true → AreUsesOf mesh.now.tetrahedra uses }
+    ensures { IfOk result (IsFaceFileOf options.now mesh.now) }
+{
+    if !options.no_face && options.all_faces {
+        return all_face_file(alloc, options, mesh, uses);
+    }
+    let faces = wanted_face_rows(alloc, options, mesh, uses)?;
+    face_file(alloc, options, mesh, &faces)
+}
+
+/// The file of all faces with their markers. The uses are let go.
+fn all_face_file(
+    alloc: Global,
+    options: &Options,
+    mesh: &Meshed,
+    uses: Uses,
+) -> Result<Option<NamedText>, NoMemory>
+    requires mesh { IsWritable mesh.now }
+    requires uses { AreUsesOf mesh.now.tetrahedra uses }
+    requires written { options.now.no_face ≡ false }
+    requires all { options.now.all_faces ≡ true }
+    ensures { IfOk result (IsFaceFileOf options.now mesh.now) }
+{
+    let rows = MarkedList {
+        points: &mesh.points,
+        list: &mesh.tetrahedra,
+        complex: &mesh.complex,
+        triangles: &mesh.triangles,
+    };
+    let text = write_all_faces(alloc, &rows, &uses, first_of(options, mesh))?;
+    uses.let_go();
+    Ok(Some(named(alloc, options, b".1.face", text)?))
+}
+
+/// What is told of the faces, where only those on the hull are asked for and are known.
+fn hull_outputs(
+    alloc: Global,
+    options: &Options,
+    mesh: &Meshed,
+    hull: &Faces,
+) -> Result<FaceOutputs, NoMemory>
+    requires asks { asks_hull_alone options.now ≡ true }
+    requires hull { IsHullOf mesh.now hull.now }
+    ensures { IfOk result (AreFaceOutputsOf options.now mesh.now) }
+{
+    let faces = hull_rows(alloc, hull)?;
+    let face = face_file(alloc, options, mesh, &faces)?;
+    Ok(FaceOutputs {
+        face,
+        neigh: None,
+        count: 0,
+    })
+}
+
+/// The uses of the faces, if something speaks of them.
+fn wanted_uses(alloc: Global, options: &Options, mesh: &Meshed) -> Result<Uses, NoMemory>
+    ensures { IfOk result (λ uses. asks_uses options.now ≡ true → AreUsesOf mesh.now.tetrahedra uses) }
+{
+    if !asks_uses(options) {
+        return Ok(Uses::new(alloc));
+    }
+    uses_of(alloc, &mesh.tetrahedra)
+}
+
+/// The number of faces, if the summary tells it.
+fn wanted_face_count(options: &Options, mesh: &Meshed, uses: &Uses) -> usize
+    requires { asks_uses options.now ≡ true → AreUsesOf mesh.now.tetrahedra uses.now }
+    ensures { (faces : List Face) × (options.now.quiet ≡ false → AreFacesOf mesh.now.tetrahedra faces) × (result ≡ length faces) }
+{
+    if options.quiet {
+        return 0;
+    }
+    face_count(&mesh.tetrahedra, uses)
+}
+
+/// The rows of the face file, if it is asked for. The uses are let go.
+fn wanted_face_rows(
+    alloc: Global,
+    options: &Options,
+    mesh: &Meshed,
+    uses: Uses,
+) -> Result<FaceRows, NoMemory>
+    requires mesh { IsWritable mesh.now }
+    requires uses { asks_uses options.now ≡ true → AreUsesOf mesh.now.tetrahedra uses }
+    ensures { IfOk result (λ marked. options.now.no_face ≡ false → AreFaceRowsOf mesh.now.points mesh.now.tetrahedra mesh.now.complex mesh.now.triangles options.now.all_faces marked) }
+{
+    if options.no_face {
+        return Ok(FaceRows::new(alloc));
+    }
+    let Meshed {
+        points,
+        complex,
+        triangles,
+        tetrahedra,
+        ..
+    } = mesh;
+    let faces = used_faces(
+        alloc,
+        points,
+        tetrahedra,
+        &uses,
+        complex,
+        triangles,
+        options.all_faces,
+    )?;
+    uses.let_go();
+    Ok(faces)
+}
+
+/// What is told of the sides, which are let go.
+fn side_outputs(alloc: Global, options: &Options, mesh: &Meshed) -> Result<SideOutputs, NoMemory>
+    ensures { IfOk result (AreSideOutputsOf options.now mesh.now) }
+{
+    let sides = wanted_sides(alloc, options, mesh)?;
+    let edge = edge_file(alloc, options, mesh, &sides)?;
+    let count = sides.len();
+    sides.let_go();
+    Ok(SideOutputs { edge, count })
+}
+
+/// The sides, if the edge file or the summary is asked for.
+fn wanted_sides(alloc: Global, options: &Options, mesh: &Meshed) -> Result<Edges, NoMemory>
+    ensures { IfOk result (λ sides. names_sides options.now ≡ true → AreSidesOf mesh.now.tetrahedra sides) }
+{
+    if !names_sides(options) {
+        return Ok(Edges::new(alloc));
+    }
+    edges_of(alloc, &mesh.tetrahedra)
+}
+
+/// The points of the input and the added ones.
+fn node_file(alloc: Global, options: &Options, mesh: &Meshed) -> Result<Option<NamedText>, NoMemory>
+    requires { IsWritable mesh.now }
+    ensures { IfOk result (λ file. file ≡ node_file options.now mesh.now) }
+{
+    if options.no_node {
+        return Ok(None);
+    }
+    let text = write_node(alloc, &mesh.table, &mesh.added, first_of(options, mesh))?;
+    Ok(Some(named(alloc, options, b".1.node", text)?))
+}
+
+/// The tetrahedra, with the attributes of their regions where these are asked for.
+fn ele_file(alloc: Global, options: &Options, mesh: &Meshed) -> Result<Option<NamedText>, NoMemory>
+    requires { IsWritable mesh.now }
+    ensures { IfOk result (λ file. file ≡ ele_file options.now mesh.now) }
+{
+    if options.no_ele {
+        return Ok(None);
+    }
+    let first = first_of(options, mesh);
+    let text = write_ele(
+        alloc,
+        &mesh.tetrahedra,
+        mesh.marks.as_ref(),
+        &mesh.complex,
+        first,
+    )?;
+    Ok(Some(named(alloc, options, b".1.ele", text)?))
+}
+
+/// The faces that are asked for, with their markers.
+fn face_file(
+    alloc: Global,
+    options: &Options,
+    mesh: &Meshed,
+    marked: &FaceRows,
+) -> Result<Option<NamedText>, NoMemory>
+    ensures { IfOk result (λ file. file ≡ face_file options.now mesh.now marked.now) }
+{
+    if options.no_face {
+        return Ok(None);
+    }
+    let text = write_face(alloc, marked, first_of(options, mesh))?;
+    Ok(Some(named(alloc, options, b".1.face", text)?))
+}
+
+/// The sides of all tetrahedra.
+fn edge_file(
+    alloc: Global,
+    options: &Options,
+    mesh: &Meshed,
+    sides: &Edges,
+) -> Result<Option<NamedText>, NoMemory>
+    ensures { IfOk result (λ file. file ≡ edge_file options.now mesh.now sides.now) }
+{
+    if options.no_face || !options.edges {
+        return Ok(None);
+    }
+    let text = write_edge(alloc, sides, first_of(options, mesh))?;
+    Ok(Some(named(alloc, options, b".1.edge", text)?))
+}
+
+/// The neighbors of each tetrahedron.
+fn neigh_file(
+    alloc: Global,
+    options: &Options,
+    mesh: &Meshed,
+    uses: &Uses,
+) -> Result<Option<NamedText>, NoMemory>
+    requires { asks_uses options.now ≡ true → AreUsesOf mesh.now.tetrahedra uses.now }
+    ensures { IfOk result (λ file. file ≡ neigh_file options.now mesh.now) }
+{
+    if !options.neighbors {
+        return Ok(None);
+    }
+    let pairs = pair_uses(alloc, &mesh.tetrahedra, uses)?;
+    let text = write_neigh(alloc, &pairs, first_of(options, mesh))?;
+    pairs.let_go();
+    Ok(Some(named(alloc, options, b".1.neigh", text)?))
+}
+
+/// A text under the base with an extension.
+fn named(
+    alloc: Global,
+    options: &Options,
+    extension: &[u8],
+    content: Bytes,
+) -> Result<NamedText, NoMemory>
+    ensures { IfOk result (λ text. text ≡ named options.now.base extension.now content) }
+{
+    let name = with_extension(alloc, &options.base, extension)?;
+    let message = file_message(alloc, &name, b"write failed")?;
+    Ok(NamedText {
+        name,
+        content,
+        message,
+    })
+}
+
+/// The line that sums up the mesh, if it is asked for.
+fn summary_of(
+    alloc: Global,
+    options: &Options,
+    mesh: &Meshed,
+    faces: usize,
+    sides: usize,
+) -> Result<Option<Bytes>, NoMemory>
+    ensures { IfOk result (λ line. line ≡ summary_of options.now mesh.now faces sides) }
+{
+    if options.quiet {
+        return Ok(None);
+    }
+    let mut line = Bytes::from_slice(alloc, b"points ")?;
+    append_number(&mut line, mesh.table.points.len())?;
+    line.append(b" added ")?;
+    append_number(&mut line, mesh.added.len())?;
+    line.append(b" tetrahedra ")?;
+    append_number(&mut line, mesh.tetrahedra.len())?;
+    line.append(b" faces ")?;
+    append_number(&mut line, faces)?;
+    line.append(b" edges ")?;
+    append_number(&mut line, sides)?;
+    line.append(b"\n")?;
+    Ok(Some(line))
+}

@@ -1,0 +1,120 @@
+//! How a run ends.
+
+use box_pairs::Part;
+use complex_mesh::MeshFault;
+use geo_laws::{Piece, Tet};
+use tangle_laws::Anomaly;
+use tet_ports::{Name, NoMemory};
+use tet_text::TextFault;
+
+/// The limit that an input is over.
+#[derive(Debug, Drop)]
+pub enum LimitKind {
+    /// The bytes of a file.
+    Bytes { name: Name },
+    /// The number of points; it carries that of the input.
+    Points { count: u64 },
+    /// The number of facets; it carries that of the input.
+    Facets { count: u64 },
+    /// The number of corners of a polygon; the line of the first such polygon, from 1, and how many it has.
+    Corners { line: usize, count: u64 },
+    /// The size of a grid coordinate without halvings; the line of the first point that is off the grid, from 1.
+    Grid { line: usize },
+}
+
+/// How a run ends. Names are those of files; points and facets are named by their places, from 0, added points after those of the input.
+#[derive(Drop)]
+pub enum Status {
+    /// The files are stored and the summary is put.
+    Done,
+    /// The words are not in the grammar: the first bad word and the place in it, both counted from 1.
+    Usage { word: usize, place: usize },
+    /// The folder lacks the input.
+    Missing { name: Name },
+    /// The folder failed in a fetch.
+    ReadFault { name: Name },
+    /// A file is not in its grammar, or a corner of it names no point.
+    BadText { name: Name, fault: TextFault },
+    /// The input is over a limit.
+    Limit { what: LimitKind },
+    /// Two points are equal on the grid: `second` is the least that is equal to an earlier one, which is `first`.
+    Twin { first: u32, second: u32 },
+    /// All points lie in one plane.
+    Flat,
+    /// Four corners of the first facet that is not flat do not lie in one plane.
+    NotFlat { facet: u32, four: Tet },
+    /// The first two pieces of segments that are not properly met.
+    SegmentsCross { one: Piece, two: Piece },
+    /// The first two parts of facets, triangles or pieces, that are not properly met.
+    Crossing { one: Part, two: Part },
+    /// A piece is no side of the mesh, and was halved as often as the grid allows.
+    GridEnd { piece: Piece },
+    /// A piece is no side of the mesh, and as many points were added as are allowed.
+    BudgetEnd { made: u32, piece: Piece },
+    /// Two facets cross a Delaunay tetrahedron, and this stands against tetrahedra grown round the facets.
+    NoFill { anomaly: Anomaly },
+    /// Want of memory.
+    NoMemory,
+    /// The folder failed in a store, or the sink of the summary, which has no name.
+    WriteFault { name: Option<Name> },
+}
+
+impl Status {
+    ghost use Rattle.std.specs.Prelude.{◌≡◌};
+    ghost use Rattle.run_steps.specs.Codes.{code_of};
+
+    /// The status with which the program ends.
+    pub fn code(&self) -> u8
+        ensures { result ≡ code_of self.now }
+    {
+        match self {
+            Status::Done => 0,
+            Status::Usage { .. } => 1,
+            Status::Missing { .. } => 2,
+            Status::ReadFault { .. } => 3,
+            Status::BadText { .. } => 4,
+            Status::Limit { .. } => 5,
+            Status::Twin { .. } => 6,
+            Status::Flat => 6,
+            Status::NotFlat { .. } => 6,
+            Status::SegmentsCross { .. } => 6,
+            Status::Crossing { .. } => 6,
+            Status::GridEnd { .. } => 7,
+            Status::BudgetEnd { .. } => 8,
+            Status::NoFill { .. } => 9,
+            Status::NoMemory => 10,
+            Status::WriteFault { .. } => 11,
+        }
+    }
+}
+
+impl From<NoMemory> for Status {
+    ghost use Rattle.std.specs.Prelude.{◌≡◌};
+    ghost use Rattle.run_steps.specs.declared.status.Status.TheVariants.{NoMemory as OutOfMemory};
+
+    ghost from_gives = { λ _ status. status ≡ OutOfMemory };
+
+    fn from(_: NoMemory) -> Status {
+        Status::NoMemory
+    }
+}
+
+impl From<MeshFault> for Status {
+    ghost use Rattle.std.specs.Prelude.{◌≡◌};
+    ghost use Rattle.run_steps.specs.Codes.{status_of_fault};
+
+    ghost from_gives = { λ fault status. status ≡ status_of_fault fault };
+
+    fn from(fault: MeshFault) -> Status {
+        match fault {
+            MeshFault::Flat => Status::Flat,
+            MeshFault::NotFlat { facet, four } => Status::NotFlat { facet, four },
+            MeshFault::SegmentsCross { one, two } => Status::SegmentsCross { one, two },
+            MeshFault::GridEnd { piece } => Status::GridEnd { piece },
+            MeshFault::BudgetEnd { made, piece } => Status::BudgetEnd { made, piece },
+            MeshFault::Crossing { one, two } => Status::Crossing { one, two },
+            MeshFault::NoFill { anomaly } => Status::NoFill { anomaly },
+            MeshFault::NoMemory => Status::NoMemory,
+        }
+    }
+}

@@ -1,0 +1,79 @@
+//! The files of a mesh, stored one after the other.
+
+ghost use Rattle.std.specs.Prelude.{◌≡◌, ◌≤◌, ◌++◌, ◌∷◌, [], OnOk, IfOk, IfErr};
+ghost use Rattle.tet_ports.specs.Counts.{Rose};
+ghost use Rattle.run_steps.specs.Stores.{given, with_files, AreLeft, IfFailed};
+
+use std::alloc::Global;
+use tet_ports::{Bytes, Folder, Name, NoMemory, StoreFault};
+
+/// A text, the name of its file, and the message that the file could not be written.
+#[derive(Debug, Drop)]
+pub struct NamedText {
+    pub name: Name,
+    pub content: Bytes,
+    pub message: Bytes,
+}
+
+/// The texts of a mesh's files, each where it is asked for, in the order in which they are stored.
+#[derive(Debug, Drop)]
+pub struct Texts {
+    pub node: Option<NamedText>,
+    pub ele: Option<NamedText>,
+    pub face: Option<NamedText>,
+    pub edge: Option<NamedText>,
+    pub neigh: Option<NamedText>,
+}
+
+/// Why not all texts are stored.
+#[derive(Debug, Drop)]
+pub enum StoreStop {
+    /// The folder failed at this text.
+    Failed(NamedText),
+    NoMemory,
+}
+
+impl Texts {
+    ghost use Rattle.run_steps.specs.Stores.{in_order};
+
+    /// The texts that are there, in the order in which they are stored.
+    pub fn in_order(self, alloc: Global) -> Result<Vec<NamedText>, NoMemory>
+        ensures { IfOk result (λ list. list.items ≡ in_order self) }
+    {
+        let mut list = Vec::with_capacity(alloc, 5)?;
+        append(self.node, &mut list)?;
+        append(self.ele, &mut list)?;
+        append(self.face, &mut list)?;
+        append(self.edge, &mut list)?;
+        append(self.neigh, &mut list)?;
+        Ok(list)
+    }
+}
+
+/// Appends a text, if it is there.
+fn append(text: Option<NamedText>, list: &mut Vec<NamedText>) -> Result<(), NoMemory>
+    ensures { OnOk result (list.new.items ≡ list.old.items ++ given (text ∷ [])) }
+{
+    if let Some(text) = text {
+        list.push(text)?;
+    }
+    Ok(())
+}
+
+/// Stores the texts in their order, until a store is refused.
+pub fn store_all<F: Folder>(texts: Vec<NamedText>, folder: &mut F) -> Result<(), StoreStop>
+    ensures stored { OnOk result (F.held folder.new ≡ with_files (F.held folder.old) texts.items) }
+    ensures stopped { IfErr result (AreLeft (F.held folder.old) texts.items (F.held folder.new)) }
+    ensures failed { IfErr result (λ stop. IfFailed stop (Rose (F.faults folder.old) (F.faults folder.new))) }
+    ensures faults { F.faults folder.old ≤ F.faults folder.new }
+    ensures misses { F.misses folder.old ≤ F.misses folder.new }
+{
+    for text in texts {
+        match folder.store(&text.name, &text.content) {
+            Ok(()) => {}
+            Err(StoreFault::Failed) => return Err(StoreStop::Failed(text)),
+            Err(StoreFault::NoMemory) => return Err(StoreStop::NoMemory),
+        }
+    }
+    Ok(())
+}
