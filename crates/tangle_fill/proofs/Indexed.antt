@@ -11,9 +11,10 @@ use Rattle.geo_laws.specs.declared.tetrahedra.Tet.{Tet}
 use Rattle.geo_laws.proofs.Members.{IsMember, here, there, some_true, any_true, both_true}
 use Rattle.crossing_laws.specs.Crossing.{faces_of, is_same}
 use Rattle.crossing_laws.proofs.Tests.{decided}
-use Rattle.crossing_laws.proofs.Faces.{Same, straight, onward, backward, eq_of, same_of, same_test}
+use Rattle.crossing_laws.proofs.Faces.{Same, straight, onward, backward, eq_of, same_of, same_test, same_back, same_bool}
 use Rattle.tangle_laws.specs.Tangle.{lies_on}
 use Rattle.tangle_laws.proofs.Apart.{fails_true}
+use Rattle.tangle_laws.proofs.Sides.{same_alike}
 use Rattle.tangle_fill.specs.Fill.{oriented}
 use Rattle.tangle_fill.specs.Indexed.{same_side, side_of, has_side, IsIndexed, IsPut}
 use Rattle.tangle_fill.specs.declared.growth.FaceSide.{FaceSide}
@@ -193,6 +194,21 @@ pub last_on : (g : Growth) (f : Face) (r : Option Tet) → IsIndexed g → None 
     → MatchOption r (All (λ t. lies_on (oriented f) t ≡ false) g.rows) (λ t. Contains g.rows t × IsTrue (lies_on (oriented f) t))
 last_on g f None i a b c = none_on g f i (sym a) (sym b) (sym c)
 last_on g f (Some t) i a b c = let h = found_at g (backward_side f) t i c in (h.0, lies_backward f t h.1)
+
+-- a row lies on a face whichever corner stands first
+pub lies_turned : (g f : Face) (t : Tet) → Same (oriented g) (oriented f) → lies_on (oriented g) t ≡ lies_on (oriented f) t
+lies_turned g f t s = same_bool (lies_on (oriented g) t) (lies_on (oriented f) t) (kept (oriented g) (oriented f) s) (kept (oriented f) (oriented g) (same_back (oriented g) (oriented f) s))
+  where
+    kept : (h k : oriented_face.Face) → Same h k → lies_on h t ≡ true → lies_on k t ≡ true
+    kept h k s e =
+        let m = some_true (is_same h) (faces_of t) e in
+        any_true (is_same k) (faces_of t) m.0 m.1 (same_test k m.0 (same_alike h k m.0 s (same_of h m.0 m.2)))
+
+pub on_turned : (rows : List Tet) (g f : Face) → ((t : Tet) → lies_on (oriented g) t ≡ lies_on (oriented f) t) → (r : Option Tet)
+    → MatchOption r (All (λ t. lies_on (oriented g) t ≡ false) rows) (λ t. Contains rows t × IsTrue (lies_on (oriented g) t))
+    → MatchOption r (All (λ t. lies_on (oriented f) t ≡ false) rows) (λ t. Contains rows t × IsTrue (lies_on (oriented f) t))
+on_turned rows g f same None h = λ k d l. sym (same (slice_index_or rows k d)) ∙ h k d l
+on_turned rows g f same (Some t) h = (h.0, sym (same t) ∙ h.1)
 
 -- ---- rows that lie with a row on one side of a face
 

@@ -7,6 +7,7 @@ ghost use Rattle.std.proofs.Common.{rules};
 ghost use Rattle.indexmap.specs.IndexMap.{get};
 ghost use Rattle.crossing_laws.specs.Crossing.{faces_of};
 ghost use Rattle.tangle_laws.specs.Tangle.{lies_on};
+ghost use Rattle.geo_laws.specs.declared.tetrahedra.Tet.{Tet};
 ghost use Rattle.tangle_fill.specs.Fill.{oriented};
 ghost use Rattle.tangle_fill.specs.Indexed.{same_side, IsIndexed, IsPut};
 
@@ -48,6 +49,22 @@ impl Hash for FaceSide {
     }
 }
 
+/// The face with its corners in the same cyclic order, the least one first, as in a row in its least
+/// even arrangement.
+fn turned(f: Face) -> Face
+    ensures { (t : Tet) → lies_on (oriented result) t ≡ lies_on (oriented f) t }
+{
+    let Face { a, b, c } = f;
+    let least = a.min(b).min(c);
+    if a == least {
+        f
+    } else if b == least {
+        Face { a: b, b: c, c: a }
+    } else {
+        Face { a: c, b: a, c: b }
+    }
+}
+
 /// Rows in the order in which they were added, and the row that lies on each side of a face, where
 /// one does. A side is kept by the corners in the order that its row has.
 #[derive(Drop)]
@@ -75,8 +92,18 @@ impl Growth {
         self.sides.get(&FaceSide { face }).copied()
     }
 
-    /// The row that lies on the face's positive side; None where none does.
+    /// The row that lies on the face's positive side; None where none does. The order of the corners
+    /// that most rows keep is looked for first.
     pub(crate) fn row_on(&self, f: Face) -> Option<Tet>
+        requires { IsIndexed self.now }
+        ensures { MatchOption result (All (λ t. lies_on (oriented f) t ≡ false) self.now.rows)
+            (λ t. Contains self.now.rows t × IsTrue (lies_on (oriented f) t)) }
+    {
+        self.row_round(turned(f))
+    }
+
+    /// The same, by the corners in this order, and turned once and twice.
+    fn row_round(&self, f: Face) -> Option<Tet>
         requires { IsIndexed self.now }
         ensures { MatchOption result (All (λ t. lies_on (oriented f) t ≡ false) self.now.rows)
             (λ t. Contains self.now.rows t × IsTrue (lies_on (oriented f) t)) }

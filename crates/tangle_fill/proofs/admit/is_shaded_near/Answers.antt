@@ -1,92 +1,12 @@
-use Rattle.std.proofs.Common.{◌≡◌, ◌+◌, false, refl, sym, subst, ◌∙◌, arith}
-use Rattle.sign_predicates.specs.Point.{as_rational, origin}
-use Rattle.sign_predicates.specs.Centroid.{centroid}
-use Rattle.geo_laws.specs.Delaunay.{point, corners, numbers}
-use Rattle.geo_laws.specs.OrientedFace.{triangle}
-use Rattle.geo_laws.specs.declared.complex.FacetTriangle.{FacetTriangle}
-use Rattle.geo_laws.proofs.Members.{contains_of, member_of, some_true, any_true}
-use Rattle.box_tree.specs.Bounds.{HoldsCorners, HoldsPoint}
-use Rattle.box_tree.proofs.Boxes.{held_larger}
-use Rattle.box_tree.proofs.Trees.{place_there}
-use Rattle.tangle_laws.specs.Tangle.{facet_face}
-use Rattle.tangle_laws.specs.Hidden.{hides}
-use Rattle.tangle_laws.proofs.Apart.{fails_true}
+use Rattle.std.proofs.Common.{refl}
 use Rattle.tangle_fill.proofs.Joined.{not_true}
-use Rattle.tangle_fill.proofs.Boxed.{not_hiding, spans_of}
-use Rattle.tangle_fill.proofs.Near.{none_done, done_further, done_more, all_done}
 use Rattle.tangle_fill.proofs.admit.is_shaded_near.Goals as goal
 
-pub next_meeting-k-requires-clause-tree : goal.next_meeting-k-requires-clause-tree
-next_meeting-k-requires-clause-tree c = c.requires.tree.tree
+pub returns-then-is_shaded_by : goal.returns-then-is_shaded_by
+returns-then-is_shaded_by c = (λ h. c.is_shaded_by.ensures c.if-is_shaded_by.true, λ s. refl)
 
-pub loop-k-init : goal.loop-k-init
-loop-k-init c =
-    let ps = c.args.points.now in
-    let ts = c.args.triangles.now in
-    let t = c.args.row in
-    let i = c.args.i in
-    let nodes = c.args.tree.now in
-    let bounds = c.joined-bounds.result in
-    let corner : HoldsCorners ps (numbers t) bounds = λ j m. held_larger c.tet_bounds.result bounds (point ps j) c.joined-bounds.ensures.first (c.tet_bounds.ensures j m) in
-    let at : HoldsPoint bounds (point ps i) = subst (HoldsPoint bounds) (sym (c.at.ensures origin)) (held_larger c.point_bounds-at.result bounds c.at.result c.joined-bounds.ensures.second c.point_bounds-at.ensures) in
-    let P : FacetTriangle → Type 0 = λ k. hides (triangle ps (facet_face k)) (centroid (corners ps t)) (as_rational (point ps i)) ≡ false in
-    record {
-      there = c.next_meeting-k.ensures.there;
-      done =
-          done_further P ps ts nodes bounds 0 c.next_meeting-k.result c.requires.tree
-          (λ u b m h a. not_hiding ps ts t i u b bounds (member_of ts u m) (spans_of ps ts c.requires.facets u m) c.requires.positive c.requires.free h corner at a)
-          (none_done P ts nodes) c.next_meeting-k.ensures.apart c.next_meeting-k.ensures.there;
-    }
+pub returns-in-Some : goal.returns-in-Some
+returns-in-Some c = (λ h. c.in-Some.ensures, λ s. refl)
 
-pub at-requires-in-loop-k : goal.at-requires-in-loop-k
-at-requires-in-loop-k c = place_there c.args.tree.now c.loop-k.k c.get.result.now c.requires.tree (omega arith) c.get.ensures
-
-pub next_meeting-k-requires-in-loop-k-clause-tree : goal.next_meeting-k-requires-in-loop-k-clause-tree
-next_meeting-k-requires-in-loop-k-clause-tree c = c.requires.tree.tree
-
-pub is_behind-requires-clause-of_facet : goal.is_behind-requires-clause-of_facet
-is_behind-requires-clause-of_facet c = (c.get.result.now.own.place, place_there c.args.tree.now c.loop-k.k c.get.result.now c.requires.tree (omega arith) c.get.ensures, c.at-in-loop-k.ensures c.at-in-loop-k.result)
-
-pub loop-k-preserved : goal.loop-k-preserved
-loop-k-preserved c =
-    let ps = c.args.points.now in
-    let ts = c.args.triangles.now in
-    let t = c.args.row in
-    let i = c.args.i in
-    let nodes = c.args.tree.now in
-    let bounds = c.joined-bounds.result in
-    let corner : HoldsCorners ps (numbers t) bounds = λ j m. held_larger c.tet_bounds.result bounds (point ps j) c.joined-bounds.ensures.first (c.tet_bounds.ensures j m) in
-    let at : HoldsPoint bounds (point ps i) = subst (HoldsPoint bounds) (sym (c.at.ensures origin)) (held_larger c.point_bounds-at.result bounds c.at.result c.joined-bounds.ensures.second c.point_bounds-at.ensures) in
-    let P : FacetTriangle → Type 0 = λ k. hides (triangle ps (facet_face k)) (centroid (corners ps t)) (as_rational (point ps i)) ≡ false in
-    record {
-      there = c.next_meeting-k-in-loop-k.ensures.there;
-      done =
-          done_further P ps ts nodes bounds (c.loop-k.k + 1) c.next_meeting-k-in-loop-k.result c.requires.tree
-          (λ u b m h a. not_hiding ps ts t i u b bounds (member_of ts u m) (spans_of ps ts c.requires.facets u m) c.requires.positive c.requires.free h corner at a)
-          (done_more P ts nodes c.loop-k.k c.get.result.now c.at-in-loop-k.result c.get.ensures c.at-in-loop-k.ensures c.loop-k.invariant.done (sym c.is_behind.ensures ∙ c.if-is_behind.false))
-          c.next_meeting-k-in-loop-k.ensures.apart c.next_meeting-k-in-loop-k.ensures.there;
-    }
-
-pub returns-then-is_behind : goal.returns-then-is_behind
-returns-then-is_behind c =
-    let ts = c.args.triangles.now in
-    let m = member_of ts c.at-in-loop-k.result (c.get.result.now.own.place, place_there c.args.tree.now c.loop-k.k c.get.result.now c.requires.tree (omega arith) c.get.ensures, c.at-in-loop-k.ensures c.at-in-loop-k.result) in (
-      λ h. record {
-        by_sign =
-            any_true (λ k. hides (triangle c.args.points.now (facet_face k)) (centroid (corners c.args.points.now c.args.row)) (as_rational (point c.args.points.now c.args.i))) ts c.at-in-loop-k.result m
-            (sym c.is_behind.ensures ∙ c.if-is_behind.true);
-      },
-      λ h. refl,
-    )
-
-pub returns : goal.returns
-returns c =
-    let ps = c.args.points.now in
-    let ts = c.args.triangles.now in
-    let test = λ (k : FacetTriangle). hides (triangle ps (facet_face k)) (centroid (corners ps c.args.row)) (as_rational (point ps c.args.i)) in
-    let P : FacetTriangle → Type 0 = λ k. hides (triangle ps (facet_face k)) (centroid (corners ps c.args.row)) (as_rational (point ps c.args.i)) ≡ false in (
-      λ h. not_true h,
-      λ s.
-          let k = some_true test ts s.by_sign in
-          fails_true _ (all_done P ps ts c.args.tree.now c.loop-k.k c.requires.tree (omega arith) c.loop-k.invariant.done k.0 (contains_of ts k.0 k.1)) k.2,
-    )
+pub returns-in-None : goal.returns-in-None
+returns-in-None c = (λ h. not_true h, λ s. absurd (c.in-None.ensures s))

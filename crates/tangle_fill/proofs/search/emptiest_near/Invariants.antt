@@ -6,7 +6,7 @@ use Rattle.tangle_fill.proofs.search.emptiest_near.Given as goal
 abbrev pub invariant-loop-k : goal.invariant-loop-k
 invariant-loop-k l = record {
   there : l.k ≤ length l.point_tree;
-  row : IfSome l.row (IsRowOfFace l.points l.f);
+  best : IfSome l.trial.best (IsRowOfFace l.points l.f);
 }
 
 abbrev pub decreases-loop-k : goal.decreases-loop-k

@@ -4,7 +4,7 @@ use Rattle.geo_laws.specs.Delaunay.{corners}
 use Rattle.geo_laws.specs.OrientedFace.{triangle}
 use Rattle.tangle_laws.specs.Tangle.{facet_face}
 use Rattle.tangle_fill.proofs.Near.{AreDone}
-use Rattle.tangle_fill.proofs.crossed.uncrossed_near.Given as goal
+use Rattle.tangle_fill.proofs.crossed.crossing_near.Given as goal
 
 abbrev pub invariant-loop-i : goal.invariant-loop-i
 invariant-loop-i l = record {

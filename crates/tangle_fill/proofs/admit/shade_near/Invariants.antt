@@ -6,7 +6,7 @@ use Rattle.geo_laws.specs.OrientedFace.{triangle}
 use Rattle.tangle_laws.specs.Tangle.{facet_face}
 use Rattle.tangle_laws.specs.Hidden.{hides}
 use Rattle.tangle_fill.proofs.Near.{AreDone}
-use Rattle.tangle_fill.proofs.admit.is_shaded_near.Given as goal
+use Rattle.tangle_fill.proofs.admit.shade_near.Given as goal
 
 abbrev pub invariant-loop-k : goal.invariant-loop-k
 invariant-loop-k l = record {
