@@ -23,7 +23,7 @@ pub(crate) fn first_twin(alloc: Global, points: &Points) -> Result<Option<(u32, 
     ensures { IfOk result (λ twin. MatchOption twin (HasDistinctPoints points.now)
         (λ places. IsFirstTwin points.now places.0 places.1)) }
 {
-    let mut places = HashMap::new(alloc);
+    let mut places = HashMap::with_capacity(alloc, points.len())?;
     for i in 0..points.len() {
         let second = i as u32;
         let first = places.insert(coordinates(points.at(i)), second)?;

@@ -14,7 +14,7 @@ returns-in-Some c =
     twin_found (λ k. get same_key c.loop-i.places k) ps c.loop-i.i c.in-Some.first c.loop-i.invariant listed found
 
 pub loop-i-init : goal.loop-i-init
-loop-i-init c = knows_none (λ k. get same_key c.new-places.result k) c.args.points.now (λ q. rw c.new-places.ensures.empty refl)
+loop-i-init c = knows_none (λ k. get same_key c.in_ok-places.places k) c.args.points.now (λ q. rw c.in_ok-places.ensures.empty refl)
 
 pub loop-i-preserved : goal.loop-i-preserved
 loop-i-preserved c =
