@@ -35,7 +35,7 @@ struct Fetched {
 
 /// A complex and the name of its file.
 #[derive(Drop)]
-struct ComplexFile {
+pub struct ComplexFile {
     name: Name,
     text: PlcText,
 }
