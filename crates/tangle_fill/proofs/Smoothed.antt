@@ -21,7 +21,7 @@ use Rattle.tangle_laws.proofs.Apart.{fails_true}
 use Rattle.tangle_laws.proofs.Sides.{same_alike, side_of_face}
 use Rattle.tangle_laws.proofs.Sorted.{row_face}
 use Rattle.tangle_fill.specs.Fill.{oriented, AreSmooth}
-use Rattle.tangle_fill.specs.Smooth.{IsSmoothAt, IsWholeGrowth}
+use Rattle.tangle_fill.specs.Smooth.{IsSmoothAt, IsSmoothBelow, IsWholeGrowth}
 use Rattle.tangle_fill.specs.declared.growth.Growth.{Growth}
 
 -- ---- one row on a side
@@ -60,7 +60,7 @@ smooth_pair ps ts g face s t whole hs ht smooth u v cu cv on_u on_v =
 turned : (ps : List Point) (ts : List FacetTriangle) (s t : Tet) → AreSmooth ps ts s t → AreSmooth ps ts t s
 turned ps ts s t h = record { smooth = λ o. let l = h.smooth (o.0, o.2, o.1, o.3) in (l.1, l.0) }
 
-pub all_smooth : (ps : List Point) (ts : List FacetTriangle) (g : Growth) → IsWholeGrowth ps ts g → All (λ t. AllByRecursion (IsSmoothAt ps ts g.rows) (row_faces t)) g.rows → IsSmooth ps ts g.rows
+pub all_smooth : (ps : List Point) (ts : List FacetTriangle) (g : Growth) → IsWholeGrowth ps ts g → All (λ t. AllByRecursion (IsSmoothBelow ps ts g.rows t) (row_faces t)) g.rows → IsSmooth ps ts g.rows
 all_smooth ps ts g whole all i j d l k face fs ft none = go (side_of_face (oriented face) s (row_face ps s s_row.is_positive face (member_of (row_faces s) face fs)).has) (side_of_face (oriented face) t (row_face ps t t_row.is_positive face (member_of (row_faces t) face ft)).has)
   where
     rows : List Tet
@@ -81,8 +81,11 @@ all_smooth ps ts g whole all i j d l k face fs ft none = go (side_of_face (orien
     t_row : IsAdmissible ps ts (slice_index_or g.rows j d)
     t_row = whole.whole.admissible j d k
 
-    at : IsSmoothAt ps ts g.rows face
-    at = all_at (IsSmoothAt ps ts g.rows) face (row_faces (slice_index_or g.rows i d)) (all i d i_in) (member_of (row_faces (slice_index_or g.rows i d)) face fs)
+    below_s : IsSmoothBelow ps ts g.rows (slice_index_or g.rows i d) face
+    below_s = all_at (IsSmoothBelow ps ts g.rows (slice_index_or g.rows i d)) face (row_faces (slice_index_or g.rows i d)) (all i d i_in) (member_of (row_faces (slice_index_or g.rows i d)) face fs)
+
+    below_t : IsSmoothBelow ps ts g.rows (slice_index_or g.rows j d) face
+    below_t = all_at (IsSmoothBelow ps ts g.rows (slice_index_or g.rows j d)) face (row_faces (slice_index_or g.rows j d)) (all j d k) (member_of (row_faces (slice_index_or g.rows j d)) face ft)
 
     apart : ShareNoSide (slice_index_or g.rows i d) (slice_index_or g.rows j d)
     apart = whole.one_a_side i j d l k
@@ -99,6 +102,6 @@ all_smooth ps ts g whole all i j d l k face fs ft none = go (side_of_face (orien
     go : (lies_on (oriented face) (slice_index_or g.rows i d) ≡ true) ⊎ (lies_on (reversed (oriented face)) (slice_index_or g.rows i d) ≡ true)
         → (lies_on (oriented face) (slice_index_or g.rows j d) ≡ true) ⊎ (lies_on (reversed (oriented face)) (slice_index_or g.rows j d) ≡ true) → IsLocallyDelaunay ps (slice_index_or g.rows i d) (slice_index_or g.rows j d)
     go (inl a) (inl b) = absurd (not_both _ _ apart (oriented face) a b)
-    go (inl a) (inr b) = smooth (at _ _ cs ct a b)
-    go (inr a) (inl b) = smooth (turned ps ts _ _ (at _ _ ct cs b a))
+    go (inl a) (inr b) = smooth (below_s a _ _ cs ct a b)
+    go (inr a) (inl b) = smooth (turned ps ts _ _ (below_t b _ _ ct cs b a))
     go (inr a) (inr b) = absurd (not_both _ _ apart (reversed (oriented face)) a b)

@@ -15,6 +15,10 @@ use Rattle.tangle_fill.specs.declared.growth.Growth.{Growth}
 abbrev pub IsSmoothAt : List Point → List FacetTriangle → List Tet → Face → Type 0
 IsSmoothAt ps ts rows face = (s t : Tet) → Contains rows s → Contains rows t → IsTrue (lies_on (oriented face) s) → IsTrue (lies_on (reversed (oriented face)) t) → AreSmooth ps ts s t
 
+-- so they are where the row lies on the face's positive side
+abbrev pub IsSmoothBelow : List Point → List FacetTriangle → List Tet → Tet → Face → Type 0
+IsSmoothBelow ps ts rows row face = IsTrue (lies_on (oriented face) row) → IsSmoothAt ps ts rows face
+
 -- a growth over the whole hull, of whose rows no two lie on one side of a face
 pub record IsWholeGrowth (ps : List Point) (ts : List FacetTriangle) (g : Growth) : Type 0 where
   pub whole : IsWhole ps ts g.rows
