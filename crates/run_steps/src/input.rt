@@ -40,7 +40,9 @@ pub struct ComplexFile {
     text: PlcText,
 }
 
-/// The input that the options name.
+/// The input that the options name: points alone, or a complex on its own points or on those of the `.node` file with the same base. It refuses with
+/// `Missing`, `ReadFault`, `BadText` or the limit of bytes, of the first file that is at fault, with `BadText` where a corner names no point, or for
+/// want of memory. It stores nothing.
 pub fn read_input<F: Folder>(
     alloc: Global,
     options: &Options,

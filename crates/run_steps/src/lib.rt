@@ -10,7 +10,7 @@ mod status;
 mod store;
 
 pub use input::{Input, read_input};
-pub use mesh::mesh_of;
+pub use mesh::mesh_input;
 pub use messages::{OUT_OF_MEMORY, SUMMARY_FAILED, append_number, message};
 pub use outputs::Outputs;
 pub use status::{LimitKind, Status};

@@ -34,8 +34,9 @@ pub struct Bound {
     pub complex: Complex,
 }
 
-/// The files and the summary of the mesh of an input.
-pub fn mesh_of(alloc: Global, options: &Options, input: Input) -> Result<Outputs, Status>
+/// The files and the summary of the mesh of an input. It refuses with the first in this order: a limit on what is in the input, equal points, all
+/// points in one plane, and of a complex what `mesh_complex` refuses; or for want of memory.
+pub fn mesh_input(alloc: Global, options: &Options, input: Input) -> Result<Outputs, Status>
     requires input { IsSound input }
     requires ranges { AreInRange options.now }
     ensures { MeshedAnswer options.now input result }

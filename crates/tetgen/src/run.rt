@@ -7,7 +7,7 @@ ghost use Rattle.run_steps.specs.Seen.{folder_seen, sink_seen};
 use crate::stop::Stop;
 use command_words::read_words;
 use run_steps::{
-    OUT_OF_MEMORY, Outputs, SUMMARY_FAILED, Status, mesh_of, message, read_input, store_all,
+    OUT_OF_MEMORY, Outputs, SUMMARY_FAILED, Status, mesh_input, message, read_input, store_all,
 };
 use std::alloc::Global;
 use tet_ports::{Bytes, Folder, PutFault, Sink, Words};
@@ -46,7 +46,7 @@ fn run<F: Folder, O: Sink>(
     let options = read_words(alloc, words)?;
     let input = read_input(alloc, &options, folder)?;
     let numbered_from = input.nodes.first;
-    let outputs = match mesh_of(alloc, &options, input) {
+    let outputs = match mesh_input(alloc, &options, input) {
         Ok(outputs) => outputs,
         Err(status) => {
             return Err(Stop::Refused {

@@ -1,7 +1,7 @@
 use Rattle.run_steps.specs.Meshing.{BoundAnswer, MeshAnswer, OutputsAnswer}
 use Rattle.run_steps.specs.Steps.{AndThen}
 use Rattle.run_steps.proofs.Steps.{and_then_ok}
-use Rattle.run_steps.proofs.mesh.mesh_of.Goals as goal
+use Rattle.run_steps.proofs.mesh.mesh_input.Goals as goal
 
 pub returns : goal.returns
 returns c =
