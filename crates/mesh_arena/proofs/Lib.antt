@@ -9,5 +9,7 @@ pub mod FaceCorners
 pub mod Pairs
 pub mod Replace
 pub mod CutCavity
-pub mod EdgeTable
+pub mod EdgeEnds
+pub mod EdgesByHash
+pub mod EdgeSquare
 pub mod StarEdges

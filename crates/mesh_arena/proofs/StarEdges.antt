@@ -5,7 +5,7 @@ use Rattle.std.proofs.lemmas.List.{get_or_default, get_or-set_same, get_or-set_o
 use Rattle.mesh_arena.specs.declared.slot.Corner.{Corner}
 use Rattle.mesh_arena.specs.declared.slot.Corner.TheVariants.{Ghost}
 use Rattle.mesh_arena.specs.declared.arena.SlotFace.{SlotFace}
-use Rattle.mesh_arena.specs.declared.edges.Edge.{Edge}
+use Rattle.mesh_arena.specs.declared.edge.Edge.{Edge}
 use Rattle.mesh_arena.specs.declared.slot.RimFace.{RimFace}
 use Rattle.mesh_arena.specs.declared.star.StarSlot.{StarSlot}
 use Rattle.mesh_arena.specs.Mesh.{SlotValue, corner_in, corner, side, at, SameFace, IsMesh, Links}
@@ -13,9 +13,9 @@ use Rattle.mesh_arena.specs.Cells.{cell_corners}
 use Rattle.mesh_arena.specs.Star.{behind, behind_rim}
 use Rattle.mesh_arena.specs.StarLinks.{Places, IsStar, LinksStar, IsOverEdge, AreOverEdges}
 use Rattle.mesh_arena.specs.Surgery.{no_slot, star_at, AddsStar, StandsOver, AreOverRim}
-use Rattle.mesh_arena.specs.Edges.{edge_between, Meetings, MeetsOnly}
+use Rattle.mesh_arena.specs.Edges.{edge_between, Table, IsMet, AddsOnly}
 use Rattle.mesh_arena.proofs.Mesh.{same_corner}
-use Rattle.mesh_arena.proofs.EdgeTable.{same_ends}
+use Rattle.mesh_arena.proofs.EdgeEnds.{same_ends}
 use Rattle.mesh_arena.proofs.Pairs.{SameFace-three, LinksStar-mates}
 
 -- the places of a slot in another order
@@ -58,10 +58,10 @@ module _ (old new : List (Option SlotValue)) (rim : List RimFace) (p : Corner) (
         ends = both ∙ o.ends;
       }
 
-  pub AreOverEdges-along : (table : Meetings) → AreOverEdges old rim p table → AreOverEdges new rim p table
+  pub AreOverEdges-along : (table : Table) → AreOverEdges old rim p table → AreOverEdges new rim p table
   AreOverEdges-along table over e s met = IsOverEdge-along e s (over e s met)
 
-pub AreOverEdges-met : (slots : List (Option SlotValue)) (rim : List RimFace) (p : Corner) (old new : Meetings) (e : Edge) (s : SlotFace) → MeetsOnly old new e s → IsOverEdge slots rim p e s → AreOverEdges slots rim p old → AreOverEdges slots rim p new
+pub AreOverEdges-met : (slots : List (Option SlotValue)) (rim : List RimFace) (p : Corner) (old new : Table) (e : Edge) (s : SlotFace) → AddsOnly (IsMet old) (IsMet new) e s → IsOverEdge slots rim p e s → AreOverEdges slots rim p old → AreOverEdges slots rim p new
 AreOverEdges-met slots rim p old new e s only here before e2 s2 met =
     elim (only e2 s2 met) [
       | inl was ↦ before e2 s2 was

@@ -1,10 +1,12 @@
 -- The edges of a star, and what a table of them has met. No public clause cites this module.
-use Rattle.std.specs.Prelude.{◌≡◌, ℕ, ◌+◌, min, max, ◌<◌, ◌≤◌, ◌⊎◌, ◌==◌, if◌then◌else◌, List, map, All, Option, Some, None, slice_index_or}
+use Rattle.std.specs.Prelude.{◌≡◌, ℕ, ◌+◌, ◌*◌, min, max, ◌<◌, ◌≤◌, ◌⊎◌, ◌==◌, if◌then◌else◌, List, length, map, All, Option, Some, None, slice_get, slice_index_or}
 use Rattle.mesh_arena.specs.declared.slot.Corner.{Corner}
 use Rattle.mesh_arena.specs.declared.slot.Corner.TheVariants.{Point, Ghost}
 use Rattle.mesh_arena.specs.declared.arena.SlotFace.{SlotFace}
-use Rattle.mesh_arena.specs.declared.edges.Edge.{Edge}
-use Rattle.mesh_arena.specs.declared.edges.Met.{Met}
+use Rattle.mesh_arena.specs.declared.edge.Edge.{Edge}
+use Rattle.mesh_arena.specs.declared.edge.End.{End}
+use Rattle.mesh_arena.specs.declared.square.MetFace.{MetFace}
+use Rattle.mesh_arena.specs.declared.hashed.Met.{Met}
 
 -- a number of its own for each corner
 abbrev pub corner_number : Corner → ℕ
@@ -18,7 +20,53 @@ edge_of a b = record { low = min a b; high = max a b }
 abbrev pub edge_between : Corner → Corner → Edge
 edge_between x y = edge_of (corner_number x) (corner_number y)
 
--- in each place of the table an edge and the face that it was met at, or nothing
+-- the place in a square of the edge between two rows
+abbrev pub place_of : ℕ → ℕ → ℕ
+place_of a b = max a b * 64 + min a b
+
+-- in each row of a square the number of a corner, and in each place the face that an edge was met at, or nothing
+pub record SquareValue : Type 0 where
+  pub rows : List ℕ
+  pub faces : List (Option SlotFace)
+
+-- what a place has, if it is of this round
+abbrev pub face_of : ℕ → MetFace → Option SlotFace
+face_of round m = if m.round == round then Some (record { slot = m.slot; face = m.face }) else None
+
+abbrev pub faces_in : List MetFace → ℕ → List (Option SlotFace)
+faces_in met round = map (face_of round) met
+
+-- no place is of a later round, and those of this round lie between rows that are taken
+pub record IsSquare (met : List MetFace) (round : ℕ) (rows : List ℕ) : Type 0 where
+  pub some : 0 < round
+  pub all : All (λ m. m.round ≤ round) met
+  pub few : length met ≤ 4096
+  pub between : (high low : ℕ) (face : SlotFace) → low < 64
+      → slice_index_or (faces_in met round) (high * 64 + low) None ≡ Some face → (high < length rows) × (low < length rows)
+
+-- the edge has the corners in two rows for ends, and was met at this face
+pub record IsInSquare (square : SquareValue) (edge : Edge) (face : SlotFace) : Type 0 where
+  pub row : ℕ
+  pub other_row : ℕ
+  pub below : row < 64
+  pub other_below : other_row < 64
+  pub first : ℕ
+  pub second : ℕ
+  pub is_first : slice_get square.rows row ≡ Some first
+  pub is_second : slice_get square.rows other_row ≡ Some second
+  pub ends : edge ≡ edge_of first second
+  pub is : slice_index_or square.faces (place_of row other_row) None ≡ Some face
+
+-- the row of the end has its number
+pub record IsEnd (rows : List ℕ) (end : End) : Type 0 where
+  pub most : end.row ≤ 64
+  pub has : end.row < 64 → slice_get rows end.row ≡ Some end.number
+
+-- the rows keep their numbers
+abbrev pub KeepsRows : List ℕ → List ℕ → Type 0
+KeepsRows old new = (row number : ℕ) → slice_get old row ≡ Some number → slice_get new row ≡ Some number
+
+-- in each place of a table by hashes an edge and the face that it was met at, or nothing
 abbrev pub Meetings : Type 0
 Meetings = List (Option (Edge × SlotFace))
 
@@ -35,14 +83,26 @@ pub record IsUpTo (met : List Met) (round : ℕ) : Type 0 where
   pub all : All (λ m. m.round ≤ round) met
 
 -- this edge was met at this face
-pub record IsMet (table : Meetings) (edge : Edge) (face : SlotFace) : Type 0 where
+pub record IsHashed (table : Meetings) (edge : Edge) (face : SlotFace) : Type 0 where
   pub place : ℕ
   pub is : slice_index_or table place None ≡ Some (edge, face)
 
+-- what a table has in its square and by hashes
+pub record Table : Type 0 where
+  pub square : SquareValue
+  pub hashed : Meetings
+
+abbrev pub IsMet : Table → Edge → SlotFace → Type 0
+IsMet table edge face = IsInSquare table.square edge face ⊎ IsHashed table.hashed edge face
+
 -- no edge was met
-abbrev pub IsUnmet : Meetings → Type 0
-IsUnmet table = (e : Edge) (s : SlotFace) → IsMet table e s → ⊥
+abbrev pub IsNone : (Edge → SlotFace → Type 0) → Type 0
+IsNone met = (e : Edge) (s : SlotFace) → met e s → ⊥
+
+-- no edge was met besides
+abbrev pub AddsNone : (Edge → SlotFace → Type 0) → (Edge → SlotFace → Type 0) → Type 0
+AddsNone old new = (e : Edge) (s : SlotFace) → new e s → old e s
 
 -- at most this was met besides
-abbrev pub MeetsOnly : Meetings → Meetings → Edge → SlotFace → Type 0
-MeetsOnly old new edge face = (e : Edge) (s : SlotFace) → IsMet new e s → IsMet old e s ⊎ ((e ≡ edge) × (s ≡ face))
+abbrev pub AddsOnly : (Edge → SlotFace → Type 0) → (Edge → SlotFace → Type 0) → Edge → SlotFace → Type 0
+AddsOnly old new edge face = (e : Edge) (s : SlotFace) → new e s → old e s ⊎ ((e ≡ edge) × (s ≡ face))

@@ -6,8 +6,8 @@ use Rattle.mesh_arena.specs.declared.arena.SlotFace.{SlotFace}
 use Rattle.mesh_arena.specs.declared.slot.RimFace.{RimFace}
 use Rattle.mesh_arena.specs.Mesh.{SlotValue, corners_at, corner, side, OnFace, SameFace}
 use Rattle.mesh_arena.specs.Star.{rim_at, face_side, behind_rim}
-use Rattle.mesh_arena.specs.declared.edges.Edge.{Edge}
-use Rattle.mesh_arena.specs.Edges.{edge_between, Meetings, IsMet}
+use Rattle.mesh_arena.specs.declared.edge.Edge.{Edge}
+use Rattle.mesh_arena.specs.Edges.{edge_between, Table, IsMet}
 
 abbrev pub CornerValue : Type 0
 CornerValue = Corner
@@ -98,5 +98,5 @@ pub record IsOverEdge (slots : List (Option SlotValue)) (rim : List RimFace) (p 
   pub ends : edge_between (corner slots face.slot first) (corner slots face.slot second) ≡ edge
 
 -- each edge was met at such a face
-abbrev pub AreOverEdges : List (Option SlotValue) → List RimFace → Corner → Meetings → Type 0
+abbrev pub AreOverEdges : List (Option SlotValue) → List RimFace → Corner → Table → Type 0
 AreOverEdges slots rim p table = (e : Edge) (s : SlotFace) → IsMet table e s → IsOverEdge slots rim p e s

@@ -9,9 +9,12 @@
 mod arena;
 mod cell;
 mod cut;
+mod edge;
 mod edges;
+mod hashed;
 mod rows;
 mod slot;
+mod square;
 mod star;
 mod surgery;
 

@@ -1,5 +1,5 @@
 //! Small numbers for the corners of a rim.
-ghost use Rattle.std.specs.Prelude.{◌≡◌, ◌⊎◌, ◌++◌, [], ◌∷◌, Some, IsTrue, ◌<◌};
+ghost use Rattle.std.specs.Prelude.{◌≡◌, ◌⊎◌, ◌++◌, [], ◌∷◌, Some, IsTrue, ◌<◌, ◌≤◌};
 ghost use Rattle.std.specs.Prelude.{slice_get, vec_len};
 
 use std::alloc::Global;
@@ -19,18 +19,18 @@ pub(crate) struct Rows {
     corners: Vec<usize>,
     // The row that each corner had when it last had one.
     last: Vec<u32>,
-    // How many rows there may be.
-    most: usize,
     // Numbers from here on get no row.
     bound: usize,
 }
 
 impl Model for Rows {
-    ghost use Rattle.std.specs.Prelude.{List, ℕ};
+    ghost use Rattle.std.specs.Prelude.{List, ℕ, ◌≤◌, length};
 
     ghost Value = { List ℕ };
 
     ghost view = { λ r. r.corners.items };
+
+    ghost invariant = { λ r. length r.corners.items ≤ 64 };
 }
 
 impl Rows {
@@ -40,17 +40,15 @@ impl Rows {
         Rows {
             corners: Vec::new(alloc),
             last: Vec::new(alloc),
-            most: 0,
             bound: 0,
         }
     }
 
-    /// Takes all rows away. There will be at most so many, of corners of a mesh with so many slots.
-    pub(crate) fn start(&mut self, most: usize, slots: usize)
+    /// Takes all rows away. The next ones will be of corners of a mesh with so many slots.
+    pub(crate) fn start(&mut self, slots: usize)
         ensures { self.new ≡ [] }
     {
         self.corners.clear();
-        self.most = most.min(ROWS);
         self.bound = slots.saturating_mul(NUMBERS_A_SLOT);
     }
 
@@ -59,6 +57,7 @@ impl Rows {
     #[inline(always)]
     pub(crate) fn row_of(&mut self, corner: usize) -> usize
         ensures row { result < 64 → slice_get self.new result ≡ Some corner }
+        ensures most { result ≤ 64 }
         ensures others { (self.new ≡ self.old) ⊎ (self.new ≡ self.old ++ (corner ∷ [])) }
     {
         if corner < self.last.len() {
@@ -74,10 +73,11 @@ impl Rows {
     #[inline(never)]
     fn add_row(&mut self, corner: usize) -> usize
         ensures row { result < 64 → slice_get self.new result ≡ Some corner }
+        ensures most { result ≤ 64 }
         ensures others { (self.new ≡ self.old) ⊎ (self.new ≡ self.old ++ (corner ∷ [])) }
     {
         let row = self.corners.len();
-        if row >= self.most.min(ROWS)
+        if row >= ROWS
             || !reaches(&mut self.last, corner, self.bound)
             || self.corners.push(corner).is_err()
         {

@@ -9,9 +9,11 @@ ghost use Rattle.mesh_arena.specs.Surgery.{AreOverRim};
 ghost use Rattle.mesh_arena.specs.Replace.{IsCavity, IsRim, IsOffRim, Replaces};
 ghost use Rattle.mesh_arena.specs.StarLinks.{IsStar, ArePaired, Mate, LinksFace, LinksStar};
 ghost use Rattle.mesh_arena.specs.StarLinks.{IsOverEdge, AreOverEdges};
+ghost use Rattle.mesh_arena.specs.Edges.{edge_of, IsEnd};
 
 use crate::arena::{Arena, SlotFace};
-use crate::edges::{Edge, EdgePlace, EdgeTable};
+use crate::edge::{Edge, Ends};
+use crate::edges::EdgeTable;
 use crate::slot::other_places;
 use crate::star::StarSlot;
 use crate::{Cavity, Corner, Rim, RimFace, Slot};
@@ -165,18 +167,22 @@ impl Arena {
         &mut self,
         rim: &[RimFace],
         point: u32,
-        at: EdgePlace,
+        ends: Ends,
         face: SlotFace,
         table: &mut EdgeTable,
     )
         requires star { IsStar self.old.slots rim.now (Corner.Point point) }
-        requires over { IsOverEdge self.old.slots rim.now (Corner.Point point) at.edge face }
+        requires one { IsEnd table.old.square.rows ends.one }
+        requires other { IsEnd table.old.square.rows ends.other }
+        requires over { IsOverEdge self.old.slots rim.now (Corner.Point point)
+            (edge_of ends.one.number ends.other.number) face }
         requires met { AreOverEdges self.old.slots rim.now (Corner.Point point) table.old }
         ensures links { LinksStar self.old.slots self.new.slots rim.now (Corner.Point point) 0 }
         ensures met { AreOverEdges self.new.slots rim.now (Corner.Point point) table.new }
+        ensures rows { table.new.square.rows ≡ table.old.square.rows }
     {
-        if let Some(other) = table.meet(at, face) {
-            self.link_mates(rim, point, at.edge, face, other);
+        if let Some(other) = table.meet(ends, face) {
+            self.link_mates(rim, point, ends.edge(), face, other);
         }
     }
 
@@ -202,11 +208,11 @@ impl Arena {
         let y = table.end(one.cell.number(j));
         let z = table.end(one.cell.number(k));
         let slot = one.slot;
-        let yz = EdgePlace::between(y, z);
+        let yz = Ends { one: y, other: z };
         self.link_at_edge(rim, point, yz, SlotFace { slot, face: i }, table);
-        let xz = EdgePlace::between(x, z);
+        let xz = Ends { one: x, other: z };
         self.link_at_edge(rim, point, xz, SlotFace { slot, face: j }, table);
-        let xy = EdgePlace::between(x, y);
+        let xy = Ends { one: x, other: y };
         self.link_at_edge(rim, point, xy, SlotFace { slot, face: k }, table);
     }
 

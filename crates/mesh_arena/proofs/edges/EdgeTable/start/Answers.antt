@@ -1,7 +1,8 @@
+use Rattle.std.proofs.Common.{inl, inr}
 use Rattle.mesh_arena.proofs.edges.EdgeTable.start.Goals as goal
 
-pub grow-requires : goal.grow-requires
-grow-requires c = rw (← c.self.view_is) at c.next_round.ensures
-
-pub returns-in_default : goal.returns-in_default
-returns-in_default c = rw (← c.self.view_is) at c.next_round.ensures
+pub returns : goal.returns
+returns c e s met = elim met [
+  | inl is_in ↦ c.start.ensures e s is_in
+  | inr hashed ↦ c.start-2.ensures e s hashed
+]

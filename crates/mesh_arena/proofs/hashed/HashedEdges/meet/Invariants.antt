@@ -1,6 +1,6 @@
 use Rattle.std.proofs.Common.{◌≡◌}
 use Rattle.mesh_arena.specs.Edges.{meetings_in, IsUpTo}
-use Rattle.mesh_arena.proofs.edges.EdgeTable.probe.Given as goal
+use Rattle.mesh_arena.proofs.hashed.HashedEdges.meet.Given as goal
 
 abbrev pub invariant-loop-step : goal.invariant-loop-step
 invariant-loop-step l =

@@ -1,15 +1,13 @@
--- How a table of edges keeps what was met in its round.
+-- How a table of edges by hashes keeps what was met in its round.
 use Rattle.std.proofs.Common.{◌≡◌, ◌≢◌, ◌⊎◌, ℕ, ◌<◌, List, length, get_or, set, Some, None, refl, sym, ap, subst, ◌∙◌, inl, inr, arith, cond}
 use Rattle.std.proofs.lemmas.Bool.{cases_eq, cases_lt, ne_eqb, eq-eqb}
 use Rattle.std.proofs.lemmas.List.{map-set, get_or-map, get_or-set_same, get_or-set_other, get_or_past, length-map}
 use Rattle.std.proofs.lemmas.Option.{none-some, some_pair_parts}
 use Rattle.std.specs.List.{All}
-use Rattle.mesh_arena.specs.declared.slot.Corner.{Corner}
-use Rattle.mesh_arena.specs.declared.slot.Corner.TheVariants.{Point, Ghost}
 use Rattle.mesh_arena.specs.declared.arena.SlotFace.{SlotFace}
-use Rattle.mesh_arena.specs.declared.edges.Edge.{Edge}
-use Rattle.mesh_arena.specs.declared.edges.Met.{Met}
-use Rattle.mesh_arena.specs.Edges.{corner_number, edge_of, edge_between, Meetings, meeting_of, meetings_in, IsMet, IsUnmet, MeetsOnly}
+use Rattle.mesh_arena.specs.declared.edge.Edge.{Edge}
+use Rattle.mesh_arena.specs.declared.hashed.Met.{Met}
+use Rattle.mesh_arena.specs.Edges.{Meetings, meeting_of, meetings_in, IsHashed, IsNone, AddsOnly}
 
 -- what is of another round counts as nothing
 not_now : (round : ℕ) (m : Met) → m.round ≢ round → meeting_of round m ≡ None
@@ -22,7 +20,7 @@ read : (met : List Met) (round k : ℕ) (d : Met) → k < length met → get_or 
 read met round k d lt = get_or-map (meeting_of round) met k d None lt
 
 -- what was met stands in the table
-within : (met : List Met) (round : ℕ) (e : Edge) (s : SlotFace) (is_met : IsMet (meetings_in met round) e s) → is_met.place < length met
+within : (met : List Met) (round : ℕ) (e : Edge) (s : SlotFace) (is_met : IsHashed (meetings_in met round) e s) → is_met.place < length met
 within met round e s is_met =
     elim (cases_lt is_met.place (length met)) [
       | inl lt ↦ lt
@@ -30,24 +28,24 @@ within met round e s is_met =
     ]
 
 -- a place that has this edge
-pub IsMet-read : (met : List Met) (round place : ℕ) (m : Met) → place < length met → m ≡ get_or met place m → m.round ≡ round → IsMet (meetings_in met round) m.edge m.at
-IsMet-read met round place m lt is same =
+pub IsHashed-read : (met : List Met) (round place : ℕ) (m : Met) → place < length met → m ≡ get_or met place m → m.round ≡ round → IsHashed (meetings_in met round) m.edge m.at
+IsHashed-read met round place m lt is same =
     record { place = place; is = read met round place m lt ∙ ap (meeting_of round) (sym is) ∙ now round m same }
 
 -- no place is of this round
-pub IsUnmet-others : (met : List Met) (round : ℕ) → All (λ m. m.round ≢ round) met → IsUnmet (meetings_in met round)
-IsUnmet-others met round others e s is_met =
+pub IsNone-others : (met : List Met) (round : ℕ) → All (λ m. m.round ≢ round) met → IsNone (IsHashed (meetings_in met round))
+IsNone-others met round others e s is_met =
     let none : Met = record { edge = e; at = s; round = 0 } in
     let lt = within met round e s is_met in
     none-some (e, s) (sym (not_now round _ (others is_met.place none lt)) ∙ sym (read met round is_met.place none lt) ∙ is_met.is)
 
-pub others-IsUnmet : (met : List Met) (round : ℕ) → IsUnmet (meetings_in met round) → All (λ m. m.round ≢ round) met
-others-IsUnmet met round unmet k d lt same =
+pub others-IsNone : (met : List Met) (round : ℕ) → IsNone (IsHashed (meetings_in met round)) → All (λ m. m.round ≢ round) met
+others-IsNone met round unmet k d lt same =
     unmet (get_or met k d).edge (get_or met k d).at (record { place = k; is = read met round k d lt ∙ now round (get_or met k d) same })
 
 -- one place is written
-pub MeetsOnly-set : (met : List Met) (round place : ℕ) (e : Edge) (s : SlotFace) (m : Met) → place < length met → m ≡ record { edge = e; at = s; round = round } → MeetsOnly (meetings_in met round) (meetings_in (set met place m) round) e s
-MeetsOnly-set met round place e s m lt is e2 s2 is_met =
+pub AddsOnly-hashed : (met : List Met) (round place : ℕ) (e : Edge) (s : SlotFace) (m : Met) → place < length met → m ≡ record { edge = e; at = s; round = round } → AddsOnly (IsHashed (meetings_in met round)) (IsHashed (meetings_in (set met place m) round)) e s
+AddsOnly-hashed met round place e s m lt is e2 s2 is_met =
     let written : meetings_in (set met place m) round ≡ set (meetings_in met round) place (Some (e, s)) =
     map-set (meeting_of round) met place m ∙ ap (set (meetings_in met round) place) (ap (meeting_of round) is ∙ now round (record { edge = e; at = s; round = round }) refl) in
     let there : get_or (set (meetings_in met round) place (Some (e, s))) is_met.place None ≡ Some (e2, s2) = ap (λ (t : Meetings). get_or t is_met.place None) (sym written) ∙ is_met.is in
@@ -57,23 +55,4 @@ MeetsOnly-set met round place e s m lt is e2 s2 is_met =
           let here = subst (λ n. get_or (set (meetings_in met round) place (Some (e, s))) n None ≡ Some (e2, s2)) same there in
           let parts = some_pair_parts e e2 s s2 (sym (get_or-set_same (meetings_in met round) place (Some (e, s)) None (omega (arith, lt, length-map met (meeting_of round)))) ∙ here) in
           inr (sym parts.0, sym parts.1)
-    ]
-
-pub edge_of-numbers : (a b : ℕ) (x y : Corner) → a ≡ corner_number x → b ≡ corner_number y → edge_of a b ≡ edge_between x y
-edge_of-numbers a b x y is_a is_b = rw (is_a, is_b) refl
-
-same_number : (x y : Corner) → corner_number x ≡ corner_number y → x ≡ y
-same_number (Point i) (Point j) e = ap Point (omega arith)
-same_number (Point i) Ghost e = absurd (omega arith)
-same_number Ghost (Point j) e = absurd (omega arith)
-same_number Ghost Ghost e = refl
-
--- an edge tells its ends
-pub same_ends : (x y z w : Corner) → edge_between x y ≡ edge_between z w → ((x ≡ z) × (y ≡ w)) ⊎ ((x ≡ w) × (y ≡ z))
-same_ends x y z w e =
-    let low = ap (λ (a : Edge). a.low) e in
-    let high = ap (λ (a : Edge). a.high) e in
-    elim (cases_eq (corner_number x) (corner_number z)) [
-      | inl same ↦ inl (same_number x z same, same_number y w (omega arith))
-      | inr differ ↦ inr (same_number x w (omega arith), same_number y z (omega arith))
     ]

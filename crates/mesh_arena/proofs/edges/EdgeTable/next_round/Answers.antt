@@ -1,7 +1,0 @@
-use Rattle.std.proofs.Common.{◌+◌, arith}
-use Rattle.mesh_arena.proofs.EdgeTable.{IsUnmet-others}
-use Rattle.mesh_arena.proofs.edges.EdgeTable.next_round.Goals as goal
-
-pub returns-else-self : goal.returns-else-self
-returns-else-self c =
-    IsUnmet-others c.self.inside.met.items (c.self.inside.round + 1) (λ k d lt e. omega (arith, c.self.invariant.all k d lt))

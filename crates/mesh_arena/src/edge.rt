@@ -1,0 +1,50 @@
+//! The edges of a star, by the corners at their ends.
+ghost use Rattle.std.specs.Prelude.{◌≡◌, ◌≤◌};
+ghost use Rattle.mesh_arena.specs.Edges.{edge_of, place_of};
+
+use crate::rows::ROWS;
+
+/// The ends of an edge, by the numbers of the corners, the lesser first.
+#[derive(Clone, Copy, Debug, PartialEq, Eq)]
+pub(crate) struct Edge {
+    pub(crate) low: usize,
+    pub(crate) high: usize,
+}
+
+/// An end of an edge: the number of the corner, and its row in the square, or ROWS if it has none.
+#[derive(Clone, Copy, Debug)]
+pub(crate) struct End {
+    pub(crate) number: usize,
+    pub(crate) row: usize,
+}
+
+/// Both ends of an edge, in any order.
+#[derive(Clone, Copy, Debug)]
+pub(crate) struct Ends {
+    pub(crate) one: End,
+    pub(crate) other: End,
+}
+
+impl Ends {
+    /// The edge between them.
+    #[inline(always)]
+    pub(crate) fn edge(self) -> Edge
+        ensures { result ≡ edge_of self.one.number self.other.number }
+    {
+        let (one, other) = (self.one.number, self.other.number);
+        Edge {
+            low: one.min(other),
+            high: one.max(other),
+        }
+    }
+
+    /// Its place in the square. That is past all others where an end has no row.
+    #[inline(always)]
+    pub(crate) fn place(self) -> usize
+        requires { (self.one.row ≤ 64) × (self.other.row ≤ 64) }
+        ensures { result ≡ place_of self.one.row self.other.row }
+    {
+        let (one, other) = (self.one.row, self.other.row);
+        one.max(other) * ROWS + one.min(other)
+    }
+}

@@ -1,0 +1,124 @@
+//! A table of edges by their hashes.
+ghost use Rattle.std.specs.Prelude.{◌≡◌, IfSome};
+ghost use Rattle.mesh_arena.specs.Edges.{IsHashed, IsNone, AddsOnly};
+
+use crate::arena::SlotFace;
+use crate::edge::Edge;
+use std::alloc::Global;
+use std::marker::Model;
+
+// An edge, the face that it was met at, and in which round.
+#[derive(Clone, Copy, Debug)]
+pub(crate) struct Met {
+    edge: Edge,
+    at: SlotFace,
+    round: u32,
+}
+
+/// A table of edges, used in rounds: what an earlier round left counts as empty. An edge is sought
+/// by a hash, in open addressing. Contracts see what each place has of this round.
+#[derive(Debug, Drop)]
+pub(crate) struct HashedEdges {
+    met: Vec<Met>,
+    // From 1.
+    round: u32,
+}
+
+impl Model for HashedEdges {
+    ghost use Rattle.mesh_arena.specs.Edges.{Meetings, meetings_in, IsUpTo};
+
+    ghost Value = { Meetings };
+
+    ghost view = { λ t. meetings_in t.met.items t.round };
+
+    ghost invariant = { λ t. IsUpTo t.met.items t.round };
+}
+
+// How many places an edge may have.
+const PROBES: usize = 16;
+
+impl HashedEdges {
+    pub(crate) fn new(alloc: Global) -> Self {
+        HashedEdges {
+            met: Vec::new(alloc),
+            round: 1,
+        }
+    }
+
+    // Leaves all that was met to an earlier round.
+    fn next_round(&mut self)
+        ensures { IsNone (IsHashed self.new) }
+    {
+        if self.round == u32::MAX {
+            self.met.clear();
+            self.round = 1;
+        } else {
+            self.round += 1;
+        }
+    }
+
+    // Makes the table this long, if it is shorter and there is memory.
+    fn grow(&mut self, len: usize)
+        requires { IsNone (IsHashed self.old) }
+        ensures { IsNone (IsHashed self.new) }
+    {
+        if self.met.len() < len {
+            let none = Met {
+                edge: Edge { low: 0, high: 0 },
+                at: SlotFace { slot: 0, face: 0 },
+                round: 0,
+            };
+            let _ = self.met.resize(len, none);
+        }
+    }
+
+    /// Begins a round for so many edges or fewer. Where there is no memory for them the table stays
+    /// as large as it is.
+    pub(crate) fn start(&mut self, edges: usize)
+        ensures { IsNone (IsHashed self.new) }
+    {
+        self.next_round();
+        if let Some(len) = edges.saturating_mul(2).checked_next_power_of_two() {
+            self.grow(len);
+        }
+    }
+
+    /// The face that the edge was met at before in this round. Where there is none, the edge is met
+    /// at `face` from now on, if a place is free for it.
+    #[inline(never)]
+    pub(crate) fn meet(&mut self, edge: Edge, face: SlotFace) -> Option<SlotFace>
+        ensures found { IfSome result (λ s. IsHashed self.old edge s) }
+        ensures only { AddsOnly (IsHashed self.old) (IsHashed self.new) edge face }
+    {
+        let len = self.met.len();
+        if len == 0 {
+            return None;
+        }
+        let first = hash(edge);
+        for step in 0..PROBES {
+            let place = first.wrapping_add(step) & (len - 1);
+            if place >= len {
+                return None;
+            }
+            let met = self.met[place];
+            if met.round != self.round {
+                self.met[place] = Met {
+                    edge,
+                    at: face,
+                    round: self.round,
+                };
+                return None;
+            }
+            if met.edge == edge {
+                return Some(met.at);
+            }
+        }
+        None
+    }
+}
+
+// Fibonacci hashing of the two ends.
+fn hash(edge: Edge) -> usize {
+    let both = edge.low.wrapping_mul(1 << 32) ^ edge.high;
+    both.wrapping_mul(0x9e37_79b9_7f4a_7c15) >> 32
+}
