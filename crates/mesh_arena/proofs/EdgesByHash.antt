@@ -9,12 +9,18 @@ use Rattle.mesh_arena.specs.declared.edge.Edge.{Edge}
 use Rattle.mesh_arena.specs.declared.hashed.Met.{Met}
 use Rattle.mesh_arena.specs.Edges.{Meetings, meeting_of, meetings_in, IsHashed, IsNone, AddsOnly}
 
+abbrev edge_in : Met → Edge
+edge_in m = record { low = m.low; high = m.high }
+
+abbrev face_in : Met → SlotFace
+face_in m = record { slot = m.slot; face = m.face }
+
 -- what is of another round counts as nothing
 not_now : (round : ℕ) (m : Met) → m.round ≢ round → meeting_of round m ≡ None
-not_now round m differ = ap (λ b. cond b (Some (m.edge, m.at)) None) (ne_eqb m.round round differ)
+not_now round m differ = ap (λ b. cond b (Some (edge_in m, face_in m)) None) (ne_eqb m.round round differ)
 
-now : (round : ℕ) (m : Met) → m.round ≡ round → meeting_of round m ≡ Some (m.edge, m.at)
-now round m same = ap (λ b. cond b (Some (m.edge, m.at)) None) (eq-eqb m.round round same)
+now : (round : ℕ) (m : Met) → m.round ≡ round → meeting_of round m ≡ Some (edge_in m, face_in m)
+now round m same = ap (λ b. cond b (Some (edge_in m, face_in m)) None) (eq-eqb m.round round same)
 
 read : (met : List Met) (round k : ℕ) (d : Met) → k < length met → get_or (meetings_in met round) k None ≡ meeting_of round (get_or met k d)
 read met round k d lt = get_or-map (meeting_of round) met k d None lt
@@ -28,26 +34,26 @@ within met round e s is_met =
     ]
 
 -- a place that has this edge
-pub IsHashed-read : (met : List Met) (round place : ℕ) (m : Met) → place < length met → m ≡ get_or met place m → m.round ≡ round → IsHashed (meetings_in met round) m.edge m.at
+pub IsHashed-read : (met : List Met) (round place : ℕ) (m : Met) → place < length met → m ≡ get_or met place m → m.round ≡ round → IsHashed (meetings_in met round) (edge_in m) (face_in m)
 IsHashed-read met round place m lt is same =
     record { place = place; is = read met round place m lt ∙ ap (meeting_of round) (sym is) ∙ now round m same }
 
 -- no place is of this round
 pub IsNone-others : (met : List Met) (round : ℕ) → All (λ m. m.round ≢ round) met → IsNone (IsHashed (meetings_in met round))
 IsNone-others met round others e s is_met =
-    let none : Met = record { edge = e; at = s; round = 0 } in
+    let none : Met = record { low = e.low; high = e.high; slot = s.slot; round = 0; face = s.face } in
     let lt = within met round e s is_met in
     none-some (e, s) (sym (not_now round _ (others is_met.place none lt)) ∙ sym (read met round is_met.place none lt) ∙ is_met.is)
 
 pub others-IsNone : (met : List Met) (round : ℕ) → IsNone (IsHashed (meetings_in met round)) → All (λ m. m.round ≢ round) met
 others-IsNone met round unmet k d lt same =
-    unmet (get_or met k d).edge (get_or met k d).at (record { place = k; is = read met round k d lt ∙ now round (get_or met k d) same })
+    unmet (edge_in (get_or met k d)) (face_in (get_or met k d)) (record { place = k; is = read met round k d lt ∙ now round (get_or met k d) same })
 
 -- one place is written
-pub AddsOnly-hashed : (met : List Met) (round place : ℕ) (e : Edge) (s : SlotFace) (m : Met) → place < length met → m ≡ record { edge = e; at = s; round = round } → AddsOnly (IsHashed (meetings_in met round)) (IsHashed (meetings_in (set met place m) round)) e s
+pub AddsOnly-hashed : (met : List Met) (round place : ℕ) (e : Edge) (s : SlotFace) (m : Met) → place < length met → m ≡ record { low = e.low; high = e.high; slot = s.slot; round = round; face = s.face } → AddsOnly (IsHashed (meetings_in met round)) (IsHashed (meetings_in (set met place m) round)) e s
 AddsOnly-hashed met round place e s m lt is e2 s2 is_met =
     let written : meetings_in (set met place m) round ≡ set (meetings_in met round) place (Some (e, s)) =
-    map-set (meeting_of round) met place m ∙ ap (set (meetings_in met round) place) (ap (meeting_of round) is ∙ now round (record { edge = e; at = s; round = round }) refl) in
+    map-set (meeting_of round) met place m ∙ ap (set (meetings_in met round) place) (ap (meeting_of round) is ∙ now round (record { low = e.low; high = e.high; slot = s.slot; round = round; face = s.face }) refl) in
     let there : get_or (set (meetings_in met round) place (Some (e, s))) is_met.place None ≡ Some (e2, s2) = ap (λ (t : Meetings). get_or t is_met.place None) (sym written) ∙ is_met.is in
     elim (cases_eq is_met.place place) [
       | inr differ ↦ inl (record { place = is_met.place; is = sym (get_or-set_other (meetings_in met round) place is_met.place (Some (e, s)) None differ) ∙ there })

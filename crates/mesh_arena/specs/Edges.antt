@@ -72,7 +72,7 @@ Meetings = List (Option (Edge × SlotFace))
 
 -- what a place has, if it is of this round
 abbrev pub meeting_of : ℕ → Met → Option (Edge × SlotFace)
-meeting_of round m = if m.round == round then Some (m.edge, m.at) else None
+meeting_of round m = if m.round == round then Some (record { low = m.low; high = m.high }, record { slot = m.slot; face = m.face }) else None
 
 abbrev pub meetings_in : List Met → ℕ → Meetings
 meetings_in met round = map (meeting_of round) met

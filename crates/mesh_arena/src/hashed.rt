@@ -7,12 +7,26 @@ use crate::edge::Edge;
 use std::alloc::Global;
 use std::marker::Model;
 
-// An edge, the face that it was met at, and in which round.
+// An edge by the numbers of its ends, the slot and face that it was met at, and in which round.
 #[derive(Clone, Copy, Debug)]
 pub(crate) struct Met {
-    edge: Edge,
-    at: SlotFace,
-    round: u32,
+    low: u32,
+    high: u32,
+    slot: u32,
+    round: u16,
+    face: u8,
+}
+
+impl Met {
+    // The slot and face.
+    fn at(self) -> SlotFace
+        ensures { result ≡ record { slot = self.slot; face = self.face } }
+    {
+        SlotFace {
+            slot: self.slot,
+            face: self.face,
+        }
+    }
 }
 
 /// A table of edges, used in rounds: what an earlier round left counts as empty. An edge is sought
@@ -21,7 +35,7 @@ pub(crate) struct Met {
 pub(crate) struct HashedEdges {
     met: Vec<Met>,
     // From 1.
-    round: u32,
+    round: u16,
 }
 
 impl Model for HashedEdges {
@@ -49,7 +63,7 @@ impl HashedEdges {
     fn next_round(&mut self)
         ensures { IsNone (IsHashed self.new) }
     {
-        if self.round == u32::MAX {
+        if self.round == u16::MAX {
             self.met.clear();
             self.round = 1;
         } else {
@@ -63,12 +77,14 @@ impl HashedEdges {
         ensures { IsNone (IsHashed self.new) }
     {
         if self.met.len() < len {
-            let none = Met {
-                edge: Edge { low: 0, high: 0 },
-                at: SlotFace { slot: 0, face: 0 },
+            let never = Met {
+                low: 0,
+                high: 0,
+                slot: 0,
                 round: 0,
+                face: 0,
             };
-            let _ = self.met.resize(len, none);
+            let _ = self.met.resize(len, never);
         }
     }
 
@@ -84,17 +100,29 @@ impl HashedEdges {
     }
 
     /// The face that the edge was met at before in this round. Where there is none, the edge is met
-    /// at `face` from now on, if a place is free for it.
+    /// at `face` from now on, if a place is free for it and the numbers of its ends have 32 bits.
     #[inline(never)]
     pub(crate) fn meet(&mut self, edge: Edge, face: SlotFace) -> Option<SlotFace>
         ensures found { IfSome result (λ s. IsHashed self.old edge s) }
         ensures only { AddsOnly (IsHashed self.old) (IsHashed self.new) edge face }
     {
+        let (Ok(low), Ok(high)) = (u32::try_from(edge.low), u32::try_from(edge.high)) else {
+            return None;
+        };
+        self.meet_between(low, high, face)
+    }
+
+    // The same for the edge between these numbers.
+    fn meet_between(&mut self, low: u32, high: u32, face: SlotFace) -> Option<SlotFace>
+        ensures found { IfSome result (λ s. IsHashed self.old (record { low = low; high = high }) s) }
+        ensures only { AddsOnly (IsHashed self.old) (IsHashed self.new)
+            (record { low = low; high = high }) face }
+    {
         let len = self.met.len();
         if len == 0 {
             return None;
         }
-        let first = hash(edge);
+        let first = hash(low, high);
         for step in 0..PROBES {
             let place = first.wrapping_add(step) & (len - 1);
             if place >= len {
@@ -103,14 +131,16 @@ impl HashedEdges {
             let met = self.met[place];
             if met.round != self.round {
                 self.met[place] = Met {
-                    edge,
-                    at: face,
+                    low,
+                    high,
+                    slot: face.slot,
                     round: self.round,
+                    face: face.face,
                 };
                 return None;
             }
-            if met.edge == edge {
-                return Some(met.at);
+            if met.low == low && met.high == high {
+                return Some(met.at());
             }
         }
         None
@@ -118,7 +148,7 @@ impl HashedEdges {
 }
 
 // Fibonacci hashing of the two ends.
-fn hash(edge: Edge) -> usize {
-    let both = edge.low.wrapping_mul(1 << 32) ^ edge.high;
+fn hash(low: u32, high: u32) -> usize {
+    let both = (low as usize).wrapping_mul(1 << 32) ^ high as usize;
     both.wrapping_mul(0x9e37_79b9_7f4a_7c15) >> 32
 }

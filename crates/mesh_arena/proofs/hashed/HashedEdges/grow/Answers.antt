@@ -10,7 +10,7 @@ pub returns-then-len : goal.returns-then-len
 returns-then-len c =
     let round = c.self.inside.round in
     let met = c.self.inside.met.items in
-    let none : Met = record { edge = record { low = 0; high = 0 }; at = record { slot = 0; face = 0 }; round = 0 } in
+    let none : Met = record { low = 0; high = 0; slot = 0; round = 0; face = 0 } in
     let P : Met → Type 0 = λ m. m.round ≢ round in
     let never : none.round ≢ round = λ e. omega (arith, c.self.invariant.some) in
     let before : All P met = others-IsNone met round (rw (← c.self.view_is) at c.requires) in

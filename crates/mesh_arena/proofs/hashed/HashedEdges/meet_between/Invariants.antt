@@ -1,6 +1,6 @@
 use Rattle.std.proofs.Common.{◌≡◌}
 use Rattle.mesh_arena.specs.Edges.{meetings_in, IsUpTo}
-use Rattle.mesh_arena.proofs.hashed.HashedEdges.meet.Given as goal
+use Rattle.mesh_arena.proofs.hashed.HashedEdges.meet_between.Given as goal
 
 abbrev pub invariant-loop-step : goal.invariant-loop-step
 invariant-loop-step l =
