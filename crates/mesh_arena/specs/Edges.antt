@@ -5,6 +5,7 @@ use Rattle.mesh_arena.specs.declared.slot.Corner.TheVariants.{Point, Ghost}
 use Rattle.mesh_arena.specs.declared.arena.SlotFace.{SlotFace}
 use Rattle.mesh_arena.specs.declared.edge.Edge.{Edge}
 use Rattle.mesh_arena.specs.declared.edge.End.{End}
+use Rattle.mesh_arena.specs.declared.rows.LastRow.{LastRow}
 use Rattle.mesh_arena.specs.declared.square.MetFace.{MetFace}
 use Rattle.mesh_arena.specs.declared.hashed.Met.{Met}
 
@@ -19,6 +20,19 @@ edge_of a b = record { low = min a b; high = max a b }
 
 abbrev pub edge_between : Corner → Corner → Edge
 edge_between x y = edge_of (corner_number x) (corner_number y)
+
+-- no corner had a row in a later round, and one that had one in this round has that one
+pub record AreRows (corners : List ℕ) (last : List LastRow) (round : ℕ) : Type 0 where
+  pub some : 0 < round
+  pub few : length corners ≤ 64
+  pub all : All (λ l. l.round ≤ round) last
+  pub has : (corner : ℕ) (d : LastRow) → corner < length last → (slice_index_or last corner d).round ≡ round
+      → slice_get corners (slice_index_or last corner d).row ≡ Some corner
+
+-- corners are added that have had no row
+abbrev pub AreKept : List LastRow → List LastRow → Type 0
+AreKept old new = (corner : ℕ) (d : LastRow) → corner < length new
+    → ((slice_index_or new corner d).round ≡ 0) ⊎ ((corner < length old) × (slice_index_or new corner d ≡ slice_index_or old corner d))
 
 -- the place in a square of the edge between two rows
 abbrev pub place_of : ℕ → ℕ → ℕ

@@ -1,6 +1,7 @@
 //! Small numbers for the corners of a rim.
-ghost use Rattle.std.specs.Prelude.{◌≡◌, ◌⊎◌, ◌++◌, [], ◌∷◌, Some, IsTrue, ◌<◌, ◌≤◌};
-ghost use Rattle.std.specs.Prelude.{slice_get, vec_len};
+ghost use Rattle.std.specs.Prelude.{◌≡◌, ◌⊎◌, ◌++◌, [], ◌∷◌, Some, IsTrue, ◌<◌, ◌≤◌, length};
+ghost use Rattle.std.specs.Prelude.{slice_get};
+ghost use Rattle.mesh_arena.specs.Edges.{AreKept};
 
 use std::alloc::Global;
 use std::marker::Model;
@@ -12,25 +13,35 @@ pub(crate) const ROWS: usize = 64;
 // rows never takes more than the slots do.
 const NUMBERS_A_SLOT: usize = 8;
 
-/// A row for each corner of a rim, from 0, in the order in which they are met: a sparse set (Briggs
-/// and Torczon 1993), which is emptied in constant time. Contracts see the corner in each row.
+/// The row that a corner had, and in which round.
+#[derive(Clone, Copy, Debug)]
+pub(crate) struct LastRow {
+    round: u16,
+    row: u16,
+}
+
+/// A row for each corner of a rim, from 0, in the order in which they are met. They are used in
+/// rounds: the rows of an earlier round are taken away. Contracts see the corner in each row.
 #[derive(Debug, Drop)]
 pub(crate) struct Rows {
     corners: Vec<usize>,
     // The row that each corner had when it last had one.
-    last: Vec<u32>,
+    last: Vec<LastRow>,
+    // From 1.
+    round: u16,
     // Numbers from here on get no row.
     bound: usize,
 }
 
 impl Model for Rows {
-    ghost use Rattle.std.specs.Prelude.{List, ℕ, ◌≤◌, length};
+    ghost use Rattle.std.specs.Prelude.{List, ℕ};
+    ghost use Rattle.mesh_arena.specs.Edges.{AreRows};
 
     ghost Value = { List ℕ };
 
     ghost view = { λ r. r.corners.items };
 
-    ghost invariant = { λ r. length r.corners.items ≤ 64 };
+    ghost invariant = { λ r. AreRows r.corners.items r.last.items r.round };
 }
 
 impl Rows {
@@ -40,6 +51,7 @@ impl Rows {
         Rows {
             corners: Vec::new(alloc),
             last: Vec::new(alloc),
+            round: 1,
             bound: 0,
         }
     }
@@ -49,6 +61,12 @@ impl Rows {
         ensures { self.new ≡ [] }
     {
         self.corners.clear();
+        if self.round == u16::MAX {
+            self.last.clear();
+            self.round = 1;
+        } else {
+            self.round += 1;
+        }
         self.bound = slots.saturating_mul(NUMBERS_A_SLOT);
     }
 
@@ -61,9 +79,9 @@ impl Rows {
         ensures others { (self.new ≡ self.old) ⊎ (self.new ≡ self.old ++ (corner ∷ [])) }
     {
         if corner < self.last.len() {
-            let row = self.last[corner] as usize;
-            if row < self.corners.len() && self.corners[row] == corner {
-                return row;
+            let last = self.last[corner];
+            if last.round == self.round {
+                return last.row as usize;
             }
         }
         self.add_row(corner)
@@ -83,18 +101,23 @@ impl Rows {
         {
             return ROWS;
         }
-        self.last[corner] = row as u32;
+        self.last[corner] = LastRow {
+            round: self.round,
+            row: row as u16,
+        };
         row
     }
 }
 
 // Whether the list has this number, once it is made longer where the number is below the bound and
 // there is memory.
-fn reaches(last: &mut Vec<u32>, number: usize, bound: usize) -> bool
-    ensures { IsTrue result → number < vec_len last.new }
+fn reaches(last: &mut Vec<LastRow>, number: usize, bound: usize) -> bool
+    ensures there { IsTrue result → number < length last.new.items }
+    ensures kept { AreKept last.old.items last.new.items }
 {
     if number < last.len() {
         return true;
     }
-    number < bound && last.resize(number + 1, 0).is_ok()
+    let never = LastRow { round: 0, row: 0 };
+    number < bound && last.resize(number + 1, never).is_ok()
 }
