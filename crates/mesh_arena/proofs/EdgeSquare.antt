@@ -2,7 +2,7 @@
 use Rattle.std.proofs.Common.{◌≡◌, ◌≢◌, ◌⊎◌, ℕ, ◌+◌, ◌*◌, ◌/◌, ◌%◌, min, max, ◌<◌, ◌≤◌, ◌++◌, [], ◌∷◌, List, length, get_or, set, Option, Some, None, refl, sym, ap, subst, ◌∙◌, inl, inr, arith, cond}
 use Rattle.std.proofs.lemmas.Bool.{cases_eq, cases_lt, ne_eqb, eq-eqb}
 use Rattle.std.proofs.lemmas.List.{map-set, get_or-map, get_or-set_same, get_or-set_other, get_or_past, get_or_append_left, length-map, length-set, length-append}
-use Rattle.std.proofs.lemmas.Option.{none-some, same_Some, slice_get_within, slice_get-get_or, get_or_from_slice_get}
+use Rattle.std.proofs.lemmas.Option.{none-some, same_Some, slice_get_within, slice_get-get_or}
 use Rattle.std.proofs.lemmas.List.Elements.{All-set}
 use Rattle.std.specs.List.{All}
 use Rattle.std.specs.Prelude.{slice_get}
@@ -42,9 +42,9 @@ IsSquare-others met round rows some few all others =
       all = all;
       few = few;
       between = λ high low s _ is.
-        let never : MetFace = record { slot = 0; round = 0; face = 0 } in
-        let lt = within met round (high * 64 + low) s is in
-        absurd (none-some s (sym (not_now round _ (others (high * 64 + low) never lt)) ∙ sym (read met round (high * 64 + low) never lt) ∙ is));
+          let never : MetFace = record { slot = 0; round = 0; face = 0 } in
+          let lt = within met round (high * 64 + low) s is in
+          absurd (none-some s (sym (not_now round _ (others (high * 64 + low) never lt)) ∙ sym (read met round (high * 64 + low) never lt) ∙ is));
     }
 
 -- without rows no place is of this round
@@ -135,17 +135,17 @@ module _ (met : List MetFace) (round : ℕ) (rows : List ℕ) (ends : Ends) (few
     AddsOnly-square e t is_in =
         elim (there (place_of is_in.row is_in.other_row) t is_in.is) [
           | inr was ↦ inl (record {
-              row = is_in.row;
-              other_row = is_in.other_row;
-              below = is_in.below;
-              other_below = is_in.other_below;
-              first = is_in.first;
-              second = is_in.second;
-              is_first = is_in.is_first;
-              is_second = is_in.is_second;
-              ends = is_in.ends;
-              is = was;
-            })
+            row = is_in.row;
+            other_row = is_in.other_row;
+            below = is_in.below;
+            other_below = is_in.other_below;
+            first = is_in.first;
+            second = is_in.second;
+            is_first = is_in.is_first;
+            is_second = is_in.is_second;
+            ends = is_in.ends;
+            is = was;
+          })
           | inl here ↦ inr (same_edge e t is_in here.0, here.1)
         ]
 

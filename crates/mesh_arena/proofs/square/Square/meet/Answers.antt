@@ -1,7 +1,7 @@
 use Rattle.std.proofs.Common.{◌<◌, length, refl, ap, arith}
 use Rattle.std.proofs.lemmas.List.{length-map}
 use Rattle.mesh_arena.specs.Edges.{SquareValue, face_of}
-use Rattle.mesh_arena.proofs.EdgeSquare.{IsInSquare-read, AddsOnly-square, IsSquare-set}
+use Rattle.mesh_arena.proofs.EdgeSquare.{AddsOnly-square, IsSquare-set}
 use Rattle.mesh_arena.proofs.square.Square.meet.Goals as goal
 
 pub invariant_of-self : goal.invariant_of-self

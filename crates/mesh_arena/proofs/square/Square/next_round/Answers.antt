@@ -1,6 +1,4 @@
-use Rattle.std.proofs.Common.{◌+◌, [], arith, ap, sym, subst}
-use Rattle.mesh_arena.specs.declared.square.Square.TheInside.{Inside}
-use Rattle.mesh_arena.specs.Edges.{IsSquare}
+use Rattle.std.proofs.Common.{◌+◌, [], arith}
 use Rattle.mesh_arena.proofs.EdgeSquare.{IsSquare-others}
 use Rattle.mesh_arena.proofs.square.Square.next_round.Goals as goal
 use Rattle.mesh_arena.proofs.square.Square.next_round.Goals.{then-self, else-self}
