@@ -63,7 +63,7 @@ drop_one_more : (n x : ℕ) (xs : List ℕ) → drop (1 + n) (x ∷ xs) ≡ drop
 drop_one_more n x xs = let e : 1 + n ≡ suc n = omega arith in rw e refl
 
 -- blanks in front
-skips_blank : (x : ℕ) (xs : List ℕ) → is_blank x ≡ true → without_blanks (x ∷ xs) ≡ without_blanks xs
+pub skips_blank : (x : ℕ) (xs : List ℕ) → is_blank x ≡ true → without_blanks (x ∷ xs) ≡ without_blanks xs
 skips_blank x xs passes = rw passes (drop_one_more (position_or_len is_no_blank xs) x xs)
 
 keeps_others : (x : ℕ) (xs : List ℕ) → is_blank x ≡ false → without_blanks (x ∷ xs) ≡ x ∷ xs

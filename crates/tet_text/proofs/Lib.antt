@@ -4,5 +4,7 @@ pub mod Numerals
 pub mod Scaling
 pub mod Texts
 pub mod Value
+pub mod PlainTexts
+pub mod PlainFields
 pub mod Reread
 pub mod FieldBytes

@@ -1,55 +1,24 @@
 -- A printed decimal is read back.
 use Rattle.std.proofs.Common.{◌≡◌, ◌≢◌, ℕ, zero, suc, ◌+◌, ◌-◌, ◌/◌, ◌%◌, ◌^◌, ◌<◌, ◌≤◌, Bool, true, false, eqb, ℤ, pos, negsuc, List, [], ◌∷◌, ◌++◌, length, take, drop, map, replicate, Option, Some, refl, sym, ap, ◌∙◌, arith, inl, inr, length-append}
 use Rattle.std.specs.Prelude.{not, int_lt, unsigned_abs}
-use Rattle.std.specs.List.{list_all, prefix_len, before_first, after_first}
+use Rattle.std.specs.List.{list_all, prefix_len}
 use Rattle.std.specs.Char.{is_ascii_digit, digit_value}
 use Rattle.std.specs.Int.Digits.{digits_of, number_from_digits, AllBelowBase}
 use Rattle.std.specs.Str.Parse.{digits_value, starts_with_minus, without_leading_sign}
 use Rattle.std.proofs.lemmas.Bool.{and_parts, ne_eqb, eq-eqb, cases_eq, lt-ltb, le-ltb, le-leb, cond-false}
 use Rattle.std.proofs.lemmas.Int.Digits.{digits_value_is, number_digits_of, all_below_base_digits_of, length-digits_of-le}
-use Rattle.std.proofs.lemmas.List.{append-nil, length-map, length-replicate, length-take, length-drop, take-append-le, take-append-drop}
+use Rattle.std.proofs.lemmas.List.{append-nil, length-map, length-replicate, length-take, length-drop, take-append-drop}
 use Rattle.std.proofs.lemmas.List.Folds.{list_all-append}
 use Rattle.std.proofs.Math.ListN.{drop_of_length-le}
-use Rattle.std.proofs.Math.Seq.{take-length}
 use Rattle.tet_text.specs.Numbers.{are_digits, number_of}
-use Rattle.tet_text.specs.Decimals.{◌>>=◌, Scaled, Parts, parts_of, is_point, is_exponent_mark, mantissa_of, exponent_of, steps_of, lowest, scaled_of, with_sign, signed, decimal_of_parts, decimal_of}
+use Rattle.tet_text.specs.Decimals.{Scaled, is_point, is_exponent_mark, lowest, with_sign, signed, decimal_of}
 use Rattle.tet_text.specs.Printing.{glyphs, numeral, size_text, sign_text}
 use Rattle.tet_text.specs.Laws.{PrintedLaw}
-use Rattle.tet_text.proofs.Numerals.{digit_bounds, digit_value_is}
-use Rattle.tet_text.proofs.Scaling.{scaled_down}
+use Rattle.tet_text.proofs.Numerals.{digit_value_is}
+use Rattle.tet_text.proofs.PlainTexts.{AreDigits, glyph, no_marks, drop_past, plain_is, plain_parts}
 use Rattle.tet_text.proofs.Texts.{numeral_zero, numeral_glyphs}
 
 -- ---- digits
-
--- a digit is no sign, no point and no mark of an exponent
-record IsGlyph (c : ℕ) : Type 0 where
-  no_point : is_point c ≡ false
-  no_mark : is_exponent_mark c ≡ false
-  no_minus : eqb c 45 ≡ false
-  no_plus : eqb c 43 ≡ false
-
-glyph : (c : ℕ) → is_ascii_digit c ≡ true → IsGlyph c
-glyph c is =
-    let bounds = digit_bounds c is in
-    let low = bounds.0 in
-    let high = bounds.1 in
-    record {
-      no_point = ne_eqb c 46 (λ e. omega arith);
-      no_mark = rw (ne_eqb c 101 (λ e. omega arith), ne_eqb c 69 (λ e. omega arith)) refl;
-      no_minus = ne_eqb c 45 (λ e. omega arith);
-      no_plus = ne_eqb c 43 (λ e. omega arith);
-    }
-
-abbrev AreDigits : List ℕ → Type 0
-AreDigits text = list_all is_ascii_digit text ≡ true
-
-no_points : (w : List ℕ) → AreDigits w → list_all (λ c. not (is_point c)) w ≡ true
-no_points [] all = refl
-no_points (c ∷ w) all = let both = and_parts (is_ascii_digit c) (list_all is_ascii_digit w) all in rw (glyph c both.0).no_point (no_points w both.1)
-
-no_marks : (w : List ℕ) → AreDigits w → list_all (λ c. not (is_exponent_mark c)) w ≡ true
-no_marks [] all = refl
-no_marks (c ∷ w) all = let both = and_parts (is_ascii_digit c) (list_all is_ascii_digit w) all in rw (glyph c both.0).no_mark (no_marks w both.1)
 
 glyphs_digits : (ds : List ℕ) → AllBelowBase 10 ds → AreDigits (map (λ d. 48 + d) ds)
 glyphs_digits [] all = refl
@@ -98,54 +67,7 @@ zeros_value : (k : ℕ) (digits : List ℕ) → digits_value 10 (replicate k 48 
 zeros_value zero digits = refl
 zeros_value (suc k) digits = zeros_value k digits
 
--- ---- cutting
-
-prefix_all : (q : ℕ → Bool) (w rest : List ℕ) → list_all q w ≡ true → prefix_len q (w ++ rest) ≡ length w + prefix_len q rest
-prefix_all q [] rest all = omega arith
-prefix_all q (c ∷ w) rest all = let both = and_parts (q c) (list_all q w) all in rw both.0 (omega (arith, prefix_all q w rest both.1))
-
-prefix_whole : (q : ℕ → Bool) (w : List ℕ) → list_all q w ≡ true → prefix_len q w ≡ length w
-prefix_whole q [] all = refl
-prefix_whole q (c ∷ w) all = let both = and_parts (q c) (list_all q w) all in rw both.0 (omega (arith, prefix_whole q w both.1))
-
-drop_past : (w : List ℕ) (x : ℕ) (f : List ℕ) → drop (length w + 1) (w ++ x ∷ f) ≡ f
-drop_past [] x f = refl
-drop_past (c ∷ w) x f =
-    let e : suc (length w) + 1 ≡ suc (length w + 1) = omega arith in
-    ap (λ (k : ℕ). drop k (c ∷ w ++ x ∷ f)) e ∙ drop_past w x f
-
-cut_before : (w tail : List ℕ) → AreDigits w → prefix_len (λ c. not (is_point c)) tail ≡ 0 → before_first is_point (w ++ tail) ≡ w
-cut_before w tail all stops =
-    let e : prefix_len (λ c. not (is_point c)) (w ++ tail) ≡ length w = prefix_all (λ c. not (is_point c)) w tail (no_points w all) ∙ omega arith in
-    ap (λ (k : ℕ). take k (w ++ tail)) e ∙ take-append-le (length w) w tail (omega arith) ∙ take-length w
-
-cut_after : (w tail f : List ℕ) → AreDigits w → prefix_len (λ c. not (is_point c)) tail ≡ 0 → drop (length w + 1) (w ++ tail) ≡ f → after_first is_point (w ++ tail) ≡ f
-cut_after w tail f all stops rest =
-    let e : prefix_len (λ c. not (is_point c)) (w ++ tail) ≡ length w = prefix_all (λ c. not (is_point c)) w tail (no_points w all) ∙ omega arith in
-    ap (λ (k : ℕ). drop (k + 1) (w ++ tail)) e ∙ rest
-
-whole_mantissa : (u : List ℕ) → list_all (λ c. not (is_exponent_mark c)) u ≡ true → mantissa_of u ≡ u
-whole_mantissa u all = ap (λ (k : ℕ). take k u) (prefix_whole (λ c. not (is_exponent_mark c)) u all) ∙ take-length u
-
-no_exponent : (u : List ℕ) → list_all (λ c. not (is_exponent_mark c)) u ≡ true → exponent_of u ≡ 48 ∷ []
-no_exponent u all =
-    let e = prefix_whole (λ c. not (is_exponent_mark c)) u all in
-    rw (le-ltb (prefix_len (λ c. not (is_exponent_mark c)) u) (length u) (omega arith)) refl
-
--- ---- the parts
-
-abbrev made : Bool → List ℕ → List ℕ → List ℕ → Parts
-made negative whole fraction exponent = record { negative = negative; whole = whole; fraction = fraction; exponent = exponent }
-
-parts_are : (t u w f : List ℕ) (negative : Bool) → starts_with_minus t ≡ negative → without_leading_sign t ≡ u → list_all (λ c. not (is_exponent_mark c)) u ≡ true
-    → before_first is_point u ≡ w → after_first is_point u ≡ f → parts_of t ≡ made negative w f (48 ∷ [])
-parts_are t u w f negative minus unsigned all before after =
-    ap (λ (v : List ℕ). made (starts_with_minus t) (before_first is_point (mantissa_of v)) (after_first is_point (mantissa_of v)) (exponent_of v)) unsigned
-    ∙ ap (λ (m : List ℕ). made (starts_with_minus t) (before_first is_point m) (after_first is_point m) (exponent_of u)) (whole_mantissa u all)
-    ∙ ap (λ (b : Bool). made b (before_first is_point u) (after_first is_point u) (exponent_of u)) minus
-    ∙ ap (λ (v : List ℕ). made negative v (after_first is_point u) (exponent_of u)) before
-    ∙ ap (λ (v : List ℕ). made negative w v (exponent_of u)) after
-    ∙ ap (λ (v : List ℕ). made negative w f v) (no_exponent u all)
+-- ---- the sign
 
 minus_first : (negative : Bool) (c : ℕ) (rest : List ℕ) → is_ascii_digit c ≡ true → starts_with_minus (sign_text negative ++ c ∷ rest) ≡ negative
 minus_first true c rest is = refl
@@ -157,10 +79,6 @@ sign_cut false c rest is = let g = glyph c is in rw (g.no_minus, g.no_plus) refl
 
 -- ---- the number
 
-no_steps : steps_of (48 ∷ []) ≡ Some (0, 0)
-unfolding are_digits
-no_steps = refl
-
 lowest_kept : (n s : ℕ) → (0 < s → n % 10 ≢ 0) → lowest n s ≡ (n, s)
 lowest_kept n zero last = refl
 lowest_kept n (suc s) last = cond-false (eqb (n % 10) 0) (lowest (n / 10) s) (n, suc s) (ne_eqb (n % 10) 0 (last (omega arith)))
@@ -168,15 +86,6 @@ lowest_kept n (suc s) last = cond-false (eqb (n % 10) 0) (lowest (n / 10) s) (n,
 number_written : (ds : List ℕ) (n : ℕ) → AreDigits ds → 0 < length ds → length ds ≤ 36 → digits_value 10 ds ≡ n → number_of 36 ds ≡ Some n
 unfolding are_digits
 number_written ds n all some few value = rw (lt-ltb 0 (length ds) some, le-leb (length ds) 36 few, all) (ap (λ (m : ℕ). let o : Option ℕ = Some m in o) value)
-
-decimal_made : (negative : Bool) (w f : List ℕ) (n s : ℕ) → number_of 36 (w ++ f) ≡ Some n → length f ≡ s → n < 10 ^ 36 → (0 < s → n % 10 ≢ 0) → decimal_of_parts (made negative w f (48 ∷ [])) ≡ Some (with_sign negative (n, s))
-unfolding decimal_of_parts
-decimal_made negative w f n s number long small last =
-    let none : length f + 0 - 0 ≡ s = omega arith in
-    let scaled : scaled_of n 0 (length f + 0) ≡ Some (n, s) = scaled_down n 0 (length f + 0) small (omega arith) ∙ ap (λ (k : ℕ). let o : Option (ℕ × ℕ) = Some (lowest n k) in o) none ∙ ap (λ (p : ℕ × ℕ). let o : Option (ℕ × ℕ) = Some p in o) (lowest_kept n s last) in
-    ap (λ (o : Option ℕ). o >>= λ digits. steps_of (48 ∷ []) >>= λ steps. scaled_of digits steps.0 (length f + steps.1) >>= λ scaled. Some (with_sign negative scaled)) number
-    ∙ ap (λ (o : Option (ℕ × ℕ)). o >>= λ steps. scaled_of n steps.0 (length f + steps.1) >>= λ scaled. Some (with_sign negative scaled)) no_steps
-    ∙ ap (λ (o : Option (ℕ × ℕ)). o >>= λ scaled. Some (with_sign negative scaled)) scaled
 
 -- digits before the point, and what stands behind them
 read_back : (negative : Bool) (w tail f : List ℕ) (n s : ℕ) → AreDigits w → AreDigits f → 0 < length w → list_all (λ c. not (is_exponent_mark c)) tail ≡ true
@@ -186,11 +95,13 @@ read_back negative [] tail f n s all-w all-f some marks stops rest few value lon
 read_back negative (c ∷ w) tail f n s all-w all-f some marks stops rest few value long small last =
     let digit = (and_parts (is_ascii_digit c) (list_all is_ascii_digit w) all-w).0 in
     let u = c ∷ w ++ tail in
-    let unmarked : list_all (λ c. not (is_exponent_mark c)) u ≡ true = list_all-append (λ c. not (is_exponent_mark c)) (c ∷ w) tail ∙ rw (no_marks (c ∷ w) all-w, marks) refl in
     let both : AreDigits ((c ∷ w) ++ f) = list_all-append is_ascii_digit (c ∷ w) f ∙ rw (all-w, all-f) refl in
     let more = length-append (c ∷ w) f in
-    ap decimal_of_parts (parts_are (sign_text negative ++ u) u (c ∷ w) f negative (minus_first negative c (w ++ tail) digit) (sign_cut negative c (w ++ tail) digit) unmarked (cut_before (c ∷ w) tail all-w stops) (cut_after (c ∷ w) tail f all-w stops rest))
-    ∙ decimal_made negative (c ∷ w) f n s (number_written ((c ∷ w) ++ f) n both (omega arith) few value) long small last
+    let plain = plain_parts (c ∷ w) tail f n s all-w marks stops rest
+    (number_written ((c ∷ w) ++ f) n both (omega arith) few value) long in
+    plain_is (sign_text negative ++ u) u negative n s
+    (minus_first negative c (w ++ tail) digit) (sign_cut negative c (w ++ tail) digit) plain small
+    ∙ ap (λ (p : ℕ × ℕ). let o : Option Scaled = Some (with_sign negative p) in o) (lowest_kept n s last)
 
 -- ---- the text
 

@@ -2,6 +2,7 @@ pub mod Lines
 pub mod Views
 pub mod Numbers
 pub mod Decimals
+pub mod PlainTexts
 pub mod Faults
 pub mod Printing
 pub mod Reading

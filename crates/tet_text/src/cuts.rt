@@ -18,7 +18,7 @@ pub(crate) fn cut(bytes: &[u8], at: Option<usize>) -> (&[u8], &[u8])
     }
 }
 
-fn is_blank(byte: u8) -> bool
+pub(crate) fn is_blank(byte: u8) -> bool
     ensures { result ≡ is_blank byte }
 {
     byte == b' ' || byte == b'\t' || byte == b'\r'

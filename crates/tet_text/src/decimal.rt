@@ -3,12 +3,13 @@
 ghost use Rattle.std.specs.Prelude.{◌≡◌, IfOk, ◌≤◌, ◌<◌, ◌*◌, ◌^◌, ◌++◌, length, IfSome, pos};
 ghost use Rattle.std.specs.Option.{ok_or};
 ghost use Rattle.tet_text.specs.Numbers.{number_of};
-ghost use Rattle.tet_text.specs.Decimals.{IsDecimal, below_limit, scaled_of, lowest, signed, steps_of, parts_of, decimal_of, IsNumberOf};
+ghost use Rattle.tet_text.specs.Decimals.{IsDecimal, below_limit, scaled_of, lowest, signed, with_sign, steps_of, parts_of, decimal_of, IsNumberOf};
 ghost use Rattle.tet_text.specs.Faults.{not_a_number};
 
 use crate::cuts::{cut_exponent, cut_point};
 use crate::digits::{cut_sign, digits_after, read_digits};
 use crate::numbers::no_number;
+use crate::plain::lowest_of;
 use crate::{Field, TextFault};
 use std::marker::Model;
 
@@ -108,6 +109,17 @@ fn signed(negative: bool, size: u128) -> i128
 {
     let size = size as i128;
     if negative { -size } else { size }
+}
+
+/// The number / 10^`decimals`, with its sign.
+#[tactic(auto, using(crate::proofs::Scaling::signed_is_decimal, crate::proofs::Scaling::lowest_is_decimal, crate::proofs::Scaling::lowest_le))]
+pub(crate) fn short_decimal(negative: bool, number: u64, decimals: u32) -> Decimal
+    requires { number < 10 ^ 19 }
+    ensures { result ≡ with_sign negative (lowest number decimals) }
+{
+    let (size, scale) = lowest_of(number, decimals);
+    let value = signed(negative, u128::from(size));
+    Decimal { value, scale }
 }
 
 #[tactic(auto, using(crate::proofs::Scaling::signed_is_decimal), unfolding(crate::specs::Decimals::decimal_of_parts))]

@@ -8,6 +8,7 @@ mod fault;
 mod laws;
 mod lines;
 mod numbers;
+mod plain;
 mod printing;
 mod wanted;
 

@@ -1,8 +1,9 @@
 //! The content lines of a text, and their fields.
 
-ghost use Rattle.std.specs.Prelude.{◌≡◌, ◌==◌, ◌<◌, ◌≤◌, ◌^◌, ◌+◌, [], ◌∷◌, length, MatchOption, IfSome};
+ghost use Rattle.std.specs.Prelude.{◌≡◌, ◌==◌, ◌<◌, ◌≤◌, ◌^◌, ◌+◌, [], ◌∷◌, length, drop, MatchOption, IfSome, Ok};
 
 use crate::cuts::{before_comment, cut_field, cut_line, skip_blanks};
+use crate::plain::plain_field;
 use std::marker::Model;
 
 /// The content lines of a text that are left, from the first to the last: those with a field.
@@ -91,6 +92,8 @@ impl<'a> Lines<'a> {
 
 impl<'a> Fields<'a> {
     ghost use Rattle.tet_text.specs.Lines.{content_line};
+    ghost use Rattle.tet_text.specs.Decimals.{lowest, with_sign};
+    ghost use Rattle.tet_text.specs.Reading.{decimal_at};
 
     fn of(number: usize, line: &'a [u8]) -> Fields<'a>
         ensures { result ≡ content_line (number, line.now) }
@@ -131,6 +134,21 @@ impl<'a> Fields<'a> {
             line: self.line,
             text,
         })
+    }
+
+    /// The next field, where it is a short decimal with no exponent: its sign, its digits, and how
+    /// many of them stand behind the point. Else None, and the fields stay.
+    pub(crate) fn next_short(&mut self) -> Option<(bool, u64, u32)>
+        ensures next { MatchOption result (self.new ≡ self.old)
+            (λ d. decimal_at self.old.line self.old.fields
+            ≡ Ok (with_sign d.0 (lowest d.1 d.2), self.new.fields)) }
+        ensures passed { IfSome result (λ _. self.new.fields ≡ drop 1 self.old.fields) }
+        ensures small { IfSome result (λ d. d.1 < 10 ^ 19) }
+        ensures line { self.new.line ≡ self.old.line }
+    {
+        let (negative, number, decimals, rest) = plain_field(self.rest)?;
+        self.rest = skip_blanks(rest);
+        Some((negative, number, decimals))
     }
 }
 

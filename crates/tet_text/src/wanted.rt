@@ -5,6 +5,7 @@ ghost use Rattle.std.specs.Prelude.{◌≡◌, ◌<◌, ◌+◌, ◌^◌, drop, 
 ghost use Rattle.tet_text.specs.Reading.{left_after, field_at, count_at, whole_at, decimal_at};
 ghost use Rattle.tet_text.specs.Reading.{end_at, line_at, text_end_at};
 
+use crate::decimal::short_decimal;
 use crate::{
     Decimal, Field, Fields, Lines, TextFault, TextKind, read_count, read_decimal, read_whole,
 };
@@ -53,6 +54,9 @@ impl<'a> Fields<'a> {
         ensures passed { self.new.fields ≡ drop 1 self.old.fields }
         ensures line { self.new.line ≡ self.old.line }
     {
+        if let Some((negative, number, decimals)) = self.next_short() {
+            return Ok(short_decimal(negative, number, decimals));
+        }
         read_decimal(&self.want_field()?)
     }
 
