@@ -10,8 +10,11 @@ use Rattle.std.proofs.lemmas.List.FromFn.{length-enumerate_from}
 use Rattle.std.proofs.lemmas.List.Sums.{length-filter, count_by-le-length}
 use Rattle.tet_text.specs.declared.lines.Lines.{Lines}
 use Rattle.tet_text.specs.Views.{content_left, line_total}
-use Rattle.tet_text.specs.Lines.{ContentLine, is_line_feed, lines_of, content_line, content_lines_from}
+use Rattle.tet_text.specs.Lines.{ContentLine, is_line_feed, lines_of, fields_of, content_of, content_line, content_lines_from}
 use Rattle.tet_text.proofs.Cutting.{lines_of-nil, lines_of-cons}
+
+abbrev with_content : ℕ → List ℕ → ContentLine
+with_content n content = record { line = n; fields = fields_of content }
 
 abbrev first_of : ℕ → List ℕ → ContentLine
 first_of n bytes = content_line (n, before_first is_line_feed bytes)
@@ -37,18 +40,22 @@ pub no_more_lines : (bytes : List ℕ) → length bytes ≡ 0 → length (lines_
 no_more_lines bytes none = rw (nil_from_length bytes none, lines_of-nil) refl
 
 -- the same, where the parts have names
-pub next_is : (n : ℕ) (bytes line rest : List ℕ) (fields : ContentLine) → eqb (length bytes) 0 ≡ false → line ≡ before_first is_line_feed bytes → rest ≡ after_first is_line_feed bytes → fields ≡ content_line (n, line) → eqb (length fields.fields) 0 ≡ false
+pub next_is : (n : ℕ) (bytes content rest : List ℕ) (fields : ContentLine) → eqb (length bytes) 0 ≡ false
+    → content ≡ content_of (before_first is_line_feed bytes)
+    → rest ≡ after_first is_line_feed bytes → fields ≡ with_content n content → eqb (length fields.fields) 0 ≡ false
     → content_lines_from n (lines_of bytes) ≡ fields ∷ content_lines_from (n + 1) (lines_of rest)
-next_is n bytes line rest fields some line-is rest-is fields-is has =
+next_is n bytes content rest fields some content-is rest-is fields-is has =
     let long = eqb-false (length bytes) 0 some in
-    let whole : fields ≡ first_of n bytes = fields-is ∙ ap (λ (l : List ℕ). content_line (n, l)) line-is in
+    let whole : fields ≡ first_of n bytes = fields-is ∙ ap (with_content n) content-is in
     rw (whole, rest-is) (gives_line n bytes (omega arith) (ap (λ (l : ContentLine). eqb (length l.fields) 0) (sym whole) ∙ has))
 
-pub next_passes : (n : ℕ) (bytes line rest : List ℕ) (fields : ContentLine) → eqb (length bytes) 0 ≡ false → line ≡ before_first is_line_feed bytes → rest ≡ after_first is_line_feed bytes → fields ≡ content_line (n, line) → eqb (length fields.fields) 0 ≡ true
+pub next_passes : (n : ℕ) (bytes content rest : List ℕ) (fields : ContentLine) → eqb (length bytes) 0 ≡ false
+    → content ≡ content_of (before_first is_line_feed bytes)
+    → rest ≡ after_first is_line_feed bytes → fields ≡ with_content n content → eqb (length fields.fields) 0 ≡ true
     → content_lines_from n (lines_of bytes) ≡ content_lines_from (n + 1) (lines_of rest)
-next_passes n bytes line rest fields some line-is rest-is fields-is none =
+next_passes n bytes content rest fields some content-is rest-is fields-is none =
     let long = eqb-false (length bytes) 0 some in
-    let whole : fields ≡ first_of n bytes = fields-is ∙ ap (λ (l : List ℕ). content_line (n, l)) line-is in
+    let whole : fields ≡ first_of n bytes = fields-is ∙ ap (with_content n) content-is in
     rw rest-is (passes_line n bytes (omega arith) (ap (λ (l : ContentLine). eqb (length l.fields) 0) (sym whole) ∙ none))
 
 pub next_counts : (n : ℕ) (bytes rest : List ℕ) → eqb (length bytes) 0 ≡ false → rest ≡ after_first is_line_feed bytes → n + 1 + length (lines_of rest) ≡ n + length (lines_of bytes)

@@ -1,4 +1,5 @@
 pub mod Cutting
+pub mod Contents
 pub mod ContentLines
 pub mod Numerals
 pub mod Scaling

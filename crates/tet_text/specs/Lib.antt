@@ -1,4 +1,5 @@
 pub mod Lines
+pub mod Contents
 pub mod Views
 pub mod Numbers
 pub mod Decimals

@@ -1,9 +1,10 @@
 //! Parts of bytes, up to the first of some kind.
 
-ghost use Rattle.std.specs.Prelude.{◌≡◌, ◌+◌, ◌<◌, length, take, drop, unwrap_or, position, not};
+ghost use Rattle.std.specs.Prelude.{◌≡◌, ◌+◌, ◌<◌, ◌≤◌, ℕ, false, get_or, length, take, drop, unwrap_or, position, not};
 ghost use Rattle.std.specs.Option.{ForSome};
-ghost use Rattle.std.specs.List.{before_first, after_first};
-ghost use Rattle.tet_text.specs.Lines.{is_line_feed, is_comment_mark, is_blank, is_no_blank, content_of, without_blanks};
+ghost use Rattle.std.specs.List.{before_first, after_first, position_or_len};
+ghost use Rattle.tet_text.specs.Contents.{ends_content};
+ghost use Rattle.tet_text.specs.Lines.{is_line_feed, is_blank, is_no_blank, content_of, without_blanks};
 ghost use Rattle.tet_text.specs.Decimals.{is_point, is_exponent_mark, mantissa_of, exponent_of};
 
 /// The bytes before that place, and those after it; all and none where there is no such place.
@@ -30,10 +31,35 @@ fn line_feed_place(bytes: &[u8]) -> Option<usize>
     bytes.iter().position(|b| *b == b'\n')
 }
 
-fn comment_place(line: &[u8]) -> Option<usize>
-    ensures { result ≡ position is_comment_mark line.now }
+fn ends_content(byte: u8) -> bool
+    ensures { result ≡ ends_content byte }
 {
-    line.iter().position(|b| *b == b'#')
+    byte == b'\n' || byte == b'#'
+}
+
+/// The first place from `from` on whose byte is at most `#`, as no digit and no letter is.
+fn skip_high(bytes: &[u8], from: usize) -> usize
+    requires { from ≤ length bytes.now }
+    ensures low { from ≤ result }
+    ensures high { result ≤ length bytes.now }
+    ensures none { (k : ℕ) → from ≤ k → k < result → ends_content (get_or bytes.now k 0) ≡ false }
+{
+    let mut at = from;
+    while at < bytes.len() && bytes[at] > b'#' {
+        at += 1;
+    }
+    at
+}
+
+fn content_end(bytes: &[u8]) -> usize
+    ensures place { result ≡ position_or_len ends_content bytes.now }
+    ensures within { result ≤ length bytes.now }
+{
+    let mut at = skip_high(bytes, 0);
+    while at < bytes.len() && !ends_content(bytes[at]) {
+        at = skip_high(bytes, at + 1);
+    }
+    at
 }
 
 fn blank_place(bytes: &[u8]) -> Option<usize>
@@ -56,11 +82,20 @@ pub(crate) fn cut_line(bytes: &[u8]) -> (&[u8], &[u8])
     cut(bytes, line_feed_place(bytes))
 }
 
-/// The bytes before the first comment mark.
-pub(crate) fn before_comment(line: &[u8]) -> &[u8]
-    ensures { result.now ≡ content_of line.now }
+/// The content of the first line, and the bytes after that line.
+pub(crate) fn cut_content(bytes: &[u8]) -> (&[u8], &[u8])
+    ensures content { result.0.now ≡ content_of (before_first is_line_feed bytes.now) }
+    ensures after { result.1.now ≡ after_first is_line_feed bytes.now }
 {
-    cut(line, comment_place(line)).0
+    let end = content_end(bytes);
+    if end == bytes.len() {
+        return (bytes, &[]);
+    }
+    let (content, rest) = (&bytes[..end], &bytes[end + 1..]);
+    if bytes[end] == b'#' {
+        return (content, cut_line(rest).1);
+    }
+    (content, rest)
 }
 
 /// The first field, and the bytes after the blank that ends it.

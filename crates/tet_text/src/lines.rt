@@ -2,7 +2,7 @@
 
 ghost use Rattle.std.specs.Prelude.{◌≡◌, ◌==◌, ◌<◌, ◌≤◌, ◌^◌, ◌+◌, [], ◌∷◌, length, drop, MatchOption, IfSome, Ok};
 
-use crate::cuts::{before_comment, cut_field, cut_line, skip_blanks};
+use crate::cuts::{cut_content, cut_field, cut_line, skip_blanks};
 use crate::plain::plain_field;
 use std::marker::Model;
 
@@ -65,10 +65,10 @@ impl<'a> Lines<'a> {
         ensures count { line_total self.new ≡ line_total self.old }
     {
         while !self.rest.is_empty() {
-            let (line, rest) = cut_line(self.rest);
+            let (content, rest) = cut_content(self.rest);
             self.rest = rest;
             self.passed += 1;
-            let fields = Fields::of(self.passed, line);
+            let fields = Fields::of(self.passed, content);
             if !fields.is_empty() {
                 return Some(fields);
             }
@@ -91,16 +91,16 @@ impl<'a> Lines<'a> {
 }
 
 impl<'a> Fields<'a> {
-    ghost use Rattle.tet_text.specs.Lines.{content_line};
+    ghost use Rattle.tet_text.specs.Lines.{fields_of};
     ghost use Rattle.tet_text.specs.Decimals.{lowest, with_sign};
     ghost use Rattle.tet_text.specs.Reading.{decimal_at};
 
-    fn of(number: usize, line: &'a [u8]) -> Fields<'a>
-        ensures { result ≡ content_line (number, line.now) }
+    fn of(number: usize, content: &'a [u8]) -> Fields<'a>
+        ensures { result ≡ record { line = number; fields = fields_of content.now } }
     {
         Fields {
             line: number,
-            rest: skip_blanks(before_comment(line)),
+            rest: skip_blanks(content),
         }
     }
 
