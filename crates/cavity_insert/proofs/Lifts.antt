@@ -1,13 +1,9 @@
--- The sign that lifted points have is that of the points.
-use Rattle.std.proofs.Common.{◌≡◌, ℕ, zero, suc, ◌+◌, ◌<◌, ℤ, pos, Bool, List, [], ◌∷◌, ◌++◌, length, refl, sym, ap, subst, ◌∙◌, below_more, arith, get_or, inl, inr, IsTrue, ◌↔◌, Option, Some}
-use Rattle.std.specs.Prelude.{◌&&◌, ◌||◌, int_lt, int_le}
+-- Rows of lifted points are those of the points.
+use Rattle.std.proofs.Common.{◌≡◌, ℕ, zero, suc, ◌+◌, ◌<◌, Bool, List, [], ◌∷◌, ◌++◌, length, refl, sym, ap, subst, ◌∙◌, below_more, arith, get_or, inl, inr, IsTrue, ◌↔◌, Option, Some}
 use Rattle.std.proofs.lemmas.List.{get_or_append_left, get_or_push, get_or_default}
 use Rattle.sign_predicates.specs.Point.{Point, origin}
-use Rattle.sign_predicates.specs.Sign.{IsSignOf}
-use Rattle.sign_predicates.specs.Sphere.{in_sphere}
-use Rattle.sign_predicates.specs.Lifted.{IsSphereSign, IsInFrame}
+use Rattle.sign_predicates.specs.Lifted.{IsInFrame, AreInFrame}
 use Rattle.sign_predicates.specs.declared.lifted.Frame.{Frame}
-use Rattle.sign_predicates.specs.declared.tetrahedron.Sign.{Sign}
 use Rattle.geo_laws.specs.Delaunay.{point, corners}
 use Rattle.geo_laws.specs.declared.tetrahedra.Tet.{Tet as Row}
 use Rattle.mesh_arena.specs.Mesh.{SlotValue, corners_at, numbered}
@@ -15,9 +11,8 @@ use Rattle.mesh_arena.specs.declared.slot.Corner.TheVariants.{Ghost}
 use Rattle.mesh_laws.specs.Rule.{IsTakenRow, IsTaken}
 use Rattle.mesh_laws.proofs.Taken.{no_ghost, same_corners}
 use Rattle.point_locate.specs.Place.{AreOn, row_corners}
-use Rattle.cavity_insert.specs.Lifting.{AreLifted, IsLift}
+use Rattle.cavity_insert.specs.Lifting.{AreLifted}
 use Rattle.cavity_insert.specs.declared.lifting.LiftedPoints.{LiftedPoints}
-use Rattle.cavity_insert.specs.declared.lifting.NewPoint.{NewPoint}
 
 -- a row of the points is one of the lifted points
 pub lifted_row : (lifted : LiftedPoints) (ps : List Point) (t : Row) → AreLifted lifted ps → AreOn ps (row_corners t) → AreOn lifted.points (row_corners t)
@@ -33,19 +28,15 @@ lifted_row lifted ps t are on = λ k below. by_four k below
     by_four (suc (suc (suc zero))) below = fits t.d (on 3 below)
     by_four (suc (suc (suc (suc k)))) below = absurd (omega arith)
 
-pub lifted_sign : (sign : Sign) (lifted : LiftedPoints) (ps : List Point) (t : Row) (new : NewPoint) → IsLift lifted ps new → AreOn ps (row_corners t)
-    → IsSphereSign sign (corners lifted.points t) new.lifted → IsSignOf sign (in_sphere (corners ps t) new.p)
-lifted_sign sign lifted ps t new is on same =
-    let each = is.list.each in
-    same lifted.frame (corners ps t) new.p is.list.some (record {
-      a_in = each t.a (on 0 (omega arith));
-      b_in = each t.b (on 1 (omega arith));
-      c_in = each t.c (on 2 (omega arith));
-      d_in = each t.d (on 3 (omega arith));
-    }) is.new_in
-
-pub tests_zero : (z : ℤ) (tie : Bool) → z ≡ pos 0 → tie ≡ int_lt z (pos 0) || int_le z (pos 0) && tie
-tests_zero z tie h = rw h refl
+-- and so are its corners
+pub lifted_corners : (lifted : LiftedPoints) (ps : List Point) (t : Row) → AreLifted lifted ps → AreOn ps (row_corners t)
+    → AreInFrame lifted.frame (corners lifted.points t) (corners ps t)
+lifted_corners lifted ps t are on = record {
+  a_in = are.each t.a (on 0 (omega arith));
+  b_in = are.each t.b (on 1 (omega arith));
+  c_in = are.each t.c (on 2 (omega arith));
+  d_in = are.each t.d (on 3 (omega arith));
+}
 
 -- one point more
 pub one_more : (frame : Frame) (ps qs rs : List Point) (n : ℕ) (q p : Point) → length qs ≡ n → ((i : ℕ) → i < n → IsInFrame frame (point qs i) (point ps i))

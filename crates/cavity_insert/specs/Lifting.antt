@@ -2,6 +2,8 @@
 use Rattle.std.specs.Prelude.{◌≡◌, ℕ, ◌<◌, ℤ, pos, negsuc, ◌≤ℤ◌, List, length, Option, IfSome}
 use Rattle.sign_predicates.specs.Point.{Point}
 use Rattle.sign_predicates.specs.Lifted.{IsInFrame}
+use Rattle.sign_predicates.specs.declared.lifted.LiftedCorners.{LiftedCorners}
+use Rattle.sign_predicates.specs.declared.tetrahedron.Corners.{Corners}
 use Rattle.geo_laws.specs.Delaunay.{point}
 use Rattle.cavity_insert.specs.declared.lifting.LiftedPoints.{LiftedPoints}
 use Rattle.cavity_insert.specs.declared.lifting.NewPoint.{NewPoint}
@@ -9,6 +11,10 @@ use Rattle.cavity_insert.specs.declared.lifting.NewPoint.{NewPoint}
 -- a coordinate of the grid
 abbrev pub IsOnAxis : ℤ → Type 0
 IsOnAxis z = (negsuc 8388607 ≤ℤ z) × (z ≤ℤ pos 8388608)
+
+-- the steps of lifted corners
+abbrev pub as_corners : LiftedCorners → Corners
+as_corners t = record { a = t.a; b = t.b; c = t.c; d = t.d }
 
 -- the frame has each point of the list in its place
 pub record AreLifted (lifted : LiftedPoints) (ps : List Point) : Type 0 where

@@ -1,14 +1,13 @@
 //! The points of a list, lifted over a narrow frame, with which tests of rows take least time.
 ghost use Rattle.std.specs.Prelude.{◌≡◌, ◌<◌, length, IfSome};
 ghost use Rattle.sign_predicates.specs.Sphere.{is_outside};
-ghost use Rattle.sign_predicates.specs.Lifted.{IsSphereSign};
 ghost use Rattle.geo_laws.specs.Delaunay.{corners, as_numbers};
 ghost use Rattle.point_locate.specs.Place.{AreOn, row_corners};
 ghost use Rattle.cavity_insert.specs.Lifting.{IsOnAxis, IsLift, MayBeLifted, MayHaveLift};
+ghost use Rattle.cavity_insert.specs.Lifting.{as_corners};
 
 use geo_laws::{Points, Tet};
-use point_locate::row_points;
-use sign_predicates::{Frame, GridPoint, Lifted, Numbers, Sign, in_lifted_sphere, wins_tie};
+use sign_predicates::{Frame, GridPoint, Lifted, LiftedCorners, Numbers, lifted_outside};
 use std::alloc::Global;
 use tet_ports::Items;
 
@@ -119,31 +118,28 @@ pub(crate) fn numbers_of(row: Tet) -> Numbers
 }
 
 impl LiftedPoints {
-    /// Where a lifted point lies to the sphere through the corners of a row.
+    /// The lifted corners of a row.
     #[inline(always)]
-    fn sphere_sign(&self, row: Tet, q: Lifted) -> Sign
+    fn corners(&self, row: Tet) -> LiftedCorners
         requires on { AreOn self.now.points (row_corners row) }
-        ensures { IsSphereSign result (corners self.now.points row) q }
+        ensures { as_corners result ≡ corners self.now.points row }
     {
         let points = &self.points;
-        let a = points.at(row.a as usize);
-        let b = points.at(row.b as usize);
-        let c = points.at(row.c as usize);
-        let d = points.at(row.d as usize);
-        in_lifted_sphere(a, b, c, d, q)
+        LiftedCorners {
+            a: points.at(row.a as usize),
+            b: points.at(row.b as usize),
+            c: points.at(row.c as usize),
+            d: points.at(row.d as usize),
+        }
     }
 }
 
 /// Whether the new point is outside of a positive row, ties decided by the numbers.
 #[inline(always)]
-pub(crate) fn is_outside(points: &Points, row: Tet, lifted: &LiftedPoints, new: NewPoint) -> bool
-    requires on { AreOn points.now (row_corners row) }
-    requires lift { IsLift lifted.now points.now new }
-    ensures { result ≡ is_outside (corners points.now row) (as_numbers row) new.p new.number }
+pub(crate) fn is_outside(_points: &Points, row: Tet, lifted: &LiftedPoints, new: NewPoint) -> bool
+    requires on { AreOn _points.now (row_corners row) }
+    requires lift { IsLift lifted.now _points.now new }
+    ensures { result ≡ is_outside (corners _points.now row) (as_numbers row) new.p new.number }
 {
-    match lifted.sphere_sign(row, new.lifted) {
-        Sign::Below => true,
-        Sign::Zero => wins_tie(&row_points(points, row), numbers_of(row), new.p, new.number),
-        Sign::Above => false,
-    }
+    lifted_outside(lifted.corners(row), numbers_of(row), new.lifted, new.number)
 }

@@ -38,10 +38,13 @@ in_closed_of t x a b c d ha hb hc hd n =
     let r = least_not_below c d p.1 in
     (not_negative a _ ha q.0, (not_negative b _ hb q.1, (not_negative c _ hc r.0, (not_negative d _ hd r.1, tt))))
 
--- the tests of a number below 0, and above it
+-- the tests of a number below 0, of 0, and of one above it
 pub tests_below : (z : ℤ) (tie : Bool) → z <ℤ pos 0 → true ≡ int_lt z (pos 0) || int_le z (pos 0) && tie
 tests_below (pos n) tie h = absurd (omega (arith, ints))
 tests_below (negsuc n) tie h = refl
+
+pub tests_zero : (z : ℤ) (tie : Bool) → z ≡ pos 0 → tie ≡ int_lt z (pos 0) || int_le z (pos 0) && tie
+tests_zero z tie h = rw h refl
 
 pub tests_above : (z : ℤ) (tie : Bool) → pos 0 <ℤ z → false ≡ int_lt z (pos 0) || int_le z (pos 0) && tie
 tests_above (pos zero) tie h = absurd (omega (arith, ints))

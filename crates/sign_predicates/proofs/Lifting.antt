@@ -1,24 +1,27 @@
 -- The sphere's sum by the heights of the lifting map, and in a frame.
-use Rattle.std.proofs.Common.{◌≡◌, ℕ, ◌≤◌, ◌<◌, ◌*◌, ◌/◌, ◌%◌, ◌^◌, nat_abs, List, [], ◌∷◌, ap, sym, subst, ◌∙◌, ℤ, pos, negsuc, ◌+ℤ◌, ◌-ℤ◌, ◌*ℤ◌, ◌<ℤ◌, ◌≤ℤ◌, unsigned_abs, w32, w64, to_z, of_z, arith}
+use Rattle.std.proofs.Common.{◌≡◌, ℕ, ◌≤◌, ◌<◌, ◌*◌, ◌/◌, ◌%◌, ◌^◌, nat_abs, List, [], ◌∷◌, ap, sym, subst, ◌∙◌, ℤ, pos, negsuc, neg_ℤ, ◌+ℤ◌, ◌-ℤ◌, ◌*ℤ◌, ◌<ℤ◌, ◌≤ℤ◌, unsigned_abs, w32, w64, to_z, of_z, arith}
 use Rattle.std.proofs.lemmas.Int.{ints}
 use Rattle.std.proofs.Math.Nat.{mul-div_cancel_left, mul-mod_right}
 use Rattle.std.proofs.Math.IntN.{pos-*ℤ-pos}
-use Rattle.exact_algebra.proofs.Ring.{Expr, num, var, sub, ring, same, ◌⊕◌, ◌⊖◌, ◌⊗◌}
-use Rattle.exact_algebra.proofs.Signs.{mul_pos, mul_neg}
-use Rattle.exact_algebra.proofs.Size.{eval_within, machine_is}
+use mir.Syntax.{w128}
+use Rattle.exact_algebra.proofs.Ring.{Expr, num, var, sub, neg, ring, same, ◌⊕◌, ◌⊖◌, ◌⊗◌}
+use Rattle.exact_algebra.proofs.Signs.{mul_pos, mul_neg, by_sign}
+use Rattle.exact_algebra.proofs.Size.{eval_within, machine_is, back}
 use Rattle.sign_predicates.specs.Point.{Point, from_to}
-use Rattle.sign_predicates.specs.Orientation.{dot, det}
-use Rattle.sign_predicates.specs.Sphere.{square_length, in_sphere}
+use Rattle.sign_predicates.specs.Orientation.{dot, det, orient}
+use Rattle.sign_predicates.specs.Sphere.{square_length, in_sphere, HaveOneSign, AreSides}
 use Rattle.sign_predicates.specs.Vector.{IsDifference, sphere_sum}
 use Rattle.sign_predicates.specs.Sign.{IsSignOf}
-use Rattle.sign_predicates.specs.Lifted.{IsLifted, rise, IsStepsFrom, IsInFrame, AreInFrame, IsSphereSign}
+use Rattle.sign_predicates.specs.Lifted.{IsLifted, rise, volumes_of, IsStepsFrom, IsInFrame, AreInFrame, IsSphereSign}
 use Rattle.sign_predicates.specs.declared.tetrahedron.Corners.{Corners}
 use Rattle.sign_predicates.specs.declared.tetrahedron.Sign.{Sign}
 use Rattle.sign_predicates.specs.declared.tetrahedron.Sign.TheVariants.{Below, Zero, Above}
 use Rattle.sign_predicates.specs.declared.lifted.Frame.{Frame}
+use Rattle.sign_predicates.specs.declared.lifted.Volumes.{Volumes}
 use Rattle.sign_predicates.proofs.Products.{three_squares}
-use Rattle.sign_predicates.proofs.Terms.{PointE, pointE, of_point, from_toE, dotE, detE, square_lengthE}
-use Rattle.sign_predicates.proofs.Vectors.{difference_back, grid_back, in_sphere_is, sphere_sum_is}
+use Rattle.sign_predicates.proofs.Terms.{PointE, pointE, of_point, from_toE, dotE, detE, orientE, square_lengthE}
+use Rattle.sign_predicates.proofs.Ties.{one_sign}
+use Rattle.sign_predicates.proofs.Vectors.{difference_back, grid_back, orient_is, in_sphere_is, sphere_sum_is}
 
 -- ---- heights in place of squared lengths
 
@@ -77,6 +80,13 @@ rises_sum t e =
   where
     plus_none : (z : ℤ) → z +ℤ pos 2 *ℤ pos 0 ≡ z
     plus_none z = omega (arith, ints)
+
+-- the same, with the volumes in place of the determinants
+pub rises_volumes : (t : Corners) (e : Point)
+    → rise e t.a *ℤ (volumes_of t e).a -ℤ rise e t.b *ℤ (volumes_of t e).b
+    +ℤ rise e t.c *ℤ (volumes_of t e).c -ℤ rise e t.d *ℤ (volumes_of t e).d ≡ in_sphere t e
+unfolding orient
+rises_volumes t e = rises_sum t e
 
 -- ---- in a frame
 
@@ -160,7 +170,70 @@ sphere_sign sign q r h f t e some corners point =
     subst (IsSignOf sign) (sym (in_sphere_in_frame f q t r e corners point))
     (sign_of_multiple sign (fifth_power s) (in_sphere q r) (fifth_power_pos s above) h)
 
--- ---- coordinates and heights as the code reads them
+-- ---- the sides of faces in a frame
+
+-- the point put before the three others, of which two are exchanged or not
+side_exchanged : (a b c p : Point) → orient a c b p ≡ orient p a b c
+unfolding same det orient
+side_exchanged a b c p =
+    let A = pointE 0 in
+    let B = pointE 3 in
+    let C = pointE 6 in
+    let P = pointE 9 in
+    ring (orientE A C B P) (orientE P A B C) tt (of_point a (of_point b (of_point c (of_point p []))))
+
+side_turned : (a b c p : Point) → orient a b c p ≡ neg_ℤ (orient p a b c)
+unfolding same det orient
+side_turned a b c p =
+    let A = pointE 0 in
+    let B = pointE 3 in
+    let C = pointE 6 in
+    let P = pointE 9 in
+    ring (orientE A B C P) (neg (orientE P A B C)) tt (of_point a (of_point b (of_point c (of_point p []))))
+
+abbrev cube : ℤ → ℤ
+cube s = s *ℤ s *ℤ s
+
+cube_pos : (s : ℤ) → pos 0 <ℤ s → pos 0 <ℤ cube s
+cube_pos s h = mul_pos (s *ℤ s) s (mul_pos s s h h) h
+
+orient_in_frame : (f : Frame) (p q r s a b c d : Point) → IsInFrame f p a → IsInFrame f q b → IsInFrame f r c → IsInFrame f s d
+    → orient a b c d ≡ cube (pos f.step) *ℤ orient p q r s
+orient_in_frame f p q r s a b c d h i j k =
+    sym (orient_is a b c d)
+    ∙ (λ t. det (vector_in_frame f p q a b h i t) (vector_in_frame f p r a c h j t) (vector_in_frame f p s a d h k t))
+    ∙ det_scaled (pos f.step) (from_to p q) (from_to p r) (from_to p s)
+    ∙ ap (λ z. cube (pos f.step) *ℤ z) (orient_is p q r s)
+
+one_sign_of_multiple : (k z : ℤ) → pos 0 <ℤ k → HaveOneSign z (k *ℤ z)
+one_sign_of_multiple k z h =
+    by_sign z
+    (λ i. one_sign Below z (k *ℤ z) i (sign_of_multiple Below k z h i))
+    (λ i. one_sign Zero z (k *ℤ z) i (sign_of_multiple Zero k z h i))
+    (λ i. one_sign Above z (k *ℤ z) i (sign_of_multiple Above k z h i))
+
+-- the volumes in a frame say on which sides of the faces the point lies
+pub sides_in_frame : (f : Frame) (q t : Corners) (r e : Point) → 0 < f.step → AreInFrame f q t → IsInFrame f r e
+    → (v : Volumes) → v ≡ volumes_of q r → AreSides v.a (neg_ℤ v.b) v.c (neg_ℤ v.d) t e
+sides_in_frame f q t r e some corners point v is =
+    let h = corners in
+    subst (λ (w : Volumes). AreSides w.a (neg_ℤ w.b) w.c (neg_ℤ w.d) t e) (sym is) (record {
+      a_side = at _ _ _ (orient_in_frame f q.b q.d q.c r t.b t.d t.c e h.b_in h.d_in h.c_in point) (side_exchanged q.b q.c q.d r);
+      b_side = at _ _ _ (orient_in_frame f q.a q.c q.d r t.a t.c t.d e h.a_in h.c_in h.d_in point) (side_turned q.a q.c q.d r);
+      c_side = at _ _ _ (orient_in_frame f q.a q.d q.b r t.a t.d t.b e h.a_in h.d_in h.b_in point) (side_exchanged q.a q.b q.d r);
+      d_side = at _ _ _ (orient_in_frame f q.a q.b q.c r t.a t.b t.c e h.a_in h.b_in h.c_in point) (side_turned q.a q.b q.c r);
+    })
+  where
+    k : ℤ
+    k = cube (pos f.step)
+
+    k_pos : pos 0 <ℤ k
+    k_pos = cube_pos (pos f.step) (omega (arith, ints))
+
+    at : (x y z : ℤ) → y ≡ k *ℤ z → z ≡ x → HaveOneSign x y
+    at x y z multiple same = subst (HaveOneSign x) (sym (multiple ∙ ap (λ n. k *ℤ n) same)) (one_sign_of_multiple k x k_pos)
+
+-- ---- coordinates, heights and volumes as the code reads them
 
 -- the difference of two coordinates
 pub steps_back : (a b : ℤ) → pos 0 ≤ℤ a → a ≤ℤ pos 1048576 → pos 0 ≤ℤ b → b ≤ℤ pos 1048576
@@ -194,6 +267,20 @@ height_difference = sub (var 1) (var 0)
 pub rise_back : (a b : ℤ) → unsigned_abs a ≤ 3 * 2 ^ 40 → unsigned_abs b ≤ 3 * 2 ^ 40
     → to_z w64 (of_z w64 (to_z w64 (of_z w64 b) -ℤ to_z w64 (of_z w64 a))) ≡ b -ℤ a
 rise_back a b h k = machine_is w64 height_bounds (a ∷ b ∷ []) height_difference (h, (k, tt)) tt
+
+-- a volume
+pub volume_back : (z : ℤ) → unsigned_abs z ≤ 3 * 2 ^ 61 → to_z w64 (of_z w64 z) ≡ z
+volume_back z h = back w64 (3 * 2 ^ 61) z tt h
+
+pub volume_as_long : (z : ℤ) → unsigned_abs z ≤ 3 * 2 ^ 61 → to_z w128 (of_z w128 (to_z w64 (of_z w64 z))) ≡ z
+volume_as_long z h = ap (λ y. to_z w128 (of_z w128 y)) (volume_back z h) ∙ back w128 (3 * 2 ^ 61) z tt h
+
+pub volume_turned : (z : ℤ) → unsigned_abs z ≤ 3 * 2 ^ 61
+    → to_z w128 (of_z w128 (pos 0 -ℤ to_z w128 (of_z w128 (to_z w64 (of_z w64 z))))) ≡ neg_ℤ z
+volume_turned z h =
+    ap (λ y. to_z w128 (of_z w128 (pos 0 -ℤ y))) (volume_as_long z h)
+    ∙ back w128 (3 * 2 ^ 61) (pos 0 -ℤ z) tt (omega (arith, ints))
+    ∙ omega (arith, ints)
 
 -- the steps between two coordinates of the grid
 pub steps_in_frame : (step : ℕ) (corner q x : ℤ) → negsuc 8388607 ≤ℤ corner → corner ≤ℤ pos 8388608 → negsuc 8388607 ≤ℤ x → x ≤ℤ pos 8388608

@@ -1,13 +1,17 @@
 -- The least number for outside against the least one for inside decides a tie.
-use Rattle.std.proofs.Common.{◌≡◌, ℕ, ◌<◌, Bool, true, false, cond, ◌&&◌, ◌||◌, nat_lt, List, [], ◌∷◌, map, filter, refl, sym, ap, ◌∙◌, arith, pos}
+use Rattle.std.proofs.Common.{◌≡◌, ℕ, ◌<◌, ℤ, Bool, true, false, cond, ◌&&◌, ◌||◌, nat_lt, List, [], ◌∷◌, map, filter, refl, sym, ap, ◌∙◌, arith, pos}
 use Rattle.std.specs.Prelude.{int_lt}
 use Rattle.std.specs.List.{list_all, list_any, AllByRecursion}
 use Rattle.std.proofs.lemmas.Bool.Decides.{nat_tests}
+use Rattle.std.proofs.lemmas.Int.{ints}
 use Rattle.sign_predicates.specs.Point.{Point}
 use Rattle.sign_predicates.specs.Orientation.{Triangle, side}
 use Rattle.sign_predicates.specs.declared.tetrahedron.Corners.{Corners}
 use Rattle.sign_predicates.specs.declared.tetrahedron.Numbers.{Numbers}
-use Rattle.sign_predicates.specs.Sphere.{least_of, wins_tie, opposite_faces, alongside}
+use Rattle.sign_predicates.specs.Sign.{IsSignOf}
+use Rattle.sign_predicates.specs.declared.tetrahedron.Sign.{Sign}
+use Rattle.sign_predicates.specs.declared.tetrahedron.Sign.TheVariants.{Below, Zero, Above}
+use Rattle.sign_predicates.specs.Sphere.{least_of, wins_tie, opposite_faces, alongside, HaveOneSign}
 
 pub lt_least : (b : Bool) (i x l : ℕ) → nat_lt i (least_of b x l) ≡ cond b (nat_lt i x && nat_lt i l) (nat_lt i l)
 lt_least true i x l = grind (arith, nat_tests)
@@ -71,3 +75,13 @@ ties t n p m hm ha hb hc hd =
     sym (any_below (λ (f : ℕ × Triangle). int_lt (side f.1 p) (pos 0)) (λ f. f.0) (λ i. list_all (nat_lt i) (alongside t n p)) m
     (least_in (λ (f : ℕ × Triangle). int_lt (pos 0) (side f.1 p)) (λ f. f.0) (opposite_faces t n) 4294967296) (opposite_faces t n)
     (each m hm) (each n.a ha, (each n.b hb, (each n.c hc, (each n.d hd, tt)))))
+
+-- ---- numbers of one sign
+
+pub one_sign_is : {x y : ℤ} → x ≡ y → HaveOneSign x y
+one_sign_is e = record { below = ap (λ z. int_lt z (pos 0)) e; above = ap (λ z. int_lt (pos 0) z) e }
+
+pub one_sign : (sign : Sign) (x y : ℤ) → IsSignOf sign x → IsSignOf sign y → HaveOneSign x y
+one_sign Below x y h k = record { below = grind (arith, ints); above = grind (arith, ints) }
+one_sign Zero x y h k = one_sign_is (h ∙ sym k)
+one_sign Above x y h k = record { below = grind (arith, ints); above = grind (arith, ints) }

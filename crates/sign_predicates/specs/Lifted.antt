@@ -1,11 +1,14 @@
 -- Points counted in steps from the corner of a frame, and how high the lifting map puts them.
-use Rattle.std.specs.Prelude.{◌≡◌, ◌<◌, ℤ, pos, ◌+ℤ◌, ◌-ℤ◌, ◌*ℤ◌, ◌≤ℤ◌}
+use Rattle.std.specs.Prelude.{◌≡◌, ◌<◌, ℕ, ◌*◌, ◌^◌, ◌≤◌, ℤ, pos, ◌+ℤ◌, ◌-ℤ◌, ◌*ℤ◌, ◌≤ℤ◌, unsigned_abs, Bool}
 use Rattle.sign_predicates.specs.Point.{Point}
-use Rattle.sign_predicates.specs.Sphere.{square_length, in_sphere}
+use Rattle.sign_predicates.specs.Orientation.{orient}
+use Rattle.sign_predicates.specs.Sphere.{square_length, in_sphere, is_outside}
 use Rattle.sign_predicates.specs.Sign.{IsSignOf}
 use Rattle.sign_predicates.specs.declared.tetrahedron.Corners.{Corners}
 use Rattle.sign_predicates.specs.declared.tetrahedron.Sign.{Sign}
+use Rattle.sign_predicates.specs.declared.tetrahedron.Numbers.{Numbers}
 use Rattle.sign_predicates.specs.declared.lifted.Frame.{Frame}
+use Rattle.sign_predicates.specs.declared.lifted.Volumes.{Volumes}
 
 -- each coordinate is from 0 to 2^20
 pub record IsNarrow (q : Point) : Type 0 where
@@ -24,6 +27,17 @@ pub record IsLifted (q : Point) (height : ℤ) : Type 0 where
 -- how much higher b is lifted than a
 abbrev pub rise : Point → Point → ℤ
 rise a b = square_length b -ℤ square_length a
+
+-- six times the signed volumes of e with each three of the corners, named after the corner left out
+abbrev pub volumes_of : Corners → Point → Volumes
+volumes_of t e = record { a = orient e t.b t.c t.d; b = orient e t.a t.c t.d; c = orient e t.a t.b t.d; d = orient e t.a t.b t.c }
+
+-- each volume is that of three short vectors
+pub record AreShortVolumes (v : Volumes) : Type 0 where
+  pub a_short : unsigned_abs v.a ≤ 3 * 2 ^ 61
+  pub b_short : unsigned_abs v.b ≤ 3 * 2 ^ 61
+  pub c_short : unsigned_abs v.c ≤ 3 * 2 ^ 61
+  pub d_short : unsigned_abs v.d ≤ 3 * 2 ^ 61
 
 -- so many steps from the frame's corner
 abbrev pub IsStepsFrom : ℤ → ℤ → ℤ → ℤ → Type 0
@@ -45,3 +59,8 @@ pub record AreInFrame (f : Frame) (q t : Corners) : Type 0 where
 -- the sign of the sphere's sum at any points that some frame has at these
 abbrev pub IsSphereSign : Sign → Corners → Point → Type 0
 IsSphereSign s q r = (f : Frame) (t : Corners) (e : Point) → 0 < f.step → AreInFrame f q t → IsInFrame f r e → IsSignOf s (in_sphere t e)
+
+-- whether a point, with the number m, is outside, at any points that some frame has at these
+abbrev pub IsOutsideInFrame : Bool → Corners → Numbers → Point → ℕ → Type 0
+IsOutsideInFrame outside q n r m =
+    (f : Frame) (t : Corners) (e : Point) → 0 < f.step → AreInFrame f q t → IsInFrame f r e → outside ≡ is_outside t n e m

@@ -1,5 +1,5 @@
 -- Inside and outside of the sphere through the corners of a tetrahedron, where ties are broken by the points' numbers.
-use Rattle.std.specs.Prelude.{ℤ, pos, ◌+ℤ◌, ◌-ℤ◌, ◌*ℤ◌, ℕ, Bool, ◌&&◌, ◌||◌, if◌then◌else◌, int_lt, int_le, nat_lt, List, [], ◌∷◌, map, filter}
+use Rattle.std.specs.Prelude.{◌≡◌, ℤ, pos, ◌+ℤ◌, ◌-ℤ◌, ◌*ℤ◌, ℕ, Bool, ◌&&◌, ◌||◌, if◌then◌else◌, int_lt, int_le, nat_lt, List, [], ◌∷◌, map, filter}
 use Rattle.std.specs.List.{list_all, list_any}
 use Rattle.sign_predicates.specs.Point.{Point, from_to}
 use Rattle.sign_predicates.specs.Orientation.{dot, det, Triangle, side, opposite_a, opposite_b, opposite_c, opposite_d}
@@ -39,6 +39,22 @@ least_of counts i least = if counts && nat_lt i least then i else least
 -- e and the corners across their face are for outside.
 abbrev pub wins_tie : Corners → Numbers → Point → ℕ → Bool
 wins_tie t n e m = list_any (λ i. list_all (nat_lt i) (alongside t n e)) (m ∷ across t n e)
+
+-- two numbers of one sign
+pub record HaveOneSign (x y : ℤ) : Type 0 where
+  pub below : int_lt x (pos 0) ≡ int_lt y (pos 0)
+  pub above : int_lt (pos 0) x ≡ int_lt (pos 0) y
+
+-- the signs of four numbers say on which side of the face opposite each corner e lies
+pub record AreSides (a b c d : ℤ) (t : Corners) (e : Point) : Type 0 where
+  pub a_side : HaveOneSign a (side (opposite_a t) e)
+  pub b_side : HaveOneSign b (side (opposite_b t) e)
+  pub c_side : HaveOneSign c (side (opposite_c t) e)
+  pub d_side : HaveOneSign d (side (opposite_d t) e)
+
+-- how a tie ends at any point that lies on these sides of the faces of some tetrahedron
+abbrev pub IsTieBySides : Bool → ℤ → ℤ → ℤ → ℤ → Numbers → ℕ → Type 0
+IsTieBySides wins a b c d n m = (t : Corners) (e : Point) → AreSides a b c d t e → wins ≡ wins_tie t n e m
 
 -- whether e, with the number m, is outside of the positive tetrahedron t, where ties are decided by the numbers
 abbrev pub is_outside : Corners → Numbers → Point → ℕ → Bool

@@ -19,7 +19,7 @@ pub use boxes::boxes_apart;
 pub use centroid::{normal_sign, orient_centroid, turn_centroid, turn_sign};
 pub use entering::triangle_enters;
 pub use laws::law_ties;
-pub use lifted::{Frame, Lifted, in_lifted_sphere};
+pub use lifted::{Frame, Lifted, LiftedCorners, in_lifted_sphere, lifted_outside};
 pub use meeting::{segment_meets_triangle, segments_meet, spans_plane, triangles_meet};
 pub use orientation::{beyond, coplanar, in_tet, orient, orient_rat, scaled_difference};
 pub use point::{GridPoint, RatPoint};

@@ -1,14 +1,15 @@
 //! Points in a frame so narrow that the sum of the sphere through four of them takes few bits.
-ghost use Rattle.std.specs.Prelude.{◌≡◌, ◌*◌, ◌^◌, ◌<◌, ◌≤◌, ◌≤ℤ◌, pos, unsigned_abs, ℤ, IfSome, IfNone};
+ghost use Rattle.std.specs.Prelude.{◌≡◌, ◌*◌, ◌^◌, ◌<◌, ◌≤◌, ◌≤ℤ◌, pos, neg_ℤ, unsigned_abs, ℤ, IfSome, IfNone};
 ghost use Rattle.sign_predicates.specs.Point.{Point, from_to};
-ghost use Rattle.sign_predicates.specs.Sphere.{in_sphere};
+ghost use Rattle.sign_predicates.specs.Sphere.{in_sphere, IsTieBySides};
 ghost use Rattle.sign_predicates.specs.Vector.{IsShort};
 ghost use Rattle.sign_predicates.specs.Lifted.{rise, IsNarrow, IsStepsFrom, IsInFrame, IsSphereSign};
+ghost use Rattle.sign_predicates.specs.Lifted.{volumes_of, AreShortVolumes, IsOutsideInFrame};
 
 use crate::sign::sign_of;
-use crate::sphere::short_sum_of_four;
+use crate::sphere::{short_sum_of_four, wins_by_sides};
 use crate::vector::{Vector, minor, short_det_of_minors, sum_of_squares};
-use crate::{GridPoint, Sign};
+use crate::{GridPoint, Numbers, Sign};
 use std::marker::Model;
 
 /// A corner, and a step of one or more grid units. A frame has the points whose coordinates are 0 to
@@ -101,6 +102,25 @@ impl Frame {
     }
 }
 
+/// The corners of a tetrahedron, lifted in one frame.
+#[derive(Clone, Copy, Debug)]
+pub struct LiftedCorners {
+    pub a: Lifted,
+    pub b: Lifted,
+    pub c: Lifted,
+    pub d: Lifted,
+}
+
+/// Six times the signed volumes of a point with each three of four corners, named after the corner
+/// that is left out.
+#[derive(Clone, Copy)]
+struct Volumes {
+    a: i64,
+    b: i64,
+    c: i64,
+    d: i64,
+}
+
 /// The vector from `a` to `b`.
 #[inline(always)]
 fn from_to(a: Lifted, b: Lifted) -> Vector
@@ -123,10 +143,11 @@ fn rise(a: Lifted, b: Lifted) -> i64
     b.height - a.height
 }
 
-/// The sphere's sum, with the rises to the corners in place of their squared distances.
+/// The volumes of `e` with each three of the corners. They have each minor once.
 #[inline(always)]
-fn in_sphere(a: Lifted, b: Lifted, c: Lifted, d: Lifted, e: Lifted) -> i128
-    ensures { result ≡ in_sphere (record { a = a; b = b; c = c; d = d }) e }
+fn volumes_of(a: Lifted, b: Lifted, c: Lifted, d: Lifted, e: Lifted) -> Volumes
+    ensures value { result ≡ volumes_of (record { a = a; b = b; c = c; d = d }) e }
+    ensures short { AreShortVolumes result }
 {
     let (u, v, w, x) = (from_to(e, a), from_to(e, b), from_to(e, c), from_to(e, d));
     let uv = minor(u, v);
@@ -135,15 +156,47 @@ fn in_sphere(a: Lifted, b: Lifted, c: Lifted, d: Lifted, e: Lifted) -> i128
     let vw = minor(v, w);
     let vx = minor(v, x);
     let wx = minor(w, x);
+    Volumes {
+        a: short_det_of_minors(v, w, x, wx, vx, vw),
+        b: short_det_of_minors(u, w, x, wx, ux, uw),
+        c: short_det_of_minors(u, v, x, vx, ux, uv),
+        d: short_det_of_minors(u, v, w, vw, uw, uv),
+    }
+}
+
+/// The sphere's sum, with the rises to the corners in place of their squared distances.
+#[inline(always)]
+fn in_sphere(a: Lifted, b: Lifted, c: Lifted, d: Lifted, e: Lifted, v: Volumes) -> i128
+    requires value { v ≡ volumes_of (record { a = a; b = b; c = c; d = d }) e }
+    requires short { AreShortVolumes v }
+    ensures { result ≡ in_sphere (record { a = a; b = b; c = c; d = d }) e }
+{
     short_sum_of_four(
         rise(e, a),
-        short_det_of_minors(v, w, x, wx, vx, vw),
+        v.a,
         rise(e, b),
-        short_det_of_minors(u, w, x, wx, ux, uw),
+        v.b,
         rise(e, c),
-        short_det_of_minors(u, v, x, vx, ux, uv),
+        v.c,
         rise(e, d),
-        short_det_of_minors(u, v, w, vw, uw, uv),
+        v.d,
+    )
+}
+
+/// Whether a point on the sphere is outside, by its volumes with the corners. Those without the
+/// second and the fourth corner are below 0 on that corner's side of the face opposite it.
+#[inline(always)]
+fn wins_by_volumes(v: Volumes, n: Numbers, m: u32) -> bool
+    requires { AreShortVolumes v }
+    ensures { IsTieBySides result v.a (neg_ℤ v.b) v.c (neg_ℤ v.d) n m }
+{
+    wins_by_sides(
+        v.a as i128,
+        -(v.b as i128),
+        v.c as i128,
+        -(v.d as i128),
+        n,
+        m,
     )
 }
 
@@ -153,5 +206,20 @@ fn in_sphere(a: Lifted, b: Lifted, c: Lifted, d: Lifted, e: Lifted) -> i128
 pub fn in_lifted_sphere(a: Lifted, b: Lifted, c: Lifted, d: Lifted, e: Lifted) -> Sign
     ensures { IsSphereSign result (record { a = a; b = b; c = c; d = d }) e }
 {
-    sign_of(in_sphere(a, b, c, d, e))
+    sign_of(in_sphere(a, b, c, d, e, volumes_of(a, b, c, d, e)))
+}
+
+/// What `outside` says of the points that these are, all five of one frame. A tie takes no more
+/// products: the volumes in the sphere's sum say on which side of each face the point is.
+#[inline(always)]
+pub fn lifted_outside(t: LiftedCorners, n: Numbers, p: Lifted, m: u32) -> bool
+    ensures { IsOutsideInFrame result (record { a = t.a; b = t.b; c = t.c; d = t.d }) n p m }
+{
+    let LiftedCorners { a, b, c, d } = t;
+    let v = volumes_of(a, b, c, d, p);
+    match sign_of(in_sphere(a, b, c, d, p, v)) {
+        Sign::Below => true,
+        Sign::Zero => wins_by_volumes(v, n, m),
+        Sign::Above => false,
+    }
 }

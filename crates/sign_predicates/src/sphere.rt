@@ -1,6 +1,7 @@
 //! Whether a point is outside of the sphere through the corners of a positive tetrahedron.
 ghost use Rattle.std.specs.Prelude.{◌≡◌, ◌*◌, ◌^◌, ◌≤◌, ◌+ℤ◌, ◌-ℤ◌, ◌*ℤ◌, unsigned_abs};
 ghost use Rattle.sign_predicates.specs.Sphere.{in_sphere, least_of, wins_tie, is_outside};
+ghost use Rattle.sign_predicates.specs.Sphere.{IsTieBySides};
 ghost use Rattle.sign_predicates.specs.Vector.{IsShort, sphere_sum};
 
 use crate::orientation::orient_sum;
@@ -141,6 +142,24 @@ fn least_of(counts: bool, number: u64, least: u64) -> u64
     }
 }
 
+/// Whether a point on the sphere is outside, by the rule of `outside`: the least number for outside
+/// against the least one for inside. `a` is above 0 where the point is on the first corner's side
+/// of the face opposite that corner, and below 0 where it is beyond; so the next three.
+#[inline(always)]
+pub(crate) fn wins_by_sides(a: i128, b: i128, c: i128, d: i128, n: Numbers, m: u32) -> bool
+    ensures { IsTieBySides result a b c d n m }
+{
+    let across = least_of(is_below(d), n.d as u64, m as u64);
+    let across = least_of(is_below(c), n.c as u64, across);
+    let across = least_of(is_below(b), n.b as u64, across);
+    let across = least_of(is_below(a), n.a as u64, across);
+    let alongside = least_of(is_above(d), n.d as u64, NO_NUMBER);
+    let alongside = least_of(is_above(c), n.c as u64, alongside);
+    let alongside = least_of(is_above(b), n.b as u64, alongside);
+    let alongside = least_of(is_above(a), n.a as u64, alongside);
+    across < alongside
+}
+
 /// Whether a point on the sphere through the corners of the positive tetrahedron `t` is outside, by the rule of `outside`: the least
 /// number for outside against the least one for inside.
 #[inline(never)]
@@ -151,15 +170,7 @@ pub fn wins_tie(t: &Corners, n: Numbers, p: GridPoint, m: u32) -> bool
     let b = orient_sum(t.a, t.c, t.d, p);
     let c = orient_sum(t.a, t.d, t.b, p);
     let d = orient_sum(t.a, t.b, t.c, p);
-    let across = least_of(is_below(d), n.d as u64, m as u64);
-    let across = least_of(is_below(c), n.c as u64, across);
-    let across = least_of(is_below(b), n.b as u64, across);
-    let across = least_of(is_below(a), n.a as u64, across);
-    let alongside = least_of(is_above(d), n.d as u64, NO_NUMBER);
-    let alongside = least_of(is_above(c), n.c as u64, alongside);
-    let alongside = least_of(is_above(b), n.b as u64, alongside);
-    let alongside = least_of(is_above(a), n.a as u64, alongside);
-    across < alongside
+    wins_by_sides(a, b, c, d, n, m)
 }
 
 /// Whether `p`, with the number `m`, is outside of the positive tetrahedron `t`, whose corners have the numbers `n`. The five
