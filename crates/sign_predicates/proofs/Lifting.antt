@@ -4,7 +4,7 @@ use Rattle.std.proofs.lemmas.Int.{ints}
 use Rattle.std.proofs.Math.Nat.{mul-div_cancel_left, mul-mod_right}
 use Rattle.std.proofs.Math.IntN.{pos-*ℤ-pos}
 use mir.Syntax.{w128}
-use Rattle.exact_algebra.proofs.Ring.{Expr, num, var, sub, neg, ring, same, ◌⊕◌, ◌⊖◌, ◌⊗◌}
+use Rattle.exact_algebra.proofs.Ring.{Expr, num, var, sub, ring, same, ◌⊕◌, ◌⊖◌, ◌⊗◌}
 use Rattle.exact_algebra.proofs.Signs.{mul_pos, mul_neg, by_sign}
 use Rattle.exact_algebra.proofs.Size.{eval_within, machine_is, back}
 use Rattle.sign_predicates.specs.Point.{Point, from_to}
@@ -19,9 +19,9 @@ use Rattle.sign_predicates.specs.declared.tetrahedron.Sign.TheVariants.{Below, Z
 use Rattle.sign_predicates.specs.declared.lifted.Frame.{Frame}
 use Rattle.sign_predicates.specs.declared.lifted.Volumes.{Volumes}
 use Rattle.sign_predicates.proofs.Products.{three_squares}
-use Rattle.sign_predicates.proofs.Terms.{PointE, pointE, of_point, from_toE, dotE, detE, orientE, square_lengthE}
+use Rattle.sign_predicates.proofs.Terms.{PointE, pointE, of_point, from_toE, dotE, detE, square_lengthE}
 use Rattle.sign_predicates.proofs.Ties.{one_sign}
-use Rattle.sign_predicates.proofs.Vectors.{difference_back, grid_back, orient_is, in_sphere_is, sphere_sum_is}
+use Rattle.sign_predicates.proofs.Vectors.{difference_back, grid_back, orient_is, side_exchanged, side_turned, turned_back, in_sphere_is, sphere_sum_is}
 
 -- ---- heights in place of squared lengths
 
@@ -172,25 +172,6 @@ sphere_sign sign q r h f t e some corners point =
 
 -- ---- the sides of faces in a frame
 
--- the point put before the three others, of which two are exchanged or not
-side_exchanged : (a b c p : Point) → orient a c b p ≡ orient p a b c
-unfolding same det orient
-side_exchanged a b c p =
-    let A = pointE 0 in
-    let B = pointE 3 in
-    let C = pointE 6 in
-    let P = pointE 9 in
-    ring (orientE A C B P) (orientE P A B C) tt (of_point a (of_point b (of_point c (of_point p []))))
-
-side_turned : (a b c p : Point) → orient a b c p ≡ neg_ℤ (orient p a b c)
-unfolding same det orient
-side_turned a b c p =
-    let A = pointE 0 in
-    let B = pointE 3 in
-    let C = pointE 6 in
-    let P = pointE 9 in
-    ring (orientE A B C P) (neg (orientE P A B C)) tt (of_point a (of_point b (of_point c (of_point p []))))
-
 abbrev cube : ℤ → ℤ
 cube s = s *ℤ s *ℤ s
 
@@ -277,10 +258,7 @@ volume_as_long z h = ap (λ y. to_z w128 (of_z w128 y)) (volume_back z h) ∙ ba
 
 pub volume_turned : (z : ℤ) → unsigned_abs z ≤ 3 * 2 ^ 61
     → to_z w128 (of_z w128 (pos 0 -ℤ to_z w128 (of_z w128 (to_z w64 (of_z w64 z))))) ≡ neg_ℤ z
-volume_turned z h =
-    ap (λ y. to_z w128 (of_z w128 (pos 0 -ℤ y))) (volume_as_long z h)
-    ∙ back w128 (3 * 2 ^ 61) (pos 0 -ℤ z) tt (omega (arith, ints))
-    ∙ omega (arith, ints)
+volume_turned z h = ap (λ y. to_z w128 (of_z w128 (pos 0 -ℤ to_z w128 (of_z w128 y)))) (volume_back z h) ∙ turned_back z (omega arith)
 
 -- the steps between two coordinates of the grid
 pub steps_in_frame : (step : ℕ) (corner q x : ℤ) → negsuc 8388607 ≤ℤ corner → corner ≤ℤ pos 8388608 → negsuc 8388607 ≤ℤ x → x ≤ℤ pos 8388608

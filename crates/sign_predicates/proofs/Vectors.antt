@@ -6,6 +6,7 @@ use Rattle.sign_predicates.specs.Orientation.{det, orient, orient_rational}
 use Rattle.sign_predicates.specs.declared.tetrahedron.Corners.{Corners}
 use Rattle.sign_predicates.specs.Sphere.{square_length, in_sphere}
 use Rattle.sign_predicates.specs.Vector.{det_of_two, sphere_sum}
+use mir.Syntax.{w128}
 use Rattle.exact_algebra.proofs.Ring.{var, sub, neg, ring, same}
 use Rattle.sign_predicates.proofs.Terms.{pointE, orientE, of_point}
 use Rattle.exact_algebra.proofs.Size.{machine_is, back}
@@ -60,6 +61,25 @@ orient-exchanged a b c p =
     let P = pointE 9 in
     ring (orientE A C B P) (neg (orientE A B C P)) tt (of_point a (of_point b (of_point c (of_point p []))))
 
+-- the fourth point put before the other three, with and without an exchange of two of these
+pub side_exchanged : (a b c p : Point) → orient a c b p ≡ orient p a b c
+unfolding same det orient
+side_exchanged a b c p =
+    let A = pointE 0 in
+    let B = pointE 3 in
+    let C = pointE 6 in
+    let P = pointE 9 in
+    ring (orientE A C B P) (orientE P A B C) tt (of_point a (of_point b (of_point c (of_point p []))))
+
+pub side_turned : (a b c p : Point) → orient a b c p ≡ neg_ℤ (orient p a b c)
+unfolding same det orient
+side_turned a b c p =
+    let A = pointE 0 in
+    let B = pointE 3 in
+    let C = pointE 6 in
+    let P = pointE 9 in
+    ring (orientE A B C P) (neg (orientE P A B C)) tt (of_point a (of_point b (of_point c (of_point p []))))
+
 -- ---- coordinates of grid points and rational points
 
 pub grid_back : (z : ℤ) → negsuc 8388607 ≤ℤ z → z ≤ℤ pos 8388608 → to_z w32 (of_z w32 z) ≡ z
@@ -86,3 +106,10 @@ pub minor_back : (a b c d : ℤ) → unsigned_abs a ≤ 2 ^ 24 → unsigned_abs 
     → det_of_two (to_z w32 (of_z w32 a)) (to_z w32 (of_z w32 b)) (to_z w32 (of_z w32 c)) (to_z w32 (of_z w32 d)) ≡ a *ℤ d -ℤ b *ℤ c
 unfolding det_of_two
 minor_back a b c d h i j k = det_of_two_back a b c d h i j k
+
+-- a determinant with its sign turned
+pub turned_back : (z : ℤ) → unsigned_abs z ≤ 3 * 2 ^ 73 → to_z w128 (of_z w128 (pos 0 -ℤ to_z w128 (of_z w128 z))) ≡ neg_ℤ z
+turned_back z h =
+    ap (λ y. to_z w128 (of_z w128 (pos 0 -ℤ y))) (back w128 (3 * 2 ^ 73) z tt h)
+    ∙ back w128 (3 * 2 ^ 73) (pos 0 -ℤ z) tt (omega (arith, ints))
+    ∙ omega (arith, ints)

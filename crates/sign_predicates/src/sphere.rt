@@ -4,7 +4,6 @@ ghost use Rattle.sign_predicates.specs.Sphere.{in_sphere, least_of, wins_tie, is
 ghost use Rattle.sign_predicates.specs.Sphere.{IsTieBySides};
 ghost use Rattle.sign_predicates.specs.Vector.{IsShort, sphere_sum};
 
-use crate::orientation::orient_sum;
 use crate::sign::{is_above, is_below, sign_of};
 use crate::vector::{
     Vector, are_short, det_of_minors, from_to, minor, short_det_of_minors, square_length,
@@ -166,11 +165,19 @@ pub(crate) fn wins_by_sides(a: i128, b: i128, c: i128, d: i128, n: Numbers, m: u
 pub fn wins_tie(t: &Corners, n: Numbers, p: GridPoint, m: u32) -> bool
     ensures { result ≡ wins_tie t.now n p m }
 {
-    let a = orient_sum(t.b, t.d, t.c, p);
-    let b = orient_sum(t.a, t.c, t.d, p);
-    let c = orient_sum(t.a, t.d, t.b, p);
-    let d = orient_sum(t.a, t.b, t.c, p);
-    wins_by_sides(a, b, c, d, n, m)
+    let (u, v) = (from_to(p, t.a), from_to(p, t.b));
+    let (w, x) = (from_to(p, t.c), from_to(p, t.d));
+    let uv = minor(u, v);
+    let uw = minor(u, w);
+    let ux = minor(u, x);
+    let vw = minor(v, w);
+    let vx = minor(v, x);
+    let wx = minor(w, x);
+    let a = det_of_minors(v, w, x, wx, vx, vw);
+    let b = det_of_minors(u, w, x, wx, ux, uw);
+    let c = det_of_minors(u, v, x, vx, ux, uv);
+    let d = det_of_minors(u, v, w, vw, uw, uv);
+    wins_by_sides(a, -b, c, -d, n, m)
 }
 
 /// Whether `p`, with the number `m`, is outside of the positive tetrahedron `t`, whose corners have the numbers `n`. The five
