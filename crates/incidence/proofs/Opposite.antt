@@ -1,13 +1,16 @@
 -- A face of a row is opposite a corner where the face and the corner add up to the row.
 use Rattle.std.proofs.Common.{◌≡◌, ◌⊎◌, inl, inr, ℕ, ◌+◌, Bool, true, false, ◌||◌, refl, sym, ap, ◌∙◌, arith}
 use Rattle.std.specs.Prelude.{◌==◌}
-use Rattle.std.proofs.lemmas.Bool.{eqb-true, eq-eqb, or_cases, true≢false}
+use Rattle.std.proofs.lemmas.Bool.{eqb-true, eq-eqb, ne_eqb, or_cases, true≢false}
 use Rattle.geo_laws.specs.Faces.{face_of}
 use Rattle.geo_laws.specs.declared.faces.Face.{Face}
 use Rattle.geo_laws.specs.declared.tetrahedra.Tet.{Tet}
+use Rattle.incidence.specs.declared.half_faces.Corner.{Corner}
+use Rattle.incidence.specs.declared.half_faces.Corner.TheVariants.{A, B, C, D}
+use Rattle.incidence.specs.HalfFaces.{opposite_face, point_at, HasFourCorners}
 use Rattle.incidence.specs.Pairs.{is_face, has_face}
 use Rattle.incidence.proofs.Orders.{face_by_numbers}
-use Rattle.incidence.proofs.Partners.{face_same, face_itself}
+use Rattle.incidence.proofs.Partners.{face_same, face_itself, has_opposite}
 
 abbrev pub total : Face → ℕ
 total f = f.a + f.b + f.c
@@ -94,3 +97,32 @@ opposite_d f t h = same_test (face_of t.a t.b t.c) f _ _ (adds_up t.d t.a t.b t.
     by k (inr (inl e)) = ap (λ x. face_of t.a x t.c) (sym (corner_of t.d t.b t.a t.c t.d _ f e k (omega arith))) ∙ swap_last t.a t.d t.c ∙ e
     by k (inr (inr (inl e))) = ap (λ x. face_of t.a t.b x) (sym (corner_of t.d t.c t.a t.b t.d _ f e k (omega arith))) ∙ e
     by k (inr (inr (inr e))) = e
+
+-- ---- by corners
+
+-- a corner and the face opposite it add up to the row
+adds : (t : Tet) (k : Corner) → point_at t k + total (opposite_face t k) ≡ t.a + t.b + t.c + t.d
+adds t A = omega (arith, total-face_of t.b t.c t.d)
+adds t B = omega (arith, total-face_of t.a t.c t.d)
+adds t C = omega (arith, total-face_of t.a t.b t.d)
+adds t D = omega (arith, total-face_of t.a t.b t.c)
+
+same_sum : (m n f s : ℕ) → n + f ≡ s → (m == n) ≡ (m + f == s)
+same_sum m n f s e = by (m == n) (m + f == s) refl refl
+  where
+    by : (p q : Bool) → (m == n) ≡ p → (m + f == s) ≡ q → p ≡ q
+    by true true h k = refl
+    by true false h k = absurd (true≢false (sym (eq-eqb (m + f) s (omega (arith, e, eqb-true m n h))) ∙ k))
+    by false true h k = absurd (true≢false (sym (eq-eqb m n (omega (arith, e, eqb-true (m + f) s k))) ∙ h))
+    by false false h k = refl
+
+-- two faces of a row are one where the corners opposite them are at one point
+pub opposite_same : (t : Tet) (k j : Corner) → (point_at t k == point_at t j) ≡ is_face (opposite_face t k) (opposite_face t j)
+opposite_same t A j = same_sum t.a (point_at t j) (total (opposite_face t j)) _ (adds t j) ∙ opposite_a (opposite_face t j) t (has_opposite t j)
+opposite_same t B j = same_sum t.b (point_at t j) (total (opposite_face t j)) _ (adds t j) ∙ opposite_b (opposite_face t j) t (has_opposite t j)
+opposite_same t C j = same_sum t.c (point_at t j) (total (opposite_face t j)) _ (adds t j) ∙ opposite_c (opposite_face t j) t (has_opposite t j)
+opposite_same t D j = same_sum t.d (point_at t j) (total (opposite_face t j)) _ (adds t j) ∙ opposite_d (opposite_face t j) t (has_opposite t j)
+
+-- a face of a row with four corners is opposite one of them alone
+pub opposite_only : (t : Tet) (k j : Corner) → HasFourCorners t → ¬ (k ≡ j) → is_face (opposite_face t k) (opposite_face t j) ≡ false
+opposite_only t k j four apart = sym (opposite_same t k j) ∙ ne_eqb (point_at t k) (point_at t j) (λ e. apart (four k j e))

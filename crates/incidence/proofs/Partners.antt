@@ -6,8 +6,10 @@ use Rattle.std.proofs.lemmas.Bool.{eqb-true, eq-eqb, ne_eqb, or_cases, or_left, 
 use Rattle.geo_laws.specs.Faces.{face_of}
 use Rattle.geo_laws.specs.declared.faces.Face.{Face}
 use Rattle.geo_laws.specs.declared.tetrahedra.Tet.{Tet}
+use Rattle.incidence.specs.declared.half_faces.Corner.{Corner}
+use Rattle.incidence.specs.declared.half_faces.Corner.TheVariants.{A, B, C, D}
 use Rattle.incidence.specs.declared.uses.Use.{Use}
-use Rattle.incidence.specs.HalfFaces.{IsByRow}
+use Rattle.incidence.specs.HalfFaces.{opposite_face, IsByRow}
 use Rattle.incidence.specs.Links.{row_at}
 use Rattle.incidence.specs.Pairs.{is_face, has_face, is_partner, partner}
 use Rattle.incidence.specs.Uses.{row_uses, uses_from, uses_of_rows, UseBefore, AreAllUses, IsRunStart}
@@ -15,11 +17,11 @@ use Rattle.std.proofs.lemmas.List.{get_or_read, get_or_default}
 use Rattle.incidence.proofs.Firsts.{first_is, first_is_none}
 use Rattle.incidence.proofs.Orders.{face_by_numbers, row_less, between}
 
-and_true : (a b : Bool) → (a && b) ≡ true → (a ≡ true) × (b ≡ true)
+pub and_true : (a b : Bool) → (a && b) ≡ true → (a ≡ true) × (b ≡ true)
 and_true true b h = (refl, h)
 and_true false b h = cc
 
-both : (a b : Bool) → a ≡ true → b ≡ true → (a && b) ≡ true
+pub both : (a b : Bool) → a ≡ true → b ≡ true → (a && b) ≡ true
 both a b h k = rw h k
 
 pub face_same : (f g : Face) → is_face f g ≡ true → f ≡ g
@@ -50,6 +52,13 @@ pub has_2 : (f : Face) (t : Tet) → (is_face (face_of t.a t.b t.d) f || is_face
 has_2 f t e =
     or_right (is_face (face_of t.b t.c t.d) f) (is_face (face_of t.a t.c t.d) f || (is_face (face_of t.a t.b t.d) f || is_face (face_of t.a t.b t.c) f))
     (or_right (is_face (face_of t.a t.c t.d) f) (is_face (face_of t.a t.b t.d) f || is_face (face_of t.a t.b t.c) f) e)
+
+-- the face opposite a corner is a face of the row
+pub has_opposite : (t : Tet) (k : Corner) → has_face (opposite_face t k) t ≡ true
+has_opposite t A = has_0 (opposite_face t A) t (face_itself (opposite_face t A) (opposite_face t A) refl)
+has_opposite t B = has_1 (opposite_face t B) t (face_itself (opposite_face t B) (opposite_face t B) refl)
+has_opposite t C = has_2 (opposite_face t C) t (or_left (is_face (face_of t.a t.b t.d) (opposite_face t C)) (is_face (face_of t.a t.b t.c) (opposite_face t C)) (face_itself (opposite_face t C) (opposite_face t C) refl))
+has_opposite t D = has_2 (opposite_face t D) t (or_right (is_face (face_of t.a t.b t.d) (opposite_face t D)) (is_face (face_of t.a t.b t.c) (opposite_face t D)) (face_itself (opposite_face t D) (opposite_face t D) refl))
 
 -- a use in a list of four is one of the four
 pub of_four : (place : ℕ) (t : Tet) (u : Use) → Contains (row_uses place t) u → (u.row ≡ place) × (has_face u.face t ≡ true)

@@ -4,16 +4,18 @@ use Rattle.std.specs.List.{enumerate_from}
 use Rattle.std.proofs.lemmas.Grind.{get_or-set_at}
 use Rattle.std.proofs.lemmas.List.{get_or_default, get_or-set_other, get_or-map, length-map, ext_get_or}
 use Rattle.std.proofs.lemmas.List.FromFn.{length-enumerate_from, get_or-enumerate_from}
-use Rattle.std.proofs.lemmas.Bool.{cases_order, true≢false, or_left, or_right}
+use Rattle.std.proofs.lemmas.Bool.{cases_order, true≢false}
 use Rattle.geo_laws.specs.Faces.{face_of}
 use Rattle.geo_laws.specs.declared.faces.Face.{Face}
 use Rattle.geo_laws.specs.declared.tetrahedra.Tet.{Tet}
+use Rattle.incidence.specs.declared.half_faces.Corner.TheVariants.{A, B, C, D}
 use Rattle.incidence.specs.declared.uses.Use.{Use}
+use Rattle.incidence.specs.HalfFaces.{opposite_face}
 use Rattle.incidence.specs.declared.pairs.Across.{Across}
 use Rattle.incidence.specs.Pairs.{is_face, has_face, is_partner, partner, across_of, pairs_of, placed, IsAcrossWithin, AreAllWithin}
 use Rattle.incidence.specs.Uses.{AreAllUses}
 use Rattle.incidence.proofs.Firsts.{first_within}
-use Rattle.incidence.proofs.Partners.{face_same, face_itself, at_place, has_0, has_1, has_2}
+use Rattle.incidence.proofs.Partners.{face_same, face_itself, at_place, has_opposite}
 
 -- what is across a face of a row is its partner, or the use of the face by the row is still to come
 abbrev pub IsSettled : List Tet → List Use → ℕ → ℕ → Face → Option ℕ → Type 0
@@ -97,10 +99,10 @@ settled_next rows uses at xs here row p d new long within is is_row e made s i t
 -- at the beginning all uses are still to come
 pub settled_first : (rows : List Tet) (uses : List Use) (xs : List Across) → AreAllUses rows uses → AllSettled rows uses 0 xs
 settled_first rows uses xs a i t x l = record {
-  across_0 = to_come (face_of r.b r.c r.d) (get_or xs i x).n0 (has_0 (face_of r.b r.c r.d) r (face_itself (face_of r.b r.c r.d) (face_of r.b r.c r.d) refl));
-  across_1 = to_come (face_of r.a r.c r.d) (get_or xs i x).n1 (has_1 (face_of r.a r.c r.d) r (face_itself (face_of r.a r.c r.d) (face_of r.a r.c r.d) refl));
-  across_2 = to_come (face_of r.a r.b r.d) (get_or xs i x).n2 (has_2 (face_of r.a r.b r.d) r (or_left (is_face (face_of r.a r.b r.d) (face_of r.a r.b r.d)) (is_face (face_of r.a r.b r.c) (face_of r.a r.b r.d)) (face_itself (face_of r.a r.b r.d) (face_of r.a r.b r.d) refl)));
-  across_3 = to_come (face_of r.a r.b r.c) (get_or xs i x).n3 (has_2 (face_of r.a r.b r.c) r (or_right (is_face (face_of r.a r.b r.d) (face_of r.a r.b r.c)) (is_face (face_of r.a r.b r.c) (face_of r.a r.b r.c)) (face_itself (face_of r.a r.b r.c) (face_of r.a r.b r.c) refl)));
+  across_0 = to_come (opposite_face r A) (get_or xs i x).n0 (has_opposite r A);
+  across_1 = to_come (opposite_face r B) (get_or xs i x).n1 (has_opposite r B);
+  across_2 = to_come (opposite_face r C) (get_or xs i x).n2 (has_opposite r C);
+  across_3 = to_come (opposite_face r D) (get_or xs i x).n3 (has_opposite r D);
 }
   where
     r : Tet
@@ -111,7 +113,8 @@ settled_first rows uses xs a i t x l = record {
         let u = at_place rows uses a i t f (record { face = f; row = i }) l h in
         inr (u.0, omega arith, u.1, λ d. get_or_default uses u.0 d (record { face = f; row = i }) u.1 ∙ u.2)
 
-by_corners : (x y : Across) → x.n0 ≡ y.n0 → x.n1 ≡ y.n1 → x.n2 ≡ y.n2 → x.n3 ≡ y.n3 → x ≡ y
+-- what is across the faces opposite the corners decides all
+pub by_corners : (x y : Across) → x.n0 ≡ y.n0 → x.n1 ≡ y.n1 → x.n2 ≡ y.n2 → x.n3 ≡ y.n3 → x ≡ y
 by_corners x y e0 e1 e2 e3 =
     let across : Option ℕ → Option ℕ → Option ℕ → Option ℕ → Across = λ a b c d. record { n0 = a; n1 = b; n2 = c; n3 = d } in
     ap (λ a. across a x.n1 x.n2 x.n3) e0 ∙ ap (λ b. across y.n0 b x.n2 x.n3) e1 ∙ ap (λ c. across y.n0 y.n1 c x.n3) e2 ∙ ap (λ d. across y.n0 y.n1 y.n2 d) e3

@@ -2,7 +2,7 @@
 ghost use Rattle.std.specs.Prelude.{◌≡◌, [], ◌∷◌, ◌++◌, ◌<◌, true, length, All, AllPairs, Contains};
 ghost use Rattle.std.specs.Prelude.{OnOk};
 ghost use Rattle.geo_laws.specs.Faces.{face_of};
-ghost use Rattle.incidence.specs.HalfFaces.{opposite_face, use_of, used, marks_of, IsByRow};
+ghost use Rattle.incidence.specs.HalfFaces.{opposite_face, point_at, use_of, used, marks_of, IsByRow};
 ghost use Rattle.incidence.specs.Pairs.{is_face, has_face};
 ghost use Rattle.incidence.specs.Uses.{AreFirstsMarked};
 ghost use Rattle.incidence.specs.declared.uses.Use.{Use};
@@ -42,9 +42,21 @@ pub(crate) fn opposite_face(row: Tet, corner: Corner) -> Face
     }
 }
 
+/// The point at a corner of a row.
+pub(crate) fn point_at(row: Tet, corner: Corner) -> u32
+    ensures { result ≡ point_at row corner }
+{
+    match corner {
+        Corner::A => row.a,
+        Corner::B => row.b,
+        Corner::C => row.c,
+        Corner::D => row.d,
+    }
+}
+
 /// For each corner whether this face of the row is the one opposite it. That is so where the face
 /// and the corner add up to the row.
-pub(crate) fn are_opposite(row: Tet, face: Face) -> [bool; 4]
+fn are_opposite(row: Tet, face: Face) -> [bool; 4]
     requires { has_face face row ≡ true }
     ensures { result ≡ is_face (face_of row.b row.c row.d) face ∷ is_face (face_of row.a row.c row.d) face
         ∷ is_face (face_of row.a row.b row.d) face ∷ is_face (face_of row.a row.b row.c) face ∷ [] }

@@ -1,12 +1,15 @@
 //! The tetrahedra on the other sides of faces.
-ghost use Rattle.std.specs.Prelude.{◌≡◌, [], ◌∷◌, ◌+◌, ◌-◌, ◌<◌, ◌^◌, true, length, map, IfOk, IfSome, HoldsAt};
+ghost use Rattle.std.specs.Prelude.{◌≡◌, ◌↔◌, [], ◌∷◌, ◌+◌, ◌-◌, ◌<◌, ◌^◌, length, map, All};
+ghost use Rattle.std.specs.Prelude.{IfOk, IfSome, IsTrue, HoldsAt};
 ghost use Rattle.geo_laws.specs.Faces.{face_of};
-ghost use Rattle.incidence.specs.Pairs.{pairs_of, placed, is_face, has_face, place_in, across_in, IsAcrossWithin, AreAllWithin};
+ghost use Rattle.incidence.specs.HalfFaces.{opposite_face, HasFourCorners};
+ghost use Rattle.incidence.specs.Links.{row_at};
+ghost use Rattle.incidence.specs.Pairs.{pairs_of, placed, is_face, place_in, across_in, IsAcrossWithin, AreAllWithin};
 ghost use Rattle.incidence.specs.Uses.{AreUsesOf};
 
-use crate::half_faces::are_opposite;
-use crate::uses::{Uses, partner_at, run_start, use_at, uses_of};
-use geo_laws::{Face, Tet, TetList};
+use crate::half_faces::{Corner, HalfFace, point_at};
+use crate::uses::{Uses, partner_at, run_start, uses_of};
+use geo_laws::{Tet, TetList};
 use std::alloc::Global;
 use std::marker::Model;
 use tet_ports::{Items, NoMemory};
@@ -156,23 +159,58 @@ fn put_partners(list: &TetList, uses: &Uses, places: &mut [Places])
     requires few { length list.now < 2 ^ 32 }
     ensures { map across_in places.new ≡ pairs_of list.now }
 {
+    let apart = have_four_corners(list);
     let mut first = 0;
     for at in 0..uses.len() {
         first = run_start(uses, first, at, list);
         let partner = partner_at(uses, first, at, list);
         let place = place_or_greatest(partner);
-        let here = use_at(uses, at, list);
-        let row = here.row as usize;
-        put_partner(list.at(row), here.face, place, &mut places[row]);
+        let half = uses.at(at);
+        put_partner(list, half, apart, place, &mut places[half.row as usize]);
     }
 }
 
-/// Puts in the partner across this face of a row.
-fn put_partner(row: Tet, face: Face, place: u32, places: &mut Places)
-    requires { has_face face row ≡ true }
-    ensures { across_in places.new ≡ placed row face (place_in place) (across_in places.old) }
+/// Whether no row has two corners at one point.
+fn have_four_corners(list: &TetList) -> bool
+    ensures { IsTrue result → All HasFourCorners list.now }
 {
-    let [a, b, c, d] = are_opposite(row, face);
+    list.as_slice().iter().all(|row| has_four_corners(*row))
+}
+
+/// Whether a row has no two corners at one point.
+fn has_four_corners(row: Tet) -> bool
+    ensures { IsTrue result ↔ HasFourCorners row }
+{
+    let Tet { a, b, c, d } = row;
+    (a != b) & (a != c) & (a != d) & (b != c) & (b != d) & (c != d)
+}
+
+/// Puts in the partner across a face of a row. Where the row has no two corners at one point, the
+/// face is opposite one corner alone.
+fn put_partner(list: &TetList, half: HalfFace, apart: bool, place: u32, places: &mut Places)
+    requires there { half.row < length list.now }
+    requires apart { IsTrue apart → HasFourCorners (row_at list.now half.row) }
+    ensures { let row = row_at list.now half.row in across_in places.new
+        ≡ placed row (opposite_face row half.opposite) (place_in place) (across_in places.old) }
+{
+    if !apart {
+        put_at_point(list.at(half.row as usize), half.opposite, place, places);
+        return;
+    }
+    match half.opposite {
+        Corner::A => places.n0 = place,
+        Corner::B => places.n1 = place,
+        Corner::C => places.n2 = place,
+        Corner::D => places.n3 = place,
+    }
+}
+
+/// Puts in the partner across the face opposite a corner of a row, at each corner at its point.
+fn put_at_point(row: Tet, opposite: Corner, place: u32, places: &mut Places)
+    ensures { across_in places.new
+        ≡ placed row (opposite_face row opposite) (place_in place) (across_in places.old) }
+{
+    let [a, b, c, d] = are_at_point(row, opposite);
     if a {
         places.n0 = place;
     }
@@ -185,4 +223,15 @@ fn put_partner(row: Tet, face: Face, place: u32, places: &mut Places)
     if d {
         places.n3 = place;
     }
+}
+
+/// For each corner whether it is at the point of this one. The faces opposite the two are one then.
+fn are_at_point(row: Tet, corner: Corner) -> [bool; 4]
+    ensures { let face = opposite_face row corner in result
+        ≡ is_face (face_of row.b row.c row.d) face ∷ is_face (face_of row.a row.c row.d) face
+        ∷ is_face (face_of row.a row.b row.d) face ∷ is_face (face_of row.a row.b row.c) face ∷ [] }
+{
+    let point = point_at(row, corner);
+    let Tet { a, b, c, d } = row;
+    [a == point, b == point, c == point, d == point]
 }
