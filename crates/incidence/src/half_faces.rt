@@ -1,6 +1,6 @@
 //! Faces of tetrahedra by the corners opposite them.
-ghost use Rattle.std.specs.Prelude.{◌≡◌, [], ◌∷◌, ◌++◌, ◌<◌, true, length, All, AllPairs, Contains};
-ghost use Rattle.std.specs.Prelude.{OnOk};
+ghost use Rattle.std.specs.Prelude.{◌≡◌, [], ◌∷◌, ◌++◌, ◌+◌, ◌<◌, true, length, All, AllPairs, Contains};
+ghost use Rattle.std.specs.Prelude.{OnOk, vec_len, vec_capacity};
 ghost use Rattle.geo_laws.specs.Faces.{face_of};
 ghost use Rattle.incidence.specs.HalfFaces.{opposite_face, point_at, use_of, used, marks_of, IsByRow};
 ghost use Rattle.incidence.specs.Pairs.{is_face, has_face};
@@ -106,24 +106,21 @@ pub(crate) fn use_of(list: &TetList, half: HalfFace) -> Use
     }
 }
 
-/// Appends a use, and marks whether it is the first one of its face.
-fn push_half(
-    halves: &mut Vec<HalfFace>,
-    list: &TetList,
-    new_use: Use,
-    first: bool,
-) -> Result<(), NoMemory>
-    requires { IsByRow list.now new_use }
-    ensures used { OnOk result (used list.now halves.new.items ≡ used list.now halves.old.items ++ new_use ∷ []) }
-    ensures marked { OnOk result (marks_of halves.new.items ≡ marks_of halves.old.items ++ first ∷ []) }
+/// Appends a use, for which there is room, and marks whether it is the first one of its face.
+pub(crate) fn push_half(halves: &mut Vec<HalfFace>, list: &TetList, new_use: Use, first: bool)
+    requires by_row { IsByRow list.now new_use }
+    requires room { vec_len halves.old < vec_capacity halves.old }
+    ensures used { used list.now halves.new.items ≡ used list.now halves.old.items ++ new_use ∷ [] }
+    ensures marked { marks_of halves.new.items ≡ marks_of halves.old.items ++ first ∷ [] }
+    ensures longer { vec_len halves.new ≡ vec_len halves.old + 1 }
+    ensures capacity { vec_capacity halves.new ≡ vec_capacity halves.old }
 {
     let Use { face, row } = new_use;
-    halves.push(HalfFace {
+    halves.push_reserved(HalfFace {
         row,
         opposite: corner_opposite(list.at(row as usize), face),
         first,
-    })?;
-    Ok(())
+    });
 }
 
 /// Appends uses of faces that are not used before, and marks the first one of each face.
@@ -139,9 +136,10 @@ pub(crate) fn push_halves(
     ensures used { OnOk result (used list.now halves.new.items ≡ used list.now halves.old.items ++ uses.now) }
     ensures marked { OnOk result (AreFirstsMarked (used list.now halves.new.items) (marks_of halves.new.items)) }
 {
+    halves.reserve(uses.len())?;
     for at in 0..uses.len() {
         let first = at == 0 || uses[at - 1].face != uses[at].face;
-        push_half(halves, list, uses[at], first)?;
+        push_half(halves, list, uses[at], first);
     }
     Ok(())
 }
