@@ -7,7 +7,7 @@ use Rattle.geo_laws.specs.declared.faces.Face.{Face}
 use Rattle.geo_laws.specs.declared.tetrahedra.Tet.{Tet}
 use Rattle.incidence.specs.declared.half_faces.Corner.{Corner}
 use Rattle.incidence.specs.declared.half_faces.Corner.TheVariants.{A, B, C, D}
-use Rattle.incidence.specs.HalfFaces.{opposite_face, point_at, HasFourCorners}
+use Rattle.incidence.specs.HalfFaces.{opposite_face, point_at, IsArranged}
 use Rattle.incidence.specs.Pairs.{is_face, has_face}
 use Rattle.incidence.proofs.Orders.{face_by_numbers}
 use Rattle.incidence.proofs.Partners.{face_same, face_itself, has_opposite}
@@ -123,6 +123,25 @@ opposite_same t B j = same_sum t.b (point_at t j) (total (opposite_face t j)) _ 
 opposite_same t C j = same_sum t.c (point_at t j) (total (opposite_face t j)) _ (adds t j) ∙ opposite_c (opposite_face t j) t (has_opposite t j)
 opposite_same t D j = same_sum t.d (point_at t j) (total (opposite_face t j)) _ (adds t j) ∙ opposite_d (opposite_face t j) t (has_opposite t j)
 
--- a face of a row with four corners is opposite one of them alone
-pub opposite_only : (t : Tet) (k j : Corner) → HasFourCorners t → ¬ (k ≡ j) → is_face (opposite_face t k) (opposite_face t j) ≡ false
-opposite_only t k j four apart = sym (opposite_same t k j) ∙ ne_eqb (point_at t k) (point_at t j) (λ e. apart (four k j e))
+-- no two corners of an arranged row are at one point
+apart : (t : Tet) (k j : Corner) → IsArranged t → point_at t k ≡ point_at t j → k ≡ j
+apart t A A h e = refl
+apart t A B h e = absurd (omega (arith, h, e))
+apart t A C h e = absurd (omega (arith, h, e))
+apart t A D h e = absurd (omega (arith, h, e))
+apart t B A h e = absurd (omega (arith, h, e))
+apart t B B h e = refl
+apart t B C h e = absurd (omega (arith, h, e))
+apart t B D h e = absurd (omega (arith, h, e))
+apart t C A h e = absurd (omega (arith, h, e))
+apart t C B h e = absurd (omega (arith, h, e))
+apart t C C h e = refl
+apart t C D h e = absurd (h.3 e)
+apart t D A h e = absurd (omega (arith, h, e))
+apart t D B h e = absurd (omega (arith, h, e))
+apart t D C h e = absurd (h.3 (sym e))
+apart t D D h e = refl
+
+-- so its faces are opposite one corner each
+pub opposite_only : (t : Tet) (k j : Corner) → IsArranged t → ¬ (k ≡ j) → is_face (opposite_face t k) (opposite_face t j) ≡ false
+opposite_only t k j h n = sym (opposite_same t k j) ∙ ne_eqb (point_at t k) (point_at t j) (λ e. n (apart t k j h e))

@@ -1,8 +1,8 @@
 //! Faces of tetrahedra by the corners opposite them.
 ghost use Rattle.std.specs.Prelude.{◌≡◌, [], ◌∷◌, ◌++◌, ◌+◌, ◌<◌, true, length, All, AllPairs, Contains};
-ghost use Rattle.std.specs.Prelude.{OnOk, vec_len, vec_capacity};
+ghost use Rattle.std.specs.Prelude.{◌↔◌, IsTrue, OnOk, vec_len, vec_capacity};
 ghost use Rattle.geo_laws.specs.Faces.{face_of};
-ghost use Rattle.incidence.specs.HalfFaces.{opposite_face, point_at, use_of, used, marks_of, IsByRow};
+ghost use Rattle.incidence.specs.HalfFaces.{opposite_face, point_at, use_of, used, marks_of, IsArranged, IsByRow};
 ghost use Rattle.incidence.specs.Pairs.{is_face, has_face};
 ghost use Rattle.incidence.specs.Uses.{AreFirstsMarked};
 ghost use Rattle.incidence.specs.declared.uses.Use.{Use};
@@ -77,11 +77,30 @@ fn are_opposite(row: Tet, face: Face) -> [bool; 4]
     ]
 }
 
+/// Whether the corners of each row ascend, but for the order of the last two.
+pub(crate) fn are_arranged(list: &TetList) -> bool
+    ensures { IsTrue result → All IsArranged list.now }
+{
+    list.as_slice().iter().all(|row| is_arranged(*row))
+}
+
+/// Whether the corners of a row ascend, but for the order of the last two.
+fn is_arranged(row: Tet) -> bool
+    ensures { IsTrue result ↔ IsArranged row }
+{
+    let Tet { a, b, c, d } = row;
+    (a < b) & (b < c) & (b < d) & (c != d)
+}
+
 /// The first corner that this face of the row is opposite.
-fn corner_opposite(row: Tet, face: Face) -> Corner
-    requires { has_face face row ≡ true }
+fn corner_opposite(row: Tet, face: Face, arranged: bool) -> Corner
+    requires face { has_face face row ≡ true }
+    requires arranged { IsTrue arranged → IsArranged row }
     ensures { opposite_face row result ≡ face }
 {
+    if arranged {
+        return corner_left_out(row, face);
+    }
     let [a, b, c, _] = are_opposite(row, face);
     if a {
         return Corner::A;
@@ -90,6 +109,24 @@ fn corner_opposite(row: Tet, face: Face) -> Corner
         return Corner::B;
     }
     if c {
+        return Corner::C;
+    }
+    Corner::D
+}
+
+/// The same where the corners ascend, but for the order of the last two.
+fn corner_left_out(row: Tet, face: Face) -> Corner
+    requires face { has_face face row ≡ true }
+    requires arranged { IsArranged row }
+    ensures { opposite_face row result ≡ face }
+{
+    if face.a != row.a {
+        return Corner::A;
+    }
+    if face.b != row.b {
+        return Corner::B;
+    }
+    if face.c != row.c {
         return Corner::C;
     }
     Corner::D
@@ -107,7 +144,14 @@ pub(crate) fn use_of(list: &TetList, half: HalfFace) -> Use
 }
 
 /// Appends a use, for which there is room, and marks whether it is the first one of its face.
-pub(crate) fn push_half(halves: &mut Vec<HalfFace>, list: &TetList, new_use: Use, first: bool)
+pub(crate) fn push_half(
+    halves: &mut Vec<HalfFace>,
+    list: &TetList,
+    arranged: bool,
+    new_use: Use,
+    first: bool,
+)
+    requires arranged { IsTrue arranged → All IsArranged list.now }
     requires by_row { IsByRow list.now new_use }
     requires room { vec_len halves.old < vec_capacity halves.old }
     ensures used { used list.now halves.new.items ≡ used list.now halves.old.items ++ new_use ∷ [] }
@@ -118,7 +162,7 @@ pub(crate) fn push_half(halves: &mut Vec<HalfFace>, list: &TetList, new_use: Use
     let Use { face, row } = new_use;
     halves.push_reserved(HalfFace {
         row,
-        opposite: corner_opposite(list.at(row as usize), face),
+        opposite: corner_opposite(list.at(row as usize), face, arranged),
         first,
     });
 }
@@ -139,7 +183,7 @@ pub(crate) fn push_halves(
     halves.reserve(uses.len())?;
     for at in 0..uses.len() {
         let first = at == 0 || uses[at - 1].face != uses[at].face;
-        push_half(halves, list, uses[at], first);
+        push_half(halves, list, false, uses[at], first);
     }
     Ok(())
 }

@@ -1,13 +1,13 @@
 //! The tetrahedra on the other sides of faces.
-ghost use Rattle.std.specs.Prelude.{◌≡◌, ◌↔◌, [], ◌∷◌, ◌+◌, ◌-◌, ◌<◌, ◌^◌, length, map, All};
+ghost use Rattle.std.specs.Prelude.{◌≡◌, [], ◌∷◌, ◌+◌, ◌-◌, ◌<◌, ◌^◌, length, map};
 ghost use Rattle.std.specs.Prelude.{IfOk, IfSome, IsTrue, HoldsAt};
 ghost use Rattle.geo_laws.specs.Faces.{face_of};
-ghost use Rattle.incidence.specs.HalfFaces.{opposite_face, HasFourCorners};
+ghost use Rattle.incidence.specs.HalfFaces.{opposite_face, IsArranged};
 ghost use Rattle.incidence.specs.Links.{row_at};
 ghost use Rattle.incidence.specs.Pairs.{pairs_of, placed, is_face, place_in, across_in, IsAcrossWithin, AreAllWithin};
 ghost use Rattle.incidence.specs.Uses.{AreUsesOf};
 
-use crate::half_faces::{Corner, HalfFace, point_at};
+use crate::half_faces::{Corner, HalfFace, are_arranged, point_at};
 use crate::uses::{Uses, partner_at, run_start, uses_of};
 use geo_laws::{Tet, TetList};
 use std::alloc::Global;
@@ -159,41 +159,26 @@ fn put_partners(list: &TetList, uses: &Uses, places: &mut [Places])
     requires few { length list.now < 2 ^ 32 }
     ensures { map across_in places.new ≡ pairs_of list.now }
 {
-    let apart = have_four_corners(list);
+    let arranged = are_arranged(list);
     let mut first = 0;
     for at in 0..uses.len() {
         first = run_start(uses, first, at, list);
         let partner = partner_at(uses, first, at, list);
         let place = place_or_greatest(partner);
         let half = uses.at(at);
-        put_partner(list, half, apart, place, &mut places[half.row as usize]);
+        put_partner(list, half, arranged, place, &mut places[half.row as usize]);
     }
 }
 
-/// Whether no row has two corners at one point.
-fn have_four_corners(list: &TetList) -> bool
-    ensures { IsTrue result → All HasFourCorners list.now }
-{
-    list.as_slice().iter().all(|row| has_four_corners(*row))
-}
-
-/// Whether a row has no two corners at one point.
-fn has_four_corners(row: Tet) -> bool
-    ensures { IsTrue result ↔ HasFourCorners row }
-{
-    let Tet { a, b, c, d } = row;
-    (a != b) & (a != c) & (a != d) & (b != c) & (b != d) & (c != d)
-}
-
-/// Puts in the partner across a face of a row. Where the row has no two corners at one point, the
-/// face is opposite one corner alone.
-fn put_partner(list: &TetList, half: HalfFace, apart: bool, place: u32, places: &mut Places)
+/// Puts in the partner across a face of a row. Where the row is arranged, so that no two corners
+/// are at one point, the face is opposite one corner alone.
+fn put_partner(list: &TetList, half: HalfFace, arranged: bool, place: u32, places: &mut Places)
     requires there { half.row < length list.now }
-    requires apart { IsTrue apart → HasFourCorners (row_at list.now half.row) }
+    requires arranged { IsTrue arranged → IsArranged (row_at list.now half.row) }
     ensures { let row = row_at list.now half.row in across_in places.new
         ≡ placed row (opposite_face row half.opposite) (place_in place) (across_in places.old) }
 {
-    if !apart {
+    if !arranged {
         put_at_point(list.at(half.row as usize), half.opposite, place, places);
         return;
     }

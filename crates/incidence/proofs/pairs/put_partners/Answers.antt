@@ -34,7 +34,7 @@ bounds-places-half c =
 pub put_partner-requires : goal.put_partner-requires
 put_partner-requires c =
     let there = by_row_of c.args.list.now c.args.uses.now c.loop-at.at c.at-half.result c.requires.uses (omega arith) c.at-half.ensures in
-    record { there = there; apart = λ h. c.have_four_corners-apart.ensures h c.at-half.result.row _ there }
+    record { there = there; arranged = λ h. c.are_arranged-arranged.ensures h c.at-half.result.row _ there }
 
 pub loop-at-preserved : goal.loop-at-preserved
 loop-at-preserved c =
