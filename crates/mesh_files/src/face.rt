@@ -31,6 +31,7 @@ fn numbers_of(rows: &FaceRows, first: u32) -> u32 {
 }
 
 /// Appends the line of the face at a place.
+#[inline(always)]
 pub(crate) fn append_face(
     out: &mut Lines,
     place: u64,

@@ -116,6 +116,7 @@ pub(crate) fn in_no_facet(face: Face, on_hull: bool) -> FaceRow
 }
 
 /// The face whose first use is at a place, with its marker, if it is asked for.
+#[inline(always)]
 pub(crate) fn row_at(
     list: &TetList,
     uses: &Uses,
