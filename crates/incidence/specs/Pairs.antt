@@ -1,5 +1,5 @@
 -- The rows on the other sides of faces.
-use Rattle.std.specs.Prelude.{ℕ, ◌<◌, ◌==◌, Bool, ◌&&◌, ◌||◌, not, cond, Option, Some, None, List, map, find, option_map, IfSome, All}
+use Rattle.std.specs.Prelude.{ℕ, ◌<◌, ◌==◌, Bool, ◌&&◌, ◌||◌, not, cond, Option, Some, None, List, slice_index, map, find, option_map, IfSome, All}
 use Rattle.std.specs.List.{enumerate_from}
 use Rattle.geo_laws.specs.Faces.{face_of}
 use Rattle.geo_laws.specs.declared.faces.Face.{Face}
@@ -56,4 +56,9 @@ abbrev pub place_in : ℕ → Option ℕ
 place_in k = cond (k == 4294967295) None (Some k)
 
 abbrev pub across_in : Places → Across
-across_in p = record { n0 = place_in p.n0; n1 = place_in p.n1; n2 = place_in p.n2; n3 = place_in p.n3 }
+across_in p = record {
+  n0 = place_in (slice_index p.rows 0);
+  n1 = place_in (slice_index p.rows 1);
+  n2 = place_in (slice_index p.rows 2);
+  n3 = place_in (slice_index p.rows 3);
+}

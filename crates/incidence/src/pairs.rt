@@ -2,7 +2,7 @@
 ghost use Rattle.std.specs.Prelude.{◌≡◌, [], ◌∷◌, ◌+◌, ◌-◌, ◌<◌, ◌^◌, length, map};
 ghost use Rattle.std.specs.Prelude.{IfOk, IfSome, IsTrue, HoldsAt};
 ghost use Rattle.geo_laws.specs.Faces.{face_of};
-ghost use Rattle.incidence.specs.HalfFaces.{opposite_face, IsArranged};
+ghost use Rattle.incidence.specs.HalfFaces.{opposite_face, corner_number, IsArranged};
 ghost use Rattle.incidence.specs.Links.{row_at};
 ghost use Rattle.incidence.specs.Pairs.{pairs_of, placed, is_face, place_in, across_in, IsAcrossWithin, AreAllWithin};
 ghost use Rattle.incidence.specs.Uses.{AreUsesOf};
@@ -24,13 +24,10 @@ pub struct Across {
     pub n3: Option<usize>,
 }
 
-/// The same in 32 bits each. Where there is no row stands the greatest number.
+/// The same in 32 bits each, corner by corner. Where there is no row stands the greatest number.
 #[derive(Clone, Copy)]
 struct Places {
-    n0: u32,
-    n1: u32,
-    n2: u32,
-    n3: u32,
+    rows: [u32; 4],
 }
 
 /// For each row of a list what is across its faces, in 16 bytes.
@@ -106,10 +103,7 @@ fn places_of(alloc: Global, list: &TetList, uses: &Uses) -> Result<Vec<Places>, 
         return Err(NoMemory);
     }
     let alone = Places {
-        n0: u32::MAX,
-        n1: u32::MAX,
-        n2: u32::MAX,
-        n3: u32::MAX,
+        rows: [u32::MAX; 4],
     };
     let mut places = Vec::new(alloc);
     places.resize(list.len(), alone)?;
@@ -123,10 +117,10 @@ fn across_in(places: Places) -> Across
     ensures within { IsAcrossWithin (2 ^ 32) result }
 {
     Across {
-        n0: place_in(places.n0),
-        n1: place_in(places.n1),
-        n2: place_in(places.n2),
-        n3: place_in(places.n3),
+        n0: place_in(places.rows[0]),
+        n1: place_in(places.rows[1]),
+        n2: place_in(places.rows[2]),
+        n3: place_in(places.rows[3]),
     }
 }
 
@@ -182,11 +176,19 @@ fn put_partner(list: &TetList, half: HalfFace, arranged: bool, place: u32, place
         put_at_point(list.at(half.row as usize), half.opposite, place, places);
         return;
     }
-    match half.opposite {
-        Corner::A => places.n0 = place,
-        Corner::B => places.n1 = place,
-        Corner::C => places.n2 = place,
-        Corner::D => places.n3 = place,
+    places.rows[number_of(half.opposite)] = place;
+}
+
+/// The place of a corner in its row, from 0.
+fn number_of(corner: Corner) -> usize
+    ensures number { result ≡ corner_number corner }
+    ensures small { result < 4 }
+{
+    match corner {
+        Corner::A => 0,
+        Corner::B => 1,
+        Corner::C => 2,
+        Corner::D => 3,
     }
 }
 
@@ -197,16 +199,16 @@ fn put_at_point(row: Tet, opposite: Corner, place: u32, places: &mut Places)
 {
     let [a, b, c, d] = are_at_point(row, opposite);
     if a {
-        places.n0 = place;
+        places.rows[0] = place;
     }
     if b {
-        places.n1 = place;
+        places.rows[1] = place;
     }
     if c {
-        places.n2 = place;
+        places.rows[2] = place;
     }
     if d {
-        places.n3 = place;
+        places.rows[3] = place;
     }
 }
 

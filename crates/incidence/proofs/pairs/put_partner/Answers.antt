@@ -1,9 +1,11 @@
-use Rattle.std.proofs.Common.{◌≡◌, ℕ, cond, Option, refl, sym, ap, ◌∙◌, rules}
+use Rattle.std.proofs.Common.{◌≡◌, ◌<◌, ℕ, cond, Option, List, length, get_or, set, refl, sym, ap, ◌∙◌, arith, rules}
+use Rattle.std.proofs.lemmas.Grind.{get_or-set_at}
+use Rattle.std.proofs.lemmas.List.{get_or-set_other}
 use Rattle.geo_laws.specs.declared.tetrahedra.Tet.{Tet}
 use Rattle.incidence.specs.declared.half_faces.Corner.{Corner}
 use Rattle.incidence.specs.declared.half_faces.Corner.TheVariants.{A, B, C, D}
 use Rattle.incidence.specs.declared.pairs.Across.{Across}
-use Rattle.incidence.specs.HalfFaces.{opposite_face, IsArranged}
+use Rattle.incidence.specs.HalfFaces.{opposite_face, corner_number, IsArranged}
 use Rattle.incidence.specs.Links.{row_at}
 use Rattle.incidence.specs.Pairs.{is_face, placed, place_in, across_in}
 use Rattle.incidence.proofs.Opposite.{opposite_only}
@@ -30,17 +32,22 @@ placed_only t B o x arranged = by_corners _ _ (there t A B o x.n0 arranged (λ e
 placed_only t C o x arranged = by_corners _ _ (there t A C o x.n0 arranged (λ e. cc)) (there t B C o x.n1 arranged (λ e. cc)) (here t C o x.n2) (there t D C o x.n3 arranged (λ e. cc))
 placed_only t D o x arranged = by_corners _ _ (there t A D o x.n0 arranged (λ e. cc)) (there t B D o x.n1 arranged (λ e. cc)) (there t C D o x.n2 arranged (λ e. cc)) (here t D o x.n3)
 
-placed_at : (t : Tet) (k j : Corner) (o : Option ℕ) (x : Across) → IsArranged t → k ≡ j → put_at j o x ≡ placed t (opposite_face t k) o x
-placed_at t k j o x arranged e = sym (placed_only t k o x arranged ∙ ap (λ i. put_at i o x) e)
+set_here : (xs : List ℕ) (k : ℕ) (v : ℕ) → k < length xs → place_in (get_or (set xs k v) k 0) ≡ place_in v
+set_here xs k v l = ap place_in (get_or-set_at xs k k v 0 refl l)
 
-pub returns-in-A : goal.returns-in-A
-returns-in-A c = placed_at (row_at c.args.list.now c.args.half.row) c.args.half.opposite A (place_in c.args.place) (across_in c.args.places.now) (c.requires.arranged (search rules)) c.in-A.is
+set_there : (xs : List ℕ) (k i : ℕ) (v : ℕ) → ¬ (i ≡ k) → place_in (get_or (set xs k v) i 0) ≡ place_in (get_or xs i 0)
+set_there xs k i v n = ap place_in (get_or-set_other xs k i v 0 n)
 
-pub returns-in-B : goal.returns-in-B
-returns-in-B c = placed_at (row_at c.args.list.now c.args.half.row) c.args.half.opposite B (place_in c.args.place) (across_in c.args.places.now) (c.requires.arranged (search rules)) c.in-B.is
+put_across : (xs : List ℕ) (k : Corner) (v : ℕ) → length xs ≡ 4 → across_in (record { rows = set xs (corner_number k) v }) ≡ put_at k (place_in v) (across_in (record { rows = xs }))
+put_across xs A v l = by_corners _ _ (set_here xs 0 v (omega (arith, l))) (set_there xs 0 1 v (λ e. omega (arith, e))) (set_there xs 0 2 v (λ e. omega (arith, e))) (set_there xs 0 3 v (λ e. omega (arith, e)))
+put_across xs B v l = by_corners _ _ (set_there xs 1 0 v (λ e. omega (arith, e))) (set_here xs 1 v (omega (arith, l))) (set_there xs 1 2 v (λ e. omega (arith, e))) (set_there xs 1 3 v (λ e. omega (arith, e)))
+put_across xs C v l = by_corners _ _ (set_there xs 2 0 v (λ e. omega (arith, e))) (set_there xs 2 1 v (λ e. omega (arith, e))) (set_here xs 2 v (omega (arith, l))) (set_there xs 2 3 v (λ e. omega (arith, e)))
+put_across xs D v l = by_corners _ _ (set_there xs 3 0 v (λ e. omega (arith, e))) (set_there xs 3 1 v (λ e. omega (arith, e))) (set_there xs 3 2 v (λ e. omega (arith, e))) (set_here xs 3 v (omega (arith, l)))
 
-pub returns-in-C : goal.returns-in-C
-returns-in-C c = placed_at (row_at c.args.list.now c.args.half.row) c.args.half.opposite C (place_in c.args.place) (across_in c.args.places.now) (c.requires.arranged (search rules)) c.in-C.is
-
-pub returns-in-D : goal.returns-in-D
-returns-in-D c = placed_at (row_at c.args.list.now c.args.half.row) c.args.half.opposite D (place_in c.args.place) (across_in c.args.places.now) (c.requires.arranged (search rules)) c.in-D.is
+pub returns : goal.returns
+returns c =
+    let xs = c.args.places.now.rows in
+    let long : length xs ≡ 4 = search rules in
+    let k = c.args.half.opposite in
+    ap (λ i. across_in (record { rows = set xs i c.args.place })) c.number_of.ensures.number ∙ put_across xs k c.args.place long
+    ∙ sym (placed_only (row_at c.args.list.now c.args.half.row) k (place_in c.args.place) (across_in c.args.places.now) (c.requires.arranged (search rules)))

@@ -1,4 +1,4 @@
-use Rattle.std.proofs.Common.{ℕ, ◌+◌, ◌<◌, Option, ap, map, length, get_or, sym, subst, ◌∙◌, arith}
+use Rattle.std.proofs.Common.{[], ℕ, ◌+◌, ◌<◌, Option, ap, map, length, get_or, sym, subst, ◌∙◌, arith}
 use Rattle.std.specs.Prelude.{IfSome}
 use Rattle.std.proofs.lemmas.List.{map-set, get_or-map, get_or_default, length-map}
 use Rattle.incidence.specs.HalfFaces.{use_of, used}
@@ -48,7 +48,7 @@ loop-at-preserved c =
     let places = c.loop-at.places in
     let new = c.put_partner.new.places in
     let its_partner = c.place_or_greatest-place.ensures ∙ c.partner_at-partner.ensures here ∙ ap (λ u. partner rows u.row u.face) (is here) in
-    let was = sym (get_or-map across_in places half.row (record { n0 = 0; n1 = 0; n2 = 0; n3 = 0 }) (across_in new) (omega (arith, there))) in
+    let was = sym (get_or-map across_in places half.row (record { rows = [] }) (across_in new) (omega (arith, there))) in
     record {
       settled = subst (λ xs. AllSettled rows uses (at + 1) xs) (sym (map-set across_in places half.row new))
           (settled_next rows uses at (map across_in places) here (row_at rows half.row) _ _ _ (length-map _ _ ∙ omega arith) there
