@@ -120,16 +120,15 @@ fn corner_left_out(row: Tet, face: Face) -> Corner
     requires arranged { IsArranged row }
     ensures { opposite_face row result ≡ face }
 {
-    if face.a != row.a {
-        return Corner::A;
+    let first = face.a == row.a;
+    let second = first & (face.b == row.b);
+    let third = second & (face.c == row.c);
+    match u8::from(first) + u8::from(second) + u8::from(third) {
+        0 => Corner::A,
+        1 => Corner::B,
+        2 => Corner::C,
+        _ => Corner::D,
     }
-    if face.b != row.b {
-        return Corner::B;
-    }
-    if face.c != row.c {
-        return Corner::C;
-    }
-    Corner::D
 }
 
 /// The use that a half-face is.
