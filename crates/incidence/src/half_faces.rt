@@ -114,7 +114,8 @@ fn corner_opposite(row: Tet, face: Face, arranged: bool) -> Corner
     Corner::D
 }
 
-/// The same where the corners ascend, but for the order of the last two.
+/// The same where the corners ascend, but for the order of the last two: so many points of the face
+/// and of the row agree, from the first ones on.
 fn corner_left_out(row: Tet, face: Face) -> Corner
     requires face { has_face face row ≡ true }
     requires arranged { IsArranged row }
