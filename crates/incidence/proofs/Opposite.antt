@@ -118,10 +118,14 @@ same_sum m n f s e = by (m == n) (m + f == s) refl refl
 
 -- two faces of a row are one where the corners opposite them are at one point
 pub opposite_same : (t : Tet) (k j : Corner) → (point_at t k == point_at t j) ≡ is_face (opposite_face t k) (opposite_face t j)
-opposite_same t A j = same_sum t.a (point_at t j) (total (opposite_face t j)) _ (adds t j) ∙ opposite_a (opposite_face t j) t (has_opposite t j)
-opposite_same t B j = same_sum t.b (point_at t j) (total (opposite_face t j)) _ (adds t j) ∙ opposite_b (opposite_face t j) t (has_opposite t j)
-opposite_same t C j = same_sum t.c (point_at t j) (total (opposite_face t j)) _ (adds t j) ∙ opposite_c (opposite_face t j) t (has_opposite t j)
-opposite_same t D j = same_sum t.d (point_at t j) (total (opposite_face t j)) _ (adds t j) ∙ opposite_d (opposite_face t j) t (has_opposite t j)
+opposite_same t A j = same_sum t.a (point_at t j) (total (opposite_face t j)) _ (adds t j)
+    ∙ opposite_a (opposite_face t j) t (has_opposite t j)
+opposite_same t B j = same_sum t.b (point_at t j) (total (opposite_face t j)) _ (adds t j)
+    ∙ opposite_b (opposite_face t j) t (has_opposite t j)
+opposite_same t C j = same_sum t.c (point_at t j) (total (opposite_face t j)) _ (adds t j)
+    ∙ opposite_c (opposite_face t j) t (has_opposite t j)
+opposite_same t D j = same_sum t.d (point_at t j) (total (opposite_face t j)) _ (adds t j)
+    ∙ opposite_d (opposite_face t j) t (has_opposite t j)
 
 -- no two corners of an arranged row are at one point
 apart : (t : Tet) (k j : Corner) → IsArranged t → point_at t k ≡ point_at t j → k ≡ j

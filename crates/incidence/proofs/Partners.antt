@@ -57,8 +57,12 @@ has_2 f t e =
 pub has_opposite : (t : Tet) (k : Corner) → has_face (opposite_face t k) t ≡ true
 has_opposite t A = has_0 (opposite_face t A) t (face_itself (opposite_face t A) (opposite_face t A) refl)
 has_opposite t B = has_1 (opposite_face t B) t (face_itself (opposite_face t B) (opposite_face t B) refl)
-has_opposite t C = has_2 (opposite_face t C) t (or_left (is_face (face_of t.a t.b t.d) (opposite_face t C)) (is_face (face_of t.a t.b t.c) (opposite_face t C)) (face_itself (opposite_face t C) (opposite_face t C) refl))
-has_opposite t D = has_2 (opposite_face t D) t (or_right (is_face (face_of t.a t.b t.d) (opposite_face t D)) (is_face (face_of t.a t.b t.c) (opposite_face t D)) (face_itself (opposite_face t D) (opposite_face t D) refl))
+has_opposite t C = has_2 (opposite_face t C) t
+    (or_left (is_face (face_of t.a t.b t.d) (opposite_face t C)) (is_face (face_of t.a t.b t.c) (opposite_face t C))
+    (face_itself (opposite_face t C) (opposite_face t C) refl))
+has_opposite t D = has_2 (opposite_face t D) t
+    (or_right (is_face (face_of t.a t.b t.d) (opposite_face t D)) (is_face (face_of t.a t.b t.c) (opposite_face t D))
+    (face_itself (opposite_face t D) (opposite_face t D) refl))
 
 -- a use in a list of four is one of the four
 pub of_four : (place : ℕ) (t : Tet) (u : Use) → Contains (row_uses place t) u → (u.row ≡ place) × (has_face u.face t ≡ true)

@@ -1,5 +1,6 @@
 -- The rows on the other sides of faces.
-use Rattle.std.specs.Prelude.{ℕ, ◌<◌, ◌==◌, Bool, ◌&&◌, ◌||◌, not, cond, Option, Some, None, List, slice_index, map, find, option_map, IfSome, All}
+use Rattle.std.specs.Prelude.{ℕ, ◌<◌, ◌==◌, Bool, ◌&&◌, ◌||◌, not, cond, Option, Some, None, List}
+use Rattle.std.specs.Prelude.{slice_index, map, find, option_map, IfSome, All}
 use Rattle.std.specs.List.{enumerate_from}
 use Rattle.geo_laws.specs.Faces.{face_of}
 use Rattle.geo_laws.specs.declared.faces.Face.{Face}

@@ -1,8 +1,9 @@
 //! Faces of tetrahedra by the corners opposite them.
-ghost use Rattle.std.specs.Prelude.{◌≡◌, [], ◌∷◌, ◌++◌, ◌+◌, ◌<◌, true, length, All, AllPairs, Contains};
-ghost use Rattle.std.specs.Prelude.{◌↔◌, IsTrue, OnOk, vec_len, vec_capacity};
+ghost use Rattle.std.specs.Prelude.{◌≡◌, ◌↔◌, [], ◌∷◌, ◌++◌, ◌+◌, ◌<◌, true, length, All};
+ghost use Rattle.std.specs.Prelude.{AllPairs, Contains, IsTrue, OnOk, vec_len, vec_capacity};
 ghost use Rattle.geo_laws.specs.Faces.{face_of};
-ghost use Rattle.incidence.specs.HalfFaces.{opposite_face, point_at, use_of, used, marks_of, IsArranged, IsByRow};
+ghost use Rattle.incidence.specs.HalfFaces.{opposite_face, point_at, use_of, used, marks_of};
+ghost use Rattle.incidence.specs.HalfFaces.{IsArranged, IsByRow};
 ghost use Rattle.incidence.specs.Pairs.{is_face, has_face};
 ghost use Rattle.incidence.specs.Uses.{AreFirstsMarked};
 ghost use Rattle.incidence.specs.declared.uses.Use.{Use};

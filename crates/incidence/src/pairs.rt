@@ -4,7 +4,8 @@ ghost use Rattle.std.specs.Prelude.{IfOk, IfSome, IsTrue, HoldsAt};
 ghost use Rattle.geo_laws.specs.Faces.{face_of};
 ghost use Rattle.incidence.specs.HalfFaces.{opposite_face, corner_number, IsArranged};
 ghost use Rattle.incidence.specs.Links.{row_at};
-ghost use Rattle.incidence.specs.Pairs.{pairs_of, placed, is_face, place_in, across_in, IsAcrossWithin, AreAllWithin};
+ghost use Rattle.incidence.specs.Pairs.{pairs_of, placed, is_face, place_in, across_in};
+ghost use Rattle.incidence.specs.Pairs.{IsAcrossWithin, AreAllWithin};
 ghost use Rattle.incidence.specs.Uses.{AreUsesOf};
 
 use crate::half_faces::{Corner, HalfFace, are_arranged, point_at};

@@ -32,8 +32,10 @@ loop-at-preserved c =
       | else-at-eq0 w ↦ (omega (arith, w.if-at-eq0.false), λ d. agree uses (at - 1) at m _ _ d no_use (omega arith) (omega arith) (w.first-is ∙ w.ne-first.ensures) f)
     ] in
     record {
-      pushed = pushed_next rows (used rows c.args.halves.now.items) uses at c.loop-at.halves.items c.push_half.new.halves.items m u (omega arith)
+      pushed = pushed_next rows (used rows c.args.halves.now.items) uses at c.loop-at.halves.items c.push_half.new.halves.items m u
+          (omega arith)
           (λ d. get_or_default uses at d no_use (omega arith)) c.requires.apart
-          (put_same uses (used rows c.loop-at.halves.items) _ at _ no_use (omega arith) c.push_half.ensures.used) c.push_half.ensures.marked start follow c.loop-at.invariant.pushed;
+          (put_same uses (used rows c.loop-at.halves.items) _ at _ no_use
+          (omega arith) c.push_half.ensures.used) c.push_half.ensures.marked start follow c.loop-at.invariant.pushed;
       room = omega (arith, c.push_half.ensures.longer, c.push_half.ensures.capacity);
     }

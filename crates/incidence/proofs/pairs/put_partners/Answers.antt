@@ -47,7 +47,8 @@ loop-at-preserved c =
     let is = used_at rows c.args.uses.now at half (omega arith) c.at-half.ensures in
     let places = c.loop-at.places in
     let new = c.put_partner.new.places in
-    let its_partner = c.place_or_greatest-place.ensures ∙ c.partner_at-partner.ensures here ∙ ap (λ u. partner rows u.row u.face) (is here) in
+    let its_partner = c.place_or_greatest-place.ensures ∙ c.partner_at-partner.ensures here
+    ∙ ap (λ u. partner rows u.row u.face) (is here) in
     let was = sym (get_or-map across_in places half.row (record { rows = [] }) (across_in new) (omega (arith, there))) in
     record {
       settled = subst (λ xs. AllSettled rows uses (at + 1) xs) (sym (map-set across_in places half.row new))
