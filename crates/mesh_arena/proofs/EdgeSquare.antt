@@ -11,7 +11,7 @@ use Rattle.mesh_arena.specs.declared.edge.Edge.{Edge}
 use Rattle.mesh_arena.specs.declared.edge.End.{End}
 use Rattle.mesh_arena.specs.declared.edge.Ends.{Ends}
 use Rattle.mesh_arena.specs.declared.square.MetFace.{MetFace}
-use Rattle.mesh_arena.specs.Edges.{edge_of, place_of, SquareValue, face_of, faces_in, IsSquare, IsInSquare, IsEnd, KeepsRows, IsNone, AddsNone, AddsOnly}
+use Rattle.mesh_arena.specs.Edges.{edge_of, place_of, SquareValue, face_of, faces_in, IsSquare, IsInSquare, IsEnd, KeepsRows, MeetsNone, AddsNone, AddsOnly}
 
 abbrev face_at : MetFace → SlotFace
 face_at m = record { slot = m.slot; face = m.face }
@@ -56,8 +56,8 @@ others-IsSquare met round square k d lt same =
     omega (arith, square.between (k / 64) (k % 64) _ (omega arith) there)
 
 -- without rows no edge was met
-pub IsNone-square : (square : SquareValue) → square.rows ≡ [] → IsNone (IsInSquare square)
-IsNone-square square empty e s is_in =
+pub MeetsNone-square : (square : SquareValue) → square.rows ≡ [] → MeetsNone (IsInSquare square)
+MeetsNone-square square empty e s is_in =
     let lt = slice_get_within square.rows is_in.row is_in.first is_in.is_first in
     omega (arith, lt, ap length empty)
 

@@ -7,7 +7,7 @@ use Rattle.std.specs.List.{All}
 use Rattle.mesh_arena.specs.declared.arena.SlotFace.{SlotFace}
 use Rattle.mesh_arena.specs.declared.edge.Edge.{Edge}
 use Rattle.mesh_arena.specs.declared.hashed.Met.{Met}
-use Rattle.mesh_arena.specs.Edges.{Meetings, meeting_of, meetings_in, IsHashed, IsNone, AddsOnly}
+use Rattle.mesh_arena.specs.Edges.{Meetings, meeting_of, meetings_in, IsHashed, MeetsNone, AddsOnly}
 
 abbrev edge_in : Met → Edge
 edge_in m = record { low = m.low; high = m.high }
@@ -39,14 +39,14 @@ IsHashed-read met round place m lt is same =
     record { place = place; is = read met round place m lt ∙ ap (meeting_of round) (sym is) ∙ now round m same }
 
 -- no place is of this round
-pub IsNone-others : (met : List Met) (round : ℕ) → All (λ m. m.round ≢ round) met → IsNone (IsHashed (meetings_in met round))
-IsNone-others met round others e s is_met =
+pub MeetsNone-others : (met : List Met) (round : ℕ) → All (λ m. m.round ≢ round) met → MeetsNone (IsHashed (meetings_in met round))
+MeetsNone-others met round others e s is_met =
     let none : Met = record { low = e.low; high = e.high; slot = s.slot; round = 0; face = s.face } in
     let lt = within met round e s is_met in
     none-some (e, s) (sym (not_now round _ (others is_met.place none lt)) ∙ sym (read met round is_met.place none lt) ∙ is_met.is)
 
-pub others-IsNone : (met : List Met) (round : ℕ) → IsNone (IsHashed (meetings_in met round)) → All (λ m. m.round ≢ round) met
-others-IsNone met round unmet k d lt same =
+pub others-MeetsNone : (met : List Met) (round : ℕ) → MeetsNone (IsHashed (meetings_in met round)) → All (λ m. m.round ≢ round) met
+others-MeetsNone met round unmet k d lt same =
     unmet (edge_in (get_or met k d)) (face_in (get_or met k d)) (record { place = k; is = read met round k d lt ∙ now round (get_or met k d) same })
 
 -- one place is written

@@ -13,3 +13,4 @@ pub mod EdgeEnds
 pub mod EdgesByHash
 pub mod EdgeSquare
 pub mod StarEdges
+pub mod OpenFaces

@@ -110,8 +110,8 @@ abbrev pub IsMet : Table → Edge → SlotFace → Type 0
 IsMet table edge face = IsInSquare table.square edge face ⊎ IsHashed table.hashed edge face
 
 -- no edge was met
-abbrev pub IsNone : (Edge → SlotFace → Type 0) → Type 0
-IsNone met = (e : Edge) (s : SlotFace) → met e s → ⊥
+abbrev pub MeetsNone : (Edge → SlotFace → Type 0) → Type 0
+MeetsNone met = (e : Edge) (s : SlotFace) → met e s → ⊥
 
 -- no edge was met besides
 abbrev pub AddsNone : (Edge → SlotFace → Type 0) → (Edge → SlotFace → Type 0) → Type 0

@@ -1,11 +1,11 @@
 -- How the slots of a star are linked with one another.
-use Rattle.std.specs.Prelude.{◌≡◌, ◌≢◌, ℕ, ◌<◌, List, length, Option, Some, None, IsSome, slice_index_or}
+use Rattle.std.specs.Prelude.{◌≡◌, ◌≢◌, ℕ, ◌+◌, ◌<◌, List, length, sum_by, Option, Some, None, IsSome, slice_index_or}
 use Rattle.mesh_arena.specs.declared.slot.Corner.{Corner}
 use Rattle.mesh_arena.specs.declared.slot.Corner.TheVariants.{Ghost}
 use Rattle.mesh_arena.specs.declared.arena.SlotFace.{SlotFace}
 use Rattle.mesh_arena.specs.declared.slot.RimFace.{RimFace}
 use Rattle.mesh_arena.specs.Mesh.{SlotValue, corners_at, corner, side, OnFace, SameFace}
-use Rattle.mesh_arena.specs.Star.{rim_at, face_side, behind_rim}
+use Rattle.mesh_arena.specs.Star.{behind, rim_at, face_side, behind_rim}
 use Rattle.mesh_arena.specs.declared.edge.Edge.{Edge}
 use Rattle.mesh_arena.specs.Edges.{edge_between, Table, IsMet}
 
@@ -84,6 +84,22 @@ pub record LinksStar (old new : List (Option SlotValue)) (rim : List RimFace) (p
   pub star : IsStar new rim p
   pub sides : (u m : ℕ) → ((q : ℕ) → q < length rim → (behind_rim old rim q).slot ≢ u) → side new u m ≡ side old u m
   pub linked : (q m : ℕ) → q < n → m < 4 → IsSome (side new (behind_rim old rim q).slot m)
+
+-- 1 where nothing stands behind a face
+abbrev pub open_side : Option SlotFace → ℕ
+open_side None = 1
+open_side (Some b) = 0
+
+-- how many faces of a slot have no neighbor
+abbrev pub open_at : List (Option SlotValue) → ℕ → ℕ
+open_at slots u = open_side (side slots u 0) + open_side (side slots u 1) + open_side (side slots u 2) + open_side (side slots u 3)
+
+abbrev pub open_behind : List (Option SlotValue) → RimFace → ℕ
+open_behind slots f = open_at slots (behind (face_side slots f)).slot
+
+-- how many faces of the slots behind a rim have no neighbor
+abbrev pub open_faces : List (Option SlotValue) → List RimFace → ℕ
+open_faces slots rim = sum_by (open_behind slots) rim
 
 -- the face is of a slot of the star, and has the point and the ends of the edge
 pub record IsOverEdge (slots : List (Option SlotValue)) (rim : List RimFace) (p : Corner) (edge : Edge) (face : SlotFace) : Type 0 where

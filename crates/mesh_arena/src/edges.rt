@@ -1,6 +1,6 @@
 //! A table of the edges of a star, by which the two faces over an edge find one another.
 ghost use Rattle.std.specs.Prelude.{◌≡◌, IfSome};
-ghost use Rattle.mesh_arena.specs.Edges.{edge_of, IsMet, IsEnd, KeepsRows, IsNone, AddsNone, AddsOnly};
+ghost use Rattle.mesh_arena.specs.Edges.{edge_of, IsMet, IsEnd, KeepsRows, MeetsNone, AddsNone, AddsOnly};
 
 use crate::arena::SlotFace;
 use crate::edge::{End, Ends};
@@ -39,7 +39,7 @@ impl EdgeTable {
 
     /// Begins a round for the edges of a rim of this many faces, in a mesh of this many slots.
     pub(crate) fn start(&mut self, faces: usize, slots: usize)
-        ensures { IsNone (IsMet self.new) }
+        ensures { MeetsNone (IsMet self.new) }
     {
         self.has_rows = corners_of(faces) <= ROWS;
         self.square.start(slots);

@@ -1,6 +1,6 @@
 //! A table of edges by their hashes.
 ghost use Rattle.std.specs.Prelude.{◌≡◌, IfSome};
-ghost use Rattle.mesh_arena.specs.Edges.{IsHashed, IsNone, AddsOnly};
+ghost use Rattle.mesh_arena.specs.Edges.{IsHashed, MeetsNone, AddsOnly};
 
 use crate::arena::SlotFace;
 use crate::edge::Edge;
@@ -61,7 +61,7 @@ impl HashedEdges {
 
     // Leaves all that was met to an earlier round.
     fn next_round(&mut self)
-        ensures { IsNone (IsHashed self.new) }
+        ensures { MeetsNone (IsHashed self.new) }
     {
         if self.round == u16::MAX {
             self.met.clear();
@@ -73,8 +73,8 @@ impl HashedEdges {
 
     // Makes the table this long, if it is shorter and there is memory.
     fn grow(&mut self, len: usize)
-        requires { IsNone (IsHashed self.old) }
-        ensures { IsNone (IsHashed self.new) }
+        requires { MeetsNone (IsHashed self.old) }
+        ensures { MeetsNone (IsHashed self.new) }
     {
         if self.met.len() < len {
             let never = Met {
@@ -91,7 +91,7 @@ impl HashedEdges {
     /// Begins a round for so many edges or fewer. Where there is no memory for them the table stays
     /// as large as it is.
     pub(crate) fn start(&mut self, edges: usize)
-        ensures { IsNone (IsHashed self.new) }
+        ensures { MeetsNone (IsHashed self.new) }
     {
         self.next_round();
         if let Some(len) = edges.saturating_mul(2).checked_next_power_of_two() {

@@ -1,6 +1,6 @@
 //! A square table of the edges between few corners.
 ghost use Rattle.std.specs.Prelude.{◌≡◌, ◌<◌, [], length, IfSome};
-ghost use Rattle.mesh_arena.specs.Edges.{edge_of, place_of, IsInSquare, IsEnd, KeepsRows, IsNone};
+ghost use Rattle.mesh_arena.specs.Edges.{edge_of, place_of, IsInSquare, IsEnd, KeepsRows, MeetsNone};
 ghost use Rattle.mesh_arena.specs.Edges.{AddsNone, AddsOnly};
 
 use crate::arena::SlotFace;
@@ -93,7 +93,7 @@ impl Square {
 
     /// Begins a round, in a mesh of this many slots. Where there is no memory no edge has a place.
     pub(crate) fn start(&mut self, slots: usize)
-        ensures { IsNone (IsInSquare self.new) }
+        ensures { MeetsNone (IsInSquare self.new) }
     {
         self.next_round(slots);
         self.grow();

@@ -1,6 +1,6 @@
 //! Surgery: the star of a new point takes the place of its cavity.
-ghost use Rattle.std.specs.Prelude.{◌≡◌, ◌≢◌, ℕ, ◌+◌, ◌<◌, ◌≤◌, ◌↔◌, length, Some, None, IsSome};
-ghost use Rattle.std.specs.Prelude.{IsOk, IfOk, IfSome, OnErr, MatchOption, IsTrue};
+ghost use Rattle.std.specs.Prelude.{◌≡◌, ◌≢◌, ℕ, ◌+◌, ◌*◌, ◌<◌, ◌≤◌, ◌↔◌, length, Some, None, IsSome};
+ghost use Rattle.std.specs.Prelude.{IsOk, IfOk, IfSome, OnErr, MatchOption, IsTrue, if◌then◌else◌};
 ghost use Rattle.mesh_arena.specs.Cells.{cell_corners, IsBare};
 ghost use Rattle.mesh_arena.specs.Mesh.{IsLive, side, SameFace, IsMesh, AllDiffer};
 ghost use Rattle.mesh_arena.specs.Star.{behind_rim};
@@ -8,7 +8,7 @@ ghost use Rattle.mesh_arena.specs.Surgery.{FitsFace, AddsOver, CanAdd, AddsStar,
 ghost use Rattle.mesh_arena.specs.Surgery.{AreOverRim};
 ghost use Rattle.mesh_arena.specs.Replace.{IsCavity, IsRim, IsOffRim, Replaces};
 ghost use Rattle.mesh_arena.specs.StarLinks.{IsStar, ArePaired, Mate, LinksFace, LinksStar};
-ghost use Rattle.mesh_arena.specs.StarLinks.{IsOverEdge, AreOverEdges};
+ghost use Rattle.mesh_arena.specs.StarLinks.{IsOverEdge, AreOverEdges, open_faces};
 ghost use Rattle.mesh_arena.specs.Edges.{edge_of, IsEnd};
 
 use crate::arena::{Arena, SlotFace};
@@ -143,12 +143,22 @@ impl Arena {
         }
     }
 
-    // Links two faces of the star over the same edge, if they have no neighbor yet.
-    fn link_mates(&mut self, rim: &[RimFace], point: u32, edge: Edge, one: SlotFace, two: SlotFace)
+    // Links two faces of the star over the same edge, if they have no neighbor yet. Whether they
+    // had none.
+    fn link_mates(
+        &mut self,
+        rim: &[RimFace],
+        point: u32,
+        edge: Edge,
+        one: SlotFace,
+        two: SlotFace,
+    ) -> bool
         requires star { IsStar self.old.slots rim.now (Corner.Point point) }
         requires first { IsOverEdge self.old.slots rim.now (Corner.Point point) edge one }
         requires second { IsOverEdge self.old.slots rim.now (Corner.Point point) edge two }
-        ensures { LinksStar self.old.slots self.new.slots rim.now (Corner.Point point) 0 }
+        ensures links { LinksStar self.old.slots self.new.slots rim.now (Corner.Point point) 0 }
+        ensures left { open_faces self.new.slots rim.now + (if result then 2 else 0)
+            ≡ open_faces self.old.slots rim.now }
     {
         let _ = &self.cells;
         let s = Slot { index: one.slot };
@@ -158,10 +168,12 @@ impl Arena {
             && self.side(two.slot, two.face).is_none()
         {
             self.link(s, one.face, t, two.face);
+            return true;
         }
+        false
     }
 
-    // Links a face of the star with the one that was met at the same edge.
+    // Links a face of the star with the one that was met at the same edge. Whether it did.
     #[inline(always)]
     fn link_at_edge(
         &mut self,
@@ -170,7 +182,7 @@ impl Arena {
         ends: Ends,
         face: SlotFace,
         table: &mut EdgeTable,
-    )
+    ) -> bool
         requires star { IsStar self.old.slots rim.now (Corner.Point point) }
         requires one { IsEnd table.old.square.rows ends.one }
         requires other { IsEnd table.old.square.rows ends.other }
@@ -180,13 +192,17 @@ impl Arena {
         ensures links { LinksStar self.old.slots self.new.slots rim.now (Corner.Point point) 0 }
         ensures met { AreOverEdges self.new.slots rim.now (Corner.Point point) table.new }
         ensures rows { table.new.square.rows ≡ table.old.square.rows }
+        ensures left { open_faces self.new.slots rim.now + (if result then 2 else 0)
+            ≡ open_faces self.old.slots rim.now }
     {
-        if let Some(other) = table.meet(ends, face) {
-            self.link_mates(rim, point, ends.edge(), face, other);
+        match table.meet(ends, face) {
+            Some(other) => self.link_mates(rim, point, ends.edge(), face, other),
+            None => false,
         }
     }
 
-    // Links the faces of a slot of the star that find one another by their edges on the rim.
+    // Links the faces of a slot of the star that find one another by their edges on the rim. How
+    // many links that were.
     fn link_slot(
         &mut self,
         rim: &[RimFace],
@@ -194,13 +210,15 @@ impl Arena {
         r: usize,
         one: &StarSlot,
         table: &mut EdgeTable,
-    )
+    ) -> usize
         requires star { IsStar self.old.slots rim.now (Corner.Point point) }
         requires inside { r < length rim.now }
         requires over { StandsOver self.old.slots rim.now r one.now }
         requires met { AreOverEdges self.old.slots rim.now (Corner.Point point) table.old }
         ensures links { LinksStar self.old.slots self.new.slots rim.now (Corner.Point point) 0 }
         ensures met { AreOverEdges self.new.slots rim.now (Corner.Point point) table.new }
+        ensures left { open_faces self.new.slots rim.now + 2 * result
+            ≡ open_faces self.old.slots rim.now }
     {
         let _ = &self.cells;
         let (i, j, k) = other_places(one.face);
@@ -209,26 +227,38 @@ impl Arena {
         let z = table.end(one.cell.number(k));
         let slot = one.slot;
         let yz = Ends { one: y, other: z };
-        self.link_at_edge(rim, point, yz, SlotFace { slot, face: i }, table);
+        let over_yz = self.link_at_edge(rim, point, yz, SlotFace { slot, face: i }, table);
         let xz = Ends { one: x, other: z };
-        self.link_at_edge(rim, point, xz, SlotFace { slot, face: j }, table);
+        let over_xz = self.link_at_edge(rim, point, xz, SlotFace { slot, face: j }, table);
         let xy = Ends { one: x, other: y };
-        self.link_at_edge(rim, point, xy, SlotFace { slot, face: k }, table);
+        let over_xy = self.link_at_edge(rim, point, xy, SlotFace { slot, face: k }, table);
+        usize::from(over_yz) + usize::from(over_xz) + usize::from(over_xy)
     }
 
     // Links the faces of the star that find one another by their edges on the rim, in time linear
-    // in the rim.
+    // in the rim. How many links that were, or fewer.
     #[inline(never)]
-    fn link_edges(&mut self, rim: &[RimFace], point: u32, star: &[StarSlot], table: &mut EdgeTable)
+    fn link_edges(
+        &mut self,
+        rim: &[RimFace],
+        point: u32,
+        star: &[StarSlot],
+        table: &mut EdgeTable,
+    ) -> usize
         requires star { IsStar self.old.slots rim.now (Corner.Point point) }
         requires over { AreOverRim self.old.slots rim.now star.now }
         requires len { length star.now ≡ length rim.now }
-        ensures { LinksStar self.old.slots self.new.slots rim.now (Corner.Point point) 0 }
+        ensures links { LinksStar self.old.slots self.new.slots rim.now (Corner.Point point) 0 }
+        ensures left { open_faces self.new.slots rim.now + 2 * result
+            ≤ open_faces self.old.slots rim.now }
     {
         table.start(rim.len(), self.cells.len());
+        let mut links: usize = 0;
         for r in 0..rim.len() {
-            self.link_slot(rim, point, r, &star[r], table);
+            let more = self.link_slot(rim, point, r, &star[r], table);
+            links = links.saturating_add(more);
         }
+        links
     }
 
     // Whether each face has a neighbor.
@@ -267,10 +297,13 @@ impl Arena {
         ensures links_star { LinksStar self.old.slots self.new.slots rim.now (Corner.Point point)
             (length rim.now) }
     {
+        let _ = &self.cells;
         let mut table = self.lend_edges();
-        self.link_edges(rim, point, star, &mut table);
+        let links = self.link_edges(rim, point, star, &mut table);
         self.keep_edges(table);
-        self.link_rest(rim, point, star);
+        if !are_all(links, rim.len()) {
+            self.link_rest(rim, point, star);
+        }
     }
 
     /// Puts the star of a point in the place of a cavity (Bowyer 1981, Watson 1981): for each face
@@ -311,4 +344,11 @@ impl Arena {
         let one = self.over(faces[0]);
         Ok(Slot { index: one.slot })
     }
+}
+
+// Whether so many links are those of all slots over so many faces: three halves of a link for each.
+fn are_all(links: usize, faces: usize) -> bool
+    ensures { IsTrue result → faces * 3 ≤ links * 2 }
+{
+    links >= faces && links - faces >= faces - faces / 2
 }

@@ -5,10 +5,10 @@ use Rattle.mesh_arena.proofs.StarEdges.{StandsOver-along}
 use Rattle.mesh_arena.proofs.arena.Arena.link_edges.Goals as goal
 
 pub loop-r-init : goal.loop-r-init
-loop-r-init c = record { links = LinksStar-none _ _ (Point c.args.point) c.requires.star; met = λ e s met. absurd (c.start.ensures e s met) }
+loop-r-init c = record { links = LinksStar-none _ _ (Point c.args.point) c.requires.star; met = λ e s met. absurd (c.start.ensures e s met); left = omega arith }
 
-pub link_slot-requires-clause-over : goal.link_slot-requires-clause-over
-link_slot-requires-clause-over c =
+pub link_slot-more-requires-clause-over : goal.link_slot-more-requires-clause-over
+link_slot-more-requires-clause-over c =
     let first = c.args.self.now.slots in
     let rim = c.args.rim.now in
     let r = c.loop-r.r in
@@ -17,6 +17,7 @@ link_slot-requires-clause-over c =
 pub loop-r-preserved : goal.loop-r-preserved
 loop-r-preserved c =
     record {
-      links = LinksStar-then c.args.self.now.slots _ _ c.args.rim.now (Point c.args.point) 0 0 c.requires.star (omega arith) c.loop-r.invariant.links c.link_slot.ensures.links;
-      met = c.link_slot.ensures.met;
+      links = LinksStar-then c.args.self.now.slots _ _ c.args.rim.now (Point c.args.point) 0 0 c.requires.star (omega arith) c.loop-r.invariant.links c.link_slot-more.ensures.links;
+      met = c.link_slot-more.ensures.met;
+      left = omega (arith, c.loop-r.invariant.left, c.link_slot-more.ensures.left, c.saturating_add-links.ensures);
     }

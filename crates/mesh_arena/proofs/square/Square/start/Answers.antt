@@ -1,5 +1,5 @@
-use Rattle.mesh_arena.proofs.EdgeSquare.{IsNone-square}
+use Rattle.mesh_arena.proofs.EdgeSquare.{MeetsNone-square}
 use Rattle.mesh_arena.proofs.square.Square.start.Goals as goal
 
 pub returns : goal.returns
-returns c = IsNone-square _ c.grow.ensures
+returns c = MeetsNone-square _ c.grow.ensures
