@@ -1,5 +1,6 @@
 -- The edges of a star, and what a table of them has met. No public clause cites this module.
-use Rattle.std.specs.Prelude.{◌≡◌, ℕ, ◌+◌, ◌*◌, min, max, ◌<◌, ◌≤◌, ◌⊎◌, ◌==◌, if◌then◌else◌, List, length, map, All, Option, Some, None, slice_get, slice_index_or}
+use Rattle.std.specs.Prelude.{◌≡◌, ℕ, ◌+◌, ◌*◌, min, max, ◌<◌, ◌≤◌, ◌⊎◌, ◌==◌, if◌then◌else◌, List, length, map, All, Option, Some}
+use Rattle.std.specs.Prelude.{None, slice_get, slice_index_or}
 use Rattle.mesh_arena.specs.declared.slot.Corner.{Corner}
 use Rattle.mesh_arena.specs.declared.slot.Corner.TheVariants.{Point, Ghost}
 use Rattle.mesh_arena.specs.declared.arena.SlotFace.{SlotFace}
@@ -86,7 +87,8 @@ Meetings = List (Option (Edge × SlotFace))
 
 -- what a place has, if it is of this round
 abbrev pub meeting_of : ℕ → Met → Option (Edge × SlotFace)
-meeting_of round m = if m.round == round then Some (record { low = m.low; high = m.high }, record { slot = m.slot; face = m.face }) else None
+meeting_of round m =
+    if m.round == round then Some (record { low = m.low; high = m.high }, record { slot = m.slot; face = m.face }) else None
 
 abbrev pub meetings_in : List Met → ℕ → Meetings
 meetings_in met round = map (meeting_of round) met

@@ -1,6 +1,7 @@
 //! A table of the edges of a star, by which the two faces over an edge find one another.
 ghost use Rattle.std.specs.Prelude.{◌≡◌, IfSome};
-ghost use Rattle.mesh_arena.specs.Edges.{edge_of, IsMet, IsEnd, KeepsRows, MeetsNone, AddsNone, AddsOnly};
+ghost use Rattle.mesh_arena.specs.Edges.{edge_of, IsMet, IsEnd, KeepsRows, MeetsNone};
+ghost use Rattle.mesh_arena.specs.Edges.{AddsNone, AddsOnly};
 
 use crate::arena::SlotFace;
 use crate::edge::{End, Ends};

@@ -114,7 +114,8 @@ impl HashedEdges {
 
     // The same for the edge between these numbers.
     fn meet_between(&mut self, low: u32, high: u32, face: SlotFace) -> Option<SlotFace>
-        ensures found { IfSome result (λ s. IsHashed self.old (record { low = low; high = high }) s) }
+        ensures found { IfSome result
+            (λ s. IsHashed self.old (record { low = low; high = high }) s) }
         ensures only { AddsOnly (IsHashed self.old) (IsHashed self.new)
             (record { low = low; high = high }) face }
     {

@@ -1,7 +1,7 @@
 //! A square table of the edges between few corners.
 ghost use Rattle.std.specs.Prelude.{◌≡◌, ◌<◌, [], length, IfSome};
-ghost use Rattle.mesh_arena.specs.Edges.{edge_of, place_of, IsInSquare, IsEnd, KeepsRows, MeetsNone};
-ghost use Rattle.mesh_arena.specs.Edges.{AddsNone, AddsOnly};
+ghost use Rattle.mesh_arena.specs.Edges.{edge_of, place_of, IsInSquare, IsEnd, KeepsRows};
+ghost use Rattle.mesh_arena.specs.Edges.{MeetsNone, AddsNone, AddsOnly};
 
 use crate::arena::SlotFace;
 use crate::edge::{End, Ends};

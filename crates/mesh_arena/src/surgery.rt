@@ -1,5 +1,6 @@
 //! Surgery: the star of a new point takes the place of its cavity.
-ghost use Rattle.std.specs.Prelude.{◌≡◌, ◌≢◌, ℕ, ◌+◌, ◌*◌, ◌<◌, ◌≤◌, ◌↔◌, length, Some, None, IsSome};
+ghost use Rattle.std.specs.Prelude.{◌≡◌, ◌≢◌, ℕ, ◌+◌, ◌*◌, ◌<◌, ◌≤◌, ◌↔◌, length, Some, None};
+ghost use Rattle.std.specs.Prelude.{IsSome};
 ghost use Rattle.std.specs.Prelude.{IsOk, IfOk, IfSome, OnErr, MatchOption, IsTrue, if◌then◌else◌};
 ghost use Rattle.mesh_arena.specs.Cells.{cell_corners, IsBare};
 ghost use Rattle.mesh_arena.specs.Mesh.{IsLive, side, SameFace, IsMesh, AllDiffer};
