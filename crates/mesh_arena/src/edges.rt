@@ -1,6 +1,6 @@
 //! A table of the edges of a star, by which the two faces over an edge find one another.
-ghost use Rattle.std.specs.Prelude.{◌≡◌, IfSome};
-ghost use Rattle.mesh_arena.specs.Edges.{edge_of, IsMet, IsEnd, KeepsRows, MeetsNone};
+ghost use Rattle.std.specs.Prelude.{◌≡◌, ◌<◌, ◌≤◌, length, IfSome, IsTrue};
+ghost use Rattle.mesh_arena.specs.Edges.{edge_of, place_of, IsMet, IsEnd, KeepsRows, MeetsNone};
 ghost use Rattle.mesh_arena.specs.Edges.{AddsNone, AddsOnly};
 
 use crate::arena::SlotFace;
@@ -62,21 +62,40 @@ impl EdgeTable {
         self.square.end(number)
     }
 
-    /// The face that the edge between these ends was met at before in this round. Where there is
-    /// none, the edge is met at `face` from now on, if a place is free for it.
+    /// Whether the edge between these ends has a place in the square.
+    #[inline(always)]
+    pub(crate) fn has_place(&self, ends: Ends) -> bool
+        requires { (ends.one.row ≤ 64) × (ends.other.row ≤ 64) }
+        ensures { IsTrue result → place_of ends.one.row ends.other.row
+            < length self.now.square.faces }
+    {
+        ends.place() < self.square.len()
+    }
+
+    /// The face that the edge between these ends, which has a place in the square, was met at
+    /// before in this round. Where there is none, the edge is met at `face` from now on.
     #[inline(always)]
     pub(crate) fn meet(&mut self, ends: Ends, face: SlotFace) -> Option<SlotFace>
         requires one { IsEnd self.old.square.rows ends.one }
         requires other { IsEnd self.old.square.rows ends.other }
+        requires place { place_of ends.one.row ends.other.row < length self.old.square.faces }
         ensures found { IfSome result
             (λ s. IsMet self.old (edge_of ends.one.number ends.other.number) s) }
         ensures only { AddsOnly (IsMet self.old) (IsMet self.new)
             (edge_of ends.one.number ends.other.number) face }
         ensures rows { self.new.square.rows ≡ self.old.square.rows }
     {
-        if ends.place() < self.square.len() {
-            return self.square.meet(ends, face);
-        }
+        self.square.meet(ends, face)
+    }
+
+    /// The same by a hash of the edge, if a place is free for it.
+    pub(crate) fn meet_hashed(&mut self, ends: Ends, face: SlotFace) -> Option<SlotFace>
+        ensures found { IfSome result
+            (λ s. IsMet self.old (edge_of ends.one.number ends.other.number) s) }
+        ensures only { AddsOnly (IsMet self.old) (IsMet self.new)
+            (edge_of ends.one.number ends.other.number) face }
+        ensures rows { self.new.square.rows ≡ self.old.square.rows }
+    {
         self.hashed.meet(ends.edge(), face)
     }
 }

@@ -101,7 +101,6 @@ impl HashedEdges {
 
     /// The face that the edge was met at before in this round. Where there is none, the edge is met
     /// at `face` from now on, if a place is free for it and the numbers of its ends have 32 bits.
-    #[inline(never)]
     pub(crate) fn meet(&mut self, edge: Edge, face: SlotFace) -> Option<SlotFace>
         ensures found { IfSome result (λ s. IsHashed self.old edge s) }
         ensures only { AddsOnly (IsHashed self.old) (IsHashed self.new) edge face }

@@ -196,7 +196,36 @@ impl Arena {
         ensures left { open_faces self.new.slots rim.now + (if result then 2 else 0)
             ≡ open_faces self.old.slots rim.now }
     {
+        if !table.has_place(ends) {
+            return self.link_by_hash(rim, point, ends, face, table);
+        }
         match table.meet(ends, face) {
+            Some(other) => self.link_mates(rim, point, ends.edge(), face, other),
+            None => false,
+        }
+    }
+
+    // The same where the edge has no place in the square.
+    #[inline(never)]
+    fn link_by_hash(
+        &mut self,
+        rim: &[RimFace],
+        point: u32,
+        ends: Ends,
+        face: SlotFace,
+        table: &mut EdgeTable,
+    ) -> bool
+        requires star { IsStar self.old.slots rim.now (Corner.Point point) }
+        requires over { IsOverEdge self.old.slots rim.now (Corner.Point point)
+            (edge_of ends.one.number ends.other.number) face }
+        requires met { AreOverEdges self.old.slots rim.now (Corner.Point point) table.old }
+        ensures links { LinksStar self.old.slots self.new.slots rim.now (Corner.Point point) 0 }
+        ensures met { AreOverEdges self.new.slots rim.now (Corner.Point point) table.new }
+        ensures rows { table.new.square.rows ≡ table.old.square.rows }
+        ensures left { open_faces self.new.slots rim.now + (if result then 2 else 0)
+            ≡ open_faces self.old.slots rim.now }
+    {
+        match table.meet_hashed(ends, face) {
             Some(other) => self.link_mates(rim, point, ends.edge(), face, other),
             None => false,
         }
