@@ -11,6 +11,19 @@ pub(crate) struct Edge {
     pub(crate) high: usize,
 }
 
+impl Edge {
+    /// The edge between the corners with these numbers.
+    #[inline(always)]
+    pub(crate) fn between(a: usize, b: usize) -> Self
+        ensures { result ≡ edge_of a b }
+    {
+        Edge {
+            low: a.min(b),
+            high: a.max(b),
+        }
+    }
+}
+
 /// An end of an edge: the number of the corner, and its row in the square, or ROWS if it has none.
 #[derive(Clone, Copy, Debug)]
 pub(crate) struct End {
@@ -31,11 +44,7 @@ impl Ends {
     pub(crate) fn edge(self) -> Edge
         ensures { result ≡ edge_of self.one.number self.other.number }
     {
-        let (one, other) = (self.one.number, self.other.number);
-        Edge {
-            low: one.min(other),
-            high: one.max(other),
-        }
+        Edge::between(self.one.number, self.other.number)
     }
 
     /// Its place in the square. That is past all others where an end has no row.

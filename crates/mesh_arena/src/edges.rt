@@ -4,7 +4,7 @@ ghost use Rattle.mesh_arena.specs.Edges.{edge_of, place_of, IsMet, IsEnd, KeepsR
 ghost use Rattle.mesh_arena.specs.Edges.{AddsNone, AddsOnly};
 
 use crate::arena::SlotFace;
-use crate::edge::{End, Ends};
+use crate::edge::{Edge, End, Ends};
 use crate::hashed::HashedEdges;
 use crate::rows::ROWS;
 use crate::square::Square;
@@ -48,6 +48,12 @@ impl EdgeTable {
         self.hashed.start(hashed.saturating_mul(2));
     }
 
+    /// Whether corners have rows of the square in this round.
+    #[inline(always)]
+    pub(crate) fn has_rows(&self) -> bool {
+        self.has_rows
+    }
+
     /// The end of an edge at the corner with this number.
     #[inline(always)]
     pub(crate) fn end(&mut self, number: usize) -> End
@@ -56,9 +62,6 @@ impl EdgeTable {
         ensures rows { KeepsRows self.old.square.rows self.new.square.rows }
         ensures met { AddsNone (IsMet self.old) (IsMet self.new) }
     {
-        if !self.has_rows {
-            return End { number, row: ROWS };
-        }
         self.square.end(number)
     }
 
@@ -89,14 +92,12 @@ impl EdgeTable {
     }
 
     /// The same by a hash of the edge, if a place is free for it.
-    pub(crate) fn meet_hashed(&mut self, ends: Ends, face: SlotFace) -> Option<SlotFace>
-        ensures found { IfSome result
-            (λ s. IsMet self.old (edge_of ends.one.number ends.other.number) s) }
-        ensures only { AddsOnly (IsMet self.old) (IsMet self.new)
-            (edge_of ends.one.number ends.other.number) face }
+    pub(crate) fn meet_hashed(&mut self, edge: Edge, face: SlotFace) -> Option<SlotFace>
+        ensures found { IfSome result (λ s. IsMet self.old edge s) }
+        ensures only { AddsOnly (IsMet self.old) (IsMet self.new) edge face }
         ensures rows { self.new.square.rows ≡ self.old.square.rows }
     {
-        self.hashed.meet(ends.edge(), face)
+        self.hashed.meet(edge, face)
     }
 }
 

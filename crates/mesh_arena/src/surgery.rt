@@ -197,7 +197,7 @@ impl Arena {
             ≡ open_faces self.old.slots rim.now }
     {
         if !table.has_place(ends) {
-            return self.link_by_hash(rim, point, ends, face, table);
+            return self.link_by_hash(rim, point, ends.edge(), face, table);
         }
         match table.meet(ends, face) {
             Some(other) => self.link_mates(rim, point, ends.edge(), face, other),
@@ -211,13 +211,12 @@ impl Arena {
         &mut self,
         rim: &[RimFace],
         point: u32,
-        ends: Ends,
+        edge: Edge,
         face: SlotFace,
         table: &mut EdgeTable,
     ) -> bool
         requires star { IsStar self.old.slots rim.now (Corner.Point point) }
-        requires over { IsOverEdge self.old.slots rim.now (Corner.Point point)
-            (edge_of ends.one.number ends.other.number) face }
+        requires over { IsOverEdge self.old.slots rim.now (Corner.Point point) edge face }
         requires met { AreOverEdges self.old.slots rim.now (Corner.Point point) table.old }
         ensures links { LinksStar self.old.slots self.new.slots rim.now (Corner.Point point) 0 }
         ensures met { AreOverEdges self.new.slots rim.now (Corner.Point point) table.new }
@@ -225,8 +224,8 @@ impl Arena {
         ensures left { open_faces self.new.slots rim.now + (if result then 2 else 0)
             ≡ open_faces self.old.slots rim.now }
     {
-        match table.meet_hashed(ends, face) {
-            Some(other) => self.link_mates(rim, point, ends.edge(), face, other),
+        match table.meet_hashed(edge, face) {
+            Some(other) => self.link_mates(rim, point, edge, face, other),
             None => false,
         }
     }
@@ -251,6 +250,9 @@ impl Arena {
             ≡ open_faces self.old.slots rim.now }
     {
         let _ = &self.cells;
+        if !table.has_rows() {
+            return self.link_slot_by_hash(rim, point, r, one, table);
+        }
         let (i, j, k) = other_places(one.face);
         let x = table.end(one.cell.number(i));
         let y = table.end(one.cell.number(j));
@@ -262,6 +264,39 @@ impl Arena {
         let over_xz = self.link_at_edge(rim, point, xz, SlotFace { slot, face: j }, table);
         let xy = Ends { one: x, other: y };
         let over_xy = self.link_at_edge(rim, point, xy, SlotFace { slot, face: k }, table);
+        usize::from(over_yz) + usize::from(over_xz) + usize::from(over_xy)
+    }
+
+    // The same where corners have no rows.
+    fn link_slot_by_hash(
+        &mut self,
+        rim: &[RimFace],
+        point: u32,
+        r: usize,
+        one: &StarSlot,
+        table: &mut EdgeTable,
+    ) -> usize
+        requires star { IsStar self.old.slots rim.now (Corner.Point point) }
+        requires inside { r < length rim.now }
+        requires over { StandsOver self.old.slots rim.now r one.now }
+        requires met { AreOverEdges self.old.slots rim.now (Corner.Point point) table.old }
+        ensures links { LinksStar self.old.slots self.new.slots rim.now (Corner.Point point) 0 }
+        ensures met { AreOverEdges self.new.slots rim.now (Corner.Point point) table.new }
+        ensures left { open_faces self.new.slots rim.now + 2 * result
+            ≡ open_faces self.old.slots rim.now }
+    {
+        let _ = &self.cells;
+        let (i, j, k) = other_places(one.face);
+        let x = one.cell.number(i);
+        let y = one.cell.number(j);
+        let z = one.cell.number(k);
+        let slot = one.slot;
+        let yz = Edge::between(y, z);
+        let over_yz = self.link_by_hash(rim, point, yz, SlotFace { slot, face: i }, table);
+        let xz = Edge::between(x, z);
+        let over_xz = self.link_by_hash(rim, point, xz, SlotFace { slot, face: j }, table);
+        let xy = Edge::between(x, y);
+        let over_xy = self.link_by_hash(rim, point, xy, SlotFace { slot, face: k }, table);
         usize::from(over_yz) + usize::from(over_xz) + usize::from(over_xy)
     }
 
