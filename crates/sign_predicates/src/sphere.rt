@@ -161,7 +161,6 @@ pub(crate) fn wins_by_sides(a: i128, b: i128, c: i128, d: i128, n: Numbers, m: u
 
 /// Whether a point on the sphere through the corners of the positive tetrahedron `t` is outside, by the rule of `outside`: the least
 /// number for outside against the least one for inside.
-#[inline(never)]
 pub fn wins_tie(t: &Corners, n: Numbers, p: GridPoint, m: u32) -> bool
     ensures { result ≡ wins_tie t.now n p m }
 {
@@ -180,6 +179,14 @@ pub fn wins_tie(t: &Corners, n: Numbers, p: GridPoint, m: u32) -> bool
     wins_by_sides(a, -b, c, -d, n, m)
 }
 
+/// The same by value: only in a tie do the corners have to lie in memory.
+#[inline(never)]
+fn wins_tie_at(t: Corners, n: Numbers, p: GridPoint, m: u32) -> bool
+    ensures { result ≡ wins_tie t n p m }
+{
+    wins_tie(&t, n, p, m)
+}
+
 /// Whether `p`, with the number `m`, is outside of the positive tetrahedron `t`, whose corners have the numbers `n`. The five
 /// numbers differ. Outside is strictly outside of the sphere through the corners. On the sphere the points decide by rising
 /// number: `p` itself for outside; a corner for outside where `p` is strictly beyond the face opposite that corner, against it
@@ -189,9 +196,10 @@ pub fn wins_tie(t: &Corners, n: Numbers, p: GridPoint, m: u32) -> bool
 pub fn outside(t: Corners, n: Numbers, p: GridPoint, m: u32) -> bool
     ensures { result ≡ is_outside t n p m }
 {
-    match sign_of(in_sphere(t, p)) {
+    let Corners { a, b, c, d } = t;
+    match sign_of(in_sphere(Corners { a, b, c, d }, p)) {
         Sign::Below => true,
-        Sign::Zero => wins_tie(&t, n, p, m),
+        Sign::Zero => wins_tie_at(Corners { a, b, c, d }, n, p, m),
         Sign::Above => false,
     }
 }
