@@ -19,8 +19,8 @@ pub(crate) struct Met {
 
 impl Met {
     // The slot and face.
-    fn at(self) -> SlotFace
-        ensures { result ≡ record { slot = self.slot; face = self.face } }
+    fn at(&self) -> SlotFace
+        ensures { result ≡ record { slot = self.now.slot; face = self.now.face } }
     {
         SlotFace {
             slot: self.slot,
@@ -128,7 +128,7 @@ impl HashedEdges {
             if place >= len {
                 return None;
             }
-            let met = self.met[place];
+            let met = &self.met[place];
             if met.round != self.round {
                 self.met[place] = Met {
                     low,

@@ -20,8 +20,8 @@ pub(crate) struct MetFace {
 impl MetFace {
     // The slot and face.
     #[inline(always)]
-    fn at(self) -> SlotFace
-        ensures { result ≡ record { slot = self.slot; face = self.face } }
+    fn at(&self) -> SlotFace
+        ensures { result ≡ record { slot = self.now.slot; face = self.now.face } }
     {
         SlotFace {
             slot: self.slot,
@@ -133,7 +133,7 @@ impl Square {
         ensures rows { self.new.rows ≡ self.old.rows }
     {
         let place = ends.place();
-        let met = self.met[place];
+        let met = &self.met[place];
         if met.round == self.round {
             return Some(met.at());
         }
