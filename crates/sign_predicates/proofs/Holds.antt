@@ -1,5 +1,5 @@
 -- What signs say of sums, and of a point in a tetrahedron.
-use Rattle.std.proofs.Common.{◌≡◌, zero, suc, ℤ, pos, negsuc, ◌≤ℤ◌, ◌<ℤ◌, Bool, true, false, ◌&&◌, ◌||◌, refl, arith}
+use Rattle.std.proofs.Common.{◌≡◌, ◌≢◌, ◌⊎◌, zero, suc, ℤ, pos, negsuc, ◌≤ℤ◌, ◌<ℤ◌, Bool, true, false, ◌&&◌, ◌||◌, refl, ◌∙◌, inl, inr, arith}
 use Rattle.std.specs.Prelude.{int_lt, int_le}
 use Rattle.std.proofs.lemmas.Int.{ints}
 use Rattle.std.proofs.lemmas.Bool.Decides.{nat_tests}
@@ -50,3 +50,17 @@ pub tests_above : (z : ℤ) (tie : Bool) → pos 0 <ℤ z → false ≡ int_lt z
 tests_above (pos zero) tie h = absurd (omega (arith, ints))
 tests_above (pos (suc n)) tie h = grind (arith, nat_tests)
 tests_above (negsuc n) tie h = absurd (omega (arith, ints))
+
+-- a number that is not 0 is below it or above it, and the test tells
+pub below_or_above : (z : ℤ) → z ≢ pos 0 → ((z <ℤ pos 0) × (int_lt z (pos 0) ≡ true)) ⊎ ((pos 0 <ℤ z) × (int_lt z (pos 0) ≡ false))
+below_or_above (pos zero) h = absurd (h refl)
+below_or_above (pos (suc n)) h = inr (omega (arith, ints), grind (arith, nat_tests))
+below_or_above (negsuc n) h = inl (omega (arith, ints), refl)
+
+-- the tests of a number that is not 0
+pub tests_not_zero : (z : ℤ) (tie : Bool) → z ≢ pos 0 → int_lt z (pos 0) ≡ int_lt z (pos 0) || int_le z (pos 0) && tie
+tests_not_zero z tie h =
+    elim (below_or_above z h) [
+      | inl low ↦ low.1 ∙ tests_below z tie low.0
+      | inr high ↦ high.1 ∙ tests_above z tie high.0
+    ]

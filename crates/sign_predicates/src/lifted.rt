@@ -6,7 +6,7 @@ ghost use Rattle.sign_predicates.specs.Vector.{IsShort};
 ghost use Rattle.sign_predicates.specs.Lifted.{rise, IsNarrow, IsStepsFrom, IsInFrame, IsSphereSign};
 ghost use Rattle.sign_predicates.specs.Lifted.{volumes_of, AreShortVolumes, IsOutsideInFrame};
 
-use crate::sign::sign_of;
+use crate::sign::{is_below, sign_of, vanishes};
 use crate::sphere::{short_sum_of_four, wins_by_sides};
 use crate::vector::{Vector, minor, short_det_of_minors, sum_of_squares};
 use crate::{GridPoint, Numbers, Sign};
@@ -217,9 +217,9 @@ pub fn lifted_outside(t: LiftedCorners, n: Numbers, p: Lifted, m: u32) -> bool
 {
     let LiftedCorners { a, b, c, d } = t;
     let v = volumes_of(a, b, c, d, p);
-    match sign_of(in_sphere(a, b, c, d, p, v)) {
-        Sign::Below => true,
-        Sign::Zero => wins_by_volumes(v, n, m),
-        Sign::Above => false,
+    let sum = in_sphere(a, b, c, d, p, v);
+    if vanishes(sum) {
+        return wins_by_volumes(v, n, m);
     }
+    is_below(sum)
 }

@@ -47,6 +47,13 @@ pub(crate) fn least_sign(s: Sign, t: Sign) -> Sign
 }
 
 #[inline]
+pub(crate) fn vanishes(n: i128) -> bool
+    ensures { IsTrue result ↔ n ≡ pos 0 }
+{
+    n == 0
+}
+
+#[inline]
 pub(crate) fn is_not_below(n: i128) -> bool
     ensures { IsTrue result ↔ pos 0 ≤ℤ n }
 {

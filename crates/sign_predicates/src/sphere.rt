@@ -4,11 +4,11 @@ ghost use Rattle.sign_predicates.specs.Sphere.{in_sphere, least_of, wins_tie, is
 ghost use Rattle.sign_predicates.specs.Sphere.{IsTieBySides};
 ghost use Rattle.sign_predicates.specs.Vector.{IsShort, sphere_sum};
 
-use crate::sign::{is_above, is_below, sign_of};
+use crate::sign::{is_above, is_below, vanishes};
 use crate::vector::{
     Vector, are_short, det_of_minors, from_to, minor, short_det_of_minors, square_length,
 };
-use crate::{Corners, GridPoint, Numbers, Sign};
+use crate::{Corners, GridPoint, Numbers};
 
 /// It is above each number of a point.
 const NO_NUMBER: u64 = 1 << 32;
@@ -197,9 +197,9 @@ pub fn outside(t: Corners, n: Numbers, p: GridPoint, m: u32) -> bool
     ensures { result ≡ is_outside t n p m }
 {
     let Corners { a, b, c, d } = t;
-    match sign_of(in_sphere(Corners { a, b, c, d }, p)) {
-        Sign::Below => true,
-        Sign::Zero => wins_tie_at(Corners { a, b, c, d }, n, p, m),
-        Sign::Above => false,
+    let sum = in_sphere(Corners { a, b, c, d }, p);
+    if vanishes(sum) {
+        return wins_tie_at(Corners { a, b, c, d }, n, p, m);
     }
+    is_below(sum)
 }
