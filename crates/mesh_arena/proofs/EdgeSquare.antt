@@ -41,10 +41,10 @@ IsSquare-others met round rows some few all others =
       some = some;
       all = all;
       few = few;
-      between = λ high low s _ is.
+      between = λ row last s _ is.
           let never : MetFace = record { slot = 0; round = 0; face = 0 } in
-          let lt = within met round (high * 64 + low) s is in
-          absurd (none-some s (sym (not_now round _ (others (high * 64 + low) never lt)) ∙ sym (read met round (high * 64 + low) never lt) ∙ is));
+          let lt = within met round (place_of row last) s is in
+          absurd (none-some s (sym (not_now round _ (others (place_of row last) never lt)) ∙ sym (read met round (place_of row last) never lt) ∙ is));
     }
 
 -- without rows no place is of this round
@@ -68,20 +68,14 @@ number_in rows row n end is_end lt same has = same_Some _ _ (sym has ∙ ap (sli
 abbrev square_of : List MetFace → ℕ → List ℕ → SquareValue
 square_of met round rows = record { rows = rows; faces = faces_in met round }
 
-turned : (a b : ℕ) → edge_of a b ≡ edge_of b a
+pub turned : (a b : ℕ) → edge_of a b ≡ edge_of b a
 turned a b =
     let low : min a b ≡ min b a = omega arith in
     let high : max a b ≡ max b a = omega arith in
     ap (λ n. record { low = n; high = max a b }) low ∙ ap (λ n. record { low = min b a; high = n }) high
 
-module _ (met : List MetFace) (round : ℕ) (rows : List ℕ) (ends : Ends) (few : length met ≤ 4096) (one : IsEnd rows ends.one) (other : IsEnd rows ends.other) (place : ℕ) (is_place : place ≡ place_of ends.one.row ends.other.row) (inside : place < length met) where
-  one_lt : ends.one.row < 64
-  one_lt = omega arith
-
-  other_lt : ends.other.row < 64
-  other_lt = omega arith
-
-  -- a place that has this edge
+module _ (met : List MetFace) (round : ℕ) (rows : List ℕ) (ends : Ends) (one : IsEnd rows ends.one) (other : IsEnd rows ends.other) (one_lt : ends.one.row < 64) (other_lt : ends.other.row < 64) (place : ℕ) (is_place : place ≡ place_of ends.one.row ends.other.row) (inside : place < length met) where
+  -- a place that has this edge, in this direction
   pub IsInSquare-read : (m : MetFace) → m ≡ get_or met place m → m.round ≡ round
       → IsInSquare (square_of met round rows) (edge_of ends.one.number ends.other.number) (face_at m)
   IsInSquare-read m is same =
@@ -119,16 +113,9 @@ module _ (met : List MetFace) (round : ℕ) (rows : List ℕ) (ends : Ends) (few
     same_edge e t is_in same =
         let below = is_in.below in
         let other_below = is_in.other_below in
-        elim (cases_eq is_in.row ends.one.row) [
-          | inl level ↦
-              let first = number_in rows _ _ ends.one one one_lt level is_in.is_first in
-              let second = number_in rows _ _ ends.other other other_lt (omega (arith, is_place, one_lt, other_lt)) is_in.is_second in
-              is_in.ends ∙ ap (λ n. edge_of n is_in.second) first ∙ ap (edge_of ends.one.number) second
-          | inr differ ↦
-              let first = number_in rows _ _ ends.other other other_lt (omega (arith, is_place, one_lt, other_lt)) is_in.is_first in
-              let second = number_in rows _ _ ends.one one one_lt (omega (arith, is_place, one_lt, other_lt)) is_in.is_second in
-              is_in.ends ∙ ap (λ n. edge_of n is_in.second) first ∙ ap (edge_of ends.other.number) second ∙ turned ends.other.number ends.one.number
-        ]
+        let first = number_in rows _ _ ends.one one one_lt (omega (arith, is_place, one_lt, other_lt)) is_in.is_first in
+        let second = number_in rows _ _ ends.other other other_lt (omega (arith, is_place, one_lt, other_lt)) is_in.is_second in
+        is_in.ends ∙ ap (λ n. edge_of n is_in.second) first ∙ ap (edge_of ends.one.number) second
 
     -- one place is written
     pub AddsOnly-square : AddsOnly (IsInSquare (square_of met round rows)) (IsInSquare (square_of (set met place m) round rows)) (edge_of ends.one.number ends.other.number) s
@@ -158,9 +145,9 @@ module _ (met : List MetFace) (round : ℕ) (rows : List ℕ) (ends : Ends) (few
           some = square.some;
           all = All-set (λ (x : MetFace). x.round ≤ round) met place m (omega (arith, ap (λ (x : MetFace). x.round) is)) square.all;
           few = omega (arith, length-set met place m, square.few);
-          between = λ high low t low_lt met_at. elim (there (high * 64 + low) t met_at) [
+          between = λ row last t last_lt met_at. elim (there (place_of row last) t met_at) [
             | inl here ↦ let same = here.0 in (omega (arith, is_place, one_lt, other_lt, one_taken, other_taken), omega (arith, is_place, one_lt, other_lt, one_taken, other_taken))
-            | inr was ↦ square.between high low t low_lt was
+            | inr was ↦ square.between row last t last_lt was
           ];
         }
 
@@ -186,7 +173,7 @@ module _ (met : List MetFace) (round : ℕ) (old new : List ℕ) (corner : ℕ) 
         some = square.some;
         all = square.all;
         few = square.few;
-        between = λ high low t low_lt is. let taken = square.between high low t low_lt is in (omega (arith, taken.0, longer), omega (arith, taken.1, longer));
+        between = λ row last t last_lt is. let taken = square.between row last t last_lt is in (omega (arith, taken.0, longer), omega (arith, taken.1, longer));
       }
 
   pub KeepsRows-row : KeepsRows old new
@@ -196,7 +183,7 @@ module _ (met : List MetFace) (round : ℕ) (old new : List ℕ) (corner : ℕ) 
   AddsNone-row e s is_in =
       let below = is_in.below in
       let other_below = is_in.other_below in
-      let taken = square.between (max is_in.row is_in.other_row) (min is_in.row is_in.other_row) s (omega arith) is_in.is in
+      let taken = square.between is_in.row is_in.other_row s other_below is_in.is in
       record {
         row = is_in.row;
         other_row = is_in.other_row;

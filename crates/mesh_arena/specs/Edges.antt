@@ -35,9 +35,9 @@ abbrev pub AreKept : List LastRow → List LastRow → Type 0
 AreKept old new = (corner : ℕ) (d : LastRow) → corner < length new
     → ((slice_index_or new corner d).round ≡ 0) ⊎ ((corner < length old) × (slice_index_or new corner d ≡ slice_index_or old corner d))
 
--- the place in a square of the edge between two rows
+-- the place in a square of the edge from one row to another
 abbrev pub place_of : ℕ → ℕ → ℕ
-place_of a b = max a b * 64 + min a b
+place_of a b = a * 64 + b
 
 -- in each row of a square the number of a corner, and in each place the face that an edge was met at, or nothing
 pub record SquareValue : Type 0 where
@@ -56,8 +56,8 @@ pub record IsSquare (met : List MetFace) (round : ℕ) (rows : List ℕ) : Type 
   pub some : 0 < round
   pub all : All (λ m. m.round ≤ round) met
   pub few : length met ≤ 4096
-  pub between : (high low : ℕ) (face : SlotFace) → low < 64
-      → slice_index_or (faces_in met round) (high * 64 + low) None ≡ Some face → (high < length rows) × (low < length rows)
+  pub between : (row other : ℕ) (face : SlotFace) → other < 64
+      → slice_index_or (faces_in met round) (place_of row other) None ≡ Some face → (row < length rows) × (other < length rows)
 
 -- the edge has the corners in two rows for ends, and was met at this face
 pub record IsInSquare (square : SquareValue) (edge : Edge) (face : SlotFace) : Type 0 where

@@ -1,5 +1,5 @@
 //! The edges of a star, by the corners at their ends.
-ghost use Rattle.std.specs.Prelude.{◌≡◌, ◌≤◌};
+ghost use Rattle.std.specs.Prelude.{◌≡◌, ◌<◌};
 ghost use Rattle.mesh_arena.specs.Edges.{edge_of, place_of};
 
 use crate::rows::ROWS;
@@ -31,7 +31,7 @@ pub(crate) struct End {
     pub(crate) row: usize,
 }
 
-/// Both ends of an edge, in any order.
+/// Both ends of an edge, in the order in which a face goes along it.
 #[derive(Clone, Copy, Debug)]
 pub(crate) struct Ends {
     pub(crate) one: End,
@@ -47,13 +47,24 @@ impl Ends {
         Edge::between(self.one.number, self.other.number)
     }
 
-    /// Its place in the square. That is past all others where an end has no row.
+    /// The edge the other way.
+    #[inline(always)]
+    pub(crate) fn back(self) -> Self
+        ensures { result ≡ record { one = self.other; other = self.one } }
+    {
+        Ends {
+            one: self.other,
+            other: self.one,
+        }
+    }
+
+    /// Its place in the square, where both ends have rows.
     #[inline(always)]
     pub(crate) fn place(self) -> usize
-        requires { (self.one.row ≤ 64) × (self.other.row ≤ 64) }
-        ensures { result ≡ place_of self.one.row self.other.row }
+        requires { (self.one.row < 64) × (self.other.row < 64) }
+        ensures place { result ≡ place_of self.one.row self.other.row }
+        ensures small { result < 4096 }
     {
-        let (one, other) = (self.one.row, self.other.row);
-        one.max(other) * ROWS + one.min(other)
+        self.one.row * ROWS + self.other.row
     }
 }

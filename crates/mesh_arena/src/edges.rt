@@ -1,13 +1,13 @@
 //! A table of the edges of a star, by which the two faces over an edge find one another.
 ghost use Rattle.std.specs.Prelude.{◌≡◌, ◌<◌, ◌≤◌, length, IfSome, IsTrue};
-ghost use Rattle.mesh_arena.specs.Edges.{edge_of, place_of, IsMet, IsEnd, KeepsRows, MeetsNone};
+ghost use Rattle.mesh_arena.specs.Edges.{edge_of, IsMet, IsEnd, KeepsRows, MeetsNone};
 ghost use Rattle.mesh_arena.specs.Edges.{AddsNone, AddsOnly};
 
 use crate::arena::SlotFace;
 use crate::edge::{Edge, End, Ends};
 use crate::hashed::HashedEdges;
 use crate::rows::ROWS;
-use crate::square::Square;
+use crate::square::{PLACES, Square};
 use std::alloc::Global;
 use std::marker::Model;
 
@@ -17,16 +17,19 @@ use std::marker::Model;
 pub(crate) struct EdgeTable {
     square: Square,
     hashed: HashedEdges,
-    // Whether corners have rows of the square in this round.
+    // Whether corners have rows of the square in this round, and all edges between them places.
     has_rows: bool,
 }
 
 impl Model for EdgeTable {
+    ghost use Rattle.std.specs.Prelude.{◌≤◌, length, IsTrue};
     ghost use Rattle.mesh_arena.specs.Edges.{Table};
 
     ghost Value = { Table };
 
     ghost view = { λ t. record { square = t.square; hashed = t.hashed } };
+
+    ghost invariant = { λ t. IsTrue t.has_rows → 4096 ≤ length t.square.faces };
 }
 
 impl EdgeTable {
@@ -42,15 +45,16 @@ impl EdgeTable {
     pub(crate) fn start(&mut self, faces: usize, slots: usize)
         ensures { MeetsNone (IsMet self.new) }
     {
-        self.has_rows = corners_of(faces) <= ROWS;
         self.square.start(slots);
-        let hashed = if self.has_rows { 0 } else { faces };
-        self.hashed.start(hashed.saturating_mul(2));
+        self.has_rows = corners_of(faces) <= ROWS && self.square.len() >= PLACES;
+        self.hashed.start(faces.saturating_mul(2));
     }
 
-    /// Whether corners have rows of the square in this round.
+    /// Whether corners have rows of the square in this round, and all edges between them places.
     #[inline(always)]
-    pub(crate) fn has_rows(&self) -> bool {
+    pub(crate) fn has_rows(&self) -> bool
+        ensures { IsTrue result → 4096 ≤ length self.now.square.faces }
+    {
         self.has_rows
     }
 
@@ -60,33 +64,27 @@ impl EdgeTable {
         ensures number { result.number ≡ number }
         ensures end { IsEnd self.new.square.rows result }
         ensures rows { KeepsRows self.old.square.rows self.new.square.rows }
+        ensures faces { self.new.square.faces ≡ self.old.square.faces }
         ensures met { AddsNone (IsMet self.old) (IsMet self.new) }
     {
         self.square.end(number)
     }
 
-    /// Whether the edge between these ends has a place in the square.
-    #[inline(always)]
-    pub(crate) fn has_place(&self, ends: Ends) -> bool
-        requires { (ends.one.row ≤ 64) × (ends.other.row ≤ 64) }
-        ensures { IsTrue result → place_of ends.one.row ends.other.row
-            < length self.now.square.faces }
-    {
-        ends.place() < self.square.len()
-    }
-
     /// The face that the edge between these ends, which has a place in the square, was met at
-    /// before in this round. Where there is none, the edge is met at `face` from now on.
+    /// before in this round, the other way. Where there is none, the edge is met at `face` from now
+    /// on.
     #[inline(always)]
     pub(crate) fn meet(&mut self, ends: Ends, face: SlotFace) -> Option<SlotFace>
         requires one { IsEnd self.old.square.rows ends.one }
         requires other { IsEnd self.old.square.rows ends.other }
-        requires place { place_of ends.one.row ends.other.row < length self.old.square.faces }
+        requires rows { (ends.one.row < 64) × (ends.other.row < 64) }
+        requires places { 4096 ≤ length self.old.square.faces }
         ensures found { IfSome result
             (λ s. IsMet self.old (edge_of ends.one.number ends.other.number) s) }
         ensures only { AddsOnly (IsMet self.old) (IsMet self.new)
             (edge_of ends.one.number ends.other.number) face }
-        ensures rows { self.new.square.rows ≡ self.old.square.rows }
+        ensures same_rows { self.new.square.rows ≡ self.old.square.rows }
+        ensures same_places { length self.new.square.faces ≡ length self.old.square.faces }
     {
         self.square.meet(ends, face)
     }
@@ -95,7 +93,7 @@ impl EdgeTable {
     pub(crate) fn meet_hashed(&mut self, edge: Edge, face: SlotFace) -> Option<SlotFace>
         ensures found { IfSome result (λ s. IsMet self.old edge s) }
         ensures only { AddsOnly (IsMet self.old) (IsMet self.new) edge face }
-        ensures rows { self.new.square.rows ≡ self.old.square.rows }
+        ensures square { self.new.square ≡ self.old.square }
     {
         self.hashed.meet(edge, face)
     }

@@ -66,13 +66,11 @@ pub(crate) fn covers(a: &[Corner; 4], i: u8, b: &[Corner; 4], j: u8) -> bool
     true
 }
 
-// The three other places, in ascending order.
+// The three other places. Seen from within a slot the corners in them turn the same way, whichever
+// the one place is.
 pub(crate) fn other_places(place: u8) -> (u8, u8, u8)
     requires { place < 4 }
     ensures { Places place result.0 result.1 result.2 }
 {
-    let first = u8::from(place == 0);
-    let second = 1 + u8::from(place < 2);
-    let third = 3 - u8::from(place == 3);
-    (first, second, third)
+    (place ^ 1, place ^ 2, place ^ 3)
 }

@@ -1,6 +1,6 @@
 //! A square table of the edges between few corners.
-ghost use Rattle.std.specs.Prelude.{◌≡◌, ◌<◌, [], length, IfSome};
-ghost use Rattle.mesh_arena.specs.Edges.{edge_of, place_of, IsInSquare, IsEnd, KeepsRows};
+ghost use Rattle.std.specs.Prelude.{◌≡◌, ◌<◌, ◌≤◌, [], length, IfSome};
+ghost use Rattle.mesh_arena.specs.Edges.{edge_of, IsInSquare, IsEnd, KeepsRows};
 ghost use Rattle.mesh_arena.specs.Edges.{MeetsNone, AddsNone, AddsOnly};
 
 use crate::arena::SlotFace;
@@ -31,8 +31,8 @@ impl MetFace {
 }
 
 /// A table of edges whose ends have rows, used in rounds: what an earlier round left counts as
-/// empty. The rows of the ends tell the place of an edge, and the place tells the edge. Contracts
-/// see the corner in each row, and what each place has of this round.
+/// empty. The rows of the ends tell the place of an edge, and the place tells the edge and its
+/// direction. Contracts see the corner in each row, and what each place has of this round.
 #[derive(Debug, Drop)]
 pub(crate) struct Square {
     met: Vec<MetFace>,
@@ -51,8 +51,8 @@ impl Model for Square {
     ghost invariant = { λ s. IsSquare s.met.items s.round s.rows };
 }
 
-// How many places there are.
-const PLACES: usize = ROWS * ROWS;
+/// How many places there are at most.
+pub(crate) const PLACES: usize = ROWS * ROWS;
 
 impl Square {
     pub(crate) fn new(alloc: Global) -> Self {
@@ -113,31 +113,33 @@ impl Square {
         ensures number { result.number ≡ number }
         ensures end { IsEnd self.new.rows result }
         ensures rows { KeepsRows self.old.rows self.new.rows }
+        ensures faces { self.new.faces ≡ self.old.faces }
         ensures met { AddsNone (IsInSquare self.old) (IsInSquare self.new) }
     {
         let row = self.rows.row_of(number);
         End { number, row }
     }
 
-    /// The face that the edge between these ends was met at before in this round. Where there is
-    /// none, the edge is met at `face` from now on.
+    /// The face that the edge between these ends was met at before in this round, the other way.
+    /// Where there is none, the edge is met at `face` from now on, in this direction.
     #[inline(always)]
     pub(crate) fn meet(&mut self, ends: Ends, face: SlotFace) -> Option<SlotFace>
         requires one { IsEnd self.old.rows ends.one }
         requires other { IsEnd self.old.rows ends.other }
-        requires place { place_of ends.one.row ends.other.row < length self.old.faces }
+        requires rows { (ends.one.row < 64) × (ends.other.row < 64) }
+        requires places { 4096 ≤ length self.old.faces }
         ensures found { IfSome result
             (λ s. IsInSquare self.old (edge_of ends.one.number ends.other.number) s) }
         ensures only { AddsOnly (IsInSquare self.old) (IsInSquare self.new)
             (edge_of ends.one.number ends.other.number) face }
-        ensures rows { self.new.rows ≡ self.old.rows }
+        ensures same_rows { self.new.rows ≡ self.old.rows }
+        ensures same_places { length self.new.faces ≡ length self.old.faces }
     {
-        let place = ends.place();
-        let met = &self.met[place];
+        let met = &self.met[ends.back().place()];
         if met.round == self.round {
             return Some(met.at());
         }
-        self.met[place] = MetFace {
+        self.met[ends.place()] = MetFace {
             slot: face.slot,
             round: self.round,
             face: face.face,

@@ -15,6 +15,7 @@ ghost use Rattle.mesh_arena.specs.Edges.{edge_of, IsEnd};
 use crate::arena::{Arena, SlotFace};
 use crate::edge::{Edge, Ends};
 use crate::edges::EdgeTable;
+use crate::rows::ROWS;
 use crate::slot::other_places;
 use crate::star::StarSlot;
 use crate::{Cavity, Corner, Rim, RimFace, Slot};
@@ -174,7 +175,8 @@ impl Arena {
         false
     }
 
-    // Links a face of the star with the one that was met at the same edge. Whether it did.
+    // Links a face of the star with the one that was met at the same edge, which has a place in the
+    // square. Whether it did.
     #[inline(always)]
     fn link_at_edge(
         &mut self,
@@ -187,25 +189,25 @@ impl Arena {
         requires star { IsStar self.old.slots rim.now (Corner.Point point) }
         requires one { IsEnd table.old.square.rows ends.one }
         requires other { IsEnd table.old.square.rows ends.other }
+        requires rows { (ends.one.row < 64) × (ends.other.row < 64) }
+        requires places { 4096 ≤ length table.old.square.faces }
         requires over { IsOverEdge self.old.slots rim.now (Corner.Point point)
             (edge_of ends.one.number ends.other.number) face }
         requires met { AreOverEdges self.old.slots rim.now (Corner.Point point) table.old }
         ensures links { LinksStar self.old.slots self.new.slots rim.now (Corner.Point point) 0 }
         ensures met { AreOverEdges self.new.slots rim.now (Corner.Point point) table.new }
-        ensures rows { table.new.square.rows ≡ table.old.square.rows }
+        ensures same_rows { table.new.square.rows ≡ table.old.square.rows }
+        ensures same_places { length table.new.square.faces ≡ length table.old.square.faces }
         ensures left { open_faces self.new.slots rim.now + (if result then 2 else 0)
             ≡ open_faces self.old.slots rim.now }
     {
-        if !table.has_place(ends) {
-            return self.link_by_hash(rim, point, ends.edge(), face, table);
-        }
         match table.meet(ends, face) {
             Some(other) => self.link_mates(rim, point, ends.edge(), face, other),
             None => false,
         }
     }
 
-    // The same where the edge has no place in the square.
+    // The same by a hash of the edge.
     #[inline(never)]
     fn link_by_hash(
         &mut self,
@@ -220,7 +222,6 @@ impl Arena {
         requires met { AreOverEdges self.old.slots rim.now (Corner.Point point) table.old }
         ensures links { LinksStar self.old.slots self.new.slots rim.now (Corner.Point point) 0 }
         ensures met { AreOverEdges self.new.slots rim.now (Corner.Point point) table.new }
-        ensures rows { table.new.square.rows ≡ table.old.square.rows }
         ensures left { open_faces self.new.slots rim.now + (if result then 2 else 0)
             ≡ open_faces self.old.slots rim.now }
     {
@@ -257,14 +258,17 @@ impl Arena {
         let x = table.end(one.cell.number(i));
         let y = table.end(one.cell.number(j));
         let z = table.end(one.cell.number(k));
+        if x.row >= ROWS || y.row >= ROWS || z.row >= ROWS {
+            return self.link_slot_by_hash(rim, point, r, one, table);
+        }
         let slot = one.slot;
         let yz = Ends { one: y, other: z };
         let over_yz = self.link_at_edge(rim, point, yz, SlotFace { slot, face: i }, table);
-        let xz = Ends { one: x, other: z };
-        let over_xz = self.link_at_edge(rim, point, xz, SlotFace { slot, face: j }, table);
+        let zx = Ends { one: z, other: x };
+        let over_zx = self.link_at_edge(rim, point, zx, SlotFace { slot, face: j }, table);
         let xy = Ends { one: x, other: y };
         let over_xy = self.link_at_edge(rim, point, xy, SlotFace { slot, face: k }, table);
-        usize::from(over_yz) + usize::from(over_xz) + usize::from(over_xy)
+        usize::from(over_yz) + usize::from(over_zx) + usize::from(over_xy)
     }
 
     // The same where corners have no rows.

@@ -4,7 +4,7 @@ use Rattle.mesh_arena.proofs.StarEdges.{AreOverEdges-along, AreOverEdges-met}
 use Rattle.mesh_arena.proofs.arena.Arena.link_at_edge.Goals as goal
 
 pub link_mates-requires-clause-second : goal.link_mates-requires-clause-second
-link_mates-requires-clause-second c = rw c.edge-in-Some.ensures (c.requires.met _ c.in-Some.other c.in-Some.ensures.found)
+link_mates-requires-clause-second c = rw c.edge.ensures (c.requires.met _ c.in-Some.other c.in-Some.ensures.found)
 
 pub returns-in-None-clause-met : goal.returns-in-None-clause-met
 returns-in-None-clause-met c =
