@@ -1,5 +1,5 @@
 //! The cavity of a new point: a search from one slot over neighbors in the point's conflict zone.
-ghost use Rattle.std.specs.Prelude.{◌≡◌, ◌+◌, ◌*◌, ◌<◌, ◌≤◌, [], length, IfOk, OnOk};
+ghost use Rattle.std.specs.Prelude.{◌≡◌, ◌+◌, ◌*◌, ◌<◌, ◌≤◌, length, IfOk, OnOk};
 ghost use Rattle.mesh_arena.specs.Mesh.{IsMesh};
 ghost use Rattle.point_locate.specs.Place.{AreCornersOn};
 ghost use Rattle.mesh_laws.specs.Rule.{IsTaken};
@@ -27,17 +27,6 @@ pub(crate) struct Growth {
     pub(crate) rim: Rim,
 }
 
-/// Takes all faces off. The rim keeps its memory.
-fn clear_rim(rim: &mut Rim)
-    ensures { rim.new ≡ [] }
-{
-    let mut left = rim.len();
-    while left > 0 {
-        left -= 1;
-        rim.drop_last();
-    }
-}
-
 impl Growth {
     /// A growth that has not begun. It takes no memory yet.
     pub(crate) fn new(alloc: Global) -> Self {
@@ -54,7 +43,7 @@ impl Growth {
     {
         self.start = start;
         self.cavity.clear();
-        clear_rim(&mut self.rim);
+        self.rim.clear();
     }
 
     // Looks over the face k of the slot i of the cavity. A slot that is not taken is tested again
