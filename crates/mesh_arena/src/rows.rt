@@ -31,17 +31,20 @@ pub(crate) struct Rows {
     round: u16,
     // Numbers from here on get no row.
     bound: usize,
+    // There is memory for so many rows.
+    most: usize,
 }
 
 impl Model for Rows {
-    ghost use Rattle.std.specs.Prelude.{List, ℕ};
+    ghost use Rattle.std.specs.Prelude.{List, ℕ, ◌≤◌, vec_capacity};
     ghost use Rattle.mesh_arena.specs.Edges.{AreRows};
 
     ghost Value = { List ℕ };
 
     ghost view = { λ r. r.corners.items };
 
-    ghost invariant = { λ r. AreRows r.corners.items r.last.items r.round };
+    ghost invariant = { λ r. AreRows r.corners.items r.last.items r.round
+        × (r.most ≤ 64) × (r.most ≤ vec_capacity r.corners) };
 }
 
 impl Rows {
@@ -53,6 +56,7 @@ impl Rows {
             last: Vec::new(alloc),
             round: 1,
             bound: 0,
+            most: 0,
         }
     }
 
@@ -61,6 +65,10 @@ impl Rows {
         ensures { self.new ≡ [] }
     {
         self.corners.clear();
+        self.most = 0;
+        if self.corners.reserve(ROWS).is_ok() {
+            self.most = ROWS;
+        }
         if self.round == u16::MAX {
             self.last.clear();
             self.round = 1;
@@ -88,19 +96,17 @@ impl Rows {
     }
 
     // A new row for a corner.
-    #[inline(never)]
+    #[inline(always)]
     fn add_row(&mut self, corner: usize) -> usize
         ensures row { result < 64 → slice_get self.new result ≡ Some corner }
         ensures most { result ≤ 64 }
         ensures others { (self.new ≡ self.old) ⊎ (self.new ≡ self.old ++ (corner ∷ [])) }
     {
         let row = self.corners.len();
-        if row >= ROWS
-            || !reaches(&mut self.last, corner, self.bound)
-            || self.corners.push(corner).is_err()
-        {
+        if row >= self.most || !reaches(&mut self.last, corner, self.bound) {
             return ROWS;
         }
+        self.corners.push_reserved(corner);
         self.last[corner] = LastRow {
             round: self.round,
             row: row as u16,
@@ -111,13 +117,22 @@ impl Rows {
 
 // Whether the list has this number, once it is made longer where the number is below the bound and
 // there is memory.
+#[inline(always)]
 fn reaches(last: &mut Vec<LastRow>, number: usize, bound: usize) -> bool
     ensures there { IsTrue result → number < length last.new.items }
     ensures kept { AreKept last.old.items last.new.items }
 {
-    if number < last.len() {
-        return true;
-    }
+    number < last.len() || lengthen(last, number, bound)
+}
+
+// Makes the list so long that it has this number, if that is below the bound and there is memory.
+// Whether it did.
+#[inline(never)]
+fn lengthen(last: &mut Vec<LastRow>, number: usize, bound: usize) -> bool
+    requires { length last.old.items ≤ number }
+    ensures there { IsTrue result → number < length last.new.items }
+    ensures kept { AreKept last.old.items last.new.items }
+{
     let never = LastRow { round: 0, row: 0 };
     number < bound && last.resize(number + 1, never).is_ok()
 }
