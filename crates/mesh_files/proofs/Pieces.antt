@@ -2,8 +2,8 @@
 use Rattle.std.proofs.Common.{◌≡◌, ◌++◌, ◌+◌, ◌-◌, ◌/◌, ◌%◌, ◌^◌, ◌<◌, ◌≤◌, ℕ, ℤ, pos, negsuc, List, [], ◌∷◌, length, take, drop, set, get_or, refl, sym, ap, subst, ◌∙◌, inl, inr, arith, int_le, unsigned_abs, true, append_assoc, eq-zero-or-pos}
 use Rattle.std.specs.Prelude.{flat_map, HoldsAt}
 use Rattle.std.proofs.lemmas.Grind.{flat_map-append}
-use Rattle.std.proofs.lemmas.List.{append-nil, length-append, length-drop, length-take, take-take, take_at, drop_at, drop-drop, take-append-le, set_at, get_or_at, get_or_append_left, get_or-drop, drop-set-add, drop-set-lt, take_more}
-use Rattle.std.proofs.Math.Seq.{take-append-add}
+use Rattle.std.proofs.lemmas.List.{append-nil, length-append, length-drop, length-take, take-take, take_at, drop_at, drop-drop, take-append-le, set_at, get_or_at, get_or_append_left, get_or-drop, drop-set-add, drop-set-lt, take_more, set-append_right, get_or-set_same, length-set}
+use Rattle.std.proofs.Math.Seq.{take-append-add, take-set-lt, set-set}
 use Rattle.std.proofs.lemmas.Bool.{false≢true}
 use Rattle.std.proofs.lemmas.Fmt.{decimal_digit, decimal_step}
 use Rattle.std.specs.Fmt.{decimal, signed_decimal}
@@ -82,6 +82,45 @@ stepped digits start n m last room l e read small below one fits =
     ∙ sym (append_assoc d.0 ((last + 1) ∷ []) rest)
     ∙ ap (λ s. s ++ rest) (ap (λ k. d.0 ++ ((k + 1) ∷ [])) same ∙ sym (d.2 (omega arith)) ∙ ap decimal next)
     ∙ ap (λ s. decimal m ++ s) (sym (drop-set-lt 24 digits 23 (last + 1) (omega arith)))
+
+-- the same where the last digit stands beside the others
+pub stepped_beside : (digits : List ℕ) (start n m last : ℕ) → 24 ≤ length digits → start ≤ 24
+    → drop start (set digits 23 last) ≡ decimal n ++ drop 24 digits → last < 57 → n < m → m - n ≡ 1 → m < 2 ^ 64
+    → drop start (set digits 23 (last + 1)) ≡ decimal m ++ drop 24 digits
+stepped_beside digits start n m last room l e small below one fits =
+    let had = set digits 23 last in
+    let rest : drop 24 had ≡ drop 24 digits = drop-set-lt 24 digits 23 last (omega arith) in
+    let same : set had 23 (last + 1) ≡ set digits 23 (last + 1) = set-set digits 23 last (last + 1) in
+    let step = stepped had start n m last (omega (arith, room, length-set digits 23 last)) l (e ∙ ap (λ s. decimal n ++ s) (sym rest))
+    (get_or-set_same digits 23 last 0 (omega arith)) small below one fits in
+    ap (drop start) (sym same) ∙ step ∙ ap (λ s. decimal m ++ s) (ap (drop 24) same ∙ drop-set-lt 24 digits 23 (last + 1) (omega arith))
+
+pub some_digit : (n : ℕ) → n < 2 ^ 64 → 0 < length (decimal n)
+some_digit n h =
+    elim (eq-zero-or-pos (10 - n)) [
+      | inr l ↦ omega (arith, ap length (decimal_digit n (omega arith)))
+      | inl g ↦ omega (arith, ap length (decimal_step n (omega arith) h), length-append (decimal (n / 10)) ((48 + n % 10) ∷ []))
+    ]
+
+-- the digits are put in a block, and then the last one
+pub put_beside : (block now digits : List ℕ) (at start n last : ℕ) → 24 ≤ length digits → start < 24 → at ≤ length block
+    → drop start (set digits 23 last) ≡ decimal n ++ drop 24 digits
+    → take (at + (24 - start)) now ≡ take at block ++ take (24 - start) (take (start + 24 - start) (drop start digits))
+    → take (at + (24 - start)) (set now (at + (24 - start) - 1) last) ≡ take at block ++ decimal n
+put_beside block now digits at start n last room l within e is =
+    let k = 24 - start in
+    let whole = set digits 23 last in
+    let long : length (decimal n) ≡ k = written_length whole digits (decimal n) start 24 (length-set digits 23 last) (omega arith) room e in
+    let j = at + k - 1 - at in
+    let on : start + j ≡ 23 = omega arith in
+    let front = take at block in
+    take-set-lt (at + k) now (at + k - 1) last (omega arith)
+    ∙ ap (λ s. set s (at + k - 1) last) (is ∙ ap (λ s. front ++ s) (take-take k (start + 24 - start) (drop start digits) (omega arith)))
+    ∙ set-append_right front (take k (drop start digits)) at (at + k - 1) last (omega (arith, length-take at block)) (omega arith)
+    ∙ ap (λ s. front ++ s)
+    (sym (take-set-lt k (drop start digits) j last (omega arith))
+    ∙ ap (take k) (sym (drop-set-add start digits j last) ∙ ap (λ i. drop start (set digits i last)) on ∙ e)
+    ∙ take_at (decimal n) (drop 24 digits) k long)
 
 -- a number that is not negative
 pub not_negative : (z : ℤ) → int_le (pos 0) z ≡ true → decimal (unsigned_abs z) ≡ signed_decimal z

@@ -1,18 +1,21 @@
 //! A number that steps, with its decimals.
-ghost use Rattle.std.specs.Prelude.{◌≡◌, ◌++◌, ◌+◌, ◌≤◌, length, drop, take};
+ghost use Rattle.std.specs.Prelude.{◌≡◌, ◌++◌, ◌+◌, ◌<◌, ◌≤◌, length, drop, take, slice_set};
 ghost use Rattle.std.specs.Fmt.{decimal};
 
 use crate::piece::{SPAN, put};
 use itoa::write_digits;
 
-/// A number with its decimals, which end in the middle of the bytes.
+/// A number with its decimals, which end in the middle of the bytes. The last digit stands beside
+/// them: so a step stores nothing among the bytes that are copied right after it, for which the
+/// processor would wait.
 #[derive(Drop)]
 pub(crate) struct Counter {
     number: u64,
     digits: [u8; 48],
     start: usize,
-    ghost starts: { start ≤ 24 },
-    ghost ends: { drop start digits ≡ decimal number ++ drop 24 digits },
+    last: u8,
+    ghost starts: { start < 24 },
+    ghost ends: { drop start (slice_set digits 23 last) ≡ decimal number ++ drop 24 digits },
 }
 
 impl Counter {
@@ -22,6 +25,7 @@ impl Counter {
             number: 0,
             digits: [b'0'; 48],
             start: SPAN - 1,
+            last: b'0',
         }
     }
 
@@ -31,13 +35,13 @@ impl Counter {
     pub(crate) fn reach(&mut self, number: u64)
         ensures { self.new.number ≡ number }
     {
-        let last = self.digits[SPAN - 1];
-        if last < b'9' && self.number < number && number - self.number == 1 {
-            self.digits[SPAN - 1] = last + 1;
+        if self.last < b'9' && self.number < number && number - self.number == 1 {
+            self.last += 1;
             self.number = number;
             return;
         }
         self.start = write_digits(number, &mut self.digits, SPAN);
+        self.last = self.digits[SPAN - 1];
         self.number = number;
     }
 
@@ -50,6 +54,8 @@ impl Counter {
         ensures written { take result block.new ≡ take at block.old ++ decimal self.now.number }
     {
         let start = self.start;
-        put(block, at, &self.digits[start..start + SPAN], SPAN - start)
+        let end = put(block, at, &self.digits[start..start + SPAN], SPAN - start);
+        block[end - 1] = self.last;
+        end
     }
 }
