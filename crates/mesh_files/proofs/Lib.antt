@@ -7,3 +7,4 @@ pub mod OnHull
 pub mod Spans
 pub mod EleTexts
 pub mod Pieces
+pub mod NextFields

@@ -44,7 +44,7 @@ copied_first at k len block piece l h =
     ∙ ap (λ xs. take at block ++ xs) (take-append-le len piece (post_of at k block) h)
 
 -- a digit that has one after it steps, and no other
-last_digit : (n : ℕ) → n + 1 < 2 ^ 64
+pub last_digit : (n : ℕ) → n + 1 < 2 ^ 64
     → (front : List ℕ) × (decimal n ≡ front ++ ((48 + n % 10) ∷ [])) × (n % 10 < 9 → decimal (n + 1) ≡ front ++ ((48 + n % 10 + 1) ∷ []))
 last_digit n h =
     elim (eq-zero-or-pos (10 - n)) [

@@ -1,7 +1,8 @@
 //! Numbers as fields of a line.
-ghost use Rattle.std.specs.Prelude.{◌≡◌, ◌∷◌, ◌++◌, ◌+◌, ◌≤◌, ◌<◌, ◌^◌, length, take};
+ghost use Rattle.std.specs.Prelude.{◌≡◌, [], ◌∷◌, ◌++◌, ◌+◌, ◌≤◌, ◌<◌, ◌^◌, length, take};
+ghost use Rattle.std.specs.Prelude.{vec_len, vec_capacity};
 ghost use Rattle.std.specs.Fmt.{signed_decimal};
-ghost use Rattle.mesh_files.specs.Fields.{AreFields, IsField};
+ghost use Rattle.mesh_files.specs.Fields.{AreFields, IsField, with_last};
 
 use crate::counter::Counter;
 use crate::piece::{SPAN, put, write_field};
@@ -28,13 +29,25 @@ pub(crate) struct Fields {
 impl Fields {
     /// Those of the numbers below this one.
     pub(crate) fn below(alloc: Global, count: u32) -> Result<Self, NoMemory> {
-        let mut known = Items::with_capacity(alloc, count as usize)?;
+        let mut known: Vec<Field> = Vec::with_capacity(alloc, count as usize)?;
         let mut counter = Counter::new();
+        let mut field = Field {
+            text: [b' '; SHORT],
+            len: 1,
+        };
+        let mut last = b'9' + 1;
         for number in 0..count {
-            counter.reach(u64::from(number));
-            known.push(field_of(&counter))?;
+            if last > b'9' {
+                counter.reach(u64::from(number));
+                field = field_of(&counter);
+                last = field.text[usize::from(field.len) - 1];
+            }
+            push_with_last(&mut known, field, last);
+            last += 1;
         }
-        Ok(Fields { known })
+        Ok(Fields {
+            known: Items::from(known),
+        })
     }
 
     /// Lets all go, as a list of items is.
@@ -57,6 +70,22 @@ fn field_of(counter: &Counter) -> Field
         text,
         len: len as u8,
     }
+}
+
+/// Appends a field with another last digit, for which there is room. The digit is written into the
+/// list, so that no byte is loaded that was stored just before.
+#[inline(always)]
+fn push_with_last(known: &mut Vec<Field>, field: Field, last: u8)
+    requires room { vec_len known.old < vec_capacity known.old }
+    requires digit { 1 ≤ field.len }
+    requires short { field.len ≤ 16 }
+    ensures pushed { known.new.items ≡ known.old.items ++ with_last field last ∷ [] }
+    ensures longer { vec_len known.new ≡ vec_len known.old + 1 }
+    ensures capacity { vec_capacity known.new ≡ vec_capacity known.old }
+{
+    let at = known.len();
+    known.push_reserved(field);
+    known[at].text[usize::from(field.len) - 1] = last;
 }
 
 /// Writes a space and a field at a place of a block, and returns where they end. Other bytes after
