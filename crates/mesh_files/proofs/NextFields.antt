@@ -7,18 +7,18 @@ use Rattle.mesh_files.specs.declared.fields.Field.{Field}
 use Rattle.mesh_files.proofs.Pieces.{last_digit}
 
 -- a field has a space and a digit at least
-pub field_long : (n : ℕ) (f : Field) → length f.text ≡ 16 → n + 1 < 2 ^ 64 → IsField n f → 2 ≤ f.len
+pub field_long : (n : ℕ) (f : Field) → length f.text ≡ 8 → n + 1 < 2 ^ 64 → IsField n f → 2 ≤ f.len
 field_long n f room fits is =
     let d = last_digit n fits in
     omega (arith, length-take-le f.len f.text (omega (arith, is.0)), ap length is.1, ap length d.1, length-append d.0 ((48 + n % 10) ∷ []))
 
 -- its text ends with the last digit
-ends_with : (f : Field) (last : ℕ) → length f.text ≡ 16 → 1 ≤ f.len → f.len ≤ 16
+ends_with : (f : Field) (last : ℕ) → length f.text ≡ 8 → 1 ≤ f.len → f.len ≤ 8
     → take f.len (slice_set f.text (f.len - 1) last) ≡ take (f.len - 1) f.text ++ (last ∷ [])
 ends_with f last room one short = take-set_at f.text (f.len - 1) f.len last (omega arith) (omega arith)
 
 -- so the last digit is that of the number
-digit_of : (n : ℕ) (f : Field) (last : ℕ) → length f.text ≡ 16 → 1 ≤ f.len → (fits : n + 1 < 2 ^ 64) → IsField n (with_last f last)
+digit_of : (n : ℕ) (f : Field) (last : ℕ) → length f.text ≡ 8 → 1 ≤ f.len → (fits : n + 1 < 2 ^ 64) → IsField n (with_last f last)
     → (last ≡ 48 + n % 10) × (take (f.len - 1) f.text ≡ 32 ∷ (last_digit n fits).0)
 digit_of n f last room one fits is =
     let d = last_digit n fits in
@@ -30,11 +30,11 @@ digit_of n f last room one fits is =
     (same, append_cancel_right front (32 ∷ d.0) (x ∷ []) (subst (λ y. front ++ (y ∷ []) ≡ (32 ∷ d.0) ++ (x ∷ [])) same e))
 
 -- it is a digit
-pub digit_small : (n : ℕ) (f : Field) (last : ℕ) → length f.text ≡ 16 → 1 ≤ f.len → n + 1 < 2 ^ 64 → IsField n (with_last f last) → last ≤ 57
+pub digit_small : (n : ℕ) (f : Field) (last : ℕ) → length f.text ≡ 8 → 1 ≤ f.len → n + 1 < 2 ^ 64 → IsField n (with_last f last) → last ≤ 57
 digit_small n f last room one fits is = omega (arith, (digit_of n f last room one fits is).0)
 
 -- where it has one after it, the next number's field has that one
-pub next_field : (n : ℕ) (f : Field) (last : ℕ) → length f.text ≡ 16 → 1 ≤ f.len → n + 1 < 2 ^ 64 → IsField n (with_last f last) → last < 57
+pub next_field : (n : ℕ) (f : Field) (last : ℕ) → length f.text ≡ 8 → 1 ≤ f.len → n + 1 < 2 ^ 64 → IsField n (with_last f last) → last < 57
     → IsField (n + 1) (with_last f (last + 1))
 next_field n f last room one fits is small =
     let d = last_digit n fits in
@@ -47,9 +47,9 @@ next_field n f last room one fits is small =
 
 -- a field that is the number's with this last digit
 abbrev pub IsNow : ℕ → Field → ℕ → Type 0
-IsNow n f last = (length f.text ≡ 16) × (1 ≤ f.len) × IsField n (with_last f last)
+IsNow n f last = (length f.text ≡ 8) × (1 ≤ f.len) × IsField n (with_last f last)
 
 -- a field has its own last digit
-pub own_last : (n : ℕ) (f : Field) → length f.text ≡ 16 → n + 1 < 2 ^ 64 → IsField n f → IsNow n f (get_or f.text (f.len - 1) 0)
+pub own_last : (n : ℕ) (f : Field) → length f.text ≡ 8 → n + 1 < 2 ^ 64 → IsField n f → IsNow n f (get_or f.text (f.len - 1) 0)
 own_last n f room fits is =
     (room, omega (arith, field_long n f room fits is), subst (IsField n) (sym (ap (λ s. record { text = s; len = f.len }) (set-get_or f.text (f.len - 1) 0))) is)

@@ -5,7 +5,7 @@ use Rattle.mesh_files.specs.declared.fields.Field.{Field}
 
 -- a space and the decimals of the number
 abbrev pub IsField : ℕ → Field → Type 0
-IsField number f = (f.len ≤ 16) × (take f.len f.text ≡ 32 ∷ decimal number)
+IsField number f = (f.len ≤ 8) × (take f.len f.text ≡ 32 ∷ decimal number)
 
 -- a field with another last digit
 abbrev pub with_last : Field → ℕ → Field

@@ -9,8 +9,12 @@ use crate::piece::{SPAN, put, write_field};
 use std::alloc::Global;
 use tet_ports::{Items, NoMemory};
 
-/// The bytes that are copied for a field that is at hand, which takes up to eleven.
-const SHORT: usize = 16;
+/// The bytes of a field that is at hand: a space and up to seven digits. The fewer they are, the
+/// more of the fields stay in the near cache.
+const SHORT: usize = 8;
+
+/// The numbers from here on have no field at hand.
+const MOST: u32 = 10_000_000;
 
 /// The field of a number: the first `len` bytes of the text are a space and the decimals.
 #[derive(Clone, Copy)]
@@ -27,16 +31,17 @@ pub(crate) struct Fields {
 }
 
 impl Fields {
-    /// Those of the numbers below this one.
+    /// Those of the numbers below this one, as far as they have up to seven digits.
     pub(crate) fn below(alloc: Global, count: u32) -> Result<Self, NoMemory> {
-        let mut known: Vec<Field> = Vec::with_capacity(alloc, count as usize)?;
+        let few = count.min(MOST);
+        let mut known: Vec<Field> = Vec::with_capacity(alloc, few as usize)?;
         let mut counter = Counter::new();
         let mut field = Field {
             text: [b' '; SHORT],
             len: 1,
         };
         let mut last = b'9' + 1;
-        for number in 0..count {
+        for number in 0..few {
             if last > b'9' {
                 counter.reach(u64::from(number));
                 field = field_of(&counter);
@@ -59,7 +64,7 @@ impl Fields {
 /// The field of the number of a counter.
 #[inline(always)]
 fn field_of(counter: &Counter) -> Field
-    requires { counter.now.number < 2 ^ 32 }
+    requires { counter.now.number < 10 ^ 7 }
     ensures { IsField counter.now.number result }
 {
     let mut line = [b' '; 1 + SPAN];
@@ -78,7 +83,7 @@ fn field_of(counter: &Counter) -> Field
 fn push_with_last(known: &mut Vec<Field>, field: Field, last: u8)
     requires room { vec_len known.old < vec_capacity known.old }
     requires digit { 1 ≤ field.len }
-    requires short { field.len ≤ 16 }
+    requires short { field.len ≤ 8 }
     ensures pushed { known.new.items ≡ known.old.items ++ with_last field last ∷ [] }
     ensures longer { vec_len known.new ≡ vec_len known.old + 1 }
     ensures capacity { vec_capacity known.new ≡ vec_capacity known.old }

@@ -8,7 +8,7 @@ use Rattle.mesh_files.proofs.fields.Fields.below.Goals.{then-last-gt57, else-las
 use Rattle.mesh_files.proofs.fields.Fields.below.Goals as goal
 
 -- a field that was just made, with its last digit
-made : (n m : ℕ) (f g : Field) (len last : ℕ) → length f.text ≡ 16 → n + 1 < 2 ^ 64 → m ≡ n → IsField m f → len ≡ f.len → g ≡ f
+made : (n m : ℕ) (f g : Field) (len last : ℕ) → length f.text ≡ 8 → n + 1 < 2 ^ 64 → m ≡ n → IsField m f → len ≡ f.len → g ≡ f
     → last ≡ get_or f.text (len - 1) 0 → IsNow n g last
 made n m f g len last room fits reached is long same read =
     subst (λ (h : Field). IsNow n h last) (sym same)

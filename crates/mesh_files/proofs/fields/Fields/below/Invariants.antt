@@ -7,10 +7,10 @@ abbrev pub invariant-loop-number : goal.invariant-loop-number
 invariant-loop-number l = record {
   count : length l.known.items ≡ l.number;
   right : AreFields l.known.items;
-  text : length l.field.text ≡ 16;
+  text : length l.field.text ≡ 8;
   digit : 1 ≤ l.field.len;
-  short : l.field.len ≤ 16;
+  short : l.field.len ≤ 8;
   past : l.last ≤ 58;
   next : l.last < 58 → IsField l.number (with_last l.field l.last);
-  room : vec_len l.known + l.count ≤ vec_capacity l.known + l.number;
+  room : vec_len l.known + l.few ≤ vec_capacity l.known + l.number;
 }
