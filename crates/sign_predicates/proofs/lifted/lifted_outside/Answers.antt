@@ -1,4 +1,4 @@
-use Rattle.std.proofs.Common.{ℤ, pos, ◌≡◌, ◌≢◌, ◌⊎◌, refl, subst, ap, ◌∙◌, inl, inr}
+use Rattle.std.proofs.Common.{ℤ, pos, ◌≡◌, ◌≢◌, refl, subst, ap, ◌∙◌, inl, inr}
 use Rattle.std.specs.Prelude.{int_lt}
 use Rattle.exact_algebra.proofs.Size.{read}
 use Rattle.sign_predicates.specs.Sphere.{in_sphere, wins_tie}

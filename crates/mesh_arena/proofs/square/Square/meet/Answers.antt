@@ -1,4 +1,4 @@
-use Rattle.std.proofs.Common.{◌<◌, length, refl, sym, ap, ◌∙◌, arith}
+use Rattle.std.proofs.Common.{◌<◌, length, refl, ap, ◌∙◌, arith}
 use Rattle.std.proofs.lemmas.List.{length-map}
 use Rattle.mesh_arena.specs.declared.edge.Ends.{Ends}
 use Rattle.mesh_arena.specs.Edges.{SquareValue, place_of, face_of}
