@@ -31,7 +31,8 @@ pub(crate) struct Fields {
 }
 
 impl Fields {
-    /// Those of the numbers below this one, as far as they have up to seven digits.
+    /// Those of the numbers below this one, as far as they have up to seven digits. The ten that
+    /// differ in their last digit alone are made from one field.
     pub(crate) fn below(alloc: Global, count: u32) -> Result<Self, NoMemory> {
         let few = count.min(MOST);
         let mut known: Vec<Field> = Vec::with_capacity(alloc, few as usize)?;
