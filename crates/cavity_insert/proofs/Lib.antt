@@ -15,3 +15,4 @@ pub mod OneMore
 pub mod SlotSides
 pub mod Cones
 pub mod RowKeys
+pub mod Turns

@@ -10,17 +10,23 @@ use Rattle.mesh_laws.specs.Reach.{Grown}
 use Rattle.mesh_laws.specs.Laws.{IsWholeFrom}
 use Rattle.cavity_insert.specs.declared.grow.Growth.{Growth}
 use Rattle.cavity_insert.specs.Search.{SearchValue, IsInZone}
-use Rattle.cavity_insert.specs.Grow.{Growing}
+use Rattle.cavity_insert.specs.Grow.{entry_at, AreEntered, Growing}
 
 -- nothing has been found yet
 pub record HasBegun (g : Growth) (start : Slot) : Type 0 where
   pub start_is : g.start ≡ start
   pub cavity : g.cavity ≡ []
+  pub entries : g.entries.items ≡ []
   pub rim : g.rim ≡ []
 
--- the growth has come to the face k of the slot i of its cavity
-abbrev pub IsGrowing : SearchValue → Growth → ℕ → ℕ → Type 0
-IsGrowing search g i k = Growing search.slots (IsInZone search) g.start.index g.cavity g.rim i k
+-- the face through which the slot i of the cavity was entered
+abbrev pub entry_of : Growth → ℕ → ℕ
+entry_of g i = entry_at g.entries.items i
+
+-- the growth has come to the turn k of the slot i of its cavity
+pub record IsGrowing (search : SearchValue) (g : Growth) (i k : ℕ) : Type 0 where
+  pub entered : AreEntered search.slots g.cavity g.entries.items
+  pub growing : Growing search.slots (IsInZone search) g.start.index g.cavity g.rim i (entry_of g i) k
 
 -- the cavity has the conflict zone of the point with the number p, and this is its rim
 pub record IsCavityOf (slots : List (Option SlotValue)) (ps : List Point) (p : ℕ) (cavity : List Slot) (rim : List RimFace) : Type 0 where

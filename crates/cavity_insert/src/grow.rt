@@ -5,7 +5,8 @@ ghost use Rattle.point_locate.specs.Place.{AreCornersOn};
 ghost use Rattle.mesh_laws.specs.Rule.{IsTaken};
 ghost use Rattle.mesh_laws.specs.Reach.{Grown};
 ghost use Rattle.cavity_insert.specs.Search.{IsInZone};
-ghost use Rattle.cavity_insert.specs.Growth.{HasBegun, IsGrowing};
+ghost use Rattle.cavity_insert.specs.Grow.{turn};
+ghost use Rattle.cavity_insert.specs.Growth.{HasBegun, IsGrowing, entry_of};
 
 use crate::lifting::Sites;
 use crate::marks::MarkedCavity;
@@ -24,6 +25,8 @@ pub(crate) struct Growth {
     start: Slot,
     // The slots of the conflict zone that were found, and the faces round them.
     pub(crate) cavity: MarkedCavity,
+    // The face through which each of these slots was entered; 0 for the first.
+    entries: Vec<u8>,
     pub(crate) rim: Rim,
 }
 
@@ -33,6 +36,7 @@ impl Growth {
         Growth {
             start: Slot { index: 0 },
             cavity: MarkedCavity::new(alloc),
+            entries: Vec::new(alloc),
             rim: Rim::new(alloc),
         }
     }
@@ -43,11 +47,12 @@ impl Growth {
     {
         self.start = start;
         self.cavity.clear();
+        self.entries.clear();
         self.rim.clear();
     }
 
-    // Looks over the face k of the slot i of the cavity. A slot that is not taken is tested again
-    // from each face of the cavity that it is behind.
+    // Looks over the face k of the slot i of the cavity, whose turn has come. A slot that is not
+    // taken is tested again from each face of the cavity that it is behind.
     fn visit<L: Ledger>(
         &mut self,
         search: &Search<'_>,
@@ -58,8 +63,10 @@ impl Growth {
         requires mesh { IsMesh search.now.slots }
         requires inside { i < length self.old.cavity }
         requires face { k < 4 }
-        requires growing { IsGrowing search.now self.old i k }
-        ensures growing { OnOk result (IsGrowing search.now self.new i (k + 1)) }
+        requires growing { IsGrowing search.now self.old i (turn (entry_of self.old i) k) }
+        ensures growing { OnOk result (IsGrowing search.now self.new i
+            (turn (entry_of self.old i) k + 1)) }
+        ensures entry { OnOk result (entry_of self.new i ≡ entry_of self.old i) }
         ensures start { self.new.start ≡ self.old.start }
         ensures few { OnOk result (steps.new ≤ steps.old + 1) }
         ensures many { OnOk result (length self.new.cavity + steps.old
@@ -72,14 +79,17 @@ impl Growth {
         if self.cavity.has(f.slot) {
             Ok(())
         } else if search.test(f.slot, steps) {
-            self.cavity.push(f.slot)
+            self.cavity.push(f.slot)?;
+            self.entries.push(f.face)?;
+            Ok(())
         } else {
             self.rim.push(f)
         }
     }
 
-    // Looks over the faces of the slot i of the cavity.
-    fn visit_faces<L: Ledger>(
+    // Looks over the faces of the slot i of the cavity, but the one through which it was entered:
+    // the slot behind that one is in the cavity.
+    fn visit_others<L: Ledger>(
         &mut self,
         search: &Search<'_>,
         i: usize,
@@ -87,16 +97,17 @@ impl Growth {
     ) -> Result<(), NoMemory>
         requires mesh { IsMesh search.now.slots }
         requires inside { i < length self.old.cavity }
-        requires growing { IsGrowing search.now self.old i 0 }
-        ensures growing { OnOk result (IsGrowing search.now self.new (i + 1) 0) }
+        requires growing { IsGrowing search.now self.old i 1 }
+        ensures growing { OnOk result (IsGrowing search.now self.new (i + 1) 1) }
         ensures start { self.new.start ≡ self.old.start }
-        ensures few { OnOk result (steps.new ≤ steps.old + 4) }
+        ensures few { OnOk result (steps.new ≤ steps.old + 3) }
         ensures many { OnOk result (length self.new.cavity + steps.old
             ≤ length self.old.cavity + steps.new) }
         ensures longer { OnOk result (length self.old.cavity ≤ length self.new.cavity) }
     {
-        for k in 0..4u8 {
-            self.visit(search, i, k, steps)?;
+        let entry = self.entries[i];
+        for k in 1..4u8 {
+            self.visit(search, i, entry ^ k, steps)?;
         }
         Ok(())
     }
@@ -118,9 +129,11 @@ impl Growth {
         search.see(start);
         search.test(start, steps);
         self.cavity.push(start)?;
+        self.entries.push(0)?;
+        self.visit(search, 0, 0, steps)?;
         let mut i = 0;
         while i < self.cavity.len() {
-            self.visit_faces(search, i, steps)?;
+            self.visit_others(search, i, steps)?;
             i += 1;
         }
         Ok(())

@@ -3,7 +3,7 @@ use Rattle.cavity_insert.proofs.Insertion.{grown_for}
 use Rattle.cavity_insert.proofs.grow.grow_cavity.Goals as goal
 
 pub grow-requires-clause-begun : goal.grow-requires-clause-begun
-grow-requires-clause-begun g c = let begun = c.begin.ensures in record { start_is = refl; cavity = begun.cavity; rim = begun.rim }
+grow-requires-clause-begun g c = let begun = c.begin.ensures in record { start_is = refl; cavity = begun.cavity; entries = begun.entries; rim = begun.rim }
 
 pub grow-requires-clause-start : goal.grow-requires-clause-start
 grow-requires-clause-start g c = rw (c.new-search.ensures, c.begin.ensures.start_is) c.requires.start

@@ -19,7 +19,7 @@ pub new-search-requires-clause-corners : goal.new-search-requires-clause-corners
 new-search-requires-clause-corners g c = corners_on _ c.args.sites.now.points.now c.requires.ready.0 c.args.number c.tet.ensures.mesh c.requires.ready.1
 
 pub grow-requires-clause-begun : goal.grow-requires-clause-begun
-grow-requires-clause-begun g c = let begun = c.begin.ensures in record { start_is = refl; cavity = begun.cavity; rim = begun.rim }
+grow-requires-clause-begun g c = let begun = c.begin.ensures in record { start_is = refl; cavity = begun.cavity; entries = begun.entries; rim = begun.rim }
 
 pub grow-requires-clause-start : goal.grow-requires-clause-start
 grow-requires-clause-start g c =

@@ -1,4 +1,4 @@
-use Rattle.std.proofs.Common.{◌≡◌, ◌*◌, ◌≤◌, ◌-◌, ◌+◌, length}
+use Rattle.std.proofs.Common.{◌≡◌, ◌<◌, ◌*◌, ◌≤◌, ◌-◌, ◌+◌, length}
 use Rattle.cavity_insert.specs.Growth.{IsGrowing}
 use Rattle.cavity_insert.proofs.grow.Growth.grow.Given as goal
 
@@ -6,10 +6,11 @@ abbrev pub invariant-loop-i : goal.invariant-loop-i
 invariant-loop-i g l =
     record {
       inside : l.i ≤ length l.self.cavity;
-      few : l.steps ≤ l.fn.steps + (4 * l.i + 1);
+      begun : 0 < length l.self.cavity;
+      few : l.steps ≤ l.fn.steps + (3 * l.i + 2);
       many : l.fn.steps + length l.self.cavity ≤ l.steps;
       start : l.self.start ≡ l.fn.self.start;
-      growing : IsGrowing l.search l.self l.i 0;
+      growing : IsGrowing l.search l.self l.i 1;
     }
 
 abbrev pub decreases-loop-i : goal.decreases-loop-i
