@@ -1,5 +1,5 @@
 //! The cavity of a new point: a search from one slot over neighbors in the point's conflict zone.
-ghost use Rattle.std.specs.Prelude.{◌≡◌, ◌+◌, ◌*◌, ◌<◌, ◌≤◌, length, IfOk, OnOk};
+ghost use Rattle.std.specs.Prelude.{◌≡◌, ◌+◌, ◌*◌, ◌<◌, ◌≤◌, min, length, IfOk, OnOk};
 ghost use Rattle.mesh_arena.specs.Mesh.{IsMesh};
 ghost use Rattle.point_locate.specs.Place.{AreCornersOn};
 ghost use Rattle.mesh_laws.specs.Rule.{IsTaken};
@@ -87,9 +87,10 @@ impl Growth {
         }
     }
 
-    // Looks over the faces of the slot i of the cavity, but the one through which it was entered:
-    // the slot behind that one is in the cavity.
-    fn visit_others<L: Ledger>(
+    // Looks over the faces of the slot i of the cavity. The first slot is looked over all round, and
+    // a later one not through the face by which it was entered: the slot behind that one is in the
+    // cavity.
+    fn visit_faces<L: Ledger>(
         &mut self,
         search: &Search<'_>,
         i: usize,
@@ -97,16 +98,17 @@ impl Growth {
     ) -> Result<(), NoMemory>
         requires mesh { IsMesh search.now.slots }
         requires inside { i < length self.old.cavity }
-        requires growing { IsGrowing search.now self.old i 1 }
+        requires growing { IsGrowing search.now self.old i (min i 1) }
         ensures growing { OnOk result (IsGrowing search.now self.new (i + 1) 1) }
         ensures start { self.new.start ≡ self.old.start }
-        ensures few { OnOk result (steps.new ≤ steps.old + 3) }
+        ensures few { OnOk result (steps.new ≤ steps.old + 4) }
         ensures many { OnOk result (length self.new.cavity + steps.old
             ≤ length self.old.cavity + steps.new) }
         ensures longer { OnOk result (length self.old.cavity ≤ length self.new.cavity) }
     {
         let entry = self.entries[i];
-        for k in 1..4u8 {
+        let first = i.min(1) as u8;
+        for k in first..4 {
             self.visit(search, i, entry ^ k, steps)?;
         }
         Ok(())
@@ -130,10 +132,9 @@ impl Growth {
         search.test(start, steps);
         self.cavity.push(start)?;
         self.entries.push(0)?;
-        self.visit(search, 0, 0, steps)?;
         let mut i = 0;
         while i < self.cavity.len() {
-            self.visit_others(search, i, steps)?;
+            self.visit_faces(search, i, steps)?;
             i += 1;
         }
         Ok(())

@@ -3,7 +3,7 @@ use Rattle.cavity_insert.specs.Grow.{turn}
 use Rattle.cavity_insert.specs.Growth.{IsGrowing, entry_of}
 use Rattle.cavity_insert.proofs.Growth.{Growing-row, Growing-entered}
 use Rattle.cavity_insert.proofs.Turns.{turn_back, turn_small}
-use Rattle.cavity_insert.proofs.grow.Growth.visit_others.Goals as goal
+use Rattle.cavity_insert.proofs.grow.Growth.visit_faces.Goals as goal
 
 pub visit-requires-clause-face : goal.visit-requires-clause-face
 visit-requires-clause-face g c =
