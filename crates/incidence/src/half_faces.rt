@@ -2,7 +2,8 @@
 ghost use Rattle.std.specs.Prelude.{◌≡◌, ◌↔◌, [], ◌∷◌, ◌++◌, ◌+◌, ◌<◌, true, length, All};
 ghost use Rattle.std.specs.Prelude.{AllPairs, Contains, IsTrue, OnOk, vec_len, vec_capacity};
 ghost use Rattle.geo_laws.specs.Faces.{face_of};
-ghost use Rattle.incidence.specs.HalfFaces.{opposite_face, point_at, use_of, used, marks_of};
+ghost use Rattle.incidence.specs.HalfFaces.{opposite_face, point_at, corner_number};
+ghost use Rattle.incidence.specs.HalfFaces.{corner_numbered, use_of, used, marks_of};
 ghost use Rattle.incidence.specs.HalfFaces.{IsArranged, IsByRow};
 ghost use Rattle.incidence.specs.Pairs.{is_face, has_face};
 ghost use Rattle.incidence.specs.Uses.{AreFirstsMarked};
@@ -55,6 +56,31 @@ pub(crate) fn point_at(row: Tet, corner: Corner) -> u32
     }
 }
 
+/// The place of a corner in its row, from 0.
+pub(crate) fn number_of(corner: Corner) -> usize
+    ensures number { result ≡ corner_number corner }
+    ensures small { result < 4 }
+{
+    match corner {
+        Corner::A => 0,
+        Corner::B => 1,
+        Corner::C => 2,
+        Corner::D => 3,
+    }
+}
+
+/// The corner at this place in its row.
+pub(crate) fn corner_numbered(number: u64) -> Corner
+    ensures { result ≡ corner_numbered number }
+{
+    match number {
+        0 => Corner::A,
+        1 => Corner::B,
+        2 => Corner::C,
+        _ => Corner::D,
+    }
+}
+
 /// For each corner whether this face of the row is the one opposite it. That is so where the face
 /// and the corner add up to the row.
 fn are_opposite(row: Tet, face: Face) -> [bool; 4]
@@ -94,14 +120,10 @@ fn is_arranged(row: Tet) -> bool
 }
 
 /// The first corner that this face of the row is opposite.
-fn corner_opposite(row: Tet, face: Face, arranged: bool) -> Corner
-    requires face { has_face face row ≡ true }
-    requires arranged { IsTrue arranged → IsArranged row }
+fn corner_opposite(row: Tet, face: Face) -> Corner
+    requires { has_face face row ≡ true }
     ensures { opposite_face row result ≡ face }
 {
-    if arranged {
-        return corner_left_out(row, face);
-    }
     let [a, b, c, _] = are_opposite(row, face);
     if a {
         return Corner::A;
@@ -113,24 +135,6 @@ fn corner_opposite(row: Tet, face: Face, arranged: bool) -> Corner
         return Corner::C;
     }
     Corner::D
-}
-
-/// The same where the corners ascend, but for the order of the last two: so many points of the face
-/// and of the row agree, from the first ones on.
-fn corner_left_out(row: Tet, face: Face) -> Corner
-    requires face { has_face face row ≡ true }
-    requires arranged { IsArranged row }
-    ensures { opposite_face row result ≡ face }
-{
-    let first = face.a == row.a;
-    let second = first & (face.b == row.b);
-    let third = second & (face.c == row.c);
-    match u8::from(first) + u8::from(second) + u8::from(third) {
-        0 => Corner::A,
-        1 => Corner::B,
-        2 => Corner::C,
-        _ => Corner::D,
-    }
 }
 
 /// The use that a half-face is.
@@ -145,14 +149,7 @@ pub(crate) fn use_of(list: &TetList, half: HalfFace) -> Use
 }
 
 /// Appends a use, for which there is room, and marks whether it is the first one of its face.
-pub(crate) fn push_half(
-    halves: &mut Vec<HalfFace>,
-    list: &TetList,
-    arranged: bool,
-    new_use: Use,
-    first: bool,
-)
-    requires arranged { IsTrue arranged → All IsArranged list.now }
+fn push_half(halves: &mut Vec<HalfFace>, list: &TetList, new_use: Use, first: bool)
     requires by_row { IsByRow list.now new_use }
     requires room { vec_len halves.old < vec_capacity halves.old }
     ensures used { used list.now halves.new.items ≡ used list.now halves.old.items ++ new_use ∷ [] }
@@ -163,7 +160,7 @@ pub(crate) fn push_half(
     let Use { face, row } = new_use;
     halves.push_reserved(HalfFace {
         row,
-        opposite: corner_opposite(list.at(row as usize), face, arranged),
+        opposite: corner_opposite(list.at(row as usize), face),
         first,
     });
 }
@@ -184,7 +181,7 @@ pub(crate) fn push_halves(
     halves.reserve(uses.len())?;
     for at in 0..uses.len() {
         let first = at == 0 || uses[at - 1].face != uses[at].face;
-        push_half(halves, list, false, uses[at], first);
+        push_half(halves, list, uses[at], first);
     }
     Ok(())
 }

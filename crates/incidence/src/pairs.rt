@@ -2,13 +2,13 @@
 ghost use Rattle.std.specs.Prelude.{◌≡◌, [], ◌∷◌, ◌+◌, ◌-◌, ◌<◌, ◌^◌, length, map};
 ghost use Rattle.std.specs.Prelude.{IfOk, IfSome, IsTrue, HoldsAt};
 ghost use Rattle.geo_laws.specs.Faces.{face_of};
-ghost use Rattle.incidence.specs.HalfFaces.{opposite_face, corner_number, IsArranged};
+ghost use Rattle.incidence.specs.HalfFaces.{opposite_face, IsArranged};
 ghost use Rattle.incidence.specs.Links.{row_at};
 ghost use Rattle.incidence.specs.Pairs.{pairs_of, placed, is_face, place_in, across_in};
 ghost use Rattle.incidence.specs.Pairs.{IsAcrossWithin, AreAllWithin};
 ghost use Rattle.incidence.specs.Uses.{AreUsesOf};
 
-use crate::half_faces::{Corner, HalfFace, are_arranged, point_at};
+use crate::half_faces::{Corner, HalfFace, are_arranged, number_of, point_at};
 use crate::uses::{Uses, partner_at, run_start, uses_of};
 use geo_laws::{Tet, TetList};
 use std::alloc::Global;
@@ -178,19 +178,6 @@ fn put_partner(list: &TetList, half: HalfFace, arranged: bool, place: u32, place
         return;
     }
     places.rows[number_of(half.opposite)] = place;
-}
-
-/// The place of a corner in its row, from 0.
-fn number_of(corner: Corner) -> usize
-    ensures number { result ≡ corner_number corner }
-    ensures small { result < 4 }
-{
-    match corner {
-        Corner::A => 0,
-        Corner::B => 1,
-        Corner::C => 2,
-        Corner::D => 3,
-    }
 }
 
 /// Puts in the partner across the face opposite a corner of a row, at each corner at its point.
