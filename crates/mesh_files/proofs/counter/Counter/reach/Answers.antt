@@ -2,7 +2,7 @@ use Rattle.std.proofs.Common.{◌++◌, drop, ap, sym, ◌∙◌, arith}
 use Rattle.std.proofs.lemmas.Fmt.{length-decimal-le}
 use Rattle.std.proofs.lemmas.List.{set-get_or}
 use Rattle.std.specs.Fmt.{decimal}
-use Rattle.mesh_files.proofs.Pieces.{stepped_beside, written_length, written_rest, some_digit}
+use Rattle.mesh_files.proofs.Pieces.{stepped_beside, written_rest, some_digit}
 use Rattle.mesh_files.proofs.counter.Counter.reach.Goals as goal
 
 pub write_digits-self-requires : goal.write_digits-self-requires
