@@ -1,0 +1,5 @@
+pub mod Groups
+pub mod Members
+pub mod Inner
+pub mod Planes
+pub mod Once
