@@ -1,0 +1,13 @@
+pub mod Labels
+pub mod FacetSides
+pub mod Earlier
+pub mod OnlyPolygons
+pub mod Hands
+pub mod Once
+pub mod BesideOf
+pub mod Joins
+pub mod Notes
+pub mod Merged
+pub mod Outer
+pub mod Parts
+pub mod Walk

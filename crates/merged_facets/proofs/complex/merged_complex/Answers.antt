@@ -1,0 +1,12 @@
+use Rattle.std.proofs.Common.{◌≡◌, ℕ, subst, sym, arith}
+use Rattle.merged_facets.specs.Merging.{group_of}
+use Rattle.merged_facets.proofs.Parts.{facet_making, merged_more}
+use Rattle.merged_facets.proofs.complex.merged_complex.Goals as goal
+
+pub add_members-requires-clause-making : goal.add_members-requires-clause-making
+add_members-requires-clause-making c =
+    facet_making c.args.complex.now.polygons _ c.loop-f.made c.add_facet.new.self c.loop-f.invariant.making c.in_ok-add_facet.ensures.ok
+
+pub loop-f-preserved : goal.loop-f-preserved
+loop-f-preserved c =
+    merged_more (group_of c.args.merging.now) c.args.complex.now c.loop-f.f _ c.loop-f.made c.add_facet.new.self c.add_members.new.made c.loop-f.invariant c.in_ok-add_facet.ensures.ok c.in_ok-add_members.ensures
