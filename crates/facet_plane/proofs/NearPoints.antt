@@ -21,10 +21,10 @@ use Rattle.geo_laws.proofs.Members.{IsMember, here, there, contains_of, member_o
 use Rattle.facet_laws.specs.Box.{in_box}
 use Rattle.facet_laws.specs.PlaneRows.{ArePlaneNumbers}
 use Rattle.facet_laws.specs.Region.{through}
+use Rattle.facet_laws.proofs.Chains.{all_at}
 use Rattle.facet_laws.proofs.Boxes.{inside, is_inside, law_box}
 use Rattle.facet_laws.proofs.Facets.{plane_corners, corner_flat, region_is}
 use Rattle.facet_laws.proofs.OnPiece.{zero_test}
-use Rattle.facet_laws.proofs.Pieces.{all_at}
 use Rattle.facet_laws.proofs.Sublist.{rises_of_pairs}
 use Rattle.box_tree.specs.declared.bounds.Bounds.{Bounds}
 use Rattle.box_tree.specs.declared.bounds.Interval.{Interval}
