@@ -4,7 +4,8 @@ use Rattle.std.specs.Prelude.{All}
 use Rattle.sign_predicates.specs.Point.{Point}
 use Rattle.geo_laws.specs.Complex.{Complex, facets}
 use Rattle.geo_laws.specs.Delaunay.{delaunay_rows, AreCoplanar}
-use Rattle.geo_laws.specs.Facet.{IsFlat}
+use Rattle.geo_laws.specs.Facet.{Facet, IsFlat}
+use Rattle.geo_laws.specs.Segment.{pieces}
 use Rattle.geo_laws.specs.declared.tetrahedra.Tet.{Tet}
 use Rattle.geo_laws.specs.declared.complex.Piece.{Piece}
 use Rattle.geo_laws.specs.declared.complex.FacetTriangle.{FacetTriangle}
@@ -23,16 +24,17 @@ use Rattle.facet_recover.specs.Refilled.{IsCause}
 use Rattle.facet_recover.specs.declared.recover.RecoverFault.{RecoverFault}
 use Rattle.facet_recover.specs.declared.recover.RecoverFault.TheVariants as recovery
 use Rattle.complex_mesh.specs.Faults.{protect_fault, plane_fault, recover_fault}
-use Rattle.complex_mesh.specs.Protection.{IsProtectedComplex, input_pieces, complex_triangles}
+use Rattle.complex_mesh.specs.Protection.{AreMeshed, IsProtectedComplex, complex_triangles}
 use Rattle.complex_mesh.specs.Steps.{IsCrossingFault, IsTangleFault}
 use Rattle.complex_mesh.specs.Meshing.{IsMeshFault}
 use Rattle.complex_mesh.specs.declared.fault.MeshFault.{MeshFault}
 use Rattle.complex_mesh.specs.declared.fault.MeshFault.TheVariants.{Flat, NotFlat, SegmentsCross, GridEnd, BudgetEnd, Crossing, NoFill, NoMemory}
+use Rattle.complex_mesh.specs.declared.mesh.MeshOptions.{MeshOptions}
 use Rattle.complex_mesh.proofs.Triangles.{coplanar_flat}
 
 -- where a facet is not flat, the points are not all in one plane
-pub not_flat_cause : (halvings budget : ℕ) (ps : List Point) (c : Complex) (bent : Bent) → HasCornersOf ps c → IsFirstNotFlat ps (facets c) bent → IsMeshFault halvings budget ps c (NotFlat bent.facet bent.four)
-not_flat_cause halvings budget ps c bent on h = (solid, h)
+pub not_flat_cause : (o : MeshOptions) (ps : List Point) (c : Complex) (bent : Bent) → HasCornersOf ps c → IsFirstNotFlat ps (facets c) bent → IsMeshFault o ps c (NotFlat bent.facet bent.four)
+not_flat_cause o ps c bent on h = (solid, h)
   where
     never : None ≡ Some bent.four → ⊥
     never e = cc
@@ -41,17 +43,18 @@ not_flat_cause halvings budget ps c bent on h = (solid, h)
     solid flat =
         never (sym ((law_flat ps (facet_at (facets c) bent.facet)).1 (coplanar_flat ps c on flat bent.facet h.there)) ∙ h.four (record { polygons = []; holes = [] }))
 
-pub protect_cause : (halvings budget : ℕ) (ps : List Point) (c : Complex) → All (IsFlat ps) (facets c) → (f : ProtectFault) → IsProtectFault halvings budget ps (input_pieces ps c) f → IsMeshFault halvings budget ps c (protect_fault f)
-protect_cause halvings budget ps c flat protection.Flat h = h
-protect_cause halvings budget ps c flat (protection.SegmentsCross one two) h = (h.0, flat, h.1)
-protect_cause halvings budget ps c flat (protection.GridEnd piece) h = (flat, h.0, h.1)
-protect_cause halvings budget ps c flat (protection.BudgetEnd made piece) h = (flat, h.0, h.1, h.2)
-protect_cause halvings budget ps c flat protection.NoMemory h = tt
+pub protect_cause : (o : MeshOptions) (ps : List Point) (c : Complex) (segs : List Piece) (fs : List Facet) → All (IsFlat ps) (facets c) → AreMeshed o.keep_facets ps c segs fs
+    → (f : ProtectFault) → IsProtectFault o.halvings o.budget ps (pieces ps segs) f → IsMeshFault o ps c (protect_fault f)
+protect_cause o ps c segs fs flat meshed protection.Flat h = h
+protect_cause o ps c segs fs flat meshed (protection.SegmentsCross one two) h = (segs, fs, h.0, flat, meshed, h.1)
+protect_cause o ps c segs fs flat meshed (protection.GridEnd piece) h = (segs, fs, flat, meshed, h.0, h.1)
+protect_cause o ps c segs fs flat meshed (protection.BudgetEnd made piece) h = (segs, fs, flat, meshed, h.0, h.1, h.2)
+protect_cause o ps c segs fs flat meshed protection.NoMemory h = tt
 
-pub plane_cause : (qs : List Point) (rest : List Piece) (c : Complex) (ts : List FacetTriangle) → ts ≡ complex_triangles qs c → (f : PlaneFault) → IsPlaneFault qs ts rest f → IsCrossingFault qs rest c (plane_fault f)
-plane_cause qs rest c ts e f h = by f (subst (λ us. IsPlaneFault qs us rest f) e h)
+pub plane_cause : (qs : List Point) (rest : List Piece) (fs : List Facet) (ts : List FacetTriangle) → ts ≡ complex_triangles qs fs → (f : PlaneFault) → IsPlaneFault qs ts rest f → IsCrossingFault qs rest fs (plane_fault f)
+plane_cause qs rest fs ts e f h = by f (subst (λ us. IsPlaneFault qs us rest f) e h)
   where
-    by : (f : PlaneFault) → IsPlaneFault qs (complex_triangles qs c) rest f → IsCrossingFault qs rest c (plane_fault f)
+    by : (f : PlaneFault) → IsPlaneFault qs (complex_triangles qs fs) rest f → IsCrossingFault qs rest fs (plane_fault f)
     by (planes.Crossing one two) h = h
     by planes.NoMemory h = tt
 
@@ -62,26 +65,26 @@ recover_cause qs ts rows e f h = by f (subst (λ us. IsCause qs ts us f) e h)
     by (recovery.NoFill anomaly) h = h
     by recovery.NoMemory h = tt
 
-pub crossing_cause : (halvings budget : ℕ) (ps : List Point) (c : Complex) (qs : List Point) (rest : List Piece) → IsProtectedComplex halvings budget ps c qs rest → (f : MeshFault) → IsCrossingFault qs rest c f
-    → IsMeshFault halvings budget ps c f
-crossing_cause halvings budget ps c qs rest p (Crossing one two) h = (qs, rest, p, h)
-crossing_cause halvings budget ps c qs rest p NoMemory h = tt
-crossing_cause halvings budget ps c qs rest p Flat h = absurd h
-crossing_cause halvings budget ps c qs rest p (NotFlat facet four) h = absurd h
-crossing_cause halvings budget ps c qs rest p (SegmentsCross one two) h = absurd h
-crossing_cause halvings budget ps c qs rest p (GridEnd piece) h = absurd h
-crossing_cause halvings budget ps c qs rest p (BudgetEnd made piece) h = absurd h
-crossing_cause halvings budget ps c qs rest p (NoFill anomaly) h = absurd h
+pub crossing_cause : (o : MeshOptions) (ps : List Point) (c : Complex) (segs : List Piece) (fs : List Facet) (qs : List Point) (rest : List Piece) → IsProtectedComplex o ps c segs fs qs rest → (f : MeshFault)
+    → IsCrossingFault qs rest fs f → IsMeshFault o ps c f
+crossing_cause o ps c segs fs qs rest p (Crossing one two) h = (segs, fs, qs, rest, p, h)
+crossing_cause o ps c segs fs qs rest p NoMemory h = tt
+crossing_cause o ps c segs fs qs rest p Flat h = absurd h
+crossing_cause o ps c segs fs qs rest p (NotFlat facet four) h = absurd h
+crossing_cause o ps c segs fs qs rest p (SegmentsCross one two) h = absurd h
+crossing_cause o ps c segs fs qs rest p (GridEnd piece) h = absurd h
+crossing_cause o ps c segs fs qs rest p (BudgetEnd made piece) h = absurd h
+crossing_cause o ps c segs fs qs rest p (NoFill anomaly) h = absurd h
 
-pub tangle_cause : (halvings budget : ℕ) (ps : List Point) (c : Complex) (qs : List Point) (rest : List Piece) (ts : List FacetTriangle) → IsProtectedComplex halvings budget ps c qs rest → ts ≡ complex_triangles qs c
-    → AreTrianglesMet qs ts rest → (f : MeshFault) → IsTangleFault qs ts f → IsMeshFault halvings budget ps c f
-tangle_cause halvings budget ps c qs rest ts p e met (NoFill anomaly) h =
+pub tangle_cause : (o : MeshOptions) (ps : List Point) (c : Complex) (segs : List Piece) (fs : List Facet) (qs : List Point) (rest : List Piece) (ts : List FacetTriangle) → IsProtectedComplex o ps c segs fs qs rest
+    → ts ≡ complex_triangles qs fs → AreTrianglesMet qs ts rest → (f : MeshFault) → IsTangleFault qs ts f → IsMeshFault o ps c f
+tangle_cause o ps c segs fs qs rest ts p e met (NoFill anomaly) h =
     let k = subst (λ us. IsTangleFault qs us (NoFill anomaly)) e h in
-    (qs, rest, p, subst (λ us. AreTrianglesMet qs us rest) e met, k.0, k.1)
-tangle_cause halvings budget ps c qs rest ts p e met NoMemory h = tt
-tangle_cause halvings budget ps c qs rest ts p e met Flat h = absurd h
-tangle_cause halvings budget ps c qs rest ts p e met (NotFlat facet four) h = absurd h
-tangle_cause halvings budget ps c qs rest ts p e met (SegmentsCross one two) h = absurd h
-tangle_cause halvings budget ps c qs rest ts p e met (GridEnd piece) h = absurd h
-tangle_cause halvings budget ps c qs rest ts p e met (BudgetEnd made piece) h = absurd h
-tangle_cause halvings budget ps c qs rest ts p e met (Crossing one two) h = absurd h
+    (segs, fs, qs, rest, p, subst (λ us. AreTrianglesMet qs us rest) e met, k.0, k.1)
+tangle_cause o ps c segs fs qs rest ts p e met NoMemory h = tt
+tangle_cause o ps c segs fs qs rest ts p e met Flat h = absurd h
+tangle_cause o ps c segs fs qs rest ts p e met (NotFlat facet four) h = absurd h
+tangle_cause o ps c segs fs qs rest ts p e met (SegmentsCross one two) h = absurd h
+tangle_cause o ps c segs fs qs rest ts p e met (GridEnd piece) h = absurd h
+tangle_cause o ps c segs fs qs rest ts p e met (BudgetEnd made piece) h = absurd h
+tangle_cause o ps c segs fs qs rest ts p e met (Crossing one two) h = absurd h

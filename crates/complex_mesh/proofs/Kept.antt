@@ -3,10 +3,11 @@ use Rattle.std.proofs.Common.{◌≡◌, ℕ, ◌<◌, false, List, [], length, 
 use Rattle.std.specs.Prelude.{All, Contains}
 use Rattle.std.specs.List.{slice_index_or}
 use Rattle.sign_predicates.specs.Point.{Point}
-use Rattle.geo_laws.specs.Complex.{Complex, corner_lists, facets}
+use Rattle.geo_laws.specs.Complex.{Complex}
 use Rattle.geo_laws.specs.Delaunay.{delaunay_rows}
 use Rattle.geo_laws.specs.Faces.{row_faces, faces_of_rows}
-use Rattle.geo_laws.specs.Facet.{corner_numbers}
+use Rattle.geo_laws.specs.Facet.{Facet, corner_numbers}
+use Rattle.geo_laws.specs.declared.complex.Facet.{Facet as StoredFacet}
 use Rattle.geo_laws.specs.Path.{FromOutside}
 use Rattle.geo_laws.specs.Mesh.{IsMesh, ends}
 use Rattle.geo_laws.specs.Simplex.{ProperlyMet}
@@ -27,20 +28,22 @@ use Rattle.recovery_laws.specs.Recovery.{IsRecovery}
 use Rattle.recovery_laws.proofs.Chain.{law_piece_of_rest}
 use Rattle.mesh_files.specs.FaceRows.{AreFacesMet, AreFacetsThere}
 use Rattle.facet_laws.specs.Faces.{Ascends}
-use Rattle.facet_plane.proofs.FlatFacets.{facet_count}
 use Rattle.complex_mesh.specs.Protection.{IsMeshable, IsProtectedComplex, first_triangles, complex_triangles}
 use Rattle.complex_mesh.specs.Steps.{IsRecovered, IsKeptMesh}
 use Rattle.complex_mesh.specs.Meshing.{IsComplexMesh}
 use Rattle.complex_mesh.specs.declared.mesh.MeshOptions.{MeshOptions}
 use Rattle.complex_mesh.specs.declared.mesh.ComplexMesh.{ComplexMesh}
 use Rattle.complex_mesh.proofs.Triangles.{triangles_ascend}
-use Rattle.complex_mesh.proofs.Protected.{recovery}
+use Rattle.complex_mesh.proofs.Protected.{recovery, meshed_count}
 
-module _ (o : MeshOptions) (ps : List Point) (c : Complex) (m : ComplexMesh) (rest : List Piece) (whole : List Tet) (given : IsMeshable o.halvings o.budget ps c)
-    (protected : IsProtectedComplex o.halvings o.budget ps c m.points rest) (triangles : m.triangles ≡ complex_triangles m.points c) (met : AreTrianglesMet m.points m.triangles rest)
+module _ (o : MeshOptions) (ps : List Point) (c : Complex) (m : ComplexMesh) (segs : List Piece) (fs : List Facet) (rest : List Piece) (whole : List Tet) (given : IsMeshable o.halvings o.budget ps c)
+    (protected : IsProtectedComplex o ps c segs fs m.points rest) (triangles : m.triangles ≡ complex_triangles m.points fs) (met : AreTrianglesMet m.points m.triangles rest)
     (recovered : IsRecovered m.points m.triangles whole) (kept : IsKeptMesh o c whole m) where
-  has : IsRecovery o.halvings o.budget ps (corner_lists c.polygons) (facets c) m.points rest m.triangles
-  has = recovery o.halvings o.budget ps c m.points rest given protected m.triangles triangles met
+  has : IsRecovery o.halvings o.budget ps segs fs m.points rest m.triangles
+  has = recovery o ps c segs fs m.points rest given protected m.triangles triangles met
+
+  count : length fs ≡ length c.facets
+  count = meshed_count o.keep_facets ps c segs fs protected.meshed
 
   is_mesh : IsMesh (carving_of o.keep_hull) m.points m.triangles c.holes m.tetrahedra
   is_mesh = law_kept_mesh (carving_of o.keep_hull) m.points m.triangles whole c.holes m.tetrahedra recovered.whole_mesh kept.carved.weights kept.carved.kept kept.carved.ascending
@@ -57,7 +60,7 @@ module _ (o : MeshOptions) (ps : List Point) (c : Complex) (m : ComplexMesh) (re
       (subst (λ b. IsCarved (carving_of b) m.points m.triangles c.holes (delaunay_rows m.points) m.tetrahedra) all (uncrossed (subst (HasNoCrossing m.points) (sym no_triangles) nothing))))
     where
       no_triangles : m.triangles ≡ []
-      no_triangles = triangles ∙ ap (λ fs. first_triangles m.points c (length fs)) none
+      no_triangles = triangles ∙ ap (first_triangles m.points fs) (count ∙ ap (λ (gs : List StoredFacet). length gs) none)
 
       nothing : HasNoCrossing m.points []
       nothing t l facet h = let k = h.2.1 in absurd (by k.0 k.2)
@@ -71,7 +74,7 @@ module _ (o : MeshOptions) (ps : List Point) (c : Complex) (m : ComplexMesh) (re
 
   faces_met : AreFacesMet m.points m.triangles m.tetrahedra
   faces_met k d l = record {
-    ascending = subst (All Ascends) (sym triangles) (triangles_ascend m.points c) k d l;
+    ascending = subst (All Ascends) (sym triangles) (triangles_ascend m.points fs) k d l;
     positive = λ i e n. (is_mesh.positive i e n).1;
     properly_met = λ face f.
         let r = flat_map_cases row_faces face m.tetrahedra (member_of (faces_of_rows m.tetrahedra) face f) in
@@ -82,10 +85,12 @@ module _ (o : MeshOptions) (ps : List Point) (c : Complex) (m : ComplexMesh) (re
   facets_there : AreFacetsThere m.triangles c
   facets_there k d l =
       let t = slice_index_or m.triangles k d in
-      subst (λ n. t.facet < n) (facet_count c) ((has.has_triangles.exactly t).0 (contains_of m.triangles t (at_place m.triangles k d l))).0
+      subst (λ n. t.facet < n) count ((has.has_triangles.exactly t).0 (contains_of m.triangles t (at_place m.triangles k d l))).0
 
   pub complex_mesh : IsComplexMesh o ps c m
   complex_mesh = record {
+    segs = segs;
+    fs = fs;
     rest = rest;
     protected = protected;
     triangles = triangles;
@@ -97,7 +102,7 @@ module _ (o : MeshOptions) (ps : List Point) (c : Complex) (m : ComplexMesh) (re
     by_sides = recovered.by_sides;
     no_facets = no_facets;
     pieces_kept = λ untangled p l.
-        law_piece_of_rest o.halvings o.budget ps (corner_lists c.polygons) (facets c) m.points rest m.triangles has untangled (carving_of o.keep_hull) c.holes whole m.tetrahedra
+        law_piece_of_rest o.halvings o.budget ps segs fs m.points rest m.triangles has untangled (carving_of o.keep_hull) c.holes whole m.tetrahedra
         (recovered.by_sides untangled) kept.carved p l (pieces_met p l);
     faces_met = faces_met;
     facets_there = facets_there;
@@ -106,9 +111,9 @@ module _ (o : MeshOptions) (ps : List Point) (c : Complex) (m : ComplexMesh) (re
   }
 
 -- the same, where the mesh has these points and triangles
-pub complex_mesh_of : (o : MeshOptions) (ps : List Point) (c : Complex) (m : ComplexMesh) (qs : List Point) (ts : List FacetTriangle) (rest : List Piece) (whole : List Tet) → IsMeshable o.halvings o.budget ps c
-    → IsProtectedComplex o.halvings o.budget ps c qs rest → ts ≡ complex_triangles qs c → AreTrianglesMet qs ts rest → IsRecovered qs ts whole → m.points ≡ qs → m.triangles ≡ ts → IsKeptMesh o c whole m → IsComplexMesh o ps c m
-complex_mesh_of o ps c m qs ts rest whole given protected triangles met recovered points_are triangles_are kept =
-    complex_mesh o ps c m rest whole given (subst (λ us. IsProtectedComplex o.halvings o.budget ps c us rest) (sym points_are) protected) (triangles_are ∙ triangles ∙ ap (λ us. complex_triangles us c) (sym points_are))
+pub complex_mesh_of : (o : MeshOptions) (ps : List Point) (c : Complex) (m : ComplexMesh) (segs : List Piece) (fs : List Facet) (qs : List Point) (ts : List FacetTriangle) (rest : List Piece) (whole : List Tet) → IsMeshable o.halvings o.budget ps c
+    → IsProtectedComplex o ps c segs fs qs rest → ts ≡ complex_triangles qs fs → AreTrianglesMet qs ts rest → IsRecovered qs ts whole → m.points ≡ qs → m.triangles ≡ ts → IsKeptMesh o c whole m → IsComplexMesh o ps c m
+complex_mesh_of o ps c m segs fs qs ts rest whole given protected triangles met recovered points_are triangles_are kept =
+    complex_mesh o ps c m segs fs rest whole given (subst (λ us. IsProtectedComplex o ps c segs fs us rest) (sym points_are) protected) (triangles_are ∙ triangles ∙ ap (λ us. complex_triangles us fs) (sym points_are))
     (subst (λ us. AreTrianglesMet us m.triangles rest) (sym points_are) (subst (λ us. AreTrianglesMet qs us rest) (sym triangles_are) met))
     (subst (λ us. IsRecovered us m.triangles whole) (sym points_are) (subst (λ us. IsRecovered qs us whole) (sym triangles_are) recovered)) kept

@@ -6,3 +6,4 @@ pub mod Recovered
 pub mod Kept
 pub mod OneAnswerParts
 pub mod OneAnswer
+pub mod Meshed

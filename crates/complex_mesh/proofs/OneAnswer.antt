@@ -1,10 +1,11 @@
 -- A complex has one answer. The causes are asked for one after another, each where none before it holds, and a mesh is what is left.
-use Rattle.std.proofs.Common.{◌≡◌, ℕ, List, Option, None, Some, refl, ap, sym, subst, ◌∙◌}
+use Rattle.std.proofs.Common.{◌≡◌, ℕ, Bool, true, false, map, length, List, Option, None, Some, refl, ap, sym, subst, ◌∙◌}
 use Rattle.std.specs.Prelude.{◌≢◌, All}
 use Rattle.sign_predicates.specs.Point.{Point}
 use Rattle.geo_laws.specs.Complex.{Complex, facets}
-use Rattle.geo_laws.specs.Delaunay.{AreCoplanar}
-use Rattle.geo_laws.specs.Segment.{protect, ProtectionEnd, Protected, GridEnd as GridEndOf, BudgetEnd as BudgetEndOf}
+use Rattle.geo_laws.specs.Delaunay.{AreCoplanar, numbers_below}
+use Rattle.merge_laws.proofs.Once.{law_one_merging}
+use Rattle.geo_laws.specs.Segment.{pieces, protect, ProtectionEnd, Protected, GridEnd as GridEndOf, BudgetEnd as BudgetEndOf}
 use Rattle.geo_laws.specs.Facet.{Facet, IsFlat}
 use Rattle.geo_laws.specs.declared.complex.Piece.{Piece}
 use Rattle.geo_laws.specs.declared.complex.FacetTriangle.{FacetTriangle}
@@ -14,7 +15,7 @@ use Rattle.facet_plane.specs.Flat.{IsFirstNotFlat}
 use Rattle.facet_plane.specs.declared.flat.NotFlat.{NotFlat as Bent}
 use Rattle.box_pairs.specs.declared.complex_parts.Part.{Part}
 use Rattle.box_pairs.specs.Crossing.{AreTrianglesMet, IsFirstCrossing as IsFirstParts}
-use Rattle.complex_mesh.specs.Protection.{IsProtectedComplex, input_pieces, complex_triangles}
+use Rattle.complex_mesh.specs.Protection.{AreMeshed, IsProtectedComplex, complex_triangles}
 use Rattle.complex_mesh.specs.Meshing.{IsComplexMesh, IsMeshFault}
 use Rattle.complex_mesh.specs.OneAnswer.{IsForcing, OneFaultLaw, NoFaultLaw}
 use Rattle.complex_mesh.specs.declared.mesh.MeshOptions.{MeshOptions}
@@ -71,22 +72,29 @@ abbrev Meets : List Point → List FacetTriangle → List Piece → Outcome → 
 Meets qs ts rest = Step (IsPartFault qs ts rest) (AreTrianglesMet qs ts rest) (λ a. a ≡ None)
 
 -- protection ends at a piece, or it protects
-abbrev Ends : ℕ → Complex → ProtectionEnd → Outcome → Type 0
-Ends budget c (Protected qs rest) a = Meets qs (complex_triangles qs c) rest a
-Ends budget c (GridEndOf piece) a = a ≡ Some (GridEnd piece)
-Ends budget c (BudgetEndOf piece) a = a ≡ Some (BudgetEnd budget piece)
+abbrev Ends : ℕ → List Facet → ProtectionEnd → Outcome → Type 0
+Ends budget fs (Protected qs rest) a = Meets qs (complex_triangles qs fs) rest a
+Ends budget fs (GridEndOf piece) a = a ≡ Some (GridEnd piece)
+Ends budget fs (BudgetEndOf piece) a = a ≡ Some (BudgetEnd budget piece)
 
 -- two pieces are not properly met, or all are and protection begins
-abbrev Protects : ℕ → ℕ → List Point → Complex → List Piece → Outcome → Type 0
-Protects halvings budget ps c pieces = Step (IsSegmentFault ps pieces) (ArePairwiseMet ps pieces) (Ends budget c (protect halvings budget ps pieces))
+abbrev Protects : MeshOptions → List Point → List Facet → List Piece → Outcome → Type 0
+Protects o ps fs rest = Step (IsSegmentFault ps rest) (ArePairwiseMet ps rest) (Ends o.budget fs (protect o.halvings o.budget ps rest))
+
+-- the segments and facets that are meshed
+record Meshes (o : MeshOptions) (ps : List Point) (c : Complex) (a : Outcome) : Type 0 where
+  segs : List Piece
+  fs : List Facet
+  meshed : AreMeshed o.keep_facets ps c segs fs
+  next : Protects o ps fs (pieces ps segs) a
 
 -- a facet is not flat, or all are
-abbrev LiesFlat : ℕ → ℕ → List Point → Complex → Outcome → Type 0
-LiesFlat halvings budget ps c = Step (IsBentFault ps (facets c)) (All (IsFlat ps) (facets c)) (Protects halvings budget ps c (input_pieces ps c))
+abbrev LiesFlat : MeshOptions → List Point → Complex → Outcome → Type 0
+LiesFlat o ps c = Step (IsBentFault ps (facets c)) (All (IsFlat ps) (facets c)) (Meshes o ps c)
 
 -- the points are all in one plane, or they are not
-abbrev Answers : ℕ → ℕ → List Point → Complex → Outcome → Type 0
-Answers halvings budget ps c = Step (IsFlatFault ps) (¬ AreCoplanar ps) (LiesFlat halvings budget ps c)
+abbrev Answers : MeshOptions → List Point → Complex → Outcome → Type 0
+Answers o ps c = Step (IsFlatFault ps) (¬ AreCoplanar ps) (LiesFlat o ps c)
 
 -- ---- each comes once
 
@@ -116,56 +124,68 @@ meets_once qs ts rest =
     step_once (IsPartFault qs ts rest) (AreTrianglesMet qs ts rest) (λ a. a ≡ None) (part_once qs ts rest) (λ a h. parts_none qs ts rest h.one h.two h.first)
     (λ a b e f. e ∙ sym f)
 
-ends_once : (budget : ℕ) (c : Complex) (end : ProtectionEnd) → IsOnce (Ends budget c end)
-ends_once budget c (Protected qs rest) = meets_once qs (complex_triangles qs c) rest
-ends_once budget c (GridEndOf piece) = λ a b e f. e ∙ sym f
-ends_once budget c (BudgetEndOf piece) = λ a b e f. e ∙ sym f
+ends_once : (budget : ℕ) (fs : List Facet) (end : ProtectionEnd) → IsOnce (Ends budget fs end)
+ends_once budget fs (Protected qs rest) = meets_once qs (complex_triangles qs fs) rest
+ends_once budget fs (GridEndOf piece) = λ a b e f. e ∙ sym f
+ends_once budget fs (BudgetEndOf piece) = λ a b e f. e ∙ sym f
 
-protects_once : (halvings budget : ℕ) (ps : List Point) (c : Complex) (pieces : List Piece) → IsOnce (Protects halvings budget ps c pieces)
-protects_once halvings budget ps c pieces =
-    step_once (IsSegmentFault ps pieces) (ArePairwiseMet ps pieces) (Ends budget c (protect halvings budget ps pieces)) (segment_once ps pieces)
-    (λ a h. segments_none ps pieces h.one h.two h.first) (ends_once budget c (protect halvings budget ps pieces))
+protects_once : (o : MeshOptions) (ps : List Point) (fs : List Facet) (rest : List Piece) → IsOnce (Protects o ps fs rest)
+protects_once o ps fs rest =
+    step_once (IsSegmentFault ps rest) (ArePairwiseMet ps rest) (Ends o.budget fs (protect o.halvings o.budget ps rest)) (segment_once ps rest)
+    (λ a h. segments_none ps rest h.one h.two h.first) (ends_once o.budget fs (protect o.halvings o.budget ps rest))
 
-lies_flat_once : (halvings budget : ℕ) (ps : List Point) (c : Complex) → IsOnce (LiesFlat halvings budget ps c)
-lies_flat_once halvings budget ps c =
-    step_once (IsBentFault ps (facets c)) (All (IsFlat ps) (facets c)) (Protects halvings budget ps c (input_pieces ps c)) (bent_once ps (facets c))
-    (λ a h. flat_none ps (facets c) h.bent h.first) (protects_once halvings budget ps c (input_pieces ps c))
+-- what is meshed is one
+meshed_once : (keep : Bool) (ps : List Point) (c : Complex) (segs also : List Piece) (fs gs : List Facet) → AreMeshed keep ps c segs fs → AreMeshed keep ps c also gs → (segs ≡ also) × (fs ≡ gs)
+meshed_once true ps c segs also fs gs h k = (h.0 ∙ sym k.0, h.1 ∙ sym k.1)
+meshed_once false ps c segs also fs gs h k =
+    let one = law_one_merging ps c h.group h.inner k.group k.inner h.merging k.merging in
+    (h.segments_are ∙ one.0 ∙ sym k.segments_are, h.facets_are ∙ (λ j. map (λ n. one.1 n j) (numbers_below (length c.facets))) ∙ sym k.facets_are)
 
-answers_once : (halvings budget : ℕ) (ps : List Point) (c : Complex) → IsOnce (Answers halvings budget ps c)
-answers_once halvings budget ps c =
-    step_once (IsFlatFault ps) (¬ AreCoplanar ps) (LiesFlat halvings budget ps c) (λ a b h k. h.is ∙ sym k.is) (λ a h solid. solid h.flat) (lies_flat_once halvings budget ps c)
+meshes_once : (o : MeshOptions) (ps : List Point) (c : Complex) → IsOnce (Meshes o ps c)
+meshes_once o ps c a b h k =
+    let e = meshed_once o.keep_facets ps c h.segs k.segs h.fs k.fs h.meshed k.meshed in
+    protects_once o ps k.fs (pieces ps k.segs) a b (subst (λ gs. Protects o ps gs (pieces ps k.segs) a) e.1 (subst (λ ss. Protects o ps h.fs (pieces ps ss) a) e.0 h.next)) k.next
+
+lies_flat_once : (o : MeshOptions) (ps : List Point) (c : Complex) → IsOnce (LiesFlat o ps c)
+lies_flat_once o ps c =
+    step_once (IsBentFault ps (facets c)) (All (IsFlat ps) (facets c)) (Meshes o ps c) (bent_once ps (facets c)) (λ a h. flat_none ps (facets c) h.bent h.first) (meshes_once o ps c)
+
+answers_once : (o : MeshOptions) (ps : List Point) (c : Complex) → IsOnce (Answers o ps c)
+answers_once o ps c = step_once (IsFlatFault ps) (¬ AreCoplanar ps) (LiesFlat o ps c) (λ a b h k. h.is ∙ sym k.is) (λ a h solid. solid h.flat) (lies_flat_once o ps c)
 
 -- ---- faults and meshes are such outcomes
 
 -- protection begins, and ends so
-begun : (halvings budget : ℕ) (ps : List Point) (c : Complex) (end : ProtectionEnd) (a : Outcome) → All (IsFlat ps) (facets c) → CanSplit ps (input_pieces ps c)
-    → protect halvings budget ps (input_pieces ps c) ≡ end → Ends budget c end a → Answers halvings budget ps c a
-begun halvings budget ps c end a flat can e h = passes can.0 (passes flat (passes can.1 (subst (λ u. Ends budget c u a) (sym e) h)))
+begun : (o : MeshOptions) (ps : List Point) (c : Complex) (segs : List Piece) (fs : List Facet) (end : ProtectionEnd) (a : Outcome) → All (IsFlat ps) (facets c) → AreMeshed o.keep_facets ps c segs fs
+    → CanSplit ps (pieces ps segs) → protect o.halvings o.budget ps (pieces ps segs) ≡ end → Ends o.budget fs end a → Answers o ps c a
+begun o ps c segs fs end a flat meshed can e h =
+    passes can.0 (passes flat (record { segs = segs; fs = fs; meshed = meshed; next = passes can.1 (subst (λ u. Ends o.budget fs u a) (sym e) h) }))
 
-met : (halvings budget : ℕ) (ps : List Point) (c : Complex) (qs : List Point) (rest : List Piece) (a : Outcome) → IsProtectedComplex halvings budget ps c qs rest
-    → Meets qs (complex_triangles qs c) rest a → Answers halvings budget ps c a
-met halvings budget ps c qs rest a h k = begun halvings budget ps c (Protected qs rest) a h.flat h.can_split h.ends k
+met : (o : MeshOptions) (ps : List Point) (c : Complex) (segs : List Piece) (fs : List Facet) (qs : List Point) (rest : List Piece) (a : Outcome) → IsProtectedComplex o ps c segs fs qs rest
+    → Meets qs (complex_triangles qs fs) rest a → Answers o ps c a
+met o ps c segs fs qs rest a h k = begun o ps c segs fs (Protected qs rest) a h.flat h.meshed h.can_split h.ends k
 
 -- what a fault leaves to be told apart: an anomaly forces nothing
 abbrev outcome_of : MeshFault → Outcome
 outcome_of (NoFill anomaly) = None
 outcome_of fault = Some fault
 
-fault_answers : (halvings budget : ℕ) (ps : List Point) (c : Complex) (a : MeshFault) → a ≢ NoMemory → IsMeshFault halvings budget ps c a → Answers halvings budget ps c (outcome_of a)
-fault_answers halvings budget ps c Flat n h = stops (record { flat = h; is = refl })
-fault_answers halvings budget ps c (NotFlat facet four) n h = passes h.0 (stops (record { bent = record { facet = facet; four = four }; first = h.1; is = refl }))
-fault_answers halvings budget ps c (SegmentsCross one two) n h = passes h.0 (passes h.1 (stops (record { one = one; two = two; first = h.2; is = refl })))
-fault_answers halvings budget ps c (GridEnd piece) n h = begun halvings budget ps c (GridEndOf piece) (Some (GridEnd piece)) h.0 h.1 h.2 refl
-fault_answers halvings budget ps c (BudgetEnd made piece) n h =
-    begun halvings budget ps c (BudgetEndOf piece) (Some (BudgetEnd made piece)) h.0 h.1 h.3 (ap (λ m. Some (BudgetEnd m piece)) h.2)
-fault_answers halvings budget ps c (Crossing one two) n h =
-    met halvings budget ps c h.0 h.1 (Some (Crossing one two)) h.2 (stops (record { one = one; two = two; first = h.3; is = refl }))
-fault_answers halvings budget ps c (NoFill anomaly) n h = met halvings budget ps c h.0 h.1 None h.2 (passes h.3 refl)
-fault_answers halvings budget ps c NoMemory n h = absurd (n refl)
+fault_answers : (o : MeshOptions) (ps : List Point) (c : Complex) (a : MeshFault) → a ≢ NoMemory → IsMeshFault o ps c a → Answers o ps c (outcome_of a)
+fault_answers o ps c Flat n h = stops (record { flat = h; is = refl })
+fault_answers o ps c (NotFlat facet four) n h = passes h.0 (stops (record { bent = record { facet = facet; four = four }; first = h.1; is = refl }))
+fault_answers o ps c (SegmentsCross one two) n h =
+    passes h.2 (passes h.3 (record { segs = h.0; fs = h.1; meshed = h.4; next = stops (record { one = one; two = two; first = h.5; is = refl }) }))
+fault_answers o ps c (GridEnd piece) n h = begun o ps c h.0 h.1 (GridEndOf piece) (Some (GridEnd piece)) h.2 h.3 h.4 h.5 refl
+fault_answers o ps c (BudgetEnd made piece) n h =
+    begun o ps c h.0 h.1 (BudgetEndOf piece) (Some (BudgetEnd made piece)) h.2 h.3 h.4 h.6 (ap (λ m. Some (BudgetEnd m piece)) h.5)
+fault_answers o ps c (Crossing one two) n h =
+    met o ps c h.0 h.1 h.2 h.3 (Some (Crossing one two)) h.4 (stops (record { one = one; two = two; first = h.5; is = refl }))
+fault_answers o ps c (NoFill anomaly) n h = met o ps c h.0 h.1 h.2 h.3 None h.4 (passes h.5 refl)
+fault_answers o ps c NoMemory n h = absurd (n refl)
 
-mesh_answers : (o : MeshOptions) (ps : List Point) (c : Complex) (m : ComplexMesh) → IsComplexMesh o ps c m → Answers o.halvings o.budget ps c None
+mesh_answers : (o : MeshOptions) (ps : List Point) (c : Complex) (m : ComplexMesh) → IsComplexMesh o ps c m → Answers o ps c None
 mesh_answers o ps c m h =
-    met o.halvings o.budget ps c m.points h.rest None h.protected
+    met o ps c h.segs h.fs m.points h.rest None h.protected
     (subst (λ ts. Meets m.points ts h.rest None) h.triangles (passes h.met refl))
 
 -- ---- the laws
@@ -190,12 +210,12 @@ same a b f e = some_same a b (sym (forced a f) ∙ e)
     some_same a b e = cc
 
 pub law_one_fault : OneFaultLaw
-law_one_fault halvings budget ps c a b f m h k =
-    same a b f (answers_once halvings budget ps c (outcome_of a) (outcome_of b) (fault_answers halvings budget ps c a (no_want a f) h) (fault_answers halvings budget ps c b m k))
+law_one_fault o ps c a b f m h k =
+    same a b f (answers_once o ps c (outcome_of a) (outcome_of b) (fault_answers o ps c a (no_want a f) h) (fault_answers o ps c b m k))
 
 pub law_no_fault : NoFaultLaw
 law_no_fault o ps c m mesh a f h =
-    never a f (answers_once o.halvings o.budget ps c None (outcome_of a) (mesh_answers o ps c m mesh) (fault_answers o.halvings o.budget ps c a (no_want a f) h))
+    never a f (answers_once o ps c None (outcome_of a) (mesh_answers o ps c m mesh) (fault_answers o ps c a (no_want a f) h))
   where
     none : (a : MeshFault) → None ≡ Some a → ⊥
     none a e = cc

@@ -1,40 +1,48 @@
 -- What protection leaves, from what it begins with.
-use Rattle.std.proofs.Common.{◌≡◌, ◌≢◌, ℕ, ◌+◌, ◌-◌, ◌^◌, ◌<◌, ◌≤◌, List, [], ◌∷◌, length, refl, ap, sym, subst, ◌∙◌, arith}
-use Rattle.std.specs.Prelude.{All, flat_map}
+use Rattle.std.proofs.Common.{◌≡◌, ◌≢◌, inl, Bool, true, false, ℕ, ◌+◌, ◌-◌, ◌^◌, ◌<◌, ◌≤◌, List, [], ◌∷◌, length, refl, ap, sym, subst, ◌∙◌, arith}
+use Rattle.std.specs.Prelude.{All}
 use Rattle.std.specs.List.{slice_index_or}
 use Rattle.sign_predicates.specs.Point.{Point}
 use Rattle.geo_laws.specs.Complex.{Complex, corner_lists, facets}
 use Rattle.geo_laws.specs.Delaunay.{delaunay_rows, AreCoplanar, HasDistinctPoints}
-use Rattle.geo_laws.specs.Segment.{segments, sides, pieces}
+use Rattle.geo_laws.specs.Segment.{segments, pieces, protect, Protected}
 use Rattle.geo_laws.specs.declared.complex.Piece.{Piece}
 use Rattle.geo_laws.specs.declared.complex.FacetTriangle.{FacetTriangle}
-use Rattle.geo_laws.proofs.Members.{IsMember, here, there, flat_map_cases}
+use Rattle.geo_laws.proofs.Members.{IsMember, here, there}
 use Rattle.border_laws.specs.Complex.{IsSound, HasTriangles, facet_at}
 use Rattle.facet_plane.specs.Corners.{HasCornersOf}
-use Rattle.facet_laws.proofs.Chains.{all_sides}
-use Rattle.facet_laws.proofs.Pieces.{all_at, all_sides_tested}
 use Rattle.refill_laws.specs.Protected.{IsProtected}
 use Rattle.simplex_meets.specs.Proper.{IsSegment}
 use Rattle.box_pairs.specs.Parts.{piece_side}
 use Rattle.box_pairs.specs.declared.complex_parts.Part.TheVariants.{Segment}
 use Rattle.box_pairs.specs.Crossing.{AreTrianglesMet}
 use Rattle.segment_protect.specs.Spots.{HasTwoEnds}
-use Rattle.segment_protect.specs.Ends.{IsStart}
-use Rattle.segment_protect.proofs.PieceLaws.{pieces_cut, from_first}
-use Rattle.segment_protect.proofs.Splits.{each_member, all_members}
+use Rattle.segment_protect.specs.Ends.{IsStart, CanSplit}
+use Rattle.segment_protect.proofs.PieceLaws.{pieces_cut}
+use Rattle.segment_protect.proofs.Splits.{all_members}
 use Rattle.segment_protect.proofs.Start.{protectable_start}
 use Rattle.segment_protect.proofs.Crossings.{are_parts}
-use Rattle.protect_laws.specs.Pieces.{AreOn, HasProtected}
+use Rattle.protect_laws.specs.Pieces.{HasProtected}
 use Rattle.protect_laws.proofs.Start.{law_corners}
 use Rattle.protect_laws.proofs.Ended.{IsKept, ended}
-use Rattle.protect_laws.proofs.Pieces.{law_protected_pieces, by_members}
+use Rattle.protect_laws.proofs.Pieces.{law_protected_pieces, law_two_ends}
 use Rattle.protect_laws.proofs.Complex.{law_sound, law_protected_complex}
 use Rattle.recovery_laws.specs.Recovery.{IsRecovery}
 use Rattle.recovery_laws.proofs.Chain.{law_recoverable}
-use Rattle.complex_mesh.specs.Protection.{IsMeshable, IsProtectedComplex, input_pieces, complex_triangles}
+use Rattle.complex_mesh.specs.Protection.{IsMeshable, AreMeshed, IsProtectedComplex, complex_triangles}
 use Rattle.complex_mesh.specs.Steps.{HasSoundFacets}
 use Rattle.complex_mesh.proofs.Added.{added}
-use Rattle.complex_mesh.proofs.Triangles.{sound_facet, has_triangles}
+use Rattle.complex_mesh.specs.declared.mesh.MeshOptions.{MeshOptions}
+use Rattle.complex_mesh.proofs.Triangles.{corners_on, sound_facet, has_triangles}
+use Rattle.std.proofs.lemmas.List.FromFn.{length-map-range_with_len}
+use Rattle.geo_laws.specs.Facet.{Facet, IsFlat, all_corners}
+use Rattle.geo_laws.proofs.Members.{member_of}
+use Rattle.facet_laws.proofs.Chains.{all_at}
+use Rattle.facet_plane.proofs.FlatFacets.{facet_count}
+use Rattle.merge_laws.specs.Merged.{merged_facet, merged_segments}
+use Rattle.merge_laws.specs.Facets.{HasCornersOn, AreFlat}
+use Rattle.merged_mesh.specs.MergedMesh.{merged_facets}
+use Rattle.merged_mesh.proofs.MergedMesh.{facet_is, law_merged_sound, law_merged_ends}
 
 less_most : (i j k : ℕ) → i < j → j ≤ k → i < k
 less_most i j k h l = omega arith
@@ -55,42 +63,62 @@ are_segments ps pieces distinct two = λ k d l. segment_of ps (slice_index_or pi
 
 -- ---- before protection
 
--- the segments of polygons have two ends
-two_ends : (ps : List Point) (polygons : List (List ℕ)) → AreOn ps polygons → (s : Piece) → IsMember s (segments polygons) → HasTwoEnds (length ps) s
-two_ends ps polygons on s m =
-    let c = flat_map_cases sides s polygons (from_first s (flat_map sides polygons) m) in
-    let corners = by_members (λ i. i < length ps) c.0 (each_member (λ i. i < length ps) c.0 (each_member (λ q. All (λ i. i < length ps) q) polygons on c.0 c.1)) in
-    let ends = all_at (λ s. (s.a < length ps) × (s.b < length ps)) s (sides c.0) (all_sides (λ i. i < length ps) c.0 corners) c.2 in
-    (ends.0, ends.1, all_at (λ s. s.a ≢ s.b) s (sides c.0) (all_sides_tested c.0) c.2)
-
+-- the segments have two ends
 pub segments_two_ends : (ps : List Point) (c : Complex) → HasCornersOf ps c → All (HasTwoEnds (length ps)) (segments (corner_lists c.polygons))
-segments_two_ends ps c on = all_members (HasTwoEnds (length ps)) (segments (corner_lists c.polygons)) (two_ends ps (corner_lists c.polygons) (law_corners ps c.polygons on))
+segments_two_ends ps c on = law_two_ends ps (corner_lists c.polygons) (law_corners ps c.polygons on)
 
--- the pieces, as they are made
-pub pieces_are : (ps : List Point) (c : Complex) (found made : List Piece) → found ≡ segments (corner_lists c.polygons) → made ≡ pieces ps found → made ≡ input_pieces ps c
-pieces_are ps c found made e h = h ∙ ap (pieces ps) e
+-- ---- what is meshed
 
-pub can_start : (halvings budget : ℕ) (ps : List Point) (c : Complex) → IsMeshable halvings budget ps c → IsStart ps (input_pieces ps c) halvings
-can_start halvings budget ps c given = record {
-  distinct = given.distinct;
-  multiples = given.multiples;
-  cut = pieces_cut ps (segments (corner_lists c.polygons)) given.distinct (segments_two_ends ps c given.corners);
-}
+-- the facets as read are on the points, in the words of the merging
+pub corners_on_points : (ps : List Point) (c : Complex) → HasCornersOf ps c → HasCornersOn ps c
+corners_on_points ps c on f i l m =
+    let g = facet_at (facets c) f in
+    all_at (λ i. i < length ps) i (all_corners g) (corners_on ps c on f (subst (λ n. f < n) (sym (facet_count c)) l)) (member_of (all_corners g) i m)
+
+pub meshed_two_ends : (keep : Bool) (ps : List Point) (c : Complex) (segs : List Piece) (fs : List Facet) → HasCornersOf ps c → AreMeshed keep ps c segs fs → All (HasTwoEnds (length ps)) segs
+meshed_two_ends true ps c segs fs on m = subst (All (HasTwoEnds (length ps))) (sym m.0) (segments_two_ends ps c on)
+meshed_two_ends false ps c segs fs on m = subst (All (HasTwoEnds (length ps))) (sym m.segments_are) (law_merged_ends ps c m.inner (corners_on_points ps c on))
+
+abbrev AreSound : List Point → List Piece → List Facet → Type 0
+AreSound ps segs fs = (k : ℕ) → k < length fs → IsSound ps segs (facet_at fs k)
+
+pub meshed_sound : (keep : Bool) (ps : List Point) (c : Complex) (segs : List Piece) (fs : List Facet) → HasDistinctPoints ps → HasCornersOf ps c → All (IsFlat ps) (facets c) → AreMeshed keep ps c segs fs
+    → (k : ℕ) → k < length fs → IsSound ps segs (facet_at fs k)
+meshed_sound true ps c segs fs distinct on flat m = subst (λ gs. AreSound ps segs gs) (sym m.1) (subst (λ ss. AreSound ps ss (facets c)) (sym m.0) (sound_facet ps c on flat))
+meshed_sound false ps c segs fs distinct on flat m =
+    subst (λ gs. AreSound ps segs gs) (sym m.facets_are)
+    (subst (λ ss. AreSound ps ss (merged_facets m.group c)) (sym m.segments_are)
+    (λ k l. subst (IsSound ps (merged_segments m.inner c)) (sym (facet_is m.group c k l)) (law_merged_sound ps c m.group m.inner distinct (corners_on_points ps c on) as_read (inl m.merging) k)))
+  where
+    as_read : AreFlat ps c
+    as_read f l = flat f (record { polygons = []; holes = [] }) (subst (λ n. f < n) (sym (facet_count c)) l)
+
+-- there are as many facets as in the complex
+pub meshed_count : (keep : Bool) (ps : List Point) (c : Complex) (segs : List Piece) (fs : List Facet) → AreMeshed keep ps c segs fs → length fs ≡ length c.facets
+meshed_count true ps c segs fs m = ap (λ (gs : List Facet). length gs) m.1 ∙ facet_count c
+meshed_count false ps c segs fs m = ap (λ (gs : List Facet). length gs) m.facets_are ∙ length-map-range_with_len (merged_facet m.group c) 0 (length c.facets)
+
+-- what protection says, as it is made
+pub protected_by : (o : MeshOptions) (ps : List Point) (c : Complex) (segs : List Piece) (fs : List Facet) (made : List Piece) (qs : List Point) (rest : List Piece) → All (IsFlat ps) (facets c)
+    → AreMeshed o.keep_facets ps c segs fs → made ≡ pieces ps segs → CanSplit ps made → protect o.halvings o.budget ps made ≡ Protected qs rest → IsProtectedComplex o ps c segs fs qs rest
+protected_by o ps c segs fs made qs rest flat meshed e can ends =
+    record { flat = flat; meshed = meshed; can_split = subst (CanSplit ps) e can; ends = sym (ap (protect o.halvings o.budget ps) e) ∙ ends }
 
 -- ---- after protection
 
-module _ (halvings budget : ℕ) (ps : List Point) (c : Complex) (qs : List Point) (rest : List Piece) (given : IsMeshable halvings budget ps c) (protected : IsProtectedComplex halvings budget ps c qs rest) where
-  on : AreOn ps (corner_lists c.polygons)
-  on = law_corners ps c.polygons given.corners
+module _ (o : MeshOptions) (ps : List Point) (c : Complex) (segs : List Piece) (fs : List Facet) (qs : List Point) (rest : List Piece) (given : IsMeshable o.halvings o.budget ps c)
+    (protected : IsProtectedComplex o ps c segs fs qs rest) where
+  on : All (HasTwoEnds (length ps)) segs
+  on = meshed_two_ends o.keep_facets ps c segs fs given.corners protected.meshed
 
-  start : IsStart ps (input_pieces ps c) halvings
-  start = can_start halvings budget ps c given
+  start : IsStart ps (pieces ps segs) o.halvings
+  start = record { distinct = given.distinct; multiples = given.multiples; cut = pieces_cut ps segs given.distinct on }
 
-  after : HasProtected ps qs (corner_lists c.polygons)
-  after = law_protected_pieces halvings budget ps qs (corner_lists c.polygons) rest on start protected.can_split protected.ends
+  after : HasProtected ps qs segs
+  after = law_protected_pieces o.halvings o.budget ps qs segs rest on start protected.can_split protected.ends
 
-  sound : (k : ℕ) → k < length (facets c) → IsSound ps (corner_lists c.polygons) (facet_at (facets c) k)
-  sound = sound_facet ps c given.corners protected.flat
+  sound : (k : ℕ) → k < length fs → IsSound ps segs (facet_at fs k)
+  sound = meshed_sound o.keep_facets ps c segs fs given.distinct given.corners protected.flat protected.meshed
 
   none : (s : Piece) → IsMember s [] → ⊥
   none s m = elim m [ ]
@@ -98,32 +126,36 @@ module _ (halvings budget : ℕ) (ps : List Point) (c : Complex) (qs : List Poin
   self_most : (n : ℕ) → n ≤ n
   self_most n = omega arith
 
-  kept : IsKept ps halvings [] qs rest
-  kept = (ended ps halvings [] (λ s m. absurd (none s m)) qs rest budget ps (input_pieces ps c) protected.ends (record {
-    can = protectable_start ps (input_pieces ps c) halvings start protected.can_split.1;
+  kept : IsKept ps o.halvings [] qs rest
+  kept = (ended ps o.halvings [] (λ s m. absurd (none s m)) qs rest o.budget ps (pieces ps segs) protected.ends (record {
+    can = protectable_start ps (pieces ps segs) o.halvings start protected.can_split.1;
     begins = record { long = self_most (length ps); same = λ i h. refl };
     covered = λ s m. absurd (none s m);
   })).0
 
   pub still_few : length qs < 2 ^ 32 - 2
-  still_few = most_less (length qs) (length ps + budget) (2 ^ 32 - 2) (added halvings qs rest budget ps (input_pieces ps c) protected.ends).1 given.few
+  still_few = most_less (length qs) (length ps + o.budget) (2 ^ 32 - 2) (added o.halvings qs rest o.budget ps (pieces ps segs) protected.ends).1 given.few
 
-  -- what the facets ask for
-  pub sound_facets : HasSoundFacets qs rest c
-  sound_facets = record {
+  pub still_distinct : HasDistinctPoints qs
+  still_distinct = after.distinct
+
+  -- what the facets of a complex ask for
+  pub sound_facets : (d : Complex) → HasCornersOf ps d → fs ≡ facets d → HasSoundFacets qs rest d
+  sound_facets d corners are = record {
+    segs = segs;
     distinct = after.distinct;
     few = still_few;
-    corners = λ k d l i e m. less_most (slice_index_or (slice_index_or c.polygons k d).corners i e) (length ps) (length qs) (given.corners k d l i e m) after.begins.long;
-    sound = λ k l. law_sound ps qs (corner_lists c.polygons) (facet_at (facets c) k) after.begins (sound k l);
+    corners = λ k e l i x m. less_most (slice_index_or (slice_index_or d.polygons k e).corners i x) (length ps) (length qs) (corners k e l i x m) after.begins.long;
+    sound = subst (λ gs. AreSound qs segs gs) are (λ k l. law_sound ps qs segs (facet_at fs k) after.begins (sound k l));
     has_pieces = after.has_pieces;
     two_ends = λ k d l. (kept.can.each k d l).ends;
   }
 
-  module _ (ts : List FacetTriangle) (triangles : ts ≡ complex_triangles qs c) (met : AreTrianglesMet qs ts rest) where
-    has : HasTriangles qs (facets c) ts
-    has = subst (HasTriangles qs (facets c)) (sym triangles) (has_triangles qs c)
+  module _ (ts : List FacetTriangle) (triangles : ts ≡ complex_triangles qs fs) (met : AreTrianglesMet qs ts rest) where
+    has : HasTriangles qs fs ts
+    has = subst (HasTriangles qs fs) (sym triangles) (has_triangles qs fs)
 
-    pub recovery : IsRecovery halvings budget ps (corner_lists c.polygons) (facets c) qs rest ts
+    pub recovery : IsRecovery o.halvings o.budget ps segs fs qs rest ts
     recovery = record {
       on = on;
       start = start;
@@ -136,7 +168,7 @@ module _ (halvings budget : ℕ) (ps : List Point) (c : Complex) (qs : List Poin
 
     -- what refilling asks for
     pub protected_triangles : IsProtected qs ts (delaunay_rows qs)
-    protected_triangles = law_protected_complex halvings budget ps qs (corner_lists c.polygons) rest (facets c) ts on start protected.can_split protected.ends sound has met.triangles_meet
+    protected_triangles = law_protected_complex o.halvings o.budget ps qs segs rest fs ts on start protected.can_split protected.ends sound has met.triangles_meet
 
     pub solid : ¬ AreCoplanar qs
-    solid = (law_recoverable halvings budget ps (corner_lists c.polygons) (facets c) qs rest ts recovery).solid
+    solid = (law_recoverable o.halvings o.budget ps segs fs qs rest ts recovery).solid

@@ -4,8 +4,8 @@ use Rattle.sign_predicates.specs.Point.{Point, EachRational}
 use Rattle.sign_predicates.specs.Orientation.{InClosed}
 use Rattle.geo_laws.specs.Complex.{Complex, facets}
 use Rattle.geo_laws.specs.Delaunay.{corners, delaunay_rows, AreCoplanar}
-use Rattle.geo_laws.specs.Segment.{protect, GridEnd as GridEndOf, BudgetEnd as BudgetEndOf, is_side}
-use Rattle.geo_laws.specs.Facet.{IsFlat}
+use Rattle.geo_laws.specs.Segment.{pieces, protect, GridEnd as GridEndOf, BudgetEnd as BudgetEndOf, is_side}
+use Rattle.geo_laws.specs.Facet.{Facet, IsFlat}
 use Rattle.geo_laws.specs.Mesh.{IsMesh}
 use Rattle.geo_laws.specs.declared.tetrahedra.Tet.{Tet}
 use Rattle.geo_laws.specs.declared.complex.Piece.{Piece}
@@ -22,18 +22,20 @@ use Rattle.complex_laws.specs.ComplexMesh.{IsUntangled, IsCarved}
 use Rattle.complex_laws.specs.Sides.{IsInnerOf}
 use Rattle.hole_carve.specs.Marks.{AreMarks}
 use Rattle.mesh_files.specs.FaceRows.{AreFacesMet, AreFacetsThere}
-use Rattle.complex_mesh.specs.Protection.{input_pieces, IsProtectedComplex, complex_triangles}
+use Rattle.complex_mesh.specs.Protection.{AreMeshed, IsProtectedComplex, complex_triangles}
 use Rattle.complex_mesh.specs.declared.mesh.MeshOptions.{MeshOptions}
 use Rattle.complex_mesh.specs.declared.mesh.ComplexMesh.{ComplexMesh}
 use Rattle.complex_mesh.specs.declared.fault.MeshFault.{MeshFault}
 use Rattle.complex_mesh.specs.declared.fault.MeshFault.TheVariants.{Flat, NotFlat, SegmentsCross, GridEnd, BudgetEnd, Crossing, NoFill, NoMemory}
 
--- Protection ends with the mesh's points and some pieces, the triangles are exactly those of the facets, any two are properly met and each with each piece;
+-- Of the segments and facets that are meshed, protection ends with the mesh's points and some pieces, the triangles are exactly those of the facets, any two are properly met and each with each piece;
 -- the rows are a mesh of the complex
 pub record IsComplexMesh (o : MeshOptions) (ps : List Point) (c : Complex) (m : ComplexMesh) : Type 0 where
+  pub segs : List Piece
+  pub fs : List Facet
   pub rest : List Piece
-  pub protected : IsProtectedComplex o.halvings o.budget ps c m.points rest
-  pub triangles : m.triangles ≡ complex_triangles m.points c
+  pub protected : IsProtectedComplex o ps c segs fs m.points rest
+  pub triangles : m.triangles ≡ complex_triangles m.points fs
   pub met : AreTrianglesMet m.points m.triangles rest
   pub mesh : IsMesh (carving_of o.keep_hull) m.points m.triangles c.holes m.tetrahedra
   -- The rows are those that are kept of a list that fills the hull, to which each Delaunay row belongs that no facet crosses
@@ -55,20 +57,27 @@ pub record IsComplexMesh (o : MeshOptions) (ps : List Point) (c : Complex) (m : 
 
 -- Why a complex has no mesh. Each cause says that none before it holds. The last one, an anomaly where two facets cross a Delaunay row, may hold beside others of
 -- its kind, and beside a mesh
-abbrev pub IsMeshFault : ℕ → ℕ → List Point → Complex → MeshFault → Type 0
-IsMeshFault halvings budget ps c Flat = AreCoplanar ps
-IsMeshFault halvings budget ps c (NotFlat facet four) = (¬ AreCoplanar ps) × IsFirstNotFlat ps (facets c) (record { facet = facet; four = four })
-IsMeshFault halvings budget ps c (SegmentsCross one two) = (¬ AreCoplanar ps) × All (IsFlat ps) (facets c) × segment.IsFirstCrossing ps (input_pieces ps c) one two
-IsMeshFault halvings budget ps c (GridEnd piece) = All (IsFlat ps) (facets c) × CanSplit ps (input_pieces ps c) × (protect halvings budget ps (input_pieces ps c) ≡ GridEndOf piece)
-IsMeshFault halvings budget ps c (BudgetEnd made piece) =
-    All (IsFlat ps) (facets c) × CanSplit ps (input_pieces ps c) × (made ≡ budget) × (protect halvings budget ps (input_pieces ps c) ≡ BudgetEndOf piece)
-IsMeshFault halvings budget ps c (Crossing one two) =
-    (qs : List Point) × (rest : List Piece) × IsProtectedComplex halvings budget ps c qs rest × IsFirstCrossing qs (complex_triangles qs c) rest one two
-IsMeshFault halvings budget ps c (NoFill anomaly) =
-    (qs : List Point) × (rest : List Piece) × IsProtectedComplex halvings budget ps c qs rest × AreTrianglesMet qs (complex_triangles qs c) rest
-    × HasTangle qs (complex_triangles qs c) (delaunay_rows qs) × Holds qs (complex_triangles qs c) anomaly
-IsMeshFault halvings budget ps c NoMemory = Unit {0}
+abbrev pub IsMeshFault : MeshOptions → List Point → Complex → MeshFault → Type 0
+IsMeshFault o ps c Flat = AreCoplanar ps
+IsMeshFault o ps c (NotFlat facet four) = (¬ AreCoplanar ps) × IsFirstNotFlat ps (facets c) (record { facet = facet; four = four })
+IsMeshFault o ps c (SegmentsCross one two) =
+    (segs : List Piece) × (fs : List Facet) × (¬ AreCoplanar ps) × All (IsFlat ps) (facets c) × AreMeshed o.keep_facets ps c segs fs
+    × segment.IsFirstCrossing ps (pieces ps segs) one two
+IsMeshFault o ps c (GridEnd piece) =
+    (segs : List Piece) × (fs : List Facet) × All (IsFlat ps) (facets c) × AreMeshed o.keep_facets ps c segs fs × CanSplit ps (pieces ps segs)
+    × (protect o.halvings o.budget ps (pieces ps segs) ≡ GridEndOf piece)
+IsMeshFault o ps c (BudgetEnd made piece) =
+    (segs : List Piece) × (fs : List Facet) × All (IsFlat ps) (facets c) × AreMeshed o.keep_facets ps c segs fs × CanSplit ps (pieces ps segs)
+    × (made ≡ o.budget) × (protect o.halvings o.budget ps (pieces ps segs) ≡ BudgetEndOf piece)
+IsMeshFault o ps c (Crossing one two) =
+    (segs : List Piece) × (fs : List Facet) × (qs : List Point) × (rest : List Piece) × IsProtectedComplex o ps c segs fs qs rest
+    × IsFirstCrossing qs (complex_triangles qs fs) rest one two
+IsMeshFault o ps c (NoFill anomaly) =
+    (segs : List Piece) × (fs : List Facet) × (qs : List Point) × (rest : List Piece) × IsProtectedComplex o ps c segs fs qs rest
+    × AreTrianglesMet qs (complex_triangles qs fs) rest
+    × HasTangle qs (complex_triangles qs fs) (delaunay_rows qs) × Holds qs (complex_triangles qs fs) anomaly
+IsMeshFault o ps c NoMemory = Unit {0}
 
 -- the answer is a mesh of the complex, or says why there is none
 abbrev pub MeshesSo : MeshOptions → List Point → Complex → Result ComplexMesh MeshFault → Type 0
-MeshesSo o ps c result = MatchResult result (IsComplexMesh o ps c) (IsMeshFault o.halvings o.budget ps c)
+MeshesSo o ps c result = MatchResult result (IsComplexMesh o ps c) (IsMeshFault o ps c)

@@ -1,5 +1,5 @@
 -- A complex has one answer: it has a mesh, or one cause why there is none. Only where facets are tangled there may be both, and several such causes.
-use Rattle.std.specs.Prelude.{◌≡◌, ◌≢◌, ℕ, List}
+use Rattle.std.specs.Prelude.{◌≡◌, ◌≢◌, List}
 use Rattle.sign_predicates.specs.Point.{Point}
 use Rattle.geo_laws.specs.Complex.{Complex}
 use Rattle.complex_mesh.specs.Meshing.{IsComplexMesh, IsMeshFault}
@@ -16,10 +16,10 @@ IsForcing fault = Unit {0}
 
 -- Beside a forcing cause no other one holds but want of memory, also no anomaly
 abbrev pub OneFaultLaw : Type 0
-OneFaultLaw = (halvings budget : ℕ) (ps : List Point) (c : Complex) (a b : MeshFault) → IsForcing a → b ≢ NoMemory
-    → IsMeshFault halvings budget ps c a → IsMeshFault halvings budget ps c b → a ≡ b
+OneFaultLaw = (o : MeshOptions) (ps : List Point) (c : Complex) (a b : MeshFault) → IsForcing a → b ≢ NoMemory
+    → IsMeshFault o ps c a → IsMeshFault o ps c b → a ≡ b
 
 -- And where there is a mesh no forcing cause holds
 abbrev pub NoFaultLaw : Type 0
 NoFaultLaw = (o : MeshOptions) (ps : List Point) (c : Complex) (m : ComplexMesh) → IsComplexMesh o ps c m
-    → (a : MeshFault) → IsForcing a → ¬ IsMeshFault o.halvings o.budget ps c a
+    → (a : MeshFault) → IsForcing a → ¬ IsMeshFault o ps c a

@@ -1,16 +1,19 @@
--- A complex after protection: its points, the pieces of its segments, and the triangles of its facets.
-use Rattle.std.specs.Prelude.{◌≡◌, ℕ, ◌+◌, ◌-◌, ◌^◌, ◌<◌, pos, ◌<ℤ◌, List, length, flat_map, All}
+-- A complex after protection: which segments and facets are meshed, the points, the pieces of the segments, and the triangles of the facets.
+use Rattle.std.specs.Prelude.{◌≡◌, Bool, true, false, ℕ, ◌+◌, ◌-◌, ◌^◌, ◌<◌, pos, ◌<ℤ◌, List, length, flat_map, All}
 use Rattle.sign_predicates.specs.Point.{Point}
 use Rattle.geo_laws.specs.Complex.{Complex, corner_lists, facets}
 use Rattle.geo_laws.specs.Delaunay.{point, numbers_below, HasDistinctPoints}
 use Rattle.geo_laws.specs.Segment.{segments, pieces, protect, Protected}
-use Rattle.geo_laws.specs.Facet.{IsFlat, facet_triangles}
+use Rattle.geo_laws.specs.Facet.{Facet, IsFlat, facet_triangles}
 use Rattle.geo_laws.specs.declared.complex.Piece.{Piece}
 use Rattle.geo_laws.specs.declared.complex.FacetTriangle.{FacetTriangle}
 use Rattle.border_laws.specs.Complex.{facet_at}
 use Rattle.facet_plane.specs.Corners.{HasCornersOf}
 use Rattle.segment_protect.specs.Ends.{CanSplit}
 use Rattle.segment_protect.specs.Protection.{IsMultiple}
+use Rattle.merge_laws.specs.Merged.{IsMerging, merged_segments}
+use Rattle.merged_mesh.specs.MergedMesh.{merged_facets}
+use Rattle.complex_mesh.specs.declared.mesh.MeshOptions.{MeshOptions}
 
 -- what a mesh is made of: distinct points, few enough, whose coordinates may be halved so often; and a complex on them, whose hole and region points
 -- are rational points
@@ -22,24 +25,35 @@ pub record IsMeshable (halvings budget : ℕ) (ps : List Point) (c : Complex) : 
   pub holes : All (λ h. pos 0 <ℤ h.w) c.holes
   pub regions : All (λ r. pos 0 <ℤ r.at.w) c.regions
 
--- the pieces that the points cut the complex' segments into
-abbrev pub input_pieces : List Point → Complex → List Piece
-input_pieces ps c = pieces ps (segments (corner_lists c.polygons))
+-- the segments and facets of a complex whose coplanar facets are merged where they are joined over a common side
+pub record AreOfMerged (ps : List Point) (c : Complex) (segs : List Piece) (fs : List Facet) : Type 0 where
+  pub group : ℕ → ℕ
+  pub inner : ℕ → Piece → Bool
+  pub merging : IsMerging ps c group inner
+  pub segments_are : segs ≡ merged_segments inner c
+  pub facets_are : fs ≡ merged_facets group c
 
--- the facets are flat, the points are not all in one plane, any two pieces of segments are properly met, and protection ends with these points and pieces
-pub record IsProtectedComplex (halvings budget : ℕ) (ps : List Point) (c : Complex) (qs : List Point) (rest : List Piece) : Type 0 where
+-- The segments and facets that are meshed: those as read where facets are kept apart, else those of the merged facets
+abbrev pub AreMeshed : Bool → List Point → Complex → List Piece → List Facet → Type 0
+AreMeshed true ps c segs fs = (segs ≡ segments (corner_lists c.polygons)) × (fs ≡ facets c)
+AreMeshed false ps c segs fs = AreOfMerged ps c segs fs
+
+-- the facets as read are flat, the points are not all in one plane, any two pieces of the segments are properly met, and protection ends with these
+-- points and pieces
+pub record IsProtectedComplex (o : MeshOptions) (ps : List Point) (c : Complex) (segs : List Piece) (fs : List Facet) (qs : List Point) (rest : List Piece) : Type 0 where
   pub flat : All (IsFlat ps) (facets c)
-  pub can_split : CanSplit ps (input_pieces ps c)
-  pub ends : protect halvings budget ps (input_pieces ps c) ≡ Protected qs rest
+  pub meshed : AreMeshed o.keep_facets ps c segs fs
+  pub can_split : CanSplit ps (pieces ps segs)
+  pub ends : protect o.halvings o.budget ps (pieces ps segs) ≡ Protected qs rest
 
 -- the triangles of the facet at a place
-abbrev pub triangles_at : List Point → Complex → ℕ → List FacetTriangle
-triangles_at qs c k = facet_triangles qs k (facet_at (facets c) k)
+abbrev pub triangles_at : List Point → List Facet → ℕ → List FacetTriangle
+triangles_at qs fs k = facet_triangles qs k (facet_at fs k)
 
 -- the triangles of the first facets, facet by facet
-abbrev pub first_triangles : List Point → Complex → ℕ → List FacetTriangle
-first_triangles qs c n = flat_map (triangles_at qs c) (numbers_below n)
+abbrev pub first_triangles : List Point → List Facet → ℕ → List FacetTriangle
+first_triangles qs fs n = flat_map (triangles_at qs fs) (numbers_below n)
 
 -- the triangles of all facets
-abbrev pub complex_triangles : List Point → Complex → List FacetTriangle
-complex_triangles qs c = first_triangles qs c (length c.facets)
+abbrev pub complex_triangles : List Point → List Facet → List FacetTriangle
+complex_triangles qs fs = first_triangles qs fs (length fs)

@@ -1,12 +1,13 @@
 -- What the steps from protection to the mesh leave for the next ones.
 use Rattle.std.specs.Prelude.{ℕ, ◌<◌, ◌-◌, ◌^◌, List, length, All, IfSome, IsSome, ◌↔◌, IsTrue}
 use Rattle.sign_predicates.specs.Point.{Point}
-use Rattle.geo_laws.specs.Complex.{Complex, corner_lists, facets}
+use Rattle.geo_laws.specs.Complex.{Complex, facets}
 use Rattle.geo_laws.specs.Delaunay.{delaunay_rows, HasDistinctPoints}
+use Rattle.geo_laws.specs.Facet.{Facet}
 use Rattle.geo_laws.specs.declared.complex.Piece.{Piece}
 use Rattle.geo_laws.specs.declared.complex.FacetTriangle.{FacetTriangle}
 use Rattle.border_laws.specs.Complex.{IsSound, facet_at}
-use Rattle.facet_laws.specs.Region.{HasPiecesOf}
+use Rattle.facet_laws.specs.Region.{HavePieces}
 use Rattle.facet_plane.specs.Corners.{HasCornersOf}
 use Rattle.segment_protect.specs.Spots.{HasTwoEnds}
 use Rattle.box_pairs.specs.Crossing.{IsFirstCrossing}
@@ -25,20 +26,22 @@ use Rattle.complex_mesh.specs.declared.mesh.ComplexMesh.{ComplexMesh}
 use Rattle.complex_mesh.specs.declared.fault.MeshFault.{MeshFault}
 use Rattle.complex_mesh.specs.declared.fault.MeshFault.TheVariants.{Crossing, NoFill, NoMemory}
 
--- the points after protection, with pieces that have two ends: flat facets, whose pieces are sides of Delaunay rows
+-- the points after protection, with pieces that have two ends: flat facets, each side of which is inner or one of some segments, whose pieces are sides of
+-- Delaunay rows
 pub record HasSoundFacets (qs : List Point) (rest : List Piece) (c : Complex) : Type 0 where
+  pub segs : List Piece
   pub distinct : HasDistinctPoints qs
   pub few : length qs < 2 ^ 32 - 2
   pub corners : HasCornersOf qs c
-  pub sound : (k : ℕ) → k < length (facets c) → IsSound qs (corner_lists c.polygons) (facet_at (facets c) k)
-  pub has_pieces : HasPiecesOf qs (corner_lists c.polygons)
+  pub sound : (k : ℕ) → k < length (facets c) → IsSound qs segs (facet_at (facets c) k)
+  pub has_pieces : HavePieces qs segs
   pub two_ends : All (HasTwoEnds (length qs)) rest
 
 -- the fault names the first two parts that are not properly met
-abbrev pub IsCrossingFault : List Point → List Piece → Complex → MeshFault → Type 0
-IsCrossingFault qs rest c (Crossing one two) = IsFirstCrossing qs (complex_triangles qs c) rest one two
-IsCrossingFault qs rest c NoMemory = Unit {0}
-IsCrossingFault qs rest c _ = ⊥
+abbrev pub IsCrossingFault : List Point → List Piece → List Facet → MeshFault → Type 0
+IsCrossingFault qs rest fs (Crossing one two) = IsFirstCrossing qs (complex_triangles qs fs) rest one two
+IsCrossingFault qs rest fs NoMemory = Unit {0}
+IsCrossingFault qs rest fs _ = ⊥
 
 -- the whole list is the Delaunay list filled again: it fills the hull and has the facets as faces
 pub record IsRecovered (qs : List Point) (ts : List FacetTriangle) (whole : List Tet) : Type 0 where

@@ -1,6 +1,7 @@
 //! The triangles of all facets.
 ghost use Rattle.std.specs.Prelude.{◌≡◌, MatchResult, IfOk};
 ghost use Rattle.box_pairs.specs.Crossing.{AreTrianglesMet};
+ghost use Rattle.geo_laws.specs.Complex.{facets};
 ghost use Rattle.complex_mesh.specs.Protection.{complex_triangles};
 ghost use Rattle.complex_mesh.specs.Steps.{HasSoundFacets, IsCrossingFault};
 
@@ -20,7 +21,7 @@ fn complex_triangles(
     complex: &Complex,
 ) -> Result<FacetTriangles, NoMemory>
     requires { HasSoundFacets points.now _pieces.now complex.now }
-    ensures { IfOk result (λ triangles. triangles ≡ complex_triangles points.now complex.now) }
+    ensures { IfOk result (λ triangles. triangles ≡ complex_triangles points.now (facets complex.now)) }
 {
     let tree = point_tree(alloc, points)?;
     let mut triangles = FacetTriangles::new(alloc);
@@ -41,9 +42,9 @@ pub(crate) fn met_triangles(
 ) -> Result<FacetTriangles, MeshFault>
     requires { HasSoundFacets points.now pieces.now complex.now }
     ensures { MatchResult result
-        (λ triangles. (triangles ≡ complex_triangles points.now complex.now)
+        (λ triangles. (triangles ≡ complex_triangles points.now (facets complex.now))
         × AreTrianglesMet points.now triangles pieces.now)
-        (IsCrossingFault points.now pieces.now complex.now) }
+        (IsCrossingFault points.now pieces.now (facets complex.now)) }
 {
     let triangles = complex_triangles(alloc, points, pieces, complex)?;
     crossings(alloc, points, pieces, &triangles)?;

@@ -7,7 +7,6 @@ mod keeping;
 mod laws;
 mod mesh;
 mod meshing;
-mod protecting;
 mod recovering;
 
 pub use fault::MeshFault;

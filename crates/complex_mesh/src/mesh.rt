@@ -11,6 +11,8 @@ pub struct MeshOptions {
     pub budget: u32,
     /// Whether what a free path joins with the outside is kept, and only what one joins with a hole point is carved.
     pub keep_hull: bool,
+    /// Whether facets are kept apart as they are read. Else coplanar facets that are joined over a common side are one facet, and the side is no segment.
+    pub keep_facets: bool,
     /// Whether the tetrahedra are marked by regions.
     pub regions: bool,
 }

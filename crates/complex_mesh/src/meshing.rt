@@ -1,17 +1,47 @@
 //! From points and a complex to the mesh.
-ghost use Rattle.complex_mesh.specs.Protection.{IsMeshable};
+ghost use Rattle.std.specs.Prelude.{All};
+ghost use Rattle.geo_laws.specs.Complex.{facets};
+ghost use Rattle.geo_laws.specs.Facet.{IsFlat};
+ghost use Rattle.facet_plane.specs.Corners.{HasCornersOf};
+ghost use Rattle.complex_mesh.specs.Protection.{IsMeshable, AreMeshed};
 ghost use Rattle.complex_mesh.specs.Meshing.{MeshesSo};
 
 use crate::facets::met_triangles;
 use crate::fault::MeshFault;
 use crate::keeping::kept_mesh;
 use crate::mesh::{ComplexMesh, MeshOptions};
-use crate::protecting::protected_complex;
 use crate::recovering::recovered;
-use geo_laws::{Complex, Points};
+use facet_plane::check_flat;
+use geo_laws::{Complex, Points, Segments};
+use merged_facets::{merge_facets, merged_complex, merged_segments};
+use plc_files::segments;
+use segment_protect::{pieces, protect};
 use std::alloc::Global;
 
-/// The mesh of a complex: points are added on segments until each piece of these is a side of a Delaunay tetrahedron; each facet's triangles are those of
+/// The mesh of a complex whose facets are flat, from the segments and facets that are meshed: the latter are those of `meshed`.
+fn mesh_facets(
+    alloc: Global,
+    points: Points,
+    complex: &Complex,
+    segments: &Segments,
+    meshed: &Complex,
+    options: &MeshOptions,
+) -> Result<ComplexMesh, MeshFault>
+    requires meshable { IsMeshable options.now.halvings options.now.budget points complex.now }
+    requires flat { All (IsFlat points) (facets complex.now) }
+    requires meshed { AreMeshed options.now.keep_facets points complex.now segments.now (facets meshed.now) }
+    requires corners { HasCornersOf points meshed.now }
+    ensures { MeshesSo options.now points complex.now result }
+{
+    let pieces = pieces(alloc, &points, segments)?;
+    let protected = protect(alloc, points, pieces, options.halvings, options.budget)?;
+    let triangles = met_triangles(alloc, &protected.points, &protected.pieces, meshed)?;
+    let whole = recovered(alloc, &protected.points, &protected.tetrahedra, &triangles)?;
+    let mesh = kept_mesh(alloc, protected.points, triangles, &whole, complex, options)?;
+    Ok(mesh)
+}
+
+/// The mesh of a complex: coplanar facets that are joined over common sides are one facet each, unless facets are kept apart; points are added on segments until each piece of these is a side of a Delaunay tetrahedron; each facet's triangles are those of
 /// its plane's Delaunay triangulation; the Delaunay tetrahedra that a facet crosses are replaced, on each side of the facet's plane, by those of the
 /// cavity's corners on that side, or where two facets cross one, by tetrahedra grown from face to face; and what a free path joins with the outside, where
 /// the hull isn't kept, or with a hole point is carved away.
@@ -31,9 +61,13 @@ pub fn mesh_complex(
     requires { IsMeshable options.now.halvings options.now.budget points complex.now }
     ensures { MeshesSo options.now points complex.now result }
 {
-    let protected = protected_complex(alloc, points, complex, options.halvings, options.budget)?;
-    let triangles = met_triangles(alloc, &protected.points, &protected.pieces, complex)?;
-    let whole = recovered(alloc, &protected.points, &protected.tetrahedra, &triangles)?;
-    let mesh = kept_mesh(alloc, protected.points, triangles, &whole, complex, options)?;
-    Ok(mesh)
+    check_flat(&points, complex)?;
+    if options.keep_facets {
+        let segments = segments(alloc, complex)?;
+        return mesh_facets(alloc, points, complex, &segments, complex, options);
+    }
+    let merging = merge_facets(alloc, &points, complex)?;
+    let segments = merged_segments(alloc, complex, &merging)?;
+    let merged = merged_complex(alloc, complex, &merging)?;
+    mesh_facets(alloc, points, complex, &segments, &merged, options)
 }
