@@ -76,7 +76,7 @@ times_in x [] h = absurd (omega (arith, h.1))
 times_in x (y ∷ ys) h = times_first x y ys (elim (Contains-append_cases (y ∷ []) ys x h) [ inl c ↦ inl c | inr c ↦ inr (times_in x ys c) ])
 
 -- in an order of the numbers below n no number stands twice
-once : (n k : ℕ) (xs : List ℕ) → IsPermutation (numbers_below n) xs → k < length xs → Contains (take k xs) (get_or xs k 0) → ⊥
+pub once : (n k : ℕ) (xs : List ℕ) → IsPermutation (numbers_below n) xs → k < length xs → Contains (take k xs) (get_or xs k 0) → ⊥
 once n k xs order l c =
     let x = get_or xs k 0 in
     let all : sum_by (one_at x) xs ≡ sum_by (one_at x) (numbers_below n) = sum_by-IsPermutation (one_at x) (numbers_below n) xs order in
@@ -88,14 +88,14 @@ abbrev pub no_turn : Turn
 no_turn = record { round = 0; curve = 0; number = 0 }
 
 -- the numbers of the first turns and of the next one
-next_numbers : (turns : List Turn) (k : ℕ) (d : Turn) → k < length turns → turn_numbers (take (k + 1) turns) ≡ turn_numbers (take k turns) ++ (get_or turns k d).number ∷ []
+pub next_numbers : (turns : List Turn) (k : ℕ) (d : Turn) → k < length turns → turn_numbers (take (k + 1) turns) ≡ turn_numbers (take k turns) ++ (get_or turns k d).number ∷ []
 next_numbers turns k d l = ap turn_numbers (take_more turns k d l) ∙ map_push (take k turns)
   where
     map_push : (xs : List Turn) → turn_numbers (xs ++ get_or turns k d ∷ []) ≡ turn_numbers xs ++ (get_or turns k d).number ∷ []
     map_push [] = refl
     map_push (x ∷ xs) = ap (λ ys. x.number ∷ ys) (map_push xs)
 
-number_taken : (turns : List Turn) (k : ℕ) → turn_numbers (take k turns) ≡ take k (turn_numbers turns)
+pub number_taken : (turns : List Turn) (k : ℕ) → turn_numbers (take k turns) ≡ take k (turn_numbers turns)
 number_taken turns zero = refl
 number_taken [] (suc k) = refl
 number_taken (x ∷ xs) (suc k) = ap (λ ys. x.number ∷ ys) (number_taken xs k)

@@ -1,5 +1,5 @@
 -- The rows of a mesh's slots, each in the least even arrangement of the slot's corners.
-use Rattle.std.specs.Prelude.{◌≡◌, ◌↔◌, ℕ, ◌<◌, List, Option, Some, AllPairs, Contains}
+use Rattle.std.specs.Prelude.{◌≡◌, ◌↔◌, ℕ, ◌<◌, List, length, Option, Some, AllPairs, Contains}
 use Rattle.geo_laws.specs.Arrangement.{IsEvenOf, HasLeastFirst, HasLeastSecond}
 use Rattle.geo_laws.specs.Delaunay.{RowBefore}
 use Rattle.geo_laws.specs.declared.tetrahedra.Tet.{Tet as Row}
@@ -25,3 +25,9 @@ pub record AreRowsBelow (slots : List (Option SlotValue)) (rows : List Row) (n :
 pub record IsListOf (rows list : List Row) : Type 0 where
   pub exactly : (row : Row) → Contains list row ↔ Contains rows row
   pub ascending : AllPairs RowBefore list
+
+-- the list has the rows of all these slots, each once, ascending
+pub record AreSortedRowsOf (slots : List (Option SlotValue)) (list : List Row) : Type 0 where
+  pub rows : List Row
+  pub below : AreRowsBelow slots rows (length slots)
+  pub listed : IsListOf rows list

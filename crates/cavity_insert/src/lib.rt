@@ -19,9 +19,14 @@ mod sides;
 mod start;
 mod steps;
 
+pub use first::first_row;
 pub use grow::grow_cavity;
 pub use hull::{HulledList, delaunay_with_hull};
 pub use living::Living;
-pub use meshing::{BuildFault, delaunay};
+pub use marks::MarkedCavity;
+pub use meshing::{BuildFault, delaunay, has_corner};
+pub use order::{Turn, insertion_order};
+pub use rows::sorted_rows;
 pub use rule::test_slot;
+pub use start::start_mesh;
 pub use steps::Steps;

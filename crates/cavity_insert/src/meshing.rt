@@ -55,7 +55,7 @@ pub(crate) struct Built {
 }
 
 /// Whether a point is a corner of a row.
-pub(crate) fn has_corner(t: Tet, i: u32) -> bool
+pub fn has_corner(t: Tet, i: u32) -> bool
     ensures { result ≡ has_corner t i }
 {
     t.a == i || t.b == i || t.c == i || t.d == i

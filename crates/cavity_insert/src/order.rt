@@ -13,10 +13,10 @@ use tet_ports::NoMemory;
 
 /// Where a point stands in the order: its round, its place on the curve, and its number.
 #[derive(Clone, Copy, PartialEq, Eq, PartialOrd, Ord)]
-pub(crate) struct Turn {
+pub struct Turn {
     round: u32,
     curve: u64,
-    pub(crate) number: u32,
+    pub number: u32,
 }
 
 /// The least box round points: its least corner, and how far its coordinates are shifted to have 21
@@ -59,7 +59,7 @@ impl Span {
 const CURVE_BITS: u32 = 21;
 
 /// The numbers of the points, each once, in the order in which they are inserted.
-pub(crate) fn insertion_order(alloc: Global, points: &Points) -> Result<Vec<Turn>, NoMemory>
+pub fn insertion_order(alloc: Global, points: &Points) -> Result<Vec<Turn>, NoMemory>
     requires { length points.now < 2 ^ 32 - 1 }
     ensures { IfOk result (λ turns. IsOrderOf (length points.now) turns.items) }
 {

@@ -8,7 +8,7 @@ ghost use Rattle.mesh_arena.specs.Mesh.{corners_at, corner_list};
 ghost use Rattle.point_locate.specs.Place.{row_corners, IsAt};
 ghost use Rattle.mesh_laws.specs.Living.{IsDelaunayMesh};
 ghost use Rattle.cavity_insert.specs.Rows.{IsRowOf};
-ghost use Rattle.cavity_insert.specs.Rows.{AreRowsBelow, IsListOf};
+ghost use Rattle.cavity_insert.specs.Rows.{AreRowsBelow, AreSortedRowsOf, IsListOf};
 ghost use Rattle.cavity_insert.specs.RowKeys.{row_of_key, rows_in};
 
 use crate::row_keys::{RowKey, key_of, row_of_key};
@@ -43,6 +43,14 @@ impl SlotRows {
             }
         }
     }
+}
+
+/// The rows of all slots of an arena that are tetrahedra of points, each in its least even
+/// arrangement, ascending.
+pub fn sorted_rows(alloc: Global, arena: &Arena) -> Result<TetList, NoMemory>
+    ensures { IfOk result (AreSortedRowsOf arena.now.slots) }
+{
+    slot_rows(alloc, arena)?.into_list(alloc)
 }
 
 /// The Delaunay rows of a mesh, ascending.

@@ -25,7 +25,7 @@ struct Shared {
 
 /// An arena that is the mesh of one positive tetrahedron, with its ghosts, and the slot of the
 /// tetrahedron.
-pub(crate) fn start_mesh(alloc: Global, points: &Points, t: Tet) -> Result<(Arena, Slot), NoMemory>
+pub fn start_mesh(alloc: Global, points: &Points, t: Tet) -> Result<(Arena, Slot), NoMemory>
     requires numbers { AreNumbersOf points.now (numbers t) }
     requires positive { IsPositive (corners points.now t) }
     requires arranged { IsArranged t }
