@@ -1,0 +1,26 @@
+use Rattle.std.proofs.Common.{◌∙◌, ◌+ℤ◌, ◌-ℤ◌, ◌*ℤ◌, w64}
+use Rattle.exact_algebra.proofs.Size.{read}
+use Rattle.sign_predicates.specs.Sphere.{square_length}
+use Rattle.weighted_signs.proofs.Terms.{weighted_sum_is, weight_back}
+use mir.Syntax.{w128}
+use Rattle.weighted_signs.proofs.weighted.weighted_sum.Goals as goal
+
+pub returns : goal.returns
+returns c =
+    let own = weight_back c.args.own c.requires.weight in
+    let p = read w64 c.rise.result c.rise.type_inv ∙ c.rise.ensures.value
+    ∙ (λ i. square_length c.args.a -ℤ weight_back c.args.w.a c.requires.weights.a_small i +ℤ own i) in
+    let q = read w64 c.rise-2.result c.rise-2.type_inv ∙ c.rise-2.ensures.value
+    ∙ (λ i. square_length c.args.b -ℤ weight_back c.args.w.b c.requires.weights.b_small i +ℤ own i) in
+    let r = read w64 c.rise-3.result c.rise-3.type_inv ∙ c.rise-3.ensures.value
+    ∙ (λ i. square_length c.args.c -ℤ weight_back c.args.w.c c.requires.weights.c_small i +ℤ own i) in
+    let s = read w64 c.rise-4.result c.rise-4.type_inv ∙ c.rise-4.ensures.value
+    ∙ (λ i. square_length c.args.d -ℤ weight_back c.args.w.d c.requires.weights.d_small i +ℤ own i) in
+    let t = read w128 c.det_of_minors.result c.det_of_minors.type_inv ∙ c.det_of_minors.ensures.value in
+    let u = read w128 c.det_of_minors-2.result c.det_of_minors-2.type_inv ∙ c.det_of_minors-2.ensures.value in
+    let v = read w128 c.det_of_minors-3.result c.det_of_minors-3.type_inv ∙ c.det_of_minors-3.ensures.value in
+    let w = read w128 c.det_of_minors-4.result c.det_of_minors-4.type_inv ∙ c.det_of_minors-4.ensures.value in
+    read w128 c.sum_of_four.result c.sum_of_four.type_inv
+    ∙ c.sum_of_four.ensures
+    ∙ (λ i. p i *ℤ t i -ℤ q i *ℤ u i +ℤ r i *ℤ v i -ℤ s i *ℤ w i)
+    ∙ weighted_sum_is c.args.a c.args.b c.args.c c.args.d c.args.w c.args.own
