@@ -1,0 +1,5 @@
+pub mod Rule
+pub mod Living
+pub mod Laws
+pub mod Replaced
+pub mod RimLaws
