@@ -1,0 +1,39 @@
+//! The laws of the regular list, over the definitions alone. Each law is the contract of a function
+//! that does nothing.
+ghost use Rattle.regular_laws.specs.Laws.{NoWeightsLaw, RegularRowLaw, WeightedCoverLaw};
+ghost use Rattle.regular_laws.specs.Laws.{WeightedLeastHeightLaw, WeightedLiftLaw};
+ghost use Rattle.regular_laws.specs.Laws.{WeightedRadicalLaw};
+
+/// A point is weighted outside of a positive tetrahedron exactly where it is above the plane
+/// through the lifted corners: each point is lifted by its squared length less its weight. Source:
+/// power diagrams (Aurenhammer 1987).
+pub fn law_weighted_lift()
+    ensures { WeightedLiftLaw }
+{}
+
+/// The rows of the regular list are the lowest tetrahedra of the lifted points.
+pub fn law_regular_row()
+    ensures { RegularRowLaw }
+{}
+
+/// Two rows of the regular list are properly met, and they are the same where a point is strictly
+/// inside both. Source: power diagrams (Aurenhammer 1987).
+pub fn law_weighted_radical()
+    ensures { WeightedRadicalLaw }
+{}
+
+/// A point of the hull in general position is strictly inside a row of the regular list.
+/// Source: regular triangulations (Edelsbrunner and Shah 1996).
+pub fn law_weighted_least_height()
+    ensures { WeightedLeastHeightLaw }
+{}
+
+/// The regular list covers the hull of its points once, and its rows are properly met.
+pub fn law_weighted_cover()
+    ensures { WeightedCoverLaw }
+{}
+
+/// Without weights the rows of the regular list are the Delaunay rows.
+pub fn law_no_weights()
+    ensures { NoWeightsLaw }
+{}
