@@ -1,0 +1,5 @@
+pub mod Facts
+pub mod Begin
+pub mod Rows
+pub mod Insertion
+pub mod Building

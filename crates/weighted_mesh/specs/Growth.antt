@@ -1,0 +1,36 @@
+-- The growth of a cavity, from its start on.
+use Rattle.std.specs.Prelude.{◌≡◌, ℕ, ℤ, [], List, Option}
+use Rattle.sign_predicates.specs.Point.{Point}
+use Rattle.regular_laws.specs.Regular.{weighted_lift}
+use Rattle.mesh_arena.specs.Mesh.{SlotValue, IsMesh}
+use Rattle.mesh_arena.specs.declared.slot.Slot.{Slot}
+use Rattle.mesh_arena.specs.declared.slot.RimFace.{RimFace}
+use Rattle.lowest_mesh_laws.specs.Rule.{IsTaken}
+use Rattle.mesh_laws.specs.Reach.{Grown}
+use Rattle.lowest_mesh_laws.specs.Laws.{IsWholeFrom}
+use Rattle.weighted_mesh.specs.declared.grow.Growth.{Growth}
+use Rattle.weighted_mesh.specs.Search.{SearchValue, IsInZone}
+use Rattle.cavity_insert.specs.Grow.{entry_at, AreEntered, Growing}
+
+-- nothing has been found yet
+pub record HasBegun (g : Growth) (start : Slot) : Type 0 where
+  pub start_is : g.start ≡ start
+  pub cavity : g.cavity ≡ []
+  pub entries : g.entries.items ≡ []
+  pub rim : g.rim ≡ []
+
+-- the face through which the slot i of the cavity was entered
+abbrev pub entry_of : Growth → ℕ → ℕ
+entry_of g i = entry_at g.entries.items i
+
+-- the growth has come to the turn k of the slot i of its cavity
+pub record IsGrowing (search : SearchValue) (g : Growth) (i k : ℕ) : Type 0 where
+  pub entered : AreEntered search.slots g.cavity g.entries.items
+  pub growing : Growing search.slots (IsInZone search) g.start.index g.cavity g.rim i (entry_of g i) k
+
+-- the cavity has the conflict zone of the point with the number p, and this is its rim
+pub record IsCavityOf (slots : List (Option SlotValue)) (ps : List Point) (ws : List ℤ) (p : ℕ) (cavity : List Slot) (rim : List RimFace) : Type 0 where
+  pub mesh : IsMesh slots
+  pub start : ℕ
+  pub whole : IsWholeFrom (weighted_lift ps ws) slots ps p start
+  pub grown : Grown slots (IsTaken (weighted_lift ps ws) slots ps p) start cavity rim

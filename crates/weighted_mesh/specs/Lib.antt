@@ -1,0 +1,4 @@
+pub mod Ready
+pub mod Search
+pub mod Growth
+pub mod Build

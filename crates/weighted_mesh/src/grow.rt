@@ -1,0 +1,111 @@
+//! The cavity of a new point: a search from one slot over neighbors in the point's conflict zone.
+ghost use Rattle.std.specs.Prelude.{◌≡◌, ◌+◌, ◌<◌, ◌≤◌, min, length, OnOk};
+ghost use Rattle.mesh_arena.specs.Mesh.{IsMesh};
+ghost use Rattle.mesh_laws.specs.Reach.{Grown};
+ghost use Rattle.weighted_mesh.specs.Search.{IsInZone};
+ghost use Rattle.cavity_insert.specs.Grow.{turn};
+ghost use Rattle.weighted_mesh.specs.Growth.{HasBegun, IsGrowing, entry_of};
+
+use crate::search::Search;
+use cavity_insert::MarkedCavity;
+use mesh_arena::{Rim, Slot};
+use std::alloc::Global;
+use tet_ports::NoMemory;
+
+/// The growth of a cavity. It serves one point after another.
+#[derive(Drop)]
+pub(crate) struct Growth {
+    start: Slot,
+    // The slots of the conflict zone that were found, and the faces round them.
+    pub(crate) cavity: MarkedCavity,
+    // The face through which each of these slots was entered; 0 for the first.
+    entries: Vec<u8>,
+    pub(crate) rim: Rim,
+}
+
+impl Growth {
+    /// A growth that has not begun. It takes no memory yet.
+    pub(crate) fn new(alloc: Global) -> Self {
+        Growth {
+            start: Slot { index: 0 },
+            cavity: MarkedCavity::new(alloc),
+            entries: Vec::new(alloc),
+            rim: Rim::new(alloc),
+        }
+    }
+
+    /// Begins a growth from a slot. The lists of the last one keep their memory.
+    pub(crate) fn begin(&mut self, start: Slot)
+        ensures { HasBegun self.new start }
+    {
+        self.start = start;
+        self.cavity.clear();
+        self.entries.clear();
+        self.rim.clear();
+    }
+
+    // Looks over the face k of the slot i of the cavity, whose turn has come. A slot that is not
+    // taken is tested again from each face of the cavity that it is behind.
+    fn visit(&mut self, search: &Search<'_>, i: usize, k: u8) -> Result<(), NoMemory>
+        requires mesh { IsMesh search.now.slots }
+        requires inside { i < length self.old.cavity }
+        requires face { k < 4 }
+        requires growing { IsGrowing search.now self.old i (turn (entry_of self.old i) k) }
+        ensures growing { OnOk result (IsGrowing search.now self.new i
+            (turn (entry_of self.old i) k + 1)) }
+        ensures entry { OnOk result (entry_of self.new i ≡ entry_of self.old i) }
+        ensures start { self.new.start ≡ self.old.start }
+        ensures longer { OnOk result (length self.old.cavity ≤ length self.new.cavity) }
+    {
+        let Some(f) = search.across(self.cavity.at(i), k) else {
+            return Ok(());
+        };
+        if self.cavity.has(f.slot) {
+            Ok(())
+        } else if search.test(f.slot) {
+            self.cavity.push(f.slot)?;
+            self.entries.push(f.face)?;
+            Ok(())
+        } else {
+            self.rim.push(f)
+        }
+    }
+
+    // Looks over the faces of the slot i of the cavity. The first slot is looked over all round, and
+    // a later one not through the face by which it was entered: the slot behind that one is in the
+    // cavity.
+    fn visit_faces(&mut self, search: &Search<'_>, i: usize) -> Result<(), NoMemory>
+        requires mesh { IsMesh search.now.slots }
+        requires inside { i < length self.old.cavity }
+        requires growing { IsGrowing search.now self.old i (min i 1) }
+        ensures growing { OnOk result (IsGrowing search.now self.new (i + 1) 1) }
+        ensures start { self.new.start ≡ self.old.start }
+        ensures longer { OnOk result (length self.old.cavity ≤ length self.new.cavity) }
+    {
+        let entry = self.entries[i];
+        let first = i.min(1) as u8;
+        for k in first..4 {
+            self.visit(search, i, entry ^ k)?;
+        }
+        Ok(())
+    }
+
+    /// Grows the cavity from its start, which is in the conflict zone of the new point.
+    pub(crate) fn grow(&mut self, search: &Search<'_>) -> Result<(), NoMemory>
+        requires begun { HasBegun self.old self.old.start }
+        requires start { IsInZone search.now self.old.start.index }
+        ensures grown { OnOk result (Grown search.now.slots (IsInZone search.now)
+            self.old.start.index self.new.cavity self.new.rim) }
+    {
+        let start = self.start;
+        search.see(start);
+        self.cavity.push(start)?;
+        self.entries.push(0)?;
+        let mut i = 0;
+        while i < self.cavity.len() {
+            self.visit_faces(search, i)?;
+            i += 1;
+        }
+        Ok(())
+    }
+}
