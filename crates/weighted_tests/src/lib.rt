@@ -1,0 +1,5 @@
+//! Regular lists of small sets of weighted points.
+#![tactic(auto)]
+
+#[cfg(test)]
+mod regular_lists;

@@ -1,0 +1,304 @@
+//! Worked lists, and lists that a plain filter over all fours makes too.
+ghost use Rattle.std.specs.Prelude.{ℕ, ◌≡◌, ◌≢◌, ◌<◌, ◌≤◌, ◌^◌, All, IsTrue, length, unsigned_abs};
+ghost use Rattle.geo_laws.specs.Delaunay.{point, HasDistinctPoints};
+ghost use Rattle.regular_laws.specs.Regular.{AreWeightsOf};
+ghost use Rattle.weighted_signs.specs.Weighted.{IsWeight, AreWeights};
+
+use cavity_insert::BuildFault;
+use geo_laws::{Points, Tet, TetList};
+use regular_laws::Weights;
+use sign_predicates::{Corners, GridPoint, Numbers, Sign, orient};
+use std::alloc::Global;
+use tet_ports::NoMemory;
+use weighted_mesh::regular;
+use weighted_signs::{FourWeights, outside_weighted};
+
+fn grid_point(p: [i8; 3]) -> GridPoint {
+    GridPoint {
+        x: p[0] as i32,
+        y: p[1] as i32,
+        z: p[2] as i32,
+    }
+}
+
+fn points(alloc: Global, coordinates: &[[i8; 3]]) -> Result<Points, NoMemory> {
+    let mut points = Points::new(alloc);
+    for p in coordinates {
+        points.push(grid_point(*p))?;
+    }
+    Ok(points)
+}
+
+fn weights(alloc: Global, numbers: &[i16]) -> Result<Weights, NoMemory> {
+    let mut weights = Weights::new(alloc);
+    for w in numbers {
+        weights.push(*w as i64)?;
+    }
+    Ok(weights)
+}
+
+/// Whether the point is none of the first n.
+fn is_new(points: &Points, n: usize, p: GridPoint) -> bool
+    requires { n ≤ length points.now }
+    ensures { IsTrue result → (i : ℕ) → i < n → point points.now i ≢ p }
+{
+    for i in 0..n {
+        if points.at(i) == p {
+            return false;
+        }
+    }
+    true
+}
+
+fn are_distinct(points: &Points) -> bool
+    ensures { IsTrue result → HasDistinctPoints points.now }
+{
+    for j in 0..points.len() {
+        if !is_new(points, j, points.at(j)) {
+            return false;
+        }
+    }
+    true
+}
+
+fn are_rows(rows: &TetList, want: &[[u32; 4]]) -> bool {
+    if rows.len() != want.len() {
+        return false;
+    }
+    for (i, w) in want.iter().enumerate() {
+        let row = Tet {
+            a: w[0],
+            b: w[1],
+            c: w[2],
+            d: w[3],
+        };
+        if rows.at(i) != row {
+            return false;
+        }
+    }
+    true
+}
+
+/// Whether there is one weight for each point, each small.
+fn are_weights(points: &Points, weights: &Weights) -> bool
+    ensures { IsTrue result → AreWeightsOf points.now weights.now }
+{
+    for i in 0..weights.len() {
+        if weights.at(i).unsigned_abs() > 1 << 46 {
+            return false;
+        }
+    }
+    weights.len() == points.len()
+}
+
+fn has_rows(alloc: Global, points: &Points, weights: &Weights, want: &[[u32; 4]]) -> bool {
+    if points.len() > 1000 || !are_distinct(points) || !are_weights(points, weights) {
+        return false;
+    }
+    match regular(alloc, points, weights) {
+        Ok(rows) => are_rows(&rows, want),
+        Err(BuildFault::Flat) => want.is_empty(),
+        Err(BuildFault::NoMemory) => false,
+    }
+}
+
+/// Whether the regular list of these points with these weights has these rows; none stands for
+/// `Flat`.
+fn has_list(alloc: Global, coordinates: &[[i8; 3]], numbers: &[i16], want: &[[u32; 4]]) -> bool {
+    let Ok(points) = points(alloc, coordinates) else {
+        return false;
+    };
+    match weights(alloc, numbers) {
+        Ok(weights) => has_rows(alloc, &points, &weights, want),
+        Err(NoMemory) => false,
+    }
+}
+
+const CORNER: [[i8; 3]; 5] = [[0, 0, 0], [4, 0, 0], [0, 4, 0], [0, 0, 4], [1, 1, 1]];
+
+// The same with the inner point first.
+const INNER_FIRST: [[i8; 3]; 5] = [[1, 1, 1], [4, 0, 0], [0, 4, 0], [0, 0, 4], [0, 0, 0]];
+
+const CUBE: [[i8; 3]; 8] = [
+    [0, 0, 0],
+    [1, 0, 0],
+    [1, 1, 0],
+    [0, 1, 0],
+    [0, 0, 1],
+    [1, 0, 1],
+    [1, 1, 1],
+    [0, 1, 1],
+];
+
+const CUBE_ROWS: [[u32; 4]; 6] = [
+    [0, 1, 3, 4],
+    [1, 2, 3, 5],
+    [1, 3, 4, 5],
+    [2, 3, 5, 6],
+    [3, 4, 5, 7],
+    [3, 5, 6, 7],
+];
+
+#[test]
+fn worked_rows(rt: HostRuntime) {
+    let alloc = rt.alloc();
+    let tied = [[0, 1, 2, 4], [0, 1, 4, 3], [0, 2, 3, 4], [1, 2, 4, 3]];
+    assert!(rt;
+        has_list(alloc, &CORNER, &[0, 0, 0, 0, -10], &[[0, 1, 2, 3]]),
+        "hidden"
+    );
+    assert!(rt; has_list(alloc, &CORNER, &[0, 0, 0, 0, -9], &tied), "tie");
+    assert!(rt;
+        has_list(alloc, &INNER_FIRST, &[-100, 0, 0, 0, 0], &[[1, 2, 4, 3]]),
+        "start hidden"
+    );
+    assert!(rt; has_list(alloc, &CUBE, &[0; 8], &CUBE_ROWS), "cube");
+}
+
+/// A number from 0 to n - 1, drawn by a linear congruential generator.
+fn drawn(state: &mut u64, n: u32) -> u32
+    requires { 0 < n }
+    ensures { result < n }
+{
+    *state = state
+        .wrapping_mul(6_364_136_223_846_793_005)
+        .wrapping_add(1_442_695_040_888_963_407);
+    ((*state >> 33) % u64::from(n)) as u32
+}
+
+/// The weight of the point with this number.
+fn weight_at(weights: &Weights, i: u32) -> i64
+    requires inside { i < length weights.now }
+    requires small { All IsWeight weights.now }
+    ensures { IsWeight result }
+{
+    weights.at(i as usize)
+}
+
+/// The weights of a row's corners.
+fn weights_of(weights: &Weights, row: Tet) -> FourWeights
+    requires inside { (row.a < length weights.now) × (row.b < length weights.now)
+        × (row.c < length weights.now) × (row.d < length weights.now) }
+    requires small { All IsWeight weights.now }
+    ensures { AreWeights result }
+{
+    FourWeights {
+        a: weight_at(weights, row.a),
+        b: weight_at(weights, row.b),
+        c: weight_at(weights, row.c),
+        d: weight_at(weights, row.d),
+    }
+}
+
+/// Whether this four is a row of the regular list: positive, and every other point outside.
+fn is_plain_row(points: &Points, weights: &Weights, t: Tet) -> bool
+    requires inside { (t.a < length points.now) × (t.b < length points.now)
+        × (t.c < length points.now) × (t.d < length points.now) }
+    requires few { length points.now ≤ 1000 }
+    requires each { length weights.now ≡ length points.now }
+    requires small { All IsWeight weights.now }
+{
+    let (a, b) = (points.at(t.a as usize), points.at(t.b as usize));
+    let (c, d) = (points.at(t.c as usize), points.at(t.d as usize));
+    let corners = Corners { a, b, c, d };
+    if !matches!(orient(a, b, c, d), Sign::Above) {
+        return false;
+    }
+    let w = weights_of(weights, t);
+    let n = Numbers {
+        a: t.a,
+        b: t.b,
+        c: t.c,
+        d: t.d,
+    };
+    for e in 0..points.len() as u32 {
+        if e != t.a && e != t.b && e != t.c && e != t.d {
+            let own = weight_at(weights, e);
+            if !outside_weighted(corners, w, n, points.at(e as usize), own, e) {
+                return false;
+            }
+        }
+    }
+    true
+}
+
+/// The regular list by a plain filter over all fours.
+fn plain_list(alloc: Global, points: &Points, weights: &Weights) -> Result<TetList, NoMemory>
+    requires few { length points.now ≤ 1000 }
+    requires each { length weights.now ≡ length points.now }
+    requires small { All IsWeight weights.now }
+{
+    let mut rows = TetList::new(alloc);
+    let n = points.len() as u32;
+    for a in 0..n {
+        for b in a + 1..n {
+            for c in b + 1..n {
+                for d in b + 1..n {
+                    let row = Tet { a, b, c, d };
+                    if c != d && is_plain_row(points, weights, row) {
+                        rows.push(row)?;
+                    }
+                }
+            }
+        }
+    }
+    Ok(rows)
+}
+
+fn are_same(rows: &TetList, others: &TetList) -> bool {
+    if rows.len() != others.len() {
+        return false;
+    }
+    for i in 0..rows.len() {
+        if rows.at(i) != others.at(i) {
+            return false;
+        }
+    }
+    true
+}
+
+/// Whether a list of drawn points is that of the plain filter. None where two of the points are
+/// equal, or where memory is wanting.
+fn agrees(alloc: Global, state: &mut u64, count: u32, width: u32, heavy: u32) -> Option<bool>
+    requires width { (0 < width) × (width ≤ 100) }
+    requires heavy { (0 < heavy) × (heavy ≤ 100) }
+{
+    let mut points = Points::new(alloc);
+    let mut weights = Weights::new(alloc);
+    for _ in 0..count {
+        let p = GridPoint {
+            x: drawn(state, width) as i32,
+            y: drawn(state, width) as i32,
+            z: drawn(state, width) as i32,
+        };
+        points.push(p).ok()?;
+        weights
+            .push(i64::from(drawn(state, heavy)) - i64::from(heavy / 2))
+            .ok()?;
+    }
+    if points.len() > 1000 || !are_distinct(&points) || !are_weights(&points, &weights) {
+        return None;
+    }
+    let plain = plain_list(alloc, &points, &weights).ok()?;
+    match regular(alloc, &points, &weights) {
+        Ok(rows) => Some(are_same(&rows, &plain)),
+        Err(BuildFault::Flat) => Some(plain.is_empty()),
+        Err(BuildFault::NoMemory) => None,
+    }
+}
+
+#[test]
+fn drawn_lists(rt: HostRuntime) {
+    let mut state = 1;
+    let mut tried = 0_u32;
+    for round in 0..400_u32 {
+        let count = 5 + round % 8;
+        let width = 3 + round % 5;
+        let heavy = 1 + round % 23;
+        if let Some(same) = agrees(rt.alloc(), &mut state, count, width, heavy) {
+            assert!(rt; same, "round {round}");
+            tried = tried.saturating_add(1);
+        }
+    }
+    assert!(rt; tried > 100, "only {tried}");
+}
