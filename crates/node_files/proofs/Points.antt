@@ -81,7 +81,6 @@ unfolding points_of
 points_stop header before text i total lines rest line faults.NoMemory whole lt line-is fails so_far = tt
 points_stop header before text i total lines rest line (faults.TooMany count) whole lt line-is fails so_far = elim fails [ ]
 points_stop header before text i total lines rest line (faults.Range at) whole lt line-is fails so_far = elim fails [ ]
-points_stop header before text i total lines rest line (faults.Twin first second) whole lt line-is fails so_far = elim fails [ ]
 points_stop header before text i total lines rest line (faults.Text fault) whole lt line-is fails so_far =
     let left : header.count - i ≡ suc (header.count - (i + 1)) = omega arith in
     let failed = bind_err (point_of header.attribute_count header.flag before line) (λ point. (point.number, with_point before text point)) fault fails in

@@ -2,6 +2,6 @@ pub mod Header
 pub mod Outcome
 pub mod Point
 pub mod Node
-pub mod Twins
+pub mod Folding
 pub mod Settling
 pub mod Writing

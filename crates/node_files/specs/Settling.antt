@@ -5,13 +5,12 @@ use Rattle.grid_coords.specs.declared.points.DecimalPoint.{DecimalPoint}
 use Rattle.grid_coords.specs.Rounding.{rounded}
 use Rattle.grid_coords.specs.Units.{grid_point}
 use Rattle.grid_coords.specs.Choice.{grid_of}
-use Rattle.geo_laws.specs.Delaunay.{HasDistinctPoints}
 use Rattle.node_files.specs.declared.fault.NodeFault.{NodeFault}
 use Rattle.node_files.specs.declared.fault.NodeFault.TheVariants as faults
 use Rattle.node_files.specs.declared.node_text.NodeText.{NodeText}
 use Rattle.node_files.specs.declared.table.NodeTable.{NodeTable}
 use Rattle.node_files.specs.declared.table.GridOptions.{GridOptions}
-use Rattle.node_files.specs.Twins.{IsFirstTwin}
+use Rattle.node_files.specs.Folding.{IsFolded}
 
 -- how many points are allowed
 abbrev pub most_points : ℕ
@@ -25,17 +24,16 @@ abbrev pub rounded_points : Option ℕ → List DecimalPoint → List DecimalPoi
 rounded_points None ps = ps
 rounded_points (Some decimals) ps = map (rounded_point decimals) ps
 
--- the text on a grid, where these are its points as they are rounded
-abbrev pub table_of : NodeText → List DecimalPoint → Grid → NodeTable
-table_of text ps grid = record {
+-- the table with what the text says, where these are its points as they are rounded; its grid, and how its equal points are folded, stay
+abbrev pub with_text : NodeText → List DecimalPoint → NodeTable → NodeTable
+with_text text ps table = record table {
   first = text.first;
   attribute_count = text.attribute_count;
   flag = text.flag;
   decimals = ps;
   attributes = text.attributes;
   markers = text.markers;
-  grid = grid;
-  points = map (grid_point grid) ps;
+  listed = map (grid_point table.grid) ps;
 }
 
 -- there are more points than are allowed
@@ -53,23 +51,16 @@ pub record IsOnItsGrid (text : NodeText) (options : GridOptions) (grid : Grid) :
   pub few : length text.decimals ≤ most_points
   pub on : grid_of options.halvings (rounded_points options.decimals text.decimals) ≡ Ok grid
 
--- they are on a grid, and these two are equal there
-pub record HasTwin (text : NodeText) (options : GridOptions) (first second : ℕ) : Type 0 where
-  pub grid : Grid
-  pub on : IsOnItsGrid text options grid
-  pub twin : IsFirstTwin (map (grid_point grid) (rounded_points options.decimals text.decimals)) first second
-
--- they are on a grid, where no two are equal, and the table says so
+-- they are on a grid, where equal ones are folded, and the table says so
 pub record IsSettled (text : NodeText) (options : GridOptions) (table : NodeTable) : Type 0 where
   pub on : IsOnItsGrid text options table.grid
-  pub is : table ≡ table_of text (rounded_points options.decimals text.decimals) table.grid
-  pub distinct : HasDistinctPoints table.points
+  pub is : table ≡ with_text text (rounded_points options.decimals text.decimals) table
+  pub folded : IsFolded table.listed table.points table.names table.folded
 
 -- the first of these refusals that there is, unless memory ran out, else the table
 abbrev pub Settles : NodeText → GridOptions → Result NodeTable NodeFault → Type 0
 Settles text options (Ok table) = IsSettled text options table
 Settles text options (Err (faults.TooMany count)) = IsTooMany text count
 Settles text options (Err (faults.Range line)) = IsOffGrid text options line
-Settles text options (Err (faults.Twin first second)) = HasTwin text options first second
 Settles text options (Err faults.NoMemory) = Unit {0}
 Settles text options (Err (faults.Text fault)) = ⊥

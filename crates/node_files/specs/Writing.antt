@@ -4,6 +4,7 @@ use Rattle.tet_text.specs.Printing.{decimal_text}
 use Rattle.sign_predicates.specs.Point.{Point}
 use Rattle.grid_coords.specs.declared.grid.Grid.{Grid}
 use Rattle.grid_coords.specs.Units.{grid_text}
+use Rattle.node_files.specs.Folding.{IsFolded}
 use Rattle.node_files.specs.declared.table.NodeTable.{NodeTable}
 
 abbrev pub whole_text : ℤ → List ℕ
@@ -44,19 +45,21 @@ marks_of flag = if flag then 1 else 0
 abbrev pub head_line : NodeTable → ℕ → List ℕ
 head_line table count = line_text (pos count) (whole_text (pos 3) ∷ whole_text (pos table.attribute_count) ∷ whole_text (pos (marks_of table.flag)) ∷ [])
 
--- the first line, the table's points, and the added ones with these attributes and markers
+-- the first line, all listed points of the table, and the added ones with these attributes and markers
 unfoldable pub list_text : NodeTable → List Point → ℕ → List (List ℕ) → List ℤ → List ℕ
 list_text table added first attributes markers =
-    head_line table (length table.points + length added)
-    ++ (point_lines table.grid table.attribute_count (marks_of table.flag) first table.points table.attributes table.markers
-    ++ like_lines table.grid (first + length table.points) added attributes markers)
+    head_line table (length table.listed + length added)
+    ++ (point_lines table.grid table.attribute_count (marks_of table.flag) first table.listed table.attributes table.markers
+    ++ like_lines table.grid (first + length table.listed) added attributes markers)
 
 -- where the added points have attributes '0', 48, and the marker 0
 abbrev pub node_text : NodeTable → List Point → ℕ → List ℕ
 node_text table added first = list_text table added first (replicate table.attribute_count (48 ∷ [])) (replicate (marks_of table.flag) (pos 0))
 
--- each point has as many attributes as stated and a marker where the flag is set, and the grid is halved at most 12 times
+-- each listed point has as many attributes as stated and a marker where the flag is set, the grid is halved at most 12 times, and equal points
+-- are folded
 pub record IsNodeTable (table : NodeTable) : Type 0 where
-  pub attributes : length table.attributes ≡ table.attribute_count * length table.points
-  pub markers : length table.markers ≡ marks_of table.flag * length table.points
+  pub attributes : length table.attributes ≡ table.attribute_count * length table.listed
+  pub markers : length table.markers ≡ marks_of table.flag * length table.listed
   pub halvings : table.grid.halvings ≤ 12
+  pub folded : IsFolded table.listed table.points table.names table.folded

@@ -20,10 +20,6 @@ pub enum NodeFault {
     /// A coordinate is too large for the grid; the line of the first such point, from 1.
     #[error("line {line}: coordinate off the grid")]
     Range { line: usize },
-    /// Two points are equal on the grid, by their places from 0: `second` is the least that is
-    /// equal to an earlier one, which is `first`.
-    #[error("the points at the places {first} and {second} are equal")]
-    Twin { first: u32, second: u32 },
     /// Want of memory.
     #[error("out of memory")]
     NoMemory,

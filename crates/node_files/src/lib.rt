@@ -2,20 +2,21 @@
 #![tactic(auto)]
 
 mod fault;
+mod folding;
 mod header;
 mod node_text;
 mod point;
 mod reading;
 mod settling;
 mod table;
-mod twins;
 mod writing;
 
 pub use fault::NodeFault;
+pub use folding::names_of;
 pub use header::count_or;
 pub use node_text::{Markers, NodeText};
 pub use point::read_place;
 pub use reading::{read_node, read_node_list};
 pub use settling::settle;
-pub use table::{GridOptions, NodeTable};
+pub use table::{GridOptions, Names, NodeTable};
 pub use writing::write_node;

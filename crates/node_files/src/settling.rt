@@ -2,11 +2,12 @@
 
 ghost use Rattle.std.specs.Prelude.{◌≡◌, ◌≤◌, ◌<◌, map, All, IfOk, length};
 ghost use Rattle.grid_coords.specs.Units.{IsPointOnGrid, grid_point};
+ghost use Rattle.geo_laws.specs.Delaunay.{HasDistinctPoints};
 ghost use Rattle.node_files.specs.Node.{IsNodeText};
 ghost use Rattle.node_files.specs.Settling.{most_points, rounded_point, rounded_points, Settles};
 ghost use Rattle.node_files.specs.Writing.{IsNodeTable};
 
-use crate::twins::first_twin;
+use crate::folding::{Folding, fold_points};
 use crate::{GridOptions, NodeFault, NodeTable, NodeText};
 use geo_laws::Points;
 use grid_coords::{DecimalPoint, DecimalPoints, Grid, choose_grid, round_to, to_grid};
@@ -67,11 +68,12 @@ fn grid_points(alloc: Global, grid: &Grid, points: &[DecimalPoint]) -> Result<Po
 
 /// The points of a list on a grid, each rounded first where that is asked for. TooMany where there
 /// are more than `MOST_POINTS`; then Range where a coordinate is too large for a grid, with the
-/// line of the first such point; then Twin where two points are equal on the grid.
+/// line of the first such point. Points that are equal on the grid are folded.
 pub fn settle(alloc: Global, text: NodeText, options: &GridOptions) -> Result<NodeTable, NodeFault>
     ensures outcome { Settles text options.now result }
     ensures table { IsNodeText text → IfOk result IsNodeTable }
-    ensures few { IfOk result (λ table. length table.points ≤ most_points) }
+    ensures few { IfOk result (λ table. length table.listed ≤ most_points) }
+    ensures distinct { IfOk result (λ table. HasDistinctPoints table.points) }
 {
     let count = text.decimals.len();
     if count > MOST_POINTS {
@@ -81,10 +83,12 @@ pub fn settle(alloc: Global, text: NodeText, options: &GridOptions) -> Result<No
     }
     let decimals = rounded_points(alloc, options.decimals, text.decimals)?;
     let grid = choose_grid(&decimals, options.halvings)?;
-    let points = grid_points(alloc, &grid, decimals.as_slice())?;
-    if let Some((first, second)) = first_twin(alloc, &points)? {
-        return Err(NodeFault::Twin { first, second });
-    }
+    let listed = grid_points(alloc, &grid, decimals.as_slice())?;
+    let Folding {
+        points,
+        names,
+        folded,
+    } = fold_points(alloc, &listed)?;
     Ok(NodeTable {
         first: text.first,
         attribute_count: text.attribute_count,
@@ -93,6 +97,9 @@ pub fn settle(alloc: Global, text: NodeText, options: &GridOptions) -> Result<No
         attributes: text.attributes,
         markers: text.markers,
         grid,
+        listed,
         points,
+        names,
+        folded,
     })
 }

@@ -105,22 +105,22 @@ fn marks_of(flag: bool) -> usize
     if flag { 1 } else { 0 }
 }
 
-/// The lines of a table's points.
+/// The lines of all points of a table's text.
 fn put_points(table: &NodeTable, first: u32, out: &mut Bytes) -> Result<(), NoMemory>
     requires table { IsNodeTable table.now }
-    requires few { length table.now.points < 2 ^ 32 }
+    requires few { length table.now.listed < 2 ^ 32 }
     ensures { OnOk result (out.new
         ≡ out.old ++ point_lines table.now.grid table.now.attribute_count
-        (marks_of table.now.flag) first table.now.points table.now.attributes table.now.markers) }
+        (marks_of table.now.flag) first table.now.listed table.now.attributes table.now.markers) }
 {
     let mut attributes = table.attributes.as_slice();
     let mut markers = table.markers.as_slice();
     let marks = marks_of(table.flag);
-    for i in 0..table.points.len() {
+    for i in 0..table.listed.len() {
         let (own, rest) = attributes.split_at(table.attribute_count as usize);
         let (mark, others) = markers.split_at(marks);
         let number = u64::from(first) + i as u64;
-        put_point(&table.grid, number, table.points.at(i), own, mark, out)?;
+        put_point(&table.grid, number, table.listed.at(i), own, mark, out)?;
         attributes = rest;
         markers = others;
     }
@@ -199,12 +199,12 @@ fn put_list(
     out: &mut Bytes,
 ) -> Result<(), NoMemory>
     requires table { IsNodeTable table.now }
-    requires few { length table.now.points < 2 ^ 32 }
+    requires few { length table.now.listed < 2 ^ 32 }
     requires few_added { length added.now < 2 ^ 32 }
     ensures { OnOk result (out.new
         ≡ out.old ++ list_text table.now added.now first attributes.now markers.now) }
 {
-    let count = table.points.len() as u64;
+    let count = table.listed.len() as u64;
     put_head(table, count + added.len() as u64, out)?;
     put_points(table, first, out)?;
     put_alike(
@@ -218,7 +218,7 @@ fn put_list(
 }
 
 /// The text of a point list, whose points have their numbers from `first` on: the first line; the
-/// table's points with their attributes, byte for byte, and their markers; then the added points,
+/// all listed points with their attributes, byte for byte, and their markers; then the added points,
 /// with attributes 0 and the marker 0. Coordinates are exact decimals.
 pub fn write_node(
     alloc: Global,
@@ -227,7 +227,7 @@ pub fn write_node(
     first: u32,
 ) -> Result<Bytes, NoMemory>
     requires table { IsNodeTable table.now }
-    requires few { length table.now.points < 2 ^ 32 }
+    requires few { length table.now.listed < 2 ^ 32 }
     requires few_added { length added.now < 2 ^ 32 }
     ensures { IfOk result (λ text. text ≡ node_text table.now added.now first) }
 {
