@@ -3,6 +3,7 @@ pub mod Counts
 pub mod Found
 pub mod FacetFaces
 pub mod Marked
+pub mod Named
 pub mod OnHull
 pub mod Spans
 pub mod EleTexts

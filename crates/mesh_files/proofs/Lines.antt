@@ -1,12 +1,12 @@
 -- Texts that are made line by line.
 use Rattle.std.proofs.Common.{◌≡◌, ◌++◌, ◌+◌, ◌<◌, ℕ, List, length, drop, sym, ap, ◌∙◌, append_assoc, suc, add-one, append-nil, get_or, drop-cons, arith}
-use Rattle.std.specs.Prelude.{flat_map, map, pos, [], ◌∷◌, Option, Some}
+use Rattle.std.specs.Prelude.{flat_map, map, [], ◌∷◌, Option, Some}
 use Rattle.std.specs.Fmt.{decimal, signed_decimal}
 use Rattle.geo_laws.specs.Delaunay.{numbers}
 use Rattle.geo_laws.specs.declared.tetrahedra.Tet.{Tet}
 use Rattle.std.proofs.lemmas.List.{get_or-map}
 use Rattle.geo_laws.specs.declared.complex.Region.{Region}
-use Rattle.mesh_files.specs.Texts.{attribute_of, fields_then, marked_line}
+use Rattle.mesh_files.specs.Texts.{attribute_of, fields_then, marked_line, numbered}
 use Rattle.std.specs.List.{enumerate_from}
 
 -- the lines of items, numbered from a place
@@ -48,17 +48,16 @@ line_pushed line place xs x out head long e =
     ∙ ap (λ s. head ++ s) (sym (lines_from-push line 0 xs x))
 
 -- a line with a last field that is appended on its own
-last_field : (out front last : List ℕ) → ((out ++ (front ++ (32 ∷ []))) ++ last) ++ (10 ∷ []) ≡ out ++ (front ++ (32 ∷ (last ++ (10 ∷ []))))
-last_field out front last =
-    let rest = last ++ (10 ∷ []) in
-    append_assoc (out ++ (front ++ (32 ∷ []))) last (10 ∷ []) ∙ append_assoc out (front ++ (32 ∷ [])) rest ∙ ap (λ s. out ++ s) (append_assoc front (32 ∷ []) rest)
+last_field : (out front last : List ℕ) → (out ++ (front ++ (32 ∷ []))) ++ last ≡ out ++ (front ++ (32 ∷ last))
+last_field out front last = append_assoc out (front ++ (32 ∷ [])) last ∙ ap (λ s. out ++ s) (append_assoc front (32 ∷ []) last)
 
 -- as the attribute of a row is
-pub line_with_mark : (regions : List Region) (first place : ℕ) (row : Tet) (mark : Option ℕ) (out numbered whole : List ℕ) → numbered ≡ out ++ fields_then (place + first) (map (λ n. pos (n + first)) (numbers row)) (32 ∷ [])
-    → whole ≡ numbered ++ attribute_of regions mark → whole ++ (10 ∷ []) ≡ out ++ marked_line regions first place row mark
-line_with_mark regions first place row mark out numbered whole e f =
-    ap (λ s. s ++ (10 ∷ [])) (f ∙ ap (λ s. s ++ attribute_of regions mark) e)
-    ∙ last_field out (decimal (place + first) ++ flat_map (λ z. 32 ∷ signed_decimal z) (map (λ n. pos (n + first)) (numbers row))) (attribute_of regions mark)
+pub line_with_mark : (regions : List Region) (names : List ℕ) (first place : ℕ) (row : Tet) (mark : Option ℕ) (out begun whole : List ℕ)
+    → begun ≡ out ++ fields_then (place + first) (map (numbered names first) (numbers row)) (32 ∷ []) → whole ≡ begun ++ (attribute_of regions mark ++ (10 ∷ []))
+    → whole ≡ out ++ marked_line regions names first place row mark
+line_with_mark regions names first place row mark out begun whole e f =
+    f ∙ ap (λ s. s ++ (attribute_of regions mark ++ (10 ∷ []))) e
+    ∙ last_field out (decimal (place + first) ++ flat_map (λ z. 32 ∷ signed_decimal z) (map (numbered names first) (numbers row))) (attribute_of regions mark ++ (10 ∷ []))
 
 -- the attribute of a region that is there
 pub attribute_at : (regions : List Region) (mark : Option ℕ) (k : ℕ) (r : Region) → mark ≡ Some k → k < length regions → ((d : Region) → get_or regions k d ≡ r) → r.attribute ≡ attribute_of regions mark

@@ -1,5 +1,5 @@
 -- The texts of a mesh's files, as functions of its rows.
-use Rattle.std.specs.Prelude.{ℕ, ◌+◌, ℤ, pos, negsuc, Option, Some, None, List, [], ◌∷◌, ◌++◌, map, flat_map, length, slice_index_or}
+use Rattle.std.specs.Prelude.{ℕ, ◌+◌, ◌<◌, ℤ, pos, negsuc, Option, Some, None, List, [], ◌∷◌, ◌++◌, map, flat_map, length, All, slice_index, slice_index_or}
 use Rattle.std.specs.List.{enumerate_from}
 use Rattle.std.specs.Fmt.{decimal, signed_decimal}
 use Rattle.geo_laws.specs.Delaunay.{numbers}
@@ -17,17 +17,25 @@ fields_then number fields rest = decimal number ++ flat_map (λ z. 32 ∷ signed
 abbrev pub line_of : ℕ → List ℤ → List ℕ
 line_of number fields = fields_then number fields (10 ∷ [])
 
+-- the number of a point in a file: its name, counted from the first number
+abbrev pub numbered : List ℕ → ℕ → ℕ → ℤ
+numbered names first point = pos (slice_index names point + first)
+
+-- each of these points has a name
+abbrev pub AreNamed : List ℕ → List ℕ → Type 0
+AreNamed names points = All (λ n. n < length names) points
+
 -- the line of the row at a place: its number and its four corners
-abbrev pub ele_line : ℕ → ℕ → Tet → List ℕ
-ele_line first place row = line_of (place + first) (map (λ n. pos (n + first)) (numbers row))
+abbrev pub ele_line : List ℕ → ℕ → ℕ → Tet → List ℕ
+ele_line names first place row = line_of (place + first) (map (numbered names first) (numbers row))
 
 -- the lines of rows from a place on
-abbrev pub ele_lines : ℕ → ℕ → List Tet → List ℕ
-ele_lines first place rows = flat_map (λ r. ele_line first r.0 r.1) (enumerate_from place rows)
+abbrev pub ele_lines : List ℕ → ℕ → ℕ → List Tet → List ℕ
+ele_lines names first place rows = flat_map (λ r. ele_line names first r.0 r.1) (enumerate_from place rows)
 
 -- `.ele`: the number of rows, four corners and no attribute; then the rows, numbered from the first number
-abbrev pub ele_text : ℕ → List Tet → List ℕ
-ele_text first rows = line_of (length rows) (pos 4 ∷ pos 0 ∷ []) ++ ele_lines first 0 rows
+abbrev pub ele_text : List ℕ → ℕ → List Tet → List ℕ
+ele_text names first rows = line_of (length rows) (pos 4 ∷ pos 0 ∷ []) ++ ele_lines names first 0 rows
 
 -- the attribute of a region, and 0 where there is none
 abbrev pub attribute_of : List Region → Option ℕ → List ℕ
@@ -35,47 +43,54 @@ attribute_of regions None = 48 ∷ []
 attribute_of regions (Some region) = slice_index_or (map (λ r. r.attribute) regions) region []
 
 -- the line of the row at a place, with the attribute of the region that its mark names
-abbrev pub marked_line : List Region → ℕ → ℕ → Tet → Option ℕ → List ℕ
-marked_line regions first place row mark = fields_then (place + first) (map (λ n. pos (n + first)) (numbers row))
+abbrev pub marked_line : List Region → List ℕ → ℕ → ℕ → Tet → Option ℕ → List ℕ
+marked_line regions names first place row mark = fields_then (place + first) (map (numbered names first) (numbers row))
     (32 ∷ attribute_of regions mark ++ (10 ∷ []))
 
 -- its mark is the one at the same place
-abbrev pub attributed_line : List (Option ℕ) → List Region → ℕ → ℕ → Tet → List ℕ
-attributed_line marks regions first place row = marked_line regions first place row (slice_index_or marks place None)
+abbrev pub attributed_line : List (Option ℕ) → List Region → List ℕ → ℕ → ℕ → Tet → List ℕ
+attributed_line marks regions names first place row = marked_line regions names first place row (slice_index_or marks place None)
 
-abbrev pub attributed_lines : List (Option ℕ) → List Region → ℕ → ℕ → List Tet → List ℕ
-attributed_lines marks regions first place rows = flat_map (λ r. attributed_line marks regions first r.0 r.1) (enumerate_from place rows)
+abbrev pub attributed_lines : List (Option ℕ) → List Region → List ℕ → ℕ → ℕ → List Tet → List ℕ
+attributed_lines marks regions names first place rows =
+    flat_map (λ r. attributed_line marks regions names first r.0 r.1) (enumerate_from place rows)
 
 -- `.ele` with marks: the number of rows, four corners and one attribute; then the rows
-abbrev pub attributed_text : List (Option ℕ) → List Region → ℕ → List Tet → List ℕ
-attributed_text marks regions first rows = line_of (length rows) (pos 4 ∷ pos 1 ∷ []) ++ attributed_lines marks regions first 0 rows
+abbrev pub attributed_text : List (Option ℕ) → List Region → List ℕ → ℕ → List Tet → List ℕ
+attributed_text marks regions names first rows =
+    line_of (length rows) (pos 4 ∷ pos 1 ∷ []) ++ attributed_lines marks regions names first 0 rows
 
 -- `.ele` with or without marks
-abbrev pub ele_text_of : Option (List (Option ℕ)) → List Region → ℕ → List Tet → List ℕ
-ele_text_of None regions first rows = ele_text first rows
-ele_text_of (Some marks) regions first rows = attributed_text marks regions first rows
+abbrev pub ele_text_of : Option (List (Option ℕ)) → List Region → List ℕ → ℕ → List Tet → List ℕ
+ele_text_of None regions names first rows = ele_text names first rows
+ele_text_of (Some marks) regions names first rows = attributed_text marks regions names first rows
+
+-- the corners of a face with a marker
+abbrev pub corner_numbers : FaceRow → List ℕ
+corner_numbers f = f.a ∷ f.b ∷ f.c ∷ []
 
 -- the line of the face at a place: its number, its three corners and its marker
-abbrev pub face_line : ℕ → ℕ → FaceRow → List ℕ
-face_line first place f = line_of (place + first) (pos (f.a + first) ∷ pos (f.b + first) ∷ pos (f.c + first) ∷ f.marker ∷ [])
+abbrev pub face_line : List ℕ → ℕ → ℕ → FaceRow → List ℕ
+face_line names first place f =
+    line_of (place + first) (numbered names first f.a ∷ numbered names first f.b ∷ numbered names first f.c ∷ f.marker ∷ [])
 
-abbrev pub face_lines : ℕ → ℕ → List FaceRow → List ℕ
-face_lines first place faces = flat_map (λ r. face_line first r.0 r.1) (enumerate_from place faces)
+abbrev pub face_lines : List ℕ → ℕ → ℕ → List FaceRow → List ℕ
+face_lines names first place faces = flat_map (λ r. face_line names first r.0 r.1) (enumerate_from place faces)
 
 -- `.face`: the number of faces, and that they have markers; then the faces
-abbrev pub face_text : ℕ → List FaceRow → List ℕ
-face_text first faces = line_of (length faces) (pos 1 ∷ []) ++ face_lines first 0 faces
+abbrev pub face_text : List ℕ → ℕ → List FaceRow → List ℕ
+face_text names first faces = line_of (length faces) (pos 1 ∷ []) ++ face_lines names first 0 faces
 
 -- the line of the side at a place: its number and its two ends
-abbrev pub edge_line : ℕ → ℕ → Side → List ℕ
-edge_line first place s = line_of (place + first) (pos (s.a + first) ∷ pos (s.b + first) ∷ [])
+abbrev pub edge_line : List ℕ → ℕ → ℕ → Side → List ℕ
+edge_line names first place s = line_of (place + first) (numbered names first s.a ∷ numbered names first s.b ∷ [])
 
-abbrev pub edge_lines : ℕ → ℕ → List Side → List ℕ
-edge_lines first place sides = flat_map (λ r. edge_line first r.0 r.1) (enumerate_from place sides)
+abbrev pub edge_lines : List ℕ → ℕ → ℕ → List Side → List ℕ
+edge_lines names first place sides = flat_map (λ r. edge_line names first r.0 r.1) (enumerate_from place sides)
 
 -- `.edge`: the number of sides, and that they have no markers; then the sides
-abbrev pub edge_text : ℕ → List Side → List ℕ
-edge_text first sides = line_of (length sides) (pos 0 ∷ []) ++ edge_lines first 0 sides
+abbrev pub edge_text : List ℕ → ℕ → List Side → List ℕ
+edge_text names first sides = line_of (length sides) (pos 0 ∷ []) ++ edge_lines names first 0 sides
 
 -- the number of a neighbor, and -1 where there is none
 abbrev pub neighbor : ℕ → Option ℕ → ℤ

@@ -1,33 +1,32 @@
 //! The text of the `.face` file.
-ghost use Rattle.std.specs.Prelude.{◌≡◌, ◌++◌, ◌+◌, ◌<◌, ◌^◌, OnOk, IfOk};
-ghost use Rattle.mesh_files.specs.Texts.{face_text, face_line};
+ghost use Rattle.std.specs.Prelude.{◌≡◌, ◌++◌, ◌+◌, ◌<◌, ◌^◌, All, OnOk, IfOk};
+ghost use Rattle.mesh_files.specs.Texts.{corner_numbers, face_text, face_line, AreNamed};
 
 use crate::line::{Lines, append_line, room_for_lines};
 use crate::markers::{FaceRow, FaceRows};
+use crate::names::{Names, numbered, numbers_of};
 use std::alloc::Global;
 use tet_ports::{Bytes, NoMemory};
 
-/// The text of the `.face` file of these faces. Faces and corners are numbered from `first`.
+/// The text of the `.face` file of these faces. Faces are numbered from `first`, and a corner is
+/// told by its name, counted from `first`.
 ///
 /// Format: TetGen user's manual, "File formats".
-pub fn write_face(alloc: Global, rows: &FaceRows, first: u32) -> Result<Bytes, NoMemory>
-    ensures { IfOk result (λ text. text ≡ face_text first rows.now) }
+pub fn write_face(
+    alloc: Global,
+    rows: &FaceRows,
+    names: &Names,
+    first: u32,
+) -> Result<Bytes, NoMemory>
+    requires { All (λ face. AreNamed names.now (corner_numbers face)) rows.now }
+    ensures { IfOk result (λ text. text ≡ face_text names.now first rows.now) }
 {
-    let mut out = room_for_lines(alloc, rows.len(), numbers_of(rows, first))?;
+    let mut out = room_for_lines(alloc, rows.len(), numbers_of(names, first))?;
     append_line(&mut out, rows.len() as u64, &[1])?;
     for i in 0..rows.len() {
-        append_face(&mut out, i as u64, rows.at(i), first)?;
+        append_face(&mut out, i as u64, rows.at(i), names, first)?;
     }
     out.finish()
-}
-
-/// How many numbers from 0 on there are up to that of the greatest corner, where corners ascend.
-fn numbers_of(rows: &FaceRows, first: u32) -> u32 {
-    let mut greatest = 0;
-    for face in rows.as_slice() {
-        greatest = greatest.max(face.c);
-    }
-    greatest.saturating_add(first).saturating_add(1)
 }
 
 /// Appends the line of the face at a place.
@@ -36,15 +35,21 @@ pub(crate) fn append_face(
     out: &mut Lines,
     place: u64,
     face: FaceRow,
+    names: &Names,
     first: u32,
 ) -> Result<(), NoMemory>
-    requires { place < 2 ^ 63 }
-    ensures { OnOk result (out.new ≡ out.old ++ face_line first place face) }
+    requires place { place < 2 ^ 63 }
+    requires named { AreNamed names.now (corner_numbers face) }
+    ensures { OnOk result (out.new ≡ out.old ++ face_line names.now first place face) }
 {
-    let corner = |number: u32| -> i64 { i64::from(number) + i64::from(first) };
     append_line(
         out,
         place + u64::from(first),
-        &[corner(face.a), corner(face.b), corner(face.c), face.marker],
+        &[
+            numbered(names, first, face.a),
+            numbered(names, first, face.b),
+            numbered(names, first, face.c),
+            face.marker,
+        ],
     )
 }

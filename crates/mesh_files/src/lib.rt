@@ -13,6 +13,7 @@ mod hull;
 mod laws;
 mod line;
 mod markers;
+mod names;
 mod neigh;
 mod piece;
 
@@ -25,4 +26,5 @@ pub use hull::hull_rows;
 pub use incidence::{Edges, edges_of};
 pub use laws::law_ele_text;
 pub use markers::{FaceRow, FaceRows, face_rows, used_faces};
+pub use names::Names;
 pub use neigh::{neighbors_of, write_neigh};

@@ -14,9 +14,10 @@ use Rattle.mesh_files.specs.FacetFaces.{IsIn}
 use Rattle.mesh_files.specs.Texts.{line_of, face_line, face_lines}
 use Rattle.mesh_files.specs.declared.markers.FaceRow.{FaceRow}
 use Rattle.mesh_files.proofs.FacetFaces.{facets_there}
-use Rattle.mesh_files.proofs.Found.{found_first, found_again, found_pushed}
+use Rattle.mesh_files.proofs.Found.{found_first, found_again, found_pushed, no_use}
 use Rattle.mesh_files.proofs.Lines.{line_pushed}
 use Rattle.mesh_files.proofs.Marked.{IsListedRow, IsTriangleOf, listed_row, row_items, rows_found}
+use Rattle.mesh_files.proofs.Named.{row_named, use_named}
 use Rattle.mesh_files.proofs.face_lines.write_all_faces.Goals.{then-is_first+in-Some+in_ok-append_face, then-is_first+in_default, else-is_first}
 use Rattle.mesh_files.proofs.face_lines.write_all_faces.Goals as goal
 
@@ -43,8 +44,16 @@ loop-at-init c =
 pub row_at-requires-clause-facets : goal.row_at-requires-clause-facets
 row_at-requires-clause-facets c = facets_there c.args.mesh.now.triangles.now c.in_ok-facets.facets c.args.mesh.now.complex.now c.in_ok-facets.ensures c.requires.facets
 
-pub append_face-requires : goal.append_face-requires
-append_face-requires c = omega (arith, few c.args.uses.now c.loop-at.at (omega arith), c.loop-at.invariant.counted)
+pub append_face-requires-clause-place : goal.append_face-requires-clause-place
+append_face-requires-clause-place c = omega (arith, few c.args.uses.now c.loop-at.at (omega arith), c.loop-at.invariant.counted)
+
+pub append_face-requires-clause-named : goal.append_face-requires-clause-named
+append_face-requires-clause-named c =
+    let rows = c.args.mesh.now.list.now in
+    let halves = c.args.uses.now in
+    let d = no_use in
+    let is = c.in-Some.ensures.row d in
+    row_named c.args.names.now _ c.in-Some.row is.corners_are (use_named c.args.names.now rows halves c.loop-at.at d c.requires.named c.requires.uses (omega (arith, used_length rows halves)))
 
 pub overflow_add-place : goal.overflow_add-place
 overflow_add-place c = omega (arith, few c.args.uses.now c.loop-at.at (omega arith), c.loop-at.invariant.counted)
@@ -76,7 +85,7 @@ loop-at-preserved c =
               found_pushed corners_of is (row_items (IsTriangleOf triangles) complex.facets rows true) uses at found row c.requires.uses.uses.ascending there (c.is_first.ensures.first w.if-is_first.true)
                   (λ d. (listed _ row).0 (w.in-Some.ensures.row d)) o.1,
               omega (arith, w.place-is, o.2, length-append found (row ∷ [])),
-              w.out-is ∙ w.in_ok-append_face.ensures ∙ line_pushed (face_line first) c.loop-at.place found row c.loop-at.out (line_of c.first_count-count.result (pos 1 ∷ [])) o.2 o.3,
+              w.out-is ∙ w.in_ok-append_face.ensures ∙ line_pushed (face_line c.args.names.now first) c.loop-at.place found row c.loop-at.out (line_of c.first_count-count.result (pos 1 ∷ [])) o.2 o.3,
             );
           }
       | then-is_first+in_default w ↦ absurd (true≢false (sym (w.in_default.ensures.asked refl)))
@@ -99,6 +108,6 @@ returns c =
     (λ text is. (
       o.0,
       rows_found mesh.points.now mesh.triangles.now rows mesh.complex.now true (used rows halves) c.loop-at.at o.0 c.requires.met c.requires.uses.uses (omega (arith, used_length rows halves)) o.1,
-      is ∙ o.3 ∙ ap (λ n. line_of n (pos 1 ∷ []) ++ face_lines c.args.first 0 o.0) all,
+      is ∙ o.3 ∙ ap (λ n. line_of n (pos 1 ∷ []) ++ face_lines c.args.names.now c.args.first 0 o.0) all,
     ))
     c.finish.ensures

@@ -13,5 +13,5 @@ use Rattle.mesh_files.proofs.face_lines.write_all_faces.Given as goal
 abbrev pub invariant-loop-at : goal.invariant-loop-at
 invariant-loop-at l = record {
   counted : l.place ≡ count_by (λ (h : HalfFace). h.first) (take l.at l.uses);
-  written : (found : List FaceRow) × AreFoundBefore corners_of (IsListedRow l.mesh.triangles.now l.complex l.list true) (used l.list l.uses) l.at found × (l.place ≡ length found) × (l.out ≡ line_of l.count (pos 1 ∷ []) ++ face_lines l.first 0 found);
+  written : (found : List FaceRow) × AreFoundBefore corners_of (IsListedRow l.mesh.triangles.now l.complex l.list true) (used l.list l.uses) l.at found × (l.place ≡ length found) × (l.out ≡ line_of l.count (pos 1 ∷ []) ++ face_lines l.names l.first 0 found);
 }
