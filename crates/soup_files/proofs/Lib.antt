@@ -1,0 +1,6 @@
+pub mod Faces
+pub mod Faults
+pub mod Spent
+pub mod FoundVertices
+pub mod Facets
+pub mod Whole

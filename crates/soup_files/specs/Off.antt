@@ -1,0 +1,68 @@
+-- The `.off` files: a keyword, the counts, the points, and the faces.
+use Rattle.std.specs.Prelude.{ℕ, List, codes, Result, Ok}
+use Rattle.tet_text.specs.declared.fault.TextFault.{TextFault}
+use Rattle.tet_text.specs.Lines.{ContentLine}
+use Rattle.tet_text.specs.Reading.{◌>>=◌, Fields, count_at, end_at, line_at, text_end_at}
+use Rattle.grid_coords.specs.declared.points.DecimalPoint.{DecimalPoint}
+use Rattle.node_files.specs.Header.{count_or}
+use Rattle.node_files.specs.Point.{place_at}
+use Rattle.plc_files.specs.declared.parts.CornerText.{CornerText}
+use Rattle.plc_files.specs.declared.parts.PolygonText.{PolygonText}
+use Rattle.plc_files.specs.Fields.{some_count_at}
+use Rattle.plc_files.specs.Polygon.{field_ahead}
+use Rattle.plc_files.specs.Repeated.{so_many}
+use Rattle.plc_files.specs.Text.{Plc}
+use Rattle.soup_files.specs.Keyword.{keyword_at}
+use Rattle.soup_files.specs.Surface.{surface_of}
+
+abbrev pub Lines : Type 0
+Lines = List ContentLine
+
+-- <# of points> <# of faces> [<# of edges>], where the number of edges is any count
+unfoldable pub counts_of : ContentLine → Result (ℕ × ℕ) TextFault
+counts_of line = do
+  points ← count_at line.line line.fields
+  faces ← count_at line.line points.1
+  edges ← count_or 0 0 999999999999999999 line.line faces.1
+  _ ← end_at line.line edges.1
+  Ok (points.0, faces.0)
+
+-- OFF, and the counts, on the same content line or on the next one
+unfoldable pub head_of : ℕ → Lines → Result ((ℕ × ℕ) × Lines) TextFault
+head_of total lines = do
+  line ← line_at total lines
+  rest ← keyword_at (codes "OFF") line.0.line line.0.fields
+  ahead ← field_ahead total line.0.line rest.1 line.1
+  counts ← counts_of ahead.0
+  Ok (counts, ahead.1)
+
+-- <x> <y> <z>
+unfoldable pub vertex_line : ℕ → Lines → Result (DecimalPoint × Lines) TextFault
+vertex_line total lines = do
+  line ← line_at total lines
+  place ← place_at line.0.line line.0.fields
+  _ ← end_at line.0.line place.1
+  Ok (place.0, line.1)
+
+-- a corner, on the line of its face
+unfoldable pub corner_at : ℕ → Fields → Result (CornerText × Fields) TextFault
+corner_at line fields = do
+  number ← count_at line fields
+  Ok (record { number = number.0; line = line }, number.1)
+
+-- <# of corners> <corner> .., and whatever stands behind the last corner
+unfoldable pub face_of : ℕ → Lines → Result (PolygonText × Lines) TextFault
+face_of total lines = do
+  line ← line_at total lines
+  count ← some_count_at line.0.line line.0.fields
+  corners ← so_many (corner_at line.0.line) count.0 count.1
+  Ok (record { line = line.0.line; corners = corners.0 }, line.1)
+
+-- a whole text of so many lines
+unfoldable pub off_of : ℕ → Lines → Result Plc TextFault
+off_of total lines = do
+  head ← head_of total lines
+  points ← so_many (vertex_line total) head.0.0 head.1
+  faces ← so_many (face_of total) head.0.1 points.1
+  _ ← text_end_at faces.1
+  Ok (surface_of points.0 faces.0)

@@ -1,0 +1,110 @@
+-- The ASCII `.stl` files: triangles, each with the coordinates of its corners.
+use Rattle.std.specs.Prelude.{ℕ, zero, suc, ◌+◌, Bool, true, false, List, [], ◌∷◌, length, map, codes, Result, Ok, Err, if◌then◌else◌}
+use Rattle.std.specs.List.{flat_map}
+use Rattle.std.specs.Str.{bytes_eq}
+use Rattle.tet_text.specs.declared.fault.TextFault.{TextFault}
+use Rattle.tet_text.specs.Lines.{ContentLine}
+use Rattle.tet_text.specs.Faults.{ended, bad_count}
+use Rattle.tet_text.specs.Reading.{◌>>=◌, Fields, field_at, end_at, line_at, text_end_at}
+use Rattle.grid_coords.specs.declared.points.DecimalPoint.{DecimalPoint}
+use Rattle.node_files.specs.Point.{place_at}
+use Rattle.plc_files.specs.declared.parts.CornerText.{CornerText}
+use Rattle.plc_files.specs.declared.parts.PolygonText.{PolygonText}
+use Rattle.plc_files.specs.Text.{Plc}
+use Rattle.soup_files.specs.declared.stl_facet.StlFacet.{StlFacet}
+use Rattle.soup_files.specs.Keyword.{keyword_at, word_line}
+use Rattle.soup_files.specs.Vertices.{distinct_vertices, vertex_place}
+use Rattle.soup_files.specs.Surface.{surface_of}
+
+abbrev pub Lines : Type 0
+Lines = List ContentLine
+
+-- ---- the grammar
+
+-- solid, and whatever stands behind it
+unfoldable pub solid_line : ℕ → Lines → Result (Unit {0} × Lines) TextFault
+solid_line total lines = do
+  line ← line_at total lines
+  _ ← keyword_at (codes "solid") line.0.line line.0.fields
+  Ok (tt, line.1)
+
+-- normal, three fields of any kind, and the end of the line
+unfoldable pub normal_at : ℕ → Fields → Result (Unit {0}) TextFault
+normal_at line fields = do
+  rest ← keyword_at (codes "normal") line fields
+  x ← field_at line rest.1
+  y ← field_at line x.1
+  z ← field_at line y.1
+  end_at line z.1
+
+-- facet normal .. begins a further facet, and endsolid, with whatever stands behind it, ends the facets
+unfoldable pub more_facets : ContentLine → Result Bool TextFault
+more_facets line = do
+  first ← field_at line.line line.fields
+  if bytes_eq first.0 (codes "endsolid") then Ok false else
+      if bytes_eq first.0 (codes "facet") then (normal_at line.line first.1 >>= λ _. Ok true) else Err (bad_count line.line)
+
+-- outer loop
+unfoldable pub loop_line : ℕ → Lines → Result (Unit {0} × Lines) TextFault
+loop_line total lines = do
+  line ← line_at total lines
+  rest ← keyword_at (codes "outer") line.0.line line.0.fields
+  last ← keyword_at (codes "loop") line.0.line rest.1
+  _ ← end_at line.0.line last.1
+  Ok (tt, line.1)
+
+-- vertex <x> <y> <z>
+unfoldable pub vertex_line : ℕ → Lines → Result (DecimalPoint × Lines) TextFault
+vertex_line total lines = do
+  line ← line_at total lines
+  rest ← keyword_at (codes "vertex") line.0.line line.0.fields
+  place ← place_at line.0.line rest.1
+  _ ← end_at line.0.line place.1
+  Ok (place.0, line.1)
+
+-- the six lines behind the first line of a facet, whose number is this one
+unfoldable pub facet_of : ℕ → ℕ → Lines → Result (StlFacet × Lines) TextFault
+facet_of total first lines = do
+  outer ← loop_line total lines
+  a ← vertex_line total outer.1
+  b ← vertex_line total a.1
+  c ← vertex_line total b.1
+  inner ← word_line (codes "endloop") total c.1
+  last ← word_line (codes "endfacet") total inner.1
+  Ok (record { line = first; a = a.0; b = b.0; c = c.0 }, last.1)
+
+-- the facets up to the line that ends them, of which there are fewer than `most`
+unfoldable pub facets_of : ℕ → ℕ → Lines → Result (List StlFacet × Lines) TextFault
+facets_of zero total lines = Err (ended (total + 1))
+facets_of (suc most) total lines = do
+  line ← line_at total lines
+  more ← more_facets line.0
+  if more then (do
+    facet ← facet_of total line.0.line line.1
+    others ← facets_of most total facet.1
+    Ok (facet.0 ∷ others.0, others.1)) else Ok ([], line.1)
+
+-- ---- what is read
+
+-- the corners of all facets, one after another
+abbrev pub vertices_of : List StlFacet → List DecimalPoint
+vertices_of facets = flat_map (λ f. f.a ∷ f.b ∷ f.c ∷ []) facets
+
+-- a corner by the place of its point
+abbrev pub corner_in : List DecimalPoint → DecimalPoint → CornerText
+corner_in points p = record { number = vertex_place points p; line = p.line }
+
+abbrev pub triangle_in : List DecimalPoint → StlFacet → PolygonText
+triangle_in points f = record { line = f.line; corners = corner_in points f.a ∷ corner_in points f.b ∷ corner_in points f.c ∷ [] }
+
+-- the distinct corners are the points, and each facet is a triangle of these
+abbrev pub triangles_of : List StlFacet → Plc
+triangles_of facets = surface_of (distinct_vertices (vertices_of facets)) (map (triangle_in (distinct_vertices (vertices_of facets))) facets)
+
+-- a whole text of so many lines. Each facet has lines for itself, so there are at most as many facets as lines
+unfoldable pub stl_of : ℕ → Lines → Result Plc TextFault
+stl_of total lines = do
+  solid ← solid_line total lines
+  facets ← facets_of (length solid.1) total solid.1
+  _ ← text_end_at facets.1
+  Ok (triangles_of facets.0)

@@ -1,0 +1,149 @@
+//! The `.off` files.
+
+ghost use Rattle.std.specs.Prelude.{◌≡◌, ◌-◌, ◌+◌, ◌<◌, ◌^◌, length, IfOk, IfErr};
+ghost use Rattle.tet_text.specs.Lines.{content_lines, line_count_of};
+ghost use Rattle.tet_text.specs.Reading.{left_after};
+ghost use Rattle.tet_text.specs.Views.{content_left, line_total};
+ghost use Rattle.plc_files.specs.Outcome.{Gives};
+ghost use Rattle.plc_files.specs.Repeated.{so_many};
+ghost use Rattle.plc_files.specs.Checks.{HasFewParts};
+ghost use Rattle.plc_files.specs.Text.{AreWritten, LastHasPolygon};
+ghost use Rattle.soup_files.specs.Surface.{corners_onto, face_onto, faces_onto};
+ghost use Rattle.soup_files.specs.Off.{counts_of, head_of, vertex_line, corner_at, face_of, off_of};
+
+use crate::fields::{go_on, some_count, want_keyword};
+use crate::surface::{nodes_at, start_face};
+use grid_coords::{DecimalPoint, DecimalPoints};
+use node_files::{count_or, read_place};
+use plc_files::{PlcFault, PlcText};
+use std::alloc::Global;
+use tet_ports::Bytes;
+use tet_text::{Fields, Lines, TextFault};
+
+/// The greatest count: it has 18 digits.
+const MOST_COUNT: u64 = 999_999_999_999_999_999;
+
+/// How many points and how many faces there are. The number of edges is read and not used.
+#[tactic(auto, unfolding(crate::specs::Off::counts_of))]
+fn read_counts(fields: &mut Fields) -> Result<(u64, u64), TextFault>
+    ensures { result ≡ counts_of fields.old }
+{
+    let points = fields.want_count()?;
+    let faces = fields.want_count()?;
+    count_or(0, 0, MOST_COUNT, fields)?;
+    fields.want_end()?;
+    Ok((points, faces))
+}
+
+/// The keyword and the counts, on its line or on the next.
+#[tactic(auto, unfolding(crate::specs::Off::head_of))]
+fn read_head(lines: &mut Lines) -> Result<(u64, u64), TextFault>
+    requires { line_total lines.old + 1 < 2 ^ 64 }
+    ensures value { left_after (λ counts. counts) result (content_left lines.new)
+        ≡ head_of (line_total lines.old) (content_left lines.old) }
+    ensures count { line_total lines.new ≡ line_total lines.old }
+{
+    let mut fields = lines.want_line()?;
+    want_keyword(b"OFF", &mut fields)?;
+    go_on(&mut fields, lines)?;
+    read_counts(&mut fields)
+}
+
+#[tactic(auto, unfolding(crate::specs::Off::vertex_line))]
+fn read_vertex(lines: &mut Lines) -> Result<DecimalPoint, TextFault>
+    requires { line_total lines.old + 1 < 2 ^ 64 }
+    ensures value { left_after (λ point. point) result (content_left lines.new)
+        ≡ vertex_line (line_total lines.old) (content_left lines.old) }
+    ensures count { line_total lines.new ≡ line_total lines.old }
+{
+    let mut fields = lines.want_line()?;
+    let place = read_place(&mut fields)?;
+    fields.want_end()?;
+    Ok(place)
+}
+
+/// So many points, one a line.
+fn read_vertices(alloc: Global, count: u64, lines: &mut Lines) -> Result<DecimalPoints, PlcFault>
+    requires { line_total lines.old + 1 < 2 ^ 64 }
+    ensures value { Gives (λ points. (points, content_left lines.new)) result
+        (so_many (vertex_line (line_total lines.old)) count (content_left lines.old)) }
+    ensures count { line_total lines.new ≡ line_total lines.old }
+{
+    let mut points = DecimalPoints::new(alloc);
+    for _ in 0..count {
+        let point = read_vertex(lines)?;
+        points.push(point)?;
+    }
+    Ok(points)
+}
+
+/// So many corners, appended to the last polygon of the complex.
+fn read_corners(count: u64, fields: &mut Fields, text: &mut PlcText) -> Result<(), PlcFault>
+    requires { LastHasPolygon text.old.facets }
+    ensures { Gives (λ _. (text.new, fields.new.fields)) result
+        (corners_onto text.old (so_many (corner_at fields.old.line) count fields.old.fields)) }
+{
+    let line = fields.line();
+    for _ in 0..count {
+        let number = fields.want_count()?;
+        text.add_corner(number, line)?;
+    }
+    Ok(())
+}
+
+/// A face, appended to the complex. Fields behind its last corner are passed over.
+#[tactic(auto, unfolding(crate::specs::Off::face_of))]
+fn read_face(lines: &mut Lines, text: &mut PlcText) -> Result<(), PlcFault>
+    requires { line_total lines.old + 1 < 2 ^ 64 }
+    ensures value { Gives (λ _. (text.new, content_left lines.new)) result
+        (face_onto text.old (face_of (line_total lines.old) (content_left lines.old))) }
+    ensures count { line_total lines.new ≡ line_total lines.old }
+{
+    let mut fields = lines.want_line()?;
+    let count = some_count(&mut fields)?;
+    start_face(fields.line(), text)?;
+    read_corners(count, &mut fields, text)
+}
+
+/// So many faces, appended to the complex.
+fn read_faces(count: u64, lines: &mut Lines, text: &mut PlcText) -> Result<(), PlcFault>
+    requires { line_total lines.old + 1 < 2 ^ 64 }
+    ensures value { Gives (λ _. (text.new, content_left lines.new)) result
+        (faces_onto text.old
+        (so_many (face_of (line_total lines.old)) count (content_left lines.old))) }
+    ensures count { line_total lines.new ≡ line_total lines.old }
+{
+    for _ in 0..count {
+        read_face(lines, text)?;
+    }
+    Ok(())
+}
+
+/// The lines of a `.off` file of fewer than 2^32 - 1 lines.
+#[tactic(auto, unfolding(crate::specs::Off::off_of))]
+fn read_lines(alloc: Global, lines: &mut Lines) -> Result<PlcText, PlcFault>
+    requires { line_total lines.old < 2 ^ 32 - 1 }
+    ensures { Gives (λ text. text) result
+        (off_of (line_total lines.old) (content_left lines.old)) }
+{
+    let (points, faces) = read_head(lines)?;
+    let points = read_vertices(alloc, points, lines)?;
+    let mut text = PlcText::new(alloc, Some(nodes_at(alloc, points)));
+    read_faces(faces, lines, &mut text)?;
+    lines.want_end()?;
+    Ok(text)
+}
+
+/// The complex of a `.off` file of fewer than 2^32 - 1 bytes: the points are numbered from 0, and
+/// each face is a facet of one polygon. Corners are kept as they are written, also those out of
+/// range. The point list is there also where it has no point.
+pub fn read_off(alloc: Global, bytes: &Bytes) -> Result<PlcText, PlcFault>
+    requires { length bytes.now < 2 ^ 32 - 1 }
+    ensures value { Gives (λ text. text) result
+        (off_of (line_count_of bytes.now) (content_lines bytes.now)) }
+    ensures attributes { IfOk result (λ text. AreWritten text.regions) }
+    ensures few { IfOk result HasFewParts }
+{
+    let mut lines = Lines::new(bytes.as_slice());
+    read_lines(alloc, &mut lines)
+}

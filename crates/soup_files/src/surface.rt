@@ -1,0 +1,36 @@
+//! Complexes whose facets have one polygon each.
+
+ghost use Rattle.std.specs.Prelude.{◌≡◌, ◌-◌, ◌<◌, ◌^◌, length, OnOk};
+ghost use Rattle.node_files.specs.Node.{IsNodeText};
+ghost use Rattle.plc_files.specs.Text.{empty_polygon};
+ghost use Rattle.soup_files.specs.Surface.{nodes_at, plus_face};
+
+use grid_coords::DecimalPoints;
+use node_files::{Markers, NodeText};
+use plc_files::PlcText;
+use std::alloc::Global;
+use tet_ports::{NoMemory, Words};
+
+/// These points, numbered from 0, with no attribute and no marker.
+pub(crate) fn nodes_at(alloc: Global, points: DecimalPoints) -> NodeText
+    requires { length points < 2 ^ 32 - 1 }
+    ensures value { result ≡ nodes_at points }
+    ensures table { IsNodeText result }
+{
+    NodeText {
+        first: 0,
+        attribute_count: 0,
+        flag: false,
+        decimals: points,
+        attributes: Words::new(alloc),
+        markers: Markers::new(alloc),
+    }
+}
+
+/// Appends a facet of one polygon with no corner yet, whose line is this one.
+pub(crate) fn start_face(line: usize, text: &mut PlcText) -> Result<(), NoMemory>
+    ensures { OnOk result (text.new ≡ plus_face (empty_polygon line) text.old) }
+{
+    text.add_facet(None)?;
+    text.add_polygon(line)
+}
