@@ -1,0 +1,12 @@
+use Rattle.std.proofs.Common.{◌≡◌, ◌-◌, ◌+◌}
+use Rattle.std.specs.Prelude.{All}
+use Rattle.tet_text.specs.Views.{content_left, line_total}
+use Rattle.mesh_readers.specs.Repeated.{so_many, next_row, onto}
+use Rattle.mesh_readers.specs.Rows.{face_row, IsFaceBelow}
+use Rattle.mesh_readers.proofs.face.read_rows.Given as goal
+
+abbrev pub invariant-loop-i : goal.invariant-loop-i
+invariant-loop-i l =
+    (onto l.rows (so_many (next_row (face_row l.listed l.head.flag) (line_total l.fn.lines)) (l.head.count - l.i) (l.listed.first + l.i, content_left l.lines)) ≡ so_many (next_row (face_row l.listed l.head.flag) (line_total l.fn.lines)) l.head.count (l.listed.first, content_left l.fn.lines))
+    × (line_total l.lines ≡ line_total l.fn.lines)
+    × All (IsFaceBelow l.listed.points) l.rows

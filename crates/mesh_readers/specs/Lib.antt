@@ -1,0 +1,4 @@
+pub mod Outcome
+pub mod Repeated
+pub mod Fields
+pub mod Rows

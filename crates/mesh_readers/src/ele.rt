@@ -1,0 +1,101 @@
+//! The tetrahedra of an `.ele` file.
+
+ghost use Rattle.std.specs.Prelude.{◌≡◌, ◌<◌, ◌-◌, ◌+◌, ◌^◌, length, All, IfOk};
+ghost use Rattle.tet_text.specs.Lines.{content_lines, line_count_of};
+ghost use Rattle.tet_text.specs.Reading.{left_after};
+ghost use Rattle.tet_text.specs.Views.{content_left, line_total};
+ghost use Rattle.mesh_readers.specs.Outcome.{Gives};
+ghost use Rattle.mesh_readers.specs.Repeated.{so_many, next_row};
+ghost use Rattle.mesh_readers.specs.Rows.{tet_row, tets_of, ele_of, IsBelow};
+
+use crate::MeshFault;
+use crate::fields::{Head, Listed, pass_over, read_corner, read_four_head, read_number};
+use geo_laws::{Tet, TetList};
+use std::alloc::Global;
+use tet_ports::Bytes;
+use tet_text::{Fields, Lines, TextFault};
+
+/// A row with the wanted number: its corners, and an attribute where the flag is set.
+#[tactic(auto, unfolding(crate::specs::Rows::tet_row))]
+fn read_row(listed: Listed, flag: bool, wanted: u64, fields: &mut Fields) -> Result<Tet, TextFault>
+    requires { listed.points < 2 ^ 32 - 1 }
+    ensures value { result ≡ tet_row listed flag wanted fields.old }
+    ensures there { IfOk result (IsBelow listed.points) }
+{
+    read_number(wanted, fields)?;
+    let a = read_corner(listed, fields)?;
+    let b = read_corner(listed, fields)?;
+    let c = read_corner(listed, fields)?;
+    let d = read_corner(listed, fields)?;
+    pass_over(flag, fields)?;
+    fields.want_end()?;
+    Ok(Tet { a, b, c, d })
+}
+
+#[tactic(auto, unfolding(crate::specs::Repeated::next_row))]
+fn read_next(listed: Listed, flag: bool, wanted: u64, lines: &mut Lines) -> Result<Tet, TextFault>
+    requires points { listed.points < 2 ^ 32 - 1 }
+    requires lines { line_total lines.old + 1 < 2 ^ 64 }
+    ensures value { left_after (λ row. row) result (wanted + 1, content_left lines.new)
+        ≡ next_row (tet_row listed flag) (line_total lines.old) (wanted, content_left lines.old) }
+    ensures there { IfOk result (IsBelow listed.points) }
+    ensures count { line_total lines.new ≡ line_total lines.old }
+{
+    let mut fields = lines.want_line()?;
+    read_row(listed, flag, wanted, &mut fields)
+}
+
+/// So many rows, numbered from the first number on.
+fn read_rows(
+    alloc: Global,
+    listed: Listed,
+    head: Head,
+    lines: &mut Lines,
+) -> Result<TetList, MeshFault>
+    requires points { listed.points < 2 ^ 32 - 1 }
+    requires count { head.count < 10 ^ 18 }
+    requires lines { line_total lines.old + 1 < 2 ^ 64 }
+    ensures value { Gives (λ rows. (rows, (listed.first + head.count, content_left lines.new)))
+        result (so_many (next_row (tet_row listed head.flag) (line_total lines.old)) head.count
+        (listed.first, content_left lines.old)) }
+    ensures there { IfOk result (All (IsBelow listed.points)) }
+    ensures count { line_total lines.new ≡ line_total lines.old }
+{
+    let mut rows = TetList::new(alloc);
+    for i in 0..head.count {
+        let row = read_next(listed, head.flag, u64::from(listed.first) + i, lines)?;
+        rows.push(row)?;
+    }
+    Ok(rows)
+}
+
+#[tactic(auto, unfolding(crate::specs::Rows::tets_of))]
+fn read_list(alloc: Global, listed: Listed, lines: &mut Lines) -> Result<TetList, MeshFault>
+    requires points { listed.points < 2 ^ 32 - 1 }
+    requires lines { line_total lines.old + 1 < 2 ^ 64 }
+    ensures value { Gives (λ rows. rows) result
+        (tets_of listed (line_total lines.old) (content_left lines.old)) }
+    ensures there { IfOk result (All (IsBelow listed.points)) }
+{
+    let mut fields = lines.want_line()?;
+    let head = read_four_head(true, &mut fields)?;
+    let rows = read_rows(alloc, listed, head, lines)?;
+    lines.want_end()?;
+    Ok(rows)
+}
+
+/// The tetrahedra of an `.ele` file of fewer than 2^32 - 1 bytes, by the places of their corners in
+/// a list of so many points, fewer than 2^32 - 1. In the file rows and corners are numbered from
+/// `first`. Attributes are passed over. `Text` exactly where the file is not in the grammar, with
+/// its first fault: a corner that is none of the points is BadIndex. It refuses besides for want of
+/// memory alone.
+pub fn read_ele(alloc: Global, bytes: &Bytes, first: u32, points: u64) -> Result<TetList, MeshFault>
+    requires points { points < 2 ^ 32 - 1 }
+    requires short { length bytes.now < 2 ^ 32 - 1 }
+    ensures value { Gives (λ rows. rows) result
+        (ele_of first points (line_count_of bytes.now) (content_lines bytes.now)) }
+    ensures there { IfOk result (All (IsBelow points)) }
+{
+    let mut lines = Lines::new(bytes.as_slice());
+    read_list(alloc, Listed { first, points }, &mut lines)
+}

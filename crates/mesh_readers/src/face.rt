@@ -1,0 +1,125 @@
+//! The faces of a `.face` file.
+
+ghost use Rattle.std.specs.Prelude.{◌≡◌, ◌<◌, ◌-◌, ◌+◌, ◌^◌, length, All, IfOk};
+ghost use Rattle.tet_text.specs.Lines.{content_lines, line_count_of};
+ghost use Rattle.tet_text.specs.Reading.{left_after};
+ghost use Rattle.tet_text.specs.Views.{content_left, line_total};
+ghost use Rattle.mesh_readers.specs.Outcome.{Gives};
+ghost use Rattle.mesh_readers.specs.Repeated.{so_many, next_row};
+ghost use Rattle.mesh_readers.specs.Rows.{marker_at, face_row, faces_of, face_of, IsFaceBelow};
+
+use crate::MeshFault;
+use crate::fields::{Head, Listed, read_corner, read_flag_head, read_number};
+use mesh_files::{FaceRow, FaceRows};
+use std::alloc::Global;
+use tet_ports::Bytes;
+use tet_text::{Fields, Lines, TextFault};
+
+/// The marker of a face where the flag is set, and else 0.
+#[tactic(auto, unfolding(crate::specs::Rows::marker_at))]
+fn read_marker(flag: bool, fields: &mut Fields) -> Result<i64, TextFault>
+    ensures value { left_after (λ n. n) result fields.new.fields
+        ≡ marker_at flag fields.old.line fields.old.fields }
+    ensures line { fields.new.line ≡ fields.old.line }
+{
+    if flag { fields.want_whole() } else { Ok(0) }
+}
+
+/// A row with the wanted number: its corners, and a marker where the flag is set.
+#[tactic(auto, unfolding(crate::specs::Rows::face_row))]
+fn read_row(
+    listed: Listed,
+    flag: bool,
+    wanted: u64,
+    fields: &mut Fields,
+) -> Result<FaceRow, TextFault>
+    requires { listed.points < 2 ^ 32 - 1 }
+    ensures value { result ≡ face_row listed flag wanted fields.old }
+    ensures there { IfOk result (IsFaceBelow listed.points) }
+{
+    read_number(wanted, fields)?;
+    let a = read_corner(listed, fields)?;
+    let b = read_corner(listed, fields)?;
+    let c = read_corner(listed, fields)?;
+    let marker = read_marker(flag, fields)?;
+    fields.want_end()?;
+    Ok(FaceRow { a, b, c, marker })
+}
+
+#[tactic(auto, unfolding(crate::specs::Repeated::next_row))]
+fn read_next(
+    listed: Listed,
+    flag: bool,
+    wanted: u64,
+    lines: &mut Lines,
+) -> Result<FaceRow, TextFault>
+    requires points { listed.points < 2 ^ 32 - 1 }
+    requires lines { line_total lines.old + 1 < 2 ^ 64 }
+    ensures value { left_after (λ row. row) result (wanted + 1, content_left lines.new)
+        ≡ next_row (face_row listed flag) (line_total lines.old) (wanted, content_left lines.old) }
+    ensures there { IfOk result (IsFaceBelow listed.points) }
+    ensures count { line_total lines.new ≡ line_total lines.old }
+{
+    let mut fields = lines.want_line()?;
+    read_row(listed, flag, wanted, &mut fields)
+}
+
+/// So many rows, numbered from the first number on.
+fn read_rows(
+    alloc: Global,
+    listed: Listed,
+    head: Head,
+    lines: &mut Lines,
+) -> Result<FaceRows, MeshFault>
+    requires points { listed.points < 2 ^ 32 - 1 }
+    requires count { head.count < 10 ^ 18 }
+    requires lines { line_total lines.old + 1 < 2 ^ 64 }
+    ensures value { Gives (λ rows. (rows, (listed.first + head.count, content_left lines.new)))
+        result (so_many (next_row (face_row listed head.flag) (line_total lines.old)) head.count
+        (listed.first, content_left lines.old)) }
+    ensures there { IfOk result (All (IsFaceBelow listed.points)) }
+    ensures count { line_total lines.new ≡ line_total lines.old }
+{
+    let mut rows = FaceRows::new(alloc);
+    for i in 0..head.count {
+        let row = read_next(listed, head.flag, u64::from(listed.first) + i, lines)?;
+        rows.push(row)?;
+    }
+    Ok(rows)
+}
+
+#[tactic(auto, unfolding(crate::specs::Rows::faces_of))]
+fn read_list(alloc: Global, listed: Listed, lines: &mut Lines) -> Result<FaceRows, MeshFault>
+    requires points { listed.points < 2 ^ 32 - 1 }
+    requires lines { line_total lines.old + 1 < 2 ^ 64 }
+    ensures value { Gives (λ rows. rows) result
+        (faces_of listed (line_total lines.old) (content_left lines.old)) }
+    ensures there { IfOk result (All (IsFaceBelow listed.points)) }
+{
+    let mut fields = lines.want_line()?;
+    let head = read_flag_head(&mut fields)?;
+    let rows = read_rows(alloc, listed, head, lines)?;
+    lines.want_end()?;
+    Ok(rows)
+}
+
+/// The faces of a `.face` file of fewer than 2^32 - 1 bytes, by the places of their corners in a
+/// list of so many points, fewer than 2^32 - 1. In the file rows and corners are numbered from
+/// `first`. Where the file has no markers, the marker of each face is 0. `Text` exactly where the
+/// file is not in the grammar, with its first fault: a corner that is none of the points is
+/// BadIndex. It refuses besides for want of memory alone.
+pub fn read_face(
+    alloc: Global,
+    bytes: &Bytes,
+    first: u32,
+    points: u64,
+) -> Result<FaceRows, MeshFault>
+    requires points { points < 2 ^ 32 - 1 }
+    requires short { length bytes.now < 2 ^ 32 - 1 }
+    ensures value { Gives (λ rows. rows) result
+        (face_of first points (line_count_of bytes.now) (content_lines bytes.now)) }
+    ensures there { IfOk result (All (IsFaceBelow points)) }
+{
+    let mut lines = Lines::new(bytes.as_slice());
+    read_list(alloc, Listed { first, points }, &mut lines)
+}

@@ -1,0 +1,142 @@
+//! The fields of rows.
+
+ghost use Rattle.std.specs.Prelude.{◌≡◌, ◌<◌, ◌≤◌, ◌+◌, ◌-◌, ◌^◌, drop, IfOk};
+ghost use Rattle.tet_text.specs.Reading.{left_after};
+ghost use Rattle.node_files.specs.Header.{is_within, count_within};
+ghost use Rattle.mesh_readers.specs.Fields.{is_listed, flag_at, numbered, corner_at, passed_over, four_head, flag_head};
+
+use node_files::count_or;
+use tet_text::{Fields, TextFault, TextKind};
+
+/// What the first line of a list says: how many rows there are, and whether each ends with a
+/// further field.
+#[derive(Clone, Copy)]
+pub(crate) struct Head {
+    pub(crate) count: u64,
+    pub(crate) flag: bool,
+}
+
+/// Where the corners of rows are numbered from, and how many points there are.
+#[derive(Clone, Copy)]
+pub(crate) struct Listed {
+    pub(crate) first: u32,
+    pub(crate) points: u64,
+}
+
+fn is_within(least: u64, most: u64, count: u64) -> bool
+    ensures { result ≡ is_within least most count }
+{
+    least <= count && count <= most
+}
+
+/// The next field as a count from `least` to `most`.
+#[tactic(auto, unfolding(node_files::specs::Header::count_within))]
+fn count_within(least: u64, most: u64, fields: &mut Fields) -> Result<u64, TextFault>
+    ensures value { left_after (λ n. n) result fields.new.fields
+        ≡ count_within least most fields.old.line fields.old.fields }
+    ensures line { fields.new.line ≡ fields.old.line }
+{
+    let count = fields.want_count()?;
+    if is_within(least, most, count) {
+        return Ok(count);
+    }
+    Err(TextFault {
+        line: fields.line(),
+        kind: TextKind::BadCount,
+    })
+}
+
+/// The flag, which may be missing, where there may be one.
+#[tactic(auto, unfolding(crate::specs::Fields::flag_at))]
+fn read_flag(flagged: bool, fields: &mut Fields) -> Result<bool, TextFault>
+    ensures value { left_after (λ b. b) result fields.new.fields
+        ≡ flag_at flagged fields.old.line fields.old.fields }
+    ensures line { fields.new.line ≡ fields.old.line }
+{
+    if !flagged {
+        return Ok(false);
+    }
+    let flag = count_or(0, 0, 1, fields)?;
+    Ok(flag == 1)
+}
+
+/// How many rows there are, then a 4, then the flag where there may be one.
+#[tactic(auto, unfolding(crate::specs::Fields::four_head))]
+pub(crate) fn read_four_head(flagged: bool, fields: &mut Fields) -> Result<Head, TextFault>
+    ensures value { result ≡ four_head flagged fields.old }
+    ensures small { IfOk result (λ head. head.count < 10 ^ 18) }
+{
+    let count = fields.want_count()?;
+    count_within(4, 4, fields)?;
+    let flag = read_flag(flagged, fields)?;
+    fields.want_end()?;
+    Ok(Head { count, flag })
+}
+
+/// How many rows there are, then the flag, which may be missing.
+#[tactic(auto, unfolding(crate::specs::Fields::flag_head))]
+pub(crate) fn read_flag_head(fields: &mut Fields) -> Result<Head, TextFault>
+    ensures value { result ≡ flag_head fields.old }
+    ensures small { IfOk result (λ head. head.count < 10 ^ 18) }
+{
+    let count = fields.want_count()?;
+    let flag = read_flag(true, fields)?;
+    fields.want_end()?;
+    Ok(Head { count, flag })
+}
+
+/// The number of a row, which is the wanted one.
+#[tactic(auto, unfolding(crate::specs::Fields::numbered))]
+pub(crate) fn read_number(wanted: u64, fields: &mut Fields) -> Result<(), TextFault>
+    ensures value { left_after (λ x. x) result fields.new.fields
+        ≡ numbered wanted fields.old.line fields.old.fields }
+    ensures line { fields.new.line ≡ fields.old.line }
+{
+    let number = fields.want_count()?;
+    if number == wanted {
+        return Ok(());
+    }
+    Err(TextFault {
+        line: fields.line(),
+        kind: TextKind::BadIndex,
+    })
+}
+
+fn is_listed(listed: Listed, number: u64) -> bool
+    requires { listed.points < 2 ^ 32 - 1 }
+    ensures { result ≡ is_listed listed number }
+{
+    u64::from(listed.first) <= number && number < u64::from(listed.first) + listed.points
+}
+
+/// A corner, by its place in the list of points.
+#[tactic(auto, unfolding(crate::specs::Fields::corner_at))]
+pub(crate) fn read_corner(listed: Listed, fields: &mut Fields) -> Result<u32, TextFault>
+    requires { listed.points < 2 ^ 32 - 1 }
+    ensures value { left_after (λ n. n) result fields.new.fields
+        ≡ corner_at listed fields.old.line fields.old.fields }
+    ensures there { IfOk result (λ n. n < listed.points) }
+    ensures line { fields.new.line ≡ fields.old.line }
+{
+    let number = fields.want_count()?;
+    if is_listed(listed, number) {
+        return Ok((number - u64::from(listed.first)) as u32);
+    }
+    Err(TextFault {
+        line: fields.line(),
+        kind: TextKind::BadIndex,
+    })
+}
+
+/// Passes over a field where the flag is set.
+#[tactic(auto, unfolding(crate::specs::Fields::passed_over))]
+pub(crate) fn pass_over(flag: bool, fields: &mut Fields) -> Result<(), TextFault>
+    ensures value { left_after (λ x. x) result fields.new.fields
+        ≡ passed_over flag fields.old.line fields.old.fields }
+    ensures line { fields.new.line ≡ fields.old.line }
+{
+    if flag {
+        fields.want_field()?;
+    }
+    Ok(())
+}

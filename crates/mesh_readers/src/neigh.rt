@@ -1,0 +1,119 @@
+//! The neighbors of a `.neigh` file.
+
+ghost use Rattle.std.specs.Prelude.{◌≡◌, ◌<◌, ◌-◌, ◌+◌, ◌^◌, length};
+ghost use Rattle.tet_text.specs.Lines.{content_lines, line_count_of};
+ghost use Rattle.tet_text.specs.Reading.{left_after};
+ghost use Rattle.tet_text.specs.Views.{content_left, line_total};
+ghost use Rattle.mesh_readers.specs.Outcome.{Gives};
+ghost use Rattle.mesh_readers.specs.Repeated.{so_many, next_row};
+ghost use Rattle.mesh_readers.specs.Rows.{place_of, neighbor_at, across_row, neighbors_of, neigh_of};
+
+use crate::MeshFault;
+use crate::fields::{Head, read_four_head, read_number};
+use incidence::Across;
+use std::alloc::Global;
+use tet_ports::{Bytes, Items};
+use tet_text::{Fields, Lines, TextFault, TextKind};
+
+/// A list of what is across the faces of rows, one entry for each row.
+pub type Neighbors = Items<Across>;
+
+/// The place that the number of a neighbor stands for, or none for -1. None where the number stands
+/// for nothing.
+fn place_of(first: u32, number: i64) -> Option<Option<usize>>
+    ensures { result ≡ place_of first number }
+{
+    let first = i64::from(first);
+    if number >= first {
+        return Some(Some((number - first) as usize));
+    }
+    if number == -1 { Some(None) } else { None }
+}
+
+/// A neighbor.
+#[tactic(auto, unfolding(crate::specs::Rows::neighbor_at))]
+fn read_neighbor(first: u32, fields: &mut Fields) -> Result<Option<usize>, TextFault>
+    ensures value { left_after (λ n. n) result fields.new.fields
+        ≡ neighbor_at first fields.old.line fields.old.fields }
+    ensures line { fields.new.line ≡ fields.old.line }
+{
+    let number = fields.want_whole()?;
+    place_of(first, number).ok_or(TextFault {
+        line: fields.line(),
+        kind: TextKind::BadIndex,
+    })
+}
+
+/// A row with the wanted number: its four neighbors.
+#[tactic(auto, unfolding(crate::specs::Rows::across_row))]
+fn read_row(first: u32, wanted: u64, fields: &mut Fields) -> Result<Across, TextFault>
+    ensures { result ≡ across_row first wanted fields.old }
+{
+    read_number(wanted, fields)?;
+    let n0 = read_neighbor(first, fields)?;
+    let n1 = read_neighbor(first, fields)?;
+    let n2 = read_neighbor(first, fields)?;
+    let n3 = read_neighbor(first, fields)?;
+    fields.want_end()?;
+    Ok(Across { n0, n1, n2, n3 })
+}
+
+#[tactic(auto, unfolding(crate::specs::Repeated::next_row))]
+fn read_next(first: u32, wanted: u64, lines: &mut Lines) -> Result<Across, TextFault>
+    requires { line_total lines.old + 1 < 2 ^ 64 }
+    ensures value { left_after (λ row. row) result (wanted + 1, content_left lines.new)
+        ≡ next_row (across_row first) (line_total lines.old) (wanted, content_left lines.old) }
+    ensures count { line_total lines.new ≡ line_total lines.old }
+{
+    let mut fields = lines.want_line()?;
+    read_row(first, wanted, &mut fields)
+}
+
+/// So many rows, numbered from the first number on.
+fn read_rows(
+    alloc: Global,
+    first: u32,
+    head: Head,
+    lines: &mut Lines,
+) -> Result<Neighbors, MeshFault>
+    requires count { head.count < 10 ^ 18 }
+    requires lines { line_total lines.old + 1 < 2 ^ 64 }
+    ensures value { Gives (λ rows. (rows, (first + head.count, content_left lines.new)))
+        result (so_many (next_row (across_row first) (line_total lines.old)) head.count
+        (first, content_left lines.old)) }
+    ensures count { line_total lines.new ≡ line_total lines.old }
+{
+    let mut rows = Neighbors::new(alloc);
+    for i in 0..head.count {
+        let row = read_next(first, u64::from(first) + i, lines)?;
+        rows.push(row)?;
+    }
+    Ok(rows)
+}
+
+#[tactic(auto, unfolding(crate::specs::Rows::neighbors_of))]
+fn read_list(alloc: Global, first: u32, lines: &mut Lines) -> Result<Neighbors, MeshFault>
+    requires { line_total lines.old + 1 < 2 ^ 64 }
+    ensures { Gives (λ rows. rows) result
+        (neighbors_of first (line_total lines.old) (content_left lines.old)) }
+{
+    let mut fields = lines.want_line()?;
+    let head = read_four_head(false, &mut fields)?;
+    let rows = read_rows(alloc, first, head, lines)?;
+    lines.want_end()?;
+    Ok(rows)
+}
+
+/// The neighbors of a `.neigh` file of fewer than 2^32 - 1 bytes: for each row and each corner the
+/// place that the number across the face opposite that corner stands for, from 0, and none for -1.
+/// In the file rows are numbered from `first`; a neighbor with a number that is neither -1 nor at
+/// least `first` is BadIndex. `Text` exactly where the file is not in the grammar, with its first
+/// fault. It refuses besides for want of memory alone.
+pub fn read_neigh(alloc: Global, bytes: &Bytes, first: u32) -> Result<Neighbors, MeshFault>
+    requires { length bytes.now < 2 ^ 32 - 1 }
+    ensures { Gives (λ rows. rows) result
+        (neigh_of first (line_count_of bytes.now) (content_lines bytes.now)) }
+{
+    let mut lines = Lines::new(bytes.as_slice());
+    read_list(alloc, first, &mut lines)
+}
