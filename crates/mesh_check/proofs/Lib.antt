@@ -1,0 +1,9 @@
+pub mod Firsts
+pub mod Faces
+pub mod Rows
+pub mod Spheres
+pub mod SidesOf
+pub mod Partners
+pub mod Bends
+pub mod DefectKinds
+pub mod Listed

@@ -1,0 +1,13 @@
+-- The first places at which something holds.
+use Rattle.std.specs.Prelude.{ℕ, ◌<◌, Option, Some, None}
+use Rattle.mesh_check.specs.Defects.{PairBefore}
+
+-- the first number of which P holds, or none where it holds of no number
+abbrev pub IsFirstOf : (ℕ → Type 0) → Option ℕ → Type 0
+IsFirstOf P None = (i : ℕ) → ¬ P i
+IsFirstOf P (Some i) = P i × ((k : ℕ) → k < i → ¬ P k)
+
+-- the same of pairs, by rising numbers
+abbrev pub IsFirstPair : (ℕ → ℕ → Type 0) → Option (ℕ × ℕ) → Type 0
+IsFirstPair P None = (i k : ℕ) → ¬ P i k
+IsFirstPair P (Some p) = P p.0 p.1 × ((i k : ℕ) → PairBefore (i, k) p → ¬ P i k)

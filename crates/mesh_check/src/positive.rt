@@ -1,0 +1,45 @@
+//! Positive tetrahedra.
+
+ghost use Rattle.std.specs.Prelude.{◌≡◌, ◌↔◌, IsTrue, All};
+ghost use Rattle.sign_predicates.specs.Orientation.{IsPositive};
+ghost use Rattle.geo_laws.specs.Delaunay.{corners, IsOn};
+ghost use Rattle.mesh_check.specs.Defects.{IsNotPositive};
+ghost use Rattle.mesh_check.specs.Searches.{IsFirstOf};
+
+use geo_laws::{Points, Tet, TetList};
+use sign_predicates::{Corners, Sign, orient};
+
+/// The corners of a row.
+pub(crate) fn corners_of(points: &Points, row: Tet) -> Corners
+    requires { IsOn points.now row }
+    ensures { result ≡ corners points.now row }
+{
+    Corners {
+        a: points.at(row.a as usize),
+        b: points.at(row.b as usize),
+        c: points.at(row.c as usize),
+        d: points.at(row.d as usize),
+    }
+}
+
+fn is_positive(points: &Points, row: Tet) -> bool
+    requires { IsOn points.now row }
+    ensures { IsTrue result ↔ IsPositive (corners points.now row) }
+{
+    let Corners { a, b, c, d } = corners_of(points, row);
+    matches!(orient(a, b, c, d), Sign::Above)
+}
+
+/// The first row that is not positive, by its place.
+pub fn first_not_positive(points: &Points, list: &TetList) -> Option<usize>
+    requires { All (IsOn points.now) list.now }
+    ensures { IsFirstOf (IsNotPositive points.now list.now) result }
+{
+    for i in 0..list.len() {
+        let row = list.at(i);
+        if !is_positive(points, row) {
+            return Some(i);
+        }
+    }
+    None
+}
