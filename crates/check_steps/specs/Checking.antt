@@ -1,0 +1,51 @@
+-- The check of the files of a mesh.
+use Rattle.std.specs.Prelude.{◌≡◌, ℕ, List, length, Option, Result, Ok, Err}
+use Rattle.sign_predicates.specs.Point.{Point}
+use Rattle.mesh_check.specs.Defects.{Mesh, IsVerdict, neighbors_or}
+use Rattle.mesh_check.specs.declared.defect.Verdict.TheVariants.{Sound, Fault}
+use Rattle.mesh_grid.specs.Settling.{IsTooMany, IsOffGrid, IsOnLeastGrid}
+use Rattle.check_steps.specs.Reading.{MeshAnswer}
+use Rattle.check_steps.specs.Steps.{FolderSeen, AndThen}
+use Rattle.check_steps.specs.declared.fault.CheckFault.{CheckFault}
+use Rattle.check_steps.specs.declared.fault.CheckFault.TheVariants.{TooMany, OffGrid, Unsound, NoMemory}
+use Rattle.check_steps.specs.declared.reading.MeshText.{MeshText}
+
+-- how many points a mesh that is read has at most
+abbrev pub most_points : ℕ
+most_points = 120000
+
+-- why the points are on no grid
+abbrev pub IsUnsettled : Option ℕ → MeshText → CheckFault → Type 0
+IsUnsettled decimals text (TooMany count) = IsTooMany text.nodes.decimals most_points count
+IsUnsettled decimals text (OffGrid line) = IsOffGrid text.nodes.decimals decimals most_points line
+IsUnsettled decimals text NoMemory = Unit {0}
+IsUnsettled decimals text fault = ⊥
+
+-- the points on their least grid
+abbrev pub PointsAnswer : Option ℕ → MeshText → Result (List Point) CheckFault → Type 0
+PointsAnswer decimals text (Ok points) = IsOnLeastGrid text.nodes.decimals decimals most_points points
+PointsAnswer decimals text (Err fault) = IsUnsettled decimals text fault
+
+-- the mesh that the files spell, on these points
+abbrev pub mesh_of : MeshText → List Point → Mesh
+mesh_of text points = record { points = points; rows = text.rows; faces = text.faces; neighbors = neighbors_or text.rows text.neighbors }
+
+-- why the mesh is not sound
+abbrev pub IsUnsound : MeshText → List Point → CheckFault → Type 0
+IsUnsound text points (Unsound defect first) = (first ≡ text.nodes.first) × IsVerdict (mesh_of text points) (Fault defect)
+IsUnsound text points NoMemory = Unit {0}
+IsUnsound text points fault = ⊥
+
+-- how many rows the mesh has, where it is sound
+abbrev pub VerdictAnswer : MeshText → List Point → Result ℕ CheckFault → Type 0
+VerdictAnswer text points (Ok count) = (count ≡ length text.rows) × IsVerdict (mesh_of text points) Sound
+VerdictAnswer text points (Err fault) = IsUnsound text points fault
+
+-- the check of what the files spell
+abbrev pub TextChecked : Option ℕ → MeshText → Result ℕ CheckFault → Type 0
+TextChecked decimals text = AndThen (PointsAnswer decimals text) (VerdictAnswer text)
+
+-- The check of the files with this base: how many tetrahedra the mesh has, where it is sound, or the first refusal in this order: of each file
+-- in turn its fetch and its text, then too many points, a point off the grid, and the first defect
+abbrev pub CheckAnswer : FolderSeen → List ℕ → Option ℕ → Result ℕ CheckFault → Type 0
+CheckAnswer seen base decimals = AndThen (MeshAnswer seen base) (TextChecked decimals)

@@ -1,0 +1,12 @@
+//! The steps by which the files of a mesh are read and checked, and what is told of it.
+#![tactic(auto)]
+
+mod checking;
+mod fault;
+mod reading;
+mod telling;
+
+pub use checking::{MOST_POINTS, check_files};
+pub use fault::CheckFault;
+pub use reading::{MeshText, read_list, read_mesh, read_nodes, read_rows};
+pub use telling::{defect_text, sound_line};
