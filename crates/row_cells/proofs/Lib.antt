@@ -1,0 +1,5 @@
+pub mod Units
+pub mod Along
+pub mod Near
+pub mod Searched
+pub mod Reach

@@ -1,0 +1,13 @@
+use Rattle.std.proofs.Common.{ap, ◌∙◌}
+use Rattle.sign_predicates.specs.Point.{Point}
+use Rattle.row_cells.specs.Boxes.{ahead, span_of}
+use Rattle.row_cells.proofs.Units.{kept_32}
+use Rattle.row_cells.proofs.boxes.span_x.Goals as goal
+
+pub returns : goal.returns
+returns c =
+    let a = c.ahead.ensures ∙ ap ahead (kept_32 c.a.inside.x c.a.invariant.x_low c.a.invariant.x_high) ∙ ap (λ (p : Point). ahead p.x) c.a.view_is in
+    let b = c.ahead-2.ensures ∙ ap ahead (kept_32 c.b.inside.x c.b.invariant.x_low c.b.invariant.x_high) ∙ ap (λ (p : Point). ahead p.x) c.b.view_is in
+    let e = c.ahead-3.ensures ∙ ap ahead (kept_32 c.c.inside.x c.c.invariant.x_low c.c.invariant.x_high) ∙ ap (λ (p : Point). ahead p.x) c.c.view_is in
+    let d = c.ahead-4.ensures ∙ ap ahead (kept_32 c.d.inside.x c.d.invariant.x_low c.d.invariant.x_high) ∙ ap (λ (p : Point). ahead p.x) c.d.view_is in
+    c.span_of.ensures ∙ (λ i. span_of (a i) (b i) (e i) (d i))

@@ -1,0 +1,13 @@
+use Rattle.std.proofs.Common.{ap, ◌∙◌}
+use Rattle.sign_predicates.specs.Point.{Point}
+use Rattle.row_cells.specs.Boxes.{ahead, span_of}
+use Rattle.row_cells.proofs.Units.{kept_32}
+use Rattle.row_cells.proofs.boxes.span_y.Goals as goal
+
+pub returns : goal.returns
+returns c =
+    let a = c.ahead.ensures ∙ ap ahead (kept_32 c.a.inside.y c.a.invariant.y_low c.a.invariant.y_high) ∙ ap (λ (p : Point). ahead p.y) c.a.view_is in
+    let b = c.ahead-2.ensures ∙ ap ahead (kept_32 c.b.inside.y c.b.invariant.y_low c.b.invariant.y_high) ∙ ap (λ (p : Point). ahead p.y) c.b.view_is in
+    let e = c.ahead-3.ensures ∙ ap ahead (kept_32 c.c.inside.y c.c.invariant.y_low c.c.invariant.y_high) ∙ ap (λ (p : Point). ahead p.y) c.c.view_is in
+    let d = c.ahead-4.ensures ∙ ap ahead (kept_32 c.d.inside.y c.d.invariant.y_low c.d.invariant.y_high) ∙ ap (λ (p : Point). ahead p.y) c.d.view_is in
+    c.span_of.ensures ∙ (λ i. span_of (a i) (b i) (e i) (d i))
