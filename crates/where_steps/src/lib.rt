@@ -1,0 +1,10 @@
+//! The steps by which the queries of a file are answered over the files of a mesh.
+#![tactic(auto)]
+
+mod answers;
+mod reading;
+mod settling;
+
+pub use answers::locate_files;
+pub use reading::{WhereText, read_where};
+pub use settling::Settled;
