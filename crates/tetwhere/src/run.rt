@@ -1,0 +1,89 @@
+//! The run of the program: from its words to the lines of its queries.
+
+ghost use Rattle.std.specs.Prelude.{◌≡◌, ◌≤◌, ◌<◌, length};
+ghost use Rattle.check_steps.specs.Steps.{folder_seen};
+ghost use Rattle.tetwhere.specs.Run.{sink_seen, IsAnswer, IsTold, EndsSo, IsLinesPut, IsPut, IsToldAs};
+
+use crate::messages::{OUT_OF_MEMORY, WRITE_FAILED, message};
+use crate::status::WhereStatus;
+use std::alloc::Global;
+use tet_ports::{Bytes, Folder, PutFault, Sink, Words};
+use where_steps::locate_files;
+use where_words::bad_word;
+
+/// Reads the words, fetches the mesh and the queries that they name, and puts one line for each query
+/// to `out`, all at once: its number, and that of the first row whose closed tetrahedron holds it, or
+/// -1. On every answer but Done it puts one message to `err`; a failure there changes no status. It
+/// stores nothing.
+pub fn run_where<F: Folder, O: Sink, E: Sink>(
+    alloc: Global,
+    words: &Words,
+    folder: &mut F,
+    out: &mut O,
+    err: &mut E,
+) -> WhereStatus
+    ensures answer { IsAnswer words.now (folder_seen F.held F.faults F.misses folder.old folder.new) (sink_seen O.written O.faults O.wants out.old out.new) result }
+    ensures told { IsTold (sink_seen E.written E.faults E.wants err.old err.new) result }
+    ensures unchanged { F.held folder.new ≡ F.held folder.old }
+{
+    match run(alloc, words, folder, out) {
+        Ok(()) => WhereStatus::Done,
+        Err(status) => tell(alloc, status, err),
+    }
+}
+
+/// The run without its message.
+fn run<F: Folder, O: Sink>(
+    alloc: Global,
+    words: &Words,
+    folder: &mut F,
+    out: &mut O,
+) -> Result<(), WhereStatus>
+    ensures ends { EndsSo words.now (folder_seen F.held F.faults F.misses folder.old folder.new) (sink_seen O.written O.faults O.wants out.old out.new) result }
+    ensures unchanged { F.held folder.new ≡ F.held folder.old }
+{
+    if let Some(word) = bad_word(words) {
+        return Err(WhereStatus::Usage { word, place: 1 });
+    }
+    let lines = locate_files(alloc, words.word(0), words.word(1), folder)?;
+    put_lines(&lines, out)
+}
+
+/// Puts the lines of all queries.
+fn put_lines<O: Sink>(lines: &Bytes, out: &mut O) -> Result<(), WhereStatus>
+    ensures { IsLinesPut lines.now (sink_seen O.written O.faults O.wants out.old out.new) result }
+{
+    match out.put(lines.as_slice()) {
+        Ok(()) => Ok(()),
+        Err(PutFault::Failed) => Err(WhereStatus::WriteFault),
+        Err(PutFault::NoMemory) => Err(WhereStatus::NoMemory),
+    }
+}
+
+/// Puts a message; a failure there changes nothing.
+fn put<E: Sink>(line: &[u8], err: &mut E)
+    ensures { IsPut line.now (sink_seen E.written E.faults E.wants err.old err.new) }
+{
+    let _ = err.put(line);
+}
+
+/// Puts the message of a refusal, and answers it. Where there is no memory for the message, the
+/// answer is want of memory.
+fn tell<E: Sink>(alloc: Global, status: WhereStatus, err: &mut E) -> WhereStatus
+    ensures { IsToldAs status (sink_seen E.written E.faults E.wants err.old err.new) result }
+{
+    if matches!(&status, WhereStatus::WriteFault) {
+        put(WRITE_FAILED, err);
+        return WhereStatus::WriteFault;
+    }
+    match message(alloc, &status) {
+        Ok(line) => {
+            put(line.as_slice(), err);
+            status
+        }
+        Err(_) => {
+            put(OUT_OF_MEMORY, err);
+            WhereStatus::NoMemory
+        }
+    }
+}
