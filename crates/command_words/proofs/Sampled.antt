@@ -3,8 +3,7 @@ use Rattle.std.proofs.Common.{◌≡◌, ℕ, ◌+◌, Bool, true, false, not, �
 use Rattle.std.specs.Prelude.{find, unwrap_or, IsSome}
 use Rattle.std.specs.List.{list_any}
 use Rattle.std.specs.Option.{option_or}
-use Rattle.command_words.specs.Grammar.{bad_word_from, is_name, is_named, is_sampled, sample_of, words_fault}
-use Rattle.command_words.specs.Meaning.{name_of}
+use Rattle.command_words.specs.Grammar.{bad_word_from, is_name, is_named, is_sampled, sample_of, name_of, are_at_odds, words_fault}
 
 -- the first that passes is not there, where none passes
 first_none : {X : Type 0} (b : Bool) (x : X) (rest : Bool) (found : Option X) → (b || rest) ≡ false → (rest ≡ false → found ≡ None) → (if b then Some x else found) ≡ None
@@ -16,16 +15,16 @@ find-list_any p [] h = refl
 find-list_any p (x ∷ xs) h = first_none (p x) x (list_any p xs) (find p xs) h (find-list_any p xs)
 
 -- of a name and the sample there is exactly one
-name_or_sample : (bad : Option (ℕ × ℕ)) (named sampled : Bool) (fault : ℕ × ℕ)
-    → option_or bad (if named && sampled || not (named || sampled) then Some fault else None) ≡ None → sampled ≡ true → named ≡ false
-name_or_sample (Some f) named sampled fault is h = cc
-name_or_sample None true true fault is h = cc
-name_or_sample None true false fault is h = cc
-name_or_sample None false sampled fault is h = refl
+name_or_sample : (bad : Option (ℕ × ℕ)) (named sampled : Bool) (fault : ℕ × ℕ) (rest : Option (ℕ × ℕ))
+    → option_or bad (if named && sampled || not (named || sampled) then Some fault else rest) ≡ None → sampled ≡ true → named ≡ false
+name_or_sample (Some f) named sampled fault rest is h = cc
+name_or_sample None true true fault rest is h = cc
+name_or_sample None true false fault rest is h = cc
+name_or_sample None false sampled fault rest is h = refl
 
 pub name_of-sampled : (words : List (List ℕ)) → words_fault words ≡ None → IsSome (sample_of words) → name_of words ≡ []
 name_of-sampled words is h =
-    let none = find-list_any is_name words (name_or_sample (bad_word_from 1 false words) (is_named words) (is_sampled words) (length words + 1, 1) is h) in
+    let none = find-list_any is_name words (name_or_sample (bad_word_from 1 false words) (is_named words) (is_sampled words) (length words + 1, 1) (if are_at_odds words then Some (length words + 1, 2) else None) is h) in
     ap (λ (name : Option (List ℕ)). unwrap_or name []) none
 
 -- ---- of the sample no file is stored

@@ -1,9 +1,12 @@
 -- The grammar of the words of the command line, and where words are against it. Words and places are counted from 1.
-use Rattle.std.specs.Prelude.{◌≡◌, ℕ, ◌+◌, Bool, true, false, not, length, take, drop, nat_eq, nat_le, nat_lt, ◌==◌, ◌&&◌, ◌||◌, Option, Some, None, List, [], ◌∷◌, codes, position, unwrap_or, is_some, if◌then◌else◌}
+use Rattle.std.specs.Prelude.{◌≡◌, ℕ, ◌+◌, Bool, true, false, not, length, take, drop, nat_eq, nat_le, nat_lt, ◌==◌, ◌&&◌, ◌||◌, Option, Some, None, List, [], ◌∷◌, codes, find, position, unwrap_or, is_some, if◌then◌else◌}
 use Rattle.std.specs.List.{list_any, starts_with}
 use Rattle.std.specs.Option.{option_map_or, option_or}
 use Rattle.std.specs.Char.{is_ascii_digit}
 use Rattle.tet_text.specs.Numbers.{number_of}
+use Rattle.command_words.specs.Names.{extension_of}
+use Rattle.command_words.specs.declared.options.Extension.{Extension}
+use Rattle.command_words.specs.declared.options.Extension.TheVariants.{Node, Poly, Smesh, Off, Stl}
 
 -- ---- the three kinds of words
 
@@ -40,7 +43,7 @@ number_at_front most text = within most (number_of 9 (take (digit_count text) te
 
 -- the letters of the table that have no number
 abbrev pub is_letter : ℕ → Bool
-is_letter byte = list_any (λ known. known == byte) (codes "pnfezcAQNEF")
+is_letter byte = list_any (λ known. known == byte) (codes "pnfezcAQNEFrC")
 
 -- the number of an S, where these bytes stand behind it: at most 100,000 points may be added
 abbrev pub budget_at_front : List ℕ → Option ℕ
@@ -129,9 +132,42 @@ is_named words = list_any is_name words
 abbrev pub is_sampled : List (List ℕ) → Bool
 is_sampled words = is_some (sample_of words)
 
+-- ---- switches that do not go together
+
+-- the word is a cluster and has the letter
+abbrev pub has_switch : List ℕ → ℕ → Bool
+has_switch word letter = is_cluster word && list_any (λ l. l == letter) word
+
+-- some cluster has the letter
+abbrev pub is_switched : List (List ℕ) → ℕ → Bool
+is_switched words letter = list_any (λ word. has_switch word letter) words
+
+-- the first name among the words
+abbrev pub name_of : List (List ℕ) → List ℕ
+name_of words = unwrap_or (find is_name words) []
+
+-- the extension is that of a complex
+abbrev pub is_of_complex : Option Extension → Bool
+is_of_complex None = false
+is_of_complex (Some Node) = false
+is_of_complex (Some Poly) = true
+is_of_complex (Some Smesh) = true
+is_of_complex (Some Off) = true
+is_of_complex (Some Stl) = true
+
+-- the words ask for a complex: by the letter p, 112, also where the extension of points puts it off, by the extension of a complex, or by the sample
+abbrev pub names_complex : List (List ℕ) → Bool
+names_complex words = (is_switched words 112 || is_sampled words) || is_of_complex (extension_of (name_of words))
+
+-- r, 114, and C, 67, go together only: a mesh is read to be checked. They do not go with a complex
+abbrev pub are_at_odds : List (List ℕ) → Bool
+are_at_odds words =
+    if is_switched words 114 then not (is_switched words 67) || names_complex words else is_switched words 67
+
 -- The first fault of the words: the number of the word and the place in it. All together they have a name or ask for the sample, and not
--- both; that is told after the last word.
+-- both; and their switches go together. That is told after the last word.
 abbrev pub words_fault : List (List ℕ) → Option (ℕ × ℕ)
 words_fault words =
     option_or (bad_word_from 1 false words)
-    (if is_named words && is_sampled words || not (is_named words || is_sampled words) then Some (length words + 1, 1) else None)
+    (if is_named words && is_sampled words || not (is_named words || is_sampled words) then Some (length words + 1, 1) else
+    (if are_at_odds words then Some (length words + 1, 2) else None))

@@ -1,22 +1,11 @@
 -- What the words of the command line ask for.
-use Rattle.std.specs.Prelude.{ℕ, ◌≡◌, ◌≤◌, Bool, false, true, ◌==◌, ◌&&◌, ◌||◌, not, Option, Some, None, IfSome, List, [], ◌∷◌, codes, find, unwrap_or, if◌then◌else◌}
-use Rattle.std.specs.List.{list_any}
+use Rattle.std.specs.Prelude.{ℕ, ◌≡◌, ◌≤◌, Bool, false, true, ◌==◌, ◌&&◌, ◌||◌, not, Option, Some, None, IfSome, List, [], ◌∷◌, codes, unwrap_or, if◌then◌else◌}
 use Rattle.std.specs.Option.{option_or}
-use Rattle.command_words.specs.Grammar.{is_cluster, is_name, is_sampled, budget_at_front, last_from, last_number, sample_of}
+use Rattle.command_words.specs.Grammar.{is_cluster, is_sampled, is_switched, name_of, budget_at_front, last_from, last_number, sample_of}
 use Rattle.command_words.specs.Names.{extension_of, base_of}
 use Rattle.command_words.specs.declared.options.Options.{Options}
 use Rattle.command_words.specs.declared.options.Extension.{Extension}
-use Rattle.command_words.specs.declared.options.Extension.TheVariants.{Node, Poly, Smesh}
-
--- ---- switches
-
--- the word is a cluster and has the letter
-abbrev pub has_switch : List ℕ → ℕ → Bool
-has_switch word letter = is_cluster word && list_any (λ l. l == letter) word
-
--- some cluster has the letter
-abbrev pub is_switched : List (List ℕ) → ℕ → Bool
-is_switched words letter = list_any (λ word. has_switch word letter) words
+use Rattle.command_words.specs.declared.options.Extension.TheVariants.{Node, Poly, Smesh, Off, Stl}
 
 -- ---- the number of S
 
@@ -32,22 +21,18 @@ budget_in word = if is_cluster word then budget_from None word else None
 abbrev pub last_budget : List (List ℕ) → Option ℕ
 last_budget words = last_from budget_in None words
 
--- ---- names
-
--- the first name among the words
-abbrev pub name_of : List (List ℕ) → List ℕ
-name_of words = unwrap_or (find is_name words) []
-
 -- Whether a complex is meshed, where `asked` says that the words ask for it: the extension of a complex puts it on, and that of points off.
 abbrev pub is_piecewise : Bool → Option Extension → Bool
 is_piecewise asked None = asked
 is_piecewise asked (Some Node) = false
 is_piecewise asked (Some Poly) = true
 is_piecewise asked (Some Smesh) = true
+is_piecewise asked (Some Off) = true
+is_piecewise asked (Some Stl) = true
 
 -- ---- the options
 
--- what the words ask for; 112 is p, 110 n, 102 f, 101 e, 122 z, 99 c, 65 A, 81 Q, 78 N, 69 E and 70 F. Of the sample no file is stored
+-- what the words ask for; 112 is p, 110 n, 102 f, 101 e, 122 z, 99 c, 65 A, 81 Q, 78 N, 69 E, 70 F and 114 r. Of the sample no file is stored
 abbrev pub options_of : List (List ℕ) → Options
 options_of words = record {
   piecewise = is_piecewise (is_switched words 112 || is_sampled words) (extension_of (name_of words));
@@ -61,6 +46,7 @@ options_of words = record {
   no_node = is_switched words 78 || is_sampled words;
   no_ele = is_switched words 69 || is_sampled words;
   no_face = is_switched words 70 || is_sampled words;
+  check = is_switched words 114;
   budget = unwrap_or (last_budget words) 100000;
   halvings = unwrap_or (last_number (codes "--halvings=") 12 words) 12;
   decimals = last_number (codes "--decimals=") 20 words;

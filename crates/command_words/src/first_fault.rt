@@ -1,14 +1,16 @@
 //! Where words are against their grammar.
 
 ghost use Rattle.std.specs.Prelude.{◌≡◌, ◌≤◌, ◌<◌, false, length, drop};
-ghost use Rattle.command_words.specs.Grammar.{bad_word_from, cluster_fault, long_fault, number_fault, switches_fault, word_fault, words_fault};
+ghost use Rattle.command_words.specs.Grammar.{are_at_odds, bad_word_from, cluster_fault, is_of_complex, names_complex, long_fault, number_fault, switches_fault, word_fault, words_fault};
 
 use crate::budget::budget_at_front;
-use crate::grammar::{is_cluster, is_letter, is_long, is_name, is_named};
+use crate::grammar::{is_cluster, is_letter, is_long, is_name, is_named, is_switched, name_of};
+use crate::names::extension_of;
 use crate::numbers::{
     DECIMALS, HALVINGS, MOST_DECIMALS, MOST_HALVINGS, MOST_SAMPLE, SAMPLE, digit_count,
     number_at_front, sample_of,
 };
+use crate::options::Extension;
 use tet_ports::Words;
 
 /// The first fault of the words: the number of the word and the place in it, both counted from 1.
@@ -19,9 +21,43 @@ pub(crate) fn words_fault(words: &Words) -> Option<(usize, usize)>
         return Some(fault);
     }
     if is_named(words) == sample_of(words).is_some() {
-        Some((words.len() + 1, 1))
+        return Some((words.len() + 1, 1));
+    }
+    if are_at_odds(words) {
+        Some((words.len() + 1, 2))
     } else {
         None
+    }
+}
+
+/// Whether the extension is that of a complex.
+fn is_of_complex(extension: Option<Extension>) -> bool
+    ensures { result ≡ is_of_complex extension }
+{
+    match extension {
+        None | Some(Extension::Node) => false,
+        Some(Extension::Poly | Extension::Smesh | Extension::Off | Extension::Stl) => true,
+    }
+}
+
+/// Whether the words ask for a complex.
+fn names_complex(words: &Words) -> bool
+    ensures { result ≡ names_complex words.now }
+{
+    is_switched(words, b'p')
+        || sample_of(words).is_some()
+        || is_of_complex(extension_of(name_of(words)))
+}
+
+/// Whether the words have switches that do not go together: r without C, C without r, or these with
+/// a complex.
+fn are_at_odds(words: &Words) -> bool
+    ensures { result ≡ are_at_odds words.now }
+{
+    if is_switched(words, b'r') {
+        !is_switched(words, b'C') || names_complex(words)
+    } else {
+        is_switched(words, b'C')
     }
 }
 

@@ -1,7 +1,7 @@
 //! The three kinds of words.
 
 ghost use Rattle.std.specs.Prelude.{◌≡◌, ◌<◌, IsTrue, length};
-ghost use Rattle.command_words.specs.Grammar.{has_hyphen, is_cluster, is_letter, is_long, is_name, is_named};
+ghost use Rattle.command_words.specs.Grammar.{has_hyphen, is_cluster, is_letter, is_long, is_name, is_named, has_switch, is_switched, name_of};
 
 use tet_ports::Words;
 
@@ -37,7 +37,7 @@ pub(crate) fn is_name(word: &[u8]) -> bool
 pub(crate) fn is_letter(byte: u8) -> bool
     ensures { result ≡ is_letter byte }
 {
-    b"pnfezcAQNEF".contains(&byte)
+    b"pnfezcAQNEFrC".contains(&byte)
 }
 
 /// Whether there is a name among the words.
@@ -45,4 +45,33 @@ pub(crate) fn is_named(words: &Words) -> bool
     ensures { result ≡ is_named words.now }
 {
     words.as_slice().iter().any(|word| is_name(word.as_slice()))
+}
+
+/// Whether the word is a cluster and has the letter.
+fn has_switch(word: &[u8], letter: u8) -> bool
+    ensures { result ≡ has_switch word.now letter }
+{
+    is_cluster(word) && word.contains(&letter)
+}
+
+/// Whether some cluster has the letter.
+pub(crate) fn is_switched(words: &Words, letter: u8) -> bool
+    ensures { result ≡ is_switched words.now letter }
+{
+    words
+        .as_slice()
+        .iter()
+        .any(|word| has_switch(word.as_slice(), letter))
+}
+
+/// The first name among the words, or the empty one.
+pub(crate) fn name_of(words: &Words) -> &[u8]
+    ensures { result.now ≡ name_of words.now }
+{
+    for word in words.as_slice() {
+        if is_name(word.as_slice()) {
+            return word.as_slice();
+        }
+    }
+    b""
 }

@@ -16,6 +16,8 @@ impl Extension {
             Extension::Node => b".node",
             Extension::Poly => b".poly",
             Extension::Smesh => b".smesh",
+            Extension::Off => b".off",
+            Extension::Stl => b".stl",
         }
     }
 }
@@ -36,6 +38,10 @@ pub fn extension_of(name: &[u8]) -> Option<Extension>
         Some(Extension::Poly)
     } else if has_extension(name, Extension::Smesh) {
         Some(Extension::Smesh)
+    } else if has_extension(name, Extension::Off) {
+        Some(Extension::Off)
+    } else if has_extension(name, Extension::Stl) {
+        Some(Extension::Stl)
     } else {
         None
     }

@@ -11,11 +11,15 @@ pub enum Extension {
     Poly,
     /// A file of a piecewise linear complex, `.smesh`.
     Smesh,
+    /// A file of a surface made of polygons, `.off`.
+    Off,
+    /// A file of a surface made of triangles, ASCII `.stl`.
+    Stl,
 }
 
 /// What the words of the command line ask for.
 ///
-/// The switches stand in the order of the letters p, n, f, e, z, c, A, Q, N, E, F.
+/// The switches stand in the order of the letters p, n, f, e, z, c, A, Q, N, E, F, r.
 #[derive(Debug, Drop)]
 pub struct Options {
     /// Mesh a piecewise linear complex.
@@ -43,6 +47,9 @@ pub struct Options {
     pub no_ele: bool,
     /// No `.face` file and no `.edge` file.
     pub no_face: bool,
+    /// Read a mesh and check it; nothing is stored. The letters r and C put this on, which stand
+    /// only together.
+    pub check: bool,
     /// At most this many points are added to a complex, at most 100,000; so many where no number
     /// is given.
     pub budget: u32,

@@ -2,13 +2,13 @@
 
 ghost use Rattle.std.specs.Prelude.{◌≡◌, ◌||◌, ◌&&◌, not, ℕ, Some, None, Err, IfOk, IsSome};
 ghost use Rattle.command_words.specs.Grammar.{words_fault};
-ghost use Rattle.command_words.specs.Meaning.{has_switch, is_switched, name_of, is_piecewise, options_of, AreInRange, AreOfSample};
+ghost use Rattle.command_words.specs.Meaning.{is_piecewise, options_of, AreInRange, AreOfSample};
 ghost use Rattle.command_words.specs.declared.fault.WordsFault.TheVariants.{Usage};
 
 use crate::budget::{MOST_BUDGET, last_budget};
 use crate::fault::WordsFault;
 use crate::first_fault::words_fault;
-use crate::grammar::{is_cluster, is_name};
+use crate::grammar::{is_switched, name_of};
 use crate::names::{base_of, extension_of};
 use crate::numbers::{DECIMALS, HALVINGS, MOST_DECIMALS, MOST_HALVINGS, last_number, sample_of};
 use crate::options::{Extension, Options};
@@ -47,6 +47,7 @@ pub fn read_words(alloc: Global, words: &Words) -> Result<Options, WordsFault>
         no_node: is_left_out(is_switched(words, b'N'), sampled),
         no_ele: is_left_out(is_switched(words, b'E'), sampled),
         no_face: is_left_out(is_switched(words, b'F'), sampled),
+        check: is_switched(words, b'r'),
         budget: last_budget(words).unwrap_or(MOST_BUDGET),
         halvings: last_number(HALVINGS, MOST_HALVINGS, words).unwrap_or(MOST_HALVINGS),
         decimals: last_number(DECIMALS, MOST_DECIMALS, words),
@@ -70,42 +71,13 @@ fn is_stored(asked: bool, sampled: bool) -> bool
     asked && !sampled
 }
 
-/// Whether the word is a cluster and has the letter.
-fn has_switch(word: &[u8], letter: u8) -> bool
-    ensures { result ≡ has_switch word.now letter }
-{
-    is_cluster(word) && word.contains(&letter)
-}
-
-/// Whether some cluster has the letter.
-fn is_switched(words: &Words, letter: u8) -> bool
-    ensures { result ≡ is_switched words.now letter }
-{
-    words
-        .as_slice()
-        .iter()
-        .any(|word| has_switch(word.as_slice(), letter))
-}
-
-/// The first name among the words, or the empty one.
-fn name_of(words: &Words) -> &[u8]
-    ensures { result.now ≡ name_of words.now }
-{
-    for word in words.as_slice() {
-        if is_name(word.as_slice()) {
-            return word.as_slice();
-        }
-    }
-    b""
-}
-
 /// Whether a complex is meshed, where `asked` says that the words ask for it.
 fn is_piecewise(asked: bool, extension: Option<Extension>) -> bool
     ensures { result ≡ is_piecewise asked extension }
 {
     match extension {
         Some(Extension::Node) => false,
-        Some(Extension::Poly | Extension::Smesh) => true,
+        Some(Extension::Poly | Extension::Smesh | Extension::Off | Extension::Stl) => true,
         None => asked,
     }
 }
