@@ -48,7 +48,7 @@ choice true x y z h = refl
 choice false x y z h = h refl
 
 -- the edge file speaks of the sides, and so does the summary
-sides_in_file : (quiet no_face edges : Bool) → (no_face || not edges) ≡ false → (not quiet || (not no_face && edges)) ≡ true
+pub sides_in_file : (quiet no_face edges : Bool) → (no_face || not edges) ≡ false → (not quiet || (not no_face && edges)) ≡ true
 sides_in_file quiet true edges h = absurd (true≢false h)
 sides_in_file quiet false false h = absurd (true≢false h)
 sides_in_file true false true h = refl
@@ -79,12 +79,12 @@ module _ (options : Options) (mesh : Meshed) (p q : Outputs) (a : AreOutputsOf o
       lists_same SideBefore sides_never (Contains (sides_of_rows mesh.tetrahedra)) a.sides b.sides one.ascending two.ascending one.exactly two.exactly
 
   face_files : face_file options mesh a.marked ≡ face_file options mesh b.marked
-  face_files = choice options.no_face _ _ None (λ e. ap (λ (m : List FaceRow). Some (named options.base (codes ".1.face") (face_text (first_of options mesh) m))) (marked_same e))
+  face_files = choice options.no_face _ _ None (λ e. ap (λ (m : List FaceRow). Some (named options.base (codes ".1.face") (face_text mesh.names (first_of options mesh) m))) (marked_same e))
 
   edge_files : edge_file options mesh a.sides ≡ edge_file options mesh b.sides
   edge_files =
       choice (options.no_face || not options.edges) _ _ None
-      (λ e. ap (λ (s : List Side). Some (named options.base (codes ".1.edge") (edge_text (first_of options mesh) s))) (sides_same (sides_in_file options.quiet options.no_face options.edges e)))
+      (λ e. ap (λ (s : List Side). Some (named options.base (codes ".1.edge") (edge_text mesh.names (first_of options mesh) s))) (sides_same (sides_in_file options.quiet options.no_face options.edges e)))
 
   summaries : summary_of options mesh (length a.faces) (length a.sides) ≡ summary_of options mesh (length b.faces) (length b.sides)
   summaries = choice options.quiet _ _ None (λ e.

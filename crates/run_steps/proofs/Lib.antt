@@ -1,6 +1,7 @@
 pub mod Determined
 pub mod Inputs
 pub mod Meshables
+pub mod Named
 pub mod Once
 pub mod Steps
 pub mod Wider

@@ -1,17 +1,26 @@
 -- What the mesh of a complex is made of, from its points and its facets on their grid.
-use Rattle.std.proofs.Common.{length-drop, drop, ◌≡◌, ◌≤◌, ◌<◌, ◌^◌, pos, ℕ, List, length, map, Option, Some, None, IfSome, All, refl, sym, ap, subst, ◌∙◌, arith}
+use Rattle.std.proofs.Common.{length-drop, drop, get_or, ◌≡◌, ◌≤◌, ◌<◌, ◌-◌, ◌^◌, pos, ℕ, List, length, map, Option, Some, None, IfSome, All, refl, sym, ap, subst, ◌∙◌, arith}
 use Rattle.std.proofs.lemmas.List.{get_or-map, length-map, get_or_default}
-use Rattle.std.specs.Prelude.{slice_index_or}
+use Rattle.std.specs.Prelude.{slice_index, slice_index_or}
 use Rattle.command_words.specs.Meaning.{AreInRange}
 use Rattle.command_words.specs.declared.options.Options.{Options}
 use Rattle.complex_mesh.proofs.Added.{added}
 use Rattle.complex_mesh.specs.Meshing.{IsComplexMesh}
-use Rattle.complex_mesh.specs.Protection.{IsMeshable, input_pieces}
+use Rattle.complex_mesh.specs.Protection.{IsMeshable}
+use Rattle.geo_laws.specs.Segment.{pieces}
 use Rattle.complex_mesh.specs.declared.mesh.ComplexMesh.{ComplexMesh}
 use Rattle.complex_mesh.specs.declared.mesh.MeshOptions.{MeshOptions}
 use Rattle.hole_carve.specs.Marks.{AreMarks, IsFirstOf, mark_at}
 use Rattle.geo_laws.specs.Complex.{Complex}
-use Rattle.geo_laws.specs.Delaunay.{point}
+use Rattle.complex_laws.proofs.ComplexMesh.{law_hull_mesh}
+use Rattle.geo_laws.proofs.DelaunayList.{law_delaunay_list}
+use Rattle.geo_laws.specs.Delaunay.{point, corners, numbers, delaunay_rows, IsOn, IsArranged}
+use Rattle.geo_laws.specs.declared.tetrahedra.Tet.{Tet}
+use Rattle.mesh_files.specs.Texts.{AreNamed}
+use Rattle.node_files.proofs.Folds.{folded_distinct, folded_few, kept_at, names_with_long}
+use Rattle.node_files.specs.Folding.{names_with}
+use Rattle.plc_files.specs.Folding.{folded_complex}
+use Rattle.sign_predicates.specs.Orientation.{IsPositive}
 use Rattle.grid_coords.specs.Units.{grid_point}
 use Rattle.grid_coords.specs.declared.points.DecimalPoint.{DecimalPoint}
 use Rattle.node_files.specs.Settling.{IsSettled, rounded_points, rounded_point, most_points}
@@ -23,7 +32,7 @@ use Rattle.plc_files.specs.Binding.{HasCornersBelow, HasWeights}
 use Rattle.protect_laws.proofs.Start.{law_multiples}
 use Rattle.segment_protect.specs.Protection.{IsMultiple}
 use Rattle.sign_predicates.specs.Point.{Point}
-use Rattle.run_steps.specs.Meshing.{grid_options, mesh_options, mesh_of_complex, without_decimals, IsMeshableBound}
+use Rattle.run_steps.specs.Meshing.{grid_options, mesh_options, mesh_of_complex, mesh_of_points, without_decimals, IsMeshableBound}
 use Rattle.run_steps.specs.Outputs.{IsWritable}
 use Rattle.run_steps.specs.declared.mesh.Bound.{Bound}
 
@@ -32,54 +41,87 @@ rounded_long None ps = refl
 rounded_long (Some decimals) ps = length-map ps (rounded_point decimals)
 
 module _ (text : NodeText) (options : GridOptions) (table : NodeTable) (s : IsSettled text options table) where
-  points_are : table.points ≡ map (grid_point table.grid) (rounded_points options.decimals text.decimals)
-  points_are = ap (λ (t : NodeTable). t.points) s.is
+  listed_are : table.listed ≡ map (grid_point table.grid) (rounded_points options.decimals text.decimals)
+  listed_are = ap (λ (t : NodeTable). t.listed) s.is
 
-  pub as_many : length table.points ≡ length text.decimals
-  as_many = ap (λ (xs : List Point). length xs) points_are ∙ length-map (rounded_points options.decimals text.decimals) (grid_point table.grid) ∙ rounded_long options.decimals text.decimals
+  pub as_many : length table.listed ≡ length text.decimals
+  as_many = ap (λ (xs : List Point). length xs) listed_are ∙ length-map (rounded_points options.decimals text.decimals) (grid_point table.grid) ∙ rounded_long options.decimals text.decimals
 
-  multiples : (i : ℕ) → i < length table.points → IsMultiple (2 ^ table.grid.halvings) (point table.points i)
-  multiples i h =
+  listed_multiples : (i : ℕ) → i < length table.listed → IsMultiple (2 ^ table.grid.halvings) (point table.listed i)
+  listed_multiples i h =
       let many : i < length (rounded_points options.decimals text.decimals) = omega (arith, as_many, rounded_long options.decimals text.decimals) in
       subst (IsMultiple (2 ^ table.grid.halvings))
-      (sym (ap (λ (xs : List Point). point xs i) points_are ∙ get_or-map (grid_point table.grid) (rounded_points options.decimals text.decimals) i none _ many))
+      (sym (ap (λ (xs : List Point). point xs i) listed_are ∙ get_or-map (grid_point table.grid) (rounded_points options.decimals text.decimals) i none _ many))
       (law_multiples table.grid (slice_index_or (rounded_points options.decimals text.decimals) i none) table.grid.halvings (omega arith))
     where
       none : DecimalPoint
       none = record { x = record { value = pos 0; scale = 0 }; y = record { value = pos 0; scale = 0 }; z = record { value = pos 0; scale = 0 }; line = 0 }
 
-  pub meshable : (budget : ℕ) (complex : Complex) → budget ≤ 100000 → length table.points ≤ most_points → HasCornersBelow (length text.decimals) complex → HasWeights complex
+  -- each kept point is one of the list
+  multiples : (i : ℕ) → i < length table.points → IsMultiple (2 ^ table.grid.halvings) (point table.points i)
+  multiples i h =
+      let k = kept_at table.listed table.points table.names table.folded s.folded i h in
+      subst (IsMultiple (2 ^ table.grid.halvings)) (sym k.1) (listed_multiples (slice_index table.names i) k.0)
+
+  pub meshable : (budget : ℕ) (complex : Complex) → budget ≤ 100000 → length table.listed ≤ most_points → HasCornersBelow (length table.points) complex → HasWeights complex
       → IsMeshable table.grid.halvings budget table.points complex
   meshable budget complex h few corners weights = record {
-    distinct = s.distinct;
+    distinct = folded_distinct table.listed table.points table.names table.folded s.folded;
     multiples = multiples;
-    few = omega arith;
-    corners = subst (λ count. HasCornersBelow count complex) (sym as_many) corners;
+    few = omega (arith, folded_few table.listed table.points table.names table.folded s.folded);
+    corners = corners;
     holes = weights.holes;
     regions = weights.regions;
   }
 
 -- the points and the complex on their grid
 pub meshable_bound : (options : Options) (text : NodeText) (table : NodeTable) (complex : Complex) → AreInRange options → IsSettled text (grid_options options) table → IsNodeTable table
-    → length table.points ≤ most_points → HasCornersBelow (length text.decimals) complex → HasWeights complex → IsMeshableBound options (record { table = table; complex = complex })
+    → length table.listed ≤ most_points → HasCornersBelow (length table.points) complex → HasWeights complex → IsMeshableBound options (record { table = table; complex = complex })
 meshable_bound options text table complex ranges s h few corners weights =
     record { table = h; few = few; budget = ranges.budget; meshable = meshable text (grid_options options) table s options.budget complex ranges.budget few corners weights }
+
+-- folding changes no hole point and no region point
+pub weights_folded : (folded : List ℕ) (raw complex : Complex) → complex ≡ folded_complex folded raw → HasWeights raw → HasWeights complex
+weights_folded folded raw complex e h = subst HasWeights (sym e) (record { holes = h.holes; regions = h.regions; facet_holes = h.facet_holes })
 
 -- ---- what is written of the mesh
 
 -- decimals are no part of what a point list has to be
 pub light : {table : NodeTable} → IsNodeTable table → IsNodeTable (without_decimals table)
-light t = record { attributes = t.attributes; markers = t.markers; halvings = t.halvings }
+light t = record { attributes = t.attributes; markers = t.markers; halvings = t.halvings; folded = t.folded }
+
+-- corners of tetrahedra on points have names, where there is one for each point
+named : (ps : List Point) (names : List ℕ) (rows : List Tet) → length names ≡ length ps → All (λ t. IsOn ps t × IsPositive (corners ps t) × IsArranged t) rows → All (λ t. AreNamed names (numbers t)) rows
+named ps names rows long on = λ k d l. subst (λ n. All (λ i. i < n) (numbers (get_or rows k d))) (sym long) (on k d l).0
+
+-- the mesh of points alone can be written
+pub points_writable : (options : Options) (bound : Bound) → IsMeshableBound options bound → IsWritable (mesh_of_points bound.table)
+points_writable options bound b =
+    let ps = bound.table.points in
+    let few = b.few in
+    let long = names_with_long bound.table 0 b.table.folded in record {
+      table = light b.table;
+      few = omega arith;
+      named = named ps (names_with bound.table 0) (delaunay_rows ps) (omega arith) (law_hull_mesh ps (delaunay_rows ps) (law_delaunay_list ps)).positive;
+      met = λ k d l. absurd (omega (arith, l));
+      there = λ k d l. absurd (omega (arith, l));
+      marks_long = tt;
+      marks_there = tt;
+    }
 
 -- the mesh of a complex can be written
 pub writable : (options : Options) (bound : Bound) (made : ComplexMesh) → IsMeshableBound options bound → options.budget ≤ 100000
     → IsComplexMesh (mesh_options options bound.table) bound.table.points bound.complex made → IsWritable (mesh_of_complex bound made)
 writable options bound made b budget m =
-    let all = (added bound.table.grid.halvings made.points m.rest options.budget bound.table.points (input_pieces bound.table.points bound.complex) m.protected.ends).1 in
+    let all = (added bound.table.grid.halvings made.points m.rest options.budget bound.table.points (pieces bound.table.points m.segs) m.protected.ends).1 in
     let less = length-drop (length bound.table.points) made.points in
-    let few = b.few in record {
+    let before = (added bound.table.grid.halvings made.points m.rest options.budget bound.table.points (pieces bound.table.points m.segs) m.protected.ends).0 in
+    let long = names_with_long bound.table (length made.points - length bound.table.points) b.table.folded in
+    let few = b.few in
+    let fewer = folded_few bound.table.listed bound.table.points bound.table.names bound.table.folded b.table.folded in record {
       table = light b.table;
-      few = omega (arith, all, less, few, budget);
+      few = omega (arith, all, less, few, fewer, budget);
+      named = named made.points (names_with bound.table (length made.points - length bound.table.points)) made.tetrahedra (omega (arith, long, before)) m.mesh.positive;
       met = m.faces_met;
       there = m.facets_there;
       marks_long = marks_long made.marks m.marks;
@@ -101,7 +143,7 @@ writable options bound made b budget m =
 
 -- no point is taken away
 pub begins : (options : Options) (bound : Bound) (made : ComplexMesh) → IsComplexMesh (mesh_options options bound.table) bound.table.points bound.complex made → length bound.table.points ≤ length made.points
-begins options bound made m = (added bound.table.grid.halvings made.points m.rest options.budget bound.table.points (input_pieces bound.table.points bound.complex) m.protected.ends).0
+begins options bound made m = (added bound.table.grid.halvings made.points m.rest options.budget bound.table.points (pieces bound.table.points m.segs) m.protected.ends).0
 
 drop_none : {A : Type 0} (xs : List A) → drop 0 xs ≡ xs
 drop_none xs = refl
@@ -112,10 +154,18 @@ pub of_table : (options : Options) (bound : Bound) (o : MeshOptions) (ps : List 
 of_table options bound o ps made e f m =
     subst (λ q. IsComplexMesh q bound.table.points bound.complex made) e (subst (λ qs. IsComplexMesh o qs bound.complex made) (f ∙ drop_none bound.table.points) m)
 
--- the added points are those after the given ones, and no decimals are kept
-pub with_added : (bound : Bound) (made : ComplexMesh) (table : NodeTable) (more : List Point) → table ≡ without_decimals bound.table
-    → more ≡ drop (length bound.table.points) made.points → IsWritable (mesh_of_complex bound made)
-    → IsWritable (record (mesh_of_complex bound made) { table = table; added = more })
-with_added bound made table more e f h =
-    subst (λ t. IsWritable (record (mesh_of_complex bound made) { table = t; added = more })) (sym e)
-    (subst (λ added. IsWritable (record (mesh_of_complex bound made) { added = added })) (sym f) h)
+-- so few points are added
+pub few_added : (options : Options) (bound : Bound) (made : ComplexMesh) → IsMeshableBound options bound → IsComplexMesh (mesh_options options bound.table) bound.table.points bound.complex made
+    → length (drop (length bound.table.points) made.points) ≤ 100000
+few_added options bound made b m =
+    let all = (added bound.table.grid.halvings made.points m.rest options.budget bound.table.points (pieces bound.table.points m.segs) m.protected.ends).1 in
+    let budget = b.budget in
+    omega (arith, all, budget, length-drop (length bound.table.points) made.points)
+
+-- the added points are those after the given ones, their names stand behind those of the table, and no decimals are kept
+pub with_added : (bound : Bound) (made : ComplexMesh) (table : NodeTable) (more : List Point) (names : List ℕ) → table ≡ without_decimals bound.table
+    → more ≡ drop (length bound.table.points) made.points → names ≡ names_with bound.table (length more) → record (mesh_of_complex bound made) { table = table; added = more; names = names } ≡ mesh_of_complex bound made
+with_added bound made table more names e f g =
+    let count : length more ≡ length made.points - length bound.table.points = ap (λ (xs : List Point). length xs) f ∙ length-drop (length bound.table.points) made.points in
+    let all = g ∙ ap (λ (n : ℕ). names_with bound.table n) count in
+    λ i. record (mesh_of_complex bound made) { table = e i; added = f i; names = all i }

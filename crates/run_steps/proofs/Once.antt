@@ -6,7 +6,7 @@ use Rattle.std.specs.Prelude.{◌≢◌, map}
 use Rattle.command_words.specs.Grammar.{words_fault}
 use Rattle.command_words.specs.Names.{file_name}
 use Rattle.command_words.specs.declared.options.Extension.{Extension}
-use Rattle.command_words.specs.declared.options.Extension.TheVariants.{Node, Poly, Smesh}
+use Rattle.command_words.specs.declared.options.Extension.TheVariants.{Node, Poly, Smesh, Off, Stl}
 use Rattle.command_words.specs.declared.options.Options.{Options}
 use Rattle.complex_mesh.proofs.OneAnswer.{law_one_fault, law_no_fault}
 use Rattle.complex_mesh.specs.OneAnswer.{IsForcing}
@@ -16,12 +16,14 @@ use Rattle.geo_laws.specs.Delaunay.{AreCoplanar, point}
 use Rattle.grid_coords.specs.Units.{grid_point}
 use Rattle.grid_coords.specs.declared.grid.Grid.{Grid}
 use Rattle.grid_coords.specs.declared.grid.Range.{Range}
-use Rattle.node_files.specs.Settling.{IsSettled, IsTooMany, IsOffGrid, HasTwin, most_points, rounded_points, table_of}
-use Rattle.node_files.specs.Twins.{IsFirstTwin}
+use Rattle.node_files.specs.Settling.{IsSettled, IsTooMany, IsOffGrid, most_points, rounded_points, with_text}
+use Rattle.node_files.proofs.Folds.{folded_once}
+use Rattle.node_files.specs.Folding.{IsFolded}
 use Rattle.node_files.specs.declared.node_text.NodeText.{NodeText}
 use Rattle.node_files.specs.declared.table.NodeTable.{NodeTable}
-use Rattle.plc_files.specs.Binding.{IsBound, HasManyFacets, HasLongPolygon, complex_of}
+use Rattle.plc_files.specs.Binding.{HasManyFacets, HasLongPolygon, complex_of}
 use Rattle.plc_files.specs.Checks.{corners_check}
+use Rattle.plc_files.specs.Folding.{folded_complex}
 use Rattle.plc_files.specs.Sample.{sample_of}
 use Rattle.plc_files.specs.declared.fault.PlcFault.{PlcFault}
 use Rattle.plc_files.specs.declared.fault.PlcFault.TheVariants as plc_faults
@@ -30,7 +32,7 @@ use Rattle.tet_ports.specs.Counts.{Rose}
 use Rattle.tet_ports.specs.Files.{Files}
 use Rattle.tet_text.specs.declared.fault.TextFault.{TextFault}
 use Rattle.run_steps.specs.Codes.{status_of_fault}
-use Rattle.run_steps.specs.Meshing.{grid_options, mesh_options, IsSmall, BoundAnswer, IsFlatRefusal, MeshOf, MeshAnswer, OutputsAnswer, MeshedAnswer, OutputsOfRun}
+use Rattle.run_steps.specs.Meshing.{grid_options, mesh_options, IsSmall, IsBoundOn, BoundAnswer, IsFlatRefusal, MeshOf, MeshAnswer, OutputsAnswer, MeshedAnswer, OutputsOfRun}
 use Rattle.run_steps.specs.Reading.{complex_file, points_alone, on_points, most_bytes, node_text_of, plc_text_of, IsUsage, WordsAnswer, FetchAnswer, IsBadText, TextAnswer, PointsAnswer, FormAnswer, ComplexFileAnswer, SourceAnswer, NodesAnswer, BoundedAnswer, InputOf, InputAnswer}
 use Rattle.run_steps.specs.Seen.{FolderSeen}
 use Rattle.run_steps.specs.Steps.{AndThen, IfMissing, Gives, forced_answer}
@@ -39,7 +41,7 @@ use Rattle.run_steps.specs.declared.input.Input.{Input}
 use Rattle.run_steps.specs.declared.mesh.Bound.{Bound}
 use Rattle.run_steps.specs.declared.status.LimitKind.TheVariants.{Bytes as TooLong, Points, Facets, Corners, Grid as OnGrid}
 use Rattle.run_steps.specs.declared.status.Status.{Status}
-use Rattle.run_steps.specs.declared.status.Status.TheVariants.{Done, Usage, Missing, ReadFault, BadText, Limit, Twin, Flat, NoMemory}
+use Rattle.run_steps.specs.declared.status.Status.TheVariants.{Done, Usage, Missing, ReadFault, BadText, Limit, Flat, NoMemory}
 use Rattle.run_steps.proofs.Steps.{IsDecided, IsOnce, IsSame, gives_once, if_missing_once, and_then_once, and_then_same, and_then_sure}
 
 -- ---- the words
@@ -141,6 +143,8 @@ bare_once told seen base h = if_missing_once (FormAnswer seen base Poly) (FormAn
 complex_file_once : (told : Files) (seen : FolderSeen) (base : List ℕ) (extension : Option Extension) → IsTold told seen → IsOnce (ComplexFileAnswer seen base extension)
 complex_file_once told seen base (Some Smesh) h = form_once told seen base Smesh h
 complex_file_once told seen base (Some Poly) h = form_once told seen base Poly h
+complex_file_once told seen base (Some Off) h = form_once told seen base Off h
+complex_file_once told seen base (Some Stl) h = form_once told seen base Stl h
 complex_file_once told seen base (Some Node) h = bare_once told seen base h
 complex_file_once told seen base None h = bare_once told seen base h
 
@@ -173,12 +177,11 @@ input_once told seen options h = input_of_once told seen options options.piecewi
 
 -- what the binding of an input answers
 data BoundCase (options : Options) (input : Input) (r : Result Bound Status) : Type 0 where
-  fits : (bound : Bound) → IsSettled input.nodes (grid_options options) bound.table → IsBound input.complex input.nodes.first bound.table.grid bound.complex → r ≡ Ok bound → BoundCase options input r
+  fits : (bound : Bound) → IsSettled input.nodes (grid_options options) bound.table → IsBoundOn input.complex input.nodes.first bound.table bound.complex → r ≡ Ok bound → BoundCase options input r
   many : (count : ℕ) → IsTooMany input.nodes count → r ≡ Err (Limit (Points count)) → BoundCase options input r
   facets : (count : ℕ) → length input.nodes.decimals ≤ most_points → HasManyFacets input.complex count → r ≡ Err (Limit (Facets count)) → BoundCase options input r
   corners : (line count : ℕ) → length input.nodes.decimals ≤ most_points → HasLongPolygon input.complex line count → r ≡ Err (Limit (Corners line count)) → BoundCase options input r
   off : (line : ℕ) → IsSmall input.complex → IsOffGrid input.nodes (grid_options options) line → r ≡ Err (Limit (OnGrid line)) → BoundCase options input r
-  equal : (i j : ℕ) → IsSmall input.complex → HasTwin input.nodes (grid_options options) i j → r ≡ Err (Twin i j) → BoundCase options input r
 
 bound_case : (options : Options) (input : Input) (r : Result Bound Status) → IsDecided r → BoundAnswer options input r → BoundCase options input r
 bound_case options input (Ok bound) n h = fits bound h.0 h.1 refl
@@ -186,7 +189,6 @@ bound_case options input (Err (Limit (Points count))) n h = many count h refl
 bound_case options input (Err (Limit (Facets count))) n h = facets count h.0 h.1 refl
 bound_case options input (Err (Limit (Corners line count))) n h = corners line count h.0 h.1 refl
 bound_case options input (Err (Limit (OnGrid line))) n h = off line h.0 h.1 refl
-bound_case options input (Err (Twin i j)) n h = equal i j h.0 h.1 refl
 bound_case options input (Err NoMemory) n h = absurd (n refl)
 bound_case options input (Err s) n h = absurd h
 
@@ -212,90 +214,64 @@ off_same line other e = ap line_of e
 grid_same : (g h : Grid) → on_grid g ≡ on_grid h → g ≡ h
 grid_same g h e = cc
 
--- two numbers of which none is less than the other
-least_is : (i k : ℕ) → (i < k → ⊥) → (k < i → ⊥) → i ≡ k
-least_is i k a b = go (cases_order i k)
-  where
-    go : (i ≡ k) ⊎ ((i < k) ⊎ (k < i)) → i ≡ k
-    go (inl e) = e
-    go (inr (inl h)) = absurd (a h)
-    go (inr (inr h)) = absurd (b h)
-
--- the first twin of a list is one
-twin_same : (ps : List Point) (i j k l : ℕ) → IsFirstTwin ps i j → IsFirstTwin ps k l → (i ≡ k) × (j ≡ l)
-twin_same ps i j k l a b =
-    let seconds = least_is j l (λ less. b.second_least i j a.earlier less a.equal) (λ less. a.second_least k l b.earlier less b.equal) in
-    let there = subst (λ n. point ps k ≡ point ps n) (sym seconds) b.equal in
-    let least = subst (λ n. (m : ℕ) → m < k → point ps m ≢ point ps n) (sym seconds) b.first_least in
-    (least_is i k (λ less. least i less a.equal) (λ less. a.first_least k less there), seconds)
-
-twins_same : (options : Options) (text : NodeText) (i j k l : ℕ) → HasTwin text (grid_options options) i j → HasTwin text (grid_options options) k l → (i ≡ k) × (j ≡ l)
-twins_same options text i j k l a b =
-    let g = grid_same a.grid b.grid (sym a.on.on ∙ b.on.on) in
-    twin_same (map (grid_point b.grid) (rounded_points options.decimals text.decimals)) i j k l
-    (subst (λ grid. IsFirstTwin (map (grid_point grid) (rounded_points options.decimals text.decimals)) i j) g a.twin) b.twin
-
--- points that are distinct on their grid have no twin there
-settled_no_twin : (options : Options) (text : NodeText) (table : NodeTable) (i j : ℕ) → IsSettled text (grid_options options) table → HasTwin text (grid_options options) i j → ⊥
-settled_no_twin options text table i j a b =
-    let g = grid_same table.grid b.grid (sym a.on.on ∙ b.on.on) in
-    let points : table.points ≡ map (grid_point b.grid) (rounded_points options.decimals text.decimals) =
-    ap (λ (t : NodeTable). t.points) a.is ∙ ap (λ (grid : Grid). map (grid_point grid) (rounded_points options.decimals text.decimals)) g in
-    let t = subst (λ ps. IsFirstTwin ps i j) (sym points) b.twin in
-    a.distinct i j t.earlier t.listed t.equal
-
+-- the points of a text are folded on their grid in one way
 tables_same : (options : Options) (text : NodeText) (t u : NodeTable) → IsSettled text (grid_options options) t → IsSettled text (grid_options options) u → t ≡ u
 tables_same options text t u a b =
+    let ps = rounded_points options.decimals text.decimals in
     let g = grid_same t.grid u.grid (sym a.on.on ∙ b.on.on) in
-    a.is ∙ ap (λ (grid : Grid). table_of text (rounded_points options.decimals text.decimals) grid) g ∙ sym b.is
+    let listed : t.listed ≡ u.listed = ap (λ (v : NodeTable). v.listed) a.is ∙ ap (λ (grid : Grid). map (grid_point grid) ps) g ∙ sym (ap (λ (v : NodeTable). v.listed) b.is) in
+    let one = folded_once t.listed t.points u.points t.names u.names t.folded u.folded a.folded (subst (λ ls. IsFolded ls u.points u.names u.folded) (sym listed) b.folded) in
+    let same : with_text text ps t ≡ with_text text ps u = λ i. record {
+      first = text.first;
+      attribute_count = text.attribute_count;
+      flag = text.flag;
+      decimals = ps;
+      attributes = text.attributes;
+      markers = text.markers;
+      grid = g i;
+      listed = map (grid_point (g i)) ps;
+      points = one.0 i;
+      names = one.1 i;
+      folded = one.2 i;
+    } in
+    a.is ∙ same ∙ sym b.is
 
 corners_same : (i j k l : ℕ) → long_at i j ≡ long_at k l → corners_refused i j ≡ corners_refused k l
 corners_same i j k l e = cc
 
 bounds_same : (options : Options) (input : Input) (t u : Bound) → IsSettled input.nodes (grid_options options) t.table → IsSettled input.nodes (grid_options options) u.table
-    → IsBound input.complex input.nodes.first t.table.grid t.complex → IsBound input.complex input.nodes.first u.table.grid u.complex → t ≡ u
+    → IsBoundOn input.complex input.nodes.first t.table t.complex → IsBoundOn input.complex input.nodes.first u.table u.complex → t ≡ u
 bounds_same options input t u a b p q =
     let tables = tables_same options input.nodes t.table u.table a b in
-    let complexes = p.is ∙ ap (λ (table : NodeTable). complex_of input.nodes.first table.grid input.complex) tables ∙ sym q.is in
+    let complexes = p.is ∙ ap (λ (table : NodeTable). folded_complex table.folded (complex_of input.nodes.first table.grid input.complex)) tables ∙ sym q.is in
     λ i. record { table = tables i; complex = complexes i }
 
 bound_same : (options : Options) (input : Input) (r s : Result Bound Status) → BoundCase options input r → BoundCase options input s → r ≡ s
 bound_same options input r s (fits t a p e) (fits u b q h) = e ∙ ap (λ x. Ok x) (bounds_same options input t u a b p q) ∙ sym h
 bound_same options input r s (fits t a p e) (many d b h) = let v = a.on.few in let w = b.many in absurd (omega arith)
-bound_same options input r s (fits t a p e) (facets d g b h) = let v = b.many in let w = p.few in absurd (omega arith)
-bound_same options input r s (fits t a p e) (corners m d g b h) = let v = b.long in let w = p.short in absurd (cc)
+bound_same options input r s (fits t a p e) (facets d g b h) = let v = b.many in let w = p.small.few in absurd (omega arith)
+bound_same options input r s (fits t a p e) (corners m d g b h) = let v = b.long in let w = p.small.short in absurd (cc)
 bound_same options input r s (fits t a p e) (off m y b h) = let v = a.on.on in let w = b.off in absurd (cc)
-bound_same options input r s (fits t a p e) (equal k q y b h) = absurd (settled_no_twin options input.nodes t.table k q a b)
 bound_same options input r s (many c a e) (fits u b q h) = let v = a.many in let w = b.on.few in absurd (omega arith)
 bound_same options input r s (many c a e) (many d b h) = e ∙ ap (λ x. Err (Limit (Points x))) (a.counted ∙ sym b.counted) ∙ sym h
 bound_same options input r s (many c a e) (facets d g b h) = let v = a.many in let w = g in absurd (omega arith)
 bound_same options input r s (many c a e) (corners m d g b h) = let v = a.many in let w = g in absurd (omega arith)
 bound_same options input r s (many c a e) (off m y b h) = let v = a.many in let w = b.few in absurd (omega arith)
-bound_same options input r s (many c a e) (equal k q y b h) = let v = a.many in let w = b.on.few in absurd (omega arith)
-bound_same options input r s (facets c f a e) (fits u b q h) = let v = a.many in let w = q.few in absurd (omega arith)
+bound_same options input r s (facets c f a e) (fits u b q h) = let v = a.many in let w = q.small.few in absurd (omega arith)
 bound_same options input r s (facets c f a e) (many d b h) = let v = f in let w = b.many in absurd (omega arith)
 bound_same options input r s (facets c f a e) (facets d g b h) = e ∙ ap (λ x. Err (Limit (Facets x))) (a.counted ∙ sym b.counted) ∙ sym h
 bound_same options input r s (facets c f a e) (corners m d g b h) = let v = a.many in let w = b.few in absurd (omega arith)
 bound_same options input r s (facets c f a e) (off m y b h) = let v = a.many in let w = y.few in absurd (omega arith)
-bound_same options input r s (facets c f a e) (equal k q y b h) = let v = a.many in let w = y.few in absurd (omega arith)
-bound_same options input r s (corners l c f a e) (fits u b q h) = let v = a.long in let w = q.short in absurd (cc)
+bound_same options input r s (corners l c f a e) (fits u b q h) = let v = a.long in let w = q.small.short in absurd (cc)
 bound_same options input r s (corners l c f a e) (many d b h) = let v = f in let w = b.many in absurd (omega arith)
 bound_same options input r s (corners l c f a e) (facets d g b h) = let v = b.many in let w = a.few in absurd (omega arith)
 bound_same options input r s (corners l c f a e) (corners m d g b h) = e ∙ corners_same l c m d (sym a.long ∙ b.long) ∙ sym h
 bound_same options input r s (corners l c f a e) (off m y b h) = let v = a.long in let w = y.short in absurd (cc)
-bound_same options input r s (corners l c f a e) (equal k q y b h) = let v = a.long in let w = y.short in absurd (cc)
 bound_same options input r s (off l z a e) (fits u b q h) = let v = a.off in let w = b.on.on in absurd (cc)
 bound_same options input r s (off l z a e) (many d b h) = let v = a.few in let w = b.many in absurd (omega arith)
 bound_same options input r s (off l z a e) (facets d g b h) = let v = b.many in let w = z.few in absurd (omega arith)
 bound_same options input r s (off l z a e) (corners m d g b h) = let v = b.long in let w = z.short in absurd (cc)
 bound_same options input r s (off l z a e) (off m y b h) = e ∙ ap (λ x. Err (Limit (OnGrid x))) (off_same l m (sym a.off ∙ b.off)) ∙ sym h
-bound_same options input r s (off l z a e) (equal k q y b h) = let v = a.off in let w = b.on.on in absurd (cc)
-bound_same options input r s (equal i j z a e) (fits u b q h) = absurd (settled_no_twin options input.nodes u.table i j b a)
-bound_same options input r s (equal i j z a e) (many d b h) = let v = a.on.few in let w = b.many in absurd (omega arith)
-bound_same options input r s (equal i j z a e) (facets d g b h) = let v = b.many in let w = z.few in absurd (omega arith)
-bound_same options input r s (equal i j z a e) (corners m d g b h) = let v = b.long in let w = z.short in absurd (cc)
-bound_same options input r s (equal i j z a e) (off m y b h) = let v = a.on.on in let w = b.off in absurd (cc)
-bound_same options input r s (equal i j z a e) (equal k q y b h) = let w = twins_same options input.nodes i j k q a b in e ∙ (λ x. Err (Twin (w.0 x) (w.1 x))) ∙ sym h
 
 pub bound_once : (options : Options) (input : Input) → IsOnce (BoundAnswer options input)
 bound_once options input r s n m h k = bound_same options input r s (bound_case options input r n h) (bound_case options input s m k)
@@ -342,8 +318,8 @@ mesh_of_same options bound true (Err s) (Err t) n m h k =
     let want = no_want h.0 s h.1 n in
     let wants = no_want k.0 t k.1 m in
     ap forced_answer h.1
-    ∙ beside_fault h.0 k.0 want wants (λ f. law_one_fault bound.table.grid.halvings options.budget bound.table.points bound.complex h.0 k.0 f wants h.2 k.2)
-    (λ f. law_one_fault bound.table.grid.halvings options.budget bound.table.points bound.complex k.0 h.0 f want k.2 h.2) ∙ sym (ap forced_answer k.1)
+    ∙ beside_fault h.0 k.0 want wants (λ f. law_one_fault (mesh_options options bound.table) bound.table.points bound.complex h.0 k.0 f wants h.2 k.2)
+    (λ f. law_one_fault (mesh_options options bound.table) bound.table.points bound.complex k.0 h.0 f want k.2 h.2) ∙ sym (ap forced_answer k.1)
 
 -- ---- the run
 

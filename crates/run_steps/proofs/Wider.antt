@@ -2,7 +2,7 @@
 use Rattle.std.proofs.Common.{◌≡◌, ◌≤◌, inl, inr, ℕ, Bool, true, false, List, Option, Some, None, Result, Ok, Err, subst, arith}
 use Rattle.command_words.specs.Names.{file_name}
 use Rattle.command_words.specs.declared.options.Extension.{Extension}
-use Rattle.command_words.specs.declared.options.Extension.TheVariants.{Node, Poly, Smesh}
+use Rattle.command_words.specs.declared.options.Extension.TheVariants.{Node, Poly, Smesh, Off, Stl}
 use Rattle.command_words.specs.declared.options.Options.{Options}
 use Rattle.node_files.specs.declared.node_text.NodeText.{NodeText}
 use Rattle.tet_ports.specs.Counts.{Rose}
@@ -63,6 +63,8 @@ module _ (part wide : FolderSeen) (w : IsWithin part wide) where
   file_wider : (base : List ℕ) (extension : Option Extension) (r : Result ComplexFile Status) → ComplexFileAnswer part base extension r → ComplexFileAnswer wide base extension r
   file_wider base (Some Smesh) = form_wider base Smesh
   file_wider base (Some Poly) = form_wider base Poly
+  file_wider base (Some Off) = form_wider base Off
+  file_wider base (Some Stl) = form_wider base Stl
   file_wider base (Some Node) = bare_wider base
   file_wider base None = bare_wider base
 

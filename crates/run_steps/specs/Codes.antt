@@ -3,7 +3,7 @@ use Rattle.std.specs.Prelude.{ℕ}
 use Rattle.complex_mesh.specs.declared.fault.MeshFault.{MeshFault}
 use Rattle.complex_mesh.specs.declared.fault.MeshFault.TheVariants as fault
 use Rattle.run_steps.specs.declared.status.Status.{Status}
-use Rattle.run_steps.specs.declared.status.Status.TheVariants.{Done, Usage, Missing, ReadFault, BadText, Limit, Twin, Flat, NotFlat, SegmentsCross, Crossing, GridEnd, BudgetEnd, NoFill, NoMemory, WriteFault}
+use Rattle.run_steps.specs.declared.status.Status.TheVariants.{Done, Usage, Missing, ReadFault, BadText, Limit, Flat, NotFlat, SegmentsCross, Crossing, GridEnd, BudgetEnd, NoFill, NoMemory, WriteFault, Unsound}
 
 abbrev pub code_of : Status → ℕ
 code_of Done = 0
@@ -12,7 +12,6 @@ code_of (Missing name) = 2
 code_of (ReadFault name) = 3
 code_of (BadText name fault) = 4
 code_of (Limit what) = 5
-code_of (Twin first second) = 6
 code_of Flat = 6
 code_of (NotFlat facet four) = 6
 code_of (SegmentsCross one two) = 6
@@ -22,6 +21,7 @@ code_of (BudgetEnd made piece) = 8
 code_of (NoFill anomaly) = 9
 code_of NoMemory = 10
 code_of (WriteFault name) = 11
+code_of (Unsound defect first) = 13
 
 abbrev pub status_of_fault : MeshFault → Status
 status_of_fault fault.Flat = Flat

@@ -1,5 +1,6 @@
 pub mod Codes
 pub mod Meshing
+pub mod Numbering
 pub mod Messages
 pub mod Outputs
 pub mod Reading

@@ -1,19 +1,21 @@
 -- What a run makes of its input.
-use Rattle.std.specs.Prelude.{◌≡◌, ◌≤◌, ℕ, Bool, true, false, List, [], length, drop, None, Result, Ok, Err}
+use Rattle.std.specs.Prelude.{◌≡◌, ◌-◌, ◌≤◌, ℕ, Bool, true, false, List, [], length, drop, None, Result, Ok, Err}
 use Rattle.command_words.specs.declared.options.Options.{Options}
 use Rattle.complex_mesh.specs.Meshing.{IsComplexMesh, IsMeshFault}
 use Rattle.complex_mesh.specs.Protection.{IsMeshable}
 use Rattle.complex_mesh.specs.declared.fault.MeshFault.{MeshFault}
 use Rattle.complex_mesh.specs.declared.mesh.ComplexMesh.{ComplexMesh}
 use Rattle.complex_mesh.specs.declared.mesh.MeshOptions.{MeshOptions}
-use Rattle.geo_laws.specs.Complex.{empty_complex}
+use Rattle.geo_laws.specs.Complex.{Complex, empty_complex}
 use Rattle.geo_laws.specs.Delaunay.{AreCoplanar, delaunay_rows}
-use Rattle.node_files.specs.Settling.{IsSettled, IsTooMany, IsOffGrid, HasTwin, most_points}
+use Rattle.node_files.specs.Folding.{names_with}
+use Rattle.node_files.specs.Settling.{IsSettled, IsTooMany, IsOffGrid, most_points}
 use Rattle.node_files.specs.Writing.{IsNodeTable}
 use Rattle.node_files.specs.declared.table.GridOptions.{GridOptions}
 use Rattle.node_files.specs.declared.table.NodeTable.{NodeTable}
-use Rattle.plc_files.specs.Binding.{IsBound, HasManyFacets, HasLongPolygon}
+use Rattle.plc_files.specs.Binding.{complex_of, HasManyFacets, HasLongPolygon}
 use Rattle.plc_files.specs.Checks.{most_facets, sizes_check}
+use Rattle.plc_files.specs.Folding.{folded_complex}
 use Rattle.plc_files.specs.Text.{Plc}
 use Rattle.run_steps.specs.Codes.{status_of_fault}
 use Rattle.run_steps.specs.Outputs.{AreOutputsOf}
@@ -27,7 +29,7 @@ use Rattle.run_steps.specs.declared.meshed.Meshed.{Meshed}
 use Rattle.run_steps.specs.declared.outputs.Outputs.{Outputs}
 use Rattle.run_steps.specs.declared.status.LimitKind.TheVariants.{Points, Facets, Corners, Grid as OnGrid}
 use Rattle.run_steps.specs.declared.status.Status.{Status}
-use Rattle.run_steps.specs.declared.status.Status.TheVariants.{Limit, Twin, Flat, NoMemory}
+use Rattle.run_steps.specs.declared.status.Status.TheVariants.{Limit, Flat, NoMemory}
 
 -- ---- the grid
 
@@ -46,14 +48,18 @@ IsUnbound options input (Limit (Points count)) = IsTooMany input.nodes count
 IsUnbound options input (Limit (Facets count)) = (length input.nodes.decimals ≤ most_points) × HasManyFacets input.complex count
 IsUnbound options input (Limit (Corners line count)) = (length input.nodes.decimals ≤ most_points) × HasLongPolygon input.complex line count
 IsUnbound options input (Limit (OnGrid line)) = IsSmall input.complex × IsOffGrid input.nodes (grid_options options) line
-IsUnbound options input (Twin first second) = IsSmall input.complex × HasTwin input.nodes (grid_options options) first second
 IsUnbound options input NoMemory = Unit {0}
 IsUnbound options input status = ⊥
 
--- the points and the complex on their grid
+-- a complex that is over no limit, on the points of a table, where its corners name the points that are kept
+pub record IsBoundOn (text : Plc) (first : ℕ) (table : NodeTable) (complex : Complex) : Type 0 where
+  pub small : IsSmall text
+  pub is : complex ≡ folded_complex table.folded (complex_of first table.grid text)
+
+-- the points on their grid, where equal ones are folded, and the complex on them
 abbrev pub BoundAnswer : Options → Input → Result Bound Status → Type 0
 BoundAnswer options input (Ok bound) =
-    IsSettled input.nodes (grid_options options) bound.table × IsBound input.complex input.nodes.first bound.table.grid bound.complex
+    IsSettled input.nodes (grid_options options) bound.table × IsBoundOn input.complex input.nodes.first bound.table bound.complex
 BoundAnswer options input (Err status) = IsUnbound options input status
 
 -- ---- the mesh
@@ -68,6 +74,7 @@ mesh_of_points table = record {
   table = without_decimals table;
   added = [];
   points = table.points;
+  names = names_with table 0;
   complex = empty_complex;
   triangles = [];
   tetrahedra = delaunay_rows table.points;
@@ -80,6 +87,7 @@ mesh_options options table = record {
   halvings = table.grid.halvings;
   budget = options.budget;
   keep_hull = options.keep_hull;
+  keep_facets = false;
   regions = options.regions;
 }
 
@@ -89,6 +97,7 @@ mesh_of_complex bound made = record {
   table = without_decimals bound.table;
   added = drop (length bound.table.points) made.points;
   points = made.points;
+  names = names_with bound.table (length made.points - length bound.table.points);
   complex = bound.complex;
   triangles = made.triangles;
   tetrahedra = made.tetrahedra;
@@ -105,7 +114,7 @@ IsFlatRefusal bound status = ⊥
 abbrev pub IsUnmeshed : Options → Bound → Status → Type 0
 IsUnmeshed options bound status =
     (fault : MeshFault) × (status ≡ status_of_fault fault)
-    × IsMeshFault bound.table.grid.halvings options.budget bound.table.points bound.complex fault
+    × IsMeshFault (mesh_options options bound.table) bound.table.points bound.complex fault
 
 -- the mesh of points alone, or of a complex
 abbrev pub MeshOf : Bool → Options → Bound → Result Meshed Status → Type 0
@@ -151,6 +160,6 @@ IsOverLimit text status = ⊥
 -- what the mesh is made of
 pub record IsMeshableBound (options : Options) (bound : Bound) : Type 0 where
   pub table : IsNodeTable bound.table
-  pub few : length bound.table.points ≤ most_points
+  pub few : length bound.table.listed ≤ most_points
   pub budget : options.budget ≤ 100000
   pub meshable : IsMeshable bound.table.grid.halvings options.budget bound.table.points bound.complex

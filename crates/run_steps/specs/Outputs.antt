@@ -1,13 +1,13 @@
 -- The files and the summary of a mesh.
 use Rattle.std.specs.Prelude.{◌≡◌, ℕ, ◌+◌, ◌<◌, ◌^◌, Bool, true, false, ◌||◌, ◌&&◌, not, List, [], ◌∷◌, ◌++◌, length, All, AllPairs, Option, Some, None, IfSome, codes, if◌then◌else◌}
 use Rattle.std.specs.Fmt.{decimal}
-use Rattle.geo_laws.specs.Delaunay.{RowBefore}
+use Rattle.geo_laws.specs.Delaunay.{numbers, RowBefore}
 use Rattle.geo_laws.specs.Faces.{AreFacesOf, AreHullFacesOf, AreSidesOf}
 use Rattle.geo_laws.specs.declared.faces.Face.{Face}
 use Rattle.geo_laws.specs.declared.faces.Side.{Side}
 use Rattle.incidence.specs.Pairs.{pairs_of}
 use Rattle.mesh_files.specs.FaceRows.{AreFaceRowsOf, AreFacesMet, AreFacetsThere}
-use Rattle.mesh_files.specs.Texts.{ele_text_of, face_text, edge_text, neigh_text}
+use Rattle.mesh_files.specs.Texts.{ele_text_of, face_text, edge_text, neigh_text, AreNamed}
 use Rattle.mesh_files.specs.declared.markers.FaceRow.{FaceRow}
 use Rattle.node_files.specs.Writing.{node_text, IsNodeTable}
 use Rattle.run_steps.specs.Messages.{file_message}
@@ -39,15 +39,15 @@ node_file options mesh =
 abbrev pub ele_file : Options → Meshed → Option NamedText
 ele_file options mesh =
     if options.no_ele then None
-    else Some (named options.base (codes ".1.ele") (ele_text_of mesh.marks mesh.complex.regions (first_of options mesh) mesh.tetrahedra))
+    else Some (named options.base (codes ".1.ele") (ele_text_of mesh.marks mesh.complex.regions mesh.names (first_of options mesh) mesh.tetrahedra))
 
 abbrev pub face_file : Options → Meshed → List FaceRow → Option NamedText
 face_file options mesh faces =
-    if options.no_face then None else Some (named options.base (codes ".1.face") (face_text (first_of options mesh) faces))
+    if options.no_face then None else Some (named options.base (codes ".1.face") (face_text mesh.names (first_of options mesh) faces))
 
 abbrev pub edge_file : Options → Meshed → List Side → Option NamedText
 edge_file options mesh sides =
-    if options.no_face || not options.edges then None else Some (named options.base (codes ".1.edge") (edge_text (first_of options mesh) sides))
+    if options.no_face || not options.edges then None else Some (named options.base (codes ".1.edge") (edge_text mesh.names (first_of options mesh) sides))
 
 abbrev pub neigh_file : Options → Meshed → Option NamedText
 neigh_file options mesh =
@@ -57,7 +57,7 @@ neigh_file options mesh =
 -- `points P added A tetrahedra T faces F edges E`, for so many faces and edges
 abbrev pub summary_text : Meshed → ℕ → ℕ → List ℕ
 summary_text mesh faces edges =
-    codes "points " ++ decimal (length mesh.table.points) ++ codes " added " ++ decimal (length mesh.added)
+    codes "points " ++ decimal (length mesh.table.listed) ++ codes " added " ++ decimal (length mesh.added)
     ++ codes " tetrahedra " ++ decimal (length mesh.tetrahedra) ++ codes " faces " ++ decimal faces ++ codes " edges " ++ decimal edges ++ (10 ∷ [])
 
 abbrev pub summary_of : Options → Meshed → ℕ → ℕ → Option (List ℕ)
@@ -77,11 +77,12 @@ asks_uses options = not options.quiet || (not options.no_face || options.neighbo
 
 -- ---- the outputs
 
--- A mesh that can be written: its triangles are met by the faces of its tetrahedra and are of facets of the complex, and its marks, where it has
+-- A mesh that can be written: each corner of a tetrahedron has a name, its triangles are met by the faces of its tetrahedra and are of facets of the complex, and its marks, where it has
 -- some, are one for each tetrahedron, of regions of the complex
 pub record IsWritable (mesh : Meshed) : Type 0 where
   pub table : IsNodeTable mesh.table
-  pub few : length mesh.table.points + length mesh.added < 2 ^ 32
+  pub few : length mesh.table.listed + length mesh.added < 2 ^ 32
+  pub named : All (λ t. AreNamed mesh.names (numbers t)) mesh.tetrahedra
   pub met : AreFacesMet mesh.points mesh.triangles mesh.tetrahedra
   pub there : AreFacetsThere mesh.triangles mesh.complex
   pub marks_long : IfSome mesh.marks (λ marks. length marks ≡ length mesh.tetrahedra)

@@ -5,7 +5,7 @@ use Rattle.command_words.specs.Meaning.{options_of}
 use Rattle.command_words.specs.Names.{file_name}
 use Rattle.command_words.specs.declared.options.Options.{Options}
 use Rattle.command_words.specs.declared.options.Extension.{Extension}
-use Rattle.command_words.specs.declared.options.Extension.TheVariants.{Node, Poly, Smesh}
+use Rattle.command_words.specs.declared.options.Extension.TheVariants.{Node, Poly, Smesh, Off, Stl}
 use Rattle.tet_ports.specs.Counts.{Rose}
 use Rattle.tet_ports.specs.Files.{Files, Holds, IsAbsent}
 use Rattle.tet_text.specs.Lines.{content_lines, line_count_of}
@@ -18,6 +18,8 @@ use Rattle.plc_files.specs.Sample.{sample_of}
 use Rattle.plc_files.specs.Text.{Plc, plc_with}
 use Rattle.plc_files.specs.declared.form.Form.{Form}
 use Rattle.plc_files.specs.declared.form.Form.TheVariants as form
+use Rattle.soup_files.specs.Off.{off_of}
+use Rattle.soup_files.specs.Stl.{stl_of}
 use Rattle.run_steps.specs.Seen.{FolderSeen}
 use Rattle.run_steps.specs.Steps.{AndThen, IfMissing, Gives}
 use Rattle.run_steps.specs.declared.input.ComplexFile.{ComplexFile}
@@ -89,13 +91,15 @@ PointsAnswer seen base = AndThen (FetchAnswer seen (file_name base Node)) (λ by
 
 -- ---- complexes
 
--- the form of a complex by the extension of its file
+-- the form of a `.poly` or `.smesh` file by its extension
 abbrev pub form_of : Extension → Form
 form_of Smesh = form.Smesh
 form_of extension = form.Poly
 
 -- the complex that the bytes of a file spell, or the first fault
 abbrev pub plc_text_of : Extension → List ℕ → Result Plc TextFault
+plc_text_of Off bytes = off_of (line_count_of bytes) (content_lines bytes)
+plc_text_of Stl bytes = stl_of (line_count_of bytes) (content_lines bytes)
 plc_text_of extension bytes = plc_of (form_of extension) (line_count_of bytes) (content_lines bytes)
 
 -- a complex and the name of its file
@@ -112,6 +116,8 @@ FormAnswer seen base extension =
 abbrev pub ComplexFileAnswer : FolderSeen → List ℕ → Option Extension → Result ComplexFile Status → Type 0
 ComplexFileAnswer seen base (Some Smesh) = FormAnswer seen base Smesh
 ComplexFileAnswer seen base (Some Poly) = FormAnswer seen base Poly
+ComplexFileAnswer seen base (Some Off) = FormAnswer seen base Off
+ComplexFileAnswer seen base (Some Stl) = FormAnswer seen base Stl
 ComplexFileAnswer seen base extension = IfMissing (FormAnswer seen base Poly) (FormAnswer seen base Smesh)
 
 -- the sample, which has no file, or the complex of a file

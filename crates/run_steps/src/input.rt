@@ -13,6 +13,7 @@ use crate::status::{LimitKind, Status};
 use command_words::{Extension, Options, file_name};
 use node_files::{NodeFault, NodeText, read_node};
 use plc_files::{PlcFault, PlcText, check_corners, read_poly, read_smesh, sample};
+use soup_files::{read_ascii_stl, read_off};
 use std::alloc::Global;
 use tet_ports::{Bytes, FetchFault, Folder, Name};
 
@@ -145,6 +146,8 @@ fn read_complex_file<F: Folder>(
     match extension {
         Some(Extension::Smesh) => read_form(alloc, base, Extension::Smesh, folder),
         Some(Extension::Poly) => read_form(alloc, base, Extension::Poly, folder),
+        Some(Extension::Off) => read_form(alloc, base, Extension::Off, folder),
+        Some(Extension::Stl) => read_form(alloc, base, Extension::Stl, folder),
         Some(Extension::Node) => read_bare(alloc, base, folder),
         None => read_bare(alloc, base, folder),
     }
@@ -278,6 +281,8 @@ fn complex_of(alloc: Global, extension: Extension, file: Fetched) -> Result<Comp
     let Fetched { name, bytes } = file;
     let read = match extension {
         Extension::Smesh => read_smesh(alloc, &bytes),
+        Extension::Off => read_off(alloc, &bytes),
+        Extension::Stl => read_ascii_stl(alloc, &bytes),
         _ => read_poly(alloc, &bytes),
     };
     bytes.let_go();

@@ -5,13 +5,15 @@ mod input;
 mod mesh;
 mod meshed;
 mod messages;
+mod numbering;
 mod outputs;
 mod status;
 mod store;
 
 pub use input::{Input, read_input};
-pub use mesh::mesh_input;
+pub use mesh::{Bound, bind_input, mesh_outputs};
 pub use messages::{OUT_OF_MEMORY, SUMMARY_FAILED, append_number, message};
+pub use numbering::{Numbering, numbering_of};
 pub use outputs::Outputs;
 pub use status::{LimitKind, Status};
 pub use store::{NamedText, StoreStop, Texts, store_all};

@@ -7,7 +7,8 @@ ghost use Rattle.geo_laws.specs.Faces.{AreHullFacesOf};
 ghost use Rattle.node_files.specs.Writing.{IsNodeTable};
 ghost use Rattle.plc_files.specs.Binding.{IsBound, HasCornersBelow, HasWeights};
 ghost use Rattle.plc_files.specs.Checks.{corners_check, HasFewParts};
-ghost use Rattle.run_steps.specs.Meshing.{grid_options, mesh_options, IsSmall, IsOverLimit, IsMeshableBound, BoundAnswer, IsFlatRefusal, mesh_in, without_decimals, MeshOf, MeshAnswer, OutputsAnswer, MeshedAnswer};
+ghost use Rattle.run_steps.specs.Meshing.{grid_options, mesh_options, IsSmall, IsOverLimit, IsMeshableBound, BoundAnswer, IsFlatRefusal, mesh_in, without_decimals, IsBoundOn, MeshOf, MeshAnswer, OutputsAnswer};
+ghost use Rattle.run_steps.specs.Steps.{AndThen};
 ghost use Rattle.run_steps.specs.Outputs.{IsWritable, IsHullOf};
 ghost use Rattle.run_steps.specs.Reading.{IsSound};
 
@@ -21,8 +22,8 @@ use complex_mesh::{ComplexMesh, MeshOptions, mesh_complex};
 use geo_laws::{Complex, FacetTriangles, Points, TetList};
 use grid_coords::{DecimalPoints, Grid};
 use mesh_files::Faces;
-use node_files::{GridOptions, NodeFault, NodeTable, settle};
-use plc_files::{PlcFault, PlcText, bind};
+use node_files::{GridOptions, NodeFault, NodeTable, names_of, settle};
+use plc_files::{PlcFault, PlcText, bind, fold};
 use std::alloc::Global;
 use std::mem;
 use tet_ports::NoMemory;
@@ -34,14 +35,12 @@ pub struct Bound {
     pub complex: Complex,
 }
 
-/// The files and the summary of the mesh of an input. It refuses with the first in this order: a limit on what is in the input, equal points, all
-/// points in one plane, and of a complex what `mesh_complex` refuses; or for want of memory.
-pub fn mesh_input(alloc: Global, options: &Options, input: Input) -> Result<Outputs, Status>
-    requires input { IsSound input }
-    requires ranges { AreInRange options.now }
-    ensures { MeshedAnswer options.now input result }
+/// The files and the summary of the mesh of points, or of a complex. It refuses with the first in this order: all points in one plane, and of a
+/// complex what `mesh_complex` refuses; or for want of memory.
+pub fn mesh_outputs(alloc: Global, options: &Options, bound: Bound) -> Result<Outputs, Status>
+    requires { IsMeshableBound options.now bound }
+    ensures { AndThen (MeshAnswer options.now bound) (OutputsAnswer options.now) result }
 {
-    let bound = bind_input(alloc, options, input)?;
     let made = mesh_bound(alloc, options, bound)?;
     write_out(alloc, options, &made)
 }
@@ -56,8 +55,9 @@ fn grid_options(options: &Options) -> GridOptions
     }
 }
 
-/// The points and the complex on their grid.
-fn bind_input(alloc: Global, options: &Options, input: Input) -> Result<Bound, Status>
+/// The points on their grid, where equal ones are folded, and the complex on them. It refuses with the first limit that the input is over, or for want
+/// of memory.
+pub fn bind_input(alloc: Global, options: &Options, input: Input) -> Result<Bound, Status>
     requires input { IsSound input }
     requires ranges { AreInRange options.now }
     ensures answer { BoundAnswer options.now input result }
@@ -68,7 +68,7 @@ fn bind_input(alloc: Global, options: &Options, input: Input) -> Result<Bound, S
     let count = nodes.decimals.len() as u64;
     match settle(alloc, nodes, &grid_options(options)) {
         Ok(table) => {
-            let complex = bind_complex(alloc, &complex, first, count, &table.grid)?;
+            let complex = bind_folded(alloc, &complex, first, count, &table)?;
             Ok(Bound { table, complex })
         }
         Err(NodeFault::TooMany { count }) => Err(Status::Limit {
@@ -80,13 +80,31 @@ fn bind_input(alloc: Global, options: &Options, input: Input) -> Result<Bound, S
             };
             Err(limit_before(alloc, &complex, first, count, status))
         }
-        Err(NodeFault::Twin { first: one, second }) => {
-            let status = Status::Twin { first: one, second };
-            Err(limit_before(alloc, &complex, first, count, status))
-        }
         Err(NodeFault::NoMemory) => Err(Status::NoMemory),
         Err(NodeFault::Text(_)) => unreachable!(),
     }
+}
+
+/// The complex on the points of a table, where its corners name those that are kept.
+fn bind_folded(
+    alloc: Global,
+    text: &PlcText,
+    first: u32,
+    count: u64,
+    table: &NodeTable,
+) -> Result<Complex, Status>
+    requires corners { corners_check first count text.now ≡ Ok tt }
+    requires count { count < 2 ^ 32 - 1 }
+    requires few { HasFewParts text.now }
+    requires table { IsNodeTable table.now }
+    requires listed { length table.now.listed ≡ count }
+    ensures bound { IfOk result (IsBoundOn text.now first table.now) }
+    ensures over { IfErr result (IsOverLimit text.now) }
+    ensures corners { IfOk result (HasCornersBelow (length table.now.points)) }
+    ensures weights { IfOk result HasWeights }
+{
+    let bound = bind_complex(alloc, text, first, count, &table.grid)?;
+    Ok(fold(alloc, &bound, table)?)
 }
 
 /// The complex on a grid.
@@ -160,10 +178,12 @@ fn mesh_points(alloc: Global, options: &Options, bound: Bound) -> Result<HulledM
     let ListAndHull { rows, hull } = rows_and_hull(alloc, options, &bound)?;
     let table = bound.table;
     let points = points_from(alloc, &table.points, 0)?;
+    let names = names_of(alloc, &table, 0)?;
     let mesh = Meshed {
         table: without_decimals(alloc, table),
         added: Points::new(alloc),
         points,
+        names,
         complex: Complex::new(alloc),
         triangles: FacetTriangles::new(alloc),
         tetrahedra: rows,
@@ -216,6 +236,8 @@ fn mesh_plc(alloc: Global, options: &Options, bound: Bound) -> Result<Meshed, St
     let points = points_from(alloc, &table.points, 0)?;
     let made = mesh_complex(alloc, points, &complex, &mesh_options(options, &table))?;
     let added = points_from(alloc, &made.points, table.points.len())?;
+    let more = added.len() as u32;
+    let names = names_of(alloc, &table, more)?;
     let ComplexMesh {
         points,
         triangles,
@@ -226,6 +248,7 @@ fn mesh_plc(alloc: Global, options: &Options, bound: Bound) -> Result<Meshed, St
         table: without_decimals(alloc, table),
         added,
         points,
+        names,
         complex,
         triangles,
         tetrahedra,
@@ -251,6 +274,7 @@ fn mesh_options(options: &Options, table: &NodeTable) -> MeshOptions
         halvings: table.grid.halvings,
         budget: options.budget,
         keep_hull: options.keep_hull,
+        keep_facets: false,
         regions: options.regions,
     }
 }

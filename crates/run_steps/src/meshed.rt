@@ -3,17 +3,19 @@
 use geo_laws::{Complex, FacetTriangles, Points, TetList};
 use hole_carve::Marks;
 use mesh_files::Faces;
-use node_files::NodeTable;
+use node_files::{Names, NodeTable};
 
-/// A mesh, with the points and the complex that it is one of. Points are named by their places, from 0, the added ones after those of the table.
+/// A mesh, with the points and the complex that it is one of. Points are named by their places, from 0, the added ones after the kept ones of the table.
 #[derive(Drop)]
 pub struct Meshed {
-    /// The points of the input, with their attributes and markers, and without their decimals.
+    /// The points of the input, equal ones folded, with their attributes and markers, and without their decimals.
     pub table: NodeTable,
     /// The points that were added.
     pub added: Points,
-    /// Both.
+    /// The kept points of the input and the added ones.
     pub points: Points,
+    /// For each of these points the place, from 0, by which files name it: its place in the input, and for an added one a place behind the input's points.
+    pub names: Names,
     pub complex: Complex,
     /// The triangles of the facets.
     pub triangles: FacetTriangles,

@@ -1,16 +1,19 @@
 //! The line that each refusal is told in.
 
-ghost use Rattle.std.specs.Prelude.{◌≡◌, ◌∷◌, [], ◌++◌, ◌+◌, IfOk, OnOk};
+ghost use Rattle.std.specs.Prelude.{◌≡◌, ◌∷◌, [], ◌++◌, ◌+◌, None, IfOk, OnOk};
 ghost use Rattle.std.specs.Fmt.{decimal};
 ghost use Rattle.run_steps.specs.Messages.{line, point_text, ends_text, triangle_text, tetrahedron_text, two_tetrahedra_text, facet_text, part_text, kind_text, file_message, usage_message, text_message, limit_message, message_of};
 ghost use Rattle.tangle_laws.specs.declared.anomaly.Anomaly.TheVariants.{Bare};
 ghost use Rattle.run_steps.specs.declared.status.LimitKind.TheVariants.{Corners, Grid};
-ghost use Rattle.run_steps.specs.declared.status.Status.TheVariants.{Twin, NotFlat, SegmentsCross, Crossing, GridEnd, BudgetEnd, NoFill};
+ghost use Rattle.run_steps.specs.declared.status.Status.TheVariants.{NotFlat, SegmentsCross, Crossing, GridEnd, BudgetEnd, NoFill, Unsound};
 
+use crate::numbering::{Numbering, number_of};
 use crate::status::{LimitKind, Status};
 use box_pairs::Part;
+use check_steps::defect_text;
 use geo_laws::{Face, FacetTriangle, Piece, Tet};
 use itoa::Buffer;
+use mesh_check::Defect;
 use std::alloc::Global;
 use tangle_laws::Anomaly;
 use tet_ports::{Bytes, Name, NoMemory};
@@ -22,9 +25,9 @@ pub const OUT_OF_MEMORY: &[u8] = b"tetgen: out of memory\n";
 /// The message that the summary could not be put.
 pub const SUMMARY_FAILED: &[u8] = b"tetgen: summary: write failed\n";
 
-/// The line that tells a refusal, where the input numbers its points from `from` on.
-pub fn message(alloc: Global, from: u32, status: &Status) -> Result<Bytes, NoMemory>
-    ensures { IfOk result (λ line. line ≡ message_of from status.now) }
+/// The line that tells a refusal, with the points' numbers by this numbering.
+pub fn message(alloc: Global, by: &Option<Numbering>, status: &Status) -> Result<Bytes, NoMemory>
+    ensures { IfOk result (λ line. line ≡ message_of by.now status.now) }
 {
     match status {
         Status::Done => Ok(Bytes::new(alloc)),
@@ -33,14 +36,14 @@ pub fn message(alloc: Global, from: u32, status: &Status) -> Result<Bytes, NoMem
         Status::ReadFault { name } => file_message(alloc, name, b"read failed"),
         Status::BadText { name, fault } => text_message(alloc, name, *fault),
         Status::Limit { what } => limit_message(alloc, what),
-        Status::Twin { first, second } => twin_message(alloc, from, *first, *second),
         Status::Flat => line(alloc, b"all points lie in one plane"),
-        Status::NotFlat { facet, four } => not_flat_message(alloc, from, *facet, *four),
-        Status::SegmentsCross { one, two } => segments_message(alloc, from, *one, *two),
-        Status::Crossing { one, two } => crossing_message(alloc, from, *one, *two),
-        Status::GridEnd { piece } => grid_message(alloc, from, *piece),
-        Status::BudgetEnd { made, piece } => budget_message(alloc, from, *made, *piece),
-        Status::NoFill { anomaly } => no_fill_message(alloc, from, *anomaly),
+        Status::NotFlat { facet, four } => not_flat_message(alloc, by, *facet, *four),
+        Status::SegmentsCross { one, two } => segments_message(alloc, by, *one, *two),
+        Status::Crossing { one, two } => crossing_message(alloc, by, *one, *two),
+        Status::GridEnd { piece } => grid_message(alloc, by, *piece),
+        Status::BudgetEnd { made, piece } => budget_message(alloc, by, *made, *piece),
+        Status::NoFill { anomaly } => no_fill_message(alloc, by, *anomaly),
+        Status::Unsound { defect, first } => unsound_message(alloc, *defect, *first),
         Status::NoMemory => line(alloc, b"out of memory"),
         Status::WriteFault { name: None } => line(alloc, b"summary: write failed"),
         Status::WriteFault { name: Some(name) } => file_message(alloc, name, b"write failed"),
@@ -97,7 +100,8 @@ fn limit_message(alloc: Global, what: &LimitKind) -> Result<Bytes, NoMemory>
     match what {
         LimitKind::Bytes { name } => file_message(alloc, name, b"over 67108864 bytes"),
         LimitKind::Points { count } => count_message(alloc, *count, b" points, at most 20000"),
-        LimitKind::Facets { count } => count_message(alloc, *count, b" facets, at most 2000"),
+        LimitKind::MeshPoints { count } => count_message(alloc, *count, b" points, at most 120000"),
+        LimitKind::Facets { count } => count_message(alloc, *count, b" facets, at most 20000"),
         LimitKind::Corners { line, count } => corners_message(alloc, *line, *count),
         LimitKind::Grid { line } => grid_limit_message(alloc, *line),
     }
@@ -110,6 +114,13 @@ fn count_message(alloc: Global, count: u64, behind: &[u8]) -> Result<Bytes, NoMe
     let mut text = Bytes::new(alloc);
     append_number(&mut text, count as usize)?;
     text.append(behind)?;
+    line(alloc, text.as_slice())
+}
+
+fn unsound_message(alloc: Global, defect: Defect, first: u32) -> Result<Bytes, NoMemory>
+    ensures { IfOk result (λ line. line ≡ message_of None (Unsound defect first)) }
+{
+    let text = defect_text(alloc, first, defect)?;
     line(alloc, text.as_slice())
 }
 
@@ -133,102 +144,115 @@ fn grid_limit_message(alloc: Global, place: usize) -> Result<Bytes, NoMemory>
     line(alloc, text.as_slice())
 }
 
-fn twin_message(alloc: Global, from: u32, first: u32, second: u32) -> Result<Bytes, NoMemory>
-    ensures { IfOk result (λ line. line ≡ message_of from (Twin first second)) }
-{
-    let mut text = Bytes::from_slice(alloc, b"points ")?;
-    append_number(&mut text, first as usize + from as usize)?;
-    text.append(b" and ")?;
-    append_number(&mut text, second as usize + from as usize)?;
-    text.append(b" are equal")?;
-    line(alloc, text.as_slice())
-}
-
-fn not_flat_message(alloc: Global, from: u32, facet: u32, four: Tet) -> Result<Bytes, NoMemory>
-    ensures { IfOk result (λ line. line ≡ message_of from (NotFlat facet four)) }
+fn not_flat_message(
+    alloc: Global,
+    by: &Option<Numbering>,
+    facet: u32,
+    four: Tet,
+) -> Result<Bytes, NoMemory>
+    ensures { IfOk result (λ line. line ≡ message_of by.now (NotFlat facet four)) }
 {
     let mut text = Bytes::from_slice(alloc, b"facet ")?;
     append_facet(&mut text, facet)?;
     text.append(b" is not flat: points")?;
-    append_tetrahedron(&mut text, from, four)?;
+    append_tetrahedron(&mut text, by, four)?;
     line(alloc, text.as_slice())
 }
 
-fn segments_message(alloc: Global, from: u32, one: Piece, two: Piece) -> Result<Bytes, NoMemory>
-    ensures { IfOk result (λ line. line ≡ message_of from (SegmentsCross one two)) }
+fn segments_message(
+    alloc: Global,
+    by: &Option<Numbering>,
+    one: Piece,
+    two: Piece,
+) -> Result<Bytes, NoMemory>
+    ensures { IfOk result (λ line. line ≡ message_of by.now (SegmentsCross one two)) }
 {
     let mut text = Bytes::from_slice(alloc, b"segments")?;
-    append_ends(&mut text, from, one)?;
+    append_ends(&mut text, by, one)?;
     text.append(b" and")?;
-    append_ends(&mut text, from, two)?;
+    append_ends(&mut text, by, two)?;
     text.append(b" cross")?;
     line(alloc, text.as_slice())
 }
 
-fn crossing_message(alloc: Global, from: u32, one: Part, two: Part) -> Result<Bytes, NoMemory>
-    ensures { IfOk result (λ line. line ≡ message_of from (Crossing one two)) }
+fn crossing_message(
+    alloc: Global,
+    by: &Option<Numbering>,
+    one: Part,
+    two: Part,
+) -> Result<Bytes, NoMemory>
+    ensures { IfOk result (λ line. line ≡ message_of by.now (Crossing one two)) }
 {
     let mut text = Bytes::from_slice(alloc, b"crossing: ")?;
-    text.append(part_text(alloc, from, one)?.as_slice())?;
+    text.append(part_text(alloc, by, one)?.as_slice())?;
     text.append(b" and ")?;
-    text.append(part_text(alloc, from, two)?.as_slice())?;
+    text.append(part_text(alloc, by, two)?.as_slice())?;
     line(alloc, text.as_slice())
 }
 
-fn grid_message(alloc: Global, from: u32, piece: Piece) -> Result<Bytes, NoMemory>
-    ensures { IfOk result (λ line. line ≡ message_of from (GridEnd piece)) }
+fn grid_message(alloc: Global, by: &Option<Numbering>, piece: Piece) -> Result<Bytes, NoMemory>
+    ensures { IfOk result (λ line. line ≡ message_of by.now (GridEnd piece)) }
 {
     let mut text = Bytes::from_slice(alloc, b"segment")?;
-    append_ends(&mut text, from, piece)?;
+    append_ends(&mut text, by, piece)?;
     text.append(b" needs a finer grid")?;
     line(alloc, text.as_slice())
 }
 
-fn budget_message(alloc: Global, from: u32, made: u32, piece: Piece) -> Result<Bytes, NoMemory>
-    ensures { IfOk result (λ line. line ≡ message_of from (BudgetEnd made piece)) }
+fn budget_message(
+    alloc: Global,
+    by: &Option<Numbering>,
+    made: u32,
+    piece: Piece,
+) -> Result<Bytes, NoMemory>
+    ensures { IfOk result (λ line. line ≡ message_of by.now (BudgetEnd made piece)) }
 {
     let mut text = Bytes::new(alloc);
     append_number(&mut text, made as usize)?;
     text.append(b" splits used, segment")?;
-    append_ends(&mut text, from, piece)?;
+    append_ends(&mut text, by, piece)?;
     text.append(b" is missing")?;
     line(alloc, text.as_slice())
 }
 
-fn no_fill_message(alloc: Global, from: u32, anomaly: Anomaly) -> Result<Bytes, NoMemory>
-    ensures { IfOk result (λ line. line ≡ message_of from (NoFill anomaly)) }
+fn no_fill_message(
+    alloc: Global,
+    by: &Option<Numbering>,
+    anomaly: Anomaly,
+) -> Result<Bytes, NoMemory>
+    ensures { IfOk result (λ line. line ≡ message_of by.now (NoFill anomaly)) }
 {
     match anomaly {
-        Anomaly::Bare { face } => bare_message(alloc, from, face),
-        Anomaly::Doubled { one, two } => fillings_message(alloc, from, b"two fillings", one, two),
-        Anomaly::Bent { one, two } => fillings_message(alloc, from, b"bent fillings", one, two),
+        Anomaly::Bare { face } => bare_message(alloc, by, face),
+        Anomaly::Doubled { one, two } => fillings_message(alloc, by, b"two fillings", one, two),
+        Anomaly::Bent { one, two } => fillings_message(alloc, by, b"bent fillings", one, two),
     }
 }
 
-fn bare_message(alloc: Global, from: u32, face: Face) -> Result<Bytes, NoMemory>
-    ensures { IfOk result (λ line. line ≡ message_of from (NoFill (Bare face))) }
+fn bare_message(alloc: Global, by: &Option<Numbering>, face: Face) -> Result<Bytes, NoMemory>
+    ensures { IfOk result (λ line. line ≡ message_of by.now (NoFill (Bare face))) }
 {
     let mut text = Bytes::from_slice(alloc, b"no filling at face")?;
-    append_point(&mut text, from, face.a)?;
-    append_point(&mut text, from, face.b)?;
-    append_point(&mut text, from, face.c)?;
+    append_point(&mut text, by, face.a)?;
+    append_point(&mut text, by, face.b)?;
+    append_point(&mut text, by, face.c)?;
     line(alloc, text.as_slice())
 }
 
 /// A line on two tetrahedra.
 fn fillings_message(
     alloc: Global,
-    from: u32,
+    by: &Option<Numbering>,
     told: &[u8],
     one: Tet,
     two: Tet,
 ) -> Result<Bytes, NoMemory>
-    ensures { IfOk result (λ made. made ≡ line (told.now ++ two_tetrahedra_text from one two)) }
+    ensures { IfOk result (λ made. made ≡ line (told.now ++ two_tetrahedra_text by.now one two)) }
 {
     let mut text = Bytes::from_slice(alloc, told)?;
-    append_tetrahedron(&mut text, from, one)?;
+    append_tetrahedron(&mut text, by, one)?;
     text.append(b" and")?;
-    append_tetrahedron(&mut text, from, two)?;
+    append_tetrahedron(&mut text, by, two)?;
     line(alloc, text.as_slice())
 }
 
@@ -260,53 +284,57 @@ fn append_facet(text: &mut Bytes, facet: u32) -> Result<(), NoMemory>
 }
 
 /// Appends the number of a point behind a space.
-fn append_point(text: &mut Bytes, from: u32, point: u32) -> Result<(), NoMemory>
-    ensures { OnOk result (text.new ≡ text.old ++ point_text from point) }
+fn append_point(text: &mut Bytes, by: &Option<Numbering>, point: u32) -> Result<(), NoMemory>
+    ensures { OnOk result (text.new ≡ text.old ++ point_text by.now point) }
 {
     text.append(b" ")?;
-    append_number(text, point as usize + from as usize)
+    append_number(text, number_of(by, point))
 }
 
 /// Appends the two ends of a piece, the less first.
-fn append_ends(text: &mut Bytes, from: u32, piece: Piece) -> Result<(), NoMemory>
-    ensures { OnOk result (text.new ≡ text.old ++ ends_text from piece) }
+fn append_ends(text: &mut Bytes, by: &Option<Numbering>, piece: Piece) -> Result<(), NoMemory>
+    ensures { OnOk result (text.new ≡ text.old ++ ends_text by.now piece) }
 {
-    append_point(text, from, piece.a.min(piece.b))?;
-    append_point(text, from, piece.a.max(piece.b))
+    append_point(text, by, piece.a.min(piece.b))?;
+    append_point(text, by, piece.a.max(piece.b))
 }
 
-fn append_triangle(text: &mut Bytes, from: u32, t: FacetTriangle) -> Result<(), NoMemory>
-    ensures { OnOk result (text.new ≡ text.old ++ triangle_text from t) }
+fn append_triangle(
+    text: &mut Bytes,
+    by: &Option<Numbering>,
+    t: FacetTriangle,
+) -> Result<(), NoMemory>
+    ensures { OnOk result (text.new ≡ text.old ++ triangle_text by.now t) }
 {
-    append_point(text, from, t.a)?;
-    append_point(text, from, t.b)?;
-    append_point(text, from, t.c)
+    append_point(text, by, t.a)?;
+    append_point(text, by, t.b)?;
+    append_point(text, by, t.c)
 }
 
-fn append_tetrahedron(text: &mut Bytes, from: u32, t: Tet) -> Result<(), NoMemory>
-    ensures { OnOk result (text.new ≡ text.old ++ tetrahedron_text from t) }
+fn append_tetrahedron(text: &mut Bytes, by: &Option<Numbering>, t: Tet) -> Result<(), NoMemory>
+    ensures { OnOk result (text.new ≡ text.old ++ tetrahedron_text by.now t) }
 {
-    append_point(text, from, t.a)?;
-    append_point(text, from, t.b)?;
-    append_point(text, from, t.c)?;
-    append_point(text, from, t.d)
+    append_point(text, by, t.a)?;
+    append_point(text, by, t.b)?;
+    append_point(text, by, t.c)?;
+    append_point(text, by, t.d)
 }
 
 /// A triangle of a facet, or a piece.
-fn part_text(alloc: Global, from: u32, part: Part) -> Result<Bytes, NoMemory>
-    ensures { IfOk result (λ text. text ≡ part_text from part) }
+fn part_text(alloc: Global, by: &Option<Numbering>, part: Part) -> Result<Bytes, NoMemory>
+    ensures { IfOk result (λ text. text ≡ part_text by.now part) }
 {
     match part {
         Part::Triangle(triangle) => {
             let mut text = Bytes::from_slice(alloc, b"facet ")?;
             append_facet(&mut text, triangle.facet)?;
             text.append(b" triangle")?;
-            append_triangle(&mut text, from, triangle)?;
+            append_triangle(&mut text, by, triangle)?;
             Ok(text)
         }
         Part::Segment(piece) => {
             let mut text = Bytes::from_slice(alloc, b"segment")?;
-            append_ends(&mut text, from, piece)?;
+            append_ends(&mut text, by, piece)?;
             Ok(text)
         }
     }

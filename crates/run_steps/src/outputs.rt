@@ -2,10 +2,11 @@
 
 ghost use Rattle.std.specs.Prelude.{◌≡◌, true, false, ◌<◌, ◌^◌, ◌++◌, length, All, List, IfOk, IfSome};
 ghost use Rattle.std.specs.Option.{option_copied};
-ghost use Rattle.geo_laws.specs.Faces.{AreFacesOf, AreSidesOf};
+ghost use Rattle.geo_laws.specs.Faces.{side_numbers, AreFacesOf, AreSidesOf};
 ghost use Rattle.geo_laws.specs.declared.faces.Face.{Face};
 ghost use Rattle.incidence.specs.Uses.{AreUsesOf};
 ghost use Rattle.mesh_files.specs.FaceRows.{AreFaceRowsOf};
+ghost use Rattle.mesh_files.specs.Texts.{corner_numbers, AreNamed};
 ghost use Rattle.run_steps.specs.Outputs.{named, first_of, node_file, ele_file, face_file, edge_file, neigh_file, summary_of, names_sides, asks_uses, asks_hull_alone, IsWritable, IsHullOf, IsFaceFileOf, AreFaceOutputsOf, AreSideOutputsOf, AreOutputsOf};
 ghost use Rattle.run_steps.specs.Stores.{in_order, TellsFailure};
 
@@ -163,7 +164,7 @@ fn all_face_file(
         complex: &mesh.complex,
         triangles: &mesh.triangles,
     };
-    let text = write_all_faces(alloc, &rows, &uses, first_of(options, mesh))?;
+    let text = write_all_faces(alloc, &rows, &uses, &mesh.names, first_of(options, mesh))?;
     uses.let_go();
     Ok(Some(named(alloc, options, b".1.face", text)?))
 }
@@ -175,6 +176,7 @@ fn hull_outputs(
     mesh: &Meshed,
     hull: &Faces,
 ) -> Result<FaceOutputs, NoMemory>
+    requires mesh { IsWritable mesh.now }
     requires asks { asks_hull_alone options.now ≡ true }
     requires hull { IsHullOf mesh.now hull.now }
     ensures { IfOk result (AreFaceOutputsOf options.now mesh.now) }
@@ -245,6 +247,7 @@ fn wanted_face_rows(
 
 /// What is told of the sides, which are let go.
 fn side_outputs(alloc: Global, options: &Options, mesh: &Meshed) -> Result<SideOutputs, NoMemory>
+    requires { IsWritable mesh.now }
     ensures { IfOk result (AreSideOutputsOf options.now mesh.now) }
 {
     let sides = wanted_sides(alloc, options, mesh)?;
@@ -256,7 +259,9 @@ fn side_outputs(alloc: Global, options: &Options, mesh: &Meshed) -> Result<SideO
 
 /// The sides, if the edge file or the summary is asked for.
 fn wanted_sides(alloc: Global, options: &Options, mesh: &Meshed) -> Result<Edges, NoMemory>
-    ensures { IfOk result (λ sides. names_sides options.now ≡ true → AreSidesOf mesh.now.tetrahedra sides) }
+    requires { IsWritable mesh.now }
+    ensures sides { IfOk result (λ sides. names_sides options.now ≡ true → AreSidesOf mesh.now.tetrahedra sides) }
+    ensures named { IfOk result (λ sides. All (λ side. AreNamed mesh.now.names (side_numbers side)) sides) }
 {
     if !names_sides(options) {
         return Ok(Edges::new(alloc));
@@ -290,6 +295,7 @@ fn ele_file(alloc: Global, options: &Options, mesh: &Meshed) -> Result<Option<Na
         &mesh.tetrahedra,
         mesh.marks.as_ref(),
         &mesh.complex,
+        &mesh.names,
         first,
     )?;
     Ok(Some(named(alloc, options, b".1.ele", text)?))
@@ -302,12 +308,13 @@ fn face_file(
     mesh: &Meshed,
     marked: &FaceRows,
 ) -> Result<Option<NamedText>, NoMemory>
+    requires { options.now.no_face ≡ false → All (λ face. AreNamed mesh.now.names (corner_numbers face)) marked.now }
     ensures { IfOk result (λ file. file ≡ face_file options.now mesh.now marked.now) }
 {
     if options.no_face {
         return Ok(None);
     }
-    let text = write_face(alloc, marked, first_of(options, mesh))?;
+    let text = write_face(alloc, marked, &mesh.names, first_of(options, mesh))?;
     Ok(Some(named(alloc, options, b".1.face", text)?))
 }
 
@@ -318,12 +325,13 @@ fn edge_file(
     mesh: &Meshed,
     sides: &Edges,
 ) -> Result<Option<NamedText>, NoMemory>
+    requires { All (λ side. AreNamed mesh.now.names (side_numbers side)) sides.now }
     ensures { IfOk result (λ file. file ≡ edge_file options.now mesh.now sides.now) }
 {
     if options.no_face || !options.edges {
         return Ok(None);
     }
-    let text = write_edge(alloc, sides, first_of(options, mesh))?;
+    let text = write_edge(alloc, sides, &mesh.names, first_of(options, mesh))?;
     Ok(Some(named(alloc, options, b".1.edge", text)?))
 }
 
@@ -378,7 +386,7 @@ fn summary_of(
         return Ok(None);
     }
     let mut line = Bytes::from_slice(alloc, b"points ")?;
-    append_number(&mut line, mesh.table.points.len())?;
+    append_number(&mut line, mesh.table.listed.len())?;
     line.append(b" added ")?;
     append_number(&mut line, mesh.added.len())?;
     line.append(b" tetrahedra ")?;

@@ -3,6 +3,7 @@
 use box_pairs::Part;
 use complex_mesh::MeshFault;
 use geo_laws::{Piece, Tet};
+use mesh_check::Defect;
 use tangle_laws::Anomaly;
 use tet_ports::{Name, NoMemory};
 use tet_text::TextFault;
@@ -14,6 +15,8 @@ pub enum LimitKind {
     Bytes { name: Name },
     /// The number of points; it carries that of the input.
     Points { count: u64 },
+    /// The number of points of a mesh that is checked; it carries that of the mesh.
+    MeshPoints { count: u64 },
     /// The number of facets; it carries that of the input.
     Facets { count: u64 },
     /// The number of corners of a polygon; the line of the first such polygon, from 1, and how many it has.
@@ -22,7 +25,8 @@ pub enum LimitKind {
     Grid { line: usize },
 }
 
-/// How a run ends. Names are those of files; points and facets are named by their places, from 0, added points after those of the input.
+/// How a run ends. Names are those of files. Facets are named by their places, from 0, and so are points: those that are kept where equal points of
+/// the input are folded, and the added ones behind them.
 #[derive(Drop)]
 pub enum Status {
     /// The files are stored and the summary is put.
@@ -37,8 +41,6 @@ pub enum Status {
     BadText { name: Name, fault: TextFault },
     /// The input is over a limit.
     Limit { what: LimitKind },
-    /// Two points are equal on the grid: `second` is the least that is equal to an earlier one, which is `first`.
-    Twin { first: u32, second: u32 },
     /// All points lie in one plane.
     Flat,
     /// Four corners of the first facet that is not flat do not lie in one plane.
@@ -53,6 +55,8 @@ pub enum Status {
     BudgetEnd { made: u32, piece: Piece },
     /// Two facets cross a Delaunay tetrahedron, and this stands against tetrahedra grown round the facets.
     NoFill { anomaly: Anomaly },
+    /// The mesh that is checked has a defect; the first one. Its files number points, rows and faces from `first` on.
+    Unsound { defect: Defect, first: u32 },
     /// Want of memory.
     NoMemory,
     /// The folder failed in a store, or the sink of the summary, which has no name.
@@ -74,7 +78,6 @@ impl Status {
             Status::ReadFault { .. } => 3,
             Status::BadText { .. } => 4,
             Status::Limit { .. } => 5,
-            Status::Twin { .. } => 6,
             Status::Flat => 6,
             Status::NotFlat { .. } => 6,
             Status::SegmentsCross { .. } => 6,
@@ -84,6 +87,7 @@ impl Status {
             Status::NoFill { .. } => 9,
             Status::NoMemory => 10,
             Status::WriteFault { .. } => 11,
+            Status::Unsound { .. } => 13,
         }
     }
 }

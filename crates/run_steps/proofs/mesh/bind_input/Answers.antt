@@ -1,11 +1,17 @@
-use Rattle.std.proofs.Common.{subst}
+use Rattle.std.proofs.Common.{◌≡◌, length, subst, sym, ◌∙◌, arith}
 use Rattle.node_files.specs.Settling.{IsSettled}
-use Rattle.plc_files.specs.Binding.{HasCornersBelow}
-use Rattle.run_steps.proofs.Meshables.{meshable_bound}
+use Rattle.run_steps.proofs.Meshables.{as_many, meshable_bound}
+use Rattle.run_steps.specs.Meshing.{grid_options}
 use Rattle.run_steps.proofs.mesh.bind_input.Goals as goal
+
+pub bind_folded-requires-clause-table : goal.bind_folded-requires-clause-table
+bind_folded-requires-clause-table c = c.in-Ok.ensures.table c.requires.input.nodes
+
+pub bind_folded-requires-clause-listed : goal.bind_folded-requires-clause-listed
+bind_folded-requires-clause-listed c = as_many c.args.input.nodes c.grid_options.result c.in-Ok.table c.in-Ok.ensures.outcome ∙ sym c.len-count.ensures.count
 
 pub returns-in-Ok-clause-meshable : goal.returns-in-Ok-clause-meshable
 returns-in-Ok-clause-meshable c =
     meshable_bound c.args.options.now c.args.input.nodes c.in-Ok.table c.in_ok-complex-in-Ok.complex c.requires.ranges
     (subst (λ o. IsSettled c.args.input.nodes o c.in-Ok.table) c.grid_options.ensures c.in-Ok.ensures.outcome) (c.in-Ok.ensures.table c.requires.input.nodes)
-    c.in-Ok.ensures.few (subst (λ n. HasCornersBelow n c.in_ok-complex-in-Ok.complex) c.len-count.ensures.count c.in_ok-complex-in-Ok.ensures.corners) c.in_ok-complex-in-Ok.ensures.weights
+    c.in-Ok.ensures.few c.in_ok-complex-in-Ok.ensures.corners c.in_ok-complex-in-Ok.ensures.weights

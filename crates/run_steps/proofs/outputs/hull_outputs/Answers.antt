@@ -1,6 +1,7 @@
 use Rattle.std.proofs.Common.{◌≡◌, Bool, true, false, not, ◌&&◌, [], refl, sym, subst, ◌∙◌}
 use Rattle.std.proofs.lemmas.Bool.{true≢false}
 use Rattle.mesh_files.specs.FaceRows.{AreFaceRowsOf}
+use Rattle.run_steps.proofs.Named.{faces_named}
 use Rattle.run_steps.proofs.outputs.hull_outputs.Goals as goal
 
 -- what is asked for
@@ -10,6 +11,12 @@ parts true true c d h = absurd (true≢false (sym h))
 parts true false true d h = absurd (true≢false (sym h))
 parts true false false true h = absurd (true≢false (sym h))
 parts true false false false h = (refl, refl, refl, refl)
+
+pub face_file-requires : goal.face_file-requires
+face_file-requires c = λ written.
+    let mesh = c.args.mesh.now in
+    let hull = c.requires.hull in
+    faces_named mesh.names mesh.points mesh.tetrahedra mesh.complex [] false c.in_ok-faces.faces c.requires.mesh.named (c.in_ok-faces.ensures mesh.points mesh.complex mesh.tetrahedra hull.ascending hull.faces)
 
 pub returns : goal.returns
 returns c =
