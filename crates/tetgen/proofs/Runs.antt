@@ -1,5 +1,5 @@
 -- What a run leaves, answers and tells, put together.
-use Rattle.std.proofs.Common.{◌≡◌, ◌≤◌, inl, inr, ℕ, Bool, true, false, List, [], ◌∷◌, ◌++◌, length, Option, Some, None, Result, Ok, Err, if◌then◌else◌, refl, sym, subst, ◌∙◌, arith}
+use Rattle.std.proofs.Common.{◌≡◌, ◌≤◌, inl, inr, ℕ, Bool, true, false, List, [], ◌∷◌, ◌++◌, length, Option, Some, None, Result, Ok, Err, if◌then◌else◌, refl, sym, subst, ap, ◌∙◌, arith}
 use Rattle.std.specs.Prelude.{◌≢◌, IsTrue, All, codes, not, ◌||◌}
 use Rattle.std.proofs.lemmas.List.Elements.{All-nil, All-cons, All-append, All-contains}
 use Rattle.std.proofs.lemmas.List.{append-nil}
@@ -7,7 +7,7 @@ use Rattle.command_words.specs.Grammar.{words_fault}
 use Rattle.command_words.specs.Meaning.{options_of}
 use Rattle.command_words.specs.Names.{file_name}
 use Rattle.command_words.specs.declared.options.Extension.{Extension}
-use Rattle.command_words.specs.declared.options.Extension.TheVariants.{Node, Poly, Smesh}
+use Rattle.command_words.specs.declared.options.Extension.TheVariants.{Node, Poly, Smesh, Off, Stl}
 use Rattle.command_words.specs.declared.options.Options.{Options}
 use Rattle.complex_laws.proofs.ComplexMesh.{law_hull_mesh}
 use Rattle.complex_mesh.specs.declared.fault.MeshFault.{MeshFault}
@@ -21,13 +21,16 @@ use Rattle.node_files.specs.declared.node_text.NodeText.{NodeText}
 use Rattle.path_laws.specs.Flood.{carving_of}
 use Rattle.plc_files.specs.Checks.{corners_check}
 use Rattle.tet_ports.specs.Counts.{Rose}
+use Rattle.tet_ports.specs.Files.{Files}
 use Rattle.tet_text.specs.declared.fault.TextFault.{TextFault}
 use Rattle.run_steps.specs.Codes.{status_of_fault}
 use Rattle.run_steps.specs.Messages.{message_of}
+use Rattle.run_steps.specs.Numbering.{numbering_of}
+use Rattle.run_steps.specs.declared.numbering.Numbering.{Numbering}
 use Rattle.run_steps.specs.Meshing.{OutputsOfRun, BoundAnswer, IsUnbound, MeshOf, MeshAnswer, IsFlatRefusal, OutputsAnswer, MeshedAnswer}
 use Rattle.run_steps.specs.Outputs.{named, AreOutputsOf}
 use Rattle.run_steps.specs.Reading.{complex_file, points_alone, on_points, WordsAnswer, FetchAnswer, TextAnswer, PointsAnswer, FormAnswer, ComplexFileAnswer, SourceAnswer, NodesAnswer, BoundedAnswer, InputOf, InputAnswer, IsUsage, IsUnfetched, IsBadText, node_text_of, plc_text_of}
-use Rattle.tetgen.specs.Run.{IsAnswer, IsComplete, IsLeft, IsMeshOfRun, IsUnchanged, IsTold, IsPut, IsNumbering, IsToldAs, IsEarly, IsSummed, IsTellable, EndsSo, answer_of, numbering_of, HasNoFault, names_points}
+use Rattle.tetgen.specs.Run.{asks_check, AnswerBy, IsMeshAnswer, IsAnswer, IsComplete, LeftBy, IsLeftByMesh, IsLeft, IsMeshOfRun, IsUnchanged, IsTold, IsPut, IsNumbering, IsToldAs, IsEarly, IsSummed, IsTellable, ChecksSo, EndsByMesh, EndsBy, EndsSo, answer_of, numbering_in, HasNoFault, names_points}
 use Rattle.run_steps.specs.Seen.{FolderSeen, SinkSeen}
 use Rattle.tetgen.specs.Stops.{stop_of_words, stop_of_store}
 use Rattle.run_steps.specs.Stores.{given, in_order, with_files, AreLeft, IfFailed, TellsFailure}
@@ -44,23 +47,16 @@ use Rattle.run_steps.specs.declared.meshed.Meshed.{Meshed}
 use Rattle.run_steps.specs.declared.outputs.Outputs.{Outputs}
 use Rattle.run_steps.specs.declared.status.LimitKind.{LimitKind}
 use Rattle.run_steps.specs.declared.status.Status.{Status}
-use Rattle.run_steps.specs.declared.status.Status.TheVariants.{Done, Usage, Missing, ReadFault, BadText, Limit, Twin, Flat, NoMemory, WriteFault}
+use Rattle.run_steps.specs.declared.status.Status.TheVariants.{Done, Usage, Missing, ReadFault, BadText, Limit, Flat, NoMemory, WriteFault}
 use Rattle.tetgen.specs.declared.stop.Stop.{Stop}
 use Rattle.tetgen.specs.declared.stop.Stop.TheVariants.{Refused, Unwritten, Unsummed, NoMemory as Wanting}
 use Rattle.run_steps.proofs.Determined.{outputs_same}
 use Rattle.run_steps.proofs.Once.{run_same}
 use Rattle.run_steps.proofs.Steps.{IsDecided, status_of, and_then_refuses}
-
-not_true : IsTrue false → ⊥
-not_true t = cc
+use Rattle.tetgen.proofs.Refusals.{IsRefusal, IsSilent, not_true, not_done, refusal_told}
+use Rattle.tetgen.proofs.Checks.{check_answer, check_same, check_left, early_check, check_told, check_tellable, checked_end}
 
 -- ---- refusals
-
--- a refusal is neither Done nor a fault of a store or of the summary
-abbrev pub IsRefusal : Status → Type 0
-IsRefusal Done = ⊥
-IsRefusal (WriteFault name) = ⊥
-IsRefusal status = Unit {0}
 
 words_refuse : (words : List (List ℕ)) (s : Status) → IsUsage words s → IsRefusal s
 words_refuse words (Usage word place) h = tt
@@ -103,6 +99,8 @@ module _ (P : Status → Type 0) (missing : (name : List ℕ) → P (Missing nam
   file_has : (seen : FolderSeen) (base : List ℕ) (extension : Option Extension) (s : Status) → ComplexFileAnswer seen base extension (Err s) → P s
   file_has seen base (Some Smesh) = form_has seen base Smesh
   file_has seen base (Some Poly) = form_has seen base Poly
+  file_has seen base (Some Off) = form_has seen base Off
+  file_has seen base (Some Stl) = form_has seen base Stl
   file_has seen base (Some Node) = bare_has seen base
   file_has seen base None = bare_has seen base
 
@@ -132,9 +130,6 @@ input_refuses : (seen : FolderSeen) (options : Options) (piecewise : Bool) (s : 
 input_refuses = input_has IsRefusal (λ name. tt) (λ name. tt) (λ name fault. tt) (λ what. tt) tt
 
 -- the message of such a refusal prints no points
-abbrev IsSilent : Status → Type 0
-IsSilent s = names_points s ≡ false
-
 input_silent : (seen : FolderSeen) (options : Options) (piecewise : Bool) (s : Status) → InputOf piecewise seen options (Err s) → IsSilent s
 input_silent = input_has IsSilent (λ name. refl) (λ name. refl) (λ name fault. refl) (λ what. refl) refl
 
@@ -143,9 +138,14 @@ want_refuses s e = subst IsRefusal (sym e) tt
 
 bound_refuses : (options : Options) (input : Input) (s : Status) → IsUnbound options input s → IsRefusal s
 bound_refuses options input (Limit what) h = tt
-bound_refuses options input (Twin first second) h = tt
 bound_refuses options input NoMemory h = tt
 bound_refuses options input s h = absurd h
+
+-- the message of a limit prints no points
+bound_silent : (options : Options) (input : Input) (s : Status) → IsUnbound options input s → IsSilent s
+bound_silent options input (Limit what) h = refl
+bound_silent options input NoMemory h = refl
+bound_silent options input s h = absurd h
 
 fault_refuses : (f : MeshFault) → IsRefusal (status_of_fault f)
 fault_refuses fault.Flat = tt
@@ -175,18 +175,25 @@ run_refuses words seen =
 
 -- ---- the answer
 
-refusal_answer : (words : List (List ℕ)) (folder : FolderSeen) (out : SinkSeen) (s : Status) → OutputsOfRun words folder (Err s) → IsRefusal s → IsAnswer words folder out s
+refusal_answer : (words : List (List ℕ)) (folder : FolderSeen) (out : SinkSeen) (s : Status) → OutputsOfRun words folder (Err s) → IsRefusal s → IsMeshAnswer words folder out s
 refusal_answer words folder out Done h r = absurd r
 refusal_answer words folder out (WriteFault name) h r = absurd r
 refusal_answer words folder out NoMemory h r = tt
 refusal_answer words folder out s h r = h
 
+mesh_answer : (words : List (List ℕ)) (folder : FolderSeen) (out : SinkSeen) (result : Result (Unit {0}) Stop) → EndsByMesh words folder out result → IsMeshAnswer words folder out (answer_of result)
+mesh_answer words folder out (Ok done) h = (h.0, h.1)
+mesh_answer words folder out (Err (Refused status by)) h = refusal_answer words folder out status h.1 (run_refuses words folder status h.1)
+mesh_answer words folder out (Err (Unwritten text)) h = h.4
+mesh_answer words folder out (Err Unsummed) h = h.4
+mesh_answer words folder out (Err Wanting) h = tt
+
+end_answer_by : (b : Bool) (words : List (List ℕ)) (folder : FolderSeen) (out : SinkSeen) (result : Result (Unit {0}) Stop) → EndsBy b words folder out result → AnswerBy b words folder out (answer_of result)
+end_answer_by false = mesh_answer
+end_answer_by true = check_answer
+
 pub end_answer : (words : List (List ℕ)) (folder : FolderSeen) (out : SinkSeen) (result : Result (Unit {0}) Stop) → EndsSo words folder out result → IsAnswer words folder out (answer_of result)
-end_answer words folder out (Ok done) h = (h.0, h.1)
-end_answer words folder out (Err (Refused status from)) h = refusal_answer words folder out status h.1 (run_refuses words folder status h.1)
-end_answer words folder out (Err (Unwritten text)) h = h.4
-end_answer words folder out (Err Unsummed) h = h.4
-end_answer words folder out (Err Wanting) h = tt
+end_answer words = end_answer_by (asks_check words) words
 
 -- what answers so has such outputs, or such a refusal
 record Outcome (words : List (List ℕ)) (folder : FolderSeen) (s : Status) : Type 0 where
@@ -195,18 +202,23 @@ record Outcome (words : List (List ℕ)) (folder : FolderSeen) (s : Status) : Ty
   decided : IsDecided result
   is : forced_answer s ≡ status_of result
 
-outcome_of : (words : List (List ℕ)) (folder : FolderSeen) (out : SinkSeen) (s : Status) → HasNoFault folder out → s ≢ NoMemory → IsAnswer words folder out s → Outcome words folder s
+outcome_of : (words : List (List ℕ)) (folder : FolderSeen) (out : SinkSeen) (s : Status) → HasNoFault folder out → s ≢ NoMemory → IsMeshAnswer words folder out s → Outcome words folder s
 outcome_of words folder out Done f n h = record { result = Ok h.0; ran = h.1; decided = tt; is = refl }
 outcome_of words folder out (WriteFault None) f n h = absurd (f.1 h)
 outcome_of words folder out (WriteFault (Some name)) f n h = absurd (f.0 h)
 outcome_of words folder out NoMemory f n h = absurd (n refl)
 outcome_of words folder out s f n h = record { result = Err s; ran = h; decided = n; is = refl }
 
-pub answer_complete : (words : List (List ℕ)) (folder : FolderSeen) (out : SinkSeen) (s : Status) → IsAnswer words folder out s → IsComplete words folder out s
-answer_complete words folder out s h told e f n other m k =
-    let a = outcome_of words folder out s f n h in
-    let b = outcome_of words folder out other f m k in
+same_by : (b : Bool) (words : List (List ℕ)) (folder : FolderSeen) (out : SinkSeen) (told : Files) → folder.files_before ≡ Some told → HasNoFault folder out → (one two : Status)
+    → one ≢ NoMemory → two ≢ NoMemory → AnswerBy b words folder out one → AnswerBy b words folder out two → forced_answer one ≡ forced_answer two
+same_by false words folder out told e f one two n m h k =
+    let a = outcome_of words folder out one f n h in
+    let b = outcome_of words folder out two f m k in
     a.is ∙ run_same told words folder e f.0 a.result b.result a.decided b.decided a.ran b.ran ∙ sym b.is
+same_by true words folder out told e f one two n m h k = ap forced_answer (check_same words folder out told e f one two n m h k)
+
+pub answer_complete : (words : List (List ℕ)) (folder : FolderSeen) (out : SinkSeen) (s : Status) → IsAnswer words folder out s → IsComplete words folder out s
+answer_complete words folder out s h told e f n other m k = same_by (asks_check words) words folder out told e f s other n m h k
 
 -- ---- what is left
 
@@ -246,103 +258,179 @@ mesh_of_run words folder outputs h =
       only = λ other on. outputs_same o made.0 other outputs on made.2;
     }
 
-refusal_left : (words : List (List ℕ)) (folder : FolderSeen) (out : SinkSeen) (s : Status) → IsRefusal s → IsUnchanged folder out → IsLeft words folder out s
+refusal_left : (words : List (List ℕ)) (folder : FolderSeen) (out : SinkSeen) (s : Status) → IsRefusal s → IsUnchanged folder out → IsLeftByMesh words folder out s
 refusal_left words folder out Done r h = absurd r
 refusal_left words folder out (WriteFault name) r h = absurd r
 refusal_left words folder out NoMemory r h = (h.written, inl h.files)
 refusal_left words folder out s r h = h
 
+mesh_left : (words : List (List ℕ)) (folder : FolderSeen) (out : SinkSeen) (result : Result (Unit {0}) Stop) → EndsByMesh words folder out result → IsLeftByMesh words folder out (answer_of result)
+mesh_left words folder out (Ok done) h = (h.0, mesh_of_run words folder h.0 h.1, h.2, h.3)
+mesh_left words folder out (Err (Refused status by)) h = refusal_left words folder out status (run_refuses words folder status h.1) h.0
+mesh_left words folder out (Err (Unwritten text)) h = (h.0, mesh_of_run words folder h.0 h.1, h.2, h.3)
+mesh_left words folder out (Err Unsummed) h = (h.0, mesh_of_run words folder h.0 h.1, h.2, h.3)
+mesh_left words folder out (Err Wanting) (w, inl h) = (w, inl h)
+mesh_left words folder out (Err Wanting) (w, inr h) = (w, inr (h.0, mesh_of_run words folder h.0 h.1, h.2))
+
+end_left_by : (b : Bool) (words : List (List ℕ)) (folder : FolderSeen) (out : SinkSeen) (result : Result (Unit {0}) Stop) → EndsBy b words folder out result → LeftBy b words folder out (answer_of result)
+end_left_by false = mesh_left
+end_left_by true = check_left
+
 pub end_left : (words : List (List ℕ)) (folder : FolderSeen) (out : SinkSeen) (result : Result (Unit {0}) Stop) → EndsSo words folder out result → IsLeft words folder out (answer_of result)
-end_left words folder out (Ok done) h = (h.0, mesh_of_run words folder h.0 h.1, h.2, h.3)
-end_left words folder out (Err (Refused status from)) h = refusal_left words folder out status (run_refuses words folder status h.1) h.0
-end_left words folder out (Err (Unwritten text)) h = (h.0, mesh_of_run words folder h.0 h.1, h.2, h.3)
-end_left words folder out (Err Unsummed) h = (h.0, mesh_of_run words folder h.0 h.1, h.2, h.3)
-end_left words folder out (Err Wanting) (w, inl h) = (w, inl h)
-end_left words folder out (Err Wanting) (w, inr h) = (w, inr (h.0, mesh_of_run words folder h.0 h.1, h.2))
+end_left words = end_left_by (asks_check words) words
 
 -- ---- what is told
 
-refusal_told : (words : List (List ℕ)) (folder : FolderSeen) (err : SinkSeen) (s : Status) (from : ℕ) → s ≢ Done → IsNumbering words folder s from → IsPut (message_of from s) err
-    → IsTold words folder err s
-refusal_told words folder err Done from n h p = absurd (n refl)
-refusal_told words folder err s from n h p = (from, h, p)
-
-not_done : (s : Status) → IsRefusal s → s ≢ Done
-not_done Done r = absurd r
-not_done s r = λ e. cc
+want_answer : (b : Bool) (words : List (List ℕ)) (folder : FolderSeen) (out : SinkSeen) → AnswerBy b words folder out NoMemory
+want_answer false words folder out = tt
+want_answer true words folder out = tt
 
 -- the answer after a stop has its cause, leaves what it may, and has its message
 pub stop_answer : (words : List (List ℕ)) (folder : FolderSeen) (out err : SinkSeen) (stop : Stop) (s : Status) → EndsSo words folder out (Err stop) → IsToldAs stop err s → IsAnswer words folder out s
 stop_answer words folder out err stop s h (inl t) = subst (IsAnswer words folder out) (sym t.0) (end_answer words folder out (Err stop) h)
-stop_answer words folder out err stop s h (inr t) = subst (IsAnswer words folder out) (sym t.0) tt
+stop_answer words folder out err stop s h (inr t) = subst (IsAnswer words folder out) (sym t.0) (want_answer (asks_check words) words folder out)
+
+early_mesh : (words : List (List ℕ)) (folder : FolderSeen) (out : SinkSeen) (stop : Stop) → EndsByMesh words folder out (Err stop) → IsEarly stop → IsLeftByMesh words folder out NoMemory
+early_mesh words folder out (Refused status by) h e = (h.0.written, inl h.0.files)
+early_mesh words folder out (Unwritten text) h e = absurd e
+early_mesh words folder out Unsummed h e = absurd e
+early_mesh words folder out Wanting h e = absurd e
+
+early_by : (b : Bool) (words : List (List ℕ)) (folder : FolderSeen) (out : SinkSeen) (stop : Stop) → EndsBy b words folder out (Err stop) → IsEarly stop → LeftBy b words folder out NoMemory
+early_by false = early_mesh
+early_by true = early_check
 
 early_left : (words : List (List ℕ)) (folder : FolderSeen) (out : SinkSeen) (stop : Stop) → EndsSo words folder out (Err stop) → IsEarly stop → IsLeft words folder out NoMemory
-early_left words folder out (Refused status from) h e = (h.0.written, inl h.0.files)
-early_left words folder out (Unwritten text) h e = absurd e
-early_left words folder out Unsummed h e = absurd e
-early_left words folder out Wanting h e = absurd e
+early_left words = early_by (asks_check words) words
 
 pub stop_left : (words : List (List ℕ)) (folder : FolderSeen) (out err : SinkSeen) (stop : Stop) (s : Status) → EndsSo words folder out (Err stop) → IsToldAs stop err s → IsLeft words folder out s
 stop_left words folder out err stop s h (inl t) = subst (IsLeft words folder out) (sym t.0) (end_left words folder out (Err stop) h)
 stop_left words folder out err stop s h (inr t) = subst (IsLeft words folder out) (sym t.0) (early_left words folder out stop h t.1)
 
+mesh_told : (words : List (List ℕ)) (folder : FolderSeen) (out err : SinkSeen) (stop : Stop) → EndsByMesh words folder out (Err stop)
+    → IsPut (message_of (numbering_in stop) (answer_of (Err stop))) err → IsTold words folder err (answer_of (Err stop))
+mesh_told words folder out err (Refused status by) h p = refusal_told words folder err status by (not_done status (run_refuses words folder status h.1)) h.2 p
+mesh_told words folder out err (Unwritten text) h p = (None, (λ t. absurd (not_true t)), p)
+mesh_told words folder out err Unsummed h p = (None, (λ t. absurd (not_true t)), p)
+mesh_told words folder out err Wanting h p = (None, (λ t. absurd (not_true t)), p)
+
+first_told_by : (b : Bool) (words : List (List ℕ)) (folder : FolderSeen) (out err : SinkSeen) (stop : Stop) → EndsBy b words folder out (Err stop)
+    → IsPut (message_of (numbering_in stop) (answer_of (Err stop))) err → IsTold words folder err (answer_of (Err stop))
+first_told_by false = mesh_told
+first_told_by true = check_told
+
 first_told : (words : List (List ℕ)) (folder : FolderSeen) (out err : SinkSeen) (stop : Stop) → EndsSo words folder out (Err stop)
-    → IsPut (message_of (numbering_of stop) (answer_of (Err stop))) err → IsTold words folder err (answer_of (Err stop))
-first_told words folder out err (Refused status from) h p = refusal_told words folder err status from (not_done status (run_refuses words folder status h.1)) h.2 p
-first_told words folder out err (Unwritten text) h p = (0, (λ t. absurd (not_true t)), p)
-first_told words folder out err Unsummed h p = (0, (λ t. absurd (not_true t)), p)
-first_told words folder out err Wanting h p = (0, (λ t. absurd (not_true t)), p)
+    → IsPut (message_of (numbering_in stop) (answer_of (Err stop))) err → IsTold words folder err (answer_of (Err stop))
+first_told words = first_told_by (asks_check words) words
 
 pub stop_told : (words : List (List ℕ)) (folder : FolderSeen) (out err : SinkSeen) (stop : Stop) (s : Status) → EndsSo words folder out (Err stop) → IsToldAs stop err s → IsTold words folder err s
 stop_told words folder out err stop s h (inl t) = subst (IsTold words folder err) (sym t.0) (first_told words folder out err stop h t.1)
-stop_told words folder out err stop s h (inr t) = subst (IsTold words folder err) (sym t.0) (0, (λ e. absurd (not_true e)), t.2)
+stop_told words folder out err stop s h (inr t) = subst (IsTold words folder err) (sym t.0) (None, (λ e. absurd (not_true e)), t.2)
 
 -- the text at which a store failed has its message
+mesh_tellable : (words : List (List ℕ)) (folder : FolderSeen) (out : SinkSeen) (stop : Stop) → EndsByMesh words folder out (Err stop) → IsTellable stop
+mesh_tellable words folder out (Refused status by) h = tt
+mesh_tellable words folder out (Unwritten text) h = h.5
+mesh_tellable words folder out Unsummed h = tt
+mesh_tellable words folder out Wanting h = tt
+
+tellable_by : (b : Bool) (words : List (List ℕ)) (folder : FolderSeen) (out : SinkSeen) (stop : Stop) → EndsBy b words folder out (Err stop) → IsTellable stop
+tellable_by false = mesh_tellable
+tellable_by true = check_tellable
+
 pub end_tellable : (words : List (List ℕ)) (folder : FolderSeen) (out : SinkSeen) (stop : Stop) → EndsSo words folder out (Err stop) → IsTellable stop
-end_tellable words folder out (Refused status from) h = tt
-end_tellable words folder out (Unwritten text) h = h.5
-end_tellable words folder out Unsummed h = tt
-end_tellable words folder out Wanting h = tt
+end_tellable words = tellable_by (asks_check words) words
 
 -- ---- the steps of the run
+
+words_end_by : (b : Bool) (words : List (List ℕ)) (folder : FolderSeen) (out : SinkSeen) (answer : Result Options WordsFault) (f : WordsFault) → answer ≡ Err f
+    → ((word place : ℕ) → answer ≡ Err (Misunderstood word place) → words_fault words ≡ Some (word, place)) → IsUnchanged folder out → EndsBy b words folder out (Err (stop_of_words f))
+words_end_by false words folder out answer (Misunderstood word place) e usage h = (h, inl (usage word place e), λ t. absurd (not_true t))
+words_end_by false words folder out answer WordsWanting e usage h = (h.written, inl h.files)
+words_end_by true words folder out answer (Misunderstood word place) e usage h = (usage word place e, h)
+words_end_by true words folder out answer WordsWanting e usage h = h
 
 -- where the words are not understood, or no memory was there for them
 pub words_end : (words : List (List ℕ)) (folder : FolderSeen) (out : SinkSeen) (answer : Result Options WordsFault) (f : WordsFault) → answer ≡ Err f
     → ((word place : ℕ) → answer ≡ Err (Misunderstood word place) → words_fault words ≡ Some (word, place)) → IsUnchanged folder out → EndsSo words folder out (Err (stop_of_words f))
-words_end words folder out answer (Misunderstood word place) e usage h = (h, inl (usage word place e), λ t. absurd (not_true t))
-words_end words folder out answer WordsWanting e usage h = (h.written, inl h.files)
+words_end words = words_end_by (asks_check words) words
+
+want_end_by : (b : Bool) (words : List (List ℕ)) (folder : FolderSeen) (out : SinkSeen) → IsUnchanged folder out → EndsBy b words folder out (Err Wanting)
+want_end_by false words folder out h = (h.written, inl h.files)
+want_end_by true words folder out h = h
+
+-- where memory is wanting before anything is stored
+pub want_end : (words : List (List ℕ)) (folder : FolderSeen) (out : SinkSeen) → IsUnchanged folder out → EndsSo words folder out (Err Wanting)
+want_end words = want_end_by (asks_check words) words
+
+-- the words ask for what the options say
+asks_as : (words : List (List ℕ)) (options : Options) (b : Bool) → WordsAnswer words (Ok options) → options.check ≡ b → b ≡ asks_check words
+asks_as words options b w e = sym e ∙ ap (λ (o : Options). o.check) w.1
+
+-- where the words do not ask for a check
+by_mesh : (words : List (List ℕ)) (folder : FolderSeen) (out : SinkSeen) (options : Options) (end : Result (Unit {0}) Stop) → WordsAnswer words (Ok options) → options.check ≡ false
+    → EndsByMesh words folder out end → EndsSo words folder out end
+by_mesh words folder out options end w e h = subst (λ b. EndsBy b words folder out end) (asks_as words options false w e) h
+
+-- where they do
+pub by_check : (words : List (List ℕ)) (folder : FolderSeen) (out : SinkSeen) (options : Options) (end : Result (Unit {0}) Stop) → WordsAnswer words (Ok options) → options.check ≡ true
+    → ChecksSo options folder out end → EndsSo words folder out end
+by_check words folder out options end w e h =
+    subst (λ b. EndsBy b words folder out end) (asks_as words options true w e) (checked_end words folder out end w.0 (subst (λ o. ChecksSo o folder out end) w.1 h))
 
 -- where there is no input
-pub input_end : (words : List (List ℕ)) (folder : FolderSeen) (out : SinkSeen) (options : Options) (s : Status) → WordsAnswer words (Ok options) → InputAnswer folder options (Err s)
-    → IsUnchanged folder out → EndsSo words folder out (Err (Refused s 0))
-input_end words folder out options s w r h = (h, inr (options, w, inl r), λ t. absurd (not_true (subst IsTrue (input_silent folder options options.piecewise s r) t)))
+pub input_end : (words : List (List ℕ)) (folder : FolderSeen) (out : SinkSeen) (options : Options) (s : Status) → WordsAnswer words (Ok options) → options.check ≡ false
+    → InputAnswer folder options (Err s)
+    → IsUnchanged folder out → EndsSo words folder out (Err (Refused s None))
+input_end words folder out options s w n r h =
+    by_mesh words folder out options (Err (Refused s None)) w n (h, inr (options, w, inl r), λ t. absurd (not_true (subst IsTrue (input_silent folder options options.piecewise s r) t)))
 
--- where the input has no mesh
-pub mesh_end : (words : List (List ℕ)) (folder : FolderSeen) (out : SinkSeen) (options : Options) (input : Input) (s : Status) → WordsAnswer words (Ok options)
-    → InputAnswer folder options (Ok input) → MeshedAnswer options input (Err s) → IsUnchanged folder out → EndsSo words folder out (Err (Refused s input.nodes.first))
-mesh_end words folder out options input s w r m h = (h, inr (options, w, inr (input, r, m)), λ t. (input, subst (λ o. InputAnswer folder o (Ok input)) w.1 r, refl))
+-- where the input is over a limit
+pub bound_end : (words : List (List ℕ)) (folder : FolderSeen) (out : SinkSeen) (options : Options) (input : Input) (s : Status) → WordsAnswer words (Ok options) → options.check ≡ false
+    → InputAnswer folder options (Ok input) → BoundAnswer options input (Err s) → IsUnchanged folder out → EndsSo words folder out (Err (Refused s None))
+bound_end words folder out options input s w n r b h =
+    by_mesh words folder out options (Err (Refused s None)) w n (h, inr (options, w, inr (input, r, inl b)), λ t. absurd (not_true (subst IsTrue (bound_silent options input s b) t)))
+
+-- where its points and its complex have no mesh
+pub mesh_end : (words : List (List ℕ)) (folder : FolderSeen) (out : SinkSeen) (options : Options) (input : Input) (bound : Bound) (s : Status) → WordsAnswer words (Ok options) → options.check ≡ false
+    → InputAnswer folder options (Ok input) → BoundAnswer options input (Ok bound) → AndThen (MeshAnswer options bound) (OutputsAnswer options) (Err s) → IsUnchanged folder out
+    → EndsSo words folder out (Err (Refused s (Some (numbering_of bound.table))))
+mesh_end words folder out options input bound s w n r b m h =
+    by_mesh words folder out options (Err (Refused s (Some (numbering_of bound.table)))) w n (h, inr (options, w, inr (input, r, inr (bound, b, m))), λ t. (input, subst (λ o. InputAnswer folder o (Ok input)) w.1 r, bound, subst (λ o. BoundAnswer o input (Ok bound)) w.1 b, refl))
 
 -- where there are outputs
-pub outputs_run : (words : List (List ℕ)) (folder : FolderSeen) (options : Options) (input : Input) (outputs : Outputs) → WordsAnswer words (Ok options)
-    → InputAnswer folder options (Ok input) → MeshedAnswer options input (Ok outputs) → OutputsOfRun words folder (Ok outputs)
-outputs_run words folder options input outputs w r m = (options, w, (input, r, m))
+pub outputs_run : (words : List (List ℕ)) (folder : FolderSeen) (options : Options) (input : Input) (bound : Bound) (outputs : Outputs) → WordsAnswer words (Ok options)
+    → InputAnswer folder options (Ok input) → BoundAnswer options input (Ok bound) → AndThen (MeshAnswer options bound) (OutputsAnswer options) (Ok outputs) → OutputsOfRun words folder (Ok outputs)
+outputs_run words folder options input bound outputs w r b m = (options, w, (input, r, (bound, b, m)))
 
 -- where a store is refused
-pub store_end : (words : List (List ℕ)) (folder : FolderSeen) (out : SinkSeen) (outputs : Outputs) (stop : StoreStop) → OutputsOfRun words folder (Ok outputs)
+mesh_store_end : (words : List (List ℕ)) (folder : FolderSeen) (out : SinkSeen) (outputs : Outputs) (stop : StoreStop) → OutputsOfRun words folder (Ok outputs)
+    → AreLeft folder.files_before (in_order outputs.texts) folder.files_now stop → IfFailed stop (Rose folder.faults_before folder.faults_now)
+    → All TellsFailure (in_order outputs.texts) → out.written_now ≡ out.written_before → EndsByMesh words folder out (Err (stop_of_store stop))
+mesh_store_end words folder out outputs (Failed text) ran left rose told w = (outputs, ran, left.0, w, rose, All-contains TellsFailure (in_order outputs.texts) text told left.1)
+mesh_store_end words folder out outputs StoreWanting ran left rose told w = (w, inr (outputs, ran, left))
+
+pub store_end : (words : List (List ℕ)) (folder : FolderSeen) (out : SinkSeen) (options : Options) (outputs : Outputs) (stop : StoreStop) → WordsAnswer words (Ok options)
+    → options.check ≡ false → OutputsOfRun words folder (Ok outputs)
     → AreLeft folder.files_before (in_order outputs.texts) folder.files_now stop → IfFailed stop (Rose folder.faults_before folder.faults_now)
     → All TellsFailure (in_order outputs.texts) → out.written_now ≡ out.written_before → EndsSo words folder out (Err (stop_of_store stop))
-store_end words folder out outputs (Failed text) ran left rose told w = (outputs, ran, left.0, w, rose, All-contains TellsFailure (in_order outputs.texts) text told left.1)
-store_end words folder out outputs StoreWanting ran left rose told w = (w, inr (outputs, ran, left))
+store_end words folder out options outputs stop w n ran left rose told same =
+    by_mesh words folder out options (Err (stop_of_store stop)) w n (mesh_store_end words folder out outputs stop ran left rose told same)
+
+mesh_summed_end : (words : List (List ℕ)) (folder : FolderSeen) (out : SinkSeen) (outputs : Outputs) (result : Result (Unit {0}) Stop) → OutputsOfRun words folder (Ok outputs)
+    → folder.files_now ≡ with_files folder.files_before (in_order outputs.texts) → IsSummed outputs.summary out result → EndsByMesh words folder out result
+mesh_summed_end words folder out outputs (Ok done) ran f s = (outputs, ran, f, s)
+mesh_summed_end words folder out outputs (Err Unsummed) ran f s = (outputs, ran, f, s.0, s.1)
+mesh_summed_end words folder out outputs (Err Wanting) ran f s =
+    (s, inr (outputs, ran, record { stored = in_order outputs.texts; left = []; texts_are = sym (append-nil (in_order outputs.texts)); now_is = f }))
+mesh_summed_end words folder out outputs (Err (Refused status by)) ran f s = absurd s
+mesh_summed_end words folder out outputs (Err (Unwritten text)) ran f s = absurd s
 
 -- where all is stored
-pub summed_end : (words : List (List ℕ)) (folder : FolderSeen) (out : SinkSeen) (outputs : Outputs) (result : Result (Unit {0}) Stop) → OutputsOfRun words folder (Ok outputs)
+pub summed_end : (words : List (List ℕ)) (folder : FolderSeen) (out : SinkSeen) (options : Options) (outputs : Outputs) (result : Result (Unit {0}) Stop) → WordsAnswer words (Ok options)
+    → options.check ≡ false → OutputsOfRun words folder (Ok outputs)
     → folder.files_now ≡ with_files folder.files_before (in_order outputs.texts) → IsSummed outputs.summary out result → EndsSo words folder out result
-summed_end words folder out outputs (Ok done) ran f s = (outputs, ran, f, s)
-summed_end words folder out outputs (Err Unsummed) ran f s = (outputs, ran, f, s.0, s.1)
-summed_end words folder out outputs (Err Wanting) ran f s =
-    (s, inr (outputs, ran, record { stored = in_order outputs.texts; left = []; texts_are = sym (append-nil (in_order outputs.texts)); now_is = f }))
-summed_end words folder out outputs (Err (Refused status from)) ran f s = absurd s
-summed_end words folder out outputs (Err (Unwritten text)) ran f s = absurd s
+summed_end words folder out options outputs result w n ran f s = by_mesh words folder out options result w n (mesh_summed_end words folder out outputs result ran f s)
 
 -- ---- the texts
 

@@ -1,5 +1,9 @@
 -- What a run of the program answers, stores and tells.
 use Rattle.std.specs.Prelude.{◌≡◌, ◌≢◌, ◌⊎◌, ℕ, Bool, true, false, IsTrue, List, Option, Some, None, Result, Ok, Err, if◌then◌else◌}
+use Rattle.check_steps.specs.Checking.{CheckAnswer}
+use Rattle.check_steps.specs.Steps as check
+use Rattle.check_steps.specs.Telling.{sound_line}
+use Rattle.check_steps.specs.declared.fault.CheckFault.{CheckFault}
 use Rattle.command_words.specs.Grammar.{words_fault}
 use Rattle.command_words.specs.Meaning.{options_of}
 use Rattle.command_words.specs.declared.options.Options.{Options}
@@ -12,6 +16,8 @@ use Rattle.tet_ports.specs.Counts.{Rose}
 use Rattle.tet_ports.specs.Files.{Files}
 use Rattle.tet_ports.specs.Written.{PartlyPut, with_piece}
 use Rattle.run_steps.specs.Messages.{message_of}
+use Rattle.run_steps.specs.Numbering.{numbering_of}
+use Rattle.run_steps.specs.declared.numbering.Numbering.{Numbering}
 use Rattle.run_steps.specs.Meshing.{BoundAnswer, MeshAnswer, OutputsOfRun}
 use Rattle.run_steps.specs.Outputs.{AreOutputsOf}
 use Rattle.run_steps.specs.Reading.{InputAnswer}
@@ -23,20 +29,77 @@ use Rattle.run_steps.specs.declared.mesh.Bound.{Bound}
 use Rattle.run_steps.specs.declared.meshed.Meshed.{Meshed}
 use Rattle.run_steps.specs.declared.outputs.Outputs.{Outputs}
 use Rattle.run_steps.specs.declared.status.Status.{Status}
-use Rattle.run_steps.specs.declared.status.Status.TheVariants.{Done, Twin, NotFlat, SegmentsCross, Crossing, GridEnd, BudgetEnd, NoFill, NoMemory, WriteFault}
+use Rattle.run_steps.specs.declared.status.Status.TheVariants.{Done, Usage, NotFlat, SegmentsCross, Crossing, GridEnd, BudgetEnd, NoFill, NoMemory, WriteFault}
+use Rattle.tetgen.specs.Stops.{stop_of_check}
 use Rattle.tetgen.specs.declared.stop.Stop.{Stop}
 use Rattle.tetgen.specs.declared.stop.Stop.TheVariants.{Refused, Unwritten, Unsummed, NoMemory as Wanting}
 
+-- ---- the check of a mesh
+
+-- what a folder shows of itself to a check
+abbrev pub check_seen : FolderSeen → check.FolderSeen
+check_seen folder = record {
+  files = folder.files_before;
+  faults_before = folder.faults_before;
+  faults_now = folder.faults_now;
+  misses_before = folder.misses_before;
+  misses_now = folder.misses_now;
+}
+
+-- the check of the files that the options name: how many tetrahedra the mesh has, where it is sound, or the first refusal
+abbrev pub Checked : Options → FolderSeen → Result ℕ CheckFault → Type 0
+Checked options folder = CheckAnswer (check_seen folder) options.base options.decimals
+
+-- the line on a sound mesh, if it is asked for
+abbrev pub sound_summary : Options → ℕ → Option (List ℕ)
+sound_summary options count = if options.quiet then None else Some (sound_line count)
+
+-- the words ask for a check
+abbrev pub asks_check : List (List ℕ) → Bool
+asks_check words = (options_of words).check
+
+-- the answer of a run that ended or stopped so
+abbrev pub answer_of : Result (Unit {0}) Stop → Status
+answer_of (Ok done) = Done
+answer_of (Err (Refused status by)) = status
+answer_of (Err (Unwritten text)) = WriteFault (Some text.name)
+answer_of (Err Unsummed) = WriteFault None
+answer_of (Err Wanting) = NoMemory
+
+-- the status of a refused check
+abbrev pub status_of_check : CheckFault → Status
+status_of_check fault = answer_of (Err (stop_of_check fault))
+
+-- The cause of each answer of a check: words in the grammar and a sound mesh; words against it; the refusal of the first step that refuses; a
+-- fault of the sink of the line; and want of memory is free
+abbrev pub IsCheckAnswer : List (List ℕ) → FolderSeen → SinkSeen → Status → Type 0
+IsCheckAnswer words folder out Done = (count : ℕ) × (words_fault words ≡ None) × Checked (options_of words) folder (Ok count)
+IsCheckAnswer words folder out (Usage word place) = words_fault words ≡ Some (word, place)
+IsCheckAnswer words folder out (WriteFault None) = Rose out.faults_before out.faults_now
+IsCheckAnswer words folder out (WriteFault (Some name)) = ⊥
+IsCheckAnswer words folder out NoMemory = Unit {0}
+IsCheckAnswer words folder out status =
+    (fault : CheckFault) × (words_fault words ≡ None) × Checked (options_of words) folder (Err fault) × (status_of_check fault ≡ status)
+
 -- ---- the answer
 
--- The cause of each answer: Done where there are outputs; a fault of the folder in a store; a fault of the sink of the summary; want of
--- memory is free; and any other answer is the refusal of a step
+-- The cause of each answer of a run that makes a mesh: Done where there are outputs; a fault of the folder in a store; a fault of the sink of
+-- the summary; want of memory is free; and any other answer is the refusal of a step
+abbrev pub IsMeshAnswer : List (List ℕ) → FolderSeen → SinkSeen → Status → Type 0
+IsMeshAnswer words folder out Done = (outputs : Outputs) × OutputsOfRun words folder (Ok outputs)
+IsMeshAnswer words folder out (WriteFault None) = Rose out.faults_before out.faults_now
+IsMeshAnswer words folder out (WriteFault (Some name)) = Rose folder.faults_before folder.faults_now
+IsMeshAnswer words folder out NoMemory = Unit {0}
+IsMeshAnswer words folder out status = OutputsOfRun words folder (Err status)
+
+-- by whether the words ask for a check
+abbrev pub AnswerBy : Bool → List (List ℕ) → FolderSeen → SinkSeen → Status → Type 0
+AnswerBy false = IsMeshAnswer
+AnswerBy true = IsCheckAnswer
+
+-- the cause of each answer
 abbrev pub IsAnswer : List (List ℕ) → FolderSeen → SinkSeen → Status → Type 0
-IsAnswer words folder out Done = (outputs : Outputs) × OutputsOfRun words folder (Ok outputs)
-IsAnswer words folder out (WriteFault None) = Rose out.faults_before out.faults_now
-IsAnswer words folder out (WriteFault (Some name)) = Rose folder.faults_before folder.faults_now
-IsAnswer words folder out NoMemory = Unit {0}
-IsAnswer words folder out status = OutputsOfRun words folder (Err status)
+IsAnswer words = AnswerBy (asks_check words) words
 
 -- no count of faults rose
 abbrev pub HasNoFault : FolderSeen → SinkSeen → Type 0
@@ -91,23 +154,39 @@ PartlySummed before (Some line) now = PartlyPut before line now
 -- What each answer leaves. Done: the files with the mesh's and the summary. A fault of a store: the files before the named one whole, of that
 -- one a prefix or nothing. A fault of the summary: all files whole, and a prefix of the summary. Want of memory: the files as they were, or
 -- with some of the mesh's files, from the first on, whole. Every other answer: all as it was.
-abbrev pub IsLeft : List (List ℕ) → FolderSeen → SinkSeen → Status → Type 0
-IsLeft words folder out Done = (outputs : Outputs) × IsMeshOfRun words folder outputs
+abbrev pub IsLeftByMesh : List (List ℕ) → FolderSeen → SinkSeen → Status → Type 0
+IsLeftByMesh words folder out Done = (outputs : Outputs) × IsMeshOfRun words folder outputs
     × (folder.files_now ≡ with_files folder.files_before (in_order outputs.texts)) × (out.written_now ≡ with_summary out.written_before outputs.summary)
-IsLeft words folder out (WriteFault (Some name)) = (outputs : Outputs) × IsMeshOfRun words folder outputs
+IsLeftByMesh words folder out (WriteFault (Some name)) = (outputs : Outputs) × IsMeshOfRun words folder outputs
     × AreStoredInto folder.files_before (in_order outputs.texts) name folder.files_now × (out.written_now ≡ out.written_before)
-IsLeft words folder out (WriteFault None) = (outputs : Outputs) × IsMeshOfRun words folder outputs
+IsLeftByMesh words folder out (WriteFault None) = (outputs : Outputs) × IsMeshOfRun words folder outputs
     × (folder.files_now ≡ with_files folder.files_before (in_order outputs.texts)) × PartlySummed out.written_before outputs.summary out.written_now
-IsLeft words folder out NoMemory = (out.written_now ≡ out.written_before)
+IsLeftByMesh words folder out NoMemory = (out.written_now ≡ out.written_before)
     × ((folder.files_now ≡ folder.files_before)
     ⊎ ((outputs : Outputs) × IsMeshOfRun words folder outputs × AreStoredTo folder.files_before (in_order outputs.texts) folder.files_now))
-IsLeft words folder out status = IsUnchanged folder out
+IsLeftByMesh words folder out status = IsUnchanged folder out
+
+-- What each answer of a check leaves: no file is changed; on Done the line on a sound mesh is put, and after a fault of that a prefix of it
+abbrev pub IsLeftByCheck : List (List ℕ) → FolderSeen → SinkSeen → Status → Type 0
+IsLeftByCheck words folder out Done = (count : ℕ) × Checked (options_of words) folder (Ok count)
+    × (folder.files_now ≡ folder.files_before) × (out.written_now ≡ with_summary out.written_before (sound_summary (options_of words) count))
+IsLeftByCheck words folder out (WriteFault None) = (count : ℕ) × Checked (options_of words) folder (Ok count)
+    × (folder.files_now ≡ folder.files_before) × PartlySummed out.written_before (sound_summary (options_of words) count) out.written_now
+IsLeftByCheck words folder out status = IsUnchanged folder out
+
+-- by whether the words ask for a check
+abbrev pub LeftBy : Bool → List (List ℕ) → FolderSeen → SinkSeen → Status → Type 0
+LeftBy false = IsLeftByMesh
+LeftBy true = IsLeftByCheck
+
+-- what each answer leaves
+abbrev pub IsLeft : List (List ℕ) → FolderSeen → SinkSeen → Status → Type 0
+IsLeft words = LeftBy (asks_check words) words
 
 -- ---- the message
 
 -- the message of the status prints points
 abbrev pub names_points : Status → Bool
-names_points (Twin first second) = true
 names_points (NotFlat facet four) = true
 names_points (SegmentsCross one two) = true
 names_points (Crossing one two) = true
@@ -116,10 +195,11 @@ names_points (BudgetEnd made piece) = true
 names_points (NoFill anomaly) = true
 names_points status = false
 
--- where the message of the status prints points, the input numbers them from this number on
-abbrev pub IsNumbering : List (List ℕ) → FolderSeen → Status → ℕ → Type 0
-IsNumbering words folder status from =
-    IsTrue (names_points status) → (input : Input) × InputAnswer folder (options_of words) (Ok input) × (from ≡ input.nodes.first)
+-- where the message of the status prints points, these are their numbers: those of the points of the input that the words name
+abbrev pub IsNumbering : List (List ℕ) → FolderSeen → Status → Option Numbering → Type 0
+IsNumbering words folder status by =
+    IsTrue (names_points status)
+    → (input : Input) × InputAnswer folder (options_of words) (Ok input) × (bound : Bound) × BoundAnswer (options_of words) input (Ok bound) × (by ≡ Some (numbering_of bound.table))
 
 -- the message is appended, or a prefix of it where the sink failed or wanted memory
 abbrev pub IsPut : List ℕ → SinkSeen → Type 0
@@ -130,32 +210,49 @@ IsPut message err =
 -- Done tells nothing. Every other answer has its message
 abbrev pub IsTold : List (List ℕ) → FolderSeen → SinkSeen → Status → Type 0
 IsTold words folder err Done = err.written_now ≡ err.written_before
-IsTold words folder err status = (from : ℕ) × IsNumbering words folder status from × IsPut (message_of from status) err
+IsTold words folder err status = (by : Option Numbering) × IsNumbering words folder status by × IsPut (message_of by status) err
 
 -- ---- the end of a run
 
--- the answer of a run that ended or stopped so
-abbrev pub answer_of : Result (Unit {0}) Stop → Status
-answer_of (Ok done) = Done
-answer_of (Err (Refused status from)) = status
-answer_of (Err (Unwritten text)) = WriteFault (Some text.name)
-answer_of (Err Unsummed) = WriteFault None
-answer_of (Err Wanting) = NoMemory
+-- how a run that makes a mesh ends before its message
+abbrev pub EndsByMesh : List (List ℕ) → FolderSeen → SinkSeen → Result (Unit {0}) Stop → Type 0
+EndsByMesh words folder out (Ok done) = (outputs : Outputs) × OutputsOfRun words folder (Ok outputs)
+    × (folder.files_now ≡ with_files folder.files_before (in_order outputs.texts)) × (out.written_now ≡ with_summary out.written_before outputs.summary)
+EndsByMesh words folder out (Err (Refused status by)) = IsUnchanged folder out × OutputsOfRun words folder (Err status) × IsNumbering words folder status by
+EndsByMesh words folder out (Err (Unwritten text)) = (outputs : Outputs) × OutputsOfRun words folder (Ok outputs)
+    × AreStoredInto folder.files_before (in_order outputs.texts) text.name folder.files_now × (out.written_now ≡ out.written_before)
+    × Rose folder.faults_before folder.faults_now × TellsFailure text
+EndsByMesh words folder out (Err Unsummed) = (outputs : Outputs) × OutputsOfRun words folder (Ok outputs)
+    × (folder.files_now ≡ with_files folder.files_before (in_order outputs.texts)) × PartlySummed out.written_before outputs.summary out.written_now
+    × Rose out.faults_before out.faults_now
+EndsByMesh words folder out (Err Wanting) = (out.written_now ≡ out.written_before)
+    × ((folder.files_now ≡ folder.files_before)
+    ⊎ ((outputs : Outputs) × OutputsOfRun words folder (Ok outputs) × AreStoredTo folder.files_before (in_order outputs.texts) folder.files_now))
+
+-- how a check ends before its message, where the words are in the grammar: no file is changed
+abbrev pub ChecksSo : Options → FolderSeen → SinkSeen → Result (Unit {0}) Stop → Type 0
+ChecksSo options folder out (Ok done) = (count : ℕ) × Checked options folder (Ok count)
+    × (folder.files_now ≡ folder.files_before) × (out.written_now ≡ with_summary out.written_before (sound_summary options count))
+ChecksSo options folder out (Err (Refused status by)) = (fault : CheckFault) × Checked options folder (Err fault) × (stop_of_check fault ≡ Refused status by) × IsUnchanged folder out
+ChecksSo options folder out (Err (Unwritten text)) = ⊥
+ChecksSo options folder out (Err Unsummed) = (count : ℕ) × Checked options folder (Ok count)
+    × (folder.files_now ≡ folder.files_before) × PartlySummed out.written_before (sound_summary options count) out.written_now × Rose out.faults_before out.faults_now
+ChecksSo options folder out (Err Wanting) = IsUnchanged folder out
+
+-- how a run that asks for a check ends: its words are against the grammar, or memory was wanting, or it checks
+abbrev pub EndsByCheck : List (List ℕ) → FolderSeen → SinkSeen → Result (Unit {0}) Stop → Type 0
+EndsByCheck words folder out (Err (Refused (Usage word place) by)) = (words_fault words ≡ Some (word, place)) × IsUnchanged folder out
+EndsByCheck words folder out (Err Wanting) = IsUnchanged folder out
+EndsByCheck words folder out end = (words_fault words ≡ None) × ChecksSo (options_of words) folder out end
+
+-- by whether the words ask for a check
+abbrev pub EndsBy : Bool → List (List ℕ) → FolderSeen → SinkSeen → Result (Unit {0}) Stop → Type 0
+EndsBy false = EndsByMesh
+EndsBy true = EndsByCheck
 
 -- how a run ends before its message
 abbrev pub EndsSo : List (List ℕ) → FolderSeen → SinkSeen → Result (Unit {0}) Stop → Type 0
-EndsSo words folder out (Ok done) = (outputs : Outputs) × OutputsOfRun words folder (Ok outputs)
-    × (folder.files_now ≡ with_files folder.files_before (in_order outputs.texts)) × (out.written_now ≡ with_summary out.written_before outputs.summary)
-EndsSo words folder out (Err (Refused status from)) = IsUnchanged folder out × OutputsOfRun words folder (Err status) × IsNumbering words folder status from
-EndsSo words folder out (Err (Unwritten text)) = (outputs : Outputs) × OutputsOfRun words folder (Ok outputs)
-    × AreStoredInto folder.files_before (in_order outputs.texts) text.name folder.files_now × (out.written_now ≡ out.written_before)
-    × Rose folder.faults_before folder.faults_now × TellsFailure text
-EndsSo words folder out (Err Unsummed) = (outputs : Outputs) × OutputsOfRun words folder (Ok outputs)
-    × (folder.files_now ≡ with_files folder.files_before (in_order outputs.texts)) × PartlySummed out.written_before outputs.summary out.written_now
-    × Rose out.faults_before out.faults_now
-EndsSo words folder out (Err Wanting) = (out.written_now ≡ out.written_before)
-    × ((folder.files_now ≡ folder.files_before)
-    ⊎ ((outputs : Outputs) × OutputsOfRun words folder (Ok outputs) × AreStoredTo folder.files_before (in_order outputs.texts) folder.files_now))
+EndsSo words = EndsBy (asks_check words) words
 
 -- what the summary leaves in its sink
 abbrev pub IsSummed : Option (List ℕ) → SinkSeen → Result (Unit {0}) Stop → Type 0
@@ -169,18 +266,18 @@ abbrev pub IsTellable : Stop → Type 0
 IsTellable (Unwritten text) = TellsFailure text
 IsTellable stop = Unit {0}
 
--- from which number on the message of a stop numbers points
-abbrev pub numbering_of : Stop → ℕ
-numbering_of (Refused status from) = from
-numbering_of stop = 0
+-- by which numbering the message of a stop tells points
+abbrev pub numbering_in : Stop → Option Numbering
+numbering_in (Refused status by) = by
+numbering_in stop = None
 
 -- nothing was stored before the stop
 abbrev pub IsEarly : Stop → Type 0
-IsEarly (Refused status from) = Unit {0}
+IsEarly (Refused status by) = Unit {0}
 IsEarly stop = ⊥
 
 -- the answer after a stop, and its message; or want of memory, where an early stop found none for that message
 abbrev pub IsToldAs : Stop → SinkSeen → Status → Type 0
 IsToldAs stop err status =
-    ((status ≡ answer_of (Err stop)) × IsPut (message_of (numbering_of stop) (answer_of (Err stop))) err)
-    ⊎ ((status ≡ NoMemory) × IsEarly stop × IsPut (message_of 0 NoMemory) err)
+    ((status ≡ answer_of (Err stop)) × IsPut (message_of (numbering_in stop) (answer_of (Err stop))) err)
+    ⊎ ((status ≡ NoMemory) × IsEarly stop × IsPut (message_of None NoMemory) err)

@@ -2,11 +2,17 @@
 #![tactic(auto)]
 
 #[cfg(test)]
+mod check_tests;
+#[cfg(test)]
 mod cloud_tests;
 #[cfg(test)]
 mod complex_tests;
+#[cfg(test)]
+mod equal_points_tests;
 mod run;
 mod stop;
+#[cfg(test)]
+mod surface_tests;
 #[cfg(test)]
 mod test_inputs;
 #[cfg(test)]

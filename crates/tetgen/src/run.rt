@@ -1,13 +1,15 @@
 //! The run of the program: from its words to the files of a mesh.
 
 ghost use Rattle.std.specs.Prelude.{◌≡◌, ◌≤◌, ◌⊎◌, IsErrOf, Err};
-ghost use Rattle.tetgen.specs.Run.{IsAnswer, IsComplete, IsLeft, IsTold, IsPut, EndsSo, IsSummed, IsTellable, IsToldAs};
+ghost use Rattle.tetgen.specs.Run.{IsAnswer, IsComplete, IsLeft, IsTold, IsPut, ChecksSo, EndsSo, IsSummed, IsTellable, IsToldAs};
 ghost use Rattle.run_steps.specs.Seen.{folder_seen, sink_seen};
 
 use crate::stop::Stop;
-use command_words::read_words;
+use check_steps::{check_files, sound_line};
+use command_words::{Options, read_words};
 use run_steps::{
-    OUT_OF_MEMORY, Outputs, SUMMARY_FAILED, Status, mesh_input, message, read_input, store_all,
+    OUT_OF_MEMORY, Outputs, SUMMARY_FAILED, Status, bind_input, mesh_outputs, message,
+    numbering_of, read_input, store_all,
 };
 use std::alloc::Global;
 use tet_ports::{Bytes, Folder, PutFault, Sink, Words};
@@ -44,20 +46,41 @@ fn run<F: Folder, O: Sink>(
     ensures { EndsSo words.now (folder_seen F.held F.faults F.misses folder.old folder.new) (sink_seen O.written O.faults O.wants out.old out.new) result }
 {
     let options = read_words(alloc, words)?;
+    if options.check {
+        return check(alloc, &options, folder, out);
+    }
     let input = read_input(alloc, &options, folder)?;
-    let numbered_from = input.nodes.first;
-    let outputs = match mesh_input(alloc, &options, input) {
+    let bound = bind_input(alloc, &options, input)?;
+    let numbering = numbering_of(alloc, &bound.table)?;
+    let outputs = match mesh_outputs(alloc, &options, bound) {
         Ok(outputs) => outputs,
         Err(status) => {
             return Err(Stop::Refused {
                 status,
-                numbered_from,
+                numbering: Some(numbering),
             });
         }
     };
     let Outputs { texts, summary } = outputs;
     store_all(texts.in_order(alloc)?, folder)?;
     sum_up(summary, out)
+}
+
+/// The check of a mesh: it stores nothing, and puts one line on a sound mesh.
+fn check<F: Folder, O: Sink>(
+    alloc: Global,
+    options: &Options,
+    folder: &mut F,
+    out: &mut O,
+) -> Result<(), Stop>
+    ensures { ChecksSo options.now (folder_seen F.held F.faults F.misses folder.old folder.new) (sink_seen O.written O.faults O.wants out.old out.new) result }
+{
+    let count = check_files(alloc, &options.base, options.decimals, folder)?;
+    if options.quiet {
+        return Ok(());
+    }
+    let line = sound_line(alloc, count)?;
+    sum_up(Some(line), out)
 }
 
 /// Puts the summary, where there is one.
@@ -87,10 +110,7 @@ fn tell<E: Sink>(alloc: Global, stop: Stop, err: &mut E) -> Status
     ensures { IsToldAs stop (sink_seen E.written E.faults E.wants err.old err.new) result }
 {
     match stop {
-        Stop::Refused {
-            status,
-            numbered_from,
-        } => match message(alloc, numbered_from, &status) {
+        Stop::Refused { status, numbering } => match message(alloc, &numbering, &status) {
             Ok(line) => {
                 put(line.as_slice(), err);
                 status

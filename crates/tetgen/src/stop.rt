@@ -1,18 +1,22 @@
 //! Why a run stopped before its end.
 
-ghost use Rattle.std.specs.Prelude.{◌≡◌};
-ghost use Rattle.tetgen.specs.Stops.{stop_of_words, stop_of_store};
+ghost use Rattle.std.specs.Prelude.{◌≡◌, None};
+ghost use Rattle.tetgen.specs.Stops.{stop_of_words, stop_of_check, stop_of_store};
 ghost use Rattle.tetgen.specs.declared.stop.Stop.TheVariants.{Refused};
 
+use check_steps::CheckFault;
 use command_words::WordsFault;
-use run_steps::{NamedText, Status, StoreStop};
+use run_steps::{LimitKind, NamedText, Numbering, Status, StoreStop};
 use tet_ports::NoMemory;
 
 /// Why a run stopped before its end.
 #[derive(Drop)]
 pub enum Stop {
-    /// An answer before which nothing was stored. The input numbers its points from `numbered_from` on, where it was read.
-    Refused { status: Status, numbered_from: u32 },
+    /// An answer before which nothing was stored, and the numbers of the input's points, where they are on their grid.
+    Refused {
+        status: Status,
+        numbering: Option<Numbering>,
+    },
     /// The folder failed in the store of this text.
     Unwritten(NamedText),
     /// The summary could not be put.
@@ -21,12 +25,12 @@ pub enum Stop {
 }
 
 impl From<Status> for Stop {
-    ghost from_gives = { λ status stop. stop ≡ Refused status 0 };
+    ghost from_gives = { λ status stop. stop ≡ Refused status None };
 
     fn from(status: Status) -> Stop {
         Stop::Refused {
             status,
-            numbered_from: 0,
+            numbering: None,
         }
     }
 }
@@ -38,6 +42,31 @@ impl From<WordsFault> for Stop {
         match fault {
             WordsFault::Usage { word, place } => Stop::from(Status::Usage { word, place }),
             WordsFault::NoMemory => Stop::NoMemory,
+        }
+    }
+}
+
+impl From<CheckFault> for Stop {
+    ghost from_gives = { λ fault stop. stop ≡ stop_of_check fault };
+
+    fn from(fault: CheckFault) -> Stop {
+        match fault {
+            CheckFault::Missing { name } => Stop::from(Status::Missing { name }),
+            CheckFault::ReadFault { name } => Stop::from(Status::ReadFault { name }),
+            CheckFault::BadText { name, fault } => Stop::from(Status::BadText { name, fault }),
+            CheckFault::TooLong { name } => Stop::from(Status::Limit {
+                what: LimitKind::Bytes { name },
+            }),
+            CheckFault::TooMany { count } => Stop::from(Status::Limit {
+                what: LimitKind::MeshPoints { count },
+            }),
+            CheckFault::OffGrid { line } => Stop::from(Status::Limit {
+                what: LimitKind::Grid { line },
+            }),
+            CheckFault::Unsound { defect, first } => {
+                Stop::from(Status::Unsound { defect, first })
+            }
+            CheckFault::NoMemory => Stop::NoMemory,
         }
     }
 }

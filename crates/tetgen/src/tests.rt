@@ -21,7 +21,7 @@ pub(crate) type Left<'a> = (&'a [u8], Option<&'a [u8]>);
 
 /// A folder and the two streams, and how the last run with them ended.
 #[derive(Drop)]
-struct Place {
+pub(crate) struct Place {
     status: Status,
     folder: MemFolder,
     out: MemSink,
@@ -47,7 +47,7 @@ fn has_put(sink: &MemSink, text: Option<&[u8]>) -> bool {
 
 impl Place {
     /// A folder with these files.
-    fn with_files(alloc: Global, files: &[File]) -> Result<Place, NoMemory> {
+    pub(crate) fn with_files(alloc: Global, files: &[File]) -> Result<Place, NoMemory> {
         let mut folder = MemFolder::new(alloc);
         for (name, text) in files {
             folder.add(
@@ -64,7 +64,7 @@ impl Place {
     }
 
     /// Runs the program on these words.
-    fn run(&mut self, alloc: Global, words: &[&[u8]]) -> Result<(), NoMemory> {
+    pub(crate) fn run(&mut self, alloc: Global, words: &[&[u8]]) -> Result<(), NoMemory> {
         let words = words_of(alloc, words)?;
         let Place {
             status,
@@ -83,7 +83,7 @@ impl Place {
     }
 
     /// Whether the last run ended so and left these files.
-    fn has(&self, alloc: Global, end: End, files: &[Left]) -> Result<bool, NoMemory> {
+    pub(crate) fn has(&self, alloc: Global, end: End, files: &[Left]) -> Result<bool, NoMemory> {
         let (code, out, err) = end;
         let mut holds = true;
         for (name, text) in files {
@@ -244,7 +244,7 @@ fn switches_choose_the_files(rt: HostRuntime) -> Result<(), Fail> {
     Ok(())
 }
 
-const REFUSALS: [Run<'static>; 13] = [
+const REFUSALS: [Run<'static>; 12] = [
     // No word.
     Run {
         held: &[],
@@ -355,16 +355,6 @@ const REFUSALS: [Run<'static>; 13] = [
         ),
         files: &[(b"t.1.node", None)],
     },
-    // Equal points.
-    Run {
-        held: &[(
-            b"t.node",
-            b"5\n1 0 0 0\n2 1 0 0\n3 0 1 0\n4 0 0 1\n5 1.0 0 0\n",
-        )],
-        words: &[b"-z", b"t"],
-        end: (6, Some(b""), Some(b"tetgen: points 2 and 5 are equal\n")),
-        files: &[],
-    },
     // Points of a plane.
     Run {
         held: &[(b"t.node", b"3\n1 0 0 0\n2 1 0 0\n3 0 1 0\n")],
@@ -414,7 +404,7 @@ const WRITTEN_BACK: [Run<'static>; 4] = [
     Run {
         held: &[(b"t.node", THIRD)],
         words: &[b"--decimals=3", b"t", b"--decimals=0"],
-        end: (6, Some(b""), Some(b"tetgen: points 1 and 4 are equal\n")),
+        end: (6, Some(b""), Some(b"tetgen: all points lie in one plane\n")),
         files: &[],
     },
 ];

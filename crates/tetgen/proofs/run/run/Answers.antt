@@ -2,9 +2,36 @@ use Rattle.std.proofs.Common.{◌≡◌, refl, subst, Ok, arith}
 use Rattle.std.proofs.lemmas.Result.{err_from_is_err_and}
 use Rattle.run_steps.specs.Seen.{FolderSeen, SinkSeen, folder_seen, sink_seen}
 use Rattle.run_steps.specs.Stores.{AreLeft, with_files}
-use Rattle.tetgen.proofs.Runs.{failed_wider, mesh_end, store_end, summed_end, outputs_run, run_told}
+use Rattle.tetgen.proofs.Runs.{bound_end, by_check, want_end, failed_wider, mesh_end, store_end, summed_end, outputs_run, run_told}
 use Rattle.run_steps.proofs.Wider.{IsWithin, input_wider}
 use Rattle.tetgen.proofs.run.run.Goals as goal
+
+pub returns-in_err-bound : goal.returns-in_err-bound
+returns-in_err-bound g c =
+    let F = g.F.Folder in
+    let O = g.O.Sink in
+    let folder : FolderSeen = folder_seen F.held F.faults F.misses c.args.folder.now c.read_input.new.folder in
+    let out : SinkSeen = sink_seen O.written O.faults O.wants c.args.out.now c.args.out.now in
+    let p = err_from_is_err_and c.from_residual-in_err-bound.result c.from_residual-in_err-bound.ensures.1 in
+    rw (p.1, p.2) (bound_end c.args.words.now folder out c.in_ok-options.options c.in_ok-input.input c.in_err-bound.field-0.0 (c.in_ok-options.ensures.understood, c.in_ok-options.ensures.options) c.if-options.false
+    c.in_ok-input.ensures.answer c.in_err-bound.ensures.answer (record { files = c.read_input.ensures.unchanged; written = refl }))
+
+pub returns-then-options : goal.returns-then-options
+returns-then-options g c =
+    let F = g.F.Folder in
+    let O = g.O.Sink in
+    let folder : FolderSeen = folder_seen F.held F.faults F.misses c.args.folder.now c.check.new.folder in
+    let out : SinkSeen = sink_seen O.written O.faults O.wants c.args.out.now c.check.new.out in
+    by_check c.args.words.now folder out c.in_ok-options.options c.check.result (c.in_ok-options.ensures.understood, c.in_ok-options.ensures.options) c.if-options.true c.check.ensures
+
+pub returns-in_err-numbering : goal.returns-in_err-numbering
+returns-in_err-numbering g c =
+    let F = g.F.Folder in
+    let O = g.O.Sink in
+    let folder : FolderSeen = folder_seen F.held F.faults F.misses c.args.folder.now c.read_input.new.folder in
+    let out : SinkSeen = sink_seen O.written O.faults O.wants c.args.out.now c.args.out.now in
+    let p = err_from_is_err_and c.from_residual-in_err-numbering.result c.from_residual-in_err-numbering.ensures.1 in
+    rw (p.1, p.2) (want_end c.args.words.now folder out (record { files = c.read_input.ensures.unchanged; written = refl }))
 
 pub returns-in-Err : goal.returns-in-Err
 returns-in-Err g c =
@@ -12,8 +39,8 @@ returns-in-Err g c =
     let O = g.O.Sink in
     let folder : FolderSeen = folder_seen F.held F.faults F.misses c.args.folder.now c.read_input.new.folder in
     let out : SinkSeen = sink_seen O.written O.faults O.wants c.args.out.now c.args.out.now in
-    mesh_end c.args.words.now folder out c.in_ok-options.options c.in_ok-input.input c.in-Err.status (c.in_ok-options.ensures.understood, c.in_ok-options.ensures.options)
-    c.in_ok-input.ensures.answer c.in-Err.ensures (record { files = c.read_input.ensures.unchanged; written = refl })
+    rw c.in_ok-numbering.ensures (mesh_end c.args.words.now folder out c.in_ok-options.options c.in_ok-input.input c.in_ok-bound.bound c.in-Err.status (c.in_ok-options.ensures.understood, c.in_ok-options.ensures.options) c.if-options.false
+    c.in_ok-input.ensures.answer c.in_ok-bound.ensures.answer c.in-Err.ensures (record { files = c.read_input.ensures.unchanged; written = refl }))
 
 pub returns-in_err-store_all : goal.returns-in_err-store_all
 returns-in_err-store_all g c =
@@ -33,7 +60,7 @@ returns-in_err-store_all g c =
     let o = c.in_ok-options.options in
     let outputs = c.in-Ok.outputs in
     let read = input_wider part folder within o (Ok c.in_ok-input.input) c.in_ok-input.ensures.answer in
-    let ran = outputs_run c.args.words.now folder o c.in_ok-input.input outputs (c.in_ok-options.ensures.understood, c.in_ok-options.ensures.options) read c.in-Ok.ensures in
+    let ran = outputs_run c.args.words.now folder o c.in_ok-input.input c.in_ok-bound.bound outputs (c.in_ok-options.ensures.understood, c.in_ok-options.ensures.options) read c.in_ok-bound.ensures.answer c.in-Ok.ensures in
     let out : SinkSeen = sink_seen O.written O.faults O.wants c.args.out.now c.args.out.now in
     let stop = c.in_err-store_all.field-0.0 in
     let now = F.held c.store_all.new.folder in
@@ -41,7 +68,7 @@ returns-in_err-store_all g c =
     (subst (λ files. AreLeft files c.in_ok-in_order.field-0.items now stop) a.unchanged c.in_err-store_all.ensures.stopped) in
     let rose = failed_wider stop (F.faults c.args.folder.now) (F.faults c.read_input.new.folder) (F.faults c.store_all.new.folder) a.faults c.in_err-store_all.ensures.failed in
     let p = err_from_is_err_and c.from_residual-in_err-store_all.result c.from_residual-in_err-store_all.ensures.1 in
-    rw (p.1, p.2) (store_end c.args.words.now folder out outputs stop ran left rose (run_told c.args.words.now folder outputs ran) refl)
+    rw (p.1, p.2) (store_end c.args.words.now folder out o outputs stop (c.in_ok-options.ensures.understood, c.in_ok-options.ensures.options) c.if-options.false ran left rose (run_told c.args.words.now folder outputs ran) refl)
 
 pub returns : goal.returns
 returns g c =
@@ -61,9 +88,9 @@ returns g c =
     let o = c.in_ok-options.options in
     let outputs = c.in-Ok.outputs in
     let read = input_wider part folder within o (Ok c.in_ok-input.input) c.in_ok-input.ensures.answer in
-    let ran = outputs_run c.args.words.now folder o c.in_ok-input.input outputs (c.in_ok-options.ensures.understood, c.in_ok-options.ensures.options) read c.in-Ok.ensures in
+    let ran = outputs_run c.args.words.now folder o c.in_ok-input.input c.in_ok-bound.bound outputs (c.in_ok-options.ensures.understood, c.in_ok-options.ensures.options) read c.in_ok-bound.ensures.answer c.in-Ok.ensures in
     let out : SinkSeen = sink_seen O.written O.faults O.wants c.args.out.now c.sum_up.new.out in
     let now = F.held c.store_all.new.folder in
     let stored = subst (λ texts. now ≡ with_files (F.held c.args.folder.now) texts) c.in_ok-in_order.ensures
     (subst (λ files. now ≡ with_files files c.in_ok-in_order.field-0.items) a.unchanged c.in_ok-store_all.ensures.stored) in
-    summed_end c.args.words.now folder out outputs c.sum_up.result ran stored c.sum_up.ensures
+    summed_end c.args.words.now folder out o outputs c.sum_up.result (c.in_ok-options.ensures.understood, c.in_ok-options.ensures.options) c.if-options.false ran stored c.sum_up.ensures
