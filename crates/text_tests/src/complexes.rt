@@ -453,12 +453,12 @@ fn bound_fault(alloc: Global, text: &[u8]) -> Option<PlcFault> {
 }
 
 const LIMITS: [(&[u8], &[u8], usize, Option<PlcFault>); 5] = [
-    (b"0\n2000\n", b"1\n1 1\n", 2000, None),
+    (b"0\n20000\n", b"1\n1 1\n", 20_000, None),
     (
-        b"0\n2001\n",
+        b"0\n20001\n",
         b"1\n1 1\n",
-        2001,
-        Some(PlcFault::Facets { count: 2001 }),
+        20_001,
+        Some(PlcFault::Facets { count: 20_001 }),
     ),
     (b"0\n1\n1\n1000", b" 1", 1000, None),
     (
@@ -622,8 +622,8 @@ fn messages(rt: HostRuntime) {
     for (fault, text) in [
         (extra, "line 3: too many"),
         (
-            PlcFault::Facets { count: 2001 },
-            "2001 facets, at most 2000",
+            PlcFault::Facets { count: 20_001 },
+            "20001 facets, at most 20000",
         ),
         (corners, "line 4: 1001 corners, at most 1000"),
         (PlcFault::NoMemory, "out of memory"),

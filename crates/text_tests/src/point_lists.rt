@@ -10,6 +10,7 @@ use grid_coords::{DecimalPoint, DecimalPoints, Grid};
 use node_files::*;
 use sign_predicates::GridPoint;
 use std::alloc::Global;
+use std::test::Fail;
 use tet_ports::{Bytes, Name, NoMemory, Words};
 use tet_text::TextKind::{BadCount, BadIndex, Ended, Extra, NotANumber};
 use tet_text::{Decimal, Lines, TextFault, TextKind};
@@ -219,7 +220,7 @@ fn faults(rt: HostRuntime) {
 /// What settling the list of this text gives.
 fn settled(alloc: Global, text: &[u8], options: GridOptions) -> Result<NodeTable, NodeFault>
     ensures table { IfOk result IsNodeTable }
-    ensures few { IfOk result (λ table. length table.points ≤ most_points) }
+    ensures few { IfOk result (λ table. length table.listed ≤ most_points) }
 {
     settle(alloc, read(alloc, text)?, &options)
 }
@@ -239,23 +240,12 @@ const UNITS: GridOptions = GridOptions {
     halvings: 12,
 };
 
-const REFUSALS: [(&[u8], GridOptions, Option<NodeFault>); 7] = [
+const REFUSALS: [(&[u8], GridOptions, Option<NodeFault>); 6] = [
     (SMALLEST, PLAIN, None),
     (
         b"5\n1 0 0 0\n2 1 0 0\n3 0 1 0\n4 0 0 1\n5 1.0 0 0\n",
         PLAIN,
-        Some(NodeFault::Twin {
-            first: 1,
-            second: 4,
-        }),
-    ),
-    (
-        b"5\n0 0 0 0\n1 1 0 0\n2 0 1 0\n3 0 1 0\n4 1 0 0\n",
-        PLAIN,
-        Some(NodeFault::Twin {
-            first: 2,
-            second: 3,
-        }),
+        None,
     ),
     (
         b"4\n1 0 0 0\n2 1 0 0\n3 0 1 0\n4 0 0 0.33333333333333331\n",
@@ -267,14 +257,7 @@ const REFUSALS: [(&[u8], GridOptions, Option<NodeFault>); 7] = [
         THOUSANDTHS,
         None,
     ),
-    (
-        b"2\n1 0 0 0.4\n2 0 0 -0.4\n",
-        UNITS,
-        Some(NodeFault::Twin {
-            first: 0,
-            second: 1,
-        }),
-    ),
+    (b"2\n1 0 0 0.4\n2 0 0 -0.4\n", UNITS, None),
     (
         b"2\n1 -8388608 0 8388608\n2 0 -8388609 0\n",
         PLAIN,
@@ -325,14 +308,45 @@ fn fault_of_alike(alloc: Global, count: usize) -> Option<NodeFault> {
 
 #[test]
 fn too_many_points(rt: HostRuntime) {
-    let twin = NodeFault::Twin {
-        first: 0,
-        second: 1,
-    };
     let many = NodeFault::TooMany { count: 20_001 };
-    for (count, fault) in [(20_000, twin), (20_001, many)] {
-        assert_eq!(rt; fault_of_alike(rt.alloc(), count), Some(fault));
+    for (count, fault) in [(20_000, None), (20_001, Some(many))] {
+        assert_eq!(rt; fault_of_alike(rt.alloc(), count), fault);
     }
+}
+
+/// Lists with the names of their kept points and of two added ones, and the place of the kept point
+/// that is equal to each.
+const FOLDED: [(&[u8], GridOptions, &[u32], &[u32]); 4] = [
+    (SMALLEST, PLAIN, &[0, 1, 2, 3, 4, 5], &[0, 1, 2, 3]),
+    (
+        b"5\n0 0 0 0\n1 1 0 0\n2 1.0 0 0\n3 0 1 0\n4 1 0 0\n",
+        PLAIN,
+        &[0, 1, 3, 5, 6],
+        &[0, 1, 1, 2, 1],
+    ),
+    (b"2\n1 0 0 0.4\n2 0 0 -0.4\n", UNITS, &[0, 2, 3], &[0, 0]),
+    (b"0\n", PLAIN, &[0, 1], &[]),
+];
+
+/// Whether the list of a text has these names and folds its points so.
+fn folds(
+    alloc: Global,
+    text: &[u8],
+    options: GridOptions,
+    names: &[u32],
+    folded: &[u32],
+) -> Result<bool, NodeFault> {
+    let table = settled(alloc, text, options)?;
+    let all = names_of(alloc, &table, 2)?;
+    Ok(all.as_slice() == names && table.folded.as_slice() == folded)
+}
+
+#[test]
+fn equal_points(rt: HostRuntime) -> Result<(), Fail> {
+    for (text, options, names, folded) in &FOLDED {
+        assert!(rt; folds(rt.alloc(), text, *options, names, folded)?);
+    }
+    Ok(())
 }
 
 const ADDED: GridPoint = GridPoint {
@@ -415,7 +429,7 @@ fn written_table(
     case: &TableCase,
 ) -> Result<Option<Bytes>, NoMemory>
     requires table { IsNodeTable table.now }
-    requires few { length table.now.points ≤ most_points }
+    requires few { length table.now.listed ≤ most_points }
 {
     let is_wanted = table.grid == case.grid;
     if !is_wanted || !are_grid_points(table.points.as_slice(), case.points) {
