@@ -17,3 +17,4 @@ pub use place::{to_grid, to_rat};
 pub use points::{DecimalPoint, DecimalPoints};
 pub use printing::print_grid;
 pub use rounding::round_to;
+pub use units::units_within;

@@ -46,7 +46,7 @@ fn doubled(number: u64, steps: u32, most: u64) -> Option<u64>
 
 /// The size of the number in units of 1 / (10^`decimals` × 2^`halvings`), or None where that is
 /// over `most`.
-pub(crate) fn units_within(d: &Decimal, decimals: u64, halvings: u32, most: u64) -> Option<u64>
+pub fn units_within(d: &Decimal, decimals: u64, halvings: u32, most: u64) -> Option<u64>
     ensures { result ≡ within most (units decimals halvings d.now) }
 {
     let steps = decimals.saturating_sub(u64::from(d.scale));

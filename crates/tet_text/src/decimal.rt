@@ -122,8 +122,9 @@ pub(crate) fn short_decimal(negative: bool, number: u64, decimals: u32) -> Decim
     Decimal { value, scale }
 }
 
+/// The decimal that a text writes, as `read_decimal` reads it of a field; None where it writes none.
 #[tactic(auto, using(crate::proofs::Scaling::signed_is_decimal), unfolding(crate::specs::Decimals::decimal_of_parts))]
-fn decimal_in(text: &[u8]) -> Option<Decimal>
+pub fn decimal_in(text: &[u8]) -> Option<Decimal>
     ensures { result ≡ decimal_of text.now }
 {
     let (negative, unsigned) = cut_sign(text);
