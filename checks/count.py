@@ -1,0 +1,62 @@
+"""Counts what a reader minds, and compares each count with the most that checks/counts allows: a count may fall, and then its line there is to be lowered; it may not rise."""
+import re
+import subprocess
+import sys
+
+SOURCE_WIDTH, SPEC_WIDTH, FUNCTION_LINES = 100, 140, 40
+IMPORT = re.compile(r"\s*(pub )?(ghost )?use ")
+FUNCTION = re.compile(r"( *)(pub(\([a-z]+\))? )?(const )?fn ")
+
+
+def files(*patterns):
+    return subprocess.run(["git", "ls-files", *patterns], capture_output=True, text=True, check=True).stdout.split()
+
+
+def lines_of(file):
+    with open(file, encoding="utf-8") as it:
+        return it.read().split("\n")
+
+
+def wide(names, width):
+    """The lines over a width, in characters. An import is as long as the names that it brings in."""
+    for file in names:
+        for number, line in enumerate(lines_of(file), 1):
+            if len(line) > width and not IMPORT.match(line):
+                yield f"{file}:{number}: {len(line)} characters"
+
+
+def long_functions(names):
+    """The functions whose bodies have more lines than a reader keeps in view."""
+    for file in names:
+        start = indent = body = None
+        for number, line in enumerate(lines_of(file), 1):
+            head = FUNCTION.match(line)
+            if head:
+                start, indent, body = number, head[1], None
+            if start and body is None and line.endswith("{"):
+                body = number
+            if start and body is not None and line == indent + "}":
+                if number - body - 1 > FUNCTION_LINES:
+                    yield f"{file}:{start}: {number - body - 1} lines"
+                start = None
+
+
+def main():
+    sources = files("crates/*.rt")
+    specs = [it for it in files("crates/*.antt") if "/specs/" in it]
+    found = {
+        f"source lines over {SOURCE_WIDTH} columns": [*wide(sources, SOURCE_WIDTH)],
+        f"spec lines over {SPEC_WIDTH} columns": [*wide(specs, SPEC_WIDTH)],
+        f"functions over {FUNCTION_LINES} lines": [*long_functions(sources)],
+    }
+    with open("checks/counts", encoding="utf-8") as it:
+        most = dict(reversed(line.strip().split(" ", 1)) for line in it if line.strip())
+    for what, places in found.items():
+        allowed = int(most.get(what, 0))
+        if len(places) > allowed:
+            print(f"{len(places)} {what}, where at most {allowed} are allowed:", *places, sep="\n  ")
+        elif len(places) < allowed:
+            print(f"note: {len(places)} {what}: lower the {allowed} of checks/counts", file=sys.stderr)
+
+
+main()
