@@ -43,7 +43,7 @@ number_at_front most text = within most (number_of 9 (take (digit_count text) te
 
 -- the letters of the table that have no number
 abbrev pub is_letter : ℕ → Bool
-is_letter byte = list_any (λ known. known == byte) (codes "pnfezcAQNEFrC")
+is_letter byte = list_any (λ known. known == byte) (codes "pnfezcAQNEFMrC")
 
 -- the number of an S, where these bytes stand behind it: at most 100,000 points may be added
 abbrev pub budget_at_front : List ℕ → Option ℕ

@@ -32,7 +32,8 @@ is_piecewise asked (Some Stl) = true
 
 -- ---- the options
 
--- what the words ask for; 112 is p, 110 n, 102 f, 101 e, 122 z, 99 c, 65 A, 81 Q, 78 N, 69 E, 70 F and 114 r. Of the sample no file is stored
+-- What the words ask for; 112 is p, 110 n, 102 f, 101 e, 122 z, 99 c, 65 A, 81 Q, 78 N, 69 E, 70 F, 77 M and 114 r.
+-- Of the sample no file is stored
 abbrev pub options_of : List (List ℕ) → Options
 options_of words = record {
   piecewise = is_piecewise (is_switched words 112 || is_sampled words) (extension_of (name_of words));
@@ -46,6 +47,7 @@ options_of words = record {
   no_node = is_switched words 78 || is_sampled words;
   no_ele = is_switched words 69 || is_sampled words;
   no_face = is_switched words 70 || is_sampled words;
+  keep_facets = is_switched words 77;
   check = is_switched words 114;
   budget = unwrap_or (last_budget words) 100000;
   halvings = unwrap_or (last_number (codes "--halvings=") 12 words) 12;

@@ -19,7 +19,7 @@ pub enum Extension {
 
 /// What the words of the command line ask for.
 ///
-/// The switches stand in the order of the letters p, n, f, e, z, c, A, Q, N, E, F, r.
+/// The switches stand in the order of the letters p, n, f, e, z, c, A, Q, N, E, F, M, r.
 #[derive(Debug, Drop)]
 pub struct Options {
     /// Mesh a piecewise linear complex.
@@ -47,6 +47,8 @@ pub struct Options {
     pub no_ele: bool,
     /// No `.face` file and no `.edge` file.
     pub no_face: bool,
+    /// Do not merge coplanar facets of a complex: each side of a facet is a segment.
+    pub keep_facets: bool,
     /// Read a mesh and check it; nothing is stored. The letters r and C put this on, which stand
     /// only together.
     pub check: bool,

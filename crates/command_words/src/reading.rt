@@ -19,7 +19,7 @@ use tet_ports::{Name, Words};
 ///
 /// `Usage` exactly where they are not in the grammar, with the first fault: the word's number and
 /// the place in it.
-/// The switches c, A and S are read also where no complex is meshed, and have no effect there.
+/// The switches c, A, S and M are read also where no complex is meshed, and have no effect there.
 pub fn read_words(alloc: Global, words: &Words) -> Result<Options, WordsFault>
     ensures understood { IfOk result (λ options. words_fault words.now ≡ None) }
     ensures options { IfOk result (λ options. options ≡ options_of words.now) }
@@ -47,6 +47,7 @@ pub fn read_words(alloc: Global, words: &Words) -> Result<Options, WordsFault>
         no_node: is_left_out(is_switched(words, b'N'), sampled),
         no_ele: is_left_out(is_switched(words, b'E'), sampled),
         no_face: is_left_out(is_switched(words, b'F'), sampled),
+        keep_facets: is_switched(words, b'M'),
         check: is_switched(words, b'r'),
         budget: last_budget(words).unwrap_or(MOST_BUDGET),
         halvings: last_number(HALVINGS, MOST_HALVINGS, words).unwrap_or(MOST_HALVINGS),

@@ -222,6 +222,7 @@ struct Asked<'a> {
     piecewise: bool,
     from_zero: bool,
     keep_hull: bool,
+    keep_facets: bool,
     budget: u32,
     halvings: u32,
     decimals: Option<u32>,
@@ -235,6 +236,7 @@ const PLAIN: Asked<'static> = Asked {
     piecewise: false,
     from_zero: false,
     keep_hull: false,
+    keep_facets: false,
     budget: 100_000,
     halvings: 12,
     decimals: None,
@@ -258,10 +260,11 @@ const ASKING: [Asking; 9] = [
     },
     Asking {
         name: "a cluster",
-        words: &[b"-pS100nz", b"name"],
+        words: &[b"-pS100nzM", b"name"],
         asked: Asked {
             piecewise: true,
             from_zero: true,
+            keep_facets: true,
             budget: 100,
             ..PLAIN
         },
@@ -343,6 +346,7 @@ fn asked_of(options: &Options) -> Asked<'_> {
         piecewise: options.piecewise,
         from_zero: options.from_zero,
         keep_hull: options.keep_hull,
+        keep_facets: options.keep_facets,
         budget: options.budget,
         halvings: options.halvings,
         decimals: options.decimals,
