@@ -87,7 +87,7 @@ mesh_options options table = record {
   halvings = table.grid.halvings;
   budget = options.budget;
   keep_hull = options.keep_hull;
-  keep_facets = false;
+  keep_facets = options.keep_facets;
   regions = options.regions;
 }
 

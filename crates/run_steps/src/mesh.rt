@@ -274,7 +274,7 @@ fn mesh_options(options: &Options, table: &NodeTable) -> MeshOptions
         halvings: table.grid.halvings,
         budget: options.budget,
         keep_hull: options.keep_hull,
-        keep_facets: false,
+        keep_facets: options.keep_facets,
         regions: options.regions,
     }
 }
