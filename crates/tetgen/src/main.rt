@@ -9,6 +9,8 @@ mod cloud_tests;
 mod complex_tests;
 #[cfg(test)]
 mod equal_points_tests;
+#[cfg(test)]
+mod merged_facet_tests;
 mod run;
 mod stop;
 #[cfg(test)]

@@ -623,6 +623,16 @@ fn wide_polygon(alloc: Global) -> Result<Bytes, NoMemory> {
     Ok(text)
 }
 
+/// A complex with 20,001 facets of one polygon, whose only corner is the first of four points.
+fn many_facets(alloc: Global) -> Result<Bytes, NoMemory> {
+    let mut text = Bytes::from_slice(alloc, b"4\n0 0 0 0\n1 1 0 0\n2 0 1 0\n3 0 0 1\n20001\n")?;
+    for _ in 0..20_001 {
+        text.append(b"1\n1 0\n")?;
+    }
+    text.append(b"0\n")?;
+    Ok(text)
+}
+
 /// Whether a run on one large file is refused with this message.
 fn refuses_large(
     alloc: Global,
@@ -676,6 +686,21 @@ fn a_polygon_of_too_many_corners_is_refused(rt: HostRuntime) -> Result<(), Fail>
             b"t.poly",
             &wide,
             b"tetgen: line 7: 1001 corners, at most 1000\n"
+        )?
+    );
+    Ok(())
+}
+
+#[test]
+fn too_many_facets_are_refused(rt: HostRuntime) -> Result<(), Fail> {
+    let alloc = rt.alloc();
+    let many = many_facets(alloc)?;
+    assert!(rt;
+        refuses_large(
+            alloc,
+            b"t.poly",
+            &many,
+            b"tetgen: 20001 facets, at most 20000\n"
         )?
     );
     Ok(())
