@@ -15,7 +15,7 @@ const SPLIT_NODE: &[u8] =
     b"9 3 0 0\n1 0 0 0\n2 2 0 0\n3 2 2 0\n4 0 2 0\n5 0 0 12\n6 2 0 12\n7 2 2 12\n8 0 2 12\n\
       9 1 1 0\n";
 
-const MERGED: [Run<'static>; 6] = [
+const MERGED: [Run<'static>; 7] = [
     // The files of the bar with a bottom of four corners.
     Run {
         held: &[(b"bar.poly", CUT_BAR)],
@@ -68,6 +68,23 @@ const MERGED: [Run<'static>; 6] = [
         end: (
             0,
             Some(b"points 8 added 0 tetrahedra 6 faces 18 edges 19\n"),
+            Some(b""),
+        ),
+        files: &[],
+    },
+    // A prism over an angle that is cut into triangles, at its bottom otherwise than at its top.
+    Run {
+        held: &[(
+            b"t.off",
+            b"OFF\n12 14 0\n0 0 0\n2 0 0\n2 1 0\n1 1 0\n1 2 0\n0 2 0\n\
+              0 0 1\n2 0 1\n2 1 1\n1 1 1\n1 2 1\n0 2 1\n\
+              3 0 1 2\n3 0 2 3\n3 0 3 4\n3 0 4 5\n3 9 10 11\n3 9 11 6\n3 9 6 7\n3 9 7 8\n\
+              4 0 1 7 6\n4 1 2 8 7\n4 2 3 9 8\n4 3 4 10 9\n4 4 5 11 10\n4 5 0 6 11\n",
+        )],
+        words: &[b"t.off"],
+        end: (
+            0,
+            Some(b"points 12 added 0 tetrahedra 12 faces 34 edges 33\n"),
             Some(b""),
         ),
         files: &[],
