@@ -1,0 +1,10 @@
+//! The weights of the points of a list.
+#![tactic(auto)]
+
+mod fault;
+mod reading;
+mod units;
+
+pub use fault::WeightFault;
+pub use reading::read_weights;
+pub use units::to_weight;
