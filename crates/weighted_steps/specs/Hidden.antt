@@ -1,0 +1,13 @@
+-- How many points a list of tetrahedra hides.
+use Rattle.std.specs.Prelude.{ℕ, Bool, not, List, count_by}
+use Rattle.std.specs.List.{list_any}
+use Rattle.geo_laws.specs.Delaunay.{numbers_below, has_corner}
+use Rattle.geo_laws.specs.declared.tetrahedra.Tet.{Tet}
+
+-- whether the point with this number is a corner of no row
+abbrev pub is_hidden : List Tet → ℕ → Bool
+is_hidden rows i = not (list_any (λ t. has_corner t i) rows)
+
+-- how many of so many points are corners of no row
+abbrev pub hidden_count : ℕ → List Tet → ℕ
+hidden_count n rows = count_by (is_hidden rows) (numbers_below n)

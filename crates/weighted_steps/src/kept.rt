@@ -1,0 +1,25 @@
+//! The weights of the points that are kept.
+
+ghost use Rattle.std.specs.Prelude.{◌≡◌, ◌<◌, length, map, All, IfOk};
+ghost use Rattle.regular_laws.specs.Regular.{weight};
+
+use node_files::Names;
+use regular_laws::Weights;
+use std::alloc::Global;
+use tet_ports::NoMemory;
+
+/// The weights of the points with these names.
+pub(crate) fn kept_weights(
+    alloc: Global,
+    names: &Names,
+    weights: &Weights,
+) -> Result<Weights, NoMemory>
+    requires { All (λ i. i < length weights.now) names.now }
+    ensures { IfOk result (λ kept. kept ≡ map (weight weights.now) names.now) }
+{
+    let mut kept = Weights::with_capacity(alloc, names.len())?;
+    for name in names.as_slice() {
+        kept.push(weights.at(*name as usize))?;
+    }
+    Ok(kept)
+}
