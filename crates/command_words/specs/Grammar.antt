@@ -43,7 +43,7 @@ number_at_front most text = within most (number_of 9 (take (digit_count text) te
 
 -- the letters of the table that have no number
 abbrev pub is_letter : ℕ → Bool
-is_letter byte = list_any (λ known. known == byte) (codes "pnfezcAQNEFMrC")
+is_letter byte = list_any (λ known. known == byte) (codes "pnfezcAQNEFMrCw")
 
 -- the number of an S, where these bytes stand behind it: at most 100,000 points may be added
 abbrev pub budget_at_front : List ℕ → Option ℕ
@@ -160,9 +160,17 @@ abbrev pub names_complex : List (List ℕ) → Bool
 names_complex words = (is_switched words 112 || is_sampled words) || is_of_complex (extension_of (name_of words))
 
 -- r, 114, and C, 67, go together only: a mesh is read to be checked. They do not go with a complex
-abbrev pub are_at_odds : List (List ℕ) → Bool
-are_at_odds words =
+abbrev pub is_no_check : List (List ℕ) → Bool
+is_no_check words =
     if is_switched words 114 then not (is_switched words 67) || names_complex words else is_switched words 67
+
+-- w, 119, goes neither with a mesh that is read nor with a complex: points alone have weights
+abbrev pub are_not_weighted : List (List ℕ) → Bool
+are_not_weighted words = is_switched words 119 && (is_switched words 114 || names_complex words)
+
+-- the words have switches that do not go together
+abbrev pub are_at_odds : List (List ℕ) → Bool
+are_at_odds words = is_no_check words || are_not_weighted words
 
 -- The first fault of the words: the number of the word and the place in it. All together they have a name or ask for the sample, and not
 -- both; and their switches go together. That is told after the last word.

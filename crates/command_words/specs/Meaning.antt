@@ -32,7 +32,7 @@ is_piecewise asked (Some Stl) = true
 
 -- ---- the options
 
--- What the words ask for; 112 is p, 110 n, 102 f, 101 e, 122 z, 99 c, 65 A, 81 Q, 78 N, 69 E, 70 F, 77 M and 114 r.
+-- What the words ask for; 112 is p, 110 n, 102 f, 101 e, 122 z, 99 c, 65 A, 81 Q, 78 N, 69 E, 70 F, 77 M, 114 r and 119 w.
 -- Of the sample no file is stored
 abbrev pub options_of : List (List ℕ) → Options
 options_of words = record {
@@ -49,6 +49,7 @@ options_of words = record {
   no_face = is_switched words 70 || is_sampled words;
   keep_facets = is_switched words 77;
   check = is_switched words 114;
+  weighted = is_switched words 119;
   budget = unwrap_or (last_budget words) 100000;
   halvings = unwrap_or (last_number (codes "--halvings=") 12 words) 12;
   decimals = last_number (codes "--decimals=") 20 words;

@@ -1,7 +1,7 @@
 //! Where words are against their grammar.
 
 ghost use Rattle.std.specs.Prelude.{◌≡◌, ◌≤◌, ◌<◌, false, length, drop};
-ghost use Rattle.command_words.specs.Grammar.{are_at_odds, bad_word_from, cluster_fault, is_of_complex, names_complex, long_fault, number_fault, switches_fault, word_fault, words_fault};
+ghost use Rattle.command_words.specs.Grammar.{are_at_odds, is_no_check, are_not_weighted, bad_word_from, cluster_fault, is_of_complex, names_complex, long_fault, number_fault, switches_fault, word_fault, words_fault};
 
 use crate::budget::budget_at_front;
 use crate::grammar::{is_cluster, is_letter, is_long, is_name, is_named, is_switched, name_of};
@@ -49,16 +49,29 @@ fn names_complex(words: &Words) -> bool
         || is_of_complex(extension_of(name_of(words)))
 }
 
-/// Whether the words have switches that do not go together: r without C, C without r, or these with
-/// a complex.
-fn are_at_odds(words: &Words) -> bool
-    ensures { result ≡ are_at_odds words.now }
+/// Whether the words have r without C, C without r, or these with a complex.
+fn is_no_check(words: &Words) -> bool
+    ensures { result ≡ is_no_check words.now }
 {
     if is_switched(words, b'r') {
         !is_switched(words, b'C') || names_complex(words)
     } else {
         is_switched(words, b'C')
     }
+}
+
+/// Whether the words have w with r or with a complex.
+fn are_not_weighted(words: &Words) -> bool
+    ensures { result ≡ are_not_weighted words.now }
+{
+    is_switched(words, b'w') && (is_switched(words, b'r') || names_complex(words))
+}
+
+/// Whether the words have switches that do not go together.
+fn are_at_odds(words: &Words) -> bool
+    ensures { result ≡ are_at_odds words.now }
+{
+    is_no_check(words) || are_not_weighted(words)
 }
 
 /// The first bad word and the place in it.

@@ -37,7 +37,7 @@ pub(crate) fn is_name(word: &[u8]) -> bool
 pub(crate) fn is_letter(byte: u8) -> bool
     ensures { result ≡ is_letter byte }
 {
-    b"pnfezcAQNEFMrC".contains(&byte)
+    b"pnfezcAQNEFMrCw".contains(&byte)
 }
 
 /// Whether there is a name among the words.

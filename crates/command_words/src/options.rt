@@ -19,7 +19,7 @@ pub enum Extension {
 
 /// What the words of the command line ask for.
 ///
-/// The switches stand in the order of the letters p, n, f, e, z, c, A, Q, N, E, F, M, r.
+/// The switches stand in the order of the letters p, n, f, e, z, c, A, Q, N, E, F, M, r, w.
 #[derive(Debug, Drop)]
 pub struct Options {
     /// Mesh a piecewise linear complex.
@@ -52,6 +52,9 @@ pub struct Options {
     /// Read a mesh and check it; nothing is stored. The letters r and C put this on, which stand
     /// only together.
     pub check: bool,
+    /// Mesh points with weights, which are their first attributes: the regular list. Not of a
+    /// complex.
+    pub weighted: bool,
     /// At most this many points are added to a complex, at most 100,000; so many where no number
     /// is given.
     pub budget: u32,

@@ -49,6 +49,7 @@ pub fn read_words(alloc: Global, words: &Words) -> Result<Options, WordsFault>
         no_face: is_left_out(is_switched(words, b'F'), sampled),
         keep_facets: is_switched(words, b'M'),
         check: is_switched(words, b'r'),
+        weighted: is_switched(words, b'w'),
         budget: last_budget(words).unwrap_or(MOST_BUDGET),
         halvings: last_number(HALVINGS, MOST_HALVINGS, words).unwrap_or(MOST_HALVINGS),
         decimals: last_number(DECIMALS, MOST_DECIMALS, words),

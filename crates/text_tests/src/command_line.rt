@@ -28,7 +28,7 @@ fn refusal_of(alloc: Global, words: &[&[u8]]) -> Result<Option<WordsFault>, NoMe
     Ok(read_words(alloc, &words).err())
 }
 
-const FAULTY: [Faulty; 28] = [
+const FAULTY: [Faulty; 32] = [
     Faulty {
         name: "no word",
         words: &[],
@@ -197,6 +197,30 @@ const FAULTY: [Faulty; 28] = [
         word: 2,
         place: 2,
     },
+    Faulty {
+        name: "weights of a complex",
+        words: &[b"-wp", b"t.node"],
+        word: 3,
+        place: 2,
+    },
+    Faulty {
+        name: "weights of a complex by its extension",
+        words: &[b"-w", b"t.smesh"],
+        word: 3,
+        place: 2,
+    },
+    Faulty {
+        name: "weights of the sample",
+        words: &[b"--sample=3", b"-w"],
+        word: 3,
+        place: 2,
+    },
+    Faulty {
+        name: "weights of a mesh that is read",
+        words: &[b"-rwC", b"t"],
+        word: 3,
+        place: 2,
+    },
 ];
 
 #[test]
@@ -223,6 +247,7 @@ struct Asked<'a> {
     from_zero: bool,
     keep_hull: bool,
     keep_facets: bool,
+    weighted: bool,
     budget: u32,
     halvings: u32,
     decimals: Option<u32>,
@@ -237,6 +262,7 @@ const PLAIN: Asked<'static> = Asked {
     from_zero: false,
     keep_hull: false,
     keep_facets: false,
+    weighted: false,
     budget: 100_000,
     halvings: 12,
     decimals: None,
@@ -252,7 +278,7 @@ struct Asking {
     asked: Asked<'static>,
 }
 
-const ASKING: [Asking; 9] = [
+const ASKING: [Asking; 10] = [
     Asking {
         name: "a base",
         words: &[b"name"],
@@ -310,6 +336,16 @@ const ASKING: [Asking; 9] = [
         },
     },
     Asking {
+        name: "points with weights",
+        words: &[b"-cw", b"name.node"],
+        asked: Asked {
+            keep_hull: true,
+            weighted: true,
+            extension: Some(Extension::Node),
+            ..PLAIN
+        },
+    },
+    Asking {
         name: "a complex",
         words: &[b"name.poly"],
         asked: Asked {
@@ -347,6 +383,7 @@ fn asked_of(options: &Options) -> Asked<'_> {
         from_zero: options.from_zero,
         keep_hull: options.keep_hull,
         keep_facets: options.keep_facets,
+        weighted: options.weighted,
         budget: options.budget,
         halvings: options.halvings,
         decimals: options.decimals,
