@@ -3,3 +3,5 @@
 
 #[cfg(test)]
 mod regular_lists;
+#[cfg(test)]
+mod weighted_lists;
