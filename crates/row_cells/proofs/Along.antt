@@ -1,13 +1,12 @@
 -- Along an axis a point of a tetrahedron lies between the least and the greatest coordinate of the corners.
-use Rattle.std.proofs.Common.{◌≡◌, ℕ, ◌+◌, ◌*◌, ◌/◌, ◌<◌, ◌≤◌, ℤ, pos, negsuc, ◌+ℤ◌, ◌-ℤ◌, ◌*ℤ◌, ◌<ℤ◌, ◌≤ℤ◌, Bool, true, false, ◌&&◌, List, [], ◌∷◌, refl, sym, ap, ◌∙◌, arith}
-use Rattle.std.specs.Prelude.{min, max, nat_le, int_lt, unsigned_abs, if◌then◌else◌}
+use Rattle.std.proofs.Common.{◌≡◌, ℕ, ◌*◌, ◌/◌, ◌<◌, ◌≤◌, ℤ, pos, negsuc, ◌+ℤ◌, ◌-ℤ◌, ◌*ℤ◌, ◌<ℤ◌, ◌≤ℤ◌, Bool, true, false, ◌&&◌, [], ◌∷◌, refl, ap, ◌∙◌, arith}
+use Rattle.std.specs.Prelude.{min, max, int_lt, unsigned_abs, if◌then◌else◌}
 use Rattle.std.proofs.lemmas.Int.{ints}
 use Rattle.std.proofs.lemmas.Bool.{le-leb}
 use Rattle.std.proofs.Math.Nat.{div-le_of_le-mul, le-div_iff_mul-le}
 use Rattle.exact_algebra.proofs.Ring.{var, num, ring, same, ◌⊕◌, ◌⊗◌}
-use Rattle.exact_algebra.proofs.Signs.{mul_le, mul_pos, mul_nonneg, le_of_mul}
+use Rattle.exact_algebra.proofs.Signs.{mul_le, mul_nonneg, le_of_mul}
 use Rattle.crossing_laws.proofs.Tests.{lt_not}
-use Rattle.row_cells.specs.declared.boxes.Span.{Span}
 use Rattle.row_cells.specs.Boxes.{ahead, along, span_of, spans}
 
 -- ---- weighted sums

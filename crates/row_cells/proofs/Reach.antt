@@ -1,6 +1,6 @@
 -- A row reaches into a slab exactly where its closed tetrahedron meets it.
-use Rattle.std.proofs.Common.{◌≡◌, ◌⊎◌, inl, inr, ℕ, ◌+◌, ◌*◌, ◌<◌, ◌≤◌, ℤ, pos, negsuc, neg_ℤ, ◌+ℤ◌, ◌-ℤ◌, ◌*ℤ◌, ◌<ℤ◌, ◌≤ℤ◌, Bool, true, ◌&&◌, [], ◌∷◌, refl, sym, ap, subst, ◌∙◌, arith}
-use Rattle.std.specs.Prelude.{min, max, nat_le}
+use Rattle.std.proofs.Common.{◌≡◌, ◌⊎◌, inl, inr, ℕ, ◌<◌, ◌≤◌, ℤ, pos, neg_ℤ, ◌+ℤ◌, ◌-ℤ◌, ◌*ℤ◌, ◌<ℤ◌, ◌≤ℤ◌, Bool, true, ◌&&◌, [], ◌∷◌, sym, subst, ◌∙◌, arith}
+use Rattle.std.specs.Prelude.{min, max}
 use Rattle.std.proofs.lemmas.Int.{ints}
 use Rattle.std.proofs.lemmas.Bool.{leb-true, le-leb, cases_lt}
 use Rattle.exact_algebra.proofs.Ring.{var, num, neg, ring, same, ◌⊕◌, ◌⊗◌}
@@ -12,8 +12,9 @@ use Rattle.geo_laws.proofs.Determinants.{side_rational-as_rational}
 use Rattle.geo_laws.proofs.Members.{both_true}
 use Rattle.crossing_laws.proofs.Cramer.{weights-w, weights-x, side-a_a, side-a_b, side-a_c, side-a_d, side-b_a, side-b_b, side-b_c, side-b_d, side-c_a, side-c_b, side-c_c, side-c_d, side-d_a, side-d_b, side-d_c, side-d_d}
 use Rattle.crossing_laws.proofs.Identities.{leg_point, side_rational-leg_point}
-use Rattle.row_cells.specs.Boxes.{ahead, span_of, box_of, AreOnGrid}
-use Rattle.row_cells.specs.Slabs.{reaches, left_end, right_end, IsInSlab, MeetsSlab, ReachLaw}
+use Rattle.row_cells.specs.Boxes.{ahead, box_of, AreOnGrid}
+use Rattle.row_cells.specs.Parts.{reaches, end_at, MeetsSlab, ReachLaw}
+use Rattle.row_cells.specs.declared.parts.Axis.TheVariants.{X}
 use Rattle.row_cells.proofs.Along.{Weighs, most, least, ahead_is, low_end, high_end}
 
 two_true : (a b : Bool) → a ≡ true → b ≡ true → (a && b) ≡ true
@@ -115,8 +116,8 @@ le_at a b c d h e f = omega (arith, ints)
 right_of : (l r w x : ℤ) → pos 0 ≤ℤ w → l ≤ℤ r → x ≡ l *ℤ w → x ≤ℤ (r *ℤ w)
 right_of l r w x hw h is = le_at (w *ℤ l) (w *ℤ r) x (r *ℤ w) (mul_le w l r hw h) (swap w l ∙ sym is) (swap w r)
 
-common : (s : ℕ) (t : Corners) → Low t (right_end s) → High t (left_end s) → MeetsSlab s t
-common s t low high = go (low.at.x) (high.at.x) (test (left_end s) low.at.x)
+common : (from to : ℕ) (t : Corners) → from ≤ to → Low t (end_at to) → High t (end_at from) → MeetsSlab from to t
+common from to t ends low high = go (low.at.x) (high.at.x) (test (end_at from) low.at.x)
   where
     test : (l v : ℤ) → (l ≤ℤ v) ⊎ (v <ℤ l)
     test l v = grind (arith, ints)
@@ -127,8 +128,8 @@ common s t low high = go (low.at.x) (high.at.x) (test (left_end s) low.at.x)
     once_right : (k x : ℤ) → x ≤ℤ k → x ≤ℤ (k *ℤ pos 1)
     once_right k x h = omega (arith, ints)
 
-    wide : (n : ℕ) → (pos (65536 * n) -ℤ pos 8388608) ≤ℤ (pos (65536 * n + 65536) -ℤ pos 8388608)
-    wide n = omega (arith, ints)
+    wide : (pos from -ℤ pos 8388608) ≤ℤ (pos to -ℤ pos 8388608)
+    wide = omega (arith, ints)
 
     some : (l v u : ℤ) → v <ℤ l → l ≤ℤ u → pos 0 <ℤ ((u +ℤ neg_ℤ l) *ℤ pos 1 +ℤ (l +ℤ neg_ℤ v) *ℤ pos 1)
     some l v u h k = omega (arith, ints)
@@ -142,10 +143,10 @@ common s t low high = go (low.at.x) (high.at.x) (test (left_end s) low.at.x)
     low_at : (l n : ℤ) → n ≡ l → l ≤ℤ n
     low_at l n e = omega (arith, ints)
 
-    go : (v u : ℤ) → (left_end s ≤ℤ low.at.x) ⊎ (low.at.x <ℤ left_end s) → MeetsSlab s t
-    go v u (inl h) = (as_rational low.at, omega (arith, ints), (low.closed, record { left = once (left_end s) low.at.x h; right = once_right (right_end s) low.at.x low.is }))
+    go : (v u : ℤ) → (end_at from ≤ℤ low.at.x) ⊎ (low.at.x <ℤ end_at from) → MeetsSlab from to t
+    go v u (inl h) = (as_rational low.at, omega (arith, ints), (low.closed, record { left = once (end_at from) low.at.x h; right = once_right (end_at to) low.at.x low.is }))
     go v u (inr h) =
-        let l = left_end s in
+        let l = end_at from in
         let m = high.at.x +ℤ neg_ℤ l in
         let n = l +ℤ neg_ℤ low.at.x in
         let z = leg_point m n (as_rational low.at) (as_rational high.at) in
@@ -155,7 +156,7 @@ common s t low high = go (low.at.x) (high.at.x) (test (left_end s) low.at.x)
           w,
           (
             leg_closed t m n (as_rational low.at) (as_rational high.at) (gap l high.at.x high.is) (gap low.at.x l (strict l low.at.x h)) low.closed high.closed,
-            record { left = low_at (l *ℤ z.w) z.x plane; right = right_of l (right_end s) z.w z.x (weak z.w w) (wide s) plane },
+            record { left = low_at (l *ℤ z.w) z.x plane; right = right_of l (end_at to) z.w z.x (weak z.w w) wide plane },
           ),
         )
 
@@ -171,14 +172,14 @@ numbers : (a b : ℕ) → (pos a -ℤ pos 8388608) ≤ℤ (pos b -ℤ pos 838860
 numbers a b h = omega (arith, ints)
 
 pub reach_law : ReachLaw
-reach_law place s t p grid = (there, back)
+reach_law place from to t ends p grid = (there, back)
   where
-    there : reaches s (box_of place t) ≡ true → MeetsSlab s t
+    there : reaches X from to (box_of place t) ≡ true → MeetsSlab from to t
     there h =
         let both = both_true _ _ h in
-        common s t (low_corner t (65536 * s + 65536) p grid (leb-true _ _ both.0)) (high_corner t (65536 * s) p grid (leb-true _ _ both.1))
+        common from to t ends (low_corner t to p grid (leb-true _ _ both.0)) (high_corner t from p grid (leb-true _ _ both.1))
 
-    back : MeetsSlab s t → reaches s (box_of place t) ≡ true
+    back : MeetsSlab from to t → reaches X from to (box_of place t) ≡ true
     back m =
         let x = m.0 in
         let inside = m.2.0 in
@@ -187,11 +188,11 @@ reach_law place s t p grid = (there, back)
         let high : ℕ = max (max (max (ahead t.a.x) (ahead t.b.x)) (ahead t.c.x)) (ahead t.d.x) in
         let weighs : Weighs (side_rational (opposite_a t) x) (side_rational (opposite_b t) x) (side_rational (opposite_c t) x) (side_rational (opposite_d t) x) t.a.x t.b.x t.c.x t.d.x (volume t) x.w x.x =
         record { a_least = inside.0; b_least = inside.1.0; c_least = inside.1.1.0; d_least = inside.1.1.1.0; whole = weights-w t x; sum = weights-x t x; positive = p } in
-        let from = least _ _ _ _ t.a.x t.b.x t.c.x t.d.x (volume t) x.w x.x (pos low -ℤ pos 8388608) weighs
+        let least_x = least _ _ _ _ t.a.x t.b.x t.c.x t.d.x (volume t) x.w x.x (pos low -ℤ pos 8388608) weighs
         (low_end t.a.x low (ahead t.a.x) (omega arith) (ahead_is t.a.x grid.a.x_low)) (low_end t.b.x low (ahead t.b.x) (omega arith) (ahead_is t.b.x grid.b.x_low))
         (low_end t.c.x low (ahead t.c.x) (omega arith) (ahead_is t.c.x grid.c.x_low)) (low_end t.d.x low (ahead t.d.x) (omega arith) (ahead_is t.d.x grid.d.x_low)) in
-        let to = most _ _ _ _ t.a.x t.b.x t.c.x t.d.x (volume t) x.w x.x (pos high -ℤ pos 8388608) weighs
+        let most_x = most _ _ _ _ t.a.x t.b.x t.c.x t.d.x (volume t) x.w x.x (pos high -ℤ pos 8388608) weighs
         (high_end t.a.x high (ahead t.a.x) (omega arith) (ahead_is t.a.x grid.a.x_low)) (high_end t.b.x high (ahead t.b.x) (omega arith) (ahead_is t.b.x grid.b.x_low))
         (high_end t.c.x high (ahead t.c.x) (omega arith) (ahead_is t.c.x grid.c.x_low)) (high_end t.d.x high (ahead t.d.x) (omega arith) (ahead_is t.d.x grid.d.x_low)) in
-        two_true _ _ (le-leb low (65536 * s + 65536) (numbers low (65536 * s + 65536) (cancel (pos low -ℤ pos 8388608) (right_end s) x.w x.x m.1 from slab.right)))
-        (le-leb (65536 * s) high (numbers (65536 * s) high (cancel (left_end s) (pos high -ℤ pos 8388608) x.w x.x m.1 slab.left to)))
+        two_true _ _ (le-leb low to (numbers low to (cancel (pos low -ℤ pos 8388608) (end_at to) x.w x.x m.1 least_x slab.right)))
+        (le-leb from high (numbers from high (cancel (end_at from) (pos high -ℤ pos 8388608) x.w x.x m.1 slab.left most_x)))

@@ -1,5 +1,5 @@
--- The first row that holds a point is found among those that reach into the point's slab.
-use Rattle.std.proofs.Common.{◌≡◌, ℕ, ◌+◌, ◌*◌, ◌<◌, ◌≤◌, ℤ, pos, ◌<ℤ◌, Bool, true, false, cond, ◌&&◌, List, [], ◌∷◌, length, get_or, Option, Some, None, ◌⊎◌, inl, inr, ◌++◌, refl, sym, ap, subst, ◌∙◌, arith}
+-- The first row that holds a point is found among those that reach into the point's cell.
+use Rattle.std.proofs.Common.{◌≡◌, ℕ, ◌+◌, ◌<◌, pos, ◌<ℤ◌, Bool, true, false, cond, ◌&&◌, List, [], ◌∷◌, length, get_or, Option, Some, ◌⊎◌, inl, inr, ◌++◌, refl, sym, ap, subst, ◌∙◌, arith}
 use Rattle.std.specs.Prelude.{map, filter, find, drop, All}
 use Rattle.std.specs.Option.{option_map}
 use Rattle.std.proofs.lemmas.List.{drop_more, map-append, same_lists, length_push, get_or_push, get_or_append_left}
@@ -9,16 +9,18 @@ use Rattle.std.proofs.lemmas.List.FromFn.{get_or-map-range_with_len, length-map-
 use Rattle.std.proofs.lemmas.Bool.{cases_lt}
 use Rattle.sign_predicates.specs.declared.tetrahedron.Corners.{Corners}
 use Rattle.sign_predicates.specs.Point.{Point, RationalPoint}
-use Rattle.sign_predicates.specs.Orientation.{InClosed, in_closed, IsPositive}
-use Rattle.geo_laws.specs.Delaunay.{corners, numbers_below, IsOn}
+use Rattle.sign_predicates.specs.Orientation.{InClosed, in_closed}
+use Rattle.geo_laws.specs.Delaunay.{corners, numbers_below}
 use Rattle.geo_laws.specs.declared.tetrahedra.Tet.{Tet}
 use Rattle.geo_laws.proofs.Members.{IsMember, here, there, at_place, both_true, map_cases, filter_cases, range_bounds}
 use Rattle.crossing_laws.proofs.Tests.{le_of}
 use Rattle.row_cells.specs.declared.boxes.RowBox.{RowBox}
 use Rattle.row_cells.specs.Boxes.{row, box_of, boxes_of, cell_of, is_near, AreOnGrid}
-use Rattle.row_cells.specs.Slabs.{reaches, slab_of, ArePositiveOn}
+use Rattle.row_cells.specs.Parts.{reaches, mark, part_of, ArePositiveOn}
+use Rattle.row_cells.specs.declared.parts.Axis.TheVariants.{X, Y, Z}
+use Rattle.row_cells.specs.declared.parts.Cuts.{Cuts}
 use Rattle.row_cells.specs.Where.{row_holds, place_of, first_in}
-use Rattle.row_cells.proofs.Near.{near_of, reach_of}
+use Rattle.row_cells.proofs.Near.{IsCellAt, reaches_cell, near_of, reach_of}
 
 -- what passes the test is among those that are kept, and its box is taken
 record Serves (test kept : RowBox → Bool) (made : ℕ → RowBox) (holds : ℕ → Bool) (i : ℕ) : Type 0 where
@@ -56,35 +58,60 @@ closed_of t x h =
     let d = both_true _ _ c.1 in
     (le_of _ _ a.0, (le_of _ _ b.0, (le_of _ _ c.0, (le_of _ _ d.0, tt))))
 
--- the cells and slabs of rows that may hold the point x, whose slab is s
-pub in_slab : (ps : List Point) (rows : List Tet) (x : RationalPoint) (s : ℕ) → pos 0 <ℤ x.w → ArePositiveOn ps rows → All (λ t. AreOnGrid (corners ps t)) rows
-    → s < 256 → 65536 * s ≤ (cell_of x).x → ((cell_of x).x ≤ 16777216 → (cell_of x).x ≤ 65536 * s + 65536) → (s < 255 → (cell_of x).x ≤ 16777216)
-    → first_in ps rows (cell_of x) x (slab_of ps rows s) ≡ place_of ps rows x
-in_slab ps rows x s w positive grid below left right last =
-    searched (λ b. is_near b (cell_of x) && row_holds ps rows x b.row) (reaches s) (λ i. box_of i (corners ps (row rows i))) (row_holds ps rows x) (λ i. refl) (numbers_below (length rows))
+-- ---- what is kept of what is kept
+
+kept_twice : {X : Type 0} (p q : X → Bool) (xs : List X) → filter p (filter q xs) ≡ filter (λ x. q x && p x) xs
+kept_twice p q [] = refl
+kept_twice p q (x ∷ xs) = go (q x) (p x) refl (kept_twice p q xs)
+  where
+    go : (a b : Bool) → p x ≡ b → filter p (filter q xs) ≡ filter (λ x. q x && p x) xs → filter p (cond a (x ∷ filter q xs) (filter q xs)) ≡ cond (a && p x) (x ∷ filter (λ x. q x && p x) xs) (filter (λ x. q x && p x) xs)
+    go true b e h = ap (λ ys. cond (p x) (x ∷ ys) ys) h
+    go false b e h = h
+
+-- the rows of a cell
+abbrev pub cell_list : Cuts → ℕ → ℕ → ℕ → List RowBox → List RowBox
+cell_list cuts s t u boxes = part_of Z cuts.z u (part_of Y cuts.y t (part_of X cuts.x s boxes))
+
+cell_is : (cuts : Cuts) (s t u : ℕ) (boxes : List RowBox) → cell_list cuts s t u boxes ≡ filter (reaches_cell cuts s t u) boxes
+cell_is cuts s t u boxes =
+    let rx = reaches X (mark cuts.x s) (mark cuts.x (s + 1)) in
+    let ry = reaches Y (mark cuts.y t) (mark cuts.y (t + 1)) in
+    let rz = reaches Z (mark cuts.z u) (mark cuts.z (u + 1)) in
+    ap (filter rz) (kept_twice ry rx boxes) ∙ kept_twice rz (λ b. rx b && ry b) boxes
+
+-- the point is sought among the rows of its cell
+pub in_cell : (ps : List Point) (rows : List Tet) (x : RationalPoint) (cuts : Cuts) (s t u : ℕ) → pos 0 <ℤ x.w → ArePositiveOn ps rows → All (λ t. AreOnGrid (corners ps t)) rows
+    → IsCellAt cuts s t u (cell_of x) → first_in ps rows (cell_of x) x (cell_list cuts s t u (boxes_of ps rows)) ≡ place_of ps rows x
+in_cell ps rows x cuts s t u w positive grid at =
+    ap (first_in ps rows (cell_of x) x) (cell_is cuts s t u (boxes_of ps rows))
+    ∙ searched (λ b. is_near b (cell_of x) && row_holds ps rows x b.row) (reaches_cell cuts s t u) (λ i. box_of i (corners ps (row rows i))) (row_holds ps rows x) (λ i. refl) (numbers_below (length rows))
     (λ i m.
     let lt = (range_bounds 0 (length rows) i m).1 in
     let on_grid = grid i none (omega (arith, lt)) in
     let near = λ (h : in_closed (corners ps (row rows i)) x ≡ true). near_of i (corners ps (row rows i)) x w (positive i none (omega (arith, lt))).1 on_grid (closed_of (corners ps (row rows i)) x h) in
     record {
       same = and_is (is_near (box_of i (corners ps (row rows i))) (cell_of x)) (in_closed (corners ps (row rows i)) x) near;
-      reached = λ h. reach_of i s (corners ps (row rows i)) x on_grid (near h) left right last below;
+      reached = λ h. reach_of i (corners ps (row rows i)) (cell_of x) cuts s t u on_grid at (near h);
     })
 
--- the places of the rows of a slab
-pub slab_rows : (ps : List Point) (rows : List Tet) (s : ℕ) → All (λ b. b.row < length rows) (slab_of ps rows s)
-slab_rows ps rows s k d lt =
-    let among = (filter_cases (reaches s) (get_or (slab_of ps rows s) k d) (boxes_of ps rows) (at_place (slab_of ps rows s) k d lt)).0 in
-    let made = map_cases (λ i. box_of i (corners ps (row rows i))) (get_or (slab_of ps rows s) k d) (numbers_below (length rows)) among in
-    let bounds = (range_bounds 0 (length rows) made.0 made.1).1 in
-    subst (λ (b : RowBox). b.row < length rows) (sym made.2) (omega (arith, bounds))
+-- the places of the rows of a cell
+pub cell_rows : (ps : List Point) (rows : List Tet) (cuts : Cuts) (s t u : ℕ) → All (λ b. b.row < length rows) (cell_list cuts s t u (boxes_of ps rows))
+cell_rows ps rows cuts s t u = subst (λ (bs : List RowBox). All (λ b. b.row < length rows) bs) (sym (cell_is cuts s t u (boxes_of ps rows))) (kept_rows (reaches_cell cuts s t u))
+  where
+    kept_rows : (kept : RowBox → Bool) → All (λ b. b.row < length rows) (filter kept (boxes_of ps rows))
+    kept_rows kept k d lt =
+        let among = (filter_cases kept (get_or (filter kept (boxes_of ps rows)) k d) (boxes_of ps rows) (at_place (filter kept (boxes_of ps rows)) k d lt)).0 in
+        let made = map_cases (λ i. box_of i (corners ps (row rows i))) (get_or (filter kept (boxes_of ps rows)) k d) (numbers_below (length rows)) among in
+        let bounds = (range_bounds 0 (length rows) made.0 made.1).1 in
+        subst (λ (b : RowBox). b.row < length rows) (sym made.2) (omega (arith, bounds))
 
--- the slab at its place among the cells
-pub slab_there : (ps : List Point) (rows : List Tet) (cells : List (List RowBox)) (s : ℕ) (d : List RowBox) → cells ≡ map (slab_of ps rows) (numbers_below 256) → s < 256 → get_or cells s d ≡ slab_of ps rows s
-slab_there ps rows cells s d are below = ap (λ (cs : List (List RowBox)). get_or cs s d) are ∙ get_or-map-range_with_len (slab_of ps rows) 0 256 s s d below (omega arith)
+-- ---- what is made of each part, at its place
 
-pub cells_count : (ps : List Point) (rows : List Tet) (cells : List (List RowBox)) → cells ≡ map (slab_of ps rows) (numbers_below 256) → length cells ≡ 256
-cells_count ps rows cells are = ap length are ∙ length-map-range_with_len (slab_of ps rows) 0 256
+pub made_at : {A : Type 0} (f : ℕ → A) (xs : List A) (s : ℕ) (d made : A) → xs ≡ map f (numbers_below 32) → s < 32 → get_or xs s d ≡ made → made ≡ f s
+made_at {A = A} f xs s d made are below is = sym is ∙ ap (λ (ys : List A). get_or ys s d) are ∙ get_or-map-range_with_len f 0 32 s s d below (omega arith)
+
+pub made_count : {A : Type 0} (f : ℕ → A) (xs : List A) → xs ≡ map f (numbers_below 32) → length xs ≡ 32
+made_count f xs are = ap length are ∙ length-map-range_with_len f 0 32
 
 -- ---- numbers one after another
 
@@ -97,29 +124,37 @@ range_more a n = same_lists _ _ (omega (arith, length-range_with_len a (n + 1), 
           get_or-range_with_len a (n + 1) k d (omega arith) ∙ ap (λ (j : ℕ). a + j) here ∙ sym (get_or_push (range_with_len a n) (a + n) d k (length-range_with_len a n ∙ sym here))
     ])
 
-pub map_more : {X : Type 0} (f : ℕ → X) (n : ℕ) → map f (numbers_below (n + 1)) ≡ map f (numbers_below n) ++ f n ∷ []
+pub map_more : {A : Type 0} (f : ℕ → A) (n : ℕ) → map f (numbers_below (n + 1)) ≡ map f (numbers_below n) ++ f n ∷ []
 map_more f n =
     let e : 0 + n ≡ n = omega arith in
     ap (map f) (range_more 0 n) ∙ map-append f (range_with_len 0 n) ((0 + n) ∷ []) ∙ ap (λ (m : ℕ). map f (range_with_len 0 n) ++ f m ∷ []) e
 
--- ---- a loop over a slab
+-- a loop that has made one more
+pub one_more : {A : Type 0} (f : ℕ → A) (n : ℕ) (made : A) (xs ys : List A) → xs ≡ map f (numbers_below n) → made ≡ f n → ys ≡ xs ++ made ∷ [] → ys ≡ map f (numbers_below (n + 1))
+one_more {A = A} f n made xs ys so_far is pushed = pushed ∙ ap (λ (x : A). xs ++ x ∷ []) is ∙ ap (λ (l : List A). l ++ f n ∷ []) so_far ∙ sym (map_more f n)
+
+-- and one that has made all
+pub all_made : {A : Type 0} (f : ℕ → A) (n : ℕ) (xs : List A) → xs ≡ map f (numbers_below n) → n ≡ 32 → xs ≡ map f (numbers_below 32)
+all_made f n xs so_far all = so_far ∙ ap (λ (k : ℕ). map f (numbers_below k)) all
+
+-- ---- a loop over the rows of a cell
 
 taken : (ps : List Point) (rows : List Tet) (at : Cell) (x : RationalPoint) (b : RowBox) (rest : List RowBox) (t : Bool) → (is_near b at && row_holds ps rows x b.row) ≡ t
     → first_in ps rows at x (b ∷ rest) ≡ cond t (Some b.row) (first_in ps rows at x rest)
 taken ps rows at x b rest true e = ap (λ t. option_map (λ b. b.row) (cond t (Some b) (find (λ b. is_near b at && row_holds ps rows x b.row) rest))) e
 taken ps rows at x b rest false e = ap (λ t. option_map (λ b. b.row) (cond t (Some b) (find (λ b. is_near b at && row_holds ps rows x b.row) rest))) e
 
-pub hit : (ps : List Point) (rows : List Tet) (at : Cell) (x : RationalPoint) (slab : List RowBox) (k : ℕ) (d : RowBox) → k < length slab → is_near (get_or slab k d) at ≡ true → row_holds ps rows x (get_or slab k d).row ≡ true
-    → first_in ps rows at x (drop k slab) ≡ first_in ps rows at x slab → Some (get_or slab k d).row ≡ first_in ps rows at x slab
-hit ps rows at x slab k d lt near holds so_far =
-    let both : (is_near (get_or slab k d) at && row_holds ps rows x (get_or slab k d).row) ≡ true = λ i. near i && holds i in
-    sym (ap (first_in ps rows at x) (drop_more slab k d lt) ∙ taken ps rows at x (get_or slab k d) (drop (k + 1) slab) true both) ∙ so_far
+pub hit : (ps : List Point) (rows : List Tet) (at : Cell) (x : RationalPoint) (cell : List RowBox) (k : ℕ) (d : RowBox) → k < length cell → is_near (get_or cell k d) at ≡ true → row_holds ps rows x (get_or cell k d).row ≡ true
+    → first_in ps rows at x (drop k cell) ≡ first_in ps rows at x cell → Some (get_or cell k d).row ≡ first_in ps rows at x cell
+hit ps rows at x cell k d lt near holds so_far =
+    let both : (is_near (get_or cell k d) at && row_holds ps rows x (get_or cell k d).row) ≡ true = λ i. near i && holds i in
+    sym (ap (first_in ps rows at x) (drop_more cell k d lt) ∙ taken ps rows at x (get_or cell k d) (drop (k + 1) cell) true both) ∙ so_far
 
-pub passed : (ps : List Point) (rows : List Tet) (at : Cell) (x : RationalPoint) (slab : List RowBox) (k : ℕ) (d : RowBox) → k < length slab
-    → (is_near (get_or slab k d) at ≡ false) ⊎ (row_holds ps rows x (get_or slab k d).row ≡ false)
-    → first_in ps rows at x (drop k slab) ≡ first_in ps rows at x slab → first_in ps rows at x (drop (k + 1) slab) ≡ first_in ps rows at x slab
-passed ps rows at x slab k d lt why so_far =
-    sym (ap (first_in ps rows at x) (drop_more slab k d lt) ∙ taken ps rows at x (get_or slab k d) (drop (k + 1) slab) false (neither (is_near (get_or slab k d) at) (row_holds ps rows x (get_or slab k d).row) why)) ∙ so_far
+pub passed : (ps : List Point) (rows : List Tet) (at : Cell) (x : RationalPoint) (cell : List RowBox) (k : ℕ) (d : RowBox) → k < length cell
+    → (is_near (get_or cell k d) at ≡ false) ⊎ (row_holds ps rows x (get_or cell k d).row ≡ false)
+    → first_in ps rows at x (drop k cell) ≡ first_in ps rows at x cell → first_in ps rows at x (drop (k + 1) cell) ≡ first_in ps rows at x cell
+passed ps rows at x cell k d lt why so_far =
+    sym (ap (first_in ps rows at x) (drop_more cell k d lt) ∙ taken ps rows at x (get_or cell k d) (drop (k + 1) cell) false (neither (is_near (get_or cell k d) at) (row_holds ps rows x (get_or cell k d).row) why)) ∙ so_far
   where
     neither : (a b : Bool) → (a ≡ false) ⊎ (b ≡ false) → (a && b) ≡ false
     neither a b (inl e) = ap (λ c. c && b) e

@@ -1,3 +1,3 @@
 pub mod Boxes
-pub mod Slabs
+pub mod Parts
 pub mod Where

@@ -1,34 +1,26 @@
-//! Rows by slabs, and the first row that holds a point.
+//! Rows by cells, and the first row that holds a point.
 
 ghost use Rattle.std.specs.Prelude.{◌≡◌, ◌<◌, length, All, IfOk};
 ghost use Rattle.sign_predicates.specs.Orientation.{in_closed};
 ghost use Rattle.geo_laws.specs.Delaunay.{corners, IsOn};
-ghost use Rattle.row_cells.specs.Slabs.{ArePositiveOn, StandsFor};
+ghost use Rattle.row_cells.specs.Parts.{ArePositiveOn, StandsFor};
 ghost use Rattle.row_cells.specs.Where.{place_of, first_in};
 
 use crate::boxes::{Cell, RowBox, boxes_of, cell_of, corners_of, is_near};
-use crate::slabs::{slab_at, slabs_of};
+use crate::parts::{Cells, Cuts, cells_of, part_at};
+use crate::widths::cuts_of;
 use geo_laws::{Points, Tet, TetList};
 use sign_predicates::{Hold, RatPoint, in_tet};
 use std::alloc::Global;
-use std::marker::Model;
-use tet_ports::{Items, NoMemory};
+use tet_ports::NoMemory;
 
-/// For each of 256 slabs along x the rows of a list that reach into it, ascending, each with the
-/// box round it. The slab s, from 0, goes from `-2^23 + s * 2^16` to `-2^23 + (s + 1) * 2^16` in
-/// grid units, both ends included.
+/// The rows of a list by cells. Each axis is cut into 32 parts, at most as fine as the rows are, so
+/// that their list is short; a cell is where three parts meet. Each cell has the rows whose box
+/// reaches into it, ascending, with their boxes.
 #[derive(Drop)]
 pub struct RowCells {
-    slabs: Items<Items<RowBox>>,
-}
-
-impl Model for RowCells {
-    ghost use Rattle.std.specs.Prelude.{List};
-    ghost use Rattle.row_cells.specs.declared.boxes.RowBox.{RowBox};
-
-    ghost Value = { List (List RowBox) };
-
-    ghost view = { λ c. c.slabs };
+    cuts: Cuts,
+    cells: Cells,
 }
 
 /// Whether the closed tetrahedron of the row holds the point.
@@ -42,17 +34,17 @@ fn holds(points: &Points, t: Tet, x: RatPoint) -> bool
 /// The first of the rows whose closed tetrahedron holds the point. Those whose box does not have
 /// the point's cell in it are not tried.
 fn first_in(
-    slab: &[RowBox],
+    cell: &[RowBox],
     points: &Points,
     list: &TetList,
     at: Cell,
     x: RatPoint,
 ) -> Option<usize>
     requires rows { All (IsOn points.now) list.now }
-    requires places { All (λ b. b.row < length list.now) slab.now }
-    ensures { result ≡ first_in points.now list.now at x slab.now }
+    requires places { All (λ b. b.row < length list.now) cell.now }
+    ensures { result ≡ first_in points.now list.now at x cell.now }
 {
-    for near in slab {
+    for near in cell {
         if is_near(near, at) && holds(points, list.at(near.row), x) {
             return Some(near.row);
         }
@@ -67,8 +59,9 @@ impl RowCells {
         ensures { IfOk result (StandsFor points.now list.now) }
     {
         let boxes = boxes_of(alloc, points, list)?;
-        let slabs = slabs_of(alloc, &boxes)?;
-        Ok(RowCells { slabs })
+        let cuts = cuts_of(&boxes);
+        let cells = cells_of(alloc, cuts, &boxes)?;
+        Ok(RowCells { cuts, cells })
     }
 
     /// The first row whose closed tetrahedron holds the point, by its place in the list, from 0;
@@ -80,7 +73,9 @@ impl RowCells {
         ensures { result ≡ place_of points.now list.now x }
     {
         let at = cell_of(x);
-        let slab = self.slabs.get(slab_at(at.x)).as_slice();
-        first_in(slab, points, list, at, x)
+        let strips = self.cells.get(part_at(self.cuts.x, at.x));
+        let parts = strips.get(part_at(self.cuts.y, at.y));
+        let cell = parts.get(part_at(self.cuts.z, at.z)).as_slice();
+        first_in(cell, points, list, at, x)
     }
 }

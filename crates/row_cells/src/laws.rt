@@ -1,6 +1,6 @@
-//! Which slabs a row reaches into, as a law.
+//! Which slabs along x a row reaches into, as a law.
 
-ghost use Rattle.row_cells.specs.Slabs.{ReachLaw};
+ghost use Rattle.row_cells.specs.Parts.{ReachLaw};
 
 /// A row reaches into a slab exactly where its closed tetrahedron meets the slab.
 pub fn law_reach()

@@ -1,12 +1,11 @@
-use Rattle.std.proofs.Common.{ap, ◌∙◌, List, map}
-use Rattle.std.specs.Prelude.{filter}
-use Rattle.geo_laws.specs.Delaunay.{numbers_below}
+use Rattle.std.proofs.Common.{ap, ◌∙◌, List}
 use Rattle.row_cells.specs.declared.boxes.RowBox.{RowBox}
-use Rattle.row_cells.specs.Slabs.{reaches}
+use Rattle.row_cells.specs.Parts.{cells_of}
 use Rattle.row_cells.proofs.cells.RowCells.new.Goals as goal
 
 pub returns : goal.returns
 returns c = record {
-  slabs = c.in_ok-slabs.ensures ∙ ap (λ (boxes : List RowBox). map (λ s. filter (reaches s) boxes) (numbers_below 256)) c.in_ok-boxes.ensures.boxes;
+  cells = c.in_ok-cells.ensures ∙ ap (λ (boxes : List RowBox). cells_of c.cuts_of-cuts.result boxes) c.in_ok-boxes.ensures.boxes;
+  wide = c.cuts_of-cuts.ensures;
   grid = c.in_ok-boxes.ensures.grid;
 }
