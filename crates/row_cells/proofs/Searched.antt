@@ -16,7 +16,7 @@ use Rattle.geo_laws.proofs.Members.{IsMember, here, there, at_place, both_true, 
 use Rattle.crossing_laws.proofs.Tests.{le_of}
 use Rattle.row_cells.specs.declared.boxes.RowBox.{RowBox}
 use Rattle.row_cells.specs.Boxes.{row, box_of, boxes_of, cell_of, is_near, AreOnGrid}
-use Rattle.row_cells.specs.Parts.{reaches, mark, part_of, ArePositiveOn}
+use Rattle.row_cells.specs.Parts.{reaches, mark, part_of, parts_of, strips_of, cells_of, ArePositiveOn}
 use Rattle.row_cells.specs.declared.parts.Axis.TheVariants.{X, Y, Z}
 use Rattle.row_cells.specs.declared.parts.Cuts.{Cuts}
 use Rattle.row_cells.specs.Where.{row_holds, place_of, first_in}
@@ -107,11 +107,48 @@ cell_rows ps rows cuts s t u = subst (λ (bs : List RowBox). All (λ b. b.row < 
 
 -- ---- what is made of each part, at its place
 
-pub made_at : {A : Type 0} (f : ℕ → A) (xs : List A) (s : ℕ) (d made : A) → xs ≡ map f (numbers_below 32) → s < 32 → get_or xs s d ≡ made → made ≡ f s
+made_at : {A : Type 0} (f : ℕ → A) (xs : List A) (s : ℕ) (d made : A) → xs ≡ map f (numbers_below 32) → s < 32 → get_or xs s d ≡ made → made ≡ f s
 made_at {A = A} f xs s d made are below is = sym is ∙ ap (λ (ys : List A). get_or ys s d) are ∙ get_or-map-range_with_len f 0 32 s s d below (omega arith)
 
-pub made_count : {A : Type 0} (f : ℕ → A) (xs : List A) → xs ≡ map f (numbers_below 32) → length xs ≡ 32
+made_count : {A : Type 0} (f : ℕ → A) (xs : List A) → xs ≡ map f (numbers_below 32) → length xs ≡ 32
 made_count f xs are = ap length are ∙ length-map-range_with_len f 0 32
+
+abbrev Strips : Type 0
+Strips = List (List (List RowBox))
+
+abbrev Cells : Type 0
+Cells = List Strips
+
+-- a way to a cell: the strips of its part along x, and the parts along z of its strip
+pub record Way (cuts : Cuts) (boxes : List RowBox) (s t : ℕ) (cells : Cells) (strips : Strips) (parts : List (List RowBox)) : Type 0 where
+  pub cells_are : cells ≡ cells_of cuts boxes
+  pub s_there : s < 32
+  pub strip_found : get_or cells s [] ≡ strips
+  pub t_there : t < 32
+  pub parts_found : get_or strips t [] ≡ parts
+
+strips_are : (cuts : Cuts) (boxes : List RowBox) (s : ℕ) (cells : Cells) (strips : Strips) → cells ≡ cells_of cuts boxes → s < 32 → get_or cells s [] ≡ strips
+    → strips ≡ strips_of cuts.y cuts.z (part_of X cuts.x s boxes)
+strips_are cuts boxes s cells strips = made_at (λ s. strips_of cuts.y cuts.z (part_of X cuts.x s boxes)) cells s [] strips
+
+pub strips_count : (cuts : Cuts) (boxes : List RowBox) (s : ℕ) (cells : Cells) (strips : Strips) → cells ≡ cells_of cuts boxes → s < 32 → get_or cells s [] ≡ strips
+    → length strips ≡ 32
+strips_count cuts boxes s cells strips are below is = made_count (λ t. parts_of Z cuts.z (part_of Y cuts.y t (part_of X cuts.x s boxes))) strips (strips_are cuts boxes s cells strips are below is)
+
+parts_are : (cuts : Cuts) (boxes : List RowBox) (s t : ℕ) (cells : Cells) (strips : Strips) (parts : List (List RowBox)) → Way cuts boxes s t cells strips parts
+    → parts ≡ parts_of Z cuts.z (part_of Y cuts.y t (part_of X cuts.x s boxes))
+parts_are cuts boxes s t cells strips parts w =
+    made_at (λ t. parts_of Z cuts.z (part_of Y cuts.y t (part_of X cuts.x s boxes))) strips t [] parts (strips_are cuts boxes s cells strips w.cells_are w.s_there w.strip_found) w.t_there w.parts_found
+
+pub parts_count : (cuts : Cuts) (boxes : List RowBox) (s t : ℕ) (cells : Cells) (strips : Strips) (parts : List (List RowBox)) → Way cuts boxes s t cells strips parts
+    → length parts ≡ 32
+parts_count cuts boxes s t cells strips parts w = made_count (λ u. part_of Z cuts.z u (part_of Y cuts.y t (part_of X cuts.x s boxes))) parts (parts_are cuts boxes s t cells strips parts w)
+
+-- the way leads to the rows of the cell
+pub cell_there : (cuts : Cuts) (boxes : List RowBox) (s t u : ℕ) (cells : Cells) (strips : Strips) (parts : List (List RowBox)) (cell : List RowBox)
+    → Way cuts boxes s t cells strips parts → u < 32 → get_or parts u [] ≡ cell → cell ≡ cell_list cuts s t u boxes
+cell_there cuts boxes s t u cells strips parts cell w below is =
+    made_at (λ u. part_of Z cuts.z u (part_of Y cuts.y t (part_of X cuts.x s boxes))) parts u [] cell (parts_are cuts boxes s t cells strips parts w) below is
 
 -- ---- numbers one after another
 

@@ -77,4 +77,5 @@ MeetsSlab from to t = SomeRational (λ x. InClosed t x × IsBetween from to x)
 
 -- a row reaches into a slab exactly where its closed tetrahedron meets it
 abbrev pub ReachLaw : Type 0
-ReachLaw = (place from to : ℕ) (t : Corners) → from ≤ to → IsPositive t → AreOnGrid t → (reaches X from to (box_of place t) ≡ true) ↔ MeetsSlab from to t
+ReachLaw = (place from to : ℕ) (t : Corners) → from ≤ to → IsPositive t → AreOnGrid t
+    → (reaches X from to (box_of place t) ≡ true) ↔ MeetsSlab from to t

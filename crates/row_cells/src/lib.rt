@@ -1,4 +1,4 @@
-//! The tetrahedra of a list by the cells that they reach into, and the first one that holds a point.
+//! Tetrahedra of a list by the cells that they reach into, and the first one that holds a point.
 #![tactic(auto)]
 
 mod boxes;

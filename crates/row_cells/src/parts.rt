@@ -1,4 +1,5 @@
-//! The parts into which each axis is cut, the cells that they make up, and the rows that reach into these.
+//! The parts into which each axis is cut, the cells that they make up, and the rows that reach
+//! into these.
 
 ghost use Rattle.std.specs.Prelude.{◌≡◌, ◌<◌, ◌+◌, ◌*◌, ◌≤◌, length, IfOk};
 ghost use Rattle.row_cells.specs.Parts.{span_along, reaches, mark, part_of, parts_of, strips_of, cells_of, AreWide};
@@ -18,8 +19,8 @@ pub enum Axis {
     Z,
 }
 
-/// How an axis is cut, in grid units from `-2^23` on: the first part begins where the grid does, the
-/// part s at `low + s * width`, and the last one ends where the grid does.
+/// How an axis is cut, in grid units from `-2^23` on: the first part begins where the grid does,
+/// the part s at `low + s * width`, and the last one ends where the grid does.
 #[derive(Clone, Copy, Debug)]
 pub struct Cut {
     pub low: u32,
