@@ -2,12 +2,10 @@
 use Rattle.std.specs.Prelude.{◌≡◌, ℕ, ◌+◌, ◌≤◌, ◌++◌, List, [], ◌∷◌, length, map, codes, Option, None, Some, Result, Ok, Err}
 use Rattle.std.specs.Fmt.{decimal}
 use Rattle.std.specs.List.{flat_map, enumerate_from}
-use Rattle.sign_predicates.specs.Point.{Point}
 use Rattle.grid_coords.specs.Units.{rational_point}
 use Rattle.grid_coords.specs.declared.points.DecimalPoint.{DecimalPoint}
 use Rattle.mesh_check.specs.Defects.{IsNotPositive}
 use Rattle.mesh_check.specs.Searches.{IsFirstOf}
-use Rattle.mesh_check.specs.declared.defect.Defect.{Defect}
 use Rattle.mesh_check.specs.declared.defect.Defect.TheVariants.{NotPositive}
 use Rattle.mesh_grid.specs.LeastGrid.{least_grid_of, point_on}
 use Rattle.mesh_grid.specs.Settling.{IsTooMany, IsOffGrid}
@@ -56,7 +54,8 @@ row_text first (Some row) = decimal (row + first)
 -- The line of the query at a place: its number, and that of the first row whose closed tetrahedron holds it
 abbrev pub query_line : WhereText → Settled → ℕ → DecimalPoint → List ℕ
 query_line text s place query =
-    decimal (place + text.queries.first) ++ codes " " ++ row_text text.nodes.first (place_of s.points text.rows (rational_point s.grid query)) ++ (10 ∷ [])
+    decimal (place + text.queries.first) ++ codes " "
+    ++ row_text text.nodes.first (place_of s.points text.rows (rational_point s.grid query)) ++ (10 ∷ [])
 
 -- the lines of queries from a place on
 abbrev pub query_lines : WhereText → Settled → ℕ → List DecimalPoint → List ℕ
@@ -76,7 +75,7 @@ TextLocated text =
     (λ settled. AndThen (PositiveAnswer text settled)
     (λ done. AnswersAnswer text settled))
 
--- The answers to the queries of a file over the mesh with this base, or the first refusal in this order: of each file in turn its fetch and its
--- text, then too many points, a point off the grid, and the first row that is not positive
+-- The answers to the queries of a file over the mesh with this base, or the first refusal in this order: of each file in turn its fetch and
+-- its text, then too many points, a point off the grid, and the first row that is not positive
 abbrev pub LocateAnswer : FolderSeen → List ℕ → List ℕ → Result (List ℕ) CheckFault → Type 0
 LocateAnswer seen base queries = AndThen (WhereTextAnswer seen base queries) TextLocated

@@ -3,7 +3,7 @@
 ghost use Rattle.std.specs.Prelude.{◌≡◌, ◌≤◌, ◌<◌, ◌+◌, ◌-◌, ◌^◌, ◌++◌, length, All, IfOk, OnOk};
 ghost use Rattle.std.specs.Fmt.{decimal};
 ghost use Rattle.mesh_readers.specs.Rows.{IsBelow};
-ghost use Rattle.row_cells.specs.Slabs.{ArePositiveOn, StandsFor};
+ghost use Rattle.row_cells.specs.Parts.{ArePositiveOn, StandsFor};
 ghost use Rattle.check_steps.specs.Steps.{folder_seen};
 ghost use Rattle.where_steps.specs.Locating.{row_text, query_line, answer_text, AnswersAnswer, TextLocated, LocateAnswer};
 
@@ -46,7 +46,8 @@ fn append_line(
 ) -> Result<(), NoMemory>
     requires rows { ArePositiveOn settled.now.points text.now.rows }
     requires cells { StandsFor settled.now.points text.now.rows cells.now }
-    ensures { OnOk result (lines.new ≡ lines.old ++ query_line text.now settled.now place query.now) }
+    ensures { OnOk result (lines.new
+        ≡ lines.old ++ query_line text.now settled.now place query.now) }
 {
     let found = cells.find(&settled.points, &text.rows, to_rat(&settled.grid, query));
     append_number(lines, place, text.queries.first)?;
@@ -81,15 +82,17 @@ fn locate_text(alloc: Global, text: &WhereText) -> Result<Bytes, CheckFault>
 /// The answers to the queries of a file over the mesh with this base: for each query in order a
 /// line with its number and that of the first row whose closed tetrahedron holds it, or -1. It
 /// refuses with the first in this order: of each file in turn its fetch, with `Missing`,
-/// `ReadFault` or `TooLong`, and its text; over 120,000 points; a coordinate off the grid; the first
-/// row that is not positive; or for want of memory. It stores nothing.
+/// `ReadFault` or `TooLong`, and its text; over 120,000 points; a coordinate off the grid; the
+/// first row that is not positive; or for want of memory. It stores nothing.
 pub fn locate_files<F: Folder>(
     alloc: Global,
     base: &Name,
     queries: &Name,
     folder: &mut F,
 ) -> Result<Bytes, CheckFault>
-    ensures answer { LocateAnswer (folder_seen F.held F.faults F.misses folder.old folder.new) base.now queries.now result }
+    ensures answer { LocateAnswer
+        (folder_seen F.held F.faults F.misses folder.old folder.new)
+        base.now queries.now result }
     ensures unchanged { F.held folder.new ≡ F.held folder.old }
     ensures faults { F.faults folder.old ≤ F.faults folder.new }
     ensures misses { F.misses folder.old ≤ F.misses folder.new }

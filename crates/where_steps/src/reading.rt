@@ -20,8 +20,8 @@ pub struct WhereText {
     pub queries: NodeText,
 }
 
-/// The files `.node` and `.ele` of the mesh with this base, and the file with the name `queries`, in
-/// this order, each text read before the next fetch. It refuses with the first file that is at
+/// The files `.node` and `.ele` of the mesh with this base, and the file with the name `queries`,
+/// in this order, each text read before the next fetch. It refuses with the first file that is at
 /// fault, or for want of memory, and stores nothing.
 pub fn read_where<F: Folder>(
     alloc: Global,
@@ -29,7 +29,9 @@ pub fn read_where<F: Folder>(
     queries: &Name,
     folder: &mut F,
 ) -> Result<WhereText, CheckFault>
-    ensures answer { WhereTextAnswer (folder_seen F.held F.faults F.misses folder.old folder.new) base.now queries.now result }
+    ensures answer { WhereTextAnswer
+        (folder_seen F.held F.faults F.misses folder.old folder.new)
+        base.now queries.now result }
     ensures there { IfOk result (λ text. All (IsBelow (length text.nodes.decimals)) text.rows) }
     ensures few { IfOk result (λ text. length text.queries.decimals < 2 ^ 32 - 1) }
     ensures unchanged { F.held folder.new ≡ F.held folder.old }

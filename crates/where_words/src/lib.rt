@@ -1,5 +1,5 @@
-//! The words of the program that finds points in a mesh: the base of the mesh's files, and the name of
-//! a list of queries.
+//! The words of the program that finds points in a mesh: the base of the mesh's files, and the
+//! name of a list of queries.
 #![tactic(auto)]
 
 ghost use Rattle.std.specs.Prelude.{◌≡◌, ◌<◌, ◌&&◌, None, length};

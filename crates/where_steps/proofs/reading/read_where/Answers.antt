@@ -1,4 +1,4 @@
-use Rattle.std.proofs.Common.{◌≡◌, ◌≤◌, ◌++◌, ◌∙◌, inl, inr, refl, sym, Ok, Err, Option, List, ℕ, Result, arith}
+use Rattle.std.proofs.Common.{◌++◌, ◌∙◌, inl, inr, refl, Ok, Err, arith}
 use Rattle.std.specs.Prelude.{codes}
 use Rattle.std.proofs.lemmas.Result.{err_from_is_err_and}
 use Rattle.check_steps.specs.Reading.{nodes_of, rows_of}
