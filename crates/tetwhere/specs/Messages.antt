@@ -37,14 +37,14 @@ limit_message (Bytes name) = file_message name (codes "over 67108864 bytes")
 limit_message (Points count) = line (decimal count ++ codes " points, at most 120000")
 limit_message (Grid place) = line (codes "line " ++ decimal place ++ codes ": coordinate off the grid")
 
--- the message of a refusal; a run that is done has none
-abbrev pub message_of : WhereStatus → List ℕ
-message_of Done = []
-message_of (Usage word place) = usage_message word place
-message_of (Missing name) = file_message name (codes "not found")
-message_of (ReadFault name) = file_message name (codes "read failed")
-message_of (BadText name fault) = text_message name fault
-message_of (Limit what) = limit_message what
-message_of (Unsound defect first) = line (defect_text first defect)
-message_of NoMemory = line (codes "out of memory")
-message_of WriteFault = line (codes "answers: write failed")
+-- The message of a refusal, where points and rows are numbered from the first number on; a run that is done has none
+abbrev pub message_of : ℕ → WhereStatus → List ℕ
+message_of first Done = []
+message_of first (Usage word place) = usage_message word place
+message_of first (Missing name) = file_message name (codes "not found")
+message_of first (ReadFault name) = file_message name (codes "read failed")
+message_of first (BadText name fault) = text_message name fault
+message_of first (Limit what) = limit_message what
+message_of first (Unsound defect) = line (defect_text first defect)
+message_of first NoMemory = line (codes "out of memory")
+message_of first WriteFault = line (codes "answers: write failed")

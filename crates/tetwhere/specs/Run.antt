@@ -1,8 +1,11 @@
 -- What a run of the program answers, puts and tells.
-use Rattle.std.specs.Prelude.{◌≡◌, ◌⊎◌, ℕ, List, [], Option, Some, None, Result, Ok, Err}
+use Rattle.std.specs.Prelude.{◌≡◌, ◌≢◌, ◌⊎◌, ◌++◌, ℕ, List, [], codes, Option, Some, None, Result, Ok, Err}
 use Rattle.std.specs.List.{slice_index_or}
 use Rattle.tet_ports.specs.Counts.{Rose}
+use Rattle.tet_ports.specs.Files.{Files}
 use Rattle.tet_ports.specs.Written.{PartlyPut, with_piece}
+use Rattle.node_files.specs.declared.node_text.NodeText.{NodeText}
+use Rattle.check_steps.specs.Reading.{FileAnswer, nodes_of}
 use Rattle.check_steps.specs.Steps.{FolderSeen}
 use Rattle.check_steps.specs.declared.fault.CheckFault.{CheckFault}
 use Rattle.where_words.specs.Words.{bad_word}
@@ -10,7 +13,8 @@ use Rattle.where_steps.specs.Locating.{LocateAnswer}
 use Rattle.tetwhere.specs.Messages.{message_of}
 use Rattle.tetwhere.specs.Statuses.{status_of}
 use Rattle.tetwhere.specs.declared.status.WhereStatus.{WhereStatus}
-use Rattle.tetwhere.specs.declared.status.WhereStatus.TheVariants.{Done, Usage, NoMemory, WriteFault}
+use Rattle.tetwhere.specs.declared.status.WhereStatus.TheVariants.{Done, Usage, Unsound, NoMemory, WriteFault}
+use Rattle.tetwhere.specs.declared.stop.Stop.{Stop}
 
 -- a sink: its bytes, where they are told, and the counts of its faults and of puts refused for want of memory, before and after
 pub record SinkSeen : Type 0 where
@@ -32,23 +36,50 @@ sink_seen written faults wants before now = record {
   wants_now = wants now;
 }
 
--- the answer of the files that the words name: two names, the base of the mesh and the file of queries
+-- the words are two names: the base of the mesh, and the file of queries
+abbrev pub base_of : List (List ℕ) → List ℕ
+base_of words = slice_index_or words 0 []
+
+abbrev pub queries_of : List (List ℕ) → List ℕ
+queries_of words = slice_index_or words 1 []
+
+-- the answer of the files that the words name
 abbrev pub FilesAnswer : List (List ℕ) → FolderSeen → Result (List ℕ) CheckFault → Type 0
-FilesAnswer words folder result = (bad_word words ≡ None) × LocateAnswer folder (slice_index_or words 0 []) (slice_index_or words 1 []) result
+FilesAnswer words folder result = (bad_word words ≡ None) × LocateAnswer folder (base_of words) (queries_of words) result
+
+-- The cause of an answer: lines, where nothing is refused; words that are not two names; or the first refusal of the files. A fault of the
+-- sink, and want of memory, which is free, are none
+abbrev pub HasCause : List (List ℕ) → FolderSeen → WhereStatus → Type 0
+HasCause words folder Done = (lines : List ℕ) × FilesAnswer words folder (Ok lines)
+HasCause words folder WriteFault = ⊥
+HasCause words folder NoMemory = ⊥
+HasCause words folder (Usage word place) = (bad_word words ≡ Some word) × (place ≡ 1)
+HasCause words folder status = (fault : CheckFault) × FilesAnswer words folder (Err fault) × (status ≡ status_of fault)
 
 -- nothing is put
 abbrev pub IsAsBefore : SinkSeen → Type 0
 IsAsBefore out = out.written_now ≡ out.written_before
 
--- The cause of each answer, and what it puts. Done: the lines of all queries. A fault of the sink: a prefix of them. Words that are not two names, the
--- refusal of the files, and want of memory, which is free: nothing
+-- Each answer has its cause, and puts this. Done: the lines of all queries. A fault of the sink: a prefix of them. Every other refusal, and
+-- want of memory, which is free: nothing
 abbrev pub IsAnswer : List (List ℕ) → FolderSeen → SinkSeen → WhereStatus → Type 0
-IsAnswer words folder out Done = (lines : List ℕ) × FilesAnswer words folder (Ok lines) × (out.written_now ≡ with_piece out.written_before lines)
+IsAnswer words folder out Done = (lines : List ℕ) × FilesAnswer words folder (Ok lines)
+    × (out.written_now ≡ with_piece out.written_before lines)
 IsAnswer words folder out WriteFault = (lines : List ℕ) × FilesAnswer words folder (Ok lines)
     × PartlyPut out.written_before lines out.written_now × Rose out.faults_before out.faults_now
-IsAnswer words folder out (Usage word place) = IsAsBefore out × (bad_word words ≡ Some word) × (place ≡ 1)
 IsAnswer words folder out NoMemory = IsAsBefore out
-IsAnswer words folder out status = IsAsBefore out × ((fault : CheckFault) × FilesAnswer words folder (Err fault) × (status ≡ status_of fault))
+IsAnswer words folder out status = IsAsBefore out × HasCause words folder status
+
+-- no count of faults rose
+abbrev pub HasNoFault : FolderSeen → SinkSeen → Type 0
+HasNoFault folder out = ¬ Rose folder.faults_before folder.faults_now × ¬ Rose out.faults_before out.faults_now
+
+-- Where the files are told, no count of faults rose and memory was not wanting, the answer that has a cause is given: the first refusal in
+-- order, and Done where there is none
+abbrev pub IsComplete : List (List ℕ) → FolderSeen → SinkSeen → WhereStatus → Type 0
+IsComplete words folder out status =
+    (told : Files) → folder.files ≡ Some told → HasNoFault folder out → status ≢ NoMemory
+    → (other : WhereStatus) → HasCause words folder other → status ≡ other
 
 -- the message is appended, or a prefix of it where the sink failed or wanted memory
 abbrev pub IsPut : List ℕ → SinkSeen → Type 0
@@ -56,10 +87,16 @@ IsPut message err =
     (err.written_now ≡ with_piece err.written_before message)
     ⊎ (PartlyPut err.written_before message err.written_now × (Rose err.faults_before err.faults_now ⊎ Rose err.wants_before err.wants_now))
 
+-- where a row is told, rows are numbered from this number on: that of the first point in the mesh's file of points
+abbrev pub IsFirstNumber : List (List ℕ) → FolderSeen → WhereStatus → ℕ → Type 0
+IsFirstNumber words folder (Unsound defect) first =
+    (nodes : NodeText) × FileAnswer folder (base_of words ++ codes ".node") nodes_of (Ok nodes) × (first ≡ nodes.first)
+IsFirstNumber words folder status first = Unit {0}
+
 -- Done tells nothing. Every other answer has its message
-abbrev pub IsTold : SinkSeen → WhereStatus → Type 0
-IsTold err Done = IsAsBefore err
-IsTold err status = IsPut (message_of status) err
+abbrev pub IsTold : List (List ℕ) → FolderSeen → SinkSeen → WhereStatus → Type 0
+IsTold words folder err Done = IsAsBefore err
+IsTold words folder err status = (first : ℕ) × IsFirstNumber words folder status first × IsPut (message_of first status) err
 
 -- ---- the end of a run
 
@@ -69,16 +106,21 @@ IsRefusal Done = ⊥
 IsRefusal status = Unit {0}
 
 -- how a run ends before its message
-abbrev pub EndsSo : List (List ℕ) → FolderSeen → SinkSeen → Result (Unit {0}) WhereStatus → Type 0
+abbrev pub EndsSo : List (List ℕ) → FolderSeen → SinkSeen → Result (Unit {0}) Stop → Type 0
 EndsSo words folder out (Ok done) = IsAnswer words folder out Done
-EndsSo words folder out (Err status) = IsRefusal status × IsAnswer words folder out status
+EndsSo words folder out (Err stop) = IsRefusal stop.status × IsAnswer words folder out stop.status
+    × IsFirstNumber words folder stop.status stop.first
+
+-- why the lines are not put, and what that leaves
+abbrev pub IsUnput : List ℕ → SinkSeen → WhereStatus → Type 0
+IsUnput lines out WriteFault = PartlyPut out.written_before lines out.written_now × Rose out.faults_before out.faults_now
+IsUnput lines out NoMemory = IsAsBefore out
+IsUnput lines out status = ⊥
 
 -- what the put of the lines leaves
-abbrev pub IsLinesPut : List ℕ → SinkSeen → Result (Unit {0}) WhereStatus → Type 0
+abbrev pub IsLinesPut : List ℕ → SinkSeen → Result (Unit {0}) Stop → Type 0
 IsLinesPut lines out (Ok done) = out.written_now ≡ with_piece out.written_before lines
-IsLinesPut lines out (Err WriteFault) = PartlyPut out.written_before lines out.written_now × Rose out.faults_before out.faults_now
-IsLinesPut lines out (Err NoMemory) = IsAsBefore out
-IsLinesPut lines out (Err status) = ⊥
+IsLinesPut lines out (Err stop) = IsUnput lines out stop.status
 
 -- only a fault of the sink comes after something was put
 abbrev pub IsEarly : WhereStatus → Type 0
@@ -86,7 +128,7 @@ IsEarly WriteFault = ⊥
 IsEarly status = Unit {0}
 
 -- a refusal with its message; or want of memory, where an early one found none for its message
-abbrev pub IsToldAs : WhereStatus → SinkSeen → WhereStatus → Type 0
-IsToldAs status err result =
-    ((result ≡ status) × IsPut (message_of status) err)
-    ⊎ ((result ≡ NoMemory) × IsEarly status × IsPut (message_of NoMemory) err)
+abbrev pub IsToldAs : Stop → SinkSeen → WhereStatus → Type 0
+IsToldAs stop err result =
+    ((result ≡ stop.status) × IsPut (message_of stop.first stop.status) err)
+    ⊎ ((result ≡ NoMemory) × IsEarly stop.status × IsPut (message_of 0 NoMemory) err)

@@ -16,7 +16,7 @@ code_of (BadText name fault) = 4
 code_of (Limit what) = 5
 code_of NoMemory = 10
 code_of WriteFault = 11
-code_of (Unsound defect first) = 13
+code_of (Unsound defect) = 13
 
 -- the answer on a refusal of the files
 abbrev pub status_of : CheckFault → WhereStatus
@@ -26,5 +26,5 @@ status_of (faults.TooLong name) = Limit (Bytes name)
 status_of (faults.BadText name fault) = BadText name fault
 status_of (faults.TooMany count) = Limit (Points count)
 status_of (faults.OffGrid line) = Limit (Grid line)
-status_of (faults.Unsound defect first) = Unsound defect first
+status_of (faults.Unsound defect first) = Unsound defect
 status_of faults.NoMemory = NoMemory

@@ -4,6 +4,7 @@
 mod messages;
 mod run;
 mod status;
+mod stop;
 #[cfg(test)]
 mod tests;
 

@@ -17,9 +17,9 @@ pub const OUT_OF_MEMORY: &[u8] = b"tetwhere: out of memory\n";
 /// The message that the lines could not be put.
 pub const WRITE_FAILED: &[u8] = b"tetwhere: answers: write failed\n";
 
-/// The line that tells a refusal.
-pub fn message(alloc: Global, status: &WhereStatus) -> Result<Bytes, NoMemory>
-    ensures { IfOk result (λ line. line ≡ message_of status.now) }
+/// The line that tells a refusal, where rows are numbered from `first` on.
+pub fn message(alloc: Global, first: u32, status: &WhereStatus) -> Result<Bytes, NoMemory>
+    ensures { IfOk result (λ line. line ≡ message_of first status.now) }
 {
     match status {
         WhereStatus::Done => Ok(Bytes::new(alloc)),
@@ -28,8 +28,8 @@ pub fn message(alloc: Global, status: &WhereStatus) -> Result<Bytes, NoMemory>
         WhereStatus::ReadFault { name } => file_message(alloc, name, b"read failed"),
         WhereStatus::BadText { name, fault } => text_message(alloc, name, *fault),
         WhereStatus::Limit { what } => limit_message(alloc, what),
-        WhereStatus::Unsound { defect, first } => {
-            let told = defect_text(alloc, *first, *defect)?;
+        WhereStatus::Unsound { defect } => {
+            let told = defect_text(alloc, first, *defect)?;
             line(alloc, told.as_slice())
         }
         WhereStatus::NoMemory => line(alloc, b"out of memory"),

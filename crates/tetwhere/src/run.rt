@@ -2,19 +2,20 @@
 
 ghost use Rattle.std.specs.Prelude.{◌≡◌, ◌≤◌, ◌<◌, length};
 ghost use Rattle.check_steps.specs.Steps.{folder_seen};
-ghost use Rattle.tetwhere.specs.Run.{sink_seen, IsAnswer, IsTold, EndsSo, IsLinesPut, IsPut, IsToldAs};
+ghost use Rattle.tetwhere.specs.Run.{sink_seen, IsAnswer, IsComplete, IsTold, EndsSo, IsLinesPut, IsPut, IsToldAs};
 
 use crate::messages::{OUT_OF_MEMORY, WRITE_FAILED, message};
 use crate::status::WhereStatus;
+use crate::stop::Stop;
 use std::alloc::Global;
 use tet_ports::{Bytes, Folder, PutFault, Sink, Words};
 use where_steps::locate_files;
 use where_words::bad_word;
 
-/// Reads the words, fetches the mesh and the queries that they name, and puts one line for each query
-/// to `out`, all at once: its number, and that of the first row whose closed tetrahedron holds it, or
-/// -1. On every answer but Done it puts one message to `err`; a failure there changes no status. It
-/// stores nothing.
+/// Reads the words, fetches the mesh and the queries that they name, and puts one line for each
+/// query to `out`, all at once: its number, and that of the first row whose closed tetrahedron
+/// holds it, or -1. On every answer but Done it puts one message to `err`; a failure there changes
+/// no status. It stores nothing.
 pub fn run_where<F: Folder, O: Sink, E: Sink>(
     alloc: Global,
     words: &Words,
@@ -22,13 +23,20 @@ pub fn run_where<F: Folder, O: Sink, E: Sink>(
     out: &mut O,
     err: &mut E,
 ) -> WhereStatus
-    ensures answer { IsAnswer words.now (folder_seen F.held F.faults F.misses folder.old folder.new) (sink_seen O.written O.faults O.wants out.old out.new) result }
-    ensures told { IsTold (sink_seen E.written E.faults E.wants err.old err.new) result }
+    ensures answer { IsAnswer words.now
+        (folder_seen F.held F.faults F.misses folder.old folder.new)
+        (sink_seen O.written O.faults O.wants out.old out.new) result }
+    ensures complete { IsComplete words.now
+        (folder_seen F.held F.faults F.misses folder.old folder.new)
+        (sink_seen O.written O.faults O.wants out.old out.new) result }
+    ensures told { IsTold words.now
+        (folder_seen F.held F.faults F.misses folder.old folder.new)
+        (sink_seen E.written E.faults E.wants err.old err.new) result }
     ensures unchanged { F.held folder.new ≡ F.held folder.old }
 {
     match run(alloc, words, folder, out) {
         Ok(()) => WhereStatus::Done,
-        Err(status) => tell(alloc, status, err),
+        Err(stop) => tell(alloc, stop, err),
     }
 }
 
@@ -38,25 +46,27 @@ fn run<F: Folder, O: Sink>(
     words: &Words,
     folder: &mut F,
     out: &mut O,
-) -> Result<(), WhereStatus>
-    ensures ends { EndsSo words.now (folder_seen F.held F.faults F.misses folder.old folder.new) (sink_seen O.written O.faults O.wants out.old out.new) result }
+) -> Result<(), Stop>
+    ensures ends { EndsSo words.now
+        (folder_seen F.held F.faults F.misses folder.old folder.new)
+        (sink_seen O.written O.faults O.wants out.old out.new) result }
     ensures unchanged { F.held folder.new ≡ F.held folder.old }
 {
     if let Some(word) = bad_word(words) {
-        return Err(WhereStatus::Usage { word, place: 1 });
+        return Err(Stop::from(WhereStatus::Usage { word, place: 1 }));
     }
     let lines = locate_files(alloc, words.word(0), words.word(1), folder)?;
     put_lines(&lines, out)
 }
 
 /// Puts the lines of all queries.
-fn put_lines<O: Sink>(lines: &Bytes, out: &mut O) -> Result<(), WhereStatus>
+fn put_lines<O: Sink>(lines: &Bytes, out: &mut O) -> Result<(), Stop>
     ensures { IsLinesPut lines.now (sink_seen O.written O.faults O.wants out.old out.new) result }
 {
     match out.put(lines.as_slice()) {
         Ok(()) => Ok(()),
-        Err(PutFault::Failed) => Err(WhereStatus::WriteFault),
-        Err(PutFault::NoMemory) => Err(WhereStatus::NoMemory),
+        Err(PutFault::Failed) => Err(Stop::from(WhereStatus::WriteFault)),
+        Err(PutFault::NoMemory) => Err(Stop::from(WhereStatus::NoMemory)),
     }
 }
 
@@ -69,14 +79,15 @@ fn put<E: Sink>(line: &[u8], err: &mut E)
 
 /// Puts the message of a refusal, and answers it. Where there is no memory for the message, the
 /// answer is want of memory.
-fn tell<E: Sink>(alloc: Global, status: WhereStatus, err: &mut E) -> WhereStatus
-    ensures { IsToldAs status (sink_seen E.written E.faults E.wants err.old err.new) result }
+fn tell<E: Sink>(alloc: Global, stop: Stop, err: &mut E) -> WhereStatus
+    ensures { IsToldAs stop (sink_seen E.written E.faults E.wants err.old err.new) result }
 {
+    let Stop { status, first } = stop;
     if matches!(&status, WhereStatus::WriteFault) {
         put(WRITE_FAILED, err);
         return WhereStatus::WriteFault;
     }
-    match message(alloc, &status) {
+    match message(alloc, first, &status) {
         Ok(line) => {
             put(line.as_slice(), err);
             status

@@ -32,8 +32,8 @@ pub enum WhereStatus {
     /// The file is not in its grammar.
     BadText { name: Name, fault: TextFault },
     Limit { what: WhereLimit },
-    /// The first row that is not positive, and the number of the first point in its file.
-    Unsound { defect: Defect, first: u32 },
+    /// The first row that is not positive.
+    Unsound { defect: Defect },
     NoMemory,
     /// The lines could not be put.
     WriteFault,
@@ -75,7 +75,7 @@ impl From<CheckFault> for WhereStatus {
             CheckFault::OffGrid { line } => WhereStatus::Limit {
                 what: WhereLimit::Grid { line },
             },
-            CheckFault::Unsound { defect, first } => WhereStatus::Unsound { defect, first },
+            CheckFault::Unsound { defect, .. } => WhereStatus::Unsound { defect },
             CheckFault::NoMemory => WhereStatus::NoMemory,
         }
     }

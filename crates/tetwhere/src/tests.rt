@@ -13,6 +13,8 @@ const TURNED: &[u8] = b"2 4 0\n0 0 1 3 4\n1 2 1 3 4\n";
 
 const QUERIES: &[u8] = b"4 3 0 0\n0 0.5 0.5 0.5\n1 1 1 1\n2 1.5 1.5 0.5\n3 5 0 0\n";
 
+const SKIPPED: &[u8] = b"2 3 0 0\n0 0 0 0\n2 1 1 1\n";
+
 /// A status, and what is put to the two streams.
 type End<'a> = (u8, &'a [u8], &'a [u8]);
 
@@ -69,5 +71,7 @@ fn refusals(rt: HostRuntime) -> Result<(), Fail> {
     assert!(rt; ends(alloc, &[b"p"], ROWS, QUERIES, few)?);
     let missing: End = (2, b"", b"tetwhere: s.node: not found\n");
     assert!(rt; ends(alloc, &[b"s", b"q"], ROWS, QUERIES, missing)?);
+    let skipped: End = (4, b"", b"tetwhere: q: line 3: bad number\n");
+    assert!(rt; ends(alloc, &[b"p", b"q"], ROWS, SKIPPED, skipped)?);
     Ok(())
 }

@@ -1,0 +1,20 @@
+-- Why a run stopped before its end.
+use Rattle.std.specs.Prelude.{ℕ}
+use Rattle.check_steps.specs.declared.fault.CheckFault.{CheckFault}
+use Rattle.check_steps.specs.declared.fault.CheckFault.TheVariants as faults
+use Rattle.tetwhere.specs.Statuses.{status_of}
+use Rattle.tetwhere.specs.declared.status.WhereStatus.{WhereStatus}
+use Rattle.tetwhere.specs.declared.stop.Stop.{Stop}
+
+-- no row is told
+abbrev pub stop_with : WhereStatus → Stop
+stop_with status = record { status = status; first = 0 }
+
+-- the number of the mesh's first point, where a defect is told
+abbrev pub first_of : CheckFault → ℕ
+first_of (faults.Unsound defect first) = first
+first_of fault = 0
+
+-- at a refusal of the files
+abbrev pub stop_of : CheckFault → Stop
+stop_of fault = record { status = status_of fault; first = first_of fault }

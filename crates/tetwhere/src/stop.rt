@@ -1,0 +1,43 @@
+//! Why a run stopped before its end.
+
+ghost use Rattle.std.specs.Prelude.{◌≡◌};
+ghost use Rattle.tetwhere.specs.Stops.{first_of, stop_of, stop_with};
+
+use crate::status::WhereStatus;
+use check_steps::CheckFault;
+
+/// Why a run stopped before its end: its answer, and the number from which rows are numbered.
+#[derive(Drop)]
+pub struct Stop {
+    pub status: WhereStatus,
+    /// The number of the mesh's first point in its file; 0 where no row is told.
+    pub first: u32,
+}
+
+impl From<WhereStatus> for Stop {
+    ghost from_gives = { λ status stop. stop ≡ stop_with status };
+
+    fn from(status: WhereStatus) -> Stop {
+        Stop { status, first: 0 }
+    }
+}
+
+impl From<CheckFault> for Stop {
+    ghost from_gives = { λ fault stop. stop ≡ stop_of fault };
+
+    fn from(fault: CheckFault) -> Stop {
+        let first = first_of(&fault);
+        let status = WhereStatus::from(fault);
+        Stop { status, first }
+    }
+}
+
+/// The number of the mesh's first point, where a defect is told.
+fn first_of(fault: &CheckFault) -> u32
+    ensures { result ≡ first_of fault.now }
+{
+    match fault {
+        CheckFault::Unsound { first, .. } => *first,
+        _ => 0,
+    }
+}
