@@ -1,9 +1,8 @@
 -- The answer that has a cause is given, where the files are told, no fault rose and memory is not wanting.
-use Rattle.std.proofs.Common.{◌≡◌, ◌≢◌, ◌∙◌, ℕ, List, Option, Some, None, Result, Ok, Err, refl, sym, ap}
+use Rattle.std.proofs.Common.{◌≡◌, ◌≢◌, ◌∙◌, ℕ, List, Some, None, Result, Ok, Err, refl, sym, ap}
 use Rattle.tet_ports.specs.Files.{Files}
 use Rattle.check_steps.specs.Steps.{FolderSeen}
 use Rattle.check_steps.specs.declared.fault.CheckFault.{CheckFault}
-use Rattle.check_steps.specs.declared.fault.CheckFault.TheVariants as faults
 use Rattle.check_steps.proofs.Once.{IsDecided, IsTold}
 use Rattle.where_words.specs.Words.{bad_word}
 use Rattle.where_steps.proofs.Once.{locate_once}

@@ -1,17 +1,15 @@
 -- How a run ends, put together.
-use Rattle.std.proofs.Common.{◌≡◌, inl, inr, ℕ, List, Option, Some, None, Result, Ok, Err, refl, sym, subst}
-use Rattle.tet_ports.specs.Written.{with_piece}
+use Rattle.std.proofs.Common.{◌≡◌, inl, inr, ℕ, List, Some, Result, Ok, Err, refl, sym, subst}
 use Rattle.check_steps.specs.Steps.{FolderSeen}
 use Rattle.check_steps.specs.declared.fault.CheckFault.{CheckFault}
 use Rattle.check_steps.specs.declared.fault.CheckFault.TheVariants as faults
 use Rattle.where_words.specs.Words.{bad_word}
 use Rattle.where_steps.proofs.Numbered.{numbered}
 use Rattle.tetwhere.specs.Messages.{message_of}
-use Rattle.tetwhere.specs.Statuses.{status_of}
-use Rattle.tetwhere.specs.Stops.{first_of, stop_of, stop_with}
+use Rattle.tetwhere.specs.Stops.{stop_of, stop_with}
 use Rattle.tetwhere.specs.Run.{SinkSeen, base_of, queries_of, FilesAnswer, IsAsBefore, IsAnswer, IsFirstNumber, IsTold, IsPut, IsRefusal, EndsSo, IsUnput, IsLinesPut, IsEarly, IsToldAs}
 use Rattle.tetwhere.specs.declared.status.WhereStatus.{WhereStatus}
-use Rattle.tetwhere.specs.declared.status.WhereStatus.TheVariants.{Done, Usage, Missing, ReadFault, BadText, Limit, Unsound, NoMemory, WriteFault}
+use Rattle.tetwhere.specs.declared.status.WhereStatus.TheVariants.{Done, Usage, NoMemory, WriteFault}
 use Rattle.tetwhere.specs.declared.stop.Stop.{Stop}
 
 -- where the words are not two names

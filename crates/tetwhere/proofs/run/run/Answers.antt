@@ -1,4 +1,4 @@
-use Rattle.std.proofs.Common.{◌≡◌, ◌∙◌, [], List, ℕ, Option, None, refl, sym, subst, Err, Ok}
+use Rattle.std.proofs.Common.{[], refl, sym, subst, Err, Ok}
 use Rattle.std.specs.List.{slice_index_or}
 use Rattle.std.proofs.lemmas.Result.{err_from_is_err_and}
 use Rattle.check_steps.specs.Steps.{FolderSeen, folder_seen}
