@@ -1,0 +1,4 @@
+pub mod Sorted
+pub mod Opposed
+pub mod Listings
+pub mod Soundness
