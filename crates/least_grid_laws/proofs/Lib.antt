@@ -1,0 +1,4 @@
+pub mod Factors
+pub mod Fitting
+pub mod Signs
+pub mod Reread

@@ -1,0 +1,22 @@
+//! What is written in decimals fits the least grid of these.
+ghost use Rattle.least_grid_laws.specs.Written.{FittingLaw, SettlingLaw, SameSignsLaw, RereadLaw};
+
+/// The decimals of points of a grid fit their least grid, on which each coordinate is one number of times smaller.
+pub fn law_fits()
+    ensures { FittingLaw }
+{}
+
+/// So `settle_least` answers these points, or want of memory.
+pub fn law_settles()
+    ensures { SettlingLaw }
+{}
+
+/// Orientations and spheres have the signs of the points that are so many times larger.
+pub fn law_same_signs()
+    ensures { SameSignsLaw }
+{}
+
+/// The text of a coordinate is read back as its decimal, where it has at most 35 decimals.
+pub fn law_reread()
+    ensures { RereadLaw }
+{}
