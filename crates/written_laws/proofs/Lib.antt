@@ -4,3 +4,6 @@ pub mod Further
 pub mod Written
 pub mod Kept
 pub mod LargerUnit
+pub mod Renaming
+pub mod Partners
+pub mod Renamed

@@ -1,1 +1,2 @@
 pub mod WrittenMesh
+pub mod Renamed

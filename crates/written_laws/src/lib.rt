@@ -3,4 +3,4 @@
 
 mod laws;
 
-pub use laws::{law_kept_apart, law_larger_unit, law_written};
+pub use laws::{law_kept_apart, law_larger_unit, law_renamed, law_written};
