@@ -1,0 +1,4 @@
+pub mod Words
+pub mod Decimals
+pub mod Fields
+pub mod Rows

@@ -1,0 +1,17 @@
+//! The texts of a mesh are read back.
+ghost use Rattle.reread_laws.specs.Reread.{EleReadLaw, FaceReadLaw, NeighReadLaw};
+
+/// The text of rows is read back as the rows, with each corner by its name.
+pub fn law_ele_read()
+    ensures { EleReadLaw }
+{}
+
+/// The text of faces is read back as the faces, with each corner by its name, and their markers.
+pub fn law_face_read()
+    ensures { FaceReadLaw }
+{}
+
+/// The text of neighbors is read back as the neighbors.
+pub fn law_neigh_read()
+    ensures { NeighReadLaw }
+{}

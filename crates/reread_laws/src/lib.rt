@@ -1,0 +1,6 @@
+//! The texts of a mesh are read back as its lists, over the definitions alone. Each law is the contract of a function that does nothing.
+#![tactic(auto)]
+
+mod laws;
+
+pub use laws::{law_ele_read, law_face_read, law_neigh_read};
