@@ -2,3 +2,5 @@ pub mod Words
 pub mod Decimals
 pub mod Fields
 pub mod Rows
+pub mod GridTexts
+pub mod Points

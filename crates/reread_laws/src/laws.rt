@@ -1,4 +1,5 @@
 //! The texts of a mesh are read back.
+ghost use Rattle.reread_laws.specs.NodeRead.{NodeReadLaw};
 ghost use Rattle.reread_laws.specs.Reread.{EleReadLaw, FaceReadLaw, NeighReadLaw};
 
 /// The text of rows is read back as the rows, with each corner by its name.
@@ -14,4 +15,9 @@ pub fn law_face_read()
 /// The text of neighbors is read back as the neighbors.
 pub fn law_neigh_read()
     ensures { NeighReadLaw }
+{}
+
+/// The text of points is read back as a point list of as many points, whose decimals are the numbers that their coordinates are.
+pub fn law_node_read()
+    ensures { NodeReadLaw }
 {}

@@ -1,0 +1,39 @@
+-- Point lists without attributes and markers, read back.
+use Rattle.std.specs.Prelude.{◌≡◌, ℕ, ◌+◌, ◌≤◌, unsigned_abs, ℤ, List, ◌++◌, length, All, false, [], Ok}
+use Rattle.sign_predicates.specs.Point.{Point}
+use Rattle.tet_text.specs.Lines.{content_lines}
+use Rattle.grid_coords.specs.Units.{limit, decimal_at}
+use Rattle.grid_coords.specs.declared.grid.Grid.{Grid}
+use Rattle.node_files.specs.Node.{node_of}
+use Rattle.node_files.specs.Writing.{node_text}
+use Rattle.node_files.specs.declared.node_text.NodeText.{NodeText}
+use Rattle.node_files.specs.declared.table.NodeTable.{NodeTable}
+use Rattle.least_grid_laws.specs.Written.{ArePointsAt}
+use Rattle.reread_laws.specs.Reread.{IsShort}
+
+-- a coordinate at most 2^23 in size, with at most 35 decimals
+pub record IsLegible (g : Grid) (c : ℤ) : Type 0 where
+  pub small : unsigned_abs c ≤ limit
+  pub short : (decimal_at g c).scale ≤ 35
+
+pub record IsLegiblePoint (g : Grid) (p : Point) : Type 0 where
+  pub x : IsLegible g p.x
+  pub y : IsLegible g p.y
+  pub z : IsLegible g p.z
+
+-- points without attributes and markers
+pub record IsBareTable (table : NodeTable) : Type 0 where
+  pub no_attributes : table.attribute_count ≡ 0
+  pub no_markers : table.flag ≡ false
+  pub halvings : table.grid.halvings ≤ 12
+
+-- what is read back: the decimals are those of the listed points and the added ones
+pub record IsReadBack (g : Grid) (ps : List Point) (text : NodeText) : Type 0 where
+  pub decimals : ArePointsAt g ps text.decimals
+  pub bare : text.attributes ≡ []
+
+-- `.node`: the text of points is read back as their decimals
+abbrev pub NodeReadLaw : Type 0
+NodeReadLaw = (table : NodeTable) (added : List Point) (first total : ℕ) → IsBareTable table → first ≤ 1 → IsShort (first + length (table.listed ++ added))
+    → All (IsLegiblePoint table.grid) (table.listed ++ added)
+    → (text : NodeText) × (node_of total (content_lines (node_text table added first)) ≡ Ok text) × IsReadBack table.grid (table.listed ++ added) text
