@@ -66,13 +66,15 @@ SettlingLaw = (g : Grid) (ps : List Point) (ds : List DecimalPoint) → ArePoint
 
 -- Points in a larger unit have the same orientations, and lie on the same sides of spheres
 pub record HaveSameSigns (ps qs : List Point) : Type 0 where
-  pub orientations : (a b c d : ℕ) → HaveOneSign (orient (point ps a) (point ps b) (point ps c) (point ps d)) (orient (point qs a) (point qs b) (point qs c) (point qs d))
+  pub orientations : (a b c d : ℕ)
+      → HaveOneSign (orient (point ps a) (point ps b) (point ps c) (point ps d)) (orient (point qs a) (point qs b) (point qs c) (point qs d))
   pub spheres : (t : Tet) (e : ℕ) → HaveOneSign (in_sphere (corners ps t) (point ps e)) (in_sphere (corners qs t) (point qs e))
 
 abbrev pub SameSignsLaw : Type 0
 SameSignsLaw = (f : ℕ) (ps qs : List Point) → AreMultiples f ps qs → HaveSameSigns ps qs
 
--- The text of a coordinate is read back as its decimal, which is the number that so many grid units are. With more than 35 decimals it has more
+-- The text of a coordinate is read back as its decimal, which is the number that so many grid units are. With more than 35 decimals it has
+-- more
 -- digits than a decimal may have
 abbrev pub RereadLaw : Type 0
 RereadLaw = (g : Grid) (c : ℤ) → unsigned_abs c ≤ limit → g.halvings ≤ 12 → (decimal_at g c).scale ≤ 35

@@ -34,6 +34,8 @@ pub record IsReadBack (g : Grid) (ps : List Point) (text : NodeText) : Type 0 wh
 
 -- `.node`: the text of points is read back as their decimals
 abbrev pub NodeReadLaw : Type 0
-NodeReadLaw = (table : NodeTable) (added : List Point) (first total : ℕ) → IsBareTable table → first ≤ 1 → IsShort (first + length (table.listed ++ added))
+NodeReadLaw = (table : NodeTable) (added : List Point) (first total : ℕ) → IsBareTable table → first ≤ 1
+    → IsShort (first + length (table.listed ++ added))
     → All (IsLegiblePoint table.grid) (table.listed ++ added)
-    → (text : NodeText) × (node_of total (content_lines (node_text table added first)) ≡ Ok text) × IsReadBack table.grid (table.listed ++ added) text
+    → (text : NodeText) × (node_of total (content_lines (node_text table added first)) ≡ Ok text)
+    × IsReadBack table.grid (table.listed ++ added) text

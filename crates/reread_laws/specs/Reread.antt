@@ -31,12 +31,14 @@ pub record HasFaceNames (names : List ℕ) (points : ℕ) (f : FaceRow) : Type 0
 
 -- `.ele` without attributes: the rows, with each corner by its name
 abbrev pub EleReadLaw : Type 0
-EleReadLaw = (names : List ℕ) (first points total : ℕ) (rows : List Tet) → IsShort (first + points) → IsShort (first + length rows) → All (HasNames names points) rows
+EleReadLaw = (names : List ℕ) (first points total : ℕ) (rows : List Tet) → IsShort (first + points) → IsShort (first + length rows)
+    → All (HasNames names points) rows
     → ele_of first points total (content_lines (ele_text names first rows)) ≡ Ok (map (renamed_row (slice_index names)) rows)
 
 -- `.face`: the faces, with each corner by its name, and their markers
 abbrev pub FaceReadLaw : Type 0
-FaceReadLaw = (names : List ℕ) (first points total : ℕ) (faces : List FaceRow) → IsShort (first + points) → IsShort (first + length faces) → All (HasFaceNames names points) faces
+FaceReadLaw = (names : List ℕ) (first points total : ℕ) (faces : List FaceRow) → IsShort (first + points)
+    → IsShort (first + length faces) → All (HasFaceNames names points) faces
     → face_of first points total (content_lines (face_text names first faces)) ≡ Ok (map (renamed_face (slice_index names)) faces)
 
 -- each neighbor is a place below a number
@@ -48,5 +50,6 @@ pub record AreBelow (count : ℕ) (x : Across) : Type 0 where
 
 -- `.neigh`: the neighbors
 abbrev pub NeighReadLaw : Type 0
-NeighReadLaw = (first total : ℕ) (neighbors : List Across) → IsShort (first + length neighbors) → All (AreBelow (length neighbors)) neighbors
+NeighReadLaw = (first total : ℕ) (neighbors : List Across) → IsShort (first + length neighbors)
+    → All (AreBelow (length neighbors)) neighbors
     → neigh_of first total (content_lines (neigh_text first neighbors)) ≡ Ok neighbors

@@ -30,7 +30,8 @@ pub record IsSoundMesh (m : Mesh) : Type 0 where
 
 -- Without the first two kinds of defects the rows are apart
 abbrev pub RowsApartLaw : Type 0
-RowsApartLaw = (m : Mesh) → ((i : ℕ) → ¬ HasDefect m (NotPositive i)) → ((i j : ℕ) → ¬ HasDefect m (SameSide i j)) → AreApart m.points m.rows
+RowsApartLaw = (m : Mesh) → ((i : ℕ) → ¬ HasDefect m (NotPositive i)) → ((i j : ℕ) → ¬ HasDefect m (SameSide i j))
+    → AreApart m.points m.rows
 
 -- A mesh has no defect exactly where its files say the same of it
 abbrev pub SoundMeshLaw : Type 0

@@ -33,11 +33,13 @@ pub record IsApartMesh (ps : List Point) (ts : List FacetTriangle) (rows : List 
 -- With the faces on the hull and in facets, or all faces, such rows have no defect
 abbrev pub WrittenMeshLaw : Type 0
 WrittenMeshLaw = (ps : List Point) (ts : List FacetTriangle) (complex : Complex) (rows : List Tet) (all : Bool) (faces : List FaceRow)
-    → IsApartMesh ps ts rows → AreFacetsThere ts complex → AreFaceRowsOf ps rows complex ts all faces → IsVerdict (written_mesh ps rows faces) Sound
+    → IsApartMesh ps ts rows → AreFacetsThere ts complex → AreFaceRowsOf ps rows complex ts all faces
+    → IsVerdict (written_mesh ps rows faces) Sound
 
 -- Ascending rows of a list that covers the hull once are apart
 abbrev pub KeptApartLaw : Type 0
-KeptApartLaw = (ps : List Point) (whole part : List Tet) → All (IsOn ps) whole → All (λ t. IsPositive (corners ps t)) whole → AllPairs RowBefore whole
+KeptApartLaw = (ps : List Point) (whole part : List Tet) → All (IsOn ps) whole → All (λ t. IsPositive (corners ps t)) whole
+    → AllPairs RowBefore whole
     → CoversHullOnce ps whole → ((t : Tet) → Contains part t → Contains whole t) → AllPairs RowBefore part → AreApart ps part
 
 -- Points in a larger unit make the same verdict on a mesh without a defect
