@@ -4,3 +4,4 @@ pub mod Fields
 pub mod Rows
 pub mod GridTexts
 pub mod Points
+pub mod ReadBack

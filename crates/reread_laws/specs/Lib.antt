@@ -1,2 +1,3 @@
 pub mod Reread
 pub mod NodeRead
+pub mod ReadBack

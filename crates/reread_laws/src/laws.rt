@@ -1,5 +1,6 @@
 //! The texts of a mesh are read back.
 ghost use Rattle.reread_laws.specs.NodeRead.{NodeReadLaw};
+ghost use Rattle.reread_laws.specs.ReadBack.{ReadBackLaw};
 ghost use Rattle.reread_laws.specs.Reread.{EleReadLaw, FaceReadLaw, NeighReadLaw};
 
 /// The text of rows is read back as the rows, with each corner by its name.
@@ -20,4 +21,9 @@ pub fn law_neigh_read()
 /// The text of points is read back as a point list of as many points, whose decimals are the numbers that their coordinates are.
 pub fn law_node_read()
     ensures { NodeReadLaw }
+{}
+
+/// The texts of a mesh without a defect are read back as one without a defect, over the points on the least grid of their decimals.
+pub fn law_read_back()
+    ensures { ReadBackLaw }
 {}

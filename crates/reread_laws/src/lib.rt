@@ -3,4 +3,4 @@
 
 mod laws;
 
-pub use laws::{law_ele_read, law_face_read, law_neigh_read, law_node_read};
+pub use laws::{law_ele_read, law_face_read, law_neigh_read, law_node_read, law_read_back};

@@ -1,0 +1,54 @@
+-- The texts of a mesh without a defect, read back.
+use Rattle.std.specs.Prelude.{◌≡◌, ℕ, ◌+◌, ◌≤◌, ◌<◌, unsigned_abs, List, ◌++◌, length, map, All, Ok}
+use Rattle.sign_predicates.specs.Point.{Point}
+use Rattle.geo_laws.specs.Delaunay.{IsOn}
+use Rattle.geo_laws.specs.declared.tetrahedra.Tet.{Tet}
+use Rattle.tet_text.specs.Lines.{content_lines}
+use Rattle.incidence.specs.Pairs.{pairs_of}
+use Rattle.incidence.specs.declared.pairs.Across.{Across}
+use Rattle.mesh_files.specs.Texts.{ele_text, face_text, neigh_text}
+use Rattle.mesh_files.specs.declared.markers.FaceRow.{FaceRow}
+use Rattle.mesh_readers.specs.Rows.{ele_of, face_of, neigh_of}
+use Rattle.node_files.specs.Node.{node_of}
+use Rattle.node_files.specs.Writing.{node_text}
+use Rattle.node_files.specs.declared.node_text.NodeText.{NodeText}
+use Rattle.node_files.specs.declared.table.NodeTable.{NodeTable}
+use Rattle.mesh_grid.specs.LeastGrid.{least_grid_of, coarsest, point_on}
+use Rattle.mesh_check.specs.Defects.{IsVerdict}
+use Rattle.mesh_check.specs.declared.defect.Verdict.TheVariants.{Sound}
+use Rattle.written_laws.specs.Renamed.{AreNamesIn}
+use Rattle.written_laws.specs.WrittenMesh.{written_mesh}
+use Rattle.reread_laws.specs.NodeRead.{IsBareTable, IsLegiblePoint}
+use Rattle.reread_laws.specs.Reread.{IsShort}
+
+-- A mesh whose texts can be read: points without attributes and markers, each coordinate with at most 35 decimals; names of its points in the list of points
+-- that is written; and numbers and markers of at most 18 digits
+pub record IsReadable (table : NodeTable) (added : List Point) (names : List ℕ) (first : ℕ) (ps : List Point) (rows : List Tet) (faces : List FaceRow) : Type 0 where
+  pub bare : IsBareTable table
+  pub legible : All (IsLegiblePoint table.grid) (table.listed ++ added)
+  pub one : first ≤ 1
+  pub named : AreNamesIn names ps (table.listed ++ added)
+  pub within : All (λ n. n < length (table.listed ++ added)) names
+  pub on : All (IsOn ps) rows
+  pub points_short : IsShort (first + length (table.listed ++ added))
+  pub rows_short : IsShort (first + length rows)
+  pub faces_short : IsShort (first + length faces)
+  pub markers_short : All (λ f. IsShort (unsigned_abs f.marker)) faces
+
+-- what the texts of a mesh are read as: points that fit their least grid, and rows, faces and neighbors among which there is no defect
+pub record AreReadSound (table : NodeTable) (added : List Point) (names : List ℕ) (first : ℕ) (rows : List Tet) (faces : List FaceRow) (total : ℕ) : Type 0 where
+  pub points : NodeText
+  pub tetrahedra : List Tet
+  pub listed : List FaceRow
+  pub neighbors : List Across
+  pub node_read : node_of total (content_lines (node_text table added first)) ≡ Ok points
+  pub fits : least_grid_of points.decimals ≡ Ok (coarsest points.decimals)
+  pub ele_read : ele_of first (length points.decimals) total (content_lines (ele_text names first rows)) ≡ Ok tetrahedra
+  pub face_read : face_of first (length points.decimals) total (content_lines (face_text names first faces)) ≡ Ok listed
+  pub neigh_read : neigh_of first total (content_lines (neigh_text first (pairs_of rows))) ≡ Ok neighbors
+  pub sound : IsVerdict (record { points = map (point_on (coarsest points.decimals)) points.decimals; rows = tetrahedra; faces = listed; neighbors = neighbors }) Sound
+
+-- The texts of a mesh without a defect are read back as one without a defect
+abbrev pub ReadBackLaw : Type 0
+ReadBackLaw = (table : NodeTable) (added : List Point) (names : List ℕ) (first : ℕ) (ps : List Point) (rows : List Tet) (faces : List FaceRow) → IsReadable table added names first ps rows faces
+    → IsVerdict (written_mesh ps rows faces) Sound → (total : ℕ) → AreReadSound table added names first rows faces total
