@@ -1,7 +1,7 @@
 -- What the mesh of a complex is made of, from its points and its facets on their grid.
 use Rattle.std.proofs.Common.{length-drop, drop, get_or, ◌≡◌, ◌≤◌, ◌<◌, ◌-◌, ◌^◌, pos, ℕ, List, length, map, Option, Some, None, IfSome, All, refl, sym, ap, subst, ◌∙◌, arith}
 use Rattle.std.proofs.lemmas.List.{get_or-map, length-map, get_or_default}
-use Rattle.std.specs.Prelude.{slice_index, slice_index_or}
+use Rattle.std.specs.Prelude.{slice_index, slice_index_or, AllPairs}
 use Rattle.command_words.specs.Meaning.{AreInRange}
 use Rattle.command_words.specs.declared.options.Options.{Options}
 use Rattle.complex_mesh.proofs.Added.{added}
@@ -14,7 +14,9 @@ use Rattle.hole_carve.specs.Marks.{AreMarks, IsFirstOf, mark_at}
 use Rattle.geo_laws.specs.Complex.{Complex}
 use Rattle.complex_laws.proofs.ComplexMesh.{law_hull_mesh}
 use Rattle.geo_laws.proofs.DelaunayList.{law_delaunay_list}
-use Rattle.geo_laws.specs.Delaunay.{point, corners, numbers, delaunay_rows, IsOn, IsArranged}
+use Rattle.geo_laws.specs.Delaunay.{point, corners, numbers, delaunay_rows, IsOn, IsArranged, RowBefore}
+use Rattle.geo_laws.specs.Faces.{AreHullFacesOf}
+use Rattle.geo_laws.specs.declared.faces.Face.{Face}
 use Rattle.geo_laws.specs.declared.tetrahedra.Tet.{Tet}
 use Rattle.mesh_files.specs.Texts.{AreNamed}
 use Rattle.node_files.proofs.Folds.{folded_distinct, folded_few, kept_at, names_with_long}
@@ -32,8 +34,9 @@ use Rattle.plc_files.specs.Binding.{HasCornersBelow, HasWeights}
 use Rattle.protect_laws.proofs.Start.{law_multiples}
 use Rattle.segment_protect.specs.Protection.{IsMultiple}
 use Rattle.sign_predicates.specs.Point.{Point}
-use Rattle.run_steps.specs.Meshing.{grid_options, mesh_options, mesh_of_complex, mesh_of_points, without_decimals, IsMeshableBound}
-use Rattle.run_steps.specs.Outputs.{IsWritable}
+use Rattle.run_steps.specs.Meshing.{grid_options, mesh_options, mesh_of_complex, mesh_of_points, mesh_of_weights, mesh_on, without_decimals, IsMeshableBound}
+use Rattle.run_steps.specs.Outputs.{IsWritable, IsHullOf}
+use Rattle.run_steps.specs.declared.meshed.Meshed.{Meshed}
 use Rattle.run_steps.specs.declared.mesh.Bound.{Bound}
 
 rounded_long : (decimals : Option ℕ) (ps : List DecimalPoint) → length (rounded_points decimals ps) ≡ length ps
@@ -46,6 +49,9 @@ module _ (text : NodeText) (options : GridOptions) (table : NodeTable) (s : IsSe
 
   pub as_many : length table.listed ≡ length text.decimals
   as_many = ap (λ (xs : List Point). length xs) listed_are ∙ length-map (rounded_points options.decimals text.decimals) (grid_point table.grid) ∙ rounded_long options.decimals text.decimals
+
+  pub decimals_long : length table.decimals ≡ length table.listed
+  decimals_long = ap (λ (t : NodeTable). length t.decimals) s.is ∙ rounded_long options.decimals text.decimals ∙ sym as_many
 
   listed_multiples : (i : ℕ) → i < length table.listed → IsMultiple (2 ^ table.grid.halvings) (point table.listed i)
   listed_multiples i h =
@@ -78,7 +84,7 @@ module _ (text : NodeText) (options : GridOptions) (table : NodeTable) (s : IsSe
 pub meshable_bound : (options : Options) (text : NodeText) (table : NodeTable) (complex : Complex) → AreInRange options → IsSettled text (grid_options options) table → IsNodeTable table
     → length table.listed ≤ most_points → HasCornersBelow (length table.points) complex → HasWeights complex → IsMeshableBound options (record { table = table; complex = complex })
 meshable_bound options text table complex ranges s h few corners weights =
-    record { table = h; few = few; budget = ranges.budget; meshable = meshable text (grid_options options) table s options.budget complex ranges.budget few corners weights }
+    record { table = h; decimals = decimals_long text (grid_options options) table s; few = few; budget = ranges.budget; meshable = meshable text (grid_options options) table s options.budget complex ranges.budget few corners weights }
 
 -- folding changes no hole point and no region point
 pub weights_folded : (folded : List ℕ) (raw complex : Complex) → complex ≡ folded_complex folded raw → HasWeights raw → HasWeights complex
@@ -91,23 +97,38 @@ pub light : {table : NodeTable} → IsNodeTable table → IsNodeTable (without_d
 light t = record { attributes = t.attributes; markers = t.markers; halvings = t.halvings; folded = t.folded }
 
 -- corners of tetrahedra on points have names, where there is one for each point
-named : (ps : List Point) (names : List ℕ) (rows : List Tet) → length names ≡ length ps → All (λ t. IsOn ps t × IsPositive (corners ps t) × IsArranged t) rows → All (λ t. AreNamed names (numbers t)) rows
-named ps names rows long on = λ k d l. subst (λ n. All (λ i. i < n) (numbers (get_or rows k d))) (sym long) (on k d l).0
+on_named : (ps : List Point) (names : List ℕ) (rows : List Tet) → length names ≡ length ps → All (IsOn ps) rows → All (λ t. AreNamed names (numbers t)) rows
+on_named ps names rows long on = λ k d l. subst (λ n. All (λ i. i < n) (numbers (get_or rows k d))) (sym long) (on k d l)
 
--- the mesh of points alone can be written
-pub points_writable : (options : Options) (bound : Bound) → IsMeshableBound options bound → IsWritable (mesh_of_points bound.table)
-points_writable options bound b =
+named : (ps : List Point) (names : List ℕ) (rows : List Tet) → length names ≡ length ps → All (λ t. IsOn ps t × IsPositive (corners ps t) × IsArranged t) rows → All (λ t. AreNamed names (numbers t)) rows
+named ps names rows long on = on_named ps names rows long (λ k d l. (on k d l).0)
+
+-- a mesh of points alone can be written
+pub rows_writable : (options : Options) (bound : Bound) (rows : List Tet) (hidden : Option ℕ) → IsMeshableBound options bound → All (IsOn bound.table.points) rows → IsWritable (mesh_on bound.table rows hidden)
+rows_writable options bound rows hidden b on =
     let ps = bound.table.points in
     let few = b.few in
     let long = names_with_long bound.table 0 b.table.folded in record {
       table = light b.table;
       few = omega arith;
-      named = named ps (names_with bound.table 0) (delaunay_rows ps) (omega arith) (law_hull_mesh ps (delaunay_rows ps) (law_delaunay_list ps)).positive;
+      named = on_named ps (names_with bound.table 0) rows (omega arith) on;
       met = λ k d l. absurd (omega (arith, l));
       there = λ k d l. absurd (omega (arith, l));
       marks_long = tt;
       marks_there = tt;
     }
+
+pub points_writable : (options : Options) (bound : Bound) → IsMeshableBound options bound → IsWritable (mesh_of_points bound.table)
+points_writable options bound b =
+    let ps = bound.table.points in
+    let positive = (law_hull_mesh ps (delaunay_rows ps) (law_delaunay_list ps)).positive in
+    rows_writable options bound (delaunay_rows ps) None b (λ k d l. (positive k d l).0)
+
+-- the hull of its rows is that of the mesh, where it is known
+pub with_hull : (table : NodeTable) (rows : List Tet) (hidden : Option ℕ) (hull : Option (List Face)) (mesh : Meshed) → mesh ≡ mesh_on table rows hidden → AllPairs RowBefore rows
+    → IfSome hull (AreHullFacesOf rows) → IfSome hull (IsHullOf mesh)
+with_hull table rows hidden None mesh is up h = tt
+with_hull table rows hidden (Some faces) mesh is up h = subst (λ m. IsHullOf m faces) (sym is) (record { bare = refl; ascending = up; faces = h })
 
 -- the mesh of a complex can be written
 pub writable : (options : Options) (bound : Bound) (made : ComplexMesh) → IsMeshableBound options bound → options.budget ≤ 100000

@@ -31,8 +31,8 @@ use Rattle.sign_predicates.specs.Point.{Point}
 use Rattle.tet_ports.specs.Counts.{Rose}
 use Rattle.tet_ports.specs.Files.{Files}
 use Rattle.tet_text.specs.declared.fault.TextFault.{TextFault}
-use Rattle.run_steps.specs.Codes.{status_of_fault}
-use Rattle.run_steps.specs.Meshing.{grid_options, mesh_options, IsSmall, IsBoundOn, BoundAnswer, IsFlatRefusal, MeshOf, MeshAnswer, OutputsAnswer, MeshedAnswer, OutputsOfRun}
+use Rattle.run_steps.specs.Codes.{status_of_fault, status_of_weights}
+use Rattle.run_steps.specs.Meshing.{grid_options, mesh_options, IsSmall, IsBoundOn, BoundAnswer, IsFlatRefusal, PointsMeshOf, MeshOf, MeshAnswer, OutputsAnswer, MeshedAnswer, OutputsOfRun}
 use Rattle.run_steps.specs.Reading.{complex_file, points_alone, on_points, most_bytes, node_text_of, plc_text_of, IsUsage, WordsAnswer, FetchAnswer, IsBadText, TextAnswer, PointsAnswer, FormAnswer, ComplexFileAnswer, SourceAnswer, NodesAnswer, BoundedAnswer, InputOf, InputAnswer}
 use Rattle.run_steps.specs.Seen.{FolderSeen}
 use Rattle.run_steps.specs.Steps.{AndThen, IfMissing, Gives, forced_answer}
@@ -42,6 +42,10 @@ use Rattle.run_steps.specs.declared.mesh.Bound.{Bound}
 use Rattle.run_steps.specs.declared.status.LimitKind.TheVariants.{Bytes as TooLong, Points, Facets, Corners, Grid as OnGrid}
 use Rattle.run_steps.specs.declared.status.Status.{Status}
 use Rattle.run_steps.specs.declared.status.Status.TheVariants.{Done, Usage, Missing, ReadFault, BadText, Limit, Flat, NoMemory}
+use Rattle.weighted_steps.proofs.Answering.{one_answer_law}
+use Rattle.weighted_steps.specs.declared.fault.RegularFault.{RegularFault}
+use Rattle.weighted_steps.specs.declared.fault.RegularFault.TheVariants as regular_faults
+use Rattle.weighted_steps.specs.declared.meshing.RegularMesh.{RegularMesh}
 use Rattle.run_steps.proofs.Steps.{IsDecided, IsOnce, IsSame, gives_once, if_missing_once, and_then_once, and_then_same, and_then_sure}
 
 -- ---- the words
@@ -304,11 +308,45 @@ beside_fault (mesh_faults.NoFill anomaly) g n m to from = ap forced_fault (sym (
 beside_fault mesh_faults.NoMemory g n m to from = absurd (n refl)
 beside_fault f g n m to from = ap forced_fault (to tt)
 
+-- the refusal of weights is no want of memory
+no_wanting : (name : List ℕ) (fault : RegularFault) (s : Status) → s ≡ status_of_weights name fault → s ≢ NoMemory → fault ≢ regular_faults.NoMemory
+no_wanting name fault s e n f = n (e ∙ ap (status_of_weights name) f)
+
+abbrev unmade : RegularFault → Result RegularMesh RegularFault
+unmade fault = Err fault
+
+abbrev made_of : RegularMesh → Result RegularMesh RegularFault
+made_of mesh = Ok mesh
+
+unmade_same : (f g : RegularFault) → unmade f ≡ unmade g → f ≡ g
+unmade_same f g e = cc
+
+made_unmade : (mesh : RegularMesh) (f : RegularFault) → made_of mesh ≡ unmade f → ⊥
+made_unmade mesh f e = cc
+
+made_wanting : (mesh : RegularMesh) → made_of mesh ≢ unmade regular_faults.NoMemory
+made_wanting mesh e = cc
+
+points_same : (options : Options) (bound : Bound) (weighted : Bool) → IsSame (PointsMeshOf weighted options bound)
+points_same options bound weighted (Ok a) (Ok b) n m h k = refl
+points_same options bound false (Ok a) (Err t) n m h k = absurd (h.0 (flat_is bound t m k).0)
+points_same options bound false (Err s) (Ok b) n m h k = absurd (k.0 (flat_is bound s n h).0)
+points_same options bound false (Err s) (Err t) n m h k = ap forced_answer ((flat_is bound s n h).1 ∙ sym (flat_is bound t m k).1)
+points_same options bound true (Ok a) (Err t) n m h k =
+    let decided = no_wanting (file_name options.base Node) k.0 t k.1 m in
+    absurd (made_unmade h.0 k.0 (one_answer_law bound.table (Ok h.0) (Err k.0) h.1 k.2 (made_wanting h.0) (λ e. decided (unmade_same k.0 regular_faults.NoMemory e))))
+points_same options bound true (Err s) (Ok b) n m h k =
+    let decided = no_wanting (file_name options.base Node) h.0 s h.1 n in
+    absurd (made_unmade k.0 h.0 (one_answer_law bound.table (Ok k.0) (Err h.0) k.1 h.2 (made_wanting k.0) (λ e. decided (unmade_same h.0 regular_faults.NoMemory e))))
+points_same options bound true (Err s) (Err t) n m h k =
+    let name = file_name options.base Node in
+    let one = no_wanting name h.0 s h.1 n in
+    let two = no_wanting name k.0 t k.1 m in
+    let same = unmade_same h.0 k.0 (one_answer_law bound.table (Err h.0) (Err k.0) h.2 k.2 (λ e. one (unmade_same h.0 regular_faults.NoMemory e)) (λ e. two (unmade_same k.0 regular_faults.NoMemory e))) in
+    ap forced_answer (h.1 ∙ ap (status_of_weights name) same ∙ sym k.1)
+
 mesh_of_same : (options : Options) (bound : Bound) (piecewise : Bool) → IsSame (MeshOf piecewise options bound)
-mesh_of_same options bound false (Ok a) (Ok b) n m h k = refl
-mesh_of_same options bound false (Ok a) (Err t) n m h k = absurd (h.0 (flat_is bound t m k).0)
-mesh_of_same options bound false (Err s) (Ok b) n m h k = absurd (k.0 (flat_is bound s n h).0)
-mesh_of_same options bound false (Err s) (Err t) n m h k = ap forced_answer ((flat_is bound s n h).1 ∙ sym (flat_is bound t m k).1)
+mesh_of_same options bound false r s n m h k = points_same options bound options.weighted r s n m h k
 mesh_of_same options bound true (Ok a) (Ok b) n m h k = refl
 mesh_of_same options bound true (Ok a) (Err t) n m h k =
     beside_mesh k.0 (no_want k.0 t k.1 m) (λ f. law_no_fault (mesh_options options bound.table) bound.table.points bound.complex h.0 h.1 k.0 f k.2) ∙ sym (ap forced_answer k.1)

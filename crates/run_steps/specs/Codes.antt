@@ -1,9 +1,12 @@
--- The status with which the program ends, and the status of a complex that has no mesh.
-use Rattle.std.specs.Prelude.{ℕ}
+-- The status with which the program ends, and the statuses of a complex and of weighted points that have no mesh.
+use Rattle.std.specs.Prelude.{ℕ, List}
 use Rattle.complex_mesh.specs.declared.fault.MeshFault.{MeshFault}
 use Rattle.complex_mesh.specs.declared.fault.MeshFault.TheVariants as fault
+use Rattle.run_steps.specs.declared.status.LimitKind.TheVariants.{Weight}
 use Rattle.run_steps.specs.declared.status.Status.{Status}
 use Rattle.run_steps.specs.declared.status.Status.TheVariants.{Done, Usage, Missing, ReadFault, BadText, Limit, Flat, NotFlat, SegmentsCross, Crossing, GridEnd, BudgetEnd, NoFill, NoMemory, WriteFault, Unsound}
+use Rattle.weighted_steps.specs.declared.fault.RegularFault.{RegularFault}
+use Rattle.weighted_steps.specs.declared.fault.RegularFault.TheVariants as regular
 
 abbrev pub code_of : Status → ℕ
 code_of Done = 0
@@ -32,3 +35,10 @@ status_of_fault (fault.BudgetEnd made piece) = BudgetEnd made piece
 status_of_fault (fault.Crossing one two) = Crossing one two
 status_of_fault (fault.NoFill anomaly) = NoFill anomaly
 status_of_fault fault.NoMemory = NoMemory
+
+-- of weighted points whose file has this name
+abbrev pub status_of_weights : List ℕ → RegularFault → Status
+status_of_weights name (regular.Text fault) = BadText name fault
+status_of_weights name (regular.TooHeavy line) = Limit (Weight line)
+status_of_weights name regular.Flat = Flat
+status_of_weights name regular.NoMemory = NoMemory

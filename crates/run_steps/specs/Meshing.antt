@@ -1,5 +1,7 @@
 -- What a run makes of its input.
-use Rattle.std.specs.Prelude.{◌≡◌, ◌-◌, ◌≤◌, ℕ, Bool, true, false, List, [], length, drop, None, Result, Ok, Err}
+use Rattle.std.specs.Prelude.{◌≡◌, ◌-◌, ◌≤◌, ℕ, Bool, true, false, List, [], length, drop, Option, None, Some, Result, Ok, Err}
+use Rattle.command_words.specs.Names.{file_name}
+use Rattle.command_words.specs.declared.options.Extension.TheVariants.{Node}
 use Rattle.command_words.specs.declared.options.Options.{Options}
 use Rattle.complex_mesh.specs.Meshing.{IsComplexMesh, IsMeshFault}
 use Rattle.complex_mesh.specs.Protection.{IsMeshable}
@@ -8,6 +10,7 @@ use Rattle.complex_mesh.specs.declared.mesh.ComplexMesh.{ComplexMesh}
 use Rattle.complex_mesh.specs.declared.mesh.MeshOptions.{MeshOptions}
 use Rattle.geo_laws.specs.Complex.{Complex, empty_complex}
 use Rattle.geo_laws.specs.Delaunay.{AreCoplanar, delaunay_rows}
+use Rattle.geo_laws.specs.declared.tetrahedra.Tet.{Tet}
 use Rattle.node_files.specs.Folding.{names_with}
 use Rattle.node_files.specs.Settling.{IsSettled, IsTooMany, IsOffGrid, most_points}
 use Rattle.node_files.specs.Writing.{IsNodeTable}
@@ -17,7 +20,7 @@ use Rattle.plc_files.specs.Binding.{complex_of, HasManyFacets, HasLongPolygon}
 use Rattle.plc_files.specs.Checks.{most_facets, sizes_check}
 use Rattle.plc_files.specs.Folding.{folded_complex}
 use Rattle.plc_files.specs.Text.{Plc}
-use Rattle.run_steps.specs.Codes.{status_of_fault}
+use Rattle.run_steps.specs.Codes.{status_of_fault, status_of_weights}
 use Rattle.run_steps.specs.Outputs.{AreOutputsOf}
 use Rattle.run_steps.specs.Reading.{WordsAnswer, InputAnswer}
 use Rattle.run_steps.specs.Seen.{FolderSeen}
@@ -30,6 +33,9 @@ use Rattle.run_steps.specs.declared.outputs.Outputs.{Outputs}
 use Rattle.run_steps.specs.declared.status.LimitKind.TheVariants.{Points, Facets, Corners, Grid as OnGrid}
 use Rattle.run_steps.specs.declared.status.Status.{Status}
 use Rattle.run_steps.specs.declared.status.Status.TheVariants.{Limit, Flat, NoMemory}
+use Rattle.weighted_steps.specs.Meshing.{RegularAnswer}
+use Rattle.weighted_steps.specs.declared.fault.RegularFault.{RegularFault}
+use Rattle.weighted_steps.specs.declared.meshing.RegularMesh.{RegularMesh}
 
 -- ---- the grid
 
@@ -68,18 +74,27 @@ BoundAnswer options input (Err status) = IsUnbound options input status
 abbrev pub without_decimals : NodeTable → NodeTable
 without_decimals table = record table { decimals = [] }
 
--- the mesh of points alone: their Delaunay list
-abbrev pub mesh_of_points : NodeTable → Meshed
-mesh_of_points table = record {
+-- the mesh of points alone with these rows, which hides so many of them, where that is told
+abbrev pub mesh_on : NodeTable → List Tet → Option ℕ → Meshed
+mesh_on table rows hidden = record {
   table = without_decimals table;
   added = [];
   points = table.points;
   names = names_with table 0;
   complex = empty_complex;
   triangles = [];
-  tetrahedra = delaunay_rows table.points;
+  tetrahedra = rows;
   marks = None;
+  hidden = hidden;
 }
+
+-- the mesh of points alone: their Delaunay list
+abbrev pub mesh_of_points : NodeTable → Meshed
+mesh_of_points table = mesh_on table (delaunay_rows table.points) None
+
+-- and of weighted points: their regular list
+abbrev pub mesh_of_weights : NodeTable → RegularMesh → Meshed
+mesh_of_weights table made = mesh_on table made.rows (Some made.hidden)
 
 -- how the options make the mesh of a complex
 abbrev pub mesh_options : Options → NodeTable → MeshOptions
@@ -102,6 +117,7 @@ mesh_of_complex bound made = record {
   triangles = made.triangles;
   tetrahedra = made.tetrahedra;
   marks = made.marks;
+  hidden = None;
 }
 
 -- why points alone have no mesh
@@ -116,10 +132,17 @@ IsUnmeshed options bound status =
     (fault : MeshFault) × (status ≡ status_of_fault fault)
     × IsMeshFault (mesh_options options bound.table) bound.table.points bound.complex fault
 
+-- the mesh of points alone, or of weighted points
+abbrev pub PointsMeshOf : Bool → Options → Bound → Result Meshed Status → Type 0
+PointsMeshOf false options bound (Ok mesh) = ¬ AreCoplanar bound.table.points × (mesh ≡ mesh_of_points bound.table)
+PointsMeshOf false options bound (Err status) = IsFlatRefusal bound status
+PointsMeshOf true options bound (Ok mesh) = (made : RegularMesh) × RegularAnswer bound.table (Ok made) × (mesh ≡ mesh_of_weights bound.table made)
+PointsMeshOf true options bound (Err status) =
+    (fault : RegularFault) × (status ≡ status_of_weights (file_name options.base Node) fault) × RegularAnswer bound.table (Err fault)
+
 -- the mesh of points alone, or of a complex
 abbrev pub MeshOf : Bool → Options → Bound → Result Meshed Status → Type 0
-MeshOf false options bound (Ok mesh) = ¬ AreCoplanar bound.table.points × (mesh ≡ mesh_of_points bound.table)
-MeshOf false options bound (Err status) = IsFlatRefusal bound status
+MeshOf false options bound answer = PointsMeshOf options.weighted options bound answer
 MeshOf true options bound (Ok mesh) =
     (made : ComplexMesh) × IsComplexMesh (mesh_options options bound.table) bound.table.points bound.complex made × (mesh ≡ mesh_of_complex bound made)
 MeshOf true options bound (Err status) = IsUnmeshed options bound status
@@ -160,6 +183,7 @@ IsOverLimit text status = ⊥
 -- what the mesh is made of
 pub record IsMeshableBound (options : Options) (bound : Bound) : Type 0 where
   pub table : IsNodeTable bound.table
+  pub decimals : length bound.table.decimals ≡ length bound.table.listed
   pub few : length bound.table.listed ≤ most_points
   pub budget : options.budget ≤ 100000
   pub meshable : IsMeshable bound.table.grid.halvings options.budget bound.table.points bound.complex

@@ -15,7 +15,7 @@ use Rattle.tet_text.specs.declared.fault.TextKind.TheVariants.{Ended, NotANumber
 use Rattle.run_steps.specs.Numbering.{number_of}
 use Rattle.run_steps.specs.declared.numbering.Numbering.{Numbering}
 use Rattle.run_steps.specs.declared.status.LimitKind.{LimitKind}
-use Rattle.run_steps.specs.declared.status.LimitKind.TheVariants.{Bytes, Points, MeshPoints, Facets, Corners, Grid}
+use Rattle.run_steps.specs.declared.status.LimitKind.TheVariants.{Bytes, Points, MeshPoints, Facets, Corners, Grid, Weight}
 use Rattle.run_steps.specs.declared.status.Status.{Status}
 use Rattle.run_steps.specs.declared.status.Status.TheVariants.{Done, Usage, Missing, ReadFault, BadText, Limit, Flat, NotFlat, SegmentsCross, Crossing, GridEnd, BudgetEnd, NoFill, NoMemory, WriteFault, Unsound}
 
@@ -83,6 +83,7 @@ limit_message (MeshPoints count) = line (decimal count ++ codes " points, at mos
 limit_message (Facets count) = line (decimal count ++ codes " facets, at most 20000")
 limit_message (Corners place count) = line (codes "line " ++ decimal place ++ codes ": " ++ decimal count ++ codes " corners, at most 1000")
 limit_message (Grid place) = line (codes "line " ++ decimal place ++ codes ": coordinate off the grid")
+limit_message (Weight place) = line (codes "line " ++ decimal place ++ codes ": weight off the grid")
 
 -- the message of a refusal; a run that is done has none
 abbrev pub message_of : Option Numbering → Status → List ℕ

@@ -54,11 +54,17 @@ neigh_file options mesh =
     if not options.neighbors then None
     else Some (named options.base (codes ".1.neigh") (neigh_text (first_of options mesh) (pairs_of mesh.tetrahedra)))
 
--- `points P added A tetrahedra T faces F edges E`, for so many faces and edges
+-- how many points are hidden, where that is told
+abbrev pub hidden_text : Option ℕ → List ℕ
+hidden_text None = []
+hidden_text (Some count) = codes " hidden " ++ decimal count
+
+-- `points P added A tetrahedra T faces F edges E`, for so many faces and edges, and of weighted points ` hidden H`
 abbrev pub summary_text : Meshed → ℕ → ℕ → List ℕ
 summary_text mesh faces edges =
     codes "points " ++ decimal (length mesh.table.listed) ++ codes " added " ++ decimal (length mesh.added)
-    ++ codes " tetrahedra " ++ decimal (length mesh.tetrahedra) ++ codes " faces " ++ decimal faces ++ codes " edges " ++ decimal edges ++ (10 ∷ [])
+    ++ codes " tetrahedra " ++ decimal (length mesh.tetrahedra) ++ codes " faces " ++ decimal faces ++ codes " edges " ++ decimal edges
+    ++ hidden_text mesh.hidden ++ (10 ∷ [])
 
 abbrev pub summary_of : Options → Meshed → ℕ → ℕ → Option (List ℕ)
 summary_of options mesh faces edges = if options.quiet then None else Some (summary_text mesh faces edges)

@@ -4,10 +4,15 @@ ghost use Rattle.std.specs.Prelude.{◌≡◌, ◌≤◌, ◌⊎◌, ◌<◌, �
 ghost use Rattle.command_words.specs.Meaning.{AreInRange};
 ghost use Rattle.geo_laws.specs.Delaunay.{delaunay_rows, AreCoplanar, RowBefore};
 ghost use Rattle.geo_laws.specs.Faces.{AreHullFacesOf};
+ghost use Rattle.node_files.specs.Settling.{most_points};
 ghost use Rattle.node_files.specs.Writing.{IsNodeTable};
 ghost use Rattle.plc_files.specs.Binding.{IsBound, HasCornersBelow, HasWeights};
 ghost use Rattle.plc_files.specs.Checks.{corners_check, HasFewParts};
-ghost use Rattle.run_steps.specs.Meshing.{grid_options, mesh_options, IsSmall, IsOverLimit, IsMeshableBound, BoundAnswer, IsFlatRefusal, mesh_in, without_decimals, IsBoundOn, MeshOf, MeshAnswer, OutputsAnswer};
+ghost use Rattle.run_steps.specs.Meshing.{grid_options, mesh_options, IsSmall, IsOverLimit, IsMeshableBound, BoundAnswer, IsFlatRefusal, mesh_on, mesh_in, without_decimals, IsBoundOn, PointsMeshOf, MeshOf, MeshAnswer, OutputsAnswer};
+ghost use Rattle.run_steps.specs.Codes.{status_of_weights};
+ghost use Rattle.run_steps.specs.declared.status.Status.TheVariants.{NoMemory as Wanting};
+ghost use Rattle.command_words.specs.Names.{file_name};
+ghost use Rattle.command_words.specs.declared.options.Extension.TheVariants.{Node};
 ghost use Rattle.run_steps.specs.Steps.{AndThen};
 ghost use Rattle.run_steps.specs.Outputs.{IsWritable, IsHullOf};
 ghost use Rattle.run_steps.specs.Reading.{IsSound};
@@ -17,7 +22,7 @@ use crate::meshed::{HulledMesh, Meshed};
 use crate::outputs::{Outputs, asks_hull_alone, outputs_of};
 use crate::status::{LimitKind, Status};
 use cavity_insert::{BuildFault, HulledList, delaunay, delaunay_with_hull};
-use command_words::Options;
+use command_words::{Extension, Options, file_name};
 use complex_mesh::{ComplexMesh, MeshOptions, mesh_complex};
 use geo_laws::{Complex, FacetTriangles, Points, TetList};
 use grid_coords::{DecimalPoints, Grid};
@@ -26,7 +31,8 @@ use node_files::{GridOptions, NodeFault, NodeTable, names_of, settle};
 use plc_files::{PlcFault, PlcText, bind, fold};
 use std::alloc::Global;
 use std::mem;
-use tet_ports::NoMemory;
+use tet_ports::{Name, NoMemory};
+use weighted_steps::{RegularFault, RegularMesh, regular_mesh};
 
 /// The points and the complex of an input on their grid.
 #[derive(Drop)]
@@ -168,18 +174,76 @@ fn mesh_bound(alloc: Global, options: &Options, bound: Bound) -> Result<HulledMe
     }
 }
 
-/// The mesh of points alone, with its hull where nothing else is asked for of the faces.
+/// The mesh of points alone, or of weighted points.
 fn mesh_points(alloc: Global, options: &Options, bound: Bound) -> Result<HulledMesh, Status>
     requires { IsMeshableBound options.now bound }
     ensures answer { MeshOf false options.now bound (mesh_in result) }
     ensures writable { IfOk result (λ made. IsWritable made.mesh) }
     ensures hull { IfOk result (λ made. IfSome made.hull (IsHullOf made.mesh)) }
 {
+    if options.weighted {
+        let mesh = mesh_weighted(alloc, options, bound)?;
+        Ok(HulledMesh { mesh, hull: None })
+    } else {
+        mesh_delaunay(alloc, options, bound)
+    }
+}
+
+/// The mesh of points alone, with its hull where nothing else is asked for of the faces.
+fn mesh_delaunay(alloc: Global, options: &Options, bound: Bound) -> Result<HulledMesh, Status>
+    requires { IsMeshableBound options.now bound }
+    ensures answer { PointsMeshOf false options.now bound (mesh_in result) }
+    ensures writable { IfOk result (λ made. IsWritable made.mesh) }
+    ensures hull { IfOk result (λ made. IfSome made.hull (IsHullOf made.mesh)) }
+{
     let ListAndHull { rows, hull } = rows_and_hull(alloc, options, &bound)?;
-    let table = bound.table;
+    let mesh = mesh_on(alloc, bound.table, rows, None)?;
+    Ok(HulledMesh { mesh, hull })
+}
+
+/// The mesh of weighted points.
+fn mesh_weighted(alloc: Global, options: &Options, bound: Bound) -> Result<Meshed, Status>
+    requires { IsMeshableBound options.now bound }
+    ensures answer { PointsMeshOf true options.now bound result }
+    ensures writable { IfOk result IsWritable }
+{
+    match regular_mesh(alloc, &bound.table) {
+        Ok(RegularMesh { rows, hidden }) => Ok(mesh_on(alloc, bound.table, rows, Some(hidden))?),
+        Err(fault) => Err(weights_refused(alloc, &options.base, fault)),
+    }
+}
+
+/// How a run ends whose weighted points have no mesh, where their file has this base; or for want of memory.
+fn weights_refused(alloc: Global, base: &Name, fault: RegularFault) -> Status
+    ensures { (result ≡ status_of_weights (file_name base.now Node) fault) ⊎ (result ≡ Wanting) }
+{
+    match fault {
+        RegularFault::Text(fault) => match file_name(alloc, base, Extension::Node) {
+            Ok(name) => Status::BadText { name, fault },
+            Err(_) => Status::NoMemory,
+        },
+        RegularFault::TooHeavy { line } => Status::Limit {
+            what: LimitKind::Weight { line },
+        },
+        RegularFault::Flat => Status::Flat,
+        RegularFault::NoMemory => Status::NoMemory,
+    }
+}
+
+/// The mesh of points alone with these rows.
+fn mesh_on(
+    alloc: Global,
+    table: NodeTable,
+    rows: TetList,
+    hidden: Option<usize>,
+) -> Result<Meshed, NoMemory>
+    requires table { IsNodeTable table }
+    requires few { length table.listed ≤ most_points }
+    ensures { IfOk result (λ mesh. mesh ≡ mesh_on table rows hidden) }
+{
     let points = points_from(alloc, &table.points, 0)?;
     let names = names_of(alloc, &table, 0)?;
-    let mesh = Meshed {
+    Ok(Meshed {
         table: without_decimals(alloc, table),
         added: Points::new(alloc),
         points,
@@ -188,8 +252,8 @@ fn mesh_points(alloc: Global, options: &Options, bound: Bound) -> Result<HulledM
         triangles: FacetTriangles::new(alloc),
         tetrahedra: rows,
         marks: None,
-    };
-    Ok(HulledMesh { mesh, hull })
+        hidden,
+    })
 }
 
 /// A list of tetrahedra, and the faces of its hull, where they are known.
@@ -253,6 +317,7 @@ fn mesh_plc(alloc: Global, options: &Options, bound: Bound) -> Result<Meshed, St
         triangles,
         tetrahedra,
         marks,
+        hidden: None,
     })
 }
 

@@ -22,6 +22,8 @@ pub struct Meshed {
     pub tetrahedra: TetList,
     /// For each tetrahedron the place of its region in the complex, from 0, if attributes are asked for.
     pub marks: Option<Marks>,
+    /// How many of the kept points are corners of no tetrahedron, where they have weights.
+    pub hidden: Option<usize>,
 }
 
 /// A mesh, and the faces of its hull, ascending, where they are known.

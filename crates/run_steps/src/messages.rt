@@ -4,7 +4,7 @@ ghost use Rattle.std.specs.Prelude.{◌≡◌, ◌∷◌, [], ◌++◌, ◌+◌,
 ghost use Rattle.std.specs.Fmt.{decimal};
 ghost use Rattle.run_steps.specs.Messages.{line, point_text, ends_text, triangle_text, tetrahedron_text, two_tetrahedra_text, facet_text, part_text, kind_text, file_message, usage_message, text_message, limit_message, message_of};
 ghost use Rattle.tangle_laws.specs.declared.anomaly.Anomaly.TheVariants.{Bare};
-ghost use Rattle.run_steps.specs.declared.status.LimitKind.TheVariants.{Corners, Grid};
+ghost use Rattle.run_steps.specs.declared.status.LimitKind.TheVariants.{Corners, Grid, Weight};
 ghost use Rattle.run_steps.specs.declared.status.Status.TheVariants.{NotFlat, SegmentsCross, Crossing, GridEnd, BudgetEnd, NoFill, Unsound};
 
 use crate::numbering::{Numbering, number_of};
@@ -104,6 +104,7 @@ fn limit_message(alloc: Global, what: &LimitKind) -> Result<Bytes, NoMemory>
         LimitKind::Facets { count } => count_message(alloc, *count, b" facets, at most 20000"),
         LimitKind::Corners { line, count } => corners_message(alloc, *line, *count),
         LimitKind::Grid { line } => grid_limit_message(alloc, *line),
+        LimitKind::Weight { line } => weight_limit_message(alloc, *line),
     }
 }
 
@@ -141,6 +142,15 @@ fn grid_limit_message(alloc: Global, place: usize) -> Result<Bytes, NoMemory>
     let mut text = Bytes::from_slice(alloc, b"line ")?;
     append_number(&mut text, place)?;
     text.append(b": coordinate off the grid")?;
+    line(alloc, text.as_slice())
+}
+
+fn weight_limit_message(alloc: Global, place: usize) -> Result<Bytes, NoMemory>
+    ensures { IfOk result (λ line. line ≡ limit_message (Weight place)) }
+{
+    let mut text = Bytes::from_slice(alloc, b"line ")?;
+    append_number(&mut text, place)?;
+    text.append(b": weight off the grid")?;
     line(alloc, text.as_slice())
 }
 

@@ -1,13 +1,13 @@
 //! The files and the summary of a mesh.
 
-ghost use Rattle.std.specs.Prelude.{◌≡◌, true, false, ◌<◌, ◌^◌, ◌++◌, length, All, List, IfOk, IfSome};
+ghost use Rattle.std.specs.Prelude.{◌≡◌, true, false, ◌<◌, ◌^◌, ◌++◌, length, All, List, IfOk, IfSome, OnOk};
 ghost use Rattle.std.specs.Option.{option_copied};
 ghost use Rattle.geo_laws.specs.Faces.{side_numbers, AreFacesOf, AreSidesOf};
 ghost use Rattle.geo_laws.specs.declared.faces.Face.{Face};
 ghost use Rattle.incidence.specs.Uses.{AreUsesOf};
 ghost use Rattle.mesh_files.specs.FaceRows.{AreFaceRowsOf};
 ghost use Rattle.mesh_files.specs.Texts.{corner_numbers, AreNamed};
-ghost use Rattle.run_steps.specs.Outputs.{named, first_of, node_file, ele_file, face_file, edge_file, neigh_file, summary_of, names_sides, asks_uses, asks_hull_alone, IsWritable, IsHullOf, IsFaceFileOf, AreFaceOutputsOf, AreSideOutputsOf, AreOutputsOf};
+ghost use Rattle.run_steps.specs.Outputs.{named, first_of, node_file, ele_file, face_file, edge_file, neigh_file, hidden_text, summary_of, names_sides, asks_uses, asks_hull_alone, IsWritable, IsHullOf, IsFaceFileOf, AreFaceOutputsOf, AreSideOutputsOf, AreOutputsOf};
 ghost use Rattle.run_steps.specs.Stores.{in_order, TellsFailure};
 
 use crate::meshed::{HulledMesh, Meshed};
@@ -395,6 +395,18 @@ fn summary_of(
     append_number(&mut line, faces)?;
     line.append(b" edges ")?;
     append_number(&mut line, sides)?;
+    append_hidden(&mut line, mesh.hidden)?;
     line.append(b"\n")?;
     Ok(Some(line))
+}
+
+/// Appends how many points are hidden, where that is told.
+fn append_hidden(line: &mut Bytes, hidden: Option<usize>) -> Result<(), NoMemory>
+    ensures { OnOk result (line.new ≡ line.old ++ hidden_text hidden) }
+{
+    if let Some(count) = hidden {
+        line.append(b" hidden ")?;
+        append_number(line, count)?;
+    }
+    Ok(())
 }

@@ -23,6 +23,8 @@ pub enum LimitKind {
     Corners { line: usize, count: u64 },
     /// The size of a grid coordinate without halvings; the line of the first point that is off the grid, from 1.
     Grid { line: usize },
+    /// The size of a weight, 2^46 squares of grid units; the line of the first point whose weight is over it, from 1.
+    Weight { line: usize },
 }
 
 /// How a run ends. Names are those of files. Facets are named by their places, from 0, and so are points: those that are kept where equal points of

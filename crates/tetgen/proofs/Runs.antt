@@ -1,6 +1,6 @@
 -- What a run leaves, answers and tells, put together.
 use Rattle.std.proofs.Common.{◌≡◌, ◌≤◌, inl, inr, ℕ, Bool, true, false, List, [], ◌∷◌, ◌++◌, length, Option, Some, None, Result, Ok, Err, if◌then◌else◌, refl, sym, subst, ap, ◌∙◌, arith}
-use Rattle.std.specs.Prelude.{◌≢◌, IsTrue, All, codes, not, ◌||◌}
+use Rattle.std.specs.Prelude.{◌≢◌, IsTrue, All, codes, not, ◌||◌, ◌&&◌}
 use Rattle.std.proofs.lemmas.List.Elements.{All-nil, All-cons, All-append, All-contains}
 use Rattle.std.proofs.lemmas.List.{append-nil}
 use Rattle.command_words.specs.Grammar.{words_fault}
@@ -23,14 +23,14 @@ use Rattle.plc_files.specs.Checks.{corners_check}
 use Rattle.tet_ports.specs.Counts.{Rose}
 use Rattle.tet_ports.specs.Files.{Files}
 use Rattle.tet_text.specs.declared.fault.TextFault.{TextFault}
-use Rattle.run_steps.specs.Codes.{status_of_fault}
+use Rattle.run_steps.specs.Codes.{status_of_fault, status_of_weights}
 use Rattle.run_steps.specs.Messages.{message_of}
 use Rattle.run_steps.specs.Numbering.{numbering_of}
 use Rattle.run_steps.specs.declared.numbering.Numbering.{Numbering}
-use Rattle.run_steps.specs.Meshing.{OutputsOfRun, BoundAnswer, IsUnbound, MeshOf, MeshAnswer, IsFlatRefusal, OutputsAnswer, MeshedAnswer}
+use Rattle.run_steps.specs.Meshing.{OutputsOfRun, BoundAnswer, IsUnbound, PointsMeshOf, MeshOf, MeshAnswer, IsFlatRefusal, OutputsAnswer, MeshedAnswer}
 use Rattle.run_steps.specs.Outputs.{named, AreOutputsOf}
 use Rattle.run_steps.specs.Reading.{complex_file, points_alone, on_points, WordsAnswer, FetchAnswer, TextAnswer, PointsAnswer, FormAnswer, ComplexFileAnswer, SourceAnswer, NodesAnswer, BoundedAnswer, InputOf, InputAnswer, IsUsage, IsUnfetched, IsBadText, node_text_of, plc_text_of}
-use Rattle.tetgen.specs.Run.{asks_check, AnswerBy, IsMeshAnswer, IsAnswer, IsComplete, LeftBy, IsLeftByMesh, IsLeft, IsMeshOfRun, IsUnchanged, IsTold, IsPut, IsNumbering, IsToldAs, IsEarly, IsSummed, IsTellable, ChecksSo, EndsByMesh, EndsBy, EndsSo, answer_of, numbering_in, HasNoFault, names_points}
+use Rattle.tetgen.specs.Run.{asks_check, AnswerBy, IsMeshAnswer, IsAnswer, IsComplete, LeftBy, IsLeftByMesh, IsLeft, asks_regular, IsRegularMesh, IsMeshOfRun, IsUnchanged, IsTold, IsPut, IsNumbering, IsToldAs, IsEarly, IsSummed, IsTellable, ChecksSo, EndsByMesh, EndsBy, EndsSo, answer_of, numbering_in, HasNoFault, names_points}
 use Rattle.run_steps.specs.Seen.{FolderSeen, SinkSeen}
 use Rattle.tetgen.specs.Stops.{stop_of_words, stop_of_store}
 use Rattle.run_steps.specs.Stores.{given, in_order, with_files, AreLeft, IfFailed, TellsFailure}
@@ -50,6 +50,10 @@ use Rattle.run_steps.specs.declared.status.Status.{Status}
 use Rattle.run_steps.specs.declared.status.Status.TheVariants.{Done, Usage, Missing, ReadFault, BadText, Limit, Flat, NoMemory, WriteFault}
 use Rattle.tetgen.specs.declared.stop.Stop.{Stop}
 use Rattle.tetgen.specs.declared.stop.Stop.TheVariants.{Refused, Unwritten, Unsummed, NoMemory as Wanting}
+use Rattle.weighted_steps.specs.declared.fault.RegularFault.{RegularFault}
+use Rattle.weighted_steps.specs.declared.fault.RegularFault.TheVariants as regular
+use Rattle.weighted_steps.specs.Meshing.{kept_weights}
+use Rattle.weighted_steps.proofs.Answering.{regular_list_law}
 use Rattle.run_steps.proofs.Determined.{outputs_same}
 use Rattle.run_steps.proofs.Once.{run_same}
 use Rattle.run_steps.proofs.Steps.{IsDecided, status_of, and_then_refuses}
@@ -162,8 +166,18 @@ flat_refuses bound Flat h = tt
 flat_refuses bound NoMemory h = tt
 flat_refuses bound s h = absurd h
 
+weights_refuse : (name : List ℕ) (f : RegularFault) → IsRefusal (status_of_weights name f)
+weights_refuse name (regular.Text fault) = tt
+weights_refuse name (regular.TooHeavy line) = tt
+weights_refuse name regular.Flat = tt
+weights_refuse name regular.NoMemory = tt
+
+points_refuse : (options : Options) (bound : Bound) (weighted : Bool) (s : Status) → PointsMeshOf weighted options bound (Err s) → IsRefusal s
+points_refuse options bound false s h = flat_refuses bound s h
+points_refuse options bound true s h = subst IsRefusal (sym h.1) (weights_refuse (file_name options.base Node) h.0)
+
 mesh_refuses : (options : Options) (bound : Bound) (piecewise : Bool) (s : Status) → MeshOf piecewise options bound (Err s) → IsRefusal s
-mesh_refuses options bound false s h = flat_refuses bound s h
+mesh_refuses options bound false s h = points_refuse options bound options.weighted s h
 mesh_refuses options bound true s h = subst IsRefusal (sym h.1) (fault_refuses h.0)
 
 pub run_refuses : (words : List (List ℕ)) (seen : FolderSeen) (s : Status) → OutputsOfRun words seen (Err s) → IsRefusal s
@@ -222,20 +236,48 @@ answer_complete words folder out s h told e f n other m k = same_by (asks_check 
 
 -- ---- what is left
 
-mesh_whole : (options : Options) (bound : Bound) (piecewise : Bool) (mesh : Meshed) → MeshOf piecewise options bound (Ok mesh)
-    → IsMesh (if piecewise then carving_of options.keep_hull else HullOnly) mesh.points mesh.triangles mesh.complex.holes mesh.tetrahedra
-mesh_whole options bound false mesh h =
+points_whole : (options : Options) (bound : Bound) (weighted : Bool) (mesh : Meshed) → PointsMeshOf weighted options bound (Ok mesh) → weighted ≡ false
+    → IsMesh HullOnly mesh.points mesh.triangles mesh.complex.holes mesh.tetrahedra
+points_whole options bound true mesh h none = absurd (cc)
+points_whole options bound false mesh h none =
     let ps = bound.table.points in
     subst (λ (m : Meshed). IsMesh HullOnly m.points m.triangles m.complex.holes m.tetrahedra) (sym h.1) (law_hull_mesh ps (delaunay_rows ps) (law_delaunay_list ps))
-mesh_whole options bound true mesh h =
+
+mesh_whole : (options : Options) (bound : Bound) (piecewise : Bool) (mesh : Meshed) → MeshOf piecewise options bound (Ok mesh) → (not piecewise && options.weighted) ≡ false
+    → IsMesh (if piecewise then carving_of options.keep_hull else HullOnly) mesh.points mesh.triangles mesh.complex.holes mesh.tetrahedra
+mesh_whole options bound false mesh h none = points_whole options bound options.weighted mesh h none
+mesh_whole options bound true mesh h none =
     subst (λ (m : Meshed). IsMesh (carving_of options.keep_hull) m.points m.triangles m.complex.holes m.tetrahedra) (sym h.2) h.1.mesh
 
-mesh_delaunay : (options : Options) (bound : Bound) (piecewise : Bool) (mesh : Meshed) → MeshOf piecewise options bound (Ok mesh) → piecewise ≡ false
-    → IsDelaunayList mesh.points mesh.tetrahedra × IsTriangulation mesh.points mesh.tetrahedra
-mesh_delaunay options bound true mesh h e = absurd (cc)
-mesh_delaunay options bound false mesh h e =
+points_delaunay : (options : Options) (bound : Bound) (weighted : Bool) (mesh : Meshed) → PointsMeshOf weighted options bound (Ok mesh) → weighted ≡ false → IsDelaunayList mesh.points mesh.tetrahedra
+points_delaunay options bound true mesh h none = absurd (cc)
+points_delaunay options bound false mesh h none = subst (λ (m : Meshed). IsDelaunayList m.points m.tetrahedra) (sym h.1) (law_delaunay_list bound.table.points)
+
+mesh_delaunay : (options : Options) (bound : Bound) (piecewise : Bool) (mesh : Meshed) → MeshOf piecewise options bound (Ok mesh) → piecewise ≡ false → options.weighted ≡ false
+    → IsDelaunayList mesh.points mesh.tetrahedra
+mesh_delaunay options bound true mesh h e none = absurd (cc)
+mesh_delaunay options bound false mesh h e none = points_delaunay options bound options.weighted mesh h none
+
+points_regular : (options : Options) (bound : Bound) (weighted : Bool) (mesh : Meshed) → PointsMeshOf weighted options bound (Ok mesh) → weighted ≡ true → IsRegularMesh bound.table mesh
+points_regular options bound false mesh h some = absurd (cc)
+points_regular options bound true mesh h some =
+    subst (IsRegularMesh bound.table) (sym h.2) (record { weights = h.1.weights; weights_are = h.1.weights_are; list = h.1.list; hidden = ap Some h.1.hidden })
+
+mesh_regular : (options : Options) (bound : Bound) (piecewise : Bool) (mesh : Meshed) → MeshOf piecewise options bound (Ok mesh) → (not piecewise && options.weighted) ≡ true → IsRegularMesh bound.table mesh
+mesh_regular options bound true mesh h some = absurd (cc)
+mesh_regular options bound false mesh h some = points_regular options bound options.weighted mesh h some
+
+points_triangulate : (options : Options) (bound : Bound) (weighted : Bool) (mesh : Meshed) → PointsMeshOf weighted options bound (Ok mesh) → IsTriangulation mesh.points mesh.tetrahedra
+points_triangulate options bound false mesh h =
     let ps = bound.table.points in
-    subst (λ (m : Meshed). IsDelaunayList m.points m.tetrahedra × IsTriangulation m.points m.tetrahedra) (sym h.1) (law_delaunay_list ps, triangulation_of_rows ps (delaunay_rows ps) refl)
+    subst (λ (m : Meshed). IsTriangulation m.points m.tetrahedra) (sym h.1) (triangulation_of_rows ps (delaunay_rows ps) refl)
+points_triangulate options bound true mesh h =
+    subst (λ (m : Meshed). IsTriangulation m.points m.tetrahedra) (sym h.2)
+    (regular_list_law.triangulation bound.table.points (kept_weights bound.table h.1.weights) h.0.rows h.1.list)
+
+mesh_triangulates : (options : Options) (bound : Bound) (piecewise : Bool) (mesh : Meshed) → MeshOf piecewise options bound (Ok mesh) → piecewise ≡ false → IsTriangulation mesh.points mesh.tetrahedra
+mesh_triangulates options bound true mesh h e = absurd (cc)
+mesh_triangulates options bound false mesh h e = points_triangulate options bound options.weighted mesh h
 
 pub mesh_of_run : (words : List (List ℕ)) (folder : FolderSeen) (outputs : Outputs) → OutputsOfRun words folder (Ok outputs) → IsMeshOfRun words folder outputs
 mesh_of_run words folder outputs h =
@@ -252,8 +294,9 @@ mesh_of_run words folder outputs h =
       mesh = made.0;
       made = made.1;
       whole = mesh_whole o m.0 o.piecewise made.0 made.1;
-      delaunay = λ p. (mesh_delaunay o m.0 o.piecewise made.0 made.1 p).0;
-      triangulation = λ p. (mesh_delaunay o m.0 o.piecewise made.0 made.1 p).1;
+      delaunay = mesh_delaunay o m.0 o.piecewise made.0 made.1;
+      regular = mesh_regular o m.0 o.piecewise made.0 made.1;
+      triangulation = mesh_triangulates o m.0 o.piecewise made.0 made.1;
       outputs_are = made.2;
       only = λ other on. outputs_same o made.0 other outputs on made.2;
     }

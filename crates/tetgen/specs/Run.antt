@@ -1,5 +1,5 @@
 -- What a run of the program answers, stores and tells.
-use Rattle.std.specs.Prelude.{◌≡◌, ◌≢◌, ◌⊎◌, ℕ, Bool, true, false, IsTrue, List, Option, Some, None, Result, Ok, Err, if◌then◌else◌}
+use Rattle.std.specs.Prelude.{◌≡◌, ◌≢◌, ◌⊎◌, ℕ, ℤ, Bool, true, false, ◌&&◌, not, IsTrue, List, length, Option, Some, None, Result, Ok, Err, if◌then◌else◌}
 use Rattle.check_steps.specs.Checking.{CheckAnswer}
 use Rattle.check_steps.specs.Steps as check
 use Rattle.check_steps.specs.Telling.{sound_line}
@@ -11,7 +11,12 @@ use Rattle.geo_laws.specs.Delaunay.{IsDelaunayList}
 use Rattle.geo_laws.specs.Laws.{IsTriangulation}
 use Rattle.geo_laws.specs.Mesh.{IsMesh}
 use Rattle.geo_laws.specs.Path.{Carving, HullOnly}
+use Rattle.node_files.specs.declared.table.NodeTable.{NodeTable}
 use Rattle.path_laws.specs.Flood.{carving_of}
+use Rattle.point_weights.specs.Weights.{weights_of}
+use Rattle.regular_laws.specs.Regular.{IsRegularList}
+use Rattle.weighted_steps.specs.Hidden.{hidden_count}
+use Rattle.weighted_steps.specs.Meshing.{kept_weights}
 use Rattle.tet_ports.specs.Counts.{Rose}
 use Rattle.tet_ports.specs.Files.{Files}
 use Rattle.tet_ports.specs.Written.{PartlyPut, with_piece}
@@ -118,10 +123,22 @@ IsComplete words folder out status =
 abbrev pub carving_by : Options → Carving
 carving_by options = if options.piecewise then carving_of options.keep_hull else HullOnly
 
+-- the words ask for the regular list of weighted points
+abbrev pub asks_regular : Options → Bool
+asks_regular options = not options.piecewise && options.weighted
+
+-- the mesh is the regular list of the kept points of a table, with the weights that their lines state, and it tells how many points are hidden
+pub record IsRegularMesh (table : NodeTable) (mesh : Meshed) : Type 0 where
+  pub weights : List ℤ
+  pub weights_are : weights_of table ≡ Ok weights
+  pub list : IsRegularList mesh.points (kept_weights table weights) mesh.tetrahedra
+  pub hidden : mesh.hidden ≡ Some (hidden_count (length mesh.points) mesh.tetrahedra)
+
 -- The outputs are those of one mesh of the input that the words name. Its points are those of the input and the added ones, its triangles those of the
 -- facets. Each rational point on no facet and off all face planes is strictly inside exactly one of its tetrahedra, or inside none where it is out; facets
 -- inside the mesh are unions of its faces; every other shared face is locally Delaunay; any two tetrahedra are properly met (`IsMesh` of the complex).
--- Of points alone it is the Delaunay list. No other outputs are those of the mesh.
+-- Of points alone it is the Delaunay list, and of weighted points the regular list: each triangulates the hull of all the points. No other outputs
+-- are those of the mesh.
 pub record IsMeshOfRun (words : List (List ℕ)) (folder : FolderSeen) (outputs : Outputs) : Type 0 where
   pub understood : words_fault words ≡ None
   pub input : Input
@@ -130,8 +147,10 @@ pub record IsMeshOfRun (words : List (List ℕ)) (folder : FolderSeen) (outputs 
   pub on_grid : BoundAnswer (options_of words) input (Ok bound)
   pub mesh : Meshed
   pub made : MeshAnswer (options_of words) bound (Ok mesh)
-  pub whole : IsMesh (carving_by (options_of words)) mesh.points mesh.triangles mesh.complex.holes mesh.tetrahedra
-  pub delaunay : (options_of words).piecewise ≡ false → IsDelaunayList mesh.points mesh.tetrahedra
+  pub whole : asks_regular (options_of words) ≡ false
+      → IsMesh (carving_by (options_of words)) mesh.points mesh.triangles mesh.complex.holes mesh.tetrahedra
+  pub delaunay : (options_of words).piecewise ≡ false → (options_of words).weighted ≡ false → IsDelaunayList mesh.points mesh.tetrahedra
+  pub regular : asks_regular (options_of words) ≡ true → IsRegularMesh bound.table mesh
   pub triangulation : (options_of words).piecewise ≡ false → IsTriangulation mesh.points mesh.tetrahedra
   pub outputs_are : AreOutputsOf (options_of words) mesh outputs
   pub only : (other : Outputs) → AreOutputsOf (options_of words) mesh other → other ≡ outputs

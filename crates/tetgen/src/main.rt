@@ -19,6 +19,8 @@ mod surface_tests;
 mod test_inputs;
 #[cfg(test)]
 mod tests;
+#[cfg(test)]
+mod weighted_point_tests;
 
 use run::run_tetgen;
 use run_steps::Status;
