@@ -2,7 +2,9 @@
 use Rattle.std.specs.Prelude.{ℕ, List}
 use Rattle.complex_mesh.specs.declared.fault.MeshFault.{MeshFault}
 use Rattle.complex_mesh.specs.declared.fault.MeshFault.TheVariants as fault
-use Rattle.run_steps.specs.declared.status.LimitKind.TheVariants.{Weight}
+use Rattle.run_steps.specs.declared.bind_fault.BindFault.{BindFault}
+use Rattle.run_steps.specs.declared.bind_fault.BindFault.TheVariants as bind
+use Rattle.run_steps.specs.declared.status.LimitKind.TheVariants.{Points, Facets, Corners, Grid, Weight}
 use Rattle.run_steps.specs.declared.status.Status.{Status}
 use Rattle.run_steps.specs.declared.status.Status.TheVariants.{Done, Usage, Missing, ReadFault, BadText, Limit, Flat, NotFlat, SegmentsCross, Crossing, GridEnd, BudgetEnd, NoFill, NoMemory, WriteFault, Unsound}
 use Rattle.weighted_steps.specs.declared.fault.RegularFault.{RegularFault}
@@ -42,3 +44,11 @@ status_of_weights name (regular.Text fault) = BadText name fault
 status_of_weights name (regular.TooHeavy line) = Limit (Weight line)
 status_of_weights name regular.Flat = Flat
 status_of_weights name regular.NoMemory = NoMemory
+
+-- of an input that is over a limit on its way to the grid
+abbrev pub status_of_bind : BindFault → Status
+status_of_bind (bind.Points count) = Limit (Points count)
+status_of_bind (bind.Facets count) = Limit (Facets count)
+status_of_bind (bind.Corners line count) = Limit (Corners line count)
+status_of_bind (bind.Grid line) = Limit (Grid line)
+status_of_bind bind.NoMemory = NoMemory

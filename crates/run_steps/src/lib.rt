@@ -1,6 +1,7 @@
 //! The steps of a run of the program: what it reads, the mesh of that, the texts that it stores, and how it ends.
 #![tactic(auto)]
 
+mod bind_fault;
 mod input;
 mod mesh;
 mod meshed;

@@ -1,33 +1,37 @@
 //! What a run makes of its input.
 
-ghost use Rattle.std.specs.Prelude.{◌≡◌, ◌≤◌, ◌⊎◌, ◌<◌, ◌-◌, ◌^◌, true, false, Ok, length, drop, AllPairs, IfOk, IfErr, IfSome, OnOk};
+ghost use Rattle.std.specs.Prelude.{◌≡◌, ◌≤◌, ◌⊎◌, ◌<◌, ◌-◌, ◌+◌, ◌^◌, true, false, Ok, length, drop, AllPairs, IfOk, IfErr, IfSome, OnOk};
 ghost use Rattle.command_words.specs.Meaning.{AreInRange};
 ghost use Rattle.geo_laws.specs.Delaunay.{delaunay_rows, AreCoplanar, RowBefore};
 ghost use Rattle.geo_laws.specs.Faces.{AreHullFacesOf};
+ghost use Rattle.complex_mesh.specs.Meshing.{MeshesSo};
+ghost use Rattle.node_files.specs.Folding.{names_with};
 ghost use Rattle.node_files.specs.Settling.{most_points};
 ghost use Rattle.node_files.specs.Writing.{IsNodeTable};
 ghost use Rattle.plc_files.specs.Binding.{IsBound, HasCornersBelow, HasWeights};
 ghost use Rattle.plc_files.specs.Checks.{corners_check, HasFewParts};
-ghost use Rattle.run_steps.specs.Meshing.{grid_options, mesh_options, IsSmall, IsOverLimit, IsMeshableBound, BoundAnswer, IsFlatRefusal, mesh_on, mesh_in, without_decimals, IsBoundOn, PointsMeshOf, MeshOf, MeshAnswer, OutputsAnswer};
-ghost use Rattle.run_steps.specs.Codes.{status_of_weights};
-ghost use Rattle.run_steps.specs.declared.status.Status.TheVariants.{NoMemory as Wanting};
+ghost use Rattle.run_steps.specs.Meshing.{grid_options, mesh_options, IsSmall, IsOverLimit, IsMeshableBound, BoundAnswer, IsUnbound, IsFlatRefusal, mesh_on, mesh_of_complex, mesh_in, without_decimals, IsBoundOn, PointsMeshOf, MeshOf, MeshAnswer, OutputsAnswer};
+ghost use Rattle.run_steps.specs.Codes.{status_of_bind, status_of_weights};
+ghost use Rattle.run_steps.specs.declared.status.LimitKind.TheVariants.{Grid as OnGrid};
+ghost use Rattle.run_steps.specs.declared.status.Status.TheVariants.{Limit, NoMemory as Wanting};
 ghost use Rattle.command_words.specs.Names.{file_name};
 ghost use Rattle.command_words.specs.declared.options.Extension.TheVariants.{Node};
 ghost use Rattle.run_steps.specs.Steps.{AndThen};
 ghost use Rattle.run_steps.specs.Outputs.{IsWritable, IsHullOf};
 ghost use Rattle.run_steps.specs.Reading.{IsSound};
 
+use crate::bind_fault::BindFault;
 use crate::input::Input;
 use crate::meshed::{HulledMesh, Meshed};
 use crate::outputs::{Outputs, asks_hull_alone, outputs_of};
 use crate::status::{LimitKind, Status};
 use cavity_insert::{BuildFault, HulledList, delaunay, delaunay_with_hull};
 use command_words::{Extension, Options, file_name};
-use complex_mesh::{ComplexMesh, MeshOptions, mesh_complex};
+use complex_mesh::{ComplexMesh, MeshFault, MeshOptions, mesh_complex};
 use geo_laws::{Complex, FacetTriangles, Points, TetList};
 use grid_coords::{DecimalPoints, Grid};
 use mesh_files::Faces;
-use node_files::{GridOptions, NodeFault, NodeTable, names_of, settle};
+use node_files::{GridOptions, Names, NodeFault, NodeTable, NodeText, names_of, settle};
 use plc_files::{PlcFault, PlcText, bind, fold};
 use std::alloc::Global;
 use std::mem;
@@ -70,23 +74,37 @@ pub fn bind_input(alloc: Global, options: &Options, input: Input) -> Result<Boun
     ensures meshable { IfOk result (IsMeshableBound options.now) }
 {
     let Input { nodes, complex } = input;
+    match bind_parts(alloc, options, nodes, &complex) {
+        Ok(bound) => Ok(bound),
+        Err(fault) => Err(Status::from(fault)),
+    }
+}
+
+/// The same of the parts of an input.
+fn bind_parts(
+    alloc: Global,
+    options: &Options,
+    nodes: NodeText,
+    text: &PlcText,
+) -> Result<Bound, BindFault>
+    requires input { IsSound (record { nodes = nodes; complex = text.now }) }
+    requires ranges { AreInRange options.now }
+    ensures bound { IfOk result
+        (λ bound. BoundAnswer options.now (record { nodes = nodes; complex = text.now }) (Ok bound)) }
+    ensures unbound { IfErr result
+        (λ fault. IsUnbound options.now (record { nodes = nodes; complex = text.now }) (status_of_bind fault)) }
+    ensures meshable { IfOk result (IsMeshableBound options.now) }
+{
     let first = nodes.first;
     let count = nodes.decimals.len() as u64;
     match settle(alloc, nodes, &grid_options(options)) {
         Ok(table) => {
-            let complex = bind_folded(alloc, &complex, first, count, &table)?;
+            let complex = bind_folded(alloc, text, first, count, &table)?;
             Ok(Bound { table, complex })
         }
-        Err(NodeFault::TooMany { count }) => Err(Status::Limit {
-            what: LimitKind::Points { count },
-        }),
-        Err(NodeFault::Range { line }) => {
-            let status = Status::Limit {
-                what: LimitKind::Grid { line },
-            };
-            Err(limit_before(alloc, &complex, first, count, status))
-        }
-        Err(NodeFault::NoMemory) => Err(Status::NoMemory),
+        Err(NodeFault::TooMany { count }) => Err(BindFault::Points { count }),
+        Err(NodeFault::Range { line }) => Err(limit_before(alloc, text, first, count, line)),
+        Err(NodeFault::NoMemory) => Err(BindFault::NoMemory),
         Err(NodeFault::Text(_)) => unreachable!(),
     }
 }
@@ -98,14 +116,14 @@ fn bind_folded(
     first: u32,
     count: u64,
     table: &NodeTable,
-) -> Result<Complex, Status>
+) -> Result<Complex, BindFault>
     requires corners { corners_check first count text.now ≡ Ok tt }
     requires count { count < 2 ^ 32 - 1 }
     requires few { HasFewParts text.now }
     requires table { IsNodeTable table.now }
     requires listed { length table.now.listed ≡ count }
     ensures bound { IfOk result (IsBoundOn text.now first table.now) }
-    ensures over { IfErr result (IsOverLimit text.now) }
+    ensures over { IfErr result (λ fault. IsOverLimit text.now (status_of_bind fault)) }
     ensures corners { IfOk result (HasCornersBelow (length table.now.points)) }
     ensures weights { IfOk result HasWeights }
 {
@@ -120,41 +138,38 @@ fn bind_complex(
     first: u32,
     count: u64,
     grid: &Grid,
-) -> Result<Complex, Status>
+) -> Result<Complex, BindFault>
     requires corners { corners_check first count text.now ≡ Ok tt }
     requires count { count < 2 ^ 32 - 1 }
     requires few { HasFewParts text.now }
     ensures bound { IfOk result (IsBound text.now first grid.now) }
-    ensures over { IfErr result (IsOverLimit text.now) }
+    ensures over { IfErr result (λ fault. IsOverLimit text.now (status_of_bind fault)) }
     ensures corners { IfOk result (HasCornersBelow count) }
     ensures weights { IfOk result HasWeights }
 {
     match bind(alloc, text, first, count, grid) {
         Ok(complex) => Ok(complex),
-        Err(PlcFault::Facets { count }) => Err(Status::Limit {
-            what: LimitKind::Facets { count },
-        }),
-        Err(PlcFault::Corners { line, count }) => Err(Status::Limit {
-            what: LimitKind::Corners { line, count },
-        }),
-        Err(PlcFault::NoMemory) => Err(Status::NoMemory),
+        Err(PlcFault::Facets { count }) => Err(BindFault::Facets { count }),
+        Err(PlcFault::Corners { line, count }) => Err(BindFault::Corners { line, count }),
+        Err(PlcFault::NoMemory) => Err(BindFault::NoMemory),
         Err(PlcFault::Text(_)) => unreachable!(),
     }
 }
 
-/// The limit that the complex is over, which comes before this refusal; or the refusal. The grid serves no other end.
-fn limit_before(alloc: Global, text: &PlcText, first: u32, count: u64, status: Status) -> Status
+/// The limit that the complex is over, which comes before that of the grid at this line; or that. The grid serves no other end.
+fn limit_before(alloc: Global, text: &PlcText, first: u32, count: u64, line: usize) -> BindFault
     requires corners { corners_check first count text.now ≡ Ok tt }
     requires count { count < 2 ^ 32 - 1 }
     requires few { HasFewParts text.now }
-    ensures { IsSmall text.now × (result ≡ status) ⊎ IsOverLimit text.now result }
+    ensures { IsSmall text.now × (status_of_bind result ≡ Limit (OnGrid line))
+        ⊎ IsOverLimit text.now (status_of_bind result) }
 {
     let grid = Grid {
         decimals: 0,
         halvings: 0,
     };
     match bind_complex(alloc, text, first, count, &grid) {
-        Ok(_) => status,
+        Ok(_) => BindFault::Grid { line },
         Err(limit) => limit,
     }
 }
@@ -296,29 +311,67 @@ fn mesh_plc(alloc: Global, options: &Options, bound: Bound) -> Result<Meshed, St
     ensures answer { MeshOf true options.now bound result }
     ensures writable { IfOk result IsWritable }
 {
-    let Bound { table, complex } = bound;
-    let points = points_from(alloc, &table.points, 0)?;
-    let made = mesh_complex(alloc, points, &complex, &mesh_options(options, &table))?;
-    let added = points_from(alloc, &made.points, table.points.len())?;
-    let more = added.len() as u32;
-    let names = names_of(alloc, &table, more)?;
-    let ComplexMesh {
+    let made = made_of(alloc, options, &bound)?;
+    let added = added_to(alloc, &bound.table, &made.points)?;
+    Ok(with_added(alloc, bound, made, added))
+}
+
+/// What is made of a complex on its points.
+fn made_of(alloc: Global, options: &Options, bound: &Bound) -> Result<ComplexMesh, MeshFault>
+    requires { IsMeshableBound options.now bound.now }
+    ensures { MeshesSo (mesh_options options.now bound.now.table) bound.now.table.points bound.now.complex result }
+{
+    let points = points_from(alloc, &bound.table.points, 0)?;
+    mesh_complex(
+        alloc,
         points,
-        triangles,
-        tetrahedra,
-        marks,
-    } = made;
-    Ok(Meshed {
-        table: without_decimals(alloc, table),
-        added,
-        points,
+        &bound.complex,
+        &mesh_options(options, &bound.table),
+    )
+}
+
+/// The points that were added to those of a table, and the names of all.
+#[derive(Drop)]
+struct Added {
+    points: Points,
+    names: Names,
+}
+
+/// What these points have after those of the table, and the names of all of them.
+fn added_to(alloc: Global, table: &NodeTable, points: &Points) -> Result<Added, NoMemory>
+    requires begins { length table.now.points ≤ length points.now }
+    requires few { length table.now.listed + (length points.now - length table.now.points) < 2 ^ 32 - 1 }
+    ensures points { IfOk result (λ added. added.points ≡ drop (length table.now.points) points.now) }
+    ensures names { IfOk result (λ added. added.names ≡ names_with table.now (length added.points)) }
+{
+    let added = points_from(alloc, points, table.points.len())?;
+    let names = names_of(alloc, table, added.len() as u32)?;
+    Ok(Added {
+        points: added,
         names,
-        complex,
-        triangles,
-        tetrahedra,
-        marks,
-        hidden: None,
     })
+}
+
+/// The mesh of a complex, with its point list and what was added to it.
+fn with_added(alloc: Global, bound: Bound, made: ComplexMesh, added: Added) -> Meshed
+    requires { IsNodeTable bound.table }
+    ensures { result ≡ record (mesh_of_complex bound made) {
+      table = without_decimals bound.table;
+      added = added.points;
+      names = added.names;
+    } }
+{
+    Meshed {
+        table: without_decimals(alloc, bound.table),
+        added: added.points,
+        points: made.points,
+        names: added.names,
+        complex: bound.complex,
+        triangles: made.triangles,
+        tetrahedra: made.tetrahedra,
+        marks: made.marks,
+        hidden: None,
+    }
 }
 
 /// A point list without the decimals of its points, which are let go: once the points are on their grid nothing is written from them.
