@@ -1,7 +1,8 @@
 //! What is written in decimals fits the least grid of these.
 ghost use Rattle.least_grid_laws.specs.Written.{FittingLaw, SettlingLaw, SameSignsLaw, RereadLaw};
 
-/// The decimals of points of a grid fit their least grid, on which each coordinate is one number of times smaller.
+/// The decimals of points of a grid fit their least grid, on which each coordinate is one number of
+/// times smaller.
 pub fn law_fits()
     ensures { FittingLaw }
 {}

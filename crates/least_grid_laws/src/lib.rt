@@ -1,4 +1,5 @@
-//! The points of a grid, written as decimals, on the least grid of these. Each law is the contract of a function that does nothing.
+//! The points of a grid, written as decimals, on the least grid of these. Each law is the contract
+//! of a function that does nothing.
 #![tactic(auto)]
 
 mod laws;

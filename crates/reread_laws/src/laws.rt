@@ -18,12 +18,14 @@ pub fn law_neigh_read()
     ensures { NeighReadLaw }
 {}
 
-/// The text of points is read back as a point list of as many points, whose decimals are the numbers that their coordinates are.
+/// The text of points is read back as a point list of as many points, whose decimals are the
+/// numbers that their coordinates are.
 pub fn law_node_read()
     ensures { NodeReadLaw }
 {}
 
-/// The texts of a mesh without a defect are read back as one without a defect, over the points on the least grid of their decimals.
+/// The texts of a mesh without a defect are read back as one without a defect, over the points on
+/// the least grid of their decimals.
 pub fn law_read_back()
     ensures { ReadBackLaw }
 {}

@@ -1,4 +1,5 @@
-//! The texts of a mesh are read back as its lists, over the definitions alone. Each law is the contract of a function that does nothing.
+//! The texts of a mesh are read back as its lists, over the definitions alone. Each law is the
+//! contract of a function that does nothing.
 #![tactic(auto)]
 
 mod laws;

@@ -41,9 +41,10 @@ pub struct ComplexFile {
     text: PlcText,
 }
 
-/// The input that the options name: points alone, or a complex on its own points or on those of the `.node` file with the same base. It refuses with
-/// `Missing`, `ReadFault`, `BadText` or the limit of bytes, of the first file that is at fault, with `BadText` where a corner names no point, or for
-/// want of memory. It stores nothing.
+/// The input that the options name: points alone, or a complex on its own points or on those of the
+/// `.node` file with the same base. It refuses with `Missing`, `ReadFault`, `BadText` or the limit
+/// of bytes, of the first file that is at fault, with `BadText` where a corner names no point, or
+/// for want of memory. It stores nothing.
 pub fn read_input<F: Folder>(
     alloc: Global,
     options: &Options,
@@ -130,7 +131,8 @@ fn read_sample(alloc: Global, n: u32) -> Result<ComplexFile, Status>
     })
 }
 
-/// The complex of the file with this base: of its `.poly` file, or where there is none of its `.smesh` file, if no extension says which.
+/// The complex of the file with this base: of its `.poly` file, or where there is none of its
+/// `.smesh` file, if no extension says which.
 fn read_complex_file<F: Folder>(
     alloc: Global,
     base: &Name,
@@ -185,7 +187,8 @@ fn read_form<F: Folder>(
     complex_of(alloc, extension, file)
 }
 
-/// The points of a complex: its own, or where it has none those of the `.node` file with the same base. Each corner has to be one of them.
+/// The points of a complex: its own, or where it has none those of the `.node` file with the same
+/// base. Each corner has to be one of them.
 fn with_points<F: Folder>(
     alloc: Global,
     base: &Name,

@@ -1,4 +1,5 @@
-//! The steps of a run of the program: what it reads, the mesh of that, the texts that it stores, and how it ends.
+//! The steps of a run of the program: what it reads, the mesh of that, the texts that it stores,
+//! and how it ends.
 #![tactic(auto)]
 
 mod bind_fault;

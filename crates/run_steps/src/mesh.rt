@@ -45,8 +45,9 @@ pub struct Bound {
     pub complex: Complex,
 }
 
-/// The files and the summary of the mesh of points, or of a complex. It refuses with the first in this order: all points in one plane, and of a
-/// complex what `mesh_complex` refuses; or for want of memory.
+/// The files and the summary of the mesh of points, or of a complex. It refuses with the first in
+/// this order: all points in one plane, and of a complex what `mesh_complex` refuses; or for want
+/// of memory.
 pub fn mesh_outputs(alloc: Global, options: &Options, bound: Bound) -> Result<Outputs, Status>
     requires { IsMeshableBound options.now bound }
     ensures { AndThen (MeshAnswer options.now bound) (OutputsAnswer options.now) result }
@@ -65,8 +66,8 @@ fn grid_options(options: &Options) -> GridOptions
     }
 }
 
-/// The points on their grid, where equal ones are folded, and the complex on them. It refuses with the first limit that the input is over, or for want
-/// of memory.
+/// The points on their grid, where equal ones are folded, and the complex on them. It refuses with
+/// the first limit that the input is over, or for want of memory.
 pub fn bind_input(alloc: Global, options: &Options, input: Input) -> Result<Bound, Status>
     requires input { IsSound input }
     requires ranges { AreInRange options.now }
@@ -156,7 +157,8 @@ fn bind_complex(
     }
 }
 
-/// The limit that the complex is over, which comes before that of the grid at this line; or that. The grid serves no other end.
+/// The limit that the complex is over, which comes before that of the grid at this line; or that.
+/// The grid serves no other end.
 fn limit_before(alloc: Global, text: &PlcText, first: u32, count: u64, line: usize) -> BindFault
     requires corners { corners_check first count text.now ≡ Ok tt }
     requires count { count < 2 ^ 32 - 1 }
@@ -228,7 +230,8 @@ fn mesh_weighted(alloc: Global, options: &Options, bound: Bound) -> Result<Meshe
     }
 }
 
-/// How a run ends whose weighted points have no mesh, where their file has this base; or for want of memory.
+/// How a run ends whose weighted points have no mesh, where their file has this base; or for want
+/// of memory.
 fn weights_refused(alloc: Global, base: &Name, fault: RegularFault) -> Status
     ensures { (result ≡ status_of_weights (file_name base.now Node) fault) ⊎ (result ≡ Wanting) }
 {
@@ -374,7 +377,8 @@ fn with_added(alloc: Global, bound: Bound, made: ComplexMesh, added: Added) -> M
     }
 }
 
-/// A point list without the decimals of its points, which are let go: once the points are on their grid nothing is written from them.
+/// A point list without the decimals of its points, which are let go: once the points are on their
+/// grid nothing is written from them.
 fn without_decimals(alloc: Global, mut table: NodeTable) -> NodeTable
     requires { IsNodeTable table }
     ensures same { result ≡ without_decimals table }

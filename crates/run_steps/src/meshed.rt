@@ -5,22 +5,26 @@ use hole_carve::Marks;
 use mesh_files::Faces;
 use node_files::{Names, NodeTable};
 
-/// A mesh, with the points and the complex that it is one of. Points are named by their places, from 0, the added ones after the kept ones of the table.
+/// A mesh, with the points and the complex that it is one of. Points are named by their places,
+/// from 0, the added ones after the kept ones of the table.
 #[derive(Drop)]
 pub struct Meshed {
-    /// The points of the input, equal ones folded, with their attributes and markers, and without their decimals.
+    /// The points of the input, equal ones folded, with their attributes and markers, and without
+    /// their decimals.
     pub table: NodeTable,
     /// The points that were added.
     pub added: Points,
     /// The kept points of the input and the added ones.
     pub points: Points,
-    /// For each of these points the place, from 0, by which files name it: its place in the input, and for an added one a place behind the input's points.
+    /// For each of these points the place, from 0, by which files name it: its place in the input,
+    /// and for an added one a place behind the input's points.
     pub names: Names,
     pub complex: Complex,
     /// The triangles of the facets.
     pub triangles: FacetTriangles,
     pub tetrahedra: TetList,
-    /// For each tetrahedron the place of its region in the complex, from 0, if attributes are asked for.
+    /// For each tetrahedron the place of its region in the complex, from 0, if attributes are asked
+    /// for.
     pub marks: Option<Marks>,
     /// How many of the kept points are corners of no tetrahedron, where they have weights.
     pub hidden: Option<usize>,

@@ -7,7 +7,8 @@ use node_files::{Names, NodeTable};
 use std::alloc::Global;
 use tet_ports::NoMemory;
 
-/// The numbers of points in messages. A run names points by their places, from 0: those that are kept of the input, and the added ones behind them.
+/// The numbers of points in messages. A run names points by their places, from 0: those that are
+/// kept of the input, and the added ones behind them.
 #[derive(Debug, Drop)]
 pub struct Numbering {
     /// For each kept point its place in the input, from 0.
@@ -42,7 +43,8 @@ pub(crate) fn number_of(by: &Option<Numbering>, point: u32) -> usize
     }
 }
 
-/// The number of a point: a kept one has that of its place in the input, an added one a number behind all those of the input.
+/// The number of a point: a kept one has that of its place in the input, an added one a number
+/// behind all those of the input.
 fn number_by(by: &Numbering, point: u32) -> usize
     ensures { result ≡ number_by by.now point }
 {

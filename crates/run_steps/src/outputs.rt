@@ -30,7 +30,8 @@ pub struct Outputs {
     pub summary: Option<Bytes>,
 }
 
-/// The face file and the neighbor file, where they are asked for, and the number of faces, if the summary tells it.
+/// The face file and the neighbor file, where they are asked for, and the number of faces, if the
+/// summary tells it.
 #[derive(Drop)]
 struct FaceOutputs {
     face: Option<NamedText>,
@@ -90,14 +91,16 @@ pub fn asks_hull_alone(options: &Options) -> bool
     options.quiet && !options.no_face && !options.all_faces && !options.neighbors
 }
 
-/// Whether the face file, the neighbor file or the summary is asked for, which speak of the uses of faces.
+/// Whether the face file, the neighbor file or the summary is asked for, which speak of the uses of
+/// faces.
 fn asks_uses(options: &Options) -> bool
     ensures { result ≡ asks_uses options.now }
 {
     !options.quiet || (!options.no_face || options.neighbors)
 }
 
-/// What is told of the faces: from those of the hull where they are known and enough, and else from the uses of all faces.
+/// What is told of the faces: from those of the hull where they are known and enough, and else from
+/// the uses of all faces.
 fn face_outputs(
     alloc: Global,
     options: &Options,
@@ -127,7 +130,8 @@ fn used_outputs(alloc: Global, options: &Options, mesh: &Meshed) -> Result<FaceO
     Ok(FaceOutputs { face, neigh, count })
 }
 
-/// The face file by the uses of the faces: straight from them where all faces are asked for, and else from rows, for whose text the uses are let go.
+/// The face file by the uses of the faces: straight from them where all faces are asked for, and
+/// else from rows, for whose text the uses are let go.
 fn used_face_file(
     alloc: Global,
     options: &Options,

@@ -19,21 +19,26 @@ pub enum LimitKind {
     MeshPoints { count: u64 },
     /// The number of facets; it carries that of the input.
     Facets { count: u64 },
-    /// The number of corners of a polygon; the line of the first such polygon, from 1, and how many it has.
+    /// The number of corners of a polygon; the line of the first such polygon, from 1, and how many
+    /// it has.
     Corners { line: usize, count: u64 },
-    /// The size of a grid coordinate without halvings; the line of the first point that is off the grid, from 1.
+    /// The size of a grid coordinate without halvings; the line of the first point that is off the
+    /// grid, from 1.
     Grid { line: usize },
-    /// The size of a weight, 2^46 squares of grid units; the line of the first point whose weight is over it, from 1.
+    /// The size of a weight, 2^46 squares of grid units; the line of the first point whose weight
+    /// is over it, from 1.
     Weight { line: usize },
 }
 
-/// How a run ends. Names are those of files. Facets are named by their places, from 0, and so are points: those that are kept where equal points of
-/// the input are folded, and the added ones behind them.
+/// How a run ends. Names are those of files. Facets are named by their places, from 0, and so are
+/// points: those that are kept where equal points of the input are folded, and the added ones
+/// behind them.
 #[derive(Drop)]
 pub enum Status {
     /// The files are stored and the summary is put.
     Done,
-    /// The words are not in the grammar: the first bad word and the place in it, both counted from 1.
+    /// The words are not in the grammar: the first bad word and the place in it, both counted from
+    /// 1.
     Usage { word: usize, place: usize },
     /// The folder lacks the input.
     Missing { name: Name },
@@ -55,9 +60,11 @@ pub enum Status {
     GridEnd { piece: Piece },
     /// A piece is no side of the mesh, and as many points were added as are allowed.
     BudgetEnd { made: u32, piece: Piece },
-    /// Two facets cross a Delaunay tetrahedron, and this stands against tetrahedra grown round the facets.
+    /// Two facets cross a Delaunay tetrahedron, and this stands against tetrahedra grown round the
+    /// facets.
     NoFill { anomaly: Anomaly },
-    /// The mesh that is checked has a defect; the first one. Its files number points, rows and faces from `first` on.
+    /// The mesh that is checked has a defect; the first one. Its files number points, rows and
+    /// faces from `first` on.
     Unsound { defect: Defect, first: u32 },
     /// Want of memory.
     NoMemory,

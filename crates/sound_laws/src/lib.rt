@@ -1,4 +1,5 @@
-//! What a mesh without a defect is, over the definitions alone. Each law is the contract of a function that does nothing.
+//! What a mesh without a defect is, over the definitions alone. Each law is the contract of a
+//! function that does nothing.
 #![tactic(auto)]
 
 mod laws;

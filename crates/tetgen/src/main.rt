@@ -1,33 +1,13 @@
-//! The program `tetgen`: tetrahedral meshes of sets of points and of complexes of segments and facets.
+//! The program `tetgen`: tetrahedral meshes of sets of points and of complexes of segments and
+//! facets.
 #![tactic(auto)]
 
-#[cfg(test)]
-mod check_tests;
-#[cfg(test)]
-mod cloud_tests;
-#[cfg(test)]
-mod complex_tests;
-#[cfg(test)]
-mod equal_points_tests;
-#[cfg(test)]
-mod merged_facet_tests;
-mod run;
-mod stop;
-#[cfg(test)]
-mod surface_tests;
-#[cfg(test)]
-mod test_inputs;
-#[cfg(test)]
-mod tests;
-#[cfg(test)]
-mod weighted_point_tests;
-
-use run::run_tetgen;
 use run_steps::Status;
 use std::alloc::Global;
 use std::process::ExitCode;
 use std::{env, io};
 use tet_ports::{Name, NoMemory, OsFolder, StdSink, Words};
+pub use tetgen_run::run_tetgen;
 
 fn main(rt: HostRuntime) -> ExitCode {
     let Ok(words) = words_of(&rt) else {

@@ -24,7 +24,7 @@ fn mark_corners(marks: &mut [bool], row: Tet)
 fn unmarked_count(marks: &[bool]) -> usize
     ensures { result ≡ count_by not marks.now }
 {
-    marks.iter().filter(|mark| **mark).count()
+    marks.iter().filter(|mark| !**mark).count()
 }
 
 /// How many of so many points are corners of no row.

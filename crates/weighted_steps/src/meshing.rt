@@ -42,5 +42,5 @@ pub fn regular_mesh(alloc: Global, table: &NodeTable) -> Result<RegularMesh, Reg
     let weights = kept_weights(alloc, &table.names, &listed)?;
     let rows = regular(alloc, &table.points, &weights)?;
     let hidden = hidden_count(alloc, table.points.len(), &rows)?;
-    Ok(RegularMesh { rows, hidden: hidden.max(table.listed.len()) })
+    Ok(RegularMesh { rows, hidden })
 }

@@ -1,4 +1,5 @@
-//! What is written of a mesh has no defect, over the definitions alone. Each law is the contract of a function that does nothing.
+//! What is written of a mesh has no defect, over the definitions alone. Each law is the contract of
+//! a function that does nothing.
 #![tactic(auto)]
 
 mod laws;

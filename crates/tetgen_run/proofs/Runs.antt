@@ -30,9 +30,9 @@ use Rattle.run_steps.specs.declared.numbering.Numbering.{Numbering}
 use Rattle.run_steps.specs.Meshing.{OutputsOfRun, BoundAnswer, IsUnbound, PointsMeshOf, MeshOf, MeshAnswer, IsFlatRefusal, OutputsAnswer, MeshedAnswer}
 use Rattle.run_steps.specs.Outputs.{named, AreOutputsOf}
 use Rattle.run_steps.specs.Reading.{complex_file, points_alone, on_points, WordsAnswer, FetchAnswer, TextAnswer, PointsAnswer, FormAnswer, ComplexFileAnswer, SourceAnswer, NodesAnswer, BoundedAnswer, InputOf, InputAnswer, IsUsage, IsUnfetched, IsBadText, node_text_of, plc_text_of}
-use Rattle.tetgen.specs.Run.{asks_check, AnswerBy, IsMeshAnswer, IsAnswer, IsComplete, LeftBy, IsLeftByMesh, IsLeft, asks_regular, IsRegularMesh, IsMeshOfRun, IsUnchanged, IsTold, IsPut, IsNumbering, IsToldAs, IsEarly, IsSummed, IsTellable, ChecksSo, EndsByMesh, EndsBy, EndsSo, answer_of, numbering_in, HasNoFault, names_points}
+use Rattle.tetgen_run.specs.Run.{asks_check, AnswerBy, IsMeshAnswer, IsAnswer, IsComplete, LeftBy, IsLeftByMesh, IsLeft, asks_regular, IsRegularMesh, IsMeshOfRun, IsUnchanged, IsTold, IsPut, IsNumbering, IsToldAs, IsEarly, IsSummed, IsTellable, ChecksSo, EndsByMesh, EndsBy, EndsSo, answer_of, numbering_in, HasNoFault, names_points}
 use Rattle.run_steps.specs.Seen.{FolderSeen, SinkSeen}
-use Rattle.tetgen.specs.Stops.{stop_of_words, stop_of_store}
+use Rattle.tetgen_run.specs.Stops.{stop_of_words, stop_of_store}
 use Rattle.run_steps.specs.Stores.{given, in_order, with_files, AreLeft, IfFailed, TellsFailure}
 use Rattle.command_words.specs.declared.fault.WordsFault.{WordsFault}
 use Rattle.command_words.specs.declared.fault.WordsFault.TheVariants.{Usage as Misunderstood, NoMemory as WordsWanting}
@@ -48,8 +48,8 @@ use Rattle.run_steps.specs.declared.outputs.Outputs.{Outputs}
 use Rattle.run_steps.specs.declared.status.LimitKind.{LimitKind}
 use Rattle.run_steps.specs.declared.status.Status.{Status}
 use Rattle.run_steps.specs.declared.status.Status.TheVariants.{Done, Usage, Missing, ReadFault, BadText, Limit, Flat, NoMemory, WriteFault}
-use Rattle.tetgen.specs.declared.stop.Stop.{Stop}
-use Rattle.tetgen.specs.declared.stop.Stop.TheVariants.{Refused, Unwritten, Unsummed, NoMemory as Wanting}
+use Rattle.tetgen_run.specs.declared.stop.Stop.{Stop}
+use Rattle.tetgen_run.specs.declared.stop.Stop.TheVariants.{Refused, Unwritten, Unsummed, NoMemory as Wanting}
 use Rattle.weighted_steps.specs.declared.fault.RegularFault.{RegularFault}
 use Rattle.weighted_steps.specs.declared.fault.RegularFault.TheVariants as regular
 use Rattle.weighted_steps.specs.Meshing.{kept_weights}
@@ -57,8 +57,8 @@ use Rattle.weighted_steps.proofs.Answering.{regular_list_law}
 use Rattle.run_steps.proofs.Determined.{outputs_same}
 use Rattle.run_steps.proofs.Once.{run_same}
 use Rattle.run_steps.proofs.Steps.{IsDecided, status_of, and_then_refuses}
-use Rattle.tetgen.proofs.Refusals.{IsRefusal, IsSilent, not_true, not_done, refusal_told}
-use Rattle.tetgen.proofs.Checks.{check_answer, check_same, check_left, early_check, check_told, check_tellable, checked_end}
+use Rattle.tetgen_run.proofs.Refusals.{IsRefusal, IsSilent, not_true, not_done, refusal_told}
+use Rattle.tetgen_run.proofs.Checks.{check_answer, check_same, check_left, early_check, check_told, check_tellable, checked_end}
 
 -- ---- refusals
 

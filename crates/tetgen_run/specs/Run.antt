@@ -35,9 +35,9 @@ use Rattle.run_steps.specs.declared.meshed.Meshed.{Meshed}
 use Rattle.run_steps.specs.declared.outputs.Outputs.{Outputs}
 use Rattle.run_steps.specs.declared.status.Status.{Status}
 use Rattle.run_steps.specs.declared.status.Status.TheVariants.{Done, Usage, NotFlat, SegmentsCross, Crossing, GridEnd, BudgetEnd, NoFill, NoMemory, WriteFault}
-use Rattle.tetgen.specs.Stops.{stop_of_check}
-use Rattle.tetgen.specs.declared.stop.Stop.{Stop}
-use Rattle.tetgen.specs.declared.stop.Stop.TheVariants.{Refused, Unwritten, Unsummed, NoMemory as Wanting}
+use Rattle.tetgen_run.specs.Stops.{stop_of_check}
+use Rattle.tetgen_run.specs.declared.stop.Stop.{Stop}
+use Rattle.tetgen_run.specs.declared.stop.Stop.TheVariants.{Refused, Unwritten, Unsummed, NoMemory as Wanting}
 
 -- ---- the check of a mesh
 
@@ -75,7 +75,8 @@ answer_of (Err Wanting) = NoMemory
 abbrev pub status_of_check : CheckFault → Status
 status_of_check fault = answer_of (Err (stop_of_check fault))
 
--- The cause of each answer of a check: words in the grammar and a sound mesh; words against it; the refusal of the first step that refuses; a
+-- The cause of each answer of a check: words in the grammar and a sound mesh; words against it; the refusal of the first step that
+-- refuses; a
 -- fault of the sink of the line; and want of memory is free
 abbrev pub IsCheckAnswer : List (List ℕ) → FolderSeen → SinkSeen → Status → Type 0
 IsCheckAnswer words folder out Done = (count : ℕ) × (words_fault words ≡ None) × Checked (options_of words) folder (Ok count)
@@ -88,7 +89,8 @@ IsCheckAnswer words folder out status =
 
 -- ---- the answer
 
--- The cause of each answer of a run that makes a mesh: Done where there are outputs; a fault of the folder in a store; a fault of the sink of
+-- The cause of each answer of a run that makes a mesh: Done where there are outputs; a fault of the folder in a store; a fault of the sink
+-- of
 -- the summary; want of memory is free; and any other answer is the refusal of a step
 abbrev pub IsMeshAnswer : List (List ℕ) → FolderSeen → SinkSeen → Status → Type 0
 IsMeshAnswer words folder out Done = (outputs : Outputs) × OutputsOfRun words folder (Ok outputs)
@@ -110,7 +112,8 @@ IsAnswer words = AnswerBy (asks_check words) words
 abbrev pub HasNoFault : FolderSeen → SinkSeen → Type 0
 HasNoFault folder out = ¬ Rose folder.faults_before folder.faults_now × ¬ Rose out.faults_before out.faults_now
 
--- Where the files are told, no count of faults rose and memory was not wanting, each answer that has a cause is the answer: the refusal of the
+-- Where the files are told, no count of faults rose and memory was not wanting, each answer that has a cause is the answer: the refusal of
+-- the
 -- first step that refuses, and Done where none does. Only where facets are tangled there may be more: Done, and the anomalies that hold
 abbrev pub IsComplete : List (List ℕ) → FolderSeen → SinkSeen → Status → Type 0
 IsComplete words folder out status =
@@ -119,7 +122,8 @@ IsComplete words folder out status =
 
 -- ---- what is left
 
--- what of a mesh is cut away: what is beyond the hull of points alone, or what is joined with the outside of a complex, unless its hull is kept
+-- what of a mesh is cut away: what is beyond the hull of points alone, or what is joined with the outside of a complex, unless its hull is
+-- kept
 abbrev pub carving_by : Options → Carving
 carving_by options = if options.piecewise then carving_of options.keep_hull else HullOnly
 
@@ -127,17 +131,22 @@ carving_by options = if options.piecewise then carving_of options.keep_hull else
 abbrev pub asks_regular : Options → Bool
 asks_regular options = not options.piecewise && options.weighted
 
--- the mesh is the regular list of the kept points of a table, with the weights that their lines state, and it tells how many points are hidden
+-- the mesh is the regular list of the kept points of a table, with the weights that their lines state, and it tells how many points are
+-- hidden
 pub record IsRegularMesh (table : NodeTable) (mesh : Meshed) : Type 0 where
   pub weights : List ℤ
   pub weights_are : weights_of table ≡ Ok weights
   pub list : IsRegularList mesh.points (kept_weights table weights) mesh.tetrahedra
   pub hidden : mesh.hidden ≡ Some (hidden_count (length mesh.points) mesh.tetrahedra)
 
--- The outputs are those of one mesh of the input that the words name. Its points are those of the input and the added ones, its triangles those of the
--- facets. Each rational point on no facet and off all face planes is strictly inside exactly one of its tetrahedra, or inside none where it is out; facets
--- inside the mesh are unions of its faces; every other shared face is locally Delaunay; any two tetrahedra are properly met (`IsMesh` of the complex).
--- Of points alone it is the Delaunay list, and of weighted points the regular list: each triangulates the hull of all the points. No other outputs
+-- The outputs are those of one mesh of the input that the words name. Its points are those of the input and the added ones, its triangles
+-- those of the
+-- facets. Each rational point on no facet and off all face planes is strictly inside exactly one of its tetrahedra, or inside none where
+-- it is out; facets
+-- inside the mesh are unions of its faces; every other shared face is locally Delaunay; any two tetrahedra are properly met (`IsMesh` of
+-- the complex).
+-- Of points alone it is the Delaunay list, and of weighted points the regular list: each triangulates the hull of all the points. No other
+-- outputs
 -- are those of the mesh.
 pub record IsMeshOfRun (words : List (List ℕ)) (folder : FolderSeen) (outputs : Outputs) : Type 0 where
   pub understood : words_fault words ≡ None
@@ -170,16 +179,19 @@ abbrev pub PartlySummed : Option (List ℕ) → Option (List ℕ) → Option (Li
 PartlySummed before None now = ⊥
 PartlySummed before (Some line) now = PartlyPut before line now
 
--- What each answer leaves. Done: the files with the mesh's and the summary. A fault of a store: the files before the named one whole, of that
+-- What each answer leaves. Done: the files with the mesh's and the summary. A fault of a store: the files before the named one whole, of
+-- that
 -- one a prefix or nothing. A fault of the summary: all files whole, and a prefix of the summary. Want of memory: the files as they were, or
 -- with some of the mesh's files, from the first on, whole. Every other answer: all as it was.
 abbrev pub IsLeftByMesh : List (List ℕ) → FolderSeen → SinkSeen → Status → Type 0
 IsLeftByMesh words folder out Done = (outputs : Outputs) × IsMeshOfRun words folder outputs
-    × (folder.files_now ≡ with_files folder.files_before (in_order outputs.texts)) × (out.written_now ≡ with_summary out.written_before outputs.summary)
+    × (folder.files_now ≡ with_files folder.files_before (in_order outputs.texts))
+    × (out.written_now ≡ with_summary out.written_before outputs.summary)
 IsLeftByMesh words folder out (WriteFault (Some name)) = (outputs : Outputs) × IsMeshOfRun words folder outputs
     × AreStoredInto folder.files_before (in_order outputs.texts) name folder.files_now × (out.written_now ≡ out.written_before)
 IsLeftByMesh words folder out (WriteFault None) = (outputs : Outputs) × IsMeshOfRun words folder outputs
-    × (folder.files_now ≡ with_files folder.files_before (in_order outputs.texts)) × PartlySummed out.written_before outputs.summary out.written_now
+    × (folder.files_now ≡ with_files folder.files_before (in_order outputs.texts))
+    × PartlySummed out.written_before outputs.summary out.written_now
 IsLeftByMesh words folder out NoMemory = (out.written_now ≡ out.written_before)
     × ((folder.files_now ≡ folder.files_before)
     ⊎ ((outputs : Outputs) × IsMeshOfRun words folder outputs × AreStoredTo folder.files_before (in_order outputs.texts) folder.files_now))
@@ -188,7 +200,8 @@ IsLeftByMesh words folder out status = IsUnchanged folder out
 -- What each answer of a check leaves: no file is changed; on Done the line on a sound mesh is put, and after a fault of that a prefix of it
 abbrev pub IsLeftByCheck : List (List ℕ) → FolderSeen → SinkSeen → Status → Type 0
 IsLeftByCheck words folder out Done = (count : ℕ) × Checked (options_of words) folder (Ok count)
-    × (folder.files_now ≡ folder.files_before) × (out.written_now ≡ with_summary out.written_before (sound_summary (options_of words) count))
+    × (folder.files_now ≡ folder.files_before)
+    × (out.written_now ≡ with_summary out.written_before (sound_summary (options_of words) count))
 IsLeftByCheck words folder out (WriteFault None) = (count : ℕ) × Checked (options_of words) folder (Ok count)
     × (folder.files_now ≡ folder.files_before) × PartlySummed out.written_before (sound_summary (options_of words) count) out.written_now
 IsLeftByCheck words folder out status = IsUnchanged folder out
@@ -218,7 +231,8 @@ names_points status = false
 abbrev pub IsNumbering : List (List ℕ) → FolderSeen → Status → Option Numbering → Type 0
 IsNumbering words folder status by =
     IsTrue (names_points status)
-    → (input : Input) × InputAnswer folder (options_of words) (Ok input) × (bound : Bound) × BoundAnswer (options_of words) input (Ok bound) × (by ≡ Some (numbering_of bound.table))
+    → (input : Input) × InputAnswer folder (options_of words) (Ok input) × (bound : Bound)
+    × BoundAnswer (options_of words) input (Ok bound) × (by ≡ Some (numbering_of bound.table))
 
 -- the message is appended, or a prefix of it where the sink failed or wanted memory
 abbrev pub IsPut : List ℕ → SinkSeen → Type 0
@@ -236,13 +250,16 @@ IsTold words folder err status = (by : Option Numbering) × IsNumbering words fo
 -- how a run that makes a mesh ends before its message
 abbrev pub EndsByMesh : List (List ℕ) → FolderSeen → SinkSeen → Result (Unit {0}) Stop → Type 0
 EndsByMesh words folder out (Ok done) = (outputs : Outputs) × OutputsOfRun words folder (Ok outputs)
-    × (folder.files_now ≡ with_files folder.files_before (in_order outputs.texts)) × (out.written_now ≡ with_summary out.written_before outputs.summary)
-EndsByMesh words folder out (Err (Refused status by)) = IsUnchanged folder out × OutputsOfRun words folder (Err status) × IsNumbering words folder status by
+    × (folder.files_now ≡ with_files folder.files_before (in_order outputs.texts))
+    × (out.written_now ≡ with_summary out.written_before outputs.summary)
+EndsByMesh words folder out (Err (Refused status by)) = IsUnchanged folder out × OutputsOfRun words folder (Err status)
+    × IsNumbering words folder status by
 EndsByMesh words folder out (Err (Unwritten text)) = (outputs : Outputs) × OutputsOfRun words folder (Ok outputs)
     × AreStoredInto folder.files_before (in_order outputs.texts) text.name folder.files_now × (out.written_now ≡ out.written_before)
     × Rose folder.faults_before folder.faults_now × TellsFailure text
 EndsByMesh words folder out (Err Unsummed) = (outputs : Outputs) × OutputsOfRun words folder (Ok outputs)
-    × (folder.files_now ≡ with_files folder.files_before (in_order outputs.texts)) × PartlySummed out.written_before outputs.summary out.written_now
+    × (folder.files_now ≡ with_files folder.files_before (in_order outputs.texts))
+    × PartlySummed out.written_before outputs.summary out.written_now
     × Rose out.faults_before out.faults_now
 EndsByMesh words folder out (Err Wanting) = (out.written_now ≡ out.written_before)
     × ((folder.files_now ≡ folder.files_before)
@@ -252,10 +269,12 @@ EndsByMesh words folder out (Err Wanting) = (out.written_now ≡ out.written_bef
 abbrev pub ChecksSo : Options → FolderSeen → SinkSeen → Result (Unit {0}) Stop → Type 0
 ChecksSo options folder out (Ok done) = (count : ℕ) × Checked options folder (Ok count)
     × (folder.files_now ≡ folder.files_before) × (out.written_now ≡ with_summary out.written_before (sound_summary options count))
-ChecksSo options folder out (Err (Refused status by)) = (fault : CheckFault) × Checked options folder (Err fault) × (stop_of_check fault ≡ Refused status by) × IsUnchanged folder out
+ChecksSo options folder out (Err (Refused status by)) = (fault : CheckFault) × Checked options folder (Err fault)
+    × (stop_of_check fault ≡ Refused status by) × IsUnchanged folder out
 ChecksSo options folder out (Err (Unwritten text)) = ⊥
 ChecksSo options folder out (Err Unsummed) = (count : ℕ) × Checked options folder (Ok count)
-    × (folder.files_now ≡ folder.files_before) × PartlySummed out.written_before (sound_summary options count) out.written_now × Rose out.faults_before out.faults_now
+    × (folder.files_now ≡ folder.files_before) × PartlySummed out.written_before (sound_summary options count) out.written_now
+    × Rose out.faults_before out.faults_now
 ChecksSo options folder out (Err Wanting) = IsUnchanged folder out
 
 -- how a run that asks for a check ends: its words are against the grammar, or memory was wanting, or it checks

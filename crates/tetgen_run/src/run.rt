@@ -1,7 +1,7 @@
 //! The run of the program: from its words to the files of a mesh.
 
 ghost use Rattle.std.specs.Prelude.{◌≡◌, ◌≤◌, ◌⊎◌, IsErrOf, Err};
-ghost use Rattle.tetgen.specs.Run.{IsAnswer, IsComplete, IsLeft, IsTold, IsPut, ChecksSo, EndsSo, IsSummed, IsTellable, IsToldAs};
+ghost use Rattle.tetgen_run.specs.Run.{IsAnswer, IsComplete, IsLeft, IsTold, IsPut, ChecksSo, EndsSo, IsSummed, IsTellable, IsToldAs};
 ghost use Rattle.run_steps.specs.Seen.{folder_seen, sink_seen};
 
 use crate::stop::Stop;
@@ -14,8 +14,9 @@ use run_steps::{
 use std::alloc::Global;
 use tet_ports::{Bytes, Folder, PutFault, Sink, Words};
 
-/// Reads the words, fetches the input that they name, stores the files of its mesh that the words ask for, and puts the summary to `out`. On
-/// every answer but Done it puts one message to `err`; a failure there changes no status.
+/// Reads the words, fetches the input that they name, stores the files of its mesh that the words
+/// ask for, and puts the summary to `out`. On every answer but Done it puts one message to `err`; a
+/// failure there changes no status.
 ///
 /// Nothing is stored before all texts are made.
 pub fn run_tetgen<F: Folder, O: Sink, E: Sink>(
@@ -104,7 +105,8 @@ fn put<E: Sink>(line: &[u8], err: &mut E)
     let _ = err.put(line);
 }
 
-/// Puts the message of a stop, and answers its status. Where there is no memory for the message, the answer is want of memory.
+/// Puts the message of a stop, and answers its status. Where there is no memory for the message,
+/// the answer is want of memory.
 fn tell<E: Sink>(alloc: Global, stop: Stop, err: &mut E) -> Status
     requires { IsTellable stop }
     ensures { IsToldAs stop (sink_seen E.written E.faults E.wants err.old err.new) result }

@@ -6,7 +6,7 @@ use Rattle.run_steps.specs.Seen.{FolderSeen, SinkSeen}
 use Rattle.run_steps.specs.declared.numbering.Numbering.{Numbering}
 use Rattle.run_steps.specs.declared.status.Status.{Status}
 use Rattle.run_steps.specs.declared.status.Status.TheVariants.{Done, WriteFault}
-use Rattle.tetgen.specs.Run.{IsNumbering, IsPut, IsTold, names_points}
+use Rattle.tetgen_run.specs.Run.{IsNumbering, IsPut, IsTold, names_points}
 
 pub not_true : IsTrue false → ⊥
 not_true t = cc

@@ -1,8 +1,8 @@
 use Rattle.std.proofs.Common.{subst, Ok}
-use Rattle.tetgen.specs.Run.{EndsSo}
+use Rattle.tetgen_run.specs.Run.{EndsSo}
 use Rattle.run_steps.specs.Seen.{FolderSeen, SinkSeen, folder_seen, sink_seen}
-use Rattle.tetgen.proofs.Runs.{end_answer, end_left, answer_complete, stop_answer, stop_left, stop_told}
-use Rattle.tetgen.proofs.run.run_tetgen.Goals as goal
+use Rattle.tetgen_run.proofs.Runs.{end_answer, end_left, answer_complete, stop_answer, stop_left, stop_told}
+use Rattle.tetgen_run.proofs.run.run_tetgen.Goals as goal
 
 pub returns-in-Ok-clause-complete : goal.returns-in-Ok-clause-complete
 returns-in-Ok-clause-complete g c =

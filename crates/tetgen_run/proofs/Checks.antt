@@ -15,11 +15,11 @@ use Rattle.run_steps.specs.declared.status.Status.{Status}
 use Rattle.run_steps.specs.declared.status.Status.TheVariants.{Done, Usage, NoMemory, WriteFault}
 use Rattle.tet_ports.specs.Counts.{Rose}
 use Rattle.tet_ports.specs.Files.{Files}
-use Rattle.tetgen.specs.Run.{Checked, ChecksSo, EndsByCheck, IsCheckAnswer, IsLeftByCheck, HasNoFault, IsEarly, IsPut, IsSummed, IsTellable, IsTold, IsUnchanged, answer_of, check_seen, numbering_in, sound_summary, status_of_check, with_summary}
-use Rattle.tetgen.specs.Stops.{stop_of_check}
-use Rattle.tetgen.specs.declared.stop.Stop.{Stop}
-use Rattle.tetgen.specs.declared.stop.Stop.TheVariants.{Refused, Unwritten, Unsummed, NoMemory as Wanting}
-use Rattle.tetgen.proofs.Refusals.{IsRefusal, IsSilent, not_true, not_done, refusal_told}
+use Rattle.tetgen_run.specs.Run.{Checked, ChecksSo, EndsByCheck, IsCheckAnswer, IsLeftByCheck, HasNoFault, IsEarly, IsPut, IsSummed, IsTellable, IsTold, IsUnchanged, answer_of, check_seen, numbering_in, sound_summary, status_of_check, with_summary}
+use Rattle.tetgen_run.specs.Stops.{stop_of_check}
+use Rattle.tetgen_run.specs.declared.stop.Stop.{Stop}
+use Rattle.tetgen_run.specs.declared.stop.Stop.TheVariants.{Refused, Unwritten, Unsummed, NoMemory as Wanting}
+use Rattle.tetgen_run.proofs.Refusals.{IsRefusal, IsSilent, not_true, not_done, refusal_told}
 
 -- ---- the refusals of a check
 

@@ -1,8 +1,8 @@
 //! Why a run stopped before its end.
 
 ghost use Rattle.std.specs.Prelude.{◌≡◌, None};
-ghost use Rattle.tetgen.specs.Stops.{stop_of_words, stop_of_check, stop_of_store};
-ghost use Rattle.tetgen.specs.declared.stop.Stop.TheVariants.{Refused};
+ghost use Rattle.tetgen_run.specs.Stops.{stop_of_words, stop_of_check, stop_of_store};
+ghost use Rattle.tetgen_run.specs.declared.stop.Stop.TheVariants.{Refused};
 
 use check_steps::CheckFault;
 use command_words::WordsFault;
@@ -12,7 +12,8 @@ use tet_ports::NoMemory;
 /// Why a run stopped before its end.
 #[derive(Drop)]
 pub enum Stop {
-    /// An answer before which nothing was stored, and the numbers of the input's points, where they are on their grid.
+    /// An answer before which nothing was stored, and the numbers of the input's points, where they
+    /// are on their grid.
     Refused {
         status: Status,
         numbering: Option<Numbering>,
@@ -84,7 +85,7 @@ impl From<StoreStop> for Stop {
 
 impl From<NoMemory> for Stop {
     ghost use Rattle.std.specs.Prelude.{◌≡◌};
-    ghost use Rattle.tetgen.specs.declared.stop.Stop.TheVariants.{NoMemory as OutOfMemory};
+    ghost use Rattle.tetgen_run.specs.declared.stop.Stop.TheVariants.{NoMemory as OutOfMemory};
 
     ghost from_gives = { λ _ stop. stop ≡ OutOfMemory };
 

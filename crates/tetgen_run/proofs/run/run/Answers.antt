@@ -2,9 +2,9 @@ use Rattle.std.proofs.Common.{◌≡◌, refl, subst, Ok, arith}
 use Rattle.std.proofs.lemmas.Result.{err_from_is_err_and}
 use Rattle.run_steps.specs.Seen.{FolderSeen, SinkSeen, folder_seen, sink_seen}
 use Rattle.run_steps.specs.Stores.{AreLeft, with_files}
-use Rattle.tetgen.proofs.Runs.{bound_end, by_check, want_end, failed_wider, mesh_end, store_end, summed_end, outputs_run, run_told}
+use Rattle.tetgen_run.proofs.Runs.{bound_end, by_check, want_end, failed_wider, mesh_end, store_end, summed_end, outputs_run, run_told}
 use Rattle.run_steps.proofs.Wider.{IsWithin, input_wider}
-use Rattle.tetgen.proofs.run.run.Goals as goal
+use Rattle.tetgen_run.proofs.run.run.Goals as goal
 
 pub returns-in_err-bound : goal.returns-in_err-bound
 returns-in_err-bound g c =

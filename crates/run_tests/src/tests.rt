@@ -1,6 +1,5 @@
 //! Runs over a folder and streams in memory.
 
-use crate::run::run_tetgen;
 use crate::test_inputs::{
     BAR, BAR_ELE, BAR_FACE, BAR_NODE, BAR_SMESH, CUBE, DECIMALS, GREATEST, NEGATIVE, PYRAMID,
     SMALLEST, THIRD, WRITTEN,
@@ -9,6 +8,7 @@ use run_steps::{Status, append_number};
 use std::alloc::Global;
 use std::test::Fail;
 use tet_ports::{Bytes, MemFolder, MemSink, Name, NoMemory, Words};
+use tetgen_run::run_tetgen;
 
 /// A file by its name, with its text.
 pub(crate) type File<'a> = (&'a [u8], &'a [u8]);
@@ -417,7 +417,8 @@ fn decimals_are_written_back(rt: HostRuntime) -> Result<(), Fail> {
     Ok(())
 }
 
-/// What fails in a run: the nth fetch, the nth store or the first put to a stream, with this many bytes kept.
+/// What fails in a run: the nth fetch, the nth store or the first put to a stream, with this many
+/// bytes kept.
 #[derive(Clone, Copy)]
 enum Failing {
     Fetch { nth: u32 },

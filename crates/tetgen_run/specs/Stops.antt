@@ -4,8 +4,8 @@ use Rattle.check_steps.specs.declared.fault.CheckFault.{CheckFault}
 use Rattle.check_steps.specs.declared.fault.CheckFault.TheVariants as check
 use Rattle.run_steps.specs.declared.status.LimitKind.TheVariants.{Bytes, MeshPoints, Grid}
 use Rattle.run_steps.specs.declared.status.Status.TheVariants.{Usage, Missing, ReadFault, BadText, Limit, Unsound}
-use Rattle.tetgen.specs.declared.stop.Stop.{Stop}
-use Rattle.tetgen.specs.declared.stop.Stop.TheVariants.{Refused, Unwritten, NoMemory}
+use Rattle.tetgen_run.specs.declared.stop.Stop.{Stop}
+use Rattle.tetgen_run.specs.declared.stop.Stop.TheVariants.{Refused, Unwritten, NoMemory}
 use Rattle.run_steps.specs.declared.store.StoreStop.{StoreStop}
 use Rattle.run_steps.specs.declared.store.StoreStop.TheVariants.{Failed, NoMemory as StoreWanting}
 use Rattle.command_words.specs.declared.fault.WordsFault.{WordsFault}
