@@ -74,8 +74,7 @@ abbrev pub SameSignsLaw : Type 0
 SameSignsLaw = (f : ℕ) (ps qs : List Point) → AreMultiples f ps qs → HaveSameSigns ps qs
 
 -- The text of a coordinate is read back as its decimal, which is the number that so many grid units are. With more than 35 decimals it has
--- more
--- digits than a decimal may have
+-- more digits than a decimal may have
 abbrev pub RereadLaw : Type 0
 RereadLaw = (g : Grid) (c : ℤ) → unsigned_abs c ≤ limit → g.halvings ≤ 12 → (decimal_at g c).scale ≤ 35
     → (decimal_of (grid_text g c) ≡ Some (decimal_at g c)) × IsNumberAt g c (decimal_at g c)

@@ -22,8 +22,7 @@ use Rattle.reread_laws.specs.NodeRead.{IsBareTable, IsLegiblePoint}
 use Rattle.reread_laws.specs.Reread.{IsShort}
 
 -- A mesh whose texts can be read: points without attributes and markers, each coordinate with at most 35 decimals; names of its points in
--- the list of points
--- that is written; and numbers and markers of at most 18 digits
+-- the list of points that is written; and numbers and markers of at most 18 digits
 pub record IsReadable (table : NodeTable) (added : List Point) (names : List ℕ) (first : ℕ) (ps : List Point) (rows : List Tet) (faces : List FaceRow) : Type 0 where
   pub bare : IsBareTable table
   pub legible : All (IsLegiblePoint table.grid) (table.listed ++ added)

@@ -75,9 +75,8 @@ answer_of (Err Wanting) = NoMemory
 abbrev pub status_of_check : CheckFault → Status
 status_of_check fault = answer_of (Err (stop_of_check fault))
 
--- The cause of each answer of a check: words in the grammar and a sound mesh; words against it; the refusal of the first step that
--- refuses; a
--- fault of the sink of the line; and want of memory is free
+-- The cause of each answer of a check: words in the grammar and a sound mesh; words against it; the refusal of the first step that refuses;
+-- a fault of the sink of the line; and want of memory is free
 abbrev pub IsCheckAnswer : List (List ℕ) → FolderSeen → SinkSeen → Status → Type 0
 IsCheckAnswer words folder out Done = (count : ℕ) × (words_fault words ≡ None) × Checked (options_of words) folder (Ok count)
 IsCheckAnswer words folder out (Usage word place) = words_fault words ≡ Some (word, place)
@@ -90,8 +89,7 @@ IsCheckAnswer words folder out status =
 -- ---- the answer
 
 -- The cause of each answer of a run that makes a mesh: Done where there are outputs; a fault of the folder in a store; a fault of the sink
--- of
--- the summary; want of memory is free; and any other answer is the refusal of a step
+-- of the summary; want of memory is free; and any other answer is the refusal of a step
 abbrev pub IsMeshAnswer : List (List ℕ) → FolderSeen → SinkSeen → Status → Type 0
 IsMeshAnswer words folder out Done = (outputs : Outputs) × OutputsOfRun words folder (Ok outputs)
 IsMeshAnswer words folder out (WriteFault None) = Rose out.faults_before out.faults_now
@@ -113,8 +111,7 @@ abbrev pub HasNoFault : FolderSeen → SinkSeen → Type 0
 HasNoFault folder out = ¬ Rose folder.faults_before folder.faults_now × ¬ Rose out.faults_before out.faults_now
 
 -- Where the files are told, no count of faults rose and memory was not wanting, each answer that has a cause is the answer: the refusal of
--- the
--- first step that refuses, and Done where none does. Only where facets are tangled there may be more: Done, and the anomalies that hold
+-- the first step that refuses, and Done where none does. Only where facets are tangled there may be more: Done, and the anomalies that hold
 abbrev pub IsComplete : List (List ℕ) → FolderSeen → SinkSeen → Status → Type 0
 IsComplete words folder out status =
     (told : Files) → folder.files_before ≡ Some told → HasNoFault folder out → status ≢ NoMemory
@@ -140,14 +137,10 @@ pub record IsRegularMesh (table : NodeTable) (mesh : Meshed) : Type 0 where
   pub hidden : mesh.hidden ≡ Some (hidden_count (length mesh.points) mesh.tetrahedra)
 
 -- The outputs are those of one mesh of the input that the words name. Its points are those of the input and the added ones, its triangles
--- those of the
--- facets. Each rational point on no facet and off all face planes is strictly inside exactly one of its tetrahedra, or inside none where
--- it is out; facets
--- inside the mesh are unions of its faces; every other shared face is locally Delaunay; any two tetrahedra are properly met (`IsMesh` of
--- the complex).
--- Of points alone it is the Delaunay list, and of weighted points the regular list: each triangulates the hull of all the points. No other
--- outputs
--- are those of the mesh.
+-- those of the facets. Each rational point on no facet and off all face planes is strictly inside exactly one of its tetrahedra, or inside
+-- none where it is out; facets inside the mesh are unions of its faces; every other shared face is locally Delaunay; any two tetrahedra are
+-- properly met (`IsMesh` of the complex). Of points alone it is the Delaunay list, and of weighted points the regular list: each
+-- triangulates the hull of all the points. No other outputs are those of the mesh.
 pub record IsMeshOfRun (words : List (List ℕ)) (folder : FolderSeen) (outputs : Outputs) : Type 0 where
   pub understood : words_fault words ≡ None
   pub input : Input
@@ -180,9 +173,8 @@ PartlySummed before None now = ⊥
 PartlySummed before (Some line) now = PartlyPut before line now
 
 -- What each answer leaves. Done: the files with the mesh's and the summary. A fault of a store: the files before the named one whole, of
--- that
--- one a prefix or nothing. A fault of the summary: all files whole, and a prefix of the summary. Want of memory: the files as they were, or
--- with some of the mesh's files, from the first on, whole. Every other answer: all as it was.
+-- that one a prefix or nothing. A fault of the summary: all files whole, and a prefix of the summary. Want of memory: the files as they
+-- were, or with some of the mesh's files, from the first on, whole. Every other answer: all as it was.
 abbrev pub IsLeftByMesh : List (List ℕ) → FolderSeen → SinkSeen → Status → Type 0
 IsLeftByMesh words folder out Done = (outputs : Outputs) × IsMeshOfRun words folder outputs
     × (folder.files_now ≡ with_files folder.files_before (in_order outputs.texts))

@@ -11,9 +11,8 @@ use Rattle.weighted_steps.specs.declared.fault.RegularFault.{RegularFault}
 use Rattle.weighted_steps.specs.declared.fault.RegularFault.TheVariants.{NoMemory}
 use Rattle.weighted_steps.specs.declared.meshing.RegularMesh.{RegularMesh}
 
--- The regular list covers the hull of all its points once, hidden ones included, and its rows are properly met; there is one such list;
--- and a
--- point counts as hidden exactly where it is a corner of no row
+-- The regular list covers the hull of all its points once, hidden ones included, and its rows are properly met; there is one such list; and
+-- a point counts as hidden exactly where it is a corner of no row
 pub record RegularListLaw : Type 0 where
   pub triangulation : (ps : List Point) (ws : List ℤ) (rows : List Tet) → IsRegularList ps ws rows → IsTriangulation ps rows
   pub only : (ps : List Point) (ws : List ℤ) (rows others : List Tet) → IsRegularList ps ws rows → IsRegularList ps ws others
