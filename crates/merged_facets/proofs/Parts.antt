@@ -12,7 +12,7 @@ use Rattle.geo_laws.specs.declared.complex.Facet.{Facet as StoredFacet}
 use Rattle.geo_laws.proofs.Members.{contains_of, at_place}
 use Rattle.geo_laws.proofs.Complexes.{length_change_last, facet_follows, last_follows, last_stays, ends_at}
 use Rattle.merge_laws.specs.Merged.{no_facet, merged_facet}
-use Rattle.merged_facets.specs.MergedComplex.{with_parts, with_polygons, with_holes, IsMaking, HasParts}
+use Rattle.merged_facets.specs.MergedComplex.{with_parts, with_polygons, with_holes, markers, IsMergedComplex, IsMaking, HasParts}
 use Rattle.merged_facets.proofs.Outer.{append_nil, no_polygon, run_none, run_more}
 
 abbrev pub raised : StoredFacet → StoredFacet
@@ -54,6 +54,13 @@ last_pushed g (f ∷ fs) =
     let n = length-append fs (no_facet ∷ []) in
     behind (with_parts g) f (fs ++ no_facet ∷ []) (omega arith) ∙ ap (λ (xs : List Facet). f ∷ xs) (last_pushed g fs)
 
+-- a change that keeps markers keeps all of them
+markers_stay : (change : StoredFacet → StoredFacet) (fs : List StoredFacet) → ((f : StoredFacet) → (change f).marker ≡ f.marker)
+    → map (λ f. f.marker) (change_last change fs) ≡ map (λ f. f.marker) fs
+markers_stay change [] same = refl
+markers_stay change (f ∷ []) same = ap (λ (m : Option ℤ). m ∷ []) (same f)
+markers_stay change (f ∷ g ∷ fs) same = ap (λ (ms : List (Option ℤ)). f.marker ∷ ms) (markers_stay change (g ∷ fs) same)
+
 -- ---- a polygon or a hole point more
 
 slice_kept : (ps : List Polygon) (p : Polygon) (a b : ℕ) → a ≤ b → b ≤ length ps → slice_range (ps ++ p ∷ []) a b ≡ slice_range ps a b
@@ -94,12 +101,13 @@ hole_facets ps at (f ∷ g ∷ fs) = ap (λ (xs : List Facet). flat_facet ps f �
 -- ---- parts
 
 pub no_parts : (ps : List Polygon) (d : Complex) → IsMaking ps d → HasParts ps d no_facet d
-no_parts ps d making = record { making = making; count = refl; facets_are = sym (last_same (facets d)) }
+no_parts ps d making = record { making = making; count = refl; markers_are = refl; facets_are = sym (last_same (facets d)) }
 
 pub parts_then : (ps : List Polygon) (c d e : Complex) (g h : Facet) → HasParts ps c g d → HasParts ps d h e → HasParts ps c (with_parts h g) e
 parts_then ps c d e g h one two = record {
   making = two.making;
   count = two.count ∙ one.count;
+  markers_are = two.markers_are ∙ one.markers_are;
   facets_are = two.facets_are ∙ ap (change_last (with_parts h)) one.facets_are ∙ last_fused g h (facets c);
 }
 
@@ -111,6 +119,7 @@ polygon_put ps d q cs line making some l corners lines = record {
     among = All-push (Contains ps) d.polygons new making.among (subst (Contains ps) is (contains_of ps (get_or ps q no_polygon) (at_place ps q no_polygon l)));
   };
   count = length_change_last raised d.facets;
+  markers_are = markers_stay raised d.facets (λ f. refl);
   facets_are = polygon_facets d.polygons new 0 d.facets making.following;
 }
   where
@@ -124,6 +133,7 @@ pub hole_put : (ps : List Polygon) (d : Complex) (at : RationalPoint) → IsMaki
 hole_put ps d at making = record {
   making = record { following = last_stays 0 (length d.polygons) d.facets (holed at) (λ f. (refl, refl)) making.following; among = making.among };
   count = length_change_last (holed at) d.facets;
+  markers_are = markers_stay (holed at) d.facets (λ f. refl);
   facets_are = hole_facets d.polygons at d.facets;
 }
 
@@ -173,16 +183,35 @@ pub record AreMerged (group : ℕ → ℕ) (c : Complex) (f : ℕ) (d : Complex)
   pub making : IsMaking c.polygons d
   pub count : length d.facets ≡ f
   pub facets_are : facets d ≡ map (merged_facet group c) (numbers_below f)
+  pub markers_are : markers d ≡ take f (markers c)
 
-pub merged_more : (group : ℕ → ℕ) (c : Complex) (f : ℕ) (m : Option ℤ) (d e new : Complex) → AreMerged group c f d → e ≡ with_facet m d → HasParts c.polygons e (merged_facet group c f) new → AreMerged group c (f + 1) new
-merged_more group c f m d e new so put parts = record {
+pub merged_more : (group : ℕ → ℕ) (c : Complex) (f : ℕ) (x : StoredFacet) (d e new : Complex) → f < length c.facets → HoldsAt (λ g. g ≡ x) c.facets f → AreMerged group c f d → e ≡ with_facet x.marker d → HasParts c.polygons e (merged_facet group c f) new → AreMerged group c (f + 1) new
+merged_more group c f x d e new l is so put parts = record {
   making = parts.making;
   count = parts.count ∙ ap (λ (x : Complex). length x.facets) put ∙ length-append d.facets _ ∙ ap (λ n. n + 1) so.count;
   facets_are =
-      parts.facets_are ∙ ap (λ (x : Complex). change_last (with_parts (merged_facet group c f)) (facets x)) put ∙ ap (change_last (with_parts (merged_facet group c f))) (facet_put m d)
+      parts.facets_are ∙ ap (λ (x : Complex). change_last (with_parts (merged_facet group c f)) (facets x)) put ∙ ap (change_last (with_parts (merged_facet group c f))) (facet_put x.marker d)
       ∙ last_pushed (merged_facet group c f) (facets d) ∙ ap (λ (xs : List Facet). xs ++ merged_facet group c f ∷ []) so.facets_are
       ∙ sym (map-range_with_len_more (merged_facet group c) 0 f f zero_first);
+  markers_are =
+      parts.markers_are ∙ ap markers put ∙ map-append (λ (g : StoredFacet). g.marker) d.facets _ ∙ ap (λ (ms : List (Option ℤ)). ms ++ x.marker ∷ []) so.markers_are
+      ∙ sym (one_more c.facets f x l is);
 }
   where
+    one_more : (fs : List StoredFacet) (n : ℕ) (y : StoredFacet) → n < length fs → HoldsAt (λ g. g ≡ y) fs n
+        → take (n + 1) (map (λ g. g.marker) fs) ≡ take n (map (λ g. g.marker) fs) ++ y.marker ∷ []
+    one_more fs n y k at =
+        let long = length-map fs (λ (g : StoredFacet). g.marker) in
+        take_more (map (λ (g : StoredFacet). g.marker) fs) n y.marker (omega arith)
+        ∙ ap (λ (m : Option ℤ). take n (map (λ (g : StoredFacet). g.marker) fs) ++ m ∷ []) (get_or-map (λ (g : StoredFacet). g.marker) fs n y y.marker k ∙ ap (λ (g : StoredFacet). g.marker) (at y))
+
     zero_first : 0 + f ≡ f
     zero_first = omega arith
+
+-- all of them
+pub merged_all : (group : ℕ → ℕ) (c : Complex) (f : ℕ) (d : Complex) → f ≡ length c.facets → AreMerged group c f d → IsMergedComplex group c d
+merged_all group c f d e so = record {
+  facets_are = so.facets_are ∙ ap (λ n. map (merged_facet group c) (numbers_below n)) e;
+  markers_are = so.markers_are ∙ take_all f (markers c) (omega (arith, e, length-map c.facets (λ (g : StoredFacet). g.marker)));
+  polygons = so.making.among;
+}

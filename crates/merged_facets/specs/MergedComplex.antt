@@ -1,14 +1,20 @@
 -- The complex of the merged facets, and how it is put together.
-use Rattle.std.specs.Prelude.{◌≡◌, ◌≢◌, ℕ, ◌+◌, ◌<◌, ◌≤◌, Option, Some, None, List, [], ◌++◌, map, length, get_or, slice_range, All, Contains}
+use Rattle.std.specs.Prelude.{◌≡◌, ◌≢◌, ℕ, ℤ, ◌+◌, ◌<◌, ◌≤◌, Option, Some, None, List, [], ◌++◌, map, length, get_or, slice_range, All, Contains}
 use Rattle.sign_predicates.specs.Point.{RationalPoint}
 use Rattle.geo_laws.specs.Delaunay.{numbers_below}
 use Rattle.geo_laws.specs.Facet.{Facet}
 use Rattle.geo_laws.specs.Complex.{Polygon, Complex, corner_lists, facets, AreFollowing, change_last}
 use Rattle.merge_laws.specs.Merged.{merged_facet}
 
--- A complex whose facet at each place is the merged one, each polygon of which is one of the complex as read
+-- the markers of the facets
+abbrev pub markers : Complex → List (Option ℤ)
+markers c = map (λ f. f.marker) c.facets
+
+-- A complex whose facet at each place is the merged one, with the polygons and hole points of its members, each polygon one of the complex
+-- as read, and with the marker of the facet that was read there
 pub record IsMergedComplex (group : ℕ → ℕ) (c d : Complex) : Type 0 where
   pub facets_are : facets d ≡ map (merged_facet group c) (numbers_below (length c.facets))
+  pub markers_are : markers d ≡ markers c
   pub polygons : All (Contains c.polygons) d.polygons
 
 -- ---- the members of groups, by their numbers below n
@@ -53,4 +59,5 @@ pub record IsMaking (polygons : List Polygon) (d : Complex) : Type 0 where
 pub record HasParts (polygons : List Polygon) (old : Complex) (parts : Facet) (new : Complex) : Type 0 where
   pub making : IsMaking polygons new
   pub count : length new.facets ≡ length old.facets
+  pub markers_are : markers new ≡ markers old
   pub facets_are : facets new ≡ change_last (with_parts parts) (facets old)

@@ -82,8 +82,9 @@ fn add_members(
 }
 
 /// The complex of the merged facets: the facet at each place has the polygons and hole points of
-/// all facets of the group with this number, in file order, and none where no group has it. Hole
-/// points of the complex and regions are left out: they lie between facets.
+/// all facets of the group with this number, in file order, and none where no group has it. Its
+/// marker is that of the facet that was there, which all facets of a group have. Hole points of the
+/// complex and regions are left out: they lie between facets.
 pub fn merged_complex(
     alloc: Global,
     complex: &Complex,
