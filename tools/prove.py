@@ -70,13 +70,14 @@ def clock(since):
 
 
 def copy_sources(order, to):
-    """A copy of what rt reads of the crates."""
+    """A copy of what rt reads of the crates. Its list has these alone, since rt wants a folder for each crate that is listed."""
     for name in order:
         for part in PARTS:
             if os.path.isdir(f"{TOP}/crates/{name}/{part}"):
                 shutil.copytree(f"{TOP}/crates/{name}/{part}", f"{to}/crates/{name}/{part}")
-    for file in ("crates.txt", "HANDLES"):
-        shutil.copy2(f"{TOP}/{file}", f"{to}/{file}")
+    shutil.copy2(f"{TOP}/HANDLES", f"{to}/HANDLES")
+    with open(f"{TOP}/crates.txt", encoding="utf-8") as lines, open(f"{to}/crates.txt", "w", encoding="utf-8") as out:
+        out.writelines(it for it in lines if it.split(":")[0] in order)
 
 
 def link(name, one, other):

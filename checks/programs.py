@@ -1,0 +1,102 @@
+"""Runs the built program where a proof says that two inputs have one mesh, on more inputs than tests would pay for: coplanar triangles in place of whole facets,
+cut in all ways, and triangles with points of their own in place of shared ones. It prints what differs. The program is the one that rt ci has built."""
+import itertools
+import os
+import subprocess
+import sys
+import tempfile
+
+TOP = os.path.dirname(os.path.dirname(os.path.abspath(__file__)))
+PROGRAM = f"{TOP}/crates/tetgen/out/tetgen"
+
+
+def mesh(points, facets):
+    """The tetrahedra of a complex by their corners' coordinates, or the status with which the run ends."""
+    with tempfile.TemporaryDirectory() as folder:
+        with open(f"{folder}/a.poly", "w", encoding="ascii") as file:
+            file.write(f"{len(points)} 3 0 0\n")
+            file.writelines(f"{number} {x} {y} {z}\n" for number, (x, y, z) in enumerate(points))
+            file.write(f"{len(facets)} 0\n")
+            file.writelines(f"1\n{len(facet)} {' '.join(map(str, facet))}\n" for facet in facets)
+            file.write("0\n0\n")
+        ran = subprocess.run([PROGRAM, "-pQ", "a.poly"], cwd=folder, capture_output=True, check=False)
+        if ran.returncode:
+            return f"status {ran.returncode}: {ran.stderr.decode().strip()}"
+        with open(f"{folder}/a.1.node", encoding="ascii") as file:
+            at = [line.split()[1:4] for line in file.readlines()[1:]]
+        with open(f"{folder}/a.1.ele", encoding="ascii") as file:
+            return sorted(sorted(tuple(at[int(corner)]) for corner in line.split()[1:]) for line in file.readlines()[1:])
+
+
+def halves(square, way):
+    a, b, c, d = square
+    return [(a, b, c), (a, c, d)] if way else [(b, c, d), (b, d, a)]
+
+
+def cut_cubes():
+    """Each of the 64 ways to cut the sides of a cube into two triangles."""
+    points = [(0, 0, 0), (2, 0, 0), (2, 2, 0), (0, 2, 0), (0, 0, 2), (2, 0, 2), (2, 2, 2), (0, 2, 2)]
+    sides = [(0, 1, 2, 3), (4, 5, 6, 7), (0, 4, 5, 1), (1, 5, 6, 2), (2, 6, 7, 3), (3, 7, 4, 0)]
+    whole = mesh(points, sides)
+    for ways in itertools.product((False, True), repeat=len(sides)):
+        cut = [half for side, way in zip(sides, ways) for half in halves(side, way)]
+        if mesh(points, cut) != whole:
+            yield f"a cube, its sides cut so: {ways}"
+
+
+def turn(a, b, c):
+    return (b[0] - a[0]) * (c[1] - a[1]) - (b[1] - a[1]) * (c[0] - a[0])
+
+
+def triangulations(outline, corners):
+    """All ways to cut the polygon with these corners into triangles whose corners are corners of it."""
+    if len(corners) < 3:
+        yield []
+        return
+    first, last = corners[0], corners[-1]
+    for k in range(1, len(corners) - 1):
+        a, b, c = (outline[it] for it in (first, corners[k], last))
+        others = [outline[it] for it in range(len(outline)) if it not in (first, corners[k], last)]
+        if turn(a, b, c) <= 0 or any(min(turn(a, b, p), turn(b, c, p), turn(c, a, p)) >= 0 for p in others):
+            continue
+        for left in triangulations(outline, corners[: k + 1]):
+            for right in triangulations(outline, corners[k:]):
+                yield [*left, *right, (first, corners[k], last)]
+
+
+def cut_prisms():
+    """A prism over an L: each way to cut its bottom and its top, with all sides cut in one way or the other, and each way to cut its sides."""
+    outline = [(0, 0), (4, 0), (4, 2), (2, 2), (2, 4), (0, 4)]
+    count = len(outline)
+    points = [(x, y, z) for z in (0, 3) for x, y in outline]
+    sides = [(i, (i + 1) % count, (i + 1) % count + count, i + count) for i in range(count)]
+    whole = mesh(points, [range(count), range(count, 2 * count), *sides])
+    ends = [*triangulations(outline, [*range(count)])]
+    same = [(bottom, top, (way,) * count) for bottom in ends for top in ends for way in (False, True)]
+    each = [(ends[0], ends[0], ways) for ways in itertools.product((False, True), repeat=count)]
+    for bottom, top, ways in same + each:
+        upper = [tuple(corner + count for corner in triangle) for triangle in top]
+        cut = [half for side, way in zip(sides, ways) for half in halves(side, way)]
+        if mesh(points, [*bottom, *upper, *cut]) != whole:
+            yield f"a prism over an L, cut so: {bottom}, {top}, {ways}"
+
+
+def own_points(across=23):
+    """The sides of a cube, cut into triangles each of which has points of its own: the mesh of the same triangles with shared points."""
+    shared, facets = {}, []
+    for axis, level, i, j in itertools.product(range(3), (0, across), range(across), range(across)):
+        square = [(i, j), (i + 1, j), (i + 1, j + 1), (i, j + 1)]
+        corners = [(*at[:axis], level, *at[axis:]) for at in square]
+        facets += halves([shared.setdefault(corner, len(shared)) for corner in corners], True)
+    points = [*shared]
+    own = [points[corner] for facet in facets for corner in facet]
+    if mesh(own, [range(3 * k, 3 * k + 3) for k in range(len(facets))]) != mesh(points, facets):
+        yield f"{len(facets)} triangles with points of their own"
+
+
+if os.path.exists(PROGRAM):
+    for found in (cut_cubes(), cut_prisms(), own_points()):
+        for it in found:
+            print(f"another mesh: {it}")
+else:
+    print(f"note: {PROGRAM} is not built, so it was not run", file=sys.stderr)
