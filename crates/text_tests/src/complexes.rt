@@ -215,7 +215,7 @@ fn read(alloc: Global, form: Form, text: &[u8]) -> Result<PlcText, PlcFault>
     ensures { IfOk result HasFewParts }
 {
     let bytes = Bytes::from_slice(alloc, text)?;
-    if bytes.len() > 100_000 {
+    if bytes.len() > 200_000 {
         return Err(PlcFault::NoMemory);
     }
     match form {
