@@ -118,12 +118,18 @@ class Proofs:
                 self.turn.wait()
             return None
 
+    def jobs(self, name):
+        """How many modules of a crate are checked at a time: the crates under proof share the processors, and that with the longest chain, for which
+        all others will wait, has at least half of them."""
+        with self.turn:
+            longest = max([*self.doing, *self.left], key=self.chain.get)
+            share = len(self.copies) // len(self.doing)
+            return max(1, share, len(self.copies) // 2 if name == longest else 1)
+
     def work(self, copy):
         """Proves crates in one copy, until none is left."""
         while (name := self.next()) is not None:
-            with self.turn:
-                jobs = max(1, len(self.copies) // max(1, len(self.doing)))
-            status = self.run(name, f"{copy}/crates/{name}", ["lib", "--jobs", str(jobs)])
+            status = self.run(name, f"{copy}/crates/{name}", ["lib", "--jobs", str(self.jobs(name))])
             with self.turn:
                 if status:
                     self.failed = self.failed or name
