@@ -17,7 +17,7 @@ use Rattle.sign_predicates.specs.declared.tetrahedron.Corners.{Corners}
 use Rattle.sign_predicates.specs.declared.tetrahedron.Sign.{Sign}
 use Rattle.sign_predicates.specs.declared.tetrahedron.Sign.TheVariants.{Below, Zero, Above}
 use Rattle.sign_predicates.specs.declared.lifted.Frame.{Frame}
-use Rattle.sign_predicates.specs.declared.lifted.Volumes.{Volumes}
+use Rattle.sign_predicates.specs.declared.volumes.Volumes.{Volumes}
 use Rattle.sign_predicates.proofs.Products.{three_squares}
 use Rattle.sign_predicates.proofs.Terms.{PointE, pointE, of_point, from_toE, dotE, detE, square_lengthE}
 use Rattle.sign_predicates.proofs.Ties.{one_sign}

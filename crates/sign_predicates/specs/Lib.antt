@@ -3,6 +3,7 @@ pub mod Orientation
 pub mod Sphere
 pub mod Lifted
 pub mod Vector
+pub mod Volumes
 pub mod Sign
 pub mod Meeting
 pub mod Turns

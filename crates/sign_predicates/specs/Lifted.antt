@@ -8,7 +8,7 @@ use Rattle.sign_predicates.specs.declared.tetrahedron.Corners.{Corners}
 use Rattle.sign_predicates.specs.declared.tetrahedron.Sign.{Sign}
 use Rattle.sign_predicates.specs.declared.tetrahedron.Numbers.{Numbers}
 use Rattle.sign_predicates.specs.declared.lifted.Frame.{Frame}
-use Rattle.sign_predicates.specs.declared.lifted.Volumes.{Volumes}
+use Rattle.sign_predicates.specs.declared.volumes.Volumes.{Volumes}
 
 -- each coordinate is from 0 to 2^20
 pub record IsNarrow (q : Point) : Type 0 where
@@ -31,13 +31,6 @@ rise a b = square_length b -ℤ square_length a
 -- six times the signed volumes of e with each three of the corners, named after the corner left out
 abbrev pub volumes_of : Corners → Point → Volumes
 volumes_of t e = record { a = orient e t.b t.c t.d; b = orient e t.a t.c t.d; c = orient e t.a t.b t.d; d = orient e t.a t.b t.c }
-
--- each volume is that of three short vectors
-pub record AreShortVolumes (v : Volumes) : Type 0 where
-  pub a_short : unsigned_abs v.a ≤ 3 * 2 ^ 61
-  pub b_short : unsigned_abs v.b ≤ 3 * 2 ^ 61
-  pub c_short : unsigned_abs v.c ≤ 3 * 2 ^ 61
-  pub d_short : unsigned_abs v.d ≤ 3 * 2 ^ 61
 
 -- so many steps from the frame's corner
 abbrev pub IsStepsFrom : ℤ → ℤ → ℤ → ℤ → Type 0

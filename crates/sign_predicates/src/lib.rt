@@ -14,6 +14,7 @@ mod sign;
 mod sphere;
 mod tetrahedron;
 mod vector;
+mod volumes;
 
 pub use boxes::boxes_apart;
 pub use centroid::{normal_sign, orient_centroid, turn_centroid, turn_sign};

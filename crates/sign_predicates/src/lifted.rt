@@ -4,11 +4,13 @@ ghost use Rattle.sign_predicates.specs.Point.{Point, from_to};
 ghost use Rattle.sign_predicates.specs.Sphere.{in_sphere, IsTieBySides};
 ghost use Rattle.sign_predicates.specs.Vector.{IsShort};
 ghost use Rattle.sign_predicates.specs.Lifted.{rise, IsNarrow, IsStepsFrom, IsInFrame, IsSphereSign};
-ghost use Rattle.sign_predicates.specs.Lifted.{volumes_of, AreShortVolumes, IsOutsideInFrame};
+ghost use Rattle.sign_predicates.specs.Lifted.{volumes_of, IsOutsideInFrame};
+ghost use Rattle.sign_predicates.specs.Volumes.{AreShortVolumes};
 
 use crate::sign::{is_below, sign_of, vanishes};
 use crate::sphere::{short_sum_of_four, wins_by_sides};
-use crate::vector::{Vector, minor, short_det_of_minors, sum_of_squares};
+use crate::vector::{Vector, sum_of_squares};
+use crate::volumes::{Volumes, short_volumes};
 use crate::{GridPoint, Numbers, Sign};
 use std::marker::Model;
 
@@ -111,16 +113,6 @@ pub struct LiftedCorners {
     pub d: Lifted,
 }
 
-/// Six times the signed volumes of a point with each three of four corners, named after the corner
-/// that is left out.
-#[derive(Clone, Copy)]
-struct Volumes {
-    a: i64,
-    b: i64,
-    c: i64,
-    d: i64,
-}
-
 /// The vector from `a` to `b`.
 #[inline(always)]
 fn from_to(a: Lifted, b: Lifted) -> Vector
@@ -143,25 +135,13 @@ fn rise(a: Lifted, b: Lifted) -> i64
     b.height - a.height
 }
 
-/// The volumes of `e` with each three of the corners. They have each minor once.
+/// The volumes of `e` with each three of the corners.
 #[inline(always)]
 fn volumes_of(a: Lifted, b: Lifted, c: Lifted, d: Lifted, e: Lifted) -> Volumes
     ensures value { result ≡ volumes_of (record { a = a; b = b; c = c; d = d }) e }
     ensures short { AreShortVolumes result }
 {
-    let (u, v, w, x) = (from_to(e, a), from_to(e, b), from_to(e, c), from_to(e, d));
-    let uv = minor(u, v);
-    let uw = minor(u, w);
-    let ux = minor(u, x);
-    let vw = minor(v, w);
-    let vx = minor(v, x);
-    let wx = minor(w, x);
-    Volumes {
-        a: short_det_of_minors(v, w, x, wx, vx, vw),
-        b: short_det_of_minors(u, w, x, wx, ux, uw),
-        c: short_det_of_minors(u, v, x, vx, ux, uv),
-        d: short_det_of_minors(u, v, w, vw, uw, uv),
-    }
+    short_volumes(from_to(e, a), from_to(e, b), from_to(e, c), from_to(e, d))
 }
 
 /// The sphere's sum, with the rises to the corners in place of their squared distances.

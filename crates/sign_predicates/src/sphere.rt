@@ -5,9 +5,8 @@ ghost use Rattle.sign_predicates.specs.Sphere.{IsTieBySides};
 ghost use Rattle.sign_predicates.specs.Vector.{IsShort, sphere_sum};
 
 use crate::sign::{is_above, is_below, vanishes};
-use crate::vector::{
-    Vector, are_short, det_of_minors, from_to, minor, short_det_of_minors, square_length,
-};
+use crate::vector::{Vector, are_short, det_of_minors, from_to, minor, square_length};
+use crate::volumes::short_volumes;
 use crate::{Corners, GridPoint, Numbers};
 
 /// It is above each number of a point.
@@ -54,7 +53,7 @@ pub(crate) fn short_sum_of_four(
     a as i128 * p as i128 - b as i128 * q as i128 + c as i128 * r as i128 - d as i128 * s as i128
 }
 
-/// The sphere's sum at short vectors. It has each minor once.
+/// The sphere's sum at short vectors.
 #[inline(always)]
 fn short_sphere_sum(a: Vector, b: Vector, c: Vector, d: Vector) -> i128
     requires a_short { IsShort a }
@@ -63,21 +62,16 @@ fn short_sphere_sum(a: Vector, b: Vector, c: Vector, d: Vector) -> i128
     requires d_short { IsShort d }
     ensures { result ≡ sphere_sum a b c d }
 {
-    let ab = minor(a, b);
-    let ac = minor(a, c);
-    let ad = minor(a, d);
-    let bc = minor(b, c);
-    let bd = minor(b, d);
-    let cd = minor(c, d);
+    let v = short_volumes(a, b, c, d);
     short_sum_of_four(
         square_length(a),
-        short_det_of_minors(b, c, d, cd, bd, bc),
+        v.a,
         square_length(b),
-        short_det_of_minors(a, c, d, cd, ad, ac),
+        v.b,
         square_length(c),
-        short_det_of_minors(a, b, d, bd, ad, ab),
+        v.c,
         square_length(d),
-        short_det_of_minors(a, b, c, bc, ac, ab),
+        v.d,
     )
 }
 

@@ -1,6 +1,6 @@
 use Rattle.std.proofs.Common.{◌∙◌, ◌+ℤ◌, ◌-ℤ◌, ◌*ℤ◌, ap, w64}
 use Rattle.exact_algebra.proofs.Size.{read}
-use Rattle.sign_predicates.specs.declared.lifted.Volumes.{Volumes}
+use Rattle.sign_predicates.specs.declared.volumes.Volumes.{Volumes}
 use Rattle.sign_predicates.proofs.Lifting.{rises_volumes, volume_back}
 use mir.Syntax.{w128}
 use Rattle.sign_predicates.proofs.lifted.in_sphere.Goals as goal

@@ -1,19 +1,24 @@
-use Rattle.std.proofs.Common.{◌∙◌, ◌+ℤ◌, ◌-ℤ◌, ◌*ℤ◌, w64}
+use Rattle.std.proofs.Common.{◌∙◌, ◌+ℤ◌, ◌-ℤ◌, ◌*ℤ◌, ap, w64}
 use Rattle.exact_algebra.proofs.Size.{read}
+use Rattle.sign_predicates.specs.declared.volumes.Volumes.{Volumes}
+use Rattle.sign_predicates.proofs.Lifting.{volume_back}
 use Rattle.sign_predicates.proofs.Vectors.{sphere_sum_is}
 use mir.Syntax.{w128}
 use Rattle.sign_predicates.proofs.sphere.short_sphere_sum.Goals as goal
 
 pub returns : goal.returns
 returns c =
+    let m = c.short_volumes-v.result in
+    let is = c.short_volumes-v.ensures.value in
+    let h = c.short_volumes-v.ensures.short in
     let p = read w64 c.square_length.result c.square_length.type_inv ∙ c.square_length.ensures.value in
     let q = read w64 c.square_length-2.result c.square_length-2.type_inv ∙ c.square_length-2.ensures.value in
     let r = read w64 c.square_length-3.result c.square_length-3.type_inv ∙ c.square_length-3.ensures.value in
     let s = read w64 c.square_length-4.result c.square_length-4.type_inv ∙ c.square_length-4.ensures.value in
-    let t = read w64 c.short_det_of_minors.result c.short_det_of_minors.type_inv ∙ c.short_det_of_minors.ensures.value in
-    let u = read w64 c.short_det_of_minors-2.result c.short_det_of_minors-2.type_inv ∙ c.short_det_of_minors-2.ensures.value in
-    let v = read w64 c.short_det_of_minors-3.result c.short_det_of_minors-3.type_inv ∙ c.short_det_of_minors-3.ensures.value in
-    let w = read w64 c.short_det_of_minors-4.result c.short_det_of_minors-4.type_inv ∙ c.short_det_of_minors-4.ensures.value in
+    let t = volume_back m.a h.a_short ∙ ap (λ (v : Volumes). v.a) is in
+    let u = volume_back m.b h.b_short ∙ ap (λ (v : Volumes). v.b) is in
+    let v = volume_back m.c h.c_short ∙ ap (λ (v : Volumes). v.c) is in
+    let w = volume_back m.d h.d_short ∙ ap (λ (v : Volumes). v.d) is in
     read w128 c.short_sum_of_four.result c.short_sum_of_four.type_inv
     ∙ c.short_sum_of_four.ensures
     ∙ (λ i. p i *ℤ t i -ℤ q i *ℤ u i +ℤ r i *ℤ v i -ℤ s i *ℤ w i)
