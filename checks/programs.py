@@ -1,5 +1,6 @@
-"""Runs the built program where a proof says that two inputs have one mesh, on more inputs than tests would pay for: coplanar triangles in place of whole facets,
-cut in all ways, and triangles with points of their own in place of shared ones. It prints what differs. The program is the one that rt ci has built."""
+"""Runs the built program on more inputs than tests would pay for: where a proof says that two inputs have one mesh, coplanar triangles in place of whole facets, cut
+in all ways, and triangles with points of their own in place of shared ones; and words that are not understood. It prints what differs. The program is the one
+that rt ci has built."""
 import itertools
 import os
 import subprocess
@@ -8,6 +9,43 @@ import tempfile
 
 TOP = os.path.dirname(os.path.dirname(os.path.abspath(__file__)))
 PROGRAM = f"{TOP}/crates/tetgen/out/tetgen"
+
+
+# Words that are not understood: the first such word, and the place in it.
+NOT_UNDERSTOOD = [
+    ([], 1, 1),  # no word
+    (["t", ""], 2, 1),  # an empty word
+    (["-", "t"], 1, 2),  # a hyphen alone
+    (["-y", "name"], 1, 2),  # no letter of the table
+    (["-nf-", "t"], 1, 4),  # a hyphen among letters
+    (["-p5", "t"], 1, 3),  # a digit behind no S
+    (["-pS", "name"], 1, 4),  # S at the end
+    (["-Sp7", "t"], 1, 3),  # S before a letter
+    (["-pS100001", "t"], 1, 4),  # S out of its range
+    (["-S0000000007x", "t"], 1, 3),  # S with ten digits
+    (["-S12zx", "t"], 1, 6),  # a letter behind S and its number
+    (["--", "t"], 1, 3),  # two hyphens
+    (["t", "--quality=2"], 2, 3),  # another long word
+    (["t", "--halvings"], 2, 3),  # no equals sign
+    (["t", "--halvings="], 2, 12),  # no digit
+    (["--sample=x"], 1, 10),  # a letter for a digit
+    (["--halvings=12x", "t"], 1, 14),  # a letter behind digits
+    (["--halvings=13x", "t"], 1, 12),  # two faults
+    (["--halvings=13", "t"], 1, 12),  # halvings out of range
+    (["--decimals=20", "--decimals=21", "t"], 2, 12),  # decimals out of range
+    (["--decimals=0000000001", "t"], 1, 12),  # ten digits
+    (["--sample=10001"], 1, 10),  # a sample out of range
+    (["a", "b"], 2, 1),  # a second name
+    (["a", "-n", "b.poly"], 3, 1),  # a later second name
+    (["-nQ"], 2, 1),  # no name
+    (["--sample=3", "t"], 3, 1),  # a name and the sample
+    (["a", "b", "--sample=3"], 2, 1),  # two names and the sample
+    (["t", "-x", ""], 2, 2),  # two bad words
+    (["-wp", "t.node"], 3, 2),  # weights of a complex
+    (["-w", "t.smesh"], 3, 2),  # weights of a complex by its extension
+    (["--sample=3", "-w"], 3, 2),  # weights of the sample
+    (["-rwC", "t"], 3, 2),  # weights of a mesh that is read
+]
 
 
 def mesh(points, facets):
@@ -94,9 +132,20 @@ def own_points(across=23):
         yield f"{len(facets)} triangles with points of their own"
 
 
+def words_understood():
+    """Where words are refused otherwise than they have to be."""
+    with tempfile.TemporaryDirectory() as folder:
+        for words, word, place in NOT_UNDERSTOOD:
+            ran = subprocess.run([PROGRAM, *words], cwd=folder, capture_output=True, check=False)
+            if (ran.returncode, ran.stderr.decode()) != (1, f"tetgen: word {word}, place {place}: not understood\n"):
+                yield f"{words}: status {ran.returncode}: {ran.stderr.decode().strip()}"
+
+
 if os.path.exists(PROGRAM):
     for found in (cut_cubes(), cut_prisms(), own_points()):
         for it in found:
             print(f"another mesh: {it}")
+    for it in words_understood():
+        print(f"another refusal: {it}")
 else:
     print(f"note: {PROGRAM} is not built, so it was not run", file=sys.stderr)

@@ -28,48 +28,12 @@ fn refusal_of(alloc: Global, words: &[&[u8]]) -> Result<Option<WordsFault>, NoMe
     Ok(read_words(alloc, &words).err())
 }
 
-const FAULTY: [Faulty; 32] = [
+const FAULTY: [Faulty; 8] = [
     Faulty {
         name: "no word",
         words: &[],
         word: 1,
         place: 1,
-    },
-    Faulty {
-        name: "an empty word",
-        words: &[b"t", b""],
-        word: 2,
-        place: 1,
-    },
-    Faulty {
-        name: "a hyphen alone",
-        words: &[b"-", b"t"],
-        word: 1,
-        place: 2,
-    },
-    Faulty {
-        name: "no letter of the table",
-        words: &[b"-y", b"name"],
-        word: 1,
-        place: 2,
-    },
-    Faulty {
-        name: "a hyphen among letters",
-        words: &[b"-nf-", b"t"],
-        word: 1,
-        place: 4,
-    },
-    Faulty {
-        name: "a digit behind no S",
-        words: &[b"-p5", b"t"],
-        word: 1,
-        place: 3,
-    },
-    Faulty {
-        name: "S at the end",
-        words: &[b"-pS", b"name"],
-        word: 1,
-        place: 4,
     },
     Faulty {
         name: "S before a letter",
@@ -84,74 +48,8 @@ const FAULTY: [Faulty; 32] = [
         place: 4,
     },
     Faulty {
-        name: "S with ten digits",
-        words: &[b"-S0000000007x", b"t"],
-        word: 1,
-        place: 3,
-    },
-    Faulty {
-        name: "a letter behind S and its number",
-        words: &[b"-S12zx", b"t"],
-        word: 1,
-        place: 6,
-    },
-    Faulty {
-        name: "two hyphens",
-        words: &[b"--", b"t"],
-        word: 1,
-        place: 3,
-    },
-    Faulty {
-        name: "another long word",
-        words: &[b"t", b"--quality=2"],
-        word: 2,
-        place: 3,
-    },
-    Faulty {
-        name: "no equals sign",
-        words: &[b"t", b"--halvings"],
-        word: 2,
-        place: 3,
-    },
-    Faulty {
-        name: "no digit",
-        words: &[b"t", b"--halvings="],
-        word: 2,
-        place: 12,
-    },
-    Faulty {
-        name: "a letter for a digit",
-        words: &[b"--sample=x"],
-        word: 1,
-        place: 10,
-    },
-    Faulty {
-        name: "a letter behind digits",
-        words: &[b"--halvings=12x", b"t"],
-        word: 1,
-        place: 14,
-    },
-    Faulty {
-        name: "two faults",
-        words: &[b"--halvings=13x", b"t"],
-        word: 1,
-        place: 12,
-    },
-    Faulty {
         name: "halvings out of range",
         words: &[b"--halvings=13", b"t"],
-        word: 1,
-        place: 12,
-    },
-    Faulty {
-        name: "decimals out of range",
-        words: &[b"--decimals=20", b"--decimals=21", b"t"],
-        word: 2,
-        place: 12,
-    },
-    Faulty {
-        name: "ten digits",
-        words: &[b"--decimals=0000000001", b"t"],
         word: 1,
         place: 12,
     },
@@ -162,32 +60,8 @@ const FAULTY: [Faulty; 32] = [
         place: 10,
     },
     Faulty {
-        name: "a second name",
-        words: &[b"a", b"b"],
-        word: 2,
-        place: 1,
-    },
-    Faulty {
-        name: "a later second name",
-        words: &[b"a", b"-n", b"b.poly"],
-        word: 3,
-        place: 1,
-    },
-    Faulty {
         name: "no name",
         words: &[b"-nQ"],
-        word: 2,
-        place: 1,
-    },
-    Faulty {
-        name: "a name and the sample",
-        words: &[b"--sample=3", b"t"],
-        word: 3,
-        place: 1,
-    },
-    Faulty {
-        name: "two names and the sample",
-        words: &[b"a", b"b", b"--sample=3"],
         word: 2,
         place: 1,
     },
@@ -195,24 +69,6 @@ const FAULTY: [Faulty; 32] = [
         name: "two bad words",
         words: &[b"t", b"-x", b""],
         word: 2,
-        place: 2,
-    },
-    Faulty {
-        name: "weights of a complex",
-        words: &[b"-wp", b"t.node"],
-        word: 3,
-        place: 2,
-    },
-    Faulty {
-        name: "weights of a complex by its extension",
-        words: &[b"-w", b"t.smesh"],
-        word: 3,
-        place: 2,
-    },
-    Faulty {
-        name: "weights of the sample",
-        words: &[b"--sample=3", b"-w"],
-        word: 3,
         place: 2,
     },
     Faulty {
@@ -278,12 +134,7 @@ struct Asking {
     asked: Asked<'static>,
 }
 
-const ASKING: [Asking; 10] = [
-    Asking {
-        name: "a base",
-        words: &[b"name"],
-        asked: PLAIN,
-    },
+const ASKING: [Asking; 5] = [
     Asking {
         name: "a cluster",
         words: &[b"-pS100nzM", b"name"],
@@ -320,46 +171,12 @@ const ASKING: [Asking; 10] = [
         },
     },
     Asking {
-        name: "letters of long words",
-        words: &[b"--decimals=0", b"name"],
-        asked: Asked {
-            decimals: Some(0),
-            ..PLAIN
-        },
-    },
-    Asking {
-        name: "points",
-        words: &[b"-p", b"name.node"],
-        asked: Asked {
-            extension: Some(Extension::Node),
-            ..PLAIN
-        },
-    },
-    Asking {
         name: "points with weights",
         words: &[b"-cw", b"name.node"],
         asked: Asked {
             keep_hull: true,
             weighted: true,
             extension: Some(Extension::Node),
-            ..PLAIN
-        },
-    },
-    Asking {
-        name: "a complex",
-        words: &[b"name.poly"],
-        asked: Asked {
-            piecewise: true,
-            extension: Some(Extension::Poly),
-            ..PLAIN
-        },
-    },
-    Asking {
-        name: "another complex",
-        words: &[b"name.smesh"],
-        asked: Asked {
-            piecewise: true,
-            extension: Some(Extension::Smesh),
             ..PLAIN
         },
     },
