@@ -1,0 +1,15 @@
+pub mod Words
+pub mod Reading
+pub mod Rows
+pub mod Grid
+pub mod Faces
+pub mod Hull
+pub mod Outputs
+pub mod Steps
+pub mod Runs
+pub mod PyramidRuns
+pub mod NonplanarText
+pub mod Nonplanar
+pub mod Facetless
+pub mod ComplexText
+pub mod ComplexRuns
