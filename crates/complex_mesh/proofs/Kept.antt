@@ -1,5 +1,5 @@
 -- The kept rows of a complex are its mesh.
-use Rattle.std.proofs.Common.{◌≡◌, ℕ, ◌<◌, false, List, [], length, ap, sym, subst, ◌∙◌, arith}
+use Rattle.std.proofs.Common.{◌≡◌, ℕ, ◌<◌, true, false, List, [], length, ap, sym, subst, ◌∙◌, arith}
 use Rattle.std.specs.Prelude.{All, Contains}
 use Rattle.std.specs.List.{slice_index_or}
 use Rattle.sign_predicates.specs.Point.{Point}
@@ -20,7 +20,7 @@ use Rattle.path_laws.specs.Flood.{carving_of}
 use Rattle.box_pairs.specs.Crossing.{AreTrianglesMet}
 use Rattle.segment_protect.proofs.Splits.{each_member}
 use Rattle.complex_laws.specs.ComplexMesh.{HasNoCrossing, IsCarved}
-use Rattle.complex_laws.proofs.ComplexMesh.{law_uncrossed}
+use Rattle.complex_laws.proofs.ComplexMesh.{law_uncrossed, law_all_kept}
 use Rattle.complex_laws.proofs.NoFacets.{law_no_facets}
 use Rattle.path_laws.proofs.KeptMesh.{law_kept_mesh}
 use Rattle.complex_laws.proofs.MetFaces.{law_faces_met}
@@ -33,6 +33,7 @@ use Rattle.complex_mesh.specs.Steps.{IsRecovered, IsKeptMesh}
 use Rattle.complex_mesh.specs.Meshing.{IsComplexMesh}
 use Rattle.complex_mesh.specs.declared.mesh.MeshOptions.{MeshOptions}
 use Rattle.complex_mesh.specs.declared.mesh.ComplexMesh.{ComplexMesh}
+use Rattle.complex_mesh.proofs.Covered.{covered_at}
 use Rattle.complex_mesh.proofs.Triangles.{triangles_ascend}
 use Rattle.complex_mesh.proofs.Protected.{recovery, meshed_count}
 
@@ -52,6 +53,15 @@ module _ (o : MeshOptions) (ps : List Point) (c : Complex) (m : ComplexMesh) (se
   uncrossed none =
       subst (λ rows. IsCarved (carving_of o.keep_hull) m.points m.triangles c.holes rows m.tetrahedra)
       ((law_uncrossed m.points m.triangles whole none).0 (recovered.by_sides (λ t l tangle. none t l tangle.0 tangle.3))) kept.carved
+
+  none_crossed : HasNoCrossing m.points m.triangles → whole ≡ delaunay_rows m.points
+  none_crossed none = (law_uncrossed m.points m.triangles whole none).0 (recovered.by_sides (λ t l tangle. none t l tangle.0 tangle.3))
+
+  all_kept : o.keep_hull ≡ true → c.holes ≡ [] → m.tetrahedra ≡ whole
+  all_kept hull none =
+      (law_all_kept m.points m.triangles whole m.tetrahedra recovered.whole_mesh.filling recovered.refilled.ascending).0
+      (subst (λ b. IsCarved (carving_of b) m.points m.triangles [] whole m.tetrahedra) hull
+      (subst (λ hs. IsCarved (carving_of o.keep_hull) m.points m.triangles hs whole m.tetrahedra) none kept.carved))
 
   no_facets : o.keep_hull ≡ false → c.facets ≡ [] → m.tetrahedra ≡ []
   no_facets all none =
@@ -99,7 +109,10 @@ module _ (o : MeshOptions) (ps : List Point) (c : Complex) (m : ComplexMesh) (se
     whole = whole;
     refilled = recovered.refilled;
     carved = kept.carved;
+    facets_covered = covered_at o ps c m segs fs rest given protected triangles;
     by_sides = recovered.by_sides;
+    uncrossed = none_crossed;
+    all_kept = all_kept;
     no_facets = no_facets;
     pieces_kept = λ untangled p l.
         law_piece_of_rest o.halvings o.budget ps segs fs m.points rest m.triangles has untangled (carving_of o.keep_hull) c.holes whole m.tetrahedra

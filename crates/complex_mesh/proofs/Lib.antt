@@ -3,6 +3,7 @@ pub mod Added
 pub mod Protected
 pub mod Causes
 pub mod Recovered
+pub mod Covered
 pub mod Kept
 pub mod OneAnswerParts
 pub mod OneAnswer

@@ -1,5 +1,6 @@
 pub mod Faults
 pub mod Protection
+pub mod Covered
 pub mod Meshing
 pub mod Steps
 pub mod OneAnswer

@@ -1,5 +1,6 @@
 -- The mesh of a complex, and why there is none.
-use Rattle.std.specs.Prelude.{◌≡◌, ◌↔◌, ℕ, true, false, IsTrue, List, [], All, Any, Contains, IsSome, IfSome, Result, MatchResult}
+use Rattle.std.specs.Prelude.{◌≡◌, ◌↔◌, ◌<◌, ℕ, true, false, IsTrue, List, [], length, All, Any}
+use Rattle.std.specs.Prelude.{Contains, IsSome, IfSome, Result, MatchResult}
 use Rattle.sign_predicates.specs.Point.{Point, EachRational}
 use Rattle.sign_predicates.specs.Orientation.{InClosed}
 use Rattle.geo_laws.specs.Complex.{Complex, facets}
@@ -18,17 +19,19 @@ use Rattle.refill_laws.specs.Refill.{IsRefill}
 use Rattle.tangle_laws.specs.Tangle.{Holds}
 use Rattle.tangle_laws.specs.Growth.{IsRefilled}
 use Rattle.facet_recover.specs.Refilled.{HasTangle}
-use Rattle.complex_laws.specs.ComplexMesh.{IsUntangled, IsCarved}
+use Rattle.complex_laws.specs.ComplexMesh.{IsUntangled, HasNoCrossing, IsCarved}
 use Rattle.complex_laws.specs.Sides.{IsInnerOf}
 use Rattle.hole_carve.specs.Marks.{AreMarks}
 use Rattle.mesh_files.specs.FaceRows.{AreFacesMet, AreFacetsThere}
+use Rattle.complex_mesh.specs.Covered.{IsCoveredAt}
 use Rattle.complex_mesh.specs.Protection.{AreMeshed, IsProtectedComplex, complex_triangles}
 use Rattle.complex_mesh.specs.declared.mesh.MeshOptions.{MeshOptions}
 use Rattle.complex_mesh.specs.declared.mesh.ComplexMesh.{ComplexMesh}
 use Rattle.complex_mesh.specs.declared.fault.MeshFault.{MeshFault}
 use Rattle.complex_mesh.specs.declared.fault.MeshFault.TheVariants.{Flat, NotFlat, SegmentsCross, GridEnd, BudgetEnd, Crossing, NoFill, NoMemory}
 
--- Of the segments and facets that are meshed, protection ends with the mesh's points and some pieces, the triangles are exactly those of the facets, any two are properly met and each with each piece;
+-- Of the segments and facets that are meshed, protection ends with the mesh's points and some pieces, the triangles are exactly those of
+-- the facets, any two are properly met and each with each piece;
 -- the rows are a mesh of the complex
 pub record IsComplexMesh (o : MeshOptions) (ps : List Point) (c : Complex) (m : ComplexMesh) : Type 0 where
   pub segs : List Piece
@@ -42,8 +45,14 @@ pub record IsComplexMesh (o : MeshOptions) (ps : List Point) (c : Complex) (m : 
   pub whole : List Tet
   pub refilled : IsRefilled m.points m.triangles (delaunay_rows m.points) whole
   pub carved : IsCarved (carving_of o.keep_hull) m.points m.triangles c.holes whole m.tetrahedra
+  -- the triangles of each facet cover its region
+  pub facets_covered : (k : ℕ) → k < length fs → IsCoveredAt m.points m.triangles segs fs k
   -- where no two facets cross one Delaunay row, it is the Delaunay list with the cavities of the facets filled on both sides
   pub by_sides : IsUntangled m.points m.triangles → IsRefill m.points m.triangles (delaunay_rows m.points) whole
+  -- where no facet crosses a Delaunay row, it is the Delaunay list
+  pub uncrossed : HasNoCrossing m.points m.triangles → whole ≡ delaunay_rows m.points
+  -- with the hull kept and no hole points nothing is cut away
+  pub all_kept : o.keep_hull ≡ true → c.holes ≡ [] → m.tetrahedra ≡ whole
   -- without facets there are none, unless the hull is kept
   pub no_facets : o.keep_hull ≡ false → c.facets ≡ [] → m.tetrahedra ≡ []
   -- where no two facets cross one Delaunay row, a piece with an inner point in the mesh is a side of the mesh
@@ -55,7 +64,8 @@ pub record IsComplexMesh (o : MeshOptions) (ps : List Point) (c : Complex) (m : 
   pub marked : IsSome m.marks ↔ IsTrue o.regions
   pub marks : IfSome m.marks (AreMarks m.points m.triangles m.tetrahedra c.regions)
 
--- Why a complex has no mesh. Each cause says that none before it holds. The last one, an anomaly where two facets cross a Delaunay row, may hold beside others of
+-- Why a complex has no mesh. Each cause says that none before it holds. The last one, an anomaly where two facets cross a Delaunay row,
+-- may hold beside others of
 -- its kind, and beside a mesh
 abbrev pub IsMeshFault : MeshOptions → List Point → Complex → MeshFault → Type 0
 IsMeshFault o ps c Flat = AreCoplanar ps
