@@ -10,8 +10,8 @@ ghost use Rattle.node_files.specs.Settling.{most_points};
 ghost use Rattle.node_files.specs.Writing.{IsNodeTable};
 ghost use Rattle.plc_files.specs.Binding.{IsBound, HasCornersBelow, HasWeights};
 ghost use Rattle.plc_files.specs.Checks.{corners_check, HasFewParts};
-ghost use Rattle.run_steps.specs.Meshing.{grid_options, mesh_options, IsSmall, IsOverLimit, IsMeshableBound, BoundAnswer, IsUnbound, IsFlatRefusal, mesh_on, mesh_of_complex, mesh_in, without_decimals, IsBoundOn, PointsMeshOf, MeshOf, MeshAnswer, OutputsAnswer};
-ghost use Rattle.run_steps.specs.Codes.{status_of_bind, status_of_weights};
+ghost use Rattle.run_steps.specs.Meshing.{grid_options, mesh_options, IsSmall, IsOverLimit, IsMeshableBound, BoundAnswer, IsUnbound, IsUnmeshed, IsFlatRefusal, mesh_on, mesh_of_complex, mesh_in, without_decimals, IsBoundOn, PointsMeshOf, MeshOf, MeshAnswer, OutputsAnswer};
+ghost use Rattle.run_steps.specs.Codes.{status_of_bind, status_of_fault, status_of_weights};
 ghost use Rattle.run_steps.specs.declared.status.LimitKind.TheVariants.{Grid as OnGrid};
 ghost use Rattle.run_steps.specs.declared.status.Status.TheVariants.{Limit, NoMemory as Wanting};
 ghost use Rattle.command_words.specs.Names.{file_name};
@@ -309,9 +309,10 @@ fn rows_and_hull(alloc: Global, options: &Options, bound: &Bound) -> Result<List
 }
 
 /// The mesh of a complex.
-fn mesh_plc(alloc: Global, options: &Options, bound: Bound) -> Result<Meshed, Status>
+fn mesh_plc(alloc: Global, options: &Options, bound: Bound) -> Result<Meshed, MeshFault>
     requires { IsMeshableBound options.now bound }
-    ensures answer { MeshOf true options.now bound result }
+    ensures meshed { IfOk result (λ mesh. MeshOf true options.now bound (Ok mesh)) }
+    ensures refused { IfErr result (λ fault. IsUnmeshed options.now bound (status_of_fault fault)) }
     ensures writable { IfOk result IsWritable }
 {
     let made = made_of(alloc, options, &bound)?;

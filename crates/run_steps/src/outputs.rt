@@ -30,6 +30,13 @@ pub struct Outputs {
     pub summary: Option<Bytes>,
 }
 
+/// The files of the points and of the tetrahedra, where they are asked for.
+#[derive(Drop)]
+struct RowOutputs {
+    node: Option<NamedText>,
+    ele: Option<NamedText>,
+}
+
 /// The face file and the neighbor file, where they are asked for, and the number of faces, if the
 /// summary tells it.
 #[derive(Drop)]
@@ -53,17 +60,53 @@ pub fn outputs_of(alloc: Global, options: &Options, made: &HulledMesh) -> Result
     ensures { IfOk result (AreOutputsOf options.now made.now.mesh) }
 {
     let mesh = &made.mesh;
-    let FaceOutputs { face, neigh, count } = face_outputs(alloc, options, made)?;
+    let faces = face_outputs(alloc, options, made)?;
     let sides = side_outputs(alloc, options, mesh)?;
+    let rows = row_outputs(alloc, options, mesh)?;
+    let summary = summary_of(alloc, options, mesh, faces.count, sides.count)?;
+    Ok(put_together(rows, faces, sides, summary))
+}
+
+/// The files that are asked for of the points, the tetrahedra, the faces and the sides, and the
+/// summary.
+fn put_together(
+    rows: RowOutputs,
+    faces: FaceOutputs,
+    sides: SideOutputs,
+    summary: Option<Bytes>,
+) -> Outputs
+    ensures { result ≡ record {
+      texts = record {
+        node = rows.node;
+        ele = rows.ele;
+        face = faces.face;
+        edge = sides.edge;
+        neigh = faces.neigh;
+      };
+      summary = summary;
+    } }
+{
     let texts = Texts {
-        node: node_file(alloc, options, mesh)?,
-        ele: ele_file(alloc, options, mesh)?,
-        face,
+        node: rows.node,
+        ele: rows.ele,
+        face: faces.face,
         edge: sides.edge,
-        neigh,
+        neigh: faces.neigh,
     };
-    let summary = summary_of(alloc, options, mesh, count, sides.count)?;
-    Ok(Outputs { texts, summary })
+    Outputs { texts, summary }
+}
+
+/// The files of the points and of the tetrahedra, where they are asked for.
+fn row_outputs(alloc: Global, options: &Options, mesh: &Meshed) -> Result<RowOutputs, NoMemory>
+    requires { IsWritable mesh.now }
+    ensures { IfOk result (λ rows. rows ≡ record {
+      node = node_file options.now mesh.now;
+      ele = ele_file options.now mesh.now;
+    }) }
+{
+    let node = node_file(alloc, options, mesh)?;
+    let ele = ele_file(alloc, options, mesh)?;
+    Ok(RowOutputs { node, ele })
 }
 
 /// The number of the first row, face, side and point in what is written.

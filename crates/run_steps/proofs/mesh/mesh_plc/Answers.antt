@@ -15,13 +15,8 @@ added_to-requires-clause-few c =
     let few = c.requires.few in
     omega (arith, few, few_added c.args.options.now c.args.bound made c.requires c.in_ok-made.ensures, length-drop (length c.args.bound.table.points) made.points)
 
-pub returns-in_err-added-clause-answer : goal.returns-in_err-added-clause-answer
-returns-in_err-added-clause-answer c =
-    let p = err_from_is_err_and c.from_residual-in_err-added.result c.from_residual-in_err-added.ensures.1 in
-    rw (p.1, p.2) (fault.NoMemory, refl, tt)
-
-pub returns-clause-answer : goal.returns-clause-answer
-returns-clause-answer c =
+pub returns-clause-meshed : goal.returns-clause-meshed
+returns-clause-meshed c =
     let made = c.in_ok-made.made in
     let added = c.in_ok-added.added in (
       made,
