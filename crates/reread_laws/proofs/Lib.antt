@@ -5,3 +5,6 @@ pub mod Rows
 pub mod GridTexts
 pub mod Points
 pub mod ReadBack
+pub mod Listed
+pub mod Checked
+pub mod Grids

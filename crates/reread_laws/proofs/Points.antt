@@ -19,7 +19,7 @@ use Rattle.grid_coords.specs.declared.grid.Grid.{Grid}
 use Rattle.grid_coords.specs.declared.points.DecimalPoint.{DecimalPoint}
 use Rattle.grid_coords.proofs.Printed.{number_at}
 use Rattle.node_files.specs.Header.{header_of, count_or}
-use Rattle.node_files.specs.Node.{points_of, points_table, node_list_of, node_of, text_of}
+use Rattle.node_files.specs.Node.{points_of, points_table, node_list_of, node_of, text_of, first_number}
 use Rattle.node_files.specs.Point.{point_of, index_at, place_at, attributes_at, markers_at, is_next}
 use Rattle.node_files.specs.Point as read
 use Rattle.node_files.specs.Writing.{whole_text, fields_text, line_text, place_fields, point_lines, like_lines, list_text, node_text, marks_of}
@@ -201,14 +201,19 @@ unfolding all_made made
 made_bare g n k [] = refl
 made_bare g n k (p ∷ ps) = made_bare g (n + 1) (k + 1) ps
 
+made_number : (g : Grid) (n k : ℕ) (ps : List Point) → 0 < length ps → first_number (all_made g n k ps) ≡ n
+unfolding all_made made
+made_number g n k [] some = absurd (omega arith)
+made_number g n k (p ∷ ps) some = refl
+
 pub node_read : NodeReadLaw
 unfolding node_of node_list_of points_table bare_text
-node_read table added first total bare one short all =
+node_read table added first bare one short all =
     let long = made_long g first 2 ps in (
       text_of (record { count = length ps; attribute_count = 0; flag = false }) (all_made g first 2 ps),
-      ap (λ (s : List ℕ). node_of total (content_lines_from 1 (lines_of s))) (text_is table added first bare) ∙ ap (λ (ls : List ContentLine). node_of total ls) lines
-          ∙ rw (heading_read 1 (length ps) few, body) refl,
-      record { decimals = record { long = long; at = λ i d lt. at_made g first 2 ps all i d (omega arith) }; bare = made_bare g first 2 ps },
+      λ total. ap (λ (s : List ℕ). node_of total (content_lines_from 1 (lines_of s))) (text_is table added first bare) ∙ ap (λ (ls : List ContentLine). node_of total ls) lines
+          ∙ rw (heading_read 1 (length ps) few, body total) refl,
+      record { numbered = made_number g first 2 ps; decimals = record { long = long; at = λ i d lt. at_made g first 2 ps all i d (omega arith) }; bare = made_bare g first 2 ps },
     )
   where
     g : Grid
@@ -225,5 +230,5 @@ node_read table added first total bare one short all =
         ap (λ (ws : List (List ℕ)). content_lines_from 1 (lines_of (line_text (pos (length ps)) ws ++ bare_lines g first ps))) (λ j. whole_is_decimal 3 three_short j ∷ whole_is_decimal 0 zero_short j ∷ whole_is_decimal 0 zero_short j ∷ [])
         ∙ text_line 1 (length ps) (decimal 3 ∷ decimal 0 ∷ decimal 0 ∷ []) (bare_lines g first ps) few (decimal_word 3 three_short, (decimal_word 0 zero_short, (decimal_word 0 zero_short, tt)))
 
-    body : points_of 0 false None (length ps) total (content_lines_from 2 (lines_of (bare_lines g first ps))) ≡ Ok (all_made g first 2 ps, [])
-    body = points_read g bare.halvings total 2 first None ps (le-leb first 1 one) (let h = short in omega arith) all
+    body : (total : ℕ) → points_of 0 false None (length ps) total (content_lines_from 2 (lines_of (bare_lines g first ps))) ≡ Ok (all_made g first 2 ps, [])
+    body total = points_read g bare.halvings total 2 first None ps (le-leb first 1 one) (let h = short in omega arith) all

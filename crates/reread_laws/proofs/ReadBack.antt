@@ -1,6 +1,7 @@
 -- The texts of a mesh without a defect, read back.
 use Rattle.std.proofs.Common.{◌≡◌, ℕ, ◌+◌, ◌<◌, List, ◌++◌, length, map, Option, Some, None, refl, ap, sym, subst, arith}
 use Rattle.std.specs.Prelude.{All, Contains, IfSome, max, slice_index, slice_index_or}
+use Rattle.std.proofs.lemmas.List.{length-map}
 use Rattle.sign_predicates.specs.Point.{Point}
 use Rattle.geo_laws.specs.Delaunay.{IsOn}
 use Rattle.geo_laws.specs.Faces.{row_faces, faces_of_rows}
@@ -68,8 +69,8 @@ neighbors_below rows k d lt =
 -- ---- the mesh
 
 pub read_back : ReadBackLaw
-read_back table added names first ps rows faces is none total =
-    let read = node_read table added first total is.bare is.one is.points_short is.legible in
+read_back table added names first ps rows faces is none =
+    let read = node_read table added first is.bare is.one is.points_short is.legible in
     let text = read.0 in
     let long = read.2.decimals.long in
     let least = fits table.grid qs text.decimals read.2.decimals in
@@ -80,10 +81,13 @@ read_back table added names first ps rows faces is none total =
       listed = map (renamed_face (slice_index names)) faces;
       neighbors = pairs_of rows;
       node_read = read.1;
+      numbered = read.2.numbered;
+      points_long = long;
+      rows_long = length-map rows (renamed_row (slice_index names));
       fits = least.fits;
-      ele_read = ele_read names first (length text.decimals) total rows (subst IsShort count is.points_short) is.rows_short (λ k d lt. row_names (length text.decimals) long k d lt);
-      face_read = face_read names first (length text.decimals) total faces (subst IsShort count is.points_short) is.faces_short (λ k d lt. listed_names (length text.decimals) long k d lt);
-      neigh_read = neigh_read first total (pairs_of rows) (subst (λ (n : ℕ). IsShort (first + n)) (sym (pairs_long rows)) is.rows_short) (neighbors_below rows);
+      ele_read = λ total. ele_read names first (length text.decimals) total rows (subst IsShort count is.points_short) is.rows_short (λ k d lt. row_names (length text.decimals) long k d lt);
+      face_read = λ total. face_read names first (length text.decimals) total faces (subst IsShort count is.points_short) is.faces_short (λ k d lt. listed_names (length text.decimals) long k d lt);
+      neigh_read = λ total. neigh_read first total (pairs_of rows) (subst (λ (n : ℕ). IsShort (first + n)) (sym (pairs_long rows)) is.rows_short) (neighbors_below rows);
       sound = larger_unit _ qs (map (point_on (coarsest text.decimals)) text.decimals) least.same _ _ _ (renamed_mesh names ps qs is.named rows faces (pairs_of rows) is.on none);
     }
   where

@@ -1,5 +1,5 @@
 -- Point lists without attributes and markers, read back.
-use Rattle.std.specs.Prelude.{◌≡◌, ℕ, ◌+◌, ◌≤◌, unsigned_abs, ℤ, List, ◌++◌, length, All, false, [], Ok}
+use Rattle.std.specs.Prelude.{◌≡◌, ℕ, ◌+◌, ◌<◌, ◌≤◌, unsigned_abs, ℤ, List, ◌++◌, length, All, false, [], Ok}
 use Rattle.sign_predicates.specs.Point.{Point}
 use Rattle.tet_text.specs.Lines.{content_lines}
 use Rattle.grid_coords.specs.Units.{limit, decimal_at}
@@ -27,15 +27,16 @@ pub record IsBareTable (table : NodeTable) : Type 0 where
   pub no_markers : table.flag ≡ false
   pub halvings : table.grid.halvings ≤ 12
 
--- what is read back: the decimals are those of the listed points and the added ones
-pub record IsReadBack (g : Grid) (ps : List Point) (text : NodeText) : Type 0 where
+-- what is read back: points that are numbered from the first number on, with the decimals of the listed points and the added ones
+pub record IsReadBack (g : Grid) (first : ℕ) (ps : List Point) (text : NodeText) : Type 0 where
+  pub numbered : 0 < length ps → text.first ≡ first
   pub decimals : ArePointsAt g ps text.decimals
   pub bare : text.attributes ≡ []
 
 -- `.node`: the text of points is read back as their decimals
 abbrev pub NodeReadLaw : Type 0
-NodeReadLaw = (table : NodeTable) (added : List Point) (first total : ℕ) → IsBareTable table → first ≤ 1
+NodeReadLaw = (table : NodeTable) (added : List Point) (first : ℕ) → IsBareTable table → first ≤ 1
     → IsShort (first + length (table.listed ++ added))
     → All (IsLegiblePoint table.grid) (table.listed ++ added)
-    → (text : NodeText) × (node_of total (content_lines (node_text table added first)) ≡ Ok text)
-    × IsReadBack table.grid (table.listed ++ added) text
+    → (text : NodeText) × ((total : ℕ) → node_of total (content_lines (node_text table added first)) ≡ Ok text)
+    × IsReadBack table.grid first (table.listed ++ added) text

@@ -36,19 +36,22 @@ pub record IsReadable (table : NodeTable) (added : List Point) (names : List ℕ
   pub markers_short : All (λ f. IsShort (unsigned_abs f.marker)) faces
 
 -- what the texts of a mesh are read as: points that fit their least grid, and rows, faces and neighbors among which there is no defect
-pub record AreReadSound (table : NodeTable) (added : List Point) (names : List ℕ) (first : ℕ) (rows : List Tet) (faces : List FaceRow) (total : ℕ) : Type 0 where
+pub record AreReadSound (table : NodeTable) (added : List Point) (names : List ℕ) (first : ℕ) (rows : List Tet) (faces : List FaceRow) : Type 0 where
   pub points : NodeText
   pub tetrahedra : List Tet
   pub listed : List FaceRow
   pub neighbors : List Across
-  pub node_read : node_of total (content_lines (node_text table added first)) ≡ Ok points
+  pub node_read : (total : ℕ) → node_of total (content_lines (node_text table added first)) ≡ Ok points
+  pub numbered : 0 < length (table.listed ++ added) → points.first ≡ first
+  pub points_long : length points.decimals ≡ length (table.listed ++ added)
+  pub rows_long : length tetrahedra ≡ length rows
   pub fits : least_grid_of points.decimals ≡ Ok (coarsest points.decimals)
-  pub ele_read : ele_of first (length points.decimals) total (content_lines (ele_text names first rows)) ≡ Ok tetrahedra
-  pub face_read : face_of first (length points.decimals) total (content_lines (face_text names first faces)) ≡ Ok listed
-  pub neigh_read : neigh_of first total (content_lines (neigh_text first (pairs_of rows))) ≡ Ok neighbors
+  pub ele_read : (total : ℕ) → ele_of first (length points.decimals) total (content_lines (ele_text names first rows)) ≡ Ok tetrahedra
+  pub face_read : (total : ℕ) → face_of first (length points.decimals) total (content_lines (face_text names first faces)) ≡ Ok listed
+  pub neigh_read : (total : ℕ) → neigh_of first total (content_lines (neigh_text first (pairs_of rows))) ≡ Ok neighbors
   pub sound : IsVerdict (record { points = map (point_on (coarsest points.decimals)) points.decimals; rows = tetrahedra; faces = listed; neighbors = neighbors }) Sound
 
 -- The texts of a mesh without a defect are read back as one without a defect
 abbrev pub ReadBackLaw : Type 0
 ReadBackLaw = (table : NodeTable) (added : List Point) (names : List ℕ) (first : ℕ) (ps : List Point) (rows : List Tet) (faces : List FaceRow) → IsReadable table added names first ps rows faces
-    → IsVerdict (written_mesh ps rows faces) Sound → (total : ℕ) → AreReadSound table added names first rows faces total
+    → IsVerdict (written_mesh ps rows faces) Sound → AreReadSound table added names first rows faces

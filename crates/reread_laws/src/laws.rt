@@ -1,4 +1,6 @@
 //! The texts of a mesh are read back.
+ghost use Rattle.reread_laws.specs.Checked.{CheckedBackLaw};
+ghost use Rattle.reread_laws.specs.Listed.{ListedLaw};
 ghost use Rattle.reread_laws.specs.NodeRead.{NodeReadLaw};
 ghost use Rattle.reread_laws.specs.ReadBack.{ReadBackLaw};
 ghost use Rattle.reread_laws.specs.Reread.{EleReadLaw, FaceReadLaw, NeighReadLaw};
@@ -28,4 +30,16 @@ pub fn law_node_read()
 /// the least grid of their decimals.
 pub fn law_read_back()
     ensures { ReadBackLaw }
+{}
+
+/// The names of points that are kept of a list, and those of added points, are rising places in the
+/// list with the added points behind it, where the same points stand.
+pub fn law_listed()
+    ensures { ListedLaw }
+{}
+
+/// The check of the files that are written of a mesh without a defect, without attributes and
+/// markers of points, answers that it is sound, and how many tetrahedra it has.
+pub fn law_checked_back()
+    ensures { CheckedBackLaw }
 {}

@@ -4,4 +4,7 @@
 
 mod laws;
 
-pub use laws::{law_ele_read, law_face_read, law_neigh_read, law_node_read, law_read_back};
+pub use laws::{
+    law_checked_back, law_ele_read, law_face_read, law_listed, law_neigh_read, law_node_read,
+    law_read_back,
+};
