@@ -25,7 +25,8 @@ IsNumberedShort text = IfSome text.nodes HasShortNumbers × AreMarkedShort text.
 
 -- A point list that is read
 abbrev pub NodesReadLaw : Type 0
-NodesReadLaw = (total : ℕ) (lines rest : List ContentLine) (text : NodeText) → node_list_of total lines ≡ Ok (text, rest) → HasShortNumbers text
+NodesReadLaw = (total : ℕ) (lines rest : List ContentLine) (text : NodeText) → node_list_of total lines ≡ Ok (text, rest)
+    → HasShortNumbers text
 
 -- A complex
 abbrev pub PlcReadLaw : Type 0
@@ -33,4 +34,5 @@ PlcReadLaw = (form : Form) (total : ℕ) (lines : List ContentLine) (text : Plc)
 
 -- A surface of polygons, or of triangles
 abbrev pub SurfaceReadLaw : Type 0
-SurfaceReadLaw = (total : ℕ) (lines : List ContentLine) (text : Plc) → (off_of total lines ≡ Ok text) ⊎ (stl_of total lines ≡ Ok text) → IsNumberedShort text
+SurfaceReadLaw = (total : ℕ) (lines : List ContentLine) (text : Plc) → (off_of total lines ≡ Ok text) ⊎ (stl_of total lines ≡ Ok text)
+    → IsNumberedShort text

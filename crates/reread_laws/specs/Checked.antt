@@ -16,17 +16,20 @@ use Rattle.check_steps.specs.Steps.{FolderSeen}
 use Rattle.written_laws.specs.WrittenMesh.{written_mesh}
 use Rattle.reread_laws.specs.ReadBack.{IsReadable}
 
--- The folder has the files of a mesh under a base, each with its text of at most 2^26 bytes, where it tells what it has: its points, its rows, its faces,
--- and its neighbors, or no file of neighbors
-pub record AreThere (seen : FolderSeen) (base : List ℕ) (table : NodeTable) (added : List Point) (names : List ℕ) (first : ℕ) (rows : List Tet) (faces : List FaceRow) : Type 0 where
+-- The folder has the files of a mesh under a base, each with its text of at most 2^26 bytes, where it tells what it has: its points, its
+-- rows, its faces, and its neighbors, or no file of neighbors
+pub record AreThere (seen : FolderSeen) (base : List ℕ) (table : NodeTable) (added : List Point) (names : List ℕ) (first : ℕ)
+    (rows : List Tet) (faces : List FaceRow) : Type 0 where
   pub node : IsRead seen.files (base ++ codes ".node") (node_text table added first)
   pub ele : IsRead seen.files (base ++ codes ".ele") (ele_text names first rows)
   pub face : IsRead seen.files (base ++ codes ".face") (face_text names first faces)
-  pub neigh : IsRead seen.files (base ++ codes ".neigh") (neigh_text first (pairs_of rows)) ⊎ IsAbsent seen.files (base ++ codes ".neigh") seen.misses_before seen.misses_now
+  pub neigh : IsRead seen.files (base ++ codes ".neigh") (neigh_text first (pairs_of rows))
+      ⊎ IsAbsent seen.files (base ++ codes ".neigh") seen.misses_before seen.misses_now
 
--- The check of the files of a mesh without a defect, with 1 to 120,000 points, answers that the mesh is sound, and how many tetrahedra it has
+-- The check of the files of a mesh without a defect, with 1 to 120,000 points, answers that it is sound, and how many tetrahedra it has
 abbrev pub CheckedBackLaw : Type 0
-CheckedBackLaw = (seen : FolderSeen) (base : List ℕ) (table : NodeTable) (added : List Point) (names : List ℕ) (first : ℕ) (ps : List Point) (rows : List Tet) (faces : List FaceRow)
+CheckedBackLaw = (seen : FolderSeen) (base : List ℕ) (table : NodeTable) (added : List Point) (names : List ℕ) (first : ℕ)
+    (ps : List Point) (rows : List Tet) (faces : List FaceRow)
     → IsReadable table added names first ps rows faces → IsVerdict (written_mesh ps rows faces) Sound
     → 0 < length (table.listed ++ added) → length (table.listed ++ added) ≤ most_points
     → AreThere seen base table added names first rows faces → CheckAnswer seen base None (Ok (length rows))

@@ -36,7 +36,8 @@ pub record IsReadable (table : NodeTable) (added : List Point) (names : List ℕ
   pub markers_short : All (λ f. IsShort (unsigned_abs f.marker)) faces
 
 -- what the texts of a mesh are read as: points that fit their least grid, and rows, faces and neighbors among which there is no defect
-pub record AreReadSound (table : NodeTable) (added : List Point) (names : List ℕ) (first : ℕ) (rows : List Tet) (faces : List FaceRow) : Type 0 where
+pub record AreReadSound (table : NodeTable) (added : List Point) (names : List ℕ) (first : ℕ) (rows : List Tet)
+    (faces : List FaceRow) : Type 0 where
   pub points : NodeText
   pub tetrahedra : List Tet
   pub listed : List FaceRow
