@@ -1,0 +1,6 @@
+pub mod Protections
+pub mod Lengths
+pub mod Stored
+pub mod Inputs
+pub mod Tables
+pub mod CheckedRun
