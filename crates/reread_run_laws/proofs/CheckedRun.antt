@@ -1,12 +1,11 @@
 -- The check of the files that a run leaves.
-use Rattle.std.proofs.Common.{◌≡◌, ◌⊎◌, inl, inr, ℕ, ◌+◌, ◌^◌, ◌<◌, ◌≤◌, ℤ, pos, negsuc, ◌≤ℤ◌, unsigned_abs, Bool, true, false, List, [], ◌∷◌, ◌++◌, length, Option, None, Some, Ok, refl, ap, sym, subst, ◌∙◌, arith, append_assoc, length-append}
-use Rattle.std.specs.Prelude.{All, AllPairs, IfSome, codes, not, ◌||◌, ◌&&◌, if◌then◌else◌}
+use Rattle.std.proofs.Common.{◌≡◌, ◌⊎◌, inl, inr, ℕ, ◌+◌, ◌<◌, ◌≤◌, ℤ, pos, negsuc, ◌≤ℤ◌, unsigned_abs, Bool, true, false, List, [], ◌∷◌, ◌++◌, length, Option, None, Some, Ok, refl, ap, sym, subst, ◌∙◌, arith, append_assoc}
+use Rattle.std.specs.Prelude.{All, IfSome, codes, not, ◌||◌, ◌&&◌, if◌then◌else◌}
 use Rattle.std.specs.List.{range_with_len}
 use Rattle.std.specs.FinMap as map
 use Rattle.std.proofs.lemmas.Int.{ints}
-use Rattle.sign_predicates.specs.Point.{Point, IsOnGrid}
+use Rattle.sign_predicates.specs.Point.{Point}
 use Rattle.geo_laws.specs.Delaunay.{IsOn}
-use Rattle.geo_laws.specs.declared.tetrahedra.Tet.{Tet}
 use Rattle.tet_ports.specs.Files.{Files, Holds, IsAbsent}
 use Rattle.incidence.specs.Pairs.{pairs_of}
 use Rattle.mesh_files.specs.FaceRows.{AreFaceRowsOf}
@@ -28,15 +27,15 @@ use Rattle.reread_laws.proofs.Listed.{listed_names}
 use Rattle.reread_laws.proofs.Checked.{checked_back}
 use Rattle.command_words.specs.Meaning.{options_of}
 use Rattle.command_words.specs.declared.options.Options.{Options}
-use Rattle.run_steps.specs.Outputs.{AreOutputsOf, first_of, node_file, ele_file, face_file, edge_file, neigh_file, named}
-use Rattle.run_steps.specs.Stores.{given, in_order, with_files}
+use Rattle.run_steps.specs.Outputs.{AreOutputsOf, first_of, named}
+use Rattle.run_steps.specs.Stores.{in_order, with_files}
 use Rattle.run_steps.specs.declared.meshed.Meshed.{Meshed}
 use Rattle.run_steps.specs.declared.outputs.Outputs.{Outputs}
 use Rattle.run_steps.specs.declared.store.NamedText.{NamedText}
 use Rattle.run_steps.specs.declared.status.Status.TheVariants.{Done}
 use Rattle.tetgen_run.specs.Run.{AnswerBy, check_seen}
 use Rattle.run_laws.proofs.SoundRun.{sound_run}
-use Rattle.reread_run_laws.specs.CheckedRun.{HasFewDecimals, AreCheckable, CheckedRunLaw, CheckedAfterLaw}
+use Rattle.reread_run_laws.specs.CheckedRun.{AreCheckable, CheckedRunLaw, CheckedAfterLaw}
 use Rattle.reread_run_laws.proofs.Lengths.{ele_long, face_long}
 use Rattle.reread_run_laws.proofs.Stored.{IsUnder, AreFiles, all_held, after, first_given, node_held, ele_held, face_held, neigh_held, neigh_kept}
 use Rattle.reread_run_laws.proofs.Inputs.{HasInputNumbers, input_numbers}

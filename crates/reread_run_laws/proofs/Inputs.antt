@@ -1,27 +1,22 @@
 -- The numbers in the input of a run.
-use Rattle.std.proofs.Common.{◌≡◌, ◌⊎◌, inl, inr, ℕ, zero, suc, ◌+◌, ◌-◌, ◌≤◌, ◌<◌, Bool, true, false, cond, List, [], ◌∷◌, ◌++◌, length, take, drop, unsigned_abs, Option, None, Some, Result, Ok, Err, refl, ap, sym, subst, ◌∙◌, arith, length-append}
+use Rattle.std.proofs.Common.{◌≡◌, inl, inr, ℕ, zero, suc, ◌+◌, ◌≤◌, Bool, true, false, cond, List, [], ◌∷◌, ◌++◌, length, take, drop, unsigned_abs, Option, None, Some, Ok, refl, ap, sym, subst, arith, length-append}
 use Rattle.std.specs.Prelude.{All, IfSome, nat_le, ◌==◌, unwrap_or, if◌then◌else◌}
 use Rattle.std.specs.Option.{option_or}
 use Rattle.std.proofs.lemmas.Bool.{leb-true}
-use Rattle.std.proofs.lemmas.List.{append-nil, length-drop}
-use Rattle.sign_predicates.specs.Point.{Point}
+use Rattle.std.proofs.lemmas.List.{length-drop}
 use Rattle.tet_text.specs.Lines.{content_lines, line_count_of}
 use Rattle.tet_text.specs.Numbers.{number_of}
 use Rattle.tet_text.specs.Reading.{◌>>=◌, text_end_at}
-use Rattle.geo_laws.specs.Complex.{Complex, empty_complex}
+use Rattle.geo_laws.specs.Complex.{Complex}
 use Rattle.geo_laws.specs.Segment.{pieces}
-use Rattle.geo_laws.specs.declared.complex.Facet.{Facet as BoundFacet}
 use Rattle.grid_coords.specs.declared.grid.Grid.{Grid}
 use Rattle.node_files.specs.Node.{node_of, node_list_of}
-use Rattle.node_files.specs.Settling.{IsSettled, most_points}
 use Rattle.node_files.specs.declared.node_text.NodeText.{NodeText}
 use Rattle.node_files.specs.declared.table.NodeTable.{NodeTable}
-use Rattle.node_files.proofs.Folds.{folded_few}
 use Rattle.node_files.proofs.Points.{bind_ok, ok_is}
-use Rattle.plc_files.specs.Binding.{bound_facets, complex_of}
-use Rattle.plc_files.specs.Folding.{folded_complex}
+use Rattle.plc_files.specs.Binding.{bound_facets}
 use Rattle.plc_files.specs.Sample.{sample_of, box_facets}
-use Rattle.plc_files.specs.Text.{Facet, Plc, plc_with}
+use Rattle.plc_files.specs.Text.{Facet, Plc}
 use Rattle.complex_mesh.specs.Meshing.{IsComplexMesh}
 use Rattle.complex_mesh.specs.declared.mesh.ComplexMesh.{ComplexMesh}
 use Rattle.complex_mesh.proofs.Added.{added}
@@ -30,13 +25,13 @@ use Rattle.input_laws.specs.Numbers.{HasShortNumbers, AreMarkedShort, IsNumbered
 use Rattle.input_laws.proofs.Numbers.{IsShortWhole}
 use Rattle.input_laws.proofs.Nodes.{nodes_read}
 use Rattle.input_laws.proofs.Complexes.{plc_read, surface_read}
-use Rattle.command_words.specs.Grammar.{is_cluster, budget_at_front, number_at_front, digit_count, within, last_from}
+use Rattle.command_words.specs.Grammar.{is_cluster, budget_at_front, digit_count, within, last_from}
 use Rattle.command_words.specs.Meaning.{options_of, budget_from, budget_in, last_budget}
 use Rattle.command_words.specs.declared.options.Extension.{Extension}
 use Rattle.command_words.specs.declared.options.Extension.TheVariants.{Node, Poly, Smesh, Off, Stl}
 use Rattle.command_words.specs.declared.options.Options.{Options}
 use Rattle.run_steps.specs.Meshing.{BoundAnswer, MeshAnswer, MeshOf, PointsMeshOf, grid_options, mesh_options, mesh_of_points, mesh_of_complex}
-use Rattle.run_steps.specs.Reading.{InputAnswer, InputOf, PointsAnswer, NodesAnswer, SourceAnswer, ComplexFileAnswer, FormAnswer, BoundedAnswer, node_text_of, plc_text_of}
+use Rattle.run_steps.specs.Reading.{InputAnswer, InputOf, PointsAnswer, NodesAnswer, SourceAnswer, ComplexFileAnswer, FormAnswer, node_text_of, plc_text_of}
 use Rattle.run_steps.specs.Seen.{FolderSeen}
 use Rattle.run_steps.specs.Steps.{IfMissing}
 use Rattle.run_steps.specs.declared.input.ComplexFile.{ComplexFile}

@@ -1,5 +1,5 @@
 -- A text has as many lines as rows, and so at least as many bytes.
-use Rattle.std.proofs.Common.{ℕ, suc, ◌+◌, ◌≤◌, ℤ, pos, List, [], ◌∷◌, ◌++◌, length, length-append, arith}
+use Rattle.std.proofs.Common.{ℕ, ◌+◌, ◌≤◌, ℤ, pos, List, [], ◌∷◌, ◌++◌, length, length-append, arith}
 use Rattle.std.specs.Prelude.{flat_map, map}
 use Rattle.std.specs.Fmt.{decimal, signed_decimal}
 use Rattle.geo_laws.specs.Delaunay.{numbers}

@@ -4,3 +4,4 @@ pub mod Stored
 pub mod Inputs
 pub mod Tables
 pub mod CheckedRun
+pub mod FewDecimals

@@ -1,5 +1,5 @@
 -- The check of the files that a run leaves.
-use Rattle.std.specs.Prelude.{◌≡◌, ◌⊎◌, ℕ, ◌≤◌, true, false, List, ◌++◌, length, All, None, Some, Ok, codes}
+use Rattle.std.specs.Prelude.{◌≡◌, ◌⊎◌, ℕ, ◌+◌, ◌≤◌, true, false, List, ◌++◌, length, All, None, Some, Ok, codes}
 use Rattle.std.specs.FinMap as map
 use Rattle.sign_predicates.specs.Point.{Point}
 use Rattle.tet_ports.specs.Files.{Files}
@@ -23,6 +23,10 @@ pub record HasFewDecimals (g : Grid) (p : Point) : Type 0 where
   pub x : (decimal_at g p.x).scale ≤ 35
   pub y : (decimal_at g p.y).scale ≤ 35
   pub z : (decimal_at g p.z).scale ≤ 35
+
+-- So it is on a grid with as few decimals and halvings
+abbrev pub FewDecimalsLaw : Type 0
+FewDecimalsLaw = (g : Grid) (p : Point) → g.decimals + g.halvings ≤ 35 → HasFewDecimals g p
 
 -- Outputs of a mesh that can be checked: its points, tetrahedra and faces are among them, each text has at most 2^26 bytes, points have
 -- neither attributes nor markers, tetrahedra have no attributes, and coordinates have at most 35 decimals

@@ -4,4 +4,4 @@
 
 mod laws;
 
-pub use laws::{law_checked_after, law_checked_run};
+pub use laws::{law_checked_after, law_checked_run, law_few_decimals};
