@@ -1,25 +1,21 @@
 -- Which runs on points are done.
-use Rattle.std.proofs.Common.{◌≡◌, ◌⊎◌, inl, inr, ℕ, ◌<◌, ◌≤◌, Bool, true, false, List, length, Option, None, Some, Result, Ok, Err, refl, ap, sym, subst, ◌∙◌, arith}
-use Rattle.std.specs.FinMap as map
+use Rattle.std.proofs.Common.{◌≡◌, ◌⊎◌, inl, inr, ℕ, ◌<◌, false, List, length, None, Some, Result, Ok, Err, refl, ap, sym, subst, ◌∙◌, arith}
 use Rattle.tet_ports.specs.Counts.{Rose}
 use Rattle.tet_ports.specs.Files.{Files, Holds, IsAbsent}
 use Rattle.tet_text.specs.declared.fault.TextFault.{TextFault}
 use Rattle.geo_laws.specs.Delaunay.{AreCoplanar}
-use Rattle.grid_coords.specs.Choice.{grid_of}
 use Rattle.grid_coords.specs.declared.grid.Grid.{Grid}
 use Rattle.grid_coords.specs.declared.grid.Range.{Range}
-use Rattle.node_files.specs.Settling.{rounded_points}
 use Rattle.node_files.specs.declared.node_text.NodeText.{NodeText}
-use Rattle.plc_files.specs.Checks.{first_fault, sizes_check}
-use Rattle.plc_files.specs.Text.{plc_with}
+use Rattle.plc_files.specs.Checks.{first_fault}
 use Rattle.plc_files.specs.declared.fault.PlcFault.{PlcFault}
 use Rattle.command_words.specs.Grammar.{words_fault}
 use Rattle.command_words.specs.Meaning.{options_of}
 use Rattle.command_words.specs.Names.{file_name}
 use Rattle.command_words.specs.declared.options.Extension.TheVariants.{Node}
 use Rattle.command_words.specs.declared.options.Options.{Options}
-use Rattle.run_steps.specs.Meshing.{BoundAnswer, IsUnbound, IsFlatRefusal, MeshAnswer, MeshOf, MeshedAnswer, OutputsOfRun, PointsMeshOf, grid_options}
-use Rattle.run_steps.specs.Reading.{IsUsage, IsUnfetched, IsBadText, InputAnswer, InputOf, PointsAnswer, FetchAnswer, node_text_of, points_alone, most_bytes}
+use Rattle.run_steps.specs.Meshing.{IsUnbound, IsFlatRefusal, MeshOf, MeshedAnswer, OutputsOfRun, PointsMeshOf}
+use Rattle.run_steps.specs.Reading.{IsUsage, IsUnfetched, IsBadText, InputAnswer, InputOf, PointsAnswer, node_text_of, points_alone, most_bytes}
 use Rattle.run_steps.specs.Seen.{FolderSeen, SinkSeen}
 use Rattle.run_steps.specs.declared.input.Input.{Input}
 use Rattle.run_steps.specs.declared.mesh.Bound.{Bound}
