@@ -1,5 +1,5 @@
-//! Which runs on points are done, over the definitions alone. Each law is the contract of a function
-//! that does nothing.
+//! Which runs on points are done, over the definitions alone. Each law is the contract of a
+//! function that does nothing.
 #![tactic(auto)]
 
 mod laws;

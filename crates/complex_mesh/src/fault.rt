@@ -7,7 +7,8 @@ use segment_protect::ProtectFault;
 use tangle_laws::Anomaly;
 use tet_ports::NoMemory;
 
-/// Why a complex has no mesh. Points are named by their numbers and facets by their places in the complex, both from 0.
+/// Why a complex has no mesh. Points are named by their numbers and facets by their places in the
+/// complex, both from 0.
 #[derive(Clone, Copy, PartialEq, Eq)]
 pub enum MeshFault {
     /// All points lie in one plane.
@@ -20,9 +21,11 @@ pub enum MeshFault {
     GridEnd { piece: Piece },
     /// This piece is no side of a Delaunay tetrahedron, and as many points were added as allowed.
     BudgetEnd { made: u32, piece: Piece },
-    /// A triangle of a facet and another one or a piece, the first such two, have a common point that is not in the hull of their common corners.
+    /// A triangle of a facet and another one or a piece, the first such two, have a common point
+    /// that is not in the hull of their common corners.
     Crossing { one: Part, two: Part },
-    /// Two facets cross a Delaunay tetrahedron, and this stands against tetrahedra grown round the facets.
+    /// Two facets cross a Delaunay tetrahedron, and this stands against tetrahedra grown round the
+    /// facets.
     NoFill { anomaly: Anomaly },
     /// Memory ran out.
     NoMemory,
