@@ -1,245 +1,134 @@
--- From Delaunay tetrahedra to low ones on their faces, and back: the rule for outside becomes residuals, and even permutations turn each face to the front.
-use Rattle.geo_laws.proofs.Corners.{contains_or_not}
-use Rattle.geo_laws.proofs.Places.{number}
-use Rattle.geo_laws.proofs.Arrangement as even
-use Rattle.std.proofs.Common.{◌≡◌, ◌≢◌, ◌⊎◌, inl, inr, ℕ, zero, suc, ◌<◌, pos, neg_ℤ, ◌<ℤ◌, List, ◌∷◌, length, refl, sym, subst, arith}
-use Rattle.std.specs.List.{slice_index_or}
-use Rattle.std.specs.Prelude.{IsTrue, ◌↔◌, Contains}
+-- The Delaunay tetrahedra are the lowest ones where each point is lifted by its squared length, and a point is outside of one exactly where it is
+-- lifted above it. So each notion of insertion is the one of the lowest tetrahedra, and back.
+use Rattle.std.proofs.Common.{inl, inr, ℕ, List, ◌∷◌}
 use Rattle.sign_predicates.specs.Point.{Point}
-use Rattle.sign_predicates.specs.Orientation.{IsPositive}
-use Rattle.sign_predicates.specs.Sphere.{is_outside}
-use Rattle.geo_laws.specs.Delaunay.{point, corners, as_numbers, IsArranged, IsDelaunayAmong, AreNumbersOf}
-use Rattle.geo_laws.specs.Height.{lifted, residual_at, places}
+use Rattle.geo_laws.specs.Delaunay.{AreNumbersOf, IsDelaunayAmong}
+use Rattle.geo_laws.specs.Height.{lifted, IsLowestAmong}
+use Rattle.geo_laws.specs.OrientedFace.{Face, reversed}
 use Rattle.geo_laws.specs.declared.tetrahedra.Tet.{Tet}
-use Rattle.geo_laws.proofs.Corners.{IsCorner, corner_of}
-use Rattle.sign_predicates.proofs.Places.{A, B, C, D}
-use Rattle.geo_laws.proofs.Corners.{on_of_corners}
-use Rattle.geo_laws.proofs.Corners.{contains_corner}
-use Rattle.geo_laws.proofs.Lexicographic.{IsLexAbove, lex_same}
-use Rattle.geo_laws.proofs.Lift.{law_lift}
-use Rattle.geo_laws.specs.OrientedFace.{Face, reversed, beside, IsOther}
-use Rattle.insert_laws.specs.Insertion.{HasSameCorners, IsFaceOf, IsNew}
-use Rattle.insert_laws.proofs.StarPencil.{With}
-use Rattle.insert_laws.proofs.Pencil.{IsSet, IsLow, IsLowUnder}
-use Rattle.geo_laws.proofs.Arrangement.{IsEven, even_back, even_positive, arranged, same_row}
-use Rattle.insert_laws.proofs.FacePencil.{side_of, gap_of, side_of-reversed, gap_of-reversed}
+use Rattle.geo_laws.proofs.Corners.{on_of_among}
+use Rattle.geo_laws.proofs.Lift.{law_lift, lowest_of, delaunay_of}
+use Rattle.lowest_laws.specs.Insertion as lowest
+use Rattle.lowest_laws.proofs.Bridge.{of_new}
+use Rattle.insert_laws.specs.Insertion.{IsNew, IsHullFace, HasOutside, Sees, IsCavityPlace, cavity_row, cavity_ghost, IsClearPlace, clear_row, clear_ghost, IsStarRow, IsRimFace, IsHullRim, edge_and, Place, IsInCavity, row_in, ghost_in, IsJoined, joined_self, joined_by}
+pub use Rattle.lowest_laws.proofs.Bridge.{same_of_even, corner_to, corner_from}
 
--- the row is positive and on the points below m, and all others of these are above it
-pub record IsLowFour (ps : List Point) (S : ℕ → Type 0) (t : Tet) : Type 0 where
-  pub on : (i : ℕ) → IsCorner t i → S i
-  pub positive : IsPositive (corners ps t)
-  pub others : (e : ℕ) → S e → ¬ IsCorner t e → IsLexAbove (residual_at ps (lifted ps) t e) (places (length ps))
+-- ---- hull faces
 
--- and so is each even permutation
-pub low_even : (ps : List Point) (S : ℕ → Type 0) (t s : Tet) → IsEven ps t s → IsLowFour ps S t → IsLowFour ps S s
-low_even ps S t s h low = record {
-  on = λ i c. low.on i (even.corner_from ps t s h i c);
-  positive = even_positive ps t s h low.positive;
-  others = λ e l n. lex_same (residual_at ps (lifted ps) t e) (residual_at ps (lifted ps) s e) (places (length ps)) (λ k. even.even_residual ps t s h (lifted ps) e k) (low.others e l (λ c. n (even.corner_to ps t s h e c)));
-}
+abbrev pub hull_of : (ps : List Point) (ms : List ℕ) → AreNumbersOf ps ms → (f : Face) → IsHullFace ps ms f → lowest.IsHullFace (lifted ps) ps ms f
+hull_of ps ms within f h = record { behind = h.behind; is_row = lowest_of ps ms within h.behind h.is_row; is_face = h.is_face; none_beyond = h.none_beyond }
 
--- ---- rows of the numbers
+abbrev pub hull_from : (ps : List Point) (ms : List ℕ) → AreNumbersOf ps ms → (f : Face) → lowest.IsHullFace (lifted ps) ps ms f → IsHullFace ps ms f
+hull_from ps ms within f h = record { behind = h.behind; is_row = delaunay_of ps ms within h.behind h.is_row; is_face = h.is_face; none_beyond = h.none_beyond }
 
--- a point is outside of a row exactly where it is above it
-pub outside_above : (qs : List Point) (t : Tet) (e : ℕ) → ((i : ℕ) → IsCorner t i → i < length qs) → IsPositive (corners qs t) → e < length qs → ¬ IsCorner t e
-    → IsTrue (is_outside (corners qs t) (as_numbers t) (point qs e) e) ↔ IsLexAbove (residual_at qs (lifted qs) t e) (places (length qs))
-outside_above qs t e on p l n = law_lift qs t e (on_of_corners qs t (λ u. on (number t u) (u, refl))) l p (λ c. n (corner_of t e c))
+-- the numbers with a further one
+pub numbers_with : (ps : List Point) (ms : List ℕ) (p : ℕ) → IsNew ps ms p → AreNumbersOf ps (p ∷ ms)
+numbers_with ps ms p new = (of_new ps ms p new).within
 
--- S are the numbers of the list, which are those of points
-pub record IsOf (ps : List Point) (ms : List ℕ) (S : ℕ → Type 0) : Type 0 where
-  pub within : (i : ℕ) → Contains ms i → i < length ps
-  pub to : (i : ℕ) → S i → Contains ms i
-  pub from : (i : ℕ) → Contains ms i → S i
+-- ---- the place of a further point
 
--- a Delaunay tetrahedron is low
-pub low_of_delaunay : (ps : List Point) (ms : List ℕ) (S : ℕ → Type 0) → IsOf ps ms S → (t : Tet) → IsDelaunayAmong ps ms t → IsLowFour ps S t
-low_of_delaunay ps ms S h t d = record {
-  on = λ i c. h.from i (on i c);
-  positive = d.is_positive;
-  others = λ e l n. (outside_above ps t e (λ i c. h.within i (on i c)) d.is_positive (h.within e (h.to e l)) n).0 (d.others e (h.to e l) (λ c. n (corner_of t e c)));
-}
-  where
-    on : (i : ℕ) → IsCorner t i → Contains ms i
-    on i c = d.is_on i (contains_corner t i c)
+module _ (ps : List Point) (ms : List ℕ) (p : ℕ) (new : IsNew ps ms p) where
+  abbrev pub low : (t : Tet) → IsDelaunayAmong ps ms t → IsLowestAmong ps ms (lifted ps) t
+  low = lowest_of ps ms new.within
 
--- and a low one in its least arrangement is Delaunay
-pub delaunay_of_low : (ps : List Point) (ms : List ℕ) (S : ℕ → Type 0) → IsOf ps ms S → (t : Tet) → IsArranged t → IsLowFour ps S t → IsDelaunayAmong ps ms t
-delaunay_of_low ps ms S h t a low = record {
-  is_on = λ i c. h.to i (low.on i (corner_of t i c));
-  is_positive = low.positive;
-  is_arranged = a;
-  others = λ e l n. (outside_above ps t e (λ i c. h.within i (h.to i (low.on i c))) low.positive (h.within e l) (λ c. n (contains_corner t e c))).1 (low.others e (h.from e l) (λ c. n (contains_corner t e c)));
-}
+  abbrev pub row : (t : Tet) → IsLowestAmong ps ms (lifted ps) t → IsDelaunayAmong ps ms t
+  row = delaunay_of ps ms new.within
 
--- the numbers of a list
-pub of_list : (ps : List Point) (ms : List ℕ) → AreNumbersOf ps ms → IsOf ps ms (Contains ms)
-of_list ps ms h = record { within = h; to = λ i c. c; from = λ i c. c }
+  pub above : (t : Tet) → IsDelaunayAmong ps ms t → HasOutside ps t p → lowest.HasAbove (lifted ps) ps t p
+  above t d = (law_lift ps t p (on_of_among ps ms t new.within d.is_on) new.on d.is_positive (λ c. new.is_new (d.is_on p c))).0
 
--- ---- one number more
+  pub outside : (t : Tet) → IsDelaunayAmong ps ms t → lowest.HasAbove (lifted ps) ps t p → HasOutside ps t p
+  outside t d = (law_lift ps t p (on_of_among ps ms t new.within d.is_on) new.on d.is_positive (λ c. new.is_new (d.is_on p c))).1
 
--- the numbers with p are p and the others
-pub of_cons : (p : ℕ) (ms : List ℕ) (i : ℕ) → Contains (p ∷ ms) i → With (Contains ms) p i
-of_cons p ms i c = go c.0 c.1 c.2
-  where
-    go : (k : ℕ) → k < length (p ∷ ms) → slice_index_or (p ∷ ms) k i ≡ i → With (Contains ms) p i
-    go zero l e = inl (sym e)
-    go (suc k) l e = inr (k, (omega arith), e)
+  -- ---- what p sees
 
-pub to_cons : (p : ℕ) (ms : List ℕ) (i : ℕ) → With (Contains ms) p i → Contains (p ∷ ms) i
-to_cons p ms i (inl e) = (0, omega arith, sym e)
-to_cons p ms i (inr c) = let l = c.1 in (suc c.0, omega arith, c.2)
+  pub sees_of : (f : Face) (t : Tet) → IsDelaunayAmong ps ms t → Sees ps p f t → lowest.Sees (lifted ps) ps p f t
+  sees_of f t d (inl h) = inl h
+  sees_of f t d (inr h) = inr (h.0, λ a. h.1 (outside t d a))
 
-pub of_new : (ps : List Point) (ms : List ℕ) (p : ℕ) → IsNew ps ms p → IsOf ps (p ∷ ms) (With (Contains ms) p)
-of_new ps ms p new = record { within = λ i c. at i (of_cons p ms i c); to = λ i h. to_cons p ms i h; from = λ i c. of_cons p ms i c }
-  where
-    at : (i : ℕ) → With (Contains ms) p i → i < length ps
-    at i (inl e) = let h = new.on in omega arith
-    at i (inr c) = new.within i c
+  pub sees_from : (f : Face) (t : Tet) → IsDelaunayAmong ps ms t → lowest.Sees (lifted ps) ps p f t → Sees ps p f t
+  sees_from f t d (inl h) = inl h
+  sees_from f t d (inr h) = inr (h.0, λ o. h.1 (above t d o))
 
--- whether a number is among them is decided
-pub list_set : (ps : List Point) (ms : List ℕ) → AreNumbersOf ps ms → IsSet (Contains ms) (length ps)
-list_set ps ms h = record { decided = contains_or_not ms; below = h }
+  -- ---- places
 
-pub new_set : (ps : List Point) (ms : List ℕ) (p : ℕ) → IsNew ps ms p → IsSet (With (Contains ms) p) (length ps)
-new_set ps ms p new = record { decided = λ i. go i (contains_or_not (p ∷ ms) i); below = λ i h. (of_new ps ms p new).within i (to_cons p ms i h) }
-  where
-    go : (i : ℕ) → Contains (p ∷ ms) i ⊎ ¬ Contains (p ∷ ms) i → With (Contains ms) p i ⊎ ¬ With (Contains ms) p i
-    go i (inl c) = inl (of_cons p ms i c)
-    go i (inr n) = inr (λ h. n (to_cons p ms i h))
+  pub cavity_of : (f : Face) → IsCavityPlace ps ms p f → lowest.IsCavityPlace (lifted ps) ps ms p f
+  cavity_of f (cavity_row t d face n) = lowest.cavity_row t (low t d) face (λ a. n (outside t d a))
+  cavity_of f (cavity_ghost h s) = lowest.cavity_ghost (hull_of ps ms new.within f h) (sees_of f h.behind h.is_row s)
 
--- ---- rows on a face
+  pub cavity_from : (f : Face) → lowest.IsCavityPlace (lifted ps) ps ms p f → IsCavityPlace ps ms p f
+  cavity_from f (lowest.cavity_row t l face n) = let d = row t l in cavity_row t d face (λ o. n (above t d o))
+  cavity_from f (lowest.cavity_ghost h s) = let k = hull_from ps ms new.within f h in cavity_ghost k (sees_from f k.behind k.is_row s)
 
--- the corners of the face are below m
-pub record IsFaceOn (S : ℕ → Type 0) (f : Face) : Type 0 where
-  pub on_a : S f.a
-  pub on_b : S f.b
-  pub on_c : S f.c
+  pub clear_of : (f : Face) → IsClearPlace ps ms p f → lowest.IsClearPlace (lifted ps) ps ms p f
+  clear_of f (clear_row t d face o) = lowest.clear_row t (low t d) face (above t d o)
+  clear_of f (clear_ghost h n) = lowest.clear_ghost (hull_of ps ms new.within f h) (λ s. n (sees_from f h.behind h.is_row s))
 
--- the tetrahedron of f and o is low
-abbrev pub IsLowOn : List Point → (ℕ → Type 0) → Face → ℕ → Type 0
-IsLowOn ps S f o = IsLow f (side_of ps f) (gap_of ps f) (places (length ps)) S o
+  pub clear_from : (f : Face) → lowest.IsClearPlace (lifted ps) ps ms p f → IsClearPlace ps ms p f
+  clear_from f (lowest.clear_row t l face a) = let d = row t l in clear_row t d face (outside t d a)
+  clear_from f (lowest.clear_ghost h n) = let k = hull_from ps ms new.within f h in clear_ghost k (λ s. n (sees_of f k.behind k.is_row s))
 
--- that of the face reversed and a is low
-abbrev pub IsLowUnderOn : List Point → (ℕ → Type 0) → Face → ℕ → Type 0
-IsLowUnderOn ps S f a = IsLowUnder f (side_of ps f) (gap_of ps f) (places (length ps)) S a
+  -- ---- the rim and the star
 
--- on a face, low means that every point of the face's pencil is above
-pub low_on_face : (ps : List Point) (S : ℕ → Type 0) (f : Face) (o : ℕ) → IsLowFour ps S (beside f o) → IsLowOn ps S f o
-low_on_face ps S f o low = record { on = low.on o (D, refl); over = low.positive; others = λ e l h d. low.others e l (λ c. none h d c) }
-  where
-    none : {e : ℕ} → IsOther f e → e ≢ o → IsCorner (beside f o) e → ⊥
-    none h d (A, e) = h.not_a e
-    none h d (B, e) = h.not_b e
-    none h d (C, e) = h.not_c e
-    none h d (D, e) = d e
+  pub rim_of : (f : Face) → IsRimFace ps ms p f → lowest.IsRimFace (lifted ps) ps ms p f
+  rim_of f r = record { cavity = cavity_of f r.cavity; clear = clear_of (reversed f) r.clear }
 
-pub face_on : (ps : List Point) (S : ℕ → Type 0) (f : Face) (o : ℕ) → IsLowFour ps S (beside f o) → IsFaceOn S f
-face_on ps S f o low = record { on_a = low.on f.a (A, refl); on_b = low.on f.b (B, refl); on_c = low.on f.c (C, refl) }
+  pub rim_from : (f : Face) → lowest.IsRimFace (lifted ps) ps ms p f → IsRimFace ps ms p f
+  rim_from f r = record { cavity = cavity_from f r.cavity; clear = clear_from (reversed f) r.clear }
 
--- and back
-pub four_of_face : (ps : List Point) (S : ℕ → Type 0) (f : Face) (o : ℕ) → IsFaceOn S f → IsLowOn ps S f o → IsLowFour ps S (beside f o)
-four_of_face ps S f o on low = record {
-  on = λ i c. below i c;
-  positive = low.over;
-  others = λ e l n. low.others e l (record { not_a = λ h. n (A, h); not_b = λ h. n (B, h); not_c = λ h. n (C, h) }) (λ h. n (D, h));
-}
-  where
-    below : (i : ℕ) → IsCorner (beside f o) i → S i
-    below i (A, e) = subst S (sym e) on.on_a
-    below i (B, e) = subst S (sym e) on.on_b
-    below i (C, e) = subst S (sym e) on.on_c
-    below i (D, e) = subst S (sym e) low.on
+  pub star_of : (t : Tet) → IsStarRow ps ms p t → lowest.IsStarRow (lifted ps) ps ms p t
+  star_of t s = record {
+    face = s.face;
+    same_corners = s.same_corners;
+    is_positive = s.is_positive;
+    is_arranged = s.is_arranged;
+    cavity = cavity_of s.face s.cavity;
+    clear = clear_of (reversed s.face) s.clear;
+  }
 
--- ---- the same corners
+  pub star_from : (t : Tet) → lowest.IsStarRow (lifted ps) ps ms p t → IsStarRow ps ms p t
+  star_from t s = record {
+    face = s.face;
+    same_corners = s.same_corners;
+    is_positive = s.is_positive;
+    is_arranged = s.is_arranged;
+    cavity = cavity_from s.face s.cavity;
+    clear = clear_from (reversed s.face) s.clear;
+  }
 
-pub corner_to : (s t : Tet) → HasSameCorners s t → (i : ℕ) → IsCorner s i → IsCorner t i
-corner_to s t h i c = corner_of t i ((h i).0 (contains_corner s i c))
+  pub hull_rim_of : (i j : ℕ) → IsHullRim ps ms p i j → lowest.IsHullRim (lifted ps) ps ms p i j
+  hull_rim_of i j r = record {
+    inner = r.inner;
+    seen = hull_of ps ms new.within (edge_and i j r.inner) r.seen;
+    sees = sees_of (edge_and i j r.inner) r.seen.behind r.seen.is_row r.sees;
+    outer = r.outer;
+    unseen = hull_of ps ms new.within (edge_and j i r.outer) r.unseen;
+    sees_not = λ s. r.sees_not (sees_from (edge_and j i r.outer) r.unseen.behind r.unseen.is_row s);
+  }
 
-pub corner_from : (s t : Tet) → HasSameCorners s t → (i : ℕ) → IsCorner t i → IsCorner s i
-corner_from s t h i c = corner_of s i ((h i).1 (contains_corner t i c))
+  pub hull_rim_from : (i j : ℕ) → lowest.IsHullRim (lifted ps) ps ms p i j → IsHullRim ps ms p i j
+  hull_rim_from i j r =
+      let seen = hull_from ps ms new.within (edge_and i j r.inner) r.seen in
+      let unseen = hull_from ps ms new.within (edge_and j i r.outer) r.unseen in
+      record {
+        inner = r.inner;
+        seen = seen;
+        sees = sees_from (edge_and i j r.inner) seen.behind seen.is_row r.sees;
+        outer = r.outer;
+        unseen = unseen;
+        sees_not = λ s. r.sees_not (sees_of (edge_and j i r.outer) unseen.behind unseen.is_row s);
+      }
 
--- even permutations have the same corners
-pub same_of_even : (ps : List Point) (s t : Tet) → IsEven ps s t → HasSameCorners s t
-same_of_even ps s t h = λ i. (λ c. contains_corner t i (even.corner_to ps s t h i (corner_of s i c)), λ c. contains_corner s i (even.corner_from ps s t h i (corner_of t i c)))
+  -- ---- the cavity
 
--- positive rows with the same corners, of which one is arranged, are even permutations of one another
-pub even_of_same : (ps : List Point) (s t : Tet) → IsPositive (corners ps s) → IsPositive (corners ps t) → IsArranged t → HasSameCorners s t → IsEven ps s t
-even_of_same ps s t p q a h = go (arranged ps s p)
-  where
-    go : (r : Tet) × IsEven ps s r × IsArranged r → IsEven ps s t
-    go r = subst (λ u. IsEven ps s u) (same_row ps r.0 t (even_positive ps s r.0 r.1 p) q r.2 a
-        (λ i c. corner_to s t h i (even.corner_from ps s r.0 r.1 i c)) (λ i c. even.corner_to ps s r.0 r.1 i (corner_from s t h i c))) r.1
+  pub in_of : (a : Place) → IsInCavity ps ms p a → lowest.IsInCavity (lifted ps) ps ms p a
+  in_of _ (row_in t d n) = lowest.row_in t (low t d) (λ a. n (outside t d a))
+  in_of _ (ghost_in f h s) = lowest.ghost_in f (hull_of ps ms new.within f h) (sees_of f h.behind h.is_row s)
 
--- a Delaunay row on its face
-pub record IsRowOn (ps : List Point) (S : ℕ → Type 0) (f : Face) (t : Tet) : Type 0 where
-  pub apex : ℕ
-  pub on : IsFaceOn S f
-  pub even : IsEven ps (beside f apex) t
-  pub low : IsLowOn ps S f apex
+  pub in_from : (a : Place) → lowest.IsInCavity (lifted ps) ps ms p a → IsInCavity ps ms p a
+  in_from _ (lowest.row_in t l n) = let d = row t l in row_in t d (λ o. n (above t d o))
+  in_from _ (lowest.ghost_in f h s) = let k = hull_from ps ms new.within f h in ghost_in f k (sees_from f k.behind k.is_row s)
 
--- each Delaunay tetrahedron with that face is one
-pub row_on : (ps : List Point) (ms : List ℕ) (S : ℕ → Type 0) → IsOf ps ms S → (f : Face) (t : Tet) → IsDelaunayAmong ps ms t → IsFaceOf ps f t → IsRowOn ps S f t
-row_on ps ms S h f t d face = record { apex = face.opposite; on = on; even = even; low = low_on_face ps S f face.opposite (low_even ps S t u (even_back ps u t even) low) }
-  where
-    u : Tet
-    u = beside f face.opposite
-
-    low : IsLowFour ps S t
-    low = low_of_delaunay ps ms S h t d
-
-    below : (i : ℕ) → IsCorner (beside f face.opposite) i → S i
-    below i c = low.on i (corner_to (beside f face.opposite) t face.same_corners i c)
-
-    on : IsFaceOn S f
-    on = record { on_a = below f.a (A, refl); on_b = below f.b (B, refl); on_c = below f.c (C, refl) }
-
-    even : IsEven ps (beside f face.opposite) t
-    even = even_of_same ps (beside f face.opposite) t face.over low.positive d.is_arranged face.same_corners
-
--- and from the low row on a face
-pub record HasRowOn (ps : List Point) (ms : List ℕ) (f : Face) (o : ℕ) : Type 0 where
-  pub row : Tet
-  pub is_row : IsDelaunayAmong ps ms row
-  pub is_face : IsFaceOf ps f row
-  pub even : IsEven ps (beside f o) row
-
--- from a low one, arranged
-pub row_of : (ps : List Point) (ms : List ℕ) (S : ℕ → Type 0) → IsOf ps ms S → (f : Face) (o : ℕ) → IsFaceOn S f → IsLowOn ps S f o → HasRowOn ps ms f o
-row_of ps ms S h f o on low =
-    let four = four_of_face ps S f o on low in
-    let r = arranged ps (beside f o) four.positive in
-    record {
-      row = r.0;
-      is_row = delaunay_of_low ps ms S h r.0 r.2 (low_even ps S (beside f o) r.0 r.1 four);
-      is_face = record { opposite = o; same_corners = same_of_even ps (beside f o) r.0 r.1; over = low.over };
-      even = r.1;
-    }
-
--- ---- the other side
-
--- to turn the face turns the sides and the residuals
-pub under_of : (ps : List Point) (S : ℕ → Type 0) (f : Face) (a : ℕ) → IsLowOn ps S (reversed f) a → IsLowUnderOn ps S f a
-under_of ps S f a low = record {
-  on = low.on;
-  under = subst (λ n. pos 0 <ℤ n) (side_of-reversed ps f a) low.over;
-  others = λ e l h d. lex_same (gap_of ps (reversed f) a e) (λ k. neg_ℤ (gap_of ps f a e k)) (places (length ps)) (λ k. gap_of-reversed ps f a e k)
-      (low.others e l (record { not_a = h.not_a; not_b = h.not_c; not_c = h.not_b }) d);
-}
-
-pub of_under : (ps : List Point) (S : ℕ → Type 0) (f : Face) (a : ℕ) → IsLowUnderOn ps S f a → IsLowOn ps S (reversed f) a
-of_under ps S f a low = record {
-  on = low.on;
-  over = subst (λ n. pos 0 <ℤ n) (sym (side_of-reversed ps f a)) low.under;
-  others = λ e l h d. lex_same (λ k. neg_ℤ (gap_of ps f a e k)) (gap_of ps (reversed f) a e) (places (length ps)) (λ k. sym (gap_of-reversed ps f a e k))
-      (low.others e l (record { not_a = h.not_a; not_b = h.not_c; not_c = h.not_b }) d);
-}
-
-pub reversed_on : (S : ℕ → Type 0) (f : Face) → IsFaceOn S f → IsFaceOn S (reversed f)
-reversed_on S f on = record { on_a = on.on_a; on_b = on.on_c; on_c = on.on_b }
-
--- the row of the face's reverse has the opposite residuals
-pub gap_over : (ps : List Point) (f : Face) (o e k : ℕ) → gap_of ps (reversed f) o e k ≡ neg_ℤ (gap_of ps f o e k)
-gap_over ps f o e k = gap_of-reversed ps f o e k
-
-pub gap_back : (ps : List Point) (f : Face) (o e k : ℕ) → gap_of ps f o e k ≡ neg_ℤ (gap_of ps (reversed f) o e k)
-gap_back ps f o e k = gap_of-reversed ps (reversed f) o e k
+  pub joined_from : (a b : Place) → lowest.IsJoined (lifted ps) ps ms p a b → IsJoined ps ms p a b
+  joined_from a _ (lowest.joined_self _) = joined_self a
+  joined_from a c (lowest.joined_by _ b _ touch k j) = joined_by a b c touch (in_from b k) (joined_from b c j)

@@ -1,7 +1,7 @@
 -- The Delaunay tetrahedra of a list are those among its numbers, in whatever order, and a hull face is a face of one of them only.
 use Rattle.geo_laws.proofs.Corners.{contains_corner}
 use Rattle.geo_laws.specs.Delaunay.{as_numbers}
-use Rattle.std.proofs.Common.{◌≡◌, ◌⊎◌, inl, inr, ℕ, zero, suc, ◌<◌, List, [], ◌∷◌, ◌++◌, length, refl, sym, subst, arith}
+use Rattle.std.proofs.Common.{◌≡◌, ℕ, zero, suc, ◌<◌, List, [], ◌∷◌, ◌++◌, length, refl, sym, subst, arith}
 use Rattle.std.specs.Prelude.{IsTrue, ◌↔◌}
 use Rattle.std.specs.List.{slice_index_or}
 use Rattle.sign_predicates.specs.Point.{Point, origin}
@@ -12,8 +12,11 @@ use Rattle.geo_laws.specs.declared.tetrahedra.Tet.{Tet}
 use Rattle.geo_laws.proofs.Corners.{IsCorner}
 use Rattle.sign_predicates.proofs.Places.{A, B, C, D}
 use Rattle.geo_laws.proofs.Corners.{all_within}
-use Rattle.insert_laws.specs.Insertion.{IsFaceOf, IsHullFace, HasNoneBeyond, StartOfListLaw, SameNumbersLaw, HullFaceLaw}
-use Rattle.insert_laws.proofs.Insert as insert
+use Rattle.geo_laws.specs.Height.{lifted}
+use Rattle.geo_laws.proofs.Lift.{lowest_of, delaunay_of}
+use Rattle.lowest_laws.proofs.Lists as lists
+use Rattle.insert_laws.specs.Insertion.{StartOfListLaw, SameNumbersLaw, HullFaceLaw}
+use Rattle.insert_laws.proofs.Bridge.{hull_of, hull_from}
 
 -- ---- a list that begins with the points
 
@@ -58,16 +61,7 @@ law_same_numbers ps ms ks same t d = record { is_on = λ i c. (same i).0 (d.is_o
 
 -- ---- hull faces
 
--- by the law of face pairing
 pub law_hull_face : HullFaceLaw
-law_hull_face ps ms within f t d face = (to, from)
-  where
-    to : IsHullFace ps ms f → (s : Tet) → IsDelaunayAmong ps ms s → ¬ IsFaceOf ps f s
-    to h s ds fs = h.none_beyond fs.opposite (ds.is_on fs.opposite ((fs.same_corners fs.opposite).0 (3, omega arith, refl))) fs.over
-
-    from : ((s : Tet) → IsDelaunayAmong ps ms s → ¬ IsFaceOf ps f s) → IsHullFace ps ms f
-    from none = record { behind = t; is_row = d; is_face = face; none_beyond = by (insert.law_face_pairing ps ms within f t d face) }
-      where
-        by : HasNoneBeyond ps ms f ⊎ ((s : Tet) × IsDelaunayAmong ps ms s × IsFaceOf ps f s) → HasNoneBeyond ps ms f
-        by (inl h) = h
-        by (inr r) = absurd (none r.0 r.1 r.2)
+law_hull_face ps ms within f t d face =
+    let law = lists.law_hull_face (lifted ps) ps ms within f t (lowest_of ps ms within t d) face in
+    (λ h s e. law.0 (hull_of ps ms within f h) s (lowest_of ps ms within s e), λ none. hull_from ps ms within f (law.1 (λ s l. none s (delaunay_of ps ms within s l))))

@@ -1,15 +1,11 @@
 -- The sides of Delaunay tetrahedra at a corner, seen from one of them.
-use Rattle.std.specs.Prelude.{◌≢◌, ℕ, ◌<◌, pos, ◌≤ℤ◌, List, Contains}
-use Rattle.std.specs.List.{slice_index_or}
+use Rattle.std.specs.Prelude.{◌≢◌, ℕ, List, Contains}
 use Rattle.sign_predicates.specs.Point.{Point}
-use Rattle.sign_predicates.specs.Orientation.{side, opposite_face, IsPositive}
-use Rattle.geo_laws.specs.Delaunay.{point, corners, numbers, AreNumbersOf, IsDelaunayAmong}
+use Rattle.sign_predicates.specs.Orientation.{IsPositive}
+use Rattle.geo_laws.specs.Delaunay.{corners, numbers, AreNumbersOf, IsDelaunayAmong}
 use Rattle.geo_laws.specs.declared.tetrahedra.Tet.{Tet}
 use Rattle.insert_laws.specs.Insertion.{HasSameCorners}
-
--- the point b is strictly beyond no face of the four t but the one opposite its corner a: it lies in the closed cone of t from a
-abbrev pub IsInCone : List Point → Tet → ℕ → ℕ → Type 0
-IsInCone ps t a b = (k : ℕ) → k < 4 → slice_index_or (numbers t) k a ≢ a → pos 0 ≤ℤ side (opposite_face (corners ps t) k) (point ps b)
+pub use Rattle.lowest_laws.specs.Cone.{IsInCone}
 
 -- In the closed cone of a Delaunay tetrahedron r from its corner a, no Delaunay tetrahedron has a side from a but along those of r: a point b there with
 -- such a side is a corner of r. The four t are the corners of r in any even arrangement

@@ -2,33 +2,15 @@
 -- are among `ms`, and the new one may have any other number. The space outside of the hull is cut into ghosts, one over each face of the hull. The cavity
 -- of the new point are the tetrahedra that don't have it outside and the ghosts of the hull faces that it sees; its rim are the faces between the
 -- cavity and the rest; its star are the tetrahedra of the new point and the rim's faces.
-use Rattle.std.specs.Prelude.{◌≡◌, ◌≢◌, ◌↔◌, ◌⊎◌, ℕ, ◌<◌, pos, ◌<ℤ◌, IsTrue, List, [], ◌∷◌, ◌++◌, length, Contains}
+use Rattle.std.specs.Prelude.{◌≡◌, ◌≢◌, ◌↔◌, ◌⊎◌, ℕ, pos, ◌<ℤ◌, IsTrue, List, [], ◌∷◌, ◌++◌, Contains}
 use Rattle.sign_predicates.specs.Point.{Point, as_rational}
 use Rattle.sign_predicates.specs.Orientation.{IsPositive, InClosed, side}
 use Rattle.sign_predicates.specs.Sphere.{is_outside}
 use Rattle.geo_laws.specs.Delaunay.{point, corners, numbers, as_numbers, all_numbers, AreNumbersOf, IsArranged, IsDelaunay, IsDelaunayAmong}
 use Rattle.geo_laws.specs.declared.tetrahedra.Tet.{Tet}
 use Rattle.geo_laws.specs.OrientedFace.{Face, triangle, reversed, beside}
-
--- p is the number of a further point
-pub record IsNew (ps : List Point) (ms : List ℕ) (p : ℕ) : Type 0 where
-  pub within : AreNumbersOf ps ms
-  pub on : p < length ps
-  pub is_new : ¬ Contains ms p
-
--- the two have the same corners
-abbrev pub HasSameCorners : Tet → Tet → Type 0
-HasSameCorners s t = (i : ℕ) → Contains (numbers s) i ↔ Contains (numbers t) i
-
--- f is a face of the row t, which lies on its positive side
-pub record IsFaceOf (ps : List Point) (f : Face) (t : Tet) : Type 0 where
-  pub opposite : ℕ
-  pub same_corners : HasSameCorners (beside f opposite) t
-  pub over : pos 0 <ℤ side (triangle ps f) (point ps opposite)
-
--- no point is strictly beyond the face
-abbrev pub HasNoneBeyond : List Point → List ℕ → Face → Type 0
-HasNoneBeyond ps ms f = (i : ℕ) → Contains ms i → ¬ (pos 0 <ℤ side (triangle ps f) (point ps i))
+pub use Rattle.lowest_laws.specs.Insertion.{IsNew, HasSameCorners, IsFaceOf, HasNoneBeyond, edge_and}
+pub use Rattle.lowest_laws.specs.Insertion.{Place, row_place, ghost_place, Touches, row_row, row_ghost, ghost_row, ghost_ghost, ghost_turned}
 
 -- f is a face of the hull, turned outward: a row lies behind it, and no point is strictly beyond it
 pub record IsHullFace (ps : List Point) (ms : List ℕ) (f : Face) : Type 0 where
@@ -89,10 +71,6 @@ abbrev pub OldHullLaw : Type 0
 OldHullLaw = (ps : List Point) (ms : List ℕ) (p : ℕ) → IsNew ps ms p → (some : Tet) → IsDelaunayAmong ps ms some → (f : Face) → Contains ms f.a → Contains ms f.b → Contains ms f.c
     → IsHullFace ps (p ∷ ms) f ↔ ((h : IsHullFace ps ms f) × ¬ Sees ps p f h.behind)
 
--- the face of an edge and a further corner
-abbrev pub edge_and : ℕ → ℕ → ℕ → Face
-edge_and i j o = record { a = i; b = j; c = o }
-
 -- the edge is one of a hull face that p sees, and turned one of a hull face that p doesn't see
 pub record IsHullRim (ps : List Point) (ms : List ℕ) (p : ℕ) (i j : ℕ) : Type 0 where
   pub inner : ℕ
@@ -113,23 +91,10 @@ HullEdgeLaw = (ps : List Point) (ms : List ℕ) → AreNumbersOf ps ms → (i j 
 
 -- ---- the cavity is connected
 
--- a row, or the ghost of a hull face
-pub data Place : Type 0 where
-  row_place : Tet → Place
-  ghost_place : Face → Place
-
 -- the place is in the cavity of p
 pub data IsInCavity (ps : List Point) (ms : List ℕ) (p : ℕ) : Place → Type 0 where
   row_in : (t : Tet) → IsDelaunayAmong ps ms t → ¬ HasOutside ps t p → IsInCavity ps ms p (row_place t)
   ghost_in : (f : Face) → (h : IsHullFace ps ms f) → Sees ps p f h.behind → IsInCavity ps ms p (ghost_place f)
-
--- the two places have a face in common; the last case is one ghost, its face named from another corner
-pub data Touches (ps : List Point) : Place → Place → Type 0 where
-  row_row : (f : Face) (s t : Tet) → IsFaceOf ps (reversed f) s → IsFaceOf ps f t → Touches ps (row_place s) (row_place t)
-  row_ghost : (f : Face) (t : Tet) → IsFaceOf ps (reversed f) t → Touches ps (row_place t) (ghost_place f)
-  ghost_row : (f : Face) (t : Tet) → IsFaceOf ps (reversed f) t → Touches ps (ghost_place f) (row_place t)
-  ghost_ghost : (i j o q : ℕ) → Touches ps (ghost_place (edge_and i j o)) (ghost_place (edge_and j i q))
-  ghost_turned : (i j o : ℕ) → Touches ps (ghost_place (edge_and i j o)) (ghost_place (edge_and j o i))
 
 -- a chain of places of the cavity leads from the one to the other
 pub data IsJoined (ps : List Point) (ms : List ℕ) (p : ℕ) : Place → Place → Type 0 where

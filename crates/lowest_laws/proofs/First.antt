@@ -4,7 +4,7 @@ use Rattle.std.proofs.lemmas.Int.{ints}
 use Rattle.exact_algebra.proofs.Signs.{pos_not_zero}
 use Rattle.sign_predicates.specs.Point.{Point}
 use Rattle.sign_predicates.specs.Orientation.{IsPositive}
-use Rattle.geo_laws.specs.Delaunay.{corners, numbers, IsArranged}
+use Rattle.geo_laws.specs.Delaunay.{corners, numbers, IsAmong, IsArranged}
 use Rattle.geo_laws.specs.Height.{IsLowestAmong}
 use Rattle.geo_laws.specs.declared.tetrahedra.Tet.{Tet}
 use Rattle.sign_predicates.proofs.Places.{Place, A, B, C, D, side-other}
@@ -69,7 +69,7 @@ all_corners t s ht hs apart in_t i k =
 -- ---- the faces
 
 -- no corner is beyond a face that has the tetrahedron behind it
-none_beyond : (ps : List Point) (f : Face) (t : Tet) → IsFaceOf ps (reversed f) t → HasNoneBeyond ps (numbers t) f
+pub none_beyond : (ps : List Point) (f : Face) (t : Tet) → IsFaceOf ps (reversed f) t → HasNoneBeyond ps (numbers t) f
 none_beyond ps f t face i c above = by (corner_of (beside (reversed f) face.opposite) i ((face.same_corners i).1 c))
   where
     clash : {n m : _} → m ≡ neg_ℤ n → pos 0 <ℤ n → pos 0 <ℤ m → ⊥
@@ -87,13 +87,14 @@ none_beyond ps f t face i c above = by (corner_of (beside (reversed f) face.oppo
 first_row : (lifts : ℕ → ℤ) (ps : List Point) (t : Tet) → IsPositive (corners ps t) → IsArranged t → IsLowestAmong ps (numbers t) lifts t
 first_row lifts ps t p a = record { is_on = λ i c. c; is_positive = p; is_arranged = a; others = λ i c n. absurd (n c) }
 
+-- and an arranged positive one among them is the same
+pub only_row : (ps : List Point) (t : Tet) → IsPositive (corners ps t) → IsArranged t → (s : Tet) → IsAmong (numbers t) s → IsPositive (corners ps s) → IsArranged s → s ≡ t
+only_row ps t p a s on q b =
+    let in_t = λ (u : Place). corner_of t (number s u) (corner_among (numbers t) s on u) in
+    same_row ps s t q p b a (λ i c. let k = in_t c.0 in (k.0, c.1 ∙ k.1)) (all_corners t s a b (distinct ps s q C D tt) in_t)
+
 pub law_first : FirstLaw
 law_first lifts ps t p a = record {
-  only = λ s. (λ d. only s d, λ e. subst (IsLowestAmong ps (numbers t) lifts) (sym e) (first_row lifts ps t p a));
+  only = λ s. (λ d. only_row ps t p a s d.is_on d.is_positive d.is_arranged, λ e. subst (IsLowestAmong ps (numbers t) lifts) (sym e) (first_row lifts ps t p a));
   hull = λ f face. record { behind = t; is_row = first_row lifts ps t p a; is_face = face; none_beyond = none_beyond ps f t face };
 }
-  where
-    only : (s : Tet) → IsLowestAmong ps (numbers t) lifts s → s ≡ t
-    only s d =
-        let in_t = λ (u : Place). corner_of t (number s u) (corner_among (numbers t) s d.is_on u) in
-        same_row ps s t d.is_positive p d.is_arranged a (λ i c. let k = in_t c.0 in (k.0, c.1 ∙ k.1)) (all_corners t s a d.is_arranged (distinct ps s d.is_positive C D tt) in_t)

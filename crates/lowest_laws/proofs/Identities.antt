@@ -1,6 +1,5 @@
 -- Identities of the tetrahedra on one face and of the hull faces on one edge, each one call of the ring normalizer. The chief one, `pencil`, relates
 -- three tetrahedra on a face: side(o) * residual(q, e) = side(q) * residual(o, e) - side(e) * residual(o, q), where residual(o, e) is that of e at the one of o.
-use Rattle.geo_laws.proofs.Determinants as determinants
 use lib.IntN.{*ℤ-zero}
 use Rattle.std.proofs.lemmas.Int.{ints}
 use Rattle.std.proofs.Common.{arith, sym, ◌∙◌}
@@ -9,12 +8,11 @@ use Rattle.std.proofs.Common.{◌≡◌, ℤ, pos, neg_ℤ, ◌+ℤ◌, ◌-ℤ�
 use Rattle.std.proofs.Common.{[], ◌∷◌}
 use Rattle.exact_algebra.proofs.Ring.{Expr, num, var, neg, ring, ring_given, given, same}
 use Rattle.exact_algebra.proofs.Ring.{◌⊕◌, ◌⊖◌, ◌⊗◌}
-use Rattle.sign_predicates.proofs.Terms.{PointE, RationalE, TriangleE, CornersE, pointE, rationalE, triangleE, cornersE, of_point, of_rational, of_triangle, of_corners, orientE, orient_rationalE, sideE, side_rationalE, middleE, square_lengthE, volumeE, opposite_aE, opposite_bE, opposite_cE, opposite_dE}
+use Rattle.sign_predicates.proofs.Terms.{PointE, RationalE, TriangleE, CornersE, pointE, rationalE, triangleE, cornersE, of_point, of_rational, of_triangle, of_corners, orientE, orient_rationalE, sideE, side_rationalE, middleE, volumeE, opposite_aE, opposite_bE, opposite_cE, opposite_dE}
 use Rattle.sign_predicates.specs.Point.{Point, RationalPoint}
 use Rattle.sign_predicates.specs.declared.tetrahedron.Corners.{Corners}
 use Rattle.sign_predicates.specs.Orientation.{Triangle, volume, side, side_rational, opposite_a, opposite_b, opposite_c, opposite_d, orient, orient_rational, det}
 use Rattle.geo_laws.proofs.Determinants.{middle, turned, weights-side, side_rational-turned, side_rational-as_rational}
-use Rattle.sign_predicates.specs.Sphere.{square_length}
 
 -- the tetrahedron of a triangle and a point
 abbrev pub with_apex : Triangle → Point → Corners
@@ -377,34 +375,10 @@ unfolding same
 walk-gap sk x sb y sn z e =
     ring_given (var 4 ⊗ neg (var 5)) (neg (var 0) ⊗ neg (var 1) ⊖ var 2 ⊗ neg (neg (var 3))) (given (neg (num (pos 1))) (var 0 ⊗ var 1) (var 2 ⊗ var 3 ⊖ var 4 ⊗ var 5) ∷ []) tt (sk ∷ x ∷ sb ∷ y ∷ sn ∷ z ∷ []) (e, tt)
 
--- ---- a point of the closed row and the squared lengths
-
--- the square of the distance
-abbrev pub far : Point → Point → ℤ
-far v e = (v.x -ℤ e.x) *ℤ (v.x -ℤ e.x) +ℤ (v.y -ℤ e.y) *ℤ (v.y -ℤ e.y) +ℤ (v.z -ℤ e.z) *ℤ (v.z -ℤ e.z)
-
-abbrev farE : PointE → PointE → Expr
-farE v e = (v.x ⊖ e.x) ⊗ (v.x ⊖ e.x) ⊕ (v.y ⊖ e.y) ⊗ (v.y ⊖ e.y) ⊕ (v.z ⊖ e.z) ⊗ (v.z ⊖ e.z)
-
-pub lift-closed : (t : Corners) (e : Point)
-    → volume t *ℤ square_length e -ℤ (side (opposite_a t) e *ℤ square_length t.a +ℤ side (opposite_b t) e *ℤ square_length t.b +ℤ side (opposite_c t) e *ℤ square_length t.c +ℤ side (opposite_d t) e *ℤ square_length t.d)
-    ≡ neg_ℤ (side (opposite_a t) e *ℤ far t.a e +ℤ (side (opposite_b t) e *ℤ far t.b e +ℤ (side (opposite_c t) e *ℤ far t.c e +ℤ side (opposite_d t) e *ℤ far t.d e)))
-unfolding same det orient
-lift-closed t e =
-    ring (volumeE (cornersE 0) ⊗ square_lengthE (pointE 12) ⊖ (sideE (opposite_aE (cornersE 0)) (pointE 12) ⊗ square_lengthE (cornersE 0).a ⊕ sideE (opposite_bE (cornersE 0)) (pointE 12) ⊗ square_lengthE (cornersE 0).b
-    ⊕ sideE (opposite_cE (cornersE 0)) (pointE 12) ⊗ square_lengthE (cornersE 0).c ⊕ sideE (opposite_dE (cornersE 0)) (pointE 12) ⊗ square_lengthE (cornersE 0).d))
-    (neg (sideE (opposite_aE (cornersE 0)) (pointE 12) ⊗ farE (cornersE 0).a (pointE 12) ⊕ (sideE (opposite_bE (cornersE 0)) (pointE 12) ⊗ farE (cornersE 0).b (pointE 12)
-    ⊕ (sideE (opposite_cE (cornersE 0)) (pointE 12) ⊗ farE (cornersE 0).c (pointE 12) ⊕ sideE (opposite_dE (cornersE 0)) (pointE 12) ⊗ farE (cornersE 0).d (pointE 12)))))
-    tt (of_corners t (of_point e []))
-
 -- ---- sums of four that are grouped from the right
 
 grouped : (a b c d : ℤ) → a +ℤ (b +ℤ (c +ℤ d)) ≡ a +ℤ b +ℤ c +ℤ d
 grouped a b c d = omega (arith, ints)
-
--- the sides of a point add up to the volume
-pub sides-sum : (t : Corners) (e : Point) → side (opposite_a t) e +ℤ (side (opposite_b t) e +ℤ (side (opposite_c t) e +ℤ side (opposite_d t) e)) ≡ volume t
-sides-sum t e = grouped (side (opposite_a t) e) (side (opposite_b t) e) (side (opposite_c t) e) (side (opposite_d t) e) ∙ determinants.sides-sum t e
 
 -- the side of a point at any plane is the sum of those of the corners, weighted
 pub sides-combine : (t : Corners) (f : Triangle) (x : RationalPoint)

@@ -4,8 +4,8 @@ use Rattle.sign_predicates.specs.Point.{Point}
 use Rattle.geo_laws.specs.Delaunay.{point}
 use Rattle.geo_laws.specs.OrientedFace.{Face}
 use Rattle.insert_laws.specs.Insertion.{IsNew, IsHullRim, IsRimFace, edge_and}
-use Rattle.insert_laws.proofs.Beyond.{turn}
-use Rattle.insert_laws.proofs.Rim.{law_rim_edge, law_hull_rim}
+use Rattle.lowest_laws.proofs.Beyond.{turn}
+use Rattle.insert_laws.proofs.Insert.{law_rim_edge, law_hull_rim}
 use Rattle.mesh_arena.specs.Mesh.{SlotValue, IsMesh}
 use Rattle.mesh_arena.specs.Star.{rim_at}
 use Rattle.mesh_arena.specs.StarLinks.{OnRim, Other}

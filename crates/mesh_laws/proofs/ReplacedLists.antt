@@ -12,7 +12,7 @@ use Rattle.geo_laws.proofs.Places.{number}
 use Rattle.geo_laws.proofs.Corners.{corner_among}
 use Rattle.geo_laws.specs.OrientedFace.{Face, reversed}
 use Rattle.insert_laws.specs.Insertion.{IsHullFace}
-use Rattle.insert_laws.proofs.FacePencil.{side_of}
+use Rattle.lowest_laws.proofs.FacePencil.{side_of}
 use Rattle.insert_laws.proofs.Lists.{law_same_numbers}
 use Rattle.mesh_arena.specs.Mesh.{SlotValue, IsLive}
 use Rattle.mesh_laws.specs.Living.{IsRowSlot, IsGhostSlot, IsDelaunayMesh}

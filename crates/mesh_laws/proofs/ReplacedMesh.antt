@@ -11,12 +11,11 @@ use Rattle.geo_laws.proofs.Places.{with_number}
 use Rattle.geo_laws.proofs.Corners.{IsCorner, corner_of, contains_corner, distinct}
 use Rattle.geo_laws.specs.OrientedFace.{Face, reversed, beside}
 use Rattle.insert_laws.specs.Insertion.{HasSameCorners, HasOutside, Sees, IsNew, IsHullFace, IsStarRow, edge_and}
-use Rattle.insert_laws.proofs.FacePencil.{side_of}
-use Rattle.insert_laws.proofs.Beyond.{turn}
-use Rattle.insert_laws.proofs.Bridge.{of_cons, of_new}
+use Rattle.lowest_laws.proofs.FacePencil.{side_of}
+use Rattle.lowest_laws.proofs.Beyond.{turn}
+use Rattle.lowest_laws.proofs.Bridge.{of_cons, of_new}
 use Rattle.insert_laws.proofs.Insert.{law_insertion}
-use Rattle.insert_laws.proofs.HullLaws.{law_new_hull, law_old_hull}
-use Rattle.insert_laws.proofs.Start.{law_hull_turn}
+use Rattle.insert_laws.proofs.Hull.{law_new_hull, law_old_hull, law_hull_turn}
 use Rattle.mesh_arena.specs.Mesh.{SlotValue, corners_at, corner_in, IsLive, side, at, IsMesh, Off}
 use Rattle.mesh_arena.specs.Star.{rim_at, behind_rim}
 use Rattle.mesh_arena.specs.Cavity.{IsIn}

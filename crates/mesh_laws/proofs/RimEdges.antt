@@ -8,19 +8,20 @@ use Rattle.geo_laws.proofs.Corners.{distinct}
 use Rattle.geo_laws.proofs.Arrangement.{even-swap, even_positive}
 use Rattle.geo_laws.specs.OrientedFace.{Face, reversed, beside}
 use Rattle.insert_laws.specs.Insertion.{IsNew, IsHullFace, IsHullRim, IsRimFace, edge_and}
-use Rattle.insert_laws.proofs.Bridge
-use Rattle.insert_laws.proofs.Insert as insert
-use Rattle.insert_laws.proofs.FacePencil.{side_of, side_of-reversed}
-use Rattle.insert_laws.proofs.Beyond.{turn, side-turn}
-use Rattle.insert_laws.proofs.Hull.{law_hull_edge}
-use Rattle.insert_laws.proofs.HullLaws.{law_new_hull}
-use Rattle.insert_laws.proofs.Start.{law_hull_turn}
+use Rattle.geo_laws.specs.Height.{lifted}
+use Rattle.lowest_laws.proofs.Bridge
+use Rattle.lowest_laws.proofs.Insert as insert
+use Rattle.insert_laws.proofs.Bridge.{cavity_of}
+use Rattle.insert_laws.proofs.Insert.{law_rim}
+use Rattle.lowest_laws.proofs.FacePencil.{side_of, side_of-reversed}
+use Rattle.lowest_laws.proofs.Beyond.{turn, side-turn}
+use Rattle.insert_laws.proofs.Hull.{law_hull_edge, law_new_hull, law_hull_turn}
 use Rattle.mesh_laws.proofs.Faces.{AreApart, hull_apart}
 
 module _ (ps : List Point) (ms : List ℕ) (p : ℕ) (new : IsNew ps ms p) where
   -- the new point is over a rim face
   rim_over : (f : Face) → IsRimFace ps ms p f → pos 0 <ℤ side_of ps f p
-  rim_over f is = insert.law_rim ps ms p new f is.cavity is.clear
+  rim_over f is = law_rim ps ms p new f is.cavity is.clear
 
   pub rim_apart : (f : Face) → IsRimFace ps ms p f → AreApart f
   rim_apart f is = let d = distinct ps (beside f p) (rim_over f is) in record { ab = d A B tt; ac = d A C tt; bc = d B C tt }
@@ -50,7 +51,7 @@ module _ (ps : List Point) (ms : List ℕ) (p : ℕ) (new : IsNew ps ms p) where
   -- where the rim meets the hull no rim face goes on: its further corner would be strictly beyond the hull face of the edge and the new point
   pub rim_ends : (i j q : ℕ) → IsHullRim ps ms p i j → IsRimFace ps ms p (edge_and j i q) → ⊥
   rim_ends i j q edge face =
-      (hull_with i j edge).none_beyond q (Bridge.to_cons p ms q (inr (insert.cavity_to ps ms p new (edge_and j i q) face.cavity).0.on_c))
+      (hull_with i j edge).none_beyond q (Bridge.to_cons p ms q (inr (insert.cavity_to (lifted ps) ps ms p new (edge_and j i q) (cavity_of ps ms p new (edge_and j i q) face.cavity)).0.on_c))
       (even_positive ps (beside (edge_and j i q) p) (beside (edge_and i j p) q) (even-swap ps (beside (edge_and j i q) p)) (rim_over (edge_and j i q) face))
 
   -- an edge on the hull has one before it

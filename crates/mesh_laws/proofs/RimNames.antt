@@ -6,7 +6,7 @@ use Rattle.geo_laws.specs.Delaunay.{point}
 use Rattle.geo_laws.specs.declared.tetrahedra.Tet.{Tet as Row}
 use Rattle.geo_laws.specs.OrientedFace.{Face, reversed}
 use Rattle.insert_laws.specs.Insertion.{IsNew, IsHullRim, IsRimFace}
-use Rattle.insert_laws.proofs.Beyond.{turn}
+use Rattle.lowest_laws.proofs.Beyond.{turn}
 use Rattle.mesh_arena.specs.Mesh.{SlotValue, IsLive, side, OnFace, IsMesh}
 use Rattle.mesh_arena.specs.Star.{rim_at}
 use Rattle.mesh_arena.specs.StarLinks.{OnRim}

@@ -5,17 +5,24 @@ use Rattle.sign_predicates.specs.Orientation.{IsPositive}
 use Rattle.geo_laws.specs.Delaunay.{point, corners, IsArranged}
 use Rattle.geo_laws.specs.Height.{lifted, residual_at, places}
 use Rattle.geo_laws.specs.declared.tetrahedra.Tet.{Tet as Row}
-use Rattle.geo_laws.proofs.Corners.{IsCorner, contains_corner}
-use Rattle.geo_laws.proofs.Lexicographic.{lex_same}
+use Rattle.geo_laws.proofs.Corners.{IsCorner, corner_of, contains_corner, on_of_corners}
+use Rattle.geo_laws.proofs.Lexicographic.{IsLexAbove, lex_same}
+use Rattle.geo_laws.proofs.Places.{number}
 use Rattle.geo_laws.proofs.Arrangement.{IsEven, even_residual}
 use Rattle.insert_laws.specs.Insertion.{IsNew, HasSameCorners, HasOutside}
-use Rattle.insert_laws.proofs.Bridge.{outside_above, even_of_same, corner_to}
+use Rattle.geo_laws.proofs.Lift.{law_lift}
+use Rattle.lowest_laws.proofs.Bridge.{even_of_same, corner_to}
 use Rattle.mesh_arena.specs.Mesh.{SlotValue}
 use Rattle.mesh_arena.specs.declared.slot.Corner.TheVariants.{Ghost}
 use Rattle.point_locate.specs.Place.{row_corners}
 use Rattle.mesh_laws.specs.Rule.{IsTaken}
 use Rattle.mesh_laws.specs.Living.{IsRowSlot}
 use Rattle.mesh_laws.proofs.Taken.{no_ghost, same_corners}
+
+-- a point is outside of a row exactly where it is above it
+outside_above : (qs : List Point) (t : Row) (e : ℕ) → ((i : ℕ) → IsCorner t i → i < length qs) → IsPositive (corners qs t) → e < length qs → ¬ IsCorner t e
+    → HasOutside qs t e ↔ IsLexAbove (residual_at qs (lifted qs) t e) (places (length qs))
+outside_above qs t e on p l n = law_lift qs t e (on_of_corners qs t (λ u. on (number t u) (u, refl))) l p (λ c. n (corner_of t e c))
 
 -- a four of the same corners in an even arrangement has the same points outside
 pub outside_even : (ps : List Point) (t r : Row) (p : ℕ) → ((i : ℕ) → IsCorner r i → i < length ps) → IsPositive (corners ps t) → IsPositive (corners ps r) → IsArranged r → HasSameCorners t r → p < length ps → ¬ IsCorner r p → HasOutside ps t p ↔ HasOutside ps r p

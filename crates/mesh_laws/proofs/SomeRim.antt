@@ -3,7 +3,7 @@ use Rattle.std.proofs.Common.{◌⊎◌, inl, inr, ℕ, ◌<◌, List, length, O
 use Rattle.sign_predicates.specs.Point.{Point}
 use Rattle.geo_laws.specs.Delaunay.{point, IsDelaunayAmong}
 use Rattle.geo_laws.specs.declared.tetrahedra.Tet.{Tet as Row}
-use Rattle.insert_laws.proofs.SomeRim.{law_some_rim_face}
+use Rattle.insert_laws.proofs.Insert.{law_some_rim_face}
 use Rattle.mesh_arena.specs.Mesh.{SlotValue, IsLive}
 use Rattle.mesh_laws.specs.Living.{IsRowSlot, IsGhostSlot, IsDelaunayMesh}
 use Rattle.mesh_laws.specs.RimLaws.{SomeRimLaw}

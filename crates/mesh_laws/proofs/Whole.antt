@@ -9,8 +9,8 @@ use Rattle.geo_laws.specs.declared.tetrahedra.Tet.{Tet as Row}
 use Rattle.geo_laws.proofs.Places.{at_face, all_faces}
 use Rattle.geo_laws.proofs.Arrangement.{IsEven}
 use Rattle.insert_laws.specs.Insertion.{IsNew}
-use Rattle.insert_laws.proofs.Bridge.{even_of_same}
-use Rattle.insert_laws.proofs.FacePencil.{side_of}
+use Rattle.lowest_laws.proofs.Bridge.{even_of_same}
+use Rattle.lowest_laws.proofs.FacePencil.{side_of}
 use Rattle.insert_laws.proofs.Start.{law_start}
 use Rattle.mesh_arena.specs.Mesh.{SlotValue, IsMesh}
 use Rattle.mesh_arena.specs.declared.slot.Corner.TheVariants.{Ghost}

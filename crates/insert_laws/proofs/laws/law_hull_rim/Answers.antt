@@ -1,4 +1,4 @@
-use Rattle.insert_laws.proofs.Rim.{law_hull_rim}
+use Rattle.insert_laws.proofs.Insert.{law_hull_rim}
 use Rattle.insert_laws.proofs.laws.law_hull_rim.Goals as goal
 
 pub returns : goal.returns

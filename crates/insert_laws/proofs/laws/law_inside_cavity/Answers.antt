@@ -1,4 +1,4 @@
-use Rattle.insert_laws.proofs.InsideLaw.{law_inside_cavity}
+use Rattle.insert_laws.proofs.Insert.{law_inside_cavity}
 use Rattle.insert_laws.proofs.laws.law_inside_cavity.Goals as goal
 
 pub returns : goal.returns

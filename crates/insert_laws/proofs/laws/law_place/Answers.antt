@@ -1,4 +1,4 @@
-use Rattle.insert_laws.proofs.Sides.{law_place}
+use Rattle.insert_laws.proofs.Insert.{law_place}
 use Rattle.insert_laws.proofs.laws.law_place.Goals as goal
 
 pub returns : goal.returns

@@ -1,4 +1,4 @@
-use Rattle.insert_laws.proofs.Rim.{law_rim_edge}
+use Rattle.insert_laws.proofs.Insert.{law_rim_edge}
 use Rattle.insert_laws.proofs.laws.law_rim_edge.Goals as goal
 
 pub returns : goal.returns

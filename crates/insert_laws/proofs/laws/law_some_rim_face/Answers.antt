@@ -1,4 +1,4 @@
-use Rattle.insert_laws.proofs.SomeRim.{law_some_rim_face}
+use Rattle.insert_laws.proofs.Insert.{law_some_rim_face}
 use Rattle.insert_laws.proofs.laws.law_some_rim_face.Goals as goal
 
 pub returns : goal.returns
