@@ -3,7 +3,7 @@ use Rattle.std.proofs.Common.{◌≡◌, ◌≢◌, ◌⊎◌, inl, inr, ℕ, ze
 use Rattle.std.proofs.lemmas.Bool.{cases_eq}
 use Rattle.std.proofs.lemmas.List.{get_or-set_same, get_or-set_other}
 use Rattle.sign_predicates.specs.Point.{Point}
-use Rattle.std.specs.Prelude.{Contains}
+use Rattle.std.specs.Prelude.{Contains, slice_set}
 use Rattle.geo_laws.specs.Delaunay.{numbers}
 use Rattle.geo_laws.specs.declared.tetrahedra.Tet.{Tet as Row}
 use Rattle.geo_laws.proofs.Places.{number}
@@ -11,7 +11,7 @@ use Rattle.geo_laws.specs.OrientedFace.{Face, reversed}
 use Rattle.lowest_laws.specs.Insertion.{HasSameCorners, IsFaceOf}
 use Rattle.lowest_laws.proofs.Insert.{law_one_row}
 use Rattle.lowest_laws.proofs.Lists.{law_hull_face}
-use Rattle.mesh_arena.specs.Mesh.{SlotValue, corner, corner_in, side, at, OnFace, IsMesh}
+use Rattle.mesh_arena.specs.Mesh.{SlotValue, corners_at, corner, corner_in, side, at, OnFace, IsMesh}
 use Rattle.mesh_arena.specs.declared.arena.SlotFace.{SlotFace}
 use Rattle.mesh_arena.specs.declared.slot.Corner.TheVariants.{Point as Numbered, Ghost}
 use Rattle.mesh_arena.proofs.Mesh.{side_live}
@@ -52,18 +52,29 @@ module _ (slots : List (Option SlotValue)) (s k : ℕ) (t : Row) (k4 : k < 4) (i
       never : (i : ℕ) → Numbered i ≡ Ghost → ⊥
       never i e = cc
 
+-- the slot has the point at infinity in the place k of the four t
+module _ (slots : List (Option SlotValue)) (s k : ℕ) (t : Row) (k4 : k < 4) (is : corners_at slots s ≡ Some (slice_set (row_corners t) k Ghost)) where
+  pub finite_at : (m : ℕ) → m < 4 → m ≢ k → corner slots s m ≡ Numbered (number t (place_of m))
+  finite_at m m4 off = ap (λ o. corner_in o m) is ∙ get_or-set_other (row_corners t) k m Ghost Ghost off ∙ row_corner t m m4
+
+  pub infinite_at : corner slots s k ≡ Ghost
+  infinite_at = ap (λ o. corner_in o k) is ∙ get_or-set_same (row_corners t) k Ghost Ghost (omega (arith, k4))
+
+  pub shows_hull : Shows slots s k (face_off t k)
+  shows_hull = shows slots s k t k4 finite_at
+
 module _ (lifts : ℕ → ℤ) (slots : List (Option SlotValue)) (ps : List Point) (ms : List ℕ) where
   pub row_shows : (s k : ℕ) (t : Row) → k < 4 → IsRowSlot lifts slots ps ms s t → Shows slots s k (face_off t k)
   row_shows s k t k4 slot = shows slots s k t k4 (λ m m4 off. ap (λ o. corner_in o m) slot.is ∙ row_corner t m m4)
 
   pub ghost_corner : (s k : ℕ) (t : Row) → IsGhostSlot lifts slots ps ms s t k → (m : ℕ) → m < 4 → m ≢ k → corner slots s m ≡ Numbered (number t (place_of m))
-  ghost_corner s k t slot m m4 off = ap (λ o. corner_in o m) slot.is ∙ get_or-set_other (row_corners t) k m Ghost Ghost off ∙ row_corner t m m4
+  ghost_corner s k t slot = finite_at slots s k t slot.within slot.is
 
   pub infinite_corner : (s k : ℕ) (t : Row) → IsGhostSlot lifts slots ps ms s t k → corner slots s k ≡ Ghost
-  infinite_corner s k t slot = ap (λ o. corner_in o k) slot.is ∙ get_or-set_same (row_corners t) k Ghost Ghost (omega (arith, slot.within))
+  infinite_corner s k t slot = infinite_at slots s k t slot.within slot.is
 
   pub ghost_shows : (s k : ℕ) (t : Row) → IsGhostSlot lifts slots ps ms s t k → Shows slots s k (face_off t k)
-  ghost_shows s k t slot = shows slots s k t slot.within (ghost_corner s k t slot)
+  ghost_shows s k t slot = shows_hull slots s k t slot.within slot.is
 
   module _ (mesh : IsMesh slots) (now : IsLowestMesh lifts slots ps ms) (s k : ℕ) (f : Face) (b : SlotFace) (shown : Shows slots s k f) (is : side slots s k ≡ Some b) where
     -- the neighbor shows the same face

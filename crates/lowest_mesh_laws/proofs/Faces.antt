@@ -207,8 +207,11 @@ row_beside ps t r k f h d p same corners = by (faces_agree ps f (face_off t k) d
 pub row_off : (ps : List Point) (t r : Row) (k : ℕ) → k < 4 → IsPositive (corners ps t) → HasSameCorners t r → IsFaceOf ps (face_off t k) r
 row_off ps t r k h p same = record { opposite = number t (place_of k); same_corners = same_trans _ t r (beside_same t k (face_off t k) h (λ i. (λ c. c, λ c. c))) same; over = over_off ps t k h p }
 
--- the corners of a hull face differ: the four with the corner behind it is positive
+-- the corners of a face with a row behind it differ: the four with the corner behind it is positive
+pub face_apart : (ps : List Point) (f : Face) (t : Row) → IsFaceOf ps (reversed f) t → AreApart f
+face_apart ps f t face =
+    let r = beside (reversed f) face.opposite in
+    record { ab = distinct ps r face.over A C tt; ac = distinct ps r face.over A B tt; bc = distinct ps r face.over C B tt }
+
 pub hull_apart : (lifts : ℕ → ℤ) (ps : List Point) (ms : List ℕ) (f : Face) → IsHullFace lifts ps ms f → AreApart f
-hull_apart lifts ps ms f h =
-    let t = beside (reversed f) h.is_face.opposite in
-    record { ab = distinct ps t h.is_face.over A C tt; ac = distinct ps t h.is_face.over A B tt; bc = distinct ps t h.is_face.over C B tt }
+hull_apart lifts ps ms f h = face_apart ps f h.behind h.is_face

@@ -51,8 +51,8 @@ place_at t i (C, e) = (2, omega arith, e)
 place_at t i (D, e) = (3, omega arith, e)
 
 -- a face of a row is off one place of each four with its corners
-pub place_of_face : (lifts : ℕ → ℤ) (ps : List Point) (t r : Row) (f : Face) → IsPositive (corners ps t) → HasSameCorners t r → IsFaceOf ps f r → (k : ℕ) × (k < 4) × HasSameFaceCorners f (face_off t k)
-place_of_face lifts ps t r f p same face = (k, k4, λ i. (to i, from i))
+pub place_of_face : (ps : List Point) (t r : Row) (f : Face) → IsPositive (corners ps t) → HasSameCorners t r → IsFaceOf ps f r → (k : ℕ) × (k < 4) × HasSameFaceCorners f (face_off t k)
+place_of_face ps t r f p same face = (k, k4, λ i. (to i, from i))
   where
     o : ℕ
     o = face.opposite
@@ -178,7 +178,7 @@ module _ (lifts : ℕ → ℤ) (slots : List (Option SlotValue)) (ps : List Poin
 
   module _ (v : ℕ) (t : Row) (slot : IsRowSlot lifts slots ps ms v t) (f : Face) (face : IsFaceOf ps f slot.row) where
     spot : (k : ℕ) × (k < 4) × HasSameFaceCorners f (face_off t k)
-    spot = place_of_face lifts ps t slot.row f slot.is_positive slot.same_corners face
+    spot = place_of_face ps t slot.row f slot.is_positive slot.same_corners face
 
     over : (b : SlotFace) × (side slots v spot.0 ≡ Some b)
     over = some_side (side slots v spot.0) (now.linked v spot.0 (rw slot.is refl) spot.1)

@@ -3,7 +3,6 @@ use Rattle.std.proofs.Common.{◌≡◌, ◌⊎◌, inl, inr, ℕ, ◌<◌, pos,
 use Rattle.std.proofs.Math.IntN.{neg_ℤ-neg_ℤ}
 use Rattle.std.proofs.lemmas.Bool.{cases_eq}
 use Rattle.sign_predicates.specs.Point.{Point}
-use Rattle.geo_laws.specs.Delaunay.{point}
 use Rattle.geo_laws.specs.Height.{IsLowestAmong}
 use Rattle.geo_laws.specs.declared.tetrahedra.Tet.{Tet as Row}
 use Rattle.sign_predicates.proofs.Places.{A, B, C}
@@ -148,7 +147,7 @@ module _ (lifts : ℕ → ℤ) (slots : List (Option SlotValue)) (ps : List Poin
       clear_slot f (clear_row r row face outside) =
           let s = now.rows r row in
           let face_of : IsFaceOf ps f s.2.row = subst (λ (q : Row). IsFaceOf ps f q) (sym s.3) face in
-          let at_place = place_of_face lifts ps s.1 s.2.row f s.2.is_positive s.2.same_corners face_of in
+          let at_place = place_of_face ps s.1 s.2.row f s.2.is_positive s.2.same_corners face_of in
           (s.0, at_place.0, row_over s.1 s.2 at_place.1 at_place.2 face_of)
       clear_slot f (clear_ghost hull not) = let s = now.ghosts f hull in (s.0, s.2, ghost_over s.1 s.3 (same_back (face_off s.1 s.2) f s.4) hull)
 

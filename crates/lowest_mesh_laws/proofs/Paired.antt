@@ -1,7 +1,6 @@
 -- The rim's faces are paired at their edges.
 use Rattle.std.proofs.Common.{◌≡◌, ◌≢◌, ◌⊎◌, inl, inr, ℕ, ◌<◌, List, length, Option, refl, sym, ap, subst, ◌∙◌, ℤ}
 use Rattle.sign_predicates.specs.Point.{Point}
-use Rattle.geo_laws.specs.Delaunay.{point}
 use Rattle.geo_laws.specs.OrientedFace.{Face}
 use Rattle.lowest_laws.specs.Insertion.{IsNew, IsHullRim, IsRimFace, edge_and}
 use Rattle.lowest_laws.proofs.Beyond.{turn}
@@ -14,7 +13,7 @@ use Rattle.mesh_arena.specs.declared.slot.Corner.TheVariants.{Point as Numbered,
 use Rattle.mesh_arena.specs.declared.slot.Slot.{Slot}
 use Rattle.mesh_arena.specs.declared.slot.RimFace.{RimFace}
 use Rattle.lowest_mesh_laws.specs.Rule.{IsTaken}
-use Rattle.mesh_laws.specs.Reach.{Grown}
+use Rattle.lowest_mesh_laws.specs.Reach.{Grown}
 use Rattle.lowest_mesh_laws.specs.Living.{IsFaceCorner, IsLowestMesh}
 use Rattle.lowest_mesh_laws.specs.Laws.{IsWholeFrom}
 use Rattle.lowest_mesh_laws.specs.RimLaws.{PairedLaw}

@@ -12,7 +12,7 @@ use Rattle.lowest_laws.proofs.InsideLaw.{law_inside_cavity}
 use Rattle.lowest_laws.proofs.BeyondLaw.{law_beyond_cavity}
 use Rattle.mesh_arena.specs.Mesh.{SlotValue, IsMesh}
 use Rattle.lowest_mesh_laws.specs.Rule.{IsTaken}
-use Rattle.mesh_laws.specs.Reach.{Reach, first, next}
+use Rattle.lowest_mesh_laws.specs.Reach.{Reach, first, next}
 use Rattle.lowest_mesh_laws.specs.Living.{face_off, HasSameFaceCorners, IsRowSlot, IsGhostSlot, IsLowestMesh}
 use Rattle.lowest_mesh_laws.proofs.Faces.{hull_apart, faces_agree}
 use Rattle.lowest_mesh_laws.proofs.Taken.{taken_live}

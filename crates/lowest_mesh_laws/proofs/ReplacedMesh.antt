@@ -1,10 +1,10 @@
 -- After surgery each live slot is one that stays or one of the star: together they are the lowest mesh with the new point.
-use Rattle.std.proofs.Common.{◌≡◌, ◌≢◌, ◌⊎◌, inl, inr, ℕ, ◌<◌, pos, ◌<ℤ◌, Bool, true, false, List, ◌∷◌, get_or, length, set, Option, Some, IsSome, refl, sym, ap, subst, ◌∙◌, arith, ℤ}
+use Rattle.std.proofs.Common.{◌≡◌, ◌≢◌, ◌⊎◌, inl, inr, ℕ, ◌<◌, pos, ◌<ℤ◌, List, ◌∷◌, get_or, length, set, Option, Some, IsSome, refl, sym, ap, subst, ◌∙◌, arith, ℤ}
 use Rattle.std.proofs.lemmas.Bool.{cases_eq}
 use Rattle.std.proofs.lemmas.List.{get_or-set_same, get_or-set_other}
-use Rattle.std.specs.Prelude.{Contains, IsTrue}
+use Rattle.std.specs.Prelude.{Contains}
 use Rattle.sign_predicates.specs.Point.{Point}
-use Rattle.geo_laws.specs.Delaunay.{point, numbers, AreNumbersOf}
+use Rattle.geo_laws.specs.Delaunay.{numbers, AreNumbersOf}
 use Rattle.geo_laws.specs.Height.{IsLowestAmong}
 use Rattle.geo_laws.specs.declared.tetrahedra.Tet.{Tet as Row}
 use Rattle.sign_predicates.proofs.Places.{A, B, C, D}
@@ -32,7 +32,7 @@ use Rattle.mesh_arena.proofs.AddStar.{live_by_side}
 use Rattle.mesh_arena.proofs.Replace.{in_or_not}
 use Rattle.point_locate.specs.Place.{row_corners}
 use Rattle.lowest_mesh_laws.specs.Rule.{IsTaken}
-use Rattle.mesh_laws.specs.Reach.{Grown}
+use Rattle.lowest_mesh_laws.specs.Reach.{Grown}
 use Rattle.lowest_mesh_laws.specs.Living.{face_off, IsFaceCorner, HasSameFaceCorners, IsRowSlot, IsGhostSlot, IsLowestMesh}
 use Rattle.lowest_mesh_laws.specs.Replaced.{ReplacedLaw}
 use Rattle.lowest_mesh_laws.proofs.Taken.{no_ghost, same_corners, one_ghost}

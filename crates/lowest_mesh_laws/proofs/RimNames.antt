@@ -2,7 +2,6 @@
 use Rattle.std.proofs.Common.{◌≡◌, ◌⊎◌, inl, inr, ℕ, ◌<◌, List, length, Option, refl, sym, subst, ℤ}
 use Rattle.std.proofs.lemmas.Bool.{cases_eq}
 use Rattle.sign_predicates.specs.Point.{Point}
-use Rattle.geo_laws.specs.Delaunay.{point}
 use Rattle.geo_laws.specs.declared.tetrahedra.Tet.{Tet as Row}
 use Rattle.geo_laws.specs.OrientedFace.{Face, reversed}
 use Rattle.lowest_laws.specs.Insertion.{IsNew, IsHullRim, IsRimFace}
@@ -17,7 +16,7 @@ use Rattle.mesh_arena.specs.declared.slot.Slot.{Slot}
 use Rattle.mesh_arena.specs.declared.slot.RimFace.{RimFace}
 use Rattle.mesh_arena.proofs.Mesh.{side_live}
 use Rattle.lowest_mesh_laws.specs.Rule.{IsTaken}
-use Rattle.mesh_laws.specs.Reach.{Grown}
+use Rattle.lowest_mesh_laws.specs.Reach.{Grown}
 use Rattle.lowest_mesh_laws.specs.Living.{face_off, IsRowSlot, IsGhostSlot, IsLowestMesh}
 use Rattle.lowest_mesh_laws.specs.Laws.{IsWholeFrom}
 use Rattle.lowest_mesh_laws.proofs.Faces.{row_off}

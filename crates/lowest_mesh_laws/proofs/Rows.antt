@@ -1,11 +1,10 @@
 -- What the rule says of the slot of a row: the row is in the cavity.
-use Rattle.std.proofs.Common.{◌≡◌, ◌↔◌, inl, inr, ℕ, ◌<◌, List, get_or, length, Option, refl, sym, ap, subst, ◌∙◌, ℤ}
+use Rattle.std.proofs.Common.{◌≡◌, ◌↔◌, inl, inr, ℕ, List, get_or, length, Option, refl, sym, ap, subst, ◌∙◌, ℤ}
 use Rattle.sign_predicates.specs.Point.{Point}
 use Rattle.sign_predicates.specs.Orientation.{IsPositive}
-use Rattle.geo_laws.specs.Delaunay.{point, corners, IsArranged}
+use Rattle.geo_laws.specs.Delaunay.{corners, IsArranged}
 use Rattle.geo_laws.specs.Height.{residual_at, places}
 use Rattle.geo_laws.specs.declared.tetrahedra.Tet.{Tet as Row}
-use Rattle.geo_laws.proofs.Corners.{IsCorner, contains_corner}
 use Rattle.geo_laws.proofs.Lexicographic.{lex_same}
 use Rattle.geo_laws.proofs.Arrangement.{IsEven, even_residual}
 use Rattle.lowest_laws.specs.Insertion.{IsNew, HasSameCorners, HasAbove}

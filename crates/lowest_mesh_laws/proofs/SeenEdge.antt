@@ -1,7 +1,6 @@
 -- Where the rim meets the hull: between a ghost that the new point sees and one that it doesn't.
 use Rattle.std.proofs.Common.{◌≡◌, ℕ, List, Option, Some, ℤ}
 use Rattle.sign_predicates.specs.Point.{Point}
-use Rattle.geo_laws.specs.Delaunay.{point}
 use Rattle.lowest_laws.specs.Insertion.{IsNew, Sees, IsHullFace, edge_and, IsHullRim, ghost_place, ghost_in}
 use Rattle.mesh_arena.specs.Mesh.{SlotValue, side, IsMesh}
 use Rattle.mesh_arena.specs.declared.arena.SlotFace.{SlotFace}

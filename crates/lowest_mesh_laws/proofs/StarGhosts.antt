@@ -2,7 +2,7 @@
 use Rattle.std.proofs.Common.{◌≡◌, ◌≢◌, ◌⊎◌, inl, inr, ℕ, zero, suc, ◌<◌, ℤ, pos, neg_ℤ, ◌<ℤ◌, List, ◌∷◌, length, set, Option, Some, option_map, refl, sym, ap, subst, ◌∙◌, arith}
 use Rattle.std.proofs.lemmas.Int.{ints}
 use Rattle.sign_predicates.specs.Point.{Point}
-use Rattle.geo_laws.specs.Delaunay.{point, AreNumbersOf}
+use Rattle.geo_laws.specs.Delaunay.{AreNumbersOf}
 use Rattle.geo_laws.specs.Height.{IsLowestAmong}
 use Rattle.geo_laws.specs.declared.tetrahedra.Tet.{Tet as Row}
 use Rattle.geo_laws.proofs.Places.{number, with_number}
@@ -22,7 +22,7 @@ use Rattle.mesh_arena.specs.declared.slot.Slot.{Slot}
 use Rattle.mesh_arena.specs.declared.slot.RimFace.{RimFace}
 use Rattle.point_locate.specs.Place.{row_corners}
 use Rattle.lowest_mesh_laws.specs.Rule.{IsTaken}
-use Rattle.mesh_laws.specs.Reach.{Grown}
+use Rattle.lowest_mesh_laws.specs.Reach.{Grown}
 use Rattle.lowest_mesh_laws.specs.Living.{face_off, IsFaceCorner, HasSameFaceCorners, IsGhostSlot, IsLowestMesh}
 use Rattle.lowest_mesh_laws.proofs.Faces.{AreApart, hull_apart, place_of}
 use Rattle.lowest_mesh_laws.proofs.Joined.{same_back, same_then}

@@ -28,7 +28,7 @@ use Rattle.mesh_arena.specs.declared.slot.RimFace.{RimFace}
 use Rattle.mesh_arena.proofs.Mesh.{side_live}
 use Rattle.point_locate.specs.Place.{row_corners}
 use Rattle.lowest_mesh_laws.specs.Rule.{IsTaken}
-use Rattle.mesh_laws.specs.Reach.{Reach, first, Grown}
+use Rattle.lowest_mesh_laws.specs.Reach.{Reach, first, Grown}
 use Rattle.lowest_mesh_laws.specs.Living.{face_off, IsFaceCorner, HasSameFaceCorners, IsRowSlot, IsGhostSlot, IsLowestMesh}
 use Rattle.lowest_mesh_laws.specs.Laws.{IsWholeFrom}
 use Rattle.lowest_mesh_laws.proofs.Faces.{Agree, faces_agree, place_of, beside_same, triangle_off, row_off, same_trans}

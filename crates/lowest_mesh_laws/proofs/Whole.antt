@@ -1,7 +1,6 @@
 -- Where a point lies, as point location tells it, is where the search finds all that the point takes. It takes nothing where it doesn't take that.
-use Rattle.std.proofs.Common.{◌≡◌, ◌≢◌, ◌⊎◌, inl, inr, ℕ, ◌<◌, pos, ◌<ℤ◌, ◌≤ℤ◌, List, get_or, set, Option, refl, sym, ap, subst, ◌∙◌, arith, ℤ}
+use Rattle.std.proofs.Common.{◌≡◌, ◌⊎◌, inl, inr, ℕ, ◌<◌, pos, ◌<ℤ◌, ◌≤ℤ◌, List, get_or, set, Option, refl, sym, ap, subst, ◌∙◌, arith, ℤ}
 use Rattle.std.proofs.lemmas.List.{get_or-set_same}
-use Rattle.std.specs.Prelude.{Contains}
 use Rattle.sign_predicates.specs.Point.{Point, RationalPoint, as_rational}
 use Rattle.sign_predicates.specs.Orientation.{InClosed, side_rational}
 use Rattle.geo_laws.specs.Delaunay.{point, corners}
@@ -35,7 +34,7 @@ module _ (lifts : ℕ → ℤ) (slots : List (Option SlotValue)) (ps : List Poin
   infinite_at t k k4 = get_or-set_same (row_corners t) k Ghost Ghost (omega arith)
 
   -- the slot is that of a lowest row that holds the point
-  row_round : (s : ℕ) → IsAt slots (IsInside ps (point ps p)) s → (t : Row) × (slot : IsRowSlot lifts slots ps ms s t) × InClosed (corners ps slot.row) (as_rational (point ps p))
+  pub row_round : (s : ℕ) → IsAt slots (IsInside ps (point ps p)) s → (t : Row) × (slot : IsRowSlot lifts slots ps ms s t) × InClosed (corners ps slot.row) (as_rational (point ps p))
   row_round s here = by (now.each s (rw here.is refl))
     where
       by : ((t : Row) × IsRowSlot lifts slots ps ms s t) ⊎ ((t : Row) × (k : ℕ) × IsGhostSlot lifts slots ps ms s t k) → (t : Row) × (slot : IsRowSlot lifts slots ps ms s t) × InClosed (corners ps slot.row) (as_rational (point ps p))
@@ -63,7 +62,7 @@ module _ (lifts : ℕ → ℤ) (slots : List (Option SlotValue)) (ps : List Poin
         | inr below ↦ absurd (not ((taken_row lifts slots ps ms p new s row.0 row.1).1 below))
       ]
 
-  whole_beyond : (s : ℕ) → IsAt slots (IsBeyond ps (point ps p)) s → IsWholeFrom lifts slots ps p s
+  pub whole_beyond : (s : ℕ) → IsAt slots (IsBeyond ps (point ps p)) s → IsWholeFrom lifts slots ps p s
   whole_beyond s here = by (now.each s (rw here.is refl))
     where
       by : ((t : Row) × IsRowSlot lifts slots ps ms s t) ⊎ ((t : Row) × (k : ℕ) × IsGhostSlot lifts slots ps ms s t k) → IsWholeFrom lifts slots ps p s

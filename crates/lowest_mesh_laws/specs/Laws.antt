@@ -12,7 +12,7 @@ use Rattle.point_locate.specs.Place.{IsPlace}
 use Rattle.point_locate.specs.declared.walk.Place.{Place}
 use Rattle.point_locate.specs.declared.walk.Place.TheVariants.{Inside, Beyond}
 use Rattle.lowest_mesh_laws.specs.Rule.{IsTaken}
-use Rattle.mesh_laws.specs.Reach.{Reach, Grown}
+use Rattle.lowest_mesh_laws.specs.Reach.{Reach, Grown}
 use Rattle.lowest_mesh_laws.specs.Living.{IsLowestMesh}
 
 -- the slot of a place

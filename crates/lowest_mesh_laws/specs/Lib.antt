@@ -1,4 +1,5 @@
 pub mod Rule
+pub mod Reach
 pub mod Living
 pub mod Laws
 pub mod Replaced

@@ -1,7 +1,6 @@
 -- What surgery makes of a lowest mesh, and what else leaves it one.
-use Rattle.std.specs.Prelude.{◌↔◌, ℕ, List, [], ◌∷◌, ◌++◌, Option, Contains, ℤ}
+use Rattle.std.specs.Prelude.{◌↔◌, ℕ, List, ◌∷◌, Option, Contains, ℤ}
 use Rattle.sign_predicates.specs.Point.{Point}
-use Rattle.geo_laws.specs.Delaunay.{point}
 use Rattle.geo_laws.specs.Height.{IsLowestAmong}
 use Rattle.geo_laws.specs.declared.tetrahedra.Tet.{Tet as Row}
 use Rattle.lowest_laws.specs.Insertion.{IsNew}
@@ -12,7 +11,7 @@ use Rattle.mesh_arena.specs.declared.slot.Corner.TheVariants.{Point as Numbered}
 use Rattle.mesh_arena.specs.declared.slot.Slot.{Slot}
 use Rattle.mesh_arena.specs.declared.slot.RimFace.{RimFace}
 use Rattle.lowest_mesh_laws.specs.Rule.{IsTaken}
-use Rattle.mesh_laws.specs.Reach.{Grown}
+use Rattle.lowest_mesh_laws.specs.Reach.{Grown}
 use Rattle.lowest_mesh_laws.specs.Living.{IsLowestMesh}
 
 -- Where the cavity has all slots that the new point takes, the star in place of it makes the lowest mesh with that point. (That some row

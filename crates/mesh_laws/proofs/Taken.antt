@@ -1,30 +1,12 @@
 -- A slot is a row or a ghost, and a ghost has the point at infinity in one place.
-use Rattle.std.proofs.Common.{◌≡◌, ◌↔◌, inl, inr, ℕ, zero, suc, ◌<◌, List, get_or, Bool, IsTrue, Option, Some, refl, sym, ap, subst, ◌∙◌, arith}
+use Rattle.std.proofs.Common.{◌≡◌, ◌↔◌, inl, inr, ℕ, ◌<◌, List, get_or, Bool, IsTrue, Option, Some, refl, sym, ap, subst, ◌∙◌}
 use Rattle.sign_predicates.specs.Point.{Point}
-use Rattle.geo_laws.specs.declared.tetrahedra.Tet.{Tet as Row}
-use Rattle.mesh_arena.specs.Mesh.{SlotValue, corners_at, corner_in, corner_list, IsLive, IsMesh}
-use Rattle.mesh_arena.specs.declared.slot.Corner.{Corner}
+use Rattle.mesh_arena.specs.Mesh.{SlotValue, corners_at, corner_list, IsLive, IsMesh}
 use Rattle.mesh_arena.specs.declared.slot.Corner.TheVariants.{Ghost}
 use Rattle.mesh_arena.specs.declared.slot.SlotCorners.{SlotCorners}
-use Rattle.point_locate.specs.Place.{row_corners}
+use Rattle.lowest_mesh_laws.proofs.Taken.{one_ghost}
 use Rattle.mesh_laws.specs.Rule.{IsSeen, IsTaken}
-
--- a tetrahedron of points has no point at infinity
-pub no_ghost : (t : Row) (k : ℕ) → k < 4 → get_or (row_corners t) k Ghost ≡ Ghost → ⊥
-no_ghost t zero h e = cc
-no_ghost t (suc zero) h e = cc
-no_ghost t (suc (suc zero)) h e = cc
-no_ghost t (suc (suc (suc zero))) h e = cc
-no_ghost t (suc (suc (suc (suc k)))) h e = absurd (omega arith)
-
--- a slot has one list of corners
-pub same_corners : (slots : List (Option SlotValue)) (s : ℕ) (cs ds : List Corner) → corners_at slots s ≡ Some cs → corners_at slots s ≡ Some ds → cs ≡ ds
-same_corners slots s cs ds e d = cc
-
--- the point at infinity is in one place
-pub one_ghost : (slots : List (Option SlotValue)) (s : ℕ) (cs : List Corner) (i j : ℕ) → IsMesh slots → corners_at slots s ≡ Some cs → i < 4 → j < 4 → get_or cs i Ghost ≡ Ghost → get_or cs j Ghost ≡ Ghost → i ≡ j
-one_ghost slots s cs i j mesh is i4 j4 e d =
-    mesh.differ s i j (rw is refl) i4 j4 (ap (λ o. corner_in o i) is ∙ e ∙ sym d ∙ sym (ap (λ o. corner_in o j) is))
+pub use Rattle.lowest_mesh_laws.proofs.Taken.{no_ghost, same_corners}
 
 pub taken_ghost : (slots : List (Option SlotValue)) (ps : List Point) (p : Point) (number s : ℕ) (t : SlotCorners) (place : ℕ) (b : Bool) → IsMesh slots → corners_at slots s ≡ Some (corner_list t) → place < 4 → get_or (corner_list t) place Ghost ≡ Ghost → IsTrue b ↔ IsSeen slots ps p number s place → IsTrue b ↔ IsTaken slots ps p number s
 taken_ghost slots ps p number s t place b mesh is within infinite seen = (to, from)

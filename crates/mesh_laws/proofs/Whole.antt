@@ -1,61 +1,29 @@
--- Where a point lies, as point location tells it, is where the search finds all that the point takes.
-use Rattle.std.proofs.Common.{◌≡◌, ◌≢◌, ◌⊎◌, inl, inr, ℕ, ◌<◌, pos, ◌<ℤ◌, ◌≤ℤ◌, List, get_or, set, Option, refl, sym, ap, subst, ◌∙◌, arith}
-use Rattle.std.proofs.lemmas.List.{get_or-set_same}
-use Rattle.std.specs.Prelude.{Contains}
-use Rattle.sign_predicates.specs.Point.{Point, RationalPoint, as_rational}
-use Rattle.sign_predicates.specs.Orientation.{InClosed, side_rational}
-use Rattle.geo_laws.specs.Delaunay.{point, corners}
-use Rattle.geo_laws.specs.declared.tetrahedra.Tet.{Tet as Row}
-use Rattle.geo_laws.proofs.Places.{at_face, all_faces}
-use Rattle.geo_laws.proofs.Arrangement.{IsEven}
-use Rattle.insert_laws.specs.Insertion.{IsNew}
-use Rattle.lowest_laws.proofs.Bridge.{even_of_same}
-use Rattle.lowest_laws.proofs.FacePencil.{side_of}
+-- Where a point lies, as point location tells it, is where the search finds all that the point takes: a row that holds a point apart from its corners is
+-- taken, and so is the ghost of a hull face that the point is strictly beyond.
+use Rattle.geo_laws.specs.Delaunay.{point}
+use Rattle.geo_laws.specs.Height.{lifted}
+use Rattle.geo_laws.proofs.Lift.{delaunay_of}
+use Rattle.insert_laws.proofs.Bridge.{outside}
 use Rattle.insert_laws.proofs.Start.{law_start}
-use Rattle.mesh_arena.specs.Mesh.{SlotValue, IsMesh}
-use Rattle.mesh_arena.specs.declared.slot.Corner.TheVariants.{Ghost}
-use Rattle.point_locate.specs.Place.{IsAt, IsInside, IsBeyond, row_corners}
+use Rattle.point_locate.specs.Place.{IsPlace}
+use Rattle.point_locate.specs.declared.walk.Place.{Place}
 use Rattle.point_locate.specs.declared.walk.Place.TheVariants.{Inside, Beyond}
-use Rattle.mesh_laws.specs.Living.{face_off, IsRowSlot, IsGhostSlot, IsDelaunayMesh}
-use Rattle.mesh_laws.specs.Laws.{IsWholeFrom, CavityLaw}
-use Rattle.mesh_laws.proofs.Taken.{no_ghost, same_corners}
-use Rattle.mesh_laws.proofs.Rows.{same_row, taken_row}
-use Rattle.mesh_laws.proofs.Seen.{ghost_volume, taken_sees}
-use Rattle.mesh_laws.proofs.Reached.{reached_inside, reached_beyond}
-
--- an even permutation holds the same points
-pub closed_even : (ps : List Point) (t r : Row) (x : RationalPoint) → IsEven ps t r → InClosed (corners ps t) x → InClosed (corners ps r) x
-closed_even ps t r x even holds = all_faces (λ f. pos 0 ≤ℤ side_rational f x) (corners ps r) (λ u. subst (λ z. pos 0 ≤ℤ z) (sym (even.side_is u x)) (at_face (λ f. pos 0 ≤ℤ side_rational f x) (corners ps t) holds (even.to u)))
-
-module _ (slots : List (Option SlotValue)) (ps : List Point) (ms : List ℕ) (p : ℕ) (mesh : IsMesh slots) (now : IsDelaunayMesh slots ps ms) (new : IsNew ps ms p) (apart : (i : ℕ) → Contains ms i → point ps i ≢ point ps p) where
-  infinite_at : (t : Row) (k : ℕ) → k < 4 → get_or (set (row_corners t) k Ghost) k Ghost ≡ Ghost
-  infinite_at t k k4 = get_or-set_same (row_corners t) k Ghost Ghost (omega arith)
-
-  whole_inside : (s : ℕ) → IsAt slots (IsInside ps (point ps p)) s → IsWholeFrom slots ps p s
-  whole_inside s here = by (now.each s (rw here.is refl))
-    where
-      by : ((t : Row) × IsRowSlot slots ps ms s t) ⊎ ((t : Row) × (k : ℕ) × IsGhostSlot slots ps ms s t k) → IsWholeFrom slots ps p s
-      by (inl row) =
-          let slot = row.1 in
-          let same : here.here.row ≡ row.0 = same_row here.here.row row.0 (sym here.here.is ∙ same_corners slots s _ _ here.is slot.is) in
-          let holds = closed_even ps row.0 slot.row (as_rational (point ps p)) (even_of_same ps row.0 slot.row slot.is_positive slot.is_row.is_positive slot.is_row.is_arranged slot.same_corners) (subst (λ (t : Row). InClosed (corners ps t) (as_rational (point ps p))) same here.here.holds) in
-          let not = law_start ps ms p new apart slot.row slot.is_row holds in
-          record { takes_start = (taken_row slots ps ms p new s row.0 slot).1 not; all = reached_inside slots ps ms mesh now p new s row.0 slot holds not }
-      by (inr ghost) =
-          let k4 = ghost.2.within in
-          absurd (no_ghost here.here.row ghost.1 k4 (ap (λ cs. get_or cs ghost.1 Ghost) (sym here.here.is ∙ same_corners slots s _ _ here.is ghost.2.is) ∙ infinite_at ghost.0 ghost.1 k4))
-
-  whole_beyond : (s : ℕ) → IsAt slots (IsBeyond ps (point ps p)) s → IsWholeFrom slots ps p s
-  whole_beyond s here = by (now.each s (rw here.is refl))
-    where
-      by : ((t : Row) × IsRowSlot slots ps ms s t) ⊎ ((t : Row) × (k : ℕ) × IsGhostSlot slots ps ms s t k) → IsWholeFrom slots ps p s
-      by (inl row) = absurd (no_ghost row.0 here.here.place here.here.within (ap (λ cs. get_or cs here.here.place Ghost) (same_corners slots s _ _ row.1.is here.is) ∙ here.here.infinite))
-      by (inr ghost) =
-          let slot = ghost.2 in
-          let same = same_corners slots s _ _ slot.is here.is in
-          let over : pos 0 <ℤ side_of ps (face_off ghost.0 ghost.1) p = subst (λ z. pos 0 <ℤ z) (ghost_volume ps p ghost.0 ghost.1 here.here.ghost slot.within (same ∙ here.here.is)) here.here.sees in
-          record { takes_start = (taken_sees slots ps ms p new mesh now s ghost.1 ghost.0 slot).1 (inl over); all = reached_beyond slots ps ms mesh now p new s ghost.1 ghost.0 slot over }
+use Rattle.lowest_mesh_laws.specs.Rule.{IsTaken}
+use Rattle.lowest_mesh_laws.specs.Living.{IsLowestMesh}
+use Rattle.lowest_mesh_laws.proofs.Rows.{taken_row}
+use Rattle.lowest_mesh_laws.proofs.Whole as lowest
+use Rattle.mesh_laws.specs.Laws.{slot_of, CavityLaw}
+use Rattle.mesh_laws.proofs.Bridge.{mesh_of, whole_from}
 
 pub law_cavity : CavityLaw
-law_cavity slots ps ms p mesh now new apart (Inside s) here = whole_inside slots ps ms p mesh now new apart s.index here
-law_cavity slots ps ms p mesh now new apart (Beyond s) here = whole_beyond slots ps ms p mesh now new apart s.index here
+law_cavity slots ps ms p mesh now new apart place here = whole_from slots ps ms p now new (slot_of place) (lowest.law_cavity (lifted ps) slots ps ms p mesh low new place here (taken place here))
+  where
+    low : IsLowestMesh (lifted ps) slots ps ms
+    low = mesh_of slots ps ms now
+
+    taken : (place : Place) → IsPlace slots ps (point ps p) place → IsTaken (lifted ps) slots ps p (slot_of place)
+    taken (Inside s) inside =
+        let round = lowest.row_round (lifted ps) slots ps ms p mesh low new s.index inside in
+        let row = delaunay_of ps ms now.within round.1.row round.1.is_row in
+        (taken_row (lifted ps) slots ps ms p new s.index round.0 round.1).1 (λ a. law_start ps ms p new apart round.1.row row round.2 (outside ps ms p new round.1.row row a))
+    taken (Beyond s) beyond = (lowest.whole_beyond (lifted ps) slots ps ms p mesh low new s.index beyond).takes_start

@@ -4,21 +4,14 @@ use Rattle.sign_predicates.specs.Point.{Point}
 use Rattle.geo_laws.specs.Delaunay.{point}
 use Rattle.insert_laws.specs.Insertion.{IsNew}
 use Rattle.mesh_arena.specs.Mesh.{SlotValue, IsMesh}
-use Rattle.mesh_arena.specs.Replace.{IsCavity, IsRim, IsOffRim}
-use Rattle.mesh_arena.specs.declared.slot.Corner.TheVariants.{Point as Numbered}
 use Rattle.mesh_arena.specs.declared.slot.Slot.{Slot}
 use Rattle.mesh_arena.specs.declared.slot.RimFace.{RimFace}
 use Rattle.point_locate.specs.Place.{IsPlace}
 use Rattle.point_locate.specs.declared.walk.Place.{Place}
-use Rattle.point_locate.specs.declared.walk.Place.TheVariants.{Inside, Beyond}
 use Rattle.mesh_laws.specs.Rule.{IsTaken}
-use Rattle.mesh_laws.specs.Reach.{Reach, Grown}
+use Rattle.lowest_mesh_laws.specs.Reach.{Reach, Grown}
+pub use Rattle.lowest_mesh_laws.specs.Laws.{slot_of, IsCutOut}
 use Rattle.mesh_laws.specs.Living.{IsDelaunayMesh}
-
--- the slot of a place
-abbrev pub slot_of : Place → ℕ
-slot_of (Inside s) = s.index
-slot_of (Beyond s) = s.index
 
 -- the point takes the start, and each slot that it takes is reached from there
 pub record IsWholeFrom (slots : List (Option SlotValue)) (ps : List Point) (p start : ℕ) : Type 0 where
@@ -30,12 +23,6 @@ abbrev pub CavityLaw : Type 0
 CavityLaw = (slots : List (Option SlotValue)) (ps : List Point) (ms : List ℕ) (p : ℕ) → IsMesh slots → IsDelaunayMesh slots ps ms
     → IsNew ps ms p → ((i : ℕ) → Contains ms i → point ps i ≢ point ps p)
     → (place : Place) → IsPlace slots ps (point ps p) place → IsWholeFrom slots ps p (slot_of place)
-
--- what `replace_cavity` asks of a cavity and its rim, but that the rim's faces are paired
-pub record IsCutOut (slots : List (Option SlotValue)) (cavity : List Slot) (rim : List RimFace) (p : ℕ) : Type 0 where
-  pub is_cavity : IsCavity slots cavity
-  pub is_rim : IsRim slots cavity rim
-  pub is_off_rim : IsOffRim slots rim (Numbered p)
 
 -- a cavity that was grown in a Delaunay mesh is cut out, if it has a rim
 abbrev pub CutOutLaw : Type 0

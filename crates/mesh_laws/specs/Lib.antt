@@ -1,5 +1,5 @@
+pub use Rattle.lowest_mesh_laws.specs.Reach
 pub mod Rule
-pub mod Reach
 pub mod Living
 pub mod Laws
 pub mod Replaced

@@ -1,6 +1,6 @@
 -- An arena whose live slots are the Delaunay list of some points, with its ghosts. The points are those of a list whose numbers are among
 -- `ms`.
-use Rattle.std.specs.Prelude.{◌≡◌, ◌↔◌, ◌⊎◌, ℕ, zero, suc, ◌<◌, List, Option, Some, IsSome, slice_set}
+use Rattle.std.specs.Prelude.{◌≡◌, ◌⊎◌, ℕ, ◌<◌, List, Option, Some, IsSome, slice_set}
 use Rattle.sign_predicates.specs.Point.{Point}
 use Rattle.sign_predicates.specs.Orientation.{IsPositive}
 use Rattle.geo_laws.specs.Delaunay.{corners, AreNumbersOf, IsDelaunayAmong}
@@ -10,21 +10,7 @@ use Rattle.insert_laws.specs.Insertion.{HasSameCorners, IsHullFace}
 use Rattle.mesh_arena.specs.Mesh.{SlotValue, corners_at, IsLive, side}
 use Rattle.mesh_arena.specs.declared.slot.Corner.TheVariants.{Ghost}
 use Rattle.point_locate.specs.Place.{row_corners}
-
--- the face opposite the corner in this place, from 0: where the four are positive, that corner is on its positive side
-abbrev pub face_off : Row → ℕ → Face
-face_off t zero = record { a = t.b; b = t.d; c = t.c }
-face_off t (suc zero) = record { a = t.a; b = t.c; c = t.d }
-face_off t (suc (suc zero)) = record { a = t.a; b = t.d; c = t.b }
-face_off t k = record { a = t.a; b = t.b; c = t.c }
-
--- the number is that of a corner of the face
-abbrev pub IsFaceCorner : Face → ℕ → Type 0
-IsFaceCorner f i = (i ≡ f.a) ⊎ ((i ≡ f.b) ⊎ (i ≡ f.c))
-
--- the two faces have the same corners
-abbrev pub HasSameFaceCorners : Face → Face → Type 0
-HasSameFaceCorners f g = (i : ℕ) → IsFaceCorner f i ↔ IsFaceCorner g i
+pub use Rattle.lowest_mesh_laws.specs.Living.{face_off, IsFaceCorner, HasSameFaceCorners}
 
 -- the slot has the corners of a Delaunay row, in the places of the four t: an even arrangement, since both are positive
 pub record IsRowSlot (slots : List (Option SlotValue)) (ps : List Point) (ms : List ℕ) (s : ℕ) (t : Row) : Type 0 where
