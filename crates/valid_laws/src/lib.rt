@@ -4,4 +4,4 @@
 
 mod laws;
 
-pub use laws::law_valid_complex;
+pub use laws::{law_valid_complex, law_valid_run};
