@@ -132,8 +132,8 @@ impl Living {
         rows_of(alloc, &self.arena)
     }
 
-    /// Adds a point that is not there yet, and answers its number. Each slot outside of its conflict
-    /// zone stays live, at its place and with its corners. On `NoMemory` all is as it was.
+    /// Adds a point that is not there yet, and answers its number. Each slot outside of its
+    /// conflict zone stays live, at its place and with its corners. On `NoMemory` all is as it was.
     pub fn add_point(&mut self, p: GridPoint) -> Result<u32, NoMemory>
         requires apart { (i : ℕ) → i < length self.old.points → point self.old.points i ≢ p }
         requires few { length self.old.points + 1 < 2 ^ 32 - 1 }

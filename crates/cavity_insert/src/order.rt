@@ -1,8 +1,8 @@
 //! The order in which points are inserted.
 //!
 //! In rounds, each about eight times as long as the one before, and each along a space-filling
-//! curve. The Delaunay list does not depend on it; the time to build it does (Amenta, Choi and Rote,
-//! 2003: incremental constructions con BRIO).
+//! curve. The Delaunay list does not depend on it; the time to build it does (Amenta, Choi and
+//! Rote, 2003: incremental constructions con BRIO).
 ghost use Rattle.std.specs.Prelude.{◌≡◌, ◌-◌, ◌^◌, ◌<◌, ◌≤◌, length, IfOk};
 ghost use Rattle.cavity_insert.specs.Order.{IsOrderOf};
 

@@ -45,7 +45,7 @@ VerdictAnswer text points (Err fault) = IsUnsound text points fault
 abbrev pub TextChecked : Option ℕ → MeshText → Result ℕ CheckFault → Type 0
 TextChecked decimals text = AndThen (PointsAnswer decimals text) (VerdictAnswer text)
 
--- The check of the files with this base: how many tetrahedra the mesh has, where it is sound, or the first refusal in this order: of each file
--- in turn its fetch and its text, then too many points, a point off the grid, and the first defect
+-- The check of the files with this base: how many tetrahedra the mesh has, where it is sound, or the first refusal in this order: of each
+-- file in turn its fetch and its text, then too many points, a point off the grid, and the first defect
 abbrev pub CheckAnswer : FolderSeen → List ℕ → Option ℕ → Result ℕ CheckFault → Type 0
 CheckAnswer seen base decimals = AndThen (MeshAnswer seen base) (TextChecked decimals)

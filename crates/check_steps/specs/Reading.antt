@@ -70,8 +70,8 @@ NeighborsAnswer seen base nodes (Ok (Some neighbors)) = FileAnswer seen (base ++
 NeighborsAnswer seen base nodes (Err (Missing name)) = ⊥
 NeighborsAnswer seen base nodes (Err fault) = FileAnswer seen (base ++ codes ".neigh") (neighbors_of nodes) (Err fault)
 
--- The files of a mesh with this base: its points, its rows, its faces, and its neighbors, where these are there. Each text is read before the next
--- fetch
+-- The files of a mesh with this base: its points, its rows, its faces, and its neighbors, where these are there. Each text is read before
+-- the next fetch
 abbrev pub MeshAnswer : FolderSeen → List ℕ → Result MeshText CheckFault → Type 0
 MeshAnswer seen base =
     AndThen (FileAnswer seen (base ++ codes ".node") nodes_of)

@@ -60,8 +60,8 @@ fn check_text(alloc: Global, decimals: Option<u32>, text: &MeshText) -> Result<u
 
 /// The number of tetrahedra of the mesh in the files with this base, where it is sound. It refuses
 /// with the first in this order: of each file in turn its fetch, with `Missing`, `ReadFault` or
-/// `TooLong`, and its text; over 120,000 points; a coordinate off the grid; the first defect; or for
-/// want of memory. It stores nothing.
+/// `TooLong`, and its text; over 120,000 points; a coordinate off the grid; the first defect; or
+/// for want of memory. It stores nothing.
 pub fn check_files<F: Folder>(
     alloc: Global,
     base: &Name,

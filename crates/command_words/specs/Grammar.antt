@@ -155,7 +155,8 @@ is_of_complex (Some Smesh) = true
 is_of_complex (Some Off) = true
 is_of_complex (Some Stl) = true
 
--- the words ask for a complex: by the letter p, 112, also where the extension of points puts it off, by the extension of a complex, or by the sample
+-- the words ask for a complex: by the letter p, 112, also where the extension of points puts it off, by the extension of a complex, or by
+-- the sample
 abbrev pub names_complex : List (List ℕ) → Bool
 names_complex words = (is_switched words 112 || is_sampled words) || is_of_complex (extension_of (name_of words))
 

@@ -38,8 +38,8 @@ pub record IsGoodFile (options : Options) (told : Files) : Type 0 where
   pub on_grid : grid_of (grid_options options).halvings (rounded_points options.decimals nodes.decimals) ≡ Ok grid
   pub in_space : (table : NodeTable) → IsSettled nodes (grid_options options) table → ¬ AreCoplanar table.points
 
--- Words in the grammar that ask for points alone, a good file in a folder that tells, and no fault of the folder or of the sink: the answer is
--- Done, or memory was wanting
+-- Words in the grammar that ask for points alone, a good file in a folder that tells, and no fault of the folder or of the sink: the answer
+-- is Done, or memory was wanting
 abbrev pub PointsCompleteLaw : Type 0
 PointsCompleteLaw = (words : List (List ℕ)) (folder : FolderSeen) (out : SinkSeen) (told : Files) → words_fault words ≡ None
     → AskForPoints (options_of words) → folder.files_before ≡ Some told → IsGoodFile (options_of words) told → HasNoFault folder out

@@ -8,8 +8,8 @@ use Rattle.facet_laws.specs.Region.{CoversBounded}
 use Rattle.border_laws.specs.Complex.{facet_at}
 use Rattle.complex_mesh.specs.Protection.{triangles_at}
 
--- Where the facet at a place has a plane, its triangles cover its region but for the pieces of segments, each point once; and they are among
--- these triangles
+-- Where the facet at a place has a plane, its triangles cover its region but for the pieces of segments, each point once; and they are
+-- among these triangles
 pub record IsCoveredAt (qs : List Point) (ts : List FacetTriangle) (segs : List Piece) (fs : List Facet) (k : ℕ) : Type 0 where
   pub covers : (p : ℕ × ℕ × ℕ) → plane qs (facet_at fs k) ≡ Some p → CoversBounded qs segs (facet_at fs k) (triangles_at qs fs k)
   pub there : (t : FacetTriangle) → Contains (triangles_at qs fs k) t → Contains ts t

@@ -1,4 +1,5 @@
--- A complex has one answer: it has a mesh, or one cause why there is none. Only where facets are tangled there may be both, and several such causes.
+-- A complex has one answer: it has a mesh, or one cause why there is none. Only where facets are tangled there may be both, and several
+-- such causes.
 use Rattle.std.specs.Prelude.{◌≡◌, ◌≢◌, List}
 use Rattle.sign_predicates.specs.Point.{Point}
 use Rattle.geo_laws.specs.Complex.{Complex}

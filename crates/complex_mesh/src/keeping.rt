@@ -13,7 +13,8 @@ use hole_carve::{Marks, carve, kept_marks, mark_regions};
 use std::alloc::Global;
 use tet_ports::NoMemory;
 
-/// The marks of the kept tetrahedra of a list: each has the first region with which a free path joins it.
+/// The marks of the kept tetrahedra of a list: each has the first region with which a free path
+/// joins it.
 fn marks_of(
     alloc: Global,
     points: &Points,

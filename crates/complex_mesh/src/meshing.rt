@@ -18,7 +18,8 @@ use plc_files::segments;
 use segment_protect::{pieces, protect};
 use std::alloc::Global;
 
-/// The mesh of a complex whose facets are flat, from the segments and facets that are meshed: the latter are those of `meshed`.
+/// The mesh of a complex whose facets are flat, from the segments and facets that are meshed: the
+/// latter are those of `meshed`.
 fn mesh_facets(
     alloc: Global,
     points: Points,
@@ -41,17 +42,24 @@ fn mesh_facets(
     Ok(mesh)
 }
 
-/// The mesh of a complex: coplanar facets that are joined over common sides are one facet each, unless facets are kept apart; points are added on segments until each piece of these is a side of a Delaunay tetrahedron; each facet's triangles are those of
-/// its plane's Delaunay triangulation; the Delaunay tetrahedra that a facet crosses are replaced, on each side of the facet's plane, by those of the
-/// cavity's corners on that side, or where two facets cross one, by tetrahedra grown from face to face; and what a free path joins with the outside, where
-/// the hull isn't kept, or with a hole point is carved away.
+/// The mesh of a complex: coplanar facets that are joined over common sides are one facet each,
+/// unless facets are kept apart; points are added on segments until each piece of these is a side
+/// of a Delaunay tetrahedron; each facet's triangles are those of its plane's Delaunay
+/// triangulation; the Delaunay tetrahedra that a facet crosses are replaced, on each side of the
+/// facet's plane, by those of the cavity's corners on that side, or where two facets cross one, by
+/// tetrahedra grown from face to face; and what a free path joins with the outside, where the hull
+/// isn't kept, or with a hole point is carved away.
 ///
-/// The answer is the mesh where the memory is enough and no cause holds of the following, else the first of these: all points lie in one plane
-/// (`Flat`); a facet is not flat (`NotFlat`); two pieces of segments are not properly met (`SegmentsCross`); protection ends at a missing piece that may
-/// not be halved again (`GridEnd`), or after as many added points as allowed (`BudgetEnd`); two triangles, or a triangle and a piece, are not properly met
-/// (`Crossing`). Where two facets cross a Delaunay tetrahedron, the answer is the mesh, or an anomaly that stands against it (`NoFill`).
+/// The answer is the mesh where the memory is enough and no cause holds of the following, else the
+/// first of these: all points lie in one plane (`Flat`); a facet is not flat (`NotFlat`); two
+/// pieces of segments are not properly met (`SegmentsCross`); protection ends at a missing piece
+/// that may not be halved again (`GridEnd`), or after as many added points as allowed
+/// (`BudgetEnd`); two triangles, or a triangle and a piece, are not properly met (`Crossing`).
+/// Where two facets cross a Delaunay tetrahedron, the answer is the mesh, or an anomaly that stands
+/// against it (`NoFill`).
 ///
-/// Source: constrained Delaunay tetrahedralizations of a complex whose segments are protected (Shewchuk, 2002).
+/// Source: constrained Delaunay tetrahedralizations of a complex whose segments are protected
+/// (Shewchuk, 2002).
 pub fn mesh_complex(
     alloc: Global,
     points: Points,

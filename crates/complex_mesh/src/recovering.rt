@@ -9,7 +9,8 @@ use facet_recover::refill;
 use geo_laws::{FacetTriangles, Points, TetList};
 use std::alloc::Global;
 
-/// The Delaunay list with the cavities of crossing facets filled again. `NoFill` comes only where two facets cross a tetrahedron, with an anomaly that is there.
+/// The Delaunay list with the cavities of crossing facets filled again. `NoFill` comes only where
+/// two facets cross a tetrahedron, with an anomaly that is there.
 pub(crate) fn recovered(
     alloc: Global,
     points: &Points,

@@ -1,3 +1,3 @@
-//! Proofs over the whole numbers that every exact crate cites: polynomial identities, sizes of sums of products, and
-//! signs. It has no code.
+//! Proofs over the whole numbers that every exact crate cites: polynomial identities, sizes of sums
+//! of products, and signs. It has no code.
 #![tactic(auto)]

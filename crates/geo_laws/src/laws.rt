@@ -2,8 +2,8 @@
 ghost use Rattle.geo_laws.specs.Laws.{ThreeTermLaw, LiftLaw, ResidualLaw, RadicalLaw, NudgeLaw, HullLaw, LeastHeightLaw, CoverLaw, DelaunayListLaw};
 
 /// The three-term relation: for points with a common edge from `a` to `b`,
-/// `orient(a,b,c,d)*orient(a,b,e,f) - orient(a,b,c,e)*orient(a,b,d,f) + orient(a,b,c,f)*orient(a,b,d,e) = 0`.
-/// Source: the Grassmann-Pluecker relations of determinants.
+/// `orient(a,b,c,d)*orient(a,b,e,f) - orient(a,b,c,e)*orient(a,b,d,f) +
+/// orient(a,b,c,f)*orient(a,b,d,e) = 0`. Source: the Grassmann-Pluecker relations of determinants.
 pub fn law_three_term()
     ensures { ThreeTermLaw }
 {}

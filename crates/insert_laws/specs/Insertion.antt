@@ -1,7 +1,7 @@
--- How the Delaunay list changes when a point is added (incremental insertion: Bowyer 1981, Watson 1981). The points are those of a list whose numbers
--- are among `ms`, and the new one may have any other number. The space outside of the hull is cut into ghosts, one over each face of the hull. The cavity
--- of the new point are the tetrahedra that don't have it outside and the ghosts of the hull faces that it sees; its rim are the faces between the
--- cavity and the rest; its star are the tetrahedra of the new point and the rim's faces.
+-- How the Delaunay list changes when a point is added (incremental insertion: Bowyer 1981, Watson 1981). The points are those of a list
+-- whose numbers are among `ms`, and the new one may have any other number. The space outside of the hull is cut into ghosts, one over each
+-- face of the hull. The cavity of the new point are the tetrahedra that don't have it outside and the ghosts of the hull faces that it
+-- sees; its rim are the faces between the cavity and the rest; its star are the tetrahedra of the new point and the rim's faces.
 use Rattle.std.specs.Prelude.{◌≡◌, ◌≢◌, ◌↔◌, ◌⊎◌, ℕ, pos, ◌<ℤ◌, IsTrue, List, [], ◌∷◌, ◌++◌, Contains}
 use Rattle.sign_predicates.specs.Point.{Point, as_rational}
 use Rattle.sign_predicates.specs.Orientation.{IsPositive, InClosed, side}
@@ -27,7 +27,8 @@ HasOutside ps t p = IsTrue (is_outside (corners ps t) (as_numbers t) (point ps p
 abbrev pub Sees : List Point → ℕ → Face → Tet → Type 0
 Sees ps p f behind = (pos 0 <ℤ side (triangle ps f) (point ps p)) ⊎ ((side (triangle ps f) (point ps p) ≡ pos 0) × ¬ HasOutside ps behind p)
 
--- On the positive side of the face stands a place of the cavity of p: a row that doesn't have p outside, or the ghost of a hull face that p sees
+-- On the positive side of the face stands a place of the cavity of p: a row that doesn't have p outside, or the ghost of a hull face that p
+-- sees
 pub data IsCavityPlace (ps : List Point) (ms : List ℕ) (p : ℕ) (f : Face) : Type 0 where
   cavity_row : (t : Tet) → IsDelaunayAmong ps ms t → IsFaceOf ps f t → ¬ HasOutside ps t p → IsCavityPlace ps ms p f
   cavity_ghost : (h : IsHullFace ps ms f) → Sees ps p f h.behind → IsCavityPlace ps ms p f
@@ -46,7 +47,8 @@ pub record IsStarRow (ps : List Point) (ms : List ℕ) (p : ℕ) (t : Tet) : Typ
   pub cavity : IsCavityPlace ps ms p face
   pub clear : IsClearPlace ps ms p (reversed face)
 
--- The Delaunay rows with p are those without that have p outside, and the star of p over the rim of its cavity. (That some row is there says that the points aren't all coplanar.)
+-- The Delaunay rows with p are those without that have p outside, and the star of p over the rim of its cavity. (That some row is there
+-- says that the points aren't all coplanar.)
 abbrev pub InsertionLaw : Type 0
 InsertionLaw = (ps : List Point) (ms : List ℕ) (p : ℕ) → IsNew ps ms p → (some : Tet) → IsDelaunayAmong ps ms some → (t : Tet)
     → IsDelaunayAmong ps (p ∷ ms) t ↔ ((IsDelaunayAmong ps ms t × HasOutside ps t p) ⊎ IsStarRow ps ms p t)
@@ -143,7 +145,8 @@ pub record IsRimFace (ps : List Point) (ms : List ℕ) (p : ℕ) (f : Face) : Ty
   pub cavity : IsCavityPlace ps ms p f
   pub clear : IsClearPlace ps ms p (reversed f)
 
--- across each edge of a rim face lies another rim face, or the hull between a face that p sees and one that it doesn't; and at most one rim face
+-- across each edge of a rim face lies another rim face, or the hull between a face that p sees and one that it doesn't; and at most one rim
+-- face
 abbrev pub RimEdgeLaw : Type 0
 RimEdgeLaw = (ps : List Point) (ms : List ℕ) (p : ℕ) → IsNew ps ms p → (i j k : ℕ) → IsRimFace ps ms p (edge_and i j k)
     → (IsHullRim ps ms p i j ⊎ ((q : ℕ) × IsRimFace ps ms p (edge_and j i q))) × ((q : ℕ) → IsRimFace ps ms p (edge_and i j q) → k ≡ q)

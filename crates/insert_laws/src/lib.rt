@@ -1,4 +1,5 @@
-//! The laws of inserting a point into a Delaunay list: the cavity, its rim and the new point's star, the hull, and that the cavity is connected.
+//! The laws of inserting a point into a Delaunay list: the cavity, its rim and the new point's
+//! star, the hull, and that the cavity is connected.
 #![tactic(auto)]
 
 mod laws;

@@ -1,4 +1,5 @@
--- Merged facets: coplanar facets that are joined over a common side, directly or in a chain, are one facet, and the side is inner and no segment.
+-- Merged facets: coplanar facets that are joined over a common side, directly or in a chain, are one facet, and the side is inner and no
+-- segment.
 use Rattle.std.specs.Prelude.{◌≡◌, ◌↔◌, ℕ, ◌<◌, ◌≤◌, ℤ, pos, ◌≤ℤ◌, Bool, false, IsTrue, not, ◌&&◌, ◌==◌, nat_lt, if◌then◌else◌, Option, None, List, [], ◌∷◌, ◌++◌, map, filter, flat_map, count_by, length, zip, Contains}
 use Rattle.std.specs.List.{AllByRecursion, list_any, slice_index_or}
 use Rattle.sign_predicates.specs.Point.{Point, from_to}
@@ -20,7 +21,8 @@ only_polygon f = elim f.polygons [ [] ↦ [] | p ∷ ps ↦ if length ps == 0 &&
 abbrev pub has_span : List Point → List ℕ → Bool
 has_span ps p = list_any (λ a. list_any (λ b. list_any (λ c. spans_plane ps a b c) p) p) p
 
--- Above 0 where i and j, in one plane with the side, lie on the same side of its line; below 0 where they lie on either side; 0 where one is on it
+-- Above 0 where i and j, in one plane with the side, lie on the same side of its line; below 0 where they lie on either side; 0 where one
+-- is on it
 abbrev pub alike_turned : List Point → Piece → ℕ → ℕ → ℤ
 alike_turned ps s i j =
     let d = from_to (point ps s.a) (point ps s.b) in
@@ -46,8 +48,9 @@ MeetsOthers ps s p = AllByRecursion (λ r. same_ends s r ≡ false → ProperlyM
 abbrev pub together : Facet → Facet → Facet
 together f g = record { polygons = f.polygons ++ g.polygons; holes = [] }
 
--- Two facets with their markers are joined over a side: each has one polygon, not on a line, and no hole point; the markers are alike; all corners lie in one plane;
--- the side stands in each at one place, with the one facet on the one hand of it and the other on the other; and it is properly met with the other sides
+-- Two facets with their markers are joined over a side: each has one polygon, not on a line, and no hole point; the markers are alike; all
+-- corners lie in one plane; the side stands in each at one place, with the one facet on the one hand of it and the other on the other; and
+-- it is properly met with the other sides
 pub record AreJoinedOver (ps : List Point) (s : Piece) (f g : Facet) (m n : Option ℤ) : Type 0 where
   pub first_spans : IsTrue (has_span ps (only_polygon f))
   pub second_spans : IsTrue (has_span ps (only_polygon g))
@@ -113,6 +116,7 @@ merged_segments inner c = first_places (flat_map (outer_sides inner) (zip (numbe
 abbrev pub members : (ℕ → ℕ) → Complex → ℕ → List (ℕ × Facet)
 members group c f = filter (λ g. group g.0 == f) (zip (numbers_below (length c.facets)) (facets c))
 
--- the merged facet that stands at the number: the polygons and hole points of its members. It has none where the number is not the least of its group
+-- the merged facet that stands at the number: the polygons and hole points of its members. It has none where the number is not the least of
+-- its group
 abbrev pub merged_facet : (ℕ → ℕ) → Complex → ℕ → Facet
 merged_facet group c f = record { polygons = flat_map (λ g. g.1.polygons) (members group c f); holes = flat_map (λ g. g.1.holes) (members group c f) }

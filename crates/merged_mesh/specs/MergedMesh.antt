@@ -47,8 +47,8 @@ abbrev pub MergedEndsLaw : Type 0
 MergedEndsLaw = (ps : List Point) (c : Complex) (inner : ℕ → Piece → Bool) → HasCornersOn ps c
     → All (HasTwoEnds (length ps)) (merged_segments inner c)
 
--- The points `ps` and the complex that are given, with flat facets; its groups and inner sides; the points `qs` and the pieces `rest` with which
--- the protection of the segments ends; the merged facets' triangles, pairwise properly met
+-- The points `ps` and the complex that are given, with flat facets; its groups and inner sides; the points `qs` and the pieces `rest` with
+-- which the protection of the segments ends; the merged facets' triangles, pairwise properly met
 pub record IsMergedRecovery (depth splits : ℕ) (ps : List Point) (c : Complex) (group : ℕ → ℕ) (inner : ℕ → Piece → Bool) (qs : List Point) (rest : List Piece) (ts : List FacetTriangle) : Type 0 where
   pub corners : HasCornersOn ps c
   pub flat : AreFlat ps c

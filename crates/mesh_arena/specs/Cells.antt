@@ -12,8 +12,8 @@ abbrev pub number_in : Corner → ℕ
 number_in (Point i) = i
 number_in Ghost = 0
 
--- A link is one number for a face: the slot behind it times 16, and the place of the shared face in that slot, or 4 where there is none, and 8
--- more where the corner opposite the face is the point at infinity. The first link of a free cell has the next free cell and 5
+-- A link is one number for a face: the slot behind it times 16, and the place of the shared face in that slot, or 4 where there is none,
+-- and 8 more where the corner opposite the face is the point at infinity. The first link of a free cell has the next free cell and 5
 abbrev pub slot_in : ℕ → ℕ
 slot_in link = link / 16
 

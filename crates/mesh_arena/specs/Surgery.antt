@@ -20,7 +20,8 @@ star_at star r = slice_index_or star r no_slot
 abbrev pub star_corners : List StarSlot → ℕ → List Corner
 star_corners star r = cell_corners (star_at star r).cell
 
--- a slot for each of the first n faces, with no neighbor: it has the corners of the slot behind the face, p in place of the corner opposite it
+-- a slot for each of the first n faces, with no neighbor: it has the corners of the slot behind the face, p in place of the corner opposite
+-- it
 pub record Plans (slots : List (Option SlotValue)) (rim : List RimFace) (p : Corner) (star : List StarSlot) (n : ℕ) : Type 0 where
   pub len : length star ≡ n
   pub bare : (r : ℕ) → r < n → IsBare (star_at star r).cell

@@ -11,7 +11,8 @@ use Rattle.mesh_check.specs.Corners.{face_in, point_in, entry_in}
 use Rattle.mesh_check.specs.FaceSets.{HasFace}
 use Rattle.mesh_check.specs.declared.face_set.FaceKey.{FaceKey}
 
--- the faces opposite two corners are one face that is not in the set, and the second corner is strictly inside the sphere round the first row
+-- the faces opposite two corners are one face that is not in the set, and the second corner is strictly inside the sphere round the first
+-- row
 abbrev pub IsBentOnce : {S : Type 0} → List Point → HashSet FaceKey S → Tet → Tet → ℕ → ℕ → Type 0
 IsBentOnce ps listed s t p q =
     (face_in s p ≡ face_in t q) × (¬ HasFace listed (face_in s p)) × (pos 0 <ℤ in_sphere (corners ps s) (point ps (point_in t q)))

@@ -43,8 +43,8 @@ AreOpposite x y = (pos 0 <ℤ x) × (y <ℤ pos 0) ⊎ (x <ℤ pos 0) × (pos 0 
 abbrev pub side_of : List Point → Face → ℕ → ℤ
 side_of ps f e = side (record { a = point ps f.a; b = point ps f.b; c = point ps f.c }) (point ps e)
 
--- The rows share a face, and the corners opposite it lie on one side of it: not strictly on different sides. Where the rows are positive, neither
--- corner is on the face's plane
+-- The rows share a face, and the corners opposite it lie on one side of it: not strictly on different sides. Where the rows are positive,
+-- neither corner is on the face's plane
 abbrev pub LieOnOneSide : List Point → Tet → Tet → Type 0
 LieOnOneSide ps s t =
     (p : ℕ) × (q : ℕ) × IsShared s t p q × ¬ AreOpposite (side_of ps (face_in s p) (point_in s p)) (side_of ps (face_in t q) (point_in t q))

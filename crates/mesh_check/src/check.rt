@@ -93,10 +93,10 @@ fn faces_defect(
     }
 }
 
-/// Whether the rows are those of one mesh, whose faces and neighbors are listed: Sound exactly where
-/// there is no defect, else the first one. Each row names four of the points. Where no neighbors are
-/// listed, those of the rows themselves stand in their place. It takes time in about the number of
-/// rows and faces, and refuses for want of memory alone.
+/// Whether the rows are those of one mesh, whose faces and neighbors are listed: Sound exactly
+/// where there is no defect, else the first one. Each row names four of the points. Where no
+/// neighbors are listed, those of the rows themselves stand in their place. It takes time in about
+/// the number of rows and faces, and refuses for want of memory alone.
 pub fn check_mesh(
     alloc: Global,
     points: &Points,

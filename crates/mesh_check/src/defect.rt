@@ -1,7 +1,7 @@
 //! What stands against a mesh.
 
-/// What stands against a mesh. Rows and listed faces are named by their places, from 0, and a corner
-/// by its place in its row, from 0.
+/// What stands against a mesh. Rows and listed faces are named by their places, from 0, and a
+/// corner by its place in its row, from 0.
 #[derive(Clone, Copy, Debug, PartialEq, Eq)]
 pub enum Defect {
     /// The row is not a positive tetrahedron.

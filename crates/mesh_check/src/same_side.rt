@@ -136,8 +136,8 @@ fn paired(place: usize, met: Option<usize>, found: Option<(usize, usize)>) -> Op
     }
 }
 
-/// The first two rows that lie on one side of a face that they share. The rows are gone through from
-/// the last one, and for each side the first of those that have gone by is kept.
+/// The first two rows that lie on one side of a face that they share. The rows are gone through
+/// from the last one, and for each side the first of those that have gone by is kept.
 pub(crate) fn first_same_side(
     alloc: Global,
     points: &Points,

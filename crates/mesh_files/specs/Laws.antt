@@ -9,7 +9,8 @@ use Rattle.mesh_files.specs.Texts.{ele_text_of, AreNamed}
 abbrev pub AreInOneLine : List Region → Type 0
 AreInOneLine regions = All (λ r. ¬ Contains r.attribute 10) regions
 
--- two lists of tetrahedra on the same points, whose names differ, that have the same text, each without marks or with any marks, are one list
+-- two lists of tetrahedra on the same points, whose names differ, that have the same text, each without marks or with any marks, are one
+-- list
 abbrev pub EleTextLaw : Type 0
 EleTextLaw = (names : List ℕ) (first : ℕ) (marks marks' : Option (List (Option ℕ))) (regions regions' : List Region) (rows rows' : List Tet)
     → AllPairs ◌≢◌ names → All (λ n. n + first < 2 ^ 64) names

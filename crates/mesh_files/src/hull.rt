@@ -1,4 +1,5 @@
-//! The rows of the face file of a mesh without facets, of which only the faces on its hull are asked for.
+//! The rows of the face file of a mesh without facets, of which only the faces on its hull are
+//! asked for.
 ghost use Rattle.std.specs.Prelude.{◌≡◌, false, [], List, AllPairs, IfOk};
 ghost use Rattle.sign_predicates.specs.Point.{Point};
 ghost use Rattle.geo_laws.specs.Complex.{Complex};

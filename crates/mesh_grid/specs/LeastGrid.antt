@@ -66,7 +66,8 @@ coordinate_on g d = signed (is_negative d) (units_on g d)
 abbrev pub point_on : Grid → DecimalPoint → Point
 point_on g p = record { x = coordinate_on g p.x; y = coordinate_on g p.y; z = coordinate_on g p.z }
 
--- A number whose terms have no more factors below them than the grid has is exactly so many units: its size is units / (10^decimals × 2^halvings)
+-- A number whose terms have no more factors below them than the grid has is exactly so many units: its size is units / (10^decimals ×
+-- 2^halvings)
 abbrev pub UnitsLaw : Type 0
 UnitsLaw = (g : Grid) (d : Scaled) → (terms_of d).fives ≤ g.decimals → (terms_of d).twos ≤ g.decimals + g.halvings
     → unsigned_abs d.value * 10 ^ g.decimals * 2 ^ g.halvings ≡ units_on g d * 10 ^ d.scale

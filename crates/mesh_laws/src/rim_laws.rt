@@ -26,7 +26,8 @@ pub fn law_placed()
 {}
 
 /// Each point of the grid, new or not, is in the closed tetrahedron of a slot of a Delaunay mesh or
-/// strictly beyond the hull face of a ghost: what `locate` asks of the mesh holds, from any live slot.
+/// strictly beyond the hull face of a ghost: what `locate` asks of the mesh holds, from any live
+/// slot.
 pub fn law_somewhere()
     ensures { SomewhereLaw }
 {}

@@ -9,8 +9,8 @@ use Rattle.node_files.specs.declared.table.NodeTable.{NodeTable}
 abbrev pub IsKept : List Point → ℕ → Type 0
 IsKept ps i = (i < length ps) × ((j : ℕ) → j < i → point ps j ≢ point ps i)
 
--- `points` are those of the listed points that are equal to no earlier one, in order; `names` has the place of each of them in the list, and
--- `folded` has for each listed point the place of the one of them that is equal to it
+-- `points` are those of the listed points that are equal to no earlier one, in order; `names` has the place of each of them in the list,
+-- and `folded` has for each listed point the place of the one of them that is equal to it
 pub record IsFolded (listed points : List Point) (names folded : List ℕ) : Type 0 where
   pub ascending : AllPairs (λ i j. i < j) names
   pub kept : (i : ℕ) → Contains names i ↔ IsKept listed i
@@ -18,6 +18,7 @@ pub record IsFolded (listed points : List Point) (names folded : List ℕ) : Typ
   pub as_many : length folded ≡ length listed
   pub equal : (i : ℕ) → i < length listed → (slice_index folded i < length points) × (point points (slice_index folded i) ≡ point listed i)
 
--- the names of a table's points and of so many added ones: those of the table, and for the added ones the numbers behind all its listed points
+-- the names of a table's points and of so many added ones: those of the table, and for the added ones the numbers behind all its listed
+-- points
 abbrev pub names_with : NodeTable → ℕ → List ℕ
 names_with table added = table.names ++ range_with_len (length table.listed) added

@@ -69,7 +69,8 @@ point_onto header before line text = do
   point ← point_of header.attribute_count header.flag before line
   Ok (point.number, with_point before text point)
 
--- a table: its first number is 0 or 1, each point has as many attributes as stated, at most 100, and a marker where the flag is set, and the points can be named by 32 bits
+-- a table: its first number is 0 or 1, each point has as many attributes as stated, at most 100, and a marker where the flag is set, and
+-- the points can be named by 32 bits
 pub record IsNodeText (text : NodeText) : Type 0 where
   pub first : text.first ≤ 1
   pub few_attributes : text.attribute_count ≤ 100

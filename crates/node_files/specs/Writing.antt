@@ -56,8 +56,8 @@ list_text table added first attributes markers =
 abbrev pub node_text : NodeTable → List Point → ℕ → List ℕ
 node_text table added first = list_text table added first (replicate table.attribute_count (48 ∷ [])) (replicate (marks_of table.flag) (pos 0))
 
--- each listed point has as many attributes as stated and a marker where the flag is set, the grid is halved at most 12 times, and equal points
--- are folded
+-- each listed point has as many attributes as stated and a marker where the flag is set, the grid is halved at most 12 times, and equal
+-- points are folded
 pub record IsNodeTable (table : NodeTable) : Type 0 where
   pub attributes : length table.attributes ≡ table.attribute_count * length table.listed
   pub markers : length table.markers ≡ marks_of table.flag * length table.listed

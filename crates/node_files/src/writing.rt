@@ -218,8 +218,8 @@ fn put_list(
 }
 
 /// The text of a point list, whose points have their numbers from `first` on: the first line; the
-/// all listed points with their attributes, byte for byte, and their markers; then the added points,
-/// with attributes 0 and the marker 0. Coordinates are exact decimals.
+/// all listed points with their attributes, byte for byte, and their markers; then the added
+/// points, with attributes 0 and the marker 0. Coordinates are exact decimals.
 pub fn write_node(
     alloc: Global,
     table: &NodeTable,

@@ -1,4 +1,5 @@
-//! Point location in a living Delaunay mesh: a walk over its slots, and a scan where it does not end.
+//! Point location in a living Delaunay mesh: a walk over its slots, and a scan where it does not
+//! end.
 #![tactic(auto)]
 
 mod look;

@@ -83,8 +83,8 @@ asks_uses options = not options.quiet || (not options.no_face || options.neighbo
 
 -- ---- the outputs
 
--- A mesh that can be written: each corner of a tetrahedron has a name, its triangles are met by the faces of its tetrahedra and are of facets of the complex, and its marks, where it has
--- some, are one for each tetrahedron, of regions of the complex
+-- A mesh that can be written: each corner of a tetrahedron has a name, its triangles are met by the faces of its tetrahedra and are of
+-- facets of the complex, and its marks, where it has some, are one for each tetrahedron, of regions of the complex
 pub record IsWritable (mesh : Meshed) : Type 0 where
   pub table : IsNodeTable mesh.table
   pub few : length mesh.table.listed + length mesh.added < 2 ^ 32

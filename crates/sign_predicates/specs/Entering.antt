@@ -22,7 +22,8 @@ pub record FacesOpen (p q : Lows) : Type 0 where
   pub c_open : ¬ (IsTrue p.c × IsTrue q.c)
   pub d_open : ¬ (IsTrue p.d × IsTrue q.d)
 
--- where the leg from p to q leaves the inner side of one face and comes to that of another, it passes their common edge, from u to v, on the inner side
+-- where the leg from p to q leaves the inner side of one face and comes to that of another, it passes their common edge, from u to v, on
+-- the inner side
 abbrev pub PassesEdge : Bool → Bool → Point → Point → Point → Point → Type 0
 PassesEdge low_q low_p u v p q = IsTrue low_q → IsTrue low_p → pos 0 <ℤ orient u v q p
 

@@ -63,7 +63,8 @@ fn apart_z(
     apart_along(a.z, b.z, c.z, d.z, e.z, f.z)
 }
 
-/// Whether the boxes of two triangles, with sides along the axes, are apart: then no point lies in both.
+/// Whether the boxes of two triangles, with sides along the axes, are apart: then no point lies in
+/// both.
 #[inline]
 pub fn boxes_apart(
     a: GridPoint,

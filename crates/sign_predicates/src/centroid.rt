@@ -43,7 +43,8 @@ fn orient_centroid_sum(a: GridPoint, b: GridPoint, c: GridPoint, t: &Corners) ->
     )
 }
 
-/// On which side of the plane through `a`, `b` and `c` the centroid of `t` lies. The sum is that of `orient` four times over, below `2^78` in size.
+/// On which side of the plane through `a`, `b` and `c` the centroid of `t` lies. The sum is that of
+/// `orient` four times over, below `2^78` in size.
 #[inline]
 pub fn orient_centroid(a: GridPoint, b: GridPoint, c: GridPoint, t: &Corners) -> Sign
     ensures { IsSignOf result (orient_rational a b c (centroid t.now)) }
@@ -51,7 +52,8 @@ pub fn orient_centroid(a: GridPoint, b: GridPoint, c: GridPoint, t: &Corners) ->
     sign_of(orient_centroid_sum(a, b, c, t))
 }
 
-/// Twice the area of the triangle of `q`, `r` and the centroid, four times over, with its sign as seen against the direction `n`, times the length of `n`.
+/// Twice the area of the triangle of `q`, `r` and the centroid, four times over, with its sign as
+/// seen against the direction `n`, times the length of `n`.
 #[inline]
 fn turn_centroid_sum(n: Normal, q: GridPoint, r: GridPoint, t: &Corners) -> i128
     ensures { result ≡ turn_rational n q r (centroid t.now) }
@@ -69,8 +71,9 @@ fn turn_centroid_sum(n: Normal, q: GridPoint, r: GridPoint, t: &Corners) -> i128
     )
 }
 
-/// Which way from `q` over `r` to the centroid of `t` turns, as seen against the normal of the triangle `a b c`: `Above` where it turns
-/// counterclockwise. The sum is at most `3 * 2^100` in size.
+/// Which way from `q` over `r` to the centroid of `t` turns, as seen against the normal of the
+/// triangle `a b c`: `Above` where it turns counterclockwise. The sum is at most `3 * 2^100` in
+/// size.
 #[inline]
 pub fn turn_centroid(
     a: GridPoint,

@@ -10,7 +10,8 @@ use crate::orientation::orient_sum;
 use crate::sign::{is_not_above, is_strictly_above};
 use crate::{Corners, GridPoint};
 
-/// Of each face of a tetrahedron, by the opposite corner: whether a point isn't strictly on its inner side.
+/// Of each face of a tetrahedron, by the opposite corner: whether a point isn't strictly on its
+/// inner side.
 #[derive(Clone, Copy)]
 struct Lows {
     a: bool,
@@ -55,7 +56,8 @@ fn faces_open(p: Lows, q: Lows) -> bool
     !(p.a && q.a) && !(p.b && q.b) && !(p.c && q.c) && !(p.d && q.d)
 }
 
-/// Whether the leg from `p` to `q` passes the edge from `u` to `v` on its inner side, where that is asked.
+/// Whether the leg from `p` to `q` passes the edge from `u` to `v` on its inner side, where that is
+/// asked.
 #[inline]
 fn passes_edge(
     first: bool,
@@ -74,8 +76,9 @@ fn passes_edge(
     }
 }
 
-/// So at the three edges of a face with the corners `b`, `c` and `d`, where `low` says that `q` isn't on the face's inner side, and the other marks
-/// say so of `p` and the faces opposite these corners.
+/// So at the three edges of a face with the corners `b`, `c` and `d`, where `low` says that `q`
+/// isn't on the face's inner side, and the other marks say so of `p` and the faces opposite these
+/// corners.
 #[inline]
 fn passes_face(
     low: bool,
@@ -95,7 +98,8 @@ fn passes_face(
         && passes_edge(low, low_d, c, b, p, q)
 }
 
-/// Whether the leg passes each edge on its inner side where it leaves the inner side of one of the edge's faces and comes to that of the other.
+/// Whether the leg passes each edge on its inner side where it leaves the inner side of one of the
+/// edge's faces and comes to that of the other.
 fn edges_open(t: &Corners, p: GridPoint, q: GridPoint, lp: Lows, lq: Lows) -> bool
     ensures { IsTrue result ↔ EdgesOpen t.now p q lp lq }
 {
@@ -105,7 +109,8 @@ fn edges_open(t: &Corners, p: GridPoint, q: GridPoint, lp: Lows, lq: Lows) -> bo
         && passes_face(lq.d, lp.c, lp.b, lp.a, t.c, t.b, t.a, p, q)
 }
 
-/// Whether some point of the closed segment from `p` to `q` is strictly inside the tetrahedron. Source: Helly's theorem on a line.
+/// Whether some point of the closed segment from `p` to `q` is strictly inside the tetrahedron.
+/// Source: Helly's theorem on a line.
 fn leg_enters(t: &Corners, p: GridPoint, q: GridPoint, lp: Lows, lq: Lows) -> bool
     requires positive { IsPositive t.now }
     requires lp_is { AreLows t.now p lp }
@@ -167,7 +172,8 @@ fn find_spot(a: GridPoint, b: GridPoint, c: GridPoint, p: GridPoint, side: i128)
     }
 }
 
-/// Whether the edge from `p` to `q` meets the plane within the triangle, where `p` is strictly above the plane and `q` isn't.
+/// Whether the edge from `p` to `q` meets the plane within the triangle, where `p` is strictly
+/// above the plane and `q` isn't.
 fn crosses_within(p: &Spot, q: &Spot, a: GridPoint, b: GridPoint, c: GridPoint) -> bool
     requires p_is { IsSpot (triangle a b c) p.now }
     requires q_is { IsSpot (triangle a b c) q.now }
@@ -290,7 +296,8 @@ fn enters_across(
     }
 }
 
-/// `triangle_enters`, where the last four numbers say on which sides of the triangle's plane the corners lie.
+/// `triangle_enters`, where the last four numbers say on which sides of the triangle's plane the
+/// corners lie.
 fn enters_at(
     t: &Corners,
     a: GridPoint,
@@ -320,9 +327,10 @@ fn enters_at(
     }
 }
 
-/// Whether some rational point strictly inside the positive tetrahedron `t` lies in the closed triangle `a b c`, whose corners are not on a line.
-/// Source: a side of the triangle has such a point, or the plane cuts the tetrahedron within the triangle; else the leg from such a point to a corner
-/// of the section leaves the triangle through a side.
+/// Whether some rational point strictly inside the positive tetrahedron `t` lies in the closed
+/// triangle `a b c`, whose corners are not on a line. Source: a side of the triangle has such a
+/// point, or the plane cuts the tetrahedron within the triangle; else the leg from such a point to
+/// a corner of the section leaves the triangle through a side.
 pub fn triangle_enters(t: Corners, a: GridPoint, b: GridPoint, c: GridPoint) -> bool
     requires positive { IsPositive t }
     requires spans { SpansPlane (triangle a b c) }

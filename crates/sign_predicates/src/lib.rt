@@ -1,4 +1,5 @@
-//! Exact signs of points on the grid: on which side of a plane a point lies, and whether it is inside a sphere.
+//! Exact signs of points on the grid: on which side of a plane a point lies, and whether it is
+//! inside a sphere.
 #![tactic(auto)]
 
 mod boxes;

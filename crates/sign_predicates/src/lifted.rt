@@ -14,16 +14,16 @@ use crate::volumes::{Volumes, short_volumes};
 use crate::{GridPoint, Numbers, Sign};
 use std::marker::Model;
 
-/// A corner, and a step of one or more grid units. A frame has the points whose coordinates are 0 to
-/// 2^20 steps above those of its corner.
+/// A corner, and a step of one or more grid units. A frame has the points whose coordinates are 0
+/// to 2^20 steps above those of its corner.
 #[derive(Clone, Copy, Debug, PartialEq, Eq)]
 pub struct Frame {
     pub corner: GridPoint,
     pub step: u32,
 }
 
-/// A point of a frame: how many steps each coordinate is above that of the frame's corner, from 0 to
-/// 2^20, and the height `x^2 + y^2 + z^2` to which it is lifted. Contracts see the steps.
+/// A point of a frame: how many steps each coordinate is above that of the frame's corner, from 0
+/// to 2^20, and the height `x^2 + y^2 + z^2` to which it is lifted. Contracts see the steps.
 ///
 /// Source: spheres as planes that cut a paraboloid (Brown 1979, Edelsbrunner and Seidel 1986).
 #[derive(Clone, Copy, Debug)]
@@ -180,8 +180,8 @@ fn wins_by_volumes(v: Volumes, n: Numbers, m: u32) -> bool
     )
 }
 
-/// Where `e` lies to the sphere through the corners `a`, `b`, `c` and `d` of a positive tetrahedron:
-/// below for outside, zero for on it. All five are of one frame.
+/// Where `e` lies to the sphere through the corners `a`, `b`, `c` and `d` of a positive
+/// tetrahedron: below for outside, zero for on it. All five are of one frame.
 #[inline(always)]
 pub fn in_lifted_sphere(a: Lifted, b: Lifted, c: Lifted, d: Lifted, e: Lifted) -> Sign
     ensures { IsSphereSign result (record { a = a; b = b; c = c; d = d }) e }

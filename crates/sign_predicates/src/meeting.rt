@@ -1,5 +1,5 @@
-//! Whether closed segments and triangles have a point in common. All sums are of orientations, and of scalar products of two cross
-//! products, at most `3 * 2^98` in size.
+//! Whether closed segments and triangles have a point in common. All sums are of orientations, and
+//! of scalar products of two cross products, at most `3 * 2^98` in size.
 ghost use Rattle.std.specs.Prelude.{◌≡◌, ◌⊎◌, pos, ◌<ℤ◌, ◌≤ℤ◌, IsTrue, ◌↔◌};
 ghost use Rattle.sign_predicates.specs.Orientation.{orient, normal, dot, SpansPlane};
 ghost use Rattle.sign_predicates.specs.Meeting.{triangle, segment, SegmentMeetsTriangle, TrianglesMeet};
@@ -11,7 +11,8 @@ use crate::orientation::{coplanar, orient_sum};
 use crate::sign::{is_not_above, is_not_below};
 use crate::vector::{Normal, Vector, cross, dot, dot_normals, from_to, is_zero};
 
-/// Twice the area of the triangle `a b p`, with its sign as seen against the direction `n`, times the length of `n`.
+/// Twice the area of the triangle `a b p`, with its sign as seen against the direction `n`, times
+/// the length of `n`.
 #[inline]
 pub(crate) fn turn(n: Normal, a: GridPoint, b: GridPoint, p: GridPoint) -> i128
     ensures { result ≡ turn n a b p }
@@ -19,7 +20,8 @@ pub(crate) fn turn(n: Normal, a: GridPoint, b: GridPoint, p: GridPoint) -> i128
     dot_normals(n, cross(from_to(a, b), from_to(a, p)))
 }
 
-/// Whether the way from `a` over `b` to `p` turns counterclockwise, seen against the direction `n`, or not at all.
+/// Whether the way from `a` over `b` to `p` turns counterclockwise, seen against the direction `n`,
+/// or not at all.
 #[inline]
 fn turns_left(n: Normal, a: GridPoint, b: GridPoint, p: GridPoint) -> bool
     ensures { IsTrue result ↔ pos 0 ≤ℤ turn n a b p }
@@ -76,8 +78,9 @@ fn segments_meet_flat(p: GridPoint, q: GridPoint, a: GridPoint, b: GridPoint) ->
     }
 }
 
-/// Whether some point of the closed segment from `p` to `q` lies on the closed segment from `a` to `b`. The two ends of a segment may be one point.
-/// Source: the one affine dependence of four points that span a plane; on a line, an end of one lies on the other.
+/// Whether some point of the closed segment from `p` to `q` lies on the closed segment from `a` to
+/// `b`. The two ends of a segment may be one point. Source: the one affine dependence of four
+/// points that span a plane; on a line, an end of one lies on the other.
 pub fn segments_meet(p: GridPoint, q: GridPoint, a: GridPoint, b: GridPoint) -> bool
     ensures { IsTrue result ↔ SegmentMeetsTriangle p q (segment a b) }
 {
@@ -160,7 +163,8 @@ fn falls(s: i128, t: i128) -> bool
     s >= 0 && t <= 0
 }
 
-/// `segment_meets_triangle`, where `s` and `t` say on which sides of the triangle's plane the two ends lie.
+/// `segment_meets_triangle`, where `s` and `t` say on which sides of the triangle's plane the two
+/// ends lie.
 fn meets_at(
     s: i128,
     t: i128,
@@ -187,9 +191,10 @@ fn meets_at(
     }
 }
 
-/// Whether some point of the closed segment from `p` to `q` lies in the closed triangle `a b c`. The two ends may be one point, and the triangle may
-/// lie on a line. Source: the one affine dependence of five points that span space; in a plane, walking from the common point towards an end
-/// either stays in the triangle or leaves it through a side.
+/// Whether some point of the closed segment from `p` to `q` lies in the closed triangle `a b c`.
+/// The two ends may be one point, and the triangle may lie on a line. Source: the one affine
+/// dependence of five points that span space; in a plane, walking from the common point towards an
+/// end either stays in the triangle or leaves it through a side.
 pub fn segment_meets_triangle(
     p: GridPoint,
     q: GridPoint,
@@ -244,7 +249,8 @@ fn lies_apart(
     )
 }
 
-/// Whether the boxes of the two triangles are apart, or one lies strictly on one side of the other's plane.
+/// Whether the boxes of the two triangles are apart, or one lies strictly on one side of the
+/// other's plane.
 fn are_apart(
     a: GridPoint,
     b: GridPoint,
@@ -282,8 +288,9 @@ fn sides_meet(
     }
 }
 
-/// Whether some point lies in both closed triangles, `a b c` and `d e f`. Either may lie on a line. Source: with two corners on both sides of the other
-/// triangle's plane, walking along the one affine dependence of five of the points brings the first weight to 0.
+/// Whether some point lies in both closed triangles, `a b c` and `d e f`. Either may lie on a line.
+/// Source: with two corners on both sides of the other triangle's plane, walking along the one
+/// affine dependence of five of the points brings the first weight to 0.
 pub fn triangles_meet(
     a: GridPoint,
     b: GridPoint,

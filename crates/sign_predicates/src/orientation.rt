@@ -15,9 +15,10 @@ pub(crate) fn orient_sum(a: GridPoint, b: GridPoint, c: GridPoint, d: GridPoint)
     det(from_to(a, b), from_to(a, c), from_to(a, d))
 }
 
-/// The orientation of four points, the sign of `det(b - a, c - a, d - a)`: on which side of the plane through `a`, `b` and `c`
-/// the point `d` lies. Where it is `Above`, the tetrahedron `a b c d` is positive: seen from `d`, the points `a`, `b` and `c` go
-/// round counterclockwise in right-handed coordinates.
+/// The orientation of four points, the sign of `det(b - a, c - a, d - a)`: on which side of the
+/// plane through `a`, `b` and `c` the point `d` lies. Where it is `Above`, the tetrahedron `a b c
+/// d` is positive: seen from `d`, the points `a`, `b` and `c` go round counterclockwise in
+/// right-handed coordinates.
 #[inline]
 pub fn orient(a: GridPoint, b: GridPoint, c: GridPoint, d: GridPoint) -> Sign
     ensures { IsSignOf result (orient a b c d) }
@@ -33,8 +34,9 @@ pub fn coplanar(a: GridPoint, b: GridPoint, c: GridPoint, d: GridPoint) -> bool
     matches!(orient(a, b, c, d), Sign::Zero)
 }
 
-/// Where `p` lies against the face opposite the corner in this place of the positive tetrahedron `t`, from 0: `Above` where it is
-/// strictly beyond that face, `Zero` where it is on its plane, `Below` where it is on the corner's side.
+/// Where `p` lies against the face opposite the corner in this place of the positive tetrahedron
+/// `t`, from 0: `Above` where it is strictly beyond that face, `Zero` where it is on its plane,
+/// `Below` where it is on the corner's side.
 #[inline]
 pub fn beyond(t: Corners, corner: u8, p: GridPoint) -> Sign
     requires { corner < 4 }
@@ -61,8 +63,9 @@ pub fn scaled_difference(a: i32, x: i64, w: i64) -> i64
     x - a as i64 * w
 }
 
-/// `w` times six times the signed volume of the tetrahedron `a b c x`. With coordinates of `x` up to `(2^23 + 1) * w` and `w` up
-/// to `10^6`, the scaled differences are below `2^44`, the minors at most `2^49`, and the sum below `2^95`.
+/// `w` times six times the signed volume of the tetrahedron `a b c x`. With coordinates of `x` up
+/// to `(2^23 + 1) * w` and `w` up to `10^6`, the scaled differences are below `2^44`, the minors at
+/// most `2^49`, and the sum below `2^95`.
 #[inline]
 fn orient_rat_sum(a: GridPoint, b: GridPoint, c: GridPoint, x: RatPoint) -> i128
     ensures { result ≡ orient_rational a b c x }
@@ -76,9 +79,10 @@ fn orient_rat_sum(a: GridPoint, b: GridPoint, c: GridPoint, x: RatPoint) -> i128
     )
 }
 
-/// On which side of the plane through `a`, `b` and `c` the rational point `x` lies, as `orient` for a grid point. The sum is that of
-/// `orient` times `w`. It stays within 128 bits: `w` is at most `10^6` and the coordinates of `x` at most `(2^23 + 1) * w` in size, so
-/// that the sum is below `2^95`.
+/// On which side of the plane through `a`, `b` and `c` the rational point `x` lies, as `orient` for
+/// a grid point. The sum is that of `orient` times `w`. It stays within 128 bits: `w` is at most
+/// `10^6` and the coordinates of `x` at most `(2^23 + 1) * w` in size, so that the sum is below
+/// `2^95`.
 #[inline]
 pub fn orient_rat(a: GridPoint, b: GridPoint, c: GridPoint, x: RatPoint) -> Sign
     ensures { IsSignOf result (orient_rational a b c x) }
@@ -86,7 +90,8 @@ pub fn orient_rat(a: GridPoint, b: GridPoint, c: GridPoint, x: RatPoint) -> Sign
     sign_of(orient_rat_sum(a, b, c, x))
 }
 
-/// How the positive tetrahedron `t` holds the rational point `x`: strictly inside all four faces, outside one of them, or neither.
+/// How the positive tetrahedron `t` holds the rational point `x`: strictly inside all four faces,
+/// outside one of them, or neither.
 #[inline]
 pub fn in_tet(t: Corners, x: RatPoint) -> Hold
     ensures inside { (result ≡ Hold.Inside) ↔ StrictlyInside t x }

@@ -24,8 +24,8 @@ impl Model for GridPoint {
     ghost inverse = { λ p. record { x = p.x; y = p.y; z = p.z } };
 }
 
-/// The rational point `(x/w, y/w, z/w)`, in grid units. `w` is 1 or `10^6`, and each of `x`, `y` and `z` is at most
-/// `(2^23 + 1) * w` in size.
+/// The rational point `(x/w, y/w, z/w)`, in grid units. `w` is 1 or `10^6`, and each of `x`, `y`
+/// and `z` is at most `(2^23 + 1) * w` in size.
 #[derive(Clone, Copy, Debug, PartialEq, Eq)]
 pub struct RatPoint {
     pub x: i64,

@@ -98,7 +98,8 @@ fn long_sphere_sum(a: Vector, b: Vector, c: Vector, d: Vector) -> i128
     )
 }
 
-/// The sphere's sum at the vectors from the point to the corners. Where they are short, its determinants fit 64 bits.
+/// The sphere's sum at the vectors from the point to the corners. Where they are short, its
+/// determinants fit 64 bits.
 #[inline(always)]
 fn sphere_sum(a: Vector, b: Vector, c: Vector, d: Vector) -> i128
     ensures { result ≡ sphere_sum a b c d }
@@ -110,7 +111,8 @@ fn sphere_sum(a: Vector, b: Vector, c: Vector, d: Vector) -> i128
     }
 }
 
-/// The sum whose sign says where `e` lies: below 0 outside of the sphere, 0 on it. Its size is at most `72 * 2^120`.
+/// The sum whose sign says where `e` lies: below 0 outside of the sphere, 0 on it. Its size is at
+/// most `72 * 2^120`.
 #[inline(always)]
 pub(crate) fn in_sphere(t: Corners, e: GridPoint) -> i128
     ensures { result ≡ in_sphere t e }
@@ -153,8 +155,8 @@ pub(crate) fn wins_by_sides(a: i128, b: i128, c: i128, d: i128, n: Numbers, m: u
     across < alongside
 }
 
-/// Whether a point on the sphere through the corners of the positive tetrahedron `t` is outside, by the rule of `outside`: the least
-/// number for outside against the least one for inside.
+/// Whether a point on the sphere through the corners of the positive tetrahedron `t` is outside, by
+/// the rule of `outside`: the least number for outside against the least one for inside.
 pub fn wins_tie(t: &Corners, n: Numbers, p: GridPoint, m: u32) -> bool
     ensures { result ≡ wins_tie t.now n p m }
 {
@@ -181,11 +183,13 @@ fn wins_tie_at(t: Corners, n: Numbers, p: GridPoint, m: u32) -> bool
     wins_tie(&t, n, p, m)
 }
 
-/// Whether `p`, with the number `m`, is outside of the positive tetrahedron `t`, whose corners have the numbers `n`. The five
-/// numbers differ. Outside is strictly outside of the sphere through the corners. On the sphere the points decide by rising
-/// number: `p` itself for outside; a corner for outside where `p` is strictly beyond the face opposite that corner, against it
-/// where `p` is strictly on the corner's side of that face, and not at all where `p` lies on that face's plane. It is the
-/// rule of points lifted by heights that differ by indicators, and so the Delaunay tetrahedra of any points are determined.
+/// Whether `p`, with the number `m`, is outside of the positive tetrahedron `t`, whose corners have
+/// the numbers `n`. The five numbers differ. Outside is strictly outside of the sphere through the
+/// corners. On the sphere the points decide by rising number: `p` itself for outside; a corner for
+/// outside where `p` is strictly beyond the face opposite that corner, against it where `p` is
+/// strictly on the corner's side of that face, and not at all where `p` lies on that face's plane.
+/// It is the rule of points lifted by heights that differ by indicators, and so the Delaunay
+/// tetrahedra of any points are determined.
 #[inline(always)]
 pub fn outside(t: Corners, n: Numbers, p: GridPoint, m: u32) -> bool
     ensures { result ≡ is_outside t n p m }

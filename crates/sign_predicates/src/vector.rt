@@ -53,7 +53,8 @@ fn raised(x: i32) -> u32
     (x + (1 << 20)).cast_unsigned()
 }
 
-/// The bits of the coordinates, each raised by `2^20`: those from `-2^20` to below `2^20` have at most 21 bits.
+/// The bits of the coordinates, each raised by `2^20`: those from `-2^20` to below `2^20` have at
+/// most 21 bits.
 #[inline(always)]
 fn raised_bits(v: Vector) -> u32
     ensures { result < 2 ^ 21 → IsShort v }
@@ -207,7 +208,8 @@ pub(crate) fn short_det_of_minors(u: Vector, v: Vector, w: Vector, vw: i64, uw: 
     short_sum_of_three(vw, u.z as i64, uw, v.z as i64, uv, w.z as i64)
 }
 
-/// A vector at right angles to two others, their cross product. Each coordinate is at most `2^49` in size.
+/// A vector at right angles to two others, their cross product. Each coordinate is at most `2^49`
+/// in size.
 #[derive(Clone, Copy)]
 pub(crate) struct Normal {
     pub(crate) x: i64,
@@ -280,7 +282,8 @@ pub(crate) fn dot(u: Vector, v: Vector) -> i128
     )
 }
 
-/// The determinant of three vectors, of which the first may be a normal and the last four times as long as one between grid points.
+/// The determinant of three vectors, of which the first may be a normal and the last four times as
+/// long as one between grid points.
 #[inline]
 fn triple_of(n: i64, o: i64, p: i64, u: i64, v: i64, w: i64, x: i64, y: i64, z: i64) -> i128
     requires n_small { unsigned_abs n ≤ 2 ^ 49 }
@@ -299,8 +302,8 @@ fn triple_of(n: i64, o: i64, p: i64, u: i64, v: i64, w: i64, x: i64, y: i64, z: 
         + p as i128 * (u as i128 * y as i128 - v as i128 * x as i128)
 }
 
-/// The scalar product of a normal and the cross product of two vectors, of which the second may be four times as long as one between
-/// grid points. It is at most `3 * 2^100` in size.
+/// The scalar product of a normal and the cross product of two vectors, of which the second may be
+/// four times as long as one between grid points. It is at most `3 * 2^100` in size.
 #[inline]
 pub(crate) fn triple(n: Normal, u: Vector, x: i64, y: i64, z: i64) -> i128
     requires x_small { unsigned_abs x ≤ 2 ^ 26 }

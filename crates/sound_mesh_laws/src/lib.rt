@@ -1,4 +1,5 @@
-//! The meshes that are made have no defect, over the definitions alone. Each law is the contract of a function that does nothing.
+//! The meshes that are made have no defect, over the definitions alone. Each law is the contract of
+//! a function that does nothing.
 #![tactic(auto)]
 
 mod laws;

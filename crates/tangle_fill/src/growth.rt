@@ -49,8 +49,8 @@ impl Hash for FaceSide {
     }
 }
 
-/// The face with its corners in the same cyclic order, the least one first, as in a row in its least
-/// even arrangement.
+/// The face with its corners in the same cyclic order, the least one first, as in a row in its
+/// least even arrangement.
 fn turned(f: Face) -> Face
     ensures { (t : Tet) → lies_on (oriented result) t ≡ lies_on (oriented f) t }
 {
@@ -92,8 +92,8 @@ impl Growth {
         self.sides.get(&FaceSide { face }).copied()
     }
 
-    /// The row that lies on the face's positive side; None where none does. The order of the corners
-    /// that most rows keep is looked for first.
+    /// The row that lies on the face's positive side; None where none does. The order of the
+    /// corners that most rows keep is looked for first.
     pub(crate) fn row_on(&self, f: Face) -> Option<Tet>
         requires { IsIndexed self.now }
         ensures { MatchOption result (All (λ t. lies_on (oriented f) t ≡ false) self.now.rows)

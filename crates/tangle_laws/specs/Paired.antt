@@ -1,5 +1,5 @@
--- Lists of tetrahedra that were made in any way, and are told to be right by their faces: no two on one side of a face, one across each face, or no
--- point. Nothing is asked of the spheres of their rows, nor how the list was found.
+-- Lists of tetrahedra that were made in any way, and are told to be right by their faces: no two on one side of a face, one across each
+-- face, or no point. Nothing is asked of the spheres of their rows, nor how the list was found.
 use Rattle.std.specs.Prelude.{IsTrue, List, All, AllPairs, Any, Contains}
 use Rattle.std.specs.List.{AllByRecursion}
 use Rattle.sign_predicates.specs.Point.{Point}
@@ -12,8 +12,8 @@ use Rattle.crossing_laws.specs.Crossing.{faces_of}
 use Rattle.tangle_laws.specs.Tangle.{IsUncrossed, has_face, facet_face}
 use Rattle.tangle_laws.specs.Growth.{ShareNoSide, IsFilled, IsAlone, Ascend, IsSmooth, IsRefilled}
 
--- Ascending positive rows, among them the uncrossed ones of the old list, no two of which lie on one side of a face; across each face lies a row, or no
--- point; each facet triangle is a face
+-- Ascending positive rows, among them the uncrossed ones of the old list, no two of which lie on one side of a face; across each face lies
+-- a row, or no point; each facet triangle is a face
 pub record IsPaired (ps : List Point) (ts : List FacetTriangle) (old rows : List Tet) : Type 0 where
   pub positive : All (λ t. IsOn ps t × IsPositive (corners ps t) × IsArranged t) rows
   pub ascending : AllPairs RowBefore rows
@@ -22,8 +22,8 @@ pub record IsPaired (ps : List Point) (ts : List FacetTriangle) (old rows : List
   pub across : All (λ t. AllByRecursion (λ f. IsFilled ps rows (reversed f)) (faces_of t)) rows
   pub facets : All (λ k. Any (λ t. IsTrue (has_face (facet_face k) t)) rows) ts
 
--- A paired list in which one row alone holds its centroid, locally Delaunay across each common face that is no facet triangle, keeps the whole promise of
--- a refilled list
+-- A paired list in which one row alone holds its centroid, locally Delaunay across each common face that is no facet triangle, keeps the
+-- whole promise of a refilled list
 abbrev pub PairedLaw : Type 0
 PairedLaw = (ps : List Point) (ts : List FacetTriangle) (old rows : List Tet) → Ascend ts → IsPaired ps ts old rows
     → (t : Tet) → Contains rows t → IsAlone ps rows t → IsSmooth ps ts rows → IsRefilled ps ts old rows

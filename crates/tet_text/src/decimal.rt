@@ -122,7 +122,8 @@ pub(crate) fn short_decimal(negative: bool, number: u64, decimals: u32) -> Decim
     Decimal { value, scale }
 }
 
-/// The decimal that a text writes, as `read_decimal` reads it of a field; None where it writes none.
+/// The decimal that a text writes, as `read_decimal` reads it of a field; None where it writes
+/// none.
 #[tactic(auto, using(crate::proofs::Scaling::signed_is_decimal), unfolding(crate::specs::Decimals::decimal_of_parts))]
 pub fn decimal_in(text: &[u8]) -> Option<Decimal>
     ensures { result ≡ decimal_of text.now }

@@ -71,9 +71,9 @@ impl Growth {
         }
     }
 
-    // Looks over the faces of the slot i of the cavity. The first slot is looked over all round, and
-    // a later one not through the face by which it was entered: the slot behind that one is in the
-    // cavity.
+    // Looks over the faces of the slot i of the cavity. The first slot is looked over all round,
+    // and a later one not through the face by which it was entered: the slot behind that one is in
+    // the cavity.
     fn visit_faces(&mut self, search: &Search<'_>, i: usize) -> Result<(), NoMemory>
         requires mesh { IsMesh search.now.slots }
         requires inside { i < length self.old.cavity }
