@@ -1,8 +1,10 @@
-"""Runs the built program on more inputs than tests would pay for: where a proof says that two inputs have one mesh, coplanar triangles in place of whole facets, cut
-in all ways, and triangles with points of their own in place of shared ones; and words that are not understood. It prints what differs. The program is the one
-that rt ci has built."""
+"""Runs the built program on more inputs than tests would pay for: where a proof says that two inputs have one mesh, coplanar triangles in place of whole
+facets, cut in all ways, and triangles with points of their own in place of shared ones; words that are not understood; a crossing of merged facets; and the
+examples that have an answer. It prints what differs. The program is the one that rt ci has built."""
+import filecmp
 import itertools
 import os
+import shutil
 import subprocess
 import sys
 import tempfile
@@ -141,11 +143,33 @@ def words_understood():
                 yield f"{words}: status {ran.returncode}: {ran.stderr.decode().strip()}"
 
 
+def merged_crossing():
+    """Two triangles of one plane, and a segment through the second: the crossing names the merged facet by the least number."""
+    points = [(0, 0, 0), (4, 0, 0), (4, 4, 0), (0, 4, 0), (1, 2, -2), (1, 2, 2)]
+    found = mesh(points, [(0, 1, 2), (0, 2, 3), (4, 5)])
+    if found != "status 6: tetgen: crossing: facet 1 triangle 0 1 3 and segment 4 5":
+        yield f"a segment through a merged facet: {found}"
+
+
+def answers():
+    """The tetrahedra of the examples that have an answer, byte for byte."""
+    for answer in sorted(os.listdir(f"{TOP}/examples/answers")):
+        name = answer.removesuffix(".1.ele")
+        with tempfile.TemporaryDirectory() as folder:
+            shutil.copy(f"{TOP}/examples/{name}.node", folder)
+            subprocess.run([PROGRAM, "-NFQ", f"{name}.node"], cwd=folder, check=False)
+            made, wanted = f"{folder}/{answer}", f"{TOP}/examples/answers/{answer}"
+            if not os.path.exists(made) or not filecmp.cmp(made, wanted, shallow=False):
+                yield f"{name}.node"
+
+
 if os.path.exists(PROGRAM):
     for found in (cut_cubes(), cut_prisms(), own_points()):
         for it in found:
             print(f"another mesh: {it}")
-    for it in words_understood():
+    for it in itertools.chain(words_understood(), merged_crossing()):
         print(f"another refusal: {it}")
+    for it in answers():
+        print(f"another answer: {it}")
 else:
     print(f"note: {PROGRAM} is not built, so it was not run", file=sys.stderr)
