@@ -41,6 +41,29 @@ def long_functions(names):
                 start = None
 
 
+def crate_of(file):
+    return file.split("/")[1]
+
+
+def uncalled(names):
+    """The public functions, laws left out, that neither another crate nor a test calls."""
+    code = {file: re.sub(r"//.*", "", "\n".join(lines_of(file))) for file in names}
+    handed_out, called, tested = {}, {}, {}
+    for file, text in code.items():
+        calls = set(re.findall(r"\b([a-z_0-9]+)(?:::<[^>]*>)?\(", text))
+        called.setdefault(crate_of(file), set()).update(calls)
+        if "test" in file or "#[test]" in text:
+            tested.setdefault(crate_of(file), set()).update(calls)
+        if file.endswith("/src/lib.rt"):
+            handed_out[crate_of(file)] = set(re.findall(r"\w+", " ".join(re.findall(r"pub use ([^;]*);", text))))
+    for file, text in code.items():
+        crate = crate_of(file)
+        elsewhere = set().union(*(calls for other, calls in called.items() if other != crate), tested.get(crate, ()))
+        for indent, name in re.findall(r"^( *)pub (?:const )?fn ([a-z_0-9]+)", text, re.M):
+            if not name.startswith("law_") and (indent or name in handed_out.get(crate, ())) and name not in elsewhere:
+                yield f"{file}: {name}"
+
+
 def main():
     sources = files("crates/*.rt")
     specs = [it for it in files("crates/*.antt") if "/specs/" in it]
@@ -48,6 +71,7 @@ def main():
         f"source lines over {SOURCE_WIDTH} columns": [*wide(sources, SOURCE_WIDTH)],
         f"spec lines over {SPEC_WIDTH} columns": [*wide(specs, SPEC_WIDTH)],
         f"functions over {FUNCTION_LINES} lines": [*long_functions(sources)],
+        "public functions that nothing else calls": [*uncalled(sources)],
     }
     with open("checks/counts", encoding="utf-8") as it:
         most = dict(reversed(line.strip().split(" ", 1)) for line in it if line.strip())
