@@ -108,3 +108,21 @@ fn counts_of_balls(rt: HostRuntime) -> Result<(), Fail> {
     }
     Ok(())
 }
+
+/// A corner is written by its name, which need not be its place.
+#[test]
+fn corners_by_their_names(rt: HostRuntime) -> Result<(), Fail> {
+    let alloc = rt.alloc();
+    let mut names = Names::new(alloc);
+    names.extend_from_slice(&[4, 0, 9, 2])?;
+    let mut list = TetList::new(alloc);
+    list.push(Tet {
+        a: 0,
+        b: 1,
+        c: 2,
+        d: 3,
+    })?;
+    let text = write_ele(alloc, &list, None, &Complex::new(alloc), &names, 1)?;
+    assert_eq!(rt; text.as_slice(), b"1 4 0\n1 5 1 10 3\n".as_slice());
+    Ok(())
+}
