@@ -33,7 +33,7 @@ abbrev pub HasNoOthers : Start → Outputs → Type 0
 HasNoOthers start outputs = (folder : FolderSeen) → HasFile start folder → ¬ Rose folder.faults_before folder.faults_now
     → (answer : Result Outputs Status) → OutputsOfRun start.words folder answer → (answer ≡ Ok outputs) ⊎ (answer ≡ Err NoMemory)
 
--- So a complete answer to it is Done, where no fault rose and memory was not wanting
+-- So the answer that is forced is Done, where no fault rose and memory was not wanting
 abbrev pub EndsDone : Start → Type 0
 EndsDone start = (folder : FolderSeen) (out : SinkSeen) (status : Status) → HasFile start folder → HasNoFault folder out → status ≢ NoMemory
     → IsComplete start.words folder out status → forced_answer status ≡ Done
