@@ -13,3 +13,5 @@ mod regions;
 mod surgery;
 #[cfg(test)]
 mod tangles;
+#[cfg(test)]
+mod walks;

@@ -6,7 +6,4 @@ mod look;
 mod walk;
 
 pub use look::{Shape, corner_point, placed, row_points, shape_of};
-pub use walk::{Place, locate};
-
-#[cfg(test)]
-mod tests;
+pub use walk::{Place, locate, scan};

@@ -51,8 +51,9 @@ pub fn locate(arena: &Arena, points: &Points, start: Slot, p: GridPoint) -> Plac
     place
 }
 
-// The place of the point by a look at each slot in turn, if it is somewhere.
-pub(crate) fn scan(arena: &Arena, points: &Points, p: GridPoint) -> Option<Place>
+/// The place of the point by a look at each slot in turn; None where it is in no closed tetrahedron
+/// and beyond no hull face.
+pub fn scan(arena: &Arena, points: &Points, p: GridPoint) -> Option<Place>
     requires { AreCornersOn arena.now.slots points.now }
     ensures { MatchOption result (IsSomePlace arena.now.slots points.now p → ⊥)
         (IsPlace arena.now.slots points.now p) }

@@ -10,6 +10,3 @@ mod vertex_set;
 
 pub use off::read_off;
 pub use stl::read_ascii_stl;
-
-#[cfg(test)]
-mod tests;

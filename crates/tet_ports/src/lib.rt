@@ -24,7 +24,5 @@ pub use no_memory::NoMemory;
 pub use os_folder::OsFolder;
 pub use sink::{PutFault, Sink};
 pub use std_sink::StdSink;
+pub use streams::{read_whole, write_whole};
 pub use words::Words;
-
-#[cfg(test)]
-mod tests;

@@ -14,8 +14,10 @@ use std::io::{Read, Write};
 /// The most bytes that one read is asked for.
 const BLOCK: usize = 1 << 16;
 
-/// All bytes that a reader gives until it ends, of which there are at most `most`.
-pub(crate) fn read_whole<R: Read>(
+/// All bytes that a reader gives until it ends, where they are at most `most`. Refused: a reader
+/// with more, with the first `most + 1` of them; a read that fails, but for one that a signal
+/// interrupts, which is tried again.
+pub fn read_whole<R: Read>(
     alloc: Global,
     reader: &mut R,
     most: usize,
@@ -90,8 +92,9 @@ fn read_some<R: Read>(reader: &mut R, buf: &mut [u8]) -> io::Result<usize>
     Err(io::Error::from(io::ErrorKind::Interrupted))
 }
 
-/// Writes all bytes and flushes, or else a prefix of them.
-pub(crate) fn write_whole<W: Write>(writer: &mut W, bytes: &[u8]) -> io::Result<()>
+/// Writes all bytes and flushes. Where a write fails a prefix of them is written; a write that a
+/// signal interrupts is tried again.
+pub fn write_whole<W: Write>(writer: &mut W, bytes: &[u8]) -> io::Result<()>
     ensures whole { OnOk result (Appends (W.contents writer.old)
         (W.contents writer.new) bytes.now) }
     ensures partly { OnErr result

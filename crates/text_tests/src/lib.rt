@@ -8,6 +8,10 @@ mod complexes;
 #[cfg(test)]
 mod fields;
 #[cfg(test)]
+mod folders;
+#[cfg(test)]
 mod grids;
 #[cfg(test)]
 mod point_lists;
+#[cfg(test)]
+mod surfaces;

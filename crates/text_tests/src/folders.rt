@@ -3,12 +3,14 @@
 ghost use Rattle.std.specs.Prelude.{◌≡◌, ℕ, List, None, OnErr, OnOk};
 ghost use Rattle.tet_ports.specs.Files.{Holds, PartlyStored, with_file};
 
-use crate::streams::{read_whole, write_whole};
-use crate::*;
 use std::alloc::Global;
 use std::io::{Read, Write};
 use std::test::Fail;
 use std::{fs, io, process};
+use tet_ports::{
+    Bytes, FetchFault, Folder, Items, MemFolder, MemSink, Name, NoMemory, OsFolder, PutFault, Sink,
+    StdSink, StoreFault, Words, read_whole, write_whole,
+};
 
 #[test]
 fn bytes_are_appended_and_cut(rt: HostRuntime) -> Result<(), Fail> {

@@ -1,8 +1,8 @@
 //! Surfaces that are read, and the first faults of texts.
 
-use crate::{read_ascii_stl, read_off};
 use grid_coords::{DecimalPoint, Grid};
 use plc_files::{PlcFault, PlcText, bind, check_corners};
+use soup_files::{read_ascii_stl, read_off};
 use std::alloc::Global;
 use std::test::Fail;
 use tet_ports::{Bytes, NoMemory};

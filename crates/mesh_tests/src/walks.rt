@@ -3,10 +3,9 @@ ghost use Rattle.std.specs.Prelude.{◌≡◌, ◌≢◌, ℕ, ◌<◌, IsTrue};
 ghost use Rattle.mesh_arena.specs.Mesh.{IsLive, corners_at, corner_list, AllDiffer};
 ghost use Rattle.point_locate.specs.Place.{IsOn, AreOn, AreCornersOn};
 
-use crate::walk::scan;
-use crate::{Place, locate};
 use geo_laws::Points;
 use mesh_arena::{Arena, Corner, Slot, SlotCorners};
+use point_locate::{Place, locate, scan};
 use sign_predicates::GridPoint;
 use std::alloc::Global;
 use std::test::Fail;
