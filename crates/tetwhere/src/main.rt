@@ -1,19 +1,11 @@
 //! The program `tetwhere`: which tetrahedron of a mesh holds each point of a list.
 #![tactic(auto)]
 
-mod messages;
-mod run;
-mod status;
-mod stop;
-#[cfg(test)]
-mod tests;
-
-use run::run_where;
-use status::WhereStatus;
 use std::alloc::Global;
 use std::process::ExitCode;
 use std::{env, io};
 use tet_ports::{Name, NoMemory, OsFolder, StdSink, Words};
+use tetwhere_run::{WhereStatus, run_where};
 
 fn main(rt: HostRuntime) -> ExitCode {
     let Ok(words) = words_of(&rt) else {

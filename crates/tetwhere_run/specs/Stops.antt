@@ -2,9 +2,9 @@
 use Rattle.std.specs.Prelude.{ℕ}
 use Rattle.check_steps.specs.declared.fault.CheckFault.{CheckFault}
 use Rattle.check_steps.specs.declared.fault.CheckFault.TheVariants as faults
-use Rattle.tetwhere.specs.Statuses.{status_of}
-use Rattle.tetwhere.specs.declared.status.WhereStatus.{WhereStatus}
-use Rattle.tetwhere.specs.declared.stop.Stop.{Stop}
+use Rattle.tetwhere_run.specs.Statuses.{status_of}
+use Rattle.tetwhere_run.specs.declared.status.WhereStatus.{WhereStatus}
+use Rattle.tetwhere_run.specs.declared.stop.Stop.{Stop}
 
 -- no row is told
 abbrev pub stop_with : WhereStatus → Stop

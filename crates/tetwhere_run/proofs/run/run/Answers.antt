@@ -3,9 +3,9 @@ use Rattle.std.specs.List.{slice_index_or}
 use Rattle.std.proofs.lemmas.Result.{err_from_is_err_and}
 use Rattle.check_steps.specs.Steps.{FolderSeen, folder_seen}
 use Rattle.where_steps.specs.Locating.{LocateAnswer}
-use Rattle.tetwhere.specs.Run.{SinkSeen, sink_seen}
-use Rattle.tetwhere.proofs.Ends.{refused_end, put_end}
-use Rattle.tetwhere.proofs.run.run.Goals as goal
+use Rattle.tetwhere_run.specs.Run.{SinkSeen, sink_seen}
+use Rattle.tetwhere_run.proofs.Ends.{refused_end, put_end}
+use Rattle.tetwhere_run.proofs.run.run.Goals as goal
 
 pub returns-in_err-lines-clause-ends : goal.returns-in_err-lines-clause-ends
 returns-in_err-lines-clause-ends g c =

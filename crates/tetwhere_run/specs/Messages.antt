@@ -5,10 +5,10 @@ use Rattle.tet_text.specs.declared.fault.TextFault.{TextFault}
 use Rattle.tet_text.specs.declared.fault.TextKind.{TextKind}
 use Rattle.tet_text.specs.declared.fault.TextKind.TheVariants.{Ended, NotANumber, Extra, BadCount, BadIndex}
 use Rattle.check_steps.specs.Telling.{defect_text}
-use Rattle.tetwhere.specs.declared.status.WhereLimit.{WhereLimit}
-use Rattle.tetwhere.specs.declared.status.WhereLimit.TheVariants.{Bytes, Points, Grid}
-use Rattle.tetwhere.specs.declared.status.WhereStatus.{WhereStatus}
-use Rattle.tetwhere.specs.declared.status.WhereStatus.TheVariants.{Done, Usage, Missing, ReadFault, BadText, Limit, Unsound, NoMemory, WriteFault}
+use Rattle.tetwhere_run.specs.declared.status.WhereLimit.{WhereLimit}
+use Rattle.tetwhere_run.specs.declared.status.WhereLimit.TheVariants.{Bytes, Points, Grid}
+use Rattle.tetwhere_run.specs.declared.status.WhereStatus.{WhereStatus}
+use Rattle.tetwhere_run.specs.declared.status.WhereStatus.TheVariants.{Done, Usage, Missing, ReadFault, BadText, Limit, Unsound, NoMemory, WriteFault}
 
 abbrev pub kind_text : TextKind → List ℕ
 kind_text Ended = codes "too few"

@@ -2,9 +2,9 @@
 use Rattle.std.specs.Prelude.{ℕ}
 use Rattle.check_steps.specs.declared.fault.CheckFault.{CheckFault}
 use Rattle.check_steps.specs.declared.fault.CheckFault.TheVariants as faults
-use Rattle.tetwhere.specs.declared.status.WhereLimit.TheVariants.{Bytes, Points, Grid}
-use Rattle.tetwhere.specs.declared.status.WhereStatus.{WhereStatus}
-use Rattle.tetwhere.specs.declared.status.WhereStatus.TheVariants.{Done, Usage, Missing, ReadFault, BadText, Limit, Unsound, NoMemory, WriteFault}
+use Rattle.tetwhere_run.specs.declared.status.WhereLimit.TheVariants.{Bytes, Points, Grid}
+use Rattle.tetwhere_run.specs.declared.status.WhereStatus.{WhereStatus}
+use Rattle.tetwhere_run.specs.declared.status.WhereStatus.TheVariants.{Done, Usage, Missing, ReadFault, BadText, Limit, Unsound, NoMemory, WriteFault}
 
 -- the exit code
 abbrev pub code_of : WhereStatus → ℕ

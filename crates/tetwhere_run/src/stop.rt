@@ -1,7 +1,7 @@
 //! Why a run stopped before its end.
 
 ghost use Rattle.std.specs.Prelude.{◌≡◌};
-ghost use Rattle.tetwhere.specs.Stops.{first_of, stop_of, stop_with};
+ghost use Rattle.tetwhere_run.specs.Stops.{first_of, stop_of, stop_with};
 
 use crate::status::WhereStatus;
 use check_steps::CheckFault;

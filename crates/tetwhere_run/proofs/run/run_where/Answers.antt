@@ -1,10 +1,10 @@
 use Rattle.std.proofs.Common.{subst}
 use Rattle.check_steps.specs.Steps.{FolderSeen, folder_seen}
-use Rattle.tetwhere.specs.Run.{SinkSeen, sink_seen, EndsSo}
-use Rattle.tetwhere.specs.declared.status.WhereStatus.TheVariants.{Done}
-use Rattle.tetwhere.proofs.Complete.{answer_complete}
-use Rattle.tetwhere.proofs.Ends.{stop_answer, stop_told}
-use Rattle.tetwhere.proofs.run.run_where.Goals as goal
+use Rattle.tetwhere_run.specs.Run.{SinkSeen, sink_seen, EndsSo}
+use Rattle.tetwhere_run.specs.declared.status.WhereStatus.TheVariants.{Done}
+use Rattle.tetwhere_run.proofs.Complete.{answer_complete}
+use Rattle.tetwhere_run.proofs.Ends.{stop_answer, stop_told}
+use Rattle.tetwhere_run.proofs.run.run_where.Goals as goal
 
 pub returns-in-Ok-clause-complete : goal.returns-in-Ok-clause-complete
 returns-in-Ok-clause-complete g c =

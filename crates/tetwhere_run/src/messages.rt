@@ -2,7 +2,7 @@
 
 ghost use Rattle.std.specs.Prelude.{◌≡◌, ◌++◌, IfOk, OnOk};
 ghost use Rattle.std.specs.Fmt.{decimal};
-ghost use Rattle.tetwhere.specs.Messages.{line, kind_text, file_message, usage_message, text_message, limit_message, message_of};
+ghost use Rattle.tetwhere_run.specs.Messages.{line, kind_text, file_message, usage_message, text_message, limit_message, message_of};
 
 use crate::status::{WhereLimit, WhereStatus};
 use check_steps::defect_text;

@@ -2,7 +2,7 @@
 
 ghost use Rattle.std.specs.Prelude.{◌≡◌, ◌≤◌, ◌<◌, length};
 ghost use Rattle.check_steps.specs.Steps.{folder_seen};
-ghost use Rattle.tetwhere.specs.Run.{sink_seen, IsAnswer, IsComplete, IsTold, EndsSo, IsLinesPut, IsPut, IsToldAs};
+ghost use Rattle.tetwhere_run.specs.Run.{sink_seen, IsAnswer, IsComplete, IsTold, EndsSo, IsLinesPut, IsPut, IsToldAs};
 
 use crate::messages::{OUT_OF_MEMORY, WRITE_FAILED, message};
 use crate::status::WhereStatus;

@@ -10,11 +10,11 @@ use Rattle.check_steps.specs.Steps.{FolderSeen}
 use Rattle.check_steps.specs.declared.fault.CheckFault.{CheckFault}
 use Rattle.where_words.specs.Words.{bad_word}
 use Rattle.where_steps.specs.Locating.{LocateAnswer}
-use Rattle.tetwhere.specs.Messages.{message_of}
-use Rattle.tetwhere.specs.Statuses.{status_of}
-use Rattle.tetwhere.specs.declared.status.WhereStatus.{WhereStatus}
-use Rattle.tetwhere.specs.declared.status.WhereStatus.TheVariants.{Done, Usage, Unsound, NoMemory, WriteFault}
-use Rattle.tetwhere.specs.declared.stop.Stop.{Stop}
+use Rattle.tetwhere_run.specs.Messages.{message_of}
+use Rattle.tetwhere_run.specs.Statuses.{status_of}
+use Rattle.tetwhere_run.specs.declared.status.WhereStatus.{WhereStatus}
+use Rattle.tetwhere_run.specs.declared.status.WhereStatus.TheVariants.{Done, Usage, Unsound, NoMemory, WriteFault}
+use Rattle.tetwhere_run.specs.declared.stop.Stop.{Stop}
 
 -- a sink: its bytes, where they are told, and the counts of its faults and of puts refused for want of memory, before and after
 pub record SinkSeen : Type 0 where

@@ -1,9 +1,9 @@
 //! Runs over a folder and streams in memory.
 
-use crate::run::run_where;
 use std::alloc::Global;
 use std::test::Fail;
 use tet_ports::{Bytes, MemFolder, MemSink, Name, Words};
+use tetwhere_run::run_where;
 
 const PYRAMID: &[u8] = b"5 3 0 0\n0 0 0 0\n1 2 0 0\n2 2 2 0\n3 0 2 0\n4 1 1 2\n";
 

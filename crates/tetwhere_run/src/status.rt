@@ -1,7 +1,7 @@
 //! The answers of the program.
 
 ghost use Rattle.std.specs.Prelude.{◌≡◌};
-ghost use Rattle.tetwhere.specs.Statuses.{code_of, status_of};
+ghost use Rattle.tetwhere_run.specs.Statuses.{code_of, status_of};
 
 use check_steps::CheckFault;
 use mesh_check::Defect;

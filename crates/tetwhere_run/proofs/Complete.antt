@@ -6,10 +6,10 @@ use Rattle.check_steps.specs.declared.fault.CheckFault.{CheckFault}
 use Rattle.check_steps.proofs.Once.{IsDecided, IsTold}
 use Rattle.where_words.specs.Words.{bad_word}
 use Rattle.where_steps.proofs.Once.{locate_once}
-use Rattle.tetwhere.specs.Statuses.{status_of}
-use Rattle.tetwhere.specs.Run.{SinkSeen, base_of, queries_of, FilesAnswer, HasCause, HasNoFault, IsAnswer, IsComplete}
-use Rattle.tetwhere.specs.declared.status.WhereStatus.{WhereStatus}
-use Rattle.tetwhere.specs.declared.status.WhereStatus.TheVariants.{Done, Usage, Missing, ReadFault, BadText, Limit, Unsound, NoMemory, WriteFault}
+use Rattle.tetwhere_run.specs.Statuses.{status_of}
+use Rattle.tetwhere_run.specs.Run.{SinkSeen, base_of, queries_of, FilesAnswer, HasCause, HasNoFault, IsAnswer, IsComplete}
+use Rattle.tetwhere_run.specs.declared.status.WhereStatus.{WhereStatus}
+use Rattle.tetwhere_run.specs.declared.status.WhereStatus.TheVariants.{Done, Usage, Missing, ReadFault, BadText, Limit, Unsound, NoMemory, WriteFault}
 
 abbrev status_by : Result (List ℕ) CheckFault → WhereStatus
 status_by (Ok lines) = Done

@@ -5,12 +5,12 @@ use Rattle.check_steps.specs.declared.fault.CheckFault.{CheckFault}
 use Rattle.check_steps.specs.declared.fault.CheckFault.TheVariants as faults
 use Rattle.where_words.specs.Words.{bad_word}
 use Rattle.where_steps.proofs.Numbered.{numbered}
-use Rattle.tetwhere.specs.Messages.{message_of}
-use Rattle.tetwhere.specs.Stops.{stop_of, stop_with}
-use Rattle.tetwhere.specs.Run.{SinkSeen, base_of, queries_of, FilesAnswer, IsAsBefore, IsAnswer, IsFirstNumber, IsTold, IsPut, IsRefusal, EndsSo, IsUnput, IsLinesPut, IsEarly, IsToldAs}
-use Rattle.tetwhere.specs.declared.status.WhereStatus.{WhereStatus}
-use Rattle.tetwhere.specs.declared.status.WhereStatus.TheVariants.{Done, Usage, NoMemory, WriteFault}
-use Rattle.tetwhere.specs.declared.stop.Stop.{Stop}
+use Rattle.tetwhere_run.specs.Messages.{message_of}
+use Rattle.tetwhere_run.specs.Stops.{stop_of, stop_with}
+use Rattle.tetwhere_run.specs.Run.{SinkSeen, base_of, queries_of, FilesAnswer, IsAsBefore, IsAnswer, IsFirstNumber, IsTold, IsPut, IsRefusal, EndsSo, IsUnput, IsLinesPut, IsEarly, IsToldAs}
+use Rattle.tetwhere_run.specs.declared.status.WhereStatus.{WhereStatus}
+use Rattle.tetwhere_run.specs.declared.status.WhereStatus.TheVariants.{Done, Usage, NoMemory, WriteFault}
+use Rattle.tetwhere_run.specs.declared.stop.Stop.{Stop}
 
 -- where the words are not two names
 pub misnamed_end : (words : List (List ℕ)) (folder : FolderSeen) (out : SinkSeen) (word : ℕ) → IsAsBefore out → bad_word words ≡ Some word → EndsSo words folder out (Err (stop_with (Usage word 1)))
