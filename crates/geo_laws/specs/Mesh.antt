@@ -1,19 +1,17 @@
--- Valid complexes, and meshes of a complex.
-use Rattle.std.specs.Prelude.{ℕ, not, IsTrue, List, [], ◌∷◌, map, filter, ◌≡◌, All, AllPairs, Any, Contains}
+-- What is properly met by pairs, and meshes of a complex.
+use Rattle.std.specs.Prelude.{ℕ, not, IsTrue, List, [], ◌∷◌, filter, ◌≡◌, All, AllPairs, Any, Contains}
 use Rattle.sign_predicates.specs.Point.{Point, RationalPoint, EachRational}
 use Rattle.sign_predicates.specs.Orientation.{IsPositive, InClosed}
 use Rattle.geo_laws.specs.Delaunay.{corners, numbers, is_outside_of, IsOn, IsArranged, RowBefore}
 use Rattle.geo_laws.specs.Faces.{row_faces, face_numbers}
 use Rattle.geo_laws.specs.Hull.{OffPlanes, rows_round}
 use Rattle.geo_laws.specs.Simplex.{InSimplex, ProperlyMet, RowsProperlyMet, has_number}
-use Rattle.geo_laws.specs.Facet.{Facet, IsFlat, IsOnFacet, IsOnSomeFacet, LiesIn, LiesInSome, corner_numbers}
+use Rattle.geo_laws.specs.Facet.{IsOnFacet, IsOnSomeFacet, LiesIn, LiesInSome}
 use Rattle.geo_laws.specs.Path.{Carving, IsOut, IsOnRowSide}
 use Rattle.geo_laws.specs.declared.faces.Face.{Face}
 use Rattle.geo_laws.specs.declared.tetrahedra.Tet.{Tet}
 use Rattle.geo_laws.specs.declared.complex.Piece.{Piece}
 use Rattle.geo_laws.specs.declared.complex.FacetTriangle.{FacetTriangle}
-
--- ---- complexes
 
 abbrev pub ends : Piece → List ℕ
 ends p = p.a ∷ p.b ∷ []
@@ -21,14 +19,6 @@ ends p = p.a ∷ p.b ∷ []
 -- the simplices are pairwise properly met
 abbrev pub PairwiseProperlyMet : List Point → List (List ℕ) → Type 0
 PairwiseProperlyMet ps simplices = AllPairs (ProperlyMet ps) simplices
-
--- Facets are flat, the input's pieces meet properly, and so do the facet triangles and the protected pieces
-pub record IsValidComplex (input : List Point) (input_pieces : List Piece) (facets : List Facet) (ps : List Point) (ts : List FacetTriangle)
-    (pieces : List Piece) : Type 0 where
-  pub flat : All (IsFlat input) facets
-  pub pieces_meet : PairwiseProperlyMet input (map ends input_pieces)
-  pub triangles_meet : PairwiseProperlyMet ps (map corner_numbers ts)
-  pub triangles_meet_pieces : All (λ t. All (λ p. ProperlyMet ps (corner_numbers t) (ends p)) pieces) ts
 
 -- ---- meshes
 
