@@ -123,8 +123,8 @@ refused words folder told none asked tells good quiet status (inr (options, is, 
 mesh_answer : (words : List (List ℕ)) (folder : FolderSeen) (out : SinkSeen) → HasNoFault folder out → ((status : Status) → OutputsOfRun words folder (Err status) → status ≡ NoMemory)
     → (status : Status) → IsMeshAnswer words folder out status → (status ≡ Done) ⊎ (status ≡ NoMemory)
 mesh_answer words folder out quiet none Done u = inl refl
-mesh_answer words folder out quiet none (WriteFault None) u = absurd (quiet.1 u)
-mesh_answer words folder out quiet none (WriteFault (Some name)) u = absurd (quiet.0 u)
+mesh_answer words folder out quiet none (WriteFault None) u = absurd (quiet.1 u.2)
+mesh_answer words folder out quiet none (WriteFault (Some name)) u = absurd (quiet.0 u.2)
 mesh_answer words folder out quiet none NoMemory u = inr refl
 mesh_answer words folder out quiet none status u = inr (none status u)
 

@@ -132,7 +132,7 @@ pub check_answer : (words : List (List ℕ)) (folder : FolderSeen) (out : SinkSe
 check_answer words folder out (Ok done) h = (h.1.0, h.0, h.1.1)
 check_answer words folder out (Err (Refused s by)) h = refused_answer words folder out s by h
 check_answer words folder out (Err (Unwritten text)) h = absurd h.1
-check_answer words folder out (Err Unsummed) h = h.1.4
+check_answer words folder out (Err Unsummed) h = (h.1.0, h.0, h.1.1, h.1.4)
 check_answer words folder out (Err Wanting) h = tt
 
 -- the status of a check that ended so
@@ -148,7 +148,7 @@ data Cause (words : List (List ℕ)) (folder : FolderSeen) (s : Status) : Type 0
 cause_of : (words : List (List ℕ)) (folder : FolderSeen) (out : SinkSeen) (s : Status) → HasNoFault folder out → s ≢ NoMemory → IsCheckAnswer words folder out s → Cause words folder s
 cause_of words folder out Done f n h = checked (Ok h.0) h.1 h.2 tt refl
 cause_of words folder out (Usage word place) f n h = misunderstood (word, place) h refl
-cause_of words folder out (WriteFault None) f n h = absurd (f.1 h)
+cause_of words folder out (WriteFault None) f n h = absurd (f.1 h.3)
 cause_of words folder out (WriteFault (Some name)) f n h = absurd h
 cause_of words folder out NoMemory f n h = absurd (n refl)
 cause_of words folder out s f n h = checked (Err h.0) h.1 h.2 (λ e. n (sym h.3 ∙ ap status_of_check e)) (sym h.3)

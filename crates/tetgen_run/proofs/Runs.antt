@@ -198,8 +198,8 @@ refusal_answer words folder out s h r = h
 mesh_answer : (words : List (List ℕ)) (folder : FolderSeen) (out : SinkSeen) (result : Result (Unit {0}) Stop) → EndsByMesh words folder out result → IsMeshAnswer words folder out (answer_of result)
 mesh_answer words folder out (Ok done) h = (h.0, h.1)
 mesh_answer words folder out (Err (Refused status by)) h = refusal_answer words folder out status h.1 (run_refuses words folder status h.1)
-mesh_answer words folder out (Err (Unwritten text)) h = h.4
-mesh_answer words folder out (Err Unsummed) h = h.4
+mesh_answer words folder out (Err (Unwritten text)) h = (h.0, h.1, h.4)
+mesh_answer words folder out (Err Unsummed) h = (h.0, h.1, h.4)
 mesh_answer words folder out (Err Wanting) h = tt
 
 end_answer_by : (b : Bool) (words : List (List ℕ)) (folder : FolderSeen) (out : SinkSeen) (result : Result (Unit {0}) Stop) → EndsBy b words folder out result → AnswerBy b words folder out (answer_of result)
@@ -218,8 +218,8 @@ record Outcome (words : List (List ℕ)) (folder : FolderSeen) (s : Status) : Ty
 
 outcome_of : (words : List (List ℕ)) (folder : FolderSeen) (out : SinkSeen) (s : Status) → HasNoFault folder out → s ≢ NoMemory → IsMeshAnswer words folder out s → Outcome words folder s
 outcome_of words folder out Done f n h = record { result = Ok h.0; ran = h.1; decided = tt; is = refl }
-outcome_of words folder out (WriteFault None) f n h = absurd (f.1 h)
-outcome_of words folder out (WriteFault (Some name)) f n h = absurd (f.0 h)
+outcome_of words folder out (WriteFault None) f n h = absurd (f.1 h.2)
+outcome_of words folder out (WriteFault (Some name)) f n h = absurd (f.0 h.2)
 outcome_of words folder out NoMemory f n h = absurd (n refl)
 outcome_of words folder out s f n h = record { result = Err s; ran = h; decided = n; is = refl }
 

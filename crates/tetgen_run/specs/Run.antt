@@ -76,11 +76,12 @@ abbrev pub status_of_check : CheckFault → Status
 status_of_check fault = answer_of (Err (stop_of_check fault))
 
 -- The cause of each answer of a check: words in the grammar and a sound mesh; words against it; the refusal of the first step that refuses;
--- a fault of the sink of the line; and want of memory is free
+-- a sound mesh and a fault of the sink of its line; and want of memory is free
 abbrev pub IsCheckAnswer : List (List ℕ) → FolderSeen → SinkSeen → Status → Type 0
 IsCheckAnswer words folder out Done = (count : ℕ) × (words_fault words ≡ None) × Checked (options_of words) folder (Ok count)
 IsCheckAnswer words folder out (Usage word place) = words_fault words ≡ Some (word, place)
-IsCheckAnswer words folder out (WriteFault None) = Rose out.faults_before out.faults_now
+IsCheckAnswer words folder out (WriteFault None) =
+    (count : ℕ) × (words_fault words ≡ None) × Checked (options_of words) folder (Ok count) × Rose out.faults_before out.faults_now
 IsCheckAnswer words folder out (WriteFault (Some name)) = ⊥
 IsCheckAnswer words folder out NoMemory = Unit {0}
 IsCheckAnswer words folder out status =
@@ -88,12 +89,13 @@ IsCheckAnswer words folder out status =
 
 -- ---- the answer
 
--- The cause of each answer of a run that makes a mesh: Done where there are outputs; a fault of the folder in a store; a fault of the sink
--- of the summary; want of memory is free; and any other answer is the refusal of a step
+-- The cause of each answer of a run that makes a mesh: Done where there are outputs; outputs, and a fault of the folder in a store or of the
+-- sink of the summary; want of memory is free; and any other answer is the refusal of a step
 abbrev pub IsMeshAnswer : List (List ℕ) → FolderSeen → SinkSeen → Status → Type 0
 IsMeshAnswer words folder out Done = (outputs : Outputs) × OutputsOfRun words folder (Ok outputs)
-IsMeshAnswer words folder out (WriteFault None) = Rose out.faults_before out.faults_now
-IsMeshAnswer words folder out (WriteFault (Some name)) = Rose folder.faults_before folder.faults_now
+IsMeshAnswer words folder out (WriteFault None) = (outputs : Outputs) × OutputsOfRun words folder (Ok outputs) × Rose out.faults_before out.faults_now
+IsMeshAnswer words folder out (WriteFault (Some name)) =
+    (outputs : Outputs) × OutputsOfRun words folder (Ok outputs) × Rose folder.faults_before folder.faults_now
 IsMeshAnswer words folder out NoMemory = Unit {0}
 IsMeshAnswer words folder out status = OutputsOfRun words folder (Err status)
 

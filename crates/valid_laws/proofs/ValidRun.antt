@@ -52,8 +52,8 @@ refused words folder status v (inr h) = input (subst (λ (options : Options). An
 
 ended : (words : List (List ℕ)) (folder : FolderSeen) (out : SinkSeen) (status : Status) → IsValidRun words folder → HasNoFault folder out → IsMeshAnswer words folder out status → (status ≡ Done) ⊎ (status ≡ NoMemory)
 ended words folder out Done v n h = inl refl
-ended words folder out (WriteFault None) v n h = absurd (n.1 h)
-ended words folder out (WriteFault (Some name)) v n h = absurd (n.0 h)
+ended words folder out (WriteFault None) v n h = absurd (n.1 h.2)
+ended words folder out (WriteFault (Some name)) v n h = absurd (n.0 h.2)
 ended words folder out NoMemory v n h = inr refl
 ended words folder out status v n h = inr (refused words folder status v h)
 

@@ -72,8 +72,8 @@ module _ (start : Start) (options : Options) (input : Input) (bound : Bound) (me
   -- each cause of another status is excluded
   done_of : (folder : FolderSeen) (out : SinkSeen) (s : Status) → HasFile start folder → HasNoFault folder out → s ≢ NoMemory → IsMeshAnswer start.words folder out s → s ≡ Done
   done_of folder out Done has no_fault n h = refl
-  done_of folder out (WriteFault None) has no_fault n h = absurd (no_fault.1 h)
-  done_of folder out (WriteFault (Some name)) has no_fault n h = absurd (no_fault.0 h)
+  done_of folder out (WriteFault None) has no_fault n h = absurd (no_fault.1 h.2)
+  done_of folder out (WriteFault (Some name)) has no_fault n h = absurd (no_fault.0 h.2)
   done_of folder out NoMemory has no_fault n h = absurd (n refl)
   done_of folder out s has no_fault n h = absurd (ok_err outputs s (run_only folder has no_fault.0 (Err s) n h))
 
