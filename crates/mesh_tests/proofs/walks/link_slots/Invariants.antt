@@ -1,5 +1,5 @@
 use Rattle.mesh_arena.specs.Mesh.{IsLive}
-use Rattle.point_locate.proofs.tests.link_slots.Given as goal
+use Rattle.mesh_tests.proofs.walks.link_slots.Given as goal
 
 abbrev pub invariant-loop-j : goal.invariant-loop-j
 invariant-loop-j l = record { first : IsLive l.arena.slots l.s.index; second : IsLive l.arena.slots l.t.index }
