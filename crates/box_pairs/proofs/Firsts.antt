@@ -1,7 +1,8 @@
 -- The first part after another that is not properly met with it, by the tree of the parts' boxes.
-use Rattle.std.proofs.Common.{◌≡◌, ◌⊎◌, inl, inr, ℕ, ◌+◌, ◌<◌, ◌≤◌, Bool, List, length, get_or, Option, Some, None, ap, sym, subst, ◌∙◌, arith}
-use Rattle.std.specs.Prelude.{Any}
+use Rattle.std.proofs.Common.{◌≡◌, ◌⊎◌, inl, inr, ℕ, ◌+◌, ◌<◌, ◌≤◌, Bool, List, length, get_or, Option, Some, None, true, false, refl, ap, sym, subst, ◌∙◌, arith}
+use Rattle.std.specs.Prelude.{All, Any}
 use Rattle.std.specs.List.{HoldsAt}
+use Rattle.std.proofs.lemmas.Bool.{false≢true}
 use Rattle.std.proofs.lemmas.List.{get_or_default}
 use Rattle.sign_predicates.specs.Point.{Point}
 use Rattle.box_tree.specs.declared.bounds.Bounds.{Bounds}
@@ -12,8 +13,8 @@ use Rattle.box_tree.proofs.Lists.{less_or_more}
 use Rattle.box_pairs.specs.declared.complex_parts.Part.{Part}
 use Rattle.box_pairs.specs.declared.complex_parts.Part.TheVariants.{Triangle}
 use Rattle.box_pairs.specs.Parts.{part_numbers, IsPairMet}
-use Rattle.box_pairs.specs.Boxes.{HoldsPart, IsPartTree}
-use Rattle.box_pairs.specs.Pairs.{AreMetAt, IsUnmet, IsFirstPair, IsFound, IsUpTo, IsNoLater, IsSettled, IsFirstAfter}
+use Rattle.box_pairs.specs.Boxes.{HoldsPart, IsPartTree, HasPartBoxes, HasUnmarked}
+use Rattle.box_pairs.specs.Pairs.{AreMetAt, ArePairwiseMet, AreMarkedMet, IsMarked, IsUnmet, IsFirstPair, IsFound, IsUpTo, IsNoLater, IsSettled, IsFirstAfter, IsFirstAmong}
 use Rattle.box_pairs.proofs.Apart.{met_apart}
 
 -- what stands for a part at a place beyond the end
@@ -40,6 +41,11 @@ pub holds_at : (ps : List Point) (parts : List Part) (i : ℕ) (b : Bounds) → 
     → HoldsCorners ps (part_numbers (get_or parts i no_part)) b → HoldsPart ps parts i b
 holds_at ps parts i b h holds d = subst (λ (p : Part). HoldsCorners ps (part_numbers p) b) (get_or_default parts i no_part d h) holds
 
+-- the place of a node is one of the list
+pub node_there : (ps : List Point) (parts : List Part) (nodes : List Node) (m : ℕ) (n : Node) → HasPartBoxes ps parts nodes → m < length nodes → HoldsAt (λ k. k ≡ n) nodes m
+    → n.own.place < length parts
+node_there ps parts nodes m n boxes l at = subst (λ (k : Node). k.own.place < length parts) (at n) (boxes.listed m n l).0
+
 -- ---- one part and the later ones
 
 -- what is known once the nodes before the place n are done with
@@ -52,7 +58,7 @@ first_start among ps parts i nodes = record { is_found = tt; settled = λ m d l.
 
 -- nodes whose boxes are apart from that of the part are done with
 pub first_further : (among : Bool) (ps : List Point) (parts : List Part) (i : ℕ) (nodes : List Node) (n k : ℕ) (found : Option ℕ) (b : Bounds)
-    → IsPartTree ps parts nodes → HoldsPart ps parts i b
+    → HasPartBoxes ps parts nodes → HoldsPart ps parts i b
     → IsFirstTo among ps parts i nodes n found → AreApartBetween nodes b n k → k ≤ length nodes → IsFirstTo among ps parts i nodes k found
 first_further among ps parts i nodes n k found b tree holds to apart l = record {
   is_found = to.is_found;
@@ -89,12 +95,52 @@ first_more among ps parts i nodes n x a b at is less here to = record { is_found
 
 -- when all nodes are done with
 pub first_of_all : (among : Bool) (ps : List Point) (parts : List Part) (i : ℕ) (nodes : List Node) (n : ℕ) (found : Option ℕ)
-    → IsPartTree ps parts nodes → length nodes ≤ n → IsFirstTo among ps parts i nodes n found
-    → IsFirstAfter among ps parts i found
-first_of_all among ps parts i nodes n found tree l to = (to.is_found, λ j h. at j (tree.each j h))
+    → length nodes ≤ n → IsFirstTo among ps parts i nodes n found → IsFirstAmong among ps parts i nodes found
+first_of_all among ps parts i nodes n found l to = (to.is_found, λ m d h. to.settled m d (omega arith))
+
+-- ---- from the tree to the list
+
+-- a part with a box in the tree is done with
+settled_of : (among : Bool) (ps : List Point) (parts : List Part) (i : ℕ) (nodes : List Node) (found : Option ℕ) (j : ℕ)
+    → All (λ n. IsSettled among ps parts i found n.own.place) nodes → Any (λ n. n.own.place ≡ j) nodes → IsSettled among ps parts i found j
+settled_of among ps parts i nodes found j all a = subst (IsSettled among ps parts i found) (ap (λ (n : Node). n.own.place) a.3 ∙ a.4) (all a.0 a.1 a.2)
+
+pub boxes_of : (ps : List Point) (parts : List Part) (nodes : List Node) → IsPartTree ps parts nodes → HasPartBoxes ps parts nodes
+boxes_of ps parts nodes h = record { tree = h.tree; listed = h.listed }
+
+-- where each part has a box
+pub first_of_whole : (among : Bool) (ps : List Point) (parts : List Part) (i : ℕ) (nodes : List Node) (found : Option ℕ)
+    → IsPartTree ps parts nodes → IsFirstAmong among ps parts i nodes found → IsFirstAfter among ps parts i found
+first_of_whole among ps parts i nodes found tree first = (first.0, λ j h. settled_of among ps parts i nodes found j first.1 (tree.each j h))
+
+marked_or_not : (marks : List Bool) (j : ℕ) → IsMarked marks j ⊎ ¬ IsMarked marks j
+marked_or_not marks j = go (get_or marks j true) refl
   where
-    at : (j : ℕ) → Any (λ n. n.own.place ≡ j) nodes → IsSettled among ps parts i found j
-    at j a = let low = a.2 in subst (IsSettled among ps parts i found) (ap (λ (n : Node). n.own.place) a.3 ∙ a.4) (to.settled a.0 a.1 (omega arith))
+    go : (b : Bool) → get_or marks j true ≡ b → IsMarked marks j ⊎ ¬ IsMarked marks j
+    go true e = inl e
+    go false e = inr (λ h. false≢true (sym e ∙ h))
+
+-- where each part has one that is not marked
+pub first_of_unmarked : (among : Bool) (ps : List Point) (parts : List Part) (marks : List Bool) (i : ℕ) (nodes : List Node) (found : Option ℕ)
+    → AreMarkedMet among ps parts marks → HasUnmarked parts marks nodes → IsMarked marks i → IsFirstAmong among ps parts i nodes found
+    → IsFirstAfter among ps parts i found
+first_of_unmarked among ps parts marks i nodes found met unmarked m first = (first.0, λ j h. go j h (marked_or_not marks j))
+  where
+    go : (j : ℕ) → j < length parts → IsMarked marks j ⊎ ¬ IsMarked marks j → IsSettled among ps parts i found j
+    go j h (inl k) after = inl (met i j after h m k)
+    go j h (inr none) after = settled_of among ps parts i nodes found j first.1 (unmarked j h none) after
+
+-- where none is left
+pub all_marked_met : (among : Bool) (ps : List Point) (parts : List Part) (marks : List Bool) (nodes : List Node) → length nodes ≡ 0
+    → AreMarkedMet among ps parts marks → HasUnmarked parts marks nodes → ArePairwiseMet among ps parts
+all_marked_met among ps parts marks nodes none met unmarked i j d l n = met i j l n (marked i (omega arith)) (marked j n) d
+  where
+    marked : (k : ℕ) → k < length parts → IsMarked marks k
+    marked k h = go (marked_or_not marks k)
+      where
+        go : IsMarked marks k ⊎ ¬ IsMarked marks k → IsMarked marks k
+        go (inl m) = m
+        go (inr none_of) = let a = unmarked k h none_of in let b = a.2 in absurd (omega arith)
 
 -- ---- all parts
 

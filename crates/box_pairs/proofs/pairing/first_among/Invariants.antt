@@ -1,6 +1,6 @@
 use Rattle.std.proofs.Common.{◌≤◌, ◌-◌, length}
 use Rattle.box_pairs.proofs.Firsts.{IsFirstTo}
-use Rattle.box_pairs.proofs.pairing.first_after.Given as goal
+use Rattle.box_pairs.proofs.pairing.first_among.Given as goal
 
 abbrev pub invariant-loop-at : goal.invariant-loop-at
 invariant-loop-at l = record { there : l.at ≤ length l.tree; first : IsFirstTo l.among l.points l.parts l.i l.tree l.at l.found }
