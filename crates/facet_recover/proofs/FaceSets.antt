@@ -1,18 +1,21 @@
 -- Sets of faces, from which faces are taken.
-use Rattle.std.proofs.Common.{◌≡◌, ◌⊎◌, inl, inr, ℕ, Bool, true, false, cond, nat_eq, ◌&&◌, List, [], ◌∷◌, ◌++◌, take, drop, length, refl, ap, sym, subst, ◌∙◌, arith, eqb-true}
+use Rattle.std.proofs.Common.{◌≡◌, ◌⊎◌, inl, inr, ℕ, ◌+◌, ◌<◌, Bool, true, false, cond, not, nat_eq, ◌&&◌, List, [], ◌∷◌, ◌++◌, take, drop, length, get_or, refl, ap, sym, subst, ◌∙◌, arith, eqb-true}
 use Rattle.std.specs.Prelude.{◌↔◌, Any, Contains}
 use Rattle.std.specs.List.{list_any}
 use Rattle.std.specs.HashSet.{HashSet, contains}
-use Rattle.std.proofs.lemmas.List.{flat_map_more, take-append-drop}
+use Rattle.std.proofs.Math.Seq.{get_or-append_seam}
+use Rattle.std.proofs.lemmas.Bool.{cases_Bool}
+use Rattle.std.proofs.lemmas.List.{flat_map_more, take-append-drop, get_or_append_left, length-append}
+use Rattle.std.proofs.lemmas.List.Elements.{Contains-get_or}
 use Rattle.geo_laws.specs.Faces.{face_of, row_faces, faces_of_rows}
 use Rattle.geo_laws.specs.declared.faces.Face.{Face}
 use Rattle.geo_laws.specs.declared.tetrahedra.Tet.{Tet}
 use Rattle.geo_laws.specs.declared.complex.FacetTriangle.{FacetTriangle}
-use Rattle.geo_laws.proofs.Members.{IsMember, here, there, in_cons, both_true, member_of, contains_of, append_cases, in_append_left, in_append_right, flat_map_cases, in_flat_map}
-use Rattle.box_tree.proofs.Lists.{more_cases, in_more, in_last, any_of, any_member}
+use Rattle.geo_laws.proofs.Members.{IsMember, here, there, in_cons, both_true, member_of, contains_of, append_cases, in_append_left, in_append_right, flat_map_cases, in_flat_map, some_true, any_true}
+use Rattle.box_tree.proofs.Lists.{less_or_more, more_cases, in_more, in_last, any_of, any_member}
 use Rattle.geo_laws.proofs.RowFaces.{in_face_of}
 use Rattle.facet_recover.specs.declared.missing.FaceKey.{FaceKey}
-use Rattle.facet_recover.specs.Missing.{key, same_key, HasFace, IsMarked, KeepsMarks, HasMarks, AreMarked, face_of_triangle, HasTriangles, IsWithout, AreMissing}
+use Rattle.facet_recover.specs.Missing.{key, same_key, HasFace, IsMarked, KeepsMarks, HasMarks, AreMarked, face_of_triangle, HasTriangles, IsWithout, AreMissing, AreListed}
 
 -- ---- keys
 
@@ -56,6 +59,14 @@ only x y m = go (in_cons y x [] (member_of (x ∷ []) y m))
     go : (y ≡ x) ⊎ IsMember y [] → y ≡ x
     go (inl e) = e
     go (inr n) = elim n [ ]
+
+-- a list has a face or not
+face_or_not : (fs : List Face) (f : Face) → Contains fs f ⊎ ¬ Contains fs f
+face_or_not fs f = by (cases_Bool (list_any (λ g. same_key (key f) (key g)) fs))
+  where
+    by : (list_any (λ g. same_key (key f) (key g)) fs ≡ true) ⊎ (list_any (λ g. same_key (key f) (key g)) fs ≡ false) → Contains fs f ⊎ ¬ Contains fs f
+    by (inl e) = let g = some_true (λ g. same_key (key f) (key g)) fs e in inl (subst (Contains fs) (sym (same_face f g.0 g.2)) (contains_of fs g.0 g.1))
+    by (inr e) = inr (λ c. not_both (sym e ∙ any_true (λ g. same_key (key f) (key g)) fs f (member_of fs f c) (self_key f)))
 
 module _ {S : Type 0} where
   -- the second set has the key exactly at true, and each other key exactly where the first has it
@@ -201,6 +212,51 @@ module _ {S : Type 0} where
 
   pub missing_are : (ts left : List FacetTriangle) (rows : List Tet) (s n : HashSet FaceKey S) → HasTriangles ts s → IsWithout s n (faces_of_rows rows) → AreLeft n ts left → AreMissing ts rows left
   missing_are ts left rows s n has out are t = (λ m. (let q = (are t).0 m in (q.0, ((out (face_of_triangle t)).0 q.1).1)), λ m. (are t).1 (m.0, (out (face_of_triangle t)).1 ((has (face_of_triangle t)).1 (any_of (λ u. face_of_triangle u ≡ face_of_triangle t) ts t m.0 refl), m.1)))
+
+  -- ---- a mark for each triangle
+
+  -- the first triangles have their marks: whether the set has them not
+  pub record AreMarksTo (s : HashSet FaceKey S) (ts : List FacetTriangle) (n : ℕ) (marks : List Bool) : Type 0 where
+    pub counted : length marks ≡ n
+    pub each : (k : ℕ) (d : FacetTriangle) → k < n → (get_or marks k true ≡ true) ↔ ¬ HasFace s (face_of_triangle (get_or ts k d))
+
+  pub marks_none : (s : HashSet FaceKey S) (ts : List FacetTriangle) → AreMarksTo s ts 0 []
+  marks_none s ts = record { counted = refl; each = λ k d h. absurd (omega arith) }
+
+  pub marks_more : (s : HashSet FaceKey S) (ts : List FacetTriangle) (n : ℕ) (marks : List Bool) (t : FacetTriangle) (b : Bool) → ((d : FacetTriangle) → get_or ts n d ≡ t)
+      → contains same_key s (key (face_of_triangle t)) ≡ b → AreMarksTo s ts n marks → AreMarksTo s ts (n + 1) (marks ++ not b ∷ [])
+  marks_more s ts n marks t b is has h = record { counted = length-append marks (not b ∷ []) ∙ ap (λ m. m + 1) h.counted; each = λ k d l. at k d (less_or_more k n) l }
+    where
+      Wanted : Bool → FacetTriangle → Type 0
+      Wanted m u = (m ≡ true) ↔ ¬ HasFace s (face_of_triangle u)
+
+      last : (b : Bool) → contains same_key s (key (face_of_triangle t)) ≡ b → Wanted (not b) t
+      last true e = (λ k. absurd (not_both k), λ k. absurd (k e))
+      last false e = (λ k m. not_both (sym e ∙ m), λ k. refl)
+
+      at : (k : ℕ) (d : FacetTriangle) → (k < n) ⊎ ((k ≡ n) ⊎ (n < k)) → k < n + 1 → Wanted (get_or (marks ++ not b ∷ []) k true) (get_or ts k d)
+      at k d (inl l) m = let c = h.counted in subst (λ (x : Bool). Wanted x (get_or ts k d)) (sym (get_or_append_left marks (not b ∷ []) true k (omega arith))) (h.each k d l)
+      at k d (inr (inl e)) m =
+          subst (λ (x : Bool). Wanted x (get_or ts k d)) (sym (ap (λ (m : ℕ). get_or (marks ++ not b ∷ []) m true) (e ∙ sym h.counted) ∙ get_or-append_seam marks (not b) [] true))
+          (subst (Wanted (not b)) (sym (ap (λ (m : ℕ). get_or ts m d) e ∙ is d)) (last b has))
+      at k d (inr (inr g)) m = absurd (omega arith)
+
+  pub listed_are : (ts : List FacetTriangle) (rows : List Tet) (s n : HashSet FaceKey S) (marks : List Bool) → HasTriangles ts s → IsWithout s n (faces_of_rows rows)
+      → AreMarksTo n ts (length ts) marks → AreListed ts rows marks
+  listed_are ts rows s n marks has out h = record { counted = h.counted; each = λ i d l. (to i d l, from i d l) }
+    where
+      there_is : (i : ℕ) (d : FacetTriangle) → i < length ts → HasFace s (face_of_triangle (get_or ts i d))
+      there_is i d l = (has (face_of_triangle (get_or ts i d))).1 (any_of (λ u. face_of_triangle u ≡ face_of_triangle (get_or ts i d)) ts (get_or ts i d) (Contains-get_or ts i d l) refl)
+
+      to : (i : ℕ) (d : FacetTriangle) → i < length ts → get_or marks i true ≡ true → Contains (faces_of_rows rows) (face_of_triangle (get_or ts i d))
+      to i d l m = by (face_or_not (faces_of_rows rows) (face_of_triangle (get_or ts i d)))
+        where
+          by : Contains (faces_of_rows rows) (face_of_triangle (get_or ts i d)) ⊎ ¬ Contains (faces_of_rows rows) (face_of_triangle (get_or ts i d)) → Contains (faces_of_rows rows) (face_of_triangle (get_or ts i d))
+          by (inl c) = c
+          by (inr c) = absurd ((h.each i d l).0 m ((out (face_of_triangle (get_or ts i d))).1 (there_is i d l, c)))
+
+      from : (i : ℕ) (d : FacetTriangle) → i < length ts → Contains (faces_of_rows rows) (face_of_triangle (get_or ts i d)) → get_or marks i true ≡ true
+      from i d l c = (h.each i d l).1 (λ k. ((out (face_of_triangle (get_or ts i d))).0 k).1 c)
 
 -- ---- marks
 

@@ -1,5 +1,5 @@
 -- The facet triangles that are no faces of the rows.
-use Rattle.std.specs.Prelude.{◌≡◌, ◌↔◌, ℕ, ◌==◌, ◌&&◌, Bool, false, IsTrue, List, slice_index_or, Any, Contains}
+use Rattle.std.specs.Prelude.{◌≡◌, ◌↔◌, ℕ, ◌<◌, ◌==◌, ◌&&◌, Bool, true, false, IsTrue, List, length, slice_index_or, Any, Contains}
 use Rattle.std.specs.HashSet.{HashSet, contains}
 use Rattle.geo_laws.specs.Faces.{face_of, faces_of_rows}
 use Rattle.geo_laws.specs.declared.faces.Face.{Face}
@@ -51,3 +51,9 @@ IsWithout s n fs = (f : Face) → HasFace n f ↔ (HasFace s f × ¬ Contains fs
 -- the triangles that are no faces of the rows
 abbrev pub AreMissing : List FacetTriangle → List Tet → List FacetTriangle → Type 0
 AreMissing ts rows missing = (t : FacetTriangle) → Contains missing t ↔ (Contains ts t × ¬ Contains (faces_of_rows rows) (face_of_triangle t))
+
+-- a mark for each triangle: whether it is a face of the rows
+pub record AreListed (ts : List FacetTriangle) (rows : List Tet) (marks : List Bool) : Type 0 where
+  pub counted : length marks ≡ length ts
+  pub each : (i : ℕ) (d : FacetTriangle) → i < length ts
+      → IsTrue (slice_index_or marks i true) ↔ Contains (faces_of_rows rows) (face_of_triangle (slice_index_or ts i d))

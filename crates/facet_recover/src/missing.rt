@@ -3,7 +3,7 @@ ghost use Rattle.std.specs.Prelude.{◌≡◌, false, Contains, IfOk, OnOk, IsTr
 ghost use Rattle.geo_laws.specs.Faces.{face_of, row_faces, faces_of_rows};
 ghost use Rattle.geo_laws.specs.declared.faces.Face.{Face};
 ghost use Rattle.facet_recover.specs.Missing.{key, IsMarked, KeepsMarks, HasMarks, AreMarked};
-ghost use Rattle.facet_recover.specs.Missing.{HasTriangles, IsWithout, AreMissing};
+ghost use Rattle.facet_recover.specs.Missing.{HasTriangles, IsWithout, AreMissing, AreListed};
 
 use geo_laws::{Face, FacetTriangles, Tet, TetList, face_of};
 use std::alloc::Global;
@@ -131,4 +131,23 @@ pub(crate) fn missing_triangles(
         }
     }
     Ok(missing)
+}
+
+/// A mark for each triangle: whether it is a face of the list.
+pub fn listed_triangles(
+    alloc: Global,
+    list: &TetList,
+    triangles: &FacetTriangles,
+) -> Result<Vec<bool>, NoMemory>
+    ensures { IfOk result (λ marks. AreListed triangles.now list.now marks.items) }
+{
+    let mut faces = faces_of(alloc, triangles)?;
+    take_all_faces(&mut faces.found, &faces.marks, list);
+    let mut listed = Vec::with_capacity(alloc, triangles.len())?;
+    for i in 0..triangles.len() {
+        let t = triangles.at(i);
+        let is_left = faces.found.contains(&key_of(t.a, t.b, t.c));
+        listed.push(!is_left)?;
+    }
+    Ok(listed)
 }
