@@ -1,5 +1,5 @@
 -- The causes of the steps' faults, as causes of the whole.
-use Rattle.std.proofs.Common.{◌≡◌, ℕ, List, [], Some, None, sym, subst, ◌∙◌}
+use Rattle.std.proofs.Common.{◌≡◌, List, [], Some, None, sym, subst, ◌∙◌}
 use Rattle.std.specs.Prelude.{All}
 use Rattle.sign_predicates.specs.Point.{Point}
 use Rattle.geo_laws.specs.Complex.{Complex, facets}

@@ -5,6 +5,7 @@ pub mod Causes
 pub mod Recovered
 pub mod Covered
 pub mod Kept
+pub mod Listed
 pub mod OneAnswerParts
 pub mod OneAnswer
 pub mod Meshed

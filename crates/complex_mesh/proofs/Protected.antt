@@ -1,14 +1,14 @@
 -- What protection leaves, from what it begins with.
-use Rattle.std.proofs.Common.{◌≡◌, ◌≢◌, inl, Bool, true, false, ℕ, ◌+◌, ◌-◌, ◌^◌, ◌<◌, ◌≤◌, List, [], ◌∷◌, length, refl, ap, sym, subst, ◌∙◌, arith}
+use Rattle.std.proofs.Common.{◌≡◌, inl, Bool, true, false, not, None, ℕ, ◌+◌, ◌-◌, ◌^◌, ◌<◌, ◌≤◌, List, [], ◌∷◌, length, refl, ap, sym, subst, ◌∙◌, arith}
 use Rattle.std.specs.Prelude.{All}
 use Rattle.std.specs.List.{slice_index_or}
 use Rattle.sign_predicates.specs.Point.{Point}
 use Rattle.geo_laws.specs.Complex.{Complex, corner_lists, facets}
 use Rattle.geo_laws.specs.Delaunay.{delaunay_rows, AreCoplanar, HasDistinctPoints}
-use Rattle.geo_laws.specs.Segment.{segments, pieces, protect, Protected}
+use Rattle.geo_laws.specs.Segment.{segments, pieces, protect, Protected, is_side, first_missing}
 use Rattle.geo_laws.specs.declared.complex.Piece.{Piece}
 use Rattle.geo_laws.specs.declared.complex.FacetTriangle.{FacetTriangle}
-use Rattle.geo_laws.proofs.Members.{IsMember, here, there}
+use Rattle.geo_laws.proofs.Members.{IsMember, here, there, at_place}
 use Rattle.border_laws.specs.Complex.{IsSound, HasTriangles, facet_at}
 use Rattle.facet_plane.specs.Corners.{HasCornersOf}
 use Rattle.refill_laws.specs.Protected.{IsProtected}
@@ -24,7 +24,7 @@ use Rattle.segment_protect.proofs.Start.{protectable_start}
 use Rattle.segment_protect.proofs.Crossings.{are_parts}
 use Rattle.protect_laws.specs.Pieces.{HasProtected}
 use Rattle.protect_laws.proofs.Start.{law_corners}
-use Rattle.protect_laws.proofs.Ended.{IsKept, ended}
+use Rattle.protect_laws.proofs.Ended.{IsKept, ended, none_found}
 use Rattle.protect_laws.proofs.Pieces.{law_protected_pieces, law_two_ends}
 use Rattle.protect_laws.proofs.Complex.{law_sound, law_protected_complex}
 use Rattle.recovery_laws.specs.Recovery.{IsRecovery}
@@ -43,6 +43,10 @@ use Rattle.merge_laws.specs.Merged.{merged_facet, merged_segments}
 use Rattle.merge_laws.specs.Facets.{HasCornersOn, AreFlat}
 use Rattle.merged_mesh.specs.MergedMesh.{merged_facets}
 use Rattle.merged_mesh.proofs.MergedMesh.{facet_is, law_merged_sound, law_merged_ends}
+
+not_false : (b : Bool) → not b ≡ false → b ≡ true
+not_false true e = refl
+not_false false e = sym e
 
 less_most : (i j k : ℕ) → i < j → j ≤ k → i < k
 less_most i j k h l = omega arith
@@ -126,18 +130,25 @@ module _ (o : MeshOptions) (ps : List Point) (c : Complex) (segs : List Piece) (
   self_most : (n : ℕ) → n ≤ n
   self_most n = omega arith
 
-  kept : IsKept ps o.halvings [] qs rest
-  kept = (ended ps o.halvings [] (λ s m. absurd (none s m)) qs rest o.budget ps (pieces ps segs) protected.ends (record {
+  at_end : IsKept ps o.halvings [] qs rest × (first_missing qs rest ≡ None)
+  at_end = ended ps o.halvings [] (λ s m. absurd (none s m)) qs rest o.budget ps (pieces ps segs) protected.ends (record {
     can = protectable_start ps (pieces ps segs) o.halvings start protected.can_split.1;
     begins = record { long = self_most (length ps); same = λ i h. refl };
     covered = λ s m. absurd (none s m);
-  })).0
+  })
+
+  kept : IsKept ps o.halvings [] qs rest
+  kept = at_end.0
 
   pub still_few : length qs < 2 ^ 32 - 2
   still_few = most_less (length qs) (length ps + o.budget) (2 ^ 32 - 2) (added o.halvings qs rest o.budget ps (pieces ps segs) protected.ends).1 given.few
 
   pub still_distinct : HasDistinctPoints qs
   still_distinct = after.distinct
+
+  -- a piece that is left is a side of a Delaunay row
+  side : (p : Piece) → IsMember p rest → is_side (delaunay_rows qs) p ≡ true
+  side p m = not_false (is_side (delaunay_rows qs) p) (none_found (λ q. not (is_side (delaunay_rows qs) q)) rest at_end.1 p m)
 
   -- what the facets of a complex ask for
   pub sound_facets : (d : Complex) → HasCornersOf ps d → fs ≡ facets d → HasSoundFacets qs rest d
@@ -149,6 +160,7 @@ module _ (o : MeshOptions) (ps : List Point) (c : Complex) (segs : List Piece) (
     sound = subst (λ gs. AreSound qs segs gs) are (λ k l. law_sound ps qs segs (facet_at fs k) after.begins (sound k l));
     has_pieces = after.has_pieces;
     two_ends = λ k d l. (kept.can.each k d l).ends;
+    are_sides = λ k d l. side (slice_index_or rest k d) (at_place rest k d l);
   }
 
   module _ (ts : List FacetTriangle) (triangles : ts ≡ complex_triangles qs fs) (met : AreTrianglesMet qs ts rest) where

@@ -1,9 +1,10 @@
 -- What the steps from protection to the mesh leave for the next ones.
-use Rattle.std.specs.Prelude.{ℕ, ◌<◌, ◌-◌, ◌^◌, List, length, All, IfSome, IsSome, ◌↔◌, IsTrue}
+use Rattle.std.specs.Prelude.{◌≡◌, true, ℕ, ◌<◌, ◌-◌, ◌^◌, List, length, All, IfSome, IsSome, ◌↔◌, IsTrue}
 use Rattle.sign_predicates.specs.Point.{Point}
 use Rattle.geo_laws.specs.Complex.{Complex, facets}
 use Rattle.geo_laws.specs.Delaunay.{delaunay_rows, HasDistinctPoints}
 use Rattle.geo_laws.specs.Facet.{Facet}
+use Rattle.geo_laws.specs.Segment.{is_side}
 use Rattle.geo_laws.specs.declared.complex.Piece.{Piece}
 use Rattle.geo_laws.specs.declared.complex.FacetTriangle.{FacetTriangle}
 use Rattle.border_laws.specs.Complex.{IsSound, facet_at}
@@ -26,7 +27,7 @@ use Rattle.complex_mesh.specs.declared.mesh.ComplexMesh.{ComplexMesh}
 use Rattle.complex_mesh.specs.declared.fault.MeshFault.{MeshFault}
 use Rattle.complex_mesh.specs.declared.fault.MeshFault.TheVariants.{Crossing, NoFill, NoMemory}
 
--- the points after protection, with pieces that have two ends: flat facets, each side of which is inner or one of some segments, whose
+-- the points after protection, with pieces that have two ends and are sides of Delaunay rows: flat facets, each side of which is inner or one of some segments, whose
 -- pieces are sides of Delaunay rows
 pub record HasSoundFacets (qs : List Point) (rest : List Piece) (c : Complex) : Type 0 where
   pub segs : List Piece
@@ -36,6 +37,7 @@ pub record HasSoundFacets (qs : List Point) (rest : List Piece) (c : Complex) : 
   pub sound : (k : ℕ) → k < length (facets c) → IsSound qs segs (facet_at (facets c) k)
   pub has_pieces : HavePieces qs segs
   pub two_ends : All (HasTwoEnds (length qs)) rest
+  pub are_sides : All (λ p. is_side (delaunay_rows qs) p ≡ true) rest
 
 -- the fault names the first two parts that are not properly met
 abbrev pub IsCrossingFault : List Point → List Piece → List Facet → MeshFault → Type 0

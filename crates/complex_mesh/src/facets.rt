@@ -2,14 +2,16 @@
 ghost use Rattle.std.specs.Prelude.{◌≡◌, MatchResult, IfOk};
 ghost use Rattle.box_pairs.specs.Crossing.{AreTrianglesMet};
 ghost use Rattle.geo_laws.specs.Complex.{facets};
+ghost use Rattle.geo_laws.specs.Delaunay.{delaunay_rows};
 ghost use Rattle.complex_mesh.specs.Protection.{complex_triangles};
 ghost use Rattle.complex_mesh.specs.Steps.{HasSoundFacets, IsCrossingFault};
 
 use crate::fault::MeshFault;
-use box_pairs::crossings;
+use box_pairs::crossings_beside;
 use box_tree::point_tree;
 use facet_plane::facet_triangles_in;
-use geo_laws::{Complex, FacetTriangles, Pieces, Points};
+use facet_recover::listed_triangles;
+use geo_laws::{Complex, FacetTriangles, Pieces, Points, TetList};
 use std::alloc::Global;
 use tet_ports::NoMemory;
 
@@ -33,20 +35,24 @@ fn complex_triangles(
 }
 
 /// The triangles of all facets, facet by facet: any two are properly met, and each with each piece.
-/// `Crossing` names the first two parts that are not.
+/// `Crossing` names the first two parts that are not. Faces of the Delaunay list are properly met
+/// with one another and with its sides, so these are not compared.
 pub(crate) fn met_triangles(
     alloc: Global,
     points: &Points,
+    list: &TetList,
     pieces: &Pieces,
     complex: &Complex,
 ) -> Result<FacetTriangles, MeshFault>
-    requires { HasSoundFacets points.now pieces.now complex.now }
+    requires list { list.now ≡ delaunay_rows points.now }
+    requires facets { HasSoundFacets points.now pieces.now complex.now }
     ensures { MatchResult result
         (λ triangles. (triangles ≡ complex_triangles points.now (facets complex.now))
         × AreTrianglesMet points.now triangles pieces.now)
         (IsCrossingFault points.now pieces.now (facets complex.now)) }
 {
     let triangles = complex_triangles(alloc, points, pieces, complex)?;
-    crossings(alloc, points, pieces, &triangles)?;
+    let listed = listed_triangles(alloc, list, &triangles)?;
+    crossings_beside(alloc, points, pieces, &triangles, listed.as_slice())?;
     Ok(triangles)
 }

@@ -36,8 +36,9 @@ fn mesh_facets(
 {
     let pieces = pieces(alloc, &points, segments)?;
     let protected = protect(alloc, points, pieces, options.halvings, options.budget)?;
-    let triangles = met_triangles(alloc, &protected.points, &protected.pieces, meshed)?;
-    let whole = recovered(alloc, &protected.points, &protected.tetrahedra, &triangles)?;
+    let list = &protected.tetrahedra;
+    let triangles = met_triangles(alloc, &protected.points, list, &protected.pieces, meshed)?;
+    let whole = recovered(alloc, &protected.points, list, &triangles)?;
     let mesh = kept_mesh(alloc, protected.points, triangles, &whole, complex, options)?;
     Ok(mesh)
 }

@@ -1,7 +1,7 @@
 use Rattle.std.proofs.lemmas.Result.{err_from_is_err_and}
 use Rattle.merged_facets.specs.Merging.{group_of, is_inner}
 use Rattle.complex_mesh.proofs.Causes.{not_flat_cause}
-use Rattle.complex_mesh.proofs.Meshed.{merged_corners, least_first, meshed_merged, meshed_kept}
+use Rattle.complex_mesh.proofs.Meshed.{merged_corners, least_first}
 use Rattle.complex_mesh.proofs.meshing.mesh_complex.Goals as goal
 
 pub returns-in_err-check_flat : goal.returns-in_err-check_flat

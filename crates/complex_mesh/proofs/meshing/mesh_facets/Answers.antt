@@ -1,11 +1,7 @@
-use Rattle.std.proofs.Common.{ℕ, ◌≡◌, ◌<◌, List, length, refl, sym, ap, subst, ◌∙◌, arith}
-use Rattle.std.specs.Prelude.{All}
+use Rattle.std.proofs.Common.{ℕ, ◌<◌, length, refl, subst, arith}
 use Rattle.std.proofs.lemmas.Result.{err_from_is_err_and}
 use Rattle.geo_laws.specs.Complex.{facets}
-use Rattle.geo_laws.specs.Segment.{protect}
-use Rattle.geo_laws.specs.Segment as segment
-use Rattle.segment_protect.specs.Ends.{CanSplit, IsProtectFault}
-use Rattle.complex_mesh.specs.Protection.{IsProtectedComplex}
+use Rattle.segment_protect.specs.Ends.{IsProtectFault}
 use Rattle.complex_mesh.proofs.Causes.{protect_cause, crossing_cause, tangle_cause}
 use Rattle.complex_mesh.proofs.Protected.{meshed_two_ends, protected_by, sound_facets, still_distinct, still_few, protected_triangles, solid}
 use Rattle.complex_mesh.proofs.Kept.{complex_mesh_of}
@@ -20,8 +16,8 @@ returns-in_err-protected c =
     rw (p.1, p.2) (protect_cause c.args.options.now c.args.points c.args.complex.now c.args.segments.now (facets c.args.meshed.now) c.requires.flat c.requires.meshed c.in_err-protected.field-0.0
     (subst (λ pieces. IsProtectFault c.args.options.now.halvings c.args.options.now.budget c.args.points pieces c.in_err-protected.field-0.0) c.in_ok-pieces.ensures.list c.in_err-protected.ensures))
 
-pub met_triangles-requires : goal.met_triangles-requires
-met_triangles-requires c = sound_facets c.args.options.now c.args.points c.args.complex.now c.args.segments.now (facets c.args.meshed.now) c.in_ok-protected.protected.points c.in_ok-protected.protected.pieces c.requires.meshable (protected_by c.args.options.now c.args.points c.args.complex.now c.args.segments.now (facets c.args.meshed.now) c.in_ok-pieces.pieces c.in_ok-protected.protected.points c.in_ok-protected.protected.pieces c.requires.flat c.requires.meshed c.in_ok-pieces.ensures.list c.in_ok-protected.ensures.0 c.in_ok-protected.ensures.1) c.args.meshed.now c.requires.corners refl
+pub met_triangles-requires-clause-facets : goal.met_triangles-requires-clause-facets
+met_triangles-requires-clause-facets c = sound_facets c.args.options.now c.args.points c.args.complex.now c.args.segments.now (facets c.args.meshed.now) c.in_ok-protected.protected.points c.in_ok-protected.protected.pieces c.requires.meshable (protected_by c.args.options.now c.args.points c.args.complex.now c.args.segments.now (facets c.args.meshed.now) c.in_ok-pieces.pieces c.in_ok-protected.protected.points c.in_ok-protected.protected.pieces c.requires.flat c.requires.meshed c.in_ok-pieces.ensures.list c.in_ok-protected.ensures.0 c.in_ok-protected.ensures.1) c.args.meshed.now c.requires.corners refl
 
 pub recovered-requires-clause-distinct : goal.recovered-requires-clause-distinct
 recovered-requires-clause-distinct c = still_distinct c.args.options.now c.args.points c.args.complex.now c.args.segments.now (facets c.args.meshed.now) c.in_ok-protected.protected.points c.in_ok-protected.protected.pieces c.requires.meshable (protected_by c.args.options.now c.args.points c.args.complex.now c.args.segments.now (facets c.args.meshed.now) c.in_ok-pieces.pieces c.in_ok-protected.protected.points c.in_ok-protected.protected.pieces c.requires.flat c.requires.meshed c.in_ok-pieces.ensures.list c.in_ok-protected.ensures.0 c.in_ok-protected.ensures.1)
