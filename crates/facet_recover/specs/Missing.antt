@@ -1,5 +1,6 @@
 -- The facet triangles that are no faces of the rows.
-use Rattle.std.specs.Prelude.{◌≡◌, ◌↔◌, ℕ, ◌<◌, ◌==◌, ◌&&◌, Bool, true, false, IsTrue, List, length, slice_index_or, Any, Contains}
+use Rattle.std.specs.Prelude.{◌≡◌, ◌↔◌, ℕ, ◌<◌, ◌==◌, ◌&&◌, Bool, true, false, IsTrue}
+use Rattle.std.specs.Prelude.{List, length, slice_index_or, Any, Contains}
 use Rattle.std.specs.HashSet.{HashSet, contains}
 use Rattle.geo_laws.specs.Faces.{face_of, faces_of_rows}
 use Rattle.geo_laws.specs.declared.faces.Face.{Face}
