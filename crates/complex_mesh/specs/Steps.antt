@@ -27,8 +27,8 @@ use Rattle.complex_mesh.specs.declared.mesh.ComplexMesh.{ComplexMesh}
 use Rattle.complex_mesh.specs.declared.fault.MeshFault.{MeshFault}
 use Rattle.complex_mesh.specs.declared.fault.MeshFault.TheVariants.{Crossing, NoFill, NoMemory}
 
--- the points after protection, with pieces that have two ends and are sides of Delaunay rows: flat facets, each side of which is inner or one of some segments, whose
--- pieces are sides of Delaunay rows
+-- the points after protection, with pieces that have two ends and are sides of Delaunay rows: flat facets, each side of which is inner or
+-- one of some segments, whose pieces are sides of Delaunay rows
 pub record HasSoundFacets (qs : List Point) (rest : List Piece) (c : Complex) : Type 0 where
   pub segs : List Piece
   pub distinct : HasDistinctPoints qs

@@ -89,11 +89,12 @@ IsCheckAnswer words folder out status =
 
 -- ---- the answer
 
--- The cause of each answer of a run that makes a mesh: Done where there are outputs; outputs, and a fault of the folder in a store or of the
--- sink of the summary; want of memory is free; and any other answer is the refusal of a step
+-- The cause of each answer of a run that makes a mesh: Done where there are outputs; outputs, and a fault of the folder in a store or of
+-- the sink of the summary; want of memory is free; and any other answer is the refusal of a step
 abbrev pub IsMeshAnswer : List (List ℕ) → FolderSeen → SinkSeen → Status → Type 0
 IsMeshAnswer words folder out Done = (outputs : Outputs) × OutputsOfRun words folder (Ok outputs)
-IsMeshAnswer words folder out (WriteFault None) = (outputs : Outputs) × OutputsOfRun words folder (Ok outputs) × Rose out.faults_before out.faults_now
+IsMeshAnswer words folder out (WriteFault None) =
+    (outputs : Outputs) × OutputsOfRun words folder (Ok outputs) × Rose out.faults_before out.faults_now
 IsMeshAnswer words folder out (WriteFault (Some name)) =
     (outputs : Outputs) × OutputsOfRun words folder (Ok outputs) × Rose folder.faults_before folder.faults_now
 IsMeshAnswer words folder out NoMemory = Unit {0}
