@@ -40,27 +40,29 @@ fn neighbor_text(alloc: Global, rows: &[[u32; 4]], first: u32) -> Result<Bytes, 
     write_neigh(alloc, &pairs, first)
 }
 
+const NEIGHBOR_TEXTS: [(&[[u32; 4]], u32, &[u8]); 5] = [
+    (&SMALLEST, 1, b"1 4\n1 -1 -1 -1 -1\n"),
+    (
+        &PYRAMID,
+        0,
+        b"2 4\n0 1 -1 -1 -1\n1 -1 0 -1 -1\n",
+    ),
+    (
+        &PYRAMID,
+        1,
+        b"2 4\n1 2 -1 -1 -1\n2 -1 1 -1 -1\n",
+    ),
+    (
+        &CUBE,
+        0,
+        b"6 4\n0 2 -1 -1 -1\n1 3 2 -1 -1\n2 4 -1 1 0\n3 5 -1 -1 1\n4 -1 5 -1 2\n5 -1 -1 4 3\n",
+    ),
+    (&[], 0, b"0 4\n"),
+];
+
 #[test]
 fn texts_of_neighbors(rt: HostRuntime) -> Result<(), Fail> {
-    for (rows, first, neigh) in [
-        (SMALLEST.as_slice(), 1, b"1 4\n1 -1 -1 -1 -1\n".as_slice()),
-        (
-            PYRAMID.as_slice(),
-            0,
-            b"2 4\n0 1 -1 -1 -1\n1 -1 0 -1 -1\n".as_slice(),
-        ),
-        (
-            PYRAMID.as_slice(),
-            1,
-            b"2 4\n1 2 -1 -1 -1\n2 -1 1 -1 -1\n".as_slice(),
-        ),
-        (
-            CUBE.as_slice(),
-            0,
-            b"6 4\n0 2 -1 -1 -1\n1 3 2 -1 -1\n2 4 -1 1 0\n3 5 -1 -1 1\n4 -1 5 -1 2\n5 -1 -1 4 3\n".as_slice(),
-        ),
-        ([].as_slice(), 0, b"0 4\n".as_slice()),
-    ] {
+    for &(rows, first, neigh) in &NEIGHBOR_TEXTS {
         let text = neighbor_text(rt.alloc(), rows, first)?;
         assert_eq!(rt; text.as_slice(), neigh);
     }
@@ -92,15 +94,17 @@ fn counts(alloc: Global, rows: &[[u32; 4]]) -> Result<[usize; 4], NoMemory> {
     ])
 }
 
+const BALLS: [(&[[u32; 4]], usize); 3] = [
+    (&SMALLEST, 4),
+    (&PYRAMID, 5),
+    (&CUBE, 8),
+];
+
 /// With T rows, P points in all and B of them on the surface, a ball has 2T + B - 2 faces, T + P +
 /// B - 3 sides and 2B - 4 faces on the surface. Here all points are on it.
 #[test]
 fn counts_of_balls(rt: HostRuntime) -> Result<(), Fail> {
-    for (rows, points) in [
-        (SMALLEST.as_slice(), 4),
-        (PYRAMID.as_slice(), 5),
-        (CUBE.as_slice(), 8),
-    ] {
+    for &(rows, points) in &BALLS {
         let count = rows.len();
         let faces = 2 * count + points - 2;
         let wanted = [faces, count + 2 * points - 3, faces, 2 * points - 4];

@@ -583,16 +583,18 @@ fn sizes_in_cube(alloc: Global, p: [i8; 3]) -> Option<(usize, usize)> {
     }
 }
 
+const CAVITIES: [([i8; 3], (usize, usize)); 4] = [
+    ([1, 1, 1], (6, 12)),
+    ([3, 1, 1], (2, 6)),
+    ([2, 1, 1], (8, 14)),
+    ([2, 4, 1], (2, 6)),
+];
+
 #[test]
 fn cavities_in_a_cube(rt: HostRuntime) {
     // In the middle, strictly beyond a face of the cube, in the middle of one, and in its plane
     // outside of the sphere.
-    for (p, want) in [
-        ([1, 1, 1], (6, 12)),
-        ([3, 1, 1], (2, 6)),
-        ([2, 1, 1], (8, 14)),
-        ([2, 4, 1], (2, 6)),
-    ] {
+    for &(p, want) in &CAVITIES {
         assert_eq!(rt; sizes_in_cube(rt.alloc(), p), Some(want));
     }
 }
@@ -637,15 +639,17 @@ fn rows_and_sides(alloc: Global, set: &[[i8; 3]], more: &[[i8; 3]]) -> Option<(u
 
 const TETRAHEDRON: [[i8; 3]; 4] = [[0, 0, 0], [4, 0, 0], [0, 4, 0], [0, 0, 4]];
 
+const ADDED_POINTS: [(&[[i8; 3]], &[[i8; 3]], (usize, usize)); 4] = [
+    (&TETRAHEDRON, &[[1, 1, 1]], (4, 20)),
+    (&TETRAHEDRON, &[[1, 1, 1], [4, 4, 4]], (6, 28)),
+    (&TETRAHEDRON, &[[1, 1, 1], [4, 4, 4], [-1, 0, 3]], (8, 36)),
+    (&GRID, &[], (40, 180)),
+];
+
 #[test]
 fn points_are_added(rt: HostRuntime) {
     // In the tetrahedron, beyond a face of it, and in the plane of another; none.
-    for (set, more, want) in [
-        (&TETRAHEDRON[..], &[[1, 1, 1]][..], (4, 20)),
-        (&TETRAHEDRON, &[[1, 1, 1], [4, 4, 4]], (6, 28)),
-        (&TETRAHEDRON, &[[1, 1, 1], [4, 4, 4], [-1, 0, 3]], (8, 36)),
-        (&GRID, &[], (40, 180)),
-    ] {
+    for &(set, more, want) in &ADDED_POINTS {
         assert_eq!(rt; rows_and_sides(rt.alloc(), set, more), Some(want));
     }
 }

@@ -136,17 +136,19 @@ fn in_one(alloc: Global, p: GridPoint) -> Result<Option<SlotPlace>, Fail> {
     Ok(found_from(&arena, &points, 0, p))
 }
 
+const PLACES_IN_ONE: [((i8, i8, i8), SlotPlace); 7] = [
+    ((1, 1, 1), SlotPlace::Inside(0)),
+    ((0, 0, 0), SlotPlace::Inside(0)),
+    ((0, 2, 2), SlotPlace::Inside(0)),
+    ((2, 2, 2), SlotPlace::Beyond(1)),
+    ((-1, 1, 1), SlotPlace::Beyond(2)),
+    ((1, -1, 1), SlotPlace::Beyond(3)),
+    ((1, 1, -1), SlotPlace::Beyond(4)),
+];
+
 #[test]
 fn points_in_and_round_a_tetrahedron(rt: HostRuntime) -> Result<(), Fail> {
-    for ((x, y, z), want) in [
-        ((1, 1, 1), SlotPlace::Inside(0)),
-        ((0, 0, 0), SlotPlace::Inside(0)),
-        ((0, 2, 2), SlotPlace::Inside(0)),
-        ((2, 2, 2), SlotPlace::Beyond(1)),
-        ((-1, 1, 1), SlotPlace::Beyond(2)),
-        ((1, -1, 1), SlotPlace::Beyond(3)),
-        ((1, 1, -1), SlotPlace::Beyond(4)),
-    ] {
+    for &((x, y, z), want) in &PLACES_IN_ONE {
         let found = in_one(rt.alloc(), grid_point(x, y, z))?;
         assert_eq!(rt; found, Some(want), "{x} {y} {z}");
     }
@@ -246,21 +248,23 @@ fn in_two(alloc: Global, start: usize, p: GridPoint) -> Result<Option<SlotPlace>
     }
 }
 
+const PLACES_IN_TWO: [((i8, i8, i8), SlotPlace); 10] = [
+    ((1, 1, 1), SlotPlace::Inside(0)),
+    ((0, 0, 1), SlotPlace::Inside(0)),
+    ((2, 2, 2), SlotPlace::Inside(1)),
+    ((3, 3, 4), SlotPlace::Inside(1)),
+    ((-1, 1, 1), SlotPlace::Beyond(2)),
+    ((1, 1, -1), SlotPlace::Beyond(4)),
+    ((1, -1, 1), SlotPlace::Beyond(3)),
+    ((4, 1, 4), SlotPlace::Beyond(5)),
+    ((1, 4, 4), SlotPlace::Beyond(6)),
+    ((4, 4, 1), SlotPlace::Beyond(7)),
+];
+
 #[test]
 fn walks_through_linked_slots(rt: HostRuntime) -> Result<(), Fail> {
     // From each slot to a point in each tetrahedron, and to one strictly beyond each hull face.
-    for ((x, y, z), want) in [
-        ((1, 1, 1), SlotPlace::Inside(0)),
-        ((0, 0, 1), SlotPlace::Inside(0)),
-        ((2, 2, 2), SlotPlace::Inside(1)),
-        ((3, 3, 4), SlotPlace::Inside(1)),
-        ((-1, 1, 1), SlotPlace::Beyond(2)),
-        ((1, 1, -1), SlotPlace::Beyond(4)),
-        ((1, -1, 1), SlotPlace::Beyond(3)),
-        ((4, 1, 4), SlotPlace::Beyond(5)),
-        ((1, 4, 4), SlotPlace::Beyond(6)),
-        ((4, 4, 1), SlotPlace::Beyond(7)),
-    ] {
+    for &((x, y, z), want) in &PLACES_IN_TWO {
         for start in 0..TWO.len() {
             let found = in_two(rt.alloc(), start, grid_point(x, y, z))?;
             assert_eq!(rt; found, Some(want), "{x} {y} {z} from {start}");

@@ -2,7 +2,7 @@
 
 use std::alloc::Global;
 use std::test::Fail;
-use tet_ports::{Bytes, MemFolder, MemSink, Name, Words};
+use tet_ports::{Bytes, MemFolder, MemSink, Name, NoMemory, Words};
 use tetwhere_run::run_where;
 
 const PYRAMID: &[u8] = b"5 3 0 0\n0 0 0 0\n1 2 0 0\n2 2 2 0\n3 0 2 0\n4 1 1 2\n";
@@ -18,6 +18,44 @@ const SKIPPED: &[u8] = b"2 3 0 0\n0 0 0 0\n2 1 1 1\n";
 /// A status, and what is put to the two streams.
 type End<'a> = (u8, &'a [u8], &'a [u8]);
 
+/// Adds a file.
+fn add(alloc: Global, folder: &mut MemFolder, name: &[u8], text: &[u8]) -> Result<(), NoMemory> {
+    folder.add(
+        &Name::from_slice(alloc, name)?,
+        &Bytes::from_slice(alloc, text)?,
+    )
+}
+
+/// Adds the pyramid with these rows, and queries.
+fn fill(
+    alloc: Global,
+    folder: &mut MemFolder,
+    rows: &[u8],
+    queries: &[u8],
+) -> Result<(), NoMemory> {
+    add(alloc, folder, b"p.node", PYRAMID)?;
+    add(alloc, folder, b"p.ele", rows)?;
+    add(alloc, folder, b"q", queries)
+}
+
+fn words_of(alloc: Global, words: &[&[u8]]) -> Result<Words, NoMemory> {
+    let mut named = Words::new(alloc);
+    for word in words {
+        named.push(Name::from_slice(alloc, word)?)?;
+    }
+    Ok(named)
+}
+
+/// Whether the run on these words ends so.
+fn run_ends(alloc: Global, words: &Words, folder: &mut MemFolder, end: End) -> bool {
+    let mut out = MemSink::new(alloc);
+    let mut err = MemSink::new(alloc);
+    let status = run_where(alloc, words, folder, &mut out, &mut err);
+    let same_out = out.bytes().as_slice() == end.1;
+    let same_err = err.bytes().as_slice() == end.2;
+    status.code() == end.0 && same_out && same_err
+}
+
 /// Whether the run on these words, over the pyramid with these rows and queries, ends so.
 fn ends(
     alloc: Global,
@@ -25,30 +63,11 @@ fn ends(
     rows: &[u8],
     queries: &[u8],
     end: End,
-) -> Result<bool, Fail> {
+) -> Result<bool, NoMemory> {
+    let words = words_of(alloc, words)?;
     let mut folder = MemFolder::new(alloc);
-    folder.add(
-        &Name::from_slice(alloc, b"p.node")?,
-        &Bytes::from_slice(alloc, PYRAMID)?,
-    )?;
-    folder.add(
-        &Name::from_slice(alloc, b"p.ele")?,
-        &Bytes::from_slice(alloc, rows)?,
-    )?;
-    folder.add(
-        &Name::from_slice(alloc, b"q")?,
-        &Bytes::from_slice(alloc, queries)?,
-    )?;
-    let mut named = Words::new(alloc);
-    for word in words {
-        named.push(Name::from_slice(alloc, word)?)?;
-    }
-    let mut out = MemSink::new(alloc);
-    let mut err = MemSink::new(alloc);
-    let status = run_where(alloc, &named, &mut folder, &mut out, &mut err);
-    let same_out = out.bytes().as_slice() == end.1;
-    let same_err = err.bytes().as_slice() == end.2;
-    Ok(status.code() == end.0 && same_out && same_err)
+    fill(alloc, &mut folder, rows, queries)?;
+    Ok(run_ends(alloc, &words, &mut folder, end))
 }
 
 #[test]

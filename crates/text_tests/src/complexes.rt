@@ -534,13 +534,15 @@ fn last_of_sample(alloc: Global, n: u32) -> (usize, Option<[i128; 3]>) {
     }
 }
 
+const SAMPLES: [(u32, usize, [i128; 3]); 3] = [
+    (0, 8, [0, 1_048_576, 1_048_576]),
+    (1, 9, [443_767, 534_153, 679_855]),
+    (3, 11, [580_843, 68_597, 880_517]),
+];
+
 #[test]
 fn samples(rt: HostRuntime) {
-    for (n, points, last) in [
-        (0, 8, [0, 1_048_576, 1_048_576]),
-        (1, 9, [443_767, 534_153, 679_855]),
-        (3, 11, [580_843, 68_597, 880_517]),
-    ] {
+    for &(n, points, last) in &SAMPLES {
         assert_eq!(rt; last_of_sample(rt.alloc(), n), (points, Some(last)));
     }
 }

@@ -29,19 +29,20 @@ fn field_at(text: &[u8], line: usize, place: usize) -> Option<(usize, &[u8])> {
     Some((field.line, field.bytes()))
 }
 
+const LINES_AND_FIELDS: [(usize, usize, Option<(usize, &[u8])>); 8] = [
+    (0, 0, Some((3, b"1"))),
+    (0, 1, Some((3, b"2"))),
+    (0, 2, None),
+    (1, 0, Some((5, b"a"))),
+    (1, 1, None),
+    (2, 0, Some((7, b"x"))),
+    (2, 1, None),
+    (3, 0, None),
+];
+
 #[test]
 fn lines_and_fields(rt: HostRuntime) -> Result<(), Fail> {
-    let rows: [(usize, usize, Option<(usize, &[u8])>); 8] = [
-        (0, 0, Some((3, b"1"))),
-        (0, 1, Some((3, b"2"))),
-        (0, 2, None),
-        (1, 0, Some((5, b"a"))),
-        (1, 1, None),
-        (2, 0, Some((7, b"x"))),
-        (2, 1, None),
-        (3, 0, None),
-    ];
-    for (line, place, wanted) in rows {
+    for &(line, place, wanted) in &LINES_AND_FIELDS {
         assert_eq!(rt; field_at(TEXT, line, place), wanted);
     }
     Ok(())
@@ -58,22 +59,23 @@ fn lines_are_counted(rt: HostRuntime) -> Result<(), Fail> {
     Ok(())
 }
 
+const COUNTS_AND_WHOLES: [(&[u8], Option<u64>, Option<i64>); 7] = [
+    (b"0", Some(0), Some(0)),
+    (b"007", Some(7), Some(7)),
+    (
+        b"999999999999999999",
+        Some(999_999_999_999_999_999),
+        Some(999_999_999_999_999_999),
+    ),
+    (b"1234567890123456789", None, None),
+    (b"-12", None, Some(-12)),
+    (b"+12", None, Some(12)),
+    (b"1.0", None, None),
+];
+
 #[test]
 fn counts_and_wholes(rt: HostRuntime) -> Result<(), Fail> {
-    let rows: [(&[u8], Option<u64>, Option<i64>); 7] = [
-        (b"0", Some(0), Some(0)),
-        (b"007", Some(7), Some(7)),
-        (
-            b"999999999999999999",
-            Some(999_999_999_999_999_999),
-            Some(999_999_999_999_999_999),
-        ),
-        (b"1234567890123456789", None, None),
-        (b"-12", None, Some(-12)),
-        (b"+12", None, Some(12)),
-        (b"1.0", None, None),
-    ];
-    for (text, count, whole) in rows {
+    for &(text, count, whole) in &COUNTS_AND_WHOLES {
         let field = first_field(text).ok_or("a field")?;
         assert_eq!(rt;
             (read_count(&field).ok(), read_whole(&field).ok()),
@@ -97,41 +99,42 @@ fn printed(alloc: Global, decimal: &Decimal) -> Result<Bytes, NoMemory> {
     Ok(out)
 }
 
+const DECIMALS: [(&[u8], i128, u32, &[u8]); 15] = [
+    (b"-1.250", -125, 2, b"-1.25"),
+    (b".5", 5, 1, b"0.5"),
+    (b"5.", 5, 0, b"5"),
+    (b"1.25e-1", 125, 3, b"0.125"),
+    (b"7e2", 700, 0, b"700"),
+    (b"100e-2", 1, 0, b"1"),
+    (b"-0", 0, 0, b"0"),
+    (b"0.0", 0, 0, b"0"),
+    (b".0", 0, 0, b"0"),
+    (b"0e999", 0, 0, b"0"),
+    (b"+1E+2", 100, 0, b"100"),
+    (b"-0.05", -5, 2, b"-0.05"),
+    (
+        b"0.001e38",
+        100_000_000_000_000_000_000_000_000_000_000_000,
+        0,
+        b"100000000000000000000000000000000000",
+    ),
+    (
+        b"1e35",
+        100_000_000_000_000_000_000_000_000_000_000_000,
+        0,
+        b"100000000000000000000000000000000000",
+    ),
+    (
+        b"-999999999999999999999999999999999999",
+        -LARGEST,
+        0,
+        b"-999999999999999999999999999999999999",
+    ),
+];
+
 #[test]
 fn decimals(rt: HostRuntime) -> Result<(), Fail> {
-    let rows: [(&[u8], i128, u32, &[u8]); 15] = [
-        (b"-1.250", -125, 2, b"-1.25"),
-        (b".5", 5, 1, b"0.5"),
-        (b"5.", 5, 0, b"5"),
-        (b"1.25e-1", 125, 3, b"0.125"),
-        (b"7e2", 700, 0, b"700"),
-        (b"100e-2", 1, 0, b"1"),
-        (b"-0", 0, 0, b"0"),
-        (b"0.0", 0, 0, b"0"),
-        (b".0", 0, 0, b"0"),
-        (b"0e999", 0, 0, b"0"),
-        (b"+1E+2", 100, 0, b"100"),
-        (b"-0.05", -5, 2, b"-0.05"),
-        (
-            b"0.001e38",
-            100_000_000_000_000_000_000_000_000_000_000_000,
-            0,
-            b"100000000000000000000000000000000000",
-        ),
-        (
-            b"1e35",
-            100_000_000_000_000_000_000_000_000_000_000_000,
-            0,
-            b"100000000000000000000000000000000000",
-        ),
-        (
-            b"-999999999999999999999999999999999999",
-            -LARGEST,
-            0,
-            b"-999999999999999999999999999999999999",
-        ),
-    ];
-    for (text, value, scale, wanted) in rows {
+    for &(text, value, scale, wanted) in &DECIMALS {
         let decimal = first_decimal(text).ok_or("a decimal")?;
         let out = printed(rt.alloc(), &decimal)?;
         assert_eq!(rt;
@@ -150,24 +153,25 @@ fn a_far_fraction(rt: HostRuntime) -> Result<(), Fail> {
     Ok(())
 }
 
+const NO_DECIMALS: [&[u8]; 13] = [
+    b".",
+    b"1e",
+    b"+.e1",
+    b"1e36",
+    b"1..2",
+    b"1.2.3",
+    b"e1",
+    b"1e1234",
+    b"--1",
+    b"1-",
+    b"1e+",
+    b"0x1",
+    b"0.000000000000000000000000000000000000",
+];
+
 #[test]
 fn no_decimals(rt: HostRuntime) -> Result<(), Fail> {
-    let rows: [&[u8]; 13] = [
-        b".",
-        b"1e",
-        b"+.e1",
-        b"1e36",
-        b"1..2",
-        b"1.2.3",
-        b"e1",
-        b"1e1234",
-        b"--1",
-        b"1-",
-        b"1e+",
-        b"0x1",
-        b"0.000000000000000000000000000000000000",
-    ];
-    for text in rows {
+    for &text in &NO_DECIMALS {
         let field = first_field(text).ok_or("a field")?;
         let fault = TextFault {
             line: 1,

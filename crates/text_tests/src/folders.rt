@@ -89,14 +89,16 @@ fn answers_with(
     Ok(is_filled && text.as_ref().map(|text| text.as_slice()) == want)
 }
 
+const STORED: [(&[u8], usize, Option<&[u8]>); 4] = [
+    (b"none", 9, None),
+    (b"old", 5, Some(b"12 1\n")),
+    (b"old", 3, Some(b"12 1")),
+    (b"new", 9, Some(b"2 1")),
+];
+
 #[test]
 fn memory_folder_holds_what_was_stored(rt: HostRuntime) -> Result<(), Fail> {
-    for (name, most, want) in [
-        (b"none".as_slice(), 9, None),
-        (b"old", 5, Some(b"12 1\n".as_slice())),
-        (b"old", 3, Some(b"12 1")),
-        (b"new", 9, Some(b"2 1")),
-    ] {
+    for &(name, most, want) in &STORED {
         let is_right = answers_with(rt.alloc(), name, most, want)?;
         assert!(rt; is_right, "at most {most}");
     }
@@ -141,13 +143,15 @@ fn face_fails_at(alloc: Global, nth: u32, kept: usize, want: &[u8]) -> Result<bo
     Ok(fails_at(alloc, &name, &text, nth, kept, want))
 }
 
+const FAILED_STORES: [(u32, usize, &[u8]); 3] = [
+    (1, 0, b""),
+    (2, 3, b"12 "),
+    (3, 1000, b"12 1\n"),
+];
+
 #[test]
 fn memory_folder_fails_where_it_is_set(rt: HostRuntime) -> Result<(), Fail> {
-    for (nth, kept, want) in [
-        (1, 0, b"".as_slice()),
-        (2, 3, b"12 ".as_slice()),
-        (3, 1000, b"12 1\n".as_slice()),
-    ] {
+    for &(nth, kept, want) in &FAILED_STORES {
         let is_right = face_fails_at(rt.alloc(), nth, kept, want)?;
         assert!(rt; is_right, "call {nth}");
     }
@@ -169,15 +173,16 @@ fn two_puts(
     (first, second, sink.bytes().as_slice() == want)
 }
 
+const FAILED_PUTS: [(u32, usize, Result<(), PutFault>, Result<(), PutFault>, &[u8]); 4] = [
+    (1, 0, Err(PutFault::Failed), Ok(()), b"two"),
+    (1, 2, Err(PutFault::Failed), Ok(()), b"ontwo"),
+    (2, 1000, Ok(()), Err(PutFault::Failed), b"onetwo"),
+    (3, 1, Ok(()), Ok(()), b"onetwo"),
+];
+
 #[test]
 fn memory_sink_fails_where_it_is_set(rt: HostRuntime) {
-    let failed = Err(PutFault::Failed);
-    for (nth, kept, first, second, want) in [
-        (1, 0, failed, Ok(()), b"two".as_slice()),
-        (1, 2, failed, Ok(()), b"ontwo".as_slice()),
-        (2, 1000, Ok(()), failed, b"onetwo".as_slice()),
-        (3, 1, Ok(()), Ok(()), b"onetwo".as_slice()),
-    ] {
+    for &(nth, kept, first, second, want) in &FAILED_PUTS {
         let puts = two_puts(rt.alloc(), nth, kept, want);
         assert_eq!(rt; puts, (first, second, true), "put {nth}");
     }
@@ -333,36 +338,49 @@ impl Write for Choppy {
     }
 }
 
+/// How many bytes of ten are read, at most so many, where the reader fails at `cut`; or how many are
+/// handed out with a fault.
+fn count_read(
+    alloc: Global,
+    cut: Option<usize>,
+    most: usize,
+) -> Result<Result<usize, usize>, NoMemory> {
+    let mut reader = Choppy::new(alloc, cut);
+    reader.bytes.extend_from_slice(b"0123456789")?;
+    Ok(match read_whole(alloc, &mut reader, most) {
+        Ok(bytes) => Ok(bytes.len()),
+        Err(FetchFault::TooLarge { taken }) => Err(taken.len()),
+        Err(_) => Err(0),
+    })
+}
+
+const CUT_READS: [(Option<usize>, usize, Result<usize, usize>); 5] = [
+    (None, 10, Ok(10)),
+    (None, 9, Err(10)),
+    (None, 4, Err(5)),
+    (Some(6), 10, Err(0)),
+    (Some(0), 10, Err(0)),
+];
+
 #[test]
 fn short_interrupted_and_failing_reads(rt: HostRuntime) -> Result<(), Fail> {
     let alloc = rt.alloc();
-    for (cut, most, want) in [
-        (None, 10, Ok(10)),
-        (None, 9, Err(10)),
-        (None, 4, Err(5)),
-        (Some(6), 10, Err(0)),
-        (Some(0), 10, Err(0)),
-    ] {
-        let mut reader = Choppy::new(alloc, cut);
-        reader.bytes.extend_from_slice(b"0123456789")?;
-        let got = match read_whole(alloc, &mut reader, most) {
-            Ok(bytes) => Ok(bytes.len()),
-            Err(FetchFault::TooLarge { taken }) => Err(taken.len()),
-            Err(_) => Err(0),
-        };
-        assert_eq!(rt; got, want, "at most {most}");
+    for &(cut, most, want) in &CUT_READS {
+        assert_eq!(rt; count_read(alloc, cut, most)?, want, "at most {most}");
     }
     Ok(())
 }
 
+const CUT_WRITES: [(Option<usize>, &[u8]); 3] = [
+    (None, b"0123456789"),
+    (Some(6), b"012345"),
+    (Some(0), b""),
+];
+
 #[test]
 fn short_interrupted_and_failing_writes(rt: HostRuntime) -> Result<(), Fail> {
     let alloc = rt.alloc();
-    for (cut, want) in [
-        (None, b"0123456789".as_slice()),
-        (Some(6), b"012345".as_slice()),
-        (Some(0), b"".as_slice()),
-    ] {
+    for &(cut, want) in &CUT_WRITES {
         let mut writer = Choppy::new(alloc, cut);
         let written = write_whole(&mut writer, b"0123456789");
         assert_eq!(rt; written.is_ok(), cut.is_none());
@@ -371,14 +389,16 @@ fn short_interrupted_and_failing_writes(rt: HostRuntime) -> Result<(), Fail> {
     Ok(())
 }
 
+const CUT_PUTS: [(Option<usize>, bool, Result<(), PutFault>); 3] = [
+    (None, false, Ok(())),
+    (Some(6), false, Err(PutFault::Failed)),
+    (None, true, Err(PutFault::Failed)),
+];
+
 #[test]
 fn standard_sink_writes_and_flushes(rt: HostRuntime) -> Result<(), Fail> {
     let alloc = rt.alloc();
-    for (cut, fails_flush, want) in [
-        (None, false, Ok(())),
-        (Some(6), false, Err(PutFault::Failed)),
-        (None, true, Err(PutFault::Failed)),
-    ] {
+    for &(cut, fails_flush, want) in &CUT_PUTS {
         let mut writer = Choppy::new(alloc, cut);
         writer.fails_flush = fails_flush;
         let mut sink = StdSink::new(writer);

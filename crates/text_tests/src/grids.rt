@@ -28,96 +28,98 @@ fn points(alloc: Global, xs: &[&[u8]]) -> Option<DecimalPoints> {
     Some(list)
 }
 
+const ROUNDING: [(&[u8], u32, i128, u32); 10] = [
+    (b"0.33333333333333331", 3, 333, 3),
+    (b"0.5", 0, 1, 0),
+    (b"-0.5", 0, -1, 0),
+    (b"0.49", 0, 0, 0),
+    (b"2.55", 1, 26, 1),
+    (b"-1.96", 1, -2, 0),
+    (b"1.25", 5, 125, 2),
+    (b"0.95", 1, 1, 0),
+    (b"1e-999", 20, 0, 0),
+    (
+        b"99999999999999999999999999999999999.5",
+        0,
+        100_000_000_000_000_000_000_000_000_000_000_000,
+        0,
+    ),
+];
+
 #[test]
 fn rounding(rt: HostRuntime) -> Result<(), Fail> {
-    let rows: [(&[u8], u32, i128, u32); 10] = [
-        (b"0.33333333333333331", 3, 333, 3),
-        (b"0.5", 0, 1, 0),
-        (b"-0.5", 0, -1, 0),
-        (b"0.49", 0, 0, 0),
-        (b"2.55", 1, 26, 1),
-        (b"-1.96", 1, -2, 0),
-        (b"1.25", 5, 125, 2),
-        (b"0.95", 1, 1, 0),
-        (b"1e-999", 20, 0, 0),
-        (
-            b"99999999999999999999999999999999999.5",
-            0,
-            100_000_000_000_000_000_000_000_000_000_000_000,
-            0,
-        ),
-    ];
-    for (text, decimals, value, scale) in rows {
+    for &(text, decimals, value, scale) in &ROUNDING {
         let d = round_to(&decimal(text).ok_or("a decimal")?, decimals);
         assert_eq!(rt; (d.value, d.scale), (value, scale));
     }
     Ok(())
 }
 
+const GRIDS: [(&[&[u8]], u32, Result<Grid, Range>); 9] = [
+    (
+        &[b"0.5", b"-1.250", b"3", b".5"],
+        12,
+        Ok(Grid {
+            decimals: 2,
+            halvings: 12,
+        }),
+    ),
+    (
+        &[b"0.5", b"-1.250", b"3", b".5"],
+        4,
+        Ok(Grid {
+            decimals: 2,
+            halvings: 4,
+        }),
+    ),
+    (
+        &[b"0", b"1", b"0", b"0.33333333333333331"],
+        12,
+        Err(Range { line: 1 }),
+    ),
+    (
+        &[b"0", b"1", b"0", b"0.333"],
+        12,
+        Ok(Grid {
+            decimals: 3,
+            halvings: 12,
+        }),
+    ),
+    (
+        &[b"-8388608", b"8388608"],
+        12,
+        Ok(Grid {
+            decimals: 0,
+            halvings: 0,
+        }),
+    ),
+    (
+        &[b"8388608", b"8388609", b"9e9"],
+        12,
+        Err(Range { line: 1 }),
+    ),
+    (
+        &[b"4194304"],
+        12,
+        Ok(Grid {
+            decimals: 0,
+            halvings: 1,
+        }),
+    ),
+    (
+        &[b"1e-999", b"0"],
+        12,
+        Ok(Grid {
+            decimals: 999,
+            halvings: 12,
+        }),
+    ),
+    (&[b"1e-999", b"1e-990", b"1"], 12, Err(Range { line: 1 })),
+];
+
 #[test]
 fn grids(rt: HostRuntime) -> Result<(), Fail> {
-    let rows: [(&[&[u8]], u32, Result<Grid, Range>); 9] = [
-        (
-            &[b"0.5", b"-1.250", b"3", b".5"],
-            12,
-            Ok(Grid {
-                decimals: 2,
-                halvings: 12,
-            }),
-        ),
-        (
-            &[b"0.5", b"-1.250", b"3", b".5"],
-            4,
-            Ok(Grid {
-                decimals: 2,
-                halvings: 4,
-            }),
-        ),
-        (
-            &[b"0", b"1", b"0", b"0.33333333333333331"],
-            12,
-            Err(Range { line: 1 }),
-        ),
-        (
-            &[b"0", b"1", b"0", b"0.333"],
-            12,
-            Ok(Grid {
-                decimals: 3,
-                halvings: 12,
-            }),
-        ),
-        (
-            &[b"-8388608", b"8388608"],
-            12,
-            Ok(Grid {
-                decimals: 0,
-                halvings: 0,
-            }),
-        ),
-        (
-            &[b"8388608", b"8388609", b"9e9"],
-            12,
-            Err(Range { line: 1 }),
-        ),
-        (
-            &[b"4194304"],
-            12,
-            Ok(Grid {
-                decimals: 0,
-                halvings: 1,
-            }),
-        ),
-        (
-            &[b"1e-999", b"0"],
-            12,
-            Ok(Grid {
-                decimals: 999,
-                halvings: 12,
-            }),
-        ),
-        (&[b"1e-999", b"1e-990", b"1"], 12, Err(Range { line: 1 })),
-    ];
-    for (xs, most_halvings, wanted) in rows {
+    for &(xs, most_halvings, wanted) in &GRIDS {
         let list = points(rt.alloc(), xs).ok_or("points")?;
         assert_eq!(rt; choose_grid(&list, most_halvings), wanted);
     }
@@ -156,22 +158,33 @@ fn printed(alloc: Global, coordinate: i32) -> Result<Bytes, NoMemory> {
     Ok(out)
 }
 
+const TEXTS_OF_COORDINATES: [(i32, &[u8]); 6] = [
+    (204_800, b"x 0.5"),
+    (-512_000, b"x -1.25"),
+    (1_228_800, b"x 3"),
+    (0, b"x 0"),
+    (1, b"x 0.00000244140625"),
+    (-8_388_608, b"x -20.48"),
+];
+
 #[test]
 fn texts_of_coordinates(rt: HostRuntime) -> Result<(), Fail> {
-    let texts: [(i32, &[u8]); 6] = [
-        (204_800, b"x 0.5"),
-        (-512_000, b"x -1.25"),
-        (1_228_800, b"x 3"),
-        (0, b"x 0"),
-        (1, b"x 0.00000244140625"),
-        (-8_388_608, b"x -20.48"),
-    ];
-    for (coordinate, wanted) in texts {
+    for &(coordinate, wanted) in &TEXTS_OF_COORDINATES {
         let text = printed(rt.alloc(), coordinate)?;
         assert_eq!(rt; text.as_slice(), wanted);
     }
     Ok(())
 }
+
+const RATIONAL_PLACES: [(&[u8], i64); 7] = [
+    (b"0.5", 20_000_000),
+    (b"-0.00000015", -8),
+    (b"0.00000014", 4),
+    (b"209715.2", 8_388_608_000_000),
+    (b"209715.20000004", 8_388_608_000_000),
+    (b"209715.2000001", 8_388_609_000_000),
+    (b"-1e35", -8_388_609_000_000),
+];
 
 #[test]
 fn rational_places(rt: HostRuntime) -> Result<(), Fail> {
@@ -179,16 +192,7 @@ fn rational_places(rt: HostRuntime) -> Result<(), Fail> {
         decimals: 1,
         halvings: 2,
     };
-    let rows: [(&[u8], i64); 7] = [
-        (b"0.5", 20_000_000),
-        (b"-0.00000015", -8),
-        (b"0.00000014", 4),
-        (b"209715.2", 8_388_608_000_000),
-        (b"209715.20000004", 8_388_608_000_000),
-        (b"209715.2000001", 8_388_609_000_000),
-        (b"-1e35", -8_388_609_000_000),
-    ];
-    for (x, wanted) in rows {
+    for &(x, wanted) in &RATIONAL_PLACES {
         let p = point(1, x, b"0", b"-0.1").ok_or("a point")?;
         let p = to_rat(&grid, &p);
         assert_eq!(rt; (p.x, p.y, p.z, p.w), (wanted, 0, -4_000_000, 1_000_000));
