@@ -1,5 +1,5 @@
 -- The points are inserted in their turns, each once.
-use Rattle.std.proofs.Common.{◌≡◌, ◌≢◌, ◌↔◌, ◌⊎◌, inl, inr, ℕ, zero, suc, ◌+◌, ◌<◌, ◌≤◌, false, ◌==◌, List, [], ◌∷◌, ◌++◌, length, take, take_all, get_or, Option, refl, sym, ap, subst, ◌∙◌, arith}
+use Rattle.std.proofs.Common.{◌≡◌, ◌≢◌, ◌↔◌, ◌⊎◌, inl, inr, ℕ, zero, suc, ◌+◌, ◌<◌, ◌≤◌, ℤ, false, ◌==◌, List, [], ◌∷◌, ◌++◌, length, take, take_all, get_or, Option, refl, sym, ap, subst, ◌∙◌, arith}
 use Rattle.std.specs.Prelude.{Contains, if◌then◌else◌}
 use Rattle.std.specs.List.{sum_by, range_with_len}
 use Rattle.std.specs.List.Sorted.{IsPermutation}
@@ -9,12 +9,12 @@ use Rattle.std.proofs.lemmas.List.Elements.{Contains-append_left, Contains-appen
 use Rattle.std.proofs.lemmas.List.Sorted.{Contains-permutation, IsPermutation-sym, sum_by-IsPermutation}
 use Rattle.std.proofs.lemmas.List.Sums.{sum_by-append, sum_by-cons, sum_by-take-le}
 use Rattle.sign_predicates.specs.Point.{Point}
-use Rattle.geo_laws.specs.Delaunay.{point, numbers, numbers_below, all_numbers, has_corner, HasDistinctPoints}
+use Rattle.geo_laws.specs.Delaunay.{numbers, numbers_below, all_numbers, has_corner}
 use Rattle.geo_laws.specs.declared.tetrahedra.Tet.{Tet as Row}
 use Rattle.geo_laws.proofs.Corners.{found, contains_below, below_of}
 use Rattle.mesh_arena.specs.Mesh.{SlotValue}
-use Rattle.mesh_laws.specs.Living.{IsDelaunayMesh}
-use Rattle.mesh_laws.proofs.ReplacedLists.{law_same_mesh}
+use Rattle.lowest_mesh_laws.specs.Living.{IsLowestMesh}
+use Rattle.lowest_mesh_laws.proofs.ReplacedLists.{law_same_mesh}
 use Rattle.cavity_insert.specs.declared.order.Turn.{Turn}
 use Rattle.cavity_insert.specs.Order.{turn_numbers, IsOrderOf}
 use Rattle.cavity_insert.specs.Insert.{IsReadyFor}
@@ -114,8 +114,8 @@ in_cons x xs i = (λ c. to (Contains-append_cases (x ∷ []) xs i c), from)
     from (inl e) = subst (Contains (x ∷ xs)) e (Contains-append_left (x ∷ []) xs x (Contains-push [] x))
     from (inr c) = Contains-append_right (x ∷ []) xs i c
 
-module _ (ps : List Point) (first : Row) (turns : List Turn) where
-  pub begun : (slots : List (Option SlotValue)) → IsDelaunayMesh slots ps (numbers first) → HasInserted slots ps first (take 0 turns)
+module _ (heights : ℕ → ℤ) (ps : List Point) (first : Row) (turns : List Turn) where
+  pub begun : (slots : List (Option SlotValue)) → IsLowestMesh heights slots ps (numbers first) → HasInserted heights slots ps first (take 0 turns)
   begun slots mesh = record { ms = numbers first; mesh = mesh; exactly = λ i. (λ c. inl c, back i) }
     where
       back : (i : ℕ) → Contains (numbers first) i ⊎ Contains [] i → Contains (numbers first) i
@@ -127,7 +127,7 @@ module _ (ps : List Point) (first : Row) (turns : List Turn) where
     x = (get_or turns k d).number
 
     -- a corner of the first row is there already
-    pub passed : (slots : List (Option SlotValue)) → HasInserted slots ps first (take k turns) → Contains (numbers first) x → HasInserted slots ps first (take (k + 1) turns)
+    pub passed : (slots : List (Option SlotValue)) → HasInserted heights slots ps first (take k turns) → Contains (numbers first) x → HasInserted heights slots ps first (take (k + 1) turns)
     passed slots now corner = record {
       ms = now.ms;
       mesh = now.mesh;
@@ -146,7 +146,7 @@ module _ (ps : List Point) (first : Row) (turns : List Turn) where
             by (inl c) = inr c
             by (inr e) = inl (subst (Contains (numbers first)) e corner)
 
-    pub added : (old new : List (Option SlotValue)) (now : HasInserted old ps first (take k turns)) → IsDelaunayMesh new ps (x ∷ now.ms) → HasInserted new ps first (take (k + 1) turns)
+    pub added : (old new : List (Option SlotValue)) (now : HasInserted heights old ps first (take k turns)) → IsLowestMesh heights new ps (x ∷ now.ms) → HasInserted heights new ps first (take (k + 1) turns)
     added old new now mesh = record {
       ms = x ∷ now.ms;
       mesh = mesh;
@@ -168,11 +168,10 @@ module _ (ps : List Point) (first : Row) (turns : List Turn) where
         ]
 
     -- and any other one is new
-    pub ready : (slots : List (Option SlotValue)) → IsOrderOf (length ps) turns → HasDistinctPoints ps → (now : HasInserted slots ps first (take k turns)) → ¬ Contains (numbers first) x → IsReadyFor slots ps now.ms x
-    ready slots order distinct now not = record {
+    pub ready : (slots : List (Option SlotValue)) → IsOrderOf (length ps) turns → (now : HasInserted heights slots ps first (take k turns)) → ¬ Contains (numbers first) x → IsReadyFor heights slots ps now.ms x
+    ready slots order now not = record {
       mesh = now.mesh;
       is_new = record { within = now.mesh.within; on = on; is_new = fresh };
-      apart = λ i c. apart i c (cases_order i x);
     }
       where
         there : get_or (turn_numbers turns) k 0 ≡ x
@@ -188,13 +187,8 @@ module _ (ps : List Point) (first : Row) (turns : List Turn) where
             by (inl f) = not f
             by (inr t) = once (length ps) k (turn_numbers turns) order (omega (arith, length-map turns (λ t. t.number), l)) (subst (Contains (take k (turn_numbers turns))) (sym there) (subst (λ xs. Contains xs x) (number_taken turns k) t))
 
-        apart : (i : ℕ) → Contains now.ms i → (i ≡ x) ⊎ ((i < x) ⊎ (x < i)) → point ps i ≢ point ps x
-        apart i c (inl e) = absurd (fresh (subst (Contains now.ms) e c))
-        apart i c (inr (inl h)) = distinct i x h on
-        apart i c (inr (inr h)) = λ e. distinct x i h (now.mesh.within i c) (sym e)
-
-  pub finished : (slots : List (Option SlotValue)) → IsOrderOf (length ps) turns → (k : ℕ) → length turns ≤ k → HasInserted slots ps first (take k turns) → IsDelaunayMesh slots ps (all_numbers ps)
-  finished slots order k all now = law_same_mesh slots ps now.ms (all_numbers ps) now.mesh (λ i. (λ c. contains_below (length ps) i (now.mesh.within i c), from i))
+  pub finished : (slots : List (Option SlotValue)) → IsOrderOf (length ps) turns → (k : ℕ) → length turns ≤ k → HasInserted heights slots ps first (take k turns) → IsLowestMesh heights slots ps (all_numbers ps)
+  finished slots order k all now = law_same_mesh heights slots ps now.ms (all_numbers ps) now.mesh (λ i. (λ c. contains_below (length ps) i (now.mesh.within i c), from i))
     where
       from : (i : ℕ) → Contains (all_numbers ps) i → Contains now.ms i
       from i c = (now.exactly i).1 (inr (subst (λ xs. Contains (turn_numbers xs) i) (sym (take_all k turns all)) (Contains-permutation _ _ i order c)))

@@ -3,7 +3,9 @@ pub mod Marking
 pub mod Growth
 pub mod Pigeons
 pub mod StartMesh
+pub mod FirstRow
 pub mod Insertion
+pub mod LiftedRows
 pub mod Lifts
 pub mod Building
 pub mod Planes

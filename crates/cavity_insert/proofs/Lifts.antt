@@ -1,16 +1,21 @@
 -- Rows of lifted points are those of the points.
-use Rattle.std.proofs.Common.{◌≡◌, ℕ, zero, suc, ◌+◌, ◌<◌, Bool, List, [], ◌∷◌, ◌++◌, length, refl, sym, ap, subst, ◌∙◌, below_more, arith, get_or, inl, inr, IsTrue, ◌↔◌, Option, Some}
+use Rattle.std.proofs.Common.{◌≡◌, ℕ, zero, suc, ◌+◌, ◌<◌, Bool, List, [], ◌∷◌, ◌++◌, length, refl, sym, ap, subst, ◌∙◌, below_more, arith, get_or, IsTrue, ◌↔◌}
 use Rattle.std.proofs.lemmas.List.{get_or_append_left, get_or_push, get_or_default}
 use Rattle.sign_predicates.specs.Point.{Point, origin}
 use Rattle.sign_predicates.specs.Lifted.{IsInFrame, AreInFrame}
 use Rattle.sign_predicates.specs.declared.lifted.Frame.{Frame}
 use Rattle.geo_laws.specs.Delaunay.{point, corners}
 use Rattle.geo_laws.specs.declared.tetrahedra.Tet.{Tet as Row}
-use Rattle.mesh_arena.specs.Mesh.{SlotValue, corners_at, numbered}
-use Rattle.mesh_arena.specs.declared.slot.Corner.TheVariants.{Ghost}
-use Rattle.mesh_laws.specs.Rule.{IsTakenRow, IsTaken}
-use Rattle.mesh_laws.proofs.Taken.{no_ghost, same_corners}
+use Rattle.mesh_arena.specs.Mesh.{numbered}
 use Rattle.point_locate.specs.Place.{AreOn, row_corners}
+use Rattle.geo_laws.specs.Height.{lifted}
+use Rattle.geo_laws.proofs.Corners.{on_of_corners}
+use Rattle.geo_laws.proofs.Places.{number}
+use Rattle.geo_laws.proofs.Lift.{law_lift}
+use Rattle.sign_predicates.proofs.Places.{A, B, C, D, Place}
+use Rattle.insert_laws.specs.Insertion.{HasOutside}
+use Rattle.lowest_laws.specs.Insertion.{HasAbove}
+use Rattle.cavity_insert.specs.Lift.{IsRowFor}
 use Rattle.cavity_insert.specs.Lifting.{AreLifted}
 use Rattle.cavity_insert.specs.declared.lifting.LiftedPoints.{LiftedPoints}
 
@@ -58,19 +63,15 @@ four_numbered (a ∷ b ∷ c ∷ []) h = absurd (omega arith)
 four_numbered (a ∷ b ∷ c ∷ d ∷ []) h = refl
 four_numbered (a ∷ b ∷ c ∷ d ∷ e ∷ ns) h = absurd (omega arith)
 
--- a row is taken where it is in conflict
-pub taken_row : (slots : List (Option SlotValue)) (ps : List Point) (p : Point) (number s : ℕ) (t : Row) (b : Bool) → corners_at slots s ≡ Some (row_corners t)
-    → IsTrue b ↔ IsTakenRow ps p number (row_corners t) → IsTrue b ↔ IsTaken slots ps p number s
-taken_row slots ps p number s t b is told = (to, from)
+-- a point is lifted above a row where it is outside of it
+pub above_of : (ps : List Point) (t : Row) (p : ℕ) (b : Bool) → IsRowFor ps t p → IsTrue b ↔ HasOutside ps t p → IsTrue b ↔ HasAbove (lifted ps) ps t p
+above_of ps t p b row told = let law = law_lift ps t p (on_of_corners ps t on) row.inside row.positive row.further in (λ h. law.0 (told.0 h), λ h. told.1 (law.1 h))
   where
-    to : IsTrue b → IsTaken slots ps p number s
-    to holds = inl (record { corners = row_corners t; is = is; here = told.0 holds })
-
-    from : IsTaken slots ps p number s → IsTrue b
-    from (inl row) = told.1 (subst (IsTakenRow ps p number) (same_corners slots s _ _ row.is is) row.here)
-    from (inr ghost) =
-        let same = same_corners slots s _ _ ghost.infinite.is is in
-        absurd (no_ghost t ghost.place ghost.within (ap (λ cs. get_or cs ghost.place Ghost) (sym same) ∙ ghost.infinite.here))
+    on : (u : Place) → number t u < length ps
+    on A = row.on 0 (omega arith)
+    on B = row.on 1 (omega arith)
+    on C = row.on 2 (omega arith)
+    on D = row.on 3 (omega arith)
 
 -- the point that a list has at a place
 pub point_read : (ps : List Point) (n : ℕ) (p : Point) → n < length ps → p ≡ get_or ps n p → point ps n ≡ p

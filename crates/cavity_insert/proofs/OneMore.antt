@@ -7,9 +7,13 @@ use Rattle.sign_predicates.specs.Point.{Point, origin}
 use Rattle.geo_laws.specs.Delaunay.{point, all_numbers, HasDistinctPoints}
 use Rattle.geo_laws.proofs.Corners.{contains_below, below_of}
 use Rattle.mesh_arena.specs.Mesh.{SlotValue, corners_at, IsLive}
+use Rattle.lowest_mesh_laws.specs.Living.{IsLowestMesh}
+use Rattle.lowest_mesh_laws.specs.Rule as lowest
 use Rattle.mesh_laws.specs.Rule.{IsTaken}
 use Rattle.mesh_laws.specs.Living.{IsDelaunayMesh}
+use Rattle.geo_laws.specs.Height.{lifted}
 use Rattle.mesh_laws.proofs.ReplacedLists.{law_same_mesh, law_longer_list}
+use Rattle.mesh_laws.proofs.Bridge as bridge
 use Rattle.cavity_insert.specs.Insert.{IsReadyFor}
 use Rattle.cavity_insert.specs.Living.{IsLonger}
 use Rattle.cavity_insert.proofs.Building.{in_cons}
@@ -28,15 +32,14 @@ module _ (others : List Point) (last : Point) where
   point_last = get_or_push others last origin (length others) refl
 
   -- the points before are meshed, and the last one is new
-  pub longer_ready : (slots : List (Option SlotValue)) → IsDelaunayMesh slots others (all_numbers others) → ((i : ℕ) → i < length others → point others i ≢ last) → IsReadyFor slots longer (all_numbers others) (length others)
-  longer_ready slots mesh apart = record {
-    mesh = law_longer_list slots others (all_numbers others) last mesh;
+  pub longer_ready : (slots : List (Option SlotValue)) → IsDelaunayMesh slots others (all_numbers others) → IsReadyFor (lifted longer) slots longer (all_numbers others) (length others)
+  longer_ready slots mesh = record {
+    mesh = bridge.mesh_of slots longer (all_numbers others) (law_longer_list slots others (all_numbers others) last mesh);
     is_new = record {
       within = λ i c. omega (arith, below_of (length others) i c, count);
       on = omega (arith, count);
       is_new = λ c. omega (arith, below_of (length others) (length others) c);
     };
-    apart = λ i c e. let h = below_of (length others) i c in apart i h (sym (point_before i h) ∙ e ∙ point_last);
   }
 
   pub all_longer : (slots : List (Option SlotValue)) → IsDelaunayMesh slots longer (length others ∷ all_numbers others) → IsDelaunayMesh slots longer (all_numbers longer)
@@ -52,15 +55,22 @@ module _ (others : List Point) (last : Point) where
       from i (inr (inr k)) l = absurd (omega (arith, k, l, count))
 
 -- the same for a list that is one with one more
-pub ready_of : (slots : List (Option SlotValue)) (ps : List Point) (number : ℕ) (l : IsLonger slots ps number) → IsReadyFor slots ps (all_numbers l.others) number
+pub ready_of : (slots : List (Option SlotValue)) (ps : List Point) (number : ℕ) (l : IsLonger slots ps number) → IsReadyFor (lifted ps) slots ps (all_numbers l.others) number
 ready_of slots ps number l =
-    subst (λ xs. IsReadyFor slots xs (all_numbers l.others) number) (sym l.is)
-    (subst (IsReadyFor slots (l.others ++ l.last ∷ []) (all_numbers l.others)) (sym l.number_is) (longer_ready l.others l.last slots l.mesh l.apart))
+    subst (λ xs. IsReadyFor (lifted xs) slots xs (all_numbers l.others) number) (sym l.is)
+    (subst (IsReadyFor (lifted (l.others ++ l.last ∷ [])) slots (l.others ++ l.last ∷ []) (all_numbers l.others)) (sym l.number_is) (longer_ready l.others l.last slots l.mesh))
 
-pub mesh_of : (slots new : List (Option SlotValue)) (ps : List Point) (number : ℕ) (l : IsLonger slots ps number) → IsDelaunayMesh new ps (number ∷ all_numbers l.others) → IsDelaunayMesh new ps (all_numbers ps)
-mesh_of slots new ps number l mesh =
+pub mesh_of : (slots new : List (Option SlotValue)) (ps : List Point) (number : ℕ) (l : IsLonger slots ps number) → IsLowestMesh (lifted ps) new ps (number ∷ all_numbers l.others) → IsDelaunayMesh new ps (all_numbers ps)
+mesh_of slots new ps number l lowest =
+    let mesh : IsDelaunayMesh new ps (number ∷ all_numbers l.others) = bridge.mesh_from new ps (number ∷ all_numbers l.others) lowest in
     subst (λ xs. IsDelaunayMesh new xs (all_numbers xs)) (sym l.is)
     (all_longer l.others l.last new (subst (λ n. IsDelaunayMesh new (l.others ++ l.last ∷ []) (n ∷ all_numbers l.others)) l.number_is (subst (λ xs. IsDelaunayMesh new xs (number ∷ all_numbers l.others)) l.is mesh)))
+
+-- and what the last point takes it takes by the heights too
+pub takes_of : (slots : List (Option SlotValue)) (ps : List Point) (number u : ℕ) → IsLonger slots ps number → lowest.IsTaken (lifted ps) slots ps number u → IsTaken slots ps (point ps number) number u
+takes_of slots ps number u l =
+    let ready = ready_of slots ps number l in
+    bridge.taken_from slots ps (all_numbers l.others) number (bridge.mesh_from slots ps (all_numbers l.others) ready.mesh) ready.is_new u
 
 -- the list after a push is one with one more
 pub longer_of : (slots : List (Option SlotValue)) (before ps : List Point) (p : Point) → ps ≡ before ++ p ∷ [] → IsDelaunayMesh slots before (all_numbers before) → ((i : ℕ) → i < length before → point before i ≢ p)

@@ -1,15 +1,13 @@
 -- The growth of a cavity, from its start on.
-use Rattle.std.specs.Prelude.{◌≡◌, ℕ, [], List, Option}
+use Rattle.std.specs.Prelude.{◌≡◌, ℕ, ℤ, [], List, Option}
 use Rattle.sign_predicates.specs.Point.{Point}
-use Rattle.geo_laws.specs.Delaunay.{point}
 use Rattle.mesh_arena.specs.Mesh.{SlotValue, IsMesh}
 use Rattle.mesh_arena.specs.declared.slot.Slot.{Slot}
 use Rattle.mesh_arena.specs.declared.slot.RimFace.{RimFace}
-use Rattle.mesh_laws.specs.Rule.{IsTaken}
-use Rattle.mesh_laws.specs.Reach.{Grown}
-use Rattle.mesh_laws.specs.Laws.{IsWholeFrom}
+use Rattle.lowest_mesh_laws.specs.Rule.{IsTaken}
+use Rattle.lowest_mesh_laws.specs.Reach.{Grown}
+use Rattle.lowest_mesh_laws.specs.Laws.{IsWholeFrom}
 use Rattle.cavity_insert.specs.declared.grow.Growth.{Growth}
-use Rattle.cavity_insert.specs.Search.{SearchValue, IsInZone}
 use Rattle.cavity_insert.specs.Grow.{entry_at, AreEntered, Growing}
 
 -- nothing has been found yet
@@ -23,14 +21,15 @@ pub record HasBegun (g : Growth) (start : Slot) : Type 0 where
 abbrev pub entry_of : Growth → ℕ → ℕ
 entry_of g i = entry_at g.entries.items i
 
--- the growth has come to the turn k of the slot i of its cavity
-pub record IsGrowing (search : SearchValue) (g : Growth) (i k : ℕ) : Type 0 where
-  pub entered : AreEntered search.slots g.cavity g.entries.items
-  pub growing : Growing search.slots (IsInZone search) g.start.index g.cavity g.rim i (entry_of g i) k
+-- the growth over the slots that a rule takes has come to the turn k of the slot i of its cavity
+pub record IsGrowing (slots : List (Option SlotValue)) (rule : ℕ → Type 0) (g : Growth) (i k : ℕ) : Type 0 where
+  pub entered : AreEntered slots g.cavity g.entries.items
+  pub growing : Growing slots rule g.start.index g.cavity g.rim i (entry_of g i) k
 
 -- the cavity has the conflict zone of the point with the number p, and this is its rim
-pub record IsCavityOf (slots : List (Option SlotValue)) (ps : List Point) (p : ℕ) (cavity : List Slot) (rim : List RimFace) : Type 0 where
+pub record IsCavityOf (heights : ℕ → ℤ) (slots : List (Option SlotValue)) (ps : List Point) (p : ℕ) (cavity : List Slot)
+    (rim : List RimFace) : Type 0 where
   pub mesh : IsMesh slots
   pub start : ℕ
-  pub whole : IsWholeFrom slots ps p start
-  pub grown : Grown slots (IsTaken slots ps (point ps p) p) start cavity rim
+  pub whole : IsWholeFrom heights slots ps p start
+  pub grown : Grown slots (IsTaken heights slots ps p) start cavity rim

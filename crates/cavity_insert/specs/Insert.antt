@@ -1,13 +1,11 @@
--- A mesh and a further point.
-use Rattle.std.specs.Prelude.{◌≢◌, ℕ, List, Option, Contains}
+-- A mesh of lifted points and a further one.
+use Rattle.std.specs.Prelude.{ℕ, ℤ, List, Option}
 use Rattle.sign_predicates.specs.Point.{Point}
-use Rattle.geo_laws.specs.Delaunay.{point}
-use Rattle.insert_laws.specs.Insertion.{IsNew}
+use Rattle.lowest_laws.specs.Insertion.{IsNew}
 use Rattle.mesh_arena.specs.Mesh.{SlotValue}
-use Rattle.mesh_laws.specs.Living.{IsDelaunayMesh}
+use Rattle.lowest_mesh_laws.specs.Living.{IsLowestMesh}
 
--- the arena is the Delaunay mesh of the points with the numbers `ms`, and the point with the number p is another one
-pub record IsReadyFor (slots : List (Option SlotValue)) (ps : List Point) (ms : List ℕ) (p : ℕ) : Type 0 where
-  pub mesh : IsDelaunayMesh slots ps ms
+-- the arena is the mesh of the lifted points with the numbers `ms`, and the point with the number p is another one
+pub record IsReadyFor (heights : ℕ → ℤ) (slots : List (Option SlotValue)) (ps : List Point) (ms : List ℕ) (p : ℕ) : Type 0 where
+  pub mesh : IsLowestMesh heights slots ps ms
   pub is_new : IsNew ps ms p
-  pub apart : (i : ℕ) → Contains ms i → point ps i ≢ point ps p

@@ -4,13 +4,15 @@ pub mod Grow
 pub mod Growth
 pub mod Hull
 pub mod Insert
+pub mod Lift
+pub mod Lifting
 pub mod Living
 pub mod Lost
 pub mod Marks
 pub mod Order
+pub mod PointZone
 pub mod RowKeys
 pub mod Rows
-pub mod Lifting
 pub mod Search
 pub mod Sides
 pub mod Start

@@ -6,7 +6,6 @@ use Rattle.sign_predicates.specs.declared.lifted.LiftedCorners.{LiftedCorners}
 use Rattle.sign_predicates.specs.declared.tetrahedron.Corners.{Corners}
 use Rattle.geo_laws.specs.Delaunay.{point}
 use Rattle.cavity_insert.specs.declared.lifting.LiftedPoints.{LiftedPoints}
-use Rattle.cavity_insert.specs.declared.lifting.NewPoint.{NewPoint}
 
 -- a coordinate of the grid
 abbrev pub IsOnAxis : ℤ → Type 0
@@ -22,15 +21,6 @@ pub record AreLifted (lifted : LiftedPoints) (ps : List Point) : Type 0 where
   pub count : length lifted.points ≡ length ps
   pub each : (i : ℕ) → i < length ps → IsInFrame lifted.frame (point lifted.points i) (point ps i)
 
--- and has the new point too
-pub record IsLift (lifted : LiftedPoints) (ps : List Point) (new : NewPoint) : Type 0 where
-  pub list : AreLifted lifted ps
-  pub new_in : IsInFrame lifted.frame new.lifted new.p
-
 -- if points are lifted, they are those of the list
 abbrev pub MayBeLifted : Option LiftedPoints → List Point → Type 0
 MayBeLifted lifted ps = IfSome lifted (λ list. AreLifted list ps)
-
--- and if a point is lifted too, it is this one
-abbrev pub MayHaveLift : Option LiftedPoints → Option Point → Point → Type 0
-MayHaveLift lifted q p = IfSome lifted (λ list. IfSome q (λ r. IsInFrame list.frame r p))

@@ -1,19 +1,12 @@
--- What contracts see of a search for the conflict zone of a new point.
+-- What contracts see of a search for the conflict zone of a further point.
 use Rattle.std.specs.Prelude.{ℕ, List, Option}
-use Rattle.sign_predicates.specs.Point.{Point}
 use Rattle.mesh_arena.specs.Mesh.{SlotValue}
-use Rattle.mesh_laws.specs.Rule.{IsTaken}
 
--- the slots of a mesh, the points of its corners, and a new point with its number
-pub record SearchValue : Type 0 where
+-- the slots of a mesh of lifted points, the points with their heights, and the number of a further one
+pub record SearchValue (H : Type 0) : Type 0 where
   pub slots : List (Option SlotValue)
-  pub points : List Point
-  pub p : Point
-  pub number : ℕ
+  pub lift : H
+  pub p : ℕ
 
-abbrev pub search_for : List (Option SlotValue) → List Point → Point → ℕ → SearchValue
-search_for slots ps p number = record { slots = slots; points = ps; p = p; number = number }
-
--- the slot is in the conflict zone of the point
-abbrev pub IsInZone : SearchValue → ℕ → Type 0
-IsInZone search s = IsTaken search.slots search.points search.p search.number s
+abbrev pub search_for : {H : Type 0} → List (Option SlotValue) → H → ℕ → SearchValue H
+search_for slots lift p = record { slots = slots; lift = lift; p = p }

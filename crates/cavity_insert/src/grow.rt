@@ -1,17 +1,16 @@
 //! The cavity of a new point: a search from one slot over neighbors in the point's conflict zone.
-ghost use Rattle.std.specs.Prelude.{◌≡◌, ◌+◌, ◌*◌, ◌<◌, ◌≤◌, min, length, IfOk, OnOk};
-ghost use Rattle.mesh_arena.specs.Mesh.{IsMesh};
+ghost use Rattle.std.specs.Prelude.{◌≡◌, ◌↔◌, ◌+◌, ◌*◌, ◌<◌, ◌≤◌, min, length, IsTrue, IfOk, OnOk};
 ghost use Rattle.point_locate.specs.Place.{AreCornersOn};
 ghost use Rattle.mesh_laws.specs.Rule.{IsTaken};
 ghost use Rattle.mesh_laws.specs.Reach.{Grown};
-ghost use Rattle.cavity_insert.specs.Search.{IsInZone};
+ghost use Rattle.mesh_arena.specs.Mesh.{IsMesh, IsLive};
 ghost use Rattle.cavity_insert.specs.Grow.{turn};
 ghost use Rattle.cavity_insert.specs.Growth.{HasBegun, IsGrowing, entry_of};
 
-use crate::lifting::Sites;
 use crate::marks::MarkedCavity;
-use crate::search::Search;
+use crate::rule::{PointZone, test_slot};
 use crate::steps::Steps;
+use crate::zone::{Zone, across, see};
 use geo_laws::Points;
 use mesh_arena::{Arena, Cavity, Rim, Slot};
 use sign_predicates::GridPoint;
@@ -53,18 +52,19 @@ impl Growth {
 
     // Looks over the face k of the slot i of the cavity, whose turn has come. A slot that is not
     // taken is tested again from each face of the cavity that it is behind.
-    fn visit<L: Ledger>(
+    fn visit<Z: Zone, L: Ledger>(
         &mut self,
-        search: &Search<'_>,
+        zone: &Z,
         i: usize,
         k: u8,
         steps: &mut Steps<L>,
     ) -> Result<(), NoMemory>
-        requires mesh { IsMesh search.now.slots }
+        requires mesh { IsMesh (Z.slots zone.now) }
         requires inside { i < length self.old.cavity }
         requires face { k < 4 }
-        requires growing { IsGrowing search.now self.old i (turn (entry_of self.old i) k) }
-        ensures growing { OnOk result (IsGrowing search.now self.new i
+        requires growing { IsGrowing (Z.slots zone.now) (Z.takes zone.now) self.old i
+            (turn (entry_of self.old i) k) }
+        ensures growing { OnOk result (IsGrowing (Z.slots zone.now) (Z.takes zone.now) self.new i
             (turn (entry_of self.old i) k + 1)) }
         ensures entry { OnOk result (entry_of self.new i ≡ entry_of self.old i) }
         ensures start { self.new.start ≡ self.old.start }
@@ -73,12 +73,12 @@ impl Growth {
             ≤ length self.old.cavity + steps.new) }
         ensures longer { OnOk result (length self.old.cavity ≤ length self.new.cavity) }
     {
-        let Some(f) = search.across(self.cavity.at(i), k) else {
+        let Some(f) = across(zone, self.cavity.at(i), k) else {
             return Ok(());
         };
         if self.cavity.has(f.slot) {
             Ok(())
-        } else if search.test(f.slot, steps) {
+        } else if test(zone, f.slot, steps) {
             self.cavity.push(f.slot)?;
             self.entries.push(f.face)?;
             Ok(())
@@ -90,16 +90,17 @@ impl Growth {
     // Looks over the faces of the slot i of the cavity. The first slot is looked over all round,
     // and a later one not through the face by which it was entered: the slot behind that one is in
     // the cavity.
-    fn visit_faces<L: Ledger>(
+    fn visit_faces<Z: Zone, L: Ledger>(
         &mut self,
-        search: &Search<'_>,
+        zone: &Z,
         i: usize,
         steps: &mut Steps<L>,
     ) -> Result<(), NoMemory>
-        requires mesh { IsMesh search.now.slots }
+        requires mesh { IsMesh (Z.slots zone.now) }
         requires inside { i < length self.old.cavity }
-        requires growing { IsGrowing search.now self.old i (min i 1) }
-        ensures growing { OnOk result (IsGrowing search.now self.new (i + 1) 1) }
+        requires growing { IsGrowing (Z.slots zone.now) (Z.takes zone.now) self.old i (min i 1) }
+        ensures growing { OnOk result (IsGrowing (Z.slots zone.now) (Z.takes zone.now) self.new
+            (i + 1) 1) }
         ensures start { self.new.start ≡ self.old.start }
         ensures few { OnOk result (steps.new ≤ steps.old + 4) }
         ensures many { OnOk result (length self.new.cavity + steps.old
@@ -109,36 +110,48 @@ impl Growth {
         let entry = self.entries[i];
         let first = i.min(1) as u8;
         for k in first..4 {
-            self.visit(search, i, entry ^ k, steps)?;
+            self.visit(zone, i, entry ^ k, steps)?;
         }
         Ok(())
     }
 
-    /// Grows the cavity from its start, which is in the conflict zone of the new point.
-    pub(crate) fn grow<L: Ledger>(
+    /// Grows the cavity from its start, which is in the conflict zone of the new point, as a test
+    /// has told.
+    pub(crate) fn grow<Z: Zone, L: Ledger>(
         &mut self,
-        search: &Search<'_>,
+        zone: &Z,
         steps: &mut Steps<L>,
     ) -> Result<(), NoMemory>
         requires begun { HasBegun self.old self.old.start }
-        requires start { IsInZone search.now self.old.start.index }
-        ensures few { OnOk result (steps.new ≤ steps.old + (4 * length self.new.cavity + 1)) }
-        ensures many { OnOk result (steps.old + length self.new.cavity ≤ steps.new) }
-        ensures grown { OnOk result (Grown search.now.slots (IsInZone search.now)
+        requires live { IsLive (Z.slots zone.now) self.old.start.index }
+        requires start { Z.takes zone.now self.old.start.index }
+        ensures few { OnOk result (steps.new ≤ steps.old + 4 * length self.new.cavity) }
+        ensures many { OnOk result (steps.old + length self.new.cavity ≤ steps.new + 1) }
+        ensures grown { OnOk result (Grown (Z.slots zone.now) (Z.takes zone.now)
             self.old.start.index self.new.cavity self.new.rim) }
     {
         let start = self.start;
-        search.see(start);
-        search.test(start, steps);
+        see(zone, start);
         self.cavity.push(start)?;
         self.entries.push(0)?;
         let mut i = 0;
         while i < self.cavity.len() {
-            self.visit_faces(search, i, steps)?;
+            self.visit_faces(zone, i, steps)?;
             i += 1;
         }
         Ok(())
     }
+}
+
+// One step: whether a live slot is in the zone.
+#[inline(always)]
+fn test<Z: Zone, L: Ledger>(zone: &Z, s: Slot, steps: &mut Steps<L>) -> bool
+    requires { IsLive (Z.slots zone.now) s.index }
+    ensures value { IsTrue result ↔ Z.takes zone.now s.index }
+    ensures step { steps.new ≡ steps.old + 1 }
+{
+    steps.tick();
+    zone.test(s)
 }
 
 /// The cavity of the new point `p`: the connected set of slots in its conflict zone, `start` among
@@ -164,15 +177,11 @@ pub fn grow_cavity<L: Ledger>(
         Grown arena.now.slots (IsTaken arena.now.slots points.now p number) start.index grown.0
         grown.1) }
 {
+    test_slot(arena, points, start, p, number, steps);
+    let zone = PointZone::new(arena, points, p, number);
     let mut growth = Growth::new(alloc);
     growth.begin(start);
-    let none = None;
-    let sites = Sites {
-        points,
-        lifted: &none,
-    };
-    let search = Search::new(arena, &sites, p, number);
-    growth.grow(&search, steps)?;
+    growth.grow(&zone, steps)?;
     let Growth { cavity, rim, .. } = growth;
     Ok((cavity.into_cavity(), rim))
 }

@@ -1,17 +1,17 @@
-//! One point into a Delaunay mesh.
-ghost use Rattle.std.specs.Prelude.{◌≡◌, ℕ, ◌<◌, ◌∷◌, List, length, IfOk, OnOk};
+//! One point into a mesh of lifted points.
+ghost use Rattle.std.specs.Prelude.{◌≡◌, ℕ, ◌<◌, ◌∷◌, List, length, IfOk, IfSome, IfNone, OnOk};
 ghost use Rattle.mesh_arena.specs.Mesh.{IsLive};
 ghost use Rattle.geo_laws.specs.Delaunay.{point};
-ghost use Rattle.mesh_laws.specs.Laws.{slot_of};
-ghost use Rattle.mesh_laws.specs.Living.{IsDelaunayMesh};
+ghost use Rattle.lowest_mesh_laws.specs.Laws.{slot_of};
+ghost use Rattle.lowest_mesh_laws.specs.Living.{IsLowestMesh};
 ghost use Rattle.cavity_insert.specs.Insert.{IsReadyFor};
-ghost use Rattle.cavity_insert.specs.Lifting.{MayBeLifted};
 ghost use Rattle.cavity_insert.specs.Growth.{IsCavityOf};
 
 use crate::grow::Growth;
-use crate::lifting::Sites;
+use crate::lift::Lift;
 use crate::search::Search;
 use crate::steps::Steps;
+use crate::zone::Zone;
 use geo_laws::Points;
 use mesh_arena::{Arena, Slot};
 use point_locate::{Place, locate};
@@ -19,50 +19,63 @@ use sign_predicates::GridPoint;
 use std::sync::ledger::Ledger;
 use tet_ports::NoMemory;
 
-/// Grows the cavity of the point with this number, which is a further one, in the Delaunay mesh of
-/// some other points. The walk to the point begins at `near`, a live slot.
-pub(crate) fn grow_at<L: Ledger>(
+/// Grows the cavity of the point with this number, which is a further one, in the mesh of some
+/// other lifted points. Where the point is hidden there is none, and the answer is the slot of the
+/// row that holds the point. The walk to the point begins at `near`, a live slot.
+pub(crate) fn grow_at<H: Lift, L: Ledger>(
     arena: &Arena,
-    sites: &Sites<'_>,
+    lift: &H,
     number: u32,
     near: Slot,
     growth: &mut Growth,
     steps: &mut Steps<L>,
-) -> Result<(), NoMemory>
-    requires ready { (ms : List ℕ) × IsReadyFor arena.now.slots sites.now.points.now ms number }
-    requires lifted { MayBeLifted sites.now.lifted.now sites.now.points.now }
+) -> Result<Option<Slot>, NoMemory>
+    requires ready { (ms : List ℕ) × IsReadyFor (H.heights lift.now) arena.now.slots
+        (H.points lift.now) ms number }
     requires near { IsLive arena.now.slots near.index }
-    ensures { OnOk result (IsCavityOf arena.now.slots sites.now.points.now number growth.new.cavity
-        growth.new.rim) }
+    ensures hidden { IfOk result (λ found. IfSome found (λ s. (ms : List ℕ)
+        → IsReadyFor (H.heights lift.now) arena.now.slots (H.points lift.now) ms number
+        → IsLowestMesh (H.heights lift.now) arena.now.slots (H.points lift.now) (number ∷ ms))) }
+    ensures live { IfOk result (λ found. IfSome found (λ s. IsLive arena.now.slots s.index)) }
+    ensures grown { IfOk result (λ found. IfNone found (IsCavityOf (H.heights lift.now)
+        arena.now.slots (H.points lift.now) number growth.new.cavity growth.new.rim)) }
 {
     let _ = arena.tet(near);
-    let p = point_at(sites.points, number);
-    let first = slot_of(locate(arena, sites.points, near, p));
+    let points = lift.points();
+    let p = point_at(points, number);
+    let first = slot_of(locate(arena, points, near, p));
+    let search = Search::new(arena, lift, number);
+    if !search.test(first) {
+        return Ok(Some(first));
+    }
     growth.begin(first);
-    let search = Search::new(arena, sites, p, number);
-    growth.grow(&search, steps)
+    growth.grow(&search, steps)?;
+    Ok(None)
 }
 
-/// Inserts the point with this number into the Delaunay mesh of some other points: its cavity gives
-/// way to its star. It answers a slot of the star. The walk to the point begins at `near`, a live
-/// slot. On `NoMemory` the mesh is as it was.
-pub(crate) fn insert_point<L: Ledger>(
+/// Inserts the point with this number into the mesh of some other lifted points: its cavity gives
+/// way to its star, and points may be hidden then. Where the point itself is hidden the mesh stays
+/// as it is. It answers a live slot. The walk to the point begins at `near`, a live slot. On
+/// `NoMemory` the mesh is as it was.
+pub(crate) fn insert_point<H: Lift, L: Ledger>(
     arena: &mut Arena,
-    sites: &Sites<'_>,
+    lift: &H,
     number: u32,
     near: Slot,
     growth: &mut Growth,
     steps: &mut Steps<L>,
 ) -> Result<Slot, NoMemory>
-    requires ready { (ms : List ℕ) × IsReadyFor arena.old.slots sites.now.points.now ms number }
-    requires lifted { MayBeLifted sites.now.lifted.now sites.now.points.now }
+    requires ready { (ms : List ℕ) × IsReadyFor (H.heights lift.now) arena.old.slots
+        (H.points lift.now) ms number }
     requires near { IsLive arena.old.slots near.index }
     ensures mesh { IfOk result (λ s. (ms : List ℕ)
-        → IsReadyFor arena.old.slots sites.now.points.now ms number
-        → IsDelaunayMesh arena.new.slots sites.now.points.now (number ∷ ms)) }
+        → IsReadyFor (H.heights lift.now) arena.old.slots (H.points lift.now) ms number
+        → IsLowestMesh (H.heights lift.now) arena.new.slots (H.points lift.now) (number ∷ ms)) }
     ensures live { IfOk result (λ s. IsLive arena.new.slots s.index) }
 {
-    grow_at(arena, sites, number, near, growth, steps)?;
+    if let Some(s) = grow_at(arena, lift, number, near, growth, steps)? {
+        return Ok(s);
+    }
     arena.reserve(growth.rim.len())?;
     arena.replace_cavity(growth.cavity.as_cavity(), &growth.rim, number)
 }

@@ -1,14 +1,18 @@
 //! The points of a list, lifted over a narrow frame, with which tests of rows take least time.
-ghost use Rattle.std.specs.Prelude.{◌≡◌, ◌<◌, length, IfSome};
-ghost use Rattle.sign_predicates.specs.Sphere.{is_outside};
+ghost use Rattle.std.specs.Prelude.{◌≡◌, ◌<◌, ◌↔◌, length, IsTrue};
 ghost use Rattle.geo_laws.specs.Delaunay.{corners, as_numbers};
+ghost use Rattle.geo_laws.specs.Height.{lifted};
+ghost use Rattle.insert_laws.specs.Insertion.{HasOutside};
 ghost use Rattle.point_locate.specs.Place.{AreOn, row_corners};
-ghost use Rattle.cavity_insert.specs.Lifting.{IsOnAxis, IsLift, MayBeLifted, MayHaveLift};
-ghost use Rattle.cavity_insert.specs.Lifting.{as_corners};
+ghost use Rattle.cavity_insert.specs.Lifting.{IsOnAxis, AreLifted, MayBeLifted, as_corners};
 
+use crate::insert::point_at;
+use crate::lift::Lift;
 use geo_laws::{Points, Tet};
-use sign_predicates::{Frame, GridPoint, Lifted, LiftedCorners, Numbers, lifted_outside};
+use point_locate::row_points;
+use sign_predicates::{Frame, GridPoint, Lifted, LiftedCorners, Numbers, lifted_outside, outside};
 use std::alloc::Global;
+use std::marker::Model;
 use tet_ports::Items;
 
 /// A frame, and the points of a list in it, by their numbers.
@@ -18,19 +22,63 @@ pub(crate) struct LiftedPoints {
     pub(crate) points: Items<Lifted>,
 }
 
-/// A list of points, and the same points lifted if a narrow frame has them all.
+/// A list of points, all of them in a frame. Contracts see the points.
 #[derive(Drop)]
-pub(crate) struct Sites<'a> {
-    pub(crate) points: &'a Points,
-    pub(crate) lifted: &'a Option<LiftedPoints>,
+pub(crate) struct Framed<'a> {
+    points: &'a Points,
+    lifted: &'a LiftedPoints,
 }
 
-/// A new point, the same in the frame of lifted points, and its number.
-#[derive(Clone, Copy)]
-pub(crate) struct NewPoint {
-    pub(crate) p: GridPoint,
-    pub(crate) lifted: Lifted,
-    pub(crate) number: u32,
+impl<'a> Model for Framed<'a> {
+    ghost use Rattle.std.specs.Prelude.{List};
+    ghost use Rattle.sign_predicates.specs.Point.{Point};
+    ghost use Rattle.cavity_insert.specs.Lifting.{AreLifted as AreIn};
+
+    ghost Value = { List Point };
+
+    ghost view = { λ s. s.points.now };
+
+    ghost invariant = { λ s. AreIn s.lifted.now s.points.now };
+}
+
+impl<'a> Framed<'a> {
+    pub(crate) fn new(points: &'a Points, lifted: &'a LiftedPoints) -> Self
+        requires { AreLifted lifted.now points.now }
+        ensures { result ≡ points.now }
+    {
+        Framed { points, lifted }
+    }
+}
+
+/// Points are lifted by their squared lengths, with which their mesh is the Delaunay one.
+impl<'a> Lift for Framed<'a> {
+    ghost points = { λ ps. ps };
+
+    ghost heights = { lifted };
+
+    fn points(&self) -> &Points {
+        self.points
+    }
+
+    #[inline(always)]
+    fn is_outside(&self, row: Tet, number: u32) -> bool {
+        outside_in_frame(self.points, row, self.lifted, number)
+    }
+}
+
+/// The same for points of which some are in no narrow frame.
+impl Lift for Points {
+    ghost points = { λ ps. ps };
+
+    ghost heights = { lifted };
+
+    fn points(&self) -> &Points {
+        self
+    }
+
+    fn is_outside(&self, row: Tet, number: u32) -> bool {
+        outside_of(self, row, number)
+    }
 }
 
 /// The lesser of two coordinates.
@@ -93,17 +141,6 @@ pub(crate) fn lift_points(alloc: Global, points: &Points) -> Option<LiftedPoints
     })
 }
 
-/// A new point, lifted. None where no points are, or where it is not in their frame.
-pub(crate) fn lift_point(lifted: &Option<LiftedPoints>, p: GridPoint) -> Option<Lifted>
-    requires { IfSome lifted.now (λ list. 0 < list.frame.step) }
-    ensures { MayHaveLift lifted.now result p }
-{
-    match lifted {
-        Some(list) => list.frame.lift(p),
-        None => None,
-    }
-}
-
 /// The numbers of a row's corners.
 #[inline]
 pub(crate) fn numbers_of(row: Tet) -> Numbers
@@ -134,12 +171,25 @@ impl LiftedPoints {
     }
 }
 
-/// Whether the new point is outside of a positive row, ties decided by the numbers.
+/// Whether the point with this number is outside of a positive row, ties decided by the numbers, in
+/// the frame that has all points.
 #[inline(always)]
-pub(crate) fn is_outside(_points: &Points, row: Tet, lifted: &LiftedPoints, new: NewPoint) -> bool
+fn outside_in_frame(_points: &Points, row: Tet, lifted: &LiftedPoints, number: u32) -> bool
     requires on { AreOn _points.now (row_corners row) }
-    requires lift { IsLift lifted.now _points.now new }
-    ensures { result ≡ is_outside (corners _points.now row) (as_numbers row) new.p new.number }
+    requires inside { number < length _points.now }
+    requires lifted { AreLifted lifted.now _points.now }
+    ensures { IsTrue result ↔ HasOutside _points.now row number }
 {
-    lifted_outside(lifted.corners(row), numbers_of(row), new.lifted, new.number)
+    let p = lifted.points.at(number as usize);
+    lifted_outside(lifted.corners(row), numbers_of(row), p, number)
+}
+
+/// The same by the points themselves.
+fn outside_of(points: &Points, row: Tet, number: u32) -> bool
+    requires on { AreOn points.now (row_corners row) }
+    requires inside { number < length points.now }
+    ensures { IsTrue result ↔ HasOutside points.now row number }
+{
+    let p = point_at(points, number);
+    outside(row_points(points, row), numbers_of(row), p, number)
 }

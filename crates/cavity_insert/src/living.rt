@@ -11,7 +11,6 @@ ghost use Rattle.cavity_insert.specs.Lost.{IsToldOf, AreLostSides};
 
 use crate::grow::Growth;
 use crate::insert::grow_at;
-use crate::lifting::Sites;
 use crate::lost::tell_cavity;
 use crate::meshing::{BuildFault, Built, mesh_from};
 use crate::rows::rows_of;
@@ -77,12 +76,9 @@ fn insert_last<L: Ledger>(
 {
     let number = (points.len() - 1) as u32;
     let mut steps = Steps::<L>::new(blank);
-    let none = None;
-    let sites = Sites {
-        points,
-        lifted: &none,
-    };
-    grow_at(arena, &sites, number, near, growth, &mut steps)?;
+    if let Some(s) = grow_at(arena, points, number, near, growth, &mut steps)? {
+        return Ok(s);
+    }
     let cavity = growth.cavity.as_cavity();
     tell_cavity(arena, cavity, lost)?;
     arena.reserve(growth.rim.len())?;

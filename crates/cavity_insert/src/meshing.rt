@@ -3,14 +3,15 @@ ghost use Rattle.std.specs.Prelude.{◌≡◌, ◌-◌, ◌^◌, ◌<◌, length
 ghost use Rattle.geo_laws.specs.Delaunay.{numbers, all_numbers, has_corner, delaunay_rows};
 ghost use Rattle.geo_laws.specs.Delaunay.{AreCoplanar, HasDistinctPoints, IsOn, IsDelaunayList};
 ghost use Rattle.mesh_arena.specs.Mesh.{IsLive};
+ghost use Rattle.lowest_mesh_laws.specs.Living.{IsLowestMesh};
 ghost use Rattle.mesh_laws.specs.Living.{IsDelaunayMesh};
-ghost use Rattle.cavity_insert.specs.Lifting.{MayBeLifted};
 ghost use Rattle.cavity_insert.specs.Order.{IsOrderOf};
 
 use crate::first::first_row;
 use crate::grow::Growth;
 use crate::insert::insert_point;
-use crate::lifting::{Sites, lift_points};
+use crate::lift::Lift;
+use crate::lifting::{Framed, lift_points};
 use crate::order::{Turn, insertion_order};
 use crate::rows::slot_rows;
 use crate::start::start_mesh;
@@ -63,23 +64,22 @@ pub fn has_corner(t: Tet, i: u32) -> bool
 
 /// Inserts the points in their turns into the mesh of the first row, but those that are its
 /// corners.
-fn insert_all<L: Ledger>(
+fn insert_all<H: Lift, L: Ledger>(
     alloc: Global,
     built: &mut Built,
-    sites: &Sites<'_>,
+    lift: &H,
     first: Tet,
     turns: &[Turn],
     steps: &mut Steps<L>,
 ) -> Result<(), NoMemory>
-    requires distinct { HasDistinctPoints sites.now.points.now }
-    requires few { length sites.now.points.now < 2 ^ 32 - 1 }
-    requires order { IsOrderOf (length sites.now.points.now) turns.now }
-    requires mesh { IsDelaunayMesh built.old.arena.slots sites.now.points.now (numbers first) }
-    requires lifted { MayBeLifted sites.now.lifted.now sites.now.points.now }
+    requires few { length (H.points lift.now) < 2 ^ 32 - 1 }
+    requires order { IsOrderOf (length (H.points lift.now)) turns.now }
+    requires mesh { IsLowestMesh (H.heights lift.now) built.old.arena.slots (H.points lift.now)
+        (numbers first) }
     requires near { IsLive built.old.arena.slots built.old.last.index }
     ensures mesh { OnOk result
-        (IsDelaunayMesh built.new.arena.slots sites.now.points.now
-        (all_numbers sites.now.points.now)) }
+        (IsLowestMesh (H.heights lift.now) built.new.arena.slots (H.points lift.now)
+        (all_numbers (H.points lift.now))) }
     ensures live { OnOk result (IsLive built.new.arena.slots built.new.last.index) }
 {
     let mut growth = Growth::new(alloc);
@@ -87,44 +87,81 @@ fn insert_all<L: Ledger>(
         if !has_corner(first, turn.number) {
             let near = built.last;
             let arena = &mut built.arena;
-            let last = insert_point(arena, sites, turn.number, near, &mut growth, steps)?;
+            let last = insert_point(arena, lift, turn.number, near, &mut growth, steps)?;
             built.last = last;
         }
     }
     Ok(())
 }
 
-/// The Delaunay mesh of distinct points, which are inserted one after another. `Flat` comes exactly
-/// where all points lie in one plane.
-pub(crate) fn mesh_points<L: Ledger>(
+/// The mesh of distinct points that are lifted: they are inserted one after another. `Flat` comes
+/// exactly where all points lie in one plane.
+fn mesh_points<H: Lift, L: Ledger>(
     alloc: Global,
-    points: &Points,
+    lift: &H,
     steps: &mut Steps<L>,
 ) -> Result<Built, BuildFault>
-    requires distinct { HasDistinctPoints points.now }
-    requires few { length points.now < 2 ^ 32 - 1 }
-    ensures mesh { IfOk result
-        (λ b. IsDelaunayMesh b.arena.slots points.now (all_numbers points.now)) }
+    requires distinct { HasDistinctPoints (H.points lift.now) }
+    requires few { length (H.points lift.now) < 2 ^ 32 - 1 }
+    ensures mesh { IfOk result (λ b. IsLowestMesh (H.heights lift.now) b.arena.slots
+        (H.points lift.now) (all_numbers (H.points lift.now))) }
     ensures live { IfOk result (λ b. IsLive b.arena.slots b.last.index) }
-    ensures not_flat { OnOk result (¬ AreCoplanar points.now) }
-    ensures flat { IsErrOf result BuildFault.Flat → AreCoplanar points.now }
+    ensures not_flat { OnOk result (¬ AreCoplanar (H.points lift.now)) }
+    ensures flat { IsErrOf result BuildFault.Flat → AreCoplanar (H.points lift.now) }
 {
+    let points = lift.points();
     let Some(first) = first_row(points) else {
         return Err(BuildFault::Flat);
     };
     let turns = insertion_order(alloc, points)?;
     let (arena, last) = start_mesh(alloc, points, first)?;
     let mut built = Built { arena, last };
-    let lifted = lift_points(alloc, points);
-    let sites = Sites {
-        points,
-        lifted: &lifted,
-    };
-    insert_all(alloc, &mut built, &sites, first, &turns, steps)?;
+    insert_all(alloc, &mut built, lift, first, &turns, steps)?;
     Ok(built)
 }
 
 /// The same with a counter of its own.
+fn mesh_counted<H: Lift, L: Ledger>(
+    alloc: Global,
+    lift: &H,
+    blank: Blank,
+) -> Result<Built, BuildFault>
+    requires name { blank.name ≡ L.name }
+    requires parts { blank.parts ≡ L.parts }
+    requires some { 0 < blank.parts }
+    requires distinct { HasDistinctPoints (H.points lift.now) }
+    requires few { length (H.points lift.now) < 2 ^ 32 - 1 }
+    ensures mesh { IfOk result (λ b. IsLowestMesh (H.heights lift.now) b.arena.slots
+        (H.points lift.now) (all_numbers (H.points lift.now))) }
+    ensures live { IfOk result (λ b. IsLive b.arena.slots b.last.index) }
+    ensures not_flat { OnOk result (¬ AreCoplanar (H.points lift.now)) }
+    ensures flat { IsErrOf result BuildFault.Flat → AreCoplanar (H.points lift.now) }
+{
+    let mut steps = Steps::<L>::new(blank);
+    mesh_points(alloc, lift, &mut steps)
+}
+
+/// The mesh of distinct points that are lifted: its rows are the lower hull of the lifted points,
+/// ties broken by the points' numbers, and a ghost lies over each face of the hull of the points. A
+/// point that is a corner of no row is hidden. `Flat` comes exactly where all points lie in one
+/// plane; fewer than four do.
+///
+/// The first four points that are not in one plane are the start: among themselves they are the
+/// lower hull whatever their heights, and a later point may hide them. Source: incremental
+/// insertion by cavities (Bowyer 1981, Watson 1981).
+pub fn lowest_mesh<H: Lift>(alloc: Global, lift: &H) -> Result<Arena, BuildFault>
+    requires distinct { HasDistinctPoints (H.points lift.now) }
+    requires few { length (H.points lift.now) < 2 ^ 32 - 1 }
+    ensures mesh { IfOk result (λ arena. IsLowestMesh (H.heights lift.now) arena.slots
+        (H.points lift.now) (all_numbers (H.points lift.now))) }
+    ensures not_flat { OnOk result (¬ AreCoplanar (H.points lift.now)) }
+    ensures flat { IsErrOf result BuildFault.Flat → AreCoplanar (H.points lift.now) }
+{
+    let Built { arena, .. } = mesh_counted::<H, Brand>(alloc, lift, Blank::new(1))?;
+    Ok(arena)
+}
+
+/// The Delaunay mesh of distinct points. `Flat` comes exactly where all points lie in one plane.
 pub(crate) fn mesh_from<L: Ledger>(
     alloc: Global,
     points: &Points,
@@ -141,8 +178,13 @@ pub(crate) fn mesh_from<L: Ledger>(
     ensures not_flat { OnOk result (¬ AreCoplanar points.now) }
     ensures flat { IsErrOf result BuildFault.Flat → AreCoplanar points.now }
 {
-    let mut steps = Steps::<L>::new(blank);
-    mesh_points(alloc, points, &mut steps)
+    match lift_points(alloc, points) {
+        Some(lifted) => {
+            let framed = Framed::new(points, &lifted);
+            mesh_counted::<Framed<'_>, L>(alloc, &framed, blank)
+        }
+        None => mesh_counted::<Points, L>(alloc, points, blank),
+    }
 }
 
 /// The Delaunay list of distinct points: the positive rows that have every other point outside,

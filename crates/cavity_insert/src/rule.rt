@@ -4,15 +4,17 @@
 ghost use Rattle.std.specs.Prelude.{◌≡◌, ◌+◌, ◌<◌, ◌↔◌, IsTrue};
 ghost use Rattle.mesh_arena.specs.Mesh.{IsLive, corner_list};
 ghost use Rattle.point_locate.specs.Place.{AreCornersOn, AreOn, row_corners, placed};
-ghost use Rattle.cavity_insert.specs.Lifting.{IsLift};
+ghost use Rattle.cavity_insert.specs.PointZone.{zone_for, IsInZone};
 ghost use Rattle.mesh_laws.specs.Rule.{IsTakenRow, IsSeen, IsInnerTaken, IsTaken};
 
-use crate::lifting::{LiftedPoints, NewPoint, is_outside, numbers_of};
+use crate::lifting::numbers_of;
 use crate::steps::Steps;
+use crate::zone::Zone;
 use geo_laws::{Points, Tet};
 use mesh_arena::{Arena, Slot, SlotCorners};
 use point_locate::{Shape, placed, row_points, shape_of};
 use sign_predicates::{GridPoint, Sign, orient, outside};
+use std::marker::Model;
 use std::sync::ledger::Ledger;
 
 // Whether a row is in conflict with the point: it does not have the point outside.
@@ -22,16 +24,6 @@ fn row_conflicts(points: &Points, row: Tet, p: GridPoint, number: u32) -> bool
     ensures { IsTrue result ↔ IsTakenRow points.now p number (row_corners row) }
 {
     !outside(row_points(points, row), numbers_of(row), p, number)
-}
-
-// The same by lifted points.
-#[inline(always)]
-fn lifted_conflicts(points: &Points, row: Tet, lifted: &LiftedPoints, new: NewPoint) -> bool
-    requires on { AreOn points.now (row_corners row) }
-    requires lift { IsLift lifted.now points.now new }
-    ensures { IsTrue result ↔ IsTakenRow points.now new.p new.number (row_corners row) }
-{
-    !is_outside(points, row, lifted, new)
 }
 
 // Whether these are the corners of such a row.
@@ -119,35 +111,51 @@ pub fn test_slot<L: Ledger>(
     slot_conflicts(arena, points, s, p, number)
 }
 
-// The same, for ghosts. It is no part of the loop of tests of rows.
-#[inline(never)]
-fn ghost_conflicts(arena: &Arena, points: &Points, s: Slot, p: GridPoint, number: u32) -> bool
-    requires live { IsLive arena.now.slots s.index }
-    requires corners { AreCornersOn arena.now.slots points.now }
-    ensures { IsTrue result ↔ IsTaken arena.now.slots points.now p number s.index }
-{
-    slot_conflicts(arena, points, s, p, number)
+/// A mesh whose corners are places in a list of points, and a new point with its number, which need
+/// be none of these. Contracts see the slots of the mesh, the list, the point and the number.
+#[derive(Drop)]
+pub(crate) struct PointZone<'a> {
+    arena: &'a Arena,
+    points: &'a Points,
+    p: GridPoint,
+    number: u32,
 }
 
-/// The same test by lifted points. No step is counted.
-#[inline(always)]
-pub(crate) fn test_lifted(
-    arena: &Arena,
-    points: &Points,
-    s: Slot,
-    lifted: &LiftedPoints,
-    new: NewPoint,
-) -> bool
-    requires live { IsLive arena.now.slots s.index }
-    requires corners { AreCornersOn arena.now.slots points.now }
-    requires lift { IsLift lifted.now points.now new }
-    ensures { IsTrue result ↔ IsTaken arena.now.slots points.now new.p new.number s.index }
-{
-    match arena.tetrahedron(s) {
-        Some(numbers) => {
-            let [a, b, c, d] = numbers;
-            lifted_conflicts(points, Tet { a, b, c, d }, lifted, new)
+impl<'a> Model for PointZone<'a> {
+    ghost use Rattle.cavity_insert.specs.PointZone.{PointZoneValue, zone_for as zone_of};
+    ghost use Rattle.point_locate.specs.Place.{AreCornersOn as AreOnPoints};
+
+    ghost Value = { PointZoneValue };
+
+    ghost view = { λ z. zone_of z.arena.now.slots z.points.now z.p z.number };
+
+    ghost invariant = { λ z. AreOnPoints z.arena.now.slots z.points.now };
+}
+
+impl<'a> PointZone<'a> {
+    pub(crate) fn new(arena: &'a Arena, points: &'a Points, p: GridPoint, number: u32) -> Self
+        requires { AreCornersOn arena.now.slots points.now }
+        ensures { result ≡ zone_for arena.now.slots points.now p number }
+    {
+        PointZone {
+            arena,
+            points,
+            p,
+            number,
         }
-        None => ghost_conflicts(arena, points, s, new.p, new.number),
+    }
+}
+
+impl<'a> Zone for PointZone<'a> {
+    ghost slots = { λ z. z.slots };
+
+    ghost takes = { IsInZone };
+
+    fn arena(&self) -> &Arena {
+        self.arena
+    }
+
+    fn test(&self, s: Slot) -> bool {
+        slot_conflicts(self.arena, self.points, s, self.p, self.number)
     }
 }

@@ -1,100 +1,176 @@
-//! A mesh and a new point: which slots are in the conflict zone of the point.
-ghost use Rattle.std.specs.Prelude.{◌≡◌, ◌+◌, ◌<◌, ◌↔◌, option_map, IsTrue, IfSome};
-ghost use Rattle.mesh_arena.specs.Mesh.{IsLive, IsMesh, side, at};
-ghost use Rattle.point_locate.specs.Place.{AreCornersOn};
-ghost use Rattle.cavity_insert.specs.Lifting.{MayBeLifted};
-ghost use Rattle.cavity_insert.specs.Search.{search_for, IsInZone};
+//! A mesh of lifted points and a further one: which slots are in the conflict zone of the point.
+//!
+//! They are the rows that do not have it outside, and the ghosts of the hull faces that it sees.
+ghost use Rattle.std.specs.Prelude.{◌≡◌, ◌<◌, ◌↔◌, ℕ, List, IsTrue, length};
+ghost use Rattle.mesh_arena.specs.Mesh.{IsLive, corner_list};
+ghost use Rattle.point_locate.specs.Place.{row_corners, placed, IsAt, AreOn};
+ghost use Rattle.sign_predicates.specs.Orientation.{volume};
+ghost use Rattle.sign_predicates.specs.Sign.{IsSignOf};
+ghost use Rattle.geo_laws.specs.Delaunay.{point};
+ghost use Rattle.lowest_mesh_laws.specs.Rule.{IsTakenRow, IsSeen, IsInnerTaken, IsTaken};
+ghost use Rattle.cavity_insert.specs.Insert.{IsReadyFor};
+ghost use Rattle.cavity_insert.specs.Lift.{IsRowFor};
+ghost use Rattle.cavity_insert.specs.Search.{search_for};
 
-use crate::lifting::{LiftedPoints, NewPoint, Sites, lift_point};
-use crate::rule::{test_lifted, test_slot};
-use crate::steps::Steps;
-use geo_laws::Points;
-use mesh_arena::{Arena, RimFace, Slot};
-use sign_predicates::{GridPoint, Lifted};
+use crate::insert::point_at;
+use crate::lift::Lift;
+use crate::zone::Zone;
+use geo_laws::Tet;
+use mesh_arena::{Arena, Slot, SlotCorners};
+use point_locate::{Shape, placed, shape_of};
+use sign_predicates::{Sign, orient};
 use std::marker::Model;
-use std::sync::ledger::Ledger;
 
-/// A mesh whose corners are places in a list of points, and a new point with its number. Contracts
-/// see the slots of the mesh, the list, the point and the number.
+/// Whether a row does not have the point outside.
+#[inline(always)]
+fn row_conflicts<H: Lift>(lift: &H, row: Tet, number: u32) -> bool
+    requires { IsRowFor (H.points lift.now) row number }
+    ensures { IsTrue result ↔ IsTakenRow (H.heights lift.now) (H.points lift.now) number
+        (row_corners row) }
+{
+    !lift.is_outside(row, number)
+}
+
+/// Whether the slot is a row that does not have the point outside.
+fn slot_holds<H: Lift>(arena: &Arena, lift: &H, s: Slot, number: u32) -> bool
+    requires live { IsLive arena.now.slots s.index }
+    requires ready { (ms : List ℕ) × IsReadyFor (H.heights lift.now) arena.now.slots
+        (H.points lift.now) ms number }
+    ensures { IsTrue result ↔ IsAt arena.now.slots
+        (IsTakenRow (H.heights lift.now) (H.points lift.now) number) s.index }
+{
+    match shape_of(arena.tet(s)) {
+        Shape::Row(row) => row_conflicts(lift, row, number),
+        Shape::Ghost(_) => false,
+    }
+}
+
+/// Whether such a row stands behind a face.
+fn inner_conflicts<H: Lift>(arena: &Arena, lift: &H, s: Slot, face: u8, number: u32) -> bool
+    requires live { IsLive arena.now.slots s.index }
+    requires face { face < 4 }
+    requires ready { (ms : List ℕ) × IsReadyFor (H.heights lift.now) arena.now.slots
+        (H.points lift.now) ms number }
+    ensures { IsTrue result ↔ IsInnerTaken (H.heights lift.now) arena.now.slots
+        (H.points lift.now) number s.index face }
+{
+    match arena.across(s, face) {
+        Some(inner) => slot_holds(arena, lift, inner.slot, number),
+        None => false,
+    }
+}
+
+/// The sign of the volume of a ghost's corners with the point in place of the one at infinity.
+fn ghost_sign<H: Lift>(lift: &H, t: SlotCorners, number: u32) -> Sign
+    requires on { AreOn (H.points lift.now) (corner_list t) }
+    requires inside { number < length (H.points lift.now) }
+    ensures { IsSignOf result
+        (volume (placed (H.points lift.now) (point (H.points lift.now) number) t)) }
+{
+    let points = lift.points();
+    let at = placed(points, point_at(points, number), t);
+    orient(at.a, at.b, at.c, at.d)
+}
+
+/// Whether the point sees the hull face of a ghost with the point at infinity in this place.
+fn is_seen<H: Lift>(arena: &Arena, lift: &H, s: Slot, place: u8, number: u32) -> bool
+    requires live { IsLive arena.now.slots s.index }
+    requires place { place < 4 }
+    requires ready { (ms : List ℕ) × IsReadyFor (H.heights lift.now) arena.now.slots
+        (H.points lift.now) ms number }
+    ensures { IsTrue result ↔ IsSeen (H.heights lift.now) arena.now.slots (H.points lift.now)
+        number s.index place }
+{
+    match ghost_sign(lift, arena.tet(s), number) {
+        Sign::Above => true,
+        Sign::Zero => inner_conflicts(arena, lift, s, place, number),
+        Sign::Below => false,
+    }
+}
+
+/// Whether this live slot is in the conflict zone. It is no part of the loop of tests of rows.
+#[inline(never)]
+fn ghost_conflicts<H: Lift>(arena: &Arena, lift: &H, s: Slot, number: u32) -> bool
+    requires live { IsLive arena.now.slots s.index }
+    requires ready { (ms : List ℕ) × IsReadyFor (H.heights lift.now) arena.now.slots
+        (H.points lift.now) ms number }
+    ensures { IsTrue result ↔ IsTaken (H.heights lift.now) arena.now.slots (H.points lift.now)
+        number s.index }
+{
+    match shape_of(arena.tet(s)) {
+        Shape::Row(row) => row_conflicts(lift, row, number),
+        Shape::Ghost(place) => is_seen(arena, lift, s, place, number),
+    }
+}
+
+/// Whether this live slot is in the conflict zone of the point with this number: a row that does
+/// not have the point outside, ties decided by the points' numbers; or a ghost whose hull face the
+/// point is strictly beyond, or whose hull face's plane it is on where the row on the inner side is
+/// in conflict with it.
+#[inline(always)]
+fn is_taken<H: Lift>(arena: &Arena, lift: &H, s: Slot, number: u32) -> bool
+    requires live { IsLive arena.now.slots s.index }
+    requires ready { (ms : List ℕ) × IsReadyFor (H.heights lift.now) arena.now.slots
+        (H.points lift.now) ms number }
+    ensures { IsTrue result ↔ IsTaken (H.heights lift.now) arena.now.slots (H.points lift.now)
+        number s.index }
+{
+    match arena.tetrahedron(s) {
+        Some(numbers) => {
+            let [a, b, c, d] = numbers;
+            row_conflicts(lift, Tet { a, b, c, d }, number)
+        }
+        None => ghost_conflicts(arena, lift, s, number),
+    }
+}
+
+/// A mesh of some lifted points of a list, and the number of a further point. Contracts see the
+/// slots of the mesh, the points with their heights, and the number.
 #[derive(Drop)]
-pub(crate) struct Search<'a> {
+pub(crate) struct Search<'a, H: Lift> {
     arena: &'a Arena,
-    points: &'a Points,
-    lifted: &'a Option<LiftedPoints>,
-    p: GridPoint,
-    // The point, lifted, where all points are.
-    lifted_p: Option<Lifted>,
+    lift: &'a H,
     number: u32,
 }
 
-impl<'a> Model for Search<'a> {
+impl<'a, H: Lift> Model for Search<'a, H> {
+    ghost use Rattle.std.specs.Prelude.{List, ℕ};
     ghost use Rattle.cavity_insert.specs.Search.{SearchValue, search_for as search_of};
-    ghost use Rattle.point_locate.specs.Place.{AreCornersOn as AreOnPoints};
-    ghost use Rattle.cavity_insert.specs.Lifting.{MayBeLifted, MayHaveLift};
+    ghost use Rattle.cavity_insert.specs.Insert.{IsReadyFor as IsReadyOn};
 
-    ghost Value = { SearchValue };
+    ghost Value = { SearchValue H };
 
-    ghost view = { λ s. search_of s.arena.now.slots s.points.now s.p s.number };
+    ghost view = { λ s. search_of s.arena.now.slots s.lift.now s.number };
 
-    ghost invariant = { λ s. AreOnPoints s.arena.now.slots s.points.now
-        × MayBeLifted s.lifted.now s.points.now × MayHaveLift s.lifted.now s.lifted_p s.p };
+    ghost invariant = { λ s. (ms : List ℕ)
+        × IsReadyOn (H.heights s.lift.now) s.arena.now.slots (H.points s.lift.now) ms s.number };
 }
 
-impl<'a> Search<'a> {
-    pub(crate) fn new(arena: &'a Arena, sites: &Sites<'a>, p: GridPoint, number: u32) -> Self
-        requires corners { AreCornersOn arena.now.slots sites.now.points.now }
-        requires lifted { MayBeLifted sites.now.lifted.now sites.now.points.now }
-        ensures { result ≡ search_for arena.now.slots sites.now.points.now p number }
+impl<'a, H: Lift> Search<'a, H> {
+    pub(crate) fn new(arena: &'a Arena, lift: &'a H, number: u32) -> Self
+        requires { (ms : List ℕ) × IsReadyFor (H.heights lift.now) arena.now.slots
+            (H.points lift.now) ms number }
+        ensures { result ≡ search_for arena.now.slots lift.now number }
     {
-        let points = sites.points;
-        let lifted = sites.lifted;
         Search {
             arena,
-            points,
-            lifted,
-            p,
-            lifted_p: lift_point(lifted, p),
+            lift,
             number,
         }
     }
+}
 
-    /// The face of the neighbor behind a face of a slot.
-    pub(crate) fn across(&self, s: Slot, face: u8) -> Option<RimFace>
-        requires live { IsLive self.now.slots s.index }
-        requires face { face < 4 }
-        ensures value { option_map (λ f. at f.slot.index f.face) result
-            ≡ side self.now.slots s.index face }
-        ensures live { IfSome result (λ f. IsLive self.now.slots f.slot.index × (f.face < 4)) }
-    {
-        self.arena.across(s, face)
+impl<'a, H: Lift> Zone for Search<'a, H> {
+    ghost slots = { λ s. s.slots };
+
+    ghost takes = { λ s. IsTaken (H.heights s.lift) s.slots (H.points s.lift) s.p };
+
+    fn arena(&self) -> &Arena {
+        self.arena
     }
 
-    /// Whether a slot is in the conflict zone of the point. One step is counted.
     #[inline(always)]
-    pub(crate) fn test<L: Ledger>(&self, s: Slot, steps: &mut Steps<L>) -> bool
-        requires { IsLive self.now.slots s.index }
-        ensures value { IsTrue result ↔ IsInZone self.now s.index }
-        ensures step { steps.new ≡ steps.old + 1 }
-    {
-        if let Some(list) = self.lifted {
-            if let Some(lifted) = self.lifted_p {
-                steps.tick();
-                let new = NewPoint {
-                    p: self.p,
-                    lifted,
-                    number: self.number,
-                };
-                return test_lifted(self.arena, self.points, s, list, new);
-            }
-        }
-        test_slot(self.arena, self.points, s, self.p, self.number, steps)
-    }
-
-    /// That the slots are a mesh, since the arena has this one.
-    pub(crate) fn see(&self, s: Slot)
-        requires { IsLive self.now.slots s.index }
-        ensures { IsMesh self.now.slots }
-    {
-        let _ = self.arena.tet(s);
+    fn test(&self, s: Slot) -> bool {
+        is_taken(self.arena, self.lift, s, self.number)
     }
 }

@@ -1,5 +1,2 @@
-pub mod Facts
-pub mod Begin
+pub mod Above
 pub mod Rows
-pub mod Insertion
-pub mod Building

@@ -7,7 +7,6 @@ use Rattle.geo_laws.specs.Arrangement.{IsEvenOf, HasLeastFirst, HasLeastSecond}
 use Rattle.geo_laws.specs.Delaunay.{corners, all_numbers, IsOn, IsArranged}
 use Rattle.regular_laws.specs.Regular.{weighted_lift, IsRegularList}
 use Rattle.regular_laws.proofs.Weighted.{law_regular_row}
-use Rattle.weighted_mesh.specs.Ready.{IsRegularMesh}
 use Rattle.std.specs.List.{slice_index_or}
 use Rattle.std.proofs.lemmas.List.Elements.{Contains-get_or}
 use Rattle.geo_laws.specs.Height.{IsLowestAmong}
@@ -79,7 +78,7 @@ module _ (lifts : ℕ → ℤ) (slots : List (Option SlotValue)) (ps : List Poin
           subst (Contains rows) (row_is slot.0 slot.1 found.0 slot.2 found.2 ∙ slot.3) found.1
 
 -- the regular list of a mesh
-pub regular_list : (slots : List (Option SlotValue)) (ps : List Point) (ws : List ℤ) (list : List Row) → IsRegularMesh slots ps ws (all_numbers ps) → AreSortedRowsOf slots list → IsRegularList ps ws list
+pub regular_list : (slots : List (Option SlotValue)) (ps : List Point) (ws : List ℤ) (list : List Row) → IsLowestMesh (weighted_lift ps ws) slots ps (all_numbers ps) → AreSortedRowsOf slots list → IsRegularList ps ws list
 regular_list slots ps ws list mesh sorted =
     let lowest = list_of_rows (weighted_lift ps ws) slots ps (all_numbers ps) mesh sorted.rows list sorted.below sorted.listed in
     record {

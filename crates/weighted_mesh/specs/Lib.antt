@@ -1,4 +1,1 @@
-pub mod Ready
-pub mod Search
-pub mod Growth
-pub mod Build
+pub mod Sites

@@ -1,39 +1,29 @@
 use Rattle.std.proofs.Common.{◌≡◌, ◌+◌, List, [], ◌∷◌, ◌++◌, length, refl, ap, subst, ◌∙◌, arith}
 use Rattle.mesh_arena.specs.declared.slot.Slot.{Slot}
 use Rattle.mesh_laws.specs.Reach.{Grown}
-use Rattle.mesh_laws.proofs.Taken.{taken_live}
-use Rattle.cavity_insert.specs.Search.{IsInZone}
 use Rattle.cavity_insert.specs.Growth.{IsGrowing}
 use Rattle.cavity_insert.proofs.Growth.{Growing-begin, Grown-done, AreEntered-begin}
 use Rattle.cavity_insert.proofs.Pigeons.{few_slots}
 use Rattle.cavity_insert.proofs.grow.Growth.grow.Goals as goal
 
-pub see-requires : goal.see-requires
-see-requires g c = let s = c.args.search.now in taken_live s.slots s.points s.p s.number c.args.self.now.start.index c.requires.start
-
-pub test-requires : goal.test-requires
-test-requires g c = let s = c.args.search.now in taken_live s.slots s.points s.p s.number c.args.self.now.start.index c.requires.start
-
 pub loop-i-init : goal.loop-i-init
 loop-i-init g c =
-    let search = c.args.search.now in
     let was = c.args.self.now in
     let cavity : c.push.new.self ≡ was.start ∷ [] = c.in_ok-push.ensures ∙ ap (λ (x : List Slot). x ++ was.start ∷ []) c.requires.begun.cavity in
-    let live = taken_live search.slots search.points search.p search.number was.start.index c.requires.start in
     record {
       inside = omega arith;
       begun = omega (arith, ap length cavity);
-      few = omega (arith, c.test.ensures.step);
-      many = omega (arith, c.test.ensures.step, ap length cavity);
+      few = omega arith;
+      many = omega (arith, ap length cavity);
       start = refl;
       growing = record {
-        entered = rw (c.in_ok-push.ensures, c.in_ok-push-2.ensures.items, c.requires.begun.cavity, c.requires.begun.entries) (AreEntered-begin search.slots was.start);
-        growing = rw (c.in_ok-push.ensures, c.in_ok-push-2.ensures.items, c.requires.begun.cavity, c.requires.begun.entries, c.requires.begun.rim) (Growing-begin search.slots (IsInZone search) was.start c.requires.start live);
+        entered = rw (c.in_ok-push.ensures, c.in_ok-push-2.ensures.items, c.requires.begun.cavity, c.requires.begun.entries) (AreEntered-begin (g.Z.Zone.slots c.args.zone.now) was.start);
+        growing = rw (c.in_ok-push.ensures, c.in_ok-push-2.ensures.items, c.requires.begun.cavity, c.requires.begun.entries, c.requires.begun.rim) (Growing-begin (g.Z.Zone.slots c.args.zone.now) (g.Z.Zone.takes c.args.zone.now) was.start c.requires.start c.requires.live);
       };
     }
 
 pub loop-i-smaller : goal.loop-i-smaller
-loop-i-smaller g c = omega (arith, few_slots c.args.search.now.slots c.loop-i.self.cavity c.loop-i.invariant.growing.growing.live c.loop-i.invariant.growing.growing.once)
+loop-i-smaller g c = omega (arith, few_slots (g.Z.Zone.slots c.args.zone.now) c.loop-i.self.cavity c.loop-i.invariant.growing.growing.live c.loop-i.invariant.growing.growing.once)
 
 pub loop-i-preserved : goal.loop-i-preserved
 loop-i-preserved g c =
@@ -44,12 +34,11 @@ loop-i-preserved g c =
       few = omega (arith, more.few, c.loop-i.invariant.few);
       many = omega (arith, more.many, c.loop-i.invariant.many);
       start = c.visit_faces.ensures.start ∙ c.loop-i.invariant.start;
-      growing = subst (IsGrowing c.args.search.now c.visit_faces.new.self (c.loop-i.i + 1)) (omega arith) more.growing;
+      growing = subst (IsGrowing (g.Z.Zone.slots c.args.zone.now) (g.Z.Zone.takes c.args.zone.now) c.visit_faces.new.self (c.loop-i.i + 1)) (omega arith) more.growing;
     }
 
 pub returns-clause-grown : goal.returns-clause-grown
 returns-clause-grown g c =
-    let search = c.args.search.now in
     let found = c.loop-i.self in
-    subst (λ (s : Slot). Grown search.slots (IsInZone search) s.index found.cavity found.rim) c.loop-i.invariant.start
+    subst (λ (s : Slot). Grown (g.Z.Zone.slots c.args.zone.now) (g.Z.Zone.takes c.args.zone.now) s.index found.cavity found.rim) c.loop-i.invariant.start
     (Grown-done _ _ _ c.see.ensures _ _ c.loop-i.i _ _ (omega arith) c.loop-i.invariant.growing.growing)

@@ -7,11 +7,11 @@ invariant-loop-i g l =
     record {
       inside : l.i ≤ length l.self.cavity;
       begun : 0 < length l.self.cavity;
-      few : l.steps ≤ l.fn.steps + (4 * l.i + 1);
-      many : l.fn.steps + length l.self.cavity ≤ l.steps;
+      few : l.steps ≤ l.fn.steps + 4 * l.i;
+      many : l.fn.steps + length l.self.cavity ≤ l.steps + 1;
       start : l.self.start ≡ l.fn.self.start;
-      growing : IsGrowing l.search l.self l.i (min l.i 1);
+      growing : IsGrowing (g.Z.Zone.slots l.zone) (g.Z.Zone.takes l.zone) l.self l.i (min l.i 1);
     }
 
 abbrev pub decreases-loop-i : goal.decreases-loop-i
-decreases-loop-i g l = length l.search.slots - l.i
+decreases-loop-i g l = length (g.Z.Zone.slots l.zone) - l.i

@@ -33,7 +33,7 @@ loop-k-preserved g c =
       longer = omega (arith, more.longer, now.longer);
       start = c.visit.ensures.start ∙ now.start;
       entry = more.entry ∙ now.entry;
-      growing = subst (λ k. IsGrowing c.args.search.now c.visit.new.self c.args.i (k + 1)) said more.growing;
+      growing = subst (λ k. IsGrowing (g.Z.Zone.slots c.args.zone.now) (g.Z.Zone.takes c.args.zone.now) c.visit.new.self c.args.i (k + 1)) said more.growing;
     }
 
 pub returns-clause-growing : goal.returns-clause-growing

@@ -10,5 +10,5 @@ invariant-loop-k g l =
       longer : length l.fn.self.cavity ≤ length l.self.cavity;
       start : l.self.start ≡ l.fn.self.start;
       entry : entry_of l.self l.i ≡ l.entry;
-      growing : IsGrowing l.search l.self l.i l.k;
+      growing : IsGrowing (g.Z.Zone.slots l.zone) (g.Z.Zone.takes l.zone) l.self l.i l.k;
     }

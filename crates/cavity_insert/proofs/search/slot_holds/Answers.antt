@@ -1,0 +1,12 @@
+use Rattle.std.proofs.Common.{Some, ap, ◌∙◌}
+use Rattle.cavity_insert.proofs.LiftedRows.{row_for, test_at}
+use Rattle.cavity_insert.proofs.search.slot_holds.Goals as goal
+
+pub row_conflicts-requires : goal.row_conflicts-requires
+row_conflicts-requires g c =
+    row_for (g.H.Lift.heights c.args.lift.now) c.args.arena.now.slots (g.H.Lift.points c.args.lift.now) c.requires.ready.0 c.args.number c.requires.ready.1 c.args.s.index c.in-Row.row
+    (c.tet.ensures.corners ∙ ap Some c.in-Row.ensures)
+
+pub returns-in-Row : goal.returns-in-Row
+returns-in-Row g c = test_at (g.H.Lift.heights c.args.lift.now) c.args.arena.now.slots (g.H.Lift.points c.args.lift.now) c.args.number c.args.s.index c.in-Row.row c.row_conflicts.result
+    (c.tet.ensures.corners ∙ ap Some c.in-Row.ensures) c.row_conflicts.ensures

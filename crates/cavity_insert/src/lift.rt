@@ -1,0 +1,31 @@
+//! Points that are lifted into a fourth dimension, over whose lower hull their mesh lies.
+ghost use Rattle.std.specs.Prelude.{◌≡◌, ◌↔◌, ℕ, ℤ, List, IsTrue};
+ghost use Rattle.sign_predicates.specs.Point.{Point};
+ghost use Rattle.lowest_laws.specs.Insertion.{HasAbove};
+ghost use Rattle.cavity_insert.specs.Lift.{IsRowFor};
+
+use geo_laws::{Points, Tet};
+
+/// A list of points, each with a height of its own: over the squared lengths lies the Delaunay
+/// mesh, over those less the points' weights the regular one. A mesh of lifted points is built from
+/// one test alone.
+///
+/// Source: the lifting map (Edelsbrunner and Seidel 1986).
+pub trait Lift {
+    /// The points.
+    ghost points: { Self → List Point };
+
+    /// The height of the point with this number, in squares of grid units.
+    ghost heights: { Self → ℕ → ℤ };
+
+    /// The points, in the order of their numbers.
+    fn points(&self) -> &Points
+        ensures { result.now ≡ points self.now };
+
+    /// Whether the point with this number is outside of a positive row: lifted, it is above the
+    /// plane through the row's lifted corners. Ties are broken by the points' numbers.
+    fn is_outside(&self, row: Tet, number: u32) -> bool
+        requires { IsRowFor (points self.now) row number }
+        ensures { IsTrue result
+            ↔ HasAbove (heights self.now) (points self.now) row number };
+}
