@@ -1,33 +1,43 @@
-//! Five corners and how the height of one over the other four depends on their heights.
+//! Five corners and how the height of one over the other four depends on their heights. They stand
+//! in one order: the three corners of a face, the corner of its row, and the one across.
+use crate::wide::{Wide, minus, plus, product, widened};
 
 /// A point by its differences from a base point, over the common power of two.
-#[derive(Clone, Copy, Debug, PartialEq, Eq)]
-pub struct Spot {
-    pub x: i64,
-    pub y: i64,
-    pub z: i64,
+#[derive(Clone, Copy)]
+pub(crate) struct Spot {
+    pub(crate) x: i64,
+    pub(crate) y: i64,
+    pub(crate) z: i64,
 }
 
-/// The coefficients of a face of three corners, the corner of its row, and the one across.
-#[derive(Clone, Copy, Debug, PartialEq, Eq)]
-pub struct Circuit {
-    pub first: i128,
-    pub second: i128,
-    pub third: i128,
-    pub own: i128,
-    pub across: i128,
+/// A plane by its normal and a point of it.
+#[derive(Clone, Copy)]
+pub(crate) struct Plane {
+    pub(crate) normal: Spot,
+    pub(crate) corner: Spot,
 }
 
-/// Which rows a flip takes: two, three, four, or that it is none.
-#[derive(Clone, Copy, Debug, PartialEq, Eq)]
-pub enum Kind {
+/// Which rows a flip takes, or that it is none: two with a common face; those and a third round a
+/// side of the face; those and two more round a side that lies in one plane with the corners on
+/// both sides. Named is the corner of the face opposite the side.
+#[derive(Clone, Copy)]
+pub(crate) enum Kind {
     Two,
-    Three,
-    Four,
+    Three { apex: u32 },
+    Four { apex: u32 },
     Never,
 }
 
-fn minus(a: Spot, b: Spot) -> Spot {
+/// Which of three are so.
+#[derive(Clone, Copy)]
+enum Which {
+    No,
+    One(u32),
+    Several,
+}
+
+/// The vector to the first from the second.
+fn from_to(a: Spot, b: Spot) -> Spot {
     Spot {
         x: a.x.wrapping_sub(b.x),
         y: a.y.wrapping_sub(b.y),
@@ -35,107 +45,172 @@ fn minus(a: Spot, b: Spot) -> Spot {
     }
 }
 
-fn is_short_side(x: i64) -> bool {
-    -(1 << 19) < x && x < 1 << 19
-}
-
-fn is_short(u: Spot) -> bool {
-    is_short_side(u.x) && is_short_side(u.y) && is_short_side(u.z)
+/// The bits of the sizes of the coordinates.
+fn bits_of(v: Spot) -> u64 {
+    v.x.unsigned_abs() | v.y.unsigned_abs() | v.z.unsigned_abs()
 }
 
 fn times(x: i64, y: i64) -> i128 {
     i128::from(x).wrapping_mul(i128::from(y))
 }
 
-fn minor(x: i64, y: i64, z: i64, w: i64) -> i128 {
-    times(x, w).wrapping_sub(times(y, z))
+/// The minor of the first two coordinates.
+fn minor(u: Spot, v: Spot) -> i64 {
+    u.x.wrapping_mul(v.y).wrapping_sub(u.y.wrapping_mul(v.x))
 }
 
-/// The volume of three vectors, six times.
-fn volume(u: Spot, v: Spot, w: Spot) -> i128 {
-    let x = i128::from(u.x).wrapping_mul(minor(v.y, v.z, w.y, w.z));
-    let y = i128::from(u.y).wrapping_mul(minor(v.x, v.z, w.x, w.z));
-    let z = i128::from(u.z).wrapping_mul(minor(v.x, v.y, w.x, w.y));
-    x.wrapping_sub(y).wrapping_add(z)
-}
-
-/// The coefficients, whose sum is 0; `None` where a difference is long.
-pub fn circuit_of(a: Spot, b: Spot, c: Spot, d: Spot, e: Spot) -> Option<Circuit> {
-    let (a, b, c, d) = (minus(a, e), minus(b, e), minus(c, e), minus(d, e));
-    if !(is_short(a) && is_short(b) && is_short(c) && is_short(d)) {
-        return None;
+/// A volume by three last coordinates and the minors opposite them, the second taken away. It fits
+/// 64 bits where all vectors are short, below `2^19`.
+fn volume(is_short: bool, z: (i64, i64, i64), minors: (i64, i64, i64)) -> i128 {
+    if is_short {
+        let ends = z
+            .0
+            .wrapping_mul(minors.0)
+            .wrapping_add(z.2.wrapping_mul(minors.2));
+        i128::from(ends.wrapping_sub(z.1.wrapping_mul(minors.1)))
+    } else {
+        let ends = times(z.0, minors.0).wrapping_add(times(z.2, minors.2));
+        ends.wrapping_sub(times(z.1, minors.1))
     }
-    let first = volume(b, c, d).wrapping_neg();
-    let second = volume(a, c, d);
-    let third = volume(a, b, d).wrapping_neg();
-    let own = volume(a, b, c);
-    let sum = first
-        .wrapping_add(second)
-        .wrapping_add(third)
-        .wrapping_add(own);
-    Some(Circuit {
-        first,
-        second,
-        third,
-        own,
-        across: sum.wrapping_neg(),
-    })
+}
+
+/// How the sum that says whether the corner across is outside depends on the heights of the five;
+/// the sum of the coefficients is 0.
+pub(crate) fn circuit_of(corners: &[Spot; 5]) -> [i128; 5] {
+    let across = corners[4];
+    let (a, b) = (from_to(corners[0], across), from_to(corners[1], across));
+    let (c, d) = (from_to(corners[2], across), from_to(corners[3], across));
+    let is_short = bits_of(a) | bits_of(b) | bits_of(c) | bits_of(d) < 1 << 19;
+    let (ab, ac, ad) = (minor(a, b), minor(a, c), minor(a, d));
+    let (bc, bd, cd) = (minor(b, c), minor(b, d), minor(c, d));
+    let first = volume(is_short, (b.z, c.z, d.z), (cd, bd, bc)).wrapping_neg();
+    let second = volume(is_short, (a.z, c.z, d.z), (cd, ad, ac));
+    let third = volume(is_short, (a.z, b.z, d.z), (bd, ad, ab)).wrapping_neg();
+    let own = volume(is_short, (a.z, b.z, c.z), (bc, ac, ab));
+    let face = first.wrapping_add(second).wrapping_add(third);
+    let sum = face.wrapping_add(own);
+    [first, second, third, own, sum.wrapping_neg()]
+}
+
+/// On which side of the plane through `a`, `b` and `c` the point lies, as a volume.
+pub(crate) fn volume_over(a: Spot, b: Spot, c: Spot, p: Spot) -> i128 {
+    let (u, v, w) = (from_to(b, a), from_to(c, a), from_to(p, a));
+    let minors = (minor(v, w), minor(u, w), minor(u, v));
+    volume(false, (u.z, v.z, w.z), minors)
+}
+
+/// The corners of a face for which something holds.
+fn the_one(face: &[u32; 3], holds: (bool, bool, bool)) -> Which {
+    match holds {
+        (false, false, false) => Which::No,
+        (true, false, false) => Which::One(face[0]),
+        (false, true, false) => Which::One(face[1]),
+        (false, false, true) => Which::One(face[2]),
+        _ => Which::Several,
+    }
 }
 
 /// The kind of flip by the signs of the three coefficients of the face.
-pub fn kind_of(c: Circuit) -> Kind {
-    let above = u32::from(c.first > 0) + u32::from(c.second > 0) + u32::from(c.third > 0);
-    let flat = u32::from(c.first == 0) + u32::from(c.second == 0) + u32::from(c.third == 0);
+pub(crate) fn kind_of(face: &[u32; 3], circuit: &[i128; 5]) -> Kind {
+    let (a, b, c) = (circuit[0], circuit[1], circuit[2]);
+    let above = the_one(face, (a > 0, b > 0, c > 0));
+    let flat = the_one(face, (a == 0, b == 0, c == 0));
     match (above, flat) {
-        (0, 0) => Kind::Two,
-        (1, 0) => Kind::Three,
-        (0, 1) => Kind::Four,
+        (Which::No, Which::No) => Kind::Two,
+        (Which::One(apex), Which::No) => Kind::Three { apex },
+        (Which::No, Which::One(apex)) => Kind::Four { apex },
         _ => Kind::Never,
     }
 }
 
-/// The side of a point to the plane through a corner with a normal.
-pub fn side_of(normal: Spot, corner: Spot, p: Spot) -> i128 {
-    let v = minus(p, corner);
-    times(normal.x, v.x)
-        .wrapping_add(times(normal.y, v.y))
-        .wrapping_add(times(normal.z, v.z))
+/// The plane through three points.
+pub(crate) fn plane_of(a: Spot, b: Spot, c: Spot) -> Plane {
+    let (u, v) = (from_to(b, a), from_to(c, a));
+    let area = |p: i64, q: i64, r: i64, s: i64| p.wrapping_mul(s).wrapping_sub(q.wrapping_mul(r));
+    Plane {
+        normal: Spot {
+            x: area(u.y, u.z, v.y, v.z),
+            y: area(u.z, u.x, v.z, v.x),
+            z: area(u.x, u.y, v.x, v.y),
+        },
+        corner: a,
+    }
+}
+
+/// The side of the plane on which a point lies: above 0 where the normal points.
+pub(crate) fn side_of(plane: &Plane, p: Spot) -> i128 {
+    let v = from_to(p, plane.corner);
+    times(plane.normal.x, v.x)
+        .wrapping_add(times(plane.normal.y, v.y))
+        .wrapping_add(times(plane.normal.z, v.z))
 }
 
 /// The square of the distance.
 fn square(a: Spot, b: Spot) -> i128 {
-    let v = minus(a, b);
-    times(v.x, v.x)
-        .wrapping_add(times(v.y, v.y))
-        .wrapping_add(times(v.z, v.z))
+    let v = from_to(a, b);
+    let sum = v
+        .x
+        .wrapping_mul(v.x)
+        .wrapping_add(v.y.wrapping_mul(v.y))
+        .wrapping_add(v.z.wrapping_mul(v.z));
+    i128::from(sum)
 }
 
 /// The coefficients times the squares of the distances from the corner across: not below 0 where
 /// that corner is outside of the sphere through the others.
-pub fn sum_of(x: Circuit, a: Spot, b: Spot, c: Spot, d: Spot, e: Spot) -> i128 {
-    let face = x
-        .first
-        .wrapping_mul(square(a, e))
-        .wrapping_add(x.second.wrapping_mul(square(b, e)));
-    face.wrapping_add(x.third.wrapping_mul(square(c, e)))
-        .wrapping_add(x.own.wrapping_mul(square(d, e)))
+pub(crate) fn sum_of(circuit: &[i128; 5], corners: &[Spot; 5]) -> i128 {
+    let mut sum = 0i128;
+    for i in 0..4 {
+        sum = sum.wrapping_add(circuit[i].wrapping_mul(square(corners[i], corners[4])));
+    }
+    sum
 }
 
-/// The coefficient times the side, where the point is above; `None` where the side is long.
-fn lifted(coefficient: i128, side: i128) -> Option<i128> {
-    if side >= 1 << 60 {
+/// A product of 128 bits, where the side has at most 60 bits and the coefficient 64.
+fn short_product(coefficient: i128, side: i128) -> Option<i128> {
+    if side >> 60 != 0 {
         return None;
     }
-    Some(coefficient.wrapping_mul(side.max(0)))
+    let side = i64::try_from(side).ok()?;
+    let coefficient = i64::try_from(coefficient).ok()?;
+    Some(times(coefficient, side))
+}
+
+/// Minus the coefficients times the sides of the points above the plane, where all is short.
+fn short_weight(circuit: &[i128; 5], sides: &[i128; 5]) -> Option<i128> {
+    let mut sum = 0i128;
+    for i in 0..5 {
+        if sides[i] > 0 {
+            sum = sum.wrapping_sub(short_product(circuit[i], sides[i])?);
+        }
+    }
+    Some(sum)
+}
+
+/// The same in 256 bits; `None` where it is not above 0.
+fn long_weight(circuit: &[i128; 5], sides: &[i128; 5]) -> Option<Wide> {
+    let (mut above, mut below) = (widened(0), widened(0));
+    for i in 0..5 {
+        let side = sides[i].max(0).unsigned_abs();
+        let part = product(circuit[i].unsigned_abs(), side);
+        if circuit[i] < 0 {
+            above = plus(above, part);
+        } else {
+            below = plus(below, part);
+        }
+    }
+    if above <= below {
+        return None;
+    }
+    Some(minus(above, below))
 }
 
 /// How fast the sum falls as the points above the plane rise: minus the coefficients times their
-/// sides. `None` where a side is long.
-pub fn weight_of(x: Circuit, a: i128, b: i128, c: i128, d: i128, e: i128) -> Option<i128> {
-    let face = lifted(x.first, a)?.wrapping_add(lifted(x.second, b)?);
-    let face = face.wrapping_add(lifted(x.third, c)?);
-    let all = face
-        .wrapping_add(lifted(x.own, d)?)
-        .wrapping_add(lifted(x.across, e)?);
-    Some(all.wrapping_neg())
+/// sides. `None` where it does not fall.
+pub(crate) fn weight_of(circuit: &[i128; 5], sides: &[i128; 5]) -> Option<Wide> {
+    match short_weight(circuit, sides) {
+        Some(weight) if weight > 0 => Some(widened(weight.unsigned_abs())),
+        Some(_) => None,
+        None => long_weight(circuit, sides),
+    }
 }

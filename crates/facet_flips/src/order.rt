@@ -1,94 +1,82 @@
 //! The heights at which circuits turn over, and their order, with ties by rising point numbers.
-use crate::circuit::Circuit;
-use crate::wide::product;
+use crate::circuit::Kind;
+use crate::wide::{Wide, times};
 use std::cmp::Ordering;
 
-/// A circuit, the numbers of its corners in the order of its coefficients, and the quotient
-/// `sum / weight` at which it turns over.
-#[derive(Clone, Copy, Debug)]
-pub struct Event {
-    pub circuit: Circuit,
-    pub corners: (u32, u32, u32, u32, u32),
-    pub sum: u128,
-    pub weight: u128,
-}
-
-/// The event of a circuit, `None` where it never turns over.
-pub fn event_of(
-    circuit: Circuit,
-    corners: (u32, u32, u32, u32, u32),
-    sum: i128,
-    weight: i128,
-) -> Option<Event> {
-    if sum < 0 || weight <= 0 {
-        return None;
-    }
-    Some(Event {
-        circuit,
-        corners,
-        sum: sum.unsigned_abs(),
-        weight: weight.unsigned_abs(),
-    })
+/// A face between two rows that is to be flipped: the rows by their slots, the kind of flip, the
+/// numbers of the five corners in the order of the coefficients, and the quotient `sum / weight` at
+/// which the circuit turns over, with its rank.
+#[derive(Clone, Copy)]
+pub(crate) struct Event {
+    pub(crate) row: u32,
+    pub(crate) across: u32,
+    pub(crate) kind: Kind,
+    pub(crate) numbers: [u32; 5],
+    pub(crate) circuit: [i128; 5],
+    pub(crate) sum: u128,
+    pub(crate) weight: Wide,
+    pub(crate) rank: u64,
 }
 
 /// The coefficient of a point, 0 where it is no corner.
-fn coefficient(e: Event, number: u32) -> i128 {
-    let (a, b, c, d, x) = e.corners;
-    match () {
-        () if number == a => e.circuit.first,
-        () if number == b => e.circuit.second,
-        () if number == c => e.circuit.third,
-        () if number == d => e.circuit.own,
-        () if number == x => e.circuit.across,
-        () => 0,
+fn coefficient(e: &Event, number: u32) -> i128 {
+    for i in 0..5 {
+        if e.numbers[i] == number {
+            return e.circuit[i];
+        }
     }
+    0
 }
 
 /// The order of `c / weight` of one and of the other.
-fn by_corner(e: Event, f: Event, number: u32) -> Ordering {
+fn by_corner(e: &Event, f: &Event, number: u32) -> Ordering {
     let (c, d) = (coefficient(e, number), coefficient(f, number));
-    let sizes = product(c.unsigned_abs(), f.weight).cmp(&product(d.unsigned_abs(), e.weight));
-    match (c < 0, d < 0) {
-        (true, true) => sizes.reverse(),
-        (true, false) => Ordering::Less,
-        (false, true) => Ordering::Greater,
-        (false, false) => sizes,
+    if c.signum() != d.signum() {
+        return c.signum().cmp(&d.signum());
     }
+    let one = times(f.weight, c.unsigned_abs());
+    let sizes = one.cmp(&times(e.weight, d.unsigned_abs()));
+    if c < 0 { sizes.reverse() } else { sizes }
 }
 
-/// The lesser of a number and the best so far, of those above the last one.
-fn next_of(best: Option<u32>, last: Option<u32>, number: u32) -> Option<u32> {
-    if last.is_some_and(|l| number <= l) || best.is_some_and(|b| b <= number) {
-        return best;
+/// The least corner above the last one, or the best so far.
+fn next_corner(e: &Event, best: Option<u32>, last: Option<u32>) -> Option<u32> {
+    let mut best = best;
+    for number in e.numbers {
+        let is_past = last.is_none_or(|l| l < number);
+        if is_past && best.is_none_or(|b| number < b) {
+            best = Some(number);
+        }
     }
-    Some(number)
+    best
 }
 
-/// The least corner above the last one.
-fn next_corner(e: Event, best: Option<u32>, last: Option<u32>) -> Option<u32> {
-    let (a, b, c, d, x) = e.corners;
-    let best = next_of(next_of(best, last, a), last, b);
-    next_of(next_of(next_of(best, last, c), last, d), last, x)
+/// The order of the coefficients of the corners of both, by rising numbers.
+fn by_corners(e: &Event, f: &Event) -> Ordering {
+    let mut last = None;
+    for _ in 0..10 {
+        let Some(number) = next_corner(f, next_corner(e, None, last), last) else {
+            return Ordering::Equal;
+        };
+        match by_corner(e, f, number) {
+            Ordering::Equal => last = Some(number),
+            other => return other,
+        }
+    }
+    Ordering::Equal
+}
+
+/// The order of the quotients.
+fn by_quotient(e: &Event, f: &Event) -> Ordering {
+    times(f.weight, e.sum).cmp(&times(e.weight, f.sum))
 }
 
 /// Whether one event comes before the other: by the quotients, then by the coefficients of the
 /// corners of both by rising numbers.
-pub fn is_before(e: Event, f: Event) -> bool {
-    match product(e.sum, f.weight).cmp(&product(f.sum, e.weight)) {
-        Ordering::Less => return true,
-        Ordering::Greater => return false,
-        Ordering::Equal => {}
+pub(crate) fn is_before(e: &Event, f: &Event) -> bool {
+    match by_quotient(e, f) {
+        Ordering::Less => true,
+        Ordering::Greater => false,
+        Ordering::Equal => by_corners(e, f) == Ordering::Less,
     }
-    let mut last = None;
-    for _ in 0..10 {
-        let Some(number) = next_corner(f, next_corner(e, None, last), last) else {
-            return false;
-        };
-        match by_corner(e, f, number) {
-            Ordering::Less => return true,
-            Ordering::Greater => return false,
-            Ordering::Equal => last = Some(number),
-        }
-    }
-    false
 }

@@ -1,0 +1,126 @@
+//! The rows that a facet crosses, and the flips that put it in.
+use crate::circuit::{Spot, plane_of, volume_over};
+use crate::local::{Local, Slot, face_opposite, place_of, place_or_stop};
+use crate::stop::{Stop, or_stop};
+use geo_laws::Face;
+use std::alloc::Global;
+
+/// The point across the side of the triangle opposite its first corner from that corner.
+fn ahead_of(a: Spot, b: Spot, c: Spot) -> Spot {
+    Spot {
+        x: b.x.wrapping_add(c.x).wrapping_sub(a.x),
+        y: b.y.wrapping_add(c.y).wrapping_sub(a.y),
+        z: b.z.wrapping_add(c.z).wrapping_sub(a.z),
+    }
+}
+
+impl Local {
+    /// Whether the point is on the inner side of the face of the row opposite its corner at a
+    /// place, or on its plane.
+    fn is_within(&self, slot: &Slot, place: usize, p: Spot) -> Option<bool> {
+        let [a, b, c] = face_opposite(&slot.corners, place);
+        Some(volume_over(self.spot(a)?, self.spot(b)?, self.spot(c)?, p) >= 0)
+    }
+
+    /// Whether the way from a corner of the row to a point goes into the row.
+    fn leads_into(&self, slot: &Slot, corner: usize, ahead: Spot) -> Result<bool, Stop> {
+        for i in 0..4 {
+            if i != corner && !or_stop(self.is_within(slot, i, ahead))? {
+                return Ok(false);
+            }
+        }
+        Ok(true)
+    }
+
+    /// Whether corners of the row lie above the facet's plane, and others below.
+    fn is_parted(&self, slot: &Slot) -> Result<bool, Stop> {
+        let [a, b, c, d] = slot.corners;
+        Ok(self.spans(&[a, b, c])? || self.spans(&[b, c, d])? || self.spans(&[a, b, d])?)
+    }
+
+    /// The row at the first corner of a triangle into which the triangle goes; `None` where it is a
+    /// face.
+    fn seed(&self, t: Face) -> Result<Option<u32>, Stop> {
+        let (a, b, c) = (self.spot(t.a), self.spot(t.b), self.spot(t.c));
+        let ahead = ahead_of(or_stop(a)?, or_stop(b)?, or_stop(c)?);
+        let mut found = None;
+        let mut next = self.heads.get(t.a as usize).copied().flatten();
+        for _ in 0..self.slots.len() {
+            let Some(row) = next else { break };
+            let slot = or_stop(self.slot(row))?;
+            let place = place_or_stop(&slot.corners, t.a)?;
+            next = slot.next[place];
+            if !slot.is_live {
+                continue;
+            }
+            if has_corner(&slot, t.b) && has_corner(&slot, t.c) {
+                return Ok(None);
+            }
+            if found.is_none() && self.is_parted(&slot)? && self.leads_into(&slot, place, ahead)? {
+                found = Some(row);
+            }
+        }
+        or_stop(found).map(Some)
+    }
+
+    /// Goes from a row of the cavity to those across the faces that the facet parts.
+    fn spread(&mut self, row: u32, queue: &mut Vec<u32>) -> Result<(), Stop> {
+        let slot = or_stop(self.slot(row))?;
+        for i in 0..4 {
+            if !self.spans(&face_opposite(&slot.corners, i))? {
+                continue;
+            }
+            let across = or_stop(slot.across[i])?;
+            if self.enter(across) {
+                queue.push(across)?;
+            }
+            if row < across {
+                self.look(row, slot.corners[i])?;
+            }
+        }
+        Ok(())
+    }
+
+    /// Finds all rows of the cavity round a row.
+    fn flood(&mut self, seed: u32, queue: &mut Vec<u32>) -> Result<(), Stop> {
+        queue.clear();
+        if self.enter(seed) {
+            queue.push(seed)?;
+        }
+        for i in 0..self.slots.len() {
+            let Some(row) = queue.get(i).copied() else {
+                break
+            };
+            self.spread(row, queue)?;
+        }
+        Ok(())
+    }
+
+    /// Finds the cavity of a facet, which has these triangles.
+    fn open(&mut self, triangles: &[Face], queue: &mut Vec<u32>) -> Result<(), Stop> {
+        for t in triangles {
+            if let Some(seed) = self.seed(*t)? {
+                self.flood(seed, queue)?;
+            }
+        }
+        Ok(())
+    }
+
+    /// Puts a facet in, which has these triangles.
+    pub(crate) fn put_in(&mut self, alloc: Global, triangles: &[Face]) -> Result<(), Stop> {
+        let Some(t) = triangles.first() else {
+            return Ok(())
+        };
+        let (a, b, c) = (self.spot(t.a), self.spot(t.b), self.spot(t.c));
+        self.plane = plane_of(or_stop(a)?, or_stop(b)?, or_stop(c)?);
+        self.stamp = self.stamp.wrapping_add(1);
+        self.waiting.clear();
+        let mut queue = Vec::new(alloc);
+        self.open(triangles, &mut queue)?;
+        self.flip_all()
+    }
+}
+
+fn has_corner(slot: &Slot, corner: u32) -> bool {
+    place_of(&slot.corners, corner).is_some()
+}

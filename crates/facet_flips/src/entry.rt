@@ -1,0 +1,81 @@
+//! The whole list with the facets put in.
+use crate::frame::{Frame, frame_of};
+use crate::local::Local;
+use crate::missing::missing_triangles;
+use crate::sheets::{Sheet, Sheets, sheets_of};
+use crate::stop::{Stop, or_stop};
+use geo_laws::{Face, FacetTriangles, Points, TetList};
+use std::alloc::Global;
+use tet_ports::{Items, NoMemory};
+
+/// The triangles of a sheet by the corners of the crossed rows.
+fn faces_of(
+    alloc: Global,
+    sheets: &Sheets,
+    sheet: &Sheet,
+    frame: &Frame,
+) -> Result<Items<Face>, Stop> {
+    let mut faces = Items::new(alloc);
+    for i in sheet.first..sheet.past.min(sheets.missing.len()) {
+        let t = sheets.missing.at(i);
+        faces.push(or_stop(frame.face(t.a, t.b, t.c))?)?;
+    }
+    Ok(faces)
+}
+
+/// Puts all facets in.
+fn put_all(alloc: Global, sheets: &Sheets, frame: &Frame, local: &mut Local) -> Result<(), Stop> {
+    for i in 0..sheets.all.len() {
+        let sheet = sheets.all.at(i);
+        let faces = faces_of(alloc, sheets, &sheet, frame)?;
+        local.put_in(alloc, faces.as_slice())?;
+    }
+    Ok(())
+}
+
+/// Adds the rows that stand in the end to the list.
+fn collect(frame: &Frame, local: &Local, list: &mut TetList) -> Result<(), Stop> {
+    for slot in local.slots.as_slice() {
+        if slot.is_live {
+            list.push(or_stop(frame.row(&slot.corners))?)?;
+        }
+    }
+    Ok(())
+}
+
+/// The rows that no facet crosses, and those that come from the others by flips.
+fn flipped(
+    alloc: Global,
+    points: &Points,
+    list: &TetList,
+    triangles: &FacetTriangles,
+) -> Result<TetList, Stop> {
+    let missing = missing_triangles(alloc, points.len(), list, triangles)?;
+    let sheets = sheets_of(alloc, points, missing)?;
+    let parted = sheets.part(alloc, points, list)?;
+    let frame = frame_of(alloc, points.len(), &parted.crossed)?;
+    let mut local = frame.slots_of(alloc, points, &parted.crossed)?;
+    put_all(alloc, &sheets, &frame, &mut local)?;
+    let mut whole = parted.kept;
+    collect(&frame, &local, &mut whole)?;
+    Ok(whole)
+}
+
+/// A list with the faces of all facets in place of a Delaunay list, in no order, or `None` where
+/// the flips do not come to one. The facets are put in one after another: of those that cross
+/// rows, the points above the plane of the facet are lifted further and further, and the rows flip
+/// as two of them cease to be convex. Nothing is promised of the rows.
+/// Source: Shewchuk, Updating and Constructing Constrained Delaunay and Constrained Regular
+/// Triangulations by Flips (2003).
+pub fn candidate(
+    alloc: Global,
+    points: &Points,
+    list: &TetList,
+    triangles: &FacetTriangles,
+) -> Result<Option<TetList>, NoMemory> {
+    match flipped(alloc, points, list, triangles) {
+        Ok(whole) => Ok(Some(whole)),
+        Err(Stop::GivesUp) => Ok(None),
+        Err(Stop::NoMemory) => Err(NoMemory),
+    }
+}

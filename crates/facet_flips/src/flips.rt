@@ -1,0 +1,250 @@
+//! Faces that are to be flipped, and the flips.
+use crate::circuit::{Kind, Spot, circuit_of, kind_of, sum_of, weight_of};
+use crate::local::{Local, face_opposite, place_or_stop};
+use crate::order::Event;
+use crate::stop::{Stop, or_stop};
+use crate::wide::rank_of;
+
+/// The two corners of a face beside one of it.
+fn beside(face: [u32; 3], apex: u32) -> (u32, u32) {
+    let [a, b, c] = face;
+    if apex == a {
+        (b, c)
+    } else if apex == b {
+        (a, c)
+    } else {
+        (a, b)
+    }
+}
+
+impl Local {
+    /// The corner of a row opposite the face that has the other row across.
+    fn corner_towards(&self, t: u32, other: u32) -> Option<u32> {
+        let slot = self.slot(t)?;
+        for i in 0..4 {
+            if slot.across[i] == Some(other) {
+                return Some(slot.corners[i]);
+            }
+        }
+        None
+    }
+
+    /// The places of five corners.
+    fn spots_at(&self, numbers: &[u32; 5]) -> Option<[Spot; 5]> {
+        let [a, b, c, d, e] = *numbers;
+        let (a, b, c) = (self.spot(a)?, self.spot(b)?, self.spot(c)?);
+        Some([a, b, c, self.spot(d)?, self.spot(e)?])
+    }
+
+    /// The sides of five corners.
+    fn sides_of(&self, numbers: &[u32; 5]) -> Option<[i128; 5]> {
+        let [a, b, c, d, e] = *numbers;
+        let (a, b, c) = (self.side(a)?, self.side(b)?, self.side(c)?);
+        Some([a, b, c, self.side(d)?, self.side(e)?])
+    }
+
+    /// Whether the further rows of a flip are there, of the two rows on both sides of a face. Where
+    /// they are not yet, the flip that makes them looks at this face again.
+    fn is_ready(&self, row: u32, across: u32, numbers: &[u32; 5], kind: Kind) -> bool {
+        let [_, _, _, own, opposite] = *numbers;
+        match kind {
+            Kind::Two => true,
+            Kind::Three { apex } => {
+                let third = self.across(row, apex);
+                third.is_some() && third == self.across(across, apex)
+            }
+            Kind::Four { apex } => match (self.across(row, apex), self.across(across, apex)) {
+                (Some(third), Some(fourth)) => {
+                    self.across(third, own) == Some(fourth)
+                        && self.across(fourth, opposite) == Some(third)
+                }
+                _ => false,
+            },
+            Kind::Never => false,
+        }
+    }
+
+    /// The flip of the face between two rows; `None` where there is none.
+    fn event(&self, row: u32, across: u32, numbers: [u32; 5]) -> Result<Option<Event>, Stop> {
+        let spots = or_stop(self.spots_at(&numbers))?;
+        let circuit = circuit_of(&spots);
+        let [a, b, c, _, _] = numbers;
+        let kind = kind_of(&[a, b, c], &circuit);
+        if !self.is_ready(row, across, &numbers, kind) {
+            return Ok(None);
+        }
+        let sides = or_stop(self.sides_of(&numbers))?;
+        let Some(weight) = weight_of(&circuit, &sides) else {
+            return Ok(None)
+        };
+        let sum = sum_of(&circuit, &spots);
+        if sum < 0 {
+            return Err(Stop::GivesUp);
+        }
+        let sum = sum.unsigned_abs();
+        Ok(Some(Event {
+            row,
+            across,
+            kind,
+            numbers,
+            circuit,
+            sum,
+            weight,
+            rank: rank_of(sum, weight),
+        }))
+    }
+
+    /// Lets the face of a row opposite a corner of it wait, where it is to be flipped.
+    pub(crate) fn look(&mut self, row: u32, own: u32) -> Result<(), Stop> {
+        let slot = or_stop(self.slot(row))?;
+        let place = place_or_stop(&slot.corners, own)?;
+        let face = face_opposite(&slot.corners, place);
+        let Some(across) = slot.across[place] else {
+            return Ok(())
+        };
+        if !self.spans(&face)? {
+            return Ok(());
+        }
+        let opposite = or_stop(self.corner_towards(across, row))?;
+        let [a, b, c] = face;
+        if let Some(event) = self.event(row, across, [a, b, c, own, opposite])? {
+            self.waiting.push(event)?;
+        }
+        Ok(())
+    }
+
+    /// Whether the face of the event is still there.
+    fn stands(&self, e: &Event) -> bool {
+        let own = e.numbers[3];
+        self.is_live(e.row) && self.is_live(e.across) && self.across(e.row, own) == Some(e.across)
+    }
+
+    /// Adds a row with the corner `new` in place of the corner `gone`. The new corner lies beyond
+    /// the face opposite the corner `own`, where `mate` is across, so the row keeps its orientation.
+    fn swing(&mut self, row: u32, mate: u32, own: u32, gone: u32, new: u32) -> Result<u32, Stop> {
+        let slot = or_stop(self.slot(row))?;
+        let i = place_or_stop(&slot.corners, gone)?;
+        let j = place_or_stop(&slot.corners, own)?;
+        let beyond = self.across(mate, gone);
+        let mut corners = slot.corners;
+        corners[i] = new;
+        let mut across = [None; 4];
+        across[i] = slot.across[i];
+        across[j] = beyond;
+        let made = self.add(corners, across)?;
+        self.replace_across(slot.across[i], row, made);
+        self.replace_across(beyond, mate, made);
+        Ok(made)
+    }
+
+    /// Joins two new rows, each at the face opposite the corner that stands after it.
+    fn join(&mut self, one: u32, corner: u32, other: u32, opposite: u32) {
+        self.put_across(one, corner, Some(other));
+        self.put_across(other, opposite, Some(one));
+    }
+
+    /// Puts a new row in the place of an old one, at the face of the new one opposite the corner
+    /// `apex`, which is that of the old one opposite the corner `gone`.
+    fn take_over(&mut self, made: u32, apex: u32, old: u32, gone: u32) {
+        let beyond = self.across(old, gone);
+        self.put_across(made, apex, beyond);
+        self.replace_across(beyond, old, made);
+    }
+
+    /// Looks at the faces opposite two corners.
+    fn look_twice(&mut self, t: u32, one: u32, other: u32) -> Result<(), Stop> {
+        self.look(t, one)?;
+        self.look(t, other)
+    }
+
+    /// Three rows round the segment between the corners that are not in the face, for two.
+    fn flip_two(&mut self, e: &Event) -> Result<(), Stop> {
+        let [a, b, c, own, new] = e.numbers;
+        let at_a = self.swing(e.row, e.across, own, a, new)?;
+        let at_b = self.swing(e.row, e.across, own, b, new)?;
+        let at_c = self.swing(e.row, e.across, own, c, new)?;
+        self.join(at_a, b, at_b, a);
+        self.join(at_a, c, at_c, a);
+        self.join(at_b, c, at_c, b);
+        self.remove(e.row);
+        self.remove(e.across);
+        self.look_twice(at_a, own, new)?;
+        self.look_twice(at_b, own, new)?;
+        self.look_twice(at_c, own, new)
+    }
+
+    /// Two rows for three round a side of the face.
+    fn flip_three(&mut self, e: &Event, apex: u32) -> Result<(), Stop> {
+        let [a, b, c, own, new] = e.numbers;
+        let (p, q) = beside([a, b, c], apex);
+        let third = or_stop(self.across(e.row, apex))?;
+        let at_p = self.swing(e.row, e.across, own, p, new)?;
+        let at_q = self.swing(e.row, e.across, own, q, new)?;
+        self.take_over(at_p, apex, third, p);
+        self.take_over(at_q, apex, third, q);
+        self.join(at_p, q, at_q, p);
+        self.remove(e.row);
+        self.remove(e.across);
+        self.remove(third);
+        self.look(at_p, apex)?;
+        self.look(at_q, apex)?;
+        self.look_twice(at_p, own, new)?;
+        self.look_twice(at_q, own, new)
+    }
+
+    /// Four rows for four round a side that becomes the other diagonal. Between the new rows are
+    /// faces of other circuits than that which is flipped.
+    fn flip_four(&mut self, e: &Event, apex: u32) -> Result<(), Stop> {
+        let [a, b, c, own, new] = e.numbers;
+        let (p, q) = beside([a, b, c], apex);
+        let third = or_stop(self.across(e.row, apex))?;
+        let fourth = or_stop(self.across(e.across, apex))?;
+        let other = or_stop(self.corner_towards(third, e.row))?;
+        let at_p = self.swing(e.row, e.across, own, p, new)?;
+        let at_q = self.swing(e.row, e.across, own, q, new)?;
+        let far_p = self.swing(third, fourth, own, p, new)?;
+        let far_q = self.swing(third, fourth, own, q, new)?;
+        self.join(at_p, q, at_q, p);
+        self.join(far_p, q, far_q, p);
+        self.join(at_p, apex, far_p, other);
+        self.join(at_q, apex, far_q, other);
+        for old in [e.row, e.across, third, fourth] {
+            self.remove(old);
+        }
+        self.look_twice(at_p, q, apex)?;
+        self.look(at_q, apex)?;
+        self.look(far_p, q)?;
+        self.look_twice(at_p, own, new)?;
+        self.look_twice(at_q, own, new)?;
+        self.look_twice(far_p, own, new)?;
+        self.look_twice(far_q, own, new)
+    }
+
+    /// Flips a face, where it is still there.
+    fn flip(&mut self, e: &Event) -> Result<(), Stop> {
+        if !self.stands(e) {
+            return Ok(());
+        }
+        if self.flips_left == 0 || !self.is_ready(e.row, e.across, &e.numbers, e.kind) {
+            return Err(Stop::GivesUp);
+        }
+        self.flips_left -= 1;
+        match e.kind {
+            Kind::Two => self.flip_two(e),
+            Kind::Three { apex } => self.flip_three(e, apex),
+            Kind::Four { apex } => self.flip_four(e, apex),
+            Kind::Never => Ok(()),
+        }
+    }
+
+    /// Flips the faces that wait, until none does.
+    pub(crate) fn flip_all(&mut self) -> Result<(), Stop> {
+        for _ in 0..usize::MAX {
+            let Some(event) = self.waiting.take() else {
+                return Ok(())
+            };
+            self.flip(&event)?;
+        }
+        Err(Stop::GivesUp)
+    }
+}

@@ -1,0 +1,215 @@
+//! The corners of the crossed rows by numbers of their own, in the order of the points.
+use crate::circuit::{Plane, Spot};
+use crate::heap::Waiting;
+use crate::local::Local;
+use crate::stop::{Stop, or_stop};
+use geo_laws::{Face, Points, Tet, TetList, arranged};
+use incidence::{Across, pair_faces};
+use sign_predicates::GridPoint;
+use std::alloc::Global;
+use tet_ports::{Items, NoMemory};
+
+/// So many flips a crossed row are tried: many times as many as were ever needed.
+const FLIPS: usize = 64;
+
+/// The point of each corner, and the corner at each point.
+#[derive(Drop)]
+pub(crate) struct Frame {
+    names: Items<u32>,
+    corners: Items<Option<u32>>,
+}
+
+/// The point with its coordinates as they are.
+pub(crate) fn spot_of(p: GridPoint) -> Spot {
+    Spot {
+        x: i64::from(p.x),
+        y: i64::from(p.y),
+        z: i64::from(p.z),
+    }
+}
+
+fn mark(marks: &mut [bool], number: u32) {
+    let place = number as usize;
+    if place < marks.len() {
+        marks[place] = true;
+    }
+}
+
+/// Marks at the corners of the rows, of so many points.
+fn marks_of(alloc: Global, points: usize, rows: &TetList) -> Result<Vec<bool>, NoMemory> {
+    let mut marks = Vec::new(alloc);
+    marks.resize(points, false)?;
+    for i in 0..rows.len() {
+        let row = rows.at(i);
+        mark(marks.as_mut_slice(), row.a);
+        mark(marks.as_mut_slice(), row.b);
+        mark(marks.as_mut_slice(), row.c);
+        mark(marks.as_mut_slice(), row.d);
+    }
+    Ok(marks)
+}
+
+/// The corners of the rows, of so many points.
+pub(crate) fn frame_of(alloc: Global, points: usize, rows: &TetList) -> Result<Frame, Stop> {
+    let marks = marks_of(alloc, points, rows)?;
+    let mut names = Items::new(alloc);
+    let mut corners = Items::with_capacity(alloc, points)?;
+    for i in 0..marks.len() {
+        if marks[i] {
+            corners.push(Some(or_stop(u32::try_from(names.len()).ok())?))?;
+            names.push(or_stop(u32::try_from(i).ok())?)?;
+        } else {
+            corners.push(None)?;
+        }
+    }
+    Ok(Frame { names, corners })
+}
+
+impl Frame {
+    /// The corner at a point.
+    fn corner(&self, point: u32) -> Option<u32> {
+        self.corners
+            .as_slice()
+            .get(point as usize)
+            .copied()
+            .flatten()
+    }
+
+    /// The point of a corner.
+    fn name(&self, corner: u32) -> Option<u32> {
+        self.names.as_slice().get(corner as usize).copied()
+    }
+
+    /// The triangle of three points by its corners.
+    pub(crate) fn face(&self, a: u32, b: u32, c: u32) -> Option<Face> {
+        Some(Face {
+            a: self.corner(a)?,
+            b: self.corner(b)?,
+            c: self.corner(c)?,
+        })
+    }
+
+    /// The row of four points by its corners.
+    fn local(&self, row: Tet) -> Option<Tet> {
+        Some(Tet {
+            a: self.corner(row.a)?,
+            b: self.corner(row.b)?,
+            c: self.corner(row.c)?,
+            d: self.corner(row.d)?,
+        })
+    }
+
+    /// The row of four corners by its points, in its least even arrangement.
+    pub(crate) fn row(&self, corners: &[u32; 4]) -> Option<Tet> {
+        let [a, b, c, d] = *corners;
+        Some(arranged(Tet {
+            a: self.name(a)?,
+            b: self.name(b)?,
+            c: self.name(c)?,
+            d: self.name(d)?,
+        }))
+    }
+
+    /// The corners' differences from the first of them.
+    fn differences(&self, alloc: Global, points: &Points) -> Result<Vec<Spot>, Stop> {
+        let all = points.as_slice();
+        let mut spots = Vec::with_capacity(alloc, self.names.len())?;
+        let mut base = None;
+        for name in self.names.as_slice() {
+            let spot = spot_of(or_stop(all.get(*name as usize).copied())?);
+            let first = *base.get_or_insert(spot);
+            spots.push(between(first, spot))?;
+        }
+        Ok(spots)
+    }
+
+    /// The rows by their corners.
+    fn locals(&self, alloc: Global, rows: &TetList) -> Result<TetList, Stop> {
+        let mut local = TetList::with_capacity(alloc, rows.len())?;
+        for i in 0..rows.len() {
+            local.push(or_stop(self.local(rows.at(i)))?)?;
+        }
+        Ok(local)
+    }
+
+    /// The rows in slots, with no facet put in yet.
+    pub(crate) fn slots_of(
+        &self,
+        alloc: Global,
+        points: &Points,
+        rows: &TetList,
+    ) -> Result<Local, Stop> {
+        let mut spots = self.differences(alloc, points)?;
+        without_power(&mut spots);
+        let mut heads = Vec::new(alloc);
+        heads.resize(self.names.len(), None)?;
+        let nowhere = Spot { x: 0, y: 0, z: 0 };
+        let mut local = Local {
+            slots: Vec::with_capacity(alloc, rows.len())?,
+            spots,
+            heads,
+            plane: Plane {
+                normal: nowhere,
+                corner: nowhere,
+            },
+            stamp: 0,
+            waiting: Waiting::new(alloc),
+            flips_left: rows.len().saturating_mul(FLIPS),
+        };
+        local.fill(alloc, &self.locals(alloc, rows)?)?;
+        Ok(local)
+    }
+}
+
+/// The vector from one point to the other.
+fn between(a: Spot, b: Spot) -> Spot {
+    Spot {
+        x: b.x.wrapping_sub(a.x),
+        y: b.y.wrapping_sub(a.y),
+        z: b.z.wrapping_sub(a.z),
+    }
+}
+
+/// Takes the common power of two out of all coordinates.
+fn without_power(spots: &mut [Spot]) {
+    let mut bits = 0;
+    for spot in spots.iter() {
+        bits |= spot.x | spot.y | spot.z;
+    }
+    let power = bits.trailing_zeros();
+    for i in 0..spots.len() {
+        let Spot { x, y, z } = spots[i];
+        spots[i] = Spot {
+            x: x.wrapping_shr(power),
+            y: y.wrapping_shr(power),
+            z: z.wrapping_shr(power),
+        };
+    }
+}
+
+fn in_32_bits(place: Option<usize>) -> Option<u32> {
+    u32::try_from(place?).ok()
+}
+
+/// What is across the faces of a row, by slots.
+fn across_of(across: Across) -> [Option<u32>; 4] {
+    let Across { n0, n1, n2, n3 } = across;
+    [
+        in_32_bits(n0),
+        in_32_bits(n1),
+        in_32_bits(n2),
+        in_32_bits(n3),
+    ]
+}
+
+impl Local {
+    /// Adds all rows, each with what is across its faces.
+    fn fill(&mut self, alloc: Global, rows: &TetList) -> Result<(), Stop> {
+        let pairs = pair_faces(alloc, rows)?;
+        for i in 0..rows.len().min(pairs.len()) {
+            let Tet { a, b, c, d } = rows.at(i);
+            self.add([a, b, c, d], across_of(pairs.at(i)))?;
+        }
+        Ok(())
+    }
+}

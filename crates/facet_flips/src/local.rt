@@ -1,0 +1,168 @@
+//! The crossed rows while facets are put in: slots with what is across the faces of each row, and
+//! lists of the rows at each corner. Corners have numbers of their own, in the order of the points.
+ghost use Rattle.std.specs.Prelude.{◌<◌, IfSome, IfOk};
+
+use crate::circuit::{Plane, Spot, side_of};
+use crate::heap::Waiting;
+use crate::stop::{Stop, or_stop};
+
+/// A row: its corners, what is across the face opposite each, the next slot in the list of each
+/// corner, the last facet whose cavity it was found in, and whether it still stands.
+#[derive(Clone, Copy)]
+pub(crate) struct Slot {
+    pub(crate) corners: [u32; 4],
+    pub(crate) across: [Option<u32>; 4],
+    pub(crate) next: [Option<u32>; 4],
+    pub(crate) stamp: u32,
+    pub(crate) is_live: bool,
+}
+
+/// The rows, the places of their corners, the first slot in the list of each corner, the plane of
+/// the facet that is put in, the faces that wait to be flipped, and how many flips are left.
+#[derive(Drop)]
+pub(crate) struct Local {
+    pub(crate) slots: Vec<Slot>,
+    pub(crate) spots: Vec<Spot>,
+    pub(crate) heads: Vec<Option<u32>>,
+    pub(crate) plane: Plane,
+    pub(crate) stamp: u32,
+    pub(crate) waiting: Waiting,
+    pub(crate) flips_left: usize,
+}
+
+/// The place of a corner in a row.
+pub(crate) fn place_of(corners: &[u32; 4], corner: u32) -> Option<usize>
+    ensures { IfSome result (λ i. i < 4) }
+{
+    for i in 0..4 {
+        if corners[i] == corner {
+            return Some(i);
+        }
+    }
+    None
+}
+
+/// The same, or the end of the flips.
+pub(crate) fn place_or_stop(corners: &[u32; 4], corner: u32) -> Result<usize, Stop>
+    ensures { IfOk result (λ i. i < 4) }
+{
+    match place_of(corners, corner) {
+        Some(i) => Ok(i),
+        None => Err(Stop::GivesUp),
+    }
+}
+
+/// The corners of the face opposite a corner of a row, so that the corner is on its positive side.
+pub(crate) fn face_opposite(corners: &[u32; 4], i: usize) -> [u32; 3] {
+    let [a, b, c, d] = *corners;
+    match i {
+        0 => [b, d, c],
+        1 => [a, c, d],
+        2 => [a, d, b],
+        _ => [a, b, c],
+    }
+}
+
+impl Local {
+    /// The slot with this number.
+    pub(crate) fn slot(&self, t: u32) -> Option<Slot> {
+        self.slots.get(t as usize).copied()
+    }
+
+    /// The place of a corner.
+    pub(crate) fn spot(&self, corner: u32) -> Option<Spot> {
+        self.spots.get(corner as usize).copied()
+    }
+
+    /// The side of the facet's plane on which a corner lies.
+    pub(crate) fn side(&self, corner: u32) -> Option<i128> {
+        Some(side_of(&self.plane, self.spot(corner)?))
+    }
+
+    /// What is across the face of a row opposite a corner of it.
+    pub(crate) fn across(&self, t: u32, corner: u32) -> Option<u32> {
+        let slot = self.slot(t)?;
+        let i = place_of(&slot.corners, corner)?;
+        slot.across[i]
+    }
+
+    /// Adds a row, and enters it in the lists of its corners.
+    pub(crate) fn add(&mut self, corners: [u32; 4], across: [Option<u32>; 4]) -> Result<u32, Stop> {
+        let t = or_stop(u32::try_from(self.slots.len()).ok())?;
+        let mut next = [None; 4];
+        for i in 0..4 {
+            let place = corners[i] as usize;
+            if place < self.heads.len() {
+                next[i] = self.heads[place];
+                self.heads[place] = Some(t);
+            }
+        }
+        self.slots.push(Slot {
+            corners,
+            across,
+            next,
+            stamp: self.stamp,
+            is_live: true,
+        })?;
+        Ok(t)
+    }
+
+    /// Puts what is across the face of a row opposite a corner of it.
+    pub(crate) fn put_across(&mut self, t: u32, corner: u32, other: Option<u32>) {
+        let place = t as usize;
+        if place < self.slots.len() {
+            let slot = &mut self.slots[place];
+            if let Some(i) = place_of(&slot.corners, corner) {
+                slot.across[i] = other;
+            }
+        }
+    }
+
+    /// Puts a new row in the place of an old one across a face of a row, if there is this row.
+    pub(crate) fn replace_across(&mut self, t: Option<u32>, old: u32, new: u32) {
+        let Some(t) = t else { return };
+        let place = t as usize;
+        if place < self.slots.len() {
+            let slot = &mut self.slots[place];
+            for i in 0..4 {
+                if slot.across[i] == Some(old) {
+                    slot.across[i] = Some(new);
+                }
+            }
+        }
+    }
+
+    /// Whether the row still stands.
+    pub(crate) fn is_live(&self, t: u32) -> bool {
+        self.slot(t).is_some_and(|slot| slot.is_live)
+    }
+
+    /// Takes a row away.
+    pub(crate) fn remove(&mut self, t: u32) {
+        let place = t as usize;
+        if place < self.slots.len() {
+            self.slots[place].is_live = false;
+        }
+    }
+
+    /// Notes that the row was found in the cavity of the facet; whether it was not before.
+    pub(crate) fn enter(&mut self, t: u32) -> bool {
+        let place = t as usize;
+        if place >= self.slots.len() || self.slots[place].stamp == self.stamp {
+            return false;
+        }
+        self.slots[place].stamp = self.stamp;
+        true
+    }
+
+    /// Whether corners of a face lie above the facet's plane, and others below.
+    pub(crate) fn spans(&self, face: &[u32; 3]) -> Result<bool, Stop> {
+        let (mut above, mut below) = (false, false);
+        for i in 0..3 {
+            let side = or_stop(self.side(face[i]))?;
+            above = above || side > 0;
+            below = below || side < 0;
+        }
+        Ok(above && below)
+    }
+}

@@ -1,0 +1,331 @@
+//! The rows that facets cross, found by one sheet a facet: its missing triangles and their plane.
+//! All segments of the facets are sides of rows, so a facet takes the whole section of its plane
+//! with a row, or nothing of it. So one point of the section tells.
+ghost use Rattle.box_tree.specs.Tree.{IsTree};
+
+use crate::circuit::{Plane, Spot, plane_of, side_of, volume_over};
+use crate::frame::spot_of;
+use crate::stop::{Stop, or_stop};
+use box_tree::{
+    Bounds, Boxed, Interval, Tree, joined, next_meeting, point_bounds, tree_of, with_key,
+};
+use geo_laws::{FacetTriangle, FacetTriangles, Points, Tet, TetList};
+use sign_predicates::GridPoint;
+use std::alloc::Global;
+use tet_ports::{Items, NoMemory};
+
+/// Some missing triangles of a facet, which follow one another and lie in one plane, and the box
+/// round them.
+#[derive(Clone, Copy)]
+pub(crate) struct Sheet {
+    facet: u32,
+    pub(crate) first: usize,
+    pub(crate) past: usize,
+    plane: Plane,
+    bounds: Bounds,
+}
+
+/// Missing triangles and their sheets, with trees of the boxes of both.
+#[derive(Drop)]
+pub(crate) struct Sheets {
+    pub(crate) missing: FacetTriangles,
+    pub(crate) all: Items<Sheet>,
+    sheet_tree: Tree,
+    triangle_tree: Tree,
+    ghost sheets_are: { IsTree sheet_tree },
+    ghost triangles_are: { IsTree triangle_tree },
+}
+
+/// The rows that no facet crosses, and those that are crossed.
+#[derive(Drop)]
+pub(crate) struct Parted {
+    pub(crate) kept: TetList,
+    pub(crate) crossed: TetList,
+}
+
+/// The corners of a triangle, and the box round them.
+#[derive(Clone, Copy)]
+struct Corners {
+    a: Spot,
+    b: Spot,
+    c: Spot,
+    bounds: Bounds,
+}
+
+/// The corners of a row, and the box round them.
+#[derive(Clone, Copy)]
+struct Body {
+    corners: [GridPoint; 4],
+    bounds: Bounds,
+}
+
+/// A way through a plane, and a box round the point where it passes it.
+#[derive(Clone, Copy)]
+struct Leg {
+    from: Spot,
+    to: Spot,
+    bounds: Bounds,
+}
+
+/// The place of a body whose box meets another, and the node after its own.
+#[derive(Clone, Copy)]
+struct Found {
+    place: usize,
+    next: usize,
+}
+
+/// The first body from a node on whose box meets this one.
+fn next_of(tree: &Tree, bounds: &Bounds, from: usize) -> Option<Found>
+    requires { IsTree tree.now }
+{
+    if tree.len() < from {
+        return None;
+    }
+    let i = next_meeting(tree, bounds, from);
+    if tree.len() <= i {
+        return None;
+    }
+    Some(Found {
+        place: tree.get(i).own.place,
+        next: i + 1,
+    })
+}
+
+fn point_at(points: &Points, number: u32) -> Option<GridPoint> {
+    points.as_slice().get(number as usize).copied()
+}
+
+fn corners_of(points: &Points, t: FacetTriangle) -> Option<Corners> {
+    let (a, b) = (point_at(points, t.a)?, point_at(points, t.b)?);
+    let c = point_at(points, t.c)?;
+    Some(Corners {
+        a: spot_of(a),
+        b: spot_of(b),
+        c: spot_of(c),
+        bounds: joined(joined(point_bounds(a), point_bounds(b)), point_bounds(c)),
+    })
+}
+
+fn body_of(points: &Points, row: Tet) -> Option<Body> {
+    let (a, b) = (point_at(points, row.a)?, point_at(points, row.b)?);
+    let (c, d) = (point_at(points, row.c)?, point_at(points, row.d)?);
+    let one = joined(point_bounds(a), point_bounds(b));
+    let two = joined(point_bounds(c), point_bounds(d));
+    Some(Body {
+        corners: [a, b, c, d],
+        bounds: joined(one, two),
+    })
+}
+
+/// The sheet with a further triangle, where it is one of this facet and plane.
+fn widened(sheet: Sheet, facet: u32, t: &Corners) -> Option<Sheet> {
+    let is_flat = side_of(&sheet.plane, t.a) == 0
+        && side_of(&sheet.plane, t.b) == 0
+        && side_of(&sheet.plane, t.c) == 0;
+    if sheet.facet != facet || !is_flat {
+        return None;
+    }
+    Some(Sheet {
+        past: sheet.past.saturating_add(1),
+        bounds: joined(sheet.bounds, t.bounds),
+        ..sheet
+    })
+}
+
+/// The sheet of one triangle at a place.
+fn sheet_of(place: usize, facet: u32, t: &Corners) -> Sheet {
+    Sheet {
+        facet,
+        first: place,
+        past: place.saturating_add(1),
+        plane: plane_of(t.a, t.b, t.c),
+        bounds: t.bounds,
+    }
+}
+
+/// The sheets of the triangles.
+fn all_sheets(
+    alloc: Global,
+    points: &Points,
+    missing: &FacetTriangles,
+) -> Result<Items<Sheet>, Stop> {
+    let mut all = Items::new(alloc);
+    let mut open = None;
+    for i in 0..missing.len() {
+        let t = missing.at(i);
+        let corners = or_stop(corners_of(points, t))?;
+        let Some(sheet) = open else {
+            open = Some(sheet_of(i, t.facet, &corners));
+            continue;
+        };
+        match widened(sheet, t.facet, &corners) {
+            Some(wider) => open = Some(wider),
+            None => {
+                all.push(sheet)?;
+                open = Some(sheet_of(i, t.facet, &corners));
+            }
+        }
+    }
+    if let Some(sheet) = open {
+        all.push(sheet)?;
+    }
+    Ok(all)
+}
+
+fn boxes_of_sheets(alloc: Global, all: &Items<Sheet>) -> Result<Items<Boxed>, NoMemory> {
+    let mut boxes = Items::with_capacity(alloc, all.len())?;
+    for i in 0..all.len() {
+        boxes.push(with_key(all.at(i).bounds, i))?;
+    }
+    Ok(boxes)
+}
+
+fn boxes_of_triangles(
+    alloc: Global,
+    points: &Points,
+    missing: &FacetTriangles,
+) -> Result<Items<Boxed>, Stop> {
+    let mut boxes = Items::with_capacity(alloc, missing.len())?;
+    for i in 0..missing.len() {
+        let corners = or_stop(corners_of(points, missing.at(i)))?;
+        boxes.push(with_key(corners.bounds, i))?;
+    }
+    Ok(boxes)
+}
+
+/// The sheets of missing triangles.
+pub(crate) fn sheets_of(
+    alloc: Global,
+    points: &Points,
+    missing: FacetTriangles,
+) -> Result<Sheets, Stop> {
+    let all = all_sheets(alloc, points, &missing)?;
+    let sheet_tree = tree_of(alloc, boxes_of_sheets(alloc, &all)?)?;
+    let triangle_tree = tree_of(alloc, boxes_of_triangles(alloc, points, &missing)?)?;
+    Ok(Sheets {
+        missing,
+        all,
+        sheet_tree,
+        triangle_tree,
+    })
+}
+
+/// An interval round the number that divides the way from one number to the other in the ratio of
+/// `above` to `below`, with room for rounding.
+fn interval_between(p: i32, q: i32, above: i128, below: i128) -> Option<Interval> {
+    let way = i128::from(q).wrapping_sub(i128::from(p));
+    let part = way
+        .wrapping_mul(above)
+        .checked_div(above.wrapping_add(below))?;
+    let at = i128::from(p).wrapping_add(part);
+    Some(Interval {
+        low: i32::try_from(at.wrapping_sub(2)).ok()?,
+        high: i32::try_from(at.wrapping_add(2)).ok()?,
+    })
+}
+
+/// A way through the plane between two corners of the row; `None` where it has none.
+fn leg_of(plane: &Plane, body: &Body) -> Option<Leg> {
+    let mut over = None;
+    let mut under = None;
+    for p in body.corners {
+        let side = side_of(plane, spot_of(p));
+        if side > 0 {
+            over = Some((p, side));
+        } else if side < 0 {
+            under = Some((p, side.wrapping_neg()));
+        }
+    }
+    let ((p, above), (q, below)) = (over?, under?);
+    Some(Leg {
+        from: spot_of(p),
+        to: spot_of(q),
+        bounds: Bounds {
+            x: interval_between(p.x, q.x, above, below)?,
+            y: interval_between(p.y, q.y, above, below)?,
+            z: interval_between(p.z, q.z, above, below)?,
+        },
+    })
+}
+
+/// Whether the leg passes the triangle, whichever way it is turned.
+fn is_passed(leg: &Leg, t: &Corners) -> bool {
+    let x = volume_over(leg.from, leg.to, t.a, t.b);
+    let y = volume_over(leg.from, leg.to, t.b, t.c);
+    let z = volume_over(leg.from, leg.to, t.c, t.a);
+    (x <= 0 && y <= 0 && z <= 0) || (x >= 0 && y >= 0 && z >= 0)
+}
+
+impl Sheets {
+    /// Whether the leg passes the triangle at this place, which is one of the sheet.
+    fn passes(&self, points: &Points, sheet: &Sheet, leg: &Leg, place: usize) -> bool {
+        if place < sheet.first || sheet.past <= place || self.missing.len() <= place {
+            return false;
+        }
+        corners_of(points, self.missing.at(place)).is_some_and(|t| is_passed(leg, &t))
+    }
+
+    /// Whether the sheet at this place crosses the row.
+    fn crosses(&self, points: &Points, body: &Body, place: usize) -> bool {
+        if self.all.len() <= place {
+            return false;
+        }
+        let sheet = self.all.at(place);
+        let Some(leg) = leg_of(&sheet.plane, body) else {
+            return false
+        };
+        let mut next = 0;
+        for _ in 0..self.triangle_tree.len() {
+            let Some(found) = next_of(&self.triangle_tree, &leg.bounds, next) else {
+                return false
+            };
+            if self.passes(points, &sheet, &leg, found.place) {
+                return true;
+            }
+            next = found.next;
+        }
+        false
+    }
+
+    /// Whether some sheet crosses the row. That at the place `last`, which often crosses the next
+    /// row too, is looked at first.
+    fn cross(&self, points: &Points, body: &Body, last: &mut usize) -> bool {
+        if self.crosses(points, body, *last) {
+            return true;
+        }
+        let mut next = 0;
+        for _ in 0..self.sheet_tree.len() {
+            let Some(found) = next_of(&self.sheet_tree, &body.bounds, next) else {
+                return false
+            };
+            if found.place != *last && self.crosses(points, body, found.place) {
+                *last = found.place;
+                return true;
+            }
+            next = found.next;
+        }
+        false
+    }
+
+    /// The rows that facets cross, and the others.
+    pub(crate) fn part(
+        &self,
+        alloc: Global,
+        points: &Points,
+        list: &TetList,
+    ) -> Result<Parted, Stop> {
+        let mut kept = TetList::new(alloc);
+        let mut crossed = TetList::new(alloc);
+        let mut last = 0;
+        for i in 0..list.len() {
+            let row = list.at(i);
+            let body = or_stop(body_of(points, row))?;
+            if self.cross(points, &body, &mut last) {
+                crossed.push(row)?;
+            } else {
+                kept.push(row)?;
+            }
+        }
+        Ok(Parted { kept, crossed })
+    }
+}
