@@ -2,7 +2,7 @@
 use crate::frame::{Frame, frame_of};
 use crate::local::Local;
 use crate::missing::missing_triangles;
-use crate::sheets::{Sheet, Sheets, sheets_of};
+use crate::sheets::{Sheets, Span, sheets_of};
 use crate::stop::{Stop, or_stop};
 use geo_laws::{Face, FacetTriangles, Points, TetList};
 use std::alloc::Global;
@@ -12,11 +12,11 @@ use tet_ports::{Items, NoMemory};
 fn faces_of(
     alloc: Global,
     sheets: &Sheets,
-    sheet: &Sheet,
+    span: &Span,
     frame: &Frame,
 ) -> Result<Items<Face>, Stop> {
     let mut faces = Items::new(alloc);
-    for i in sheet.first..sheet.past.min(sheets.missing.len()) {
+    for i in span.first..span.past.min(sheets.missing.len()) {
         let t = sheets.missing.at(i);
         faces.push(or_stop(frame.face(t.a, t.b, t.c))?)?;
     }
@@ -26,8 +26,7 @@ fn faces_of(
 /// Puts all facets in.
 fn put_all(alloc: Global, sheets: &Sheets, frame: &Frame, local: &mut Local) -> Result<(), Stop> {
     for i in 0..sheets.all.len() {
-        let sheet = sheets.all.at(i);
-        let faces = faces_of(alloc, sheets, &sheet, frame)?;
+        let faces = faces_of(alloc, sheets, &sheets.all.get(i).span, frame)?;
         local.put_in(alloc, faces.as_slice())?;
     }
     Ok(())

@@ -31,6 +31,9 @@ fn coefficient(e: &Event, number: u32) -> i128 {
 /// The order of `c / weight` of one and of the other.
 fn by_corner(e: &Event, f: &Event, number: u32) -> Ordering {
     let (c, d) = (coefficient(e, number), coefficient(f, number));
+    if e.weight == f.weight {
+        return c.cmp(&d);
+    }
     if c.signum() != d.signum() {
         return c.signum().cmp(&d.signum());
     }
@@ -66,8 +69,11 @@ fn by_corners(e: &Event, f: &Event) -> Ordering {
     Ordering::Equal
 }
 
-/// The order of the quotients.
+/// The order of the quotients. The events of one circuit have one weight.
 fn by_quotient(e: &Event, f: &Event) -> Ordering {
+    if e.weight == f.weight {
+        return e.sum.cmp(&f.sum);
+    }
     times(f.weight, e.sum).cmp(&times(e.weight, f.sum))
 }
 

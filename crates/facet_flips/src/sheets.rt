@@ -7,7 +7,8 @@ use crate::circuit::{Plane, Spot, plane_of, side_of, volume_over};
 use crate::frame::spot_of;
 use crate::stop::{Stop, or_stop};
 use box_tree::{
-    Bounds, Boxed, Interval, Tree, joined, next_meeting, point_bounds, tree_of, with_key,
+    Bounds, Boxed, Interval, Tree, are_bounds_apart, joined, next_meeting, point_bounds, tree_of,
+    with_key,
 };
 use geo_laws::{FacetTriangle, FacetTriangles, Points, Tet, TetList};
 use sign_predicates::GridPoint;
@@ -17,7 +18,7 @@ use tet_ports::{Items, NoMemory};
 /// Some missing triangles of a facet, which follow one another and lie in one plane, and the box
 /// round them.
 #[derive(Clone, Copy)]
-pub(crate) struct Sheet {
+pub(crate) struct Span {
     facet: u32,
     pub(crate) first: usize,
     pub(crate) past: usize,
@@ -25,15 +26,21 @@ pub(crate) struct Sheet {
     bounds: Bounds,
 }
 
-/// Missing triangles and their sheets, with trees of the boxes of both.
+/// A sheet: such triangles with the tree of their boxes.
+#[derive(Drop)]
+pub(crate) struct Sheet {
+    pub(crate) span: Span,
+    tree: Tree,
+    ghost tree_is: { IsTree tree },
+}
+
+/// Missing triangles and their sheets, with the tree of the boxes of the sheets.
 #[derive(Drop)]
 pub(crate) struct Sheets {
     pub(crate) missing: FacetTriangles,
     pub(crate) all: Items<Sheet>,
-    sheet_tree: Tree,
-    triangle_tree: Tree,
-    ghost sheets_are: { IsTree sheet_tree },
-    ghost triangles_are: { IsTree triangle_tree },
+    tree: Tree,
+    ghost tree_is: { IsTree tree },
 }
 
 /// The rows that no facet crosses, and those that are crossed.
@@ -117,24 +124,24 @@ fn body_of(points: &Points, row: Tet) -> Option<Body> {
     })
 }
 
-/// The sheet with a further triangle, where it is one of this facet and plane.
-fn widened(sheet: Sheet, facet: u32, t: &Corners) -> Option<Sheet> {
-    let is_flat = side_of(&sheet.plane, t.a) == 0
-        && side_of(&sheet.plane, t.b) == 0
-        && side_of(&sheet.plane, t.c) == 0;
-    if sheet.facet != facet || !is_flat {
+/// The span with a further triangle, where it is one of this facet and plane.
+fn widened(span: Span, facet: u32, t: &Corners) -> Option<Span> {
+    let is_flat = side_of(&span.plane, t.a) == 0
+        && side_of(&span.plane, t.b) == 0
+        && side_of(&span.plane, t.c) == 0;
+    if span.facet != facet || !is_flat {
         return None;
     }
-    Some(Sheet {
-        past: sheet.past.saturating_add(1),
-        bounds: joined(sheet.bounds, t.bounds),
-        ..sheet
+    Some(Span {
+        past: span.past.saturating_add(1),
+        bounds: joined(span.bounds, t.bounds),
+        ..span
     })
 }
 
-/// The sheet of one triangle at a place.
-fn sheet_of(place: usize, facet: u32, t: &Corners) -> Sheet {
-    Sheet {
+/// The span of one triangle at a place.
+fn span_of(place: usize, facet: u32, t: &Corners) -> Span {
+    Span {
         facet,
         first: place,
         past: place.saturating_add(1),
@@ -143,36 +150,36 @@ fn sheet_of(place: usize, facet: u32, t: &Corners) -> Sheet {
     }
 }
 
-/// The sheets of the triangles.
-fn all_sheets(
+/// The spans of the triangles.
+fn all_spans(
     alloc: Global,
     points: &Points,
     missing: &FacetTriangles,
-) -> Result<Items<Sheet>, Stop> {
+) -> Result<Items<Span>, Stop> {
     let mut all = Items::new(alloc);
     let mut open = None;
     for i in 0..missing.len() {
         let t = missing.at(i);
         let corners = or_stop(corners_of(points, t))?;
-        let Some(sheet) = open else {
-            open = Some(sheet_of(i, t.facet, &corners));
+        let Some(span) = open else {
+            open = Some(span_of(i, t.facet, &corners));
             continue;
         };
-        match widened(sheet, t.facet, &corners) {
+        match widened(span, t.facet, &corners) {
             Some(wider) => open = Some(wider),
             None => {
-                all.push(sheet)?;
-                open = Some(sheet_of(i, t.facet, &corners));
+                all.push(span)?;
+                open = Some(span_of(i, t.facet, &corners));
             }
         }
     }
-    if let Some(sheet) = open {
-        all.push(sheet)?;
+    if let Some(span) = open {
+        all.push(span)?;
     }
     Ok(all)
 }
 
-fn boxes_of_sheets(alloc: Global, all: &Items<Sheet>) -> Result<Items<Boxed>, NoMemory> {
+fn boxes_of_spans(alloc: Global, all: &Items<Span>) -> Result<Items<Boxed>, NoMemory> {
     let mut boxes = Items::with_capacity(alloc, all.len())?;
     for i in 0..all.len() {
         boxes.push(with_key(all.at(i).bounds, i))?;
@@ -180,17 +187,20 @@ fn boxes_of_sheets(alloc: Global, all: &Items<Sheet>) -> Result<Items<Boxed>, No
     Ok(boxes)
 }
 
-fn boxes_of_triangles(
+/// A sheet with the tree of the boxes of its triangles.
+fn sheet_of(
     alloc: Global,
     points: &Points,
     missing: &FacetTriangles,
-) -> Result<Items<Boxed>, Stop> {
-    let mut boxes = Items::with_capacity(alloc, missing.len())?;
-    for i in 0..missing.len() {
+    span: Span,
+) -> Result<Sheet, Stop> {
+    let mut boxes = Items::new(alloc);
+    for i in span.first..span.past.min(missing.len()) {
         let corners = or_stop(corners_of(points, missing.at(i)))?;
         boxes.push(with_key(corners.bounds, i))?;
     }
-    Ok(boxes)
+    let tree = tree_of(alloc, boxes)?;
+    Ok(Sheet { span, tree })
 }
 
 /// The sheets of missing triangles.
@@ -199,15 +209,13 @@ pub(crate) fn sheets_of(
     points: &Points,
     missing: FacetTriangles,
 ) -> Result<Sheets, Stop> {
-    let all = all_sheets(alloc, points, &missing)?;
-    let sheet_tree = tree_of(alloc, boxes_of_sheets(alloc, &all)?)?;
-    let triangle_tree = tree_of(alloc, boxes_of_triangles(alloc, points, &missing)?)?;
-    Ok(Sheets {
-        missing,
-        all,
-        sheet_tree,
-        triangle_tree,
-    })
+    let spans = all_spans(alloc, points, &missing)?;
+    let mut all = Items::new(alloc);
+    for i in 0..spans.len() {
+        all.push(sheet_of(alloc, points, &missing, spans.at(i))?)?;
+    }
+    let tree = tree_of(alloc, boxes_of_spans(alloc, &spans)?)?;
+    Ok(Sheets { missing, all, tree })
 }
 
 /// An interval round the number that divides the way from one number to the other in the ratio of
@@ -257,9 +265,9 @@ fn is_passed(leg: &Leg, t: &Corners) -> bool {
 }
 
 impl Sheets {
-    /// Whether the leg passes the triangle at this place, which is one of the sheet.
-    fn passes(&self, points: &Points, sheet: &Sheet, leg: &Leg, place: usize) -> bool {
-        if place < sheet.first || sheet.past <= place || self.missing.len() <= place {
+    /// Whether the leg passes the triangle at this place.
+    fn passes(&self, points: &Points, leg: &Leg, place: usize) -> bool {
+        if self.missing.len() <= place {
             return false;
         }
         corners_of(points, self.missing.at(place)).is_some_and(|t| is_passed(leg, &t))
@@ -270,16 +278,19 @@ impl Sheets {
         if self.all.len() <= place {
             return false;
         }
-        let sheet = self.all.at(place);
-        let Some(leg) = leg_of(&sheet.plane, body) else {
+        let sheet = self.all.get(place);
+        if are_bounds_apart(&sheet.span.bounds, &body.bounds) {
+            return false;
+        }
+        let Some(leg) = leg_of(&sheet.span.plane, body) else {
             return false
         };
         let mut next = 0;
-        for _ in 0..self.triangle_tree.len() {
-            let Some(found) = next_of(&self.triangle_tree, &leg.bounds, next) else {
+        for _ in 0..sheet.tree.len() {
+            let Some(found) = next_of(&sheet.tree, &leg.bounds, next) else {
                 return false
             };
-            if self.passes(points, &sheet, &leg, found.place) {
+            if self.passes(points, &leg, found.place) {
                 return true;
             }
             next = found.next;
@@ -294,8 +305,8 @@ impl Sheets {
             return true;
         }
         let mut next = 0;
-        for _ in 0..self.sheet_tree.len() {
-            let Some(found) = next_of(&self.sheet_tree, &body.bounds, next) else {
+        for _ in 0..self.tree.len() {
+            let Some(found) = next_of(&self.tree, &body.bounds, next) else {
                 return false
             };
             if found.place != *last && self.crosses(points, body, found.place) {
