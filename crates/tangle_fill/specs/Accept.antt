@@ -1,0 +1,56 @@
+-- What is asked of each row of a list that was found in any way, and of the list indexed by the sides of its faces.
+use Rattle.std.specs.Prelude.{◌≡◌, IsTrue, List, map, All, AllPairs, Any, Contains}
+use Rattle.std.specs.List.{AllByRecursion}
+use Rattle.sign_predicates.specs.Point.{Point}
+use Rattle.sign_predicates.specs.Orientation.{IsPositive}
+use Rattle.geo_laws.specs.Delaunay.{corners, IsOn, IsArranged}
+use Rattle.geo_laws.specs.Faces.{row_faces}
+use Rattle.geo_laws.specs.Mesh.{IsLocallyDelaunay}
+use Rattle.geo_laws.specs.declared.faces.Face.{Face}
+use Rattle.geo_laws.specs.declared.tetrahedra.Tet.{Tet}
+use Rattle.geo_laws.specs.declared.complex.FacetTriangle.{FacetTriangle}
+use Rattle.tangle_laws.specs.Tangle.{has_face, facet_face}
+use Rattle.tangle_laws.specs.Growth.{ShareNoSide, triangle_face}
+use Rattle.tangle_fill.specs.Indexed.{IsIndexed}
+use Rattle.tangle_fill.specs.Smooth.{HoldsBelow}
+use Rattle.tangle_fill.specs.declared.growth.Growth.{Growth}
+
+-- on the points, positive and in the least even arrangement
+abbrev pub IsRow : List Point → Tet → Type 0
+IsRow ps t = IsOn ps t × IsPositive (corners ps t) × IsArranged t
+
+-- each row is so
+abbrev pub AreRows : List Point → List Tet → Type 0
+AreRows ps rows = All (IsRow ps) rows
+
+-- these rows, found by the sides on which they lie, no two of them on one side of a face
+pub record IsIndexOf (rows : List Tet) (g : Growth) : Type 0 where
+  pub same : g.rows ≡ rows
+  pub one_a_side : AllPairs ShareNoSide g.rows
+  pub indexed : IsIndexed g
+
+-- rows that are so, found by the sides on which they lie, no two of them on one side of a face
+pub record IsPairedGrowth (ps : List Point) (g : Growth) : Type 0 where
+  pub rows : AreRows ps g.rows
+  pub one_a_side : AllPairs ShareNoSide g.rows
+  pub indexed : IsIndexed g
+
+-- the facet triangle is a face of a row
+abbrev pub HasTriangle : List Tet → FacetTriangle → Type 0
+HasTriangle rows k = Any (λ t. IsTrue (has_face (facet_face k) t)) rows
+
+-- each of the faces is a facet triangle
+abbrev pub AreTriangleFaces : List FacetTriangle → List Face → Type 0
+AreTriangleFaces ts faces = (face : Face) → Contains faces face → Contains (map triangle_face ts) face
+
+-- the rows are locally Delaunay, where the face is not among the faces
+abbrev pub IsEven : List Point → List Face → Face → Tet → Tet → Type 0
+IsEven ps faces face s t = ¬ Contains faces face → IsLocallyDelaunay ps s t
+
+-- so are the rows on the two sides of the face, where the row lies on its positive side
+abbrev pub IsEvenBelow : List Point → List Face → List Tet → Tet → Face → Type 0
+IsEvenBelow ps faces rows row face = HoldsBelow (IsEven ps faces face) rows row face
+
+-- so it is with each face of the row
+abbrev pub IsEvenRow : List Point → List Face → List Tet → Tet → Type 0
+IsEvenRow ps faces rows row = AllByRecursion (IsEvenBelow ps faces rows row) (row_faces row)

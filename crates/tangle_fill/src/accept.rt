@@ -1,0 +1,435 @@
+//! Whether a list of tetrahedra, found in any way, is the Delaunay list refilled round the facets.
+ghost use Rattle.std.specs.Prelude.{◌^◌, ◌-◌, ◌<◌, ◌≡◌, false, length, IsTrue, IfOk, IfSome, All, AllPairs, Contains};
+ghost use Rattle.std.specs.List.{AllByRecursion};
+ghost use Rattle.sign_predicates.specs.Orientation.{IsPositive};
+ghost use Rattle.geo_laws.specs.Delaunay.{corners, IsOn, IsDelaunayList, RowBefore};
+ghost use Rattle.geo_laws.specs.OrientedFace.{reversed};
+ghost use Rattle.geo_laws.specs.declared.tetrahedra.Tet.{Tet};
+ghost use Rattle.crossing_laws.specs.Crossing.{faces_of};
+ghost use Rattle.tangle_laws.specs.Tangle.{IsUncrossed, lies_on};
+ghost use Rattle.tangle_laws.specs.Growth.{IsFilled, IsAlone, IsSmooth, IsRefilled};
+ghost use Rattle.tangle_fill.specs.Fill.{oriented, IsFaceOn, AreFacetTriangles};
+ghost use Rattle.tangle_fill.specs.Indexed.{IsIndexed};
+ghost use Rattle.tangle_fill.specs.Removed.{IsWithin, IsRemoved, IsBareIn};
+ghost use Rattle.tangle_fill.specs.Accept.{IsRow, AreRows, IsIndexOf, IsPairedGrowth, HasTriangle, AreTriangleFaces, IsEven, IsEvenBelow, IsEvenRow};
+
+use crate::admit::is_row;
+use crate::crossed::uncrossed_near;
+use crate::growth::Growth;
+use crate::search::has_point_on;
+use crate::smooth::{are_outside, lies_on};
+use crate::start::other_round;
+use box_tree::triangle_tree;
+use geo_laws::{Face, FacetTriangle, FacetTriangles, Points, Tet, TetList, face_of};
+use std::alloc::Global;
+use tet_ports::{Items, NoMemory};
+
+/// Whether the corners are points of the list.
+fn is_on(points: &Points, row: Tet) -> bool
+    ensures { IsTrue result → IsOn points.now row }
+{
+    let count = points.len();
+    (row.a as usize) < count
+        && (row.b as usize) < count
+        && (row.c as usize) < count
+        && (row.d as usize) < count
+}
+
+/// Whether the row is positive, on the points and in the least even arrangement.
+fn is_any_row(points: &Points, row: Tet) -> bool
+    ensures { IsTrue result → IsRow points.now row }
+{
+    if is_on(points, row) {
+        is_row(points, row)
+    } else {
+        false
+    }
+}
+
+/// Whether each row is.
+fn are_rows(points: &Points, rows: &TetList) -> bool
+    ensures { IsTrue result → AreRows points.now rows.now }
+{
+    for i in 0..rows.len() {
+        if !is_any_row(points, rows.at(i)) {
+            return false;
+        }
+    }
+    true
+}
+
+/// The rows by the sides of faces on which they lie; None where two lie on one side.
+fn index_of(alloc: Global, rows: &TetList) -> Result<Option<Growth>, NoMemory>
+    ensures { IfOk result (λ found. IfSome found (IsIndexOf rows.now)) }
+{
+    let mut growth = Growth::new(alloc);
+    for i in 0..rows.len() {
+        let row = rows.at(i);
+        if let Some(_) = growth.rival(row) {
+            return Ok(None);
+        }
+        growth.put(row)?;
+    }
+    Ok(Some(growth))
+}
+
+/// Whether the row is found in the list, which is in order.
+fn holds_row(list: &TetList, row: Tet) -> bool
+    ensures { IsTrue result → Contains list.now row }
+{
+    matches!(list.as_slice().binary_search(&row), Ok(_))
+}
+
+/// Whether a row of the Delaunay list has the face behind it, and none that was removed lies on its
+/// positive side. The row is one of those that have the face behind it.
+fn is_bare_side(list: &TetList, removed: &Growth, row: Tet, f: Face) -> bool
+    requires indexed { IsIndexed removed.now }
+    requires within { IsWithin list.now removed.now.rows }
+    requires row { IsTrue (lies_on (reversed (oriented f)) row) }
+    ensures { IsTrue result → IsBareIn list.now removed.now.rows (oriented f) }
+{
+    if let Some(_) = removed.row_on(f) {
+        return false;
+    }
+    let Face { a, b, c } = f;
+    if let Some(_) = removed.row_on(Face { a, b: c, c: b }) {
+        return true;
+    }
+    holds_row(list, row)
+}
+
+/// Whether a row lies on the face's positive side, or no point does. The row lies on its other
+/// side. Beyond most such faces no point lies because they were faces of the hull before; all
+/// points are looked at where that does not tell.
+fn is_filled(
+    points: &Points,
+    list: &TetList,
+    removed: &Growth,
+    growth: &Growth,
+    row: Tet,
+    f: Face,
+) -> bool
+    requires few { length points.now < 2 ^ 32 - 1 }
+    requires delaunay { IsDelaunayList points.now list.now }
+    requires face { IsFaceOn points.now f }
+    requires row { IsTrue (lies_on (reversed (oriented f)) row) }
+    requires indexed { IsIndexed growth.now }
+    requires parts { IsRemoved list.now growth.now.rows removed.now }
+    ensures { IsTrue result → IsFilled points.now growth.now.rows (oriented f) }
+{
+    if let Some(_) = growth.row_on(f) {
+        return true;
+    }
+    if is_bare_side(list, removed, row, f) {
+        return true;
+    }
+    !has_point_on(points, f)
+}
+
+/// Whether across each face of the row lies a row, or no point.
+fn is_closed(points: &Points, list: &TetList, removed: &Growth, growth: &Growth, row: Tet) -> bool
+    requires few { length points.now < 2 ^ 32 - 1 }
+    requires delaunay { IsDelaunayList points.now list.now }
+    requires on { IsOn points.now row }
+    requires indexed { IsIndexed growth.now }
+    requires parts { IsRemoved list.now growth.now.rows removed.now }
+    ensures { IsTrue result → AllByRecursion (λ f. IsFilled points.now growth.now.rows (reversed f)) (faces_of row) }
+{
+    let Tet { a, b, c, d } = row;
+    is_filled(
+        points,
+        list,
+        removed,
+        growth,
+        row,
+        Face { a: b, b: c, c: d },
+    ) && is_filled(points, list, removed, growth, row, Face { a, b: d, c })
+        && is_filled(points, list, removed, growth, row, Face { a, b, c: d })
+        && is_filled(points, list, removed, growth, row, Face { a, b: c, c: b })
+}
+
+/// Whether so it is with each row.
+fn are_closed(points: &Points, list: &TetList, removed: &Growth, growth: &Growth) -> bool
+    requires few { length points.now < 2 ^ 32 - 1 }
+    requires delaunay { IsDelaunayList points.now list.now }
+    requires rows { AreRows points.now growth.now.rows }
+    requires indexed { IsIndexed growth.now }
+    requires parts { IsRemoved list.now growth.now.rows removed.now }
+    ensures { IsTrue result → All (λ t. AllByRecursion (λ f. IsFilled points.now growth.now.rows (reversed f)) (faces_of t)) growth.now.rows }
+{
+    for i in 0..growth.rows.len() {
+        if !is_closed(points, list, removed, growth, growth.rows.at(i)) {
+            return false;
+        }
+    }
+    true
+}
+
+/// Whether the facet triangle is a face of a row.
+fn has_triangle(growth: &Growth, k: FacetTriangle) -> bool
+    requires { IsIndexed growth.now }
+    ensures { IsTrue result → HasTriangle growth.now.rows k }
+{
+    let FacetTriangle { a, b, c, .. } = k;
+    if let Some(_) = growth.row_on(Face { a, b, c }) {
+        return true;
+    }
+    if let Some(_) = growth.row_on(Face { a, b: c, c: b }) {
+        return true;
+    }
+    false
+}
+
+/// Whether each facet triangle is a face of a row.
+fn has_triangles(growth: &Growth, triangles: &FacetTriangles) -> bool
+    requires { IsIndexed growth.now }
+    ensures { IsTrue result → All (HasTriangle growth.now.rows) triangles.now }
+{
+    for i in 0..triangles.len() {
+        if !has_triangle(growth, triangles.at(i)) {
+            return false;
+        }
+    }
+    true
+}
+
+/// Whether the row is not among the rows.
+fn lacks_row(growth: &Growth, row: Tet) -> bool
+    requires { IsIndexed growth.now }
+    ensures { result ≡ false → Contains growth.now.rows row }
+{
+    let Tet { a, b, c, .. } = row;
+    growth.row_on(Face { a, b, c }) != Some(row)
+}
+
+/// The rows of the Delaunay list that are not among the rows.
+fn removed_rows(alloc: Global, list: &TetList, growth: &Growth) -> Result<Growth, NoMemory>
+    requires { IsIndexed growth.now }
+    ensures { IfOk result (IsRemoved list.now growth.now.rows) }
+{
+    let mut removed = Growth::new(alloc);
+    for i in 0..list.len() {
+        let row = list.at(i);
+        if lacks_row(growth, row) {
+            removed.put(row)?;
+        }
+    }
+    Ok(removed)
+}
+
+/// Whether facets cross each of the positive rows.
+fn are_crossed(
+    alloc: Global,
+    points: &Points,
+    rows: &TetList,
+    triangles: &FacetTriangles,
+) -> Result<bool, NoMemory>
+    requires facets { AreFacetTriangles points.now triangles.now }
+    requires rows { All (λ t. IsOn points.now t × IsPositive (corners points.now t)) rows.now }
+    ensures { IfOk result (λ crossed. IsTrue crossed → All (λ t. ¬ IsUncrossed points.now triangles.now t) rows.now) }
+{
+    let tree = triangle_tree(alloc, points, triangles)?;
+    let mut last = 0;
+    for i in 0..rows.len() {
+        if uncrossed_near(points, rows.at(i), triangles, &tree, &mut last) {
+            return Ok(false);
+        }
+    }
+    Ok(true)
+}
+
+/// The facet triangles as faces with ascending corners, in order.
+fn triangle_faces(alloc: Global, triangles: &FacetTriangles) -> Result<Items<Face>, NoMemory>
+    ensures { IfOk result (AreTriangleFaces triangles.now) }
+{
+    let mut faces = Items::with_capacity(alloc, triangles.len())?;
+    for i in 0..triangles.len() {
+        let FacetTriangle { a, b, c, .. } = triangles.at(i);
+        faces.push(Face { a, b, c })?;
+    }
+    faces.keep_distinct();
+    Ok(faces)
+}
+
+/// Whether the face is found among these, which are in order.
+fn holds_face(faces: &Items<Face>, face: Face) -> bool
+    ensures { IsTrue result → Contains faces.now face }
+{
+    matches!(faces.as_slice().binary_search(&face), Ok(_))
+}
+
+/// Whether the rows are locally Delaunay, or the face is among the faces.
+fn is_even_pair(points: &Points, faces: &Items<Face>, s: Tet, t: Tet, face: Face) -> bool
+    requires first { IsOn points.now s }
+    requires second { IsOn points.now t }
+    ensures { IsTrue result → IsEven points.now faces.now face s t }
+{
+    are_outside(points, s, t) || holds_face(faces, face)
+}
+
+/// Whether so it is with the row and the one on the other side of the face, where the row lies on
+/// its positive side. So each pair is looked at once.
+fn is_even_at(points: &Points, faces: &Items<Face>, growth: &Growth, row: Tet, face: Face) -> bool
+    requires paired { IsPairedGrowth points.now growth.now }
+    requires row { Contains growth.now.rows row }
+    ensures { IsTrue result → IsEvenBelow points.now faces.now growth.now.rows row face }
+{
+    if !lies_on(row, face) {
+        return true;
+    }
+    let Face { a, b, c } = face;
+    match growth.row_on(Face { a, b: c, c: b }) {
+        Some(other) => is_even_pair(points, faces, row, other, face),
+        None => true,
+    }
+}
+
+/// Whether so it is with both faces.
+fn are_even_at(
+    points: &Points,
+    faces: &Items<Face>,
+    growth: &Growth,
+    row: Tet,
+    one: Face,
+    two: Face,
+) -> bool
+    requires paired { IsPairedGrowth points.now growth.now }
+    requires row { Contains growth.now.rows row }
+    ensures { IsTrue result → (IsEvenBelow points.now faces.now growth.now.rows row one × IsEvenBelow points.now faces.now growth.now.rows row two) }
+{
+    is_even_at(points, faces, growth, row, one) && is_even_at(points, faces, growth, row, two)
+}
+
+/// Whether so it is with each face of the row.
+fn is_even_row(points: &Points, faces: &Items<Face>, growth: &Growth, row: Tet) -> bool
+    requires paired { IsPairedGrowth points.now growth.now }
+    requires row { Contains growth.now.rows row }
+    ensures { IsTrue result → IsEvenRow points.now faces.now growth.now.rows row }
+{
+    let opposite_a = face_of(row.b, row.c, row.d);
+    let opposite_b = face_of(row.a, row.c, row.d);
+    let opposite_c = face_of(row.a, row.b, row.d);
+    let opposite_d = face_of(row.a, row.b, row.c);
+    are_even_at(points, faces, growth, row, opposite_a, opposite_b)
+        && are_even_at(points, faces, growth, row, opposite_c, opposite_d)
+}
+
+/// Whether so it is with each row.
+fn are_even(points: &Points, faces: &Items<Face>, growth: &Growth) -> bool
+    requires { IsPairedGrowth points.now growth.now }
+    ensures { IsTrue result → All (IsEvenRow points.now faces.now growth.now.rows) growth.now.rows }
+{
+    for j in 0..growth.rows.len() {
+        if !is_even_row(points, faces, growth, growth.rows.at(j)) {
+            return false;
+        }
+    }
+    true
+}
+
+/// Whether rows are locally Delaunay across their common faces that are no facet triangles.
+fn are_smooth(
+    alloc: Global,
+    points: &Points,
+    triangles: &FacetTriangles,
+    growth: &Growth,
+) -> Result<bool, NoMemory>
+    requires { IsPairedGrowth points.now growth.now }
+    ensures { IfOk result (λ smooth. IsTrue smooth → IsSmooth points.now triangles.now growth.now.rows) }
+{
+    let faces = triangle_faces(alloc, triangles)?;
+    Ok(are_even(points, &faces, growth))
+}
+
+/// Whether there is a row, and the first one alone holds its nudged centroid.
+fn is_single(points: &Points, rows: &TetList) -> bool
+    requires { All (IsOn points.now) rows.now }
+    ensures { IsTrue result → (t : Tet) × Contains rows.now t × IsAlone points.now rows.now t }
+{
+    if rows.is_empty() {
+        return false;
+    }
+    other_round(points, rows, rows.at(0)).is_none()
+}
+
+/// Whether the rows are all that a refilled list is to be, where these are removed.
+fn is_refilled_without(
+    alloc: Global,
+    points: &Points,
+    list: &TetList,
+    removed: &Growth,
+    triangles: &FacetTriangles,
+    growth: &Growth,
+) -> Result<bool, NoMemory>
+    requires few { length points.now < 2 ^ 32 - 1 }
+    requires facets { AreFacetTriangles points.now triangles.now }
+    requires delaunay { IsDelaunayList points.now list.now }
+    requires paired { IsPairedGrowth points.now growth.now }
+    requires ascending { AllPairs RowBefore growth.now.rows }
+    requires parts { IsRemoved list.now growth.now.rows removed.now }
+    ensures { IfOk result (λ refilled. IsTrue refilled → IsRefilled points.now triangles.now list.now growth.now.rows) }
+{
+    if !is_single(points, &growth.rows) {
+        return Ok(false);
+    }
+    if !has_triangles(growth, triangles) {
+        return Ok(false);
+    }
+    if !are_closed(points, list, removed, growth) {
+        return Ok(false);
+    }
+    let crossed = are_crossed(alloc, points, &removed.rows, triangles)?;
+    if !crossed {
+        return Ok(false);
+    }
+    let smooth = are_smooth(alloc, points, triangles, growth)?;
+    Ok(smooth)
+}
+
+/// Whether the rows are all that a refilled list is to be.
+fn is_refilled(
+    alloc: Global,
+    points: &Points,
+    list: &TetList,
+    triangles: &FacetTriangles,
+    growth: &Growth,
+) -> Result<bool, NoMemory>
+    requires few { length points.now < 2 ^ 32 - 1 }
+    requires facets { AreFacetTriangles points.now triangles.now }
+    requires delaunay { IsDelaunayList points.now list.now }
+    requires paired { IsPairedGrowth points.now growth.now }
+    requires ascending { AllPairs RowBefore growth.now.rows }
+    ensures { IfOk result (λ refilled. IsTrue refilled → IsRefilled points.now triangles.now list.now growth.now.rows) }
+{
+    let removed = removed_rows(alloc, list, growth)?;
+    is_refilled_without(alloc, points, list, &removed, triangles, growth)
+}
+
+/// The candidate in order, where it is the Delaunay list refilled round the facets; None where the
+/// tests do not tell so. How it was found does not matter: each row is looked at by itself and
+/// across its faces, so no search for points is needed.
+pub fn accepted(
+    alloc: Global,
+    points: &Points,
+    list: &TetList,
+    triangles: &FacetTriangles,
+    mut candidate: TetList,
+) -> Result<Option<TetList>, NoMemory>
+    requires few { length points.now < 2 ^ 32 - 1 }
+    requires facets { AreFacetTriangles points.now triangles.now }
+    requires delaunay { IsDelaunayList points.now list.now }
+    ensures { IfOk result (λ found. IfSome found (IsRefilled points.now triangles.now list.now)) }
+{
+    candidate.keep_distinct();
+    if !are_rows(points, &candidate) {
+        return Ok(None);
+    }
+    let Some(growth) = index_of(alloc, &candidate)? else {
+        return Ok(None);
+    };
+    if is_refilled(alloc, points, list, triangles, &growth)? {
+        Ok(Some(candidate))
+    } else {
+        Ok(None)
+    }
+}
