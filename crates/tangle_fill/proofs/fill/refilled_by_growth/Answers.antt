@@ -2,7 +2,7 @@ use Rattle.std.proofs.Common.{refl}
 use Rattle.tangle_laws.proofs.Refilled.{law_refilled}
 use Rattle.tangle_fill.proofs.Indexed.{indexed_order}
 use Rattle.tangle_fill.proofs.Finish.{rows_ascend, ordered_grown, not_empty, whole_of}
-use Rattle.tangle_fill.proofs.fill.fill_tangle.Goals as goal
+use Rattle.tangle_fill.proofs.fill.refilled_by_growth.Goals as goal
 
 pub test_count-requires-clause-admissible : goal.test_count-requires-clause-admissible
 test_count-requires-clause-admissible c =
