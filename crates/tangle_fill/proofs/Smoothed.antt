@@ -4,8 +4,6 @@ use Rattle.std.specs.Prelude.{All, AllPairs, Contains}
 use Rattle.std.specs.List.{AllByRecursion, slice_index_or}
 use Rattle.std.proofs.lemmas.List.Elements.{Contains-get_or}
 use Rattle.sign_predicates.specs.Point.{Point}
-use Rattle.sign_predicates.specs.Orientation.{IsPositive}
-use Rattle.geo_laws.specs.Delaunay.{corners}
 use Rattle.geo_laws.specs.Faces.{row_faces}
 use Rattle.geo_laws.specs.Mesh.{IsLocallyDelaunay}
 use Rattle.geo_laws.specs.OrientedFace.{Face, reversed}
@@ -17,13 +15,14 @@ use Rattle.geo_laws.proofs.Ties.{order}
 use Rattle.crossing_laws.specs.Crossing.{faces_of, is_same}
 use Rattle.crossing_laws.proofs.Tests.{all_at}
 use Rattle.crossing_laws.proofs.Faces.{same_of, same_test}
-use Rattle.tangle_laws.specs.Tangle.{lies_on}
+use Rattle.tangle_laws.specs.Tangle.{lies_on, IsAdmissible}
 use Rattle.tangle_laws.specs.Growth.{ShareNoSide, IsSmooth}
 use Rattle.tangle_laws.proofs.Apart.{fails_true}
 use Rattle.tangle_laws.proofs.Sides.{same_alike, side_of_face}
 use Rattle.tangle_laws.proofs.Sorted.{row_face}
 use Rattle.tangle_fill.specs.Fill.{oriented, AreSmooth}
-use Rattle.tangle_fill.specs.Smooth.{HoldsAcross, HoldsBelow, IsSmoothBelow}
+use Rattle.tangle_fill.specs.Smooth.{IsSmoothAt, IsSmoothBelow, IsWholeGrowth}
+use Rattle.tangle_fill.specs.declared.growth.Growth.{Growth}
 
 -- ---- one row on a side
 
@@ -50,48 +49,59 @@ only_one rows apart s t cs ct f on_s on_t = go (found_of rows s (member_of rows 
 -- ---- the rows on the two sides of a face
 
 -- those that are found are all
-pub on_both_sides : (P : Tet → Tet → Type 0) (rows : List Tet) (face : sorted_face.Face) (s t : Tet) → AllPairs ShareNoSide rows → Contains rows s × (lies_on (oriented face) s ≡ true) → Contains rows t × (lies_on (reversed (oriented face)) t ≡ true)
-    → P s t → HoldsAcross P rows face
-on_both_sides P rows face s t one hs ht holds u v cu cv on_u on_v =
-    subst (λ (w : Tet). P w v) (only_one rows one s u hs.0 cu (oriented face) hs.1 on_u)
-    (subst (P s) (only_one rows one t v ht.0 cv (reversed (oriented face)) ht.1 on_v) holds)
+pub smooth_pair : (ps : List Point) (ts : List FacetTriangle) (g : Growth) (face : sorted_face.Face) (s t : Tet) → IsWholeGrowth ps ts g → Contains g.rows s × (lies_on (oriented face) s ≡ true) → Contains g.rows t × (lies_on (reversed (oriented face)) t ≡ true)
+    → AreSmooth ps ts s t → IsSmoothAt ps ts g.rows face
+smooth_pair ps ts g face s t whole hs ht smooth u v cu cv on_u on_v =
+    subst (λ (w : Tet). AreSmooth ps ts w v) (only_one g.rows whole.one_a_side s u hs.0 cu (oriented face) hs.1 on_u)
+    (subst (AreSmooth ps ts s) (only_one g.rows whole.one_a_side t v ht.0 cv (reversed (oriented face)) ht.1 on_v) smooth)
 
 -- ---- all rows
 
--- what holds across each face of a row on whose positive side it lies, holds of any two rows with a common face, in one order or the other
-pub of_pairs : (ps : List Point) (P : sorted_face.Face → Tet → Tet → Type 0) (rows : List Tet) → All (λ t. IsPositive (corners ps t)) rows → AllPairs ShareNoSide rows
-    → All (λ t. AllByRecursion (λ f. HoldsBelow (P f) rows t f) (row_faces t)) rows
-    → AllPairs (λ s t. (face : sorted_face.Face) → Contains (row_faces s) face → Contains (row_faces t) face → P face s t ⊎ P face t s) rows
-of_pairs ps P rows positive one all i j d l k face fs ft = go (side_of_face (oriented face) (slice_index_or rows i d) (row_face ps _ (positive i d i_in) face (member_of (row_faces (slice_index_or rows i d)) face fs)).has) (side_of_face (oriented face) (slice_index_or rows j d) (row_face ps _ (positive j d k) face (member_of (row_faces (slice_index_or rows j d)) face ft)).has)
+turned : (ps : List Point) (ts : List FacetTriangle) (s t : Tet) → AreSmooth ps ts s t → AreSmooth ps ts t s
+turned ps ts s t h = record { smooth = λ o. let l = h.smooth (o.0, o.2, o.1, o.3) in (l.1, l.0) }
+
+pub all_smooth : (ps : List Point) (ts : List FacetTriangle) (g : Growth) → IsWholeGrowth ps ts g → All (λ t. AllByRecursion (IsSmoothBelow ps ts g.rows t) (row_faces t)) g.rows → IsSmooth ps ts g.rows
+all_smooth ps ts g whole all i j d l k face fs ft none = go (side_of_face (oriented face) s (row_face ps s s_row.is_positive face (member_of (row_faces s) face fs)).has) (side_of_face (oriented face) t (row_face ps t t_row.is_positive face (member_of (row_faces t) face ft)).has)
   where
-    i_in : i < length rows
+    rows : List Tet
+    rows = g.rows
+
+    s : Tet
+    s = slice_index_or g.rows i d
+
+    t : Tet
+    t = slice_index_or g.rows j d
+
+    i_in : i < length g.rows
     i_in = omega arith
 
-    below_s : HoldsBelow (P face) rows (slice_index_or rows i d) face
-    below_s = all_at (λ f. HoldsBelow (P f) rows (slice_index_or rows i d) f) face (row_faces (slice_index_or rows i d)) (all i d i_in) (member_of (row_faces (slice_index_or rows i d)) face fs)
+    s_row : IsAdmissible ps ts (slice_index_or g.rows i d)
+    s_row = whole.whole.admissible i d i_in
 
-    below_t : HoldsBelow (P face) rows (slice_index_or rows j d) face
-    below_t = all_at (λ f. HoldsBelow (P f) rows (slice_index_or rows j d) f) face (row_faces (slice_index_or rows j d)) (all j d k) (member_of (row_faces (slice_index_or rows j d)) face ft)
+    t_row : IsAdmissible ps ts (slice_index_or g.rows j d)
+    t_row = whole.whole.admissible j d k
 
-    apart : ShareNoSide (slice_index_or rows i d) (slice_index_or rows j d)
-    apart = one i j d l k
+    below_s : IsSmoothBelow ps ts g.rows (slice_index_or g.rows i d) face
+    below_s = all_at (IsSmoothBelow ps ts g.rows (slice_index_or g.rows i d)) face (row_faces (slice_index_or g.rows i d)) (all i d i_in) (member_of (row_faces (slice_index_or g.rows i d)) face fs)
 
-    cs : Contains rows (slice_index_or rows i d)
-    cs = Contains-get_or rows i d i_in
+    below_t : IsSmoothBelow ps ts g.rows (slice_index_or g.rows j d) face
+    below_t = all_at (IsSmoothBelow ps ts g.rows (slice_index_or g.rows j d)) face (row_faces (slice_index_or g.rows j d)) (all j d k) (member_of (row_faces (slice_index_or g.rows j d)) face ft)
 
-    ct : Contains rows (slice_index_or rows j d)
-    ct = Contains-get_or rows j d k
+    apart : ShareNoSide (slice_index_or g.rows i d) (slice_index_or g.rows j d)
+    apart = whole.one_a_side i j d l k
 
-    go : (lies_on (oriented face) (slice_index_or rows i d) ≡ true) ⊎ (lies_on (reversed (oriented face)) (slice_index_or rows i d) ≡ true)
-        → (lies_on (oriented face) (slice_index_or rows j d) ≡ true) ⊎ (lies_on (reversed (oriented face)) (slice_index_or rows j d) ≡ true) → P face (slice_index_or rows i d) (slice_index_or rows j d) ⊎ P face (slice_index_or rows j d) (slice_index_or rows i d)
+    cs : Contains g.rows (slice_index_or g.rows i d)
+    cs = Contains-get_or g.rows i d i_in
+
+    ct : Contains g.rows (slice_index_or g.rows j d)
+    ct = Contains-get_or g.rows j d k
+
+    smooth : AreSmooth ps ts (slice_index_or g.rows i d) (slice_index_or g.rows j d) → IsLocallyDelaunay ps (slice_index_or g.rows i d) (slice_index_or g.rows j d)
+    smooth h = h.smooth (face, fs, ft, none)
+
+    go : (lies_on (oriented face) (slice_index_or g.rows i d) ≡ true) ⊎ (lies_on (reversed (oriented face)) (slice_index_or g.rows i d) ≡ true)
+        → (lies_on (oriented face) (slice_index_or g.rows j d) ≡ true) ⊎ (lies_on (reversed (oriented face)) (slice_index_or g.rows j d) ≡ true) → IsLocallyDelaunay ps (slice_index_or g.rows i d) (slice_index_or g.rows j d)
     go (inl a) (inl b) = absurd (not_both _ _ apart (oriented face) a b)
-    go (inl a) (inr b) = inl (below_s a _ _ cs ct a b)
-    go (inr a) (inl b) = inr (below_t b _ _ ct cs b a)
+    go (inl a) (inr b) = smooth (below_s a _ _ cs ct a b)
+    go (inr a) (inl b) = smooth (turned ps ts _ _ (below_t b _ _ ct cs b a))
     go (inr a) (inr b) = absurd (not_both _ _ apart (reversed (oriented face)) a b)
-
-pub all_smooth : (ps : List Point) (ts : List FacetTriangle) (rows : List Tet) → All (λ t. IsPositive (corners ps t)) rows → AllPairs ShareNoSide rows → All (λ t. AllByRecursion (IsSmoothBelow ps ts rows t) (row_faces t)) rows → IsSmooth ps ts rows
-all_smooth ps ts rows positive one all i j d l k face fs ft none = go (of_pairs ps (λ f. AreSmooth ps ts) rows positive one all i j d l k face fs ft)
-  where
-    go : AreSmooth ps ts (slice_index_or rows i d) (slice_index_or rows j d) ⊎ AreSmooth ps ts (slice_index_or rows j d) (slice_index_or rows i d) → IsLocallyDelaunay ps (slice_index_or rows i d) (slice_index_or rows j d)
-    go (inl h) = h.smooth (face, fs, ft, none)
-    go (inr h) = let both = h.smooth (face, ft, fs, none) in (both.1, both.0)

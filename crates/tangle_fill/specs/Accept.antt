@@ -1,18 +1,20 @@
 -- What is asked of each row of a list that was found in any way, and of the list indexed by the sides of its faces.
-use Rattle.std.specs.Prelude.{◌≡◌, IsTrue, List, map, All, AllPairs, Any, Contains}
+use Rattle.std.specs.Prelude.{◌≡◌, ◌⊎◌, false, IsTrue, List, map, All, AllPairs, Any, Contains}
 use Rattle.std.specs.List.{AllByRecursion}
 use Rattle.sign_predicates.specs.Point.{Point}
 use Rattle.sign_predicates.specs.Orientation.{IsPositive}
 use Rattle.geo_laws.specs.Delaunay.{corners, IsOn, IsArranged}
 use Rattle.geo_laws.specs.Faces.{row_faces}
 use Rattle.geo_laws.specs.Mesh.{IsLocallyDelaunay}
+use Rattle.geo_laws.specs.OrientedFace as oriented_face
+use Rattle.geo_laws.specs.OrientedFace.{reversed}
 use Rattle.geo_laws.specs.declared.faces.Face.{Face}
 use Rattle.geo_laws.specs.declared.tetrahedra.Tet.{Tet}
 use Rattle.geo_laws.specs.declared.complex.FacetTriangle.{FacetTriangle}
-use Rattle.tangle_laws.specs.Tangle.{has_face, facet_face}
+use Rattle.tangle_laws.specs.Tangle.{lies_on, has_face, facet_face}
 use Rattle.tangle_laws.specs.Growth.{ShareNoSide, triangle_face}
 use Rattle.tangle_fill.specs.Indexed.{IsIndexed}
-use Rattle.tangle_fill.specs.Smooth.{HoldsBelow}
+use Rattle.tangle_fill.specs.Fill.{oriented}
 use Rattle.tangle_fill.specs.declared.growth.Growth.{Growth}
 
 -- on the points, positive and in the least even arrangement
@@ -47,10 +49,20 @@ AreTriangleFaces ts faces = (face : Face) → Contains faces face → Contains (
 abbrev pub IsEven : List Point → List Face → Face → Tet → Tet → Type 0
 IsEven ps faces face s t = ¬ Contains faces face → IsLocallyDelaunay ps s t
 
--- so are the rows on the two sides of the face, where the row lies on its positive side
-abbrev pub IsEvenBelow : List Point → List Face → List Tet → Tet → Face → Type 0
-IsEvenBelow ps faces rows row face = HoldsBelow (IsEven ps faces face) rows row face
+-- so is the row with each on the positive side of `across`, which is one side of the face
+abbrev pub IsEvenTo : List Point → List Face → List Tet → Tet → Face → oriented_face.Face → Type 0
+IsEvenTo ps faces rows row face across = (t : Tet) → Contains rows t → IsTrue (lies_on across t) → IsEven ps faces face row t
+
+-- so it is with each on the other side of the face
+abbrev pub IsEvenAcross : List Point → List Face → List Tet → Tet → Face → Type 0
+IsEvenAcross ps faces rows row face =
+    (IsTrue (lies_on (oriented face) row) → IsEvenTo ps faces rows row face (reversed (oriented face)))
+    × (lies_on (oriented face) row ≡ false → IsEvenTo ps faces rows row face (oriented face))
 
 -- so it is with each face of the row
 abbrev pub IsEvenRow : List Point → List Face → List Tet → Tet → Type 0
-IsEvenRow ps faces rows row = AllByRecursion (IsEvenBelow ps faces rows row) (row_faces row)
+IsEvenRow ps faces rows row = AllByRecursion (IsEvenAcross ps faces rows row) (row_faces row)
+
+-- the row is in the old list, or so it is with each face of it
+abbrev pub IsSettled : List Point → List Tet → List Face → List Tet → Tet → Type 0
+IsSettled ps old faces rows row = Contains old row ⊎ IsEvenRow ps faces rows row

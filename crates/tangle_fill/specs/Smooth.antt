@@ -11,17 +11,13 @@ use Rattle.tangle_fill.specs.Fill.{oriented, AreSmooth, IsWhole}
 use Rattle.tangle_fill.specs.Indexed.{IsIndexed}
 use Rattle.tangle_fill.specs.declared.growth.Growth.{Growth}
 
--- any two rows on the two sides of the face, the first on its positive side, are so
-abbrev pub HoldsAcross : (Tet → Tet → Type 0) → List Tet → Face → Type 0
-HoldsAcross P rows face = (s t : Tet) → Contains rows s → Contains rows t → IsTrue (lies_on (oriented face) s) → IsTrue (lies_on (reversed (oriented face)) t) → P s t
+-- rows on the two sides of the face are locally Delaunay
+abbrev pub IsSmoothAt : List Point → List FacetTriangle → List Tet → Face → Type 0
+IsSmoothAt ps ts rows face = (s t : Tet) → Contains rows s → Contains rows t → IsTrue (lies_on (oriented face) s) → IsTrue (lies_on (reversed (oriented face)) t) → AreSmooth ps ts s t
 
 -- so they are where the row lies on the face's positive side
-abbrev pub HoldsBelow : (Tet → Tet → Type 0) → List Tet → Tet → Face → Type 0
-HoldsBelow P rows row face = IsTrue (lies_on (oriented face) row) → HoldsAcross P rows face
-
--- rows on the two sides of the face are locally Delaunay, where the row lies on its positive side
 abbrev pub IsSmoothBelow : List Point → List FacetTriangle → List Tet → Tet → Face → Type 0
-IsSmoothBelow ps ts rows row face = HoldsBelow (AreSmooth ps ts) rows row face
+IsSmoothBelow ps ts rows row face = IsTrue (lies_on (oriented face) row) → IsSmoothAt ps ts rows face
 
 -- a growth over the whole hull, of whose rows no two lie on one side of a face
 pub record IsWholeGrowth (ps : List Point) (ts : List FacetTriangle) (g : Growth) : Type 0 where

@@ -11,7 +11,7 @@ ghost use Rattle.tangle_laws.specs.Growth.{IsFilled, IsAlone, IsSmooth, IsRefill
 ghost use Rattle.tangle_fill.specs.Fill.{oriented, IsFaceOn, AreFacetTriangles};
 ghost use Rattle.tangle_fill.specs.Indexed.{IsIndexed};
 ghost use Rattle.tangle_fill.specs.Removed.{IsWithin, IsRemoved, IsBareIn};
-ghost use Rattle.tangle_fill.specs.Accept.{IsRow, AreRows, IsIndexOf, IsPairedGrowth, HasTriangle, AreTriangleFaces, IsEven, IsEvenBelow, IsEvenRow};
+ghost use Rattle.tangle_fill.specs.Accept.{IsRow, AreRows, IsIndexOf, IsPairedGrowth, HasTriangle, AreTriangleFaces, IsEven, IsEvenTo, IsEvenAcross, IsEvenRow, IsSettled};
 
 use crate::admit::is_row;
 use crate::crossed::uncrossed_near;
@@ -267,20 +267,37 @@ fn is_even_pair(points: &Points, faces: &Items<Face>, s: Tet, t: Tet, face: Face
     are_outside(points, s, t) || holds_face(faces, face)
 }
 
-/// Whether so it is with the row and the one on the other side of the face, where the row lies on
-/// its positive side. So each pair is looked at once.
+/// Whether so it is with the row and the one on the positive side of `across`, which is one side of
+/// the face.
+fn is_even_to(
+    points: &Points,
+    faces: &Items<Face>,
+    growth: &Growth,
+    row: Tet,
+    face: Face,
+    across: Face,
+) -> bool
+    requires paired { IsPairedGrowth points.now growth.now }
+    requires row { Contains growth.now.rows row }
+    ensures { IsTrue result → IsEvenTo points.now faces.now growth.now.rows row face (oriented across) }
+{
+    match growth.row_on(across) {
+        Some(other) => is_even_pair(points, faces, row, other, face),
+        None => true,
+    }
+}
+
+/// Whether so it is with the row and the one on the other side of the face of it.
 fn is_even_at(points: &Points, faces: &Items<Face>, growth: &Growth, row: Tet, face: Face) -> bool
     requires paired { IsPairedGrowth points.now growth.now }
     requires row { Contains growth.now.rows row }
-    ensures { IsTrue result → IsEvenBelow points.now faces.now growth.now.rows row face }
+    ensures { IsTrue result → IsEvenAcross points.now faces.now growth.now.rows row face }
 {
-    if !lies_on(row, face) {
-        return true;
-    }
-    let Face { a, b, c } = face;
-    match growth.row_on(Face { a, b: c, c: b }) {
-        Some(other) => is_even_pair(points, faces, row, other, face),
-        None => true,
+    if lies_on(row, face) {
+        let Face { a, b, c } = face;
+        is_even_to(points, faces, growth, row, face, Face { a, b: c, c: b })
+    } else {
+        is_even_to(points, faces, growth, row, face, face)
     }
 }
 
@@ -295,7 +312,7 @@ fn are_even_at(
 ) -> bool
     requires paired { IsPairedGrowth points.now growth.now }
     requires row { Contains growth.now.rows row }
-    ensures { IsTrue result → (IsEvenBelow points.now faces.now growth.now.rows row one × IsEvenBelow points.now faces.now growth.now.rows row two) }
+    ensures { IsTrue result → (IsEvenAcross points.now faces.now growth.now.rows row one × IsEvenAcross points.now faces.now growth.now.rows row two) }
 {
     is_even_at(points, faces, growth, row, one) && is_even_at(points, faces, growth, row, two)
 }
@@ -314,31 +331,74 @@ fn is_even_row(points: &Points, faces: &Items<Face>, growth: &Growth, row: Tet) 
         && are_even_at(points, faces, growth, row, opposite_c, opposite_d)
 }
 
-/// Whether so it is with each row.
-fn are_even(points: &Points, faces: &Items<Face>, growth: &Growth) -> bool
-    requires { IsPairedGrowth points.now growth.now }
-    ensures { IsTrue result → All (IsEvenRow points.now faces.now growth.now.rows) growth.now.rows }
+/// The first place from this one on at which the row of the list does not stand before the row.
+fn place_from(list: &TetList, from: usize, row: Tet) -> usize {
+    for k in from..list.len() {
+        if list.at(k) >= row {
+            return k;
+        }
+    }
+    list.len()
+}
+
+/// Whether the row stands at the place in the list.
+fn is_at(list: &TetList, place: usize, row: Tet) -> bool
+    ensures { IsTrue result → Contains list.now row }
 {
+    if place >= list.len() {
+        return false;
+    }
+    list.at(place) == row
+}
+
+/// Whether the row stands at the place in the list, or so it is with each face of it.
+fn is_settled(
+    points: &Points,
+    list: &TetList,
+    faces: &Items<Face>,
+    growth: &Growth,
+    row: Tet,
+    place: usize,
+) -> bool
+    requires paired { IsPairedGrowth points.now growth.now }
+    requires row { Contains growth.now.rows row }
+    ensures { IsTrue result → IsSettled points.now list.now faces.now growth.now.rows row }
+{
+    is_at(list, place, row) || is_even_row(points, faces, growth, row)
+}
+
+/// Whether so it is with each row. Both the rows and the list are in order, so one walk along both
+/// finds the rows that are in the list.
+fn are_settled(points: &Points, list: &TetList, faces: &Items<Face>, growth: &Growth) -> bool
+    requires { IsPairedGrowth points.now growth.now }
+    ensures { IsTrue result → All (IsSettled points.now list.now faces.now growth.now.rows) growth.now.rows }
+{
+    let mut place = 0;
     for j in 0..growth.rows.len() {
-        if !is_even_row(points, faces, growth, growth.rows.at(j)) {
+        let row = growth.rows.at(j);
+        place = place_from(list, place, row);
+        if !is_settled(points, list, faces, growth, row, place) {
             return false;
         }
     }
     true
 }
 
-/// Whether rows are locally Delaunay across their common faces that are no facet triangles.
+/// Whether rows are locally Delaunay across their common faces that are no facet triangles. Two of
+/// the Delaunay list are.
 fn are_smooth(
     alloc: Global,
     points: &Points,
+    list: &TetList,
     triangles: &FacetTriangles,
     growth: &Growth,
 ) -> Result<bool, NoMemory>
-    requires { IsPairedGrowth points.now growth.now }
+    requires delaunay { IsDelaunayList points.now list.now }
+    requires paired { IsPairedGrowth points.now growth.now }
     ensures { IfOk result (λ smooth. IsTrue smooth → IsSmooth points.now triangles.now growth.now.rows) }
 {
     let faces = triangle_faces(alloc, triangles)?;
-    Ok(are_even(points, &faces, growth))
+    Ok(are_settled(points, list, &faces, growth))
 }
 
 /// Whether there is a row, and the first one alone holds its nudged centroid.
@@ -382,7 +442,7 @@ fn is_refilled_without(
     if !crossed {
         return Ok(false);
     }
-    let smooth = are_smooth(alloc, points, triangles, growth)?;
+    let smooth = are_smooth(alloc, points, list, triangles, growth)?;
     Ok(smooth)
 }
 

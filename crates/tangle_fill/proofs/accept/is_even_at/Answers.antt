@@ -1,24 +1,11 @@
-use Rattle.std.proofs.Common.{◌≡◌, false, subst}
-use Rattle.geo_laws.specs.Delaunay.{IsOn}
-use Rattle.geo_laws.specs.OrientedFace.{reversed}
+use Rattle.std.proofs.Common.{sym, ◌∙◌}
 use Rattle.tangle_laws.specs.Tangle.{lies_on}
 use Rattle.tangle_laws.proofs.Apart.{fails_true}
 use Rattle.tangle_fill.specs.Fill.{oriented}
-use Rattle.tangle_fill.specs.Accept.{IsEven}
-use Rattle.tangle_fill.proofs.Smoothed.{on_both_sides}
 use Rattle.tangle_fill.proofs.accept.is_even_at.Goals as goal
 
-pub is_even_pair-requires-clause-first : goal.is_even_pair-requires-clause-first
-is_even_pair-requires-clause-first c = let m = c.requires.row in subst (IsOn c.args.points.now) m.2 (c.requires.paired.rows m.0 c.args.row m.1).0
+pub returns-then-lies_on : goal.returns-then-lies_on
+returns-then-lies_on c h = (λ on. c.is_even_to.ensures h, λ off. absurd (fails_true (lies_on (oriented c.args.face) c.args.row) off (sym c.lies_on.ensures ∙ c.if-lies_on.true)))
 
-pub is_even_pair-requires-clause-second : goal.is_even_pair-requires-clause-second
-is_even_pair-requires-clause-second c = let m = c.in-Some.ensures.0 in subst (IsOn c.args.points.now) m.2 (c.requires.paired.rows m.0 c.in-Some.other m.1).0
-
-pub returns-in-Some : goal.returns-in-Some
-returns-in-Some c h on =
-    on_both_sides (IsEven c.args.points.now c.args.faces.now c.args.face) c.args.growth.now.rows c.args.face c.args.row c.in-Some.other c.requires.paired.one_a_side (c.requires.row, on) c.in-Some.ensures (c.is_even_pair.ensures h)
-
-pub returns-in-None : goal.returns-in-None
-returns-in-None c h on s t cs ct on_s on_t =
-    let back = reversed (oriented c.args.face) in
-    absurd (fails_true (lies_on back t) (subst (λ u. lies_on back u ≡ false) ct.2 (c.in-None.ensures ct.0 t ct.1)) on_t)
+pub returns-else-lies_on : goal.returns-else-lies_on
+returns-else-lies_on c h = (λ on. absurd (fails_true (lies_on (oriented c.args.face) c.args.row) (sym c.lies_on.ensures ∙ c.if-lies_on.false) on), λ off. c.is_even_to-else-lies_on.ensures h)
