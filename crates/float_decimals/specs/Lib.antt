@@ -1,0 +1,4 @@
+pub mod Floats
+pub mod Nearest
+pub mod Shortest
+pub mod Place

@@ -1,0 +1,8 @@
+//! The decimals that binary floats of 32 bits stand for.
+#![tactic(auto)]
+
+mod decimal;
+mod place;
+mod steps;
+
+pub use decimal::float_decimal;
