@@ -4,3 +4,5 @@ pub mod Spent
 pub mod FoundVertices
 pub mod Facets
 pub mod Whole
+pub mod BinaryFacets
+pub mod BinaryWhole

@@ -1,20 +1,18 @@
 -- What a whole text gives: few enough points and faces to be named by 32 bits, and no regions.
-use Rattle.std.proofs.Common.{◌≡◌, ℕ, ◌+◌, ◌*◌, ◌-◌, ◌^◌, ◌<◌, ◌≤◌, List, [], ◌∷◌, length, Result, Ok, Err, refl, sym, ap, subst, arith}
-use Rattle.std.specs.Prelude.{map, IfOk, All}
+use Rattle.std.proofs.Common.{◌≡◌, ℕ, ◌*◌, ◌-◌, ◌^◌, ◌<◌, ◌≤◌, List, [], ◌∷◌, length, Result, Ok, Err, refl, subst, arith}
+use Rattle.std.specs.Prelude.{map, IfOk}
 use Rattle.std.proofs.lemmas.List.{length-map}
 use Rattle.std.proofs.lemmas.List.Elements.{All-nil}
-use Rattle.tet_text.specs.declared.fault.TextFault.{TextFault}
 use Rattle.tet_text.specs.Lines.{ContentLine}
 use Rattle.tet_text.specs.Reading.{◌>>=◌, text_end_at}
 use Rattle.grid_coords.specs.declared.points.DecimalPoint.{DecimalPoint}
 use Rattle.plc_files.specs.declared.parts.PolygonText.{PolygonText}
-use Rattle.plc_files.specs.declared.parts.RegionText.{RegionText}
 use Rattle.plc_files.specs.declared.fault.PlcFault.{PlcFault}
 use Rattle.plc_files.specs.Outcome.{Gives}
 use Rattle.plc_files.specs.Checks.{all_polygons, HasFewParts}
 use Rattle.plc_files.specs.Repeated.{so_many}
 use Rattle.plc_files.specs.Text.{Plc, AreWritten}
-use Rattle.plc_files.proofs.Counts.{step_ok, done, ok_is}
+use Rattle.plc_files.proofs.Counts.{step_ok, ok_is}
 use Rattle.soup_files.specs.declared.stl_facet.StlFacet.{StlFacet}
 use Rattle.soup_files.specs.Surface.{facet_of_one, surface_of}
 use Rattle.soup_files.specs.Off.{head_of, vertex_line, face_of, off_of}
@@ -33,7 +31,7 @@ pub record IsSmall (t : Plc) : Type 0 where
   pub few : HasFewParts t
   pub attributes : AreWritten t.regions
 
-surface_small : (points : List DecimalPoint) (faces : List PolygonText) → length faces < 2 ^ 32 - 1 → IsSmall (surface_of points faces)
+pub surface_small : (points : List DecimalPoint) (faces : List PolygonText) → length faces < 2 ^ 32 - 1 → IsSmall (surface_of points faces)
 surface_small points faces few = record {
   few = record { polygons = omega (arith, few, polygon_each faces); regions = omega arith };
   attributes = All-nil _;
@@ -71,7 +69,7 @@ pub stl_read : (n : ℕ) (lines : List ContentLine) (r : Result Plc PlcFault) �
 stl_read n lines (Ok t) gives few = stl_small n lines t gives few
 stl_read n lines (Err fault) gives few = tt
 
-vertices_length : (fs : List StlFacet) → length (vertices_of fs) ≡ 3 * length fs
+pub vertices_length : (fs : List StlFacet) → length (vertices_of fs) ≡ 3 * length fs
 vertices_length [] = refl
 vertices_length (f ∷ fs) = let h = vertices_length fs in omega arith
 

@@ -5,3 +5,4 @@ pub mod Vertices
 pub mod Stl
 pub mod Triangles
 pub mod VertexKeys
+pub mod BinaryStl

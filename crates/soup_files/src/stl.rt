@@ -48,7 +48,7 @@ fn pass_solid(lines: &mut Lines) -> Result<(), TextFault>
 }
 
 /// The facet by the places of its corners, which are put in where they are not there.
-fn placed(facet: StlFacet, points: &mut VertexSet) -> Result<Triangle, NoMemory>
+pub(crate) fn placed(facet: StlFacet, points: &mut VertexSet) -> Result<Triangle, NoMemory>
     ensures { IfOk result (λ triangle. Places facet points.old triangle points.new) }
 {
     let a = PlacedCorner {
@@ -102,7 +102,7 @@ fn add_triangle(triangle: Triangle, text: &mut PlcText) -> Result<(), NoMemory>
 }
 
 /// The complex of these points and triangles.
-fn surface(
+pub(crate) fn surface(
     alloc: Global,
     points: &VertexSet,
     triangles: &Items<Triangle>,

@@ -1,0 +1,166 @@
+//! The binary `.stl` files.
+
+ghost use Rattle.std.specs.Prelude.{◌≡◌, ◌≤◌, ◌+◌, ◌-◌, ◌<◌, ◌^◌, ◌==◌, [], drop, length, map, IfOk, Ok, Err, if◌then◌else◌};
+ghost use Rattle.tet_text.specs.Faults.{extra};
+ghost use Rattle.plc_files.specs.Outcome.{Gives};
+ghost use Rattle.plc_files.specs.Checks.{HasFewParts};
+ghost use Rattle.plc_files.specs.Text.{AreWritten};
+ghost use Rattle.soup_files.specs.BinaryStl.{word_at, is_binary_stl, coordinate_at, corner_at, facet_at, facets_to_end, count_in, settled, binary_stl_of};
+ghost use Rattle.soup_files.specs.Triangles.{polygon_of};
+
+use crate::stl::{Triangle, placed, surface};
+use crate::stl_facet::StlFacet;
+use crate::vertex_set::VertexSet;
+use float_decimals::float_decimal;
+use grid_coords::DecimalPoint;
+use plc_files::{PlcFault, PlcText};
+use std::alloc::Global;
+use tet_ports::{Bytes, Items};
+use tet_text::{Decimal, TextFault, TextKind};
+
+/// The bytes before the first facet: 80 of any kind, and the number of facets.
+const HEAD: usize = 84;
+
+/// The bytes of a facet.
+const FACET: usize = 50;
+
+fn word_at(bytes: &[u8], i: usize) -> u32
+    requires { i + 4 ≤ length bytes.now }
+    ensures { result ≡ word_at bytes.now i }
+{
+    u32::from_le_bytes([bytes[i], bytes[i + 1], bytes[i + 2], bytes[i + 3]])
+}
+
+/// Whether these are the bytes of a binary `.stl` file, by their number: that is 84 and 50 for each
+/// facet that is counted at its place. The bytes before the count tell nothing, since some files
+/// begin as a text does.
+pub fn is_binary_stl(bytes: &Bytes) -> bool
+    ensures { result ≡ is_binary_stl bytes.now }
+{
+    let bytes = bytes.as_slice();
+    if bytes.len() < HEAD {
+        return false;
+    }
+    bytes.len() as u64 == 84 + 50 * u64::from(word_at(bytes, 80))
+}
+
+fn fault(facet: usize, kind: TextKind) -> TextFault
+    ensures { result ≡ record { line = facet; kind = kind } }
+{
+    TextFault { line: facet, kind }
+}
+
+fn coordinate(facet: usize, bytes: &[u8], i: usize) -> Result<Decimal, TextFault>
+    requires { i + 4 ≤ length bytes.now }
+    ensures { result ≡ coordinate_at facet bytes.now i }
+{
+    float_decimal(word_at(bytes, i)).ok_or(fault(facet, TextKind::NotANumber))
+}
+
+#[tactic(auto, unfolding(crate::specs::BinaryStl::corner_at))]
+fn corner(facet: usize, bytes: &[u8], i: usize) -> Result<DecimalPoint, TextFault>
+    requires { i + 12 ≤ length bytes.now }
+    ensures { result ≡ corner_at facet bytes.now i }
+{
+    let x = coordinate(facet, bytes, i)?;
+    let y = coordinate(facet, bytes, i + 4)?;
+    let z = coordinate(facet, bytes, i + 8)?;
+    let line = facet;
+    Ok(DecimalPoint { x, y, z, line })
+}
+
+/// The facet that stands at the front of the bytes. Its normal is not read, nor are its last two
+/// bytes.
+#[tactic(auto, unfolding(crate::specs::BinaryStl::facet_at))]
+fn facet_at(facet: usize, bytes: &[u8]) -> Result<StlFacet, TextFault>
+    ensures value { result ≡ facet_at facet bytes.now }
+    ensures whole { IfOk result (λ _. 50 ≤ length bytes.now) }
+{
+    if bytes.len() < FACET {
+        return Err(fault(facet, TextKind::Ended));
+    }
+    let a = corner(facet, bytes, 12)?;
+    let b = corner(facet, bytes, 24)?;
+    let c = corner(facet, bytes, 36)?;
+    let line = facet;
+    Ok(StlFacet { line, a, b, c })
+}
+
+/// The bytes behind so many.
+fn behind(count: usize, bytes: &[u8]) -> &[u8]
+    requires { count ≤ length bytes.now }
+    ensures { result.now ≡ drop count bytes.now }
+{
+    &bytes[count..]
+}
+
+/// That no byte is left, where this facet would be the next one.
+fn want_end(facet: usize, left: &[u8]) -> Result<(), TextFault>
+    ensures { result ≡ (if length left.now == 0 then Ok tt else Err (extra facet)) }
+{
+    if left.is_empty() {
+        return Ok(());
+    }
+    Err(fault(facet, TextKind::Extra))
+}
+
+/// So many facets, which are all, and their distinct corners, which are put in.
+fn read_facets(
+    alloc: Global,
+    count: u32,
+    bytes: &[u8],
+    points: &mut VertexSet,
+) -> Result<Items<Triangle>, PlcFault>
+    requires { points.old ≡ [] }
+    ensures { Gives (λ triangles. (points.new, map polygon_of triangles)) result
+        (settled (facets_to_end count 1 bytes.now)) }
+{
+    let mut triangles = Items::new(alloc);
+    let mut left = bytes;
+    for i in 0..count {
+        let facet = facet_at(i as usize + 1, left)?;
+        left = behind(FACET, left);
+        triangles.push(placed(facet, points)?)?;
+    }
+    want_end(count as usize + 1, left)?;
+    Ok(triangles)
+}
+
+/// How many facets there are.
+fn read_count(bytes: &[u8]) -> Result<u32, TextFault>
+    ensures value { result ≡ count_in bytes.now }
+    ensures whole { IfOk result (λ _. 84 ≤ length bytes.now) }
+{
+    if bytes.len() < HEAD {
+        return Err(fault(1, TextKind::Ended));
+    }
+    Ok(word_at(bytes, 80))
+}
+
+/// The bytes of a binary `.stl` file.
+#[tactic(auto, unfolding(crate::specs::BinaryStl::binary_stl_of))]
+fn read_bytes(alloc: Global, bytes: &[u8]) -> Result<PlcText, PlcFault>
+    requires { length bytes.now < 2 ^ 32 - 1 }
+    ensures { Gives (λ text. text) result (binary_stl_of bytes.now) }
+{
+    let count = read_count(bytes)?;
+    let mut points = VertexSet::new(alloc);
+    let triangles = read_facets(alloc, count, behind(HEAD, bytes), &mut points)?;
+    let text = surface(alloc, &points, &triangles)?;
+    Ok(text)
+}
+
+/// The complex of a binary `.stl` file of fewer than 2^32 - 1 bytes: its points are the distinct
+/// corners of its facets, equal as decimals, numbered from 0 in the order in which they are first
+/// found, and each facet is a facet of one triangle. A coordinate is the decimal of its float
+/// (`float_decimal`). Facets are counted from 1, and their numbers stand where a text has lines. Of
+/// the faults it is the first: a facet that is cut off, a coordinate that is no decimal, or bytes
+/// behind the last facet.
+pub fn read_binary_stl(alloc: Global, bytes: &Bytes) -> Result<PlcText, PlcFault>
+    requires { length bytes.now < 2 ^ 32 - 1 }
+    ensures value { Gives (λ text. text) result (binary_stl_of bytes.now) }
+    ensures attributes { IfOk result (λ text. AreWritten text.regions) }
+    ensures few { IfOk result HasFewParts }
+{
+    read_bytes(alloc, bytes.as_slice())
+}
