@@ -1,0 +1,35 @@
+//! The kinds of words.
+
+ghost use Rattle.std.specs.Prelude.{◌≡◌};
+ghost use Rattle.std.specs.List.{slice_index_or};
+ghost use Rattle.command_words.specs.Grammar.{is_cluster, is_long};
+
+/// The front of the long word that rounds coordinates.
+pub(crate) const DECIMALS: &[u8] = b"--decimals=";
+
+/// The front of the long word that asks for the sample.
+pub(crate) const SAMPLE: &[u8] = b"--sample=";
+
+/// The front of the long word that bounds the halvings of the grid.
+pub(crate) const HALVINGS: &[u8] = b"--halvings=";
+
+/// Whether the word begins with two hyphens.
+pub(crate) fn is_long(word: &[u8]) -> bool
+    ensures { result ≡ is_long word.now }
+{
+    word.starts_with(b"--")
+}
+
+/// Whether the word begins with one hyphen.
+pub(crate) fn is_cluster(word: &[u8]) -> bool
+    ensures { result ≡ is_cluster word.now }
+{
+    word.starts_with(b"-") && !is_long(word)
+}
+
+/// The byte at this place, from 0, or 0 behind the last.
+pub(crate) fn byte_at(word: &[u8], i: usize) -> u8
+    ensures { result ≡ slice_index_or word.now i 0 }
+{
+    if i < word.len() { word[i] } else { 0 }
+}

@@ -1,0 +1,39 @@
+//! What the program says of itself.
+
+/// The page: what the program does, its switches, and five examples.
+pub const PAGE: &[u8] = b"\
+tetfit [switches] name\n\
+\n\
+Fills a model with tetrahedra: the points of a .node file, or the solid that\n\
+the facets of a .poly, .smesh, .off or .stl file bound, also a binary .stl.\n\
+Coordinates are rounded to as many decimals as a mesh can be made with.\n\
+The mesh is written beside the model, as name.1.node, name.1.ele and\n\
+name.1.face.\n\
+\n\
+\x20 p     the name without its extension is that of a .poly or .smesh file\n\
+\x20 M     do not merge the coplanar facets of a model\n\
+\x20 c     keep the convex hull\n\
+\x20 A     write the attribute of its region with each tetrahedron\n\
+\x20 S<n>  add at most n points to protect segments\n\
+\x20 n     write name.1.neigh, the neighbors of each tetrahedron\n\
+\x20 f     write all faces, and not those of the surface alone\n\
+\x20 e     write name.1.edge\n\
+\x20 N     no .node file\n\
+\x20 E     no .ele file\n\
+\x20 F     no .face file and no .edge file\n\
+\x20 z     number the output from 0\n\
+\x20 Q     no summary\n\
+\x20 V     say each stage on standard error; a word of its own\n\
+\x20 h     this page; a word of its own, as --help\n\
+\x20 --halvings=<n>  halve the grid at most n times, from 0 to 12\n\
+\x20 --version       the version\n\
+\n\
+Examples:\n\
+\x20 tetfit part.stl            a solid from its surface\n\
+\x20 tetfit -V part.stl         the same, and say what is done\n\
+\x20 tetfit -nfe bracket.off    with neighbors, all faces and edges\n\
+\x20 tetfit -pcQ plates         plates.poly in its convex hull, with no summary\n\
+\x20 tetfit points.node         the Delaunay tetrahedra of points\n";
+
+/// The version.
+pub const VERSION: &[u8] = b"tetfit 1.0\n";
