@@ -2,11 +2,15 @@
 #![tactic(auto)]
 
 #[cfg(test)]
+mod binary_surfaces;
+#[cfg(test)]
 mod command_line;
 #[cfg(test)]
 mod complexes;
 #[cfg(test)]
 mod fields;
+#[cfg(test)]
+mod found_words;
 #[cfg(test)]
 mod folders;
 #[cfg(test)]

@@ -1,0 +1,110 @@
+//! Binary surfaces, and the decimals of their floats.
+
+use float_decimals::float_decimal;
+use plc_files::{PlcFault, PlcText, check_corners};
+use soup_files::{is_binary_stl, read_binary_stl};
+use std::alloc::Global;
+use std::test::Fail;
+use tet_ports::{Bytes, NoMemory};
+use tet_text::TextFault;
+use tet_text::TextKind::{Ended, Extra, NotANumber};
+
+/// The bits of a float, and its decimal.
+const FLOATS: [(u32, Option<(i128, u32)>); 13] = [
+    (0x0000_0000, Some((0, 0))),
+    (0x8000_0000, Some((0, 0))),
+    (0x3DCC_CCCD, Some((1, 1))),
+    (0x3EAA_AAAB, Some((33_333_334, 8))),
+    (0xC049_0FDB, Some((-31_415_927, 7))),
+    (0x4980_0002, Some((10_485_762, 1))),
+    (0x4B7F_FFFF, Some((16_777_215, 0))),
+    (0x5015_02F9, Some((10_000_000_000, 0))),
+    (0x0080_0000, Some((11_754_944, 45))),
+    (0x0000_0001, Some((1, 45))),
+    (0x7F7F_FFFF, None),
+    (0xFF80_0000, None),
+    (0x7FC0_0000, None),
+];
+
+#[test]
+fn floats_have_short_decimals(rt: HostRuntime) -> Result<(), Fail> {
+    for (bits, wanted) in &FLOATS {
+        let found = float_decimal(*bits).map(|d| (d.value, d.scale));
+        assert!(rt; found == *wanted, "{bits}");
+    }
+    Ok(())
+}
+
+/// 1 and 0.1
+const ONE: u32 = 0x3F80_0000;
+
+const TENTH: u32 = 0x3DCC_CCCD;
+
+/// A facet with these corners; its normal is no number.
+fn push_facet(bytes: &mut Bytes, corners: &[[u32; 3]; 3]) -> Result<(), NoMemory> {
+    bytes.extend_from_slice(&[0xFF; 12])?;
+    for corner in corners {
+        for bits in corner {
+            bytes.extend_from_slice(&bits.to_le_bytes())?;
+        }
+    }
+    bytes.extend_from_slice(b"ab")
+}
+
+/// Two facets with a common side, whose last coordinate has these bits.
+fn two_facets(alloc: Global, last: u32) -> Result<Bytes, NoMemory> {
+    let mut bytes = Bytes::from_slice(alloc, b"solid")?;
+    bytes.extend_from_slice(&[b' '; 75])?;
+    bytes.extend_from_slice(&[2, 0, 0, 0])?;
+    push_facet(&mut bytes, &[[0, 0, 0], [ONE, 0, 0], [0, TENTH, 0]])?;
+    push_facet(
+        &mut bytes,
+        &[[ONE, 0, 0], [0x8000_0000, 0, 0], [0, 0, last]],
+    )?;
+    Ok(bytes)
+}
+
+fn read(alloc: Global, bytes: &Bytes) -> Result<PlcText, PlcFault> {
+    if bytes.len() > 1000 {
+        return Err(PlcFault::NoMemory);
+    }
+    read_binary_stl(alloc, bytes)
+}
+
+#[test]
+fn a_binary_surface_is_read(rt: HostRuntime) -> Result<(), Fail> {
+    let bytes = two_facets(rt.alloc(), TENTH)?;
+    assert!(rt; is_binary_stl(&bytes));
+    let text = read(rt.alloc(), &bytes)?;
+    let points = text.nodes().map(|nodes| nodes.decimals.len());
+    assert!(rt; points == Some(4));
+    assert!(rt; check_corners(&text, 0, 4).is_ok());
+    assert!(rt; check_corners(&text, 0, 3).is_err());
+    Ok(())
+}
+
+#[test]
+fn faults_of_binary_surfaces_are_told(rt: HostRuntime) -> Result<(), Fail> {
+    let mut bytes = two_facets(rt.alloc(), TENTH)?;
+    bytes.push(0)?;
+    assert!(rt; !is_binary_stl(&bytes));
+    let extra = TextFault {
+        line: 3,
+        kind: Extra,
+    };
+    assert!(rt; read(rt.alloc(), &bytes).err() == Some(PlcFault::Text(extra)));
+    bytes.drop_last();
+    bytes.drop_last();
+    let ended = TextFault {
+        line: 2,
+        kind: Ended,
+    };
+    assert!(rt; read(rt.alloc(), &bytes).err() == Some(PlcFault::Text(ended)));
+    let infinite = two_facets(rt.alloc(), 0x7F80_0000)?;
+    let fault = TextFault {
+        line: 2,
+        kind: NotANumber,
+    };
+    assert!(rt; read(rt.alloc(), &infinite).err() == Some(PlcFault::Text(fault)));
+    Ok(())
+}
