@@ -40,7 +40,8 @@ letter_at word place = if is_cluster word && nat_lt (place - 1) (length word) th
 -- the word and the letter that is not understood; behind the last word there is none
 abbrev pub word_told : List (List ℕ) → ℕ → ℕ → List ℕ
 word_told words word place =
-    if nat_lt (word - 1) (length words) then slice_index_or words (word - 1) [] ++ codes ": " ++ letter_at (slice_index_or words (word - 1) []) place else []
+    if nat_lt (word - 1) (length words) then
+    slice_index_or words (word - 1) [] ++ codes ": " ++ letter_at (slice_index_or words (word - 1) []) place else []
 
 -- the line, which a line feed ends
 abbrev pub refused_line : List (List ℕ) → ℕ → ℕ → List ℕ

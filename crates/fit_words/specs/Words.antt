@@ -52,7 +52,9 @@ first_elsewhere number (word ∷ more) = option_map_or (λ place. Some (number, 
 
 -- the first fault of these words: one of their grammar, or else the first word that asks for one of the four
 abbrev pub fit_fault : List (List ℕ) → Option (ℕ × ℕ)
-fit_fault words = option_or (words_fault words) (if is_elsewhere (options_of words) then Some (unwrap_or (first_elsewhere 1 words) (1, 1)) else None)
+fit_fault words =
+    option_or (words_fault words)
+    (if is_elsewhere (options_of words) then Some (unwrap_or (first_elsewhere 1 words) (1, 1)) else None)
 
 -- the words ask neither for weights nor for a check, and give neither decimals nor a sample
 pub record IsPlain (options : Options) : Type 0 where

@@ -126,7 +126,8 @@ fn is_elsewhere(options: &Options) -> bool
 /// The options that the words without `-V` ask for.
 ///
 /// `Usage` exactly where they are not in the grammar of `read_words`, with its first fault, or ask
-/// for weights, a check, decimals or the sample, with the first word that does, and the place in it.
+/// for weights, a check, decimals or the sample, with the first word that does and the place in
+/// it.
 pub fn read_options(alloc: Global, words: &Words) -> Result<Options, WordsFault>
     ensures understood { IfOk result (λ options. fit_fault words.now ≡ None) }
     ensures options { IfOk result (λ options. options ≡ options_of words.now) }

@@ -20,5 +20,6 @@ shortest s = least_places (s.halvings + 1) 0 s
 abbrev pub float_decimal : ℕ → Option Scaled
 float_decimal bits =
     if not (is_finite bits) then None else
-    if nat_le 150 (exponent_of bits) then option_map (λ n. with_sign (is_negative bits) (n, 0)) (below_limit (count_of bits * 2 ^ (exponent_of bits - 150)))
+    if nat_le 150 (exponent_of bits) then
+    option_map (λ n. with_sign (is_negative bits) (n, 0)) (below_limit (count_of bits * 2 ^ (exponent_of bits - 150)))
     else option_map (λ d. with_sign (is_negative bits) (lowest d.0 d.1)) (shortest (steps_of bits))

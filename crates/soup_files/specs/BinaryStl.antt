@@ -16,7 +16,9 @@ use Rattle.soup_files.specs.Stl.{vertices_of, triangle_in, triangles_of}
 
 -- the number of 32 bits that stands at this place, its lowest byte first
 abbrev pub word_at : List ℕ → ℕ → ℕ
-word_at bytes i = from_le_bytes w32 (slice_index bytes i ∷ slice_index bytes (i + 1) ∷ slice_index bytes (i + 2) ∷ slice_index bytes (i + 3) ∷ [])
+word_at bytes i =
+    from_le_bytes w32
+    (slice_index bytes i ∷ slice_index bytes (i + 1) ∷ slice_index bytes (i + 2) ∷ slice_index bytes (i + 3) ∷ [])
 
 -- the bytes are as many as the number of facets asks for
 abbrev pub is_binary_stl : List ℕ → Bool
@@ -66,7 +68,9 @@ binary_stl_of bytes = do
 
 -- the distinct corners of the facets that are read, and the facets by these
 abbrev pub settled : Result (List StlFacet) TextFault → Result (List DecimalPoint × List PolygonText) TextFault
-settled read = read >>= λ facets. Ok (distinct_vertices (vertices_of facets), map (triangle_in (distinct_vertices (vertices_of facets))) facets)
+settled read =
+    read
+    >>= λ facets. Ok (distinct_vertices (vertices_of facets), map (triangle_in (distinct_vertices (vertices_of facets))) facets)
 
 -- facets before, and those that are read
 abbrev pub behind : List StlFacet → Result (List StlFacet) TextFault → Result (List StlFacet) TextFault

@@ -1,4 +1,5 @@
-//! Surfaces made of faces, the `.off` and `.stl` files, of the latter both the ASCII and the binary ones.
+//! Surfaces made of faces, the `.off` and `.stl` files, of the latter both the ASCII and the
+//! binary ones.
 #![tactic(auto)]
 
 mod binary_stl;

@@ -1,8 +1,9 @@
 //! Words of the program for models as they are found.
 
 use command_words::WordsFault;
-use fit_words::{PAGE, Request, VERSION, asks_stages, other_words, read_options};
-use fit_words::{refused_line, request_of};
+use fit_words::{
+    PAGE, Request, VERSION, asks_stages, other_words, read_options, refused_line, request_of,
+};
 use std::alloc::Global;
 use std::test::Fail;
 use tet_ports::{Bytes, Name, NoMemory, Words};

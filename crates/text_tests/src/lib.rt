@@ -10,9 +10,9 @@ mod complexes;
 #[cfg(test)]
 mod fields;
 #[cfg(test)]
-mod found_words;
-#[cfg(test)]
 mod folders;
+#[cfg(test)]
+mod found_words;
 #[cfg(test)]
 mod grids;
 #[cfg(test)]
