@@ -14,7 +14,7 @@ use Rattle.float_decimals.specs.Place.{IsPlace, IsNext}
 
 -- ---- the nearest whole number
 
-first_of_none : (b : Bool) (m : ℕ) (c : Bool) (n : ℕ) → first_of b m c n ≡ None → (b ≡ false) × (c ≡ false)
+pub first_of_none : (b : Bool) (m : ℕ) (c : Bool) (n : ℕ) → first_of b m c n ≡ None → (b ≡ false) × (c ≡ false)
 first_of_none true m c n none = cc
 first_of_none false m true n none = cc
 first_of_none false m false n none = (refl, refl)

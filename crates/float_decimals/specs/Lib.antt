@@ -2,3 +2,4 @@ pub mod Floats
 pub mod Nearest
 pub mod Shortest
 pub mod Place
+pub mod Laws

@@ -2,7 +2,9 @@
 #![tactic(auto)]
 
 mod decimal;
+mod laws;
 mod place;
 mod steps;
 
 pub use decimal::float_decimal;
+pub use laws::law_shortest;
