@@ -8,5 +8,5 @@ mod telling;
 
 pub use checking::{MOST_POINTS, check_files};
 pub use fault::CheckFault;
-pub use reading::{MeshText, read_list, read_mesh, read_nodes, read_rows};
+pub use reading::{MOST_BYTES, MeshText, read_list, read_mesh, read_nodes, read_rows};
 pub use telling::{defect_text, sound_line};

@@ -15,7 +15,7 @@ use std::alloc::Global;
 use tet_ports::{Bytes, FetchFault, Folder, Name, NoMemory};
 
 /// How many bytes of a file are read at most.
-const MOST_BYTES: usize = 67_108_864;
+pub const MOST_BYTES: usize = 67_108_864;
 
 /// What the files of a mesh spell: its points as they are stated, its tetrahedra by the places of
 /// their corners, its listed faces, and its listed neighbors, where there is a file of them.

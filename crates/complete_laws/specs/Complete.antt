@@ -5,7 +5,8 @@ use Rattle.tet_ports.specs.Files.{Files}
 use Rattle.geo_laws.specs.Delaunay.{AreCoplanar}
 use Rattle.grid_coords.specs.Choice.{grid_of}
 use Rattle.grid_coords.specs.declared.grid.Grid.{Grid}
-use Rattle.node_files.specs.Settling.{IsSettled, rounded_points, most_points}
+use Rattle.node_files.specs.Limits.{tetgen_limits}
+use Rattle.node_files.specs.Settling.{IsSettled, rounded_points}
 use Rattle.node_files.specs.declared.node_text.NodeText.{NodeText}
 use Rattle.node_files.specs.declared.table.NodeTable.{NodeTable}
 use Rattle.command_words.specs.Grammar.{words_fault}
@@ -14,7 +15,7 @@ use Rattle.command_words.specs.Names.{file_name}
 use Rattle.command_words.specs.declared.options.Extension.TheVariants.{Node}
 use Rattle.command_words.specs.declared.options.Options.{Options}
 use Rattle.run_steps.specs.Meshing.{grid_options}
-use Rattle.run_steps.specs.Reading.{node_text_of, most_bytes}
+use Rattle.run_steps.specs.Reading.{node_text_of}
 use Rattle.run_steps.specs.Seen.{FolderSeen, SinkSeen}
 use Rattle.run_steps.specs.declared.status.Status.{Status}
 use Rattle.run_steps.specs.declared.status.Status.TheVariants.{Done, NoMemory}
@@ -30,13 +31,13 @@ pub record AskForPoints (options : Options) : Type 0 where
 pub record IsGoodFile (options : Options) (told : Files) : Type 0 where
   pub bytes : List ℕ
   pub there : map.get told (file_name options.base Node) ≡ Some bytes
-  pub few_bytes : length bytes ≤ most_bytes
+  pub few_bytes : length bytes ≤ tetgen_limits.bytes
   pub nodes : NodeText
   pub read : node_text_of bytes ≡ Ok nodes
-  pub few_points : length nodes.decimals ≤ most_points
+  pub few_points : length nodes.decimals ≤ tetgen_limits.points
   pub grid : Grid
   pub on_grid : grid_of (grid_options options).halvings (rounded_points options.decimals nodes.decimals) ≡ Ok grid
-  pub in_space : (table : NodeTable) → IsSettled nodes (grid_options options) table → ¬ AreCoplanar table.points
+  pub in_space : (table : NodeTable) → IsSettled tetgen_limits nodes (grid_options options) table → ¬ AreCoplanar table.points
 
 -- Words in the grammar that ask for points alone, a good file in a folder that tells, and no fault of the folder or of the sink: the answer
 -- is Done, or memory was wanting

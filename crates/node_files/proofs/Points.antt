@@ -79,7 +79,7 @@ pub points_stop : (header : Header) (before : Option ℕ) (text : NodeText) (i t
     → Fails fault (point_onto header before line text) → joined before text (points_of header.attribute_count header.flag before (header.count - i) total lines) ≡ whole → Fails fault whole
 unfolding points_of
 points_stop header before text i total lines rest line faults.NoMemory whole lt line-is fails so_far = tt
-points_stop header before text i total lines rest line (faults.TooMany count) whole lt line-is fails so_far = elim fails [ ]
+points_stop header before text i total lines rest line (faults.TooMany count most) whole lt line-is fails so_far = elim fails [ ]
 points_stop header before text i total lines rest line (faults.Range at) whole lt line-is fails so_far = elim fails [ ]
 points_stop header before text i total lines rest line (faults.Text fault) whole lt line-is fails so_far =
     let left : header.count - i ≡ suc (header.count - (i + 1)) = omega arith in

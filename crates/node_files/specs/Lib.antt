@@ -1,4 +1,5 @@
 pub mod Header
+pub mod Limits
 pub mod Outcome
 pub mod Point
 pub mod Node

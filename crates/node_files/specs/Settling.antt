@@ -7,14 +7,11 @@ use Rattle.grid_coords.specs.Units.{grid_point}
 use Rattle.grid_coords.specs.Choice.{grid_of}
 use Rattle.node_files.specs.declared.fault.NodeFault.{NodeFault}
 use Rattle.node_files.specs.declared.fault.NodeFault.TheVariants as faults
+use Rattle.node_files.specs.declared.limits.Limits.{Limits}
 use Rattle.node_files.specs.declared.node_text.NodeText.{NodeText}
 use Rattle.node_files.specs.declared.table.NodeTable.{NodeTable}
 use Rattle.node_files.specs.declared.table.GridOptions.{GridOptions}
 use Rattle.node_files.specs.Folding.{IsFolded}
-
--- how many points are allowed
-abbrev pub most_points : ℕ
-most_points = 20000
 
 abbrev pub rounded_point : ℕ → DecimalPoint → DecimalPoint
 rounded_point decimals p = record { x = rounded decimals p.x; y = rounded decimals p.y; z = rounded decimals p.z; line = p.line }
@@ -36,31 +33,32 @@ with_text text ps table = record table {
   listed = map (grid_point table.grid) ps;
 }
 
--- there are more points than are allowed
-pub record IsTooMany (text : NodeText) (count : ℕ) : Type 0 where
-  pub many : most_points < length text.decimals
+-- there are more points than are allowed, and both numbers are told
+pub record IsTooMany (limits : Limits) (text : NodeText) (count most : ℕ) : Type 0 where
+  pub many : limits.points < length text.decimals
   pub counted : count ≡ length text.decimals
+  pub told : most ≡ limits.points
 
 -- there are not too many, and no grid, since the point of this line is off it
-pub record IsOffGrid (text : NodeText) (options : GridOptions) (line : ℕ) : Type 0 where
-  pub few : length text.decimals ≤ most_points
+pub record IsOffGrid (limits : Limits) (text : NodeText) (options : GridOptions) (line : ℕ) : Type 0 where
+  pub few : length text.decimals ≤ limits.points
   pub off : grid_of options.halvings (rounded_points options.decimals text.decimals) ≡ Err (record { line = line })
 
 -- there are not too many, and they are on this grid
-pub record IsOnItsGrid (text : NodeText) (options : GridOptions) (grid : Grid) : Type 0 where
-  pub few : length text.decimals ≤ most_points
+pub record IsOnItsGrid (limits : Limits) (text : NodeText) (options : GridOptions) (grid : Grid) : Type 0 where
+  pub few : length text.decimals ≤ limits.points
   pub on : grid_of options.halvings (rounded_points options.decimals text.decimals) ≡ Ok grid
 
 -- they are on a grid, where equal ones are folded, and the table says so
-pub record IsSettled (text : NodeText) (options : GridOptions) (table : NodeTable) : Type 0 where
-  pub on : IsOnItsGrid text options table.grid
+pub record IsSettled (limits : Limits) (text : NodeText) (options : GridOptions) (table : NodeTable) : Type 0 where
+  pub on : IsOnItsGrid limits text options table.grid
   pub is : table ≡ with_text text (rounded_points options.decimals text.decimals) table
   pub folded : IsFolded table.listed table.points table.names table.folded
 
 -- the first of these refusals that there is, unless memory ran out, else the table
-abbrev pub Settles : NodeText → GridOptions → Result NodeTable NodeFault → Type 0
-Settles text options (Ok table) = IsSettled text options table
-Settles text options (Err (faults.TooMany count)) = IsTooMany text count
-Settles text options (Err (faults.Range line)) = IsOffGrid text options line
-Settles text options (Err faults.NoMemory) = Unit {0}
-Settles text options (Err (faults.Text fault)) = ⊥
+abbrev pub Settles : Limits → NodeText → GridOptions → Result NodeTable NodeFault → Type 0
+Settles limits text options (Ok table) = IsSettled limits text options table
+Settles limits text options (Err (faults.TooMany count most)) = IsTooMany limits text count most
+Settles limits text options (Err (faults.Range line)) = IsOffGrid limits text options line
+Settles limits text options (Err faults.NoMemory) = Unit {0}
+Settles limits text options (Err (faults.Text fault)) = ⊥

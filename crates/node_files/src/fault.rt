@@ -14,9 +14,9 @@ pub enum NodeFault {
     /// The text is not in the grammar; its first fault.
     #[error("{0}")]
     Text(TextFault),
-    /// There are more points than are allowed; their number.
-    #[error("{count} points, at most 20000")]
-    TooMany { count: u64 },
+    /// There are more points than are allowed; their number, and how many are allowed.
+    #[error("{count} points, at most {most}")]
+    TooMany { count: u64, most: usize },
     /// A coordinate is too large for the grid; the line of the first such point, from 1.
     #[error("line {line}: coordinate off the grid")]
     Range { line: usize },

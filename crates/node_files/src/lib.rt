@@ -4,6 +4,7 @@
 mod fault;
 mod folding;
 mod header;
+mod limits;
 mod node_text;
 mod point;
 mod reading;
@@ -14,6 +15,7 @@ mod writing;
 pub use fault::NodeFault;
 pub use folding::names_of;
 pub use header::count_or;
+pub use limits::Limits;
 pub use node_text::{Markers, NodeText};
 pub use point::read_place;
 pub use reading::{read_node, read_node_list};

@@ -3,19 +3,17 @@
 ghost use Rattle.std.specs.Prelude.{◌≡◌, ◌≤◌, ◌<◌, map, All, IfOk, length};
 ghost use Rattle.grid_coords.specs.Units.{IsPointOnGrid, grid_point};
 ghost use Rattle.geo_laws.specs.Delaunay.{HasDistinctPoints};
+ghost use Rattle.node_files.specs.Limits.{AreIndexable};
 ghost use Rattle.node_files.specs.Node.{IsNodeText};
-ghost use Rattle.node_files.specs.Settling.{most_points, rounded_point, rounded_points, Settles};
+ghost use Rattle.node_files.specs.Settling.{rounded_point, rounded_points, Settles};
 ghost use Rattle.node_files.specs.Writing.{IsNodeTable};
 
 use crate::folding::{Folding, fold_points};
-use crate::{GridOptions, NodeFault, NodeTable, NodeText};
+use crate::{GridOptions, Limits, NodeFault, NodeTable, NodeText};
 use geo_laws::Points;
 use grid_coords::{DecimalPoint, DecimalPoints, Grid, choose_grid, round_to, to_grid};
 use std::alloc::Global;
 use tet_ports::NoMemory;
-
-/// How many points are allowed at most.
-const MOST_POINTS: usize = 20_000;
 
 fn rounded_point(decimals: u32, p: &DecimalPoint) -> DecimalPoint
     ensures { result ≡ rounded_point decimals p.now }
@@ -67,18 +65,25 @@ fn grid_points(alloc: Global, grid: &Grid, points: &[DecimalPoint]) -> Result<Po
 }
 
 /// The points of a list on a grid, each rounded first where that is asked for. TooMany where there
-/// are more than `MOST_POINTS`; then Range where a coordinate is too large for a grid, with the
+/// are more than the limits allow; then Range where a coordinate is too large for a grid, with the
 /// line of the first such point. Points that are equal on the grid are folded.
-pub fn settle(alloc: Global, text: NodeText, options: &GridOptions) -> Result<NodeTable, NodeFault>
-    ensures outcome { Settles text options.now result }
+pub fn settle(
+    alloc: Global,
+    limits: Limits,
+    text: NodeText,
+    options: &GridOptions,
+) -> Result<NodeTable, NodeFault>
+    requires { AreIndexable limits }
+    ensures outcome { Settles limits text options.now result }
     ensures table { IsNodeText text → IfOk result IsNodeTable }
-    ensures few { IfOk result (λ table. length table.listed ≤ most_points) }
+    ensures few { IfOk result (λ table. length table.listed ≤ limits.points) }
     ensures distinct { IfOk result (λ table. HasDistinctPoints table.points) }
 {
     let count = text.decimals.len();
-    if count > MOST_POINTS {
+    if count > limits.points {
         return Err(NodeFault::TooMany {
             count: count as u64,
+            most: limits.points,
         });
     }
     let decimals = rounded_points(alloc, options.decimals, text.decimals)?;

@@ -10,6 +10,7 @@ use Rattle.grid_coords.specs.Units.{rational_point}
 use Rattle.geo_laws.specs.declared.complex.Region.{Region}
 use Rattle.geo_laws.specs.declared.complex.Complex.{Complex as BoundComplex}
 use Rattle.geo_laws.specs.Complex.{Complex}
+use Rattle.node_files.specs.declared.limits.Limits.{Limits}
 use Rattle.plc_files.specs.declared.fault.PlcFault.{PlcFault}
 use Rattle.tet_text.specs.Lines.{IsField}
 use Rattle.plc_files.specs.Text.{AreWritten, Facet, Plc}
@@ -35,21 +36,21 @@ weights first grid t =
     let AtWeighs : Region → Type 0 = λ r. pos 0 <ℤ r.at.w in
     record { holes = points_weigh grid t.holes; regions = All-map AtWeighs (bound_region grid) t.regions (λ k d lt. million); facet_holes = facets_weigh grid 0 t.facets }
 
-pub has_corners : (first count : ℕ) (grid : Grid) (t : Plc) (r : Result BoundComplex PlcFault) → corners_check first count t ≡ Ok tt → Binds t first grid r → IfOk r (λ complex. HasCornersBelow count complex)
-has_corners first count grid t (Ok complex) is binds =
+pub has_corners : (limits : Limits) (first count : ℕ) (grid : Grid) (t : Plc) (r : Result BoundComplex PlcFault) → corners_check first count t ≡ Ok tt → Binds limits t first grid r → IfOk r (λ complex. HasCornersBelow count complex)
+has_corners limits first count grid t (Ok complex) is binds =
     let P : Complex → Type 0 = HasCornersBelow count in
     subst P (sym binds.is) (corners_below first count t is)
-has_corners first count grid t (Err fault) is binds = tt
+has_corners limits first count grid t (Err fault) is binds = tt
 
-pub has_weights : (first : ℕ) (grid : Grid) (t : Plc) (r : Result BoundComplex PlcFault) → Binds t first grid r → IfOk r (λ complex. HasWeights complex)
-has_weights first grid t (Ok complex) binds =
+pub has_weights : (limits : Limits) (first : ℕ) (grid : Grid) (t : Plc) (r : Result BoundComplex PlcFault) → Binds limits t first grid r → IfOk r (λ complex. HasWeights complex)
+has_weights limits first grid t (Ok complex) binds =
     let P : Complex → Type 0 = HasWeights in
     subst P (sym binds.is) (weights first grid t)
-has_weights first grid t (Err fault) binds = tt
+has_weights limits first grid t (Err fault) binds = tt
 
-pub has_attributes : (first : ℕ) (grid : Grid) (t : Plc) (r : Result BoundComplex PlcFault) → Binds t first grid r → IfOk r (λ complex. AreWritten t.regions → All (λ r. IsField r.attribute) complex.regions)
-has_attributes first grid t (Ok complex) binds =
+pub has_attributes : (limits : Limits) (first : ℕ) (grid : Grid) (t : Plc) (r : Result BoundComplex PlcFault) → Binds limits t first grid r → IfOk r (λ complex. AreWritten t.regions → All (λ r. IsField r.attribute) complex.regions)
+has_attributes limits first grid t (Ok complex) binds =
     let P : Complex → Type 0 = λ c. All (λ r. IsField r.attribute) c.regions in
     let IsWritten : Region → Type 0 = λ r. IsField r.attribute in
     λ h. subst P (sym binds.is) (All-map IsWritten (bound_region grid) t.regions h)
-has_attributes first grid t (Err fault) binds = tt
+has_attributes limits first grid t (Err fault) binds = tt

@@ -11,6 +11,7 @@ use Rattle.incidence.specs.Pairs.{pairs_of}
 use Rattle.mesh_files.specs.FaceRows.{AreFaceRowsOf}
 use Rattle.mesh_files.specs.Texts.{ele_text, ele_text_of, face_text, edge_text, neigh_text}
 use Rattle.mesh_files.specs.declared.markers.FaceRow.{FaceRow}
+use Rattle.node_files.specs.Limits.{tetgen_limits}
 use Rattle.node_files.specs.Writing.{node_text}
 use Rattle.mesh_check.specs.Defects.{IsVerdict}
 use Rattle.mesh_check.specs.declared.defect.Verdict.TheVariants.{Sound}
@@ -253,4 +254,4 @@ checked_after words folder outputs run plain can before held fresh stored later 
     let one = checked_run words folder outputs run plain can before fresh seen left in
     let based = subst (λ name. CheckAnswer seen name None (Ok (length run.mesh.tetrahedra))) (sym base) one in
     let whole = subst (λ decimals. CheckAnswer seen (options_of later).base decimals (Ok (length run.mesh.tetrahedra))) (sym exact) based in
-    subst (λ b. AnswerBy b later after out Done) (sym asks) (length run.mesh.tetrahedra, understood, whole)
+    subst (λ b. AnswerBy tetgen_limits b later after out Done) (sym asks) (length run.mesh.tetrahedra, understood, whole)

@@ -10,6 +10,7 @@ use Rattle.tet_text.specs.Reading.{◌>>=◌, text_end_at}
 use Rattle.geo_laws.specs.Complex.{Complex}
 use Rattle.geo_laws.specs.Segment.{pieces}
 use Rattle.grid_coords.specs.declared.grid.Grid.{Grid}
+use Rattle.node_files.specs.Limits.{tetgen_limits}
 use Rattle.node_files.specs.Node.{node_of, node_list_of}
 use Rattle.node_files.specs.declared.node_text.NodeText.{NodeText}
 use Rattle.node_files.specs.declared.table.NodeTable.{NodeTable}
@@ -54,7 +55,7 @@ node_short bytes text e =
     let b = bind_ok (text_end_at a.0.1) (λ u. Ok a.0.0) text a.2 in
     subst HasShortNumbers (ok_is a.0.0 text b.2) (nodes_read (line_count_of bytes) (content_lines bytes) a.0.1 a.0.0 a.1)
 
-points_short : (seen : FolderSeen) (base : List ℕ) (text : NodeText) → PointsAnswer seen base (Ok text) → HasShortNumbers text
+points_short : (seen : FolderSeen) (base : List ℕ) (text : NodeText) → PointsAnswer tetgen_limits seen base (Ok text) → HasShortNumbers text
 points_short seen base text (bytes, fetched, read) = node_short bytes text read
 
 plc_short : (extension : Extension) (bytes : List ℕ) (text : Plc) → plc_text_of extension bytes ≡ Ok text → IsNumberedShort text
@@ -64,14 +65,14 @@ plc_short Smesh bytes text e = plc_read _ (line_count_of bytes) (content_lines b
 plc_short Off bytes text e = surface_read (line_count_of bytes) (content_lines bytes) text (inl e)
 plc_short Stl bytes text e = surface_read (line_count_of bytes) (content_lines bytes) text (inr e)
 
-form_short : (seen : FolderSeen) (base : List ℕ) (extension : Extension) (file : ComplexFile) → FormAnswer seen base extension (Ok file) → IsNumberedShort file.text
+form_short : (seen : FolderSeen) (base : List ℕ) (extension : Extension) (file : ComplexFile) → FormAnswer tetgen_limits seen base extension (Ok file) → IsNumberedShort file.text
 form_short seen base extension file (bytes, fetched, (text, read, is)) = subst (λ (f : ComplexFile). IsNumberedShort f.text) (sym is) (plc_short extension bytes text read)
 
-either : (seen : FolderSeen) (base : List ℕ) (file : ComplexFile) → IfMissing (FormAnswer seen base Poly) (FormAnswer seen base Smesh) (Ok file) → IsNumberedShort file.text
+either : (seen : FolderSeen) (base : List ℕ) (file : ComplexFile) → IfMissing (FormAnswer tetgen_limits seen base Poly) (FormAnswer tetgen_limits seen base Smesh) (Ok file) → IsNumberedShort file.text
 either seen base file (inl (answer, found)) = form_short seen base Poly file answer
 either seen base file (inr (name, missing, answer)) = form_short seen base Smesh file answer
 
-file_short : (seen : FolderSeen) (base : List ℕ) (extension : Option Extension) (file : ComplexFile) → ComplexFileAnswer seen base extension (Ok file) → IsNumberedShort file.text
+file_short : (seen : FolderSeen) (base : List ℕ) (extension : Option Extension) (file : ComplexFile) → ComplexFileAnswer tetgen_limits seen base extension (Ok file) → IsNumberedShort file.text
 file_short seen base (Some Smesh) file answer = form_short seen base Smesh file answer
 file_short seen base (Some Poly) file answer = form_short seen base Poly file answer
 file_short seen base (Some Off) file answer = form_short seen base Off file answer
@@ -91,15 +92,15 @@ of_sample n = (record { first = omega arith; markers = λ k d lt. absurd (omega 
     box (suc (suc (suc (suc (suc zero))))) d lt = tt
     box (suc (suc (suc (suc (suc (suc k)))))) d lt = absurd (omega arith)
 
-source_short : (seen : FolderSeen) (base : List ℕ) (extension : Option Extension) (sample : Option ℕ) (file : ComplexFile) → SourceAnswer seen base extension sample (Ok file) → IsNumberedShort file.text
+source_short : (seen : FolderSeen) (base : List ℕ) (extension : Option Extension) (sample : Option ℕ) (file : ComplexFile) → SourceAnswer tetgen_limits seen base extension sample (Ok file) → IsNumberedShort file.text
 source_short seen base extension (Some n) file is = subst (λ (f : ComplexFile). IsNumberedShort f.text) (sym is) (of_sample n)
 source_short seen base extension None file answer = file_short seen base extension file answer
 
-own_or_read : (seen : FolderSeen) (base : List ℕ) (own : Option NodeText) (nodes : NodeText) → IfSome own HasShortNumbers → NodesAnswer seen base own (Ok nodes) → HasShortNumbers nodes
+own_or_read : (seen : FolderSeen) (base : List ℕ) (own : Option NodeText) (nodes : NodeText) → IfSome own HasShortNumbers → NodesAnswer tetgen_limits seen base own (Ok nodes) → HasShortNumbers nodes
 own_or_read seen base (Some text) nodes short is = subst HasShortNumbers (sym is) short
 own_or_read seen base None nodes short answer = points_short seen base nodes answer
 
-input_short : (piecewise : Bool) (seen : FolderSeen) (options : Options) (input : Input) → InputOf piecewise seen options (Ok input) → IsReadShort input
+input_short : (piecewise : Bool) (seen : FolderSeen) (options : Options) (input : Input) → InputOf tetgen_limits piecewise seen options (Ok input) → IsReadShort input
 input_short false seen options input (nodes, read, is) =
     let short = points_short seen options.base nodes read in
     subst IsReadShort (sym is) (record { first = short.first; markers = λ k d lt. absurd (omega arith) })
@@ -164,7 +165,7 @@ bound_short grid from [] h k d lt = absurd (omega arith)
 bound_short grid from (f ∷ fs) h zero d lt = h 0 f (omega arith)
 bound_short grid from (f ∷ fs) h (suc k) d lt = bound_short grid (from + length f.polygons) fs (λ i e l. h (suc i) e (omega arith)) k d (omega arith)
 
-module _ (options : Options) (budget : options.budget ≤ 100000) (input : Input) (short : IsReadShort input) (bound : Bound) (on_grid : BoundAnswer options input (Ok bound)) where
+module _ (options : Options) (budget : options.budget ≤ 100000) (input : Input) (short : IsReadShort input) (bound : Bound) (on_grid : BoundAnswer tetgen_limits options input (Ok bound)) where
   first_is : bound.table.first ≡ input.nodes.first
   first_is = ap (λ (t : NodeTable). t.first) on_grid.0.is
 
@@ -173,7 +174,7 @@ module _ (options : Options) (budget : options.budget ≤ 100000) (input : Input
 
   listed_few : length bound.table.listed ≤ 20000
   listed_few =
-      let count = as_many input.nodes (grid_options options) bound.table on_grid.0 in
+      let count = as_many tetgen_limits input.nodes (grid_options options) bound.table on_grid.0 in
       let few = on_grid.0.on.few in
       omega arith
 
@@ -204,7 +205,7 @@ module _ (options : Options) (budget : options.budget ≤ 100000) (input : Input
   by_mesh true mesh plain (made, m, is) = subst HasInputNumbers (sym is) (of_complex made m)
 
 pub input_numbers : (words : List (List ℕ)) (folder : FolderSeen) (input : Input) (bound : Bound) (mesh : Meshed) → (options_of words).weighted ≡ false
-    → InputAnswer folder (options_of words) (Ok input) → BoundAnswer (options_of words) input (Ok bound) → MeshAnswer (options_of words) bound (Ok mesh) → HasInputNumbers mesh
+    → InputAnswer tetgen_limits folder (options_of words) (Ok input) → BoundAnswer tetgen_limits (options_of words) input (Ok bound) → MeshAnswer (options_of words) bound (Ok mesh) → HasInputNumbers mesh
 input_numbers words folder input bound mesh plain read on_grid answer =
     let options = options_of words in
     by_mesh options (budget_small words) input (input_short options.piecewise folder options input read) bound on_grid options.piecewise mesh plain answer

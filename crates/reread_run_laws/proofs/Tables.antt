@@ -11,6 +11,7 @@ use Rattle.geo_laws.specs.Segment.{pieces}
 use Rattle.geo_laws.specs.declared.complex.Facet.{Facet}
 use Rattle.mesh_files.specs.FaceRows.{IsMarker, AreFaceRowsOf, marker_or_1}
 use Rattle.mesh_files.specs.declared.markers.FaceRow.{FaceRow}
+use Rattle.node_files.specs.Limits.{tetgen_limits}
 use Rattle.node_files.specs.Folding.{IsFolded, names_with}
 use Rattle.node_files.specs.Settling.{IsSettled}
 use Rattle.node_files.specs.declared.node_text.NodeText.{NodeText}
@@ -46,7 +47,7 @@ some_listed table added folded apart =
     let few = folded_few table.listed table.points table.names table.folded folded in
     omega (arith, length-append table.listed added)
 
-module _ (options : Options) (text : NodeText) (bound : Bound) (settled : IsSettled text (grid_options options) bound.table) where
+module _ (options : Options) (text : NodeText) (bound : Bound) (settled : IsSettled tetgen_limits text (grid_options options) bound.table) where
   of_points : ¬ AreCoplanar bound.table.points → IsOfTable (mesh_of_points bound.table)
   of_points apart =
       let within = settled_within text (grid_options options) bound.table settled in record {
@@ -82,14 +83,14 @@ module _ (options : Options) (text : NodeText) (bound : Bound) (settled : IsSett
       added_within : (qs : List Point) → All IsOnGrid qs → All IsOnGrid (drop (length bound.table.points) qs)
       added_within qs all = All-drop IsOnGrid (length bound.table.points) qs all
 
-by_mesh : (piecewise : Bool) (options : Options) (text : NodeText) (bound : Bound) (mesh : Meshed) → options.weighted ≡ false → IsSettled text (grid_options options) bound.table
+by_mesh : (piecewise : Bool) (options : Options) (text : NodeText) (bound : Bound) (mesh : Meshed) → options.weighted ≡ false → IsSettled tetgen_limits text (grid_options options) bound.table
     → MeshOf piecewise options bound (Ok mesh) → IsOfTable mesh
 by_mesh false options text bound mesh plain settled answer =
     let points = subst (λ weighted. PointsMeshOf weighted options bound (Ok mesh)) plain answer in
     subst IsOfTable (sym points.1) (of_points options text bound settled points.0)
 by_mesh true options text bound mesh plain settled (made, m, is) = subst IsOfTable (sym is) (of_complex options text bound settled made m)
 
-pub of_table : (options : Options) (input : Input) (bound : Bound) (mesh : Meshed) → options.weighted ≡ false → BoundAnswer options input (Ok bound) → MeshAnswer options bound (Ok mesh) → IsOfTable mesh
+pub of_table : (options : Options) (input : Input) (bound : Bound) (mesh : Meshed) → options.weighted ≡ false → BoundAnswer tetgen_limits options input (Ok bound) → MeshAnswer options bound (Ok mesh) → IsOfTable mesh
 of_table options input bound mesh plain on_grid answer = by_mesh options.piecewise options input.nodes bound mesh plain on_grid.0 answer
 
 -- ---- markers

@@ -25,8 +25,9 @@ use Rattle.plc_files.specs.Folding.{folded_complex}
 use Rattle.sign_predicates.specs.Orientation.{IsPositive}
 use Rattle.grid_coords.specs.Units.{grid_point}
 use Rattle.grid_coords.specs.declared.points.DecimalPoint.{DecimalPoint}
-use Rattle.node_files.specs.Settling.{IsSettled, rounded_points, rounded_point, most_points}
+use Rattle.node_files.specs.Settling.{IsSettled, rounded_points, rounded_point}
 use Rattle.node_files.specs.Writing.{IsNodeTable}
+use Rattle.node_files.specs.declared.limits.Limits.{Limits}
 use Rattle.node_files.specs.declared.node_text.NodeText.{NodeText}
 use Rattle.node_files.specs.declared.table.GridOptions.{GridOptions}
 use Rattle.node_files.specs.declared.table.NodeTable.{NodeTable}
@@ -43,7 +44,7 @@ rounded_long : (decimals : Option ℕ) (ps : List DecimalPoint) → length (roun
 rounded_long None ps = refl
 rounded_long (Some decimals) ps = length-map ps (rounded_point decimals)
 
-module _ (text : NodeText) (options : GridOptions) (table : NodeTable) (s : IsSettled text options table) where
+module _ (limits : Limits) (text : NodeText) (options : GridOptions) (table : NodeTable) (s : IsSettled limits text options table) where
   listed_are : table.listed ≡ map (grid_point table.grid) (rounded_points options.decimals text.decimals)
   listed_are = ap (λ (t : NodeTable). t.listed) s.is
 
@@ -69,7 +70,7 @@ module _ (text : NodeText) (options : GridOptions) (table : NodeTable) (s : IsSe
       let k = kept_at table.listed table.points table.names table.folded s.folded i h in
       subst (IsMultiple (2 ^ table.grid.halvings)) (sym k.1) (listed_multiples (slice_index table.names i) k.0)
 
-  pub meshable : (budget : ℕ) (complex : Complex) → budget ≤ 100000 → length table.listed ≤ most_points → HasCornersBelow (length table.points) complex → HasWeights complex
+  pub meshable : (budget : ℕ) (complex : Complex) → budget ≤ 100000 → length table.listed ≤ 2 ^ 31 → HasCornersBelow (length table.points) complex → HasWeights complex
       → IsMeshable table.grid.halvings budget table.points complex
   meshable budget complex h few corners weights = record {
     distinct = folded_distinct table.listed table.points table.names table.folded s.folded;
@@ -81,10 +82,10 @@ module _ (text : NodeText) (options : GridOptions) (table : NodeTable) (s : IsSe
   }
 
 -- the points and the complex on their grid
-pub meshable_bound : (options : Options) (text : NodeText) (table : NodeTable) (complex : Complex) → AreInRange options → IsSettled text (grid_options options) table → IsNodeTable table
-    → length table.listed ≤ most_points → HasCornersBelow (length table.points) complex → HasWeights complex → IsMeshableBound options (record { table = table; complex = complex })
-meshable_bound options text table complex ranges s h few corners weights =
-    record { table = h; decimals = decimals_long text (grid_options options) table s; few = few; budget = ranges.budget; meshable = meshable text (grid_options options) table s options.budget complex ranges.budget few corners weights }
+pub meshable_bound : (limits : Limits) (options : Options) (text : NodeText) (table : NodeTable) (complex : Complex) → AreInRange options → IsSettled limits text (grid_options options) table → IsNodeTable table
+    → length table.listed ≤ 2 ^ 31 → HasCornersBelow (length table.points) complex → HasWeights complex → IsMeshableBound options (record { table = table; complex = complex })
+meshable_bound limits options text table complex ranges s h few corners weights =
+    record { table = h; decimals = decimals_long limits text (grid_options options) table s; few = few; budget = ranges.budget; meshable = meshable limits text (grid_options options) table s options.budget complex ranges.budget few corners weights }
 
 -- folding changes no hole point and no region point
 pub weights_folded : (folded : List ℕ) (raw complex : Complex) → complex ≡ folded_complex folded raw → HasWeights raw → HasWeights complex

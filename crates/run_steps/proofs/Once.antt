@@ -16,9 +16,10 @@ use Rattle.geo_laws.specs.Delaunay.{AreCoplanar, point}
 use Rattle.grid_coords.specs.Units.{grid_point}
 use Rattle.grid_coords.specs.declared.grid.Grid.{Grid}
 use Rattle.grid_coords.specs.declared.grid.Range.{Range}
-use Rattle.node_files.specs.Settling.{IsSettled, IsTooMany, IsOffGrid, most_points, rounded_points, with_text}
+use Rattle.node_files.specs.Settling.{IsSettled, IsTooMany, IsOffGrid, rounded_points, with_text}
 use Rattle.node_files.proofs.Folds.{folded_once}
 use Rattle.node_files.specs.Folding.{IsFolded}
+use Rattle.node_files.specs.declared.limits.Limits.{Limits}
 use Rattle.node_files.specs.declared.node_text.NodeText.{NodeText}
 use Rattle.node_files.specs.declared.table.NodeTable.{NodeTable}
 use Rattle.plc_files.specs.Binding.{HasManyFacets, HasLongPolygon, complex_of}
@@ -33,7 +34,7 @@ use Rattle.tet_ports.specs.Files.{Files}
 use Rattle.tet_text.specs.declared.fault.TextFault.{TextFault}
 use Rattle.run_steps.specs.Codes.{status_of_fault, status_of_weights}
 use Rattle.run_steps.specs.Meshing.{grid_options, mesh_options, IsSmall, IsBoundOn, BoundAnswer, IsFlatRefusal, PointsMeshOf, MeshOf, MeshAnswer, OutputsAnswer, MeshedAnswer, OutputsOfRun}
-use Rattle.run_steps.specs.Reading.{complex_file, points_alone, on_points, most_bytes, node_text_of, plc_text_of, IsUsage, WordsAnswer, FetchAnswer, IsBadText, TextAnswer, PointsAnswer, FormAnswer, ComplexFileAnswer, SourceAnswer, NodesAnswer, BoundedAnswer, InputOf, InputAnswer}
+use Rattle.run_steps.specs.Reading.{complex_file, points_alone, on_points, node_text_of, plc_text_of, IsUsage, WordsAnswer, FetchAnswer, IsBadText, TextAnswer, PointsAnswer, FormAnswer, ComplexFileAnswer, SourceAnswer, NodesAnswer, BoundedAnswer, InputOf, InputAnswer}
 use Rattle.run_steps.specs.Seen.{FolderSeen}
 use Rattle.run_steps.specs.Steps.{AndThen, IfMissing, Gives, forced_answer}
 use Rattle.run_steps.specs.declared.input.ComplexFile.{ComplexFile}
@@ -70,34 +71,34 @@ words_once words (Err s) (Err t) n m h k =
 -- ---- the files
 
 -- what a fetch from told files answers
-data FetchCase (told : Files) (name : List ℕ) (r : Result (List ℕ) Status) : Type 0 where
-  found : (bytes : List ℕ) → map_of.get told name ≡ Some bytes → length bytes ≤ most_bytes → r ≡ Ok bytes → FetchCase told name r
-  absent : map_of.get told name ≡ None → r ≡ Err (Missing name) → FetchCase told name r
-  long : (bytes : List ℕ) → map_of.get told name ≡ Some bytes → most_bytes < length bytes → r ≡ Err (Limit (TooLong name)) → FetchCase told name r
+data FetchCase (limits : Limits) (told : Files) (name : List ℕ) (r : Result (List ℕ) Status) : Type 0 where
+  found : (bytes : List ℕ) → map_of.get told name ≡ Some bytes → length bytes ≤ limits.bytes → r ≡ Ok bytes → FetchCase limits told name r
+  absent : map_of.get told name ≡ None → r ≡ Err (Missing name) → FetchCase limits told name r
+  long : (bytes : List ℕ) → map_of.get told name ≡ Some bytes → limits.bytes < length bytes → r ≡ Err (Limit (TooLong name limits.bytes)) → FetchCase limits told name r
 
-fetch_case : (told : Files) (seen : FolderSeen) (name : List ℕ) (r : Result (List ℕ) Status) → ¬ Rose seen.faults_before seen.faults_now → IsDecided r
-    → FetchAnswer (record seen { files_before = Some told }) name r → FetchCase told name r
-fetch_case told seen name (Ok bytes) f n h = found bytes h.0 h.1 refl
-fetch_case told seen name (Err (Missing missing)) f n h = absent h.1 (ap (λ x. Err (Missing x)) h.0)
-fetch_case told seen name (Err (ReadFault failed)) f n h = absurd (f h.1)
-fetch_case told seen name (Err (Limit (TooLong large))) f n h = long h.1.0 h.1.1 h.1.2 (ap (λ x. Err (Limit (TooLong x))) h.0)
-fetch_case told seen name (Err NoMemory) f n h = absurd (n refl)
-fetch_case told seen name (Err s) f n h = absurd h
+fetch_case : (limits : Limits) (told : Files) (seen : FolderSeen) (name : List ℕ) (r : Result (List ℕ) Status) → ¬ Rose seen.faults_before seen.faults_now → IsDecided r
+    → FetchAnswer limits (record seen { files_before = Some told }) name r → FetchCase limits told name r
+fetch_case limits told seen name (Ok bytes) f n h = found bytes h.0 h.1 refl
+fetch_case limits told seen name (Err (Missing missing)) f n h = absent h.1 (ap (λ x. Err (Missing x)) h.0)
+fetch_case limits told seen name (Err (ReadFault failed)) f n h = absurd (f h.1)
+fetch_case limits told seen name (Err (Limit (TooLong large most))) f n h = long h.1.0 h.1.1 h.1.2 (ap (λ x. Err (Limit (TooLong x most))) h.0 ∙ ap (λ x. Err (Limit (TooLong name x))) h.2)
+fetch_case limits told seen name (Err NoMemory) f n h = absurd (n refl)
+fetch_case limits told seen name (Err s) f n h = absurd h
 
-fetch_same : (told : Files) (name : List ℕ) (r s : Result (List ℕ) Status) → FetchCase told name r → FetchCase told name s → r ≡ s
-fetch_same told name r s (found b e l h) (found c f m k) = h ∙ ap (λ x. Ok x) (some_same b c (sym e ∙ f)) ∙ sym k
-fetch_same told name r s (found b e l h) (absent f k) = absurd (cc)
-fetch_same told name r s (found b e l h) (long c f m k) = let same = ap (λ (x : List ℕ). length x) (some_same b c (sym e ∙ f)) in absurd (omega (arith, same))
-fetch_same told name r s (absent e h) (found c f m k) = absurd (cc)
-fetch_same told name r s (absent e h) (absent f k) = h ∙ sym k
-fetch_same told name r s (absent e h) (long c f m k) = absurd (cc)
-fetch_same told name r s (long b e l h) (found c f m k) = let same = ap (λ (x : List ℕ). length x) (some_same b c (sym e ∙ f)) in absurd (omega (arith, same))
-fetch_same told name r s (long b e l h) (absent f k) = absurd (cc)
-fetch_same told name r s (long b e l h) (long c f m k) = h ∙ sym k
+fetch_same : (limits : Limits) (told : Files) (name : List ℕ) (r s : Result (List ℕ) Status) → FetchCase limits told name r → FetchCase limits told name s → r ≡ s
+fetch_same limits told name r s (found b e l h) (found c f m k) = h ∙ ap (λ x. Ok x) (some_same b c (sym e ∙ f)) ∙ sym k
+fetch_same limits told name r s (found b e l h) (absent f k) = absurd (cc)
+fetch_same limits told name r s (found b e l h) (long c f m k) = let same = ap (λ (x : List ℕ). length x) (some_same b c (sym e ∙ f)) in absurd (omega (arith, same))
+fetch_same limits told name r s (absent e h) (found c f m k) = absurd (cc)
+fetch_same limits told name r s (absent e h) (absent f k) = h ∙ sym k
+fetch_same limits told name r s (absent e h) (long c f m k) = absurd (cc)
+fetch_same limits told name r s (long b e l h) (found c f m k) = let same = ap (λ (x : List ℕ). length x) (some_same b c (sym e ∙ f)) in absurd (omega (arith, same))
+fetch_same limits told name r s (long b e l h) (absent f k) = absurd (cc)
+fetch_same limits told name r s (long b e l h) (long c f m k) = h ∙ sym k
 
-fetch_once : (told : Files) (seen : FolderSeen) (name : List ℕ) → seen.files_before ≡ Some told → ¬ Rose seen.faults_before seen.faults_now → IsOnce (FetchAnswer seen name)
-fetch_once told seen name e f = subst (λ files. IsOnce (FetchAnswer (record seen { files_before = files }) name)) (sym e)
-    (λ r s n m h k. fetch_same told name r s (fetch_case told seen name r f n h) (fetch_case told seen name s f m k))
+fetch_once : (limits : Limits) (told : Files) (seen : FolderSeen) (name : List ℕ) → seen.files_before ≡ Some told → ¬ Rose seen.faults_before seen.faults_now → IsOnce (FetchAnswer limits seen name)
+fetch_once limits told seen name e f = subst (λ files. IsOnce (FetchAnswer limits (record seen { files_before = files }) name)) (sym e)
+    (λ r s n m h k. fetch_same limits told name r s (fetch_case limits told seen name r f n h) (fetch_case limits told seen name s f m k))
 
 -- ---- the texts
 
@@ -129,36 +130,36 @@ pub record IsTold (told : Files) (seen : FolderSeen) : Type 0 where
   pub files : seen.files_before ≡ Some told
   pub no_fault : ¬ Rose seen.faults_before seen.faults_now
 
-points_once : (told : Files) (seen : FolderSeen) (base : List ℕ) → IsTold told seen → IsOnce (PointsAnswer seen base)
-points_once told seen base h =
+points_once : (limits : Limits) (told : Files) (seen : FolderSeen) (base : List ℕ) → IsTold told seen → IsOnce (PointsAnswer limits seen base)
+points_once limits told seen base h =
     let name = file_name base Node in
-    and_then_once (FetchAnswer seen name) (λ bytes. TextAnswer name (node_text_of bytes)) (fetch_once told seen name h.files h.no_fault) (λ bytes. text_once name (node_text_of bytes))
+    and_then_once (FetchAnswer limits seen name) (λ bytes. TextAnswer name (node_text_of bytes)) (fetch_once limits told seen name h.files h.no_fault) (λ bytes. text_once name (node_text_of bytes))
 
-form_once : (told : Files) (seen : FolderSeen) (base : List ℕ) (extension : Extension) → IsTold told seen → IsOnce (FormAnswer seen base extension)
-form_once told seen base extension h =
+form_once : (limits : Limits) (told : Files) (seen : FolderSeen) (base : List ℕ) (extension : Extension) → IsTold told seen → IsOnce (FormAnswer limits seen base extension)
+form_once limits told seen base extension h =
     let name = file_name base extension in
-    and_then_once (FetchAnswer seen name) (λ bytes. AndThen (TextAnswer name (plc_text_of extension bytes)) (λ text. Gives (complex_file name text)))
-    (fetch_once told seen name h.files h.no_fault)
+    and_then_once (FetchAnswer limits seen name) (λ bytes. AndThen (TextAnswer name (plc_text_of extension bytes)) (λ text. Gives (complex_file name text)))
+    (fetch_once limits told seen name h.files h.no_fault)
     (λ bytes. and_then_once (TextAnswer name (plc_text_of extension bytes)) (λ text. Gives (complex_file name text)) (text_once name (plc_text_of extension bytes)) (λ text. gives_once (complex_file name text)))
 
-bare_once : (told : Files) (seen : FolderSeen) (base : List ℕ) → IsTold told seen → IsOnce (IfMissing (FormAnswer seen base Poly) (FormAnswer seen base Smesh))
-bare_once told seen base h = if_missing_once (FormAnswer seen base Poly) (FormAnswer seen base Smesh) (form_once told seen base Poly h) (form_once told seen base Smesh h)
+bare_once : (limits : Limits) (told : Files) (seen : FolderSeen) (base : List ℕ) → IsTold told seen → IsOnce (IfMissing (FormAnswer limits seen base Poly) (FormAnswer limits seen base Smesh))
+bare_once limits told seen base h = if_missing_once (FormAnswer limits seen base Poly) (FormAnswer limits seen base Smesh) (form_once limits told seen base Poly h) (form_once limits told seen base Smesh h)
 
-complex_file_once : (told : Files) (seen : FolderSeen) (base : List ℕ) (extension : Option Extension) → IsTold told seen → IsOnce (ComplexFileAnswer seen base extension)
-complex_file_once told seen base (Some Smesh) h = form_once told seen base Smesh h
-complex_file_once told seen base (Some Poly) h = form_once told seen base Poly h
-complex_file_once told seen base (Some Off) h = form_once told seen base Off h
-complex_file_once told seen base (Some Stl) h = form_once told seen base Stl h
-complex_file_once told seen base (Some Node) h = bare_once told seen base h
-complex_file_once told seen base None h = bare_once told seen base h
+complex_file_once : (limits : Limits) (told : Files) (seen : FolderSeen) (base : List ℕ) (extension : Option Extension) → IsTold told seen → IsOnce (ComplexFileAnswer limits seen base extension)
+complex_file_once limits told seen base (Some Smesh) h = form_once limits told seen base Smesh h
+complex_file_once limits told seen base (Some Poly) h = form_once limits told seen base Poly h
+complex_file_once limits told seen base (Some Off) h = form_once limits told seen base Off h
+complex_file_once limits told seen base (Some Stl) h = form_once limits told seen base Stl h
+complex_file_once limits told seen base (Some Node) h = bare_once limits told seen base h
+complex_file_once limits told seen base None h = bare_once limits told seen base h
 
-source_once : (told : Files) (seen : FolderSeen) (base : List ℕ) (extension : Option Extension) (sample : Option ℕ) → IsTold told seen → IsOnce (SourceAnswer seen base extension sample)
-source_once told seen base extension (Some n) h = gives_once (complex_file [] (sample_of n))
-source_once told seen base extension None h = complex_file_once told seen base extension h
+source_once : (limits : Limits) (told : Files) (seen : FolderSeen) (base : List ℕ) (extension : Option Extension) (sample : Option ℕ) → IsTold told seen → IsOnce (SourceAnswer limits seen base extension sample)
+source_once limits told seen base extension (Some n) h = gives_once (complex_file [] (sample_of n))
+source_once limits told seen base extension None h = complex_file_once limits told seen base extension h
 
-nodes_once : (told : Files) (seen : FolderSeen) (base : List ℕ) (own : Option NodeText) → IsTold told seen → IsOnce (NodesAnswer seen base own)
-nodes_once told seen base (Some nodes) h = gives_once nodes
-nodes_once told seen base None h = points_once told seen base h
+nodes_once : (limits : Limits) (told : Files) (seen : FolderSeen) (base : List ℕ) (own : Option NodeText) → IsTold told seen → IsOnce (NodesAnswer limits seen base own)
+nodes_once limits told seen base (Some nodes) h = gives_once nodes
+nodes_once limits told seen base None h = points_once limits told seen base h
 
 bounded_once : (file : ComplexFile) (nodes : NodeText) → IsOnce (BoundedAnswer file nodes)
 bounded_once file nodes =
@@ -166,35 +167,35 @@ bounded_once file nodes =
     and_then_once (TextAnswer file.name (corners_check nodes.first (length nodes.decimals) file.text)) (λ checked. Gives input)
     (text_once file.name (corners_check nodes.first (length nodes.decimals) file.text)) (λ checked. gives_once input)
 
-input_of_once : (told : Files) (seen : FolderSeen) (options : Options) (piecewise : Bool) → IsTold told seen → IsOnce (InputOf piecewise seen options)
-input_of_once told seen options false h =
-    and_then_once (PointsAnswer seen options.base) (λ nodes. Gives (points_alone nodes)) (points_once told seen options.base h) (λ nodes. gives_once (points_alone nodes))
-input_of_once told seen options true h =
-    and_then_once (SourceAnswer seen options.base options.extension options.sample) (λ file. AndThen (NodesAnswer seen options.base file.text.nodes) (BoundedAnswer file))
-    (source_once told seen options.base options.extension options.sample h)
-    (λ file. and_then_once (NodesAnswer seen options.base file.text.nodes) (BoundedAnswer file) (nodes_once told seen options.base file.text.nodes h) (bounded_once file))
+input_of_once : (limits : Limits) (told : Files) (seen : FolderSeen) (options : Options) (piecewise : Bool) → IsTold told seen → IsOnce (InputOf limits piecewise seen options)
+input_of_once limits told seen options false h =
+    and_then_once (PointsAnswer limits seen options.base) (λ nodes. Gives (points_alone nodes)) (points_once limits told seen options.base h) (λ nodes. gives_once (points_alone nodes))
+input_of_once limits told seen options true h =
+    and_then_once (SourceAnswer limits seen options.base options.extension options.sample) (λ file. AndThen (NodesAnswer limits seen options.base file.text.nodes) (BoundedAnswer file))
+    (source_once limits told seen options.base options.extension options.sample h)
+    (λ file. and_then_once (NodesAnswer limits seen options.base file.text.nodes) (BoundedAnswer file) (nodes_once limits told seen options.base file.text.nodes h) (bounded_once file))
 
-pub input_once : (told : Files) (seen : FolderSeen) (options : Options) → IsTold told seen → IsOnce (InputAnswer seen options)
-input_once told seen options h = input_of_once told seen options options.piecewise h
+pub input_once : (limits : Limits) (told : Files) (seen : FolderSeen) (options : Options) → IsTold told seen → IsOnce (InputAnswer limits seen options)
+input_once limits told seen options h = input_of_once limits told seen options options.piecewise h
 
 -- ---- the grid
 
 -- what the binding of an input answers
-data BoundCase (options : Options) (input : Input) (r : Result Bound Status) : Type 0 where
-  fits : (bound : Bound) → IsSettled input.nodes (grid_options options) bound.table → IsBoundOn input.complex input.nodes.first bound.table bound.complex → r ≡ Ok bound → BoundCase options input r
-  many : (count : ℕ) → IsTooMany input.nodes count → r ≡ Err (Limit (Points count)) → BoundCase options input r
-  facets : (count : ℕ) → length input.nodes.decimals ≤ most_points → HasManyFacets input.complex count → r ≡ Err (Limit (Facets count)) → BoundCase options input r
-  corners : (line count : ℕ) → length input.nodes.decimals ≤ most_points → HasLongPolygon input.complex line count → r ≡ Err (Limit (Corners line count)) → BoundCase options input r
-  off : (line : ℕ) → IsSmall input.complex → IsOffGrid input.nodes (grid_options options) line → r ≡ Err (Limit (OnGrid line)) → BoundCase options input r
+data BoundCase (limits : Limits) (options : Options) (input : Input) (r : Result Bound Status) : Type 0 where
+  fits : (bound : Bound) → IsSettled limits input.nodes (grid_options options) bound.table → IsBoundOn limits input.complex input.nodes.first bound.table bound.complex → r ≡ Ok bound → BoundCase limits options input r
+  many : (count most : ℕ) → IsTooMany limits input.nodes count most → r ≡ Err (Limit (Points count most)) → BoundCase limits options input r
+  facets : (count most : ℕ) → length input.nodes.decimals ≤ limits.points → HasManyFacets limits input.complex count most → r ≡ Err (Limit (Facets count most)) → BoundCase limits options input r
+  corners : (line count most : ℕ) → length input.nodes.decimals ≤ limits.points → HasLongPolygon limits input.complex line count most → r ≡ Err (Limit (Corners line count most)) → BoundCase limits options input r
+  off : (line : ℕ) → IsSmall limits input.complex → IsOffGrid limits input.nodes (grid_options options) line → r ≡ Err (Limit (OnGrid line)) → BoundCase limits options input r
 
-bound_case : (options : Options) (input : Input) (r : Result Bound Status) → IsDecided r → BoundAnswer options input r → BoundCase options input r
-bound_case options input (Ok bound) n h = fits bound h.0 h.1 refl
-bound_case options input (Err (Limit (Points count))) n h = many count h refl
-bound_case options input (Err (Limit (Facets count))) n h = facets count h.0 h.1 refl
-bound_case options input (Err (Limit (Corners line count))) n h = corners line count h.0 h.1 refl
-bound_case options input (Err (Limit (OnGrid line))) n h = off line h.0 h.1 refl
-bound_case options input (Err NoMemory) n h = absurd (n refl)
-bound_case options input (Err s) n h = absurd h
+bound_case : (limits : Limits) (options : Options) (input : Input) (r : Result Bound Status) → IsDecided r → BoundAnswer limits options input r → BoundCase limits options input r
+bound_case limits options input (Ok bound) n h = fits bound h.0 h.1 refl
+bound_case limits options input (Err (Limit (Points count most))) n h = many count most h refl
+bound_case limits options input (Err (Limit (Facets count most))) n h = facets count most h.0 h.1 refl
+bound_case limits options input (Err (Limit (Corners line count most))) n h = corners line count most h.0 h.1 refl
+bound_case limits options input (Err (Limit (OnGrid line))) n h = off line h.0 h.1 refl
+bound_case limits options input (Err NoMemory) n h = absurd (n refl)
+bound_case limits options input (Err s) n h = absurd h
 
 abbrev off_at : ℕ → Result Grid Range
 off_at line = Err (record { line = line })
@@ -202,11 +203,11 @@ off_at line = Err (record { line = line })
 abbrev on_grid : Grid → Result Grid Range
 on_grid g = Ok g
 
-abbrev long_at : ℕ → ℕ → Result (Unit {0}) PlcFault
-long_at line count = Err (plc_faults.Corners line count)
+abbrev long_at : ℕ → ℕ → ℕ → Result (Unit {0}) PlcFault
+long_at line count most = Err (plc_faults.Corners line count most)
 
-abbrev corners_refused : ℕ → ℕ → Result Bound Status
-corners_refused line count = Err (Limit (Corners line count))
+abbrev corners_refused : ℕ → ℕ → ℕ → Result Bound Status
+corners_refused line count most = Err (Limit (Corners line count most))
 
 abbrev line_of : Result Grid Range → ℕ
 line_of (Ok g) = 0
@@ -219,8 +220,8 @@ grid_same : (g h : Grid) → on_grid g ≡ on_grid h → g ≡ h
 grid_same g h e = cc
 
 -- the points of a text are folded on their grid in one way
-tables_same : (options : Options) (text : NodeText) (t u : NodeTable) → IsSettled text (grid_options options) t → IsSettled text (grid_options options) u → t ≡ u
-tables_same options text t u a b =
+tables_same : (limits : Limits) (options : Options) (text : NodeText) (t u : NodeTable) → IsSettled limits text (grid_options options) t → IsSettled limits text (grid_options options) u → t ≡ u
+tables_same limits options text t u a b =
     let ps = rounded_points options.decimals text.decimals in
     let g = grid_same t.grid u.grid (sym a.on.on ∙ b.on.on) in
     let listed : t.listed ≡ u.listed = ap (λ (v : NodeTable). v.listed) a.is ∙ ap (λ (grid : Grid). map (grid_point grid) ps) g ∙ sym (ap (λ (v : NodeTable). v.listed) b.is) in
@@ -240,45 +241,45 @@ tables_same options text t u a b =
     } in
     a.is ∙ same ∙ sym b.is
 
-corners_same : (i j k l : ℕ) → long_at i j ≡ long_at k l → corners_refused i j ≡ corners_refused k l
-corners_same i j k l e = cc
+corners_same : (i j m k l n : ℕ) → long_at i j m ≡ long_at k l n → corners_refused i j m ≡ corners_refused k l n
+corners_same i j m k l n e = cc
 
-bounds_same : (options : Options) (input : Input) (t u : Bound) → IsSettled input.nodes (grid_options options) t.table → IsSettled input.nodes (grid_options options) u.table
-    → IsBoundOn input.complex input.nodes.first t.table t.complex → IsBoundOn input.complex input.nodes.first u.table u.complex → t ≡ u
-bounds_same options input t u a b p q =
-    let tables = tables_same options input.nodes t.table u.table a b in
+bounds_same : (limits : Limits) (options : Options) (input : Input) (t u : Bound) → IsSettled limits input.nodes (grid_options options) t.table → IsSettled limits input.nodes (grid_options options) u.table
+    → IsBoundOn limits input.complex input.nodes.first t.table t.complex → IsBoundOn limits input.complex input.nodes.first u.table u.complex → t ≡ u
+bounds_same limits options input t u a b p q =
+    let tables = tables_same limits options input.nodes t.table u.table a b in
     let complexes = p.is ∙ ap (λ (table : NodeTable). folded_complex table.folded (complex_of input.nodes.first table.grid input.complex)) tables ∙ sym q.is in
     λ i. record { table = tables i; complex = complexes i }
 
-bound_same : (options : Options) (input : Input) (r s : Result Bound Status) → BoundCase options input r → BoundCase options input s → r ≡ s
-bound_same options input r s (fits t a p e) (fits u b q h) = e ∙ ap (λ x. Ok x) (bounds_same options input t u a b p q) ∙ sym h
-bound_same options input r s (fits t a p e) (many d b h) = let v = a.on.few in let w = b.many in absurd (omega arith)
-bound_same options input r s (fits t a p e) (facets d g b h) = let v = b.many in let w = p.small.few in absurd (omega arith)
-bound_same options input r s (fits t a p e) (corners m d g b h) = let v = b.long in let w = p.small.short in absurd (cc)
-bound_same options input r s (fits t a p e) (off m y b h) = let v = a.on.on in let w = b.off in absurd (cc)
-bound_same options input r s (many c a e) (fits u b q h) = let v = a.many in let w = b.on.few in absurd (omega arith)
-bound_same options input r s (many c a e) (many d b h) = e ∙ ap (λ x. Err (Limit (Points x))) (a.counted ∙ sym b.counted) ∙ sym h
-bound_same options input r s (many c a e) (facets d g b h) = let v = a.many in let w = g in absurd (omega arith)
-bound_same options input r s (many c a e) (corners m d g b h) = let v = a.many in let w = g in absurd (omega arith)
-bound_same options input r s (many c a e) (off m y b h) = let v = a.many in let w = b.few in absurd (omega arith)
-bound_same options input r s (facets c f a e) (fits u b q h) = let v = a.many in let w = q.small.few in absurd (omega arith)
-bound_same options input r s (facets c f a e) (many d b h) = let v = f in let w = b.many in absurd (omega arith)
-bound_same options input r s (facets c f a e) (facets d g b h) = e ∙ ap (λ x. Err (Limit (Facets x))) (a.counted ∙ sym b.counted) ∙ sym h
-bound_same options input r s (facets c f a e) (corners m d g b h) = let v = a.many in let w = b.few in absurd (omega arith)
-bound_same options input r s (facets c f a e) (off m y b h) = let v = a.many in let w = y.few in absurd (omega arith)
-bound_same options input r s (corners l c f a e) (fits u b q h) = let v = a.long in let w = q.small.short in absurd (cc)
-bound_same options input r s (corners l c f a e) (many d b h) = let v = f in let w = b.many in absurd (omega arith)
-bound_same options input r s (corners l c f a e) (facets d g b h) = let v = b.many in let w = a.few in absurd (omega arith)
-bound_same options input r s (corners l c f a e) (corners m d g b h) = e ∙ corners_same l c m d (sym a.long ∙ b.long) ∙ sym h
-bound_same options input r s (corners l c f a e) (off m y b h) = let v = a.long in let w = y.short in absurd (cc)
-bound_same options input r s (off l z a e) (fits u b q h) = let v = a.off in let w = b.on.on in absurd (cc)
-bound_same options input r s (off l z a e) (many d b h) = let v = a.few in let w = b.many in absurd (omega arith)
-bound_same options input r s (off l z a e) (facets d g b h) = let v = b.many in let w = z.few in absurd (omega arith)
-bound_same options input r s (off l z a e) (corners m d g b h) = let v = b.long in let w = z.short in absurd (cc)
-bound_same options input r s (off l z a e) (off m y b h) = e ∙ ap (λ x. Err (Limit (OnGrid x))) (off_same l m (sym a.off ∙ b.off)) ∙ sym h
+bound_same : (limits : Limits) (options : Options) (input : Input) (r s : Result Bound Status) → BoundCase limits options input r → BoundCase limits options input s → r ≡ s
+bound_same limits options input r s (fits t a p e) (fits u b q h) = e ∙ ap (λ x. Ok x) (bounds_same limits options input t u a b p q) ∙ sym h
+bound_same limits options input r s (fits t a p e) (many d w b h) = let v = a.on.few in let y = b.many in absurd (omega arith)
+bound_same limits options input r s (fits t a p e) (facets d w g b h) = let v = b.many in let y = p.small.few in absurd (omega arith)
+bound_same limits options input r s (fits t a p e) (corners m d w g b h) = let v = b.long in let y = p.small.short in absurd (cc)
+bound_same limits options input r s (fits t a p e) (off m u b h) = let v = a.on.on in let y = b.off in absurd (cc)
+bound_same limits options input r s (many c o a e) (fits u b q h) = let v = a.many in let y = b.on.few in absurd (omega arith)
+bound_same limits options input r s (many c o a e) (many d w b h) = e ∙ ap (λ x. Err (Limit (Points x o))) (a.counted ∙ sym b.counted) ∙ ap (λ x. Err (Limit (Points d x))) (a.told ∙ sym b.told) ∙ sym h
+bound_same limits options input r s (many c o a e) (facets d w g b h) = let v = a.many in let y = g in absurd (omega arith)
+bound_same limits options input r s (many c o a e) (corners m d w g b h) = let v = a.many in let y = g in absurd (omega arith)
+bound_same limits options input r s (many c o a e) (off m u b h) = let v = a.many in let y = b.few in absurd (omega arith)
+bound_same limits options input r s (facets c o f a e) (fits u b q h) = let v = a.many in let y = q.small.few in absurd (omega arith)
+bound_same limits options input r s (facets c o f a e) (many d w b h) = let v = f in let y = b.many in absurd (omega arith)
+bound_same limits options input r s (facets c o f a e) (facets d w g b h) = e ∙ ap (λ x. Err (Limit (Facets x o))) (a.counted ∙ sym b.counted) ∙ ap (λ x. Err (Limit (Facets d x))) (a.told ∙ sym b.told) ∙ sym h
+bound_same limits options input r s (facets c o f a e) (corners m d w g b h) = let v = a.many in let y = b.few in absurd (omega arith)
+bound_same limits options input r s (facets c o f a e) (off m u b h) = let v = a.many in let y = u.few in absurd (omega arith)
+bound_same limits options input r s (corners l c o f a e) (fits u b q h) = let v = a.long in let y = q.small.short in absurd (cc)
+bound_same limits options input r s (corners l c o f a e) (many d w b h) = let v = f in let y = b.many in absurd (omega arith)
+bound_same limits options input r s (corners l c o f a e) (facets d w g b h) = let v = b.many in let y = a.few in absurd (omega arith)
+bound_same limits options input r s (corners l c o f a e) (corners m d w g b h) = e ∙ corners_same l c o m d w (sym a.long ∙ b.long) ∙ sym h
+bound_same limits options input r s (corners l c o f a e) (off m u b h) = let v = a.long in let y = u.short in absurd (cc)
+bound_same limits options input r s (off l z a e) (fits u b q h) = let v = a.off in let y = b.on.on in absurd (cc)
+bound_same limits options input r s (off l z a e) (many d w b h) = let v = a.few in let y = b.many in absurd (omega arith)
+bound_same limits options input r s (off l z a e) (facets d w g b h) = let v = b.many in let y = z.few in absurd (omega arith)
+bound_same limits options input r s (off l z a e) (corners m d w g b h) = let v = b.long in let y = z.short in absurd (cc)
+bound_same limits options input r s (off l z a e) (off m u b h) = e ∙ ap (λ x. Err (Limit (OnGrid x))) (off_same l m (sym a.off ∙ b.off)) ∙ sym h
 
-pub bound_once : (options : Options) (input : Input) → IsOnce (BoundAnswer options input)
-bound_once options input r s n m h k = bound_same options input r s (bound_case options input r n h) (bound_case options input s m k)
+pub bound_once : (limits : Limits) (options : Options) (input : Input) → IsOnce (BoundAnswer limits options input)
+bound_once limits options input r s n m h k = bound_same limits options input r s (bound_case limits options input r n h) (bound_case limits options input s m k)
 
 -- ---- the mesh and its outputs
 
@@ -361,12 +362,12 @@ mesh_of_same options bound true (Err s) (Err t) n m h k =
 
 -- ---- the run
 
-meshed_same : (options : Options) (input : Input) → IsSame (MeshedAnswer options input)
-meshed_same options input =
-    and_then_same (BoundAnswer options input) (λ bound. AndThen (MeshAnswer options bound) (OutputsAnswer options)) (bound_once options input)
+meshed_same : (limits : Limits) (options : Options) (input : Input) → IsSame (MeshedAnswer limits options input)
+meshed_same limits options input =
+    and_then_same (BoundAnswer limits options input) (λ bound. AndThen (MeshAnswer options bound) (OutputsAnswer options)) (bound_once limits options input)
     (λ bound. and_then_sure (MeshAnswer options bound) (OutputsAnswer options) (mesh_of_same options bound options.piecewise) (λ mesh s h. h))
 
-pub run_same : (told : Files) (words : List (List ℕ)) (seen : FolderSeen) → seen.files_before ≡ Some told → ¬ Rose seen.faults_before seen.faults_now → IsSame (OutputsOfRun words seen)
-run_same told words seen e f =
-    and_then_same (WordsAnswer words) (λ options. AndThen (InputAnswer seen options) (MeshedAnswer options)) (words_once words)
-    (λ options. and_then_same (InputAnswer seen options) (MeshedAnswer options) (input_once told seen options (record { files = e; no_fault = f })) (meshed_same options))
+pub run_same : (limits : Limits) (told : Files) (words : List (List ℕ)) (seen : FolderSeen) → seen.files_before ≡ Some told → ¬ Rose seen.faults_before seen.faults_now → IsSame (OutputsOfRun limits words seen)
+run_same limits told words seen e f =
+    and_then_same (WordsAnswer words) (λ options. AndThen (InputAnswer limits seen options) (MeshedAnswer limits options)) (words_once words)
+    (λ options. and_then_same (InputAnswer limits seen options) (MeshedAnswer limits options) (input_once limits told seen options (record { files = e; no_fault = f })) (meshed_same limits options))

@@ -4,6 +4,7 @@ use Rattle.command_words.specs.Names.{file_name}
 use Rattle.command_words.specs.declared.options.Extension.{Extension}
 use Rattle.command_words.specs.declared.options.Extension.TheVariants.{Node, Poly, Smesh, Off, Stl}
 use Rattle.command_words.specs.declared.options.Options.{Options}
+use Rattle.node_files.specs.declared.limits.Limits.{Limits}
 use Rattle.node_files.specs.declared.node_text.NodeText.{NodeText}
 use Rattle.tet_ports.specs.Counts.{Rose}
 use Rattle.tet_ports.specs.Files.{Files, IsAbsent}
@@ -32,35 +33,35 @@ absent_wider : (files : Option Files) (name : List ℕ) (a b c d : ℕ) → c �
 absent_wider None name a b c d h k r = rose_wider a b c d h k r
 absent_wider (Some told) name a b c d h k r = r
 
-module _ (part wide : FolderSeen) (w : IsWithin part wide) where
-  unfetched_wider : (name : List ℕ) (s : Status) → IsUnfetched part name s → IsUnfetched wide name s
+module _ (limits : Limits) (part wide : FolderSeen) (w : IsWithin part wide) where
+  unfetched_wider : (name : List ℕ) (s : Status) → IsUnfetched limits part name s → IsUnfetched limits wide name s
   unfetched_wider name (Missing missing) h =
       (h.0, subst (λ files. IsAbsent files name wide.misses_before wide.misses_now) w.files (absent_wider part.files_before name part.misses_before part.misses_now wide.misses_before wide.misses_now w.misses_before w.misses_now h.1))
   unfetched_wider name (ReadFault failed) h = (h.0, rose_wider part.faults_before part.faults_now wide.faults_before wide.faults_now w.faults_before w.faults_now h.1)
-  unfetched_wider name (Limit (TooLong long)) h = (h.0, subst (λ files. IsTooLong files name) w.files h.1)
+  unfetched_wider name (Limit (TooLong long most)) h = (h.0, subst (λ files. IsTooLong limits files name) w.files h.1, h.2)
   unfetched_wider name NoMemory h = tt
   unfetched_wider name s h = absurd h
 
-  fetch_wider : (name : List ℕ) (r : Result (List ℕ) Status) → FetchAnswer part name r → FetchAnswer wide name r
-  fetch_wider name (Ok bytes) h = subst (λ files. IsRead files name bytes) w.files h
+  fetch_wider : (name : List ℕ) (r : Result (List ℕ) Status) → FetchAnswer limits part name r → FetchAnswer limits wide name r
+  fetch_wider name (Ok bytes) h = subst (λ files. IsRead limits files name bytes) w.files h
   fetch_wider name (Err s) h = unfetched_wider name s h
 
-  pub points_wider : (base : List ℕ) (r : Result NodeText Status) → PointsAnswer part base r → PointsAnswer wide base r
+  pub points_wider : (base : List ℕ) (r : Result NodeText Status) → PointsAnswer limits part base r → PointsAnswer limits wide base r
   points_wider base =
       let name = file_name base Node in
-      and_then_wider (FetchAnswer part name) (FetchAnswer wide name) (λ bytes. TextAnswer name (node_text_of bytes)) (λ bytes. TextAnswer name (node_text_of bytes)) (fetch_wider name) (λ bytes r h. h)
+      and_then_wider (FetchAnswer limits part name) (FetchAnswer limits wide name) (λ bytes. TextAnswer name (node_text_of bytes)) (λ bytes. TextAnswer name (node_text_of bytes)) (fetch_wider name) (λ bytes r h. h)
 
-  pub form_wider : (base : List ℕ) (extension : Extension) (r : Result ComplexFile Status) → FormAnswer part base extension r → FormAnswer wide base extension r
+  pub form_wider : (base : List ℕ) (extension : Extension) (r : Result ComplexFile Status) → FormAnswer limits part base extension r → FormAnswer limits wide base extension r
   form_wider base extension =
       let name = file_name base extension in
-      and_then_wider (FetchAnswer part name) (FetchAnswer wide name) (λ bytes. AndThen (TextAnswer name (plc_text_of extension bytes)) (λ text. Gives (complex_file name text)))
+      and_then_wider (FetchAnswer limits part name) (FetchAnswer limits wide name) (λ bytes. AndThen (TextAnswer name (plc_text_of extension bytes)) (λ text. Gives (complex_file name text)))
       (λ bytes. AndThen (TextAnswer name (plc_text_of extension bytes)) (λ text. Gives (complex_file name text))) (fetch_wider name) (λ bytes r h. h)
 
-  bare_wider : (base : List ℕ) (r : Result ComplexFile Status) → IfMissing (FormAnswer part base Poly) (FormAnswer part base Smesh) r → IfMissing (FormAnswer wide base Poly) (FormAnswer wide base Smesh) r
+  bare_wider : (base : List ℕ) (r : Result ComplexFile Status) → IfMissing (FormAnswer limits part base Poly) (FormAnswer limits part base Smesh) r → IfMissing (FormAnswer limits wide base Poly) (FormAnswer limits wide base Smesh) r
   bare_wider base r (inl h) = inl (form_wider base Poly r h.0, h.1)
   bare_wider base r (inr h) = inr (h.0, form_wider base Poly (Err (Missing h.0)) h.1, form_wider base Smesh r h.2)
 
-  file_wider : (base : List ℕ) (extension : Option Extension) (r : Result ComplexFile Status) → ComplexFileAnswer part base extension r → ComplexFileAnswer wide base extension r
+  file_wider : (base : List ℕ) (extension : Option Extension) (r : Result ComplexFile Status) → ComplexFileAnswer limits part base extension r → ComplexFileAnswer limits wide base extension r
   file_wider base (Some Smesh) = form_wider base Smesh
   file_wider base (Some Poly) = form_wider base Poly
   file_wider base (Some Off) = form_wider base Off
@@ -68,27 +69,27 @@ module _ (part wide : FolderSeen) (w : IsWithin part wide) where
   file_wider base (Some Node) = bare_wider base
   file_wider base None = bare_wider base
 
-  pub source_wider : (base : List ℕ) (extension : Option Extension) (sample : Option ℕ) (r : Result ComplexFile Status) → SourceAnswer part base extension sample r → SourceAnswer wide base extension sample r
+  pub source_wider : (base : List ℕ) (extension : Option Extension) (sample : Option ℕ) (r : Result ComplexFile Status) → SourceAnswer limits part base extension sample r → SourceAnswer limits wide base extension sample r
   source_wider base extension (Some n) = λ r h. h
   source_wider base extension None = file_wider base extension
 
-  pub nodes_wider : (base : List ℕ) (own : Option NodeText) (r : Result NodeText Status) → NodesAnswer part base own r → NodesAnswer wide base own r
+  pub nodes_wider : (base : List ℕ) (own : Option NodeText) (r : Result NodeText Status) → NodesAnswer limits part base own r → NodesAnswer limits wide base own r
   nodes_wider base (Some nodes) = λ r h. h
   nodes_wider base None = points_wider base
 
-  pub bounded_wider : (base : List ℕ) (file : ComplexFile) (r : Result Input Status) → AndThen (NodesAnswer part base file.text.nodes) (BoundedAnswer file) r
-      → AndThen (NodesAnswer wide base file.text.nodes) (BoundedAnswer file) r
+  pub bounded_wider : (base : List ℕ) (file : ComplexFile) (r : Result Input Status) → AndThen (NodesAnswer limits part base file.text.nodes) (BoundedAnswer file) r
+      → AndThen (NodesAnswer limits wide base file.text.nodes) (BoundedAnswer file) r
   bounded_wider base file =
-      and_then_wider (NodesAnswer part base file.text.nodes) (NodesAnswer wide base file.text.nodes) (BoundedAnswer file) (BoundedAnswer file) (nodes_wider base file.text.nodes) (λ nodes r h. h)
+      and_then_wider (NodesAnswer limits part base file.text.nodes) (NodesAnswer limits wide base file.text.nodes) (BoundedAnswer file) (BoundedAnswer file) (nodes_wider base file.text.nodes) (λ nodes r h. h)
 
-  input_of_wider : (options : Options) (piecewise : Bool) (r : Result Input Status) → InputOf piecewise part options r → InputOf piecewise wide options r
+  input_of_wider : (options : Options) (piecewise : Bool) (r : Result Input Status) → InputOf limits piecewise part options r → InputOf limits piecewise wide options r
   input_of_wider options false =
-      and_then_wider (PointsAnswer part options.base) (PointsAnswer wide options.base) (λ nodes. Gives (points_alone nodes))
+      and_then_wider (PointsAnswer limits part options.base) (PointsAnswer limits wide options.base) (λ nodes. Gives (points_alone nodes))
       (λ nodes. Gives (points_alone nodes)) (points_wider options.base) (λ nodes r h. h)
   input_of_wider options true =
-      and_then_wider (SourceAnswer part options.base options.extension options.sample) (SourceAnswer wide options.base options.extension options.sample)
-      (λ file. AndThen (NodesAnswer part options.base file.text.nodes) (BoundedAnswer file)) (λ file. AndThen (NodesAnswer wide options.base file.text.nodes) (BoundedAnswer file))
+      and_then_wider (SourceAnswer limits part options.base options.extension options.sample) (SourceAnswer limits wide options.base options.extension options.sample)
+      (λ file. AndThen (NodesAnswer limits part options.base file.text.nodes) (BoundedAnswer file)) (λ file. AndThen (NodesAnswer limits wide options.base file.text.nodes) (BoundedAnswer file))
       (source_wider options.base options.extension options.sample) (bounded_wider options.base)
 
-  pub input_wider : (options : Options) (r : Result Input Status) → InputAnswer part options r → InputAnswer wide options r
+  pub input_wider : (options : Options) (r : Result Input Status) → InputAnswer limits part options r → InputAnswer limits wide options r
   input_wider options = input_of_wider options options.piecewise

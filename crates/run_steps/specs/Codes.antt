@@ -47,8 +47,8 @@ status_of_weights name regular.NoMemory = NoMemory
 
 -- of an input that is over a limit on its way to the grid
 abbrev pub status_of_bind : BindFault → Status
-status_of_bind (bind.Points count) = Limit (Points count)
-status_of_bind (bind.Facets count) = Limit (Facets count)
-status_of_bind (bind.Corners line count) = Limit (Corners line count)
+status_of_bind (bind.Points count most) = Limit (Points count most)
+status_of_bind (bind.Facets count most) = Limit (Facets count most)
+status_of_bind (bind.Corners line count most) = Limit (Corners line count most)
 status_of_bind (bind.Grid line) = Limit (Grid line)
 status_of_bind bind.NoMemory = NoMemory

@@ -1,5 +1,5 @@
 -- What a run makes of its input.
-use Rattle.std.specs.Prelude.{◌≡◌, ◌-◌, ◌≤◌, ℕ, Bool, true, false, List, [], length, drop, Option, None, Some, Result, Ok, Err}
+use Rattle.std.specs.Prelude.{◌≡◌, ◌-◌, ◌^◌, ◌≤◌, ℕ, Bool, true, false, List, [], length, drop, Option, None, Some, Result, Ok, Err}
 use Rattle.command_words.specs.Names.{file_name}
 use Rattle.command_words.specs.declared.options.Extension.TheVariants.{Node}
 use Rattle.command_words.specs.declared.options.Options.{Options}
@@ -12,12 +12,13 @@ use Rattle.geo_laws.specs.Complex.{Complex, empty_complex}
 use Rattle.geo_laws.specs.Delaunay.{AreCoplanar, delaunay_rows}
 use Rattle.geo_laws.specs.declared.tetrahedra.Tet.{Tet}
 use Rattle.node_files.specs.Folding.{names_with}
-use Rattle.node_files.specs.Settling.{IsSettled, IsTooMany, IsOffGrid, most_points}
+use Rattle.node_files.specs.Settling.{IsSettled, IsTooMany, IsOffGrid}
 use Rattle.node_files.specs.Writing.{IsNodeTable}
+use Rattle.node_files.specs.declared.limits.Limits.{Limits}
 use Rattle.node_files.specs.declared.table.GridOptions.{GridOptions}
 use Rattle.node_files.specs.declared.table.NodeTable.{NodeTable}
 use Rattle.plc_files.specs.Binding.{complex_of, HasManyFacets, HasLongPolygon}
-use Rattle.plc_files.specs.Checks.{most_facets, sizes_check}
+use Rattle.plc_files.specs.Checks.{sizes_check}
 use Rattle.plc_files.specs.Folding.{folded_complex}
 use Rattle.plc_files.specs.Text.{Plc}
 use Rattle.run_steps.specs.Codes.{status_of_fault, status_of_weights}
@@ -44,29 +45,33 @@ abbrev pub grid_options : Options → GridOptions
 grid_options options = record { decimals = options.decimals; halvings = options.halvings }
 
 -- neither too many facets nor too many corners of a polygon
-pub record IsSmall (text : Plc) : Type 0 where
-  pub few : length text.facets ≤ most_facets
-  pub short : sizes_check text ≡ Ok tt
+pub record IsSmall (limits : Limits) (text : Plc) : Type 0 where
+  pub few : length text.facets ≤ limits.facets
+  pub short : sizes_check limits text ≡ Ok tt
 
 -- Why an input is on no grid. Each limit comes before those behind it
-abbrev pub IsUnbound : Options → Input → Status → Type 0
-IsUnbound options input (Limit (Points count)) = IsTooMany input.nodes count
-IsUnbound options input (Limit (Facets count)) = (length input.nodes.decimals ≤ most_points) × HasManyFacets input.complex count
-IsUnbound options input (Limit (Corners line count)) = (length input.nodes.decimals ≤ most_points) × HasLongPolygon input.complex line count
-IsUnbound options input (Limit (OnGrid line)) = IsSmall input.complex × IsOffGrid input.nodes (grid_options options) line
-IsUnbound options input NoMemory = Unit {0}
-IsUnbound options input status = ⊥
+abbrev pub IsUnbound : Limits → Options → Input → Status → Type 0
+IsUnbound limits options input (Limit (Points count most)) = IsTooMany limits input.nodes count most
+IsUnbound limits options input (Limit (Facets count most)) =
+    (length input.nodes.decimals ≤ limits.points) × HasManyFacets limits input.complex count most
+IsUnbound limits options input (Limit (Corners line count most)) =
+    (length input.nodes.decimals ≤ limits.points) × HasLongPolygon limits input.complex line count most
+IsUnbound limits options input (Limit (OnGrid line)) =
+    IsSmall limits input.complex × IsOffGrid limits input.nodes (grid_options options) line
+IsUnbound limits options input NoMemory = Unit {0}
+IsUnbound limits options input status = ⊥
 
 -- a complex that is over no limit, on the points of a table, where its corners name the points that are kept
-pub record IsBoundOn (text : Plc) (first : ℕ) (table : NodeTable) (complex : Complex) : Type 0 where
-  pub small : IsSmall text
+pub record IsBoundOn (limits : Limits) (text : Plc) (first : ℕ) (table : NodeTable) (complex : Complex) : Type 0 where
+  pub small : IsSmall limits text
   pub is : complex ≡ folded_complex table.folded (complex_of first table.grid text)
 
 -- the points on their grid, where equal ones are folded, and the complex on them
-abbrev pub BoundAnswer : Options → Input → Result Bound Status → Type 0
-BoundAnswer options input (Ok bound) =
-    IsSettled input.nodes (grid_options options) bound.table × IsBoundOn input.complex input.nodes.first bound.table bound.complex
-BoundAnswer options input (Err status) = IsUnbound options input status
+abbrev pub BoundAnswer : Limits → Options → Input → Result Bound Status → Type 0
+BoundAnswer limits options input (Ok bound) =
+    IsSettled limits input.nodes (grid_options options) bound.table
+    × IsBoundOn limits input.complex input.nodes.first bound.table bound.complex
+BoundAnswer limits options input (Err status) = IsUnbound limits options input status
 
 -- ---- the mesh
 
@@ -163,27 +168,29 @@ OutputsAnswer options mesh (Ok outputs) = AreOutputsOf options mesh outputs
 OutputsAnswer options mesh (Err status) = status ≡ NoMemory
 
 -- the outputs of an input
-abbrev pub MeshedAnswer : Options → Input → Result Outputs Status → Type 0
-MeshedAnswer options input = AndThen (BoundAnswer options input) (λ bound. AndThen (MeshAnswer options bound) (OutputsAnswer options))
+abbrev pub MeshedAnswer : Limits → Options → Input → Result Outputs Status → Type 0
+MeshedAnswer limits options input =
+    AndThen (BoundAnswer limits options input) (λ bound. AndThen (MeshAnswer options bound) (OutputsAnswer options))
 
 -- The steps of a run up to its first store: the words are read, then the input that they name, and the outputs of its mesh are made.
 -- Each refusal is one of the first step that refuses
-abbrev pub OutputsOfRun : List (List ℕ) → FolderSeen → Result Outputs Status → Type 0
-OutputsOfRun words seen = AndThen (WordsAnswer words) (λ options. AndThen (InputAnswer seen options) (MeshedAnswer options))
+abbrev pub OutputsOfRun : Limits → List (List ℕ) → FolderSeen → Result Outputs Status → Type 0
+OutputsOfRun limits words seen =
+    AndThen (WordsAnswer words) (λ options. AndThen (InputAnswer limits seen options) (MeshedAnswer limits options))
 
 -- ---- the parts of the way
 
 -- the complex is over a limit
-abbrev pub IsOverLimit : Plc → Status → Type 0
-IsOverLimit text (Limit (Facets count)) = HasManyFacets text count
-IsOverLimit text (Limit (Corners line count)) = HasLongPolygon text line count
-IsOverLimit text NoMemory = Unit {0}
-IsOverLimit text status = ⊥
+abbrev pub IsOverLimit : Limits → Plc → Status → Type 0
+IsOverLimit limits text (Limit (Facets count most)) = HasManyFacets limits text count most
+IsOverLimit limits text (Limit (Corners line count most)) = HasLongPolygon limits text line count most
+IsOverLimit limits text NoMemory = Unit {0}
+IsOverLimit limits text status = ⊥
 
 -- what the mesh is made of
 pub record IsMeshableBound (options : Options) (bound : Bound) : Type 0 where
   pub table : IsNodeTable bound.table
   pub decimals : length bound.table.decimals ≡ length bound.table.listed
-  pub few : length bound.table.listed ≤ most_points
+  pub few : length bound.table.listed ≤ 2 ^ 31
   pub budget : options.budget ≤ 100000
   pub meshable : IsMeshable bound.table.grid.halvings options.budget bound.table.points bound.complex

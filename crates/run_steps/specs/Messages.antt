@@ -75,13 +75,17 @@ usage_message word place = line (codes "word " ++ decimal word ++ codes ", place
 abbrev pub text_message : List ℕ → TextFault → List ℕ
 text_message name fault = line (name ++ codes ": line " ++ decimal fault.line ++ codes ": " ++ kind_text fault.kind)
 
--- the limit of bytes is 2^26
+-- how many are allowed
+abbrev pub at_most : ℕ → List ℕ
+at_most most = codes ", at most " ++ decimal most
+
 abbrev pub limit_message : LimitKind → List ℕ
-limit_message (Bytes name) = file_message name (codes "over 67108864 bytes")
-limit_message (Points count) = line (decimal count ++ codes " points, at most 20000")
+limit_message (Bytes name most) = file_message name (codes "over " ++ decimal most ++ codes " bytes")
+limit_message (Points count most) = line (decimal count ++ codes " points" ++ at_most most)
 limit_message (MeshPoints count) = line (decimal count ++ codes " points, at most 120000")
-limit_message (Facets count) = line (decimal count ++ codes " facets, at most 20000")
-limit_message (Corners place count) = line (codes "line " ++ decimal place ++ codes ": " ++ decimal count ++ codes " corners, at most 1000")
+limit_message (Facets count most) = line (decimal count ++ codes " facets" ++ at_most most)
+limit_message (Corners place count most) =
+    line (codes "line " ++ decimal place ++ codes ": " ++ decimal count ++ codes " corners" ++ at_most most)
 limit_message (Grid place) = line (codes "line " ++ decimal place ++ codes ": coordinate off the grid")
 limit_message (Weight place) = line (codes "line " ++ decimal place ++ codes ": weight off the grid")
 

@@ -11,6 +11,7 @@ use Rattle.tet_ports.specs.Files.{Files, Holds, IsAbsent}
 use Rattle.tet_text.specs.Lines.{content_lines, line_count_of}
 use Rattle.tet_text.specs.declared.fault.TextFault.{TextFault}
 use Rattle.node_files.specs.Node.{node_of, IsNodeText}
+use Rattle.node_files.specs.declared.limits.Limits.{Limits}
 use Rattle.node_files.specs.declared.node_text.NodeText.{NodeText}
 use Rattle.plc_files.specs.Checks.{corners_check, HasFewParts}
 use Rattle.plc_files.specs.Plc.{plc_of}
@@ -43,30 +44,26 @@ WordsAnswer words (Err status) = IsUsage words status
 
 -- ---- a file
 
--- most bytes of a file that are read: 2^26
-abbrev pub most_bytes : ℕ
-most_bytes = 67108864
-
 -- the name holds these bytes, where the files are told, and they are not too many
-abbrev pub IsRead : Option Files → List ℕ → List ℕ → Type 0
-IsRead files name bytes = Holds files name bytes × (length bytes ≤ most_bytes)
+abbrev pub IsRead : Limits → Option Files → List ℕ → List ℕ → Type 0
+IsRead limits files name bytes = Holds files name bytes × (length bytes ≤ limits.bytes)
 
 -- the name holds too many bytes, where the files are told
-abbrev pub IsTooLong : Option Files → List ℕ → Type 0
-IsTooLong files name = (bytes : List ℕ) × Holds files name bytes × (most_bytes < length bytes)
+abbrev pub IsTooLong : Limits → Option Files → List ℕ → Type 0
+IsTooLong limits files name = (bytes : List ℕ) × Holds files name bytes × (limits.bytes < length bytes)
 
 -- why a fetch gives no bytes
-abbrev pub IsUnfetched : FolderSeen → List ℕ → Status → Type 0
-IsUnfetched seen name (Missing missing) = (missing ≡ name) × IsAbsent seen.files_before name seen.misses_before seen.misses_now
-IsUnfetched seen name (ReadFault failed) = (failed ≡ name) × Rose seen.faults_before seen.faults_now
-IsUnfetched seen name (Limit (TooLong long)) = (long ≡ name) × IsTooLong seen.files_before name
-IsUnfetched seen name NoMemory = Unit {0}
-IsUnfetched seen name status = ⊥
+abbrev pub IsUnfetched : Limits → FolderSeen → List ℕ → Status → Type 0
+IsUnfetched limits seen name (Missing missing) = (missing ≡ name) × IsAbsent seen.files_before name seen.misses_before seen.misses_now
+IsUnfetched limits seen name (ReadFault failed) = (failed ≡ name) × Rose seen.faults_before seen.faults_now
+IsUnfetched limits seen name (Limit (TooLong long most)) = (long ≡ name) × IsTooLong limits seen.files_before name × (most ≡ limits.bytes)
+IsUnfetched limits seen name NoMemory = Unit {0}
+IsUnfetched limits seen name status = ⊥
 
 -- the bytes of a file
-abbrev pub FetchAnswer : FolderSeen → List ℕ → Result (List ℕ) Status → Type 0
-FetchAnswer seen name (Ok bytes) = IsRead seen.files_before name bytes
-FetchAnswer seen name (Err status) = IsUnfetched seen name status
+abbrev pub FetchAnswer : Limits → FolderSeen → List ℕ → Result (List ℕ) Status → Type 0
+FetchAnswer limits seen name (Ok bytes) = IsRead limits seen.files_before name bytes
+FetchAnswer limits seen name (Err status) = IsUnfetched limits seen name status
 
 -- why a text is refused, whose reading is given
 abbrev pub IsBadText : {A : Type 0} → List ℕ → Result A TextFault → Status → Type 0
@@ -86,8 +83,9 @@ abbrev pub node_text_of : List ℕ → Result NodeText TextFault
 node_text_of bytes = node_of (line_count_of bytes) (content_lines bytes)
 
 -- the point list of the `.node` file with this base
-abbrev pub PointsAnswer : FolderSeen → List ℕ → Result NodeText Status → Type 0
-PointsAnswer seen base = AndThen (FetchAnswer seen (file_name base Node)) (λ bytes. TextAnswer (file_name base Node) (node_text_of bytes))
+abbrev pub PointsAnswer : Limits → FolderSeen → List ℕ → Result NodeText Status → Type 0
+PointsAnswer limits seen base =
+    AndThen (FetchAnswer limits seen (file_name base Node)) (λ bytes. TextAnswer (file_name base Node) (node_text_of bytes))
 
 -- ---- complexes
 
@@ -107,28 +105,28 @@ abbrev pub complex_file : List ℕ → Plc → ComplexFile
 complex_file name text = record { name = name; text = text }
 
 -- the complex of the file with this base and extension
-abbrev pub FormAnswer : FolderSeen → List ℕ → Extension → Result ComplexFile Status → Type 0
-FormAnswer seen base extension =
+abbrev pub FormAnswer : Limits → FolderSeen → List ℕ → Extension → Result ComplexFile Status → Type 0
+FormAnswer limits seen base extension =
     let name = file_name base extension in
-    AndThen (FetchAnswer seen name) (λ bytes. AndThen (TextAnswer name (plc_text_of extension bytes)) (λ text. Gives (complex_file name text)))
+    AndThen (FetchAnswer limits seen name) (λ bytes. AndThen (TextAnswer name (plc_text_of extension bytes)) (λ text. Gives (complex_file name text)))
 
 -- the complex of the file with this base: with no extension that of its `.poly` file, or where there is none of its `.smesh` file
-abbrev pub ComplexFileAnswer : FolderSeen → List ℕ → Option Extension → Result ComplexFile Status → Type 0
-ComplexFileAnswer seen base (Some Smesh) = FormAnswer seen base Smesh
-ComplexFileAnswer seen base (Some Poly) = FormAnswer seen base Poly
-ComplexFileAnswer seen base (Some Off) = FormAnswer seen base Off
-ComplexFileAnswer seen base (Some Stl) = FormAnswer seen base Stl
-ComplexFileAnswer seen base extension = IfMissing (FormAnswer seen base Poly) (FormAnswer seen base Smesh)
+abbrev pub ComplexFileAnswer : Limits → FolderSeen → List ℕ → Option Extension → Result ComplexFile Status → Type 0
+ComplexFileAnswer limits seen base (Some Smesh) = FormAnswer limits seen base Smesh
+ComplexFileAnswer limits seen base (Some Poly) = FormAnswer limits seen base Poly
+ComplexFileAnswer limits seen base (Some Off) = FormAnswer limits seen base Off
+ComplexFileAnswer limits seen base (Some Stl) = FormAnswer limits seen base Stl
+ComplexFileAnswer limits seen base extension = IfMissing (FormAnswer limits seen base Poly) (FormAnswer limits seen base Smesh)
 
 -- the sample, which has no file, or the complex of a file
-abbrev pub SourceAnswer : FolderSeen → List ℕ → Option Extension → Option ℕ → Result ComplexFile Status → Type 0
-SourceAnswer seen base extension (Some n) = Gives (complex_file [] (sample_of n))
-SourceAnswer seen base extension None = ComplexFileAnswer seen base extension
+abbrev pub SourceAnswer : Limits → FolderSeen → List ℕ → Option Extension → Option ℕ → Result ComplexFile Status → Type 0
+SourceAnswer limits seen base extension (Some n) = Gives (complex_file [] (sample_of n))
+SourceAnswer limits seen base extension None = ComplexFileAnswer limits seen base extension
 
 -- its own points, or where it has none those of the `.node` file with the same base
-abbrev pub NodesAnswer : FolderSeen → List ℕ → Option NodeText → Result NodeText Status → Type 0
-NodesAnswer seen base (Some nodes) = Gives nodes
-NodesAnswer seen base None = PointsAnswer seen base
+abbrev pub NodesAnswer : Limits → FolderSeen → List ℕ → Option NodeText → Result NodeText Status → Type 0
+NodesAnswer limits seen base (Some nodes) = Gives nodes
+NodesAnswer limits seen base None = PointsAnswer limits seen base
 
 -- points alone, and a complex on its points
 abbrev pub points_alone : NodeText → Input
@@ -146,15 +144,15 @@ BoundedAnswer file nodes =
 -- ---- the input
 
 -- points alone, or a complex on its points
-abbrev pub InputOf : Bool → FolderSeen → Options → Result Input Status → Type 0
-InputOf false seen options = AndThen (PointsAnswer seen options.base) (λ nodes. Gives (points_alone nodes))
-InputOf true seen options =
-    AndThen (SourceAnswer seen options.base options.extension options.sample)
-    (λ file. AndThen (NodesAnswer seen options.base file.text.nodes) (BoundedAnswer file))
+abbrev pub InputOf : Limits → Bool → FolderSeen → Options → Result Input Status → Type 0
+InputOf limits false seen options = AndThen (PointsAnswer limits seen options.base) (λ nodes. Gives (points_alone nodes))
+InputOf limits true seen options =
+    AndThen (SourceAnswer limits seen options.base options.extension options.sample)
+    (λ file. AndThen (NodesAnswer limits seen options.base file.text.nodes) (BoundedAnswer file))
 
 -- the input that the options name
-abbrev pub InputAnswer : FolderSeen → Options → Result Input Status → Type 0
-InputAnswer seen options = InputOf options.piecewise seen options
+abbrev pub InputAnswer : Limits → FolderSeen → Options → Result Input Status → Type 0
+InputAnswer limits seen options = InputOf limits options.piecewise seen options
 
 -- what the steps after reading ask of an input
 pub record IsSound (input : Input) : Type 0 where

@@ -6,10 +6,22 @@ use tet_ports::NoMemory;
 /// Which limit an input is over on its way to the grid, or that memory was wanting.
 #[derive(Clone, Copy)]
 pub(crate) enum BindFault {
-    Points { count: u64 },
-    Facets { count: u64 },
-    Corners { line: usize, count: u64 },
-    Grid { line: usize },
+    Points {
+        count: u64,
+        most: usize,
+    },
+    Facets {
+        count: u64,
+        most: usize,
+    },
+    Corners {
+        line: usize,
+        count: u64,
+        most: usize,
+    },
+    Grid {
+        line: usize,
+    },
     NoMemory,
 }
 
@@ -32,9 +44,9 @@ impl From<BindFault> for Status {
 
     fn from(fault: BindFault) -> Status {
         let what = match fault {
-            BindFault::Points { count } => LimitKind::Points { count },
-            BindFault::Facets { count } => LimitKind::Facets { count },
-            BindFault::Corners { line, count } => LimitKind::Corners { line, count },
+            BindFault::Points { count, most } => LimitKind::Points { count, most },
+            BindFault::Facets { count, most } => LimitKind::Facets { count, most },
+            BindFault::Corners { line, count, most } => LimitKind::Corners { line, count, most },
             BindFault::Grid { line } => LimitKind::Grid { line },
             BindFault::NoMemory => return Status::NoMemory,
         };

@@ -1,24 +1,22 @@
 //! What a run reads.
 
-ghost use Rattle.std.specs.Prelude.{◌≡◌, ◌≤◌, [], None, true, false, IfSome, length, IfOk, IfErr};
+ghost use Rattle.std.specs.Prelude.{◌≡◌, ◌≤◌, ◌<◌, ◌-◌, ◌^◌, [], None, true, false, IfSome, length, IfOk, IfErr};
 ghost use Rattle.command_words.specs.declared.options.Extension.TheVariants.{Poly, Smesh};
+ghost use Rattle.node_files.specs.Limits.{AreIndexable};
 ghost use Rattle.node_files.specs.Node.{IsNodeText};
 ghost use Rattle.plc_files.specs.Checks.{HasFewParts};
 ghost use Rattle.plc_files.specs.Sample.{sample_of};
-ghost use Rattle.run_steps.specs.Reading.{complex_file, node_text_of, plc_text_of, most_bytes, IsRead, IsUnfetched, TextAnswer, PointsAnswer, FormAnswer, ComplexFileAnswer, SourceAnswer, NodesAnswer, BoundedAnswer, InputOf, InputAnswer, IsSound};
+ghost use Rattle.run_steps.specs.Reading.{complex_file, node_text_of, plc_text_of, IsRead, IsUnfetched, TextAnswer, PointsAnswer, FormAnswer, ComplexFileAnswer, SourceAnswer, NodesAnswer, BoundedAnswer, InputOf, InputAnswer, IsSound};
 ghost use Rattle.run_steps.specs.Seen.{folder_seen};
 ghost use Rattle.run_steps.specs.Steps.{AndThen, IfMissing, Gives};
 
 use crate::status::{LimitKind, Status};
 use command_words::{Extension, Options, file_name};
-use node_files::{NodeFault, NodeText, read_node};
+use node_files::{Limits, NodeFault, NodeText, read_node};
 use plc_files::{PlcFault, PlcText, check_corners, read_poly, read_smesh, sample};
 use soup_files::{read_ascii_stl, read_off};
 use std::alloc::Global;
 use tet_ports::{Bytes, FetchFault, Folder, Name};
-
-/// How many bytes of a file are read at most.
-const MOST_BYTES: usize = 67_108_864;
 
 /// What a run is made of: points, and a complex on them, whose own point list was handed out.
 #[derive(Drop)]
@@ -47,52 +45,58 @@ pub struct ComplexFile {
 /// for want of memory. It stores nothing.
 pub fn read_input<F: Folder>(
     alloc: Global,
+    limits: Limits,
     options: &Options,
     folder: &mut F,
 ) -> Result<Input, Status>
-    requires { IfSome options.now.sample (λ n. n ≤ 10000) }
-    ensures answer { InputAnswer (folder_seen F.held F.faults F.misses folder.old folder.new) options.now result }
+    requires limits { AreIndexable limits }
+    requires sample { IfSome options.now.sample (λ n. n ≤ 10000) }
+    ensures answer { InputAnswer limits (folder_seen F.held F.faults F.misses folder.old folder.new) options.now result }
     ensures sound { IfOk result IsSound }
     ensures unchanged { F.held folder.new ≡ F.held folder.old }
     ensures faults { F.faults folder.old ≤ F.faults folder.new }
     ensures misses { F.misses folder.old ≤ F.misses folder.new }
 {
     if options.piecewise {
-        return read_complex(alloc, options, folder);
+        return read_complex(alloc, limits, options, folder);
     }
-    read_points_alone(alloc, options, folder)
+    read_points_alone(alloc, limits, options, folder)
 }
 
 /// A complex on its points.
 fn read_complex<F: Folder>(
     alloc: Global,
+    limits: Limits,
     options: &Options,
     folder: &mut F,
 ) -> Result<Input, Status>
-    requires { IfSome options.now.sample (λ n. n ≤ 10000) }
-    ensures answer { InputOf true (folder_seen F.held F.faults F.misses folder.old folder.new) options.now result }
+    requires limits { AreIndexable limits }
+    requires sample { IfSome options.now.sample (λ n. n ≤ 10000) }
+    ensures answer { InputOf limits true (folder_seen F.held F.faults F.misses folder.old folder.new) options.now result }
     ensures sound { IfOk result IsSound }
     ensures unchanged { F.held folder.new ≡ F.held folder.old }
     ensures faults { F.faults folder.old ≤ F.faults folder.new }
     ensures misses { F.misses folder.old ≤ F.misses folder.new }
 {
-    let file = read_source(alloc, options, folder)?;
-    with_points(alloc, &options.base, file, folder)
+    let file = read_source(alloc, limits, options, folder)?;
+    with_points(alloc, limits, &options.base, file, folder)
 }
 
 /// The points of a file, with no complex.
 fn read_points_alone<F: Folder>(
     alloc: Global,
+    limits: Limits,
     options: &Options,
     folder: &mut F,
 ) -> Result<Input, Status>
-    ensures answer { InputOf false (folder_seen F.held F.faults F.misses folder.old folder.new) options.now result }
+    requires { AreIndexable limits }
+    ensures answer { InputOf limits false (folder_seen F.held F.faults F.misses folder.old folder.new) options.now result }
     ensures sound { IfOk result IsSound }
     ensures unchanged { F.held folder.new ≡ F.held folder.old }
     ensures faults { F.faults folder.old ≤ F.faults folder.new }
     ensures misses { F.misses folder.old ≤ F.misses folder.new }
 {
-    let nodes = read_points(alloc, &options.base, folder)?;
+    let nodes = read_points(alloc, limits, &options.base, folder)?;
     Ok(Input {
         nodes,
         complex: PlcText::new(alloc, None),
@@ -102,11 +106,13 @@ fn read_points_alone<F: Folder>(
 /// The complex that the options name: the sample, or that of a file.
 fn read_source<F: Folder>(
     alloc: Global,
+    limits: Limits,
     options: &Options,
     folder: &mut F,
 ) -> Result<ComplexFile, Status>
-    requires { IfSome options.now.sample (λ n. n ≤ 10000) }
-    ensures answer { SourceAnswer (folder_seen F.held F.faults F.misses folder.old folder.new) options.now.base options.now.extension options.now.sample result }
+    requires limits { AreIndexable limits }
+    requires sample { IfSome options.now.sample (λ n. n ≤ 10000) }
+    ensures answer { SourceAnswer limits (folder_seen F.held F.faults F.misses folder.old folder.new) options.now.base options.now.extension options.now.sample result }
     ensures few { IfOk result (λ file. HasFewParts file.text) }
     ensures unchanged { F.held folder.new ≡ F.held folder.old }
     ensures faults { F.faults folder.old ≤ F.faults folder.new }
@@ -114,7 +120,7 @@ fn read_source<F: Folder>(
 {
     match options.sample {
         Some(n) => read_sample(alloc, n),
-        None => read_complex_file(alloc, &options.base, options.extension, folder),
+        None => read_complex_file(alloc, limits, &options.base, options.extension, folder),
     }
 }
 
@@ -135,36 +141,50 @@ fn read_sample(alloc: Global, n: u32) -> Result<ComplexFile, Status>
 /// `.smesh` file, if no extension says which.
 fn read_complex_file<F: Folder>(
     alloc: Global,
+    limits: Limits,
     base: &Name,
     extension: Option<Extension>,
     folder: &mut F,
 ) -> Result<ComplexFile, Status>
-    ensures answer { ComplexFileAnswer (folder_seen F.held F.faults F.misses folder.old folder.new) base.now extension result }
+    requires { AreIndexable limits }
+    ensures answer { ComplexFileAnswer limits (folder_seen F.held F.faults F.misses folder.old folder.new) base.now extension result }
     ensures few { IfOk result (λ file. HasFewParts file.text) }
     ensures unchanged { F.held folder.new ≡ F.held folder.old }
     ensures faults { F.faults folder.old ≤ F.faults folder.new }
     ensures misses { F.misses folder.old ≤ F.misses folder.new }
 {
     match extension {
-        Some(Extension::Smesh) => read_form(alloc, base, Extension::Smesh, folder),
-        Some(Extension::Poly) => read_form(alloc, base, Extension::Poly, folder),
-        Some(Extension::Off) => read_form(alloc, base, Extension::Off, folder),
-        Some(Extension::Stl) => read_form(alloc, base, Extension::Stl, folder),
-        Some(Extension::Node) => read_bare(alloc, base, folder),
-        None => read_bare(alloc, base, folder),
+        Some(Extension::Smesh) => read_form(alloc, limits, base, Extension::Smesh, folder),
+        Some(Extension::Poly) => read_form(alloc, limits, base, Extension::Poly, folder),
+        Some(Extension::Off) => read_form(alloc, limits, base, Extension::Off, folder),
+        Some(Extension::Stl) => read_form(alloc, limits, base, Extension::Stl, folder),
+        Some(Extension::Node) => read_bare(alloc, limits, base, folder),
+        None => read_bare(alloc, limits, base, folder),
     }
 }
 
 /// The complex of the `.poly` file with this base, or where there is none of its `.smesh` file.
-fn read_bare<F: Folder>(alloc: Global, base: &Name, folder: &mut F) -> Result<ComplexFile, Status>
-    ensures answer { IfMissing (FormAnswer (folder_seen F.held F.faults F.misses folder.old folder.new) base.now Poly) (FormAnswer (folder_seen F.held F.faults F.misses folder.old folder.new) base.now Smesh) result }
+fn read_bare<F: Folder>(
+    alloc: Global,
+    limits: Limits,
+    base: &Name,
+    folder: &mut F,
+) -> Result<ComplexFile, Status>
+    requires { AreIndexable limits }
+    ensures answer { IfMissing (FormAnswer limits (folder_seen F.held F.faults F.misses folder.old folder.new) base.now Poly) (FormAnswer limits (folder_seen F.held F.faults F.misses folder.old folder.new) base.now Smesh) result }
     ensures few { IfOk result (λ file. HasFewParts file.text) }
     ensures unchanged { F.held folder.new ≡ F.held folder.old }
     ensures faults { F.faults folder.old ≤ F.faults folder.new }
     ensures misses { F.misses folder.old ≤ F.misses folder.new }
 {
-    match read_form(alloc, base, Extension::Poly, folder) {
-        Err(Status::Missing { name: _ }) => read_form(alloc, base, Extension::Smesh, folder),
+    match read_form(alloc, limits, base, Extension::Poly, folder) {
+        Err(Status::Missing { name: _ }) => read_form(
+            alloc,
+            limits,
+            base,
+            Extension::Smesh,
+            folder,
+        ),
         answer => answer,
     }
 }
@@ -172,18 +192,20 @@ fn read_bare<F: Folder>(alloc: Global, base: &Name, folder: &mut F) -> Result<Co
 /// The complex of a file in one form.
 fn read_form<F: Folder>(
     alloc: Global,
+    limits: Limits,
     base: &Name,
     extension: Extension,
     folder: &mut F,
 ) -> Result<ComplexFile, Status>
-    ensures answer { FormAnswer (folder_seen F.held F.faults F.misses folder.old folder.new) base.now extension result }
+    requires { AreIndexable limits }
+    ensures answer { FormAnswer limits (folder_seen F.held F.faults F.misses folder.old folder.new) base.now extension result }
     ensures few { IfOk result (λ file. HasFewParts file.text) }
     ensures unchanged { F.held folder.new ≡ F.held folder.old }
     ensures faults { F.faults folder.old ≤ F.faults folder.new }
     ensures misses { F.misses folder.old ≤ F.misses folder.new }
 {
     let name = file_name(alloc, base, extension)?;
-    let file = fetch(alloc, name, folder)?;
+    let file = fetch(alloc, limits, name, folder)?;
     complex_of(alloc, extension, file)
 }
 
@@ -191,12 +213,14 @@ fn read_form<F: Folder>(
 /// base. Each corner has to be one of them.
 fn with_points<F: Folder>(
     alloc: Global,
+    limits: Limits,
     base: &Name,
     file: ComplexFile,
     folder: &mut F,
 ) -> Result<Input, Status>
-    requires { HasFewParts file.text }
-    ensures answer { AndThen (NodesAnswer (folder_seen F.held F.faults F.misses folder.old folder.new) base.now file.text.nodes) (BoundedAnswer file) result }
+    requires limits { AreIndexable limits }
+    requires few { HasFewParts file.text }
+    ensures answer { AndThen (NodesAnswer limits (folder_seen F.held F.faults F.misses folder.old folder.new) base.now file.text.nodes) (BoundedAnswer file) result }
     ensures sound { IfOk result IsSound }
     ensures unchanged { F.held folder.new ≡ F.held folder.old }
     ensures faults { F.faults folder.old ≤ F.faults folder.new }
@@ -206,7 +230,7 @@ fn with_points<F: Folder>(
     let own = text.take_nodes();
     let nodes = match own {
         Some(nodes) => nodes,
-        None => read_points(alloc, base, folder)?,
+        None => read_points(alloc, limits, base, folder)?,
     };
     bounded(name, nodes, text)
 }
@@ -226,33 +250,49 @@ fn bounded(name: Name, nodes: NodeText, complex: PlcText) -> Result<Input, Statu
 }
 
 /// The point list of the `.node` file with this base.
-fn read_points<F: Folder>(alloc: Global, base: &Name, folder: &mut F) -> Result<NodeText, Status>
-    ensures answer { PointsAnswer (folder_seen F.held F.faults F.misses folder.old folder.new) base.now result }
+fn read_points<F: Folder>(
+    alloc: Global,
+    limits: Limits,
+    base: &Name,
+    folder: &mut F,
+) -> Result<NodeText, Status>
+    requires { AreIndexable limits }
+    ensures answer { PointsAnswer limits (folder_seen F.held F.faults F.misses folder.old folder.new) base.now result }
     ensures table { IfOk result IsNodeText }
     ensures unchanged { F.held folder.new ≡ F.held folder.old }
     ensures faults { F.faults folder.old ≤ F.faults folder.new }
     ensures misses { F.misses folder.old ≤ F.misses folder.new }
 {
     let name = file_name(alloc, base, Extension::Node)?;
-    let file = fetch(alloc, name, folder)?;
+    let file = fetch(alloc, limits, name, folder)?;
     points_of(alloc, file)
 }
 
 /// The bytes of a file.
-fn fetch<F: Folder>(alloc: Global, name: Name, folder: &mut F) -> Result<Fetched, Status>
+fn fetch<F: Folder>(
+    alloc: Global,
+    limits: Limits,
+    name: Name,
+    folder: &mut F,
+) -> Result<Fetched, Status>
+    requires { AreIndexable limits }
     ensures named { IfOk result (λ file. file.name ≡ name) }
-    ensures read { IfOk result (λ file. IsRead (F.held folder.old) name file.bytes) }
-    ensures err { IfErr result (IsUnfetched (folder_seen F.held F.faults F.misses folder.old folder.new) name) }
+    ensures read { IfOk result (λ file. IsRead limits (F.held folder.old) name file.bytes) }
+    ensures short { IfOk result (λ file. length file.bytes < 2 ^ 32 - 1) }
+    ensures err { IfErr result (IsUnfetched limits (folder_seen F.held F.faults F.misses folder.old folder.new) name) }
     ensures unchanged { F.held folder.new ≡ F.held folder.old }
     ensures faults { F.faults folder.old ≤ F.faults folder.new }
     ensures misses { F.misses folder.old ≤ F.misses folder.new }
 {
-    match folder.fetch(alloc, &name, MOST_BYTES) {
+    match folder.fetch(alloc, &name, limits.bytes) {
         Ok(bytes) => Ok(Fetched { name, bytes }),
         Err(FetchFault::Missing) => Err(Status::Missing { name }),
         Err(FetchFault::Failed) => Err(Status::ReadFault { name }),
         Err(FetchFault::TooLarge { taken: _ }) => Err(Status::Limit {
-            what: LimitKind::Bytes { name },
+            what: LimitKind::Bytes {
+                name,
+                most: limits.bytes,
+            },
         }),
         Err(FetchFault::NoMemory) => Err(Status::NoMemory),
     }
@@ -260,7 +300,7 @@ fn fetch<F: Folder>(alloc: Global, name: Name, folder: &mut F) -> Result<Fetched
 
 /// The point list that a file spells.
 fn points_of(alloc: Global, file: Fetched) -> Result<NodeText, Status>
-    requires { length file.bytes ≤ most_bytes }
+    requires { length file.bytes < 2 ^ 32 - 1 }
     ensures answer { TextAnswer file.name (node_text_of file.bytes) result }
     ensures table { IfOk result IsNodeText }
 {
@@ -277,7 +317,7 @@ fn points_of(alloc: Global, file: Fetched) -> Result<NodeText, Status>
 
 /// The complex that a file spells in one form.
 fn complex_of(alloc: Global, extension: Extension, file: Fetched) -> Result<ComplexFile, Status>
-    requires { length file.bytes ≤ most_bytes }
+    requires { length file.bytes < 2 ^ 32 - 1 }
     ensures answer { AndThen (TextAnswer file.name (plc_text_of extension file.bytes)) (λ text. Gives (complex_file file.name text)) result }
     ensures few { IfOk result (λ made. HasFewParts made.text) }
 {

@@ -6,7 +6,7 @@ ghost use Rattle.geo_laws.specs.Delaunay.{delaunay_rows, AreCoplanar, RowBefore}
 ghost use Rattle.geo_laws.specs.Faces.{AreHullFacesOf};
 ghost use Rattle.complex_mesh.specs.Meshing.{MeshesSo};
 ghost use Rattle.node_files.specs.Folding.{names_with};
-ghost use Rattle.node_files.specs.Settling.{most_points};
+ghost use Rattle.node_files.specs.Limits.{AreIndexable};
 ghost use Rattle.node_files.specs.Writing.{IsNodeTable};
 ghost use Rattle.plc_files.specs.Binding.{IsBound, HasCornersBelow, HasWeights};
 ghost use Rattle.plc_files.specs.Checks.{corners_check, HasFewParts};
@@ -31,7 +31,7 @@ use complex_mesh::{ComplexMesh, MeshFault, MeshOptions, mesh_complex};
 use geo_laws::{Complex, FacetTriangles, Points, TetList};
 use grid_coords::{DecimalPoints, Grid};
 use mesh_files::Faces;
-use node_files::{GridOptions, Names, NodeFault, NodeTable, NodeText, names_of, settle};
+use node_files::{GridOptions, Limits, Names, NodeFault, NodeTable, NodeText, names_of, settle};
 use plc_files::{PlcFault, PlcText, bind, fold};
 use std::alloc::Global;
 use std::mem;
@@ -68,14 +68,20 @@ fn grid_options(options: &Options) -> GridOptions
 
 /// The points on their grid, where equal ones are folded, and the complex on them. It refuses with
 /// the first limit that the input is over, or for want of memory.
-pub fn bind_input(alloc: Global, options: &Options, input: Input) -> Result<Bound, Status>
+pub fn bind_input(
+    alloc: Global,
+    limits: Limits,
+    options: &Options,
+    input: Input,
+) -> Result<Bound, Status>
+    requires limits { AreIndexable limits }
     requires input { IsSound input }
     requires ranges { AreInRange options.now }
-    ensures answer { BoundAnswer options.now input result }
+    ensures answer { BoundAnswer limits options.now input result }
     ensures meshable { IfOk result (IsMeshableBound options.now) }
 {
     let Input { nodes, complex } = input;
-    match bind_parts(alloc, options, nodes, &complex) {
+    match bind_parts(alloc, limits, options, nodes, &complex) {
         Ok(bound) => Ok(bound),
         Err(fault) => Err(Status::from(fault)),
     }
@@ -84,27 +90,31 @@ pub fn bind_input(alloc: Global, options: &Options, input: Input) -> Result<Boun
 /// The same of the parts of an input.
 fn bind_parts(
     alloc: Global,
+    limits: Limits,
     options: &Options,
     nodes: NodeText,
     text: &PlcText,
 ) -> Result<Bound, BindFault>
+    requires limits { AreIndexable limits }
     requires input { IsSound (record { nodes = nodes; complex = text.now }) }
     requires ranges { AreInRange options.now }
     ensures bound { IfOk result
-        (λ bound. BoundAnswer options.now (record { nodes = nodes; complex = text.now }) (Ok bound)) }
+        (λ bound. BoundAnswer limits options.now (record { nodes = nodes; complex = text.now }) (Ok bound)) }
     ensures unbound { IfErr result
-        (λ fault. IsUnbound options.now (record { nodes = nodes; complex = text.now }) (status_of_bind fault)) }
+        (λ fault. IsUnbound limits options.now (record { nodes = nodes; complex = text.now }) (status_of_bind fault)) }
     ensures meshable { IfOk result (IsMeshableBound options.now) }
 {
     let first = nodes.first;
     let count = nodes.decimals.len() as u64;
-    match settle(alloc, nodes, &grid_options(options)) {
+    match settle(alloc, limits, nodes, &grid_options(options)) {
         Ok(table) => {
-            let complex = bind_folded(alloc, text, first, count, &table)?;
+            let complex = bind_folded(alloc, limits, text, first, count, &table)?;
             Ok(Bound { table, complex })
         }
-        Err(NodeFault::TooMany { count }) => Err(BindFault::Points { count }),
-        Err(NodeFault::Range { line }) => Err(limit_before(alloc, text, first, count, line)),
+        Err(NodeFault::TooMany { count, most }) => Err(BindFault::Points { count, most }),
+        Err(NodeFault::Range { line }) => Err(limit_before(
+            alloc, limits, text, first, count, line,
+        )),
         Err(NodeFault::NoMemory) => Err(BindFault::NoMemory),
         Err(NodeFault::Text(_)) => unreachable!(),
     }
@@ -113,45 +123,51 @@ fn bind_parts(
 /// The complex on the points of a table, where its corners name those that are kept.
 fn bind_folded(
     alloc: Global,
+    limits: Limits,
     text: &PlcText,
     first: u32,
     count: u64,
     table: &NodeTable,
 ) -> Result<Complex, BindFault>
+    requires limits { AreIndexable limits }
     requires corners { corners_check first count text.now ≡ Ok tt }
     requires count { count < 2 ^ 32 - 1 }
     requires few { HasFewParts text.now }
     requires table { IsNodeTable table.now }
     requires listed { length table.now.listed ≡ count }
-    ensures bound { IfOk result (IsBoundOn text.now first table.now) }
-    ensures over { IfErr result (λ fault. IsOverLimit text.now (status_of_bind fault)) }
+    ensures bound { IfOk result (IsBoundOn limits text.now first table.now) }
+    ensures over { IfErr result (λ fault. IsOverLimit limits text.now (status_of_bind fault)) }
     ensures corners { IfOk result (HasCornersBelow (length table.now.points)) }
     ensures weights { IfOk result HasWeights }
 {
-    let bound = bind_complex(alloc, text, first, count, &table.grid)?;
+    let bound = bind_complex(alloc, limits, text, first, count, &table.grid)?;
     Ok(fold(alloc, &bound, table)?)
 }
 
 /// The complex on a grid.
 fn bind_complex(
     alloc: Global,
+    limits: Limits,
     text: &PlcText,
     first: u32,
     count: u64,
     grid: &Grid,
 ) -> Result<Complex, BindFault>
+    requires limits { AreIndexable limits }
     requires corners { corners_check first count text.now ≡ Ok tt }
     requires count { count < 2 ^ 32 - 1 }
     requires few { HasFewParts text.now }
-    ensures bound { IfOk result (IsBound text.now first grid.now) }
-    ensures over { IfErr result (λ fault. IsOverLimit text.now (status_of_bind fault)) }
+    ensures bound { IfOk result (IsBound limits text.now first grid.now) }
+    ensures over { IfErr result (λ fault. IsOverLimit limits text.now (status_of_bind fault)) }
     ensures corners { IfOk result (HasCornersBelow count) }
     ensures weights { IfOk result HasWeights }
 {
-    match bind(alloc, text, first, count, grid) {
+    match bind(alloc, limits, text, first, count, grid) {
         Ok(complex) => Ok(complex),
-        Err(PlcFault::Facets { count }) => Err(BindFault::Facets { count }),
-        Err(PlcFault::Corners { line, count }) => Err(BindFault::Corners { line, count }),
+        Err(PlcFault::Facets { count, most }) => Err(BindFault::Facets { count, most }),
+        Err(PlcFault::Corners { line, count, most }) => {
+            Err(BindFault::Corners { line, count, most })
+        }
         Err(PlcFault::NoMemory) => Err(BindFault::NoMemory),
         Err(PlcFault::Text(_)) => unreachable!(),
     }
@@ -159,18 +175,26 @@ fn bind_complex(
 
 /// The limit that the complex is over, which comes before that of the grid at this line; or that.
 /// The grid serves no other end.
-fn limit_before(alloc: Global, text: &PlcText, first: u32, count: u64, line: usize) -> BindFault
+fn limit_before(
+    alloc: Global,
+    limits: Limits,
+    text: &PlcText,
+    first: u32,
+    count: u64,
+    line: usize,
+) -> BindFault
+    requires limits { AreIndexable limits }
     requires corners { corners_check first count text.now ≡ Ok tt }
     requires count { count < 2 ^ 32 - 1 }
     requires few { HasFewParts text.now }
-    ensures { IsSmall text.now × (status_of_bind result ≡ Limit (OnGrid line))
-        ⊎ IsOverLimit text.now (status_of_bind result) }
+    ensures { IsSmall limits text.now × (status_of_bind result ≡ Limit (OnGrid line))
+        ⊎ IsOverLimit limits text.now (status_of_bind result) }
 {
     let grid = Grid {
         decimals: 0,
         halvings: 0,
     };
-    match bind_complex(alloc, text, first, count, &grid) {
+    match bind_complex(alloc, limits, text, first, count, &grid) {
         Ok(_) => BindFault::Grid { line },
         Err(limit) => limit,
     }
@@ -256,7 +280,7 @@ fn mesh_on(
     hidden: Option<usize>,
 ) -> Result<Meshed, NoMemory>
     requires table { IsNodeTable table }
-    requires few { length table.listed ≤ most_points }
+    requires few { length table.listed ≤ 2 ^ 31 }
     ensures { IfOk result (λ mesh. mesh ≡ mesh_on table rows hidden) }
 {
     let points = points_from(alloc, &table.points, 0)?;

@@ -2,9 +2,9 @@
 
 ghost use Rattle.std.specs.Prelude.{◌≡◌, ◌∷◌, [], ◌++◌, ◌+◌, None, IfOk, OnOk};
 ghost use Rattle.std.specs.Fmt.{decimal};
-ghost use Rattle.run_steps.specs.Messages.{line, point_text, ends_text, triangle_text, tetrahedron_text, two_tetrahedra_text, facet_text, part_text, kind_text, file_message, usage_message, text_message, limit_message, message_of};
+ghost use Rattle.run_steps.specs.Messages.{line, point_text, ends_text, triangle_text, tetrahedron_text, two_tetrahedra_text, facet_text, part_text, kind_text, file_message, usage_message, text_message, at_most, limit_message, message_of};
 ghost use Rattle.tangle_laws.specs.declared.anomaly.Anomaly.TheVariants.{Bare};
-ghost use Rattle.run_steps.specs.declared.status.LimitKind.TheVariants.{Corners, Grid, Weight};
+ghost use Rattle.run_steps.specs.declared.status.LimitKind.TheVariants.{Bytes as TooLong, MeshPoints, Corners, Grid, Weight};
 ghost use Rattle.run_steps.specs.declared.status.Status.TheVariants.{NotFlat, SegmentsCross, Crossing, GridEnd, BudgetEnd, NoFill, Unsound};
 
 use crate::numbering::{Numbering, number_of};
@@ -98,23 +98,51 @@ fn limit_message(alloc: Global, what: &LimitKind) -> Result<Bytes, NoMemory>
     ensures { IfOk result (λ line. line ≡ limit_message what.now) }
 {
     match what {
-        LimitKind::Bytes { name } => file_message(alloc, name, b"over 67108864 bytes"),
-        LimitKind::Points { count } => count_message(alloc, *count, b" points, at most 20000"),
-        LimitKind::MeshPoints { count } => count_message(alloc, *count, b" points, at most 120000"),
-        LimitKind::Facets { count } => count_message(alloc, *count, b" facets, at most 20000"),
-        LimitKind::Corners { line, count } => corners_message(alloc, *line, *count),
+        LimitKind::Bytes { name, most } => bytes_message(alloc, name, *most),
+        LimitKind::Points { count, most } => count_message(alloc, *count, b" points", *most),
+        LimitKind::MeshPoints { count } => mesh_points_message(alloc, *count),
+        LimitKind::Facets { count, most } => count_message(alloc, *count, b" facets", *most),
+        LimitKind::Corners { line, count, most } => corners_message(alloc, *line, *count, *most),
         LimitKind::Grid { line } => grid_limit_message(alloc, *line),
         LimitKind::Weight { line } => weight_limit_message(alloc, *line),
     }
 }
 
-/// A line that begins with a number.
-fn count_message(alloc: Global, count: u64, behind: &[u8]) -> Result<Bytes, NoMemory>
-    ensures { IfOk result (λ made. made ≡ line (decimal count ++ behind.now)) }
+/// A line on a file that is too long.
+fn bytes_message(alloc: Global, name: &Name, most: usize) -> Result<Bytes, NoMemory>
+    ensures { IfOk result (λ line. line ≡ limit_message (TooLong name.now most)) }
+{
+    let mut text = Bytes::from_slice(alloc, b"over ")?;
+    append_number(&mut text, most)?;
+    text.append(b" bytes")?;
+    file_message(alloc, name, text.as_slice())
+}
+
+/// Appends how many are allowed.
+fn append_most(text: &mut Bytes, most: usize) -> Result<(), NoMemory>
+    ensures { OnOk result (text.new ≡ text.old ++ at_most most) }
+{
+    text.append(b", at most ")?;
+    append_number(text, most)
+}
+
+/// A line that says how many there are, of what, and how many are allowed.
+fn count_message(alloc: Global, count: u64, what: &[u8], most: usize) -> Result<Bytes, NoMemory>
+    ensures { IfOk result (λ made. made ≡ line (decimal count ++ what.now ++ at_most most)) }
 {
     let mut text = Bytes::new(alloc);
     append_number(&mut text, count as usize)?;
-    text.append(behind)?;
+    text.append(what)?;
+    append_most(&mut text, most)?;
+    line(alloc, text.as_slice())
+}
+
+fn mesh_points_message(alloc: Global, count: u64) -> Result<Bytes, NoMemory>
+    ensures { IfOk result (λ made. made ≡ limit_message (MeshPoints count)) }
+{
+    let mut text = Bytes::new(alloc);
+    append_number(&mut text, count as usize)?;
+    text.append(b" points, at most 120000")?;
     line(alloc, text.as_slice())
 }
 
@@ -125,14 +153,15 @@ fn unsound_message(alloc: Global, defect: Defect, first: u32) -> Result<Bytes, N
     line(alloc, text.as_slice())
 }
 
-fn corners_message(alloc: Global, place: usize, count: u64) -> Result<Bytes, NoMemory>
-    ensures { IfOk result (λ line. line ≡ limit_message (Corners place count)) }
+fn corners_message(alloc: Global, place: usize, count: u64, most: usize) -> Result<Bytes, NoMemory>
+    ensures { IfOk result (λ line. line ≡ limit_message (Corners place count most)) }
 {
     let mut text = Bytes::from_slice(alloc, b"line ")?;
     append_number(&mut text, place)?;
     text.append(b": ")?;
     append_number(&mut text, count as usize)?;
-    text.append(b" corners, at most 1000")?;
+    text.append(b" corners")?;
+    append_most(&mut text, most)?;
     line(alloc, text.as_slice())
 }
 

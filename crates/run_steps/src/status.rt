@@ -11,23 +11,42 @@ use tet_text::TextFault;
 /// The limit that an input is over.
 #[derive(Debug, Drop)]
 pub enum LimitKind {
-    /// The bytes of a file.
-    Bytes { name: Name },
-    /// The number of points; it carries that of the input.
-    Points { count: u64 },
+    /// The bytes of a file; how many are allowed.
+    Bytes {
+        name: Name,
+        most: usize,
+    },
+    /// The number of points; that of the input, and how many are allowed.
+    Points {
+        count: u64,
+        most: usize,
+    },
     /// The number of points of a mesh that is checked; it carries that of the mesh.
-    MeshPoints { count: u64 },
-    /// The number of facets; it carries that of the input.
-    Facets { count: u64 },
-    /// The number of corners of a polygon; the line of the first such polygon, from 1, and how many
-    /// it has.
-    Corners { line: usize, count: u64 },
+    MeshPoints {
+        count: u64,
+    },
+    /// The number of facets; that of the input, and how many are allowed.
+    Facets {
+        count: u64,
+        most: usize,
+    },
+    /// The number of corners of a polygon; the line of the first such polygon, from 1, how many it
+    /// has, and how many are allowed.
+    Corners {
+        line: usize,
+        count: u64,
+        most: usize,
+    },
     /// The size of a grid coordinate without halvings; the line of the first point that is off the
     /// grid, from 1.
-    Grid { line: usize },
+    Grid {
+        line: usize,
+    },
     /// The size of a weight, 2^46 squares of grid units; the line of the first point whose weight
     /// is over it, from 1.
-    Weight { line: usize },
+    Weight {
+        line: usize,
+    },
 }
 
 /// How a run ends. Names are those of files. Facets are named by their places, from 0, and so are

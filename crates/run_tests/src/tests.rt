@@ -4,11 +4,12 @@ use crate::test_inputs::{
     BAR, BAR_ELE, BAR_FACE, BAR_NODE, BAR_SMESH, CUBE, DECIMALS, GREATEST, NEGATIVE, PYRAMID,
     SMALLEST, THIRD, WRITTEN,
 };
+use node_files::Limits;
 use run_steps::{Status, append_number};
 use std::alloc::Global;
 use std::test::Fail;
 use tet_ports::{Bytes, MemFolder, MemSink, Name, NoMemory, Words};
-use tetgen_run::run_tetgen;
+use tetgen_run::{run_tetgen, run_within};
 
 /// A file by its name, with its text.
 pub(crate) type File<'a> = (&'a [u8], &'a [u8]);
@@ -73,6 +74,30 @@ impl Place {
             err,
         } = self;
         *status = run_tetgen(alloc, &words, folder, out, err);
+        Ok(())
+    }
+
+    /// The same within limits on the points and bytes of the input, at most 20,000 each.
+    fn run_within(
+        &mut self,
+        alloc: Global,
+        points: usize,
+        bytes: usize,
+        words: &[&[u8]],
+    ) -> Result<(), NoMemory> {
+        let words = words_of(alloc, words)?;
+        let Place {
+            status,
+            folder,
+            out,
+            err,
+        } = self;
+        let limits = Limits {
+            points: points.min(20_000),
+            bytes: bytes.min(20_000),
+            ..Limits::tetgen()
+        };
+        *status = run_within(alloc, limits, &words, folder, out, err);
         Ok(())
     }
 
@@ -704,5 +729,31 @@ fn too_many_facets_are_refused(rt: HostRuntime) -> Result<(), Fail> {
             b"tetgen: 20001 facets, at most 20000\n"
         )?
     );
+    Ok(())
+}
+
+/// Limits on points and bytes, and what a run on the pyramid within them ends with.
+const LIMITED: [(usize, usize, End); 3] = [
+    (5, 1000, (0, None, Some(b""))),
+    (
+        4,
+        1000,
+        (5, Some(b""), Some(b"tetgen: 5 points, at most 4\n")),
+    ),
+    (
+        5,
+        10,
+        (5, Some(b""), Some(b"tetgen: t.node: over 10 bytes\n")),
+    ),
+];
+
+#[test]
+fn a_run_within_other_limits(rt: HostRuntime) -> Result<(), Fail> {
+    let alloc = rt.alloc();
+    for (points, bytes, end) in LIMITED {
+        let mut place = Place::with_files(alloc, &[(b"t.node", PYRAMID)])?;
+        place.run_within(alloc, points, bytes, &[b"t.node"])?;
+        assert!(rt; place.has(alloc, end, &[])?);
+    }
     Ok(())
 }

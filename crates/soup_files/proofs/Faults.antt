@@ -19,8 +19,8 @@ use Rattle.soup_files.proofs.Faces.{corners_added}
 -- a reading that fails makes each that goes on with it fail
 pub fails_then : {A B : Type 0} (fault : PlcFault) (read : Result A TextFault) (next : A → Result B TextFault) → Fails fault read → Fails fault (read >>= next)
 fails_then faults.NoMemory read next fails = tt
-fails_then (faults.Facets n) read next fails = elim fails [ ]
-fails_then (faults.Corners line n) read next fails = elim fails [ ]
+fails_then (faults.Facets n most) read next fails = elim fails [ ]
+fails_then (faults.Corners line n most) read next fails = elim fails [ ]
 fails_then (faults.Text fault) read next fails = ap (λ r. r >>= next) fails
 
 -- a face that was read onto a complex
@@ -47,8 +47,8 @@ face_read line start mid new left rest (Ok cs) (Ok x) begun gives =
     ap (λ (t : Plc). let found : Result (Plc × List ContentLine) TextFault = Ok (t, rest) in found) (sym (corners_added line cs.0 start) ∙ sym (ap (plus_corners cs.0) begun) ∙ ap (λ (p : Plc × Fields). p.0) e)
 face_read line start mid new left rest (Err fault) (Ok x) begun gives = absurd cc
 face_read line start mid new left rest read (Err faults.NoMemory) begun gives = tt
-face_read line start mid new left rest read (Err (faults.Facets n)) begun gives = elim gives [ ]
-face_read line start mid new left rest read (Err (faults.Corners l n)) begun gives = elim gives [ ]
+face_read line start mid new left rest read (Err (faults.Facets n most)) begun gives = elim gives [ ]
+face_read line start mid new left rest read (Err (faults.Corners l n most)) begun gives = elim gives [ ]
 face_read line start mid new left rest (Ok cs) (Err (faults.Text fault)) begun gives = absurd cc
 face_read line start mid new left rest (Err other) (Err (faults.Text fault)) begun gives = cc
 
@@ -65,8 +65,8 @@ corner_ok line start n fields rest here is = rw (← here, ← is) refl
 -- a reading whose value is seen otherwise fails only by itself
 pub fails_before : {A B : Type 0} (fault : PlcFault) (read : Result A TextFault) (f : A → B) → Fails fault (read >>= λ x. Ok (f x)) → Fails fault read
 fails_before faults.NoMemory read f fails = tt
-fails_before (faults.Facets n) read f fails = elim fails [ ]
-fails_before (faults.Corners line n) read f fails = elim fails [ ]
+fails_before (faults.Facets n most) read f fails = elim fails [ ]
+fails_before (faults.Corners line n most) read f fails = elim fails [ ]
 fails_before (faults.Text fault) (Ok x) f fails = absurd cc
 fails_before (faults.Text fault) (Err other) f fails = cc
 

@@ -17,6 +17,7 @@ use Rattle.geo_laws.specs.Laws.{IsTriangulation}
 use Rattle.geo_laws.specs.Mesh.{IsMesh}
 use Rattle.geo_laws.specs.Path.{HullOnly}
 use Rattle.geo_laws.proofs.DelaunayList.{triangulation_of_rows, law_delaunay_list}
+use Rattle.node_files.specs.declared.limits.Limits.{Limits}
 use Rattle.node_files.specs.declared.node_text.NodeText.{NodeText}
 use Rattle.path_laws.specs.Flood.{carving_of}
 use Rattle.plc_files.specs.Checks.{corners_check}
@@ -30,7 +31,7 @@ use Rattle.run_steps.specs.declared.numbering.Numbering.{Numbering}
 use Rattle.run_steps.specs.Meshing.{OutputsOfRun, BoundAnswer, IsUnbound, PointsMeshOf, MeshOf, MeshAnswer, IsFlatRefusal, OutputsAnswer, MeshedAnswer}
 use Rattle.run_steps.specs.Outputs.{named, AreOutputsOf}
 use Rattle.run_steps.specs.Reading.{complex_file, points_alone, on_points, WordsAnswer, FetchAnswer, TextAnswer, PointsAnswer, FormAnswer, ComplexFileAnswer, SourceAnswer, NodesAnswer, BoundedAnswer, InputOf, InputAnswer, IsUsage, IsUnfetched, IsBadText, node_text_of, plc_text_of}
-use Rattle.tetgen_run.specs.Run.{asks_check, AnswerBy, IsMeshAnswer, IsAnswer, IsComplete, LeftBy, IsLeftByMesh, IsLeft, asks_regular, IsRegularMesh, IsMeshOfRun, IsUnchanged, IsTold, IsPut, IsNumbering, IsToldAs, IsEarly, IsSummed, IsTellable, ChecksSo, EndsByMesh, EndsBy, EndsSo, answer_of, numbering_in, HasNoFault, names_points}
+use Rattle.tetgen_run.specs.Run.{asks_check, AnswerBy, IsMeshAnswer, IsAnswerWithin, IsCompleteWithin, LeftBy, IsLeftByMesh, IsLeftWithin, asks_regular, IsRegularMesh, IsMeshOfRunWithin, IsUnchanged, IsToldWithin, IsPut, IsNumbering, IsToldAs, IsEarly, IsSummed, IsTellable, ChecksSo, EndsByMesh, EndsBy, EndsSo, answer_of, numbering_in, HasNoFault, names_points}
 use Rattle.run_steps.specs.Seen.{FolderSeen, SinkSeen}
 use Rattle.tetgen_run.specs.Stops.{stop_of_words, stop_of_store}
 use Rattle.run_steps.specs.Stores.{given, in_order, with_files, AreLeft, IfFailed, TellsFailure}
@@ -73,48 +74,48 @@ module _ (P : Status → Type 0) (missing : (name : List ℕ) → P (Missing nam
   want_has : (s : Status) → s ≡ NoMemory → P s
   want_has s e = subst P (sym e) want
 
-  fetch_has : (seen : FolderSeen) (name : List ℕ) (s : Status) → IsUnfetched seen name s → P s
-  fetch_has seen name (Missing name') h = missing name'
-  fetch_has seen name (ReadFault name') h = failed name'
-  fetch_has seen name (Limit what) h = limit what
-  fetch_has seen name NoMemory h = want
-  fetch_has seen name s h = absurd h
+  fetch_has : (limits : Limits) (seen : FolderSeen) (name : List ℕ) (s : Status) → IsUnfetched limits seen name s → P s
+  fetch_has limits seen name (Missing name') h = missing name'
+  fetch_has limits seen name (ReadFault name') h = failed name'
+  fetch_has limits seen name (Limit what) h = limit what
+  fetch_has limits seen name NoMemory h = want
+  fetch_has limits seen name s h = absurd h
 
   text_has : {A : Type 0} (name : List ℕ) (reading : Result A TextFault) (s : Status) → IsBadText name reading s → P s
   text_has name reading (BadText name' fault) h = bad name' fault
   text_has name reading NoMemory h = want
   text_has name reading s h = absurd h
 
-  points_have : (seen : FolderSeen) (base : List ℕ) (s : Status) → PointsAnswer seen base (Err s) → P s
-  points_have seen base =
+  points_have : (limits : Limits) (seen : FolderSeen) (base : List ℕ) (s : Status) → PointsAnswer limits seen base (Err s) → P s
+  points_have limits seen base =
       let name = file_name base Node in
-      and_then_refuses P (FetchAnswer seen name) (λ bytes. TextAnswer name (node_text_of bytes)) (fetch_has seen name) (λ bytes. text_has name (node_text_of bytes))
+      and_then_refuses P (FetchAnswer limits seen name) (λ bytes. TextAnswer name (node_text_of bytes)) (fetch_has limits seen name) (λ bytes. text_has name (node_text_of bytes))
 
-  form_has : (seen : FolderSeen) (base : List ℕ) (extension : Extension) (s : Status) → FormAnswer seen base extension (Err s) → P s
-  form_has seen base extension =
+  form_has : (limits : Limits) (seen : FolderSeen) (base : List ℕ) (extension : Extension) (s : Status) → FormAnswer limits seen base extension (Err s) → P s
+  form_has limits seen base extension =
       let name = file_name base extension in
-      and_then_refuses P (FetchAnswer seen name) (λ bytes. AndThen (TextAnswer name (plc_text_of extension bytes)) (λ text. Gives (complex_file name text))) (fetch_has seen name)
+      and_then_refuses P (FetchAnswer limits seen name) (λ bytes. AndThen (TextAnswer name (plc_text_of extension bytes)) (λ text. Gives (complex_file name text))) (fetch_has limits seen name)
       (λ bytes. and_then_refuses P (TextAnswer name (plc_text_of extension bytes)) (λ text. Gives (complex_file name text)) (text_has name (plc_text_of extension bytes)) (λ text. want_has))
 
-  bare_has : (seen : FolderSeen) (base : List ℕ) (s : Status) → IfMissing (FormAnswer seen base Poly) (FormAnswer seen base Smesh) (Err s) → P s
-  bare_has seen base s (inl h) = form_has seen base Poly s h.0
-  bare_has seen base s (inr h) = form_has seen base Smesh s h.2
+  bare_has : (limits : Limits) (seen : FolderSeen) (base : List ℕ) (s : Status) → IfMissing (FormAnswer limits seen base Poly) (FormAnswer limits seen base Smesh) (Err s) → P s
+  bare_has limits seen base s (inl h) = form_has limits seen base Poly s h.0
+  bare_has limits seen base s (inr h) = form_has limits seen base Smesh s h.2
 
-  file_has : (seen : FolderSeen) (base : List ℕ) (extension : Option Extension) (s : Status) → ComplexFileAnswer seen base extension (Err s) → P s
-  file_has seen base (Some Smesh) = form_has seen base Smesh
-  file_has seen base (Some Poly) = form_has seen base Poly
-  file_has seen base (Some Off) = form_has seen base Off
-  file_has seen base (Some Stl) = form_has seen base Stl
-  file_has seen base (Some Node) = bare_has seen base
-  file_has seen base None = bare_has seen base
+  file_has : (limits : Limits) (seen : FolderSeen) (base : List ℕ) (extension : Option Extension) (s : Status) → ComplexFileAnswer limits seen base extension (Err s) → P s
+  file_has limits seen base (Some Smesh) = form_has limits seen base Smesh
+  file_has limits seen base (Some Poly) = form_has limits seen base Poly
+  file_has limits seen base (Some Off) = form_has limits seen base Off
+  file_has limits seen base (Some Stl) = form_has limits seen base Stl
+  file_has limits seen base (Some Node) = bare_has limits seen base
+  file_has limits seen base None = bare_has limits seen base
 
-  source_has : (seen : FolderSeen) (base : List ℕ) (extension : Option Extension) (sample : Option ℕ) (s : Status) → SourceAnswer seen base extension sample (Err s) → P s
-  source_has seen base extension (Some n) = want_has
-  source_has seen base extension None = file_has seen base extension
+  source_has : (limits : Limits) (seen : FolderSeen) (base : List ℕ) (extension : Option Extension) (sample : Option ℕ) (s : Status) → SourceAnswer limits seen base extension sample (Err s) → P s
+  source_has limits seen base extension (Some n) = want_has
+  source_has limits seen base extension None = file_has limits seen base extension
 
-  nodes_have : (seen : FolderSeen) (base : List ℕ) (own : Option NodeText) (s : Status) → NodesAnswer seen base own (Err s) → P s
-  nodes_have seen base (Some nodes) = want_has
-  nodes_have seen base None = points_have seen base
+  nodes_have : (limits : Limits) (seen : FolderSeen) (base : List ℕ) (own : Option NodeText) (s : Status) → NodesAnswer limits seen base own (Err s) → P s
+  nodes_have limits seen base (Some nodes) = want_has
+  nodes_have limits seen base None = points_have limits seen base
 
   bounded_has : (file : ComplexFile) (nodes : NodeText) (s : Status) → BoundedAnswer file nodes (Err s) → P s
   bounded_has file nodes =
@@ -122,34 +123,34 @@ module _ (P : Status → Type 0) (missing : (name : List ℕ) → P (Missing nam
       let reading = corners_check nodes.first (length nodes.decimals) file.text in
       and_then_refuses P (TextAnswer file.name reading) (λ checked. Gives input) (text_has file.name reading) (λ checked. want_has)
 
-  input_has : (seen : FolderSeen) (options : Options) (piecewise : Bool) (s : Status) → InputOf piecewise seen options (Err s) → P s
-  input_has seen options false =
-      and_then_refuses P (PointsAnswer seen options.base) (λ nodes. Gives (points_alone nodes)) (points_have seen options.base) (λ nodes. want_has)
-  input_has seen options true =
-      and_then_refuses P (SourceAnswer seen options.base options.extension options.sample) (λ file. AndThen (NodesAnswer seen options.base file.text.nodes) (BoundedAnswer file))
-      (source_has seen options.base options.extension options.sample)
-      (λ file. and_then_refuses P (NodesAnswer seen options.base file.text.nodes) (BoundedAnswer file) (nodes_have seen options.base file.text.nodes) (bounded_has file))
+  input_has : (limits : Limits) (seen : FolderSeen) (options : Options) (piecewise : Bool) (s : Status) → InputOf limits piecewise seen options (Err s) → P s
+  input_has limits seen options false =
+      and_then_refuses P (PointsAnswer limits seen options.base) (λ nodes. Gives (points_alone nodes)) (points_have limits seen options.base) (λ nodes. want_has)
+  input_has limits seen options true =
+      and_then_refuses P (SourceAnswer limits seen options.base options.extension options.sample) (λ file. AndThen (NodesAnswer limits seen options.base file.text.nodes) (BoundedAnswer file))
+      (source_has limits seen options.base options.extension options.sample)
+      (λ file. and_then_refuses P (NodesAnswer limits seen options.base file.text.nodes) (BoundedAnswer file) (nodes_have limits seen options.base file.text.nodes) (bounded_has file))
 
-input_refuses : (seen : FolderSeen) (options : Options) (piecewise : Bool) (s : Status) → InputOf piecewise seen options (Err s) → IsRefusal s
+input_refuses : (limits : Limits) (seen : FolderSeen) (options : Options) (piecewise : Bool) (s : Status) → InputOf limits piecewise seen options (Err s) → IsRefusal s
 input_refuses = input_has IsRefusal (λ name. tt) (λ name. tt) (λ name fault. tt) (λ what. tt) tt
 
 -- the message of such a refusal prints no points
-input_silent : (seen : FolderSeen) (options : Options) (piecewise : Bool) (s : Status) → InputOf piecewise seen options (Err s) → IsSilent s
+input_silent : (limits : Limits) (seen : FolderSeen) (options : Options) (piecewise : Bool) (s : Status) → InputOf limits piecewise seen options (Err s) → IsSilent s
 input_silent = input_has IsSilent (λ name. refl) (λ name. refl) (λ name fault. refl) (λ what. refl) refl
 
 want_refuses : (s : Status) → s ≡ NoMemory → IsRefusal s
 want_refuses s e = subst IsRefusal (sym e) tt
 
-bound_refuses : (options : Options) (input : Input) (s : Status) → IsUnbound options input s → IsRefusal s
-bound_refuses options input (Limit what) h = tt
-bound_refuses options input NoMemory h = tt
-bound_refuses options input s h = absurd h
+bound_refuses : (limits : Limits) (options : Options) (input : Input) (s : Status) → IsUnbound limits options input s → IsRefusal s
+bound_refuses limits options input (Limit what) h = tt
+bound_refuses limits options input NoMemory h = tt
+bound_refuses limits options input s h = absurd h
 
 -- the message of a limit prints no points
-bound_silent : (options : Options) (input : Input) (s : Status) → IsUnbound options input s → IsSilent s
-bound_silent options input (Limit what) h = refl
-bound_silent options input NoMemory h = refl
-bound_silent options input s h = absurd h
+bound_silent : (limits : Limits) (options : Options) (input : Input) (s : Status) → IsUnbound limits options input s → IsSilent s
+bound_silent limits options input (Limit what) h = refl
+bound_silent limits options input NoMemory h = refl
+bound_silent limits options input s h = absurd h
 
 fault_refuses : (f : MeshFault) → IsRefusal (status_of_fault f)
 fault_refuses fault.Flat = tt
@@ -180,59 +181,59 @@ mesh_refuses : (options : Options) (bound : Bound) (piecewise : Bool) (s : Statu
 mesh_refuses options bound false s h = points_refuse options bound options.weighted s h
 mesh_refuses options bound true s h = subst IsRefusal (sym h.1) (fault_refuses h.0)
 
-pub run_refuses : (words : List (List ℕ)) (seen : FolderSeen) (s : Status) → OutputsOfRun words seen (Err s) → IsRefusal s
-run_refuses words seen =
-    and_then_refuses IsRefusal (WordsAnswer words) (λ options. AndThen (InputAnswer seen options) (MeshedAnswer options)) (words_refuse words)
-    (λ options. and_then_refuses IsRefusal (InputAnswer seen options) (MeshedAnswer options) (input_refuses seen options options.piecewise)
-    (λ input. and_then_refuses IsRefusal (BoundAnswer options input) (λ bound. AndThen (MeshAnswer options bound) (OutputsAnswer options)) (bound_refuses options input)
+pub run_refuses : (limits : Limits) (words : List (List ℕ)) (seen : FolderSeen) (s : Status) → OutputsOfRun limits words seen (Err s) → IsRefusal s
+run_refuses limits words seen =
+    and_then_refuses IsRefusal (WordsAnswer words) (λ options. AndThen (InputAnswer limits seen options) (MeshedAnswer limits options)) (words_refuse words)
+    (λ options. and_then_refuses IsRefusal (InputAnswer limits seen options) (MeshedAnswer limits options) (input_refuses limits seen options options.piecewise)
+    (λ input. and_then_refuses IsRefusal (BoundAnswer limits options input) (λ bound. AndThen (MeshAnswer options bound) (OutputsAnswer options)) (bound_refuses limits options input)
     (λ bound. and_then_refuses IsRefusal (MeshAnswer options bound) (OutputsAnswer options) (mesh_refuses options bound options.piecewise) (λ mesh. want_refuses))))
 
 -- ---- the answer
 
-refusal_answer : (words : List (List ℕ)) (folder : FolderSeen) (out : SinkSeen) (s : Status) → OutputsOfRun words folder (Err s) → IsRefusal s → IsMeshAnswer words folder out s
-refusal_answer words folder out Done h r = absurd r
-refusal_answer words folder out (WriteFault name) h r = absurd r
-refusal_answer words folder out NoMemory h r = tt
-refusal_answer words folder out s h r = h
+refusal_answer : (limits : Limits) (words : List (List ℕ)) (folder : FolderSeen) (out : SinkSeen) (s : Status) → OutputsOfRun limits words folder (Err s) → IsRefusal s → IsMeshAnswer limits words folder out s
+refusal_answer limits words folder out Done h r = absurd r
+refusal_answer limits words folder out (WriteFault name) h r = absurd r
+refusal_answer limits words folder out NoMemory h r = tt
+refusal_answer limits words folder out s h r = h
 
-mesh_answer : (words : List (List ℕ)) (folder : FolderSeen) (out : SinkSeen) (result : Result (Unit {0}) Stop) → EndsByMesh words folder out result → IsMeshAnswer words folder out (answer_of result)
-mesh_answer words folder out (Ok done) h = (h.0, h.1)
-mesh_answer words folder out (Err (Refused status by)) h = refusal_answer words folder out status h.1 (run_refuses words folder status h.1)
-mesh_answer words folder out (Err (Unwritten text)) h = (h.0, h.1, h.4)
-mesh_answer words folder out (Err Unsummed) h = (h.0, h.1, h.4)
-mesh_answer words folder out (Err Wanting) h = tt
+mesh_answer : (limits : Limits) (words : List (List ℕ)) (folder : FolderSeen) (out : SinkSeen) (result : Result (Unit {0}) Stop) → EndsByMesh limits words folder out result → IsMeshAnswer limits words folder out (answer_of result)
+mesh_answer limits words folder out (Ok done) h = (h.0, h.1)
+mesh_answer limits words folder out (Err (Refused status by)) h = refusal_answer limits words folder out status h.1 (run_refuses limits words folder status h.1)
+mesh_answer limits words folder out (Err (Unwritten text)) h = (h.0, h.1, h.4)
+mesh_answer limits words folder out (Err Unsummed) h = (h.0, h.1, h.4)
+mesh_answer limits words folder out (Err Wanting) h = tt
 
-end_answer_by : (b : Bool) (words : List (List ℕ)) (folder : FolderSeen) (out : SinkSeen) (result : Result (Unit {0}) Stop) → EndsBy b words folder out result → AnswerBy b words folder out (answer_of result)
-end_answer_by false = mesh_answer
-end_answer_by true = check_answer
+end_answer_by : (limits : Limits) (b : Bool) (words : List (List ℕ)) (folder : FolderSeen) (out : SinkSeen) (result : Result (Unit {0}) Stop) → EndsBy limits b words folder out result → AnswerBy limits b words folder out (answer_of result)
+end_answer_by limits false = mesh_answer limits
+end_answer_by limits true = check_answer
 
-pub end_answer : (words : List (List ℕ)) (folder : FolderSeen) (out : SinkSeen) (result : Result (Unit {0}) Stop) → EndsSo words folder out result → IsAnswer words folder out (answer_of result)
-end_answer words = end_answer_by (asks_check words) words
+pub end_answer : (limits : Limits) (words : List (List ℕ)) (folder : FolderSeen) (out : SinkSeen) (result : Result (Unit {0}) Stop) → EndsSo limits words folder out result → IsAnswerWithin limits words folder out (answer_of result)
+end_answer limits words = end_answer_by limits (asks_check words) words
 
 -- what answers so has such outputs, or such a refusal
-record Outcome (words : List (List ℕ)) (folder : FolderSeen) (s : Status) : Type 0 where
+record Outcome (limits : Limits) (words : List (List ℕ)) (folder : FolderSeen) (s : Status) : Type 0 where
   result : Result Outputs Status
-  ran : OutputsOfRun words folder result
+  ran : OutputsOfRun limits words folder result
   decided : IsDecided result
   is : forced_answer s ≡ status_of result
 
-outcome_of : (words : List (List ℕ)) (folder : FolderSeen) (out : SinkSeen) (s : Status) → HasNoFault folder out → s ≢ NoMemory → IsMeshAnswer words folder out s → Outcome words folder s
-outcome_of words folder out Done f n h = record { result = Ok h.0; ran = h.1; decided = tt; is = refl }
-outcome_of words folder out (WriteFault None) f n h = absurd (f.1 h.2)
-outcome_of words folder out (WriteFault (Some name)) f n h = absurd (f.0 h.2)
-outcome_of words folder out NoMemory f n h = absurd (n refl)
-outcome_of words folder out s f n h = record { result = Err s; ran = h; decided = n; is = refl }
+outcome_of : (limits : Limits) (words : List (List ℕ)) (folder : FolderSeen) (out : SinkSeen) (s : Status) → HasNoFault folder out → s ≢ NoMemory → IsMeshAnswer limits words folder out s → Outcome limits words folder s
+outcome_of limits words folder out Done f n h = record { result = Ok h.0; ran = h.1; decided = tt; is = refl }
+outcome_of limits words folder out (WriteFault None) f n h = absurd (f.1 h.2)
+outcome_of limits words folder out (WriteFault (Some name)) f n h = absurd (f.0 h.2)
+outcome_of limits words folder out NoMemory f n h = absurd (n refl)
+outcome_of limits words folder out s f n h = record { result = Err s; ran = h; decided = n; is = refl }
 
-same_by : (b : Bool) (words : List (List ℕ)) (folder : FolderSeen) (out : SinkSeen) (told : Files) → folder.files_before ≡ Some told → HasNoFault folder out → (one two : Status)
-    → one ≢ NoMemory → two ≢ NoMemory → AnswerBy b words folder out one → AnswerBy b words folder out two → forced_answer one ≡ forced_answer two
-same_by false words folder out told e f one two n m h k =
-    let a = outcome_of words folder out one f n h in
-    let b = outcome_of words folder out two f m k in
+same_by : (limits : Limits) (b : Bool) (words : List (List ℕ)) (folder : FolderSeen) (out : SinkSeen) (told : Files) → folder.files_before ≡ Some told → HasNoFault folder out → (one two : Status)
+    → one ≢ NoMemory → two ≢ NoMemory → AnswerBy limits b words folder out one → AnswerBy limits b words folder out two → forced_answer one ≡ forced_answer two
+same_by limits false words folder out told e f one two n m h k =
+    let a = outcome_of limits words folder out one f n h in
+    let b = outcome_of limits words folder out two f m k in
     a.is ∙ run_same told words folder e f.0 a.result b.result a.decided b.decided a.ran b.ran ∙ sym b.is
-same_by true words folder out told e f one two n m h k = ap forced_answer (check_same words folder out told e f one two n m h k)
+same_by limits true words folder out told e f one two n m h k = ap forced_answer (check_same words folder out told e f one two n m h k)
 
-pub answer_complete : (words : List (List ℕ)) (folder : FolderSeen) (out : SinkSeen) (s : Status) → IsAnswer words folder out s → IsComplete words folder out s
-answer_complete words folder out s h told e f n other m k = same_by (asks_check words) words folder out told e f s other n m h k
+pub answer_complete : (limits : Limits) (words : List (List ℕ)) (folder : FolderSeen) (out : SinkSeen) (s : Status) → IsAnswerWithin limits words folder out s → IsCompleteWithin limits words folder out s
+answer_complete limits words folder out s h told e f n other m k = same_by limits (asks_check words) words folder out told e f s other n m h k
 
 -- ---- what is left
 
@@ -279,12 +280,12 @@ mesh_triangulates : (options : Options) (bound : Bound) (piecewise : Bool) (mesh
 mesh_triangulates options bound true mesh h e = absurd (cc)
 mesh_triangulates options bound false mesh h e = points_triangulate options bound options.weighted mesh h
 
-pub mesh_of_run : (words : List (List ℕ)) (folder : FolderSeen) (outputs : Outputs) → OutputsOfRun words folder (Ok outputs) → IsMeshOfRun words folder outputs
-mesh_of_run words folder outputs h =
+pub mesh_of_run : (limits : Limits) (words : List (List ℕ)) (folder : FolderSeen) (outputs : Outputs) → OutputsOfRun limits words folder (Ok outputs) → IsMeshOfRunWithin limits words folder outputs
+mesh_of_run limits words folder outputs h =
     let o = options_of words in
     let e = h.1.1 in
-    let read = subst (λ q. InputAnswer folder q (Ok h.2.0)) e h.2.1 in
-    let m = subst (λ q. MeshedAnswer q h.2.0 (Ok outputs)) e h.2.2 in
+    let read = subst (λ q. InputAnswer limits folder q (Ok h.2.0)) e h.2.1 in
+    let m = subst (λ q. MeshedAnswer limits q h.2.0 (Ok outputs)) e h.2.2 in
     let made = m.2 in record {
       understood = h.1.0;
       input = h.2.0;
@@ -301,179 +302,179 @@ mesh_of_run words folder outputs h =
       only = λ other on. outputs_same o made.0 other outputs on made.2;
     }
 
-refusal_left : (words : List (List ℕ)) (folder : FolderSeen) (out : SinkSeen) (s : Status) → IsRefusal s → IsUnchanged folder out → IsLeftByMesh words folder out s
-refusal_left words folder out Done r h = absurd r
-refusal_left words folder out (WriteFault name) r h = absurd r
-refusal_left words folder out NoMemory r h = (h.written, inl h.files)
-refusal_left words folder out s r h = h
+refusal_left : (limits : Limits) (words : List (List ℕ)) (folder : FolderSeen) (out : SinkSeen) (s : Status) → IsRefusal s → IsUnchanged folder out → IsLeftByMesh limits words folder out s
+refusal_left limits words folder out Done r h = absurd r
+refusal_left limits words folder out (WriteFault name) r h = absurd r
+refusal_left limits words folder out NoMemory r h = (h.written, inl h.files)
+refusal_left limits words folder out s r h = h
 
-mesh_left : (words : List (List ℕ)) (folder : FolderSeen) (out : SinkSeen) (result : Result (Unit {0}) Stop) → EndsByMesh words folder out result → IsLeftByMesh words folder out (answer_of result)
-mesh_left words folder out (Ok done) h = (h.0, mesh_of_run words folder h.0 h.1, h.2, h.3)
-mesh_left words folder out (Err (Refused status by)) h = refusal_left words folder out status (run_refuses words folder status h.1) h.0
-mesh_left words folder out (Err (Unwritten text)) h = (h.0, mesh_of_run words folder h.0 h.1, h.2, h.3)
-mesh_left words folder out (Err Unsummed) h = (h.0, mesh_of_run words folder h.0 h.1, h.2, h.3)
-mesh_left words folder out (Err Wanting) (w, inl h) = (w, inl h)
-mesh_left words folder out (Err Wanting) (w, inr h) = (w, inr (h.0, mesh_of_run words folder h.0 h.1, h.2))
+mesh_left : (limits : Limits) (words : List (List ℕ)) (folder : FolderSeen) (out : SinkSeen) (result : Result (Unit {0}) Stop) → EndsByMesh limits words folder out result → IsLeftByMesh limits words folder out (answer_of result)
+mesh_left limits words folder out (Ok done) h = (h.0, mesh_of_run limits words folder h.0 h.1, h.2, h.3)
+mesh_left limits words folder out (Err (Refused status by)) h = refusal_left limits words folder out status (run_refuses limits words folder status h.1) h.0
+mesh_left limits words folder out (Err (Unwritten text)) h = (h.0, mesh_of_run limits words folder h.0 h.1, h.2, h.3)
+mesh_left limits words folder out (Err Unsummed) h = (h.0, mesh_of_run limits words folder h.0 h.1, h.2, h.3)
+mesh_left limits words folder out (Err Wanting) (w, inl h) = (w, inl h)
+mesh_left limits words folder out (Err Wanting) (w, inr h) = (w, inr (h.0, mesh_of_run limits words folder h.0 h.1, h.2))
 
-end_left_by : (b : Bool) (words : List (List ℕ)) (folder : FolderSeen) (out : SinkSeen) (result : Result (Unit {0}) Stop) → EndsBy b words folder out result → LeftBy b words folder out (answer_of result)
-end_left_by false = mesh_left
-end_left_by true = check_left
+end_left_by : (limits : Limits) (b : Bool) (words : List (List ℕ)) (folder : FolderSeen) (out : SinkSeen) (result : Result (Unit {0}) Stop) → EndsBy limits b words folder out result → LeftBy limits b words folder out (answer_of result)
+end_left_by limits false = mesh_left limits
+end_left_by limits true = check_left
 
-pub end_left : (words : List (List ℕ)) (folder : FolderSeen) (out : SinkSeen) (result : Result (Unit {0}) Stop) → EndsSo words folder out result → IsLeft words folder out (answer_of result)
-end_left words = end_left_by (asks_check words) words
+pub end_left : (limits : Limits) (words : List (List ℕ)) (folder : FolderSeen) (out : SinkSeen) (result : Result (Unit {0}) Stop) → EndsSo limits words folder out result → IsLeftWithin limits words folder out (answer_of result)
+end_left limits words = end_left_by limits (asks_check words) words
 
 -- ---- what is told
 
-want_answer : (b : Bool) (words : List (List ℕ)) (folder : FolderSeen) (out : SinkSeen) → AnswerBy b words folder out NoMemory
-want_answer false words folder out = tt
-want_answer true words folder out = tt
+want_answer : (limits : Limits) (b : Bool) (words : List (List ℕ)) (folder : FolderSeen) (out : SinkSeen) → AnswerBy limits b words folder out NoMemory
+want_answer limits false words folder out = tt
+want_answer limits true words folder out = tt
 
 -- the answer after a stop has its cause, leaves what it may, and has its message
-pub stop_answer : (words : List (List ℕ)) (folder : FolderSeen) (out err : SinkSeen) (stop : Stop) (s : Status) → EndsSo words folder out (Err stop) → IsToldAs stop err s → IsAnswer words folder out s
-stop_answer words folder out err stop s h (inl t) = subst (IsAnswer words folder out) (sym t.0) (end_answer words folder out (Err stop) h)
-stop_answer words folder out err stop s h (inr t) = subst (IsAnswer words folder out) (sym t.0) (want_answer (asks_check words) words folder out)
+pub stop_answer : (limits : Limits) (words : List (List ℕ)) (folder : FolderSeen) (out err : SinkSeen) (stop : Stop) (s : Status) → EndsSo limits words folder out (Err stop) → IsToldAs stop err s → IsAnswerWithin limits words folder out s
+stop_answer limits words folder out err stop s h (inl t) = subst (IsAnswerWithin limits words folder out) (sym t.0) (end_answer limits words folder out (Err stop) h)
+stop_answer limits words folder out err stop s h (inr t) = subst (IsAnswerWithin limits words folder out) (sym t.0) (want_answer limits (asks_check words) words folder out)
 
-early_mesh : (words : List (List ℕ)) (folder : FolderSeen) (out : SinkSeen) (stop : Stop) → EndsByMesh words folder out (Err stop) → IsEarly stop → IsLeftByMesh words folder out NoMemory
-early_mesh words folder out (Refused status by) h e = (h.0.written, inl h.0.files)
-early_mesh words folder out (Unwritten text) h e = absurd e
-early_mesh words folder out Unsummed h e = absurd e
-early_mesh words folder out Wanting h e = absurd e
+early_mesh : (limits : Limits) (words : List (List ℕ)) (folder : FolderSeen) (out : SinkSeen) (stop : Stop) → EndsByMesh limits words folder out (Err stop) → IsEarly stop → IsLeftByMesh limits words folder out NoMemory
+early_mesh limits words folder out (Refused status by) h e = (h.0.written, inl h.0.files)
+early_mesh limits words folder out (Unwritten text) h e = absurd e
+early_mesh limits words folder out Unsummed h e = absurd e
+early_mesh limits words folder out Wanting h e = absurd e
 
-early_by : (b : Bool) (words : List (List ℕ)) (folder : FolderSeen) (out : SinkSeen) (stop : Stop) → EndsBy b words folder out (Err stop) → IsEarly stop → LeftBy b words folder out NoMemory
-early_by false = early_mesh
-early_by true = early_check
+early_by : (limits : Limits) (b : Bool) (words : List (List ℕ)) (folder : FolderSeen) (out : SinkSeen) (stop : Stop) → EndsBy limits b words folder out (Err stop) → IsEarly stop → LeftBy limits b words folder out NoMemory
+early_by limits false = early_mesh limits
+early_by limits true = early_check
 
-early_left : (words : List (List ℕ)) (folder : FolderSeen) (out : SinkSeen) (stop : Stop) → EndsSo words folder out (Err stop) → IsEarly stop → IsLeft words folder out NoMemory
-early_left words = early_by (asks_check words) words
+early_left : (limits : Limits) (words : List (List ℕ)) (folder : FolderSeen) (out : SinkSeen) (stop : Stop) → EndsSo limits words folder out (Err stop) → IsEarly stop → IsLeftWithin limits words folder out NoMemory
+early_left limits words = early_by limits (asks_check words) words
 
-pub stop_left : (words : List (List ℕ)) (folder : FolderSeen) (out err : SinkSeen) (stop : Stop) (s : Status) → EndsSo words folder out (Err stop) → IsToldAs stop err s → IsLeft words folder out s
-stop_left words folder out err stop s h (inl t) = subst (IsLeft words folder out) (sym t.0) (end_left words folder out (Err stop) h)
-stop_left words folder out err stop s h (inr t) = subst (IsLeft words folder out) (sym t.0) (early_left words folder out stop h t.1)
+pub stop_left : (limits : Limits) (words : List (List ℕ)) (folder : FolderSeen) (out err : SinkSeen) (stop : Stop) (s : Status) → EndsSo limits words folder out (Err stop) → IsToldAs stop err s → IsLeftWithin limits words folder out s
+stop_left limits words folder out err stop s h (inl t) = subst (IsLeftWithin limits words folder out) (sym t.0) (end_left limits words folder out (Err stop) h)
+stop_left limits words folder out err stop s h (inr t) = subst (IsLeftWithin limits words folder out) (sym t.0) (early_left limits words folder out stop h t.1)
 
-mesh_told : (words : List (List ℕ)) (folder : FolderSeen) (out err : SinkSeen) (stop : Stop) → EndsByMesh words folder out (Err stop)
-    → IsPut (message_of (numbering_in stop) (answer_of (Err stop))) err → IsTold words folder err (answer_of (Err stop))
-mesh_told words folder out err (Refused status by) h p = refusal_told words folder err status by (not_done status (run_refuses words folder status h.1)) h.2 p
-mesh_told words folder out err (Unwritten text) h p = (None, (λ t. absurd (not_true t)), p)
-mesh_told words folder out err Unsummed h p = (None, (λ t. absurd (not_true t)), p)
-mesh_told words folder out err Wanting h p = (None, (λ t. absurd (not_true t)), p)
+mesh_told : (limits : Limits) (words : List (List ℕ)) (folder : FolderSeen) (out err : SinkSeen) (stop : Stop) → EndsByMesh limits words folder out (Err stop)
+    → IsPut (message_of (numbering_in stop) (answer_of (Err stop))) err → IsToldWithin limits words folder err (answer_of (Err stop))
+mesh_told limits words folder out err (Refused status by) h p = refusal_told limits words folder err status by (not_done status (run_refuses limits words folder status h.1)) h.2 p
+mesh_told limits words folder out err (Unwritten text) h p = (None, (λ t. absurd (not_true t)), p)
+mesh_told limits words folder out err Unsummed h p = (None, (λ t. absurd (not_true t)), p)
+mesh_told limits words folder out err Wanting h p = (None, (λ t. absurd (not_true t)), p)
 
-first_told_by : (b : Bool) (words : List (List ℕ)) (folder : FolderSeen) (out err : SinkSeen) (stop : Stop) → EndsBy b words folder out (Err stop)
-    → IsPut (message_of (numbering_in stop) (answer_of (Err stop))) err → IsTold words folder err (answer_of (Err stop))
-first_told_by false = mesh_told
-first_told_by true = check_told
+first_told_by : (limits : Limits) (b : Bool) (words : List (List ℕ)) (folder : FolderSeen) (out err : SinkSeen) (stop : Stop) → EndsBy limits b words folder out (Err stop)
+    → IsPut (message_of (numbering_in stop) (answer_of (Err stop))) err → IsToldWithin limits words folder err (answer_of (Err stop))
+first_told_by limits false = mesh_told limits
+first_told_by limits true = check_told limits
 
-first_told : (words : List (List ℕ)) (folder : FolderSeen) (out err : SinkSeen) (stop : Stop) → EndsSo words folder out (Err stop)
-    → IsPut (message_of (numbering_in stop) (answer_of (Err stop))) err → IsTold words folder err (answer_of (Err stop))
-first_told words = first_told_by (asks_check words) words
+first_told : (limits : Limits) (words : List (List ℕ)) (folder : FolderSeen) (out err : SinkSeen) (stop : Stop) → EndsSo limits words folder out (Err stop)
+    → IsPut (message_of (numbering_in stop) (answer_of (Err stop))) err → IsToldWithin limits words folder err (answer_of (Err stop))
+first_told limits words = first_told_by limits (asks_check words) words
 
-pub stop_told : (words : List (List ℕ)) (folder : FolderSeen) (out err : SinkSeen) (stop : Stop) (s : Status) → EndsSo words folder out (Err stop) → IsToldAs stop err s → IsTold words folder err s
-stop_told words folder out err stop s h (inl t) = subst (IsTold words folder err) (sym t.0) (first_told words folder out err stop h t.1)
-stop_told words folder out err stop s h (inr t) = subst (IsTold words folder err) (sym t.0) (None, (λ e. absurd (not_true e)), t.2)
+pub stop_told : (limits : Limits) (words : List (List ℕ)) (folder : FolderSeen) (out err : SinkSeen) (stop : Stop) (s : Status) → EndsSo limits words folder out (Err stop) → IsToldAs stop err s → IsToldWithin limits words folder err s
+stop_told limits words folder out err stop s h (inl t) = subst (IsToldWithin limits words folder err) (sym t.0) (first_told limits words folder out err stop h t.1)
+stop_told limits words folder out err stop s h (inr t) = subst (IsToldWithin limits words folder err) (sym t.0) (None, (λ e. absurd (not_true e)), t.2)
 
 -- the text at which a store failed has its message
-mesh_tellable : (words : List (List ℕ)) (folder : FolderSeen) (out : SinkSeen) (stop : Stop) → EndsByMesh words folder out (Err stop) → IsTellable stop
-mesh_tellable words folder out (Refused status by) h = tt
-mesh_tellable words folder out (Unwritten text) h = h.5
-mesh_tellable words folder out Unsummed h = tt
-mesh_tellable words folder out Wanting h = tt
+mesh_tellable : (limits : Limits) (words : List (List ℕ)) (folder : FolderSeen) (out : SinkSeen) (stop : Stop) → EndsByMesh limits words folder out (Err stop) → IsTellable stop
+mesh_tellable limits words folder out (Refused status by) h = tt
+mesh_tellable limits words folder out (Unwritten text) h = h.5
+mesh_tellable limits words folder out Unsummed h = tt
+mesh_tellable limits words folder out Wanting h = tt
 
-tellable_by : (b : Bool) (words : List (List ℕ)) (folder : FolderSeen) (out : SinkSeen) (stop : Stop) → EndsBy b words folder out (Err stop) → IsTellable stop
-tellable_by false = mesh_tellable
-tellable_by true = check_tellable
+tellable_by : (limits : Limits) (b : Bool) (words : List (List ℕ)) (folder : FolderSeen) (out : SinkSeen) (stop : Stop) → EndsBy limits b words folder out (Err stop) → IsTellable stop
+tellable_by limits false = mesh_tellable limits
+tellable_by limits true = check_tellable
 
-pub end_tellable : (words : List (List ℕ)) (folder : FolderSeen) (out : SinkSeen) (stop : Stop) → EndsSo words folder out (Err stop) → IsTellable stop
-end_tellable words = tellable_by (asks_check words) words
+pub end_tellable : (limits : Limits) (words : List (List ℕ)) (folder : FolderSeen) (out : SinkSeen) (stop : Stop) → EndsSo limits words folder out (Err stop) → IsTellable stop
+end_tellable limits words = tellable_by limits (asks_check words) words
 
 -- ---- the steps of the run
 
-words_end_by : (b : Bool) (words : List (List ℕ)) (folder : FolderSeen) (out : SinkSeen) (answer : Result Options WordsFault) (f : WordsFault) → answer ≡ Err f
-    → ((word place : ℕ) → answer ≡ Err (Misunderstood word place) → words_fault words ≡ Some (word, place)) → IsUnchanged folder out → EndsBy b words folder out (Err (stop_of_words f))
-words_end_by false words folder out answer (Misunderstood word place) e usage h = (h, inl (usage word place e), λ t. absurd (not_true t))
-words_end_by false words folder out answer WordsWanting e usage h = (h.written, inl h.files)
-words_end_by true words folder out answer (Misunderstood word place) e usage h = (usage word place e, h)
-words_end_by true words folder out answer WordsWanting e usage h = h
+words_end_by : (limits : Limits) (b : Bool) (words : List (List ℕ)) (folder : FolderSeen) (out : SinkSeen) (answer : Result Options WordsFault) (f : WordsFault) → answer ≡ Err f
+    → ((word place : ℕ) → answer ≡ Err (Misunderstood word place) → words_fault words ≡ Some (word, place)) → IsUnchanged folder out → EndsBy limits b words folder out (Err (stop_of_words f))
+words_end_by limits false words folder out answer (Misunderstood word place) e usage h = (h, inl (usage word place e), λ t. absurd (not_true t))
+words_end_by limits false words folder out answer WordsWanting e usage h = (h.written, inl h.files)
+words_end_by limits true words folder out answer (Misunderstood word place) e usage h = (usage word place e, h)
+words_end_by limits true words folder out answer WordsWanting e usage h = h
 
 -- where the words are not understood, or no memory was there for them
-pub words_end : (words : List (List ℕ)) (folder : FolderSeen) (out : SinkSeen) (answer : Result Options WordsFault) (f : WordsFault) → answer ≡ Err f
-    → ((word place : ℕ) → answer ≡ Err (Misunderstood word place) → words_fault words ≡ Some (word, place)) → IsUnchanged folder out → EndsSo words folder out (Err (stop_of_words f))
-words_end words = words_end_by (asks_check words) words
+pub words_end : (limits : Limits) (words : List (List ℕ)) (folder : FolderSeen) (out : SinkSeen) (answer : Result Options WordsFault) (f : WordsFault) → answer ≡ Err f
+    → ((word place : ℕ) → answer ≡ Err (Misunderstood word place) → words_fault words ≡ Some (word, place)) → IsUnchanged folder out → EndsSo limits words folder out (Err (stop_of_words f))
+words_end limits words = words_end_by limits (asks_check words) words
 
-want_end_by : (b : Bool) (words : List (List ℕ)) (folder : FolderSeen) (out : SinkSeen) → IsUnchanged folder out → EndsBy b words folder out (Err Wanting)
-want_end_by false words folder out h = (h.written, inl h.files)
-want_end_by true words folder out h = h
+want_end_by : (limits : Limits) (b : Bool) (words : List (List ℕ)) (folder : FolderSeen) (out : SinkSeen) → IsUnchanged folder out → EndsBy limits b words folder out (Err Wanting)
+want_end_by limits false words folder out h = (h.written, inl h.files)
+want_end_by limits true words folder out h = h
 
 -- where memory is wanting before anything is stored
-pub want_end : (words : List (List ℕ)) (folder : FolderSeen) (out : SinkSeen) → IsUnchanged folder out → EndsSo words folder out (Err Wanting)
-want_end words = want_end_by (asks_check words) words
+pub want_end : (limits : Limits) (words : List (List ℕ)) (folder : FolderSeen) (out : SinkSeen) → IsUnchanged folder out → EndsSo limits words folder out (Err Wanting)
+want_end limits words = want_end_by limits (asks_check words) words
 
 -- the words ask for what the options say
 asks_as : (words : List (List ℕ)) (options : Options) (b : Bool) → WordsAnswer words (Ok options) → options.check ≡ b → b ≡ asks_check words
 asks_as words options b w e = sym e ∙ ap (λ (o : Options). o.check) w.1
 
 -- where the words do not ask for a check
-by_mesh : (words : List (List ℕ)) (folder : FolderSeen) (out : SinkSeen) (options : Options) (end : Result (Unit {0}) Stop) → WordsAnswer words (Ok options) → options.check ≡ false
-    → EndsByMesh words folder out end → EndsSo words folder out end
-by_mesh words folder out options end w e h = subst (λ b. EndsBy b words folder out end) (asks_as words options false w e) h
+by_mesh : (limits : Limits) (words : List (List ℕ)) (folder : FolderSeen) (out : SinkSeen) (options : Options) (end : Result (Unit {0}) Stop) → WordsAnswer words (Ok options) → options.check ≡ false
+    → EndsByMesh limits words folder out end → EndsSo limits words folder out end
+by_mesh limits words folder out options end w e h = subst (λ b. EndsBy limits b words folder out end) (asks_as words options false w e) h
 
 -- where they do
-pub by_check : (words : List (List ℕ)) (folder : FolderSeen) (out : SinkSeen) (options : Options) (end : Result (Unit {0}) Stop) → WordsAnswer words (Ok options) → options.check ≡ true
-    → ChecksSo options folder out end → EndsSo words folder out end
-by_check words folder out options end w e h =
-    subst (λ b. EndsBy b words folder out end) (asks_as words options true w e) (checked_end words folder out end w.0 (subst (λ o. ChecksSo o folder out end) w.1 h))
+pub by_check : (limits : Limits) (words : List (List ℕ)) (folder : FolderSeen) (out : SinkSeen) (options : Options) (end : Result (Unit {0}) Stop) → WordsAnswer words (Ok options) → options.check ≡ true
+    → ChecksSo options folder out end → EndsSo limits words folder out end
+by_check limits words folder out options end w e h =
+    subst (λ b. EndsBy limits b words folder out end) (asks_as words options true w e) (checked_end words folder out end w.0 (subst (λ o. ChecksSo o folder out end) w.1 h))
 
 -- where there is no input
-pub input_end : (words : List (List ℕ)) (folder : FolderSeen) (out : SinkSeen) (options : Options) (s : Status) → WordsAnswer words (Ok options) → options.check ≡ false
-    → InputAnswer folder options (Err s)
-    → IsUnchanged folder out → EndsSo words folder out (Err (Refused s None))
-input_end words folder out options s w n r h =
-    by_mesh words folder out options (Err (Refused s None)) w n (h, inr (options, w, inl r), λ t. absurd (not_true (subst IsTrue (input_silent folder options options.piecewise s r) t)))
+pub input_end : (limits : Limits) (words : List (List ℕ)) (folder : FolderSeen) (out : SinkSeen) (options : Options) (s : Status) → WordsAnswer words (Ok options) → options.check ≡ false
+    → InputAnswer limits folder options (Err s)
+    → IsUnchanged folder out → EndsSo limits words folder out (Err (Refused s None))
+input_end limits words folder out options s w n r h =
+    by_mesh limits words folder out options (Err (Refused s None)) w n (h, inr (options, w, inl r), λ t. absurd (not_true (subst IsTrue (input_silent limits folder options options.piecewise s r) t)))
 
 -- where the input is over a limit
-pub bound_end : (words : List (List ℕ)) (folder : FolderSeen) (out : SinkSeen) (options : Options) (input : Input) (s : Status) → WordsAnswer words (Ok options) → options.check ≡ false
-    → InputAnswer folder options (Ok input) → BoundAnswer options input (Err s) → IsUnchanged folder out → EndsSo words folder out (Err (Refused s None))
-bound_end words folder out options input s w n r b h =
-    by_mesh words folder out options (Err (Refused s None)) w n (h, inr (options, w, inr (input, r, inl b)), λ t. absurd (not_true (subst IsTrue (bound_silent options input s b) t)))
+pub bound_end : (limits : Limits) (words : List (List ℕ)) (folder : FolderSeen) (out : SinkSeen) (options : Options) (input : Input) (s : Status) → WordsAnswer words (Ok options) → options.check ≡ false
+    → InputAnswer limits folder options (Ok input) → BoundAnswer limits options input (Err s) → IsUnchanged folder out → EndsSo limits words folder out (Err (Refused s None))
+bound_end limits words folder out options input s w n r b h =
+    by_mesh limits words folder out options (Err (Refused s None)) w n (h, inr (options, w, inr (input, r, inl b)), λ t. absurd (not_true (subst IsTrue (bound_silent limits options input s b) t)))
 
 -- where its points and its complex have no mesh
-pub mesh_end : (words : List (List ℕ)) (folder : FolderSeen) (out : SinkSeen) (options : Options) (input : Input) (bound : Bound) (s : Status) → WordsAnswer words (Ok options) → options.check ≡ false
-    → InputAnswer folder options (Ok input) → BoundAnswer options input (Ok bound) → AndThen (MeshAnswer options bound) (OutputsAnswer options) (Err s) → IsUnchanged folder out
-    → EndsSo words folder out (Err (Refused s (Some (numbering_of bound.table))))
-mesh_end words folder out options input bound s w n r b m h =
-    by_mesh words folder out options (Err (Refused s (Some (numbering_of bound.table)))) w n (h, inr (options, w, inr (input, r, inr (bound, b, m))), λ t. (input, subst (λ o. InputAnswer folder o (Ok input)) w.1 r, bound, subst (λ o. BoundAnswer o input (Ok bound)) w.1 b, refl))
+pub mesh_end : (limits : Limits) (words : List (List ℕ)) (folder : FolderSeen) (out : SinkSeen) (options : Options) (input : Input) (bound : Bound) (s : Status) → WordsAnswer words (Ok options) → options.check ≡ false
+    → InputAnswer limits folder options (Ok input) → BoundAnswer limits options input (Ok bound) → AndThen (MeshAnswer options bound) (OutputsAnswer options) (Err s) → IsUnchanged folder out
+    → EndsSo limits words folder out (Err (Refused s (Some (numbering_of bound.table))))
+mesh_end limits words folder out options input bound s w n r b m h =
+    by_mesh limits words folder out options (Err (Refused s (Some (numbering_of bound.table)))) w n (h, inr (options, w, inr (input, r, inr (bound, b, m))), λ t. (input, subst (λ o. InputAnswer limits folder o (Ok input)) w.1 r, bound, subst (λ o. BoundAnswer limits o input (Ok bound)) w.1 b, refl))
 
 -- where there are outputs
-pub outputs_run : (words : List (List ℕ)) (folder : FolderSeen) (options : Options) (input : Input) (bound : Bound) (outputs : Outputs) → WordsAnswer words (Ok options)
-    → InputAnswer folder options (Ok input) → BoundAnswer options input (Ok bound) → AndThen (MeshAnswer options bound) (OutputsAnswer options) (Ok outputs) → OutputsOfRun words folder (Ok outputs)
-outputs_run words folder options input bound outputs w r b m = (options, w, (input, r, (bound, b, m)))
+pub outputs_run : (limits : Limits) (words : List (List ℕ)) (folder : FolderSeen) (options : Options) (input : Input) (bound : Bound) (outputs : Outputs) → WordsAnswer words (Ok options)
+    → InputAnswer limits folder options (Ok input) → BoundAnswer limits options input (Ok bound) → AndThen (MeshAnswer options bound) (OutputsAnswer options) (Ok outputs) → OutputsOfRun limits words folder (Ok outputs)
+outputs_run limits words folder options input bound outputs w r b m = (options, w, (input, r, (bound, b, m)))
 
 -- where a store is refused
-mesh_store_end : (words : List (List ℕ)) (folder : FolderSeen) (out : SinkSeen) (outputs : Outputs) (stop : StoreStop) → OutputsOfRun words folder (Ok outputs)
+mesh_store_end : (limits : Limits) (words : List (List ℕ)) (folder : FolderSeen) (out : SinkSeen) (outputs : Outputs) (stop : StoreStop) → OutputsOfRun limits words folder (Ok outputs)
     → AreLeft folder.files_before (in_order outputs.texts) folder.files_now stop → IfFailed stop (Rose folder.faults_before folder.faults_now)
-    → All TellsFailure (in_order outputs.texts) → out.written_now ≡ out.written_before → EndsByMesh words folder out (Err (stop_of_store stop))
-mesh_store_end words folder out outputs (Failed text) ran left rose told w = (outputs, ran, left.0, w, rose, All-contains TellsFailure (in_order outputs.texts) text told left.1)
-mesh_store_end words folder out outputs StoreWanting ran left rose told w = (w, inr (outputs, ran, left))
+    → All TellsFailure (in_order outputs.texts) → out.written_now ≡ out.written_before → EndsByMesh limits words folder out (Err (stop_of_store stop))
+mesh_store_end limits words folder out outputs (Failed text) ran left rose told w = (outputs, ran, left.0, w, rose, All-contains TellsFailure (in_order outputs.texts) text told left.1)
+mesh_store_end limits words folder out outputs StoreWanting ran left rose told w = (w, inr (outputs, ran, left))
 
-pub store_end : (words : List (List ℕ)) (folder : FolderSeen) (out : SinkSeen) (options : Options) (outputs : Outputs) (stop : StoreStop) → WordsAnswer words (Ok options)
-    → options.check ≡ false → OutputsOfRun words folder (Ok outputs)
+pub store_end : (limits : Limits) (words : List (List ℕ)) (folder : FolderSeen) (out : SinkSeen) (options : Options) (outputs : Outputs) (stop : StoreStop) → WordsAnswer words (Ok options)
+    → options.check ≡ false → OutputsOfRun limits words folder (Ok outputs)
     → AreLeft folder.files_before (in_order outputs.texts) folder.files_now stop → IfFailed stop (Rose folder.faults_before folder.faults_now)
-    → All TellsFailure (in_order outputs.texts) → out.written_now ≡ out.written_before → EndsSo words folder out (Err (stop_of_store stop))
-store_end words folder out options outputs stop w n ran left rose told same =
-    by_mesh words folder out options (Err (stop_of_store stop)) w n (mesh_store_end words folder out outputs stop ran left rose told same)
+    → All TellsFailure (in_order outputs.texts) → out.written_now ≡ out.written_before → EndsSo limits words folder out (Err (stop_of_store stop))
+store_end limits words folder out options outputs stop w n ran left rose told same =
+    by_mesh limits words folder out options (Err (stop_of_store stop)) w n (mesh_store_end limits words folder out outputs stop ran left rose told same)
 
-mesh_summed_end : (words : List (List ℕ)) (folder : FolderSeen) (out : SinkSeen) (outputs : Outputs) (result : Result (Unit {0}) Stop) → OutputsOfRun words folder (Ok outputs)
-    → folder.files_now ≡ with_files folder.files_before (in_order outputs.texts) → IsSummed outputs.summary out result → EndsByMesh words folder out result
-mesh_summed_end words folder out outputs (Ok done) ran f s = (outputs, ran, f, s)
-mesh_summed_end words folder out outputs (Err Unsummed) ran f s = (outputs, ran, f, s.0, s.1)
-mesh_summed_end words folder out outputs (Err Wanting) ran f s =
+mesh_summed_end : (limits : Limits) (words : List (List ℕ)) (folder : FolderSeen) (out : SinkSeen) (outputs : Outputs) (result : Result (Unit {0}) Stop) → OutputsOfRun limits words folder (Ok outputs)
+    → folder.files_now ≡ with_files folder.files_before (in_order outputs.texts) → IsSummed outputs.summary out result → EndsByMesh limits words folder out result
+mesh_summed_end limits words folder out outputs (Ok done) ran f s = (outputs, ran, f, s)
+mesh_summed_end limits words folder out outputs (Err Unsummed) ran f s = (outputs, ran, f, s.0, s.1)
+mesh_summed_end limits words folder out outputs (Err Wanting) ran f s =
     (s, inr (outputs, ran, record { stored = in_order outputs.texts; left = []; texts_are = sym (append-nil (in_order outputs.texts)); now_is = f }))
-mesh_summed_end words folder out outputs (Err (Refused status by)) ran f s = absurd s
-mesh_summed_end words folder out outputs (Err (Unwritten text)) ran f s = absurd s
+mesh_summed_end limits words folder out outputs (Err (Refused status by)) ran f s = absurd s
+mesh_summed_end limits words folder out outputs (Err (Unwritten text)) ran f s = absurd s
 
 -- where all is stored
-pub summed_end : (words : List (List ℕ)) (folder : FolderSeen) (out : SinkSeen) (options : Options) (outputs : Outputs) (result : Result (Unit {0}) Stop) → WordsAnswer words (Ok options)
-    → options.check ≡ false → OutputsOfRun words folder (Ok outputs)
-    → folder.files_now ≡ with_files folder.files_before (in_order outputs.texts) → IsSummed outputs.summary out result → EndsSo words folder out result
-summed_end words folder out options outputs result w n ran f s = by_mesh words folder out options result w n (mesh_summed_end words folder out outputs result ran f s)
+pub summed_end : (limits : Limits) (words : List (List ℕ)) (folder : FolderSeen) (out : SinkSeen) (options : Options) (outputs : Outputs) (result : Result (Unit {0}) Stop) → WordsAnswer words (Ok options)
+    → options.check ≡ false → OutputsOfRun limits words folder (Ok outputs)
+    → folder.files_now ≡ with_files folder.files_before (in_order outputs.texts) → IsSummed outputs.summary out result → EndsSo limits words folder out result
+summed_end limits words folder out options outputs result w n ran f s = by_mesh limits words folder out options result w n (mesh_summed_end limits words folder out outputs result ran f s)
 
 -- ---- the texts
 
@@ -498,8 +499,8 @@ outputs_told options mesh outputs a =
     (told_cons t.edge (t.neigh ∷ []) (told_unless (options.no_face || not options.edges) options.base (codes ".1.edge") _ t.edge a.edge_is)
     (told_unless (not options.neighbors) options.base (codes ".1.neigh") _ t.neigh a.neigh_is))))
 
-pub run_told : (words : List (List ℕ)) (folder : FolderSeen) (outputs : Outputs) → OutputsOfRun words folder (Ok outputs) → All TellsFailure (in_order outputs.texts)
-run_told words folder outputs h = let m = h.2.2 in outputs_told h.0 m.2.0 outputs m.2.2
+pub run_told : (limits : Limits) (words : List (List ℕ)) (folder : FolderSeen) (outputs : Outputs) → OutputsOfRun limits words folder (Ok outputs) → All TellsFailure (in_order outputs.texts)
+run_told limits words folder outputs h = let m = h.2.2 in outputs_told h.0 m.2.0 outputs m.2.2
 
 -- the count of faults rose from an earlier value too
 pub failed_wider : (stop : StoreStop) (earlier before now : ℕ) → earlier ≤ before → IfFailed stop (Rose before now) → IfFailed stop (Rose earlier now)

@@ -11,6 +11,8 @@ use Rattle.geo_laws.specs.Delaunay.{IsDelaunayList}
 use Rattle.geo_laws.specs.Laws.{IsTriangulation}
 use Rattle.geo_laws.specs.Mesh.{IsMesh}
 use Rattle.geo_laws.specs.Path.{Carving, HullOnly}
+use Rattle.node_files.specs.Limits.{tetgen_limits}
+use Rattle.node_files.specs.declared.limits.Limits.{Limits}
 use Rattle.node_files.specs.declared.table.NodeTable.{NodeTable}
 use Rattle.path_laws.specs.Flood.{carving_of}
 use Rattle.point_weights.specs.Weights.{weights_of}
@@ -91,23 +93,23 @@ IsCheckAnswer words folder out status =
 
 -- The cause of each answer of a run that makes a mesh: Done where there are outputs; outputs, and a fault of the folder in a store or of
 -- the sink of the summary; want of memory is free; and any other answer is the refusal of a step
-abbrev pub IsMeshAnswer : List (List ℕ) → FolderSeen → SinkSeen → Status → Type 0
-IsMeshAnswer words folder out Done = (outputs : Outputs) × OutputsOfRun words folder (Ok outputs)
-IsMeshAnswer words folder out (WriteFault None) =
-    (outputs : Outputs) × OutputsOfRun words folder (Ok outputs) × Rose out.faults_before out.faults_now
-IsMeshAnswer words folder out (WriteFault (Some name)) =
-    (outputs : Outputs) × OutputsOfRun words folder (Ok outputs) × Rose folder.faults_before folder.faults_now
-IsMeshAnswer words folder out NoMemory = Unit {0}
-IsMeshAnswer words folder out status = OutputsOfRun words folder (Err status)
+abbrev pub IsMeshAnswer : Limits → List (List ℕ) → FolderSeen → SinkSeen → Status → Type 0
+IsMeshAnswer limits words folder out Done = (outputs : Outputs) × OutputsOfRun limits words folder (Ok outputs)
+IsMeshAnswer limits words folder out (WriteFault None) =
+    (outputs : Outputs) × OutputsOfRun limits words folder (Ok outputs) × Rose out.faults_before out.faults_now
+IsMeshAnswer limits words folder out (WriteFault (Some name)) =
+    (outputs : Outputs) × OutputsOfRun limits words folder (Ok outputs) × Rose folder.faults_before folder.faults_now
+IsMeshAnswer limits words folder out NoMemory = Unit {0}
+IsMeshAnswer limits words folder out status = OutputsOfRun limits words folder (Err status)
 
 -- by whether the words ask for a check
-abbrev pub AnswerBy : Bool → List (List ℕ) → FolderSeen → SinkSeen → Status → Type 0
-AnswerBy false = IsMeshAnswer
-AnswerBy true = IsCheckAnswer
+abbrev pub AnswerBy : Limits → Bool → List (List ℕ) → FolderSeen → SinkSeen → Status → Type 0
+AnswerBy limits false = IsMeshAnswer limits
+AnswerBy limits true = IsCheckAnswer
 
 -- the cause of each answer
-abbrev pub IsAnswer : List (List ℕ) → FolderSeen → SinkSeen → Status → Type 0
-IsAnswer words = AnswerBy (asks_check words) words
+abbrev pub IsAnswerWithin : Limits → List (List ℕ) → FolderSeen → SinkSeen → Status → Type 0
+IsAnswerWithin limits words = AnswerBy limits (asks_check words) words
 
 -- no count of faults rose
 abbrev pub HasNoFault : FolderSeen → SinkSeen → Type 0
@@ -115,10 +117,10 @@ HasNoFault folder out = ¬ Rose folder.faults_before folder.faults_now × ¬ Ros
 
 -- Where the files are told, no count of faults rose and memory was not wanting, each answer that has a cause is the answer: the refusal of
 -- the first step that refuses, and Done where none does. Only where facets are tangled there may be more: Done, and the anomalies that hold
-abbrev pub IsComplete : List (List ℕ) → FolderSeen → SinkSeen → Status → Type 0
-IsComplete words folder out status =
+abbrev pub IsCompleteWithin : Limits → List (List ℕ) → FolderSeen → SinkSeen → Status → Type 0
+IsCompleteWithin limits words folder out status =
     (told : Files) → folder.files_before ≡ Some told → HasNoFault folder out → status ≢ NoMemory
-    → (other : Status) → other ≢ NoMemory → IsAnswer words folder out other → forced_answer status ≡ forced_answer other
+    → (other : Status) → other ≢ NoMemory → IsAnswerWithin limits words folder out other → forced_answer status ≡ forced_answer other
 
 -- ---- what is left
 
@@ -144,12 +146,12 @@ pub record IsRegularMesh (table : NodeTable) (mesh : Meshed) : Type 0 where
 -- none where it is out; facets inside the mesh are unions of its faces; every other shared face is locally Delaunay; any two tetrahedra are
 -- properly met (`IsMesh` of the complex). Of points alone it is the Delaunay list, and of weighted points the regular list: each
 -- triangulates the hull of all the points. No other outputs are those of the mesh.
-pub record IsMeshOfRun (words : List (List ℕ)) (folder : FolderSeen) (outputs : Outputs) : Type 0 where
+pub record IsMeshOfRunWithin (limits : Limits) (words : List (List ℕ)) (folder : FolderSeen) (outputs : Outputs) : Type 0 where
   pub understood : words_fault words ≡ None
   pub input : Input
-  pub read : InputAnswer folder (options_of words) (Ok input)
+  pub read : InputAnswer limits folder (options_of words) (Ok input)
   pub bound : Bound
-  pub on_grid : BoundAnswer (options_of words) input (Ok bound)
+  pub on_grid : BoundAnswer limits (options_of words) input (Ok bound)
   pub mesh : Meshed
   pub made : MeshAnswer (options_of words) bound (Ok mesh)
   pub whole : asks_regular (options_of words) ≡ false
@@ -178,19 +180,20 @@ PartlySummed before (Some line) now = PartlyPut before line now
 -- What each answer leaves. Done: the files with the mesh's and the summary. A fault of a store: the files before the named one whole, of
 -- that one a prefix or nothing. A fault of the summary: all files whole, and a prefix of the summary. Want of memory: the files as they
 -- were, or with some of the mesh's files, from the first on, whole. Every other answer: all as it was.
-abbrev pub IsLeftByMesh : List (List ℕ) → FolderSeen → SinkSeen → Status → Type 0
-IsLeftByMesh words folder out Done = (outputs : Outputs) × IsMeshOfRun words folder outputs
+abbrev pub IsLeftByMesh : Limits → List (List ℕ) → FolderSeen → SinkSeen → Status → Type 0
+IsLeftByMesh limits words folder out Done = (outputs : Outputs) × IsMeshOfRunWithin limits words folder outputs
     × (folder.files_now ≡ with_files folder.files_before (in_order outputs.texts))
     × (out.written_now ≡ with_summary out.written_before outputs.summary)
-IsLeftByMesh words folder out (WriteFault (Some name)) = (outputs : Outputs) × IsMeshOfRun words folder outputs
+IsLeftByMesh limits words folder out (WriteFault (Some name)) = (outputs : Outputs) × IsMeshOfRunWithin limits words folder outputs
     × AreStoredInto folder.files_before (in_order outputs.texts) name folder.files_now × (out.written_now ≡ out.written_before)
-IsLeftByMesh words folder out (WriteFault None) = (outputs : Outputs) × IsMeshOfRun words folder outputs
+IsLeftByMesh limits words folder out (WriteFault None) = (outputs : Outputs) × IsMeshOfRunWithin limits words folder outputs
     × (folder.files_now ≡ with_files folder.files_before (in_order outputs.texts))
     × PartlySummed out.written_before outputs.summary out.written_now
-IsLeftByMesh words folder out NoMemory = (out.written_now ≡ out.written_before)
+IsLeftByMesh limits words folder out NoMemory = (out.written_now ≡ out.written_before)
     × ((folder.files_now ≡ folder.files_before)
-    ⊎ ((outputs : Outputs) × IsMeshOfRun words folder outputs × AreStoredTo folder.files_before (in_order outputs.texts) folder.files_now))
-IsLeftByMesh words folder out status = IsUnchanged folder out
+    ⊎ ((outputs : Outputs) × IsMeshOfRunWithin limits words folder outputs
+    × AreStoredTo folder.files_before (in_order outputs.texts) folder.files_now))
+IsLeftByMesh limits words folder out status = IsUnchanged folder out
 
 -- What each answer of a check leaves: no file is changed; on Done the line on a sound mesh is put, and after a fault of that a prefix of it
 abbrev pub IsLeftByCheck : List (List ℕ) → FolderSeen → SinkSeen → Status → Type 0
@@ -202,13 +205,13 @@ IsLeftByCheck words folder out (WriteFault None) = (count : ℕ) × Checked (opt
 IsLeftByCheck words folder out status = IsUnchanged folder out
 
 -- by whether the words ask for a check
-abbrev pub LeftBy : Bool → List (List ℕ) → FolderSeen → SinkSeen → Status → Type 0
-LeftBy false = IsLeftByMesh
-LeftBy true = IsLeftByCheck
+abbrev pub LeftBy : Limits → Bool → List (List ℕ) → FolderSeen → SinkSeen → Status → Type 0
+LeftBy limits false = IsLeftByMesh limits
+LeftBy limits true = IsLeftByCheck
 
 -- what each answer leaves
-abbrev pub IsLeft : List (List ℕ) → FolderSeen → SinkSeen → Status → Type 0
-IsLeft words = LeftBy (asks_check words) words
+abbrev pub IsLeftWithin : Limits → List (List ℕ) → FolderSeen → SinkSeen → Status → Type 0
+IsLeftWithin limits words = LeftBy limits (asks_check words) words
 
 -- ---- the message
 
@@ -223,11 +226,11 @@ names_points (NoFill anomaly) = true
 names_points status = false
 
 -- where the message of the status prints points, these are their numbers: those of the points of the input that the words name
-abbrev pub IsNumbering : List (List ℕ) → FolderSeen → Status → Option Numbering → Type 0
-IsNumbering words folder status by =
+abbrev pub IsNumbering : Limits → List (List ℕ) → FolderSeen → Status → Option Numbering → Type 0
+IsNumbering limits words folder status by =
     IsTrue (names_points status)
-    → (input : Input) × InputAnswer folder (options_of words) (Ok input) × (bound : Bound)
-    × BoundAnswer (options_of words) input (Ok bound) × (by ≡ Some (numbering_of bound.table))
+    → (input : Input) × InputAnswer limits folder (options_of words) (Ok input) × (bound : Bound)
+    × BoundAnswer limits (options_of words) input (Ok bound) × (by ≡ Some (numbering_of bound.table))
 
 -- the message is appended, or a prefix of it where the sink failed or wanted memory
 abbrev pub IsPut : List ℕ → SinkSeen → Type 0
@@ -236,29 +239,31 @@ IsPut message err =
     ⊎ (PartlyPut err.written_before message err.written_now × (Rose err.faults_before err.faults_now ⊎ Rose err.wants_before err.wants_now))
 
 -- Done tells nothing. Every other answer has its message
-abbrev pub IsTold : List (List ℕ) → FolderSeen → SinkSeen → Status → Type 0
-IsTold words folder err Done = err.written_now ≡ err.written_before
-IsTold words folder err status = (by : Option Numbering) × IsNumbering words folder status by × IsPut (message_of by status) err
+abbrev pub IsToldWithin : Limits → List (List ℕ) → FolderSeen → SinkSeen → Status → Type 0
+IsToldWithin limits words folder err Done = err.written_now ≡ err.written_before
+IsToldWithin limits words folder err status =
+    (by : Option Numbering) × IsNumbering limits words folder status by × IsPut (message_of by status) err
 
 -- ---- the end of a run
 
 -- how a run that makes a mesh ends before its message
-abbrev pub EndsByMesh : List (List ℕ) → FolderSeen → SinkSeen → Result (Unit {0}) Stop → Type 0
-EndsByMesh words folder out (Ok done) = (outputs : Outputs) × OutputsOfRun words folder (Ok outputs)
+abbrev pub EndsByMesh : Limits → List (List ℕ) → FolderSeen → SinkSeen → Result (Unit {0}) Stop → Type 0
+EndsByMesh limits words folder out (Ok done) = (outputs : Outputs) × OutputsOfRun limits words folder (Ok outputs)
     × (folder.files_now ≡ with_files folder.files_before (in_order outputs.texts))
     × (out.written_now ≡ with_summary out.written_before outputs.summary)
-EndsByMesh words folder out (Err (Refused status by)) = IsUnchanged folder out × OutputsOfRun words folder (Err status)
-    × IsNumbering words folder status by
-EndsByMesh words folder out (Err (Unwritten text)) = (outputs : Outputs) × OutputsOfRun words folder (Ok outputs)
+EndsByMesh limits words folder out (Err (Refused status by)) = IsUnchanged folder out × OutputsOfRun limits words folder (Err status)
+    × IsNumbering limits words folder status by
+EndsByMesh limits words folder out (Err (Unwritten text)) = (outputs : Outputs) × OutputsOfRun limits words folder (Ok outputs)
     × AreStoredInto folder.files_before (in_order outputs.texts) text.name folder.files_now × (out.written_now ≡ out.written_before)
     × Rose folder.faults_before folder.faults_now × TellsFailure text
-EndsByMesh words folder out (Err Unsummed) = (outputs : Outputs) × OutputsOfRun words folder (Ok outputs)
+EndsByMesh limits words folder out (Err Unsummed) = (outputs : Outputs) × OutputsOfRun limits words folder (Ok outputs)
     × (folder.files_now ≡ with_files folder.files_before (in_order outputs.texts))
     × PartlySummed out.written_before outputs.summary out.written_now
     × Rose out.faults_before out.faults_now
-EndsByMesh words folder out (Err Wanting) = (out.written_now ≡ out.written_before)
+EndsByMesh limits words folder out (Err Wanting) = (out.written_now ≡ out.written_before)
     × ((folder.files_now ≡ folder.files_before)
-    ⊎ ((outputs : Outputs) × OutputsOfRun words folder (Ok outputs) × AreStoredTo folder.files_before (in_order outputs.texts) folder.files_now))
+    ⊎ ((outputs : Outputs) × OutputsOfRun limits words folder (Ok outputs)
+    × AreStoredTo folder.files_before (in_order outputs.texts) folder.files_now))
 
 -- how a check ends before its message, where the words are in the grammar: no file is changed
 abbrev pub ChecksSo : Options → FolderSeen → SinkSeen → Result (Unit {0}) Stop → Type 0
@@ -279,13 +284,13 @@ EndsByCheck words folder out (Err Wanting) = IsUnchanged folder out
 EndsByCheck words folder out end = (words_fault words ≡ None) × ChecksSo (options_of words) folder out end
 
 -- by whether the words ask for a check
-abbrev pub EndsBy : Bool → List (List ℕ) → FolderSeen → SinkSeen → Result (Unit {0}) Stop → Type 0
-EndsBy false = EndsByMesh
-EndsBy true = EndsByCheck
+abbrev pub EndsBy : Limits → Bool → List (List ℕ) → FolderSeen → SinkSeen → Result (Unit {0}) Stop → Type 0
+EndsBy limits false = EndsByMesh limits
+EndsBy limits true = EndsByCheck
 
 -- how a run ends before its message
-abbrev pub EndsSo : List (List ℕ) → FolderSeen → SinkSeen → Result (Unit {0}) Stop → Type 0
-EndsSo words = EndsBy (asks_check words) words
+abbrev pub EndsSo : Limits → List (List ℕ) → FolderSeen → SinkSeen → Result (Unit {0}) Stop → Type 0
+EndsSo limits words = EndsBy limits (asks_check words) words
 
 -- what the summary leaves in its sink
 abbrev pub IsSummed : Option (List ℕ) → SinkSeen → Result (Unit {0}) Stop → Type 0
@@ -314,3 +319,22 @@ abbrev pub IsToldAs : Stop → SinkSeen → Status → Type 0
 IsToldAs stop err status =
     ((status ≡ answer_of (Err stop)) × IsPut (message_of (numbering_in stop) (answer_of (Err stop))) err)
     ⊎ ((status ≡ NoMemory) × IsEarly stop × IsPut (message_of None NoMemory) err)
+
+-- ---- the program `tetgen`
+
+-- at the limits of the program: the cause of each answer, that each cause gives its answer, the mesh of the input, what is left, and the
+-- message
+abbrev pub IsAnswer : List (List ℕ) → FolderSeen → SinkSeen → Status → Type 0
+IsAnswer = IsAnswerWithin tetgen_limits
+
+abbrev pub IsComplete : List (List ℕ) → FolderSeen → SinkSeen → Status → Type 0
+IsComplete = IsCompleteWithin tetgen_limits
+
+abbrev pub IsMeshOfRun : List (List ℕ) → FolderSeen → Outputs → Type 0
+IsMeshOfRun = IsMeshOfRunWithin tetgen_limits
+
+abbrev pub IsLeft : List (List ℕ) → FolderSeen → SinkSeen → Status → Type 0
+IsLeft = IsLeftWithin tetgen_limits
+
+abbrev pub IsTold : List (List ℕ) → FolderSeen → SinkSeen → Status → Type 0
+IsTold = IsToldWithin tetgen_limits

@@ -1,5 +1,6 @@
 -- Why a run stopped before its end, by the step in which it did.
 use Rattle.std.specs.Prelude.{None}
+use Rattle.check_steps.specs.Reading.{most_bytes}
 use Rattle.check_steps.specs.declared.fault.CheckFault.{CheckFault}
 use Rattle.check_steps.specs.declared.fault.CheckFault.TheVariants as check
 use Rattle.run_steps.specs.declared.status.LimitKind.TheVariants.{Bytes, MeshPoints, Grid}
@@ -20,7 +21,7 @@ abbrev pub stop_of_check : CheckFault → Stop
 stop_of_check (check.Missing name) = Refused (Missing name) None
 stop_of_check (check.ReadFault name) = Refused (ReadFault name) None
 stop_of_check (check.BadText name fault) = Refused (BadText name fault) None
-stop_of_check (check.TooLong name) = Refused (Limit (Bytes name)) None
+stop_of_check (check.TooLong name) = Refused (Limit (Bytes name most_bytes)) None
 stop_of_check (check.TooMany count) = Refused (Limit (MeshPoints count)) None
 stop_of_check (check.OffGrid line) = Refused (Limit (Grid line)) None
 stop_of_check (check.Unsound defect first) = Refused (Unsound defect first) None

@@ -1,7 +1,7 @@
-//! The run of the program `tetgen`, over a folder and two streams.
+//! The run of the program `tetgen`, over a folder and two streams, and the same within any limits.
 #![tactic(auto)]
 
 mod run;
 mod stop;
 
-pub use run::run_tetgen;
+pub use run::{run_tetgen, run_within};

@@ -1,12 +1,14 @@
 //! The run of the program: from its words to the files of a mesh.
 
 ghost use Rattle.std.specs.Prelude.{◌≡◌, ◌≤◌, ◌⊎◌, IsErrOf, Err};
-ghost use Rattle.tetgen_run.specs.Run.{IsAnswer, IsComplete, IsLeft, IsTold, IsPut, ChecksSo, EndsSo, IsSummed, IsTellable, IsToldAs};
+ghost use Rattle.tetgen_run.specs.Run.{IsAnswer, IsAnswerWithin, IsComplete, IsCompleteWithin, IsLeft, IsLeftWithin, IsTold, IsToldWithin, IsPut, ChecksSo, EndsSo, IsSummed, IsTellable, IsToldAs};
+ghost use Rattle.node_files.specs.Limits.{AreIndexable};
 ghost use Rattle.run_steps.specs.Seen.{folder_seen, sink_seen};
 
 use crate::stop::Stop;
 use check_steps::{check_files, sound_line};
 use command_words::{Options, read_words};
+use node_files::Limits;
 use run_steps::{
     OUT_OF_MEMORY, Outputs, SUMMARY_FAILED, Status, bind_input, mesh_outputs, message,
     numbering_of, read_input, store_all,
@@ -31,7 +33,34 @@ pub fn run_tetgen<F: Folder, O: Sink, E: Sink>(
     ensures left { IsLeft words.now (folder_seen F.held F.faults F.misses folder.old folder.new) (sink_seen O.written O.faults O.wants out.old out.new) result }
     ensures told { IsTold words.now (folder_seen F.held F.faults F.misses folder.old folder.new) (sink_seen E.written E.faults E.wants err.old err.new) result }
 {
-    match run(alloc, words, folder, out) {
+    run_within(alloc, Limits::tetgen(), words, folder, out, err)
+}
+
+/// The same within these limits of the input that is meshed. A mesh that is checked has limits of
+/// its own.
+pub fn run_within<F: Folder, O: Sink, E: Sink>(
+    alloc: Global,
+    limits: Limits,
+    words: &Words,
+    folder: &mut F,
+    out: &mut O,
+    err: &mut E,
+) -> Status
+    requires { AreIndexable limits }
+    ensures answer { IsAnswerWithin limits words.now
+        (folder_seen F.held F.faults F.misses folder.old folder.new)
+        (sink_seen O.written O.faults O.wants out.old out.new) result }
+    ensures complete { IsCompleteWithin limits words.now
+        (folder_seen F.held F.faults F.misses folder.old folder.new)
+        (sink_seen O.written O.faults O.wants out.old out.new) result }
+    ensures left { IsLeftWithin limits words.now
+        (folder_seen F.held F.faults F.misses folder.old folder.new)
+        (sink_seen O.written O.faults O.wants out.old out.new) result }
+    ensures told { IsToldWithin limits words.now
+        (folder_seen F.held F.faults F.misses folder.old folder.new)
+        (sink_seen E.written E.faults E.wants err.old err.new) result }
+{
+    match run(alloc, limits, words, folder, out) {
         Ok(()) => Status::Done,
         Err(stop) => tell(alloc, stop, err),
     }
@@ -40,18 +69,20 @@ pub fn run_tetgen<F: Folder, O: Sink, E: Sink>(
 /// The run without its message.
 fn run<F: Folder, O: Sink>(
     alloc: Global,
+    limits: Limits,
     words: &Words,
     folder: &mut F,
     out: &mut O,
 ) -> Result<(), Stop>
-    ensures { EndsSo words.now (folder_seen F.held F.faults F.misses folder.old folder.new) (sink_seen O.written O.faults O.wants out.old out.new) result }
+    requires { AreIndexable limits }
+    ensures { EndsSo limits words.now (folder_seen F.held F.faults F.misses folder.old folder.new) (sink_seen O.written O.faults O.wants out.old out.new) result }
 {
     let options = read_words(alloc, words)?;
     if options.check {
         return check(alloc, &options, folder, out);
     }
-    let input = read_input(alloc, &options, folder)?;
-    let bound = bind_input(alloc, &options, input)?;
+    let input = read_input(alloc, limits, &options, folder)?;
+    let bound = bind_input(alloc, limits, &options, input)?;
     let numbering = numbering_of(alloc, &bound.table)?;
     let outputs = match mesh_outputs(alloc, &options, bound) {
         Ok(outputs) => outputs,

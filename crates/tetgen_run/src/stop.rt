@@ -4,7 +4,7 @@ ghost use Rattle.std.specs.Prelude.{◌≡◌, None};
 ghost use Rattle.tetgen_run.specs.Stops.{stop_of_words, stop_of_check, stop_of_store};
 ghost use Rattle.tetgen_run.specs.declared.stop.Stop.TheVariants.{Refused};
 
-use check_steps::CheckFault;
+use check_steps::{CheckFault, MOST_BYTES};
 use command_words::WordsFault;
 use run_steps::{LimitKind, NamedText, Numbering, Status, StoreStop};
 use tet_ports::NoMemory;
@@ -56,7 +56,10 @@ impl From<CheckFault> for Stop {
             CheckFault::ReadFault { name } => Stop::from(Status::ReadFault { name }),
             CheckFault::BadText { name, fault } => Stop::from(Status::BadText { name, fault }),
             CheckFault::TooLong { name } => Stop::from(Status::Limit {
-                what: LimitKind::Bytes { name },
+                what: LimitKind::Bytes {
+                    name,
+                    most: MOST_BYTES,
+                },
             }),
             CheckFault::TooMany { count } => Stop::from(Status::Limit {
                 what: LimitKind::MeshPoints { count },

@@ -6,7 +6,7 @@ ghost use Rattle.plc_files.specs.Text.{plc_with};
 
 use geo_laws::{Complex, RatPoints};
 use grid_coords::{DecimalPoint, Grid};
-use node_files::NodeText;
+use node_files::{Limits, NodeText};
 use plc_files::Form::{Poly, Smesh};
 use plc_files::*;
 use sign_predicates::RatPoint;
@@ -235,7 +235,7 @@ fn bound(alloc: Global, text: &PlcText, first: u32, count: u64) -> Result<Comple
 {
     let count = count.min(100_000);
     check_corners(text, first, count)?;
-    bind(alloc, text, first, count, &UNITS)
+    bind(alloc, Limits::tetgen(), text, first, count, &UNITS)
 }
 
 /// Whether a point has these coordinates over this denominator.
@@ -458,7 +458,10 @@ const LIMITS: [(&[u8], &[u8], usize, Option<PlcFault>); 5] = [
         b"0\n20001\n",
         b"1\n1 1\n",
         20_001,
-        Some(PlcFault::Facets { count: 20_001 }),
+        Some(PlcFault::Facets {
+            count: 20_001,
+            most: 20_000,
+        }),
     ),
     (b"0\n1\n1\n1000", b" 1", 1000, None),
     (
@@ -468,6 +471,7 @@ const LIMITS: [(&[u8], &[u8], usize, Option<PlcFault>); 5] = [
         Some(PlcFault::Corners {
             line: 4,
             count: 1001,
+            most: 1000,
         }),
     ),
     (
@@ -477,6 +481,7 @@ const LIMITS: [(&[u8], &[u8], usize, Option<PlcFault>); 5] = [
         Some(PlcFault::Corners {
             line: 6,
             count: 1002,
+            most: 1000,
         }),
     ),
 ];
@@ -620,11 +625,15 @@ fn messages(rt: HostRuntime) {
     let corners = PlcFault::Corners {
         line: 4,
         count: 1001,
+        most: 1000,
     };
     for (fault, text) in [
         (extra, "line 3: too many"),
         (
-            PlcFault::Facets { count: 20_001 },
+            PlcFault::Facets {
+                count: 20_001,
+                most: 20_000,
+            },
             "20001 facets, at most 20000",
         ),
         (corners, "line 4: 1001 corners, at most 1000"),

@@ -2,7 +2,7 @@
 
 ghost use Rattle.std.specs.Prelude.{◌≤◌, length, IfOk};
 ghost use Rattle.node_files.specs.Node.{IsNodeText};
-ghost use Rattle.node_files.specs.Settling.{most_points};
+ghost use Rattle.node_files.specs.Limits.{tetgen_limits};
 ghost use Rattle.node_files.specs.Writing.{IsNodeTable};
 
 use geo_laws::Points;
@@ -220,9 +220,9 @@ fn faults(rt: HostRuntime) {
 /// What settling the list of this text gives.
 fn settled(alloc: Global, text: &[u8], options: GridOptions) -> Result<NodeTable, NodeFault>
     ensures table { IfOk result IsNodeTable }
-    ensures few { IfOk result (λ table. length table.listed ≤ most_points) }
+    ensures few { IfOk result (λ table. length table.listed ≤ tetgen_limits.points) }
 {
-    settle(alloc, read(alloc, text)?, &options)
+    settle(alloc, Limits::tetgen(), read(alloc, text)?, &options)
 }
 
 const PLAIN: GridOptions = GridOptions {
@@ -301,14 +301,17 @@ fn alike(alloc: Global, count: usize) -> Result<NodeText, NoMemory> {
 /// The fault of a list of so many points at one place.
 fn fault_of_alike(alloc: Global, count: usize) -> Option<NodeFault> {
     match alike(alloc, count) {
-        Ok(text) => settle(alloc, text, &PLAIN).err(),
+        Ok(text) => settle(alloc, Limits::tetgen(), text, &PLAIN).err(),
         Err(NoMemory) => Some(NodeFault::NoMemory),
     }
 }
 
 #[test]
 fn too_many_points(rt: HostRuntime) {
-    let many = NodeFault::TooMany { count: 20_001 };
+    let many = NodeFault::TooMany {
+        count: 20_001,
+        most: 20_000,
+    };
     for (count, fault) in [(20_000, None), (20_001, Some(many))] {
         assert_eq!(rt; fault_of_alike(rt.alloc(), count), fault);
     }
@@ -429,7 +432,7 @@ fn written_table(
     case: &TableCase,
 ) -> Result<Option<Bytes>, NoMemory>
     requires table { IsNodeTable table.now }
-    requires few { length table.now.listed ≤ most_points }
+    requires few { length table.now.listed ≤ tetgen_limits.points }
 {
     let is_wanted = table.grid == case.grid;
     if !is_wanted || !are_grid_points(table.points.as_slice(), case.points) {

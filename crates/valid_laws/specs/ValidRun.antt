@@ -3,6 +3,7 @@ use Rattle.std.specs.Prelude.{◌≡◌, ◌⊎◌, ℕ, true, false, List, None
 use Rattle.command_words.specs.Grammar.{words_fault}
 use Rattle.command_words.specs.Meaning.{options_of}
 use Rattle.complex_mesh.specs.Protection.{complex_triangles}
+use Rattle.node_files.specs.Limits.{tetgen_limits}
 use Rattle.run_steps.specs.Meshing.{BoundAnswer, mesh_options}
 use Rattle.run_steps.specs.Reading.{InputAnswer}
 use Rattle.run_steps.specs.Seen.{FolderSeen, SinkSeen}
@@ -19,11 +20,11 @@ pub record IsValidRun (words : List (List ℕ)) (folder : FolderSeen) : Type 0 w
   pub understood : words_fault words ≡ None
   pub meshes : asks_check words ≡ false
   pub piecewise : (options_of words).piecewise ≡ true
-  pub read : (status : Status) → InputAnswer folder (options_of words) (Err status) → status ≡ NoMemory
-  pub within : (input : Input) → InputAnswer folder (options_of words) (Ok input)
-      → (status : Status) → BoundAnswer (options_of words) input (Err status) → status ≡ NoMemory
-  pub valid : (input : Input) → InputAnswer folder (options_of words) (Ok input)
-      → (bound : Bound) → BoundAnswer (options_of words) input (Ok bound)
+  pub read : (status : Status) → InputAnswer tetgen_limits folder (options_of words) (Err status) → status ≡ NoMemory
+  pub within : (input : Input) → InputAnswer tetgen_limits folder (options_of words) (Ok input)
+      → (status : Status) → BoundAnswer tetgen_limits (options_of words) input (Err status) → status ≡ NoMemory
+  pub valid : (input : Input) → InputAnswer tetgen_limits folder (options_of words) (Ok input)
+      → (bound : Bound) → BoundAnswer tetgen_limits (options_of words) input (Ok bound)
       → (v : IsValid (mesh_options (options_of words) bound.table) bound.table.points bound.complex)
       × HasNoAnomaly v.qs (complex_triangles v.qs v.fs)
 

@@ -1,10 +1,10 @@
 //! Point lists with weights, from their text to the regular mesh.
 ghost use Rattle.std.specs.Prelude.{◌≡◌, ◌≤◌, length, IfSome};
-ghost use Rattle.node_files.specs.Settling.{most_points};
+ghost use Rattle.node_files.specs.Limits.{tetgen_limits};
 ghost use Rattle.node_files.specs.Writing.{IsNodeTable};
 
 use geo_laws::TetList;
-use node_files::{GridOptions, NodeTable, read_node, settle};
+use node_files::{GridOptions, Limits, NodeTable, read_node, settle};
 use std::alloc::Global;
 use tet_ports::Bytes;
 use tet_text::TextKind;
@@ -13,7 +13,7 @@ use weighted_steps::{RegularFault, RegularMesh, regular_mesh};
 /// The point list of a text, on its grid.
 fn table(alloc: Global, text: &[u8]) -> Option<NodeTable>
     ensures table { IfSome result IsNodeTable }
-    ensures few { IfSome result (λ table. length table.listed ≤ most_points) }
+    ensures few { IfSome result (λ table. length table.listed ≤ tetgen_limits.points) }
 {
     let bytes = Bytes::from_slice(alloc, text).ok()?;
     if bytes.len() > 1000 {
@@ -24,7 +24,7 @@ fn table(alloc: Global, text: &[u8]) -> Option<NodeTable>
         decimals: None,
         halvings: 12,
     };
-    settle(alloc, list, &options).ok()
+    settle(alloc, Limits::tetgen(), list, &options).ok()
 }
 
 /// The regular mesh of the point list of a text.

@@ -3,6 +3,7 @@ use Rattle.std.proofs.Common.{◌≡◌, false, true, [], None, Ok, Err, refl, s
 use Rattle.std.specs.Prelude.{codes}
 use Rattle.command_words.specs.declared.options.Extension.TheVariants.{Poly}
 use Rattle.geo_laws.specs.Delaunay.{delaunay_rows}
+use Rattle.node_files.specs.Limits.{tetgen_limits}
 use Rattle.plc_files.specs.Plc.{plc_of}
 use Rattle.plc_files.specs.declared.form.Form.TheVariants as form
 use Rattle.tet_ports.specs.Files.{Holds}
@@ -27,7 +28,7 @@ use Rattle.worked_run.proofs.Words.{asking, complex_asked, complex_understood}
 spelled : plc_text_of Poly complex_bytes ≡ Ok complex_text
 spelled = ap (λ count. plc_of form.Poly count (content_lines complex_bytes)) eight_lines ∙ ap (plc_of form.Poly 8) complex_lines_are ∙ complex_text_is
 
-read : (folder : FolderSeen) → HasFile complex_start folder → InputAnswer folder (asking false true) (Ok pyramid_input)
+read : (folder : FolderSeen) → HasFile complex_start folder → InputAnswer tetgen_limits folder (asking false true) (Ok pyramid_input)
 read folder has =
     let name = codes "pyramid.poly" in
     let holds = subst (λ files. Holds files name complex_bytes) (sym has.files) has.held in

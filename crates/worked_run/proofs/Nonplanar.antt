@@ -12,6 +12,7 @@ use Rattle.facet_plane.specs.Flat.{IsFirstNotFlat}
 use Rattle.geo_laws.specs.Complex.{facets}
 use Rattle.geo_laws.specs.Facet.{IsFlat}
 use Rattle.grid_coords.specs.Units.{units}
+use Rattle.node_files.specs.Limits.{tetgen_limits}
 use Rattle.node_files.specs.declared.table.NodeTable.{NodeTable}
 use Rattle.plc_files.specs.Checks.{first_fault}
 use Rattle.plc_files.specs.Plc.{plc_of}
@@ -95,13 +96,13 @@ bound = record { table = table; complex = nonplanar_complex }
 spelled : plc_text_of Poly nonplanar_bytes ≡ Ok nonplanar_text
 spelled = ap (λ count. plc_of form.Poly count (content_lines nonplanar_bytes)) nine_lines ∙ ap (plc_of form.Poly 9) lines_are ∙ text_is
 
-read : (folder : FolderSeen) → HasFile nonplanar_start folder → InputAnswer folder asking (Ok input)
+read : (folder : FolderSeen) → HasFile nonplanar_start folder → InputAnswer tetgen_limits folder asking (Ok input)
 read folder has =
     let name = codes "nonplanar.poly" in
     let holds = subst (λ files. Holds files name nonplanar_bytes) (sym has.files) has.held in
     (complex_file name nonplanar_text, (nonplanar_bytes, (holds, omega arith), (nonplanar_text, spelled, refl)), (nonplanar_nodes, refl, (tt, corners_are_there, refl)))
 
-on_grid : BoundAnswer asking input (Ok bound)
+on_grid : BoundAnswer tetgen_limits asking input (Ok bound)
 unfolding units first_fault
 on_grid = (
   record { on = record { few = omega arith; on = grid_is }; is = refl; folded = folded_are },
@@ -134,12 +135,12 @@ changes folder out left = left
 
 -- ---- the message
 
-input_is : (folder : FolderSeen) → HasFile nonplanar_start folder → ¬ Rose folder.faults_before folder.faults_now → (other : Input) → InputAnswer folder asking (Ok other) → other ≡ input
+input_is : (folder : FolderSeen) → HasFile nonplanar_start folder → ¬ Rose folder.faults_before folder.faults_now → (other : Input) → InputAnswer tetgen_limits folder asking (Ok other) → other ≡ input
 input_is folder has no_fault other answer =
-    ok_same other input (input_once has.told folder asking (record { files = has.files; no_fault = no_fault }) (Ok other) (Ok input) tt tt answer (read folder has))
+    ok_same other input (input_once tetgen_limits has.told folder asking (record { files = has.files; no_fault = no_fault }) (Ok other) (Ok input) tt tt answer (read folder has))
 
-bound_is : (other : Input) (found : Bound) → other ≡ input → BoundAnswer asking other (Ok found) → found ≡ bound
-bound_is other found e answer = ok_same found bound (bound_once asking input (Ok found) (Ok bound) tt tt (subst (λ i. BoundAnswer asking i (Ok found)) e answer) on_grid)
+bound_is : (other : Input) (found : Bound) → other ≡ input → BoundAnswer tetgen_limits asking other (Ok found) → found ≡ bound
+bound_is other found e answer = ok_same found bound (bound_once tetgen_limits asking input (Ok found) (Ok bound) tt tt (subst (λ i. BoundAnswer tetgen_limits asking i (Ok found)) e answer) on_grid)
 
 pub tells : TellsFacet
 unfolding digits

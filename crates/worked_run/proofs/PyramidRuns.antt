@@ -3,6 +3,7 @@ use Rattle.std.proofs.Common.{◌≡◌, Bool, true, false, None, Ok, Err, refl,
 use Rattle.std.specs.Prelude.{◌≢◌, codes}
 use Rattle.geo_laws.specs.Complex.{empty_complex}
 use Rattle.grid_coords.specs.Units.{units}
+use Rattle.node_files.specs.Limits.{tetgen_limits}
 use Rattle.node_files.specs.Node.{node_of}
 use Rattle.plc_files.specs.Checks.{first_fault}
 use Rattle.tet_ports.specs.Files.{Holds}
@@ -34,12 +35,12 @@ spelled : node_text_of pyramid_bytes ≡ Ok pyramid_text
 spelled = ap (λ count. node_of count (content_lines pyramid_bytes)) six_lines ∙ ap (node_of 6) lines_are ∙ text_is
 
 module _ (full : Bool) where
-  plain_read : (folder : FolderSeen) → HasFile plain_start folder → InputAnswer folder (asking full false) (Ok pyramid_input)
+  plain_read : (folder : FolderSeen) → HasFile plain_start folder → InputAnswer tetgen_limits folder (asking full false) (Ok pyramid_input)
   plain_read folder has =
       let holds = subst (λ files. Holds files (codes "pyramid.node") pyramid_bytes) (sym has.files) has.held in
       (pyramid_text, (pyramid_bytes, (holds, omega arith), spelled), refl)
 
-  pub on_grid : (complex : Bool) → BoundAnswer (asking full complex) pyramid_input (Ok pyramid_bound)
+  pub on_grid : (complex : Bool) → BoundAnswer tetgen_limits (asking full complex) pyramid_input (Ok pyramid_bound)
   unfolding units first_fault
   on_grid complex = (
     record { on = record { few = omega arith; on = grid_is }; is = refl; folded = folded_are },

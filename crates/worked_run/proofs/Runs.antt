@@ -5,6 +5,7 @@ use Rattle.command_words.specs.Grammar.{words_fault}
 use Rattle.command_words.specs.Meaning.{options_of}
 use Rattle.command_words.specs.declared.options.Options.{Options}
 use Rattle.tet_ports.specs.Counts.{Rose}
+use Rattle.node_files.specs.Limits.{tetgen_limits}
 use Rattle.run_steps.specs.Meshing.{BoundAnswer, MeshAnswer, MeshedAnswer, OutputsAnswer, OutputsOfRun}
 use Rattle.run_steps.specs.Outputs.{AreOutputsOf}
 use Rattle.run_steps.specs.Reading.{InputAnswer, WordsAnswer}
@@ -32,7 +33,7 @@ pub record IsRun (start : Start) (outputs : Outputs) : Type 0 where
 
 module _ (start : Start) (options : Options) (input : Input) (bound : Bound) (mesh : Meshed) (outputs : Outputs)
     (understood : words_fault start.words ≡ None) (asked : options_of start.words ≡ options) (makes : options.check ≡ false)
-    (read : (folder : FolderSeen) → HasFile start folder → InputAnswer folder options (Ok input)) (on_grid : BoundAnswer options input (Ok bound))
+    (read : (folder : FolderSeen) → HasFile start folder → InputAnswer tetgen_limits folder options (Ok input)) (on_grid : BoundAnswer tetgen_limits options input (Ok bound))
     (made : MeshAnswer options bound (Ok mesh)) (mesh_only : IsOnly (MeshAnswer options bound) mesh) (are : AreOutputsOf options mesh outputs) where
   words_are : WordsAnswer start.words (Ok options)
   words_are = (understood, sym asked)
@@ -47,14 +48,14 @@ module _ (start : Start) (options : Options) (input : Input) (bound : Bound) (me
   outputs_only (Ok other) n h = ap (λ o. Ok o) (outputs_same options mesh other outputs h are)
   outputs_only (Err s) n h = absurd (n h)
 
-  run_only : (folder : FolderSeen) → HasFile start folder → ¬ Rose folder.faults_before folder.faults_now → IsOnly (OutputsOfRun start.words folder) outputs
+  run_only : (folder : FolderSeen) → HasFile start folder → ¬ Rose folder.faults_before folder.faults_now → IsOnly (OutputsOfRun tetgen_limits start.words folder) outputs
   run_only folder has no_fault =
-      then_only (WordsAnswer start.words) (λ o. AndThen (InputAnswer folder o) (MeshedAnswer o)) options outputs
+      then_only (WordsAnswer start.words) (λ o. AndThen (InputAnswer tetgen_limits folder o) (MeshedAnswer tetgen_limits o)) options outputs
       (once_only (WordsAnswer start.words) options (words_once start.words) words_are)
-      (then_only (InputAnswer folder options) (MeshedAnswer options) input outputs
-      (once_only (InputAnswer folder options) input (input_once has.told folder options (record { files = has.files; no_fault = no_fault })) (read folder has))
-      (then_only (BoundAnswer options input) (λ b. AndThen (MeshAnswer options b) (OutputsAnswer options)) bound outputs
-      (once_only (BoundAnswer options input) bound (bound_once options input) on_grid)
+      (then_only (InputAnswer tetgen_limits folder options) (MeshedAnswer tetgen_limits options) input outputs
+      (once_only (InputAnswer tetgen_limits folder options) input (input_once tetgen_limits has.told folder options (record { files = has.files; no_fault = no_fault })) (read folder has))
+      (then_only (BoundAnswer tetgen_limits options input) (λ b. AndThen (MeshAnswer options b) (OutputsAnswer options)) bound outputs
+      (once_only (BoundAnswer tetgen_limits options input) bound (bound_once tetgen_limits options input) on_grid)
       (then_only (MeshAnswer options bound) (OutputsAnswer options) mesh outputs mesh_only outputs_only)))
 
   refused_only : (s : Status) → ((s ≢ NoMemory) → Err s ≡ given outputs) → (s ≡ NoMemory) ⊎ (s ≢ NoMemory) → (Err s ≡ given outputs) ⊎ (Err s ≡ refused Outputs NoMemory)
@@ -67,10 +68,10 @@ module _ (start : Start) (options : Options) (input : Input) (bound : Bound) (me
 
   ends_done : EndsDone start
   ends_done folder out status has no_fault n complete =
-      complete has.told has.files no_fault n Done not_want (subst (λ b. AnswerBy b start.words folder out Done) (sym no_check) (outputs, has_outputs folder has))
+      complete has.told has.files no_fault n Done not_want (subst (λ b. AnswerBy tetgen_limits b start.words folder out Done) (sym no_check) (outputs, has_outputs folder has))
 
   -- each cause of another status is excluded
-  done_of : (folder : FolderSeen) (out : SinkSeen) (s : Status) → HasFile start folder → HasNoFault folder out → s ≢ NoMemory → IsMeshAnswer start.words folder out s → s ≡ Done
+  done_of : (folder : FolderSeen) (out : SinkSeen) (s : Status) → HasFile start folder → HasNoFault folder out → s ≢ NoMemory → IsMeshAnswer tetgen_limits start.words folder out s → s ≡ Done
   done_of folder out Done has no_fault n h = refl
   done_of folder out (WriteFault None) has no_fault n h = absurd (no_fault.1 h.2)
   done_of folder out (WriteFault (Some name)) has no_fault n h = absurd (no_fault.0 h.2)
@@ -80,13 +81,13 @@ module _ (start : Start) (options : Options) (input : Input) (bound : Bound) (me
   -- the outputs of the mesh of this run are these
   outputs_of_mesh : (folder : FolderSeen) (other : Outputs) → HasFile start folder → ¬ Rose folder.faults_before folder.faults_now → IsMeshOfRun start.words folder other → other ≡ outputs
   outputs_of_mesh folder other has no_fault run =
-      let ran : OutputsOfRun start.words folder (Ok other) = (options_of start.words, (understood, refl), (run.input, run.read, (run.bound, run.on_grid, (run.mesh, run.made, run.outputs_are)))) in
+      let ran : OutputsOfRun tetgen_limits start.words folder (Ok other) = (options_of start.words, (understood, refl), (run.input, run.read, (run.bound, run.on_grid, (run.mesh, run.made, run.outputs_are)))) in
       ok_same other outputs (run_only folder has no_fault (Ok other) tt ran)
 
   leaves : Leaves start outputs
   leaves folder out status has no_fault n answer left =
-      let done = done_of folder out status has no_fault n (subst (λ b. AnswerBy b start.words folder out status) no_check answer) in
-      let l : IsLeftByMesh start.words folder out Done = subst (λ s. IsLeftByMesh start.words folder out s) done (subst (λ b. LeftBy b start.words folder out status) no_check left) in
+      let done = done_of folder out status has no_fault n (subst (λ b. AnswerBy tetgen_limits b start.words folder out status) no_check answer) in
+      let l : IsLeftByMesh tetgen_limits start.words folder out Done = subst (λ s. IsLeftByMesh tetgen_limits start.words folder out s) done (subst (λ b. LeftBy tetgen_limits b start.words folder out status) no_check left) in
       let same = outputs_of_mesh folder l.0 has no_fault.0 l.1 in
       record {
         done = done;

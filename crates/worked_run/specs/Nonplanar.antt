@@ -1,6 +1,7 @@
 -- A run on a complex with a facet that is not flat: what it reads, what it answers, and what it tells.
 use Rattle.std.specs.Prelude.{◌≡◌, ◌≢◌, ℕ, List, [], ◌∷◌, Err, codes}
 use Rattle.tet_ports.specs.Counts.{Rose}
+use Rattle.node_files.specs.Limits.{tetgen_limits}
 use Rattle.run_steps.specs.Meshing.{OutputsOfRun}
 use Rattle.run_steps.specs.Seen.{FolderSeen, SinkSeen}
 use Rattle.run_steps.specs.declared.status.Status.{Status}
@@ -23,7 +24,7 @@ not_flat = NotFlat 0 (record { a = 0; b = 1; c = 2; d = 3 })
 
 -- it is refused so
 abbrev pub IsRefused : Type 0
-IsRefused = (folder : FolderSeen) → HasFile nonplanar_start folder → OutputsOfRun nonplanar_start.words folder (Err not_flat)
+IsRefused = (folder : FolderSeen) → HasFile nonplanar_start folder → OutputsOfRun tetgen_limits nonplanar_start.words folder (Err not_flat)
 
 -- so this is the complete answer to it, where no fault rose and memory was not wanting
 abbrev pub EndsNotFlat : Type 0

@@ -3,6 +3,7 @@ use Rattle.std.specs.Prelude.{◌≡◌, ◌≢◌, ◌⊎◌, ℕ, List, Some, 
 use Rattle.std.specs.FinMap as map
 use Rattle.tet_ports.specs.Counts.{Rose}
 use Rattle.tet_ports.specs.Files.{Files}
+use Rattle.node_files.specs.Limits.{tetgen_limits}
 use Rattle.run_steps.specs.Meshing.{OutputsOfRun}
 use Rattle.run_steps.specs.Seen.{FolderSeen, SinkSeen}
 use Rattle.run_steps.specs.Steps.{forced_answer}
@@ -26,12 +27,13 @@ pub record HasFile (start : Start) (folder : FolderSeen) : Type 0 where
 
 -- Such a run has these outputs
 abbrev pub HasOutputs : Start → Outputs → Type 0
-HasOutputs start outputs = (folder : FolderSeen) → HasFile start folder → OutputsOfRun start.words folder (Ok outputs)
+HasOutputs start outputs = (folder : FolderSeen) → HasFile start folder → OutputsOfRun tetgen_limits start.words folder (Ok outputs)
 
 -- It has no others, and no refusal but want of memory, where no fault of the folder rose
 abbrev pub HasNoOthers : Start → Outputs → Type 0
 HasNoOthers start outputs = (folder : FolderSeen) → HasFile start folder → ¬ Rose folder.faults_before folder.faults_now
-    → (answer : Result Outputs Status) → OutputsOfRun start.words folder answer → (answer ≡ Ok outputs) ⊎ (answer ≡ Err NoMemory)
+    → (answer : Result Outputs Status) → OutputsOfRun tetgen_limits start.words folder answer
+    → (answer ≡ Ok outputs) ⊎ (answer ≡ Err NoMemory)
 
 -- So the answer that is forced is Done, where no fault rose and memory was not wanting
 abbrev pub EndsDone : Start → Type 0

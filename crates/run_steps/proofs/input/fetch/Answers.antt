@@ -13,4 +13,4 @@ returns-in-Err-TooLarge-clause-err g c =
     let files = g.F.Folder.held c.args.folder.now in
     let more = rw c.in-Err-TooLarge.field-0-is at c.in-Err-TooLarge.ensures.longer in
     let long = rw c.in-Err-TooLarge.field-0-is at c.in-Err-TooLarge.ensures.too_large in
-    (refl, longer files c.args.name 67108864 c.in-Err-TooLarge.field-0-0 more long)
+    (refl, longer files c.args.name c.args.limits.bytes c.in-Err-TooLarge.field-0-0 more long, refl)

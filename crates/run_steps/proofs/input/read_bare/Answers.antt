@@ -29,6 +29,6 @@ returns-in-Err-Missing-clause-answer g c =
     } in
     inr (
       c.in-Err-Missing.field-0-0,
-      form_wider first wide one c.args.base.now Poly (Err (Missing c.in-Err-Missing.field-0-0)) (rw c.in-Err-Missing.field-0-is at c.in-Err-Missing.ensures.answer),
-      form_wider second wide two c.args.base.now Smesh c.read_form-in-Err-Missing.result b.answer,
+      form_wider c.args.limits first wide one c.args.base.now Poly (Err (Missing c.in-Err-Missing.field-0-0)) (rw c.in-Err-Missing.field-0-is at c.in-Err-Missing.ensures.answer),
+      form_wider c.args.limits second wide two c.args.base.now Smesh c.read_form-in-Err-Missing.result b.answer,
     )

@@ -9,6 +9,7 @@ use Rattle.run_steps.proofs.input.read_complex.Goals as goal
 pub returns-clause-answer : goal.returns-clause-answer
 returns-clause-answer g c =
     let F = g.F.Folder in
+    let l = c.args.limits in
     let o = c.args.options.now in
     let file = c.in_ok-file.file in
     let first : FolderSeen = folder_seen F.held F.faults F.misses c.args.folder.now c.read_source.new.folder in
@@ -30,5 +31,5 @@ returns-clause-answer g c =
       misses_before = a.misses;
       misses_now = omega arith;
     } in
-    and_then_ok (SourceAnswer wide o.base o.extension o.sample) (λ f. AndThen (NodesAnswer wide o.base f.text.nodes) (BoundedAnswer f)) file c.with_points.result
-    (source_wider first wide one o.base o.extension o.sample (Ok file) c.in_ok-file.ensures.answer) (bounded_wider second wide two o.base file c.with_points.result b.answer)
+    and_then_ok (SourceAnswer l wide o.base o.extension o.sample) (λ f. AndThen (NodesAnswer l wide o.base f.text.nodes) (BoundedAnswer f)) file c.with_points.result
+    (source_wider l first wide one o.base o.extension o.sample (Ok file) c.in_ok-file.ensures.answer) (bounded_wider l second wide two o.base file c.with_points.result b.answer)

@@ -1,4 +1,4 @@
-use Rattle.std.proofs.Common.{◌≡◌, length, subst, sym, ◌∙◌, arith}
+use Rattle.std.proofs.Common.{◌≡◌, ◌≤◌, ◌^◌, length, subst, sym, ◌∙◌, arith}
 use Rattle.node_files.specs.Settling.{IsSettled}
 use Rattle.run_steps.proofs.Meshables.{as_many, meshable_bound}
 use Rattle.run_steps.specs.Meshing.{grid_options}
@@ -8,10 +8,11 @@ pub bind_folded-requires-clause-table : goal.bind_folded-requires-clause-table
 bind_folded-requires-clause-table c = c.in-Ok.ensures.table c.requires.input.nodes
 
 pub bind_folded-requires-clause-listed : goal.bind_folded-requires-clause-listed
-bind_folded-requires-clause-listed c = as_many c.args.nodes c.grid_options.result c.in-Ok.table c.in-Ok.ensures.outcome ∙ sym c.len-count.ensures.count
+bind_folded-requires-clause-listed c = as_many c.args.limits c.args.nodes c.grid_options.result c.in-Ok.table c.in-Ok.ensures.outcome ∙ sym c.len-count.ensures.count
 
 pub returns-in_ok-complex-in-Ok-clause-meshable : goal.returns-in_ok-complex-in-Ok-clause-meshable
 returns-in_ok-complex-in-Ok-clause-meshable c =
-    meshable_bound c.args.options.now c.args.nodes c.in-Ok.table c.in_ok-complex-in-Ok.complex c.requires.ranges
-    (subst (λ o. IsSettled c.args.nodes o c.in-Ok.table) c.grid_options.ensures c.in-Ok.ensures.outcome) (c.in-Ok.ensures.table c.requires.input.nodes)
-    c.in-Ok.ensures.few c.in_ok-complex-in-Ok.ensures.corners c.in_ok-complex-in-Ok.ensures.weights
+    let few : length c.in-Ok.table.listed ≤ 2 ^ 31 = omega (arith, c.in-Ok.ensures.few, c.requires.limits.points) in
+    meshable_bound c.args.limits c.args.options.now c.args.nodes c.in-Ok.table c.in_ok-complex-in-Ok.complex c.requires.ranges
+    (subst (λ o. IsSettled c.args.limits c.args.nodes o c.in-Ok.table) c.grid_options.ensures c.in-Ok.ensures.outcome) (c.in-Ok.ensures.table c.requires.input.nodes)
+    few c.in_ok-complex-in-Ok.ensures.corners c.in_ok-complex-in-Ok.ensures.weights

@@ -13,7 +13,7 @@ returns-in_err-bound g c =
     let folder : FolderSeen = folder_seen F.held F.faults F.misses c.args.folder.now c.read_input.new.folder in
     let out : SinkSeen = sink_seen O.written O.faults O.wants c.args.out.now c.args.out.now in
     let p = err_from_is_err_and c.from_residual-in_err-bound.result c.from_residual-in_err-bound.ensures.1 in
-    rw (p.1, p.2) (bound_end c.args.words.now folder out c.in_ok-options.options c.in_ok-input.input c.in_err-bound.field-0.0 (c.in_ok-options.ensures.understood, c.in_ok-options.ensures.options) c.if-options.false
+    rw (p.1, p.2) (bound_end c.args.limits c.args.words.now folder out c.in_ok-options.options c.in_ok-input.input c.in_err-bound.field-0.0 (c.in_ok-options.ensures.understood, c.in_ok-options.ensures.options) c.if-options.false
     c.in_ok-input.ensures.answer c.in_err-bound.ensures.answer (record { files = c.read_input.ensures.unchanged; written = refl }))
 
 pub returns-then-options : goal.returns-then-options
@@ -22,7 +22,7 @@ returns-then-options g c =
     let O = g.O.Sink in
     let folder : FolderSeen = folder_seen F.held F.faults F.misses c.args.folder.now c.check.new.folder in
     let out : SinkSeen = sink_seen O.written O.faults O.wants c.args.out.now c.check.new.out in
-    by_check c.args.words.now folder out c.in_ok-options.options c.check.result (c.in_ok-options.ensures.understood, c.in_ok-options.ensures.options) c.if-options.true c.check.ensures
+    by_check c.args.limits c.args.words.now folder out c.in_ok-options.options c.check.result (c.in_ok-options.ensures.understood, c.in_ok-options.ensures.options) c.if-options.true c.check.ensures
 
 pub returns-in_err-numbering : goal.returns-in_err-numbering
 returns-in_err-numbering g c =
@@ -31,7 +31,7 @@ returns-in_err-numbering g c =
     let folder : FolderSeen = folder_seen F.held F.faults F.misses c.args.folder.now c.read_input.new.folder in
     let out : SinkSeen = sink_seen O.written O.faults O.wants c.args.out.now c.args.out.now in
     let p = err_from_is_err_and c.from_residual-in_err-numbering.result c.from_residual-in_err-numbering.ensures.1 in
-    rw (p.1, p.2) (want_end c.args.words.now folder out (record { files = c.read_input.ensures.unchanged; written = refl }))
+    rw (p.1, p.2) (want_end c.args.limits c.args.words.now folder out (record { files = c.read_input.ensures.unchanged; written = refl }))
 
 pub returns-in-Err : goal.returns-in-Err
 returns-in-Err g c =
@@ -39,7 +39,7 @@ returns-in-Err g c =
     let O = g.O.Sink in
     let folder : FolderSeen = folder_seen F.held F.faults F.misses c.args.folder.now c.read_input.new.folder in
     let out : SinkSeen = sink_seen O.written O.faults O.wants c.args.out.now c.args.out.now in
-    rw c.in_ok-numbering.ensures (mesh_end c.args.words.now folder out c.in_ok-options.options c.in_ok-input.input c.in_ok-bound.bound c.in-Err.status (c.in_ok-options.ensures.understood, c.in_ok-options.ensures.options) c.if-options.false
+    rw c.in_ok-numbering.ensures (mesh_end c.args.limits c.args.words.now folder out c.in_ok-options.options c.in_ok-input.input c.in_ok-bound.bound c.in-Err.status (c.in_ok-options.ensures.understood, c.in_ok-options.ensures.options) c.if-options.false
     c.in_ok-input.ensures.answer c.in_ok-bound.ensures.answer c.in-Err.ensures (record { files = c.read_input.ensures.unchanged; written = refl }))
 
 pub returns-in_err-store_all : goal.returns-in_err-store_all
@@ -59,8 +59,8 @@ returns-in_err-store_all g c =
     } in
     let o = c.in_ok-options.options in
     let outputs = c.in-Ok.outputs in
-    let read = input_wider part folder within o (Ok c.in_ok-input.input) c.in_ok-input.ensures.answer in
-    let ran = outputs_run c.args.words.now folder o c.in_ok-input.input c.in_ok-bound.bound outputs (c.in_ok-options.ensures.understood, c.in_ok-options.ensures.options) read c.in_ok-bound.ensures.answer c.in-Ok.ensures in
+    let read = input_wider c.args.limits part folder within o (Ok c.in_ok-input.input) c.in_ok-input.ensures.answer in
+    let ran = outputs_run c.args.limits c.args.words.now folder o c.in_ok-input.input c.in_ok-bound.bound outputs (c.in_ok-options.ensures.understood, c.in_ok-options.ensures.options) read c.in_ok-bound.ensures.answer c.in-Ok.ensures in
     let out : SinkSeen = sink_seen O.written O.faults O.wants c.args.out.now c.args.out.now in
     let stop = c.in_err-store_all.field-0.0 in
     let now = F.held c.store_all.new.folder in
@@ -68,7 +68,7 @@ returns-in_err-store_all g c =
     (subst (λ files. AreLeft files c.in_ok-in_order.field-0.items now stop) a.unchanged c.in_err-store_all.ensures.stopped) in
     let rose = failed_wider stop (F.faults c.args.folder.now) (F.faults c.read_input.new.folder) (F.faults c.store_all.new.folder) a.faults c.in_err-store_all.ensures.failed in
     let p = err_from_is_err_and c.from_residual-in_err-store_all.result c.from_residual-in_err-store_all.ensures.1 in
-    rw (p.1, p.2) (store_end c.args.words.now folder out o outputs stop (c.in_ok-options.ensures.understood, c.in_ok-options.ensures.options) c.if-options.false ran left rose (run_told c.args.words.now folder outputs ran) refl)
+    rw (p.1, p.2) (store_end c.args.limits c.args.words.now folder out o outputs stop (c.in_ok-options.ensures.understood, c.in_ok-options.ensures.options) c.if-options.false ran left rose (run_told c.args.limits c.args.words.now folder outputs ran) refl)
 
 pub returns : goal.returns
 returns g c =
@@ -87,10 +87,10 @@ returns g c =
     } in
     let o = c.in_ok-options.options in
     let outputs = c.in-Ok.outputs in
-    let read = input_wider part folder within o (Ok c.in_ok-input.input) c.in_ok-input.ensures.answer in
-    let ran = outputs_run c.args.words.now folder o c.in_ok-input.input c.in_ok-bound.bound outputs (c.in_ok-options.ensures.understood, c.in_ok-options.ensures.options) read c.in_ok-bound.ensures.answer c.in-Ok.ensures in
+    let read = input_wider c.args.limits part folder within o (Ok c.in_ok-input.input) c.in_ok-input.ensures.answer in
+    let ran = outputs_run c.args.limits c.args.words.now folder o c.in_ok-input.input c.in_ok-bound.bound outputs (c.in_ok-options.ensures.understood, c.in_ok-options.ensures.options) read c.in_ok-bound.ensures.answer c.in-Ok.ensures in
     let out : SinkSeen = sink_seen O.written O.faults O.wants c.args.out.now c.sum_up.new.out in
     let now = F.held c.store_all.new.folder in
     let stored = subst (λ texts. now ≡ with_files (F.held c.args.folder.now) texts) c.in_ok-in_order.ensures
     (subst (λ files. now ≡ with_files files c.in_ok-in_order.field-0.items) a.unchanged c.in_ok-store_all.ensures.stored) in
-    summed_end c.args.words.now folder out o outputs c.sum_up.result (c.in_ok-options.ensures.understood, c.in_ok-options.ensures.options) c.if-options.false ran stored c.sum_up.ensures
+    summed_end c.args.limits c.args.words.now folder out o outputs c.sum_up.result (c.in_ok-options.ensures.understood, c.in_ok-options.ensures.options) c.if-options.false ran stored c.sum_up.ensures

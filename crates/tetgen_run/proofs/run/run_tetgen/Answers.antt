@@ -1,67 +1,36 @@
-use Rattle.std.proofs.Common.{subst, Ok}
-use Rattle.tetgen_run.specs.Run.{EndsSo}
+use Rattle.std.proofs.Common.{subst}
 use Rattle.run_steps.specs.Seen.{FolderSeen, SinkSeen, folder_seen, sink_seen}
-use Rattle.tetgen_run.proofs.Runs.{end_answer, end_left, answer_complete, stop_answer, stop_left, stop_told}
+use Rattle.tetgen_run.specs.Run.{IsAnswerWithin, IsCompleteWithin, IsLeftWithin, IsToldWithin}
 use Rattle.tetgen_run.proofs.run.run_tetgen.Goals as goal
 
-pub returns-in-Ok-clause-complete : goal.returns-in-Ok-clause-complete
-returns-in-Ok-clause-complete g c =
+pub returns-clause-answer : goal.returns-clause-answer
+returns-clause-answer g c =
     let F = g.F.Folder in
     let O = g.O.Sink in
-    let folder : FolderSeen = folder_seen F.held F.faults F.misses c.args.folder.now c.run.new.folder in
-    let out : SinkSeen = sink_seen O.written O.faults O.wants c.args.out.now c.run.new.out in
-    let ended = subst (EndsSo c.args.words.now folder out) c.in-Ok.is c.run.ensures in
-    answer_complete c.args.words.now folder out _ (end_answer c.args.words.now folder out (Ok c.in-Ok.field-0) ended)
+    let folder : FolderSeen = folder_seen F.held F.faults F.misses c.args.folder.now c.run_within.new.folder in
+    let out : SinkSeen = sink_seen O.written O.faults O.wants c.args.out.now c.run_within.new.out in
+    subst (λ limits. IsAnswerWithin limits c.args.words.now folder out c.run_within.result) c.tetgen.ensures.values c.run_within.ensures.answer
 
-pub returns-in-Ok-clause-left : goal.returns-in-Ok-clause-left
-returns-in-Ok-clause-left g c =
+pub returns-clause-complete : goal.returns-clause-complete
+returns-clause-complete g c =
     let F = g.F.Folder in
     let O = g.O.Sink in
-    let folder : FolderSeen = folder_seen F.held F.faults F.misses c.args.folder.now c.run.new.folder in
-    let out : SinkSeen = sink_seen O.written O.faults O.wants c.args.out.now c.run.new.out in
-    let ended = subst (EndsSo c.args.words.now folder out) c.in-Ok.is c.run.ensures in
-    end_left c.args.words.now folder out (Ok c.in-Ok.field-0) ended
+    let folder : FolderSeen = folder_seen F.held F.faults F.misses c.args.folder.now c.run_within.new.folder in
+    let out : SinkSeen = sink_seen O.written O.faults O.wants c.args.out.now c.run_within.new.out in
+    subst (λ limits. IsCompleteWithin limits c.args.words.now folder out c.run_within.result) c.tetgen.ensures.values c.run_within.ensures.complete
 
-pub returns-in-Err-clause-answer : goal.returns-in-Err-clause-answer
-returns-in-Err-clause-answer g c =
+pub returns-clause-left : goal.returns-clause-left
+returns-clause-left g c =
     let F = g.F.Folder in
     let O = g.O.Sink in
+    let folder : FolderSeen = folder_seen F.held F.faults F.misses c.args.folder.now c.run_within.new.folder in
+    let out : SinkSeen = sink_seen O.written O.faults O.wants c.args.out.now c.run_within.new.out in
+    subst (λ limits. IsLeftWithin limits c.args.words.now folder out c.run_within.result) c.tetgen.ensures.values c.run_within.ensures.left
+
+pub returns-clause-told : goal.returns-clause-told
+returns-clause-told g c =
+    let F = g.F.Folder in
     let E = g.E.Sink in
-    let folder : FolderSeen = folder_seen F.held F.faults F.misses c.args.folder.now c.run.new.folder in
-    let out : SinkSeen = sink_seen O.written O.faults O.wants c.args.out.now c.run.new.out in
-    let err : SinkSeen = sink_seen E.written E.faults E.wants c.args.err.now c.tell.new.err in
-    let ended = subst (EndsSo c.args.words.now folder out) c.in-Err.is c.run.ensures in
-    stop_answer c.args.words.now folder out err c.in-Err.stop c.tell.result ended c.tell.ensures
-
-pub returns-in-Err-clause-complete : goal.returns-in-Err-clause-complete
-returns-in-Err-clause-complete g c =
-    let F = g.F.Folder in
-    let O = g.O.Sink in
-    let E = g.E.Sink in
-    let folder : FolderSeen = folder_seen F.held F.faults F.misses c.args.folder.now c.run.new.folder in
-    let out : SinkSeen = sink_seen O.written O.faults O.wants c.args.out.now c.run.new.out in
-    let err : SinkSeen = sink_seen E.written E.faults E.wants c.args.err.now c.tell.new.err in
-    let ended = subst (EndsSo c.args.words.now folder out) c.in-Err.is c.run.ensures in
-    answer_complete c.args.words.now folder out c.tell.result (stop_answer c.args.words.now folder out err c.in-Err.stop c.tell.result ended c.tell.ensures)
-
-pub returns-in-Err-clause-left : goal.returns-in-Err-clause-left
-returns-in-Err-clause-left g c =
-    let F = g.F.Folder in
-    let O = g.O.Sink in
-    let E = g.E.Sink in
-    let folder : FolderSeen = folder_seen F.held F.faults F.misses c.args.folder.now c.run.new.folder in
-    let out : SinkSeen = sink_seen O.written O.faults O.wants c.args.out.now c.run.new.out in
-    let err : SinkSeen = sink_seen E.written E.faults E.wants c.args.err.now c.tell.new.err in
-    let ended = subst (EndsSo c.args.words.now folder out) c.in-Err.is c.run.ensures in
-    stop_left c.args.words.now folder out err c.in-Err.stop c.tell.result ended c.tell.ensures
-
-pub returns-in-Err-clause-told : goal.returns-in-Err-clause-told
-returns-in-Err-clause-told g c =
-    let F = g.F.Folder in
-    let O = g.O.Sink in
-    let E = g.E.Sink in
-    let folder : FolderSeen = folder_seen F.held F.faults F.misses c.args.folder.now c.run.new.folder in
-    let out : SinkSeen = sink_seen O.written O.faults O.wants c.args.out.now c.run.new.out in
-    let err : SinkSeen = sink_seen E.written E.faults E.wants c.args.err.now c.tell.new.err in
-    let ended = subst (EndsSo c.args.words.now folder out) c.in-Err.is c.run.ensures in
-    stop_told c.args.words.now folder out err c.in-Err.stop c.tell.result ended c.tell.ensures
+    let folder : FolderSeen = folder_seen F.held F.faults F.misses c.args.folder.now c.run_within.new.folder in
+    let err : SinkSeen = sink_seen E.written E.faults E.wants c.args.err.now c.run_within.new.err in
+    subst (λ limits. IsToldWithin limits c.args.words.now folder err c.run_within.result) c.tetgen.ensures.values c.run_within.ensures.told

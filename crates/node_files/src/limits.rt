@@ -1,0 +1,32 @@
+//! The limits of an input.
+
+ghost use Rattle.std.specs.Prelude.{◌≡◌};
+ghost use Rattle.node_files.specs.Limits.{tetgen_limits, AreIndexable};
+
+/// How large an input may be. What is over a limit is refused.
+#[derive(Clone, Copy, Debug, PartialEq, Eq)]
+pub struct Limits {
+    /// The bytes of a file.
+    pub bytes: usize,
+    /// The points of the input, those that are added not counted.
+    pub points: usize,
+    /// The facets.
+    pub facets: usize,
+    /// The corners of a polygon.
+    pub corners: usize,
+}
+
+impl Limits {
+    /// The limits of the program `tetgen`: 2^26 bytes, 20,000 points and facets, and 1,000 corners.
+    pub fn tetgen() -> Limits
+        ensures values { result ≡ tetgen_limits }
+        ensures indexable { AreIndexable result }
+    {
+        Limits {
+            bytes: 67_108_864,
+            points: 20_000,
+            facets: 20_000,
+            corners: 1000,
+        }
+    }
+}
