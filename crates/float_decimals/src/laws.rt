@@ -2,8 +2,8 @@
 
 ghost use Rattle.float_decimals.specs.Laws.{ShortestLaw};
 
-/// The decimal of a float below 2^23 reads back as it, no decimal with fewer digits behind the point
-/// does, and none with as many is nearer.
+/// The decimal of a float below 2^23 reads back as it, no decimal with fewer digits behind the
+/// point does, and none with as many is nearer.
 pub fn law_shortest()
     ensures { ShortestLaw }
 {}

@@ -133,7 +133,8 @@ fn is_closed(points: &Points, list: &TetList, removed: &Growth, growth: &Growth,
     requires on { IsOn points.now row }
     requires indexed { IsIndexed growth.now }
     requires parts { IsRemoved list.now growth.now.rows removed.now }
-    ensures { IsTrue result → AllByRecursion (λ f. IsFilled points.now growth.now.rows (reversed f)) (faces_of row) }
+    ensures { IsTrue result → AllByRecursion
+        (λ f. IsFilled points.now growth.now.rows (reversed f)) (faces_of row) }
 {
     let Tet { a, b, c, d } = row;
     is_filled(
@@ -155,7 +156,8 @@ fn are_closed(points: &Points, list: &TetList, removed: &Growth, growth: &Growth
     requires rows { AreRows points.now growth.now.rows }
     requires indexed { IsIndexed growth.now }
     requires parts { IsRemoved list.now growth.now.rows removed.now }
-    ensures { IsTrue result → All (λ t. AllByRecursion (λ f. IsFilled points.now growth.now.rows (reversed f)) (faces_of t)) growth.now.rows }
+    ensures { IsTrue result → All (λ t. AllByRecursion
+        (λ f. IsFilled points.now growth.now.rows (reversed f)) (faces_of t)) growth.now.rows }
 {
     for i in 0..growth.rows.len() {
         if !is_closed(points, list, removed, growth, growth.rows.at(i)) {
@@ -226,7 +228,8 @@ fn are_crossed(
 ) -> Result<bool, NoMemory>
     requires facets { AreFacetTriangles points.now triangles.now }
     requires rows { All (λ t. IsOn points.now t × IsPositive (corners points.now t)) rows.now }
-    ensures { IfOk result (λ crossed. IsTrue crossed → All (λ t. ¬ IsUncrossed points.now triangles.now t) rows.now) }
+    ensures { IfOk result (λ crossed. IsTrue crossed
+        → All (λ t. ¬ IsUncrossed points.now triangles.now t) rows.now) }
 {
     let tree = triangle_tree(alloc, points, triangles)?;
     let mut last = 0;
@@ -279,7 +282,8 @@ fn is_even_to(
 ) -> bool
     requires paired { IsPairedGrowth points.now growth.now }
     requires row { Contains growth.now.rows row }
-    ensures { IsTrue result → IsEvenTo points.now faces.now growth.now.rows row face (oriented across) }
+    ensures { IsTrue result
+        → IsEvenTo points.now faces.now growth.now.rows row face (oriented across) }
 {
     match growth.row_on(across) {
         Some(other) => is_even_pair(points, faces, row, other, face),
@@ -312,7 +316,8 @@ fn are_even_at(
 ) -> bool
     requires paired { IsPairedGrowth points.now growth.now }
     requires row { Contains growth.now.rows row }
-    ensures { IsTrue result → (IsEvenAcross points.now faces.now growth.now.rows row one × IsEvenAcross points.now faces.now growth.now.rows row two) }
+    ensures { IsTrue result → (IsEvenAcross points.now faces.now growth.now.rows row one
+        × IsEvenAcross points.now faces.now growth.now.rows row two) }
 {
     is_even_at(points, faces, growth, row, one) && is_even_at(points, faces, growth, row, two)
 }
@@ -371,7 +376,8 @@ fn is_settled(
 /// finds the rows that are in the list.
 fn are_settled(points: &Points, list: &TetList, faces: &Items<Face>, growth: &Growth) -> bool
     requires { IsPairedGrowth points.now growth.now }
-    ensures { IsTrue result → All (IsSettled points.now list.now faces.now growth.now.rows) growth.now.rows }
+    ensures { IsTrue result
+        → All (IsSettled points.now list.now faces.now growth.now.rows) growth.now.rows }
 {
     let mut place = 0;
     for j in 0..growth.rows.len() {
@@ -395,7 +401,8 @@ fn are_smooth(
 ) -> Result<bool, NoMemory>
     requires delaunay { IsDelaunayList points.now list.now }
     requires paired { IsPairedGrowth points.now growth.now }
-    ensures { IfOk result (λ smooth. IsTrue smooth → IsSmooth points.now triangles.now growth.now.rows) }
+    ensures { IfOk result (λ smooth. IsTrue smooth
+        → IsSmooth points.now triangles.now growth.now.rows) }
 {
     let faces = triangle_faces(alloc, triangles)?;
     Ok(are_settled(points, list, &faces, growth))
@@ -427,7 +434,8 @@ fn is_refilled_without(
     requires paired { IsPairedGrowth points.now growth.now }
     requires ascending { AllPairs RowBefore growth.now.rows }
     requires parts { IsRemoved list.now growth.now.rows removed.now }
-    ensures { IfOk result (λ refilled. IsTrue refilled → IsRefilled points.now triangles.now list.now growth.now.rows) }
+    ensures { IfOk result (λ refilled. IsTrue refilled
+        → IsRefilled points.now triangles.now list.now growth.now.rows) }
 {
     if !is_single(points, &growth.rows) {
         return Ok(false);
@@ -459,7 +467,8 @@ fn is_refilled(
     requires delaunay { IsDelaunayList points.now list.now }
     requires paired { IsPairedGrowth points.now growth.now }
     requires ascending { AllPairs RowBefore growth.now.rows }
-    ensures { IfOk result (λ refilled. IsTrue refilled → IsRefilled points.now triangles.now list.now growth.now.rows) }
+    ensures { IfOk result (λ refilled. IsTrue refilled
+        → IsRefilled points.now triangles.now list.now growth.now.rows) }
 {
     let removed = removed_rows(alloc, list, growth)?;
     is_refilled_without(alloc, points, list, &removed, triangles, growth)

@@ -338,8 +338,8 @@ impl Write for Choppy {
     }
 }
 
-/// How many bytes of ten are read, at most so many, where the reader fails at `cut`; or how many are
-/// handed out with a fault.
+/// How many bytes of ten are read, at most so many, where the reader fails at `cut`; or how many
+/// are handed out with a fault.
 fn count_read(
     alloc: Global,
     cut: Option<usize>,

@@ -15,8 +15,8 @@ use sign_predicates::{GridPoint, Numbers};
 use std::marker::Model;
 use weighted_signs::{FourWeights, outside_weighted};
 
-/// A list of points, and a weight for each: a point is lifted by its squared length less its weight.
-/// Contracts see the points and the weights.
+/// A list of points, and a weight for each: a point is lifted by its squared length less its
+/// weight. Contracts see the points and the weights.
 #[derive(Drop)]
 pub(crate) struct Sites<'a> {
     points: &'a Points,
