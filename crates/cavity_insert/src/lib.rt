@@ -28,8 +28,6 @@ pub use lift::Lift;
 pub use living::Living;
 pub use marks::MarkedCavity;
 pub use meshing::{BuildFault, delaunay, has_corner, lowest_mesh};
-pub use order::{Turn, insertion_order};
 pub use rows::sorted_rows;
 pub use rule::test_slot;
-pub use start::start_mesh;
 pub use steps::Steps;

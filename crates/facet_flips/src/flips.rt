@@ -120,8 +120,7 @@ impl Local {
     }
 
     /// Adds a row with the corner `new` in place of the corner `gone`. The new corner lies beyond
-    /// the face opposite the corner `own`, where `mate` is across, so the row keeps its
-    /// orientation.
+    /// the face opposite the corner `own`, where `mate` is across: so the row stays positive.
     fn swing(&mut self, row: u32, mate: u32, own: u32, gone: u32, new: u32) -> Result<u32, Stop> {
         let slot = or_stop(self.slot(row))?;
         let i = place_or_stop(&slot.corners, gone)?;

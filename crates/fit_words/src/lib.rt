@@ -9,6 +9,6 @@ mod request;
 mod told;
 
 pub use page::{PAGE, VERSION};
-pub use reason::{Reason, why_not};
+pub use reason::Reason;
 pub use request::{Request, asks_stages, other_words, read_options, request_of};
 pub use told::refused_line;
