@@ -1,5 +1,4 @@
-use Rattle.std.proofs.Common.{◌≡◌, IsTrue, length, subst, sym, ◌∙◌, arith}
-use Rattle.std.proofs.lemmas.List.{get_or_default}
+use Rattle.std.proofs.Common.{◌≡◌, subst, sym, ◌∙◌, arith}
 use Rattle.sign_predicates.specs.Point.{origin}
 use Rattle.sign_predicates.specs.Sphere.{is_outside}
 use Rattle.sign_predicates.specs.Lifted.{IsInFrame, AreInFrame}

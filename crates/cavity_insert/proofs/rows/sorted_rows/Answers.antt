@@ -1,5 +1,3 @@
-use Rattle.std.proofs.Common.{List}
-use Rattle.geo_laws.specs.declared.tetrahedra.Tet.{Tet as Row}
 use Rattle.cavity_insert.specs.Rows.{IsListOf, AreSortedRowsOf}
 use Rattle.cavity_insert.specs.RowKeys.{rows_in}
 use Rattle.cavity_insert.proofs.Insertion.{if_ok}
