@@ -5,12 +5,12 @@ ghost use Rattle.tangle_fill.specs.Fill.{AreFacetTriangles};
 ghost use Rattle.tangle_fill.specs.Sample.{IsFacetTriangle};
 
 use cavity_insert::delaunay;
-use geo_laws::{Face, FacetTriangle, FacetTriangles, Points, Tet};
+use geo_laws::{Face, FacetTriangle, FacetTriangles, Points, Tet, TetList};
 use sign_predicates::GridPoint;
 use simplex_meets::is_triangle;
 use std::alloc::Global;
 use std::test::Fail;
-use tangle_fill::{FillFault, admissible, fill_tangle};
+use tangle_fill::{FillFault, accepted, admissible, fill_tangle};
 use tet_ports::NoMemory;
 
 /// Two thin plates over one another, with a point above and one below.
@@ -224,6 +224,63 @@ fn admissible_on_two_plates(rt: HostRuntime) -> Result<(), Fail> {
     ];
     for (row, want) in rows {
         assert!(rt; is_admissible(rt.alloc(), row).ok() == Some(Some(want)));
+    }
+    Ok(())
+}
+
+/// The rows of the mesh of the two plates: below, above, and the three of the prism between them.
+const BELOW: [u32; 4] = [0, 1, 7, 2];
+
+const ABOVE: [u32; 4] = [3, 4, 5, 6];
+
+const FIRST: [u32; 4] = [0, 1, 2, 3];
+
+const SECOND: [u32; 4] = [1, 2, 3, 4];
+
+const THIRD: [u32; 4] = [2, 3, 4, 5];
+
+/// Lists, and whether they are accepted for the two plates.
+const CANDIDATES: &[(&[[u32; 4]], bool)] = &[
+    // Neither the order matters nor one that stands twice.
+    (&[ABOVE, FIRST, THIRD, BELOW, SECOND, FIRST], true),
+    // None, and one left out at the end and in the middle.
+    (&[], false),
+    (&[FIRST, BELOW, SECOND, THIRD], false),
+    (&[FIRST, BELOW, THIRD, ABOVE], false),
+    // Two that overlap.
+    (&[FIRST, BELOW, SECOND, THIRD, ABOVE, [0, 1, 7, 6]], false),
+    // Turned over, in another arrangement, on no point, with another corner.
+    (&[FIRST, BELOW, SECOND, THIRD, [3, 4, 6, 5]], false),
+    (&[FIRST, BELOW, SECOND, THIRD, [4, 5, 3, 6]], false),
+    (&[FIRST, BELOW, SECOND, THIRD, [3, 4, 5, 8]], false),
+    (&[FIRST, BELOW, SECOND, THIRD, [3, 4, 5, 7]], false),
+    // The prism cut another way.
+    (&[[0, 1, 2, 4], BELOW, [0, 2, 3, 4], THIRD, ABOVE], false),
+];
+
+/// Whether the list is accepted for the two plates; None where it may not be asked.
+fn is_accepted(alloc: Global, rows: &[[u32; 4]]) -> Result<Option<bool>, NoMemory> {
+    let points = points_of(alloc, TWO_PLATES)?;
+    let triangles = triangles_of(alloc, &[[0, 1, 2], [3, 4, 5]])?;
+    let mut candidate = TetList::new(alloc);
+    for row in rows {
+        let [a, b, c, d] = *row;
+        candidate.push(Tet { a, b, c, d })?;
+    }
+    if points.len() > 99 || !are_distinct(&points) || !are_facet_triangles(&points, &triangles) {
+        return Ok(None);
+    }
+    let Ok(list) = delaunay(alloc, &points) else {
+        return Ok(None);
+    };
+    let found = accepted(alloc, &points, &list, &triangles, candidate)?;
+    Ok(Some(found.is_some()))
+}
+
+#[test]
+fn candidates_on_two_plates(rt: HostRuntime) -> Result<(), Fail> {
+    for (rows, want) in CANDIDATES {
+        assert!(rt; is_accepted(rt.alloc(), rows).ok() == Some(Some(*want)));
     }
     Ok(())
 }
