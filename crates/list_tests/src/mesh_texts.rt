@@ -42,16 +42,8 @@ fn neighbor_text(alloc: Global, rows: &[[u32; 4]], first: u32) -> Result<Bytes, 
 
 const NEIGHBOR_TEXTS: [(&[[u32; 4]], u32, &[u8]); 5] = [
     (&SMALLEST, 1, b"1 4\n1 -1 -1 -1 -1\n"),
-    (
-        &PYRAMID,
-        0,
-        b"2 4\n0 1 -1 -1 -1\n1 -1 0 -1 -1\n",
-    ),
-    (
-        &PYRAMID,
-        1,
-        b"2 4\n1 2 -1 -1 -1\n2 -1 1 -1 -1\n",
-    ),
+    (&PYRAMID, 0, b"2 4\n0 1 -1 -1 -1\n1 -1 0 -1 -1\n"),
+    (&PYRAMID, 1, b"2 4\n1 2 -1 -1 -1\n2 -1 1 -1 -1\n"),
     (
         &CUBE,
         0,
@@ -94,11 +86,7 @@ fn counts(alloc: Global, rows: &[[u32; 4]]) -> Result<[usize; 4], NoMemory> {
     ])
 }
 
-const BALLS: [(&[[u32; 4]], usize); 3] = [
-    (&SMALLEST, 4),
-    (&PYRAMID, 5),
-    (&CUBE, 8),
-];
+const BALLS: [(&[[u32; 4]], usize); 3] = [(&SMALLEST, 4), (&PYRAMID, 5), (&CUBE, 8)];
 
 /// With T rows, P points in all and B of them on the surface, a ball has 2T + B - 2 faces, T + P +
 /// B - 3 sides and 2B - 4 faces on the surface. Here all points are on it.

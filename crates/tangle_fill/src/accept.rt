@@ -477,7 +477,7 @@ fn is_refilled(
 /// The candidate in order, where it is the Delaunay list refilled round the facets; None where the
 /// tests do not tell so. How it was found does not matter: each row is looked at by itself and
 /// across its faces, so no search for points is needed.
-pub(crate) fn accepted(
+pub fn accepted(
     alloc: Global,
     points: &Points,
     list: &TetList,

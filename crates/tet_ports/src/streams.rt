@@ -17,11 +17,7 @@ const BLOCK: usize = 1 << 16;
 /// All bytes that a reader gives until it ends, where they are at most `most`. Refused: a reader
 /// with more, with the first `most + 1` of them; a read that fails, but for one that a signal
 /// interrupts, which is tried again.
-pub fn read_whole<R: Read>(
-    alloc: Global,
-    reader: &mut R,
-    most: usize,
-) -> Result<Bytes, FetchFault>
+pub fn read_whole<R: Read>(alloc: Global, reader: &mut R, most: usize) -> Result<Bytes, FetchFault>
     ensures whole { IfOk result (λ bytes. IfSome (R.remaining reader.old) (λ told. bytes ≡ told)) }
     ensures bounded { IfOk result (λ bytes. length bytes ≤ most) }
     ensures too_large { IfErr result

@@ -143,11 +143,7 @@ fn face_fails_at(alloc: Global, nth: u32, kept: usize, want: &[u8]) -> Result<bo
     Ok(fails_at(alloc, &name, &text, nth, kept, want))
 }
 
-const FAILED_STORES: [(u32, usize, &[u8]); 3] = [
-    (1, 0, b""),
-    (2, 3, b"12 "),
-    (3, 1000, b"12 1\n"),
-];
+const FAILED_STORES: [(u32, usize, &[u8]); 3] = [(1, 0, b""), (2, 3, b"12 "), (3, 1000, b"12 1\n")];
 
 #[test]
 fn memory_folder_fails_where_it_is_set(rt: HostRuntime) -> Result<(), Fail> {
@@ -173,7 +169,13 @@ fn two_puts(
     (first, second, sink.bytes().as_slice() == want)
 }
 
-const FAILED_PUTS: [(u32, usize, Result<(), PutFault>, Result<(), PutFault>, &[u8]); 4] = [
+const FAILED_PUTS: [(
+    u32,
+    usize,
+    Result<(), PutFault>,
+    Result<(), PutFault>,
+    &[u8],
+); 4] = [
     (1, 0, Err(PutFault::Failed), Ok(()), b"two"),
     (1, 2, Err(PutFault::Failed), Ok(()), b"ontwo"),
     (2, 1000, Ok(()), Err(PutFault::Failed), b"onetwo"),
