@@ -229,7 +229,7 @@ same_by : (limits : Limits) (b : Bool) (words : List (List ℕ)) (folder : Folde
 same_by limits false words folder out told e f one two n m h k =
     let a = outcome_of limits words folder out one f n h in
     let b = outcome_of limits words folder out two f m k in
-    a.is ∙ run_same told words folder e f.0 a.result b.result a.decided b.decided a.ran b.ran ∙ sym b.is
+    a.is ∙ run_same limits told words folder e f.0 a.result b.result a.decided b.decided a.ran b.ran ∙ sym b.is
 same_by limits true words folder out told e f one two n m h k = ap forced_answer (check_same words folder out told e f one two n m h k)
 
 pub answer_complete : (limits : Limits) (words : List (List ℕ)) (folder : FolderSeen) (out : SinkSeen) (s : Status) → IsAnswerWithin limits words folder out s → IsCompleteWithin limits words folder out s
