@@ -11,7 +11,7 @@ PEER = shutil.which("tetgen", path="/usr/bin:/usr/local/bin")
 # A process counts the memory of the one that it was forked from as its own, so peaks are measured below this small launcher.
 LAUNCHER = "/usr/bin/time"
 # The most processor seconds of one run.
-MOST = 600
+MOST = 60
 HEAD = "| input | switches | ms | TetGen's ms | ratio | MB | TetGen's MB | ratio |\n|---|---|---|---|---|---|---|---|"
 
 
