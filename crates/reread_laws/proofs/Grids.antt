@@ -13,6 +13,7 @@ use Rattle.grid_coords.specs.declared.grid.Grid.{Grid}
 use Rattle.grid_coords.specs.declared.points.DecimalPoint.{DecimalPoint}
 use Rattle.grid_coords.proofs.Sizes.{halvings_le, halvings_fit, none_over, points_on}
 use Rattle.node_files.specs.Settling.{IsSettled, rounded_points}
+use Rattle.node_files.specs.declared.limits.Limits.{Limits}
 use Rattle.node_files.specs.declared.node_text.NodeText.{NodeText}
 use Rattle.node_files.specs.declared.table.GridOptions.{GridOptions}
 use Rattle.node_files.specs.declared.table.NodeTable.{NodeTable}
@@ -73,8 +74,8 @@ points_within g (p ∷ ps) on zero d lt = point_within g p (on 0 p (omega arith)
 points_within g (p ∷ ps) on (suc i) d lt = points_within g ps (λ k e l. on (suc k) e (omega arith)) i d (omega arith)
 
 -- the listed points of a table that is settled
-pub settled_within : (text : NodeText) (options : GridOptions) (table : NodeTable) → IsSettled text options table → (table.grid.halvings ≤ 12) × All IsOnGrid table.listed
-settled_within text options table is =
+pub settled_within : (limits : Limits) (text : NodeText) (options : GridOptions) (table : NodeTable) → IsSettled limits text options table → (table.grid.halvings ≤ 12) × All IsOnGrid table.listed
+settled_within limits text options table is =
     let c = chosen options.halvings (rounded_points options.decimals text.decimals) table.grid is.on.on in
     let listed : table.listed ≡ map (grid_point table.grid) (rounded_points options.decimals text.decimals) = ap (λ (t : NodeTable). t.listed) is.is in
     (c.0, subst (All IsOnGrid) (sym listed) (points_within table.grid (rounded_points options.decimals text.decimals) c.1))

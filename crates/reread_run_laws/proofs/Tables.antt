@@ -50,7 +50,7 @@ some_listed table added folded apart =
 module _ (options : Options) (text : NodeText) (bound : Bound) (settled : IsSettled tetgen_limits text (grid_options options) bound.table) where
   of_points : ¬ AreCoplanar bound.table.points → IsOfTable (mesh_of_points bound.table)
   of_points apart =
-      let within = settled_within text (grid_options options) bound.table settled in record {
+      let within = settled_within tetgen_limits text (grid_options options) bound.table settled in record {
         halvings = within.0;
         folded = settled.folded;
         points_are = sym (append-nil bound.table.points);
@@ -62,13 +62,13 @@ module _ (options : Options) (text : NodeText) (bound : Bound) (settled : IsSett
   -- the kept points lie on the grid as the listed ones do
   kept_within : All IsOnGrid bound.table.points
   kept_within i d lt =
-      let within = settled_within text (grid_options options) bound.table settled in
+      let within = settled_within tetgen_limits text (grid_options options) bound.table settled in
       let at = kept_at bound.table.listed bound.table.points bound.table.names bound.table.folded settled.folded i lt in
       subst IsOnGrid (sym (get_or_default bound.table.points i d origin lt ∙ at.1)) (within.1 (slice_index bound.table.names i) origin at.0)
 
   of_complex : (made : ComplexMesh) → IsComplexMesh (mesh_options options bound.table) bound.table.points bound.complex made → IsOfTable (mesh_of_complex bound made)
   of_complex made m =
-      let within = settled_within text (grid_options options) bound.table settled in
+      let within = settled_within tetgen_limits text (grid_options options) bound.table settled in
       let g = grown bound.table.grid.halvings options.budget bound.table.points made.points (pieces bound.table.points m.segs) m.rest kept_within m.protected.ends in
       let more : drop (length bound.table.points) made.points ≡ g.more = ap (λ (xs : List Point). drop (length bound.table.points) xs) g.is ∙ drop-append_seam bound.table.points g.more in
       let count : length made.points - length bound.table.points ≡ length (drop (length bound.table.points) made.points) = sym (length-drop (length bound.table.points) made.points) in record {
