@@ -6,8 +6,8 @@ use soup_files::{is_binary_stl, read_binary_stl};
 use std::alloc::Global;
 use std::test::Fail;
 use tet_ports::{Bytes, NoMemory};
-use tet_text::TextFault;
 use tet_text::TextKind::{Ended, Extra, NotANumber};
+use tet_text::{TextFault, TextKind};
 
 /// The bits of a float, and its decimal.
 const FLOATS: [(u32, Option<(i128, u32)>); 13] = [
@@ -83,28 +83,30 @@ fn a_binary_surface_is_read(rt: HostRuntime) -> Result<(), Fail> {
     Ok(())
 }
 
+/// The two facets with so many bytes: one more, or the first of them.
+fn of_length(alloc: Global, length: usize) -> Result<Bytes, NoMemory> {
+    let mut bytes = two_facets(alloc, TENTH)?;
+    if length > bytes.len() {
+        bytes.push(0)?;
+    } else {
+        bytes.cut(length);
+    }
+    Ok(bytes)
+}
+
+/// Whether the first fault is this one.
+fn has_fault(alloc: Global, bytes: &Bytes, line: usize, kind: TextKind) -> bool {
+    read(alloc, bytes).err() == Some(PlcFault::Text(TextFault { line, kind }))
+}
+
 #[test]
 fn faults_of_binary_surfaces_are_told(rt: HostRuntime) -> Result<(), Fail> {
-    let mut bytes = two_facets(rt.alloc(), TENTH)?;
-    bytes.push(0)?;
-    assert!(rt; !is_binary_stl(&bytes));
-    let extra = TextFault {
-        line: 3,
-        kind: Extra,
-    };
-    assert!(rt; read(rt.alloc(), &bytes).err() == Some(PlcFault::Text(extra)));
-    bytes.drop_last();
-    bytes.drop_last();
-    let ended = TextFault {
-        line: 2,
-        kind: Ended,
-    };
-    assert!(rt; read(rt.alloc(), &bytes).err() == Some(PlcFault::Text(ended)));
-    let infinite = two_facets(rt.alloc(), 0x7F80_0000)?;
-    let fault = TextFault {
-        line: 2,
-        kind: NotANumber,
-    };
-    assert!(rt; read(rt.alloc(), &infinite).err() == Some(PlcFault::Text(fault)));
+    let alloc = rt.alloc();
+    let longer = of_length(alloc, 185)?;
+    assert!(rt; !is_binary_stl(&longer) && has_fault(alloc, &longer, 3, Extra));
+    let shorter = of_length(alloc, 183)?;
+    assert!(rt; has_fault(alloc, &shorter, 2, Ended));
+    let infinite = two_facets(alloc, 0x7F80_0000)?;
+    assert!(rt; has_fault(alloc, &infinite, 2, NotANumber));
     Ok(())
 }
