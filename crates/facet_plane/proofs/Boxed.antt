@@ -138,7 +138,7 @@ over_above a c b d (inr h) e = go (a *ℤ c) (b *ℤ d) (other_above b d a c h (
     go : (m n : ℤ) → pos 0 ≤ℤ m → pos 0 <ℤ n → pos 0 <ℤ (m +ℤ n)
     go m n h k = omega (arith, ints)
 
-not_true : (b : Bool) → (b ≡ true → ⊥) → b ≡ false
+pub not_true : (b : Bool) → (b ≡ true → ⊥) → b ≡ false
 not_true true h = absurd (h refl)
 not_true false h = refl
 
@@ -222,13 +222,13 @@ of_mirrored_above z m e h = omega (arith, ints)
 above_neg : (z : ℤ) → z <ℤ pos 0 → pos 0 <ℤ neg_ℤ z
 above_neg z h = omega (arith, ints)
 
-not_above : (z : ℤ) → z <ℤ pos 0 → int_lt (pos 0) z ≡ false
+pub not_above : (z : ℤ) → z <ℤ pos 0 → int_lt (pos 0) z ≡ false
 not_above z h = not_true _ (λ e. go (above_test z e))
   where
     go : pos 0 <ℤ z → ⊥
     go k = omega (arith, ints)
 
-not_under : (z : ℤ) → pos 0 <ℤ z → int_lt z (pos 0) ≡ false
+pub not_under : (z : ℤ) → pos 0 <ℤ z → int_lt z (pos 0) ≡ false
 not_under z h = not_true _ (λ e. go (under_test z e))
   where
     go : z <ℤ pos 0 → ⊥
