@@ -1,15 +1,15 @@
 -- A list that was found in any way, and its rows across the faces.
 use Rattle.std.proofs.Common.{◌≡◌, ◌⊎◌, inl, inr, ℕ, ◌<◌, true, false, not, ◌&&◌, List, [], ◌∷◌, ◌++◌, length, map, refl, arith, eq-eqb}
-use Rattle.std.specs.Prelude.{◌==◌, filter, All, AllPairs, Contains}
+use Rattle.std.specs.Prelude.{◌==◌, filter, Contains}
 use Rattle.std.specs.List.{HoldsAt, slice_index_or}
 use Rattle.std.specs.Ordering.{nat_cmp, ordering_then, MatchOrdering}
 use Rattle.std.specs.declared.cmp.Ordering.{Ordering}
 use Rattle.std.specs.declared.cmp.Ordering.TheVariants.{Less, Equal, Greater}
 use Rattle.std.proofs.lemmas.Cmp.{ranked}
-use Rattle.std.proofs.lemmas.List.Elements.{Contains-get_or, Contains-push_cases}
+use Rattle.std.proofs.lemmas.List.Elements.{Contains-push_cases}
 use Rattle.sign_predicates.specs.Point.{Point}
 use Rattle.sign_predicates.specs.Orientation.{IsPositive}
-use Rattle.geo_laws.specs.Delaunay.{corners, numbers, IsDelaunay, IsDelaunayList}
+use Rattle.geo_laws.specs.Delaunay.{corners, numbers, IsDelaunay}
 use Rattle.geo_laws.specs.Simplex.{has_number}
 use Rattle.geo_laws.specs.Faces.{row_faces}
 use Rattle.geo_laws.specs.Mesh.{IsOutsideOf, IsLocallyDelaunay}
@@ -21,12 +21,12 @@ use Rattle.geo_laws.proofs.Members.{at_place, contains_of, member_of, filter_cas
 use Rattle.crossing_laws.proofs.Tests.{both, all_at, decided}
 use Rattle.crossing_laws.proofs.Faces.{eq_of}
 use Rattle.tangle_laws.specs.Tangle.{lies_on}
-use Rattle.tangle_laws.specs.Growth.{ShareNoSide, IsSmooth, triangle_face}
+use Rattle.tangle_laws.specs.Growth.{ShareNoSide, triangle_face}
 use Rattle.tangle_laws.proofs.Apart.{fails_true}
-use Rattle.tangle_laws.proofs.Sides.{share_back, side_of_face}
+use Rattle.tangle_laws.proofs.Sides.{side_of_face}
 use Rattle.tangle_laws.proofs.Sorted.{row_face}
 use Rattle.tangle_fill.specs.Fill.{oriented}
-use Rattle.tangle_fill.specs.Accept.{AreTriangleFaces, IsEven, IsEvenAcross, IsEvenRow, IsSettled}
+use Rattle.tangle_fill.specs.Accept.{AreTriangleFaces, IsEven, IsEvenAcross, IsEvenRow}
 use Rattle.tangle_fill.proofs.Joined.{is_not, triangle_found}
 use Rattle.tangle_fill.proofs.Smoothed.{not_both}
 
@@ -82,12 +82,16 @@ more_faces ts faces k i l is before face m = go (Contains-push_cases faces (tria
 -- ---- rows that are locally Delaunay
 
 -- two Delaunay rows are
-outside_row : (ps : List Point) (s t : Tet) → IsDelaunay ps s → IsDelaunay ps t → IsOutsideOf ps s t
+pub outside_row : (ps : List Point) (s t : Tet) → IsDelaunay ps s → IsDelaunay ps t → IsOutsideOf ps s t
 outside_row ps s t ds dt k d l =
     let others = filter (λ i. not (has_number (numbers s) i)) (numbers t) in
     let i = slice_index_or others k d in
     let m = filter_cases (λ i. not (has_number (numbers s) i)) i (numbers t) (at_place others k d l) in
     ds.others i (dt.is_on i (contains_of (numbers t) i m.0)) (λ c. fails_true (has_number (numbers s) i) (is_not (has_number (numbers s) i) m.1) (any_true (λ j. j == i) (numbers s) i (member_of (numbers s) i c) (eq-eqb i i refl)))
+
+-- a row with the face lies on one of its sides
+pub on_sides : (ps : List Point) (t : Tet) (face : Face) → IsPositive (corners ps t) → Contains (row_faces t) face → (lies_on (oriented face) t ≡ true) ⊎ (lies_on (reversed (oriented face)) t ≡ true)
+on_sides ps t face p c = side_of_face (oriented face) t (row_face ps t p face (member_of (row_faces t) face c)).has
 
 -- a row that is so with each across its face, and another row with the face
 with_row : (ps : List Point) (rows : List Tet) (faces : List Face) (face : Face) (u v : Tet) → Contains rows v → ShareNoSide u v
@@ -102,30 +106,8 @@ with_row ps rows faces face u v cv apart (inr a) (inl b) e = by (decided (lies_o
     by (inl on) = absurd (not_both u v apart (oriented face) on b)
     by (inr off) = e.1 off v cv b
 
-settled_pair : (ps : List Point) (old rows : List Tet) (faces : List Face) (s t : Tet) → IsDelaunayList ps old → IsPositive (corners ps s) → IsPositive (corners ps t) → Contains rows s → Contains rows t → ShareNoSide s t
-    → (face : Face) → Contains (row_faces s) face → Contains (row_faces t) face → ¬ Contains faces face → IsSettled ps old faces rows s → IsSettled ps old faces rows t → IsLocallyDelaunay ps s t
-settled_pair ps old rows faces s t list ps_s ps_t cs ct apart face fs ft open_face = go
-  where
-    sides_s : (lies_on (oriented face) s ≡ true) ⊎ (lies_on (reversed (oriented face)) s ≡ true)
-    sides_s = side_of_face (oriented face) s (row_face ps s ps_s face (member_of (row_faces s) face fs)).has
-
-    sides_t : (lies_on (oriented face) t ≡ true) ⊎ (lies_on (reversed (oriented face)) t ≡ true)
-    sides_t = side_of_face (oriented face) t (row_face ps t ps_t face (member_of (row_faces t) face ft)).has
-
-    new_s : IsEvenRow ps faces rows s → IsLocallyDelaunay ps s t
-    new_s e = with_row ps rows faces face s t ct apart sides_s sides_t (all_at (IsEvenAcross ps faces rows s) face (row_faces s) e (member_of (row_faces s) face fs)) open_face
-
-    new_t : IsEvenRow ps faces rows t → IsLocallyDelaunay ps t s
-    new_t e = with_row ps rows faces face t s cs (share_back s t apart) sides_t sides_s (all_at (IsEvenAcross ps faces rows t) face (row_faces t) e (member_of (row_faces t) face ft)) open_face
-
-    go : IsSettled ps old faces rows s → IsSettled ps old faces rows t → IsLocallyDelaunay ps s t
-    go (inr e) h = new_s e
-    go (inl o) (inr e) = let both = new_t e in (both.1, both.0)
-    go (inl o) (inl p) = let ds = (list.exactly s).0 o in let dt = (list.exactly t).0 p in (outside_row ps s t ds dt, outside_row ps t s dt ds)
-
-pub settled_smooth : (ps : List Point) (ts : List FacetTriangle) (old rows : List Tet) (faces : List Face) → IsDelaunayList ps old → AreTriangleFaces ts faces → All (λ t. IsPositive (corners ps t)) rows → AllPairs ShareNoSide rows
-    → All (IsSettled ps old faces rows) rows → IsSmooth ps ts rows
-settled_smooth ps ts old rows faces list are positive one all i j d l k face fs ft none =
-    let i_in : i < length rows = omega arith in
-    settled_pair ps old rows faces (slice_index_or rows i d) (slice_index_or rows j d) list (positive i d i_in) (positive j d k) (Contains-get_or rows i d i_in) (Contains-get_or rows j d k) (one i j d l k) face fs ft
-    (λ c. none (are face c)) (all i d i_in) (all j d k)
+-- a row that is so with each across its faces, and one of these with a common face
+pub even_pair : (ps : List Point) (rows : List Tet) (faces : List Face) (s t : Tet) → IsPositive (corners ps s) → IsPositive (corners ps t) → ShareNoSide s t
+    → (face : Face) → Contains (row_faces s) face → Contains (row_faces t) face → ¬ Contains faces face → Contains rows t → IsEvenRow ps faces rows s → IsLocallyDelaunay ps s t
+even_pair ps rows faces s t ps_s ps_t apart face fs ft open_face ct e =
+    with_row ps rows faces face s t ct apart (on_sides ps s face ps_s fs) (on_sides ps t face ps_t ft) (all_at (IsEvenAcross ps faces rows s) face (row_faces s) e (member_of (row_faces s) face fs)) open_face

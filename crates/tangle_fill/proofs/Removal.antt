@@ -1,6 +1,6 @@
 -- The rows of a Delaunay list that are not among new ones, and its faces with no point beyond them.
 use Rattle.std.proofs.Common.{◌≡◌, ◌⊎◌, inl, inr, ℕ, ◌+◌, ◌<◌, ◌≤◌, pos, true, false, List, [], ◌∷◌, ◌++◌, length, sym, subst, arith}
-use Rattle.std.specs.Prelude.{◌<ℤ◌, All, Contains}
+use Rattle.std.specs.Prelude.{◌<ℤ◌, IsTrue, All, Any, Contains}
 use Rattle.std.specs.List.{AllWithin, HoldsAt}
 use Rattle.std.proofs.lemmas.List.Elements.{AllWithin-more, Contains-append_left, Contains-push, Contains-push_cases}
 use Rattle.sign_predicates.specs.Point.{Point}
@@ -22,11 +22,12 @@ use Rattle.tangle_laws.proofs.Sides.{same_alike}
 use Rattle.tangle_laws.proofs.Steps.{on_of_delaunay}
 use Rattle.tangle_fill.specs.Indexed.{IsIndexed}
 use Rattle.tangle_fill.specs.Removed.{IsWithin, IsRemoved, IsBareIn}
+use Rattle.tangle_fill.specs.Change.{IsRest}
 use Rattle.tangle_fill.specs.declared.growth.Growth.{Growth}
 
 -- ---- one row after another
 
--- so it is with the first i rows of the old list
+-- so it is with the first i rows of the list
 pub record IsRemovedBelow (old rows rest : List Tet) (i : ℕ) : Type 0 where
   pub within : IsWithin old rest
   pub others : AllWithin (λ t. Contains rows t ⊎ Contains rest t) old 0 i
@@ -60,15 +61,26 @@ take_removed old rows rest i row l h is = record {
     by t (inl c) = h.within t c
     by t (inr e) = subst (Contains old) e (i, l, is row)
 
-pub removed_of : (old rows : List Tet) (removed : Growth) (i : ℕ) → length old ≤ i → IsRemovedBelow old rows removed.rows i → IsIndexed removed → IsRemoved old rows removed
-removed_of old rows removed i l h indexed = record {
+pub rest_of : (old rows rest : List Tet) (i : ℕ) → length old ≤ i → IsRemovedBelow old rows rest i → IsRest old rows rest
+rest_of old rows rest i l h = record {
   within = h.within;
-  others = λ t c. subst (λ t. Contains rows t ⊎ Contains removed.rows t) c.2 (h.others c.0 t (omega arith) (below c.0 c.1));
-  indexed = indexed;
+  others = λ t c. subst (λ t. Contains rows t ⊎ Contains rest t) c.2 (h.others c.0 t (omega arith) (below c.0 c.1));
 }
   where
     below : (k : ℕ) → k < length old → k < i
     below k h = omega arith
+
+-- and found by their sides
+pub removed_of : (old rows rest : List Tet) (removed : Growth) → IsRest old rows rest → removed.rows ≡ rest → IsIndexed removed → IsRemoved old rows removed
+removed_of old rows rest removed h same indexed = record {
+  within = λ t c. h.within t (subst (λ (xs : List Tet). Contains xs t) same c);
+  others = λ t c. go t (h.others t c);
+  indexed = indexed;
+}
+  where
+    go : (t : Tet) → Contains rows t ⊎ Contains rest t → Contains rows t ⊎ Contains removed.rows t
+    go t (inl c) = inl c
+    go t (inr c) = inr (subst (λ (xs : List Tet). Contains xs t) (sym same) c)
 
 -- ---- rows of a Delaunay list
 
@@ -86,30 +98,34 @@ kept_of ps ts old rows removed parts crossed t c free = go (parts.others t c)
 
 -- ---- a face of an old row that no old row has turned over has no point beyond it
 
-none_of : (f : Face) (rows : List Tet) → All (λ t. lies_on f t ≡ false) rows → (s : Tet) → Contains rows s → lies_on f s ≡ true → ⊥
+pub none_of : (f : Face) (rows : List Tet) → All (λ t. lies_on f t ≡ false) rows → (s : Tet) → Contains rows s → lies_on f s ≡ true → ⊥
 none_of f rows none s c lies = fails_true (lies_on f s) (subst (λ u. lies_on f u ≡ false) c.2 (none c.0 s c.1)) lies
 
-pub none_beyond : (ps : List Point) (old rows : List Tet) (removed : Growth) (f : Face) → IsDelaunayList ps old → IsRemoved old rows removed → All (λ t. lies_on f t ≡ false) rows → IsBareIn old removed.rows f → HasPointOn ps f → ⊥
-none_beyond ps old rows removed f list parts none bare p =
-    let b = bare.behind in
+-- beyond a face of an old row, where points lie there, lies another one
+pub row_beyond : (ps : List Point) (old : List Tet) (f : Face) → IsDelaunayList ps old → Any (λ t. IsTrue (lies_on (reversed f) t)) old → HasPointOn ps f → (s : Tet) × Contains old s × (lies_on f s ≡ true)
+row_beyond ps old f list b p =
     let g = some_true (is_same (reversed f)) (faces_of b.1) b.4 in
     at b.1 ((list.exactly b.1).0 (b.0, b.2, b.3)) g.0 g.1 (opposite_back g.0 f (same_back (reversed f) g.0 (same_of (reversed f) g.0 g.2)))
   where
-    not_in : (s : Tet) → lies_on f s ≡ true → Contains rows s ⊎ Contains removed.rows s → ⊥
-    not_in s lies (inl c) = none_of f rows none s c lies
-    not_in s lies (inr c) = none_of f removed.rows bare.none s c lies
-
-    across : (g : Face) → Same f (reversed g) → (s : Tet) → IsDelaunay ps s → IsFaceOf ps (reversed g) s → ⊥
+    across : (g : Face) → Same f (reversed g) → (s : Tet) → IsDelaunay ps s → IsFaceOf ps (reversed g) s → (s : Tet) × Contains old s × (lies_on f s ≡ true)
     across g same s d face =
         let own = face_of_row ps s d.is_positive (reversed g) face in
-        not_in s (any_true (is_same f) (faces_of s) own.face own.member (same_test f own.face (same_alike (reversed g) f own.face (same_back f (reversed g) same) own.same))) (parts.others s ((list.exactly s).1 d))
+        (s, (list.exactly s).1 d, any_true (is_same f) (faces_of s) own.face own.member (same_test f own.face (same_alike (reversed g) f own.face (same_back f (reversed g) same) own.same)))
 
-    at : (u : Tet) → IsDelaunay ps u → (g : Face) → IsMember g (faces_of u) → Same f (reversed g) → ⊥
+    at : (u : Tet) → IsDelaunay ps u → (g : Face) → IsMember g (faces_of u) → Same f (reversed g) → (s : Tet) × Contains old s × (lies_on f s ≡ true)
     at u d g m same = go (law_face_pairing ps (all_numbers ps) (all_within ps) (reversed g) u d face)
       where
         face : IsFaceOf ps (reversed (reversed g)) u
         face = let place = at_place u g m in subst (λ (h : Face). IsFaceOf ps h u) (sym place.is) (own_is_face ps u d.is_positive place.place)
 
-        go : HasNoneBeyond ps (all_numbers ps) (reversed g) ⊎ ((s : Tet) × IsDelaunayAmong ps (all_numbers ps) s × IsFaceOf ps (reversed g) s) → ⊥
-        go (inl beyond) = beyond p.0 (contains_below (length ps) p.0 p.1) (subst (λ v. pos 0 <ℤ v) (side-same ps (point ps p.0) f (reversed g) same) p.2)
+        go : HasNoneBeyond ps (all_numbers ps) (reversed g) ⊎ ((s : Tet) × IsDelaunayAmong ps (all_numbers ps) s × IsFaceOf ps (reversed g) s) → (s : Tet) × Contains old s × (lies_on f s ≡ true)
+        go (inl beyond) = absurd (beyond p.0 (contains_below (length ps) p.0 p.1) (subst (λ v. pos 0 <ℤ v) (side-same ps (point ps p.0) f (reversed g) same) p.2))
         go (inr s) = across g same s.0 s.1 s.2
+
+-- so no point does, where none of the new and none of the removed rows lies there
+pub none_beyond : (ps : List Point) (old rows : List Tet) (removed : Growth) (f : Face) → IsDelaunayList ps old → IsRemoved old rows removed → ((s : Tet) → Contains rows s → lies_on f s ≡ true → ⊥) → IsBareIn old removed.rows f → HasPointOn ps f → ⊥
+none_beyond ps old rows removed f list parts none bare p = let s = row_beyond ps old f list bare.behind p in go s.0 s.2 (parts.others s.0 s.1)
+  where
+    go : (s : Tet) → lies_on f s ≡ true → Contains rows s ⊎ Contains removed.rows s → ⊥
+    go s lies (inl c) = none s c lies
+    go s lies (inr c) = none_of f removed.rows bare.none s c lies

@@ -1,5 +1,5 @@
 -- What is asked of each row of a list that was found in any way, and of the list indexed by the sides of its faces.
-use Rattle.std.specs.Prelude.{◌≡◌, ◌⊎◌, false, IsTrue, List, map, All, AllPairs, Any, Contains}
+use Rattle.std.specs.Prelude.{◌≡◌, false, IsTrue, List, map, All, AllPairs, Any, Contains}
 use Rattle.std.specs.List.{AllByRecursion}
 use Rattle.sign_predicates.specs.Point.{Point}
 use Rattle.sign_predicates.specs.Orientation.{IsPositive}
@@ -24,12 +24,6 @@ IsRow ps t = IsOn ps t × IsPositive (corners ps t) × IsArranged t
 -- each row is so
 abbrev pub AreRows : List Point → List Tet → Type 0
 AreRows ps rows = All (IsRow ps) rows
-
--- these rows, found by the sides on which they lie, no two of them on one side of a face
-pub record IsIndexOf (rows : List Tet) (g : Growth) : Type 0 where
-  pub same : g.rows ≡ rows
-  pub one_a_side : AllPairs ShareNoSide g.rows
-  pub indexed : IsIndexed g
 
 -- rows that are so, found by the sides on which they lie, no two of them on one side of a face
 pub record IsPairedGrowth (ps : List Point) (g : Growth) : Type 0 where
@@ -62,7 +56,3 @@ IsEvenAcross ps faces rows row face =
 -- so it is with each face of the row
 abbrev pub IsEvenRow : List Point → List Face → List Tet → Tet → Type 0
 IsEvenRow ps faces rows row = AllByRecursion (IsEvenAcross ps faces rows row) (row_faces row)
-
--- the row is in the old list, or so it is with each face of it
-abbrev pub IsSettled : List Point → List Tet → List Face → List Tet → Tet → Type 0
-IsSettled ps old faces rows row = Contains old row ⊎ IsEvenRow ps faces rows row

@@ -1,19 +1,18 @@
 //! Whether a list of tetrahedra, found in any way, is the Delaunay list refilled round the facets.
-ghost use Rattle.std.specs.Prelude.{◌^◌, ◌-◌, ◌<◌, ◌≡◌, false, length, IsTrue, IfOk, IfSome, All, AllPairs, Contains};
-ghost use Rattle.std.specs.List.{AllByRecursion};
+ghost use Rattle.std.specs.Prelude.{◌^◌, ◌-◌, ◌<◌, length, IsTrue, IfOk, IfSome, All, AllPairs, Contains};
 ghost use Rattle.sign_predicates.specs.Orientation.{IsPositive};
 ghost use Rattle.geo_laws.specs.Delaunay.{corners, IsOn, IsDelaunayList, RowBefore};
 ghost use Rattle.geo_laws.specs.OrientedFace.{reversed};
 ghost use Rattle.geo_laws.specs.declared.tetrahedra.Tet.{Tet};
-ghost use Rattle.crossing_laws.specs.Crossing.{faces_of};
 ghost use Rattle.tangle_laws.specs.Tangle.{IsUncrossed, lies_on};
-ghost use Rattle.tangle_laws.specs.Growth.{IsFilled, IsAlone, IsSmooth, IsRefilled};
+ghost use Rattle.tangle_laws.specs.Growth.{IsAlone, IsSmooth, IsRefilled};
 ghost use Rattle.tangle_fill.specs.Fill.{oriented, IsFaceOn, AreFacetTriangles};
 ghost use Rattle.tangle_fill.specs.Indexed.{IsIndexed};
-ghost use Rattle.tangle_fill.specs.Removed.{IsWithin, IsRemoved, IsBareIn};
-ghost use Rattle.tangle_fill.specs.Accept.{IsRow, AreRows, IsIndexOf, IsPairedGrowth, HasTriangle, AreTriangleFaces, IsEven, IsEvenTo, IsEvenAcross, IsEvenRow, IsSettled};
+ghost use Rattle.tangle_fill.specs.Removed.{IsWithin, IsBareIn};
+ghost use Rattle.tangle_fill.specs.Accept.{IsPairedGrowth, HasTriangle, AreTriangleFaces, IsEven, IsEvenTo, IsEvenAcross, IsEvenRow};
+ghost use Rattle.tangle_fill.specs.Change.{IsChange, IsFilledNear, IsClosedNear};
 
-use crate::admit::is_row;
+use crate::change::{Change, change_of, is_marked_face};
 use crate::crossed::uncrossed_near;
 use crate::growth::Growth;
 use crate::search::has_point_on;
@@ -23,55 +22,6 @@ use box_tree::triangle_tree;
 use geo_laws::{Face, FacetTriangle, FacetTriangles, Points, Tet, TetList, face_of};
 use std::alloc::Global;
 use tet_ports::{Items, NoMemory};
-
-/// Whether the corners are points of the list.
-fn is_on(points: &Points, row: Tet) -> bool
-    ensures { IsTrue result → IsOn points.now row }
-{
-    let count = points.len();
-    (row.a as usize) < count
-        && (row.b as usize) < count
-        && (row.c as usize) < count
-        && (row.d as usize) < count
-}
-
-/// Whether the row is positive, on the points and in the least even arrangement.
-fn is_any_row(points: &Points, row: Tet) -> bool
-    ensures { IsTrue result → IsRow points.now row }
-{
-    if is_on(points, row) {
-        is_row(points, row)
-    } else {
-        false
-    }
-}
-
-/// Whether each row is.
-fn are_rows(points: &Points, rows: &TetList) -> bool
-    ensures { IsTrue result → AreRows points.now rows.now }
-{
-    for i in 0..rows.len() {
-        if !is_any_row(points, rows.at(i)) {
-            return false;
-        }
-    }
-    true
-}
-
-/// The rows by the sides of faces on which they lie; None where two lie on one side.
-fn index_of(alloc: Global, rows: &TetList) -> Result<Option<Growth>, NoMemory>
-    ensures { IfOk result (λ found. IfSome found (IsIndexOf rows.now)) }
-{
-    let mut growth = Growth::new(alloc);
-    for i in 0..rows.len() {
-        let row = rows.at(i);
-        if let Some(_) = growth.rival(row) {
-            return Ok(None);
-        }
-        growth.put(row)?;
-    }
-    Ok(Some(growth))
-}
 
 /// Whether the row is found in the list, which is in order.
 fn holds_row(list: &TetList, row: Tet) -> bool
@@ -101,66 +51,51 @@ fn is_bare_side(list: &TetList, removed: &Growth, row: Tet, f: Face) -> bool
 /// Whether a row lies on the face's positive side, or no point does. The row lies on its other
 /// side. Beyond most such faces no point lies because they were faces of the hull before; all
 /// points are looked at where that does not tell.
-fn is_filled(
-    points: &Points,
-    list: &TetList,
-    removed: &Growth,
-    growth: &Growth,
-    row: Tet,
-    f: Face,
-) -> bool
+fn is_filled(points: &Points, list: &TetList, change: &Change, row: Tet, f: Face) -> bool
     requires few { length points.now < 2 ^ 32 - 1 }
     requires delaunay { IsDelaunayList points.now list.now }
     requires face { IsFaceOn points.now f }
     requires row { IsTrue (lies_on (reversed (oriented f)) row) }
-    requires indexed { IsIndexed growth.now }
-    requires parts { IsRemoved list.now growth.now.rows removed.now }
-    ensures { IsTrue result → IsFilled points.now growth.now.rows (oriented f) }
+    requires change { IsChange points.now list.now change.now }
+    ensures { IsTrue result → IsFilledNear points.now change.now (oriented f) }
 {
-    if let Some(_) = growth.row_on(f) {
+    if !is_marked_face(&change.marks, f) {
         return true;
     }
-    if is_bare_side(list, removed, row, f) {
+    if let Some(_) = change.near.row_on(f) {
+        return true;
+    }
+    if is_bare_side(list, &change.removed, row, f) {
         return true;
     }
     !has_point_on(points, f)
 }
 
-/// Whether across each face of the row lies a row, or no point.
-fn is_closed(points: &Points, list: &TetList, removed: &Growth, growth: &Growth, row: Tet) -> bool
+/// Whether across each marked face of the row lies a row, or no point.
+fn is_closed(points: &Points, list: &TetList, change: &Change, row: Tet) -> bool
     requires few { length points.now < 2 ^ 32 - 1 }
     requires delaunay { IsDelaunayList points.now list.now }
     requires on { IsOn points.now row }
-    requires indexed { IsIndexed growth.now }
-    requires parts { IsRemoved list.now growth.now.rows removed.now }
-    ensures { IsTrue result → AllByRecursion
-        (λ f. IsFilled points.now growth.now.rows (reversed f)) (faces_of row) }
+    requires change { IsChange points.now list.now change.now }
+    ensures { IsTrue result → IsClosedNear points.now change.now row }
 {
     let Tet { a, b, c, d } = row;
-    is_filled(
-        points,
-        list,
-        removed,
-        growth,
-        row,
-        Face { a: b, b: c, c: d },
-    ) && is_filled(points, list, removed, growth, row, Face { a, b: d, c })
-        && is_filled(points, list, removed, growth, row, Face { a, b, c: d })
-        && is_filled(points, list, removed, growth, row, Face { a, b: c, c: b })
+    is_filled(points, list, change, row, Face { a: b, b: c, c: d })
+        && is_filled(points, list, change, row, Face { a, b: d, c })
+        && is_filled(points, list, change, row, Face { a, b, c: d })
+        && is_filled(points, list, change, row, Face { a, b: c, c: b })
 }
 
-/// Whether so it is with each row.
-fn are_closed(points: &Points, list: &TetList, removed: &Growth, growth: &Growth) -> bool
+/// Whether so it is with each row that is near.
+fn are_closed(points: &Points, list: &TetList, change: &Change) -> bool
     requires few { length points.now < 2 ^ 32 - 1 }
     requires delaunay { IsDelaunayList points.now list.now }
-    requires rows { AreRows points.now growth.now.rows }
-    requires indexed { IsIndexed growth.now }
-    requires parts { IsRemoved list.now growth.now.rows removed.now }
-    ensures { IsTrue result → All (λ t. AllByRecursion
-        (λ f. IsFilled points.now growth.now.rows (reversed f)) (faces_of t)) growth.now.rows }
+    requires change { IsChange points.now list.now change.now }
+    ensures { IsTrue result → All (IsClosedNear points.now change.now) change.now.near.rows }
 {
-    for i in 0..growth.rows.len() {
-        if !is_closed(points, list, removed, growth, growth.rows.at(i)) {
+    let near = &change.near.rows;
+    for i in 0..near.len() {
+        if !is_closed(points, list, change, near.at(i)) {
             return false;
         }
     }
@@ -193,30 +128,6 @@ fn has_triangles(growth: &Growth, triangles: &FacetTriangles) -> bool
         }
     }
     true
-}
-
-/// Whether the row is not among the rows.
-fn lacks_row(growth: &Growth, row: Tet) -> bool
-    requires { IsIndexed growth.now }
-    ensures { result ≡ false → Contains growth.now.rows row }
-{
-    let Tet { a, b, c, .. } = row;
-    growth.row_on(Face { a, b, c }) != Some(row)
-}
-
-/// The rows of the Delaunay list that are not among the rows.
-fn removed_rows(alloc: Global, list: &TetList, growth: &Growth) -> Result<Growth, NoMemory>
-    requires { IsIndexed growth.now }
-    ensures { IfOk result (IsRemoved list.now growth.now.rows) }
-{
-    let mut removed = Growth::new(alloc);
-    for i in 0..list.len() {
-        let row = list.at(i);
-        if lacks_row(growth, row) {
-            removed.put(row)?;
-        }
-    }
-    Ok(removed)
 }
 
 /// Whether facets cross each of the positive rows.
@@ -336,54 +247,14 @@ fn is_even_row(points: &Points, faces: &Items<Face>, growth: &Growth, row: Tet) 
         && are_even_at(points, faces, growth, row, opposite_c, opposite_d)
 }
 
-/// The first place from this one on at which the row of the list does not stand before the row.
-fn place_from(list: &TetList, from: usize, row: Tet) -> usize {
-    for k in from..list.len() {
-        if list.at(k) >= row {
-            return k;
-        }
-    }
-    list.len()
-}
-
-/// Whether the row stands at the place in the list.
-fn is_at(list: &TetList, place: usize, row: Tet) -> bool
-    ensures { IsTrue result → Contains list.now row }
-{
-    if place >= list.len() {
-        return false;
-    }
-    list.at(place) == row
-}
-
-/// Whether the row stands at the place in the list, or so it is with each face of it.
-fn is_settled(
-    points: &Points,
-    list: &TetList,
-    faces: &Items<Face>,
-    growth: &Growth,
-    row: Tet,
-    place: usize,
-) -> bool
+/// Whether so it is with each of these rows.
+fn are_even(points: &Points, faces: &Items<Face>, growth: &Growth, rows: &TetList) -> bool
     requires paired { IsPairedGrowth points.now growth.now }
-    requires row { Contains growth.now.rows row }
-    ensures { IsTrue result → IsSettled points.now list.now faces.now growth.now.rows row }
+    requires rows { IsWithin growth.now.rows rows.now }
+    ensures { IsTrue result → All (IsEvenRow points.now faces.now growth.now.rows) rows.now }
 {
-    is_at(list, place, row) || is_even_row(points, faces, growth, row)
-}
-
-/// Whether so it is with each row. Both the rows and the list are in order, so one walk along both
-/// finds the rows that are in the list.
-fn are_settled(points: &Points, list: &TetList, faces: &Items<Face>, growth: &Growth) -> bool
-    requires { IsPairedGrowth points.now growth.now }
-    ensures { IsTrue result
-        → All (IsSettled points.now list.now faces.now growth.now.rows) growth.now.rows }
-{
-    let mut place = 0;
-    for j in 0..growth.rows.len() {
-        let row = growth.rows.at(j);
-        place = place_from(list, place, row);
-        if !is_settled(points, list, faces, growth, row, place) {
+    for j in 0..rows.len() {
+        if !is_even_row(points, faces, growth, rows.at(j)) {
             return false;
         }
     }
@@ -397,81 +268,88 @@ fn are_smooth(
     points: &Points,
     list: &TetList,
     triangles: &FacetTriangles,
-    growth: &Growth,
+    change: &Change,
 ) -> Result<bool, NoMemory>
     requires delaunay { IsDelaunayList points.now list.now }
-    requires paired { IsPairedGrowth points.now growth.now }
+    requires change { IsChange points.now list.now change.now }
+    requires ascending { AllPairs RowBefore change.now.rows }
     ensures { IfOk result (λ smooth. IsTrue smooth
-        → IsSmooth points.now triangles.now growth.now.rows) }
+        → IsSmooth points.now triangles.now change.now.rows) }
 {
     let faces = triangle_faces(alloc, triangles)?;
-    Ok(are_settled(points, list, &faces, growth))
+    Ok(are_even(points, &faces, &change.near, &change.added))
+}
+
+/// Whether no other one of the rows holds the nudged centroid of the row.
+fn is_alone_among(points: &Points, rows: &TetList, row: Tet) -> bool
+    requires on { All (IsOn points.now) rows.now }
+    requires row { IsOn points.now row }
+    ensures { IsTrue result → IsAlone points.now rows.now row }
+{
+    other_round(points, rows, row).is_none()
+}
+
+/// Whether the row alone holds its nudged centroid. Two rows of the Delaunay list never hold the
+/// same.
+fn is_alone(points: &Points, list: &TetList, change: &Change, row: Tet) -> bool
+    requires delaunay { IsDelaunayList points.now list.now }
+    requires change { IsChange points.now list.now change.now }
+    requires row { Contains change.now.rows row }
+    ensures { IsTrue result → IsAlone points.now change.now.rows row }
+{
+    if holds_row(list, row) {
+        is_alone_among(points, &change.added, row)
+    } else {
+        is_alone_among(points, &change.rows, row)
+    }
 }
 
 /// Whether there is a row, and the first one alone holds its nudged centroid.
-fn is_single(points: &Points, rows: &TetList) -> bool
-    requires { All (IsOn points.now) rows.now }
-    ensures { IsTrue result → (t : Tet) × Contains rows.now t × IsAlone points.now rows.now t }
+fn is_single(points: &Points, list: &TetList, change: &Change) -> bool
+    requires delaunay { IsDelaunayList points.now list.now }
+    requires change { IsChange points.now list.now change.now }
+    ensures { IsTrue result
+        → (t : Tet) × Contains change.now.rows t × IsAlone points.now change.now.rows t }
 {
+    let rows = &change.rows;
     if rows.is_empty() {
         return false;
     }
-    other_round(points, rows, rows.at(0)).is_none()
+    is_alone(points, list, change, rows.at(0))
 }
 
-/// Whether the rows are all that a refilled list is to be, where these are removed.
-fn is_refilled_without(
-    alloc: Global,
-    points: &Points,
-    list: &TetList,
-    removed: &Growth,
-    triangles: &FacetTriangles,
-    growth: &Growth,
-) -> Result<bool, NoMemory>
-    requires few { length points.now < 2 ^ 32 - 1 }
-    requires facets { AreFacetTriangles points.now triangles.now }
-    requires delaunay { IsDelaunayList points.now list.now }
-    requires paired { IsPairedGrowth points.now growth.now }
-    requires ascending { AllPairs RowBefore growth.now.rows }
-    requires parts { IsRemoved list.now growth.now.rows removed.now }
-    ensures { IfOk result (λ refilled. IsTrue refilled
-        → IsRefilled points.now triangles.now list.now growth.now.rows) }
-{
-    if !is_single(points, &growth.rows) {
-        return Ok(false);
-    }
-    if !has_triangles(growth, triangles) {
-        return Ok(false);
-    }
-    if !are_closed(points, list, removed, growth) {
-        return Ok(false);
-    }
-    let crossed = are_crossed(alloc, points, &removed.rows, triangles)?;
-    if !crossed {
-        return Ok(false);
-    }
-    let smooth = are_smooth(alloc, points, list, triangles, growth)?;
-    Ok(smooth)
-}
-
-/// Whether the rows are all that a refilled list is to be.
+/// Whether the rows are all that a refilled list is to be. How they were found does not matter:
+/// what changed is looked at row by row and across its faces.
 fn is_refilled(
     alloc: Global,
     points: &Points,
     list: &TetList,
     triangles: &FacetTriangles,
-    growth: &Growth,
+    change: &Change,
 ) -> Result<bool, NoMemory>
     requires few { length points.now < 2 ^ 32 - 1 }
     requires facets { AreFacetTriangles points.now triangles.now }
     requires delaunay { IsDelaunayList points.now list.now }
-    requires paired { IsPairedGrowth points.now growth.now }
-    requires ascending { AllPairs RowBefore growth.now.rows }
+    requires change { IsChange points.now list.now change.now }
+    requires ascending { AllPairs RowBefore change.now.rows }
     ensures { IfOk result (λ refilled. IsTrue refilled
-        → IsRefilled points.now triangles.now list.now growth.now.rows) }
+        → IsRefilled points.now triangles.now list.now change.now.rows) }
 {
-    let removed = removed_rows(alloc, list, growth)?;
-    is_refilled_without(alloc, points, list, &removed, triangles, growth)
+    if !is_single(points, list, change) {
+        return Ok(false);
+    }
+    if !has_triangles(&change.near, triangles) {
+        return Ok(false);
+    }
+    if !are_closed(points, list, change) {
+        return Ok(false);
+    }
+    let crossed = are_crossed(alloc, points, &change.removed.rows, triangles)?;
+    if !crossed {
+        return Ok(false);
+    }
+    let smooth = are_smooth(alloc, points, list, triangles, change)?;
+    Ok(smooth)
 }
 
 /// The candidate in order, where it is the Delaunay list refilled round the facets; None where the
@@ -490,14 +368,11 @@ pub fn accepted(
     ensures { IfOk result (λ found. IfSome found (IsRefilled points.now triangles.now list.now)) }
 {
     candidate.keep_distinct();
-    if !are_rows(points, &candidate) {
-        return Ok(None);
-    }
-    let Some(growth) = index_of(alloc, &candidate)? else {
+    let Some(change) = change_of(alloc, points, list, triangles, candidate)? else {
         return Ok(None);
     };
-    if is_refilled(alloc, points, list, triangles, &growth)? {
-        Ok(Some(candidate))
+    if is_refilled(alloc, points, list, triangles, &change)? {
+        Ok(Some(change.rows))
     } else {
         Ok(None)
     }

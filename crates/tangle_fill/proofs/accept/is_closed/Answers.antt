@@ -1,7 +1,7 @@
 use Rattle.std.proofs.Common.{◌≡◌, true, sym, ◌∙◌, arith}
 use Rattle.geo_laws.specs.OrientedFace.{Face}
 use Rattle.geo_laws.proofs.Members.{here, there}
-use Rattle.tangle_laws.specs.Growth.{IsFilled}
+use Rattle.tangle_fill.specs.Change.{IsFilledNear}
 use Rattle.tangle_laws.proofs.Apart.{fails_true}
 use Rattle.tangle_laws.proofs.Sides.{on_own}
 use Rattle.tangle_fill.proofs.accept.is_closed.Goals.{then-is_filled, else-is_filled, then-is_filled-2, else-is_filled-2}
@@ -45,7 +45,7 @@ is_filled-requires-then-is_filled-3-clause-row c =
 pub returns-then-is_filled-3 : goal.returns-then-is_filled-3
 returns-then-is_filled-3 c h =
     let t = c.args.row in
-    let F : Face → Type 0 = IsFilled c.args.points.now c.args.growth.now.rows in
+    let F : Face → Type 0 = IsFilledNear c.args.points.now c.args.change.now in
     let A : Type 0 = F (record { a = t.b; b = t.c; c = t.d }) in
     let B : Type 0 = F (record { a = t.a; b = t.d; c = t.c }) in
     let C : Type 0 = F (record { a = t.a; b = t.b; c = t.d }) in

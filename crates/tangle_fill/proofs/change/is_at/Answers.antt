@@ -1,6 +1,6 @@
 use Rattle.std.proofs.Common.{◌<◌, length, sym, ◌∙◌, arith}
 use Rattle.tangle_fill.proofs.Candidates.{same_rows}
-use Rattle.tangle_fill.proofs.accept.is_at.Goals as goal
+use Rattle.tangle_fill.proofs.change.is_at.Goals as goal
 
 pub returns : goal.returns
 returns c h =

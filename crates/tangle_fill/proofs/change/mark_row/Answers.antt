@@ -1,0 +1,13 @@
+use Rattle.tangle_fill.proofs.change.mark_row.Goals as goal
+
+pub returns-clause-marked : goal.returns-clause-marked
+returns-clause-marked c =
+    let b = c.in_ok-mark-2.ensures.kept in
+    let p = c.in_ok-mark-3.ensures.kept in
+    let q = c.in_ok-mark-4.ensures.kept in
+    record {
+      a = q _ (p _ (b _ c.in_ok-mark.ensures.marked));
+      b = q _ (p _ c.in_ok-mark-2.ensures.marked);
+      c = q _ c.in_ok-mark-3.ensures.marked;
+      d = c.in_ok-mark-4.ensures.marked;
+    }

@@ -1,0 +1,72 @@
+-- What a list that was found in any way changes of an old one, the points that are corners of what changed, and the rows of it that have a
+-- face among these points: beside any other face stand two old rows, or a face of the hull.
+use Rattle.std.specs.Prelude.{◌⊎◌, ℕ, Bool, false, IsTrue, List, All, AllPairs, Contains}
+use Rattle.std.specs.List.{AllByRecursion, slice_index_or}
+use Rattle.sign_predicates.specs.Point.{Point}
+use Rattle.geo_laws.specs.OrientedFace.{Face, reversed}
+use Rattle.geo_laws.specs.declared.tetrahedra.Tet.{Tet}
+use Rattle.crossing_laws.specs.Crossing.{faces_of}
+use Rattle.tangle_laws.specs.Tangle.{lies_on}
+use Rattle.tangle_laws.specs.Growth.{ShareNoSide, IsFilled}
+use Rattle.tangle_fill.specs.Accept.{AreRows}
+use Rattle.tangle_fill.specs.Indexed.{IsIndexed}
+use Rattle.tangle_fill.specs.Removed.{IsWithin, IsRemoved}
+use Rattle.tangle_fill.specs.declared.change.Change.{Change}
+use Rattle.tangle_fill.specs.declared.growth.Growth.{Growth}
+
+-- the rows of the list that are not in the other one
+pub record IsRest (list other rest : List Tet) : Type 0 where
+  pub within : IsWithin list rest
+  pub others : (t : Tet) → Contains list t → Contains other t ⊎ Contains rest t
+
+-- ---- marks at points
+
+abbrev pub is_marked : List Bool → ℕ → Bool
+is_marked marks i = slice_index_or marks i false
+
+-- what was marked still is
+abbrev pub KeepsMarks : List Bool → List Bool → Type 0
+KeepsMarks old new = (i : ℕ) → IsTrue (is_marked old i) → IsTrue (is_marked new i)
+
+-- all corners of the row are marked
+pub record IsMarkedRow (marks : List Bool) (t : Tet) : Type 0 where
+  pub a : IsTrue (is_marked marks t.a)
+  pub b : IsTrue (is_marked marks t.b)
+  pub c : IsTrue (is_marked marks t.c)
+  pub d : IsTrue (is_marked marks t.d)
+
+-- all corners of the face are
+pub record IsMarkedFace (marks : List Bool) (f : Face) : Type 0 where
+  pub a : IsTrue (is_marked marks f.a)
+  pub b : IsTrue (is_marked marks f.b)
+  pub c : IsTrue (is_marked marks f.c)
+
+-- no face of the row is
+abbrev pub HasNoMarkedFace : List Bool → Tet → Type 0
+HasNoMarkedFace marks t = (f : Face) → IsTrue (lies_on f t) → ¬ IsMarkedFace marks f
+
+-- ---- rows near what changed
+
+-- those of the rows that have a marked face, and maybe more, found by their sides; no two of them on one side of a face
+pub record IsNear (marks : List Bool) (rows : List Tet) (near : Growth) : Type 0 where
+  pub within : IsWithin rows near.rows
+  pub others : (t : Tet) → Contains rows t → Contains near.rows t ⊎ HasNoMarkedFace marks t
+  pub one_a_side : AllPairs ShareNoSide near.rows
+  pub indexed : IsIndexed near
+
+-- the rows that are not in the old list, those of the old list that are not among the rows, and the rows near both
+pub record IsChange (ps : List Point) (old : List Tet) (c : Change) : Type 0 where
+  pub added : IsRest c.rows old c.added
+  pub removed : IsRemoved old c.rows c.removed
+  pub added_rows : AreRows ps c.added
+  pub added_marked : All (IsMarkedRow c.marks.items) c.added
+  pub removed_marked : All (IsMarkedRow c.marks.items) c.removed.rows
+  pub near : IsNear c.marks.items c.rows c.near
+
+-- where the face is marked, a row lies on its positive side, or no point
+abbrev pub IsFilledNear : List Point → Change → Face → Type 0
+IsFilledNear ps c f = IsMarkedFace c.marks.items f → IsFilled ps c.rows f
+
+-- so it is beyond each face of the row
+abbrev pub IsClosedNear : List Point → Change → Tet → Type 0
+IsClosedNear ps c t = AllByRecursion (λ f. IsFilledNear ps c (reversed f)) (faces_of t)
