@@ -4,7 +4,7 @@ use crate::local::Local;
 use crate::missing::missing_triangles;
 use crate::sheets::{Sheets, Span, sheets_of};
 use crate::stop::{Stop, or_stop};
-use geo_laws::{Face, FacetTriangles, Points, TetList};
+use geo_laws::{Face, FacetTriangles, Points, Tet, TetList};
 use std::alloc::Global;
 use tet_ports::{Items, NoMemory};
 
@@ -32,14 +32,43 @@ fn put_all(alloc: Global, sheets: &Sheets, frame: &Frame, local: &mut Local) -> 
     Ok(())
 }
 
-/// Adds the rows that stand in the end to the list.
-fn collect(frame: &Frame, local: &Local, list: &mut TetList) -> Result<(), Stop> {
+/// The rows that stand in the end, in order.
+fn rows_of(alloc: Global, frame: &Frame, local: &Local) -> Result<TetList, Stop> {
+    let mut rows = TetList::new(alloc);
     for slot in local.slots.as_slice() {
         if slot.is_live {
-            list.push(or_stop(frame.row(&slot.corners))?)?;
+            rows.push(or_stop(frame.row(&slot.corners))?)?;
         }
     }
-    Ok(())
+    rows.keep_distinct();
+    Ok(rows)
+}
+
+/// Adds the rows from the place on that stand before this one, and answers the place of the next.
+fn add_before(rows: &TetList, from: usize, row: Tet, whole: &mut TetList) -> Result<usize, Stop> {
+    for i in from..rows.len() {
+        let next = rows.at(i);
+        if row < next {
+            return Ok(i);
+        }
+        whole.push(next)?;
+    }
+    Ok(rows.len())
+}
+
+/// The rows of both lists, which are in order, in order: so they need no sorting later.
+fn merged(alloc: Global, kept: &TetList, added: &TetList) -> Result<TetList, Stop> {
+    let mut whole = TetList::new(alloc);
+    let mut place = 0;
+    for i in 0..kept.len() {
+        let row = kept.at(i);
+        place = add_before(added, place, row, &mut whole)?;
+        whole.push(row)?;
+    }
+    for i in place..added.len() {
+        whole.push(added.at(i))?;
+    }
+    Ok(whole)
 }
 
 /// The rows that no facet crosses, and those that come from the others by flips.
@@ -55,13 +84,12 @@ fn flipped(
     let frame = frame_of(alloc, points.len(), &parted.crossed)?;
     let mut local = frame.slots_of(alloc, points, &parted.crossed)?;
     put_all(alloc, &sheets, &frame, &mut local)?;
-    let mut whole = parted.kept;
-    collect(&frame, &local, &mut whole)?;
-    Ok(whole)
+    let added = rows_of(alloc, &frame, &local)?;
+    merged(alloc, &parted.kept, &added)
 }
 
-/// A list with the faces of all facets in place of a Delaunay list, in no order, or `None` where
-/// the flips do not come to one. The facets are put in one after another: of those that cross
+/// A list with the faces of all facets in place of a Delaunay list, or `None` where the flips do
+/// not come to one. The facets are put in one after another: of those that cross
 /// rows, the points above the plane of the facet are lifted further and further, and the rows flip
 /// as two of them cease to be convex. Nothing is promised of the rows.
 /// Source: Shewchuk, Updating and Constructing Constrained Delaunay and Constrained Regular
