@@ -1,5 +1,5 @@
 -- A list that was found in any way, and its rows across the faces.
-use Rattle.std.proofs.Common.{◌≡◌, ◌⊎◌, inl, inr, ℕ, ◌<◌, true, false, not, ◌&&◌, List, [], ◌∷◌, ◌++◌, length, map, refl, arith, eq-eqb}
+use Rattle.std.proofs.Common.{◌≡◌, ◌⊎◌, inl, inr, ℕ, ◌<◌, true, false, not, ◌&&◌, List, [], ◌∷◌, ◌++◌, length, map, refl, eq-eqb}
 use Rattle.std.specs.Prelude.{◌==◌, filter, Contains}
 use Rattle.std.specs.List.{HoldsAt, slice_index_or}
 use Rattle.std.specs.Ordering.{nat_cmp, ordering_then, MatchOrdering}

@@ -1,6 +1,5 @@
 use Rattle.std.proofs.Common.{Bool, List, Option, sym, subst}
 use Rattle.std.specs.Prelude.{All, IfSome}
-use Rattle.geo_laws.specs.declared.tetrahedra.Tet.{Tet}
 use Rattle.tangle_fill.specs.Change.{IsMarkedRow, IsNear}
 use Rattle.tangle_fill.specs.declared.growth.Growth.{Growth}
 use Rattle.tangle_fill.proofs.Removal.{removed_of}
