@@ -318,8 +318,7 @@ fn is_single(points: &Points, list: &TetList, change: &Change) -> bool
     is_alone(points, list, change, rows.at(0))
 }
 
-/// Whether the rows are all that a refilled list is to be. How they were found does not matter:
-/// what changed is looked at row by row and across its faces.
+/// Whether the rows are all that a refilled list is to be, by what they change.
 fn is_refilled(
     alloc: Global,
     points: &Points,
@@ -353,8 +352,9 @@ fn is_refilled(
 }
 
 /// The candidate in order, where it is the Delaunay list refilled round the facets; None where the
-/// tests do not tell so. How it was found does not matter: each row is looked at by itself and
-/// across its faces, so no search for points is needed.
+/// tests do not tell so. How it was found does not matter: each row that the Delaunay list has not
+/// is looked at by itself and across its faces, so no search for points is needed, and of the
+/// other rows only those near what changed.
 pub fn accepted(
     alloc: Global,
     points: &Points,
