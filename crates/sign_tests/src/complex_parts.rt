@@ -24,11 +24,11 @@ const PLACES: [[i8; 3]; 8] = [
 
 fn places(alloc: Global) -> Result<Points, NoMemory> {
     let mut points = Points::new(alloc);
-    for p in PLACES {
+    for [x, y, z] in &PLACES {
         points.push(GridPoint {
-            x: p[0] as i32,
-            y: p[1] as i32,
-            z: p[2] as i32,
+            x: i32::from(*x),
+            y: i32::from(*y),
+            z: i32::from(*z),
         })?;
     }
     Ok(points)

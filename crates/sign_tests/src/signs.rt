@@ -52,19 +52,20 @@ fn is_outside(corners: [[i8; 3]; 4], n: [u32; 4], p: [i8; 3], m: u32) -> bool {
     outside(tet(corners), numbers(n), at(p), m)
 }
 
+const SPHERES: [(&str, [[i8; 3]; 4], [u32; 4], [i8; 3], u32, bool); 7] = [
+    ("off the sphere", UNIT, [0, 1, 2, 3], [2, 2, 2], 4, true),
+    ("in the sphere", FOUR, [0, 1, 2, 3], [1, 1, 1], 4, false),
+    ("beyond face 0", UNIT, [0, 1, 2, 3], [1, 1, 1], 4, true),
+    ("the point is 0", UNIT, [4, 1, 2, 3], [1, 1, 1], 0, true),
+    ("on the side of 0", UNIT, [4, 0, 2, 3], [1, 1, 1], 1, false),
+    ("pyramid, beyond", LEFT, [0, 1, 3, 4], [2, 2, 0], 2, true),
+    ("pyramid, plane", RIGHT, [0, 1, 2, 4], [0, 2, 0], 3, false),
+];
+
 #[test]
 fn spheres(rt: HostRuntime) {
-    let cases = [
-        ("off the sphere", UNIT, [0, 1, 2, 3], [2, 2, 2], 4, true),
-        ("in the sphere", FOUR, [0, 1, 2, 3], [1, 1, 1], 4, false),
-        ("beyond face 0", UNIT, [0, 1, 2, 3], [1, 1, 1], 4, true),
-        ("the point is 0", UNIT, [4, 1, 2, 3], [1, 1, 1], 0, true),
-        ("on the side of 0", UNIT, [4, 0, 2, 3], [1, 1, 1], 1, false),
-        ("pyramid, beyond", LEFT, [0, 1, 3, 4], [2, 2, 0], 2, true),
-        ("pyramid, plane", RIGHT, [0, 1, 2, 4], [0, 2, 0], 3, false),
-    ];
-    for (name, corners, n, p, m, want) in cases {
-        assert_eq!(rt; is_outside(corners, n, p, m), want, "{name}");
+    for (name, corners, n, p, m, want) in &SPHERES {
+        assert!(rt; is_outside(*corners, *n, *p, *m) == *want, "{name}");
     }
 }
 
@@ -138,17 +139,18 @@ fn sign_at(p: [i8; 3]) -> Option<Sign> {
     lifted_sign(frame, [t.a, t.b, t.c, t.d, at(p)])
 }
 
+const LIFTED_SPHERES: [([i8; 3], Option<Sign>); 5] = [
+    ([6, 6, 6], Some(Sign::Below)),
+    ([4, 4, 4], Some(Sign::Zero)),
+    ([2, 2, 2], Some(Sign::Above)),
+    ([2, 3, 2], None),
+    ([-6, 2, 2], None),
+];
+
 #[test]
 fn lifted_spheres(rt: HostRuntime) {
-    let cases = [
-        ([6, 6, 6], Some(Sign::Below)),
-        ([4, 4, 4], Some(Sign::Zero)),
-        ([2, 2, 2], Some(Sign::Above)),
-        ([2, 3, 2], None),
-        ([-6, 2, 2], None),
-    ];
-    for (p, want) in cases {
-        assert_eq!(rt; sign_at(p), want);
+    for (p, want) in &LIFTED_SPHERES {
+        assert!(rt; sign_at(*p) == *want);
     }
 }
 
@@ -208,22 +210,22 @@ fn orientation(p: [[i8; 3]; 4]) -> Sign {
     orient(at(p[0]), at(p[1]), at(p[2]), at(p[3]))
 }
 
+const TURNED: [[i8; 3]; 4] = [[0, 0, 0], [0, 1, 0], [1, 0, 0], [0, 0, 1]];
+
 #[test]
 fn orientations(rt: HostRuntime) {
-    let turned = [UNIT[0], UNIT[2], UNIT[1], UNIT[3]];
-    let signs = [orientation(UNIT), orientation(turned)];
-    assert_eq!(rt; signs, [Sign::Above, Sign::Below]);
+    assert!(rt; orientation(UNIT) == Sign::Above && orientation(TURNED) == Sign::Below);
 }
 
 fn lie_in_a_plane(p: [[i8; 3]; 4]) -> bool {
     coplanar(at(p[0]), at(p[1]), at(p[2]), at(p[3]))
 }
 
+const SQUARE: [[i8; 3]; 4] = [[0, 0, 0], [1, 0, 0], [0, 1, 0], [1, 1, 0]];
+
 #[test]
 fn planes(rt: HostRuntime) {
-    let square = [UNIT[0], UNIT[1], UNIT[2], [1, 1, 0]];
-    let flat = [lie_in_a_plane(square), lie_in_a_plane(UNIT)];
-    assert_eq!(rt; flat, [true, false]);
+    assert!(rt; lie_in_a_plane(SQUARE) && !lie_in_a_plane(UNIT));
 }
 
 fn beyond_unit(corner: u8, p: [i8; 3]) -> Option<Sign> {
@@ -234,17 +236,18 @@ fn beyond_unit(corner: u8, p: [i8; 3]) -> Option<Sign> {
     }
 }
 
+const FACES: [(u8, [i8; 3], Sign); 5] = [
+    (0, [2, 2, 2], Sign::Above),
+    (1, [2, 2, 2], Sign::Below),
+    (1, [0, 5, 5], Sign::Zero),
+    (2, [0, -1, 0], Sign::Above),
+    (3, [0, 0, -1], Sign::Above),
+];
+
 #[test]
 fn faces(rt: HostRuntime) {
-    let cases = [
-        (0, [2, 2, 2], Sign::Above),
-        (1, [2, 2, 2], Sign::Below),
-        (1, [0, 5, 5], Sign::Zero),
-        (2, [0, -1, 0], Sign::Above),
-        (3, [0, 0, -1], Sign::Above),
-    ];
-    for (corner, p, want) in cases {
-        assert_eq!(rt; beyond_unit(corner, p), Some(want), "{corner}");
+    for (corner, p, want) in &FACES {
+        assert!(rt; beyond_unit(*corner, *p) == Some(*want), "{corner}");
     }
 }
 
@@ -259,17 +262,18 @@ fn holds(p: [i32; 3]) -> Hold {
     in_tet(tet(UNIT), x)
 }
 
+const RATIONAL_POINTS: [([i32; 3], Hold); 5] = [
+    ([0, 0, 0], Hold::Touching),
+    ([250_000, 250_000, 250_000], Hold::Inside),
+    ([500_000, 500_000, 0], Hold::Touching),
+    ([500_001, 500_000, 0], Hold::Outside),
+    ([-1, 500_000, 0], Hold::Outside),
+];
+
 #[test]
 fn rational_points(rt: HostRuntime) {
-    let cases = [
-        ([0, 0, 0], Hold::Touching),
-        ([250_000, 250_000, 250_000], Hold::Inside),
-        ([500_000, 500_000, 0], Hold::Touching),
-        ([500_001, 500_000, 0], Hold::Outside),
-        ([-1, 500_000, 0], Hold::Outside),
-    ];
-    for (p, want) in cases {
-        assert_eq!(rt; holds(p), want);
+    for (p, want) in &RATIONAL_POINTS {
+        assert!(rt; holds(*p) == *want);
     }
 }
 
@@ -277,21 +281,22 @@ fn segments(p: [[i8; 3]; 4]) -> bool {
     segments_meet(at(p[0]), at(p[1]), at(p[2]), at(p[3]))
 }
 
+const SEGMENTS: [([[i8; 3]; 4], bool); 9] = [
+    ([[0, 0, 0], [2, 2, 0], [0, 2, 0], [2, 0, 0]], true),
+    ([[0, 0, 0], [2, 2, 0], [0, 2, 1], [2, 0, 1]], false),
+    ([[0, 0, 0], [2, 2, 0], [1, 1, 0], [2, 0, 0]], true),
+    ([[0, 0, 0], [2, 2, 0], [3, 3, 0], [4, 4, 0]], false),
+    ([[0, 0, 0], [2, 2, 2], [1, 1, 1], [4, 4, 4]], true),
+    ([[0, 0, 0], [2, 2, 0], [0, 1, 0], [2, 3, 0]], false),
+    ([[1, 1, 1], [1, 1, 1], [0, 0, 0], [3, 3, 3]], true),
+    ([[1, 1, 1], [1, 1, 1], [1, 1, 1], [1, 1, 1]], true),
+    ([[1, 1, 1], [1, 1, 1], [1, 1, 2], [1, 1, 3]], false),
+];
+
 #[test]
 fn segments_that_meet(rt: HostRuntime) {
-    let cases = [
-        ([[0, 0, 0], [2, 2, 0], [0, 2, 0], [2, 0, 0]], true),
-        ([[0, 0, 0], [2, 2, 0], [0, 2, 1], [2, 0, 1]], false),
-        ([[0, 0, 0], [2, 2, 0], [1, 1, 0], [2, 0, 0]], true),
-        ([[0, 0, 0], [2, 2, 0], [3, 3, 0], [4, 4, 0]], false),
-        ([[0, 0, 0], [2, 2, 2], [1, 1, 1], [4, 4, 4]], true),
-        ([[0, 0, 0], [2, 2, 0], [0, 1, 0], [2, 3, 0]], false),
-        ([[1, 1, 1], [1, 1, 1], [0, 0, 0], [3, 3, 3]], true),
-        ([[1, 1, 1], [1, 1, 1], [1, 1, 1], [1, 1, 1]], true),
-        ([[1, 1, 1], [1, 1, 1], [1, 1, 2], [1, 1, 3]], false),
-    ];
-    for (p, want) in cases {
-        assert_eq!(rt; segments(p), want);
+    for (p, want) in &SEGMENTS {
+        assert!(rt; segments(*p) == *want);
     }
 }
 
@@ -299,23 +304,24 @@ fn segment_and_triangle(s: [[i8; 3]; 2], f: [[i8; 3]; 3]) -> bool {
     segment_meets_triangle(at(s[0]), at(s[1]), at(f[0]), at(f[1]), at(f[2]))
 }
 
+const SEGMENTS_AND_TRIANGLES: [([[i8; 3]; 3], [[i8; 3]; 2], bool); 11] = [
+    (FLAT, [[1, 1, 1], [1, 1, -1]], true),
+    (FLAT, [[1, 1, -1], [1, 1, 1]], true),
+    (FLAT, [[3, 3, 1], [3, 3, -1]], false),
+    (FLAT, [[1, 1, 1], [1, 1, 2]], false),
+    (FLAT, [[0, 0, 0], [0, 0, 5]], true),
+    (FLAT, [[2, 2, 3], [2, 2, 0]], true),
+    (FLAT, [[-1, 1, 0], [5, 1, 0]], true),
+    (FLAT, [[1, 1, 0], [1, 1, 0]], true),
+    (FLAT, [[5, 0, 0], [9, 0, 0]], false),
+    (LINE, [[3, 0, 1], [3, 0, -1]], true),
+    (LINE, [[5, 0, 1], [5, 0, -1]], false),
+];
+
 #[test]
 fn segments_and_triangles(rt: HostRuntime) {
-    let cases = [
-        (FLAT, [[1, 1, 1], [1, 1, -1]], true),
-        (FLAT, [[1, 1, -1], [1, 1, 1]], true),
-        (FLAT, [[3, 3, 1], [3, 3, -1]], false),
-        (FLAT, [[1, 1, 1], [1, 1, 2]], false),
-        (FLAT, [[0, 0, 0], [0, 0, 5]], true),
-        (FLAT, [[2, 2, 3], [2, 2, 0]], true),
-        (FLAT, [[-1, 1, 0], [5, 1, 0]], true),
-        (FLAT, [[1, 1, 0], [1, 1, 0]], true),
-        (FLAT, [[5, 0, 0], [9, 0, 0]], false),
-        (LINE, [[3, 0, 1], [3, 0, -1]], true),
-        (LINE, [[5, 0, 1], [5, 0, -1]], false),
-    ];
-    for (f, s, want) in cases {
-        assert_eq!(rt; segment_and_triangle(s, f), want);
+    for (f, s, want) in &SEGMENTS_AND_TRIANGLES {
+        assert!(rt; segment_and_triangle(*s, *f) == *want);
     }
 }
 
@@ -324,18 +330,19 @@ fn meets_flat(f: [[i8; 3]; 3]) -> bool {
     triangles_meet(at(a), at(b), at(c), at(f[0]), at(f[1]), at(f[2]))
 }
 
+const TRIANGLES_THAT_MEET: [([[i8; 3]; 3], bool); 6] = [
+    ([[1, 1, -1], [1, 1, 1], [9, 9, 1]], true),
+    ([[1, 1, 1], [2, 1, 1], [1, 2, 1]], false),
+    ([[1, 1, 0], [2, 1, 0], [1, 2, 0]], true),
+    ([[-9, -9, 0], [40, -9, 0], [-9, 40, 0]], true),
+    ([[9, 9, 0], [8, 9, 0], [9, 8, 0]], false),
+    ([[3, 3, -1], [3, 3, 1], [9, 9, 1]], false),
+];
+
 #[test]
 fn triangles_that_meet(rt: HostRuntime) {
-    let cases = [
-        ([[1, 1, -1], [1, 1, 1], [9, 9, 1]], true),
-        ([[1, 1, 1], [2, 1, 1], [1, 2, 1]], false),
-        ([[1, 1, 0], [2, 1, 0], [1, 2, 0]], true),
-        ([[-9, -9, 0], [40, -9, 0], [-9, 40, 0]], true),
-        ([[9, 9, 0], [8, 9, 0], [9, 8, 0]], false),
-        ([[3, 3, -1], [3, 3, 1], [9, 9, 1]], false),
-    ];
-    for (f, want) in cases {
-        assert_eq!(rt; meets_flat(f), want);
+    for (f, want) in &TRIANGLES_THAT_MEET {
+        assert!(rt; meets_flat(*f) == *want);
     }
 }
 
@@ -350,20 +357,21 @@ fn enters_four(f: [[i8; 3]; 3]) -> Option<bool> {
     }
 }
 
+const TRIANGLES_THAT_ENTER: [([[i8; 3]; 3], Option<bool>); 9] = [
+    ([[1, 1, 1], [9, 9, 9], [9, 0, 9]], Some(true)),
+    ([[-9, -9, 1], [30, -9, 1], [-9, 30, 1]], Some(true)),
+    ([[0, 0, 0], [4, 0, 0], [0, 4, 0]], Some(false)),
+    ([[0, 0, -1], [4, 0, -1], [0, 4, -1]], Some(false)),
+    ([[0, 0, 0], [-4, 0, 1], [0, -4, 1]], Some(false)),
+    ([[-1, 1, 1], [9, 1, 1], [9, 9, 9]], Some(true)),
+    ([[0, 0, 0], [4, 4, 0], [0, 0, 4]], Some(true)),
+    ([[4, 0, 0], [0, 4, 0], [9, 9, -9]], Some(false)),
+    ([[0, 0, 0], [1, 1, 1], [2, 2, 2]], None),
+];
+
 #[test]
 fn triangles_that_enter(rt: HostRuntime) {
-    let cases = [
-        ([[1, 1, 1], [9, 9, 9], [9, 0, 9]], Some(true)),
-        ([[-9, -9, 1], [30, -9, 1], [-9, 30, 1]], Some(true)),
-        ([[0, 0, 0], [4, 0, 0], [0, 4, 0]], Some(false)),
-        ([[0, 0, -1], [4, 0, -1], [0, 4, -1]], Some(false)),
-        ([[0, 0, 0], [-4, 0, 1], [0, -4, 1]], Some(false)),
-        ([[-1, 1, 1], [9, 1, 1], [9, 9, 9]], Some(true)),
-        ([[0, 0, 0], [4, 4, 0], [0, 0, 4]], Some(true)),
-        ([[4, 0, 0], [0, 4, 0], [9, 9, -9]], Some(false)),
-        ([[0, 0, 0], [1, 1, 1], [2, 2, 2]], None),
-    ];
-    for (f, want) in cases {
-        assert_eq!(rt; enters_four(f), want);
+    for (f, want) in &TRIANGLES_THAT_ENTER {
+        assert!(rt; enters_four(*f) == *want);
     }
 }

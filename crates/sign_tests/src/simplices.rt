@@ -20,11 +20,11 @@ const PLACES: [[i8; 3]; 7] = [
 
 fn places(alloc: Global) -> Result<Points, NoMemory> {
     let mut points = Points::new(alloc);
-    for p in PLACES {
+    for [x, y, z] in &PLACES {
         points.push(GridPoint {
-            x: p[0] as i32,
-            y: p[1] as i32,
-            z: p[2] as i32,
+            x: i32::from(*x),
+            y: i32::from(*y),
+            z: i32::from(*z),
         })?;
     }
     Ok(points)
@@ -70,58 +70,61 @@ fn two_faces(points: &Points, f: Face, g: Face) -> Option<bool> {
     }
 }
 
+const SEGMENTS: [([u32; 2], [u32; 2], Option<bool>); 7] = [
+    ([0, 1], [2, 3], Some(true)),
+    ([0, 2], [1, 3], Some(false)),
+    ([0, 2], [2, 3], Some(true)),
+    ([0, 2], [0, 4], Some(false)),
+    ([0, 2], [2, 0], Some(true)),
+    ([0, 4], [4, 2], Some(true)),
+    ([0, 0], [4, 2], None),
+];
+
 #[test]
 fn segments(rt: HostRuntime) -> Result<(), Fail> {
     let points = places(rt.alloc())?;
-    let cases = [
-        ([0, 1], [2, 3], Some(true)),
-        ([0, 2], [1, 3], Some(false)),
-        ([0, 2], [2, 3], Some(true)),
-        ([0, 2], [0, 4], Some(false)),
-        ([0, 2], [2, 0], Some(true)),
-        ([0, 4], [4, 2], Some(true)),
-        ([0, 0], [4, 2], None),
-    ];
-    for (s, t, want) in cases {
-        assert_eq!(rt; two_sides(&points, side(s), side(t)), want);
+    for (s, t, want) in &SEGMENTS {
+        assert!(rt; two_sides(&points, side(*s), side(*t)) == *want);
     }
     Ok(())
 }
+
+const SEGMENTS_AND_TRIANGLES: [([u32; 2], [u32; 3], Option<bool>); 8] = [
+    ([4, 5], [0, 1, 2], Some(false)),
+    ([4, 5], [0, 1, 4], Some(true)),
+    ([2, 6], [0, 1, 2], Some(true)),
+    ([0, 6], [0, 1, 2], Some(false)),
+    ([0, 1], [0, 1, 2], Some(true)),
+    ([3, 1], [0, 1, 2], Some(false)),
+    ([3, 5], [0, 1, 2], Some(true)),
+    ([3, 5], [0, 2, 4], None),
+];
 
 #[test]
 fn segments_and_triangles(rt: HostRuntime) -> Result<(), Fail> {
     let points = places(rt.alloc())?;
-    let cases = [
-        ([4, 5], [0, 1, 2], Some(false)),
-        ([4, 5], [0, 1, 4], Some(true)),
-        ([2, 6], [0, 1, 2], Some(true)),
-        ([0, 6], [0, 1, 2], Some(false)),
-        ([0, 1], [0, 1, 2], Some(true)),
-        ([3, 1], [0, 1, 2], Some(false)),
-        ([3, 5], [0, 1, 2], Some(true)),
-        ([3, 5], [0, 2, 4], None),
-    ];
-    for (s, f, want) in cases {
-        assert_eq!(rt; side_and_face(&points, side(s), face(f)), want);
+    for (s, f, want) in &SEGMENTS_AND_TRIANGLES {
+        assert!(rt; side_and_face(&points, side(*s), face(*f)) == *want);
     }
     Ok(())
 }
 
+const TRIANGLES: [([u32; 3], [u32; 3], Option<bool>); 8] = [
+    ([0, 1, 2], [0, 2, 3], Some(true)),
+    ([0, 1, 2], [0, 1, 3], Some(false)),
+    ([0, 1, 2], [0, 1, 5], Some(true)),
+    ([0, 1, 2], [3, 4, 5], Some(false)),
+    ([0, 1, 4], [2, 3, 4], Some(true)),
+    ([0, 1, 2], [0, 6, 5], Some(false)),
+    ([0, 1, 2], [2, 0, 1], Some(true)),
+    ([0, 1, 4], [2, 3, 5], Some(true)),
+];
+
 #[test]
 fn triangles(rt: HostRuntime) -> Result<(), Fail> {
     let points = places(rt.alloc())?;
-    let cases = [
-        ([0, 1, 2], [0, 2, 3], Some(true)),
-        ([0, 1, 2], [0, 1, 3], Some(false)),
-        ([0, 1, 2], [0, 1, 5], Some(true)),
-        ([0, 1, 2], [3, 4, 5], Some(false)),
-        ([0, 1, 4], [2, 3, 4], Some(true)),
-        ([0, 1, 2], [0, 6, 5], Some(false)),
-        ([0, 1, 2], [2, 0, 1], Some(true)),
-        ([0, 1, 4], [2, 3, 5], Some(true)),
-    ];
-    for (f, g, want) in cases {
-        assert_eq!(rt; two_faces(&points, face(f), face(g)), want);
+    for (f, g, want) in &TRIANGLES {
+        assert!(rt; two_faces(&points, face(*f), face(*g)) == *want);
     }
     Ok(())
 }
