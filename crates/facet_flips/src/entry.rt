@@ -71,6 +71,19 @@ fn merged(alloc: Global, kept: &TetList, added: &TetList) -> Result<TetList, Sto
     Ok(whole)
 }
 
+/// The rows that come from the crossed ones by flips, in order.
+fn flipped_rows(
+    alloc: Global,
+    points: &Points,
+    sheets: &Sheets,
+    crossed: &TetList,
+) -> Result<TetList, Stop> {
+    let frame = frame_of(alloc, points.len(), crossed)?;
+    let mut local = frame.slots_of(alloc, points, crossed)?;
+    put_all(alloc, sheets, &frame, &mut local)?;
+    rows_of(alloc, &frame, &local)
+}
+
 /// The rows that no facet crosses, and those that come from the others by flips.
 fn flipped(
     alloc: Global,
@@ -81,10 +94,7 @@ fn flipped(
     let missing = missing_triangles(alloc, points.len(), list, triangles)?;
     let sheets = sheets_of(alloc, points, missing)?;
     let parted = sheets.part(alloc, points, list)?;
-    let frame = frame_of(alloc, points.len(), &parted.crossed)?;
-    let mut local = frame.slots_of(alloc, points, &parted.crossed)?;
-    put_all(alloc, &sheets, &frame, &mut local)?;
-    let added = rows_of(alloc, &frame, &local)?;
+    let added = flipped_rows(alloc, points, &sheets, &parted.crossed)?;
     merged(alloc, &parted.kept, &added)
 }
 
