@@ -71,16 +71,21 @@ fn read(alloc: Global, bytes: &Bytes) -> Result<PlcText, PlcFault> {
     read_binary_stl(alloc, bytes)
 }
 
-#[test]
-fn a_binary_surface_is_read(rt: HostRuntime) -> Result<(), Fail> {
-    let bytes = two_facets(rt.alloc(), TENTH)?;
-    assert!(rt; is_binary_stl(&bytes));
-    let text = read(rt.alloc(), &bytes)?;
+/// Whether a complex has four points, and corners among them and not among three.
+fn has_four_points(text: &PlcText) -> bool {
     let points = text.nodes().map(|nodes| nodes.decimals.len());
-    assert!(rt; points == Some(4));
-    assert!(rt; check_corners(&text, 0, 4).is_ok());
-    assert!(rt; check_corners(&text, 0, 3).is_err());
-    Ok(())
+    points == Some(4) && check_corners(text, 0, 4).is_ok() && check_corners(text, 0, 3).is_err()
+}
+
+/// Whether the two facets are told to be binary, and are read.
+fn are_read(alloc: Global) -> Result<bool, PlcFault> {
+    let bytes = two_facets(alloc, TENTH)?;
+    Ok(is_binary_stl(&bytes) && has_four_points(&read(alloc, &bytes)?))
+}
+
+#[test]
+fn a_binary_surface_is_read(rt: HostRuntime) {
+    assert!(rt; are_read(rt.alloc()) == Ok(true));
 }
 
 /// The two facets with so many bytes: one more, or the first of them.
@@ -99,14 +104,17 @@ fn has_fault(alloc: Global, bytes: &Bytes, line: usize, kind: TextKind) -> bool 
     read(alloc, bytes).err() == Some(PlcFault::Text(TextFault { line, kind }))
 }
 
+/// Whether the two facets with one byte more are no binary surface, and one more is told.
+fn is_too_long(alloc: Global) -> Result<bool, NoMemory> {
+    let longer = of_length(alloc, 185)?;
+    Ok(!is_binary_stl(&longer) && has_fault(alloc, &longer, 3, Extra))
+}
+
 #[test]
 fn faults_of_binary_surfaces_are_told(rt: HostRuntime) -> Result<(), Fail> {
     let alloc = rt.alloc();
-    let longer = of_length(alloc, 185)?;
-    assert!(rt; !is_binary_stl(&longer) && has_fault(alloc, &longer, 3, Extra));
-    let shorter = of_length(alloc, 183)?;
-    assert!(rt; has_fault(alloc, &shorter, 2, Ended));
-    let infinite = two_facets(alloc, 0x7F80_0000)?;
-    assert!(rt; has_fault(alloc, &infinite, 2, NotANumber));
+    assert!(rt; is_too_long(alloc)?);
+    assert!(rt; has_fault(alloc, &of_length(alloc, 183)?, 2, Ended));
+    assert!(rt; has_fault(alloc, &two_facets(alloc, 0x7F80_0000)?, 2, NotANumber));
     Ok(())
 }

@@ -28,6 +28,12 @@ fn refusal_of(alloc: Global, words: &[&[u8]]) -> Result<Option<WordsFault>, NoMe
     Ok(read_words(alloc, &words).err())
 }
 
+/// Whether the words of a case are refused so.
+fn is_refused(alloc: Global, case: &Faulty) -> Result<bool, NoMemory> {
+    let (word, place) = (case.word, case.place);
+    Ok(refusal_of(alloc, case.words)? == Some(WordsFault::Usage { word, place }))
+}
+
 const FAULTY: [Faulty; 8] = [
     Faulty {
         name: "no word",
@@ -82,16 +88,7 @@ const FAULTY: [Faulty; 8] = [
 #[test]
 fn faults_are_told(rt: HostRuntime) -> Result<(), Fail> {
     for case in &FAULTY {
-        let wanted = WordsFault::Usage {
-            word: case.word,
-            place: case.place,
-        };
-        assert_eq!(rt;
-            refusal_of(rt.alloc(), case.words)?,
-            Some(wanted),
-            "{}",
-            case.name
-        );
+        assert!(rt; is_refused(rt.alloc(), case)?, "{}", case.name);
     }
     Ok(())
 }
@@ -210,11 +207,11 @@ fn asked_of(options: &Options) -> Asked<'_> {
     }
 }
 
-/// Whether these words ask for this.
-fn asks(alloc: Global, words: &[&[u8]], asked: Asked) -> Result<bool, NoMemory> {
-    let words = words_of(alloc, words)?;
+/// Whether the words of a case ask for what it says.
+fn asks(alloc: Global, case: &Asking) -> Result<bool, NoMemory> {
+    let words = words_of(alloc, case.words)?;
     match read_words(alloc, &words) {
-        Ok(options) => Ok(asked_of(&options) == asked),
+        Ok(options) => Ok(asked_of(&options) == case.asked),
         Err(_) => Ok(false),
     }
 }
@@ -222,7 +219,7 @@ fn asks(alloc: Global, words: &[&[u8]], asked: Asked) -> Result<bool, NoMemory> 
 #[test]
 fn options_are_read(rt: HostRuntime) -> Result<(), Fail> {
     for case in &ASKING {
-        assert!(rt; asks(rt.alloc(), case.words, case.asked)?, "{}", case.name);
+        assert!(rt; asks(rt.alloc(), case)?, "{}", case.name);
     }
     Ok(())
 }

@@ -12,41 +12,49 @@ use tet_ports::{
     StdSink, StoreFault, Words, read_whole, write_whole,
 };
 
-#[test]
-fn bytes_are_appended_and_cut(rt: HostRuntime) -> Result<(), Fail> {
-    let mut bytes = Bytes::from_slice(rt.alloc(), b"mesh")?;
+/// Whether bytes that are appended to and then cut are the wanted ones each time.
+fn are_appended_and_cut(alloc: Global) -> Result<bool, NoMemory> {
+    let mut bytes = Bytes::from_slice(alloc, b"mesh")?;
     bytes.append(b".1.ele")?;
     let whole = bytes.as_slice() == b"mesh.1.ele".as_slice();
     if bytes.len() >= 6 {
         bytes.cut(6);
     }
-    assert!(rt; whole && bytes.as_slice() == b"mesh.1".as_slice());
+    Ok(whole && bytes.as_slice() == b"mesh.1".as_slice())
+}
+
+#[test]
+fn bytes_are_appended_and_cut(rt: HostRuntime) -> Result<(), Fail> {
+    assert!(rt; are_appended_and_cut(rt.alloc())?);
     Ok(())
+}
+
+/// Whether an empty list has just one item once it is pushed.
+fn is_pushed(alloc: Global) -> Result<bool, NoMemory> {
+    let mut numbers = Items::with_capacity(alloc, 2)?;
+    let was_empty = numbers.is_empty();
+    numbers.reserve(5)?;
+    numbers.push(7u32)?;
+    Ok(was_empty && numbers.len() == 1 && numbers.at(0) == 7 && *numbers.get(0) == 7)
 }
 
 #[test]
 fn items_are_pushed(rt: HostRuntime) -> Result<(), Fail> {
-    let mut numbers = Items::with_capacity(rt.alloc(), 2)?;
-    let was_empty = numbers.is_empty();
-    numbers.reserve(5)?;
-    numbers.push(7u32)?;
-    let one = if numbers.len() == 1 {
-        (numbers.at(0), *numbers.get(0))
-    } else {
-        (0, 0)
-    };
-    assert_eq!(rt; (was_empty, one), (true, (7, 7)));
+    assert!(rt; is_pushed(rt.alloc())?);
     Ok(())
+}
+
+/// Whether the second of two words is the one that was pushed last.
+fn is_last(alloc: Global) -> Result<bool, NoMemory> {
+    let mut words = Words::new(alloc);
+    words.push(Name::from_slice(alloc, b"-pS100nz")?)?;
+    words.push(Name::from_slice(alloc, b"bar")?)?;
+    Ok(words.len() == 2 && words.word(1).as_slice() == b"bar".as_slice())
 }
 
 #[test]
 fn words_are_pushed(rt: HostRuntime) -> Result<(), Fail> {
-    let alloc = rt.alloc();
-    let mut words = Words::new(alloc);
-    words.push(Name::from_slice(alloc, b"-pS100nz")?)?;
-    words.push(Name::from_slice(alloc, b"bar")?)?;
-    let is_last = words.len() == 2 && words.word(1).as_slice() == b"bar".as_slice();
-    assert!(rt; is_last);
+    assert!(rt; is_last(rt.alloc())?);
     Ok(())
 }
 
@@ -98,9 +106,11 @@ const STORED: [(&[u8], usize, Option<&[u8]>); 4] = [
 
 #[test]
 fn memory_folder_holds_what_was_stored(rt: HostRuntime) -> Result<(), Fail> {
-    for &(name, most, want) in &STORED {
-        let is_right = answers_with(rt.alloc(), name, most, want)?;
-        assert!(rt; is_right, "at most {most}");
+    for (name, most, want) in &STORED {
+        assert!(rt;
+            answers_with(rt.alloc(), name, *most, *want)?,
+            "at most {most}"
+        );
     }
     Ok(())
 }
@@ -147,9 +157,8 @@ const FAILED_STORES: [(u32, usize, &[u8]); 3] = [(1, 0, b""), (2, 3, b"12 "), (3
 
 #[test]
 fn memory_folder_fails_where_it_is_set(rt: HostRuntime) -> Result<(), Fail> {
-    for &(nth, kept, want) in &FAILED_STORES {
-        let is_right = face_fails_at(rt.alloc(), nth, kept, want)?;
-        assert!(rt; is_right, "call {nth}");
+    for (nth, kept, want) in &FAILED_STORES {
+        assert!(rt; face_fails_at(rt.alloc(), *nth, *kept, want)?, "call {nth}");
     }
     Ok(())
 }
@@ -184,9 +193,9 @@ const FAILED_PUTS: [(
 
 #[test]
 fn memory_sink_fails_where_it_is_set(rt: HostRuntime) {
-    for &(nth, kept, first, second, want) in &FAILED_PUTS {
-        let puts = two_puts(rt.alloc(), nth, kept, want);
-        assert_eq!(rt; puts, (first, second, true), "put {nth}");
+    for (nth, kept, first, second, want) in &FAILED_PUTS {
+        let puts = two_puts(rt.alloc(), *nth, *kept, want);
+        assert!(rt; puts == (*first, *second, true), "put {nth}");
     }
 }
 
@@ -367,8 +376,8 @@ const CUT_READS: [(Option<usize>, usize, Result<usize, usize>); 5] = [
 #[test]
 fn short_interrupted_and_failing_reads(rt: HostRuntime) -> Result<(), Fail> {
     let alloc = rt.alloc();
-    for &(cut, most, want) in &CUT_READS {
-        assert_eq!(rt; count_read(alloc, cut, most)?, want, "at most {most}");
+    for (cut, most, want) in &CUT_READS {
+        assert!(rt; count_read(alloc, *cut, *most)? == *want, "at most {most}");
     }
     Ok(())
 }
@@ -379,16 +388,18 @@ const CUT_WRITES: [(Option<usize>, &[u8]); 3] = [
     (Some(0), b""),
 ];
 
+/// Whether just this is written of ten bytes, where the writer fails at `cut`.
+fn writes(alloc: Global, cut: Option<usize>, want: &[u8]) -> bool {
+    let mut writer = Choppy::new(alloc, cut);
+    let written = write_whole(&mut writer, b"0123456789");
+    written.is_ok() == cut.is_none() && writer.bytes.as_slice() == want
+}
+
 #[test]
-fn short_interrupted_and_failing_writes(rt: HostRuntime) -> Result<(), Fail> {
-    let alloc = rt.alloc();
-    for &(cut, want) in &CUT_WRITES {
-        let mut writer = Choppy::new(alloc, cut);
-        let written = write_whole(&mut writer, b"0123456789");
-        assert_eq!(rt; written.is_ok(), cut.is_none());
-        assert_eq!(rt; writer.bytes.as_slice(), want);
+fn short_interrupted_and_failing_writes(rt: HostRuntime) {
+    for (cut, want) in &CUT_WRITES {
+        assert!(rt; writes(rt.alloc(), *cut, want));
     }
-    Ok(())
 }
 
 const CUT_PUTS: [(Option<usize>, bool, Result<(), PutFault>); 3] = [
@@ -397,20 +408,25 @@ const CUT_PUTS: [(Option<usize>, bool, Result<(), PutFault>); 3] = [
     (None, true, Err(PutFault::Failed)),
 ];
 
-#[test]
-fn standard_sink_writes_and_flushes(rt: HostRuntime) -> Result<(), Fail> {
-    let alloc = rt.alloc();
-    for &(cut, fails_flush, want) in &CUT_PUTS {
-        let mut writer = Choppy::new(alloc, cut);
-        writer.fails_flush = fails_flush;
-        let mut sink = StdSink::new(writer);
-        assert_eq!(rt; sink.put(b"points 4\n"), want);
-    }
-    // A writer that is full takes nothing.
+/// What a put to a standard sink answers whose writer fails at `cut`, or where it is flushed.
+fn put_to(alloc: Global, cut: Option<usize>, fails_flush: bool) -> Result<(), PutFault> {
+    let mut writer = Choppy::new(alloc, cut);
+    writer.fails_flush = fails_flush;
+    StdSink::new(writer).put(b"points 4\n")
+}
+
+/// What a put to a full writer answers, which takes nothing.
+fn put_to_full() -> Result<(), PutFault> {
     let mut room = [0; 4];
-    let mut full = StdSink::new(room.as_mut_slice());
-    assert_eq!(rt; full.put(b"points"), Err(PutFault::Failed));
-    Ok(())
+    StdSink::new(room.as_mut_slice()).put(b"points")
+}
+
+#[test]
+fn standard_sink_writes_and_flushes(rt: HostRuntime) {
+    for (cut, fails_flush, want) in &CUT_PUTS {
+        assert!(rt; put_to(rt.alloc(), *cut, *fails_flush) == *want);
+    }
+    assert!(rt; put_to_full() == Err(PutFault::Failed));
 }
 
 /// Sets one file to the bytes of another, over any folder, also one that tells nothing.

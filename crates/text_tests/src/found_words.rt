@@ -17,18 +17,40 @@ fn words_of(alloc: Global, words: &[&[u8]]) -> Result<Words, NoMemory> {
     Ok(named)
 }
 
+const REQUESTS: [(&[&[u8]], Request); 3] = [
+    (&[b"-p", b"--help"], Request::Page),
+    (&[b"--version"], Request::Version),
+    (MESH, Request::Mesh),
+];
+
+const MESH: &[&[u8]] = &[b"-nz", b"-V", b"part.stl"];
+
+/// Whether these words ask for this.
+fn asks(alloc: Global, words: &[&[u8]], request: Request) -> Result<bool, NoMemory> {
+    Ok(request_of(&words_of(alloc, words)?) == request)
+}
+
 #[test]
 fn requests(rt: HostRuntime) -> Result<(), Fail> {
-    let page = words_of(rt.alloc(), &[b"-p", b"--help"])?;
-    assert!(rt; request_of(&page) == Request::Page);
-    let version = words_of(rt.alloc(), &[b"--version"])?;
-    assert!(rt; request_of(&version) == Request::Version);
-    let mesh = words_of(rt.alloc(), &[b"-nz", b"-V", b"part.stl"])?;
-    assert!(rt; request_of(&mesh) == Request::Mesh && asks_stages(&mesh));
-    let options = read_options(rt.alloc(), &other_words(rt.alloc(), &mesh)?)?;
-    assert!(rt; options.piecewise && options.neighbors && options.from_zero);
+    for (words, request) in &REQUESTS {
+        assert!(rt; asks(rt.alloc(), words, *request)?);
+    }
     assert!(rt; PAGE.starts_with(b"tetfit [switches] name\n") && VERSION.starts_with(b"tetfit "));
     Ok(())
+}
+
+/// Whether the words of a mesh ask for its stages and have their options.
+fn has_options(alloc: Global) -> Result<bool, WordsFault> {
+    let words = words_of(alloc, MESH)?;
+    let others = other_words(alloc, &words)?;
+    let options = read_options(alloc, &others)?;
+    let asked = options.piecewise && options.neighbors && options.from_zero;
+    Ok(asked && asks_stages(&words))
+}
+
+#[test]
+fn options_of_a_mesh(rt: HostRuntime) {
+    assert!(rt; has_options(rt.alloc()) == Ok(true));
 }
 
 /// The line that is told of these words, or an empty one where they are understood.
@@ -69,8 +91,11 @@ const TOLD: [(&[&[u8]], &[u8]); 7] = [
 #[test]
 fn words_that_are_not_understood(rt: HostRuntime) -> Result<(), Fail> {
     for (words, line) in &TOLD {
-        let found = told(rt.alloc(), words)?;
-        assert!(rt; found.as_slice() == *line, "{}", words.len());
+        assert!(rt;
+            told(rt.alloc(), words)?.as_slice() == *line,
+            "{}",
+            words.len()
+        );
     }
     Ok(())
 }

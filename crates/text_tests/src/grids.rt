@@ -46,13 +46,17 @@ const ROUNDING: [(&[u8], u32, i128, u32); 10] = [
     ),
 ];
 
+/// The decimal that a text begins with, rounded to so many decimals: its value and its scale.
+fn rounded(text: &[u8], decimals: u32) -> Option<(i128, u32)> {
+    let d = round_to(&decimal(text)?, decimals);
+    Some((d.value, d.scale))
+}
+
 #[test]
-fn rounding(rt: HostRuntime) -> Result<(), Fail> {
-    for &(text, decimals, value, scale) in &ROUNDING {
-        let d = round_to(&decimal(text).ok_or("a decimal")?, decimals);
-        assert_eq!(rt; (d.value, d.scale), (value, scale));
+fn rounding(rt: HostRuntime) {
+    for (text, decimals, value, scale) in &ROUNDING {
+        assert!(rt; rounded(text, *decimals) == Some((*value, *scale)));
     }
-    Ok(())
 }
 
 const GRIDS: [(&[&[u8]], u32, Result<Grid, Range>); 9] = [
@@ -117,13 +121,16 @@ const GRIDS: [(&[&[u8]], u32, Result<Grid, Range>); 9] = [
     (&[b"1e-999", b"1e-990", b"1"], 12, Err(Range { line: 1 })),
 ];
 
+/// The grid of points with these first coordinates.
+fn grid_of(alloc: Global, xs: &[&[u8]], most_halvings: u32) -> Option<Result<Grid, Range>> {
+    Some(choose_grid(&points(alloc, xs)?, most_halvings))
+}
+
 #[test]
-fn grids(rt: HostRuntime) -> Result<(), Fail> {
-    for &(xs, most_halvings, wanted) in &GRIDS {
-        let list = points(rt.alloc(), xs).ok_or("points")?;
-        assert_eq!(rt; choose_grid(&list, most_halvings), wanted);
+fn grids(rt: HostRuntime) {
+    for (xs, most_halvings, wanted) in &GRIDS {
+        assert!(rt; grid_of(rt.alloc(), xs, *most_halvings) == Some(*wanted));
     }
-    Ok(())
 }
 
 /// The grid of a point, and where the point is on it.
@@ -147,7 +154,7 @@ const HUNDREDTHS: Grid = Grid {
 fn places_on_a_grid(rt: HostRuntime) -> Result<(), Fail> {
     let p = point(2, b"0.5", b"-1.250", b"3").ok_or("a point")?;
     let wanted = (HUNDREDTHS, [204_800, -512_000, 1_228_800]);
-    assert_eq!(rt; placed(rt.alloc(), p), Some(wanted));
+    assert!(rt; placed(rt.alloc(), p) == Some(wanted));
     Ok(())
 }
 
@@ -169,9 +176,9 @@ const TEXTS_OF_COORDINATES: [(i32, &[u8]); 6] = [
 
 #[test]
 fn texts_of_coordinates(rt: HostRuntime) -> Result<(), Fail> {
-    for &(coordinate, wanted) in &TEXTS_OF_COORDINATES {
-        let text = printed(rt.alloc(), coordinate)?;
-        assert_eq!(rt; text.as_slice(), wanted);
+    for (coordinate, wanted) in &TEXTS_OF_COORDINATES {
+        let text = printed(rt.alloc(), *coordinate)?;
+        assert!(rt; text.as_slice() == *wanted);
     }
     Ok(())
 }
@@ -186,32 +193,38 @@ const RATIONAL_PLACES: [(&[u8], i64); 7] = [
     (b"-1e35", -8_388_609_000_000),
 ];
 
-#[test]
-fn rational_places(rt: HostRuntime) -> Result<(), Fail> {
-    let grid = Grid {
-        decimals: 1,
-        halvings: 2,
-    };
-    for &(x, wanted) in &RATIONAL_PLACES {
-        let p = point(1, x, b"0", b"-0.1").ok_or("a point")?;
-        let p = to_rat(&grid, &p);
-        assert_eq!(rt; (p.x, p.y, p.z, p.w), (wanted, 0, -4_000_000, 1_000_000));
-    }
-    Ok(())
+const QUARTER_TENTHS: Grid = Grid {
+    decimals: 1,
+    halvings: 2,
+};
+
+/// The rational place of a point with this first coordinate.
+fn rational_place(x: &[u8]) -> Option<(i64, i64, i64, i64)> {
+    let p = to_rat(&QUARTER_TENTHS, &point(1, x, b"0", b"-0.1")?);
+    Some((p.x, p.y, p.z, p.w))
 }
 
 #[test]
-fn midpoints(rt: HostRuntime) -> Result<(), Fail> {
-    let origin = GridPoint { x: 0, y: 0, z: 0 };
-    let m = midpoint(origin, GridPoint { x: 2, y: 4, z: -6 }).ok_or("a midpoint")?;
-    assert_eq!(rt; (m.x, m.y, m.z), (1, 2, -3));
-    let odd = [
-        GridPoint { x: 1, y: 0, z: 0 },
-        GridPoint { x: 0, y: -3, z: 0 },
-        GridPoint { x: 0, y: 0, z: 5 },
-    ];
-    for p in odd {
-        assert!(rt; midpoint(p, GridPoint { x: 2, y: 0, z: 0 }).is_none());
+fn rational_places(rt: HostRuntime) {
+    for (x, wanted) in &RATIONAL_PLACES {
+        assert!(rt; rational_place(x) == Some((*wanted, 0, -4_000_000, 1_000_000)));
     }
-    Ok(())
+}
+
+/// The midpoint of a point and the point at 2 on the first axis.
+fn middle(x: i8, y: i8, z: i8) -> Option<[i32; 3]> {
+    let p = GridPoint {
+        x: i32::from(x),
+        y: i32::from(y),
+        z: i32::from(z),
+    };
+    let m = midpoint(p, GridPoint { x: 2, y: 0, z: 0 })?;
+    Some([m.x, m.y, m.z])
+}
+
+#[test]
+fn midpoints(rt: HostRuntime) {
+    assert!(rt; middle(0, 4, -6) == Some([1, 2, -3]));
+    assert!(rt; middle(1, 0, 0).is_none() && middle(0, -3, 0).is_none());
+    assert!(rt; middle(0, 0, 5).is_none());
 }
