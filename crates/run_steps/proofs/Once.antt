@@ -96,7 +96,7 @@ fetch_same limits told name r s (long b e l h) (found c f m k) = let same = ap (
 fetch_same limits told name r s (long b e l h) (absent f k) = absurd (cc)
 fetch_same limits told name r s (long b e l h) (long c f m k) = h ∙ sym k
 
-fetch_once : (limits : Limits) (told : Files) (seen : FolderSeen) (name : List ℕ) → seen.files_before ≡ Some told → ¬ Rose seen.faults_before seen.faults_now → IsOnce (FetchAnswer limits seen name)
+pub fetch_once : (limits : Limits) (told : Files) (seen : FolderSeen) (name : List ℕ) → seen.files_before ≡ Some told → ¬ Rose seen.faults_before seen.faults_now → IsOnce (FetchAnswer limits seen name)
 fetch_once limits told seen name e f = subst (λ files. IsOnce (FetchAnswer limits (record seen { files_before = files }) name)) (sym e)
     (λ r s n m h k. fetch_same limits told name r s (fetch_case limits told seen name r f n h) (fetch_case limits told seen name s f m k))
 
@@ -157,11 +157,11 @@ source_once : (limits : Limits) (told : Files) (seen : FolderSeen) (base : List 
 source_once limits told seen base extension (Some n) h = gives_once (complex_file [] (sample_of n))
 source_once limits told seen base extension None h = complex_file_once limits told seen base extension h
 
-nodes_once : (limits : Limits) (told : Files) (seen : FolderSeen) (base : List ℕ) (own : Option NodeText) → IsTold told seen → IsOnce (NodesAnswer limits seen base own)
+pub nodes_once : (limits : Limits) (told : Files) (seen : FolderSeen) (base : List ℕ) (own : Option NodeText) → IsTold told seen → IsOnce (NodesAnswer limits seen base own)
 nodes_once limits told seen base (Some nodes) h = gives_once nodes
 nodes_once limits told seen base None h = points_once limits told seen base h
 
-bounded_once : (file : ComplexFile) (nodes : NodeText) → IsOnce (BoundedAnswer file nodes)
+pub bounded_once : (file : ComplexFile) (nodes : NodeText) → IsOnce (BoundedAnswer file nodes)
 bounded_once file nodes =
     let input = on_points file nodes in
     and_then_once (TextAnswer file.name (corners_check nodes.first (length nodes.decimals) file.text)) (λ checked. Gives input)
@@ -362,7 +362,7 @@ mesh_of_same options bound true (Err s) (Err t) n m h k =
 
 -- ---- the run
 
-meshed_same : (limits : Limits) (options : Options) (input : Input) → IsSame (MeshedAnswer limits options input)
+pub meshed_same : (limits : Limits) (options : Options) (input : Input) → IsSame (MeshedAnswer limits options input)
 meshed_same limits options input =
     and_then_same (BoundAnswer limits options input) (λ bound. AndThen (MeshAnswer options bound) (OutputsAnswer options)) (bound_once limits options input)
     (λ bound. and_then_sure (MeshAnswer options bound) (OutputsAnswer options) (mesh_of_same options bound options.piecewise) (λ mesh s h. h))

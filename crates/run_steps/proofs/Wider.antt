@@ -42,7 +42,7 @@ module _ (limits : Limits) (part wide : FolderSeen) (w : IsWithin part wide) whe
   unfetched_wider name NoMemory h = tt
   unfetched_wider name s h = absurd h
 
-  fetch_wider : (name : List ℕ) (r : Result (List ℕ) Status) → FetchAnswer limits part name r → FetchAnswer limits wide name r
+  pub fetch_wider : (name : List ℕ) (r : Result (List ℕ) Status) → FetchAnswer limits part name r → FetchAnswer limits wide name r
   fetch_wider name (Ok bytes) h = subst (λ files. IsRead limits files name bytes) w.files h
   fetch_wider name (Err s) h = unfetched_wider name s h
 

@@ -27,16 +27,16 @@ pub struct Input {
 
 /// A file that was fetched.
 #[derive(Drop)]
-struct Fetched {
-    name: Name,
-    bytes: Bytes,
+pub struct Fetched {
+    pub name: Name,
+    pub bytes: Bytes,
 }
 
 /// A complex and the name of its file.
 #[derive(Drop)]
 pub struct ComplexFile {
-    name: Name,
-    text: PlcText,
+    pub name: Name,
+    pub text: PlcText,
 }
 
 /// The input that the options name: points alone, or a complex on its own points or on those of the
@@ -209,9 +209,10 @@ fn read_form<F: Folder>(
     complex_of(alloc, extension, file)
 }
 
-/// The points of a complex: its own, or where it has none those of the `.node` file with the same
-/// base. Each corner has to be one of them.
-fn with_points<F: Folder>(
+/// A complex on its points: its own, or where it has none those of the `.node` file with the same
+/// base. Each corner has to be one of them. It refuses with `BadText` where one is not, as
+/// `read_input` refuses the `.node` file, or for want of memory.
+pub fn with_points<F: Folder>(
     alloc: Global,
     limits: Limits,
     base: &Name,
@@ -268,8 +269,9 @@ fn read_points<F: Folder>(
     points_of(alloc, file)
 }
 
-/// The bytes of a file.
-fn fetch<F: Folder>(
+/// The bytes of the file with this name. It refuses with `Missing`, `ReadFault` or the limit of
+/// bytes, or for want of memory.
+pub fn fetch<F: Folder>(
     alloc: Global,
     limits: Limits,
     name: Name,
@@ -315,8 +317,8 @@ fn points_of(alloc: Global, file: Fetched) -> Result<NodeText, Status>
     }
 }
 
-/// The complex that a file spells in one form.
-fn complex_of(alloc: Global, extension: Extension, file: Fetched) -> Result<ComplexFile, Status>
+/// The complex that a file spells in one form: it refuses with `BadText`, or for want of memory.
+pub fn complex_of(alloc: Global, extension: Extension, file: Fetched) -> Result<ComplexFile, Status>
     requires { length file.bytes < 2 ^ 32 - 1 }
     ensures answer { AndThen (TextAnswer file.name (plc_text_of extension file.bytes)) (λ text. Gives (complex_file file.name text)) result }
     ensures few { IfOk result (λ made. HasFewParts made.text) }

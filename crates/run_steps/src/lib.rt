@@ -12,8 +12,8 @@ mod outputs;
 mod status;
 mod store;
 
-pub use input::{Input, read_input};
-pub use mesh::{Bound, bind_input, mesh_outputs};
+pub use input::{ComplexFile, Fetched, Input, complex_of, fetch, read_input, with_points};
+pub use mesh::{Bound, bind_input, bind_nodes, mesh_outputs};
 pub use messages::{OUT_OF_MEMORY, SUMMARY_FAILED, append_number, message};
 pub use numbering::{Numbering, numbering_of};
 pub use outputs::Outputs;

@@ -81,7 +81,24 @@ pub fn bind_input(
     ensures meshable { IfOk result (IsMeshableBound options.now) }
 {
     let Input { nodes, complex } = input;
-    match bind_parts(alloc, limits, options, nodes, &complex) {
+    bind_nodes(alloc, limits, options, nodes, &complex)
+}
+
+/// The same of the points and the complex of an input; the complex stays.
+pub fn bind_nodes(
+    alloc: Global,
+    limits: Limits,
+    options: &Options,
+    nodes: NodeText,
+    complex: &PlcText,
+) -> Result<Bound, Status>
+    requires limits { AreIndexable limits }
+    requires input { IsSound (record { nodes = nodes; complex = complex.now }) }
+    requires ranges { AreInRange options.now }
+    ensures answer { BoundAnswer limits options.now (record { nodes = nodes; complex = complex.now }) result }
+    ensures meshable { IfOk result (IsMeshableBound options.now) }
+{
+    match bind_parts(alloc, limits, options, nodes, complex) {
         Ok(bound) => Ok(bound),
         Err(fault) => Err(Status::from(fault)),
     }

@@ -1,0 +1,3 @@
+pub mod Models
+mod OffGrid
+mod Tries

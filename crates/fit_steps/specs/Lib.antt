@@ -1,0 +1,3 @@
+pub mod Grids
+pub mod Models
+pub mod Trying

@@ -1,0 +1,48 @@
+-- What is read of a model.
+use Rattle.std.specs.Prelude.{ℕ, Bool, true, false, ◌&&◌, List, Option, Some, Result, if◌then◌else◌}
+use Rattle.command_words.specs.Names.{file_name}
+use Rattle.command_words.specs.declared.options.Extension.{Extension}
+use Rattle.command_words.specs.declared.options.Extension.TheVariants.{Stl}
+use Rattle.command_words.specs.declared.options.Options.{Options}
+use Rattle.node_files.specs.declared.limits.Limits.{Limits}
+use Rattle.plc_files.specs.Text.{Plc}
+use Rattle.run_steps.specs.Reading.{FetchAnswer, TextAnswer, NodesAnswer, BoundedAnswer, InputAnswer, complex_file, plc_text_of}
+use Rattle.run_steps.specs.Seen.{FolderSeen}
+use Rattle.run_steps.specs.Steps.{AndThen, Gives}
+use Rattle.run_steps.specs.declared.input.ComplexFile.{ComplexFile}
+use Rattle.run_steps.specs.declared.input.Input.{Input}
+use Rattle.run_steps.specs.declared.status.Status.{Status}
+use Rattle.soup_files.specs.BinaryStl.{is_binary_stl, binary_stl_of}
+use Rattle.tet_text.specs.declared.fault.TextFault.{TextFault}
+
+-- the complex that the bytes of an `.stl` file spell, of which the binary ones are told by their length
+abbrev pub stl_text_of : List ℕ → Result Plc TextFault
+stl_text_of bytes = if is_binary_stl bytes then binary_stl_of bytes else plc_text_of Stl bytes
+
+abbrev pub is_stl : Option Extension → Bool
+is_stl (Some Stl) = true
+is_stl extension = false
+
+-- the options name an `.stl` file
+abbrev pub names_stl : Options → Bool
+names_stl options = options.piecewise && is_stl options.extension
+
+-- the complex of the `.stl` file with this base
+abbrev pub StlAnswer : Limits → FolderSeen → List ℕ → Result ComplexFile Status → Type 0
+StlAnswer limits seen base =
+    let name = file_name base Stl in
+    AndThen (FetchAnswer limits seen name) (λ bytes. AndThen (TextAnswer name (stl_text_of bytes)) (λ text. Gives (complex_file name text)))
+
+-- and the input that it gives
+abbrev pub StlInputAnswer : Limits → FolderSeen → List ℕ → Result Input Status → Type 0
+StlInputAnswer limits seen base =
+    AndThen (StlAnswer limits seen base) (λ file. AndThen (NodesAnswer limits seen base file.text.nodes) (BoundedAnswer file))
+
+-- by whether an `.stl` file is named
+abbrev pub ModelBy : Bool → Limits → FolderSeen → Options → Result Input Status → Type 0
+ModelBy true limits seen options = StlInputAnswer limits seen options.base
+ModelBy false limits seen options = InputAnswer limits seen options
+
+-- the model that the options name
+abbrev pub ModelAnswer : Limits → FolderSeen → Options → Result Input Status → Type 0
+ModelAnswer limits seen options = ModelBy (names_stl options) limits seen options
