@@ -23,7 +23,8 @@ use Rattle.run_steps.specs.declared.mesh.Bound.{Bound}
 use Rattle.run_steps.specs.declared.status.LimitKind.TheVariants.{Bytes, Points, Facets, Corners, Grid as OnGrid}
 use Rattle.run_steps.specs.declared.status.Status.{Status}
 use Rattle.run_steps.specs.declared.status.Status.TheVariants.{Done, Usage, Missing, ReadFault, BadText, Limit, Flat, WriteFault, NoMemory}
-use Rattle.tetgen_run.specs.Run.{AnswerBy, HasNoFault, IsMeshAnswer}
+use Rattle.tetgen_run.specs.Ends.{HasNoFault}
+use Rattle.tetgen_run.specs.Run.{AnswerBy, IsMeshAnswer}
 use Rattle.complete_laws.specs.Complete.{AskForPoints, IsGoodFile, PointsCompleteLaw}
 
 usage : (words : List (List ℕ)) → words_fault words ≡ None → (status : Status) → IsUsage words status → status ≡ NoMemory

@@ -19,7 +19,8 @@ use Rattle.run_steps.specs.Reading.{node_text_of}
 use Rattle.run_steps.specs.Seen.{FolderSeen, SinkSeen}
 use Rattle.run_steps.specs.declared.status.Status.{Status}
 use Rattle.run_steps.specs.declared.status.Status.TheVariants.{Done, NoMemory}
-use Rattle.tetgen_run.specs.Run.{IsAnswer, HasNoFault}
+use Rattle.tetgen_run.specs.Ends.{HasNoFault}
+use Rattle.tetgen_run.specs.Run.{IsAnswer}
 
 -- the options ask for a mesh of points alone, without weights
 pub record AskForPoints (options : Options) : Type 0 where

@@ -16,7 +16,9 @@ use Rattle.run_steps.specs.declared.status.Status.{Status}
 use Rattle.run_steps.specs.declared.status.Status.TheVariants.{Done, Usage, NoMemory, WriteFault}
 use Rattle.tet_ports.specs.Counts.{Rose}
 use Rattle.tet_ports.specs.Files.{Files}
-use Rattle.tetgen_run.specs.Run.{Checked, ChecksSo, EndsByCheck, IsCheckAnswer, IsLeftByCheck, HasNoFault, IsEarly, IsPut, IsSummed, IsTellable, IsToldWithin, IsUnchanged, answer_of, check_seen, numbering_in, sound_summary, status_of_check, with_summary}
+use Rattle.tetgen_run.specs.Ends.{HasNoFault, IsEarly, IsPut, IsSummed, IsTellable, IsUnchanged, answer_of, numbering_in, with_summary}
+use Rattle.tetgen_run.specs.Run.{Checked, IsCheckAnswer, IsLeftByCheck, IsNumbering, IsToldWithin, check_seen, sound_summary, status_of_check}
+use Rattle.tetgen_run.specs.Steps.{ChecksSo, EndsByCheck}
 use Rattle.tetgen_run.specs.Stops.{stop_of_check}
 use Rattle.tetgen_run.specs.declared.stop.Stop.{Stop}
 use Rattle.tetgen_run.specs.declared.stop.Stop.TheVariants.{Refused, Unwritten, Unsummed, NoMemory as Wanting}
@@ -205,7 +207,7 @@ early_check words folder out Wanting h e = absurd e
 pub check_told : (limits : Limits) (words : List (List ℕ)) (folder : FolderSeen) (out err : SinkSeen) (stop : Stop) → EndsByCheck words folder out (Err stop)
     → IsPut (message_of (numbering_in stop) (answer_of (Err stop))) err → IsToldWithin limits words folder err (answer_of (Err stop))
 check_told limits words folder out err (Refused s by) h p =
-    refusal_told limits words folder err s by (not_done s (refused_refuses words folder out s by h)) (λ t. absurd (not_true (subst IsTrue (refused_silent words folder out s by h) t))) p
+    refusal_told message_of (IsNumbering limits words folder) err s by (not_done s (refused_refuses words folder out s by h)) (λ t. absurd (not_true (subst IsTrue (refused_silent words folder out s by h) t))) p
 check_told limits words folder out err (Unwritten text) h p = absurd h.1
 check_told limits words folder out err Unsummed h p = (None, (λ t. absurd (not_true t)), p)
 check_told limits words folder out err Wanting h p = (None, (λ t. absurd (not_true t)), p)

@@ -31,9 +31,11 @@ use Rattle.run_steps.specs.declared.numbering.Numbering.{Numbering}
 use Rattle.run_steps.specs.Meshing.{OutputsOfRun, BoundAnswer, IsUnbound, PointsMeshOf, MeshOf, MeshAnswer, IsFlatRefusal, OutputsAnswer, MeshedAnswer}
 use Rattle.run_steps.specs.Outputs.{named, AreOutputsOf}
 use Rattle.run_steps.specs.Reading.{complex_file, points_alone, on_points, WordsAnswer, FetchAnswer, TextAnswer, PointsAnswer, FormAnswer, ComplexFileAnswer, SourceAnswer, NodesAnswer, BoundedAnswer, InputOf, InputAnswer, IsUsage, IsUnfetched, IsBadText, node_text_of, plc_text_of}
-use Rattle.tetgen_run.specs.Run.{asks_check, AnswerBy, IsMeshAnswer, IsAnswerWithin, IsCompleteWithin, LeftBy, IsLeftByMesh, IsLeftWithin, asks_regular, IsRegularMesh, IsMeshOfRunWithin, IsUnchanged, IsToldWithin, IsPut, IsNumbering, IsToldAs, IsEarly, IsSummed, IsTellable, ChecksSo, EndsByMesh, EndsBy, EndsSo, answer_of, numbering_in, HasNoFault, names_points}
+use Rattle.tetgen_run.specs.Run.{asks_check, AnswerBy, IsMeshAnswer, IsAnswerWithin, IsCompleteWithin, LeftBy, IsLeftByMesh, IsLeftWithin, asks_regular, IsRegularMesh, IsMeshBy, IsMeshOfRunWithin, IsToldWithin, IsNumbering}
+use Rattle.tetgen_run.specs.Ends.{HasNoFault, IsUnchanged, IsPut, IsToldAs, IsEarly, IsTellable, FinishesSo, answer_of, numbering_in}
+use Rattle.tetgen_run.specs.Steps.{ChecksSo, EndsByMesh, EndsBy, EndsSo}
 use Rattle.run_steps.specs.Seen.{FolderSeen, SinkSeen}
-use Rattle.tetgen_run.specs.Stops.{stop_of_words, stop_of_store}
+use Rattle.tetgen_run.specs.Stops.{stop_of_words}
 use Rattle.run_steps.specs.Stores.{given, in_order, with_files, AreLeft, IfFailed, TellsFailure}
 use Rattle.command_words.specs.declared.fault.WordsFault.{WordsFault}
 use Rattle.command_words.specs.declared.fault.WordsFault.TheVariants.{Usage as Misunderstood, NoMemory as WordsWanting}
@@ -57,8 +59,10 @@ use Rattle.weighted_steps.specs.Meshing.{kept_weights}
 use Rattle.weighted_steps.proofs.Answering.{regular_list_law}
 use Rattle.run_steps.proofs.Determined.{outputs_same}
 use Rattle.run_steps.proofs.Once.{run_same}
+use Rattle.run_steps.proofs.Refusals.{input_has}
 use Rattle.run_steps.proofs.Steps.{IsDecided, status_of, and_then_refuses}
-use Rattle.tetgen_run.proofs.Refusals.{IsRefusal, IsSilent, not_true, not_done, refusal_told}
+use Rattle.tetgen_run.proofs.Refusals.{IsRefusal, IsSilent, not_true}
+use Rattle.tetgen_run.proofs.Endings.{NumbersPoints, answers_same, end_answers, end_leaves, early_leaves, end_tells, stop_tellable, finish_ends}
 use Rattle.tetgen_run.proofs.Checks.{check_answer, check_same, check_left, early_check, check_told, check_tellable, checked_end}
 
 -- ---- refusals
@@ -67,69 +71,6 @@ words_refuse : (words : List (List ℕ)) (s : Status) → IsUsage words s → Is
 words_refuse words (Usage word place) h = tt
 words_refuse words NoMemory h = tt
 words_refuse words s h = absurd h
-
--- what each refusal of the reading of an input has
-module _ (P : Status → Type 0) (missing : (name : List ℕ) → P (Missing name)) (failed : (name : List ℕ) → P (ReadFault name)) (bad : (name : List ℕ) (fault : TextFault) → P (BadText name fault))
-    (limit : (what : LimitKind) → P (Limit what)) (want : P NoMemory) where
-  want_has : (s : Status) → s ≡ NoMemory → P s
-  want_has s e = subst P (sym e) want
-
-  fetch_has : (limits : Limits) (seen : FolderSeen) (name : List ℕ) (s : Status) → IsUnfetched limits seen name s → P s
-  fetch_has limits seen name (Missing name') h = missing name'
-  fetch_has limits seen name (ReadFault name') h = failed name'
-  fetch_has limits seen name (Limit what) h = limit what
-  fetch_has limits seen name NoMemory h = want
-  fetch_has limits seen name s h = absurd h
-
-  text_has : {A : Type 0} (name : List ℕ) (reading : Result A TextFault) (s : Status) → IsBadText name reading s → P s
-  text_has name reading (BadText name' fault) h = bad name' fault
-  text_has name reading NoMemory h = want
-  text_has name reading s h = absurd h
-
-  points_have : (limits : Limits) (seen : FolderSeen) (base : List ℕ) (s : Status) → PointsAnswer limits seen base (Err s) → P s
-  points_have limits seen base =
-      let name = file_name base Node in
-      and_then_refuses P (FetchAnswer limits seen name) (λ bytes. TextAnswer name (node_text_of bytes)) (fetch_has limits seen name) (λ bytes. text_has name (node_text_of bytes))
-
-  form_has : (limits : Limits) (seen : FolderSeen) (base : List ℕ) (extension : Extension) (s : Status) → FormAnswer limits seen base extension (Err s) → P s
-  form_has limits seen base extension =
-      let name = file_name base extension in
-      and_then_refuses P (FetchAnswer limits seen name) (λ bytes. AndThen (TextAnswer name (plc_text_of extension bytes)) (λ text. Gives (complex_file name text))) (fetch_has limits seen name)
-      (λ bytes. and_then_refuses P (TextAnswer name (plc_text_of extension bytes)) (λ text. Gives (complex_file name text)) (text_has name (plc_text_of extension bytes)) (λ text. want_has))
-
-  bare_has : (limits : Limits) (seen : FolderSeen) (base : List ℕ) (s : Status) → IfMissing (FormAnswer limits seen base Poly) (FormAnswer limits seen base Smesh) (Err s) → P s
-  bare_has limits seen base s (inl h) = form_has limits seen base Poly s h.0
-  bare_has limits seen base s (inr h) = form_has limits seen base Smesh s h.2
-
-  file_has : (limits : Limits) (seen : FolderSeen) (base : List ℕ) (extension : Option Extension) (s : Status) → ComplexFileAnswer limits seen base extension (Err s) → P s
-  file_has limits seen base (Some Smesh) = form_has limits seen base Smesh
-  file_has limits seen base (Some Poly) = form_has limits seen base Poly
-  file_has limits seen base (Some Off) = form_has limits seen base Off
-  file_has limits seen base (Some Stl) = form_has limits seen base Stl
-  file_has limits seen base (Some Node) = bare_has limits seen base
-  file_has limits seen base None = bare_has limits seen base
-
-  source_has : (limits : Limits) (seen : FolderSeen) (base : List ℕ) (extension : Option Extension) (sample : Option ℕ) (s : Status) → SourceAnswer limits seen base extension sample (Err s) → P s
-  source_has limits seen base extension (Some n) = want_has
-  source_has limits seen base extension None = file_has limits seen base extension
-
-  nodes_have : (limits : Limits) (seen : FolderSeen) (base : List ℕ) (own : Option NodeText) (s : Status) → NodesAnswer limits seen base own (Err s) → P s
-  nodes_have limits seen base (Some nodes) = want_has
-  nodes_have limits seen base None = points_have limits seen base
-
-  bounded_has : (file : ComplexFile) (nodes : NodeText) (s : Status) → BoundedAnswer file nodes (Err s) → P s
-  bounded_has file nodes =
-      let input = on_points file nodes in
-      let reading = corners_check nodes.first (length nodes.decimals) file.text in
-      and_then_refuses P (TextAnswer file.name reading) (λ checked. Gives input) (text_has file.name reading) (λ checked. want_has)
-
-  input_has : (limits : Limits) (seen : FolderSeen) (options : Options) (piecewise : Bool) (s : Status) → InputOf limits piecewise seen options (Err s) → P s
-  input_has limits seen options false =
-      and_then_refuses P (PointsAnswer limits seen options.base) (λ nodes. Gives (points_alone nodes)) (points_have limits seen options.base) (λ nodes. want_has)
-  input_has limits seen options true =
-      and_then_refuses P (SourceAnswer limits seen options.base options.extension options.sample) (λ file. AndThen (NodesAnswer limits seen options.base file.text.nodes) (BoundedAnswer file))
-      (source_has limits seen options.base options.extension options.sample)
-      (λ file. and_then_refuses P (NodesAnswer limits seen options.base file.text.nodes) (BoundedAnswer file) (nodes_have limits seen options.base file.text.nodes) (bounded_has file))
 
 input_refuses : (limits : Limits) (seen : FolderSeen) (options : Options) (piecewise : Bool) (s : Status) → InputOf limits piecewise seen options (Err s) → IsRefusal s
 input_refuses = input_has IsRefusal (λ name. tt) (λ name. tt) (λ name fault. tt) (λ what. tt) tt
@@ -147,7 +88,7 @@ bound_refuses limits options input NoMemory h = tt
 bound_refuses limits options input s h = absurd h
 
 -- the message of a limit prints no points
-bound_silent : (limits : Limits) (options : Options) (input : Input) (s : Status) → IsUnbound limits options input s → IsSilent s
+pub bound_silent : (limits : Limits) (options : Options) (input : Input) (s : Status) → IsUnbound limits options input s → IsSilent s
 bound_silent limits options input (Limit what) h = refl
 bound_silent limits options input NoMemory h = refl
 bound_silent limits options input s h = absurd h
@@ -181,27 +122,24 @@ mesh_refuses : (options : Options) (bound : Bound) (piecewise : Bool) (s : Statu
 mesh_refuses options bound false s h = points_refuse options bound options.weighted s h
 mesh_refuses options bound true s h = subst IsRefusal (sym h.1) (fault_refuses h.0)
 
+pub meshed_refuses : (limits : Limits) (options : Options) (input : Input) (s : Status) → MeshedAnswer limits options input (Err s) → IsRefusal s
+meshed_refuses limits options input =
+    and_then_refuses IsRefusal (BoundAnswer limits options input) (λ bound. AndThen (MeshAnswer options bound) (OutputsAnswer options)) (bound_refuses limits options input)
+    (λ bound. and_then_refuses IsRefusal (MeshAnswer options bound) (OutputsAnswer options) (mesh_refuses options bound options.piecewise) (λ mesh. want_refuses))
+
 pub run_refuses : (limits : Limits) (words : List (List ℕ)) (seen : FolderSeen) (s : Status) → OutputsOfRun limits words seen (Err s) → IsRefusal s
 run_refuses limits words seen =
     and_then_refuses IsRefusal (WordsAnswer words) (λ options. AndThen (InputAnswer limits seen options) (MeshedAnswer limits options)) (words_refuse words)
-    (λ options. and_then_refuses IsRefusal (InputAnswer limits seen options) (MeshedAnswer limits options) (input_refuses limits seen options options.piecewise)
-    (λ input. and_then_refuses IsRefusal (BoundAnswer limits options input) (λ bound. AndThen (MeshAnswer options bound) (OutputsAnswer options)) (bound_refuses limits options input)
-    (λ bound. and_then_refuses IsRefusal (MeshAnswer options bound) (OutputsAnswer options) (mesh_refuses options bound options.piecewise) (λ mesh. want_refuses))))
+    (λ options. and_then_refuses IsRefusal (InputAnswer limits seen options) (MeshedAnswer limits options) (input_refuses limits seen options options.piecewise) (meshed_refuses limits options))
 
 -- ---- the answer
 
-refusal_answer : (limits : Limits) (words : List (List ℕ)) (folder : FolderSeen) (out : SinkSeen) (s : Status) → OutputsOfRun limits words folder (Err s) → IsRefusal s → IsMeshAnswer limits words folder out s
-refusal_answer limits words folder out Done h r = absurd r
-refusal_answer limits words folder out (WriteFault name) h r = absurd r
-refusal_answer limits words folder out NoMemory h r = tt
-refusal_answer limits words folder out s h r = h
+-- a status whose message prints no points has every numbering
+numbers_points : (limits : Limits) (words : List (List ℕ)) (folder : FolderSeen) → NumbersPoints (IsNumbering limits words folder)
+numbers_points limits words folder s by e = λ t. absurd (not_true (subst IsTrue e t))
 
 mesh_answer : (limits : Limits) (words : List (List ℕ)) (folder : FolderSeen) (out : SinkSeen) (result : Result (Unit {0}) Stop) → EndsByMesh limits words folder out result → IsMeshAnswer limits words folder out (answer_of result)
-mesh_answer limits words folder out (Ok done) h = (h.0, h.1)
-mesh_answer limits words folder out (Err (Refused status by)) h = refusal_answer limits words folder out status h.1 (run_refuses limits words folder status h.1)
-mesh_answer limits words folder out (Err (Unwritten text)) h = (h.0, h.1, h.4)
-mesh_answer limits words folder out (Err Unsummed) h = (h.0, h.1, h.4)
-mesh_answer limits words folder out (Err Wanting) h = tt
+mesh_answer limits words folder = end_answers (OutputsOfRun limits words folder) (IsNumbering limits words folder) (run_refuses limits words folder) folder
 
 end_answer_by : (limits : Limits) (b : Bool) (words : List (List ℕ)) (folder : FolderSeen) (out : SinkSeen) (result : Result (Unit {0}) Stop) → EndsBy limits b words folder out result → AnswerBy limits b words folder out (answer_of result)
 end_answer_by limits false = mesh_answer limits
@@ -210,26 +148,10 @@ end_answer_by limits true = check_answer
 pub end_answer : (limits : Limits) (words : List (List ℕ)) (folder : FolderSeen) (out : SinkSeen) (result : Result (Unit {0}) Stop) → EndsSo limits words folder out result → IsAnswerWithin limits words folder out (answer_of result)
 end_answer limits words = end_answer_by limits (asks_check words) words
 
--- what answers so has such outputs, or such a refusal
-record Outcome (limits : Limits) (words : List (List ℕ)) (folder : FolderSeen) (s : Status) : Type 0 where
-  result : Result Outputs Status
-  ran : OutputsOfRun limits words folder result
-  decided : IsDecided result
-  is : forced_answer s ≡ status_of result
-
-outcome_of : (limits : Limits) (words : List (List ℕ)) (folder : FolderSeen) (out : SinkSeen) (s : Status) → HasNoFault folder out → s ≢ NoMemory → IsMeshAnswer limits words folder out s → Outcome limits words folder s
-outcome_of limits words folder out Done f n h = record { result = Ok h.0; ran = h.1; decided = tt; is = refl }
-outcome_of limits words folder out (WriteFault None) f n h = absurd (f.1 h.2)
-outcome_of limits words folder out (WriteFault (Some name)) f n h = absurd (f.0 h.2)
-outcome_of limits words folder out NoMemory f n h = absurd (n refl)
-outcome_of limits words folder out s f n h = record { result = Err s; ran = h; decided = n; is = refl }
-
 same_by : (limits : Limits) (b : Bool) (words : List (List ℕ)) (folder : FolderSeen) (out : SinkSeen) (told : Files) → folder.files_before ≡ Some told → HasNoFault folder out → (one two : Status)
     → one ≢ NoMemory → two ≢ NoMemory → AnswerBy limits b words folder out one → AnswerBy limits b words folder out two → forced_answer one ≡ forced_answer two
 same_by limits false words folder out told e f one two n m h k =
-    let a = outcome_of limits words folder out one f n h in
-    let b = outcome_of limits words folder out two f m k in
-    a.is ∙ run_same limits told words folder e f.0 a.result b.result a.decided b.decided a.ran b.ran ∙ sym b.is
+    answers_same (OutputsOfRun limits words folder) (run_same limits told words folder e f.0) folder out f one two n m h k
 same_by limits true words folder out told e f one two n m h k = ap forced_answer (check_same words folder out told e f one two n m h k)
 
 pub answer_complete : (limits : Limits) (words : List (List ℕ)) (folder : FolderSeen) (out : SinkSeen) (s : Status) → IsAnswerWithin limits words folder out s → IsCompleteWithin limits words folder out s
@@ -280,15 +202,13 @@ mesh_triangulates : (options : Options) (bound : Bound) (piecewise : Bool) (mesh
 mesh_triangulates options bound true mesh h e = absurd (cc)
 mesh_triangulates options bound false mesh h e = points_triangulate options bound options.weighted mesh h
 
-pub mesh_of_run : (limits : Limits) (words : List (List ℕ)) (folder : FolderSeen) (outputs : Outputs) → OutputsOfRun limits words folder (Ok outputs) → IsMeshOfRunWithin limits words folder outputs
-mesh_of_run limits words folder outputs h =
-    let o = options_of words in
-    let e = h.1.1 in
-    let read = subst (λ q. InputAnswer limits folder q (Ok h.2.0)) e h.2.1 in
-    let m = subst (λ q. MeshedAnswer limits q h.2.0 (Ok outputs)) e h.2.2 in
+-- the outputs of an input are those of one mesh
+pub mesh_by : (limits : Limits) (options : Options) (Understood : Type 0) (Read : Input → Type 0) (input : Input) (outputs : Outputs) → Understood → Read input → MeshedAnswer limits options input (Ok outputs)
+    → IsMeshBy limits options Understood Read outputs
+mesh_by limits o Understood Read input outputs understood read m =
     let made = m.2 in record {
-      understood = h.1.0;
-      input = h.2.0;
+      understood = understood;
+      input = input;
       read = read;
       bound = m.0;
       on_grid = m.1;
@@ -302,19 +222,16 @@ mesh_of_run limits words folder outputs h =
       only = λ other on. outputs_same o made.0 other outputs on made.2;
     }
 
-refusal_left : (limits : Limits) (words : List (List ℕ)) (folder : FolderSeen) (out : SinkSeen) (s : Status) → IsRefusal s → IsUnchanged folder out → IsLeftByMesh limits words folder out s
-refusal_left limits words folder out Done r h = absurd r
-refusal_left limits words folder out (WriteFault name) r h = absurd r
-refusal_left limits words folder out NoMemory r h = (h.written, inl h.files)
-refusal_left limits words folder out s r h = h
+pub mesh_of_run : (limits : Limits) (words : List (List ℕ)) (folder : FolderSeen) (outputs : Outputs) → OutputsOfRun limits words folder (Ok outputs) → IsMeshOfRunWithin limits words folder outputs
+mesh_of_run limits words folder outputs h =
+    let o = options_of words in
+    let e = h.1.1 in
+    mesh_by limits o (words_fault words ≡ None) (λ input. InputAnswer limits folder o (Ok input)) h.2.0 outputs h.1.0 (subst (λ q. InputAnswer limits folder q (Ok h.2.0)) e h.2.1)
+    (subst (λ q. MeshedAnswer limits q h.2.0 (Ok outputs)) e h.2.2)
 
 mesh_left : (limits : Limits) (words : List (List ℕ)) (folder : FolderSeen) (out : SinkSeen) (result : Result (Unit {0}) Stop) → EndsByMesh limits words folder out result → IsLeftByMesh limits words folder out (answer_of result)
-mesh_left limits words folder out (Ok done) h = (h.0, mesh_of_run limits words folder h.0 h.1, h.2, h.3)
-mesh_left limits words folder out (Err (Refused status by)) h = refusal_left limits words folder out status (run_refuses limits words folder status h.1) h.0
-mesh_left limits words folder out (Err (Unwritten text)) h = (h.0, mesh_of_run limits words folder h.0 h.1, h.2, h.3)
-mesh_left limits words folder out (Err Unsummed) h = (h.0, mesh_of_run limits words folder h.0 h.1, h.2, h.3)
-mesh_left limits words folder out (Err Wanting) (w, inl h) = (w, inl h)
-mesh_left limits words folder out (Err Wanting) (w, inr h) = (w, inr (h.0, mesh_of_run limits words folder h.0 h.1, h.2))
+mesh_left limits words folder =
+    end_leaves (OutputsOfRun limits words folder) (IsNumbering limits words folder) (IsMeshOfRunWithin limits words folder) (run_refuses limits words folder) (mesh_of_run limits words folder) folder
 
 end_left_by : (limits : Limits) (b : Bool) (words : List (List ℕ)) (folder : FolderSeen) (out : SinkSeen) (result : Result (Unit {0}) Stop) → EndsBy limits b words folder out result → LeftBy limits b words folder out (answer_of result)
 end_left_by limits false = mesh_left limits
@@ -330,15 +247,12 @@ want_answer limits false words folder out = tt
 want_answer limits true words folder out = tt
 
 -- the answer after a stop has its cause, leaves what it may, and has its message
-pub stop_answer : (limits : Limits) (words : List (List ℕ)) (folder : FolderSeen) (out err : SinkSeen) (stop : Stop) (s : Status) → EndsSo limits words folder out (Err stop) → IsToldAs stop err s → IsAnswerWithin limits words folder out s
+pub stop_answer : (limits : Limits) (words : List (List ℕ)) (folder : FolderSeen) (out err : SinkSeen) (stop : Stop) (s : Status) → EndsSo limits words folder out (Err stop) → IsToldAs message_of stop err s → IsAnswerWithin limits words folder out s
 stop_answer limits words folder out err stop s h (inl t) = subst (IsAnswerWithin limits words folder out) (sym t.0) (end_answer limits words folder out (Err stop) h)
 stop_answer limits words folder out err stop s h (inr t) = subst (IsAnswerWithin limits words folder out) (sym t.0) (want_answer limits (asks_check words) words folder out)
 
 early_mesh : (limits : Limits) (words : List (List ℕ)) (folder : FolderSeen) (out : SinkSeen) (stop : Stop) → EndsByMesh limits words folder out (Err stop) → IsEarly stop → IsLeftByMesh limits words folder out NoMemory
-early_mesh limits words folder out (Refused status by) h e = (h.0.written, inl h.0.files)
-early_mesh limits words folder out (Unwritten text) h e = absurd e
-early_mesh limits words folder out Unsummed h e = absurd e
-early_mesh limits words folder out Wanting h e = absurd e
+early_mesh limits words folder = early_leaves (OutputsOfRun limits words folder) (IsNumbering limits words folder) (IsMeshOfRunWithin limits words folder) folder
 
 early_by : (limits : Limits) (b : Bool) (words : List (List ℕ)) (folder : FolderSeen) (out : SinkSeen) (stop : Stop) → EndsBy limits b words folder out (Err stop) → IsEarly stop → LeftBy limits b words folder out NoMemory
 early_by limits false = early_mesh limits
@@ -347,16 +261,13 @@ early_by limits true = early_check
 early_left : (limits : Limits) (words : List (List ℕ)) (folder : FolderSeen) (out : SinkSeen) (stop : Stop) → EndsSo limits words folder out (Err stop) → IsEarly stop → IsLeftWithin limits words folder out NoMemory
 early_left limits words = early_by limits (asks_check words) words
 
-pub stop_left : (limits : Limits) (words : List (List ℕ)) (folder : FolderSeen) (out err : SinkSeen) (stop : Stop) (s : Status) → EndsSo limits words folder out (Err stop) → IsToldAs stop err s → IsLeftWithin limits words folder out s
+pub stop_left : (limits : Limits) (words : List (List ℕ)) (folder : FolderSeen) (out err : SinkSeen) (stop : Stop) (s : Status) → EndsSo limits words folder out (Err stop) → IsToldAs message_of stop err s → IsLeftWithin limits words folder out s
 stop_left limits words folder out err stop s h (inl t) = subst (IsLeftWithin limits words folder out) (sym t.0) (end_left limits words folder out (Err stop) h)
 stop_left limits words folder out err stop s h (inr t) = subst (IsLeftWithin limits words folder out) (sym t.0) (early_left limits words folder out stop h t.1)
 
 mesh_told : (limits : Limits) (words : List (List ℕ)) (folder : FolderSeen) (out err : SinkSeen) (stop : Stop) → EndsByMesh limits words folder out (Err stop)
     → IsPut (message_of (numbering_in stop) (answer_of (Err stop))) err → IsToldWithin limits words folder err (answer_of (Err stop))
-mesh_told limits words folder out err (Refused status by) h p = refusal_told limits words folder err status by (not_done status (run_refuses limits words folder status h.1)) h.2 p
-mesh_told limits words folder out err (Unwritten text) h p = (None, (λ t. absurd (not_true t)), p)
-mesh_told limits words folder out err Unsummed h p = (None, (λ t. absurd (not_true t)), p)
-mesh_told limits words folder out err Wanting h p = (None, (λ t. absurd (not_true t)), p)
+mesh_told limits words folder = end_tells message_of (OutputsOfRun limits words folder) (IsNumbering limits words folder) (run_refuses limits words folder) (numbers_points limits words folder) folder
 
 first_told_by : (limits : Limits) (b : Bool) (words : List (List ℕ)) (folder : FolderSeen) (out err : SinkSeen) (stop : Stop) → EndsBy limits b words folder out (Err stop)
     → IsPut (message_of (numbering_in stop) (answer_of (Err stop))) err → IsToldWithin limits words folder err (answer_of (Err stop))
@@ -367,16 +278,13 @@ first_told : (limits : Limits) (words : List (List ℕ)) (folder : FolderSeen) (
     → IsPut (message_of (numbering_in stop) (answer_of (Err stop))) err → IsToldWithin limits words folder err (answer_of (Err stop))
 first_told limits words = first_told_by limits (asks_check words) words
 
-pub stop_told : (limits : Limits) (words : List (List ℕ)) (folder : FolderSeen) (out err : SinkSeen) (stop : Stop) (s : Status) → EndsSo limits words folder out (Err stop) → IsToldAs stop err s → IsToldWithin limits words folder err s
+pub stop_told : (limits : Limits) (words : List (List ℕ)) (folder : FolderSeen) (out err : SinkSeen) (stop : Stop) (s : Status) → EndsSo limits words folder out (Err stop) → IsToldAs message_of stop err s → IsToldWithin limits words folder err s
 stop_told limits words folder out err stop s h (inl t) = subst (IsToldWithin limits words folder err) (sym t.0) (first_told limits words folder out err stop h t.1)
 stop_told limits words folder out err stop s h (inr t) = subst (IsToldWithin limits words folder err) (sym t.0) (None, (λ e. absurd (not_true e)), t.2)
 
 -- the text at which a store failed has its message
 mesh_tellable : (limits : Limits) (words : List (List ℕ)) (folder : FolderSeen) (out : SinkSeen) (stop : Stop) → EndsByMesh limits words folder out (Err stop) → IsTellable stop
-mesh_tellable limits words folder out (Refused status by) h = tt
-mesh_tellable limits words folder out (Unwritten text) h = h.5
-mesh_tellable limits words folder out Unsummed h = tt
-mesh_tellable limits words folder out Wanting h = tt
+mesh_tellable limits words folder = stop_tellable (OutputsOfRun limits words folder) (IsNumbering limits words folder) folder
 
 tellable_by : (limits : Limits) (b : Bool) (words : List (List ℕ)) (folder : FolderSeen) (out : SinkSeen) (stop : Stop) → EndsBy limits b words folder out (Err stop) → IsTellable stop
 tellable_by limits false = mesh_tellable limits
@@ -447,35 +355,6 @@ pub outputs_run : (limits : Limits) (words : List (List ℕ)) (folder : FolderSe
     → InputAnswer limits folder options (Ok input) → BoundAnswer limits options input (Ok bound) → AndThen (MeshAnswer options bound) (OutputsAnswer options) (Ok outputs) → OutputsOfRun limits words folder (Ok outputs)
 outputs_run limits words folder options input bound outputs w r b m = (options, w, (input, r, (bound, b, m)))
 
--- where a store is refused
-mesh_store_end : (limits : Limits) (words : List (List ℕ)) (folder : FolderSeen) (out : SinkSeen) (outputs : Outputs) (stop : StoreStop) → OutputsOfRun limits words folder (Ok outputs)
-    → AreLeft folder.files_before (in_order outputs.texts) folder.files_now stop → IfFailed stop (Rose folder.faults_before folder.faults_now)
-    → All TellsFailure (in_order outputs.texts) → out.written_now ≡ out.written_before → EndsByMesh limits words folder out (Err (stop_of_store stop))
-mesh_store_end limits words folder out outputs (Failed text) ran left rose told w = (outputs, ran, left.0, w, rose, All-contains TellsFailure (in_order outputs.texts) text told left.1)
-mesh_store_end limits words folder out outputs StoreWanting ran left rose told w = (w, inr (outputs, ran, left))
-
-pub store_end : (limits : Limits) (words : List (List ℕ)) (folder : FolderSeen) (out : SinkSeen) (options : Options) (outputs : Outputs) (stop : StoreStop) → WordsAnswer words (Ok options)
-    → options.check ≡ false → OutputsOfRun limits words folder (Ok outputs)
-    → AreLeft folder.files_before (in_order outputs.texts) folder.files_now stop → IfFailed stop (Rose folder.faults_before folder.faults_now)
-    → All TellsFailure (in_order outputs.texts) → out.written_now ≡ out.written_before → EndsSo limits words folder out (Err (stop_of_store stop))
-store_end limits words folder out options outputs stop w n ran left rose told same =
-    by_mesh limits words folder out options (Err (stop_of_store stop)) w n (mesh_store_end limits words folder out outputs stop ran left rose told same)
-
-mesh_summed_end : (limits : Limits) (words : List (List ℕ)) (folder : FolderSeen) (out : SinkSeen) (outputs : Outputs) (result : Result (Unit {0}) Stop) → OutputsOfRun limits words folder (Ok outputs)
-    → folder.files_now ≡ with_files folder.files_before (in_order outputs.texts) → IsSummed outputs.summary out result → EndsByMesh limits words folder out result
-mesh_summed_end limits words folder out outputs (Ok done) ran f s = (outputs, ran, f, s)
-mesh_summed_end limits words folder out outputs (Err Unsummed) ran f s = (outputs, ran, f, s.0, s.1)
-mesh_summed_end limits words folder out outputs (Err Wanting) ran f s =
-    (s, inr (outputs, ran, record { stored = in_order outputs.texts; left = []; texts_are = sym (append-nil (in_order outputs.texts)); now_is = f }))
-mesh_summed_end limits words folder out outputs (Err (Refused status by)) ran f s = absurd s
-mesh_summed_end limits words folder out outputs (Err (Unwritten text)) ran f s = absurd s
-
--- where all is stored
-pub summed_end : (limits : Limits) (words : List (List ℕ)) (folder : FolderSeen) (out : SinkSeen) (options : Options) (outputs : Outputs) (result : Result (Unit {0}) Stop) → WordsAnswer words (Ok options)
-    → options.check ≡ false → OutputsOfRun limits words folder (Ok outputs)
-    → folder.files_now ≡ with_files folder.files_before (in_order outputs.texts) → IsSummed outputs.summary out result → EndsSo limits words folder out result
-summed_end limits words folder out options outputs result w n ran f s = by_mesh limits words folder out options result w n (mesh_summed_end limits words folder out outputs result ran f s)
-
 -- ---- the texts
 
 told_unless : (b : Bool) (base extension content : List ℕ) (o : Option NamedText) → o ≡ (if b then None else Some (named base extension content)) → All TellsFailure (given (o ∷ []))
@@ -502,7 +381,10 @@ outputs_told options mesh outputs a =
 pub run_told : (limits : Limits) (words : List (List ℕ)) (folder : FolderSeen) (outputs : Outputs) → OutputsOfRun limits words folder (Ok outputs) → All TellsFailure (in_order outputs.texts)
 run_told limits words folder outputs h = let m = h.2.2 in outputs_told h.0 m.2.0 outputs m.2.2
 
--- the count of faults rose from an earlier value too
-pub failed_wider : (stop : StoreStop) (earlier before now : ℕ) → earlier ≤ before → IfFailed stop (Rose before now) → IfFailed stop (Rose earlier now)
-failed_wider (Failed text) earlier before now h r = omega arith
-failed_wider StoreWanting earlier before now h r = tt
+-- the end of the stores and of the summary is that of the run
+pub finish_end : (limits : Limits) (words : List (List ℕ)) (part folder : FolderSeen) (out : SinkSeen) (options : Options) (outputs : Outputs) (result : Result (Unit {0}) Stop) → WordsAnswer words (Ok options)
+    → options.check ≡ false → OutputsOfRun limits words folder (Ok outputs) → part.files_before ≡ folder.files_before → part.files_now ≡ folder.files_now → folder.faults_before ≤ part.faults_before
+    → part.faults_now ≡ folder.faults_now → FinishesSo outputs part out result → EndsSo limits words folder out result
+finish_end limits words part folder out options outputs result w n ran b now e f h =
+    by_mesh limits words folder out options result w n
+    (finish_ends (OutputsOfRun limits words folder) (IsNumbering limits words folder) outputs part folder out result ran (run_told limits words folder outputs ran) b now e f h)

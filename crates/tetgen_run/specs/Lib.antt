@@ -1,2 +1,4 @@
+pub mod Ends
 pub mod Run
+pub mod Steps
 pub mod Stops

@@ -1,20 +1,19 @@
 //! The run of the program: from its words to the files of a mesh.
 
 ghost use Rattle.std.specs.Prelude.{◌≡◌, ◌≤◌, ◌⊎◌, IsErrOf, Err};
-ghost use Rattle.tetgen_run.specs.Run.{IsAnswer, IsAnswerWithin, IsComplete, IsCompleteWithin, IsLeft, IsLeftWithin, IsTold, IsToldWithin, IsPut, ChecksSo, EndsSo, IsSummed, IsTellable, IsToldAs};
+ghost use Rattle.tetgen_run.specs.Run.{IsAnswer, IsAnswerWithin, IsComplete, IsCompleteWithin, IsLeft, IsLeftWithin, IsTold, IsToldWithin};
+ghost use Rattle.tetgen_run.specs.Steps.{ChecksSo, EndsSo};
 ghost use Rattle.node_files.specs.Limits.{AreIndexable};
 ghost use Rattle.run_steps.specs.Seen.{folder_seen, sink_seen};
 
+use crate::ends::{finish, sum_up, tell};
 use crate::stop::Stop;
 use check_steps::{check_files, sound_line};
 use command_words::{Options, read_words};
 use node_files::Limits;
-use run_steps::{
-    OUT_OF_MEMORY, Outputs, SUMMARY_FAILED, Status, bind_input, mesh_outputs, message,
-    numbering_of, read_input, store_all,
-};
+use run_steps::{Status, bind_input, mesh_outputs, numbering_of, read_input};
 use std::alloc::Global;
-use tet_ports::{Bytes, Folder, PutFault, Sink, Words};
+use tet_ports::{Folder, Sink, Words};
 
 /// Reads the words, fetches the input that they name, stores the files of its mesh that the words
 /// ask for, and puts the summary to `out`. On every answer but Done it puts one message to `err`; a
@@ -28,10 +27,18 @@ pub fn run_tetgen<F: Folder, O: Sink, E: Sink>(
     out: &mut O,
     err: &mut E,
 ) -> Status
-    ensures answer { IsAnswer words.now (folder_seen F.held F.faults F.misses folder.old folder.new) (sink_seen O.written O.faults O.wants out.old out.new) result }
-    ensures complete { IsComplete words.now (folder_seen F.held F.faults F.misses folder.old folder.new) (sink_seen O.written O.faults O.wants out.old out.new) result }
-    ensures left { IsLeft words.now (folder_seen F.held F.faults F.misses folder.old folder.new) (sink_seen O.written O.faults O.wants out.old out.new) result }
-    ensures told { IsTold words.now (folder_seen F.held F.faults F.misses folder.old folder.new) (sink_seen E.written E.faults E.wants err.old err.new) result }
+    ensures answer { IsAnswer words.now
+        (folder_seen F.held F.faults F.misses folder.old folder.new)
+        (sink_seen O.written O.faults O.wants out.old out.new) result }
+    ensures complete { IsComplete words.now
+        (folder_seen F.held F.faults F.misses folder.old folder.new)
+        (sink_seen O.written O.faults O.wants out.old out.new) result }
+    ensures left { IsLeft words.now
+        (folder_seen F.held F.faults F.misses folder.old folder.new)
+        (sink_seen O.written O.faults O.wants out.old out.new) result }
+    ensures told { IsTold words.now
+        (folder_seen F.held F.faults F.misses folder.old folder.new)
+        (sink_seen E.written E.faults E.wants err.old err.new) result }
 {
     run_within(alloc, Limits::tetgen(), words, folder, out, err)
 }
@@ -75,7 +82,9 @@ fn run<F: Folder, O: Sink>(
     out: &mut O,
 ) -> Result<(), Stop>
     requires { AreIndexable limits }
-    ensures { EndsSo limits words.now (folder_seen F.held F.faults F.misses folder.old folder.new) (sink_seen O.written O.faults O.wants out.old out.new) result }
+    ensures { EndsSo limits words.now
+        (folder_seen F.held F.faults F.misses folder.old folder.new)
+        (sink_seen O.written O.faults O.wants out.old out.new) result }
 {
     let options = read_words(alloc, words)?;
     if options.check {
@@ -93,9 +102,7 @@ fn run<F: Folder, O: Sink>(
             });
         }
     };
-    let Outputs { texts, summary } = outputs;
-    store_all(texts.in_order(alloc)?, folder)?;
-    sum_up(summary, out)
+    finish(alloc, outputs, folder, out)
 }
 
 /// The check of a mesh: it stores nothing, and puts one line on a sound mesh.
@@ -105,7 +112,9 @@ fn check<F: Folder, O: Sink>(
     folder: &mut F,
     out: &mut O,
 ) -> Result<(), Stop>
-    ensures { ChecksSo options.now (folder_seen F.held F.faults F.misses folder.old folder.new) (sink_seen O.written O.faults O.wants out.old out.new) result }
+    ensures { ChecksSo options.now
+        (folder_seen F.held F.faults F.misses folder.old folder.new)
+        (sink_seen O.written O.faults O.wants out.old out.new) result }
 {
     let count = check_files(alloc, &options.base, options.decimals, folder)?;
     if options.quiet {
@@ -113,59 +122,4 @@ fn check<F: Folder, O: Sink>(
     }
     let line = sound_line(alloc, count)?;
     sum_up(Some(line), out)
-}
-
-/// Puts the summary, where there is one.
-fn sum_up<O: Sink>(summary: Option<Bytes>, out: &mut O) -> Result<(), Stop>
-    ensures { IsSummed summary (sink_seen O.written O.faults O.wants out.old out.new) result }
-{
-    let Some(line) = summary else {
-        return Ok(());
-    };
-    match out.put(line.as_slice()) {
-        Ok(()) => Ok(()),
-        Err(PutFault::Failed) => Err(Stop::Unsummed),
-        Err(PutFault::NoMemory) => Err(Stop::NoMemory),
-    }
-}
-
-/// Puts a message; a failure there changes nothing.
-fn put<E: Sink>(line: &[u8], err: &mut E)
-    ensures { IsPut line.now (sink_seen E.written E.faults E.wants err.old err.new) }
-{
-    let _ = err.put(line);
-}
-
-/// Puts the message of a stop, and answers its status. Where there is no memory for the message,
-/// the answer is want of memory.
-fn tell<E: Sink>(alloc: Global, stop: Stop, err: &mut E) -> Status
-    requires { IsTellable stop }
-    ensures { IsToldAs stop (sink_seen E.written E.faults E.wants err.old err.new) result }
-{
-    match stop {
-        Stop::Refused { status, numbering } => match message(alloc, &numbering, &status) {
-            Ok(line) => {
-                put(line.as_slice(), err);
-                status
-            }
-            Err(_) => {
-                put(OUT_OF_MEMORY, err);
-                Status::NoMemory
-            }
-        },
-        Stop::Unwritten(text) => {
-            put(text.message.as_slice(), err);
-            Status::WriteFault {
-                name: Some(text.name),
-            }
-        }
-        Stop::Unsummed => {
-            put(SUMMARY_FAILED, err);
-            Status::WriteFault { name: None }
-        }
-        Stop::NoMemory => {
-            put(OUT_OF_MEMORY, err);
-            Status::NoMemory
-        }
-    }
 }

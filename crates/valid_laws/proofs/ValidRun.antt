@@ -15,7 +15,8 @@ use Rattle.run_steps.specs.declared.input.Input.{Input}
 use Rattle.run_steps.specs.declared.mesh.Bound.{Bound}
 use Rattle.run_steps.specs.declared.status.Status.{Status}
 use Rattle.run_steps.specs.declared.status.Status.TheVariants.{Done, Usage, NoMemory, WriteFault}
-use Rattle.tetgen_run.specs.Run.{AnswerBy, HasNoFault, IsMeshAnswer}
+use Rattle.tetgen_run.specs.Ends.{HasNoFault}
+use Rattle.tetgen_run.specs.Run.{AnswerBy, IsMeshAnswer}
 use Rattle.valid_laws.specs.Valid.{IsValid, HasNoAnomaly}
 use Rattle.valid_laws.specs.ValidRun.{IsValidRun, ValidRunLaw}
 use Rattle.valid_laws.proofs.Valid.{valid_complex}

@@ -31,7 +31,7 @@ use Rattle.run_steps.specs.declared.mesh.Bound.{Bound}
 use Rattle.run_steps.specs.declared.status.Status.{Status}
 use Rattle.run_steps.specs.declared.status.Status.TheVariants.{NoFill, NoMemory}
 use Rattle.run_steps.proofs.Once.{bound_once, input_once}
-use Rattle.tetgen_run.specs.Run.{IsPut}
+use Rattle.tetgen_run.specs.Ends.{IsPut}
 use Rattle.worked_run.specs.Nonplanar.{ChangesNothing, EndsNotFlat, IsRefused, TellsFacet, not_flat, nonplanar_bytes, nonplanar_start}
 use Rattle.worked_run.specs.Runs.{HasFile}
 use Rattle.worked_run.proofs.Grid.{pyramid_grid}

@@ -20,7 +20,8 @@ use Rattle.run_steps.specs.declared.status.Status.{Status}
 use Rattle.run_steps.specs.declared.status.Status.TheVariants.{Done, NoMemory, WriteFault}
 use Rattle.run_steps.proofs.Determined.{outputs_same}
 use Rattle.run_steps.proofs.Once.{bound_once, input_once, words_once}
-use Rattle.tetgen_run.specs.Run.{AnswerBy, HasNoFault, IsLeftByMesh, IsMeshAnswer, IsMeshOfRun, LeftBy, asks_check, with_summary}
+use Rattle.tetgen_run.specs.Ends.{HasNoFault, with_summary}
+use Rattle.tetgen_run.specs.Run.{AnswerBy, IsLeftByMesh, IsMeshAnswer, IsMeshOfRun, LeftBy, asks_check}
 use Rattle.worked_run.specs.Runs.{EndsDone, HasFile, HasNoOthers, HasOutputs, Leaves, Start}
 use Rattle.worked_run.proofs.Steps.{IsOnly, given, is_want, not_want, ok_err, ok_same, once_only, refused, then_only}
 

@@ -6,7 +6,8 @@ use Rattle.run_steps.specs.Meshing.{OutputsOfRun}
 use Rattle.run_steps.specs.Seen.{FolderSeen, SinkSeen}
 use Rattle.run_steps.specs.declared.status.Status.{Status}
 use Rattle.run_steps.specs.declared.status.Status.TheVariants.{NoMemory, NotFlat}
-use Rattle.tetgen_run.specs.Run.{HasNoFault, IsComplete, IsLeft, IsPut, IsTold, IsUnchanged}
+use Rattle.tetgen_run.specs.Ends.{HasNoFault, IsPut, IsUnchanged}
+use Rattle.tetgen_run.specs.Run.{IsComplete, IsLeft, IsTold}
 use Rattle.worked_run.specs.Runs.{HasFile, Start}
 
 -- four points that are in no plane, and one facet with all of them as its corners

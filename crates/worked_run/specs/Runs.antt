@@ -11,7 +11,8 @@ use Rattle.run_steps.specs.Stores.{in_order, with_files}
 use Rattle.run_steps.specs.declared.outputs.Outputs.{Outputs}
 use Rattle.run_steps.specs.declared.status.Status.{Status}
 use Rattle.run_steps.specs.declared.status.Status.TheVariants.{Done, NoMemory}
-use Rattle.tetgen_run.specs.Run.{HasNoFault, IsAnswer, IsComplete, IsLeft, with_summary}
+use Rattle.tetgen_run.specs.Ends.{HasNoFault, with_summary}
+use Rattle.tetgen_run.specs.Run.{IsAnswer, IsComplete, IsLeft}
 
 -- the words of a run, and the name and the bytes of the file that it reads
 pub record Start : Type 0 where

@@ -1,8 +1,7 @@
 use Rattle.std.proofs.Common.{◌≡◌, refl, subst, Ok, arith}
 use Rattle.std.proofs.lemmas.Result.{err_from_is_err_and}
 use Rattle.run_steps.specs.Seen.{FolderSeen, SinkSeen, folder_seen, sink_seen}
-use Rattle.run_steps.specs.Stores.{AreLeft, with_files}
-use Rattle.tetgen_run.proofs.Runs.{bound_end, by_check, want_end, failed_wider, mesh_end, store_end, summed_end, outputs_run, run_told}
+use Rattle.tetgen_run.proofs.Runs.{bound_end, by_check, want_end, mesh_end, finish_end, outputs_run}
 use Rattle.run_steps.proofs.Wider.{IsWithin, input_wider}
 use Rattle.tetgen_run.proofs.run.run.Goals as goal
 
@@ -42,42 +41,15 @@ returns-in-Err g c =
     rw c.in_ok-numbering.ensures (mesh_end c.args.limits c.args.words.now folder out c.in_ok-options.options c.in_ok-input.input c.in_ok-bound.bound c.in-Err.status (c.in_ok-options.ensures.understood, c.in_ok-options.ensures.options) c.if-options.false
     c.in_ok-input.ensures.answer c.in_ok-bound.ensures.answer c.in-Err.ensures (record { files = c.read_input.ensures.unchanged; written = refl }))
 
-pub returns-in_err-store_all : goal.returns-in_err-store_all
-returns-in_err-store_all g c =
-    let F = g.F.Folder in
-    let O = g.O.Sink in
-    let part : FolderSeen = folder_seen F.held F.faults F.misses c.args.folder.now c.read_input.new.folder in
-    let folder : FolderSeen = folder_seen F.held F.faults F.misses c.args.folder.now c.store_all.new.folder in
-    let a = c.read_input.ensures in
-    let b = c.store_all.ensures in
-    let within : IsWithin part folder = record {
-      files = refl;
-      faults_before = omega arith;
-      faults_now = b.faults;
-      misses_before = omega arith;
-      misses_now = b.misses;
-    } in
-    let o = c.in_ok-options.options in
-    let outputs = c.in-Ok.outputs in
-    let read = input_wider c.args.limits part folder within o (Ok c.in_ok-input.input) c.in_ok-input.ensures.answer in
-    let ran = outputs_run c.args.limits c.args.words.now folder o c.in_ok-input.input c.in_ok-bound.bound outputs (c.in_ok-options.ensures.understood, c.in_ok-options.ensures.options) read c.in_ok-bound.ensures.answer c.in-Ok.ensures in
-    let out : SinkSeen = sink_seen O.written O.faults O.wants c.args.out.now c.args.out.now in
-    let stop = c.in_err-store_all.field-0.0 in
-    let now = F.held c.store_all.new.folder in
-    let left = subst (λ texts. AreLeft (F.held c.args.folder.now) texts now stop) c.in_ok-in_order.ensures
-    (subst (λ files. AreLeft files c.in_ok-in_order.field-0.items now stop) a.unchanged c.in_err-store_all.ensures.stopped) in
-    let rose = failed_wider stop (F.faults c.args.folder.now) (F.faults c.read_input.new.folder) (F.faults c.store_all.new.folder) a.faults c.in_err-store_all.ensures.failed in
-    let p = err_from_is_err_and c.from_residual-in_err-store_all.result c.from_residual-in_err-store_all.ensures.1 in
-    rw (p.1, p.2) (store_end c.args.limits c.args.words.now folder out o outputs stop (c.in_ok-options.ensures.understood, c.in_ok-options.ensures.options) c.if-options.false ran left rose (run_told c.args.limits c.args.words.now folder outputs ran) refl)
-
 pub returns : goal.returns
 returns g c =
     let F = g.F.Folder in
     let O = g.O.Sink in
     let part : FolderSeen = folder_seen F.held F.faults F.misses c.args.folder.now c.read_input.new.folder in
-    let folder : FolderSeen = folder_seen F.held F.faults F.misses c.args.folder.now c.store_all.new.folder in
+    let stored : FolderSeen = folder_seen F.held F.faults F.misses c.read_input.new.folder c.finish.new.folder in
+    let folder : FolderSeen = folder_seen F.held F.faults F.misses c.args.folder.now c.finish.new.folder in
     let a = c.read_input.ensures in
-    let b = c.store_all.ensures in
+    let b = c.finish.ensures in
     let within : IsWithin part folder = record {
       files = refl;
       faults_before = omega arith;
@@ -89,8 +61,5 @@ returns g c =
     let outputs = c.in-Ok.outputs in
     let read = input_wider c.args.limits part folder within o (Ok c.in_ok-input.input) c.in_ok-input.ensures.answer in
     let ran = outputs_run c.args.limits c.args.words.now folder o c.in_ok-input.input c.in_ok-bound.bound outputs (c.in_ok-options.ensures.understood, c.in_ok-options.ensures.options) read c.in_ok-bound.ensures.answer c.in-Ok.ensures in
-    let out : SinkSeen = sink_seen O.written O.faults O.wants c.args.out.now c.sum_up.new.out in
-    let now = F.held c.store_all.new.folder in
-    let stored = subst (λ texts. now ≡ with_files (F.held c.args.folder.now) texts) c.in_ok-in_order.ensures
-    (subst (λ files. now ≡ with_files files c.in_ok-in_order.field-0.items) a.unchanged c.in_ok-store_all.ensures.stored) in
-    summed_end c.args.limits c.args.words.now folder out o outputs c.sum_up.result (c.in_ok-options.ensures.understood, c.in_ok-options.ensures.options) c.if-options.false ran stored c.sum_up.ensures
+    let out : SinkSeen = sink_seen O.written O.faults O.wants c.args.out.now c.finish.new.out in
+    finish_end c.args.limits c.args.words.now stored folder out o outputs c.finish.result (c.in_ok-options.ensures.understood, c.in_ok-options.ensures.options) c.if-options.false ran a.unchanged refl a.faults refl b.finish

@@ -1,5 +1,5 @@
 use Rattle.std.proofs.Common.{subst, Ok}
-use Rattle.tetgen_run.specs.Run.{EndsSo}
+use Rattle.tetgen_run.specs.Steps.{EndsSo}
 use Rattle.run_steps.specs.Seen.{FolderSeen, SinkSeen, folder_seen, sink_seen}
 use Rattle.tetgen_run.proofs.Runs.{end_answer, end_left, answer_complete, stop_answer, stop_left, stop_told}
 use Rattle.tetgen_run.proofs.run.run_within.Goals as goal

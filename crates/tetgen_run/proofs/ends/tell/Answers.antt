@@ -1,7 +1,7 @@
 use Rattle.std.proofs.Common.{inl, refl, subst}
-use Rattle.tetgen_run.specs.Run.{IsPut}
+use Rattle.tetgen_run.specs.Ends.{IsPut}
 use Rattle.run_steps.specs.Seen.{SinkSeen, sink_seen}
-use Rattle.tetgen_run.proofs.run.tell.Goals as goal
+use Rattle.tetgen_run.proofs.ends.tell.Goals as goal
 
 pub returns-in-Ok : goal.returns-in-Ok
 returns-in-Ok g c =
