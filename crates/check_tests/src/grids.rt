@@ -13,39 +13,57 @@ fn grid_of(alloc: Global, text: &[u8]) -> Result<Result<Grid, Range>, Fail> {
     Ok(least_grid(&nodes.decimals))
 }
 
-fn grid(decimals: u32, halvings: u32) -> Result<Grid, Range> {
-    Ok(Grid { decimals, halvings })
+/// Points, and the decimals and the halvings of their least grid, or the first line off every grid.
+const GRIDS: [(&[u8], Result<(u32, u32), usize>); 8] = [
+    (b"1 3\n0 2 0 -4\n", Ok((0, 0))),
+    (b"1 3\n0 .5 0 0\n", Ok((0, 1))),
+    (b"1 3\n0 .2 0 0\n", Ok((1, 0))),
+    (b"2 3\n0 .2 0 0\n1 0 .125 0\n", Ok((1, 2))),
+    (b"1 3\n0 1e-30 0 0\n", Ok((30, 0))),
+    (b"1 3\n0 8388608 0 -8388608\n", Ok((0, 0))),
+    (b"2 3\n0 8388608 0 0\n1 0 0 .5\n", Err(2)),
+    (b"2 3\n0 0 0 0\n1 0 -8388609 0\n", Err(3)),
+];
+
+/// Whether that is the least grid of the points of a text.
+fn has_grid(alloc: Global, text: &[u8], want: Result<(u32, u32), usize>) -> Result<bool, Fail> {
+    Ok(match grid_of(alloc, text)? {
+        Ok(grid) => want == Ok((grid.decimals, grid.halvings)),
+        Err(Range { line }) => want == Err(line),
+    })
 }
 
 #[test]
 fn grids_of_points(rt: HostRuntime) -> Result<(), Fail> {
-    let alloc = rt.alloc();
-    assert_eq!(rt; grid_of(alloc, b"1 3\n0 2 0 -4\n")?, grid(0, 0));
-    assert_eq!(rt; grid_of(alloc, b"1 3\n0 .5 0 0\n")?, grid(0, 1));
-    assert_eq!(rt; grid_of(alloc, b"1 3\n0 .2 0 0\n")?, grid(1, 0));
-    assert_eq!(rt; grid_of(alloc, b"2 3\n0 .2 0 0\n1 0 .125 0\n")?, grid(1, 2));
-    assert_eq!(rt; grid_of(alloc, b"1 3\n0 1e-30 0 0\n")?, grid(30, 0));
-    assert_eq!(rt; grid_of(alloc, b"1 3\n0 8388608 0 -8388608\n")?, grid(0, 0));
-    assert_eq!(rt;
-        grid_of(alloc, b"2 3\n0 8388608 0 0\n1 0 0 .5\n")?,
-        Err(Range { line: 2 })
-    );
-    assert_eq!(rt;
-        grid_of(alloc, b"2 3\n0 0 0 0\n1 0 -8388609 0\n")?,
-        Err(Range { line: 3 })
-    );
+    for (text, want) in &GRIDS {
+        assert!(rt; has_grid(rt.alloc(), text, *want)?);
+    }
     Ok(())
+}
+
+const TWO: &[u8] = b"2 3\n0 .5 -.2 3\n1 0.126 0 0\n";
+
+const SETTLED: [GridPoint; 2] = [
+    GridPoint { x: 5, y: -2, z: 30 },
+    GridPoint { x: 1, y: 0, z: 0 },
+];
+
+/// Whether the two points are these in tenths.
+fn are_settled(alloc: Global) -> Result<bool, Fail> {
+    let nodes = read_node(alloc, &bytes_of(alloc, TWO)?)?;
+    let points = settle_least(alloc, &nodes.decimals, Some(1), 2)?;
+    Ok(points.as_slice() == SETTLED.as_slice())
+}
+
+/// The fault of two points where one is allowed.
+fn fault_of_two(alloc: Global) -> Result<Option<GridFault>, Fail> {
+    let nodes = read_node(alloc, &bytes_of(alloc, TWO)?)?;
+    Ok(settle_least(alloc, &nodes.decimals, None, 1).err())
 }
 
 #[test]
 fn points_on_their_grid(rt: HostRuntime) -> Result<(), Fail> {
-    let alloc = rt.alloc();
-    let nodes = read_node(alloc, &bytes_of(alloc, b"2 3\n0 .5 -.2 3\n1 0.126 0 0\n")?)?;
-    let points = settle_least(alloc, &nodes.decimals, Some(1), 2)?;
-    assert_eq!(rt; points.len(), 2);
-    assert_eq!(rt; points.as_slice()[0], GridPoint { x: 5, y: -2, z: 30 });
-    assert_eq!(rt; points.as_slice()[1], GridPoint { x: 1, y: 0, z: 0 });
-    let fault = settle_least(alloc, &nodes.decimals, None, 1).err();
-    assert_eq!(rt; fault, Some(GridFault::TooMany { count: 2 }));
+    assert!(rt; are_settled(rt.alloc())?);
+    assert!(rt; fault_of_two(rt.alloc())? == Some(GridFault::TooMany { count: 2 }));
     Ok(())
 }

@@ -6,6 +6,7 @@ use mesh_readers::{MeshFault, read_ele, read_face, read_neigh};
 use std::alloc::Global;
 use std::test::Fail;
 use tet_ports::Bytes;
+use tet_text::TextKind::{BadCount, BadIndex, Ended, Extra, NotANumber};
 use tet_text::{TextFault, TextKind};
 
 /// The bytes of a short text.
@@ -18,119 +19,118 @@ pub(crate) fn bytes_of(alloc: Global, text: &[u8]) -> Result<Bytes, Fail>
     Ok(Bytes::from_slice(alloc, text)?)
 }
 
-/// The fault of an `.ele` file that is numbered from 1, with four points.
-fn ele_fault(alloc: Global, text: &[u8]) -> Result<Option<MeshFault>, Fail> {
-    Ok(read_ele(alloc, &bytes_of(alloc, text)?, 1, 4).err())
+/// The three files that are read here.
+#[derive(Clone, Copy)]
+enum Kind {
+    Ele,
+    Face,
+    Neigh,
 }
 
-fn face_fault(alloc: Global, text: &[u8]) -> Result<Option<MeshFault>, Fail> {
-    Ok(read_face(alloc, &bytes_of(alloc, text)?, 1, 4).err())
+use Kind::{Ele, Face, Neigh};
+
+/// The fault of a file that is numbered from 1, with four points.
+fn fault_of(alloc: Global, kind: Kind, text: &[u8]) -> Result<Option<MeshFault>, Fail> {
+    let bytes = bytes_of(alloc, text)?;
+    Ok(match kind {
+        Ele => read_ele(alloc, &bytes, 1, 4).err(),
+        Face => read_face(alloc, &bytes, 1, 4).err(),
+        Neigh => read_neigh(alloc, &bytes, 1).err(),
+    })
 }
 
-fn neigh_fault(alloc: Global, text: &[u8]) -> Result<Option<MeshFault>, Fail> {
-    Ok(read_neigh(alloc, &bytes_of(alloc, text)?, 1).err())
+/// Texts, and the line and the kind of their faults.
+const FAULTS: [(Kind, &[u8], usize, TextKind); 18] = [
+    (Ele, b"", 1, Ended),
+    (Ele, b"1\n1 1 2 3 4\n", 1, Ended),
+    (Ele, b"1 5 0\n", 1, BadCount),
+    (Ele, b"1 4 2\n", 1, BadCount),
+    (Ele, b"1 4 0\n0 1 2 3 4\n", 2, BadIndex),
+    (Ele, b"1 4 0\n1 1 2 3 5\n", 2, BadIndex),
+    (Ele, b"1 4 0\n1 0 x 3 5\n", 2, BadIndex),
+    (Ele, b"1 4 0\n1 1 2 -3 4\n", 2, NotANumber),
+    (Ele, b"1 4 1\n1 1 2 3 4\n", 2, Ended),
+    (Ele, b"1 4 0\n1 1 2 3 4 0\n", 2, Extra),
+    (Ele, b"1 4\n1 1 2 3 4\n2 1 2 3 4\n", 3, Extra),
+    (Face, b"1 1\n1 1 2 3\n", 2, Ended),
+    (Face, b"1 0\n1 1 2 3 1\n", 2, Extra),
+    (Face, b"1 1 0\n1 1 2 3 1\n", 1, Extra),
+    (Neigh, b"1 4\n1 2 0 1 1\n", 2, BadIndex),
+    (Neigh, b"1 4\n1 2 -2 1 1\n", 2, BadIndex),
+    (Neigh, b"1 4 0\n1 2 -1 1 1\n", 1, Extra),
+    (Neigh, b"1 4\n", 2, Ended),
+];
+
+/// Whether the text has this fault.
+fn has_fault(
+    alloc: Global,
+    kind: Kind,
+    text: &[u8],
+    line: usize,
+    fault: TextKind,
+) -> Result<bool, Fail> {
+    let want = MeshFault::Text(TextFault { line, kind: fault });
+    Ok(fault_of(alloc, kind, text)? == Some(want))
 }
 
-fn fault(line: usize, kind: TextKind) -> Option<MeshFault> {
-    Some(MeshFault::Text(TextFault { line, kind }))
+#[test]
+fn first_faults(rt: HostRuntime) -> Result<(), Fail> {
+    for (i, (kind, text, line, fault)) in FAULTS.iter().enumerate() {
+        assert!(rt;
+            has_fault(rt.alloc(), *kind, text, *line, *fault)?,
+            "text {i}"
+        );
+    }
+    Ok(())
+}
+
+/// Whether the rows of a text are so many, and the last one has this first corner.
+fn has_rows(alloc: Global, text: &[u8], count: usize, last: Option<u32>) -> Result<bool, Fail> {
+    let rows = read_ele(alloc, &bytes_of(alloc, text)?, 1, 4)?;
+    let corner = rows.as_slice().last().map(|row| row.a);
+    Ok(rows.len() == count && corner == last)
 }
 
 #[test]
 fn rows_of_tetrahedra(rt: HostRuntime) -> Result<(), Fail> {
-    let alloc = rt.alloc();
-    let bytes = bytes_of(alloc, b"# rows\n2 4 1\n\n1 1 2 3 4 a#b\n2\t4 3 2 1 0\r\n")?;
-    let rows = read_ele(alloc, &bytes, 1, 4)?;
-    assert_eq!(rt; rows.len(), 2);
-    assert_eq!(rt; rows.as_slice()[1].a, 3);
-    assert_eq!(rt; ele_fault(alloc, b"0 4\n")?, None);
-    assert_eq!(rt; ele_fault(alloc, b"")?, fault(1, TextKind::Ended));
-    assert_eq!(rt;
-        ele_fault(alloc, b"1\n1 1 2 3 4\n")?,
-        fault(1, TextKind::Ended)
-    );
-    assert_eq!(rt; ele_fault(alloc, b"1 5 0\n")?, fault(1, TextKind::BadCount));
-    assert_eq!(rt; ele_fault(alloc, b"1 4 2\n")?, fault(1, TextKind::BadCount));
-    assert_eq!(rt;
-        ele_fault(alloc, b"1 4 0\n0 1 2 3 4\n")?,
-        fault(2, TextKind::BadIndex)
-    );
-    assert_eq!(rt;
-        ele_fault(alloc, b"1 4 0\n1 1 2 3 5\n")?,
-        fault(2, TextKind::BadIndex)
-    );
-    assert_eq!(rt;
-        ele_fault(alloc, b"1 4 0\n1 0 x 3 5\n")?,
-        fault(2, TextKind::BadIndex)
-    );
-    assert_eq!(rt;
-        ele_fault(alloc, b"1 4 0\n1 1 2 -3 4\n")?,
-        fault(2, TextKind::NotANumber)
-    );
-    assert_eq!(rt;
-        ele_fault(alloc, b"1 4 1\n1 1 2 3 4\n")?,
-        fault(2, TextKind::Ended)
-    );
-    assert_eq!(rt;
-        ele_fault(alloc, b"1 4 0\n1 1 2 3 4 0\n")?,
-        fault(2, TextKind::Extra)
-    );
-    assert_eq!(rt;
-        ele_fault(alloc, b"1 4\n1 1 2 3 4\n2 1 2 3 4\n")?,
-        fault(3, TextKind::Extra)
-    );
+    let text = b"# rows\n2 4 1\n\n1 1 2 3 4 a#b\n2\t4 3 2 1 0\r\n";
+    assert!(rt; has_rows(rt.alloc(), text, 2, Some(3))?);
+    assert!(rt; has_rows(rt.alloc(), b"0 4\n", 0, None)?);
     Ok(())
+}
+
+/// Whether the first face of a text is one of so many, with this corner and marker.
+fn has_faces(
+    alloc: Global,
+    text: &[u8],
+    count: usize,
+    corner: u32,
+    marker: i64,
+) -> Result<bool, Fail> {
+    let faces = read_face(alloc, &bytes_of(alloc, text)?, 1, 4)?;
+    let first = faces.as_slice().first().map(|face| (face.a, face.marker));
+    Ok(faces.len() == count && first == Some((corner, marker)))
 }
 
 #[test]
 fn rows_of_faces(rt: HostRuntime) -> Result<(), Fail> {
-    let alloc = rt.alloc();
-    let bytes = bytes_of(alloc, b"2 1\n1 4 2 3 -7\n2 1 2 3 +5\n")?;
-    let faces = read_face(alloc, &bytes, 1, 4)?;
-    assert_eq!(rt; faces.len(), 2);
-    assert_eq!(rt; faces.as_slice()[0].a, 3);
-    assert_eq!(rt; faces.as_slice()[0].marker, -7);
-    let bytes = bytes_of(alloc, b"1\n1 1 2 3\n")?;
-    let faces = read_face(alloc, &bytes, 1, 4)?;
-    assert_eq!(rt; faces.len(), 1);
-    assert_eq!(rt; faces.as_slice()[0].marker, 0);
-    assert_eq!(rt;
-        face_fault(alloc, b"1 1\n1 1 2 3\n")?,
-        fault(2, TextKind::Ended)
-    );
-    assert_eq!(rt;
-        face_fault(alloc, b"1 0\n1 1 2 3 1\n")?,
-        fault(2, TextKind::Extra)
-    );
-    assert_eq!(rt;
-        face_fault(alloc, b"1 1 0\n1 1 2 3 1\n")?,
-        fault(1, TextKind::Extra)
-    );
+    assert!(rt; has_faces(rt.alloc(), b"2 1\n1 4 2 3 -7\n2 1 2 3 +5\n", 2, 3, -7)?);
+    assert!(rt; has_faces(rt.alloc(), b"1\n1 1 2 3\n", 1, 0, 0)?);
     Ok(())
 }
 
+/// Whether the only row of a text has these neighbors.
+fn has_neighbors(alloc: Global, text: &[u8], want: [Option<usize>; 4]) -> Result<bool, Fail> {
+    let rows = read_neigh(alloc, &bytes_of(alloc, text)?, 1)?;
+    let row = rows.as_slice().first();
+    let row = row.map(|row| [row.n0, row.n1, row.n2, row.n3]);
+    Ok(rows.len() == 1 && row == Some(want))
+}
+
+const NEIGHBORS: [Option<usize>; 4] = [Some(1), None, Some(6), Some(0)];
+
 #[test]
 fn rows_of_neighbors(rt: HostRuntime) -> Result<(), Fail> {
-    let alloc = rt.alloc();
-    let bytes = bytes_of(alloc, b"1 4\n1 2 -1 7 1\n")?;
-    let rows = read_neigh(alloc, &bytes, 1)?;
-    assert_eq!(rt; rows.len(), 1);
-    let row = rows.as_slice()[0];
-    assert_eq!(rt; row.n0, Some(1));
-    assert_eq!(rt; row.n1, None);
-    assert_eq!(rt; row.n2, Some(6));
-    assert_eq!(rt; row.n3, Some(0));
-    assert_eq!(rt;
-        neigh_fault(alloc, b"1 4\n1 2 0 1 1\n")?,
-        fault(2, TextKind::BadIndex)
-    );
-    assert_eq!(rt;
-        neigh_fault(alloc, b"1 4\n1 2 -2 1 1\n")?,
-        fault(2, TextKind::BadIndex)
-    );
-    assert_eq!(rt;
-        neigh_fault(alloc, b"1 4 0\n1 2 -1 1 1\n")?,
-        fault(1, TextKind::Extra)
-    );
-    assert_eq!(rt; neigh_fault(alloc, b"1 4\n")?, fault(2, TextKind::Ended));
+    assert!(rt; has_neighbors(rt.alloc(), b"1 4\n1 2 -1 7 1\n", NEIGHBORS)?);
     Ok(())
 }
