@@ -139,20 +139,50 @@ const CUBE_ROWS: [[u32; 4]; 6] = [
     [3, 5, 6, 7],
 ];
 
+/// Points and their weights, and the rows of their list.
+struct Case {
+    name: &'static str,
+    points: &'static [[i8; 3]],
+    weights: &'static [i16],
+    rows: &'static [[u32; 4]],
+}
+
+const CASES: [Case; 4] = [
+    Case {
+        name: "hidden",
+        points: &CORNER,
+        weights: &[0, 0, 0, 0, -10],
+        rows: &[[0, 1, 2, 3]],
+    },
+    Case {
+        name: "tie",
+        points: &CORNER,
+        weights: &[0, 0, 0, 0, -9],
+        rows: &[[0, 1, 2, 4], [0, 1, 4, 3], [0, 2, 3, 4], [1, 2, 4, 3]],
+    },
+    Case {
+        name: "start hidden",
+        points: &INNER_FIRST,
+        weights: &[-100, 0, 0, 0, 0],
+        rows: &[[1, 2, 4, 3]],
+    },
+    Case {
+        name: "cube",
+        points: &CUBE,
+        weights: &[0; 8],
+        rows: &CUBE_ROWS,
+    },
+];
+
 #[test]
 fn worked_rows(rt: HostRuntime) {
-    let alloc = rt.alloc();
-    let tied = [[0, 1, 2, 4], [0, 1, 4, 3], [0, 2, 3, 4], [1, 2, 4, 3]];
-    assert!(rt;
-        has_list(alloc, &CORNER, &[0, 0, 0, 0, -10], &[[0, 1, 2, 3]]),
-        "hidden"
-    );
-    assert!(rt; has_list(alloc, &CORNER, &[0, 0, 0, 0, -9], &tied), "tie");
-    assert!(rt;
-        has_list(alloc, &INNER_FIRST, &[-100, 0, 0, 0, 0], &[[1, 2, 4, 3]]),
-        "start hidden"
-    );
-    assert!(rt; has_list(alloc, &CUBE, &[0; 8], &CUBE_ROWS), "cube");
+    for case in &CASES {
+        assert!(rt;
+            has_list(rt.alloc(), case.points, case.weights, case.rows),
+            "{}",
+            case.name
+        );
+    }
 }
 
 /// A number from 0 to n - 1, drawn by a linear congruential generator.
@@ -257,8 +287,21 @@ fn are_same(rows: &TetList, others: &TetList) -> bool {
     true
 }
 
-/// Whether a list of drawn points is that of the plain filter. None where two of the points are
-/// equal, or where memory is wanting.
+/// Whether the list of weighted points is that of the plain filter. None where two of the points
+/// are equal, or where memory is wanting.
+fn is_plain(alloc: Global, points: &Points, weights: &Weights) -> Option<bool> {
+    if points.len() > 1000 || !are_distinct(points) || !are_weights(points, weights) {
+        return None;
+    }
+    let plain = plain_list(alloc, points, weights).ok()?;
+    match regular(alloc, points, weights) {
+        Ok(rows) => Some(are_same(&rows, &plain)),
+        Err(BuildFault::Flat) => Some(plain.is_empty()),
+        Err(BuildFault::NoMemory) => None,
+    }
+}
+
+/// The same of drawn points.
 fn agrees(alloc: Global, state: &mut u64, count: u32, width: u32, heavy: u32) -> Option<bool>
     requires width { (0 < width) × (width ≤ 100) }
     requires heavy { (0 < heavy) × (heavy ≤ 100) }
@@ -276,15 +319,7 @@ fn agrees(alloc: Global, state: &mut u64, count: u32, width: u32, heavy: u32) ->
             .push(i64::from(drawn(state, heavy)) - i64::from(heavy / 2))
             .ok()?;
     }
-    if points.len() > 1000 || !are_distinct(&points) || !are_weights(&points, &weights) {
-        return None;
-    }
-    let plain = plain_list(alloc, &points, &weights).ok()?;
-    match regular(alloc, &points, &weights) {
-        Ok(rows) => Some(are_same(&rows, &plain)),
-        Err(BuildFault::Flat) => Some(plain.is_empty()),
-        Err(BuildFault::NoMemory) => None,
-    }
+    is_plain(alloc, &points, &weights)
 }
 
 #[test]

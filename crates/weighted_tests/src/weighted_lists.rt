@@ -7,7 +7,7 @@ use geo_laws::TetList;
 use node_files::{GridOptions, Limits, NodeTable, read_node, settle};
 use std::alloc::Global;
 use tet_ports::Bytes;
-use tet_text::TextKind;
+use tet_text::{TextFault, TextKind};
 use weighted_steps::{RegularFault, RegularMesh, regular_mesh};
 
 /// The point list of a text, on its grid.
@@ -57,76 +57,121 @@ fn has_mesh(alloc: Global, text: &[u8], want: &[[u32; 4]], hidden: usize) -> boo
     }
 }
 
-/// The line of the first attribute that is no decimal; 0 where there is none such.
-fn bad_line(alloc: Global, text: &[u8]) -> usize {
-    match mesh(alloc, text) {
-        Some(Err(RegularFault::Text(fault))) => match fault.kind {
-            TextKind::NotANumber => fault.line,
-            _ => 0,
-        },
-        _ => 0,
-    }
-}
-
-/// The line of the first weight that is off the grid; 0 where there is none such.
-fn heavy_line(alloc: Global, text: &[u8]) -> usize {
-    match mesh(alloc, text) {
-        Some(Err(RegularFault::TooHeavy { line })) => line,
-        _ => 0,
-    }
-}
-
 const TIED: [[u32; 4]; 4] = [[0, 1, 2, 4], [0, 1, 4, 3], [0, 2, 3, 4], [1, 2, 4, 3]];
 
-#[test]
-fn inner_point(rt: HostRuntime) {
-    let alloc = rt.alloc();
-    let light = b"5 3 1\n0 0 0 0 0\n1 4 0 0 0\n2 0 4 0 0\n3 0 0 4 0\n4 1 1 1 -10\n";
-    let tied = b"5 3 1\n0 0 0 0 0\n1 4 0 0 0\n2 0 4 0 0\n3 0 0 4 0\n4 1 1 1 -9\n";
-    let half = b"5 3 1\n0 0 0 0 0\n1 4 0 0 0\n2 0 4 0 0\n3 0 0 4 0\n4 1 1 1 -9.5\n";
-    let less = b"5 3 1\n0 0 0 0 0\n1 4 0 0 0\n2 0 4 0 0\n3 0 0 4 0\n4 1 1 1 -9.49\n";
-    let finer = b"5 3 1\n0 0 0 0 0\n1 4 0 0 0\n2 0 4 0 0\n3 0 0 4 0\n4 1 1 1.5 -9.75\n";
-    let finest = b"5 3 1\n0 0 0 0 0\n1 4 0 0 0\n2 0 4 0 0\n3 0 0 4 0\n4 1 1 1.5 -9.755\n";
-    assert!(rt; has_mesh(alloc, light, &[[0, 1, 2, 3]], 1), "hidden");
-    assert!(rt; has_mesh(alloc, tied, &TIED, 0), "tie");
-    assert!(rt; has_mesh(alloc, half, &[[0, 1, 2, 3]], 1), "away from zero");
-    assert!(rt; has_mesh(alloc, less, &TIED, 0), "to the nearest");
-    assert!(rt; has_mesh(alloc, finer, &TIED, 0), "twice the decimals");
-    assert!(rt;
-        has_mesh(alloc, finest, &[[0, 1, 2, 3]], 1),
-        "no more of them"
-    );
+/// The row of the first four points.
+const FIRST: [[u32; 4]; 1] = [[0, 1, 2, 3]];
+
+/// Whether the fifth point is hidden by the others as it is said, or is a corner of each row.
+fn is_meshed(alloc: Global, text: &[u8], is_hidden: bool) -> bool {
+    if is_hidden {
+        has_mesh(alloc, text, &FIRST, 1)
+    } else {
+        has_mesh(alloc, text, &TIED, 0)
+    }
 }
+
+/// Point lists, and whether the fifth point is hidden.
+const CASES: [(&str, &[u8], bool); 9] = [
+    (
+        "hidden",
+        b"5 3 1\n0 0 0 0 0\n1 4 0 0 0\n2 0 4 0 0\n3 0 0 4 0\n4 1 1 1 -10\n",
+        true,
+    ),
+    (
+        "tie",
+        b"5 3 1\n0 0 0 0 0\n1 4 0 0 0\n2 0 4 0 0\n3 0 0 4 0\n4 1 1 1 -9\n",
+        false,
+    ),
+    (
+        "away from zero",
+        b"5 3 1\n0 0 0 0 0\n1 4 0 0 0\n2 0 4 0 0\n3 0 0 4 0\n4 1 1 1 -9.5\n",
+        true,
+    ),
+    (
+        "to the nearest",
+        b"5 3 1\n0 0 0 0 0\n1 4 0 0 0\n2 0 4 0 0\n3 0 0 4 0\n4 1 1 1 -9.49\n",
+        false,
+    ),
+    (
+        "twice the decimals",
+        b"5 3 1\n0 0 0 0 0\n1 4 0 0 0\n2 0 4 0 0\n3 0 0 4 0\n4 1 1 1.5 -9.75\n",
+        false,
+    ),
+    (
+        "no more of them",
+        b"5 3 1\n0 0 0 0 0\n1 4 0 0 0\n2 0 4 0 0\n3 0 0 4 0\n4 1 1 1.5 -9.755\n",
+        true,
+    ),
+    (
+        "no weights",
+        b"5 3 0\n0 0 0 0\n1 4 0 0\n2 0 4 0\n3 0 0 4\n4 1 1 1\n",
+        false,
+    ),
+    (
+        "further attributes",
+        b"5 3 2\n0 0 0 0 0 x\n1 4 0 0 0 x\n2 0 4 0 0 x\n3 0 0 4 0 x\n4 1 1 1 -10 x\n",
+        true,
+    ),
+    (
+        "the kept point's weight",
+        b"6 3 1\n0 0 0 0 0\n1 0 0 0 -100\n2 4 0 0 0\n3 0 4 0 0\n4 0 0 4 0\n5 1 1 1 -10\n",
+        true,
+    ),
+];
+
+#[test]
+fn meshes_of_texts(rt: HostRuntime) {
+    for (name, text, is_hidden) in &CASES {
+        assert!(rt; is_meshed(rt.alloc(), text, *is_hidden), "{name}");
+    }
+}
+
+/// Why a point list has no mesh.
+#[derive(Clone, Copy, PartialEq, Eq)]
+enum Refusal {
+    /// The first attribute on this line is no decimal.
+    Word(usize),
+    /// The weight on this line is off the grid.
+    Heavy(usize),
+    Flat,
+}
+
+/// Why the text has no mesh, if it is so.
+fn why_not(alloc: Global, text: &[u8]) -> Option<Refusal> {
+    match mesh(alloc, text)?.err()? {
+        RegularFault::Text(TextFault { line, kind }) if kind == TextKind::NotANumber => {
+            Some(Refusal::Word(line))
+        }
+        RegularFault::TooHeavy { line } => Some(Refusal::Heavy(line)),
+        RegularFault::Flat => Some(Refusal::Flat),
+        _ => None,
+    }
+}
+
+const REFUSALS: [(&[u8], Refusal); 4] = [
+    (
+        b"5 3 1\n0 0 0 0 0\n1 4 0 0 x\n2 0 4 0 y\n3 0 0 4 0\n4 1 1 1 9e30\n",
+        Refusal::Word(3),
+    ),
+    (
+        b"4 3 1\n0 0 0 0 4194304\n1 4 0 0 -4194305\n2 0 4 0 x\n3 0 0 4 0\n",
+        Refusal::Heavy(3),
+    ),
+    (
+        b"4 3 1\n0 0 0 0 4194304\n1 4 0 0 0\n2 0 4 0 0\n3 1 1 0 -4194304\n",
+        Refusal::Flat,
+    ),
+    // Of a folded point.
+    (
+        b"5 3 1\n0 0 0 0 0\n1 4 0 0 0\n2 0 4 0 0\n3 0 0 4 0\n4 0 0 0 x\n",
+        Refusal::Word(6),
+    ),
+];
 
 #[test]
 fn bad_weights(rt: HostRuntime) {
-    let alloc = rt.alloc();
-    let text = b"5 3 1\n0 0 0 0 0\n1 4 0 0 x\n2 0 4 0 y\n3 0 0 4 0\n4 1 1 1 9e30\n";
-    let heavy = b"4 3 1\n0 0 0 0 4194304\n1 4 0 0 -4194305\n2 0 4 0 x\n3 0 0 4 0\n";
-    let flat = b"4 3 1\n0 0 0 0 4194304\n1 4 0 0 0\n2 0 4 0 0\n3 1 1 0 -4194304\n";
-    let folded = b"5 3 1\n0 0 0 0 0\n1 4 0 0 0\n2 0 4 0 0\n3 0 0 4 0\n4 0 0 0 x\n";
-    assert!(rt; bad_line(alloc, text) == 3, "no decimal");
-    assert!(rt; heavy_line(alloc, heavy) == 3, "too heavy");
-    assert!(rt;
-        matches!(mesh(alloc, flat), Some(Err(RegularFault::Flat))),
-        "flat"
-    );
-    assert!(rt; bad_line(alloc, folded) == 6, "folded");
-}
-
-#[test]
-fn other_weights(rt: HostRuntime) {
-    let alloc = rt.alloc();
-    let bare = b"5 3 0\n0 0 0 0\n1 4 0 0\n2 0 4 0\n3 0 0 4\n4 1 1 1\n";
-    let second = b"5 3 2\n0 0 0 0 0 x\n1 4 0 0 0 x\n2 0 4 0 0 x\n3 0 0 4 0 x\n4 1 1 1 -10 x\n";
-    let folded = b"6 3 1\n0 0 0 0 0\n1 0 0 0 -100\n2 4 0 0 0\n3 0 4 0 0\n4 0 0 4 0\n5 1 1 1 -10\n";
-    assert!(rt; has_mesh(alloc, bare, &TIED, 0), "no weights");
-    assert!(rt;
-        has_mesh(alloc, second, &[[0, 1, 2, 3]], 1),
-        "further attributes"
-    );
-    assert!(rt;
-        has_mesh(alloc, folded, &[[0, 1, 2, 3]], 1),
-        "the kept point's weight"
-    );
+    for (text, want) in &REFUSALS {
+        assert!(rt; why_not(rt.alloc(), text) == Some(*want));
+    }
 }
