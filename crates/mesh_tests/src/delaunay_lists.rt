@@ -388,17 +388,18 @@ fn are_faces(faces: &[Face], want: &[[u32; 3]]) -> bool {
             .all(|(f, w)| [f.a, f.b, f.c] == *w)
 }
 
+const PYRAMID_HULL: [[u32; 3]; 6] = [
+    [0, 1, 3],
+    [0, 1, 4],
+    [0, 3, 4],
+    [1, 2, 3],
+    [1, 2, 4],
+    [2, 3, 4],
+];
+
 #[test]
 fn hull_of_a_pyramid(rt: HostRuntime) {
-    let hull = [
-        [0, 1, 3],
-        [0, 1, 4],
-        [0, 3, 4],
-        [1, 2, 3],
-        [1, 2, 4],
-        [2, 3, 4],
-    ];
-    assert!(rt; has_hull(rt.alloc(), &PYRAMID, &hull));
+    assert!(rt; has_hull(rt.alloc(), &PYRAMID, &PYRAMID_HULL));
 }
 
 /// A coordinate of the pyramid, with wide odd steps.
@@ -594,8 +595,8 @@ const CAVITIES: [([i8; 3], (usize, usize)); 4] = [
 fn cavities_in_a_cube(rt: HostRuntime) {
     // In the middle, strictly beyond a face of the cube, in the middle of one, and in its plane
     // outside of the sphere.
-    for &(p, want) in &CAVITIES {
-        assert_eq!(rt; sizes_in_cube(rt.alloc(), p), Some(want));
+    for (p, want) in &CAVITIES {
+        assert!(rt; sizes_in_cube(rt.alloc(), *p) == Some(*want));
     }
 }
 
@@ -649,7 +650,7 @@ const ADDED_POINTS: [(&[[i8; 3]], &[[i8; 3]], (usize, usize)); 4] = [
 #[test]
 fn points_are_added(rt: HostRuntime) {
     // In the tetrahedron, beyond a face of it, and in the plane of another; none.
-    for &(set, more, want) in &ADDED_POINTS {
-        assert_eq!(rt; rows_and_sides(rt.alloc(), set, more), Some(want));
+    for (set, more, want) in &ADDED_POINTS {
+        assert!(rt; rows_and_sides(rt.alloc(), set, more) == Some(*want));
     }
 }

@@ -8,52 +8,53 @@ use std::alloc::Global;
 use std::test::Fail;
 use tet_ports::NoMemory;
 
-/// The grid point as a rational point.
-fn at(x: i8, y: i8, z: i8) -> RatPoint {
+/// A place on the grid.
+type Place = (i8, i8, i8);
+
+/// The place as a rational point.
+fn at(place: Place) -> RatPoint {
+    let (x, y, z) = place;
     RatPoint {
-        x: x as i64,
-        y: y as i64,
-        z: z as i64,
+        x: i64::from(x),
+        y: i64::from(y),
+        z: i64::from(z),
         w: 1,
     }
 }
 
 /// A square, a square in it, and points in their plane and off it.
+const PLACES: [Place; 15] = [
+    (0, 0, 0),
+    (9, 0, 0),
+    (9, 9, 0),
+    (0, 9, 0),
+    (3, 3, 0),
+    (6, 3, 0),
+    (6, 6, 0),
+    (3, 6, 0),
+    (4, 4, 5),
+    (20, 20, 0),
+    (1, 5, 0),
+    (18, 0, 0),
+    (9, 3, 0),
+    (9, 6, 0),
+    (1, 1, 5),
+];
+
 fn places(alloc: Global) -> Result<Points, NoMemory> {
-    let coordinates: [[i8; 3]; 15] = [
-        [0, 0, 0],
-        [9, 0, 0],
-        [9, 9, 0],
-        [0, 9, 0],
-        [3, 3, 0],
-        [6, 3, 0],
-        [6, 6, 0],
-        [3, 6, 0],
-        [4, 4, 5],
-        [20, 20, 0],
-        [1, 5, 0],
-        [18, 0, 0],
-        [9, 3, 0],
-        [9, 6, 0],
-        [1, 1, 5],
-    ];
     let mut points = Points::new(alloc);
-    for p in coordinates {
+    for (x, y, z) in &PLACES {
         points.push(GridPoint {
-            x: p[0] as i32,
-            y: p[1] as i32,
-            z: p[2] as i32,
+            x: i32::from(*x),
+            y: i32::from(*y),
+            z: i32::from(*z),
         })?;
     }
     Ok(points)
 }
 
 /// One facet more, while there are few, of these polygons and hole points.
-fn add_facet(
-    complex: &mut Complex,
-    polygons: &[&[u32]],
-    holes: &[RatPoint],
-) -> Result<(), NoMemory> {
+fn add_facet(complex: &mut Complex, polygons: &[&[u32]], holes: &[Place]) -> Result<(), NoMemory> {
     if complex.facet_count() < 99 {
         complex.add_facet(None)?;
     }
@@ -64,46 +65,47 @@ fn add_facet(
     }
     for hole in holes {
         if complex.facet_count() > 0 {
-            complex.add_facet_hole(*hole)?;
+            complex.add_facet_hole(at(*hole))?;
         }
     }
     Ok(())
 }
 
-/// The facets of the table of points and facets.
+/// The polygons and the hole points of facets.
+const SHAPES: [(&[&[u32]], &[Place]); 15] = [
+    // 0: a square with a hole
+    (&[&[0, 1, 2, 3], &[4, 5, 6, 7]], &[(5, 4, 0)]),
+    // 1: the hole point lies on a side of the inner square
+    (&[&[0, 1, 2, 3], &[4, 5, 6, 7]], &[(4, 3, 0)]),
+    // 2: on a segment across it
+    (&[&[0, 1, 2, 3], &[4, 5, 6, 7], &[4, 6]], &[(4, 4, 0)]),
+    // 3: off the plane
+    (&[&[0, 1, 2, 3], &[4, 5, 6, 7]], &[(5, 4, 3)]),
+    // 4: off the plane over a side
+    (&[&[0, 1, 2, 3], &[4, 5, 6, 7]], &[(4, 3, 2)]),
+    // 5: two hole points in one hole
+    (&[&[0, 1, 2, 3], &[4, 5, 6, 7]], &[(5, 4, 0), (4, 5, 0)]),
+    // 6: a square and a triangle that overlap, and a hole point within both
+    (&[&[0, 1, 2, 3], &[4, 9, 1]], &[(8, 4, 0)]),
+    // 7 to 9: triangles that share a corner, a side and a part of a side with the square
+    (&[&[2, 9, 11]], &[]),
+    (&[&[1, 11, 2]], &[]),
+    (&[&[12, 11, 13]], &[]),
+    // 10: a triangle in the plane of the square that overlaps it
+    (&[&[0, 1, 6]], &[]),
+    // 11: a triangle that touches the square in one point, from one side
+    (&[&[10, 8, 14]], &[]),
+    // 12: a square with repeated corners
+    (&[&[0, 0, 1, 2, 2, 3, 0]], &[]),
+    // 13: all corners on a line
+    (&[&[0, 4, 6]], &[]),
+    // 14: two segments
+    (&[&[0, 1], &[1, 2]], &[]),
+];
+
 fn facets(alloc: Global) -> Result<Complex, NoMemory> {
-    let shapes: [(&[&[u32]], &[RatPoint]); 15] = [
-        // 0: a square with a hole
-        (&[&[0, 1, 2, 3], &[4, 5, 6, 7]], &[at(5, 4, 0)]),
-        // 1: the hole point lies on a side of the inner square
-        (&[&[0, 1, 2, 3], &[4, 5, 6, 7]], &[at(4, 3, 0)]),
-        // 2: on a segment across it
-        (&[&[0, 1, 2, 3], &[4, 5, 6, 7], &[4, 6]], &[at(4, 4, 0)]),
-        // 3: off the plane
-        (&[&[0, 1, 2, 3], &[4, 5, 6, 7]], &[at(5, 4, 3)]),
-        // 4: off the plane over a side
-        (&[&[0, 1, 2, 3], &[4, 5, 6, 7]], &[at(4, 3, 2)]),
-        // 5: two hole points in one hole
-        (&[&[0, 1, 2, 3], &[4, 5, 6, 7]], &[at(5, 4, 0), at(4, 5, 0)]),
-        // 6: a square and a triangle that overlap, and a hole point within both
-        (&[&[0, 1, 2, 3], &[4, 9, 1]], &[at(8, 4, 0)]),
-        // 7 to 9: triangles that share a corner, a side and a part of a side with the square
-        (&[&[2, 9, 11]], &[]),
-        (&[&[1, 11, 2]], &[]),
-        (&[&[12, 11, 13]], &[]),
-        // 10: a triangle in the plane of the square that overlaps it
-        (&[&[0, 1, 6]], &[]),
-        // 11: a triangle that touches the square in one point, from one side
-        (&[&[10, 8, 14]], &[]),
-        // 12: a square with repeated corners
-        (&[&[0, 0, 1, 2, 2, 3, 0]], &[]),
-        // 13: all corners on a line
-        (&[&[0, 4, 6]], &[]),
-        // 14: two segments
-        (&[&[0, 1], &[1, 2]], &[]),
-    ];
     let mut complex = Complex::new(alloc);
-    for (polygons, holes) in shapes {
+    for (polygons, holes) in &SHAPES {
         add_facet(&mut complex, polygons, holes)?;
     }
     Ok(complex)
@@ -134,12 +136,7 @@ fn are_there(points: &Points, complex: &Complex) -> bool
 }
 
 /// The facet's plane, and whether the facet holds the point.
-fn looked_up(
-    points: &Points,
-    complex: &Complex,
-    facet: u32,
-    x: RatPoint,
-) -> Option<(Option<(u32, u32, u32)>, bool)> {
+fn looked_up(points: &Points, complex: &Complex, facet: u32, x: RatPoint) -> Option<(Plane, bool)> {
     if facet < complex.facet_count() && are_there(points, complex) {
         Some((
             plane_of(points, complex, facet),
@@ -150,50 +147,62 @@ fn looked_up(
     }
 }
 
-#[test]
-fn facets_hold_their_sides_and_what_no_hole_point_takes_out(rt: HostRuntime) -> Result<(), Fail> {
-    let alloc = rt.alloc();
+/// A plane by three points of it.
+type Plane = Option<(u32, u32, u32)>;
+
+const SQUARE: Plane = Some((0, 1, 2));
+
+/// A facet with its plane, and whether it holds a place.
+const HELD: [(u32, Plane, Place, bool); 32] = [
+    (0, SQUARE, (1, 1, 0), true),
+    (0, SQUARE, (4, 5, 0), false),
+    (0, SQUARE, (4, 3, 0), true),
+    (0, SQUARE, (6, 6, 0), true),
+    (0, SQUARE, (1, 1, 1), false),
+    (0, SQUARE, (10, 1, 0), false),
+    (1, SQUARE, (5, 5, 0), true),
+    (2, SQUARE, (5, 4, 0), true),
+    (3, SQUARE, (4, 5, 0), false),
+    (3, SQUARE, (1, 5, 0), true),
+    (4, SQUARE, (5, 5, 0), true),
+    (5, SQUARE, (5, 5, 0), false),
+    (5, SQUARE, (1, 1, 0), true),
+    (6, SQUARE, (7, 5, 0), false),
+    (6, SQUARE, (12, 8, 0), true),
+    (6, SQUARE, (1, 5, 0), true),
+    (7, Some((2, 9, 11)), (9, 9, 0), true),
+    (7, Some((2, 9, 11)), (8, 8, 0), false),
+    (8, Some((1, 11, 2)), (9, 5, 0), true),
+    (8, Some((1, 11, 2)), (10, 1, 0), true),
+    (8, Some((1, 11, 2)), (8, 5, 0), false),
+    (9, Some((12, 11, 13)), (9, 5, 0), true),
+    (9, Some((12, 11, 13)), (9, 7, 0), false),
+    (10, Some((0, 1, 6)), (5, 4, 0), true),
+    (10, Some((0, 1, 6)), (1, 5, 0), false),
+    (11, Some((10, 8, 14)), (1, 5, 0), true),
+    (11, Some((10, 8, 14)), (4, 4, 0), false),
+    (12, SQUARE, (1, 1, 0), true),
+    (12, SQUARE, (0, 5, 0), true),
+    (12, SQUARE, (10, 1, 0), false),
+    (13, None, (3, 3, 0), false),
+    (14, SQUARE, (5, 0, 0), false),
+];
+
+/// The first facet that has another plane, or holds its place otherwise than it is said.
+fn first_other(alloc: Global) -> Result<Option<usize>, NoMemory> {
     let points = places(alloc)?;
     let complex = facets(alloc)?;
-    let square = Some((0, 1, 2));
-    let rows = [
-        (0, square, at(1, 1, 0), true),
-        (0, square, at(4, 5, 0), false),
-        (0, square, at(4, 3, 0), true),
-        (0, square, at(6, 6, 0), true),
-        (0, square, at(1, 1, 1), false),
-        (0, square, at(10, 1, 0), false),
-        (1, square, at(5, 5, 0), true),
-        (2, square, at(5, 4, 0), true),
-        (3, square, at(4, 5, 0), false),
-        (3, square, at(1, 5, 0), true),
-        (4, square, at(5, 5, 0), true),
-        (5, square, at(5, 5, 0), false),
-        (5, square, at(1, 1, 0), true),
-        (6, square, at(7, 5, 0), false),
-        (6, square, at(12, 8, 0), true),
-        (6, square, at(1, 5, 0), true),
-        (7, Some((2, 9, 11)), at(9, 9, 0), true),
-        (7, Some((2, 9, 11)), at(8, 8, 0), false),
-        (8, Some((1, 11, 2)), at(9, 5, 0), true),
-        (8, Some((1, 11, 2)), at(10, 1, 0), true),
-        (8, Some((1, 11, 2)), at(8, 5, 0), false),
-        (9, Some((12, 11, 13)), at(9, 5, 0), true),
-        (9, Some((12, 11, 13)), at(9, 7, 0), false),
-        (10, Some((0, 1, 6)), at(5, 4, 0), true),
-        (10, Some((0, 1, 6)), at(1, 5, 0), false),
-        (11, Some((10, 8, 14)), at(1, 5, 0), true),
-        (11, Some((10, 8, 14)), at(4, 4, 0), false),
-        (12, square, at(1, 1, 0), true),
-        (12, square, at(0, 5, 0), true),
-        (12, square, at(10, 1, 0), false),
-        (13, None, at(3, 3, 0), false),
-        (14, square, at(5, 0, 0), false),
-    ];
-    for (facet, plane, x, held) in rows {
-        assert_eq!(rt; looked_up(&points, &complex, facet, x), Some((plane, held)));
+    for (i, (facet, plane, place, held)) in HELD.iter().enumerate() {
+        if looked_up(&points, &complex, *facet, at(*place)) != Some((*plane, *held)) {
+            return Ok(Some(i));
+        }
     }
-    Ok(())
+    Ok(None)
+}
+
+#[test]
+fn facets_hold_their_sides_and_what_no_hole_point_takes_out(rt: HostRuntime) {
+    assert_eq!(rt; first_other(rt.alloc()), Ok(None));
 }
 
 /// The complex of these facets of one polygon each, and whether they are flat.
@@ -213,31 +222,43 @@ fn flatness(
     }
 }
 
+/// The points of the first facet that is bent.
+const BENT: NotFlat = NotFlat {
+    facet: 1,
+    four: Tet {
+        a: 0,
+        b: 1,
+        c: 2,
+        d: 8,
+    },
+};
+
+/// Facets of one polygon, and what is told of them.
+const FLATNESS: [(&[&[u32]], Result<(), NotFlat>); 3] = [
+    // flat: a square, and a plane through a line and a point off it
+    (&[&[0, 1, 2, 3], &[0, 4, 6, 8]], Ok(())),
+    // the second facet of four is bent, and so is the last
+    (
+        &[&[0, 1, 2], &[0, 0, 1, 2, 8], &[10, 8, 14], &[0, 1, 8, 9]],
+        Err(BENT),
+    ),
+    (&[], Ok(())),
+];
+
+/// Whether that is told of the facets.
+fn is_told(
+    alloc: Global,
+    polygons: &[&[u32]],
+    told: Result<(), NotFlat>,
+) -> Result<bool, NoMemory> {
+    let points = places(alloc)?;
+    Ok(flatness(alloc, &points, polygons)? == Some(told))
+}
+
 #[test]
 fn the_first_facet_that_is_bent_is_told(rt: HostRuntime) -> Result<(), Fail> {
-    let alloc = rt.alloc();
-    let points = places(alloc)?;
-    let first = NotFlat {
-        facet: 1,
-        four: Tet {
-            a: 0,
-            b: 1,
-            c: 2,
-            d: 8,
-        },
-    };
-    let rows: [(&[&[u32]], Result<(), NotFlat>); 3] = [
-        // flat: a square, and a plane through a line and a point off it
-        (&[&[0, 1, 2, 3], &[0, 4, 6, 8]], Ok(())),
-        // the second facet of four is bent, and so is the last
-        (
-            &[&[0, 1, 2], &[0, 0, 1, 2, 8], &[10, 8, 14], &[0, 1, 8, 9]],
-            Err(first),
-        ),
-        (&[], Ok(())),
-    ];
-    for (polygons, told) in rows {
-        assert!(rt; flatness(alloc, &points, polygons)? == Some(told));
+    for (polygons, told) in &FLATNESS {
+        assert!(rt; is_told(rt.alloc(), polygons, *told)?);
     }
     Ok(())
 }

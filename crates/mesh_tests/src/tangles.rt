@@ -9,7 +9,6 @@ use geo_laws::{Face, FacetTriangle, FacetTriangles, Points, Tet, TetList};
 use sign_predicates::GridPoint;
 use simplex_meets::is_triangle;
 use std::alloc::Global;
-use std::test::Fail;
 use tangle_fill::{FillFault, accepted, admissible, fill_tangle};
 use tet_ports::NoMemory;
 
@@ -171,61 +170,70 @@ fn is_admissible(alloc: Global, row: [u32; 4]) -> Result<Option<bool>, NoMemory>
     }
 }
 
-#[test]
-fn tangled_samples(rt: HostRuntime) -> Result<(), Fail> {
-    let alloc = rt.alloc();
-    let samples = [
-        // Each plate parts the tetrahedra, and a prism between two plates has three.
-        (TWO_PLATES, &[[0, 1, 2], [3, 4, 5]][..], End::Filled(5)),
-        (
-            THREE_PLATES,
-            &[[0, 1, 2], [3, 4, 5], [6, 7, 8]][..],
-            End::Filled(8),
-        ),
-        // One plate, with the corners of the other as further points.
-        (TWO_PLATES, &[[0, 1, 2]][..], End::Filled(8)),
-        // The twisted prism can't be cut into tetrahedra (Schoenhardt, 1928).
-        (
-            TWISTED_PRISM,
-            &[
-                [0, 1, 2],
-                [3, 4, 5],
-                [0, 1, 4],
-                [0, 3, 4],
-                [1, 2, 5],
-                [1, 4, 5],
-                [0, 2, 3],
-                [2, 3, 5],
-            ][..],
-            End::Refused,
-        ),
-    ];
-    for (places, corners, want) in samples {
-        assert!(rt; end_of(alloc, places, corners).ok() == Some(want));
+/// Points, the facets on them, and where they end.
+const SAMPLES: [(&[[i8; 3]], &[[u32; 3]], End); 4] = [
+    // Each plate parts the tetrahedra, and a prism between two plates has three.
+    (TWO_PLATES, &[[0, 1, 2], [3, 4, 5]], End::Filled(5)),
+    (
+        THREE_PLATES,
+        &[[0, 1, 2], [3, 4, 5], [6, 7, 8]],
+        End::Filled(8),
+    ),
+    // One plate, with the corners of the other as further points.
+    (TWO_PLATES, &[[0, 1, 2]], End::Filled(8)),
+    // The twisted prism can't be cut into tetrahedra (Schoenhardt, 1928).
+    (
+        TWISTED_PRISM,
+        &[
+            [0, 1, 2],
+            [3, 4, 5],
+            [0, 1, 4],
+            [0, 3, 4],
+            [1, 2, 5],
+            [1, 4, 5],
+            [0, 2, 3],
+            [2, 3, 5],
+        ],
+        End::Refused,
+    ),
+];
+
+/// Whether the points with these facets end so.
+fn ends(alloc: Global, places: &[[i8; 3]], corners: &[[u32; 3]], want: End) -> bool {
+    match end_of(alloc, places, corners) {
+        Ok(end) => end == want,
+        Err(_) => false,
     }
-    Ok(())
 }
 
 #[test]
-fn admissible_on_two_plates(rt: HostRuntime) -> Result<(), Fail> {
-    let rows = [
-        // The five of the mesh.
-        ([0, 1, 2, 3], true),
-        ([0, 1, 7, 2], true),
-        ([1, 2, 3, 4], true),
-        ([2, 3, 4, 5], true),
-        ([3, 4, 5, 6], true),
-        // A facet crosses it.
-        ([0, 1, 7, 6], false),
-        // It is not in the least even arrangement.
-        ([1, 2, 0, 3], false),
-        // It is not positive.
-        ([0, 1, 3, 2], false),
-    ];
-    for (row, want) in rows {
-        assert!(rt; is_admissible(rt.alloc(), row).ok() == Some(Some(want)));
+fn tangled_samples(rt: HostRuntime) {
+    for (places, corners, want) in &SAMPLES {
+        assert!(rt; ends(rt.alloc(), places, corners, *want));
     }
-    Ok(())
+}
+
+/// Tetrahedra of the two plates, and whether they are admissible.
+const ROWS: [([u32; 4], bool); 8] = [
+    // The five of the mesh.
+    ([0, 1, 2, 3], true),
+    ([0, 1, 7, 2], true),
+    ([1, 2, 3, 4], true),
+    ([2, 3, 4, 5], true),
+    ([3, 4, 5, 6], true),
+    // A facet crosses it.
+    ([0, 1, 7, 6], false),
+    // It is not in the least even arrangement.
+    ([1, 2, 0, 3], false),
+    // It is not positive.
+    ([0, 1, 3, 2], false),
+];
+
+#[test]
+fn admissible_on_two_plates(rt: HostRuntime) {
+    for (row, want) in &ROWS {
+        assert!(rt; is_admissible(rt.alloc(), *row) == Ok(Some(*want)));
+    }
 }
 
 /// The rows of the mesh of the two plates: below, above, and the three of the prism between them.
@@ -278,9 +286,8 @@ fn is_accepted(alloc: Global, rows: &[[u32; 4]]) -> Result<Option<bool>, NoMemor
 }
 
 #[test]
-fn candidates_on_two_plates(rt: HostRuntime) -> Result<(), Fail> {
+fn candidates_on_two_plates(rt: HostRuntime) {
     for (rows, want) in CANDIDATES {
-        assert!(rt; is_accepted(rt.alloc(), rows).ok() == Some(Some(*want)));
+        assert!(rt; is_accepted(rt.alloc(), rows) == Ok(Some(*want)));
     }
-    Ok(())
 }

@@ -148,9 +148,11 @@ const PLACES_IN_ONE: [((i8, i8, i8), SlotPlace); 7] = [
 
 #[test]
 fn points_in_and_round_a_tetrahedron(rt: HostRuntime) -> Result<(), Fail> {
-    for &((x, y, z), want) in &PLACES_IN_ONE {
-        let found = in_one(rt.alloc(), grid_point(x, y, z))?;
-        assert_eq!(rt; found, Some(want), "{x} {y} {z}");
+    for ((x, y, z), want) in &PLACES_IN_ONE {
+        assert!(rt;
+            in_one(rt.alloc(), grid_point(*x, *y, *z))? == Some(*want),
+            "{x} {y} {z}"
+        );
     }
     Ok(())
 }
@@ -261,14 +263,24 @@ const PLACES_IN_TWO: [((i8, i8, i8), SlotPlace); 10] = [
     ((4, 4, 1), SlotPlace::Beyond(7)),
 ];
 
+/// Whether a walk from each slot finds a point there.
+fn are_walks(alloc: Global, p: GridPoint, want: SlotPlace) -> Result<bool, Fail> {
+    for start in 0..TWO.len() {
+        if in_two(alloc, start, p)? != Some(want) {
+            return Ok(false);
+        }
+    }
+    Ok(true)
+}
+
 #[test]
 fn walks_through_linked_slots(rt: HostRuntime) -> Result<(), Fail> {
     // From each slot to a point in each tetrahedron, and to one strictly beyond each hull face.
-    for &((x, y, z), want) in &PLACES_IN_TWO {
-        for start in 0..TWO.len() {
-            let found = in_two(rt.alloc(), start, grid_point(x, y, z))?;
-            assert_eq!(rt; found, Some(want), "{x} {y} {z} from {start}");
-        }
+    for ((x, y, z), want) in &PLACES_IN_TWO {
+        assert!(rt;
+            are_walks(rt.alloc(), grid_point(*x, *y, *z), *want)?,
+            "{x} {y} {z}"
+        );
     }
     Ok(())
 }
