@@ -1,5 +1,7 @@
 //! Texts of small meshes, against the formats of the manual.
 
+ghost use Rattle.std.specs.Prelude.{◌≤◌};
+
 use geo_laws::{Complex, FacetTriangles, Points, Tet, TetList};
 use mesh_files::*;
 use std::alloc::Global;
@@ -54,9 +56,8 @@ const NEIGHBOR_TEXTS: [(&[[u32; 4]], u32, &[u8]); 5] = [
 
 #[test]
 fn texts_of_neighbors(rt: HostRuntime) -> Result<(), Fail> {
-    for &(rows, first, neigh) in &NEIGHBOR_TEXTS {
-        let text = neighbor_text(rt.alloc(), rows, first)?;
-        assert_eq!(rt; text.as_slice(), neigh);
+    for (rows, first, neigh) in &NEIGHBOR_TEXTS {
+        assert!(rt; neighbor_text(rt.alloc(), rows, *first)?.as_slice() == *neigh);
     }
     Ok(())
 }
@@ -86,25 +87,26 @@ fn counts(alloc: Global, rows: &[[u32; 4]]) -> Result<[usize; 4], NoMemory> {
     ])
 }
 
-const BALLS: [(&[[u32; 4]], usize); 3] = [(&SMALLEST, 4), (&PYRAMID, 5), (&CUBE, 8)];
-
 /// With T rows, P points in all and B of them on the surface, a ball has 2T + B - 2 faces, T + P +
 /// B - 3 sides and 2B - 4 faces on the surface. Here all points are on it.
+fn is_ball(alloc: Global, rows: &[[u32; 4]], points: usize) -> Result<bool, NoMemory>
+    requires { (3 ≤ points) × (points ≤ 100) }
+{
+    let count = rows.len();
+    let faces = 2 * count + points - 2;
+    Ok(counts(alloc, rows)? == [faces, count + 2 * points - 3, faces, 2 * points - 4])
+}
+
 #[test]
 fn counts_of_balls(rt: HostRuntime) -> Result<(), Fail> {
-    for &(rows, points) in &BALLS {
-        let count = rows.len();
-        let faces = 2 * count + points - 2;
-        let wanted = [faces, count + 2 * points - 3, faces, 2 * points - 4];
-        assert_eq!(rt; counts(rt.alloc(), rows)?, wanted);
-    }
+    assert!(rt; is_ball(rt.alloc(), &SMALLEST, 4)?);
+    assert!(rt; is_ball(rt.alloc(), &PYRAMID, 5)?);
+    assert!(rt; is_ball(rt.alloc(), &CUBE, 8)?);
     Ok(())
 }
 
 /// A corner is written by its name, which need not be its place.
-#[test]
-fn corners_by_their_names(rt: HostRuntime) -> Result<(), Fail> {
-    let alloc = rt.alloc();
+fn named_text(alloc: Global) -> Result<Bytes, NoMemory> {
     let mut names = Names::new(alloc);
     names.extend_from_slice(&[4, 0, 9, 2])?;
     let mut list = TetList::new(alloc);
@@ -114,7 +116,11 @@ fn corners_by_their_names(rt: HostRuntime) -> Result<(), Fail> {
         c: 2,
         d: 3,
     })?;
-    let text = write_ele(alloc, &list, None, &Complex::new(alloc), &names, 1)?;
-    assert_eq!(rt; text.as_slice(), b"1 4 0\n1 5 1 10 3\n".as_slice());
+    write_ele(alloc, &list, None, &Complex::new(alloc), &names, 1)
+}
+
+#[test]
+fn corners_by_their_names(rt: HostRuntime) -> Result<(), Fail> {
+    assert!(rt; named_text(rt.alloc())?.as_slice() == b"1 4 0\n1 5 1 10 3\n".as_slice());
     Ok(())
 }
