@@ -10,6 +10,8 @@ mod complex_tests;
 #[cfg(test)]
 mod equal_points_tests;
 #[cfg(test)]
+mod fit_tests;
+#[cfg(test)]
 mod located_point_tests;
 #[cfg(test)]
 mod merged_facet_tests;

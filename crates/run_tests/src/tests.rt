@@ -9,6 +9,7 @@ use run_steps::{Status, append_number};
 use std::alloc::Global;
 use std::test::Fail;
 use tet_ports::{Bytes, MemFolder, MemSink, Name, NoMemory, Words};
+use tetfit_run::run_fit;
 use tetgen_run::{run_tetgen, run_within};
 
 /// A file by its name, with its text.
@@ -77,6 +78,19 @@ impl Place {
         Ok(())
     }
 
+    /// Runs the program that fits decimals.
+    fn fit(&mut self, alloc: Global, words: &[&[u8]]) -> Result<(), NoMemory> {
+        let words = words_of(alloc, words)?;
+        let Place {
+            status,
+            folder,
+            out,
+            err,
+        } = self;
+        *status = run_fit(alloc, &words, folder, out, err);
+        Ok(())
+    }
+
     /// The same within limits on the points and bytes of the input, at most 20,000 each.
     fn run_within(
         &mut self,
@@ -136,6 +150,13 @@ pub(crate) struct Run<'a> {
 pub(crate) fn leaves(alloc: Global, run: &Run) -> Result<bool, NoMemory> {
     let mut place = Place::with_files(alloc, run.held)?;
     place.run(alloc, run.words)?;
+    place.has(alloc, run.end, run.files)
+}
+
+/// The same of the program that fits decimals.
+pub(crate) fn fits(alloc: Global, run: &Run) -> Result<bool, NoMemory> {
+    let mut place = Place::with_files(alloc, run.held)?;
+    place.fit(alloc, run.words)?;
     place.has(alloc, run.end, run.files)
 }
 

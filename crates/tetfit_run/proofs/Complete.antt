@@ -1,0 +1,134 @@
+-- Where the files are told and no fault rose, a run has one answer.
+use Rattle.std.proofs.Common.{◌≡◌, ◌<◌, ◌⊎◌, inl, inr, ℕ, Bool, true, false, List, Some, Result, Ok, Err, refl, sym, subst, ap, ◌∙◌, arith}
+use Rattle.std.specs.Prelude.{◌≢◌}
+use Rattle.box_tree.proofs.Lists.{less_or_more}
+use Rattle.command_words.specs.Names.{file_name}
+use Rattle.command_words.specs.declared.options.Extension.TheVariants.{Stl}
+use Rattle.command_words.specs.declared.options.Options.{Options}
+use Rattle.fit_steps.specs.Models.{ModelAnswer, ModelBy, StlAnswer, names_stl, stl_text_of}
+use Rattle.fit_steps.specs.Trying.{IsFitted, at_decimals, is_of_grid}
+use Rattle.fit_words.specs.Words.{fit_fault, others, request_of}
+use Rattle.fit_words.specs.declared.request.Request.{Request}
+use Rattle.fit_words.specs.declared.request.Request.TheVariants.{Page, Version, Mesh}
+use Rattle.run_steps.proofs.Once.{IsTold, bounded_once, fetch_once, input_once, meshed_same, nodes_once, text_once}
+use Rattle.run_steps.proofs.Steps.{IsDecided, IsOnce, IsSame, and_then_once, and_then_same, gives_once, status_of}
+use Rattle.run_steps.specs.Reading.{BoundedAnswer, FetchAnswer, NodesAnswer, TextAnswer, complex_file}
+use Rattle.run_steps.specs.Seen.{FolderSeen, SinkSeen}
+use Rattle.run_steps.specs.Steps.{AndThen, Gives, forced_answer}
+use Rattle.run_steps.specs.declared.input.Input.{Input}
+use Rattle.run_steps.specs.declared.outputs.Outputs.{Outputs}
+use Rattle.run_steps.specs.declared.status.Status.{Status}
+use Rattle.run_steps.specs.declared.status.Status.TheVariants.{Usage, NoFill, NoMemory}
+use Rattle.tet_ports.specs.Files.{Files}
+use Rattle.tetgen_run.proofs.Endings.{answers_same}
+use Rattle.tetfit_run.specs.Outputs.{FitWordsAnswer, IsFitUsage, IsFittedTo, MadeBy, OutputsOfFit, Says, fit_limits}
+use Rattle.tetfit_run.specs.Run.{IsAnswer, IsComplete}
+
+-- ---- the words
+
+some_same : {A : Type 0} (a b : A) → Some a ≡ Some b → a ≡ b
+some_same a b e = cc
+
+usage_is : (words : List (List ℕ)) (s : Status) → s ≢ NoMemory → IsFitUsage words s → (p : ℕ × ℕ) × (fit_fault words ≡ Some p) × (s ≡ Usage p.0 p.1)
+usage_is words (Usage word place) n h = ((word, place), h, refl)
+usage_is words NoMemory n h = absurd (n refl)
+usage_is words s n h = absurd h
+
+words_once : (words : List (List ℕ)) → IsOnce (FitWordsAnswer words)
+words_once words (Ok o) (Ok q) n m h k = ap (λ x. Ok x) (h.1 ∙ sym k.1)
+words_once words (Ok o) (Err t) n m h k = let u = usage_is words t m k in let e = u.1 in let f = h.0 in absurd (cc)
+words_once words (Err s) (Ok q) n m h k = let u = usage_is words s n h in let e = u.1 in let f = k.0 in absurd (cc)
+words_once words (Err s) (Err t) n m h k =
+    let u = usage_is words s n h in
+    let v = usage_is words t m k in
+    ap (λ x. Err x) (u.2 ∙ ap (λ p. Usage p.0 p.1) (some_same u.0 v.0 (sym u.1 ∙ v.1)) ∙ sym v.2)
+
+-- ---- the model
+
+stl_once : (told : Files) (seen : FolderSeen) (base : List ℕ) → IsTold told seen → IsOnce (StlAnswer fit_limits seen base)
+stl_once told seen base h =
+    let name = file_name base Stl in
+    and_then_once (FetchAnswer fit_limits seen name) (λ bytes. AndThen (TextAnswer name (stl_text_of bytes)) (λ text. Gives (complex_file name text)))
+    (fetch_once fit_limits told seen name h.files h.no_fault)
+    (λ bytes. and_then_once (TextAnswer name (stl_text_of bytes)) (λ text. Gives (complex_file name text)) (text_once name (stl_text_of bytes)) (λ text. gives_once (complex_file name text)))
+
+model_by_once : (b : Bool) (told : Files) (seen : FolderSeen) (options : Options) → IsTold told seen → IsOnce (ModelBy b fit_limits seen options)
+model_by_once false told seen options h = input_once fit_limits told seen options h
+model_by_once true told seen options h =
+    let base = options.base in
+    and_then_once (StlAnswer fit_limits seen base) (λ file. AndThen (NodesAnswer fit_limits seen base file.text.nodes) (BoundedAnswer file)) (stl_once told seen base h)
+    (λ file. and_then_once (NodesAnswer fit_limits seen base file.text.nodes) (BoundedAnswer file) (nodes_once fit_limits told seen base file.text.nodes h) (bounded_once file))
+
+model_once : (told : Files) (seen : FolderSeen) (options : Options) → IsTold told seen → IsOnce (ModelAnswer fit_limits seen options)
+model_once told seen options = model_by_once (names_stl options) told seen options
+
+-- ---- the decimals
+
+grid_forced : (s : Status) → is_of_grid (forced_answer s) ≡ is_of_grid s
+grid_forced (NoFill anomaly) = refl
+grid_forced s = refl
+
+-- an answer that is the same as a refusal of the grid is one
+refused_too : (options : Options) (input : Input) (n : ℕ) (b : Result Outputs Status) → IsFitted fit_limits options input n b → is_of_grid (status_of b) ≡ true → n ≡ 0
+refused_too options input n (Ok outputs) k e = absurd (cc)
+refused_too options input n (Err s) k e = k.last (sym (grid_forced s) ∙ e)
+
+of_grid_decided : (s : Status) → is_of_grid s ≡ true → s ≢ NoMemory
+of_grid_decided NoMemory e = absurd (cc)
+of_grid_decided s e = λ n. absurd (wanting (sym (ap is_of_grid n) ∙ e))
+  where
+    wanting : is_of_grid NoMemory ≡ true → ⊥
+    wanting f = cc
+
+-- no input is fitted at two numbers of decimals
+none_finer : (options : Options) (input : Input) (m n : ℕ) (a b : Result Outputs Status) → m < n → IsDecided b → IsFitted fit_limits options input m a → IsFitted fit_limits options input n b → ⊥
+none_finer options input m n a b l d h k =
+    let r = h.finer n l k.within in
+    let e = meshed_same fit_limits (at_decimals n options) input b (Err r.status) d (of_grid_decided r.status r.of_grid) k.answer r.answer in
+    let z = refused_too options input n b k (ap is_of_grid e ∙ grid_forced r.status ∙ r.of_grid) in
+    omega (arith, l, z)
+
+fits_same : (options : Options) (input : Input) (m n : ℕ) (a b : Result Outputs Status) → IsDecided a → IsDecided b → IsFitted fit_limits options input m a → IsFitted fit_limits options input n b
+    → (m ≡ n) × (status_of a ≡ status_of b)
+fits_same options input m n a b c d h k = go (less_or_more m n)
+  where
+    go : (m < n) ⊎ ((m ≡ n) ⊎ (n < m)) → (m ≡ n) × (status_of a ≡ status_of b)
+    go (inl l) = absurd (none_finer options input m n a b l d h k)
+    go (inr (inl e)) = (e, meshed_same fit_limits (at_decimals n options) input a b c d (subst (λ i. IsFitted fit_limits options input i a) e h).answer k.answer)
+    go (inr (inr l)) = absurd (none_finer options input n m b a l c k h)
+
+-- what is fitted, before the summary tells its decimals
+record Fit (options : Options) (input : Input) (r : Result Outputs Status) : Type 0 where
+  m : ℕ
+  made : Result Outputs Status
+  decided : IsDecided made
+  fitted : IsFitted fit_limits options input m made
+  is : status_of r ≡ status_of made
+
+fit_of : (options : Options) (input : Input) (r : Result Outputs Status) → IsDecided r → IsFittedTo options input r → Fit options input r
+fit_of options input (Ok outputs) d h = record { m = h.0; made = Ok h.1; decided = tt; fitted = h.2; is = refl }
+fit_of options input (Err s) d h = record { m = h.0; made = Err s; decided = d; fitted = h.1; is = refl }
+
+fitted_same : (options : Options) (input : Input) → IsSame (IsFittedTo options input)
+fitted_same options input r s c d h k =
+    let a = fit_of options input r c h in
+    let b = fit_of options input s d k in
+    a.is ∙ (fits_same options input a.m b.m a.made b.made a.decided b.decided a.fitted b.fitted).1 ∙ sym b.is
+
+-- ---- the run
+
+says_same : (text : List ℕ) → IsSame (Says text)
+says_same text (Ok a) (Ok b) c d h k = refl
+says_same text (Err s) r c d h k = absurd (c h)
+says_same text (Ok a) (Err t) c d h k = absurd (d k)
+
+made_same : (request : Request) (told : Files) (words : List (List ℕ)) (seen : FolderSeen) → IsTold told seen → IsSame (MadeBy request words seen)
+made_same Page told words seen h = says_same _
+made_same Version told words seen h = says_same _
+made_same Mesh told words seen h =
+    and_then_same (FitWordsAnswer (others words)) (λ options. AndThen (ModelAnswer fit_limits seen options) (IsFittedTo options)) (words_once (others words))
+    (λ options. and_then_same (ModelAnswer fit_limits seen options) (IsFittedTo options) (model_once told seen options h) (fitted_same options))
+
+pub answer_complete : (words : List (List ℕ)) (folder : FolderSeen) (out : SinkSeen) (s : Status) → IsAnswer words folder out s → IsComplete words folder out s
+answer_complete words folder out s h told e f n other m k =
+    answers_same (OutputsOfFit words folder) (made_same (request_of words) told words folder (record { files = e; no_fault = f.0 })) folder out f s other n m h k

@@ -1,0 +1,170 @@
+-- What a run makes of its words: its refusals, its mesh, and that it holds over all of a run.
+use Rattle.std.proofs.Common.{◌≡◌, inl, inr, ℕ, List, Option, Some, None, Result, Ok, Err, refl, sym, subst, ap}
+use Rattle.std.specs.Prelude.{IsTrue, All, IfOk, IfErr}
+use Rattle.std.proofs.lemmas.List.Elements.{All-nil}
+use Rattle.command_words.specs.Meaning.{options_of}
+use Rattle.command_words.specs.declared.fault.WordsFault.{WordsFault}
+use Rattle.command_words.specs.declared.fault.WordsFault.TheVariants.{Usage as Misunderstood, NoMemory as WordsWanting}
+use Rattle.command_words.specs.declared.options.Options.{Options}
+use Rattle.fit_steps.proofs.Models.{model_has, model_wider}
+use Rattle.fit_steps.specs.Models.{ModelAnswer}
+use Rattle.fit_steps.specs.Trying.{IsFitted, IsNumberedAt, at_decimals}
+use Rattle.fit_words.specs.Words.{fit_fault, others, request_of}
+use Rattle.fit_words.specs.declared.request.Request.{Request}
+use Rattle.fit_words.specs.declared.request.Request.TheVariants.{Page, Version, Mesh}
+use Rattle.run_steps.proofs.Steps.{and_then_refuses, and_then_wider}
+use Rattle.run_steps.proofs.Wider.{IsWithin}
+use Rattle.run_steps.specs.Seen.{FolderSeen}
+use Rattle.run_steps.specs.Stores.{in_order, TellsFailure}
+use Rattle.run_steps.specs.declared.input.Input.{Input}
+use Rattle.run_steps.specs.declared.numbering.Numbering.{Numbering}
+use Rattle.run_steps.specs.declared.outputs.Outputs.{Outputs}
+use Rattle.run_steps.specs.declared.status.Status.{Status}
+use Rattle.run_steps.specs.declared.status.Status.TheVariants.{Usage, NoMemory}
+use Rattle.tetgen_run.proofs.Endings.{NumbersPoints, Refuses}
+use Rattle.tetgen_run.proofs.Refusals.{IsRefusal, IsSilent, not_true}
+use Rattle.tetgen_run.proofs.Runs.{bound_silent, mesh_by, meshed_refuses, outputs_told}
+use Rattle.tetgen_run.specs.Ends.{StopsSo}
+use Rattle.tetgen_run.specs.Stops.{stop_of_words}
+use Rattle.tetgen_run.specs.declared.stop.Stop.{Stop}
+use Rattle.tetgen_run.specs.declared.stop.Stop.TheVariants.{Refused, Unwritten, Unsummed, NoMemory as Wanting}
+use Rattle.tetfit_run.specs.Outputs.{FitWordsAnswer, IsFitUsage, IsFittedTo, MadeBy, OutputsOfFit, OutputsOfModel, OutputsOfOptions, fit_limits}
+use Rattle.tetfit_run.specs.Run.{IsAskedBy, IsMeshOfModel, IsNumbering, IsNumberingOf, IsUnfitted}
+
+-- ---- answers
+
+pub ok_to : {T E : Type 0} (r : Result T E) (P Q : T → Type 0) → ((t : T) → P t → Q t) → IfOk r P → IfOk r Q
+ok_to (Ok t) P Q f h = f t h
+ok_to (Err e) P Q f h = h
+
+pub err_to : {T E : Type 0} (r : Result T E) (P Q : E → Type 0) → ((e : E) → P e → Q e) → IfErr r P → IfErr r Q
+err_to (Ok t) P Q f h = h
+err_to (Err e) P Q f h = f e h
+
+-- ---- refusals
+
+usage_refuses : (words : List (List ℕ)) (s : Status) → IsFitUsage words s → IsRefusal s
+usage_refuses words (Usage word place) h = tt
+usage_refuses words NoMemory h = tt
+usage_refuses words s h = absurd h
+
+model_refuses : (folder : FolderSeen) (options : Options) (s : Status) → ModelAnswer fit_limits folder options (Err s) → IsRefusal s
+model_refuses = model_has IsRefusal (λ name. tt) (λ name. tt) (λ name fault. tt) (λ what. tt) tt fit_limits
+
+model_silent : (folder : FolderSeen) (options : Options) (s : Status) → ModelAnswer fit_limits folder options (Err s) → IsSilent s
+model_silent = model_has IsSilent (λ name. refl) (λ name. refl) (λ name fault. refl) (λ what. refl) refl fit_limits
+
+fitted_refuses : (options : Options) (input : Input) (s : Status) → IsFittedTo options input (Err s) → IsRefusal s
+fitted_refuses options input s h = meshed_refuses fit_limits (at_decimals h.0 options) input s h.1.answer
+
+outputs_refuse : (words : List (List ℕ)) (folder : FolderSeen) (s : Status) → OutputsOfModel words folder (Err s) → IsRefusal s
+outputs_refuse words folder =
+    and_then_refuses IsRefusal (FitWordsAnswer words) (λ options. OutputsOfOptions options folder) (usage_refuses words)
+    (λ options. and_then_refuses IsRefusal (ModelAnswer fit_limits folder options) (IsFittedTo options) (model_refuses folder options) (fitted_refuses options))
+
+made_refuses : (request : Request) (words : List (List ℕ)) (folder : FolderSeen) (s : Status) → MadeBy request words folder (Err s) → IsRefusal s
+made_refuses Page words folder s h = subst IsRefusal (sym h) tt
+made_refuses Version words folder s h = subst IsRefusal (sym h) tt
+made_refuses Mesh words folder s h = outputs_refuse (others words) folder s h
+
+pub fit_refuses : (words : List (List ℕ)) (folder : FolderSeen) → Refuses (OutputsOfFit words folder)
+fit_refuses words folder = made_refuses (request_of words) words folder
+
+-- ---- numbers of points
+
+-- a status whose message prints no points has every numbering
+numbers_of : (options : Options) (folder : FolderSeen) → NumbersPoints (IsNumberingOf options folder)
+numbers_of options folder s by e = λ t. absurd (not_true (subst IsTrue e t))
+
+pub numbers_points : (words : List (List ℕ)) (folder : FolderSeen) → NumbersPoints (IsNumbering words folder)
+numbers_points words = numbers_of (options_of words)
+
+numbered : (folder : FolderSeen) (options : Options) (input : Input) (m : ℕ) (s : Status) (by : Option Numbering) → ModelAnswer fit_limits folder options (Ok input)
+    → IsFitted fit_limits options input m (Err s) → IsNumberedAt fit_limits options input m (record { status = s; numbering = by }) → IsNumberingOf options folder s by
+numbered folder options input m s None r f n = numbers_of options folder s None (bound_silent fit_limits (at_decimals m options) input s n)
+numbered folder options input m s (Some by) r f n = λ t. (input, r, m, f, n.0, n.1, ap Some n.3)
+
+-- where there is no model
+pub model_stops : (folder : FolderSeen) (options : Options) (s : Status) → ModelAnswer fit_limits folder options (Err s)
+    → StopsSo (OutputsOfOptions options folder) (IsNumberingOf options folder) (Refused s None)
+model_stops folder options s r = (inl r, numbers_of options folder s None (model_silent folder options s r))
+
+-- where it has no mesh
+pub unfitted_stops : (folder : FolderSeen) (options : Options) (input : Input) (stop : Stop) → ModelAnswer fit_limits folder options (Ok input) → IsUnfitted options input stop
+    → StopsSo (OutputsOfOptions options folder) (IsNumberingOf options folder) stop
+unfitted_stops folder options input (Refused s by) r h = (inr (input, r, (h.0, h.1)), numbered folder options input h.0 s by r h.1 h.2)
+unfitted_stops folder options input (Unwritten text) r h = absurd h
+unfitted_stops folder options input Unsummed r h = absurd h
+unfitted_stops folder options input Wanting r h = tt
+
+-- where the words are not understood
+pub usage_stops : (words : List (List ℕ)) (folder : FolderSeen) (answer : Result Options WordsFault) (f : WordsFault) → answer ≡ Err f
+    → ((word place : ℕ) → answer ≡ Err (Misunderstood word place) → fit_fault words ≡ Some (word, place)) → StopsSo (OutputsOfModel words folder) (IsNumbering words folder) (stop_of_words f)
+usage_stops words folder answer (Misunderstood word place) e usage = (inl (usage word place e), numbers_points words folder (Usage word place) None refl)
+usage_stops words folder answer WordsWanting e usage = tt
+
+-- where they are
+pub options_stop : (words : List (List ℕ)) (folder : FolderSeen) (options : Options) (stop : Stop) → FitWordsAnswer words (Ok options)
+    → StopsSo (OutputsOfOptions options folder) (IsNumberingOf options folder) stop → StopsSo (OutputsOfModel words folder) (IsNumbering words folder) stop
+options_stop words folder options (Refused s by) w h = (inr (options, w, h.0), subst (λ o. IsNumberingOf o folder s by) w.1 h.1)
+options_stop words folder options (Unwritten text) w h = absurd h
+options_stop words folder options Unsummed w h = absurd h
+options_stop words folder options Wanting w h = tt
+
+pub options_made : (words : List (List ℕ)) (folder : FolderSeen) (options : Options) (outputs : Outputs) → FitWordsAnswer words (Ok options) → OutputsOfOptions options folder (Ok outputs)
+    → OutputsOfModel words folder (Ok outputs)
+options_made words folder options outputs w h = (options, w, h)
+
+-- ---- the mesh
+
+model_mesh : (words : List (List ℕ)) (folder : FolderSeen) (outputs : Outputs) → OutputsOfModel words folder (Ok outputs) → IsMeshOfModel words folder outputs
+model_mesh words folder outputs h =
+    let o = options_of words in
+    let e = h.1.1 in
+    let input = h.2.0 in
+    let m = h.2.2.0 in
+    let made = h.2.2.1 in
+    let read = subst (λ q. ModelAnswer fit_limits folder q (Ok input)) e h.2.1 in
+    let fitted = subst (λ q. IsFitted fit_limits q input m (Ok made)) e h.2.2.2 in record {
+      decimals = m;
+      made = made;
+      mesh = mesh_by fit_limits (at_decimals m o) (fit_fault words ≡ None) (λ input. ModelAnswer fit_limits folder o (Ok input) × IsFitted fit_limits o input m (Ok made)) input made h.1.0 (read, fitted) fitted.answer;
+      outputs_are = h.2.2.3;
+    }
+
+asked_by : (request : Request) (words : List (List ℕ)) (folder : FolderSeen) (outputs : Outputs) → MadeBy request words folder (Ok outputs) → IsAskedBy request words folder outputs
+asked_by Page words folder outputs h = h
+asked_by Version words folder outputs h = h
+asked_by Mesh words folder outputs h = model_mesh (others words) folder outputs h
+
+pub fit_asked : (words : List (List ℕ)) (folder : FolderSeen) (outputs : Outputs) → OutputsOfFit words folder (Ok outputs) → IsAskedBy (request_of words) words folder outputs
+fit_asked words folder = asked_by (request_of words) words folder
+
+-- ---- the texts
+
+model_told : (words : List (List ℕ)) (folder : FolderSeen) (outputs : Outputs) → OutputsOfModel words folder (Ok outputs) → All TellsFailure (in_order outputs.texts)
+model_told words folder outputs h =
+    let f = h.2.2 in
+    let a = f.2.answer.2 in
+    subst (λ (o : Outputs). All TellsFailure (in_order o.texts)) (sym f.3) (outputs_told (at_decimals f.0 h.0) a.0 f.1 a.2)
+
+told_by : (request : Request) (words : List (List ℕ)) (folder : FolderSeen) (outputs : Outputs) → MadeBy request words folder (Ok outputs) → All TellsFailure (in_order outputs.texts)
+told_by Page words folder outputs h = subst (λ (o : Outputs). All TellsFailure (in_order o.texts)) (sym h) (All-nil TellsFailure)
+told_by Version words folder outputs h = subst (λ (o : Outputs). All TellsFailure (in_order o.texts)) (sym h) (All-nil TellsFailure)
+told_by Mesh words folder outputs h = model_told (others words) folder outputs h
+
+-- each text has its message
+pub fit_told : (words : List (List ℕ)) (folder : FolderSeen) (outputs : Outputs) → OutputsOfFit words folder (Ok outputs) → All TellsFailure (in_order outputs.texts)
+fit_told words folder = told_by (request_of words) words folder
+
+-- ---- over all of a run
+
+made_wider : (request : Request) (words : List (List ℕ)) (part wide : FolderSeen) → IsWithin part wide → (r : Result Outputs Status) → MadeBy request words part r → MadeBy request words wide r
+made_wider Page words part wide w r h = h
+made_wider Version words part wide w r h = h
+made_wider Mesh words part wide w r h =
+    and_then_wider (FitWordsAnswer (others words)) (FitWordsAnswer (others words)) (λ options. OutputsOfOptions options part) (λ options. OutputsOfOptions options wide) (λ r h. h)
+    (λ options. and_then_wider (ModelAnswer fit_limits part options) (ModelAnswer fit_limits wide options) (IsFittedTo options) (IsFittedTo options) (model_wider fit_limits part wide w options) (λ input r h. h)) r h
+
+pub fit_wider : (words : List (List ℕ)) (part wide : FolderSeen) → IsWithin part wide → (r : Result Outputs Status) → OutputsOfFit words part r → OutputsOfFit words wide r
+fit_wider words = made_wider (request_of words) words

@@ -1,0 +1,3 @@
+pub mod Complete
+pub mod Fitted
+pub mod Pieces

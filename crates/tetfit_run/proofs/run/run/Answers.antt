@@ -1,0 +1,37 @@
+use Rattle.std.proofs.Common.{Ok, refl, arith}
+use Rattle.fit_words.specs.Words.{others}
+use Rattle.run_steps.proofs.Wider.{IsWithin}
+use Rattle.run_steps.specs.Seen.{FolderSeen, SinkSeen, folder_seen, sink_seen}
+use Rattle.tetgen_run.proofs.Endings.{finish_ends}
+use Rattle.tetfit_run.specs.Outputs.{OutputsOfFit}
+use Rattle.tetfit_run.specs.Run.{IsNumbering}
+use Rattle.tetfit_run.proofs.Fitted.{fit_told, fit_wider}
+use Rattle.tetfit_run.proofs.Pieces.{stages_after}
+use Rattle.tetfit_run.proofs.run.run.Goals as goal
+
+pub returns-clause-ends : goal.returns-clause-ends
+returns-clause-ends g c =
+    let F = g.F.Folder in
+    let O = g.O.Sink in
+    let words = c.args.words.now in
+    let part : FolderSeen = folder_seen F.held F.faults F.misses c.args.folder.now c.outputs_of.new.folder in
+    let stored : FolderSeen = folder_seen F.held F.faults F.misses c.outputs_of.new.folder c.finish.new.folder in
+    let folder : FolderSeen = folder_seen F.held F.faults F.misses c.args.folder.now c.finish.new.folder in
+    let a = c.outputs_of.ensures in
+    let b = c.finish.ensures in
+    let within : IsWithin part folder = record {
+      files = refl;
+      faults_before = omega arith;
+      faults_now = b.faults;
+      misses_before = omega arith;
+      misses_now = b.misses;
+    } in
+    let outputs = c.in_ok-outputs.outputs in
+    let made = fit_wider words part folder within (Ok outputs) c.in_ok-outputs.ensures.made in
+    let out : SinkSeen = sink_seen O.written O.faults O.wants c.args.out.now c.finish.new.out in
+    finish_ends (OutputsOfFit words folder) (IsNumbering (others words) folder) outputs stored folder out c.finish.result made (fit_told words folder outputs made) a.unchanged refl a.faults refl b.finish
+
+pub returns-clause-stages : goal.returns-clause-stages
+returns-clause-stages g c =
+    let E = g.E.Sink in
+    stages_after c.args.words.now (E.written c.args.err.now) (E.written c.say.new.err) (E.written c.say-2.new.err) c.say.ensures.stages c.say-2.ensures.stages

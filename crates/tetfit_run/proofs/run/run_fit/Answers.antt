@@ -1,0 +1,100 @@
+use Rattle.std.proofs.Common.{Ok, subst}
+use Rattle.fit_words.specs.Words.{others, request_of}
+use Rattle.run_steps.specs.Seen.{FolderSeen, SinkSeen, folder_seen, sink_seen}
+use Rattle.run_steps.specs.declared.status.Status.TheVariants.{Done}
+use Rattle.tetgen_run.proofs.Endings.{end_answers, end_leaves, stop_answers, stop_leaves, stop_tells}
+use Rattle.tetgen_run.specs.Ends.{EndsWith}
+use Rattle.tetfit_run.specs.Messages.{fit_message}
+use Rattle.tetfit_run.specs.Outputs.{OutputsOfFit}
+use Rattle.tetfit_run.specs.Run.{IsAskedBy, IsNumbering, after_stages}
+use Rattle.tetfit_run.proofs.Complete.{answer_complete}
+use Rattle.tetfit_run.proofs.Fitted.{fit_asked, fit_refuses, numbers_points}
+use Rattle.tetfit_run.proofs.Pieces.{told_earlier}
+use Rattle.tetfit_run.proofs.run.run_fit.Goals as goal
+
+pub returns-in-Ok-clause-complete : goal.returns-in-Ok-clause-complete
+returns-in-Ok-clause-complete g c =
+    let F = g.F.Folder in
+    let O = g.O.Sink in
+    let words = c.args.words.now in
+    let folder : FolderSeen = folder_seen F.held F.faults F.misses c.args.folder.now c.run.new.folder in
+    let out : SinkSeen = sink_seen O.written O.faults O.wants c.args.out.now c.run.new.out in
+    let made = OutputsOfFit words folder in
+    let numbered = IsNumbering (others words) folder in
+    let ended = subst (EndsWith made numbered folder out) c.in-Ok.is c.run.ensures.ends in
+    answer_complete words folder out Done (end_answers made numbered (fit_refuses words folder) folder out (Ok c.in-Ok.field-0) ended)
+
+pub returns-in-Ok-clause-left : goal.returns-in-Ok-clause-left
+returns-in-Ok-clause-left g c =
+    let F = g.F.Folder in
+    let O = g.O.Sink in
+    let words = c.args.words.now in
+    let folder : FolderSeen = folder_seen F.held F.faults F.misses c.args.folder.now c.run.new.folder in
+    let out : SinkSeen = sink_seen O.written O.faults O.wants c.args.out.now c.run.new.out in
+    let made = OutputsOfFit words folder in
+    let numbered = IsNumbering (others words) folder in
+    let ended = subst (EndsWith made numbered folder out) c.in-Ok.is c.run.ensures.ends in
+    end_leaves made numbered (IsAskedBy (request_of words) words folder) (fit_refuses words folder) (fit_asked words folder) folder out (Ok c.in-Ok.field-0) ended
+
+pub returns-in-Err-clause-answer : goal.returns-in-Err-clause-answer
+returns-in-Err-clause-answer g c =
+    let F = g.F.Folder in
+    let O = g.O.Sink in
+    let E = g.E.Sink in
+    let words = c.args.words.now in
+    let folder : FolderSeen = folder_seen F.held F.faults F.misses c.args.folder.now c.run.new.folder in
+    let out : SinkSeen = sink_seen O.written O.faults O.wants c.args.out.now c.run.new.out in
+    let made = OutputsOfFit words folder in
+    let numbered = IsNumbering (others words) folder in
+    let ended = subst (EndsWith made numbered folder out) c.in-Err.is c.run.ensures.ends in
+    let err : SinkSeen = sink_seen E.written E.faults E.wants c.run.new.err c.tell.new.err in
+    stop_answers (fit_message (others words)) made numbered (fit_refuses words folder) folder out err c.in-Err.stop c.tell.result ended c.tell.ensures
+
+pub returns-in-Err-clause-complete : goal.returns-in-Err-clause-complete
+returns-in-Err-clause-complete g c =
+    let F = g.F.Folder in
+    let O = g.O.Sink in
+    let E = g.E.Sink in
+    let words = c.args.words.now in
+    let folder : FolderSeen = folder_seen F.held F.faults F.misses c.args.folder.now c.run.new.folder in
+    let out : SinkSeen = sink_seen O.written O.faults O.wants c.args.out.now c.run.new.out in
+    let made = OutputsOfFit words folder in
+    let numbered = IsNumbering (others words) folder in
+    let ended = subst (EndsWith made numbered folder out) c.in-Err.is c.run.ensures.ends in
+    let err : SinkSeen = sink_seen E.written E.faults E.wants c.run.new.err c.tell.new.err in
+    answer_complete words folder out c.tell.result (stop_answers (fit_message (others words)) made numbered (fit_refuses words folder) folder out err c.in-Err.stop c.tell.result ended c.tell.ensures)
+
+pub returns-in-Err-clause-left : goal.returns-in-Err-clause-left
+returns-in-Err-clause-left g c =
+    let F = g.F.Folder in
+    let O = g.O.Sink in
+    let E = g.E.Sink in
+    let words = c.args.words.now in
+    let folder : FolderSeen = folder_seen F.held F.faults F.misses c.args.folder.now c.run.new.folder in
+    let out : SinkSeen = sink_seen O.written O.faults O.wants c.args.out.now c.run.new.out in
+    let made = OutputsOfFit words folder in
+    let numbered = IsNumbering (others words) folder in
+    let ended = subst (EndsWith made numbered folder out) c.in-Err.is c.run.ensures.ends in
+    let err : SinkSeen = sink_seen E.written E.faults E.wants c.run.new.err c.tell.new.err in
+    stop_leaves (fit_message (others words)) made numbered (IsAskedBy (request_of words) words folder) (fit_refuses words folder) (fit_asked words folder) folder out err c.in-Err.stop c.tell.result ended c.tell.ensures
+
+pub returns-in-Err-clause-told : goal.returns-in-Err-clause-told
+returns-in-Err-clause-told g c =
+    let F = g.F.Folder in
+    let O = g.O.Sink in
+    let E = g.E.Sink in
+    let words = c.args.words.now in
+    let folder : FolderSeen = folder_seen F.held F.faults F.misses c.args.folder.now c.run.new.folder in
+    let out : SinkSeen = sink_seen O.written O.faults O.wants c.args.out.now c.run.new.out in
+    let made = OutputsOfFit words folder in
+    let numbered = IsNumbering (others words) folder in
+    let ended = subst (EndsWith made numbered folder out) c.in-Err.is c.run.ensures.ends in
+    let err : SinkSeen = sink_seen E.written E.faults E.wants c.run.new.err c.tell.new.err in
+    let old = c.args.err.now in
+    let mid = c.run.new.err in
+    let new = c.tell.new.err in
+    let whole : SinkSeen = sink_seen E.written E.faults E.wants old new in
+    let message = fit_message (others words) in
+    let told = told_earlier message c.in-Err.stop c.tell.result (E.written mid) (E.written new) (E.faults old) (E.faults mid) (E.faults new) (E.wants old) (E.wants mid) (E.wants new)
+    c.run.ensures.faults c.run.ensures.wants c.tell.ensures in
+    (E.written mid, c.run.ensures.stages, stop_tells message made numbered (fit_refuses words folder) (numbers_points (others words) folder) folder out (after_stages whole (E.written mid)) c.in-Err.stop c.tell.result ended told)

@@ -1,0 +1,41 @@
+-- The lines that each refusal is told in.
+use Rattle.std.specs.Prelude.{ℕ, List, [], ◌++◌, drop, codes, Option}
+use Rattle.fit_words.specs.Texts.{refused_line}
+use Rattle.run_steps.specs.Messages.{message_of}
+use Rattle.run_steps.specs.declared.numbering.Numbering.{Numbering}
+use Rattle.run_steps.specs.declared.status.LimitKind.{LimitKind}
+use Rattle.run_steps.specs.declared.status.LimitKind.TheVariants.{Corners, Grid}
+use Rattle.run_steps.specs.declared.status.Status.{Status}
+use Rattle.run_steps.specs.declared.status.Status.TheVariants.{Usage, Missing, Limit, Flat, NotFlat, SegmentsCross, Crossing, GridEnd, BudgetEnd, NoFill}
+
+-- the line of the program for exact texts, with this program's name in place of its own
+abbrev pub renamed : List ℕ → List ℕ
+renamed line = codes "tetfit: " ++ drop 8 line
+
+-- what would help where a limit is passed
+abbrev pub help_of_limit : LimitKind → List ℕ
+help_of_limit (Grid line) = codes "tetfit: no coordinate may be over 8388608 in size: scale the model down\n"
+help_of_limit (Corners line count most) = codes "tetfit: cut the facet in parts\n"
+help_of_limit what = codes "tetfit: cut the model in parts\n"
+
+-- one more line, on what would help, where something is known to
+abbrev pub help_of : Status → List ℕ
+help_of (Missing name) = codes "tetfit: the file of a model is .node, .poly, .smesh, .off or .stl: give its name whole\n"
+help_of (Limit what) = help_of_limit what
+help_of Flat = codes "tetfit: four points that are not in one plane are wanted\n"
+help_of (NotFlat facet four) = codes "tetfit: cut the facet in triangles\n"
+help_of (SegmentsCross one two) = codes "tetfit: give both segments the point at which they cross\n"
+help_of (Crossing one two) = codes "tetfit: give both parts the points in which they meet, and one of two equal ones away\n"
+help_of (GridEnd piece) = codes "tetfit: move apart what is near the segment, or turn sharp corners wider\n"
+help_of (BudgetEnd made piece) = codes "tetfit: allow more added points by -S\n"
+help_of (NoFill anomaly) = codes "tetfit: move the points of these facets apart\n"
+help_of status = []
+
+-- the line itself
+abbrev pub line_of : List (List ℕ) → Option Numbering → Status → List ℕ
+line_of words by (Usage word place) = refused_line words word place
+line_of words by status = renamed (message_of by status)
+
+-- the message of a refusal, where these are the words without those that ask for the stages
+abbrev pub fit_message : List (List ℕ) → Option Numbering → Status → List ℕ
+fit_message words by status = line_of words by status ++ help_of status

@@ -1,0 +1,81 @@
+-- What the words of the program ask for, and the outputs of that.
+use Rattle.std.specs.Prelude.{◌≡◌, ℕ, ◌-◌, List, ◌++◌, length, take, codes, Option, Some, None, Result, Ok, Err}
+use Rattle.std.specs.Fmt.{decimal}
+use Rattle.command_words.specs.Meaning.{options_of}
+use Rattle.command_words.specs.declared.options.Options.{Options}
+use Rattle.fit_steps.specs.Models.{ModelAnswer}
+use Rattle.fit_steps.specs.Trying.{IsFitted}
+use Rattle.fit_words.specs.Words.{fit_fault, others, request_of}
+use Rattle.fit_words.specs.declared.page.TheConstants.{PAGE, VERSION}
+use Rattle.fit_words.specs.declared.request.Request.{Request}
+use Rattle.fit_words.specs.declared.request.Request.TheVariants.{Page, Version, Mesh}
+use Rattle.node_files.specs.declared.limits.Limits.{Limits}
+use Rattle.run_steps.specs.Seen.{FolderSeen}
+use Rattle.run_steps.specs.Steps.{AndThen}
+use Rattle.run_steps.specs.declared.input.Input.{Input}
+use Rattle.run_steps.specs.declared.outputs.Outputs.{Outputs}
+use Rattle.run_steps.specs.declared.status.Status.{Status}
+use Rattle.run_steps.specs.declared.status.Status.TheVariants.{Usage, NoMemory}
+
+-- the limits of the program: 2^30 bytes of a file, 4,000,000 points and facets, and 1,000,000 corners of a polygon
+abbrev pub fit_limits : Limits
+fit_limits = record { bytes = 1073741824; points = 4000000; facets = 4000000; corners = 1000000 }
+
+-- ---- the words, without those that ask for the stages
+
+-- why words give no options
+abbrev pub IsFitUsage : List (List ℕ) → Status → Type 0
+IsFitUsage words (Usage word place) = fit_fault words ≡ Some (word, place)
+IsFitUsage words NoMemory = Unit {0}
+IsFitUsage words status = ⊥
+
+-- what words ask for
+abbrev pub FitWordsAnswer : List (List ℕ) → Result Options Status → Type 0
+FitWordsAnswer words (Ok options) = (fit_fault words ≡ None) × (options ≡ options_of words)
+FitWordsAnswer words (Err status) = IsFitUsage words status
+
+-- ---- the mesh
+
+-- the summary, which a line feed ends, with how many decimals there are
+abbrev pub with_decimals : ℕ → Option (List ℕ) → Option (List ℕ)
+with_decimals decimals None = None
+with_decimals decimals (Some line) = Some (take (length line - 1) line ++ codes " decimals " ++ decimal decimals ++ codes "\n")
+
+-- the outputs of a mesh with so many decimals, whose summary tells them
+abbrev pub outputs_at : ℕ → Outputs → Outputs
+outputs_at decimals outputs = record outputs { summary = with_decimals decimals outputs.summary }
+
+-- the outputs of an input, or its refusal, at as many decimals as the grid does not refuse
+abbrev pub IsFittedTo : Options → Input → Result Outputs Status → Type 0
+IsFittedTo options input (Ok outputs) =
+    (decimals : ℕ) × (made : Outputs) × IsFitted fit_limits options input decimals (Ok made) × (outputs ≡ outputs_at decimals made)
+IsFittedTo options input (Err status) = (decimals : ℕ) × IsFitted fit_limits options input decimals (Err status)
+
+-- the model that the options name is read, and the outputs of its mesh are made
+abbrev pub OutputsOfOptions : Options → FolderSeen → Result Outputs Status → Type 0
+OutputsOfOptions options folder = AndThen (ModelAnswer fit_limits folder options) (IsFittedTo options)
+
+-- the words are read, and then the outputs of the model that they name are made: each refusal is one of the first step that refuses
+abbrev pub OutputsOfModel : List (List ℕ) → FolderSeen → Result Outputs Status → Type 0
+OutputsOfModel words folder = AndThen (FitWordsAnswer words) (λ options. OutputsOfOptions options folder)
+
+-- ---- what is asked for
+
+-- a text alone, which is put where a summary is
+abbrev pub said : List ℕ → Outputs
+said text = record { texts = record { node = None; ele = None; face = None; edge = None; neigh = None }; summary = Some text }
+
+-- the text, or want of memory
+abbrev pub Says : List ℕ → Result Outputs Status → Type 0
+Says text (Ok outputs) = outputs ≡ said text
+Says text (Err status) = status ≡ NoMemory
+
+-- what a request makes of the words
+abbrev pub MadeBy : Request → List (List ℕ) → FolderSeen → Result Outputs Status → Type 0
+MadeBy Page words folder = Says PAGE.now
+MadeBy Version words folder = Says VERSION.now
+MadeBy Mesh words folder = OutputsOfModel (others words) folder
+
+-- what the words ask for
+abbrev pub OutputsOfFit : List (List ℕ) → FolderSeen → Result Outputs Status → Type 0
+OutputsOfFit words = MadeBy (request_of words) words

@@ -1,0 +1,100 @@
+-- What a run of the program answers, leaves and tells.
+use Rattle.std.specs.Prelude.{◌≡◌, ◌≢◌, ℕ, IsTrue, false, List, Option, Some, None, Ok, Err}
+use Rattle.command_words.specs.Meaning.{options_of}
+use Rattle.command_words.specs.declared.options.Options.{Options}
+use Rattle.fit_steps.specs.Models.{ModelAnswer}
+use Rattle.fit_steps.specs.Trying.{IsFitted, IsNumberedAt, at_decimals}
+use Rattle.fit_words.specs.Words.{asks_stages, fit_fault, others, request_of}
+use Rattle.fit_words.specs.declared.page.TheConstants.{PAGE, VERSION}
+use Rattle.fit_words.specs.declared.request.Request.{Request}
+use Rattle.fit_words.specs.declared.request.Request.TheVariants.{Page, Version, Mesh}
+use Rattle.run_steps.specs.Meshing.{BoundAnswer}
+use Rattle.run_steps.specs.Numbering.{numbering_of}
+use Rattle.run_steps.specs.Seen.{FolderSeen, SinkSeen}
+use Rattle.run_steps.specs.Steps.{forced_answer}
+use Rattle.run_steps.specs.declared.input.Input.{Input}
+use Rattle.run_steps.specs.declared.mesh.Bound.{Bound}
+use Rattle.run_steps.specs.declared.numbering.Numbering.{Numbering}
+use Rattle.run_steps.specs.declared.outputs.Outputs.{Outputs}
+use Rattle.run_steps.specs.declared.status.Status.{Status}
+use Rattle.run_steps.specs.declared.status.Status.TheVariants.{NoMemory}
+use Rattle.tet_ports.specs.Files.{Files}
+use Rattle.tet_ports.specs.Written.{with_piece}
+use Rattle.tetgen_run.specs.Ends.{AnswersBy, HasNoFault, LeavesBy, TellsBy, names_points}
+use Rattle.tetgen_run.specs.Run.{IsMeshBy}
+use Rattle.tetgen_run.specs.declared.stop.Stop.{Stop}
+use Rattle.tetgen_run.specs.declared.stop.Stop.TheVariants.{Refused, NoMemory as Wanting}
+use Rattle.tetfit_run.specs.Messages.{fit_message}
+use Rattle.tetfit_run.specs.Outputs.{OutputsOfFit, fit_limits, outputs_at, said}
+
+-- The cause of each answer. Done where there are outputs, and any other answer is the refusal of a step: of a mesh it is that of the run at
+-- some number of decimals, and at each greater number up to the first one that is tried the grid refuses
+abbrev pub IsAnswer : List (List ℕ) → FolderSeen → SinkSeen → Status → Type 0
+IsAnswer words folder = AnswersBy (OutputsOfFit words folder) folder
+
+-- where the files are told, no count of faults rose and memory was not wanting, each answer that has a cause is the answer, but for facets
+-- that are tangled, as of a run on exact texts
+abbrev pub IsComplete : List (List ℕ) → FolderSeen → SinkSeen → Status → Type 0
+IsComplete words folder out status =
+    (told : Files) → folder.files_before ≡ Some told → HasNoFault folder out → status ≢ NoMemory
+    → (other : Status) → other ≢ NoMemory → IsAnswer words folder out other → forced_answer status ≡ forced_answer other
+
+-- ---- what is left
+
+-- The outputs are those of one mesh of the model that the words name, with so many decimals, and their summary tells how many: at each
+-- greater number of decimals, up to the first one that is tried, the grid refuses the model
+pub record IsMeshOfModel (words : List (List ℕ)) (folder : FolderSeen) (outputs : Outputs) : Type 0 where
+  pub decimals : ℕ
+  pub made : Outputs
+  pub mesh : IsMeshBy fit_limits (at_decimals decimals (options_of words)) (fit_fault words ≡ None)
+      (λ input. ModelAnswer fit_limits folder (options_of words) (Ok input)
+      × IsFitted fit_limits (options_of words) input decimals (Ok made)) made
+  pub outputs_are : outputs ≡ outputs_at decimals made
+
+-- what the outputs of a request are
+abbrev pub IsAskedBy : Request → List (List ℕ) → FolderSeen → Outputs → Type 0
+IsAskedBy Page words folder outputs = outputs ≡ said PAGE.now
+IsAskedBy Version words folder outputs = outputs ≡ said VERSION.now
+IsAskedBy Mesh words folder outputs = IsMeshOfModel (others words) folder outputs
+
+-- what each answer leaves
+abbrev pub IsLeft : List (List ℕ) → FolderSeen → SinkSeen → Status → Type 0
+IsLeft words folder = LeavesBy (IsAskedBy (request_of words) words folder) folder
+
+-- ---- what is told
+
+-- why an input that is fitted has no outputs
+abbrev pub IsUnfitted : Options → Input → Stop → Type 0
+IsUnfitted options input (Refused status by) =
+    (m : ℕ) × IsFitted fit_limits options input m (Err status)
+    × IsNumberedAt fit_limits options input m (record { status = status; numbering = by })
+IsUnfitted options input Wanting = Unit {0}
+IsUnfitted options input stop = ⊥
+
+-- where the message of the status prints points, these are their numbers: those of the points of the model at those decimals
+abbrev pub IsNumberingOf : Options → FolderSeen → Status → Option Numbering → Type 0
+IsNumberingOf options folder status by =
+    IsTrue (names_points status)
+    → (input : Input) × ModelAnswer fit_limits folder options (Ok input)
+    × (m : ℕ) × IsFitted fit_limits options input m (Err status)
+    × (bound : Bound) × BoundAnswer fit_limits (at_decimals m options) input (Ok bound)
+    × (by ≡ Some (numbering_of bound.table))
+
+abbrev pub IsNumbering : List (List ℕ) → FolderSeen → Status → Option Numbering → Type 0
+IsNumbering words = IsNumberingOf (options_of words)
+
+-- the sink once the stages are said, which it may not be, with what it had and lines behind it
+abbrev pub after_stages : SinkSeen → Option (List ℕ) → SinkSeen
+after_stages err written = record err { written_before = written }
+
+-- what is told of the stages, only where they are asked for
+pub record AreStages (words : List (List ℕ)) (before now : Option (List ℕ)) : Type 0 where
+  pub lines : List ℕ
+  pub more : now ≡ with_piece before lines
+  pub none : asks_stages words ≡ false → now ≡ before
+
+-- the stages, where they are asked for, and then the message of each answer but Done
+abbrev pub IsTold : List (List ℕ) → FolderSeen → SinkSeen → Status → Type 0
+IsTold words folder err status =
+    (written : Option (List ℕ)) × AreStages words err.written_before written
+    × TellsBy (fit_message (others words)) (IsNumbering (others words) folder) (after_stages err written) status

@@ -1,0 +1,171 @@
+//! The lines that each refusal is told in.
+
+ghost use Rattle.std.specs.Prelude.{◌≡◌, ◌++◌, IfOk, drop};
+ghost use Rattle.run_steps.specs.Seen.{sink_seen};
+ghost use Rattle.fit_words.specs.Words.{others};
+ghost use Rattle.tetgen_run.specs.Ends.{IsPut, IsTellable, IsToldAs};
+ghost use Rattle.tetfit_run.specs.Messages.{fit_message, help_of, help_of_limit, line_of, renamed};
+
+use fit_words::{other_words, refused_line};
+use run_steps::{LimitKind, Numbering, Status, message};
+use std::alloc::Global;
+use tet_ports::{Bytes, NoMemory, Sink, Words};
+use tetgen_run::Stop;
+
+/// The message of want of memory, which takes none.
+const OUT_OF_MEMORY: &[u8] = b"tetfit: out of memory\n";
+
+/// The message that the summary could not be put.
+const SUMMARY_FAILED: &[u8] = b"tetfit: summary: write failed\n";
+
+/// The program's name, as a line begins.
+const NAME: &[u8] = b"tetfit: ";
+
+/// What would help where a limit is passed.
+fn help_of_limit(what: &LimitKind) -> &'static [u8]
+    ensures { result.now ≡ help_of_limit what.now }
+{
+    match what {
+        LimitKind::Grid { line: _ } => {
+            b"tetfit: no coordinate may be over 8388608 in size: scale the model down\n"
+        }
+        LimitKind::Corners {
+            line: _,
+            count: _,
+            most: _,
+        } => b"tetfit: cut the facet in parts\n",
+        _ => b"tetfit: cut the model in parts\n",
+    }
+}
+
+/// One more line, on what would help, where something is known to.
+fn help_of(status: &Status) -> &'static [u8]
+    ensures { result.now ≡ help_of status.now }
+{
+    match status {
+        Status::Missing { name: _ } => {
+            b"tetfit: the file of a model is .node, .poly, .smesh, .off or .stl: give its name whole\n"
+        }
+        Status::Limit { what } => help_of_limit(what),
+        Status::Flat => b"tetfit: four points that are not in one plane are wanted\n",
+        Status::NotFlat { facet: _, four: _ } => b"tetfit: cut the facet in triangles\n",
+        Status::SegmentsCross { one: _, two: _ } => {
+            b"tetfit: give both segments the point at which they cross\n"
+        }
+        Status::Crossing { one: _, two: _ } => {
+            b"tetfit: give both parts the points in which they meet, and one of two equal ones away\n"
+        }
+        Status::GridEnd { piece: _ } => {
+            b"tetfit: move apart what is near the segment, or turn sharp corners wider\n"
+        }
+        Status::BudgetEnd { made: _, piece: _ } => b"tetfit: allow more added points by -S\n",
+        Status::NoFill { anomaly: _ } => b"tetfit: move the points of these facets apart\n",
+        _ => b"",
+    }
+}
+
+/// What follows another program's name at the front of a line.
+fn behind_name(line: &[u8]) -> &[u8]
+    ensures { result.now ≡ drop 8 line.now }
+{
+    if line.len() < 8 { b"" } else { &line[8..] }
+}
+
+/// The line of the program for exact texts, with this program's name in place of its own.
+fn renamed(alloc: Global, line: &[u8]) -> Result<Bytes, NoMemory>
+    ensures { IfOk result (λ made. made ≡ renamed line.now) }
+{
+    let mut made = Bytes::from_slice(alloc, NAME)?;
+    made.append(behind_name(line))?;
+    Ok(made)
+}
+
+/// The line of a refusal, where these are the words with those that ask for the stages.
+fn line_of(
+    alloc: Global,
+    words: &Words,
+    by: &Option<Numbering>,
+    status: &Status,
+) -> Result<Bytes, NoMemory>
+    ensures { IfOk result (λ line. line ≡ line_of (others words.now) by.now status.now) }
+{
+    match status {
+        Status::Usage { word, place } => {
+            let plain = other_words(alloc, words)?;
+            refused_line(alloc, &plain, *word, *place)
+        }
+        _ => {
+            let line = message(alloc, by, status)?;
+            renamed(alloc, line.as_slice())
+        }
+    }
+}
+
+/// The message of a refusal.
+fn fit_message(
+    alloc: Global,
+    words: &Words,
+    by: &Option<Numbering>,
+    status: &Status,
+) -> Result<Bytes, NoMemory>
+    ensures { IfOk result (λ line. line ≡ fit_message (others words.now) by.now status.now) }
+{
+    let mut line = line_of(alloc, words, by, status)?;
+    line.append(help_of(status))?;
+    Ok(line)
+}
+
+/// Puts a message; a failure there changes nothing.
+fn put<E: Sink>(line: &[u8], err: &mut E)
+    ensures { IsPut line.now (sink_seen E.written E.faults E.wants err.old err.new) }
+{
+    let _ = err.put(line);
+}
+
+/// Puts the line of the program for exact texts with this program's name, where there may be no
+/// memory for it; a failure changes nothing.
+fn put_renamed<E: Sink>(line: &[u8], err: &mut E)
+    ensures { IsPut (renamed line.now) (sink_seen E.written E.faults E.wants err.old err.new) }
+{
+    match err.put(NAME) {
+        Ok(()) => put(behind_name(line), err),
+        Err(_) => {}
+    }
+}
+
+/// Puts the message of a stop, and answers its status. Where there is no memory for the message,
+/// the answer is want of memory.
+pub(crate) fn tell<E: Sink>(alloc: Global, words: &Words, stop: Stop, err: &mut E) -> Status
+    requires { IsTellable stop }
+    ensures { IsToldAs (fit_message (others words.now)) stop
+        (sink_seen E.written E.faults E.wants err.old err.new) result }
+{
+    match stop {
+        Stop::Refused { status, numbering } => {
+            match fit_message(alloc, words, &numbering, &status) {
+                Ok(line) => {
+                    put(line.as_slice(), err);
+                    status
+                }
+                Err(_) => {
+                    put(OUT_OF_MEMORY, err);
+                    Status::NoMemory
+                }
+            }
+        }
+        Stop::Unwritten(text) => {
+            put_renamed(text.message.as_slice(), err);
+            Status::WriteFault {
+                name: Some(text.name),
+            }
+        }
+        Stop::Unsummed => {
+            put(SUMMARY_FAILED, err);
+            Status::WriteFault { name: None }
+        }
+        Stop::NoMemory => {
+            put(OUT_OF_MEMORY, err);
+            Status::NoMemory
+        }
+    }
+}

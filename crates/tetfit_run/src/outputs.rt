@@ -1,0 +1,165 @@
+//! What the words ask for.
+
+ghost use Rattle.std.specs.Prelude.{◌≡◌, ◌≤◌, ◌-◌, IfOk, IfErr, Ok, length, take};
+ghost use Rattle.command_words.specs.Meaning.{AreInRange};
+ghost use Rattle.fit_words.specs.Words.{IsPlain, others, request_of};
+ghost use Rattle.run_steps.specs.Reading.{IsSound};
+ghost use Rattle.run_steps.specs.Seen.{folder_seen};
+ghost use Rattle.tetgen_run.specs.Ends.{StopsSo};
+ghost use Rattle.tetfit_run.specs.Outputs.{IsFittedTo, MadeBy, OutputsOfFit, OutputsOfModel};
+ghost use Rattle.tetfit_run.specs.Outputs.{OutputsOfOptions, Says, outputs_at, said, with_decimals};
+ghost use Rattle.tetfit_run.specs.Run.{IsNumbering, IsNumberingOf, IsUnfitted};
+
+use crate::limits::fit_limits;
+use command_words::Options;
+use fit_steps::{Fitted, Unfitted, fit_input, read_model};
+use fit_words::{PAGE, Request, VERSION, other_words, read_options, request_of};
+use run_steps::{Input, Outputs, Texts, append_number};
+use std::alloc::Global;
+use tet_ports::{Bytes, Folder, NoMemory, Words};
+use tetgen_run::Stop;
+
+/// A text alone, which is put where a summary is.
+fn said(alloc: Global, text: &[u8]) -> Result<Outputs, NoMemory>
+    ensures { IfOk result (λ outputs. outputs ≡ said text.now) }
+{
+    let texts = Texts {
+        node: None,
+        ele: None,
+        face: None,
+        edge: None,
+        neigh: None,
+    };
+    let summary = Some(Bytes::from_slice(alloc, text)?);
+    Ok(Outputs { texts, summary })
+}
+
+/// The summary, which a line feed ends, with how many decimals there are.
+fn with_decimals(
+    alloc: Global,
+    decimals: u32,
+    summary: Option<Bytes>,
+) -> Result<Option<Bytes>, NoMemory>
+    ensures { IfOk result (λ line. line ≡ with_decimals decimals summary) }
+{
+    let Some(mut line) = summary else {
+        return Ok(None);
+    };
+    line.cut(line.len().saturating_sub(1));
+    line.append(b" decimals ")?;
+    append_number(&mut line, decimals as usize)?;
+    line.append(b"\n")?;
+    Ok(Some(line))
+}
+
+/// The outputs of a mesh with so many decimals, whose summary tells them.
+fn outputs_at(alloc: Global, fitted: Fitted) -> Result<Outputs, NoMemory>
+    ensures { IfOk result (λ outputs. outputs ≡ outputs_at fitted.decimals fitted.outputs) }
+{
+    let Fitted { decimals, outputs } = fitted;
+    let Outputs { texts, summary } = outputs;
+    let summary = with_decimals(alloc, decimals, summary)?;
+    Ok(Outputs { texts, summary })
+}
+
+/// The outputs of an input with the most decimals that the grid does not refuse.
+fn fitted_outputs(alloc: Global, options: &Options, input: &Input) -> Result<Outputs, Stop>
+    requires input { IsSound input.now }
+    requires ranges { AreInRange options.now }
+    ensures made { IfOk result
+        (λ outputs. IsFittedTo options.now input.now (Ok outputs)) }
+    ensures stopped { IfErr result (IsUnfitted options.now input.now) }
+{
+    match fit_input(alloc, fit_limits(), options, input) {
+        Ok(fitted) => Ok(outputs_at(alloc, fitted)?),
+        Err(Unfitted { status, numbering }) => Err(Stop::Refused { status, numbering }),
+    }
+}
+
+/// The outputs of the model that the options name.
+fn outputs_of_options<F: Folder>(
+    alloc: Global,
+    options: &Options,
+    folder: &mut F,
+) -> Result<Outputs, Stop>
+    requires ranges { AreInRange options.now }
+    requires plain { IsPlain options.now }
+    ensures made { IfOk result (λ outputs. OutputsOfOptions options.now
+        (folder_seen F.held F.faults F.misses folder.old folder.new) (Ok outputs)) }
+    ensures stopped { IfErr result (StopsSo
+        (OutputsOfOptions options.now
+        (folder_seen F.held F.faults F.misses folder.old folder.new))
+        (IsNumberingOf options.now
+        (folder_seen F.held F.faults F.misses folder.old folder.new))) }
+    ensures unchanged { F.held folder.new ≡ F.held folder.old }
+    ensures faults { F.faults folder.old ≤ F.faults folder.new }
+    ensures misses { F.misses folder.old ≤ F.misses folder.new }
+{
+    let input = read_model(alloc, fit_limits(), options, folder)?;
+    fitted_outputs(alloc, options, &input)
+}
+
+/// The outputs of the model that these words name, among which none asks for the stages.
+fn outputs_of_words<F: Folder>(
+    alloc: Global,
+    words: &Words,
+    folder: &mut F,
+) -> Result<Outputs, Stop>
+    ensures made { IfOk result (λ outputs. OutputsOfModel words.now
+        (folder_seen F.held F.faults F.misses folder.old folder.new) (Ok outputs)) }
+    ensures stopped { IfErr result (StopsSo
+        (OutputsOfModel words.now
+        (folder_seen F.held F.faults F.misses folder.old folder.new))
+        (IsNumbering words.now
+        (folder_seen F.held F.faults F.misses folder.old folder.new))) }
+    ensures unchanged { F.held folder.new ≡ F.held folder.old }
+    ensures faults { F.faults folder.old ≤ F.faults folder.new }
+    ensures misses { F.misses folder.old ≤ F.misses folder.new }
+{
+    let options = read_options(alloc, words)?;
+    outputs_of_options(alloc, &options, folder)
+}
+
+/// The outputs of the model that the words name.
+fn outputs_of_model<F: Folder>(
+    alloc: Global,
+    words: &Words,
+    folder: &mut F,
+) -> Result<Outputs, Stop>
+    ensures made { IfOk result (λ outputs. OutputsOfModel (others words.now)
+        (folder_seen F.held F.faults F.misses folder.old folder.new) (Ok outputs)) }
+    ensures stopped { IfErr result (StopsSo
+        (OutputsOfModel (others words.now)
+        (folder_seen F.held F.faults F.misses folder.old folder.new))
+        (IsNumbering (others words.now)
+        (folder_seen F.held F.faults F.misses folder.old folder.new))) }
+    ensures unchanged { F.held folder.new ≡ F.held folder.old }
+    ensures faults { F.faults folder.old ≤ F.faults folder.new }
+    ensures misses { F.misses folder.old ≤ F.misses folder.new }
+{
+    let plain = other_words(alloc, words)?;
+    outputs_of_words(alloc, &plain, folder)
+}
+
+/// The outputs that the words ask for: the page, the version, or those of the model that they name.
+pub(crate) fn outputs_of<F: Folder>(
+    alloc: Global,
+    words: &Words,
+    folder: &mut F,
+) -> Result<Outputs, Stop>
+    ensures made { IfOk result (λ outputs. OutputsOfFit words.now
+        (folder_seen F.held F.faults F.misses folder.old folder.new) (Ok outputs)) }
+    ensures stopped { IfErr result (StopsSo
+        (OutputsOfFit words.now (folder_seen F.held F.faults F.misses folder.old folder.new))
+        (IsNumbering (others words.now)
+        (folder_seen F.held F.faults F.misses folder.old folder.new))) }
+    ensures unchanged { F.held folder.new ≡ F.held folder.old }
+    ensures faults { F.faults folder.old ≤ F.faults folder.new }
+    ensures misses { F.misses folder.old ≤ F.misses folder.new }
+{
+    match request_of(words) {
+        Request::Page => Ok(said(alloc, PAGE)?),
+        Request::Version => Ok(said(alloc, VERSION)?),
+        Request::Mesh => outputs_of_model(alloc, words, folder),
+    }
+}

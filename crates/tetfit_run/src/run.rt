@@ -1,0 +1,72 @@
+//! The run of the program: from its words to the files of a mesh.
+
+ghost use Rattle.std.specs.Prelude.{◌≡◌, ◌≤◌};
+ghost use Rattle.fit_words.specs.Words.{others};
+ghost use Rattle.run_steps.specs.Seen.{folder_seen, sink_seen};
+ghost use Rattle.tetgen_run.specs.Ends.{EndsWith};
+ghost use Rattle.tetfit_run.specs.Outputs.{OutputsOfFit};
+ghost use Rattle.tetfit_run.specs.Run.{AreStages, IsAnswer, IsComplete, IsLeft, IsNumbering, IsTold};
+
+use crate::messages::tell;
+use crate::outputs::outputs_of;
+use crate::stages::say;
+use run_steps::Status;
+use std::alloc::Global;
+use tet_ports::{Folder, Sink, Words};
+use tetgen_run::{Stop, finish};
+
+/// Meshes the model that the words name, with the most decimals at which the grid does not refuse
+/// it, and stores the files that the words ask for; or puts the page or the version to `out`. On
+/// every answer but Done it puts one message to `err`, and before it the stages where `-V` asks for
+/// them; a failure there changes no status.
+///
+/// Nothing is stored before all texts are made.
+pub fn run_fit<F: Folder, O: Sink, E: Sink>(
+    alloc: Global,
+    words: &Words,
+    folder: &mut F,
+    out: &mut O,
+    err: &mut E,
+) -> Status
+    ensures answer { IsAnswer words.now
+        (folder_seen F.held F.faults F.misses folder.old folder.new)
+        (sink_seen O.written O.faults O.wants out.old out.new) result }
+    ensures complete { IsComplete words.now
+        (folder_seen F.held F.faults F.misses folder.old folder.new)
+        (sink_seen O.written O.faults O.wants out.old out.new) result }
+    ensures left { IsLeft words.now
+        (folder_seen F.held F.faults F.misses folder.old folder.new)
+        (sink_seen O.written O.faults O.wants out.old out.new) result }
+    ensures told { IsTold words.now
+        (folder_seen F.held F.faults F.misses folder.old folder.new)
+        (sink_seen E.written E.faults E.wants err.old err.new) result }
+{
+    match run(alloc, words, folder, out, err) {
+        Ok(()) => Status::Done,
+        Err(stop) => tell(alloc, words, stop, err),
+    }
+}
+
+/// The run without its message.
+fn run<F: Folder, O: Sink, E: Sink>(
+    alloc: Global,
+    words: &Words,
+    folder: &mut F,
+    out: &mut O,
+    err: &mut E,
+) -> Result<(), Stop>
+    ensures ends { EndsWith
+        (OutputsOfFit words.now (folder_seen F.held F.faults F.misses folder.old folder.new))
+        (IsNumbering (others words.now)
+        (folder_seen F.held F.faults F.misses folder.old folder.new))
+        (folder_seen F.held F.faults F.misses folder.old folder.new)
+        (sink_seen O.written O.faults O.wants out.old out.new) result }
+    ensures stages { AreStages words.now (E.written err.old) (E.written err.new) }
+    ensures faults { E.faults err.old ≤ E.faults err.new }
+    ensures wants { E.wants err.old ≤ E.wants err.new }
+{
+    say(words, b"tetfit: reads and meshes the model\n", err);
+    let outputs = outputs_of(alloc, words, folder)?;
+    say(words, b"tetfit: stores the files\n", err);
+    finish(alloc, outputs, folder, out)
+}
