@@ -1,6 +1,7 @@
 """Runs the built program on more inputs than tests would pay for: where a proof says that two inputs have one mesh, coplanar triangles in place of whole
 facets, cut in all ways, and triangles with points of their own in place of shared ones; words that are not understood; a crossing of merged facets; and the
-examples that have an answer. It prints what differs. The program is the one that rt ci has built."""
+examples that have an answer; and that tetfit leaves the files that tetgen leaves at its decimals. It prints what differs. The programs are those that rt ci
+has built."""
 import filecmp
 import itertools
 import os
@@ -11,6 +12,7 @@ import tempfile
 
 TOP = os.path.dirname(os.path.dirname(os.path.abspath(__file__)))
 PROGRAM = f"{TOP}/crates/tetgen/out/tetgen"
+FITTING = f"{TOP}/crates/tetfit/out/tetfit"
 
 
 # Words that are not understood: the first such word, and the place in it.
@@ -162,6 +164,33 @@ def answers():
             if not os.path.exists(made) or not filecmp.cmp(made, wanted, shallow=False):
                 yield f"{name}.node"
 
+
+def texts(program, words, name):
+    """What a run prints, and what it stores."""
+    with tempfile.TemporaryDirectory() as folder:
+        shutil.copy(f"{TOP}/examples/{name}", folder)
+        ran = subprocess.run([program, *words, name], cwd=folder, capture_output=True, check=False)
+        stored = {it: open(f"{folder}/{it}", "rb").read() for it in sorted(os.listdir(folder)) if it != name}
+    return ran.returncode, ran.stdout.decode(), stored
+
+
+def fitted():
+    """Each example by tetfit, and by tetgen with the decimals that tetfit tells."""
+    for name in sorted(os.listdir(f"{TOP}/examples")):
+        if not name.endswith((".node", ".poly", ".smesh", ".off", ".stl")) or ".1." in name:
+            continue
+        status, said, stored = texts(FITTING, ["-nfe"], name)
+        if status == 0:
+            front, _, decimals = said.rstrip("\n").rpartition(" decimals ")
+            if texts(PROGRAM, ["-nfe", f"--decimals={decimals}"], name) != (0, f"{front}\n", stored):
+                yield f"{name} at {decimals} decimals"
+        elif stored:
+            yield f"{name}: status {status}, and files"
+
+
+if os.path.exists(PROGRAM) and os.path.exists(FITTING):
+    for it in fitted():
+        print(f"fitted otherwise: {it}")
 
 if os.path.exists(PROGRAM):
     for found in (cut_cubes(), cut_prisms(), own_points()):
