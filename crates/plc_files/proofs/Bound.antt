@@ -15,7 +15,8 @@ use Rattle.plc_files.specs.declared.fault.PlcFault.{PlcFault}
 use Rattle.tet_text.specs.Lines.{IsField}
 use Rattle.plc_files.specs.Text.{AreWritten, Facet, Plc}
 use Rattle.plc_files.specs.Checks.{corners_check}
-use Rattle.plc_files.specs.Binding.{bound_facets, bound_region, complex_of, HasCornersBelow, HasWeights, Binds}
+use Rattle.complex_folding.specs.Folding.{HasCornersBelow}
+use Rattle.plc_files.specs.Binding.{bound_facets, bound_region, complex_of, HasWeights, Binds}
 use Rattle.plc_files.proofs.Ranges.{corners_below}
 
 million : pos 0 <ℤ pos 1000000

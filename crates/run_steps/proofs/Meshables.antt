@@ -31,7 +31,8 @@ use Rattle.node_files.specs.declared.limits.Limits.{Limits}
 use Rattle.node_files.specs.declared.node_text.NodeText.{NodeText}
 use Rattle.node_files.specs.declared.table.GridOptions.{GridOptions}
 use Rattle.node_files.specs.declared.table.NodeTable.{NodeTable}
-use Rattle.plc_files.specs.Binding.{HasCornersBelow, HasWeights}
+use Rattle.plc_files.specs.Folding.{HasCornersBelow}
+use Rattle.plc_files.specs.Binding.{HasWeights}
 use Rattle.protect_laws.proofs.Start.{law_multiples}
 use Rattle.segment_protect.specs.Protection.{IsMultiple}
 use Rattle.sign_predicates.specs.Point.{Point}

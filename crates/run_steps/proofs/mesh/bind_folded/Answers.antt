@@ -1,5 +1,5 @@
 use Rattle.std.proofs.Common.{◌∙◌, ap, sym, subst}
-use Rattle.plc_files.specs.Binding.{HasCornersBelow}
+use Rattle.plc_files.specs.Folding.{HasCornersBelow}
 use Rattle.plc_files.specs.Folding.{folded_complex}
 use Rattle.run_steps.proofs.Meshables.{weights_folded}
 use Rattle.run_steps.proofs.mesh.bind_folded.Goals as goal

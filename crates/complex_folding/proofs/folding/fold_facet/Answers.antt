@@ -2,10 +2,10 @@ use Rattle.std.proofs.Common.{◌+◌, ◌∙◌, ap, arith, length, length-appe
 use Rattle.std.specs.Prelude.{map}
 use Rattle.std.proofs.lemmas.Result.{on_ok_weaker}
 use Rattle.geo_laws.specs.Complex.{Complex}
-use Rattle.plc_files.specs.Folding.{folded_polygon, polygons_between}
-use Rattle.plc_files.specs.Growing.{plus_polygons, plus_facet_holes}
-use Rattle.plc_files.proofs.Growth.{facets_counted}
-use Rattle.plc_files.proofs.folding.fold_facet.Goals as goal
+use Rattle.complex_folding.specs.Folding.{folded_polygon, polygons_between}
+use Rattle.complex_folding.specs.Appending.{plus_polygons, plus_facet_holes}
+use Rattle.complex_folding.proofs.Appended.{facets_counted}
+use Rattle.complex_folding.proofs.folding.fold_facet.Goals as goal
 
 pub copy_facet_holes-requires : goal.copy_facet_holes-requires
 copy_facet_holes-requires c =

@@ -2,11 +2,10 @@ use Rattle.std.proofs.Common.{◌≡◌, ℕ, [], ◌∙◌, ap, arith, length, 
 use Rattle.geo_laws.specs.Complex.{Complex}
 use Rattle.sign_predicates.specs.Point.{RationalPoint}
 use Rattle.std.specs.Prelude.{List}
-use Rattle.plc_files.specs.Binding.{HasCornersBelow}
-use Rattle.plc_files.specs.Folding.{folded_complex}
-use Rattle.plc_files.specs.Growing.{plus_holes, plus_regions}
-use Rattle.plc_files.proofs.Folded.{corners_folded}
-use Rattle.plc_files.proofs.folding.fold.Goals as goal
+use Rattle.complex_folding.specs.Folding.{HasCornersBelow, folded_complex}
+use Rattle.complex_folding.specs.Appending.{plus_holes, plus_regions}
+use Rattle.complex_folding.proofs.Folded.{corners_folded}
+use Rattle.complex_folding.proofs.folding.fold.Goals as goal
 
 is_folded : (made mid new : Complex) (folded : List ℕ) (c : Complex) (hs : List RationalPoint) → made ≡ record (folded_complex folded c) { holes = []; regions = [] } → hs ≡ c.holes → mid ≡ plus_holes hs made
     → new ≡ plus_regions c.regions mid → new ≡ folded_complex folded c

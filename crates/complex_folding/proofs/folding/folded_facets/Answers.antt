@@ -1,6 +1,6 @@
 use Rattle.std.proofs.Common.{arith, sym}
-use Rattle.plc_files.proofs.Folded.{to_more, to_all, next_begins}
-use Rattle.plc_files.proofs.folding.folded_facets.Goals as goal
+use Rattle.complex_folding.proofs.Folded.{to_more, to_all, next_begins}
+use Rattle.complex_folding.proofs.folding.folded_facets.Goals as goal
 
 pub fold_facet-requires-clause-place : goal.fold_facet-requires-clause-place
 fold_facet-requires-clause-place c =

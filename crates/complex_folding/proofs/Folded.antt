@@ -7,11 +7,9 @@ use Rattle.sign_predicates.specs.Point.{RationalPoint}
 use Rattle.geo_laws.specs.declared.complex.Facet.{Facet}
 use Rattle.geo_laws.specs.declared.complex.Region.{Region}
 use Rattle.geo_laws.specs.Complex.{Polygon, Complex, AreFollowing, empty_complex, with_hole, with_facet_hole, with_region}
-use Rattle.plc_files.specs.Binding.{HasCornersBelow}
-use Rattle.plc_files.specs.Folding.{folded_polygon, folded_complex, polygons_between, plus_folded}
-use Rattle.plc_files.specs.Growing.{plus_facet_holes, plus_holes, plus_regions}
-use Rattle.plc_files.proofs.FirstFaults.{from_here}
-use Rattle.plc_files.proofs.Growth.{facet_made, holes_step, holes_end}
+use Rattle.complex_folding.specs.Folding.{HasCornersBelow, folded_polygon, folded_complex, polygons_between, plus_folded}
+use Rattle.complex_folding.specs.Appending.{plus_facet_holes, plus_holes, plus_regions}
+use Rattle.complex_folding.proofs.Appended.{from_here, facet_made, holes_step, holes_end}
 
 -- ---- hole points and regions, as loops append them
 

@@ -1,8 +1,8 @@
 use Rattle.std.proofs.Common.{◌∙◌, ◌∷◌, [], ap, arith, length, length-append, sym}
 use Rattle.geo_laws.specs.Complex.{Complex}
-use Rattle.plc_files.specs.Growing.{plus_regions}
-use Rattle.plc_files.proofs.Folded.{regions_more, regions_all}
-use Rattle.plc_files.proofs.folding.copy_regions.Goals as goal
+use Rattle.complex_folding.specs.Appending.{plus_regions}
+use Rattle.complex_folding.proofs.Folded.{regions_more, regions_all}
+use Rattle.complex_folding.proofs.folding.copy_regions.Goals as goal
 
 pub add_region-requires : goal.add_region-requires
 add_region-requires c = omega (arith, c.loop-i.invariant.count, c.loop-i-test.true, c.region_count-i-end.type_inv)

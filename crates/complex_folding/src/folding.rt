@@ -2,9 +2,8 @@
 
 ghost use Rattle.std.specs.Prelude.{◌≡◌, ◌<◌, ◌≤◌, ◌-◌, ◌^◌, [], length, map, slice_index, All, IfOk, OnOk};
 ghost use Rattle.node_files.specs.Writing.{IsNodeTable};
-ghost use Rattle.plc_files.specs.Binding.{HasCornersBelow};
-ghost use Rattle.plc_files.specs.Folding.{folded_polygon, folded_complex, polygons_between, plus_folded};
-ghost use Rattle.plc_files.specs.Growing.{plus_polygons, plus_facet_holes, plus_holes, plus_regions};
+ghost use Rattle.complex_folding.specs.Folding.{HasCornersBelow, folded_polygon, folded_complex, polygons_between, plus_folded};
+ghost use Rattle.complex_folding.specs.Appending.{plus_polygons, plus_facet_holes, plus_holes, plus_regions};
 
 use geo_laws::{Complex, Facet, RatPoints};
 use node_files::{Names, NodeTable};

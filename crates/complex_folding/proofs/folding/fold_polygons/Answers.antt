@@ -1,12 +1,12 @@
-use Rattle.std.proofs.Common.{◌≡◌, ℕ, ◌<◌, ◌≤◌, List, ◌∷◌, [], ◌∙◌, ap, arith, length, length-append, take, sym, subst}
+use Rattle.std.proofs.Common.{ℕ, ◌<◌, ◌∷◌, [], ◌∙◌, ap, arith, length, length-append, take, sym, subst}
 use Rattle.std.specs.Prelude.{map, slice_index, All}
 use Rattle.std.proofs.lemmas.List.{length-take-le}
 use Rattle.geo_laws.specs.Complex.{Complex, Polygon}
-use Rattle.plc_files.specs.Folding.{folded_polygon, polygons_between}
-use Rattle.plc_files.specs.Growing.{plus_polygons}
-use Rattle.plc_files.proofs.Folded.{polygon_there}
-use Rattle.plc_files.proofs.Growth.{polygons_more, polygons_all, facets_counted}
-use Rattle.plc_files.proofs.folding.fold_polygons.Goals as goal
+use Rattle.complex_folding.specs.Folding.{folded_polygon, polygons_between}
+use Rattle.complex_folding.specs.Appending.{plus_polygons}
+use Rattle.complex_folding.proofs.Folded.{polygon_there}
+use Rattle.complex_folding.proofs.Appended.{polygons_more, polygons_all, facets_counted}
+use Rattle.complex_folding.proofs.folding.fold_polygons.Goals as goal
 
 no_polygon : Polygon
 no_polygon = record { corners = []; line = 0 }

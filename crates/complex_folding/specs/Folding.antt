@@ -1,9 +1,13 @@
 -- A complex whose corners name the points that are kept where equal ones are folded.
-use Rattle.std.specs.Prelude.{ℕ, ℤ, List, map, drop, take, slice_index, Option}
+use Rattle.std.specs.Prelude.{ℕ, ◌<◌, ℤ, List, All, map, drop, take, slice_index, Option}
 use Rattle.sign_predicates.specs.Point.{RationalPoint}
 use Rattle.geo_laws.specs.Complex.{Polygon, Complex, with_facet}
 use Rattle.geo_laws.specs.declared.complex.Facet.{Facet}
-use Rattle.plc_files.specs.Growing.{plus_polygons, plus_facet_holes}
+use Rattle.complex_folding.specs.Appending.{plus_polygons, plus_facet_holes}
+
+-- each corner of each polygon is the place of one of so many points
+abbrev pub HasCornersBelow : ℕ → Complex → Type 0
+HasCornersBelow count c = All (λ p. All (λ i. i < count) p.corners) c.polygons
 
 -- the polygon, with the kept point in place of each listed one
 abbrev pub folded_polygon : List ℕ → Polygon → Polygon

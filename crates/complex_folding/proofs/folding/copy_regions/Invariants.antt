@@ -1,6 +1,6 @@
 use Rattle.std.proofs.Common.{◌≡◌, drop, length}
-use Rattle.plc_files.specs.Growing.{plus_regions}
-use Rattle.plc_files.proofs.folding.copy_regions.Given as goal
+use Rattle.complex_folding.specs.Appending.{plus_regions}
+use Rattle.complex_folding.proofs.folding.copy_regions.Given as goal
 
 abbrev pub invariant-loop-i : goal.invariant-loop-i
 invariant-loop-i l = record {

@@ -1,6 +1,6 @@
 use Rattle.std.proofs.Common.{◌≡◌, drop, length}
-use Rattle.plc_files.specs.Growing.{plus_facet_holes}
-use Rattle.plc_files.proofs.folding.copy_facet_holes.Given as goal
+use Rattle.complex_folding.specs.Appending.{plus_facet_holes}
+use Rattle.complex_folding.proofs.folding.copy_facet_holes.Given as goal
 
 abbrev pub invariant-loop-i : goal.invariant-loop-i
 invariant-loop-i l = record {

@@ -1,9 +1,9 @@
-use Rattle.std.proofs.Common.{◌∙◌, ap, arith, length, sym}
+use Rattle.std.proofs.Common.{◌∙◌, ap, arith, sym}
 use Rattle.geo_laws.specs.Complex.{Complex}
-use Rattle.plc_files.specs.Growing.{plus_facet_holes}
-use Rattle.plc_files.proofs.Folded.{facet_holes_more, facet_holes_all}
-use Rattle.plc_files.proofs.Growth.{facets_counted}
-use Rattle.plc_files.proofs.folding.copy_facet_holes.Goals as goal
+use Rattle.complex_folding.specs.Appending.{plus_facet_holes}
+use Rattle.complex_folding.proofs.Folded.{facet_holes_more, facet_holes_all}
+use Rattle.complex_folding.proofs.Appended.{facets_counted}
+use Rattle.complex_folding.proofs.folding.copy_facet_holes.Goals as goal
 
 pub add_facet_hole-requires : goal.add_facet_hole-requires
 add_facet_hole-requires c = omega (arith, c.requires, c.loop-i.invariant.facets)

@@ -1,7 +1,7 @@
 use Rattle.std.proofs.Common.{arith, sym}
-use Rattle.plc_files.specs.Growing.{plus_holes}
-use Rattle.plc_files.proofs.Folded.{holes_more, holes_all}
-use Rattle.plc_files.proofs.folding.copy_holes.Goals as goal
+use Rattle.complex_folding.specs.Appending.{plus_holes}
+use Rattle.complex_folding.proofs.Folded.{holes_more, holes_all}
+use Rattle.complex_folding.proofs.folding.copy_holes.Goals as goal
 
 pub loop-i-preserved : goal.loop-i-preserved
 loop-i-preserved c =

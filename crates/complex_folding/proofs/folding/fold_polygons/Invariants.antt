@@ -1,8 +1,8 @@
-use Rattle.std.proofs.Common.{◌≡◌, drop, take, length}
+use Rattle.std.proofs.Common.{◌≡◌, length}
 use Rattle.std.specs.Prelude.{map}
-use Rattle.plc_files.specs.Folding.{folded_polygon, polygons_between}
-use Rattle.plc_files.specs.Growing.{plus_polygons}
-use Rattle.plc_files.proofs.folding.fold_polygons.Given as goal
+use Rattle.complex_folding.specs.Folding.{folded_polygon, polygons_between}
+use Rattle.complex_folding.specs.Appending.{plus_polygons}
+use Rattle.complex_folding.proofs.folding.fold_polygons.Given as goal
 
 abbrev pub invariant-loop-i : goal.invariant-loop-i
 invariant-loop-i l = record {

@@ -1,0 +1,5 @@
+use Rattle.complex_folding.proofs.Folded.{IsFoldedTo}
+use Rattle.complex_folding.proofs.folding.folded_facets.Given as goal
+
+abbrev pub invariant-loop-i : goal.invariant-loop-i
+invariant-loop-i l = IsFoldedTo l.folded l.complex l.i l.made

@@ -1,0 +1,6 @@
+//! Complexes whose corners name the points that are kept where equal ones are folded.
+#![tactic(auto)]
+
+mod folding;
+
+pub use folding::fold;
