@@ -1,20 +1,23 @@
 //! The least grid of points.
 
 use crate::texts::bytes_of;
-use grid_coords::{Grid, Range};
+use grid_coords::Range;
 use mesh_grid::{GridFault, least_grid, settle_least};
-use node_files::read_node;
+use node_files::{NodeText, read_node};
 use sign_predicates::GridPoint;
 use std::alloc::Global;
-use std::test::Fail;
 
-fn grid_of(alloc: Global, text: &[u8]) -> Result<Result<Grid, Range>, Fail> {
-    let nodes = read_node(alloc, &bytes_of(alloc, text)?)?;
-    Ok(least_grid(&nodes.decimals))
+/// The decimals and the halvings of the least grid of a text's points, or the first line off it.
+fn grid_of(alloc: Global, text: &[u8]) -> Option<Result<(u32, u32), usize>> {
+    let nodes = read_node(alloc, &bytes_of(alloc, text)?).ok()?;
+    match least_grid(&nodes.decimals) {
+        Ok(grid) => Some(Ok((grid.decimals, grid.halvings))),
+        Err(Range { line }) => Some(Err(line)),
+    }
 }
 
 /// Points, and the decimals and the halvings of their least grid, or the first line off every grid.
-const GRIDS: [(&[u8], Result<(u32, u32), usize>); 8] = [
+static GRIDS: [(&[u8], Result<(u32, u32), usize>); 8] = [
     (b"1 3\n0 2 0 -4\n", Ok((0, 0))),
     (b"1 3\n0 .5 0 0\n", Ok((0, 1))),
     (b"1 3\n0 .2 0 0\n", Ok((1, 0))),
@@ -25,20 +28,11 @@ const GRIDS: [(&[u8], Result<(u32, u32), usize>); 8] = [
     (b"2 3\n0 0 0 0\n1 0 -8388609 0\n", Err(3)),
 ];
 
-/// Whether that is the least grid of the points of a text.
-fn has_grid(alloc: Global, text: &[u8], want: Result<(u32, u32), usize>) -> Result<bool, Fail> {
-    Ok(match grid_of(alloc, text)? {
-        Ok(grid) => want == Ok((grid.decimals, grid.halvings)),
-        Err(Range { line }) => want == Err(line),
-    })
-}
-
 #[test]
-fn grids_of_points(rt: HostRuntime) -> Result<(), Fail> {
+fn grids_of_points(rt: HostRuntime) {
     for (text, want) in &GRIDS {
-        assert!(rt; has_grid(rt.alloc(), text, *want)?);
+        assert!(rt; grid_of(rt.alloc(), text) == Some(*want));
     }
-    Ok(())
 }
 
 const TWO: &[u8] = b"2 3\n0 .5 -.2 3\n1 0.126 0 0\n";
@@ -49,21 +43,26 @@ const SETTLED: [GridPoint; 2] = [
 ];
 
 /// Whether the two points are these in tenths.
-fn are_settled(alloc: Global) -> Result<bool, Fail> {
-    let nodes = read_node(alloc, &bytes_of(alloc, TWO)?)?;
-    let points = settle_least(alloc, &nodes.decimals, Some(1), 2)?;
-    Ok(points.as_slice() == SETTLED.as_slice())
+fn are_settled(alloc: Global, nodes: &NodeText) -> bool {
+    match settle_least(alloc, &nodes.decimals, Some(1), 2) {
+        Ok(points) => points.as_slice() == SETTLED.as_slice(),
+        Err(_) => false,
+    }
 }
 
-/// The fault of two points where one is allowed.
-fn fault_of_two(alloc: Global) -> Result<Option<GridFault>, Fail> {
-    let nodes = read_node(alloc, &bytes_of(alloc, TWO)?)?;
-    Ok(settle_least(alloc, &nodes.decimals, None, 1).err())
+/// Whether the two points are refused where one is allowed.
+fn are_refused(alloc: Global, nodes: &NodeText) -> bool {
+    let fault = settle_least(alloc, &nodes.decimals, None, 1).err();
+    fault == Some(GridFault::TooMany { count: 2 })
+}
+
+/// Whether both is so.
+fn are_two(alloc: Global) -> Option<(bool, bool)> {
+    let nodes = read_node(alloc, &bytes_of(alloc, TWO)?).ok()?;
+    Some((are_settled(alloc, &nodes), are_refused(alloc, &nodes)))
 }
 
 #[test]
-fn points_on_their_grid(rt: HostRuntime) -> Result<(), Fail> {
-    assert!(rt; are_settled(rt.alloc())?);
-    assert!(rt; fault_of_two(rt.alloc())? == Some(GridFault::TooMany { count: 2 }));
-    Ok(())
+fn points_on_their_grid(rt: HostRuntime) {
+    assert!(rt; are_two(rt.alloc()) == Some((true, true)));
 }

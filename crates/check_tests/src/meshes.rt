@@ -1,12 +1,14 @@
 //! The check of a mesh by the texts of its files.
 
-use crate::texts::bytes_of;
+ghost use Rattle.std.specs.Prelude.{◌≤◌, length, All, IfSome};
+ghost use Rattle.geo_laws.specs.Delaunay.{IsOn};
+
+use crate::texts::{bytes_of, points_of};
+use geo_laws::{Points, TetList};
 use mesh_check::{Defect, Verdict, check_mesh};
-use mesh_grid::settle_least;
-use mesh_readers::{read_ele, read_face, read_neigh};
-use node_files::read_node;
+use mesh_files::FaceRows;
+use mesh_readers::{Neighbors, read_ele, read_face, read_neigh};
 use std::alloc::Global;
-use std::test::Fail;
 
 const PYRAMID: &[u8] = b"5 3 0 0\n0 0 0 0\n1 2 0 0\n2 2 2 0\n3 0 2 0\n4 1 1 2\n";
 
@@ -48,7 +50,7 @@ const FLAT_KITE: Case = Case {
     verdict: Verdict::Fault(Defect::Bent { one: 0, two: 1 }),
 };
 
-const CASES: [Case; 12] = [
+static CASES: [Case; 12] = [
     SOUND,
     Case {
         neigh: None,
@@ -109,29 +111,62 @@ const CASES: [Case; 12] = [
     },
 ];
 
-/// What the check of the mesh in these files finds.
-fn verdict(alloc: Global, case: &Case) -> Result<Verdict, Fail> {
-    let nodes = read_node(alloc, &bytes_of(alloc, case.node)?)?;
-    let points = settle_least(alloc, &nodes.decimals, None, 120_000)?;
-    let count = points.len() as u64;
-    let list = read_ele(alloc, &bytes_of(alloc, case.ele)?, 0, count)?;
-    let faces = read_face(alloc, &bytes_of(alloc, case.face)?, 0, count)?;
+/// The rows of a text whose corners are among these points.
+fn rows_of(alloc: Global, points: &Points, text: &[u8]) -> Option<TetList>
+    requires { length points.now ≤ 120000 }
+    ensures { IfSome result (All (IsOn points.now)) }
+{
+    read_ele(alloc, &bytes_of(alloc, text)?, 0, points.len() as u64).ok()
+}
+
+/// The rows of a text of faces, whose corners are among so many points.
+fn faces_of(alloc: Global, count: usize, text: &[u8]) -> Option<FaceRows>
+    requires { count ≤ 120000 }
+{
+    read_face(alloc, &bytes_of(alloc, text)?, 0, count as u64).ok()
+}
+
+/// The neighbors of a text.
+fn neighbors_of(alloc: Global, text: &[u8]) -> Option<Neighbors> {
+    read_neigh(alloc, &bytes_of(alloc, text)?, 0).ok()
+}
+
+/// What the check of rows on these points finds, with the other files of a case.
+fn verdict_of(alloc: Global, points: &Points, list: &TetList, case: &Case) -> Option<Verdict>
+    requires few { length points.now ≤ 120000 }
+    requires rows { All (IsOn points.now) list.now }
+{
+    let faces = faces_of(alloc, points.len(), case.face)?;
     let Some(neigh) = case.neigh else {
-        return Ok(check_mesh(alloc, &points, &list, &faces, None)?);
+        return check_mesh(alloc, points, list, &faces, None).ok();
     };
-    let neighbors = read_neigh(alloc, &bytes_of(alloc, neigh)?, 0)?;
-    Ok(check_mesh(alloc, &points, &list, &faces, Some(&neighbors))?)
+    let neighbors = neighbors_of(alloc, neigh)?;
+    check_mesh(alloc, points, list, &faces, Some(&neighbors)).ok()
+}
+
+/// What the check of the mesh in these files finds.
+fn verdict(alloc: Global, case: &Case) -> Option<Verdict> {
+    let points = points_of(alloc, case.node)?;
+    let list = rows_of(alloc, &points, case.ele)?;
+    verdict_of(alloc, &points, &list, case)
 }
 
 /// Whether that is the verdict of the case.
-fn is_found(alloc: Global, case: &Case) -> Result<bool, Fail> {
-    Ok(verdict(alloc, case)? == case.verdict)
+fn is_found(alloc: Global, case: &Case) -> bool {
+    verdict(alloc, case) == Some(case.verdict)
+}
+
+/// The place of the first case with another verdict.
+fn first_other(alloc: Global) -> Option<usize> {
+    for (i, case) in CASES.iter().enumerate() {
+        if !is_found(alloc, case) {
+            return Some(i);
+        }
+    }
+    None
 }
 
 #[test]
-fn meshes_are_checked(rt: HostRuntime) -> Result<(), Fail> {
-    for (i, case) in CASES.iter().enumerate() {
-        assert!(rt; is_found(rt.alloc(), case)?, "case {i}");
-    }
-    Ok(())
+fn meshes_are_checked(rt: HostRuntime) {
+    assert_eq!(rt; first_other(rt.alloc()), None);
 }
