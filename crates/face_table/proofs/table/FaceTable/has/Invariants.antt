@@ -1,0 +1,14 @@
+use Rattle.std.proofs.Common.{◌≡◌, ◌-◌, ◌<◌, ◌≤◌, length}
+use Rattle.face_table.specs.Chains.{face_at}
+use Rattle.face_table.proofs.Chained.{IsNotBefore}
+use Rattle.face_table.proofs.table.FaceTable.has.Given as goal
+
+abbrev pub invariant-loop-at : goal.invariant-loop-at
+invariant-loop-at l = record {
+  within : l.at ≤ length l.self;
+  like : l.at < length l.self → (face_at l.self l.at).a ≡ l.face.a;
+  before : IsNotBefore l.self l.face l.at;
+}
+
+abbrev pub decreases-loop-at : goal.decreases-loop-at
+decreases-loop-at l = length l.self - l.at
