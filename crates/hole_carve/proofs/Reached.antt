@@ -18,7 +18,8 @@ use Rattle.incidence.specs.Links.{row_at}
 use Rattle.incidence.specs.Pairs.{is_face, has_face, is_partner, partner, across_of}
 use Rattle.hole_carve.specs.Flooding.{way, across_at, IsWay, is_marked, IsFlooded, IsFloodedFrom}
 use Rattle.hole_carve.specs.Flooding as flood
-use Rattle.hole_carve.specs.Ways.{other_side, IsWayThrough, face_opposite, AreWays}
+use Rattle.hole_carve.specs.Ways.{other_side, IsWayThrough, face_opposite, AreWays, ways_of}
+use Rattle.hole_carve.proofs.Steps.{are_ways, ways-length}
 use Rattle.incidence.proofs.Partners.{face_same, face_itself}
 use Rattle.hole_carve.proofs.Flooding.{way_inside}
 
@@ -274,3 +275,25 @@ leads_within ps ts rows closed ways s i j w = go (through ps ts rows closed ways
             ⊎ (partner rows i t.face ≡ None) × ((j' : ℕ) → j' < length rows → i ≢ j' → ¬ Contains (row_faces (row_at rows j')) t.face) → j < length ways + 1
         by (inl (j', p, h, n, c)) = let e = t.to ∙ ap (λ q. other_side q (length rows)) p in omega (arith, s.are.long, e, h)
         by (inr (p, none)) = let e = t.to ∙ ap (λ q. other_side q (length rows)) p in omega (arith, s.are.long, e)
+
+-- a row with another row across each face does not lead beyond the hull
+pub inner_none : (closed : List Face) (rows : List Tet) (i : ℕ) → i < length rows → ((k : ℕ) → k < 4 → ¬ (way (across_of rows i (row_at rows i)) k ≡ None))
+    → ¬ IsWay (ways_of closed rows) i (length (ways_of closed rows))
+inner_none closed rows i h some (k, l, e) = go (partner_or_not rows i f)
+  where
+    f : Face
+    f = face_opposite (row_at rows i) k
+
+    is : way (across_of rows i (row_at rows i)) k ≡ partner rows i f
+    is = across_is rows i k (row_at rows i) l
+
+    t : IsWayThrough closed f (way (across_of rows i (row_at rows i)) k) (length rows) (way (across_at (ways_of closed rows) i) k)
+    t = (are_ways closed rows).each i h k l
+
+    to : length (ways_of closed rows) ≡ other_side (way (across_of rows i (row_at rows i)) k) (length rows)
+    to = some_same _ _ (sym e ∙ t.opens (λ c. none_some _ (sym (t.closes c) ∙ e)))
+
+    go : ((j : ℕ) × (partner rows i f ≡ Some j) × (j < length rows) × (i ≢ j) × Contains (row_faces (row_at rows j)) f)
+        ⊎ (partner rows i f ≡ None) × ((j : ℕ) → j < length rows → i ≢ j → ¬ Contains (row_faces (row_at rows j)) f) → ⊥
+    go (inl (j, p, b, n, c)) = let q = to ∙ ap (λ o. other_side o (length rows)) (is ∙ p) in omega (arith, ways-length closed rows, q, b)
+    go (inr (p, none)) = some k l (is ∙ p)

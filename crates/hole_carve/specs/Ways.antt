@@ -1,11 +1,12 @@
 -- Where a flood may go from a row: through each face that is no facet triangle, to the other row that has it, or beyond the hull.
-use Rattle.std.specs.Prelude.{◌≡◌, ℕ, ◌<◌, Option, Some, None, List, length, slice_index_or, Contains}
-use Rattle.geo_laws.specs.Faces.{row_faces}
+use Rattle.std.specs.Prelude.{◌≡◌, ℕ, ◌<◌, Bool, cond, Option, Some, None, List, map, length, slice_index_or, Contains}
+use Rattle.std.specs.List.{enumerate_from, list_any}
+use Rattle.geo_laws.specs.Faces.{face_of, row_faces}
 use Rattle.geo_laws.specs.declared.faces.Face.{Face}
 use Rattle.geo_laws.specs.declared.tetrahedra.Tet.{Tet}
 use Rattle.incidence.specs.declared.pairs.Across.{Across}
 use Rattle.incidence.specs.Links.{row_at}
-use Rattle.incidence.specs.Pairs.{across_of}
+use Rattle.incidence.specs.Pairs.{is_face, across_of}
 use Rattle.hole_carve.specs.Flooding.{way, across_at}
 
 -- the partner, or what lies beyond the hull
@@ -31,3 +32,23 @@ pub record AreWays (closed : List Face) (rows : List Tet) (ways : List Across) :
   pub long : length ways ≡ length rows
   pub each : (i : ℕ) → i < length rows
       → AreWaysThrough closed (row_at rows i) (across_of rows i (row_at rows i)) (length rows) (across_at ways i)
+
+-- ---- the ways themselves
+
+-- whether the face is one of these
+abbrev pub is_closed : List Face → Face → Bool
+is_closed closed f = list_any (λ g. is_face g f) closed
+
+abbrev pub way_through : List Face → Face → Option ℕ → ℕ → Option ℕ
+way_through closed f partner beyond = cond (is_closed closed f) None (Some (other_side partner beyond))
+
+abbrev pub ways_through : List Face → Tet → Across → ℕ → Across
+ways_through closed t across beyond = record {
+  n0 = way_through closed (face_of t.b t.c t.d) across.n0 beyond;
+  n1 = way_through closed (face_of t.a t.c t.d) across.n1 beyond;
+  n2 = way_through closed (face_of t.a t.b t.d) across.n2 beyond;
+  n3 = way_through closed (face_of t.a t.b t.c) across.n3 beyond;
+}
+
+abbrev pub ways_of : List Face → List Tet → List Across
+ways_of closed rows = map (λ r. ways_through closed r.1 (across_of rows r.0 r.1) (length rows)) (enumerate_from 0 rows)

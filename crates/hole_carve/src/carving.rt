@@ -4,17 +4,16 @@ ghost use Rattle.std.specs.Prelude.{AllPairs, All, Any, length, take, IfOk, OnOk
 ghost use Rattle.sign_predicates.specs.Point.{RationalPoint};
 ghost use Rattle.sign_predicates.specs.Orientation.{IsPositive};
 ghost use Rattle.geo_laws.specs.Delaunay.{corners, IsOn, RowBefore};
-ghost use Rattle.geo_laws.specs.Faces.{FaceBefore};
 ghost use Rattle.path_laws.specs.Places.{IsFilling, IsKeptPart};
 ghost use Rattle.path_laws.specs.Flood.{carving_of};
 ghost use Rattle.hole_carve.specs.Flooding.{is_marked};
 ghost use Rattle.hole_carve.specs.Kept.{unmarked};
 ghost use Rattle.hole_carve.specs.Seeds.{BeginsAt};
 
-use crate::facet_faces::{FacetFaces, facet_faces};
 use crate::flood::flood;
 use crate::seeds::mark_seeds;
-use crate::ways::ways_of;
+use crate::ways::Ways;
+use face_table::FaceTable;
 use geo_laws::{FacetTriangles, Points, RatPoints, TetList};
 use incidence::pair_faces;
 use std::alloc::Global;
@@ -39,7 +38,7 @@ fn rows_unmarked(alloc: Global, list: &TetList, marks: &[bool]) -> Result<TetLis
     requires { length list.now ≤ length marks.now }
     ensures { IfOk result (λ rows. rows ≡ unmarked list.now marks.now) }
 {
-    let mut rows = TetList::new(alloc);
+    let mut rows = TetList::with_capacity(alloc, list.len())?;
     for at in 0..list.len() {
         keep_row(list, marks, at, &mut rows)?;
     }
@@ -64,14 +63,13 @@ fn mark_holes(
     alloc: Global,
     points: &Points,
     list: &TetList,
-    closed: &FacetFaces,
+    closed: &FaceTable,
     holes: &RatPoints,
     keep_hull: bool,
     seeds: &mut [bool],
 ) -> Result<(), NoMemory>
     requires on { All (IsOn points.now) list.now }
     requires positive { All (λ t. IsPositive (corners points.now t)) list.now }
-    requires ascending { AllPairs FaceBefore closed.now }
     requires long { length seeds.old ≡ length list.now + 1 }
     requires marked { (i : ℕ) → (is_marked seeds.old i ≡ true)
         ↔ BeginsAt keep_hull points.now closed.now list.now holes.now 0 i }
@@ -91,14 +89,13 @@ fn mark_all(
     alloc: Global,
     points: &Points,
     list: &TetList,
-    closed: &FacetFaces,
+    closed: &FaceTable,
     holes: &RatPoints,
     keep_hull: bool,
     seeds: &mut [bool],
 ) -> Result<(), NoMemory>
     requires on { All (IsOn points.now) list.now }
     requires positive { All (λ t. IsPositive (corners points.now t)) list.now }
-    requires ascending { AllPairs FaceBefore closed.now }
     requires long { length seeds.old ≡ length list.now + 1 }
     requires clear { (i : ℕ) → is_marked seeds.old i ≡ false }
     ensures long { OnOk result (length seeds.new ≡ length list.now + 1) }
@@ -114,13 +111,12 @@ fn seeds_of(
     alloc: Global,
     points: &Points,
     list: &TetList,
-    closed: &FacetFaces,
+    closed: &FaceTable,
     holes: &RatPoints,
     keep_hull: bool,
 ) -> Result<Vec<bool>, NoMemory>
     requires on { All (IsOn points.now) list.now }
     requires positive { All (λ t. IsPositive (corners points.now t)) list.now }
-    requires ascending { AllPairs FaceBefore closed.now }
     ensures long { IfOk result (λ seeds. length seeds.items ≡ length list.now + 1) }
     ensures marked { IfOk result (λ seeds. (i : ℕ)
         → (is_marked seeds.items i ≡ true)
@@ -148,9 +144,9 @@ pub fn carve(
         (carving_of keep_hull) points.now triangles.now list.now holes.now rows) }
     ensures ascending { AllPairs RowBefore list.now → IfOk result (λ rows. AllPairs RowBefore rows) }
 {
-    let closed = facet_faces(alloc, triangles)?;
+    let closed = FaceTable::of_triangles(alloc, triangles)?;
     let pairs = pair_faces(alloc, list)?;
-    let ways = ways_of(alloc, list, &pairs, &closed)?;
+    let ways = Ways::new(list, &pairs, &closed);
     let seeds = seeds_of(alloc, points, list, &closed, holes, keep_hull)?;
     let marks = flood(alloc, &ways, &seeds)?;
     rows_unmarked(alloc, list, &marks)

@@ -5,6 +5,7 @@ ghost use Rattle.hole_carve.specs.Flooding.{way, across_at, IsWay, is_marked, Is
 ghost use Rattle.hole_carve.specs.Flooding.{Extends, queue_at, LeadsWithin, IsClosedAt};
 ghost use Rattle.hole_carve.specs.Flooding.{IsClosedBeyond, IsDone};
 
+use crate::ways::Ways;
 use incidence::Across;
 use std::alloc::Global;
 use tet_ports::NoMemory;
@@ -23,7 +24,7 @@ fn way(across: Across, corner: usize) -> Option<usize>
 
 /// Marks a place that the flood comes to, and puts it into the queue, if it isn't marked yet.
 fn reach(
-    ways: &[Across],
+    ways: &Ways<'_>,
     seeds: &[bool],
     place: usize,
     marks: &mut [bool],
@@ -45,7 +46,7 @@ fn reach(
 
 /// Reaches what one comes to from a row in the queue.
 fn reach_from(
-    ways: &[Across],
+    ways: &Ways<'_>,
     seeds: &[bool],
     row: usize,
     marks: &mut [bool],
@@ -60,7 +61,7 @@ fn reach_from(
     ensures closed { OnOk result (IsClosedAt ways.now marks.new row) }
     ensures grown { OnOk result (Extends marks.old queue.old.items marks.new queue.new.items) }
 {
-    let across = ways[row];
+    let across = ways.at(row);
     for corner in 0..4 {
         if let Some(place) = way(across, corner) {
             reach(ways, seeds, place, marks, queue)?;
@@ -85,7 +86,7 @@ fn leads_to(across: Across, place: usize) -> bool
 
 /// Reaches a row from beyond the hull, if one comes there from it.
 fn reach_back(
-    ways: &[Across],
+    ways: &Ways<'_>,
     seeds: &[bool],
     row: usize,
     marks: &mut [bool],
@@ -99,7 +100,10 @@ fn reach_back(
     ensures reached { OnOk result (IsWay ways.now row (length ways.now) → is_marked marks.new row ≡ true) }
     ensures grown { OnOk result (Extends marks.old queue.old.items marks.new queue.new.items) }
 {
-    if leads_to(ways[row], ways.len()) {
+    if ways.is_inner(row) {
+        return Ok(());
+    }
+    if leads_to(ways.at(row), ways.len()) {
         return reach(ways, seeds, row, marks, queue);
     }
     Ok(())
@@ -107,7 +111,7 @@ fn reach_back(
 
 /// Reaches what one comes to from beyond the hull.
 fn reach_from_beyond(
-    ways: &[Across],
+    ways: &Ways<'_>,
     seeds: &[bool],
     marks: &mut [bool],
     queue: &mut Vec<usize>,
@@ -127,7 +131,7 @@ fn reach_from_beyond(
 
 /// Reaches what one comes to from a place in the queue.
 fn reach_next(
-    ways: &[Across],
+    ways: &Ways<'_>,
     seeds: &[bool],
     place: usize,
     marks: &mut [bool],
@@ -151,7 +155,7 @@ fn reach_next(
 /// Marks the places that a flood comes to. Those in the queue before are marked, with what one
 /// comes to from them; the further ones are put behind them.
 pub(crate) fn fill(
-    ways: &[Across],
+    ways: &Ways<'_>,
     seeds: &[bool],
     marks: &mut [bool],
     queue: &mut Vec<usize>,
@@ -184,7 +188,7 @@ pub(crate) fn fill(
 
 /// Marks the places that a flood comes to, of the rows and, past the last row, of what lies beyond
 /// the hull. It begins at the places that are marked as seeds.
-pub(crate) fn flood(alloc: Global, ways: &[Across], seeds: &[bool]) -> Result<Vec<bool>, NoMemory>
+pub(crate) fn flood(alloc: Global, ways: &Ways<'_>, seeds: &[bool]) -> Result<Vec<bool>, NoMemory>
     requires seeds { length seeds.now ≡ length ways.now + 1 }
     requires within { LeadsWithin ways.now }
     ensures long { IfOk result (λ marks. length marks.items ≡ length ways.now + 1) }

@@ -4,7 +4,6 @@
 
 mod boxes;
 mod carving;
-mod facet_faces;
 mod flood;
 mod marks;
 mod seeds;

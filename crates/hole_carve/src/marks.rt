@@ -3,19 +3,18 @@ ghost use Rattle.std.specs.Prelude.{◌≡◌, ◌≢◌, ◌+◌, ◌<◌, ◌�
 ghost use Rattle.std.specs.Prelude.{AllPairs, All, Contains, Some, None, length, IfOk, OnOk};
 ghost use Rattle.sign_predicates.specs.Orientation.{IsPositive};
 ghost use Rattle.geo_laws.specs.Delaunay.{corners, IsOn, RowBefore};
-ghost use Rattle.geo_laws.specs.Faces.{FaceBefore};
 ghost use Rattle.path_laws.specs.Places.{IsFilling};
 ghost use Rattle.hole_carve.specs.Flooding.{is_marked, queue_at, IsFlooded, IsFilled, IsDone};
 ghost use Rattle.hole_carve.specs.Flooding.{Extends, LeadsWithin};
 ghost use Rattle.hole_carve.specs.Marks.{mark_at, IsPutFrom, AreNumbered, AreMarks, AreKeptMarks};
 ghost use Rattle.hole_carve.specs.Marks.{IsPlaceFrom, KeptMarksLaw};
 
-use crate::facet_faces::{FacetFaces, facet_faces};
 use crate::flood::fill;
 use crate::seeds::mark_seeds;
-use crate::ways::ways_of;
+use crate::ways::Ways;
+use face_table::FaceTable;
 use geo_laws::{Complex, FacetTriangles, Points, Tet, TetList};
-use incidence::{Across, Marks, pair_faces};
+use incidence::{Marks, pair_faces};
 use std::alloc::Global;
 use tet_ports::NoMemory;
 
@@ -43,7 +42,7 @@ fn put_from(queue: &[usize], from: usize, number: u32, marks: &mut [Option<u32>]
 /// Goes on with the flood, and puts a number at the rows to which it comes now. The rows to which
 /// it came before keep theirs.
 fn put_flood(
-    ways: &[Across],
+    ways: &Ways<'_>,
     seeds: &[bool],
     number: u32,
     reached: &mut [bool],
@@ -77,8 +76,8 @@ fn put_each(
     alloc: Global,
     points: &Points,
     list: &TetList,
-    closed: &FacetFaces,
-    ways: &[Across],
+    closed: &FaceTable,
+    ways: &Ways<'_>,
     complex: &Complex,
     seeds: &mut [bool],
     reached: &mut [bool],
@@ -86,7 +85,6 @@ fn put_each(
 ) -> Result<(), NoMemory>
     requires on { All (IsOn points.now) list.now }
     requires positive { All (λ t. IsPositive (corners points.now t)) list.now }
-    requires ascending { AllPairs FaceBefore closed.now }
     requires ways { length ways.now ≡ length list.now }
     requires within { LeadsWithin ways.now }
     requires seeds { length seeds.old ≡ length list.now + 1 }
@@ -112,14 +110,13 @@ fn put_all(
     alloc: Global,
     points: &Points,
     list: &TetList,
-    closed: &FacetFaces,
-    ways: &[Across],
+    closed: &FaceTable,
+    ways: &Ways<'_>,
     complex: &Complex,
     marks: &mut [Option<u32>],
 ) -> Result<(), NoMemory>
     requires on { All (IsOn points.now) list.now }
     requires positive { All (λ t. IsPositive (corners points.now t)) list.now }
-    requires ascending { AllPairs FaceBefore closed.now }
     requires ways { length ways.now ≡ length list.now }
     requires within { LeadsWithin ways.now }
     requires long { length marks.old ≡ length list.now }
@@ -150,13 +147,12 @@ fn numbers_of(
     alloc: Global,
     points: &Points,
     list: &TetList,
-    closed: &FacetFaces,
-    ways: &[Across],
+    closed: &FaceTable,
+    ways: &Ways<'_>,
     complex: &Complex,
 ) -> Result<Vec<Option<u32>>, NoMemory>
     requires on { All (IsOn points.now) list.now }
     requires positive { All (λ t. IsPositive (corners points.now t)) list.now }
-    requires ascending { AllPairs FaceBefore closed.now }
     requires ways { length ways.now ≡ length list.now }
     requires within { LeadsWithin ways.now }
     ensures long { IfOk result (λ marks. length marks.items ≡ length list.now) }
@@ -182,9 +178,9 @@ pub fn mark_regions(
     requires regions { All (λ r. pos 0 <ℤ r.at.w) complex.now.regions }
     ensures { IfOk result (λ marks. AreMarks points.now triangles.now list.now complex.now.regions marks) }
 {
-    let closed = facet_faces(alloc, triangles)?;
+    let closed = FaceTable::of_triangles(alloc, triangles)?;
     let pairs = pair_faces(alloc, list)?;
-    let ways = ways_of(alloc, list, &pairs, &closed)?;
+    let ways = Ways::new(list, &pairs, &closed);
     let marks = numbers_of(alloc, points, list, &closed, &ways, complex)?;
     Ok(Marks::from(marks))
 }

@@ -4,14 +4,13 @@ ghost use Rattle.std.specs.Prelude.{length, IfOk, OnOk};
 ghost use Rattle.sign_predicates.specs.Orientation.{IsPositive, InClosed, orient_rational, side_rational};
 ghost use Rattle.sign_predicates.specs.Orientation.{opposite_face};
 ghost use Rattle.geo_laws.specs.Delaunay.{corners, IsOn};
-ghost use Rattle.geo_laws.specs.Faces.{FaceBefore};
 ghost use Rattle.incidence.specs.Links.{row_at};
 ghost use Rattle.hole_carve.specs.Flooding.{is_marked};
 ghost use Rattle.hole_carve.specs.Ways.{face_opposite};
 ghost use Rattle.hole_carve.specs.Seeds.{Holds, HoldsOnSome, IsSeedAt};
 
 use crate::boxes::is_off_box;
-use crate::facet_faces::{FacetFaces, has_face};
+use face_table::FaceTable;
 use geo_laws::{Face, Points, Tet, TetList, row_faces};
 use sign_predicates::{Corners, GridPoint, Hold, RatPoint, Sign, in_tet, orient_rat};
 use std::alloc::Global;
@@ -59,23 +58,21 @@ fn holds(points: &Points, row: Tet, x: RatPoint) -> bool
 
 /// Whether a point lies on the plane through `a`, `b` and `c`, and the face is closed.
 fn lies_on(
-    closed: &FacetFaces,
+    closed: &FaceTable,
     face: Face,
     a: GridPoint,
     b: GridPoint,
     c: GridPoint,
     x: RatPoint,
 ) -> bool
-    requires { AllPairs FaceBefore closed.now }
     ensures { (result ≡ true) ↔ ((orient_rational a b c x ≡ pos 0) × Contains closed.now face) }
 {
-    matches!(orient_rat(a, b, c, x), Sign::Zero) && has_face(closed, face)
+    matches!(orient_rat(a, b, c, x), Sign::Zero) && closed.has(face)
 }
 
 /// The same for the face opposite a corner of a row, by the corner's place, from 0.
-fn lies_on_face(row: Tet, t: &Corners, closed: &FacetFaces, corner: usize, x: RatPoint) -> bool
+fn lies_on_face(row: Tet, t: &Corners, closed: &FaceTable, corner: usize, x: RatPoint) -> bool
     requires place { corner < 4 }
-    requires ascending { AllPairs FaceBefore closed.now }
     ensures { (result ≡ true) ↔ ((side_rational (opposite_face t.now corner) x ≡ pos 0)
         × Contains closed.now (face_opposite row corner)) }
 {
@@ -89,8 +86,7 @@ fn lies_on_face(row: Tet, t: &Corners, closed: &FacetFaces, corner: usize, x: Ra
 }
 
 /// Whether a point lies on the plane of a face of the row that is closed.
-fn lies_on_some(row: Tet, t: &Corners, closed: &FacetFaces, x: RatPoint) -> bool
-    requires { AllPairs FaceBefore closed.now }
+fn lies_on_some(row: Tet, t: &Corners, closed: &FaceTable, x: RatPoint) -> bool
     ensures { (result ≡ true) ↔ ((k : ℕ) × (k < 4) × (side_rational (opposite_face t.now k) x ≡ pos 0)
         × Contains closed.now (face_opposite row k)) }
 {
@@ -146,12 +142,11 @@ fn holders_of(
 fn is_on_closed(
     points: &Points,
     list: &TetList,
-    closed: &FacetFaces,
+    closed: &FaceTable,
     x: RatPoint,
     holders: &[usize],
 ) -> bool
     requires on { All (IsOn points.now) list.now }
-    requires ascending { AllPairs FaceBefore closed.now }
     requires holders { (i : ℕ) → Contains holders.now i ↔ Holds points.now list.now x i }
     ensures { (result ≡ true) ↔ HoldsOnSome points.now closed.now list.now x }
 {
@@ -190,13 +185,12 @@ fn mark_all(places: &[usize], marks: &mut [bool])
 fn mark_found(
     points: &Points,
     list: &TetList,
-    closed: &FacetFaces,
+    closed: &FaceTable,
     x: RatPoint,
     holders: &[usize],
     seeds: &mut [bool],
 )
     requires on { All (IsOn points.now) list.now }
-    requires ascending { AllPairs FaceBefore closed.now }
     requires long { length seeds.old ≡ length list.now + 1 }
     requires holders { (i : ℕ) → Contains holders.now i ↔ Holds points.now list.now x i }
     ensures long { length seeds.new ≡ length list.now + 1 }
@@ -220,13 +214,12 @@ pub(crate) fn mark_seeds(
     alloc: Global,
     points: &Points,
     list: &TetList,
-    closed: &FacetFaces,
+    closed: &FaceTable,
     x: RatPoint,
     seeds: &mut [bool],
 ) -> Result<(), NoMemory>
     requires on { All (IsOn points.now) list.now }
     requires positive { All (λ t. IsPositive (corners points.now t)) list.now }
-    requires ascending { AllPairs FaceBefore closed.now }
     requires long { length seeds.old ≡ length list.now + 1 }
     ensures long { OnOk result (length seeds.new ≡ length list.now + 1) }
     ensures marked { OnOk result ((i : ℕ) → (is_marked seeds.new i ≡ true)

@@ -1,27 +1,47 @@
 //! Where one comes to through the faces of tetrahedra that lie in no facet.
-ghost use Rattle.std.specs.Prelude.{◌≡◌, AllPairs, length, IfOk};
-ghost use Rattle.geo_laws.specs.Faces.{FaceBefore};
+ghost use Rattle.std.specs.Prelude.{◌≡◌, ◌<◌, ℕ, None, length, IsTrue};
 ghost use Rattle.incidence.specs.Pairs.{pairs_of};
-ghost use Rattle.hole_carve.specs.Ways.{face_opposite, IsWayThrough, AreWaysThrough, AreWays};
+ghost use Rattle.hole_carve.specs.Flooding.{way, across_at, IsWay};
+ghost use Rattle.hole_carve.specs.Ways.{way_through, ways_through, ways_of};
 
-use crate::facet_faces::{FacetFaces, has_face};
-use geo_laws::{Face, Tet, TetList, row_faces};
+use face_table::FaceTable;
+use geo_laws::{Face, Tet, TetList, face_of};
 use incidence::{Across, Pairs};
-use std::alloc::Global;
-use tet_ports::NoMemory;
+use std::marker::Model;
 
-/// Where one comes to through a face: nowhere if it is a facet triangle, else to the other row that
-/// has it, or beyond the hull.
+/// Where one comes to from each row of a list, which contracts see: through a face that is a facet
+/// triangle nowhere, else to the other row that has it, or beyond the hull, which has the place
+/// past the last row. It is found for the rows that are asked for, and kept for none.
+#[derive(Drop)]
+pub(crate) struct Ways<'a> {
+    list: &'a TetList,
+    pairs: &'a Pairs,
+    closed: &'a FaceTable,
+}
+
+impl<'a> Model for Ways<'a> {
+    ghost use Rattle.std.specs.Prelude.{◌≡◌, List};
+    ghost use Rattle.incidence.specs.Pairs.{pairs_of};
+    ghost use Rattle.incidence.specs.declared.pairs.Across.{Across};
+    ghost use Rattle.hole_carve.specs.Ways.{ways_of};
+
+    ghost Value = { List Across };
+
+    ghost view = { λ w. ways_of w.closed.now w.list.now };
+
+    ghost invariant = { λ w. w.pairs.now ≡ pairs_of w.list.now };
+}
+
+/// Where one comes to through a face.
 fn way_through(
-    closed: &FacetFaces,
+    closed: &FaceTable,
     face: Face,
     partner: Option<usize>,
     beyond: usize,
 ) -> Option<usize>
-    requires { AllPairs FaceBefore closed.now }
-    ensures { IsWayThrough closed.now face partner beyond result }
+    ensures { result ≡ way_through closed.now face partner beyond }
 {
-    if has_face(closed, face) {
+    if closed.has(face) {
         return None;
     }
     match partner {
@@ -31,34 +51,63 @@ fn way_through(
 }
 
 /// Where one comes to through the faces of a row.
-fn ways_through(closed: &FacetFaces, row: Tet, across: Across, beyond: usize) -> Across
-    requires { AllPairs FaceBefore closed.now }
-    ensures { AreWaysThrough closed.now row across beyond result }
+fn ways_through(closed: &FaceTable, row: Tet, across: Across, beyond: usize) -> Across
+    ensures { result ≡ ways_through closed.now row across beyond }
 {
-    let [a, b, c, d] = row_faces(row);
+    let Tet { a, b, c, d } = row;
     Across {
-        n0: way_through(closed, a, across.n0, beyond),
-        n1: way_through(closed, b, across.n1, beyond),
-        n2: way_through(closed, c, across.n2, beyond),
-        n3: way_through(closed, d, across.n3, beyond),
+        n0: way_through(closed, face_of(b, c, d), across.n0, beyond),
+        n1: way_through(closed, face_of(a, c, d), across.n1, beyond),
+        n2: way_through(closed, face_of(a, b, d), across.n2, beyond),
+        n3: way_through(closed, face_of(a, b, c), across.n3, beyond),
     }
 }
 
-/// Where one comes to from each row. Beyond the hull has the place past the last row.
-pub(crate) fn ways_of(
-    alloc: Global,
-    list: &TetList,
-    pairs: &Pairs,
-    closed: &FacetFaces,
-) -> Result<Vec<Across>, NoMemory>
-    requires pairs { pairs.now ≡ pairs_of list.now }
-    requires ascending { AllPairs FaceBefore closed.now }
-    ensures { IfOk result (λ ways. AreWays closed.now list.now ways.items) }
+/// Whether there is another row across each face.
+fn has_all(across: Across) -> bool
+    ensures { IsTrue result → (k : ℕ) → k < 4 → ¬ (way across k ≡ None) }
 {
-    let beyond = list.len();
-    let mut ways = Vec::with_capacity(alloc, beyond)?;
-    for at in 0..beyond {
-        ways.push(ways_through(closed, list.at(at), pairs.at(at), beyond))?;
+    across.n0.is_some() && across.n1.is_some() && across.n2.is_some() && across.n3.is_some()
+}
+
+impl<'a> Ways<'a> {
+    pub(crate) fn new(list: &'a TetList, pairs: &'a Pairs, closed: &'a FaceTable) -> Self
+        requires { pairs.now ≡ pairs_of list.now }
+        ensures same { result ≡ ways_of closed.now list.now }
+        ensures long { length result ≡ length list.now }
+    {
+        Ways {
+            list,
+            pairs,
+            closed,
+        }
     }
-    Ok(ways)
+
+    /// The number of rows.
+    pub(crate) fn len(&self) -> usize
+        ensures { result ≡ length self.now }
+    {
+        self.list.len()
+    }
+
+    /// Where one comes to from the row at a place.
+    pub(crate) fn at(&self, row: usize) -> Across
+        requires { row < length self.now }
+        ensures { result ≡ across_at self.now row }
+    {
+        ways_through(
+            self.closed,
+            self.list.at(row),
+            self.pairs.at(row),
+            self.list.len(),
+        )
+    }
+    /// Whether the row at a place is known not to lead beyond the hull, since there is another row
+    /// across each of its faces.
+    pub(crate) fn is_inner(&self, row: usize) -> bool
+        requires { row < length self.now }
+        ensures { IsTrue result → ¬ IsWay self.now row (length self.now) }
+    {
+        has_all(self.pairs.at(row))
+    }
 }
