@@ -39,6 +39,7 @@ fn mesh_facets(
     let list = &protected.tetrahedra;
     let triangles = met_triangles(alloc, &protected.points, list, &protected.pieces, meshed)?;
     let whole = recovered(alloc, &protected.points, list, &triangles)?;
+    protected.tetrahedra.let_go();
     let mesh = kept_mesh(alloc, protected.points, triangles, &whole, complex, options)?;
     Ok(mesh)
 }
