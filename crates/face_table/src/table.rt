@@ -91,7 +91,8 @@ impl FaceTable {
     /// Whether some face has this first corner.
     #[inline]
     pub fn has_first(&self, corner: u32) -> bool
-        ensures { result ≡ false → (k : ℕ) → k < length self.now → ¬ ((face_at self.now k).a ≡ corner) }
+        ensures { result ≡ false → (k : ℕ) → k < length self.now
+            → ¬ ((face_at self.now k).a ≡ corner) }
     {
         self.first_at(corner) < self.len()
     }

@@ -12,7 +12,8 @@ use tet_ports::NoMemory;
 
 /// Whether some triangle begins at a corner of the tetrahedron. Else none is a face of it.
 fn begins_at(table: &FaceTable, tet: Tet) -> bool
-    ensures { result ≡ false → (k : ℕ) → k < length table.now → ¬ Contains (row_faces tet) (face_at table.now k) }
+    ensures { result ≡ false → (k : ℕ) → k < length table.now
+        → ¬ Contains (row_faces tet) (face_at table.now k) }
 {
     if table.has_first(tet.a) {
         return true;
