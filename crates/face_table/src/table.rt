@@ -1,32 +1,36 @@
 //! A table of faces.
 ghost use Rattle.std.specs.Prelude.{◌≡◌, ◌↔◌, ◌⊎◌, ◌+◌, ◌<◌, ℕ, true, false, length, map, Contains};
 ghost use Rattle.std.specs.Prelude.{IfOk};
-ghost use Rattle.face_table.specs.Chains.{face_at, face_of_triangle, IsNextFace, is_marked};
+ghost use Rattle.face_table.specs.Chains.{face_at, face_of_triangle, chain_of, IsNextFace, is_marked};
 
-use crate::chains::{Chains, chains_of};
+use crate::beginnings::beginnings_of;
+use crate::chains::{Chains, chain_of, chains_of};
 use geo_laws::{Face, FacetTriangles, face_of};
 use std::alloc::Global;
 use std::marker::Model;
 use tet_ports::NoMemory;
 
-/// Faces in the order in which they were given, which contracts see, each found by its first
-/// corner in the time of a look at the few others that have it too.
+/// Faces in the order in which they were given, which contracts see, each found in the time of a
+/// look at the few others in its chain.
 #[derive(Drop)]
 pub struct FaceTable {
     faces: Vec<Face>,
     chains: Chains,
+    /// Whether a face begins at a point, up to the last one at which one does.
+    begins: Vec<bool>,
 }
 
 impl Model for FaceTable {
     ghost use Rattle.std.specs.Prelude.{List};
     ghost use Rattle.geo_laws.specs.declared.faces.Face.{Face as FaceValue};
-    ghost use Rattle.face_table.specs.Chains.{AreChains};
+    ghost use Rattle.face_table.specs.Chains.{AreBegun, AreChains};
 
     ghost Value = { List FaceValue };
 
     ghost view = { λ t. t.faces.items };
 
-    ghost invariant = { λ t. AreChains t.faces.items t.chains.first.items t.chains.next.items };
+    ghost invariant = { λ t. AreChains t.faces.items t.chains.first.items t.chains.next.items
+        × AreBegun t.faces.items t.begins.items };
 }
 
 /// The triangles as faces, in their order.
@@ -47,7 +51,12 @@ impl FaceTable {
     {
         let faces = faces_of(alloc, triangles)?;
         let chains = chains_of(alloc, &faces)?;
-        Ok(FaceTable { faces, chains })
+        let begins = beginnings_of(alloc, &faces)?;
+        Ok(FaceTable {
+            faces,
+            chains,
+            begins,
+        })
     }
 
     /// The number of faces.
@@ -67,23 +76,22 @@ impl FaceTable {
         self.faces[place]
     }
 
-    /// The place of the first face with this first corner, or the number of faces.
+    /// The place of the first face of a chain, or the number of faces.
     #[inline]
-    fn first_at(&self, corner: u32) -> usize
-        ensures { IsNextFace self.now corner 0 result }
+    fn first_at(&self, chain: usize) -> usize
+        ensures { IsNextFace self.now chain 0 result }
     {
-        let corner = corner as usize;
-        if corner < self.chains.first.len() {
-            return self.chains.first[corner];
+        if chain < self.chains.first.len() {
+            return self.chains.first[chain];
         }
         self.faces.len()
     }
 
-    /// The place of the next face with the same first corner as the one at a place.
+    /// The place of the next face in the chain of the one at a place.
     #[inline]
     fn next_at(&self, place: usize) -> usize
         requires { place < length self.now }
-        ensures { IsNextFace self.now (face_at self.now place).a (place + 1) result }
+        ensures { IsNextFace self.now (chain_of (face_at self.now place)) (place + 1) result }
     {
         self.chains.next[place]
     }
@@ -94,7 +102,11 @@ impl FaceTable {
         ensures { result ≡ false → (k : ℕ) → k < length self.now
             → ¬ ((face_at self.now k).a ≡ corner) }
     {
-        self.first_at(corner) < self.len()
+        let corner = corner as usize;
+        if corner < self.begins.len() {
+            return self.begins[corner];
+        }
+        false
     }
 
     /// Whether the face is one of these.
@@ -102,7 +114,7 @@ impl FaceTable {
     pub fn has(&self, face: Face) -> bool
         ensures { (result ≡ true) ↔ Contains self.now face }
     {
-        let mut at = self.first_at(face.a);
+        let mut at = self.first_at(chain_of(face));
         while at < self.len() {
             if self.at(at) == face {
                 return true;
@@ -120,7 +132,7 @@ impl FaceTable {
         ensures marked { (k : ℕ) → k < length self.now → (is_marked marks.new k ≡ true)
             ↔ ((is_marked marks.old k ≡ true) ⊎ (face_at self.now k ≡ face)) }
     {
-        let mut at = self.first_at(face.a);
+        let mut at = self.first_at(chain_of(face));
         while at < self.len() {
             if self.at(at) == face {
                 marks[at] = true;

@@ -1,12 +1,12 @@
 use Rattle.std.proofs.Common.{◌≡◌, ◌-◌, ◌<◌, ◌≤◌, length}
-use Rattle.face_table.specs.Chains.{face_at}
+use Rattle.face_table.specs.Chains.{face_at, chain_of}
 use Rattle.face_table.proofs.Chained.{IsNotBefore}
 use Rattle.face_table.proofs.table.FaceTable.has.Given as goal
 
 abbrev pub invariant-loop-at : goal.invariant-loop-at
 invariant-loop-at l = record {
   within : l.at ≤ length l.self;
-  like : l.at < length l.self → (face_at l.self l.at).a ≡ l.face.a;
+  like : l.at < length l.self → chain_of (face_at l.self l.at) ≡ chain_of l.face;
   before : IsNotBefore l.self l.face l.at;
 }
 

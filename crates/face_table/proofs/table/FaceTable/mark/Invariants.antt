@@ -1,11 +1,11 @@
 use Rattle.std.proofs.Common.{◌≡◌, ◌-◌, ◌<◌, ◌≤◌, length}
-use Rattle.face_table.specs.Chains.{face_at, AreMarkedTo}
+use Rattle.face_table.specs.Chains.{face_at, chain_of, AreMarkedTo}
 use Rattle.face_table.proofs.table.FaceTable.mark.Given as goal
 
 abbrev pub invariant-loop-at : goal.invariant-loop-at
 invariant-loop-at l = record {
   within : l.at ≤ length l.self;
-  like : l.at < length l.self → (face_at l.self l.at).a ≡ l.face.a;
+  like : l.at < length l.self → chain_of (face_at l.self l.at) ≡ chain_of l.face;
   marked : AreMarkedTo l.self l.face l.at l.initial.marks l.marks;
 }
 

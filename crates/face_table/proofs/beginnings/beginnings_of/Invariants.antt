@@ -1,0 +1,9 @@
+use Rattle.std.proofs.Common.{◌≡◌, ℕ, ◌<◌, true, length}
+use Rattle.face_table.specs.Chains.{face_at, is_marked}
+use Rattle.face_table.proofs.beginnings.beginnings_of.Given as goal
+
+abbrev pub invariant-loop-at : goal.invariant-loop-at
+invariant-loop-at l = record {
+  within : (k : ℕ) → k < length l.faces → (face_at l.faces k).a < length l.begins.items;
+  marked : (k : ℕ) → k < l.at → is_marked l.begins.items ((face_at l.faces k).a) ≡ true;
+}
