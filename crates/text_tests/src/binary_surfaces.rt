@@ -4,13 +4,12 @@ use float_decimals::float_decimal;
 use plc_files::{PlcFault, PlcText, check_corners};
 use soup_files::{is_binary_stl, read_binary_stl};
 use std::alloc::Global;
-use std::test::Fail;
 use tet_ports::{Bytes, NoMemory};
 use tet_text::TextKind::{Ended, Extra, NotANumber};
 use tet_text::{TextFault, TextKind};
 
 /// The bits of a float, and its decimal.
-const FLOATS: [(u32, Option<(i128, u32)>); 13] = [
+static FLOATS: [(u32, Option<(i128, u32)>); 13] = [
     (0x0000_0000, Some((0, 0))),
     (0x8000_0000, Some((0, 0))),
     (0x3DCC_CCCD, Some((1, 1))),
@@ -26,13 +25,20 @@ const FLOATS: [(u32, Option<(i128, u32)>); 13] = [
     (0x7FC0_0000, None),
 ];
 
-#[test]
-fn floats_have_short_decimals(rt: HostRuntime) -> Result<(), Fail> {
+/// The decimal of a float: its value and its scale.
+fn decimal_of(bits: u32) -> Option<(i128, u32)> {
+    let d = float_decimal(bits)?;
+    Some((d.value, d.scale))
+}
+
+/// The bits of the first float with another decimal.
+fn other_float() -> Option<u32> {
     for (bits, wanted) in &FLOATS {
-        let found = float_decimal(*bits).map(|d| (d.value, d.scale));
-        assert!(rt; found == *wanted, "{bits}");
+        if decimal_of(*bits) != *wanted {
+            return Some(*bits);
+        }
     }
-    Ok(())
+    None
 }
 
 /// 1 and 0.1
@@ -83,11 +89,6 @@ fn are_read(alloc: Global) -> Result<bool, PlcFault> {
     Ok(is_binary_stl(&bytes) && has_four_points(&read(alloc, &bytes)?))
 }
 
-#[test]
-fn a_binary_surface_is_read(rt: HostRuntime) {
-    assert!(rt; are_read(rt.alloc()) == Ok(true));
-}
-
 /// The two facets with so many bytes: one more, or the first of them.
 fn of_length(alloc: Global, length: usize) -> Result<Bytes, NoMemory> {
     let mut bytes = two_facets(alloc, TENTH)?;
@@ -99,22 +100,37 @@ fn of_length(alloc: Global, length: usize) -> Result<Bytes, NoMemory> {
     Ok(bytes)
 }
 
-/// Whether the first fault is this one.
-fn has_fault(alloc: Global, bytes: &Bytes, line: usize, kind: TextKind) -> bool {
-    read(alloc, bytes).err() == Some(PlcFault::Text(TextFault { line, kind }))
+/// The fault of the two facets with so many bytes.
+fn fault_of_length(alloc: Global, length: usize) -> Option<PlcFault> {
+    match of_length(alloc, length) {
+        Ok(bytes) => read(alloc, &bytes).err(),
+        Err(NoMemory) => Some(PlcFault::NoMemory),
+    }
 }
 
-/// Whether the two facets with one byte more are no binary surface, and one more is told.
-fn is_too_long(alloc: Global) -> Result<bool, NoMemory> {
-    let longer = of_length(alloc, 185)?;
-    Ok(!is_binary_stl(&longer) && has_fault(alloc, &longer, 3, Extra))
+/// The fault of the two facets whose last coordinate is infinite.
+fn fault_of_infinite(alloc: Global) -> Option<PlcFault> {
+    match two_facets(alloc, 0x7F80_0000) {
+        Ok(bytes) => read(alloc, &bytes).err(),
+        Err(NoMemory) => Some(PlcFault::NoMemory),
+    }
+}
+
+/// A fault with its line and its kind.
+fn fault(line: usize, kind: TextKind) -> Option<PlcFault> {
+    Some(PlcFault::Text(TextFault { line, kind }))
+}
+
+/// Whether one byte more and one less, and an infinite coordinate, are refused.
+fn are_refused(alloc: Global) -> bool {
+    fault_of_length(alloc, 185) == fault(3, Extra)
+        && fault_of_length(alloc, 183) == fault(2, Ended)
+        && fault_of_infinite(alloc) == fault(2, NotANumber)
 }
 
 #[test]
-fn faults_of_binary_surfaces_are_told(rt: HostRuntime) -> Result<(), Fail> {
+fn binary_surfaces(rt: HostRuntime) {
     let alloc = rt.alloc();
-    assert!(rt; is_too_long(alloc)?);
-    assert!(rt; has_fault(alloc, &of_length(alloc, 183)?, 2, Ended));
-    assert!(rt; has_fault(alloc, &two_facets(alloc, 0x7F80_0000)?, 2, NotANumber));
-    Ok(())
+    assert_eq!(rt; other_float(), None);
+    assert!(rt; are_read(alloc) == Ok(true) && are_refused(alloc));
 }

@@ -11,7 +11,6 @@ use plc_files::Form::{Poly, Smesh};
 use plc_files::*;
 use sign_predicates::RatPoint;
 use std::alloc::Global;
-use std::test::Fail;
 use tet_ports::{Bytes, NoMemory};
 use tet_text::TextKind::{BadCount, BadIndex, Ended, Extra, NotANumber};
 use tet_text::{Decimal, TextFault, TextKind};
@@ -103,7 +102,7 @@ const REGIONS: [(&[u8], PointCase); 2] = [
     (b"a", (1_400_000, 1_500_000, 1_600_000, 1_000_000)),
 ];
 
-const CASES: [Case; 8] = [
+static CASES: [Case; 8] = [
     Case {
         form: Poly,
         text: BAR,
@@ -338,15 +337,18 @@ fn difference(alloc: Global, case: &Case) -> Option<&'static str> {
     }
 }
 
-#[test]
-fn complexes(rt: HostRuntime) {
+/// The place of the first text whose complex is not as wanted.
+fn other_complex(alloc: Global) -> Option<usize> {
     for (i, case) in CASES.iter().enumerate() {
-        assert!(rt; difference(rt.alloc(), case).is_none(), "text {i}");
+        if difference(alloc, case).is_some() {
+            return Some(i);
+        }
     }
+    None
 }
 
 /// Texts whose corners are to be among the 8 numbers from 1 on; the line and the kind of the fault.
-const FAULTS: [(Form, &[u8], usize, TextKind); 58] = [
+static FAULTS: [(Form, &[u8], usize, TextKind); 58] = [
     // The point list.
     (Poly, b"", 1, Ended),
     (Poly, b"1 2 0 0\n1 0 0 0\n0\n", 1, BadCount),
@@ -429,14 +431,20 @@ fn has_fault(alloc: Global, form: Form, text: &[u8], line: usize, kind: TextKind
     fault_of(alloc, form, text) == Some(PlcFault::Text(TextFault { line, kind }))
 }
 
-#[test]
-fn first_faults(rt: HostRuntime) {
+/// The place of the first text with another fault.
+fn other_fault(alloc: Global) -> Option<usize> {
     for (i, (form, text, line, kind)) in FAULTS.iter().enumerate() {
-        assert!(rt;
-            has_fault(rt.alloc(), *form, text, *line, *kind),
-            "text {i}"
-        );
+        if !has_fault(alloc, *form, text, *line, *kind) {
+            return Some(i);
+        }
     }
+    None
+}
+
+#[test]
+fn complexes_and_their_faults(rt: HostRuntime) {
+    let alloc = rt.alloc();
+    assert_eq!(rt; (other_complex(alloc), other_fault(alloc)), (None, None));
 }
 
 /// A text, and then a piece so many times.
@@ -456,7 +464,15 @@ fn bound_fault(alloc: Global, text: &[u8]) -> Option<PlcFault> {
     }
 }
 
-const LIMITS: [(&[u8], &[u8], usize, Option<PlcFault>); 5] = [
+/// The same of a text and a piece so many times.
+fn repeated_fault(alloc: Global, head: &[u8], piece: &[u8], count: usize) -> Option<PlcFault> {
+    match repeated(alloc, head, piece, count) {
+        Ok(text) => bound_fault(alloc, text.as_slice()),
+        Err(NoMemory) => Some(PlcFault::NoMemory),
+    }
+}
+
+static LIMITS: [(&[u8], &[u8], usize, Option<PlcFault>); 5] = [
     (b"0\n20000\n", b"1\n1 1\n", 20_000, None),
     (
         b"0\n20001\n",
@@ -490,13 +506,14 @@ const LIMITS: [(&[u8], &[u8], usize, Option<PlcFault>); 5] = [
     ),
 ];
 
-#[test]
-fn limits(rt: HostRuntime) -> Result<(), Fail> {
-    for (head, piece, count, wanted) in &LIMITS {
-        let text = repeated(rt.alloc(), head, piece, *count)?;
-        assert!(rt; bound_fault(rt.alloc(), text.as_slice()) == *wanted);
+/// The place of the first text with another fault.
+fn other_limit(alloc: Global) -> Option<usize> {
+    for (i, (head, piece, count, wanted)) in LIMITS.iter().enumerate() {
+        if repeated_fault(alloc, head, piece, *count) != *wanted {
+            return Some(i);
+        }
     }
-    Ok(())
+    None
 }
 
 /// The faces of the box of a sample; each line is 1.
@@ -543,17 +560,26 @@ fn last_of_sample(alloc: Global, n: u32) -> (usize, Option<[i128; 3]>) {
     }
 }
 
-const SAMPLES: [(u32, usize, [i128; 3]); 3] = [
+static SAMPLES: [(u32, usize, [i128; 3]); 3] = [
     (0, 8, [0, 1_048_576, 1_048_576]),
     (1, 9, [443_767, 534_153, 679_855]),
     (3, 11, [580_843, 68_597, 880_517]),
 ];
 
-#[test]
-fn samples(rt: HostRuntime) {
-    for (n, points, last) in &SAMPLES {
-        assert!(rt; last_of_sample(rt.alloc(), *n) == (*points, Some(*last)));
+/// The place of the first sample that is not as wanted.
+fn other_sample(alloc: Global) -> Option<usize> {
+    for (i, (n, points, last)) in SAMPLES.iter().enumerate() {
+        if last_of_sample(alloc, *n) != (*points, Some(*last)) {
+            return Some(i);
+        }
     }
+    None
+}
+
+#[test]
+fn limits_and_samples(rt: HostRuntime) {
+    let alloc = rt.alloc();
+    assert_eq!(rt; (other_limit(alloc), other_sample(alloc)), (None, None));
 }
 
 /// How many points are told, and how many are handed out at the first and the second asking.
@@ -565,17 +591,7 @@ fn handed_out(alloc: Global, text: &[u8]) -> Result<[Option<usize>; 3], PlcFault
     Ok([shown, first, second])
 }
 
-const HANDED_OUT: [(&[u8], [Option<usize>; 3]); 2] = [
-    (BAR, [Some(8), Some(8), None]),
-    (b"0 3 0 0\n0\n", [None, None, None]),
-];
-
-#[test]
-fn the_point_list_is_handed_out(rt: HostRuntime) {
-    for (text, wanted) in &HANDED_OUT {
-        assert!(rt; handed_out(rt.alloc(), text) == Ok(*wanted));
-    }
-}
+const NO_POINTS: &[u8] = b"0 3 0 0\n0\n";
 
 const ORIGIN: DecimalPoint = DecimalPoint {
     x: Decimal { value: 0, scale: 0 },
@@ -610,10 +626,11 @@ fn by_hand(alloc: Global) -> Result<PlcText, NoMemory> {
 }
 
 #[test]
-fn parts_one_by_one(rt: HostRuntime) -> Result<(), Fail> {
-    let text = by_hand(rt.alloc())?;
-    assert!(rt; text.nodes().is_none());
-    Ok(())
+fn the_parts_of_a_text(rt: HostRuntime) {
+    let alloc = rt.alloc();
+    assert_eq!(rt; handed_out(alloc, BAR), Ok([Some(8), Some(8), None]));
+    assert_eq!(rt; handed_out(alloc, NO_POINTS), Ok([None; 3]));
+    assert!(rt; by_hand(alloc).is_ok());
 }
 
 /// Whether a fault says this.
@@ -624,7 +641,7 @@ fn says(alloc: Global, fault: PlcFault, text: &str) -> bool {
     }
 }
 
-const MESSAGES: [(PlcFault, &str); 4] = [
+static MESSAGES: [(PlcFault, &str); 4] = [
     (
         PlcFault::Text(TextFault {
             line: 3,
@@ -650,9 +667,17 @@ const MESSAGES: [(PlcFault, &str); 4] = [
     (PlcFault::NoMemory, "out of memory"),
 ];
 
+/// The place of the first fault that says something else.
+fn other_message(alloc: Global) -> Option<usize> {
+    for (i, (fault, text)) in MESSAGES.iter().enumerate() {
+        if !says(alloc, *fault, text) {
+            return Some(i);
+        }
+    }
+    None
+}
+
 #[test]
 fn messages(rt: HostRuntime) {
-    for (fault, text) in &MESSAGES {
-        assert!(rt; says(rt.alloc(), *fault, text), "{text}");
-    }
+    assert_eq!(rt; other_message(rt.alloc()), None);
 }

@@ -1,7 +1,6 @@
 //! Lines and fields, numbers and their faults, and what is printed of decimals.
 
 use std::alloc::Global;
-use std::test::Fail;
 use tet_ports::{Bytes, NoMemory};
 use tet_text::*;
 
@@ -29,7 +28,7 @@ fn field_at(text: &[u8], line: usize, place: usize) -> Option<(usize, &[u8])> {
     Some((field.line, field.bytes()))
 }
 
-const LINES_AND_FIELDS: [(usize, usize, Option<(usize, &[u8])>); 8] = [
+static LINES_AND_FIELDS: [(usize, usize, Option<(usize, &[u8])>); 8] = [
     (0, 0, Some((3, b"1"))),
     (0, 1, Some((3, b"2"))),
     (0, 2, None),
@@ -40,11 +39,14 @@ const LINES_AND_FIELDS: [(usize, usize, Option<(usize, &[u8])>); 8] = [
     (3, 0, None),
 ];
 
-#[test]
-fn lines_and_fields(rt: HostRuntime) {
-    for (line, place, wanted) in &LINES_AND_FIELDS {
-        assert!(rt; field_at(TEXT, *line, *place) == *wanted);
+/// The place of the first field that is not as wanted.
+fn other_field() -> Option<usize> {
+    for (i, (line, place, wanted)) in LINES_AND_FIELDS.iter().enumerate() {
+        if field_at(TEXT, *line, *place) != *wanted {
+            return Some(i);
+        }
     }
+    None
 }
 
 /// How many lines a text has, told before some content lines are taken and after.
@@ -57,12 +59,7 @@ fn counts_of_lines(text: &[u8]) -> (usize, usize) {
     (count, lines.line_count())
 }
 
-#[test]
-fn lines_are_counted(rt: HostRuntime) {
-    assert!(rt; counts_of_lines(TEXT) == (7, 7));
-}
-
-const COUNTS_AND_WHOLES: [(&[u8], Option<u64>, Option<i64>); 7] = [
+static COUNTS_AND_WHOLES: [(&[u8], Option<u64>, Option<i64>); 7] = [
     (b"0", Some(0), Some(0)),
     (b"007", Some(7), Some(7)),
     (
@@ -84,11 +81,20 @@ fn count_and_whole(text: &[u8]) -> (Option<u64>, Option<i64>) {
     }
 }
 
-#[test]
-fn counts_and_wholes(rt: HostRuntime) {
-    for (text, count, whole) in &COUNTS_AND_WHOLES {
-        assert!(rt; count_and_whole(text) == (*count, *whole));
+/// The place of the first text with another count or whole number.
+fn other_whole() -> Option<usize> {
+    for (i, (text, count, whole)) in COUNTS_AND_WHOLES.iter().enumerate() {
+        if count_and_whole(text) != (*count, *whole) {
+            return Some(i);
+        }
     }
+    None
+}
+
+#[test]
+fn lines_and_numbers(rt: HostRuntime) {
+    assert!(rt; counts_of_lines(TEXT) == (7, 7));
+    assert_eq!(rt; (other_field(), other_whole()), (None, None));
 }
 
 const LARGEST: i128 = 999_999_999_999_999_999_999_999_999_999_999_999;
@@ -105,7 +111,7 @@ fn printed(alloc: Global, decimal: &Decimal) -> Result<Bytes, NoMemory> {
     Ok(out)
 }
 
-const DECIMALS: [(&[u8], i128, u32, &[u8]); 15] = [
+static DECIMALS: [(&[u8], i128, u32, &[u8]); 15] = [
     (b"-1.250", -125, 2, b"-1.25"),
     (b".5", 5, 1, b"0.5"),
     (b"5.", 5, 0, b"5"),
@@ -138,33 +144,35 @@ const DECIMALS: [(&[u8], i128, u32, &[u8]); 15] = [
     ),
 ];
 
-/// Whether a decimal is printed so.
-fn is_printed(alloc: Global, decimal: &Decimal, wanted: &[u8]) -> bool {
-    match printed(alloc, decimal) {
-        Ok(out) => out.as_slice() == wanted,
+/// Whether the decimal that a text begins with is this one, and is printed so.
+fn is_decimal(alloc: Global, text: &[u8], value: i128, scale: u32, wanted: &[u8]) -> bool {
+    let Some(decimal) = first_decimal(text) else {
+        return false;
+    };
+    match printed(alloc, &decimal) {
+        Ok(out) => (decimal.value, decimal.scale) == (value, scale) && out.as_slice() == wanted,
         Err(NoMemory) => false,
     }
 }
 
-#[test]
-fn decimals(rt: HostRuntime) -> Result<(), Fail> {
-    for (text, value, scale, wanted) in &DECIMALS {
-        let decimal = first_decimal(text).ok_or("a decimal")?;
-        assert!(rt; decimal.value == *value && decimal.scale == *scale);
-        assert!(rt; is_printed(rt.alloc(), &decimal, wanted));
+/// The place of the first text with another decimal, or one that is printed in another way.
+fn other_decimal(alloc: Global) -> Option<usize> {
+    for (i, (text, value, scale, wanted)) in DECIMALS.iter().enumerate() {
+        if !is_decimal(alloc, text, *value, *scale, wanted) {
+            return Some(i);
+        }
     }
-    Ok(())
+    None
 }
 
-#[test]
-fn a_far_fraction(rt: HostRuntime) -> Result<(), Fail> {
-    let decimal = first_decimal(b"1e-999").ok_or("a decimal")?;
-    assert!(rt; decimal.value == 1 && decimal.scale == 999);
-    assert!(rt; printed(rt.alloc(), &decimal)?.len() == 1001);
-    Ok(())
+/// The scale of the decimal that a text begins with, and the length of its text.
+fn lengths(alloc: Global, text: &[u8]) -> Option<(u32, usize)> {
+    let decimal = first_decimal(text)?;
+    let out = printed(alloc, &decimal).ok()?;
+    Some((decimal.scale, out.len()))
 }
 
-const NO_DECIMALS: [&[u8]; 13] = [
+static NO_DECIMALS: [&[u8]; 13] = [
     b".",
     b"1e",
     b"+.e1",
@@ -190,9 +198,19 @@ const NO_NUMBER: Option<TextFault> = Some(TextFault {
     kind: TextKind::NotANumber,
 });
 
-#[test]
-fn no_decimals(rt: HostRuntime) {
-    for text in &NO_DECIMALS {
-        assert!(rt; decimal_fault(text) == NO_NUMBER);
+/// The place of the first text with another fault.
+fn other_fault() -> Option<usize> {
+    for (i, text) in NO_DECIMALS.iter().enumerate() {
+        if decimal_fault(text) != NO_NUMBER {
+            return Some(i);
+        }
     }
+    None
+}
+
+#[test]
+fn decimals_and_their_faults(rt: HostRuntime) {
+    let alloc = rt.alloc();
+    assert_eq!(rt; (other_decimal(alloc), other_fault()), (None, None));
+    assert!(rt; lengths(alloc, b"1e-999") == Some((999, 1001)));
 }

@@ -5,7 +5,6 @@ use fit_words::{
     PAGE, Request, VERSION, asks_stages, other_words, read_options, refused_line, request_of,
 };
 use std::alloc::Global;
-use std::test::Fail;
 use tet_ports::{Bytes, Name, NoMemory, Words};
 
 /// These words as the program gets them.
@@ -17,7 +16,7 @@ fn words_of(alloc: Global, words: &[&[u8]]) -> Result<Words, NoMemory> {
     Ok(named)
 }
 
-const REQUESTS: [(&[&[u8]], Request); 3] = [
+static REQUESTS: [(&[&[u8]], Request); 3] = [
     (&[b"-p", b"--help"], Request::Page),
     (&[b"--version"], Request::Version),
     (MESH, Request::Mesh),
@@ -30,13 +29,14 @@ fn asks(alloc: Global, words: &[&[u8]], request: Request) -> Result<bool, NoMemo
     Ok(request_of(&words_of(alloc, words)?) == request)
 }
 
-#[test]
-fn requests(rt: HostRuntime) -> Result<(), Fail> {
-    for (words, request) in &REQUESTS {
-        assert!(rt; asks(rt.alloc(), words, *request)?);
+/// The place of the first words that ask for something else.
+fn other_request(alloc: Global) -> Option<usize> {
+    for (i, (words, request)) in REQUESTS.iter().enumerate() {
+        if asks(alloc, words, *request) != Ok(true) {
+            return Some(i);
+        }
     }
-    assert!(rt; PAGE.starts_with(b"tetfit [switches] name\n") && VERSION.starts_with(b"tetfit "));
-    Ok(())
+    None
 }
 
 /// Whether the words of a mesh ask for its stages and have their options.
@@ -46,11 +46,6 @@ fn has_options(alloc: Global) -> Result<bool, WordsFault> {
     let options = read_options(alloc, &others)?;
     let asked = options.piecewise && options.neighbors && options.from_zero;
     Ok(asked && asks_stages(&words))
-}
-
-#[test]
-fn options_of_a_mesh(rt: HostRuntime) {
-    assert!(rt; has_options(rt.alloc()) == Ok(true));
 }
 
 /// The line that is told of these words, or an empty one where they are understood.
@@ -63,7 +58,7 @@ fn told(alloc: Global, words: &[&[u8]]) -> Result<Bytes, NoMemory> {
     }
 }
 
-const TOLD: [(&[&[u8]], &[u8]); 7] = [
+static TOLD: [(&[&[u8]], &[u8]); 7] = [
     (
         &[b"-pq1.4", b"x"],
         b"tetfit: -pq1.4: q: quality meshes are not there\n",
@@ -88,14 +83,32 @@ const TOLD: [(&[&[u8]], &[u8]); 7] = [
     (&[b"-pz", b"x"], b""),
 ];
 
-#[test]
-fn words_that_are_not_understood(rt: HostRuntime) -> Result<(), Fail> {
-    for (words, line) in &TOLD {
-        assert!(rt;
-            told(rt.alloc(), words)?.as_slice() == *line,
-            "{}",
-            words.len()
-        );
+/// Whether this line is told of these words.
+fn is_told(alloc: Global, words: &[&[u8]], line: &[u8]) -> bool {
+    match told(alloc, words) {
+        Ok(text) => text.as_slice() == line,
+        Err(NoMemory) => false,
     }
-    Ok(())
+}
+
+/// The place of the first words of which something else is told.
+fn other_line(alloc: Global) -> Option<usize> {
+    for (i, (words, line)) in TOLD.iter().enumerate() {
+        if !is_told(alloc, words, line) {
+            return Some(i);
+        }
+    }
+    None
+}
+
+/// Whether the page and the version begin with the program's name.
+fn are_named() -> bool {
+    PAGE.starts_with(b"tetfit [switches] name\n") && VERSION.starts_with(b"tetfit ")
+}
+
+#[test]
+fn words_of_models(rt: HostRuntime) {
+    let alloc = rt.alloc();
+    assert_eq!(rt; (other_request(alloc), other_line(alloc)), (None, None));
+    assert!(rt; has_options(alloc) == Ok(true) && are_named());
 }

@@ -3,7 +3,6 @@
 use grid_coords::*;
 use sign_predicates::GridPoint;
 use std::alloc::Global;
-use std::test::Fail;
 use tet_ports::{Bytes, NoMemory};
 use tet_text::{Decimal, Lines, read_decimal};
 
@@ -28,7 +27,7 @@ fn points(alloc: Global, xs: &[&[u8]]) -> Option<DecimalPoints> {
     Some(list)
 }
 
-const ROUNDING: [(&[u8], u32, i128, u32); 10] = [
+static ROUNDING: [(&[u8], u32, i128, u32); 10] = [
     (b"0.33333333333333331", 3, 333, 3),
     (b"0.5", 0, 1, 0),
     (b"-0.5", 0, -1, 0),
@@ -52,14 +51,17 @@ fn rounded(text: &[u8], decimals: u32) -> Option<(i128, u32)> {
     Some((d.value, d.scale))
 }
 
-#[test]
-fn rounding(rt: HostRuntime) {
-    for (text, decimals, value, scale) in &ROUNDING {
-        assert!(rt; rounded(text, *decimals) == Some((*value, *scale)));
+/// The place of the first text that is rounded in another way.
+fn other_rounding() -> Option<usize> {
+    for (i, (text, decimals, value, scale)) in ROUNDING.iter().enumerate() {
+        if rounded(text, *decimals) != Some((*value, *scale)) {
+            return Some(i);
+        }
     }
+    None
 }
 
-const GRIDS: [(&[&[u8]], u32, Result<Grid, Range>); 9] = [
+static GRIDS: [(&[&[u8]], u32, Result<Grid, Range>); 9] = [
     (
         &[b"0.5", b"-1.250", b"3", b".5"],
         12,
@@ -126,17 +128,26 @@ fn grid_of(alloc: Global, xs: &[&[u8]], most_halvings: u32) -> Option<Result<Gri
     Some(choose_grid(&points(alloc, xs)?, most_halvings))
 }
 
-#[test]
-fn grids(rt: HostRuntime) {
-    for (xs, most_halvings, wanted) in &GRIDS {
-        assert!(rt; grid_of(rt.alloc(), xs, *most_halvings) == Some(*wanted));
+/// The place of the first points with another grid.
+fn other_grid(alloc: Global) -> Option<usize> {
+    for (i, (xs, most_halvings, wanted)) in GRIDS.iter().enumerate() {
+        if grid_of(alloc, xs, *most_halvings) != Some(*wanted) {
+            return Some(i);
+        }
     }
+    None
+}
+
+#[test]
+fn roundings_and_grids(rt: HostRuntime) {
+    let alloc = rt.alloc();
+    assert_eq!(rt; (other_rounding(), other_grid(alloc)), (None, None));
 }
 
 /// The grid of a point, and where the point is on it.
-fn placed(alloc: Global, p: DecimalPoint) -> Option<(Grid, [i32; 3])> {
+fn placed(alloc: Global) -> Option<(Grid, [i32; 3])> {
     let mut list = DecimalPoints::new(alloc);
-    list.push(p).ok()?;
+    list.push(point(2, b"0.5", b"-1.250", b"3")?).ok()?;
     let grid = choose_grid(&list, 12).ok()?;
     if list.len() != 1 {
         return None;
@@ -150,13 +161,7 @@ const HUNDREDTHS: Grid = Grid {
     halvings: 12,
 };
 
-#[test]
-fn places_on_a_grid(rt: HostRuntime) -> Result<(), Fail> {
-    let p = point(2, b"0.5", b"-1.250", b"3").ok_or("a point")?;
-    let wanted = (HUNDREDTHS, [204_800, -512_000, 1_228_800]);
-    assert!(rt; placed(rt.alloc(), p) == Some(wanted));
-    Ok(())
-}
+const PLACE: [i32; 3] = [204_800, -512_000, 1_228_800];
 
 /// A coordinate in hundredths as text, behind `x `.
 fn printed(alloc: Global, coordinate: i32) -> Result<Bytes, NoMemory> {
@@ -165,7 +170,7 @@ fn printed(alloc: Global, coordinate: i32) -> Result<Bytes, NoMemory> {
     Ok(out)
 }
 
-const TEXTS_OF_COORDINATES: [(i32, &[u8]); 6] = [
+static TEXTS_OF_COORDINATES: [(i32, &[u8]); 6] = [
     (204_800, b"x 0.5"),
     (-512_000, b"x -1.25"),
     (1_228_800, b"x 3"),
@@ -174,16 +179,25 @@ const TEXTS_OF_COORDINATES: [(i32, &[u8]); 6] = [
     (-8_388_608, b"x -20.48"),
 ];
 
-#[test]
-fn texts_of_coordinates(rt: HostRuntime) -> Result<(), Fail> {
-    for (coordinate, wanted) in &TEXTS_OF_COORDINATES {
-        let text = printed(rt.alloc(), *coordinate)?;
-        assert!(rt; text.as_slice() == *wanted);
+/// Whether a coordinate has this text.
+fn is_printed(alloc: Global, coordinate: i32, wanted: &[u8]) -> bool {
+    match printed(alloc, coordinate) {
+        Ok(text) => text.as_slice() == wanted,
+        Err(NoMemory) => false,
     }
-    Ok(())
 }
 
-const RATIONAL_PLACES: [(&[u8], i64); 7] = [
+/// The place of the first coordinate with another text.
+fn other_text(alloc: Global) -> Option<usize> {
+    for (i, (coordinate, wanted)) in TEXTS_OF_COORDINATES.iter().enumerate() {
+        if !is_printed(alloc, *coordinate, wanted) {
+            return Some(i);
+        }
+    }
+    None
+}
+
+static RATIONAL_PLACES: [(&[u8], i64); 7] = [
     (b"0.5", 20_000_000),
     (b"-0.00000015", -8),
     (b"0.00000014", 4),
@@ -204,11 +218,21 @@ fn rational_place(x: &[u8]) -> Option<(i64, i64, i64, i64)> {
     Some((p.x, p.y, p.z, p.w))
 }
 
-#[test]
-fn rational_places(rt: HostRuntime) {
-    for (x, wanted) in &RATIONAL_PLACES {
-        assert!(rt; rational_place(x) == Some((*wanted, 0, -4_000_000, 1_000_000)));
+/// The place of the first coordinate at another rational place.
+fn other_place() -> Option<usize> {
+    for (i, (x, wanted)) in RATIONAL_PLACES.iter().enumerate() {
+        if rational_place(x) != Some((*wanted, 0, -4_000_000, 1_000_000)) {
+            return Some(i);
+        }
     }
+    None
+}
+
+#[test]
+fn places_and_their_texts(rt: HostRuntime) {
+    let alloc = rt.alloc();
+    assert_eq!(rt; (other_text(alloc), other_place()), (None, None));
+    assert!(rt; placed(alloc) == Some((HUNDREDTHS, PLACE)));
 }
 
 /// The midpoint of a point and the point at 2 on the first axis.
@@ -222,9 +246,13 @@ fn middle(x: i8, y: i8, z: i8) -> Option<[i32; 3]> {
     Some([m.x, m.y, m.z])
 }
 
+/// Whether the points at these places have no midpoint.
+fn have_none() -> bool {
+    middle(1, 0, 0).is_none() && middle(0, -3, 0).is_none() && middle(0, 0, 5).is_none()
+}
+
 #[test]
 fn midpoints(rt: HostRuntime) {
     assert!(rt; middle(0, 4, -6) == Some([1, 2, -3]));
-    assert!(rt; middle(1, 0, 0).is_none() && middle(0, -3, 0).is_none());
-    assert!(rt; middle(0, 0, 5).is_none());
+    assert!(rt; have_none());
 }

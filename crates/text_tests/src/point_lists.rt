@@ -10,7 +10,6 @@ use grid_coords::{DecimalPoint, DecimalPoints, Grid};
 use node_files::*;
 use sign_predicates::GridPoint;
 use std::alloc::Global;
-use std::test::Fail;
 use tet_ports::{Bytes, Name, NoMemory, Words};
 use tet_text::TextKind::{BadCount, BadIndex, Ended, Extra, NotANumber};
 use tet_text::{Decimal, Lines, TextFault, TextKind};
@@ -58,7 +57,7 @@ struct ListCase {
     next: Option<usize>,
 }
 
-const LISTS: [ListCase; 4] = [
+static LISTS: [ListCase; 4] = [
     ListCase {
         text: SMALLEST,
         first: 1,
@@ -168,15 +167,18 @@ fn difference(alloc: Global, case: &ListCase) -> Option<&'static str> {
     }
 }
 
-#[test]
-fn lists(rt: HostRuntime) {
+/// The place of the first text whose list is not as wanted.
+fn other_list(alloc: Global) -> Option<usize> {
     for (i, case) in LISTS.iter().enumerate() {
-        assert!(rt; difference(rt.alloc(), case).is_none(), "text {i}");
+        if difference(alloc, case).is_some() {
+            return Some(i);
+        }
     }
+    None
 }
 
 /// Whole texts, and the line and the kind of their faults.
-const FAULTS: [(&[u8], usize, TextKind); 27] = [
+static FAULTS: [(&[u8], usize, TextKind); 27] = [
     (b"", 1, Ended),
     (b"\n# nothing\n", 3, Ended),
     (b"x", 1, NotANumber),
@@ -211,11 +213,20 @@ fn has_fault(alloc: Global, text: &[u8], line: usize, kind: TextKind) -> bool {
     read(alloc, text).err() == Some(NodeFault::Text(TextFault { line, kind }))
 }
 
-#[test]
-fn faults(rt: HostRuntime) {
+/// The place of the first text with another fault.
+fn other_fault(alloc: Global) -> Option<usize> {
     for (i, (text, line, kind)) in FAULTS.iter().enumerate() {
-        assert!(rt; has_fault(rt.alloc(), text, *line, *kind), "text {i}");
+        if !has_fault(alloc, text, *line, *kind) {
+            return Some(i);
+        }
     }
+    None
+}
+
+#[test]
+fn lists_and_their_faults(rt: HostRuntime) {
+    let alloc = rt.alloc();
+    assert_eq!(rt; (other_list(alloc), other_fault(alloc)), (None, None));
 }
 
 /// What settling the list of this text gives.
@@ -241,7 +252,7 @@ const UNITS: GridOptions = GridOptions {
     halvings: 12,
 };
 
-const REFUSALS: [(&[u8], GridOptions, Option<NodeFault>); 6] = [
+static REFUSALS: [(&[u8], GridOptions, Option<NodeFault>); 6] = [
     (SMALLEST, PLAIN, None),
     (
         b"5\n1 0 0 0\n2 1 0 0\n3 0 1 0\n4 0 0 1\n5 1.0 0 0\n",
@@ -271,11 +282,14 @@ fn fault_of(alloc: Global, text: &[u8], options: GridOptions) -> Option<NodeFaul
     settled(alloc, text, options).err()
 }
 
-#[test]
-fn refusals(rt: HostRuntime) {
+/// The place of the first text that is settled with another fault.
+fn other_refusal(alloc: Global) -> Option<usize> {
     for (i, (text, options, fault)) in REFUSALS.iter().enumerate() {
-        assert!(rt; fault_of(rt.alloc(), text, *options) == *fault, "text {i}");
+        if fault_of(alloc, text, *options) != *fault {
+            return Some(i);
+        }
     }
+    None
 }
 
 /// A list of so many points at one place, without attributes and markers.
@@ -314,14 +328,16 @@ const TOO_MANY: NodeFault = NodeFault::TooMany {
 };
 
 #[test]
-fn too_many_points(rt: HostRuntime) {
-    assert!(rt; fault_of_alike(rt.alloc(), 20_000).is_none());
-    assert!(rt; fault_of_alike(rt.alloc(), 20_001) == Some(TOO_MANY));
+fn lists_that_are_refused(rt: HostRuntime) {
+    let alloc = rt.alloc();
+    assert_eq!(rt; other_refusal(alloc), None);
+    assert_eq!(rt; fault_of_alike(alloc, 20_000), None);
+    assert_eq!(rt; fault_of_alike(alloc, 20_001), Some(TOO_MANY));
 }
 
 /// Lists with the names of their kept points and of two added ones, and the place of the kept point
 /// that is equal to each.
-const FOLDED: [(&[u8], GridOptions, &[u32], &[u32]); 4] = [
+static FOLDED: [(&[u8], GridOptions, &[u32], &[u32]); 4] = [
     (SMALLEST, PLAIN, &[0, 1, 2, 3, 4, 5], &[0, 1, 2, 3]),
     (
         b"5\n0 0 0 0\n1 1 0 0\n2 1.0 0 0\n3 0 1 0\n4 1 0 0\n",
@@ -346,12 +362,14 @@ fn folds(
     Ok(all.as_slice() == names && table.folded.as_slice() == folded)
 }
 
-#[test]
-fn equal_points(rt: HostRuntime) -> Result<(), Fail> {
-    for (text, options, names, folded) in &FOLDED {
-        assert!(rt; folds(rt.alloc(), text, *options, names, folded)?);
+/// The place of the first list that is folded in another way.
+fn other_folding(alloc: Global) -> Option<usize> {
+    for (i, (text, options, names, folded)) in FOLDED.iter().enumerate() {
+        if folds(alloc, text, *options, names, folded) != Ok(true) {
+            return Some(i);
+        }
     }
-    Ok(())
+    None
 }
 
 const ADDED: GridPoint = GridPoint {
@@ -371,7 +389,7 @@ struct TableCase {
     written: &'static [u8],
 }
 
-const TABLES: [TableCase; 2] = [
+static TABLES: [TableCase; 2] = [
     TableCase {
         text: DECIMALS,
         options: PLAIN,
@@ -460,9 +478,18 @@ fn is_written(alloc: Global, case: &TableCase) -> bool {
     }
 }
 
-#[test]
-fn written_lists(rt: HostRuntime) {
+/// The place of the first list that is written in another way.
+fn other_text(alloc: Global) -> Option<usize> {
     for (i, case) in TABLES.iter().enumerate() {
-        assert!(rt; is_written(rt.alloc(), case), "text {i}");
+        if !is_written(alloc, case) {
+            return Some(i);
+        }
     }
+    None
+}
+
+#[test]
+fn lists_are_folded_and_written(rt: HostRuntime) {
+    let alloc = rt.alloc();
+    assert_eq!(rt; (other_folding(alloc), other_text(alloc)), (None, None));
 }
