@@ -1,6 +1,6 @@
 //! The heights at which circuits turn over, and their order, with ties by rising point numbers.
 use crate::circuit::Kind;
-use crate::wide::{Wide, times};
+use crate::wide::{Wide, product, times};
 use std::cmp::Ordering;
 
 /// A face between two rows that is to be flipped: the rows by their slots, the kind of flip, the
@@ -18,6 +18,30 @@ pub(crate) struct Event {
     pub(crate) rank: u64,
 }
 
+/// The least of five corners whose coefficient is not 0, and its coefficient.
+#[derive(Clone, Copy)]
+struct Lead {
+    number: u32,
+    coefficient: i128,
+}
+
+/// The least corner of the event whose coefficient is not 0.
+fn lead_of(e: &Event) -> Lead {
+    let mut lead = Lead {
+        number: u32::MAX,
+        coefficient: 0,
+    };
+    for i in 0..5 {
+        if e.numbers[i] < lead.number && e.circuit[i] != 0 {
+            lead = Lead {
+                number: e.numbers[i],
+                coefficient: e.circuit[i],
+            };
+        }
+    }
+    lead
+}
+
 /// The coefficient of a point, 0 where it is no corner.
 fn coefficient(e: &Event, number: u32) -> i128 {
     for i in 0..5 {
@@ -28,18 +52,36 @@ fn coefficient(e: &Event, number: u32) -> i128 {
     0
 }
 
-/// The order of `c / weight` of one and of the other.
-fn by_corner(e: &Event, f: &Event, number: u32) -> Ordering {
-    let (c, d) = (coefficient(e, number), coefficient(f, number));
-    if e.weight == f.weight {
+/// The order of `p / v` and `q / w`.
+fn by_sizes(p: u128, v: Wide, q: u128, w: Wide) -> Ordering {
+    if v.high == 0 && w.high == 0 {
+        return product(w.low, p).cmp(&product(v.low, q));
+    }
+    times(w, p).cmp(&times(v, q))
+}
+
+/// The order of `c / weight` of the one event and of `d / weight` of the other.
+fn by_coefficients(e: &Event, c: i128, f: &Event, d: i128) -> Ordering {
+    if e.weight == f.weight || c.signum() != d.signum() {
         return c.cmp(&d);
     }
-    if c.signum() != d.signum() {
-        return c.signum().cmp(&d.signum());
-    }
-    let one = times(f.weight, c.unsigned_abs());
-    let sizes = one.cmp(&times(e.weight, d.unsigned_abs()));
+    let sizes = by_sizes(c.unsigned_abs(), e.weight, d.unsigned_abs(), f.weight);
     if c < 0 { sizes.reverse() } else { sizes }
+}
+
+/// The order of the coefficients of a corner.
+fn by_corner(e: &Event, f: &Event, number: u32) -> Ordering {
+    by_coefficients(e, coefficient(e, number), f, coefficient(f, number))
+}
+
+/// The order of the coefficients of the least corner of which one of the two is not 0.
+fn by_leads(e: &Event, f: &Event) -> Ordering {
+    let (one, two) = (lead_of(e), lead_of(f));
+    match one.number.cmp(&two.number) {
+        Ordering::Less => one.coefficient.cmp(&0),
+        Ordering::Greater => 0.cmp(&two.coefficient),
+        Ordering::Equal => by_coefficients(e, one.coefficient, f, two.coefficient),
+    }
 }
 
 /// The least corner above the last one, or the best so far.
@@ -74,7 +116,7 @@ fn by_quotient(e: &Event, f: &Event) -> Ordering {
     if e.weight == f.weight {
         return e.sum.cmp(&f.sum);
     }
-    times(f.weight, e.sum).cmp(&times(e.weight, f.sum))
+    by_sizes(e.sum, e.weight, f.sum, f.weight)
 }
 
 /// Whether one event comes before the other: by the quotients, then by the coefficients of the
@@ -83,6 +125,10 @@ pub(crate) fn is_before(e: &Event, f: &Event) -> bool {
     match by_quotient(e, f) {
         Ordering::Less => true,
         Ordering::Greater => false,
-        Ordering::Equal => by_corners(e, f) == Ordering::Less,
+        Ordering::Equal => match by_leads(e, f) {
+            Ordering::Less => true,
+            Ordering::Greater => false,
+            Ordering::Equal => by_corners(e, f) == Ordering::Less,
+        },
     }
 }
