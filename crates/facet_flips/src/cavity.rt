@@ -34,33 +34,39 @@ impl Local {
 
     /// Whether corners of the row lie above the facet's plane, and others below.
     fn is_parted(&self, slot: &Slot) -> Result<bool, Stop> {
-        let [a, b, c, d] = slot.corners;
-        Ok(self.spans(&[a, b, c])? || self.spans(&[b, c, d])? || self.spans(&[a, b, d])?)
+        let (mut above, mut below) = (false, false);
+        for corner in slot.corners {
+            let side = or_stop(self.side(corner))?;
+            above = above || side > 0;
+            below = below || side < 0;
+        }
+        Ok(above && below)
     }
 
     /// The row at the first corner of a triangle into which the triangle goes; `None` where it is a
-    /// face.
+    /// face. Where it is one, it goes into no row that the plane parts.
     fn seed(&self, t: Face) -> Result<Option<u32>, Stop> {
         let (a, b, c) = (self.spot(t.a), self.spot(t.b), self.spot(t.c));
         let ahead = ahead_of(or_stop(a)?, or_stop(b)?, or_stop(c)?);
-        let mut found = None;
-        let mut next = self.heads.get(t.a as usize).copied().flatten();
+        let mut next = self.head(t.a);
         for _ in 0..self.slots.len() {
             let Some(row) = next else { break };
-            let slot = or_stop(self.slot(row))?;
+            let Some(slot) = self.slots.get(row as usize) else {
+                break
+            };
             let place = place_or_stop(&slot.corners, t.a)?;
             next = slot.next[place];
             if !slot.is_live {
                 continue;
             }
-            if has_corner(&slot, t.b) && has_corner(&slot, t.c) {
+            if has_corner(slot, t.b) && has_corner(slot, t.c) {
                 return Ok(None);
             }
-            if found.is_none() && self.is_parted(&slot)? && self.leads_into(&slot, place, ahead)? {
-                found = Some(row);
+            if self.is_parted(slot)? && self.leads_into(slot, place, ahead)? {
+                return Ok(Some(row));
             }
         }
-        or_stop(found).map(Some)
+        Err(Stop::GivesUp)
     }
 
     /// Goes from a row of the cavity to those across the faces that the facet parts.

@@ -20,7 +20,7 @@ fn beside(face: [u32; 3], apex: u32) -> (u32, u32) {
 impl Local {
     /// The corner of a row opposite the face that has the other row across.
     fn corner_towards(&self, t: u32, other: u32) -> Option<u32> {
-        let slot = self.slot(t)?;
+        let slot = self.slots.get(t as usize)?;
         for i in 0..4 {
             if slot.across[i] == Some(other) {
                 return Some(slot.corners[i]);
@@ -65,18 +65,19 @@ impl Local {
     }
 
     /// The flip of the face between two rows; `None` where there is none.
+    #[inline]
     fn event(&self, row: u32, across: u32, numbers: [u32; 5]) -> Result<Option<Event>, Stop> {
         let spots = or_stop(self.spots_at(&numbers))?;
         let circuit = circuit_of(&spots);
         let [a, b, c, _, _] = numbers;
         let kind = kind_of(&[a, b, c], &circuit);
-        if !self.is_ready(row, across, &numbers, kind) {
-            return Ok(None);
-        }
         let sides = or_stop(self.sides_of(&numbers))?;
         let Some(weight) = weight_of(&circuit, &sides) else {
             return Ok(None)
         };
+        if !self.is_ready(row, across, &numbers, kind) {
+            return Ok(None);
+        }
         let sum = sum_of(&circuit, &spots);
         if sum < 0 {
             return Err(Stop::GivesUp);

@@ -1,7 +1,7 @@
 //! The corners of the crossed rows by numbers of their own, in the order of the points.
 use crate::circuit::{Plane, Spot};
 use crate::heap::Waiting;
-use crate::local::Local;
+use crate::local::{Corner, Local, corner_at};
 use crate::stop::{Stop, or_stop};
 use geo_laws::{Face, Points, Tet, TetList, arranged};
 use incidence::{Across, pair_faces};
@@ -141,13 +141,10 @@ impl Frame {
     ) -> Result<Local, Stop> {
         let mut spots = self.differences(alloc, points)?;
         without_power(&mut spots);
-        let mut heads = Vec::new(alloc);
-        heads.resize(self.names.len(), None)?;
         let nowhere = Spot { x: 0, y: 0, z: 0 };
         let mut local = Local {
             slots: Vec::with_capacity(alloc, rows.len())?,
-            spots,
-            heads,
+            corners: corners_at(alloc, &spots)?,
             plane: Plane {
                 normal: nowhere,
                 corner: nowhere,
@@ -185,6 +182,15 @@ fn without_power(spots: &mut [Spot]) {
             z: z.wrapping_shr(power),
         };
     }
+}
+
+/// The corners at these places.
+fn corners_at(alloc: Global, spots: &[Spot]) -> Result<Vec<Corner>, NoMemory> {
+    let mut corners = Vec::with_capacity(alloc, spots.len())?;
+    for spot in spots {
+        corners.push(corner_at(*spot))?;
+    }
+    Ok(corners)
 }
 
 fn in_32_bits(place: Option<usize>) -> Option<u32> {

@@ -17,13 +17,32 @@ pub(crate) struct Slot {
     pub(crate) is_live: bool,
 }
 
-/// The rows, the places of their corners, the first slot in the list of each corner, the plane of
-/// the facet that is put in, the faces that wait to be flipped, and how many flips are left.
+/// A corner: its place, the first slot in its list, and its side of the plane of the last facet for
+/// which that was asked.
+#[derive(Clone, Copy)]
+pub(crate) struct Corner {
+    pub(crate) spot: Spot,
+    pub(crate) head: Option<u32>,
+    side: i128,
+    stamp: u32,
+}
+
+/// The corner at a place, with no rows yet.
+pub(crate) fn corner_at(spot: Spot) -> Corner {
+    Corner {
+        spot,
+        head: None,
+        side: 0,
+        stamp: 0,
+    }
+}
+
+/// The rows, their corners, the plane of the facet that is put in and its number, from 1, the faces
+/// that wait to be flipped, and how many flips are left.
 #[derive(Drop)]
 pub(crate) struct Local {
     pub(crate) slots: Vec<Slot>,
-    pub(crate) spots: Vec<Spot>,
-    pub(crate) heads: Vec<Option<u32>>,
+    pub(crate) corners: Vec<Corner>,
     pub(crate) plane: Plane,
     pub(crate) stamp: u32,
     pub(crate) waiting: Waiting,
@@ -71,17 +90,37 @@ impl Local {
 
     /// The place of a corner.
     pub(crate) fn spot(&self, corner: u32) -> Option<Spot> {
-        self.spots.get(corner as usize).copied()
+        Some(self.corners.get(corner as usize)?.spot)
+    }
+
+    /// The first slot in the list of a corner.
+    pub(crate) fn head(&self, corner: u32) -> Option<u32> {
+        self.corners.get(corner as usize)?.head
     }
 
     /// The side of the facet's plane on which a corner lies.
     pub(crate) fn side(&self, corner: u32) -> Option<i128> {
-        Some(side_of(&self.plane, self.spot(corner)?))
+        let found = self.corners.get(corner as usize)?;
+        if found.stamp == self.stamp {
+            Some(found.side)
+        } else {
+            Some(side_of(&self.plane, found.spot))
+        }
+    }
+
+    /// Notes the side of a corner.
+    pub(crate) fn note_side(&mut self, corner: u32) {
+        let place = corner as usize;
+        if place < self.corners.len() && self.corners[place].stamp != self.stamp {
+            let side = side_of(&self.plane, self.corners[place].spot);
+            self.corners[place].side = side;
+            self.corners[place].stamp = self.stamp;
+        }
     }
 
     /// What is across the face of a row opposite a corner of it.
     pub(crate) fn across(&self, t: u32, corner: u32) -> Option<u32> {
-        let slot = self.slot(t)?;
+        let slot = self.slots.get(t as usize)?;
         let i = place_of(&slot.corners, corner)?;
         slot.across[i]
     }
@@ -92,9 +131,9 @@ impl Local {
         let mut next = [None; 4];
         for i in 0..4 {
             let place = corners[i] as usize;
-            if place < self.heads.len() {
-                next[i] = self.heads[place];
-                self.heads[place] = Some(t);
+            if place < self.corners.len() {
+                next[i] = self.corners[place].head;
+                self.corners[place].head = Some(t);
             }
         }
         self.slots.push(Slot {
@@ -134,7 +173,10 @@ impl Local {
 
     /// Whether the row still stands.
     pub(crate) fn is_live(&self, t: u32) -> bool {
-        self.slot(t).is_some_and(|slot| slot.is_live)
+        match self.slots.get(t as usize) {
+            Some(slot) => slot.is_live,
+            None => false,
+        }
     }
 
     /// Takes a row away.
@@ -145,13 +187,17 @@ impl Local {
         }
     }
 
-    /// Notes that the row was found in the cavity of the facet; whether it was not before.
+    /// Notes that the row was found in the cavity of the facet, and the sides of its corners;
+    /// whether it was not before.
     pub(crate) fn enter(&mut self, t: u32) -> bool {
         let place = t as usize;
         if place >= self.slots.len() || self.slots[place].stamp == self.stamp {
             return false;
         }
         self.slots[place].stamp = self.stamp;
+        for corner in self.slots[place].corners {
+            self.note_side(corner);
+        }
         true
     }
 
