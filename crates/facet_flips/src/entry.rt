@@ -8,6 +8,14 @@ use geo_laws::{Face, FacetTriangles, Points, Tet, TetList};
 use std::alloc::Global;
 use tet_ports::{Items, NoMemory};
 
+/// A list, and for each row of the old list that facets cross, in order, the place of a triangle
+/// that an edge of the row passes.
+#[derive(Drop)]
+pub struct FlippedList {
+    pub rows: TetList,
+    pub crossed_by: Items<usize>,
+}
+
 /// The triangles of a sheet by the corners of the crossed rows.
 fn faces_of(
     alloc: Global,
@@ -90,12 +98,16 @@ fn flipped(
     points: &Points,
     list: &TetList,
     triangles: &FacetTriangles,
-) -> Result<TetList, Stop> {
+) -> Result<FlippedList, Stop> {
     let missing = missing_triangles(alloc, points.len(), list, triangles)?;
     let sheets = sheets_of(alloc, points, missing)?;
     let parted = sheets.part(alloc, points, list)?;
     let added = flipped_rows(alloc, points, &sheets, &parted.crossed)?;
-    merged(alloc, &parted.kept, &added)
+    let rows = merged(alloc, &parted.kept, &added)?;
+    Ok(FlippedList {
+        rows,
+        crossed_by: parted.crossed_by,
+    })
 }
 
 /// A list with the faces of all facets in place of a Delaunay list, or `None` where the flips do
@@ -109,9 +121,9 @@ pub fn candidate(
     points: &Points,
     list: &TetList,
     triangles: &FacetTriangles,
-) -> Result<Option<TetList>, NoMemory> {
+) -> Result<Option<FlippedList>, NoMemory> {
     match flipped(alloc, points, list, triangles) {
-        Ok(whole) => Ok(Some(whole)),
+        Ok(made) => Ok(Some(made)),
         Err(Stop::GivesUp) => Ok(None),
         Err(Stop::NoMemory) => Err(NoMemory),
     }

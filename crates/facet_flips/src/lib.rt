@@ -15,4 +15,4 @@ mod sheets;
 mod stop;
 mod wide;
 
-pub use entry::candidate;
+pub use entry::{FlippedList, candidate};

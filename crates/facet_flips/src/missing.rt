@@ -2,7 +2,14 @@
 use geo_laws::{Face, FacetTriangle, FacetTriangles, Tet, TetList, row_faces};
 use std::alloc::Global;
 use std::collections::HashSet;
-use tet_ports::NoMemory;
+use tet_ports::{Items, NoMemory};
+
+/// Facet triangles, and the place of each among all.
+#[derive(Drop)]
+pub(crate) struct Missing {
+    pub(crate) triangles: FacetTriangles,
+    pub(crate) places: Items<usize>,
+}
 
 /// The corners of a face, ascending.
 #[derive(Clone, Copy, PartialEq, Eq, Hash)]
@@ -95,15 +102,19 @@ pub(crate) fn missing_triangles(
     points: usize,
     list: &TetList,
     triangles: &FacetTriangles,
-) -> Result<FacetTriangles, NoMemory> {
+) -> Result<Missing, NoMemory> {
     let marks = marks_of(alloc, points, triangles)?;
     let mut faces = faces_of(alloc, triangles)?;
     take_all_faces(&mut faces, marks.as_slice(), list);
-    let mut missing = FacetTriangles::new(alloc);
+    let mut missing = Missing {
+        triangles: FacetTriangles::new(alloc),
+        places: Items::new(alloc),
+    };
     for i in 0..triangles.len() {
         let t = triangles.at(i);
         if faces.contains(&triangle_key(t)) {
-            missing.push(t)?;
+            missing.triangles.push(t)?;
+            missing.places.push(i)?;
         }
     }
     Ok(missing)

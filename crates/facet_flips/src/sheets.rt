@@ -5,6 +5,7 @@ ghost use Rattle.box_tree.specs.Tree.{IsTree};
 
 use crate::circuit::{Plane, Spot, plane_of, side_of, volume_over};
 use crate::frame::spot_of;
+use crate::missing::Missing;
 use crate::stop::{Stop, or_stop};
 use box_tree::{
     Bounds, Boxed, Interval, Tree, are_bounds_apart, joined, next_meeting, point_bounds, tree_of,
@@ -34,20 +35,24 @@ pub(crate) struct Sheet {
     ghost tree_is: { IsTree tree },
 }
 
-/// Missing triangles and their sheets, with the tree of the boxes of the sheets.
+/// Missing triangles, the place of each among all, and their sheets, with the tree of the boxes of
+/// the sheets.
 #[derive(Drop)]
 pub(crate) struct Sheets {
     pub(crate) missing: FacetTriangles,
+    places: Items<usize>,
     pub(crate) all: Items<Sheet>,
     tree: Tree,
     ghost tree_is: { IsTree tree },
 }
 
-/// The rows that no facet crosses, and those that are crossed.
+/// The rows that no facet crosses, and those that are crossed, with the place among all triangles
+/// of one that an edge of the row passes.
 #[derive(Drop)]
 pub(crate) struct Parted {
     pub(crate) kept: TetList,
     pub(crate) crossed: TetList,
+    pub(crate) crossed_by: Items<usize>,
 }
 
 /// The corners of a triangle, and the box round them.
@@ -72,6 +77,14 @@ struct Leg {
     from: Spot,
     to: Spot,
     bounds: Bounds,
+}
+
+/// Rows that follow one another in their list and have the same first corner, before the place
+/// `past`, and whether the box round them meets that of no sheet.
+#[derive(Clone, Copy)]
+struct Star {
+    past: usize,
+    is_clear: bool,
 }
 
 /// The place of a body whose box meets another, and the node after its own.
@@ -122,6 +135,20 @@ fn body_of(points: &Points, row: Tet) -> Option<Body> {
         corners: [a, b, c, d],
         bounds: joined(one, two),
     })
+}
+
+/// The place after the rows from a place on that have the same first corner, and the box round
+/// them.
+fn star_bounds(points: &Points, list: &TetList, from: usize, row: Tet) -> Option<(usize, Bounds)> {
+    let mut bounds = body_of(points, row)?.bounds;
+    for i in from..list.len() {
+        let next = list.at(i);
+        if next.a != row.a {
+            return Some((i, bounds));
+        }
+        bounds = joined(bounds, body_of(points, next)?.bounds);
+    }
+    Some((list.len(), bounds))
 }
 
 /// The span with a further triangle, where it is one of this facet and plane.
@@ -204,31 +231,44 @@ fn sheet_of(
 }
 
 /// The sheets of missing triangles.
-pub(crate) fn sheets_of(
-    alloc: Global,
-    points: &Points,
-    missing: FacetTriangles,
-) -> Result<Sheets, Stop> {
-    let spans = all_spans(alloc, points, &missing)?;
+pub(crate) fn sheets_of(alloc: Global, points: &Points, missing: Missing) -> Result<Sheets, Stop> {
+    let Missing { triangles, places } = missing;
+    let spans = all_spans(alloc, points, &triangles)?;
     let mut all = Items::new(alloc);
     for i in 0..spans.len() {
-        all.push(sheet_of(alloc, points, &missing, spans.at(i))?)?;
+        all.push(sheet_of(alloc, points, &triangles, spans.at(i))?)?;
     }
     let tree = tree_of(alloc, boxes_of_spans(alloc, &spans)?)?;
-    Ok(Sheets { missing, all, tree })
+    Ok(Sheets {
+        missing: triangles,
+        places,
+        all,
+        tree,
+    })
 }
 
-/// An interval round the number that divides the way from one number to the other in the ratio of
-/// `above` to `below`, with room for rounding.
-fn interval_between(p: i32, q: i32, above: i128, below: i128) -> Option<Interval> {
-    let way = i128::from(q).wrapping_sub(i128::from(p));
-    let part = way
-        .wrapping_mul(above)
-        .checked_div(above.wrapping_add(below))?;
-    let at = i128::from(p).wrapping_add(part);
+/// The bits of a share of a way.
+const SHARE_BITS: u32 = 20;
+
+/// The share of the way to the plane from a point so far above it to one so far below, in units of
+/// so many bits, up to two units.
+fn share_of(above: i128, below: i128) -> Option<i64> {
+    let whole = above.wrapping_add(below);
+    let taken = 96u32.saturating_sub(whole.leading_zeros());
+    let part = i64::try_from(above.wrapping_shr(taken)).ok()?;
+    let all = i64::try_from(whole.wrapping_shr(taken)).ok()?;
+    part.wrapping_shl(SHARE_BITS).checked_div(all)
+}
+
+/// An interval round the number that divides the way from one number to the other so, with room for
+/// rounding.
+fn interval_between(p: i32, q: i32, share: i64) -> Option<Interval> {
+    let way = i64::from(q).wrapping_sub(i64::from(p));
+    let at = i64::from(p).wrapping_add(way.wrapping_mul(share) >> SHARE_BITS);
+    let room = (way.wrapping_abs() >> (SHARE_BITS - 2)).wrapping_add(2);
     Some(Interval {
-        low: i32::try_from(at.wrapping_sub(2)).ok()?,
-        high: i32::try_from(at.wrapping_add(2)).ok()?,
+        low: i32::try_from(at.wrapping_sub(room)).ok()?,
+        high: i32::try_from(at.wrapping_add(room)).ok()?,
     })
 }
 
@@ -245,13 +285,14 @@ fn leg_of(plane: &Plane, body: &Body) -> Option<Leg> {
         }
     }
     let ((p, above), (q, below)) = (over?, under?);
+    let share = share_of(above, below)?;
     Some(Leg {
         from: spot_of(p),
         to: spot_of(q),
         bounds: Bounds {
-            x: interval_between(p.x, q.x, above, below)?,
-            y: interval_between(p.y, q.y, above, below)?,
-            z: interval_between(p.z, q.z, above, below)?,
+            x: interval_between(p.x, q.x, share)?,
+            y: interval_between(p.y, q.y, share)?,
+            z: interval_between(p.z, q.z, share)?,
         },
     })
 }
@@ -273,49 +314,70 @@ impl Sheets {
         corners_of(points, self.missing.at(place)).is_some_and(|t| is_passed(leg, &t))
     }
 
-    /// Whether the sheet at this place crosses the row.
-    fn crosses(&self, points: &Points, body: &Body, place: usize) -> bool {
+    /// The place of a triangle of the sheet at this place, where the sheet crosses the row.
+    fn crossing(&self, points: &Points, body: &Body, place: usize) -> Option<usize> {
         if self.all.len() <= place {
-            return false;
+            return None;
         }
         let sheet = self.all.get(place);
         if are_bounds_apart(&sheet.span.bounds, &body.bounds) {
-            return false;
+            return None;
         }
-        let Some(leg) = leg_of(&sheet.span.plane, body) else {
-            return false
-        };
+        let leg = leg_of(&sheet.span.plane, body)?;
         let mut next = 0;
         for _ in 0..sheet.tree.len() {
-            let Some(found) = next_of(&sheet.tree, &leg.bounds, next) else {
-                return false
-            };
+            let found = next_of(&sheet.tree, &leg.bounds, next)?;
             if self.passes(points, &leg, found.place) {
-                return true;
+                return Some(found.place);
             }
             next = found.next;
         }
-        false
+        None
     }
 
-    /// Whether some sheet crosses the row. That at the place `last`, which often crosses the next
-    /// row too, is looked at first.
-    fn cross(&self, points: &Points, body: &Body, last: &mut usize) -> bool {
-        if self.crosses(points, body, *last) {
-            return true;
+    /// The place of a triangle of some sheet that crosses the row. The sheet at the place `last`,
+    /// which often crosses the next row too, is looked at first.
+    fn cross(&self, points: &Points, body: &Body, last: &mut usize) -> Option<usize> {
+        if let Some(place) = self.crossing(points, body, *last) {
+            return Some(place);
         }
         let mut next = 0;
         for _ in 0..self.tree.len() {
-            let Some(found) = next_of(&self.tree, &body.bounds, next) else {
-                return false
-            };
-            if found.place != *last && self.crosses(points, body, found.place) {
-                *last = found.place;
-                return true;
+            let found = next_of(&self.tree, &body.bounds, next)?;
+            if found.place != *last {
+                if let Some(place) = self.crossing(points, body, found.place) {
+                    *last = found.place;
+                    return Some(place);
+                }
             }
             next = found.next;
         }
-        false
+        None
+    }
+
+    /// The star in which the row at a place stands, where that is the first of it. Most stars are
+    /// far from all sheets, and so one look at the tree serves for several rows.
+    fn star_from(&self, points: &Points, list: &TetList, i: usize, row: Tet) -> Option<Star> {
+        let (past, bounds) = star_bounds(points, list, i, row)?;
+        Some(Star {
+            past,
+            is_clear: next_of(&self.tree, &bounds, 0).is_none(),
+        })
+    }
+
+    /// The place of a triangle that crosses the row, by the star in which it stands.
+    fn cross_in(
+        &self,
+        points: &Points,
+        star: Star,
+        row: Tet,
+        last: &mut usize,
+    ) -> Result<Option<usize>, Stop> {
+        if star.is_clear {
+            return Ok(None);
+        }
+        let body = or_stop(body_of(points, row))?;
+        Ok(self.cross(points, &body, last))
     }
 
     /// The rows that facets cross, and the others.
@@ -327,16 +389,29 @@ impl Sheets {
     ) -> Result<Parted, Stop> {
         let mut kept = TetList::new(alloc);
         let mut crossed = TetList::new(alloc);
+        let mut crossed_by = Items::new(alloc);
         let mut last = 0;
+        let mut star = Star {
+            past: 0,
+            is_clear: false,
+        };
         for i in 0..list.len() {
             let row = list.at(i);
-            let body = or_stop(body_of(points, row))?;
-            if self.cross(points, &body, &mut last) {
-                crossed.push(row)?;
-            } else {
-                kept.push(row)?;
+            if star.past <= i {
+                star = or_stop(self.star_from(points, list, i, row))?;
+            }
+            match self.cross_in(points, star, row, &mut last)? {
+                Some(place) => {
+                    crossed.push(row)?;
+                    crossed_by.push(or_stop(self.places.as_slice().get(place).copied())?)?;
+                }
+                None => kept.push(row)?,
             }
         }
-        Ok(Parted { kept, crossed })
+        Ok(Parted {
+            kept,
+            crossed,
+            crossed_by,
+        })
     }
 }

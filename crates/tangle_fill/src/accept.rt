@@ -130,12 +130,23 @@ fn has_triangles(growth: &Growth, triangles: &FacetTriangles) -> bool
     true
 }
 
-/// Whether facets cross each of the positive rows.
+/// The number at the place; the last one where there is none.
+fn likely_at(likely: &Items<usize>, place: usize, last: usize) -> usize {
+    if place < likely.len() {
+        likely.at(place)
+    } else {
+        last
+    }
+}
+
+/// Whether facets cross each of the positive rows. First looked at for each row is the facet
+/// triangle at the place that stands for it in `likely`, where one does.
 fn are_crossed(
     alloc: Global,
     points: &Points,
     rows: &TetList,
     triangles: &FacetTriangles,
+    likely: &Items<usize>,
 ) -> Result<bool, NoMemory>
     requires facets { AreFacetTriangles points.now triangles.now }
     requires rows { All (λ t. IsOn points.now t × IsPositive (corners points.now t)) rows.now }
@@ -145,6 +156,7 @@ fn are_crossed(
     let tree = triangle_tree(alloc, points, triangles)?;
     let mut last = 0;
     for i in 0..rows.len() {
+        last = likely_at(likely, i, last);
         if uncrossed_near(points, rows.at(i), triangles, &tree, &mut last) {
             return Ok(false);
         }
@@ -325,6 +337,7 @@ fn is_refilled(
     list: &TetList,
     triangles: &FacetTriangles,
     change: &Change,
+    likely: &Items<usize>,
 ) -> Result<bool, NoMemory>
     requires few { length points.now < 2 ^ 32 - 1 }
     requires facets { AreFacetTriangles points.now triangles.now }
@@ -343,12 +356,38 @@ fn is_refilled(
     if !are_closed(points, list, change) {
         return Ok(false);
     }
-    let crossed = are_crossed(alloc, points, &change.removed.rows, triangles)?;
+    let crossed = are_crossed(alloc, points, &change.removed.rows, triangles, likely)?;
     if !crossed {
         return Ok(false);
     }
     let smooth = are_smooth(alloc, points, list, triangles, change)?;
     Ok(smooth)
+}
+
+/// As `accepted`. For each row that the Delaunay list alone has, in order, `likely` may have the
+/// place of a facet triangle that enters it.
+pub(crate) fn accepted_by(
+    alloc: Global,
+    points: &Points,
+    list: &TetList,
+    triangles: &FacetTriangles,
+    mut candidate: TetList,
+    likely: &Items<usize>,
+) -> Result<Option<TetList>, NoMemory>
+    requires few { length points.now < 2 ^ 32 - 1 }
+    requires facets { AreFacetTriangles points.now triangles.now }
+    requires delaunay { IsDelaunayList points.now list.now }
+    ensures { IfOk result (λ found. IfSome found (IsRefilled points.now triangles.now list.now)) }
+{
+    candidate.keep_distinct();
+    let Some(change) = change_of(alloc, points, list, triangles, candidate)? else {
+        return Ok(None);
+    };
+    if is_refilled(alloc, points, list, triangles, &change, likely)? {
+        Ok(Some(change.rows))
+    } else {
+        Ok(None)
+    }
 }
 
 /// The candidate in order, where it is the Delaunay list refilled round the facets; None where the
@@ -360,20 +399,13 @@ pub fn accepted(
     points: &Points,
     list: &TetList,
     triangles: &FacetTriangles,
-    mut candidate: TetList,
+    candidate: TetList,
 ) -> Result<Option<TetList>, NoMemory>
     requires few { length points.now < 2 ^ 32 - 1 }
     requires facets { AreFacetTriangles points.now triangles.now }
     requires delaunay { IsDelaunayList points.now list.now }
     ensures { IfOk result (λ found. IfSome found (IsRefilled points.now triangles.now list.now)) }
 {
-    candidate.keep_distinct();
-    let Some(change) = change_of(alloc, points, list, triangles, candidate)? else {
-        return Ok(None);
-    };
-    if is_refilled(alloc, points, list, triangles, &change)? {
-        Ok(Some(change.rows))
-    } else {
-        Ok(None)
-    }
+    let unknown = Items::new(alloc);
+    accepted_by(alloc, points, list, triangles, candidate, &unknown)
 }

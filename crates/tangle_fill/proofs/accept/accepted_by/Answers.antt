@@ -3,7 +3,7 @@ use Rattle.std.specs.Prelude.{AllPairs, IfSome}
 use Rattle.geo_laws.specs.Delaunay.{RowBefore}
 use Rattle.tangle_fill.specs.declared.change.Change.{Change}
 use Rattle.tangle_fill.proofs.Finish.{rows_ascend}
-use Rattle.tangle_fill.proofs.accept.accepted.Goals as goal
+use Rattle.tangle_fill.proofs.accept.accepted_by.Goals as goal
 
 pub is_refilled-requires-clause-ascending : goal.is_refilled-requires-clause-ascending
 is_refilled-requires-clause-ascending c =
