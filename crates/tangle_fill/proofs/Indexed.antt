@@ -131,7 +131,7 @@ same_three f q e =
     let two = both_true (f.a == q.face.a) (f.b == q.face.b) one.0 in
     (eq_of f.a q.face.a two.0, eq_of f.b q.face.b two.1, eq_of f.c q.face.c one.1)
 
-three_same : (f : oriented_face.Face) (q : FaceSide) → f.a ≡ q.face.a → f.b ≡ q.face.b → f.c ≡ q.face.c → same_side (side_of f) q ≡ true
+pub three_same : (f : oriented_face.Face) (q : FaceSide) → f.a ≡ q.face.a → f.b ≡ q.face.b → f.c ≡ q.face.c → same_side (side_of f) q ≡ true
 three_same f q a b c = λ j. (eq-eqb f.a q.face.a a j && eq-eqb f.b q.face.b b j) && eq-eqb f.c q.face.c c j
 
 -- the side with its corners in this order, or turned once or twice

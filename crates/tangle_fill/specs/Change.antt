@@ -1,8 +1,9 @@
 -- What a list that was found in any way changes of an old one, the points that are corners of what changed, and the rows of it that have a
 -- face among these points: beside any other face stand two old rows, or a face of the hull.
-use Rattle.std.specs.Prelude.{◌⊎◌, ℕ, Bool, false, IsTrue, List, All, AllPairs, Contains}
-use Rattle.std.specs.List.{AllByRecursion, slice_index_or}
+use Rattle.std.specs.Prelude.{◌≡◌, ◌⊎◌, ℕ, Bool, false, IsTrue, List, [], ◌∷◌, ◌++◌, All, AllPairs, Contains}
+use Rattle.std.specs.List.{AllByRecursion, list_any, slice_index_or}
 use Rattle.sign_predicates.specs.Point.{Point}
+use Rattle.geo_laws.specs.Delaunay.{IsArranged}
 use Rattle.geo_laws.specs.OrientedFace.{Face, reversed}
 use Rattle.geo_laws.specs.declared.tetrahedra.Tet.{Tet}
 use Rattle.crossing_laws.specs.Crossing.{faces_of}
@@ -46,6 +47,13 @@ abbrev pub HasNoMarkedFace : List Bool → Tet → Type 0
 HasNoMarkedFace marks t = (f : Face) → IsTrue (lies_on f t) → ¬ IsMarkedFace marks f
 
 -- ---- rows near what changed
+
+-- the row was added to rows in the least even arrangement, none of which lies with it on one side of a face
+pub record IsPutApart (before after : Growth) (row : Tet) : Type 0 where
+  pub arranged : IsArranged row
+  pub rows : after.rows ≡ before.rows ++ row ∷ []
+  pub indexed : IsIndexed after
+  pub apart : All (λ t. list_any (λ f. lies_on f t) (faces_of row) ≡ false) before.rows
 
 -- those of the rows that have a marked face, and maybe more, found by their sides; no two of them on one side of a face
 pub record IsNear (marks : List Bool) (rows : List Tet) (near : Growth) : Type 0 where

@@ -2,14 +2,14 @@
 //! changed.
 ghost use Rattle.std.specs.Prelude.{◌≡◌, false, IsTrue, IfOk, IfSome, OnOk, All, Contains};
 ghost use Rattle.sign_predicates.specs.Orientation.{IsPositive};
-ghost use Rattle.geo_laws.specs.Delaunay.{IsOn};
+ghost use Rattle.geo_laws.specs.Delaunay.{IsOn, IsArranged};
 ghost use Rattle.tangle_fill.specs.Fill.{oriented};
 ghost use Rattle.tangle_fill.specs.Indexed.{IsIndexed};
 ghost use Rattle.tangle_fill.specs.Removed.{IsRemoved};
 ghost use Rattle.tangle_fill.specs.Accept.{IsRow, AreRows};
-ghost use Rattle.tangle_fill.specs.Change.{IsRest, is_marked, KeepsMarks, IsMarkedRow, IsMarkedFace, HasNoMarkedFace, IsNear, IsChange};
+ghost use Rattle.tangle_fill.specs.Change.{IsRest, is_marked, KeepsMarks, IsMarkedRow, IsMarkedFace, HasNoMarkedFace, IsPutApart, IsNear, IsChange};
 
-use crate::admit::is_row;
+use crate::admit::{is_arranged, is_row};
 use crate::growth::Growth;
 use geo_laws::{Face, FacetTriangle, FacetTriangles, Points, Tet, TetList};
 use std::alloc::Global;
@@ -91,7 +91,7 @@ fn indexed(alloc: Global, rows: &TetList) -> Result<Growth, NoMemory>
     ensures rows { IfOk result (λ growth. growth.rows ≡ rows.now) }
     ensures indexed { IfOk result IsIndexed }
 {
-    let mut growth = Growth::new(alloc);
+    let mut growth = Growth::with_room(alloc, rows.len())?;
     for i in 0..rows.len() {
         growth.put(rows.at(i))?;
     }
@@ -192,18 +192,36 @@ fn has_three(marks: &[bool], row: Tet) -> bool
     u8::from(a) + u8::from(b) + u8::from(c) + u8::from(d) > 2
 }
 
-/// The rows with a marked face; None where two of them lie on one side of a face.
-fn near_of(alloc: Global, marks: &[bool], rows: &TetList) -> Result<Option<Growth>, NoMemory>
+/// Appends a row; whether it is in the least even arrangement and lies with no other on one side of
+/// a face.
+fn put_near(near: &mut Growth, row: Tet) -> Result<bool, NoMemory>
+    requires indexed { IsIndexed near.old }
+    requires arranged { All IsArranged near.old.rows }
+    ensures { IfOk result (λ apart. IsTrue apart → IsPutApart near.old near.new row) }
+{
+    if !is_arranged(row) {
+        return Ok(false);
+    }
+    near.put_apart(row)
+}
+
+/// The rows with a marked face, likely so many; None where two of them lie on one side of a face,
+/// or one is not in the least even arrangement.
+fn near_of(
+    alloc: Global,
+    marks: &[bool],
+    rows: &TetList,
+    likely: usize,
+) -> Result<Option<Growth>, NoMemory>
     ensures { IfOk result (λ found. IfSome found (IsNear marks.now rows.now)) }
 {
-    let mut near = Growth::new(alloc);
+    let mut near = Growth::with_room(alloc, likely)?;
     for i in 0..rows.len() {
         let row = rows.at(i);
         if has_three(marks, row) {
-            if let Some(_) = near.rival(row) {
+            if !put_near(&mut near, row)? {
                 return Ok(None);
             }
-            near.put(row)?;
         }
     }
     Ok(Some(near))
@@ -238,7 +256,8 @@ pub(crate) fn change_of(
     }
     let rest = rest_of(alloc, list, &rows)?;
     let marks = marks_of(alloc, points.len(), &added, &rest, triangles)?;
-    let Some(near) = near_of(alloc, &marks, &rows)? else {
+    let likely = added.len().saturating_add(rest.len()).saturating_mul(2);
+    let Some(near) = near_of(alloc, &marks, &rows, likely.min(rows.len()))? else {
         return Ok(None);
     };
     let removed = indexed(alloc, &rest)?;

@@ -1,16 +1,18 @@
 //! Rows that grow, and the sides of faces on which they lie.
-ghost use Rattle.std.specs.Prelude.{◌≡◌, [], ◌∷◌, ◌++◌, ◌==◌, ◌&&◌, IsTrue, All, Contains, MatchOption, OnOk, false};
+ghost use Rattle.std.specs.Prelude.{◌≡◌, [], ◌∷◌, ◌++◌, ◌==◌, ◌&&◌, None, IsTrue, All, Contains, MatchOption, IfOk, OnOk, false};
 ghost use Rattle.std.specs.List.{list_any};
 ghost use Rattle.std.specs.Hash as fed;
 ghost use Rattle.std.specs.Cmp.Rules.{comparing, hashing};
 ghost use Rattle.std.proofs.Common.{rules};
 ghost use Rattle.indexmap.specs.IndexMap.{get};
+ghost use Rattle.geo_laws.specs.Delaunay.{IsArranged};
 ghost use Rattle.crossing_laws.specs.Crossing.{faces_of};
 ghost use Rattle.tangle_laws.specs.Tangle.{lies_on};
 ghost use Rattle.geo_laws.specs.declared.tetrahedra.Tet.{Tet};
 ghost use Rattle.tangle_fill.specs.Fill.{oriented};
 ghost use Rattle.tangle_fill.specs.Indexed.{same_side, IsIndexed, IsPut};
 
+use crate::nudge::all_four;
 use geo_laws::{Face, Tet, TetList};
 use indexmap::IndexMap;
 use std::alloc::Global;
@@ -85,6 +87,16 @@ impl Growth {
         }
     }
 
+    /// No row yet, with room for so many.
+    pub(crate) fn with_room(alloc: Global, count: usize) -> Result<Self, NoMemory>
+        ensures rows { IfOk result (λ growth. growth.rows ≡ []) }
+        ensures indexed { IfOk result IsIndexed }
+    {
+        let rows = TetList::with_capacity(alloc, count)?;
+        let sides = IndexMap::with_capacity(alloc, count.saturating_mul(4))?;
+        Ok(Growth { rows, sides })
+    }
+
     /// The row that is kept for these corners in this order.
     fn row_of(&self, face: Face) -> Option<Tet>
         ensures { result ≡ get same_side self.now.sides (record { face = face }) }
@@ -137,13 +149,15 @@ impl Growth {
         self.row_on(Face { a, b, c })
     }
 
-    /// Keeps the row for the corners of a face of it.
-    fn put_side(&mut self, face: Face, row: Tet) -> Result<(), NoMemory>
+    /// Keeps the row for the corners of a face of it; whether none was kept for them.
+    fn put_side(&mut self, face: Face, row: Tet) -> Result<bool, NoMemory>
         ensures rows { OnOk result (self.new.rows ≡ self.old.rows) }
         ensures put { OnOk result (IsPut self.old.sides self.new.sides (record { face = face }) row) }
+        ensures free { IfOk result (λ free. IsTrue free
+            → get same_side self.old.sides (record { face = face }) ≡ None) }
     {
-        self.sides.insert(FaceSide { face }, row)?;
-        Ok(())
+        let kept = self.sides.insert(FaceSide { face }, row)?;
+        Ok(kept.is_none())
     }
 
     /// Appends the row.
@@ -159,5 +173,25 @@ impl Growth {
         self.put_side(Face { a, b, c }, row)?;
         self.rows.push(row)?;
         Ok(())
+    }
+
+    /// Appends the row; whether it lies with no other on one side of a face. All rows have their
+    /// least corner first, and so their faces have.
+    pub(crate) fn put_apart(&mut self, row: Tet) -> Result<bool, NoMemory>
+        requires indexed { IsIndexed self.old }
+        requires arranged { All IsArranged self.old.rows }
+        requires row { IsArranged row }
+        ensures rows { OnOk result (self.new.rows ≡ self.old.rows ++ row ∷ []) }
+        ensures indexed { OnOk result (IsIndexed self.new) }
+        ensures apart { IfOk result (λ apart. IsTrue apart
+            → All (λ t. list_any (λ f. lies_on f t) (faces_of row) ≡ false) self.old.rows) }
+    {
+        let Tet { a, b, c, d } = row;
+        let at_a = self.put_side(Face { a: b, b: d, c }, row)?;
+        let at_b = self.put_side(Face { a, b: c, c: d }, row)?;
+        let at_c = self.put_side(Face { a, b: d, c: b }, row)?;
+        let at_d = self.put_side(Face { a, b, c }, row)?;
+        self.rows.push(row)?;
+        Ok(all_four(at_a, at_b, at_c, at_d))
     }
 }
