@@ -49,6 +49,28 @@ const TWISTED_PRISM: &[[i8; 3]] = &[
     [0, -20, 20],
 ];
 
+/// Two thin plates over one another in a cloud, most of whose tetrahedra stay as they are.
+const PLATES_IN_CLOUD: &[[i8; 3]] = &[
+    [-20, -19, 0],
+    [21, -20, 0],
+    [1, 20, 0],
+    [-21, -20, 2],
+    [22, -21, 2],
+    [1, 22, 2],
+    [71, 3, 27],
+    [-65, 12, -29],
+    [5, 74, -34],
+    [-8, -71, 39],
+    [2, 6, 30],
+    [-4, 5, -27],
+    [90, -70, -60],
+    [-80, 95, 64],
+    [71, 88, -93],
+    [-99, -83, 81],
+    [100, 101, 97],
+    [-103, -97, -92],
+];
+
 fn points_of(alloc: Global, places: &[[i8; 3]]) -> Result<Points, NoMemory> {
     let mut points = Points::new(alloc);
     for p in places {
@@ -171,7 +193,7 @@ fn is_admissible(alloc: Global, row: [u32; 4]) -> Result<Option<bool>, NoMemory>
 }
 
 /// Points, the facets on them, and where they end.
-const SAMPLES: [(&[[i8; 3]], &[[u32; 3]], End); 4] = [
+const SAMPLES: [(&[[i8; 3]], &[[u32; 3]], End); 5] = [
     // Each plate parts the tetrahedra, and a prism between two plates has three.
     (TWO_PLATES, &[[0, 1, 2], [3, 4, 5]], End::Filled(5)),
     (
@@ -181,7 +203,10 @@ const SAMPLES: [(&[[i8; 3]], &[[u32; 3]], End); 4] = [
     ),
     // One plate, with the corners of the other as further points.
     (TWO_PLATES, &[[0, 1, 2]], End::Filled(8)),
-    // The twisted prism can't be cut into tetrahedra (Schoenhardt, 1928).
+    // The admissible ones of all fours of points, counted one by one; 64 before.
+    (PLATES_IN_CLOUD, &[[0, 1, 2], [3, 4, 5]], End::Filled(61)),
+    // The twisted prism can't be cut into tetrahedra (Schoenhardt, 1928): the flips come to no list
+    // that is accepted, and the growth tells an anomaly.
     (
         TWISTED_PRISM,
         &[
