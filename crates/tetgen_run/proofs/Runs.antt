@@ -61,6 +61,7 @@ use Rattle.run_steps.proofs.Determined.{outputs_same}
 use Rattle.run_steps.proofs.Once.{run_same}
 use Rattle.run_steps.proofs.Refusals.{input_has}
 use Rattle.run_steps.proofs.Steps.{IsDecided, status_of, and_then_refuses}
+use Rattle.tetgen_run.proofs.Determined.{mesh_determined}
 use Rattle.tetgen_run.proofs.Refusals.{IsRefusal, IsSilent, not_true}
 use Rattle.tetgen_run.proofs.Endings.{NumbersPoints, answers_same, end_answers, end_leaves, early_leaves, end_tells, stop_tellable, finish_ends}
 use Rattle.tetgen_run.proofs.Checks.{check_answer, check_same, check_left, early_check, check_told, check_tellable, checked_end}
@@ -220,6 +221,7 @@ mesh_by limits o Understood Read input outputs understood read m =
       triangulation = mesh_triangulates o m.0 o.piecewise made.0 made.1;
       outputs_are = made.2;
       only = λ other on. outputs_same o made.0 other outputs on made.2;
+      determined = mesh_determined limits o input m.0 made.0 m.1 made.1;
     }
 
 pub mesh_of_run : (limits : Limits) (words : List (List ℕ)) (folder : FolderSeen) (outputs : Outputs) → OutputsOfRun limits words folder (Ok outputs) → IsMeshOfRunWithin limits words folder outputs

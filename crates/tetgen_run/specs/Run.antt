@@ -1,5 +1,5 @@
 -- What a run of the program answers, stores and tells.
-use Rattle.std.specs.Prelude.{◌≡◌, ◌≢◌, ℕ, ℤ, Bool, true, false, ◌&&◌, not, IsTrue, List, length, Option, Some, None, Result, Ok, Err, if◌then◌else◌}
+use Rattle.std.specs.Prelude.{◌≡◌, ◌≢◌, ℕ, ◌+◌, ◌<◌, ◌^◌, ℤ, Bool, true, false, ◌&&◌, not, IsTrue, List, All, length, Option, Some, None, Result, Ok, Err, if◌then◌else◌}
 use Rattle.check_steps.specs.Checking.{CheckAnswer}
 use Rattle.check_steps.specs.Steps as check
 use Rattle.check_steps.specs.Telling.{sound_line}
@@ -7,10 +7,13 @@ use Rattle.check_steps.specs.declared.fault.CheckFault.{CheckFault}
 use Rattle.command_words.specs.Grammar.{words_fault}
 use Rattle.command_words.specs.Meaning.{options_of}
 use Rattle.command_words.specs.declared.options.Options.{Options}
-use Rattle.geo_laws.specs.Delaunay.{IsDelaunayList}
+use Rattle.geo_laws.specs.Delaunay.{numbers, IsDelaunayList}
 use Rattle.geo_laws.specs.Laws.{IsTriangulation}
 use Rattle.geo_laws.specs.Mesh.{IsMesh}
 use Rattle.geo_laws.specs.Path.{Carving, HullOnly}
+use Rattle.geo_laws.specs.declared.tetrahedra.Tet.{Tet}
+use Rattle.mesh_files.specs.Laws.{AreInOneLine}
+use Rattle.mesh_files.specs.Texts.{AreNamed, ele_text_of}
 use Rattle.node_files.specs.Limits.{tetgen_limits}
 use Rattle.node_files.specs.declared.limits.Limits.{Limits}
 use Rattle.node_files.specs.declared.table.NodeTable.{NodeTable}
@@ -25,7 +28,7 @@ use Rattle.run_steps.specs.Messages.{message_of}
 use Rattle.run_steps.specs.Numbering.{numbering_of}
 use Rattle.run_steps.specs.declared.numbering.Numbering.{Numbering}
 use Rattle.run_steps.specs.Meshing.{BoundAnswer, MeshAnswer, OutputsOfRun}
-use Rattle.run_steps.specs.Outputs.{AreOutputsOf}
+use Rattle.run_steps.specs.Outputs.{AreOutputsOf, first_of}
 use Rattle.run_steps.specs.Reading.{InputAnswer}
 use Rattle.run_steps.specs.Seen.{FolderSeen, SinkSeen}
 use Rattle.run_steps.specs.Steps.{forced_answer}
@@ -119,11 +122,22 @@ pub record IsRegularMesh (table : NodeTable) (mesh : Meshed) : Type 0 where
   pub list : IsRegularList mesh.points (kept_weights table weights) mesh.tetrahedra
   pub hidden : mesh.hidden ≡ Some (hidden_count (length mesh.points) mesh.tetrahedra)
 
+-- The text of the tetrahedra determines them: other rows on the same points, without marks or with any marks, that have this text are the
+-- same. The numbers of the points are below 2^64, and no attribute of a region has a line feed in it
+abbrev pub IsDetermined : Options → Meshed → Type 0
+IsDetermined options mesh =
+    first_of options mesh + (length mesh.table.listed + length mesh.added) < 2 ^ 64 → AreInOneLine mesh.complex.regions
+    → (marks : Option (List (Option ℕ))) (rows : List Tet) → All (λ t. AreNamed mesh.names (numbers t)) rows
+    → ele_text_of marks mesh.complex.regions mesh.names (first_of options mesh) rows
+    ≡ ele_text_of mesh.marks mesh.complex.regions mesh.names (first_of options mesh) mesh.tetrahedra
+    → rows ≡ mesh.tetrahedra
+
 -- The outputs are those of one mesh of an input that is read so, where the words are understood so. Its points are those of the input and
 -- the added ones, its triangles those of the facets. Each rational point on no facet and off all face planes is strictly inside exactly
 -- one of its tetrahedra, or inside none where it is out; facets inside the mesh are unions of its faces; every other shared face is
 -- locally Delaunay; any two tetrahedra are properly met (`IsMesh` of the complex). Of points alone it is the Delaunay list, and of
--- weighted points the regular list: each triangulates the hull of all the points. No other outputs are those of the mesh.
+-- weighted points the regular list: each triangulates the hull of all the points. No other outputs are those of the mesh, and the
+-- text of the tetrahedra is that of no others.
 pub record IsMeshBy (limits : Limits) (options : Options) (Understood : Type 0) (Read : Input → Type 0) (outputs : Outputs) : Type 0 where
   pub understood : Understood
   pub input : Input
@@ -138,6 +152,7 @@ pub record IsMeshBy (limits : Limits) (options : Options) (Understood : Type 0) 
   pub triangulation : options.piecewise ≡ false → IsTriangulation mesh.points mesh.tetrahedra
   pub outputs_are : AreOutputsOf options mesh outputs
   pub only : (other : Outputs) → AreOutputsOf options mesh other → other ≡ outputs
+  pub determined : IsDetermined options mesh
 
 -- the outputs are those of one mesh of the input that the words name
 abbrev pub IsMeshOfRunWithin : Limits → List (List ℕ) → FolderSeen → Outputs → Type 0
