@@ -42,7 +42,7 @@ fn neighbor_text(alloc: Global, rows: &[[u32; 4]], first: u32) -> Result<Bytes, 
     write_neigh(alloc, &pairs, first)
 }
 
-const NEIGHBOR_TEXTS: [(&[[u32; 4]], u32, &[u8]); 5] = [
+static NEIGHBOR_TEXTS: [(&[[u32; 4]], u32, &[u8]); 5] = [
     (&SMALLEST, 1, b"1 4\n1 -1 -1 -1 -1\n"),
     (&PYRAMID, 0, b"2 4\n0 1 -1 -1 -1\n1 -1 0 -1 -1\n"),
     (&PYRAMID, 1, b"2 4\n1 2 -1 -1 -1\n2 -1 1 -1 -1\n"),

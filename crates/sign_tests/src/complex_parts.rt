@@ -11,7 +11,7 @@ use tet_ports::NoMemory;
 
 /// A square with its center, a point above the center, one far off in the square's plane, and one
 /// above a corner.
-const PLACES: [[i8; 3]; 8] = [
+static PLACES: [[i8; 3]; 8] = [
     [0, 0, 0],
     [4, 0, 0],
     [4, 4, 0],
@@ -99,7 +99,7 @@ struct Case {
     first: Option<[[u32; 3]; 2]>,
 }
 
-const CASES: [Case; 15] = [
+static CASES: [Case; 15] = [
     // The square with three pieces.
     Case {
         triangles: &[[0, 1, 2], [0, 2, 3]],

@@ -52,7 +52,7 @@ fn is_outside(corners: [[i8; 3]; 4], n: [u32; 4], p: [i8; 3], m: u32) -> bool {
     outside(tet(corners), numbers(n), at(p), m)
 }
 
-const SPHERES: [(&str, [[i8; 3]; 4], [u32; 4], [i8; 3], u32, bool); 7] = [
+static SPHERES: [(&str, [[i8; 3]; 4], [u32; 4], [i8; 3], u32, bool); 7] = [
     ("off the sphere", UNIT, [0, 1, 2, 3], [2, 2, 2], 4, true),
     ("in the sphere", FOUR, [0, 1, 2, 3], [1, 1, 1], 4, false),
     ("beyond face 0", UNIT, [0, 1, 2, 3], [1, 1, 1], 4, true),
@@ -139,7 +139,7 @@ fn sign_at(p: [i8; 3]) -> Option<Sign> {
     lifted_sign(frame, [t.a, t.b, t.c, t.d, at(p)])
 }
 
-const LIFTED_SPHERES: [([i8; 3], Option<Sign>); 5] = [
+static LIFTED_SPHERES: [([i8; 3], Option<Sign>); 5] = [
     ([6, 6, 6], Some(Sign::Below)),
     ([4, 4, 4], Some(Sign::Zero)),
     ([2, 2, 2], Some(Sign::Above)),
@@ -236,7 +236,7 @@ fn beyond_unit(corner: u8, p: [i8; 3]) -> Option<Sign> {
     }
 }
 
-const FACES: [(u8, [i8; 3], Sign); 5] = [
+static FACES: [(u8, [i8; 3], Sign); 5] = [
     (0, [2, 2, 2], Sign::Above),
     (1, [2, 2, 2], Sign::Below),
     (1, [0, 5, 5], Sign::Zero),
@@ -262,7 +262,7 @@ fn holds(p: [i32; 3]) -> Hold {
     in_tet(tet(UNIT), x)
 }
 
-const RATIONAL_POINTS: [([i32; 3], Hold); 5] = [
+static RATIONAL_POINTS: [([i32; 3], Hold); 5] = [
     ([0, 0, 0], Hold::Touching),
     ([250_000, 250_000, 250_000], Hold::Inside),
     ([500_000, 500_000, 0], Hold::Touching),
@@ -281,7 +281,7 @@ fn segments(p: [[i8; 3]; 4]) -> bool {
     segments_meet(at(p[0]), at(p[1]), at(p[2]), at(p[3]))
 }
 
-const SEGMENTS: [([[i8; 3]; 4], bool); 9] = [
+static SEGMENTS: [([[i8; 3]; 4], bool); 9] = [
     ([[0, 0, 0], [2, 2, 0], [0, 2, 0], [2, 0, 0]], true),
     ([[0, 0, 0], [2, 2, 0], [0, 2, 1], [2, 0, 1]], false),
     ([[0, 0, 0], [2, 2, 0], [1, 1, 0], [2, 0, 0]], true),
@@ -304,7 +304,7 @@ fn segment_and_triangle(s: [[i8; 3]; 2], f: [[i8; 3]; 3]) -> bool {
     segment_meets_triangle(at(s[0]), at(s[1]), at(f[0]), at(f[1]), at(f[2]))
 }
 
-const SEGMENTS_AND_TRIANGLES: [([[i8; 3]; 3], [[i8; 3]; 2], bool); 11] = [
+static SEGMENTS_AND_TRIANGLES: [([[i8; 3]; 3], [[i8; 3]; 2], bool); 11] = [
     (FLAT, [[1, 1, 1], [1, 1, -1]], true),
     (FLAT, [[1, 1, -1], [1, 1, 1]], true),
     (FLAT, [[3, 3, 1], [3, 3, -1]], false),
@@ -330,7 +330,7 @@ fn meets_flat(f: [[i8; 3]; 3]) -> bool {
     triangles_meet(at(a), at(b), at(c), at(f[0]), at(f[1]), at(f[2]))
 }
 
-const TRIANGLES_THAT_MEET: [([[i8; 3]; 3], bool); 6] = [
+static TRIANGLES_THAT_MEET: [([[i8; 3]; 3], bool); 6] = [
     ([[1, 1, -1], [1, 1, 1], [9, 9, 1]], true),
     ([[1, 1, 1], [2, 1, 1], [1, 2, 1]], false),
     ([[1, 1, 0], [2, 1, 0], [1, 2, 0]], true),
@@ -357,7 +357,7 @@ fn enters_four(f: [[i8; 3]; 3]) -> Option<bool> {
     }
 }
 
-const TRIANGLES_THAT_ENTER: [([[i8; 3]; 3], Option<bool>); 9] = [
+static TRIANGLES_THAT_ENTER: [([[i8; 3]; 3], Option<bool>); 9] = [
     ([[1, 1, 1], [9, 9, 9], [9, 0, 9]], Some(true)),
     ([[-9, -9, 1], [30, -9, 1], [-9, 30, 1]], Some(true)),
     ([[0, 0, 0], [4, 0, 0], [0, 4, 0]], Some(false)),

@@ -8,7 +8,7 @@ use std::test::Fail;
 use tet_ports::NoMemory;
 
 /// A square with its center, a point above the center and one far off in the square's plane.
-const PLACES: [[i8; 3]; 7] = [
+static PLACES: [[i8; 3]; 7] = [
     [0, 0, 0],
     [4, 0, 0],
     [4, 4, 0],
@@ -70,7 +70,7 @@ fn two_faces(points: &Points, f: Face, g: Face) -> Option<bool> {
     }
 }
 
-const SEGMENTS: [([u32; 2], [u32; 2], Option<bool>); 7] = [
+static SEGMENTS: [([u32; 2], [u32; 2], Option<bool>); 7] = [
     ([0, 1], [2, 3], Some(true)),
     ([0, 2], [1, 3], Some(false)),
     ([0, 2], [2, 3], Some(true)),
@@ -89,7 +89,7 @@ fn segments(rt: HostRuntime) -> Result<(), Fail> {
     Ok(())
 }
 
-const SEGMENTS_AND_TRIANGLES: [([u32; 2], [u32; 3], Option<bool>); 8] = [
+static SEGMENTS_AND_TRIANGLES: [([u32; 2], [u32; 3], Option<bool>); 8] = [
     ([4, 5], [0, 1, 2], Some(false)),
     ([4, 5], [0, 1, 4], Some(true)),
     ([2, 6], [0, 1, 2], Some(true)),
@@ -109,7 +109,7 @@ fn segments_and_triangles(rt: HostRuntime) -> Result<(), Fail> {
     Ok(())
 }
 
-const TRIANGLES: [([u32; 3], [u32; 3], Option<bool>); 8] = [
+static TRIANGLES: [([u32; 3], [u32; 3], Option<bool>); 8] = [
     ([0, 1, 2], [0, 2, 3], Some(true)),
     ([0, 1, 2], [0, 1, 3], Some(false)),
     ([0, 1, 2], [0, 1, 5], Some(true)),
