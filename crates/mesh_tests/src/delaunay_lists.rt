@@ -212,7 +212,7 @@ struct ListCase {
     rows: &'static [[u32; 4]],
 }
 
-const LISTS: [ListCase; 11] = [
+static LISTS: [ListCase; 11] = [
     ListCase {
         points: &[[0, 0, 0], [1, 0, 0], [0, 1, 0], [0, 0, 1]],
         rows: &[[0, 1, 2, 3]],
@@ -584,7 +584,7 @@ fn sizes_in_cube(alloc: Global, p: [i8; 3]) -> Option<(usize, usize)> {
     }
 }
 
-const CAVITIES: [([i8; 3], (usize, usize)); 4] = [
+static CAVITIES: [([i8; 3], (usize, usize)); 4] = [
     ([1, 1, 1], (6, 12)),
     ([3, 1, 1], (2, 6)),
     ([2, 1, 1], (8, 14)),
@@ -640,7 +640,7 @@ fn rows_and_sides(alloc: Global, set: &[[i8; 3]], more: &[[i8; 3]]) -> Option<(u
 
 const TETRAHEDRON: [[i8; 3]; 4] = [[0, 0, 0], [4, 0, 0], [0, 4, 0], [0, 0, 4]];
 
-const ADDED_POINTS: [(&[[i8; 3]], &[[i8; 3]], (usize, usize)); 4] = [
+static ADDED_POINTS: [(&[[i8; 3]], &[[i8; 3]], (usize, usize)); 4] = [
     (&TETRAHEDRON, &[[1, 1, 1]], (4, 20)),
     (&TETRAHEDRON, &[[1, 1, 1], [4, 4, 4]], (6, 28)),
     (&TETRAHEDRON, &[[1, 1, 1], [4, 4, 4], [-1, 0, 3]], (8, 36)),

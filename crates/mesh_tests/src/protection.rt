@@ -123,7 +123,7 @@ struct CutCase {
     pieces: &'static [[u32; 2]],
 }
 
-const CUTS: [CutCase; 9] = [
+static CUTS: [CutCase; 9] = [
     // A side through points of the input, and the way back.
     CutCase {
         corners: &[&[0, 1]],

@@ -23,7 +23,7 @@ fn at(place: Place) -> RatPoint {
 }
 
 /// A square, a square in it, and points in their plane and off it.
-const PLACES: [Place; 15] = [
+static PLACES: [Place; 15] = [
     (0, 0, 0),
     (9, 0, 0),
     (9, 9, 0),
@@ -72,7 +72,7 @@ fn add_facet(complex: &mut Complex, polygons: &[&[u32]], holes: &[Place]) -> Res
 }
 
 /// The polygons and the hole points of facets.
-const SHAPES: [(&[&[u32]], &[Place]); 15] = [
+static SHAPES: [(&[&[u32]], &[Place]); 15] = [
     // 0: a square with a hole
     (&[&[0, 1, 2, 3], &[4, 5, 6, 7]], &[(5, 4, 0)]),
     // 1: the hole point lies on a side of the inner square
@@ -153,7 +153,7 @@ type Plane = Option<(u32, u32, u32)>;
 const SQUARE: Plane = Some((0, 1, 2));
 
 /// A facet with its plane, and whether it holds a place.
-const HELD: [(u32, Plane, Place, bool); 32] = [
+static HELD: [(u32, Plane, Place, bool); 32] = [
     (0, SQUARE, (1, 1, 0), true),
     (0, SQUARE, (4, 5, 0), false),
     (0, SQUARE, (4, 3, 0), true),
@@ -234,7 +234,7 @@ const BENT: NotFlat = NotFlat {
 };
 
 /// Facets of one polygon, and what is told of them.
-const FLATNESS: [(&[&[u32]], Result<(), NotFlat>); 3] = [
+static FLATNESS: [(&[&[u32]], Result<(), NotFlat>); 3] = [
     // flat: a square, and a plane through a line and a point off it
     (&[&[0, 1, 2, 3], &[0, 4, 6, 8]], Ok(())),
     // the second facet of four is bent, and so is the last

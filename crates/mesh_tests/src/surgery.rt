@@ -214,7 +214,7 @@ struct SlotCase {
 }
 
 // The star of the point 8, and two of the slots round it.
-const STAR: [SlotCase; 6] = [
+static STAR: [SlotCase; 6] = [
     SlotCase {
         slot: [8, 3, 4, 5],
         behind: [[3, 4, 5, 7], [1, 8, 4, 5], [1, 3, 8, 5], [1, 3, 4, 8]],

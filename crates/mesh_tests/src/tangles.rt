@@ -193,7 +193,7 @@ fn is_admissible(alloc: Global, row: [u32; 4]) -> Result<Option<bool>, NoMemory>
 }
 
 /// Points, the facets on them, and where they end.
-const SAMPLES: [(&[[i8; 3]], &[[u32; 3]], End); 5] = [
+static SAMPLES: [(&[[i8; 3]], &[[u32; 3]], End); 5] = [
     // Each plate parts the tetrahedra, and a prism between two plates has three.
     (TWO_PLATES, &[[0, 1, 2], [3, 4, 5]], End::Filled(5)),
     (
@@ -239,7 +239,7 @@ fn tangled_samples(rt: HostRuntime) {
 }
 
 /// Tetrahedra of the two plates, and whether they are admissible.
-const ROWS: [([u32; 4], bool); 8] = [
+static ROWS: [([u32; 4], bool); 8] = [
     // The five of the mesh.
     ([0, 1, 2, 3], true),
     ([0, 1, 7, 2], true),

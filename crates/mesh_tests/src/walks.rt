@@ -136,7 +136,7 @@ fn in_one(alloc: Global, p: GridPoint) -> Result<Option<SlotPlace>, Fail> {
     Ok(found_from(&arena, &points, 0, p))
 }
 
-const PLACES_IN_ONE: [((i8, i8, i8), SlotPlace); 7] = [
+static PLACES_IN_ONE: [((i8, i8, i8), SlotPlace); 7] = [
     ((1, 1, 1), SlotPlace::Inside(0)),
     ((0, 0, 0), SlotPlace::Inside(0)),
     ((0, 2, 2), SlotPlace::Inside(0)),
@@ -250,7 +250,7 @@ fn in_two(alloc: Global, start: usize, p: GridPoint) -> Result<Option<SlotPlace>
     }
 }
 
-const PLACES_IN_TWO: [((i8, i8, i8), SlotPlace); 10] = [
+static PLACES_IN_TWO: [((i8, i8, i8), SlotPlace); 10] = [
     ((1, 1, 1), SlotPlace::Inside(0)),
     ((0, 0, 1), SlotPlace::Inside(0)),
     ((2, 2, 2), SlotPlace::Inside(1)),

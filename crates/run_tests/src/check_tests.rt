@@ -10,7 +10,7 @@ const FACES: &[u8] = b"6 1\n0 0 1 3 1\n1 0 1 4 1\n2 0 3 4 1\n3 1 2 3 1\n4 1 2 4 
 
 const NEIGHBORS: &[u8] = b"2 4\n0 1 -1 -1 -1\n1 -1 0 -1 -1\n";
 
-const CHECKS: [Run<'static>; 8] = [
+static CHECKS: [Run<'static>; 8] = [
     Run {
         held: &[
             (b"t.node", PYRAMID),

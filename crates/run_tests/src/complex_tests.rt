@@ -4,7 +4,7 @@ use crate::test_inputs::{BAR, BAR_ELE, BAR_FACE, BAR_NODE, BAR_SMESH, BENT, PLAT
 use crate::tests::{Run, leaves};
 use std::test::Fail;
 
-const BARS: [Run<'static>; 3] = [
+static BARS: [Run<'static>; 3] = [
     // Poly.
     Run {
         held: &[(b"bar.poly", BAR)],
@@ -52,7 +52,7 @@ fn a_bar_is_meshed(rt: HostRuntime) -> Result<(), Fail> {
     Ok(())
 }
 
-const COMPLEXES: [Run<'static>; 15] = [
+static COMPLEXES: [Run<'static>; 15] = [
     // Prism with a notch.
     Run {
         held: &[(b"t.poly", PRISM)],
@@ -262,7 +262,7 @@ fn complexes_are_meshed(rt: HostRuntime) -> Result<(), Fail> {
     Ok(())
 }
 
-const CARVED: [Run<'static>; 14] = [
+static CARVED: [Run<'static>; 14] = [
     // Hole points on a facet, its side, its corner, and beyond the hull.
     Run {
         held: &[(
@@ -469,7 +469,7 @@ fn holes_are_carved(rt: HostRuntime) -> Result<(), Fail> {
     Ok(())
 }
 
-const REFUSED_COMPLEXES: [Run<'static>; 5] = [
+static REFUSED_COMPLEXES: [Run<'static>; 5] = [
     // Not flat.
     Run {
         held: &[(b"bar.poly", BENT)],

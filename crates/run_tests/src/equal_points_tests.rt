@@ -25,7 +25,7 @@ const CROSSED: &[u8] =
 /// A facet that is not flat, behind a point that is listed twice.
 const UNEVEN: &[u8] = b"6\n0 5 5 5\n1 5 5 5\n2 0 0 0\n3 1 0 0\n4 1 1 1\n5 0 1 0\n1\n1\n4 2 3 4 5\n";
 
-const POINTS: [Run<'static>; 3] = [
+static POINTS: [Run<'static>; 3] = [
     Run {
         held: &[(b"t.node", LAST)],
         words: &[b"-ne", b"t"],
@@ -90,7 +90,7 @@ fn equal_points_are_folded(rt: HostRuntime) -> Result<(), Fail> {
     Ok(())
 }
 
-const COMPLEXES: [Run<'static>; 2] = [
+static COMPLEXES: [Run<'static>; 2] = [
     Run {
         held: &[(b"s.smesh", SURFACE)],
         words: &[b"-pAe", b"s"],
@@ -137,7 +137,7 @@ fn corners_name_kept_points(rt: HostRuntime) -> Result<(), Fail> {
     Ok(())
 }
 
-const MESSAGES: [Run<'static>; 4] = [
+static MESSAGES: [Run<'static>; 4] = [
     Run {
         held: &[(b"s.poly", CROSSED)],
         words: &[b"-p", b"s"],

@@ -15,7 +15,7 @@ const SPLIT_NODE: &[u8] =
     b"9 3 0 0\n1 0 0 0\n2 2 0 0\n3 2 2 0\n4 0 2 0\n5 0 0 12\n6 2 0 12\n7 2 2 12\n8 0 2 12\n\
       9 1 1 0\n";
 
-const MERGED: [Run<'static>; 7] = [
+static MERGED: [Run<'static>; 7] = [
     // The files of the bar with a bottom of four corners.
     Run {
         held: &[(b"bar.poly", CUT_BAR)],

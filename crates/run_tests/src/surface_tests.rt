@@ -15,7 +15,7 @@ const ELE: &[u8] = b"1 4 0\n0 0 1 2 3\n";
 
 const FACE: &[u8] = b"4 1\n0 0 1 2 1\n1 0 1 3 1\n2 0 2 3 1\n3 1 2 3 1\n";
 
-const SURFACES: [Run<'static>; 5] = [
+static SURFACES: [Run<'static>; 5] = [
     // Polygons.
     Run {
         held: &[(b"t.off", TETRAHEDRON)],

@@ -160,7 +160,7 @@ pub(crate) fn fits(alloc: Global, run: &Run) -> Result<bool, NoMemory> {
     place.has(alloc, run.end, run.files)
 }
 
-const POINTS: [Run<'static>; 5] = [
+static POINTS: [Run<'static>; 5] = [
     // Smallest.
     Run {
         held: &[(b"t.node", SMALLEST)],
@@ -247,7 +247,7 @@ fn points_are_meshed(rt: HostRuntime) -> Result<(), Fail> {
     Ok(())
 }
 
-const SWITCHES: [Run<'static>; 3] = [
+static SWITCHES: [Run<'static>; 3] = [
     // Quiet, with no rows.
     Run {
         held: &[(b"t.node", PYRAMID)],
@@ -290,7 +290,7 @@ fn switches_choose_the_files(rt: HostRuntime) -> Result<(), Fail> {
     Ok(())
 }
 
-const REFUSALS: [Run<'static>; 12] = [
+static REFUSALS: [Run<'static>; 12] = [
     // No word.
     Run {
         held: &[],
@@ -418,7 +418,7 @@ fn files_are_refused(rt: HostRuntime) -> Result<(), Fail> {
     Ok(())
 }
 
-const WRITTEN_BACK: [Run<'static>; 4] = [
+static WRITTEN_BACK: [Run<'static>; 4] = [
     // Attributes and markers.
     Run {
         held: &[(b"d.node", DECIMALS)],
@@ -500,7 +500,7 @@ fn leaves_after(alloc: Global, failure: &Failure) -> Result<bool, NoMemory> {
     place.has(alloc, run.end, run.files)
 }
 
-const FAILURES: [Failure<'static>; 9] = [
+static FAILURES: [Failure<'static>; 9] = [
     // First fetch.
     Failure {
         call: Failing::Fetch { nth: 1 },

@@ -20,7 +20,7 @@ const FLAT: &[u8] = b"4 3 1\n1 0 0 0 0\n2 4 0 0 1\n3 0 4 0 2\n4 4 4 0 3\n";
 
 const TIED_ELE: &[u8] = b"4 4 0\n0 0 1 2 4\n1 0 1 4 3\n2 0 2 3 4\n3 1 2 4 3\n";
 
-const WEIGHTED: [Run<'static>; 6] = [
+static WEIGHTED: [Run<'static>; 6] = [
     Run {
         held: &[(b"t.node", HIDDEN)],
         words: &[b"-wn", b"t"],

@@ -147,7 +147,7 @@ struct Case {
     rows: &'static [[u32; 4]],
 }
 
-const CASES: [Case; 4] = [
+static CASES: [Case; 4] = [
     Case {
         name: "hidden",
         points: &CORNER,

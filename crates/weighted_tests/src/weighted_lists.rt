@@ -72,7 +72,7 @@ fn is_meshed(alloc: Global, text: &[u8], is_hidden: bool) -> bool {
 }
 
 /// Point lists, and whether the fifth point is hidden.
-const CASES: [(&str, &[u8], bool); 9] = [
+static CASES: [(&str, &[u8], bool); 9] = [
     (
         "hidden",
         b"5 3 1\n0 0 0 0 0\n1 4 0 0 0\n2 0 4 0 0\n3 0 0 4 0\n4 1 1 1 -10\n",
@@ -149,7 +149,7 @@ fn why_not(alloc: Global, text: &[u8]) -> Option<Refusal> {
     }
 }
 
-const REFUSALS: [(&[u8], Refusal); 4] = [
+static REFUSALS: [(&[u8], Refusal); 4] = [
     (
         b"5 3 1\n0 0 0 0 0\n1 4 0 0 x\n2 0 4 0 y\n3 0 0 4 0\n4 1 1 1 9e30\n",
         Refusal::Word(3),
