@@ -1,3 +1,6 @@
 pub mod Models
+mod Appends
+mod Firsts
 mod OffGrid
 mod Tries
+mod PartsBefore

@@ -1,3 +1,4 @@
 pub mod Grids
+pub mod Hints
 pub mod Models
 pub mod Trying

@@ -13,6 +13,7 @@ use Rattle.run_steps.specs.declared.outputs.Outputs.{Outputs}
 use Rattle.run_steps.specs.declared.status.LimitKind.TheVariants.{Grid}
 use Rattle.run_steps.specs.declared.status.Status.{Status}
 use Rattle.run_steps.specs.declared.status.Status.TheVariants.{Limit, GridEnd}
+use Rattle.fit_steps.specs.declared.fitting.Refused.{Refused}
 use Rattle.fit_steps.specs.declared.trying.Unfitted.{Unfitted}
 
 -- the same options, with coordinates rounded to so many decimals
@@ -64,3 +65,8 @@ IsNumberedAt limits options input m end = IsNumbered limits (at_decimals m optio
 abbrev pub answer_in : Result Outputs Unfitted → Result Outputs Status
 answer_in (Ok outputs) = Ok outputs
 answer_in (Err end) = Err end.status
+
+-- the refusal of an input that is fitted, with the numbers of its points
+abbrev pub IsRefused : Limits → Options → Input → Refused → Type 0
+IsRefused limits options input refused =
+    IsFitted limits options input refused.decimals (Err refused.end.status) × IsNumberedAt limits options input refused.decimals refused.end

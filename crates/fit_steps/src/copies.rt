@@ -1,6 +1,7 @@
 //! What each try takes of its own.
 
 ghost use Rattle.std.specs.Prelude.{◌≡◌, IfOk};
+ghost use Rattle.fit_steps.specs.Hints.{with_budget};
 ghost use Rattle.fit_steps.specs.Trying.{at_decimals};
 
 use command_words::Options;
@@ -9,13 +10,9 @@ use node_files::{Markers, NodeText};
 use std::alloc::Global;
 use tet_ports::{Name, NoMemory, Words};
 
-/// The same options with so many decimals.
-pub(crate) fn at_decimals(
-    alloc: Global,
-    options: &Options,
-    decimals: u32,
-) -> Result<Options, NoMemory>
-    ensures { IfOk result (λ made. made ≡ at_decimals decimals options.now) }
+/// The same options.
+fn same_options(alloc: Global, options: &Options) -> Result<Options, NoMemory>
+    ensures { IfOk result (λ made. made ≡ options.now) }
 {
     let base = Name::from_slice(alloc, options.base.as_slice())?;
     Ok(Options {
@@ -35,11 +32,37 @@ pub(crate) fn at_decimals(
         weighted: options.weighted,
         budget: options.budget,
         halvings: options.halvings,
-        decimals: Some(decimals),
+        decimals: options.decimals,
         sample: options.sample,
         base,
         extension: options.extension,
     })
+}
+
+/// The same options with so many decimals.
+pub(crate) fn at_decimals(
+    alloc: Global,
+    options: &Options,
+    decimals: u32,
+) -> Result<Options, NoMemory>
+    ensures { IfOk result (λ made. made ≡ at_decimals decimals options.now) }
+{
+    let mut made = same_options(alloc, options)?;
+    made.decimals = Some(decimals);
+    Ok(made)
+}
+
+/// The same options with so many points that may be added.
+pub(crate) fn with_budget(
+    alloc: Global,
+    options: &Options,
+    budget: u32,
+) -> Result<Options, NoMemory>
+    ensures { IfOk result (λ made. made ≡ with_budget budget options.now) }
+{
+    let mut made = same_options(alloc, options)?;
+    made.budget = budget;
+    Ok(made)
 }
 
 fn words_of(alloc: Global, words: &Words) -> Result<Words, NoMemory>

@@ -1,10 +1,10 @@
 //! The tries, from the most decimals downward.
 
-ghost use Rattle.std.specs.Prelude.{◌≡◌, ◌<◌, ℕ, true, false, IsTrue, IfErr, IfOk, Ok, Err};
+ghost use Rattle.std.specs.Prelude.{◌≡◌, ◌<◌, true, false, IsTrue, IfErr, IfOk, Ok};
 ghost use Rattle.command_words.specs.Meaning.{AreInRange};
 ghost use Rattle.node_files.specs.Limits.{AreIndexable};
 ghost use Rattle.run_steps.specs.Reading.{IsSound};
-ghost use Rattle.fit_steps.specs.Trying.{is_of_grid, IsFitted, IsNumberedAt};
+ghost use Rattle.fit_steps.specs.Trying.{is_of_grid, IsFitted, IsRefused};
 
 use crate::grids::{most_tried, next_tried};
 use crate::trying::{Unfitted, outputs_at};
@@ -18,6 +18,13 @@ use std::alloc::Global;
 pub struct Fitted {
     pub decimals: u32,
     pub outputs: Outputs,
+}
+
+/// At how many decimals an input is refused, and how.
+#[derive(Drop)]
+pub struct Refused {
+    pub decimals: u32,
+    pub end: Unfitted,
 }
 
 /// Whether the grid refuses: it does not reach a point, or it is too coarse for a segment.
@@ -50,15 +57,13 @@ pub fn fit_input(
     limits: Limits,
     options: &Options,
     input: &Input,
-) -> Result<Fitted, Unfitted>
+) -> Result<Fitted, Refused>
     requires limits { AreIndexable limits }
     requires input { IsSound input.now }
     requires ranges { AreInRange options.now }
     ensures fitted { IfOk result (λ fitted. IsFitted limits options.now input.now
         fitted.decimals (Ok fitted.outputs)) }
-    ensures unfitted { IfErr result (λ end. (m : ℕ)
-        × IsFitted limits options.now input.now m (Err end.status)
-        × IsNumberedAt limits options.now input.now m end) }
+    ensures refused { IfErr result (IsRefused limits options.now input.now) }
 {
     let points = input.nodes.decimals.as_slice();
     let mut decimals = most_tried(points);
@@ -67,7 +72,7 @@ pub fn fit_input(
             Ok(outputs) => return Ok(Fitted { decimals, outputs }),
             Err(end) => {
                 if !goes_on(decimals, &end.status) {
-                    return Err(end);
+                    return Err(Refused { decimals, end });
                 }
             }
         }

@@ -3,11 +3,16 @@
 #![tactic(auto)]
 
 mod copies;
+mod facets;
 mod fitting;
 mod grids;
+mod hints;
 mod model;
+mod places;
 mod trying;
+mod wholes;
 
-pub use fitting::{Fitted, fit_input};
+pub use fitting::{Fitted, Refused, fit_input};
+pub use hints::hint_of;
 pub use model::read_model;
 pub use trying::Unfitted;

@@ -70,7 +70,7 @@ pub(crate) fn outputs_at(
 }
 
 /// The outputs of the points and the complex of an input.
-fn outputs_with(
+pub(crate) fn outputs_with(
     alloc: Global,
     limits: Limits,
     options: &Options,

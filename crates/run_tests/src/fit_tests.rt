@@ -15,6 +15,53 @@ const NODE: &[u8] = b"4 3 0 0\n0 0 0 0\n1 1 0 0\n2 0 1.5 0\n3 0 0 1\n";
 const BEAM: &[u8] =
     b"16 3 0 0\n1 0 0 -8\n2 2 0 -8\n3 2 1 -8\n4 1 1 -8\n5 1 2 -8\n6 0 2 -8\n7 0 0 8\n8 2 0 8\n9 2 1 8\n10 1 1 8\n11 1 2 8\n12 0 2 8\n13 0.912345 0.5 0\n14 0.5 0.912345 0\n15 0.6 0.6 0.2\n16 0.6 0.6 -0.2\n12 0\n1\n6 1 2 3 4 5 6\n1\n6 7 8 9 10 11 12\n1\n4 1 2 8 7\n1\n4 2 3 9 8\n1\n4 3 4 10 9\n1\n4 4 5 11 10\n1\n4 5 6 12 11\n1\n4 6 1 7 12\n1\n3 13 14 15\n1\n3 13 14 16\n1\n3 13 15 16\n1\n3 14 15 16\n1\n1 0.65 0.65 0\n0\n";
 
+/// A point off each grid.
+const FAR: &[u8] = b"4 3 0 0\n1 0 0 0\n2 12345678.5 0 0\n3 0 1 0\n4 0 0 1\n";
+
+/// Two segments that cross.
+const CROSSED: &[u8] = b"\
+5 3 0 0\n1 0 0 0\n2 2.5 2.5 0\n3 0 2 0\n4 2 0 0\n5 0 0 3\n\
+2 0\n1\n2 1 2\n1\n2 3 4\n0\n0\n";
+
+const FAR_TOLD: &[u8] = b"\
+tetfit: line 3: coordinate off the grid\n\
+tetfit: line 3 has (12345678.5 0 0)\n\
+tetfit: no coordinate may be over 8388608 in size: scale the model down\n";
+
+const CROSSED_TOLD: &[u8] = b"\
+tetfit: segments 1 2 and 3 4 cross\n\
+tetfit: points 1 (0 0 0) 2 (2.5 2.5 0)\n\
+tetfit: points 3 (0 2 0) 4 (2 0 0)\n\
+tetfit: give both segments the point at which they cross\n";
+
+const BEAM_TOLD: &[u8] = b"\
+tetfit: 1 splits used, segment 4 17 is missing\n\
+tetfit: it lies on segment 4 10 of facet 5\n\
+tetfit: allow more added points by -S\n";
+
+/// What is told of a model beside its status.
+static TOLD: [Run<'static>; 3] = [
+    Run {
+        held: &[(b"t.node", FAR)],
+        words: &[b"t.node"],
+        end: (5, Some(b""), Some(FAR_TOLD)),
+        files: &[],
+    },
+    Run {
+        held: &[(b"s.poly", CROSSED)],
+        words: &[b"s.poly"],
+        end: (6, Some(b""), Some(CROSSED_TOLD)),
+        files: &[],
+    },
+    // The missing piece ends in an added point.
+    Run {
+        held: &[(b"b.poly", BEAM)],
+        words: &[b"-S1", b"b.poly"],
+        end: (8, Some(b""), Some(BEAM_TOLD)),
+        files: &[],
+    },
+];
+
 static FITS: [Run<'static>; 5] = [
     Run {
         held: &[(b"t.node", TINY)],
@@ -76,6 +123,14 @@ static FITS: [Run<'static>; 5] = [
 #[test]
 fn decimals_are_fitted(rt: HostRuntime) -> Result<(), Fail> {
     for case in &FITS {
+        assert!(rt; fits(rt.alloc(), case)?);
+    }
+    Ok(())
+}
+
+#[test]
+fn what_is_known_is_told(rt: HostRuntime) -> Result<(), Fail> {
+    for case in &TOLD {
         assert!(rt; fits(rt.alloc(), case)?);
     }
     Ok(())

@@ -1,5 +1,5 @@
 -- What a run makes of its words: its refusals, its mesh, and that it holds over all of a run.
-use Rattle.std.proofs.Common.{◌≡◌, inl, inr, ℕ, List, Option, Some, None, Result, Ok, Err, refl, sym, subst, ap}
+use Rattle.std.proofs.Common.{◌≡◌, inl, inr, ℕ, List, [], Option, Some, None, Result, Ok, Err, refl, sym, subst, ap}
 use Rattle.std.specs.Prelude.{IsTrue, All, IfOk, IfErr}
 use Rattle.std.proofs.lemmas.List.Elements.{All-nil}
 use Rattle.command_words.specs.Meaning.{options_of}
@@ -7,29 +7,33 @@ use Rattle.command_words.specs.declared.fault.WordsFault.{WordsFault}
 use Rattle.command_words.specs.declared.fault.WordsFault.TheVariants.{Usage as Misunderstood, NoMemory as WordsWanting}
 use Rattle.command_words.specs.declared.options.Options.{Options}
 use Rattle.fit_steps.proofs.Models.{model_has, model_wider}
+use Rattle.fit_steps.specs.Hints.{IsHint, IsHintBy}
 use Rattle.fit_steps.specs.Models.{ModelAnswer}
-use Rattle.fit_steps.specs.Trying.{IsFitted, IsNumberedAt, at_decimals}
+use Rattle.fit_steps.specs.Trying.{IsFitted, IsNumbered, IsRefused, at_decimals}
+use Rattle.fit_steps.specs.declared.fitting.Refused.{Refused as Unfit}
+use Rattle.node_files.specs.declared.limits.Limits.{Limits}
 use Rattle.fit_words.specs.Words.{fit_fault, others, request_of}
 use Rattle.fit_words.specs.declared.request.Request.{Request}
 use Rattle.fit_words.specs.declared.request.Request.TheVariants.{Page, Version, Mesh}
 use Rattle.run_steps.proofs.Steps.{and_then_refuses, and_then_wider}
 use Rattle.run_steps.proofs.Wider.{IsWithin}
-use Rattle.run_steps.specs.Seen.{FolderSeen}
+use Rattle.run_steps.specs.Seen.{FolderSeen, SinkSeen}
 use Rattle.run_steps.specs.Stores.{in_order, TellsFailure}
 use Rattle.run_steps.specs.declared.input.Input.{Input}
 use Rattle.run_steps.specs.declared.numbering.Numbering.{Numbering}
 use Rattle.run_steps.specs.declared.outputs.Outputs.{Outputs}
+use Rattle.run_steps.specs.declared.status.LimitKind.TheVariants.{Grid}
 use Rattle.run_steps.specs.declared.status.Status.{Status}
-use Rattle.run_steps.specs.declared.status.Status.TheVariants.{Usage, NoMemory}
+use Rattle.run_steps.specs.declared.status.Status.TheVariants.{Usage, Limit, NoMemory}
 use Rattle.tetgen_run.proofs.Endings.{NumbersPoints, Refuses}
 use Rattle.tetgen_run.proofs.Refusals.{IsRefusal, IsSilent, not_true}
 use Rattle.tetgen_run.proofs.Runs.{bound_silent, mesh_by, meshed_refuses, outputs_told}
-use Rattle.tetgen_run.specs.Ends.{StopsSo}
+use Rattle.tetgen_run.specs.Ends.{EndsWith, IsToldAs, StopsSo, answer_of}
 use Rattle.tetgen_run.specs.Stops.{stop_of_words}
 use Rattle.tetgen_run.specs.declared.stop.Stop.{Stop}
 use Rattle.tetgen_run.specs.declared.stop.Stop.TheVariants.{Refused, Unwritten, Unsummed, NoMemory as Wanting}
 use Rattle.tetfit_run.specs.Outputs.{FitWordsAnswer, IsFitUsage, IsFittedTo, MadeBy, OutputsOfFit, OutputsOfModel, OutputsOfOptions, fit_limits}
-use Rattle.tetfit_run.specs.Run.{IsAskedBy, IsMeshOfModel, IsNumbering, IsNumberingOf, IsUnfitted}
+use Rattle.tetfit_run.specs.Run.{IsAskedBy, IsKnown, IsKnownOf, IsMeshOfModel, IsNumbering, IsNumberingOf, IsUnfitted, TellsOffGrid}
 
 -- ---- answers
 
@@ -73,43 +77,87 @@ fit_refuses words folder = made_refuses (request_of words) words folder
 -- ---- numbers of points
 
 -- a status whose message prints no points has every numbering
-numbers_of : (options : Options) (folder : FolderSeen) → NumbersPoints (IsNumberingOf options folder)
-numbers_of options folder s by e = λ t. absurd (not_true (subst IsTrue e t))
+numbers_of : (options : Options) (folder : FolderSeen) (hint : List ℕ) → NumbersPoints (IsNumberingOf options folder hint)
+numbers_of options folder hint s by e = λ t. absurd (not_true (subst IsTrue e t))
 
-pub numbers_points : (words : List (List ℕ)) (folder : FolderSeen) → NumbersPoints (IsNumbering words folder)
+pub numbers_points : (words : List (List ℕ)) (folder : FolderSeen) (hint : List ℕ) → NumbersPoints (IsNumbering words folder hint)
 numbers_points words = numbers_of (options_of words)
 
-numbered : (folder : FolderSeen) (options : Options) (input : Input) (m : ℕ) (s : Status) (by : Option Numbering) → ModelAnswer fit_limits folder options (Ok input)
-    → IsFitted fit_limits options input m (Err s) → IsNumberedAt fit_limits options input m (record { status = s; numbering = by }) → IsNumberingOf options folder s by
-numbered folder options input m s None r f n = numbers_of options folder s None (bound_silent fit_limits (at_decimals m options) input s n)
-numbered folder options input m s (Some by) r f n = λ t. (input, r, m, f, n.0, n.1, ap Some n.3)
+numbered : (folder : FolderSeen) (options : Options) (input : Input) (hint : List ℕ) (m : ℕ) (s : Status) (by : Option Numbering) → ModelAnswer fit_limits folder options (Ok input)
+    → IsFitted fit_limits options input m (Err s) → IsNumbered fit_limits (at_decimals m options) input s by → IsHint fit_limits (at_decimals m options) input by s hint
+    → IsNumberingOf options folder hint s by
+numbered folder options input hint m s None r f n h = numbers_of options folder hint s None (bound_silent fit_limits (at_decimals m options) input s n)
+numbered folder options input hint m s (Some by) r f n h = λ t. (input, r, m, f, n.0, n.1, ap Some n.3, subst (λ q. IsHintBy fit_limits (at_decimals m options) input q s hint) n.3 h)
+
+-- a point that is off the grid
+off_grid : (folder : FolderSeen) (options : Options) (input : Input) (hint : List ℕ) (m : ℕ) (s : Status) (by : Option Numbering) → ModelAnswer fit_limits folder options (Ok input)
+    → IsHint fit_limits (at_decimals m options) input by s hint → TellsOffGrid options folder hint s
+off_grid folder options input hint m (Limit (Grid line)) None r h = inr (input, r, h)
+off_grid folder options input hint m (Limit (Grid line)) (Some by) r h = inl h
+off_grid folder options input hint m s by r h = tt
+
+-- nothing more is told yet
+none_off : (folder : FolderSeen) (options : Options) (hint : List ℕ) (s : Status) → hint ≡ [] → TellsOffGrid options folder hint s
+none_off folder options hint (Limit (Grid line)) e = inl e
+none_off folder options hint s e = tt
+
+-- the refusal of what is fitted, with what more is told of it
+pub unfitted_is : (options : Options) (input : Input) (limits other : Limits) (refused : Unfit) (hint : List ℕ) → limits ≡ fit_limits → other ≡ fit_limits → IsRefused limits options input refused
+    → IsHint other (at_decimals refused.decimals options) input refused.end.numbering refused.end.status hint → IsUnfitted options input hint (Refused refused.end.status refused.end.numbering)
+unfitted_is options input limits other refused hint e f r h =
+    let k = subst (λ l. IsRefused l options input refused) e r in
+    (refused.decimals, k.0, k.1, subst (λ l. IsHint l (at_decimals refused.decimals options) input refused.end.numbering refused.end.status hint) f h)
 
 -- where there is no model
-pub model_stops : (folder : FolderSeen) (options : Options) (s : Status) → ModelAnswer fit_limits folder options (Err s)
-    → StopsSo (OutputsOfOptions options folder) (IsNumberingOf options folder) (Refused s None)
-model_stops folder options s r = (inl r, numbers_of options folder s None (model_silent folder options s r))
+pub model_stops : (folder : FolderSeen) (options : Options) (hint : List ℕ) (s : Status) → hint ≡ [] → ModelAnswer fit_limits folder options (Err s)
+    → StopsSo (OutputsOfOptions options folder) (IsKnownOf options folder hint) (Refused s None)
+model_stops folder options hint s e r = (inl r, (numbers_of options folder hint s None (model_silent folder options s r), none_off folder options hint s e))
 
 -- where it has no mesh
-pub unfitted_stops : (folder : FolderSeen) (options : Options) (input : Input) (stop : Stop) → ModelAnswer fit_limits folder options (Ok input) → IsUnfitted options input stop
-    → StopsSo (OutputsOfOptions options folder) (IsNumberingOf options folder) stop
-unfitted_stops folder options input (Refused s by) r h = (inr (input, r, (h.0, h.1)), numbered folder options input h.0 s by r h.1 h.2)
-unfitted_stops folder options input (Unwritten text) r h = absurd h
-unfitted_stops folder options input Unsummed r h = absurd h
-unfitted_stops folder options input Wanting r h = tt
+pub unfitted_stops : (folder : FolderSeen) (options : Options) (input : Input) (hint : List ℕ) (stop : Stop) → ModelAnswer fit_limits folder options (Ok input) → IsUnfitted options input hint stop
+    → StopsSo (OutputsOfOptions options folder) (IsKnownOf options folder hint) stop
+unfitted_stops folder options input hint (Refused s by) r h =
+    (inr (input, r, (h.0, h.1)), (numbered folder options input hint h.0 s by r h.1 h.2 h.3, off_grid folder options input hint h.0 s by r h.3))
+unfitted_stops folder options input hint (Unwritten text) r h = absurd h
+unfitted_stops folder options input hint Unsummed r h = absurd h
+unfitted_stops folder options input hint Wanting r h = tt
 
 -- where the words are not understood
-pub usage_stops : (words : List (List ℕ)) (folder : FolderSeen) (answer : Result Options WordsFault) (f : WordsFault) → answer ≡ Err f
-    → ((word place : ℕ) → answer ≡ Err (Misunderstood word place) → fit_fault words ≡ Some (word, place)) → StopsSo (OutputsOfModel words folder) (IsNumbering words folder) (stop_of_words f)
-usage_stops words folder answer (Misunderstood word place) e usage = (inl (usage word place e), numbers_points words folder (Usage word place) None refl)
-usage_stops words folder answer WordsWanting e usage = tt
+pub usage_stops : (words : List (List ℕ)) (folder : FolderSeen) (hint : List ℕ) (answer : Result Options WordsFault) (f : WordsFault) → answer ≡ Err f
+    → ((word place : ℕ) → answer ≡ Err (Misunderstood word place) → fit_fault words ≡ Some (word, place)) → StopsSo (OutputsOfModel words folder) (IsKnown words folder hint) (stop_of_words f)
+usage_stops words folder hint answer (Misunderstood word place) e usage = (inl (usage word place e), (numbers_points words folder hint (Usage word place) None refl, tt))
+usage_stops words folder hint answer WordsWanting e usage = tt
 
 -- where they are
-pub options_stop : (words : List (List ℕ)) (folder : FolderSeen) (options : Options) (stop : Stop) → FitWordsAnswer words (Ok options)
-    → StopsSo (OutputsOfOptions options folder) (IsNumberingOf options folder) stop → StopsSo (OutputsOfModel words folder) (IsNumbering words folder) stop
-options_stop words folder options (Refused s by) w h = (inr (options, w, h.0), subst (λ o. IsNumberingOf o folder s by) w.1 h.1)
-options_stop words folder options (Unwritten text) w h = absurd h
-options_stop words folder options Unsummed w h = absurd h
-options_stop words folder options Wanting w h = tt
+pub options_stop : (words : List (List ℕ)) (folder : FolderSeen) (hint : List ℕ) (options : Options) (stop : Stop) → FitWordsAnswer words (Ok options)
+    → StopsSo (OutputsOfOptions options folder) (IsKnownOf options folder hint) stop → StopsSo (OutputsOfModel words folder) (IsKnown words folder hint) stop
+options_stop words folder hint options (Refused s by) w h = (inr (options, w, h.0), subst (λ o. IsKnownOf o folder hint s by) w.1 h.1)
+options_stop words folder hint options (Unwritten text) w h = absurd h
+options_stop words folder hint options Unsummed w h = absurd h
+options_stop words folder hint options Wanting w h = tt
+
+-- ---- what is told
+
+-- what is known of the numbers
+pub ends_numbered : (Made : Result Outputs Status → Type 0) (words : List (List ℕ)) (folder : FolderSeen) (hint : List ℕ) (out : SinkSeen) (stop : Stop)
+    → EndsWith Made (IsKnown words folder hint) folder out (Err stop) → EndsWith Made (IsNumbering words folder hint) folder out (Err stop)
+ends_numbered Made words folder hint out (Refused s by) h = (h.0, h.1, h.2.0)
+ends_numbered Made words folder hint out (Unwritten text) h = h
+ends_numbered Made words folder hint out Unsummed h = h
+ends_numbered Made words folder hint out Wanting h = h
+
+stop_off : (Made : Result Outputs Status → Type 0) (words : List (List ℕ)) (folder : FolderSeen) (hint : List ℕ) (out : SinkSeen) (stop : Stop)
+    → EndsWith Made (IsKnown words folder hint) folder out (Err stop) → TellsOffGrid (options_of words) folder hint (answer_of (Err stop))
+stop_off Made words folder hint out (Refused s by) h = h.2.1
+stop_off Made words folder hint out (Unwritten text) h = tt
+stop_off Made words folder hint out Unsummed h = tt
+stop_off Made words folder hint out Wanting h = tt
+
+-- and of a point off the grid
+pub told_off : (Made : Result Outputs Status → Type 0) (message : Option Numbering → Status → List ℕ) (words : List (List ℕ)) (folder : FolderSeen) (hint : List ℕ) (out err : SinkSeen) (stop : Stop) (s : Status)
+    → EndsWith Made (IsKnown words folder hint) folder out (Err stop) → IsToldAs message stop err s → TellsOffGrid (options_of words) folder hint s
+told_off Made message words folder hint out err stop s h (inl told) = subst (TellsOffGrid (options_of words) folder hint) (sym told.0) (stop_off Made words folder hint out stop h)
+told_off Made message words folder hint out err stop s h (inr told) = subst (TellsOffGrid (options_of words) folder hint) (sym told.0) tt
 
 pub options_made : (words : List (List ℕ)) (folder : FolderSeen) (options : Options) (outputs : Outputs) → FitWordsAnswer words (Ok options) → OutputsOfOptions options folder (Ok outputs)
     → OutputsOfModel words folder (Ok outputs)

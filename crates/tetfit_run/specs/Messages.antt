@@ -1,5 +1,5 @@
 -- The lines that each refusal is told in.
-use Rattle.std.specs.Prelude.{ℕ, List, [], ◌++◌, drop, codes, Option}
+use Rattle.std.specs.Prelude.{ℕ, Bool, true, false, List, [], ◌++◌, drop, codes, Option, if◌then◌else◌}
 use Rattle.fit_words.specs.Texts.{refused_line}
 use Rattle.run_steps.specs.Messages.{message_of}
 use Rattle.run_steps.specs.declared.numbering.Numbering.{Numbering}
@@ -25,7 +25,7 @@ help_of (Limit what) = help_of_limit what
 help_of Flat = codes "tetfit: four points that are not in one plane are wanted\n"
 help_of (NotFlat facet four) = codes "tetfit: cut the facet in triangles\n"
 help_of (SegmentsCross one two) = codes "tetfit: give both segments the point at which they cross\n"
-help_of (Crossing one two) = codes "tetfit: give both parts the points in which they meet, and one of two equal ones away\n"
+help_of (Crossing one two) = codes "tetfit: give both parts the points in which they meet, or drop one of equal ones\n"
 help_of (GridEnd piece) = codes "tetfit: move apart what is near the segment, or turn sharp corners wider\n"
 help_of (BudgetEnd made piece) = codes "tetfit: allow more added points by -S\n"
 help_of (NoFill anomaly) = codes "tetfit: move the points of these facets apart\n"
@@ -36,6 +36,18 @@ abbrev pub line_of : List (List ℕ) → Option Numbering → Status → List �
 line_of words by (Usage word place) = refused_line words word place
 line_of words by status = renamed (message_of by status)
 
--- the message of a refusal, where these are the words without those that ask for the stages
-abbrev pub fit_message : List (List ℕ) → Option Numbering → Status → List ℕ
-fit_message words by status = line_of words by status ++ help_of status
+-- more is told of the model: a segment or parts of it, or a point that is off the grid
+abbrev pub has_hint : Status → Bool
+has_hint (Limit (Grid line)) = true
+has_hint (SegmentsCross one two) = true
+has_hint (Crossing one two) = true
+has_hint (GridEnd piece) = true
+has_hint (BudgetEnd made piece) = true
+has_hint status = false
+
+abbrev pub hint_in : List ℕ → Status → List ℕ
+hint_in hint status = if has_hint status then hint else []
+
+-- the message of a refusal, where these are the words without those that ask for the stages, and this is what more is told
+abbrev pub fit_message : List (List ℕ) → List ℕ → Option Numbering → Status → List ℕ
+fit_message words hint by status = line_of words by status ++ hint_in hint status ++ help_of status

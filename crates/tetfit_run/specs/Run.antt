@@ -1,9 +1,10 @@
 -- What a run of the program answers, leaves and tells.
-use Rattle.std.specs.Prelude.{◌≡◌, ◌≢◌, ℕ, IsTrue, false, List, Option, Some, None, Ok, Err}
+use Rattle.std.specs.Prelude.{◌≡◌, ◌≢◌, ◌⊎◌, ℕ, IsTrue, false, List, [], Option, Some, None, Ok, Err}
 use Rattle.command_words.specs.Meaning.{options_of}
 use Rattle.command_words.specs.declared.options.Options.{Options}
+use Rattle.fit_steps.specs.Hints.{IsHint, IsHintBy, size_line}
 use Rattle.fit_steps.specs.Models.{ModelAnswer}
-use Rattle.fit_steps.specs.Trying.{IsFitted, IsNumberedAt, at_decimals}
+use Rattle.fit_steps.specs.Trying.{IsFitted, IsNumbered, at_decimals}
 use Rattle.fit_words.specs.Words.{asks_stages, fit_fault, others, request_of}
 use Rattle.fit_words.specs.declared.page.TheConstants.{PAGE, VERSION}
 use Rattle.fit_words.specs.declared.request.Request.{Request}
@@ -16,8 +17,9 @@ use Rattle.run_steps.specs.declared.input.Input.{Input}
 use Rattle.run_steps.specs.declared.mesh.Bound.{Bound}
 use Rattle.run_steps.specs.declared.numbering.Numbering.{Numbering}
 use Rattle.run_steps.specs.declared.outputs.Outputs.{Outputs}
+use Rattle.run_steps.specs.declared.status.LimitKind.TheVariants.{Grid}
 use Rattle.run_steps.specs.declared.status.Status.{Status}
-use Rattle.run_steps.specs.declared.status.Status.TheVariants.{NoMemory}
+use Rattle.run_steps.specs.declared.status.Status.TheVariants.{Limit, NoMemory}
 use Rattle.tet_ports.specs.Files.{Files}
 use Rattle.tet_ports.specs.Written.{with_piece}
 use Rattle.tetgen_run.specs.Ends.{AnswersBy, HasNoFault, LeavesBy, TellsBy, names_points}
@@ -63,25 +65,41 @@ IsLeft words folder = LeavesBy (IsAskedBy (request_of words) words folder) folde
 
 -- ---- what is told
 
--- why an input that is fitted has no outputs
-abbrev pub IsUnfitted : Options → Input → Stop → Type 0
-IsUnfitted options input (Refused status by) =
+-- why an input that is fitted has no outputs, and what more is told of it
+abbrev pub IsUnfitted : Options → Input → List ℕ → Stop → Type 0
+IsUnfitted options input hint (Refused status by) =
     (m : ℕ) × IsFitted fit_limits options input m (Err status)
-    × IsNumberedAt fit_limits options input m (record { status = status; numbering = by })
-IsUnfitted options input Wanting = Unit {0}
-IsUnfitted options input stop = ⊥
+    × IsNumbered fit_limits (at_decimals m options) input status by
+    × IsHint fit_limits (at_decimals m options) input by status hint
+IsUnfitted options input hint Wanting = Unit {0}
+IsUnfitted options input hint stop = ⊥
 
--- where the message of the status prints points, these are their numbers: those of the points of the model at those decimals
-abbrev pub IsNumberingOf : Options → FolderSeen → Status → Option Numbering → Type 0
-IsNumberingOf options folder status by =
+-- Where the message of the status prints points, these are their numbers: those of the points of the model at those decimals. And this is
+-- what more is told then: the segment of the model, or the coordinates of the parts
+abbrev pub IsNumberingOf : Options → FolderSeen → List ℕ → Status → Option Numbering → Type 0
+IsNumberingOf options folder hint status by =
     IsTrue (names_points status)
     → (input : Input) × ModelAnswer fit_limits folder options (Ok input)
     × (m : ℕ) × IsFitted fit_limits options input m (Err status)
     × (bound : Bound) × BoundAnswer fit_limits (at_decimals m options) input (Ok bound)
     × (by ≡ Some (numbering_of bound.table))
+    × IsHintBy fit_limits (at_decimals m options) input (numbering_of bound.table) status hint
 
-abbrev pub IsNumbering : List (List ℕ) → FolderSeen → Status → Option Numbering → Type 0
+abbrev pub IsNumbering : List (List ℕ) → FolderSeen → List ℕ → Status → Option Numbering → Type 0
 IsNumbering words = IsNumberingOf (options_of words)
+
+-- what more is told of a point off the grid is its coordinates, if anything
+abbrev pub TellsOffGrid : Options → FolderSeen → List ℕ → Status → Type 0
+TellsOffGrid options folder hint (Limit (Grid line)) =
+    (hint ≡ []) ⊎ ((input : Input) × ModelAnswer fit_limits folder options (Ok input) × (hint ≡ size_line input.nodes.decimals line))
+TellsOffGrid options folder hint status = Unit {0}
+
+-- both
+abbrev pub IsKnownOf : Options → FolderSeen → List ℕ → Status → Option Numbering → Type 0
+IsKnownOf options folder hint status by = IsNumberingOf options folder hint status by × TellsOffGrid options folder hint status
+
+abbrev pub IsKnown : List (List ℕ) → FolderSeen → List ℕ → Status → Option Numbering → Type 0
+IsKnown words = IsKnownOf (options_of words)
 
 -- the sink once the stages are said, which it may not be, with what it had and lines behind it
 abbrev pub after_stages : SinkSeen → Option (List ℕ) → SinkSeen
@@ -97,4 +115,5 @@ pub record AreStages (words : List (List ℕ)) (before now : Option (List ℕ)) 
 abbrev pub IsTold : List (List ℕ) → FolderSeen → SinkSeen → Status → Type 0
 IsTold words folder err status =
     (written : Option (List ℕ)) × AreStages words err.written_before written
-    × TellsBy (fit_message (others words)) (IsNumbering (others words) folder) (after_stages err written) status
+    × (hint : List ℕ) × TellsOffGrid (options_of (others words)) folder hint status
+    × TellsBy (fit_message (others words) hint) (IsNumbering (others words) folder hint) (after_stages err written) status

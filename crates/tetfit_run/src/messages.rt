@@ -1,10 +1,11 @@
 //! The lines that each refusal is told in.
 
-ghost use Rattle.std.specs.Prelude.{◌≡◌, ◌++◌, IfOk, drop};
+ghost use Rattle.std.specs.Prelude.{◌≡◌, ◌++◌, IfOk, OnOk, drop};
 ghost use Rattle.run_steps.specs.Seen.{sink_seen};
 ghost use Rattle.fit_words.specs.Words.{others};
 ghost use Rattle.tetgen_run.specs.Ends.{IsPut, IsTellable, IsToldAs};
-ghost use Rattle.tetfit_run.specs.Messages.{fit_message, help_of, help_of_limit, line_of, renamed};
+ghost use Rattle.tetfit_run.specs.Messages.{fit_message, has_hint, help_of, help_of_limit, hint_in};
+ghost use Rattle.tetfit_run.specs.Messages.{line_of, renamed};
 
 use fit_words::{other_words, refused_line};
 use run_steps::{LimitKind, Numbering, Status, message};
@@ -53,7 +54,7 @@ fn help_of(status: &Status) -> &'static [u8]
             b"tetfit: give both segments the point at which they cross\n"
         }
         Status::Crossing { one: _, two: _ } => {
-            b"tetfit: give both parts the points in which they meet, and one of two equal ones away\n"
+            b"tetfit: give both parts the points in which they meet, or drop one of equal ones\n"
         }
         Status::GridEnd { piece: _ } => {
             b"tetfit: move apart what is near the segment, or turn sharp corners wider\n"
@@ -101,16 +102,45 @@ fn line_of(
     }
 }
 
-/// The message of a refusal.
+/// Whether more is told of the model: a segment or parts of it, or a point that is off the grid.
+fn has_hint(status: &Status) -> bool
+    ensures { result ≡ has_hint status.now }
+{
+    match status {
+        Status::Limit {
+            what: LimitKind::Grid { line: _ },
+        } => true,
+        Status::SegmentsCross { one: _, two: _ } => true,
+        Status::Crossing { one: _, two: _ } => true,
+        Status::GridEnd { piece: _ } => true,
+        Status::BudgetEnd { made: _, piece: _ } => true,
+        _ => false,
+    }
+}
+
+/// Appends what more is told of the model.
+fn append_hint(line: &mut Bytes, hint: &[u8], status: &Status) -> Result<(), NoMemory>
+    ensures { OnOk result (line.new ≡ line.old ++ hint_in hint.now status.now) }
+{
+    if has_hint(status) {
+        line.append(hint)?;
+    }
+    Ok(())
+}
+
+/// The message of a refusal, with what more is told of the model.
 fn fit_message(
     alloc: Global,
     words: &Words,
+    hint: &[u8],
     by: &Option<Numbering>,
     status: &Status,
 ) -> Result<Bytes, NoMemory>
-    ensures { IfOk result (λ line. line ≡ fit_message (others words.now) by.now status.now) }
+    ensures { IfOk result
+        (λ line. line ≡ fit_message (others words.now) hint.now by.now status.now) }
 {
     let mut line = line_of(alloc, words, by, status)?;
+    append_hint(&mut line, hint, status)?;
     line.append(help_of(status))?;
     Ok(line)
 }
@@ -133,16 +163,22 @@ fn put_renamed<E: Sink>(line: &[u8], err: &mut E)
     }
 }
 
-/// Puts the message of a stop, and answers its status. Where there is no memory for the message,
-/// the answer is want of memory.
-pub(crate) fn tell<E: Sink>(alloc: Global, words: &Words, stop: Stop, err: &mut E) -> Status
+/// Puts the message of a stop, with what more is told, and answers its status. Where there is no
+/// memory for the message, the answer is want of memory.
+pub(crate) fn tell<E: Sink>(
+    alloc: Global,
+    words: &Words,
+    hint: &[u8],
+    stop: Stop,
+    err: &mut E,
+) -> Status
     requires { IsTellable stop }
-    ensures { IsToldAs (fit_message (others words.now)) stop
+    ensures { IsToldAs (fit_message (others words.now) hint.now) stop
         (sink_seen E.written E.faults E.wants err.old err.new) result }
 {
     match stop {
         Stop::Refused { status, numbering } => {
-            match fit_message(alloc, words, &numbering, &status) {
+            match fit_message(alloc, words, hint, &numbering, &status) {
                 Ok(line) => {
                     put(line.as_slice(), err);
                     status

@@ -1,6 +1,6 @@
 //! What the words ask for.
 
-ghost use Rattle.std.specs.Prelude.{◌≡◌, ◌≤◌, ◌-◌, IfOk, IfErr, Ok, length, take};
+ghost use Rattle.std.specs.Prelude.{◌≡◌, ◌≤◌, ◌-◌, [], IfOk, IfErr, Ok, length, take};
 ghost use Rattle.command_words.specs.Meaning.{AreInRange};
 ghost use Rattle.fit_words.specs.Words.{IsPlain, others, request_of};
 ghost use Rattle.run_steps.specs.Reading.{IsSound};
@@ -8,11 +8,11 @@ ghost use Rattle.run_steps.specs.Seen.{folder_seen};
 ghost use Rattle.tetgen_run.specs.Ends.{StopsSo};
 ghost use Rattle.tetfit_run.specs.Outputs.{IsFittedTo, MadeBy, OutputsOfFit, OutputsOfModel};
 ghost use Rattle.tetfit_run.specs.Outputs.{OutputsOfOptions, Says, outputs_at, said, with_decimals};
-ghost use Rattle.tetfit_run.specs.Run.{IsNumbering, IsNumberingOf, IsUnfitted};
+ghost use Rattle.tetfit_run.specs.Run.{IsKnown, IsKnownOf, IsUnfitted};
 
 use crate::limits::fit_limits;
 use command_words::Options;
-use fit_steps::{Fitted, Unfitted, fit_input, read_model};
+use fit_steps::{Fitted, Unfitted, fit_input, hint_of, read_model};
 use fit_words::{PAGE, Request, VERSION, other_words, read_options, request_of};
 use run_steps::{Input, Outputs, Texts, append_number};
 use std::alloc::Global;
@@ -62,17 +62,27 @@ fn outputs_at(alloc: Global, fitted: Fitted) -> Result<Outputs, NoMemory>
     Ok(Outputs { texts, summary })
 }
 
-/// The outputs of an input with the most decimals that the grid does not refuse.
-fn fitted_outputs(alloc: Global, options: &Options, input: &Input) -> Result<Outputs, Stop>
+/// The outputs of an input with the most decimals that the grid does not refuse, or what more is
+/// told of its refusal.
+fn fitted_outputs(
+    alloc: Global,
+    options: &Options,
+    input: &Input,
+    hint: &mut Bytes,
+) -> Result<Outputs, Stop>
     requires input { IsSound input.now }
     requires ranges { AreInRange options.now }
     ensures made { IfOk result
         (λ outputs. IsFittedTo options.now input.now (Ok outputs)) }
-    ensures stopped { IfErr result (IsUnfitted options.now input.now) }
+    ensures stopped { IfErr result (IsUnfitted options.now input.now hint.new) }
 {
     match fit_input(alloc, fit_limits(), options, input) {
         Ok(fitted) => Ok(outputs_at(alloc, fitted)?),
-        Err(Unfitted { status, numbering }) => Err(Stop::Refused { status, numbering }),
+        Err(refused) => {
+            *hint = hint_of(alloc, fit_limits(), options, input, &refused)?;
+            let Unfitted { status, numbering } = refused.end;
+            Err(Stop::Refused { status, numbering })
+        }
     }
 }
 
@@ -81,22 +91,24 @@ fn outputs_of_options<F: Folder>(
     alloc: Global,
     options: &Options,
     folder: &mut F,
+    hint: &mut Bytes,
 ) -> Result<Outputs, Stop>
     requires ranges { AreInRange options.now }
     requires plain { IsPlain options.now }
+    requires none { hint.old ≡ [] }
     ensures made { IfOk result (λ outputs. OutputsOfOptions options.now
         (folder_seen F.held F.faults F.misses folder.old folder.new) (Ok outputs)) }
     ensures stopped { IfErr result (StopsSo
         (OutputsOfOptions options.now
         (folder_seen F.held F.faults F.misses folder.old folder.new))
-        (IsNumberingOf options.now
-        (folder_seen F.held F.faults F.misses folder.old folder.new))) }
+        (IsKnownOf options.now
+        (folder_seen F.held F.faults F.misses folder.old folder.new) hint.new)) }
     ensures unchanged { F.held folder.new ≡ F.held folder.old }
     ensures faults { F.faults folder.old ≤ F.faults folder.new }
     ensures misses { F.misses folder.old ≤ F.misses folder.new }
 {
     let input = read_model(alloc, fit_limits(), options, folder)?;
-    fitted_outputs(alloc, options, &input)
+    fitted_outputs(alloc, options, &input, hint)
 }
 
 /// The outputs of the model that these words name, among which none asks for the stages.
@@ -104,20 +116,22 @@ fn outputs_of_words<F: Folder>(
     alloc: Global,
     words: &Words,
     folder: &mut F,
+    hint: &mut Bytes,
 ) -> Result<Outputs, Stop>
+    requires { hint.old ≡ [] }
     ensures made { IfOk result (λ outputs. OutputsOfModel words.now
         (folder_seen F.held F.faults F.misses folder.old folder.new) (Ok outputs)) }
     ensures stopped { IfErr result (StopsSo
         (OutputsOfModel words.now
         (folder_seen F.held F.faults F.misses folder.old folder.new))
-        (IsNumbering words.now
-        (folder_seen F.held F.faults F.misses folder.old folder.new))) }
+        (IsKnown words.now
+        (folder_seen F.held F.faults F.misses folder.old folder.new) hint.new)) }
     ensures unchanged { F.held folder.new ≡ F.held folder.old }
     ensures faults { F.faults folder.old ≤ F.faults folder.new }
     ensures misses { F.misses folder.old ≤ F.misses folder.new }
 {
     let options = read_options(alloc, words)?;
-    outputs_of_options(alloc, &options, folder)
+    outputs_of_options(alloc, &options, folder, hint)
 }
 
 /// The outputs of the model that the words name.
@@ -125,20 +139,22 @@ fn outputs_of_model<F: Folder>(
     alloc: Global,
     words: &Words,
     folder: &mut F,
+    hint: &mut Bytes,
 ) -> Result<Outputs, Stop>
+    requires { hint.old ≡ [] }
     ensures made { IfOk result (λ outputs. OutputsOfModel (others words.now)
         (folder_seen F.held F.faults F.misses folder.old folder.new) (Ok outputs)) }
     ensures stopped { IfErr result (StopsSo
         (OutputsOfModel (others words.now)
         (folder_seen F.held F.faults F.misses folder.old folder.new))
-        (IsNumbering (others words.now)
-        (folder_seen F.held F.faults F.misses folder.old folder.new))) }
+        (IsKnown (others words.now)
+        (folder_seen F.held F.faults F.misses folder.old folder.new) hint.new)) }
     ensures unchanged { F.held folder.new ≡ F.held folder.old }
     ensures faults { F.faults folder.old ≤ F.faults folder.new }
     ensures misses { F.misses folder.old ≤ F.misses folder.new }
 {
     let plain = other_words(alloc, words)?;
-    outputs_of_words(alloc, &plain, folder)
+    outputs_of_words(alloc, &plain, folder, hint)
 }
 
 /// The outputs that the words ask for: the page, the version, or those of the model that they name.
@@ -146,13 +162,15 @@ pub(crate) fn outputs_of<F: Folder>(
     alloc: Global,
     words: &Words,
     folder: &mut F,
+    hint: &mut Bytes,
 ) -> Result<Outputs, Stop>
+    requires { hint.old ≡ [] }
     ensures made { IfOk result (λ outputs. OutputsOfFit words.now
         (folder_seen F.held F.faults F.misses folder.old folder.new) (Ok outputs)) }
     ensures stopped { IfErr result (StopsSo
         (OutputsOfFit words.now (folder_seen F.held F.faults F.misses folder.old folder.new))
-        (IsNumbering (others words.now)
-        (folder_seen F.held F.faults F.misses folder.old folder.new))) }
+        (IsKnown (others words.now)
+        (folder_seen F.held F.faults F.misses folder.old folder.new) hint.new)) }
     ensures unchanged { F.held folder.new ≡ F.held folder.old }
     ensures faults { F.faults folder.old ≤ F.faults folder.new }
     ensures misses { F.misses folder.old ≤ F.misses folder.new }
@@ -160,6 +178,6 @@ pub(crate) fn outputs_of<F: Folder>(
     match request_of(words) {
         Request::Page => Ok(said(alloc, PAGE)?),
         Request::Version => Ok(said(alloc, VERSION)?),
-        Request::Mesh => outputs_of_model(alloc, words, folder),
+        Request::Mesh => outputs_of_model(alloc, words, folder, hint),
     }
 }

@@ -1,18 +1,18 @@
 //! The run of the program: from its words to the files of a mesh.
 
-ghost use Rattle.std.specs.Prelude.{◌≡◌, ◌≤◌};
+ghost use Rattle.std.specs.Prelude.{◌≡◌, ◌≤◌, []};
 ghost use Rattle.fit_words.specs.Words.{others};
 ghost use Rattle.run_steps.specs.Seen.{folder_seen, sink_seen};
 ghost use Rattle.tetgen_run.specs.Ends.{EndsWith};
 ghost use Rattle.tetfit_run.specs.Outputs.{OutputsOfFit};
-ghost use Rattle.tetfit_run.specs.Run.{AreStages, IsAnswer, IsComplete, IsLeft, IsNumbering, IsTold};
+ghost use Rattle.tetfit_run.specs.Run.{AreStages, IsAnswer, IsComplete, IsKnown, IsLeft, IsTold};
 
 use crate::messages::tell;
 use crate::outputs::outputs_of;
 use crate::stages::say;
 use run_steps::Status;
 use std::alloc::Global;
-use tet_ports::{Folder, Sink, Words};
+use tet_ports::{Bytes, Folder, Sink, Words};
 use tetgen_run::{Stop, finish};
 
 /// Meshes the model that the words name, with the most decimals at which the grid does not refuse
@@ -41,24 +41,27 @@ pub fn run_fit<F: Folder, O: Sink, E: Sink>(
         (folder_seen F.held F.faults F.misses folder.old folder.new)
         (sink_seen E.written E.faults E.wants err.old err.new) result }
 {
-    match run(alloc, words, folder, out, err) {
+    let mut hint = Bytes::new(alloc);
+    match run(alloc, words, folder, out, err, &mut hint) {
         Ok(()) => Status::Done,
-        Err(stop) => tell(alloc, words, stop, err),
+        Err(stop) => tell(alloc, words, hint.as_slice(), stop, err),
     }
 }
 
-/// The run without its message.
+/// The run without its message, and what more is told in that.
 fn run<F: Folder, O: Sink, E: Sink>(
     alloc: Global,
     words: &Words,
     folder: &mut F,
     out: &mut O,
     err: &mut E,
+    hint: &mut Bytes,
 ) -> Result<(), Stop>
+    requires { hint.old ≡ [] }
     ensures ends { EndsWith
         (OutputsOfFit words.now (folder_seen F.held F.faults F.misses folder.old folder.new))
-        (IsNumbering (others words.now)
-        (folder_seen F.held F.faults F.misses folder.old folder.new))
+        (IsKnown (others words.now)
+        (folder_seen F.held F.faults F.misses folder.old folder.new) hint.new)
         (folder_seen F.held F.faults F.misses folder.old folder.new)
         (sink_seen O.written O.faults O.wants out.old out.new) result }
     ensures stages { AreStages words.now (E.written err.old) (E.written err.new) }
@@ -66,7 +69,7 @@ fn run<F: Folder, O: Sink, E: Sink>(
     ensures wants { E.wants err.old ≤ E.wants err.new }
 {
     say(words, b"tetfit: reads and meshes the model\n", err);
-    let outputs = outputs_of(alloc, words, folder)?;
+    let outputs = outputs_of(alloc, words, folder, hint)?;
     say(words, b"tetfit: stores the files\n", err);
     finish(alloc, outputs, folder, out)
 }

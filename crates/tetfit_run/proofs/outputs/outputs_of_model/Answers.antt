@@ -3,7 +3,7 @@ use Rattle.std.specs.Prelude.{IfOk, IfErr}
 use Rattle.run_steps.specs.Seen.{FolderSeen, folder_seen}
 use Rattle.tetgen_run.specs.Ends.{StopsSo}
 use Rattle.tetfit_run.specs.Outputs.{OutputsOfModel}
-use Rattle.tetfit_run.specs.Run.{IsNumbering}
+use Rattle.tetfit_run.specs.Run.{IsKnown}
 use Rattle.tetfit_run.proofs.outputs.outputs_of_model.Goals as goal
 
 pub returns-clause-made : goal.returns-clause-made
@@ -16,4 +16,4 @@ pub returns-clause-stopped : goal.returns-clause-stopped
 returns-clause-stopped g c =
     let F = g.F.Folder in
     let folder : FolderSeen = folder_seen F.held F.faults F.misses c.args.folder.now c.outputs_of_words.new.folder in
-    subst (λ plain. IfErr c.outputs_of_words.result (StopsSo (OutputsOfModel plain folder) (IsNumbering plain folder))) c.in_ok-plain.ensures c.outputs_of_words.ensures.stopped
+    subst (λ plain. IfErr c.outputs_of_words.result (StopsSo (OutputsOfModel plain folder) (IsKnown plain folder c.outputs_of_words.new.hint))) c.in_ok-plain.ensures c.outputs_of_words.ensures.stopped

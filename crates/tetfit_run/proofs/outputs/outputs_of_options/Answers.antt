@@ -4,7 +4,7 @@ use Rattle.fit_steps.specs.Models.{ModelAnswer}
 use Rattle.run_steps.specs.Seen.{FolderSeen, folder_seen}
 use Rattle.tetgen_run.specs.Ends.{StopsSo}
 use Rattle.tetfit_run.specs.Outputs.{OutputsOfOptions}
-use Rattle.tetfit_run.specs.Run.{IsNumberingOf, IsUnfitted}
+use Rattle.tetfit_run.specs.Run.{IsKnownOf, IsUnfitted}
 use Rattle.tetfit_run.proofs.Fitted.{err_to, model_stops, unfitted_stops}
 use Rattle.tetfit_run.proofs.outputs.outputs_of_options.Goals as goal
 
@@ -15,7 +15,7 @@ returns-in_err-input-clause-stopped g c =
     let options = c.args.options.now in
     let status = c.in_err-input.field-0.0 in
     let p = err_from_is_err_and c.from_residual.result c.from_residual.ensures.1 in
-    rw (p.1, p.2) (model_stops folder options status (subst (λ limits. ModelAnswer limits folder options (Err status)) c.fit_limits.ensures.values c.in_err-input.ensures.answer))
+    rw (p.1, p.2) (model_stops folder options c.args.hint.now status c.requires.none (subst (λ limits. ModelAnswer limits folder options (Err status)) c.fit_limits.ensures.values c.in_err-input.ensures.answer))
 
 pub returns-clause-stopped : goal.returns-clause-stopped
 returns-clause-stopped g c =
@@ -23,6 +23,7 @@ returns-clause-stopped g c =
     let folder : FolderSeen = folder_seen F.held F.faults F.misses c.args.folder.now c.read_model.new.folder in
     let options = c.args.options.now in
     let input = c.in_ok-input.input in
+    let hint = c.fitted_outputs.new.hint in
     let read = subst (λ limits. ModelAnswer limits folder options (Ok input)) c.fit_limits.ensures.values c.in_ok-input.ensures.answer in
-    err_to c.fitted_outputs.result (IsUnfitted options input) (StopsSo (OutputsOfOptions options folder) (IsNumberingOf options folder)) (λ stop. unfitted_stops folder options input stop read)
+    err_to c.fitted_outputs.result (IsUnfitted options input hint) (StopsSo (OutputsOfOptions options folder) (IsKnownOf options folder hint)) (λ stop. unfitted_stops folder options input hint stop read)
     c.fitted_outputs.ensures.stopped

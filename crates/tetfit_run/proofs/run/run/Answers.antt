@@ -4,7 +4,7 @@ use Rattle.run_steps.proofs.Wider.{IsWithin}
 use Rattle.run_steps.specs.Seen.{FolderSeen, SinkSeen, folder_seen, sink_seen}
 use Rattle.tetgen_run.proofs.Endings.{finish_ends}
 use Rattle.tetfit_run.specs.Outputs.{OutputsOfFit}
-use Rattle.tetfit_run.specs.Run.{IsNumbering}
+use Rattle.tetfit_run.specs.Run.{IsKnown}
 use Rattle.tetfit_run.proofs.Fitted.{fit_told, fit_wider}
 use Rattle.tetfit_run.proofs.Pieces.{stages_after}
 use Rattle.tetfit_run.proofs.run.run.Goals as goal
@@ -29,7 +29,7 @@ returns-clause-ends g c =
     let outputs = c.in_ok-outputs.outputs in
     let made = fit_wider words part folder within (Ok outputs) c.in_ok-outputs.ensures.made in
     let out : SinkSeen = sink_seen O.written O.faults O.wants c.args.out.now c.finish.new.out in
-    finish_ends (OutputsOfFit words folder) (IsNumbering (others words) folder) outputs stored folder out c.finish.result made (fit_told words folder outputs made) a.unchanged refl a.faults refl b.finish
+    finish_ends (OutputsOfFit words folder) (IsKnown (others words) folder c.outputs_of.new.hint) outputs stored folder out c.finish.result made (fit_told words folder outputs made) a.unchanged refl a.faults refl b.finish
 
 pub returns-clause-stages : goal.returns-clause-stages
 returns-clause-stages g c =

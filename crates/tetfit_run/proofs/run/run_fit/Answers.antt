@@ -3,12 +3,12 @@ use Rattle.fit_words.specs.Words.{others, request_of}
 use Rattle.run_steps.specs.Seen.{FolderSeen, SinkSeen, folder_seen, sink_seen}
 use Rattle.run_steps.specs.declared.status.Status.TheVariants.{Done}
 use Rattle.tetgen_run.proofs.Endings.{end_answers, end_leaves, stop_answers, stop_leaves, stop_tells}
-use Rattle.tetgen_run.specs.Ends.{EndsWith}
+use Rattle.tetgen_run.specs.Ends.{EndsWith, IsToldAs}
 use Rattle.tetfit_run.specs.Messages.{fit_message}
 use Rattle.tetfit_run.specs.Outputs.{OutputsOfFit}
-use Rattle.tetfit_run.specs.Run.{IsAskedBy, IsNumbering, after_stages}
+use Rattle.tetfit_run.specs.Run.{IsAskedBy, IsKnown, IsNumbering, after_stages}
 use Rattle.tetfit_run.proofs.Complete.{answer_complete}
-use Rattle.tetfit_run.proofs.Fitted.{fit_asked, fit_refuses, numbers_points}
+use Rattle.tetfit_run.proofs.Fitted.{ends_numbered, fit_asked, fit_refuses, numbers_points, told_off}
 use Rattle.tetfit_run.proofs.Pieces.{told_earlier}
 use Rattle.tetfit_run.proofs.run.run_fit.Goals as goal
 
@@ -20,7 +20,8 @@ returns-in-Ok-clause-complete g c =
     let folder : FolderSeen = folder_seen F.held F.faults F.misses c.args.folder.now c.run.new.folder in
     let out : SinkSeen = sink_seen O.written O.faults O.wants c.args.out.now c.run.new.out in
     let made = OutputsOfFit words folder in
-    let numbered = IsNumbering (others words) folder in
+    let hint = c.run.new.hint in
+    let numbered = IsKnown (others words) folder hint in
     let ended = subst (EndsWith made numbered folder out) c.in-Ok.is c.run.ensures.ends in
     answer_complete words folder out Done (end_answers made numbered (fit_refuses words folder) folder out (Ok c.in-Ok.field-0) ended)
 
@@ -32,12 +33,13 @@ returns-in-Ok-clause-left g c =
     let folder : FolderSeen = folder_seen F.held F.faults F.misses c.args.folder.now c.run.new.folder in
     let out : SinkSeen = sink_seen O.written O.faults O.wants c.args.out.now c.run.new.out in
     let made = OutputsOfFit words folder in
-    let numbered = IsNumbering (others words) folder in
+    let hint = c.run.new.hint in
+    let numbered = IsKnown (others words) folder hint in
     let ended = subst (EndsWith made numbered folder out) c.in-Ok.is c.run.ensures.ends in
     end_leaves made numbered (IsAskedBy (request_of words) words folder) (fit_refuses words folder) (fit_asked words folder) folder out (Ok c.in-Ok.field-0) ended
 
-pub returns-in-Err-clause-answer : goal.returns-in-Err-clause-answer
-returns-in-Err-clause-answer g c =
+pub returns-clause-answer : goal.returns-clause-answer
+returns-clause-answer g c =
     let F = g.F.Folder in
     let O = g.O.Sink in
     let E = g.E.Sink in
@@ -45,13 +47,15 @@ returns-in-Err-clause-answer g c =
     let folder : FolderSeen = folder_seen F.held F.faults F.misses c.args.folder.now c.run.new.folder in
     let out : SinkSeen = sink_seen O.written O.faults O.wants c.args.out.now c.run.new.out in
     let made = OutputsOfFit words folder in
-    let numbered = IsNumbering (others words) folder in
+    let hint = c.run.new.hint in
+    let numbered = IsKnown (others words) folder hint in
     let ended = subst (EndsWith made numbered folder out) c.in-Err.is c.run.ensures.ends in
     let err : SinkSeen = sink_seen E.written E.faults E.wants c.run.new.err c.tell.new.err in
-    stop_answers (fit_message (others words)) made numbered (fit_refuses words folder) folder out err c.in-Err.stop c.tell.result ended c.tell.ensures
+    let tells = subst (λ h. IsToldAs (fit_message (others words) h) c.in-Err.stop err c.tell.result) c.as_slice.ensures c.tell.ensures in
+    stop_answers (fit_message (others words) hint) made numbered (fit_refuses words folder) folder out err c.in-Err.stop c.tell.result ended tells
 
-pub returns-in-Err-clause-complete : goal.returns-in-Err-clause-complete
-returns-in-Err-clause-complete g c =
+pub returns-clause-complete : goal.returns-clause-complete
+returns-clause-complete g c =
     let F = g.F.Folder in
     let O = g.O.Sink in
     let E = g.E.Sink in
@@ -59,13 +63,15 @@ returns-in-Err-clause-complete g c =
     let folder : FolderSeen = folder_seen F.held F.faults F.misses c.args.folder.now c.run.new.folder in
     let out : SinkSeen = sink_seen O.written O.faults O.wants c.args.out.now c.run.new.out in
     let made = OutputsOfFit words folder in
-    let numbered = IsNumbering (others words) folder in
+    let hint = c.run.new.hint in
+    let numbered = IsKnown (others words) folder hint in
     let ended = subst (EndsWith made numbered folder out) c.in-Err.is c.run.ensures.ends in
     let err : SinkSeen = sink_seen E.written E.faults E.wants c.run.new.err c.tell.new.err in
-    answer_complete words folder out c.tell.result (stop_answers (fit_message (others words)) made numbered (fit_refuses words folder) folder out err c.in-Err.stop c.tell.result ended c.tell.ensures)
+    let tells = subst (λ h. IsToldAs (fit_message (others words) h) c.in-Err.stop err c.tell.result) c.as_slice.ensures c.tell.ensures in
+    answer_complete words folder out c.tell.result (stop_answers (fit_message (others words) hint) made numbered (fit_refuses words folder) folder out err c.in-Err.stop c.tell.result ended tells)
 
-pub returns-in-Err-clause-left : goal.returns-in-Err-clause-left
-returns-in-Err-clause-left g c =
+pub returns-clause-left : goal.returns-clause-left
+returns-clause-left g c =
     let F = g.F.Folder in
     let O = g.O.Sink in
     let E = g.E.Sink in
@@ -73,13 +79,15 @@ returns-in-Err-clause-left g c =
     let folder : FolderSeen = folder_seen F.held F.faults F.misses c.args.folder.now c.run.new.folder in
     let out : SinkSeen = sink_seen O.written O.faults O.wants c.args.out.now c.run.new.out in
     let made = OutputsOfFit words folder in
-    let numbered = IsNumbering (others words) folder in
+    let hint = c.run.new.hint in
+    let numbered = IsKnown (others words) folder hint in
     let ended = subst (EndsWith made numbered folder out) c.in-Err.is c.run.ensures.ends in
     let err : SinkSeen = sink_seen E.written E.faults E.wants c.run.new.err c.tell.new.err in
-    stop_leaves (fit_message (others words)) made numbered (IsAskedBy (request_of words) words folder) (fit_refuses words folder) (fit_asked words folder) folder out err c.in-Err.stop c.tell.result ended c.tell.ensures
+    let tells = subst (λ h. IsToldAs (fit_message (others words) h) c.in-Err.stop err c.tell.result) c.as_slice.ensures c.tell.ensures in
+    stop_leaves (fit_message (others words) hint) made numbered (IsAskedBy (request_of words) words folder) (fit_refuses words folder) (fit_asked words folder) folder out err c.in-Err.stop c.tell.result ended tells
 
-pub returns-in-Err-clause-told : goal.returns-in-Err-clause-told
-returns-in-Err-clause-told g c =
+pub returns-clause-told : goal.returns-clause-told
+returns-clause-told g c =
     let F = g.F.Folder in
     let O = g.O.Sink in
     let E = g.E.Sink in
@@ -87,14 +95,21 @@ returns-in-Err-clause-told g c =
     let folder : FolderSeen = folder_seen F.held F.faults F.misses c.args.folder.now c.run.new.folder in
     let out : SinkSeen = sink_seen O.written O.faults O.wants c.args.out.now c.run.new.out in
     let made = OutputsOfFit words folder in
-    let numbered = IsNumbering (others words) folder in
+    let hint = c.run.new.hint in
+    let numbered = IsKnown (others words) folder hint in
     let ended = subst (EndsWith made numbered folder out) c.in-Err.is c.run.ensures.ends in
     let err : SinkSeen = sink_seen E.written E.faults E.wants c.run.new.err c.tell.new.err in
+    let tells = subst (λ h. IsToldAs (fit_message (others words) h) c.in-Err.stop err c.tell.result) c.as_slice.ensures c.tell.ensures in
     let old = c.args.err.now in
     let mid = c.run.new.err in
     let new = c.tell.new.err in
     let whole : SinkSeen = sink_seen E.written E.faults E.wants old new in
-    let message = fit_message (others words) in
+    let message = fit_message (others words) hint in
     let told = told_earlier message c.in-Err.stop c.tell.result (E.written mid) (E.written new) (E.faults old) (E.faults mid) (E.faults new) (E.wants old) (E.wants mid) (E.wants new)
-    c.run.ensures.faults c.run.ensures.wants c.tell.ensures in
-    (E.written mid, c.run.ensures.stages, stop_tells message made numbered (fit_refuses words folder) (numbers_points (others words) folder) folder out (after_stages whole (E.written mid)) c.in-Err.stop c.tell.result ended told)
+    c.run.ensures.faults c.run.ensures.wants tells in (
+      E.written mid,
+      c.run.ensures.stages,
+      hint,
+      told_off made message (others words) folder hint out (sink_seen E.written E.faults E.wants mid new) c.in-Err.stop c.tell.result ended tells,
+      stop_tells message made (IsNumbering (others words) folder hint) (fit_refuses words folder) (numbers_points (others words) folder hint) folder out (after_stages whole (E.written mid)) c.in-Err.stop c.tell.result (ends_numbered made (others words) folder hint out c.in-Err.stop ended) told,
+    )
