@@ -10,7 +10,7 @@ use Rattle.sign_predicates.specs.Orientation.{Triangle, orient, orient_rational,
 use Rattle.sign_predicates.specs.declared.tetrahedron.Corners.{Corners}
 use Rattle.sign_predicates.specs.declared.entering.Lows.{Lows}
 use Rattle.sign_predicates.specs.Meeting.{IsMeanOf, segment, TriangleEnters}
-use Rattle.sign_predicates.specs.Entering.{AreLows, FacesOpen, FacesOpenToSome, EdgesOpen}
+use Rattle.sign_predicates.specs.Entering.{AreLows, FacesOpen, EdgesOpen}
 use Rattle.sign_predicates.proofs.Terms.{RationalE, triangleE, rationalE, cornersE, pointE, of_triangle, of_rational, of_corners, of_point, sideE, side_rationalE, normalE, orientE, volumeE, opposite_aE, opposite_bE, opposite_cE, opposite_dE}
 use Rattle.sign_predicates.proofs.Shared.{sum_of_three}
 use Rattle.sign_predicates.proofs.Exit.{along}
@@ -449,12 +449,26 @@ three_low i j k a b c hi hj hk ha hb hc h =
     clash {x} {y} {z} {w} e p q r s = omega (arith, ints)
 
 -- a triangle that is on or beyond one face doesn't enter
-pub opens_to : (t : Corners) (f : Triangle) (la lb lc : Lows) → AreLows t f.a la → AreLows t f.b lb → AreLows t f.c lc → TriangleEnters t f → FacesOpenToSome la lb lc
-opens_to t f la lb lc ha hb hc e =
-    let h = enters_of t f e in
-    record {
-      a_open = λ k. three_low h.i h.j h.k (side (opposite_a t) f.a) (side (opposite_a t) f.b) (side (opposite_a t) f.c) h.within.i_least h.within.j_least h.within.k_least (ha.a_low.0 k.0) (hb.a_low.0 k.1) (hc.a_low.0 k.2) h.within.a_above;
-      b_open = λ k. three_low h.i h.j h.k (side (opposite_b t) f.a) (side (opposite_b t) f.b) (side (opposite_b t) f.c) h.within.i_least h.within.j_least h.within.k_least (ha.b_low.0 k.0) (hb.b_low.0 k.1) (hc.b_low.0 k.2) h.within.b_above;
-      c_open = λ k. three_low h.i h.j h.k (side (opposite_c t) f.a) (side (opposite_c t) f.b) (side (opposite_c t) f.c) h.within.i_least h.within.j_least h.within.k_least (ha.c_low.0 k.0) (hb.c_low.0 k.1) (hc.c_low.0 k.2) h.within.c_above;
-      d_open = λ k. three_low h.i h.j h.k (side (opposite_d t) f.a) (side (opposite_d t) f.b) (side (opposite_d t) f.c) h.within.i_least h.within.j_least h.within.k_least (ha.d_low.0 k.0) (hb.d_low.0 k.1) (hc.d_low.0 k.2) h.within.d_above;
-    }
+module _ (t : Corners) (f : Triangle) (enters : TriangleEnters t f) where
+  abbrev LiesBeyond : Triangle → Type 0
+  LiesBeyond face = (side face f.a ≤ℤ pos 0) × (side face f.b ≤ℤ pos 0) × (side face f.c ≤ℤ pos 0)
+
+  pub not_beyond_a : LiesBeyond (opposite_a t) → ⊥
+  not_beyond_a k =
+      let h = enters_of t f enters in
+      three_low h.i h.j h.k (side (opposite_a t) f.a) (side (opposite_a t) f.b) (side (opposite_a t) f.c) h.within.i_least h.within.j_least h.within.k_least k.0 k.1 k.2 h.within.a_above
+
+  pub not_beyond_b : LiesBeyond (opposite_b t) → ⊥
+  not_beyond_b k =
+      let h = enters_of t f enters in
+      three_low h.i h.j h.k (side (opposite_b t) f.a) (side (opposite_b t) f.b) (side (opposite_b t) f.c) h.within.i_least h.within.j_least h.within.k_least k.0 k.1 k.2 h.within.b_above
+
+  pub not_beyond_c : LiesBeyond (opposite_c t) → ⊥
+  not_beyond_c k =
+      let h = enters_of t f enters in
+      three_low h.i h.j h.k (side (opposite_c t) f.a) (side (opposite_c t) f.b) (side (opposite_c t) f.c) h.within.i_least h.within.j_least h.within.k_least k.0 k.1 k.2 h.within.c_above
+
+  pub not_beyond_d : LiesBeyond (opposite_d t) → ⊥
+  not_beyond_d k =
+      let h = enters_of t f enters in
+      three_low h.i h.j h.k (side (opposite_d t) f.a) (side (opposite_d t) f.b) (side (opposite_d t) f.c) h.within.i_least h.within.j_least h.within.k_least k.0 k.1 k.2 h.within.d_above

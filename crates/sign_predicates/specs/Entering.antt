@@ -5,7 +5,9 @@ use Rattle.sign_predicates.specs.Orientation.{Triangle, orient, side, opposite_a
 use Rattle.sign_predicates.specs.Meeting.{segment, TriangleEnters}
 use Rattle.sign_predicates.specs.Turns.{PassesWithin}
 use Rattle.sign_predicates.specs.declared.tetrahedron.Corners.{Corners}
+use Rattle.sign_predicates.specs.declared.entering.FaceLows.{FaceLows}
 use Rattle.sign_predicates.specs.declared.entering.Lows.{Lows}
+use Rattle.sign_predicates.specs.declared.entering.TriangleLows.{TriangleLows}
 use Rattle.sign_predicates.specs.declared.entering.Spot.{Spot}
 
 -- of each face of the tetrahedron: whether the point isn't strictly on its inner side
@@ -14,6 +16,18 @@ pub record AreLows (t : Corners) (p : Point) (lows : Lows) : Type 0 where
   pub b_low : IsTrue lows.b ↔ side (opposite_b t) p ≤ℤ pos 0
   pub c_low : IsTrue lows.c ↔ side (opposite_c t) p ≤ℤ pos 0
   pub d_low : IsTrue lows.d ↔ side (opposite_d t) p ≤ℤ pos 0
+
+-- of the corners of a triangle f: whether they aren't strictly on the inner side of a face
+pub record AreFaceLows (face f : Triangle) (lows : FaceLows) : Type 0 where
+  pub a_low : IsTrue lows.a ↔ side face f.a ≤ℤ pos 0
+  pub b_low : IsTrue lows.b ↔ side face f.b ≤ℤ pos 0
+  pub c_low : IsTrue lows.c ↔ side face f.c ≤ℤ pos 0
+
+-- so of all faces of the tetrahedron
+pub record AreTriangleLows (t : Corners) (f : Triangle) (lows : TriangleLows) : Type 0 where
+  pub a_lows : AreLows t f.a lows.a
+  pub b_lows : AreLows t f.b lows.b
+  pub c_lows : AreLows t f.c lows.c
 
 -- each face has one of two points strictly on its inner side
 pub record FacesOpen (p q : Lows) : Type 0 where
@@ -37,13 +51,6 @@ pub record EdgesOpen (t : Corners) (p q : Point) (low_p low_q : Lows) : Type 0 w
   pub from_b : PassesFace low_q.b low_p.a low_p.d low_p.c t.a t.d t.c p q
   pub from_c : PassesFace low_q.c low_p.d low_p.a low_p.b t.d t.a t.b p q
   pub from_d : PassesFace low_q.d low_p.c low_p.b low_p.a t.c t.b t.a p q
-
--- each face has one of three points strictly on its inner side
-pub record FacesOpenToSome (p q r : Lows) : Type 0 where
-  pub a_open : ¬ (IsTrue p.a × IsTrue q.a × IsTrue r.a)
-  pub b_open : ¬ (IsTrue p.b × IsTrue q.b × IsTrue r.b)
-  pub c_open : ¬ (IsTrue p.c × IsTrue q.c × IsTrue r.c)
-  pub d_open : ¬ (IsTrue p.d × IsTrue q.d × IsTrue r.d)
 
 -- some side of the triangle has a point strictly inside
 abbrev pub SideEnters : Corners → Triangle → Type 0

@@ -1,9 +1,9 @@
 //! Whether a triangle enters the inside of a tetrahedron. All sums are orientations.
-ghost use Rattle.std.specs.Prelude.{◌≡◌, ◌⊎◌, pos, ◌<ℤ◌, ◌≤ℤ◌, IsTrue, ◌↔◌};
+ghost use Rattle.std.specs.Prelude.{◌≡◌, ◌⊎◌, pos, ◌<ℤ◌, ◌≤ℤ◌, IsTrue, ◌↔◌, None, IfSome};
 ghost use Rattle.sign_predicates.specs.Orientation.{orient, IsPositive, SpansPlane, side};
 ghost use Rattle.sign_predicates.specs.Meeting.{triangle, segment, TriangleEnters};
 ghost use Rattle.sign_predicates.specs.Turns.{PassesWithin};
-ghost use Rattle.sign_predicates.specs.Entering.{AreLows, FacesOpen, FacesOpenToSome, PassesFace, EdgesOpen, SideEnters, CrossesWithin, CrossesFrom, SectionWithin, Straddles, SomeAbove, SomeBelow, IsSpot};
+ghost use Rattle.sign_predicates.specs.Entering.{AreLows, AreFaceLows, AreTriangleLows, FacesOpen, PassesFace, EdgesOpen, SideEnters, CrossesWithin, CrossesFrom, SectionWithin, Straddles, SomeAbove, SomeBelow, IsSpot};
 
 use crate::meeting::passes_within;
 use crate::orientation::orient_sum;
@@ -34,16 +34,92 @@ fn is_high(a: GridPoint, b: GridPoint, c: GridPoint, p: GridPoint) -> bool
     is_strictly_above(orient_sum(a, b, c, p))
 }
 
+/// Of the corners of a triangle: whether they aren't strictly on a face's inner side.
+#[derive(Clone, Copy)]
+struct FaceLows {
+    a: bool,
+    b: bool,
+    c: bool,
+}
+
+/// So for the triangle `a b c` and the face from `u` to `v` and `w`.
 #[inline]
-fn find_lows(t: &Corners, p: GridPoint) -> Lows
-    ensures { AreLows t.now p result }
+fn face_lows(
+    u: GridPoint,
+    v: GridPoint,
+    w: GridPoint,
+    a: GridPoint,
+    b: GridPoint,
+    c: GridPoint,
+) -> FaceLows
+    ensures { AreFaceLows (triangle u v w) (triangle a b c) result }
 {
-    Lows {
-        a: is_low(t.b, t.d, t.c, p),
-        b: is_low(t.a, t.c, t.d, p),
-        c: is_low(t.a, t.d, t.b, p),
-        d: is_low(t.a, t.b, t.c, p),
+    FaceLows {
+        a: is_low(u, v, w, a),
+        b: is_low(u, v, w, b),
+        c: is_low(u, v, w, c),
     }
+}
+
+/// Whether no corner of the triangle is strictly on the face's inner side.
+#[inline]
+fn is_beyond(face: FaceLows) -> bool
+    ensures { IsTrue result ↔ (IsTrue face.a × IsTrue face.b × IsTrue face.c) }
+{
+    face.a && face.b && face.c
+}
+
+/// The marks of the three corners of a triangle.
+#[derive(Clone, Copy)]
+struct TriangleLows {
+    a: Lows,
+    b: Lows,
+    c: Lows,
+}
+
+/// The marks of the triangle's corners, or None where a face has none of them strictly on its inner
+/// side: then the triangle does not enter. The first such face ends the search.
+#[inline]
+fn triangle_lows(t: &Corners, a: GridPoint, b: GridPoint, c: GridPoint) -> Option<TriangleLows>
+    ensures some { IfSome result (AreTriangleLows t.now (triangle a b c)) }
+    ensures none { result ≡ None → ¬ TriangleEnters t.now (triangle a b c) }
+{
+    let at_a = face_lows(t.b, t.d, t.c, a, b, c);
+    if is_beyond(at_a) {
+        return None;
+    }
+    let at_b = face_lows(t.a, t.c, t.d, a, b, c);
+    if is_beyond(at_b) {
+        return None;
+    }
+    let at_c = face_lows(t.a, t.d, t.b, a, b, c);
+    if is_beyond(at_c) {
+        return None;
+    }
+    let at_d = face_lows(t.a, t.b, t.c, a, b, c);
+    if is_beyond(at_d) {
+        return None;
+    }
+    Some(TriangleLows {
+        a: Lows {
+            a: at_a.a,
+            b: at_b.a,
+            c: at_c.a,
+            d: at_d.a,
+        },
+        b: Lows {
+            a: at_a.b,
+            b: at_b.b,
+            c: at_c.b,
+            d: at_d.b,
+        },
+        c: Lows {
+            a: at_a.c,
+            b: at_b.c,
+            c: at_c.c,
+            d: at_d.c,
+        },
+    })
 }
 
 // ---- a leg
@@ -141,14 +217,6 @@ fn side_enters(
     } else {
         leg_enters(t, b, c, lb, lc) || leg_enters(t, c, a, lc, la)
     }
-}
-
-/// Whether each face has one of three points strictly on its inner side.
-#[inline]
-fn faces_open_to_some(p: Lows, q: Lows, r: Lows) -> bool
-    ensures { IsTrue result ↔ FacesOpenToSome p q r }
-{
-    !(p.a && q.a && r.a) && !(p.b && q.b && r.b) && !(p.c && q.c && r.c) && !(p.d && q.d && r.d)
 }
 
 // ---- the section
@@ -286,13 +354,9 @@ fn enters_across(
     requires corners { t.now ≡ record { a = p.now.at; b = q.now.at; c = r.now.at; d = s.now.at } }
     ensures { IsTrue result ↔ TriangleEnters t.now (triangle a b c) }
 {
-    let la = find_lows(t, a);
-    let lb = find_lows(t, b);
-    let lc = find_lows(t, c);
-    if faces_open_to_some(la, lb, lc) {
-        side_enters(t, a, b, c, la, lb, lc) || section_within(p, q, r, s, a, b, c)
-    } else {
-        false
+    match triangle_lows(t, a, b, c) {
+        Some(l) => { side_enters(t, a, b, c, l.a, l.b, l.c) || section_within(p, q, r, s, a, b, c) }
+        None => false,
     }
 }
 

@@ -4,7 +4,6 @@ use Rattle.sign_predicates.specs.Meeting.{triangle}
 use Rattle.sign_predicates.specs.Entering.{SideEnters, SectionWithin}
 use Rattle.sign_predicates.specs.declared.tetrahedron.Corners.{Corners}
 use Rattle.sign_predicates.proofs.Meets.{not_true}
-use Rattle.sign_predicates.proofs.Legs.{opens_to}
 use Rattle.sign_predicates.proofs.Enter.{enter_law}
 use Rattle.sign_predicates.proofs.entering.enters_across.Goals as goal
 
@@ -24,11 +23,3 @@ returns-else-side_enters c = (
     by : SideEnters c.args.t.now (triangle c.args.a c.args.b c.args.c) ⊎ SectionWithin c.args.t.now (triangle c.args.a c.args.b c.args.c) → IsTrue c.section_within.result
     by (inl e) = absurd (not_true (c.if-side_enters.ensures.1 e))
     by (inr w) = c.section_within.ensures.1 (subst (λ (t : Corners). SectionWithin t (triangle c.args.a c.args.b c.args.c)) c.requires.corners w)
-
-pub returns-else-faces_open_to_some : goal.returns-else-faces_open_to_some
-returns-else-faces_open_to_some c =
-    let a = c.args in (
-      λ h. absurd (not_true h),
-      λ k. absurd (not_true (c.if-faces_open_to_some.ensures.1
-          (opens_to a.t.now (triangle a.a a.b a.c) c.find_lows-la.result c.find_lows-lb.result c.find_lows-lc.result c.find_lows-la.ensures c.find_lows-lb.ensures c.find_lows-lc.ensures k))),
-    )
