@@ -4,3 +4,4 @@ mod Firsts
 mod OffGrid
 mod Tries
 mod PartsBefore
+mod Openings

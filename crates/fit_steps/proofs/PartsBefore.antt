@@ -1,5 +1,5 @@
 -- What a piece is a part of.
-use Rattle.std.proofs.Common.{ℕ, zero, suc, ◌-◌, ◌<◌, ◌≡◌, max, length, List, Option, Some, None, Result, Ok, Err, inl, refl, subst, ap, sym, ◌∙◌, arith}
+use Rattle.std.proofs.Common.{ℕ, zero, suc, ◌-◌, ◌<◌, ◌≡◌, max, length, List, Option, Some, None, Result, Ok, Err, inl, refl, subst, sym, arith}
 use Rattle.std.specs.Prelude.{IfOk, IfSome}
 use Rattle.command_words.specs.declared.options.Options.{Options}
 use Rattle.geo_laws.specs.declared.complex.Piece.{Piece}
@@ -11,7 +11,7 @@ use Rattle.run_steps.specs.declared.numbering.Numbering.{Numbering}
 use Rattle.tet_ports.specs.declared.NoMemory.{NoMemory}
 use Rattle.run_steps.specs.declared.input.Input.{Input}
 use Rattle.run_steps.specs.declared.status.Status.{Status}
-use Rattle.fit_steps.specs.Hints.{first_facet, missing_in, segment_line, with_budget, IsHalvedAfter, IsLineOf, IsPartOf, TellsLine, TellsSegment, TellsWhole}
+use Rattle.fit_steps.specs.Hints.{first_facet, missing_in, segment_line, with_budget, IsHalvedAfter, IsPartOf, TellsLine, TellsSegment}
 
 -- what is missing at the end of a try over the same points
 pub halved_as : (limits : Limits) (options tried : Options) (input : Input) (nodes : NodeText) (added : ℕ) (status : Status) (found : Option Piece) → tried ≡ with_budget added options

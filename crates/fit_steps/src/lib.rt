@@ -8,11 +8,14 @@ mod fitting;
 mod grids;
 mod hints;
 mod model;
+mod opening;
 mod places;
+mod sides;
 mod trying;
 mod wholes;
 
 pub use fitting::{Fitted, Refused, fit_input};
 pub use hints::hint_of;
 pub use model::read_model;
+pub use opening::opening_of;
 pub use trying::Unfitted;

@@ -23,6 +23,11 @@ const CROSSED: &[u8] = b"\
 5 3 0 0\n1 0 0 0\n2 2.5 2.5 0\n3 0 2 0\n4 2 0 0\n5 0 0 3\n\
 2 0\n1\n2 1 2\n1\n2 3 4\n0\n0\n";
 
+/// A box with no lid.
+const OPEN: &[u8] = b"\
+8 3 0 0\n1 0 0 0\n2 1 0 0\n3 1 1 0\n4 0 1 0\n5 0 0 1\n6 1 0 1\n7 1 1 1\n8 0 1 1\n\
+5 0\n1\n4 1 2 3 4\n1\n4 5 6 7 8\n1\n4 1 2 6 5\n1\n4 2 3 7 6\n1\n4 3 4 8 7\n0\n0\n";
+
 const FAR_TOLD: &[u8] = b"\
 tetfit: line 3: coordinate off the grid\n\
 tetfit: line 3 has (12345678.5 0 0)\n\
@@ -39,8 +44,12 @@ tetfit: 1 splits used, segment 4 17 is missing\n\
 tetfit: it lies on segment 4 10 of facet 5\n\
 tetfit: allow more added points by -S\n";
 
+const OPEN_TOLD: &[u8] = b"\
+points 8 added 0 tetrahedra 0 faces 0 edges 0 decimals 0\n\
+tetfit: the surface is open: only facet 1 has the side 1 4\n";
+
 /// What is told of a model beside its status.
-static TOLD: [Run<'static>; 3] = [
+static TOLD: [Run<'static>; 4] = [
     Run {
         held: &[(b"t.node", FAR)],
         words: &[b"t.node"],
@@ -58,6 +67,12 @@ static TOLD: [Run<'static>; 3] = [
         held: &[(b"b.poly", BEAM)],
         words: &[b"-S1", b"b.poly"],
         end: (8, Some(b""), Some(BEAM_TOLD)),
+        files: &[],
+    },
+    Run {
+        held: &[(b"o.poly", OPEN)],
+        words: &[b"-NEF", b"o.poly"],
+        end: (0, Some(OPEN_TOLD), Some(b"")),
         files: &[],
     },
 ];

@@ -1,6 +1,6 @@
 -- What a run makes of its words: its refusals, its mesh, and that it holds over all of a run.
-use Rattle.std.proofs.Common.{◌≡◌, inl, inr, ℕ, List, [], Option, Some, None, Result, Ok, Err, refl, sym, subst, ap}
-use Rattle.std.specs.Prelude.{IsTrue, All, IfOk, IfErr}
+use Rattle.std.proofs.Common.{◌≡◌, inl, inr, ℕ, true, false, List, [], Option, Some, None, Result, Ok, Err, refl, sym, ◌∙◌, subst, ap}
+use Rattle.std.specs.Prelude.{Bool, IsTrue, All, IfOk, IfErr}
 use Rattle.std.proofs.lemmas.List.Elements.{All-nil}
 use Rattle.command_words.specs.Meaning.{options_of}
 use Rattle.command_words.specs.declared.fault.WordsFault.{WordsFault}
@@ -9,6 +9,7 @@ use Rattle.command_words.specs.declared.options.Options.{Options}
 use Rattle.fit_steps.proofs.Models.{model_has, model_wider}
 use Rattle.fit_steps.specs.Hints.{IsHint, IsHintBy}
 use Rattle.fit_steps.specs.Models.{ModelAnswer}
+use Rattle.fit_steps.specs.Opening.{TellsOpening}
 use Rattle.fit_steps.specs.Trying.{IsFitted, IsNumbered, IsRefused, at_decimals}
 use Rattle.fit_steps.specs.declared.fitting.Refused.{Refused as Unfit}
 use Rattle.node_files.specs.declared.limits.Limits.{Limits}
@@ -25,6 +26,7 @@ use Rattle.run_steps.specs.declared.outputs.Outputs.{Outputs}
 use Rattle.run_steps.specs.declared.status.LimitKind.TheVariants.{Grid}
 use Rattle.run_steps.specs.declared.status.Status.{Status}
 use Rattle.run_steps.specs.declared.status.Status.TheVariants.{Usage, Limit, NoMemory}
+use Rattle.tet_ports.specs.declared.NoMemory.{NoMemory as MemoryLack}
 use Rattle.tetgen_run.proofs.Endings.{NumbersPoints, Refuses}
 use Rattle.tetgen_run.proofs.Refusals.{IsRefusal, IsSilent, not_true}
 use Rattle.tetgen_run.proofs.Runs.{bound_silent, mesh_by, meshed_refuses, outputs_told}
@@ -32,7 +34,7 @@ use Rattle.tetgen_run.specs.Ends.{EndsWith, IsToldAs, StopsSo, answer_of}
 use Rattle.tetgen_run.specs.Stops.{stop_of_words}
 use Rattle.tetgen_run.specs.declared.stop.Stop.{Stop}
 use Rattle.tetgen_run.specs.declared.stop.Stop.TheVariants.{Refused, Unwritten, Unsummed, NoMemory as Wanting}
-use Rattle.tetfit_run.specs.Outputs.{FitWordsAnswer, IsFitUsage, IsFittedTo, MadeBy, OutputsOfFit, OutputsOfModel, OutputsOfOptions, fit_limits}
+use Rattle.tetfit_run.specs.Outputs.{FitWordsAnswer, IsFitUsage, IsFittedTo, IsMore, IsMoreBy, MadeBy, OutputsOfFit, OutputsOfModel, OutputsOfOptions, fit_limits, outputs_at}
 use Rattle.tetfit_run.specs.Run.{IsAskedBy, IsKnown, IsKnownOf, IsMeshOfModel, IsNumbering, IsNumberingOf, IsUnfitted, TellsOffGrid}
 
 -- ---- answers
@@ -163,6 +165,23 @@ pub options_made : (words : List (List ℕ)) (folder : FolderSeen) (options : Op
     → OutputsOfModel words folder (Ok outputs)
 options_made words folder options outputs w h = (options, w, h)
 
+-- ---- what more is told
+
+-- where there is no tetrahedron
+pub more_told : (limits : Limits) (options : Options) (input : Input) (m : ℕ) (none test : Bool) (r : Result (List ℕ) MemoryLack) → limits ≡ fit_limits → test ≡ none → test ≡ true
+    → IfOk r (TellsOpening limits (at_decimals m options) input) → IfOk r (IsMoreBy none options input m)
+more_told limits options input m none test r l n e told =
+    subst (λ b. IfOk r (IsMoreBy b options input m)) (sym e ∙ n) (subst (λ q. IfOk r (TellsOpening q (at_decimals m options) input)) l told)
+
+-- and where there are some
+pub no_more : (options : Options) (input : Input) (m : ℕ) (none test : Bool) (more : List ℕ) → test ≡ none → test ≡ false → more ≡ [] → IsMoreBy none options input m more
+no_more options input m none test more n e is = subst (λ b. IsMoreBy b options input m more) (sym e ∙ n) is
+
+pub fitted_told : (options : Options) (input : Input) (m : ℕ) (made : Outputs) (more : List ℕ) (r : Result Outputs MemoryLack) → IsFitted fit_limits options input m (Ok made)
+    → IsMore options input m made more → IfOk r (λ outputs. outputs ≡ outputs_at m more made) → IfOk r (λ outputs. IsFittedTo options input (Ok outputs))
+fitted_told options input m made more (Ok outputs) h k is = (m, made, h, more, k, is)
+fitted_told options input m made more (Err e) h k is = is
+
 -- ---- the mesh
 
 model_mesh : (words : List (List ℕ)) (folder : FolderSeen) (outputs : Outputs) → OutputsOfModel words folder (Ok outputs) → IsMeshOfModel words folder outputs
@@ -170,14 +189,16 @@ model_mesh words folder outputs h =
     let o = options_of words in
     let e = h.1.1 in
     let input = h.2.0 in
-    let m = h.2.2.0 in
-    let made = h.2.2.1 in
+    let f = h.2.2 in
     let read = subst (λ q. ModelAnswer fit_limits folder q (Ok input)) e h.2.1 in
-    let fitted = subst (λ q. IsFitted fit_limits q input m (Ok made)) e h.2.2.2 in record {
-      decimals = m;
-      made = made;
-      mesh = mesh_by fit_limits (at_decimals m o) (fit_fault words ≡ None) (λ input. ModelAnswer fit_limits folder o (Ok input) × IsFitted fit_limits o input m (Ok made)) input made h.1.0 (read, fitted) fitted.answer;
-      outputs_are = h.2.2.3;
+    let fitted = subst (λ q. IsFitted fit_limits q input f.0 (Ok f.1)) e f.2 in
+    let told = subst (λ q. IsMore q input f.0 f.1 f.3) e f.4 in record {
+      decimals = f.0;
+      made = f.1;
+      more = f.3;
+      mesh = mesh_by fit_limits (at_decimals f.0 o) (fit_fault words ≡ None) (λ input. ModelAnswer fit_limits folder o (Ok input) × IsFitted fit_limits o input f.0 (Ok f.1) × IsMore o input f.0 f.1 f.3)
+          input f.1 h.1.0 (read, fitted, told) fitted.answer;
+      outputs_are = f.5;
     }
 
 asked_by : (request : Request) (words : List (List ℕ)) (folder : FolderSeen) (outputs : Outputs) → MadeBy request words folder (Ok outputs) → IsAskedBy request words folder outputs
@@ -194,7 +215,7 @@ model_told : (words : List (List ℕ)) (folder : FolderSeen) (outputs : Outputs)
 model_told words folder outputs h =
     let f = h.2.2 in
     let a = f.2.answer.2 in
-    subst (λ (o : Outputs). All TellsFailure (in_order o.texts)) (sym f.3) (outputs_told (at_decimals f.0 h.0) a.0 f.1 a.2)
+    subst (λ (o : Outputs). All TellsFailure (in_order o.texts)) (sym f.5) (outputs_told (at_decimals f.0 h.0) a.0 f.1 a.2)
 
 told_by : (request : Request) (words : List (List ℕ)) (folder : FolderSeen) (outputs : Outputs) → MadeBy request words folder (Ok outputs) → All TellsFailure (in_order outputs.texts)
 told_by Page words folder outputs h = subst (λ (o : Outputs). All TellsFailure (in_order o.texts)) (sym h) (All-nil TellsFailure)

@@ -1,10 +1,12 @@
 -- What the words of the program ask for, and the outputs of that.
-use Rattle.std.specs.Prelude.{◌≡◌, ℕ, ◌-◌, List, ◌++◌, length, take, codes, Option, Some, None, Result, Ok, Err}
+use Rattle.std.specs.Prelude.{◌≡◌, ℕ, ◌-◌, nat_eq, Bool, true, false, List, [], ◌++◌, length, take, codes, Option, Some, None, Result, Ok, Err}
 use Rattle.std.specs.Fmt.{decimal}
+use Rattle.std.specs.List.{ends_with}
 use Rattle.command_words.specs.Meaning.{options_of}
 use Rattle.command_words.specs.declared.options.Options.{Options}
 use Rattle.fit_steps.specs.Models.{ModelAnswer}
-use Rattle.fit_steps.specs.Trying.{IsFitted}
+use Rattle.fit_steps.specs.Opening.{TellsOpening}
+use Rattle.fit_steps.specs.Trying.{IsFitted, at_decimals}
 use Rattle.fit_words.specs.Words.{fit_fault, others, request_of}
 use Rattle.fit_words.specs.declared.page.TheConstants.{PAGE, VERSION}
 use Rattle.fit_words.specs.declared.request.Request.{Request}
@@ -36,19 +38,33 @@ FitWordsAnswer words (Err status) = IsFitUsage words status
 
 -- ---- the mesh
 
--- the summary, which a line feed ends, with how many decimals there are
-abbrev pub with_decimals : ℕ → Option (List ℕ) → Option (List ℕ)
-with_decimals decimals None = None
-with_decimals decimals (Some line) = Some (take (length line - 1) line ++ codes " decimals " ++ decimal decimals ++ codes "\n")
+-- the summary tells that there is no tetrahedron
+abbrev pub tells_none : Option (List ℕ) → Bool
+tells_none None = false
+tells_none (Some line) = ends_with nat_eq line (codes " tetrahedra 0 faces 0 edges 0\n")
+
+-- the summary, which a line feed ends, with how many decimals there are, and with more behind it
+abbrev pub with_decimals : ℕ → List ℕ → Option (List ℕ) → Option (List ℕ)
+with_decimals decimals more None = None
+with_decimals decimals more (Some line) = Some (take (length line - 1) line ++ codes " decimals " ++ decimal decimals ++ codes "\n" ++ more)
 
 -- the outputs of a mesh with so many decimals, whose summary tells them
-abbrev pub outputs_at : ℕ → Outputs → Outputs
-outputs_at decimals outputs = record outputs { summary = with_decimals decimals outputs.summary }
+abbrev pub outputs_at : ℕ → List ℕ → Outputs → Outputs
+outputs_at decimals more outputs = record outputs { summary = with_decimals decimals more outputs.summary }
+
+-- where there is no tetrahedron it is told where the surface is open, or that nothing is enclosed
+abbrev pub IsMoreBy : Bool → Options → Input → ℕ → List ℕ → Type 0
+IsMoreBy true options input m more = TellsOpening fit_limits (at_decimals m options) input more
+IsMoreBy false options input m more = more ≡ []
+
+abbrev pub IsMore : Options → Input → ℕ → Outputs → List ℕ → Type 0
+IsMore options input m made more = IsMoreBy (tells_none made.summary) options input m more
 
 -- the outputs of an input, or its refusal, at as many decimals as the grid does not refuse
 abbrev pub IsFittedTo : Options → Input → Result Outputs Status → Type 0
 IsFittedTo options input (Ok outputs) =
-    (decimals : ℕ) × (made : Outputs) × IsFitted fit_limits options input decimals (Ok made) × (outputs ≡ outputs_at decimals made)
+    (decimals : ℕ) × (made : Outputs) × IsFitted fit_limits options input decimals (Ok made)
+    × (more : List ℕ) × IsMore options input decimals made more × (outputs ≡ outputs_at decimals more made)
 IsFittedTo options input (Err status) = (decimals : ℕ) × IsFitted fit_limits options input decimals (Err status)
 
 -- the model that the options name is read, and the outputs of its mesh are made

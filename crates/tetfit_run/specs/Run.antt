@@ -27,7 +27,7 @@ use Rattle.tetgen_run.specs.Run.{IsMeshBy}
 use Rattle.tetgen_run.specs.declared.stop.Stop.{Stop}
 use Rattle.tetgen_run.specs.declared.stop.Stop.TheVariants.{Refused, NoMemory as Wanting}
 use Rattle.tetfit_run.specs.Messages.{fit_message}
-use Rattle.tetfit_run.specs.Outputs.{OutputsOfFit, fit_limits, outputs_at, said}
+use Rattle.tetfit_run.specs.Outputs.{IsMore, OutputsOfFit, fit_limits, outputs_at, said}
 
 -- The cause of each answer. Done where there are outputs, and any other answer is the refusal of a step: of a mesh it is that of the run at
 -- some number of decimals, and at each greater number up to the first one that is tried the grid refuses
@@ -44,14 +44,17 @@ IsComplete words folder out status =
 -- ---- what is left
 
 -- The outputs are those of one mesh of the model that the words name, with so many decimals, and their summary tells how many: at each
--- greater number of decimals, up to the first one that is tried, the grid refuses the model
+-- greater number of decimals, up to the first one that is tried, the grid refuses the model. Where the mesh has no tetrahedron the summary
+-- tells where the surface is open
 pub record IsMeshOfModel (words : List (List ℕ)) (folder : FolderSeen) (outputs : Outputs) : Type 0 where
   pub decimals : ℕ
   pub made : Outputs
+  pub more : List ℕ
   pub mesh : IsMeshBy fit_limits (at_decimals decimals (options_of words)) (fit_fault words ≡ None)
       (λ input. ModelAnswer fit_limits folder (options_of words) (Ok input)
-      × IsFitted fit_limits (options_of words) input decimals (Ok made)) made
-  pub outputs_are : outputs ≡ outputs_at decimals made
+      × IsFitted fit_limits (options_of words) input decimals (Ok made)
+      × IsMore (options_of words) input decimals made more) made
+  pub outputs_are : outputs ≡ outputs_at decimals more made
 
 -- what the outputs of a request are
 abbrev pub IsAskedBy : Request → List (List ℕ) → FolderSeen → Outputs → Type 0

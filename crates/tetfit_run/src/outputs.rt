@@ -2,17 +2,19 @@
 
 ghost use Rattle.std.specs.Prelude.{◌≡◌, ◌≤◌, ◌-◌, [], IfOk, IfErr, Ok, length, take};
 ghost use Rattle.command_words.specs.Meaning.{AreInRange};
+ghost use Rattle.fit_steps.specs.Trying.{IsFitted};
 ghost use Rattle.fit_words.specs.Words.{IsPlain, others, request_of};
 ghost use Rattle.run_steps.specs.Reading.{IsSound};
 ghost use Rattle.run_steps.specs.Seen.{folder_seen};
 ghost use Rattle.tetgen_run.specs.Ends.{StopsSo};
 ghost use Rattle.tetfit_run.specs.Outputs.{IsFittedTo, MadeBy, OutputsOfFit, OutputsOfModel};
-ghost use Rattle.tetfit_run.specs.Outputs.{OutputsOfOptions, Says, outputs_at, said, with_decimals};
+ghost use Rattle.tetfit_run.specs.Outputs.{IsMore, OutputsOfOptions, Says, fit_limits, outputs_at};
+ghost use Rattle.tetfit_run.specs.Outputs.{said, tells_none, with_decimals};
 ghost use Rattle.tetfit_run.specs.Run.{IsKnown, IsKnownOf, IsUnfitted};
 
 use crate::limits::fit_limits;
 use command_words::Options;
-use fit_steps::{Fitted, Unfitted, fit_input, hint_of, read_model};
+use fit_steps::{Fitted, Unfitted, fit_input, hint_of, opening_of, read_model};
 use fit_words::{PAGE, Request, VERSION, other_words, read_options, request_of};
 use run_steps::{Input, Outputs, Texts, append_number};
 use std::alloc::Global;
@@ -34,13 +36,26 @@ fn said(alloc: Global, text: &[u8]) -> Result<Outputs, NoMemory>
     Ok(Outputs { texts, summary })
 }
 
-/// The summary, which a line feed ends, with how many decimals there are.
+/// Whether the summary tells that there is no tetrahedron.
+fn tells_none(summary: &Option<Bytes>) -> bool
+    ensures { result ≡ tells_none summary.now }
+{
+    match summary {
+        Some(line) => line
+            .as_slice()
+            .ends_with(b" tetrahedra 0 faces 0 edges 0\n"),
+        None => false,
+    }
+}
+
+/// The summary, which a line feed ends, with how many decimals there are, and with more behind it.
 fn with_decimals(
     alloc: Global,
     decimals: u32,
+    more: &Bytes,
     summary: Option<Bytes>,
 ) -> Result<Option<Bytes>, NoMemory>
-    ensures { IfOk result (λ line. line ≡ with_decimals decimals summary) }
+    ensures { IfOk result (λ line. line ≡ with_decimals decimals more.now summary) }
 {
     let Some(mut line) = summary else {
         return Ok(None);
@@ -49,17 +64,56 @@ fn with_decimals(
     line.append(b" decimals ")?;
     append_number(&mut line, decimals as usize)?;
     line.append(b"\n")?;
+    line.append(more.as_slice())?;
     Ok(Some(line))
 }
 
 /// The outputs of a mesh with so many decimals, whose summary tells them.
-fn outputs_at(alloc: Global, fitted: Fitted) -> Result<Outputs, NoMemory>
-    ensures { IfOk result (λ outputs. outputs ≡ outputs_at fitted.decimals fitted.outputs) }
+fn outputs_at(alloc: Global, fitted: Fitted, more: &Bytes) -> Result<Outputs, NoMemory>
+    ensures { IfOk result
+        (λ outputs. outputs ≡ outputs_at fitted.decimals more.now fitted.outputs) }
 {
     let Fitted { decimals, outputs } = fitted;
     let Outputs { texts, summary } = outputs;
-    let summary = with_decimals(alloc, decimals, summary)?;
+    let summary = with_decimals(alloc, decimals, more, summary)?;
     Ok(Outputs { texts, summary })
+}
+
+/// Where there is no tetrahedron, where the surface is open.
+fn more_of(
+    alloc: Global,
+    options: &Options,
+    input: &Input,
+    fitted: &Fitted,
+) -> Result<Bytes, NoMemory>
+    requires input { IsSound input.now }
+    requires ranges { AreInRange options.now }
+    requires decimals { fitted.now.decimals ≤ 20 }
+    ensures { IfOk result
+        (IsMore options.now input.now fitted.now.decimals fitted.now.outputs) }
+{
+    if tells_none(&fitted.outputs.summary) {
+        opening_of(alloc, fit_limits(), options, input, fitted.decimals)
+    } else {
+        Ok(Bytes::new(alloc))
+    }
+}
+
+/// The outputs of what is fitted, with what more is told of it.
+fn told_outputs(
+    alloc: Global,
+    options: &Options,
+    input: &Input,
+    fitted: Fitted,
+) -> Result<Outputs, NoMemory>
+    requires input { IsSound input.now }
+    requires ranges { AreInRange options.now }
+    requires fitted { IsFitted fit_limits options.now input.now fitted.decimals
+        (Ok fitted.outputs) }
+    ensures { IfOk result (λ outputs. IsFittedTo options.now input.now (Ok outputs)) }
+{
+    let more = more_of(alloc, options, input, &fitted)?;
+    outputs_at(alloc, fitted, &more)
 }
 
 /// The outputs of an input with the most decimals that the grid does not refuse, or what more is
@@ -77,7 +131,7 @@ fn fitted_outputs(
     ensures stopped { IfErr result (IsUnfitted options.now input.now hint.new) }
 {
     match fit_input(alloc, fit_limits(), options, input) {
-        Ok(fitted) => Ok(outputs_at(alloc, fitted)?),
+        Ok(fitted) => Ok(told_outputs(alloc, options, input, fitted)?),
         Err(refused) => {
             *hint = hint_of(alloc, fit_limits(), options, input, &refused)?;
             let Unfitted { status, numbering } = refused.end;
