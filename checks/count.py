@@ -45,22 +45,65 @@ def crate_of(file):
     return file.split("/")[1]
 
 
+def crates_above():
+    """Each crate with all that stand on it, itself left out."""
+    above = {}
+    for line in lines_of("crates.txt"):
+        name, colon, below = line.partition(":")
+        if colon and not line.startswith("#"):
+            for it in below.split():
+                above.setdefault(it, set()).add(name.split()[0])
+
+    def all_above(crate, found):
+        for it in above.get(crate, set()) - found:
+            found.add(it)
+            all_above(it, found)
+        return found
+
+    return {crate: all_above(crate, set()) for crate in above}
+
+
+def brought_in(text):
+    """The names that a file imports from other crates, and the crates that it imports whole."""
+    named, whole = set(), set()
+    for crate, path in re.findall(r"^ *(?:pub )?use (\w+)::([^;]*);", text, re.M):
+        if crate not in ("crate", "self", "super", "std"):
+            named.update(re.findall(r"\w+", path))
+            if path.endswith("*"):
+                whole.add(crate)
+    return named, whole
+
+
 def uncalled(names):
-    """The public functions, laws left out, that neither another crate nor a test calls."""
+    """The public functions, laws left out, that neither another crate nor a test calls: a method counts as called where a file above calls one of
+    its name, another function where a file imports it and calls it by its bare name."""
     code = {file: re.sub(r"//.*", "", "\n".join(lines_of(file))) for file in names}
-    handed_out, called, tested = {}, {}, {}
+    methods, functions, imports, above = {}, {}, {}, crates_above()
+    handed_out = {}
     for file, text in code.items():
-        calls = set(re.findall(r"\b([a-z_0-9]+)(?:::<[^>]*>)?\(", text))
-        called.setdefault(crate_of(file), set()).update(calls)
-        if "test" in file or "#[test]" in text:
-            tested.setdefault(crate_of(file), set()).update(calls)
+        methods[file] = set(re.findall(r"(?:\.|::)(\w+)(?:::<[^>]*>)?\(", text))
+        functions[file] = set(re.findall(r"(?<![.:\w])(?<!fn )(\w+)(?:::<[^>]*>)?\(", text))
+        imports[file] = brought_in(text)
         if file.endswith("/src/lib.rt"):
             handed_out[crate_of(file)] = set(re.findall(r"\w+", " ".join(re.findall(r"pub use ([^;]*);", text))))
+
+    def is_called(name, is_method, crate):
+        for file, text in code.items():
+            called = name in (methods if is_method else functions)[file]
+            if called and crate_of(file) == crate and ("test" in file or "#[test]" in text):
+                return True
+            if called and crate_of(file) in above.get(crate, ()):
+                named, whole = imports[file]
+                if is_method or name in named or crate in whole:
+                    return True
+        return False
+
     for file, text in code.items():
         crate = crate_of(file)
-        elsewhere = set().union(*(calls for other, calls in called.items() if other != crate), tested.get(crate, ()))
         for indent, name in re.findall(r"^( *)pub (?:const )?fn ([a-z_0-9]+)", text, re.M):
-            if not name.startswith("law_") and (indent or name in handed_out.get(crate, ())) and name not in elsewhere:
+            if name.startswith("law_") or not indent and name not in handed_out.get(crate, ()):
+                continue
+            if not is_called(name, bool(indent), crate):
                 yield f"{file}: {name}"
 
 

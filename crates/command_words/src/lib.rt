@@ -13,6 +13,6 @@ mod reading;
 
 pub use fault::WordsFault;
 pub use laws::law_switches;
-pub use names::{base_of, extension_of, file_name, with_extension};
+pub use names::{base_of, file_name, with_extension};
 pub use options::{Extension, Options};
 pub use reading::read_words;

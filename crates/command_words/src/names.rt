@@ -29,7 +29,7 @@ fn has_extension(name: &[u8], extension: Extension) -> bool
 }
 
 /// The known extension with which the name ends.
-pub fn extension_of(name: &[u8]) -> Option<Extension>
+pub(crate) fn extension_of(name: &[u8]) -> Option<Extension>
     ensures { result ≡ extension_of name.now }
 {
     if has_extension(name, Extension::Node) {

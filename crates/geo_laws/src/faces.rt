@@ -1,6 +1,6 @@
 //! The faces and the sides of tetrahedra, each with its numbers ascending.
 ghost use Rattle.std.specs.Prelude.{◌≡◌, ◌↔◌, true};
-ghost use Rattle.geo_laws.specs.Faces.{face_of, side_of, row_faces, row_sides, FaceBefore};
+ghost use Rattle.geo_laws.specs.Faces.{face_of, side_of, row_faces, FaceBefore};
 
 use crate::Tet;
 
@@ -58,19 +58,5 @@ pub fn row_faces(row: Tet) -> [Face; 4]
         face_of(row.a, row.c, row.d),
         face_of(row.a, row.b, row.d),
         face_of(row.a, row.b, row.c),
-    ]
-}
-
-/// The six sides of a row.
-pub fn row_sides(row: Tet) -> [Side; 6]
-    ensures { result ≡ row_sides row }
-{
-    [
-        side_of(row.a, row.b),
-        side_of(row.a, row.c),
-        side_of(row.a, row.d),
-        side_of(row.b, row.c),
-        side_of(row.b, row.d),
-        side_of(row.c, row.d),
     ]
 }

@@ -9,7 +9,7 @@ mod tetrahedra;
 pub use complex::{
     Complex, Facet, FacetTriangle, FacetTriangles, Piece, Pieces, RatPoints, Region, Segments,
 };
-pub use faces::{Face, Side, face_of, row_faces, row_sides, side_of, stands_before};
+pub use faces::{Face, Side, face_of, row_faces, side_of, stands_before};
 pub use laws::{
     law_cover, law_delaunay_list, law_hull, law_least_height, law_lift, law_nudge, law_radical,
     law_residual, law_three_term,

@@ -122,7 +122,7 @@ fn coordinate_on(grid: &Grid, d: &Decimal) -> i32
 }
 
 /// The point in units of a grid on which it has whole coordinates, at most 2^23 in size.
-pub fn to_least_grid(grid: &Grid, p: &DecimalPoint) -> GridPoint
+pub(crate) fn to_least_grid(grid: &Grid, p: &DecimalPoint) -> GridPoint
     requires { IsPointOnGrid grid.now p.now }
     ensures { result ≡ point_on grid.now p.now }
 {

@@ -10,5 +10,5 @@ mod terms;
 
 pub use fault::GridFault;
 pub use laws::{law_terms, law_units};
-pub use least::{least_grid, to_least_grid};
+pub use least::least_grid;
 pub use settling::{grid_points, settle_least};

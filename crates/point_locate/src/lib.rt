@@ -5,5 +5,5 @@
 mod look;
 mod walk;
 
-pub use look::{Shape, corner_point, placed, row_points, shape_of};
+pub use look::{Shape, placed, row_points, shape_of};
 pub use walk::{Place, locate, scan};

@@ -48,7 +48,7 @@ pub fn shape_of(t: SlotCorners) -> Shape
 
 /// The point of a corner, or `p` for the point at infinity. Corners are places in `points`, from 0,
 /// and coordinates are in grid units.
-pub fn corner_point(points: &Points, p: GridPoint, corner: Corner) -> GridPoint
+fn corner_point(points: &Points, p: GridPoint, corner: Corner) -> GridPoint
     requires { IsOn points.now corner }
     ensures { result ≡ corner_point points.now p corner }
 {

@@ -66,7 +66,7 @@ fn apart_z(
 /// Whether the boxes of two triangles, with sides along the axes, are apart: then no point lies in
 /// both.
 #[inline]
-pub fn boxes_apart(
+pub(crate) fn boxes_apart(
     a: GridPoint,
     b: GridPoint,
     c: GridPoint,

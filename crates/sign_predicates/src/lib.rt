@@ -17,7 +17,6 @@ mod tetrahedron;
 mod vector;
 mod volumes;
 
-pub use boxes::boxes_apart;
 pub use centroid::{normal_sign, orient_centroid, turn_centroid, turn_sign};
 pub use entering::triangle_enters;
 pub use laws::law_ties;
