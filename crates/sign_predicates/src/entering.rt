@@ -287,7 +287,8 @@ fn crosses_from_both(
     requires q_is { IsSpot (triangle a b c) q.now }
     requires r_is { IsSpot (triangle a b c) r.now }
     requires s_is { IsSpot (triangle a b c) s.now }
-    ensures { IsTrue result ↔ (CrossesFrom (triangle a b c) p.now.at q.now.at r.now.at s.now.at × CrossesFrom (triangle a b c) q.now.at p.now.at r.now.at s.now.at) }
+    ensures { IsTrue result ↔ (CrossesFrom (triangle a b c) p.now.at q.now.at r.now.at s.now.at
+        × CrossesFrom (triangle a b c) q.now.at p.now.at r.now.at s.now.at) }
 {
     crosses_from(p, q, r, s, a, b, c) && crosses_from(q, p, r, s, a, b, c)
 }
@@ -306,7 +307,8 @@ fn section_within(
     requires q_is { IsSpot (triangle a b c) q.now }
     requires r_is { IsSpot (triangle a b c) r.now }
     requires s_is { IsSpot (triangle a b c) s.now }
-    ensures { IsTrue result ↔ SectionWithin (record { a = p.now.at; b = q.now.at; c = r.now.at; d = s.now.at }) (triangle a b c) }
+    ensures { IsTrue result ↔ SectionWithin
+        (record { a = p.now.at; b = q.now.at; c = r.now.at; d = s.now.at }) (triangle a b c) }
 {
     crosses_from_both(p, q, r, s, a, b, c) && crosses_from_both(r, s, p, q, a, b, c)
 }

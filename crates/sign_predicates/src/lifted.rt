@@ -59,8 +59,10 @@ fn steps_from(corner: i32, step: u32, x: i32) -> Option<i32>
     requires step { 0 < step }
     requires corner { unsigned_abs corner ≤ 2 ^ 23 }
     requires x { unsigned_abs x ≤ 2 ^ 23 }
-    ensures there { IfSome result (λ q. IsStepsFrom corner (pos step) q x × (pos 0 ≤ℤ q) × (q ≤ℤ pos 1048576)) }
-    ensures none { IfNone result ((q : ℤ) → pos 0 ≤ℤ q → q ≤ℤ pos 1048576 → IsStepsFrom corner (pos step) q x → ⊥) }
+    ensures there { IfSome result
+        (λ q. IsStepsFrom corner (pos step) q x × (pos 0 ≤ℤ q) × (q ≤ℤ pos 1048576)) }
+    ensures none { IfNone result
+        ((q : ℤ) → pos 0 ≤ℤ q → q ≤ℤ pos 1048576 → IsStepsFrom corner (pos step) q x → ⊥) }
 {
     if x < corner {
         return None;

@@ -49,7 +49,8 @@ fn is_between(a: GridPoint, b: GridPoint, p: GridPoint) -> bool
 
 /// Whether an end of one of the two segments lies on the other.
 fn has_end_on(p: GridPoint, q: GridPoint, a: GridPoint, b: GridPoint) -> bool
-    ensures { IsTrue result ↔ (IsBetween a b p ⊎ (IsBetween a b q ⊎ (IsBetween p q a ⊎ IsBetween p q b))) }
+    ensures { IsTrue result ↔ (IsBetween a b p
+        ⊎ (IsBetween a b q ⊎ (IsBetween p q a ⊎ IsBetween p q b))) }
 {
     is_between(a, b, p) || is_between(a, b, q) || is_between(p, q, a) || is_between(p, q, b)
 }
@@ -109,7 +110,8 @@ fn lies_about(n: Normal, a: GridPoint, b: GridPoint, c: GridPoint, p: GridPoint)
 /// Whether the triangle isn't on a line and holds `p`, which lies in its plane.
 fn holds_flat(a: GridPoint, b: GridPoint, c: GridPoint, p: GridPoint) -> bool
     requires { orient a b c p ≡ pos 0 }
-    ensures { IsTrue result ↔ (¬ IsZeroVector (normal (triangle a b c)) × TurnsAbout (triangle a b c) p) }
+    ensures { IsTrue result ↔ (¬ IsZeroVector (normal (triangle a b c))
+        × TurnsAbout (triangle a b c) p) }
 {
     let n = cross(from_to(a, b), from_to(a, c));
     !is_zero(n) && lies_about(n, a, b, c, p)
@@ -117,7 +119,8 @@ fn holds_flat(a: GridPoint, b: GridPoint, c: GridPoint, p: GridPoint) -> bool
 
 /// Whether the segment meets a side of the triangle.
 fn meets_side(p: GridPoint, q: GridPoint, a: GridPoint, b: GridPoint, c: GridPoint) -> bool
-    ensures { IsTrue result ↔ (SegmentMeetsTriangle p q (segment a b) ⊎ (SegmentMeetsTriangle p q (segment b c) ⊎ SegmentMeetsTriangle p q (segment c a))) }
+    ensures { IsTrue result ↔ (SegmentMeetsTriangle p q (segment a b)
+        ⊎ (SegmentMeetsTriangle p q (segment b c) ⊎ SegmentMeetsTriangle p q (segment c a))) }
 {
     if segments_meet(p, q, a, b) {
         true
@@ -222,7 +225,8 @@ pub fn segment_meets_triangle(
 /// Whether three numbers are all above 0 or all below.
 #[inline]
 fn has_one_sign(x: i128, y: i128, z: i128) -> bool
-    ensures { IsTrue result → ((pos 0 <ℤ x) × (pos 0 <ℤ y) × (pos 0 <ℤ z)) ⊎ ((x <ℤ pos 0) × (y <ℤ pos 0) × (z <ℤ pos 0)) }
+    ensures { IsTrue result → ((pos 0 <ℤ x) × (pos 0 <ℤ y) × (pos 0 <ℤ z))
+        ⊎ ((x <ℤ pos 0) × (y <ℤ pos 0) × (z <ℤ pos 0)) }
 {
     if x > 0 {
         y > 0 && z > 0
@@ -279,7 +283,8 @@ fn sides_meet(
     e: GridPoint,
     f: GridPoint,
 ) -> bool
-    ensures { IsTrue result ↔ (SegmentMeetsTriangle a b (triangle d e f) ⊎ (SegmentMeetsTriangle b c (triangle d e f) ⊎ SegmentMeetsTriangle c a (triangle d e f))) }
+    ensures { IsTrue result ↔ (SegmentMeetsTriangle a b (triangle d e f)
+        ⊎ (SegmentMeetsTriangle b c (triangle d e f) ⊎ SegmentMeetsTriangle c a (triangle d e f))) }
 {
     if segment_meets_triangle(a, b, d, e, f) {
         true

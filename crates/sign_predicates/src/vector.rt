@@ -82,8 +82,8 @@ fn det_of_two(a: i32, b: i32, c: i32, d: i32) -> i64
     requires d_small { unsigned_abs d ≤ 2 ^ 24 }
     ensures value { result ≡ det_of_two a b c d }
     ensures size { unsigned_abs result ≤ 2 ^ 49 }
-    ensures short { unsigned_abs a ≤ 2 ^ 20 → unsigned_abs b ≤ 2 ^ 20 → unsigned_abs c ≤ 2 ^ 20 → unsigned_abs d ≤ 2 ^ 20
-        → unsigned_abs result ≤ 2 ^ 41 }
+    ensures short { unsigned_abs a ≤ 2 ^ 20 → unsigned_abs b ≤ 2 ^ 20 → unsigned_abs c ≤ 2 ^ 20
+        → unsigned_abs d ≤ 2 ^ 20 → unsigned_abs result ≤ 2 ^ 41 }
 {
     a as i64 * d as i64 - b as i64 * c as i64
 }
@@ -129,7 +129,8 @@ fn sum_of_three(a: i64, x: i64, b: i64, y: i64, c: i64, z: i64) -> i128
     requires y_small { unsigned_abs y ≤ 2 ^ 44 }
     requires z_small { unsigned_abs z ≤ 2 ^ 44 }
     ensures value { result ≡ a *ℤ x -ℤ b *ℤ y +ℤ c *ℤ z }
-    ensures size { unsigned_abs result ≤ 2 ^ 49 * (unsigned_abs x + unsigned_abs y + unsigned_abs z) }
+    ensures size { unsigned_abs result
+        ≤ 2 ^ 49 * (unsigned_abs x + unsigned_abs y + unsigned_abs z) }
 {
     a as i128 * x as i128 - b as i128 * y as i128 + c as i128 * z as i128
 }
@@ -295,7 +296,8 @@ fn triple_of(n: i64, o: i64, p: i64, u: i64, v: i64, w: i64, x: i64, y: i64, z: 
     requires x_small { unsigned_abs x ≤ 2 ^ 26 }
     requires y_small { unsigned_abs y ≤ 2 ^ 26 }
     requires z_small { unsigned_abs z ≤ 2 ^ 26 }
-    ensures { result ≡ n *ℤ (v *ℤ z -ℤ w *ℤ y) +ℤ o *ℤ (w *ℤ x -ℤ u *ℤ z) +ℤ p *ℤ (u *ℤ y -ℤ v *ℤ x) }
+    ensures { result ≡ n *ℤ (v *ℤ z -ℤ w *ℤ y) +ℤ o *ℤ (w *ℤ x -ℤ u *ℤ z)
+        +ℤ p *ℤ (u *ℤ y -ℤ v *ℤ x) }
 {
     n as i128 * (v as i128 * z as i128 - w as i128 * y as i128)
         + o as i128 * (w as i128 * x as i128 - u as i128 * z as i128)
