@@ -2,37 +2,12 @@ ghost use Rattle.std.specs.Prelude.{All, IsTrue, length};
 ghost use Rattle.simplex_meets.specs.Proper.{IsTriangle, IsSegment, triangle_face};
 ghost use Rattle.box_pairs.specs.Parts.{piece_side};
 
+use crate::simplex_places::places;
 use box_pairs::{Part, PlaneFault, crossings};
 use geo_laws::{Face, FacetTriangle, FacetTriangles, Piece, Pieces, Points, Side};
-use sign_predicates::GridPoint;
 use simplex_meets::{is_segment, is_triangle};
 use std::alloc::Global;
 use tet_ports::NoMemory;
-
-/// A square with its center, a point above the center, one far off in the square's plane, and one
-/// above a corner.
-static PLACES: [[i8; 3]; 8] = [
-    [0, 0, 0],
-    [4, 0, 0],
-    [4, 4, 0],
-    [0, 4, 0],
-    [2, 2, 0],
-    [2, 2, 4],
-    [9, 9, 0],
-    [4, 4, 4],
-];
-
-fn places(alloc: Global) -> Result<Points, NoMemory> {
-    let mut points = Points::new(alloc);
-    for [x, y, z] in &PLACES {
-        points.push(GridPoint {
-            x: i32::from(*x),
-            y: i32::from(*y),
-            z: i32::from(*z),
-        })?;
-    }
-    Ok(points)
-}
 
 fn triangle(f: [u32; 3]) -> FacetTriangle {
     FacetTriangle {
@@ -217,6 +192,6 @@ fn crossing(alloc: Global, case: &Case) -> Result<Option<Option<[[u32; 3]; 2]>>,
 fn first_crossings(rt: HostRuntime) {
     let alloc = rt.alloc();
     for (i, case) in CASES.iter().enumerate() {
-        assert!(rt; crossing(alloc, case) == Ok(Some(case.first)), "case {i}");
+        assert_eq!(rt; crossing(alloc, case), Ok(Some(case.first)), "case {i}");
     }
 }

@@ -6,4 +6,6 @@ mod complex_parts;
 #[cfg(test)]
 mod signs;
 #[cfg(test)]
+mod simplex_places;
+#[cfg(test)]
 mod simplices;

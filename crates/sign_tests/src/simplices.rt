@@ -1,46 +1,9 @@
+use crate::simplex_places::{face, places, side};
 use geo_laws::{Face, Points, Side};
-use sign_predicates::GridPoint;
 use simplex_meets::{
     face_met_segment, faces_met, is_segment, is_triangle, segment_met_face, segments_met,
 };
-use std::alloc::Global;
 use std::test::Fail;
-use tet_ports::NoMemory;
-
-/// A square with its center, a point above the center and one far off in the square's plane.
-static PLACES: [[i8; 3]; 7] = [
-    [0, 0, 0],
-    [4, 0, 0],
-    [4, 4, 0],
-    [0, 4, 0],
-    [2, 2, 0],
-    [2, 2, 4],
-    [9, 9, 0],
-];
-
-fn places(alloc: Global) -> Result<Points, NoMemory> {
-    let mut points = Points::new(alloc);
-    for [x, y, z] in &PLACES {
-        points.push(GridPoint {
-            x: i32::from(*x),
-            y: i32::from(*y),
-            z: i32::from(*z),
-        })?;
-    }
-    Ok(points)
-}
-
-fn side(s: [u32; 2]) -> Side {
-    Side { a: s[0], b: s[1] }
-}
-
-fn face(f: [u32; 3]) -> Face {
-    Face {
-        a: f[0],
-        b: f[1],
-        c: f[2],
-    }
-}
 
 fn two_sides(points: &Points, s: Side, t: Side) -> Option<bool> {
     if is_segment(points, s) && is_segment(points, t) {
@@ -84,7 +47,11 @@ static SEGMENTS: [([u32; 2], [u32; 2], Option<bool>); 7] = [
 fn segments(rt: HostRuntime) -> Result<(), Fail> {
     let points = places(rt.alloc())?;
     for (s, t, want) in &SEGMENTS {
-        assert!(rt; two_sides(&points, side(*s), side(*t)) == *want);
+        assert_eq!(rt;
+            two_sides(&points, side(*s), side(*t)),
+            *want,
+            "{s:?} and {t:?}"
+        );
     }
     Ok(())
 }
@@ -104,7 +71,11 @@ static SEGMENTS_AND_TRIANGLES: [([u32; 2], [u32; 3], Option<bool>); 8] = [
 fn segments_and_triangles(rt: HostRuntime) -> Result<(), Fail> {
     let points = places(rt.alloc())?;
     for (s, f, want) in &SEGMENTS_AND_TRIANGLES {
-        assert!(rt; side_and_face(&points, side(*s), face(*f)) == *want);
+        assert_eq!(rt;
+            side_and_face(&points, side(*s), face(*f)),
+            *want,
+            "{s:?} and {f:?}"
+        );
     }
     Ok(())
 }
@@ -124,7 +95,11 @@ static TRIANGLES: [([u32; 3], [u32; 3], Option<bool>); 8] = [
 fn triangles(rt: HostRuntime) -> Result<(), Fail> {
     let points = places(rt.alloc())?;
     for (f, g, want) in &TRIANGLES {
-        assert!(rt; two_faces(&points, face(*f), face(*g)) == *want);
+        assert_eq!(rt;
+            two_faces(&points, face(*f), face(*g)),
+            *want,
+            "{f:?} and {g:?}"
+        );
     }
     Ok(())
 }
