@@ -64,7 +64,7 @@ pub enum Reason {
 
 impl Reason {
     /// What is said of it.
-    pub fn text(self) -> &'static [u8]
+    pub(crate) fn text(self) -> &'static [u8]
         ensures { result.now ≡ text_of self }
     {
         match self {
