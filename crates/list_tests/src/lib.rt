@@ -5,3 +5,5 @@
 mod mesh_texts;
 #[cfg(test)]
 mod neighbors;
+#[cfg(test)]
+mod tet_lists;

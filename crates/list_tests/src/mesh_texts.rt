@@ -1,7 +1,6 @@
 //! Texts of small meshes, against the formats of the manual.
 
-ghost use Rattle.std.specs.Prelude.{◌≤◌};
-
+use crate::tet_lists::list_of;
 use geo_laws::{Complex, FacetTriangles, Points, Tet, TetList};
 use mesh_files::*;
 use std::alloc::Global;
@@ -21,18 +20,9 @@ const CUBE: [[u32; 4]; 6] = [
     [3, 5, 6, 7],
 ];
 
-/// A list of rows, each by its corners.
-fn list_of(alloc: Global, rows: &[[u32; 4]]) -> Result<TetList, NoMemory> {
-    let mut list = TetList::new(alloc);
-    for row in rows {
-        list.push(Tet {
-            a: row[0],
-            b: row[1],
-            c: row[2],
-            d: row[3],
-        })?;
-    }
-    Ok(list)
+/// The bytes as text.
+fn text_of(bytes: &Bytes) -> &str {
+    std::str::from_utf8(bytes.as_slice()).unwrap_or("no text")
 }
 
 /// The neighbors of rows as text.
@@ -42,22 +32,23 @@ fn neighbor_text(alloc: Global, rows: &[[u32; 4]], first: u32) -> Result<Bytes, 
     write_neigh(alloc, &pairs, first)
 }
 
-static NEIGHBOR_TEXTS: [(&[[u32; 4]], u32, &[u8]); 5] = [
-    (&SMALLEST, 1, b"1 4\n1 -1 -1 -1 -1\n"),
-    (&PYRAMID, 0, b"2 4\n0 1 -1 -1 -1\n1 -1 0 -1 -1\n"),
-    (&PYRAMID, 1, b"2 4\n1 2 -1 -1 -1\n2 -1 1 -1 -1\n"),
+static NEIGHBOR_TEXTS: [(&[[u32; 4]], u32, &str); 5] = [
+    (&SMALLEST, 1, "1 4\n1 -1 -1 -1 -1\n"),
+    (&PYRAMID, 0, "2 4\n0 1 -1 -1 -1\n1 -1 0 -1 -1\n"),
+    (&PYRAMID, 1, "2 4\n1 2 -1 -1 -1\n2 -1 1 -1 -1\n"),
     (
         &CUBE,
         0,
-        b"6 4\n0 2 -1 -1 -1\n1 3 2 -1 -1\n2 4 -1 1 0\n3 5 -1 -1 1\n4 -1 5 -1 2\n5 -1 -1 4 3\n",
+        "6 4\n0 2 -1 -1 -1\n1 3 2 -1 -1\n2 4 -1 1 0\n3 5 -1 -1 1\n4 -1 5 -1 2\n5 -1 -1 4 3\n",
     ),
-    (&[], 0, b"0 4\n"),
+    (&[], 0, "0 4\n"),
 ];
 
 #[test]
 fn texts_of_neighbors(rt: HostRuntime) -> Result<(), Fail> {
     for (rows, first, neigh) in &NEIGHBOR_TEXTS {
-        assert!(rt; neighbor_text(rt.alloc(), rows, *first)?.as_slice() == *neigh);
+        let text = neighbor_text(rt.alloc(), rows, *first)?;
+        assert_eq!(rt; text_of(&text), *neigh);
     }
     Ok(())
 }
@@ -89,19 +80,17 @@ fn counts(alloc: Global, rows: &[[u32; 4]]) -> Result<[usize; 4], NoMemory> {
 
 /// With T rows, P points in all and B of them on the surface, a ball has 2T + B - 2 faces, T + P +
 /// B - 3 sides and 2B - 4 faces on the surface. Here all points are on it.
-fn is_ball(alloc: Global, rows: &[[u32; 4]], points: usize) -> Result<bool, NoMemory>
-    requires { (3 ≤ points) × (points ≤ 100) }
-{
-    let count = rows.len();
-    let faces = 2 * count + points - 2;
-    Ok(counts(alloc, rows)? == [faces, count + 2 * points - 3, faces, 2 * points - 4])
-}
+static BALLS: [(&[[u32; 4]], [usize; 4]); 3] = [
+    (&SMALLEST, [4, 6, 4, 4]),
+    (&PYRAMID, [7, 9, 7, 6]),
+    (&CUBE, [18, 19, 18, 12]),
+];
 
 #[test]
 fn counts_of_balls(rt: HostRuntime) -> Result<(), Fail> {
-    assert!(rt; is_ball(rt.alloc(), &SMALLEST, 4)?);
-    assert!(rt; is_ball(rt.alloc(), &PYRAMID, 5)?);
-    assert!(rt; is_ball(rt.alloc(), &CUBE, 8)?);
+    for (rows, want) in &BALLS {
+        assert_eq!(rt; counts(rt.alloc(), rows)?, *want);
+    }
     Ok(())
 }
 
@@ -121,6 +110,7 @@ fn named_text(alloc: Global) -> Result<Bytes, NoMemory> {
 
 #[test]
 fn corners_by_their_names(rt: HostRuntime) -> Result<(), Fail> {
-    assert!(rt; named_text(rt.alloc())?.as_slice() == b"1 4 0\n1 5 1 10 3\n".as_slice());
+    let text = named_text(rt.alloc())?;
+    assert_eq!(rt; text_of(&text), "1 4 0\n1 5 1 10 3\n");
     Ok(())
 }

@@ -1,5 +1,6 @@
 //! Pairs of small meshes, drawn by hand.
-use geo_laws::{Tet, TetList};
+use crate::tet_lists::tet;
+use geo_laws::TetList;
 use incidence::{Across, pair_faces};
 use std::alloc::Global;
 use std::test::Fail;
@@ -48,12 +49,7 @@ fn are_across(across: Across, want: [Option<usize>; 4]) -> bool {
 fn list_of(alloc: Global, rows: &[Row]) -> Result<TetList, NoMemory> {
     let mut list = TetList::new(alloc);
     for (row, _) in rows {
-        list.push(Tet {
-            a: row[0],
-            b: row[1],
-            c: row[2],
-            d: row[3],
-        })?;
+        list.push(tet(*row))?;
     }
     Ok(list)
 }
