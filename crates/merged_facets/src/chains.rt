@@ -28,7 +28,8 @@ fn nothing(alloc: Global, count: u32) -> Result<Vec<Option<u32>>, NoMemory>
 /// The members of each group of so many facets.
 pub(crate) fn chained(alloc: Global, merging: &Merging, count: u32) -> Result<Chains, NoMemory>
     requires { (f : ℕ) → f < count → group_of merging.now f ≤ f }
-    ensures { IfOk result (λ c. AreChains (group_of merging.now) count 0 c.first.items c.next.items) }
+    ensures { IfOk result (λ c. AreChains
+        (group_of merging.now) count 0 c.first.items c.next.items) }
 {
     let mut first = nothing(alloc, count)?;
     let mut next = nothing(alloc, count)?;

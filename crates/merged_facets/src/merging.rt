@@ -217,7 +217,7 @@ pub fn merge_facets(alloc: Global, points: &Points, complex: &Complex) -> Result
 impl Merging {
     /// The least number of the facet's group: the number of the merged facet. It is 0 past the
     /// facets.
-    pub fn group_of(&self, facet: u32) -> u32
+    pub(crate) fn group_of(&self, facet: u32) -> u32
         ensures { result ≡ group_of self.now facet }
     {
         match self.group.get(facet as usize) {
@@ -227,7 +227,7 @@ impl Merging {
     }
 
     /// Whether the side, in either direction, is inner in the facet.
-    pub fn is_inner(&self, facet: u32, side: Piece) -> bool
+    pub(crate) fn is_inner(&self, facet: u32, side: Piece) -> bool
         ensures { result ≡ is_inner self.now facet side }
     {
         self.inner.contains(&InnerSide {
