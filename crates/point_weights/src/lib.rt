@@ -7,4 +7,3 @@ mod units;
 
 pub use fault::WeightFault;
 pub use reading::read_weights;
-pub use units::to_weight;

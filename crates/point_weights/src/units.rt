@@ -32,7 +32,7 @@ fn signed(negative: bool, size: u64) -> i64
 /// The weight in squares of grid units, which are 1 / (10^(2 `decimals`) × 4^`halvings`). It is
 /// first rounded to twice the grid's decimals, halves away from zero. None where it is then over
 /// 2^46 in size.
-pub fn to_weight(grid: &Grid, d: &Decimal) -> Option<i64>
+pub(crate) fn to_weight(grid: &Grid, d: &Decimal) -> Option<i64>
     requires { grid.now.halvings ≤ 12 }
     ensures value { result ≡ weight_units grid.now d.now }
     ensures small { IfSome result IsWeight }
