@@ -14,7 +14,7 @@ use Rattle.box_pairs.specs.declared.complex_parts.Part.{Part}
 use Rattle.box_pairs.specs.declared.complex_parts.Part.TheVariants.{Triangle}
 use Rattle.box_pairs.specs.Parts.{part_numbers, IsPairMet}
 use Rattle.box_pairs.specs.Boxes.{HoldsPart, IsPartTree, HasPartBoxes, HasUnmarked}
-use Rattle.box_pairs.specs.Pairs.{AreMetAt, ArePairwiseMet, AreMarkedMet, IsMarked, IsUnmet, IsFirstPair, IsFound, IsUpTo, IsNoLater, IsSettled, IsFirstAfter, IsFirstAmong}
+use Rattle.box_pairs.specs.Pairs.{AreMetAt, ArePairwiseMet, AreMarkedMet, AreMarkedFrom, IsMarked, IsUnmet, IsFirstPair, IsFound, IsUpTo, IsNoLater, IsSettled, IsFirstAfter, IsFirstAmong}
 use Rattle.box_pairs.proofs.Apart.{met_apart}
 
 -- what stands for a part at a place beyond the end
@@ -161,6 +161,19 @@ met_more among ps parts i before first k l o h n = go (below_or k i o)
     go : (k < i) ⊎ (k ≡ i) → AreMetAt among ps parts k l
     go (inl c) = before k l c h n
     go (inr e) = subst (λ m. AreMetAt among ps parts m l) (sym e) (none_after among ps parts i first l (omega arith) n)
+
+-- where the parts from a place on are marked, all are properly met if those before it are with all later ones
+pub rest_met : (among : Bool) (ps : List Point) (parts : List Part) (marks : List Bool) (n end : ℕ) → AreMarkedFrom marks end → AreMarkedMet among ps parts marks
+    → ((k : ℕ) → n ≤ k → k < length parts → end ≤ k) → ((k l : ℕ) → k < n → k < l → l < length parts → AreMetAt among ps parts k l)
+    → ArePairwiseMet among ps parts
+rest_met among ps parts marks n end marked met past before i j d h l = go (before_or i n)
+  where
+    before_or : (i n : ℕ) → (i < n) ⊎ (n ≤ i)
+    before_or i n = grind arith
+
+    go : (i < n) ⊎ (n ≤ i) → IsPairMet among ps (get_or parts i d) (get_or parts j d)
+    go (inl b) = before i j b h l d
+    go (inr o) = let e : end ≤ i = past i o (omega arith) in met i j h l (marked i e) (marked j (omega arith)) d
 
 -- the first pair is that of the first part that has one, and the first after it
 pub first_pair_is : (among : Bool) (ps : List Point) (parts : List Part) (i j : ℕ)
