@@ -6,6 +6,7 @@ pub mod Recovered
 pub mod Covered
 pub mod Kept
 pub mod Listed
+pub mod InPlane
 pub mod OneAnswerParts
 pub mod OneAnswer
 pub mod Meshed

@@ -15,6 +15,7 @@ use Rattle.facet_laws.proofs.FlatTest.{law_flat}
 use Rattle.facet_plane.specs.Flat.{IsFirstNotFlat}
 use Rattle.facet_plane.specs.declared.flat.NotFlat.{NotFlat}
 use Rattle.segment_protect.specs.Crossing.{AreMet, ArePairwiseMet, IsFirstCrossing as IsFirstSegments}
+use Rattle.box_pairs.specs.declared.complex_parts.Compared.TheVariants.{WithTriangle}
 use Rattle.box_pairs.specs.declared.complex_parts.Part.{Part}
 use Rattle.box_pairs.specs.declared.complex_parts.Part.TheVariants.{Triangle, Segment}
 use Rattle.box_pairs.specs.Parts.{IsPairMet}
@@ -126,7 +127,7 @@ parts_once ps ts pieces one two one' two' h k =
     (at_same (parts_in ts pieces) h.i k.i one one' same.0 h.one_is k.one_is, at_same (parts_in ts pieces) h.j k.j two two' same.1 h.two_is k.two_is)
   where
     same : (h.i ≡ k.i) × (h.j ≡ k.j)
-    same = first_pair (IsUnmet false ps (parts_in ts pieces)) h.i h.j k.i k.j h.first.is k.first.is
+    same = first_pair (IsUnmet WithTriangle ps (parts_in ts pieces)) h.i h.j k.i k.j h.first.is k.first.is
         (λ m n before bad. bad.unmet one (h.first.first m n bad.order bad.within before one)) (λ m n before bad. bad.unmet one (k.first.first m n bad.order bad.within before one))
 
 no_triangle : FacetTriangle
@@ -156,8 +157,8 @@ part_at ts pieces i d h = by (cases_lt i (length ts))
         piece_at (i - length ts) n (omega arith)
         (get_or-append_right (map Triangle ts) (map Segment pieces) (length ts) i d (length-map ts Triangle) l ∙ get_or-map Segment pieces (i - length ts) no_piece d n)
 
-pair_met : (ps : List Point) (p q s t : Part) → p ≡ s → q ≡ t → IsPairMet false ps s t → IsPairMet false ps p q
-pair_met ps p q s t e f h = subst (λ u. IsPairMet false ps p u) (sym f) (subst (λ u. IsPairMet false ps u t) (sym e) h)
+pair_met : (ps : List Point) (p q s t : Part) → p ≡ s → q ≡ t → IsPairMet WithTriangle ps s t → IsPairMet WithTriangle ps p q
+pair_met ps p q s t e f h = subst (λ u. IsPairMet WithTriangle ps p u) (sym f) (subst (λ u. IsPairMet WithTriangle ps u t) (sym e) h)
 
 two_triangles : (ps : List Point) (ts : List FacetTriangle) (pieces : List Piece) → AreTrianglesMet ps ts pieces → (i j : ℕ) → i < j → j < length ts
     → ProperlyMet ps (corner_numbers (get_or ts i no_triangle)) (corner_numbers (get_or ts j no_triangle))
@@ -166,7 +167,7 @@ two_triangles ps ts pieces met i j h n =
     subst (λ u. ProperlyMet ps (corner_numbers (get_or ts i no_triangle)) u) (get_or-map corner_numbers ts j no_triangle [] n)
     (subst (λ u. ProperlyMet ps u (get_or (map corner_numbers ts) j [])) (get_or-map corner_numbers ts i no_triangle [] (omega arith)) (met.triangles_meet i j [] h (omega arith)))
 
-parts_met : (ps : List Point) (ts : List FacetTriangle) (pieces : List Piece) → AreTrianglesMet ps ts pieces → (i j : ℕ) (p q : Part) → i < j → PartAt ts pieces i p → PartAt ts pieces j q → IsPairMet false ps p q
+parts_met : (ps : List Point) (ts : List FacetTriangle) (pieces : List Piece) → AreTrianglesMet ps ts pieces → (i j : ℕ) (p q : Part) → i < j → PartAt ts pieces i p → PartAt ts pieces j q → IsPairMet WithTriangle ps p q
 parts_met ps ts pieces met i j p q h (triangle_at m e) (triangle_at n f) =
     pair_met ps p q (Triangle (get_or ts i no_triangle)) (Triangle (get_or ts j no_triangle)) e f (λ tested. two_triangles ps ts pieces met i j h n)
 parts_met ps ts pieces met i j p q h (triangle_at m e) (piece_at l n a f) =

@@ -79,7 +79,7 @@ sound_facet ps c on flat k l =
 -- ---- triangles
 
 -- a triangle in a facet's list is one of the facet
-of_list : (qs : List Point) (fs : List FlatFacet) (k : ℕ) (t : FacetTriangle) → IsMember t (triangles_at qs fs k) → region.IsFacetTriangle qs k (facet_at fs k) t
+pub of_list : (qs : List Point) (fs : List FlatFacet) (k : ℕ) (t : FacetTriangle) → IsMember t (triangles_at qs fs k) → region.IsFacetTriangle qs k (facet_at fs k) t
 of_list qs fs k t m = (law_facet_list qs k (facet_at fs k) t).0 (contains_of (triangles_at qs fs k) t m)
 
 -- the triangles of all facets are exactly those of each, by facets and corners

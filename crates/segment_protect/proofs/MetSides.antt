@@ -14,6 +14,7 @@ use Rattle.path_laws.proofs.Rows.{place_of}
 use Rattle.complex_laws.proofs.MetFaces.{parts_met}
 use Rattle.complex_laws.proofs.Whole.{delaunay_whole}
 use Rattle.cavity_insert.specs.Living.{HasSide}
+use Rattle.box_pairs.specs.declared.complex_parts.Compared.TheVariants.{Any}
 use Rattle.box_pairs.specs.declared.complex_parts.Part.{Part}
 use Rattle.box_pairs.specs.declared.complex_parts.Part.TheVariants.{Segment}
 use Rattle.box_pairs.specs.Parts.{IsPairMet}
@@ -53,10 +54,10 @@ seen_side ps watched k seen l marked = by (seen k unseen l)
     by (inl none) = absurd (false≢true (ap (nat_lt 0) (sym none) ∙ above))
     by (inr side) = side.1
 
-marked_met : (ps : List Point) (watched : List Watched) → All (IsSeen ps) watched → AreMarkedMet true ps (map Segment (pieces_of watched)) (seen_marks watched)
+marked_met : (ps : List Point) (watched : List Watched) → All (IsSeen ps) watched → AreMarkedMet Any ps (map Segment (pieces_of watched)) (seen_marks watched)
 marked_met ps watched seen i j h n mi mj d =
-    let P : Part → Type 0 = λ u. IsPairMet true ps u (get_or (map Segment (pieces_of watched)) j d) in
-    let Q : Part → Type 0 = λ u. IsPairMet true ps (Segment (get_or watched i unseen).piece) u in
+    let P : Part → Type 0 = λ u. IsPairMet Any ps u (get_or (map Segment (pieces_of watched)) j d) in
+    let Q : Part → Type 0 = λ u. IsPairMet Any ps (Segment (get_or watched i unseen).piece) u in
     subst P (sym (part_is i (omega arith))) (subst Q (sym (part_is j n))
     (λ t. sides_met ps (get_or watched i unseen).piece (get_or watched j unseen).piece (seen_side ps watched i seen (there_are i (omega arith)) mi) (seen_side ps watched j seen (there_are j n) mj)))
   where
@@ -71,6 +72,6 @@ marked_met ps watched seen i j h n mi mj d =
 
 -- the parts of pieces that were seen to be sides
 pub known_sides : (ps : List Point) (pieces : List Piece) (watched : List Watched) (parts : List Part) (marks : List Bool) → parts ≡ map Segment pieces → pieces_of watched ≡ pieces → marks ≡ seen_marks watched
-    → All (IsSeen ps) watched → AreMarkedMet true ps parts marks
+    → All (IsSeen ps) watched → AreMarkedMet Any ps parts marks
 known_sides ps pieces watched parts marks are same noted seen =
-    subst (λ ms. AreMarkedMet true ps parts ms) (sym noted) (subst (λ us. AreMarkedMet true ps us (seen_marks watched)) (sym (are ∙ ap (map Segment) (sym same))) (marked_met ps watched seen))
+    subst (λ ms. AreMarkedMet Any ps parts ms) (sym noted) (subst (λ us. AreMarkedMet Any ps us (seen_marks watched)) (sym (are ∙ ap (map Segment) (sym same))) (marked_met ps watched seen))

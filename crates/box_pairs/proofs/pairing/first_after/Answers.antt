@@ -7,4 +7,4 @@ first_among-requires-clause-tree c = boxes_of c.args.points.now c.args.parts.now
 pub returns : goal.returns
 returns c =
     let a = c.args in
-    first_of_whole a.among a.points.now a.parts.now a.i a.tree.now c.first_among.result c.requires.tree c.first_among.ensures
+    first_of_whole a.compared a.points.now a.parts.now a.i a.tree.now c.first_among.result c.requires.tree c.first_among.ensures

@@ -17,8 +17,8 @@ loop-at-init c =
     record {
       there = c.next_meeting-at.ensures.there;
       first =
-          first_further a.among ps a.parts.now a.i a.tree.now 0 c.next_meeting-at.result None c.part_bounds-bounds.result c.requires.tree holds
-          (first_start a.among ps a.parts.now a.i a.tree.now) c.next_meeting-at.ensures.apart c.next_meeting-at.ensures.there;
+          first_further a.compared ps a.parts.now a.i a.tree.now 0 c.next_meeting-at.result None c.part_bounds-bounds.result c.requires.tree holds
+          (first_start a.compared ps a.parts.now a.i a.tree.now) c.next_meeting-at.ensures.apart c.next_meeting-at.ensures.there;
     }
 
 pub settle-found-requires-clause-there : goal.settle-found-requires-clause-there
@@ -33,12 +33,12 @@ loop-at-preserved c =
     record {
       there = c.next_meeting-at-in-loop-at.ensures.there;
       first =
-          first_further a.among ps a.parts.now a.i a.tree.now (c.loop-at.at + 1) c.next_meeting-at-in-loop-at.result c.settle-found.result c.part_bounds-bounds.result c.requires.tree holds
-          (first_more a.among ps a.parts.now a.i a.tree.now c.loop-at.at c.get.result.now c.loop-at.found c.settle-found.result c.get.ensures e.found e.no_later e.settled c.loop-at.invariant.first)
+          first_further a.compared ps a.parts.now a.i a.tree.now (c.loop-at.at + 1) c.next_meeting-at-in-loop-at.result c.settle-found.result c.part_bounds-bounds.result c.requires.tree holds
+          (first_more a.compared ps a.parts.now a.i a.tree.now c.loop-at.at c.get.result.now c.loop-at.found c.settle-found.result c.get.ensures e.found e.no_later e.settled c.loop-at.invariant.first)
           c.next_meeting-at-in-loop-at.ensures.apart c.next_meeting-at-in-loop-at.ensures.there;
     }
 
 pub returns : goal.returns
 returns c =
     let a = c.args in
-    first_of_all a.among a.points.now a.parts.now a.i a.tree.now c.loop-at.at c.loop-at.found (omega arith) c.loop-at.invariant.first
+    first_of_all a.compared a.points.now a.parts.now a.i a.tree.now c.loop-at.at c.loop-at.found (omega arith) c.loop-at.invariant.first

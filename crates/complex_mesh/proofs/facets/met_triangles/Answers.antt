@@ -6,9 +6,10 @@ use Rattle.simplex_meets.specs.Proper.{IsTriangle, triangle_face}
 use Rattle.complex_mesh.proofs.Causes.{plane_cause}
 use Rattle.complex_mesh.proofs.Triangles.{triangles_span}
 use Rattle.complex_mesh.proofs.Protected.{are_segments}
-use Rattle.box_pairs.specs.Crossing.{AreKnownMet}
+use Rattle.box_pairs.specs.Crossing.{AreKnownMet, AreFlatMet}
 use Rattle.facet_recover.specs.Missing.{AreListed}
 use Rattle.complex_mesh.proofs.Listed.{listed_known}
+use Rattle.complex_mesh.proofs.InPlane.{met_in_plane}
 use Rattle.complex_mesh.proofs.facets.met_triangles.Goals as goal
 
 pub crossings_beside-requires-clause-triangles : goal.crossings_beside-requires-clause-triangles
@@ -23,6 +24,11 @@ crossings_beside-requires-clause-known c =
     subst (AreKnownMet c.args.points.now c.in_ok-triangles.triangles c.args.pieces.now) (sym c.as_slice.ensures.value)
     (listed_known c.args.points.now c.in_ok-triangles.triangles c.args.pieces.now c.in_ok-listed.listed.items
     (subst (λ rows. AreListed c.in_ok-triangles.triangles rows c.in_ok-listed.listed.items) c.requires.list c.in_ok-listed.ensures) c.requires.facets.are_sides)
+
+pub crossings_beside-requires-clause-flat : goal.crossings_beside-requires-clause-flat
+crossings_beside-requires-clause-flat c =
+    subst (λ ts. AreFlatMet c.args.points.now ts c.args.pieces.now) (sym c.in_ok-triangles.ensures)
+    (met_in_plane c.args.points.now (facets c.args.complex.now) c.args.pieces.now c.requires.facets.are_sides)
 
 pub returns-in_err-crossings_beside : goal.returns-in_err-crossings_beside
 returns-in_err-crossings_beside c =

@@ -1,5 +1,6 @@
 use Rattle.std.proofs.Common.{List, map, sym, subst, ◌∙◌}
-use Rattle.std.specs.Prelude.{All, true}
+use Rattle.std.specs.Prelude.{All}
+use Rattle.box_pairs.specs.declared.complex_parts.Compared.TheVariants.{Any}
 use Rattle.box_pairs.specs.declared.complex_parts.Part.{Part}
 use Rattle.box_pairs.specs.declared.complex_parts.Part.TheVariants.{Segment}
 use Rattle.box_pairs.specs.Parts.{IsPart}
@@ -26,10 +27,10 @@ returns-in-Some c =
     let a = c.args in
     let same = c.as_slice.ensures.value ∙ only_pieces c.in_ok-parts.parts.items _ a.pieces.now c.new-triangles.ensures c.in_ok-parts.ensures in
     first_of a.points.now a.pieces.now c.in-Some.i c.in-Some.j c.at.result c.at-in-Some.result
-    (some_found true a.points.now c.as_slice.result.now (map Segment a.pieces.now) c.in_ok-i.field-0 c.in-Some.i c.in-Some.j same c.in-Some.is c.in_ok-i.ensures) c.at.ensures c.at-in-Some.ensures
+    (some_found Any a.points.now c.as_slice.result.now (map Segment a.pieces.now) c.in_ok-i.field-0 c.in-Some.i c.in-Some.j same c.in-Some.is c.in_ok-i.ensures) c.at.ensures c.at-in-Some.ensures
 
 pub returns : goal.returns
 returns c =
     let a = c.args in
     let same = c.as_slice.ensures.value ∙ only_pieces c.in_ok-parts.parts.items _ a.pieces.now c.new-triangles.ensures c.in_ok-parts.ensures in
-    all_met a.points.now a.pieces.now (none_found true a.points.now c.as_slice.result.now (map Segment a.pieces.now) c.in_ok-i.field-0 same c.in-None.is c.in_ok-i.ensures)
+    all_met a.points.now a.pieces.now (none_found Any a.points.now c.as_slice.result.now (map Segment a.pieces.now) c.in_ok-i.field-0 same c.in-None.is c.in_ok-i.ensures)
