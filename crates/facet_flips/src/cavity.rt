@@ -1,6 +1,6 @@
 //! The rows that a facet crosses, and the flips that put it in.
 use crate::circuit::{Spot, plane_of, volume_over};
-use crate::local::{Local, Slot, face_opposite, place_of, place_or_stop};
+use crate::local::{Local, Slot, bit_at, face_opposite, place_of, place_or_stop};
 use crate::stop::{Stop, or_stop};
 use geo_laws::Face;
 use std::alloc::Global;
@@ -19,7 +19,8 @@ impl Local {
     /// place, or on its plane.
     fn is_within(&self, slot: &Slot, place: usize, p: Spot) -> Option<bool> {
         let [a, b, c] = face_opposite(&slot.corners, place);
-        Some(volume_over(self.spot(a)?, self.spot(b)?, self.spot(c)?, p) >= 0)
+        let (a, b, c) = (self.spot(a)?, self.spot(b)?, self.spot(c)?);
+        Some(volume_over(self.is_short, a, b, c, p) >= 0)
     }
 
     /// Whether the way from a corner of the row to a point goes into the row.
@@ -30,17 +31,6 @@ impl Local {
             }
         }
         Ok(true)
-    }
-
-    /// Whether corners of the row lie above the facet's plane, and others below.
-    fn is_parted(&self, slot: &Slot) -> Result<bool, Stop> {
-        let (mut above, mut below) = (false, false);
-        for corner in slot.corners {
-            let side = or_stop(self.side(corner))?;
-            above = above || side > 0;
-            below = below || side < 0;
-        }
-        Ok(above && below)
     }
 
     /// The row at the first corner of a triangle into which the triangle goes; `None` where it is a
@@ -62,7 +52,7 @@ impl Local {
             if has_corner(slot, t.b) && has_corner(slot, t.c) {
                 return Ok(None);
             }
-            if self.is_parted(slot)? && self.leads_into(slot, place, ahead)? {
+            if self.sides_of(slot).are_parted(0) && self.leads_into(slot, place, ahead)? {
                 return Ok(Some(row));
             }
         }
@@ -72,8 +62,9 @@ impl Local {
     /// Goes from a row of the cavity to those across the faces that the facet parts.
     fn spread(&mut self, row: u32, queue: &mut Vec<u32>) -> Result<(), Stop> {
         let slot = or_stop(self.slot(row))?;
+        let sides = self.sides_of(&slot);
         for i in 0..4 {
-            if !self.spans(&face_opposite(&slot.corners, i))? {
+            if !sides.are_parted(bit_at(i)) {
                 continue;
             }
             let across = or_stop(slot.across[i])?;

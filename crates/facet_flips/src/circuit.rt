@@ -45,9 +45,13 @@ fn from_to(a: Spot, b: Spot) -> Spot {
     }
 }
 
-/// The bits of the sizes of the coordinates.
-fn bits_of(v: Spot) -> u64 {
-    v.x.unsigned_abs() | v.y.unsigned_abs() | v.z.unsigned_abs()
+/// The coordinates of short vectors are below this, and not below its negative.
+pub(crate) const SHORT: i64 = 1 << 19;
+
+/// A number that is below a power of two exactly where all coordinates are, and are not below its
+/// negative.
+pub(crate) fn reach_of(v: Spot) -> i64 {
+    (v.x ^ v.x >> 63) | (v.y ^ v.y >> 63) | (v.z ^ v.z >> 63)
 }
 
 fn times(x: i64, y: i64) -> i128 {
@@ -60,7 +64,7 @@ fn minor(u: Spot, v: Spot) -> i64 {
 }
 
 /// A volume by three last coordinates and the minors opposite them, the second taken away. It fits
-/// 64 bits where all vectors are short, below `2^19`.
+/// 64 bits where all vectors are short.
 fn volume(is_short: bool, z: (i64, i64, i64), minors: (i64, i64, i64)) -> i128 {
     if is_short {
         let ends = z
@@ -75,28 +79,60 @@ fn volume(is_short: bool, z: (i64, i64, i64), minors: (i64, i64, i64)) -> i128 {
 }
 
 /// How the sum that says whether the corner across is outside depends on the heights of the five;
-/// the sum of the coefficients is 0.
-pub(crate) fn circuit_of(corners: &[Spot; 5]) -> [i128; 5] {
+/// the sum of the coefficients is 0. `None` where those of the face are to be no more than 0, and
+/// one is.
+pub(crate) fn circuit_of(
+    corners: &[Spot; 5],
+    is_short: bool,
+    is_convex: bool,
+) -> Option<[i128; 5]> {
     let across = corners[4];
     let (a, b) = (from_to(corners[0], across), from_to(corners[1], across));
     let (c, d) = (from_to(corners[2], across), from_to(corners[3], across));
-    let is_short = bits_of(a) | bits_of(b) | bits_of(c) | bits_of(d) < 1 << 19;
-    let (ab, ac, ad) = (minor(a, b), minor(a, c), minor(a, d));
+    let is_short = is_short || reach_of(a) | reach_of(b) | reach_of(c) | reach_of(d) < SHORT;
     let (bc, bd, cd) = (minor(b, c), minor(b, d), minor(c, d));
     let first = volume(is_short, (b.z, c.z, d.z), (cd, bd, bc)).wrapping_neg();
+    if is_convex && first > 0 {
+        return None;
+    }
+    let (ac, ad) = (minor(a, c), minor(a, d));
     let second = volume(is_short, (a.z, c.z, d.z), (cd, ad, ac));
+    if is_convex && second > 0 {
+        return None;
+    }
+    let ab = minor(a, b);
     let third = volume(is_short, (a.z, b.z, d.z), (bd, ad, ab)).wrapping_neg();
+    if is_convex && third > 0 {
+        return None;
+    }
     let own = volume(is_short, (a.z, b.z, c.z), (bc, ac, ab));
     let face = first.wrapping_add(second).wrapping_add(third);
     let sum = face.wrapping_add(own);
-    [first, second, third, own, sum.wrapping_neg()]
+    Some([first, second, third, own, sum.wrapping_neg()])
 }
 
-/// On which side of the plane through `a`, `b` and `c` the point lies, as a volume.
-pub(crate) fn volume_over(a: Spot, b: Spot, c: Spot, p: Spot) -> i128 {
+/// On which side of the plane through `a`, `b` and `c` the point lies, as a volume. It fits 64 bits
+/// also where the point is twice as far away as short vectors lead.
+pub(crate) fn volume_over(is_short: bool, a: Spot, b: Spot, c: Spot, p: Spot) -> i128 {
     let (u, v, w) = (from_to(b, a), from_to(c, a), from_to(p, a));
     let minors = (minor(v, w), minor(u, w), minor(u, v));
-    volume(false, (u.z, v.z, w.z), minors)
+    volume(is_short, (u.z, v.z, w.z), minors)
+}
+
+/// Whether the straight way from one point to the other passes the triangle or a side of it, if it
+/// passes the plane of the triangle between the two.
+pub(crate) fn is_passed(is_short: bool, way: (Spot, Spot), triangle: &[Spot; 3]) -> bool {
+    let (from, to) = way;
+    let (u, a) = (from_to(to, from), from_to(triangle[0], from));
+    let (b, c) = (from_to(triangle[1], from), from_to(triangle[2], from));
+    let (ua, ub, uc) = (minor(u, a), minor(u, b), minor(u, c));
+    let x = volume(is_short, (u.z, a.z, b.z), (minor(a, b), ub, ua));
+    let y = volume(is_short, (u.z, b.z, c.z), (minor(b, c), uc, ub));
+    if (x > 0 && y < 0) || (x < 0 && y > 0) {
+        return false;
+    }
+    let z = volume(is_short, (u.z, c.z, a.z), (minor(c, a), ua, uc));
+    (x <= 0 && y <= 0 && z <= 0) || (x >= 0 && y >= 0 && z >= 0)
 }
 
 /// The corners of a face for which something holds.
@@ -113,10 +149,12 @@ fn the_one(face: &[u32; 3], holds: (bool, bool, bool)) -> Which {
 /// The kind of flip by the signs of the three coefficients of the face.
 pub(crate) fn kind_of(face: &[u32; 3], circuit: &[i128; 5]) -> Kind {
     let (a, b, c) = (circuit[0], circuit[1], circuit[2]);
+    if a < 0 && b < 0 && c < 0 {
+        return Kind::Two;
+    }
     let above = the_one(face, (a > 0, b > 0, c > 0));
     let flat = the_one(face, (a == 0, b == 0, c == 0));
     match (above, flat) {
-        (Which::No, Which::No) => Kind::Two,
         (Which::One(apex), Which::No) => Kind::Three { apex },
         (Which::No, Which::One(apex)) => Kind::Four { apex },
         _ => Kind::Never,
@@ -137,12 +175,18 @@ pub(crate) fn plane_of(a: Spot, b: Spot, c: Spot) -> Plane {
     }
 }
 
-/// The side of the plane on which a point lies: above 0 where the normal points.
-pub(crate) fn side_of(plane: &Plane, p: Spot) -> i128 {
+/// The side of the plane on which a point lies: above 0 where the normal points. It fits 64 bits
+/// where vectors between the points are short.
+pub(crate) fn side_of(is_short: bool, plane: &Plane, p: Spot) -> i128 {
     let v = from_to(p, plane.corner);
-    times(plane.normal.x, v.x)
-        .wrapping_add(times(plane.normal.y, v.y))
-        .wrapping_add(times(plane.normal.z, v.z))
+    let n = plane.normal;
+    if is_short {
+        let two = n.x.wrapping_mul(v.x).wrapping_add(n.y.wrapping_mul(v.y));
+        return i128::from(two.wrapping_add(n.z.wrapping_mul(v.z)));
+    }
+    times(n.x, v.x)
+        .wrapping_add(times(n.y, v.y))
+        .wrapping_add(times(n.z, v.z))
 }
 
 /// The square of the distance.

@@ -1,7 +1,7 @@
 //! Faces that are to be flipped, and the flips.
 use crate::circuit::{Kind, Spot, circuit_of, kind_of, sum_of, weight_of};
-use crate::local::{Local, face_opposite, place_or_stop};
-use crate::order::Event;
+use crate::local::{Local, Slot, bit_at, face_opposite, place_or_stop};
+use crate::order::{Event, Flip, lead_of};
 use crate::stop::{Stop, or_stop};
 use crate::wide::rank_of;
 
@@ -17,16 +17,50 @@ fn beside(face: [u32; 3], apex: u32) -> (u32, u32) {
     }
 }
 
+/// A face between two rows: the rows by their slots, the numbers of the five corners in the order
+/// of the coefficients, and the corner of the face from which one further row is across both, where
+/// there is such a row.
+#[derive(Clone, Copy)]
+struct Joint {
+    row: u32,
+    across: u32,
+    numbers: [u32; 5],
+    apex: Option<u32>,
+}
+
+/// A row that is across the faces of two rows opposite a corner that both have, and the place of
+/// the corner in the first of them.
+#[derive(Clone, Copy)]
+struct Third {
+    row: u32,
+    place: usize,
+}
+
+/// The third row round a side of the face between two rows, which is opposite the corner at a place
+/// of the first of them.
+fn third_of(slot: &Slot, beyond: &Slot, place: usize) -> Option<Third> {
+    for i in 0..4 {
+        if i == place {
+            continue;
+        }
+        if let Some(row) = slot.across[i] {
+            if beyond.across_from(slot.corners[i]) == Some(row) {
+                return Some(Third { row, place: i });
+            }
+        }
+    }
+    None
+}
+
+/// Whether a number stands between two others.
+fn is_between(number: u32, one: u32, other: u32) -> bool {
+    (one < number) == (number < other)
+}
+
 impl Local {
     /// The corner of a row opposite the face that has the other row across.
     fn corner_towards(&self, t: u32, other: u32) -> Option<u32> {
-        let slot = self.slots.get(t as usize)?;
-        for i in 0..4 {
-            if slot.across[i] == Some(other) {
-                return Some(slot.corners[i]);
-            }
-        }
-        None
+        self.slots.get(t as usize)?.corner_towards(other)
     }
 
     /// The places of five corners.
@@ -37,7 +71,7 @@ impl Local {
     }
 
     /// The sides of five corners.
-    fn sides_of(&self, numbers: &[u32; 5]) -> Option<[i128; 5]> {
+    fn heights_of(&self, numbers: &[u32; 5]) -> Option<[i128; 5]> {
         let [a, b, c, d, e] = *numbers;
         let (a, b, c) = (self.side(a)?, self.side(b)?, self.side(c)?);
         Some([a, b, c, self.side(d)?, self.side(e)?])
@@ -64,31 +98,82 @@ impl Local {
         }
     }
 
-    /// The flip of the face between two rows; `None` where there is none.
-    #[inline]
-    fn event(&self, row: u32, across: u32, numbers: [u32; 5]) -> Result<Option<Event>, Stop> {
-        let spots = or_stop(self.spots_at(&numbers))?;
-        let circuit = circuit_of(&spots);
-        let [a, b, c, _, _] = numbers;
-        let kind = kind_of(&[a, b, c], &circuit);
-        let sides = or_stop(self.sides_of(&numbers))?;
-        let Some(weight) = weight_of(&circuit, &sides) else {
+    /// The face of a row opposite a corner of it; `None` where it is never flipped, or another face
+    /// tells. Three rows round a side turn over together, and of their three faces one tells: that
+    /// between the first and the last of the slots. The side has to pass the facet's plane.
+    fn joint(&self, row: u32, own: u32) -> Result<Option<Joint>, Stop> {
+        let Some(slot) = self.slots.get(row as usize) else {
+            return Err(Stop::GivesUp)
+        };
+        let place = place_or_stop(&slot.corners, own)?;
+        let sides = self.sides_of(slot);
+        let Some(across) = slot.across[place] else {
             return Ok(None)
         };
-        if !self.is_ready(row, across, &numbers, kind) {
+        if !sides.are_parted(bit_at(place)) {
             return Ok(None);
         }
+        let Some(beyond) = self.slots.get(across as usize) else {
+            return Err(Stop::GivesUp)
+        };
+        let mut apex = None;
+        if let Some(third) = third_of(slot, beyond, place) {
+            let is_parted = sides.are_parted(bit_at(place) | bit_at(third.place));
+            if !is_parted || !is_between(third.row, row, across) {
+                return Ok(None);
+            }
+            let Some(corner) = slot.corners.get(third.place) else {
+                return Err(Stop::GivesUp)
+            };
+            apex = Some(*corner);
+        }
+        let opposite = or_stop(beyond.corner_towards(row))?;
+        let [a, b, c] = face_opposite(&slot.corners, place);
+        Ok(Some(Joint {
+            row,
+            across,
+            numbers: [a, b, c, own, opposite],
+            apex,
+        }))
+    }
+
+    /// Whether the further rows of a flip of the face are there.
+    fn is_open(&self, joint: &Joint, kind: Kind) -> bool {
+        match kind {
+            Kind::Three { apex } => joint.apex == Some(apex),
+            _ => self.is_ready(joint.row, joint.across, &joint.numbers, kind),
+        }
+    }
+
+    /// The flip of a face; `None` where there is none.
+    fn event(&self, joint: &Joint) -> Result<Option<Event>, Stop> {
+        let numbers = joint.numbers;
+        let spots = or_stop(self.spots_at(&numbers))?;
+        let Some(circuit) = circuit_of(&spots, self.is_short, joint.apex.is_none()) else {
+            return Ok(None);
+        };
+        let [a, b, c, _, _] = numbers;
+        let kind = kind_of(&[a, b, c], &circuit);
+        if !self.is_open(joint, kind) {
+            return Ok(None);
+        }
+        let Some(weight) = weight_of(&circuit, &or_stop(self.heights_of(&numbers))?) else {
+            return Ok(None)
+        };
         let sum = sum_of(&circuit, &spots);
         if sum < 0 {
             return Err(Stop::GivesUp);
         }
         let sum = sum.unsigned_abs();
         Ok(Some(Event {
-            row,
-            across,
-            kind,
-            numbers,
+            flip: Flip {
+                row: joint.row,
+                across: joint.across,
+                kind,
+                numbers,
+            },
             circuit,
+            lead: lead_of(&numbers, &circuit),
             sum,
             weight,
             rank: rank_of(sum, weight),
@@ -97,25 +182,17 @@ impl Local {
 
     /// Lets the face of a row opposite a corner of it wait, where it is to be flipped.
     pub(crate) fn look(&mut self, row: u32, own: u32) -> Result<(), Stop> {
-        let slot = or_stop(self.slot(row))?;
-        let place = place_or_stop(&slot.corners, own)?;
-        let face = face_opposite(&slot.corners, place);
-        let Some(across) = slot.across[place] else {
+        let Some(joint) = self.joint(row, own)? else {
             return Ok(())
         };
-        if !self.spans(&face)? {
-            return Ok(());
-        }
-        let opposite = or_stop(self.corner_towards(across, row))?;
-        let [a, b, c] = face;
-        if let Some(event) = self.event(row, across, [a, b, c, own, opposite])? {
+        if let Some(event) = self.event(&joint)? {
             self.waiting.push(event)?;
         }
         Ok(())
     }
 
-    /// Whether the face of the event is still there.
-    fn stands(&self, e: &Event) -> bool {
+    /// Whether the face of the flip is still there.
+    fn stands(&self, e: &Flip) -> bool {
         let own = e.numbers[3];
         self.is_live(e.row) && self.is_live(e.across) && self.across(e.row, own) == Some(e.across)
     }
@@ -123,17 +200,21 @@ impl Local {
     /// Adds a row with the corner `new` in place of the corner `gone`. The new corner lies beyond
     /// the face opposite the corner `own`, where `mate` is across: so the row stays positive.
     fn swing(&mut self, row: u32, mate: u32, own: u32, gone: u32, new: u32) -> Result<u32, Stop> {
-        let slot = or_stop(self.slot(row))?;
+        let Some(slot) = self.slots.get(row as usize) else {
+            return Err(Stop::GivesUp)
+        };
         let i = place_or_stop(&slot.corners, gone)?;
         let j = place_or_stop(&slot.corners, own)?;
+        let sides = self.sides_with(slot, i, new);
+        let beside = slot.across[i];
         let beyond = self.across(mate, gone);
         let mut corners = slot.corners;
         corners[i] = new;
         let mut across = [None; 4];
-        across[i] = slot.across[i];
+        across[i] = beside;
         across[j] = beyond;
-        let made = self.add(corners, across)?;
-        self.replace_across(slot.across[i], row, made);
+        let made = self.add(corners, across, sides)?;
+        self.replace_across(beside, row, made);
         self.replace_across(beyond, mate, made);
         Ok(made)
     }
@@ -159,7 +240,7 @@ impl Local {
     }
 
     /// Three rows round the segment between the corners that are not in the face, for two.
-    fn flip_two(&mut self, e: &Event) -> Result<(), Stop> {
+    fn flip_two(&mut self, e: &Flip) -> Result<(), Stop> {
         let [a, b, c, own, new] = e.numbers;
         let at_a = self.swing(e.row, e.across, own, a, new)?;
         let at_b = self.swing(e.row, e.across, own, b, new)?;
@@ -175,7 +256,7 @@ impl Local {
     }
 
     /// Two rows for three round a side of the face.
-    fn flip_three(&mut self, e: &Event, apex: u32) -> Result<(), Stop> {
+    fn flip_three(&mut self, e: &Flip, apex: u32) -> Result<(), Stop> {
         let [a, b, c, own, new] = e.numbers;
         let (p, q) = beside([a, b, c], apex);
         let third = or_stop(self.across(e.row, apex))?;
@@ -195,7 +276,7 @@ impl Local {
 
     /// Four rows for four round a side that becomes the other diagonal. Between the new rows are
     /// faces of other circuits than that which is flipped.
-    fn flip_four(&mut self, e: &Event, apex: u32) -> Result<(), Stop> {
+    fn flip_four(&mut self, e: &Flip, apex: u32) -> Result<(), Stop> {
         let [a, b, c, own, new] = e.numbers;
         let (p, q) = beside([a, b, c], apex);
         let third = or_stop(self.across(e.row, apex))?;
@@ -222,7 +303,7 @@ impl Local {
     }
 
     /// Flips a face, where it is still there.
-    fn flip(&mut self, e: &Event) -> Result<(), Stop> {
+    fn flip(&mut self, e: &Flip) -> Result<(), Stop> {
         if !self.stands(e) {
             return Ok(());
         }
@@ -241,10 +322,10 @@ impl Local {
     /// Flips the faces that wait, until none does.
     pub(crate) fn flip_all(&mut self) -> Result<(), Stop> {
         for _ in 0..usize::MAX {
-            let Some(event) = self.waiting.take() else {
+            let Some(flip) = self.waiting.take() else {
                 return Ok(())
             };
-            self.flip(&event)?;
+            self.flip(&flip)?;
         }
         Err(Stop::GivesUp)
     }

@@ -1,7 +1,7 @@
 //! The corners of the crossed rows by numbers of their own, in the order of the points.
-use crate::circuit::{Plane, Spot};
+use crate::circuit::{Plane, SHORT, Spot, reach_of};
 use crate::heap::Waiting;
-use crate::local::{Corner, Local, corner_at};
+use crate::local::{Corner, Local, NO_SIDES, corner_at};
 use crate::stop::{Stop, or_stop};
 use geo_laws::{Face, Points, Tet, TetList, arranged};
 use incidence::{Across, pair_faces};
@@ -110,15 +110,12 @@ impl Frame {
         }))
     }
 
-    /// The corners' differences from the first of them.
-    fn differences(&self, alloc: Global, points: &Points) -> Result<Vec<Spot>, Stop> {
+    /// The places of the corners.
+    fn spots(&self, alloc: Global, points: &Points) -> Result<Vec<Spot>, Stop> {
         let all = points.as_slice();
         let mut spots = Vec::with_capacity(alloc, self.names.len())?;
-        let mut base = None;
         for name in self.names.as_slice() {
-            let spot = spot_of(or_stop(all.get(*name as usize).copied())?);
-            let first = *base.get_or_insert(spot);
-            spots.push(between(first, spot))?;
+            spots.push(spot_of(or_stop(all.get(*name as usize).copied())?))?;
         }
         Ok(spots)
     }
@@ -139,8 +136,8 @@ impl Frame {
         points: &Points,
         rows: &TetList,
     ) -> Result<Local, Stop> {
-        let mut spots = self.differences(alloc, points)?;
-        without_power(&mut spots);
+        let mut spots = self.spots(alloc, points)?;
+        let is_short = reduce(&mut spots);
         let nowhere = Spot { x: 0, y: 0, z: 0 };
         let mut local = Local {
             slots: Vec::with_capacity(alloc, rows.len())?,
@@ -152,6 +149,7 @@ impl Frame {
             stamp: 0,
             waiting: Waiting::new(alloc),
             flips_left: rows.len().saturating_mul(FLIPS),
+            is_short,
         };
         local.fill(alloc, &self.locals(alloc, rows)?)?;
         Ok(local)
@@ -167,21 +165,32 @@ fn between(a: Spot, b: Spot) -> Spot {
     }
 }
 
-/// Takes the common power of two out of all coordinates.
-fn without_power(spots: &mut [Spot]) {
-    let mut bits = 0;
+/// The vector over a power of two.
+fn over_power(v: Spot, power: u32) -> Spot {
+    Spot {
+        x: v.x.wrapping_shr(power),
+        y: v.y.wrapping_shr(power),
+        z: v.z.wrapping_shr(power),
+    }
+}
+
+/// Puts the vectors from the first of the points in their places, over the common power of two of
+/// all coordinates; whether vectors between any two of them are short then.
+pub(crate) fn reduce(spots: &mut [Spot]) -> bool {
+    let Some(base) = spots.first().copied() else {
+        return true;
+    };
+    let (mut bits, mut reach) = (0, 0);
     for spot in spots.iter() {
-        bits |= spot.x | spot.y | spot.z;
+        let v = between(base, *spot);
+        bits |= v.x | v.y | v.z;
+        reach |= reach_of(v);
     }
     let power = bits.trailing_zeros();
     for i in 0..spots.len() {
-        let Spot { x, y, z } = spots[i];
-        spots[i] = Spot {
-            x: x.wrapping_shr(power),
-            y: y.wrapping_shr(power),
-            z: z.wrapping_shr(power),
-        };
+        spots[i] = over_power(between(base, spots[i]), power);
     }
+    reach.wrapping_shr(power) < SHORT / 2
 }
 
 /// The corners at these places.
@@ -214,7 +223,7 @@ impl Local {
         let pairs = pair_faces(alloc, rows)?;
         for i in 0..rows.len().min(pairs.len()) {
             let Tet { a, b, c, d } = rows.at(i);
-            self.add([a, b, c, d], across_of(pairs.at(i)))?;
+            self.add([a, b, c, d], across_of(pairs.at(i)), NO_SIDES)?;
         }
         Ok(())
     }

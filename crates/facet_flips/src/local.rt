@@ -6,15 +6,62 @@ use crate::circuit::{Plane, Spot, side_of};
 use crate::heap::Waiting;
 use crate::stop::{Stop, or_stop};
 
+/// Which corners of a row lie above and below the plane of a facet: a bit for each place.
+#[derive(Clone, Copy)]
+pub(crate) struct Sides {
+    above: u8,
+    below: u8,
+}
+
+/// Sides that are not known, and not asked for.
+pub(crate) const NO_SIDES: Sides = Sides { above: 0, below: 0 };
+
+impl Sides {
+    /// Whether corners lie above, and others below, beside those whose bits are left out.
+    pub(crate) fn are_parted(self, left_out: u8) -> bool {
+        self.above & !left_out != 0 && self.below & !left_out != 0
+    }
+}
+
+/// The bit of the corner at a place of a row.
+pub(crate) fn bit_at(place: usize) -> u8 {
+    match place {
+        0 => 1,
+        1 => 2,
+        2 => 4,
+        _ => 8,
+    }
+}
+
 /// A row: its corners, what is across the face opposite each, the next slot in the list of each
-/// corner, the last facet whose cavity it was found in, and whether it still stands.
+/// corner, the last facet whose cavity it was found in, the sides of its corners then, and whether
+/// it still stands.
 #[derive(Clone, Copy)]
 pub(crate) struct Slot {
     pub(crate) corners: [u32; 4],
     pub(crate) across: [Option<u32>; 4],
     pub(crate) next: [Option<u32>; 4],
-    pub(crate) stamp: u32,
+    stamp: u32,
+    sides: Sides,
     pub(crate) is_live: bool,
+}
+
+impl Slot {
+    /// What is across the face opposite a corner.
+    pub(crate) fn across_from(&self, corner: u32) -> Option<u32> {
+        let i = place_of(&self.corners, corner)?;
+        self.across[i]
+    }
+
+    /// The corner opposite the face that has the other row across.
+    pub(crate) fn corner_towards(&self, other: u32) -> Option<u32> {
+        for i in 0..4 {
+            if self.across[i] == Some(other) {
+                return Some(self.corners[i]);
+            }
+        }
+        None
+    }
 }
 
 /// A corner: its place, the first slot in its list, and its side of the plane of the last facet for
@@ -38,7 +85,8 @@ pub(crate) fn corner_at(spot: Spot) -> Corner {
 }
 
 /// The rows, their corners, the plane of the facet that is put in and its number, from 1, the faces
-/// that wait to be flipped, and how many flips are left.
+/// that wait to be flipped, how many flips are left, and whether the vectors between corners are
+/// short.
 #[derive(Drop)]
 pub(crate) struct Local {
     pub(crate) slots: Vec<Slot>,
@@ -47,6 +95,7 @@ pub(crate) struct Local {
     pub(crate) stamp: u32,
     pub(crate) waiting: Waiting,
     pub(crate) flips_left: usize,
+    pub(crate) is_short: bool,
 }
 
 /// The place of a corner in a row.
@@ -104,7 +153,7 @@ impl Local {
         if found.stamp == self.stamp {
             Some(found.side)
         } else {
-            Some(side_of(&self.plane, found.spot))
+            Some(side_of(self.is_short, &self.plane, found.spot))
         }
     }
 
@@ -112,7 +161,7 @@ impl Local {
     pub(crate) fn note_side(&mut self, corner: u32) {
         let place = corner as usize;
         if place < self.corners.len() && self.corners[place].stamp != self.stamp {
-            let side = side_of(&self.plane, self.corners[place].spot);
+            let side = side_of(self.is_short, &self.plane, self.corners[place].spot);
             self.corners[place].side = side;
             self.corners[place].stamp = self.stamp;
         }
@@ -120,13 +169,50 @@ impl Local {
 
     /// What is across the face of a row opposite a corner of it.
     pub(crate) fn across(&self, t: u32, corner: u32) -> Option<u32> {
-        let slot = self.slots.get(t as usize)?;
-        let i = place_of(&slot.corners, corner)?;
-        slot.across[i]
+        self.slots.get(t as usize)?.across_from(corner)
+    }
+
+    /// The sides of the corners of a row.
+    fn sides_at(&self, corners: &[u32; 4]) -> Sides {
+        let mut sides = NO_SIDES;
+        for i in 0..4 {
+            let side = self.side(corners[i]).unwrap_or(0);
+            if side > 0 {
+                sides.above |= bit_at(i);
+            } else if side < 0 {
+                sides.below |= bit_at(i);
+            }
+        }
+        sides
+    }
+
+    /// The sides of the corners of a row, which are noted where it was found in the cavity.
+    pub(crate) fn sides_of(&self, slot: &Slot) -> Sides {
+        if slot.stamp == self.stamp {
+            slot.sides
+        } else {
+            self.sides_at(&slot.corners)
+        }
+    }
+
+    /// The sides of the corners of the row with another corner at a place.
+    pub(crate) fn sides_with(&self, slot: &Slot, place: usize, corner: u32) -> Sides {
+        let bit = bit_at(place);
+        let Sides { above, below } = self.sides_of(slot);
+        let side = self.side(corner).unwrap_or(0);
+        Sides {
+            above: if side > 0 { above | bit } else { above & !bit },
+            below: if side < 0 { below | bit } else { below & !bit },
+        }
     }
 
     /// Adds a row, and enters it in the lists of its corners.
-    pub(crate) fn add(&mut self, corners: [u32; 4], across: [Option<u32>; 4]) -> Result<u32, Stop> {
+    pub(crate) fn add(
+        &mut self,
+        corners: [u32; 4],
+        across: [Option<u32>; 4],
+        sides: Sides,
+    ) -> Result<u32, Stop> {
         let t = or_stop(u32::try_from(self.slots.len()).ok())?;
         let mut next = [None; 4];
         for i in 0..4 {
@@ -141,6 +227,7 @@ impl Local {
             across,
             next,
             stamp: self.stamp,
+            sides,
             is_live: true,
         })?;
         Ok(t)
@@ -194,21 +281,15 @@ impl Local {
         if place >= self.slots.len() || self.slots[place].stamp == self.stamp {
             return false;
         }
-        self.slots[place].stamp = self.stamp;
-        for corner in self.slots[place].corners {
+        let corners = self.slots[place].corners;
+        for corner in corners {
             self.note_side(corner);
         }
-        true
-    }
-
-    /// Whether corners of a face lie above the facet's plane, and others below.
-    pub(crate) fn spans(&self, face: &[u32; 3]) -> Result<bool, Stop> {
-        let (mut above, mut below) = (false, false);
-        for i in 0..3 {
-            let side = or_stop(self.side(face[i]))?;
-            above = above || side > 0;
-            below = below || side < 0;
+        let sides = self.sides_at(&corners);
+        if place < self.slots.len() {
+            self.slots[place].stamp = self.stamp;
+            self.slots[place].sides = sides;
         }
-        Ok(above && below)
+        true
     }
 }

@@ -3,16 +3,23 @@ use crate::circuit::Kind;
 use crate::wide::{Wide, product, times};
 use std::cmp::Ordering;
 
-/// A face between two rows that is to be flipped: the rows by their slots, the kind of flip, the
-/// numbers of the five corners in the order of the coefficients, and the quotient `sum / weight` at
-/// which the circuit turns over, with its rank.
+/// A face between two rows that is to be flipped: the rows by their slots, the kind of flip, and
+/// the numbers of the five corners in the order of the coefficients.
 #[derive(Clone, Copy)]
-pub(crate) struct Event {
+pub(crate) struct Flip {
     pub(crate) row: u32,
     pub(crate) across: u32,
     pub(crate) kind: Kind,
     pub(crate) numbers: [u32; 5],
+}
+
+/// A flip, the coefficients of its corners, that of the least corner where it is not 0, and the
+/// quotient `sum / weight` at which the circuit turns over, with its rank.
+#[derive(Clone, Copy)]
+pub(crate) struct Event {
+    pub(crate) flip: Flip,
     pub(crate) circuit: [i128; 5],
+    pub(crate) lead: Lead,
     pub(crate) sum: u128,
     pub(crate) weight: Wide,
     pub(crate) rank: u64,
@@ -20,22 +27,22 @@ pub(crate) struct Event {
 
 /// The least of five corners whose coefficient is not 0, and its coefficient.
 #[derive(Clone, Copy)]
-struct Lead {
+pub(crate) struct Lead {
     number: u32,
     coefficient: i128,
 }
 
-/// The least corner of the event whose coefficient is not 0.
-fn lead_of(e: &Event) -> Lead {
+/// The least corner whose coefficient is not 0.
+pub(crate) fn lead_of(numbers: &[u32; 5], circuit: &[i128; 5]) -> Lead {
     let mut lead = Lead {
         number: u32::MAX,
         coefficient: 0,
     };
     for i in 0..5 {
-        if e.numbers[i] < lead.number && e.circuit[i] != 0 {
+        if numbers[i] < lead.number && circuit[i] != 0 {
             lead = Lead {
-                number: e.numbers[i],
-                coefficient: e.circuit[i],
+                number: numbers[i],
+                coefficient: circuit[i],
             };
         }
     }
@@ -45,7 +52,7 @@ fn lead_of(e: &Event) -> Lead {
 /// The coefficient of a point, 0 where it is no corner.
 fn coefficient(e: &Event, number: u32) -> i128 {
     for i in 0..5 {
-        if e.numbers[i] == number {
+        if e.flip.numbers[i] == number {
             return e.circuit[i];
         }
     }
@@ -76,7 +83,7 @@ fn by_corner(e: &Event, f: &Event, number: u32) -> Ordering {
 
 /// The order of the coefficients of the least corner of which one of the two is not 0.
 fn by_leads(e: &Event, f: &Event) -> Ordering {
-    let (one, two) = (lead_of(e), lead_of(f));
+    let (one, two) = (e.lead, f.lead);
     match one.number.cmp(&two.number) {
         Ordering::Less => one.coefficient.cmp(&0),
         Ordering::Greater => 0.cmp(&two.coefficient),
@@ -87,7 +94,7 @@ fn by_leads(e: &Event, f: &Event) -> Ordering {
 /// The least corner above the last one, or the best so far.
 fn next_corner(e: &Event, best: Option<u32>, last: Option<u32>) -> Option<u32> {
     let mut best = best;
-    for number in e.numbers {
+    for number in e.flip.numbers {
         let is_past = last.is_none_or(|l| l < number);
         if is_past && best.is_none_or(|b| number < b) {
             best = Some(number);

@@ -3,8 +3,8 @@
 //! with a row, or nothing of it. So one point of the section tells.
 ghost use Rattle.box_tree.specs.Tree.{IsTree};
 
-use crate::circuit::{Plane, Spot, plane_of, side_of, volume_over};
-use crate::frame::spot_of;
+use crate::circuit::{Plane, Spot, is_passed, plane_of, side_of};
+use crate::frame::{reduce, spot_of};
 use crate::missing::Missing;
 use crate::stop::{Stop, or_stop};
 use box_tree::{
@@ -35,10 +35,18 @@ pub(crate) struct Sheet {
     ghost tree_is: { IsTree tree },
 }
 
+/// All points by short numbers, if there are such: over the common power of two, from the first on.
+#[derive(Drop)]
+struct Spots {
+    all: Vec<Spot>,
+    are_short: bool,
+}
+
 /// Missing triangles, the place of each among all, and their sheets, with the tree of the boxes of
 /// the sheets.
 #[derive(Drop)]
 pub(crate) struct Sheets {
+    spots: Spots,
     pub(crate) missing: FacetTriangles,
     places: Items<usize>,
     pub(crate) all: Items<Sheet>,
@@ -55,19 +63,11 @@ pub(crate) struct Parted {
     pub(crate) crossed_by: Items<usize>,
 }
 
-/// The corners of a triangle, and the box round them.
-#[derive(Clone, Copy)]
-struct Corners {
-    a: Spot,
-    b: Spot,
-    c: Spot,
-    bounds: Bounds,
-}
-
-/// The corners of a row, and the box round them.
+/// The corners of a row as points and by short numbers, and the box round them.
 #[derive(Clone, Copy)]
 struct Body {
     corners: [GridPoint; 4],
+    spots: [Spot; 4],
     bounds: Bounds,
 }
 
@@ -115,88 +115,123 @@ fn point_at(points: &Points, number: u32) -> Option<GridPoint> {
     points.as_slice().get(number as usize).copied()
 }
 
-fn corners_of(points: &Points, t: FacetTriangle) -> Option<Corners> {
+/// The box round a triangle.
+fn triangle_bounds(points: &Points, t: FacetTriangle) -> Option<Bounds> {
     let (a, b) = (point_at(points, t.a)?, point_at(points, t.b)?);
-    let c = point_at(points, t.c)?;
-    Some(Corners {
-        a: spot_of(a),
-        b: spot_of(b),
-        c: spot_of(c),
-        bounds: joined(joined(point_bounds(a), point_bounds(b)), point_bounds(c)),
-    })
+    let one = joined(point_bounds(a), point_bounds(b));
+    Some(joined(one, point_bounds(point_at(points, t.c)?)))
 }
 
-fn body_of(points: &Points, row: Tet) -> Option<Body> {
+/// The corners of a row.
+fn row_points(points: &Points, row: Tet) -> Option<[GridPoint; 4]> {
     let (a, b) = (point_at(points, row.a)?, point_at(points, row.b)?);
-    let (c, d) = (point_at(points, row.c)?, point_at(points, row.d)?);
+    Some([a, b, point_at(points, row.c)?, point_at(points, row.d)?])
+}
+
+/// The box round four points.
+fn bounds_of(corners: &[GridPoint; 4]) -> Bounds {
+    let [a, b, c, d] = *corners;
     let one = joined(point_bounds(a), point_bounds(b));
     let two = joined(point_bounds(c), point_bounds(d));
-    Some(Body {
-        corners: [a, b, c, d],
-        bounds: joined(one, two),
-    })
+    joined(one, two)
+}
+
+/// All points by short numbers, if there are such.
+fn spots_of(alloc: Global, points: &Points) -> Result<Spots, NoMemory> {
+    let mut all = Vec::with_capacity(alloc, points.len())?;
+    for p in points.as_slice() {
+        all.push(spot_of(*p))?;
+    }
+    let are_short = reduce(&mut all);
+    Ok(Spots { all, are_short })
+}
+
+impl Spots {
+    fn at(&self, number: u32) -> Option<Spot> {
+        self.all.get(number as usize).copied()
+    }
+
+    /// The corners of a triangle.
+    fn triangle(&self, t: FacetTriangle) -> Option<[Spot; 3]> {
+        Some([self.at(t.a)?, self.at(t.b)?, self.at(t.c)?])
+    }
+
+    /// The corners of a row.
+    fn row(&self, row: Tet) -> Option<[Spot; 4]> {
+        let (a, b) = (self.at(row.a)?, self.at(row.b)?);
+        Some([a, b, self.at(row.c)?, self.at(row.d)?])
+    }
+
+    /// Whether the triangle lies in the plane.
+    fn is_flat(&self, plane: &Plane, triangle: &[Spot; 3]) -> bool {
+        for i in 0..3 {
+            if side_of(self.are_short, plane, triangle[i]) != 0 {
+                return false;
+            }
+        }
+        true
+    }
 }
 
 /// The place after the rows from a place on that have the same first corner, and the box round
 /// them.
 fn star_bounds(points: &Points, list: &TetList, from: usize, row: Tet) -> Option<(usize, Bounds)> {
-    let mut bounds = body_of(points, row)?.bounds;
+    let mut bounds = bounds_of(&row_points(points, row)?);
     for i in from..list.len() {
         let next = list.at(i);
         if next.a != row.a {
             return Some((i, bounds));
         }
-        bounds = joined(bounds, body_of(points, next)?.bounds);
+        bounds = joined(bounds, bounds_of(&row_points(points, next)?));
     }
     Some((list.len(), bounds))
 }
 
-/// The span with a further triangle, where it is one of this facet and plane.
-fn widened(span: Span, facet: u32, t: &Corners) -> Option<Span> {
-    let is_flat = side_of(&span.plane, t.a) == 0
-        && side_of(&span.plane, t.b) == 0
-        && side_of(&span.plane, t.c) == 0;
-    if span.facet != facet || !is_flat {
-        return None;
-    }
+/// The span of one triangle at a place.
+fn span_of(points: &Points, spots: &Spots, place: usize, t: FacetTriangle) -> Option<Span> {
+    let [a, b, c] = spots.triangle(t)?;
     Some(Span {
-        past: span.past.saturating_add(1),
-        bounds: joined(span.bounds, t.bounds),
-        ..span
+        facet: t.facet,
+        first: place,
+        past: place.saturating_add(1),
+        plane: plane_of(a, b, c),
+        bounds: triangle_bounds(points, t)?,
     })
 }
 
-/// The span of one triangle at a place.
-fn span_of(place: usize, facet: u32, t: &Corners) -> Span {
-    Span {
-        facet,
-        first: place,
-        past: place.saturating_add(1),
-        plane: plane_of(t.a, t.b, t.c),
-        bounds: t.bounds,
+/// The span with the one of a further triangle, where it is one of this facet and plane.
+fn widened(spots: &Spots, span: Span, next: Span, t: FacetTriangle) -> Option<Span> {
+    if span.facet != next.facet || !spots.is_flat(&span.plane, &spots.triangle(t)?) {
+        return None;
     }
+    Some(Span {
+        past: next.past,
+        bounds: joined(span.bounds, next.bounds),
+        ..span
+    })
 }
 
 /// The spans of the triangles.
 fn all_spans(
     alloc: Global,
     points: &Points,
+    spots: &Spots,
     missing: &FacetTriangles,
 ) -> Result<Items<Span>, Stop> {
     let mut all = Items::new(alloc);
     let mut open = None;
     for i in 0..missing.len() {
         let t = missing.at(i);
-        let corners = or_stop(corners_of(points, t))?;
+        let next = or_stop(span_of(points, spots, i, t))?;
         let Some(span) = open else {
-            open = Some(span_of(i, t.facet, &corners));
+            open = Some(next);
             continue;
         };
-        match widened(span, t.facet, &corners) {
+        match widened(spots, span, next, t) {
             Some(wider) => open = Some(wider),
             None => {
                 all.push(span)?;
-                open = Some(span_of(i, t.facet, &corners));
+                open = Some(next);
             }
         }
     }
@@ -223,8 +258,8 @@ fn sheet_of(
 ) -> Result<Sheet, Stop> {
     let mut boxes = Items::new(alloc);
     for i in span.first..span.past.min(missing.len()) {
-        let corners = or_stop(corners_of(points, missing.at(i)))?;
-        boxes.push(with_key(corners.bounds, i))?;
+        let bounds = or_stop(triangle_bounds(points, missing.at(i)))?;
+        boxes.push(with_key(bounds, i))?;
     }
     let tree = tree_of(alloc, boxes)?;
     Ok(Sheet { span, tree })
@@ -233,13 +268,15 @@ fn sheet_of(
 /// The sheets of missing triangles.
 pub(crate) fn sheets_of(alloc: Global, points: &Points, missing: Missing) -> Result<Sheets, Stop> {
     let Missing { triangles, places } = missing;
-    let spans = all_spans(alloc, points, &triangles)?;
+    let spots = spots_of(alloc, points)?;
+    let spans = all_spans(alloc, points, &spots, &triangles)?;
     let mut all = Items::new(alloc);
     for i in 0..spans.len() {
         all.push(sheet_of(alloc, points, &triangles, spans.at(i))?)?;
     }
     let tree = tree_of(alloc, boxes_of_spans(alloc, &spans)?)?;
     Ok(Sheets {
+        spots,
         missing: triangles,
         places,
         all,
@@ -273,22 +310,23 @@ fn interval_between(p: i32, q: i32, share: i64) -> Option<Interval> {
 }
 
 /// A way through the plane between two corners of the row; `None` where it has none.
-fn leg_of(plane: &Plane, body: &Body) -> Option<Leg> {
+fn leg_of(is_short: bool, plane: &Plane, body: &Body) -> Option<Leg> {
     let mut over = None;
     let mut under = None;
-    for p in body.corners {
-        let side = side_of(plane, spot_of(p));
+    for i in 0..4 {
+        let side = side_of(is_short, plane, body.spots[i]);
         if side > 0 {
-            over = Some((p, side));
+            over = Some((i, side));
         } else if side < 0 {
-            under = Some((p, side.wrapping_neg()));
+            under = Some((i, side.wrapping_neg()));
         }
     }
-    let ((p, above), (q, below)) = (over?, under?);
+    let ((i, above), (j, below)) = (over?, under?);
     let share = share_of(above, below)?;
+    let (p, q) = (*body.corners.get(i)?, *body.corners.get(j)?);
     Some(Leg {
-        from: spot_of(p),
-        to: spot_of(q),
+        from: *body.spots.get(i)?,
+        to: *body.spots.get(j)?,
         bounds: Bounds {
             x: interval_between(p.x, q.x, share)?,
             y: interval_between(p.y, q.y, share)?,
@@ -297,25 +335,20 @@ fn leg_of(plane: &Plane, body: &Body) -> Option<Leg> {
     })
 }
 
-/// Whether the leg passes the triangle, whichever way it is turned.
-fn is_passed(leg: &Leg, t: &Corners) -> bool {
-    let x = volume_over(leg.from, leg.to, t.a, t.b);
-    let y = volume_over(leg.from, leg.to, t.b, t.c);
-    let z = volume_over(leg.from, leg.to, t.c, t.a);
-    (x <= 0 && y <= 0 && z <= 0) || (x >= 0 && y >= 0 && z >= 0)
-}
-
 impl Sheets {
-    /// Whether the leg passes the triangle at this place.
-    fn passes(&self, points: &Points, leg: &Leg, place: usize) -> bool {
+    /// Whether the leg passes the triangle at this place, whichever way that is turned.
+    fn passes(&self, leg: &Leg, place: usize) -> bool {
         if self.missing.len() <= place {
             return false;
         }
-        corners_of(points, self.missing.at(place)).is_some_and(|t| is_passed(leg, &t))
+        match self.spots.triangle(self.missing.at(place)) {
+            Some(t) => is_passed(self.spots.are_short, (leg.from, leg.to), &t),
+            None => false,
+        }
     }
 
     /// The place of a triangle of the sheet at this place, where the sheet crosses the row.
-    fn crossing(&self, points: &Points, body: &Body, place: usize) -> Option<usize> {
+    fn crossing(&self, body: &Body, place: usize) -> Option<usize> {
         if self.all.len() <= place {
             return None;
         }
@@ -323,11 +356,11 @@ impl Sheets {
         if are_bounds_apart(&sheet.span.bounds, &body.bounds) {
             return None;
         }
-        let leg = leg_of(&sheet.span.plane, body)?;
+        let leg = leg_of(self.spots.are_short, &sheet.span.plane, body)?;
         let mut next = 0;
         for _ in 0..sheet.tree.len() {
             let found = next_of(&sheet.tree, &leg.bounds, next)?;
-            if self.passes(points, &leg, found.place) {
+            if self.passes(&leg, found.place) {
                 return Some(found.place);
             }
             next = found.next;
@@ -337,15 +370,15 @@ impl Sheets {
 
     /// The place of a triangle of some sheet that crosses the row. The sheet at the place `last`,
     /// which often crosses the next row too, is looked at first.
-    fn cross(&self, points: &Points, body: &Body, last: &mut usize) -> Option<usize> {
-        if let Some(place) = self.crossing(points, body, *last) {
+    fn cross(&self, body: &Body, last: &mut usize) -> Option<usize> {
+        if let Some(place) = self.crossing(body, *last) {
             return Some(place);
         }
         let mut next = 0;
         for _ in 0..self.tree.len() {
             let found = next_of(&self.tree, &body.bounds, next)?;
             if found.place != *last {
-                if let Some(place) = self.crossing(points, body, found.place) {
+                if let Some(place) = self.crossing(body, found.place) {
                     *last = found.place;
                     return Some(place);
                 }
@@ -376,8 +409,13 @@ impl Sheets {
         if star.is_clear {
             return Ok(None);
         }
-        let body = or_stop(body_of(points, row))?;
-        Ok(self.cross(points, &body, last))
+        let corners = or_stop(row_points(points, row))?;
+        let body = Body {
+            corners,
+            spots: or_stop(self.spots.row(row))?,
+            bounds: bounds_of(&corners),
+        };
+        Ok(self.cross(&body, last))
     }
 
     /// The rows that facets cross, and the others.
