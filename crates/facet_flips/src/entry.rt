@@ -99,7 +99,7 @@ fn flipped(
     list: &TetList,
     triangles: &FacetTriangles,
 ) -> Result<FlippedList, Stop> {
-    let missing = missing_triangles(alloc, points.len(), list, triangles)?;
+    let missing = missing_triangles(alloc, list, triangles)?;
     let sheets = sheets_of(alloc, points, missing)?;
     let parted = sheets.part(alloc, points, list)?;
     let added = flipped_rows(alloc, points, &sheets, &parted.crossed)?;

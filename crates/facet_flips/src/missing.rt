@@ -1,7 +1,7 @@
 //! The facet triangles that are no faces of a list.
+use face_table::FaceTable;
 use geo_laws::{Face, FacetTriangle, FacetTriangles, Tet, TetList, row_faces};
 use std::alloc::Global;
-use std::collections::HashSet;
 use tet_ports::{Items, NoMemory};
 
 /// Facet triangles, and the place of each among all.
@@ -11,108 +11,62 @@ pub(crate) struct Missing {
     pub(crate) places: Items<usize>,
 }
 
-/// The corners of a face, ascending.
-#[derive(Clone, Copy, PartialEq, Eq, Hash)]
-struct FaceKey {
-    a: u32,
-    b: u32,
-    c: u32,
+/// Whether some triangle begins at a corner of the row. Else none is a face of it.
+fn begins_at(table: &FaceTable, row: Tet) -> bool {
+    table.has_first(row.a)
+        || table.has_first(row.b)
+        || table.has_first(row.c)
+        || table.has_first(row.d)
 }
 
-fn key_of(face: Face) -> FaceKey {
-    let Face { a, b, c } = face;
-    FaceKey { a, b, c }
-}
-
-/// The key of a triangle, whose corners ascend.
-fn triangle_key(t: FacetTriangle) -> FaceKey {
-    let FacetTriangle { facet: _, a, b, c } = t;
-    FaceKey { a, b, c }
-}
-
-fn mark(marks: &mut [bool], number: u32) {
-    let place = number as usize;
-    if place < marks.len() {
-        marks[place] = true;
-    }
-}
-
-fn is_marked(marks: &[bool], number: u32) -> bool {
-    let place = number as usize;
-    place < marks.len() && marks[place]
-}
-
-/// Marks at the corners of the triangles, of so many points.
-fn marks_of(
-    alloc: Global,
-    points: usize,
-    triangles: &FacetTriangles,
-) -> Result<Vec<bool>, NoMemory> {
-    let mut marks = Vec::new(alloc);
-    marks.resize(points, false)?;
-    for i in 0..triangles.len() {
-        let t = triangles.at(i);
-        mark(marks.as_mut_slice(), t.a);
-        mark(marks.as_mut_slice(), t.b);
-        mark(marks.as_mut_slice(), t.c);
-    }
-    Ok(marks)
-}
-
-/// Whether three corners of the row are marked.
-fn has_three(marks: &[bool], row: Tet) -> bool {
-    let a = is_marked(marks, row.a);
-    let b = is_marked(marks, row.b);
-    let c = is_marked(marks, row.c);
-    let d = is_marked(marks, row.d);
-    u8::from(a) + u8::from(b) + u8::from(c) + u8::from(d) > 2
-}
-
-fn take_faces(faces: &mut HashSet<FaceKey>, row: Tet) {
+/// Adds the faces of the row that are triangles.
+fn add_faces(table: &FaceTable, row: Tet, listed: &mut Items<Face>) -> Result<(), NoMemory> {
     for face in row_faces(row) {
-        faces.remove(&key_of(face));
+        if table.has(face) {
+            listed.push(face)?;
+        }
     }
+    Ok(())
 }
 
-/// Takes the faces of all rows out.
-fn take_all_faces(faces: &mut HashSet<FaceKey>, marks: &[bool], list: &TetList) {
+/// The faces of the list that are triangles, in order.
+fn listed_faces(
+    alloc: Global,
+    list: &TetList,
+    triangles: &FacetTriangles,
+) -> Result<Items<Face>, NoMemory> {
+    let table = FaceTable::of_triangles(alloc, triangles)?;
+    let mut listed = Items::new(alloc);
     for i in 0..list.len() {
-        if faces.is_empty() {
-            return;
-        }
         let row = list.at(i);
-        if has_three(marks, row) {
-            take_faces(faces, row);
+        if begins_at(&table, row) {
+            add_faces(&table, row, &mut listed)?;
         }
     }
+    listed.keep_distinct();
+    Ok(listed)
 }
 
-/// The faces of the triangles.
-fn faces_of(alloc: Global, triangles: &FacetTriangles) -> Result<HashSet<FaceKey>, NoMemory> {
-    let mut faces = HashSet::with_capacity(alloc, triangles.len())?;
-    for i in 0..triangles.len() {
-        faces.insert(triangle_key(triangles.at(i)))?;
-    }
-    Ok(faces)
+/// Whether the triangle, whose corners ascend, is found among faces in order.
+fn is_listed(listed: &Items<Face>, t: FacetTriangle) -> bool {
+    let FacetTriangle { facet: _, a, b, c } = t;
+    matches!(listed.as_slice().binary_search(&Face { a, b, c }), Ok(_))
 }
 
-/// The triangles, of so many points, that are no faces of the list.
+/// The triangles that are no faces of the list.
 pub(crate) fn missing_triangles(
     alloc: Global,
-    points: usize,
     list: &TetList,
     triangles: &FacetTriangles,
 ) -> Result<Missing, NoMemory> {
-    let marks = marks_of(alloc, points, triangles)?;
-    let mut faces = faces_of(alloc, triangles)?;
-    take_all_faces(&mut faces, marks.as_slice(), list);
+    let listed = listed_faces(alloc, list, triangles)?;
     let mut missing = Missing {
         triangles: FacetTriangles::new(alloc),
         places: Items::new(alloc),
     };
     for i in 0..triangles.len() {
         let t = triangles.at(i);
-        if faces.contains(&triangle_key(t)) {
+        if !is_listed(&listed, t) {
             missing.triangles.push(t)?;
             missing.places.push(i)?;
         }
