@@ -18,7 +18,7 @@ use Rattle.node_files.specs.declared.node_text.NodeText.{NodeText}
 use Rattle.tet_ports.specs.Counts.{Rose}
 use Rattle.tet_ports.specs.Files.{Files}
 use Rattle.tet_text.specs.declared.fault.TextFault.{TextFault}
-use Rattle.check_steps.specs.Checking.{CheckAnswer, TextChecked, PointsAnswer, VerdictAnswer, mesh_of, most_points}
+use Rattle.check_steps.specs.Checking.{CheckAnswer, TextChecked, LeastGridAnswer, VerdictAnswer, mesh_of, most_points}
 use Rattle.check_steps.specs.Reading.{most_bytes, FetchAnswer, IsBadText, TextAnswer, FileAnswer, NeighborsAnswer, MeshAnswer, nodes_of, rows_of, faces_of, neighbors_of}
 use Rattle.check_steps.specs.Steps.{FolderSeen, AndThen, Gives}
 use Rattle.check_steps.specs.declared.fault.CheckFault.{CheckFault}
@@ -213,7 +213,7 @@ range_of (Err r) = r.line
 on_or_off : (g : Grid) (line : ℕ) → on_grid g ≡ off_grid line → ⊥
 on_or_off g line e = cc
 
-points_once : (decimals : Option ℕ) (text : MeshText) → IsOnce (PointsAnswer decimals text)
+points_once : (decimals : Option ℕ) (text : MeshText) → IsOnce (LeastGridAnswer decimals text)
 points_once decimals text (Ok p) (Ok q) n m h k =
     ap (λ x. Ok x) (h.is ∙ ap (λ (g : Grid). map (point_on g) (rounded_points decimals text.nodes.decimals)) (grid_same h.grid k.grid (sym h.on ∙ k.on)) ∙ sym k.is)
 points_once decimals text (Ok p) (Err (TooMany count)) n m h k = let few = h.few in let many = k.many in absurd (omega arith)
@@ -307,4 +307,4 @@ verdict_once text points r (Err s) n m h k = absurd k
 pub check_once : (told : Files) (seen : FolderSeen) (base : List ℕ) (decimals : Option ℕ) → IsTold told seen → IsOnce (CheckAnswer seen base decimals)
 check_once told seen base decimals t =
     and_then_once (MeshAnswer seen base) (TextChecked decimals) (mesh_once told seen base t)
-    (λ text. and_then_once (PointsAnswer decimals text) (VerdictAnswer text) (points_once decimals text) (verdict_once text))
+    (λ text. and_then_once (LeastGridAnswer decimals text) (VerdictAnswer text) (points_once decimals text) (verdict_once text))

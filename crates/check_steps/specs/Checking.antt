@@ -9,22 +9,23 @@ use Rattle.check_steps.specs.Steps.{FolderSeen, AndThen}
 use Rattle.check_steps.specs.declared.fault.CheckFault.{CheckFault}
 use Rattle.check_steps.specs.declared.fault.CheckFault.TheVariants.{TooMany, OffGrid, Unsound, NoMemory}
 use Rattle.check_steps.specs.declared.reading.MeshText.{MeshText}
+use Rattle.grid_coords.specs.declared.points.DecimalPoint.{DecimalPoint}
 
 -- how many points a mesh that is read has at most
 abbrev pub most_points : ℕ
 most_points = 120000
 
 -- why the points are on no grid
-abbrev pub IsUnsettled : Option ℕ → MeshText → CheckFault → Type 0
-IsUnsettled decimals text (TooMany count) = IsTooMany text.nodes.decimals most_points count
-IsUnsettled decimals text (OffGrid line) = IsOffGrid text.nodes.decimals decimals most_points line
-IsUnsettled decimals text NoMemory = Unit {0}
-IsUnsettled decimals text fault = ⊥
+abbrev pub IsUnsettled : Option ℕ → List DecimalPoint → CheckFault → Type 0
+IsUnsettled decimals ps (TooMany count) = IsTooMany ps most_points count
+IsUnsettled decimals ps (OffGrid line) = IsOffGrid ps decimals most_points line
+IsUnsettled decimals ps NoMemory = Unit {0}
+IsUnsettled decimals ps fault = ⊥
 
 -- the points on their least grid
-abbrev pub PointsAnswer : Option ℕ → MeshText → Result (List Point) CheckFault → Type 0
-PointsAnswer decimals text (Ok points) = IsOnLeastGrid text.nodes.decimals decimals most_points points
-PointsAnswer decimals text (Err fault) = IsUnsettled decimals text fault
+abbrev pub LeastGridAnswer : Option ℕ → MeshText → Result (List Point) CheckFault → Type 0
+LeastGridAnswer decimals text (Ok points) = IsOnLeastGrid text.nodes.decimals decimals most_points points
+LeastGridAnswer decimals text (Err fault) = IsUnsettled decimals text.nodes.decimals fault
 
 -- the mesh that the files spell, on these points
 abbrev pub mesh_of : MeshText → List Point → Mesh
@@ -43,7 +44,7 @@ VerdictAnswer text points (Err fault) = IsUnsound text points fault
 
 -- the check of what the files spell
 abbrev pub TextChecked : Option ℕ → MeshText → Result ℕ CheckFault → Type 0
-TextChecked decimals text = AndThen (PointsAnswer decimals text) (VerdictAnswer text)
+TextChecked decimals text = AndThen (LeastGridAnswer decimals text) (VerdictAnswer text)
 
 -- The check of the files with this base: how many tetrahedra the mesh has, where it is sound, or the first refusal in this order: of each
 -- file in turn its fetch and its text, then too many points, a point off the grid, and the first defect

@@ -2,7 +2,7 @@
 
 ghost use Rattle.std.specs.Prelude.{◌≡◌, ◌≤◌, length, All, IfOk};
 ghost use Rattle.mesh_readers.specs.Rows.{IsBelow};
-ghost use Rattle.check_steps.specs.Checking.{PointsAnswer, VerdictAnswer, TextChecked, CheckAnswer};
+ghost use Rattle.check_steps.specs.Checking.{LeastGridAnswer, VerdictAnswer, TextChecked, CheckAnswer};
 ghost use Rattle.check_steps.specs.Steps.{folder_seen};
 
 use crate::CheckFault;
@@ -18,7 +18,7 @@ pub const MOST_POINTS: u64 = 120_000;
 
 /// The points on their least grid, each coordinate rounded first where that is asked for.
 fn settle(alloc: Global, decimals: Option<u32>, text: &MeshText) -> Result<Points, CheckFault>
-    ensures answer { PointsAnswer decimals text.now result }
+    ensures answer { LeastGridAnswer decimals text.now result }
     ensures count { IfOk result (λ points. length points ≡ length text.now.nodes.decimals) }
 {
     match settle_least(alloc, &text.nodes.decimals, decimals, MOST_POINTS) {

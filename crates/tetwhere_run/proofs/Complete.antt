@@ -7,7 +7,7 @@ use Rattle.check_steps.proofs.Once.{IsDecided, IsTold}
 use Rattle.where_words.specs.Words.{bad_word}
 use Rattle.where_steps.proofs.Once.{locate_once}
 use Rattle.tetwhere_run.specs.Statuses.{status_of}
-use Rattle.tetwhere_run.specs.Run.{SinkSeen, base_of, queries_of, FilesAnswer, HasCause, HasNoFault, IsAnswer, IsComplete}
+use Rattle.tetwhere_run.specs.Run.{SinkSeen, mesh_base_of, queries_of, FilesAnswer, HasCause, HasNoFault, IsQueryAnswer, IsCompleteQuery}
 use Rattle.tetwhere_run.specs.declared.status.WhereStatus.{WhereStatus}
 use Rattle.tetwhere_run.specs.declared.status.WhereStatus.TheVariants.{Done, Usage, Missing, ReadFault, BadText, Limit, Unsound, NoMemory, WriteFault}
 
@@ -45,15 +45,15 @@ cause_same told words folder s t i (misnamed word h e) (misnamed other k f) = e 
 cause_same told words folder s t i (misnamed word h e) (answered r m k f) = absurd (named_or_not words word h k.0)
 cause_same told words folder s t i (answered r n h e) (misnamed word k f) = absurd (named_or_not words word k h.0)
 cause_same told words folder s t i (answered r n h e) (answered q m k f) =
-    e ∙ ap status_by (locate_once told folder (base_of words) (queries_of words) i r q n m h.1 k.1) ∙ sym f
+    e ∙ ap status_by (locate_once told folder (mesh_base_of words) (queries_of words) i r q n m h.1 k.1) ∙ sym f
 
 -- where no fault rose, an answer that memory was not wanting for has its cause
-caused : (words : List (List ℕ)) (folder : FolderSeen) (out : SinkSeen) (s : WhereStatus) → HasNoFault folder out → s ≢ NoMemory → IsAnswer words folder out s → HasCause words folder s
+caused : (words : List (List ℕ)) (folder : FolderSeen) (out : SinkSeen) (s : WhereStatus) → HasNoFault folder out → s ≢ NoMemory → IsQueryAnswer words folder out s → HasCause words folder s
 caused words folder out Done f n h = (h.0, h.1)
 caused words folder out WriteFault f n h = f.1 h.3
 caused words folder out NoMemory f n h = n refl
 caused words folder out s f n h = h.1
 
-pub answer_complete : (words : List (List ℕ)) (folder : FolderSeen) (out : SinkSeen) (s : WhereStatus) → IsAnswer words folder out s → IsComplete words folder out s
+pub answer_complete : (words : List (List ℕ)) (folder : FolderSeen) (out : SinkSeen) (s : WhereStatus) → IsQueryAnswer words folder out s → IsCompleteQuery words folder out s
 answer_complete words folder out s h told e f n other c =
     cause_same told words folder s other (record { files = e; no_fault = f.0 }) (cause_of words folder s (caused words folder out s f n h)) (cause_of words folder other c)

@@ -32,19 +32,19 @@ abbrev pub text_message : List ℕ → TextFault → List ℕ
 text_message name fault = line (name ++ codes ": line " ++ decimal fault.line ++ codes ": " ++ kind_text fault.kind)
 
 -- the limit of bytes is 2^26
-abbrev pub limit_message : WhereLimit → List ℕ
-limit_message (Bytes name) = file_message name (codes "over 67108864 bytes")
-limit_message (Points count) = line (decimal count ++ codes " points, at most 120000")
-limit_message (Grid place) = line (codes "line " ++ decimal place ++ codes ": coordinate off the grid")
+abbrev pub query_limit_message : WhereLimit → List ℕ
+query_limit_message (Bytes name) = file_message name (codes "over 67108864 bytes")
+query_limit_message (Points count) = line (decimal count ++ codes " points, at most 120000")
+query_limit_message (Grid place) = line (codes "line " ++ decimal place ++ codes ": coordinate off the grid")
 
 -- The message of a refusal, where points and rows are numbered from the first number on; a run that is done has none
-abbrev pub message_of : ℕ → WhereStatus → List ℕ
-message_of first Done = []
-message_of first (Usage word place) = usage_message word place
-message_of first (Missing name) = file_message name (codes "not found")
-message_of first (ReadFault name) = file_message name (codes "read failed")
-message_of first (BadText name fault) = text_message name fault
-message_of first (Limit what) = limit_message what
-message_of first (Unsound defect) = line (defect_text first defect)
-message_of first NoMemory = line (codes "out of memory")
-message_of first WriteFault = line (codes "answers: write failed")
+abbrev pub query_message_of : ℕ → WhereStatus → List ℕ
+query_message_of first Done = []
+query_message_of first (Usage word place) = usage_message word place
+query_message_of first (Missing name) = file_message name (codes "not found")
+query_message_of first (ReadFault name) = file_message name (codes "read failed")
+query_message_of first (BadText name fault) = text_message name fault
+query_message_of first (Limit what) = query_limit_message what
+query_message_of first (Unsound defect) = line (defect_text first defect)
+query_message_of first NoMemory = line (codes "out of memory")
+query_message_of first WriteFault = line (codes "answers: write failed")

@@ -10,7 +10,7 @@ use Rattle.check_steps.specs.Steps.{FolderSeen}
 use Rattle.check_steps.specs.declared.fault.CheckFault.{CheckFault}
 use Rattle.where_words.specs.Words.{bad_word}
 use Rattle.where_steps.specs.Locating.{LocateAnswer}
-use Rattle.tetwhere_run.specs.Messages.{message_of}
+use Rattle.tetwhere_run.specs.Messages.{query_message_of}
 use Rattle.tetwhere_run.specs.Statuses.{status_of}
 use Rattle.tetwhere_run.specs.declared.status.WhereStatus.{WhereStatus}
 use Rattle.tetwhere_run.specs.declared.status.WhereStatus.TheVariants.{Done, Usage, Unsound, NoMemory, WriteFault}
@@ -37,15 +37,15 @@ sink_seen written faults wants before now = record {
 }
 
 -- the words are two names: the base of the mesh, and the file of queries
-abbrev pub base_of : List (List ℕ) → List ℕ
-base_of words = slice_index_or words 0 []
+abbrev pub mesh_base_of : List (List ℕ) → List ℕ
+mesh_base_of words = slice_index_or words 0 []
 
 abbrev pub queries_of : List (List ℕ) → List ℕ
 queries_of words = slice_index_or words 1 []
 
 -- the answer of the files that the words name
 abbrev pub FilesAnswer : List (List ℕ) → FolderSeen → Result (List ℕ) CheckFault → Type 0
-FilesAnswer words folder result = (bad_word words ≡ None) × LocateAnswer folder (base_of words) (queries_of words) result
+FilesAnswer words folder result = (bad_word words ≡ None) × LocateAnswer folder (mesh_base_of words) (queries_of words) result
 
 -- The cause of an answer: lines, where nothing is refused; words that are not two names; or the first refusal of the files. A fault of the
 -- sink, and want of memory, which is free, are none
@@ -62,13 +62,13 @@ IsAsBefore out = out.written_now ≡ out.written_before
 
 -- Each answer has its cause, and puts this. Done: the lines of all queries. A fault of the sink: a prefix of them. Every other refusal, and
 -- want of memory, which is free: nothing
-abbrev pub IsAnswer : List (List ℕ) → FolderSeen → SinkSeen → WhereStatus → Type 0
-IsAnswer words folder out Done = (lines : List ℕ) × FilesAnswer words folder (Ok lines)
+abbrev pub IsQueryAnswer : List (List ℕ) → FolderSeen → SinkSeen → WhereStatus → Type 0
+IsQueryAnswer words folder out Done = (lines : List ℕ) × FilesAnswer words folder (Ok lines)
     × (out.written_now ≡ with_piece out.written_before lines)
-IsAnswer words folder out WriteFault = (lines : List ℕ) × FilesAnswer words folder (Ok lines)
+IsQueryAnswer words folder out WriteFault = (lines : List ℕ) × FilesAnswer words folder (Ok lines)
     × PartlyPut out.written_before lines out.written_now × Rose out.faults_before out.faults_now
-IsAnswer words folder out NoMemory = IsAsBefore out
-IsAnswer words folder out status = IsAsBefore out × HasCause words folder status
+IsQueryAnswer words folder out NoMemory = IsAsBefore out
+IsQueryAnswer words folder out status = IsAsBefore out × HasCause words folder status
 
 -- no count of faults rose
 abbrev pub HasNoFault : FolderSeen → SinkSeen → Type 0
@@ -76,8 +76,8 @@ HasNoFault folder out = ¬ Rose folder.faults_before folder.faults_now × ¬ Ros
 
 -- Where the files are told, no count of faults rose and memory was not wanting, the answer that has a cause is given: the first refusal in
 -- order, and Done where there is none
-abbrev pub IsComplete : List (List ℕ) → FolderSeen → SinkSeen → WhereStatus → Type 0
-IsComplete words folder out status =
+abbrev pub IsCompleteQuery : List (List ℕ) → FolderSeen → SinkSeen → WhereStatus → Type 0
+IsCompleteQuery words folder out status =
     (told : Files) → folder.files ≡ Some told → HasNoFault folder out → status ≢ NoMemory
     → (other : WhereStatus) → HasCause words folder other → status ≡ other
 
@@ -90,13 +90,13 @@ IsPut message err =
 -- where a row is told, rows are numbered from this number on: that of the first point in the mesh's file of points
 abbrev pub IsFirstNumber : List (List ℕ) → FolderSeen → WhereStatus → ℕ → Type 0
 IsFirstNumber words folder (Unsound defect) first =
-    (nodes : NodeText) × FileAnswer folder (base_of words ++ codes ".node") nodes_of (Ok nodes) × (first ≡ nodes.first)
+    (nodes : NodeText) × FileAnswer folder (mesh_base_of words ++ codes ".node") nodes_of (Ok nodes) × (first ≡ nodes.first)
 IsFirstNumber words folder status first = Unit {0}
 
 -- Done tells nothing. Every other answer has its message
-abbrev pub IsTold : List (List ℕ) → FolderSeen → SinkSeen → WhereStatus → Type 0
-IsTold words folder err Done = IsAsBefore err
-IsTold words folder err status = (first : ℕ) × IsFirstNumber words folder status first × IsPut (message_of first status) err
+abbrev pub IsQueryTold : List (List ℕ) → FolderSeen → SinkSeen → WhereStatus → Type 0
+IsQueryTold words folder err Done = IsAsBefore err
+IsQueryTold words folder err status = (first : ℕ) × IsFirstNumber words folder status first × IsPut (query_message_of first status) err
 
 -- ---- the end of a run
 
@@ -106,9 +106,9 @@ IsRefusal Done = ⊥
 IsRefusal status = Unit {0}
 
 -- how a run ends before its message
-abbrev pub EndsSo : List (List ℕ) → FolderSeen → SinkSeen → Result (Unit {0}) Stop → Type 0
-EndsSo words folder out (Ok done) = IsAnswer words folder out Done
-EndsSo words folder out (Err stop) = IsRefusal stop.status × IsAnswer words folder out stop.status
+abbrev pub QueryEndsSo : List (List ℕ) → FolderSeen → SinkSeen → Result (Unit {0}) Stop → Type 0
+QueryEndsSo words folder out (Ok done) = IsQueryAnswer words folder out Done
+QueryEndsSo words folder out (Err stop) = IsRefusal stop.status × IsQueryAnswer words folder out stop.status
     × IsFirstNumber words folder stop.status stop.first
 
 -- why the lines are not put, and what that leaves
@@ -123,12 +123,12 @@ IsLinesPut lines out (Ok done) = out.written_now ≡ with_piece out.written_befo
 IsLinesPut lines out (Err stop) = IsUnput lines out stop.status
 
 -- only a fault of the sink comes after something was put
-abbrev pub IsEarly : WhereStatus → Type 0
-IsEarly WriteFault = ⊥
-IsEarly status = Unit {0}
+abbrev pub IsEarlyQuery : WhereStatus → Type 0
+IsEarlyQuery WriteFault = ⊥
+IsEarlyQuery status = Unit {0}
 
 -- a refusal with its message; or want of memory, where an early one found none for its message
-abbrev pub IsToldAs : Stop → SinkSeen → WhereStatus → Type 0
-IsToldAs stop err result =
-    ((result ≡ stop.status) × IsPut (message_of stop.first stop.status) err)
-    ⊎ ((result ≡ NoMemory) × IsEarly stop.status × IsPut (message_of 0 NoMemory) err)
+abbrev pub IsQueryToldAs : Stop → SinkSeen → WhereStatus → Type 0
+IsQueryToldAs stop err result =
+    ((result ≡ stop.status) × IsPut (query_message_of stop.first stop.status) err)
+    ⊎ ((result ≡ NoMemory) × IsEarlyQuery stop.status × IsPut (query_message_of 0 NoMemory) err)

@@ -7,16 +7,16 @@ use Rattle.tetwhere_run.specs.declared.status.WhereStatus.{WhereStatus}
 use Rattle.tetwhere_run.specs.declared.status.WhereStatus.TheVariants.{Done, Usage, Missing, ReadFault, BadText, Limit, Unsound, NoMemory, WriteFault}
 
 -- the exit code
-abbrev pub code_of : WhereStatus → ℕ
-code_of Done = 0
-code_of (Usage word place) = 1
-code_of (Missing name) = 2
-code_of (ReadFault name) = 3
-code_of (BadText name fault) = 4
-code_of (Limit what) = 5
-code_of NoMemory = 10
-code_of WriteFault = 11
-code_of (Unsound defect) = 13
+abbrev pub query_code_of : WhereStatus → ℕ
+query_code_of Done = 0
+query_code_of (Usage word place) = 1
+query_code_of (Missing name) = 2
+query_code_of (ReadFault name) = 3
+query_code_of (BadText name fault) = 4
+query_code_of (Limit what) = 5
+query_code_of NoMemory = 10
+query_code_of WriteFault = 11
+query_code_of (Unsound defect) = 13
 
 -- the answer on a refusal of the files
 abbrev pub status_of : CheckFault → WhereStatus

@@ -11,10 +11,10 @@ abbrev pub stop_with : WhereStatus → Stop
 stop_with status = record { status = status; first = 0 }
 
 -- the number of the mesh's first point, where a defect is told
-abbrev pub first_of : CheckFault → ℕ
-first_of (faults.Unsound defect first) = first
-first_of fault = 0
+abbrev pub first_point_number : CheckFault → ℕ
+first_point_number (faults.Unsound defect first) = first
+first_point_number fault = 0
 
 -- at a refusal of the files
 abbrev pub stop_of : CheckFault → Stop
-stop_of fault = record { status = status_of fault; first = first_of fault }
+stop_of fault = record { status = status_of fault; first = first_point_number fault }

@@ -2,7 +2,7 @@
 
 ghost use Rattle.std.specs.Prelude.{◌≡◌, ◌++◌, IfOk, OnOk};
 ghost use Rattle.std.specs.Fmt.{decimal};
-ghost use Rattle.tetwhere_run.specs.Messages.{line, kind_text, file_message, usage_message, text_message, limit_message, message_of};
+ghost use Rattle.tetwhere_run.specs.Messages.{line, kind_text, file_message, usage_message, text_message, query_limit_message, query_message_of};
 
 use crate::status::{WhereLimit, WhereStatus};
 use check_steps::defect_text;
@@ -19,7 +19,7 @@ pub const WRITE_FAILED: &[u8] = b"tetwhere: answers: write failed\n";
 
 /// The line that tells a refusal, where rows are numbered from `first` on.
 pub fn message(alloc: Global, first: u32, status: &WhereStatus) -> Result<Bytes, NoMemory>
-    ensures { IfOk result (λ line. line ≡ message_of first status.now) }
+    ensures { IfOk result (λ line. line ≡ query_message_of first status.now) }
 {
     match status {
         WhereStatus::Done => Ok(Bytes::new(alloc)),
@@ -27,7 +27,7 @@ pub fn message(alloc: Global, first: u32, status: &WhereStatus) -> Result<Bytes,
         WhereStatus::Missing { name } => file_message(alloc, name, b"not found"),
         WhereStatus::ReadFault { name } => file_message(alloc, name, b"read failed"),
         WhereStatus::BadText { name, fault } => text_message(alloc, name, *fault),
-        WhereStatus::Limit { what } => limit_message(alloc, what),
+        WhereStatus::Limit { what } => query_limit_message(alloc, what),
         WhereStatus::Unsound { defect } => {
             let told = defect_text(alloc, first, *defect)?;
             line(alloc, told.as_slice())
@@ -81,8 +81,8 @@ fn text_message(alloc: Global, name: &Name, fault: TextFault) -> Result<Bytes, N
 }
 
 /// A message on what is over a limit.
-fn limit_message(alloc: Global, what: &WhereLimit) -> Result<Bytes, NoMemory>
-    ensures { IfOk result (λ line. line ≡ limit_message what.now) }
+fn query_limit_message(alloc: Global, what: &WhereLimit) -> Result<Bytes, NoMemory>
+    ensures { IfOk result (λ line. line ≡ query_limit_message what.now) }
 {
     match what {
         WhereLimit::Bytes { name } => file_message(alloc, name, b"over 67108864 bytes"),

@@ -2,7 +2,7 @@
 
 ghost use Rattle.std.specs.Prelude.{◌≡◌, ◌≤◌, ◌<◌, length};
 ghost use Rattle.check_steps.specs.Steps.{folder_seen};
-ghost use Rattle.tetwhere_run.specs.Run.{sink_seen, IsAnswer, IsComplete, IsTold, EndsSo, IsLinesPut, IsPut, IsToldAs};
+ghost use Rattle.tetwhere_run.specs.Run.{sink_seen, IsQueryAnswer, IsCompleteQuery, IsQueryTold, QueryEndsSo, IsLinesPut, IsPut, IsQueryToldAs};
 
 use crate::messages::{OUT_OF_MEMORY, WRITE_FAILED, message};
 use crate::status::WhereStatus;
@@ -23,13 +23,13 @@ pub fn run_where<F: Folder, O: Sink, E: Sink>(
     out: &mut O,
     err: &mut E,
 ) -> WhereStatus
-    ensures answer { IsAnswer words.now
+    ensures answer { IsQueryAnswer words.now
         (folder_seen F.held F.faults F.misses folder.old folder.new)
         (sink_seen O.written O.faults O.wants out.old out.new) result }
-    ensures complete { IsComplete words.now
+    ensures complete { IsCompleteQuery words.now
         (folder_seen F.held F.faults F.misses folder.old folder.new)
         (sink_seen O.written O.faults O.wants out.old out.new) result }
-    ensures told { IsTold words.now
+    ensures told { IsQueryTold words.now
         (folder_seen F.held F.faults F.misses folder.old folder.new)
         (sink_seen E.written E.faults E.wants err.old err.new) result }
     ensures unchanged { F.held folder.new ≡ F.held folder.old }
@@ -47,7 +47,7 @@ fn run<F: Folder, O: Sink>(
     folder: &mut F,
     out: &mut O,
 ) -> Result<(), Stop>
-    ensures ends { EndsSo words.now
+    ensures ends { QueryEndsSo words.now
         (folder_seen F.held F.faults F.misses folder.old folder.new)
         (sink_seen O.written O.faults O.wants out.old out.new) result }
     ensures unchanged { F.held folder.new ≡ F.held folder.old }
@@ -80,7 +80,7 @@ fn put<E: Sink>(line: &[u8], err: &mut E)
 /// Puts the message of a refusal, and answers it. Where there is no memory for the message, the
 /// answer is want of memory.
 fn tell<E: Sink>(alloc: Global, stop: Stop, err: &mut E) -> WhereStatus
-    ensures { IsToldAs stop (sink_seen E.written E.faults E.wants err.old err.new) result }
+    ensures { IsQueryToldAs stop (sink_seen E.written E.faults E.wants err.old err.new) result }
 {
     let Stop { status, first } = stop;
     if matches!(&status, WhereStatus::WriteFault) {

@@ -1,7 +1,7 @@
 //! The answers of the program.
 
 ghost use Rattle.std.specs.Prelude.{◌≡◌};
-ghost use Rattle.tetwhere_run.specs.Statuses.{code_of, status_of};
+ghost use Rattle.tetwhere_run.specs.Statuses.{query_code_of, status_of};
 
 use check_steps::CheckFault;
 use mesh_check::Defect;
@@ -42,7 +42,7 @@ pub enum WhereStatus {
 impl WhereStatus {
     /// The exit code.
     pub fn code(&self) -> u8
-        ensures { result ≡ code_of self.now }
+        ensures { result ≡ query_code_of self.now }
     {
         match self {
             WhereStatus::Done => 0,

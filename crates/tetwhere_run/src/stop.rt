@@ -1,7 +1,7 @@
 //! Why a run stopped before its end.
 
 ghost use Rattle.std.specs.Prelude.{◌≡◌};
-ghost use Rattle.tetwhere_run.specs.Stops.{first_of, stop_of, stop_with};
+ghost use Rattle.tetwhere_run.specs.Stops.{first_point_number, stop_of, stop_with};
 
 use crate::status::WhereStatus;
 use check_steps::CheckFault;
@@ -26,15 +26,15 @@ impl From<CheckFault> for Stop {
     ghost from_gives = { λ fault stop. stop ≡ stop_of fault };
 
     fn from(fault: CheckFault) -> Stop {
-        let first = first_of(&fault);
+        let first = first_point_number(&fault);
         let status = WhereStatus::from(fault);
         Stop { status, first }
     }
 }
 
 /// The number of the mesh's first point, where a defect is told.
-fn first_of(fault: &CheckFault) -> u32
-    ensures { result ≡ first_of fault.now }
+fn first_point_number(fault: &CheckFault) -> u32
+    ensures { result ≡ first_point_number fault.now }
 {
     match fault {
         CheckFault::Unsound { first, .. } => *first,

@@ -8,33 +8,25 @@ use Rattle.mesh_check.specs.Defects.{IsNotPositive}
 use Rattle.mesh_check.specs.Searches.{IsFirstOf}
 use Rattle.mesh_check.specs.declared.defect.Defect.TheVariants.{NotPositive}
 use Rattle.mesh_grid.specs.LeastGrid.{least_grid_of, point_on}
-use Rattle.mesh_grid.specs.Settling.{IsTooMany, IsOffGrid}
 use Rattle.row_cells.specs.Where.{place_of}
-use Rattle.check_steps.specs.Checking.{most_points}
+use Rattle.check_steps.specs.Checking.{IsUnsettled, most_points}
 use Rattle.check_steps.specs.Steps.{FolderSeen, AndThen, Gives}
 use Rattle.check_steps.specs.declared.fault.CheckFault.{CheckFault}
-use Rattle.check_steps.specs.declared.fault.CheckFault.TheVariants.{TooMany, OffGrid, Unsound, NoMemory}
+use Rattle.check_steps.specs.declared.fault.CheckFault.TheVariants.{Unsound, NoMemory}
 use Rattle.where_steps.specs.Reading.{WhereTextAnswer}
 use Rattle.where_steps.specs.declared.reading.WhereText.{WhereText}
 use Rattle.where_steps.specs.declared.settling.Settled.{Settled}
 
 -- there are not too many points, and these are their least grid and the points on it
-pub record IsSettled (ps : List DecimalPoint) (s : Settled) : Type 0 where
+pub record IsSettledMesh (ps : List DecimalPoint) (s : Settled) : Type 0 where
   pub few : length ps ≤ most_points
   pub grid : least_grid_of ps ≡ Ok s.grid
   pub points : s.points ≡ map (point_on s.grid) ps
 
--- why the points are on no grid
-abbrev pub IsUnsettled : List DecimalPoint → CheckFault → Type 0
-IsUnsettled ps (TooMany count) = IsTooMany ps most_points count
-IsUnsettled ps (OffGrid line) = IsOffGrid ps None most_points line
-IsUnsettled ps NoMemory = Unit {0}
-IsUnsettled ps fault = ⊥
-
 -- the points on their least grid
 abbrev pub SettledAnswer : List DecimalPoint → Result Settled CheckFault → Type 0
-SettledAnswer ps (Ok settled) = IsSettled ps settled
-SettledAnswer ps (Err fault) = IsUnsettled ps fault
+SettledAnswer ps (Ok settled) = IsSettledMesh ps settled
+SettledAnswer ps (Err fault) = IsUnsettled None ps fault
 
 -- the first row that is not positive
 abbrev pub IsNegative : WhereText → Settled → CheckFault → Type 0
@@ -47,15 +39,15 @@ PositiveAnswer text s (Ok done) = IsFirstOf (IsNotPositive s.points text.rows) N
 PositiveAnswer text s (Err fault) = IsNegative text s fault
 
 -- the number of a row, or -1 where there is none
-abbrev pub row_text : ℕ → Option ℕ → List ℕ
-row_text first None = codes "-1"
-row_text first (Some row) = decimal (row + first)
+abbrev pub found_row_text : ℕ → Option ℕ → List ℕ
+found_row_text first None = codes "-1"
+found_row_text first (Some row) = decimal (row + first)
 
 -- The line of the query at a place: its number, and that of the first row whose closed tetrahedron holds it
 abbrev pub query_line : WhereText → Settled → ℕ → DecimalPoint → List ℕ
 query_line text s place query =
     decimal (place + text.queries.first) ++ codes " "
-    ++ row_text text.nodes.first (place_of s.points text.rows (rational_point s.grid query)) ++ (10 ∷ [])
+    ++ found_row_text text.nodes.first (place_of s.points text.rows (rational_point s.grid query)) ++ (10 ∷ [])
 
 -- the lines of queries from a place on
 abbrev pub query_lines : WhereText → Settled → ℕ → List DecimalPoint → List ℕ

@@ -5,7 +5,7 @@ ghost use Rattle.std.specs.Fmt.{decimal};
 ghost use Rattle.mesh_readers.specs.Rows.{IsBelow};
 ghost use Rattle.row_cells.specs.Parts.{ArePositiveOn, StandsFor};
 ghost use Rattle.check_steps.specs.Steps.{folder_seen};
-ghost use Rattle.where_steps.specs.Locating.{row_text, query_line, answer_text, AnswersAnswer, TextLocated, LocateAnswer};
+ghost use Rattle.where_steps.specs.Locating.{found_row_text, query_line, answer_text, AnswersAnswer, TextLocated, LocateAnswer};
 
 use crate::reading::{WhereText, read_where};
 use crate::settling::{Settled, settle, want_positive};
@@ -27,7 +27,7 @@ fn append_number(text: &mut Bytes, place: usize, first: u32) -> Result<(), NoMem
 
 /// Appends the number of a row, or -1 where there is none.
 fn append_row(text: &mut Bytes, row: Option<usize>, first: u32) -> Result<(), NoMemory>
-    ensures { OnOk result (text.new ≡ text.old ++ row_text first row) }
+    ensures { OnOk result (text.new ≡ text.old ++ found_row_text first row) }
 {
     match row {
         Some(row) => append_number(text, row, first),

@@ -1,6 +1,6 @@
 use Rattle.std.proofs.Common.{subst}
 use Rattle.check_steps.specs.Steps.{FolderSeen, folder_seen}
-use Rattle.tetwhere_run.specs.Run.{SinkSeen, sink_seen, EndsSo}
+use Rattle.tetwhere_run.specs.Run.{SinkSeen, sink_seen, QueryEndsSo}
 use Rattle.tetwhere_run.specs.declared.status.WhereStatus.TheVariants.{Done}
 use Rattle.tetwhere_run.proofs.Complete.{answer_complete}
 use Rattle.tetwhere_run.proofs.Ends.{stop_answer, stop_told}
@@ -12,7 +12,7 @@ returns-in-Ok-clause-complete g c =
     let O = g.O.Sink in
     let folder : FolderSeen = folder_seen F.held F.faults F.misses c.args.folder.now c.run.new.folder in
     let out : SinkSeen = sink_seen O.written O.faults O.wants c.args.out.now c.run.new.out in
-    answer_complete c.args.words.now folder out Done (subst (EndsSo c.args.words.now folder out) c.in-Ok.is c.run.ensures.ends)
+    answer_complete c.args.words.now folder out Done (subst (QueryEndsSo c.args.words.now folder out) c.in-Ok.is c.run.ensures.ends)
 
 pub returns-in-Err-clause-complete : goal.returns-in-Err-clause-complete
 returns-in-Err-clause-complete g c =
@@ -22,7 +22,7 @@ returns-in-Err-clause-complete g c =
     let folder : FolderSeen = folder_seen F.held F.faults F.misses c.args.folder.now c.run.new.folder in
     let out : SinkSeen = sink_seen O.written O.faults O.wants c.args.out.now c.run.new.out in
     let err : SinkSeen = sink_seen E.written E.faults E.wants c.args.err.now c.tell.new.err in
-    let ended = subst (EndsSo c.args.words.now folder out) c.in-Err.is c.run.ensures.ends in
+    let ended = subst (QueryEndsSo c.args.words.now folder out) c.in-Err.is c.run.ensures.ends in
     answer_complete c.args.words.now folder out c.tell.result (stop_answer c.args.words.now folder out err c.in-Err.stop c.tell.result ended c.tell.ensures)
 
 pub returns-in-Err-clause-told : goal.returns-in-Err-clause-told
@@ -33,5 +33,5 @@ returns-in-Err-clause-told g c =
     let folder : FolderSeen = folder_seen F.held F.faults F.misses c.args.folder.now c.run.new.folder in
     let out : SinkSeen = sink_seen O.written O.faults O.wants c.args.out.now c.run.new.out in
     let err : SinkSeen = sink_seen E.written E.faults E.wants c.args.err.now c.tell.new.err in
-    let ended = subst (EndsSo c.args.words.now folder out) c.in-Err.is c.run.ensures.ends in
+    let ended = subst (QueryEndsSo c.args.words.now folder out) c.in-Err.is c.run.ensures.ends in
     stop_told c.args.words.now folder out err c.in-Err.stop c.tell.result ended c.tell.ensures
