@@ -1,4 +1,6 @@
+pub mod Seen
 pub mod Steps
+pub mod Messages
 pub mod Reading
 pub mod Checking
 pub mod Telling

@@ -10,7 +10,7 @@ use std::alloc::Global;
 use tet_ports::{Bytes, NoMemory};
 
 /// Appends the number of a thing at a place, where things are numbered from `first` on.
-fn append_number(text: &mut Bytes, place: usize, first: u32) -> Result<(), NoMemory>
+pub fn append_place(text: &mut Bytes, place: usize, first: u32) -> Result<(), NoMemory>
     ensures { OnOk result (text.new ≡ text.old ++ decimal (place + first)) }
 {
     let number = place as u128 + u128::from(first);
@@ -23,7 +23,7 @@ fn append_row(text: &mut Bytes, row: usize, first: u32, told: &[u8]) -> Result<(
     ensures { OnOk result (text.new ≡ text.old ++ (row_text first row ++ told.now)) }
 {
     text.append(b"row ")?;
-    append_number(text, row, first)?;
+    append_place(text, row, first)?;
     text.append(told)
 }
 
@@ -38,9 +38,9 @@ fn append_rows(
     ensures { OnOk result (text.new ≡ text.old ++ (two_rows_text first one two ++ told.now)) }
 {
     text.append(b"rows ")?;
-    append_number(text, one, first)?;
+    append_place(text, one, first)?;
     text.append(b" and ")?;
-    append_number(text, two, first)?;
+    append_place(text, two, first)?;
     text.append(told)
 }
 
@@ -50,7 +50,7 @@ fn append_face(text: &mut Bytes, face: usize, first: u32) -> Result<(), NoMemory
         ++ (codes "face " ++ decimal (face + first) ++ codes " belongs to no row")) }
 {
     text.append(b"face ")?;
-    append_number(text, face, first)?;
+    append_place(text, face, first)?;
     text.append(b" belongs to no row")
 }
 
@@ -88,7 +88,7 @@ pub fn sound_line(alloc: Global, count: usize) -> Result<Bytes, NoMemory>
     ensures { IfOk result (λ line. line ≡ sound_line count) }
 {
     let mut line = Bytes::from_slice(alloc, b"sound: ")?;
-    append_number(&mut line, count, 0)?;
+    append_place(&mut line, count, 0)?;
     line.append(b" tetrahedra\n")?;
     Ok(line)
 }

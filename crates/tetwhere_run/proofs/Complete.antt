@@ -2,12 +2,13 @@
 use Rattle.std.proofs.Common.{◌≡◌, ◌≢◌, ◌∙◌, ℕ, List, Some, None, Result, Ok, Err, refl, sym, ap}
 use Rattle.tet_ports.specs.Files.{Files}
 use Rattle.check_steps.specs.Steps.{FolderSeen}
+use Rattle.check_steps.specs.Seen.{SinkSeen}
 use Rattle.check_steps.specs.declared.fault.CheckFault.{CheckFault}
 use Rattle.check_steps.proofs.Once.{IsDecided, IsTold}
 use Rattle.where_words.specs.Words.{bad_word}
 use Rattle.where_steps.proofs.Once.{locate_once}
 use Rattle.tetwhere_run.specs.Statuses.{status_of}
-use Rattle.tetwhere_run.specs.Run.{SinkSeen, mesh_base_of, queries_of, FilesAnswer, HasCause, HasNoFault, IsQueryAnswer, IsCompleteQuery}
+use Rattle.tetwhere_run.specs.Run.{mesh_base_of, queries_of, FilesAnswer, HasCause, IsQueryAnswer, IsCompleteQuery, HasNoFault}
 use Rattle.tetwhere_run.specs.declared.status.WhereStatus.{WhereStatus}
 use Rattle.tetwhere_run.specs.declared.status.WhereStatus.TheVariants.{Done, Usage, Missing, ReadFault, BadText, Limit, Unsound, NoMemory, WriteFault}
 

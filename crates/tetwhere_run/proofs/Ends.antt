@@ -1,13 +1,14 @@
 -- How a run ends, put together.
 use Rattle.std.proofs.Common.{◌≡◌, inl, inr, ℕ, List, Some, Result, Ok, Err, refl, sym, subst}
 use Rattle.check_steps.specs.Steps.{FolderSeen}
+use Rattle.check_steps.specs.Seen.{SinkSeen, IsMessagePut}
 use Rattle.check_steps.specs.declared.fault.CheckFault.{CheckFault}
 use Rattle.check_steps.specs.declared.fault.CheckFault.TheVariants as faults
 use Rattle.where_words.specs.Words.{bad_word}
 use Rattle.where_steps.proofs.Numbered.{numbered}
 use Rattle.tetwhere_run.specs.Messages.{query_message_of}
 use Rattle.tetwhere_run.specs.Stops.{stop_of, stop_with}
-use Rattle.tetwhere_run.specs.Run.{SinkSeen, mesh_base_of, queries_of, FilesAnswer, IsAsBefore, IsQueryAnswer, IsFirstNumber, IsQueryTold, IsPut, IsRefusal, QueryEndsSo, IsUnput, IsLinesPut, IsEarlyQuery, IsQueryToldAs}
+use Rattle.tetwhere_run.specs.Run.{mesh_base_of, queries_of, FilesAnswer, IsAsBefore, IsQueryAnswer, IsFirstNumber, IsQueryTold, IsRefusal, QueryEndsSo, IsUnput, IsLinesPut, IsEarlyQuery, IsQueryToldAs}
 use Rattle.tetwhere_run.specs.declared.status.WhereStatus.{WhereStatus}
 use Rattle.tetwhere_run.specs.declared.status.WhereStatus.TheVariants.{Done, Usage, NoMemory, WriteFault}
 use Rattle.tetwhere_run.specs.declared.stop.Stop.{Stop}
@@ -50,7 +51,7 @@ pub stop_answer : (words : List (List ℕ)) (folder : FolderSeen) (out err : Sin
 stop_answer words folder out err stop result h (inl t) = subst (IsQueryAnswer words folder out) (sym t.0) h.1
 stop_answer words folder out err stop result h (inr t) = subst (IsQueryAnswer words folder out) (sym t.0) (early_answer words folder out stop.status h.0 h.1 t.1)
 
-first_told : (words : List (List ℕ)) (folder : FolderSeen) (err : SinkSeen) (s : WhereStatus) (first : ℕ) → IsRefusal s → IsFirstNumber words folder s first → IsPut (query_message_of first s) err → IsQueryTold words folder err s
+first_told : (words : List (List ℕ)) (folder : FolderSeen) (err : SinkSeen) (s : WhereStatus) (first : ℕ) → IsRefusal s → IsFirstNumber words folder s first → IsMessagePut (query_message_of first s) err → IsQueryTold words folder err s
 first_told words folder err Done first r n p = absurd r
 first_told words folder err s first r n p = (first, n, p)
 

@@ -1,5 +1,5 @@
 -- What a run of the program answers, puts and tells.
-use Rattle.std.specs.Prelude.{◌≡◌, ◌≢◌, ◌⊎◌, ◌++◌, ℕ, List, [], codes, Option, Some, None, Result, Ok, Err}
+use Rattle.std.specs.Prelude.{◌≡◌, ◌≢◌, ◌⊎◌, ◌++◌, ℕ, List, [], codes, Some, None, Result, Ok, Err}
 use Rattle.std.specs.List.{slice_index_or}
 use Rattle.tet_ports.specs.Counts.{Rose}
 use Rattle.tet_ports.specs.Files.{Files}
@@ -7,6 +7,7 @@ use Rattle.tet_ports.specs.Written.{PartlyPut, with_piece}
 use Rattle.node_files.specs.declared.node_text.NodeText.{NodeText}
 use Rattle.check_steps.specs.Reading.{FileAnswer, nodes_of}
 use Rattle.check_steps.specs.Steps.{FolderSeen}
+use Rattle.check_steps.specs.Seen.{SinkSeen, IsMessagePut}
 use Rattle.check_steps.specs.declared.fault.CheckFault.{CheckFault}
 use Rattle.where_words.specs.Words.{bad_word}
 use Rattle.where_steps.specs.Locating.{LocateAnswer}
@@ -15,26 +16,6 @@ use Rattle.tetwhere_run.specs.Statuses.{status_of}
 use Rattle.tetwhere_run.specs.declared.status.WhereStatus.{WhereStatus}
 use Rattle.tetwhere_run.specs.declared.status.WhereStatus.TheVariants.{Done, Usage, Unsound, NoMemory, WriteFault}
 use Rattle.tetwhere_run.specs.declared.stop.Stop.{Stop}
-
--- a sink: its bytes, where they are told, and the counts of its faults and of puts refused for want of memory, before and after
-pub record SinkSeen : Type 0 where
-  pub written_before : Option (List ℕ)
-  pub written_now : Option (List ℕ)
-  pub faults_before : ℕ
-  pub faults_now : ℕ
-  pub wants_before : ℕ
-  pub wants_now : ℕ
-
--- by what the sink says of itself
-abbrev pub sink_seen : {S : Type 0} → (S → Option (List ℕ)) → (S → ℕ) → (S → ℕ) → S → S → SinkSeen
-sink_seen written faults wants before now = record {
-  written_before = written before;
-  written_now = written now;
-  faults_before = faults before;
-  faults_now = faults now;
-  wants_before = wants before;
-  wants_now = wants now;
-}
 
 -- the words are two names: the base of the mesh, and the file of queries
 abbrev pub mesh_base_of : List (List ℕ) → List ℕ
@@ -81,12 +62,6 @@ IsCompleteQuery words folder out status =
     (told : Files) → folder.files ≡ Some told → HasNoFault folder out → status ≢ NoMemory
     → (other : WhereStatus) → HasCause words folder other → status ≡ other
 
--- the message is appended, or a prefix of it where the sink failed or wanted memory
-abbrev pub IsPut : List ℕ → SinkSeen → Type 0
-IsPut message err =
-    (err.written_now ≡ with_piece err.written_before message)
-    ⊎ (PartlyPut err.written_before message err.written_now × (Rose err.faults_before err.faults_now ⊎ Rose err.wants_before err.wants_now))
-
 -- where a row is told, rows are numbered from this number on: that of the first point in the mesh's file of points
 abbrev pub IsFirstNumber : List (List ℕ) → FolderSeen → WhereStatus → ℕ → Type 0
 IsFirstNumber words folder (Unsound defect) first =
@@ -96,7 +71,8 @@ IsFirstNumber words folder status first = Unit {0}
 -- Done tells nothing. Every other answer has its message
 abbrev pub IsQueryTold : List (List ℕ) → FolderSeen → SinkSeen → WhereStatus → Type 0
 IsQueryTold words folder err Done = IsAsBefore err
-IsQueryTold words folder err status = (first : ℕ) × IsFirstNumber words folder status first × IsPut (query_message_of first status) err
+IsQueryTold words folder err status =
+    (first : ℕ) × IsFirstNumber words folder status first × IsMessagePut (query_message_of first status) err
 
 -- ---- the end of a run
 
@@ -130,5 +106,5 @@ IsEarlyQuery status = Unit {0}
 -- a refusal with its message; or want of memory, where an early one found none for its message
 abbrev pub IsQueryToldAs : Stop → SinkSeen → WhereStatus → Type 0
 IsQueryToldAs stop err result =
-    ((result ≡ stop.status) × IsPut (query_message_of stop.first stop.status) err)
-    ⊎ ((result ≡ NoMemory) × IsEarlyQuery stop.status × IsPut (query_message_of 0 NoMemory) err)
+    ((result ≡ stop.status) × IsMessagePut (query_message_of stop.first stop.status) err)
+    ⊎ ((result ≡ NoMemory) × IsEarlyQuery stop.status × IsMessagePut (query_message_of 0 NoMemory) err)

@@ -2,11 +2,13 @@
 
 ghost use Rattle.std.specs.Prelude.{◌≡◌, ◌≤◌, ◌<◌, length};
 ghost use Rattle.check_steps.specs.Steps.{folder_seen};
-ghost use Rattle.tetwhere_run.specs.Run.{sink_seen, IsQueryAnswer, IsCompleteQuery, IsQueryTold, QueryEndsSo, IsLinesPut, IsPut, IsQueryToldAs};
+ghost use Rattle.check_steps.specs.Seen.{sink_seen};
+ghost use Rattle.tetwhere_run.specs.Run.{IsQueryAnswer, IsCompleteQuery, IsQueryTold, QueryEndsSo, IsLinesPut, IsQueryToldAs};
 
 use crate::messages::{OUT_OF_MEMORY, WRITE_FAILED, message};
 use crate::status::WhereStatus;
 use crate::stop::Stop;
+use check_steps::put_message;
 use std::alloc::Global;
 use tet_ports::{Bytes, Folder, PutFault, Sink, Words};
 use where_steps::locate_files;
@@ -70,13 +72,6 @@ fn put_lines<O: Sink>(lines: &Bytes, out: &mut O) -> Result<(), Stop>
     }
 }
 
-/// Puts a message; a failure there changes nothing.
-fn put<E: Sink>(line: &[u8], err: &mut E)
-    ensures { IsPut line.now (sink_seen E.written E.faults E.wants err.old err.new) }
-{
-    let _ = err.put(line);
-}
-
 /// Puts the message of a refusal, and answers it. Where there is no memory for the message, the
 /// answer is want of memory.
 fn tell<E: Sink>(alloc: Global, stop: Stop, err: &mut E) -> WhereStatus
@@ -84,16 +79,16 @@ fn tell<E: Sink>(alloc: Global, stop: Stop, err: &mut E) -> WhereStatus
 {
     let Stop { status, first } = stop;
     if matches!(&status, WhereStatus::WriteFault) {
-        put(WRITE_FAILED, err);
+        put_message(WRITE_FAILED, err);
         return WhereStatus::WriteFault;
     }
     match message(alloc, first, &status) {
         Ok(line) => {
-            put(line.as_slice(), err);
+            put_message(line.as_slice(), err);
             status
         }
         Err(_) => {
-            put(OUT_OF_MEMORY, err);
+            put_message(OUT_OF_MEMORY, err);
             WhereStatus::NoMemory
         }
     }

@@ -1,7 +1,6 @@
 //! The answers to queries.
 
 ghost use Rattle.std.specs.Prelude.{◌≡◌, ◌≤◌, ◌<◌, ◌+◌, ◌-◌, ◌^◌, ◌++◌, length, All, IfOk, OnOk};
-ghost use Rattle.std.specs.Fmt.{decimal};
 ghost use Rattle.mesh_readers.specs.Rows.{IsBelow};
 ghost use Rattle.row_cells.specs.Parts.{ArePositiveOn, StandsFor};
 ghost use Rattle.check_steps.specs.Steps.{folder_seen};
@@ -9,28 +8,18 @@ ghost use Rattle.where_steps.specs.Locating.{found_row_text, query_line, answer_
 
 use crate::reading::{WhereText, read_where};
 use crate::settling::{Settled, settle, want_positive};
-use check_steps::CheckFault;
+use check_steps::{CheckFault, append_place};
 use grid_coords::{DecimalPoint, to_rat};
-use itoa::Buffer;
 use row_cells::RowCells;
 use std::alloc::Global;
 use tet_ports::{Bytes, Folder, Name, NoMemory};
-
-/// Appends the number of a thing at a place, where things are numbered from `first` on.
-fn append_number(text: &mut Bytes, place: usize, first: u32) -> Result<(), NoMemory>
-    ensures { OnOk result (text.new ≡ text.old ++ decimal (place + first)) }
-{
-    let number = place as u128 + u128::from(first);
-    let mut buffer = Buffer::new();
-    text.append(buffer.format(number).as_bytes())
-}
 
 /// Appends the number of a row, or -1 where there is none.
 fn append_row(text: &mut Bytes, row: Option<usize>, first: u32) -> Result<(), NoMemory>
     ensures { OnOk result (text.new ≡ text.old ++ found_row_text first row) }
 {
     match row {
-        Some(row) => append_number(text, row, first),
+        Some(row) => append_place(text, row, first),
         None => text.append(b"-1"),
     }
 }
@@ -50,7 +39,7 @@ fn append_line(
         ≡ lines.old ++ query_line text.now settled.now place query.now) }
 {
     let found = cells.find(&settled.points, &text.rows, to_rat(&settled.grid, query));
-    append_number(lines, place, text.queries.first)?;
+    append_place(lines, place, text.queries.first)?;
     lines.append(b" ")?;
     append_row(lines, found, text.nodes.first)?;
     lines.append(b"\n")

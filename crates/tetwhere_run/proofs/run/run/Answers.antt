@@ -2,8 +2,8 @@ use Rattle.std.proofs.Common.{[], refl, sym, subst, Err, Ok}
 use Rattle.std.specs.List.{slice_index_or}
 use Rattle.std.proofs.lemmas.Result.{err_from_is_err_and}
 use Rattle.check_steps.specs.Steps.{FolderSeen, folder_seen}
+use Rattle.check_steps.specs.Seen.{SinkSeen, sink_seen}
 use Rattle.where_steps.specs.Locating.{LocateAnswer}
-use Rattle.tetwhere_run.specs.Run.{SinkSeen, sink_seen}
 use Rattle.tetwhere_run.proofs.Ends.{refused_end, put_end}
 use Rattle.tetwhere_run.proofs.run.run.Goals as goal
 

@@ -1,6 +1,7 @@
 use Rattle.std.proofs.Common.{subst}
 use Rattle.check_steps.specs.Steps.{FolderSeen, folder_seen}
-use Rattle.tetwhere_run.specs.Run.{SinkSeen, sink_seen, QueryEndsSo}
+use Rattle.check_steps.specs.Seen.{SinkSeen, sink_seen}
+use Rattle.tetwhere_run.specs.Run.{QueryEndsSo}
 use Rattle.tetwhere_run.specs.declared.status.WhereStatus.TheVariants.{Done}
 use Rattle.tetwhere_run.proofs.Complete.{answer_complete}
 use Rattle.tetwhere_run.proofs.Ends.{stop_answer, stop_told}
