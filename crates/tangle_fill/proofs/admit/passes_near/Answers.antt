@@ -8,5 +8,5 @@ returns-then-is_corner_or_outside c = (λ h. record { either = inl (sym c.is_cor
 pub returns-else-is_corner_or_outside : goal.returns-else-is_corner_or_outside
 returns-else-is_corner_or_outside c = (
   λ h. record { either = inr (c.is_shaded_near.ensures.0 h).by_sign },
-  λ p. c.is_shaded_near.ensures.1 (shaded_of c.args.points.now c.args.triangles.now c.args.row c.args.i (sym c.is_corner_or_outside.ensures ∙ c.if-is_corner_or_outside.false) p),
+  λ p. c.is_shaded_near.ensures.1 (shaded_of c.args.complex.now.points.now c.args.complex.now.triangles.now c.args.row c.args.i (sym c.is_corner_or_outside.ensures ∙ c.if-is_corner_or_outside.false) p),
 )

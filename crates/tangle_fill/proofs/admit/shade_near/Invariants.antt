@@ -10,9 +10,9 @@ use Rattle.tangle_fill.proofs.admit.shade_near.Given as goal
 
 abbrev pub invariant-loop-k : goal.invariant-loop-k
 invariant-loop-k l = record {
-  there : l.k ≤ length l.tree;
-  done : AreDone (λ k. hides (triangle l.points (facet_face k)) (centroid (corners l.points l.row)) (as_rational (point l.points l.i)) ≡ false) l.triangles l.tree l.k;
+  there : l.k ≤ length l.complex.triangle_tree;
+  done : AreDone (λ k. hides (triangle l.complex.points.now (facet_face k)) (centroid (corners l.complex.points.now l.row)) (as_rational (point l.complex.points.now l.i)) ≡ false) l.complex.triangles.now l.complex.triangle_tree l.k;
 }
 
 abbrev pub decreases-loop-k : goal.decreases-loop-k
-decreases-loop-k l = length l.tree - l.k
+decreases-loop-k l = length l.complex.triangle_tree - l.k

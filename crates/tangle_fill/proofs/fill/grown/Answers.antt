@@ -3,16 +3,16 @@ use Rattle.tangle_fill.proofs.Growing.{goes_on}
 use Rattle.tangle_fill.proofs.fill.grown.Goals as goal
 
 pub fill_facets-requires-clause-growth : goal.fill_facets-requires-clause-growth
-fill_facets-requires-clause-growth c = some_growth c.args.points.now c.args.triangles.now c.args.list.now c.in_ok-growth.growth c.in_ok-growth.ensures.growth c.in_ok-growth.ensures.indexed
+fill_facets-requires-clause-growth c = some_growth c.args.complex.now.points.now c.args.complex.now.triangles.now c.args.list.now c.in_ok-growth.growth c.in_ok-growth.ensures.growth c.in_ok-growth.ensures.indexed
 
 pub fill_rows-requires-clause-growth : goal.fill_rows-requires-clause-growth
 fill_rows-requires-clause-growth c =
-    goes_on c.args.points.now c.args.triangles.now c.in_ok-growth.growth c.fill_facets.new.growth c.in_ok-fill_facets.ensures.0
-    (some_growth c.args.points.now c.args.triangles.now c.args.list.now c.in_ok-growth.growth c.in_ok-growth.ensures.growth c.in_ok-growth.ensures.indexed)
+    goes_on c.args.complex.now.points.now c.args.complex.now.triangles.now c.in_ok-growth.growth c.fill_facets.new.growth c.in_ok-fill_facets.ensures.0
+    (some_growth c.args.complex.now.points.now c.args.complex.now.triangles.now c.args.list.now c.in_ok-growth.growth c.in_ok-growth.ensures.growth c.in_ok-growth.ensures.indexed)
 
 pub returns-clause-grown : goal.returns-clause-grown
 returns-clause-grown c =
-    grown_of c.args.points.now c.args.triangles.now c.args.list.now c.in_ok-growth.growth c.fill_facets.new.growth c.fill_rows.new.growth c.in_ok-growth.ensures.growth
+    grown_of c.args.complex.now.points.now c.args.complex.now.triangles.now c.args.list.now c.in_ok-growth.growth c.fill_facets.new.growth c.fill_rows.new.growth c.in_ok-growth.ensures.growth
     c.in_ok-fill_facets.ensures.0 c.in_ok-fill_facets.ensures.1 c.in_ok-fill_rows.ensures.0 c.in_ok-fill_rows.ensures.1
 
 pub returns-clause-indexed : goal.returns-clause-indexed

@@ -6,22 +6,22 @@ use Rattle.tangle_fill.proofs.fill.refilled_by_growth.Goals as goal
 
 pub test_count-requires-clause-admissible : goal.test_count-requires-clause-admissible
 test_count-requires-clause-admissible c =
-    (ordered_grown c.args.points.now c.args.triangles.now c.args.list.now c.in_ok-growth.growth.rows c.keep_distinct.new.self c.keep_distinct.ensures.exactly c.keep_distinct.ensures.ascending c.in_ok-growth.ensures.grown).growth.admissible
+    (ordered_grown c.args.complex.now.points.now c.args.complex.now.triangles.now c.args.list.now c.in_ok-growth.growth.rows c.keep_distinct.new.self c.keep_distinct.ensures.exactly c.keep_distinct.ensures.ascending c.in_ok-growth.ensures.grown).growth.admissible
 
 pub test_count-requires-clause-some : goal.test_count-requires-clause-some
 test_count-requires-clause-some c =
-    not_empty c.args.points.now c.args.triangles.now c.args.list.now c.keep_distinct.new.self c.requires.facets c.requires.delaunay c.requires.some
-    (ordered_grown c.args.points.now c.args.triangles.now c.args.list.now c.in_ok-growth.growth.rows c.keep_distinct.new.self c.keep_distinct.ensures.exactly c.keep_distinct.ensures.ascending c.in_ok-growth.ensures.grown)
+    not_empty c.args.complex.now.points.now c.args.complex.now.triangles.now c.args.list.now c.keep_distinct.new.self c.requires.complex.facets c.requires.delaunay c.requires.some
+    (ordered_grown c.args.complex.now.points.now c.args.complex.now.triangles.now c.args.list.now c.in_ok-growth.growth.rows c.keep_distinct.new.self c.keep_distinct.ensures.exactly c.keep_distinct.ensures.ascending c.in_ok-growth.ensures.grown)
 
 pub test_bent-requires-clause-whole : goal.test_bent-requires-clause-whole
 test_bent-requires-clause-whole c =
     let one = c.in_ok-test_count.ensures in
     let grown =
-    ordered_grown c.args.points.now c.args.triangles.now c.args.list.now c.in_ok-growth.growth.rows c.keep_distinct.new.self c.keep_distinct.ensures.exactly c.keep_distinct.ensures.ascending
+    ordered_grown c.args.complex.now.points.now c.args.complex.now.triangles.now c.args.list.now c.in_ok-growth.growth.rows c.keep_distinct.new.self c.keep_distinct.ensures.exactly c.keep_distinct.ensures.ascending
     c.in_ok-growth.ensures.grown
     in
     record {
-      whole = whole_of c.args.points.now c.args.triangles.now c.args.list.now c.keep_distinct.new.self c.requires.facets grown one.0 one.1 one.2;
+      whole = whole_of c.args.complex.now.points.now c.args.complex.now.triangles.now c.args.list.now c.keep_distinct.new.self c.requires.complex.facets grown one.0 one.1 one.2;
       one_a_side = grown.growth.one_a_side;
       indexed =
           indexed_order c.in_ok-growth.growth (record { rows = c.keep_distinct.new.self; sides = c.in_ok-growth.growth.sides }) c.in_ok-growth.ensures.indexed refl
@@ -31,6 +31,6 @@ test_bent-requires-clause-whole c =
 pub returns : goal.returns
 returns c =
     let one = c.in_ok-test_count.ensures in
-    law_refilled c.args.points.now c.args.triangles.now c.args.list.now c.keep_distinct.new.self c.requires.facets.ascend c.requires.facets.spans
-    (ordered_grown c.args.points.now c.args.triangles.now c.args.list.now c.in_ok-growth.growth.rows c.keep_distinct.new.self c.keep_distinct.ensures.exactly c.keep_distinct.ensures.ascending c.in_ok-growth.ensures.grown)
+    law_refilled c.args.complex.now.points.now c.args.complex.now.triangles.now c.args.list.now c.keep_distinct.new.self c.requires.complex.facets.ascend c.requires.complex.facets.spans
+    (ordered_grown c.args.complex.now.points.now c.args.complex.now.triangles.now c.args.list.now c.in_ok-growth.growth.rows c.keep_distinct.new.self c.keep_distinct.ensures.exactly c.keep_distinct.ensures.ascending c.in_ok-growth.ensures.grown)
     (rows_ascend c.keep_distinct.new.self c.keep_distinct.ensures.ascending) one.0 one.1 one.2 c.in_ok-test_bent.ensures

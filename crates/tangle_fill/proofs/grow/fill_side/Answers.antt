@@ -5,4 +5,4 @@ use Rattle.tangle_fill.proofs.grow.fill_side.Goals as goal
 pub returns-in-Some : goal.returns-in-Some
 returns-in-Some c =
     let h = c.in-Some.ensures in
-    (grew_self c.args.points.now c.args.triangles.now c.args.growth.now c.requires.growth.indexed, filled_by c.args.points.now c.args.growth.now.rows (oriented c.args.f) c.in-Some.field-0 h.0 h.1)
+    (grew_self c.args.complex.now.points.now c.args.complex.now.triangles.now c.args.growth.now c.requires.growth.indexed, filled_by c.args.complex.now.points.now c.args.growth.now.rows (oriented c.args.f) c.in-Some.field-0 h.0 h.1)

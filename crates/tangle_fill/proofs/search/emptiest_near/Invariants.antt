@@ -5,9 +5,9 @@ use Rattle.tangle_fill.proofs.search.emptiest_near.Given as goal
 
 abbrev pub invariant-loop-k : goal.invariant-loop-k
 invariant-loop-k l = record {
-  there : l.k ≤ length l.point_tree;
-  best : IfSome l.trial.best (IsRowOfFace l.points l.f);
+  there : l.k ≤ length l.complex.point_tree;
+  best : IfSome l.trial.best (IsRowOfFace l.complex.points.now l.f);
 }
 
 abbrev pub decreases-loop-k : goal.decreases-loop-k
-decreases-loop-k l = length l.point_tree - l.k
+decreases-loop-k l = length l.complex.point_tree - l.k
