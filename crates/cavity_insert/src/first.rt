@@ -11,7 +11,7 @@ use sign_predicates::{GridPoint, Sign, orient};
 
 /// Four points that do not lie in one plane, as a positive row in the least even arrangement: the
 /// four whose ascending numbers are the least. None exactly where all points lie in one plane.
-pub fn first_row(points: &Points) -> Option<Tet>
+pub(crate) fn first_row(points: &Points) -> Option<Tet>
     requires distinct { HasDistinctPoints points.now }
     requires few { length points.now < 2 ^ 32 - 1 }
     ensures on { IfSome result (IsOn points.now) }

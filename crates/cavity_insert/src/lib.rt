@@ -21,12 +21,10 @@ mod start;
 mod steps;
 mod zone;
 
-pub use first::first_row;
 pub use grow::grow_cavity;
 pub use hull::{HulledList, delaunay_with_hull};
 pub use lift::Lift;
 pub use living::Living;
-pub use marks::MarkedCavity;
 pub use meshing::{BuildFault, delaunay, has_corner, lowest_mesh};
 pub use rows::sorted_rows;
 pub use rule::test_slot;

@@ -12,7 +12,7 @@ use tet_ports::NoMemory;
 /// A cavity, which contracts see, and a mark for each of its slots. It serves one growth after
 /// another: to clear it takes the time of its own size, and not of the arena's.
 #[derive(Drop)]
-pub struct MarkedCavity {
+pub(crate) struct MarkedCavity {
     found: Cavity,
     // Whether a slot is in the cavity, by its place in the arena. Those past the end are not.
     marks: Vec<bool>,
@@ -45,7 +45,7 @@ fn lengthen(marks: &mut Vec<bool>, place: usize) -> Result<(), NoMemory>
 
 impl MarkedCavity {
     /// A cavity with no slot. It takes no memory yet.
-    pub fn new(alloc: Global) -> Self
+    pub(crate) fn new(alloc: Global) -> Self
         ensures { result ≡ [] }
     {
         MarkedCavity {
@@ -55,7 +55,7 @@ impl MarkedCavity {
     }
 
     /// Takes all slots out. It keeps its memory.
-    pub fn clear(&mut self)
+    pub(crate) fn clear(&mut self)
         ensures { self.new ≡ [] }
     {
         let mut left = self.found.len();
@@ -68,7 +68,7 @@ impl MarkedCavity {
 
     /// Whether a slot is in the cavity.
     #[inline]
-    pub fn has(&self, s: Slot) -> bool
+    pub(crate) fn has(&self, s: Slot) -> bool
         ensures { IsTrue result ↔ IsIn self.now s.index }
     {
         let place = s.index as usize;
@@ -76,7 +76,7 @@ impl MarkedCavity {
     }
 
     /// Appends a slot.
-    pub fn push(&mut self, s: Slot) -> Result<(), NoMemory>
+    pub(crate) fn push(&mut self, s: Slot) -> Result<(), NoMemory>
         ensures { OnOk result (self.new ≡ self.old ++ s ∷ []) }
     {
         let place = s.index as usize;
@@ -87,14 +87,14 @@ impl MarkedCavity {
     }
 
     /// The number of slots.
-    pub fn len(&self) -> usize
+    pub(crate) fn len(&self) -> usize
         ensures { result ≡ length self.now }
     {
         self.found.len()
     }
 
     /// The slot at this place of the cavity.
-    pub fn at(&self, i: usize) -> Slot
+    pub(crate) fn at(&self, i: usize) -> Slot
         requires { i < length self.now }
         ensures { HoldsAt (λ s. s ≡ result) self.now i }
     {
@@ -102,14 +102,14 @@ impl MarkedCavity {
     }
 
     /// The slots.
-    pub fn as_cavity(&self) -> &Cavity
+    pub(crate) fn as_cavity(&self) -> &Cavity
         ensures { result.now ≡ self.now }
     {
         &self.found
     }
 
     /// The slots, without their marks.
-    pub fn into_cavity(self) -> Cavity
+    pub(crate) fn into_cavity(self) -> Cavity
         ensures { result ≡ self }
     {
         let MarkedCavity { found, .. } = self;

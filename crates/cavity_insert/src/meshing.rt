@@ -56,6 +56,7 @@ pub(crate) struct Built {
 }
 
 /// Whether a point is a corner of a row.
+#[inline]
 pub fn has_corner(t: Tet, i: u32) -> bool
     ensures { result ≡ has_corner t i }
 {

@@ -34,7 +34,7 @@ impl<L: Ledger> Steps<L> {
     }
 
     /// One more test.
-    pub fn tick(&mut self)
+    pub(crate) fn tick(&mut self)
         ensures { self.new ≡ self.old + 1 }
     {
         self.book.add(&mut self.share, 1);

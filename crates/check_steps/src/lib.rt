@@ -10,5 +10,5 @@ mod telling;
 pub use checking::{MOST_POINTS, check_files};
 pub use fault::CheckFault;
 pub use messages::{append_number, file_message, line, put_message, text_message, usage_message};
-pub use reading::{MOST_BYTES, MeshText, read_list, read_mesh, read_nodes, read_rows};
+pub use reading::{MOST_BYTES, read_list, read_nodes, read_rows};
 pub use telling::{append_place, defect_text, sound_line};

@@ -11,7 +11,7 @@ ghost use Rattle.facet_plane.specs.Walk.{xor, is_odd};
 ghost use Rattle.facet_plane.specs.Outline.{ends, ends_of, side_meets, side_crosses, is_under};
 ghost use Rattle.facet_plane.specs.Outline.{AreBoxesTo, IsBlocked, IsOutlineOf};
 
-use crate::Spot;
+use crate::spot::Spot;
 use crate::blocks::{Block, Extent, blocks_of, extent_of, whole_extent};
 use crate::plane::{Axis, crosses_ray, first_of_two, is_between_in_two, is_upward, second_of_two};
 use crate::polygon::is_on_segment;

@@ -13,7 +13,7 @@ ghost use Rattle.facet_plane.specs.Prepared.{shape, shape_meets, shape_round, pl
 ghost use Rattle.facet_plane.specs.Prepared.{HoldsOutline, AreOutlinesOf, AreBlocked, AreHoles};
 ghost use Rattle.facet_plane.specs.Prepared.{prepared_holds, IsPreparedOf};
 
-use crate::Spot;
+use crate::spot::Spot;
 use crate::blocks::{Block, blocks_of};
 use crate::outline::{Outline, Reach, is_apart};
 use crate::plane::{Axis, normal};

@@ -16,4 +16,3 @@ mod unlisted;
 pub use check::check_mesh;
 pub use defect::{Defect, Verdict};
 pub use positive::first_not_positive;
-pub use sphere::is_inside_sphere;

@@ -7,7 +7,7 @@ use sign_predicates::{Corners, GridPoint, Numbers, outside};
 
 /// Whether `p` is strictly inside the sphere through the corners of the positive tetrahedron `t`: a
 /// point with the least number wins each tie for outside, so that only such a point is not outside.
-pub fn is_inside_sphere(t: Corners, p: GridPoint) -> bool
+pub(crate) fn is_inside_sphere(t: Corners, p: GridPoint) -> bool
     ensures { IsTrue result ↔ pos 0 <ℤ in_sphere t p }
 {
     let later = Numbers {

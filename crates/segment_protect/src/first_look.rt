@@ -1,25 +1,17 @@
 //! Which pieces are sides of the mesh, by one pass over its tetrahedra.
 ghost use Rattle.std.specs.Prelude.{◌≡◌, ◌≢◌, ◌^◌, ◌<◌, [], IsTrue, length, All, Contains};
 ghost use Rattle.std.specs.Prelude.{IfOk};
-ghost use Rattle.geo_laws.specs.Delaunay.{numbers, has_corner};
+ghost use Rattle.geo_laws.specs.Delaunay.{numbers};
 ghost use Rattle.piece_set.specs.Found.{with_pieces};
 ghost use Rattle.segment_protect.specs.Watch.{pieces_of, HasSidesOf, IsSeen};
 
 use crate::watch::Watched;
-use cavity_insert::Living;
+use cavity_insert::{Living, has_corner};
 use geo_laws::{Piece, Pieces, Tet};
 use piece_set::PieceSet;
 use point_locate::{Shape, shape_of};
 use std::alloc::Global;
 use tet_ports::NoMemory;
-
-/// Whether a point is a corner of the tetrahedron.
-#[inline]
-fn has_corner(row: Tet, i: u32) -> bool
-    ensures { result ≡ has_corner row i }
-{
-    row.a == i || row.b == i || row.c == i || row.d == i
-}
 
 /// Whether the ends of the piece are two corners of the tetrahedron.
 fn has_ends(row: Tet, piece: Piece) -> bool

@@ -28,7 +28,7 @@ fn unmarked_count(marks: &[bool]) -> usize
 }
 
 /// How many of so many points are corners of no row.
-pub fn hidden_count(alloc: Global, count: usize, rows: &TetList) -> Result<usize, NoMemory>
+pub(crate) fn hidden_count(alloc: Global, count: usize, rows: &TetList) -> Result<usize, NoMemory>
     requires { All (λ t. All (λ i. i < count) (numbers t)) rows.now }
     ensures { IfOk result (λ hidden. hidden ≡ hidden_count count rows.now) }
 {

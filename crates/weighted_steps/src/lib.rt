@@ -8,6 +8,5 @@ mod laws;
 mod meshing;
 
 pub use fault::RegularFault;
-pub use hidden::hidden_count;
 pub use laws::{law_one_answer, law_regular_list};
 pub use meshing::{RegularMesh, regular_mesh};

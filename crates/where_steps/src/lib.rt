@@ -6,5 +6,4 @@ mod reading;
 mod settling;
 
 pub use answers::locate_files;
-pub use reading::{WhereText, read_where};
 pub use settling::Settled;

@@ -23,7 +23,7 @@ pub struct WhereText {
 /// The files `.node` and `.ele` of the mesh with this base, and the file with the name `queries`,
 /// in this order, each text read before the next fetch. It refuses with the first file that is at
 /// fault, or for want of memory, and stores nothing.
-pub fn read_where<F: Folder>(
+pub(crate) fn read_where<F: Folder>(
     alloc: Global,
     base: &Name,
     queries: &Name,
