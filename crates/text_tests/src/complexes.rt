@@ -272,6 +272,7 @@ fn has_polygons(complex: &Complex, wanted: &[PolygonCase]) -> bool {
     for i in 0..complex.polygon_count() {
         let polygon = (complex.polygon_line(i), complex.corners(i));
         same &= wanted.get(i as usize) == Some(&polygon);
+        same &= complex.corner_count(i) == polygon.1.len();
     }
     same
 }
