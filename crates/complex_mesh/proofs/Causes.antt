@@ -9,7 +9,7 @@ use Rattle.geo_laws.specs.Segment.{pieces}
 use Rattle.geo_laws.specs.declared.tetrahedra.Tet.{Tet}
 use Rattle.geo_laws.specs.declared.complex.Piece.{Piece}
 use Rattle.geo_laws.specs.declared.complex.FacetTriangle.{FacetTriangle}
-use Rattle.border_laws.specs.Complex.{facet_at}
+use Rattle.complex_laws.specs.SoundComplex.{facet_at}
 use Rattle.facet_laws.proofs.FlatTest.{law_flat}
 use Rattle.facet_plane.specs.Corners.{HasCornersOf}
 use Rattle.facet_plane.specs.Flat.{IsFirstNotFlat}

@@ -8,7 +8,7 @@ use Rattle.geo_laws.specs.Segment.{pieces}
 use Rattle.geo_laws.specs.declared.complex.Piece.{Piece}
 use Rattle.facet_laws.proofs.InnerCover.{law_bounded_cover}
 use Rattle.facet_laws.proofs.Threes.{law_facet_list}
-use Rattle.border_laws.specs.Complex.{IsSound, HasTriangles, facet_at}
+use Rattle.complex_laws.specs.SoundComplex.{IsSound, HasTriangles, facet_at}
 use Rattle.segment_protect.specs.Spots.{HasTwoEnds}
 use Rattle.segment_protect.specs.Ends.{IsStart}
 use Rattle.segment_protect.proofs.PieceLaws.{pieces_cut}

@@ -16,7 +16,7 @@ use Rattle.geo_laws.specs.declared.complex.FacetTriangle.{FacetTriangle}
 use Rattle.geo_laws.proofs.Members.{IsMember, here, there, contains_of, some_true, both_true, flat_map_cases, at_place}
 use Rattle.geo_laws.proofs.Simplices.{member_of_test}
 use Rattle.geo_laws.proofs.DelaunayList.{law_delaunay_list}
-use Rattle.border_laws.specs.Complex.{facet_at}
+use Rattle.complex_laws.specs.SoundComplex.{facet_at}
 use Rattle.facet_laws.specs.Region.{IsFacetTriangle, through}
 use Rattle.facet_laws.specs.Circle.{triangle}
 use Rattle.facet_laws.proofs.OnPiece.{zero_test}

@@ -9,7 +9,7 @@ use Rattle.geo_laws.specs.Segment.{segments, pieces, protect, Protected, is_side
 use Rattle.geo_laws.specs.declared.complex.Piece.{Piece}
 use Rattle.geo_laws.specs.declared.complex.FacetTriangle.{FacetTriangle}
 use Rattle.geo_laws.proofs.Members.{IsMember, here, there, at_place}
-use Rattle.border_laws.specs.Complex.{IsSound, HasTriangles, facet_at}
+use Rattle.complex_laws.specs.SoundComplex.{IsSound, HasTriangles, facet_at}
 use Rattle.facet_plane.specs.Corners.{HasCornersOf}
 use Rattle.refill_laws.specs.Protected.{IsProtected}
 use Rattle.simplex_meets.specs.Proper.{IsSegment}

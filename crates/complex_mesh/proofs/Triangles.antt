@@ -23,8 +23,8 @@ use Rattle.facet_laws.specs.Faces.{Ascends}
 use Rattle.facet_laws.proofs.Chains.{all_at}
 use Rattle.facet_laws.proofs.Threes.{law_facet_list, law_facet_order}
 use Rattle.refill_laws.specs.Protected.{TriangleBefore}
-use Rattle.border_laws.specs.Complex.{IsSound, HasTriangles, facet_at}
-use Rattle.border_laws.proofs.Complex.{law_listed}
+use Rattle.complex_laws.specs.SoundComplex.{IsSound, HasTriangles, facet_at}
+use Rattle.complex_laws.proofs.SoundComplex.{law_listed}
 use Rattle.simplex_meets.specs.Proper.{IsTriangle, triangle_face}
 use Rattle.simplex_meets.proofs.Facets.{law_spans}
 use Rattle.facet_plane.specs.Corners.{HasCornersOf}

@@ -5,7 +5,7 @@ use Rattle.geo_laws.specs.Facet.{Facet, plane}
 use Rattle.geo_laws.specs.declared.complex.FacetTriangle.{FacetTriangle}
 use Rattle.geo_laws.specs.declared.complex.Piece.{Piece}
 use Rattle.facet_laws.specs.Region.{CoversBounded}
-use Rattle.border_laws.specs.Complex.{facet_at}
+use Rattle.complex_laws.specs.SoundComplex.{facet_at}
 use Rattle.complex_mesh.specs.Protection.{triangles_at}
 
 -- Where the facet at a place has a plane, its triangles cover its region but for the pieces of segments, each point once; and they are

@@ -8,7 +8,7 @@ use Rattle.geo_laws.specs.Segment.{segments, pieces, protect, Protected}
 use Rattle.geo_laws.specs.Facet.{Facet, IsFlat, facet_triangles}
 use Rattle.geo_laws.specs.declared.complex.Piece.{Piece}
 use Rattle.geo_laws.specs.declared.complex.FacetTriangle.{FacetTriangle}
-use Rattle.border_laws.specs.Complex.{facet_at}
+use Rattle.complex_laws.specs.SoundComplex.{facet_at}
 use Rattle.facet_plane.specs.Corners.{HasCornersOf}
 use Rattle.segment_protect.specs.Ends.{CanSplit}
 use Rattle.segment_protect.specs.Protection.{IsMultiple}

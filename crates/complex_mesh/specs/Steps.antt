@@ -7,7 +7,7 @@ use Rattle.geo_laws.specs.Facet.{Facet}
 use Rattle.geo_laws.specs.Segment.{is_side}
 use Rattle.geo_laws.specs.declared.complex.Piece.{Piece}
 use Rattle.geo_laws.specs.declared.complex.FacetTriangle.{FacetTriangle}
-use Rattle.border_laws.specs.Complex.{IsSound, facet_at}
+use Rattle.complex_laws.specs.SoundComplex.{IsSound, facet_at}
 use Rattle.facet_laws.specs.Region.{HavePieces}
 use Rattle.facet_plane.specs.Corners.{HasCornersOf}
 use Rattle.segment_protect.specs.Spots.{HasTwoEnds}

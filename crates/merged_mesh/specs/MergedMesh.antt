@@ -13,7 +13,7 @@ use Rattle.geo_laws.specs.declared.tetrahedra.Tet.{Tet}
 use Rattle.geo_laws.specs.declared.complex.Piece.{Piece}
 use Rattle.geo_laws.specs.declared.complex.FacetTriangle.{FacetTriangle}
 use Rattle.facet_laws.specs.Region.{CoversBounded}
-use Rattle.border_laws.specs.Complex.{IsSound, HasTriangles}
+use Rattle.complex_laws.specs.SoundComplex.{IsSound, HasTriangles}
 use Rattle.refill_laws.specs.Refill.{IsRefill}
 use Rattle.segment_protect.specs.Spots.{HasTwoEnds}
 use Rattle.segment_protect.specs.Ends.{IsStart, CanSplit}

@@ -33,7 +33,7 @@ use Rattle.facet_laws.proofs.OnPiece.{test_leg}
 use Rattle.facet_laws.proofs.SamePlane.{from_triangle}
 use Rattle.facet_laws.proofs.Star.{IsNoPoint, IsOnEdge, on_edge, strictly, other_off, round_beside}
 use Rattle.facet_laws.proofs.Whole.{IsOff, IsPiecedAmong, EdgeWith, AreEdgesWith, planes, planes_off, edges_with, pieced_among}
-use Rattle.border_laws.proofs.Beyond.{HoldsPlane, outward_clear}
+use Rattle.complex_laws.proofs.Beyond.{HoldsPlane, outward_clear}
 use lib.IntN.{*ℤ-zero}
 
 -- a point of a circle triangle on a side of the facet, and on a wall that has all points of the plane on one hand, and no point itself, lies on pieces
