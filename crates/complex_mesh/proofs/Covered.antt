@@ -12,9 +12,9 @@ use Rattle.complex_laws.specs.SoundComplex.{IsSound, HasTriangles, facet_at}
 use Rattle.segment_protect.specs.Spots.{HasTwoEnds}
 use Rattle.segment_protect.specs.Ends.{IsStart}
 use Rattle.segment_protect.proofs.PieceLaws.{pieces_cut}
-use Rattle.protect_laws.specs.Pieces.{HasProtected}
-use Rattle.protect_laws.proofs.Pieces.{law_protected_pieces}
-use Rattle.protect_laws.proofs.Complex.{law_sound}
+use Rattle.recovery_laws.specs.Pieces.{HasProtected}
+use Rattle.recovery_laws.proofs.Pieces.{law_protected_pieces}
+use Rattle.recovery_laws.proofs.ProtectedComplex.{law_sound}
 use Rattle.complex_mesh.specs.Covered.{IsCoveredAt}
 use Rattle.complex_mesh.specs.Protection.{IsMeshable, IsProtectedComplex, complex_triangles, triangles_at}
 use Rattle.complex_mesh.specs.declared.mesh.ComplexMesh.{ComplexMesh}

@@ -22,11 +22,11 @@ use Rattle.segment_protect.proofs.PieceLaws.{pieces_cut}
 use Rattle.segment_protect.proofs.Splits.{all_members}
 use Rattle.segment_protect.proofs.Start.{protectable_start}
 use Rattle.segment_protect.proofs.Crossings.{are_parts}
-use Rattle.protect_laws.specs.Pieces.{HasProtected}
-use Rattle.protect_laws.proofs.Start.{law_corners}
-use Rattle.protect_laws.proofs.Ended.{IsKept, ended, none_found}
-use Rattle.protect_laws.proofs.Pieces.{law_protected_pieces, law_two_ends}
-use Rattle.protect_laws.proofs.Complex.{law_sound, law_protected_complex}
+use Rattle.recovery_laws.specs.Pieces.{HasProtected}
+use Rattle.recovery_laws.proofs.Start.{law_corners}
+use Rattle.recovery_laws.proofs.Ended.{IsKept, ended, none_found}
+use Rattle.recovery_laws.proofs.Pieces.{law_protected_pieces, law_two_ends}
+use Rattle.recovery_laws.proofs.ProtectedComplex.{law_sound, law_protected_complex}
 use Rattle.recovery_laws.specs.Recovery.{IsRecovery}
 use Rattle.recovery_laws.proofs.Chain.{law_recoverable}
 use Rattle.complex_mesh.specs.Protection.{IsMeshable, AreMeshed, IsProtectedComplex, complex_triangles}

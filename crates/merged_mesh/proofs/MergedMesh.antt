@@ -18,7 +18,7 @@ use Rattle.segment_protect.specs.Spots.{HasTwoEnds}
 use Rattle.segment_protect.proofs.PieceLaws.{from_first}
 use Rattle.segment_protect.proofs.Splits.{all_members}
 use Rattle.complex_laws.specs.SoundComplex.{IsSound, facet_at}
-use Rattle.protect_laws.proofs.Pieces.{by_members}
+use Rattle.recovery_laws.proofs.Pieces.{by_members}
 use Rattle.merge_laws.specs.Merged.{members, merged_facet, merged_segments, outer_sides}
 use Rattle.merge_laws.specs.Merged as merged
 use Rattle.merge_laws.specs.Facets.{HasCornersOn, AreFlat}

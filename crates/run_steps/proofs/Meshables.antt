@@ -33,7 +33,7 @@ use Rattle.node_files.specs.declared.table.GridOptions.{GridOptions}
 use Rattle.node_files.specs.declared.table.NodeTable.{NodeTable}
 use Rattle.plc_files.specs.Folding.{HasCornersBelow}
 use Rattle.plc_files.specs.Binding.{HasWeights}
-use Rattle.protect_laws.proofs.Start.{law_multiples}
+use Rattle.recovery_laws.proofs.Start.{law_multiples}
 use Rattle.segment_protect.specs.Protection.{IsMultiple}
 use Rattle.sign_predicates.specs.Point.{Point}
 use Rattle.run_steps.specs.Meshing.{grid_options, mesh_options, mesh_of_complex, mesh_of_points, mesh_of_weights, mesh_on, without_decimals, IsMeshableBound}
