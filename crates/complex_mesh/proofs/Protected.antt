@@ -41,8 +41,8 @@ use Rattle.facet_laws.proofs.Chains.{all_at}
 use Rattle.facet_plane.proofs.FlatFacets.{facet_count}
 use Rattle.merge_laws.specs.Merged.{merged_facet, merged_segments}
 use Rattle.merge_laws.specs.Facets.{HasCornersOn, AreFlat}
-use Rattle.merged_mesh.specs.MergedMesh.{merged_facets}
-use Rattle.merged_mesh.proofs.MergedMesh.{facet_is, law_merged_sound, law_merged_ends}
+use Rattle.recovery_laws.specs.MergedMesh.{merged_facets}
+use Rattle.recovery_laws.proofs.MergedMesh.{facet_is, law_merged_sound, law_merged_ends}
 
 not_false : (b : Bool) → not b ≡ false → b ≡ true
 not_false true e = refl

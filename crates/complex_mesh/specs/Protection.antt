@@ -13,7 +13,7 @@ use Rattle.facet_plane.specs.Corners.{HasCornersOf}
 use Rattle.segment_protect.specs.Ends.{CanSplit}
 use Rattle.segment_protect.specs.Protection.{IsMultiple}
 use Rattle.merge_laws.specs.Merged.{IsMerging, merged_segments}
-use Rattle.merged_mesh.specs.MergedMesh.{merged_facets}
+use Rattle.recovery_laws.specs.MergedMesh.{merged_facets}
 use Rattle.complex_mesh.specs.declared.mesh.MeshOptions.{MeshOptions}
 
 -- what a mesh is made of: distinct points, few enough, whose coordinates may be halved so often; and a complex on them, whose hole and

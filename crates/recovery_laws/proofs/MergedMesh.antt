@@ -25,7 +25,7 @@ use Rattle.merge_laws.specs.Facets.{HasCornersOn, AreFlat}
 use Rattle.merge_laws.proofs.Members.{Member, member_is, all_numbered, facet_of}
 use Rattle.merge_laws.proofs.Planes.{law_merged_flat, law_merged_bounded, outer_segment}
 use Rattle.recovery_laws.proofs.Chain.{law_recoverable, law_recovery_mesh, law_piece_of_rest}
-use Rattle.merged_mesh.specs.MergedMesh.{merged_facets, IsUnmerged, IsGrouping, IsMergedRecovery, MergedSoundLaw, MergedEndsLaw, MergedRecoveryLaw, MergedMeshLaw, MergedPieceLaw, MergedCoverLaw}
+use Rattle.recovery_laws.specs.MergedMesh.{merged_facets, IsUnmerged, IsGrouping, IsMergedRecovery, MergedSoundLaw, MergedEndsLaw, MergedRecoveryLaw, MergedMeshLaw, MergedPieceLaw, MergedCoverLaw}
 
 -- ---- merged facets are sound
 

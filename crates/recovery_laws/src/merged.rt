@@ -1,5 +1,5 @@
 //! The laws from a complex with merged facets to its mesh.
-ghost use Rattle.merged_mesh.specs.MergedMesh.{MergedCoverLaw, MergedEndsLaw, MergedMeshLaw, MergedPieceLaw, MergedRecoveryLaw, MergedSoundLaw};
+ghost use Rattle.recovery_laws.specs.MergedMesh.{MergedCoverLaw, MergedEndsLaw, MergedMeshLaw, MergedPieceLaw, MergedRecoveryLaw, MergedSoundLaw};
 
 /// A merged facet of flat facets is sound with the sides that are not inner as segments; so is each
 /// facet where nothing is merged.

@@ -1,5 +1,0 @@
-use Rattle.merged_mesh.proofs.MergedMesh.{law_merged_cover}
-use Rattle.merged_mesh.proofs.laws.law_merged_cover.Goals as goal
-
-pub returns : goal.returns
-returns c = law_merged_cover

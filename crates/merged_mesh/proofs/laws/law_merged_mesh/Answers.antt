@@ -1,5 +1,0 @@
-use Rattle.merged_mesh.proofs.MergedMesh.{law_merged_mesh}
-use Rattle.merged_mesh.proofs.laws.law_merged_mesh.Goals as goal
-
-pub returns : goal.returns
-returns c = law_merged_mesh

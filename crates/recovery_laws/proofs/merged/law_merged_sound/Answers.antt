@@ -1,0 +1,5 @@
+use Rattle.recovery_laws.proofs.MergedMesh.{law_merged_sound}
+use Rattle.recovery_laws.proofs.merged.law_merged_sound.Goals as goal
+
+pub returns : goal.returns
+returns c = law_merged_sound
