@@ -3,3 +3,4 @@ pub mod Members
 pub mod Inner
 pub mod Planes
 pub mod Once
+pub mod Markers

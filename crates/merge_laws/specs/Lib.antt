@@ -1,3 +1,4 @@
 pub mod Merged
 pub mod Groups
 pub mod Facets
+pub mod Markers

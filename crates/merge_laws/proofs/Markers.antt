@@ -8,7 +8,7 @@ use Rattle.geo_laws.proofs.Members.{IsMember, here}
 use Rattle.merge_laws.specs.Merged.{AreChained, alone, onward, marker_at, members}
 use Rattle.merge_laws.proofs.Groups.{law_group}
 use Rattle.merge_laws.proofs.Members.{member_is}
-use Rattle.marker_laws.specs.Markers.{OneMarkerLaw, LeastNumberLaw}
+use Rattle.merge_laws.specs.Markers.{OneMarkerLaw, LeastNumberLaw}
 
 along : (ps : List Point) (c : Complex) (f g : ℕ) → AreChained ps c f g → marker_at c f ≡ marker_at c g
 along ps c _ _ (alone f) = refl

@@ -1,5 +1,5 @@
 //! The number and the marker of a merged facet.
-ghost use Rattle.marker_laws.specs.Markers.{LeastNumberLaw, OneMarkerLaw};
+ghost use Rattle.merge_laws.specs.Markers.{LeastNumberLaw, OneMarkerLaw};
 
 /// Facets that are merged into one have one marker: each has that of the facet at the least number
 /// of their group, by which triangles name the merged facet.
