@@ -9,8 +9,8 @@ use Rattle.geo_laws.specs.declared.tetrahedra.Tet.{Tet as Row}
 use Rattle.geo_laws.specs.OrientedFace.{Face}
 use Rattle.insert_laws.specs.Insertion as delaunay_laws
 use Rattle.insert_laws.proofs.First as delaunay_first
-use Rattle.lowest_laws.specs.Insertion.{IsHullFace}
-use Rattle.lowest_laws.proofs.First.{law_first}
+use Rattle.insert_laws.specs.LowestInsertion.{IsHullFace}
+use Rattle.insert_laws.proofs.LowestFirst.{law_first}
 use Rattle.mesh_arena.specs.Mesh.{SlotValue, IsLive}
 use Rattle.mesh_laws.specs.Living as delaunay
 use Rattle.lowest_mesh_laws.specs.Living.{face_off, IsRowSlot, IsGhostSlot, IsLowestMesh}

@@ -8,7 +8,7 @@ use Rattle.geo_laws.proofs.Corners.{on_of_among, on_corner}
 use Rattle.geo_laws.proofs.Places.{number}
 use Rattle.sign_predicates.proofs.Places.{A, B, C, D, Place}
 use Rattle.geo_laws.specs.declared.tetrahedra.Tet.{Tet as Row}
-use Rattle.lowest_laws.specs.Insertion.{HasAbove}
+use Rattle.insert_laws.specs.LowestInsertion.{HasAbove}
 use Rattle.mesh_arena.specs.Mesh.{SlotValue, corners_at, corner_list, IsMesh}
 use Rattle.mesh_arena.specs.declared.slot.SlotCorners.{SlotCorners}
 use Rattle.std.proofs.lemmas.Int.{ints}

@@ -14,7 +14,7 @@ use Rattle.geo_laws.proofs.Places.{number}
 use Rattle.geo_laws.proofs.Lift.{law_lift}
 use Rattle.sign_predicates.proofs.Places.{A, B, C, D, Place}
 use Rattle.insert_laws.specs.Insertion.{HasOutside}
-use Rattle.lowest_laws.specs.Insertion.{HasAbove}
+use Rattle.insert_laws.specs.LowestInsertion.{HasAbove}
 use Rattle.cavity_insert.specs.Lift.{IsRowFor}
 use Rattle.cavity_insert.specs.Lifting.{AreLifted}
 use Rattle.cavity_insert.specs.declared.lifting.LiftedPoints.{LiftedPoints}

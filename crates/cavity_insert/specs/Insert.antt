@@ -1,7 +1,7 @@
 -- A mesh of lifted points and a further one.
 use Rattle.std.specs.Prelude.{ℕ, ℤ, List, Option}
 use Rattle.sign_predicates.specs.Point.{Point}
-use Rattle.lowest_laws.specs.Insertion.{IsNew}
+use Rattle.insert_laws.specs.LowestInsertion.{IsNew}
 use Rattle.mesh_arena.specs.Mesh.{SlotValue}
 use Rattle.lowest_mesh_laws.specs.Living.{IsLowestMesh}
 

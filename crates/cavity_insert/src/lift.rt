@@ -1,7 +1,7 @@
 //! Points that are lifted into a fourth dimension, over whose lower hull their mesh lies.
 ghost use Rattle.std.specs.Prelude.{◌≡◌, ◌↔◌, ℕ, ℤ, List, IsTrue};
 ghost use Rattle.sign_predicates.specs.Point.{Point};
-ghost use Rattle.lowest_laws.specs.Insertion.{HasAbove};
+ghost use Rattle.insert_laws.specs.LowestInsertion.{HasAbove};
 ghost use Rattle.cavity_insert.specs.Lift.{IsRowFor};
 
 use geo_laws::{Points, Tet};

@@ -8,10 +8,10 @@ use Rattle.geo_laws.specs.OrientedFace.{Face, reversed}
 use Rattle.geo_laws.specs.declared.tetrahedra.Tet.{Tet}
 use Rattle.geo_laws.proofs.Corners.{on_of_among}
 use Rattle.geo_laws.proofs.Lift.{law_lift, lowest_of, delaunay_of}
-use Rattle.lowest_laws.specs.Insertion as lowest
-use Rattle.lowest_laws.proofs.Bridge.{of_new}
+use Rattle.insert_laws.specs.LowestInsertion as lowest
+use Rattle.insert_laws.proofs.LowestBridge.{of_new}
 use Rattle.insert_laws.specs.Insertion.{IsNew, IsHullFace, HasOutside, Sees, IsCavityPlace, cavity_row, cavity_ghost, IsClearPlace, clear_row, clear_ghost, IsStarRow, IsRimFace, IsHullRim, edge_and, Place, IsInCavity, row_in, ghost_in, IsJoined, joined_self, joined_by}
-pub use Rattle.lowest_laws.proofs.Bridge.{same_of_even, corner_to, corner_from}
+pub use Rattle.insert_laws.proofs.LowestBridge.{same_of_even, corner_to, corner_from}
 
 -- ---- hull faces
 

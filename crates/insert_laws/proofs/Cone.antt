@@ -1,7 +1,7 @@
 -- The sides of Delaunay tetrahedra at a corner: the law of the lowest ones, at the squared lengths.
 use Rattle.geo_laws.specs.Height.{lifted}
 use Rattle.geo_laws.proofs.Lift.{lowest_of}
-use Rattle.lowest_laws.proofs.Cone as lowest
+use Rattle.insert_laws.proofs.LowestCone as lowest
 use Rattle.insert_laws.specs.Cone.{ConeLaw}
 
 pub law_cone : ConeLaw

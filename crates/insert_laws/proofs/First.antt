@@ -4,7 +4,7 @@ use Rattle.sign_predicates.specs.Point.{Point}
 use Rattle.sign_predicates.specs.Orientation.{IsPositive}
 use Rattle.geo_laws.specs.Delaunay.{corners, numbers, IsArranged, IsDelaunayAmong}
 use Rattle.geo_laws.specs.declared.tetrahedra.Tet.{Tet}
-use Rattle.lowest_laws.proofs.First.{only_row, none_beyond}
+use Rattle.insert_laws.proofs.LowestFirst.{only_row, none_beyond}
 use Rattle.insert_laws.specs.Insertion.{FirstLaw}
 
 first_row : (ps : List Point) (t : Tet) → IsPositive (corners ps t) → IsArranged t → IsDelaunayAmong ps (numbers t) t

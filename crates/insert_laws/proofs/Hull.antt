@@ -1,9 +1,9 @@
 -- The hull of the Delaunay list, and what a further point changes in it: the laws of the lowest tetrahedra, at the squared lengths.
 use Rattle.std.proofs.Common.{◌∷◌}
 use Rattle.geo_laws.specs.Height.{lifted}
-use Rattle.lowest_laws.proofs.Hull as hull
-use Rattle.lowest_laws.proofs.HullLaws as hulls
-use Rattle.lowest_laws.proofs.Start as start
+use Rattle.insert_laws.proofs.LowestHull as hull
+use Rattle.insert_laws.proofs.HullLaws as hulls
+use Rattle.insert_laws.proofs.LowestStart as start
 use Rattle.insert_laws.specs.Insertion.{edge_and, HullTurnLaw, HullEdgeLaw, OldHullLaw, NewHullLaw}
 use Rattle.insert_laws.proofs.Bridge.{hull_of, hull_from, numbers_with, low, sees_of, sees_from, hull_rim_of, hull_rim_from}
 

@@ -7,13 +7,13 @@ use Rattle.geo_laws.specs.Height.{lifted, IsLowestAmong}
 use Rattle.geo_laws.specs.OrientedFace.{Face, triangle, reversed}
 use Rattle.geo_laws.specs.declared.tetrahedra.Tet.{Tet}
 use Rattle.geo_laws.proofs.Lift.{lowest_of, delaunay_of}
-use Rattle.lowest_laws.specs.Insertion as lowest
-use Rattle.lowest_laws.proofs.Insert as insertion
-use Rattle.lowest_laws.proofs.Sides as sides
-use Rattle.lowest_laws.proofs.Rim as rim
-use Rattle.lowest_laws.proofs.SomeRim as some_rim
-use Rattle.lowest_laws.proofs.InsideLaw as inside
-use Rattle.lowest_laws.proofs.BeyondLaw as beyond
+use Rattle.insert_laws.specs.LowestInsertion as lowest
+use Rattle.insert_laws.proofs.LowestInsert as insertion
+use Rattle.insert_laws.proofs.Sides as sides
+use Rattle.insert_laws.proofs.Rim as rim
+use Rattle.insert_laws.proofs.SomeRim as some_rim
+use Rattle.insert_laws.proofs.InsideLaw as inside
+use Rattle.insert_laws.proofs.BeyondLaw as beyond
 use Rattle.insert_laws.specs.Insertion.{IsFaceOf, IsHullFace, HasNoneBeyond, HasOutside, IsStarRow, IsRimFace, IsHullRim, edge_and, IsCavityPlace, IsClearPlace, row_place, ghost_place, InsertionLaw, RimLaw, FacePairingLaw, OneRowLaw, PlaceLaw, RimEdgeLaw, HullRimLaw, SomeRimFaceLaw, InsideCavityLaw, BeyondCavityLaw}
 use Rattle.insert_laws.proofs.Bridge.{hull_of, numbers_with, low, row, above, outside, cavity_of, cavity_from, clear_of, clear_from, rim_of, rim_from, star_of, star_from, hull_rim_of, hull_rim_from, in_of, joined_from}
 use Rattle.insert_laws.proofs.Start.{law_start, law_locate}

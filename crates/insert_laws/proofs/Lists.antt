@@ -14,7 +14,7 @@ use Rattle.sign_predicates.proofs.Places.{A, B, C, D}
 use Rattle.geo_laws.proofs.Corners.{all_within}
 use Rattle.geo_laws.specs.Height.{lifted}
 use Rattle.geo_laws.proofs.Lift.{lowest_of, delaunay_of}
-use Rattle.lowest_laws.proofs.Lists as lists
+use Rattle.insert_laws.proofs.LowestLists as lists
 use Rattle.insert_laws.specs.Insertion.{StartOfListLaw, SameNumbersLaw, HullFaceLaw}
 use Rattle.insert_laws.proofs.Bridge.{hull_of, hull_from}
 

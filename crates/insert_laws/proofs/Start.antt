@@ -18,8 +18,8 @@ use Rattle.geo_laws.specs.declared.tetrahedra.Tet.{Tet}
 use Rattle.geo_laws.proofs.Corners.{IsCorner, contains_corner}
 use Rattle.geo_laws.proofs.Determinants as determinants
 use Rattle.geo_laws.proofs.Lexicographic.{IsLexAbove}
-use Rattle.lowest_laws.specs.Insertion as lowest
-use Rattle.lowest_laws.proofs.Start as walk
+use Rattle.insert_laws.specs.LowestInsertion as lowest
+use Rattle.insert_laws.proofs.LowestStart as walk
 use Rattle.insert_laws.specs.Insertion.{IsHullFace, LocateLaw, StartLaw}
 use Rattle.insert_laws.proofs.Bridge.{hull_from, low, row, above}
 

@@ -5,7 +5,7 @@ use Rattle.sign_predicates.specs.Orientation.{IsPositive}
 use Rattle.geo_laws.specs.Delaunay.{corners, numbers, AreNumbersOf, IsDelaunayAmong}
 use Rattle.geo_laws.specs.declared.tetrahedra.Tet.{Tet}
 use Rattle.insert_laws.specs.Insertion.{HasSameCorners}
-pub use Rattle.lowest_laws.specs.Cone.{IsInCone}
+pub use Rattle.insert_laws.specs.LowestCone.{IsInCone}
 
 -- In the closed cone of a Delaunay tetrahedron r from its corner a, no Delaunay tetrahedron has a side from a but along those of r: a point
 -- b there with such a side is a corner of r. The four t are the corners of r in any even arrangement

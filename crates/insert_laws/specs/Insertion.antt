@@ -9,8 +9,8 @@ use Rattle.sign_predicates.specs.Sphere.{is_outside}
 use Rattle.geo_laws.specs.Delaunay.{point, corners, numbers, as_numbers, all_numbers, AreNumbersOf, IsArranged, IsDelaunay, IsDelaunayAmong}
 use Rattle.geo_laws.specs.declared.tetrahedra.Tet.{Tet}
 use Rattle.geo_laws.specs.OrientedFace.{Face, triangle, reversed, beside}
-pub use Rattle.lowest_laws.specs.Insertion.{IsNew, HasSameCorners, IsFaceOf, HasNoneBeyond, edge_and}
-pub use Rattle.lowest_laws.specs.Insertion.{Place, row_place, ghost_place, Touches, row_row, row_ghost, ghost_row, ghost_ghost, ghost_turned}
+pub use Rattle.insert_laws.specs.LowestInsertion.{IsNew, HasSameCorners, IsFaceOf, HasNoneBeyond, edge_and}
+pub use Rattle.insert_laws.specs.LowestInsertion.{Place, row_place, ghost_place, Touches, row_row, row_ghost, ghost_row, ghost_ghost, ghost_turned}
 
 -- f is a face of the hull, turned outward: a row lies behind it, and no point is strictly beyond it
 pub record IsHullFace (ps : List Point) (ms : List ℕ) (f : Face) : Type 0 where

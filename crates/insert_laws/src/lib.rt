@@ -1,8 +1,10 @@
-//! The laws of inserting a point into a Delaunay list: the cavity, its rim and the new point's
-//! star, the hull, and that the cavity is connected.
+//! The laws of inserting a point: the cavity, its rim and the new point's star, the hull, and that
+//! the cavity is connected. In `lowest` they are those of the lower hull of lifted points, for any
+//! heights, with hidden points; here those of the Delaunay list, at the squared lengths.
 #![tactic(auto)]
 
 mod laws;
+pub mod lowest;
 
 pub use laws::{
     law_beyond_cavity, law_cone, law_face_pairing, law_first, law_hull_edge, law_hull_face,

@@ -8,9 +8,9 @@ use Rattle.geo_laws.specs.Delaunay.{numbers}
 use Rattle.geo_laws.specs.declared.tetrahedra.Tet.{Tet as Row}
 use Rattle.geo_laws.proofs.Places.{number}
 use Rattle.geo_laws.specs.OrientedFace.{Face, reversed}
-use Rattle.lowest_laws.specs.Insertion.{HasSameCorners, IsFaceOf}
-use Rattle.lowest_laws.proofs.Insert.{law_one_row}
-use Rattle.lowest_laws.proofs.Lists.{law_hull_face}
+use Rattle.insert_laws.specs.LowestInsertion.{HasSameCorners, IsFaceOf}
+use Rattle.insert_laws.proofs.LowestInsert.{law_one_row}
+use Rattle.insert_laws.proofs.LowestLists.{law_hull_face}
 use Rattle.mesh_arena.specs.Mesh.{SlotValue, corners_at, corner, corner_in, side, at, OnFace, IsMesh}
 use Rattle.mesh_arena.specs.declared.arena.SlotFace.{SlotFace}
 use Rattle.mesh_arena.specs.declared.slot.Corner.TheVariants.{Point as Numbered, Ghost}

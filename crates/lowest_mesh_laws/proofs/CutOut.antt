@@ -8,7 +8,7 @@ use Rattle.sign_predicates.proofs.Places.{A, B, C}
 use Rattle.geo_laws.proofs.Places.{number}
 use Rattle.geo_laws.proofs.Corners.{contains_corner}
 use Rattle.geo_laws.specs.OrientedFace.{Face, reversed, beside}
-use Rattle.lowest_laws.specs.Insertion.{IsHullFace}
+use Rattle.insert_laws.specs.LowestInsertion.{IsHullFace}
 use Rattle.mesh_arena.specs.Mesh.{SlotValue, corner_in, IsLive, OnFace, IsMesh}
 use Rattle.mesh_arena.specs.Star.{rim_at, behind}
 use Rattle.mesh_arena.specs.Cavity.{IsIn}

@@ -10,9 +10,9 @@ use Rattle.sign_predicates.proofs.Places.{Place, A, B, C, D, opposite}
 use Rattle.geo_laws.proofs.Places.{number}
 use Rattle.geo_laws.proofs.Corners.{IsCorner, corner_of, contains_corner, distinct, side-own_point}
 use Rattle.geo_laws.specs.OrientedFace.{Face, triangle, reversed, beside}
-use Rattle.lowest_laws.specs.Insertion.{HasSameCorners, IsFaceOf, IsHullFace}
-use Rattle.lowest_laws.proofs.FacePencil.{side_of, side_of-reversed}
-use Rattle.lowest_laws.proofs.Beyond.{turn, side-turn}
+use Rattle.insert_laws.specs.LowestInsertion.{HasSameCorners, IsFaceOf, IsHullFace}
+use Rattle.insert_laws.proofs.FacePencil.{side_of, side_of-reversed}
+use Rattle.insert_laws.proofs.Beyond.{turn, side-turn}
 use Rattle.lowest_mesh_laws.specs.Living.{face_off, IsFaceCorner, HasSameFaceCorners}
 
 -- the corners of a face differ

@@ -10,10 +10,10 @@ use Rattle.sign_predicates.proofs.Places.{A, B, C, D, IsOther}
 use Rattle.geo_laws.proofs.Places.{number}
 use Rattle.geo_laws.proofs.Corners.{IsCorner, corner_of, contains_corner, distinct}
 use Rattle.geo_laws.specs.OrientedFace.{Face, reversed, beside}
-use Rattle.lowest_laws.specs.Insertion.{HasSameCorners, IsFaceOf, IsHullFace}
-use Rattle.lowest_laws.proofs.FacePencil.{side_of, side_of-reversed}
-use Rattle.lowest_laws.proofs.Insert.{law_one_row}
-use Rattle.lowest_laws.proofs.Lists.{law_hull_face}
+use Rattle.insert_laws.specs.LowestInsertion.{HasSameCorners, IsFaceOf, IsHullFace}
+use Rattle.insert_laws.proofs.FacePencil.{side_of, side_of-reversed}
+use Rattle.insert_laws.proofs.LowestInsert.{law_one_row}
+use Rattle.insert_laws.proofs.LowestLists.{law_hull_face}
 use Rattle.mesh_arena.specs.Mesh.{SlotValue, side, at, IsMesh}
 use Rattle.mesh_arena.specs.declared.arena.SlotFace.{SlotFace}
 use Rattle.mesh_arena.proofs.Mesh.{side_live}

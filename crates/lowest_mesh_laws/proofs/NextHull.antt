@@ -5,10 +5,10 @@ use Rattle.sign_predicates.specs.Point.{Point}
 use Rattle.geo_laws.specs.declared.tetrahedra.Tet.{Tet as Row}
 use Rattle.geo_laws.proofs.Places.{number}
 use Rattle.geo_laws.specs.OrientedFace.{Face}
-use Rattle.lowest_laws.specs.Insertion.{IsHullFace, edge_and}
-use Rattle.lowest_laws.proofs.Beyond.{turn}
-use Rattle.lowest_laws.proofs.Start.{law_hull_turn}
-use Rattle.lowest_laws.proofs.Hull.{law_hull_edge}
+use Rattle.insert_laws.specs.LowestInsertion.{IsHullFace, edge_and}
+use Rattle.insert_laws.proofs.Beyond.{turn}
+use Rattle.insert_laws.proofs.LowestStart.{law_hull_turn}
+use Rattle.insert_laws.proofs.LowestHull.{law_hull_edge}
 use Rattle.mesh_arena.specs.Mesh.{SlotValue, corner, corner_in, IsLive, side, at, OnFace, IsMesh}
 use Rattle.mesh_arena.specs.declared.arena.SlotFace.{SlotFace}
 use Rattle.mesh_arena.specs.declared.slot.Corner.TheVariants.{Point as Numbered, Ghost}

@@ -8,11 +8,11 @@ use Rattle.geo_laws.specs.declared.tetrahedra.Tet.{Tet as Row}
 use Rattle.sign_predicates.proofs.Places.{A, B, C}
 use Rattle.geo_laws.proofs.Corners.{distinct}
 use Rattle.geo_laws.specs.OrientedFace.{Face, reversed, beside}
-use Rattle.lowest_laws.specs.Insertion.{IsNew, IsFaceOf, IsHullFace, IsCavityPlace, cavity_row, cavity_ghost, IsClearPlace, clear_row, clear_ghost, IsRimFace, row_place, ghost_place, row_in, ghost_in}
-use Rattle.lowest_laws.proofs.FacePencil.{side_of, side_of-reversed}
-use Rattle.lowest_laws.proofs.Beyond.{turn, side-turn}
-use Rattle.lowest_laws.proofs.Insert.{law_one_row}
-use Rattle.lowest_laws.proofs.Sides.{law_place}
+use Rattle.insert_laws.specs.LowestInsertion.{IsNew, IsFaceOf, IsHullFace, IsCavityPlace, cavity_row, cavity_ghost, IsClearPlace, clear_row, clear_ghost, IsRimFace, row_place, ghost_place, row_in, ghost_in}
+use Rattle.insert_laws.proofs.FacePencil.{side_of, side_of-reversed}
+use Rattle.insert_laws.proofs.Beyond.{turn, side-turn}
+use Rattle.insert_laws.proofs.LowestInsert.{law_one_row}
+use Rattle.insert_laws.proofs.Sides.{law_place}
 use Rattle.mesh_arena.specs.Mesh.{SlotValue, IsLive, corner, side, at, OnFace, IsMesh}
 use Rattle.mesh_arena.specs.declared.arena.SlotFace.{SlotFace}
 use Rattle.mesh_arena.proofs.Mesh.{side_live}

@@ -2,9 +2,9 @@
 use Rattle.std.proofs.Common.{◌≡◌, ◌≢◌, ◌⊎◌, inl, inr, ℕ, ◌<◌, List, length, Option, refl, sym, ap, subst, ◌∙◌, ℤ}
 use Rattle.sign_predicates.specs.Point.{Point}
 use Rattle.geo_laws.specs.OrientedFace.{Face}
-use Rattle.lowest_laws.specs.Insertion.{IsNew, IsHullRim, IsRimFace, edge_and}
-use Rattle.lowest_laws.proofs.Beyond.{turn}
-use Rattle.lowest_laws.proofs.Rim.{law_rim_edge, law_hull_rim}
+use Rattle.insert_laws.specs.LowestInsertion.{IsNew, IsHullRim, IsRimFace, edge_and}
+use Rattle.insert_laws.proofs.Beyond.{turn}
+use Rattle.insert_laws.proofs.Rim.{law_rim_edge, law_hull_rim}
 use Rattle.mesh_arena.specs.Mesh.{SlotValue, IsMesh}
 use Rattle.mesh_arena.specs.Star.{rim_at}
 use Rattle.mesh_arena.specs.StarLinks.{OnRim, Other}

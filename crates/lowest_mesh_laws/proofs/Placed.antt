@@ -8,9 +8,9 @@ use Rattle.geo_laws.specs.Height.{IsLowestAmong}
 use Rattle.geo_laws.specs.declared.tetrahedra.Tet.{Tet as Row}
 use Rattle.geo_laws.proofs.Arrangement.{even_back}
 use Rattle.geo_laws.specs.OrientedFace.{Face, triangle}
-use Rattle.lowest_laws.specs.Insertion.{IsNew, IsHullFace}
-use Rattle.lowest_laws.proofs.Bridge.{even_of_same}
-use Rattle.lowest_laws.proofs.Start.{law_locate}
+use Rattle.insert_laws.specs.LowestInsertion.{IsNew, IsHullFace}
+use Rattle.insert_laws.proofs.LowestBridge.{even_of_same}
+use Rattle.insert_laws.proofs.LowestStart.{law_locate}
 use Rattle.mesh_arena.specs.Mesh.{SlotValue, corner_in, IsLive, IsMesh}
 use Rattle.mesh_arena.specs.declared.slot.Corner.{Corner}
 use Rattle.mesh_arena.specs.declared.slot.Corner.TheVariants.{Point as Numbered, Ghost}

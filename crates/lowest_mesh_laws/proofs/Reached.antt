@@ -5,11 +5,11 @@ use Rattle.sign_predicates.specs.Orientation.{InClosed, side as side_at}
 use Rattle.geo_laws.specs.Delaunay.{point, corners}
 use Rattle.geo_laws.specs.declared.tetrahedra.Tet.{Tet as Row}
 use Rattle.geo_laws.specs.OrientedFace.{Face, triangle, reversed}
-use Rattle.lowest_laws.specs.Insertion.{IsNew, HasAbove, Sees, IsFaceOf, IsHullFace, edge_and, Place, row_place, ghost_place, IsInCavity, row_in, ghost_in, Touches, row_row, row_ghost, ghost_row, ghost_ghost, ghost_turned, IsJoined, joined_self, joined_by}
-use Rattle.lowest_laws.proofs.FacePencil.{side_of, side_of-reversed}
-use Rattle.lowest_laws.proofs.Insert.{law_one_row}
-use Rattle.lowest_laws.proofs.InsideLaw.{law_inside_cavity}
-use Rattle.lowest_laws.proofs.BeyondLaw.{law_beyond_cavity}
+use Rattle.insert_laws.specs.LowestInsertion.{IsNew, HasAbove, Sees, IsFaceOf, IsHullFace, edge_and, Place, row_place, ghost_place, IsInCavity, row_in, ghost_in, Touches, row_row, row_ghost, ghost_row, ghost_ghost, ghost_turned, IsJoined, joined_self, joined_by}
+use Rattle.insert_laws.proofs.FacePencil.{side_of, side_of-reversed}
+use Rattle.insert_laws.proofs.LowestInsert.{law_one_row}
+use Rattle.insert_laws.proofs.InsideLaw.{law_inside_cavity}
+use Rattle.insert_laws.proofs.BeyondLaw.{law_beyond_cavity}
 use Rattle.mesh_arena.specs.Mesh.{SlotValue, IsMesh}
 use Rattle.lowest_mesh_laws.specs.Rule.{IsTaken}
 use Rattle.lowest_mesh_laws.specs.Reach.{Reach, first, next}

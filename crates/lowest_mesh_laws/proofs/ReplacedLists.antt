@@ -7,9 +7,9 @@ use Rattle.geo_laws.specs.Delaunay.{corners, AreNumbersOf, IsAmong}
 use Rattle.geo_laws.specs.Height.{IsLowestAmong}
 use Rattle.geo_laws.specs.declared.tetrahedra.Tet.{Tet as Row}
 use Rattle.geo_laws.specs.OrientedFace.{Face}
-use Rattle.lowest_laws.specs.Insertion.{IsNew, IsHullFace, IsHidden}
-use Rattle.lowest_laws.proofs.Bridge.{of_new}
-use Rattle.lowest_laws.proofs.Lists.{law_same_numbers}
+use Rattle.insert_laws.specs.LowestInsertion.{IsNew, IsHullFace, IsHidden}
+use Rattle.insert_laws.proofs.LowestBridge.{of_new}
+use Rattle.insert_laws.proofs.LowestLists.{law_same_numbers}
 use Rattle.mesh_arena.specs.Mesh.{SlotValue, IsLive}
 use Rattle.lowest_mesh_laws.specs.Living.{IsRowSlot, IsGhostSlot, IsLowestMesh}
 use Rattle.lowest_mesh_laws.specs.Replaced.{SameMeshLaw}

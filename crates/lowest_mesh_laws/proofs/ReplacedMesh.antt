@@ -11,14 +11,14 @@ use Rattle.sign_predicates.proofs.Places.{A, B, C, D}
 use Rattle.geo_laws.proofs.Places.{with_number}
 use Rattle.geo_laws.proofs.Corners.{IsCorner, corner_of, contains_corner, distinct}
 use Rattle.geo_laws.specs.OrientedFace.{Face, reversed, beside}
-use Rattle.lowest_laws.specs.Insertion.{HasSameCorners, HasAbove, Sees, IsNew, IsHullFace, IsStarRow, edge_and}
-use Rattle.lowest_laws.proofs.FacePencil.{side_of}
-use Rattle.lowest_laws.proofs.Beyond.{turn}
-use Rattle.lowest_laws.proofs.Bridge.{of_cons, of_new}
-use Rattle.lowest_laws.proofs.Insert.{law_insertion}
-use Rattle.lowest_laws.proofs.Sides.{above_or_not}
-use Rattle.lowest_laws.proofs.HullLaws.{law_new_hull, law_old_hull}
-use Rattle.lowest_laws.proofs.Start.{law_hull_turn}
+use Rattle.insert_laws.specs.LowestInsertion.{HasSameCorners, HasAbove, Sees, IsNew, IsHullFace, IsStarRow, edge_and}
+use Rattle.insert_laws.proofs.FacePencil.{side_of}
+use Rattle.insert_laws.proofs.Beyond.{turn}
+use Rattle.insert_laws.proofs.LowestBridge.{of_cons, of_new}
+use Rattle.insert_laws.proofs.LowestInsert.{law_insertion}
+use Rattle.insert_laws.proofs.Sides.{above_or_not}
+use Rattle.insert_laws.proofs.HullLaws.{law_new_hull, law_old_hull}
+use Rattle.insert_laws.proofs.LowestStart.{law_hull_turn}
 use Rattle.mesh_arena.specs.Mesh.{SlotValue, corners_at, corner_in, IsLive, side, at, IsMesh, Off}
 use Rattle.mesh_arena.specs.Star.{rim_at, behind_rim}
 use Rattle.mesh_arena.specs.Cavity.{IsIn}

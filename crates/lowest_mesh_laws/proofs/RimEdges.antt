@@ -7,14 +7,14 @@ use Rattle.sign_predicates.proofs.Places.{A, B, C}
 use Rattle.geo_laws.proofs.Corners.{distinct}
 use Rattle.geo_laws.proofs.Arrangement.{even-swap, even_positive}
 use Rattle.geo_laws.specs.OrientedFace.{Face, reversed, beside}
-use Rattle.lowest_laws.specs.Insertion.{IsNew, IsHullFace, IsHullRim, IsRimFace, edge_and}
-use Rattle.lowest_laws.proofs.Bridge
-use Rattle.lowest_laws.proofs.Insert as insert
-use Rattle.lowest_laws.proofs.FacePencil.{side_of, side_of-reversed}
-use Rattle.lowest_laws.proofs.Beyond.{turn, side-turn}
-use Rattle.lowest_laws.proofs.Hull.{law_hull_edge}
-use Rattle.lowest_laws.proofs.HullLaws.{law_new_hull}
-use Rattle.lowest_laws.proofs.Start.{law_hull_turn}
+use Rattle.insert_laws.specs.LowestInsertion.{IsNew, IsHullFace, IsHullRim, IsRimFace, edge_and}
+use Rattle.insert_laws.proofs.LowestBridge
+use Rattle.insert_laws.proofs.LowestInsert as insert
+use Rattle.insert_laws.proofs.FacePencil.{side_of, side_of-reversed}
+use Rattle.insert_laws.proofs.Beyond.{turn, side-turn}
+use Rattle.insert_laws.proofs.LowestHull.{law_hull_edge}
+use Rattle.insert_laws.proofs.HullLaws.{law_new_hull}
+use Rattle.insert_laws.proofs.LowestStart.{law_hull_turn}
 use Rattle.lowest_mesh_laws.proofs.Faces.{AreApart, hull_apart}
 
 module _ (lifts : ℕ → ℤ) (ps : List Point) (ms : List ℕ) (p : ℕ) (new : IsNew ps ms p) where
@@ -38,7 +38,7 @@ module _ (lifts : ℕ → ℤ) (ps : List Point) (ms : List ℕ) (p : ℕ) (new 
   hull_rim_apart i j is = (hull_apart lifts ps ms (edge_and i j is.inner) is.seen).ab
 
   within : (i : ℕ) → Contains (p ∷ ms) i → i < length ps
-  within = (Bridge.of_new ps ms p new).within
+  within = (LowestBridge.of_new ps ms p new).within
 
   -- the hull has the new point and the edge
   hull_with : (i j : ℕ) → IsHullRim lifts ps ms p i j → IsHullFace lifts ps (p ∷ ms) (edge_and i j p)
@@ -50,7 +50,7 @@ module _ (lifts : ℕ → ℤ) (ps : List Point) (ms : List ℕ) (p : ℕ) (new 
   -- where the rim meets the hull no rim face goes on: its further corner would be strictly beyond the hull face of the edge and the new point
   pub rim_ends : (i j q : ℕ) → IsHullRim lifts ps ms p i j → IsRimFace lifts ps ms p (edge_and j i q) → ⊥
   rim_ends i j q edge face =
-      (hull_with i j edge).none_beyond q (Bridge.to_cons p ms q (inr (insert.cavity_to lifts ps ms p new (edge_and j i q) face.cavity).0.on_c))
+      (hull_with i j edge).none_beyond q (LowestBridge.to_cons p ms q (inr (insert.cavity_to lifts ps ms p new (edge_and j i q) face.cavity).0.on_c))
       (even_positive ps (beside (edge_and j i q) p) (beside (edge_and i j p) q) (even-swap ps (beside (edge_and j i q) p)) (rim_over (edge_and j i q) face))
 
   -- an edge on the hull has one before it

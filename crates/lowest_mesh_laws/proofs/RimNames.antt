@@ -4,8 +4,8 @@ use Rattle.std.proofs.lemmas.Bool.{cases_eq}
 use Rattle.sign_predicates.specs.Point.{Point}
 use Rattle.geo_laws.specs.declared.tetrahedra.Tet.{Tet as Row}
 use Rattle.geo_laws.specs.OrientedFace.{Face, reversed}
-use Rattle.lowest_laws.specs.Insertion.{IsNew, IsHullRim, IsRimFace}
-use Rattle.lowest_laws.proofs.Beyond.{turn}
+use Rattle.insert_laws.specs.LowestInsertion.{IsNew, IsHullRim, IsRimFace}
+use Rattle.insert_laws.proofs.Beyond.{turn}
 use Rattle.mesh_arena.specs.Mesh.{SlotValue, IsLive, side, OnFace, IsMesh}
 use Rattle.mesh_arena.specs.Star.{rim_at}
 use Rattle.mesh_arena.specs.StarLinks.{OnRim}

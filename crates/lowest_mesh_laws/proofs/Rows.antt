@@ -7,8 +7,8 @@ use Rattle.geo_laws.specs.Height.{residual_at, places}
 use Rattle.geo_laws.specs.declared.tetrahedra.Tet.{Tet as Row}
 use Rattle.geo_laws.proofs.Lexicographic.{lex_same}
 use Rattle.geo_laws.proofs.Arrangement.{IsEven, even_residual}
-use Rattle.lowest_laws.specs.Insertion.{IsNew, HasSameCorners, HasAbove}
-use Rattle.lowest_laws.proofs.Bridge.{even_of_same}
+use Rattle.insert_laws.specs.LowestInsertion.{IsNew, HasSameCorners, HasAbove}
+use Rattle.insert_laws.proofs.LowestBridge.{even_of_same}
 use Rattle.mesh_arena.specs.Mesh.{SlotValue}
 use Rattle.mesh_arena.specs.declared.slot.Corner.TheVariants.{Ghost}
 use Rattle.point_locate.specs.Place.{row_corners}

@@ -7,8 +7,8 @@ use Rattle.geo_laws.specs.Delaunay.{point, corners}
 use Rattle.geo_laws.specs.declared.tetrahedra.Tet.{Tet as Row}
 use Rattle.geo_laws.proofs.Places.{replaced}
 use Rattle.geo_laws.proofs.Determinants.{volume-replaced}
-use Rattle.lowest_laws.specs.Insertion.{IsNew, HasAbove, Sees}
-use Rattle.lowest_laws.proofs.FacePencil.{side_of}
+use Rattle.insert_laws.specs.LowestInsertion.{IsNew, HasAbove, Sees}
+use Rattle.insert_laws.proofs.FacePencil.{side_of}
 use Rattle.mesh_arena.specs.Mesh.{SlotValue, corner_list, side, IsMesh}
 use Rattle.mesh_arena.specs.declared.arena.SlotFace.{SlotFace}
 use Rattle.mesh_arena.specs.declared.slot.Corner.TheVariants.{Point as Numbered, Ghost}

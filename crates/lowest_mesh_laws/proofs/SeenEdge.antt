@@ -1,7 +1,7 @@
 -- Where the rim meets the hull: between a ghost that the new point sees and one that it doesn't.
 use Rattle.std.proofs.Common.{◌≡◌, ℕ, List, Option, Some, ℤ}
 use Rattle.sign_predicates.specs.Point.{Point}
-use Rattle.lowest_laws.specs.Insertion.{IsNew, Sees, IsHullFace, edge_and, IsHullRim, ghost_place, ghost_in}
+use Rattle.insert_laws.specs.LowestInsertion.{IsNew, Sees, IsHullFace, edge_and, IsHullRim, ghost_place, ghost_in}
 use Rattle.mesh_arena.specs.Mesh.{SlotValue, side, IsMesh}
 use Rattle.mesh_arena.specs.declared.arena.SlotFace.{SlotFace}
 use Rattle.lowest_mesh_laws.specs.Rule.{IsTaken}

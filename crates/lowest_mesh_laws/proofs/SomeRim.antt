@@ -3,7 +3,7 @@ use Rattle.std.proofs.Common.{◌⊎◌, inl, inr, ℕ, ◌<◌, List, length, O
 use Rattle.sign_predicates.specs.Point.{Point}
 use Rattle.geo_laws.specs.Height.{IsLowestAmong}
 use Rattle.geo_laws.specs.declared.tetrahedra.Tet.{Tet as Row}
-use Rattle.lowest_laws.proofs.SomeRim.{law_some_rim_face}
+use Rattle.insert_laws.proofs.SomeRim.{law_some_rim_face}
 use Rattle.mesh_arena.specs.Mesh.{SlotValue, IsLive}
 use Rattle.lowest_mesh_laws.specs.Living.{IsRowSlot, IsGhostSlot, IsLowestMesh}
 use Rattle.lowest_mesh_laws.specs.RimLaws.{SomeRimLaw}

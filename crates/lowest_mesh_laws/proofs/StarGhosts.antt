@@ -7,11 +7,11 @@ use Rattle.geo_laws.specs.Height.{IsLowestAmong}
 use Rattle.geo_laws.specs.declared.tetrahedra.Tet.{Tet as Row}
 use Rattle.geo_laws.proofs.Places.{number, with_number}
 use Rattle.geo_laws.specs.OrientedFace.{Face, reversed}
-use Rattle.lowest_laws.specs.Insertion.{IsNew, IsHullFace, IsHullRim, edge_and}
-use Rattle.lowest_laws.proofs.FacePencil.{side_of, side_of-reversed}
-use Rattle.lowest_laws.proofs.Beyond.{turn, side-turn}
-use Rattle.lowest_laws.proofs.Start.{law_hull_turn}
-use Rattle.lowest_laws.proofs.HullLaws.{law_new_hull}
+use Rattle.insert_laws.specs.LowestInsertion.{IsNew, IsHullFace, IsHullRim, edge_and}
+use Rattle.insert_laws.proofs.FacePencil.{side_of, side_of-reversed}
+use Rattle.insert_laws.proofs.Beyond.{turn, side-turn}
+use Rattle.insert_laws.proofs.LowestStart.{law_hull_turn}
+use Rattle.insert_laws.proofs.HullLaws.{law_new_hull}
 use Rattle.mesh_arena.specs.Mesh.{SlotValue, at, IsMesh}
 use Rattle.mesh_arena.specs.Star.{rim_at}
 use Rattle.mesh_arena.specs.Cavity.{IsIn}

@@ -13,10 +13,10 @@ use Rattle.geo_laws.proofs.Corners.{AreDistinct, distinct}
 use Rattle.geo_laws.proofs.Determinants.{volume-replaced}
 use Rattle.geo_laws.proofs.Arrangement.{arranged, even_positive}
 use Rattle.geo_laws.specs.OrientedFace.{Face, reversed, beside}
-use Rattle.lowest_laws.specs.Insertion.{HasSameCorners, IsNew, IsRimFace}
-use Rattle.lowest_laws.proofs.FacePencil.{side_of}
-use Rattle.lowest_laws.proofs.Insert.{law_rim, law_insertion}
-use Rattle.lowest_laws.proofs.Bridge.{same_of_even}
+use Rattle.insert_laws.specs.LowestInsertion.{HasSameCorners, IsNew, IsRimFace}
+use Rattle.insert_laws.proofs.FacePencil.{side_of}
+use Rattle.insert_laws.proofs.LowestInsert.{law_rim, law_insertion}
+use Rattle.insert_laws.proofs.LowestBridge.{same_of_even}
 use Rattle.mesh_arena.specs.Mesh.{SlotValue, corners_at, side, at, IsMesh}
 use Rattle.mesh_arena.specs.Star.{behind, rim_at, behind_rim}
 use Rattle.mesh_arena.specs.Cavity.{IsIn}

@@ -7,11 +7,11 @@ use Rattle.geo_laws.specs.Delaunay.{point, corners}
 use Rattle.geo_laws.specs.declared.tetrahedra.Tet.{Tet as Row}
 use Rattle.geo_laws.proofs.Places.{at_face, all_faces}
 use Rattle.geo_laws.proofs.Arrangement.{IsEven}
-use Rattle.lowest_laws.specs.Insertion.{IsNew, IsHidden}
-use Rattle.lowest_laws.proofs.Bridge.{even_of_same}
-use Rattle.lowest_laws.proofs.FacePencil.{side_of}
-use Rattle.lowest_laws.proofs.HiddenPoints.{law_hidden}
-use Rattle.lowest_laws.proofs.Sides.{above_or_not}
+use Rattle.insert_laws.specs.LowestInsertion.{IsNew, IsHidden}
+use Rattle.insert_laws.proofs.LowestBridge.{even_of_same}
+use Rattle.insert_laws.proofs.FacePencil.{side_of}
+use Rattle.insert_laws.proofs.HiddenPoints.{law_hidden}
+use Rattle.insert_laws.proofs.Sides.{above_or_not}
 use Rattle.mesh_arena.specs.Mesh.{SlotValue, IsMesh}
 use Rattle.mesh_arena.specs.declared.slot.Corner.TheVariants.{Ghost}
 use Rattle.point_locate.specs.Place.{IsAt, IsInside, IsBeyond, row_corners}

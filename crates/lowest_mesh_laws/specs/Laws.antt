@@ -2,7 +2,7 @@
 use Rattle.std.specs.Prelude.{ℕ, ◌<◌, ℤ, List, ◌∷◌, length, Option}
 use Rattle.sign_predicates.specs.Point.{Point}
 use Rattle.geo_laws.specs.Delaunay.{point}
-use Rattle.lowest_laws.specs.Insertion.{IsNew}
+use Rattle.insert_laws.specs.LowestInsertion.{IsNew}
 use Rattle.mesh_arena.specs.Mesh.{SlotValue, IsMesh}
 use Rattle.mesh_arena.specs.Replace.{IsCavity, IsRim, IsOffRim}
 use Rattle.mesh_arena.specs.declared.slot.Corner.TheVariants.{Point as Numbered}

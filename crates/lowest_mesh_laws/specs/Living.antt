@@ -7,7 +7,7 @@ use Rattle.geo_laws.specs.Delaunay.{corners, AreNumbersOf}
 use Rattle.geo_laws.specs.Height.{IsLowestAmong}
 use Rattle.geo_laws.specs.declared.tetrahedra.Tet.{Tet as Row}
 use Rattle.geo_laws.specs.OrientedFace.{Face}
-use Rattle.lowest_laws.specs.Insertion.{HasSameCorners, IsHullFace}
+use Rattle.insert_laws.specs.LowestInsertion.{HasSameCorners, IsHullFace}
 use Rattle.mesh_arena.specs.Mesh.{SlotValue, corners_at, IsLive, side}
 use Rattle.mesh_arena.specs.declared.slot.Corner.TheVariants.{Ghost}
 use Rattle.point_locate.specs.Place.{row_corners}

@@ -3,7 +3,7 @@ use Rattle.std.specs.Prelude.{◌↔◌, ℕ, List, ◌∷◌, Option, Contains,
 use Rattle.sign_predicates.specs.Point.{Point}
 use Rattle.geo_laws.specs.Height.{IsLowestAmong}
 use Rattle.geo_laws.specs.declared.tetrahedra.Tet.{Tet as Row}
-use Rattle.lowest_laws.specs.Insertion.{IsNew}
+use Rattle.insert_laws.specs.LowestInsertion.{IsNew}
 use Rattle.mesh_arena.specs.Mesh.{SlotValue, IsMesh}
 use Rattle.mesh_arena.specs.Cavity.{IsIn}
 use Rattle.mesh_arena.specs.Replace.{Replaces}

@@ -5,7 +5,7 @@ use Rattle.sign_predicates.specs.Point.{Point}
 use Rattle.sign_predicates.specs.Orientation.{volume}
 use Rattle.geo_laws.specs.Delaunay.{point}
 use Rattle.geo_laws.specs.declared.tetrahedra.Tet.{Tet as Row}
-use Rattle.lowest_laws.specs.Insertion.{HasAbove}
+use Rattle.insert_laws.specs.LowestInsertion.{HasAbove}
 use Rattle.mesh_arena.specs.Mesh.{SlotValue, corners_at, corner_list, side}
 use Rattle.mesh_arena.specs.declared.arena.SlotFace.{SlotFace}
 use Rattle.mesh_arena.specs.declared.slot.Corner.{Corner}

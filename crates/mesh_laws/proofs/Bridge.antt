@@ -9,7 +9,7 @@ use Rattle.geo_laws.proofs.Corners.{on_of_among}
 use Rattle.geo_laws.proofs.Lift.{law_lift, lowest_of, delaunay_of}
 use Rattle.insert_laws.specs.Insertion.{IsNew, HasOutside}
 use Rattle.insert_laws.proofs.Bridge.{hull_of, hull_from}
-use Rattle.lowest_laws.specs.Insertion.{HasAbove}
+use Rattle.insert_laws.specs.LowestInsertion.{HasAbove}
 use Rattle.mesh_arena.specs.Mesh.{SlotValue, corners_at}
 use Rattle.mesh_arena.specs.Cavity.{slot_at}
 use Rattle.mesh_arena.specs.declared.slot.Corner.TheVariants.{Ghost}

@@ -15,7 +15,7 @@ use Rattle.geo_laws.proofs.Lift.{lowest_of, delaunay_of}
 use Rattle.geo_laws.specs.OrientedFace.{Face, reversed}
 use Rattle.insert_laws.specs.Insertion.{IsHullFace}
 use Rattle.insert_laws.proofs.Bridge.{hull_of, hull_from}
-use Rattle.lowest_laws.proofs.FacePencil.{side_of}
+use Rattle.insert_laws.proofs.FacePencil.{side_of}
 use Rattle.lowest_mesh_laws.proofs.Joined.{opposite_in}
 use Rattle.lowest_mesh_laws.proofs.CutOut.{hull_corner}
 use Rattle.lowest_mesh_laws.proofs.ReplacedLists as lowest

@@ -5,7 +5,7 @@ use Rattle.sign_predicates.proofs.Places.{A, B, C, D, Place}
 use Rattle.geo_laws.specs.declared.tetrahedra.Tet.{Tet as Row}
 use Rattle.geo_laws.proofs.Corners.{on_of_corners}
 use Rattle.geo_laws.proofs.Places.{number}
-use Rattle.lowest_laws.specs.Insertion.{HasAbove}
+use Rattle.insert_laws.specs.LowestInsertion.{HasAbove}
 use Rattle.regular_laws.specs.Regular.{weighted_lift, is_weighted_outside}
 use Rattle.regular_laws.proofs.Weighted.{law_weighted_lift}
 use Rattle.cavity_insert.specs.Lift.{IsRowFor}

@@ -15,8 +15,8 @@ use Rattle.geo_laws.proofs.Arrangement.{even_of, even_positive}
 use Rattle.geo_laws.proofs.Arrangement as arrangement
 use Rattle.geo_laws.proofs.Corners.{distinct, on_of_among, all_within}
 use Rattle.sign_predicates.proofs.Places.{A, B, C, D}
-use Rattle.lowest_laws.proofs.Bridge.{same_of_even, corner_to, corner_from}
-use Rattle.lowest_laws.specs.Cover.{IsLowestListAmong}
+use Rattle.insert_laws.proofs.LowestBridge.{same_of_even, corner_to, corner_from}
+use Rattle.insert_laws.specs.LowestCover.{IsLowestListAmong}
 use Rattle.cavity_insert.proofs.SlotRows.{slot_within}
 use Rattle.mesh_arena.specs.Mesh.{SlotValue, corners_at, corner_in}
 use Rattle.point_locate.specs.Place.{row_corners, IsAt}

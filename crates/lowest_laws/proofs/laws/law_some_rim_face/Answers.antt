@@ -1,5 +1,0 @@
-use Rattle.lowest_laws.proofs.SomeRim.{law_some_rim_face}
-use Rattle.lowest_laws.proofs.laws.law_some_rim_face.Goals as goal
-
-pub returns : goal.returns
-returns c = law_some_rim_face

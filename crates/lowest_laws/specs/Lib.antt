@@ -1,3 +1,0 @@
-pub mod Insertion
-pub mod Cone
-pub mod Cover
