@@ -13,8 +13,8 @@ use Rattle.geo_laws.specs.Delaunay.{numbers, numbers_below, all_numbers, has_cor
 use Rattle.geo_laws.specs.declared.tetrahedra.Tet.{Tet as Row}
 use Rattle.geo_laws.proofs.Corners.{found, contains_below, below_of}
 use Rattle.mesh_arena.specs.Mesh.{SlotValue}
-use Rattle.lowest_mesh_laws.specs.Living.{IsLowestMesh}
-use Rattle.lowest_mesh_laws.proofs.ReplacedLists.{law_same_mesh}
+use Rattle.mesh_laws.specs.LowestLiving.{IsLowestMesh}
+use Rattle.mesh_laws.proofs.LowestReplacedLists.{law_same_mesh}
 use Rattle.cavity_insert.specs.declared.order.Turn.{Turn}
 use Rattle.cavity_insert.specs.Order.{turn_numbers, IsOrderOf}
 use Rattle.cavity_insert.specs.Insert.{IsReadyFor}

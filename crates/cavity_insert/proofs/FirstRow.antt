@@ -13,7 +13,7 @@ use Rattle.insert_laws.specs.LowestInsertion.{IsHullFace}
 use Rattle.insert_laws.proofs.LowestFirst.{law_first}
 use Rattle.mesh_arena.specs.Mesh.{SlotValue, IsLive}
 use Rattle.mesh_laws.specs.Living as delaunay
-use Rattle.lowest_mesh_laws.specs.Living.{face_off, IsRowSlot, IsGhostSlot, IsLowestMesh}
+use Rattle.mesh_laws.specs.LowestLiving.{face_off, IsRowSlot, IsGhostSlot, IsLowestMesh}
 
 module _ (heights : ℕ → ℤ) (slots : List (Option SlotValue)) (ps : List Point) (t : Row) (p : IsPositive (corners ps t)) (a : IsArranged t) where
   abbrev row_to : (s : Row) → IsDelaunayAmong ps (numbers t) s → IsLowestAmong ps (numbers t) heights s

@@ -11,23 +11,23 @@ use Rattle.mesh_arena.specs.declared.slot.Slot.{Slot}
 use Rattle.mesh_arena.specs.declared.slot.RimFace.{RimFace}
 use Rattle.point_locate.specs.Place.{IsPlace, IsSomePlace}
 use Rattle.point_locate.specs.declared.walk.Place.{Place}
-use Rattle.lowest_mesh_laws.specs.Reach.{Grown}
-use Rattle.lowest_mesh_laws.specs.Living.{IsLowestMesh}
-use Rattle.lowest_mesh_laws.specs.Rule.{IsTaken}
-use Rattle.lowest_mesh_laws.specs.Laws.{slot_of, IsWholeFrom}
-use Rattle.lowest_mesh_laws.proofs.Whole.{law_cavity, law_hidden_point}
-use Rattle.lowest_mesh_laws.proofs.CutOut.{law_cut_out}
-use Rattle.lowest_mesh_laws.proofs.Paired.{law_paired}
-use Rattle.lowest_mesh_laws.proofs.SomeRim.{law_some_rim, row_of_slot}
-use Rattle.lowest_mesh_laws.proofs.Placed.{law_placed}
-use Rattle.lowest_mesh_laws.proofs.ReplacedMesh.{law_replaced}
+use Rattle.mesh_laws.specs.Reach.{Grown}
+use Rattle.mesh_laws.specs.LowestLiving.{IsLowestMesh}
+use Rattle.mesh_laws.specs.LowestRule.{IsTaken}
+use Rattle.mesh_laws.specs.LowestLaws.{slot_of, IsWholeFrom}
+use Rattle.mesh_laws.proofs.LowestWhole.{law_cavity, law_hidden_point}
+use Rattle.mesh_laws.proofs.LowestCutOut.{law_cut_out}
+use Rattle.mesh_laws.proofs.LowestPaired.{law_paired}
+use Rattle.mesh_laws.proofs.LowestSomeRim.{law_some_rim, row_of_slot}
+use Rattle.mesh_laws.proofs.LowestPlaced.{law_placed}
+use Rattle.mesh_laws.proofs.LowestReplacedMesh.{law_replaced}
 use Rattle.cavity_insert.specs.Insert.{IsReadyFor}
 use Rattle.cavity_insert.specs.Growth.{IsCavityOf}
 use Rattle.cavity_insert.specs.PointZone.{PointZoneValue, zone_for}
 use Rattle.cavity_insert.specs.PointZone as point_zone
 use Rattle.mesh_laws.specs.Rule as delaunay
 use Rattle.mesh_arena.proofs.AddStar.{live_by_side}
-use Rattle.lowest_mesh_laws.proofs.Across.{some_side}
+use Rattle.mesh_laws.proofs.LowestAcross.{some_side}
 
 -- what `replace_cavity` asks
 pub record CanReplace (slots : List (Option SlotValue)) (cavity : List Slot) (rim : List RimFace) (p : ℕ) : Type 0 where

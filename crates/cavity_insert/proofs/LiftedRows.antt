@@ -14,15 +14,15 @@ use Rattle.mesh_arena.specs.declared.slot.SlotCorners.{SlotCorners}
 use Rattle.std.proofs.lemmas.Int.{ints}
 use Rattle.mesh_arena.specs.declared.slot.Corner.TheVariants.{Ghost}
 use Rattle.point_locate.specs.Place.{AreCornersOn, AreOn, IsAt, row_corners, placed}
-use Rattle.lowest_mesh_laws.specs.Living.{IsRowSlot, IsGhostSlot}
-use Rattle.lowest_mesh_laws.specs.Rule.{IsTakenRow, IsTaken, IsSeen, IsInnerTaken}
-use Rattle.lowest_mesh_laws.proofs.Taken.{no_ghost, same_corners}
-use Rattle.lowest_mesh_laws.proofs.Rows.{same_row}
-use Rattle.lowest_mesh_laws.proofs.Placed.{law_placed}
+use Rattle.mesh_laws.specs.LowestLiving.{IsRowSlot, IsGhostSlot}
+use Rattle.mesh_laws.specs.LowestRule.{IsTakenRow, IsTaken, IsSeen, IsInnerTaken}
+use Rattle.mesh_laws.proofs.LowestTaken.{no_ghost, same_corners}
+use Rattle.mesh_laws.proofs.LowestRows.{same_row}
+use Rattle.mesh_laws.proofs.LowestPlaced.{law_placed}
 use Rattle.cavity_insert.specs.Insert.{IsReadyFor}
 use Rattle.mesh_arena.specs.declared.slot.Slot.{Slot}
 use Rattle.mesh_arena.specs.declared.slot.RimFace.{RimFace}
-use Rattle.lowest_mesh_laws.specs.Reach.{Grown}
+use Rattle.mesh_laws.specs.Reach.{Grown}
 use Rattle.cavity_insert.specs.Lift.{IsRowFor}
 use Rattle.cavity_insert.specs.Search.{SearchValue}
 

@@ -7,8 +7,8 @@ use Rattle.sign_predicates.specs.Point.{Point, origin}
 use Rattle.geo_laws.specs.Delaunay.{point, all_numbers, HasDistinctPoints}
 use Rattle.geo_laws.proofs.Corners.{contains_below, below_of}
 use Rattle.mesh_arena.specs.Mesh.{SlotValue, corners_at, IsLive}
-use Rattle.lowest_mesh_laws.specs.Living.{IsLowestMesh}
-use Rattle.lowest_mesh_laws.specs.Rule as lowest
+use Rattle.mesh_laws.specs.LowestLiving.{IsLowestMesh}
+use Rattle.mesh_laws.specs.LowestRule as lowest
 use Rattle.mesh_laws.specs.Rule.{IsTaken}
 use Rattle.mesh_laws.specs.Living.{IsDelaunayMesh}
 use Rattle.geo_laws.specs.Height.{lifted}

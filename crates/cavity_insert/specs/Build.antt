@@ -4,7 +4,7 @@ use Rattle.sign_predicates.specs.Point.{Point}
 use Rattle.geo_laws.specs.Delaunay.{numbers}
 use Rattle.geo_laws.specs.declared.tetrahedra.Tet.{Tet as Row}
 use Rattle.mesh_arena.specs.Mesh.{SlotValue}
-use Rattle.lowest_mesh_laws.specs.Living.{IsLowestMesh}
+use Rattle.mesh_laws.specs.LowestLiving.{IsLowestMesh}
 use Rattle.cavity_insert.specs.declared.order.Turn.{Turn}
 use Rattle.cavity_insert.specs.Order.{turn_numbers}
 

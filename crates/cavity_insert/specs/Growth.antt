@@ -4,9 +4,9 @@ use Rattle.sign_predicates.specs.Point.{Point}
 use Rattle.mesh_arena.specs.Mesh.{SlotValue, IsMesh}
 use Rattle.mesh_arena.specs.declared.slot.Slot.{Slot}
 use Rattle.mesh_arena.specs.declared.slot.RimFace.{RimFace}
-use Rattle.lowest_mesh_laws.specs.Rule.{IsTaken}
-use Rattle.lowest_mesh_laws.specs.Reach.{Grown}
-use Rattle.lowest_mesh_laws.specs.Laws.{IsWholeFrom}
+use Rattle.mesh_laws.specs.LowestRule.{IsTaken}
+use Rattle.mesh_laws.specs.Reach.{Grown}
+use Rattle.mesh_laws.specs.LowestLaws.{IsWholeFrom}
 use Rattle.cavity_insert.specs.declared.grow.Growth.{Growth}
 use Rattle.cavity_insert.specs.Grow.{entry_at, AreEntered, Growing}
 

@@ -3,7 +3,7 @@ use Rattle.std.specs.Prelude.{ℕ, ℤ, List, Option}
 use Rattle.sign_predicates.specs.Point.{Point}
 use Rattle.insert_laws.specs.LowestInsertion.{IsNew}
 use Rattle.mesh_arena.specs.Mesh.{SlotValue}
-use Rattle.lowest_mesh_laws.specs.Living.{IsLowestMesh}
+use Rattle.mesh_laws.specs.LowestLiving.{IsLowestMesh}
 
 -- the arena is the mesh of the lifted points with the numbers `ms`, and the point with the number p is another one
 pub record IsReadyFor (heights : ℕ → ℤ) (slots : List (Option SlotValue)) (ps : List Point) (ms : List ℕ) (p : ℕ) : Type 0 where

@@ -2,8 +2,8 @@
 ghost use Rattle.std.specs.Prelude.{◌≡◌, ℕ, ◌<◌, ◌∷◌, List, length, IfOk, IfSome, IfNone, OnOk};
 ghost use Rattle.mesh_arena.specs.Mesh.{IsLive};
 ghost use Rattle.geo_laws.specs.Delaunay.{point};
-ghost use Rattle.lowest_mesh_laws.specs.Laws.{slot_of};
-ghost use Rattle.lowest_mesh_laws.specs.Living.{IsLowestMesh};
+ghost use Rattle.mesh_laws.specs.LowestLaws.{slot_of};
+ghost use Rattle.mesh_laws.specs.LowestLiving.{IsLowestMesh};
 ghost use Rattle.cavity_insert.specs.Insert.{IsReadyFor};
 ghost use Rattle.cavity_insert.specs.Growth.{IsCavityOf};
 

@@ -3,7 +3,7 @@ ghost use Rattle.std.specs.Prelude.{◌≡◌, ◌-◌, ◌^◌, ◌<◌, length
 ghost use Rattle.geo_laws.specs.Delaunay.{numbers, all_numbers, has_corner, delaunay_rows};
 ghost use Rattle.geo_laws.specs.Delaunay.{AreCoplanar, HasDistinctPoints, IsOn, IsDelaunayList};
 ghost use Rattle.mesh_arena.specs.Mesh.{IsLive};
-ghost use Rattle.lowest_mesh_laws.specs.Living.{IsLowestMesh};
+ghost use Rattle.mesh_laws.specs.LowestLiving.{IsLowestMesh};
 ghost use Rattle.mesh_laws.specs.Living.{IsDelaunayMesh};
 ghost use Rattle.cavity_insert.specs.Order.{IsOrderOf};
 

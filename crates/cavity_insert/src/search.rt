@@ -7,7 +7,7 @@ ghost use Rattle.point_locate.specs.Place.{row_corners, placed, IsAt, AreOn};
 ghost use Rattle.sign_predicates.specs.Orientation.{volume};
 ghost use Rattle.sign_predicates.specs.Sign.{IsSignOf};
 ghost use Rattle.geo_laws.specs.Delaunay.{point};
-ghost use Rattle.lowest_mesh_laws.specs.Rule.{IsTakenRow, IsSeen, IsInnerTaken, IsTaken};
+ghost use Rattle.mesh_laws.specs.LowestRule.{IsTakenRow, IsSeen, IsInnerTaken, IsTaken};
 ghost use Rattle.cavity_insert.specs.Insert.{IsReadyFor};
 ghost use Rattle.cavity_insert.specs.Lift.{IsRowFor};
 ghost use Rattle.cavity_insert.specs.Search.{search_for};

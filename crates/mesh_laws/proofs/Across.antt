@@ -9,11 +9,11 @@ use Rattle.insert_laws.specs.Insertion.{IsFaceOf}
 use Rattle.mesh_arena.specs.Mesh.{SlotValue, corner, side, IsMesh}
 use Rattle.mesh_arena.specs.declared.arena.SlotFace.{SlotFace}
 use Rattle.mesh_arena.specs.declared.slot.Corner.TheVariants.{Point as Numbered, Ghost}
-use Rattle.lowest_mesh_laws.proofs.Across as lowest
+use Rattle.mesh_laws.proofs.LowestAcross as lowest
 use Rattle.mesh_laws.specs.Living.{face_off, HasSameFaceCorners, IsRowSlot, IsGhostSlot, IsDelaunayMesh}
 use Rattle.mesh_laws.proofs.Faces.{place_of}
 use Rattle.mesh_laws.proofs.Bridge.{row_of, row_from, ghost_from, mesh_of}
-pub use Rattle.lowest_mesh_laws.proofs.Across.{row_corner, some_side}
+pub use Rattle.mesh_laws.proofs.LowestAcross.{row_corner, some_side}
 
 module _ (slots : List (Option SlotValue)) (ps : List Point) (ms : List ℕ) where
   pub ghost_corner : (s k : ℕ) (t : Row) → IsGhostSlot slots ps ms s t k → (m : ℕ) → m < 4 → m ≢ k → corner slots s m ≡ Numbered (number t (place_of m))

@@ -16,10 +16,10 @@ use Rattle.mesh_arena.specs.declared.slot.Corner.TheVariants.{Ghost}
 use Rattle.mesh_arena.specs.declared.slot.Slot.{Slot}
 use Rattle.mesh_arena.specs.declared.slot.RimFace.{RimFace}
 use Rattle.point_locate.specs.Place.{IsAt, row_corners}
-use Rattle.lowest_mesh_laws.specs.Rule as lowest_rule
-use Rattle.lowest_mesh_laws.specs.Living as lowest
-use Rattle.lowest_mesh_laws.specs.Laws as lowest_growth
-use Rattle.lowest_mesh_laws.specs.Reach.{Reach, first, next, Grown}
+use Rattle.mesh_laws.specs.LowestRule as lowest_rule
+use Rattle.mesh_laws.specs.LowestLiving as lowest
+use Rattle.mesh_laws.specs.LowestLaws as lowest_growth
+use Rattle.mesh_laws.specs.Reach.{Reach, first, next, Grown}
 use Rattle.mesh_laws.specs.Rule.{IsTakenRow, IsSeen, IsTaken}
 use Rattle.mesh_laws.specs.Living.{IsRowSlot, IsGhostSlot, IsDelaunayMesh}
 use Rattle.mesh_laws.specs.Laws.{IsWholeFrom}

@@ -1,6 +1,6 @@
 -- A cavity that was grown, and its rim, as surgery takes them.
 use Rattle.geo_laws.specs.Height.{lifted}
-use Rattle.lowest_mesh_laws.proofs.CutOut as lowest
+use Rattle.mesh_laws.proofs.LowestCutOut as lowest
 use Rattle.mesh_laws.specs.Laws.{CutOutLaw}
 use Rattle.mesh_laws.proofs.Bridge.{mesh_of, grown_of}
 

@@ -1,2 +1,2 @@
 -- The place of a face in a four.
-pub use Rattle.lowest_mesh_laws.proofs.Joined.{place_other, place_of_face}
+pub use Rattle.mesh_laws.proofs.LowestJoined.{place_other, place_of_face}

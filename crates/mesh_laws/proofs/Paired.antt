@@ -1,6 +1,6 @@
 -- The rim of a cavity that was grown is a closed surface.
 use Rattle.geo_laws.specs.Height.{lifted}
-use Rattle.lowest_mesh_laws.proofs.Paired as lowest
+use Rattle.mesh_laws.proofs.LowestPaired as lowest
 use Rattle.mesh_laws.specs.RimLaws.{PairedLaw}
 use Rattle.mesh_laws.proofs.Bridge.{mesh_of, grown_of, whole_of}
 

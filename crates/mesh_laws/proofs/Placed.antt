@@ -1,6 +1,6 @@
 -- What point location asks of a Delaunay mesh.
 use Rattle.geo_laws.specs.Height.{lifted}
-use Rattle.lowest_mesh_laws.proofs.Placed as lowest
+use Rattle.mesh_laws.proofs.LowestPlaced as lowest
 use Rattle.mesh_laws.specs.RimLaws.{PlacedLaw}
 use Rattle.mesh_laws.proofs.Bridge.{mesh_of}
 

@@ -16,9 +16,9 @@ use Rattle.geo_laws.specs.OrientedFace.{Face, reversed}
 use Rattle.insert_laws.specs.Insertion.{IsHullFace}
 use Rattle.insert_laws.proofs.Bridge.{hull_of, hull_from}
 use Rattle.insert_laws.proofs.FacePencil.{side_of}
-use Rattle.lowest_mesh_laws.proofs.Joined.{opposite_in}
-use Rattle.lowest_mesh_laws.proofs.CutOut.{hull_corner}
-use Rattle.lowest_mesh_laws.proofs.ReplacedLists as lowest
+use Rattle.mesh_laws.proofs.LowestJoined.{opposite_in}
+use Rattle.mesh_laws.proofs.LowestCutOut.{hull_corner}
+use Rattle.mesh_laws.proofs.LowestReplacedLists as lowest
 use Rattle.mesh_laws.specs.Replaced.{SameMeshLaw, LongerListLaw}
 use Rattle.mesh_laws.proofs.Bridge.{mesh_of, mesh_from}
 

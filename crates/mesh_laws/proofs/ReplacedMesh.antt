@@ -2,7 +2,7 @@
 use Rattle.std.proofs.Common.{◌∷◌}
 use Rattle.geo_laws.specs.Height.{lifted}
 use Rattle.geo_laws.proofs.Lift.{lowest_of}
-use Rattle.lowest_mesh_laws.proofs.ReplacedMesh as lowest
+use Rattle.mesh_laws.proofs.LowestReplacedMesh as lowest
 use Rattle.mesh_laws.specs.Replaced.{ReplacedLaw}
 use Rattle.mesh_laws.proofs.Bridge.{mesh_of, mesh_from, grown_of, taken_from}
 

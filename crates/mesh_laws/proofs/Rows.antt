@@ -1,2 +1,2 @@
 -- Rows with the same corners.
-pub use Rattle.lowest_mesh_laws.proofs.Rows.{same_row}
+pub use Rattle.mesh_laws.proofs.LowestRows.{same_row}

@@ -1,6 +1,6 @@
 -- The rim of a cavity that was grown is not empty.
 use Rattle.geo_laws.specs.Height.{lifted}
-use Rattle.lowest_mesh_laws.proofs.SomeRim as lowest
+use Rattle.mesh_laws.proofs.LowestSomeRim as lowest
 use Rattle.mesh_laws.specs.RimLaws.{SomeRimLaw}
 use Rattle.mesh_laws.proofs.Bridge.{mesh_of, grown_of, whole_of}
 

@@ -8,10 +8,10 @@ use Rattle.insert_laws.proofs.Start.{law_start}
 use Rattle.point_locate.specs.Place.{IsPlace}
 use Rattle.point_locate.specs.declared.walk.Place.{Place}
 use Rattle.point_locate.specs.declared.walk.Place.TheVariants.{Inside, Beyond}
-use Rattle.lowest_mesh_laws.specs.Rule.{IsTaken}
-use Rattle.lowest_mesh_laws.specs.Living.{IsLowestMesh}
-use Rattle.lowest_mesh_laws.proofs.Rows.{taken_row}
-use Rattle.lowest_mesh_laws.proofs.Whole as lowest
+use Rattle.mesh_laws.specs.LowestRule.{IsTaken}
+use Rattle.mesh_laws.specs.LowestLiving.{IsLowestMesh}
+use Rattle.mesh_laws.proofs.LowestRows.{taken_row}
+use Rattle.mesh_laws.proofs.LowestWhole as lowest
 use Rattle.mesh_laws.specs.Laws.{slot_of, CavityLaw}
 use Rattle.mesh_laws.proofs.Bridge.{mesh_of, whole_from}
 

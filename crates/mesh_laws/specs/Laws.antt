@@ -9,8 +9,8 @@ use Rattle.mesh_arena.specs.declared.slot.RimFace.{RimFace}
 use Rattle.point_locate.specs.Place.{IsPlace}
 use Rattle.point_locate.specs.declared.walk.Place.{Place}
 use Rattle.mesh_laws.specs.Rule.{IsTaken}
-use Rattle.lowest_mesh_laws.specs.Reach.{Reach, Grown}
-pub use Rattle.lowest_mesh_laws.specs.Laws.{slot_of, IsCutOut}
+use Rattle.mesh_laws.specs.Reach.{Reach, Grown}
+pub use Rattle.mesh_laws.specs.LowestLaws.{slot_of, IsCutOut}
 use Rattle.mesh_laws.specs.Living.{IsDelaunayMesh}
 
 -- the point takes the start, and each slot that it takes is reached from there

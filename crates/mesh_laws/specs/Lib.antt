@@ -1,6 +1,12 @@
-pub use Rattle.lowest_mesh_laws.specs.Reach
+pub use Rattle.mesh_laws.specs.Reach
 pub mod Rule
 pub mod Living
 pub mod Laws
 pub mod Replaced
 pub mod RimLaws
+pub mod LowestRule
+pub mod Reach
+pub mod LowestLiving
+pub mod LowestLaws
+pub mod LowestReplaced
+pub mod LowestRimLaws

@@ -10,7 +10,7 @@ use Rattle.insert_laws.specs.Insertion.{HasSameCorners, IsHullFace}
 use Rattle.mesh_arena.specs.Mesh.{SlotValue, corners_at, IsLive, side}
 use Rattle.mesh_arena.specs.declared.slot.Corner.TheVariants.{Ghost}
 use Rattle.point_locate.specs.Place.{row_corners}
-pub use Rattle.lowest_mesh_laws.specs.Living.{face_off, IsFaceCorner, HasSameFaceCorners}
+pub use Rattle.mesh_laws.specs.LowestLiving.{face_off, IsFaceCorner, HasSameFaceCorners}
 
 -- the slot has the corners of a Delaunay row, in the places of the four t: an even arrangement, since both are positive
 pub record IsRowSlot (slots : List (Option SlotValue)) (ps : List Point) (ms : List ℕ) (s : ℕ) (t : Row) : Type 0 where

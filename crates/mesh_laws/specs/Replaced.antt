@@ -11,7 +11,7 @@ use Rattle.mesh_arena.specs.declared.slot.Corner.TheVariants.{Point as Numbered}
 use Rattle.mesh_arena.specs.declared.slot.Slot.{Slot}
 use Rattle.mesh_arena.specs.declared.slot.RimFace.{RimFace}
 use Rattle.mesh_laws.specs.Rule.{IsTaken}
-use Rattle.lowest_mesh_laws.specs.Reach.{Grown}
+use Rattle.mesh_laws.specs.Reach.{Grown}
 use Rattle.mesh_laws.specs.Living.{IsDelaunayMesh}
 
 -- Where the cavity has all slots that the new point takes, the star in place of it makes the Delaunay mesh with that point. (That some row

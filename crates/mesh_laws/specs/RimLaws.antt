@@ -9,7 +9,7 @@ use Rattle.mesh_arena.specs.declared.slot.Slot.{Slot}
 use Rattle.mesh_arena.specs.declared.slot.RimFace.{RimFace}
 use Rattle.point_locate.specs.Place.{AreCornersOn, IsSomePlace}
 use Rattle.mesh_laws.specs.Rule.{IsTaken}
-use Rattle.lowest_mesh_laws.specs.Reach.{Grown}
+use Rattle.mesh_laws.specs.Reach.{Grown}
 use Rattle.mesh_laws.specs.Living.{IsDelaunayMesh}
 use Rattle.mesh_laws.specs.Laws.{IsWholeFrom}
 

@@ -1,7 +1,12 @@
-//! Laws of a Delaunay mesh in an arena: the conflict zone of a point, and what surgery makes of it.
+//! Laws of a mesh in an arena: the conflict zone of a point, and what surgery makes of it. In the
+//! modules `lowest` they are those of lowest tetrahedra, for any heights; here those of a Delaunay
+//! mesh, at the squared lengths.
 #![tactic(auto)]
 
 mod laws;
+pub mod lowest;
+pub mod lowest_replaced;
+pub mod lowest_rims;
 mod replaced;
 mod rim_laws;
 

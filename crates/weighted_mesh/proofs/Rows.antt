@@ -20,10 +20,10 @@ use Rattle.insert_laws.specs.LowestCover.{IsLowestListAmong}
 use Rattle.cavity_insert.proofs.SlotRows.{slot_within}
 use Rattle.mesh_arena.specs.Mesh.{SlotValue, corners_at, corner_in}
 use Rattle.point_locate.specs.Place.{row_corners, IsAt}
-use Rattle.lowest_mesh_laws.specs.Living.{IsRowSlot, IsGhostSlot, IsLowestMesh}
-use Rattle.lowest_mesh_laws.proofs.Taken.{no_ghost, same_corners}
-use Rattle.lowest_mesh_laws.proofs.Rows.{same_row}
-use Rattle.lowest_mesh_laws.proofs.Across.{infinite_corner}
+use Rattle.mesh_laws.specs.LowestLiving.{IsRowSlot, IsGhostSlot, IsLowestMesh}
+use Rattle.mesh_laws.proofs.LowestTaken.{no_ghost, same_corners}
+use Rattle.mesh_laws.proofs.LowestRows.{same_row}
+use Rattle.mesh_laws.proofs.LowestAcross.{infinite_corner}
 use Rattle.cavity_insert.specs.Rows.{IsRowOf, AreRowsBelow, IsListOf, AreSortedRowsOf}
 
 -- ---- even arrangements

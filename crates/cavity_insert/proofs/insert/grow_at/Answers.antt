@@ -2,8 +2,8 @@ use Rattle.std.proofs.Common.{◌≡◌, ◌↔◌, true, false, IsTrue, List, s
 use Rattle.sign_predicates.specs.Point.{Point}
 use Rattle.geo_laws.specs.Delaunay.{point}
 use Rattle.point_locate.specs.Place.{IsPlace, IsSomePlace}
-use Rattle.lowest_mesh_laws.specs.Rule.{IsTaken}
-use Rattle.lowest_mesh_laws.specs.Laws.{IsWholeFrom}
+use Rattle.mesh_laws.specs.LowestRule.{IsTaken}
+use Rattle.mesh_laws.specs.LowestLaws.{IsWholeFrom}
 use Rattle.cavity_insert.proofs.LiftedRows.{corners_on, same_zone, same_grown}
 use Rattle.cavity_insert.proofs.Insertion.{somewhere, hidden_at, whole_at, cavity_for}
 use Rattle.cavity_insert.proofs.insert.grow_at.Goals as goal

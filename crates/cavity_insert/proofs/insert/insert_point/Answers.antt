@@ -4,7 +4,7 @@ use Rattle.mesh_arena.specs.Mesh.{IsLive}
 use Rattle.mesh_arena.specs.Replace.{Replaces}
 use Rattle.mesh_arena.specs.declared.slot.Corner.TheVariants.{Point as Numbered}
 use Rattle.mesh_arena.specs.declared.slot.Slot.{Slot}
-use Rattle.lowest_mesh_laws.specs.Living.{IsLowestMesh}
+use Rattle.mesh_laws.specs.LowestLiving.{IsLowestMesh}
 use Rattle.cavity_insert.specs.Insert.{IsReadyFor}
 use Rattle.cavity_insert.specs.Growth.{IsCavityOf}
 use Rattle.cavity_insert.proofs.Insertion.{CanReplace, replace_at, inserted_at, star_live, if_ok}

@@ -9,7 +9,7 @@ use Rattle.mesh_arena.specs.declared.slot.Slot.{Slot}
 use Rattle.geo_laws.specs.Height.{lifted}
 use Rattle.mesh_laws.specs.Rule.{IsTaken}
 use Rattle.mesh_laws.specs.Living.{IsDelaunayMesh}
-use Rattle.lowest_mesh_laws.specs.Living.{IsLowestMesh}
+use Rattle.mesh_laws.specs.LowestLiving.{IsLowestMesh}
 use Rattle.cavity_insert.specs.Growth.{IsCavityOf}
 use Rattle.cavity_insert.specs.Insert.{IsReadyFor}
 use Rattle.cavity_insert.specs.Lost.{IsToldOf}

@@ -1,7 +1,7 @@
 use Rattle.std.specs.Prelude.{IfOk}
 use Rattle.geo_laws.specs.Delaunay.{all_numbers}
 use Rattle.geo_laws.specs.Height.{lifted}
-use Rattle.lowest_mesh_laws.specs.Living.{IsLowestMesh}
+use Rattle.mesh_laws.specs.LowestLiving.{IsLowestMesh}
 use Rattle.mesh_laws.specs.Living.{IsDelaunayMesh}
 use Rattle.mesh_laws.proofs.Bridge as bridge
 use Rattle.cavity_insert.specs.declared.meshing.Built.{Built}

@@ -1,5 +1,5 @@
 use Rattle.std.proofs.Common.{Some, ap, ◌∙◌}
-use Rattle.lowest_mesh_laws.proofs.Taken.{taken_ghost}
+use Rattle.mesh_laws.proofs.LowestTaken.{taken_ghost}
 use Rattle.cavity_insert.proofs.LiftedRows.{row_for, test_slot}
 use Rattle.cavity_insert.proofs.search.ghost_conflicts.Goals as goal
 
