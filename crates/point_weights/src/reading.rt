@@ -2,7 +2,7 @@
 
 ghost use Rattle.std.specs.Prelude.{◌≡◌, ◌≤◌, ◌<◌, length, All, IfOk};
 ghost use Rattle.node_files.specs.Writing.{IsNodeTable};
-ghost use Rattle.weighted_signs.specs.Weighted.{IsWeight};
+ghost use Rattle.sign_predicates.specs.Weighted.{IsWeight};
 ghost use Rattle.point_weights.specs.Weights.{weight_in, weight_of, ReadsWeights};
 
 use crate::WeightFault;

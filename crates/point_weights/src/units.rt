@@ -3,7 +3,7 @@
 ghost use Rattle.std.specs.Prelude.{◌≡◌, ◌≤◌, ◌*◌, ◌^◌, IfSome};
 ghost use Rattle.tet_text.specs.Decimals.{signed};
 ghost use Rattle.grid_coords.specs.Rounding.{rounded};
-ghost use Rattle.weighted_signs.specs.Weighted.{IsWeight};
+ghost use Rattle.sign_predicates.specs.Weighted.{IsWeight};
 ghost use Rattle.point_weights.specs.Weights.{weight_units};
 
 use grid_coords::{Grid, round_to, units_within};

@@ -16,8 +16,8 @@ use Rattle.geo_laws.proofs.Lift.{lowest_of, delaunay_of}
 use Rattle.geo_laws.proofs.Radical.{law_radical}
 use Rattle.geo_laws.proofs.LeastHeight.{law_least_height}
 use Rattle.insert_laws.proofs.Cover.{law_cover}
-use Rattle.weighted_signs.specs.Weighted.{in_weighted_sphere}
-use Rattle.weighted_signs.proofs.Terms.{weighted_sum_is, in_weighted_sphere_is}
+use Rattle.sign_predicates.specs.Weighted.{in_weighted_sphere}
+use Rattle.sign_predicates.proofs.WeightedTerms.{weighted_sum_is, in_weighted_sphere_is}
 use Rattle.regular_laws.specs.Regular.{weight, corner_weights, weighted_lift}
 use Rattle.regular_laws.specs.Laws.{WeightedLiftLaw, RegularRowLaw, WeightedRadicalLaw, WeightedLeastHeightLaw, WeightedCoverLaw, NoWeightsLaw}
 use Rattle.regular_laws.proofs.Votes.{sum_decides}

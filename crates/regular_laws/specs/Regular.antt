@@ -8,8 +8,8 @@ use Rattle.sign_predicates.specs.Orientation.{IsPositive}
 use Rattle.sign_predicates.specs.Sphere.{square_length}
 use Rattle.geo_laws.specs.Delaunay.{point, corners, numbers, as_numbers, all_numbers, IsAmong, IsArranged, RowBefore}
 use Rattle.geo_laws.specs.declared.tetrahedra.Tet.{Tet}
-use Rattle.weighted_signs.specs.Weighted.{IsWeight, is_outside_weighted}
-use Rattle.weighted_signs.specs.declared.weighted.FourWeights.{FourWeights}
+use Rattle.sign_predicates.specs.Weighted.{IsWeight, is_outside_weighted}
+use Rattle.sign_predicates.specs.declared.weighted.FourWeights.{FourWeights}
 
 -- the weight of the point with this number
 abbrev pub weight : List ℤ → ℕ → ℤ

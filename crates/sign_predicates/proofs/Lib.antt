@@ -20,3 +20,4 @@ pub mod Enter
 pub mod Triangles
 pub mod Apart
 pub mod SphereReach
+pub mod WeightedTerms

@@ -11,3 +11,4 @@ pub mod Entering
 pub mod Centroid
 pub mod Ties
 pub mod Reach
+pub mod Weighted

@@ -16,6 +16,8 @@ mod sphere;
 mod tetrahedron;
 mod vector;
 mod volumes;
+mod weighted;
+mod weighted_sums;
 
 pub use centroid::{normal_sign, orient_centroid, turn_centroid, turn_sign};
 pub use entering::triangle_enters;
@@ -28,3 +30,4 @@ pub use reach::sphere_reach;
 pub use sphere::{outside, wins_tie};
 pub use tetrahedron::{Corners, Hold, Numbers, Sign};
 pub use vector::{Vector, from_to};
+pub use weighted::{FourWeights, outside_weighted};

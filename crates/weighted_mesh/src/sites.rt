@@ -4,7 +4,7 @@ ghost use Rattle.geo_laws.specs.Delaunay.{point, as_numbers};
 ghost use Rattle.point_locate.specs.Place.{AreOn, row_corners};
 ghost use Rattle.regular_laws.specs.Regular.{weight, corner_weights, is_weighted_outside};
 ghost use Rattle.regular_laws.specs.Regular.{AreWeightsOf, weighted_lift};
-ghost use Rattle.weighted_signs.specs.Weighted.{IsWeight, AreWeights};
+ghost use Rattle.sign_predicates.specs.Weighted.{IsWeight, AreWeights};
 ghost use Rattle.weighted_mesh.specs.Sites.{weighted};
 
 use cavity_insert::Lift;
@@ -13,7 +13,7 @@ use point_locate::row_points;
 use regular_laws::Weights;
 use sign_predicates::{GridPoint, Numbers};
 use std::marker::Model;
-use weighted_signs::{FourWeights, outside_weighted};
+use sign_predicates::{FourWeights, outside_weighted};
 
 /// A list of points, and a weight for each: a point is lifted by its squared length less its
 /// weight. Contracts see the points and the weights.

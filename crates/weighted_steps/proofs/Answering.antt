@@ -5,7 +5,7 @@ use Rattle.std.specs.List.{range_with_len}
 use Rattle.std.proofs.lemmas.Bool.{cases_lt, cond-true}
 use Rattle.std.proofs.lemmas.List.{get_or_past, get_or-map, length-map}
 use Rattle.sign_predicates.specs.Point.{Point}
-use Rattle.weighted_signs.specs.Weighted.{IsWeight}
+use Rattle.sign_predicates.specs.Weighted.{IsWeight}
 use Rattle.geo_laws.specs.Delaunay.{all_numbers, IsDelaunayList, delaunay_rows}
 use Rattle.geo_laws.specs.declared.tetrahedra.Tet.{Tet}
 use Rattle.geo_laws.proofs.Ascending.{ascending-same}

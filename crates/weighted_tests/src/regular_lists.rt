@@ -2,7 +2,7 @@
 ghost use Rattle.std.specs.Prelude.{ℕ, ◌≡◌, ◌≢◌, ◌<◌, ◌≤◌, ◌^◌, All, IsTrue, length, unsigned_abs};
 ghost use Rattle.geo_laws.specs.Delaunay.{point, HasDistinctPoints};
 ghost use Rattle.regular_laws.specs.Regular.{AreWeightsOf};
-ghost use Rattle.weighted_signs.specs.Weighted.{IsWeight, AreWeights};
+ghost use Rattle.sign_predicates.specs.Weighted.{IsWeight, AreWeights};
 
 use cavity_insert::BuildFault;
 use geo_laws::{Points, Tet, TetList};
@@ -11,7 +11,7 @@ use sign_predicates::{Corners, GridPoint, Numbers, Sign, orient};
 use std::alloc::Global;
 use tet_ports::NoMemory;
 use weighted_mesh::regular;
-use weighted_signs::{FourWeights, outside_weighted};
+use sign_predicates::{FourWeights, outside_weighted};
 
 fn grid_point(p: [i8; 3]) -> GridPoint {
     GridPoint {

@@ -2,8 +2,8 @@ use Rattle.std.proofs.Common.{◌≡◌, ◌+◌, length, ◌∷◌, [], ◌++�
 use Rattle.std.specs.Prelude.{All}
 use Rattle.std.proofs.lemmas.List.Elements.{All-push}
 use Rattle.std.proofs.lemmas.Result.{err_from_is_err_and}
-use Rattle.weighted_signs.specs.Weighted.{IsWeight}
-use Rattle.weighted_signs.proofs.Terms.{weight_back}
+use Rattle.sign_predicates.specs.Weighted.{IsWeight}
+use Rattle.sign_predicates.proofs.WeightedTerms.{weight_back}
 use Rattle.point_weights.specs.Weights.{ReadsWeights, behind}
 use Rattle.point_weights.proofs.ListedWeights.{weights_from, one_read, one_refused, all_read, refused}
 use Rattle.point_weights.proofs.reading.read_weights.Goals as goal

@@ -1,6 +1,6 @@
 use Rattle.std.proofs.Common.{◌≡◌, length}
 use Rattle.std.specs.Prelude.{All}
-use Rattle.weighted_signs.specs.Weighted.{IsWeight}
+use Rattle.sign_predicates.specs.Weighted.{IsWeight}
 use Rattle.point_weights.specs.Weights.{behind, weights_of}
 use Rattle.point_weights.proofs.ListedWeights.{weights_from}
 use Rattle.point_weights.proofs.reading.read_weights.Given as goal

@@ -1,6 +1,6 @@
 use Rattle.std.proofs.Common.{◌∙◌, w64, arith}
 use Rattle.exact_algebra.proofs.Size.{read}
-use Rattle.weighted_signs.specs.Weighted.{is_outside_weighted}
+use Rattle.sign_predicates.specs.Weighted.{is_outside_weighted}
 use Rattle.weighted_mesh.proofs.sites.is_outside.Goals as goal
 
 pub weights_of-requires-clause-inside : goal.weights_of-requires-clause-inside

@@ -1,6 +1,6 @@
 use Rattle.std.proofs.Common.{ℕ, ◌<◌, ℤ}
 use Rattle.std.specs.List.{slice_index_or}
-use Rattle.weighted_signs.specs.Weighted.{IsWeight}
+use Rattle.sign_predicates.specs.Weighted.{IsWeight}
 use Rattle.weighted_tests.proofs.regular_lists.are_weights.Given as goal
 
 abbrev pub invariant-loop-i : goal.invariant-loop-i

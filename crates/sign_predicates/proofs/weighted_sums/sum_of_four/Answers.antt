@@ -1,9 +1,9 @@
 use Rattle.std.proofs.Common.{◌≡◌, ◌*◌, ◌^◌, [], ◌∷◌, refl, arith, ℤ, w64, to_z, of_z, unsigned_abs, ◌≤◌}
 use Rattle.exact_algebra.proofs.Size.{machine_at, raw_fits_at, back}
 use Rattle.sign_predicates.proofs.Products.{one_product, two_products, three_products, four_products}
-use Rattle.weighted_signs.proofs.Terms.{sum_bounds}
+use Rattle.sign_predicates.proofs.WeightedTerms.{sum_bounds}
 use mir.Syntax.{w128}
-use Rattle.weighted_signs.proofs.sums.sum_of_four.Goals as goal
+use Rattle.sign_predicates.proofs.weighted_sums.sum_of_four.Goals as goal
 
 abbrev read : ℤ → ℤ
 read z = to_z w64 (of_z w64 z)

@@ -7,8 +7,8 @@ use Rattle.sign_predicates.specs.Orientation.{det}
 use Rattle.sign_predicates.specs.Sphere.{square_length}
 use Rattle.sign_predicates.proofs.Products.{three_squares}
 use Rattle.sign_predicates.specs.declared.tetrahedron.Corners.{Corners}
-use Rattle.weighted_signs.specs.Weighted.{IsWeight, weighted_sum, in_weighted_sphere}
-use Rattle.weighted_signs.specs.declared.weighted.FourWeights.{FourWeights}
+use Rattle.sign_predicates.specs.Weighted.{IsWeight, weighted_sum, in_weighted_sphere}
+use Rattle.sign_predicates.specs.declared.weighted.FourWeights.{FourWeights}
 
 abbrev pub coordinate_bounds : List ℕ
 coordinate_bounds = 2 ^ 49 ∷ 2 ^ 24 ∷ 2 ^ 49 ∷ 2 ^ 24 ∷ 2 ^ 49 ∷ 2 ^ 24 ∷ []

@@ -6,7 +6,7 @@ use Rattle.sign_predicates.specs.Orientation.{det}
 use Rattle.sign_predicates.specs.Sphere.{square_length, wins_tie}
 use Rattle.sign_predicates.specs.declared.tetrahedron.Corners.{Corners}
 use Rattle.sign_predicates.specs.declared.tetrahedron.Numbers.{Numbers}
-use Rattle.weighted_signs.specs.declared.weighted.FourWeights.{FourWeights}
+use Rattle.sign_predicates.specs.declared.weighted.FourWeights.{FourWeights}
 
 -- a weight is at most 2^46 in size
 abbrev pub IsWeight : ℤ → Type 0

@@ -1,10 +1,10 @@
 //! The sphere test of weighted points, with ties by the points' numbers.
 ghost use Rattle.std.specs.Prelude.{◌≡◌, ◌↔◌, int_lt, pos, IsTrue};
-ghost use Rattle.weighted_signs.specs.Weighted.{IsWeight, AreWeights, in_weighted_sphere};
-ghost use Rattle.weighted_signs.specs.Weighted.{weighted_sum, is_outside_weighted};
+ghost use Rattle.sign_predicates.specs.Weighted.{IsWeight, AreWeights, in_weighted_sphere};
+ghost use Rattle.sign_predicates.specs.Weighted.{weighted_sum, is_outside_weighted};
 
-use crate::sums::{det_of_minors, minor, rise, sum_of_four};
-use sign_predicates::{Corners, GridPoint, Numbers, Vector, from_to, wins_tie};
+use crate::weighted_sums::{det_of_minors, minor, rise, sum_of_four};
+use crate::{Corners, GridPoint, Numbers, Vector, from_to, wins_tie};
 
 /// The weights of a tetrahedron's corners, in squares of grid units. Each is at most `2^46` in
 /// size.

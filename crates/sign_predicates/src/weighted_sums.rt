@@ -3,9 +3,9 @@ ghost use Rattle.std.specs.Prelude.{◌≡◌, ◌+◌, ◌*◌, ◌^◌, ◌≤
 ghost use Rattle.sign_predicates.specs.Orientation.{det};
 ghost use Rattle.sign_predicates.specs.Sphere.{square_length};
 ghost use Rattle.sign_predicates.specs.Vector.{det_of_two, minor};
-ghost use Rattle.weighted_signs.specs.Weighted.{IsWeight};
+ghost use Rattle.sign_predicates.specs.Weighted.{IsWeight};
 
-use sign_predicates::Vector;
+use crate::Vector;
 
 /// The determinant of the rows `a b` and `c d`.
 fn det_of_two(a: i32, b: i32, c: i32, d: i32) -> i64

@@ -3,7 +3,7 @@ use Rattle.exact_algebra.proofs.Ring.{eval}
 use Rattle.exact_algebra.proofs.Size.{machine_cast, machine, cast, raw_fits_cast, eval_within, AllWithin}
 use Rattle.sign_predicates.specs.Vector.{det_of_two}
 use Rattle.sign_predicates.proofs.Products.{two_by_two, two_by_two_bounds}
-use Rattle.weighted_signs.proofs.sums.det_of_two.Goals as goal
+use Rattle.sign_predicates.proofs.weighted_sums.det_of_two.Goals as goal
 
 pub overflow_sub-result : goal.overflow_sub-result
 overflow_sub-result c = raw_fits_cast w64 w32 two_by_two_bounds (c.args.a ∷ c.args.b ∷ c.args.c ∷ c.args.d ∷ []) two_by_two (omega arith) tt tt

@@ -1,9 +1,9 @@
 use Rattle.std.proofs.Common.{◌∙◌}
 use Rattle.exact_algebra.proofs.Size.{read}
-use Rattle.weighted_signs.specs.Weighted.{weighted_sum}
-use Rattle.weighted_signs.proofs.Terms.{in_weighted_sphere_is, weight_back}
+use Rattle.sign_predicates.specs.Weighted.{weighted_sum}
+use Rattle.sign_predicates.proofs.WeightedTerms.{in_weighted_sphere_is, weight_back}
 use mir.Syntax.{w128}
-use Rattle.weighted_signs.proofs.weighted.in_weighted_sphere.Goals as goal
+use Rattle.sign_predicates.proofs.weighted.in_weighted_sphere.Goals as goal
 
 pub returns : goal.returns
 returns c =

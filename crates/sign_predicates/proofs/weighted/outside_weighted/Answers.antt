@@ -3,10 +3,10 @@ use Rattle.std.specs.Prelude.{int_lt}
 use Rattle.exact_algebra.proofs.Size.{read}
 use Rattle.sign_predicates.specs.Sphere.{wins_tie}
 use Rattle.sign_predicates.proofs.Holds.{tests_zero, tests_not_zero}
-use Rattle.weighted_signs.specs.Weighted.{in_weighted_sphere}
-use Rattle.weighted_signs.proofs.Terms.{weight_back}
+use Rattle.sign_predicates.specs.Weighted.{in_weighted_sphere}
+use Rattle.sign_predicates.proofs.WeightedTerms.{weight_back}
 use mir.Syntax.{w128}
-use Rattle.weighted_signs.proofs.weighted.outside_weighted.Goals as goal
+use Rattle.sign_predicates.proofs.weighted.outside_weighted.Goals as goal
 
 pub returns-then-vanishes : goal.returns-then-vanishes
 returns-then-vanishes c =

@@ -2,9 +2,9 @@ use Rattle.std.proofs.Common.{◌≡◌, ◌*◌, ◌^◌, ◌≤◌, List, [], 
 use Rattle.exact_algebra.proofs.Ring.{eval}
 use Rattle.exact_algebra.proofs.Size.{machine_cast, machine, cast, raw_fits_cast, eval_within, AllWithin}
 use Rattle.sign_predicates.proofs.Products.{two_products, three_products}
-use Rattle.weighted_signs.proofs.Terms.{coordinate_bounds}
+use Rattle.sign_predicates.proofs.WeightedTerms.{coordinate_bounds}
 use mir.Syntax.{w128}
-use Rattle.weighted_signs.proofs.sums.sum_of_three.Goals as goal
+use Rattle.sign_predicates.proofs.weighted_sums.sum_of_three.Goals as goal
 
 pub overflow_sub-result : goal.overflow_sub-result
 overflow_sub-result c = raw_fits_cast w128 w64 coordinate_bounds (c.args.a ∷ c.args.x ∷ c.args.b ∷ c.args.y ∷ []) two_products (omega arith) tt tt

@@ -2,8 +2,8 @@ use Rattle.std.proofs.Common.{◌≡◌, ◌*◌, ◌^◌, ◌≤◌, List, [], 
 use Rattle.exact_algebra.proofs.Ring.{eval}
 use Rattle.exact_algebra.proofs.Size.{machine, machine_at, raw_fits_at, eval_within, AllWithin, back}
 use Rattle.sign_predicates.proofs.Products.{two_squares, three_squares}
-use Rattle.weighted_signs.proofs.Terms.{lowered, raised, rise_bounds}
-use Rattle.weighted_signs.proofs.sums.raised_squares.Goals as goal
+use Rattle.sign_predicates.proofs.WeightedTerms.{lowered, raised, rise_bounds}
+use Rattle.sign_predicates.proofs.weighted_sums.raised_squares.Goals as goal
 
 abbrev read : ℤ → ℤ
 read z = to_z w32 (of_z w32 z)

@@ -1,9 +1,9 @@
 use Rattle.std.proofs.Common.{◌∙◌, ◌+ℤ◌, ◌-ℤ◌, ◌*ℤ◌, w64}
 use Rattle.exact_algebra.proofs.Size.{read}
 use Rattle.sign_predicates.specs.Sphere.{square_length}
-use Rattle.weighted_signs.proofs.Terms.{weighted_sum_is, weight_back}
+use Rattle.sign_predicates.proofs.WeightedTerms.{weighted_sum_is, weight_back}
 use mir.Syntax.{w128}
-use Rattle.weighted_signs.proofs.weighted.weighted_sum.Goals as goal
+use Rattle.sign_predicates.proofs.weighted.weighted_sum.Goals as goal
 
 pub returns : goal.returns
 returns c =

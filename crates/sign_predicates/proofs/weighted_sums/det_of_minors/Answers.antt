@@ -4,7 +4,7 @@ use Rattle.sign_predicates.specs.Point.{Point}
 use Rattle.sign_predicates.proofs.Products.{det_along_third}
 use Rattle.sign_predicates.proofs.Vectors.{wide_back}
 use mir.Syntax.{w128}
-use Rattle.weighted_signs.proofs.sums.det_of_minors.Goals as goal
+use Rattle.sign_predicates.proofs.weighted_sums.det_of_minors.Goals as goal
 
 pub returns-clause-value : goal.returns-clause-value
 returns-clause-value c =
