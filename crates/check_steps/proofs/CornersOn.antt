@@ -4,7 +4,7 @@ use Rattle.std.specs.Prelude.{All}
 use Rattle.sign_predicates.specs.Point.{Point}
 use Rattle.geo_laws.specs.Delaunay.{IsOn, numbers}
 use Rattle.geo_laws.specs.declared.tetrahedra.Tet.{Tet}
-use Rattle.mesh_readers.specs.Rows.{IsBelow}
+use Rattle.mesh_files.specs.ReadRows.{IsBelow}
 
 row_on : (ps : List Point) (n : ℕ) (t : Tet) → length ps ≡ n → IsBelow n t → IsOn ps t
 row_on ps n t e h zero d lt = let a = h.a in omega arith

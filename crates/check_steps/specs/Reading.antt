@@ -7,7 +7,7 @@ use Rattle.tet_text.specs.declared.fault.TextFault.{TextFault}
 use Rattle.geo_laws.specs.declared.tetrahedra.Tet.{Tet}
 use Rattle.incidence.specs.declared.pairs.Across.{Across}
 use Rattle.mesh_files.specs.declared.markers.FaceRow.{FaceRow}
-use Rattle.mesh_readers.specs.Rows.{ele_of, face_of, neigh_of}
+use Rattle.mesh_files.specs.ReadRows.{ele_of, face_of, neigh_of}
 use Rattle.node_files.specs.Node.{node_of}
 use Rattle.node_files.specs.declared.node_text.NodeText.{NodeText}
 use Rattle.check_steps.specs.Steps.{FolderSeen, AndThen, Gives}

@@ -1,7 +1,7 @@
 //! The check of the files of a mesh.
 
 ghost use Rattle.std.specs.Prelude.{◌≡◌, ◌≤◌, length, All, IfOk};
-ghost use Rattle.mesh_readers.specs.Rows.{IsBelow};
+ghost use Rattle.mesh_files.specs.ReadRows.{IsBelow};
 ghost use Rattle.check_steps.specs.Checking.{LeastGridAnswer, VerdictAnswer, TextChecked, CheckAnswer};
 ghost use Rattle.check_steps.specs.Steps.{folder_seen};
 

@@ -1,7 +1,7 @@
 //! The files of a mesh.
 
 ghost use Rattle.std.specs.Prelude.{◌≡◌, ◌≤◌, ◌++◌, codes, length, All, IfOk, IfErr};
-ghost use Rattle.mesh_readers.specs.Rows.{IsBelow};
+ghost use Rattle.mesh_files.specs.ReadRows.{IsBelow};
 ghost use Rattle.node_files.specs.Node.{IsNodeText};
 ghost use Rattle.check_steps.specs.Steps.{folder_seen};
 ghost use Rattle.check_steps.specs.Reading.{most_bytes, nodes_of, rows_of, faces_of, neighbors_of, IsRead, IsUnfetched, TextAnswer, FileAnswer, NeighborsAnswer, MeshAnswer};
@@ -9,7 +9,7 @@ ghost use Rattle.check_steps.specs.Reading.{most_bytes, nodes_of, rows_of, faces
 use crate::CheckFault;
 use geo_laws::TetList;
 use mesh_files::FaceRows;
-use mesh_readers::{MeshFault, Neighbors, read_ele, read_face, read_neigh};
+use mesh_files::{MeshFault, Neighbors, read_ele, read_face, read_neigh};
 use node_files::{NodeFault, NodeText, read_node};
 use std::alloc::Global;
 use tet_ports::{Bytes, FetchFault, Folder, Name, NoMemory};

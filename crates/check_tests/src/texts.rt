@@ -4,7 +4,7 @@ ghost use Rattle.std.specs.Prelude.{◌<◌, ◌≤◌, ◌-◌, ◌^◌, IfSome
 
 use geo_laws::Points;
 use mesh_grid::settle_least;
-use mesh_readers::{MeshFault, read_ele, read_face, read_neigh};
+use mesh_files::{MeshFault, read_ele, read_face, read_neigh};
 use node_files::read_node;
 use std::alloc::Global;
 use tet_ports::Bytes;

@@ -21,7 +21,7 @@ use crate::{Defect, Verdict};
 use geo_laws::{Points, TetList};
 use incidence::{Pairs, pair_faces};
 use mesh_files::FaceRows;
-use mesh_readers::Neighbors;
+use mesh_files::Neighbors;
 use std::alloc::Global;
 use tet_ports::NoMemory;
 

@@ -9,7 +9,7 @@ ghost use Rattle.mesh_check.specs.Searches.{IsFirstOf, IsFirstPair};
 use crate::face_set::entry_in;
 use geo_laws::TetList;
 use incidence::{Across, Pairs};
-use mesh_readers::Neighbors;
+use mesh_files::Neighbors;
 
 /// A row has so many corners.
 const CORNERS: u8 = 4;

@@ -9,3 +9,4 @@ pub mod Spans
 pub mod EleTexts
 pub mod Pieces
 pub mod NextFields
+pub mod Repeats

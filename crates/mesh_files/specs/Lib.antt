@@ -3,3 +3,7 @@ pub mod Fields
 pub mod FacetFaces
 pub mod Laws
 pub mod Texts
+pub mod Outcome
+pub mod Repeated
+pub mod ReadFields
+pub mod ReadRows

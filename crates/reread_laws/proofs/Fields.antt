@@ -8,8 +8,8 @@ use Rattle.tet_text.specs.declared.fault.TextFault.{TextFault}
 use Rattle.tet_text.specs.Faults.{not_a_number, bad_index, bad_count}
 use Rattle.tet_text.specs.Reading.{◌>>=◌, Fields, count_at, whole_at}
 use Rattle.node_files.specs.Header.{count_within, count_or, is_within}
-use Rattle.mesh_readers.specs.Fields.{numbered, corner_at, is_listed}
-use Rattle.mesh_readers.specs.Rows.{neighbor_at, place_of, marker_at}
+use Rattle.mesh_files.specs.ReadFields.{numbered, corner_at, is_listed}
+use Rattle.mesh_files.specs.ReadRows.{neighbor_at, place_of, marker_at}
 use Rattle.mesh_files.specs.Texts.{neighbor}
 use Rattle.reread_laws.specs.Reread.{IsShort}
 use Rattle.reread_laws.proofs.Decimals.{count_is, whole_is}

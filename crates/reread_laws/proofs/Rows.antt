@@ -11,9 +11,9 @@ use Rattle.geo_laws.specs.declared.tetrahedra.Tet.{Tet}
 use Rattle.incidence.specs.declared.pairs.Across.{Across}
 use Rattle.mesh_files.specs.Texts.{line_of, ele_line, ele_lines, face_line, face_lines, neigh_line, neigh_lines, neighbor}
 use Rattle.mesh_files.specs.declared.markers.FaceRow.{FaceRow}
-use Rattle.mesh_readers.specs.Fields.{four_head, flag_head, flag_at, passed_over}
-use Rattle.mesh_readers.specs.Repeated.{so_many, next_row}
-use Rattle.mesh_readers.specs.Rows.{tet_row, tets_of, face_row, faces_of, across_row, neighbors_of}
+use Rattle.mesh_files.specs.ReadFields.{four_head, flag_head, flag_at, passed_over}
+use Rattle.mesh_files.specs.Repeated.{so_many, next_row}
+use Rattle.mesh_files.specs.ReadRows.{tet_row, tets_of, face_row, faces_of, across_row, neighbors_of}
 use Rattle.written_laws.specs.Renamed.{renamed_row, renamed_face}
 use Rattle.reread_laws.specs.Reread.{IsShort, HasNames, HasFaceNames, AreBelow, EleReadLaw, FaceReadLaw, NeighReadLaw}
 use Rattle.reread_laws.proofs.Words.{AreWords, joined, line_read}

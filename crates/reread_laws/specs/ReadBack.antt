@@ -8,7 +8,7 @@ use Rattle.incidence.specs.Pairs.{pairs_of}
 use Rattle.incidence.specs.declared.pairs.Across.{Across}
 use Rattle.mesh_files.specs.Texts.{ele_text, face_text, neigh_text}
 use Rattle.mesh_files.specs.declared.markers.FaceRow.{FaceRow}
-use Rattle.mesh_readers.specs.Rows.{ele_of, face_of, neigh_of}
+use Rattle.mesh_files.specs.ReadRows.{ele_of, face_of, neigh_of}
 use Rattle.node_files.specs.Node.{node_of}
 use Rattle.node_files.specs.Writing.{node_text}
 use Rattle.node_files.specs.declared.node_text.NodeText.{NodeText}

@@ -5,7 +5,7 @@ use Rattle.geo_laws.specs.declared.tetrahedra.Tet.{Tet}
 use Rattle.incidence.specs.declared.pairs.Across.{Across}
 use Rattle.mesh_files.specs.Texts.{ele_text, face_text, neigh_text}
 use Rattle.mesh_files.specs.declared.markers.FaceRow.{FaceRow}
-use Rattle.mesh_readers.specs.Rows.{ele_of, face_of, neigh_of}
+use Rattle.mesh_files.specs.ReadRows.{ele_of, face_of, neigh_of}
 use Rattle.written_laws.specs.Renamed.{renamed_row, renamed_face}
 
 -- a number of up to 18 digits, as readers take them

@@ -1,7 +1,7 @@
 //! The answers to queries.
 
 ghost use Rattle.std.specs.Prelude.{◌≡◌, ◌≤◌, ◌<◌, ◌+◌, ◌-◌, ◌^◌, ◌++◌, length, All, IfOk, OnOk};
-ghost use Rattle.mesh_readers.specs.Rows.{IsBelow};
+ghost use Rattle.mesh_files.specs.ReadRows.{IsBelow};
 ghost use Rattle.row_cells.specs.Parts.{ArePositiveOn, StandsFor};
 ghost use Rattle.check_steps.specs.Steps.{folder_seen};
 ghost use Rattle.where_steps.specs.Locating.{found_row_text, query_line, answer_text, AnswersAnswer, TextLocated, LocateAnswer};

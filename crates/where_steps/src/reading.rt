@@ -1,7 +1,7 @@
 //! The files of a mesh, and a list of queries.
 
 ghost use Rattle.std.specs.Prelude.{◌≡◌, ◌≤◌, ◌<◌, ◌-◌, ◌^◌, length, All, IfOk};
-ghost use Rattle.mesh_readers.specs.Rows.{IsBelow};
+ghost use Rattle.mesh_files.specs.ReadRows.{IsBelow};
 ghost use Rattle.check_steps.specs.Steps.{folder_seen};
 ghost use Rattle.where_steps.specs.Reading.{WhereTextAnswer};
 

@@ -1,7 +1,7 @@
 //! The points of a mesh on their least grid, and whether its rows are positive.
 
 ghost use Rattle.std.specs.Prelude.{◌≡◌, length, All, IfOk};
-ghost use Rattle.mesh_readers.specs.Rows.{IsBelow};
+ghost use Rattle.mesh_files.specs.ReadRows.{IsBelow};
 ghost use Rattle.where_steps.specs.Locating.{SettledAnswer, PositiveAnswer};
 
 use crate::reading::WhereText;

@@ -8,9 +8,9 @@ use Rattle.tet_text.specs.Reading.{◌>>=◌, Fields, whole_at, end_at, line_at,
 use Rattle.geo_laws.specs.declared.tetrahedra.Tet.{Tet}
 use Rattle.incidence.specs.declared.pairs.Across.{Across}
 use Rattle.mesh_files.specs.declared.markers.FaceRow.{FaceRow}
-use Rattle.mesh_readers.specs.declared.fields.Listed.{Listed}
-use Rattle.mesh_readers.specs.Fields.{four_head, flag_head, numbered, corner_at, passed_over}
-use Rattle.mesh_readers.specs.Repeated.{so_many, next_row}
+use Rattle.mesh_files.specs.declared.field_reading.Listed.{Listed}
+use Rattle.mesh_files.specs.ReadFields.{four_head, flag_head, numbered, corner_at, passed_over}
+use Rattle.mesh_files.specs.Repeated.{so_many, next_row}
 
 -- ---- tetrahedra
 

@@ -4,12 +4,12 @@ ghost use Rattle.std.specs.Prelude.{◌≡◌, ◌<◌, ◌-◌, ◌+◌, ◌^�
 ghost use Rattle.tet_text.specs.Lines.{content_lines, line_count_of};
 ghost use Rattle.tet_text.specs.Reading.{left_after};
 ghost use Rattle.tet_text.specs.Views.{content_left, line_total};
-ghost use Rattle.mesh_readers.specs.Outcome.{Gives};
-ghost use Rattle.mesh_readers.specs.Repeated.{so_many, next_row};
-ghost use Rattle.mesh_readers.specs.Rows.{place_of, neighbor_at, across_row, neighbors_of, neigh_of};
+ghost use Rattle.mesh_files.specs.Outcome.{Gives};
+ghost use Rattle.mesh_files.specs.Repeated.{so_many, next_row};
+ghost use Rattle.mesh_files.specs.ReadRows.{place_of, neighbor_at, across_row, neighbors_of, neigh_of};
 
 use crate::MeshFault;
-use crate::fields::{Head, read_four_head, read_number};
+use crate::field_reading::{Head, read_four_head, read_number};
 use incidence::Across;
 use std::alloc::Global;
 use tet_ports::{Bytes, Items};
@@ -31,7 +31,7 @@ fn place_of(first: u32, number: i64) -> Option<Option<usize>>
 }
 
 /// A neighbor.
-#[tactic(auto, unfolding(crate::specs::Rows::neighbor_at))]
+#[tactic(auto, unfolding(crate::specs::ReadRows::neighbor_at))]
 fn read_neighbor(first: u32, fields: &mut Fields) -> Result<Option<usize>, TextFault>
     ensures value { left_after (λ n. n) result fields.new.fields
         ≡ neighbor_at first fields.old.line fields.old.fields }
@@ -45,7 +45,7 @@ fn read_neighbor(first: u32, fields: &mut Fields) -> Result<Option<usize>, TextF
 }
 
 /// A row with the wanted number: its four neighbors.
-#[tactic(auto, unfolding(crate::specs::Rows::across_row))]
+#[tactic(auto, unfolding(crate::specs::ReadRows::across_row))]
 fn read_row(first: u32, wanted: u64, fields: &mut Fields) -> Result<Across, TextFault>
     ensures { result ≡ across_row first wanted fields.old }
 {
@@ -91,7 +91,7 @@ fn read_rows(
     Ok(rows)
 }
 
-#[tactic(auto, unfolding(crate::specs::Rows::neighbors_of))]
+#[tactic(auto, unfolding(crate::specs::ReadRows::neighbors_of))]
 fn read_list(alloc: Global, first: u32, lines: &mut Lines) -> Result<Neighbors, MeshFault>
     requires { line_total lines.old + 1 < 2 ^ 64 }
     ensures { Gives (λ rows. rows) result

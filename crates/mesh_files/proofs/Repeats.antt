@@ -3,10 +3,10 @@ use Rattle.std.proofs.Common.{◌≡◌, ℕ, suc, ◌+◌, ◌-◌, ◌<◌, �
 use Rattle.std.proofs.lemmas.List.{append-nil}
 use Rattle.tet_text.specs.declared.fault.TextFault.{TextFault}
 use Rattle.tet_text.specs.Reading.{◌>>=◌}
-use Rattle.mesh_readers.specs.declared.fault.MeshFault.{MeshFault}
-use Rattle.mesh_readers.specs.declared.fault.MeshFault.TheVariants as faults
-use Rattle.mesh_readers.specs.Outcome.{Fails}
-use Rattle.mesh_readers.specs.Repeated.{so_many, onto}
+use Rattle.mesh_files.specs.declared.fault.MeshFault.{MeshFault}
+use Rattle.mesh_files.specs.declared.fault.MeshFault.TheVariants as faults
+use Rattle.mesh_files.specs.Outcome.{Fails}
+use Rattle.mesh_files.specs.Repeated.{so_many, onto}
 
 abbrev Read : Type 0 → Type 0 → Type 0
 Read X R = Result (List X × R) TextFault

@@ -3,7 +3,7 @@
 ghost use Rattle.std.specs.Prelude.{◌≡◌, ◌<◌, ◌≤◌, ◌+◌, ◌-◌, ◌^◌, drop, IfOk};
 ghost use Rattle.tet_text.specs.Reading.{left_after};
 ghost use Rattle.node_files.specs.Header.{is_within, count_within};
-ghost use Rattle.mesh_readers.specs.Fields.{is_listed, flag_at, numbered, corner_at, passed_over, four_head, flag_head};
+ghost use Rattle.mesh_files.specs.ReadFields.{is_listed, flag_at, numbered, corner_at, passed_over, four_head, flag_head};
 
 use node_files::count_or;
 use tet_text::{Fields, TextFault, TextKind};
@@ -47,7 +47,7 @@ fn count_within(least: u64, most: u64, fields: &mut Fields) -> Result<u64, TextF
 }
 
 /// The flag, which may be missing, where there may be one.
-#[tactic(auto, unfolding(crate::specs::Fields::flag_at))]
+#[tactic(auto, unfolding(crate::specs::ReadFields::flag_at))]
 fn read_flag(flagged: bool, fields: &mut Fields) -> Result<bool, TextFault>
     ensures value { left_after (λ b. b) result fields.new.fields
         ≡ flag_at flagged fields.old.line fields.old.fields }
@@ -61,7 +61,7 @@ fn read_flag(flagged: bool, fields: &mut Fields) -> Result<bool, TextFault>
 }
 
 /// How many rows there are, then a 4, then the flag where there may be one.
-#[tactic(auto, unfolding(crate::specs::Fields::four_head))]
+#[tactic(auto, unfolding(crate::specs::ReadFields::four_head))]
 pub(crate) fn read_four_head(flagged: bool, fields: &mut Fields) -> Result<Head, TextFault>
     ensures value { result ≡ four_head flagged fields.old }
     ensures small { IfOk result (λ head. head.count < 10 ^ 18) }
@@ -74,7 +74,7 @@ pub(crate) fn read_four_head(flagged: bool, fields: &mut Fields) -> Result<Head,
 }
 
 /// How many rows there are, then the flag, which may be missing.
-#[tactic(auto, unfolding(crate::specs::Fields::flag_head))]
+#[tactic(auto, unfolding(crate::specs::ReadFields::flag_head))]
 pub(crate) fn read_flag_head(fields: &mut Fields) -> Result<Head, TextFault>
     ensures value { result ≡ flag_head fields.old }
     ensures small { IfOk result (λ head. head.count < 10 ^ 18) }
@@ -86,7 +86,7 @@ pub(crate) fn read_flag_head(fields: &mut Fields) -> Result<Head, TextFault>
 }
 
 /// The number of a row, which is the wanted one.
-#[tactic(auto, unfolding(crate::specs::Fields::numbered))]
+#[tactic(auto, unfolding(crate::specs::ReadFields::numbered))]
 pub(crate) fn read_number(wanted: u64, fields: &mut Fields) -> Result<(), TextFault>
     ensures value { left_after (λ x. x) result fields.new.fields
         ≡ numbered wanted fields.old.line fields.old.fields }
@@ -110,7 +110,7 @@ fn is_listed(listed: Listed, number: u64) -> bool
 }
 
 /// A corner, by its place in the list of points.
-#[tactic(auto, unfolding(crate::specs::Fields::corner_at))]
+#[tactic(auto, unfolding(crate::specs::ReadFields::corner_at))]
 pub(crate) fn read_corner(listed: Listed, fields: &mut Fields) -> Result<u32, TextFault>
     requires { listed.points < 2 ^ 32 - 1 }
     ensures value { left_after (λ n. n) result fields.new.fields
@@ -129,7 +129,7 @@ pub(crate) fn read_corner(listed: Listed, fields: &mut Fields) -> Result<u32, Te
 }
 
 /// Passes over a field where the flag is set.
-#[tactic(auto, unfolding(crate::specs::Fields::passed_over))]
+#[tactic(auto, unfolding(crate::specs::ReadFields::passed_over))]
 pub(crate) fn pass_over(flag: bool, fields: &mut Fields) -> Result<(), TextFault>
     ensures value { left_after (λ x. x) result fields.new.fields
         ≡ passed_over flag fields.old.line fields.old.fields }

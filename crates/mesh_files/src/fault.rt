@@ -1,7 +1,7 @@
 //! Why a file of a mesh could not be read.
 
 ghost use Rattle.std.specs.Prelude.{◌≡◌};
-ghost use Rattle.mesh_readers.specs.declared.fault.MeshFault.TheVariants.{Text, NoMemory as WantsMemory};
+ghost use Rattle.mesh_files.specs.declared.fault.MeshFault.TheVariants.{Text, NoMemory as WantsMemory};
 
 use tet_ports::NoMemory;
 use tet_text::TextFault;

@@ -4,19 +4,19 @@ ghost use Rattle.std.specs.Prelude.{◌≡◌, ◌<◌, ◌-◌, ◌+◌, ◌^�
 ghost use Rattle.tet_text.specs.Lines.{content_lines, line_count_of};
 ghost use Rattle.tet_text.specs.Reading.{left_after};
 ghost use Rattle.tet_text.specs.Views.{content_left, line_total};
-ghost use Rattle.mesh_readers.specs.Outcome.{Gives};
-ghost use Rattle.mesh_readers.specs.Repeated.{so_many, next_row};
-ghost use Rattle.mesh_readers.specs.Rows.{marker_at, face_row, faces_of, face_of, IsFaceBelow};
+ghost use Rattle.mesh_files.specs.Outcome.{Gives};
+ghost use Rattle.mesh_files.specs.Repeated.{so_many, next_row};
+ghost use Rattle.mesh_files.specs.ReadRows.{marker_at, face_row, faces_of, face_of, IsFaceBelow};
 
 use crate::MeshFault;
-use crate::fields::{Head, Listed, read_corner, read_flag_head, read_number};
-use mesh_files::{FaceRow, FaceRows};
+use crate::field_reading::{Head, Listed, read_corner, read_flag_head, read_number};
+use crate::{FaceRow, FaceRows};
 use std::alloc::Global;
 use tet_ports::Bytes;
 use tet_text::{Fields, Lines, TextFault};
 
 /// The marker of a face where the flag is set, and else 0.
-#[tactic(auto, unfolding(crate::specs::Rows::marker_at))]
+#[tactic(auto, unfolding(crate::specs::ReadRows::marker_at))]
 fn read_marker(flag: bool, fields: &mut Fields) -> Result<i64, TextFault>
     ensures value { left_after (λ n. n) result fields.new.fields
         ≡ marker_at flag fields.old.line fields.old.fields }
@@ -26,7 +26,7 @@ fn read_marker(flag: bool, fields: &mut Fields) -> Result<i64, TextFault>
 }
 
 /// A row with the wanted number: its corners, and a marker where the flag is set.
-#[tactic(auto, unfolding(crate::specs::Rows::face_row))]
+#[tactic(auto, unfolding(crate::specs::ReadRows::face_row))]
 fn read_row(
     listed: Listed,
     flag: bool,
@@ -88,7 +88,7 @@ fn read_rows(
     Ok(rows)
 }
 
-#[tactic(auto, unfolding(crate::specs::Rows::faces_of))]
+#[tactic(auto, unfolding(crate::specs::ReadRows::faces_of))]
 fn read_list(alloc: Global, listed: Listed, lines: &mut Lines) -> Result<FaceRows, MeshFault>
     requires points { listed.points < 2 ^ 32 - 1 }
     requires lines { line_total lines.old + 1 < 2 ^ 64 }

@@ -5,8 +5,8 @@ use Rattle.tet_text.specs.Lines.{ContentLine}
 use Rattle.tet_text.specs.Faults.{bad_index}
 use Rattle.tet_text.specs.Reading.{◌>>=◌, Fields, field_at, count_at, end_at}
 use Rattle.node_files.specs.Header.{count_within, count_or}
-use Rattle.mesh_readers.specs.declared.fields.Head.{Head}
-use Rattle.mesh_readers.specs.declared.fields.Listed.{Listed}
+use Rattle.mesh_files.specs.declared.field_reading.Head.{Head}
+use Rattle.mesh_files.specs.declared.field_reading.Listed.{Listed}
 
 -- the flag, where there may be one: 0 or 1, and 0 where it is missing
 unfoldable pub flag_at : Bool → ℕ → Fields → Result (Bool × Fields) TextFault

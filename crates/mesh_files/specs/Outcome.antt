@@ -1,8 +1,8 @@
 -- What a call that may want memory returns.
 use Rattle.std.specs.Prelude.{◌≡◌, Result, Ok, Err}
 use Rattle.tet_text.specs.declared.fault.TextFault.{TextFault}
-use Rattle.mesh_readers.specs.declared.fault.MeshFault.{MeshFault}
-use Rattle.mesh_readers.specs.declared.fault.MeshFault.TheVariants as faults
+use Rattle.mesh_files.specs.declared.fault.MeshFault.{MeshFault}
+use Rattle.mesh_files.specs.declared.fault.MeshFault.TheVariants as faults
 
 -- the fault is that of the reading, unless memory ran out
 abbrev pub Fails : {Y : Type 0} → MeshFault → Result Y TextFault → Type 0

@@ -4,19 +4,19 @@ ghost use Rattle.std.specs.Prelude.{◌≡◌, ◌<◌, ◌-◌, ◌+◌, ◌^�
 ghost use Rattle.tet_text.specs.Lines.{content_lines, line_count_of};
 ghost use Rattle.tet_text.specs.Reading.{left_after};
 ghost use Rattle.tet_text.specs.Views.{content_left, line_total};
-ghost use Rattle.mesh_readers.specs.Outcome.{Gives};
-ghost use Rattle.mesh_readers.specs.Repeated.{so_many, next_row};
-ghost use Rattle.mesh_readers.specs.Rows.{tet_row, tets_of, ele_of, IsBelow};
+ghost use Rattle.mesh_files.specs.Outcome.{Gives};
+ghost use Rattle.mesh_files.specs.Repeated.{so_many, next_row};
+ghost use Rattle.mesh_files.specs.ReadRows.{tet_row, tets_of, ele_of, IsBelow};
 
 use crate::MeshFault;
-use crate::fields::{Head, Listed, pass_over, read_corner, read_four_head, read_number};
+use crate::field_reading::{Head, Listed, pass_over, read_corner, read_four_head, read_number};
 use geo_laws::{Tet, TetList};
 use std::alloc::Global;
 use tet_ports::Bytes;
 use tet_text::{Fields, Lines, TextFault};
 
 /// A row with the wanted number: its corners, and an attribute where the flag is set.
-#[tactic(auto, unfolding(crate::specs::Rows::tet_row))]
+#[tactic(auto, unfolding(crate::specs::ReadRows::tet_row))]
 fn read_row(listed: Listed, flag: bool, wanted: u64, fields: &mut Fields) -> Result<Tet, TextFault>
     requires { listed.points < 2 ^ 32 - 1 }
     ensures value { result ≡ tet_row listed flag wanted fields.old }
@@ -69,7 +69,7 @@ fn read_rows(
     Ok(rows)
 }
 
-#[tactic(auto, unfolding(crate::specs::Rows::tets_of))]
+#[tactic(auto, unfolding(crate::specs::ReadRows::tets_of))]
 fn read_list(alloc: Global, listed: Listed, lines: &mut Lines) -> Result<TetList, MeshFault>
     requires points { listed.points < 2 ^ 32 - 1 }
     requires lines { line_total lines.old + 1 < 2 ^ 64 }

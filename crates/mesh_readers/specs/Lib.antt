@@ -1,4 +1,0 @@
-pub mod Outcome
-pub mod Repeated
-pub mod Fields
-pub mod Rows
