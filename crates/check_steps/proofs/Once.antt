@@ -10,8 +10,8 @@ use Rattle.mesh_check.specs.Defects.{Mesh, HasDefect, IsFirstDefect, IsToldBefor
 use Rattle.mesh_check.specs.declared.defect.Defect.{Defect}
 use Rattle.mesh_check.specs.declared.defect.Defect.TheVariants.{NotPositive, SameSide, NeighborCount, WrongNeighbor, Stray, Unlisted, Bent}
 use Rattle.mesh_check.specs.declared.defect.Verdict.TheVariants.{Sound, Fault}
-use Rattle.mesh_grid.specs.LeastGrid.{least_grid_of, point_on}
-use Rattle.mesh_grid.specs.Settling.{rounded_points}
+use Rattle.node_files.specs.LeastGrid.{least_grid_of, point_on}
+use Rattle.node_files.specs.SettlingLeast.{rounded_points}
 use Rattle.grid_coords.specs.declared.points.DecimalPoint.{DecimalPoint}
 use Rattle.grid_coords.specs.declared.grid.Range.{Range}
 use Rattle.node_files.specs.declared.node_text.NodeText.{NodeText}

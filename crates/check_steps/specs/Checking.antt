@@ -3,7 +3,7 @@ use Rattle.std.specs.Prelude.{◌≡◌, ℕ, List, length, Option, Result, Ok, 
 use Rattle.sign_predicates.specs.Point.{Point}
 use Rattle.mesh_check.specs.Defects.{Mesh, IsVerdict, neighbors_or}
 use Rattle.mesh_check.specs.declared.defect.Verdict.TheVariants.{Sound, Fault}
-use Rattle.mesh_grid.specs.Settling.{IsTooMany, IsOffGrid, IsOnLeastGrid}
+use Rattle.node_files.specs.SettlingLeast.{IsTooMany, IsOffGrid, IsOnLeastGrid}
 use Rattle.check_steps.specs.Reading.{MeshAnswer}
 use Rattle.check_steps.specs.Steps.{FolderSeen, AndThen}
 use Rattle.check_steps.specs.declared.fault.CheckFault.{CheckFault}

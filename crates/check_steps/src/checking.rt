@@ -9,7 +9,7 @@ use crate::CheckFault;
 use crate::reading::{MeshText, read_mesh};
 use geo_laws::Points;
 use mesh_check::{Verdict, check_mesh};
-use mesh_grid::{GridFault, settle_least};
+use node_files::{GridFault, settle_least};
 use std::alloc::Global;
 use tet_ports::{Folder, Name};
 

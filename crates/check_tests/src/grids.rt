@@ -2,7 +2,7 @@
 
 use crate::texts::bytes_of;
 use grid_coords::Range;
-use mesh_grid::{GridFault, least_grid, settle_least};
+use node_files::{GridFault, least_grid, settle_least};
 use node_files::{NodeText, read_node};
 use sign_predicates::GridPoint;
 use std::alloc::Global;

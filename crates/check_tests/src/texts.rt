@@ -3,7 +3,7 @@
 ghost use Rattle.std.specs.Prelude.{◌<◌, ◌≤◌, ◌-◌, ◌^◌, IfSome, length};
 
 use geo_laws::Points;
-use mesh_grid::settle_least;
+use node_files::settle_least;
 use mesh_files::{MeshFault, read_ele, read_face, read_neigh};
 use node_files::read_node;
 use std::alloc::Global;

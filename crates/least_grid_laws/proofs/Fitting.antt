@@ -15,10 +15,10 @@ use Rattle.grid_coords.specs.Units.{limit, is_negative, IsNumberAt}
 use Rattle.grid_coords.specs.declared.grid.Grid.{Grid}
 use Rattle.grid_coords.specs.declared.grid.Range.{Range}
 use Rattle.grid_coords.specs.declared.points.DecimalPoint.{DecimalPoint}
-use Rattle.mesh_grid.specs.Terms.{terms_of}
-use Rattle.mesh_grid.specs.LeastGrid.{twos_of, fives_of, greatest, coarsest, units_on, size_on, is_over, first_over, least_grid_of, coordinate_on, point_on}
-use Rattle.mesh_grid.specs.declared.fault.GridFault.TheVariants as faults
-use Rattle.mesh_grid.proofs.LowestTerms.{terms_are}
+use Rattle.node_files.specs.Terms.{terms_of}
+use Rattle.node_files.specs.LeastGrid.{twos_of, fives_of, greatest, coarsest, units_on, size_on, is_over, first_over, least_grid_of, coordinate_on, point_on}
+use Rattle.node_files.specs.declared.grid_fault.GridFault.TheVariants as faults
+use Rattle.node_files.proofs.LowestTerms.{terms_are}
 use Rattle.least_grid_laws.specs.Written.{times, AreMultiples, ratio, FittingLaw, SettlingLaw}
 use Rattle.least_grid_laws.proofs.Factors.{cancel, power_some, IsWhole, twos_within, fives_within, units_between}
 

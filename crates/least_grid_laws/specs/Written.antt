@@ -9,10 +9,10 @@ use Rattle.tet_text.specs.Decimals.{decimal_of}
 use Rattle.grid_coords.specs.Units.{limit, decimal_at, grid_text, IsNumberAt}
 use Rattle.grid_coords.specs.declared.grid.Grid.{Grid}
 use Rattle.grid_coords.specs.declared.points.DecimalPoint.{DecimalPoint}
-use Rattle.mesh_grid.specs.LeastGrid.{least_grid_of, coarsest, point_on}
-use Rattle.mesh_grid.specs.Settling.{Settles}
-use Rattle.mesh_grid.specs.declared.fault.GridFault.{GridFault}
-use Rattle.mesh_grid.specs.declared.fault.GridFault.TheVariants as faults
+use Rattle.node_files.specs.LeastGrid.{least_grid_of, coarsest, point_on}
+use Rattle.node_files.specs.SettlingLeast.{Settles}
+use Rattle.node_files.specs.declared.grid_fault.GridFault.{GridFault}
+use Rattle.node_files.specs.declared.grid_fault.GridFault.TheVariants as faults
 
 -- ---- points as decimals
 

@@ -6,3 +6,6 @@ pub mod KnownPlaces
 pub mod Folds
 pub mod Written
 pub mod Lengths
+pub mod Raising
+pub mod Greatest
+pub mod LowestTerms

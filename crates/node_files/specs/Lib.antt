@@ -6,3 +6,6 @@ pub mod Node
 pub mod Folding
 pub mod Settling
 pub mod Writing
+pub mod Terms
+pub mod LeastGrid
+pub mod SettlingLeast

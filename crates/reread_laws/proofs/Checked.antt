@@ -12,7 +12,7 @@ use Rattle.mesh_files.specs.declared.markers.FaceRow.{FaceRow}
 use Rattle.mesh_files.specs.ReadRows.{ele_of, face_of, neigh_of}
 use Rattle.node_files.specs.Writing.{node_text}
 use Rattle.node_files.specs.declared.table.NodeTable.{NodeTable}
-use Rattle.mesh_grid.specs.LeastGrid.{coarsest, point_on}
+use Rattle.node_files.specs.LeastGrid.{coarsest, point_on}
 use Rattle.mesh_check.specs.Defects.{IsVerdict, neighbors_or}
 use Rattle.mesh_check.specs.declared.defect.Verdict.TheVariants.{Sound}
 use Rattle.sound_laws.proofs.Soundness.{sound_of}

@@ -13,7 +13,7 @@ use Rattle.incidence.specs.Pairs.{partner, pairs_of, across_of}
 use Rattle.mesh_files.specs.declared.markers.FaceRow.{FaceRow}
 use Rattle.mesh_check.specs.Corners.{face_listed}
 use Rattle.mesh_check.proofs.Rows.{face_on, IsFaceOn, pairs_at, pairs_long}
-use Rattle.mesh_grid.specs.LeastGrid.{coarsest, point_on}
+use Rattle.node_files.specs.LeastGrid.{coarsest, point_on}
 use Rattle.sound_laws.proofs.Listings.{corner_of, partner_shares}
 use Rattle.sound_laws.proofs.Soundness.{sound_of}
 use Rattle.least_grid_laws.proofs.Fitting.{fits}

@@ -13,7 +13,7 @@ use Rattle.node_files.specs.Node.{node_of}
 use Rattle.node_files.specs.Writing.{node_text}
 use Rattle.node_files.specs.declared.node_text.NodeText.{NodeText}
 use Rattle.node_files.specs.declared.table.NodeTable.{NodeTable}
-use Rattle.mesh_grid.specs.LeastGrid.{least_grid_of, coarsest, point_on}
+use Rattle.node_files.specs.LeastGrid.{least_grid_of, coarsest, point_on}
 use Rattle.mesh_check.specs.Defects.{IsVerdict}
 use Rattle.mesh_check.specs.declared.defect.Verdict.TheVariants.{Sound}
 use Rattle.written_laws.specs.Renamed.{AreNamesIn}

@@ -7,7 +7,7 @@ use Rattle.grid_coords.specs.declared.grid.Range.{Range}
 use Rattle.grid_coords.specs.declared.points.DecimalPoint.{DecimalPoint}
 use Rattle.mesh_check.specs.Defects.{IsNotPositive}
 use Rattle.mesh_check.specs.declared.defect.Defect.TheVariants.{NotPositive}
-use Rattle.mesh_grid.specs.LeastGrid.{point_on}
+use Rattle.node_files.specs.LeastGrid.{point_on}
 use Rattle.tet_ports.specs.Files.{Files}
 use Rattle.check_steps.specs.Reading.{FileAnswer, nodes_of, rows_of}
 use Rattle.check_steps.specs.Steps.{FolderSeen, Gives}

@@ -7,7 +7,7 @@ use Rattle.grid_coords.specs.declared.points.DecimalPoint.{DecimalPoint}
 use Rattle.mesh_check.specs.Defects.{IsNotPositive}
 use Rattle.mesh_check.specs.Searches.{IsFirstOf}
 use Rattle.mesh_check.specs.declared.defect.Defect.TheVariants.{NotPositive}
-use Rattle.mesh_grid.specs.LeastGrid.{least_grid_of, point_on}
+use Rattle.node_files.specs.LeastGrid.{least_grid_of, point_on}
 use Rattle.row_cells.specs.Where.{place_of}
 use Rattle.check_steps.specs.Checking.{IsUnsettled, most_points}
 use Rattle.check_steps.specs.Steps.{FolderSeen, AndThen, Gives}

@@ -9,7 +9,7 @@ use check_steps::{CheckFault, MOST_POINTS};
 use geo_laws::Points;
 use grid_coords::{DecimalPoints, Grid, Range};
 use mesh_check::{Defect, first_not_positive};
-use mesh_grid::{grid_points, least_grid};
+use node_files::{grid_points, least_grid};
 use std::alloc::Global;
 
 /// The least grid of a mesh's points, and these points on it.

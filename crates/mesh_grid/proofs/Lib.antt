@@ -1,3 +1,0 @@
-pub mod Raising
-pub mod Greatest
-pub mod LowestTerms

@@ -1,6 +1,0 @@
-use Rattle.std.proofs.Common.{◌≡◌, drop}
-use Rattle.mesh_grid.specs.LeastGrid.{first_over}
-use Rattle.mesh_grid.proofs.least.line_over.Given as goal
-
-abbrev pub invariant-loop-p : goal.invariant-loop-p
-invariant-loop-p l = first_over l.grid (drop l.p-index l.points) ≡ first_over l.grid l.points

@@ -1,0 +1,134 @@
+//! The least grid on which points have whole coordinates.
+
+ghost use Rattle.std.specs.Prelude.{◌≡◌, ◌≤◌, All, IfOk, option_map, unsigned_abs};
+ghost use Rattle.grid_coords.specs.Units.{limit, within};
+ghost use Rattle.node_files.specs.LeastGrid.{twos_of, fives_of, greatest, size_on, is_over};
+ghost use Rattle.node_files.specs.LeastGrid.{coarsest, first_over, least_grid_of, coordinate_on, point_on, IsOnGrid, IsPointOnGrid};
+
+use crate::grid::units_on;
+use crate::terms::terms_of;
+use grid_coords::{DecimalPoint, DecimalPoints, Grid, Range};
+use sign_predicates::GridPoint;
+use tet_text::Decimal;
+
+/// The most factors 2 below a coordinate in lowest terms.
+fn twos_of(p: &DecimalPoint) -> u32
+    ensures { result ≡ twos_of p.now }
+{
+    let (x, y, z) = (
+        terms_of(&p.x).twos,
+        terms_of(&p.y).twos,
+        terms_of(&p.z).twos,
+    );
+    x.max(y.max(z))
+}
+
+/// The most factors 5.
+fn fives_of(p: &DecimalPoint) -> u32
+    ensures { result ≡ fives_of p.now }
+{
+    let (x, y, z) = (
+        terms_of(&p.x).fives,
+        terms_of(&p.y).fives,
+        terms_of(&p.z).fives,
+    );
+    x.max(y.max(z))
+}
+
+fn most_twos(points: &[DecimalPoint]) -> u32
+    ensures { result ≡ greatest twos_of points.now }
+{
+    let mut most = 0;
+    for p in points {
+        most = twos_of(p).max(most);
+    }
+    most
+}
+
+fn most_fives(points: &[DecimalPoint]) -> u32
+    ensures { result ≡ greatest fives_of points.now }
+{
+    let mut most = 0;
+    for p in points {
+        most = fives_of(p).max(most);
+    }
+    most
+}
+
+/// The greatest size of the point's coordinates, or None where that is over the limit.
+fn size_on(grid: &Grid, p: &DecimalPoint) -> Option<u64>
+    ensures { result ≡ within limit (size_on grid.now p.now) }
+{
+    let x = units_on(grid, &p.x)?;
+    let y = units_on(grid, &p.y)?;
+    let z = units_on(grid, &p.z)?;
+    Some(x.max(y.max(z)))
+}
+
+fn is_over(grid: &Grid, p: &DecimalPoint) -> bool
+    ensures { result ≡ is_over grid.now p.now }
+{
+    match size_on(grid, p) {
+        Some(_) => false,
+        None => true,
+    }
+}
+
+/// The line of the first point with a coordinate over the limit.
+fn line_over(grid: &Grid, points: &[DecimalPoint]) -> Option<usize>
+    ensures { result ≡ option_map (λ p. p.line) (first_over grid.now points.now) }
+{
+    for p in points {
+        if is_over(grid, p) {
+            return Some(p.line);
+        }
+    }
+    None
+}
+
+/// The grid by the factors below the coordinates alone.
+fn coarsest(points: &[DecimalPoint]) -> Grid
+    ensures { result ≡ coarsest points.now }
+{
+    let decimals = most_fives(points);
+    let halvings = most_twos(points).saturating_sub(decimals);
+    Grid { decimals, halvings }
+}
+
+/// The least grid on which all coordinates are whole. In lowest terms each coordinate has a
+/// denominator `2^i * 5^j`; the grid has as many decimals as the greatest `j`, and so many halvings
+/// besides that the greatest `i` is reached. Range exactly where a coordinate is over 2^23 units in
+/// size on that grid; its line is that of the first such point. It takes no memory.
+pub fn least_grid(points: &DecimalPoints) -> Result<Grid, Range>
+    ensures value { result ≡ least_grid_of points.now }
+
+    // Each point has whole coordinates on the grid, at most 2^23 in size.
+    ensures on_grid { IfOk result (λ g. All (IsPointOnGrid g) points.now) }
+{
+    let grid = coarsest(points.as_slice());
+    match line_over(&grid, points.as_slice()) {
+        Some(line) => Err(Range { line }),
+        None => Ok(grid),
+    }
+}
+
+fn coordinate_on(grid: &Grid, d: &Decimal) -> i32
+    requires { IsOnGrid grid.now d.now }
+    ensures value { result ≡ coordinate_on grid.now d.now }
+    ensures size { unsigned_abs result ≤ limit }
+{
+    let size = units_on(grid, d).unwrap_or(0) as i32;
+    if d.value < 0 { -size } else { size }
+}
+
+/// The point in units of a grid on which it has whole coordinates, at most 2^23 in size.
+pub(crate) fn to_least_grid(grid: &Grid, p: &DecimalPoint) -> GridPoint
+    requires { IsPointOnGrid grid.now p.now }
+    ensures { result ≡ point_on grid.now p.now }
+{
+    GridPoint {
+        x: coordinate_on(grid, &p.x),
+        y: coordinate_on(grid, &p.y),
+        z: coordinate_on(grid, &p.z),
+    }
+}
