@@ -15,7 +15,7 @@ use Rattle.node_files.specs.declared.table.NodeTable.{NodeTable}
 use Rattle.node_files.specs.LeastGrid.{coarsest, point_on}
 use Rattle.mesh_check.specs.Defects.{IsVerdict, neighbors_or}
 use Rattle.mesh_check.specs.declared.defect.Verdict.TheVariants.{Sound}
-use Rattle.sound_laws.proofs.Soundness.{sound_of}
+use Rattle.written_laws.proofs.Soundness.{sound_of}
 use Rattle.check_steps.specs.Checking.{CheckAnswer, most_points}
 use Rattle.check_steps.specs.Reading.{IsRead, MeshAnswer, NeighborsAnswer}
 use Rattle.check_steps.specs.Steps.{FolderSeen}

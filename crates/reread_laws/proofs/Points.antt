@@ -24,8 +24,8 @@ use Rattle.node_files.specs.Point.{point_of, index_at, place_at, attributes_at, 
 use Rattle.node_files.specs.Point as read
 use Rattle.node_files.specs.Writing.{whole_text, fields_text, line_text, place_fields, point_lines, like_lines, list_text, node_text, marks_of}
 use Rattle.node_files.specs.declared.table.NodeTable.{NodeTable}
-use Rattle.least_grid_laws.specs.Written.{IsPointAt}
-use Rattle.least_grid_laws.proofs.Reread.{reread}
+use Rattle.written_laws.specs.LeastGrids.{IsPointAt}
+use Rattle.written_laws.proofs.Reread.{reread}
 use Rattle.reread_laws.specs.Reread.{IsShort}
 use Rattle.reread_laws.specs.NodeRead.{IsLegible, IsLegiblePoint, IsBareTable, NodeReadLaw}
 use Rattle.reread_laws.proofs.Words.{IsWord, AreWords, joined, line_read}

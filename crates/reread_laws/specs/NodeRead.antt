@@ -8,7 +8,7 @@ use Rattle.node_files.specs.Node.{node_of}
 use Rattle.node_files.specs.Writing.{node_text}
 use Rattle.node_files.specs.declared.node_text.NodeText.{NodeText}
 use Rattle.node_files.specs.declared.table.NodeTable.{NodeTable}
-use Rattle.least_grid_laws.specs.Written.{ArePointsAt}
+use Rattle.written_laws.specs.LeastGrids.{ArePointsAt}
 use Rattle.reread_laws.specs.Reread.{IsShort}
 
 -- a coordinate at most 2^23 in size, with at most 35 decimals

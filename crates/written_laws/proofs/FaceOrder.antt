@@ -5,9 +5,9 @@ use Rattle.geo_laws.specs.Faces.{face_of, row_faces, faces_of_rows}
 use Rattle.geo_laws.specs.declared.faces.Face.{Face}
 use Rattle.geo_laws.specs.declared.tetrahedra.Tet.{Tet}
 use Rattle.geo_laws.proofs.Members.{contains_of, member_of, flat_map_cases}
-use Rattle.sound_laws.proofs.Listings.{corner_of}
-use Rattle.sound_laws.proofs.Sorted.{ascending}
-use Rattle.sound_laws.proofs.Opposed.{beside_at, face_is}
+use Rattle.written_laws.proofs.Listings.{corner_of}
+use Rattle.written_laws.proofs.Sorted.{ascending}
+use Rattle.written_laws.proofs.Opposed.{beside_at, face_is}
 
 -- the numbers of a face, which ascend
 abbrev pub itself : Face → Face

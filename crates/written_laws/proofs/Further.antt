@@ -18,7 +18,7 @@ use Rattle.crossing_laws.proofs.Meet.{face_of, side_own}
 use Rattle.crossing_laws.proofs.Tests.{lt_of, le_of}
 use Rattle.crossing_laws.specs.Crossing.{faces_of, LieApart}
 use Rattle.mesh_check.specs.Corners.{point_in, IsShared}
-use Rattle.sound_laws.proofs.Opposed.{beside_at, beyond_at}
+use Rattle.written_laws.proofs.Opposed.{beside_at, beyond_at}
 
 -- the face is one of the row's
 beside_member : (t : Tet) (p : ℕ) → p < 4 → IsMember (beside_at t p) (faces_of t)

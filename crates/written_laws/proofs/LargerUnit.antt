@@ -11,8 +11,8 @@ use Rattle.mesh_check.specs.Corners.{point_in, face_in}
 use Rattle.mesh_check.specs.Defects.{HasDefect, AreOpposite}
 use Rattle.mesh_check.specs.declared.defect.Defect.{Defect}
 use Rattle.mesh_check.specs.declared.defect.Defect.TheVariants.{NotPositive, SameSide, NeighborCount, WrongNeighbor, Stray, Unlisted, Bent}
-use Rattle.least_grid_laws.specs.Written.{HaveSameSigns}
-use Rattle.least_grid_laws.proofs.Signs.{same_signs}
+use Rattle.written_laws.specs.LeastGrids.{HaveSameSigns}
+use Rattle.written_laws.proofs.Signs.{same_signs}
 use Rattle.written_laws.specs.WrittenMesh.{LargerUnitLaw}
 
 above : (x y : ℤ) → HaveOneSign x y → pos 0 <ℤ x → pos 0 <ℤ y

@@ -7,3 +7,11 @@ pub mod LargerUnit
 pub mod Renaming
 pub mod Partners
 pub mod Renamed
+pub mod Factors
+pub mod Fitting
+pub mod Signs
+pub mod Reread
+pub mod Sorted
+pub mod Opposed
+pub mod Listings
+pub mod Soundness

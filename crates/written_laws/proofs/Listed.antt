@@ -18,7 +18,7 @@ use Rattle.geo_laws.proofs.Simplices.{corner_in}
 use Rattle.mesh_files.specs.FaceRows.{AreFaceRowsOf, AreFacetsThere, IsAsked, IsMarker, is_on_hull, marker_or_1}
 use Rattle.mesh_files.specs.declared.markers.FaceRow.{FaceRow}
 use Rattle.mesh_check.specs.Corners.{face_listed, IsListed}
-use Rattle.sound_laws.proofs.Listings.{contains_or_not}
+use Rattle.written_laws.proofs.Listings.{contains_or_not}
 use Rattle.written_laws.proofs.FaceOrder.{of_rows_itself}
 
 -- the facet in which a face lies is there

@@ -20,9 +20,9 @@ use Rattle.mesh_check.specs.Defects.{HasDefect, AreOpposite, side_of}
 use Rattle.mesh_check.specs.declared.defect.Defect.{Defect}
 use Rattle.mesh_check.specs.declared.defect.Defect.TheVariants.{NotPositive, SameSide, NeighborCount, WrongNeighbor, Stray, Unlisted, Bent}
 use Rattle.mesh_check.proofs.Rows.{corner_on, face_on, IsFaceOn}
-use Rattle.sound_laws.specs.SoundMesh.{IsSoundMesh}
-use Rattle.sound_laws.proofs.Soundness.{sound_of}
-use Rattle.sound_laws.proofs.Listings.{corner_of, face_of_corner}
+use Rattle.written_laws.specs.SoundMesh.{IsSoundMesh}
+use Rattle.written_laws.proofs.Soundness.{sound_of}
+use Rattle.written_laws.proofs.Listings.{corner_of, face_of_corner}
 use Rattle.written_laws.specs.Renamed.{renamed_row, renamed_face, RenamedLaw}
 use Rattle.written_laws.proofs.Renaming.{Rises, renamed, face_renamed, same_face, face_in_renamed, point_in_renamed}
 use Rattle.written_laws.proofs.Partners.{partner_renamed}

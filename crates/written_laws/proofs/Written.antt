@@ -9,9 +9,9 @@ use Rattle.geo_laws.proofs.Members.{contains_of, member_of, in_flat_map}
 use Rattle.mesh_files.specs.declared.markers.FaceRow.{FaceRow}
 use Rattle.mesh_files.proofs.OnHull.{of_one_row}
 use Rattle.mesh_check.specs.Corners.{face_in, face_listed}
-use Rattle.sound_laws.specs.SoundMesh.{AreDelaunayAcross}
-use Rattle.sound_laws.proofs.Listings.{face_of_corner}
-use Rattle.sound_laws.proofs.Soundness.{none_of}
+use Rattle.written_laws.specs.SoundMesh.{AreDelaunayAcross}
+use Rattle.written_laws.proofs.Listings.{face_of_corner}
+use Rattle.written_laws.proofs.Soundness.{none_of}
 use Rattle.written_laws.specs.WrittenMesh.{written_mesh, WrittenMeshLaw}
 use Rattle.written_laws.proofs.FaceOrder.{itself, of_rows_itself}
 use Rattle.written_laws.proofs.Listed.{listed_if_asked}

@@ -1,2 +1,4 @@
 pub mod WrittenMesh
 pub mod Renamed
+pub mod LeastGrids
+pub mod SoundMesh

@@ -18,7 +18,7 @@ use Rattle.mesh_files.specs.declared.markers.FaceRow.{FaceRow}
 use Rattle.crossing_laws.specs.Crossing.{AreApart}
 use Rattle.mesh_check.specs.Defects.{Mesh, IsVerdict}
 use Rattle.mesh_check.specs.declared.defect.Verdict.TheVariants.{Sound}
-use Rattle.least_grid_laws.specs.Written.{AreMultiples}
+use Rattle.written_laws.specs.LeastGrids.{AreMultiples}
 
 -- the points, rows and faces of a mesh, with the neighbors that its rows have
 abbrev pub written_mesh : List Point → List Tet → List FaceRow → Mesh

@@ -1,7 +1,12 @@
-//! What is written of a mesh has no defect, over the definitions alone. Each law is the contract of
-//! a function that does nothing.
+//! A mesh without a defect is positive and apart, and what is written of a mesh has no defect, also
+//! over the points that are read back on their least grid. Each law is the contract of a function
+//! that does nothing.
 #![tactic(auto)]
 
+mod grids;
 mod laws;
+mod sound;
 
+pub use grids::{law_fits, law_reread, law_same_signs, law_settles};
 pub use laws::{law_kept_apart, law_larger_unit, law_renamed, law_written};
+pub use sound::{law_apart, law_sound};

@@ -16,7 +16,7 @@ use Rattle.sign_predicates.specs.declared.tetrahedron.Corners.{Corners}
 use Rattle.sign_predicates.specs.declared.tetrahedron.Sign.{Sign}
 use Rattle.sign_predicates.specs.declared.tetrahedron.Sign.TheVariants.{Below, Zero, Above}
 use Rattle.geo_laws.specs.Delaunay.{point, corners}
-use Rattle.least_grid_laws.specs.Written.{times, SameSignsLaw}
+use Rattle.written_laws.specs.LeastGrids.{times, SameSignsLaw}
 
 abbrev timesE : Expr → PointE → PointE
 timesE s v = record { x = s ⊗ v.x; y = s ⊗ v.y; z = s ⊗ v.z }

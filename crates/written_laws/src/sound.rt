@@ -1,5 +1,5 @@
 //! What the check of a mesh is worth. Each law is the contract of a function that does nothing.
-ghost use Rattle.sound_laws.specs.SoundMesh.{RowsApartLaw, SoundMeshLaw};
+ghost use Rattle.written_laws.specs.SoundMesh.{RowsApartLaw, SoundMeshLaw};
 
 /// Rows without a defect of the first two kinds are positive, and any two with a common face lie on
 /// different sides of it: the condition of `law_count` on the crossings of a leg.

@@ -8,7 +8,7 @@ use Rattle.tet_text.proofs.Reread.{printed_law}
 use Rattle.grid_coords.specs.Units.{limit, decimal_at}
 use Rattle.grid_coords.specs.declared.grid.Grid.{Grid}
 use Rattle.grid_coords.proofs.Printed.{number_at}
-use Rattle.least_grid_laws.specs.Written.{RereadLaw}
+use Rattle.written_laws.specs.LeastGrids.{RereadLaw}
 
 product_le : (m n p q : ℕ) → m ≤ p → n ≤ q → m * n ≤ p * q
 product_le m n p q h k = mul-le-mul h k

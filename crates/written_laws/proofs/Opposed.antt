@@ -17,7 +17,7 @@ use Rattle.crossing_laws.proofs.Faces.{Same, straight, onward, backward, over, s
 use Rattle.crossing_laws.specs.Crossing.{faces_of, faces_beside, is_same, is_opposite, same_corners, LieApart}
 use Rattle.mesh_check.specs.Corners.{point_in, face_in, IsShared}
 use Rattle.mesh_check.specs.Defects.{AreOpposite, LieOnOneSide, side_of}
-use Rattle.sound_laws.proofs.Sorted.{oriented, ascending, is_sorted, keeps_sides}
+use Rattle.written_laws.proofs.Sorted.{oriented, ascending, is_sorted, keeps_sides}
 
 -- ---- the faces of a row
 

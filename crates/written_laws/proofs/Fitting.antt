@@ -19,8 +19,8 @@ use Rattle.node_files.specs.Terms.{terms_of}
 use Rattle.node_files.specs.LeastGrid.{twos_of, fives_of, greatest, coarsest, units_on, size_on, is_over, first_over, least_grid_of, coordinate_on, point_on}
 use Rattle.node_files.specs.declared.grid_fault.GridFault.TheVariants as faults
 use Rattle.node_files.proofs.LowestTerms.{terms_are}
-use Rattle.least_grid_laws.specs.Written.{times, AreMultiples, ratio, FittingLaw, SettlingLaw}
-use Rattle.least_grid_laws.proofs.Factors.{cancel, power_some, IsWhole, twos_within, fives_within, units_between}
+use Rattle.written_laws.specs.LeastGrids.{times, AreMultiples, ratio, FittingLaw, SettlingLaw}
+use Rattle.written_laws.proofs.Factors.{cancel, power_some, IsWhole, twos_within, fives_within, units_between}
 
 -- ---- one number
 

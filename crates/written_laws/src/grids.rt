@@ -1,5 +1,5 @@
 //! What is written in decimals fits the least grid of these.
-ghost use Rattle.least_grid_laws.specs.Written.{FittingLaw, SettlingLaw, SameSignsLaw, RereadLaw};
+ghost use Rattle.written_laws.specs.LeastGrids.{FittingLaw, SettlingLaw, SameSignsLaw, RereadLaw};
 
 /// The decimals of points of a grid fit their least grid, on which each coordinate is one number of
 /// times smaller.

@@ -22,9 +22,9 @@ use Rattle.mesh_check.specs.declared.defect.Defect.TheVariants.{NotPositive, Sam
 use Rattle.mesh_check.specs.declared.defect.Verdict.TheVariants.{Sound}
 use Rattle.mesh_check.proofs.Partners.{HasNoSameSide, partner_is}
 use Rattle.mesh_check.proofs.Rows.{entry_is, pairs_at, pairs_long}
-use Rattle.sound_laws.specs.SoundMesh.{AreDelaunayAcross, IsSoundMesh, RowsApartLaw, SoundMeshLaw}
-use Rattle.sound_laws.proofs.Opposed.{apart_of, none_of_apart}
-use Rattle.sound_laws.proofs.Listings.{contains_or_not, corner_of, face_of_corner, partner_shares, same_option}
+use Rattle.written_laws.specs.SoundMesh.{AreDelaunayAcross, IsSoundMesh, RowsApartLaw, SoundMeshLaw}
+use Rattle.written_laws.proofs.Opposed.{apart_of, none_of_apart}
+use Rattle.written_laws.proofs.Listings.{contains_or_not, corner_of, face_of_corner, partner_shares, same_option}
 
 -- ---- rows by place
 

@@ -1,4 +1,0 @@
-pub mod Factors
-pub mod Fitting
-pub mod Signs
-pub mod Reread

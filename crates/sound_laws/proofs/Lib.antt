@@ -1,4 +1,0 @@
-pub mod Sorted
-pub mod Opposed
-pub mod Listings
-pub mod Soundness
