@@ -1,1 +1,2 @@
 pub mod SoundRun
+pub mod CheckedRun

@@ -1,5 +1,5 @@
 //! A check of the files that a run leaves finds a sound mesh.
-ghost use Rattle.reread_run_laws.specs.CheckedRun.{CheckedAfterLaw, CheckedRunLaw, FewDecimalsLaw};
+ghost use Rattle.run_laws.specs.CheckedRun.{CheckedAfterLaw, CheckedRunLaw, FewDecimalsLaw};
 
 /// The check of the files that a run leaves answers that the mesh is sound, and how many tetrahedra
 /// it has.

@@ -26,7 +26,7 @@ use Rattle.run_steps.specs.Meshing.{BoundAnswer, MeshAnswer, MeshOf, PointsMeshO
 use Rattle.run_steps.specs.declared.input.Input.{Input}
 use Rattle.run_steps.specs.declared.mesh.Bound.{Bound}
 use Rattle.run_steps.specs.declared.meshed.Meshed.{Meshed}
-use Rattle.reread_run_laws.proofs.Protections.{grown}
+use Rattle.run_laws.proofs.Protections.{grown}
 
 -- the points of a mesh are the kept ones of its table and the added ones, named so, and each lies on the grid
 pub record IsOfTable (mesh : Meshed) : Type 0 where

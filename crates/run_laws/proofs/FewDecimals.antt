@@ -5,7 +5,7 @@ use Rattle.sign_predicates.specs.Point.{Point}
 use Rattle.tet_text.specs.Decimals.{lowest}
 use Rattle.grid_coords.specs.Units.{decimal_at}
 use Rattle.grid_coords.specs.declared.grid.Grid.{Grid}
-use Rattle.reread_run_laws.specs.CheckedRun.{FewDecimalsLaw}
+use Rattle.run_laws.specs.CheckedRun.{FewDecimalsLaw}
 
 lowest_few : (n scale : ℕ) → (lowest n scale).1 ≤ scale
 lowest_few n zero = omega arith

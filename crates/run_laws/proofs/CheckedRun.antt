@@ -36,11 +36,11 @@ use Rattle.run_steps.specs.declared.store.NamedText.{NamedText}
 use Rattle.run_steps.specs.declared.status.Status.TheVariants.{Done}
 use Rattle.tetgen_run.specs.Run.{AnswerBy, check_seen}
 use Rattle.run_laws.proofs.SoundRun.{sound_run}
-use Rattle.reread_run_laws.specs.CheckedRun.{AreCheckable, CheckedRunLaw, CheckedAfterLaw}
-use Rattle.reread_run_laws.proofs.Lengths.{ele_long, face_long}
-use Rattle.reread_run_laws.proofs.Stored.{IsUnder, AreFiles, all_held, after, first_given, node_held, ele_held, face_held, neigh_held, neigh_kept}
-use Rattle.reread_run_laws.proofs.Inputs.{HasInputNumbers, input_numbers}
-use Rattle.reread_run_laws.proofs.Tables.{IsOfTable, of_table, short_markers}
+use Rattle.run_laws.specs.CheckedRun.{AreCheckable, CheckedRunLaw, CheckedAfterLaw}
+use Rattle.run_laws.proofs.Lengths.{ele_long, face_long}
+use Rattle.run_laws.proofs.Stored.{IsUnder, AreFiles, all_held, after, first_given, node_held, ele_held, face_held, neigh_held, neigh_kept}
+use Rattle.run_laws.proofs.Inputs.{HasInputNumbers, input_numbers}
+use Rattle.run_laws.proofs.Tables.{IsOfTable, of_table, short_markers}
 
 -- ---- the mesh can be read
 

@@ -1,7 +1,0 @@
-pub mod Protections
-pub mod Lengths
-pub mod Stored
-pub mod Inputs
-pub mod Tables
-pub mod CheckedRun
-pub mod FewDecimals
