@@ -17,9 +17,9 @@ use Rattle.run_steps.specs.declared.status.Status.{Status}
 use Rattle.run_steps.specs.declared.status.Status.TheVariants.{Done, Usage, NoMemory, WriteFault}
 use Rattle.tetgen_run.specs.Ends.{HasNoFault}
 use Rattle.tetgen_run.specs.Run.{AnswerBy, IsMeshAnswer}
-use Rattle.valid_laws.specs.Valid.{IsValid, HasNoAnomaly}
-use Rattle.valid_laws.specs.ValidRun.{IsValidRun, ValidRunLaw}
-use Rattle.valid_laws.proofs.Valid.{valid_complex}
+use Rattle.complete_laws.specs.Valid.{IsValid, HasNoAnomaly}
+use Rattle.complete_laws.specs.ValidRun.{IsValidRun, ValidRunLaw}
+use Rattle.complete_laws.proofs.Valid.{valid_complex}
 
 understood : (words : List (List ℕ)) (status : Status) → words_fault words ≡ None → IsUsage words status → status ≡ NoMemory
 understood words (Usage word place) e h = let at : ℕ × ℕ = (word, place) in absurd (never at (sym h ∙ e))

@@ -13,7 +13,7 @@ use Rattle.run_steps.specs.declared.status.Status.{Status}
 use Rattle.run_steps.specs.declared.status.Status.TheVariants.{Done, NoMemory}
 use Rattle.tetgen_run.specs.Ends.{HasNoFault}
 use Rattle.tetgen_run.specs.Run.{asks_check, IsAnswer}
-use Rattle.valid_laws.specs.Valid.{IsValid, HasNoAnomaly}
+use Rattle.complete_laws.specs.Valid.{IsValid, HasNoAnomaly}
 
 -- The words are in the grammar and ask for the mesh of a complex; the files that they name are read, and are within the limits; and the
 -- complex on the points of the grid is valid, with no anomaly against its mesh

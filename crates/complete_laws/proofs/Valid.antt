@@ -16,7 +16,7 @@ use Rattle.complex_mesh.specs.Protection.{AreMeshed, complex_triangles}
 use Rattle.complex_mesh.specs.declared.fault.MeshFault.TheVariants.{Flat, NotFlat, SegmentsCross, GridEnd, BudgetEnd, Crossing, NoFill, NoMemory}
 use Rattle.complex_mesh.specs.declared.mesh.MeshOptions.{MeshOptions}
 use Rattle.complex_mesh.proofs.OneAnswerParts.{flat_none, segments_none, parts_none}
-use Rattle.valid_laws.specs.Valid.{IsValid, HasNoAnomaly, ValidComplexLaw}
+use Rattle.complete_laws.specs.Valid.{IsValid, HasNoAnomaly, ValidComplexLaw}
 
 -- ---- what is meshed, and how protection ends, is one
 

@@ -1,6 +1,6 @@
 //! A valid complex has a mesh.
-ghost use Rattle.valid_laws.specs.Valid.{ValidComplexLaw};
-ghost use Rattle.valid_laws.specs.ValidRun.{ValidRunLaw};
+ghost use Rattle.complete_laws.specs.Valid.{ValidComplexLaw};
+ghost use Rattle.complete_laws.specs.ValidRun.{ValidRunLaw};
 
 /// Points that are not all in one plane, with a complex whose facets are flat and whose parts are
 /// properly met, on whose segments protection ends well, have a mesh but for want of memory: where

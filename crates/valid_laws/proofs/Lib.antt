@@ -1,2 +1,0 @@
-pub mod Valid
-pub mod ValidRun
