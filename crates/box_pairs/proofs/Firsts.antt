@@ -15,7 +15,7 @@ use Rattle.box_pairs.specs.declared.complex_parts.Part.{Part}
 use Rattle.box_pairs.specs.declared.complex_parts.Part.TheVariants.{Triangle}
 use Rattle.box_pairs.specs.Parts.{part_numbers, IsPairMet}
 use Rattle.box_pairs.specs.Boxes.{HoldsPart, IsPartTree, HasPartBoxes, HasUnmarked}
-use Rattle.box_pairs.specs.Pairs.{AreMetAt, ArePairwiseMet, AreMarkedMet, AreMarkedFrom, IsMarked, IsUnmet, IsFirstPair, IsFound, IsUpTo, IsNoLater, IsSettled, IsFirstAfter, IsFirstAmong}
+use Rattle.box_pairs.specs.Pairs.{AreMetAt, ArePairwiseMet, AreMarkedMet, AreMarkedFrom, IsMarked, IsUnmet, IsFirstPair, IsUnmetFound, IsUpTo, IsNoLater, IsPairSettled, IsFirstAfter, IsFirstAmong}
 use Rattle.box_pairs.proofs.Apart.{met_apart}
 
 -- what stands for a part at a place beyond the end
@@ -51,8 +51,8 @@ node_there ps parts nodes m n boxes l at = subst (λ (k : Node). k.own.place < l
 
 -- what is known once the nodes before the place n are done with
 pub record IsFirstTo (compared : Compared) (ps : List Point) (parts : List Part) (i : ℕ) (nodes : List Node) (n : ℕ) (found : Option ℕ) : Type 0 where
-  pub is_found : IsFound compared ps parts i found
-  pub settled : (m : ℕ) (d : Node) → m < n → IsSettled compared ps parts i found (get_or nodes m d).own.place
+  pub is_found : IsUnmetFound compared ps parts i found
+  pub settled : (m : ℕ) (d : Node) → m < n → IsPairSettled compared ps parts i found (get_or nodes m d).own.place
 
 pub first_start : (compared : Compared) (ps : List Point) (parts : List Part) (i : ℕ) (nodes : List Node) → IsFirstTo compared ps parts i nodes 0 None
 first_start compared ps parts i nodes = record { is_found = tt; settled = λ m d l. absurd (omega arith) }
@@ -66,18 +66,18 @@ first_further compared ps parts i nodes n k found b tree holds to apart l = reco
   settled = λ m d h. go m d h (less_or_more m n);
 }
   where
-    past : (m : ℕ) (d : Node) → n ≤ m → m < k → IsSettled compared ps parts i found (get_or nodes m d).own.place
+    past : (m : ℕ) (d : Node) → n ≤ m → m < k → IsPairSettled compared ps parts i found (get_or nodes m d).own.place
     past m d o h after =
         let n = get_or nodes m d in
         inl (met_apart compared ps parts i n.own.place b n.own.bounds holds (tree.listed m d (omega arith)).1 (apart m d o h))
 
-    go : (m : ℕ) (d : Node) → m < k → (m < n) ⊎ ((m ≡ n) ⊎ (n < m)) → IsSettled compared ps parts i found (get_or nodes m d).own.place
+    go : (m : ℕ) (d : Node) → m < k → (m < n) ⊎ ((m ≡ n) ⊎ (n < m)) → IsPairSettled compared ps parts i found (get_or nodes m d).own.place
     go m d h (inl a) = to.settled m d a
     go m d h (inr (inl a)) = past m d (omega arith) h
     go m d h (inr (inr a)) = past m d (omega arith) h
 
 settled_still : (compared : Compared) (ps : List Point) (parts : List Part) (i : ℕ) (a b : Option ℕ) (j : ℕ) → IsNoLater a b
-    → IsSettled compared ps parts i a j → IsSettled compared ps parts i b j
+    → IsPairSettled compared ps parts i a j → IsPairSettled compared ps parts i b j
 settled_still compared ps parts i a b j less before after = go (before after)
   where
     go : AreMetAt compared ps parts i j ⊎ IsUpTo a j → AreMetAt compared ps parts i j ⊎ IsUpTo b j
@@ -86,13 +86,13 @@ settled_still compared ps parts i a b j less before after = go (before after)
 
 -- one node more
 pub first_more : (compared : Compared) (ps : List Point) (parts : List Part) (i : ℕ) (nodes : List Node) (n : ℕ) (x : Node) (a b : Option ℕ)
-    → HoldsAt (λ m. m ≡ x) nodes n → IsFound compared ps parts i b → IsNoLater a b
-    → IsSettled compared ps parts i b x.own.place → IsFirstTo compared ps parts i nodes n a → IsFirstTo compared ps parts i nodes (n + 1) b
+    → HoldsAt (λ m. m ≡ x) nodes n → IsUnmetFound compared ps parts i b → IsNoLater a b
+    → IsPairSettled compared ps parts i b x.own.place → IsFirstTo compared ps parts i nodes n a → IsFirstTo compared ps parts i nodes (n + 1) b
 first_more compared ps parts i nodes n x a b at is less here to = record { is_found = is; settled = λ m d h. go m d h (below_or m n h) }
   where
-    go : (m : ℕ) (d : Node) → m < n + 1 → (m < n) ⊎ (m ≡ n) → IsSettled compared ps parts i b (get_or nodes m d).own.place
+    go : (m : ℕ) (d : Node) → m < n + 1 → (m < n) ⊎ (m ≡ n) → IsPairSettled compared ps parts i b (get_or nodes m d).own.place
     go m d h (inl l) = settled_still compared ps parts i a b (get_or nodes m d).own.place less (to.settled m d l)
-    go m d h (inr e) = subst (λ (y : Node). IsSettled compared ps parts i b y.own.place) (sym (ap (λ k. get_or nodes k d) e ∙ at d)) here
+    go m d h (inr e) = subst (λ (y : Node). IsPairSettled compared ps parts i b y.own.place) (sym (ap (λ k. get_or nodes k d) e ∙ at d)) here
 
 -- when all nodes are done with
 pub first_of_all : (compared : Compared) (ps : List Point) (parts : List Part) (i : ℕ) (nodes : List Node) (n : ℕ) (found : Option ℕ)
@@ -103,8 +103,8 @@ first_of_all compared ps parts i nodes n found l to = (to.is_found, λ m d h. to
 
 -- a part with a box in the tree is done with
 settled_of : (compared : Compared) (ps : List Point) (parts : List Part) (i : ℕ) (nodes : List Node) (found : Option ℕ) (j : ℕ)
-    → All (λ n. IsSettled compared ps parts i found n.own.place) nodes → Any (λ n. n.own.place ≡ j) nodes → IsSettled compared ps parts i found j
-settled_of compared ps parts i nodes found j all a = subst (IsSettled compared ps parts i found) (ap (λ (n : Node). n.own.place) a.3 ∙ a.4) (all a.0 a.1 a.2)
+    → All (λ n. IsPairSettled compared ps parts i found n.own.place) nodes → Any (λ n. n.own.place ≡ j) nodes → IsPairSettled compared ps parts i found j
+settled_of compared ps parts i nodes found j all a = subst (IsPairSettled compared ps parts i found) (ap (λ (n : Node). n.own.place) a.3 ∙ a.4) (all a.0 a.1 a.2)
 
 pub boxes_of : (ps : List Point) (parts : List Part) (nodes : List Node) → IsPartTree ps parts nodes → HasPartBoxes ps parts nodes
 boxes_of ps parts nodes h = record { tree = h.tree; listed = h.listed }
@@ -127,7 +127,7 @@ pub first_of_unmarked : (compared : Compared) (ps : List Point) (parts : List Pa
     → IsFirstAfter compared ps parts i found
 first_of_unmarked compared ps parts marks i nodes found met unmarked m first = (first.0, λ j h. go j h (marked_or_not marks j))
   where
-    go : (j : ℕ) → j < length parts → IsMarked marks j ⊎ ¬ IsMarked marks j → IsSettled compared ps parts i found j
+    go : (j : ℕ) → j < length parts → IsMarked marks j ⊎ ¬ IsMarked marks j → IsPairSettled compared ps parts i found j
     go j h (inl k) after = inl (met i j after h m k)
     go j h (inr none) after = settled_of compared ps parts i nodes found j first.1 (unmarked j h none) after
 

@@ -10,7 +10,7 @@ use Rattle.box_tree.specs.declared.bounds.Interval.{Interval}
 use Rattle.box_tree.specs.declared.bounds.Bounds.{Bounds}
 use Rattle.box_tree.specs.declared.tree.Boxed.{Boxed}
 use Rattle.box_tree.specs.declared.tree.Node.{Node}
-use Rattle.box_tree.specs.Bounds.{IsWithin, AreBoundsApart}
+use Rattle.box_tree.specs.Bounds.{IsBoxWithin, AreBoundsApart}
 use Rattle.box_tree.specs.Tree.{HoldsFrom, IsNode, AreNodes, IsTree, IsTreeOf, AreApartBetween, IsTreeOver}
 use Rattle.box_tree.proofs.Lists.{less_or_more, more_cases, in_more, in_last, any_of, any_member}
 use Rattle.box_tree.proofs.Boxes.{within_more, within_self, bounds_apart_smaller}
@@ -51,14 +51,14 @@ same_boxed b c e =
 pub holds_first : (boxes : List Boxed) (i : ℕ) (b : Boxed) → i < length boxes → HoldsAt (λ c. c ≡ b) boxes i → HoldsFrom boxes i (i + 1) b.bounds
 holds_first boxes i b l at j d from to =
     let e : j ≡ i = omega arith in
-    subst (λ (c : Boxed). IsWithin c.bounds b.bounds) (sym (ap (λ k. get_or boxes k d) e ∙ at d)) (within_self b.bounds)
+    subst (λ (c : Boxed). IsBoxWithin c.bounds b.bounds) (sym (ap (λ k. get_or boxes k d) e ∙ at d)) (within_self b.bounds)
 
-pub holds_next : (boxes : List Boxed) (first i : ℕ) (b : Boxed) (old new : Bounds) → HoldsAt (λ c. c ≡ b) boxes i → HoldsFrom boxes first i old → IsWithin old new → IsWithin b.bounds new → HoldsFrom boxes first (i + 1) new
+pub holds_next : (boxes : List Boxed) (first i : ℕ) (b : Boxed) (old new : Bounds) → HoldsAt (λ c. c ≡ b) boxes i → HoldsFrom boxes first i old → IsBoxWithin old new → IsBoxWithin b.bounds new → HoldsFrom boxes first (i + 1) new
 holds_next boxes first i b old new at h w v j d from to = go (less_or_more j i)
   where
-    go : (j < i) ⊎ ((j ≡ i) ⊎ (i < j)) → IsWithin (get_or boxes j d).bounds new
+    go : (j < i) ⊎ ((j ≡ i) ⊎ (i < j)) → IsBoxWithin (get_or boxes j d).bounds new
     go (inl l) = within_more (get_or boxes j d).bounds old new (h j d from l) w
-    go (inr (inl e)) = subst (λ (c : Boxed). IsWithin c.bounds new) (sym (ap (λ k. get_or boxes k d) e ∙ at d)) v
+    go (inr (inl e)) = subst (λ (c : Boxed). IsBoxWithin c.bounds new) (sym (ap (λ k. get_or boxes k d) e ∙ at d)) v
     go (inr (inr g)) = absurd (omega arith)
 
 -- ---- nodes
@@ -84,7 +84,7 @@ pub tree_is : (boxes : List Boxed) (nodes : List Node) → AreNodes boxes (lengt
 tree_is boxes nodes h = record {
   onward = λ i d l. (h.each i d (count i l)).onward;
   there = λ i d l. (let q = (h.each i d (count i l)).there in let c = h.counted in omega arith);
-  holds = λ i j d o l p. (let n = h.each i d (count i l) in let q = n.there in let m = h.each j d (omega arith) in subst (λ (b : Boxed). IsWithin b.bounds (get_or nodes i d).wide) (m.own (get_or nodes j d).own) (n.holds j (get_or nodes j d).own o p));
+  holds = λ i j d o l p. (let n = h.each i d (count i l) in let q = n.there in let m = h.each j d (omega arith) in subst (λ (b : Boxed). IsBoxWithin b.bounds (get_or nodes i d).wide) (m.own (get_or nodes j d).own) (n.holds j (get_or nodes j d).own o p));
 }
   where
     count : (i : ℕ) → i < length nodes → i < length boxes

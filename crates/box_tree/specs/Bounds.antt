@@ -12,22 +12,22 @@ abbrev pub IsIn : Interval → ℤ → Type 0
 IsIn i z = (i.low ≤ℤ z) × (z ≤ℤ i.high)
 
 -- the one ends before the other begins
-abbrev pub AreApart : Interval → Interval → Type 0
-AreApart i j = (i.high <ℤ j.low) ⊎ (j.high <ℤ i.low)
+abbrev pub AreDisjoint : Interval → Interval → Type 0
+AreDisjoint i j = (i.high <ℤ j.low) ⊎ (j.high <ℤ i.low)
 
 -- along some axis the boxes are apart
 abbrev pub AreBoundsApart : Bounds → Bounds → Type 0
-AreBoundsApart b c = AreApart b.x c.x ⊎ AreApart b.y c.y ⊎ AreApart b.z c.z
+AreBoundsApart b c = AreDisjoint b.x c.x ⊎ AreDisjoint b.y c.y ⊎ AreDisjoint b.z c.z
 
 -- the first interval lies in the second
-abbrev pub IsPart : Interval → Interval → Type 0
-IsPart i j = (j.low ≤ℤ i.low) × (i.high ≤ℤ j.high)
+abbrev pub IsSubinterval : Interval → Interval → Type 0
+IsSubinterval i j = (j.low ≤ℤ i.low) × (i.high ≤ℤ j.high)
 
 -- the first box lies in the second
-pub record IsWithin (b c : Bounds) : Type 0 where
-  pub x : IsPart b.x c.x
-  pub y : IsPart b.y c.y
-  pub z : IsPart b.z c.z
+pub record IsBoxWithin (b c : Bounds) : Type 0 where
+  pub x : IsSubinterval b.x c.x
+  pub y : IsSubinterval b.y c.y
+  pub z : IsSubinterval b.z c.z
 
 -- the box holds the point
 pub record HoldsPoint (b : Bounds) (p : Point) : Type 0 where

@@ -3,11 +3,11 @@ use Rattle.std.specs.Prelude.{◌≡◌, ℕ, ◌<◌, ◌≤◌, List, length, 
 use Rattle.box_tree.specs.declared.bounds.Bounds.{Bounds}
 use Rattle.box_tree.specs.declared.tree.Boxed.{Boxed}
 use Rattle.box_tree.specs.declared.tree.Node.{Node}
-use Rattle.box_tree.specs.Bounds.{IsWithin, AreBoundsApart}
+use Rattle.box_tree.specs.Bounds.{IsBoxWithin, AreBoundsApart}
 
 -- the box holds those at the places from first to before past
 abbrev pub HoldsFrom : List Boxed → ℕ → ℕ → Bounds → Type 0
-HoldsFrom boxes first past wide = (j : ℕ) (d : Boxed) → first ≤ j → j < past → IsWithin (slice_index_or boxes j d).bounds wide
+HoldsFrom boxes first past wide = (j : ℕ) (d : Boxed) → first ≤ j → j < past → IsBoxWithin (slice_index_or boxes j d).bounds wide
 
 -- the node is that of the box at this place, and its wide box holds those of the places before its end
 pub record IsNode (boxes : List Boxed) (i : ℕ) (n : Node) : Type 0 where
@@ -26,7 +26,7 @@ pub record IsTree (nodes : List Node) : Type 0 where
   pub onward : (i : ℕ) (d : Node) → i < length nodes → i < (slice_index_or nodes i d).past
   pub there : (i : ℕ) (d : Node) → i < length nodes → (slice_index_or nodes i d).past ≤ length nodes
   pub holds : (i j : ℕ) (d : Node) → i ≤ j → i < length nodes → j < (slice_index_or nodes i d).past
-      → IsWithin (slice_index_or nodes j d).own.bounds (slice_index_or nodes i d).wide
+      → IsBoxWithin (slice_index_or nodes j d).own.bounds (slice_index_or nodes i d).wide
 
 -- a tree with the boxes of the list
 pub record IsTreeOf (boxes : List Boxed) (nodes : List Node) : Type 0 where

@@ -2,7 +2,7 @@
 ghost use Rattle.std.specs.Prelude.{◌<◌, IsTrue, length};
 ghost use Rattle.geo_laws.specs.Delaunay.{point, numbers, IsOn};
 ghost use Rattle.geo_laws.specs.Facet.{corner_numbers};
-ghost use Rattle.box_tree.specs.Bounds.{IsIn, AreApart, AreBoundsApart, IsPart, IsWithin};
+ghost use Rattle.box_tree.specs.Bounds.{IsIn, AreDisjoint, AreBoundsApart, IsSubinterval, IsBoxWithin};
 ghost use Rattle.box_tree.specs.Bounds.{HoldsPoint, HoldsCorners, IsTriangleOn};
 
 use geo_laws::{FacetTriangle, Points, Tet};
@@ -26,7 +26,7 @@ pub struct Bounds {
 /// Whether no number lies in both.
 #[inline]
 fn are_apart(i: Interval, j: Interval) -> bool
-    ensures { IsTrue result → AreApart i j }
+    ensures { IsTrue result → AreDisjoint i j }
 {
     i.high < j.low || j.high < i.low
 }
@@ -42,8 +42,8 @@ pub fn are_bounds_apart(b: &Bounds, c: &Bounds) -> bool
 /// The least interval round both.
 #[inline]
 fn span_of(i: Interval, j: Interval) -> Interval
-    ensures first { IsPart i result }
-    ensures second { IsPart j result }
+    ensures first { IsSubinterval i result }
+    ensures second { IsSubinterval j result }
 {
     Interval {
         low: i.low.min(j.low),
@@ -53,8 +53,8 @@ fn span_of(i: Interval, j: Interval) -> Interval
 
 /// The least box round both.
 pub fn joined(b: Bounds, c: Bounds) -> Bounds
-    ensures first { IsWithin b result }
-    ensures second { IsWithin c result }
+    ensures first { IsBoxWithin b result }
+    ensures second { IsBoxWithin c result }
 {
     Bounds {
         x: span_of(b.x, c.x),

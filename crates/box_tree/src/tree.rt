@@ -1,7 +1,7 @@
 //! A tree of boxes in the order of a space-filling curve, in which those that meet a box are found
 //! without looking at all.
 ghost use Rattle.std.specs.Prelude.{◌≡◌, ℕ, ◌+◌, ◌^◌, ◌<◌, ◌≤◌, length, IfOk, slice_index_or};
-ghost use Rattle.box_tree.specs.Bounds.{IsWithin, AreBoundsApart};
+ghost use Rattle.box_tree.specs.Bounds.{IsBoxWithin, AreBoundsApart};
 ghost use Rattle.box_tree.specs.Tree.{HoldsFrom, AreNodes, IsTree, IsTreeOf, AreApartBetween};
 
 use crate::bounds::{Bounds, Interval, are_bounds_apart, joined};

@@ -9,11 +9,11 @@ use Rattle.geo_laws.specs.declared.tetrahedra.Tet.{Tet as Row}
 use Rattle.geo_laws.specs.OrientedFace.{Face}
 use Rattle.insert_laws.specs.Insertion as delaunay_laws
 use Rattle.insert_laws.proofs.First as delaunay_first
-use Rattle.insert_laws.specs.LowestInsertion.{IsHullFace}
+use Rattle.insert_laws.specs.LowestInsertion.{IsLowestHullFace}
 use Rattle.insert_laws.proofs.LowestFirst.{law_first}
 use Rattle.mesh_arena.specs.Mesh.{SlotValue, IsLive}
 use Rattle.mesh_laws.specs.Living as delaunay
-use Rattle.mesh_laws.specs.LowestLiving.{face_off, IsRowSlot, IsGhostSlot, IsLowestMesh}
+use Rattle.mesh_laws.specs.LowestLiving.{face_off, IsLowestRowSlot, IsLowestGhostSlot, IsLowestMesh}
 
 module _ (heights : ℕ → ℤ) (slots : List (Option SlotValue)) (ps : List Point) (t : Row) (p : IsPositive (corners ps t)) (a : IsArranged t) where
   abbrev row_to : (s : Row) → IsDelaunayAmong ps (numbers t) s → IsLowestAmong ps (numbers t) heights s
@@ -22,22 +22,22 @@ module _ (heights : ℕ → ℤ) (slots : List (Option SlotValue)) (ps : List Po
   abbrev row_from : (s : Row) → IsLowestAmong ps (numbers t) heights s → IsDelaunayAmong ps (numbers t) s
   row_from s d = ((delaunay_first.law_first ps t p a).only s).1 (((law_first heights ps t p a).only s).0 d)
 
-  hull_to : (f : Face) → delaunay_laws.IsHullFace ps (numbers t) f → IsHullFace heights ps (numbers t) f
+  hull_to : (f : Face) → delaunay_laws.IsHullFace ps (numbers t) f → IsLowestHullFace heights ps (numbers t) f
   hull_to f h = record { behind = h.behind; is_row = row_to h.behind h.is_row; is_face = h.is_face; none_beyond = h.none_beyond }
 
-  hull_from : (f : Face) → IsHullFace heights ps (numbers t) f → delaunay_laws.IsHullFace ps (numbers t) f
+  hull_from : (f : Face) → IsLowestHullFace heights ps (numbers t) f → delaunay_laws.IsHullFace ps (numbers t) f
   hull_from f h = record { behind = h.behind; is_row = row_from h.behind h.is_row; is_face = h.is_face; none_beyond = h.none_beyond }
 
-  abbrev slot_to : (s : ℕ) (u : Row) → delaunay.IsRowSlot slots ps (numbers t) s u → IsRowSlot heights slots ps (numbers t) s u
+  abbrev slot_to : (s : ℕ) (u : Row) → delaunay.IsRowSlot slots ps (numbers t) s u → IsLowestRowSlot heights slots ps (numbers t) s u
   slot_to s u x = record { is = x.is; row = x.row; is_row = row_to x.row x.is_row; same_corners = x.same_corners; is_positive = x.is_positive }
 
-  abbrev slot_from : (s : ℕ) (u : Row) → IsRowSlot heights slots ps (numbers t) s u → delaunay.IsRowSlot slots ps (numbers t) s u
+  abbrev slot_from : (s : ℕ) (u : Row) → IsLowestRowSlot heights slots ps (numbers t) s u → delaunay.IsRowSlot slots ps (numbers t) s u
   slot_from s u x = record { is = x.is; row = x.row; is_row = row_from x.row x.is_row; same_corners = x.same_corners; is_positive = x.is_positive }
 
-  abbrev ghost_to : (s k : ℕ) (u : Row) → delaunay.IsGhostSlot slots ps (numbers t) s u k → IsGhostSlot heights slots ps (numbers t) s u k
+  abbrev ghost_to : (s k : ℕ) (u : Row) → delaunay.IsGhostSlot slots ps (numbers t) s u k → IsLowestGhostSlot heights slots ps (numbers t) s u k
   ghost_to s k u x = record { within = x.within; is = x.is; is_hull = hull_to (face_off u k) x.is_hull }
 
-  abbrev ghost_from : (s k : ℕ) (u : Row) → IsGhostSlot heights slots ps (numbers t) s u k → delaunay.IsGhostSlot slots ps (numbers t) s u k
+  abbrev ghost_from : (s k : ℕ) (u : Row) → IsLowestGhostSlot heights slots ps (numbers t) s u k → delaunay.IsGhostSlot slots ps (numbers t) s u k
   ghost_from s k u x = record { within = x.within; is = x.is; is_hull = hull_from (face_off u k) x.is_hull }
 
   begun : delaunay.IsDelaunayMesh slots ps (numbers t) → IsLowestMesh heights slots ps (numbers t)
@@ -51,7 +51,7 @@ module _ (heights : ℕ → ℤ) (slots : List (Option SlotValue)) (ps : List Po
     linked = now.linked;
   }
     where
-      each : (s : ℕ) → IsLive slots s → ((u : Row) × IsRowSlot heights slots ps (numbers t) s u) ⊎ ((u : Row) × (k : ℕ) × IsGhostSlot heights slots ps (numbers t) s u k)
+      each : (s : ℕ) → IsLive slots s → ((u : Row) × IsLowestRowSlot heights slots ps (numbers t) s u) ⊎ ((u : Row) × (k : ℕ) × IsLowestGhostSlot heights slots ps (numbers t) s u k)
       each s live = elim (now.each s live) [
         | inl x ↦ inl (x.0, slot_to s x.0 x.1)
         | inr x ↦ inr (x.0, x.1, ghost_to s x.1 x.0 x.2)

@@ -17,7 +17,7 @@ use Rattle.geo_laws.proofs.RowFaces.{of_three, in_three, in_face_of, of_face_of,
 use Rattle.insert_laws.specs.Insertion.{HasSameCorners, IsFaceOf, IsHullFace}
 use Rattle.insert_laws.proofs.Insert.{law_one_row}
 use Rattle.insert_laws.proofs.Lists.{law_hull_face}
-use Rattle.mesh_arena.specs.Mesh.{SlotValue, IsLive, corners_at, corner_list, side, IsMesh}
+use Rattle.mesh_arena.specs.Mesh.{SlotValue, IsLive, corners_at, corner_list, link_behind, IsArenaMesh}
 use Rattle.mesh_arena.specs.declared.arena.SlotFace.{SlotFace}
 use Rattle.mesh_arena.specs.declared.slot.Corner.TheVariants.{Point as Numbered, Ghost}
 use Rattle.mesh_arena.specs.declared.slot.SlotCorners.{SlotCorners}
@@ -163,7 +163,7 @@ module _ (slots : List (Option SlotValue)) (ps : List Point) where
 
   -- ---- the hull of the list
 
-  module _ (mesh : IsMesh slots) (now : IsDelaunayMesh slots ps (all_numbers ps)) (rows : List Row) (list : IsDelaunayList ps rows) where
+  module _ (mesh : IsArenaMesh slots) (now : IsDelaunayMesh slots ps (all_numbers ps)) (rows : List Row) (list : IsDelaunayList ps rows) where
     abbrev ms : List ℕ
     ms = all_numbers ps
 
@@ -243,8 +243,8 @@ module _ (slots : List (Option SlotValue)) (ps : List Point) where
         live : IsLive slots slot.0
         live = rw slot.2.is refl
 
-        over : (b : SlotFace) × (side slots slot.0 j ≡ Some b)
-        over = some_side (side slots slot.0 j) (now.linked slot.0 j live p.1)
+        over : (b : SlotFace) × (link_behind slots slot.0 j ≡ Some b)
+        over = some_side (link_behind slots slot.0 j) (now.linked slot.0 j live p.1)
 
         by : ((u : Row) × (other : IsRowSlot slots ps ms over.0.slot u) × IsFaceOf ps (reversed g) other.row) ⊎ ((u : Row) × IsGhostSlot slots ps ms over.0.slot u over.0.face × HasSameFaceCorners g (face_off u over.0.face)) → (s : ℕ) × IsOverFace slots ps s f
         by (inr (u, ghost, corners)) = (over.0.slot, record { four = u; place = over.0.face; ghost = ghost; is = is ∙ same_ascending g (face_off u over.0.face) apart (hull_apart ps ms _ ghost.is_hull) corners })

@@ -9,13 +9,13 @@ use Rattle.geo_laws.proofs.Places.{number}
 use Rattle.sign_predicates.proofs.Places.{A, B, C, D, Place}
 use Rattle.geo_laws.specs.declared.tetrahedra.Tet.{Tet as Row}
 use Rattle.insert_laws.specs.LowestInsertion.{HasAbove}
-use Rattle.mesh_arena.specs.Mesh.{SlotValue, corners_at, corner_list, IsMesh}
+use Rattle.mesh_arena.specs.Mesh.{SlotValue, corners_at, corner_list, IsArenaMesh}
 use Rattle.mesh_arena.specs.declared.slot.SlotCorners.{SlotCorners}
 use Rattle.std.proofs.lemmas.Int.{ints}
 use Rattle.mesh_arena.specs.declared.slot.Corner.TheVariants.{Ghost}
 use Rattle.point_locate.specs.Place.{AreCornersOn, AreOn, IsAt, row_corners, placed}
-use Rattle.mesh_laws.specs.LowestLiving.{IsRowSlot, IsGhostSlot}
-use Rattle.mesh_laws.specs.LowestRule.{IsTakenRow, IsTaken, IsSeen, IsInnerTaken}
+use Rattle.mesh_laws.specs.LowestLiving.{IsLowestRowSlot, IsLowestGhostSlot}
+use Rattle.mesh_laws.specs.LowestRule.{IsLowestTakenRow, IsLowestTaken, IsLowestSeen, IsLowestInnerTaken}
 use Rattle.mesh_laws.proofs.LowestTaken.{no_ghost, same_corners}
 use Rattle.mesh_laws.proofs.LowestRows.{same_row}
 use Rattle.mesh_laws.proofs.LowestPlaced.{law_placed}
@@ -26,7 +26,7 @@ use Rattle.mesh_laws.specs.Reach.{Grown}
 use Rattle.cavity_insert.specs.Lift.{IsRowFor}
 use Rattle.cavity_insert.specs.Search.{SearchValue}
 
-module _ (heights : ℕ → ℤ) (slots : List (Option SlotValue)) (ps : List Point) (ms : List ℕ) (p : ℕ) (mesh : IsMesh slots) (ready : IsReadyFor heights slots ps ms p) where
+module _ (heights : ℕ → ℤ) (slots : List (Option SlotValue)) (ps : List Point) (ms : List ℕ) (p : ℕ) (mesh : IsArenaMesh slots) (ready : IsReadyFor heights slots ps ms p) where
   pub corners_on : AreCornersOn slots ps
   corners_on = law_placed.corners heights slots ps ms mesh ready.mesh
 
@@ -34,7 +34,7 @@ module _ (heights : ℕ → ℤ) (slots : List (Option SlotValue)) (ps : List Po
 pub row_for : (heights : ℕ → ℤ) (slots : List (Option SlotValue)) (ps : List Point) (ms : List ℕ) (p : ℕ) → IsReadyFor heights slots ps ms p → (s : ℕ) (t : Row) → corners_at slots s ≡ Some (row_corners t) → IsRowFor ps t p
 row_for heights slots ps ms p ready s t is = by (ready.mesh.each s (rw is refl))
   where
-    by : ((u : Row) × IsRowSlot heights slots ps ms s u) ⊎ ((u : Row) × (k : ℕ) × IsGhostSlot heights slots ps ms s u k) → IsRowFor ps t p
+    by : ((u : Row) × IsLowestRowSlot heights slots ps ms s u) ⊎ ((u : Row) × (k : ℕ) × IsLowestGhostSlot heights slots ps ms s u k) → IsRowFor ps t p
     by (inl row) = record {
       on = on;
       positive = subst (λ (u : Row). IsPositive (corners ps u)) same slot.is_positive;
@@ -42,7 +42,7 @@ row_for heights slots ps ms p ready s t is = by (ready.mesh.each s (rw is refl))
       further = λ c. ready.is_new.is_new (among p c);
     }
       where
-        slot : IsRowSlot heights slots ps ms s row.0
+        slot : IsLowestRowSlot heights slots ps ms s row.0
         slot = row.1
 
         same : row.0 ≡ t
@@ -65,13 +65,13 @@ row_for heights slots ps ms p ready s t is = by (ready.mesh.each s (rw is refl))
         absurd (no_ghost t ghost.1 k4 (ap (λ cs. get_or cs ghost.1 Ghost) (same_corners slots s _ _ is ghost.2.is) ∙ get_or-set_same (row_corners ghost.0) ghost.1 Ghost Ghost (omega arith)))
 
 -- the test of a row: it takes p where p is not outside
-pub test_row : (heights : ℕ → ℤ) (ps : List Point) (t : Row) (p : ℕ) (b : Bool) → IsTrue b ↔ HasAbove heights ps t p → IsTrue (not b) ↔ IsTakenRow heights ps p (row_corners t)
+pub test_row : (heights : ℕ → ℤ) (ps : List Point) (t : Row) (p : ℕ) (b : Bool) → IsTrue b ↔ HasAbove heights ps t p → IsTrue (not b) ↔ IsLowestTakenRow heights ps p (row_corners t)
 test_row heights ps t p b is = (to b is, from)
   where
     never : false ≡ true → ⊥
     never e = cc
 
-    to : (b : Bool) → IsTrue b ↔ HasAbove heights ps t p → IsTrue (not b) → IsTakenRow heights ps p (row_corners t)
+    to : (b : Bool) → IsTrue b ↔ HasAbove heights ps t p → IsTrue (not b) → IsLowestTakenRow heights ps p (row_corners t)
     to true e h = absurd (never h)
     to false e h = record { row = t; is = refl; holds = λ a. never (e.1 a) }
 
@@ -79,30 +79,30 @@ test_row heights ps t p b is = (to b is, from)
     not_true true n = absurd (n refl)
     not_true false n = refl
 
-    from : IsTakenRow heights ps p (row_corners t) → IsTrue (not b)
+    from : IsLowestTakenRow heights ps p (row_corners t) → IsTrue (not b)
     from taken =
         let same : taken.row ≡ t = same_row taken.row t (sym taken.is) in
         not_true b (λ h. subst (λ (u : Row). ¬ HasAbove heights ps u p) same taken.holds (is.0 h))
 
 -- the test of a slot with a row
-pub test_at : (heights : ℕ → ℤ) (slots : List (Option SlotValue)) (ps : List Point) (p s : ℕ) (t : Row) (b : Bool) → corners_at slots s ≡ Some (row_corners t) → IsTrue b ↔ IsTakenRow heights ps p (row_corners t)
-    → IsTrue b ↔ IsAt slots (IsTakenRow heights ps p) s
+pub test_at : (heights : ℕ → ℤ) (slots : List (Option SlotValue)) (ps : List Point) (p s : ℕ) (t : Row) (b : Bool) → corners_at slots s ≡ Some (row_corners t) → IsTrue b ↔ IsLowestTakenRow heights ps p (row_corners t)
+    → IsTrue b ↔ IsAt slots (IsLowestTakenRow heights ps p) s
 test_at heights slots ps p s t b is test = (
   λ h. record { corners = row_corners t; is = is; here = test.0 h },
-  λ at. test.1 (subst (IsTakenRow heights ps p) (same_corners slots s _ _ at.is is) at.here),
+  λ at. test.1 (subst (IsLowestTakenRow heights ps p) (same_corners slots s _ _ at.is is) at.here),
 )
 
-pub test_slot : (heights : ℕ → ℤ) (slots : List (Option SlotValue)) (ps : List Point) (p s : ℕ) (t : Row) (b : Bool) → corners_at slots s ≡ Some (row_corners t) → IsTrue b ↔ IsTakenRow heights ps p (row_corners t)
-    → IsTrue b ↔ IsTaken heights slots ps p s
+pub test_slot : (heights : ℕ → ℤ) (slots : List (Option SlotValue)) (ps : List Point) (p s : ℕ) (t : Row) (b : Bool) → corners_at slots s ≡ Some (row_corners t) → IsTrue b ↔ IsLowestTakenRow heights ps p (row_corners t)
+    → IsTrue b ↔ IsLowestTaken heights slots ps p s
 test_slot heights slots ps p s t b is test = (λ h. inl ((test_at heights slots ps p s t b is test).0 h), from)
   where
-    from : IsTaken heights slots ps p s → IsTrue b
+    from : IsLowestTaken heights slots ps p s → IsTrue b
     from (inl at) = (test_at heights slots ps p s t b is test).1 at
     from (inr ghost) = absurd (no_ghost t ghost.place ghost.within (ap (λ cs. get_or cs ghost.place Ghost) (same_corners slots s _ _ is ghost.infinite.is) ∙ ghost.infinite.here))
 
 -- a ghost whose volume with p is below 0 is not seen
 pub not_seen : (heights : ℕ → ℤ) (slots : List (Option SlotValue)) (ps : List Point) (p s place : ℕ) (t : SlotCorners) → corners_at slots s ≡ Some (corner_list t) → volume (placed ps (point ps p) t) <ℤ pos 0
-    → ¬ IsSeen heights slots ps p s place
+    → ¬ IsLowestSeen heights slots ps p s place
 not_seen heights slots ps p s place t is below seen = by seen.sees
   where
     same : seen.ghost ≡ t
@@ -123,14 +123,14 @@ not_seen heights slots ps p s place t is below seen = by seen.sees
     level : (m n : ℤ) → m ≡ n → n <ℤ pos 0 → m ≡ pos 0 → ⊥
     level m n e h k = omega (arith, ints)
 
-    by : (pos 0 <ℤ volume (placed ps (point ps p) seen.ghost)) ⊎ ((volume (placed ps (point ps p) seen.ghost) ≡ pos 0) × IsInnerTaken heights slots ps p s place) → ⊥
+    by : (pos 0 <ℤ volume (placed ps (point ps p) seen.ghost)) ⊎ ((volume (placed ps (point ps p) seen.ghost) ≡ pos 0) × IsLowestInnerTaken heights slots ps p s place) → ⊥
     by (inl k) = over _ _ volume_is below k
     by (inr k) = level _ _ volume_is below k.0
 
 -- what a search tells of itself is so of an equal one
 module _ {H : Type 0} (heights : H → ℕ → ℤ) (points : H → List Point) (one two : SearchValue H) (same : one ≡ two) where
   abbrev takes : SearchValue H → ℕ → Type 0
-  takes v s = IsTaken (heights v.lift) v.slots (points v.lift) v.p s
+  takes v s = IsLowestTaken (heights v.lift) v.slots (points v.lift) v.p s
 
   pub same_zone : (b : Bool) (s : ℕ) → IsTrue b ↔ takes one s → IsTrue b ↔ takes two s
   same_zone b s told = subst (λ (v : SearchValue H). IsTrue b ↔ takes v s) same told

@@ -6,7 +6,7 @@ use Rattle.sign_predicates.specs.Lifted.{IsInFrame, AreInFrame}
 use Rattle.sign_predicates.specs.declared.lifted.Frame.{Frame}
 use Rattle.geo_laws.specs.Delaunay.{point, corners}
 use Rattle.geo_laws.specs.declared.tetrahedra.Tet.{Tet as Row}
-use Rattle.mesh_arena.specs.Mesh.{numbered}
+use Rattle.mesh_arena.specs.Mesh.{numbered_corners}
 use Rattle.point_locate.specs.Place.{AreOn, row_corners}
 use Rattle.geo_laws.specs.Height.{lifted}
 use Rattle.geo_laws.proofs.Corners.{on_of_corners}
@@ -55,7 +55,7 @@ one_more frame ps qs rs n q p len each pushed at new = below_more _ _ before her
     here = subst (λ r. IsInFrame frame r (point ps n)) (sym (ap (λ ls. point ls n) pushed ∙ get_or_push qs q origin n len)) (subst (λ e. IsInFrame frame q e) (sym at) new)
 
 -- the corners of four points
-pub four_numbered : (ns : List ℕ) → length ns ≡ 4 → numbered ns ≡ row_corners (record { a = get_or ns 0 0; b = get_or ns 1 0; c = get_or ns 2 0; d = get_or ns 3 0 })
+pub four_numbered : (ns : List ℕ) → length ns ≡ 4 → numbered_corners ns ≡ row_corners (record { a = get_or ns 0 0; b = get_or ns 1 0; c = get_or ns 2 0; d = get_or ns 3 0 })
 four_numbered [] h = absurd (omega arith)
 four_numbered (a ∷ []) h = absurd (omega arith)
 four_numbered (a ∷ b ∷ []) h = absurd (omega arith)

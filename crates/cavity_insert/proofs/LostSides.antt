@@ -5,14 +5,14 @@ use Rattle.sign_predicates.specs.Point.{Point}
 use Rattle.geo_laws.specs.Delaunay.{numbers, all_numbers}
 use Rattle.geo_laws.specs.declared.tetrahedra.Tet.{Tet as Row}
 use Rattle.mesh_arena.specs.Mesh.{SlotValue, corners_at, IsLive}
-use Rattle.mesh_arena.specs.Cavity.{slot_at, IsIn}
+use Rattle.mesh_arena.specs.Cavity.{slot_at, IsInCavitySlots}
 use Rattle.mesh_arena.specs.declared.slot.Corner.{Corner}
 use Rattle.mesh_arena.specs.declared.slot.Slot.{Slot}
 use Rattle.point_locate.specs.Place.{row_corners, IsAt}
 use Rattle.mesh_laws.specs.Living.{IsDelaunayMesh}
 use Rattle.mesh_laws.proofs.Taken.{same_corners}
 use Rattle.mesh_laws.proofs.Rows.{same_row}
-use Rattle.cavity_insert.specs.Living.{HasSide, HasBoth}
+use Rattle.cavity_insert.specs.Living.{IsDelaunaySide, HasBoth}
 use Rattle.cavity_insert.specs.Lost.{IsToldOf, AreLostSides}
 use Rattle.cavity_insert.proofs.SlotSides.{side_of_slot, slot_of_side}
 
@@ -28,7 +28,7 @@ pub told_more : (slots : List (Option SlotValue)) (u : ℕ) (lost more : List �
 told_more slots u lost more all told a b at = let r = told a b at in (all a r.0, all b r.1)
 
 -- the slot is in the cavity or not
-pub in_or_not : (cavity : List Slot) (u : ℕ) → IsIn cavity u ⊎ (IsIn cavity u → ⊥)
+pub in_or_not : (cavity : List Slot) (u : ℕ) → IsInCavitySlots cavity u ⊎ (IsInCavitySlots cavity u → ⊥)
 in_or_not [] u = inr (λ is. absurd (none is.place is.inside))
   where
     none : (k : ℕ) → k < 0 → ⊥
@@ -38,14 +38,14 @@ in_or_not (s ∷ cavity) u = go (same_or_not s.index u) (in_or_not cavity u)
     same_or_not : (i j : ℕ) → (i ≡ j) ⊎ (i ≡ j → ⊥)
     same_or_not i j = grind arith
 
-    later : IsIn cavity u → IsIn (s ∷ cavity) u
+    later : IsInCavitySlots cavity u → IsInCavitySlots (s ∷ cavity) u
     later is = record { place = suc is.place; inside = (let h = is.inside in omega arith); is = is.is }
 
-    neither : (s.index ≡ u → ⊥) → (IsIn cavity u → ⊥) → (k : ℕ) → k < length (s ∷ cavity) → slot_at (s ∷ cavity) k ≡ u → ⊥
+    neither : (s.index ≡ u → ⊥) → (IsInCavitySlots cavity u → ⊥) → (k : ℕ) → k < length (s ∷ cavity) → slot_at (s ∷ cavity) k ≡ u → ⊥
     neither differs off zero h e = differs e
     neither differs off (suc k) h e = off (record { place = k; inside = omega arith; is = e })
 
-    go : (s.index ≡ u) ⊎ (s.index ≡ u → ⊥) → IsIn cavity u ⊎ (IsIn cavity u → ⊥) → IsIn (s ∷ cavity) u ⊎ (IsIn (s ∷ cavity) u → ⊥)
+    go : (s.index ≡ u) ⊎ (s.index ≡ u → ⊥) → IsInCavitySlots cavity u ⊎ (IsInCavitySlots cavity u → ⊥) → IsInCavitySlots (s ∷ cavity) u ⊎ (IsInCavitySlots (s ∷ cavity) u → ⊥)
     go (inl e) rest = inl (record { place = 0; inside = omega arith; is = e })
     go (inr differs) (inl is) = inl (later is)
     go (inr differs) (inr off) = inr (λ is. neither differs off is.place is.inside is.is)
@@ -61,6 +61,6 @@ lost_sides old new before after lost mesh next told a b side =
     let at = found.2 in
     go found.0 at (told found.0 (live_at old found.0 at.corners at.is))
   where
-    go : (s : ℕ) → IsAt old (λ cs. HasBoth cs a b) s → IsToldOf lost old s ⊎ (corners_at new s ≡ corners_at old s) → HasSide after a b ⊎ (Contains lost a × Contains lost b)
+    go : (s : ℕ) → IsAt old (λ cs. HasBoth cs a b) s → IsToldOf lost old s ⊎ (corners_at new s ≡ corners_at old s) → IsDelaunaySide after a b ⊎ (Contains lost a × Contains lost b)
     go s at (inl all) = inr (all a b at)
     go s at (inr same) = inl (side_of_slot new after next a b s side.differ (record { corners = at.corners; is = same ∙ at.is; here = at.here }))

@@ -3,9 +3,10 @@ use Rattle.std.proofs.Common.{◌≡◌, ◌≢◌, ◌⊎◌, inl, inr, ℕ, �
 use Rattle.std.proofs.lemmas.Bool.{cases_eq, cases_lt}
 use Rattle.std.proofs.lemmas.List.{get_or-set_same, get_or-set_other, get_or-take, get_or_past, length-set, length-take-le, length_push}
 use Rattle.mesh_arena.specs.declared.slot.Slot.{Slot}
-use Rattle.mesh_arena.specs.Cavity.{slot_at, IsIn}
-use Rattle.cavity_insert.specs.Marks.{is_marked, AreMarksOf}
+use Rattle.mesh_arena.specs.Cavity.{slot_at, IsInCavitySlots}
+use Rattle.cavity_insert.specs.Marks.{AreMarksOf}
 use Rattle.cavity_insert.proofs.Growth.{slot_push, slot_last, step_cases}
+use Rattle.geo_laws.specs.Marks.{is_marked}
 
 -- the mark of another slot is set
 mark_other : (marks : List Bool) (at u : ℕ) (m : Bool) → u ≢ at → is_marked (set marks at m) u ≡ is_marked marks u
@@ -25,13 +26,13 @@ same_marks cavity marks now same was = record { only = λ u e. was.only u (sym (
 pub one_marked : (cavity : List Slot) (marks : List Bool) (s : Slot) → s.index < length marks → AreMarksOf cavity marks → AreMarksOf (cavity ++ s ∷ []) (set marks s.index true)
 one_marked cavity marks s inside was = record { only = λ u e. only u e (cases_eq u s.index); all = λ u h. all u h (step_cases h.place (length cavity) (let k = h.inside in omega (arith, length_push cavity s))) }
   where
-    only : (u : ℕ) → is_marked (set marks s.index true) u ≡ true → (u ≡ s.index) ⊎ (u ≢ s.index) → IsIn (cavity ++ s ∷ []) u
+    only : (u : ℕ) → is_marked (set marks s.index true) u ≡ true → (u ≡ s.index) ⊎ (u ≢ s.index) → IsInCavitySlots (cavity ++ s ∷ []) u
     only u e (inl same) = record { place = length cavity; inside = omega (arith, length_push cavity s); is = slot_last cavity s ∙ sym same }
     only u e (inr other) =
         let old = was.only u (sym (mark_other marks s.index u true other) ∙ e) in
         record { place = old.place; inside = omega (arith, old.inside, length_push cavity s); is = slot_push cavity s old.place old.inside ∙ old.is }
 
-    all : (u : ℕ) (h : IsIn (cavity ++ s ∷ []) u) → (h.place < length cavity) ⊎ (h.place ≡ length cavity) → is_marked (set marks s.index true) u ≡ true
+    all : (u : ℕ) (h : IsInCavitySlots (cavity ++ s ∷ []) u) → (h.place < length cavity) ⊎ (h.place ≡ length cavity) → is_marked (set marks s.index true) u ≡ true
     all u h (inr last) =
         let here : s.index ≡ u = sym (slot_last cavity s) ∙ ap (slot_at (cavity ++ s ∷ [])) (sym last) ∙ h.is in
         subst (λ v. is_marked (set marks s.index true) v ≡ true) here (mark_same marks s.index true inside)
@@ -45,7 +46,7 @@ one_marked cavity marks s inside was = record { only = λ u e. only u e (cases_e
 
 -- no other slot than those left is marked, and these have a mark
 pub record Clearing (left : List Slot) (marks : List Bool) : Type 0 where
-  pub only : (u : ℕ) → is_marked marks u ≡ true → IsIn left u
+  pub only : (u : ℕ) → is_marked marks u ≡ true → IsInCavitySlots left u
   pub inside : (j : ℕ) → j < length left → slot_at left j < length marks
 
 pub Clearing-start : (cavity : List Slot) (marks : List Bool) → AreMarksOf cavity marks → Clearing cavity marks
@@ -70,14 +71,14 @@ Clearing-more left marks n at was long is = record { only = λ u e. only u e (ca
     within : (j : ℕ) → j < n → slot_at (take n left) j < length (set marks at false)
     within j h = omega (arith, kept j h, was.inside j (omega arith), length-set marks at false)
 
-    only : (u : ℕ) → is_marked (set marks at false) u ≡ true → (u ≡ at) ⊎ (u ≢ at) → IsIn (take n left) u
+    only : (u : ℕ) → is_marked (set marks at false) u ≡ true → (u ≡ at) ⊎ (u ≢ at) → IsInCavitySlots (take n left) u
     only u e (inl same) = absurd (true≢false (sym e ∙ ap (is_marked (set marks at false)) same ∙ mark_same marks at false marked))
     only u e (inr other) = by old (step_cases old.place n (omega (arith, old.inside)))
       where
-        old : IsIn left u
+        old : IsInCavitySlots left u
         old = was.only u (sym (mark_other marks at u false other) ∙ e)
 
-        by : (h : IsIn left u) → (h.place < n) ⊎ (h.place ≡ n) → IsIn (take n left) u
+        by : (h : IsInCavitySlots left u) → (h.place < n) ⊎ (h.place ≡ n) → IsInCavitySlots (take n left) u
         by h (inl less) = record { place = h.place; inside = omega (arith, count); is = kept h.place less ∙ h.is }
         by h (inr last) = absurd (other (sym h.is ∙ ap (slot_at left) last ∙ is))
 

@@ -67,7 +67,7 @@ mesh_of slots new ps number l lowest =
     (all_longer l.others l.last new (subst (λ n. IsDelaunayMesh new (l.others ++ l.last ∷ []) (n ∷ all_numbers l.others)) l.number_is (subst (λ xs. IsDelaunayMesh new xs (number ∷ all_numbers l.others)) l.is mesh)))
 
 -- and what the last point takes it takes by the heights too
-pub takes_of : (slots : List (Option SlotValue)) (ps : List Point) (number u : ℕ) → IsLonger slots ps number → lowest.IsTaken (lifted ps) slots ps number u → IsTaken slots ps (point ps number) number u
+pub takes_of : (slots : List (Option SlotValue)) (ps : List Point) (number u : ℕ) → IsLonger slots ps number → lowest.IsLowestTaken (lifted ps) slots ps number u → IsTaken slots ps (point ps number) number u
 takes_of slots ps number u l =
     let ready = ready_of slots ps number l in
     bridge.taken_from slots ps (all_numbers l.others) number (bridge.mesh_from slots ps (all_numbers l.others) ready.mesh) ready.is_new u

@@ -12,18 +12,18 @@ use Rattle.mesh_arena.specs.declared.slot.Corner.{Corner}
 use Rattle.point_locate.specs.Place.{row_corners, IsAt}
 use Rattle.mesh_laws.specs.Living.{IsRowSlot, IsDelaunayMesh}
 use Rattle.mesh_laws.proofs.Rows.{same_row}
-use Rattle.cavity_insert.specs.Living.{HasSide, HasBoth}
+use Rattle.cavity_insert.specs.Living.{IsDelaunaySide, HasBoth}
 use Rattle.cavity_insert.proofs.SlotRows.{slot_within, slot_of_row}
 
 module _ (slots : List (Option SlotValue)) (ps : List Point) (mesh : IsDelaunayMesh slots ps (all_numbers ps)) (a b : ℕ) where
   -- a slot with both points tells of a side
-  pub side_of_slot : (s : ℕ) → a ≢ b → IsAt slots (λ cs. HasBoth cs a b) s → HasSide ps a b
+  pub side_of_slot : (s : ℕ) → a ≢ b → IsAt slots (λ cs. HasBoth cs a b) s → IsDelaunaySide ps a b
   side_of_slot s apart at =
       let slot = slot_of_row slots ps (all_numbers ps) mesh s at.here.four (at.is ∙ ap Some at.here.is) in
       record { differ = apart; row = slot.row; is_row = slot.is_row; first = (slot.same_corners a).0 at.here.first; second = (slot.same_corners b).0 at.here.second }
 
   -- each side has a slot with both points
-  pub slot_of_side : HasSide ps a b → (s : ℕ) × (s < length slots) × IsAt slots (λ cs. HasBoth cs a b) s
+  pub slot_of_side : IsDelaunaySide ps a b → (s : ℕ) × (s < length slots) × IsAt slots (λ cs. HasBoth cs a b) s
   slot_of_side side = by (mesh.rows side.row side.is_row)
     where
       by : (s : ℕ) × (t : Row) × (slot : IsRowSlot slots ps (all_numbers ps) s t) × (slot.row ≡ side.row) → (s : ℕ) × (s < length slots) × IsAt slots (λ cs. HasBoth cs a b) s

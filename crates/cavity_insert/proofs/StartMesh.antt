@@ -18,61 +18,61 @@ use Rattle.mesh_laws.specs.Living.{face_off, IsFaceCorner, HasSameFaceCorners, I
 use Rattle.mesh_laws.proofs.Faces.{place_of, off_corner, corner_off, corner_split, row_off}
 use Rattle.mesh_laws.proofs.Across.{ghost_shows, infinite_corner}
 use Rattle.mesh_laws.proofs.Joined.{place_other}
-use Rattle.mesh_arena.specs.Mesh.{SlotValue, corners_at, corner, corner_in, side, at, IsLive, OnFace, SameFace, Links, Takes, Off}
+use Rattle.mesh_arena.specs.Mesh.{SlotValue, corners_at, corner, corner_in, link_behind, at, IsLive, OnFace, SameFace, Links, Takes, Off}
 use Rattle.mesh_arena.specs.declared.arena.SlotFace.{SlotFace}
 use Rattle.mesh_arena.specs.declared.slot.Corner.{Corner}
 use Rattle.mesh_arena.specs.declared.slot.Corner.TheVariants.{Point as Numbered, Ghost}
 use Rattle.cavity_insert.specs.declared.start.Shared.{Shared}
-use Rattle.cavity_insert.specs.Start.{corner_of, start_places, named, behind_face, AreStartSlots, start_links, place_in, has_off, covers, fits}
+use Rattle.cavity_insert.specs.Start.{corner_by_place, start_places, named_corners, behind_face, AreStartSlots, start_links, corner_place_in, has_off, covers, fits_behind}
 
 -- the corner in a place
-corner_named : (t : Row) (places : Option (List ℕ)) (m : ℕ) → corner_in (named t places) m ≡ corner_of t (place_in places m)
+corner_named : (t : Row) (places : Option (List ℕ)) (m : ℕ) → corner_in (named_corners t places) m ≡ corner_by_place t (corner_place_in places m)
 corner_named t None m = refl
 corner_named t (Some places) m = at places m
   where
-    at : (ps : List ℕ) (k : ℕ) → get_or (map (corner_of t) ps) k Ghost ≡ corner_of t (get_or ps k 9)
+    at : (ps : List ℕ) (k : ℕ) → get_or (map (corner_by_place t) ps) k Ghost ≡ corner_by_place t (get_or ps k 9)
     at [] k = refl
     at (p ∷ ps) zero = refl
     at (p ∷ ps) (suc k) = at ps k
 
 -- a place off j that has the corner
-found : (places : Option (List ℕ)) (j x : ℕ) → has_off places j x ≡ true → (q : ℕ) × (q < 4) × (q ≢ j) × (place_in places q ≡ x)
+found : (places : Option (List ℕ)) (j x : ℕ) → has_off places j x ≡ true → (q : ℕ) × (q < 4) × (q ≢ j) × (corner_place_in places q ≡ x)
 found places j x h = first (or_cases _ _ h)
   where
-    here : (q : ℕ) → q < 4 → (not (q == j) && place_in places q == x) ≡ true → (r : ℕ) × (r < 4) × (r ≢ j) × (place_in places r ≡ x)
+    here : (q : ℕ) → q < 4 → (not (q == j) && corner_place_in places q == x) ≡ true → (r : ℕ) × (r < 4) × (r ≢ j) × (corner_place_in places r ≡ x)
     here q l e =
-        let parts = and_parts (not (q == j)) (place_in places q == x) e in
+        let parts = and_parts (not (q == j)) (corner_place_in places q == x) e in
         (q, l, (λ same. true≢false (sym (parts.0) ∙ ap not (eq-eqb q j same))), eqb-true _ _ parts.1)
 
-    third : ((not (2 == j) && place_in places 2 == x) ≡ true) ⊎ ((not (3 == j) && place_in places 3 == x) ≡ true) → (r : ℕ) × (r < 4) × (r ≢ j) × (place_in places r ≡ x)
+    third : ((not (2 == j) && corner_place_in places 2 == x) ≡ true) ⊎ ((not (3 == j) && corner_place_in places 3 == x) ≡ true) → (r : ℕ) × (r < 4) × (r ≢ j) × (corner_place_in places r ≡ x)
     third (inl e) = here 2 (omega arith) e
     third (inr e) = here 3 (omega arith) e
 
-    second : ((not (1 == j) && place_in places 1 == x) ≡ true) ⊎ (((not (2 == j) && place_in places 2 == x) || (not (3 == j) && place_in places 3 == x)) ≡ true) → (r : ℕ) × (r < 4) × (r ≢ j) × (place_in places r ≡ x)
+    second : ((not (1 == j) && corner_place_in places 1 == x) ≡ true) ⊎ (((not (2 == j) && corner_place_in places 2 == x) || (not (3 == j) && corner_place_in places 3 == x)) ≡ true) → (r : ℕ) × (r < 4) × (r ≢ j) × (corner_place_in places r ≡ x)
     second (inl e) = here 1 (omega arith) e
     second (inr e) = third (or_cases _ _ e)
 
-    first : ((not (0 == j) && place_in places 0 == x) ≡ true) ⊎ (((not (1 == j) && place_in places 1 == x) || ((not (2 == j) && place_in places 2 == x) || (not (3 == j) && place_in places 3 == x))) ≡ true) → (r : ℕ) × (r < 4) × (r ≢ j) × (place_in places r ≡ x)
+    first : ((not (0 == j) && corner_place_in places 0 == x) ≡ true) ⊎ (((not (1 == j) && corner_place_in places 1 == x) || ((not (2 == j) && corner_place_in places 2 == x) || (not (3 == j) && corner_place_in places 3 == x))) ≡ true) → (r : ℕ) × (r < 4) × (r ≢ j) × (corner_place_in places r ≡ x)
     first (inl e) = here 0 (omega arith) e
     first (inr e) = second (or_cases _ _ e)
 
 -- the corners off one place are found off the other
-covered : (one two : Option (List ℕ)) (i j m : ℕ) → covers one i two j ≡ true → m < 4 → m ≢ i → (q : ℕ) × (q < 4) × (q ≢ j) × (place_in two q ≡ place_in one m)
+covered : (one two : Option (List ℕ)) (i j m : ℕ) → covers one i two j ≡ true → m < 4 → m ≢ i → (q : ℕ) × (q < 4) × (q ≢ j) × (corner_place_in two q ≡ corner_place_in one m)
 covered one two i j m h l off =
     let a = and_parts _ _ h in
     let b = and_parts _ _ a.1 in
     let c = and_parts _ _ b.1 in
     by m l off a.0 b.0 c.0 c.1
   where
-    at : (k : ℕ) → k ≢ i → (k == i || has_off two j (place_in one k)) ≡ true → (q : ℕ) × (q < 4) × (q ≢ j) × (place_in two q ≡ place_in one k)
+    at : (k : ℕ) → k ≢ i → (k == i || has_off two j (corner_place_in one k)) ≡ true → (q : ℕ) × (q < 4) × (q ≢ j) × (corner_place_in two q ≡ corner_place_in one k)
     at k n e = cases (or_cases _ _ e)
       where
-        cases : ((k == i) ≡ true) ⊎ (has_off two j (place_in one k) ≡ true) → (q : ℕ) × (q < 4) × (q ≢ j) × (place_in two q ≡ place_in one k)
+        cases : ((k == i) ≡ true) ⊎ (has_off two j (corner_place_in one k) ≡ true) → (q : ℕ) × (q < 4) × (q ≢ j) × (corner_place_in two q ≡ corner_place_in one k)
         cases (inl same) = absurd (n (eqb-true _ _ same))
-        cases (inr has) = found two j (place_in one k) has
+        cases (inr has) = found two j (corner_place_in one k) has
 
-    by : (k : ℕ) → k < 4 → k ≢ i → (0 == i || has_off two j (place_in one 0)) ≡ true → (1 == i || has_off two j (place_in one 1)) ≡ true → (2 == i || has_off two j (place_in one 2)) ≡ true
-        → (3 == i || has_off two j (place_in one 3)) ≡ true → (q : ℕ) × (q < 4) × (q ≢ j) × (place_in two q ≡ place_in one k)
+    by : (k : ℕ) → k < 4 → k ≢ i → (0 == i || has_off two j (corner_place_in one 0)) ≡ true → (1 == i || has_off two j (corner_place_in one 1)) ≡ true → (2 == i || has_off two j (corner_place_in one 2)) ≡ true
+        → (3 == i || has_off two j (corner_place_in one 3)) ≡ true → (q : ℕ) × (q < 4) × (q ≢ j) × (corner_place_in two q ≡ corner_place_in one k)
     by zero h4 n a b c d = at 0 n a
     by (suc zero) h4 n a b c d = at 1 n b
     by (suc (suc zero)) h4 n a b c d = at 2 n c
@@ -80,13 +80,13 @@ covered one two i j m h l off =
     by (suc (suc (suc (suc k)))) h4 n a b c d = absurd (omega (arith, h4))
 
 module _ (slots : List (Option SlotValue)) (t : Row) (linked : List Shared) (are : AreStartSlots slots t linked) where
-  corner_is : (s m : ℕ) → corner slots s m ≡ corner_of t (place_in (start_places s) m)
+  corner_is : (s m : ℕ) → corner slots s m ≡ corner_by_place t (corner_place_in (start_places s) m)
   corner_is s m = ap (λ o. corner_in o m) (are.corners s) ∙ corner_named t (start_places s) m
 
   on_other : (s i u j : ℕ) → covers (start_places s) i (start_places u) j ≡ true → (x : Corner) → OnFace slots s i x → OnFace slots u j x
   on_other s i u j h x on =
       let q = covered (start_places s) (start_places u) i j on.place h on.within on.off in
-      record { place = q.0; within = q.1; off = q.2; is = corner_is u q.0 ∙ ap (corner_of t) q.3 ∙ sym (corner_is s on.place) ∙ on.is }
+      record { place = q.0; within = q.1; off = q.2; is = corner_is u q.0 ∙ ap (corner_by_place t) q.3 ∙ sym (corner_is s on.place) ∙ on.is }
 
   pub same_face : (s i u j : ℕ) → covers (start_places s) i (start_places u) j ≡ true → covers (start_places u) j (start_places s) i ≡ true → SameFace slots s i u j
   same_face s i u j h g = record { to = on_other s i u j h; from = on_other u j s i g }
@@ -94,7 +94,7 @@ module _ (slots : List (Option SlotValue)) (t : Row) (linked : List Shared) (are
   pub live_at : (s : ℕ) → is_some (start_places s) ≡ true → IsLive slots s
   live_at s h = subst IsSome (sym (are.corners s)) (by (start_places s) h)
     where
-      by : (o : Option (List ℕ)) → is_some o ≡ true → IsSome (named t o)
+      by : (o : Option (List ℕ)) → is_some o ≡ true → IsSome (named_corners t o)
       by None e = absurd (true≢false (sym e))
       by (Some ps) e = refl
 
@@ -109,10 +109,10 @@ pub record CanLink (slots : List (Option SlotValue)) (p : Shared) : Type 0 where
   pub faces : (p.face < 4) × (p.back < 4)
   pub differ : p.slot ≢ p.behind
   pub same : SameFace slots p.slot p.face p.behind p.back
-  pub first_free : side slots p.slot p.face ≡ None
-  pub second_free : side slots p.behind p.back ≡ None
+  pub first_free : link_behind slots p.slot p.face ≡ None
+  pub second_free : link_behind slots p.behind p.back ≡ None
 
-pub can_link : (slots : List (Option SlotValue)) (t : Row) (linked : List Shared) (p : Shared) → AreStartSlots slots t linked → fits linked p ≡ true → CanLink slots p
+pub can_link : (slots : List (Option SlotValue)) (t : Row) (linked : List Shared) (p : Shared) → AreStartSlots slots t linked → fits_behind linked p ≡ true → CanLink slots p
 can_link slots t linked p are h =
     let a = and_parts _ _ h in
     let live = and_parts _ _ a.0 in
@@ -146,17 +146,17 @@ linked_one old new t linked p are links = record {
         by (inr n) = inl n
         by (inl e) = inr (λ f. true≢false (sym (ap (λ b. b && (k == j)) (eq-eqb s u e) ∙ eq-eqb k j f) ∙ h))
 
-    here : (s k u j : ℕ) → (s == u && k == j) ≡ true → (b : Option SlotFace) → side new u j ≡ b → side new s k ≡ b
+    here : (s k u j : ℕ) → (s == u && k == j) ≡ true → (b : Option SlotFace) → link_behind new u j ≡ b → link_behind new s k ≡ b
     here s k u j h b e =
         let parts = and_parts _ _ h in
-        ap (λ z. side new z k) (eqb-true s u parts.0) ∙ ap (λ z. side new u z) (eqb-true k j parts.1) ∙ e
+        ap (λ z. link_behind new z k) (eqb-true s u parts.0) ∙ ap (λ z. link_behind new u z) (eqb-true k j parts.1) ∙ e
 
     second : (s k : ℕ) → Off s k p.slot p.face → ((s == p.behind && k == p.back) ≡ true) ⊎ ((s == p.behind && k == p.back) ≡ false)
-        → side new s k ≡ (if s == p.behind && k == p.back then Some (at p.slot p.face) else behind_face linked s k)
+        → link_behind new s k ≡ (if s == p.behind && k == p.back then Some (at p.slot p.face) else behind_face linked s k)
     second s k o (inl e) = here s k p.behind p.back e _ links.second ∙ sym (cond-true _ _ _ e)
     second s k o (inr e) = links.others s k o (off s k p.behind p.back e) ∙ are.sides s k ∙ sym (cond-false _ _ _ e)
 
-    first : (s k : ℕ) → ((s == p.slot && k == p.face) ≡ true) ⊎ ((s == p.slot && k == p.face) ≡ false) → side new s k ≡ behind_face (p ∷ linked) s k
+    first : (s k : ℕ) → ((s == p.slot && k == p.face) ≡ true) ⊎ ((s == p.slot && k == p.face) ≡ false) → link_behind new s k ≡ behind_face (p ∷ linked) s k
     first s k (inl e) = here s k p.slot p.face e _ links.first ∙ sym (cond-true _ _ _ e)
     first s k (inr e) = second s k (off s k p.slot p.face e) (cases_Bool _) ∙ sym (cond-false _ _ _ e)
 
@@ -165,13 +165,13 @@ linked_one old new t linked p are links = record {
 -- the first n slots are there, and none is linked
 pub record AreMade (slots : List (Option SlotValue)) (t : Row) (n : ℕ) : Type 0 where
   pub len : length slots ≡ n
-  pub corners : (s : ℕ) → s < n → corners_at slots s ≡ named t (start_places s)
-  pub bare : (s k : ℕ) → side slots s k ≡ None
+  pub corners : (s : ℕ) → s < n → corners_at slots s ≡ named_corners t (start_places s)
+  pub bare : (s k : ℕ) → link_behind slots s k ≡ None
 
 pub none_made : (t : Row) → AreMade [] t 0
 none_made t = record { len = refl; corners = λ s l. absurd (omega (arith, l)); bare = λ s k. refl }
 
-some_start : (t : Row) (s : ℕ) → s < 5 → IsSome (named t (start_places s))
+some_start : (t : Row) (s : ℕ) → s < 5 → IsSome (named_corners t (start_places s))
 some_start t zero h = refl
 some_start t (suc zero) h = refl
 some_start t (suc (suc zero)) h = refl
@@ -184,7 +184,7 @@ not_none None h e = absurd (cc)
 not_none (Some x) h e = cc
 
 -- and the next one is made
-pub one_made : (old new : List (Option SlotValue)) (t : Row) (n s : ℕ) (cs : List Corner) → n < 5 → AreMade old t n → Takes old new s cs → Some cs ≡ named t (start_places n) → AreMade new t (n + 1)
+pub one_made : (old new : List (Option SlotValue)) (t : Row) (n s : ℕ) (cs : List Corner) → n < 5 → AreMade old t n → Takes old new s cs → Some cs ≡ named_corners t (start_places n) → AreMade new t (n + 1)
 one_made old new t n s cs few are takes is = record {
   len = past.1 ∙ ap (λ z. z + 1) are.len;
   corners = λ u l. by u l (cases_eq u s);
@@ -193,17 +193,17 @@ one_made old new t n s cs few are takes is = record {
   where
     end : length old ≤ s
     end = elim (cases_lt s (length old)) [
-      | inl l ↦ absurd (not_none (named t (start_places s)) (some_start t s (omega (arith, l, are.len, few))) (sym (are.corners s (omega (arith, l, are.len))) ∙ takes.free))
+      | inl l ↦ absurd (not_none (named_corners t (start_places s)) (some_start t s (omega (arith, l, are.len, few))) (sym (are.corners s (omega (arith, l, are.len))) ∙ takes.free))
       | inr g ↦ g
     ]
 
     past : (s ≡ length old) × (length new ≡ length old + 1)
     past = takes.past end
 
-    by : (u : ℕ) → u < n + 1 → (u ≡ s) ⊎ (u ≢ s) → corners_at new u ≡ named t (start_places u)
+    by : (u : ℕ) → u < n + 1 → (u ≡ s) ⊎ (u ≢ s) → corners_at new u ≡ named_corners t (start_places u)
     by u l (inl e) =
         let here : u ≡ n = e ∙ past.0 ∙ are.len in
-        ap (corners_at new) e ∙ takes.made ∙ is ∙ ap (λ z. named t (start_places z)) (sym here)
+        ap (corners_at new) e ∙ takes.made ∙ is ∙ ap (λ z. named_corners t (start_places z)) (sym here)
     by u l (inr m) = takes.corners u m ∙ are.corners u (omega (arith, l, m, past.0, are.len))
 
 pub all_made : (slots : List (Option SlotValue)) (t : Row) → AreMade slots t 5 → AreStartSlots slots t []
@@ -212,7 +212,7 @@ all_made slots t are = record {
   sides = λ s k. are.bare s k;
 }
   where
-    beyond : (s : ℕ) → 5 ≤ s → None ≡ named t (start_places s)
+    beyond : (s : ℕ) → 5 ≤ s → None ≡ named_corners t (start_places s)
     beyond zero h = absurd (omega (arith, h))
     beyond (suc zero) h = absurd (omega (arith, h))
     beyond (suc (suc zero)) h = absurd (omega (arith, h))
@@ -220,7 +220,7 @@ all_made slots t are = record {
     beyond (suc (suc (suc (suc zero)))) h = absurd (omega (arith, h))
     beyond (suc (suc (suc (suc (suc s))))) h = refl
 
-    by : (s : ℕ) → (s < 5) ⊎ (5 ≤ s) → corners_at slots s ≡ named t (start_places s)
+    by : (s : ℕ) → (s < 5) ⊎ (5 ≤ s) → corners_at slots s ≡ named_corners t (start_places s)
     by s (inl l) = are.corners s l
     by s (inr g) = ap (option_map (λ t. t.corners)) (get_or_past slots s None (omega (arith, are.len, g))) ∙ beyond s g
 
@@ -262,7 +262,7 @@ module _ (slots : List (Option SlotValue)) (ps : List Point) (t : Row) (are : Ar
   each zero l = inl (t, row_slot)
   each (suc k) l = inr (ghost_four t k, 3, ghost_slot k (omega (arith, few (suc k) l)))
 
-  ghost_last : (k : ℕ) → corner_in (named t (start_places (suc k))) 3 ≡ Ghost
+  ghost_last : (k : ℕ) → corner_in (named_corners t (start_places (suc k))) 3 ≡ Ghost
   ghost_last zero = refl
   ghost_last (suc zero) = refl
   ghost_last (suc (suc zero)) = refl
@@ -348,7 +348,7 @@ module _ (slots : List (Option SlotValue)) (ps : List Point) (t : Row) (are : Ar
   ghost_at : (s : ℕ) (x : Row) (k : ℕ) → IsGhostSlot slots ps (numbers t) s x k → (m : ℕ) × (m < 4) × (s ≡ suc m) × (k ≡ 3)
   ghost_at zero x k slot = absurd (by k slot.within (sym (ap (λ o. corner_in o k) (are.corners 0)) ∙ infinite_corner slots ps (numbers t) 0 k x slot))
     where
-      by : (j : ℕ) → j < 4 → corner_in (named t (start_places 0)) j ≡ Ghost → ⊥
+      by : (j : ℕ) → j < 4 → corner_in (named_corners t (start_places 0)) j ≡ Ghost → ⊥
       by zero h e = finite t.a e
       by (suc zero) h e = finite t.b e
       by (suc (suc zero)) h e = finite t.c e
@@ -359,7 +359,7 @@ module _ (slots : List (Option SlotValue)) (ps : List Point) (t : Row) (are : Ar
       m4 : m < 4
       m4 = omega (arith, few (suc m) (subst IsSome (sym slot.is) refl))
 
-      by : (m j : ℕ) → m < 4 → j < 4 → corner_in (named t (start_places (suc m))) j ≡ Ghost → j ≡ 3
+      by : (m j : ℕ) → m < 4 → j < 4 → corner_in (named_corners t (start_places (suc m))) j ≡ Ghost → j ≡ 3
       by m (suc (suc (suc zero))) l h e = refl
       by m (suc (suc (suc (suc j)))) l h e = absurd (omega (arith, h))
       by zero zero l h e = absurd (finite _ e)

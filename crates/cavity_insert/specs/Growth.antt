@@ -1,12 +1,12 @@
 -- The growth of a cavity, from its start on.
 use Rattle.std.specs.Prelude.{◌≡◌, ℕ, ℤ, [], List, Option}
 use Rattle.sign_predicates.specs.Point.{Point}
-use Rattle.mesh_arena.specs.Mesh.{SlotValue, IsMesh}
+use Rattle.mesh_arena.specs.Mesh.{SlotValue, IsArenaMesh}
 use Rattle.mesh_arena.specs.declared.slot.Slot.{Slot}
 use Rattle.mesh_arena.specs.declared.slot.RimFace.{RimFace}
-use Rattle.mesh_laws.specs.LowestRule.{IsTaken}
+use Rattle.mesh_laws.specs.LowestRule.{IsLowestTaken}
 use Rattle.mesh_laws.specs.Reach.{Grown}
-use Rattle.mesh_laws.specs.LowestLaws.{IsWholeFrom}
+use Rattle.mesh_laws.specs.LowestLaws.{IsLowestWholeFrom}
 use Rattle.cavity_insert.specs.declared.grow.Growth.{Growth}
 use Rattle.cavity_insert.specs.Grow.{entry_at, AreEntered, Growing}
 
@@ -29,7 +29,7 @@ pub record IsGrowing (slots : List (Option SlotValue)) (rule : ℕ → Type 0) (
 -- the cavity has the conflict zone of the point with the number p, and this is its rim
 pub record IsCavityOf (heights : ℕ → ℤ) (slots : List (Option SlotValue)) (ps : List Point) (p : ℕ) (cavity : List Slot)
     (rim : List RimFace) : Type 0 where
-  pub mesh : IsMesh slots
+  pub mesh : IsArenaMesh slots
   pub start : ℕ
-  pub whole : IsWholeFrom heights slots ps p start
-  pub grown : Grown slots (IsTaken heights slots ps p) start cavity rim
+  pub whole : IsLowestWholeFrom heights slots ps p start
+  pub grown : Grown slots (IsLowestTaken heights slots ps p) start cavity rim

@@ -30,7 +30,7 @@ pub record IsLonger (slots : List (Option SlotValue)) (ps : List Point) (number 
   pub apart : (i : ℕ) → i < length others → point others i ≢ last
 
 -- the two points differ, and are corners of one row of the Delaunay list
-pub record HasSide (ps : List Point) (a b : ℕ) : Type 0 where
+pub record IsDelaunaySide (ps : List Point) (a b : ℕ) : Type 0 where
   pub differ : a ≢ b
   pub row : Row
   pub is_row : IsDelaunay ps row

@@ -3,7 +3,7 @@ use Rattle.std.specs.Prelude.{ℕ, ◌⊎◌, List, Option, Contains}
 use Rattle.sign_predicates.specs.Point.{Point}
 use Rattle.mesh_arena.specs.Mesh.{SlotValue}
 use Rattle.point_locate.specs.Place.{IsAt}
-use Rattle.cavity_insert.specs.Living.{HasSide, HasBoth}
+use Rattle.cavity_insert.specs.Living.{IsDelaunaySide, HasBoth}
 
 -- each two corners of the slot's row are among the numbers
 abbrev pub IsToldOf : List ℕ → List (Option SlotValue) → ℕ → Type 0
@@ -11,4 +11,4 @@ IsToldOf lost slots u = (a b : ℕ) → IsAt slots (λ cs. HasBoth cs a b) u →
 
 -- each side of the Delaunay list of the points before is one of the points after, or both its ends are among the numbers
 abbrev pub AreLostSides : List Point → List Point → List ℕ → Type 0
-AreLostSides before after lost = (a b : ℕ) → HasSide before a b → HasSide after a b ⊎ (Contains lost a × Contains lost b)
+AreLostSides before after lost = (a b : ℕ) → IsDelaunaySide before a b → IsDelaunaySide after a b ⊎ (Contains lost a × Contains lost b)

@@ -18,7 +18,7 @@ pub record HasInCone (ps : List Point) (cs : List Corner) (a b : ℕ) : Type 0 w
   pub holds : IsInCone ps row a b
 
 -- an answer comes from a row with b in its cone from a, and says whether b is a corner too
-abbrev pub Tells : List Point → List Corner → ℕ → ℕ → WalkStep → Type 0
-Tells ps cs a b (Answer is) = HasInCone ps cs a b × (IsTrue is ↔ HasBoth cs a b)
-Tells ps cs a b (Through face) = face < 4
-Tells ps cs a b Lost = ⊤
+abbrev pub TellsCone : List Point → List Corner → ℕ → ℕ → WalkStep → Type 0
+TellsCone ps cs a b (Answer is) = HasInCone ps cs a b × (IsTrue is ↔ HasBoth cs a b)
+TellsCone ps cs a b (Through face) = face < 4
+TellsCone ps cs a b Lost = ⊤

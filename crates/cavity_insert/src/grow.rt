@@ -3,8 +3,8 @@ ghost use Rattle.std.specs.Prelude.{◌≡◌, ◌↔◌, ◌+◌, ◌*◌, ◌<
 ghost use Rattle.point_locate.specs.Place.{AreCornersOn};
 ghost use Rattle.mesh_laws.specs.Rule.{IsTaken};
 ghost use Rattle.mesh_laws.specs.Reach.{Grown};
-ghost use Rattle.mesh_arena.specs.Mesh.{IsMesh, IsLive};
-ghost use Rattle.cavity_insert.specs.Grow.{turn};
+ghost use Rattle.mesh_arena.specs.Mesh.{IsArenaMesh, IsLive};
+ghost use Rattle.cavity_insert.specs.Grow.{face_turn};
 ghost use Rattle.cavity_insert.specs.Growth.{HasBegun, IsGrowing, entry_of};
 
 use crate::marks::MarkedCavity;
@@ -59,13 +59,13 @@ impl Growth {
         k: u8,
         steps: &mut Steps<L>,
     ) -> Result<(), NoMemory>
-        requires mesh { IsMesh (Z.slots zone.now) }
+        requires mesh { IsArenaMesh (Z.slots zone.now) }
         requires inside { i < length self.old.cavity }
         requires face { k < 4 }
         requires growing { IsGrowing (Z.slots zone.now) (Z.takes zone.now) self.old i
-            (turn (entry_of self.old i) k) }
+            (face_turn (entry_of self.old i) k) }
         ensures growing { OnOk result (IsGrowing (Z.slots zone.now) (Z.takes zone.now) self.new i
-            (turn (entry_of self.old i) k + 1)) }
+            (face_turn (entry_of self.old i) k + 1)) }
         ensures entry { OnOk result (entry_of self.new i ≡ entry_of self.old i) }
         ensures start { self.new.start ≡ self.old.start }
         ensures few { OnOk result (steps.new ≤ steps.old + 1) }
@@ -96,7 +96,7 @@ impl Growth {
         i: usize,
         steps: &mut Steps<L>,
     ) -> Result<(), NoMemory>
-        requires mesh { IsMesh (Z.slots zone.now) }
+        requires mesh { IsArenaMesh (Z.slots zone.now) }
         requires inside { i < length self.old.cavity }
         requires growing { IsGrowing (Z.slots zone.now) (Z.takes zone.now) self.old i (min i 1) }
         ensures growing { OnOk result (IsGrowing (Z.slots zone.now) (Z.takes zone.now) self.new

@@ -6,7 +6,7 @@ ghost use Rattle.geo_laws.specs.Delaunay.{HasDistinctPoints, IsDelaunayList};
 ghost use Rattle.mesh_arena.specs.Mesh.{corners_at, IsLive};
 ghost use Rattle.mesh_laws.specs.Rule.{IsTaken};
 ghost use Rattle.mesh_laws.specs.Living.{IsDelaunayMesh};
-ghost use Rattle.cavity_insert.specs.Living.{IsLonger, HasSide};
+ghost use Rattle.cavity_insert.specs.Living.{IsLonger, IsDelaunaySide};
 ghost use Rattle.cavity_insert.specs.Lost.{IsToldOf, AreLostSides};
 
 use crate::grow::Growth;
@@ -188,7 +188,7 @@ impl Living {
     /// neighbors: to the first point, and round it to the second.
     pub fn has_side(&self, a: u32, b: u32) -> bool
         requires inside { (a < length self.now.points) × (b < length self.now.points) }
-        ensures { IsTrue result ↔ HasSide self.now.points a b }
+        ensures { IsTrue result ↔ IsDelaunaySide self.now.points a b }
     {
         if a == b {
             return false;

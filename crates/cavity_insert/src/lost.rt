@@ -1,7 +1,7 @@
 //! The corners of the tetrahedra that an insertion takes away.
 ghost use Rattle.std.specs.Prelude.{◌≡◌, ℕ, ◌<◌, length, Contains, OnOk};
 ghost use Rattle.mesh_arena.specs.Mesh.{IsLive};
-ghost use Rattle.mesh_arena.specs.Cavity.{slot_at, IsIn};
+ghost use Rattle.mesh_arena.specs.Cavity.{slot_at, IsInCavitySlots};
 ghost use Rattle.cavity_insert.specs.Lost.{IsToldOf};
 
 use mesh_arena::{Arena, Cavity, Slot};
@@ -27,7 +27,7 @@ pub(crate) fn tell_cavity(
     lost: &mut Vec<u32>,
 ) -> Result<(), NoMemory>
     requires { (j : ℕ) → j < length cavity.now → IsLive arena.now.slots (slot_at cavity.now j) }
-    ensures { OnOk result ((u : ℕ) → IsIn cavity.now u
+    ensures { OnOk result ((u : ℕ) → IsInCavitySlots cavity.now u
         → IsToldOf lost.new.items arena.now.slots u) }
 {
     for i in 0..cavity.len() {

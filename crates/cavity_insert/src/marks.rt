@@ -1,8 +1,8 @@
 //! A cavity with marks that tell which slots are in it.
 ghost use Rattle.std.specs.Prelude.{◌≡◌, ℕ, ◌<◌, ◌^◌, ◌++◌, [], ◌∷◌, ◌↔◌, length};
 ghost use Rattle.std.specs.Prelude.{IsTrue, OnOk, HoldsAt};
-ghost use Rattle.mesh_arena.specs.Cavity.{IsIn};
-ghost use Rattle.cavity_insert.specs.Marks.{is_marked};
+ghost use Rattle.mesh_arena.specs.Cavity.{IsInCavitySlots};
+ghost use Rattle.geo_laws.specs.Marks.{is_marked};
 
 use mesh_arena::{Cavity, Slot};
 use std::alloc::Global;
@@ -69,7 +69,7 @@ impl MarkedCavity {
     /// Whether a slot is in the cavity.
     #[inline]
     pub(crate) fn has(&self, s: Slot) -> bool
-        ensures { IsTrue result ↔ IsIn self.now s.index }
+        ensures { IsTrue result ↔ IsInCavitySlots self.now s.index }
     {
         let place = s.index as usize;
         place < self.marks.len() && self.marks[place]

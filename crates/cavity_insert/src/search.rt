@@ -7,7 +7,7 @@ ghost use Rattle.point_locate.specs.Place.{row_corners, placed, IsAt, AreOn};
 ghost use Rattle.sign_predicates.specs.Orientation.{volume};
 ghost use Rattle.sign_predicates.specs.Sign.{IsSignOf};
 ghost use Rattle.geo_laws.specs.Delaunay.{point};
-ghost use Rattle.mesh_laws.specs.LowestRule.{IsTakenRow, IsSeen, IsInnerTaken, IsTaken};
+ghost use Rattle.mesh_laws.specs.LowestRule.{IsLowestTakenRow, IsLowestSeen, IsLowestInnerTaken, IsLowestTaken};
 ghost use Rattle.cavity_insert.specs.Insert.{IsReadyFor};
 ghost use Rattle.cavity_insert.specs.Lift.{IsRowFor};
 ghost use Rattle.cavity_insert.specs.Search.{search_for};
@@ -25,7 +25,7 @@ use std::marker::Model;
 #[inline(always)]
 fn row_conflicts<H: Lift>(lift: &H, row: Tet, number: u32) -> bool
     requires { IsRowFor (H.points lift.now) row number }
-    ensures { IsTrue result ↔ IsTakenRow (H.heights lift.now) (H.points lift.now) number
+    ensures { IsTrue result ↔ IsLowestTakenRow (H.heights lift.now) (H.points lift.now) number
         (row_corners row) }
 {
     !lift.is_outside(row, number)
@@ -37,7 +37,7 @@ fn slot_holds<H: Lift>(arena: &Arena, lift: &H, s: Slot, number: u32) -> bool
     requires ready { (ms : List ℕ) × IsReadyFor (H.heights lift.now) arena.now.slots
         (H.points lift.now) ms number }
     ensures { IsTrue result ↔ IsAt arena.now.slots
-        (IsTakenRow (H.heights lift.now) (H.points lift.now) number) s.index }
+        (IsLowestTakenRow (H.heights lift.now) (H.points lift.now) number) s.index }
 {
     match shape_of(arena.tet(s)) {
         Shape::Row(row) => row_conflicts(lift, row, number),
@@ -51,7 +51,7 @@ fn inner_conflicts<H: Lift>(arena: &Arena, lift: &H, s: Slot, face: u8, number: 
     requires face { face < 4 }
     requires ready { (ms : List ℕ) × IsReadyFor (H.heights lift.now) arena.now.slots
         (H.points lift.now) ms number }
-    ensures { IsTrue result ↔ IsInnerTaken (H.heights lift.now) arena.now.slots
+    ensures { IsTrue result ↔ IsLowestInnerTaken (H.heights lift.now) arena.now.slots
         (H.points lift.now) number s.index face }
 {
     match arena.across(s, face) {
@@ -78,7 +78,7 @@ fn is_seen<H: Lift>(arena: &Arena, lift: &H, s: Slot, place: u8, number: u32) ->
     requires place { place < 4 }
     requires ready { (ms : List ℕ) × IsReadyFor (H.heights lift.now) arena.now.slots
         (H.points lift.now) ms number }
-    ensures { IsTrue result ↔ IsSeen (H.heights lift.now) arena.now.slots (H.points lift.now)
+    ensures { IsTrue result ↔ IsLowestSeen (H.heights lift.now) arena.now.slots (H.points lift.now)
         number s.index place }
 {
     match ghost_sign(lift, arena.tet(s), number) {
@@ -94,7 +94,7 @@ fn ghost_conflicts<H: Lift>(arena: &Arena, lift: &H, s: Slot, number: u32) -> bo
     requires live { IsLive arena.now.slots s.index }
     requires ready { (ms : List ℕ) × IsReadyFor (H.heights lift.now) arena.now.slots
         (H.points lift.now) ms number }
-    ensures { IsTrue result ↔ IsTaken (H.heights lift.now) arena.now.slots (H.points lift.now)
+    ensures { IsTrue result ↔ IsLowestTaken (H.heights lift.now) arena.now.slots (H.points lift.now)
         number s.index }
 {
     match shape_of(arena.tet(s)) {
@@ -112,7 +112,7 @@ fn is_taken<H: Lift>(arena: &Arena, lift: &H, s: Slot, number: u32) -> bool
     requires live { IsLive arena.now.slots s.index }
     requires ready { (ms : List ℕ) × IsReadyFor (H.heights lift.now) arena.now.slots
         (H.points lift.now) ms number }
-    ensures { IsTrue result ↔ IsTaken (H.heights lift.now) arena.now.slots (H.points lift.now)
+    ensures { IsTrue result ↔ IsLowestTaken (H.heights lift.now) arena.now.slots (H.points lift.now)
         number s.index }
 {
     match arena.tetrahedron(s) {
@@ -163,7 +163,7 @@ impl<'a, H: Lift> Search<'a, H> {
 impl<'a, H: Lift> Zone for Search<'a, H> {
     ghost slots = { λ s. s.slots };
 
-    ghost takes = { λ s. IsTaken (H.heights s.lift) s.slots (H.points s.lift) s.p };
+    ghost takes = { λ s. IsLowestTaken (H.heights s.lift) s.slots (H.points s.lift) s.p };
 
     fn arena(&self) -> &Arena {
         self.arena

@@ -8,8 +8,8 @@ ghost use Rattle.geo_laws.specs.Delaunay.{numbers, all_numbers};
 ghost use Rattle.mesh_arena.specs.Mesh.{corner_list, IsLive};
 ghost use Rattle.point_locate.specs.Place.{row_corners, AreOn, IsAt};
 ghost use Rattle.mesh_laws.specs.Living.{IsDelaunayMesh};
-ghost use Rattle.cavity_insert.specs.Living.{HasSide, HasBoth};
-ghost use Rattle.cavity_insert.specs.Sides.{Tells};
+ghost use Rattle.cavity_insert.specs.Living.{IsDelaunaySide, HasBoth};
+ghost use Rattle.cavity_insert.specs.Sides.{TellsCone};
 
 use crate::insert::point_at;
 use crate::meshing::has_corner;
@@ -43,7 +43,7 @@ fn slot_has_corners(arena: &Arena, i: usize, a: u32, b: u32) -> bool
 pub(crate) fn side_by_scan(arena: &Arena, points: &Points, a: u32, b: u32) -> bool
     requires mesh { IsDelaunayMesh arena.now.slots points.now (all_numbers points.now) }
     requires differ { a ≢ b }
-    ensures { IsTrue result ↔ HasSide points.now a b }
+    ensures { IsTrue result ↔ IsDelaunaySide points.now a b }
 {
     for i in 0..arena.slots() {
         if slot_has_corners(arena, i, a, b) {
@@ -83,7 +83,7 @@ fn face_towards(at: &Corners, row: Tet, a: u32, p: GridPoint) -> Option<u8>
 fn row_step(points: &Points, row: Tet, a: u32, b: u32) -> WalkStep
     requires corners { AreOn points.now (row_corners row) }
     requires inside { (a < length points.now) × (b < length points.now) }
-    ensures { Tells points.now (row_corners row) a b result }
+    ensures { TellsCone points.now (row_corners row) a b result }
 {
     let is_there = has_corner(row, a);
     let goal = if is_there { b } else { a };
@@ -102,7 +102,7 @@ fn row_step(points: &Points, row: Tet, a: u32, b: u32) -> WalkStep
 fn step_at(points: &Points, t: SlotCorners, a: u32, b: u32) -> WalkStep
     requires corners { AreOn points.now (corner_list t) }
     requires inside { (a < length points.now) × (b < length points.now) }
-    ensures { Tells points.now (corner_list t) a b result }
+    ensures { TellsCone points.now (corner_list t) a b result }
 {
     match shape_of(t) {
         Shape::Row(row) => row_step(points, row, a, b),
@@ -129,7 +129,7 @@ pub(crate) fn side_by_walk(
     requires start { IsLive arena.now.slots start.index }
     requires inside { (a < length points.now) × (b < length points.now) }
     requires differ { a ≢ b }
-    ensures { IfSome result (λ is. IsTrue is ↔ HasSide points.now a b) }
+    ensures { IfSome result (λ is. IsTrue is ↔ IsDelaunaySide points.now a b) }
 {
     let mut at = start;
     for _ in 0..arena.slots() {

@@ -7,7 +7,7 @@ ghost use Rattle.sign_predicates.specs.Orientation.{IsPositive};
 ghost use Rattle.geo_laws.specs.Delaunay.{corners, numbers, AreNumbersOf, IsArranged};
 ghost use Rattle.mesh_laws.specs.Living.{IsDelaunayMesh};
 ghost use Rattle.cavity_insert.specs.declared.start.Shared.{Shared as SharedValue};
-ghost use Rattle.cavity_insert.specs.Start.{AreStartSlots, pair, fits, row_links, start_links};
+ghost use Rattle.cavity_insert.specs.Start.{AreStartSlots, pair, fits_behind, row_links, start_links};
 
 use geo_laws::{Points, Tet};
 use mesh_arena::{Arena, Corner, Slot, SlotCorners};
@@ -112,7 +112,7 @@ fn pair(slot: u32, face: u8, behind: u32, back: u8) -> Shared
 /// Links two faces with the same corners.
 fn link_faces(arena: &mut Arena, shared: Shared)
     requires { (t : TetValue) × (linked : List SharedValue) × AreStartSlots arena.old.slots t linked
-        × IsTrue (fits linked shared) }
+        × IsTrue (fits_behind linked shared) }
     ensures { (t : TetValue) (linked : List SharedValue) → AreStartSlots arena.old.slots t linked
         → AreStartSlots arena.new.slots t (shared ∷ linked) }
 {

@@ -1,6 +1,6 @@
 //! The conflict zone of a new point: the slots of a mesh that the point takes.
 ghost use Rattle.std.specs.Prelude.{◌≡◌, ◌<◌, ◌↔◌, ℕ, List, Option, option_map, IsTrue, IfSome};
-ghost use Rattle.mesh_arena.specs.Mesh.{SlotValue, IsLive, IsMesh, side, at};
+ghost use Rattle.mesh_arena.specs.Mesh.{SlotValue, IsLive, IsArenaMesh, link_behind, at};
 
 use mesh_arena::{Arena, RimFace, Slot};
 
@@ -28,7 +28,7 @@ pub(crate) fn across<Z: Zone>(zone: &Z, s: Slot, face: u8) -> Option<RimFace>
     requires live { IsLive (Z.slots zone.now) s.index }
     requires face { face < 4 }
     ensures value { option_map (λ f. at f.slot.index f.face) result
-        ≡ side (Z.slots zone.now) s.index face }
+        ≡ link_behind (Z.slots zone.now) s.index face }
     ensures live { IfSome result (λ f. IsLive (Z.slots zone.now) f.slot.index × (f.face < 4)) }
 {
     zone.arena().across(s, face)
@@ -37,7 +37,7 @@ pub(crate) fn across<Z: Zone>(zone: &Z, s: Slot, face: u8) -> Option<RimFace>
 /// That the slots are a mesh, since the arena has this one.
 pub(crate) fn see<Z: Zone>(zone: &Z, s: Slot)
     requires { IsLive (Z.slots zone.now) s.index }
-    ensures { IsMesh (Z.slots zone.now) }
+    ensures { IsArenaMesh (Z.slots zone.now) }
 {
     let _ = zone.arena().tet(s);
 }

@@ -6,12 +6,11 @@ use Rattle.std.specs.Prelude.{map, codes}
 use Rattle.sign_predicates.specs.Point.{Point}
 use Rattle.grid_coords.specs.declared.grid.Grid.{Grid}
 use Rattle.incidence.specs.declared.pairs.Across.{Across}
-use Rattle.mesh_check.specs.Defects.{Mesh, HasDefect, IsFirstDefect, IsToldBefore, IsVerdict, PairBefore, kind_of, numbers_of}
+use Rattle.mesh_check.specs.Defects.{ReadMesh, HasDefect, IsFirstDefect, IsToldBefore, IsVerdict, PairBefore, kind_of, numbers_of}
 use Rattle.mesh_check.specs.declared.defect.Defect.{Defect}
 use Rattle.mesh_check.specs.declared.defect.Defect.TheVariants.{NotPositive, SameSide, NeighborCount, WrongNeighbor, Stray, Unlisted, Bent}
 use Rattle.mesh_check.specs.declared.defect.Verdict.TheVariants.{Sound, Fault}
 use Rattle.node_files.specs.LeastGrid.{least_grid_of, point_on}
-use Rattle.node_files.specs.SettlingLeast.{rounded_points}
 use Rattle.grid_coords.specs.declared.points.DecimalPoint.{DecimalPoint}
 use Rattle.grid_coords.specs.declared.grid.Range.{Range}
 use Rattle.node_files.specs.declared.node_text.NodeText.{NodeText}
@@ -19,11 +18,12 @@ use Rattle.tet_ports.specs.Counts.{Rose}
 use Rattle.tet_ports.specs.Files.{Files}
 use Rattle.tet_text.specs.declared.fault.TextFault.{TextFault}
 use Rattle.check_steps.specs.Checking.{CheckAnswer, TextChecked, LeastGridAnswer, VerdictAnswer, mesh_of, most_points}
-use Rattle.check_steps.specs.Reading.{most_bytes, FetchAnswer, IsBadText, TextAnswer, FileAnswer, NeighborsAnswer, MeshAnswer, nodes_of, rows_of, faces_of, neighbors_of}
+use Rattle.check_steps.specs.Reading.{most_bytes, FetchAnswer, IsBadText, TextAnswer, FileAnswer, NeighborsAnswer, MeshAnswer, nodes_in_text, rows_of, faces_in_text, neighbors_in_text}
 use Rattle.check_steps.specs.Steps.{FolderSeen, AndThen, Gives}
 use Rattle.check_steps.specs.declared.fault.CheckFault.{CheckFault}
 use Rattle.check_steps.specs.declared.fault.CheckFault.TheVariants.{Missing, ReadFault, TooLong, BadText, TooMany, OffGrid, Unsound, NoMemory}
 use Rattle.check_steps.specs.declared.reading.MeshText.{MeshText}
+use Rattle.node_files.specs.Settling.{rounded_points}
 
 -- the answer is not want of memory, which is free
 abbrev pub IsDecided : {A : Type 0} → Result A CheckFault → Type 0
@@ -142,7 +142,7 @@ listed_of name (Ok None) = Err (Missing name)
 listed_of name (Err fault) = Err fault
 
 is_listed : (seen : FolderSeen) (base : List ℕ) (nodes : NodeText) (r : Result (Option (List Across)) CheckFault) → NeighborsAnswer seen base nodes r
-    → FileAnswer seen (base ++ codes ".neigh") (neighbors_of nodes) (listed_of (base ++ codes ".neigh") r)
+    → FileAnswer seen (base ++ codes ".neigh") (neighbors_in_text nodes) (listed_of (base ++ codes ".neigh") r)
 is_listed seen base nodes (Ok (Some neighbors)) h = h
 is_listed seen base nodes (Ok None) h = inl (refl, h)
 is_listed seen base nodes (Err (Missing name)) h = absurd h
@@ -185,13 +185,13 @@ neighbors_once : (told : Files) (seen : FolderSeen) (base : List ℕ) (nodes : N
 neighbors_once told seen base nodes t r s n m h k =
     let name = base ++ codes ".neigh" in
     unlisted seen base nodes name r s h k
-    (file_once told seen name (neighbors_of nodes) t (listed_of name r) (listed_of name s) (listed_decided name r n) (listed_decided name s m) (is_listed seen base nodes r h) (is_listed seen base nodes s k))
+    (file_once told seen name (neighbors_in_text nodes) t (listed_of name r) (listed_of name s) (listed_decided name r n) (listed_decided name s m) (is_listed seen base nodes r h) (is_listed seen base nodes s k))
 
 pub mesh_once : (told : Files) (seen : FolderSeen) (base : List ℕ) → IsTold told seen → IsOnce (MeshAnswer seen base)
 mesh_once told seen base t =
-    and_then_once (FileAnswer seen (base ++ codes ".node") nodes_of) _ (file_once told seen (base ++ codes ".node") nodes_of t)
+    and_then_once (FileAnswer seen (base ++ codes ".node") nodes_in_text) _ (file_once told seen (base ++ codes ".node") nodes_in_text t)
     (λ nodes. and_then_once (FileAnswer seen (base ++ codes ".ele") (rows_of nodes)) _ (file_once told seen (base ++ codes ".ele") (rows_of nodes) t)
-    (λ rows. and_then_once (FileAnswer seen (base ++ codes ".face") (faces_of nodes)) _ (file_once told seen (base ++ codes ".face") (faces_of nodes) t)
+    (λ rows. and_then_once (FileAnswer seen (base ++ codes ".face") (faces_in_text nodes)) _ (file_once told seen (base ++ codes ".face") (faces_in_text nodes) t)
     (λ faces. and_then_once (NeighborsAnswer seen base nodes) _ (neighbors_once told seen base nodes t)
     (λ neighbors. gives_once (record { nodes = nodes; rows = rows; faces = faces; neighbors = neighbors })))))
 
@@ -280,7 +280,7 @@ by_kind d e (inl k) = by_first d e k (cases_order (numbers_of d).0 (numbers_of e
 by_kind d e (inr (inl k)) = inr (inl (inl k))
 by_kind d e (inr (inr k)) = inr (inr (inl k))
 
-first_same : (m : Mesh) (d e : Defect) → IsFirstDefect m d → IsFirstDefect m e → AreOrdered d e → d ≡ e
+first_same : (m : ReadMesh) (d e : Defect) → IsFirstDefect m d → IsFirstDefect m e → AreOrdered d e → d ≡ e
 first_same m d e h k (inl same) = same
 first_same m d e h k (inr (inl before)) = absurd (k.first d before h.has)
 first_same m d e h k (inr (inr before)) = absurd (h.first e before k.has)

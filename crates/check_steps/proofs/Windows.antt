@@ -6,7 +6,7 @@ use Rattle.tet_ports.specs.Files.{Files, IsAbsent, Holds}
 use Rattle.tet_text.specs.declared.fault.TextFault.{TextFault}
 use Rattle.incidence.specs.declared.pairs.Across.{Across}
 use Rattle.node_files.specs.declared.node_text.NodeText.{NodeText}
-use Rattle.check_steps.specs.Reading.{most_bytes, IsRead, IsUnfetched, FetchAnswer, TextAnswer, FileAnswer, NeighborsAnswer, neighbors_of}
+use Rattle.check_steps.specs.Reading.{most_bytes, IsRead, IsUnfetched, FetchAnswer, TextAnswer, FileAnswer, NeighborsAnswer, neighbors_in_text}
 use Rattle.check_steps.specs.Steps.{FolderSeen, folder_seen, AndThen}
 use Rattle.check_steps.specs.declared.fault.CheckFault.{CheckFault}
 use Rattle.check_steps.specs.declared.fault.CheckFault.TheVariants.{Missing, ReadFault, TooLong, BadText, TooMany, OffGrid, Unsound, NoMemory}
@@ -52,15 +52,15 @@ file_wider part wide w name reading (Err f) (inr h) = inr (h.0, fetch_wider part
 
 pub neighbors_wider : (part wide : FolderSeen) → IsWithin part wide → (base : List ℕ) (nodes : NodeText) (r : Result (Option (List Across)) CheckFault) → NeighborsAnswer part base nodes r → NeighborsAnswer wide base nodes r
 neighbors_wider part wide w base nodes (Ok None) h = absent_within part wide w (base ++ codes ".neigh") h
-neighbors_wider part wide w base nodes (Ok (Some neighbors)) h = file_wider part wide w (base ++ codes ".neigh") (neighbors_of nodes) (Ok neighbors) h
+neighbors_wider part wide w base nodes (Ok (Some neighbors)) h = file_wider part wide w (base ++ codes ".neigh") (neighbors_in_text nodes) (Ok neighbors) h
 neighbors_wider part wide w base nodes (Err (Missing missing)) h = absurd h
-neighbors_wider part wide w base nodes (Err (ReadFault failed)) h = file_wider part wide w (base ++ codes ".neigh") (neighbors_of nodes) (Err (ReadFault failed)) h
-neighbors_wider part wide w base nodes (Err (TooLong long)) h = file_wider part wide w (base ++ codes ".neigh") (neighbors_of nodes) (Err (TooLong long)) h
-neighbors_wider part wide w base nodes (Err (BadText bad fault)) h = file_wider part wide w (base ++ codes ".neigh") (neighbors_of nodes) (Err (BadText bad fault)) h
-neighbors_wider part wide w base nodes (Err (TooMany count)) h = file_wider part wide w (base ++ codes ".neigh") (neighbors_of nodes) (Err (TooMany count)) h
-neighbors_wider part wide w base nodes (Err (OffGrid line)) h = file_wider part wide w (base ++ codes ".neigh") (neighbors_of nodes) (Err (OffGrid line)) h
-neighbors_wider part wide w base nodes (Err (Unsound defect first)) h = file_wider part wide w (base ++ codes ".neigh") (neighbors_of nodes) (Err (Unsound defect first)) h
-neighbors_wider part wide w base nodes (Err NoMemory) h = file_wider part wide w (base ++ codes ".neigh") (neighbors_of nodes) (Err NoMemory) h
+neighbors_wider part wide w base nodes (Err (ReadFault failed)) h = file_wider part wide w (base ++ codes ".neigh") (neighbors_in_text nodes) (Err (ReadFault failed)) h
+neighbors_wider part wide w base nodes (Err (TooLong long)) h = file_wider part wide w (base ++ codes ".neigh") (neighbors_in_text nodes) (Err (TooLong long)) h
+neighbors_wider part wide w base nodes (Err (BadText bad fault)) h = file_wider part wide w (base ++ codes ".neigh") (neighbors_in_text nodes) (Err (BadText bad fault)) h
+neighbors_wider part wide w base nodes (Err (TooMany count)) h = file_wider part wide w (base ++ codes ".neigh") (neighbors_in_text nodes) (Err (TooMany count)) h
+neighbors_wider part wide w base nodes (Err (OffGrid line)) h = file_wider part wide w (base ++ codes ".neigh") (neighbors_in_text nodes) (Err (OffGrid line)) h
+neighbors_wider part wide w base nodes (Err (Unsound defect first)) h = file_wider part wide w (base ++ codes ".neigh") (neighbors_in_text nodes) (Err (Unsound defect first)) h
+neighbors_wider part wide w base nodes (Err NoMemory) h = file_wider part wide w (base ++ codes ".neigh") (neighbors_in_text nodes) (Err NoMemory) h
 
 -- a window between two calls of one folder
 pub within_of : {F : Type 0} (held : F → Option Files) (faults misses : F → ℕ) (s a b e : F) → held a ≡ held s → faults s ≤ faults a → faults b ≤ faults e → misses s ≤ misses a → misses b ≤ misses e

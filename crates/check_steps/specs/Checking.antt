@@ -1,9 +1,9 @@
 -- The check of the files of a mesh.
 use Rattle.std.specs.Prelude.{◌≡◌, ℕ, List, length, Option, Result, Ok, Err}
 use Rattle.sign_predicates.specs.Point.{Point}
-use Rattle.mesh_check.specs.Defects.{Mesh, IsVerdict, neighbors_or}
+use Rattle.mesh_check.specs.Defects.{ReadMesh, IsVerdict, neighbors_or}
 use Rattle.mesh_check.specs.declared.defect.Verdict.TheVariants.{Sound, Fault}
-use Rattle.node_files.specs.SettlingLeast.{IsTooMany, IsOffGrid, IsOnLeastGrid}
+use Rattle.node_files.specs.SettlingLeast.{AreTooMany, IsOffLeastGrid, IsOnLeastGrid}
 use Rattle.check_steps.specs.Reading.{MeshAnswer}
 use Rattle.check_steps.specs.Steps.{FolderSeen, AndThen}
 use Rattle.check_steps.specs.declared.fault.CheckFault.{CheckFault}
@@ -17,8 +17,8 @@ most_points = 120000
 
 -- why the points are on no grid
 abbrev pub IsUnsettled : Option ℕ → List DecimalPoint → CheckFault → Type 0
-IsUnsettled decimals ps (TooMany count) = IsTooMany ps most_points count
-IsUnsettled decimals ps (OffGrid line) = IsOffGrid ps decimals most_points line
+IsUnsettled decimals ps (TooMany count) = AreTooMany ps most_points count
+IsUnsettled decimals ps (OffGrid line) = IsOffLeastGrid ps decimals most_points line
 IsUnsettled decimals ps NoMemory = Unit {0}
 IsUnsettled decimals ps fault = ⊥
 
@@ -28,7 +28,7 @@ LeastGridAnswer decimals text (Ok points) = IsOnLeastGrid text.nodes.decimals de
 LeastGridAnswer decimals text (Err fault) = IsUnsettled decimals text.nodes.decimals fault
 
 -- the mesh that the files spell, on these points
-abbrev pub mesh_of : MeshText → List Point → Mesh
+abbrev pub mesh_of : MeshText → List Point → ReadMesh
 mesh_of text points = record { points = points; rows = text.rows; faces = text.faces; neighbors = neighbors_or text.rows text.neighbors }
 
 -- why the mesh is not sound

@@ -7,7 +7,7 @@ use Rattle.tet_text.specs.declared.fault.TextFault.{TextFault}
 use Rattle.geo_laws.specs.declared.tetrahedra.Tet.{Tet}
 use Rattle.incidence.specs.declared.pairs.Across.{Across}
 use Rattle.mesh_files.specs.declared.markers.FaceRow.{FaceRow}
-use Rattle.mesh_files.specs.ReadRows.{ele_of, face_of, neigh_of}
+use Rattle.mesh_files.specs.ReadRows.{ele_of, face_list_of, neigh_of}
 use Rattle.node_files.specs.Node.{node_of}
 use Rattle.node_files.specs.declared.node_text.NodeText.{NodeText}
 use Rattle.check_steps.specs.Steps.{FolderSeen, AndThen, Gives}
@@ -51,31 +51,31 @@ TextAnswer name reading (Err fault) = IsBadText name reading fault
 abbrev pub FileAnswer : {A : Type 0} → FolderSeen → List ℕ → (List ℕ → Result A TextFault) → Result A CheckFault → Type 0
 FileAnswer seen name reading = AndThen (FetchAnswer seen name) (λ bytes. TextAnswer name (reading bytes))
 
-abbrev pub nodes_of : List ℕ → Result NodeText TextFault
-nodes_of bytes = node_of (line_count_of bytes) (content_lines bytes)
+abbrev pub nodes_in_text : List ℕ → Result NodeText TextFault
+nodes_in_text bytes = node_of (line_count_of bytes) (content_lines bytes)
 
 abbrev pub rows_of : NodeText → List ℕ → Result (List Tet) TextFault
 rows_of nodes bytes = ele_of nodes.first (length nodes.decimals) (line_count_of bytes) (content_lines bytes)
 
-abbrev pub faces_of : NodeText → List ℕ → Result (List FaceRow) TextFault
-faces_of nodes bytes = face_of nodes.first (length nodes.decimals) (line_count_of bytes) (content_lines bytes)
+abbrev pub faces_in_text : NodeText → List ℕ → Result (List FaceRow) TextFault
+faces_in_text nodes bytes = face_list_of nodes.first (length nodes.decimals) (line_count_of bytes) (content_lines bytes)
 
-abbrev pub neighbors_of : NodeText → List ℕ → Result (List Across) TextFault
-neighbors_of nodes bytes = neigh_of nodes.first (line_count_of bytes) (content_lines bytes)
+abbrev pub neighbors_in_text : NodeText → List ℕ → Result (List Across) TextFault
+neighbors_in_text nodes bytes = neigh_of nodes.first (line_count_of bytes) (content_lines bytes)
 
 -- the neighbors, where there is a file of them
 abbrev pub NeighborsAnswer : FolderSeen → List ℕ → NodeText → Result (Option (List Across)) CheckFault → Type 0
 NeighborsAnswer seen base nodes (Ok None) = IsAbsent seen.files (base ++ codes ".neigh") seen.misses_before seen.misses_now
-NeighborsAnswer seen base nodes (Ok (Some neighbors)) = FileAnswer seen (base ++ codes ".neigh") (neighbors_of nodes) (Ok neighbors)
+NeighborsAnswer seen base nodes (Ok (Some neighbors)) = FileAnswer seen (base ++ codes ".neigh") (neighbors_in_text nodes) (Ok neighbors)
 NeighborsAnswer seen base nodes (Err (Missing name)) = ⊥
-NeighborsAnswer seen base nodes (Err fault) = FileAnswer seen (base ++ codes ".neigh") (neighbors_of nodes) (Err fault)
+NeighborsAnswer seen base nodes (Err fault) = FileAnswer seen (base ++ codes ".neigh") (neighbors_in_text nodes) (Err fault)
 
 -- The files of a mesh with this base: its points, its rows, its faces, and its neighbors, where these are there. Each text is read before
 -- the next fetch
 abbrev pub MeshAnswer : FolderSeen → List ℕ → Result MeshText CheckFault → Type 0
 MeshAnswer seen base =
-    AndThen (FileAnswer seen (base ++ codes ".node") nodes_of)
+    AndThen (FileAnswer seen (base ++ codes ".node") nodes_in_text)
     (λ nodes. AndThen (FileAnswer seen (base ++ codes ".ele") (rows_of nodes))
-    (λ rows. AndThen (FileAnswer seen (base ++ codes ".face") (faces_of nodes))
+    (λ rows. AndThen (FileAnswer seen (base ++ codes ".face") (faces_in_text nodes))
     (λ faces. AndThen (NeighborsAnswer seen base nodes)
     (λ neighbors. Gives (record { nodes = nodes; rows = rows; faces = faces; neighbors = neighbors })))))

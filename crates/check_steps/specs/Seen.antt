@@ -1,7 +1,7 @@
 -- What a sink shows of itself before and after some calls.
 use Rattle.std.specs.Prelude.{◌≡◌, ◌⊎◌, ℕ, List, Option}
 use Rattle.tet_ports.specs.Counts.{Rose}
-use Rattle.tet_ports.specs.Written.{PartlyPut, with_piece}
+use Rattle.tet_ports.specs.Written.{PartlyPut, with_written}
 
 -- a sink: its bytes, where they are told, and the counts of its faults and of puts refused for want of memory
 pub record SinkSeen : Type 0 where
@@ -26,5 +26,5 @@ sink_seen written faults wants before now = record {
 -- the message is appended, or a prefix of it where the sink failed or wanted memory
 abbrev pub IsMessagePut : List ℕ → SinkSeen → Type 0
 IsMessagePut message err =
-    (err.written_now ≡ with_piece err.written_before message)
+    (err.written_now ≡ with_written err.written_before message)
     ⊎ (PartlyPut err.written_before message err.written_now × (Rose err.faults_before err.faults_now ⊎ Rose err.wants_before err.wants_now))

@@ -1,7 +1,7 @@
 //! The check of the files of a mesh.
 
 ghost use Rattle.std.specs.Prelude.{◌≡◌, ◌≤◌, length, All, IfOk};
-ghost use Rattle.mesh_files.specs.ReadRows.{IsBelow};
+ghost use Rattle.mesh_files.specs.ReadRows.{AreCornersBelow};
 ghost use Rattle.check_steps.specs.Checking.{LeastGridAnswer, VerdictAnswer, TextChecked, CheckAnswer};
 ghost use Rattle.check_steps.specs.Steps.{folder_seen};
 
@@ -32,7 +32,7 @@ fn settle(alloc: Global, decimals: Option<u32>, text: &MeshText) -> Result<Point
 /// How many rows the mesh has, where it is sound.
 fn judge(alloc: Global, text: &MeshText, points: &Points) -> Result<usize, CheckFault>
     requires count { length points.now ≡ length text.now.nodes.decimals }
-    requires there { All (IsBelow (length text.now.nodes.decimals)) text.now.rows }
+    requires there { All (AreCornersBelow (length text.now.nodes.decimals)) text.now.rows }
     ensures { VerdictAnswer text.now points.now result }
 {
     match check_mesh(
@@ -51,7 +51,7 @@ fn judge(alloc: Global, text: &MeshText, points: &Points) -> Result<usize, Check
 }
 
 fn check_text(alloc: Global, decimals: Option<u32>, text: &MeshText) -> Result<usize, CheckFault>
-    requires { All (IsBelow (length text.now.nodes.decimals)) text.now.rows }
+    requires { All (AreCornersBelow (length text.now.nodes.decimals)) text.now.rows }
     ensures { TextChecked decimals text.now result }
 {
     let points = settle(alloc, decimals, text)?;

@@ -1,10 +1,10 @@
 //! The files of a mesh.
 
 ghost use Rattle.std.specs.Prelude.{◌≡◌, ◌≤◌, ◌++◌, codes, length, All, IfOk, IfErr};
-ghost use Rattle.mesh_files.specs.ReadRows.{IsBelow};
+ghost use Rattle.mesh_files.specs.ReadRows.{AreCornersBelow};
 ghost use Rattle.node_files.specs.Node.{IsNodeText};
 ghost use Rattle.check_steps.specs.Steps.{folder_seen};
-ghost use Rattle.check_steps.specs.Reading.{most_bytes, nodes_of, rows_of, faces_of, neighbors_of, IsRead, IsUnfetched, TextAnswer, FileAnswer, NeighborsAnswer, MeshAnswer};
+ghost use Rattle.check_steps.specs.Reading.{most_bytes, nodes_in_text, rows_of, faces_in_text, neighbors_in_text, IsRead, IsUnfetched, TextAnswer, FileAnswer, NeighborsAnswer, MeshAnswer};
 
 use crate::CheckFault;
 use geo_laws::TetList;
@@ -63,7 +63,7 @@ fn fetch<F: Folder>(alloc: Global, name: Name, folder: &mut F) -> Result<Fetched
 
 fn nodes_in(alloc: Global, file: Fetched) -> Result<NodeText, CheckFault>
     requires { length file.bytes ≤ most_bytes }
-    ensures answer { TextAnswer file.name (nodes_of file.bytes) result }
+    ensures answer { TextAnswer file.name (nodes_in_text file.bytes) result }
     ensures table { IfOk result IsNodeText }
 {
     let Fetched { name, bytes } = file;
@@ -79,7 +79,7 @@ fn rows_in(alloc: Global, nodes: &NodeText, file: Fetched) -> Result<TetList, Ch
     requires nodes { IsNodeText nodes.now }
     requires short { length file.bytes ≤ most_bytes }
     ensures answer { TextAnswer file.name (rows_of nodes.now file.bytes) result }
-    ensures there { IfOk result (All (IsBelow (length nodes.now.decimals))) }
+    ensures there { IfOk result (All (AreCornersBelow (length nodes.now.decimals))) }
 {
     let Fetched { name, bytes } = file;
     let points = nodes.decimals.len() as u64;
@@ -93,7 +93,7 @@ fn rows_in(alloc: Global, nodes: &NodeText, file: Fetched) -> Result<TetList, Ch
 fn faces_in(alloc: Global, nodes: &NodeText, file: Fetched) -> Result<FaceRows, CheckFault>
     requires nodes { IsNodeText nodes.now }
     requires short { length file.bytes ≤ most_bytes }
-    ensures { TextAnswer file.name (faces_of nodes.now file.bytes) result }
+    ensures { TextAnswer file.name (faces_in_text nodes.now file.bytes) result }
 {
     let Fetched { name, bytes } = file;
     let points = nodes.decimals.len() as u64;
@@ -106,7 +106,7 @@ fn faces_in(alloc: Global, nodes: &NodeText, file: Fetched) -> Result<FaceRows, 
 
 fn neighbors_in(alloc: Global, nodes: &NodeText, file: Fetched) -> Result<Neighbors, CheckFault>
     requires { length file.bytes ≤ most_bytes }
-    ensures { TextAnswer file.name (neighbors_of nodes.now file.bytes) result }
+    ensures { TextAnswer file.name (neighbors_in_text nodes.now file.bytes) result }
 {
     let Fetched { name, bytes } = file;
     match read_neigh(alloc, &bytes, nodes.first) {
@@ -122,7 +122,7 @@ pub fn read_list<F: Folder>(
     list: &Name,
     folder: &mut F,
 ) -> Result<NodeText, CheckFault>
-    ensures answer { FileAnswer (folder_seen F.held F.faults F.misses folder.old folder.new) list.now nodes_of result }
+    ensures answer { FileAnswer (folder_seen F.held F.faults F.misses folder.old folder.new) list.now nodes_in_text result }
     ensures table { IfOk result IsNodeText }
     ensures unchanged { F.held folder.new ≡ F.held folder.old }
     ensures faults { F.faults folder.old ≤ F.faults folder.new }
@@ -139,7 +139,7 @@ pub fn read_nodes<F: Folder>(
     base: &Name,
     folder: &mut F,
 ) -> Result<NodeText, CheckFault>
-    ensures answer { FileAnswer (folder_seen F.held F.faults F.misses folder.old folder.new) (base.now ++ codes ".node") nodes_of result }
+    ensures answer { FileAnswer (folder_seen F.held F.faults F.misses folder.old folder.new) (base.now ++ codes ".node") nodes_in_text result }
     ensures table { IfOk result IsNodeText }
     ensures unchanged { F.held folder.new ≡ F.held folder.old }
     ensures faults { F.faults folder.old ≤ F.faults folder.new }
@@ -159,7 +159,7 @@ pub fn read_rows<F: Folder>(
 ) -> Result<TetList, CheckFault>
     requires { IsNodeText nodes.now }
     ensures answer { FileAnswer (folder_seen F.held F.faults F.misses folder.old folder.new) (base.now ++ codes ".ele") (rows_of nodes.now) result }
-    ensures there { IfOk result (All (IsBelow (length nodes.now.decimals))) }
+    ensures there { IfOk result (All (AreCornersBelow (length nodes.now.decimals))) }
     ensures unchanged { F.held folder.new ≡ F.held folder.old }
     ensures faults { F.faults folder.old ≤ F.faults folder.new }
     ensures misses { F.misses folder.old ≤ F.misses folder.new }
@@ -177,7 +177,7 @@ fn read_faces<F: Folder>(
     folder: &mut F,
 ) -> Result<FaceRows, CheckFault>
     requires { IsNodeText nodes.now }
-    ensures answer { FileAnswer (folder_seen F.held F.faults F.misses folder.old folder.new) (base.now ++ codes ".face") (faces_of nodes.now) result }
+    ensures answer { FileAnswer (folder_seen F.held F.faults F.misses folder.old folder.new) (base.now ++ codes ".face") (faces_in_text nodes.now) result }
     ensures unchanged { F.held folder.new ≡ F.held folder.old }
     ensures faults { F.faults folder.old ≤ F.faults folder.new }
     ensures misses { F.misses folder.old ≤ F.misses folder.new }
@@ -219,7 +219,7 @@ pub(crate) fn read_mesh<F: Folder>(
     folder: &mut F,
 ) -> Result<MeshText, CheckFault>
     ensures answer { MeshAnswer (folder_seen F.held F.faults F.misses folder.old folder.new) base.now result }
-    ensures there { IfOk result (λ text. All (IsBelow (length text.nodes.decimals)) text.rows) }
+    ensures there { IfOk result (λ text. All (AreCornersBelow (length text.nodes.decimals)) text.rows) }
     ensures unchanged { F.held folder.new ≡ F.held folder.old }
     ensures faults { F.faults folder.old ≤ F.faults folder.new }
     ensures misses { F.misses folder.old ≤ F.misses folder.new }

@@ -104,8 +104,8 @@ last_from number last (word ∷ more) = last_from number (option_or (number word
 abbrev pub last_number : List ℕ → ℕ → List (List ℕ) → Option ℕ
 last_number front most words = last_from (number_in front most) None words
 
-abbrev pub sample_of : List (List ℕ) → Option ℕ
-sample_of words = last_number (codes "--sample=") 10000 words
+abbrev pub sample_words : List (List ℕ) → Option ℕ
+sample_words words = last_number (codes "--sample=") 10000 words
 
 -- ---- all words
 
@@ -130,7 +130,7 @@ is_named words = list_any is_name words
 
 -- the words ask for the sample
 abbrev pub is_sampled : List (List ℕ) → Bool
-is_sampled words = is_some (sample_of words)
+is_sampled words = is_some (sample_words words)
 
 -- ---- switches that do not go together
 

@@ -1,7 +1,7 @@
 -- What the words of the command line ask for.
 use Rattle.std.specs.Prelude.{ℕ, ◌≡◌, ◌≤◌, Bool, false, true, ◌==◌, ◌&&◌, ◌||◌, not, Option, Some, None, IfSome, List, [], ◌∷◌, codes, unwrap_or, if◌then◌else◌}
 use Rattle.std.specs.Option.{option_or}
-use Rattle.command_words.specs.Grammar.{is_cluster, is_sampled, is_switched, name_of, budget_at_front, last_from, last_number, sample_of}
+use Rattle.command_words.specs.Grammar.{is_cluster, is_sampled, is_switched, name_of, budget_at_front, last_from, last_number, sample_words}
 use Rattle.command_words.specs.Names.{extension_of, base_of}
 use Rattle.command_words.specs.declared.options.Options.{Options}
 use Rattle.command_words.specs.declared.options.Extension.{Extension}
@@ -53,7 +53,7 @@ options_of words = record {
   budget = unwrap_or (last_budget words) 100000;
   halvings = unwrap_or (last_number (codes "--halvings=") 12 words) 12;
   decimals = last_number (codes "--decimals=") 20 words;
-  sample = sample_of words;
+  sample = sample_words words;
   base = base_of (name_of words);
   extension = extension_of (name_of words);
 }

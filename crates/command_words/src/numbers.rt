@@ -2,7 +2,7 @@
 
 ghost use Rattle.std.specs.Prelude.{◌≡◌, ◌<◌, ◌≤◌, IfSome, length, not, position};
 ghost use Rattle.std.specs.Char.{is_ascii_digit};
-ghost use Rattle.command_words.specs.Grammar.{digit_count, last_number, number_at_front, number_in, sample_of};
+ghost use Rattle.command_words.specs.Grammar.{digit_count, last_number, number_at_front, number_in, sample_words};
 
 use tet_ports::Words;
 use tet_text::read_digits;
@@ -76,7 +76,7 @@ pub(crate) fn last_number(front: &[u8], most: u32, words: &Words) -> Option<u32>
 
 /// The number of points of the sample, where the words ask for it.
 pub(crate) fn sample_of(words: &Words) -> Option<u32>
-    ensures value { result ≡ sample_of words.now }
+    ensures value { result ≡ sample_words words.now }
     ensures bound { IfSome result (λ n. n ≤ 10000) }
 {
     last_number(SAMPLE, MOST_SAMPLE, words)

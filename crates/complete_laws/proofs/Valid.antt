@@ -9,8 +9,8 @@ use Rattle.geo_laws.specs.declared.complex.Piece.{Piece}
 use Rattle.box_pairs.specs.Crossing.{AreTrianglesMet}
 use Rattle.facet_recover.specs.Refilled.{HasTangle}
 use Rattle.merge_laws.proofs.Once.{law_one_merging}
-use Rattle.segment_protect.specs.Crossing.{ArePairwiseMet}
-use Rattle.tangle_laws.specs.Tangle.{Holds}
+use Rattle.segment_protect.specs.Crossing.{ArePiecesPairwiseMet}
+use Rattle.tangle_laws.specs.Tangle.{AnomalyHolds}
 use Rattle.tangle_laws.specs.declared.anomaly.Anomaly.{Anomaly}
 use Rattle.complex_mesh.specs.Protection.{AreMeshed, complex_triangles}
 use Rattle.complex_mesh.specs.declared.fault.MeshFault.TheVariants.{Flat, NotFlat, SegmentsCross, GridEnd, BudgetEnd, Crossing, NoFill, NoMemory}
@@ -59,8 +59,8 @@ module _ (o : MeshOptions) (ps : List Point) (c : Complex) (v : IsValid o ps c) 
   facets_as : (also : List Piece) (gs : List Facet) → AreMeshed o.keep_facets ps c also gs → v.fs ≡ gs
   facets_as also gs h = (meshed_same o.keep_facets ps c v.segs also v.fs gs v.protected.meshed h).facets_same
 
-  pieces_met : (also : List Piece) (gs : List Facet) → AreMeshed o.keep_facets ps c also gs → ArePairwiseMet ps (pieces ps also)
-  pieces_met also gs h = subst (λ (ss : List Piece). ArePairwiseMet ps (pieces ps ss)) (segments_as also gs h) v.protected.can_split.1
+  pieces_met : (also : List Piece) (gs : List Facet) → AreMeshed o.keep_facets ps c also gs → ArePiecesPairwiseMet ps (pieces ps also)
+  pieces_met also gs h = subst (λ (ss : List Piece). ArePiecesPairwiseMet ps (pieces ps ss)) (segments_as also gs h) v.protected.can_split.1
 
   -- protection ends so, whatever segments are meshed
   ends_as : (also : List Piece) (gs : List Facet) (end : ProtectionEnd) → AreMeshed o.keep_facets ps c also gs → protect o.halvings o.budget ps (pieces ps also) ≡ end → Protected v.qs v.rest ≡ end
@@ -78,17 +78,17 @@ module _ (o : MeshOptions) (ps : List Point) (c : Complex) (v : IsValid o ps c) 
   no_budget_end : (piece : Piece) → Protected v.qs v.rest ≡ BudgetEndOf piece → ⊥
   no_budget_end piece e = cc
 
-  no_anomaly : (a : Anomaly) → HasNoAnomaly v.qs (complex_triangles v.qs v.fs) → HasTangle v.qs (complex_triangles v.qs v.fs) (delaunay_rows v.qs) → Holds v.qs (complex_triangles v.qs v.fs) a → ⊥
+  no_anomaly : (a : Anomaly) → HasNoAnomaly v.qs (complex_triangles v.qs v.fs) → HasTangle v.qs (complex_triangles v.qs v.fs) (delaunay_rows v.qs) → AnomalyHolds v.qs (complex_triangles v.qs v.fs) a → ⊥
   no_anomaly a (inl untangled) tangle holds = untangled tangle.row tangle.is_row tangle.is_tangled
   no_anomaly a (inr none) tangle holds = none a holds
 
   no_anomaly_of : (a : Anomaly) (rs : List Point) (gs : List Facet) → rs ≡ v.qs → gs ≡ v.fs → HasNoAnomaly v.qs (complex_triangles v.qs v.fs)
-      → HasTangle rs (complex_triangles rs gs) (delaunay_rows rs) → Holds rs (complex_triangles rs gs) a → ⊥
+      → HasTangle rs (complex_triangles rs gs) (delaunay_rows rs) → AnomalyHolds rs (complex_triangles rs gs) a → ⊥
   no_anomaly_of a rs gs e f none tangle holds =
       no_anomaly a none
       (subst (λ (n : List Facet). HasTangle v.qs (complex_triangles v.qs n) (delaunay_rows v.qs)) f
       (subst (λ (n : List Point). HasTangle n (complex_triangles n gs) (delaunay_rows n)) e tangle))
-      (subst (λ (n : List Facet). Holds v.qs (complex_triangles v.qs n) a) f (subst (λ (n : List Point). Holds n (complex_triangles n gs) a) e holds))
+      (subst (λ (n : List Facet). AnomalyHolds v.qs (complex_triangles v.qs n) a) f (subst (λ (n : List Point). AnomalyHolds n (complex_triangles n gs) a) e holds))
 
 pub valid_complex : ValidComplexLaw
 valid_complex o ps c v none Flat h = absurd (v.solid h)

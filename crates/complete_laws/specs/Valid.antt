@@ -8,7 +8,7 @@ use Rattle.geo_laws.specs.declared.complex.FacetTriangle.{FacetTriangle}
 use Rattle.geo_laws.specs.declared.complex.Piece.{Piece}
 use Rattle.box_pairs.specs.Crossing.{AreTrianglesMet}
 use Rattle.facet_recover.specs.Refilled.{AreUntangled}
-use Rattle.tangle_laws.specs.Tangle.{Holds}
+use Rattle.tangle_laws.specs.Tangle.{AnomalyHolds}
 use Rattle.tangle_laws.specs.declared.anomaly.Anomaly.{Anomaly}
 use Rattle.complex_mesh.specs.Meshing.{IsMeshFault}
 use Rattle.complex_mesh.specs.Protection.{IsProtectedComplex, complex_triangles}
@@ -29,7 +29,7 @@ pub record IsValid (o : MeshOptions) (ps : List Point) (c : Complex) : Type 0 wh
 
 -- no two facets cross a Delaunay row, or no anomaly stands against a mesh
 abbrev pub HasNoAnomaly : List Point → List FacetTriangle → Type 0
-HasNoAnomaly qs ts = AreUntangled qs ts (delaunay_rows qs) ⊎ ((a : Anomaly) → ¬ Holds qs ts a)
+HasNoAnomaly qs ts = AreUntangled qs ts (delaunay_rows qs) ⊎ ((a : Anomaly) → ¬ AnomalyHolds qs ts a)
 
 -- So nothing but want of memory stands against its mesh
 abbrev pub ValidComplexLaw : Type 0

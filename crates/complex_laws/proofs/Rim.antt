@@ -12,11 +12,11 @@ use Rattle.geo_laws.specs.Facet.{Facet, areas, axis_of, corner_numbers, is_on_si
 use Rattle.geo_laws.specs.declared.complex.Piece.{Piece}
 use Rattle.geo_laws.specs.declared.complex.FacetTriangle.{FacetTriangle}
 use Rattle.geo_laws.proofs.Members.{IsMember, member_of}
-use Rattle.facet_laws.specs.Circle.{triangle, IsCircle, LiesInPlane}
+use Rattle.facet_laws.specs.Circle.{circle_triangle, IsCircle, LiesInPlane}
 use Rattle.facet_laws.specs.Inner.{HasOnce}
-use Rattle.facet_laws.specs.Legs.{IsBetween, IsClear}
+use Rattle.facet_laws.specs.Legs.{IsWeightedMean, IsClear}
 use Rattle.facet_laws.specs.Passing.{LiesBeside}
-use Rattle.facet_laws.specs.Region.{IsPieced, IsProtected, through}
+use Rattle.facet_laws.specs.Region.{IsPieced, IsFacetProtected, through}
 use Rattle.facet_laws.proofs.Chains.{all_at, all_both, all_sides}
 use Rattle.facet_laws.proofs.Circles.{among_all, shape_of}
 use Rattle.facet_laws.proofs.Common.{not_beyond}
@@ -37,9 +37,9 @@ use Rattle.complex_laws.proofs.Beyond.{HoldsPlane, outward_clear}
 use lib.IntN.{*ℤ-zero}
 
 -- a point of a circle triangle on a side of the facet, and on a wall that has all points of the plane on one hand, and no point itself, lies on pieces
-pub rim_pieces : (ps : List Point) (facet : Facet) (p : ℕ × ℕ × ℕ) → IsProtected ps facet p → (t : FacetTriangle) (v : ℕ) (g : Triangle) → IsCircle ps t → LiesInPlane ps (through ps p) t → Wall ps t v g → HoldsPlane ps (through ps p) g
+pub rim_pieces : (ps : List Point) (facet : Facet) (p : ℕ × ℕ × ℕ) → IsFacetProtected ps facet p → (t : FacetTriangle) (v : ℕ) (g : Triangle) → IsCircle ps t → LiesInPlane ps (through ps p) t → Wall ps t v g → HoldsPlane ps (through ps p) g
     → (m : RationalPoint) → pos 0 <ℤ m.w → InSimplex ps (corner_numbers t) m → IsNoPoint ps (through ps p) m → side_rational g m ≡ pos 0 → is_on_side ps facet m ≡ true
-    → (s : Piece) × IsOnPiecesAmong ps (through ps p) (all_numbers ps) s × IsBetween (as_rational (point ps s.a)) (as_rational (point ps s.b)) m
+    → (s : Piece) × IsOnPiecesAmong ps (through ps p) (all_numbers ps) s × IsWeightedMean (as_rational (point ps s.a)) (as_rational (point ps s.b)) m
 rim_pieces ps facet p h t v g circle lies wall holds m mw in_t none on_wall on = go (on_edge (IsOff y.0) ps (through ps p) facet (all_numbers ps) m mw on_list flat edges on)
   where
     spans : SpansPlane (through ps p)
@@ -64,7 +64,7 @@ rim_pieces ps facet p h t v g circle lies wall holds m mw in_t none on_wall on =
     m_flat = side-zero ps (through ps p) (corner_numbers t) in_t.0 m in_t.1 (corner_plane ps (through ps p) t lies)
 
     y_flat : side_rational (through ps p) y.0 ≡ pos 0
-    y_flat = from_triangle (through ps p) (triangle ps t) y.0 spans circle.spans (within ps (through ps p) t lies) y.1.flat
+    y_flat = from_triangle (through ps p) (circle_triangle ps t) y.0 spans circle.spans (within ps (through ps p) t lies) y.1.flat
 
     b : (b : RationalPoint) × IsBeyond (through ps p) m y.0 b
     b = beyond_point (through ps p) m y.0 mw m_flat y_flat
@@ -85,7 +85,7 @@ rim_pieces ps facet p h t v g circle lies wall holds m mw in_t none on_wall on =
 
     -- a polygon on the far hand would be round a point beyond the rim
     not_far : (q : List ℕ) (s : Piece) (k : Triangle) → IsMember q (areas facet) → side k (point ps s.a) ≡ pos 0 → side k (point ps s.b) ≡ pos 0 → point ps s.a ≢ point ps s.b → LiesBeside ps (through ps p) k q → HasOnce ps s q
-        → (part : IsBetween (as_rational (point ps s.a)) (as_rational (point ps s.b)) m) → (pos 0 <ℤ part.to_x) × (pos 0 <ℤ part.to_y) → pos 0 <ℤ side_rational k b.0 → ⊥
+        → (part : IsWeightedMean (as_rational (point ps s.a)) (as_rational (point ps s.b)) m) → (pos 0 <ℤ part.to_x) × (pos 0 <ℤ part.to_y) → pos 0 <ℤ side_rational k b.0 → ⊥
     not_far q s k mq ka kb ends beside has part strict above = never (sym round ∙ outside)
       where
         q_on : AllByRecursion (λ i. i < length ps) q
@@ -114,10 +114,10 @@ rim_pieces ps facet p h t v g circle lies wall holds m mw in_t none on_wall on =
             (all_map (λ r. (pos 0 ≤ℤ side g (point ps r.a)) × (pos 0 ≤ℤ side g (point ps r.b))) (λ r. is_on_piece ps r b.0 ≡ false) (sides q)
             (λ r l. untrue (is_on_piece ps r b.0) (λ on. below (side_rational g b.0) (between g (point ps r.a) (point ps r.b) b.0 l.0 l.1 (test_leg (point ps r.a) (point ps r.b) b.0 b.1.w on)) out)) held_sides) out
 
-    go : IsOnEdge (IsOff y.0) ps (through ps p) facet (all_numbers ps) m → (s : Piece) × IsOnPiecesAmong ps (through ps p) (all_numbers ps) s × IsBetween (as_rational (point ps s.a)) (as_rational (point ps s.b)) m
+    go : IsOnEdge (IsOff y.0) ps (through ps p) facet (all_numbers ps) m → (s : Piece) × IsOnPiecesAmong ps (through ps p) (all_numbers ps) s × IsWeightedMean (as_rational (point ps s.a)) (as_rational (point ps s.b)) m
     go o = by o.edge
       where
-        by : EdgeWith (IsOff y.0) ps (through ps p) facet (all_numbers ps) o.q o.s → (s : Piece) × IsOnPiecesAmong ps (through ps p) (all_numbers ps) s × IsBetween (as_rational (point ps s.a)) (as_rational (point ps s.b)) m
+        by : EdgeWith (IsOff y.0) ps (through ps p) facet (all_numbers ps) o.q o.s → (s : Piece) × IsOnPiecesAmong ps (through ps p) (all_numbers ps) s × IsWeightedMean (as_rational (point ps s.a)) (as_rational (point ps s.b)) m
         by (inl pieces) = (o.s, pieces, o.part)
         by (inr i) = absurd (by_sign (side_rational i.0.inner.g y.0)
             (λ n. not_far o.q o.s i.0.inner.g o.listed i.0.inner.a_on i.0.inner.b_on i.0.inner.ends i.0.inner.beside i.0.inner.own o.part strict

@@ -2,16 +2,15 @@
 use Rattle.std.proofs.Common.{◌≡◌, List, [], Some, None, sym, subst, ◌∙◌}
 use Rattle.std.specs.Prelude.{All}
 use Rattle.sign_predicates.specs.Point.{Point}
-use Rattle.geo_laws.specs.Complex.{Complex, facets}
+use Rattle.geo_laws.specs.Complex.{Complex, facets, HasCornersOf}
 use Rattle.geo_laws.specs.Delaunay.{delaunay_rows, AreCoplanar}
 use Rattle.geo_laws.specs.Facet.{Facet, IsFlat}
 use Rattle.geo_laws.specs.Segment.{pieces}
 use Rattle.geo_laws.specs.declared.tetrahedra.Tet.{Tet}
 use Rattle.geo_laws.specs.declared.complex.Piece.{Piece}
 use Rattle.geo_laws.specs.declared.complex.FacetTriangle.{FacetTriangle}
-use Rattle.complex_laws.specs.SoundComplex.{facet_at}
+use Rattle.complex_laws.specs.SoundComplex.{facet_numbered}
 use Rattle.facet_laws.proofs.FlatTest.{law_flat}
-use Rattle.facet_plane.specs.Corners.{HasCornersOf}
 use Rattle.facet_plane.specs.Flat.{IsFirstNotFlat}
 use Rattle.facet_plane.specs.declared.flat.NotFlat.{NotFlat as Bent}
 use Rattle.segment_protect.specs.Ends.{IsProtectFault}
@@ -41,7 +40,7 @@ not_flat_cause o ps c bent on h = (solid, h)
 
     solid : ¬ AreCoplanar ps
     solid flat =
-        never (sym ((law_flat ps (facet_at (facets c) bent.facet)).1 (coplanar_flat ps c on flat bent.facet h.there)) ∙ h.four (record { polygons = []; holes = [] }))
+        never (sym ((law_flat ps (facet_numbered (facets c) bent.facet)).1 (coplanar_flat ps c on flat bent.facet h.there)) ∙ h.four (record { polygons = []; holes = [] }))
 
 pub protect_cause : (o : MeshOptions) (ps : List Point) (c : Complex) (segs : List Piece) (fs : List Facet) → All (IsFlat ps) (facets c) → AreMeshed o.keep_facets ps c segs fs
     → (f : ProtectFault) → IsProtectFault o.halvings o.budget ps (pieces ps segs) f → IsMeshFault o ps c (protect_fault f)

@@ -8,7 +8,7 @@ use Rattle.geo_laws.specs.Segment.{pieces}
 use Rattle.geo_laws.specs.declared.complex.Piece.{Piece}
 use Rattle.facet_laws.proofs.InnerCover.{law_bounded_cover}
 use Rattle.facet_laws.proofs.Threes.{law_facet_list}
-use Rattle.complex_laws.specs.SoundComplex.{IsSound, HasTriangles, facet_at}
+use Rattle.complex_laws.specs.SoundComplex.{IsSoundFacet, HasTriangles, facet_numbered}
 use Rattle.segment_protect.specs.Spots.{HasTwoEnds}
 use Rattle.segment_protect.specs.Ends.{IsStart}
 use Rattle.segment_protect.proofs.PieceLaws.{pieces_cut}
@@ -34,9 +34,9 @@ module _ (o : MeshOptions) (ps : List Point) (c : Complex) (m : ComplexMesh) (se
   after : HasProtected ps m.points segs
   after = law_protected_pieces o.halvings o.budget ps m.points segs rest on start protected.can_split protected.ends
 
-  sound : (k : ℕ) → k < length fs → IsSound m.points segs (facet_at fs k)
+  sound : (k : ℕ) → k < length fs → IsSoundFacet m.points segs (facet_numbered fs k)
   sound k l =
-      law_sound ps m.points segs (facet_at fs k) after.begins
+      law_sound ps m.points segs (facet_numbered fs k) after.begins
       (meshed_sound o.keep_facets ps c segs fs given.distinct given.corners protected.flat protected.meshed k l)
 
   has : HasTriangles m.points fs m.triangles
@@ -44,8 +44,8 @@ module _ (o : MeshOptions) (ps : List Point) (c : Complex) (m : ComplexMesh) (se
 
   pub covered_at : (k : ℕ) → k < length fs → IsCoveredAt m.points m.triangles segs fs k
   covered_at k l = let s = sound k l in record {
-    covers = λ p e. law_bounded_cover m.points k (facet_at fs k) p segs after.distinct s.on e s.flat s.bounded after.has_pieces;
+    covers = λ p e. law_bounded_cover m.points k (facet_numbered fs k) p segs after.distinct s.on e s.flat s.bounded after.has_pieces;
     there = λ t inside.
-        let is = ((law_facet_list m.points k (facet_at fs k) t).0 inside).of_facet in
+        let is = ((law_facet_list m.points k (facet_numbered fs k) t).0 inside).of_facet in
         (has.exactly t).1 (subst (λ n. n < length fs) (sym is) l, subst (λ n. Contains (triangles_at m.points fs n) t) (sym is) inside);
   }

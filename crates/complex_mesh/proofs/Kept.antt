@@ -26,7 +26,7 @@ use Rattle.path_laws.proofs.KeptMesh.{law_kept_mesh}
 use Rattle.complex_laws.proofs.MetFaces.{law_faces_met}
 use Rattle.recovery_laws.specs.Recovery.{IsRecovery}
 use Rattle.recovery_laws.proofs.Chain.{law_piece_of_rest}
-use Rattle.mesh_files.specs.FaceRows.{AreFacesMet, AreFacetsThere}
+use Rattle.mesh_files.specs.FaceRows.{AreTrianglesMetByFaces, AreFacetsThere}
 use Rattle.facet_laws.specs.Faces.{Ascends}
 use Rattle.complex_mesh.specs.Protection.{IsMeshable, IsProtectedComplex, first_triangles, complex_triangles}
 use Rattle.complex_mesh.specs.Steps.{IsRecovered, IsKeptMesh}
@@ -82,7 +82,7 @@ module _ (o : MeshOptions) (ps : List Point) (c : Complex) (m : ComplexMesh) (se
   pieces_met p l k d h =
       each_member (λ q. ProperlyMet m.points (corner_numbers (slice_index_or m.triangles k d)) (ends q)) rest (met.triangles_meet_pieces k d h) p (member_of rest p l)
 
-  faces_met : AreFacesMet m.points m.triangles m.tetrahedra
+  faces_met : AreTrianglesMetByFaces m.points m.triangles m.tetrahedra
   faces_met k d l = record {
     ascending = subst (All Ascends) (sym triangles) (triangles_ascend m.points fs) k d l;
     positive = λ i e n. (is_mesh.positive i e n).1;

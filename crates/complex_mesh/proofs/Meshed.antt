@@ -3,12 +3,11 @@ use Rattle.std.proofs.Common.{◌≡◌, ℕ, ◌<◌, ◌≤◌, Bool, true, fa
 use Rattle.std.specs.Prelude.{All}
 use Rattle.std.specs.List.{slice_index_or}
 use Rattle.sign_predicates.specs.Point.{Point}
-use Rattle.geo_laws.specs.Complex.{Complex, corner_lists, facets}
+use Rattle.geo_laws.specs.Complex.{Complex, corner_lists, facets, HasCornersOf}
 use Rattle.geo_laws.specs.Segment.{segments}
 use Rattle.geo_laws.specs.declared.complex.Piece.{Piece}
 use Rattle.geo_laws.proofs.Members.{member_of}
 use Rattle.segment_protect.proofs.Splits.{each_member}
-use Rattle.facet_plane.specs.Corners.{HasCornersOf}
 use Rattle.merge_laws.specs.Merged.{IsMerging, alone, merged_segments}
 use Rattle.merged_facets.specs.MergedComplex.{IsMergedComplex}
 use Rattle.complex_mesh.specs.Protection.{AreMeshed}

@@ -10,7 +10,7 @@ use Rattle.geo_laws.specs.Facet.{Facet, IsFlat}
 use Rattle.geo_laws.specs.declared.complex.Piece.{Piece}
 use Rattle.geo_laws.specs.declared.complex.FacetTriangle.{FacetTriangle}
 use Rattle.segment_protect.specs.Ends.{CanSplit}
-use Rattle.segment_protect.specs.Crossing.{ArePairwiseMet, IsFirstCrossing as IsFirstSegments}
+use Rattle.segment_protect.specs.Crossing.{ArePiecesPairwiseMet, IsFirstPieceCrossing as IsFirstSegments}
 use Rattle.facet_plane.specs.Flat.{IsFirstNotFlat}
 use Rattle.facet_plane.specs.declared.flat.NotFlat.{NotFlat as Bent}
 use Rattle.box_pairs.specs.declared.complex_parts.Part.{Part}
@@ -79,7 +79,7 @@ Ends budget fs (BudgetEndOf piece) a = a ≡ Some (BudgetEnd budget piece)
 
 -- two pieces are not properly met, or all are and protection begins
 abbrev Protects : MeshOptions → List Point → List Facet → List Piece → Outcome → Type 0
-Protects o ps fs rest = Step (IsSegmentFault ps rest) (ArePairwiseMet ps rest) (Ends o.budget fs (protect o.halvings o.budget ps rest))
+Protects o ps fs rest = Step (IsSegmentFault ps rest) (ArePiecesPairwiseMet ps rest) (Ends o.budget fs (protect o.halvings o.budget ps rest))
 
 -- the segments and facets that are meshed
 record Meshes (o : MeshOptions) (ps : List Point) (c : Complex) (a : Outcome) : Type 0 where
@@ -131,7 +131,7 @@ ends_once budget fs (BudgetEndOf piece) = λ a b e f. e ∙ sym f
 
 protects_once : (o : MeshOptions) (ps : List Point) (fs : List Facet) (rest : List Piece) → IsOnce (Protects o ps fs rest)
 protects_once o ps fs rest =
-    step_once (IsSegmentFault ps rest) (ArePairwiseMet ps rest) (Ends o.budget fs (protect o.halvings o.budget ps rest)) (segment_once ps rest)
+    step_once (IsSegmentFault ps rest) (ArePiecesPairwiseMet ps rest) (Ends o.budget fs (protect o.halvings o.budget ps rest)) (segment_once ps rest)
     (λ a h. segments_none ps rest h.one h.two h.first) (ends_once o.budget fs (protect o.halvings o.budget ps rest))
 
 -- what is meshed is one

@@ -14,7 +14,7 @@ use Rattle.facet_laws.specs.Plane.{four_apart}
 use Rattle.facet_laws.proofs.FlatTest.{law_flat}
 use Rattle.facet_plane.specs.Flat.{IsFirstNotFlat}
 use Rattle.facet_plane.specs.declared.flat.NotFlat.{NotFlat}
-use Rattle.segment_protect.specs.Crossing.{AreMet, ArePairwiseMet, IsFirstCrossing as IsFirstSegments}
+use Rattle.segment_protect.specs.Crossing.{AreMet, ArePiecesPairwiseMet, IsFirstPieceCrossing as IsFirstSegments}
 use Rattle.box_pairs.specs.declared.complex_parts.Compared.TheVariants.{WithTriangle}
 use Rattle.box_pairs.specs.declared.complex_parts.Part.{Part}
 use Rattle.box_pairs.specs.declared.complex_parts.Part.TheVariants.{Triangle, Segment}
@@ -117,7 +117,7 @@ segments_once ps pieces one two one' two' h k = (at_same pieces h.i k.i one one'
     same = first_pair (CrossAt ps pieces) h.i h.j k.i k.j (cross_at ps pieces one two h) (cross_at ps pieces one' two' k)
         (λ m n before bad. bad.cross one (h.first m n bad.order bad.within before one)) (λ m n before bad. bad.cross one (k.first m n bad.order bad.within before one))
 
-pub segments_none : (ps : List Point) (pieces : List Piece) (one two : Piece) → IsFirstSegments ps pieces one two → ¬ ArePairwiseMet ps pieces
+pub segments_none : (ps : List Point) (pieces : List Piece) (one two : Piece) → IsFirstSegments ps pieces one two → ¬ ArePiecesPairwiseMet ps pieces
 segments_none ps pieces one two h met = (cross_at ps pieces one two h).cross one (met h.i h.j one h.order h.within)
 
 -- ---- triangles and pieces

@@ -3,14 +3,13 @@ use Rattle.std.proofs.Common.{◌≡◌, inl, Bool, true, false, not, None, ℕ,
 use Rattle.std.specs.Prelude.{All}
 use Rattle.std.specs.List.{slice_index_or}
 use Rattle.sign_predicates.specs.Point.{Point}
-use Rattle.geo_laws.specs.Complex.{Complex, corner_lists, facets}
+use Rattle.geo_laws.specs.Complex.{Complex, corner_lists, facets, HasCornersOf}
 use Rattle.geo_laws.specs.Delaunay.{delaunay_rows, AreCoplanar, HasDistinctPoints}
 use Rattle.geo_laws.specs.Segment.{segments, pieces, protect, Protected, is_side, first_missing}
 use Rattle.geo_laws.specs.declared.complex.Piece.{Piece}
 use Rattle.geo_laws.specs.declared.complex.FacetTriangle.{FacetTriangle}
 use Rattle.geo_laws.proofs.Members.{IsMember, here, there, at_place}
-use Rattle.complex_laws.specs.SoundComplex.{IsSound, HasTriangles, facet_at}
-use Rattle.facet_plane.specs.Corners.{HasCornersOf}
+use Rattle.complex_laws.specs.SoundComplex.{IsSoundFacet, HasTriangles, facet_numbered}
 use Rattle.refill_laws.specs.Protected.{IsProtected}
 use Rattle.simplex_meets.specs.Proper.{IsSegment}
 use Rattle.box_pairs.specs.Parts.{piece_side}
@@ -76,7 +75,7 @@ segments_two_ends ps c on = law_two_ends ps (corner_lists c.polygons) (law_corne
 -- the facets as read are on the points, in the words of the merging
 pub corners_on_points : (ps : List Point) (c : Complex) → HasCornersOf ps c → HasCornersOn ps c
 corners_on_points ps c on f i l m =
-    let g = facet_at (facets c) f in
+    let g = facet_numbered (facets c) f in
     all_at (λ i. i < length ps) i (all_corners g) (corners_on ps c on f (subst (λ n. f < n) (sym (facet_count c)) l)) (member_of (all_corners g) i m)
 
 pub meshed_two_ends : (keep : Bool) (ps : List Point) (c : Complex) (segs : List Piece) (fs : List Facet) → HasCornersOf ps c → AreMeshed keep ps c segs fs → All (HasTwoEnds (length ps)) segs
@@ -84,15 +83,15 @@ meshed_two_ends true ps c segs fs on m = subst (All (HasTwoEnds (length ps))) (s
 meshed_two_ends false ps c segs fs on m = subst (All (HasTwoEnds (length ps))) (sym m.segments_are) (law_merged_ends ps c m.inner (corners_on_points ps c on))
 
 abbrev AreSound : List Point → List Piece → List Facet → Type 0
-AreSound ps segs fs = (k : ℕ) → k < length fs → IsSound ps segs (facet_at fs k)
+AreSound ps segs fs = (k : ℕ) → k < length fs → IsSoundFacet ps segs (facet_numbered fs k)
 
 pub meshed_sound : (keep : Bool) (ps : List Point) (c : Complex) (segs : List Piece) (fs : List Facet) → HasDistinctPoints ps → HasCornersOf ps c → All (IsFlat ps) (facets c) → AreMeshed keep ps c segs fs
-    → (k : ℕ) → k < length fs → IsSound ps segs (facet_at fs k)
+    → (k : ℕ) → k < length fs → IsSoundFacet ps segs (facet_numbered fs k)
 meshed_sound true ps c segs fs distinct on flat m = subst (λ gs. AreSound ps segs gs) (sym m.1) (subst (λ ss. AreSound ps ss (facets c)) (sym m.0) (sound_facet ps c on flat))
 meshed_sound false ps c segs fs distinct on flat m =
     subst (λ gs. AreSound ps segs gs) (sym m.facets_are)
     (subst (λ ss. AreSound ps ss (merged_facets m.group c)) (sym m.segments_are)
-    (λ k l. subst (IsSound ps (merged_segments m.inner c)) (sym (facet_is m.group c k l)) (law_merged_sound ps c m.group m.inner distinct (corners_on_points ps c on) as_read (inl m.merging) k)))
+    (λ k l. subst (IsSoundFacet ps (merged_segments m.inner c)) (sym (facet_is m.group c k l)) (law_merged_sound ps c m.group m.inner distinct (corners_on_points ps c on) as_read (inl m.merging) k)))
   where
     as_read : AreFlat ps c
     as_read f l = flat f (record { polygons = []; holes = [] }) (subst (λ n. f < n) (sym (facet_count c)) l)
@@ -121,7 +120,7 @@ module _ (o : MeshOptions) (ps : List Point) (c : Complex) (segs : List Piece) (
   after : HasProtected ps qs segs
   after = law_protected_pieces o.halvings o.budget ps qs segs rest on start protected.can_split protected.ends
 
-  sound : (k : ℕ) → k < length fs → IsSound ps segs (facet_at fs k)
+  sound : (k : ℕ) → k < length fs → IsSoundFacet ps segs (facet_numbered fs k)
   sound = meshed_sound o.keep_facets ps c segs fs given.distinct given.corners protected.flat protected.meshed
 
   none : (s : Piece) → IsMember s [] → ⊥
@@ -157,7 +156,7 @@ module _ (o : MeshOptions) (ps : List Point) (c : Complex) (segs : List Piece) (
     distinct = after.distinct;
     few = still_few;
     corners = λ k e l i x m. less_most (slice_index_or (slice_index_or d.polygons k e).corners i x) (length ps) (length qs) (corners k e l i x m) after.begins.long;
-    sound = subst (λ gs. AreSound qs segs gs) are (λ k l. law_sound ps qs segs (facet_at fs k) after.begins (sound k l));
+    sound = subst (λ gs. AreSound qs segs gs) are (λ k l. law_sound ps qs segs (facet_numbered fs k) after.begins (sound k l));
     has_pieces = after.has_pieces;
     two_ends = λ k d l. (kept.can.each k d l).ends;
     are_sides = λ k d l. side (slice_index_or rest k d) (at_place rest k d l);

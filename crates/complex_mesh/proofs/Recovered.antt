@@ -10,7 +10,7 @@ use Rattle.geo_laws.proofs.DelaunayList.{law_delaunay_list}
 use Rattle.geo_laws.specs.Faces.{row_faces, face_of}
 use Rattle.geo_laws.proofs.Members.{contains_of, member_of, flat_map_cases}
 use Rattle.refill_laws.specs.Protected.{IsProtected}
-use Rattle.tangle_laws.specs.Growth.{IsRefilled, triangle_face}
+use Rattle.tangle_laws.specs.Growth.{IsGrownList, sorted_triangle}
 use Rattle.path_laws.specs.Places.{IsKept}
 use Rattle.path_laws.specs.KeptMesh.{IsWholeMesh}
 use Rattle.facet_recover.specs.Refilled.{AreUntangled, IsRefilledBySides}
@@ -30,7 +30,7 @@ some_rows qs rows e solid = let s = law_some_row qs solid in let c = ((list_is q
     above k n h = omega arith
 
 -- a list filled again fills the hull and keeps the facets
-pub whole_of : (qs : List Point) (ts : List FacetTriangle) (rows whole : List Tet) → IsProtected qs ts rows → IsRefilled qs ts rows whole → IsWholeMesh qs ts whole
+pub whole_of : (qs : List Point) (ts : List FacetTriangle) (rows whole : List Tet) → IsProtected qs ts rows → IsGrownList qs ts rows whole → IsWholeMesh qs ts whole
 whole_of qs ts rows whole complex r = record {
   filling = record {
     is_on = λ k d l. (r.positive k d l).0;
@@ -46,14 +46,14 @@ whole_of qs ts rows whole complex r = record {
     facets_kept : All (IsKept whole) ts
     facets_kept k d l =
         let t = slice_index_or ts k d in
-        let u = flat_map_cases row_faces (triangle_face t) whole (member_of _ (triangle_face t) (r.facets k d l)) in
+        let u = flat_map_cases row_faces (sorted_triangle t) whole (member_of _ (sorted_triangle t) (r.facets k d l)) in
         any_of (λ q. Contains (row_faces q) (face_of t.a t.b t.c)) whole u.0 (contains_of whole u.0 u.1)
-        (subst (Contains (row_faces u.0)) (sym (ascending_face t.a t.b t.c (complex.triangles k d l).first (complex.triangles k d l).second)) (contains_of (row_faces u.0) (triangle_face t) u.2))
+        (subst (Contains (row_faces u.0)) (sym (ascending_face t.a t.b t.c (complex.triangles k d l).first (complex.triangles k d l).second)) (contains_of (row_faces u.0) (sorted_triangle t) u.2))
 
-pub recovered_is : (qs : List Point) (ts : List FacetTriangle) (rows whole : List Tet) → rows ≡ delaunay_rows qs → IsProtected qs ts rows → IsRefilled qs ts rows whole
+pub recovered_is : (qs : List Point) (ts : List FacetTriangle) (rows whole : List Tet) → rows ≡ delaunay_rows qs → IsProtected qs ts rows → IsGrownList qs ts rows whole
     → (AreUntangled qs ts rows → IsRefilledBySides qs ts rows whole) → IsRecovered qs ts whole
 recovered_is qs ts rows whole e complex refilled by_sides = record {
-  refilled = subst (λ us. IsRefilled qs ts us whole) e refilled;
+  refilled = subst (λ us. IsGrownList qs ts us whole) e refilled;
   by_sides = λ untangled. (subst (λ us. AreUntangled qs ts us → IsRefilledBySides qs ts us whole) e by_sides untangled).refill;
   whole_mesh = whole_of qs ts rows whole complex refilled;
 }

@@ -8,7 +8,7 @@ use Rattle.std.proofs.lemmas.List.Folds.{flat_map-map}
 use Rattle.std.proofs.lemmas.List.FromFn.{map-range_with_len_more}
 use Rattle.sign_predicates.specs.Point.{Point}
 use Rattle.geo_laws.specs.Segment.{segments}
-use Rattle.geo_laws.specs.Complex.{Complex, Polygon, flat_facet, facets, corner_lists}
+use Rattle.geo_laws.specs.Complex.{Complex, Polygon, flat_facet, facets, corner_lists, HasCornersOf}
 use Rattle.geo_laws.specs.Delaunay.{numbers_below, AreCoplanar}
 use Rattle.geo_laws.specs.Facet.{Facet as FlatFacet, IsFlat, facet_triangles, all_corners}
 use Rattle.geo_laws.specs.declared.complex.Facet.{Facet}
@@ -23,11 +23,10 @@ use Rattle.facet_laws.specs.Faces.{Ascends}
 use Rattle.facet_laws.proofs.Chains.{all_at}
 use Rattle.facet_laws.proofs.Threes.{law_facet_list, law_facet_order}
 use Rattle.refill_laws.specs.Protected.{TriangleBefore}
-use Rattle.complex_laws.specs.SoundComplex.{IsSound, HasTriangles, facet_at}
+use Rattle.complex_laws.specs.SoundComplex.{IsSoundFacet, HasTriangles, facet_numbered}
 use Rattle.complex_laws.proofs.SoundComplex.{law_listed}
 use Rattle.simplex_meets.specs.Proper.{IsTriangle, triangle_face}
 use Rattle.simplex_meets.proofs.Facets.{law_spans}
-use Rattle.facet_plane.specs.Corners.{HasCornersOf}
 use Rattle.facet_plane.proofs.FlatFacets.{facet_count}
 use Rattle.facet_plane.proofs.Polygons.{facet_corners_there}
 use Rattle.segment_protect.proofs.Splits.{pairs_of_rises, all_members}
@@ -37,24 +36,24 @@ use Rattle.complex_mesh.specs.Protection.{triangles_at, first_triangles, complex
 -- ---- facets
 
 -- the facet at a place, with its polygons
-pub facet_is : (c : Complex) (k : ℕ) (d : Facet) → k < length c.facets → facet_at (facets c) k ≡ flat_facet c.polygons (slice_index_or c.facets k d)
+pub facet_is : (c : Complex) (k : ℕ) (d : Facet) → k < length c.facets → facet_numbered (facets c) k ≡ flat_facet c.polygons (slice_index_or c.facets k d)
 facet_is c k d l = get_or-map (flat_facet c.polygons) c.facets k d (record { polygons = []; holes = [] }) l
 
 abbrev no_facet : Facet
 no_facet = record { first = 0; past = 0; holes = []; marker = None }
 
 -- the corners of all facets are numbers of points
-pub corners_on : (ps : List Point) (c : Complex) → HasCornersOf ps c → (k : ℕ) → k < length (facets c) → AllByRecursion (λ i. i < length ps) (all_corners (facet_at (facets c) k))
+pub corners_on : (ps : List Point) (c : Complex) → HasCornersOf ps c → (k : ℕ) → k < length (facets c) → AllByRecursion (λ i. i < length ps) (all_corners (facet_numbered (facets c) k))
 corners_on ps c on k l =
     let f = slice_index_or c.facets k no_facet in
     subst (λ g. AllByRecursion (λ i. i < length ps) (all_corners g)) (sym (facet_is c k no_facet (subst (λ n. k < n) (facet_count c) l))) (facet_corners_there ps c f.first f.past on)
 
 -- where all points lie in one plane, all facets are flat
-pub coplanar_flat : (ps : List Point) (c : Complex) → HasCornersOf ps c → AreCoplanar ps → (k : ℕ) → k < length (facets c) → IsFlat ps (facet_at (facets c) k)
+pub coplanar_flat : (ps : List Point) (c : Complex) → HasCornersOf ps c → AreCoplanar ps → (k : ℕ) → k < length (facets c) → IsFlat ps (facet_numbered (facets c) k)
 coplanar_flat ps c on flat k l a b d e ma mb md me = flat a b d e (there a ma) (there b mb) (there d md) (there e me)
   where
-    there : (i : ℕ) → Contains (all_corners (facet_at (facets c) k)) i → i < length ps
-    there i m = all_at (λ i. i < length ps) i (all_corners (facet_at (facets c) k)) (corners_on ps c on k l) (member_of (all_corners (facet_at (facets c) k)) i m)
+    there : (i : ℕ) → Contains (all_corners (facet_numbered (facets c) k)) i → i < length ps
+    there i m = all_at (λ i. i < length ps) i (all_corners (facet_numbered (facets c) k)) (corners_on ps c on k l) (member_of (all_corners (facet_numbered (facets c) k)) i m)
 
 -- the polygons of a facet are some of the complex
 polygons_among : (c : Complex) (f : Facet) (q : List ℕ) → Contains (flat_facet c.polygons f).polygons q → Contains (corner_lists c.polygons) q
@@ -70,17 +69,17 @@ polygons_among c f q m =
     in_dropped n xs x m = subst (IsMember x) (take-append-drop n xs) (in_append_right x (take n xs) (drop n xs) m)
 
 -- flat facets whose corners are numbers of points are sound
-pub sound_facet : (ps : List Point) (c : Complex) → HasCornersOf ps c → All (IsFlat ps) (facets c) → (k : ℕ) → k < length (facets c) → IsSound ps (segments (corner_lists c.polygons)) (facet_at (facets c) k)
+pub sound_facet : (ps : List Point) (c : Complex) → HasCornersOf ps c → All (IsFlat ps) (facets c) → (k : ℕ) → k < length (facets c) → IsSoundFacet ps (segments (corner_lists c.polygons)) (facet_numbered (facets c) k)
 sound_facet ps c on flat k l =
     let f = slice_index_or c.facets k no_facet in
     let is = facet_is c k no_facet (subst (λ n. k < n) (facet_count c) l) in
-    law_listed ps (corner_lists c.polygons) (facet_at (facets c) k) (corners_on ps c on k l) (flat k (record { polygons = []; holes = [] }) l) (λ q m. polygons_among c f q (subst (λ g. Contains g.polygons q) is m))
+    law_listed ps (corner_lists c.polygons) (facet_numbered (facets c) k) (corners_on ps c on k l) (flat k (record { polygons = []; holes = [] }) l) (λ q m. polygons_among c f q (subst (λ g. Contains g.polygons q) is m))
 
 -- ---- triangles
 
 -- a triangle in a facet's list is one of the facet
-pub of_list : (qs : List Point) (fs : List FlatFacet) (k : ℕ) (t : FacetTriangle) → IsMember t (triangles_at qs fs k) → region.IsFacetTriangle qs k (facet_at fs k) t
-of_list qs fs k t m = (law_facet_list qs k (facet_at fs k) t).0 (contains_of (triangles_at qs fs k) t m)
+pub of_list : (qs : List Point) (fs : List FlatFacet) (k : ℕ) (t : FacetTriangle) → IsMember t (triangles_at qs fs k) → region.IsFacetTriangle qs k (facet_numbered fs k) t
+of_list qs fs k t m = (law_facet_list qs k (facet_numbered fs k) t).0 (contains_of (triangles_at qs fs k) t m)
 
 -- the triangles of all facets are exactly those of each, by facets and corners
 pub has_triangles : (qs : List Point) (fs : List FlatFacet) → HasTriangles qs fs (complex_triangles qs fs)
@@ -89,7 +88,7 @@ has_triangles qs fs = record {
   ascending = pairs_of_rises TriangleBefore (complex_triangles qs fs) (rises-flat_map ◌<◌ TriangleBefore (triangles_at qs fs) (numbers_below (length fs)) (rises-range 0 (length fs)) each apart);
 }
   where
-    to : (t : FacetTriangle) → Contains (complex_triangles qs fs) t → (t.facet < length fs) × Contains (facet_triangles qs t.facet (facet_at fs t.facet)) t
+    to : (t : FacetTriangle) → Contains (complex_triangles qs fs) t → (t.facet < length fs) × Contains (facet_triangles qs t.facet (facet_numbered fs t.facet)) t
     to t m =
         let p = flat_map_cases (triangles_at qs fs) t (numbers_below (length fs)) (member_of (complex_triangles qs fs) t m) in
         let is = (of_list qs fs p.0 t p.2).of_facet in (
@@ -100,7 +99,7 @@ has_triangles qs fs = record {
     least : (k : ℕ) → 0 ≤ k
     least k = omega arith
 
-    from : (t : FacetTriangle) → (t.facet < length fs) × Contains (facet_triangles qs t.facet (facet_at fs t.facet)) t → Contains (complex_triangles qs fs) t
+    from : (t : FacetTriangle) → (t.facet < length fs) × Contains (facet_triangles qs t.facet (facet_numbered fs t.facet)) t → Contains (complex_triangles qs fs) t
     from t h =
         contains_of (complex_triangles qs fs) t
         (in_flat_map (triangles_at qs fs) t.facet t (numbers_below (length fs))
@@ -113,7 +112,7 @@ has_triangles qs fs = record {
         let v = slice_index_or (triangles_at qs fs k) j d in
         inr (
           (of_list qs fs k u (at_place (triangles_at qs fs k) i d (less i j (length (triangles_at qs fs k)) l m))).of_facet ∙ sym (of_list qs fs k v (at_place (triangles_at qs fs k) j d m)).of_facet,
-          law_facet_order qs k (facet_at fs k) i j d l m,
+          law_facet_order qs k (facet_numbered fs k) i j d l m,
         ))
       where
         less : (i j n : ℕ) → i < j → j < n → i < n
@@ -152,12 +151,12 @@ triangles_ascend qs fs = all_members Ascends (complex_triangles qs fs) each
 -- ---- one facet more
 
 -- the facet at a place of the complex is flat
-pub flat_at : (qs : List Point) (segs : List Piece) (c : Complex) (k n : ℕ) → n ≡ length c.facets → k < n → ((k : ℕ) → k < length (facets c) → IsSound qs segs (facet_at (facets c) k))
+pub flat_at : (qs : List Point) (segs : List Piece) (c : Complex) (k n : ℕ) → n ≡ length c.facets → k < n → ((k : ℕ) → k < length (facets c) → IsSoundFacet qs segs (facet_numbered (facets c) k))
     → HoldsAt (λ f. IsFlat qs (flat_facet c.polygons f)) c.facets k
 flat_at qs segs c k n e l sound d = subst (IsFlat qs) (facet_is c k d (subst (λ m. k < m) e l)) (sound k (subst (λ m. k < m) (e ∙ sym (facet_count c)) l)).flat
 
 -- each side of it is inner or one of the segments
-pub segments_at : (qs : List Point) (segs : List Piece) (c : Complex) (k n : ℕ) → n ≡ length c.facets → k < n → HavePieces qs segs → ((k : ℕ) → k < length (facets c) → IsSound qs segs (facet_at (facets c) k))
+pub segments_at : (qs : List Point) (segs : List Piece) (c : Complex) (k n : ℕ) → n ≡ length c.facets → k < n → HavePieces qs segs → ((k : ℕ) → k < length (facets c) → IsSoundFacet qs segs (facet_numbered (facets c) k))
     → HoldsAt (λ f. HasSegments qs (flat_facet c.polygons f)) c.facets k
 segments_at qs segs c k n e l pieces sound d =
     subst (HasSegments qs) (facet_is c k d (subst (λ m. k < m) e l)) (record { segs = segs; pieces = pieces; bounded = (sound k (subst (λ m. k < m) (e ∙ sym (facet_count c)) l)).bounded })

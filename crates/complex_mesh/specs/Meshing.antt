@@ -16,13 +16,13 @@ use Rattle.segment_protect.specs.Crossing as segment
 use Rattle.facet_plane.specs.Flat.{IsFirstNotFlat}
 use Rattle.box_pairs.specs.Crossing.{AreTrianglesMet, IsFirstCrossing}
 use Rattle.refill_laws.specs.Refill.{IsRefill}
-use Rattle.tangle_laws.specs.Tangle.{Holds}
-use Rattle.tangle_laws.specs.Growth.{IsRefilled}
+use Rattle.tangle_laws.specs.Tangle.{AnomalyHolds}
+use Rattle.tangle_laws.specs.Growth.{IsGrownList}
 use Rattle.facet_recover.specs.Refilled.{HasTangle}
 use Rattle.complex_laws.specs.ComplexMesh.{IsUntangled, HasNoCrossing, IsCarved}
 use Rattle.complex_laws.specs.Sides.{IsInnerOf}
-use Rattle.hole_carve.specs.Marks.{AreMarks}
-use Rattle.mesh_files.specs.FaceRows.{AreFacesMet, AreFacetsThere}
+use Rattle.hole_carve.specs.Marks.{AreRegionMarks}
+use Rattle.mesh_files.specs.FaceRows.{AreTrianglesMetByFaces, AreFacetsThere}
 use Rattle.complex_mesh.specs.Covered.{IsCoveredAt}
 use Rattle.complex_mesh.specs.Protection.{AreMeshed, IsProtectedComplex, complex_triangles}
 use Rattle.complex_mesh.specs.declared.mesh.MeshOptions.{MeshOptions}
@@ -43,7 +43,7 @@ pub record IsComplexMesh (o : MeshOptions) (ps : List Point) (c : Complex) (m : 
   pub mesh : IsMesh (carving_of o.keep_hull) m.points m.triangles c.holes m.tetrahedra
   -- The rows are those that are kept of a list that fills the hull, to which each Delaunay row belongs that no facet crosses
   pub whole : List Tet
-  pub refilled : IsRefilled m.points m.triangles (delaunay_rows m.points) whole
+  pub refilled : IsGrownList m.points m.triangles (delaunay_rows m.points) whole
   pub carved : IsCarved (carving_of o.keep_hull) m.points m.triangles c.holes whole m.tetrahedra
   -- the triangles of each facet cover its region
   pub facets_covered : (k : ℕ) → k < length fs → IsCoveredAt m.points m.triangles segs fs k
@@ -58,11 +58,11 @@ pub record IsComplexMesh (o : MeshOptions) (ps : List Point) (c : Complex) (m : 
   -- where no two facets cross one Delaunay row, a piece with an inner point in the mesh is a side of the mesh
   pub pieces_kept : IsUntangled m.points m.triangles → (p : Piece) → Contains rest p → EachRational (λ x. IsInnerOf m.points p x → Any (λ t. InClosed (corners m.points t) x) m.tetrahedra → is_side m.tetrahedra p ≡ true)
   -- each face of the mesh is properly met with each triangle, as its marker asks for
-  pub faces_met : AreFacesMet m.points m.triangles m.tetrahedra
+  pub faces_met : AreTrianglesMetByFaces m.points m.triangles m.tetrahedra
   pub facets_there : AreFacetsThere m.triangles c
   -- there are marks where regions are asked for, and they are the marks of the rows
   pub marked : IsSome m.marks ↔ IsTrue o.regions
-  pub marks : IfSome m.marks (AreMarks m.points m.triangles m.tetrahedra c.regions)
+  pub marks : IfSome m.marks (AreRegionMarks m.points m.triangles m.tetrahedra c.regions)
 
 -- Why a complex has no mesh. Each cause says that none before it holds. The last one, an anomaly where two facets cross a Delaunay row,
 -- may hold beside others of
@@ -72,7 +72,7 @@ IsMeshFault o ps c Flat = AreCoplanar ps
 IsMeshFault o ps c (NotFlat facet four) = (¬ AreCoplanar ps) × IsFirstNotFlat ps (facets c) (record { facet = facet; four = four })
 IsMeshFault o ps c (SegmentsCross one two) =
     (segs : List Piece) × (fs : List Facet) × (¬ AreCoplanar ps) × All (IsFlat ps) (facets c) × AreMeshed o.keep_facets ps c segs fs
-    × segment.IsFirstCrossing ps (pieces ps segs) one two
+    × segment.IsFirstPieceCrossing ps (pieces ps segs) one two
 IsMeshFault o ps c (GridEnd piece) =
     (segs : List Piece) × (fs : List Facet) × All (IsFlat ps) (facets c) × AreMeshed o.keep_facets ps c segs fs × CanSplit ps (pieces ps segs)
     × (protect o.halvings o.budget ps (pieces ps segs) ≡ GridEndOf piece)
@@ -85,7 +85,7 @@ IsMeshFault o ps c (Crossing one two) =
 IsMeshFault o ps c (NoFill anomaly) =
     (segs : List Piece) × (fs : List Facet) × (qs : List Point) × (rest : List Piece) × IsProtectedComplex o ps c segs fs qs rest
     × AreTrianglesMet qs (complex_triangles qs fs) rest
-    × HasTangle qs (complex_triangles qs fs) (delaunay_rows qs) × Holds qs (complex_triangles qs fs) anomaly
+    × HasTangle qs (complex_triangles qs fs) (delaunay_rows qs) × AnomalyHolds qs (complex_triangles qs fs) anomaly
 IsMeshFault o ps c NoMemory = Unit {0}
 
 -- the answer is a mesh of the complex, or says why there is none

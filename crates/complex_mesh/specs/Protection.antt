@@ -2,14 +2,13 @@
 -- facets.
 use Rattle.std.specs.Prelude.{◌≡◌, Bool, true, false, ℕ, ◌+◌, ◌-◌, ◌^◌, ◌<◌, pos, ◌<ℤ◌, List, length, flat_map, All}
 use Rattle.sign_predicates.specs.Point.{Point}
-use Rattle.geo_laws.specs.Complex.{Complex, corner_lists, facets}
+use Rattle.geo_laws.specs.Complex.{Complex, corner_lists, facets, HasCornersOf}
 use Rattle.geo_laws.specs.Delaunay.{point, numbers_below, HasDistinctPoints}
 use Rattle.geo_laws.specs.Segment.{segments, pieces, protect, Protected}
 use Rattle.geo_laws.specs.Facet.{Facet, IsFlat, facet_triangles}
 use Rattle.geo_laws.specs.declared.complex.Piece.{Piece}
 use Rattle.geo_laws.specs.declared.complex.FacetTriangle.{FacetTriangle}
-use Rattle.complex_laws.specs.SoundComplex.{facet_at}
-use Rattle.facet_plane.specs.Corners.{HasCornersOf}
+use Rattle.complex_laws.specs.SoundComplex.{facet_numbered}
 use Rattle.segment_protect.specs.Ends.{CanSplit}
 use Rattle.segment_protect.specs.Protection.{IsMultiple}
 use Rattle.merge_laws.specs.Merged.{IsMerging, merged_segments}
@@ -49,7 +48,7 @@ pub record IsProtectedComplex (o : MeshOptions) (ps : List Point) (c : Complex) 
 
 -- the triangles of the facet at a place
 abbrev pub triangles_at : List Point → List Facet → ℕ → List FacetTriangle
-triangles_at qs fs k = facet_triangles qs k (facet_at fs k)
+triangles_at qs fs k = facet_triangles qs k (facet_numbered fs k)
 
 -- the triangles of the first facets, facet by facet
 abbrev pub first_triangles : List Point → List Facet → ℕ → List FacetTriangle

@@ -1,25 +1,24 @@
 -- What the steps from protection to the mesh leave for the next ones.
 use Rattle.std.specs.Prelude.{◌≡◌, true, ℕ, ◌<◌, ◌-◌, ◌^◌, List, length, All, IfSome, IsSome, ◌↔◌, IsTrue}
 use Rattle.sign_predicates.specs.Point.{Point}
-use Rattle.geo_laws.specs.Complex.{Complex, facets}
+use Rattle.geo_laws.specs.Complex.{Complex, facets, HasCornersOf}
 use Rattle.geo_laws.specs.Delaunay.{delaunay_rows, HasDistinctPoints}
 use Rattle.geo_laws.specs.Facet.{Facet}
 use Rattle.geo_laws.specs.Segment.{is_side}
 use Rattle.geo_laws.specs.declared.complex.Piece.{Piece}
 use Rattle.geo_laws.specs.declared.complex.FacetTriangle.{FacetTriangle}
-use Rattle.complex_laws.specs.SoundComplex.{IsSound, facet_at}
+use Rattle.complex_laws.specs.SoundComplex.{IsSoundFacet, facet_numbered}
 use Rattle.facet_laws.specs.Region.{HavePieces}
-use Rattle.facet_plane.specs.Corners.{HasCornersOf}
 use Rattle.segment_protect.specs.Spots.{HasTwoEnds}
 use Rattle.box_pairs.specs.Crossing.{IsFirstCrossing}
 use Rattle.facet_recover.specs.Refilled.{HasTangle}
 use Rattle.complex_mesh.specs.Protection.{complex_triangles}
 use Rattle.refill_laws.specs.Refill.{IsRefill}
-use Rattle.tangle_laws.specs.Tangle.{Holds}
-use Rattle.tangle_laws.specs.Growth.{IsRefilled}
+use Rattle.tangle_laws.specs.Tangle.{AnomalyHolds}
+use Rattle.tangle_laws.specs.Growth.{IsGrownList}
 use Rattle.path_laws.specs.KeptMesh.{IsWholeMesh}
 use Rattle.complex_laws.specs.ComplexMesh.{IsUntangled, IsCarved}
-use Rattle.hole_carve.specs.Marks.{AreMarks}
+use Rattle.hole_carve.specs.Marks.{AreRegionMarks}
 use Rattle.path_laws.specs.Flood.{carving_of}
 use Rattle.geo_laws.specs.declared.tetrahedra.Tet.{Tet}
 use Rattle.complex_mesh.specs.declared.mesh.MeshOptions.{MeshOptions}
@@ -34,7 +33,7 @@ pub record HasSoundFacets (qs : List Point) (rest : List Piece) (c : Complex) : 
   pub distinct : HasDistinctPoints qs
   pub few : length qs < 2 ^ 32 - 2
   pub corners : HasCornersOf qs c
-  pub sound : (k : ℕ) → k < length (facets c) → IsSound qs segs (facet_at (facets c) k)
+  pub sound : (k : ℕ) → k < length (facets c) → IsSoundFacet qs segs (facet_numbered (facets c) k)
   pub has_pieces : HavePieces qs segs
   pub two_ends : All (HasTwoEnds (length qs)) rest
   pub are_sides : All (λ p. is_side (delaunay_rows qs) p ≡ true) rest
@@ -47,13 +46,13 @@ IsCrossingFault qs rest fs _ = ⊥
 
 -- the whole list is the Delaunay list filled again: it fills the hull and has the facets as faces
 pub record IsRecovered (qs : List Point) (ts : List FacetTriangle) (whole : List Tet) : Type 0 where
-  pub refilled : IsRefilled qs ts (delaunay_rows qs) whole
+  pub refilled : IsGrownList qs ts (delaunay_rows qs) whole
   pub by_sides : IsUntangled qs ts → IsRefill qs ts (delaunay_rows qs) whole
   pub whole_mesh : IsWholeMesh qs ts whole
 
 -- the fault carries an anomaly, where a row is tangled
 abbrev pub IsTangleFault : List Point → List FacetTriangle → MeshFault → Type 0
-IsTangleFault qs ts (NoFill anomaly) = HasTangle qs ts (delaunay_rows qs) × Holds qs ts anomaly
+IsTangleFault qs ts (NoFill anomaly) = HasTangle qs ts (delaunay_rows qs) × AnomalyHolds qs ts anomaly
 IsTangleFault qs ts NoMemory = Unit {0}
 IsTangleFault qs ts _ = ⊥
 
@@ -61,4 +60,4 @@ IsTangleFault qs ts _ = ⊥
 pub record IsKeptMesh (o : MeshOptions) (c : Complex) (whole : List Tet) (m : ComplexMesh) : Type 0 where
   pub carved : IsCarved (carving_of o.keep_hull) m.points m.triangles c.holes whole m.tetrahedra
   pub marked : IsSome m.marks ↔ IsTrue o.regions
-  pub marks : IfSome m.marks (AreMarks m.points m.triangles m.tetrahedra c.regions)
+  pub marks : IfSome m.marks (AreRegionMarks m.points m.triangles m.tetrahedra c.regions)

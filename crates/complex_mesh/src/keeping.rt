@@ -4,7 +4,7 @@ ghost use Rattle.geo_laws.specs.Delaunay.{RowBefore};
 ghost use Rattle.geo_laws.specs.Path.{Carving};
 ghost use Rattle.path_laws.specs.Places.{IsFilling};
 ghost use Rattle.complex_laws.specs.ComplexMesh.{IsCarved};
-ghost use Rattle.hole_carve.specs.Marks.{AreMarks};
+ghost use Rattle.hole_carve.specs.Marks.{AreRegionMarks};
 ghost use Rattle.complex_mesh.specs.Steps.{IsKeptMesh};
 
 use crate::mesh::{ComplexMesh, MeshOptions};
@@ -27,7 +27,7 @@ fn marks_of(
     requires ascending { AllPairs RowBefore whole.now }
     requires carved { (carving : Carving) × IsCarved carving points.now triangles.now complex.now.holes whole.now kept.now }
     requires regions { All (λ r. pos 0 <ℤ r.at.w) complex.now.regions }
-    ensures { IfOk result (AreMarks points.now triangles.now kept.now complex.now.regions) }
+    ensures { IfOk result (AreRegionMarks points.now triangles.now kept.now complex.now.regions) }
 {
     let marks = mark_regions(alloc, points, whole, triangles, complex)?;
     let own = kept_marks(alloc, whole, &marks, kept)?;

@@ -1,8 +1,7 @@
 //! From points and a complex to the mesh.
 ghost use Rattle.std.specs.Prelude.{All};
-ghost use Rattle.geo_laws.specs.Complex.{facets};
+ghost use Rattle.geo_laws.specs.Complex.{facets, HasCornersOf};
 ghost use Rattle.geo_laws.specs.Facet.{IsFlat};
-ghost use Rattle.facet_plane.specs.Corners.{HasCornersOf};
 ghost use Rattle.complex_mesh.specs.Protection.{IsMeshable, AreMeshed};
 ghost use Rattle.complex_mesh.specs.Meshing.{MeshesSo};
 

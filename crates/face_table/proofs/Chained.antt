@@ -6,7 +6,8 @@ use Rattle.std.proofs.lemmas.Grind.{get_or-set_at}
 use Rattle.std.proofs.lemmas.List.{get_or-set_other, length-set}
 use Rattle.geo_laws.proofs.Members.{both_true}
 use Rattle.geo_laws.specs.declared.faces.Face.{Face}
-use Rattle.face_table.specs.Chains.{face_at, chain_of, IsNextFace, AreChained, is_marked, AreMarkedTo}
+use Rattle.face_table.specs.Chains.{face_at, chain_of, IsNextFace, AreLinkedFaces, AreMarkedTo}
+use Rattle.geo_laws.specs.Marks.{is_marked}
 
 -- there is no face after the last one
 next_end : (faces : List Face) (chain place : ℕ) → place ≡ length faces → IsNextFace faces chain (length faces) place
@@ -26,7 +27,7 @@ next_skips faces chain at place n x = record { after = omega (arith, x.after); w
     here k l g (inr (inr e)) = x.first k (omega (arith, e)) g
 
 pub chained_first : (faces : List Face) (first next : List ℕ) → ((k : ℕ) → k < length faces → chain_of (face_at faces k) < length first) → length next ≡ length faces
-    → ((b d : ℕ) → b < length first → get_or first b d ≡ length faces) → AreChained faces (length faces) first next
+    → ((b d : ℕ) → b < length first → get_or first b d ≡ length faces) → AreLinkedFaces faces (length faces) first next
 chained_first faces first next chains links end = record {
   chains = chains;
   links = links;
@@ -37,7 +38,7 @@ chained_first faces first next chains links end = record {
 
 -- the face before is linked to the first one of its chain, and becomes the first one
 pub chained_next : (faces : List Face) (at b old : ℕ) (first next : List ℕ) → at < length faces → b ≡ chain_of (face_at faces at) → old ≡ get_or first b old
-    → AreChained faces (at + 1) first next → AreChained faces at (set first b at) (set next at old)
+    → AreLinkedFaces faces (at + 1) first next → AreLinkedFaces faces at (set first b at) (set next at old)
 chained_next faces at b old first next there is was x = record {
   chains = λ k h. subst (λ n. chain_of (face_at faces k) < n) (sym (length-set first b at)) (x.chains k h);
   links = length-set next at old ∙ x.links;
@@ -71,7 +72,7 @@ chained_next faces at b old first next there is was x = record {
     link i d l h (inr (inr e)) = subst (After i) (sym (get_or-set_other next at i old d (λ q. omega (arith, q, e)))) (x.follows i d (omega (arith, e)) h)
 
 -- a chain beyond all has no face
-pub next_none : (faces : List Face) (first next : List ℕ) (chain place : ℕ) → AreChained faces 0 first next → length first ≤ chain → place ≡ length faces → IsNextFace faces chain 0 place
+pub next_none : (faces : List Face) (first next : List ℕ) (chain place : ℕ) → AreLinkedFaces faces 0 first next → length first ≤ chain → place ≡ length faces → IsNextFace faces chain 0 place
 next_none faces first next chain place x beyond e = record {
   after = omega arith;
   within = omega (arith, e);

@@ -3,6 +3,7 @@ use Rattle.std.specs.Prelude.{◌≡◌, ◌↔◌, ◌⊎◌, ℕ, ◌+◌, ◌
 use Rattle.geo_laws.specs.Faces.{face_of}
 use Rattle.geo_laws.specs.declared.faces.Face.{Face}
 use Rattle.geo_laws.specs.declared.complex.FacetTriangle.{FacetTriangle}
+use Rattle.geo_laws.specs.Marks.{is_marked}
 
 -- the triangle as a face, its corners ascending
 abbrev pub face_of_triangle : FacetTriangle → Face
@@ -24,7 +25,7 @@ pub record IsNextFace (faces : List Face) (chain from place : ℕ) : Type 0 wher
   pub first : (k : ℕ) → from ≤ k → k < place → ¬ (chain_of (face_at faces k) ≡ chain)
 
 -- from each chain one is led to its first face from a place on, and from each such face to the next one
-pub record AreChained (faces : List Face) (at : ℕ) (first next : List ℕ) : Type 0 where
+pub record AreLinkedFaces (faces : List Face) (at : ℕ) (first next : List ℕ) : Type 0 where
   pub chains : (k : ℕ) → k < length faces → chain_of (face_at faces k) < length first
   pub links : length next ≡ length faces
   pub within : at ≤ length faces
@@ -33,11 +34,7 @@ pub record AreChained (faces : List Face) (at : ℕ) (first next : List ℕ) : T
 
 -- of all faces
 abbrev pub AreChains : List Face → List ℕ → List ℕ → Type 0
-AreChains faces first next = AreChained faces 0 first next
-
--- whether the face at a place is marked
-abbrev pub is_marked : List Bool → ℕ → Bool
-is_marked marks k = slice_index_or marks k false
+AreChains faces first next = AreLinkedFaces faces 0 first next
 
 -- each point at which a face begins is marked
 abbrev pub AreBegun : List Face → List Bool → Type 0

@@ -1,7 +1,8 @@
 //! A table of faces.
 ghost use Rattle.std.specs.Prelude.{◌≡◌, ◌↔◌, ◌⊎◌, ◌+◌, ◌<◌, ℕ, true, false, length, map, Contains};
 ghost use Rattle.std.specs.Prelude.{IfOk};
-ghost use Rattle.face_table.specs.Chains.{face_at, face_of_triangle, chain_of, IsNextFace, is_marked};
+ghost use Rattle.face_table.specs.Chains.{face_at, face_of_triangle, chain_of, IsNextFace};
+ghost use Rattle.geo_laws.specs.Marks.{is_marked};
 
 use crate::beginnings::beginnings_of;
 use crate::chains::{Chains, chain_of, chains_of};

@@ -14,8 +14,8 @@ use Rattle.geo_laws.specs.Facet.{Facet, Axis, areas, is_on_piece, is_round, is_w
 use Rattle.geo_laws.specs.declared.complex.Piece.{Piece}
 use Rattle.geo_laws.proofs.Members.{IsMember, here, there, contains_of, member_of, both_true}
 use Rattle.facet_laws.specs.Inner.{HasOnce, IsOffInside}
-use Rattle.facet_laws.specs.Legs.{IsBetween, IsClear, dropped}
-use Rattle.facet_laws.specs.Passing.{PassesThrough, LiesBeside, IsOther, missed, left, entered}
+use Rattle.facet_laws.specs.Legs.{IsWeightedMean, IsClear, dropped}
+use Rattle.facet_laws.specs.Passing.{PassesThrough, LiesBeside, IsOtherSide, missed, left, entered}
 use Rattle.facet_laws.proofs.Chains.{all_at, all_both, all_members, all_sides, odd_is}
 use Rattle.facet_laws.proofs.Common.{either}
 use Rattle.facet_laws.proofs.Constant.{all_map}
@@ -134,14 +134,14 @@ round_near : (ps : List Point) (f : Triangle) (facet : Facet) (axis : Axis) (q :
 round_near ps f facet axis q s x y steep xw yw fx fy h beside has off others =
     (law_first_side ps f axis q s steep (has_ends ps s q has).0 (has_ends ps s q has).1 x xw fx y yw fy h beside has.once
     (all_both (λ r. IsClear x y (point ps r.a) (point ps r.b) ⊎ ((k : Met ps f facet x y q r) × ((h.leg.to_y *ℤ k.1.leg.to_x) ≤ℤ (h.leg.to_x *ℤ k.1.leg.to_y))))
-    (λ r. same_ends s r ≡ false → IsOffInside (point ps s.a) (point ps s.b) (point ps r.a) (point ps r.b)) (λ r. same_ends s r ≡ false → IsOther ps f q x y s r h) (sides q) other others has.others) off).0
+    (λ r. same_ends s r ≡ false → IsOffInside (point ps s.a) (point ps s.b) (point ps r.a) (point ps r.b)) (λ r. same_ends s r ≡ false → IsOtherSide ps f q x y s r h) (sides q) other others has.others) off).0
   where
     other : (r : Piece) → IsClear x y (point ps r.a) (point ps r.b) ⊎ ((k : Met ps f facet x y q r) × ((h.leg.to_y *ℤ k.1.leg.to_x) ≤ℤ (h.leg.to_x *ℤ k.1.leg.to_y)))
-        → (same_ends s r ≡ false → IsOffInside (point ps s.a) (point ps s.b) (point ps r.a) (point ps r.b)) → same_ends s r ≡ false → IsOther ps f q x y s r h
+        → (same_ends s r ≡ false → IsOffInside (point ps s.a) (point ps s.b) (point ps r.a) (point ps r.b)) → same_ends s r ≡ false → IsOtherSide ps f q x y s r h
     other r (inl c) apart e = missed c
     other r (inr k) apart e = by k.0.1.hands
       where
-        by : Parted (side_rational k.0.0.g x) (side_rational k.0.0.g y) → IsOther ps f q x y s r h
+        by : Parted (side_rational k.0.0.g x) (side_rational k.0.0.g y) → IsOtherSide ps f q x y s r h
         by (down a b) = left (record {
           g = k.0.0.g;
           a_on = k.0.0.a_on;

@@ -4,7 +4,7 @@ use Rattle.std.proofs.lemmas.Int.{ints}
 use Rattle.std.specs.Prelude.{ℤ, pos, neg_ℤ, ◌+ℤ◌, ◌-ℤ◌, ◌*ℤ◌, ◌<ℤ◌, ◌≤ℤ◌, int_lt, int_le, not}
 use Rattle.exact_algebra.proofs.Signs.{mul_pos, mul_nonneg, by_sign, mul_neg, zero_of_mul}
 use Rattle.exact_algebra.proofs.Ring.{num, var, neg, ring_given, given, same, ◌⊕◌, ◌⊗◌}
-use Rattle.facet_laws.specs.Parity.{Spot, turn, rise, crossing, crosses, xor}
+use Rattle.facet_laws.specs.Parity.{Spot, spot_turn, rise, is_crossing, crosses, xor}
 use Rattle.facet_laws.proofs.SpotTerms.{at_x, at_y, rise-parts, rise-between, rise-turned, level-first}
 use Rattle.facet_laws.proofs.Products.{neg_pos, neg_pos_lt, neg_neg_lt, above_of}
 use Rattle.facet_laws.proofs.SideLaw.{at_least_test, below_test, is_above, is_under, alike, above_test, under_test, beside}
@@ -15,7 +15,7 @@ use Rattle.facet_laws.proofs.SideLaw.{at_least_test, below_test, is_above, is_un
 flip : (l a b c d : Bool)
     → ¬ ((a ≡ true) × (b ≡ true) × (c ≡ true) × (d ≡ true)) → ¬ ((a ≡ false) × (b ≡ false) × (c ≡ false) × (d ≡ false))
     → ¬ ((a ≡ true) × (b ≡ false) × (c ≡ false) × (d ≡ true)) → ¬ ((a ≡ false) × (b ≡ true) × (c ≡ true) × (d ≡ false))
-    → xor (crossing a b l (not l)) (crossing c d (not l) l) ≡ not (xor (crossing c a l (not l)) (crossing d b (not l) l))
+    → xor (is_crossing a b l (not l)) (is_crossing c d (not l) l) ≡ not (xor (is_crossing c a l (not l)) (is_crossing d b (not l) l))
 flip l true true true true n1 n2 n3 n4 = absurd (n1 (refl, refl, refl, refl))
 flip true true true true false n1 n2 n3 n4 = refl
 flip false true true true false n1 n2 n3 n4 = refl
@@ -53,10 +53,10 @@ pub record Passes (x y p q : Spot) : Type 0 where
   pub y_weight : pos 0 <ℤ y.weight
   pub p_weight : pos 0 <ℤ p.weight
   pub q_weight : pos 0 <ℤ q.weight
-  pub x_left : pos 0 <ℤ turn x p q
-  pub y_right : turn y p q <ℤ pos 0
-  pub p_right : turn x y p <ℤ pos 0
-  pub q_left : pos 0 <ℤ turn x y q
+  pub x_left : pos 0 <ℤ spot_turn x p q
+  pub y_right : spot_turn y p q <ℤ pos 0
+  pub p_right : spot_turn x y p <ℤ pos 0
+  pub q_left : pos 0 <ℤ spot_turn x y q
 
 -- the same, on either hand
 pub record PassesBack (x y p q : Spot) : Type 0 where
@@ -64,10 +64,10 @@ pub record PassesBack (x y p q : Spot) : Type 0 where
   pub y_weight : pos 0 <ℤ y.weight
   pub p_weight : pos 0 <ℤ p.weight
   pub q_weight : pos 0 <ℤ q.weight
-  pub x_right : turn x p q <ℤ pos 0
-  pub y_left : pos 0 <ℤ turn y p q
-  pub p_left : pos 0 <ℤ turn x y p
-  pub q_right : turn x y q <ℤ pos 0
+  pub x_right : spot_turn x p q <ℤ pos 0
+  pub y_left : pos 0 <ℤ spot_turn y p q
+  pub p_left : pos 0 <ℤ spot_turn x y p
+  pub q_right : spot_turn x y q <ℤ pos 0
 
 weak : (n : ℤ) → pos 0 <ℤ n → pos 0 ≤ℤ n
 weak n h = omega (arith, ints)
@@ -129,7 +129,7 @@ level C D A B u v s t r c d a b e f hu hv hs ht =
     )
 
 -- then x does not turn to the side
-no_turn : (x p q : Spot) → pos 0 <ℤ x.weight → rise x p ≡ pos 0 → rise x q ≡ pos 0 → turn x p q ≡ pos 0
+no_turn : (x p q : Spot) → pos 0 <ℤ x.weight → rise x p ≡ pos 0 → rise x q ≡ pos 0 → spot_turn x p q ≡ pos 0
 unfolding same
 no_turn x p q w a b = sym (level-first x p q) ∙ gone (rise x q) (rise x p) (rise q p) p.first q.first x.first b a
     (zero_of_mul x.weight (rise q p) w (swapped (rise q p) x.weight (sym (rise-parts x p q) ∙ gone_two (rise x p) (rise x q) q.weight p.weight a b)))
@@ -158,11 +158,11 @@ not_zero n h e = omega (arith, ints)
 -- the rays from x and y cross a side that the leg passes through alike, but for what its ends say and once more
 pub passed_parity : (x y p q : Spot) → Passes x y p q → xor (crosses x p q) (crosses y p q) ≡ not (xor (beside x y p) (beside x y q))
 passed_parity x y p q h =
-    (λ j. xor (crossing (below x p) (below x q) (is_above _ h.x_left j) (under_false _ h.x_left j)) (crossing (below y p) (below y q) (above_false _ h.y_right j) (is_under _ h.y_right j)))
+    (λ j. xor (is_crossing (below x p) (below x q) (is_above _ h.x_left j) (under_false _ h.x_left j)) (is_crossing (below y p) (below y q) (above_false _ h.y_right j) (is_under _ h.y_right j)))
     ∙ flip true (below x p) (below x q) (below y p) (below y q)
     (λ e. let l = level _ _ _ _ _ _ _ _ _ h.p_right h.q_left h.x_left h.y_right (at_x x y p q) (at_y x y p q) (at_least_test _ e.1) (at_least_test _ e.0) (at_least_test _ e.3) (at_least_test _ e.2) in
     not_zero _ h.x_left (no_turn x p q h.x_weight l.1 l.0))
     (λ e. not_above _ _ _ _ _ _ _ _ _ h.p_right h.q_left h.x_left h.y_right (at_x x y p q) (at_y x y p q) (below_test _ e.1) (below_test _ e.0) (below_test _ e.3) (below_test _ e.2))
     (λ e. not_twisted x y q p h.x_weight h.y_weight h.q_weight h.p_weight (below_test _ e.1) (at_least_test _ e.3) (at_least_test _ e.0) (below_test _ e.2))
     (λ e. not_twisted x y p q h.x_weight h.y_weight h.p_weight h.q_weight (below_test _ e.0) (at_least_test _ e.2) (at_least_test _ e.1) (below_test _ e.3))
-    ∙ (λ j. not (xor (crossing (below y p) (below x p) (sym (is_under _ h.p_right) j) (sym (above_false _ h.p_right) j)) (crossing (below y q) (below x q) (sym (under_false _ h.q_left) j) (sym (is_above _ h.q_left) j))))
+    ∙ (λ j. not (xor (is_crossing (below y p) (below x p) (sym (is_under _ h.p_right) j) (sym (above_false _ h.p_right) j)) (is_crossing (below y q) (below x q) (sym (under_false _ h.q_left) j) (sym (is_above _ h.q_left) j))))

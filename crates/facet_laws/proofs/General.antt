@@ -14,8 +14,8 @@ use Rattle.geo_laws.specs.Laws.{KeepsSide}
 use Rattle.geo_laws.specs.declared.complex.FacetTriangle.{FacetTriangle}
 use Rattle.geo_laws.proofs.Determinants.{combined, side_rational-combined, side_rational-as_rational, weights-side}
 use Rattle.geo_laws.proofs.Members.{IsMember, here, there}
-use Rattle.facet_laws.specs.Circle.{triangle}
-use Rattle.facet_laws.specs.Legs.{IsBetween}
+use Rattle.facet_laws.specs.Circle.{circle_triangle}
+use Rattle.facet_laws.specs.Legs.{IsWeightedMean}
 use Rattle.facet_laws.proofs.Circles.{Shape, circle_corners}
 use Rattle.facet_laws.proofs.Constant.{IsInside, middle, middle_is_inside}
 use Rattle.facet_laws.proofs.Insides.{Wall, wall_a, wall_b, wall_c, wall_least, volume_above}
@@ -29,7 +29,7 @@ abbrev pub HasOff : List Point → FacetTriangle → Triangle → Type 0
 HasOff ps t g = (v : ℕ) × IsMember v (corner_numbers t) × (side g (point ps v) ≢ pos 0)
 
 -- where a point in the triangle's plane is off another plane, so is some corner
-pub corner_off : (ps : List Point) (t : FacetTriangle) (g : Triangle) (p : Point) → Shape ps t → side (triangle ps t) p ≡ pos 0 → side g p ≢ pos 0 → HasOff ps t g
+pub corner_off : (ps : List Point) (t : FacetTriangle) (g : Triangle) (p : Point) → Shape ps t → side (circle_triangle ps t) p ≡ pos 0 → side g p ≢ pos 0 → HasOff ps t g
 corner_off ps t g p h flat off = go (zero_or_not (side g (point ps t.a))) (zero_or_not (side g (point ps t.b))) (zero_or_not (side g (point ps t.c)))
   where
     none : side g (point ps t.a) ≡ pos 0 → side g (point ps t.b) ≡ pos 0 → side g (point ps t.c) ≡ pos 0 → ⊥
@@ -88,11 +88,11 @@ pub pos_natural : (n : ℕ) → 0 < n → pos 0 <ℤ pos n
 pos_natural n h = omega (arith, ints)
 
 -- a multiple of a point strictly inside, and a corner
-inside_toward : (ps : List Point) (t : FacetTriangle) (n v : ℕ) (y : RationalPoint) → Shape ps t → 0 < n → IsMember v (corner_numbers t) → side (triangle ps t) (point ps v) ≡ pos 0 → IsInside ps t y
+inside_toward : (ps : List Point) (t : FacetTriangle) (n v : ℕ) (y : RationalPoint) → Shape ps t → 0 < n → IsMember v (corner_numbers t) → side (circle_triangle ps t) (point ps v) ≡ pos 0 → IsInside ps t y
     → IsInside ps t (combined (pos n) y (as_rational (point ps v)))
 inside_toward ps t n v y h some m flat i = record {
   w = sum _ _ (mul_pos (pos n) y.w (pos_natural n some) i.w) (omega (arith, ints));
-  flat = side_rational-combined (triangle ps t) (pos n) y (as_rational (point ps v)) ∙ (λ j. pos n *ℤ i.flat j +ℤ (side_rational-as_rational (triangle ps t) (point ps v) ∙ flat) j) ∙ zeros (pos n);
+  flat = side_rational-combined (circle_triangle ps t) (pos n) y (as_rational (point ps v)) ∙ (λ j. pos n *ℤ i.flat j +ℤ (side_rational-as_rational (circle_triangle ps t) (point ps v) ∙ flat) j) ∙ zeros (pos n);
   walls = λ u g w. subst (λ k. pos 0 <ℤ k) (sym (side_rational-combined g (pos n) y (as_rational (point ps v))))
       (sum _ _ (mul_pos (pos n) (side_rational g y) (pos_natural n some) (i.walls u g w)) (subst (λ k. pos 0 ≤ℤ k) (sym (side_rational-as_rational g (point ps v))) (wall_least ps t u g h w v m)));
 }
@@ -103,7 +103,7 @@ inside_toward ps t n v y h some m flat i = record {
     zeros : (n : ℤ) → n *ℤ pos 0 +ℤ pos 0 ≡ pos 0
     zeros n = (λ j. *ℤ-zero n j +ℤ pos 0)
 
-pub own_plane : (ps : List Point) (t : FacetTriangle) (i : ℕ) → IsMember i (corner_numbers t) → side (triangle ps t) (point ps i) ≡ pos 0
+pub own_plane : (ps : List Point) (t : FacetTriangle) (i : ℕ) → IsMember i (corner_numbers t) → side (circle_triangle ps t) (point ps i) ≡ pos 0
 own_plane ps t i here = side-other (circle_corners ps t) D A tt
 own_plane ps t i (there here) = side-other (circle_corners ps t) D B tt
 own_plane ps t i (there (there here)) = side-other (circle_corners ps t) D C tt
@@ -168,7 +168,7 @@ pub record IsOpposite (ps : List Point) (t : FacetTriangle) (gs : List Triangle)
   pub w_is : pos 1 *ℤ x.w +ℤ pos 1 *ℤ y.w ≡ pos times *ℤ m.w
 
 -- m lies halfway, by weights
-abbrev pub halfway : {ps : List Point} {t : FacetTriangle} {gs : List Triangle} (m y x : RationalPoint) → IsOpposite ps t gs m y x → IsBetween x y m
+abbrev pub halfway : {ps : List Point} {t : FacetTriangle} {gs : List Triangle} (m y x : RationalPoint) → IsOpposite ps t gs m y x → IsWeightedMean x y m
 halfway m y x o = record {
   total = pos o.times;
   to_x = pos 1;
@@ -185,7 +185,7 @@ halfway m y x o = record {
 abbrev pub walls_of : List Point → FacetTriangle → List Triangle
 walls_of ps t = opposite_a (circle_corners ps t) ∷ opposite_b (circle_corners ps t) ∷ opposite_c (circle_corners ps t) ∷ []
 
-pub opposite_point : (ps : List Point) (t : FacetTriangle) (gs : List Triangle) (m y : RationalPoint) → pos 0 <ℤ m.w → side_rational (triangle ps t) m ≡ pos 0 → side_rational (triangle ps t) y ≡ pos 0 → IsFacing ps t m y → IsOffPlanes gs y
+pub opposite_point : (ps : List Point) (t : FacetTriangle) (gs : List Triangle) (m y : RationalPoint) → pos 0 <ℤ m.w → side_rational (circle_triangle ps t) m ≡ pos 0 → side_rational (circle_triangle ps t) y ≡ pos 0 → IsFacing ps t m y → IsOffPlanes gs y
     → (x : RationalPoint) × IsOpposite ps t gs m y x
 unfolding size
 opposite_point ps t gs m y mw m_flat y_flat faces off = (
@@ -193,7 +193,7 @@ opposite_point ps t gs m y mw m_flat y_flat faces off = (
   record {
     inside = record {
       w = multiple_above n m.w (neg_ℤ y.w) (omega arith) mw;
-      flat = side_rational-combined (triangle ps t) (pos n) m (negated y) ∙ (λ j. pos n *ℤ m_flat j +ℤ (side-negated (triangle ps t) y ∙ ap neg_ℤ y_flat) j) ∙ zeros (pos n);
+      flat = side_rational-combined (circle_triangle ps t) (pos n) m (negated y) ∙ (λ j. pos n *ℤ m_flat j +ℤ (side-negated (circle_triangle ps t) y ∙ ap neg_ℤ y_flat) j) ∙ zeros (pos n);
       walls = wall;
     };
     off = all gs (omega arith) off;
@@ -261,13 +261,13 @@ all_keep [] n x y l off = tt
 all_keep (g ∷ gs) n x y l off = (keeps g n x y (omega arith) off.0, all_keep gs n x y (omega arith) off.1)
 
 -- strictly inside the triangle that holds x, and on the same hands of the planes as x
-pub near_point : (ps : List Point) (t : FacetTriangle) (gs : List Triangle) (x y : RationalPoint) → pos 0 <ℤ x.w → side_rational (triangle ps t) x ≡ pos 0 → ((v : ℕ) (g : Triangle) → Wall ps t v g → pos 0 ≤ℤ side_rational g x)
+pub near_point : (ps : List Point) (t : FacetTriangle) (gs : List Triangle) (x y : RationalPoint) → pos 0 <ℤ x.w → side_rational (circle_triangle ps t) x ≡ pos 0 → ((v : ℕ) (g : Triangle) → Wall ps t v g → pos 0 ≤ℤ side_rational g x)
     → IsInside ps t y → IsOffPlanes gs y → (z : RationalPoint) × IsInside ps t z × AllByRecursion (KeepsSide x z) gs
 near_point ps t gs x y xw flat walls i off = (
   combined (pos n) x y,
   record {
     w = sum _ _ (mul_nonneg (pos n) x.w (natural n) (weak _ xw)) i.w;
-    flat = side_rational-combined (triangle ps t) (pos n) x y ∙ (λ j. pos n *ℤ flat j +ℤ i.flat j) ∙ (λ j. *ℤ-zero (pos n) j +ℤ pos 0);
+    flat = side_rational-combined (circle_triangle ps t) (pos n) x y ∙ (λ j. pos n *ℤ flat j +ℤ i.flat j) ∙ (λ j. *ℤ-zero (pos n) j +ℤ pos 0);
     walls = λ v g w. subst (λ k. pos 0 <ℤ k) (sym (side_rational-combined g (pos n) x y)) (sum _ _ (mul_nonneg (pos n) (side_rational g x) (natural n) (walls v g w)) (i.walls v g w));
   },
   all_keep gs n x y (omega arith) off,
@@ -289,7 +289,7 @@ near_point ps t gs x y xw flat walls i off = (
 pub record IsBeyond (f : Triangle) (x y z : RationalPoint) : Type 0 where
   pub w : pos 0 <ℤ z.w
   pub flat : side_rational f z ≡ pos 0
-  pub leg : IsBetween y z x
+  pub leg : IsWeightedMean y z x
   pub y_weighs : pos 0 <ℤ leg.to_x
   pub z_weighs : pos 0 <ℤ leg.to_y
 

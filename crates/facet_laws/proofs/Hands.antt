@@ -12,7 +12,7 @@ use Rattle.geo_laws.specs.Facet.{Facet, areas, is_on_piece}
 use Rattle.geo_laws.specs.declared.complex.Piece.{Piece}
 use Rattle.geo_laws.proofs.Members.{member_of}
 use Rattle.facet_laws.specs.Inner.{HasOnce, IsInnerSide}
-use Rattle.facet_laws.specs.Legs.{IsBetween, IsClear}
+use Rattle.facet_laws.specs.Legs.{IsWeightedMean, IsClear}
 use Rattle.facet_laws.specs.Passing.{LiesBeside, LiesBeyond}
 use Rattle.facet_laws.proofs.Chains.{all_at, all_both}
 use Rattle.facet_laws.proofs.Constant.{all_map, moved_leg, no_leg}
@@ -80,8 +80,8 @@ pub data Parted (m n : ℤ) : Type 0 where
 pub record Passing (ps : List Point) (x y : RationalPoint) (s : Piece) (g : Triangle) : Type 0 where
   pub at : RationalPoint
   pub weight : pos 0 <ℤ at.w
-  pub leg : IsBetween x y at
-  pub part : IsBetween (as_rational (point ps s.a)) (as_rational (point ps s.b)) at
+  pub leg : IsWeightedMean x y at
+  pub part : IsWeightedMean (as_rational (point ps s.a)) (as_rational (point ps s.b)) at
   pub a_weighs : pos 0 <ℤ part.to_x
   pub b_weighs : pos 0 <ℤ part.to_y
   pub x_weighs : pos 0 <ℤ leg.to_x
@@ -90,7 +90,7 @@ pub record Passing (ps : List Point) (x y : RationalPoint) (s : Piece) (g : Tria
 
 -- a plane that holds both ends of a side holds its points
 pub side_zero : (ps : List Point) (g : Triangle) (s : Piece) (z : RationalPoint) → side g (point ps s.a) ≡ pos 0 → side g (point ps s.b) ≡ pos 0
-    → (l : IsBetween (as_rational (point ps s.a)) (as_rational (point ps s.b)) z) → l.total *ℤ side_rational g z ≡ pos 0
+    → (l : IsWeightedMean (as_rational (point ps s.a)) (as_rational (point ps s.b)) z) → l.total *ℤ side_rational g z ≡ pos 0
 side_zero ps g s z a b l =
     side-leg g (as_rational (point ps s.a)) (as_rational (point ps s.b)) z l
     ∙ (λ j. l.to_x *ℤ point_zero g (point ps s.a) a j +ℤ l.to_y *ℤ point_zero g (point ps s.b) b j)
@@ -100,7 +100,7 @@ side_zero ps g s z a b l =
 abbrev cut : (m n : ℤ) → RationalPoint → RationalPoint → RationalPoint
 cut m n x y = record { x = n *ℤ x.x +ℤ m *ℤ y.x; y = n *ℤ x.y +ℤ m *ℤ y.y; z = n *ℤ x.z +ℤ m *ℤ y.z; w = n *ℤ x.w +ℤ m *ℤ y.w }
 
-abbrev cut_leg : (m n : ℤ) (x y : RationalPoint) → pos 0 <ℤ m → pos 0 <ℤ n → IsBetween x y (cut m n x y)
+abbrev cut_leg : (m n : ℤ) (x y : RationalPoint) → pos 0 <ℤ m → pos 0 <ℤ n → IsWeightedMean x y (cut m n x y)
 cut_leg m n x y hm hn = record {
   total = pos 1;
   to_x = n;
@@ -141,8 +141,8 @@ same_product u v m n p q e f =
 
 -- no end of the side is on the leg
 pub record IsOffLeg (ps : List Point) (x y : RationalPoint) (s : Piece) : Type 0 where
-  pub a_off : ¬ IsBetween x y (as_rational (point ps s.a))
-  pub b_off : ¬ IsBetween x y (as_rational (point ps s.b))
+  pub a_off : ¬ IsWeightedMean x y (as_rational (point ps s.a))
+  pub b_off : ¬ IsWeightedMean x y (as_rational (point ps s.b))
 
 -- a leg and a side whose ends are not on it, where x is not on the side, and y not in a plane through the side
 pub clear_or_passing : (ps : List Point) (x y : RationalPoint) (s : Piece) (g : Triangle) → pos 0 <ℤ x.w → pos 0 <ℤ y.w → side g (point ps s.a) ≡ pos 0 → side g (point ps s.b) ≡ pos 0
@@ -157,7 +157,7 @@ clear_or_passing ps x y s g xw yw a b off gy ends =
     turned n h = omega (arith, ints)
 
     -- at a common point the sides of x and y cancel
-    cancel : (z : RationalPoint) → pos 0 <ℤ z.w → (l : IsBetween x y z) → IsBetween (as_rational (point ps s.a)) (as_rational (point ps s.b)) z → l.to_x *ℤ side_rational g x +ℤ l.to_y *ℤ side_rational g y ≡ pos 0
+    cancel : (z : RationalPoint) → pos 0 <ℤ z.w → (l : IsWeightedMean x y z) → IsWeightedMean (as_rational (point ps s.a)) (as_rational (point ps s.b)) z → l.to_x *ℤ side_rational g x +ℤ l.to_y *ℤ side_rational g y ≡ pos 0
     cancel z zw l k = sym (side-leg g x y z l) ∙ ap (λ n. l.total *ℤ n) (zero_of_mul k.total (side_rational g z) k.some (side_zero ps g s z a b k)) ∙ *ℤ-zero l.total
 
     no_weight : (m n : ℤ) → pos 0 ≤ℤ m → pos 0 ≤ℤ n → (pos 0 <ℤ m → ⊥) → m ≡ pos 0
@@ -242,7 +242,7 @@ clear_or_passing ps x y s g xw yw a b off gy ends =
         go : (b : Bool) → is_on_piece ps s (cut m n x y) ≡ b → IsClear x y (point ps s.a) (point ps s.b) ⊎ Passing ps x y s g
         go true on = inr (at_cut (test_leg (point ps s.a) (point ps s.b) (cut m n x y) cut_w on))
           where
-            at_cut : IsBetween (as_rational (point ps s.a)) (as_rational (point ps s.b)) (cut m n x y) → Passing ps x y s g
+            at_cut : IsWeightedMean (as_rational (point ps s.a)) (as_rational (point ps s.b)) (cut m n x y) → Passing ps x y s g
             at_cut part = record {
               at = cut m n x y;
               weight = cut_w;
@@ -267,14 +267,14 @@ clear_or_passing ps x y s g xw yw a b off gy ends =
             (moved_part (as_rational (point ps s.a)) (as_rational (point ps s.b)) x y z (cut m n x y) k l (cut_leg m n x y hm hn) (x_counts z zw l k) (alike z zw l k)))
           where
             -- the place on the leg is the same
-            alike : (z : RationalPoint) → pos 0 <ℤ z.w → (l : IsBetween x y z) → IsBetween (as_rational (point ps s.a)) (as_rational (point ps s.b)) z → l.to_x *ℤ m ≡ n *ℤ l.to_y
+            alike : (z : RationalPoint) → pos 0 <ℤ z.w → (l : IsWeightedMean x y z) → IsWeightedMean (as_rational (point ps s.a)) (as_rational (point ps s.b)) z → l.to_x *ℤ m ≡ n *ℤ l.to_y
             alike z zw l k = equal l.to_x l.to_y m n (side_rational g x) (side_rational g y) gy (cancel z zw l k) e
               where
                 equal : (u v m n p q : ℤ) → q ≢ pos 0 → u *ℤ p +ℤ v *ℤ q ≡ pos 0 → n *ℤ p +ℤ m *ℤ q ≡ pos 0 → u *ℤ m ≡ n *ℤ v
                 equal u v m n p q off e f = by_sign q
                     (λ h. cancel_mul (neg_ℤ q) _ _ (turned q h) (neg_both q (u *ℤ m) (n *ℤ v) (same_product u v m n p q e f))) (λ z. absurd (off z)) (λ h. cancel_mul q _ _ h (same_product u v m n p q e f))
 
-            x_counts : (z : RationalPoint) → pos 0 <ℤ z.w → (l : IsBetween x y z) → IsBetween (as_rational (point ps s.a)) (as_rational (point ps s.b)) z → pos 0 <ℤ l.to_x
+            x_counts : (z : RationalPoint) → pos 0 <ℤ z.w → (l : IsWeightedMean x y z) → IsWeightedMean (as_rational (point ps s.a)) (as_rational (point ps s.b)) z → pos 0 <ℤ l.to_x
             x_counts z zw l k = by_sign l.to_x (λ h. absurd (both _ l.x_weighs h))
                 (λ e. absurd (nothing l.to_x l.to_y (l.total *ℤ z.w) e (no_second e) l.w_is (mul_pos l.total z.w l.some zw))) (λ h. h)
               where

@@ -11,7 +11,7 @@ use Rattle.geo_laws.specs.Delaunay.{point}
 use Rattle.geo_laws.specs.Segment.{sides, same_ends}
 use Rattle.geo_laws.specs.Facet.{Facet, Axis, areas, is_round, is_within, is_on_side, keeps}
 use Rattle.geo_laws.proofs.Members.{member_of, any_true, or_true}
-use Rattle.facet_laws.specs.Legs.{IsBetween, IsClear}
+use Rattle.facet_laws.specs.Legs.{IsWeightedMean, IsClear}
 use Rattle.facet_laws.proofs.Constant.{all_map}
 use Rattle.facet_laws.specs.Passing.{PassesThrough, CommonSideLaw, InnerSideLaw}
 use Rattle.facet_laws.proofs.Common.{law_beside}
@@ -33,7 +33,7 @@ pub side_rational-over : (g : Triangle) (x : RationalPoint) → side_rational (o
 unfolding same det orient_rational
 side_rational-over g x = ring (side_rationalE (overE (triangleE 0)) (rationalE 9)) (neg (side_rationalE (triangleE 0) (rationalE 9))) tt (of_triangle g (of_rational x []))
 
-abbrev pub leg_back : (x y z : RationalPoint) → IsBetween x y z → IsBetween y x z
+abbrev pub leg_back : (x y z : RationalPoint) → IsWeightedMean x y z → IsWeightedMean y x z
 leg_back x y z l = record {
   total = l.total;
   to_x = l.to_y;

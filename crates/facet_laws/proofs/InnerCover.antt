@@ -10,17 +10,17 @@ use Rattle.sign_predicates.specs.Orientation.{Triangle, SpansPlane, normal, cros
 use Rattle.geo_laws.specs.Delaunay.{point, HasDistinctPoints, all_numbers}
 use Rattle.geo_laws.specs.Path.{SamePoint}
 use Rattle.geo_laws.specs.Segment.{sides, pieces, piece, cut, is_zero}
-use Rattle.geo_laws.specs.Simplex.{InSimplex, IsMean, weighted_sum}
-use Rattle.geo_laws.specs.Facet.{Facet, IsFlat, areas, all_corners, axis_of, plane, in_region, is_on_piece, is_on_side, is_within, corner_numbers, centroid, facet_triangles}
+use Rattle.geo_laws.specs.Simplex.{InSimplex, IsMean, sum_by_weights}
+use Rattle.geo_laws.specs.Facet.{Facet, IsFlat, areas, all_corners, axis_of, plane, in_region, is_on_piece, is_on_side, is_within, corner_numbers, triangle_centroid, facet_triangles}
 use Rattle.geo_laws.specs.declared.complex.Piece.{Piece}
 use Rattle.geo_laws.specs.declared.complex.FacetTriangle.{FacetTriangle}
 use Rattle.geo_laws.proofs.Corners.{contains_below}
 use Rattle.geo_laws.proofs.Determinants.{combined, offset, side_rational-combined, side_rational-linear, side_rational-as_rational}
 use Rattle.geo_laws.proofs.Members.{IsMember, here, there, at_place, in_flat_map, some_true, any_true, both_true, contains_of, member_of}
-use Rattle.facet_laws.specs.Circle.{triangle, IsCircle, LiesInPlane, InFlatHull}
+use Rattle.facet_laws.specs.Circle.{circle_triangle, IsCircle, LiesInPlane, InFlatHull}
 use Rattle.facet_laws.specs.Inner.{IsInnerSide}
-use Rattle.facet_laws.specs.Legs.{IsBetween}
-use Rattle.facet_laws.specs.Region.{HavePieces, IsBounded, IsProtected, IsPieced, IsSegment, IsFacetTriangle, BoundedCoverLaw, is_on_piece_of, through}
+use Rattle.facet_laws.specs.Legs.{IsWeightedMean}
+use Rattle.facet_laws.specs.Region.{HavePieces, IsBounded, IsFacetProtected, IsPieced, IsAmongSegments, IsFacetTriangle, BoundedCoverLaw, is_on_piece_of, through}
 use Rattle.facet_laws.proofs.Chains.{all_at, all_sides}
 use Rattle.facet_laws.proofs.CircleCover.{law_circle_cover}
 use Rattle.facet_laws.proofs.Circles.{Shape, among_all, circle_corners, shape_of, squares_above}
@@ -133,7 +133,7 @@ with_third ps a b c x na nb (m, mean) = (
         three : (p q r s t : ℕ) → p ≡ s → q ≡ t → r ≡ 0 → 0 + p + q + r ≡ 0 + s + t
         three p q r s t e f g = omega arith
 
-    sums : (f : ℕ → ℤ) → weighted_sum n f (a ∷ b ∷ c ∷ []) ≡ weighted_sum m f (a ∷ b ∷ [])
+    sums : (f : ℕ → ℤ) → sum_by_weights n f (a ∷ b ∷ c ∷ []) ≡ sum_by_weights m f (a ∷ b ∷ [])
     sums f = (λ j. pos (n_a j) *ℤ f a +ℤ (pos (n_b j) *ℤ f b +ℤ (pos (n_c j) *ℤ f c +ℤ pos 0))) ∙ (λ j. pos (m a) *ℤ f a +ℤ (pos (m b) *ℤ f b +ℤ (zero-*ℤ (f c) j +ℤ pos 0)))
 
 -- ---- no point of the plane
@@ -198,7 +198,7 @@ near_leg n t k l a b x e =
     ring_given ((num (pos 0) ⊕ var 0 ⊗ var 2) ⊗ var 4 ⊕ (var 0 ⊗ var 3 ⊕ var 1) ⊗ var 5) (var 1 ⊗ (var 0 ⊗ var 6 ⊕ var 5))
     (given (var 0) (var 2 ⊗ var 4 ⊕ var 3 ⊗ var 5) (var 1 ⊗ var 6) ∷ []) tt (n ∷ t ∷ k ∷ l ∷ a ∷ b ∷ x ∷ []) (e, tt)
 
-toward_end : (n : ℕ) (a b : Point) (x : RationalPoint) → IsBetween (as_rational a) (as_rational b) x → IsBetween (as_rational a) (as_rational b) (combined (pos n) x (as_rational b))
+toward_end : (n : ℕ) (a b : Point) (x : RationalPoint) → IsWeightedMean (as_rational a) (as_rational b) x → IsWeightedMean (as_rational a) (as_rational b) (combined (pos n) x (as_rational b))
 toward_end n a b x l = record {
   total = l.total;
   to_x = pos 0 +ℤ pos n *ℤ l.to_x;
@@ -225,9 +225,9 @@ toward_end n a b x l = record {
 pub record OtherEnd (ps : List Point) (s : Piece) (x : RationalPoint) : Type 0 where
   pub u : ℕ
   pub v : ℕ
-  pub leg : IsBetween (as_rational (point ps u)) (as_rational (point ps v)) x
+  pub leg : IsWeightedMean (as_rational (point ps u)) (as_rational (point ps v)) x
   pub apart : ¬ SamePoint x (as_rational (point ps v))
-  pub back : (z : RationalPoint) → IsBetween (as_rational (point ps u)) (as_rational (point ps v)) z → IsBetween (as_rational (point ps s.a)) (as_rational (point ps s.b)) z
+  pub back : (z : RationalPoint) → IsWeightedMean (as_rational (point ps u)) (as_rational (point ps v)) z → IsWeightedMean (as_rational (point ps s.a)) (as_rational (point ps s.b)) z
 
 -- where x is at b and a weighs, a is b
 at_far : (k l t a b x w : ℤ) → pos 0 <ℤ k → k *ℤ a +ℤ l *ℤ b ≡ t *ℤ x → k *ℤ pos 1 +ℤ l *ℤ pos 1 ≡ t *ℤ w → x *ℤ pos 1 ≡ b *ℤ w → a ≡ b
@@ -238,14 +238,14 @@ at_far k l t a b x w h e f g =
     (given (num (pos 1)) (var 0 ⊗ var 3 ⊕ var 1 ⊗ var 4) (var 2 ⊗ var 5) ∷ given (neg (var 4)) (var 0 ⊗ num (pos 1) ⊕ var 1 ⊗ num (pos 1)) (var 2 ⊗ var 6) ∷ given (var 2) (var 5 ⊗ num (pos 1)) (var 4 ⊗ var 6) ∷ [])
     tt (k ∷ l ∷ t ∷ a ∷ b ∷ x ∷ w ∷ []) (e, (f, (g, tt))))
 
-not_at_far : (a b : Point) (x : RationalPoint) → a ≢ b → (l : IsBetween (as_rational a) (as_rational b) x) → pos 0 <ℤ l.to_x → ¬ SamePoint x (as_rational b)
+not_at_far : (a b : Point) (x : RationalPoint) → a ≢ b → (l : IsWeightedMean (as_rational a) (as_rational b) x) → pos 0 <ℤ l.to_x → ¬ SamePoint x (as_rational b)
 not_at_far a b x differ l h e = differ (λ j. record {
   x = at_far l.to_x l.to_y l.total a.x b.x x.x x.w h l.x_is l.w_is e.x_same j;
   y = at_far l.to_x l.to_y l.total a.y b.y x.y x.w h l.y_is l.w_is e.y_same j;
   z = at_far l.to_x l.to_y l.total a.z b.z x.z x.w h l.z_is l.w_is e.z_same j;
 })
 
-other_end : (ps : List Point) (s : Piece) (x : RationalPoint) → pos 0 <ℤ x.w → point ps s.a ≢ point ps s.b → IsBetween (as_rational (point ps s.a)) (as_rational (point ps s.b)) x → OtherEnd ps s x
+other_end : (ps : List Point) (s : Piece) (x : RationalPoint) → pos 0 <ℤ x.w → point ps s.a ≢ point ps s.b → IsWeightedMean (as_rational (point ps s.a)) (as_rational (point ps s.b)) x → OtherEnd ps s x
 other_end ps s x xw differ l = by_sign l.to_x (λ n. absurd (below _ l.x_weighs n))
     (λ e. record {
       u = s.b;
@@ -283,7 +283,7 @@ holds_near : (ps : List Point) (f : Triangle) (t : FacetTriangle) (n : ℕ) (x v
 holds_near ps f t n x v sf c p xw vw flat l in_t =
     in_triangle ps t.a t.b t.c (circle_corners ps t) x (later t.a t.b c.first) (λ e. far t.a t.b t.c c.first c.second e) (later t.b t.c c.second) refl refl refl xw (volume_above ps t shape)
     (wall t.a (opposite_a (circle_corners ps t)) (wall_a refl) here) (wall t.b (opposite_b (circle_corners ps t)) (wall_b refl) (there here)) (wall t.c (opposite_c (circle_corners ps t)) (wall_c refl) (there (there here)))
-    (to_triangle f (triangle ps t) x sf (within ps f t p) flat)
+    (to_triangle f (circle_triangle ps t) x sf (within ps f t p) flat)
   where
     shape : Shape ps t
     shape = shape_of ps t (among_all ps t c)
@@ -337,7 +337,7 @@ bounded_covers : (ps : List Point) (number : ℕ) (facet : Facet) (p : ℕ × �
     → EachRational (λ x. in_region ps facet x ≡ true → is_on_piece_of ps segs x ≡ false → (t : FacetTriangle) × Contains (facet_triangles ps number facet) t × InSimplex ps (corner_numbers t) x)
 bounded_covers ps number facet p segs distinct on_list has_plane is_flat bounded has x xw inside off = go (is_on_side ps facet x) refl
   where
-    h : IsProtected ps facet p
+    h : IsFacetProtected ps facet p
     h = law_bounded ps facet p segs distinct on_list has_plane is_flat bounded has
 
     never : true ≡ false → ⊥
@@ -354,7 +354,7 @@ bounded_covers ps number facet p segs distinct on_list has_plane is_flat bounded
 
     -- a point strictly within an inner side
     at_point : (q : List ℕ) → IsMember q (areas facet) → (s : Piece) → IsMember s (sides q) → IsInnerSide ps facet q s → (x : RationalPoint) → pos 0 <ℤ x.w → ((i : ℕ) → i < length ps → ¬ SamePoint x (as_rational (point ps i)))
-        → IsBetween (as_rational (point ps s.a)) (as_rational (point ps s.b)) x → (t : FacetTriangle) × Contains (facet_triangles ps number facet) t × InSimplex ps (corner_numbers t) x
+        → IsWeightedMean (as_rational (point ps s.a)) (as_rational (point ps s.b)) x → (t : FacetTriangle) × Contains (facet_triangles ps number facet) t × InSimplex ps (corner_numbers t) x
     at_point q mq s ms i x xw apart part = (cover.0, (law_facet_list ps number facet cover.0).1 (facet_of ps number facet p cover.0 has_plane is_flat cover.1 cover.2 cover.3 in_middle), cover.4)
       where
         ends_on : (s.a < length ps) × (s.b < length ps)
@@ -397,11 +397,11 @@ bounded_covers ps number facet p segs distinct on_list has_plane is_flat bounded
         cover : (t : FacetTriangle) × (t.facet ≡ number) × IsCircle ps t × LiesInPlane ps (through ps p) t × InSimplex ps (corner_numbers t) x
         cover = law_circle_cover ps (through ps p) number spans x xw hull
 
-        in_middle : in_region ps facet (centroid (point ps cover.0.a) (point ps cover.0.b) (point ps cover.0.c)) ≡ true
+        in_middle : in_region ps facet (triangle_centroid (point ps cover.0.a) (point ps cover.0.b) (point ps cover.0.c)) ≡ true
         in_middle =
-            region_is ps facet p (centroid (point ps cover.0.a) (point ps cover.0.b) (point ps cover.0.c)) has_plane
-            ∙ (λ j. test_zero (side_rational (through ps p) (centroid (point ps cover.0.a) (point ps cover.0.b) (point ps cover.0.c)))
-            (from_triangle (through ps p) (triangle ps cover.0) (centroid (point ps cover.0.a) (point ps cover.0.b) (point ps cover.0.c)) spans cover.2.spans (within ps (through ps p) cover.0 cover.3) (middle_plane ps cover.0)) j
+            region_is ps facet p (triangle_centroid (point ps cover.0.a) (point ps cover.0.b) (point ps cover.0.c)) has_plane
+            ∙ (λ j. test_zero (side_rational (through ps p) (triangle_centroid (point ps cover.0.a) (point ps cover.0.b) (point ps cover.0.c)))
+            (from_triangle (through ps p) (circle_triangle ps cover.0) (triangle_centroid (point ps cover.0.a) (point ps cover.0.b) (point ps cover.0.c)) spans cover.2.spans (within ps (through ps p) cover.0 cover.3) (middle_plane ps cover.0)) j
             && star_at ps facet (through ps p) (axis_of (normal (through ps p))) cover.0 spans (steep (normal (through ps p)) spans) all_on (pieced_among ps (through ps p) facet h.pieced) (among_all ps cover.0 cover.2) cover.3 x xw cover.4
             (no_point ps (through ps p) x xw apart) q mq s among part j)
 
@@ -464,7 +464,7 @@ bounded_covers ps number facet p segs distinct on_list has_plane is_flat bounded
             on_side : (s : Piece) × IsMember s (sides q.0) × (is_on_piece ps s x ≡ true) → (t : FacetTriangle) × Contains (facet_triangles ps number facet) t × InSimplex ps (corner_numbers t) x
             on_side s = either_way (bounded q.0 (contains_of (areas facet) q.0 q.1) s.0 (contains_of (sides q.0) s.0 s.1))
               where
-                either_way : IsSegment segs s.0 ⊎ IsInnerSide ps facet q.0 s.0 → (t : FacetTriangle) × Contains (facet_triangles ps number facet) t × InSimplex ps (corner_numbers t) x
+                either_way : IsAmongSegments segs s.0 ⊎ IsInnerSide ps facet q.0 s.0 → (t : FacetTriangle) × Contains (facet_triangles ps number facet) t × InSimplex ps (corner_numbers t) x
                 either_way (inr i) = inner_case q.0 q.1 s.0 s.1 s.2 i
                 either_way (inl r) =
                     let on = all_at (λ s. (s.a < length ps) × (s.b < length ps)) s.0 (sides q.0) (all_sides (λ i. i < length ps) q.0 (all_at (λ q. AllByRecursion (λ i. i < length ps) q) q.0 (areas facet) all_on q.1)) s.1 in

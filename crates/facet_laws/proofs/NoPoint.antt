@@ -16,7 +16,7 @@ use Rattle.geo_laws.proofs.Lexicographic.{IsLexAbove}
 use Rattle.geo_laws.proofs.Members.{IsMember, here, there}
 use Rattle.geo_laws.proofs.Corners.{same_or_not}
 use Rattle.sign_predicates.proofs.Places.{Place, A, B, C, D, side-other, opposite}
-use Rattle.facet_laws.specs.Circle.{triangle, IsCircleAmong, LiesInPlane}
+use Rattle.facet_laws.specs.Circle.{circle_triangle, IsCircleAmong, LiesInPlane}
 use Rattle.facet_laws.proofs.Circles.{with_apex, row, circle_corners, shape_of, row_corners, point_kept, all_places, circle_above, in_or_not}
 use Rattle.facet_laws.proofs.Constant.{IsInside}
 use Rattle.facet_laws.proofs.Insides.{Wall, wall_a, wall_b, wall_c, wall_zero}
@@ -116,7 +116,7 @@ not_across ps f t i sf h lies l n flat z = go (in_or_not (corner_numbers t) i)
     above_not_zero n h e = omega (arith, ints)
 
     last : side (opposite_d (circle_corners ps t)) (point ps i) ≡ pos 0
-    last = point_to_triangle f (triangle ps t) (point ps i) sf (within ps f t lies) flat
+    last = point_to_triangle f (circle_triangle ps t) (point ps i) sf (within ps f t lies) flat
 
     weight : (g : Triangle) → pos 0 <ℤ side_rational g (as_rational (point ps i)) → pos 0 <ℤ side g (point ps i)
     weight g h = subst (λ n. pos 0 <ℤ n) (side_rational-as_rational g (point ps i)) h

@@ -7,7 +7,7 @@ use Rattle.exact_algebra.proofs.Ring.{num, var, neg, ring_given, given, same, �
 use Rattle.sign_predicates.specs.Point.{Point, RationalPoint, as_rational}
 use Rattle.sign_predicates.specs.Orientation.{Triangle, side, side_rational}
 use Rattle.geo_laws.proofs.Determinants.{side_rational-as_rational}
-use Rattle.facet_laws.specs.Legs.{IsBetween}
+use Rattle.facet_laws.specs.Legs.{IsWeightedMean}
 use Rattle.facet_laws.proofs.Insides.{side-leg}
 use Rattle.facet_laws.specs.Passing.{PassesThrough, LeftOnceLaw}
 use Rattle.facet_laws.proofs.Passed.{at_zero, both_weigh}
@@ -18,7 +18,7 @@ weak : (n : ℤ) → pos 0 <ℤ n → pos 0 ≤ℤ n
 weak n h = omega (arith, ints)
 
 -- a point between two points of a half space
-pub between : (g : Triangle) (a b : Point) (x : RationalPoint) → pos 0 ≤ℤ side g a → pos 0 ≤ℤ side g b → IsBetween (as_rational a) (as_rational b) x → pos 0 ≤ℤ side_rational g x
+pub between : (g : Triangle) (a b : Point) (x : RationalPoint) → pos 0 ≤ℤ side g a → pos 0 ≤ℤ side g b → IsWeightedMean (as_rational a) (as_rational b) x → pos 0 ≤ℤ side_rational g x
 between g a b x ha hb l =
     nonneg_of_mul l.total (side_rational g x) l.some
     (subst (λ z. pos 0 ≤ℤ z) (sym (side-leg g (as_rational a) (as_rational b) x l))
@@ -56,7 +56,7 @@ same_place K L T m1 n1 t1 m2 n2 t2 a b x y z1 z2 e f g h =
     tt (K ∷ L ∷ T ∷ m1 ∷ n1 ∷ t1 ∷ m2 ∷ n2 ∷ t2 ∷ a ∷ b ∷ x ∷ y ∷ z1 ∷ z2 ∷ []) (e, (f, (g, (h, tt))))
 
 -- two points of a leg at the same place: a segment that holds the one holds the other
-pub moved_part : (a b x y z1 z2 : RationalPoint) (p : IsBetween a b z1) (l : IsBetween x y z1) (m : IsBetween x y z2) → pos 0 <ℤ l.to_x → l.to_x *ℤ m.to_y ≡ m.to_x *ℤ l.to_y → IsBetween a b z2
+pub moved_part : (a b x y z1 z2 : RationalPoint) (p : IsWeightedMean a b z1) (l : IsWeightedMean x y z1) (m : IsWeightedMean x y z2) → pos 0 <ℤ l.to_x → l.to_x *ℤ m.to_y ≡ m.to_x *ℤ l.to_y → IsWeightedMean a b z2
 moved_part a b x y z1 z2 p l m count together = record {
   total = p.total *ℤ (l.to_x *ℤ m.total);
   to_x = (m.to_x *ℤ l.total) *ℤ p.to_x;
@@ -96,7 +96,7 @@ law_left_once a b c d x xw y yw h k ka kb hc hd =
 
 -- and where it enters the polygon through a side before it leaves it
 pub entered : (a b c d : Point) (x y : RationalPoint) → pos 0 <ℤ x.w → pos 0 <ℤ y.w → (h : PassesThrough x y a b) (k : PassesThrough y x c d) → pos 0 ≤ℤ side k.g a → pos 0 ≤ℤ side k.g b
-    → (h.leg.to_y *ℤ k.leg.to_y) ≤ℤ (h.leg.to_x *ℤ k.leg.to_x) → IsBetween (as_rational a) (as_rational b) k.at
+    → (h.leg.to_y *ℤ k.leg.to_y) ≤ℤ (h.leg.to_x *ℤ k.leg.to_x) → IsWeightedMean (as_rational a) (as_rational b) k.at
 entered a b c d x y xw yw h k ka kb first =
     moved_part (as_rational a) (as_rational b) x y h.at k.at h.part h.leg (leg_back y x k.at k.leg) (weigh x y a b h xw yw).0 together
   where

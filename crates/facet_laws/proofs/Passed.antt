@@ -10,8 +10,8 @@ use Rattle.geo_laws.specs.Delaunay.{point}
 use Rattle.geo_laws.specs.Segment.{sides}
 use Rattle.geo_laws.specs.Facet.{Axis, DropX, DropY, DropZ, crosses_ray}
 use Rattle.geo_laws.specs.declared.complex.Piece.{Piece}
-use Rattle.facet_laws.specs.Legs.{IsBetween, dropped}
-use Rattle.facet_laws.specs.Parity.{Spot, turn, rise, crossing, crosses, xor}
+use Rattle.facet_laws.specs.Legs.{IsWeightedMean, dropped}
+use Rattle.facet_laws.specs.Parity.{Spot, spot_turn, rise, is_crossing, crosses, xor}
 use Rattle.facet_laws.proofs.Chains.{odd_is, all_sides, all_both}
 use Rattle.facet_laws.proofs.Insides.{side-leg}
 use Rattle.facet_laws.proofs.SideLaw.{beside, alike, is_above, is_under, above_test, under_test}
@@ -44,13 +44,13 @@ agree s t a b z e f = ap (λ n. s *ℤ n) e ∙ turned s t z ∙ ap (λ n. t *�
     turned : (s t z : ℤ) → s *ℤ (t *ℤ z) ≡ t *ℤ (s *ℤ z)
     turned s t z = ring (var 0 ⊗ (var 1 ⊗ var 2)) (var 1 ⊗ (var 0 ⊗ var 2)) tt (s ∷ t ∷ z ∷ [])
 
-agree_first : (axis : Axis) (x y p q z : RationalPoint) (l : IsBetween x y z) (k : IsBetween p q z)
+agree_first : (axis : Axis) (x y p q z : RationalPoint) (l : IsWeightedMean x y z) (k : IsWeightedMean p q z)
     → k.total *ℤ (l.to_x *ℤ (spot axis x).first +ℤ l.to_y *ℤ (spot axis y).first) ≡ l.total *ℤ (k.to_x *ℤ (spot axis p).first +ℤ k.to_y *ℤ (spot axis q).first)
 agree_first DropX x y p q z l k = agree _ _ _ _ _ l.y_is k.y_is
 agree_first DropY x y p q z l k = agree _ _ _ _ _ l.x_is k.x_is
 agree_first DropZ x y p q z l k = agree _ _ _ _ _ l.x_is k.x_is
 
-agree_second : (axis : Axis) (x y p q z : RationalPoint) (l : IsBetween x y z) (k : IsBetween p q z)
+agree_second : (axis : Axis) (x y p q z : RationalPoint) (l : IsWeightedMean x y z) (k : IsWeightedMean p q z)
     → k.total *ℤ (l.to_x *ℤ (spot axis x).second +ℤ l.to_y *ℤ (spot axis y).second) ≡ l.total *ℤ (k.to_x *ℤ (spot axis p).second +ℤ k.to_y *ℤ (spot axis q).second)
 agree_second DropX x y p q z l k = agree _ _ _ _ _ l.z_is k.z_is
 agree_second DropY x y p q z l k = agree _ _ _ _ _ l.z_is k.z_is
@@ -81,23 +81,23 @@ passes axis f x y a b steep xw yw fx fa fb h =
     (λ z. absurd (above (side_rational h.g x) h.x_side (off_line axis f h.g x a b steep fx fa fb h.a_on h.b_on h.ends z)))
     (λ p. inl (forth p (opposite_pos l.to_x l.to_y A B weigh.0 weigh.1 cancel p)))
   where
-    l : IsBetween x y h.at
+    l : IsWeightedMean x y h.at
     l = h.leg
 
-    k : IsBetween (as_rational a) (as_rational b) h.at
+    k : IsWeightedMean (as_rational a) (as_rational b) h.at
     k = h.part
 
     A : ℤ
-    A = turn (spot axis x) (at axis a) (at axis b)
+    A = spot_turn (spot axis x) (at axis a) (at axis b)
 
     B : ℤ
-    B = turn (spot axis y) (at axis a) (at axis b)
+    B = spot_turn (spot axis y) (at axis a) (at axis b)
 
     C : ℤ
-    C = turn (spot axis x) (spot axis y) (at axis a)
+    C = spot_turn (spot axis x) (spot axis y) (at axis a)
 
     D : ℤ
-    D = turn (spot axis x) (spot axis y) (at axis b)
+    D = spot_turn (spot axis x) (spot axis y) (at axis b)
 
     above : (n : ℤ) → pos 0 <ℤ n → n ≡ pos 0 → ⊥
     above n h e = omega (arith, ints)
@@ -138,7 +138,7 @@ passes axis f x y a b steep xw yw fx fa fb h =
 
 -- ---- tests the other way round
 
-cross_swap : (a b l r : Bool) → crossing b a r l ≡ crossing a b l r
+cross_swap : (a b l r : Bool) → is_crossing b a r l ≡ is_crossing a b l r
 cross_swap true true l r = refl
 cross_swap true false l r = refl
 cross_swap false true l r = refl
@@ -170,13 +170,13 @@ test_under m n e = alike _ _ (λ t. is_above n (one (under_test m t))) (λ t. is
 
 crosses_back : (x p q : Spot) → crosses x q p ≡ crosses x p q
 crosses_back x p q =
-    (λ j. crossing (int_le (pos 0) (rise x q)) (int_le (pos 0) (rise x p)) (test_above _ _ (turn-swap_ends x p q) j) (test_under _ _ (turn-swap_ends x p q) j))
-    ∙ cross_swap (int_le (pos 0) (rise x p)) (int_le (pos 0) (rise x q)) (int_lt (pos 0) (turn x p q)) (int_lt (turn x p q) (pos 0))
+    (λ j. is_crossing (int_le (pos 0) (rise x q)) (int_le (pos 0) (rise x p)) (test_above _ _ (turn-swap_ends x p q) j) (test_under _ _ (turn-swap_ends x p q) j))
+    ∙ cross_swap (int_le (pos 0) (rise x p)) (int_le (pos 0) (rise x q)) (int_lt (pos 0) (spot_turn x p q)) (int_lt (spot_turn x p q) (pos 0))
 
 beside_back : (x y p : Spot) → beside y x p ≡ beside x y p
 beside_back x y p =
-    (λ j. crossing (int_le (pos 0) (rise x p)) (int_le (pos 0) (rise y p)) (test_under _ _ (turn-swap_start x y p) j) (test_above _ _ (turn-swap_start x y p) j))
-    ∙ cross_swap (int_le (pos 0) (rise y p)) (int_le (pos 0) (rise x p)) (int_lt (turn x y p) (pos 0)) (int_lt (pos 0) (turn x y p))
+    (λ j. is_crossing (int_le (pos 0) (rise x p)) (int_le (pos 0) (rise y p)) (test_under _ _ (turn-swap_start x y p) j) (test_above _ _ (turn-swap_start x y p) j))
+    ∙ cross_swap (int_le (pos 0) (rise y p)) (int_le (pos 0) (rise x p)) (int_lt (spot_turn x y p) (pos 0)) (int_lt (pos 0) (spot_turn x y p))
 
 -- a side that the leg passes through
 spot_parity : (x y p q : Spot) → Passes x y p q ⊎ Passes x y q p → xor (crosses x p q) (crosses y p q) ≡ not (xor (beside x y p) (beside x y q))

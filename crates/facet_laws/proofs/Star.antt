@@ -14,10 +14,10 @@ use Rattle.geo_laws.specs.Laws.{KeepsSide}
 use Rattle.geo_laws.specs.Simplex.{InSimplex}
 use Rattle.geo_laws.specs.declared.complex.FacetTriangle.{FacetTriangle}
 use Rattle.geo_laws.proofs.Members.{IsMember, contains_of, member_of}
-use Rattle.facet_laws.specs.Circle.{triangle, IsCircleAmong, LiesInPlane}
+use Rattle.facet_laws.specs.Circle.{circle_triangle, IsCircleAmong, LiesInPlane}
 use Rattle.geo_laws.specs.declared.complex.Piece.{Piece}
 use Rattle.facet_laws.specs.Inner.{HasOnce, IsOffInside}
-use Rattle.facet_laws.specs.Legs.{IsBetween, IsClear, dropped}
+use Rattle.facet_laws.specs.Legs.{IsWeightedMean, IsClear, dropped}
 use Rattle.facet_laws.specs.Passing.{PassesThrough, LiesBeside}
 use Rattle.facet_laws.proofs.Chains.{all_at, all_both, all_members, all_sides}
 use Rattle.facet_laws.proofs.Circles.{Shape, shape_of}
@@ -56,7 +56,7 @@ near_sign m n a b p q e =
 -- common point with the part from x to y: so the polygon is round y
 pub round_beside : (ps : List Point) (f : Triangle) (axis : Axis) (q : List ℕ) (s : Piece) (g : Triangle) (x y z : RationalPoint) → dropped axis (normal f) ≢ pos 0 → pos 0 <ℤ x.w → pos 0 <ℤ y.w → pos 0 <ℤ z.w
     → side_rational f y ≡ pos 0 → side_rational f z ≡ pos 0 → side g (point ps s.a) ≡ pos 0 → side g (point ps s.b) ≡ pos 0 → point ps s.a ≢ point ps s.b → LiesBeside ps f g q → HasOnce ps s q
-    → (leg : IsBetween y z x) → pos 0 <ℤ leg.to_x → pos 0 <ℤ leg.to_y → (part : IsBetween (as_rational (point ps s.a)) (as_rational (point ps s.b)) x) → pos 0 <ℤ part.to_x → pos 0 <ℤ part.to_y
+    → (leg : IsWeightedMean y z x) → pos 0 <ℤ leg.to_x → pos 0 <ℤ leg.to_y → (part : IsWeightedMean (as_rational (point ps s.a)) (as_rational (point ps s.b)) x) → pos 0 <ℤ part.to_x → pos 0 <ℤ part.to_y
     → side_rational g x ≡ pos 0 → pos 0 <ℤ side_rational g y → AllByRecursion (λ r. same_ends s r ≡ false → IsClear x y (point ps r.a) (point ps r.b)) (sides q) → is_round ps axis q y ≡ true
 round_beside ps f axis q s g x y z steep xw yw zw fy fz a_on b_on ends beside has leg y_weighs z_weighs part a_weighs b_weighs gx gy clear =
     (law_beside ps f axis q s steep y yw fy z zw fz
@@ -79,7 +79,7 @@ round_beside ps f axis q s g x y z steep xw yw zw fy fz a_on b_on ends beside ha
     least_sides : AllByRecursion (λ r. (pos 0 ≤ℤ side g (point ps r.a)) × (pos 0 ≤ℤ side g (point ps r.b))) (sides q)
     least_sides = all_sides (λ i. pos 0 ≤ℤ side g (point ps i)) q (all_map (λ i. (side f (point ps i) ≡ pos 0) × (pos 0 ≤ℤ side g (point ps i))) (λ i. pos 0 ≤ℤ side g (point ps i)) q (λ i k. k.1) beside)
 
-    z_off : (r : Piece) → pos 0 ≤ℤ side g (point ps r.a) → pos 0 ≤ℤ side g (point ps r.b) → IsBetween (as_rational (point ps r.a)) (as_rational (point ps r.b)) z → ⊥
+    z_off : (r : Piece) → pos 0 ≤ℤ side g (point ps r.a) → pos 0 ≤ℤ side g (point ps r.b) → IsWeightedMean (as_rational (point ps r.a)) (as_rational (point ps r.b)) z → ⊥
     z_off r ha hb l = below (side_rational g z) (between g (point ps r.a) (point ps r.b) z ha hb l) gz
       where
         below : (n : ℤ) → pos 0 ≤ℤ n → n <ℤ pos 0 → ⊥
@@ -96,7 +96,7 @@ round_beside ps f axis q s g x y z steep xw yw zw fy fz a_on b_on ends beside ha
             (subst (λ n. pos 0 ≤ℤ n) (near_sign leg.to_x leg.to_y l.to_x l.to_y (side_rational g y) (side_rational g z) cancel)
             (mul_nonneg leg.to_y _ (weak _ z_weighs) (subst (λ n. pos 0 ≤ℤ n) (side-leg g y z d l) (mul_nonneg l.total (side_rational g d) (weak _ l.some) (between g (point ps r.a) (point ps r.b) d ha hb k)))))
 
-        near : IsBetween y x d
+        near : IsWeightedMean y x d
         near = record {
           total = leg.to_y *ℤ l.total;
           to_x = leg.to_y *ℤ l.to_x -ℤ l.to_y *ℤ leg.to_x;
@@ -114,10 +114,10 @@ round_beside ps f axis q s g x y z steep xw yw zw fy fz a_on b_on ends beside ha
 
 -- x is none of the points of the plane
 abbrev pub IsNoPoint : List Point → Triangle → RationalPoint → Type 0
-IsNoPoint ps f x = (i : ℕ) → i < length ps → side f (point ps i) ≡ pos 0 → (c : RationalPoint) (l : IsBetween (as_rational (point ps i)) c x) → l.to_y ≢ pos 0
+IsNoPoint ps f x = (i : ℕ) → i < length ps → side f (point ps i) ≡ pos 0 → (c : RationalPoint) (l : IsWeightedMean (as_rational (point ps i)) c x) → l.to_y ≢ pos 0
 
 pub other_off : (ps : List Point) (f : Triangle) (q : List ℕ) (s : Piece) (x : RationalPoint) → pos 0 <ℤ x.w → AllByRecursion (λ i. i < length ps) q → AllByRecursion (λ i. side f (point ps i) ≡ pos 0) q
-    → HasOnce ps s q → IsBetween (as_rational (point ps s.a)) (as_rational (point ps s.b)) x → IsNoPoint ps f x → AllByRecursion (λ r. same_ends s r ≡ false → is_on_piece ps r x ≡ false) (sides q)
+    → HasOnce ps s q → IsWeightedMean (as_rational (point ps s.a)) (as_rational (point ps s.b)) x → IsNoPoint ps f x → AllByRecursion (λ r. same_ends s r ≡ false → is_on_piece ps r x ≡ false) (sides q)
 other_off ps f q s x xw on flat has part none =
     all_both (λ r. same_ends s r ≡ false → IsOffInside (point ps s.a) (point ps s.b) (point ps r.a) (point ps r.b)) (λ r. ((r.a < length ps) × (r.b < length ps)) × ((side f (point ps r.a) ≡ pos 0) × (side f (point ps r.b) ≡ pos 0)))
     (λ r. same_ends s r ≡ false → is_on_piece ps r x ≡ false) (sides q)
@@ -131,7 +131,7 @@ other_off ps f q s x xw on flat has part none =
     above : (n : ℤ) → pos 0 ≤ℤ n → n ≢ pos 0 → pos 0 <ℤ n
     above n h k = pos_of_nonneg n h k
 
-    off : (r : Piece) → IsOffInside (point ps s.a) (point ps s.b) (point ps r.a) (point ps r.b) → ((r.a < length ps) × (r.b < length ps)) × ((side f (point ps r.a) ≡ pos 0) × (side f (point ps r.b) ≡ pos 0)) → IsBetween (as_rational (point ps r.a)) (as_rational (point ps r.b)) x → ⊥
+    off : (r : Piece) → IsOffInside (point ps s.a) (point ps s.b) (point ps r.a) (point ps r.b) → ((r.a < length ps) × (r.b < length ps)) × ((side f (point ps r.a) ≡ pos 0) × (side f (point ps r.b) ≡ pos 0)) → IsWeightedMean (as_rational (point ps r.a)) (as_rational (point ps r.b)) x → ⊥
     off r apart k l = apart x xw part l
         (above l.to_x l.x_weighs (none r.b k.0.1 k.1.1 (as_rational (point ps r.a)) (leg_back (as_rational (point ps r.a)) (as_rational (point ps r.b)) x l)))
         (above l.to_y l.y_weighs (none r.a k.0.0 k.1.0 (as_rational (point ps r.b)) l))
@@ -140,7 +140,7 @@ other_off ps f q s x xw on flat has part none =
 
 -- a point within a side that is no point of the plane is strictly within it
 pub strictly : (ps : List Point) (f : Triangle) (s : Piece) (x : RationalPoint) → IsNoPoint ps f x → s.a < length ps → s.b < length ps → side f (point ps s.a) ≡ pos 0 → side f (point ps s.b) ≡ pos 0
-    → (l : IsBetween (as_rational (point ps s.a)) (as_rational (point ps s.b)) x) → (pos 0 <ℤ l.to_x) × (pos 0 <ℤ l.to_y)
+    → (l : IsWeightedMean (as_rational (point ps s.a)) (as_rational (point ps s.b)) x) → (pos 0 <ℤ l.to_x) × (pos 0 <ℤ l.to_y)
 strictly ps f s x none la lb fa fb l = (
   pos_of_nonneg l.to_x l.x_weighs (none s.b lb fb (as_rational (point ps s.a)) (leg_back (as_rational (point ps s.a)) (as_rational (point ps s.b)) x l)),
   pos_of_nonneg l.to_y l.y_weighs (none s.a la fa (as_rational (point ps s.b)) l),
@@ -157,7 +157,7 @@ pub record IsOnEdge (P : Triangle → Type 0) (ps : List Point) (f : Triangle) (
   pub on : AllByRecursion (λ i. i < length ps) q
   pub flat : AllByRecursion (λ i. side f (point ps i) ≡ pos 0) q
   pub s : Piece
-  pub part : IsBetween (as_rational (point ps s.a)) (as_rational (point ps s.b)) x
+  pub part : IsWeightedMean (as_rational (point ps s.a)) (as_rational (point ps s.b)) x
   pub edge : EdgeWith P ps f facet ns q s
 
 pub on_edge : (P : Triangle → Type 0) (ps : List Point) (f : Triangle) (facet : Facet) (ns : List ℕ) (x : RationalPoint) → pos 0 <ℤ x.w → AllByRecursion (λ q. AllByRecursion (λ i. i < length ps) q) (areas facet)
@@ -173,7 +173,7 @@ on_edge P ps f facet ns x xw on flat edges e =
 -- each lies in the region
 pub star_at : {ns : List ℕ} (ps : List Point) (facet : Facet) (f : Triangle) (axis : Axis) (t : FacetTriangle) → SpansPlane f → dropped axis (normal f) ≢ pos 0 → AllByRecursion (λ q. AllByRecursion (λ i. i < length ps) q) (areas facet)
     → AllByRecursion (IsPiecedAmong ps f facet ns) (areas facet) → IsCircleAmong ps ns t → LiesInPlane ps f t → (x : RationalPoint) → pos 0 <ℤ x.w → InSimplex ps (corner_numbers t) x → IsNoPoint ps f x
-    → (q : List ℕ) → IsMember q (areas facet) → (s : Piece) → IsInnerAmong ps f facet ns q s → IsBetween (as_rational (point ps s.a)) (as_rational (point ps s.b)) x → is_within ps axis facet (middle ps t) ≡ true
+    → (q : List ℕ) → IsMember q (areas facet) → (s : Piece) → IsInnerAmong ps f facet ns q s → IsWeightedMean (as_rational (point ps s.a)) (as_rational (point ps s.b)) x → is_within ps axis facet (middle ps t) ≡ true
 star_at {ns} ps facet f axis t sf steep on h c p x xw in_t none own_q own_m own_s own part_of = sym (constant_among ps facet f axis t sf steep h c p z.0 z.1.w (inside_simplex ps t z.0 shape z.1) z_off) ∙ z_within
   where
     shape : Shape ps t
@@ -188,8 +188,8 @@ star_at {ns} ps facet f axis t sf steep on h c p x xw in_t none own_q own_m own_
     x_flat : side_rational f x ≡ pos 0
     x_flat = side-zero ps f (corner_numbers t) in_t.0 x in_t.1 (corner_plane ps f t p)
 
-    x_in_plane : side_rational (triangle ps t) x ≡ pos 0
-    x_in_plane = to_triangle f (triangle ps t) x sf (within ps f t p) x_flat
+    x_in_plane : side_rational (circle_triangle ps t) x ≡ pos 0
+    x_in_plane = to_triangle f (circle_triangle ps t) x sf (within ps f t p) x_flat
 
     z : (z : RationalPoint) × IsInside ps t z × AllByRecursion (KeepsSide x z) (own.inner.g ∷ planes ps f facet ns (areas facet) h)
     z = near_point ps t (own.inner.g ∷ planes ps f facet ns (areas facet) h) x y.0 xw x_in_plane (λ v g w. wall_holds ps t v g x xw shape w in_t) y.1 y.2
@@ -198,7 +198,7 @@ star_at {ns} ps facet f axis t sf steep on h c p x xw in_t none own_q own_m own_
     edges = edges_with (KeepsSide x z.0) ps f facet ns (areas facet) h z.2.1
 
     z_flat : side_rational f z.0 ≡ pos 0
-    z_flat = from_triangle f (triangle ps t) z.0 sf c.spans (within ps f t p) z.1.flat
+    z_flat = from_triangle f (circle_triangle ps t) z.0 sf c.spans (within ps f t p) z.1.flat
 
     z_off : is_on_side ps facet z.0 ≡ false
     z_off = off_side ps facet z.0 (inside_off ps f facet t z.0 sf c p z.1
@@ -230,7 +230,7 @@ star_at {ns} ps facet f axis t sf steep on h c p x xw in_t none own_q own_m own_
 
     -- the polygon on the hand of the point near x is round it
     round : (q : List ℕ) (s : Piece) (g : Triangle) → IsMember q (areas facet) → side g (point ps s.a) ≡ pos 0 → side g (point ps s.b) ≡ pos 0 → point ps s.a ≢ point ps s.b → LiesBeside ps f g q → HasOnce ps s q
-        → (part : IsBetween (as_rational (point ps s.a)) (as_rational (point ps s.b)) x) → (pos 0 <ℤ part.to_x) × (pos 0 <ℤ part.to_y) → pos 0 <ℤ side_rational g z.0 → is_round ps axis q z.0 ≡ true
+        → (part : IsWeightedMean (as_rational (point ps s.a)) (as_rational (point ps s.b)) x) → (pos 0 <ℤ part.to_x) × (pos 0 <ℤ part.to_y) → pos 0 <ℤ side_rational g z.0 → is_round ps axis q z.0 ≡ true
     round q s g m a b ends beside has part strict above =
         round_beside ps f axis q s g x z.0 beyond.0 steep xw z.1.w beyond.1.w z_flat beyond.1.flat a b ends beside has beyond.1.leg beyond.1.y_weighs beyond.1.z_weighs part strict.0 strict.1
         (zero_of_mul part.total (side_rational g x) part.some (side_zero ps g s x a b part)) above
@@ -257,7 +257,7 @@ star_at {ns} ps facet f axis t sf steep on h c p x xw in_t none own_q own_m own_
 -- where x is on some side, x is on a piece, or each lies in the region
 pub star : {ns : List ℕ} (ps : List Point) (facet : Facet) (f : Triangle) (axis : Axis) (t : FacetTriangle) → SpansPlane f → dropped axis (normal f) ≢ pos 0 → AllByRecursion (λ q. AllByRecursion (λ i. i < length ps) q) (areas facet)
     → AllByRecursion (IsPiecedAmong ps f facet ns) (areas facet) → IsCircleAmong ps ns t → LiesInPlane ps f t → (x : RationalPoint) → pos 0 <ℤ x.w → InSimplex ps (corner_numbers t) x → IsNoPoint ps f x → is_on_side ps facet x ≡ true
-    → ((s : Piece) × IsOnPiecesAmong ps f ns s × IsBetween (as_rational (point ps s.a)) (as_rational (point ps s.b)) x) ⊎ (is_within ps axis facet (middle ps t) ≡ true)
+    → ((s : Piece) × IsOnPiecesAmong ps f ns s × IsWeightedMean (as_rational (point ps s.a)) (as_rational (point ps s.b)) x) ⊎ (is_within ps axis facet (middle ps t) ≡ true)
 star {ns} ps facet f axis t sf steep on h c p x xw in_t none x_on = go (on_edge (IsOff y.0) ps f facet ns x xw on flat (edges_with (IsOff y.0) ps f facet ns (areas facet) h y.2) x_on)
   where
     flat : AllByRecursion (λ q. AllByRecursion (λ i. side f (point ps i) ≡ pos 0) q) (areas facet)
@@ -266,9 +266,9 @@ star {ns} ps facet f axis t sf steep on h c p x xw in_t none x_on = go (on_edge 
     y : (y : RationalPoint) × IsInside ps t y × IsOffPlanes (planes ps f facet ns (areas facet) h) y
     y = general ps t (planes ps f facet ns (areas facet) h) (shape_of ps t c) (planes_off ps f facet t sf c p h)
 
-    go : IsOnEdge (IsOff y.0) ps f facet ns x → ((s : Piece) × IsOnPiecesAmong ps f ns s × IsBetween (as_rational (point ps s.a)) (as_rational (point ps s.b)) x) ⊎ (is_within ps axis facet (middle ps t) ≡ true)
+    go : IsOnEdge (IsOff y.0) ps f facet ns x → ((s : Piece) × IsOnPiecesAmong ps f ns s × IsWeightedMean (as_rational (point ps s.a)) (as_rational (point ps s.b)) x) ⊎ (is_within ps axis facet (middle ps t) ≡ true)
     go o = by o.edge
       where
-        by : EdgeWith (IsOff y.0) ps f facet ns o.q o.s → ((s : Piece) × IsOnPiecesAmong ps f ns s × IsBetween (as_rational (point ps s.a)) (as_rational (point ps s.b)) x) ⊎ (is_within ps axis facet (middle ps t) ≡ true)
+        by : EdgeWith (IsOff y.0) ps f facet ns o.q o.s → ((s : Piece) × IsOnPiecesAmong ps f ns s × IsWeightedMean (as_rational (point ps s.a)) (as_rational (point ps s.b)) x) ⊎ (is_within ps axis facet (middle ps t) ≡ true)
         by (inl pieces) = inl (o.s, pieces, o.part)
         by (inr i) = inr (star_at ps facet f axis t sf steep on h c p x xw in_t none o.q o.listed o.s i.0 o.part)

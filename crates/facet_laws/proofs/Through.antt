@@ -8,7 +8,7 @@ use Rattle.sign_predicates.specs.Orientation.{Triangle, normal, side, side_ratio
 use Rattle.geo_laws.specs.Facet.{Axis, DropX, DropY, DropZ, first_of_two, second_of_two}
 use Rattle.geo_laws.proofs.Determinants.{offset, side_rational-linear}
 use Rattle.facet_laws.specs.Legs.{dropped}
-use Rattle.facet_laws.specs.Parity.{Spot, turn}
+use Rattle.facet_laws.specs.Parity.{Spot, spot_turn}
 use Rattle.facet_laws.proofs.Products.{zero_of_factor}
 use Rattle.facet_laws.proofs.Rays.{vector, spot, zero_there, point_zero, third_agrees}
 use Rattle.facet_laws.proofs.Turns.{on_line_first, on_line_second}
@@ -37,8 +37,8 @@ third_same f1 f2 f3 fo p1 p2 p3 q1 q2 q3 n ep eq e f =
 -- the plane's equation, where g's is not 0
 pub off_line : (axis : Axis) (f g : Triangle) (x : RationalPoint) (a b : Point) → dropped axis (normal f) ≢ pos 0
     → side_rational f x ≡ pos 0 → side f a ≡ pos 0 → side f b ≡ pos 0 → side g a ≡ pos 0 → side g b ≡ pos 0 → a ≢ b
-    → turn (spot axis x) (at axis a) (at axis b) ≡ pos 0 → side_rational g x ≡ pos 0
-unfolding turn
+    → spot_turn (spot axis x) (at axis a) (at axis b) ≡ pos 0 → side_rational g x ≡ pos 0
+unfolding spot_turn
 off_line axis f g x a b steep fx fa fb ga gb differ t =
     by_sign (side_rational g x) (λ n. absurd (equal (nonzero n))) (λ z. z) (λ n. absurd (equal (nonzero' n)))
   where

@@ -4,7 +4,7 @@ use Rattle.std.proofs.lemmas.Int.{ints}
 use Rattle.std.specs.Prelude.{ℤ, pos, neg_ℤ, ◌+ℤ◌, ◌-ℤ◌, ◌*ℤ◌, ◌<ℤ◌}
 use Rattle.exact_algebra.proofs.Signs.{mul_pos, by_sign, opposite_pos, opposite_neg, opposite_zero}
 use Rattle.exact_algebra.proofs.Ring.{num, var, neg, ring_given, given, same, ◌⊕◌, ◌⊖◌, ◌⊗◌}
-use Rattle.facet_laws.specs.Parity.{Spot, turn}
+use Rattle.facet_laws.specs.Parity.{Spot, spot_turn}
 use Rattle.facet_laws.proofs.SpotTerms.{SpotE, spotE, turnE, of_spot, weight-joined}
 
 -- the turn of a point of a leg is the mean of those of its ends
@@ -25,8 +25,8 @@ pub turns_cancel : (x y p q : Spot) (m n k l c d : ℤ)
     → c *ℤ (m *ℤ x.first +ℤ n *ℤ y.first) ≡ d *ℤ (k *ℤ p.first +ℤ l *ℤ q.first)
     → c *ℤ (m *ℤ x.second +ℤ n *ℤ y.second) ≡ d *ℤ (k *ℤ p.second +ℤ l *ℤ q.second)
     → c *ℤ (m *ℤ x.weight +ℤ n *ℤ y.weight) ≡ d *ℤ (k *ℤ p.weight +ℤ l *ℤ q.weight)
-    → c *ℤ (m *ℤ turn x p q +ℤ n *ℤ turn y p q) ≡ pos 0
-unfolding same turn
+    → c *ℤ (m *ℤ spot_turn x p q +ℤ n *ℤ spot_turn y p q) ≡ pos 0
+unfolding same spot_turn
 turns_cancel x y p q m n k l c d e f g =
     ring_given (var 16 ⊗ (var 12 ⊗ turnE X P Q ⊕ var 13 ⊗ turnE Y P Q)) (num (pos 0))
     (given (P.second ⊗ Q.weight ⊖ P.weight ⊗ Q.second) (var 16 ⊗ (var 12 ⊗ X.first ⊕ var 13 ⊗ Y.first)) (var 17 ⊗ (var 14 ⊗ P.first ⊕ var 15 ⊗ Q.first))
@@ -39,8 +39,8 @@ pub turns_cancel' : (x y p q : Spot) (m n k l c d : ℤ)
     → c *ℤ (m *ℤ x.first +ℤ n *ℤ y.first) ≡ d *ℤ (k *ℤ p.first +ℤ l *ℤ q.first)
     → c *ℤ (m *ℤ x.second +ℤ n *ℤ y.second) ≡ d *ℤ (k *ℤ p.second +ℤ l *ℤ q.second)
     → c *ℤ (m *ℤ x.weight +ℤ n *ℤ y.weight) ≡ d *ℤ (k *ℤ p.weight +ℤ l *ℤ q.weight)
-    → d *ℤ (k *ℤ turn x y p +ℤ l *ℤ turn x y q) ≡ pos 0
-unfolding same turn
+    → d *ℤ (k *ℤ spot_turn x y p +ℤ l *ℤ spot_turn x y q) ≡ pos 0
+unfolding same spot_turn
 turns_cancel' x y p q m n k l c d e f g =
     ring_given (var 17 ⊗ (var 14 ⊗ turnE X Y P ⊕ var 15 ⊗ turnE X Y Q)) (num (pos 0))
     (given (neg (X.second ⊗ Y.weight ⊖ X.weight ⊗ Y.second)) (var 16 ⊗ (var 12 ⊗ X.first ⊕ var 13 ⊗ Y.first)) (var 17 ⊗ (var 14 ⊗ P.first ⊕ var 15 ⊗ Q.first))
@@ -50,16 +50,16 @@ turns_cancel' x y p q m n k l c d e f g =
 
 -- the signs of the other two turns
 pub other_signs : (x y p q : Spot) (k l : ℤ) → pos 0 <ℤ x.weight → pos 0 <ℤ y.weight → p.weight ≡ pos 1 → q.weight ≡ pos 1 → pos 0 <ℤ k → pos 0 <ℤ l
-    → pos 0 <ℤ turn x p q → turn y p q <ℤ pos 0 → k *ℤ turn x y p +ℤ l *ℤ turn x y q ≡ pos 0
-    → (turn x y p <ℤ pos 0) × (pos 0 <ℤ turn x y q)
+    → pos 0 <ℤ spot_turn x p q → spot_turn y p q <ℤ pos 0 → k *ℤ spot_turn x y p +ℤ l *ℤ spot_turn x y q ≡ pos 0
+    → (spot_turn x y p <ℤ pos 0) × (pos 0 <ℤ spot_turn x y q)
 unfolding same
 other_signs x y p q k l wx wy wp wq hk hl a b e =
-    let above = more (turn y p q) (turn x p q) x.weight y.weight b a wx wy in
-    let sum = one (turn x y q) (turn x y p) p.weight q.weight _ wp wq (weight-joined x y p q) in
-    by_sign (turn x y p)
+    let above = more (spot_turn y p q) (spot_turn x p q) x.weight y.weight b a wx wy in
+    let sum = one (spot_turn x y q) (spot_turn x y p) p.weight q.weight _ wp wq (weight-joined x y p q) in
+    by_sign (spot_turn x y p)
     (λ n. (n, opposite_neg k l _ _ hk hl e n))
-    (λ z. absurd (flat (turn x y q) (turn x y p) _ (opposite_zero k l _ _ hk hl e z) z sum above))
-    (λ g. absurd (wrong (turn x y q) (turn x y p) _ (opposite_pos k l _ _ hk hl e g) g sum above))
+    (λ z. absurd (flat (spot_turn x y q) (spot_turn x y p) _ (opposite_zero k l _ _ hk hl e z) z sum above))
+    (λ g. absurd (wrong (spot_turn x y q) (spot_turn x y p) _ (opposite_pos k l _ _ hk hl e g) g sum above))
   where
     more : (m n v w : ℤ) → m <ℤ pos 0 → pos 0 <ℤ n → pos 0 <ℤ v → pos 0 <ℤ w → pos 0 <ℤ (neg_ℤ m *ℤ v +ℤ n *ℤ w)
     more m n v w hm hn hv hw = omega (arith, ints, mul_pos (neg_ℤ m) v (omega (arith, ints)) hv, mul_pos n w hn hw)

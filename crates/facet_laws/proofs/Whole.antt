@@ -15,9 +15,9 @@ use Rattle.geo_laws.specs.declared.complex.Piece.{Piece}
 use Rattle.geo_laws.specs.declared.complex.FacetTriangle.{FacetTriangle}
 use Rattle.geo_laws.proofs.Corners.{contains_below}
 use Rattle.geo_laws.proofs.Members.{IsMember, contains_of, member_of}
-use Rattle.facet_laws.specs.Circle.{triangle, IsCircle, IsCircleAmong, LiesInPlane}
+use Rattle.facet_laws.specs.Circle.{circle_triangle, IsCircle, IsCircleAmong, LiesInPlane}
 use Rattle.facet_laws.specs.Inner.{IsInnerSide}
-use Rattle.facet_laws.specs.Legs.{IsBetween, IsClear, dropped}
+use Rattle.facet_laws.specs.Legs.{IsWeightedMean, IsClear, dropped}
 use Rattle.facet_laws.specs.Region.{IsOnPieces, IsPieced, ConstantLaw}
 use Rattle.facet_laws.proofs.Chains.{all_at, all_both, all_sides}
 use Rattle.facet_laws.proofs.Circles.{Shape, shape_of, among_all, in_or_not}
@@ -121,13 +121,13 @@ pub inside_off : {ns : List ℕ} (ps : List Point) (f : Triangle) (facet : Facet
 inside_off {ns} ps f facet t y sf h p inside = all_map (λ q. AllByRecursion (OffEdge ps f facet ns y q) (sides q)) (λ q. AllByRecursion (λ s. is_on_piece ps s y ≡ false) (sides q)) (areas facet)
     (λ q. all_map (OffEdge ps f facet ns y q) (λ s. is_on_piece ps s y ≡ false) (sides q) (λ s e. untrue (is_on_piece ps s y) (λ on. one q s e (test_leg (point ps s.a) (point ps s.b) y inside.w on))))
   where
-    one : (q : List ℕ) (s : Piece) → OffEdge ps f facet ns y q s → IsBetween (as_rational (point ps s.a)) (as_rational (point ps s.b)) y → ⊥
+    one : (q : List ℕ) (s : Piece) → OffEdge ps f facet ns y q s → IsWeightedMean (as_rational (point ps s.a)) (as_rational (point ps s.b)) y → ⊥
     one q s (inl pieces) l = let o = pieces y inside.w l in not_on_piece ps f t y sf h p inside o.0 o.1 o.2
     one q s (inr i) l = i.1 (zero_of_mul l.total (side_rational i.0.inner.g y) l.some (side_zero ps i.0.inner.g s y i.0.inner.a_on i.0.inner.b_on l))
 
 -- an end of a side that x is not on is not on the leg
 end_off : {ns : List ℕ} (ps : List Point) (f : Triangle) (t : FacetTriangle) (x y : RationalPoint) (a b : ℕ) → SpansPlane f → IsCircleAmong ps ns t → LiesInPlane ps f t → pos 0 <ℤ x.w → InSimplex ps (corner_numbers t) x
-    → side_rational (triangle ps t) x ≡ pos 0 → IsInside ps t y → a < length ps → Contains ns a → side f (point ps a) ≡ pos 0 → ¬ IsBetween (as_rational (point ps a)) (as_rational (point ps b)) x → ¬ IsBetween x y (as_rational (point ps a))
+    → side_rational (circle_triangle ps t) x ≡ pos 0 → IsInside ps t y → a < length ps → Contains ns a → side f (point ps a) ≡ pos 0 → ¬ IsWeightedMean (as_rational (point ps a)) (as_rational (point ps b)) x → ¬ IsWeightedMean x y (as_rational (point ps a))
 end_off ps f t x y a b sf h p xw in_t flat inside below among a_flat off l =
     by_sign l.to_y (λ n. not_below l.to_y l.y_weighs n)
     (λ e. off (moved_leg (as_rational (point ps a)) (as_rational (point ps b)) x y (as_rational (point ps a)) xw one l e own))
@@ -142,7 +142,7 @@ end_off ps f t x y a b sf h p xw in_t flat inside below among a_flat off l =
     first : (u v : ℤ) → pos 1 *ℤ u +ℤ pos 0 *ℤ v ≡ pos 1 *ℤ u
     first u v = omega (arith, ints)
 
-    own : IsBetween (as_rational (point ps a)) (as_rational (point ps b)) (as_rational (point ps a))
+    own : IsWeightedMean (as_rational (point ps a)) (as_rational (point ps b)) (as_rational (point ps a))
     own = record {
       total = pos 1;
       to_x = pos 1;
@@ -156,12 +156,12 @@ end_off ps f t x y a b sf h p xw in_t flat inside below among a_flat off l =
       w_is = refl;
     }
 
-turned_back : (a b x : RationalPoint) → IsBetween a b x → IsBetween b a x
+turned_back : (a b x : RationalPoint) → IsWeightedMean a b x → IsWeightedMean b a x
 turned_back a b x l = leg_back a b x l
 
 -- so neither end of an inner side is
 pub ends_off : {ns : List ℕ} (ps : List Point) (f : Triangle) (facet : Facet) (t : FacetTriangle) (x y : RationalPoint) (q : List ℕ) (s : Piece) → SpansPlane f → IsCircleAmong ps ns t → LiesInPlane ps f t → pos 0 <ℤ x.w
-    → InSimplex ps (corner_numbers t) x → side_rational (triangle ps t) x ≡ pos 0 → IsInside ps t y → is_on_piece ps s x ≡ false → IsInnerAmong ps f facet ns q s → IsOffLeg ps x y s
+    → InSimplex ps (corner_numbers t) x → side_rational (circle_triangle ps t) x ≡ pos 0 → IsInside ps t y → is_on_piece ps s x ≡ false → IsInnerAmong ps f facet ns q s → IsOffLeg ps x y s
 ends_off ps f facet t x y q s sf h p xw in_t flat inside off i = record {
   a_off = end_off ps f t x y s.a s.b sf h p xw in_t flat inside i.a_below i.a_among a_flat (no_leg ps x s off);
   b_off = end_off ps f t x y s.b s.a sf h p xw in_t flat inside i.b_below i.b_among b_flat (λ l. no_leg ps x s off (turned_back (as_rational (point ps s.b)) (as_rational (point ps s.a)) x l));
@@ -178,7 +178,7 @@ ends_off ps f facet t x y q s sf h p xw in_t flat inside off i = record {
 
 -- each side is clear of the leg from x, or passed through
 pub decide : {ns : List ℕ} (ps : List Point) (f : Triangle) (facet : Facet) (t : FacetTriangle) (x y : RationalPoint) → SpansPlane f → IsCircleAmong ps ns t → LiesInPlane ps f t → pos 0 <ℤ x.w → InSimplex ps (corner_numbers t) x
-    → side_rational (triangle ps t) x ≡ pos 0 → IsInside ps t y → AreOff ps facet x → AreOffEdges ps f facet ns y (areas facet) → AreDecided ps f facet x y
+    → side_rational (circle_triangle ps t) x ≡ pos 0 → IsInside ps t y → AreOff ps facet x → AreOffEdges ps f facet ns y (areas facet) → AreDecided ps f facet x y
 decide {ns} ps f facet t x y sf h p xw in_t flat inside x_off edges =
     all_both (λ q. AllByRecursion (λ s. is_on_piece ps s x ≡ false) (sides q)) (λ q. AllByRecursion (OffEdge ps f facet ns y q) (sides q)) (λ q. AllByRecursion (Status ps f facet x y q) (sides q)) (areas facet)
     (λ q. all_both (λ s. is_on_piece ps s x ≡ false) (OffEdge ps f facet ns y q) (Status ps f facet x y q) (sides q) (λ s off e. one q s off e)) x_off edges
@@ -231,7 +231,7 @@ leg_same ps f facet axis x y steep flat xw yw fx fy x_off y_off decided = go (th
 
 -- and where it leads through a point on a side, both are within
 pub leg_through : (ps : List Point) (f : Triangle) (facet : Facet) (axis : Axis) (x y m : RationalPoint) → dropped axis (normal f) ≢ pos 0 → pos 0 <ℤ x.w → pos 0 <ℤ y.w → pos 0 <ℤ m.w → side_rational f x ≡ pos 0 → side_rational f y ≡ pos 0
-    → AreOff ps facet x → AreOff ps facet y → AreDecided ps f facet x y → IsBetween x y m → is_on_side ps facet m ≡ true → is_within ps axis facet y ≡ true
+    → AreOff ps facet x → AreOff ps facet y → AreDecided ps f facet x y → IsWeightedMean x y m → is_on_side ps facet m ≡ true → is_within ps axis facet y ≡ true
 leg_through ps f facet axis x y m steep xw yw mw fx fy x_off y_off decided l on = go (through ps f facet axis x y steep xw yw fx fy x_off y_off decided)
   where
     never : true ≡ false → ⊥
@@ -248,7 +248,7 @@ leg_through ps f facet axis x y m steep xw yw mw fx fy x_off y_off decided l on 
 -- the plane of an inner side is off a corner of the triangle
 pub plane_off : {ns : List ℕ} (ps : List Point) (f : Triangle) (facet : Facet) (t : FacetTriangle) (q : List ℕ) (s : Piece) → SpansPlane f → IsCircleAmong ps ns t → LiesInPlane ps f t → (i : IsInnerAmong ps f facet ns q s) → HasOff ps t i.inner.g
 plane_off ps f facet t q s sf c p i = corner_off ps t i.inner.g (point ps i.inner.off) (shape_of ps t c)
-    (point_to_triangle f (triangle ps t) (point ps i.inner.off) sf (within ps f t p)
+    (point_to_triangle f (circle_triangle ps t) (point ps i.inner.off) sf (within ps f t p)
     (all_at (λ k. (side f (point ps k) ≡ pos 0) × (pos 0 ≤ℤ side i.inner.g (point ps k))) i.inner.off q i.inner.beside (member_of q i.inner.off i.inner.off_is)).0)
     (above_not_zero _ i.inner.off_line)
   where
@@ -287,14 +287,14 @@ constant_among {ns} ps facet f axis t sf steep h c p x xw in_t off = from_x x xw
     y_off : AreOff ps facet g.0
     y_off = inside_off ps f facet t g.0 sf c p g.1 y_edges
 
-    in_plane : (z : RationalPoint) → side_rational (triangle ps t) z ≡ pos 0 → side_rational f z ≡ pos 0
-    in_plane z e = from_triangle f (triangle ps t) z sf c.spans (within ps f t p) e
+    in_plane : (z : RationalPoint) → side_rational (circle_triangle ps t) z ≡ pos 0 → side_rational f z ≡ pos 0
+    in_plane z e = from_triangle f (circle_triangle ps t) z sf c.spans (within ps f t p) e
 
     from_x : (x : RationalPoint) → pos 0 <ℤ x.w → InSimplex ps (corner_numbers t) x → is_on_side ps facet x ≡ false → is_within ps axis facet x ≡ is_within ps axis facet g.0
     from_x x xw in_t off =
         let flat_f : side_rational f x ≡ pos 0 = side-zero ps f (corner_numbers t) in_t.0 x in_t.1 (corner_plane ps f t p) in
         leg_same ps f facet axis x g.0 steep flat xw g.1.w flat_f (in_plane g.0 g.1.flat) (are_off ps facet x off) y_off
-        (decide ps f facet t x g.0 sf c p xw in_t (to_triangle f (triangle ps t) x sf (within ps f t p) flat_f) g.1 (are_off ps facet x off) y_edges)
+        (decide ps f facet t x g.0 sf c p xw in_t (to_triangle f (circle_triangle ps t) x sf (within ps f t p) flat_f) g.1 (are_off ps facet x off) y_edges)
 
     m_inside : IsInside ps t (middle ps t)
     m_inside = middle_is_inside ps t shape

@@ -7,11 +7,11 @@ use Rattle.geo_laws.specs.Delaunay.{point}
 use Rattle.geo_laws.specs.Segment.{sides, same_ends}
 use Rattle.geo_laws.specs.Facet.{Facet, areas}
 use Rattle.geo_laws.specs.declared.complex.Piece.{Piece}
-use Rattle.facet_laws.specs.Legs.{IsBetween}
+use Rattle.facet_laws.specs.Legs.{IsWeightedMean}
 
 -- no point between a and b lies strictly between c and d
 abbrev pub IsOffInside : Point → Point → Point → Point → Type 0
-IsOffInside a b c d = EachRational (λ z. IsBetween (as_rational a) (as_rational b) z → (l : IsBetween (as_rational c) (as_rational d) z)
+IsOffInside a b c d = EachRational (λ z. IsWeightedMean (as_rational a) (as_rational b) z → (l : IsWeightedMean (as_rational c) (as_rational d) z)
     → pos 0 <ℤ l.to_x → ¬ (pos 0 <ℤ l.to_y))
 
 -- the polygon has the side at one place, and none of its other sides passes through a point of it

@@ -7,7 +7,7 @@ use Rattle.geo_laws.specs.Delaunay.{point}
 use Rattle.geo_laws.specs.Segment.{sides, same_ends}
 use Rattle.geo_laws.specs.Facet.{Facet, Axis, areas, is_round, is_within, is_on_piece}
 use Rattle.geo_laws.specs.declared.complex.Piece.{Piece}
-use Rattle.facet_laws.specs.Legs.{IsBetween, IsClear, dropped}
+use Rattle.facet_laws.specs.Legs.{IsWeightedMean, IsClear, dropped}
 use Rattle.facet_laws.specs.Parity.{xor}
 
 -- the plane g holds the side from a to b, and the leg passes through it where it passes through the side, at no end of it
@@ -20,8 +20,8 @@ pub record PassesThrough (x y : RationalPoint) (a b : Point) : Type 0 where
   pub ends : a ≢ b
   pub at : RationalPoint
   pub weight : pos 0 <ℤ at.w
-  pub leg : IsBetween x y at
-  pub part : IsBetween (as_rational a) (as_rational b) at
+  pub leg : IsWeightedMean x y at
+  pub part : IsWeightedMean (as_rational a) (as_rational b) at
   pub a_weighs : pos 0 <ℤ part.to_x
   pub b_weighs : pos 0 <ℤ part.to_y
 
@@ -89,18 +89,18 @@ InnerSideLaw = (ps : List Point) (facet : Facet) (f : Triangle) (axis : Axis) (p
 abbrev pub LeftOnceLaw : Type 0
 LeftOnceLaw = (a b c d : Point) → EachRational (λ x. EachRational (λ y. (h : PassesThrough x y a b) (k : PassesThrough x y c d)
     → pos 0 ≤ℤ side k.g a → pos 0 ≤ℤ side k.g b → pos 0 ≤ℤ side h.g c → pos 0 ≤ℤ side h.g d
-    → IsBetween (as_rational a) (as_rational b) k.at × IsBetween (as_rational c) (as_rational d) k.at))
+    → IsWeightedMean (as_rational a) (as_rational b) k.at × IsWeightedMean (as_rational c) (as_rational d) k.at))
 
 -- Another side of a polygon that the leg leaves through a side s: the leg has no common point with it, or passes through it where it has
 -- none with s, with the polygon on the hand of its start, or on the other hand and then not before it passes through s
-pub data IsOther (ps : List Point) (f : Triangle) (polygon : List ℕ) (x y : RationalPoint) (s r : Piece) (h : PassesThrough x y (point ps s.a) (point ps s.b)) : Type 0 where
-  missed : IsClear x y (point ps r.a) (point ps r.b) → IsOther ps f polygon x y s r h
+pub data IsOtherSide (ps : List Point) (f : Triangle) (polygon : List ℕ) (x y : RationalPoint) (s r : Piece) (h : PassesThrough x y (point ps s.a) (point ps s.b)) : Type 0 where
+  missed : IsClear x y (point ps r.a) (point ps r.b) → IsOtherSide ps f polygon x y s r h
   left : (k : PassesThrough x y (point ps r.a) (point ps r.b)) → LiesBeside ps f k.g polygon
-      → ¬ IsBetween (as_rational (point ps s.a)) (as_rational (point ps s.b)) k.at
-      → IsOther ps f polygon x y s r h
+      → ¬ IsWeightedMean (as_rational (point ps s.a)) (as_rational (point ps s.b)) k.at
+      → IsOtherSide ps f polygon x y s r h
   entered : (k : PassesThrough y x (point ps r.a) (point ps r.b)) → LiesBeside ps f k.g polygon
-      → ¬ IsBetween (as_rational (point ps s.a)) (as_rational (point ps s.b)) k.at
-      → (h.leg.to_y *ℤ k.leg.to_y) ≤ℤ (h.leg.to_x *ℤ k.leg.to_x) → IsOther ps f polygon x y s r h
+      → ¬ IsWeightedMean (as_rational (point ps s.a)) (as_rational (point ps s.b)) k.at
+      → (h.leg.to_y *ℤ k.leg.to_y) ≤ℤ (h.leg.to_x *ℤ k.leg.to_x) → IsOtherSide ps f polygon x y s r h
 
 -- A polygon on the hand of a leg's start of the first side that the leg passes through is round the start: whatever other sides of it the
 -- leg might pass through, it passes through none
@@ -109,6 +109,6 @@ FirstSideLaw = (ps : List Point) (f : Triangle) (axis : Axis) (polygon : List �
     → Contains polygon s.a → Contains polygon s.b
     → EachRational (λ x. side_rational f x ≡ pos 0 → EachRational (λ y. side_rational f y ≡ pos 0
     → (h : PassesThrough x y (point ps s.a) (point ps s.b)) → LiesBeside ps f h.g polygon → (count_by (same_ends s) (sides polygon) ≡ 1)
-    → AllByRecursion (λ r. same_ends s r ≡ false → IsOther ps f polygon x y s r h) (sides polygon)
+    → AllByRecursion (λ r. same_ends s r ≡ false → IsOtherSide ps f polygon x y s r h) (sides polygon)
     → AllByRecursion (λ r. is_on_piece ps r y ≡ false) (sides polygon)
     → (is_round ps axis polygon x ≡ true) × (is_round ps axis polygon y ≡ false)))

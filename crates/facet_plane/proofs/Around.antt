@@ -10,16 +10,17 @@ use Rattle.box_tree.proofs.Trees.{last_is}
 use Rattle.facet_plane.proofs.Boxed.{apart_met, never_crossed, between_crossed, level_beyond}
 use Rattle.facet_plane.proofs.Runs.{block_at, blocks_for, held_more}
 use Rattle.facet_plane.proofs.Skips.{any_skip, odd_skip, odd_between, drop_at, drop_past, odd_around, odd_none, any_none, same_xor, around_sides}
-use Rattle.facet_plane.specs.Beyond.{IsBeyond, Tells}
+use Rattle.facet_plane.specs.Beyond.{IsBeyondBoth, Tells}
 use Rattle.facet_plane.specs.Blocks.{IsHeld, HoldsBox, AreBlocks, HoldsBetween}
-use Rattle.facet_plane.specs.Outline.{ends, IsChain, side_meets, side_crosses, is_under, HoldsSide, HoldsSides, AreBoxesTo, IsBlocked}
-use Rattle.facet_plane.specs.Walk.{xor, is_odd}
+use Rattle.facet_plane.specs.Outline.{side_between, IsChain, side_meets, side_crosses, is_under, HoldsSide, HoldsSides, AreBoxesTo, IsBlocked}
+use Rattle.facet_plane.specs.Walk.{is_odd}
 use Rattle.facet_plane.specs.declared.blocks.Extent.{Extent}
 use Rattle.facet_plane.specs.declared.blocks.Block.{Block}
 use Rattle.facet_plane.specs.declared.outline.Side.{Side}
 use Rattle.facet_plane.specs.declared.outline.Outline.{Outline}
 use Rattle.facet_plane.specs.declared.outline.Reach.{Reach}
 use Rattle.facet_plane.specs.declared.outline.Crossing.TheVariants.{Never, Between}
+use Rattle.facet_laws.specs.Parity.{xor}
 
 -- ---- the next item
 
@@ -53,7 +54,7 @@ odd_past test xs i odd l = sym (ap (λ ys. xor odd (is_odd test ys)) (drop_past 
 -- ---- a block
 
 pub any_apart : (reach : Reach) (axis : Axis) (x : RationalPoint) (o : Outline) (i : ℕ) (b : Block) → IsBlocked o → i < length o.sides → HoldsAt (λ c. c ≡ b) o.blocks i
-    → IsBeyond axis (from_to_rational b.extent.low x) (from_to_rational b.extent.high x) → list_any (side_meets reach axis x) (drop i o.sides) ≡ list_any (side_meets reach axis x) (drop b.past o.sides)
+    → IsBeyondBoth axis (from_to_rational b.extent.low x) (from_to_rational b.extent.high x) → list_any (side_meets reach axis x) (drop i o.sides) ≡ list_any (side_meets reach axis x) (drop b.past o.sides)
 any_apart reach axis x o i b h l at far =
     let k = block_at (HoldsSide o.sides) (length o.sides) i o.blocks b h.blocks l at in
     let n = k.onward in
@@ -112,11 +113,11 @@ side_held ss boxes j f h l k d =
 
 -- ---- a whole outline that a point is beyond
 
-pub none_met : (reach : Reach) (axis : Axis) (x : RationalPoint) (ss : List Side) (e : Extent) → HoldsSides ss e → IsBeyond axis (from_to_rational e.low x) (from_to_rational e.high x) → list_any (side_meets reach axis x) ss ≡ false
+pub none_met : (reach : Reach) (axis : Axis) (x : RationalPoint) (ss : List Side) (e : Extent) → HoldsSides ss e → IsBeyondBoth axis (from_to_rational e.low x) (from_to_rational e.high x) → list_any (side_meets reach axis x) ss ≡ false
 none_met reach axis x ss e h far = any_none (side_meets reach axis x) ss (λ j d l. (let q = h j l d in apart_met reach axis e (get_or ss j d) x q.0 q.1 far))
 
 -- the sides lead round, so an even number of them crosses the ray
-pub none_round : (axis : Axis) (x : RationalPoint) (o : Outline) (e : Extent) → IsBlocked o → HoldsSides o.sides e → IsBeyond axis (from_to_rational e.low x) (from_to_rational e.high x) → is_odd (side_crosses axis x) o.sides ≡ false
+pub none_round : (axis : Axis) (x : RationalPoint) (o : Outline) (e : Extent) → IsBlocked o → HoldsSides o.sides e → IsBeyondBoth axis (from_to_rational e.low x) (from_to_rational e.high x) → is_odd (side_crosses axis x) o.sides ≡ false
 none_round axis x o e b h far = go far
   where
     never : Tells axis (from_to_rational e.low x) (from_to_rational e.high x) Never → is_odd (side_crosses axis x) o.sides ≡ false
@@ -128,14 +129,14 @@ none_round axis x o e b h far = go far
         (λ j d l. (let q = h j l d in between_crossed axis e (get_or o.sides j d) x q.0 q.1 t))
         ∙ same_xor (is_under axis x b.around.0) (is_under axis x b.around.0) refl
 
-    go : IsBeyond axis (from_to_rational e.low x) (from_to_rational e.high x) → is_odd (side_crosses axis x) o.sides ≡ false
+    go : IsBeyondBoth axis (from_to_rational e.low x) (from_to_rational e.high x) → is_odd (side_crosses axis x) o.sides ≡ false
     go (inl (inl k)) = never (inr k)
     go (inl (inr k)) = between k
     go (inr k) = never (inl (level_beyond _ _ k))
 
 -- ---- an outline
 
-pub outline_blocked : (ps : List Point) (polygon : List ℕ) (o : Outline) (boxes : List Extent) → o.sides ≡ map (ends ps) (sides polygon) → AreBoxesTo o.sides (length o.sides) boxes
+pub outline_blocked : (ps : List Point) (polygon : List ℕ) (o : Outline) (boxes : List Extent) → o.sides ≡ map (side_between ps) (sides polygon) → AreBoxesTo o.sides (length o.sides) boxes
     → AreBlocks (HoldsBox boxes) (length boxes) o.blocks → HoldsBetween (HoldsBox boxes) 0 (length boxes) o.extent → IsBlocked o
 outline_blocked ps polygon o boxes e h b w = record {
   around = subst (λ ss. (p : Point) × IsChain p ss p) (sym e) (around_sides ps polygon);

@@ -12,15 +12,15 @@ use Rattle.geo_laws.proofs.Members.{both_true}
 use Rattle.facet_laws.proofs.OnPiece.{zero_test, at_most_test}
 use Rattle.facet_laws.proofs.Products.{neg_neg_lt}
 use Rattle.facet_laws.proofs.SideLaw.{at_least_test, is_at_least, below_test, above_test, is_above, under_test, is_under as under_is, alike}
-use Rattle.facet_plane.specs.Beyond.{AreBeyond, IsBeyond, Tells}
+use Rattle.facet_plane.specs.Beyond.{AreBeyond, IsBeyondBoth, Tells}
 use Rattle.facet_plane.specs.Blocks.{IsHeld}
 use Rattle.facet_plane.specs.Outline.{side_meets, side_crosses, is_under}
-use Rattle.facet_plane.specs.Walk.{xor}
 use Rattle.facet_plane.specs.declared.blocks.Extent.{Extent}
 use Rattle.facet_plane.specs.declared.outline.Side.{Side}
 use Rattle.facet_plane.specs.declared.outline.Reach.{Reach}
 use Rattle.facet_plane.specs.declared.outline.Reach.TheVariants.{On, Over}
 use Rattle.facet_plane.specs.declared.outline.Crossing.TheVariants.{Never, Between}
+use Rattle.facet_laws.specs.Parity.{xor}
 
 -- ---- a point of a box
 
@@ -88,8 +88,8 @@ beyond_amid a b s t (inl h) m n = inl (above_amid a b s h.0 h.1 m, above_amid a 
 beyond_amid a b s t (inr h) m n = inr (under_amid a b s h.0 h.1 m, under_amid a b t h.0 h.1 n)
 
 -- a point beyond a box is beyond the ends of a side in it
-pub beyond_ends : (axis : Axis) (e : Extent) (p q : Point) (x : RationalPoint) → IsHeld e p → IsHeld e q → IsBeyond axis (from_to_rational e.low x) (from_to_rational e.high x)
-    → IsBeyond axis (from_to_rational p x) (from_to_rational q x)
+pub beyond_ends : (axis : Axis) (e : Extent) (p q : Point) (x : RationalPoint) → IsHeld e p → IsHeld e q → IsBeyondBoth axis (from_to_rational e.low x) (from_to_rational e.high x)
+    → IsBeyondBoth axis (from_to_rational p x) (from_to_rational q x)
 beyond_ends axis e p q x h k (inl b) = inl (beyond_amid _ _ _ _ b (first_amid axis e p x h) (first_amid axis e q x k))
 beyond_ends axis e p q x h k (inr b) = inr (beyond_amid _ _ _ _ b (second_amid axis e p x h) (second_amid axis e q x k))
 
@@ -145,7 +145,7 @@ not_true false h = refl
 clash : (z : ℤ) → pos 0 <ℤ z → z ≤ℤ pos 0 → ⊥
 clash z h k = omega (arith, ints)
 
-pub beyond_over : (axis : Axis) (u v : Point) → IsBeyond axis u v → is_zero (cross_of_two axis u v) && int_le (dot_of_two axis u v) (pos 0) ≡ false
+pub beyond_over : (axis : Axis) (u v : Point) → IsBeyondBoth axis u v → is_zero (cross_of_two axis u v) && int_le (dot_of_two axis u v) (pos 0) ≡ false
 beyond_over axis u v h = not_true _ (λ e. (let q = both_true (is_zero (cross_of_two axis u v)) (int_le (dot_of_two axis u v) (pos 0)) e in clash (dot_of_two axis u v) (over_above (first_of_two axis u) (first_of_two axis v) (second_of_two axis u) (second_of_two axis v) h (zero_test _ q.0)) (at_most_test _ q.1)))
 
 -- ---- and in space
@@ -172,7 +172,7 @@ y_above u v h f = sum_above _ _ _ (inr (inl (other_above u.y v.y u.x v.x h (flip
 z_above : (u v : Point) → AreBeyond u.z v.z → IsFlat u v → pos 0 <ℤ dot u v
 z_above u v h f = sum_above _ _ _ (inr (inr (other_above u.z v.z u.x v.x h f.zx, other_above u.z v.z u.y v.y h (flipped u.y v.z u.z v.y f.yz), product_above u.z v.z h)))
 
-on_above : (axis : Axis) (u v : Point) → IsBeyond axis u v → IsFlat u v → pos 0 <ℤ dot u v
+on_above : (axis : Axis) (u v : Point) → IsBeyondBoth axis u v → IsFlat u v → pos 0 <ℤ dot u v
 on_above DropX u v (inl h) f = y_above u v h f
 on_above DropX u v (inr h) f = z_above u v h f
 on_above DropY u v (inl h) f = x_above u v h f
@@ -186,7 +186,7 @@ flat_of u v e =
     let r = both_true _ _ q.0 in
     record { yz = zero_test _ r.0; zx = zero_test _ r.1; xy = zero_test _ q.1 }
 
-pub beyond_on : (axis : Axis) (u v : Point) → IsBeyond axis u v → is_zero_vector (cross u v) && int_le (dot u v) (pos 0) ≡ false
+pub beyond_on : (axis : Axis) (u v : Point) → IsBeyondBoth axis u v → is_zero_vector (cross u v) && int_le (dot u v) (pos 0) ≡ false
 beyond_on axis u v h = not_true _ (λ e. (let q = both_true (is_zero_vector (cross u v)) (int_le (dot u v) (pos 0)) e in clash (dot u v) (on_above axis u v h (flat_of u v q.0)) (at_most_test _ q.1)))
 
 -- ---- crossings
@@ -273,7 +273,7 @@ before_yes axis u v h k = go (int_le (pos 0) (second_of_two axis u)) (int_le (po
 
 -- ---- sides in a box
 
-pub apart_met : (reach : Reach) (axis : Axis) (e : Extent) (s : Side) (x : RationalPoint) → IsHeld e s.from → IsHeld e s.to → IsBeyond axis (from_to_rational e.low x) (from_to_rational e.high x) → side_meets reach axis x s ≡ false
+pub apart_met : (reach : Reach) (axis : Axis) (e : Extent) (s : Side) (x : RationalPoint) → IsHeld e s.from → IsHeld e s.to → IsBeyondBoth axis (from_to_rational e.low x) (from_to_rational e.high x) → side_meets reach axis x s ≡ false
 apart_met On axis e s x h k b = beyond_on axis _ _ (beyond_ends axis e s.from s.to x h k b)
 apart_met Over axis e s x h k b = beyond_over axis _ _ (beyond_ends axis e s.from s.to x h k b)
 

@@ -30,7 +30,7 @@ use Rattle.box_tree.specs.declared.bounds.Bounds.{Bounds}
 use Rattle.box_tree.specs.declared.bounds.Interval.{Interval}
 use Rattle.box_tree.specs.declared.tree.Node.{Node}
 use Rattle.box_tree.specs.Bodies.{IsPointTree}
-use Rattle.box_tree.specs.Bounds.{IsIn, AreApart, AreBoundsApart, IsWithin, HoldsPoint}
+use Rattle.box_tree.specs.Bounds.{IsIn, AreDisjoint, AreBoundsApart, IsBoxWithin, HoldsPoint}
 use Rattle.box_tree.specs.Tree.{AreApartBetween}
 use Rattle.box_tree.proofs.Boxes.{held_larger, within_more, within_self}
 use Rattle.box_tree.proofs.Lists.{less_or_more, more_cases, in_more, in_last}
@@ -40,11 +40,11 @@ use Rattle.facet_plane.proofs.Polygons.{lists_next, lists_none}
 
 -- ---- boxes that grow
 
-all_wider : (ps : List Point) (b c : Bounds) (cs : List ℕ) → IsWithin b c → HoldsAll ps b cs → HoldsAll ps c cs
+all_wider : (ps : List Point) (b c : Bounds) (cs : List ℕ) → IsBoxWithin b c → HoldsAll ps b cs → HoldsAll ps c cs
 all_wider ps b c cs w h k d l = held_larger b c (point ps (slice_index_or cs k d)) w (h k d l)
 
 -- one corner more
-pub corner_more : (ps : List Point) (b p c : Bounds) (cs : List ℕ) (i : ℕ) → i < length cs → IsWithin b c → IsWithin p c
+pub corner_more : (ps : List Point) (b p c : Bounds) (cs : List ℕ) (i : ℕ) → i < length cs → IsBoxWithin b c → IsBoxWithin p c
     → HoldsPoint p (point ps (slice_index_or cs i 0)) → HoldsAll ps b (take i cs) → HoldsAll ps c (take (i + 1) cs)
 corner_more ps b p c cs i l w v h all =
     All-more (λ j. HoldsPoint c (point ps j)) cs i 0 l (all_wider ps b c (take i cs) w all)
@@ -53,11 +53,11 @@ corner_more ps b p c cs i l w v h all =
 -- whatever box has this one in it and holds the polygons from q on holds all polygons
 abbrev pub IsLeft : List Point → List Polygon → ℕ → ℕ → ℕ → Bounds → Type 0
 IsLeft ps polygons first past q bounds =
-    (b : Bounds) → IsWithin bounds b → HoldsAll ps b (flat_map (λ p. p) (lists_between polygons q past))
+    (b : Bounds) → IsBoxWithin bounds b → HoldsAll ps b (flat_map (λ p. p) (lists_between polygons q past))
     → HoldsAll ps b (flat_map (λ p. p) (lists_between polygons first past))
 
 pub polygon_more : (ps : List Point) (polygons : List Polygon) (first past q : ℕ) (cs : List ℕ) (b c : Bounds) → q < past
-    → past ≤ length polygons → HoldsAt (λ p. p.corners ≡ cs) polygons q → IsWithin b c → HoldsAll ps c cs
+    → past ≤ length polygons → HoldsAt (λ p. p.corners ≡ cs) polygons q → IsBoxWithin b c → HoldsAll ps c cs
     → IsLeft ps polygons first past q b → IsLeft ps polygons first past (q + 1) c
 polygon_more ps polygons first past q cs b c l h at w all left d wider rest =
     left d (within_more b c d w wider)
@@ -73,7 +73,7 @@ polygons_done ps polygons first past q b l left =
 
 -- ---- the points that the tree finds
 
-apart_never : (i j : Interval) (z : ℤ) → AreApart i j → IsIn i z → IsIn j z → ⊥
+apart_never : (i j : Interval) (z : ℤ) → AreDisjoint i j → IsIn i z → IsIn j z → ⊥
 apart_never i j z (inl h) p q = go i.high j.low h p.1 q.0
   where
     go : (a b : ℤ) → a <ℤ b → z ≤ℤ a → b ≤ℤ z → ⊥

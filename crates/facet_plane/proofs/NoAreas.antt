@@ -7,7 +7,7 @@ use Rattle.sign_predicates.specs.Orientation.{normal, side_rational}
 use Rattle.geo_laws.specs.Delaunay.{point}
 use Rattle.geo_laws.specs.Segment.{sides, is_zero}
 use Rattle.geo_laws.specs.Facet.{Facet, Axis, areas, plane, axis_of, is_on_piece, is_round, is_within}
-use Rattle.geo_laws.specs.Facet.{is_within_plane, in_region, keeps, centroid, is_facet_triangle, facet_triangles, threes}
+use Rattle.geo_laws.specs.Facet.{is_within_plane, in_region, keeps, triangle_centroid, is_facet_triangle, facet_triangles, threes}
 use Rattle.geo_laws.specs.declared.complex.FacetTriangle.{FacetTriangle}
 use Rattle.facet_laws.specs.Region.{through}
 use Rattle.facet_laws.proofs.Facets.{middle_of}
@@ -65,5 +65,5 @@ no_triangles ps number f e = none_kept (is_facet_triangle ps f) (threes number (
         go : (b : Bool) → is_facet_triangle ps f t ≡ b → b ≡ false
         go false k = refl
         go true k =
-            let x = centroid (point ps t.a) (point ps t.b) (point ps t.c) in
+            let x = triangle_centroid (point ps t.a) (point ps t.b) (point ps t.c) in
             absurd (never (sym (middle_of ps f t k) ∙ no_region ps f x (no_areas f.polygons e)))

@@ -13,11 +13,11 @@ use Rattle.facet_plane.proofs.Around.{none_met, none_round}
 use Rattle.facet_plane.proofs.Runs.{block_at, blocks_for, held_more}
 use Rattle.facet_plane.proofs.Skips.{any_skip, drop_at, drop_past}
 use Rattle.facet_plane.specs.Axes.{axis_is}
-use Rattle.facet_plane.specs.Beyond.{IsBeyond}
+use Rattle.facet_plane.specs.Beyond.{IsBeyondBoth}
 use Rattle.facet_plane.specs.Blocks.{HoldsBox, AreBlocks}
 use Rattle.facet_plane.specs.Corners.{lists_between}
 use Rattle.facet_plane.specs.Outline.{HoldsSides, IsBlocked, IsOutlineOf}
-use Rattle.facet_plane.specs.Prepared.{shape, shape_of, shape_meets, shape_round, places_of, HoldsOutline, AreExtentsTo, AreBlocked}
+use Rattle.facet_plane.specs.Prepared.{shape, shape_of, shape_meets, shape_round, passing_places, HoldsOutline, AreExtentsTo, AreBlocked}
 use Rattle.facet_plane.specs.Prepared.{outlines_meet, places_round, is_hole_at, AreHoles}
 use Rattle.facet_plane.proofs.Polygons.{lists_next}
 use Rattle.facet_plane.specs.declared.blocks.Extent.{Extent}
@@ -81,18 +81,18 @@ no_area : (b c : Bool) → c ≡ false → b && c ≡ false
 no_area true c e = e
 no_area false c e = refl
 
-shape_missed : (reach : Reach) (axis : Axis) (x : RationalPoint) (o : Outline) (e : Extent) → HoldsSides o.sides e → IsBeyond axis (from_to_rational e.low x) (from_to_rational e.high x) → shape_meets reach axis x (shape o) ≡ false
+shape_missed : (reach : Reach) (axis : Axis) (x : RationalPoint) (o : Outline) (e : Extent) → HoldsSides o.sides e → IsBeyondBoth axis (from_to_rational e.low x) (from_to_rational e.high x) → shape_meets reach axis x (shape o) ≡ false
 shape_missed On axis x o e h far = no_area o.is_area _ (none_met On axis x o.sides e h far)
 shape_missed Over axis x o e h far = none_met Over axis x o.sides e h far
 
-shape_off : (axis : Axis) (x : RationalPoint) (o : Outline) (e : Extent) → IsBlocked o → HoldsSides o.sides e → IsBeyond axis (from_to_rational e.low x) (from_to_rational e.high x) → shape_round axis x (shape o) ≡ false
+shape_off : (axis : Axis) (x : RationalPoint) (o : Outline) (e : Extent) → IsBlocked o → HoldsSides o.sides e → IsBeyondBoth axis (from_to_rational e.low x) (from_to_rational e.high x) → shape_round axis x (shape o) ≡ false
 shape_off axis x o e b h far = no_area o.is_area _ (none_round axis x o e b h far)
 
 pub ahead_of : (o : Outlines) (q : ℕ) (b : Block) → AreBlocked o → q < length o.each → HoldsAt (λ c. c ≡ b) o.blocks q → (q < b.past) × (b.past ≤ length o.each)
 ahead_of o q b h l at = let k = block_at (HoldsOutline o.each) (length o.each) q o.blocks b h.blocks l at in (k.onward, k.there)
 
 pub met_apart : (reach : Reach) (x : RationalPoint) (o : Outlines) (q : ℕ) (b : Block) (d : Outline) → AreBlocked o → q < length o.each → HoldsAt (λ c. c ≡ b) o.blocks q
-    → IsBeyond (axis_is o.axis) (from_to_rational b.extent.low x) (from_to_rational b.extent.high x)
+    → IsBeyondBoth (axis_is o.axis) (from_to_rational b.extent.low x) (from_to_rational b.extent.high x)
     → list_any (λ p. shape_meets reach (axis_is o.axis) x (shape p)) (drop q o.each) ≡ list_any (λ p. shape_meets reach (axis_is o.axis) x (shape p)) (drop b.past o.each)
 met_apart reach x o q b d h l at far =
     let k = block_at (HoldsOutline o.each) (length o.each) q o.blocks b h.blocks l at in
@@ -102,33 +102,33 @@ met_apart reach x o q b d h l at far =
 
 -- ---- places
 
-places_one : {X : Type 0} (test : X → Bool) (n : ℕ) (xs : List X) (m : ℕ) (d : X) → m ≤ length xs → ((j : ℕ) → j < m → test (get_or xs j d) ≡ false) → places_of test n xs ≡ places_of test (n + m) (drop m xs)
-places_one test n xs zero d l h = ap (λ k. places_of test k xs) (none n)
+places_one : {X : Type 0} (test : X → Bool) (n : ℕ) (xs : List X) (m : ℕ) (d : X) → m ≤ length xs → ((j : ℕ) → j < m → test (get_or xs j d) ≡ false) → passing_places test n xs ≡ passing_places test (n + m) (drop m xs)
+places_one test n xs zero d l h = ap (λ k. passing_places test k xs) (none n)
   where
     none : (n : ℕ) → n ≡ n + 0
     none n = omega arith
 places_one test n [] (suc m) d l h = absurd (omega arith)
 places_one test n (x ∷ xs) (suc m) d l h =
-    ap (λ b. cond b (n ∷ places_of test (n + 1) xs) (places_of test (n + 1) xs)) (h 0 (omega arith))
+    ap (λ b. cond b (n ∷ passing_places test (n + 1) xs) (passing_places test (n + 1) xs)) (h 0 (omega arith))
     ∙ places_one test (n + 1) xs m d (omega arith) (λ j k. h (suc j) (omega arith))
-    ∙ ap (λ k. places_of test k (drop m xs)) (more n m)
+    ∙ ap (λ k. passing_places test k (drop m xs)) (more n m)
   where
     more : (n m : ℕ) → n + 1 + m ≡ n + suc m
     more n m = omega arith
 
 pub places_skip : {X : Type 0} (test : X → Bool) (xs : List X) (i past : ℕ) (d : X) → i ≤ past → past ≤ length xs → ((j : ℕ) → i ≤ j → j < past → test (get_or xs j d) ≡ false)
-    → places_of test i (drop i xs) ≡ places_of test past (drop past xs)
+    → passing_places test i (drop i xs) ≡ passing_places test past (drop past xs)
 places_skip test xs i past d l m h =
     places_one test i (drop i xs) (past - i) d (let e = length-drop i xs in omega arith)
     (λ j k. subst (λ y. test y ≡ false) (sym (get_or-drop i xs j d)) (h (i + j) (omega arith) (omega arith)))
-    ∙ (λ t. places_of test (back i past l t) ((drop-drop (past - i) i xs ∙ ap (λ n. drop n xs) (back i past l)) t))
+    ∙ (λ t. passing_places test (back i past l t) ((drop-drop (past - i) i xs ∙ ap (λ n. drop n xs) (back i past l)) t))
   where
     back : (i past : ℕ) → i ≤ past → i + (past - i) ≡ past
     back i past l = omega arith
 
 pub places_apart : (x : RationalPoint) (o : Outlines) (q : ℕ) (b : Block) (d : Outline) → AreBlocked o → q < length o.each → HoldsAt (λ c. c ≡ b) o.blocks q
-    → IsBeyond (axis_is o.axis) (from_to_rational b.extent.low x) (from_to_rational b.extent.high x)
-    → places_of (λ p. shape_round (axis_is o.axis) x (shape p)) b.past (drop b.past o.each) ≡ places_of (λ p. shape_round (axis_is o.axis) x (shape p)) q (drop q o.each)
+    → IsBeyondBoth (axis_is o.axis) (from_to_rational b.extent.low x) (from_to_rational b.extent.high x)
+    → passing_places (λ p. shape_round (axis_is o.axis) x (shape p)) b.past (drop b.past o.each) ≡ passing_places (λ p. shape_round (axis_is o.axis) x (shape p)) q (drop q o.each)
 places_apart x o q b d h l at far =
     let k = block_at (HoldsOutline o.each) (length o.each) q o.blocks b h.blocks l at in
     let n = k.onward in
@@ -137,17 +137,17 @@ places_apart x o q b d h l at far =
     (λ j from to. shape_off (axis_is o.axis) x (get_or o.each j d) b.extent (h.each j d (omega arith)) (k.round j from to d) far))
 
 pub places_hit : {X : Type 0} (test : X → Bool) (xs : List X) (i : ℕ) (x : X) (found more : List ℕ) → i < length xs → HoldsAt (λ y. y ≡ x) xs i → test x ≡ true → more ≡ found ++ i ∷ []
-    → more ++ places_of test (i + 1) (drop (i + 1) xs) ≡ found ++ places_of test i (drop i xs)
+    → more ++ passing_places test (i + 1) (drop (i + 1) xs) ≡ found ++ passing_places test i (drop i xs)
 places_hit test xs i x found more l at e f =
-    ap (λ ps. ps ++ places_of test (i + 1) (drop (i + 1) xs)) f ∙ append_assoc found (i ∷ []) (places_of test (i + 1) (drop (i + 1) xs))
-    ∙ ap (λ ps. found ++ ps) (sym (ap (places_of test i) (drop_at xs i x l at) ∙ ap (λ b. cond b (i ∷ places_of test (i + 1) (drop (i + 1) xs)) (places_of test (i + 1) (drop (i + 1) xs))) e))
+    ap (λ ps. ps ++ passing_places test (i + 1) (drop (i + 1) xs)) f ∙ append_assoc found (i ∷ []) (passing_places test (i + 1) (drop (i + 1) xs))
+    ∙ ap (λ ps. found ++ ps) (sym (ap (passing_places test i) (drop_at xs i x l at) ∙ ap (λ b. cond b (i ∷ passing_places test (i + 1) (drop (i + 1) xs)) (passing_places test (i + 1) (drop (i + 1) xs))) e))
 
 pub places_miss : {X : Type 0} (test : X → Bool) (xs : List X) (i : ℕ) (x : X) → i < length xs → HoldsAt (λ y. y ≡ x) xs i → test x ≡ false
-    → places_of test (i + 1) (drop (i + 1) xs) ≡ places_of test i (drop i xs)
-places_miss test xs i x l at e = sym (ap (places_of test i) (drop_at xs i x l at) ∙ ap (λ b. cond b (i ∷ places_of test (i + 1) (drop (i + 1) xs)) (places_of test (i + 1) (drop (i + 1) xs))) e)
+    → passing_places test (i + 1) (drop (i + 1) xs) ≡ passing_places test i (drop i xs)
+places_miss test xs i x l at e = sym (ap (passing_places test i) (drop_at xs i x l at) ∙ ap (λ b. cond b (i ∷ passing_places test (i + 1) (drop (i + 1) xs)) (passing_places test (i + 1) (drop (i + 1) xs))) e)
 
-pub places_past : {X : Type 0} (test : X → Bool) (xs : List X) (i : ℕ) (found : List ℕ) → length xs ≤ i → found ≡ found ++ places_of test i (drop i xs)
-places_past test xs i found l = sym (ap (λ ys. found ++ places_of test i ys) (drop_past xs i l) ∙ none found)
+pub places_past : {X : Type 0} (test : X → Bool) (xs : List X) (i : ℕ) (found : List ℕ) → length xs ≤ i → found ≡ found ++ passing_places test i (drop i xs)
+places_past test xs i found l = sym (ap (λ ys. found ++ passing_places test i ys) (drop_past xs i l) ∙ none found)
   where
     none : (ys : List ℕ) → ys ++ [] ≡ ys
     none [] = refl

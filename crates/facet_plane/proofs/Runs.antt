@@ -8,7 +8,7 @@ use Rattle.box_tree.proofs.Lists.{less_or_more}
 use Rattle.box_tree.proofs.Trees.{last_is}
 use Rattle.sign_predicates.specs.Point.{Point, IsOnGrid}
 use Rattle.sign_predicates.proofs.Vectors.{grid_back}
-use Rattle.facet_plane.specs.Blocks.{IsBelow, IsHeld, IsPart, HoldsBox, HoldsBetween, IsBlock, AreBlocksTo, AreBlocks}
+use Rattle.facet_plane.specs.Blocks.{IsBelow, IsHeld, IsSubbox, HoldsBox, HoldsBetween, IsBlock, AreBlocksTo, AreBlocks}
 use Rattle.facet_plane.specs.declared.blocks.Extent.{Extent}
 use Rattle.facet_plane.specs.declared.blocks.Block.{Block}
 
@@ -24,13 +24,13 @@ below_self a = record { x = le a.x; y = le a.y; z = le a.z }
     le : (m : ℤ) → m ≤ℤ m
     le m = omega (arith, ints)
 
-pub part_self : (e : Extent) → IsPart e e
+pub part_self : (e : Extent) → IsSubbox e e
 part_self e = record { low = below_self e.low; high = below_self e.high }
 
-pub part_more : (e f g : Extent) → IsPart e f → IsPart f g → IsPart e g
+pub part_more : (e f g : Extent) → IsSubbox e f → IsSubbox f g → IsSubbox e g
 part_more e f g h k = record { low = below_more g.low f.low e.low k.low h.low; high = below_more e.high f.high g.high h.high k.high }
 
-pub held_more : (e f : Extent) (p : Point) → IsHeld e p → IsPart e f → IsHeld f p
+pub held_more : (e f : Extent) (p : Point) → IsHeld e p → IsSubbox e f → IsHeld f p
 held_more e f p h k = record { low = below_more f.low e.low p k.low h.low; high = below_more p e.high f.high h.high k.high }
 
 -- ---- the boxes of a run
@@ -38,14 +38,14 @@ held_more e f p h k = record { low = below_more f.low e.low p k.low h.low; high 
 pub run_first : (boxes : List Extent) (i : ℕ) (e : Extent) → HoldsAt (λ f. f ≡ e) boxes i → HoldsBetween (HoldsBox boxes) i (i + 1) e
 run_first boxes i e at j from to d =
     let k : j ≡ i = omega arith in
-    subst (λ f. IsPart f e) (sym (ap (λ n. get_or boxes n d) k ∙ at d)) (part_self e)
+    subst (λ f. IsSubbox f e) (sym (ap (λ n. get_or boxes n d) k ∙ at d)) (part_self e)
 
-pub run_next : (boxes : List Extent) (first i : ℕ) (e old new : Extent) → HoldsAt (λ f. f ≡ e) boxes i → HoldsBetween (HoldsBox boxes) first i old → IsPart old new → IsPart e new → HoldsBetween (HoldsBox boxes) first (i + 1) new
+pub run_next : (boxes : List Extent) (first i : ℕ) (e old new : Extent) → HoldsAt (λ f. f ≡ e) boxes i → HoldsBetween (HoldsBox boxes) first i old → IsSubbox old new → IsSubbox e new → HoldsBetween (HoldsBox boxes) first (i + 1) new
 run_next boxes first i e old new at h w v j from to d = go (less_or_more j i)
   where
-    go : (j < i) ⊎ ((j ≡ i) ⊎ (i < j)) → IsPart (get_or boxes j d) new
+    go : (j < i) ⊎ ((j ≡ i) ⊎ (i < j)) → IsSubbox (get_or boxes j d) new
     go (inl l) = part_more (get_or boxes j d) old new (h j from l d) w
-    go (inr (inl k)) = subst (λ f. IsPart f new) (sym (ap (λ n. get_or boxes n d) k ∙ at d)) v
+    go (inr (inl k)) = subst (λ f. IsSubbox f new) (sym (ap (λ n. get_or boxes n d) k ∙ at d)) v
     go (inr (inr g)) = absurd (omega arith)
 
 -- ---- blocks

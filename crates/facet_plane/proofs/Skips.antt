@@ -7,10 +7,11 @@ use Rattle.std.proofs.Math.Seq.{drop-cons}
 use Rattle.sign_predicates.specs.Point.{Point}
 use Rattle.geo_laws.specs.Delaunay.{point}
 use Rattle.geo_laws.specs.Segment.{sides, piece}
-use Rattle.facet_plane.specs.Outline.{ends, ends_of, IsChain}
-use Rattle.facet_plane.specs.Walk.{walk, xor, is_odd}
+use Rattle.facet_plane.specs.Outline.{side_between, sides_between, IsChain}
+use Rattle.facet_plane.specs.Walk.{walk, is_odd}
 use Rattle.facet_plane.specs.declared.outline.Side.{Side}
 use Rattle.facet_plane.proofs.Walks.{sides_walk}
+use Rattle.facet_laws.specs.Parity.{xor}
 
 -- ---- items that a function of a list passes over
 
@@ -142,22 +143,22 @@ any_none test (x ∷ xs) h = (λ j. h 0 x (omega arith) j || any_none test xs (�
 
 -- ---- the sides of a polygon are a chain
 
-chain_walk : (ps : List Point) (first p : ℕ) (qs : List ℕ) → IsChain (point ps p) (ends_of ps (walk first p qs)) (point ps first)
+chain_walk : (ps : List Point) (first p : ℕ) (qs : List ℕ) → IsChain (point ps p) (sides_between ps (walk first p qs)) (point ps first)
 chain_walk ps first p [] = go (p == first) refl
   where
-    go : (b : Bool) → (p == first) ≡ b → IsChain (point ps p) (map (ends ps) (cond (not b) (piece p first 0 ∷ []) [])) (point ps first)
+    go : (b : Bool) → (p == first) ≡ b → IsChain (point ps p) (map (side_between ps) (cond (not b) (piece p first 0 ∷ []) [])) (point ps first)
     go true e = ap (point ps) (eqb-true p first e)
     go false e = (refl, refl)
 chain_walk ps first p (q ∷ qs) = go (p == q) refl (chain_walk ps first q qs)
   where
-    go : (b : Bool) → (p == q) ≡ b → IsChain (point ps q) (ends_of ps (walk first q qs)) (point ps first)
-        → IsChain (point ps p) (map (ends ps) (cond (not b) (piece p q 0 ∷ filter (λ s. not (s.a == s.b)) (walk first q qs)) (filter (λ s. not (s.a == s.b)) (walk first q qs)))) (point ps first)
-    go true e h = subst (λ n. IsChain (point ps n) (ends_of ps (walk first q qs)) (point ps first)) (sym (eqb-true p q e)) h
+    go : (b : Bool) → (p == q) ≡ b → IsChain (point ps q) (sides_between ps (walk first q qs)) (point ps first)
+        → IsChain (point ps p) (map (side_between ps) (cond (not b) (piece p q 0 ∷ filter (λ s. not (s.a == s.b)) (walk first q qs)) (filter (λ s. not (s.a == s.b)) (walk first q qs)))) (point ps first)
+    go true e h = subst (λ n. IsChain (point ps n) (sides_between ps (walk first q qs)) (point ps first)) (sym (eqb-true p q e)) h
     go false e h = (refl, h)
 
-pub chain_sides : (ps : List Point) (p : ℕ) (qs : List ℕ) → IsChain (point ps p) (map (ends ps) (sides (p ∷ qs))) (point ps p)
-chain_sides ps p qs = subst (λ ss. IsChain (point ps p) (map (ends ps) ss) (point ps p)) (sym (sides_walk p qs)) (chain_walk ps p p qs)
+pub chain_sides : (ps : List Point) (p : ℕ) (qs : List ℕ) → IsChain (point ps p) (map (side_between ps) (sides (p ∷ qs))) (point ps p)
+chain_sides ps p qs = subst (λ ss. IsChain (point ps p) (map (side_between ps) ss) (point ps p)) (sym (sides_walk p qs)) (chain_walk ps p p qs)
 
-pub around_sides : (ps : List Point) (polygon : List ℕ) → (p : Point) × IsChain p (map (ends ps) (sides polygon)) p
+pub around_sides : (ps : List Point) (polygon : List ℕ) → (p : Point) × IsChain p (map (side_between ps) (sides polygon)) p
 around_sides ps [] = (point ps 0, refl)
 around_sides ps (p ∷ qs) = (point ps p, chain_sides ps p qs)

@@ -11,7 +11,7 @@ use Rattle.sign_predicates.specs.Orientation.{SpansPlane, cross, dot, normal, si
 use Rattle.geo_laws.specs.Complex.{Polygon, flat_facet}
 use Rattle.geo_laws.specs.Delaunay.{point}
 use Rattle.geo_laws.specs.Segment.{piece, sides, is_zero, is_zero_vector}
-use Rattle.geo_laws.specs.Facet.{Facet, Axis, DropX, DropY, DropZ, first_of_two, second_of_two, cross_of_two, crosses_ray, is_on_piece, is_on_side, is_round, axis_of, in_region, centroid, corner_numbers, facet_triangles}
+use Rattle.geo_laws.specs.Facet.{Facet, Axis, DropX, DropY, DropZ, first_of_two, second_of_two, cross_of_two, crosses_ray, is_on_piece, is_on_side, is_round, axis_of, in_region, triangle_centroid, corner_numbers, facet_triangles}
 use Rattle.geo_laws.specs.declared.complex.Facet.{Facet as StoredFacet}
 use Rattle.geo_laws.specs.declared.complex.Piece.{Piece}
 use Rattle.geo_laws.specs.declared.complex.FacetTriangle.{FacetTriangle}
@@ -19,7 +19,7 @@ use Rattle.geo_laws.proofs.Ascending.{rises-same, none, more}
 use Rattle.geo_laws.proofs.Members.{IsMember, here, there, in_cons, contains_of, member_of, both_true}
 use Rattle.geo_laws.proofs.Simplices.{corner_in}
 use Rattle.facet_laws.specs.Legs.{dropped}
-use Rattle.facet_laws.specs.Region.{IsProtected, IsFacetTriangle, through, TriangleBefore}
+use Rattle.facet_laws.specs.Region.{IsFacetProtected, IsFacetTriangle, through, CornersBefore}
 use Rattle.facet_laws.proofs.Circles.{triangle_below}
 use Rattle.facet_laws.proofs.FacetRows.{never_both}
 use Rattle.facet_laws.proofs.Facets.{steep, plane_spans, region_is, law_triangle_inside, law_region_cover}
@@ -99,7 +99,7 @@ back_of : (m n : ℤ) → pos 3 *ℤ (m -ℤ n) ≡ pos 0 → n -ℤ m ≡ pos 0
 back_of m n e = omega (arith, ints)
 
 spokes : (axis : Axis) (a b c : Point) → dropped axis (normal (record { a = a; b = b; c = c })) ≢ pos 0
-    → Spokes axis (from_to_rational a (centroid a b c)) (from_to_rational b (centroid a b c)) (from_to_rational c (centroid a b c))
+    → Spokes axis (from_to_rational a (triangle_centroid a b c)) (from_to_rational b (triangle_centroid a b c)) (from_to_rational c (triangle_centroid a b c))
 spokes DropX a b c off = record {
   turn = turn_of a.y a.z b.y b.z c.y c.z;
   first = from_a a.y a.z b.y b.z c.y c.z;
@@ -248,8 +248,8 @@ off_side axis u v turn e some = not_true _ (λ t. some (sym e ∙ flat_cross axi
 
 -- what is known of the centroid of the corners
 record IsMiddle (ps : List Point) (axis : Axis) (p : ℕ × ℕ × ℕ) : Type 0 where
-  off : is_on_side ps (three_cornered p) (centroid (point ps p.0) (point ps p.1) (point ps p.2)) ≡ false
-  round : is_round ps axis (p.0 ∷ p.1 ∷ p.2 ∷ []) (centroid (point ps p.0) (point ps p.1) (point ps p.2)) ≡ true
+  off : is_on_side ps (three_cornered p) (triangle_centroid (point ps p.0) (point ps p.1) (point ps p.2)) ≡ false
+  round : is_round ps axis (p.0 ∷ p.1 ∷ p.2 ∷ []) (triangle_centroid (point ps p.0) (point ps p.1) (point ps p.2)) ≡ true
 
 middle_is : (ps : List Point) (axis : Axis) (p : ℕ × ℕ × ℕ) → dropped axis (normal (through ps p)) ≢ pos 0 → IsMiddle ps axis p
 middle_is ps axis p over = record {
@@ -258,7 +258,7 @@ middle_is ps axis p over = record {
 }
   where
     x : RationalPoint
-    x = centroid (point ps p.0) (point ps p.1) (point ps p.2)
+    x = triangle_centroid (point ps p.0) (point ps p.1) (point ps p.2)
 
     u : ℕ → Point
     u i = from_to_rational (point ps i) x
@@ -284,7 +284,7 @@ middle_is ps axis p over = record {
 -- ---- the triangles
 
 -- each triangle of the facet has its corners among the points of its region
-corners_near : (ps : List Point) (number : ℕ) (facet : Facet) (p : ℕ × ℕ × ℕ) (ns : List ℕ) (t : FacetTriangle) → IsProtected ps facet p → AreNumbersNear ps facet p ns → IsFacetTriangle ps number facet t
+corners_near : (ps : List Point) (number : ℕ) (facet : Facet) (p : ℕ × ℕ × ℕ) (ns : List ℕ) (t : FacetTriangle) → IsFacetProtected ps facet p → AreNumbersNear ps facet p ns → IsFacetTriangle ps number facet t
     → (i : ℕ) → IsMember i (corner_numbers t) → IsMember i ns
 corners_near ps number facet p ns t protected near f i m =
     member_of ns i (near.region i (triangle_below t (length ps) f.first f.second f.on_list i m)
@@ -311,17 +311,17 @@ is_first number (x ∷ y ∷ z ∷ []) t l rising facet first second on =
 is_first number (x ∷ y ∷ z ∷ v ∷ ns) t l rising facet first second on = absurd (omega arith)
 
 -- where only the corners are near, their triangle is the facet's
-pub one_triangle_is : (ps : List Point) (number : ℕ) (p : ℕ × ℕ × ℕ) (ns : List ℕ) → IsProtected ps (three_cornered p) p → AreNumbersNear ps (three_cornered p) p ns → length ns ≡ 3
+pub one_triangle_is : (ps : List Point) (number : ℕ) (p : ℕ × ℕ × ℕ) (ns : List ℕ) → IsFacetProtected ps (three_cornered p) p → AreNumbersNear ps (three_cornered p) p ns → length ns ≡ 3
     → first_triangle number ns ∷ [] ≡ facet_triangles ps number (three_cornered p)
 one_triangle_is ps number p ns protected near three =
-    rises-same TriangleBefore never_both (first_triangle number ns ∷ []) (facet_triangles ps number (three_cornered p)) (more (λ y m. elim m [ ]) none)
-    (rises_of_pairs TriangleBefore (facet_triangles ps number (three_cornered p)) (law_facet_order ps number (three_cornered p))) to from
+    rises-same CornersBefore never_both (first_triangle number ns ∷ []) (facet_triangles ps number (three_cornered p)) (more (λ y m. elim m [ ]) none)
+    (rises_of_pairs CornersBefore (facet_triangles ps number (three_cornered p)) (law_facet_order ps number (three_cornered p))) to from
   where
     spans : SpansPlane (through ps p)
     spans = plane_spans ps (three_cornered p) p protected.has_plane
 
     x : RationalPoint
-    x = centroid (point ps p.0) (point ps p.1) (point ps p.2)
+    x = triangle_centroid (point ps p.0) (point ps p.1) (point ps p.2)
 
     is_middle : IsMiddle ps (axis_of (normal (through ps p))) p
     is_middle = middle_is ps (axis_of (normal (through ps p))) p (steep (normal (through ps p)) spans)
@@ -350,8 +350,8 @@ one_triangle_is ps number p ns protected near three =
         subst (λ s. IsMember s (first_triangle number ns ∷ [])) (sym (all_same t f)) here
 
 -- and so it is where the facet of the code is that one
-pub answer_is : {E : Type 0} (P : List FacetTriangle → Type 0) (ps : List Point) (number : ℕ) (f : Facet) (p : ℕ × ℕ × ℕ) (ns : List ℕ) (r : Result (List FacetTriangle) E) → f ≡ three_cornered p → IsProtected ps f p
+pub answer_is : {E : Type 0} (P : List FacetTriangle → Type 0) (ps : List Point) (number : ℕ) (f : Facet) (p : ℕ × ℕ × ℕ) (ns : List ℕ) (r : Result (List FacetTriangle) E) → f ≡ three_cornered p → IsFacetProtected ps f p
     → AreNumbersNear ps f p ns → length ns ≡ 3 → ((ts : List FacetTriangle) → ts ≡ facet_triangles ps number f → P ts) → IfOk r (λ ts. ts ≡ first_triangle number ns ∷ []) → IfOk r P
 answer_is P ps number f p ns (Ok ts) is protected near three give made =
-    give ts (made ∙ one_triangle_is ps number p ns (subst (λ g. IsProtected ps g p) is protected) (subst (λ g. AreNumbersNear ps g p ns) is near) three ∙ ap (facet_triangles ps number) (sym is))
+    give ts (made ∙ one_triangle_is ps number p ns (subst (λ g. IsFacetProtected ps g p) is protected) (subst (λ g. AreNumbersNear ps g p ns) is near) three ∙ ap (facet_triangles ps number) (sym is))
 answer_is P ps number f p ns (Err e) is protected near three give made = tt

@@ -14,12 +14,13 @@ use Rattle.facet_plane.proofs.Planes.{region_is}
 use Rattle.facet_plane.proofs.Polygons.{any_areas, all_areas}
 use Rattle.facet_plane.specs.Areas.{on_area, over_polygon, round_area, alike_area}
 use Rattle.facet_plane.specs.Axes.{axis_is}
-use Rattle.facet_plane.specs.Outline.{ends, side_meets, side_crosses}
-use Rattle.facet_plane.specs.Walk.{is_odd, xor}
-use Rattle.facet_plane.specs.Prepared.{Shape, shape, shape_of, shape_meets, shape_round, places_of, is_none, AreOutlinesOf, AreHoles, places_round, outlines_meet, is_hole_at, prepared_holds, IsPreparedOf}
+use Rattle.facet_plane.specs.Outline.{side_between, side_meets, side_crosses}
+use Rattle.facet_plane.specs.Walk.{is_odd}
+use Rattle.facet_plane.specs.Prepared.{Shape, shape, shape_of, shape_meets, shape_round, passing_places, is_none, AreOutlinesOf, AreHoles, places_round, outlines_meet, is_hole_at, prepared_holds, IsPreparedOf}
 use Rattle.facet_plane.specs.declared.outline.Outline.{Outline}
 use Rattle.facet_plane.specs.declared.outline.Reach.TheVariants.{On, Over}
 use Rattle.facet_plane.specs.declared.prepared.Prepared.{Prepared}
+use Rattle.facet_laws.specs.Parity.{xor}
 
 -- ---- tests of mapped lists
 
@@ -36,26 +37,26 @@ unfolding odd
 odd_map test f [] = refl
 odd_map test f (x ∷ xs) = ap (λ b. xor (test (f x)) b) (odd_map test f xs)
 
-places_map : {X Y : Type 0} (test : Y → Bool) (f : X → Y) (n : ℕ) (xs : List X) → places_of test n (map f xs) ≡ places_of (λ x. test (f x)) n xs
+places_map : {X Y : Type 0} (test : Y → Bool) (f : X → Y) (n : ℕ) (xs : List X) → passing_places test n (map f xs) ≡ passing_places (λ x. test (f x)) n xs
 places_map test f n [] = refl
 places_map test f n (x ∷ xs) = ap (λ ps. cond (test (f x)) (n ∷ ps) ps) (places_map test f (n + 1) xs)
 
-places_same : {X : Type 0} (s t : X → Bool) (n : ℕ) (xs : List X) → ((x : X) → s x ≡ t x) → places_of s n xs ≡ places_of t n xs
+places_same : {X : Type 0} (s t : X → Bool) (n : ℕ) (xs : List X) → ((x : X) → s x ≡ t x) → passing_places s n xs ≡ passing_places t n xs
 places_same s t n [] h = refl
 places_same s t n (x ∷ xs) h = (λ j. cond (h x j) (n ∷ places_same s t (n + 1) xs h j) (places_same s t (n + 1) xs h j))
 
 -- ---- the tests of shapes are those of polygons
 
 on_is : (ps : List Point) (axis : Axis) (x : RationalPoint) (p : List ℕ) → shape_meets On axis x (shape_of ps p) ≡ on_area ps x p
-on_is ps axis x p = ap (λ b. nat_lt 2 (length p) && b) (any_map (side_meets On axis x) (ends ps) (sides p))
+on_is ps axis x p = ap (λ b. nat_lt 2 (length p) && b) (any_map (side_meets On axis x) (side_between ps) (sides p))
 
 over_is : (ps : List Point) (axis : Axis) (x : RationalPoint) (p : List ℕ) → shape_meets Over axis x (shape_of ps p) ≡ over_polygon ps axis x p
-over_is ps axis x p = any_map (side_meets Over axis x) (ends ps) (sides p)
+over_is ps axis x p = any_map (side_meets Over axis x) (side_between ps) (sides p)
 
 round_is : (ps : List Point) (axis : Axis) (x : RationalPoint) (p : List ℕ) → shape_round axis x (shape_of ps p) ≡ round_area ps axis x p
 round_is ps axis x p =
     ap (λ b. nat_lt 2 (length p) && b)
-    (odd_map (side_crosses axis x) (ends ps) (sides p)
+    (odd_map (side_crosses axis x) (side_between ps) (sides p)
     ∙ sym (odd_is (λ (s : Piece). crosses_ray axis (from_to_rational (point ps s.a) x) (from_to_rational (point ps s.b) x)) (sides p)))
 
 any_shapes : (ps : List Point) (polygons : List (List ℕ)) (os : List Outline) (t : Shape → Bool) (u : List ℕ → Bool) → map shape os ≡ map (shape_of ps) polygons → ((p : List ℕ) → t (shape_of ps p) ≡ u p)
@@ -63,45 +64,45 @@ any_shapes : (ps : List Point) (polygons : List (List ℕ)) (os : List Outline) 
 any_shapes ps polygons os t u e h = sym (any_map t shape os) ∙ ap (list_any t) e ∙ any_map t (shape_of ps) polygons ∙ any_same (λ p. t (shape_of ps p)) u polygons h
 
 places_shapes : (ps : List Point) (polygons : List (List ℕ)) (os : List Outline) (t : Shape → Bool) (u : List ℕ → Bool) → map shape os ≡ map (shape_of ps) polygons → ((p : List ℕ) → t (shape_of ps p) ≡ u p)
-    → places_of (λ o. t (shape o)) 0 os ≡ places_of u 0 polygons
-places_shapes ps polygons os t u e h = sym (places_map t shape 0 os) ∙ ap (places_of t 0) e ∙ places_map t (shape_of ps) 0 polygons ∙ places_same (λ p. t (shape_of ps p)) u 0 polygons h
+    → passing_places (λ o. t (shape o)) 0 os ≡ passing_places u 0 polygons
+places_shapes ps polygons os t u e h = sym (places_map t shape 0 os) ∙ ap (passing_places t 0) e ∙ places_map t (shape_of ps) 0 polygons ∙ places_same (λ p. t (shape_of ps p)) u 0 polygons h
 
 -- ---- the places of two tests
 
 -- the places of later ones are not those that begin with an earlier one
-later_left : {X : Type 0} (t : X → Bool) (n m : ℕ) (rest : List ℕ) (xs : List X) → n < m → pointwise nat_eq (n ∷ rest) (places_of t m xs) ≡ false
+later_left : {X : Type 0} (t : X → Bool) (n m : ℕ) (rest : List ℕ) (xs : List X) → n < m → pointwise nat_eq (n ∷ rest) (passing_places t m xs) ≡ false
 later_left t n m rest [] l = refl
 later_left t n m rest (x ∷ xs) l = go (t x) (later_left t n (m + 1) rest xs (omega arith))
   where
-    go : (b : Bool) → pointwise nat_eq (n ∷ rest) (places_of t (m + 1) xs) ≡ false → pointwise nat_eq (n ∷ rest) (cond b (m ∷ places_of t (m + 1) xs) (places_of t (m + 1) xs)) ≡ false
-    go true e = ap (λ b. b && pointwise nat_eq rest (places_of t (m + 1) xs)) (ne_eqb n m (let k : n ≢ m = omega arith in k))
+    go : (b : Bool) → pointwise nat_eq (n ∷ rest) (passing_places t (m + 1) xs) ≡ false → pointwise nat_eq (n ∷ rest) (cond b (m ∷ passing_places t (m + 1) xs) (passing_places t (m + 1) xs)) ≡ false
+    go true e = ap (λ b. b && pointwise nat_eq rest (passing_places t (m + 1) xs)) (ne_eqb n m (let k : n ≢ m = omega arith in k))
     go false e = e
 
-later_right : {X : Type 0} (t : X → Bool) (n m : ℕ) (rest : List ℕ) (xs : List X) → n < m → pointwise nat_eq (places_of t m xs) (n ∷ rest) ≡ false
+later_right : {X : Type 0} (t : X → Bool) (n m : ℕ) (rest : List ℕ) (xs : List X) → n < m → pointwise nat_eq (passing_places t m xs) (n ∷ rest) ≡ false
 later_right t n m rest [] l = refl
 later_right t n m rest (x ∷ xs) l = go (t x) (later_right t n (m + 1) rest xs (omega arith))
   where
-    go : (b : Bool) → pointwise nat_eq (places_of t (m + 1) xs) (n ∷ rest) ≡ false → pointwise nat_eq (cond b (m ∷ places_of t (m + 1) xs) (places_of t (m + 1) xs)) (n ∷ rest) ≡ false
-    go true e = ap (λ b. b && pointwise nat_eq (places_of t (m + 1) xs) rest) (ne_eqb m n (let k : m ≢ n = omega arith in k))
+    go : (b : Bool) → pointwise nat_eq (passing_places t (m + 1) xs) (n ∷ rest) ≡ false → pointwise nat_eq (cond b (m ∷ passing_places t (m + 1) xs) (passing_places t (m + 1) xs)) (n ∷ rest) ≡ false
+    go true e = ap (λ b. b && pointwise nat_eq (passing_places t (m + 1) xs) rest) (ne_eqb m n (let k : m ≢ n = omega arith in k))
     go false e = e
 
 -- the same places pass both tests exactly where the tests say the same of each
-pub places_alike : {X : Type 0} (s t : X → Bool) (n : ℕ) (xs : List X) → pointwise nat_eq (places_of s n xs) (places_of t n xs) ≡ list_all (λ x. same (s x) (t x)) xs
+pub places_alike : {X : Type 0} (s t : X → Bool) (n : ℕ) (xs : List X) → pointwise nat_eq (passing_places s n xs) (passing_places t n xs) ≡ list_all (λ x. same (s x) (t x)) xs
 places_alike s t n [] = refl
 places_alike s t n (x ∷ xs) = go (s x) (t x) (places_alike s t (n + 1) xs)
   where
-    go : (a b : Bool) → pointwise nat_eq (places_of s (n + 1) xs) (places_of t (n + 1) xs) ≡ list_all (λ x. same (s x) (t x)) xs
-        → pointwise nat_eq (cond a (n ∷ places_of s (n + 1) xs) (places_of s (n + 1) xs)) (cond b (n ∷ places_of t (n + 1) xs) (places_of t (n + 1) xs)) ≡ (same a b && list_all (λ x. same (s x) (t x)) xs)
-    go true true e = ap (λ b. b && pointwise nat_eq (places_of s (n + 1) xs) (places_of t (n + 1) xs)) (eq-eqb n n refl) ∙ e
-    go true false e = later_left t n (n + 1) (places_of s (n + 1) xs) xs (omega arith)
-    go false true e = later_right s n (n + 1) (places_of t (n + 1) xs) xs (omega arith)
+    go : (a b : Bool) → pointwise nat_eq (passing_places s (n + 1) xs) (passing_places t (n + 1) xs) ≡ list_all (λ x. same (s x) (t x)) xs
+        → pointwise nat_eq (cond a (n ∷ passing_places s (n + 1) xs) (passing_places s (n + 1) xs)) (cond b (n ∷ passing_places t (n + 1) xs) (passing_places t (n + 1) xs)) ≡ (same a b && list_all (λ x. same (s x) (t x)) xs)
+    go true true e = ap (λ b. b && pointwise nat_eq (passing_places s (n + 1) xs) (passing_places t (n + 1) xs)) (eq-eqb n n refl) ∙ e
+    go true false e = later_left t n (n + 1) (passing_places s (n + 1) xs) xs (omega arith)
+    go false true e = later_right s n (n + 1) (passing_places t (n + 1) xs) xs (omega arith)
     go false false e = e
 
-places_any : {X : Type 0} (t : X → Bool) (n : ℕ) (xs : List X) → not (is_none (places_of t n xs)) ≡ list_any t xs
+places_any : {X : Type 0} (t : X → Bool) (n : ℕ) (xs : List X) → not (is_none (passing_places t n xs)) ≡ list_any t xs
 places_any t n [] = refl
 places_any t n (x ∷ xs) = go (t x) (places_any t (n + 1) xs)
   where
-    go : (b : Bool) → not (is_none (places_of t (n + 1) xs)) ≡ list_any t xs → not (is_none (cond b (n ∷ places_of t (n + 1) xs) (places_of t (n + 1) xs))) ≡ (b || list_any t xs)
+    go : (b : Bool) → not (is_none (passing_places t (n + 1) xs)) ≡ list_any t xs → not (is_none (cond b (n ∷ passing_places t (n + 1) xs) (passing_places t (n + 1) xs))) ≡ (b || list_any t xs)
     go true e = refl
     go false e = e
 
@@ -118,7 +119,7 @@ all_same : {X : Type 0} (s t : X → Bool) (xs : List X) → ((x : X) → s x �
 all_same s t [] h = refl
 all_same s t (x ∷ xs) h = (λ j. h x j && all_same s t xs h j)
 
-alike_places : (ps : List Point) (axis : Axis) (f : Facet) (x y : RationalPoint) → pointwise nat_eq (places_of (round_area ps axis x) 0 f.polygons) (places_of (round_area ps axis y) 0 f.polygons) ≡ is_round_alike ps axis f x y
+alike_places : (ps : List Point) (axis : Axis) (f : Facet) (x y : RationalPoint) → pointwise nat_eq (passing_places (round_area ps axis x) 0 f.polygons) (passing_places (round_area ps axis y) 0 f.polygons) ≡ is_round_alike ps axis f x y
 alike_places ps axis f x y =
     places_alike (round_area ps axis x) (round_area ps axis y) 0 f.polygons
     ∙ all_same (λ p. same (round_area ps axis x p) (round_area ps axis y p)) (alike_area ps axis x y) f.polygons (area_alike ps axis x y)
@@ -152,7 +153,7 @@ prepared_is ps f r a b c p q s e ep eq es from normal axis outlines holes = reco
     over : (x : RationalPoint) → outlines_meet Over r.outlines x ≡ is_over_side ps (axis_is r.outlines.axis) f x
     over x = any_shapes ps f.polygons r.outlines.each (shape_meets Over (axis_is r.outlines.axis) x) (over_polygon ps (axis_is r.outlines.axis) x) outlines.shapes (over_is ps (axis_is r.outlines.axis) x)
 
-    round : (x : RationalPoint) → places_round r.outlines x ≡ places_of (round_area ps (axis_is r.outlines.axis) x) 0 f.polygons
+    round : (x : RationalPoint) → places_round r.outlines x ≡ passing_places (round_area ps (axis_is r.outlines.axis) x) 0 f.polygons
     round x = places_shapes ps f.polygons r.outlines.each (shape_round (axis_is r.outlines.axis) x) (round_area ps (axis_is r.outlines.axis) x) outlines.shapes (round_is ps (axis_is r.outlines.axis) x)
 
     inside : (x : RationalPoint) → not (is_none (places_round r.outlines x)) ≡ list_any (λ p. is_round ps (axis_is r.outlines.axis) p x) (areas f)

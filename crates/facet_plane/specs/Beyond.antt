@@ -10,8 +10,8 @@ abbrev pub AreBeyond : ℤ → ℤ → Type 0
 AreBeyond m n = (pos 0 <ℤ m) × (pos 0 <ℤ n) ⊎ (m <ℤ pos 0) × (n <ℤ pos 0)
 
 -- the vectors lead to a point from two that it is beyond, along one of the two coordinates
-abbrev pub IsBeyond : Axis → Point → Point → Type 0
-IsBeyond axis u v = AreBeyond (first_of_two axis u) (first_of_two axis v) ⊎ AreBeyond (second_of_two axis u) (second_of_two axis v)
+abbrev pub IsBeyondBoth : Axis → Point → Point → Type 0
+IsBeyondBoth axis u v = AreBeyond (first_of_two axis u) (first_of_two axis v) ⊎ AreBeyond (second_of_two axis u) (second_of_two axis v)
 
 -- What the vectors to a point from the least and the greatest corner of a box tell: all in the box is above the point, or none is, or all
 -- is behind the point; or the point is behind all

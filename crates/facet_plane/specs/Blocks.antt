@@ -16,13 +16,13 @@ pub record IsHeld (e : Extent) (p : Point) : Type 0 where
   pub high : IsBelow p e.high
 
 -- the first box lies in the second
-pub record IsPart (e f : Extent) : Type 0 where
+pub record IsSubbox (e f : Extent) : Type 0 where
   pub low : IsBelow f.low e.low
   pub high : IsBelow e.high f.high
 
 -- the box holds that at the place j
 abbrev pub HoldsBox : List Extent → ℕ → Extent → Type 0
-HoldsBox boxes j e = (d : Extent) → IsPart (slice_index_or boxes j d) e
+HoldsBox boxes j e = (d : Extent) → IsSubbox (slice_index_or boxes j d) e
 
 -- the box holds what is at the places from first to before past
 abbrev pub HoldsBetween : (ℕ → Extent → Type 0) → ℕ → ℕ → Extent → Type 0

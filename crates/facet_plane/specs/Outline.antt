@@ -13,12 +13,12 @@ use Rattle.facet_plane.specs.declared.outline.Side.{Side}
 use Rattle.facet_plane.specs.declared.outline.Reach.{Reach}
 use Rattle.facet_plane.specs.declared.outline.Reach.TheVariants.{On, Over}
 
-abbrev pub ends : List Point → Piece → Side
-ends ps s = record { from = point ps s.a; to = point ps s.b }
+abbrev pub side_between : List Point → Piece → Side
+side_between ps s = record { from = point ps s.a; to = point ps s.b }
 
 -- the sides of those that have two ends
-abbrev pub ends_of : List Point → List Piece → List Side
-ends_of ps ss = map (ends ps) (filter (λ s. not (s.a == s.b)) ss)
+abbrev pub sides_between : List Point → List Piece → List Side
+sides_between ps ss = map (side_between ps) (filter (λ s. not (s.a == s.b)) ss)
 
 -- x lies on the side, or over it in the two coordinates
 abbrev pub side_meets : Reach → Axis → RationalPoint → Side → Bool
@@ -64,5 +64,5 @@ pub record IsBlocked (o : Outline) : Type 0 where
 -- the outline of a polygon
 pub record IsOutlineOf (ps : List Point) (polygon : List ℕ) (o : Outline) : Type 0 where
   pub area : o.is_area ≡ nat_lt 2 (length polygon)
-  pub sides : o.sides ≡ map (ends ps) (sides polygon)
+  pub sides : o.sides ≡ map (side_between ps) (sides polygon)
   pub blocked : IsBlocked o

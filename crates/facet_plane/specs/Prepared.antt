@@ -8,7 +8,7 @@ use Rattle.geo_laws.specs.Segment.{sides, is_zero}
 use Rattle.geo_laws.specs.Facet.{Axis, Facet, in_region}
 use Rattle.facet_plane.specs.Axes.{axis_is}
 use Rattle.facet_plane.specs.Blocks.{AreBlocks}
-use Rattle.facet_plane.specs.Outline.{ends, side_meets, side_crosses, IsBlocked, HoldsSides}
+use Rattle.facet_plane.specs.Outline.{side_between, side_meets, side_crosses, IsBlocked, HoldsSides}
 use Rattle.facet_plane.specs.Walk.{is_odd}
 use Rattle.facet_plane.specs.declared.blocks.Extent.{Extent}
 use Rattle.facet_plane.specs.declared.outline.Outline.{Outline}
@@ -27,7 +27,7 @@ abbrev pub shape : Outline → Shape
 shape o = record { is_area = o.is_area; sides = o.sides }
 
 abbrev pub shape_of : List Point → List ℕ → Shape
-shape_of ps p = record { is_area = nat_lt 2 (length p); sides = map (ends ps) (sides p) }
+shape_of ps p = record { is_area = nat_lt 2 (length p); sides = map (side_between ps) (sides p) }
 
 -- x lies on a side of a polygon with three or more corners, or over a side of any
 abbrev pub shape_meets : Reach → Axis → RationalPoint → Shape → Bool
@@ -39,9 +39,9 @@ abbrev pub shape_round : Axis → RationalPoint → Shape → Bool
 shape_round axis x s = s.is_area && is_odd (side_crosses axis x) s.sides
 
 -- the places of those that pass the test, where the first one's place is n
-abbrev pub places_of : {X : Type 0} → (X → Bool) → ℕ → List X → List ℕ
-places_of test n [] = []
-places_of test n (x ∷ xs) = if test x then n ∷ places_of test (n + 1) xs else places_of test (n + 1) xs
+abbrev pub passing_places : {X : Type 0} → (X → Bool) → ℕ → List X → List ℕ
+passing_places test n [] = []
+passing_places test n (x ∷ xs) = if test x then n ∷ passing_places test (n + 1) xs else passing_places test (n + 1) xs
 
 abbrev pub is_none : List ℕ → Bool
 is_none [] = true
@@ -68,7 +68,7 @@ pub record AreOutlinesOf (ps : List Point) (polygons : List (List ℕ)) (o : Out
 
 -- the places of the polygons that are round x
 abbrev pub places_round : Outlines → RationalPoint → List ℕ
-places_round o x = places_of (λ q. shape_round (axis_is o.axis) x (shape q)) 0 o.each
+places_round o x = passing_places (λ q. shape_round (axis_is o.axis) x (shape q)) 0 o.each
 
 -- x is over a side of a polygon, or on one of those with three or more corners
 abbrev pub outlines_meet : Reach → Outlines → RationalPoint → Bool

@@ -1,6 +1,6 @@
 //! Boxes round runs of a list, by which a walk along the list passes over what it need not see.
 ghost use Rattle.std.specs.Prelude.{◌<◌, ◌≤◌, ◌≤ℤ◌, pos, negsuc, length, IfOk};
-ghost use Rattle.facet_plane.specs.Blocks.{IsBelow, IsHeld, IsPart};
+ghost use Rattle.facet_plane.specs.Blocks.{IsBelow, IsHeld, IsSubbox};
 ghost use Rattle.facet_plane.specs.Blocks.{HoldsBox, HoldsBetween, AreBlocks};
 
 use sign_predicates::GridPoint;
@@ -88,8 +88,8 @@ pub(crate) fn extent_of(a: GridPoint, b: GridPoint) -> Extent
 
 /// The least box round both.
 fn joined(e: Extent, f: Extent) -> Extent
-    ensures first { IsPart e result }
-    ensures second { IsPart f result }
+    ensures first { IsSubbox e result }
+    ensures second { IsSubbox f result }
 {
     Extent {
         low: lower(e.low, f.low),

@@ -1,11 +1,10 @@
 //! The points of a facet's plane that are near the facet.
 ghost use Rattle.std.specs.Prelude.{◌≡◌, ◌<◌, ◌≤◌, ◌-◌, ◌^◌, length, All, IfOk, Some};
 ghost use Rattle.box_tree.specs.Bodies.{IsPointTree};
-ghost use Rattle.box_tree.specs.Bounds.{IsWithin};
-ghost use Rattle.geo_laws.specs.Complex.{flat_facet};
+ghost use Rattle.box_tree.specs.Bounds.{IsBoxWithin};
+ghost use Rattle.geo_laws.specs.Complex.{flat_facet, HasCornersOf};
 ghost use Rattle.geo_laws.specs.Facet.{IsFlat, all_corners, plane};
 ghost use Rattle.facet_laws.specs.Region.{through};
-ghost use Rattle.facet_plane.specs.Corners.{HasCornersOf};
 ghost use Rattle.facet_plane.specs.NearPoints.{HoldsAll, ArePlaneNumbersIn, AreNumbersNear};
 
 use crate::search::is_in_plane;
@@ -19,7 +18,7 @@ use tet_ports::{Items, NoMemory};
 fn with_corners(bounds: Bounds, points: &Points, corners: &[u32]) -> Bounds
     requires { All (λ i. i < length points.now) corners.now }
     ensures holds { HoldsAll points.now result corners.now }
-    ensures wider { IsWithin bounds result }
+    ensures wider { IsBoxWithin bounds result }
 {
     let mut wide = bounds;
     for i in 0..corners.len() {

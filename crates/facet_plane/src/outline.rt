@@ -6,10 +6,11 @@ ghost use Rattle.sign_predicates.specs.Point.{from_to_rational};
 ghost use Rattle.geo_laws.specs.Segment.{sides, piece};
 ghost use Rattle.geo_laws.specs.Delaunay.{point};
 ghost use Rattle.facet_plane.specs.Axes.{axis_is};
-ghost use Rattle.facet_plane.specs.Beyond.{AreBeyond, IsBeyond, Tells};
-ghost use Rattle.facet_plane.specs.Walk.{xor, is_odd};
-ghost use Rattle.facet_plane.specs.Outline.{ends, ends_of, side_meets, side_crosses, is_under};
+ghost use Rattle.facet_plane.specs.Beyond.{AreBeyond, IsBeyondBoth, Tells};
+ghost use Rattle.facet_plane.specs.Walk.{is_odd};
+ghost use Rattle.facet_plane.specs.Outline.{side_between, sides_between, side_meets, side_crosses, is_under};
 ghost use Rattle.facet_plane.specs.Outline.{AreBoxesTo, IsBlocked, IsOutlineOf};
+ghost use Rattle.facet_laws.specs.Parity.{xor};
 
 use crate::spot::Spot;
 use crate::blocks::{Block, Extent, blocks_of, extent_of, whole_extent};
@@ -66,7 +67,7 @@ fn are_beyond(m: i64, n: i64) -> bool
 
 /// Whether the box is apart from `x` along one of the two coordinates.
 pub(crate) fn is_apart(axis: Axis, extent: Extent, x: Spot) -> bool
-    ensures { IsTrue result → IsBeyond (axis_is axis)
+    ensures { IsTrue result → IsBeyondBoth (axis_is axis)
         (from_to_rational extent.low x) (from_to_rational extent.high x) }
 {
     let u = toward(extent.low, x);
@@ -117,7 +118,7 @@ fn is_met(reach: Reach, axis: Axis, side: Side, x: Spot) -> bool
 fn push_side(points: &Points, sides: &mut Items<Side>, a: u32, b: u32) -> Result<(), NoMemory>
     requires a_is_there { a < length points.now }
     requires b_is_there { b < length points.now }
-    ensures { OnOk result (sides.new ≡ sides.old ++ ends_of points.now (piece a b 0 ∷ [])) }
+    ensures { OnOk result (sides.new ≡ sides.old ++ sides_between points.now (piece a b 0 ∷ [])) }
 {
     if a != b {
         sides.push(Side {
@@ -131,7 +132,7 @@ fn push_side(points: &Points, sides: &mut Items<Side>, a: u32, b: u32) -> Result
 /// The sides of a polygon.
 fn sides_of(alloc: Global, points: &Points, corners: &[u32]) -> Result<Items<Side>, NoMemory>
     requires { All (λ i. i < length points.now) corners.now }
-    ensures { IfOk result (λ found. found ≡ map (ends points.now) (sides corners.now)) }
+    ensures { IfOk result (λ found. found ≡ map (side_between points.now) (sides corners.now)) }
 {
     let mut sides = Items::new(alloc);
     if corners.is_empty() {

@@ -3,13 +3,13 @@
 ghost use Rattle.std.specs.Prelude.{◌≡◌, ◌<◌, ◌≤◌, ◌&&◌, All, IfOk, OnOk, Some, length, nat_eq};
 ghost use Rattle.std.specs.List.{list_any};
 ghost use lib.Pointwise.{pointwise};
-ghost use Rattle.geo_laws.specs.Complex.{flat_facet};
+ghost use Rattle.geo_laws.specs.Complex.{flat_facet, HasCornersOf};
 ghost use Rattle.geo_laws.specs.Facet.{in_region, plane};
 ghost use Rattle.facet_plane.specs.Axes.{axis_is};
 ghost use Rattle.facet_plane.specs.Blocks.{AreBlocks};
-ghost use Rattle.facet_plane.specs.Corners.{HasCornersOf, lists_between};
+ghost use Rattle.facet_plane.specs.Corners.{lists_between};
 ghost use Rattle.facet_plane.specs.Outline.{IsBlocked};
-ghost use Rattle.facet_plane.specs.Prepared.{shape, shape_meets, shape_round, places_of};
+ghost use Rattle.facet_plane.specs.Prepared.{shape, shape_meets, shape_round, passing_places};
 ghost use Rattle.facet_plane.specs.Prepared.{HoldsOutline, AreOutlinesOf, AreBlocked, AreHoles};
 ghost use Rattle.facet_plane.specs.Prepared.{prepared_holds, IsPreparedOf};
 
@@ -141,7 +141,7 @@ impl Outlines {
     /// The places of the polygons with three or more corners that are round `x`.
     fn put_round(&self, x: Spot, places: &mut Vec<usize>) -> Result<(), NoMemory>
         requires { AreBlocked self.now }
-        ensures { OnOk result (places.new.items ≡ places_of
+        ensures { OnOk result (places.new.items ≡ passing_places
             (λ o. shape_round (axis_is self.now.axis) x (shape o)) 0 self.now.each) }
     {
         places.clear();

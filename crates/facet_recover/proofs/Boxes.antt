@@ -9,24 +9,24 @@ use Rattle.geo_laws.specs.Simplex.{InSimplex, has_number}
 use Rattle.geo_laws.specs.declared.tetrahedra.Tet.{Tet}
 use Rattle.geo_laws.specs.declared.complex.FacetTriangle.{FacetTriangle}
 use Rattle.geo_laws.proofs.General.{closed_of}
-use Rattle.simplex_meets.specs.Proper.{Axis, AlongX, AlongY, AlongZ, along, LiesBelow, FaceEnters, triangle_face}
+use Rattle.simplex_meets.specs.Proper.{CoordinateAxis, AlongX, AlongY, AlongZ, coordinate_along, LiesBelow, FaceEnters, triangle_face}
 use Rattle.simplex_meets.proofs.Along as intervals
 use Rattle.refill_laws.proofs.Weights.{closed_weights}
 use Rattle.box_tree.specs.declared.bounds.Interval.{Interval}
 use Rattle.box_tree.specs.declared.bounds.Bounds.{Bounds}
-use Rattle.box_tree.specs.Bounds.{IsIn, AreApart, AreBoundsApart, HoldsCorners}
+use Rattle.box_tree.specs.Bounds.{IsIn, AreDisjoint, AreBoundsApart, HoldsCorners}
 
 -- ---- no common point
 
-below : (ps : List Point) (axis : Axis) (s r : List ℕ) (i j : Interval) → ((k : ℕ) → has_number s k ≡ true → IsIn i (along axis (point ps k))) → ((k : ℕ) → has_number r k ≡ true → IsIn j (along axis (point ps k)))
+below : (ps : List Point) (axis : CoordinateAxis) (s r : List ℕ) (i j : Interval) → ((k : ℕ) → has_number s k ≡ true → IsIn i (coordinate_along axis (point ps k))) → ((k : ℕ) → has_number r k ≡ true → IsIn j (coordinate_along axis (point ps k)))
     → i.high <ℤ j.low → LiesBelow ps axis s r
-below ps axis s r i j hs hr h = (i.high, λ k is. (hs k is).1, λ k is. past i.high j.low (along axis (point ps k)) h (hr k is).0)
+below ps axis s r i j hs hr h = (i.high, λ k is. (hs k is).1, λ k is. past i.high j.low (coordinate_along axis (point ps k)) h (hr k is).0)
   where
     past : (a b c : ℤ) → a <ℤ b → b ≤ℤ c → a <ℤ c
     past a b c h k = omega (arith, ints)
 
-apart_along : (ps : List Point) (axis : Axis) (s r : List ℕ) (i j : Interval) → ((k : ℕ) → has_number s k ≡ true → IsIn i (along axis (point ps k))) → ((k : ℕ) → has_number r k ≡ true → IsIn j (along axis (point ps k)))
-    → AreApart i j → (x : RationalPoint) → pos 0 <ℤ x.w → InSimplex ps s x → InSimplex ps r x → ⊥
+apart_along : (ps : List Point) (axis : CoordinateAxis) (s r : List ℕ) (i j : Interval) → ((k : ℕ) → has_number s k ≡ true → IsIn i (coordinate_along axis (point ps k))) → ((k : ℕ) → has_number r k ≡ true → IsIn j (coordinate_along axis (point ps k)))
+    → AreDisjoint i j → (x : RationalPoint) → pos 0 <ℤ x.w → InSimplex ps s x → InSimplex ps r x → ⊥
 apart_along ps axis s r i j hs hr (inl h) x w ms mr = intervals.apart ps axis s r (below ps axis s r i j hs hr h) x w ms mr
 apart_along ps axis s r i j hs hr (inr h) x w ms mr = intervals.apart ps axis r s (below ps axis r s j i hr hs h) x w mr ms
 

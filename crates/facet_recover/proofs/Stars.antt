@@ -6,10 +6,9 @@ use Rattle.sign_predicates.specs.Orientation.{IsPositive}
 use Rattle.geo_laws.specs.Delaunay.{corners, numbers}
 use Rattle.geo_laws.specs.declared.tetrahedra.Tet.{Tet}
 use Rattle.geo_laws.specs.declared.complex.FacetTriangle.{FacetTriangle}
-use Rattle.refill_laws.specs.Refill.{IsUncrossed}
 use Rattle.box_tree.specs.declared.bounds.Bounds.{Bounds}
 use Rattle.box_tree.specs.declared.tree.Node.{Node}
-use Rattle.box_tree.specs.Bounds.{IsWithin, HoldsCorners}
+use Rattle.box_tree.specs.Bounds.{IsBoxWithin, HoldsCorners}
 use Rattle.box_tree.specs.Bodies.{IsTriangleTree}
 use Rattle.box_tree.specs.Tree.{AreApartBetween}
 use Rattle.box_tree.proofs.Boxes.{held_larger}
@@ -18,6 +17,7 @@ use Rattle.facet_recover.specs.declared.cavity.Star.{Star}
 use Rattle.facet_recover.specs.Stars.{HoldsRows, IsStarFrom}
 use Rattle.facet_recover.proofs.Entering.{uncrossed_of}
 use Rattle.facet_recover.proofs.Near.{least_start, least_further, least_of_all}
+use Rattle.geo_laws.specs.Facet.{IsUncrossed}
 
 -- no facet crosses a row of such a box
 pub clear_row : (ps : List Point) (ts : List FacetTriangle) (t : Tet) (nodes : List Node) (b : Bounds) → IsPositive (corners ps t) → IsTriangleTree ps ts nodes → HoldsCorners ps (numbers t) b → AreApartBetween nodes b 0 (length nodes)
@@ -34,7 +34,7 @@ rows_one ps rows i t b at h j d l m =
     subst (λ u. HoldsCorners ps (numbers u) b) (sym (ap (λ n. get_or rows n d) same ∙ at d)) h
 
 -- one row more in a box round both
-pub rows_more : (ps : List Point) (rows : List Tet) (first i : ℕ) (t : Tet) (old b new : Bounds) → HoldsRows ps rows first i old → IsWithin old new → HoldsAt (λ u. u ≡ t) rows i → HoldsCorners ps (numbers t) b → IsWithin b new
+pub rows_more : (ps : List Point) (rows : List Tet) (first i : ℕ) (t : Tet) (old b new : Bounds) → HoldsRows ps rows first i old → IsBoxWithin old new → HoldsAt (λ u. u ≡ t) rows i → HoldsCorners ps (numbers t) b → IsBoxWithin b new
     → HoldsRows ps rows first (i + 1) new
 rows_more ps rows first i t old b new h w at c v j d l m = held (less_or_more j i)
   where

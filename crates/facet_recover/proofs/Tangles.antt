@@ -7,18 +7,18 @@ use Rattle.geo_laws.specs.Faces.{row_faces, faces_of_rows, face_of}
 use Rattle.geo_laws.specs.declared.tetrahedra.Tet.{Tet}
 use Rattle.geo_laws.specs.declared.complex.FacetTriangle.{FacetTriangle}
 use Rattle.geo_laws.proofs.Members.{contains_of, member_of, at_place, in_flat_map}
-use Rattle.refill_laws.specs.Protected.{IsTriangle}
+use Rattle.refill_laws.specs.Protected.{IsCircleTriangle}
 use Rattle.refill_laws.specs.Refill.{kept_row, IsRefill}
 use Rattle.refill_laws.specs.Laws.{IsRefillable, IsRefilled as BySides}
 use Rattle.refill_laws.proofs.Refill.{law_refill}
-use Rattle.tangle_laws.specs.Growth.{IsRefilled}
+use Rattle.tangle_laws.specs.Growth.{IsGrownList}
 use Rattle.tangle_fill.specs.Fill.{AreFacetTriangles, IsFaultOf}
 use Rattle.tangle_fill.specs.declared.fault.FillFault.{FillFault}
 use Rattle.tangle_fill.specs.declared.fault.FillFault.TheVariants as filling
-use Rattle.facet_recover.specs.Refilled.{HasTangle, IsRefilledBySides, IsCause, recover_fault}
+use Rattle.facet_recover.specs.Refilled.{HasTangle, IsRefilledBySides, IsCause, fault_of_filling}
 
 -- the triangles ascend, are on the points and span planes
-pub facet_triangles : (ps : List Point) (ts : List FacetTriangle) → All (IsTriangle ps) ts → AreFacetTriangles ps ts
+pub facet_triangles : (ps : List Point) (ts : List FacetTriangle) → All (IsCircleTriangle ps) ts → AreFacetTriangles ps ts
 facet_triangles ps ts h = record {
   ascend = λ k d l. ((h k d l).first, (h k d l).second);
   within = λ k d l. (h k d l).on;
@@ -39,7 +39,7 @@ ascending_face a b c ab bc = λ j. record { a = first j; b = second j; c = third
     third = grind arith
 
 -- where each facet's cavity is filled on both sides, the list has each facet triangle as a face, and the rest of the promise
-pub refilled_by_sides : (ps : List Point) (ts : List FacetTriangle) (rows whole : List Tet) → IsRefillable ps ts rows → IsRefill ps ts rows whole → IsRefilled ps ts rows whole
+pub refilled_by_sides : (ps : List Point) (ts : List FacetTriangle) (rows whole : List Tet) → IsRefillable ps ts rows → IsRefill ps ts rows whole → IsGrownList ps ts rows whole
 refilled_by_sides ps ts rows whole can refill = record {
   positive = h.positive;
   ascending = refill.ascending;
@@ -61,6 +61,6 @@ pub by_sides : (ps : List Point) (ts : List FacetTriangle) (rows whole : List Te
 by_sides ps ts rows whole can refill = record { refill = refill; sides_kept = (law_refill ps ts rows whole can refill).sides_kept }
 
 -- an anomaly is a cause where two facets cross a row
-pub fill_cause : (ps : List Point) (ts : List FacetTriangle) (rows : List Tet) → HasTangle ps ts rows → (f : FillFault) → IsFaultOf ps ts f → IsCause ps ts rows (recover_fault f)
+pub fill_cause : (ps : List Point) (ts : List FacetTriangle) (rows : List Tet) → HasTangle ps ts rows → (f : FillFault) → IsFaultOf ps ts f → IsCause ps ts rows (fault_of_filling f)
 fill_cause ps ts rows tangle (filling.NoFill anomaly) h = (tangle, h)
 fill_cause ps ts rows tangle filling.NoMemory h = tt

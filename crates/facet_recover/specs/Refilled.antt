@@ -8,7 +8,7 @@ use Rattle.geo_laws.specs.declared.faces.Side.{Side}
 use Rattle.geo_laws.specs.declared.tetrahedra.Tet.{Tet}
 use Rattle.geo_laws.specs.declared.complex.FacetTriangle.{FacetTriangle}
 use Rattle.refill_laws.specs.Refill.{IsRefill}
-use Rattle.tangle_laws.specs.Tangle.{Holds}
+use Rattle.tangle_laws.specs.Tangle.{AnomalyHolds}
 use Rattle.tangle_fill.specs.declared.fault.FillFault.{FillFault}
 use Rattle.tangle_fill.specs.declared.fault.FillFault.TheVariants as filling
 use Rattle.facet_recover.specs.declared.recover.RecoverFault.{RecoverFault}
@@ -31,11 +31,11 @@ pub record IsRefilledBySides (ps : List Point) (ts : List FacetTriangle) (rows w
   pub sides_kept : (s : Side) → Contains (sides_of_rows rows) s → All (λ t. ProperlyMet ps (corner_numbers t) (side_numbers s)) ts → Contains (sides_of_rows whole) s
 
 -- the fault of filling tangles, as one of refilling
-abbrev pub recover_fault : FillFault → RecoverFault
-recover_fault (filling.NoFill anomaly) = NoFill anomaly
-recover_fault filling.NoMemory = NoMemory
+abbrev pub fault_of_filling : FillFault → RecoverFault
+fault_of_filling (filling.NoFill anomaly) = NoFill anomaly
+fault_of_filling filling.NoMemory = NoMemory
 
 -- the refusal comes where a row is tangled, with an anomaly that is there
 abbrev pub IsCause : List Point → List FacetTriangle → List Tet → RecoverFault → Type 0
-IsCause ps ts rows (NoFill anomaly) = HasTangle ps ts rows × Holds ps ts anomaly
+IsCause ps ts rows (NoFill anomaly) = HasTangle ps ts rows × AnomalyHolds ps ts anomaly
 IsCause ps ts rows NoMemory = Unit {0}

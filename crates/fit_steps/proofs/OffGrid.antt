@@ -7,7 +7,7 @@ use Rattle.std.proofs.lemmas.Bool.{cond-true, cond-false, lt-ltb, le-ltb, lt-leb
 use Rattle.std.proofs.lemmas.List.Recursion.{max_bounds}
 use borrow.Author.Tests.{ltb-true}
 use Rattle.grid_coords.specs.Choice.{decimals_of, most_decimals, size_of, is_over, first_over, grid_of}
-use Rattle.grid_coords.specs.Units.{limit, within, units}
+use Rattle.grid_coords.specs.Units.{limit, if_at_most, units}
 use Rattle.grid_coords.specs.declared.points.DecimalPoint.{DecimalPoint}
 use Rattle.node_files.specs.Settling.{rounded_point}
 use Rattle.tet_text.specs.Decimals.{Scaled}
@@ -31,7 +31,7 @@ either_most one before all greatest same here earlier is = omega arith
 -- ---- sizes
 
 -- a size is over the limit, or within it
-pub over_test : (most n : ℕ) (o : Option ℕ) (b : Bool) → o ≡ within most n → is_some o ≡ not b → b ≡ nat_lt most n
+pub over_test : (most n : ℕ) (o : Option ℕ) (b : Bool) → o ≡ if_at_most most n → is_some o ≡ not b → b ≡ nat_lt most n
 over_test most n o b e same = opposite b (nat_lt most n) (sym same ∙ ap is_some e ∙ at (cases_lt most n))
   where
     opposite : (b c : Bool) → not b ≡ not c → b ≡ c
@@ -40,7 +40,7 @@ over_test most n o b e same = opposite b (nat_lt most n) (sym same ∙ ap is_som
     opposite true false e = cc
     opposite false true e = cc
 
-    at : (most < n) ⊎ (n ≤ most) → is_some (within most n) ≡ not (nat_lt most n)
+    at : (most < n) ⊎ (n ≤ most) → is_some (if_at_most most n) ≡ not (nat_lt most n)
     at (inl over) = ap is_some (cond-false _ _ _ (lt-leb n most over)) ∙ sym (ap not (lt-ltb most n over))
     at (inr le) = ap is_some (cond-true _ _ _ (le-leb n most le)) ∙ sym (ap not (le-ltb most n le))
 

@@ -14,7 +14,7 @@ use Rattle.run_steps.specs.declared.input.Input.{Input}
 use Rattle.run_steps.specs.declared.mesh.Bound.{Bound}
 use Rattle.run_steps.specs.declared.numbering.Numbering.{Numbering}
 use Rattle.tet_ports.specs.declared.NoMemory.{NoMemory}
-use Rattle.fit_steps.specs.Opening.{is_side_at, open_line, IsOpenAt, IsSideOf, TellsOpening, TellsOpenSide}
+use Rattle.fit_steps.specs.Opening.{is_side_at, open_line, IsOpenAt, IsSideOfFacetAt, TellsOpening, TellsOpenSide}
 
 -- the piece is no side of the polygon with these corners
 abbrev pub HasNoSide : Piece → List ℕ → Type 0
@@ -26,7 +26,7 @@ HasSide p corners = (i : ℕ) × (i < length corners) × (is_side_at p corners i
 
 -- a side of a polygon of the facet is one of the facet
 pub side_found : (c : Complex) (p : Piece) (k polygon : ℕ) (f : Facet) (corners : List ℕ) → HoldsAt (λ facet. facet ≡ f) c.facets k → f.first ≤ polygon → polygon < f.past
-    → HoldsAt (λ g. g.corners ≡ corners) c.polygons polygon → HasSide p corners → IsSideOf c p k
+    → HoldsAt (λ g. g.corners ≡ corners) c.polygons polygon → HasSide p corners → IsSideOfFacetAt c p k
 side_found c p k polygon f corners at le lt is s = record {
   polygon = polygon;
   of_facet = λ d. subst (λ (g : Facet). (g.first ≤ polygon) × (polygon < g.past)) (sym (at d)) (le, lt);
@@ -36,7 +36,7 @@ side_found c p k polygon f corners at le lt is s = record {
 
 -- what is a side of no polygon of the facet is none of the facet
 pub no_side : (c : Complex) (p : Piece) (k n : ℕ) (f : Facet) → HoldsAt (λ facet. facet ≡ f) c.facets k → f.past ≤ n
-    → ((j : ℕ) → j < n → f.first ≤ j → (d : Polygon) → HasNoSide p (get_or c.polygons j d).corners) → ¬ IsSideOf c p k
+    → ((j : ℕ) → j < n → f.first ≤ j → (d : Polygon) → HasNoSide p (get_or c.polygons j d).corners) → ¬ IsSideOfFacetAt c p k
 no_side c p k n f at le none s =
     let df : Facet = record { first = 0; past = 0; holes = []; marker = None } in
     let d : Polygon = record { corners = []; line = 0 } in

@@ -11,7 +11,7 @@ use Rattle.run_steps.specs.declared.numbering.Numbering.{Numbering}
 use Rattle.tet_ports.specs.declared.NoMemory.{NoMemory}
 use Rattle.run_steps.specs.declared.input.Input.{Input}
 use Rattle.run_steps.specs.declared.status.Status.{Status}
-use Rattle.fit_steps.specs.Hints.{first_facet, missing_in, segment_line, with_budget, IsHalvedAfter, IsPartOf, TellsLine, TellsSegment}
+use Rattle.fit_steps.specs.Hints.{first_facet, missing_in, segment_line, with_budget, IsHalvedAfter, IsHalvedPartOf, TellsLine, TellsSegment}
 
 -- what is missing at the end of a try over the same points
 pub halved_as : (limits : Limits) (options tried : Options) (input : Input) (nodes : NodeText) (added : ℕ) (status : Status) (found : Option Piece) → tried ≡ with_budget added options
@@ -31,15 +31,15 @@ halved_too limits options input n m found e = subst (λ k. IfSome found (IsHalve
 
 -- it is a part of what the piece before it is a part of
 pub part_before : (limits : Limits) (options : Options) (input : Input) (count left : ℕ) (p before whole : Piece) → 0 < left → IsHalvedAfter limits options input (max p.a p.b - count) before
-    → IsPartOf limits options input count (left - 1) before whole → IsPartOf limits options input count left p whole
+    → IsHalvedPartOf limits options input count (left - 1) before whole → IsHalvedPartOf limits options input count left p whole
 part_before limits options input count zero p before whole lt h part = absurd (omega arith)
 part_before limits options input count (suc n) p before whole lt h part =
     let e : suc n - 1 ≡ n = omega arith in
-    (before, h, subst (λ k. IsPartOf limits options input count k before whole) e part)
+    (before, h, subst (λ k. IsHalvedPartOf limits options input count k before whole) e part)
 
 -- a piece that was not halved is the whole
-pub part_whole : (limits : Limits) (options : Options) (input : Input) (count left : ℕ) (p : Piece) → left ≡ 0 → IsPartOf limits options input count left p p
-part_whole limits options input count left p e = subst (λ k. IsPartOf limits options input count k p p) (sym e) refl
+pub part_whole : (limits : Limits) (options : Options) (input : Input) (count left : ℕ) (p : Piece) → left ≡ 0 → IsHalvedPartOf limits options input count left p p
+part_whole limits options input count left p e = subst (λ k. IsHalvedPartOf limits options input count k p p) (sym e) refl
 
 -- ---- what is told
 
@@ -56,10 +56,10 @@ line_told limits options input nodes by whole bound (Err e) n h is = is
 
 -- and of a piece
 pub whole_told : (limits : Limits) (options : Options) (input : Input) (by : Numbering) (p whole : Piece) (count : ℕ) (r : Result (List ℕ) NoMemory) → count ≡ length by.names
-    → IsPartOf limits options input count p.halvings p whole → IfOk r (TellsLine limits options input by whole) → IfOk r (TellsSegment limits options input by p)
+    → IsHalvedPartOf limits options input count p.halvings p whole → IfOk r (TellsLine limits options input by whole) → IfOk r (TellsSegment limits options input by p)
 whole_told limits options input by p whole count (Ok line) c part told = inl (record {
   whole = whole;
-  part = subst (λ n. IsPartOf limits options input n p.halvings p whole) c part;
+  part = subst (λ n. IsHalvedPartOf limits options input n p.halvings p whole) c part;
   told = told;
 })
 whole_told limits options input by p whole count (Err e) c part told = told

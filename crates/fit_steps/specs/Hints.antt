@@ -65,10 +65,10 @@ pub record IsHalvedAfter (limits : Limits) (options : Options) (input : Input) (
 
 -- A piece that was halved so many times, of a model with so many points, is a part of the whole: its later end was added to halve
 -- the piece before it
-abbrev pub IsPartOf : Limits → Options → Input → ℕ → ℕ → Piece → Piece → Type 0
-IsPartOf limits options input count zero p whole = whole ≡ p
-IsPartOf limits options input count (suc n) p whole =
-    (before : Piece) × IsHalvedAfter limits options input (max p.a p.b - count) before × IsPartOf limits options input count n before whole
+abbrev pub IsHalvedPartOf : Limits → Options → Input → ℕ → ℕ → Piece → Piece → Type 0
+IsHalvedPartOf limits options input count zero p whole = whole ≡ p
+IsHalvedPartOf limits options input count (suc n) p whole =
+    (before : Piece) × IsHalvedAfter limits options input (max p.a p.b - count) before × IsHalvedPartOf limits options input count n before whole
 
 -- both ends of the piece are corners
 abbrev pub has_both : Piece → List ℕ → Bool
@@ -79,22 +79,22 @@ abbrev pub has_polygon : ℕ → Facet → Bool
 has_polygon i f = nat_le f.first i && nat_lt i f.past
 
 -- the first facet that has this polygon
-abbrev pub facet_of : Complex → Option ℕ → Option ℕ
-facet_of c None = None
-facet_of c (Some i) = position (has_polygon i) c.facets
+abbrev pub first_facet_of : Complex → Option ℕ → Option ℕ
+first_facet_of c None = None
+first_facet_of c (Some i) = position (has_polygon i) c.facets
 
 -- the first facet with a polygon that has both ends of the piece
 abbrev pub first_facet : Complex → Piece → Option ℕ
-first_facet c p = facet_of c (position (λ g. has_both p g.corners) c.polygons)
+first_facet c p = first_facet_of c (position (λ g. has_both p g.corners) c.polygons)
 
 -- facets count from 1
-abbrev pub facet_text : Option ℕ → List ℕ
-facet_text None = []
-facet_text (Some k) = codes " of facet " ++ decimal (k + 1)
+abbrev pub hinted_facet_text : Option ℕ → List ℕ
+hinted_facet_text None = []
+hinted_facet_text (Some k) = codes " of facet " ++ decimal (k + 1)
 
 abbrev pub segment_line : Numbering → Piece → Option ℕ → List ℕ
 segment_line by p facet =
-    codes "tetfit: it lies on segment" ++ number_text by (min p.a p.b) ++ number_text by (max p.a p.b) ++ facet_text facet ++ codes "\n"
+    codes "tetfit: it lies on segment" ++ number_text by (min p.a p.b) ++ number_text by (max p.a p.b) ++ hinted_facet_text facet ++ codes "\n"
 
 -- the line names this segment
 pub record IsLineOf (limits : Limits) (options : Options) (input : Input) (by : Numbering) (whole : Piece) (line : List ℕ) : Type 0 where
@@ -109,7 +109,7 @@ TellsLine limits options input by whole line = IsLineOf limits options input by 
 -- the line names what the piece is a part of
 pub record TellsWhole (limits : Limits) (options : Options) (input : Input) (by : Numbering) (p : Piece) (line : List ℕ) : Type 0 where
   pub whole : Piece
-  pub part : IsPartOf limits options input (length by.names) p.halvings p whole
+  pub part : IsHalvedPartOf limits options input (length by.names) p.halvings p whole
   pub told : TellsLine limits options input by whole line
 
 abbrev pub TellsSegment : Limits → Options → Input → Numbering → Piece → List ℕ → Type 0

@@ -21,7 +21,7 @@ abbrev pub is_side_at : Piece → List ℕ → ℕ → Bool
 is_side_at p corners i = are_ends p (slice_index corners i) (slice_index corners (if i + 1 == length corners then 0 else i + 1))
 
 -- the piece is a side of a polygon of the facet at this place
-pub record IsSideOf (c : Complex) (p : Piece) (k : ℕ) : Type 0 where
+pub record IsSideOfFacetAt (c : Complex) (p : Piece) (k : ℕ) : Type 0 where
   pub polygon : ℕ
   pub of_facet : HoldsAt (λ f. (f.first ≤ polygon) × (polygon < f.past)) c.facets k
   pub place : ℕ
@@ -30,8 +30,8 @@ pub record IsSideOf (c : Complex) (p : Piece) (k : ℕ) : Type 0 where
 -- only the facet at this place has the side
 pub record IsOpenAt (c : Complex) (p : Piece) (k : ℕ) : Type 0 where
   pub there : k < length c.facets
-  pub side : IsSideOf c p k
-  pub alone : (j : ℕ) → j < length c.facets → j ≢ k → ¬ IsSideOf c p j
+  pub side : IsSideOfFacetAt c p k
+  pub alone : (j : ℕ) → j < length c.facets → j ≢ k → ¬ IsSideOfFacetAt c p j
 
 -- facets count from 1
 abbrev pub open_line : Numbering → Piece → ℕ → List ℕ

@@ -3,7 +3,7 @@
 ghost use Rattle.std.specs.Prelude.{◌≡◌, ◌≤◌, ◌<◌, min, map, IsTrue};
 ghost use Rattle.std.specs.List.{list_any};
 ghost use Rattle.grid_coords.specs.Choice.{decimals_of, is_over, most_decimals, size_of};
-ghost use Rattle.grid_coords.specs.Units.{limit, within};
+ghost use Rattle.grid_coords.specs.Units.{limit, if_at_most};
 ghost use Rattle.node_files.specs.Settling.{rounded_point};
 ghost use Rattle.fit_steps.specs.Grids.{AreOffBetween, IsOffRounded};
 
@@ -92,7 +92,7 @@ fn rounded_decimals(points: &[DecimalPoint], decimals: u32) -> u32
 
 /// The greatest size of the point's coordinates, or None where that is over 2^23 units.
 fn size_of(decimals: u32, p: &DecimalPoint) -> Option<u64>
-    ensures { result ≡ within limit (size_of decimals p.now) }
+    ensures { result ≡ if_at_most limit (size_of decimals p.now) }
 {
     let decimals = u64::from(decimals);
     let x = units_within(&p.x, decimals, 0, LIMIT)?;

@@ -4,7 +4,7 @@ ghost use Rattle.std.specs.Prelude.{◌≡◌, ◌≤◌, ◌++◌, IfOk, OnOk};
 ghost use Rattle.command_words.specs.Meaning.{AreInRange};
 ghost use Rattle.node_files.specs.Limits.{AreIndexable};
 ghost use Rattle.run_steps.specs.Reading.{IsSound};
-ghost use Rattle.fit_steps.specs.Hints.{facet_text, first_facet, grid_hint, part_line};
+ghost use Rattle.fit_steps.specs.Hints.{hinted_facet_text, first_facet, grid_hint, part_line};
 ghost use Rattle.fit_steps.specs.Hints.{segment_line, IsHint, IsHintBy, TellsLine, TellsSegment};
 ghost use Rattle.fit_steps.specs.Trying.{at_decimals};
 
@@ -24,7 +24,7 @@ use tet_ports::{Bytes, NoMemory};
 
 /// Appends the number of a facet, which counts from 1.
 fn append_facet(text: &mut Bytes, facet: Option<u32>) -> Result<(), NoMemory>
-    ensures { OnOk result (text.new ≡ text.old ++ facet_text facet) }
+    ensures { OnOk result (text.new ≡ text.old ++ hinted_facet_text facet) }
 {
     match facet {
         Some(k) => {

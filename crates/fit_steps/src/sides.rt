@@ -1,7 +1,7 @@
 //! The sides that only one facet has.
 
 ghost use Rattle.std.specs.Prelude.{◌≡◌, ◌<◌, ℕ, true, false, length, slice_index, IfOk, IfSome, IsTrue};
-ghost use Rattle.fit_steps.specs.Opening.{are_ends, is_side_at, IsOpenAt, IsSideOf};
+ghost use Rattle.fit_steps.specs.Opening.{are_ends, is_side_at, IsOpenAt, IsSideOfFacetAt};
 
 use geo_laws::{Complex, Piece};
 use piece_set::PieceSet;
@@ -43,8 +43,8 @@ fn is_side(piece: Piece, corners: &[u32]) -> bool
 /// Whether the piece is a side of a polygon of the facet at this place.
 fn is_side_of(complex: &Complex, piece: Piece, facet: u32) -> bool
     requires { facet < length complex.now.facets }
-    ensures yes { IsTrue result → IsSideOf complex.now piece facet }
-    ensures no { result ≡ false → ¬ IsSideOf complex.now piece facet }
+    ensures yes { IsTrue result → IsSideOfFacetAt complex.now piece facet }
+    ensures no { result ≡ false → ¬ IsSideOfFacetAt complex.now piece facet }
 {
     let span = complex.facet(facet);
     for polygon in span.first..span.past {

@@ -4,7 +4,7 @@ ghost use Rattle.std.specs.Prelude.{◌≡◌, ◌≤◌, ◌-◌, max, IfOk, If
 ghost use Rattle.command_words.specs.Meaning.{AreInRange};
 ghost use Rattle.node_files.specs.Limits.{AreIndexable};
 ghost use Rattle.run_steps.specs.Reading.{IsSound};
-ghost use Rattle.fit_steps.specs.Hints.{missing_in, IsHalvedAfter, IsPartOf};
+ghost use Rattle.fit_steps.specs.Hints.{missing_in, IsHalvedAfter, IsHalvedPartOf};
 
 use crate::copies::{nodes_of, with_budget};
 use crate::trying::outputs_with;
@@ -88,7 +88,7 @@ pub(crate) fn whole_of(
     requires input { IsSound input.now }
     requires ranges { AreInRange options.now }
     ensures { IfOk result (λ found. IfSome found
-        (IsPartOf limits options.now input.now count piece.halvings piece)) }
+        (IsHalvedPartOf limits options.now input.now count piece.halvings piece)) }
 {
     let mut whole = piece;
     let mut left = piece.halvings;

@@ -6,32 +6,32 @@ use Rattle.fit_words.specs.declared.reason.Reason.{Reason}
 use Rattle.fit_words.specs.declared.reason.Reason.TheVariants.{Quality, Volumes, Sizes, Boundary, Order, Insertion, Coarsening, Optimization, Tolerance, Exactness, Crossings, Voronoi, OtherFiles, Weights, Check, OwnWord, Decimals, Sample, Number, NoSwitch, EmptyWord, SecondName, NoName, LongWord, Letter}
 use Rattle.fit_words.specs.Reasons.{why_not}
 
-abbrev pub text_of : Reason → List ℕ
-text_of Quality = codes "quality meshes are not there"
-text_of Volumes = codes "bounds on volumes are not there"
-text_of Sizes = codes "sizes of tetrahedra are not there"
-text_of Boundary = codes "segments take points where they need them"
-text_of Order = codes "a tetrahedron has four corners, and no midpoints"
-text_of Insertion = codes "points are not added from a list"
-text_of Coarsening = codes "meshes are not made coarser"
-text_of Optimization = codes "meshes are not improved"
-text_of Tolerance = codes "signs are exact, and take no tolerance"
-text_of Exactness = codes "signs are always exact"
-text_of Crossings = codes "crossing parts are told without a switch"
-text_of Voronoi = codes "Voronoi cells are not written"
-text_of OtherFiles = codes "files of other programs are not written"
-text_of Weights = codes "points with weights are meshed by tetgen -w"
-text_of Check = codes "a mesh is checked by tetgen -rC"
-text_of OwnWord = codes "this letter is a word of its own, with its hyphen"
-text_of Decimals = codes "decimals are found here; tetgen takes their number"
-text_of Sample = codes "the sample is meshed by tetgen"
-text_of Number = codes "a number within its limit is wanted"
-text_of NoSwitch = codes "a switch is wanted behind the hyphen"
-text_of EmptyWord = codes "the word is empty"
-text_of SecondName = codes "there is one name already"
-text_of NoName = codes "the name of a file is wanted"
-text_of LongWord = codes "a word that is not known"
-text_of Letter = codes "a letter that is not known"
+abbrev pub reason_text : Reason → List ℕ
+reason_text Quality = codes "quality meshes are not there"
+reason_text Volumes = codes "bounds on volumes are not there"
+reason_text Sizes = codes "sizes of tetrahedra are not there"
+reason_text Boundary = codes "segments take points where they need them"
+reason_text Order = codes "a tetrahedron has four corners, and no midpoints"
+reason_text Insertion = codes "points are not added from a list"
+reason_text Coarsening = codes "meshes are not made coarser"
+reason_text Optimization = codes "meshes are not improved"
+reason_text Tolerance = codes "signs are exact, and take no tolerance"
+reason_text Exactness = codes "signs are always exact"
+reason_text Crossings = codes "crossing parts are told without a switch"
+reason_text Voronoi = codes "Voronoi cells are not written"
+reason_text OtherFiles = codes "files of other programs are not written"
+reason_text Weights = codes "points with weights are meshed by tetgen -w"
+reason_text Check = codes "a mesh is checked by tetgen -rC"
+reason_text OwnWord = codes "this letter is a word of its own, with its hyphen"
+reason_text Decimals = codes "decimals are found here; tetgen takes their number"
+reason_text Sample = codes "the sample is meshed by tetgen"
+reason_text Number = codes "a number within its limit is wanted"
+reason_text NoSwitch = codes "a switch is wanted behind the hyphen"
+reason_text EmptyWord = codes "the word is empty"
+reason_text SecondName = codes "there is one name already"
+reason_text NoName = codes "the name of a file is wanted"
+reason_text LongWord = codes "a word that is not known"
+reason_text Letter = codes "a letter that is not known"
 
 -- the letter of a cluster at this place, from 1
 abbrev pub letter_at : List ℕ → ℕ → List ℕ
@@ -45,4 +45,4 @@ word_told words word place =
 
 -- the line, which a line feed ends
 abbrev pub refused_line : List (List ℕ) → ℕ → ℕ → List ℕ
-refused_line words word place = codes "tetfit: " ++ word_told words word place ++ text_of (why_not words word place) ++ codes "\n"
+refused_line words word place = codes "tetfit: " ++ word_told words word place ++ reason_text (why_not words word place) ++ codes "\n"

@@ -32,8 +32,8 @@ others [] = []
 others (word ∷ more) = if bytes_eq word (codes "-V") then others more else word ∷ others more
 
 -- weights, a check, decimals and the sample
-abbrev pub is_elsewhere : Options → Bool
-is_elsewhere options = (options.weighted || options.check) || (is_some options.decimals || is_some options.sample)
+abbrev pub asks_elsewhere : Options → Bool
+asks_elsewhere options = (options.weighted || options.check) || (is_some options.decimals || is_some options.sample)
 
 -- a letter that asks for weights, 119, or for a check, 114 and 67
 abbrev pub is_letter_elsewhere : ℕ → Bool
@@ -54,10 +54,10 @@ first_elsewhere number (word ∷ more) = option_map_or (λ place. Some (number, 
 abbrev pub fit_fault : List (List ℕ) → Option (ℕ × ℕ)
 fit_fault words =
     option_or (words_fault words)
-    (if is_elsewhere (options_of words) then Some (unwrap_or (first_elsewhere 1 words) (1, 1)) else None)
+    (if asks_elsewhere (options_of words) then Some (unwrap_or (first_elsewhere 1 words) (1, 1)) else None)
 
 -- the words ask neither for weights nor for a check, and give neither decimals nor a sample
-pub record IsPlain (options : Options) : Type 0 where
+pub record IsPlainRequest (options : Options) : Type 0 where
   pub weighted : options.weighted ≡ false
   pub check : options.check ≡ false
   pub decimals : options.decimals ≡ None

@@ -2,7 +2,7 @@
 
 ghost use Rattle.std.specs.Prelude.{◌≡◌};
 ghost use Rattle.fit_words.specs.Reasons.{cluster_reason, long_reason, reason_of, why_not, word_reason};
-ghost use Rattle.fit_words.specs.Texts.{text_of};
+ghost use Rattle.fit_words.specs.Texts.{reason_text};
 
 use crate::kinds::{DECIMALS, HALVINGS, SAMPLE, byte_at, is_cluster, is_long};
 use tet_ports::Words;
@@ -65,7 +65,7 @@ pub enum Reason {
 impl Reason {
     /// What is said of it.
     pub(crate) fn text(self) -> &'static [u8]
-        ensures { result.now ≡ text_of self }
+        ensures { result.now ≡ reason_text self }
     {
         match self {
             Reason::Quality => b"quality meshes are not there",

@@ -4,7 +4,7 @@ ghost use Rattle.std.specs.Prelude.{◌≡◌, ◌+◌, ◌<◌, ℕ, length, So
 ghost use Rattle.std.specs.Str.{bytes_eq};
 ghost use Rattle.command_words.specs.Meaning.{options_of, AreInRange};
 ghost use Rattle.command_words.specs.declared.fault.WordsFault.TheVariants.{Usage};
-ghost use Rattle.fit_words.specs.Words.{request_of, asks_page, asks_stages, asks_version, elsewhere_in, first_elsewhere, fit_fault, has_word, is_elsewhere, is_letter_elsewhere, others, IsPlain};
+ghost use Rattle.fit_words.specs.Words.{request_of, asks_page, asks_stages, asks_version, elsewhere_in, first_elsewhere, fit_fault, has_word, asks_elsewhere, is_letter_elsewhere, others, IsPlainRequest};
 
 use crate::kinds::{DECIMALS, SAMPLE, is_cluster};
 use command_words::{Options, WordsFault, read_words};
@@ -118,7 +118,7 @@ fn first_elsewhere(words: &Words) -> Option<(usize, usize)>
 
 /// Whether the options have one of these four.
 fn is_elsewhere(options: &Options) -> bool
-    ensures { result ≡ is_elsewhere options.now }
+    ensures { result ≡ asks_elsewhere options.now }
 {
     options.weighted || options.check || (options.decimals.is_some() || options.sample.is_some())
 }
@@ -134,7 +134,7 @@ pub fn read_options(alloc: Global, words: &Words) -> Result<Options, WordsFault>
     ensures usage { (word place : ℕ) → result ≡ Err (Usage word place)
         → fit_fault words.now ≡ Some (word, place) }
     ensures ranges { IfOk result (λ options. AreInRange options) }
-    ensures plain { IfOk result (λ options. IsPlain options) }
+    ensures plain { IfOk result (λ options. IsPlainRequest options) }
 {
     let options = read_words(alloc, words)?;
     if is_elsewhere(&options) {

@@ -8,18 +8,18 @@ use Rattle.std.proofs.Math.Nat.{mul-le-mul, mul-le-mul_right, mul-lt-mul_of_pos_
 use Rattle.std.proofs.Math.Pow.{pow_mono}
 use Rattle.float_decimals.specs.declared.steps.Steps.{Steps}
 use Rattle.float_decimals.specs.declared.place.Place.{Place}
-use Rattle.float_decimals.specs.Nearest.{is_reached, first_of, nearest, at_places}
+use Rattle.float_decimals.specs.Nearest.{is_reached, first_reached, nearest, at_places}
 use Rattle.float_decimals.specs.Shortest.{least_places, shortest}
-use Rattle.float_decimals.specs.Place.{IsPlace, IsNext}
+use Rattle.float_decimals.specs.Place.{IsDecimalPlace, IsNextPlace}
 
 -- ---- the nearest whole number
 
-pub first_of_none : (b : Bool) (m : ℕ) (c : Bool) (n : ℕ) → first_of b m c n ≡ None → (b ≡ false) × (c ≡ false)
+pub first_of_none : (b : Bool) (m : ℕ) (c : Bool) (n : ℕ) → first_reached b m c n ≡ None → (b ≡ false) × (c ≡ false)
 first_of_none true m c n none = cc
 first_of_none false m true n none = cc
 first_of_none false m false n none = (refl, refl)
 
-first_of_fits : (b : Bool) (m : ℕ) (c : Bool) (n most : ℕ) → m ≤ most → n ≤ most → IfSome (first_of b m c n) (λ k. k ≤ most)
+first_of_fits : (b : Bool) (m : ℕ) (c : Bool) (n most : ℕ) → m ≤ most → n ≤ most → IfSome (first_reached b m c n) (λ k. k ≤ most)
 first_of_fits true m c n most le le2 = le
 first_of_fits false m true n most le le2 = le2
 first_of_fits false m false n most le le2 = tt
@@ -38,8 +38,8 @@ pub none_near : (whole rest unit quarter below : ℕ) (closed : Bool) → 1 ≤ 
 none_near whole rest unit quarter below closed some none = go (if 2 * rest == unit then whole % 2 == 0 else nat_lt (2 * rest) unit) none
   where
     go : (b : Bool)
-        → (if b then first_of (is_reached closed rest (below * quarter)) whole (is_reached closed unit (rest + 2 * quarter)) (whole + 1)
-        else first_of (is_reached closed unit (rest + 2 * quarter)) (whole + 1) (is_reached closed rest (below * quarter)) whole) ≡ None → 3 * quarter ≤ unit
+        → (if b then first_reached (is_reached closed rest (below * quarter)) whole (is_reached closed unit (rest + 2 * quarter)) (whole + 1)
+        else first_reached (is_reached closed unit (rest + 2 * quarter)) (whole + 1) (is_reached closed rest (below * quarter)) whole) ≡ None → 3 * quarter ≤ unit
     go true is = let both = first_of_none (is_reached closed rest (below * quarter)) whole (is_reached closed unit (rest + 2 * quarter)) (whole + 1) is in
         quarters rest unit quarter below some (not_reached closed rest (below * quarter) both.0) (not_reached closed unit (rest + 2 * quarter) both.1)
     go false is = let both = first_of_none (is_reached closed unit (rest + 2 * quarter)) (whole + 1) (is_reached closed rest (below * quarter)) whole is in
@@ -49,8 +49,8 @@ pub near_fits : (whole rest unit quarter below : ℕ) (closed : Bool) → IfSome
 near_fits whole rest unit quarter below closed = go (if 2 * rest == unit then whole % 2 == 0 else nat_lt (2 * rest) unit)
   where
     go : (b : Bool)
-        → IfSome (if b then first_of (is_reached closed rest (below * quarter)) whole (is_reached closed unit (rest + 2 * quarter)) (whole + 1)
-        else first_of (is_reached closed unit (rest + 2 * quarter)) (whole + 1) (is_reached closed rest (below * quarter)) whole) (λ n. n ≤ whole + 1)
+        → IfSome (if b then first_reached (is_reached closed rest (below * quarter)) whole (is_reached closed unit (rest + 2 * quarter)) (whole + 1)
+        else first_reached (is_reached closed unit (rest + 2 * quarter)) (whole + 1) (is_reached closed rest (below * quarter)) whole) (λ n. n ≤ whole + 1)
     go true = first_of_fits (is_reached closed rest (below * quarter)) whole (is_reached closed unit (rest + 2 * quarter)) (whole + 1) (whole + 1) (omega arith) (omega arith)
     go false = first_of_fits (is_reached closed unit (rest + 2 * quarter)) (whole + 1) (is_reached closed rest (below * quarter)) whole (whole + 1) (omega arith) (omega arith)
 
@@ -102,7 +102,7 @@ tens k = mul-pow 5 2 k
 two_more : (n k : ℕ) → k ≤ n → 2 ^ n ≡ 2 ^ (n - k) * 2 ^ k
 two_more n k le = let e : n ≡ n - k + k = omega arith in ap (λ (m : ℕ). 2 ^ m) e ∙ pow-add 2 (n - k) k
 
-pub at_place : (s : Steps) (places : ℕ) (p : Place) → IsPlace s places p → places ≤ s.halvings
+pub at_place : (s : Steps) (places : ℕ) (p : Place) → IsDecimalPlace s places p → places ≤ s.halvings
     → at_places s places ≡ nearest p.whole p.rest p.unit p.quarter s.below (s.count % 2 == 0)
 unfolding at_places
 at_place s places p is le =
@@ -142,7 +142,7 @@ number_small count k less le =
 
 pub started : (s : Steps) (first number unit quarter : ℕ) → s.count < 2 ^ 24 → s.halvings ≤ 149 → first ≡ s.halvings - 118
     → unit ≡ 2 ^ (s.halvings + 2 - first) → quarter ≡ 5 ^ first → number ≡ 4 * s.count * quarter
-    → IsPlace s first (record { whole = number / unit; rest = number % unit; unit = unit; quarter = quarter })
+    → IsDecimalPlace s first (record { whole = number / unit; rest = number % unit; unit = unit; quarter = quarter })
 started s first number unit quarter less le first-is unit-is quarter-is number-is =
     let some : 0 < unit = rw unit-is (pow_pos (s.halvings + 2 - first)) in
     let small : 4 * s.count * 5 ^ first ≤ 2 ^ 98 = number_small s.count first less (omega arith) in
@@ -162,7 +162,7 @@ started s first number unit quarter less le first-is unit-is quarter-is number-i
 
 -- ---- the next place
 
-pub goes_on : (s : Steps) (places : ℕ) (p q : Place) → IsPlace s places p → s.count < 2 ^ 24 → places ≤ s.halvings → 3 * p.quarter ≤ p.unit → IsNext p q → IsPlace s (places + 1) q
+pub goes_on : (s : Steps) (places : ℕ) (p q : Place) → IsDecimalPlace s places p → s.count < 2 ^ 24 → places ≤ s.halvings → 3 * p.quarter ≤ p.unit → IsNextPlace p q → IsDecimalPlace s (places + 1) q
 goes_on s places p q is few le quarters next =
     let shorter : s.halvings + 2 - places ≡ suc (s.halvings + 2 - (places + 1)) = omega arith in
     let half : p.unit ≡ 2 ^ (s.halvings + 2 - (places + 1)) * 2 = is.unit ∙ ap (λ (k : ℕ). 2 ^ k) shorter ∙ pow-suc 2 (s.halvings + 2 - (places + 1)) in
@@ -244,7 +244,7 @@ too_small number unit quarter below closed more less =
     unreached true a b lt = grind (arith, nat_tests)
     unreached false a b lt = grind (arith, nat_tests)
 
-    both : (b : Bool) → (if b then first_of false 0 false (0 + 1) else first_of false (0 + 1) false 0) ≡ None
+    both : (b : Bool) → (if b then first_reached false 0 false (0 + 1) else first_reached false (0 + 1) false 0) ≡ None
     both true = refl
     both false = refl
 

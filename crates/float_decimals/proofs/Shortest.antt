@@ -6,32 +6,32 @@ use Rattle.std.proofs.lemmas.Bool.Decides.{nat_tests}
 use Rattle.std.proofs.lemmas.Nat.{pow_pos, pow-add, mul-pow, mod-mul-add, div-add-mod', mod_below}
 use Rattle.std.proofs.Math.Nat.{mul-le-mul_right, pow-le-pow_right, mul_assoc}
 use Rattle.float_decimals.specs.declared.steps.Steps.{Steps}
-use Rattle.float_decimals.specs.Nearest.{is_reached, first_of, nearest, at_places}
+use Rattle.float_decimals.specs.Nearest.{is_reached, first_reached, nearest, at_places}
 use Rattle.float_decimals.specs.Shortest.{least_places, shortest}
-use Rattle.float_decimals.specs.Laws.{IsReached, ReadsBack, IsShortest}
+use Rattle.float_decimals.specs.Laws.{IsReachedBy, ReadsBack, IsShortest}
 use Rattle.float_decimals.proofs.Places.{first_of_none}
 
-reached_true : (closed : Bool) (a b : ℕ) → IsReached closed a b → is_reached closed a b ≡ true
+reached_true : (closed : Bool) (a b : ℕ) → IsReachedBy closed a b → is_reached closed a b ≡ true
 reached_true true a b is = grind (arith, nat_tests)
 reached_true false a b is = grind (arith, nat_tests)
 
-true_reached : (closed : Bool) (a b : ℕ) → is_reached closed a b ≡ true → IsReached closed a b
+true_reached : (closed : Bool) (a b : ℕ) → is_reached closed a b ≡ true → IsReachedBy closed a b
 true_reached true a b is = grind (arith, nat_tests)
 true_reached false a b is = grind (arith, nat_tests)
 
-moved : (closed : Bool) (a b c d : ℕ) → IsReached closed a b → c + b ≤ d + a → IsReached closed c d
+moved : (closed : Bool) (a b c d : ℕ) → IsReachedBy closed a b → c + b ≤ d + a → IsReachedBy closed c d
 moved true a b c d is le = omega arith
 moved false a b c d is le = omega arith
 
 -- of a number that reads back, the whole number below the float, or that above, does too
 below_too : (closed : Bool) (n unit quarter below whole rest d : ℕ) → n ≡ whole * unit + rest → d ≤ whole
-    → IsReached closed n (d * unit + below * quarter) → IsReached closed rest (below * quarter)
+    → IsReachedBy closed n (d * unit + below * quarter) → IsReachedBy closed rest (below * quarter)
 below_too closed n unit quarter below whole rest d is le reached =
     let h : d * unit ≤ whole * unit = mul-le-mul_right unit le in
     moved closed n (d * unit + below * quarter) rest (below * quarter) reached (omega (arith, h, is))
 
 above_too : (closed : Bool) (n unit quarter whole rest d : ℕ) → n ≡ whole * unit + rest → whole + 1 ≤ d
-    → IsReached closed (d * unit) (n + 2 * quarter) → IsReached closed unit (rest + 2 * quarter)
+    → IsReachedBy closed (d * unit) (n + 2 * quarter) → IsReachedBy closed unit (rest + 2 * quarter)
 above_too closed n unit quarter whole rest d is le reached =
     let h : (whole + 1) * unit ≤ d * unit = mul-le-mul_right unit le in
     moved closed (d * unit) (n + 2 * quarter) unit (rest + 2 * quarter) reached (omega (arith, h, is))
@@ -45,7 +45,7 @@ First b other = (b ≡ true) ⊎ (other ≡ false)
 some_is : (n m : ℕ) → (let found : Option ℕ = Some m in found) ≡ Some n → n ≡ m
 some_is n m is = cc
 
-taken : (b lower upper : Bool) (whole n : ℕ) → (if b then first_of lower whole upper (whole + 1) else first_of upper (whole + 1) lower whole) ≡ Some n
+taken : (b lower upper : Bool) (whole n : ℕ) → (if b then first_reached lower whole upper (whole + 1) else first_reached upper (whole + 1) lower whole) ≡ Some n
     → ((n ≡ whole) × (lower ≡ true) × First b upper) ⊎ ((n ≡ whole + 1) × (upper ≡ true) × First (not b) lower)
 taken true true upper whole n is = inl (some_is n whole is, refl, inl refl)
 taken true false true whole n is = inr (some_is n (whole + 1) is, refl, inr refl)
@@ -54,7 +54,7 @@ taken false lower true whole n is = inr (some_is n (whole + 1) is, refl, inl ref
 taken false true false whole n is = inl (some_is n whole is, refl, inr refl)
 taken false false false whole n is = absurd cc
 
-none_taken : (b lower upper : Bool) (whole : ℕ) → (if b then first_of lower whole upper (whole + 1) else first_of upper (whole + 1) lower whole) ≡ None → (lower ≡ false) × (upper ≡ false)
+none_taken : (b lower upper : Bool) (whole : ℕ) → (if b then first_reached lower whole upper (whole + 1) else first_reached upper (whole + 1) lower whole) ≡ None → (lower ≡ false) × (upper ≡ false)
 none_taken true lower upper whole is = first_of_none lower whole upper (whole + 1) is
 none_taken false lower upper whole is = let both = first_of_none upper (whole + 1) lower whole is in (both.1, both.0)
 
@@ -114,7 +114,7 @@ above_tie n whole unit rest d is less other tie =
 
 -- ---- in one
 
-strictly : (closed : Bool) (a b : ℕ) → a < b → IsReached closed a b
+strictly : (closed : Bool) (a b : ℕ) → a < b → IsReachedBy closed a b
 strictly true a b lt = omega arith
 strictly false a b lt = lt
 
@@ -138,8 +138,8 @@ none_there s places d none reads =
 -- the one that is found, for plain numbers
 chosen : (n unit quarter below whole rest : ℕ) (closed : Bool) → n ≡ whole * unit + rest → rest < unit → 0 < quarter → (number : ℕ)
     → nearest whole rest unit quarter below closed ≡ Some number
-    → (IsReached closed n (number * unit + below * quarter) × IsReached closed (number * unit) (n + 2 * quarter))
-    × ((d : ℕ) → IsReached closed n (d * unit + below * quarter) → IsReached closed (d * unit) (n + 2 * quarter)
+    → (IsReachedBy closed n (number * unit + below * quarter) × IsReachedBy closed (number * unit) (n + 2 * quarter))
+    × ((d : ℕ) → IsReachedBy closed n (d * unit + below * quarter) → IsReachedBy closed (d * unit) (n + 2 * quarter)
     → (away n unit number ≤ away n unit d) × (d ≢ number → away n unit d ≡ away n unit number → number % 2 ≡ 0))
 chosen n unit quarter below whole rest closed is less some number found =
     elim (taken (is_lower_nearer whole rest unit) (is_reached closed rest (below * quarter)) (is_reached closed unit (rest + 2 * quarter)) whole number found) [
@@ -167,13 +167,13 @@ chosen n unit quarter below whole rest closed is less some number found =
           )
     ]
   where
-    only_below : (d : ℕ) → IsReached closed n (d * unit + below * quarter) → IsReached closed (d * unit) (n + 2 * quarter) → is_reached closed unit (rest + 2 * quarter) ≡ false → d ≤ whole
+    only_below : (d : ℕ) → IsReachedBy closed n (d * unit + below * quarter) → IsReachedBy closed (d * unit) (n + 2 * quarter) → is_reached closed unit (rest + 2 * quarter) ≡ false → d ≤ whole
     only_below d above under alone = elim (cases_lt whole d) [
       | inl lt ↦ absurd (true≢false (sym (reached_true closed unit (rest + 2 * quarter) (above_too closed n unit quarter whole rest d is (omega arith) under)) ∙ alone))
       | inr le ↦ le
     ]
 
-    only_above : (d : ℕ) → IsReached closed n (d * unit + below * quarter) → IsReached closed (d * unit) (n + 2 * quarter) → is_reached closed rest (below * quarter) ≡ false → whole + 1 ≤ d
+    only_above : (d : ℕ) → IsReachedBy closed n (d * unit + below * quarter) → IsReachedBy closed (d * unit) (n + 2 * quarter) → is_reached closed rest (below * quarter) ≡ false → whole + 1 ≤ d
     only_above d above under alone = elim (cases_lt whole d) [
       | inl lt ↦ omega arith
       | inr le ↦ absurd (true≢false (sym (reached_true closed rest (below * quarter) (below_too closed n unit quarter below whole rest d is le above)) ∙ alone))

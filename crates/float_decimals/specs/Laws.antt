@@ -4,14 +4,14 @@ use Rattle.float_decimals.specs.declared.steps.Steps.{Steps}
 use Rattle.float_decimals.specs.Shortest.{shortest}
 
 -- a middle between two floats belongs to the one whose count is even
-abbrev pub IsReached : Bool → ℕ → ℕ → Type 0
-IsReached true a b = a ≤ b
-IsReached false a b = a < b
+abbrev pub IsReachedBy : Bool → ℕ → ℕ → Type 0
+IsReachedBy true a b = a ≤ b
+IsReachedBy false a b = a < b
 
 -- number / 10^places lies between the middles to the next floats: all is counted in parts of 2^(halvings + 2) times 10^places
 pub record ReadsBack (s : Steps) (places number : ℕ) : Type 0 where
-  pub above : IsReached (s.count % 2 == 0) (4 * s.count * 10 ^ places) (number * 2 ^ (s.halvings + 2) + s.below * 10 ^ places)
-  pub under : IsReached (s.count % 2 == 0) (number * 2 ^ (s.halvings + 2)) (4 * s.count * 10 ^ places + 2 * 10 ^ places)
+  pub above : IsReachedBy (s.count % 2 == 0) (4 * s.count * 10 ^ places) (number * 2 ^ (s.halvings + 2) + s.below * 10 ^ places)
+  pub under : IsReachedBy (s.count % 2 == 0) (number * 2 ^ (s.halvings + 2)) (4 * s.count * 10 ^ places + 2 * 10 ^ places)
 
 -- how far number / 10^places is from the float, in the same parts
 abbrev pub distance : Steps → ℕ → ℕ → ℕ

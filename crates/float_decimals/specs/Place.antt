@@ -4,7 +4,7 @@ use Rattle.float_decimals.specs.declared.steps.Steps.{Steps}
 use Rattle.float_decimals.specs.declared.place.Place.{Place}
 
 -- the tens of the places are left out as fives: their twos go off the unit
-pub record IsPlace (s : Steps) (places : ℕ) (p : Place) : Type 0 where
+pub record IsDecimalPlace (s : Steps) (places : ℕ) (p : Place) : Type 0 where
   pub number : 4 * s.count * 5 ^ places ≡ p.whole * p.unit + p.rest
   pub rest : p.rest < p.unit
   pub unit : p.unit ≡ 2 ^ (s.halvings + 2 - places)
@@ -14,7 +14,7 @@ pub record IsPlace (s : Steps) (places : ℕ) (p : Place) : Type 0 where
   pub whole_fits : p.whole ≤ 2 ^ 100
 
 -- ten times as much
-pub record IsNext (p next : Place) : Type 0 where
+pub record IsNextPlace (p next : Place) : Type 0 where
   pub whole : next.whole ≡ p.whole * 10 + p.rest * 5 / (p.unit / 2)
   pub rest : next.rest ≡ p.rest * 5 % (p.unit / 2)
   pub unit : next.unit ≡ p.unit / 2

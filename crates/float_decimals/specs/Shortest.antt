@@ -4,7 +4,7 @@ use Rattle.std.specs.Prelude.{ℕ, zero, suc, ◌+◌, ◌-◌, ◌*◌, ◌^◌
 use Rattle.std.specs.Option.{option_map, option_or}
 use Rattle.tet_text.specs.Decimals.{Scaled, lowest, with_sign, below_limit}
 use Rattle.float_decimals.specs.declared.steps.Steps.{Steps}
-use Rattle.float_decimals.specs.Floats.{is_negative, is_finite, exponent_of, count_of, steps_of}
+use Rattle.float_decimals.specs.Floats.{has_sign_bit, is_finite, float_exponent, step_count, float_steps}
 use Rattle.float_decimals.specs.Nearest.{at_places}
 
 -- the whole number at the least of so many numbers of places, from this one on, and these places
@@ -20,6 +20,6 @@ shortest s = least_places (s.halvings + 1) 0 s
 abbrev pub float_decimal : ℕ → Option Scaled
 float_decimal bits =
     if not (is_finite bits) then None else
-    if nat_le 150 (exponent_of bits) then
-    option_map (λ n. with_sign (is_negative bits) (n, 0)) (below_limit (count_of bits * 2 ^ (exponent_of bits - 150)))
-    else option_map (λ d. with_sign (is_negative bits) (lowest d.0 d.1)) (shortest (steps_of bits))
+    if nat_le 150 (float_exponent bits) then
+    option_map (λ n. with_sign (has_sign_bit bits) (n, 0)) (below_limit (step_count bits * 2 ^ (float_exponent bits - 150)))
+    else option_map (λ d. with_sign (has_sign_bit bits) (lowest d.0 d.1)) (shortest (float_steps bits))

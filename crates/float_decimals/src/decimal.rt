@@ -3,7 +3,7 @@
 ghost use Rattle.std.specs.Prelude.{◌≡◌, ◌<◌, ◌≤◌, ◌+◌, ◌*◌, ◌-◌, ◌^◌, IfSome, pos};
 ghost use Rattle.std.specs.Option.{option_map};
 ghost use Rattle.tet_text.specs.Decimals.{IsDecimal, below_limit, lowest, signed, with_sign};
-ghost use Rattle.float_decimals.specs.Floats.{count_of, exponent_of, steps_of};
+ghost use Rattle.float_decimals.specs.Floats.{step_count, float_exponent, float_steps};
 ghost use Rattle.float_decimals.specs.Shortest.{shortest, float_decimal};
 
 use crate::place::shortest;
@@ -26,8 +26,8 @@ fn signed(negative: bool, size: u128, scale: u32) -> Decimal
 
 /// The size of a float from 2^23 on, where it is below 10^36.
 fn whole_size(bits: u32) -> Option<u128>
-    requires { (150 ≤ exponent_of bits) × (exponent_of bits < 255) }
-    ensures value { result ≡ below_limit (count_of bits * 2 ^ (exponent_of bits - 150)) }
+    requires { (150 ≤ float_exponent bits) × (float_exponent bits < 255) }
+    ensures value { result ≡ below_limit (step_count bits * 2 ^ (float_exponent bits - 150)) }
     ensures bound { IfSome result (λ n. n < 10 ^ 36) }
 {
     let size = u128::from(count_of(bits)) * 2_u128.pow(exponent_of(bits) - 150);
@@ -36,8 +36,8 @@ fn whole_size(bits: u32) -> Option<u128>
 
 /// The size of a float below 2^23, and how many of its digits stand behind the point.
 fn size_in_parts(bits: u32) -> Option<(u128, u32)>
-    requires { exponent_of bits < 150 }
-    ensures value { result ≡ shortest (steps_of bits) }
+    requires { float_exponent bits < 150 }
+    ensures value { result ≡ shortest (float_steps bits) }
     ensures bound { IfSome result (λ d. d.0 ≤ 2 ^ 100 + 1) }
 {
     let steps = steps_of(bits);

@@ -1,9 +1,9 @@
 //! The decimal with the fewest digits behind the point.
 
 ghost use Rattle.std.specs.Prelude.{◌≡◌, ◌-◌, ◌<◌, ◌≤◌, ◌+◌, ◌*◌, ◌^◌, ◌==◌, ◌%◌, nat_lt, IfSome, None, if◌then◌else◌};
-ghost use Rattle.float_decimals.specs.Nearest.{first_of, is_reached, nearest};
+ghost use Rattle.float_decimals.specs.Nearest.{first_reached, is_reached, nearest};
 ghost use Rattle.float_decimals.specs.Shortest.{shortest};
-ghost use Rattle.float_decimals.specs.Place.{IsPlace, IsNext};
+ghost use Rattle.float_decimals.specs.Place.{IsDecimalPlace, IsNextPlace};
 
 use crate::steps::Steps;
 
@@ -24,7 +24,7 @@ fn is_reached(closed: bool, a: u128, b: u128) -> bool
 }
 
 fn first_of(b: bool, m: u128, c: bool, n: u128) -> Option<u128>
-    ensures { result ≡ first_of b m c n }
+    ensures { result ≡ first_reached b m c n }
 {
     if b {
         Some(m)
@@ -75,7 +75,7 @@ fn start(steps: &Steps, first: u32) -> Place
     requires count { steps.now.count < 2 ^ 24 }
     requires halvings { steps.now.halvings ≤ 149 }
     requires first { first ≡ steps.now.halvings - 118 }
-    ensures { IsPlace steps.now first result }
+    ensures { IsDecimalPlace steps.now first result }
 {
     let unit = 2_u128.pow(steps.halvings + 2 - first);
     let quarter = 5_u128.pow(first);
@@ -94,7 +94,7 @@ fn advance(place: &Place) -> Place
     requires unit { 2 ≤ place.now.unit }
     requires quarter { place.now.quarter ≤ 2 ^ 121 }
     requires whole { place.now.whole ≤ 2 ^ 100 }
-    ensures { IsNext place.now result }
+    ensures { IsNextPlace place.now result }
 {
     let unit = place.unit / 2;
     let rest = place.rest * 5;

@@ -1,7 +1,7 @@
 //! The parts of a float.
 
 ghost use Rattle.std.specs.Prelude.{◌≡◌, ◌<◌, ◌≤◌, ◌^◌};
-ghost use Rattle.float_decimals.specs.Floats.{is_negative, exponent_of, fraction_of, count_of, steps_of};
+ghost use Rattle.float_decimals.specs.Floats.{has_sign_bit, float_exponent, fraction_of, step_count, float_steps};
 
 /// A float as a whole number of steps, each 1 / 2^`halvings`; below it the middle to the next float
 /// is `below` quarters of a step away.
@@ -13,13 +13,13 @@ pub(crate) struct Steps {
 }
 
 pub(crate) fn is_negative(bits: u32) -> bool
-    ensures { result ≡ is_negative bits }
+    ensures { result ≡ has_sign_bit bits }
 {
     bits >= 1 << 31
 }
 
 pub(crate) fn exponent_of(bits: u32) -> u32
-    ensures value { result ≡ exponent_of bits }
+    ensures value { result ≡ float_exponent bits }
     ensures bound { result < 256 }
 {
     bits / 0x80_0000 % 256
@@ -33,7 +33,7 @@ fn fraction_of(bits: u32) -> u32
 }
 
 pub(crate) fn count_of(bits: u32) -> u32
-    ensures value { result ≡ count_of bits }
+    ensures value { result ≡ step_count bits }
     ensures bound { result < 2 ^ 24 }
 {
     if exponent_of(bits) == 0 {
@@ -45,8 +45,8 @@ pub(crate) fn count_of(bits: u32) -> u32
 
 /// The steps of a float below 2^24.
 pub(crate) fn steps_of(bits: u32) -> Steps
-    requires { exponent_of bits < 150 }
-    ensures value { result ≡ steps_of bits }
+    requires { float_exponent bits < 150 }
+    ensures value { result ≡ float_steps bits }
     ensures count { result.count < 2 ^ 24 }
     ensures halvings { result.halvings ≤ 149 }
     ensures below { result.below ≤ 2 }

@@ -5,7 +5,7 @@ use Rattle.std.specs.Prelude.{sum_by, filter}
 use Rattle.sign_predicates.specs.Point.{Point, RationalPoint}
 use Rattle.sign_predicates.specs.Orientation.{Triangle, normal, side, side_rational}
 use Rattle.geo_laws.specs.Delaunay.{point, numbers}
-use Rattle.geo_laws.specs.Simplex.{weighted_sum, IsMean}
+use Rattle.geo_laws.specs.Simplex.{sum_by_weights, IsMean}
 use Rattle.geo_laws.specs.declared.tetrahedra.Tet.{Tet}
 use Rattle.sign_predicates.proofs.Places.{Place, A, B, C, D}
 use Rattle.geo_laws.proofs.Places.{over_places, number}
@@ -44,70 +44,70 @@ sum-times w f c s =
     ring (var 0 ⊗ (var 1 ⊗ var 2) ⊕ var 3 ⊗ var 2) ((var 0 ⊗ var 1 ⊕ var 3) ⊗ var 2) tt (w ∷ f ∷ c ∷ s ∷ [])
 
 -- the sum of sums
-pub weighted_sum-add : (weight : ℕ → ℕ) (f g : ℕ → ℤ) (s : List ℕ) → weighted_sum weight (λ i. f i +ℤ g i) s ≡ weighted_sum weight f s +ℤ weighted_sum weight g s
+pub weighted_sum-add : (weight : ℕ → ℕ) (f g : ℕ → ℤ) (s : List ℕ) → sum_by_weights weight (λ i. f i +ℤ g i) s ≡ sum_by_weights weight f s +ℤ sum_by_weights weight g s
 weighted_sum-add weight f g [] = refl
-weighted_sum-add weight f g (i ∷ s) = ap (λ r. pos (weight i) *ℤ (f i +ℤ g i) +ℤ r) (weighted_sum-add weight f g s) ∙ sum-add (pos (weight i)) (f i) (g i) (weighted_sum weight f s) (weighted_sum weight g s)
+weighted_sum-add weight f g (i ∷ s) = ap (λ r. pos (weight i) *ℤ (f i +ℤ g i) +ℤ r) (weighted_sum-add weight f g s) ∙ sum-add (pos (weight i)) (f i) (g i) (sum_by_weights weight f s) (sum_by_weights weight g s)
 
 -- of multiples
-pub weighted_sum-scale : (weight : ℕ → ℕ) (c : ℤ) (f : ℕ → ℤ) (s : List ℕ) → weighted_sum weight (λ i. c *ℤ f i) s ≡ c *ℤ weighted_sum weight f s
+pub weighted_sum-scale : (weight : ℕ → ℕ) (c : ℤ) (f : ℕ → ℤ) (s : List ℕ) → sum_by_weights weight (λ i. c *ℤ f i) s ≡ c *ℤ sum_by_weights weight f s
 weighted_sum-scale weight c f [] = sym (*ℤ-zero c)
-weighted_sum-scale weight c f (i ∷ s) = ap (λ r. pos (weight i) *ℤ (c *ℤ f i) +ℤ r) (weighted_sum-scale weight c f s) ∙ sum-scale (pos (weight i)) c (f i) (weighted_sum weight f s)
+weighted_sum-scale weight c f (i ∷ s) = ap (λ r. pos (weight i) *ℤ (c *ℤ f i) +ℤ r) (weighted_sum-scale weight c f s) ∙ sum-scale (pos (weight i)) c (f i) (sum_by_weights weight f s)
 
 -- of a constant
-pub weighted_sum-const : (weight : ℕ → ℕ) (c : ℤ) (s : List ℕ) → weighted_sum weight (λ i. c) s ≡ c *ℤ pos (sum_by weight s)
+pub weighted_sum-const : (weight : ℕ → ℕ) (c : ℤ) (s : List ℕ) → sum_by_weights weight (λ i. c) s ≡ c *ℤ pos (sum_by weight s)
 weighted_sum-const weight c [] = sym (*ℤ-zero c)
 weighted_sum-const weight c (i ∷ s) =
     ap (λ r. pos (weight i) *ℤ c +ℤ r) (weighted_sum-const weight c s) ∙ sum-const (pos (weight i)) c (pos (sum_by weight s))
     ∙ ap (λ n. c *ℤ pos n) (sym (sum_by-cons weight i s))
 
 -- of differences
-pub weighted_sum-sub : (weight : ℕ → ℕ) (f g : ℕ → ℤ) (s : List ℕ) → weighted_sum weight (λ i. f i -ℤ g i) s ≡ weighted_sum weight f s -ℤ weighted_sum weight g s
+pub weighted_sum-sub : (weight : ℕ → ℕ) (f g : ℕ → ℤ) (s : List ℕ) → sum_by_weights weight (λ i. f i -ℤ g i) s ≡ sum_by_weights weight f s -ℤ sum_by_weights weight g s
 weighted_sum-sub weight f g [] = refl
-weighted_sum-sub weight f g (i ∷ s) = ap (λ r. pos (weight i) *ℤ (f i -ℤ g i) +ℤ r) (weighted_sum-sub weight f g s) ∙ sum-sub (pos (weight i)) (f i) (g i) (weighted_sum weight f s) (weighted_sum weight g s)
+weighted_sum-sub weight f g (i ∷ s) = ap (λ r. pos (weight i) *ℤ (f i -ℤ g i) +ℤ r) (weighted_sum-sub weight f g s) ∙ sum-sub (pos (weight i)) (f i) (g i) (sum_by_weights weight f s) (sum_by_weights weight g s)
 
 -- of multiples, with the factor last
-pub weighted_sum-times : (weight : ℕ → ℕ) (f : ℕ → ℤ) (c : ℤ) (s : List ℕ) → weighted_sum weight (λ i. f i *ℤ c) s ≡ weighted_sum weight f s *ℤ c
+pub weighted_sum-times : (weight : ℕ → ℕ) (f : ℕ → ℤ) (c : ℤ) (s : List ℕ) → sum_by_weights weight (λ i. f i *ℤ c) s ≡ sum_by_weights weight f s *ℤ c
 weighted_sum-times weight f c [] = sym (zero-*ℤ c)
-weighted_sum-times weight f c (i ∷ s) = ap (λ r. pos (weight i) *ℤ (f i *ℤ c) +ℤ r) (weighted_sum-times weight f c s) ∙ sum-times (pos (weight i)) (f i) c (weighted_sum weight f s)
+weighted_sum-times weight f c (i ∷ s) = ap (λ r. pos (weight i) *ℤ (f i *ℤ c) +ℤ r) (weighted_sum-times weight f c s) ∙ sum-times (pos (weight i)) (f i) c (sum_by_weights weight f s)
 
 -- and of sums over the places
-pub weighted_sum-places : (weight : ℕ → ℕ) (f : Place → ℕ → ℤ) (s : List ℕ) → weighted_sum weight (λ i. over_places (λ u. f u i)) s ≡ over_places (λ u. weighted_sum weight (f u) s)
+pub weighted_sum-places : (weight : ℕ → ℕ) (f : Place → ℕ → ℤ) (s : List ℕ) → sum_by_weights weight (λ i. over_places (λ u. f u i)) s ≡ over_places (λ u. sum_by_weights weight (f u) s)
 weighted_sum-places weight f s =
     weighted_sum-add weight (λ i. f A i +ℤ f B i +ℤ f C i) (f D) s
-    ∙ ap (λ q. q +ℤ weighted_sum weight (f D) s) (weighted_sum-add weight (λ i. f A i +ℤ f B i) (f C) s
-    ∙ ap (λ q. q +ℤ weighted_sum weight (f C) s) (weighted_sum-add weight (f A) (f B) s))
+    ∙ ap (λ q. q +ℤ sum_by_weights weight (f D) s) (weighted_sum-add weight (λ i. f A i +ℤ f B i) (f C) s
+    ∙ ap (λ q. q +ℤ sum_by_weights weight (f C) s) (weighted_sum-add weight (f A) (f B) s))
 
 -- over the corners of a tetrahedron
-pub weighted_sum-numbers : (weight : ℕ → ℕ) (f : ℕ → ℤ) (t : Tet) → weighted_sum weight f (numbers t) ≡ over_places (λ u. pos (weight (number t u)) *ℤ f (number t u))
+pub weighted_sum-numbers : (weight : ℕ → ℕ) (f : ℕ → ℤ) (t : Tet) → sum_by_weights weight f (numbers t) ≡ over_places (λ u. pos (weight (number t u)) *ℤ f (number t u))
 weighted_sum-numbers weight f t = shape (pos (weight t.a) *ℤ f t.a) (pos (weight t.b) *ℤ f t.b) (pos (weight t.c) *ℤ f t.c) (pos (weight t.d) *ℤ f t.d)
   where
     shape : (a b c d : ℤ) → a +ℤ (b +ℤ (c +ℤ (d +ℤ pos 0))) ≡ a +ℤ b +ℤ c +ℤ d
     shape a b c d = omega (arith, ints)
 
 -- the same values have the same sum
-pub weighted_sum-same : (weight : ℕ → ℕ) (f g : ℕ → ℤ) (s : List ℕ) → ((i : ℕ) → f i ≡ g i) → weighted_sum weight f s ≡ weighted_sum weight g s
-weighted_sum-same weight f g s e = λ j. weighted_sum weight (λ i. e i j) s
+pub weighted_sum-same : (weight : ℕ → ℕ) (f g : ℕ → ℤ) (s : List ℕ) → ((i : ℕ) → f i ≡ g i) → sum_by_weights weight f s ≡ sum_by_weights weight g s
+weighted_sum-same weight f g s e = λ j. sum_by_weights weight (λ i. e i j) s
 
 -- the sum of a side over the corners, in the sums of their coordinates
 weighted_sum-side : (ps : List Point) (weight : ℕ → ℕ) (f : Triangle) (s : List ℕ)
-    → weighted_sum weight (λ i. side f (point ps i)) s
-    ≡ (normal f).x *ℤ weighted_sum weight (λ i. (point ps i).x) s +ℤ ((normal f).y *ℤ weighted_sum weight (λ i. (point ps i).y) s
-    +ℤ ((normal f).z *ℤ weighted_sum weight (λ i. (point ps i).z) s +ℤ offset f *ℤ pos (sum_by weight s)))
+    → sum_by_weights weight (λ i. side f (point ps i)) s
+    ≡ (normal f).x *ℤ sum_by_weights weight (λ i. (point ps i).x) s +ℤ ((normal f).y *ℤ sum_by_weights weight (λ i. (point ps i).y) s
+    +ℤ ((normal f).z *ℤ sum_by_weights weight (λ i. (point ps i).z) s +ℤ offset f *ℤ pos (sum_by weight s)))
 weighted_sum-side ps weight f s =
     let x = λ (i : ℕ). (normal f).x *ℤ (point ps i).x in
     let y = λ (i : ℕ). (normal f).y *ℤ (point ps i).y in
     let z = λ (i : ℕ). (normal f).z *ℤ (point ps i).z in
     weighted_sum-same weight _ (λ i. x i +ℤ (y i +ℤ (z i +ℤ offset f))) s (λ i. side-linear f (point ps i))
     ∙ weighted_sum-add weight x (λ i. y i +ℤ (z i +ℤ offset f)) s
-    ∙ ap (λ r. weighted_sum weight x s +ℤ r) (weighted_sum-add weight y (λ i. z i +ℤ offset f) s)
-    ∙ ap (λ r. weighted_sum weight x s +ℤ (weighted_sum weight y s +ℤ r)) (weighted_sum-add weight z (λ i. offset f) s)
+    ∙ ap (λ r. sum_by_weights weight x s +ℤ r) (weighted_sum-add weight y (λ i. z i +ℤ offset f) s)
+    ∙ ap (λ r. sum_by_weights weight x s +ℤ (sum_by_weights weight y s +ℤ r)) (weighted_sum-add weight z (λ i. offset f) s)
     ∙ (λ j. weighted_sum-scale weight (normal f).x (λ i. (point ps i).x) s j
     +ℤ (weighted_sum-scale weight (normal f).y (λ i. (point ps i).y) s j
     +ℤ (weighted_sum-scale weight (normal f).z (λ i. (point ps i).z) s j +ℤ weighted_sum-const weight (offset f) s j)))
 
 -- The sum of a side over the corners is the side of their mean, up to the two denominators
 pub side-mean : (ps : List Point) (weight : ℕ → ℕ) (f : Triangle) (s : List ℕ) (x : RationalPoint) → IsMean ps s weight x
-    → weighted_sum weight (λ i. side f (point ps i)) s *ℤ x.w ≡ side_rational f x *ℤ pos (sum_by weight s)
+    → sum_by_weights weight (λ i. side f (point ps i)) s *ℤ x.w ≡ side_rational f x *ℤ pos (sum_by weight s)
 side-mean ps weight f s x mean =
     ap (λ r. r *ℤ x.w) (weighted_sum-side ps weight f s)
     ∙ mean-affine (normal f).x (normal f).y (normal f).z (offset f) _ _ _ (pos (sum_by weight s)) x.w x.x x.y x.z mean.x_is mean.y_is mean.z_is
@@ -124,14 +124,14 @@ zero-weight w n r e = drop_zero r ∙ ap (λ q. q +ℤ r) (sym (ap (λ v. pos v 
 
 -- so a filter that drops only such numbers changes no sum
 pub weighted_sum-filter : (weight : ℕ → ℕ) (f : ℕ → ℤ) (test : ℕ → Bool) (s : List ℕ) → ((i : ℕ) → IsMember i s → test i ≡ false → weight i ≡ 0)
-    → weighted_sum weight f (filter test s) ≡ weighted_sum weight f s
+    → sum_by_weights weight f (filter test s) ≡ sum_by_weights weight f s
 weighted_sum-filter weight f test [] h = refl
 weighted_sum-filter weight f test (i ∷ s) h = go (test i) refl (weighted_sum-filter weight f test s (λ j m. h j (there m)))
   where
-    go : (b : Bool) → test i ≡ b → weighted_sum weight f (filter test s) ≡ weighted_sum weight f s
-        → weighted_sum weight f (cond b (i ∷ filter test s) (filter test s)) ≡ weighted_sum weight f (i ∷ s)
+    go : (b : Bool) → test i ≡ b → sum_by_weights weight f (filter test s) ≡ sum_by_weights weight f s
+        → sum_by_weights weight f (cond b (i ∷ filter test s) (filter test s)) ≡ sum_by_weights weight f (i ∷ s)
     go true e rest = ap (λ q. pos (weight i) *ℤ f i +ℤ q) rest
-    go false e rest = rest ∙ zero-weight (weight i) (f i) (weighted_sum weight f s) (h i here e)
+    go false e rest = rest ∙ zero-weight (weight i) (f i) (sum_by_weights weight f s) (h i here e)
 
 -- nor the sum of the weights
 pub sum_by-filter : (weight : ℕ → ℕ) (test : ℕ → Bool) (s : List ℕ) → ((i : ℕ) → IsMember i s → test i ≡ false → weight i ≡ 0)
@@ -147,19 +147,19 @@ sum_by-filter weight test (i ∷ s) h = go (test i) refl (sum_by-filter weight t
 
 -- parts that are at least 0 have a sum that is
 pub weighted_sum-at_least : (weight : ℕ → ℕ) (f : ℕ → ℕ → ℤ) (ks s : List ℕ) → ((i : ℕ) → IsMember i s → IsLexAtLeast (f i) ks)
-    → IsLexAtLeast (λ k. weighted_sum weight (λ i. f i k) s) ks
+    → IsLexAtLeast (λ k. sum_by_weights weight (λ i. f i k) s) ks
 weighted_sum-at_least weight f ks [] h = inr (zero_everywhere (λ k. pos 0) ks (λ k. refl))
 weighted_sum-at_least weight f ks (i ∷ s) h =
-    at_least_add (λ k. pos (weight i) *ℤ f i k) (λ k. weighted_sum weight (λ j. f j k) s) ks
+    at_least_add (λ k. pos (weight i) *ℤ f i k) (λ k. sum_by_weights weight (λ j. f j k) s) ks
     (at_least_multiple (pos (weight i)) (f i) ks (omega (arith, ints)) (h i here)) (weighted_sum-at_least weight f ks s (λ j m. h j (there m)))
 
 -- one part above 0 that weighs makes the sum so
 pub weighted_sum-above : (weight : ℕ → ℕ) (f : ℕ → ℕ → ℤ) (ks s : List ℕ) → ((i : ℕ) → IsMember i s → IsLexAtLeast (f i) ks)
-    → (j : ℕ) → IsMember j s → pos 0 <ℤ pos (weight j) → IsLexAbove (f j) ks → IsLexAbove (λ k. weighted_sum weight (λ i. f i k) s) ks
+    → (j : ℕ) → IsMember j s → pos 0 <ℤ pos (weight j) → IsLexAbove (f j) ks → IsLexAbove (λ k. sum_by_weights weight (λ i. f i k) s) ks
 weighted_sum-above weight f ks [] h j m w a = elim m [ ]
 weighted_sum-above weight f ks (j ∷ s) h j' here w a =
-    above_add (λ k. pos (weight j) *ℤ f j k) (λ k. weighted_sum weight (λ i. f i k) s) ks
+    above_add (λ k. pos (weight j) *ℤ f j k) (λ k. sum_by_weights weight (λ i. f i k) s) ks
     (lex_scale (pos (weight j)) (f j) ks w a) (weighted_sum-at_least weight f ks s (λ i m. h i (there m)))
 weighted_sum-above weight f ks (i ∷ s) h j (there m) w a =
-    add_above (λ k. pos (weight i) *ℤ f i k) (λ k. weighted_sum weight (λ e. f e k) s) ks
+    add_above (λ k. pos (weight i) *ℤ f i k) (λ k. sum_by_weights weight (λ e. f e k) s) ks
     (at_least_multiple (pos (weight i)) (f i) ks (omega (arith, ints)) (h i here)) (weighted_sum-above weight f ks s (λ e n. h e (there n)) j m w a)

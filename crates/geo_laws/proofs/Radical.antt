@@ -10,7 +10,7 @@ use Rattle.exact_algebra.proofs.Signs.{mul_pos, from_natural, nonneg_of_pos}
 use Rattle.sign_predicates.specs.Point.{Point, RationalPoint}
 use Rattle.sign_predicates.specs.Orientation.{volume, side, side_rational, IsPositive, StrictlyInside}
 use Rattle.geo_laws.specs.Delaunay.{point, corners, numbers}
-use Rattle.geo_laws.specs.Simplex.{weighted_sum, IsMean, has_number, ProperlyMet}
+use Rattle.geo_laws.specs.Simplex.{sum_by_weights, IsMean, has_number, ProperlyMet}
 use Rattle.geo_laws.specs.Height.{height, residual_at, places, lifted, IsLowestAmong}
 use Rattle.geo_laws.specs.Laws.{RadicalLaw, IsMetOrSame}
 use Rattle.geo_laws.specs.declared.tetrahedra.Tet.{Tet}
@@ -32,18 +32,18 @@ side_of ps t u e = side (opposite (corners ps t) u) (point ps e)
 
 -- the sum of the residuals of other points, in the sums of their heights and sides
 residual-sum : (ps : List Point) (first : ℕ → ℤ) (t : Tet) (weight : ℕ → ℕ) (r : List ℕ) (k : ℕ)
-    → weighted_sum weight (λ e. residual_at ps first t e k) r
-    ≡ volume (corners ps t) *ℤ weighted_sum weight (λ e. height first e k) r -ℤ over_places (λ u. weighted_sum weight (side_of ps t u) r *ℤ height first (number t u) k)
+    → sum_by_weights weight (λ e. residual_at ps first t e k) r
+    ≡ volume (corners ps t) *ℤ sum_by_weights weight (λ e. height first e k) r -ℤ over_places (λ u. sum_by_weights weight (side_of ps t u) r *ℤ height first (number t u) k)
 residual-sum ps first t weight r k =
     let v = volume (corners ps t) in
     let h = λ (e : ℕ). height first e k in
     let part = λ (u : Place) (e : ℕ). side_of ps t u e *ℤ height first (number t u) k in
-    let parts = weighted_sum-places weight part r ∙ sum-same (λ u. weighted_sum weight (part u) r) (λ u. weighted_sum weight (side_of ps t u) r *ℤ height first (number t u) k)
+    let parts = weighted_sum-places weight part r ∙ sum-same (λ u. sum_by_weights weight (part u) r) (λ u. sum_by_weights weight (side_of ps t u) r *ℤ height first (number t u) k)
     (λ u. weighted_sum-times weight (side_of ps t u) (height first (number t u) k) r) in
     weighted_sum-sub weight (λ e. v *ℤ h e) (λ e. over_places (λ u. part u e)) r ∙ (λ j. weighted_sum-scale weight v h r j -ℤ parts j)
 
 -- over the tetrahedron's own corners the sum of a face's sides is the weight of the corner opposite, times the volume
-own-side : (ps : List Point) (t : Tet) (weight : ℕ → ℕ) (u : Place) → weighted_sum weight (side_of ps t u) (numbers t) ≡ pos (weight (number t u)) *ℤ volume (corners ps t)
+own-side : (ps : List Point) (t : Tet) (weight : ℕ → ℕ) (u : Place) → sum_by_weights weight (side_of ps t u) (numbers t) ≡ pos (weight (number t u)) *ℤ volume (corners ps t)
 own-side ps t weight u =
     weighted_sum-numbers weight (side_of ps t u) t
     ∙ sum-only u (λ v. pos (weight (number t v)) *ℤ side_of ps t u (number t v))
@@ -73,18 +73,18 @@ gap m n w v h s g a e =
 
 -- where both means are x
 residual-sum-gap : (ps : List Point) (first : ℕ → ℤ) (s : Tet) (m n : ℕ → ℕ) (r : List ℕ) (x : RationalPoint) → IsMean ps (numbers s) m x → IsMean ps r n x → (k : ℕ)
-    → (pos (sum_by m (numbers s)) *ℤ x.w) *ℤ weighted_sum n (λ e. residual_at ps first s e k) r
-    ≡ (volume (corners ps s) *ℤ x.w) *ℤ (pos (sum_by m (numbers s)) *ℤ weighted_sum n (λ e. height first e k) r -ℤ pos (sum_by n r) *ℤ weighted_sum m (λ e. height first e k) (numbers s))
+    → (pos (sum_by m (numbers s)) *ℤ x.w) *ℤ sum_by_weights n (λ e. residual_at ps first s e k) r
+    ≡ (volume (corners ps s) *ℤ x.w) *ℤ (pos (sum_by m (numbers s)) *ℤ sum_by_weights n (λ e. height first e k) r -ℤ pos (sum_by n r) *ℤ sum_by_weights m (λ e. height first e k) (numbers s))
 residual-sum-gap ps first s m n r x own other k =
     let mm = pos (sum_by m (numbers s)) in
     let nn = pos (sum_by n r) in
     let c = corners ps s in
     let h = λ (e : ℕ). height first e k in
-    let each = λ (u : Place). eliminated (weighted_sum n (side_of ps s u) r) (side_rational (opposite c u) x) (pos (m (number s u))) (volume c) x.w mm nn (side-mean ps n (opposite c u) r x other)
+    let each = λ (u : Place). eliminated (sum_by_weights n (side_of ps s u) r) (side_rational (opposite c u) x) (pos (m (number s u))) (volume c) x.w mm nn (side-mean ps n (opposite c u) r x other)
     (ap (λ q. q *ℤ x.w) (sym (own-side ps s m u)) ∙ side-mean ps m (opposite c u) (numbers s) x own) in
     ap (λ q. (mm *ℤ x.w) *ℤ q) (residual-sum ps first s n r k)
-    ∙ gap mm nn x.w (volume c) (weighted_sum n h r) (λ u. weighted_sum n (side_of ps s u) r) (λ u. h (number s u)) (λ u. pos (m (number s u))) each
-    ∙ ap (λ q. (volume c *ℤ x.w) *ℤ (mm *ℤ weighted_sum n h r -ℤ nn *ℤ q)) (sym (weighted_sum-numbers m h s))
+    ∙ gap mm nn x.w (volume c) (sum_by_weights n h r) (λ u. sum_by_weights n (side_of ps s u) r) (λ u. h (number s u)) (λ u. pos (m (number s u))) each
+    ∙ ap (λ q. (volume c *ℤ x.w) *ℤ (mm *ℤ sum_by_weights n h r -ℤ nn *ℤ q)) (sym (weighted_sum-numbers m h s))
 
 -- the two gaps cancel
 gaps-cancel : (m n w v u r q g h : ℤ) → (m *ℤ w) *ℤ r ≡ (v *ℤ w) *ℤ (m *ℤ h -ℤ n *ℤ g) → (n *ℤ w) *ℤ q ≡ (u *ℤ w) *ℤ (n *ℤ g -ℤ m *ℤ h)
@@ -98,12 +98,12 @@ gaps-cancel m n w v u r q g h e d =
 
 -- at a common mean of the corners of two tetrahedra, the residuals of each at the other cancel
 pub residuals-cancel : (ps : List Point) (first : ℕ → ℤ) (s t : Tet) (m n : ℕ → ℕ) (x : RationalPoint) → IsMean ps (numbers s) m x → IsMean ps (numbers t) n x → (k : ℕ)
-    → (volume (corners ps t) *ℤ (pos (sum_by m (numbers s)) *ℤ x.w)) *ℤ weighted_sum n (λ e. residual_at ps first s e k) (numbers t)
-    +ℤ (volume (corners ps s) *ℤ (pos (sum_by n (numbers t)) *ℤ x.w)) *ℤ weighted_sum m (λ e. residual_at ps first t e k) (numbers s)
+    → (volume (corners ps t) *ℤ (pos (sum_by m (numbers s)) *ℤ x.w)) *ℤ sum_by_weights n (λ e. residual_at ps first s e k) (numbers t)
+    +ℤ (volume (corners ps s) *ℤ (pos (sum_by n (numbers t)) *ℤ x.w)) *ℤ sum_by_weights m (λ e. residual_at ps first t e k) (numbers s)
     ≡ pos 0
 residuals-cancel ps first s t m n x own other k =
     gaps-cancel (pos (sum_by m (numbers s))) (pos (sum_by n (numbers t))) x.w (volume (corners ps s)) (volume (corners ps t)) _ _
-    (weighted_sum m (λ e. height first e k) (numbers s)) (weighted_sum n (λ e. height first e k) (numbers t))
+    (sum_by_weights m (λ e. height first e k) (numbers s)) (sum_by_weights n (λ e. height first e k) (numbers t))
     (residual-sum-gap ps first s m n (numbers t) x own other k) (residual-sum-gap ps first t n m (numbers s) x other own k)
 
 -- ---- no residual of a lowest tetrahedron is below 0
@@ -147,8 +147,8 @@ weight-own ps ms first s t m n x w low_s low_t own other i in_s not_t = go (m i)
     go (suc v) e =
         let c = volume (corners ps t) *ℤ (pos (sum_by m (numbers s)) *ℤ x.w) in
         let d = volume (corners ps s) *ℤ (pos (sum_by n (numbers t)) *ℤ x.w) in
-        let f = λ (k : ℕ). weighted_sum n (λ j. residual_at ps first s j k) (numbers t) in
-        let g = λ (k : ℕ). weighted_sum m (λ j. residual_at ps first t j k) (numbers s) in
+        let f = λ (k : ℕ). sum_by_weights n (λ j. residual_at ps first s j k) (numbers t) in
+        let g = λ (k : ℕ). sum_by_weights m (λ j. residual_at ps first t j k) (numbers s) in
         let c_above : pos 0 <ℤ c = mul_pos _ _ low_t.is_positive (mul_pos _ _ (total _ own.some) w) in
         let d_above : pos 0 <ℤ d = mul_pos _ _ low_s.is_positive (mul_pos _ _ (total _ other.some) w) in
         let f_least : IsLexAtLeast f (places (length ps)) = weighted_sum-at_least n (λ j. residual_at ps first s j) (places (length ps)) (numbers t) (λ j k. residual-at_least ps ms first s low_s j (member_among ms t low_t.is_on j k)) in
@@ -228,7 +228,7 @@ sides_mean ps t x p some at_least =
     let is = λ (u : Place). ap pos (by_number-at ps t (λ v. (w v).0) p u) ∙ sym (w u).1 in
     let total = ap pos (sum_of_four f t) ∙ sum-same (λ u. pos (f (number t u))) (λ u. side_rational (opposite c u) x) is ∙ weights-sum c x in
     let moment = λ (g : ℕ → ℤ). weighted_sum-numbers f g t ∙ sum-same (λ u. pos (f (number t u)) *ℤ g (number t u)) (λ u. side_rational (opposite c u) x *ℤ g (number t u)) (λ u j. is u j *ℤ g (number t u)) in
-    let at = λ (g : ℕ → ℤ) (y : ℤ). cross_multiplied (weighted_sum f g (numbers t)) (pos (sum_by f (numbers t))) (volume c) x.w y in
+    let at = λ (g : ℕ → ℤ) (y : ℤ). cross_multiplied (sum_by_weights f g (numbers t)) (pos (sum_by f (numbers t))) (volume c) x.w y in
     record {
       weight = f;
       mean = record {

@@ -8,7 +8,7 @@ use Rattle.exact_algebra.proofs.Ring.{num, var, neg, ring, ring_given, given, sa
 use Rattle.exact_algebra.proofs.Signs.{pred_of, mul_pos}
 use Rattle.sign_predicates.specs.Point.{Point, RationalPoint, as_rational}
 use Rattle.geo_laws.specs.Delaunay.{point}
-use Rattle.geo_laws.specs.Simplex.{weighted_sum, InSimplex, has_number, common_corners, ProperlyMet}
+use Rattle.geo_laws.specs.Simplex.{sum_by_weights, InSimplex, has_number, common_corners, ProperlyMet}
 use Rattle.sign_predicates.proofs.Places.{Place, A, B, C, D}
 use Rattle.geo_laws.proofs.Means.{weighted_sum-const}
 use Rattle.geo_laws.proofs.Members.{IsMember, here, there, in_filter, filter_cases, some_true, any_true}
@@ -26,18 +26,18 @@ unfolding same
 no_multiples m n = ring (var 0 ⊗ num (pos 0) ⊕ var 1 ⊗ num (pos 0)) (num (pos 0)) tt (m ∷ n ∷ [])
 
 -- the sum is linear in the weights
-pub weighted_sum-weights : (m n : ℕ) (f g : ℕ → ℕ) (h : ℕ → ℤ) (s : List ℕ) → weighted_sum (λ i. m * f i + n * g i) h s ≡ pos m *ℤ weighted_sum f h s +ℤ pos n *ℤ weighted_sum g h s
+pub weighted_sum-weights : (m n : ℕ) (f g : ℕ → ℕ) (h : ℕ → ℤ) (s : List ℕ) → sum_by_weights (λ i. m * f i + n * g i) h s ≡ pos m *ℤ sum_by_weights f h s +ℤ pos n *ℤ sum_by_weights g h s
 weighted_sum-weights m n f g h [] = sym (no_multiples (pos m) (pos n))
 weighted_sum-weights m n f g h (i ∷ s) =
     ap (λ r. pos (m * f i + n * g i) *ℤ h i +ℤ r) (weighted_sum-weights m n f g h s)
-    ∙ weights-step (pos m) (pos n) (pos (f i)) (pos (g i)) (h i) (weighted_sum f h s) (weighted_sum g h s)
+    ∙ weights-step (pos m) (pos n) (pos (f i)) (pos (g i)) (h i) (sum_by_weights f h s) (sum_by_weights g h s)
 
 gone : (a : ℤ) → pos 0 *ℤ a +ℤ pos 0 ≡ pos 0
 unfolding same
 gone a = ring (num (pos 0) ⊗ var 0 ⊕ num (pos 0)) (num (pos 0)) tt (a ∷ [])
 
 -- no weights have no sum
-pub weighted_sum-none : (h : ℕ → ℤ) (s : List ℕ) → weighted_sum (λ i. 0) h s ≡ pos 0
+pub weighted_sum-none : (h : ℕ → ℤ) (s : List ℕ) → sum_by_weights (λ i. 0) h s ≡ pos 0
 weighted_sum-none h [] = refl
 weighted_sum-none h (i ∷ s) = ap (λ r. pos 0 *ℤ h i +ℤ r) (weighted_sum-none h s) ∙ gone (h i)
 
@@ -58,10 +58,10 @@ zero_times : (a : ℤ) → pos 0 *ℤ a ≡ pos 0
 unfolding same
 zero_times a = ring (num (pos 0) ⊗ var 0) (num (pos 0)) tt (a ∷ [])
 
-weighted_sum-alone : (i : ℕ) (h : ℕ → ℤ) (s : List ℕ) → weighted_sum (alone i) h s ≡ pos (sum_by (alone i) s) *ℤ h i
+weighted_sum-alone : (i : ℕ) (h : ℕ → ℤ) (s : List ℕ) → sum_by_weights (alone i) h s ≡ pos (sum_by (alone i) s) *ℤ h i
 weighted_sum-alone i h [] = sym (zero_times (h i))
 weighted_sum-alone i h (j ∷ s) =
-    one_more (j == i) i j h (pos (sum_by (alone i) s)) (weighted_sum (alone i) h s) refl (weighted_sum-alone i h s) ∙ ap (λ n. pos n *ℤ h i) (sym (sum_by-cons (alone i) j s))
+    one_more (j == i) i j h (pos (sum_by (alone i) s)) (sum_by_weights (alone i) h s) refl (weighted_sum-alone i h s) ∙ ap (λ n. pos n *ℤ h i) (sym (sum_by-cons (alone i) j s))
 
 alone-above : (i : ℕ) (s : List ℕ) → IsMember i s → 0 < sum_by (alone i) s
 alone-above i [] m = elim m [ ]
@@ -92,7 +92,7 @@ pub record InCone (ps : List Point) (s : List ℕ) (value : Place → ℤ) : Typ
   pub weight : ℕ → ℕ
   pub factor : ℕ
   pub some : 0 < factor
-  pub is : (k : Place) → weighted_sum weight (coordinate ps k) s ≡ pos factor *ℤ value k
+  pub is : (k : Place) → sum_by_weights weight (coordinate ps k) s ≡ pos factor *ℤ value k
 
 cone_none : (ps : List Point) (s : List ℕ) → InCone ps s (λ k. pos 0)
 cone_none ps s = record { weight = λ i. 0; factor = 1; some = omega arith; is = λ k. weighted_sum-none (coordinate ps k) s }
@@ -114,7 +114,7 @@ cone_add ps s u v p q = record {
   factor = p.factor * q.factor;
   some = positive_product p.factor q.factor p.some q.some;
   is = λ k. weighted_sum-weights q.factor p.factor p.weight q.weight (coordinate ps k) s
-      ∙ added (pos p.factor) (pos q.factor) (weighted_sum p.weight (coordinate ps k) s) (weighted_sum q.weight (coordinate ps k) s) (u k) (v k) (p.is k) (q.is k);
+      ∙ added (pos p.factor) (pos q.factor) (sum_by_weights p.weight (coordinate ps k) s) (sum_by_weights q.weight (coordinate ps k) s) (u k) (v k) (p.is k) (q.is k);
 }
 
 scaled : (n m s u : ℤ) → s ≡ m *ℤ u → n *ℤ s +ℤ pos 0 *ℤ s ≡ m *ℤ (n *ℤ u)
@@ -127,7 +127,7 @@ cone_scale ps s n u p = record {
   weight = λ i. n * p.weight i + 0 * p.weight i;
   factor = p.factor;
   some = p.some;
-  is = λ k. weighted_sum-weights n 0 p.weight p.weight (coordinate ps k) s ∙ scaled (pos n) (pos p.factor) (weighted_sum p.weight (coordinate ps k) s) (u k) (p.is k);
+  is = λ k. weighted_sum-weights n 0 p.weight p.weight (coordinate ps k) s ∙ scaled (pos n) (pos p.factor) (sum_by_weights p.weight (coordinate ps k) s) (u k) (p.is k);
 }
 
 moved : (m n u : ℤ) → m *ℤ (n *ℤ u) ≡ (m *ℤ n) *ℤ u
@@ -168,10 +168,10 @@ cone_of ps s x w h =
       factor = sum_by h.0 s;
       some = h.1.some;
       is = λ k. weighted_sum-weights (suc n.0) 0 h.0 h.0 (coordinate ps k) s
-          ∙ scaled_mean (pos (suc n.0)) (pos (sum_by h.0 s)) (weighted_sum h.0 (coordinate ps k) s) (coordinates x k) (ap (λ v. weighted_sum h.0 (coordinate ps k) s *ℤ v) (sym n.1) ∙ at k);
+          ∙ scaled_mean (pos (suc n.0)) (pos (sum_by h.0 s)) (sum_by_weights h.0 (coordinate ps k) s) (coordinates x k) (ap (λ v. sum_by_weights h.0 (coordinate ps k) s *ℤ v) (sym n.1) ∙ at k);
     }
   where
-    at : (k : Place) → weighted_sum h.0 (coordinate ps k) s *ℤ x.w ≡ coordinates x k *ℤ pos (sum_by h.0 s)
+    at : (k : Place) → sum_by_weights h.0 (coordinate ps k) s *ℤ x.w ≡ coordinates x k *ℤ pos (sum_by h.0 s)
     at A = h.1.x_is
     at B = h.1.y_is
     at C = h.1.z_is
@@ -191,9 +191,9 @@ simplex_of ps s x w h = (
   h.weight,
   record {
     some = above (sum_by h.weight s) (pos h.factor *ℤ x.w) total (mul_pos (pos h.factor) x.w (let f = h.some in omega (arith, ints)) w);
-    x_is = mean_of (pos h.factor) (pos (sum_by h.weight s)) (weighted_sum h.weight (coordinate ps A) s) x.x x.w (h.is A) total;
-    y_is = mean_of (pos h.factor) (pos (sum_by h.weight s)) (weighted_sum h.weight (coordinate ps B) s) x.y x.w (h.is B) total;
-    z_is = mean_of (pos h.factor) (pos (sum_by h.weight s)) (weighted_sum h.weight (coordinate ps C) s) x.z x.w (h.is C) total;
+    x_is = mean_of (pos h.factor) (pos (sum_by h.weight s)) (sum_by_weights h.weight (coordinate ps A) s) x.x x.w (h.is A) total;
+    y_is = mean_of (pos h.factor) (pos (sum_by h.weight s)) (sum_by_weights h.weight (coordinate ps B) s) x.y x.w (h.is B) total;
+    z_is = mean_of (pos h.factor) (pos (sum_by h.weight s)) (sum_by_weights h.weight (coordinate ps C) s) x.z x.w (h.is C) total;
   },
 )
   where
@@ -204,16 +204,16 @@ simplex_of ps s x w h = (
     total = sym (ones (pos (sum_by h.weight s))) ∙ sym (weighted_sum-const h.weight (pos 1) s) ∙ h.is D
 
 -- a sum of corners that lie in the cone lies in it
-cone_in : (ps : List Point) (r s : List ℕ) (f : ℕ → ℕ) → ((i : ℕ) → IsMember i s → InCone ps r (λ k. coordinate ps k i)) → InCone ps r (λ k. weighted_sum f (coordinate ps k) s)
+cone_in : (ps : List Point) (r s : List ℕ) (f : ℕ → ℕ) → ((i : ℕ) → IsMember i s → InCone ps r (λ k. coordinate ps k i)) → InCone ps r (λ k. sum_by_weights f (coordinate ps k) s)
 cone_in ps r [] f h = cone_none ps r
 cone_in ps r (i ∷ s) f h =
-    cone_add ps r (λ k. pos (f i) *ℤ coordinate ps k i) (λ k. weighted_sum f (coordinate ps k) s) (cone_scale ps r (f i) (λ k. coordinate ps k i) (h i here)) (cone_in ps r s f (λ j m. h j (there m)))
+    cone_add ps r (λ k. pos (f i) *ℤ coordinate ps k i) (λ k. sum_by_weights f (coordinate ps k) s) (cone_scale ps r (f i) (λ k. coordinate ps k i) (h i here)) (cone_in ps r s f (λ j m. h j (there m)))
 
 -- where each corner of s is a sum of the corners of r, each point of s lies in r
 in_of_corners : (ps : List Point) (r s : List ℕ) → ((i : ℕ) → IsMember i s → InCone ps r (λ k. coordinate ps k i)) → (x : RationalPoint) → pos 0 <ℤ x.w → InSimplex ps s x → InSimplex ps r x
 in_of_corners ps r s h x w m =
     let c = cone_of ps s x w m in
-    simplex_of ps r x w (cone_unscale ps r c.factor (coordinates x) c.some (cone_same ps r (λ k. weighted_sum c.weight (coordinate ps k) s) (λ k. pos c.factor *ℤ coordinates x k) c.is (cone_in ps r s c.weight h)))
+    simplex_of ps r x w (cone_unscale ps r c.factor (coordinates x) c.some (cone_same ps r (λ k. sum_by_weights c.weight (coordinate ps k) s) (λ k. pos c.factor *ℤ coordinates x k) c.is (cone_in ps r s c.weight h)))
 
 -- a simplex that holds each corner of another one holds it
 pub simplex_in : (ps : List Point) (r s : List ℕ) → ((i : ℕ) → IsMember i s → InSimplex ps r (as_rational (point ps i))) → (x : RationalPoint) → pos 0 <ℤ x.w → InSimplex ps s x → InSimplex ps r x

@@ -1,6 +1,6 @@
 -- Piecewise linear complexes: polygons, the facets that they bound, hole points and regions.
-use Rattle.std.specs.Prelude.{◌≡◌, ℕ, ◌+◌, ◌≤◌, ℤ, List, [], ◌∷◌, ◌++◌, map, length, slice_range, Option}
-use Rattle.sign_predicates.specs.Point.{RationalPoint}
+use Rattle.std.specs.Prelude.{◌≡◌, ℕ, ◌+◌, ◌≤◌, ℤ, List, [], ◌∷◌, ◌++◌, map, length, slice_range, Option, ◌<◌, All}
+use Rattle.sign_predicates.specs.Point.{RationalPoint, Point}
 use Rattle.geo_laws.specs.Facet.{Facet as FlatFacet}
 use Rattle.geo_laws.specs.declared.complex.Facet.{Facet}
 use Rattle.geo_laws.specs.declared.complex.Region.{Region}
@@ -16,6 +16,10 @@ pub record Complex : Type 0 where
   pub facets : List Facet
   pub holes : List RationalPoint
   pub regions : List Region
+
+-- the corners of all polygons are numbers of points
+abbrev pub HasCornersOf : List Point → Complex → Type 0
+HasCornersOf ps c = All (λ p. All (λ i. i < length ps) p.corners) c.polygons
 
 -- the polygons as lists of corners
 abbrev pub corner_lists : List Polygon → List (List ℕ)

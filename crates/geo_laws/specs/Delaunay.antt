@@ -14,6 +14,10 @@ use Rattle.geo_laws.specs.declared.tetrahedra.Tet.{Tet}
 abbrev pub point : List Point → ℕ → Point
 point ps i = slice_index_or ps i origin
 
+-- the row at a place of a list
+abbrev pub row_at : List Tet → ℕ → Tet
+row_at rows k = slice_index_or rows k (record { a = 0; b = 0; c = 0; d = 0 })
+
 -- any two points differ
 abbrev pub HasDistinctPoints : List Point → Type 0
 HasDistinctPoints ps = (i j : ℕ) → i < j → j < length ps → point ps i ≢ point ps j

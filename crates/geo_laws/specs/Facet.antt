@@ -159,8 +159,8 @@ is_outside_circle ps a b c m =
     (record { a = a; b = b; c = c; d = length ps }) (point ps m) m
 
 -- three times the centroid, over 3
-abbrev pub centroid : Point → Point → Point → RationalPoint
-centroid a b c = record { x = a.x +ℤ b.x +ℤ c.x; y = a.y +ℤ b.y +ℤ c.y; z = a.z +ℤ b.z +ℤ c.z; w = pos 3 }
+abbrev pub triangle_centroid : Point → Point → Point → RationalPoint
+triangle_centroid a b c = record { x = a.x +ℤ b.x +ℤ c.x; y = a.y +ℤ b.y +ℤ c.y; z = a.z +ℤ b.z +ℤ c.z; w = pos 3 }
 
 -- the plane through the triangle holds the point
 abbrev pub is_on_plane : List Point → ℕ → ℕ → ℕ → ℕ → Bool
@@ -177,7 +177,7 @@ is_facet_triangle ps f t =
     && list_all (is_on_plane ps t.a t.b t.c) (all_corners f)
     && list_all (λ i. has_number (corner_numbers t) i || not (is_on_plane ps t.a t.b t.c i) || is_outside_circle ps t.a t.b t.c i)
     (numbers_below (length ps))
-    && in_region ps f (centroid (point ps t.a) (point ps t.b) (point ps t.c))
+    && in_region ps f (triangle_centroid (point ps t.a) (point ps t.b) (point ps t.c))
 
 -- all ascending threes of numbers below n, ascending
 abbrev pub threes : ℕ → ℕ → List FacetTriangle
@@ -208,6 +208,10 @@ LiesInSome ps ts face = (facet : ℕ) × LiesIn ps ts facet face
 -- some point strictly inside the row lies on the facet
 abbrev pub IsCrossed : List Point → List FacetTriangle → Tet → ℕ → Type 0
 IsCrossed ps ts t facet = SomeRational (λ x. StrictlyInside (corners ps t) x × IsOnFacet ps ts facet x)
+
+-- no facet crosses the row
+abbrev pub IsUncrossed : List Point → List FacetTriangle → Tet → Type 0
+IsUncrossed ps ts t = (facet : ℕ) → ¬ IsCrossed ps ts t facet
 
 -- two facets cross the row
 abbrev pub IsTangled : List Point → List FacetTriangle → Tet → Type 0

@@ -12,3 +12,4 @@ pub mod Path
 pub mod Segment
 pub mod Simplex
 pub mod Stored
+pub mod Marks

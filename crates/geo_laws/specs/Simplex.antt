@@ -7,16 +7,16 @@ use Rattle.geo_laws.specs.Delaunay.{point, numbers}
 use Rattle.geo_laws.specs.declared.tetrahedra.Tet.{Tet}
 
 -- the sum of f over the numbers, each times its weight
-abbrev pub weighted_sum : (ℕ → ℕ) → (ℕ → ℤ) → List ℕ → ℤ
-weighted_sum weight f [] = pos 0
-weighted_sum weight f (i ∷ s) = pos (weight i) *ℤ f i +ℤ weighted_sum weight f s
+abbrev pub sum_by_weights : (ℕ → ℕ) → (ℕ → ℤ) → List ℕ → ℤ
+sum_by_weights weight f [] = pos 0
+sum_by_weights weight f (i ∷ s) = pos (weight i) *ℤ f i +ℤ sum_by_weights weight f s
 
 -- x is the mean of the corners under these weights, which are not all 0
 pub record IsMean (ps : List Point) (s : List ℕ) (weight : ℕ → ℕ) (x : RationalPoint) : Type 0 where
   pub some : 0 < sum_by weight s
-  pub x_is : weighted_sum weight (λ i. (point ps i).x) s *ℤ x.w ≡ x.x *ℤ pos (sum_by weight s)
-  pub y_is : weighted_sum weight (λ i. (point ps i).y) s *ℤ x.w ≡ x.y *ℤ pos (sum_by weight s)
-  pub z_is : weighted_sum weight (λ i. (point ps i).z) s *ℤ x.w ≡ x.z *ℤ pos (sum_by weight s)
+  pub x_is : sum_by_weights weight (λ i. (point ps i).x) s *ℤ x.w ≡ x.x *ℤ pos (sum_by weight s)
+  pub y_is : sum_by_weights weight (λ i. (point ps i).y) s *ℤ x.w ≡ x.y *ℤ pos (sum_by weight s)
+  pub z_is : sum_by_weights weight (λ i. (point ps i).z) s *ℤ x.w ≡ x.z *ℤ pos (sum_by weight s)
 
 -- x lies in the simplex, the hull of its corners: it is a mean of them (barycentric coordinates). No corners have an empty hull
 abbrev pub InSimplex : List Point → List ℕ → RationalPoint → Type 0

@@ -8,7 +8,7 @@ use Rattle.tet_text.specs.Decimals.{lowest, signed}
 use Rattle.tet_text.specs.Printing.{sign_text, size_text}
 use Rattle.tet_text.proofs.Scaling.{lowest_is, abs_signed}
 use Rattle.grid_coords.specs.declared.grid.Grid.{Grid}
-use Rattle.grid_coords.specs.Units.{decimal_at, grid_text, IsNumberAt}
+use Rattle.grid_coords.specs.Units.{decimal_of_units, grid_text, IsNumberAt}
 
 -- an equal text that is appended
 pub ok_same : {X E : Type 0} (r : Result X E) (old new t u : List ℕ) → t ≡ u → OnOk r (new ≡ old ++ t) → OnOk r (new ≡ old ++ u)
@@ -44,7 +44,7 @@ sign_kept (negsuc m) k s = below (lowest (suc m * 5 ^ k) s).0 (lowest_some (suc 
 
 -- its text
 pub printed : (g : Grid) (c : ℤ) (s : ℕ × ℕ) → lowest (unsigned_abs c * 5 ^ g.halvings) (g.decimals + g.halvings) ≡ s → sign_text (int_lt c (pos 0)) ++ size_text s.0 s.1 ≡ grid_text g c
-unfolding decimal_at
+unfolding decimal_of_units
 printed g c s is =
     let low = lowest (unsigned_abs c * 5 ^ g.halvings) (g.decimals + g.halvings) in
     let b = int_lt c (pos 0) in
@@ -62,8 +62,8 @@ size_at q t n d k is =
     let left : q * 10 ^ d * 2 ^ k * 5 ^ k ≡ q * 10 ^ (d + k) = mul_assoc (q * 10 ^ d) (2 ^ k) (5 ^ k) ∙ mul_assoc q (10 ^ d) (2 ^ k * 5 ^ k) ∙ ap (λ (p : ℕ). q * p) (sym tens) in
     cancel (q * 10 ^ d * 2 ^ k) (n * 10 ^ t) (5 ^ k) (five_some k) (left ∙ is ∙ mul_right_comm n (5 ^ k) (10 ^ t))
 
-pub number_at : (g : Grid) (c : ℤ) → IsNumberAt g c (decimal_at g c)
-unfolding decimal_at
+pub number_at : (g : Grid) (c : ℤ) → IsNumberAt g c (decimal_of_units g c)
+unfolding decimal_of_units
 number_at g c =
     let n = unsigned_abs c * 5 ^ g.halvings in
     let s = g.decimals + g.halvings in

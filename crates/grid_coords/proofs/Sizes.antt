@@ -11,7 +11,7 @@ use Rattle.std.proofs.Math.Seq.{drop-cons}
 use Rattle.std.proofs.lemmas.List.{at_drop_all}
 use Rattle.std.proofs.lemmas.Bool.{cond-true, cond-false, le-leb, lt-leb, lt-ltb, le-ltb, cases_lt}
 use Rattle.grid_coords.specs.declared.points.DecimalPoint.{DecimalPoint}
-use Rattle.grid_coords.specs.Units.{limit, units, IsOnGrid, IsPointOnGrid}
+use Rattle.grid_coords.specs.Units.{limit, units, IsDecimalOnGrid, IsPointOnGrid}
 use Rattle.grid_coords.specs.Choice.{decimals_of, most_decimals, size_of, greatest_size, first_over, fits, numbers_up_to, largest, halvings_for, unless_over}
 
 -- the rest of a list from the place of p on
@@ -154,7 +154,7 @@ units_halved : (decimals halvings : ℕ) (d : Scaled) → units decimals halving
 unfolding units
 units_halved decimals halvings d = let e : unsigned_abs d.value * 10 ^ (decimals - d.scale) * 2 ^ 0 ≡ unsigned_abs d.value * 10 ^ (decimals - d.scale) = omega arith in rw e refl
 
-number_on : (decimals halvings size : ℕ) (d : Scaled) → d.scale ≤ decimals → units decimals 0 d ≤ size → size * 2 ^ halvings ≤ limit → IsOnGrid (record { decimals = decimals; halvings = halvings }) d
+number_on : (decimals halvings size : ℕ) (d : Scaled) → d.scale ≤ decimals → units decimals 0 d ≤ size → size * 2 ^ halvings ≤ limit → IsDecimalOnGrid (record { decimals = decimals; halvings = halvings }) d
 number_on decimals halvings size d whole small fits =
     let e = units_halved decimals halvings d in
     let le : units decimals 0 d * 2 ^ halvings ≤ size * 2 ^ halvings = mul-le-mul_right (2 ^ halvings) small in

@@ -12,23 +12,23 @@ abbrev pub limit : ℕ
 limit = 8388608
 
 -- the number, where it is at most this
-abbrev pub within : ℕ → ℕ → Option ℕ
-within most n = if nat_le n most then Some n else None
+abbrev pub if_at_most : ℕ → ℕ → Option ℕ
+if_at_most most n = if nat_le n most then Some n else None
 
 -- the size of the number in units of 1 / (10^decimals × 2^halvings), where it has at most so many decimals
 unfoldable pub units : ℕ → ℕ → Scaled → ℕ
 units decimals halvings d = unsigned_abs d.value * 10 ^ (decimals - d.scale) * 2 ^ halvings
 
 -- the number is a whole number of grid units, and at most 2^23 of them in size
-pub record IsOnGrid (g : Grid) (d : Scaled) : Type 0 where
+pub record IsDecimalOnGrid (g : Grid) (d : Scaled) : Type 0 where
   pub whole : d.scale ≤ g.decimals
   pub small : units g.decimals g.halvings d ≤ limit
 
 -- so is each coordinate of the point
 pub record IsPointOnGrid (g : Grid) (p : DecimalPoint) : Type 0 where
-  pub x : IsOnGrid g p.x
-  pub y : IsOnGrid g p.y
-  pub z : IsOnGrid g p.z
+  pub x : IsDecimalOnGrid g p.x
+  pub y : IsDecimalOnGrid g p.y
+  pub z : IsDecimalOnGrid g p.z
 
 abbrev pub is_negative : Scaled → Bool
 is_negative d = int_lt d.value (pos 0)
@@ -56,8 +56,8 @@ abbrev pub rational_point : Grid → DecimalPoint → RationalPoint
 rational_point g p = record { x = rational_coordinate g p.x; y = rational_coordinate g p.y; z = rational_coordinate g p.z; w = pos 1000000 }
 
 -- the decimal that so many grid units are: c / (10^decimals × 2^halvings) is c × 5^halvings / 10^(decimals + halvings)
-unfoldable pub decimal_at : Grid → ℤ → Scaled
-decimal_at g c = with_sign (int_lt c (pos 0)) (lowest (unsigned_abs c * 5 ^ g.halvings) (g.decimals + g.halvings))
+unfoldable pub decimal_of_units : Grid → ℤ → Scaled
+decimal_of_units g c = with_sign (int_lt c (pos 0)) (lowest (unsigned_abs c * 5 ^ g.halvings) (g.decimals + g.halvings))
 
 -- the number value / 10^scale is so many grid units: value × 10^decimals × 2^halvings is c × 10^scale, with its sign
 pub record IsNumberAt (g : Grid) (c : ℤ) (d : Scaled) : Type 0 where
@@ -66,4 +66,4 @@ pub record IsNumberAt (g : Grid) (c : ℤ) (d : Scaled) : Type 0 where
 
 -- and its text
 abbrev pub grid_text : Grid → ℤ → List ℕ
-grid_text g c = decimal_text (decimal_at g c)
+grid_text g c = decimal_text (decimal_of_units g c)

@@ -1,7 +1,7 @@
 //! The choice of a grid.
 
 ghost use Rattle.std.specs.Prelude.{◌≡◌, ◌≤◌, ◌*◌, ◌^◌, All, IfOk};
-ghost use Rattle.grid_coords.specs.Units.{limit, within, IsPointOnGrid};
+ghost use Rattle.grid_coords.specs.Units.{limit, if_at_most, IsPointOnGrid};
 ghost use Rattle.grid_coords.specs.Choice.{decimals_of, most_decimals, size_of, greatest_size, first_over, halvings_for, grid_of, unless_over};
 
 use crate::units::{LIMIT, units_within};
@@ -28,7 +28,7 @@ fn most_decimals(points: &[DecimalPoint]) -> u32
 
 /// The greatest size of the point's coordinates, or None where that is over the limit.
 fn size_of(decimals: u32, p: &DecimalPoint) -> Option<u64>
-    ensures { result ≡ within limit (size_of decimals p.now) }
+    ensures { result ≡ if_at_most limit (size_of decimals p.now) }
 {
     let decimals = u64::from(decimals);
     let x = units_within(&p.x, decimals, 0, LIMIT)?;

@@ -2,7 +2,7 @@
 
 ghost use Rattle.std.specs.Prelude.{◌≡◌, ◌≤◌, ◌<◌, pos, unsigned_abs};
 ghost use Rattle.tet_text.specs.Decimals.{signed};
-ghost use Rattle.grid_coords.specs.Units.{limit, capped, units, IsOnGrid, IsPointOnGrid, grid_coordinate, grid_point, rational_coordinate, rational_point};
+ghost use Rattle.grid_coords.specs.Units.{limit, capped, units, IsDecimalOnGrid, IsPointOnGrid, grid_coordinate, grid_point, rational_coordinate, rational_point};
 
 use crate::rounding::round_to;
 use crate::units::{LIMIT, units_within};
@@ -14,7 +14,7 @@ use tet_text::Decimal;
 const PARTS: u64 = 1_000_000;
 
 fn to_coordinate(grid: &Grid, d: &Decimal) -> i32
-    requires { IsOnGrid grid.now d.now }
+    requires { IsDecimalOnGrid grid.now d.now }
     ensures value { result ≡ grid_coordinate grid.now d.now }
     ensures size { unsigned_abs result ≤ limit }
 {

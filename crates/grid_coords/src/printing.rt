@@ -2,7 +2,7 @@
 
 ghost use Rattle.std.specs.Prelude.{◌≡◌, ◌≤◌, ◌<◌, ◌+◌, ◌*◌, ◌^◌, ◌++◌, OnOk, OnErr};
 ghost use Rattle.tet_text.specs.Decimals.{lowest};
-ghost use Rattle.grid_coords.specs.Units.{decimal_at, grid_text, IsNumberAt};
+ghost use Rattle.grid_coords.specs.Units.{decimal_of_units, grid_text, IsNumberAt};
 
 use crate::Grid;
 use tet_ports::{Bytes, NoMemory};
@@ -35,7 +35,7 @@ pub fn print_grid(grid: &Grid, coordinate: i32, out: &mut Bytes) -> Result<(), N
     ensures err { OnErr result (out.new ≡ out.old) }
 
     // The decimal is the number that so many grid units are.
-    ensures exact { IsNumberAt grid.now coordinate (decimal_at grid.now coordinate) }
+    ensures exact { IsNumberAt grid.now coordinate (decimal_of_units grid.now coordinate) }
 {
     let size = with_fives(coordinate.unsigned_abs(), grid.halvings);
     let (size, scale) = lowest(size, u64::from(grid.decimals) + u64::from(grid.halvings));

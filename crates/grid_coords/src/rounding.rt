@@ -2,7 +2,7 @@
 
 ghost use Rattle.std.specs.Prelude.{◌≡◌, ◌≤◌, ◌<◌, ◌*◌, ◌^◌, pos};
 ghost use Rattle.tet_text.specs.Decimals.{IsDecimal, signed};
-ghost use Rattle.grid_coords.specs.Rounding.{nearest, rounded};
+ghost use Rattle.grid_coords.specs.Rounding.{nearest_whole, rounded};
 
 use tet_text::{Decimal, without_trailing_zeros};
 
@@ -10,7 +10,7 @@ use tet_text::{Decimal, without_trailing_zeros};
 fn nearest(number: u128, steps: u32) -> u128
     requires some { 0 < steps }
     requires small { number < 10 ^ 36 }
-    ensures value { result ≡ nearest number steps }
+    ensures value { result ≡ nearest_whole number steps }
     ensures small { result < 10 ^ 36 }
 {
     if steps > 36 {

@@ -12,7 +12,7 @@ use Rattle.geo_laws.proofs.Members.{IsMember, here, there}
 use Rattle.path_laws.proofs.Forms.{Form, by_numbers}
 use Rattle.path_laws.proofs.Means.{mean_least, at}
 use Rattle.path_laws.proofs.Rows.{mean_of}
-use Rattle.hole_carve.specs.Boxes.{AreApart}
+use Rattle.hole_carve.specs.Boxes.{AreBelowOrAbove}
 
 -- the corners as a list, and the tetrahedron on it
 abbrev four : Corners → List Point
@@ -120,19 +120,19 @@ weight_above w v (inl e) f = omega (arith, ints)
 weight_above w v (inr e) f = omega (arith, ints)
 
 -- the same of equal numbers
-pub apart_same : (a b c d x a' b' c' d' x' : ℤ) → a ≡ a' → b ≡ b' → c ≡ c' → d ≡ d' → x ≡ x' → AreApart a b c d x → AreApart a' b' c' d' x'
+pub apart_same : (a b c d x a' b' c' d' x' : ℤ) → a ≡ a' → b ≡ b' → c ≡ c' → d ≡ d' → x ≡ x' → AreBelowOrAbove a b c d x → AreBelowOrAbove a' b' c' d' x'
 apart_same a b c d x a' b' c' d' x' ea eb ec ed ex h =
     go h
   where
     less : (m n m' n' : ℤ) → m ≡ m' → n ≡ n' → m <ℤ n → m' <ℤ n'
     less m n m' n' e f k = subst (λ y. m' <ℤ y) f (subst (λ y. y <ℤ n) e k)
 
-    go : AreApart a b c d x → AreApart a' b' c' d' x'
+    go : AreBelowOrAbove a b c d x → AreBelowOrAbove a' b' c' d' x'
     go (inl (h, i, j, k)) = inl (less a x a' x' ea ex h, less b x b' x' eb ex i, less c x c' x' ec ex j, less d x d' x' ed ex k)
     go (inr (h, i, j, k)) = inr (less x a x' a' ex ea h, less x b x' b' ex eb i, less x c x' c' ex ec j, less x d x' d' ex ed k)
 
 pub off_x : (t : Corners) (x : RationalPoint) → IsPositive t → pos 0 <ℤ x.w
-    → AreApart (t.a.x *ℤ x.w) (t.b.x *ℤ x.w) (t.c.x *ℤ x.w) (t.d.x *ℤ x.w) x.x → ¬ InClosed t x
+    → AreBelowOrAbove (t.a.x *ℤ x.w) (t.b.x *ℤ x.w) (t.c.x *ℤ x.w) (t.d.x *ℤ x.w) x.x → ¬ InClosed t x
 off_x t x p w (inl (a, b, c, d)) = off_by t x p w (pos 1) (pos 0) (pos 0) (less t.a a) (less t.b b) (less t.c c) (less t.d d)
   where
     less : (v : Point) → (v.x *ℤ x.w) <ℤ x.x → IsBefore (pos 1) (pos 0) (pos 0) x v
@@ -143,7 +143,7 @@ off_x t x p w (inr (a, b, c, d)) = off_by t x p w (neg_ℤ (pos 1)) (pos 0) (pos
     less v h = moved x.w (neg_ℤ v.x) _ (neg_ℤ x.x) _ (first_back v.x v.y v.z) (first_back x.x x.y x.z) (turned x.w v.x x.x h)
 
 pub off_y : (t : Corners) (x : RationalPoint) → IsPositive t → pos 0 <ℤ x.w
-    → AreApart (t.a.y *ℤ x.w) (t.b.y *ℤ x.w) (t.c.y *ℤ x.w) (t.d.y *ℤ x.w) x.y → ¬ InClosed t x
+    → AreBelowOrAbove (t.a.y *ℤ x.w) (t.b.y *ℤ x.w) (t.c.y *ℤ x.w) (t.d.y *ℤ x.w) x.y → ¬ InClosed t x
 off_y t x p w (inl (a, b, c, d)) = off_by t x p w (pos 0) (pos 1) (pos 0) (less t.a a) (less t.b b) (less t.c c) (less t.d d)
   where
     less : (v : Point) → (v.y *ℤ x.w) <ℤ x.y → IsBefore (pos 0) (pos 1) (pos 0) x v
@@ -154,7 +154,7 @@ off_y t x p w (inr (a, b, c, d)) = off_by t x p w (pos 0) (neg_ℤ (pos 1)) (pos
     less v h = moved x.w (neg_ℤ v.y) _ (neg_ℤ x.y) _ (second_back v.x v.y v.z) (second_back x.x x.y x.z) (turned x.w v.y x.y h)
 
 pub off_z : (t : Corners) (x : RationalPoint) → IsPositive t → pos 0 <ℤ x.w
-    → AreApart (t.a.z *ℤ x.w) (t.b.z *ℤ x.w) (t.c.z *ℤ x.w) (t.d.z *ℤ x.w) x.z → ¬ InClosed t x
+    → AreBelowOrAbove (t.a.z *ℤ x.w) (t.b.z *ℤ x.w) (t.c.z *ℤ x.w) (t.d.z *ℤ x.w) x.z → ¬ InClosed t x
 off_z t x p w (inl (a, b, c, d)) = off_by t x p w (pos 0) (pos 0) (pos 1) (less t.a a) (less t.b b) (less t.c c) (less t.d d)
   where
     less : (v : Point) → (v.z *ℤ x.w) <ℤ x.z → IsBefore (pos 0) (pos 0) (pos 1) x v

@@ -4,8 +4,8 @@ use Rattle.std.specs.Prelude.{◌↔◌, slice_index_or, take}
 use Rattle.sign_predicates.specs.Point.{Point, RationalPoint, origin, as_rational}
 use Rattle.geo_laws.specs.declared.faces.Face.{Face}
 use Rattle.geo_laws.specs.declared.tetrahedra.Tet.{Tet}
-use Rattle.hole_carve.specs.Flooding.{is_marked}
 use Rattle.hole_carve.specs.Seeds.{BeginsAt, IsSeedAt}
+use Rattle.geo_laws.specs.Marks.{is_marked}
 
 hole_at : List RationalPoint → ℕ → RationalPoint
 hole_at holes k = slice_index_or holes k (as_rational origin)

@@ -3,7 +3,7 @@ use Rattle.std.proofs.Common.{◌≡◌, ◌⊎◌, inl, inr, ℕ, zero, suc, �
 use Rattle.std.specs.Prelude.{Contains, All, ◌↔◌, slice_index_or, IsTrue, Result, Ok, Err, IfOk}
 use Rattle.sign_predicates.specs.Point.{Point, RationalPoint, SomeRational, origin, as_rational}
 use Rattle.sign_predicates.specs.Orientation.{InClosed, StrictlyInside}
-use Rattle.geo_laws.specs.Delaunay.{corners}
+use Rattle.geo_laws.specs.Delaunay.{corners, row_at}
 use Rattle.geo_laws.specs.Faces.{row_faces}
 use Rattle.geo_laws.specs.declared.faces.Face.{Face}
 use Rattle.geo_laws.specs.declared.tetrahedra.Tet.{Tet}
@@ -15,13 +15,13 @@ use Rattle.path_laws.specs.Flood.{IsFacetFace, HoldsOnFacet, IsHoleSeed, IsSeed,
 use Rattle.path_laws.proofs.FacetFaces.{law_two_rows}
 use Rattle.path_laws.proofs.FloodChains.{law_carve, law_region}
 use Rattle.incidence.specs.declared.pairs.Across.{Across}
-use Rattle.incidence.specs.Links.{row_at}
-use Rattle.hole_carve.specs.Flooding.{is_marked, IsFlooded, IsFloodedFrom}
+use Rattle.hole_carve.specs.Flooding.{IsFlooded, IsFloodedFrom}
 use Rattle.hole_carve.specs.Ways.{face_opposite}
-use Rattle.hole_carve.specs.Seeds.{HoldsOn, HoldsOnSome, Holds, IsSeedAt, BeginsAt}
+use Rattle.hole_carve.specs.Seeds.{HoldsOn, HoldsOnSome, RowHolds, IsSeedAt, BeginsAt}
 use Rattle.hole_carve.specs.Kept.{unmarked}
 use Rattle.hole_carve.proofs.Reached.{Setting, flood_is, flood_from}
 use Rattle.hole_carve.proofs.KeptRows.{of_unmarked, in_unmarked}
+use Rattle.geo_laws.specs.Marks.{is_marked}
 
 -- an element that is there is the same whatever stands for one that isn't
 pub same_at : {X : Type 0} (xs : List X) (k : ℕ) (d e : X) → k < length xs → slice_index_or xs k d ≡ slice_index_or xs k e
@@ -49,7 +49,7 @@ of_seed ps ts closed rows closes x i s = record { off_facets = off; holds = hold
         let on : HoldsOn ps closed t x = (cl, (k, l, flat, (closes (face_opposite t k)).1 (facet (record { a = 0; b = 0; c = 0 })))) in
         s.off (n.0, n.1, subst (λ r. HoldsOn ps closed r x) (sym n.2) on)
 
-    holds : Holds ps rows x i ⊎ (i ≡ length rows) × ((j : ℕ) → ¬ Holds ps rows x j) → (i < length rows) × InClosed (corners ps (row_at rows i)) x ⊎ (i ≡ length rows) × ((t : Tet) → Contains rows t → ¬ InClosed (corners ps t) x)
+    holds : RowHolds ps rows x i ⊎ (i ≡ length rows) × ((j : ℕ) → ¬ RowHolds ps rows x j) → (i < length rows) × InClosed (corners ps (row_at rows i)) x ⊎ (i ≡ length rows) × ((t : Tet) → Contains rows t → ¬ InClosed (corners ps t) x)
     holds (inl h) = inl h
     holds (inr (e, none)) = inr (e, λ t c cl. let n = numbered rows t c in none n.0 (n.1, subst (λ r. InClosed (corners ps r) x) (sym n.2) cl))
 
@@ -62,7 +62,7 @@ to_seed ps ts closed rows closes x i s = record { off = off; holds = holds s.hol
         let on : HoldsOnFacet ps ts r x = (cl, (k, l, flat, λ d. subst (IsFacetFace ts) (sym (face_same_at r k l d)) ((closes (face_opposite r k)).0 c))) in
         s.off_facets r (listed rows j h) on
 
-    holds : (i < length rows) × InClosed (corners ps (row_at rows i)) x ⊎ (i ≡ length rows) × ((t : Tet) → Contains rows t → ¬ InClosed (corners ps t) x) → Holds ps rows x i ⊎ (i ≡ length rows) × ((j : ℕ) → ¬ Holds ps rows x j)
+    holds : (i < length rows) × InClosed (corners ps (row_at rows i)) x ⊎ (i ≡ length rows) × ((t : Tet) → Contains rows t → ¬ InClosed (corners ps t) x) → RowHolds ps rows x i ⊎ (i ≡ length rows) × ((j : ℕ) → ¬ RowHolds ps rows x j)
     holds (inl h) = inl h
     holds (inr (e, none)) = inr (e, λ j h. none (row_at rows j) (listed rows j h.0) h.1)
 

@@ -5,7 +5,9 @@ use Rattle.std.specs.List.{range_with_len}
 use Rattle.geo_laws.proofs.Members.{IsMember, in_range, found_of}
 use Rattle.path_laws.proofs.Room.{AllDiffer, none, more, no_room}
 use Rattle.incidence.specs.declared.pairs.Across.{Across}
-use Rattle.hole_carve.specs.Flooding.{way, across_at, IsWay, is_marked, IsFlooded, IsFloodedFrom, begins, goes_on, comes_in, queue_at, IsFilled, Extends, IsDone}
+use Rattle.hole_carve.specs.Flooding.{way, IsWay, IsFlooded, IsFloodedFrom, begins, goes_on, comes_in, queue_at, IsQueued, Extends, IsClosedFrom}
+use Rattle.incidence.specs.Pairs.{across_at}
+use Rattle.geo_laws.specs.Marks.{is_marked}
 
 pub extends_itself : (marks : List Bool) (queue : List ℕ) → Extends marks queue marks queue
 extends_itself marks queue = record { long = refl; marked = λ v e. e; longer = omega arith; same = λ i l. refl }
@@ -37,7 +39,7 @@ member_index : (s : List ℕ) (v : ℕ) → IsMember v s → (k : ℕ) × (k < l
 member_index s v m = let f = found_of s v m in (f.place, f.within, f.is 0)
 
 -- at most one for each mark
-pub queue_short : (ways : List Across) (seeds marks : List Bool) (queue : List ℕ) → IsFilled ways seeds marks queue → length queue ≤ length marks
+pub queue_short : (ways : List Across) (seeds marks : List Bool) (queue : List ℕ) → IsQueued ways seeds marks queue → length queue ≤ length marks
 queue_short ways seeds marks queue f = go (order (length queue) (length marks))
   where
     order : (a b : ℕ) → (a ≤ b) ⊎ (b < a)
@@ -75,8 +77,8 @@ way_inside ways i j w = go (order i (length ways))
     go (inr h) = absurd (none_way w.0 j w.1 (sym (ap (λ x. way x w.0) (outside_none ways i h)) ∙ w.2))
 
 -- where each place in the queue is done, the marked places are those that the flood comes to
-pub flooded_is : (ways : List Across) (seeds marks : List Bool) (queue : List ℕ) → IsFilled ways seeds marks queue → ((v : ℕ) → is_marked seeds v ≡ true → is_marked marks v ≡ true)
-    → ((q : ℕ) → q < length queue → IsDone ways marks (queue_at queue q))
+pub flooded_is : (ways : List Across) (seeds marks : List Bool) (queue : List ℕ) → IsQueued ways seeds marks queue → ((v : ℕ) → is_marked seeds v ≡ true → is_marked marks v ≡ true)
+    → ((q : ℕ) → q < length queue → IsClosedFrom ways marks (queue_at queue q))
     → (i : ℕ) → IsFlooded ways seeds i → is_marked marks i ≡ true
 flooded_is ways seeds marks queue f seeded done i (begins i' e) = seeded i e
 flooded_is ways seeds marks queue f seeded done j (goes_on i j' r w) =
@@ -88,12 +90,12 @@ flooded_is ways seeds marks queue f seeded done j (comes_in j' r w) =
     let at : queue_at queue c.0 ≡ length ways = default_at queue c.0 0 (length ways) c.1 ∙ c.2 in
     (done c.0 c.1).beyond (omega arith) j w
 
-pub marked_is : (ways : List Across) (seeds marks : List Bool) (queue : List ℕ) → IsFilled ways seeds marks queue → (i : ℕ) → is_marked marks i ≡ true → IsFlooded ways seeds i
+pub marked_is : (ways : List Across) (seeds marks : List Bool) (queue : List ℕ) → IsQueued ways seeds marks queue → (i : ℕ) → is_marked marks i ≡ true → IsFlooded ways seeds i
 marked_is ways seeds marks queue f i e = let c = f.listed i e in subst (IsFlooded ways seeds) (default_at queue c.0 0 i c.1 ∙ c.2) (f.comes c.0 c.1)
 
 -- what is done stays so where marks and queue only grow
-pub done_still : (ways : List Across) (marks marks' : List Bool) (queue queue' : List ℕ) → Extends marks queue marks' queue' → (q : ℕ) → q < length queue → IsDone ways marks (queue_at queue q) → IsDone ways marks' (queue_at queue' q)
-done_still ways marks marks' queue queue' e q l d = subst (IsDone ways marks') (sym (e.same q l)) (record {
+pub done_still : (ways : List Across) (marks marks' : List Bool) (queue queue' : List ℕ) → Extends marks queue marks' queue' → (q : ℕ) → q < length queue → IsClosedFrom ways marks (queue_at queue q) → IsClosedFrom ways marks' (queue_at queue' q)
+done_still ways marks marks' queue queue' e q l d = subst (IsClosedFrom ways marks') (sym (e.same q l)) (record {
   row = λ h j w. e.marked j (d.row h j w);
   beyond = λ h j w. e.marked j (d.beyond h j w);
 })
@@ -141,7 +143,7 @@ flooded_by_some ways seed from n h j (goes_on i j' r w) = let k = flooded_by_som
 flooded_by_some ways seed from n h j (comes_in j' r w) = let k = flooded_by_some ways seed from n h (length ways) r in (k.0, k.1, comes_in j k.2 w)
 
 -- what is in the queue stays there where there are more seeds
-pub filled_more : (ways : List Across) (seeds seeds' marks : List Bool) (queue : List ℕ) → ((j : ℕ) → is_marked seeds j ≡ true → is_marked seeds' j ≡ true) → IsFilled ways seeds marks queue → IsFilled ways seeds' marks queue
+pub filled_more : (ways : List Across) (seeds seeds' marks : List Bool) (queue : List ℕ) → ((j : ℕ) → is_marked seeds j ≡ true → is_marked seeds' j ≡ true) → IsQueued ways seeds marks queue → IsQueued ways seeds' marks queue
 filled_more ways seeds seeds' marks queue h f = record {
   within = f.within;
   marked = f.marked;
@@ -151,7 +153,7 @@ filled_more ways seeds seeds' marks queue h f = record {
 }
 
 -- nothing is in the queue where nothing is marked
-pub filled_none : (ways : List Across) (seeds marks : List Bool) → ((i : ℕ) → is_marked marks i ≡ false) → IsFilled ways seeds marks []
+pub filled_none : (ways : List Across) (seeds marks : List Bool) → ((i : ℕ) → is_marked marks i ≡ false) → IsQueued ways seeds marks []
 filled_none ways seeds marks clear = record {
   within = λ i l. absurd (omega arith);
   marked = λ i l. absurd (omega arith);

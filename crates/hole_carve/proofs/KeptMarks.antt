@@ -2,12 +2,11 @@
 use Rattle.std.proofs.Common.{◌≡◌, ◌⊎◌, inl, inr, ℕ, zero, suc, ◌+◌, ◌<◌, ◌≤◌, Option, List, [], ◌∷◌, ◌++◌, length, refl, ap, sym, subst, ◌∙◌, arith}
 use Rattle.std.specs.Prelude.{◌↔◌, Contains, AllPairs, slice_index_or}
 use Rattle.sign_predicates.specs.Point.{origin, as_rational}
-use Rattle.geo_laws.specs.Delaunay.{RowBefore}
+use Rattle.geo_laws.specs.Delaunay.{RowBefore, row_at}
 use Rattle.geo_laws.specs.declared.tetrahedra.Tet.{Tet}
 use Rattle.geo_laws.proofs.Ascending.{before_itself}
 use Rattle.path_laws.specs.Places.{KeepsOut}
 use Rattle.path_laws.proofs.KeptPart.{law_kept_part}
-use Rattle.incidence.specs.Links.{row_at}
 use Rattle.hole_carve.specs.Marks.{mark_at, region_point, IsInRegion, IsFirstOf, IsPlaceFrom, KeptMarksLaw}
 use Rattle.hole_carve.proofs.Carved.{listed, numbered}
 use Rattle.hole_carve.proofs.Marked.{first_as}

@@ -3,12 +3,11 @@ use Rattle.std.proofs.Common.{◌≡◌, ◌⊎◌, inl, inr, ℕ, zero, suc, �
 use Rattle.std.specs.Prelude.{take}
 use Rattle.geo_laws.specs.declared.tetrahedra.Tet.{Tet}
 use Rattle.geo_laws.proofs.Members.{IsMember, here, there, in_cons, in_head}
-use Rattle.incidence.specs.Links.{row_at}
-use Rattle.hole_carve.specs.Flooding.{is_marked}
 use Rattle.hole_carve.specs.Kept.{unmarked}
 use Rattle.geo_laws.proofs.Ascending.{Rises, more, pairs_of, rises_of}
-use Rattle.geo_laws.specs.Delaunay.{RowBefore}
+use Rattle.geo_laws.specs.Delaunay.{RowBefore, row_at}
 use Rattle.std.specs.Prelude.{AllPairs}
+use Rattle.geo_laws.specs.Marks.{is_marked}
 
 appended_past : (m : Bool) (t : Tet) (xs ys : List Tet) → cond m (xs ++ ys) (t ∷ xs ++ ys) ≡ cond m xs (t ∷ xs) ++ ys
 appended_past true t xs ys = refl

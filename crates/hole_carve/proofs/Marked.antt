@@ -8,13 +8,14 @@ use Rattle.geo_laws.specs.declared.complex.FacetTriangle.{FacetTriangle}
 use Rattle.geo_laws.specs.declared.complex.Region.{Region}
 use Rattle.geo_laws.proofs.Corners.{same_or_not}
 use Rattle.incidence.specs.declared.pairs.Across.{Across}
-use Rattle.incidence.specs.Links.{row_at}
-use Rattle.hole_carve.specs.Flooding.{is_marked, queue_at, IsFlooded, IsFloodedFrom, IsFilled, Extends}
+use Rattle.hole_carve.specs.Flooding.{queue_at, IsFlooded, IsFloodedFrom, IsQueued, Extends}
 use Rattle.hole_carve.specs.Seeds.{IsSeedAt}
-use Rattle.hole_carve.specs.Marks.{mark_at, region_point, IsInRegion, IsFirstOf, AreMarks, AreNumbered, AreRegionSeeds, IsPutFrom}
+use Rattle.hole_carve.specs.Marks.{mark_at, region_point, IsInRegion, IsFirstOf, AreRegionMarks, AreNumbered, AreRegionSeeds, IsPutFrom}
 use Rattle.hole_carve.proofs.Flooding.{flooded_more, flooded_by_some, queue_place}
 use Rattle.hole_carve.proofs.Reached.{Setting}
 use Rattle.hole_carve.proofs.Carved.{reached_joined}
+use Rattle.geo_laws.specs.Delaunay.{row_at}
+use Rattle.geo_laws.specs.Marks.{is_marked}
 
 -- ---- the first number
 
@@ -99,7 +100,7 @@ numbered_none ps closed rows ways regions marks clear i h = first_of_none (λ k.
 pub record IsFloodedBy (ps : List Point) (closed : List Face) (rows : List Tet) (ways : List Across) (regions : List Region) (n : ℕ) (seeds reached : List Bool) (queue : List ℕ) : Type 0 where
   pub seeds_are : AreRegionSeeds ps closed rows regions n seeds
   pub exactly : (i : ℕ) → (is_marked reached i ≡ true) ↔ IsFlooded ways seeds i
-  pub filled : IsFilled ways seeds reached queue
+  pub filled : IsQueued ways seeds reached queue
 
 reached_by : (ps : List Point) (closed : List Face) (rows : List Tet) (ways : List Across) (regions : List Region) (n : ℕ) (seeds reached : List Bool) (queue : List ℕ) → IsFloodedBy ps closed rows ways regions n seeds reached queue
     → (i : ℕ) → is_marked reached i ≡ true → (k : ℕ) × (k < n) × IsFloodedFrom ways (IsSeedAt ps closed rows (region_point regions k)) i
@@ -160,7 +161,7 @@ numbered_next ps closed rows ways regions n seeds seeds' reached reached' queue 
 -- the numbers of all region points, by free paths
 numbered_joined : (ps : List Point) (ts : List FacetTriangle) (rows : List Tet) (closed : List Face) (ways : List Across) (regions : List Region) (marks : List (Option ℕ))
     → Setting ps ts rows closed ways → All (λ r. pos 0 <ℤ r.at.w) regions → length marks ≡ length rows → AreNumbered ps closed rows ways regions (length regions) marks
-    → AreMarks ps ts rows regions marks
+    → AreRegionMarks ps ts rows regions marks
 numbered_joined ps ts rows closed ways regions marks s ws long first = record {
   long = long;
   each = λ i h. first_as (λ k. IsFloodedFrom ways (IsSeedAt ps closed rows (region_point regions k)) i) (λ k. IsInRegion ps ts rows (region_point regions k) (row_at rows i)) (length regions)
@@ -171,6 +172,6 @@ numbered_joined ps ts rows closed ways regions marks s ws long first = record {
 -- the same, where what is read has other names than what was made
 pub numbered_joined_as : (ps : List Point) (ts : List FacetTriangle) (rows : List Tet) (closed : List Face) (ways ways' : List Across) (regions : List Region) (marks marks' : List (Option ℕ))
     → ways' ≡ ways → marks' ≡ marks → Setting ps ts rows closed ways → All (λ r. pos 0 <ℤ r.at.w) regions → length marks ≡ length rows
-    → AreNumbered ps closed rows ways' regions (length regions) marks → AreMarks ps ts rows regions marks'
+    → AreNumbered ps closed rows ways' regions (length regions) marks → AreRegionMarks ps ts rows regions marks'
 numbered_joined_as ps ts rows closed ways ways' regions marks marks' ew em s ws long are =
-    subst (AreMarks ps ts rows regions) (sym em) (numbered_joined ps ts rows closed ways regions marks s ws long (subst (λ v. AreNumbered ps closed rows v regions (length regions) marks) ew are))
+    subst (AreRegionMarks ps ts rows regions) (sym em) (numbered_joined ps ts rows closed ways regions marks s ws long (subst (λ v. AreNumbered ps closed rows v regions (length regions) marks) ew are))

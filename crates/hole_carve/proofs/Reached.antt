@@ -14,14 +14,15 @@ use Rattle.path_laws.specs.Places.{IsFilling}
 use Rattle.path_laws.specs.Flood.{IsFacetFace, HasFaceAt, IsStep, shares, goes_out, comes_in, IsReached, begins, goes_on}
 use Rattle.path_laws.proofs.FacetFaces.{law_two_rows}
 use Rattle.incidence.specs.declared.pairs.Across.{Across}
-use Rattle.incidence.specs.Links.{row_at}
-use Rattle.incidence.specs.Pairs.{is_face, has_face, is_partner, partner, across_of}
-use Rattle.hole_carve.specs.Flooding.{way, across_at, IsWay, is_marked, IsFlooded, IsFloodedFrom}
+use Rattle.incidence.specs.Pairs.{is_face, has_face, is_partner, partner, across_of, across_at}
+use Rattle.hole_carve.specs.Flooding.{way, IsWay, IsFlooded, IsFloodedFrom}
 use Rattle.hole_carve.specs.Flooding as flood
 use Rattle.hole_carve.specs.Ways.{other_side, IsWayThrough, face_opposite, AreWays, ways_of}
 use Rattle.hole_carve.proofs.Steps.{are_ways, ways-length}
 use Rattle.incidence.proofs.Partners.{face_same, face_itself}
 use Rattle.hole_carve.proofs.Flooding.{way_inside}
+use Rattle.geo_laws.specs.Delaunay.{row_at}
+use Rattle.geo_laws.specs.Marks.{is_marked}
 
 -- ---- faces of a row
 

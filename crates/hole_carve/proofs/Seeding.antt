@@ -10,9 +10,10 @@ use Rattle.geo_laws.specs.Delaunay.{corners}
 use Rattle.geo_laws.specs.declared.faces.Face.{Face}
 use Rattle.geo_laws.specs.declared.tetrahedra.Tet.{Tet}
 use Rattle.hole_carve.specs.Ways.{face_opposite}
-use Rattle.hole_carve.specs.Seeds.{Holds, HoldsOnSome, IsSeedAt}
-use Rattle.hole_carve.specs.Flooding.{is_marked, queue_at}
+use Rattle.hole_carve.specs.Seeds.{RowHolds, HoldsOnSome, IsSeedAt}
+use Rattle.hole_carve.specs.Flooding.{queue_at}
 use Rattle.hole_carve.proofs.Flooding.{default_at}
+use Rattle.geo_laws.specs.Marks.{is_marked}
 
 pub at_of : (s : List ℕ) (v : ℕ) → Contains s v → (k : ℕ) × (k < length s) × (queue_at s k ≡ v)
 at_of s v c = (c.0, c.1, default_at s c.0 0 v c.1 ∙ c.2)
@@ -103,7 +104,7 @@ lies_back ps closed x c t t' e d h = subst (λ q. LiesOnSome q t closed x) (sym 
 -- ---- where a flood begins
 
 -- where no closed row holds the point, it begins beyond the hull
-pub seeds_beyond : (ps : List Point) (closed : List Face) (rows : List Tet) (x : RationalPoint) → ¬ HoldsOnSome ps closed rows x → ((i : ℕ) → ¬ Holds ps rows x i) → (old marks : List Bool)
+pub seeds_beyond : (ps : List Point) (closed : List Face) (rows : List Tet) (x : RationalPoint) → ¬ HoldsOnSome ps closed rows x → ((i : ℕ) → ¬ RowHolds ps rows x i) → (old marks : List Bool)
     → ((i : ℕ) → (is_marked marks i ≡ true) ↔ ((is_marked old i ≡ true) ⊎ (i ≡ length rows))) → (i : ℕ) → (is_marked marks i ≡ true) ↔ ((is_marked old i ≡ true) ⊎ IsSeedAt ps closed rows x i)
 seeds_beyond ps closed rows x off none old marks h i = (λ m. to ((h i).0 m), λ s. (h i).1 (from s))
   where
@@ -111,7 +112,7 @@ seeds_beyond ps closed rows x off none old marks h i = (λ m. to ((h i).0 m), λ
     to (inl m) = inl m
     to (inr e) = inr (record { off = off; holds = inr (e, none) })
 
-    by : Holds ps rows x i ⊎ (i ≡ length rows) × ((j : ℕ) → ¬ Holds ps rows x j) → i ≡ length rows
+    by : RowHolds ps rows x i ⊎ (i ≡ length rows) × ((j : ℕ) → ¬ RowHolds ps rows x j) → i ≡ length rows
     by (inl a) = absurd (none i a)
     by (inr b) = b.0
 
@@ -120,7 +121,7 @@ seeds_beyond ps closed rows x off none old marks h i = (λ m. to ((h i).0 m), λ
     from (inr s) = inr (by s.holds)
 
 -- else at each row whose closure holds it
-pub seeds_held : (ps : List Point) (closed : List Face) (rows : List Tet) (x : RationalPoint) (holders : List ℕ) → ¬ HoldsOnSome ps closed rows x → ((i : ℕ) → Contains holders i ↔ Holds ps rows x i) → 0 < length holders → (old marks : List Bool)
+pub seeds_held : (ps : List Point) (closed : List Face) (rows : List Tet) (x : RationalPoint) (holders : List ℕ) → ¬ HoldsOnSome ps closed rows x → ((i : ℕ) → Contains holders i ↔ RowHolds ps rows x i) → 0 < length holders → (old marks : List Bool)
     → ((i : ℕ) → (is_marked marks i ≡ true) ↔ ((is_marked old i ≡ true) ⊎ Contains holders i)) → (i : ℕ) → (is_marked marks i ≡ true) ↔ ((is_marked old i ≡ true) ⊎ IsSeedAt ps closed rows x i)
 seeds_held ps closed rows x holders off are some old marks h i = (λ m. to ((h i).0 m), λ s. (h i).1 (from s))
   where
@@ -128,7 +129,7 @@ seeds_held ps closed rows x holders off are some old marks h i = (λ m. to ((h i
     to (inl m) = inl m
     to (inr c) = inr (record { off = off; holds = inl ((are i).0 c) })
 
-    by : Holds ps rows x i ⊎ (i ≡ length rows) × ((j : ℕ) → ¬ Holds ps rows x j) → Contains holders i
+    by : RowHolds ps rows x i ⊎ (i ≡ length rows) × ((j : ℕ) → ¬ RowHolds ps rows x j) → Contains holders i
     by (inl a) = (are i).1 a
     by (inr b) = absurd (b.1 (queue_at holders 0) ((are (queue_at holders 0)).0 (of_at holders 0 some)))
 

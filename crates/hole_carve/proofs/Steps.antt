@@ -8,11 +8,10 @@ use Rattle.std.specs.List.{enumerate_from}
 use Rattle.geo_laws.specs.declared.faces.Face.{Face}
 use Rattle.geo_laws.specs.declared.tetrahedra.Tet.{Tet}
 use Rattle.incidence.specs.declared.pairs.Across.{Across}
-use Rattle.incidence.specs.Links.{row_at}
-use Rattle.incidence.specs.Pairs.{is_face, across_of, pairs_of}
+use Rattle.incidence.specs.Pairs.{is_face, across_of, pairs_of, across_at}
 use Rattle.incidence.proofs.Partners.{face_same, face_itself}
-use Rattle.hole_carve.specs.Flooding.{across_at}
 use Rattle.hole_carve.specs.Ways.{other_side, is_closed, way_through, ways_through, ways_of, IsWayThrough, AreWaysThrough, AreWays}
+use Rattle.geo_laws.specs.Delaunay.{row_at}
 
 at_numbered : (f : ℕ × Tet → Across) (from : ℕ) (rows : List Tet) (i : ℕ) (d : Across) (e : Tet) → i < length rows → slice_index_or (map f (enumerate_from from rows)) i d ≡ f (from + i, slice_index_or rows i e)
 at_numbered f from [] i d e h = absurd (omega arith)

@@ -1,20 +1,16 @@
 -- A flood over rows by their places in a list; the place past the last row is for what lies beyond the hull.
 use Rattle.std.specs.Prelude.{◌≡◌, ◌≢◌, ℕ, ◌+◌, ◌<◌, ◌≤◌, ◌==◌, Bool, true, false, if◌then◌else◌, Option, Some, None, List, length, slice_index_or, Contains}
 use Rattle.incidence.specs.declared.pairs.Across.{Across}
+use Rattle.incidence.specs.Pairs.{across_at}
+use Rattle.geo_laws.specs.Marks.{is_marked}
 
 -- what one comes to through the face opposite a corner
 abbrev pub way : Across → ℕ → Option ℕ
 way x k = if k == 0 then x.n0 else (if k == 1 then x.n1 else (if k == 2 then x.n2 else x.n3))
 
-abbrev pub across_at : List Across → ℕ → Across
-across_at ways i = slice_index_or ways i (record { n0 = None; n1 = None; n2 = None; n3 = None })
-
 -- through some face of the row at i one comes to j
 abbrev pub IsWay : List Across → ℕ → ℕ → Type 0
 IsWay ways i j = (k : ℕ) × (k < 4) × (way (across_at ways i) k ≡ Some j)
-
-abbrev pub is_marked : List Bool → ℕ → Bool
-is_marked marks i = slice_index_or marks i false
 
 -- the flood from the places that are seeds comes to this one: also from beyond the hull to each row from which one comes there
 pub data IsFloodedFrom (ways : List Across) (seed : ℕ → Type 0) : ℕ → Type 0 where
@@ -30,7 +26,7 @@ abbrev pub queue_at : List ℕ → ℕ → ℕ
 queue_at queue i = slice_index_or queue i 0
 
 -- the marked places stand in the queue, each once, and the flood comes to them
-pub record IsFilled (ways : List Across) (seeds marks : List Bool) (queue : List ℕ) : Type 0 where
+pub record IsQueued (ways : List Across) (seeds marks : List Bool) (queue : List ℕ) : Type 0 where
   pub within : (i : ℕ) → i < length queue → queue_at queue i < length marks
   pub marked : (i : ℕ) → i < length queue → is_marked marks (queue_at queue i) ≡ true
   pub once : (i j : ℕ) → i < j → j < length queue → queue_at queue i ≢ queue_at queue j
@@ -53,7 +49,7 @@ abbrev pub IsClosedBeyond : List Across → List Bool → Type 0
 IsClosedBeyond ways marks = (j : ℕ) → IsWay ways j (length ways) → is_marked marks j ≡ true
 
 -- each place that one comes to from this one is marked
-pub record IsDone (ways : List Across) (marks : List Bool) (i : ℕ) : Type 0 where
+pub record IsClosedFrom (ways : List Across) (marks : List Bool) (i : ℕ) : Type 0 where
   pub row : i < length ways → IsClosedAt ways marks i
   pub beyond : length ways ≤ i → IsClosedBeyond ways marks
 

@@ -2,7 +2,7 @@
 use Rattle.std.specs.Prelude.{◌≡◌, ◌≢◌, ◌↔◌, ℕ, ◌<◌, ◌≤◌, pos, ◌<ℤ◌, Bool, true, Option, Some, None, List, [], length, slice_index_or, All}
 use Rattle.sign_predicates.specs.Point.{Point, RationalPoint, origin, as_rational, SomeRational}
 use Rattle.sign_predicates.specs.Orientation.{StrictlyInside}
-use Rattle.geo_laws.specs.Delaunay.{corners}
+use Rattle.geo_laws.specs.Delaunay.{corners, row_at}
 use Rattle.geo_laws.specs.Path.{Carving, IsJoined}
 use Rattle.geo_laws.specs.declared.faces.Face.{Face}
 use Rattle.geo_laws.specs.declared.tetrahedra.Tet.{Tet}
@@ -10,9 +10,9 @@ use Rattle.geo_laws.specs.declared.complex.FacetTriangle.{FacetTriangle}
 use Rattle.geo_laws.specs.declared.complex.Region.{Region}
 use Rattle.path_laws.specs.Places.{IsFilling, IsKeptPart}
 use Rattle.incidence.specs.declared.pairs.Across.{Across}
-use Rattle.incidence.specs.Links.{row_at}
-use Rattle.hole_carve.specs.Flooding.{is_marked, queue_at, IsFloodedFrom}
+use Rattle.hole_carve.specs.Flooding.{queue_at, IsFloodedFrom}
 use Rattle.hole_carve.specs.Seeds.{IsSeedAt}
+use Rattle.geo_laws.specs.Marks.{is_marked}
 
 abbrev pub mark_at : List (Option ℕ) → ℕ → Option ℕ
 mark_at marks i = slice_index_or marks i None
@@ -31,7 +31,7 @@ IsFirstOf P count None = (j : ℕ) → j < count → ¬ P j
 IsFirstOf P count (Some k) = (k < count) × P k × ((j : ℕ) → j < k → ¬ P j)
 
 -- each row has the number of the first region point that a free path joins with it, or none
-pub record AreMarks (ps : List Point) (ts : List FacetTriangle) (rows : List Tet) (regions : List Region)
+pub record AreRegionMarks (ps : List Point) (ts : List FacetTriangle) (rows : List Tet) (regions : List Region)
     (marks : List (Option ℕ)) : Type 0 where
   pub long : length marks ≡ length rows
   pub each : (i : ℕ) → i < length rows
@@ -47,7 +47,7 @@ abbrev pub KeptMarksLaw : Type 0
 KeptMarksLaw = (carving : Carving) (ps : List Point) (ts : List FacetTriangle) (whole : List Tet) (holes : List RationalPoint)
     (regions : List Region) (part : List Tet) (marks kept : List (Option ℕ))
     → IsFilling ps ts whole → All (λ h. pos 0 <ℤ h.w) holes → All (λ r. pos 0 <ℤ r.at.w) regions → IsKeptPart carving ps ts whole holes part
-    → AreMarks ps ts whole regions marks → AreKeptMarks whole marks part kept → AreMarks ps ts part regions kept
+    → AreRegionMarks ps ts whole regions marks → AreKeptMarks whole marks part kept → AreRegionMarks ps ts part regions kept
 
 -- ---- how they are found
 

@@ -2,10 +2,9 @@
 use Rattle.std.specs.Prelude.{◌≡◌, ◌⊎◌, ℕ, ◌<◌, pos, Bool, false, List, length, slice_index_or, Contains}
 use Rattle.sign_predicates.specs.Point.{Point, RationalPoint, origin, as_rational}
 use Rattle.sign_predicates.specs.Orientation.{InClosed, side_rational, opposite_face}
-use Rattle.geo_laws.specs.Delaunay.{corners}
+use Rattle.geo_laws.specs.Delaunay.{corners, row_at}
 use Rattle.geo_laws.specs.declared.faces.Face.{Face}
 use Rattle.geo_laws.specs.declared.tetrahedra.Tet.{Tet}
-use Rattle.incidence.specs.Links.{row_at}
 use Rattle.hole_carve.specs.Ways.{face_opposite}
 
 -- the closed row holds the point, on the plane of a face that is closed
@@ -14,8 +13,8 @@ HoldsOn ps closed t x = InClosed (corners ps t) x
     × ((k : ℕ) × (k < 4) × (side_rational (opposite_face (corners ps t) k) x ≡ pos 0) × Contains closed (face_opposite t k))
 
 -- the closed row at a place holds the point
-abbrev pub Holds : List Point → List Tet → RationalPoint → ℕ → Type 0
-Holds ps rows x i = (i < length rows) × InClosed (corners ps (row_at rows i)) x
+abbrev pub RowHolds : List Point → List Tet → RationalPoint → ℕ → Type 0
+RowHolds ps rows x i = (i < length rows) × InClosed (corners ps (row_at rows i)) x
 
 abbrev pub HoldsOnSome : List Point → List Face → List Tet → RationalPoint → Type 0
 HoldsOnSome ps closed rows x = (i : ℕ) × (i < length rows) × HoldsOn ps closed (row_at rows i) x
@@ -23,7 +22,7 @@ HoldsOnSome ps closed rows x = (i : ℕ) × (i < length rows) × HoldsOn ps clos
 -- the closed row holds the point, or, past the last row, none does; and none holds it on a closed face
 pub record IsSeedAt (ps : List Point) (closed : List Face) (rows : List Tet) (x : RationalPoint) (i : ℕ) : Type 0 where
   pub off : ¬ HoldsOnSome ps closed rows x
-  pub holds : Holds ps rows x i ⊎ (i ≡ length rows) × ((j : ℕ) → ¬ Holds ps rows x j)
+  pub holds : RowHolds ps rows x i ⊎ (i ≡ length rows) × ((j : ℕ) → ¬ RowHolds ps rows x j)
 
 -- the flood that carves begins here, as far as the first hole points tell: at a hole point, or beyond the hull where that isn't kept
 abbrev pub BeginsAt : Bool → List Point → List Face → List Tet → List RationalPoint → ℕ → ℕ → Type 0

@@ -5,9 +5,9 @@ use Rattle.geo_laws.specs.Faces.{face_of, row_faces}
 use Rattle.geo_laws.specs.declared.faces.Face.{Face}
 use Rattle.geo_laws.specs.declared.tetrahedra.Tet.{Tet}
 use Rattle.incidence.specs.declared.pairs.Across.{Across}
-use Rattle.incidence.specs.Links.{row_at}
-use Rattle.incidence.specs.Pairs.{is_face, across_of}
-use Rattle.hole_carve.specs.Flooding.{way, across_at}
+use Rattle.incidence.specs.Pairs.{is_face, across_of, across_at}
+use Rattle.hole_carve.specs.Flooding.{way}
+use Rattle.geo_laws.specs.Delaunay.{row_at}
 
 -- the partner, or what lies beyond the hull
 abbrev pub other_side : Option ℕ → ℕ → ℕ

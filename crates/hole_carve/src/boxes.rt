@@ -1,7 +1,7 @@
 //! Whether a point is outside of the box of a tetrahedron, which costs less than the exact test.
 ghost use Rattle.std.specs.Prelude.{◌≡◌, ◌≤◌, ◌^◌, ◌*ℤ◌, unsigned_abs, IsTrue};
 ghost use Rattle.sign_predicates.specs.Orientation.{IsPositive, InClosed};
-ghost use Rattle.hole_carve.specs.Boxes.{AreApart};
+ghost use Rattle.hole_carve.specs.Boxes.{AreBelowOrAbove};
 
 use sign_predicates::{Corners, RatPoint};
 
@@ -16,7 +16,7 @@ fn scaled(a: i32, w: i64) -> i64
 
 /// Whether four numbers are all less than another one, or all greater.
 fn are_apart(a: i64, b: i64, c: i64, d: i64, x: i64) -> bool
-    ensures { IsTrue result → AreApart a b c d x }
+    ensures { IsTrue result → AreBelowOrAbove a b c d x }
 {
     a < x && b < x && c < x && d < x || x < a && x < b && x < c && x < d
 }
@@ -28,7 +28,7 @@ fn are_apart_over(a: i32, b: i32, c: i32, d: i32, x: i64, w: i64) -> bool
     requires c_small { unsigned_abs c ≤ 2 ^ 23 }
     requires d_small { unsigned_abs d ≤ 2 ^ 23 }
     requires w_small { unsigned_abs w ≤ 1000000 }
-    ensures { IsTrue result → AreApart (a *ℤ w) (b *ℤ w) (c *ℤ w) (d *ℤ w) x }
+    ensures { IsTrue result → AreBelowOrAbove (a *ℤ w) (b *ℤ w) (c *ℤ w) (d *ℤ w) x }
 {
     are_apart(scaled(a, w), scaled(b, w), scaled(c, w), scaled(d, w), x)
 }

@@ -6,9 +6,9 @@ ghost use Rattle.sign_predicates.specs.Orientation.{IsPositive};
 ghost use Rattle.geo_laws.specs.Delaunay.{corners, IsOn, RowBefore};
 ghost use Rattle.path_laws.specs.Places.{IsFilling, IsKeptPart};
 ghost use Rattle.path_laws.specs.Flood.{carving_of};
-ghost use Rattle.hole_carve.specs.Flooding.{is_marked};
 ghost use Rattle.hole_carve.specs.Kept.{unmarked};
 ghost use Rattle.hole_carve.specs.Seeds.{BeginsAt};
+ghost use Rattle.geo_laws.specs.Marks.{is_marked};
 
 use crate::flood::flood;
 use crate::seeds::mark_seeds;

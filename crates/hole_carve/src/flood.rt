@@ -1,9 +1,11 @@
 //! A flood over the tetrahedra and what lies beyond the hull, breadth first.
 ghost use Rattle.std.specs.Prelude.{◌≡◌, ◌↔◌, ◌+◌, ◌<◌, ◌≤◌, ℕ, true, length, IfOk, OnOk, Option};
 ghost use Rattle.std.specs.Prelude.{Some};
-ghost use Rattle.hole_carve.specs.Flooding.{way, across_at, IsWay, is_marked, IsFlooded, IsFilled};
+ghost use Rattle.hole_carve.specs.Flooding.{way, IsWay, IsFlooded, IsQueued};
 ghost use Rattle.hole_carve.specs.Flooding.{Extends, queue_at, LeadsWithin, IsClosedAt};
-ghost use Rattle.hole_carve.specs.Flooding.{IsClosedBeyond, IsDone};
+ghost use Rattle.hole_carve.specs.Flooding.{IsClosedBeyond, IsClosedFrom};
+ghost use Rattle.incidence.specs.Pairs.{across_at};
+ghost use Rattle.geo_laws.specs.Marks.{is_marked};
 
 use crate::ways::Ways;
 use incidence::Across;
@@ -32,8 +34,8 @@ fn reach(
 ) -> Result<(), NoMemory>
     requires there { place < length marks.old }
     requires comes { IsFlooded ways.now seeds.now place }
-    requires filled { IsFilled ways.now seeds.now marks.old queue.old.items }
-    ensures filled { OnOk result (IsFilled ways.now seeds.now marks.new queue.new.items) }
+    requires filled { IsQueued ways.now seeds.now marks.old queue.old.items }
+    ensures filled { OnOk result (IsQueued ways.now seeds.now marks.new queue.new.items) }
     ensures marked { OnOk result (is_marked marks.new place ≡ true) }
     ensures grown { OnOk result (Extends marks.old queue.old.items marks.new queue.new.items) }
 {
@@ -56,8 +58,8 @@ fn reach_from(
     requires long { length marks.old ≡ length ways.now + 1 }
     requires within { LeadsWithin ways.now }
     requires comes { IsFlooded ways.now seeds.now row }
-    requires filled { IsFilled ways.now seeds.now marks.old queue.old.items }
-    ensures filled { OnOk result (IsFilled ways.now seeds.now marks.new queue.new.items) }
+    requires filled { IsQueued ways.now seeds.now marks.old queue.old.items }
+    ensures filled { OnOk result (IsQueued ways.now seeds.now marks.new queue.new.items) }
     ensures closed { OnOk result (IsClosedAt ways.now marks.new row) }
     ensures grown { OnOk result (Extends marks.old queue.old.items marks.new queue.new.items) }
 {
@@ -95,8 +97,8 @@ fn reach_back(
     requires there { row < length ways.now }
     requires long { length marks.old ≡ length ways.now + 1 }
     requires comes { IsFlooded ways.now seeds.now (length ways.now) }
-    requires filled { IsFilled ways.now seeds.now marks.old queue.old.items }
-    ensures filled { OnOk result (IsFilled ways.now seeds.now marks.new queue.new.items) }
+    requires filled { IsQueued ways.now seeds.now marks.old queue.old.items }
+    ensures filled { OnOk result (IsQueued ways.now seeds.now marks.new queue.new.items) }
     ensures reached { OnOk result (IsWay ways.now row (length ways.now) → is_marked marks.new row ≡ true) }
     ensures grown { OnOk result (Extends marks.old queue.old.items marks.new queue.new.items) }
 {
@@ -118,8 +120,8 @@ fn reach_from_beyond(
 ) -> Result<(), NoMemory>
     requires long { length marks.old ≡ length ways.now + 1 }
     requires comes { IsFlooded ways.now seeds.now (length ways.now) }
-    requires filled { IsFilled ways.now seeds.now marks.old queue.old.items }
-    ensures filled { OnOk result (IsFilled ways.now seeds.now marks.new queue.new.items) }
+    requires filled { IsQueued ways.now seeds.now marks.old queue.old.items }
+    ensures filled { OnOk result (IsQueued ways.now seeds.now marks.new queue.new.items) }
     ensures closed { OnOk result (IsClosedBeyond ways.now marks.new) }
     ensures grown { OnOk result (Extends marks.old queue.old.items marks.new queue.new.items) }
 {
@@ -141,9 +143,9 @@ fn reach_next(
     requires long { length marks.old ≡ length ways.now + 1 }
     requires within { LeadsWithin ways.now }
     requires comes { IsFlooded ways.now seeds.now place }
-    requires filled { IsFilled ways.now seeds.now marks.old queue.old.items }
-    ensures filled { OnOk result (IsFilled ways.now seeds.now marks.new queue.new.items) }
-    ensures done { OnOk result (IsDone ways.now marks.new place) }
+    requires filled { IsQueued ways.now seeds.now marks.old queue.old.items }
+    ensures filled { OnOk result (IsQueued ways.now seeds.now marks.new queue.new.items) }
+    ensures done { OnOk result (IsClosedFrom ways.now marks.new place) }
     ensures grown { OnOk result (Extends marks.old queue.old.items marks.new queue.new.items) }
 {
     if place < ways.len() {
@@ -163,13 +165,13 @@ pub(crate) fn fill(
     requires long { length marks.old ≡ length ways.now + 1 }
     requires seeds { length seeds.now ≡ length ways.now + 1 }
     requires within { LeadsWithin ways.now }
-    requires filled { IsFilled ways.now seeds.now marks.old queue.old.items }
-    requires done { (q : ℕ) → q < length queue.old.items → IsDone ways.now marks.old (queue_at queue.old.items q) }
+    requires filled { IsQueued ways.now seeds.now marks.old queue.old.items }
+    requires done { (q : ℕ) → q < length queue.old.items → IsClosedFrom ways.now marks.old (queue_at queue.old.items q) }
     ensures long { OnOk result (length marks.new ≡ length ways.now + 1) }
     ensures exactly { OnOk result ((i : ℕ) → (is_marked marks.new i ≡ true) ↔ IsFlooded ways.now seeds.now i) }
-    ensures filled { OnOk result (IsFilled ways.now seeds.now marks.new queue.new.items) }
+    ensures filled { OnOk result (IsQueued ways.now seeds.now marks.new queue.new.items) }
     ensures done { OnOk result ((q : ℕ) → q < length queue.new.items
-        → IsDone ways.now marks.new (queue_at queue.new.items q)) }
+        → IsClosedFrom ways.now marks.new (queue_at queue.new.items q)) }
     ensures grown { OnOk result (Extends marks.old queue.old.items marks.new queue.new.items) }
 {
     let mut at = queue.len();

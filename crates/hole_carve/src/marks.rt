@@ -4,10 +4,11 @@ ghost use Rattle.std.specs.Prelude.{AllPairs, All, Contains, Some, None, length,
 ghost use Rattle.sign_predicates.specs.Orientation.{IsPositive};
 ghost use Rattle.geo_laws.specs.Delaunay.{corners, IsOn, RowBefore};
 ghost use Rattle.path_laws.specs.Places.{IsFilling};
-ghost use Rattle.hole_carve.specs.Flooding.{is_marked, queue_at, IsFlooded, IsFilled, IsDone};
+ghost use Rattle.hole_carve.specs.Flooding.{queue_at, IsFlooded, IsQueued, IsClosedFrom};
 ghost use Rattle.hole_carve.specs.Flooding.{Extends, LeadsWithin};
-ghost use Rattle.hole_carve.specs.Marks.{mark_at, IsPutFrom, AreNumbered, AreMarks, AreKeptMarks};
+ghost use Rattle.hole_carve.specs.Marks.{mark_at, IsPutFrom, AreNumbered, AreRegionMarks, AreKeptMarks};
 ghost use Rattle.hole_carve.specs.Marks.{IsPlaceFrom, KeptMarksLaw};
+ghost use Rattle.geo_laws.specs.Marks.{is_marked};
 
 use crate::flood::fill;
 use crate::seeds::mark_seeds;
@@ -52,14 +53,14 @@ fn put_flood(
     requires long { length reached.old ≡ length ways.now + 1 }
     requires seeds { length seeds.now ≡ length ways.now + 1 }
     requires within { LeadsWithin ways.now }
-    requires filled { IsFilled ways.now seeds.now reached.old queue.old.items }
+    requires filled { IsQueued ways.now seeds.now reached.old queue.old.items }
     requires done { (q : ℕ) → q < length queue.old.items
-        → IsDone ways.now reached.old (queue_at queue.old.items q) }
+        → IsClosedFrom ways.now reached.old (queue_at queue.old.items q) }
     ensures long { OnOk result (length reached.new ≡ length ways.now + 1) }
     ensures exactly { OnOk result ((i : ℕ) → (is_marked reached.new i ≡ true) ↔ IsFlooded ways.now seeds.now i) }
-    ensures filled { OnOk result (IsFilled ways.now seeds.now reached.new queue.new.items) }
+    ensures filled { OnOk result (IsQueued ways.now seeds.now reached.new queue.new.items) }
     ensures done { OnOk result ((q : ℕ) → q < length queue.new.items
-        → IsDone ways.now reached.new (queue_at queue.new.items q)) }
+        → IsClosedFrom ways.now reached.new (queue_at queue.new.items q)) }
     ensures grown { OnOk result (Extends reached.old queue.old.items reached.new queue.new.items) }
     ensures put { OnOk result (IsPutFrom queue.new.items (length queue.old.items)
         (length queue.new.items) number marks.old marks.new) }
@@ -176,7 +177,7 @@ pub fn mark_regions(
 ) -> Result<Marks, NoMemory>
     requires filling { IsFilling points.now triangles.now list.now }
     requires regions { All (λ r. pos 0 <ℤ r.at.w) complex.now.regions }
-    ensures { IfOk result (λ marks. AreMarks points.now triangles.now list.now complex.now.regions marks) }
+    ensures { IfOk result (λ marks. AreRegionMarks points.now triangles.now list.now complex.now.regions marks) }
 {
     let closed = FaceTable::of_triangles(alloc, triangles)?;
     let pairs = pair_faces(alloc, list)?;

@@ -3,11 +3,10 @@ ghost use Rattle.std.specs.Prelude.{◌≡◌, ◌↔◌, ◌⊎◌, ◌+◌, �
 ghost use Rattle.std.specs.Prelude.{length, IfOk, OnOk};
 ghost use Rattle.sign_predicates.specs.Orientation.{IsPositive, InClosed, orient_rational, side_rational};
 ghost use Rattle.sign_predicates.specs.Orientation.{opposite_face};
-ghost use Rattle.geo_laws.specs.Delaunay.{corners, IsOn};
-ghost use Rattle.incidence.specs.Links.{row_at};
-ghost use Rattle.hole_carve.specs.Flooding.{is_marked};
+ghost use Rattle.geo_laws.specs.Delaunay.{corners, IsOn, row_at};
 ghost use Rattle.hole_carve.specs.Ways.{face_opposite};
-ghost use Rattle.hole_carve.specs.Seeds.{Holds, HoldsOnSome, IsSeedAt};
+ghost use Rattle.hole_carve.specs.Seeds.{RowHolds, HoldsOnSome, IsSeedAt};
+ghost use Rattle.geo_laws.specs.Marks.{is_marked};
 
 use crate::boxes::is_off_box;
 use face_table::FaceTable;
@@ -109,9 +108,9 @@ fn add_holder(
     requires on { All (IsOn points.now) list.now }
     requires positive { All (λ t. IsPositive (corners points.now t)) list.now }
     requires there { at < length list.now }
-    requires before { (i : ℕ) → Contains holders.old.items i ↔ ((i < at) × Holds points.now list.now x i) }
+    requires before { (i : ℕ) → Contains holders.old.items i ↔ ((i < at) × RowHolds points.now list.now x i) }
     ensures { OnOk result ((i : ℕ) → Contains holders.new.items i
-        ↔ ((i < at + 1) × Holds points.now list.now x i)) }
+        ↔ ((i < at + 1) × RowHolds points.now list.now x i)) }
 {
     if holds(points, row_on(points, list, at), x) {
         holders.push(at)?;
@@ -129,7 +128,7 @@ fn holders_of(
 ) -> Result<Vec<usize>, NoMemory>
     requires on { All (IsOn points.now) list.now }
     requires positive { All (λ t. IsPositive (corners points.now t)) list.now }
-    ensures { IfOk result (λ holders. (i : ℕ) → Contains holders.items i ↔ Holds points.now list.now x i) }
+    ensures { IfOk result (λ holders. (i : ℕ) → Contains holders.items i ↔ RowHolds points.now list.now x i) }
 {
     let mut holders = Vec::new(alloc);
     for at in 0..list.len() {
@@ -147,7 +146,7 @@ fn is_on_closed(
     holders: &[usize],
 ) -> bool
     requires on { All (IsOn points.now) list.now }
-    requires holders { (i : ℕ) → Contains holders.now i ↔ Holds points.now list.now x i }
+    requires holders { (i : ℕ) → Contains holders.now i ↔ RowHolds points.now list.now x i }
     ensures { (result ≡ true) ↔ HoldsOnSome points.now closed.now list.now x }
 {
     for at in 0..holders.len() {
@@ -192,7 +191,7 @@ fn mark_found(
 )
     requires on { All (IsOn points.now) list.now }
     requires long { length seeds.old ≡ length list.now + 1 }
-    requires holders { (i : ℕ) → Contains holders.now i ↔ Holds points.now list.now x i }
+    requires holders { (i : ℕ) → Contains holders.now i ↔ RowHolds points.now list.now x i }
     ensures long { length seeds.new ≡ length list.now + 1 }
     ensures marked { (i : ℕ) → (is_marked seeds.new i ≡ true)
         ↔ ((is_marked seeds.old i ≡ true) ⊎ IsSeedAt points.now closed.now list.now x i) }

@@ -1,7 +1,7 @@
 //! Where one comes to through the faces of tetrahedra that lie in no facet.
 ghost use Rattle.std.specs.Prelude.{◌≡◌, ◌<◌, ℕ, None, length, IsTrue};
-ghost use Rattle.incidence.specs.Pairs.{pairs_of};
-ghost use Rattle.hole_carve.specs.Flooding.{way, across_at, IsWay};
+ghost use Rattle.incidence.specs.Pairs.{pairs_of, across_at};
+ghost use Rattle.hole_carve.specs.Flooding.{way, IsWay};
 ghost use Rattle.hole_carve.specs.Ways.{way_through, ways_through, ways_of};
 
 use face_table::FaceTable;

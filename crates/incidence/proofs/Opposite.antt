@@ -7,7 +7,7 @@ use Rattle.geo_laws.specs.declared.faces.Face.{Face}
 use Rattle.geo_laws.specs.declared.tetrahedra.Tet.{Tet}
 use Rattle.incidence.specs.declared.half_faces.Corner.{Corner}
 use Rattle.incidence.specs.declared.half_faces.Corner.TheVariants.{A, B, C, D}
-use Rattle.incidence.specs.HalfFaces.{opposite_face, point_at, IsArranged}
+use Rattle.incidence.specs.HalfFaces.{opposite_row_face, point_at, IsAscendingRow}
 use Rattle.incidence.specs.Pairs.{is_face, has_face}
 use Rattle.incidence.proofs.Orders.{face_by_numbers}
 use Rattle.incidence.proofs.Partners.{face_same, face_itself, has_opposite}
@@ -101,7 +101,7 @@ opposite_d f t h = same_test (face_of t.a t.b t.c) f _ _ (adds_up t.d t.a t.b t.
 -- ---- by corners
 
 -- a corner and the face opposite it add up to the row
-adds : (t : Tet) (k : Corner) → point_at t k + total (opposite_face t k) ≡ t.a + t.b + t.c + t.d
+adds : (t : Tet) (k : Corner) → point_at t k + total (opposite_row_face t k) ≡ t.a + t.b + t.c + t.d
 adds t A = omega (arith, total-face_of t.b t.c t.d)
 adds t B = omega (arith, total-face_of t.a t.c t.d)
 adds t C = omega (arith, total-face_of t.a t.b t.d)
@@ -117,18 +117,18 @@ same_sum m n f s e = by (m == n) (m + f == s) refl refl
     by false false h k = refl
 
 -- two faces of a row are one where the corners opposite them are at one point
-pub opposite_same : (t : Tet) (k j : Corner) → (point_at t k == point_at t j) ≡ is_face (opposite_face t k) (opposite_face t j)
-opposite_same t A j = same_sum t.a (point_at t j) (total (opposite_face t j)) _ (adds t j)
-    ∙ opposite_a (opposite_face t j) t (has_opposite t j)
-opposite_same t B j = same_sum t.b (point_at t j) (total (opposite_face t j)) _ (adds t j)
-    ∙ opposite_b (opposite_face t j) t (has_opposite t j)
-opposite_same t C j = same_sum t.c (point_at t j) (total (opposite_face t j)) _ (adds t j)
-    ∙ opposite_c (opposite_face t j) t (has_opposite t j)
-opposite_same t D j = same_sum t.d (point_at t j) (total (opposite_face t j)) _ (adds t j)
-    ∙ opposite_d (opposite_face t j) t (has_opposite t j)
+pub opposite_same : (t : Tet) (k j : Corner) → (point_at t k == point_at t j) ≡ is_face (opposite_row_face t k) (opposite_row_face t j)
+opposite_same t A j = same_sum t.a (point_at t j) (total (opposite_row_face t j)) _ (adds t j)
+    ∙ opposite_a (opposite_row_face t j) t (has_opposite t j)
+opposite_same t B j = same_sum t.b (point_at t j) (total (opposite_row_face t j)) _ (adds t j)
+    ∙ opposite_b (opposite_row_face t j) t (has_opposite t j)
+opposite_same t C j = same_sum t.c (point_at t j) (total (opposite_row_face t j)) _ (adds t j)
+    ∙ opposite_c (opposite_row_face t j) t (has_opposite t j)
+opposite_same t D j = same_sum t.d (point_at t j) (total (opposite_row_face t j)) _ (adds t j)
+    ∙ opposite_d (opposite_row_face t j) t (has_opposite t j)
 
 -- no two corners of an arranged row are at one point
-apart : (t : Tet) (k j : Corner) → IsArranged t → point_at t k ≡ point_at t j → k ≡ j
+apart : (t : Tet) (k j : Corner) → IsAscendingRow t → point_at t k ≡ point_at t j → k ≡ j
 apart t A A h e = refl
 apart t A B h e = absurd (omega (arith, h, e))
 apart t A C h e = absurd (omega (arith, h, e))
@@ -147,5 +147,5 @@ apart t D C h e = absurd (h.3 (sym e))
 apart t D D h e = refl
 
 -- so its faces are opposite one corner each
-pub opposite_only : (t : Tet) (k j : Corner) → IsArranged t → ¬ (k ≡ j) → is_face (opposite_face t k) (opposite_face t j) ≡ false
+pub opposite_only : (t : Tet) (k j : Corner) → IsAscendingRow t → ¬ (k ≡ j) → is_face (opposite_row_face t k) (opposite_row_face t j) ≡ false
 opposite_only t k j h n = sym (opposite_same t k j) ∙ ne_eqb (point_at t k) (point_at t j) (λ e. n (apart t k j h e))

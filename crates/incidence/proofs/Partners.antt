@@ -9,13 +9,13 @@ use Rattle.geo_laws.specs.declared.tetrahedra.Tet.{Tet}
 use Rattle.incidence.specs.declared.half_faces.Corner.{Corner}
 use Rattle.incidence.specs.declared.half_faces.Corner.TheVariants.{A, B, C, D}
 use Rattle.incidence.specs.declared.uses.Use.{Use}
-use Rattle.incidence.specs.HalfFaces.{opposite_face, IsByRow}
-use Rattle.incidence.specs.Links.{row_at}
+use Rattle.incidence.specs.HalfFaces.{opposite_row_face, IsByRow}
 use Rattle.incidence.specs.Pairs.{is_face, has_face, is_partner, partner}
 use Rattle.incidence.specs.Uses.{row_uses, uses_from, uses_of_rows, UseBefore, AreAllUses, IsRunStart}
 use Rattle.std.proofs.lemmas.List.{get_or_read, get_or_default}
 use Rattle.incidence.proofs.Firsts.{first_is, first_is_none}
 use Rattle.incidence.proofs.Orders.{face_by_numbers, row_less, between}
+use Rattle.geo_laws.specs.Delaunay.{row_at}
 
 pub and_true : (a b : Bool) → (a && b) ≡ true → (a ≡ true) × (b ≡ true)
 and_true true b h = (refl, h)
@@ -54,15 +54,15 @@ has_2 f t e =
     (or_right (is_face (face_of t.a t.c t.d) f) (is_face (face_of t.a t.b t.d) f || is_face (face_of t.a t.b t.c) f) e)
 
 -- the face opposite a corner is a face of the row
-pub has_opposite : (t : Tet) (k : Corner) → has_face (opposite_face t k) t ≡ true
-has_opposite t A = has_0 (opposite_face t A) t (face_itself (opposite_face t A) (opposite_face t A) refl)
-has_opposite t B = has_1 (opposite_face t B) t (face_itself (opposite_face t B) (opposite_face t B) refl)
-has_opposite t C = has_2 (opposite_face t C) t
-    (or_left (is_face (face_of t.a t.b t.d) (opposite_face t C)) (is_face (face_of t.a t.b t.c) (opposite_face t C))
-    (face_itself (opposite_face t C) (opposite_face t C) refl))
-has_opposite t D = has_2 (opposite_face t D) t
-    (or_right (is_face (face_of t.a t.b t.d) (opposite_face t D)) (is_face (face_of t.a t.b t.c) (opposite_face t D))
-    (face_itself (opposite_face t D) (opposite_face t D) refl))
+pub has_opposite : (t : Tet) (k : Corner) → has_face (opposite_row_face t k) t ≡ true
+has_opposite t A = has_0 (opposite_row_face t A) t (face_itself (opposite_row_face t A) (opposite_row_face t A) refl)
+has_opposite t B = has_1 (opposite_row_face t B) t (face_itself (opposite_row_face t B) (opposite_row_face t B) refl)
+has_opposite t C = has_2 (opposite_row_face t C) t
+    (or_left (is_face (face_of t.a t.b t.d) (opposite_row_face t C)) (is_face (face_of t.a t.b t.c) (opposite_row_face t C))
+    (face_itself (opposite_row_face t C) (opposite_row_face t C) refl))
+has_opposite t D = has_2 (opposite_row_face t D) t
+    (or_right (is_face (face_of t.a t.b t.d) (opposite_row_face t D)) (is_face (face_of t.a t.b t.c) (opposite_row_face t D))
+    (face_itself (opposite_row_face t D) (opposite_row_face t D) refl))
 
 -- a use in a list of four is one of the four
 pub of_four : (place : ℕ) (t : Tet) (u : Use) → Contains (row_uses place t) u → (u.row ≡ place) × (has_face u.face t ≡ true)

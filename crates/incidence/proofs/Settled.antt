@@ -10,9 +10,9 @@ use Rattle.geo_laws.specs.declared.faces.Face.{Face}
 use Rattle.geo_laws.specs.declared.tetrahedra.Tet.{Tet}
 use Rattle.incidence.specs.declared.half_faces.Corner.TheVariants.{A, B, C, D}
 use Rattle.incidence.specs.declared.uses.Use.{Use}
-use Rattle.incidence.specs.HalfFaces.{opposite_face}
+use Rattle.incidence.specs.HalfFaces.{opposite_row_face}
 use Rattle.incidence.specs.declared.pairs.Across.{Across}
-use Rattle.incidence.specs.Pairs.{is_face, has_face, is_partner, partner, across_of, pairs_of, placed, IsAcrossWithin, AreAllWithin}
+use Rattle.incidence.specs.Pairs.{is_face, has_face, is_partner, partner, across_of, pairs_of, with_partner, IsAcrossWithin, AreAllWithin}
 use Rattle.incidence.specs.Uses.{AreAllUses}
 use Rattle.incidence.proofs.Firsts.{first_within}
 use Rattle.incidence.proofs.Partners.{face_same, face_itself, at_place, has_opposite}
@@ -58,7 +58,7 @@ settled_there rows uses at i here f o is n (inr h) = later h.0 h.1 h.2 h.3 (case
 
 pub settled_next : (rows : List Tet) (uses : List Use) (at : ℕ) (xs : List Across) (here : Use) (row : Tet) (p : Option ℕ)
     (d new : Across) → length xs ≡ length rows → here.row < length rows → ((u : Use) → get_or uses at u ≡ here) → ((t : Tet) → get_or rows here.row t ≡ row)
-    → p ≡ partner rows here.row here.face → new ≡ placed row here.face p (get_or xs here.row d) → AllSettled rows uses at xs → AllSettled rows uses (at + 1) (set xs here.row new)
+    → p ≡ partner rows here.row here.face → new ≡ with_partner row here.face p (get_or xs here.row d) → AllSettled rows uses at xs → AllSettled rows uses (at + 1) (set xs here.row new)
 settled_next rows uses at xs here row p d new long within is is_row e made s i t x l = by (cases_order i here.row)
   where
     old : Across
@@ -72,7 +72,7 @@ settled_next rows uses at xs here row p d new long within is is_row e made s i t
         let at_new : get_or (set xs here.row new) i x ≡ new = get_or-set_at xs here.row i new x q (omega (arith, long, within)) in
         let at_row : get_or rows i t ≡ row = ap (λ k. get_or rows k t) q ∙ is_row t in
         let P : ℕ → Tet → Across → Type 0 = AreSettled rows uses (at + 1) in
-        let now : P here.row row (placed row here.face p old) = record {
+        let now : P here.row row (with_partner row here.face p old) = record {
           across_0 = settled_here rows uses at here (face_of row.b row.c row.d) old.n0 p is e one.across_0;
           across_1 = settled_here rows uses at here (face_of row.a row.c row.d) old.n1 p is e one.across_1;
           across_2 = settled_here rows uses at here (face_of row.a row.b row.d) old.n2 p is e one.across_2;
@@ -99,10 +99,10 @@ settled_next rows uses at xs here row p d new long within is is_row e made s i t
 -- at the beginning all uses are still to come
 pub settled_first : (rows : List Tet) (uses : List Use) (xs : List Across) → AreAllUses rows uses → AllSettled rows uses 0 xs
 settled_first rows uses xs a i t x l = record {
-  across_0 = to_come (opposite_face r A) (get_or xs i x).n0 (has_opposite r A);
-  across_1 = to_come (opposite_face r B) (get_or xs i x).n1 (has_opposite r B);
-  across_2 = to_come (opposite_face r C) (get_or xs i x).n2 (has_opposite r C);
-  across_3 = to_come (opposite_face r D) (get_or xs i x).n3 (has_opposite r D);
+  across_0 = to_come (opposite_row_face r A) (get_or xs i x).n0 (has_opposite r A);
+  across_1 = to_come (opposite_row_face r B) (get_or xs i x).n1 (has_opposite r B);
+  across_2 = to_come (opposite_row_face r C) (get_or xs i x).n2 (has_opposite r C);
+  across_3 = to_come (opposite_row_face r D) (get_or xs i x).n3 (has_opposite r D);
 }
   where
     r : Tet

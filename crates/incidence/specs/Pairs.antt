@@ -1,12 +1,16 @@
 -- The rows on the other sides of faces.
 use Rattle.std.specs.Prelude.{ℕ, ◌<◌, ◌==◌, Bool, ◌&&◌, ◌||◌, not, cond, Option, Some, None, List}
 use Rattle.std.specs.Prelude.{slice_index, map, find, option_map, IfSome, All}
-use Rattle.std.specs.List.{enumerate_from}
+use Rattle.std.specs.List.{enumerate_from, slice_index_or}
 use Rattle.geo_laws.specs.Faces.{face_of}
 use Rattle.geo_laws.specs.declared.faces.Face.{Face}
 use Rattle.geo_laws.specs.declared.tetrahedra.Tet.{Tet}
 use Rattle.incidence.specs.declared.pairs.Across.{Across}
 use Rattle.incidence.specs.declared.pairs.Places.{Places}
+
+-- what is listed across the faces of the row at a place, where there is one
+abbrev pub across_at : List Across → ℕ → Across
+across_at rows i = slice_index_or rows i (record { n0 = None; n1 = None; n2 = None; n3 = None })
 
 abbrev pub is_face : Face → Face → Bool
 is_face f g = (f.a == g.a) && ((f.b == g.b) && (f.c == g.c))
@@ -37,8 +41,8 @@ abbrev pub pairs_of : List Tet → List Across
 pairs_of rows = map (λ r. across_of rows r.0 r.1) (enumerate_from 0 rows)
 
 -- with a partner put in across a face
-abbrev pub placed : Tet → Face → Option ℕ → Across → Across
-placed t f o x = record {
+abbrev pub with_partner : Tet → Face → Option ℕ → Across → Across
+with_partner t f o x = record {
   n0 = cond (is_face (face_of t.b t.c t.d) f) o x.n0;
   n1 = cond (is_face (face_of t.a t.c t.d) f) o x.n1;
   n2 = cond (is_face (face_of t.a t.b t.d) f) o x.n2;

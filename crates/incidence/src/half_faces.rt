@@ -2,9 +2,9 @@
 ghost use Rattle.std.specs.Prelude.{◌≡◌, ◌↔◌, [], ◌∷◌, ◌++◌, ◌+◌, ◌<◌, true, length, All};
 ghost use Rattle.std.specs.Prelude.{AllPairs, Contains, IsTrue, OnOk, vec_len, vec_capacity};
 ghost use Rattle.geo_laws.specs.Faces.{face_of};
-ghost use Rattle.incidence.specs.HalfFaces.{opposite_face, point_at, corner_number};
+ghost use Rattle.incidence.specs.HalfFaces.{opposite_row_face, point_at, corner_number};
 ghost use Rattle.incidence.specs.HalfFaces.{corner_numbered, use_of, used, marks_of};
-ghost use Rattle.incidence.specs.HalfFaces.{IsArranged, IsByRow};
+ghost use Rattle.incidence.specs.HalfFaces.{IsAscendingRow, IsByRow};
 ghost use Rattle.incidence.specs.Pairs.{is_face, has_face};
 ghost use Rattle.incidence.specs.Uses.{AreFirstsMarked};
 ghost use Rattle.incidence.specs.declared.uses.Use.{Use};
@@ -33,7 +33,7 @@ pub struct HalfFace {
 
 /// The face of a row opposite a corner.
 pub(crate) fn opposite_face(row: Tet, corner: Corner) -> Face
-    ensures { result ≡ opposite_face row corner }
+    ensures { result ≡ opposite_row_face row corner }
 {
     let Tet { a, b, c, d } = row;
     match corner {
@@ -106,14 +106,14 @@ fn are_opposite(row: Tet, face: Face) -> [bool; 4]
 
 /// Whether the corners of each row ascend, but for the order of the last two.
 pub(crate) fn are_arranged(list: &TetList) -> bool
-    ensures { IsTrue result → All IsArranged list.now }
+    ensures { IsTrue result → All IsAscendingRow list.now }
 {
     list.as_slice().iter().all(|row| is_arranged(*row))
 }
 
 /// Whether the corners of a row ascend, but for the order of the last two.
 fn is_arranged(row: Tet) -> bool
-    ensures { IsTrue result ↔ IsArranged row }
+    ensures { IsTrue result ↔ IsAscendingRow row }
 {
     let Tet { a, b, c, d } = row;
     (a < b) & (b < c) & (b < d) & (c != d)
@@ -122,7 +122,7 @@ fn is_arranged(row: Tet) -> bool
 /// The first corner that this face of the row is opposite.
 fn corner_opposite(row: Tet, face: Face) -> Corner
     requires { has_face face row ≡ true }
-    ensures { opposite_face row result ≡ face }
+    ensures { opposite_row_face row result ≡ face }
 {
     let [a, b, c, _] = are_opposite(row, face);
     if a {

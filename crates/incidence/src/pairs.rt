@@ -2,11 +2,11 @@
 ghost use Rattle.std.specs.Prelude.{◌≡◌, [], ◌∷◌, ◌+◌, ◌-◌, ◌<◌, ◌^◌, length, map};
 ghost use Rattle.std.specs.Prelude.{IfOk, IfSome, IsTrue, HoldsAt};
 ghost use Rattle.geo_laws.specs.Faces.{face_of};
-ghost use Rattle.incidence.specs.HalfFaces.{opposite_face, IsArranged};
-ghost use Rattle.incidence.specs.Links.{row_at};
-ghost use Rattle.incidence.specs.Pairs.{pairs_of, placed, is_face, place_in, across_in};
+ghost use Rattle.incidence.specs.HalfFaces.{opposite_row_face, IsAscendingRow};
+ghost use Rattle.incidence.specs.Pairs.{pairs_of, with_partner, is_face, place_in, across_in};
 ghost use Rattle.incidence.specs.Pairs.{IsAcrossWithin, AreAllWithin};
 ghost use Rattle.incidence.specs.Uses.{AreUsesOf};
+ghost use Rattle.geo_laws.specs.Delaunay.{row_at};
 
 use crate::half_faces::{Corner, HalfFace, are_arranged, number_of, point_at};
 use crate::uses::{Uses, partner_at, run_start, uses_of};
@@ -169,9 +169,9 @@ fn put_partners(list: &TetList, uses: &Uses, places: &mut [Places])
 /// are at one point, the face is opposite one corner alone.
 fn put_partner(list: &TetList, half: HalfFace, arranged: bool, place: u32, places: &mut Places)
     requires there { half.row < length list.now }
-    requires arranged { IsTrue arranged → IsArranged (row_at list.now half.row) }
+    requires arranged { IsTrue arranged → IsAscendingRow (row_at list.now half.row) }
     ensures { let row = row_at list.now half.row in across_in places.new
-        ≡ placed row (opposite_face row half.opposite) (place_in place) (across_in places.old) }
+        ≡ with_partner row (opposite_row_face row half.opposite) (place_in place) (across_in places.old) }
 {
     if !arranged {
         put_at_point(list.at(half.row as usize), half.opposite, place, places);
@@ -183,7 +183,7 @@ fn put_partner(list: &TetList, half: HalfFace, arranged: bool, place: u32, place
 /// Puts in the partner across the face opposite a corner of a row, at each corner at its point.
 fn put_at_point(row: Tet, opposite: Corner, place: u32, places: &mut Places)
     ensures { across_in places.new
-        ≡ placed row (opposite_face row opposite) (place_in place) (across_in places.old) }
+        ≡ with_partner row (opposite_row_face row opposite) (place_in place) (across_in places.old) }
 {
     let [a, b, c, d] = are_at_point(row, opposite);
     if a {
@@ -202,7 +202,7 @@ fn put_at_point(row: Tet, opposite: Corner, place: u32, places: &mut Places)
 
 /// For each corner whether it is at the point of this one. The faces opposite the two are one then.
 fn are_at_point(row: Tet, corner: Corner) -> [bool; 4]
-    ensures { let face = opposite_face row corner in result
+    ensures { let face = opposite_row_face row corner in result
         ≡ is_face (face_of row.b row.c row.d) face ∷ is_face (face_of row.a row.c row.d) face
         ∷ is_face (face_of row.a row.b row.d) face ∷ is_face (face_of row.a row.b row.c) face ∷ [] }
 {

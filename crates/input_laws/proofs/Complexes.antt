@@ -15,8 +15,7 @@ use Rattle.plc_files.specs.Facet.{Lines, facet_of, facet_head_of, poly_facet_of,
 use Rattle.plc_files.specs.Fields.{some_count_at, count_or_zero, whole_or_none}
 use Rattle.plc_files.specs.Plc.{plc_of, nodes_of, facets_of, list_head_of, listed}
 use Rattle.plc_files.specs.Polygon.{polygon_of}
-use Rattle.plc_files.specs.Repeated.{so_many}
-use Rattle.plc_files.specs.Text.{Facet, Plc}
+use Rattle.plc_files.specs.Text.{ReadFacet, Plc}
 use Rattle.soup_files.specs.Off as off
 use Rattle.soup_files.specs.Off.{off_of, head_of}
 use Rattle.soup_files.specs.Stl as stl
@@ -26,10 +25,11 @@ use Rattle.soup_files.specs.Vertices.{distinct_vertices}
 use Rattle.input_laws.specs.Numbers.{HasShortNumbers, AreMarkedShort, IsNumberedShort, PlcReadLaw, SurfaceReadLaw}
 use Rattle.input_laws.proofs.Numbers.{IsShortWhole, ok, same_ok, whole_at_short}
 use Rattle.input_laws.proofs.Nodes.{nodes_read}
+use Rattle.tet_text.specs.Repeated.{so_many}
 
 -- ---- facets
 
-abbrev IsMarkedShort : Facet → Type 0
+abbrev IsMarkedShort : ReadFacet → Type 0
 IsMarkedShort f = IfSome f.marker IsShortWhole
 
 -- what each reading gives holds of all that are read
@@ -72,25 +72,25 @@ head_short line = each_ok (facet_head_of line) (λ head. IfSome head.marker IsSh
     let d = bind_ok (end_at line.line c.0.1) _ head c.2 in
     subst (λ h. IfSome h.marker IsShortWhole) (same_ok _ head d.2) (whole_or_short line.line b.0.1 c.0.0 c.0.1 c.1))
 
-abbrev facet_with : List PolygonText → List DecimalPoint → Option ℤ → Facet
+abbrev facet_with : List PolygonText → List DecimalPoint → Option ℤ → ReadFacet
 facet_with polygons holes marker = record { polygons = polygons; holes = holes; marker = marker }
 
-facet_short : (form : Form) (flag : Bool) (total : ℕ) (lines : Lines) (f : Facet) (rest : Lines) → facet_of form flag total lines ≡ Ok (f, rest) → IsMarkedShort f
+facet_short : (form : Form) (flag : Bool) (total : ℕ) (lines : Lines) (f : ReadFacet) (rest : Lines) → facet_of form flag total lines ≡ Ok (f, rest) → IsMarkedShort f
 unfolding poly_facet_of smesh_facet_of
 facet_short Poly flag total lines f rest e =
     let a = bind_ok (line_at total lines) (λ line. facet_head_of line.0 >>= λ head. so_many (polygon_lines total) head.polygons line.1 >>= λ polygons. so_many (hole_line total) head.holes polygons.1 >>= λ holes. ok (facet_with polygons.0 holes.0 (marker_of flag head.marker), holes.1)) (f, rest) e in
     let b = bind_ok (facet_head_of a.0.0) (λ head. so_many (polygon_lines total) head.polygons a.0.1 >>= λ polygons. so_many (hole_line total) head.holes polygons.1 >>= λ holes. ok (facet_with polygons.0 holes.0 (marker_of flag head.marker), holes.1)) (f, rest) a.2 in
     let c = bind_ok (so_many (polygon_lines total) b.0.polygons a.0.1) (λ polygons. so_many (hole_line total) b.0.holes polygons.1 >>= λ holes. ok (facet_with polygons.0 holes.0 (marker_of flag b.0.marker), holes.1)) (f, rest) b.2 in
     let d = bind_ok (so_many (hole_line total) b.0.holes c.0.1) (λ holes. ok (facet_with c.0.0 holes.0 (marker_of flag b.0.marker), holes.1)) (f, rest) c.2 in
-    subst IsMarkedShort (ap (λ (x : Facet × Lines). x.0) (same_ok (facet_with c.0.0 d.0.0 (marker_of flag b.0.marker), d.0.1) (f, rest) d.2)) (used_short flag b.0.marker (subst (λ r. MatchResult r (λ head. IfSome head.marker IsShortWhole) (λ fault. Unit {0})) b.1 (head_short a.0.0)))
+    subst IsMarkedShort (ap (λ (x : ReadFacet × Lines). x.0) (same_ok (facet_with c.0.0 d.0.0 (marker_of flag b.0.marker), d.0.1) (f, rest) d.2)) (used_short flag b.0.marker (subst (λ r. MatchResult r (λ head. IfSome head.marker IsShortWhole) (λ fault. Unit {0})) b.1 (head_short a.0.0)))
 facet_short Smesh flag total lines f rest e =
     let a = bind_ok (line_at total lines) (λ line. polygon_of total line >>= λ polygon. whole_or_none polygon.1.0.line polygon.1.0.fields >>= λ marker. end_at polygon.1.0.line marker.1 >>= λ u. ok (facet_with (polygon.0 ∷ []) [] (marker_of flag marker.0), polygon.1.1)) (f, rest) e in
     let b = bind_ok (polygon_of total a.0) (λ polygon. whole_or_none polygon.1.0.line polygon.1.0.fields >>= λ marker. end_at polygon.1.0.line marker.1 >>= λ u. ok (facet_with (polygon.0 ∷ []) [] (marker_of flag marker.0), polygon.1.1)) (f, rest) a.2 in
     let c = bind_ok (whole_or_none b.0.1.0.line b.0.1.0.fields) (λ marker. end_at b.0.1.0.line marker.1 >>= λ u. ok (facet_with (b.0.0 ∷ []) [] (marker_of flag marker.0), b.0.1.1)) (f, rest) b.2 in
     let d = bind_ok (end_at b.0.1.0.line c.0.1) (λ u. ok (facet_with (b.0.0 ∷ []) [] (marker_of flag c.0.0), b.0.1.1)) (f, rest) c.2 in
-    subst IsMarkedShort (ap (λ (x : Facet × Lines). x.0) (same_ok (facet_with (b.0.0 ∷ []) [] (marker_of flag c.0.0), b.0.1.1) (f, rest) d.2)) (used_short flag c.0.0 (whole_or_short b.0.1.0.line b.0.1.0.fields c.0.0 c.0.1 c.1))
+    subst IsMarkedShort (ap (λ (x : ReadFacet × Lines). x.0) (same_ok (facet_with (b.0.0 ∷ []) [] (marker_of flag c.0.0), b.0.1.1) (f, rest) d.2)) (used_short flag c.0.0 (whole_or_short b.0.1.0.line b.0.1.0.fields c.0.0 c.0.1 c.1))
 
-facets_short : (form : Form) (total : ℕ) (lines : Lines) (fs : List Facet) (rest : Lines) → facets_of form total lines ≡ Ok (fs, rest) → All IsMarkedShort fs
+facets_short : (form : Form) (total : ℕ) (lines : Lines) (fs : List ReadFacet) (rest : Lines) → facets_of form total lines ≡ Ok (fs, rest) → All IsMarkedShort fs
 unfolding facets_of
 facets_short form total lines fs rest e =
     let a = bind_ok (line_at total lines) (λ line. list_head_of line.0 >>= λ head. so_many (facet_of form head.1 total) head.0 line.1) (fs, rest) e in
@@ -130,17 +130,17 @@ of_surface points faces = (record { first = omega arith; markers = λ k d lt. ab
 off_read : (total : ℕ) (lines : List ContentLine) (text : Plc) → off_of total lines ≡ Ok text → IsNumberedShort text
 unfolding off_of
 off_read total lines text e =
-    let a = bind_ok (head_of total lines) (λ head. so_many (off.vertex_line total) head.0.0 head.1 >>= λ points. so_many (off.face_of total) head.0.1 points.1 >>= λ faces. text_end_at faces.1 >>= λ u. ok (surface_of points.0 faces.0)) text e in
-    let b = bind_ok (so_many (off.vertex_line total) a.0.0.0 a.0.1) (λ points. so_many (off.face_of total) a.0.0.1 points.1 >>= λ faces. text_end_at faces.1 >>= λ u. ok (surface_of points.0 faces.0)) text a.2 in
-    let c = bind_ok (so_many (off.face_of total) a.0.0.1 b.0.1) (λ faces. text_end_at faces.1 >>= λ u. ok (surface_of b.0.0 faces.0)) text b.2 in
+    let a = bind_ok (head_of total lines) (λ head. so_many (off.vertex_line total) head.0.0 head.1 >>= λ points. so_many (off.off_polygon total) head.0.1 points.1 >>= λ faces. text_end_at faces.1 >>= λ u. ok (surface_of points.0 faces.0)) text e in
+    let b = bind_ok (so_many (off.vertex_line total) a.0.0.0 a.0.1) (λ points. so_many (off.off_polygon total) a.0.0.1 points.1 >>= λ faces. text_end_at faces.1 >>= λ u. ok (surface_of points.0 faces.0)) text a.2 in
+    let c = bind_ok (so_many (off.off_polygon total) a.0.0.1 b.0.1) (λ faces. text_end_at faces.1 >>= λ u. ok (surface_of b.0.0 faces.0)) text b.2 in
     let d = bind_ok (text_end_at c.0.1) (λ u. ok (surface_of b.0.0 c.0.0)) text c.2 in
     subst IsNumberedShort (same_ok (surface_of b.0.0 c.0.0) text d.2) (of_surface b.0.0 c.0.0)
 
 stl_read : (total : ℕ) (lines : List ContentLine) (text : Plc) → stl_of total lines ≡ Ok text → IsNumberedShort text
 unfolding stl_of
 stl_read total lines text e =
-    let a = bind_ok (solid_line total lines) (λ solid. stl.facets_of (length solid.1) total solid.1 >>= λ facets. text_end_at facets.1 >>= λ u. ok (triangles_of facets.0)) text e in
-    let b = bind_ok (stl.facets_of (length a.0.1) total a.0.1) (λ facets. text_end_at facets.1 >>= λ u. ok (triangles_of facets.0)) text a.2 in
+    let a = bind_ok (solid_line total lines) (λ solid. stl.ascii_facets_of (length solid.1) total solid.1 >>= λ facets. text_end_at facets.1 >>= λ u. ok (triangles_of facets.0)) text e in
+    let b = bind_ok (stl.ascii_facets_of (length a.0.1) total a.0.1) (λ facets. text_end_at facets.1 >>= λ u. ok (triangles_of facets.0)) text a.2 in
     let c = bind_ok (text_end_at b.0.1) (λ u. ok (triangles_of b.0.0)) text b.2 in
     subst IsNumberedShort (same_ok (triangles_of b.0.0) text c.2) (of_surface (distinct_vertices (vertices_of b.0.0)) (map (triangle_in (distinct_vertices (vertices_of b.0.0))) b.0.0))
 

@@ -12,10 +12,10 @@ use Rattle.tet_text.specs.declared.fault.TextFault.{TextFault}
 use Rattle.tet_text.specs.Numbers.{are_digits, whole_of}
 use Rattle.tet_text.specs.Faults.{ended, not_a_number}
 use Rattle.tet_text.specs.Reading.{◌>>=◌, Fields, whole_at}
-use Rattle.reread_laws.specs.Reread.{IsShort}
+use Rattle.reread_laws.specs.Reread.{IsShortNumber}
 
 abbrev pub IsShortWhole : ℤ → Type 0
-IsShortWhole z = IsShort (unsigned_abs z)
+IsShortWhole z = IsShortNumber (unsigned_abs z)
 
 as_test : (w : List ℕ) → all_ascii_digits w ≡ list_all is_ascii_digit w
 as_test [] = refl

@@ -4,20 +4,20 @@ use Rattle.tet_text.specs.Lines.{ContentLine}
 use Rattle.node_files.specs.Node.{node_list_of}
 use Rattle.node_files.specs.declared.node_text.NodeText.{NodeText}
 use Rattle.plc_files.specs.Plc.{plc_of}
-use Rattle.plc_files.specs.Text.{Facet, Plc}
+use Rattle.plc_files.specs.Text.{ReadFacet, Plc}
 use Rattle.plc_files.specs.declared.form.Form.{Form}
 use Rattle.soup_files.specs.Off.{off_of}
 use Rattle.soup_files.specs.Stl.{stl_of}
-use Rattle.reread_laws.specs.Reread.{IsShort}
+use Rattle.reread_laws.specs.Reread.{IsShortNumber}
 
 -- points are numbered from 0 or 1, and their markers have at most 18 digits
 pub record HasShortNumbers (text : NodeText) : Type 0 where
   pub first : text.first ≤ 1
-  pub markers : All (λ m. IsShort (unsigned_abs m)) text.markers
+  pub markers : All (λ m. IsShortNumber (unsigned_abs m)) text.markers
 
 -- the marker of each facet that has one has at most 18 digits
-abbrev pub AreMarkedShort : List Facet → Type 0
-AreMarkedShort facets = All (λ f. IfSome f.marker (λ m. IsShort (unsigned_abs m))) facets
+abbrev pub AreMarkedShort : List ReadFacet → Type 0
+AreMarkedShort facets = All (λ f. IfSome f.marker (λ m. IsShortNumber (unsigned_abs m))) facets
 
 -- so it is with the points and facets of a complex
 abbrev pub IsNumberedShort : Plc → Type 0

@@ -17,7 +17,7 @@ use Rattle.geo_laws.proofs.Lexicographic.{IsLexAbove, IsLexAtLeast, lex_same, le
 use Rattle.geo_laws.proofs.Lexicographic.{at_least_same}
 use Rattle.geo_laws.proofs.Heights.{all_fours, in_all_fours}
 use Rattle.geo_laws.specs.OrientedFace.{Face, triangle, reversed, beside}
-use Rattle.insert_laws.specs.LowestInsertion.{IsNew, IsFaceOf, IsHullFace, Sees, edge_and, Place, row_place, ghost_place, IsInCavity, row_in, ghost_in, row_ghost, ghost_ghost, ghost_turned, IsJoined, joined_self, joined_by, BeyondCavityLaw}
+use Rattle.insert_laws.specs.LowestInsertion.{IsNew, IsFaceOf, IsLowestHullFace, LowestSees, edge_and, RowOrGhost, row_place, ghost_place, IsInLowestCavity, row_in, ghost_in, row_ghost, ghost_ghost, ghost_turned, AreLowestPlacesJoined, joined_self, joined_by, LowestBeyondCavityLaw}
 use Rattle.insert_laws.proofs.Identities as identity
 use Rattle.geo_laws.proofs.Lexicographic.{at_least_multiple}
 use Rattle.insert_laws.proofs.Pencil.{IsBare}
@@ -208,23 +208,23 @@ record IsGoal (lifts : ℕ → ℤ) (ps : List Point) (ms : List ℕ) (p : ℕ) 
   beyond : pos 0 <ℤ side_of ps g p
 
 module _ (lifts : ℕ → ℤ) (ps : List Point) (ms : List ℕ) (p : ℕ) (new : IsNew ps ms p) (t : Tet) (mid : RationalPoint) (some : IsSome ps (Contains ms) t mid) (g : Face) (goal : IsGoal lifts ps ms p mid g) where
-  ghost_in_cavity : (f : Face) → IsGhost lifts ps ms p mid f → IsInCavity lifts ps ms p (ghost_place f)
+  ghost_in_cavity : (f : Face) → IsGhost lifts ps ms p mid f → IsInLowestCavity lifts ps ms p (ghost_place f)
   ghost_in_cavity f k =
       let h = hull.hull_from lifts ps ms (Contains ms) (LowestBridge.of_list ps ms new.within) f k.apex k.hull in
       ghost_in f h (laws.sees_of lifts ps ms p new f k.apex h k.hull (edge.of_edge_below lifts ps mid f k.apex p (ghost_weight lifts ps ms p new t mid some f k) k.hull.low.under k.seen))
 
-  ghost_of : (f : Face) → (h : IsHullFace lifts ps ms f) → Sees lifts ps p f h.behind → IsGhost lifts ps ms p mid f
+  ghost_of : (f : Face) → (h : IsLowestHullFace lifts ps ms f) → LowestSees lifts ps p f h.behind → IsGhost lifts ps ms p mid f
   ghost_of f h s = at (hull.some_hull_on lifts ps ms (Contains ms) (LowestBridge.of_list ps ms new.within) f h)
     where
       at : (a : ℕ) × IsHullOn lifts ps (Contains ms) f a → IsGhost lifts ps ms p mid f
       at (a, k) = record { apex = a; hull = k; seen = edge.edge_below lifts ps mid f a p (hull.center_below lifts ps (Contains ms) t mid f a some k) k.low.under (laws.sees_to lifts ps ms p new f a h k s) }
 
-  joined_turn : (f : Face) → IsGhost lifts ps ms p mid f → IsJoined lifts ps ms p (ghost_place (turn f)) (ghost_place g) → IsJoined lifts ps ms p (ghost_place f) (ghost_place g)
+  joined_turn : (f : Face) → IsGhost lifts ps ms p mid f → AreLowestPlacesJoined lifts ps ms p (ghost_place (turn f)) (ghost_place g) → AreLowestPlacesJoined lifts ps ms p (ghost_place f) (ghost_place g)
   joined_turn f k rest = joined_by (ghost_place f) (ghost_place (turn f)) (ghost_place g) (ghost_turned f.a f.b f.c) (ghost_in_cavity (turn f) (ghost-turn lifts ps ms p new mid f k)) rest
 
   -- where no edge leads on, the face is g
   at_goal : (f : Face) → IsGhost lifts ps ms p mid f → pos 0 ≤ℤ edge_side ps mid f.b f.c p → pos 0 ≤ℤ edge_side ps mid f.c f.a p → pos 0 ≤ℤ edge_side ps mid f.a f.b p
-      → IsJoined lifts ps ms p (ghost_place f) (ghost_place g)
+      → AreLowestPlacesJoined lifts ps ms p (ghost_place f) (ghost_place g)
   at_goal f k ka kb kc = go shared_a
     where
       gg : IsGhost lifts ps ms p mid g
@@ -257,8 +257,8 @@ module _ (lifts : ℕ → ℤ) (ps : List Point) (ms : List ℕ) (p : ℕ) (new 
       wg : pos 0 <ℤ weight ps mid g
       wg = ghost_weight lifts ps ms p new t mid some g gg
 
-      found : (h : Face) → IsGhost lifts ps ms p mid h → g.a ≡ h.a → IsCorner3 h g.b → IsCorner3 h g.c → IsJoined lifts ps ms p (ghost_place h) (ghost_place g)
-      found h gh e b c = subst (λ q. IsJoined lifts ps ms p (ghost_place q) (ghost_place g)) (aligned ps mid h g (ghost_weight lifts ps ms p new t mid some h gh) wg proper e b c) (joined_self (ghost_place g))
+      found : (h : Face) → IsGhost lifts ps ms p mid h → g.a ≡ h.a → IsCorner3 h g.b → IsCorner3 h g.c → AreLowestPlacesJoined lifts ps ms p (ghost_place h) (ghost_place g)
+      found h gh e b c = subst (λ q. AreLowestPlacesJoined lifts ps ms p (ghost_place q) (ghost_place g)) (aligned ps mid h g (ghost_weight lifts ps ms p new t mid some h gh) wg proper e b c) (joined_self (ghost_place g))
 
       kt : IsGhost lifts ps ms p mid (turn f)
       kt = ghost-turn lifts ps ms p new mid f k
@@ -266,7 +266,7 @@ module _ (lifts : ℕ → ℤ) (ps : List Point) (ms : List ℕ) (p : ℕ) (new 
       ktt : IsGhost lifts ps ms p mid (turn (turn f))
       ktt = ghost-turn lifts ps ms p new mid (turn f) kt
 
-      go : IsCorner3 f g.a → IsJoined lifts ps ms p (ghost_place f) (ghost_place g)
+      go : IsCorner3 f g.a → AreLowestPlacesJoined lifts ps ms p (ghost_place f) (ghost_place g)
       go (one_a e) = found f k e shared_b shared_c
       go (one_b e) = joined_turn f k (found (turn f) kt e (corner3-turn f g.b shared_b) (corner3-turn f g.c shared_c))
       go (one_c e) = joined_turn f k (joined_turn (turn f) kt (found (turn (turn f)) ktt e (corner3-turn (turn f) g.b (corner3-turn f g.b shared_b)) (corner3-turn (turn f) g.c (corner3-turn f g.c shared_c))))
@@ -279,11 +279,11 @@ module _ (lifts : ℕ → ℤ) (ps : List Point) (ms : List ℕ) (p : ℕ) (new 
       split (inr (inl k)) = inr (omega (arith, ints))
       split (inr (inr k)) = inl k
 
-  over_edge : (f : Face) → IsGhost lifts ps ms p mid f → (r : IsAcross lifts ps ms p mid f) → IsJoined lifts ps ms p (ghost_place (edge_and f.b f.a r.apex)) (ghost_place g) → IsJoined lifts ps ms p (ghost_place f) (ghost_place g)
+  over_edge : (f : Face) → IsGhost lifts ps ms p mid f → (r : IsAcross lifts ps ms p mid f) → AreLowestPlacesJoined lifts ps ms p (ghost_place (edge_and f.b f.a r.apex)) (ghost_place g) → AreLowestPlacesJoined lifts ps ms p (ghost_place f) (ghost_place g)
   over_edge f k r rest = joined_by (ghost_place f) (ghost_place (edge_and f.b f.a r.apex)) (ghost_place g) (ghost_ghost f.a f.b f.c r.apex) (ghost_in_cavity (edge_and f.b f.a r.apex) r.ghost) rest
 
   ghost_step : (f : Face) → IsGhost lifts ps ms p mid f
-      → IsJoined lifts ps ms p (ghost_place f) (ghost_place g) ⊎ ((h : Face) × IsGhost lifts ps ms p mid h × nearer lifts ps mid p f h × (IsJoined lifts ps ms p (ghost_place h) (ghost_place g) → IsJoined lifts ps ms p (ghost_place f) (ghost_place g)))
+      → AreLowestPlacesJoined lifts ps ms p (ghost_place f) (ghost_place g) ⊎ ((h : Face) × IsGhost lifts ps ms p mid h × nearer lifts ps mid p f h × (AreLowestPlacesJoined lifts ps ms p (ghost_place h) (ghost_place g) → AreLowestPlacesJoined lifts ps ms p (ghost_place f) (ghost_place g)))
   ghost_step f k = go (negative_or (edge_side ps mid f.a f.b p)) (negative_or (edge_side ps mid f.b f.c p)) (negative_or (edge_side ps mid f.c f.a p))
     where
       kt : IsGhost lifts ps ms p mid (turn f)
@@ -293,15 +293,15 @@ module _ (lifts : ℕ → ℤ) (ps : List Point) (ms : List ℕ) (p : ℕ) (new 
       ktt = ghost-turn lifts ps ms p new mid (turn f) kt
 
       first : IsAcross lifts ps ms p mid f
-          → IsJoined lifts ps ms p (ghost_place f) (ghost_place g) ⊎ ((h : Face) × IsGhost lifts ps ms p mid h × nearer lifts ps mid p f h × (IsJoined lifts ps ms p (ghost_place h) (ghost_place g) → IsJoined lifts ps ms p (ghost_place f) (ghost_place g)))
+          → AreLowestPlacesJoined lifts ps ms p (ghost_place f) (ghost_place g) ⊎ ((h : Face) × IsGhost lifts ps ms p mid h × nearer lifts ps mid p f h × (AreLowestPlacesJoined lifts ps ms p (ghost_place h) (ghost_place g) → AreLowestPlacesJoined lifts ps ms p (ghost_place f) (ghost_place g)))
       first r = inr (edge_and f.b f.a r.apex, r.ghost, r.rises, over_edge f k r)
 
       second : IsAcross lifts ps ms p mid (turn f)
-          → IsJoined lifts ps ms p (ghost_place f) (ghost_place g) ⊎ ((h : Face) × IsGhost lifts ps ms p mid h × nearer lifts ps mid p f h × (IsJoined lifts ps ms p (ghost_place h) (ghost_place g) → IsJoined lifts ps ms p (ghost_place f) (ghost_place g)))
+          → AreLowestPlacesJoined lifts ps ms p (ghost_place f) (ghost_place g) ⊎ ((h : Face) × IsGhost lifts ps ms p mid h × nearer lifts ps mid p f h × (AreLowestPlacesJoined lifts ps ms p (ghost_place h) (ghost_place g) → AreLowestPlacesJoined lifts ps ms p (ghost_place f) (ghost_place g)))
       second r = inr (edge_and f.c f.b r.apex, r.ghost, nearer-turn lifts ps mid p f (edge_and f.c f.b r.apex) r.rises, λ rest. joined_turn f k (over_edge (turn f) kt r rest))
 
       third : IsAcross lifts ps ms p mid (turn (turn f))
-          → IsJoined lifts ps ms p (ghost_place f) (ghost_place g) ⊎ ((h : Face) × IsGhost lifts ps ms p mid h × nearer lifts ps mid p f h × (IsJoined lifts ps ms p (ghost_place h) (ghost_place g) → IsJoined lifts ps ms p (ghost_place f) (ghost_place g)))
+          → AreLowestPlacesJoined lifts ps ms p (ghost_place f) (ghost_place g) ⊎ ((h : Face) × IsGhost lifts ps ms p mid h × nearer lifts ps mid p f h × (AreLowestPlacesJoined lifts ps ms p (ghost_place h) (ghost_place g) → AreLowestPlacesJoined lifts ps ms p (ghost_place f) (ghost_place g)))
       third r = inr (
         edge_and f.a f.c r.apex,
         r.ghost,
@@ -312,15 +312,15 @@ module _ (lifts : ℕ → ℤ) (ps : List Point) (ms : List ℕ) (p : ℕ) (new 
       go : (pos 0 <ℤ neg_ℤ (edge_side ps mid f.a f.b p)) ⊎ (pos 0 ≤ℤ edge_side ps mid f.a f.b p)
           → (pos 0 <ℤ neg_ℤ (edge_side ps mid f.b f.c p)) ⊎ (pos 0 ≤ℤ edge_side ps mid f.b f.c p)
           → (pos 0 <ℤ neg_ℤ (edge_side ps mid f.c f.a p)) ⊎ (pos 0 ≤ℤ edge_side ps mid f.c f.a p)
-          → IsJoined lifts ps ms p (ghost_place f) (ghost_place g) ⊎ ((h : Face) × IsGhost lifts ps ms p mid h × nearer lifts ps mid p f h × (IsJoined lifts ps ms p (ghost_place h) (ghost_place g) → IsJoined lifts ps ms p (ghost_place f) (ghost_place g)))
+          → AreLowestPlacesJoined lifts ps ms p (ghost_place f) (ghost_place g) ⊎ ((h : Face) × IsGhost lifts ps ms p mid h × nearer lifts ps mid p f h × (AreLowestPlacesJoined lifts ps ms p (ghost_place h) (ghost_place g) → AreLowestPlacesJoined lifts ps ms p (ghost_place f) (ghost_place g)))
       go (inl h) _ _ = first (across lifts ps ms p new t mid some f k h)
       go (inr _) (inl h) _ = second (across lifts ps ms p new t mid some (turn f) kt h)
       go (inr _) (inr _) (inl h) = third (across lifts ps ms p new t mid some (turn (turn f)) ktt h)
       go (inr c) (inr a) (inr b) = inl (at_goal f k a b c)
 
-  ghosts_joined : (f : Face) → IsGhost lifts ps ms p mid f → IsJoined lifts ps ms p (ghost_place f) (ghost_place g)
+  ghosts_joined : (f : Face) → IsGhost lifts ps ms p mid f → AreLowestPlacesJoined lifts ps ms p (ghost_place f) (ghost_place g)
   ghosts_joined f k =
-      climb Face (nearer lifts ps mid p) (IsGhost lifts ps ms p mid) (λ h. IsJoined lifts ps ms p (ghost_place h) (ghost_place g))
+      climb Face (nearer lifts ps mid p) (IsGhost lifts ps ms p mid) (λ h. AreLowestPlacesJoined lifts ps ms p (ghost_place h) (ghost_place g))
       (λ x y z hx hy hz a b. nearer_trans lifts ps mid p x y z (ghost_weight lifts ps ms p new t mid some x hx) (ghost_weight lifts ps ms p new t mid some y hy) (ghost_weight lifts ps ms p new t mid some z hz) a b)
       (λ x h. nearer_never lifts ps mid p x h)
       ghost_step (length (inside.all_faces ms)) (inside.all_faces ms) (omega arith) f k
@@ -332,8 +332,8 @@ module _ (lifts : ℕ → ℤ) (ps : List Point) (ms : List ℕ) (p : ℕ) (new 
   here_p = as_rational (point ps p)
 
   row_step : (r : Tet) → inside.IsCavityRow lifts ps ms p r
-      → IsJoined lifts ps ms p (row_place r) (ghost_place g) ⊎ ((s : Tet) × inside.IsCavityRow lifts ps ms p s × inside.rises_at lifts ps (as_rational (point ps p)) r s
-      × (IsJoined lifts ps ms p (row_place s) (ghost_place g) → IsJoined lifts ps ms p (row_place r) (ghost_place g)))
+      → AreLowestPlacesJoined lifts ps ms p (row_place r) (ghost_place g) ⊎ ((s : Tet) × inside.IsCavityRow lifts ps ms p s × inside.rises_at lifts ps (as_rational (point ps p)) r s
+      × (AreLowestPlacesJoined lifts ps ms p (row_place s) (ghost_place g) → AreLowestPlacesJoined lifts ps ms p (row_place r) (ghost_place g)))
   row_step r c = go (closed_or_beyond ps r (as_rational (point ps p)))
     where
       low : LowestBridge.IsLowFour lifts ps (Contains ms) r
@@ -345,8 +345,8 @@ module _ (lifts : ℕ → ℤ) (ps : List Point) (ms : List ℕ) (p : ℕ) (new 
       onward : (b : inside.IsBeyondFace ps r (as_rational (point ps p)))
           → pos 0 <ℤ side_of ps b.face p
           → (LowestBridge.IsFaceOn (Contains ms) b.face × IsBare (side_of ps b.face) (Contains ms)) ⊎ inside.IsNext lifts ps ms p (as_rational (point ps p)) r
-          → IsJoined lifts ps ms p (row_place r) (ghost_place g) ⊎ ((s : Tet) × inside.IsCavityRow lifts ps ms p s × inside.rises_at lifts ps (as_rational (point ps p)) r s
-          × (IsJoined lifts ps ms p (row_place s) (ghost_place g) → IsJoined lifts ps ms p (row_place r) (ghost_place g)))
+          → AreLowestPlacesJoined lifts ps ms p (row_place r) (ghost_place g) ⊎ ((s : Tet) × inside.IsCavityRow lifts ps ms p s × inside.rises_at lifts ps (as_rational (point ps p)) r s
+          × (AreLowestPlacesJoined lifts ps ms p (row_place s) (ghost_place g) → AreLowestPlacesJoined lifts ps ms p (row_place r) (ghost_place g)))
       onward b above (inr n) = inr (n.row, n.cavity, n.rises, λ rest. joined_by (row_place r) (row_place n.row) (ghost_place g) n.touches (row_in n.row n.cavity.is_row n.cavity.not_above) rest)
       onward b above (inl (on, none)) = inl (joined_by (row_place r) (ghost_place b.face) (ghost_place g) (row_ghost b.face r face_is) (ghost_in b.face h sees) (ghosts_joined b.face (ghost_of b.face h sees)))
         where
@@ -356,15 +356,15 @@ module _ (lifts : ℕ → ℤ) (ps : List Point) (ms : List ℕ) (p : ℕ) (new 
           face_is : IsFaceOf ps (reversed b.face) r
           face_is = inside.face_of lifts ps (Contains ms) (reversed b.face) b.apex r (LowestBridge.low_on_face lifts ps (Contains ms) (reversed b.face) b.apex four) b.even
 
-          h : IsHullFace lifts ps ms b.face
+          h : IsLowestHullFace lifts ps ms b.face
           h = record { behind = r; is_row = c.is_row; is_face = face_is; none_beyond = insert.of_bare ps ms p new b.face on none }
 
-          sees : Sees lifts ps p b.face h.behind
+          sees : LowestSees lifts ps p b.face h.behind
           sees = inl (subst (λ n. pos 0 <ℤ n) (insert.side_new ps ms p new b.face on) above)
 
       go : InClosed (corners ps r) (as_rational (point ps p)) ⊎ inside.IsBeyondFace ps r (as_rational (point ps p))
-          → IsJoined lifts ps ms p (row_place r) (ghost_place g) ⊎ ((s : Tet) × inside.IsCavityRow lifts ps ms p s × inside.rises_at lifts ps (as_rational (point ps p)) r s
-          × (IsJoined lifts ps ms p (row_place s) (ghost_place g) → IsJoined lifts ps ms p (row_place r) (ghost_place g)))
+          → AreLowestPlacesJoined lifts ps ms p (row_place r) (ghost_place g) ⊎ ((s : Tet) × inside.IsCavityRow lifts ps ms p s × inside.rises_at lifts ps (as_rational (point ps p)) r s
+          × (AreLowestPlacesJoined lifts ps ms p (row_place s) (ghost_place g) → AreLowestPlacesJoined lifts ps ms p (row_place r) (ghost_place g)))
       go (inl closed) = absurd (inside.not_beyond (corners ps r) (triangle ps g) (as_rational (point ps p)) low.positive closed
           (bare r.a (low.on r.a (A, refl))) (bare r.b (low.on r.b (B, refl))) (bare r.c (low.on r.c (C, refl))) (bare r.d (low.on r.d (D, refl)))
           (subst (λ n. pos 0 <ℤ n) (sym (ring.side_rational-as_rational (triangle ps g) (point ps p))) goal.beyond))
@@ -372,9 +372,9 @@ module _ (lifts : ℕ → ℤ) (ps : List Point) (ms : List ℕ) (p : ℕ) (new 
           let above = subst (λ n. pos 0 <ℤ n) (ring.side_rational-as_rational (triangle ps b.face) (point ps p)) b.beyond in
           onward b above (inside.next lifts ps ms p new (as_rational (point ps p)) r c b (nonneg_of_pos _ above))
 
-  rows_joined : (r : Tet) → inside.IsCavityRow lifts ps ms p r → IsJoined lifts ps ms p (row_place r) (ghost_place g)
+  rows_joined : (r : Tet) → inside.IsCavityRow lifts ps ms p r → AreLowestPlacesJoined lifts ps ms p (row_place r) (ghost_place g)
   rows_joined r c =
-      climb Tet (inside.rises_at lifts ps (as_rational (point ps p))) (inside.IsCavityRow lifts ps ms p) (λ s. IsJoined lifts ps ms p (row_place s) (ghost_place g))
+      climb Tet (inside.rises_at lifts ps (as_rational (point ps p))) (inside.IsCavityRow lifts ps ms p) (λ s. AreLowestPlacesJoined lifts ps ms p (row_place s) (ghost_place g))
       (λ x y z hx hy hz a b. inside.rises_trans lifts ps (as_rational (point ps p)) x y z (four x hx).positive (four y hy).positive (four z hz).positive a b)
       (λ x h. inside.rises_never lifts ps (as_rational (point ps p)) x h)
       row_step (length (all_fours ms)) (all_fours ms) (omega arith) r c
@@ -383,7 +383,7 @@ module _ (lifts : ℕ → ℤ) (ps : List Point) (ms : List ℕ) (p : ℕ) (new 
       four : (s : Tet) → inside.IsCavityRow lifts ps ms p s → LowestBridge.IsLowFour lifts ps (Contains ms) s
       four s h = LowestBridge.low_of_lowest lifts ps ms (Contains ms) (LowestBridge.of_list ps ms new.within) s h.is_row
 
-  each_joined : (a : Place) → IsInCavity lifts ps ms p a → IsJoined lifts ps ms p a (ghost_place g)
+  each_joined : (a : RowOrGhost) → IsInLowestCavity lifts ps ms p a → AreLowestPlacesJoined lifts ps ms p a (ghost_place g)
   each_joined (row_place r) (row_in u d n) = rows_joined r (record { is_row = d; not_above = n })
   each_joined (ghost_place f) (ghost_in u h s) = ghosts_joined f (ghost_of f h s)
 
@@ -444,10 +444,10 @@ near_goal lifts ps ms p new f a n some h above hab hbc hca = record {
     moved a b e h = omega (arith, ints)
 
 -- a tetrahedron of the cavity is joined to a ghost that p sees, and each such ghost to that of f
-pub law_beyond_cavity : BeyondCavityLaw
+pub law_beyond_cavity : LowestBeyondCavityLaw
 law_beyond_cavity lifts ps ms p new f h above = start (hull.some_hull_on lifts ps ms (Contains ms) (LowestBridge.of_list ps ms new.within) f h)
   where
-    start : (a : ℕ) × IsHullOn lifts ps (Contains ms) f a → (x : Place) → IsInCavity lifts ps ms p x → IsJoined lifts ps ms p x (ghost_place f)
+    start : (a : ℕ) × IsHullOn lifts ps (Contains ms) f a → (x : RowOrGhost) → IsInLowestCavity lifts ps ms p x → AreLowestPlacesJoined lifts ps ms p x (ghost_place f)
     start (a, k) = each_joined lifts ps ms p new (beside (reversed f) a) (near ps f a large) (near_inside lifts ps (Contains ms) f a large (omega arith) k) f
         (near_goal lifts ps ms p new f a large (omega arith) k (subst (λ n. pos 0 <ℤ n) (sym (insert.side_new ps ms p new f k.on)) above) (omega arith) (omega arith) (omega arith))
       where

@@ -13,7 +13,7 @@ use Rattle.geo_laws.specs.Height.{IsLowestAmong}
 use Rattle.geo_laws.specs.Hull.{InHullAmong, OffPlanes, rows_round, CoversHullOnceAmong}
 use Rattle.geo_laws.specs.Simplex.{RowsProperlyMet}
 use Rattle.geo_laws.specs.Laws.{KeepsSide}
-use Rattle.insert_laws.specs.LowestCover.{IsLowestListAmong, CoverLaw}
+use Rattle.insert_laws.specs.LowestCover.{IsLowestListAmong, LowestCoverLaw}
 use Rattle.geo_laws.proofs.Cover.{count_none, count_one}
 use Rattle.geo_laws.specs.declared.tetrahedra.Tet.{Tet}
 use Rattle.sign_predicates.proofs.Places.{Place, A, B, C, D, opposite}
@@ -100,5 +100,5 @@ rows_meet lifts ps ms within rows list i j d l k =
     let t = slice_index_or rows j d in
     (law_radical.lowest ps ms lifts s t (lowest_at lifts ps ms rows list s (at_place rows i d (omega arith))) (lowest_at lifts ps ms rows list t (at_place rows j d k))).0
 
-pub law_cover : CoverLaw
+pub law_cover : LowestCoverLaw
 law_cover lifts ps ms within rows list = record { covers = covers lifts ps ms within rows list; properly_met = rows_meet lifts ps ms within rows list }

@@ -15,7 +15,7 @@ use Rattle.geo_laws.proofs.Places.{number, over_places, at_face}
 use Rattle.geo_laws.proofs.Corners.{corner_among}
 use Rattle.geo_laws.proofs.Lexicographic.{IsLexAtLeast, above_add, at_least_add, at_least_multiple, lex_scale, lex_same, above_unscale}
 use Rattle.geo_laws.proofs.Radical.{residual-at_least}
-use Rattle.insert_laws.specs.LowestInsertion.{HasAbove, IsHullFace, Sees, Place as Spot, IsInCavity, row_in, ghost_in, IsCavityPlace, cavity_row, cavity_ghost, IsStarRow, HiddenLaw}
+use Rattle.insert_laws.specs.LowestInsertion.{HasAbove, IsLowestHullFace, LowestSees, RowOrGhost as Spot, IsInLowestCavity, row_in, ghost_in, IsLowestCavityPlace, cavity_row, cavity_ghost, IsLowestStarRow, HiddenLaw}
 use Rattle.insert_laws.proofs.Identities as identity
 use Rattle.insert_laws.proofs.InsideLaw.{not_beyond_hull}
 use Rattle.insert_laws.proofs.LowestBridge.{of_cons, to_cons}
@@ -94,32 +94,32 @@ law_hidden lifts ps ms p new s low closed above = record { above = over; no_plac
     over : (t : Tet) → IsLowestAmong ps ms lifts t → HasAbove lifts ps t p
     over = above_all lifts ps ms p s low closed above
 
-    unseen : (f : Face) (h : IsHullFace lifts ps ms f) → ¬ Sees lifts ps p f h.behind
+    unseen : (f : Face) (h : IsLowestHullFace lifts ps ms f) → ¬ LowestSees lifts ps p f h.behind
     unseen f h (inl k) = not_beyond_hull lifts ps ms p new s low closed f h k
     unseen f h (inr k) = k.1 (over h.behind h.is_row)
 
-    none : (a : Spot) → ¬ IsInCavity lifts ps ms p a
+    none : (a : Spot) → ¬ IsInLowestCavity lifts ps ms p a
     none _ (row_in t d n) = n (over t d)
     none _ (ghost_in f h sees) = unseen f h sees
 
     rows : (t : Tet) → IsLowestAmong ps (p ∷ ms) lifts t ↔ IsLowestAmong ps ms lifts t
     rows t = (λ d. to ((law_insertion lifts ps ms p new s low t).0 d), λ d. (law_insertion lifts ps ms p new s low t).1 (inl (d, over t d)))
       where
-        no_star : {f : Face} → IsCavityPlace lifts ps ms p f → ⊥
+        no_star : {f : Face} → IsLowestCavityPlace lifts ps ms p f → ⊥
         no_star (cavity_row r d face n) = n (over r d)
         no_star {f} (cavity_ghost h sees) = unseen f h sees
 
-        to : (IsLowestAmong ps ms lifts t × HasAbove lifts ps t p) ⊎ IsStarRow lifts ps ms p t → IsLowestAmong ps ms lifts t
+        to : (IsLowestAmong ps ms lifts t × HasAbove lifts ps t p) ⊎ IsLowestStarRow lifts ps ms p t → IsLowestAmong ps ms lifts t
         to (inl old) = old.0
         to (inr star) = absurd (no_star star.cavity)
 
-    hull : (f : Face) → IsHullFace lifts ps (p ∷ ms) f ↔ IsHullFace lifts ps ms f
+    hull : (f : Face) → IsLowestHullFace lifts ps (p ∷ ms) f ↔ IsLowestHullFace lifts ps ms f
     hull f = (to, from)
       where
-        to : IsHullFace lifts ps (p ∷ ms) f → IsHullFace lifts ps ms f
+        to : IsLowestHullFace lifts ps (p ∷ ms) f → IsLowestHullFace lifts ps ms f
         to h = record { behind = h.behind; is_row = (rows h.behind).0 h.is_row; is_face = h.is_face; none_beyond = λ i c. h.none_beyond i (to_cons p ms i (inr c)) }
 
-        from : IsHullFace lifts ps ms f → IsHullFace lifts ps (p ∷ ms) f
+        from : IsLowestHullFace lifts ps ms f → IsLowestHullFace lifts ps (p ∷ ms) f
         from h = record { behind = h.behind; is_row = (rows h.behind).1 h.is_row; is_face = h.is_face; none_beyond = λ i c. beyond i (of_cons p ms i c) }
           where
             beyond : (i : ℕ) → (i ≡ p) ⊎ Contains ms i → ¬ (pos 0 <ℤ side (triangle ps f) (point ps i))

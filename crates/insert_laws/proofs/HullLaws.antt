@@ -10,7 +10,7 @@ use Rattle.geo_laws.proofs.Corners.{IsCorner}
 use Rattle.geo_laws.proofs.Corners.{distinct}
 use Rattle.geo_laws.proofs.Lexicographic.{IsZeroAt, IsLexAbove, lex_sign_of, lex_same}
 use Rattle.geo_laws.specs.OrientedFace.{Face, reversed, beside, IsOther}
-use Rattle.insert_laws.specs.LowestInsertion.{IsNew, IsHullFace, HasAbove, Sees, IsClearPlace, clear_row, clear_ghost, edge_and, IsHullRim, OldHullLaw, NewHullLaw}
+use Rattle.insert_laws.specs.LowestInsertion.{IsNew, IsLowestHullFace, HasAbove, LowestSees, IsLowestClearPlace, clear_row, clear_ghost, edge_and, IsLowestHullRim, LowestOldHullLaw, LowestNewHullLaw}
 use Rattle.geo_laws.proofs.Lexicographic.{IsLexBelow, not_both}
 use Rattle.insert_laws.proofs.Pencil.{IsPencil, IsBare, IsFirst, first_of, above_not_zero, under_unique}
 use Rattle.insert_laws.proofs.StarPencil as pencil
@@ -32,7 +32,7 @@ record IsBehind (lifts : ℕ → ℤ) (ps : List Point) (ms : List ℕ) (p : ℕ
   outside : HasAbove lifts ps t p ↔ IsLexBelow (gap_of lifts ps f a p) (places (length ps))
   decided : IsLexAbove (gap_of lifts ps f a p) (places (length ps)) ⊎ IsLexBelow (gap_of lifts ps f a p) (places (length ps))
 
-behind_of : (lifts : ℕ → ℤ) (ps : List Point) (ms : List ℕ) (p : ℕ) (new : IsNew ps ms p) (f : Face) (a : ℕ) → (h : IsHullFace lifts ps ms f) → IsHullOn lifts ps (Contains ms) f a → IsBehind lifts ps ms p f a h.behind
+behind_of : (lifts : ℕ → ℤ) (ps : List Point) (ms : List ℕ) (p : ℕ) (new : IsNew ps ms p) (f : Face) (a : ℕ) → (h : IsLowestHullFace lifts ps ms f) → IsHullOn lifts ps (Contains ms) f a → IsBehind lifts ps ms p f a h.behind
 behind_of lifts ps ms p new f a h on = subst (λ i. IsBehind lifts ps ms p f i h.behind) same own
   where
     r : LowestBridge.IsRowOn lifts ps (Contains ms) (reversed f) h.behind
@@ -59,10 +59,10 @@ behind_of lifts ps ms p new f a h on = subst (λ i. IsBehind lifts ps ms p f i h
     own = record { on = on.on; outside = (λ o. to_below (law.0 o), λ k. law.1 (from_below k)); decided = split (insert.decided lifts ps ms p new (reversed f) r.apex r.on r.low) }
 
 -- p sees a hull face exactly where it is below it in the pencil of its edge
-pub sees_to : (lifts : ℕ → ℤ) (ps : List Point) (ms : List ℕ) (p : ℕ) (new : IsNew ps ms p) (f : Face) (a : ℕ) (h : IsHullFace lifts ps ms f) → IsHullOn lifts ps (Contains ms) f a → Sees lifts ps p f h.behind → IsSeen lifts ps p f a
+pub sees_to : (lifts : ℕ → ℤ) (ps : List Point) (ms : List ℕ) (p : ℕ) (new : IsNew ps ms p) (f : Face) (a : ℕ) (h : IsLowestHullFace lifts ps ms f) → IsHullOn lifts ps (Contains ms) f a → LowestSees lifts ps p f h.behind → IsSeen lifts ps p f a
 sees_to lifts ps ms p new f a h on s = go s (behind_of lifts ps ms p new f a h on)
   where
-    go : Sees lifts ps p f h.behind → IsBehind lifts ps ms p f a h.behind → IsSeen lifts ps p f a
+    go : LowestSees lifts ps p f h.behind → IsBehind lifts ps ms p f a h.behind → IsSeen lifts ps p f a
     go (inl k) b = inl (subst (λ n. pos 0 <ℤ n) (sym (insert.side_new ps ms p new f b.on)) k)
     go (inr k) b = inr (insert.side_new ps ms p new f b.on ∙ k.0, above b.decided)
       where
@@ -71,10 +71,10 @@ sees_to lifts ps ms p new f a h on s = go s (behind_of lifts ps ms p new f a h o
         above (inl l) = l
         above (inr l) = absurd (k.1 (b.outside.1 l))
 
-pub sees_of : (lifts : ℕ → ℤ) (ps : List Point) (ms : List ℕ) (p : ℕ) (new : IsNew ps ms p) (f : Face) (a : ℕ) (h : IsHullFace lifts ps ms f) → IsHullOn lifts ps (Contains ms) f a → IsSeen lifts ps p f a → Sees lifts ps p f h.behind
+pub sees_of : (lifts : ℕ → ℤ) (ps : List Point) (ms : List ℕ) (p : ℕ) (new : IsNew ps ms p) (f : Face) (a : ℕ) (h : IsLowestHullFace lifts ps ms f) → IsHullOn lifts ps (Contains ms) f a → IsSeen lifts ps p f a → LowestSees lifts ps p f h.behind
 sees_of lifts ps ms p new f a h on s = go s (behind_of lifts ps ms p new f a h on)
   where
-    go : IsSeen lifts ps p f a → IsBehind lifts ps ms p f a h.behind → Sees lifts ps p f h.behind
+    go : IsSeen lifts ps p f a → IsBehind lifts ps ms p f a h.behind → LowestSees lifts ps p f h.behind
     go (inl k) b = inl (subst (λ n. pos 0 <ℤ n) (insert.side_new ps ms p new f b.on) k)
     go (inr k) b = inr (sym (insert.side_new ps ms p new f b.on) ∙ k.0, λ o. not_both (gap_of lifts ps f a p) (places (length ps)) k.1 (b.outside.0 o))
 
@@ -83,10 +83,10 @@ sees_of lifts ps ms p new f a h on s = go s (behind_of lifts ps ms p new f a h o
 wider : (ps : List Point) (S : ℕ → Type 0) (p : ℕ) (t : Tet) (mid : RationalPoint) → IsSome ps S t mid → IsSome ps (With S p) t mid
 wider ps S p t mid h = record { on = λ i c. inr (h.on i c); positive = h.positive; inside = h.inside }
 
-all_hull : (lifts : ℕ → ℤ) (ps : List Point) (ms : List ℕ) (p : ℕ) (new : IsNew ps ms p) (f : Face) (a : ℕ) → IsHullOn lifts ps (With (Contains ms) p) f a → IsHullFace lifts ps (p ∷ ms) f
+all_hull : (lifts : ℕ → ℤ) (ps : List Point) (ms : List ℕ) (p : ℕ) (new : IsNew ps ms p) (f : Face) (a : ℕ) → IsHullOn lifts ps (With (Contains ms) p) f a → IsLowestHullFace lifts ps (p ∷ ms) f
 all_hull lifts ps ms p new f a h = hull.hull_from lifts ps (p ∷ ms) (With (Contains ms) p) (LowestBridge.of_new ps ms p new) f a h
 
-of_all_hull : (lifts : ℕ → ℤ) (ps : List Point) (ms : List ℕ) (p : ℕ) (new : IsNew ps ms p) (f : Face) → IsHullFace lifts ps (p ∷ ms) f → (a : ℕ) × IsHullOn lifts ps (With (Contains ms) p) f a
+of_all_hull : (lifts : ℕ → ℤ) (ps : List Point) (ms : List ℕ) (p : ℕ) (new : IsNew ps ms p) (f : Face) → IsLowestHullFace lifts ps (p ∷ ms) f → (a : ℕ) × IsHullOn lifts ps (With (Contains ms) p) f a
 of_all_hull lifts ps ms p new f h = hull.some_hull_on lifts ps (p ∷ ms) (With (Contains ms) p) (LowestBridge.of_new ps ms p new) f h
 
 -- the corners of a hull face and the one behind are different
@@ -98,7 +98,7 @@ below_next ms p i (inl e) n = absurd (n e)
 below_next ms p i (inr c) n = c
 
 -- the new faces are those that p makes in the pencil of an edge between a seen and an unseen face
-pub law_new_hull : NewHullLaw
+pub law_new_hull : LowestNewHullLaw
 law_new_hull lifts ps ms p new some some_is i j = (to, from)
   where
     here_some : IsSome ps (Contains ms) some (hull.middle_of ps some)
@@ -107,10 +107,10 @@ law_new_hull lifts ps ms p new some some_is i j = (to, from)
     rim : IsPencil (edge_face i j) (edge_side ps (hull.middle_of ps some) i j) (edge_gap lifts ps (hull.middle_of ps some) i j) (edge_places (length ps)) (length ps)
     rim = edge.edge_pencil lifts ps (hull.middle_of ps some) i j
 
-    to : IsHullFace lifts ps (p ∷ ms) (edge_and i j p) → IsHullRim lifts ps ms p i j
+    to : IsLowestHullFace lifts ps (p ∷ ms) (edge_and i j p) → IsLowestHullRim lifts ps ms p i j
     to h = by (of_all_hull lifts ps ms p new (edge_and i j p) h)
       where
-        by : (a : ℕ) × IsHullOn lifts ps (With (Contains ms) p) (edge_and i j p) a → IsHullRim lifts ps ms p i j
+        by : (a : ℕ) × IsHullOn lifts ps (With (Contains ms) p) (edge_and i j p) a → IsLowestHullRim lifts ps ms p i j
         by r = go (first_of rim (Contains ms) (LowestBridge.list_set ps ms new.within))
           where
             apart : AreDistinct (beside (reversed (edge_and i j p)) r.0)
@@ -129,7 +129,7 @@ law_new_hull lifts ps ms p new some some_is i j = (to, from)
             off = above_not_zero (edge_side ps (hull.middle_of ps some) i j p) low.over
 
             at : IsCavityOver (edge_face i j) (edge_side ps (hull.middle_of ps some) i j) (edge_gap lifts ps (hull.middle_of ps some) i j) (edge_places (length ps)) (Contains ms) p
-                × IsClearUnder (edge_face i j) (edge_side ps (hull.middle_of ps some) i j) (edge_gap lifts ps (hull.middle_of ps some) i j) (edge_places (length ps)) (Contains ms) p → IsHullRim lifts ps ms p i j
+                × IsClearUnder (edge_face i j) (edge_side ps (hull.middle_of ps some) i j) (edge_gap lifts ps (hull.middle_of ps some) i j) (edge_places (length ps)) (Contains ms) p → IsLowestHullRim lifts ps ms p i j
             at (over_ghost bare _ _ _, _) = absurd (hull.edge_not_bare ps (Contains ms) some (hull.middle_of ps some) i j p here_some off bare)
             at (over_row _ _ _, under_ghost bare _ _ _) = absurd (hull.edge_not_bare_under ps (Contains ms) some (hull.middle_of ps some) i j p here_some off bare)
             at (over_row o low_o below, under_row b low_b clear) = record {
@@ -145,7 +145,7 @@ law_new_hull lifts ps ms p new some some_is i j = (to, from)
                 inner : (a : ℕ) × IsHullOn lifts ps (Contains ms) (edge_and i j o) a
                 inner = hull.hull_of_edge lifts ps (Contains ms) some (hull.middle_of ps some) i j o (LowestBridge.list_set ps ms new.within) here_some on_i on_j low_o
 
-                seen : IsHullFace lifts ps ms (edge_and i j o)
+                seen : IsLowestHullFace lifts ps ms (edge_and i j o)
                 seen = hull.hull_from lifts ps ms (Contains ms) (LowestBridge.of_list ps ms new.within) (edge_and i j o) inner.0 inner.1
 
                 turned : hull.IsEdgeLow lifts ps (hull.middle_of ps some) (Contains ms) j i b
@@ -154,18 +154,18 @@ law_new_hull lifts ps ms p new some some_is i j = (to, from)
                 outer : (a : ℕ) × IsHullOn lifts ps (Contains ms) (edge_and j i b) a
                 outer = hull.hull_of_edge lifts ps (Contains ms) some (hull.middle_of ps some) j i b (LowestBridge.list_set ps ms new.within) here_some on_j on_i turned
 
-                unseen : IsHullFace lifts ps ms (edge_and j i b)
+                unseen : IsLowestHullFace lifts ps ms (edge_and j i b)
                 unseen = hull.hull_from lifts ps ms (Contains ms) (LowestBridge.of_list ps ms new.within) (edge_and j i b) outer.0 outer.1
 
                 above : IsLexAbove (edge_gap lifts ps (hull.middle_of ps some) j i b p) (edge_places (length ps))
                 above = lex_same (λ k. neg_ℤ (edge_gap lifts ps (hull.middle_of ps some) i j b p k)) (edge_gap lifts ps (hull.middle_of ps some) j i b p) (edge_places (length ps))
                     (λ k. sym (edge.edge_gap-turned lifts ps (hull.middle_of ps some) i j b p k)) clear
 
-            go : IsBare (edge_side ps (hull.middle_of ps some) i j) (Contains ms) ⊎ ((o : ℕ) × IsFirst (edge_side ps (hull.middle_of ps some) i j) (edge_gap lifts ps (hull.middle_of ps some) i j) (edge_places (length ps)) (Contains ms) o) → IsHullRim lifts ps ms p i j
+            go : IsBare (edge_side ps (hull.middle_of ps some) i j) (Contains ms) ⊎ ((o : ℕ) × IsFirst (edge_side ps (hull.middle_of ps some) i j) (edge_gap lifts ps (hull.middle_of ps some) i j) (edge_places (length ps)) (Contains ms) o) → IsLowestHullRim lifts ps ms p i j
             go (inl bare) = absurd (hull.edge_not_bare ps (Contains ms) some (hull.middle_of ps some) i j p here_some off bare)
             go (inr o) = at (pencil.low_is_star rim p (LowestBridge.list_set ps ms new.within) new.is_new o.0 o.1.on (above_not_zero (edge_side ps (hull.middle_of ps some) i j o.0) o.1.over) low)
 
-    from : IsHullRim lifts ps ms p i j → IsHullFace lifts ps (p ∷ ms) (edge_and i j p)
+    from : IsLowestHullRim lifts ps ms p i j → IsLowestHullFace lifts ps (p ∷ ms) (edge_and i j p)
     from h = all_hull lifts ps ms p new (edge_and i j p) found.0 found.1
       where
         inner : IsHullOn lifts ps (Contains ms) (edge_and i j h.inner) (LowestBridge.row_on lifts ps ms (Contains ms) (LowestBridge.of_list ps ms new.within) (reversed (edge_and i j h.inner)) h.seen.behind h.seen.is_row h.seen.is_face).apex
@@ -202,7 +202,7 @@ law_new_hull lifts ps ms p new some some_is i j = (to, from)
 -- ---- hull faces without it
 
 -- a face without p stays exactly where p is not below it
-pub law_old_hull : OldHullLaw
+pub law_old_hull : LowestOldHullLaw
 law_old_hull lifts ps ms p new some some_is f fa fb fc = (to, from)
   where
     on : LowestBridge.IsFaceOn (Contains ms) f
@@ -214,22 +214,22 @@ law_old_hull lifts ps ms p new some some_is f fa fb fc = (to, from)
     here_some : IsSome ps (Contains ms) some (hull.middle_of ps some)
     here_some = hull.some_on lifts ps ms (Contains ms) (LowestBridge.of_list ps ms new.within) some some_is
 
-    to : IsHullFace lifts ps (p ∷ ms) f → (h : IsHullFace lifts ps ms f) × ¬ Sees lifts ps p f h.behind
+    to : IsLowestHullFace lifts ps (p ∷ ms) f → (h : IsLowestHullFace lifts ps ms f) × ¬ LowestSees lifts ps p f h.behind
     to h = by (of_all_hull lifts ps ms p new f h)
       where
-        by : (a : ℕ) × IsHullOn lifts ps (With (Contains ms) p) f a → (h : IsHullFace lifts ps ms f) × ¬ Sees lifts ps p f h.behind
+        by : (a : ℕ) × IsHullOn lifts ps (With (Contains ms) p) f a → (h : IsLowestHullFace lifts ps ms f) × ¬ LowestSees lifts ps p f h.behind
         by (a, r) = go r.low.on
           where
             bare : IsBare (side_of ps f) (Contains ms)
             bare e l k = r.bare e (inr l) k
 
-            go : (a ≡ p) ⊎ Contains ms a → (h : IsHullFace lifts ps ms f) × ¬ Sees lifts ps p f h.behind
+            go : (a ≡ p) ⊎ Contains ms a → (h : IsLowestHullFace lifts ps ms f) × ¬ LowestSees lifts ps p f h.behind
             go (inr l) = (found, λ s. unseen (sees_to lifts ps ms p new f a found old s))
               where
                 old : IsHullOn lifts ps (Contains ms) f a
                 old = record { on = on; bare = bare; low = record { on = l; under = r.low.under; others = λ e k o d. r.low.others e (inr k) o d } }
 
-                found : IsHullFace lifts ps ms f
+                found : IsLowestHullFace lifts ps ms f
                 found = hull.hull_from lifts ps ms (Contains ms) (LowestBridge.of_list ps ms new.within) f a old
 
                 unseen : IsSeen lifts ps p f a → ⊥
@@ -246,11 +246,11 @@ law_old_hull lifts ps ms p new some some_is f fa fb fc = (to, from)
                 at : insert.OverOn lifts ps ms p (reversed f) × insert.UnderOn lifts ps ms p (reversed f)
                 at = pencil.low_is_star (face_pencil lifts ps (reversed f)) p (LowestBridge.list_set ps ms new.within) new.is_new off.0 (here_some.on off.0 off.1) off.2 low
 
-                place : IsClearPlace lifts ps ms p f → (h : IsHullFace lifts ps ms f) × ¬ Sees lifts ps p f h.behind
+                place : IsLowestClearPlace lifts ps ms p f → (h : IsLowestHullFace lifts ps ms f) × ¬ LowestSees lifts ps p f h.behind
                 place (clear_row t d face o) = let q = LowestBridge.row_on lifts ps ms (Contains ms) (LowestBridge.of_list ps ms new.within) f t d face in absurd (bare q.apex q.low.on q.low.over)
                 place (clear_ghost h n) = (h, n)
 
-    from : ((h : IsHullFace lifts ps ms f) × ¬ Sees lifts ps p f h.behind) → IsHullFace lifts ps (p ∷ ms) f
+    from : ((h : IsLowestHullFace lifts ps ms f) × ¬ LowestSees lifts ps p f h.behind) → IsLowestHullFace lifts ps (p ∷ ms) f
     from (h, n) = go (insert.decided lifts ps ms p new (reversed f) r.apex r.on r.low)
       where
         r : LowestBridge.IsRowOn lifts ps (Contains ms) (reversed f) h.behind
@@ -270,7 +270,7 @@ law_old_hull lifts ps ms p new some some_is f fa fb fc = (to, from)
             at (inr l) k = old.bare e l k
 
         go : IsLexAbove (gap_of lifts ps (reversed f) r.apex p) (places (length ps)) ⊎ IsLexBelow (gap_of lifts ps (reversed f) r.apex p) (places (length ps))
-            → IsHullFace lifts ps (p ∷ ms) f
+            → IsLowestHullFace lifts ps (p ∷ ms) f
         go (inl above) = all_hull lifts ps ms p new f r.apex (record { on = wide; bare = bare; low = record { on = inr r.low.on; under = old.low.under; others = λ e l o d. at e (l) o d } })
           where
             at : (e : ℕ) → (e ≡ p) ⊎ Contains ms e → IsOther f e → e ≢ r.apex → IsLexBelow (gap_of lifts ps f r.apex e) (places (length ps))

@@ -14,7 +14,7 @@ use Rattle.insert_laws.proofs.Rim as rim
 use Rattle.insert_laws.proofs.SomeRim as some_rim
 use Rattle.insert_laws.proofs.InsideLaw as inside
 use Rattle.insert_laws.proofs.BeyondLaw as beyond
-use Rattle.insert_laws.specs.Insertion.{IsFaceOf, IsHullFace, HasNoneBeyond, HasOutside, IsStarRow, IsRimFace, IsHullRim, edge_and, IsCavityPlace, IsClearPlace, row_place, ghost_place, InsertionLaw, RimLaw, FacePairingLaw, OneRowLaw, PlaceLaw, RimEdgeLaw, HullRimLaw, SomeRimFaceLaw, InsideCavityLaw, BeyondCavityLaw}
+use Rattle.insert_laws.specs.Insertion.{IsFaceOf, IsHullFace, HasNoneAmongBeyond, HasOutside, IsStarRow, IsRimFace, IsHullRim, edge_and, IsCavityPlace, IsClearPlace, row_place, ghost_place, InsertionLaw, RimLaw, FacePairingLaw, OneRowLaw, PlaceLaw, RimEdgeLaw, HullRimLaw, SomeRimFaceLaw, InsideCavityLaw, BeyondCavityLaw}
 use Rattle.insert_laws.proofs.Bridge.{hull_of, numbers_with, low, row, above, outside, cavity_of, cavity_from, clear_of, clear_from, rim_of, rim_from, star_of, star_from, hull_rim_of, hull_rim_from, in_of, joined_from}
 use Rattle.insert_laws.proofs.Start.{law_start, law_locate}
 
@@ -26,11 +26,11 @@ law_insertion ps ms p new some is t =
     let more = numbers_with ps ms p new in
     (λ d. to (law.0 (lowest_of ps (p ∷ ms) more t d)), λ h. delaunay_of ps (p ∷ ms) more t (law.1 (from h)))
   where
-    to : (IsLowestAmong ps ms (lifted ps) t × lowest.HasAbove (lifted ps) ps t p) ⊎ lowest.IsStarRow (lifted ps) ps ms p t → (IsDelaunayAmong ps ms t × HasOutside ps t p) ⊎ IsStarRow ps ms p t
+    to : (IsLowestAmong ps ms (lifted ps) t × lowest.HasAbove (lifted ps) ps t p) ⊎ lowest.IsLowestStarRow (lifted ps) ps ms p t → (IsDelaunayAmong ps ms t × HasOutside ps t p) ⊎ IsStarRow ps ms p t
     to (inl old) = let d = row ps ms p new t old.0 in inl (d, outside ps ms p new t d old.1)
     to (inr star) = inr (star_from ps ms p new t star)
 
-    from : (IsDelaunayAmong ps ms t × HasOutside ps t p) ⊎ IsStarRow ps ms p t → (IsLowestAmong ps ms (lifted ps) t × lowest.HasAbove (lifted ps) ps t p) ⊎ lowest.IsStarRow (lifted ps) ps ms p t
+    from : (IsDelaunayAmong ps ms t × HasOutside ps t p) ⊎ IsStarRow ps ms p t → (IsLowestAmong ps ms (lifted ps) t × lowest.HasAbove (lifted ps) ps t p) ⊎ lowest.IsLowestStarRow (lifted ps) ps ms p t
     from (inl old) = inl (low ps ms p new t old.0, above ps ms p new t old.0 old.1)
     from (inr star) = inr (star_of ps ms p new t star)
 
@@ -42,7 +42,7 @@ law_rim ps ms p new f cavity clear = insertion.law_rim (lifted ps) ps ms p new f
 pub law_face_pairing : FacePairingLaw
 law_face_pairing ps ms within f t d face = by (insertion.law_face_pairing (lifted ps) ps ms within f t (lowest_of ps ms within t d) face)
   where
-    by : HasNoneBeyond ps ms f ⊎ ((s : Tet) × IsLowestAmong ps ms (lifted ps) s × IsFaceOf ps f s) → HasNoneBeyond ps ms f ⊎ ((s : Tet) × IsDelaunayAmong ps ms s × IsFaceOf ps f s)
+    by : HasNoneAmongBeyond ps ms f ⊎ ((s : Tet) × IsLowestAmong ps ms (lifted ps) s × IsFaceOf ps f s) → HasNoneAmongBeyond ps ms f ⊎ ((s : Tet) × IsDelaunayAmong ps ms s × IsFaceOf ps f s)
     by (inl none) = inl none
     by (inr s) = inr (s.0, delaunay_of ps ms within s.0 s.1, s.2)
 
@@ -55,10 +55,10 @@ law_place ps ms p new = record {
   exclusive = λ f cavity clear. law.exclusive f (cavity_of ps ms p new f cavity) (clear_of ps ms p new f clear);
 }
   where
-    law : lowest.IsDivided (lifted ps) ps ms p
+    law : lowest.IsLowestDivided (lifted ps) ps ms p
     law = sides.law_place (lifted ps) ps ms p new
 
-    by : (f : Face) → lowest.IsCavityPlace (lifted ps) ps ms p f ⊎ lowest.IsClearPlace (lifted ps) ps ms p f → IsCavityPlace ps ms p f ⊎ IsClearPlace ps ms p f
+    by : (f : Face) → lowest.IsLowestCavityPlace (lifted ps) ps ms p f ⊎ lowest.IsLowestClearPlace (lifted ps) ps ms p f → IsCavityPlace ps ms p f ⊎ IsClearPlace ps ms p f
     by f (inl cavity) = inl (cavity_from ps ms p new f cavity)
     by f (inr clear) = inr (clear_from ps ms p new f clear)
 
@@ -69,7 +69,7 @@ law_rim_edge ps ms p new i j k face =
     let law = rim.law_rim_edge (lifted ps) ps ms p new i j k (rim_of ps ms p new (edge_and i j k) face) in
     (by law.0, λ q other. law.1 q (rim_of ps ms p new (edge_and i j q) other))
   where
-    by : lowest.IsHullRim (lifted ps) ps ms p i j ⊎ ((q : ℕ) × lowest.IsRimFace (lifted ps) ps ms p (edge_and j i q)) → IsHullRim ps ms p i j ⊎ ((q : ℕ) × IsRimFace ps ms p (edge_and j i q))
+    by : lowest.IsLowestHullRim (lifted ps) ps ms p i j ⊎ ((q : ℕ) × lowest.IsLowestRimFace (lifted ps) ps ms p (edge_and j i q)) → IsHullRim ps ms p i j ⊎ ((q : ℕ) × IsRimFace ps ms p (edge_and j i q))
     by (inl end) = inl (hull_rim_from ps ms p new i j end)
     by (inr r) = inr (r.0, rim_from ps ms p new (edge_and j i r.0) r.1)
 
@@ -82,7 +82,7 @@ law_hull_rim ps ms p new some is i j end =
 pub law_some_rim_face : SomeRimFaceLaw
 law_some_rim_face ps ms p new apart some is = by (law_locate ps ms p new some is)
   where
-    face_from : (f : Face) × lowest.IsRimFace (lifted ps) ps ms p f → (f : Face) × IsRimFace ps ms p f
+    face_from : (f : Face) × lowest.IsLowestRimFace (lifted ps) ps ms p f → (f : Face) × IsRimFace ps ms p f
     face_from r = (r.0, rim_from ps ms p new r.0 r.1)
 
     by : ((t : Tet) × IsDelaunayAmong ps ms t × InClosed (corners ps t) (as_rational (point ps p))) ⊎ ((f : Face) × IsHullFace ps ms f × (pos 0 <ℤ side (triangle ps f) (point ps p)))

@@ -17,7 +17,7 @@ use Rattle.geo_laws.proofs.Heights.{all_fours, in_all_fours}
 use Rattle.geo_laws.proofs.Determinants.{spans}
 use Rattle.geo_laws.proofs.Radical.{law_radical}
 use Rattle.geo_laws.specs.OrientedFace.{Face, triangle, reversed, beside}
-use Rattle.insert_laws.specs.LowestInsertion.{IsNew, IsHullFace, HasAbove, Sees, Place, row_place, ghost_place, IsInCavity, row_in, ghost_in, ghost_row, IsJoined, joined_self, joined_by, InsideCavityLaw}
+use Rattle.insert_laws.specs.LowestInsertion.{IsNew, IsLowestHullFace, HasAbove, LowestSees, RowOrGhost, row_place, ghost_place, IsInLowestCavity, row_in, ghost_in, ghost_row, AreLowestPlacesJoined, joined_self, joined_by, LowestInsideCavityLaw}
 use Rattle.insert_laws.proofs.Identities as identity
 use Rattle.insert_laws.proofs.Pencil.{IsBare}
 use Rattle.geo_laws.proofs.Arrangement.{even_back}
@@ -47,9 +47,9 @@ not_below n h = go (sign_of n)
     go (inr (inr k)) = omega (arith, ints)
 
 -- a row of the cavity is joined to s
-rows_joined : (lifts : ℕ → ℤ) (ps : List Point) (ms : List ℕ) (p : ℕ) (new : IsNew ps ms p) (s : Tet) → IsLowestAmong ps ms lifts s → (y : RationalPoint) → IsTarget ps ms p s y → (t : Tet) → inside.IsCavityRow lifts ps ms p t → IsJoined lifts ps ms p (row_place t) (row_place s)
+rows_joined : (lifts : ℕ → ℤ) (ps : List Point) (ms : List ℕ) (p : ℕ) (new : IsNew ps ms p) (s : Tet) → IsLowestAmong ps ms lifts s → (y : RationalPoint) → IsTarget ps ms p s y → (t : Tet) → inside.IsCavityRow lifts ps ms p t → AreLowestPlacesJoined lifts ps ms p (row_place t) (row_place s)
 rows_joined lifts ps ms p new s is_s y target t cavity =
-    climb Tet (inside.rises_at lifts ps y) (inside.IsCavityRow lifts ps ms p) (λ t. IsJoined lifts ps ms p (row_place t) (row_place s))
+    climb Tet (inside.rises_at lifts ps y) (inside.IsCavityRow lifts ps ms p) (λ t. AreLowestPlacesJoined lifts ps ms p (row_place t) (row_place s))
     (λ x z u hx hz hu a b. inside.rises_trans lifts ps y x z u (positive x hx) (positive z hz) (positive u hu) a b)
     (λ x h. inside.rises_never lifts ps y x h)
     step (length (all_fours ms)) (all_fours ms) (omega arith) t cavity
@@ -68,11 +68,11 @@ rows_joined lifts ps ms p new s is_s y target t cavity =
     same_as_s t c h = (law_radical.lowest ps ms lifts t s c.is_row is_s).1 (y, target.w, (h, target.strictly))
 
     Step : Tet → Type 0
-    Step t = IsJoined lifts ps ms p (row_place t) (row_place s) ⊎ ((r : Tet) × inside.IsCavityRow lifts ps ms p r × inside.rises_at lifts ps y t r × (IsJoined lifts ps ms p (row_place r) (row_place s) → IsJoined lifts ps ms p (row_place t) (row_place s)))
+    Step t = AreLowestPlacesJoined lifts ps ms p (row_place t) (row_place s) ⊎ ((r : Tet) × inside.IsCavityRow lifts ps ms p r × inside.rises_at lifts ps y t r × (AreLowestPlacesJoined lifts ps ms p (row_place r) (row_place s) → AreLowestPlacesJoined lifts ps ms p (row_place t) (row_place s)))
 
     onward : (t : Tet) → inside.IsCavityRow lifts ps ms p t → (b : inside.IsBeyondFace ps t y)
         → (LowestBridge.IsFaceOn (Contains ms) b.face × IsBare (side_of ps b.face) (Contains ms)) ⊎ inside.IsNext lifts ps ms p y t
-        → IsJoined lifts ps ms p (row_place t) (row_place s) ⊎ ((r : Tet) × inside.IsCavityRow lifts ps ms p r × inside.rises_at lifts ps y t r × (IsJoined lifts ps ms p (row_place r) (row_place s) → IsJoined lifts ps ms p (row_place t) (row_place s)))
+        → AreLowestPlacesJoined lifts ps ms p (row_place t) (row_place s) ⊎ ((r : Tet) × inside.IsCavityRow lifts ps ms p r × inside.rises_at lifts ps y t r × (AreLowestPlacesJoined lifts ps ms p (row_place r) (row_place s) → AreLowestPlacesJoined lifts ps ms p (row_place t) (row_place s)))
     onward t c b (inl h) = absurd (inside.not_beyond (corners ps s) (triangle ps b.face) y s_low.positive (closed_of (corners ps s) y target.strictly)
         (h.1 s.a (s_low.on s.a (A, refl))) (h.1 s.b (s_low.on s.b (B, refl))) (h.1 s.c (s_low.on s.c (C, refl))) (h.1 s.d (s_low.on s.d (D, refl))) b.beyond)
     onward t c b (inr n) = inr (n.row, n.cavity, n.rises, λ rest. joined_by (row_place t) (row_place n.row) (row_place s) n.touches (row_in n.row n.cavity.is_row n.cavity.not_above) rest)
@@ -97,7 +97,7 @@ rows_joined lifts ps ms p new s is_s y target t cavity =
         turned_back = ap neg_ℤ (identity.side-reverse (triangle ps b.face) (point ps p)) ∙ identity.neg-neg (side_of ps b.face p)
 
     step : (t : Tet) → inside.IsCavityRow lifts ps ms p t
-        → IsJoined lifts ps ms p (row_place t) (row_place s) ⊎ ((r : Tet) × inside.IsCavityRow lifts ps ms p r × inside.rises_at lifts ps y t r × (IsJoined lifts ps ms p (row_place r) (row_place s) → IsJoined lifts ps ms p (row_place t) (row_place s)))
+        → AreLowestPlacesJoined lifts ps ms p (row_place t) (row_place s) ⊎ ((r : Tet) × inside.IsCavityRow lifts ps ms p r × inside.rises_at lifts ps y t r × (AreLowestPlacesJoined lifts ps ms p (row_place r) (row_place s) → AreLowestPlacesJoined lifts ps ms p (row_place t) (row_place s)))
     step t c = go (inside.inside_or_beyond ps t y
         (target.keeps (record { a = t.b; b = t.d; c = t.c }) (record { on_a = at_b; on_b = at_d; on_c = at_c }) (spans (corners ps t) low.positive A)).off
         (target.keeps (record { a = t.a; b = t.c; c = t.d }) (record { on_a = at_a; on_b = at_c; on_c = at_d }) (spans (corners ps t) low.positive B)).off
@@ -120,12 +120,12 @@ rows_joined lifts ps ms p new s is_s y target t cavity =
         at_d = low.on t.d (D, refl)
 
         go : StrictlyInside (corners ps t) y ⊎ inside.IsBeyondFace ps t y
-            → IsJoined lifts ps ms p (row_place t) (row_place s) ⊎ ((r : Tet) × inside.IsCavityRow lifts ps ms p r × inside.rises_at lifts ps y t r × (IsJoined lifts ps ms p (row_place r) (row_place s) → IsJoined lifts ps ms p (row_place t) (row_place s)))
-        go (inl h) = inl (subst (λ u. IsJoined lifts ps ms p (row_place u) (row_place s)) (sym (same_as_s t c h)) (joined_self (row_place s)))
+            → AreLowestPlacesJoined lifts ps ms p (row_place t) (row_place s) ⊎ ((r : Tet) × inside.IsCavityRow lifts ps ms p r × inside.rises_at lifts ps y t r × (AreLowestPlacesJoined lifts ps ms p (row_place r) (row_place s) → AreLowestPlacesJoined lifts ps ms p (row_place t) (row_place s)))
+        go (inl h) = inl (subst (λ u. AreLowestPlacesJoined lifts ps ms p (row_place u) (row_place s)) (sym (same_as_s t c h)) (joined_self (row_place s)))
         go (inr b) = onward t c b (inside.next lifts ps ms p new y t c b (at_least t c b))
 
 -- p lies in a closed row, and so beyond no hull face
-pub not_beyond_hull : (lifts : ℕ → ℤ) (ps : List Point) (ms : List ℕ) (p : ℕ) (new : IsNew ps ms p) (s : Tet) → IsLowestAmong ps ms lifts s → InClosed (corners ps s) (as_rational (point ps p)) → (f : Face) → IsHullFace lifts ps ms f → ¬ (pos 0 <ℤ side (triangle ps f) (point ps p))
+pub not_beyond_hull : (lifts : ℕ → ℤ) (ps : List Point) (ms : List ℕ) (p : ℕ) (new : IsNew ps ms p) (s : Tet) → IsLowestAmong ps ms lifts s → InClosed (corners ps s) (as_rational (point ps p)) → (f : Face) → IsLowestHullFace lifts ps ms f → ¬ (pos 0 <ℤ side (triangle ps f) (point ps p))
 not_beyond_hull lifts ps ms p new s is_s closed f h k =
     inside.not_beyond (corners ps s) (triangle ps f) (as_rational (point ps p)) is_s.is_positive closed (h.none_beyond s.a (low.on s.a (A, refl))) (h.none_beyond s.b (low.on s.b (B, refl)))
     (h.none_beyond s.c (low.on s.c (C, refl))) (h.none_beyond s.d (low.on s.d (D, refl))) (subst (λ n. pos 0 <ℤ n) (sym (ring.side_rational-as_rational (triangle ps f) (point ps p))) k)
@@ -134,19 +134,19 @@ not_beyond_hull lifts ps ms p new s is_s closed f h k =
     low = LowestBridge.low_of_lowest lifts ps ms (Contains ms) (LowestBridge.of_list ps ms new.within) s is_s
 
 -- from each tetrahedron of the cavity a walk that rises at the near point ends in s
-pub law_inside_cavity : InsideCavityLaw
+pub law_inside_cavity : LowestInsideCavityLaw
 law_inside_cavity lifts ps ms p new s is_s closed in_s = go
   where
     near : (y : RationalPoint) × IsTarget ps ms p s y
     near = target ps ms p new s is_s.is_positive closed
 
-    joined : (t : Tet) → IsLowestAmong ps ms lifts t → ¬ HasAbove lifts ps t p → IsJoined lifts ps ms p (row_place t) (row_place s)
+    joined : (t : Tet) → IsLowestAmong ps ms lifts t → ¬ HasAbove lifts ps t p → AreLowestPlacesJoined lifts ps ms p (row_place t) (row_place s)
     joined t d n = rows_joined lifts ps ms p new s is_s near.0 near.1 t (record { is_row = d; not_above = n })
 
-    go : (a : Place) → IsInCavity lifts ps ms p a → IsJoined lifts ps ms p a (row_place s)
+    go : (a : RowOrGhost) → IsInLowestCavity lifts ps ms p a → AreLowestPlacesJoined lifts ps ms p a (row_place s)
     go (row_place t) (row_in u d n) = joined t d n
     go (ghost_place f) (ghost_in g h sees) = by sees
       where
-        by : Sees lifts ps p f h.behind → IsJoined lifts ps ms p (ghost_place f) (row_place s)
+        by : LowestSees lifts ps p f h.behind → AreLowestPlacesJoined lifts ps ms p (ghost_place f) (row_place s)
         by (inl k) = absurd (not_beyond_hull lifts ps ms p new s is_s closed f h k)
         by (inr k) = joined_by (ghost_place f) (row_place h.behind) (row_place s) (ghost_row f h.behind h.is_face) (row_in h.behind h.is_row k.1) (joined h.behind h.is_row k.1)

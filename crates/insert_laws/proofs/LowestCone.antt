@@ -9,7 +9,7 @@ use Rattle.sign_predicates.specs.Point.{Point, RationalPoint, as_rational}
 use Rattle.sign_predicates.specs.Orientation.{Triangle, side, side_rational, IsPositive}
 use Rattle.sign_predicates.specs.declared.tetrahedron.Corners.{Corners}
 use Rattle.geo_laws.specs.Delaunay.{point, corners, numbers}
-use Rattle.geo_laws.specs.Simplex.{weighted_sum, IsMean}
+use Rattle.geo_laws.specs.Simplex.{sum_by_weights, IsMean}
 use Rattle.geo_laws.specs.declared.tetrahedra.Tet.{Tet}
 use Rattle.geo_laws.proofs.Arrangement.{IsEven}
 use Rattle.geo_laws.proofs.Corners.{IsCorner, corner_of, contains_or_not, distinct, side-own_point, side-other_point}
@@ -19,7 +19,7 @@ use Rattle.geo_laws.proofs.Members.{member_of}
 use Rattle.sign_predicates.proofs.Places.{Place, A, B, C, D, IsOther, same_or_other, opposite}
 use Rattle.geo_laws.proofs.Places.{number, over_places}
 use Rattle.geo_laws.proofs.Radical.{sides_mean, weight-own}
-use Rattle.insert_laws.specs.LowestCone.{IsInCone, ConeLaw}
+use Rattle.insert_laws.specs.LowestCone.{IsInCone, LowestConeLaw}
 use Rattle.insert_laws.proofs.LowestBridge.{even_of_same}
 
 -- a sum of which only two parts are not 0
@@ -71,7 +71,7 @@ module _ (ps : List Point) (s : Tet) (p : IsPositive (corners ps s)) (n a b : �
       by (inl e) = absurd (apart (in_a.1 ∙ ap (number s) e ∙ sym in_b.1))
       by (inr o) = o
 
-  two_sum : (f : ℕ → ℤ) → weighted_sum (two_weights n a b) f (numbers s) ≡ pos n *ℤ f a +ℤ f b
+  two_sum : (f : ℕ → ℤ) → sum_by_weights (two_weights n a b) f (numbers s) ≡ pos n *ℤ f a +ℤ f b
   two_sum f =
       let part = λ (u : Place). pos (two_weights n a b (number s u)) *ℤ f (number s u) in
       let none = λ (u : Place) (o : IsOther u in_a.0) (q : IsOther u in_b.0). ap (λ w. pos w *ℤ f (number s u)) (no_weight n a b (number s u)
@@ -143,7 +143,7 @@ near_closed ps t p n a b in_a cone large u = by (same_or_other u in_a.0)
         added : (s m k : ℤ) → s ≡ m +ℤ k → m ≡ pos 0 → pos 0 ≤ℤ k → pos 0 ≤ℤ s
         added s m k e z h = omega (arith, ints)
 
-pub law_cone : ConeLaw
+pub law_cone : LowestConeLaw
 law_cone lifts ps ms within s r t ds dr same positive a b apart in_t cone in_s_a in_s_b = by (contains_or_not (numbers t) b)
   where
     at_a : IsCorner t a

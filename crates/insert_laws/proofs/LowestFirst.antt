@@ -12,7 +12,7 @@ use Rattle.geo_laws.proofs.Places.{number}
 use Rattle.geo_laws.proofs.Corners.{IsCorner, corner_of, corner_among, distinct}
 use Rattle.geo_laws.proofs.Arrangement.{at_least_a, at_least_b, last_two, same_row}
 use Rattle.geo_laws.specs.OrientedFace.{Face, reversed, beside}
-use Rattle.insert_laws.specs.LowestInsertion.{IsFaceOf, HasNoneBeyond, FirstLaw}
+use Rattle.insert_laws.specs.LowestInsertion.{IsFaceOf, HasNoneAmongBeyond, LowestFirstLaw}
 use Rattle.insert_laws.proofs.FacePencil.{side_of, side_of-reversed}
 
 -- ---- an arranged tetrahedron whose corners are among those of another has them all
@@ -69,7 +69,7 @@ all_corners t s ht hs apart in_t i k =
 -- ---- the faces
 
 -- no corner is beyond a face that has the tetrahedron behind it
-pub none_beyond : (ps : List Point) (f : Face) (t : Tet) → IsFaceOf ps (reversed f) t → HasNoneBeyond ps (numbers t) f
+pub none_beyond : (ps : List Point) (f : Face) (t : Tet) → IsFaceOf ps (reversed f) t → HasNoneAmongBeyond ps (numbers t) f
 none_beyond ps f t face i c above = by (corner_of (beside (reversed f) face.opposite) i ((face.same_corners i).1 c))
   where
     clash : {n m : _} → m ≡ neg_ℤ n → pos 0 <ℤ n → pos 0 <ℤ m → ⊥
@@ -93,7 +93,7 @@ only_row ps t p a s on q b =
     let in_t = λ (u : Place). corner_of t (number s u) (corner_among (numbers t) s on u) in
     same_row ps s t q p b a (λ i c. let k = in_t c.0 in (k.0, c.1 ∙ k.1)) (all_corners t s a b (distinct ps s q C D tt) in_t)
 
-pub law_first : FirstLaw
+pub law_first : LowestFirstLaw
 law_first lifts ps t p a = record {
   only = λ s. (λ d. only_row ps t p a s d.is_on d.is_positive d.is_arranged, λ e. subst (IsLowestAmong ps (numbers t) lifts) (sym e) (first_row lifts ps t p a));
   hull = λ f face. record { behind = t; is_row = first_row lifts ps t p a; is_face = face; none_beyond = none_beyond ps f t face };

@@ -16,7 +16,7 @@ use Rattle.geo_laws.proofs.Corners.{IsCorner}
 use Rattle.sign_predicates.proofs.Places.{A, B, C, D}
 use Rattle.geo_laws.proofs.Lexicographic.{IsLexAbove, lex_same}
 use Rattle.geo_laws.specs.OrientedFace.{Face, triangle, reversed, IsOther}
-use Rattle.insert_laws.specs.LowestInsertion.{IsHullFace, edge_and, HullEdgeLaw}
+use Rattle.insert_laws.specs.LowestInsertion.{IsLowestHullFace, edge_and, LowestHullEdgeLaw}
 use Rattle.insert_laws.proofs.Identities as identity
 use Rattle.geo_laws.proofs.Lexicographic.{IsLexBelow}
 use Rattle.insert_laws.proofs.Pencil.{IsSet, IsPencil, IsLow, IsLowUnder, IsBare, IsBareUnder, IsFirst, turned, first_of, neighbor, low_unique, above_not_zero, below_not_zero}
@@ -232,18 +232,18 @@ edge_of_under lifts ps mid S i j o low = record {
 -- ---- from hull faces of a list and back
 
 -- a hull face, with the tetrahedron behind it as a low one
-pub hull_on : (lifts : ℕ → ℤ) (ps : List Point) (ms : List ℕ) (S : ℕ → Type 0) → (of : LowestBridge.IsOf ps ms S) → (f : Face) → (h : IsHullFace lifts ps ms f) → IsHullOn lifts ps S f (LowestBridge.row_on lifts ps ms S of (reversed f) h.behind h.is_row h.is_face).apex
+pub hull_on : (lifts : ℕ → ℤ) (ps : List Point) (ms : List ℕ) (S : ℕ → Type 0) → (of : LowestBridge.IsOf ps ms S) → (f : Face) → (h : IsLowestHullFace lifts ps ms f) → IsHullOn lifts ps S f (LowestBridge.row_on lifts ps ms S of (reversed f) h.behind h.is_row h.is_face).apex
 hull_on lifts ps ms S of f h = record {
   on = LowestBridge.reversed_on S (reversed f) (LowestBridge.row_on lifts ps ms S of (reversed f) h.behind h.is_row h.is_face).on;
   bare = λ e l k. h.none_beyond e (of.to e l) k;
   low = LowestBridge.under_of lifts ps S f (LowestBridge.row_on lifts ps ms S of (reversed f) h.behind h.is_row h.is_face).apex (LowestBridge.row_on lifts ps ms S of (reversed f) h.behind h.is_row h.is_face).low;
 }
 
-pub some_hull_on : (lifts : ℕ → ℤ) (ps : List Point) (ms : List ℕ) (S : ℕ → Type 0) → LowestBridge.IsOf ps ms S → (f : Face) → IsHullFace lifts ps ms f → (a : ℕ) × IsHullOn lifts ps S f a
+pub some_hull_on : (lifts : ℕ → ℤ) (ps : List Point) (ms : List ℕ) (S : ℕ → Type 0) → LowestBridge.IsOf ps ms S → (f : Face) → IsLowestHullFace lifts ps ms f → (a : ℕ) × IsHullOn lifts ps S f a
 some_hull_on lifts ps ms S of f h = ((LowestBridge.row_on lifts ps ms S of (reversed f) h.behind h.is_row h.is_face).apex, hull_on lifts ps ms S of f h)
 
 -- and back
-pub hull_from : (lifts : ℕ → ℤ) (ps : List Point) (ms : List ℕ) (S : ℕ → Type 0) → LowestBridge.IsOf ps ms S → (f : Face) (a : ℕ) → IsHullOn lifts ps S f a → IsHullFace lifts ps ms f
+pub hull_from : (lifts : ℕ → ℤ) (ps : List Point) (ms : List ℕ) (S : ℕ → Type 0) → LowestBridge.IsOf ps ms S → (f : Face) (a : ℕ) → IsHullOn lifts ps S f a → IsLowestHullFace lifts ps ms f
 hull_from lifts ps ms S of f a h = record { behind = r.row; is_row = r.is_row; is_face = r.is_face; none_beyond = λ e l k. h.bare e (of.from e l) k }
   where
     r : LowestBridge.HasRowOn lifts ps ms (reversed f) a
@@ -270,7 +270,7 @@ some_on lifts ps ms S of t d =
 -- ---- each edge of a hull face has another
 
 -- the neighbor in the pencil of the edge is the next face, and it is unique there
-pub law_hull_edge : HullEdgeLaw
+pub law_hull_edge : LowestHullEdgeLaw
 law_hull_edge lifts ps ms within i j o h = (across (first_of (edge_pencil' j i) (Contains ms) (LowestBridge.list_set ps ms within)), unique)
   where
     some : IsSome ps (Contains ms) h.behind (middle_of ps h.behind)
@@ -279,22 +279,22 @@ law_hull_edge lifts ps ms within i j o h = (across (first_of (edge_pencil' j i) 
     edge_pencil' : (i j : ℕ) → IsPencil (edge_face i j) (edge_side ps (middle_of ps h.behind) i j) (edge_gap lifts ps (middle_of ps h.behind) i j) (edge_places (length ps)) (length ps)
     edge_pencil' i j = edge.edge_pencil lifts ps (middle_of ps h.behind) i j
 
-    low_of : (q : ℕ) → IsHullFace lifts ps ms (edge_and i j q) → IsEdgeLow lifts ps (middle_of ps h.behind) (Contains ms) i j q
+    low_of : (q : ℕ) → IsLowestHullFace lifts ps ms (edge_and i j q) → IsEdgeLow lifts ps (middle_of ps h.behind) (Contains ms) i j q
     low_of q k = edge_of_hull lifts ps (Contains ms) h.behind (middle_of ps h.behind) (edge_and i j q) _ some (hull_on lifts ps ms (Contains ms) (LowestBridge.of_list ps ms within) (edge_and i j q) k)
 
     low : IsEdgeLow lifts ps (middle_of ps h.behind) (Contains ms) i j o
     low = low_of o h
 
-    below : (m : ℕ) → IsHullFace lifts ps ms (edge_and i j o) → IsHullOn lifts ps (Contains ms) (edge_and i j o) (LowestBridge.row_on lifts ps ms (Contains ms) (LowestBridge.of_list ps ms within) (reversed (edge_and i j o)) h.behind h.is_row h.is_face).apex
+    below : (m : ℕ) → IsLowestHullFace lifts ps ms (edge_and i j o) → IsHullOn lifts ps (Contains ms) (edge_and i j o) (LowestBridge.row_on lifts ps ms (Contains ms) (LowestBridge.of_list ps ms within) (reversed (edge_and i j o)) h.behind h.is_row h.is_face).apex
     below m k = hull_on lifts ps ms (Contains ms) (LowestBridge.of_list ps ms within) (edge_and i j o) h
 
     across : IsBare (edge_side ps (middle_of ps h.behind) j i) (Contains ms) ⊎ ((q : ℕ) × IsFirst (edge_side ps (middle_of ps h.behind) j i) (edge_gap lifts ps (middle_of ps h.behind) j i) (edge_places (length ps)) (Contains ms) q)
-        → (q : ℕ) × IsHullFace lifts ps ms (edge_and j i q)
+        → (q : ℕ) × IsLowestHullFace lifts ps ms (edge_and j i q)
     across (inl bare) = absurd (edge_not_bare_under ps (Contains ms) h.behind (middle_of ps h.behind) i j o some (above_not_zero (edge_side ps (middle_of ps h.behind) i j o) low.over) (λ e l k. bare e l (subst (λ n. pos 0 <ℤ n) (sym (edge.edge_side-turned ps (middle_of ps h.behind) i j e)) k)))
     across (inr q) =
         let on = (below 0 h).on in
         let r = hull_of_edge lifts ps (Contains ms) h.behind (middle_of ps h.behind) j i q.0 (LowestBridge.list_set ps ms within) some on.on_b on.on_a (neighbor (edge_pencil' j i) o q.0 (edge_under_of lifts ps (middle_of ps h.behind) (Contains ms) j i o low) q.1) in
         (q.0, hull_from lifts ps ms (Contains ms) (LowestBridge.of_list ps ms within) (edge_and j i q.0) r.0 r.1)
 
-    unique : (q : ℕ) → IsHullFace lifts ps ms (edge_and i j q) → o ≡ q
+    unique : (q : ℕ) → IsLowestHullFace lifts ps ms (edge_and i j q) → o ≡ q
     unique q k = low_unique (edge_pencil' i j) o q low (low_of q k)

@@ -19,7 +19,7 @@ use Rattle.sign_predicates.proofs.Places.{A, B, C, D}
 use Rattle.geo_laws.proofs.Corners.{distinct, contains_corner}
 use Rattle.geo_laws.proofs.Lexicographic.{IsZeroAt, IsLexAbove, lex_sign_of, lex_same}
 use Rattle.geo_laws.specs.OrientedFace.{Face, triangle, reversed, beside, IsOther}
-use Rattle.insert_laws.specs.LowestInsertion.{IsNew, IsFaceOf, HasNoneBeyond, HasAbove, Sees, IsCavityPlace, cavity_row, cavity_ghost, IsClearPlace, clear_row, clear_ghost, IsStarRow, InsertionLaw, RimLaw, FacePairingLaw, OneRowLaw}
+use Rattle.insert_laws.specs.LowestInsertion.{IsNew, IsFaceOf, HasNoneAmongBeyond, HasAbove, LowestSees, IsLowestCavityPlace, cavity_row, cavity_ghost, IsLowestClearPlace, clear_row, clear_ghost, IsLowestStarRow, LowestInsertionLaw, LowestRimLaw, LowestFacePairingLaw, LowestOneRowLaw}
 use Rattle.geo_laws.proofs.Lexicographic.{IsLexBelow, not_both}
 use Rattle.insert_laws.proofs.Pencil.{IsBare, IsBareUnder, IsFirst, first_of, neighbor, low_unique, above_not_zero}
 use Rattle.insert_laws.proofs.StarPencil as pencil
@@ -77,14 +77,14 @@ pub side_new : (ps : List Point) (ms : List ℕ) (p : ℕ) (new : IsNew ps ms p)
 side_new ps ms p new f on = refl
 
 -- no point is strictly beyond the face
-pub bare_of : (ps : List Point) (ms : List ℕ) (p : ℕ) (new : IsNew ps ms p) (f : Face) → LowestBridge.IsFaceOn (Contains ms) f → HasNoneBeyond ps ms f → IsBare (side_of ps f) (Contains ms)
+pub bare_of : (ps : List Point) (ms : List ℕ) (p : ℕ) (new : IsNew ps ms p) (f : Face) → LowestBridge.IsFaceOn (Contains ms) f → HasNoneAmongBeyond ps ms f → IsBare (side_of ps f) (Contains ms)
 bare_of ps ms p new f on h e l k = h e l k
 
-pub of_bare : (ps : List Point) (ms : List ℕ) (p : ℕ) (new : IsNew ps ms p) (f : Face) → LowestBridge.IsFaceOn (Contains ms) f → IsBare (side_of ps f) (Contains ms) → HasNoneBeyond ps ms f
+pub of_bare : (ps : List Point) (ms : List ℕ) (p : ℕ) (new : IsNew ps ms p) (f : Face) → LowestBridge.IsFaceOn (Contains ms) f → IsBare (side_of ps f) (Contains ms) → HasNoneAmongBeyond ps ms f
 of_bare ps ms p new f on h e l k = h e l k
 
 -- the row of the face a, and of its reverse
-pub cavity_to : (lifts : ℕ → ℤ) (ps : List Point) (ms : List ℕ) (p : ℕ) (new : IsNew ps ms p) (f : Face) → IsCavityPlace lifts ps ms p f → LowestBridge.IsFaceOn (Contains ms) f × OverOn lifts ps ms p f
+pub cavity_to : (lifts : ℕ → ℤ) (ps : List Point) (ms : List ℕ) (p : ℕ) (new : IsNew ps ms p) (f : Face) → IsLowestCavityPlace lifts ps ms p f → LowestBridge.IsFaceOn (Contains ms) f × OverOn lifts ps ms p f
 cavity_to lifts ps ms p new f (cavity_row t d face n) = (r.on, over_row r.apex r.low (below (decided lifts ps ms p new f r.apex r.on r.low)))
   where
     r : LowestBridge.IsRowOn lifts ps (Contains ms) f t
@@ -111,12 +111,12 @@ cavity_to lifts ps ms p new f (cavity_ghost h s) = (on, over_ghost (bare_of ps m
     above (inr b) n = lex_same (λ k. neg_ℤ (gap_of lifts ps (reversed f) r.apex p k)) (gap_of lifts ps f r.apex p) (places (length ps))
         (λ k. sym (LowestBridge.gap_back lifts ps f r.apex p k)) b
 
-    sees : Sees lifts ps p f h.behind → (pos 0 <ℤ side_of ps f p) ⊎ ((side_of ps f p ≡ pos 0) × IsLexAbove (gap_of lifts ps f r.apex p) (places (length ps)))
+    sees : LowestSees lifts ps p f h.behind → (pos 0 <ℤ side_of ps f p) ⊎ ((side_of ps f p ≡ pos 0) × IsLexAbove (gap_of lifts ps f r.apex p) (places (length ps)))
     sees (inl k) = inl (subst (λ n. pos 0 <ℤ n) (sym (side_new ps ms p new f on)) k)
     sees (inr k) = inr (side_new ps ms p new f on ∙ k.0, above (decided lifts ps ms p new (reversed f) r.apex r.on r.low) k.1)
 
 -- a clear place under the face has p above it
-pub clear_to : (lifts : ℕ → ℤ) (ps : List Point) (ms : List ℕ) (p : ℕ) (new : IsNew ps ms p) (f : Face) → LowestBridge.IsFaceOn (Contains ms) f → IsClearPlace lifts ps ms p (reversed f) → UnderOn lifts ps ms p f
+pub clear_to : (lifts : ℕ → ℤ) (ps : List Point) (ms : List ℕ) (p : ℕ) (new : IsNew ps ms p) (f : Face) → LowestBridge.IsFaceOn (Contains ms) f → IsLowestClearPlace lifts ps ms p (reversed f) → UnderOn lifts ps ms p f
 clear_to lifts ps ms p new f on (clear_row t d face n) = under_row r.apex (LowestBridge.under_of lifts ps (Contains ms) f r.apex r.low)
     (lex_same (gap_of lifts ps (reversed f) r.apex p) (λ k. neg_ℤ (gap_of lifts ps f r.apex p k)) (places (length ps))
     (λ k. LowestBridge.gap_over lifts ps f r.apex p k) ((face_above lifts ps ms p new (reversed f) r.apex t r.on r.low r.even).0 n))
@@ -138,12 +138,12 @@ clear_to lifts ps ms p new f on (clear_ghost h n) = under_ghost bare r.apex r.lo
     neg_of_zero m n e z = omega (arith, ints)
 
     sees : (pos 0 <ℤ neg_ℤ (side_of ps f p)) ⊎ ((side_of ps f p ≡ pos 0) × IsLexBelow (gap_of lifts ps f r.apex p) (places (length ps)))
-        → Sees lifts ps p (reversed f) h.behind
+        → LowestSees lifts ps p (reversed f) h.behind
     sees (inl k) = inl (subst (λ n. pos 0 <ℤ n) (sym new_reversed) k)
     sees (inr k) = inr (neg_of_zero (side (triangle ps (reversed f)) (point ps p)) (side_of ps f p) new_reversed k.0, λ o. not_both (gap_of lifts ps f r.apex p) (places (length ps)) ((face_above lifts ps ms p new f r.apex h.behind r.on r.low r.even).0 o) k.1)
 
 -- a place of the cavity, from p below a low tetrahedron
-pub of_cavity : (lifts : ℕ → ℤ) (ps : List Point) (ms : List ℕ) (p : ℕ) (new : IsNew ps ms p) (f : Face) → LowestBridge.IsFaceOn (Contains ms) f → OverOn lifts ps ms p f → IsCavityPlace lifts ps ms p f
+pub of_cavity : (lifts : ℕ → ℤ) (ps : List Point) (ms : List ℕ) (p : ℕ) (new : IsNew ps ms p) (f : Face) → LowestBridge.IsFaceOn (Contains ms) f → OverOn lifts ps ms p f → IsLowestCavityPlace lifts ps ms p f
 of_cavity lifts ps ms p new f on (over_row o low below) =
     let r = LowestBridge.row_of lifts ps ms (Contains ms) (LowestBridge.of_list ps ms new.within) f o on low in
     cavity_row r.row r.is_row r.is_face (λ h. not_both (gap_of lifts ps f o p) (places (length ps)) ((face_above lifts ps ms p new f o r.row on low r.even).0 h) below)
@@ -160,7 +160,7 @@ of_cavity lifts ps ms p new f on (over_ghost bare a low s) =
     r = LowestBridge.row_of lifts ps ms (Contains ms) (LowestBridge.of_list ps ms new.within) (reversed f) a back low'
 
     sees : (pos 0 <ℤ side_of ps f p) ⊎ ((side_of ps f p ≡ pos 0) × IsLexAbove (gap_of lifts ps f a p) (places (length ps)))
-        → Sees lifts ps p f r.row
+        → LowestSees lifts ps p f r.row
     sees (inl k) = inl (subst (λ n. pos 0 <ℤ n) (side_new ps ms p new f on) k)
     sees (inr k) = inr (
       sym (side_new ps ms p new f on) ∙ k.0,
@@ -169,7 +169,7 @@ of_cavity lifts ps ms p new f on (over_ghost bare a low s) =
     )
 
 -- a clear place, from p above one
-pub of_clear : (lifts : ℕ → ℤ) (ps : List Point) (ms : List ℕ) (p : ℕ) (new : IsNew ps ms p) (f : Face) → LowestBridge.IsFaceOn (Contains ms) f → UnderOn lifts ps ms p f → IsClearPlace lifts ps ms p (reversed f)
+pub of_clear : (lifts : ℕ → ℤ) (ps : List Point) (ms : List ℕ) (p : ℕ) (new : IsNew ps ms p) (f : Face) → LowestBridge.IsFaceOn (Contains ms) f → UnderOn lifts ps ms p f → IsLowestClearPlace lifts ps ms p (reversed f)
 of_clear lifts ps ms p new f on (under_row a low below) = clear_row r.row r.is_row r.is_face
     ((face_above lifts ps ms p new (reversed f) a r.row back low' r.even).1 (lex_same (λ k. neg_ℤ (gap_of lifts ps f a p k)) (gap_of lifts ps (reversed f) a p) (places (length ps))
     (λ k. sym (LowestBridge.gap_over lifts ps f a p k)) below))
@@ -202,7 +202,7 @@ of_clear lifts ps ms p new f on (under_ghost bare o low n) =
     below (inl a) q = absurd (q ((face_above lifts ps ms p new f o r.row on low r.even).1 a))
     below (inr b) q = b
 
-    sees : Sees lifts ps p (reversed f) r.row
+    sees : LowestSees lifts ps p (reversed f) r.row
         → (pos 0 <ℤ neg_ℤ (side_of ps f p)) ⊎ ((side_of ps f p ≡ pos 0) × IsLexBelow (gap_of lifts ps f o p) (places (length ps)))
     sees (inl k) = inl (subst (λ n. pos 0 <ℤ n) new_reversed k)
     sees (inr k) = inr (of_neg_zero (side (triangle ps (reversed f)) (point ps p)) (side_of ps f p) new_reversed k.0, below (decided lifts ps ms p new f o on low) k.1)
@@ -210,7 +210,7 @@ of_clear lifts ps ms p new f on (under_ghost bare o low n) =
 -- ---- the laws
 
 -- by the four cases of a tetrahedron or a ghost on each side
-pub law_rim : RimLaw
+pub law_rim : LowestRimLaw
 law_rim lifts ps ms p new f cavity clear =
     let over = cavity_to lifts ps ms p new f cavity in
     subst (λ n. pos 0 <ℤ n) (side_new ps ms p new f over.0) (pencil.sees (face_pencil lifts ps f) p over.1 (clear_to lifts ps ms p new f over.0 clear))
@@ -260,7 +260,7 @@ is_corner_or_not t i = go (corner_or_not t i)
     go (inr n) = inr (λ c. n (contains_corner t i c))
 
 -- a tetrahedron with p is the star of the rim, and one without it is low for p too
-pub law_insertion : InsertionLaw
+pub law_insertion : LowestInsertionLaw
 law_insertion lifts ps ms p new some some_is t = (to, from)
   where
     qs : List Point
@@ -286,7 +286,7 @@ law_insertion lifts ps ms p new some some_is t = (to, from)
           others = λ e l k. low.others e (inr l) k;
         }
 
-    star_row : IsLowestAmong ps (p ∷ ms) lifts t → LowestBridge.IsLowFour lifts ps (With (Contains ms) p) t → (f : Face) → IsEven ps t (beside f p) → IsStarRow lifts ps ms p t
+    star_row : IsLowestAmong ps (p ∷ ms) lifts t → LowestBridge.IsLowFour lifts ps (With (Contains ms) p) t → (f : Face) → IsEven ps t (beside f p) → IsLowestStarRow lifts ps ms p t
     star_row d low f even = record {
       face = f;
       same_corners = LowestBridge.same_of_even ps (beside f p) t (even_back ps t (beside f p) even);
@@ -319,10 +319,10 @@ law_insertion lifts ps ms p new some some_is t = (to, from)
         places_of = pencil.low_is_star (face_pencil lifts ps f) p (LowestBridge.list_set ps ms new.within) new.is_new off.0 (old.on off.0 off.1) off.2
             (LowestBridge.low_on_face lifts ps (With (Contains ms) p) f p four)
 
-    to : IsLowestAmong ps (p ∷ ms) lifts t → (IsLowestAmong ps ms lifts t × HasAbove lifts ps t p) ⊎ IsStarRow lifts ps ms p t
+    to : IsLowestAmong ps (p ∷ ms) lifts t → (IsLowestAmong ps ms lifts t × HasAbove lifts ps t p) ⊎ IsLowestStarRow lifts ps ms p t
     to d = go (is_corner_or_not t p)
       where
-        go : IsCorner t p ⊎ ¬ IsCorner t p → (IsLowestAmong ps ms lifts t × HasAbove lifts ps t p) ⊎ IsStarRow lifts ps ms p t
+        go : IsCorner t p ⊎ ¬ IsCorner t p → (IsLowestAmong ps ms lifts t × HasAbove lifts ps t p) ⊎ IsLowestStarRow lifts ps ms p t
         go (inl c) = let r = last_corner ps t p c in inr (star_row d (low_new d) r.0 r.1)
         go (inr n) = inl (old_row d (low_new d) n)
 
@@ -340,7 +340,7 @@ law_insertion lifts ps ms p new some some_is t = (to, from)
         at e (inl same) n = subst (λ i. IsLexAbove (residual_at ps lifts t i) (places (length ps))) (sym same) o
         at e (inr l) n = old.others e l n
 
-    star : IsStarRow lifts ps ms p t → IsLowestAmong ps (p ∷ ms) lifts t
+    star : IsLowestStarRow lifts ps ms p t → IsLowestAmong ps (p ∷ ms) lifts t
     star s = new_of s.is_arranged (LowestBridge.low_even lifts ps (With (Contains ms) p) (beside s.face p) t even four)
       where
         over : LowestBridge.IsFaceOn (Contains ms) s.face × OverOn lifts ps ms p s.face
@@ -358,12 +358,12 @@ law_insertion lifts ps ms p new some some_is t = (to, from)
         even : IsEven ps (beside s.face p) t
         even = LowestBridge.even_of_same ps (beside s.face p) t four.positive s.is_positive s.is_arranged s.same_corners
 
-    from : (IsLowestAmong ps ms lifts t × HasAbove lifts ps t p) ⊎ IsStarRow lifts ps ms p t → IsLowestAmong ps (p ∷ ms) lifts t
+    from : (IsLowestAmong ps ms lifts t × HasAbove lifts ps t p) ⊎ IsLowestStarRow lifts ps ms p t → IsLowestAmong ps (p ∷ ms) lifts t
     from (inl h) = kept h.0 h.1
     from (inr s) = star s
 
 -- the first point over the face makes the neighbor
-pub law_face_pairing : FacePairingLaw
+pub law_face_pairing : LowestFacePairingLaw
 law_face_pairing lifts ps ms within f t d face = go (first_of (face_pencil lifts ps f) (Contains ms) (LowestBridge.list_set ps ms within))
   where
     r : LowestBridge.IsRowOn lifts ps (Contains ms) (reversed f) t
@@ -372,14 +372,14 @@ law_face_pairing lifts ps ms within f t d face = go (first_of (face_pencil lifts
     under : LowestBridge.IsLowUnderOn lifts ps (Contains ms) f r.apex
     under = LowestBridge.under_of lifts ps (Contains ms) f r.apex r.low
 
-    go : IsBare (side_of ps f) (Contains ms) ⊎ ((o : ℕ) × IsFirst (side_of ps f) (gap_of lifts ps f) (places (length ps)) (Contains ms) o) → HasNoneBeyond ps ms f ⊎ ((s : Tet) × IsLowestAmong ps ms lifts s × IsFaceOf ps f s)
+    go : IsBare (side_of ps f) (Contains ms) ⊎ ((o : ℕ) × IsFirst (side_of ps f) (gap_of lifts ps f) (places (length ps)) (Contains ms) o) → HasNoneAmongBeyond ps ms f ⊎ ((s : Tet) × IsLowestAmong ps ms lifts s × IsFaceOf ps f s)
     go (inl bare) = inl bare
     go (inr o) =
         let q = LowestBridge.row_of lifts ps ms (Contains ms) (LowestBridge.of_list ps ms within) f o.0 (LowestBridge.reversed_on (Contains ms) (reversed f) r.on) (neighbor (face_pencil lifts ps f) r.apex o.0 under o.1) in
         inr (q.row, q.is_row, q.is_face)
 
 -- the first point is unique
-pub law_one_row : OneRowLaw
+pub law_one_row : LowestOneRowLaw
 law_one_row lifts ps ms within f s t ds fs dt ft = same_row ps s t ds.is_positive dt.is_positive ds.is_arranged dt.is_arranged
     (λ i c. even_corner_to ps (beside f q.apex) t q.even i (subst (λ o. IsCorner (beside f o) i) same (even_corner_from ps (beside f r.apex) s r.even i c)))
     (λ i c. even_corner_to ps (beside f r.apex) s r.even i (subst (λ o. IsCorner (beside f o) i) (sym same) (even_corner_from ps (beside f q.apex) t q.even i c)))

@@ -13,7 +13,7 @@ use Rattle.geo_laws.proofs.Corners.{IsCorner}
 use Rattle.geo_laws.proofs.Corners.{contains_corner}
 use Rattle.geo_laws.proofs.Heights.{all_fours, in_all_fours}
 use Rattle.geo_laws.specs.OrientedFace.{Face, triangle, reversed, beside, IsOther}
-use Rattle.insert_laws.specs.LowestInsertion.{IsHullFace, edge_and, HullTurnLaw, LocateLaw}
+use Rattle.insert_laws.specs.LowestInsertion.{IsLowestHullFace, edge_and, LowestHullTurnLaw, LowestLocateLaw}
 use Rattle.insert_laws.proofs.Pencil.{IsBare, IsFirst, first_of, neighbor, above_not_zero, apart_sides}
 use Rattle.geo_laws.proofs.Arrangement.{even_back}
 use Rattle.insert_laws.proofs.FacePencil.{side_of, gap_of, face_pencil}
@@ -25,10 +25,10 @@ use Rattle.insert_laws.proofs.Inside as inside
 use Rattle.insert_laws.proofs.Beyond.{hull-turn}
 use Rattle.insert_laws.proofs.BeyondLaw.{closed_or_beyond}
 
-pub law_hull_turn : HullTurnLaw
+pub law_hull_turn : LowestHullTurnLaw
 law_hull_turn lifts ps ms within i j o h = at (hull.some_hull_on lifts ps ms (Contains ms) (LowestBridge.of_list ps ms within) (edge_and i j o) h)
   where
-    at : (a : ℕ) × IsHullOn lifts ps (Contains ms) (edge_and i j o) a → IsHullFace lifts ps ms (edge_and j o i)
+    at : (a : ℕ) × IsHullOn lifts ps (Contains ms) (edge_and i j o) a → IsLowestHullFace lifts ps ms (edge_and j o i)
     at r = hull.hull_from lifts ps ms (Contains ms) (LowestBridge.of_list ps ms within) (edge_and j o i) r.0 (hull-turn lifts ps (Contains ms) (edge_and i j o) r.0 r.1)
 
 -- ---- the walk
@@ -38,7 +38,7 @@ record IsNextRow (lifts : ℕ → ℤ) (ps : List Point) (ms : List ℕ) (y : Ra
   is_row : IsLowestAmong ps ms lifts row
   rises : inside.rises_at lifts ps y t row
 
-next_row : (lifts : ℕ → ℤ) (ps : List Point) (ms : List ℕ) → AreNumbersOf ps ms → (y : RationalPoint) (t : Tet) → IsLowestAmong ps ms lifts t → (b : inside.IsBeyondFace ps t y) → IsHullFace lifts ps ms b.face ⊎ IsNextRow lifts ps ms y t
+next_row : (lifts : ℕ → ℤ) (ps : List Point) (ms : List ℕ) → AreNumbersOf ps ms → (y : RationalPoint) (t : Tet) → IsLowestAmong ps ms lifts t → (b : inside.IsBeyondFace ps t y) → IsLowestHullFace lifts ps ms b.face ⊎ IsNextRow lifts ps ms y t
 next_row lifts ps ms within y t d b = go (first_of (face_pencil lifts ps b.face) (Contains ms) (LowestBridge.list_set ps ms within))
   where
     low : LowestBridge.IsLowFour lifts ps (Contains ms) (beside (reversed b.face) b.apex)
@@ -53,7 +53,7 @@ next_row lifts ps ms within y t d b = go (first_of (face_pencil lifts ps b.face)
     under : LowestBridge.IsLowUnderOn lifts ps (Contains ms) b.face b.apex
     under = LowestBridge.under_of lifts ps (Contains ms) b.face b.apex low_back
 
-    go : IsBare (side_of ps b.face) (Contains ms) ⊎ ((o : ℕ) × IsFirst (side_of ps b.face) (gap_of lifts ps b.face) (places (length ps)) (Contains ms) o) → IsHullFace lifts ps ms b.face ⊎ IsNextRow lifts ps ms y t
+    go : IsBare (side_of ps b.face) (Contains ms) ⊎ ((o : ℕ) × IsFirst (side_of ps b.face) (gap_of lifts ps b.face) (places (length ps)) (Contains ms) o) → IsLowestHullFace lifts ps ms b.face ⊎ IsNextRow lifts ps ms y t
     go (inl bare) = inl (record { behind = t; is_row = d; is_face = inside.face_of lifts ps (Contains ms) (reversed b.face) b.apex t low_back b.even; none_beyond = bare })
     go (inr (o, first)) = inr (record { row = r.row; is_row = r.is_row; rises = inside.rises_across lifts ps y b.face b.apex o t r.row b.even r.even b.beyond (low_back.others o low_o.on (record { not_a = other.not_a; not_b = other.not_c; not_c = other.not_b }) apart) })
       where
@@ -71,7 +71,7 @@ next_row lifts ps ms within y t d b = go (first_of (face_pencil lifts ps b.face)
 
 -- the walk to p, which may be one of the points, ends in a tetrahedron that holds it, or leaves by a hull face
 pub locate_among : (lifts : ℕ → ℤ) (ps : List Point) (ms : List ℕ) → AreNumbersOf ps ms → (p : ℕ) (some : Tet) → IsLowestAmong ps ms lifts some
-    → ((t : Tet) × IsLowestAmong ps ms lifts t × InClosed (corners ps t) (as_rational (point ps p))) ⊎ ((f : Face) × IsHullFace lifts ps ms f × (pos 0 <ℤ side (triangle ps f) (point ps p)))
+    → ((t : Tet) × IsLowestAmong ps ms lifts t × InClosed (corners ps t) (as_rational (point ps p))) ⊎ ((f : Face) × IsLowestHullFace lifts ps ms f × (pos 0 <ℤ side (triangle ps f) (point ps p)))
 locate_among lifts ps ms within p some some_is =
     climb Tet (inside.rises_at lifts ps y) (IsLowestAmong ps ms lifts) (λ t. Found)
     (λ x z u hx hz hu a b. inside.rises_trans lifts ps y x z u hx.is_positive hz.is_positive hu.is_positive a b) (λ x h. inside.rises_never lifts ps y x h) step
@@ -82,33 +82,33 @@ locate_among lifts ps ms within p some some_is =
     y = as_rational (point ps p)
 
     Found : Type 0
-    Found = ((t : Tet) × IsLowestAmong ps ms lifts t × InClosed (corners ps t) (as_rational (point ps p))) ⊎ ((f : Face) × IsHullFace lifts ps ms f × (pos 0 <ℤ side (triangle ps f) (point ps p)))
+    Found = ((t : Tet) × IsLowestAmong ps ms lifts t × InClosed (corners ps t) (as_rational (point ps p))) ⊎ ((f : Face) × IsLowestHullFace lifts ps ms f × (pos 0 <ℤ side (triangle ps f) (point ps p)))
 
     on : (t : Tet) → IsLowestAmong ps ms lifts t → (i : ℕ) → IsCorner t i → Contains ms i
     on t d i c = d.is_on i (contains_corner t i c)
 
     step : (t : Tet) → IsLowestAmong ps ms lifts t
-        → (((t : Tet) × IsLowestAmong ps ms lifts t × InClosed (corners ps t) (as_rational (point ps p))) ⊎ ((f : Face) × IsHullFace lifts ps ms f × (pos 0 <ℤ side (triangle ps f) (point ps p))))
+        → (((t : Tet) × IsLowestAmong ps ms lifts t × InClosed (corners ps t) (as_rational (point ps p))) ⊎ ((f : Face) × IsLowestHullFace lifts ps ms f × (pos 0 <ℤ side (triangle ps f) (point ps p))))
         ⊎ ((r : Tet) × IsLowestAmong ps ms lifts r × inside.rises_at lifts ps (as_rational (point ps p)) t r
-        × ((((t : Tet) × IsLowestAmong ps ms lifts t × InClosed (corners ps t) (as_rational (point ps p))) ⊎ ((f : Face) × IsHullFace lifts ps ms f × (pos 0 <ℤ side (triangle ps f) (point ps p))))
-        → (((t : Tet) × IsLowestAmong ps ms lifts t × InClosed (corners ps t) (as_rational (point ps p))) ⊎ ((f : Face) × IsHullFace lifts ps ms f × (pos 0 <ℤ side (triangle ps f) (point ps p))))))
+        × ((((t : Tet) × IsLowestAmong ps ms lifts t × InClosed (corners ps t) (as_rational (point ps p))) ⊎ ((f : Face) × IsLowestHullFace lifts ps ms f × (pos 0 <ℤ side (triangle ps f) (point ps p))))
+        → (((t : Tet) × IsLowestAmong ps ms lifts t × InClosed (corners ps t) (as_rational (point ps p))) ⊎ ((f : Face) × IsLowestHullFace lifts ps ms f × (pos 0 <ℤ side (triangle ps f) (point ps p))))))
     step t d = go (closed_or_beyond ps t (as_rational (point ps p)))
       where
-        onward : (b : inside.IsBeyondFace ps t (as_rational (point ps p))) → IsHullFace lifts ps ms b.face ⊎ IsNextRow lifts ps ms (as_rational (point ps p)) t
-            → (((t : Tet) × IsLowestAmong ps ms lifts t × InClosed (corners ps t) (as_rational (point ps p))) ⊎ ((f : Face) × IsHullFace lifts ps ms f × (pos 0 <ℤ side (triangle ps f) (point ps p))))
+        onward : (b : inside.IsBeyondFace ps t (as_rational (point ps p))) → IsLowestHullFace lifts ps ms b.face ⊎ IsNextRow lifts ps ms (as_rational (point ps p)) t
+            → (((t : Tet) × IsLowestAmong ps ms lifts t × InClosed (corners ps t) (as_rational (point ps p))) ⊎ ((f : Face) × IsLowestHullFace lifts ps ms f × (pos 0 <ℤ side (triangle ps f) (point ps p))))
             ⊎ ((r : Tet) × IsLowestAmong ps ms lifts r × inside.rises_at lifts ps (as_rational (point ps p)) t r
-            × ((((t : Tet) × IsLowestAmong ps ms lifts t × InClosed (corners ps t) (as_rational (point ps p))) ⊎ ((f : Face) × IsHullFace lifts ps ms f × (pos 0 <ℤ side (triangle ps f) (point ps p))))
-            → (((t : Tet) × IsLowestAmong ps ms lifts t × InClosed (corners ps t) (as_rational (point ps p))) ⊎ ((f : Face) × IsHullFace lifts ps ms f × (pos 0 <ℤ side (triangle ps f) (point ps p))))))
+            × ((((t : Tet) × IsLowestAmong ps ms lifts t × InClosed (corners ps t) (as_rational (point ps p))) ⊎ ((f : Face) × IsLowestHullFace lifts ps ms f × (pos 0 <ℤ side (triangle ps f) (point ps p))))
+            → (((t : Tet) × IsLowestAmong ps ms lifts t × InClosed (corners ps t) (as_rational (point ps p))) ⊎ ((f : Face) × IsLowestHullFace lifts ps ms f × (pos 0 <ℤ side (triangle ps f) (point ps p))))))
         onward b (inl h) = inl (inr (b.face, h, subst (λ n. pos 0 <ℤ n) (ring.side_rational-as_rational (triangle ps b.face) (point ps p)) b.beyond))
         onward b (inr r) = inr (r.row, r.is_row, r.rises, λ f. f)
 
         go : InClosed (corners ps t) (as_rational (point ps p)) ⊎ inside.IsBeyondFace ps t (as_rational (point ps p))
-            → (((t : Tet) × IsLowestAmong ps ms lifts t × InClosed (corners ps t) (as_rational (point ps p))) ⊎ ((f : Face) × IsHullFace lifts ps ms f × (pos 0 <ℤ side (triangle ps f) (point ps p))))
+            → (((t : Tet) × IsLowestAmong ps ms lifts t × InClosed (corners ps t) (as_rational (point ps p))) ⊎ ((f : Face) × IsLowestHullFace lifts ps ms f × (pos 0 <ℤ side (triangle ps f) (point ps p))))
             ⊎ ((r : Tet) × IsLowestAmong ps ms lifts r × inside.rises_at lifts ps (as_rational (point ps p)) t r
-            × ((((t : Tet) × IsLowestAmong ps ms lifts t × InClosed (corners ps t) (as_rational (point ps p))) ⊎ ((f : Face) × IsHullFace lifts ps ms f × (pos 0 <ℤ side (triangle ps f) (point ps p))))
-            → (((t : Tet) × IsLowestAmong ps ms lifts t × InClosed (corners ps t) (as_rational (point ps p))) ⊎ ((f : Face) × IsHullFace lifts ps ms f × (pos 0 <ℤ side (triangle ps f) (point ps p))))))
+            × ((((t : Tet) × IsLowestAmong ps ms lifts t × InClosed (corners ps t) (as_rational (point ps p))) ⊎ ((f : Face) × IsLowestHullFace lifts ps ms f × (pos 0 <ℤ side (triangle ps f) (point ps p))))
+            → (((t : Tet) × IsLowestAmong ps ms lifts t × InClosed (corners ps t) (as_rational (point ps p))) ⊎ ((f : Face) × IsLowestHullFace lifts ps ms f × (pos 0 <ℤ side (triangle ps f) (point ps p))))))
         go (inl h) = inl (inl (t, d, h))
         go (inr b) = onward b (next_row lifts ps ms within (as_rational (point ps p)) t d b)
 
-pub law_locate : LocateLaw
+pub law_locate : LowestLocateLaw
 law_locate lifts ps ms p new = locate_among lifts ps ms new.within p

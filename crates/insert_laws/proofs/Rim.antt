@@ -11,7 +11,7 @@ use Rattle.geo_laws.proofs.Corners.{IsCorner}
 use Rattle.geo_laws.proofs.Corners.{distinct}
 use Rattle.geo_laws.specs.OrientedFace.{Face, reversed, beside}
 use Rattle.geo_laws.specs.Height.{IsLowestAmong}
-use Rattle.insert_laws.specs.LowestInsertion.{IsNew, IsHullRim, IsRimFace, edge_and, IsHullFace, RimEdgeLaw, HullRimLaw, cavity_row, cavity_ghost, IsCavityPlace}
+use Rattle.insert_laws.specs.LowestInsertion.{IsNew, IsLowestHullRim, IsLowestRimFace, edge_and, IsLowestHullFace, LowestRimEdgeLaw, LowestHullRimLaw, cavity_row, cavity_ghost, IsLowestCavityPlace}
 use Rattle.insert_laws.proofs.Pencil.{IsBare, IsFirst, first_of, neighbor, low_unique, above_not_zero}
 use Rattle.insert_laws.proofs.StarPencil as pencil
 use Rattle.insert_laws.proofs.StarPencil.{With}
@@ -26,14 +26,14 @@ use Rattle.insert_laws.proofs.LowestHull.{law_hull_edge}
 use Rattle.insert_laws.proofs.LowestStart.{law_hull_turn}
 
 -- the row of a rim face and p
-rim_low : (lifts : ℕ → ℤ) (ps : List Point) (ms : List ℕ) (p : ℕ) (new : IsNew ps ms p) (f : Face) → IsRimFace lifts ps ms p f → LowestBridge.IsLowFour lifts ps (With (Contains ms) p) (beside f p)
+rim_low : (lifts : ℕ → ℤ) (ps : List Point) (ms : List ℕ) (p : ℕ) (new : IsNew ps ms p) (f : Face) → IsLowestRimFace lifts ps ms p f → LowestBridge.IsLowFour lifts ps (With (Contains ms) p) (beside f p)
 rim_low lifts ps ms p new f h =
     let over = insert.cavity_to lifts ps ms p new f h.cavity in
     LowestBridge.four_of_face lifts ps (With (Contains ms) p) f p (record { on_a = inr over.0.on_a; on_b = inr over.0.on_b; on_c = inr over.0.on_c })
     (pencil.star_is_low (face_pencil lifts ps f) p over.1 (insert.clear_to lifts ps ms p new f over.0 h.clear))
 
 -- and back, where some row is there
-rim_of_low : (lifts : ℕ → ℤ) (ps : List Point) (ms : List ℕ) (p : ℕ) (new : IsNew ps ms p) (some : Tet) → IsLowestAmong ps ms lifts some → (f : Face) → LowestBridge.IsLowFour lifts ps (With (Contains ms) p) (beside f p) → IsRimFace lifts ps ms p f
+rim_of_low : (lifts : ℕ → ℤ) (ps : List Point) (ms : List ℕ) (p : ℕ) (new : IsNew ps ms p) (some : Tet) → IsLowestAmong ps ms lifts some → (f : Face) → LowestBridge.IsLowFour lifts ps (With (Contains ms) p) (beside f p) → IsLowestRimFace lifts ps ms p f
 rim_of_low lifts ps ms p new some some_is f four = record { cavity = insert.of_cavity lifts ps ms p new f on at.0; clear = insert.of_clear lifts ps ms p new f on at.1 }
   where
     apart : AreDistinct (beside f p)
@@ -56,12 +56,12 @@ rim_of_low lifts ps ms p new some some_is f four = record { cavity = insert.of_c
     at = pencil.low_is_star (face_pencil lifts ps f) p (LowestBridge.list_set ps ms new.within) new.is_new off.0 (low.on off.0 off.1) off.2 (LowestBridge.low_on_face lifts ps (With (Contains ms) p) f p four)
 
 -- a row that was there before
-some_row : (lifts : ℕ → ℤ) (ps : List Point) (ms : List ℕ) (p : ℕ) (f : Face) → IsCavityPlace lifts ps ms p f → (t : Tet) × IsLowestAmong ps ms lifts t
+some_row : (lifts : ℕ → ℤ) (ps : List Point) (ms : List ℕ) (p : ℕ) (f : Face) → IsLowestCavityPlace lifts ps ms p f → (t : Tet) × IsLowestAmong ps ms lifts t
 some_row lifts ps ms p f (cavity_row t d face n) = (t, d)
 some_row lifts ps ms p f (cavity_ghost h s) = (h.behind, h.is_row)
 
 -- the neighbor of the new tetrahedron across the edge is on another rim face, or the edge is on the hull
-pub law_rim_edge : RimEdgeLaw
+pub law_rim_edge : LowestRimEdgeLaw
 law_rim_edge lifts ps ms p new i j k h = (go (first_of (face_pencil lifts ps outer) (With (Contains ms) p) (LowestBridge.new_set ps ms p new)), unique)
   where
     -- the face of the edge and p, turned away from k
@@ -94,7 +94,7 @@ law_rim_edge lifts ps ms p new i j k h = (go (first_of (face_pencil lifts ps out
     exchanged q = even-swap ps (beside (edge_and i j p) q)
 
     go : IsBare (side_of ps (edge_and i j p)) (With (Contains ms) p) ⊎ ((q : ℕ) × IsFirst (side_of ps (edge_and i j p)) (gap_of lifts ps (edge_and i j p)) (places (length ps)) (With (Contains ms) p) q)
-        → IsHullRim lifts ps ms p i j ⊎ ((q : ℕ) × IsRimFace lifts ps ms p (edge_and j i q))
+        → IsLowestHullRim lifts ps ms p i j ⊎ ((q : ℕ) × IsLowestRimFace lifts ps ms p (edge_and j i q))
     go (inl bare) = inl ((law_new_hull lifts ps ms p new some.0 some.1 i j).0 (hull.hull_from lifts ps (p ∷ ms) (With (Contains ms) p) (LowestBridge.of_new ps ms p new) (edge_and i j p) k (record { on = on; bare = bare; low = under })))
     go (inr (q, first)) = inr (
       q,
@@ -103,43 +103,43 @@ law_rim_edge lifts ps ms p new i j k h = (go (first_of (face_pencil lifts ps out
           (LowestBridge.four_of_face lifts ps (With (Contains ms) p) (edge_and i j p) q on (neighbor (face_pencil lifts ps (edge_and i j p)) k q under first))),
     )
 
-    back : (q : ℕ) → IsRimFace lifts ps ms p (edge_and i j q) → LowestBridge.IsLowOn lifts ps (With (Contains ms) p) (reversed (edge_and i j p)) q
+    back : (q : ℕ) → IsLowestRimFace lifts ps ms p (edge_and i j q) → LowestBridge.IsLowOn lifts ps (With (Contains ms) p) (reversed (edge_and i j p)) q
     back q r = LowestBridge.low_on_face lifts ps (With (Contains ms) p) (reversed (edge_and i j p)) q
         (LowestBridge.low_even lifts ps (With (Contains ms) p) (beside (edge_and i j q) p) (beside (reversed (edge_and i j p)) q) (turned_row i j q p) (rim_low lifts ps ms p new (edge_and i j q) r))
 
-    unique : (q : ℕ) → IsRimFace lifts ps ms p (edge_and i j q) → k ≡ q
+    unique : (q : ℕ) → IsLowestRimFace lifts ps ms p (edge_and i j q) → k ≡ q
     unique q r = low_unique (face_pencil lifts ps (reversed (edge_and i j p))) k q (back k h) (back q r)
 
 -- ---- the rim on the hull
 
-pub law_hull_rim : HullRimLaw
+pub law_hull_rim : LowestHullRimLaw
 law_hull_rim lifts ps ms p new some some_is i j h = (behind (hull.some_hull_on lifts ps (p ∷ ms) (With (Contains ms) p) (LowestBridge.of_new ps ms p new) (edge_and i j p) face), (next.0.0, to_rim next.0.0 next.0.1, unique))
   where
     within : (k : ℕ) → Contains (p ∷ ms) k → k < length ps
     within k c = (LowestBridge.of_new ps ms p new).within k c
 
-    face_of_rim : (a b : ℕ) → IsHullRim lifts ps ms p a b → IsHullFace lifts ps (p ∷ ms) (edge_and a b p)
+    face_of_rim : (a b : ℕ) → IsLowestHullRim lifts ps ms p a b → IsLowestHullFace lifts ps (p ∷ ms) (edge_and a b p)
     face_of_rim a b r = (law_new_hull lifts ps ms p new some some_is a b).1 r
 
-    turned : (a b c : ℕ) → IsHullFace lifts ps (p ∷ ms) (edge_and a b c) → IsHullFace lifts ps (p ∷ ms) (edge_and b c a)
+    turned : (a b c : ℕ) → IsLowestHullFace lifts ps (p ∷ ms) (edge_and a b c) → IsLowestHullFace lifts ps (p ∷ ms) (edge_and b c a)
     turned a b c f = law_hull_turn lifts ps (p ∷ ms) within a b c f
 
-    face : IsHullFace lifts ps (p ∷ ms) (edge_and i j p)
+    face : IsLowestHullFace lifts ps (p ∷ ms) (edge_and i j p)
     face = face_of_rim i j h
 
-    next : ((q : ℕ) × IsHullFace lifts ps (p ∷ ms) (edge_and p j q)) × ((q : ℕ) → IsHullFace lifts ps (p ∷ ms) (edge_and j p q) → i ≡ q)
+    next : ((q : ℕ) × IsLowestHullFace lifts ps (p ∷ ms) (edge_and p j q)) × ((q : ℕ) → IsLowestHullFace lifts ps (p ∷ ms) (edge_and j p q) → i ≡ q)
     next = law_hull_edge lifts ps (p ∷ ms) within j p i (turned i j p face)
 
-    to_rim : (q : ℕ) → IsHullFace lifts ps (p ∷ ms) (edge_and p j q) → IsHullRim lifts ps ms p j q
+    to_rim : (q : ℕ) → IsLowestHullFace lifts ps (p ∷ ms) (edge_and p j q) → IsLowestHullRim lifts ps ms p j q
     to_rim q f = (law_new_hull lifts ps ms p new some some_is j q).0 (turned p j q f)
 
-    unique : (r : ℕ) → IsHullRim lifts ps ms p j r → next.0.0 ≡ r
+    unique : (r : ℕ) → IsLowestHullRim lifts ps ms p j r → next.0.0 ≡ r
     unique r k = (law_hull_edge lifts ps (p ∷ ms) within p j next.0.0 next.0.1).1 r (turned r p j (turned_back (face_of_rim j r k)))
       where
-        turned_back : IsHullFace lifts ps (p ∷ ms) (edge_and j r p) → IsHullFace lifts ps (p ∷ ms) (edge_and r p j)
+        turned_back : IsLowestHullFace lifts ps (p ∷ ms) (edge_and j r p) → IsLowestHullFace lifts ps (p ∷ ms) (edge_and r p j)
         turned_back f = turned j r p f
 
-    behind : (a : ℕ) × IsHullOn lifts ps (With (Contains ms) p) (edge_and i j p) a → (k : ℕ) × IsRimFace lifts ps ms p (edge_and i j k)
+    behind : (a : ℕ) × IsHullOn lifts ps (With (Contains ms) p) (edge_and i j p) a → (k : ℕ) × IsLowestRimFace lifts ps ms p (edge_and i j k)
     behind (a, on) = (a, rim_of_low lifts ps ms p new some some_is (edge_and i j a) (LowestBridge.low_even lifts ps (With (Contains ms) p) t (beside (edge_and i j a) p) even low))
       where
         t : Tet

@@ -11,7 +11,7 @@ use Rattle.geo_laws.specs.declared.tetrahedra.Tet.{Tet}
 use Rattle.geo_laws.proofs.General.{near_point, closed_of}
 use Rattle.geo_laws.proofs.LeastHeight.{law_least_height}
 use Rattle.geo_laws.specs.OrientedFace.{Face, triangle}
-use Rattle.insert_laws.specs.LowestInsertion.{IsNew, HasAbove, IsHullFace, IsStarRow, IsRimFace, SomeRimFaceLaw}
+use Rattle.insert_laws.specs.LowestInsertion.{IsNew, HasAbove, IsLowestHullFace, IsLowestStarRow, IsLowestRimFace, LowestSomeRimFaceLaw}
 use Rattle.insert_laws.proofs.LowestBridge
 use Rattle.insert_laws.proofs.LowestHull as hull
 use Rattle.insert_laws.proofs.LowestInsert.{law_insertion}
@@ -29,17 +29,17 @@ row_with lifts ps ms p new some is =
     (λ i j k a b d s. (g.keeps i j k a b d s).off) in
     (found.0, found.1)
 
-pub law_some_rim_face : SomeRimFaceLaw
+pub law_some_rim_face : LowestSomeRimFaceLaw
 law_some_rim_face lifts ps ms p new some is a in_cavity = by (locate_among lifts ps (p ∷ ms) (LowestBridge.of_new ps ms p new).within p first.0 first.1)
   where
     first : (t : Tet) × IsLowestAmong ps (p ∷ ms) lifts t
     first = row_with lifts ps ms p new some is
 
-    of_row : (t : Tet) → InClosed (corners ps t) (as_rational (point ps p)) → (IsLowestAmong ps ms lifts t × HasAbove lifts ps t p) ⊎ IsStarRow lifts ps ms p t → (f : Face) × IsRimFace lifts ps ms p f
+    of_row : (t : Tet) → InClosed (corners ps t) (as_rational (point ps p)) → (IsLowestAmong ps ms lifts t × HasAbove lifts ps t p) ⊎ IsLowestStarRow lifts ps ms p t → (f : Face) × IsLowestRimFace lifts ps ms p f
     of_row t holds (inl old) = absurd ((law_hidden lifts ps ms p new t old.0 holds old.1).no_place a in_cavity)
     of_row t holds (inr star) = (star.face, record { cavity = star.cavity; clear = star.clear })
 
-    by : ((t : Tet) × IsLowestAmong ps (p ∷ ms) lifts t × InClosed (corners ps t) (as_rational (point ps p))) ⊎ ((f : Face) × IsHullFace lifts ps (p ∷ ms) f × (pos 0 <ℤ side (triangle ps f) (point ps p)))
-        → (f : Face) × IsRimFace lifts ps ms p f
+    by : ((t : Tet) × IsLowestAmong ps (p ∷ ms) lifts t × InClosed (corners ps t) (as_rational (point ps p))) ⊎ ((f : Face) × IsLowestHullFace lifts ps (p ∷ ms) f × (pos 0 <ℤ side (triangle ps f) (point ps p)))
+        → (f : Face) × IsLowestRimFace lifts ps ms p f
     by (inl row) = of_row row.0 row.2 ((law_insertion lifts ps ms p new some is row.0).0 row.1)
     by (inr face) = absurd (face.1.none_beyond p (LowestBridge.to_cons p ms p (inl refl)) face.2)

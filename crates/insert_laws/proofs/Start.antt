@@ -28,7 +28,7 @@ use Rattle.insert_laws.proofs.Bridge.{hull_from, low, row, above}
 pub law_locate : LocateLaw
 law_locate ps ms p new some is = by (walk.law_locate (lifted ps) ps ms p new some (low ps ms p new some is))
   where
-    by : ((t : Tet) × IsLowestAmong ps ms (lifted ps) t × InClosed (corners ps t) (as_rational (point ps p))) ⊎ ((f : Face) × lowest.IsHullFace (lifted ps) ps ms f × (pos 0 <ℤ side (triangle ps f) (point ps p)))
+    by : ((t : Tet) × IsLowestAmong ps ms (lifted ps) t × InClosed (corners ps t) (as_rational (point ps p))) ⊎ ((f : Face) × lowest.IsLowestHullFace (lifted ps) ps ms f × (pos 0 <ℤ side (triangle ps f) (point ps p)))
         → ((t : Tet) × IsDelaunayAmong ps ms t × InClosed (corners ps t) (as_rational (point ps p))) ⊎ ((f : Face) × IsHullFace ps ms f × (pos 0 <ℤ side (triangle ps f) (point ps p)))
     by (inl t) = inl (t.0, row ps ms p new t.0 t.1, t.2)
     by (inr f) = inr (f.0, hull_from ps ms new.within f.0 f.1, f.2)

@@ -9,15 +9,15 @@ use Rattle.sign_predicates.specs.Sphere.{is_outside}
 use Rattle.geo_laws.specs.Delaunay.{point, corners, numbers, as_numbers, all_numbers, AreNumbersOf, IsArranged, IsDelaunay, IsDelaunayAmong}
 use Rattle.geo_laws.specs.declared.tetrahedra.Tet.{Tet}
 use Rattle.geo_laws.specs.OrientedFace.{Face, triangle, reversed, beside}
-pub use Rattle.insert_laws.specs.LowestInsertion.{IsNew, HasSameCorners, IsFaceOf, HasNoneBeyond, edge_and}
-pub use Rattle.insert_laws.specs.LowestInsertion.{Place, row_place, ghost_place, Touches, row_row, row_ghost, ghost_row, ghost_ghost, ghost_turned}
+pub use Rattle.insert_laws.specs.LowestInsertion.{IsNew, HasSameCorners, IsFaceOf, HasNoneAmongBeyond, edge_and}
+pub use Rattle.insert_laws.specs.LowestInsertion.{RowOrGhost, row_place, ghost_place, Touches, row_row, row_ghost, ghost_row, ghost_ghost, ghost_turned}
 
 -- f is a face of the hull, turned outward: a row lies behind it, and no point is strictly beyond it
 pub record IsHullFace (ps : List Point) (ms : List ℕ) (f : Face) : Type 0 where
   pub behind : Tet
   pub is_row : IsDelaunayAmong ps ms behind
   pub is_face : IsFaceOf ps (reversed f) behind
-  pub none_beyond : HasNoneBeyond ps ms f
+  pub none_beyond : HasNoneAmongBeyond ps ms f
 
 -- p is outside of a row
 abbrev pub HasOutside : List Point → Tet → ℕ → Type 0
@@ -60,7 +60,7 @@ RimLaw = (ps : List Point) (ms : List ℕ) (p : ℕ) → IsNew ps ms p → (f : 
 -- across each face of a Delaunay row lies another one, or no point
 abbrev pub FacePairingLaw : Type 0
 FacePairingLaw = (ps : List Point) (ms : List ℕ) → AreNumbersOf ps ms → (f : Face) (t : Tet) → IsDelaunayAmong ps ms t → IsFaceOf ps (reversed f) t
-    → HasNoneBeyond ps ms f ⊎ ((s : Tet) × IsDelaunayAmong ps ms s × IsFaceOf ps f s)
+    → HasNoneAmongBeyond ps ms f ⊎ ((s : Tet) × IsDelaunayAmong ps ms s × IsFaceOf ps f s)
 
 -- at most one Delaunay row lies on one side of a face
 abbrev pub OneRowLaw : Type 0
@@ -94,24 +94,24 @@ HullEdgeLaw = (ps : List Point) (ms : List ℕ) → AreNumbersOf ps ms → (i j 
 -- ---- the cavity is connected
 
 -- the place is in the cavity of p
-pub data IsInCavity (ps : List Point) (ms : List ℕ) (p : ℕ) : Place → Type 0 where
+pub data IsInCavity (ps : List Point) (ms : List ℕ) (p : ℕ) : RowOrGhost → Type 0 where
   row_in : (t : Tet) → IsDelaunayAmong ps ms t → ¬ HasOutside ps t p → IsInCavity ps ms p (row_place t)
   ghost_in : (f : Face) → (h : IsHullFace ps ms f) → Sees ps p f h.behind → IsInCavity ps ms p (ghost_place f)
 
 -- a chain of places of the cavity leads from the one to the other
-pub data IsJoined (ps : List Point) (ms : List ℕ) (p : ℕ) : Place → Place → Type 0 where
-  joined_self : (a : Place) → IsJoined ps ms p a a
-  joined_by : (a b c : Place) → Touches ps a b → IsInCavity ps ms p b → IsJoined ps ms p b c → IsJoined ps ms p a c
+pub data ArePlacesJoined (ps : List Point) (ms : List ℕ) (p : ℕ) : RowOrGhost → RowOrGhost → Type 0 where
+  joined_self : (a : RowOrGhost) → ArePlacesJoined ps ms p a a
+  joined_by : (a b c : RowOrGhost) → Touches ps a b → IsInCavity ps ms p b → ArePlacesJoined ps ms p b c → ArePlacesJoined ps ms p a c
 
 -- where p lies in the closed row s of the cavity, each place of the cavity is joined to s
 abbrev pub InsideCavityLaw : Type 0
 InsideCavityLaw = (ps : List Point) (ms : List ℕ) (p : ℕ) → IsNew ps ms p → (s : Tet) → IsDelaunayAmong ps ms s → InClosed (corners ps s) (as_rational (point ps p)) → ¬ HasOutside ps s p
-    → (a : Place) → IsInCavity ps ms p a → IsJoined ps ms p a (row_place s)
+    → (a : RowOrGhost) → IsInCavity ps ms p a → ArePlacesJoined ps ms p a (row_place s)
 
 -- where p is strictly beyond the hull face f, each place of the cavity is joined to the ghost of f
 abbrev pub BeyondCavityLaw : Type 0
 BeyondCavityLaw = (ps : List Point) (ms : List ℕ) (p : ℕ) → IsNew ps ms p → (f : Face) → IsHullFace ps ms f → pos 0 <ℤ side (triangle ps f) (point ps p)
-    → (a : Place) → IsInCavity ps ms p a → IsJoined ps ms p a (ghost_place f)
+    → (a : RowOrGhost) → IsInCavity ps ms p a → ArePlacesJoined ps ms p a (ghost_place f)
 
 -- the Delaunay rows of a list are those among its numbers in the list with a further point, which isn't among them
 abbrev pub StartOfListLaw : Type 0

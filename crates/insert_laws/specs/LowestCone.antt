@@ -15,7 +15,7 @@ IsInCone ps t a b = (k : ℕ) → k < 4 → slice_index_or (numbers t) k a ≢ a
 -- In the closed cone of a lowest tetrahedron r from its corner a, no lowest tetrahedron has a side from a but along those of r: a point b
 -- there with
 -- such a side is a corner of r. The four t are the corners of r in any even arrangement
-abbrev pub ConeLaw : Type 0
-ConeLaw = (lifts : ℕ → ℤ) (ps : List Point) (ms : List ℕ) → AreNumbersOf ps ms → (s r t : Tet) → IsLowestAmong ps ms lifts s
+abbrev pub LowestConeLaw : Type 0
+LowestConeLaw = (lifts : ℕ → ℤ) (ps : List Point) (ms : List ℕ) → AreNumbersOf ps ms → (s r t : Tet) → IsLowestAmong ps ms lifts s
     → IsLowestAmong ps ms lifts r → HasSameCorners t r → IsPositive (corners ps t) → (a b : ℕ) → a ≢ b
     → Contains (numbers t) a → IsInCone ps t a b → Contains (numbers s) a → Contains (numbers s) b → Contains (numbers t) b

@@ -12,6 +12,6 @@ pub record IsLowestListAmong (lifts : ℕ → ℤ) (ps : List Point) (ms : List 
   pub ascending : AllPairs RowBefore rows
 
 -- It triangulates the hull of its points
-abbrev pub CoverLaw : Type 0
-CoverLaw = (lifts : ℕ → ℤ) (ps : List Point) (ms : List ℕ) → AreNumbersOf ps ms → (rows : List Tet) → IsLowestListAmong lifts ps ms rows
+abbrev pub LowestCoverLaw : Type 0
+LowestCoverLaw = (lifts : ℕ → ℤ) (ps : List Point) (ms : List ℕ) → AreNumbersOf ps ms → (rows : List Tet) → IsLowestListAmong lifts ps ms rows
     → IsTriangulationAmong ps ms rows

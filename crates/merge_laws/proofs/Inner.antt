@@ -15,7 +15,7 @@ use Rattle.geo_laws.specs.Complex.{Complex}
 use Rattle.geo_laws.specs.declared.complex.Piece.{Piece}
 use Rattle.geo_laws.proofs.Members.{IsMember, here, in_filter, in_flat_map, some_true, any_true, either_true, contains_of, member_of}
 use Rattle.facet_laws.specs.Inner.{HasOnce, IsInnerSide, IsOffInside}
-use Rattle.facet_laws.specs.Legs.{IsBetween}
+use Rattle.facet_laws.specs.Legs.{IsWeightedMean}
 use Rattle.facet_laws.proofs.Chains.{all_at, all_both, all_members, all_sides}
 use Rattle.facet_laws.proofs.Circles.{squares_above}
 use Rattle.facet_laws.proofs.Constant.{all_map}
@@ -42,7 +42,7 @@ one_coordinate n p q x w k l t hn hl e f g =
     tt (n ∷ p ∷ q ∷ x ∷ w ∷ k ∷ l ∷ t ∷ []) (f, (g, (e, tt)))))
 
 -- a point strictly between two points is neither
-not_end : (ps : List Point) (e : ℕ) (b : Point) (z : RationalPoint) → point ps e ≢ b → InSimplex ps (e ∷ []) z → (l : IsBetween (as_rational (point ps e)) (as_rational b) z) → pos 0 <ℤ l.to_y → ⊥
+not_end : (ps : List Point) (e : ℕ) (b : Point) (z : RationalPoint) → point ps e ≢ b → InSimplex ps (e ∷ []) z → (l : IsWeightedMean (as_rational (point ps e)) (as_rational b) z) → pos 0 <ℤ l.to_y → ⊥
 not_end ps e b z differ (m, mean) l above = differ (λ j. record { x = sym (one (point ps e).x b.x z.x mean.x_is l.x_is) j; y = sym (one (point ps e).y b.y z.y mean.y_is l.y_is) j; z = sym (one (point ps e).z b.z z.z mean.z_is l.z_is) j })
   where
     total : sum_by m (e ∷ []) ≡ m e

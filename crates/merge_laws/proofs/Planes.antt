@@ -10,7 +10,7 @@ use Rattle.geo_laws.specs.Complex.{Complex}
 use Rattle.geo_laws.specs.declared.complex.Piece.{Piece}
 use Rattle.geo_laws.proofs.Members.{IsMember, in_filter, filter_cases, in_flat_map, flat_map_cases, in_append_left, in_append_right, contains_of, member_of}
 use Rattle.facet_laws.specs.Inner.{IsInnerSide}
-use Rattle.facet_laws.specs.Region.{IsSegment, through}
+use Rattle.facet_laws.specs.Region.{IsAmongSegments, through}
 use Rattle.facet_laws.proofs.Facets.{spans_of}
 use Rattle.facet_laws.proofs.Pieces.{area_listed, first_place, ends_same}
 use Rattle.facet_laws.proofs.SamePlane.{Within, point_to_triangle, point_from_triangle}
@@ -131,7 +131,7 @@ law_merged_flat ps c group inner flat merging k x y z w cx cy cz cw =
     go (inl p) (inl q) (inl r) (inl s) = flat k a.below x y z w (in_own x a p) (in_own y b q) (in_own z d r) (in_own w e s)
 
 -- a side that is not inner is one of the segments
-pub outer_segment : (c : Complex) (inner : ℕ → Piece → Bool) (e : ℕ × Facet) (q : List ℕ) (s : Piece) → IsMember e (all_numbered c) → IsMember q e.1.polygons → IsMember s (sides q) → inner e.0 s ≡ false → IsSegment (merged_segments inner c) s
+pub outer_segment : (c : Complex) (inner : ℕ → Piece → Bool) (e : ℕ × Facet) (q : List ℕ) (s : Piece) → IsMember e (all_numbered c) → IsMember q e.1.polygons → IsMember s (sides q) → inner e.0 s ≡ false → IsAmongSegments (merged_segments inner c) s
 outer_segment c inner e q s me mq ms outer =
     let fp = first_place s (flat_map (outer_sides inner) (all_numbered c))
     (in_flat_map (outer_sides inner) e s (all_numbered c) me (in_filter (λ s. not (inner e.0 s)) s (flat_map sides e.1.polygons) (in_flat_map sides q s e.1.polygons mq ms) (ap not outer))) in
@@ -143,7 +143,7 @@ law_merged_bounded ps c group inner distinct on merging k q cq s cs =
     let e = flat_map_cases (λ (e : ℕ × Facet). e.1.polygons) q (members group c k) mq in
     go e.0 (filter_cases (λ (g : ℕ × Facet). group g.0 == k) e.0 (all_numbered c) e.1).0 (member_is group c k e.0 e.1) e.2 (inner e.0.0 s) refl
   where
-    go : (e : ℕ × Facet) → IsMember e (all_numbered c) → Member group c k e → IsMember q e.1.polygons → (b : Bool) → inner e.0 s ≡ b → IsSegment (merged_segments inner c) s ⊎ IsInnerSide ps (merged_facet group c k) q s
+    go : (e : ℕ × Facet) → IsMember e (all_numbered c) → Member group c k e → IsMember q e.1.polygons → (b : Bool) → inner e.0 s ≡ b → IsAmongSegments (merged_segments inner c) s ⊎ IsInnerSide ps (merged_facet group c k) q s
     go e me r mq false i = inl (outer_segment c inner e q s me mq (member_of (sides q) s cs) i)
     go e me r mq true i = inr (subst (λ n. IsInnerSide ps (merged_facet group c n) q s) r.grouped
         (law_inner ps c group inner distinct on merging e.0 q s r.below

@@ -5,7 +5,7 @@ use Rattle.sign_predicates.specs.Orientation.{Triangle, cross, side}
 use Rattle.geo_laws.specs.Delaunay.{point}
 use Rattle.geo_laws.specs.Complex.{Complex}
 use Rattle.geo_laws.specs.declared.complex.Piece.{Piece}
-use Rattle.merge_laws.specs.Merged.{alike_turned, IsOnOneSide, AreOnEitherSide, AreJoined, AreChained, IsLeastOfGroup}
+use Rattle.merge_laws.specs.Merged.{alike_turned, AreOnOneSideOf, AreOnEitherSide, AreJoined, AreChained, IsLeastOfGroup}
 
 -- the plane through the side that is upright on the plane of the side and a corner, with that corner on its positive side
 abbrev pub wall : List Point → Piece → ℕ → Triangle
@@ -35,5 +35,5 @@ pub record IsBetweenThem (ps : List Point) (s : Piece) (p q : List ℕ) (i : ℕ
 
 -- so one half space holds the one polygon, and the other half space the other
 abbrev pub EitherHandLaw : Type 0
-EitherHandLaw = (ps : List Point) (s : Piece) (p q : List ℕ) (i : ℕ) → IsOnOneSide ps s p → AreOnEitherSide ps s p q → Contains p i
+EitherHandLaw = (ps : List Point) (s : Piece) (p q : List ℕ) (i : ℕ) → AreOnOneSideOf ps s p → AreOnEitherSide ps s p q → Contains p i
     → IsBetweenThem ps s p q i

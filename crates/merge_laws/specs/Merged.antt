@@ -29,8 +29,8 @@ alike_turned ps s i j =
     dot (cross d (from_to (point ps s.a) (point ps i))) (cross d (from_to (point ps s.a) (point ps j)))
 
 -- the corners lie on one closed side of the line through the side's ends
-abbrev pub IsOnOneSide : List Point → Piece → List ℕ → Type 0
-IsOnOneSide ps s p = (i j : ℕ) → Contains p i → Contains p j → pos 0 ≤ℤ alike_turned ps s i j
+abbrev pub AreOnOneSideOf : List Point → Piece → List ℕ → Type 0
+AreOnOneSideOf ps s p = (i j : ℕ) → Contains p i → Contains p j → pos 0 ≤ℤ alike_turned ps s i j
 
 -- the corners of p lie on the one and those of q on the other closed side
 abbrev pub AreOnEitherSide : List Point → Piece → List ℕ → List ℕ → Type 0
@@ -58,8 +58,8 @@ pub record AreJoinedOver (ps : List Point) (s : Piece) (f g : Facet) (m n : Opti
   pub flat : IsFlat ps (together f g)
   pub once_in_first : places_of s (only_polygon f) ≡ 1
   pub once_in_second : places_of s (only_polygon g) ≡ 1
-  pub first_beside : IsOnOneSide ps s (only_polygon f)
-  pub second_beside : IsOnOneSide ps s (only_polygon g)
+  pub first_beside : AreOnOneSideOf ps s (only_polygon f)
+  pub second_beside : AreOnOneSideOf ps s (only_polygon g)
   pub either_side : AreOnEitherSide ps s (only_polygon f) (only_polygon g)
   pub first_met : MeetsOthers ps s (only_polygon f)
   pub second_met : MeetsOthers ps s (only_polygon g)

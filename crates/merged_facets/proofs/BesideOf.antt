@@ -5,7 +5,7 @@ use Rattle.std.proofs.lemmas.Int.{ints}
 use Rattle.std.proofs.lemmas.List.Elements.{recursion_from_All}
 use Rattle.sign_predicates.specs.Point.{Point}
 use Rattle.sign_predicates.specs.Orientation.{SpansPlane, Triangle, orient, normal, side}
-use Rattle.sign_predicates.specs.Meeting.{triangle}
+use Rattle.sign_predicates.specs.Meeting.{triangle_of}
 use Rattle.sign_predicates.specs.Sign.{IsSignOf}
 use Rattle.sign_predicates.specs.Turns.{turn}
 use Rattle.sign_predicates.specs.declared.tetrahedron.Sign.{Sign}
@@ -23,7 +23,7 @@ use Rattle.facet_laws.proofs.SamePlane.{point_to_triangle}
 use Rattle.piece_set.proofs.Found.{SameEnds, same_of}
 use Rattle.simplex_meets.proofs.Facets.{law_spans}
 use Rattle.merge_laws.specs.Merged.{has_span, alike_turned, places_of}
-use Rattle.merged_facets.specs.Beside.{one_facet, two_facet, is_off, AreBeside, not_below, not_above, LieInPlane, LieBeside, LieAcross, HasOnce, IsSideAmong, IsOffCorner}
+use Rattle.merged_facets.specs.Beside.{one_facet, two_facet, is_off, AreBeside, not_below, not_above, LieInPlane, LieBeside, LieAcross, HasSideOnce, IsSideAmong, IsOffCorner}
 use Rattle.merged_facets.proofs.Hands.{no_span, has_three, spans_off, both_beside, both_beyond, either_beside}
 use Rattle.merged_facets.proofs.Once.{counted, side_ends}
 
@@ -37,15 +37,15 @@ same_truth false true P h k = absurd (clash (h.1 (k.0 refl)))
     clash e = cc
 same_truth false false P h k = refl
 
-pub off_at : (ps : List Point) (s : Piece) (i : ℕ) (a b c : Point) (r : Bool) → point ps s.a ≡ a → point ps s.b ≡ b → point ps i ≡ c → IsTrue r ↔ SpansPlane (triangle a b c) → r ≡ is_off ps s i
+pub off_at : (ps : List Point) (s : Piece) (i : ℕ) (a b c : Point) (r : Bool) → point ps s.a ≡ a → point ps s.b ≡ b → point ps i ≡ c → IsTrue r ↔ SpansPlane (triangle_of a b c) → r ≡ is_off ps s i
 off_at ps s i a b c r ea eb ec h =
-    same_truth r (is_off ps s i) (SpansPlane (triangle a b c)) h
+    same_truth r (is_off ps s i) (SpansPlane (triangle_of a b c)) h
     (subst (λ (f : Triangle). IsTrue (spans_plane ps s.a s.b i) ↔ SpansPlane f) (λ j. record { a = ea j; b = eb j; c = ec j }) (law_spans ps s.a s.b i))
 
 pub turn_at : (ps : List Point) (s : Piece) (i j : ℕ) (a b c p : Point) (r : Sign) → point ps s.a ≡ a → point ps s.b ≡ b → point ps i ≡ c → point ps j ≡ p
-    → IsSignOf r (turn (normal (triangle a b c)) a b p) → IsSignOf r (alike_turned ps s i j)
+    → IsSignOf r (turn (normal (triangle_of a b c)) a b p) → IsSignOf r (alike_turned ps s i j)
 unfolding turn
-turn_at ps s i j a b c p r ea eb ec ep h = subst (λ n. IsSignOf r n) (λ k. turn (normal (triangle (sym ea k) (sym eb k) (sym ec k))) (sym ea k) (sym eb k) (sym ep k)) h
+turn_at ps s i j a b c p r ea eb ec ep h = subst (λ n. IsSignOf r n) (λ k. turn (normal (triangle_of (sym ea k) (sym eb k) (sym ec k))) (sym ea k) (sym eb k) (sym ep k)) h
 
 pub plane_at : (ps : List Point) (s : Piece) (i j : ℕ) (a b c p : Point) (r : Bool) → point ps s.a ≡ a → point ps s.b ≡ b → point ps i ≡ c → point ps j ≡ p
     → IsTrue r ↔ (orient a b c p ≡ pos 0) → IsTrue r ↔ LieInPlane ps s i j
@@ -163,7 +163,7 @@ off_corner ps s p None e n = absurd (n refl)
 off_corner ps s p (Some j) e n = let r = some_passes (is_off ps s) p j e in (j, r.1, r.0)
 
 pub beside_by : (ps : List Point) (s : Piece) (p q : List ℕ) (i : ℕ) → IsFlat ps (one_facet p) → IsOffCorner ps s p i → All (LieInPlane ps s i) q → All (LieAcross ps s i) q
-    → All (LieBeside ps s i) p → (find (is_off ps s) q ≡ None → ⊥) → HasOnce ps s p → HasOnce ps s q → AreBeside ps s p q
+    → All (LieBeside ps s i) p → (find (is_off ps s) q ≡ None → ⊥) → HasSideOnce ps s p → HasSideOnce ps s q → AreBeside ps s p q
 beside_by ps s p q i flat off plane across beside some once_p once_q = record {
   first_spans = has_three ps p s.a s.b i ep.0 ep.1 mi off.off;
   second_spans = has_three ps q s.a s.b other.0 eq.0 eq.1 other.1 other.2;

@@ -8,7 +8,7 @@ use Rattle.geo_laws.specs.declared.complex.Piece.{Piece}
 use Rattle.geo_laws.proofs.Members.{IsMember, member_of, contains_of, in_append_left, in_append_right, append_cases, in_map, map_cases}
 use Rattle.merge_laws.specs.Merged.{only_polygon, facet_at}
 use Rattle.piece_set.proofs.Polygons.{sides_before, IsNext, before_more}
-use Rattle.merged_facets.specs.FacetSides.{facet_side, IsSideOf, AreSidesBelow}
+use Rattle.merged_facets.specs.FacetSides.{facet_side, IsFacetSideOf, AreSidesBelow}
 use Rattle.merged_facets.specs.declared.sides.FacetSide.{FacetSide}
 
 append_nil : {X : Type 0} (xs : List X) → xs ++ [] ≡ xs
@@ -41,14 +41,14 @@ sides_more c f list new there h is = record { each = each; all = all }
     moved : (e : FacetSide) → Contains new e → IsMember e (list ++ map (facet_side f) (sides (only_polygon (facet_at c f))))
     moved e k = subst (λ (xs : List FacetSide). IsMember e xs) is (member_of new e k)
 
-    each : (e : FacetSide) → Contains new e → IsSideOf c e
+    each : (e : FacetSide) → Contains new e → IsFacetSideOf c e
     each e k = go (append_cases e list (map (facet_side f) (sides (only_polygon (facet_at c f)))) (moved e k))
       where
-        go : IsMember e list ⊎ IsMember e (map (facet_side f) (sides (only_polygon (facet_at c f)))) → IsSideOf c e
+        go : IsMember e list ⊎ IsMember e (map (facet_side f) (sides (only_polygon (facet_at c f)))) → IsFacetSideOf c e
         go (inl m) = h.each e (contains_of list e m)
         go (inr m) =
             let r = map_cases (facet_side f) e (sides (only_polygon (facet_at c f))) m in
-            subst (λ (x : FacetSide). IsSideOf c x) (sym r.2) (record { there = there; side_of = contains_of (sides (only_polygon (facet_at c f))) r.0 r.1 })
+            subst (λ (x : FacetSide). IsFacetSideOf c x) (sym r.2) (record { there = there; side_of = contains_of (sides (only_polygon (facet_at c f))) r.0 r.1 })
 
     all : (g : ℕ) (s : Piece) → g < f + 1 → Contains (sides (only_polygon (facet_at c g))) s → Contains new (facet_side g s)
     all g s l k = contains_of new (facet_side g s) (subst (λ (xs : List FacetSide). IsMember (facet_side g s) xs) (sym is) (go (before g f l)))

@@ -7,7 +7,7 @@ use Rattle.exact_algebra.proofs.Ring.{ring, same}
 use Rattle.sign_predicates.specs.Point.{Point, RationalPoint}
 use Rattle.sign_predicates.proofs.Terms.{pointE, of_point, crossE, dotE, from_toE}
 use Rattle.geo_laws.specs.Delaunay.{point, HasDistinctPoints}
-use Rattle.geo_laws.specs.Complex.{Complex, Polygon, flat_facet, facets}
+use Rattle.geo_laws.specs.Complex.{Complex, Polygon, flat_facet, facets, HasCornersOf}
 use Rattle.geo_laws.specs.Facet.{Facet, IsFlat, all_corners}
 use Rattle.geo_laws.specs.Segment.{sides, same_ends}
 use Rattle.geo_laws.specs.declared.complex.Piece.{Piece}
@@ -21,7 +21,7 @@ use Rattle.facet_laws.proofs.Pieces.{points_differ, all_sides_tested}
 use Rattle.merge_laws.specs.Merged.{has_span, only_polygon, facet_at, marker_at, no_facet, alike_turned, places_of, MeetsOthers, AreJoined}
 use Rattle.piece_set.proofs.Found.{SameEnds, same_of, of_same, same_sym, same_trans, same_test}
 use Rattle.merged_facets.specs.Beside.{one_facet, is_off, AreBeside, IsSideAmong}
-use Rattle.merged_facets.specs.FacetSides.{HasCornersOf, IsSideOf}
+use Rattle.merged_facets.specs.FacetSides.{IsFacetSideOf}
 use Rattle.merged_facets.specs.declared.sides.FacetSide.{FacetSide}
 use Rattle.merged_facets.proofs.Hands.{no_span, spans_off}
 use Rattle.merged_facets.proofs.OnlyPolygons.{flat}
@@ -225,7 +225,7 @@ joined_iff ps c s f g p q r lf lg mark ep eq h =
 
 -- ---- what the test needs
 
-pub side_among : (ps : List Point) (c : Complex) (e : FacetSide) → HasCornersOf ps c → IsSideOf c e → IsSideAmong ps e.side
+pub side_among : (ps : List Point) (c : Complex) (e : FacetSide) → HasCornersOf ps c → IsFacetSideOf c e → IsSideAmong ps e.side
 side_among ps c e h is =
     let m = member_of (sides (only_polygon (facet_at c e.facet))) e.side is.side_of in
     let r = side_ends (only_polygon (facet_at c e.facet)) e.side m in

@@ -2,7 +2,7 @@
 use Rattle.std.proofs.Common.{◌≡◌, ◌⊎◌, inl, inr, ℕ, ◌<◌, true, List, [], length, get_or, refl, ap, sym, ◌∙◌, subst, arith, eqb-true, eq-eqb}
 use Rattle.std.specs.Prelude.{◌==◌, ◌&&◌, IsTrue, Contains}
 use Rattle.sign_predicates.specs.Point.{Point}
-use Rattle.geo_laws.specs.Complex.{Complex}
+use Rattle.geo_laws.specs.Complex.{Complex, HasCornersOf}
 use Rattle.geo_laws.specs.Delaunay.{HasDistinctPoints}
 use Rattle.geo_laws.specs.Segment.{piece, sides, same_ends}
 use Rattle.geo_laws.specs.declared.complex.Piece.{Piece}
@@ -11,8 +11,8 @@ use Rattle.merge_laws.specs.Merged.{AreJoined, AreChained, alone, onward, IsInne
 use Rattle.merge_laws.proofs.Groups.{law_joined_back}
 use Rattle.piece_set.proofs.Found.{same_of}
 use Rattle.merged_facets.specs.Labels.{AreLabels, IsIdentity}
-use Rattle.merged_facets.specs.FacetSides.{facet_side, ends_of, ends_at, HasCornersOf, AreSidesOf}
-use Rattle.merged_facets.specs.Merging.{Groups, group_of, is_side_of, is_inner, inner_side, IsSound, IsNoted, side_at, IsFound, HasFound}
+use Rattle.merged_facets.specs.FacetSides.{facet_side, ends_of, ends_at, AreFacetSidesOf}
+use Rattle.merged_facets.specs.Merging.{Groups, group_of, is_side_of, is_inner, inner_side, IsSoundForest, IsNoted, facet_side_at, AreInnerFound, HasFound}
 use Rattle.merged_facets.specs.declared.sides.FacetSide.{FacetSide}
 use Rattle.merged_facets.specs.declared.sides.Ends.{Ends}
 use Rattle.merged_facets.specs.declared.merging.InnerSide.{InnerSide}
@@ -51,7 +51,7 @@ pub record Noted (inner : List InnerSide) (label : ℕ → ℕ) (x y : FacetSide
   pub second : Contains inner (inner_side y)
 
 noted_at : (ps : List Point) (c : Complex) (list : List FacetSide) (inner : List InnerSide) (label : ℕ → ℕ) (down : List ℕ) (x y : FacetSide) → HasDistinctPoints ps → HasCornersOf ps c
-    → AreSidesOf c list → IsFound ps c list (length list) down inner label → Contains list x → Contains list y → ends_of x.side ≡ ends_of y.side → AreJoined ps c x.side x.facet y.facet
+    → AreFacetSidesOf c list → AreInnerFound ps c list (length list) down inner label → Contains list x → Contains list y → ends_of x.side ≡ ends_of y.side → AreJoined ps c x.side x.facet y.facet
     → AreJoined ps c y.side y.facet x.facet → Noted inner label x y
 noted_at ps c list inner label down x y distinct corners listed h mx my e j back = go (before_after fx.place fy.place)
   where
@@ -61,25 +61,25 @@ noted_at ps c list inner label down x y distinct corners listed h mx my e j back
     fy : Found list y
     fy = found_of list y (member_of list y my)
 
-    at_x : side_at list (found_of list x (member_of list x mx)).place ≡ x
+    at_x : facet_side_at list (found_of list x (member_of list x mx)).place ≡ x
     at_x = fx.is (facet_side 0 (piece 0 0 0))
 
-    at_y : side_at list (found_of list y (member_of list y my)).place ≡ y
+    at_y : facet_side_at list (found_of list y (member_of list y my)).place ≡ y
     at_y = fy.is (facet_side 0 (piece 0 0 0))
 
     ends : ends_at list (found_of list x (member_of list x mx)).place ≡ ends_at list (found_of list y (member_of list y my)).place
     ends = ap (λ (z : FacetSide). ends_of z.side) at_x ∙ e ∙ sym (ap (λ (z : FacetSide). ends_of z.side) at_y)
 
-    pair : (a b : FacetSide) (i k : ℕ) → side_at list i ≡ a → side_at list k ≡ b → IsNoted ps c inner label (side_at list i) (side_at list k) → IsNoted ps c inner label a b
+    pair : (a b : FacetSide) (i k : ℕ) → facet_side_at list i ≡ a → facet_side_at list k ≡ b → IsNoted ps c inner label (facet_side_at list i) (facet_side_at list k) → IsNoted ps c inner label a b
     pair a b i k ea eb n =
-        subst (λ (z : FacetSide). IsNoted ps c inner label z b) ea (subst (λ (z : FacetSide). IsNoted ps c inner label (side_at list i) z) eb n)
+        subst (λ (z : FacetSide). IsNoted ps c inner label z b) ea (subst (λ (z : FacetSide). IsNoted ps c inner label (facet_side_at list i) z) eb n)
 
     go : (fx.place < fy.place) ⊎ ((fx.place ≡ fy.place) ⊎ (fy.place < fx.place)) → Noted inner label x y
     go (inl less) =
         let n = pair y x fy.place fx.place at_y at_x (h.noted fy.place fy.within fx.place less tt ends) back in
         record { same = sym n.0; first = n.2; second = n.1 }
     go (inr (inl at)) =
-        let same : x ≡ y = sym at_x ∙ ap (side_at list) at ∙ at_y in
+        let same : x ≡ y = sym at_x ∙ ap (facet_side_at list) at ∙ at_y in
         absurd (not_alone ps c x.side x.facet distinct (side_among ps c x corners (listed.each x mx))
         (subst (λ (z : FacetSide). AreJoined ps c x.side x.facet z.facet) (sym same) j))
     go (inr (inr less)) =
@@ -88,7 +88,7 @@ noted_at ps c list inner label down x y distinct corners listed h mx my e j back
 
 -- the sides over which two facets are joined are in the list
 pub noted_joined : (ps : List Point) (c : Complex) (list : List FacetSide) (inner : List InnerSide) (label : ℕ → ℕ) (down : List ℕ) (s : Piece) (f g : ℕ) → HasDistinctPoints ps → HasCornersOf ps c
-    → AreSidesOf c list → IsFound ps c list (length list) down inner label → AreJoined ps c s f g
+    → AreFacetSidesOf c list → AreInnerFound ps c list (length list) down inner label → AreJoined ps c s f g
     → (x : FacetSide) × (y : FacetSide) × (x.facet ≡ f) × (y.facet ≡ g) × (ends_of x.side ≡ ends_of s) × Noted inner label x y
 noted_joined ps c list inner label down s f g distinct corners listed h j =
     let r = counted (same_ends s) (sides (only_polygon (facet_at c f))) j.over.once_in_first in
@@ -110,7 +110,7 @@ noted_joined ps c list inner label down s f g distinct corners listed h j =
 
 -- facets in a chain have one label
 pub one_label : (ps : List Point) (c : Complex) (list : List FacetSide) (inner : List InnerSide) (label : ℕ → ℕ) (down : List ℕ) (f g : ℕ) → HasDistinctPoints ps → HasCornersOf ps c
-    → AreSidesOf c list → IsFound ps c list (length list) down inner label → AreChained ps c f g → label f ≡ label g
+    → AreFacetSidesOf c list → AreInnerFound ps c list (length list) down inner label → AreChained ps c f g → label f ≡ label g
 one_label ps c list inner label down _ _ distinct corners listed h (alone f) = refl
 one_label ps c list inner label down _ _ distinct corners listed h (onward f m g s j r) =
     let n = noted_joined ps c list inner label down s f m distinct corners listed h j in
@@ -128,7 +128,7 @@ test_side f s k h =
     let e = both_true (k.ends.low == (ends_of s).low) (k.ends.high == (ends_of s).high) r.1 in
     (eqb-true k.facet f r.0, λ j. record { low = sym (eqb-true k.ends.low (ends_of s).low e.0) j; high = sym (eqb-true k.ends.high (ends_of s).high e.1) j })
 
-pub merging_found : (ps : List Point) (c : Complex) (list : List FacetSide) (down : List ℕ) (m : Groups) → HasDistinctPoints ps → HasCornersOf ps c → AreSidesOf c list
+pub merging_found : (ps : List Point) (c : Complex) (list : List FacetSide) (down : List ℕ) (m : Groups) → HasDistinctPoints ps → HasCornersOf ps c → AreFacetSidesOf c list
     → HasFound ps c list (length list) down m.inner → length m.least ≡ length down
     → ((label : ℕ → ℕ) → AreLabels down label → (i : ℕ) → i < length m.least → get_or m.least i 0 ≡ label i) → IsMerging ps c (group_of m) (is_inner m)
 merging_found ps c list down m distinct corners listed found long settled = record { groups = groups; sides_of = sides_of }
@@ -136,7 +136,7 @@ merging_found ps c list down m distinct corners listed found long settled = reco
     label : ℕ → ℕ
     label = found.0
 
-    sound : IsSound ps c down m.inner found.0
+    sound : IsSoundForest ps c down m.inner found.0
     sound = found.1.sound
 
     at : (f : ℕ) → f < length c.facets → group_of m f ≡ found.0 f

@@ -12,8 +12,8 @@ use Rattle.merge_laws.specs.Merged.{AreJoined, AreChained, alone, onward, IsInne
 use Rattle.merge_laws.proofs.Groups.{law_joined_back}
 use Rattle.piece_set.proofs.Found.{SameEnds, same_of, by_order}
 use Rattle.merged_facets.specs.Labels.{IsForest, AreLabels, joined_label}
-use Rattle.merged_facets.specs.FacetSides.{facet_side, ends_of, ends_at, IsPair, AreSidesOf, IsLastBefore}
-use Rattle.merged_facets.specs.Merging.{inner_side, WithInner, IsNoted, Grows, NotesPair, side_at, IsBehind, AreNotedBehind, IsFound, HasFound}
+use Rattle.merged_facets.specs.FacetSides.{facet_side, ends_of, ends_at, IsPair, AreFacetSidesOf, IsLastBefore}
+use Rattle.merged_facets.specs.Merging.{inner_side, WithInner, IsNoted, Grows, NotesPair, facet_side_at, IsBehind, AreNotedBehind, AreInnerFound, HasFound}
 use Rattle.merged_facets.specs.declared.sides.FacetSide.{FacetSide}
 use Rattle.merged_facets.specs.declared.sides.Ends.{Ends}
 use Rattle.merged_facets.specs.declared.merging.InnerSide.{InnerSide}
@@ -176,7 +176,7 @@ before_after : (a b : ℕ) → (a < b) ⊎ ((a ≡ b) ⊎ (b < a))
 before_after a b = grind arith
 
 pub behind_more : (ps : List Point) (c : Complex) (list : List FacetSide) (i m : ℕ) (o : Option ℕ) (inner inner' : List InnerSide) (label label' : ℕ → ℕ) → ends_at list m ≡ ends_at list i
-    → IsLastBefore list m (ends_at list m) o → AreNotedBehind ps c list i (Some m) inner label → Grows inner label inner' label' → IsNoted ps c inner' label' (side_at list i) (side_at list m)
+    → IsLastBefore list m (ends_at list m) o → AreNotedBehind ps c list i (Some m) inner label → Grows inner label inner' label' → IsNoted ps c inner' label' (facet_side_at list i) (facet_side_at list m)
     → AreNotedBehind ps c list i o inner' label'
 behind_more ps c list i m o inner inner' label label' same last old g pair = λ j l b e. go j l b e (before_after j m)
   where
@@ -184,14 +184,14 @@ behind_more ps c list i m o inner inner' label label' same last old g pair = λ 
     none None j h l b e = h j l e
     none (Some k) j h l b e = h.2 j b l e
 
-    go : (j : ℕ) → j < i → IsBehind o j → ends_at list j ≡ ends_at list i → (j < m) ⊎ ((j ≡ m) ⊎ (m < j)) → IsNoted ps c inner' label' (side_at list i) (side_at list j)
+    go : (j : ℕ) → j < i → IsBehind o j → ends_at list j ≡ ends_at list i → (j < m) ⊎ ((j ≡ m) ⊎ (m < j)) → IsNoted ps c inner' label' (facet_side_at list i) (facet_side_at list j)
     go j l b e (inl before) = absurd (none o j last before b (e ∙ sym same))
-    go j l b e (inr (inl at)) = subst (λ (k : ℕ). IsNoted ps c inner' label' (side_at list i) (side_at list k)) (sym at) pair
-    go j l b e (inr (inr after)) = grown ps c inner inner' label label' (side_at list i) (side_at list j) g (old j l after e)
+    go j l b e (inr (inl at)) = subst (λ (k : ℕ). IsNoted ps c inner' label' (facet_side_at list i) (facet_side_at list k)) (sym at) pair
+    go j l b e (inr (inr after)) = grown ps c inner inner' label label' (facet_side_at list i) (facet_side_at list j) g (old j l after e)
 
 -- while the earlier ones are gone over
 pub record IsNoting (ps : List Point) (c : Complex) (list : List FacetSide) (i : ℕ) (next : Option ℕ) (down : List ℕ) (inner : List InnerSide) (label : ℕ → ℕ) : Type 0 where
-  pub found : IsFound ps c list i down inner label
+  pub found : AreInnerFound ps c list i down inner label
   pub behind : AreNotedBehind ps c list i next inner label
 
 abbrev pub HasNoting : List Point → Complex → List FacetSide → ℕ → Option ℕ → List ℕ → List InnerSide → Type 0
@@ -227,16 +227,16 @@ pub noting_first : (ps : List Point) (c : Complex) (list : List FacetSide) (i : 
 noting_first ps c list i o down inner last h = (h.0, record { found = h.1; behind = behind_first ps c list i o inner h.0 last })
 
 pub noting_more : (ps : List Point) (c : Complex) (list : List FacetSide) (i m : ℕ) (o : Option ℕ) (x y : FacetSide) (down down' : List ℕ) (inner inner' : List InnerSide)
-    → side_at list i ≡ x → side_at list m ≡ y → ends_at list m ≡ ends_at list i → IsLastBefore list m (ends_at list m) o → NotesPair ps c x y down inner down' inner'
+    → facet_side_at list i ≡ x → facet_side_at list m ≡ y → ends_at list m ≡ ends_at list i → IsLastBefore list m (ends_at list m) o → NotesPair ps c x y down inner down' inner'
     → HasNoting ps c list i (Some m) down inner → HasNoting ps c list i o down' inner'
 noting_more ps c list i m o x y down down' inner inner' ex ey same last put h =
     let n = put h.0 h.1.found.sound in (
       n.0,
       record {
-        found = record { sound = n.1; noted = λ k l j b u e. grown ps c inner inner' h.0 n.0 (side_at list k) (side_at list j) n.2 (h.1.found.noted k l j b u e) };
+        found = record { sound = n.1; noted = λ k l j b u e. grown ps c inner inner' h.0 n.0 (facet_side_at list k) (facet_side_at list j) n.2 (h.1.found.noted k l j b u e) };
         behind =
             behind_more ps c list i m o inner inner' h.0 n.0 same last h.1.behind n.2
-            (subst (λ (z : FacetSide). IsNoted ps c inner' n.0 z (side_at list m)) (sym ex) (subst (λ (z : FacetSide). IsNoted ps c inner' n.0 x z) (sym ey) n.3));
+            (subst (λ (z : FacetSide). IsNoted ps c inner' n.0 z (facet_side_at list m)) (sym ex) (subst (λ (z : FacetSide). IsNoted ps c inner' n.0 x z) (sym ey) n.3));
       },
     )
 
@@ -250,10 +250,10 @@ noting_all ps c list i down inner h = (h.0, record { sound = h.1.found.sound; no
     go k (inl less) = h.1.found.noted k less
     go k (inr e) = subst (λ (n : ℕ). AreNotedBehind ps c list n None inner h.0) (sym e) h.1.behind
 
-pub pair_of : (c : Complex) (list : List FacetSide) (i m : ℕ) (x y : FacetSide) → AreSidesOf c list → i < length list → m < i → side_at list i ≡ x → side_at list m ≡ y → ends_at list m ≡ ends_at list i
+pub pair_of : (c : Complex) (list : List FacetSide) (i m : ℕ) (x y : FacetSide) → AreFacetSidesOf c list → i < length list → m < i → facet_side_at list i ≡ x → facet_side_at list m ≡ y → ends_at list m ≡ ends_at list i
     → IsPair c x y
 pair_of c list i m x y h li lm ex ey e = record {
-  first = h.each x (subst (λ (z : FacetSide). Contains list z) ex (contains_of list (side_at list i) (at_place list i (facet_side 0 (piece 0 0 0)) li)));
-  second = h.each y (subst (λ (z : FacetSide). Contains list z) ey (contains_of list (side_at list m) (at_place list m (facet_side 0 (piece 0 0 0)) (omega arith))));
+  first = h.each x (subst (λ (z : FacetSide). Contains list z) ex (contains_of list (facet_side_at list i) (at_place list i (facet_side 0 (piece 0 0 0)) li)));
+  second = h.each y (subst (λ (z : FacetSide). Contains list z) ey (contains_of list (facet_side_at list m) (at_place list m (facet_side 0 (piece 0 0 0)) (omega arith))));
   same = sym (ap (λ (z : FacetSide). ends_of z.side) ey) ∙ e ∙ ap (λ (z : FacetSide). ends_of z.side) ex;
 }

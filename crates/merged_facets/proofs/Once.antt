@@ -15,7 +15,7 @@ use Rattle.facet_laws.proofs.Pieces.{points_differ}
 use Rattle.merge_laws.specs.Merged.{MeetsOthers}
 use Rattle.piece_set.proofs.Polygons.{sides_before, IsNext, before_more, all_sides}
 use Rattle.simplex_meets.specs.Proper.{IsSegment}
-use Rattle.merged_facets.specs.Beside.{IsSideAmong, HasOnce}
+use Rattle.merged_facets.specs.Beside.{IsSideAmong, HasSideOnce}
 
 -- a side with other ends is properly met
 abbrev pub IsMetApart : List Point → Piece → Piece → Type 0
@@ -91,7 +91,7 @@ counted_none ps s polygon k places new h e is = record {
   met = subst (λ (xs : List Piece). AllByRecursion (IsMetApart ps s) xs) (sym e) h.met;
 }
 
-pub counted_all : (ps : List Point) (s : Piece) (polygon : List ℕ) (k places : ℕ) → IsCounted ps s polygon k places → k ≡ length polygon → IsTrue (nat_eq places 1) ↔ HasOnce ps s polygon
+pub counted_all : (ps : List Point) (s : Piece) (polygon : List ℕ) (k places : ℕ) → IsCounted ps s polygon k places → k ≡ length polygon → IsTrue (nat_eq places 1) ↔ HasSideOnce ps s polygon
 counted_all ps s polygon k places h e = (
   λ t. record { once = ap (count_by (same_ends s)) (sym (all_sides polygon k e)) ∙ sym h.counted ∙ eqb-true places 1 t; met = subst (λ (xs : List Piece). AllByRecursion (IsMetApart ps s) xs) (all_sides polygon k e) h.met },
   λ o. eq-eqb places 1 (h.counted ∙ ap (count_by (same_ends s)) (all_sides polygon k e) ∙ o.once),

@@ -8,7 +8,7 @@ use Rattle.geo_laws.specs.Facet.{Facet}
 use Rattle.geo_laws.specs.Complex.{Polygon, Complex, flat_facet, facets}
 use Rattle.geo_laws.specs.declared.complex.Facet.{Facet as StoredFacet}
 use Rattle.merge_laws.specs.Merged.{no_facet, merged_facet}
-use Rattle.merged_facets.specs.MergedComplex.{IsFirstFrom, AreChains, AreNone, IsMaking, HasParts, with_parts}
+use Rattle.merged_facets.specs.MergedComplex.{IsFirstFrom, AreMemberChains, AreNone, IsMaking, HasParts, with_parts}
 use Rattle.merged_facets.proofs.Outer.{append_nil, numbered, numbered_at, numbered_length}
 use Rattle.merged_facets.proofs.Parts.{no_parts, parts_then}
 
@@ -35,7 +35,7 @@ none_more n list new h put = subst (AreNone (n + 1)) (sym put) (record { long = 
     by (x ∷ xs) zero e = e
     by (x ∷ xs) (suc k) e = by xs k e
 
-pub no_chains : (group : ℕ → ℕ) (n : ℕ) (first next : List (Option ℕ)) → AreNone n first → AreNone n next → AreChains group n n first next
+pub no_chains : (group : ℕ → ℕ) (n : ℕ) (first next : List (Option ℕ)) → AreNone n first → AreNone n next → AreMemberChains group n n first next
 no_chains group n first next one two = record {
   first_long = one.long;
   next_long = two.long;
@@ -43,8 +43,8 @@ no_chains group n first next one two = record {
   next_is = λ g l u. absurd (omega arith);
 }
 
-pub chain_more : (group : ℕ → ℕ) (n g : ℕ) (first next : List (Option ℕ)) → g < n → group g < n → AreChains group n (g + 1) first next
-    → AreChains group n g (set first (group g) (Some g)) (set next g (get_or first (group g) None))
+pub chain_more : (group : ℕ → ℕ) (n g : ℕ) (first next : List (Option ℕ)) → g < n → group g < n → AreMemberChains group n (g + 1) first next
+    → AreMemberChains group n g (set first (group g) (Some g)) (set next g (get_or first (group g) None))
 chain_more group n g first next h l so = record {
   first_long = length-set first (group g) (Some g) ∙ so.first_long;
   next_long = length-set next g (get_or first (group g) None) ∙ so.next_long;
@@ -98,13 +98,13 @@ chain_more group n g first next h l so = record {
         by (inr (inr more)) = absurd (omega arith)
 
 -- the facet i from behind put first in its group
-pub chain_step : (group : ℕ → ℕ) (n i r : ℕ) (first next : List (Option ℕ)) (o : Option ℕ) → i < n → r ≡ group (n - 1 - i) → group (n - 1 - i) ≤ n - 1 - i → o ≡ get_or first r o → AreChains group n (n - i) first next
-    → AreChains group n (n - (i + 1)) (set first r (Some (n - 1 - i))) (set next (n - 1 - i) o)
+pub chain_step : (group : ℕ → ℕ) (n i r : ℕ) (first next : List (Option ℕ)) (o : Option ℕ) → i < n → r ≡ group (n - 1 - i) → group (n - 1 - i) ≤ n - 1 - i → o ≡ get_or first r o → AreMemberChains group n (n - i) first next
+    → AreMemberChains group n (n - (i + 1)) (set first r (Some (n - 1 - i))) (set next (n - 1 - i) o)
 chain_step group n i r first next o l is least found so =
-    subst (λ r. AreChains group n (n - (i + 1)) (set first r (Some g)) (set next g o)) (sym is)
-    (subst (λ o. AreChains group n (n - (i + 1)) (set first (group g) (Some g)) (set next g o)) (found_at first (group g) o (omega (arith, so.first_long)) (subst (λ r. o ≡ get_or first r o) is found))
-    (subst (λ m. AreChains group n m (set first (group g) (Some g)) (set next g (get_or first (group g) None))) here
-    (chain_more group n g first next (omega arith) (omega arith) (subst (λ m. AreChains group n m first next) above so))))
+    subst (λ r. AreMemberChains group n (n - (i + 1)) (set first r (Some g)) (set next g o)) (sym is)
+    (subst (λ o. AreMemberChains group n (n - (i + 1)) (set first (group g) (Some g)) (set next g o)) (found_at first (group g) o (omega (arith, so.first_long)) (subst (λ r. o ≡ get_or first r o) is found))
+    (subst (λ m. AreMemberChains group n m (set first (group g) (Some g)) (set next g (get_or first (group g) None))) here
+    (chain_more group n g first next (omega arith) (omega arith) (subst (λ m. AreMemberChains group n m first next) above so))))
   where
     g : ℕ
     g = n - 1 - i

@@ -7,7 +7,7 @@ use Rattle.sign_predicates.specs.declared.tetrahedron.Sign.TheVariants.{Below, Z
 use Rattle.geo_laws.specs.Delaunay.{point}
 use Rattle.geo_laws.specs.Facet.{Facet, IsFlat, spans_plane}
 use Rattle.geo_laws.specs.declared.complex.Piece.{Piece}
-use Rattle.merge_laws.specs.Merged.{has_span, alike_turned, IsOnOneSide, AreOnEitherSide, places_of, MeetsOthers}
+use Rattle.merge_laws.specs.Merged.{has_span, alike_turned, AreOnOneSideOf, AreOnEitherSide, places_of, MeetsOthers}
 
 -- the facet of one polygon
 abbrev pub one_facet : List ℕ → Facet
@@ -56,7 +56,7 @@ not_above Zero = true
 not_above Above = false
 
 -- the polygon has the side at one place, and its other sides are properly met with it
-pub record HasOnce (ps : List Point) (s : Piece) (p : List ℕ) : Type 0 where
+pub record HasSideOnce (ps : List Point) (s : Piece) (p : List ℕ) : Type 0 where
   pub once : places_of s p ≡ 1
   pub met : MeetsOthers ps s p
 
@@ -67,8 +67,8 @@ pub record AreBeside (ps : List Point) (s : Piece) (p q : List ℕ) : Type 0 whe
   pub flat : IsFlat ps (two_facet p q)
   pub once_in_first : places_of s p ≡ 1
   pub once_in_second : places_of s q ≡ 1
-  pub first_beside : IsOnOneSide ps s p
-  pub second_beside : IsOnOneSide ps s q
+  pub first_beside : AreOnOneSideOf ps s p
+  pub second_beside : AreOnOneSideOf ps s q
   pub either_side : AreOnEitherSide ps s p q
   pub first_met : MeetsOthers ps s p
   pub second_met : MeetsOthers ps s q

@@ -14,29 +14,25 @@ facet_side f s = record { facet = f; side = s }
 abbrev pub ends_of : Piece → Ends
 ends_of s = record { low = min s.a s.b; high = max s.a s.b }
 
--- the corners of all polygons are numbers of points
-abbrev pub HasCornersOf : List Point → Complex → Type 0
-HasCornersOf ps c = All (λ p. All (λ i. i < length ps) p.corners) c.polygons
-
 -- it is a side of its facet's polygon
-pub record IsSideOf (c : Complex) (e : FacetSide) : Type 0 where
+pub record IsFacetSideOf (c : Complex) (e : FacetSide) : Type 0 where
   pub there : e.facet < length c.facets
   pub side_of : Contains (sides (only_polygon (facet_at c e.facet))) e.side
 
 -- two sides of facets with the same ends
 pub record IsPair (c : Complex) (x y : FacetSide) : Type 0 where
-  pub first : IsSideOf c x
-  pub second : IsSideOf c y
+  pub first : IsFacetSideOf c x
+  pub second : IsFacetSideOf c y
   pub same : ends_of y.side ≡ ends_of x.side
 
 -- the list has those of the facets below n
 pub record AreSidesBelow (c : Complex) (n : ℕ) (list : List FacetSide) : Type 0 where
-  pub each : (e : FacetSide) → Contains list e → IsSideOf c e
+  pub each : (e : FacetSide) → Contains list e → IsFacetSideOf c e
   pub all : (f : ℕ) (s : Piece) → f < n → Contains (sides (only_polygon (facet_at c f))) s → Contains list (facet_side f s)
 
 -- and those of all facets
-abbrev pub AreSidesOf : Complex → List FacetSide → Type 0
-AreSidesOf c list = AreSidesBelow c (length c.facets) list
+abbrev pub AreFacetSidesOf : Complex → List FacetSide → Type 0
+AreFacetSidesOf c list = AreSidesBelow c (length c.facets) list
 
 -- the ends of the side at a place
 abbrev pub ends_at : List FacetSide → ℕ → Ends

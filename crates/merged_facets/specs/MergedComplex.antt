@@ -25,7 +25,7 @@ IsFirstFrom group n k from None = (h : ℕ) → from ≤ h → h < n → group h
 IsFirstFrom group n k from (Some g) = (from ≤ g) × (g < n) × (group g ≡ k) × ((h : ℕ) → from ≤ h → h < g → group h ≢ k)
 
 -- for each group its first member from one number on, and for each number from there on the next one of its group
-pub record AreChains (group : ℕ → ℕ) (n from : ℕ) (first next : List (Option ℕ)) : Type 0 where
+pub record AreMemberChains (group : ℕ → ℕ) (n from : ℕ) (first next : List (Option ℕ)) : Type 0 where
   pub first_long : length first ≡ n
   pub next_long : length next ≡ n
   pub first_is : (k : ℕ) → k < n → IsFirstFrom group n k from (get_or first k None)

@@ -40,7 +40,7 @@ pub record WithInner (old : List InnerSide) (k : InnerSide) (new : List InnerSid
   pub only : (e : InnerSide) → Contains new e → Contains old e ⊎ (e ≡ k)
 
 -- each facet is joined in a chain with its label, and each side that is noted is inner
-pub record IsSound (ps : List Point) (c : Complex) (down : List ℕ) (inner : List InnerSide) (label : ℕ → ℕ) : Type 0 where
+pub record IsSoundForest (ps : List Point) (c : Complex) (down : List ℕ) (inner : List InnerSide) (label : ℕ → ℕ) : Type 0 where
   pub forest : IsForest down
   pub long : length down ≡ length c.facets
   pub labels : AreLabels down label
@@ -61,11 +61,11 @@ pub record Grows (old : List InnerSide) (label : ℕ → ℕ) (new : List InnerS
 abbrev pub NotesPair : List Point → Complex → FacetSide → FacetSide → List ℕ → List InnerSide → List ℕ → List InnerSide
     → Type 0
 NotesPair ps c x y down inner down' inner' =
-    (label : ℕ → ℕ) → IsSound ps c down inner label
-    → (label' : ℕ → ℕ) × IsSound ps c down' inner' label' × Grows inner label inner' label' × IsNoted ps c inner' label' x y
+    (label : ℕ → ℕ) → IsSoundForest ps c down inner label
+    → (label' : ℕ → ℕ) × IsSoundForest ps c down' inner' label' × Grows inner label inner' label' × IsNoted ps c inner' label' x y
 
-abbrev pub side_at : List FacetSide → ℕ → FacetSide
-side_at list i = get_or list i (facet_side 0 (piece 0 0 0))
+abbrev pub facet_side_at : List FacetSide → ℕ → FacetSide
+facet_side_at list i = get_or list i (facet_side 0 (piece 0 0 0))
 
 -- a place is behind another one, or there is no other
 abbrev pub IsBehind : Option ℕ → ℕ → Type 0
@@ -75,17 +75,17 @@ IsBehind (Some m) j = m < j
 -- the side at i is noted with each earlier one with the same ends that is behind a place
 abbrev pub AreNotedBehind : List Point → Complex → List FacetSide → ℕ → Option ℕ → List InnerSide → (ℕ → ℕ) → Type 0
 AreNotedBehind ps c list i next inner label =
-    (j : ℕ) → j < i → IsBehind next j → ends_at list j ≡ ends_at list i → IsNoted ps c inner label (side_at list i) (side_at list j)
+    (j : ℕ) → j < i → IsBehind next j → ends_at list j ≡ ends_at list i → IsNoted ps c inner label (facet_side_at list i) (facet_side_at list j)
 
 -- each side before i is noted with each earlier one with the same ends
 abbrev pub AreNotedBelow : List Point → Complex → List FacetSide → ℕ → List InnerSide → (ℕ → ℕ) → Type 0
 AreNotedBelow ps c list i inner label = (k : ℕ) → k < i → AreNotedBehind ps c list k None inner label
 
 -- what is found once the sides before i are noted
-pub record IsFound (ps : List Point) (c : Complex) (list : List FacetSide) (i : ℕ) (down : List ℕ) (inner : List InnerSide)
+pub record AreInnerFound (ps : List Point) (c : Complex) (list : List FacetSide) (i : ℕ) (down : List ℕ) (inner : List InnerSide)
     (label : ℕ → ℕ) : Type 0 where
-  pub sound : IsSound ps c down inner label
+  pub sound : IsSoundForest ps c down inner label
   pub noted : AreNotedBelow ps c list i inner label
 
 abbrev pub HasFound : List Point → Complex → List FacetSide → ℕ → List ℕ → List InnerSide → Type 0
-HasFound ps c list i down inner = (label : ℕ → ℕ) × IsFound ps c list i down inner label
+HasFound ps c list i down inner = (label : ℕ → ℕ) × AreInnerFound ps c list i down inner label

@@ -6,7 +6,7 @@ ghost use Rattle.geo_laws.specs.Facet.{IsFlat};
 ghost use Rattle.geo_laws.specs.Segment.{same_ends};
 ghost use Rattle.merge_laws.specs.Merged.{alike_turned};
 ghost use Rattle.merged_facets.specs.Beside.{one_facet, is_off, not_below, not_above, AreBeside};
-ghost use Rattle.merged_facets.specs.Beside.{LieInPlane, LieBeside, LieAcross, HasOnce};
+ghost use Rattle.merged_facets.specs.Beside.{LieInPlane, LieBeside, LieAcross, HasSideOnce};
 ghost use Rattle.merged_facets.specs.Beside.{IsSideAmong, IsOffCorner};
 
 use geo_laws::{Piece, Points, Side};
@@ -183,7 +183,7 @@ fn has_once(points: &Points, s: Piece, corners: &[u32]) -> bool
     requires there { IsSideAmong points.now s }
     requires distinct { HasDistinctPoints points.now }
     requires corners { All (λ i. i < length points.now) corners.now }
-    ensures { IsTrue result ↔ HasOnce points.now s corners.now }
+    ensures { IsTrue result ↔ HasSideOnce points.now s corners.now }
 {
     let mut places = 0usize;
     for k in 0..corners.len() {
@@ -206,7 +206,7 @@ fn have_once(points: &Points, s: Piece, p: &[u32], q: &[u32]) -> bool
     requires distinct { HasDistinctPoints points.now }
     requires p_corners { All (λ i. i < length points.now) p.now }
     requires q_corners { All (λ i. i < length points.now) q.now }
-    ensures { IsTrue result ↔ (HasOnce points.now s p.now × HasOnce points.now s q.now) }
+    ensures { IsTrue result ↔ (HasSideOnce points.now s p.now × HasSideOnce points.now s q.now) }
 {
     if has_once(points, s, p) {
         has_once(points, s, q)

@@ -1,7 +1,7 @@
 //! The members of each group of facets, one after another.
 ghost use Rattle.std.specs.Prelude.{◌≡◌, ◌<◌, ◌≤◌, ℕ, IfOk};
 ghost use Rattle.merged_facets.specs.Merging.{group_of};
-ghost use Rattle.merged_facets.specs.MergedComplex.{AreNone, AreChains};
+ghost use Rattle.merged_facets.specs.MergedComplex.{AreNone, AreMemberChains};
 
 use crate::Merging;
 use std::alloc::Global;
@@ -28,7 +28,7 @@ fn nothing(alloc: Global, count: u32) -> Result<Vec<Option<u32>>, NoMemory>
 /// The members of each group of so many facets.
 pub(crate) fn chained(alloc: Global, merging: &Merging, count: u32) -> Result<Chains, NoMemory>
     requires { (f : ℕ) → f < count → group_of merging.now f ≤ f }
-    ensures { IfOk result (λ c. AreChains
+    ensures { IfOk result (λ c. AreMemberChains
         (group_of merging.now) count 0 c.first.items c.next.items) }
 {
     let mut first = nothing(alloc, count)?;

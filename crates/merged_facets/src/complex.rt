@@ -3,7 +3,7 @@ ghost use Rattle.std.specs.Prelude.{◌≡◌, ◌<◌, ◌≤◌, ℕ, [], leng
 ghost use Rattle.geo_laws.specs.Complex.{flat_facet};
 ghost use Rattle.merge_laws.specs.Merged.{merged_facet};
 ghost use Rattle.merged_facets.specs.Merging.{group_of};
-ghost use Rattle.merged_facets.specs.MergedComplex.{IsFirstFrom, AreChains, IsMaking, HasParts};
+ghost use Rattle.merged_facets.specs.MergedComplex.{IsFirstFrom, AreMemberChains, IsMaking, HasParts};
 ghost use Rattle.merged_facets.specs.MergedComplex.{with_polygons, with_holes, IsMergedComplex};
 
 use crate::Merging;
@@ -68,7 +68,7 @@ fn add_members(
     requires making { IsMaking complex.now.polygons made.old }
     requires last { 0 < length made.old.facets }
     requires there { group < length complex.now.facets }
-    requires chains { AreChains (group_of merging.now) (length complex.now.facets) 0
+    requires chains { AreMemberChains (group_of merging.now) (length complex.now.facets) 0
         chains.now.first.items chains.now.next.items }
     ensures { OnOk result (HasParts complex.now.polygons made.old
         (merged_facet (group_of merging.now) complex.now group) made.new) }

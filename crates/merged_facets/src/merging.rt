@@ -1,13 +1,12 @@
 //! Which facets of a complex are one facet, and which of their sides are inner.
 ghost use Rattle.std.specs.Prelude.{◌≡◌, ◌↔◌, ◌<◌, ◌+◌, ℕ, IsTrue, length, All, IfOk, OnOk};
 ghost use Rattle.geo_laws.specs.Delaunay.{HasDistinctPoints};
-ghost use Rattle.geo_laws.specs.Complex.{facets};
+ghost use Rattle.geo_laws.specs.Complex.{facets, HasCornersOf};
 ghost use Rattle.geo_laws.specs.Facet.{IsFlat};
 ghost use Rattle.merge_laws.specs.Merged.{IsMerging, AreJoined};
 ghost use Rattle.merged_facets.specs.Labels.{IsIdentity};
-ghost use Rattle.merged_facets.specs.FacetSides.{AreSidesOf, AreEarlier, IsSideOf, IsPair};
-ghost use Rattle.merged_facets.specs.FacetSides.{HasCornersOf};
-ghost use Rattle.merged_facets.specs.Merging.{group_of, is_inner, inner_side, WithInner, IsSound};
+ghost use Rattle.merged_facets.specs.FacetSides.{AreFacetSidesOf, AreEarlier, IsFacetSideOf, IsPair};
+ghost use Rattle.merged_facets.specs.Merging.{group_of, is_inner, inner_side, WithInner, IsSoundForest};
 ghost use Rattle.merged_facets.specs.Merging.{NotesPair, HasFound};
 
 use crate::beside::are_beside;
@@ -74,8 +73,8 @@ fn are_joined(points: &Points, complex: &Complex, x: FacetSide, y: FacetSide) ->
     requires corners { HasCornersOf points.now complex.now }
     requires flat { All (IsFlat points.now) (facets complex.now) }
     requires distinct { HasDistinctPoints points.now }
-    requires x_is { IsSideOf complex.now x }
-    requires y_is { IsSideOf complex.now y }
+    requires x_is { IsFacetSideOf complex.now x }
+    requires y_is { IsFacetSideOf complex.now y }
     ensures { IsTrue result ↔ AreJoined points.now complex.now x.side x.facet y.facet }
 {
     if same_marker(marker(complex, x.facet), marker(complex, y.facet)) {
@@ -100,7 +99,7 @@ fn note_pair(
     requires distinct { HasDistinctPoints points.now }
     requires pair { IsPair complex.now x y }
     requires sound { (label : ℕ → ℕ)
-        × IsSound points.now complex.now found.old.down.items found.old.inner.keys label }
+        × IsSoundForest points.now complex.now found.old.down.items found.old.inner.keys label }
     ensures { OnOk result (NotesPair points.now complex.now x y
         found.old.down.items found.old.inner.keys found.new.down.items found.new.inner.keys) }
 {
@@ -124,7 +123,7 @@ fn note_earlier(
     requires corners { HasCornersOf points.now complex.now }
     requires flat { All (IsFlat points.now) (facets complex.now) }
     requires distinct { HasDistinctPoints points.now }
-    requires sides { AreSidesOf complex.now list.now }
+    requires sides { AreFacetSidesOf complex.now list.now }
     requires earlier { AreEarlier list.now earlier.now }
     requires there { i < length list.now }
     requires found { HasFound points.now complex.now list.now i
@@ -151,7 +150,7 @@ fn note_all(
     requires corners { HasCornersOf points.now complex.now }
     requires flat { All (IsFlat points.now) (facets complex.now) }
     requires distinct { HasDistinctPoints points.now }
-    requires sides { AreSidesOf complex.now list.now }
+    requires sides { AreFacetSidesOf complex.now list.now }
     requires earlier { AreEarlier list.now earlier.now }
     requires found { HasFound points.now complex.now list.now 0
         found.old.down.items found.old.inner.keys }
@@ -185,7 +184,7 @@ fn merging_by(
     requires corners { HasCornersOf points.now complex.now }
     requires flat { All (IsFlat points.now) (facets complex.now) }
     requires distinct { HasDistinctPoints points.now }
-    requires sides { AreSidesOf complex.now list.now }
+    requires sides { AreFacetSidesOf complex.now list.now }
     ensures { IfOk result (λ m. IsMerging points.now complex.now (group_of m) (is_inner m)) }
 {
     let earlier = earlier_alike(alloc, list)?;

@@ -2,7 +2,7 @@
 ghost use Rattle.std.specs.Prelude.{◌≡◌, ◌<◌, ◌≤◌, ◌++◌, length, map, All, IfOk, OnOk};
 ghost use Rattle.std.specs.Prelude.{◌==◌, ◌&&◌};
 ghost use Rattle.geo_laws.specs.Segment.{sides};
-ghost use Rattle.merged_facets.specs.FacetSides.{facet_side, ends_of, AreSidesOf, AreEarlier};
+ghost use Rattle.merged_facets.specs.FacetSides.{facet_side, ends_of, AreFacetSidesOf, AreEarlier};
 
 use crate::polygon::only_polygon;
 use geo_laws::{Complex, Piece};
@@ -51,7 +51,7 @@ fn add_sides(list: &mut Items<FacetSide>, facet: u32, corners: &[u32]) -> Result
 
 /// The sides of all facets that may be joined.
 pub(crate) fn facet_sides(alloc: Global, complex: &Complex) -> Result<Items<FacetSide>, NoMemory>
-    ensures { IfOk result (AreSidesOf complex.now) }
+    ensures { IfOk result (AreFacetSidesOf complex.now) }
 {
     let mut list = Items::new(alloc);
     for facet in 0..complex.facet_count() {

@@ -4,7 +4,7 @@ use Rattle.std.proofs.lemmas.Bool.{cases_eq, cases_lt}
 use Rattle.mesh_arena.specs.declared.slot.Corner.{Corner}
 use Rattle.mesh_arena.specs.declared.arena.SlotFace.{SlotFace}
 use Rattle.mesh_arena.specs.declared.slot.RimFace.{RimFace}
-use Rattle.mesh_arena.specs.Mesh.{SlotValue, tet_at, corners_at, corner_in, IsLive, side_in, side, at, Off}
+use Rattle.mesh_arena.specs.Mesh.{SlotValue, tet_at, corners_at, corner_in, IsLive, side_in, link_behind, at, Off}
 use Rattle.mesh_arena.specs.Star.{behind, rim_at, face_side, behind_rim}
 use Rattle.mesh_arena.specs.declared.star.StarSlot.{StarSlot}
 use Rattle.mesh_arena.specs.Surgery.{star_at, star_corners, FitsFace, AddsOver, CanAdd, IsOver, AddsStar}
@@ -15,7 +15,7 @@ pub free_from_dead : (o : Option (List Corner)) → (IsSome o → ⊥) → o ≡
 free_from_dead None dead = refl
 free_from_dead (Some cs) dead = absurd (dead refl)
 
-pub live_by_side : (slots : List (Option SlotValue)) (u k : ℕ) (b : SlotFace) → side slots u k ≡ Some b → IsLive slots u
+pub live_by_side : (slots : List (Option SlotValue)) (u k : ℕ) (b : SlotFace) → link_behind slots u k ≡ Some b → IsLive slots u
 live_by_side slots u k b e = by_tet (tet_at slots u) e
   where
     by_tet : (o : Option SlotValue) → side_in o k ≡ Some b → IsSome (option_map (λ (t : SlotValue). t.corners) o)
@@ -80,7 +80,7 @@ module _ (first now : List (Option SlotValue)) (rim : List RimFace) (star : List
     pub same_star : (r : ℕ) → r < n → behind_rim next rim r ≡ behind_rim now rim r
     same_star r h = ap behind (added_before r h)
 
-    star_side : (r k : ℕ) → r < n → side next (behind_rim now rim r).slot k ≡ side now (behind_rim now rim r).slot k
+    star_side : (r k : ℕ) → r < n → link_behind next (behind_rim now rim r).slot k ≡ link_behind now (behind_rim now rim r).slot k
     star_side r k h = adds.others _ _ (inl (star_not_live r _ h (can.live n lt))) (star_not_made r h)
 
     -- a slot that was added before
@@ -88,7 +88,7 @@ module _ (first now : List (Option SlotValue)) (rim : List RimFace) (star : List
     over_before r h =
         let o = was.over r h in
         let face = (star_at star r).face in
-        let P : SlotFace → Type 0 = λ x. (face_side next (rim_at rim r) ≡ Some (at x.slot face)) × (corners_at first x.slot ≡ None) × (corners_at next x.slot ≡ Some (star_corners star r)) × ((k : ℕ) → k ≢ face → side next x.slot k ≡ None) in
+        let P : SlotFace → Type 0 = λ x. (face_side next (rim_at rim r) ≡ Some (at x.slot face)) × (corners_at first x.slot ≡ None) × (corners_at next x.slot ≡ Some (star_corners star r)) × ((k : ℕ) → k ≢ face → link_behind next x.slot k ≡ None) in
         let all : P (behind_rim next rim r) = subst P (sym (same_star r h)) (
           added_before r h ∙ o.is,
           o.fresh,
@@ -100,7 +100,7 @@ module _ (first now : List (Option SlotValue)) (rim : List RimFace) (star : List
     over_new : IsOver first next rim star n
     over_new =
         let face = (star_at star n).face in
-        let P : SlotFace → Type 0 = λ x. (face_side next (rim_at rim n) ≡ Some (at x.slot face)) × (corners_at first x.slot ≡ None) × (corners_at next x.slot ≡ Some (star_corners star n)) × ((k : ℕ) → k ≢ face → side next x.slot k ≡ None) in
+        let P : SlotFace → Type 0 = λ x. (face_side next (rim_at rim n) ≡ Some (at x.slot face)) × (corners_at first x.slot ≡ None) × (corners_at next x.slot ≡ Some (star_corners star n)) × ((k : ℕ) → k ≢ face → link_behind next x.slot k ≡ None) in
         let all : P (behind_rim next rim n) = subst P (sym new_inner) (
           adds.to,
           free_from_dead (corners_at first made) (λ live. not_made made live refl),

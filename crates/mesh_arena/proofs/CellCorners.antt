@@ -1,7 +1,7 @@
 -- How a cell keeps the corners of a slot: the numbers of points, but where a link tells the point at infinity.
 use Rattle.std.proofs.Common.{◌≡◌, ℕ, zero, suc, ◌<◌, true, false, List, [], ◌∷◌, length, get_or, refl, arith}
 use Rattle.mesh_arena.specs.declared.slot.Corner.TheVariants.{Point as Numbered, Ghost}
-use Rattle.mesh_arena.specs.Mesh.{numbered}
+use Rattle.mesh_arena.specs.Mesh.{numbered_corners}
 use Rattle.mesh_arena.specs.Cells.{corner_with, corners_in, is_infinite}
 
 finite_corner : (number link : ℕ) → is_infinite link ≡ false → corner_with number link ≡ Numbered number
@@ -11,7 +11,7 @@ infinite_corner : (number link : ℕ) → is_infinite link ≡ true → corner_w
 infinite_corner number link h = rw h refl
 
 pub finite_corners : (numbers links : List ℕ) → length links ≡ length numbers → ((k : ℕ) → k < length links → is_infinite (get_or links k 0) ≡ false)
-    → corners_in numbers links ≡ numbered numbers
+    → corners_in numbers links ≡ numbered_corners numbers
 finite_corners [] [] len h = refl
 finite_corners [] (x ∷ links) len h = absurd (omega arith)
 finite_corners (n ∷ numbers) [] len h = absurd (omega arith)
@@ -21,7 +21,7 @@ finite_corners (n ∷ numbers) (x ∷ links) len h =
     λ i. first i ∷ rest i
 
 pub infinite_corner_there : (numbers links : List ℕ) (k : ℕ) → k < length links → length links ≡ length numbers → is_infinite (get_or links k 0) ≡ true
-    → (ns : List ℕ) → corners_in numbers links ≡ numbered ns → ⊥
+    → (ns : List ℕ) → corners_in numbers links ≡ numbered_corners ns → ⊥
 infinite_corner_there numbers [] k below len h ns e = absurd (omega arith)
 infinite_corner_there [] (x ∷ links) k below len h ns e = absurd (omega arith)
 infinite_corner_there (n ∷ numbers) (x ∷ links) k below len h [] e = cc

@@ -6,10 +6,10 @@ use Rattle.mesh_arena.specs.declared.arena.SlotFace.{SlotFace}
 use Rattle.mesh_arena.specs.declared.cell.Cell.{Cell}
 use Rattle.mesh_arena.specs.declared.slot.Corner.{Corner}
 use Rattle.mesh_arena.specs.Mesh.{SlotValue, at, tet_with}
-use Rattle.mesh_arena.specs.Cells.{corner_with, corners_in, is_infinite, slot_in, face_in, side_to, sides_in, tet_in}
+use Rattle.mesh_arena.specs.Cells.{corner_with, corners_in, is_infinite, slot_in, link_face, side_to, sides_in, tet_in}
 
 -- what a link leads to
-pub side_to-parts : (link slot face : ℕ) → slot_in link ≡ slot → face_in link ≡ face → face < 4 → side_to link ≡ Some (at slot face)
+pub side_to-parts : (link slot face : ℕ) → slot_in link ≡ slot → link_face link ≡ face → face < 4 → side_to link ≡ Some (at slot face)
 side_to-parts link slot face s f below = rw (s, f) (yes face below)
   where
     yes : (face : ℕ) → face < 4 → (if nat_lt face 4 then Some (at slot face) else None) ≡ Some (at slot face)

@@ -4,11 +4,11 @@ use Rattle.std.proofs.lemmas.List.{map-set, map_push, length-map, length_push, g
 use Rattle.std.proofs.lemmas.List.Sums.{sum_by-set, sum_by_push, sum_by-cons}
 use Rattle.std.proofs.lemmas.Option.{slice_get_within, slice_get-get_or, get_or_from_slice_get}
 use Rattle.mesh_arena.specs.declared.cell.Cell.{Cell}
-use Rattle.mesh_arena.specs.Mesh.{SlotValue, tet_at, corners_at, side, at, SameFace, IsShaped, IsMesh, Links, Takes, AllDiffer, tet_with}
+use Rattle.mesh_arena.specs.Mesh.{SlotValue, tet_at, corners_at, link_behind, at, SameFace, IsShaped, IsArenaMesh, Links, Takes, AllDiffer, tet_with}
 use Rattle.mesh_arena.specs.declared.arena.SlotFace.{SlotFace}
 use Rattle.mesh_arena.specs.declared.slot.Corner.{Corner}
 use Rattle.mesh_arena.proofs.Mesh.{Writes, Writes-set, Links-writes, IsMesh-links, side_live, lone, Puts, Puts-set, Puts-push, Takes-puts, IsMesh-takes}
-use Rattle.mesh_arena.specs.Cells.{cell_corners, sides_in, live_in, tet_in, tet_of, IsBare, next_of, IsFreeList, most_cells, IsCounted, IsSound}
+use Rattle.mesh_arena.specs.Cells.{cell_corners, sides_in, live_in, tet_in, tet_of, IsUnlinked, next_of, IsFreeList, most_cells, IsCounted, AreSoundCells}
 
 -- the count of a cell
 abbrev one_if : Bool → ℕ
@@ -208,10 +208,10 @@ Wrote-set cells live next s i c new b counted shaped is_live face read resided =
     }
 
 pub record Linked (cells new : List Cell) (live next s i t j : ℕ) : Type 0 where
-  pub sound : IsSound new live next
+  pub sound : AreSoundCells new live next
   pub links : Links (map tet_of cells) (map tet_of new) s i t j
 
-pub Linked-writes : (cells : List Cell) (live next s i t j : ℕ) (one two one2 two2 : Cell) → IsSound cells live next → IsSome (corners_at (map tet_of cells) s) → IsSome (corners_at (map tet_of cells) t) → i < 4 → j < 4 → s ≢ t → SameFace (map tet_of cells) s i t j → side (map tet_of cells) s i ≡ None → side (map tet_of cells) t j ≡ None → one ≡ get_or cells s one → Resided one one2 i (Some (at t j)) → two ≡ get_or (set cells s one2) t two → Resided two two2 j (Some (at s i)) → Linked cells (set (set cells s one2) t two2) live next s i t j
+pub Linked-writes : (cells : List Cell) (live next s i t j : ℕ) (one two one2 two2 : Cell) → AreSoundCells cells live next → IsSome (corners_at (map tet_of cells) s) → IsSome (corners_at (map tet_of cells) t) → i < 4 → j < 4 → s ≢ t → SameFace (map tet_of cells) s i t j → link_behind (map tet_of cells) s i ≡ None → link_behind (map tet_of cells) t j ≡ None → one ≡ get_or cells s one → Resided one one2 i (Some (at t j)) → two ≡ get_or (set cells s one2) t two → Resided two two2 j (Some (at s i)) → Linked cells (set (set cells s one2) t two2) live next s i t j
 Linked-writes cells live next s i t j one two one2 two2 sound live_s live_t hi hj differ faces free_s free_t read resided read2 resided2 =
     let w1 = Wrote-set cells live next s i one one2 (Some (at t j)) sound.counted sound.mesh.shaped live_s hi read resided in
     let w2 = Wrote-set _ live next t j two two2 (Some (at s i)) w1.counted w1.writes.shaped (subst IsSome (sym (w1.writes.corners t)) live_t) hj read2 resided2 in
@@ -222,22 +222,22 @@ Linked-writes cells live next s i t j one two one2 two2 sound live_s live_t hi h
     }
 
 -- a side as it is read from a cell
-pub side_read : (cells : List Cell) (s i : ℕ) (c : Cell) → IsSome (corners_at (map tet_of cells) s) → c ≡ get_or cells s c → get_or (sides_in c.links) i None ≡ side (map tet_of cells) s i
+pub side_read : (cells : List Cell) (s i : ℕ) (c : Cell) → IsSome (corners_at (map tet_of cells) s) → c ≡ get_or cells s c → get_or (sides_in c.links) i None ≡ link_behind (map tet_of cells) s i
 side_read cells s i c live read = rw (live_cell cells s c c live read).3 refl
 
 -- what has a side, as a cell
-pub live_from_side : (slots : List (Option SlotValue)) (s i : ℕ) → IsShaped slots → IsSome (side slots s i) → IsSome (corners_at slots s) × (i < 4)
-live_from_side slots s i shaped some = by_side (side slots s i) refl some
+pub live_from_side : (slots : List (Option SlotValue)) (s i : ℕ) → IsShaped slots → IsSome (link_behind slots s i) → IsSome (corners_at slots s) × (i < 4)
+live_from_side slots s i shaped some = by_side (link_behind slots s i) refl some
   where
-    by_side : (o : Option SlotFace) → side slots s i ≡ o → IsSome o → IsSome (corners_at slots s) × (i < 4)
+    by_side : (o : Option SlotFace) → link_behind slots s i ≡ o → IsSome o → IsSome (corners_at slots s) × (i < 4)
     by_side None is some = absurd (true≢false (sym some))
     by_side (Some b) is some = side_live slots s i b shaped is
 
-tet_of-bare : (c : Cell) → IsBare c → tet_of c ≡ Some (lone (cell_corners c))
+tet_of-bare : (c : Cell) → IsUnlinked c → tet_of c ≡ Some (lone (cell_corners c))
 tet_of-bare c bare = tet_of-live c bare.live ∙ ap (λ (sides : List (Option SlotFace)). Some (record { corners = cell_corners c; sides = sides })) bare.sides
 
 pub record Took (cells new : List Cell) (live next s : ℕ) (cs : List Corner) : Type 0 where
-  pub sound : IsSound new live next
+  pub sound : AreSoundCells new live next
   pub takes : Takes (map tet_of cells) (map tet_of new) s cs
 
 count_le : (xs : List (Option SlotValue)) → count_by is_some xs ≤ length xs
@@ -256,7 +256,7 @@ some_tet : (o : Option SlotValue) → IsSome o → option_map (λ (t : SlotValue
 some_tet None some e = true≢false (sym some)
 some_tet (Some t) some e = cc
 
-pub Took-push : (cells : List Cell) (live next : ℕ) (new : Cell) → IsSound cells live next → next ≡ length cells → length cells < most_cells → AllDiffer (cell_corners new) → IsBare new → Took cells (cells ++ new ∷ []) (live + 1) (next + 1) next (cell_corners new)
+pub Took-push : (cells : List Cell) (live next : ℕ) (new : Cell) → AreSoundCells cells live next → next ≡ length cells → length cells < most_cells → AllDiffer (cell_corners new) → IsUnlinked new → Took cells (cells ++ new ∷ []) (live + 1) (next + 1) next (cell_corners new)
 Took-push cells live next new sound at_end room differ bare =
     let cs = cell_corners new in
     let end : next ≡ length (map tet_of cells) = omega (arith, length-map cells tet_of) in
@@ -276,7 +276,7 @@ Took-push cells live next new sound at_end room differ bare =
         let some = all_some (map tet_of cells) u (omega (arith, counted.counted, length-map cells tet_of)) (omega (arith, length-map cells tet_of)) in
         absurd (some_tet (tet_at (map tet_of cells) u) some free)
 
-pub Took-fill : (cells : List Cell) (live next : ℕ) (old new : Cell) → IsSound cells live next → next ≢ length cells → old ≡ get_or cells next old → AllDiffer (cell_corners new) → IsBare new → Took cells (set cells next new) (live + 1) (next_of old) next (cell_corners new)
+pub Took-fill : (cells : List Cell) (live next : ℕ) (old new : Cell) → AreSoundCells cells live next → next ≢ length cells → old ≡ get_or cells next old → AllDiffer (cell_corners new) → IsUnlinked new → Took cells (set cells next new) (live + 1) (next_of old) next (cell_corners new)
 Took-fill cells live next old new sound before read differ bare =
     let cs = cell_corners new in
     let free = free_before_end cells live next sound.counted before in
@@ -295,7 +295,7 @@ Took-fill cells live next old new sound before read differ bare =
     }
 
 -- the neighbor of a live slot is live
-pub next_live : (cells : List Cell) (s i : ℕ) (c : Cell) (two : SlotFace) → IsMesh (map tet_of cells) → IsSome (corners_at (map tet_of cells) s) → i < 4 → c ≡ get_or cells s c → get_or (sides_in c.links) i None ≡ Some two → IsSome (corners_at (map tet_of cells) two.slot) × (two.face < 4)
+pub next_live : (cells : List Cell) (s i : ℕ) (c : Cell) (two : SlotFace) → IsArenaMesh (map tet_of cells) → IsSome (corners_at (map tet_of cells) s) → i < 4 → c ≡ get_or cells s c → get_or (sides_in c.links) i None ≡ Some two → IsSome (corners_at (map tet_of cells) two.slot) × (two.face < 4)
 next_live cells s i c two mesh live face read found =
-    let was : side (map tet_of cells) s i ≡ Some two = sym (side_read cells s i c live read) ∙ found in
+    let was : link_behind (map tet_of cells) s i ≡ Some two = sym (side_read cells s i c live read) ∙ found in
     side_live (map tet_of cells) two.slot two.face (at s i) mesh.shaped (mesh.back s i two was)

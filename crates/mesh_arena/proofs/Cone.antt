@@ -5,7 +5,7 @@ use Rattle.std.proofs.lemmas.List.{get_or-set_same, get_or-set_other}
 use Rattle.mesh_arena.specs.declared.slot.Corner.{Corner}
 use Rattle.mesh_arena.specs.declared.slot.Corner.TheVariants.{Ghost}
 use Rattle.mesh_arena.specs.declared.arena.SlotFace.{SlotFace}
-use Rattle.mesh_arena.specs.Mesh.{SlotValue, tet_at, corners_at, corner_in, corner, side, at, OnFace, SameFace, IsShaped, IsMesh, AllDiffer}
+use Rattle.mesh_arena.specs.Mesh.{SlotValue, tet_at, corners_at, corner_in, corner, link_behind, at, OnFace, SameFace, IsShaped, IsArenaMesh, AllDiffer}
 use Rattle.mesh_arena.specs.Surgery.{FitsFace}
 use Rattle.mesh_arena.proofs.Mesh.{side_live}
 
@@ -17,7 +17,7 @@ corners_four slots u cs shaped e = by_tet (tet_at slots u) refl e
     by_tet None is e = absurd (cc)
     by_tet (Some t) is e = let same : t.corners ≡ cs = cc in sym (ap length same) ∙ (shaped u t is).0
 
-pub faces_below : (slots : List (Option SlotValue)) (s i : ℕ) (b : SlotFace) → IsMesh slots → side slots s i ≡ Some b → (i < 4) × (b.face < 4) × IsSome (corners_at slots s) × IsSome (corners_at slots b.slot)
+pub faces_below : (slots : List (Option SlotValue)) (s i : ℕ) (b : SlotFace) → IsArenaMesh slots → link_behind slots s i ≡ Some b → (i < 4) × (b.face < 4) × IsSome (corners_at slots s) × IsSome (corners_at slots b.slot)
 faces_below slots s i b mesh e =
     let here = side_live slots s i b mesh.shaped e in
     let there = side_live slots b.slot b.face (at s i) mesh.shaped (mesh.back s i b e) in
@@ -27,7 +27,7 @@ read_corner : (slots : List (Option SlotValue)) (u : ℕ) (cs : List Corner) (m 
 read_corner slots u cs m e = ap (λ (o : Option (List Corner)). corner_in o m) e
 
 -- the corners of the slot behind a face, with a point that is not on the face in place of the one opposite it
-pub cone_differ : (slots : List (Option SlotValue)) (s i : ℕ) (inner : SlotFace) (p : Corner) (cs : List Corner) → IsMesh slots → side slots s i ≡ Some inner → (OnFace slots s i p → ⊥) → corners_at slots inner.slot ≡ Some cs → AllDiffer (set cs inner.face p)
+pub cone_differ : (slots : List (Option SlotValue)) (s i : ℕ) (inner : SlotFace) (p : Corner) (cs : List Corner) → IsArenaMesh slots → link_behind slots s i ≡ Some inner → (OnFace slots s i p → ⊥) → corners_at slots inner.slot ≡ Some cs → AllDiffer (set cs inner.face p)
 cone_differ slots s i inner p cs mesh was off is a b ha hb e =
     by_place (cases_eq a inner.face) (cases_eq b inner.face)
   where
@@ -52,7 +52,7 @@ cone_differ slots s i inner p cs mesh was off is a b ha hb e =
         mesh.differ inner.slot a b (faces_below slots s i inner mesh was).3 ha hb (read_corner slots inner.slot cs a is ∙ both ∙ sym (read_corner slots inner.slot cs b is))
 
 -- the face of s fits those corners
-pub cone_fits : (slots : List (Option SlotValue)) (s i : ℕ) (inner : SlotFace) (p : Corner) (cs : List Corner) → IsMesh slots → side slots s i ≡ Some inner → corners_at slots inner.slot ≡ Some cs → FitsFace slots s i (set cs inner.face p) inner.face
+pub cone_fits : (slots : List (Option SlotValue)) (s i : ℕ) (inner : SlotFace) (p : Corner) (cs : List Corner) → IsArenaMesh slots → link_behind slots s i ≡ Some inner → corners_at slots inner.slot ≡ Some cs → FitsFace slots s i (set cs inner.face p) inner.face
 cone_fits slots s i inner p cs mesh was is =
     record {
       to = λ x on.

@@ -4,8 +4,8 @@ use Rattle.std.proofs.lemmas.Bool.{ne_eqb, eq-eqb}
 use Rattle.mesh_arena.specs.declared.slot.Corner.{Corner}
 use Rattle.mesh_arena.specs.declared.slot.Corner.TheVariants.{Point, Ghost}
 use Rattle.mesh_arena.specs.declared.cell.Cell.{Cell}
-use Rattle.mesh_arena.specs.Cells.{corner_with, corners_in, cell_corners, is_infinite, face_in, side_to, IsBare}
-use Rattle.mesh_arena.specs.Edges.{corner_number}
+use Rattle.mesh_arena.specs.Cells.{corner_with, corners_in, cell_corners, is_infinite, link_face, side_to, IsUnlinked}
+use Rattle.mesh_arena.specs.Edges.{corner_key}
 
 -- links of the same corners
 corners_in-same : (numbers us links : List ℕ) → map is_infinite us ≡ map is_infinite links → corners_in numbers us ≡ corners_in numbers links
@@ -64,13 +64,13 @@ cone_corners cell a b c d i point four_points four_links u below =
 
 -- four links with nothing behind the faces
 pub record AreBare (a b c d : ℕ) : Type 0 where
-  pub face : face_in a ≡ 4
+  pub face : link_face a ≡ 4
   pub first : side_to a ≡ None
   pub second : side_to b ≡ None
   pub third : side_to c ≡ None
   pub fourth : side_to d ≡ None
 
-pub bare_cell : (points : List ℕ) (a b c d : ℕ) → length points ≡ 4 → AreBare a b c d → IsBare (record { points = points; links = a ∷ b ∷ c ∷ d ∷ [] })
+pub bare_cell : (points : List ℕ) (a b c d : ℕ) → length points ≡ 4 → AreBare a b c d → IsUnlinked (record { points = points; links = a ∷ b ∷ c ∷ d ∷ [] })
 bare_cell [] a b c d four bare = absurd (omega arith)
 bare_cell (x ∷ []) a b c d four bare = absurd (omega arith)
 bare_cell (x ∷ y ∷ []) a b c d four bare = absurd (omega arith)
@@ -83,7 +83,7 @@ bare_cell (x ∷ y ∷ z ∷ w ∷ []) a b c d four bare =
     }
 bare_cell (x ∷ y ∷ z ∷ w ∷ v ∷ rest) a b c d four bare = absurd (omega arith)
 
-pub cone_bare : (points : List ℕ) (a b c d i : ℕ) → length points ≡ 4 → AreBare a b c d → i < 4 → IsBare (record { points = points; links = set (a ∷ b ∷ c ∷ d ∷ []) i 4 })
+pub cone_bare : (points : List ℕ) (a b c d i : ℕ) → length points ≡ 4 → AreBare a b c d → i < 4 → IsUnlinked (record { points = points; links = set (a ∷ b ∷ c ∷ d ∷ []) i 4 })
 cone_bare points a b c d zero four bare below = bare_cell points 4 b c d four (record { face = refl; first = refl; second = bare.second; third = bare.third; fourth = bare.fourth })
 cone_bare points a b c d (suc zero) four bare below = bare_cell points a 4 c d four (record { face = bare.face; first = bare.first; second = refl; third = bare.third; fourth = bare.fourth })
 cone_bare points a b c d (suc (suc zero)) four bare below = bare_cell points a b 4 d four (record { face = bare.face; first = bare.first; second = bare.second; third = refl; fourth = bare.fourth })
@@ -98,10 +98,10 @@ corner_read (n ∷ ns) (x ∷ xs) zero h g = refl
 corner_read (n ∷ ns) (x ∷ xs) (suc i) h g = corner_read ns xs i (omega arith) (omega arith)
 
 -- its number
-pub infinite_number : (numbers links : List ℕ) (i : ℕ) → i < length numbers → i < length links → (get_or links i 0 / 8) % 2 ≡ 1 → 0 ≡ corner_number (get_or (corners_in numbers links) i Ghost)
+pub infinite_number : (numbers links : List ℕ) (i : ℕ) → i < length numbers → i < length links → (get_or links i 0 / 8) % 2 ≡ 1 → 0 ≡ corner_key (get_or (corners_in numbers links) i Ghost)
 infinite_number numbers links i h g e =
-    rw (corner_read numbers links i h g) (ap (λ (b : Bool). corner_number (if b then Ghost else Point (get_or numbers i 0))) (sym (eq-eqb _ 1 e)))
+    rw (corner_read numbers links i h g) (ap (λ (b : Bool). corner_key (if b then Ghost else Point (get_or numbers i 0))) (sym (eq-eqb _ 1 e)))
 
-pub finite_number : (numbers links : List ℕ) (i : ℕ) → i < length numbers → i < length links → (get_or links i 0 / 8) % 2 ≢ 1 → get_or numbers i 0 + 1 ≡ corner_number (get_or (corners_in numbers links) i Ghost)
+pub finite_number : (numbers links : List ℕ) (i : ℕ) → i < length numbers → i < length links → (get_or links i 0 / 8) % 2 ≢ 1 → get_or numbers i 0 + 1 ≡ corner_key (get_or (corners_in numbers links) i Ghost)
 finite_number numbers links i h g e =
-    rw (corner_read numbers links i h g) (ap (λ (b : Bool). corner_number (if b then Ghost else Point (get_or numbers i 0))) (sym (ne_eqb _ 1 e)))
+    rw (corner_read numbers links i h g) (ap (λ (b : Bool). corner_key (if b then Ghost else Point (get_or numbers i 0))) (sym (ne_eqb _ 1 e)))

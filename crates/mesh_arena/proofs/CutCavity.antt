@@ -7,10 +7,10 @@ use Rattle.mesh_arena.specs.declared.cell.Cell.{Cell}
 use Rattle.mesh_arena.specs.declared.slot.Corner.{Corner}
 use Rattle.mesh_arena.specs.declared.slot.RimFace.{RimFace}
 use Rattle.mesh_arena.specs.declared.slot.Slot.{Slot}
-use Rattle.mesh_arena.specs.Mesh.{SlotValue, tet_at, corners_at, corner_in, IsLive, side_in, side, at, IsShaped, IsMesh, Off}
+use Rattle.mesh_arena.specs.Mesh.{SlotValue, tet_at, corners_at, corner_in, IsLive, side_in, link_behind, at, IsShaped, IsArenaMesh, Off}
 use Rattle.mesh_arena.specs.Cells.{live_in, tet_of, next_of, IsCounted}
 use Rattle.mesh_arena.specs.Star.{behind, rim_at, face_side, behind_rim}
-use Rattle.mesh_arena.specs.Cavity.{slot_at, IsIn}
+use Rattle.mesh_arena.specs.Cavity.{slot_at, IsInCavitySlots}
 use Rattle.mesh_arena.specs.Replace.{IsCavity, IsRim}
 use Rattle.mesh_arena.specs.Cut.{slots_in, ClearsRim, FreesCells, Cuts}
 use Rattle.mesh_arena.proofs.Mesh.{none_some, none_live, same_or_off, face_kept, Puts, Puts-set}
@@ -80,54 +80,54 @@ module _ (first now : List Cell) (cavity : List Slot) (n next from : ℕ) (was :
         kept = λ u away. puts.others u (λ e. away n (omega arith) (sym e)) ∙ was.kept u (λ j h. away j (omega arith));
       }
 
-module _ (A : List Cell) (C : List Cell) (F : List Cell) (cavity : List Slot) (rim : List RimFace) (next from : ℕ) (mesh : IsMesh (slots_in A)) (hole : IsCavity (slots_in A) cavity) (edge : IsRim (slots_in A) cavity rim) (clears : ClearsRim A C rim (length rim)) (frees : FreesCells C F cavity (length cavity) next from) where
-  freed : (u : ℕ) → IsIn cavity u → tet_at (slots_in F) u ≡ None
+module _ (A : List Cell) (C : List Cell) (F : List Cell) (cavity : List Slot) (rim : List RimFace) (next from : ℕ) (mesh : IsArenaMesh (slots_in A)) (hole : IsCavity (slots_in A) cavity) (edge : IsRim (slots_in A) cavity rim) (clears : ClearsRim A C rim (length rim)) (frees : FreesCells C F cavity (length cavity) next from) where
+  freed : (u : ℕ) → IsInCavitySlots cavity u → tet_at (slots_in F) u ≡ None
   freed u found = subst (λ m. tet_at (slots_in F) m ≡ None) found.is (frees.gone found.place found.inside)
 
-  stays : (u : ℕ) → (IsIn cavity u → ⊥) → tet_at (slots_in F) u ≡ tet_at (slots_in C) u
+  stays : (u : ℕ) → (IsInCavitySlots cavity u → ⊥) → tet_at (slots_in F) u ≡ tet_at (slots_in C) u
   stays u out = frees.kept u (λ j h e. out (record { place = j; inside = h; is = e }))
 
-  corners_stay : (u : ℕ) → (IsIn cavity u → ⊥) → corners_at (slots_in F) u ≡ corners_at (slots_in A) u
+  corners_stay : (u : ℕ) → (IsInCavitySlots cavity u → ⊥) → corners_at (slots_in F) u ≡ corners_at (slots_in A) u
   corners_stay u out = ap (option_map (λ (t : SlotValue). t.corners)) (stays u out) ∙ clears.corners u
 
-  side_stays : (u k : ℕ) → (IsIn cavity u → ⊥) → side (slots_in F) u k ≡ side (slots_in C) u k
+  side_stays : (u k : ℕ) → (IsInCavitySlots cavity u → ⊥) → link_behind (slots_in F) u k ≡ link_behind (slots_in C) u k
   side_stays u k out = ap (λ (o : Option SlotValue). side_in o k) (stays u out)
 
   -- what has a side is not in the cavity
-  has_out : (u k : ℕ) (b : SlotFace) → side (slots_in F) u k ≡ Some b → IsIn cavity u → ⊥
-  has_out u k b e found = none_some b (side (slots_in F) u k) (ap (λ (o : Option SlotValue). side_in o k) (freed u found)) e
+  has_out : (u k : ℕ) (b : SlotFace) → link_behind (slots_in F) u k ≡ Some b → IsInCavitySlots cavity u → ⊥
+  has_out u k b e found = none_some b (link_behind (slots_in F) u k) (ap (λ (o : Option SlotValue). side_in o k) (freed u found)) e
 
   -- nor on its rim
-  has_off : (u k : ℕ) (b : SlotFace) → side (slots_in F) u k ≡ Some b → (r : ℕ) → r < length rim → Off u k (rim_at rim r).slot.index (rim_at rim r).face
+  has_off : (u k : ℕ) (b : SlotFace) → link_behind (slots_in F) u k ≡ Some b → (r : ℕ) → r < length rim → Off u k (rim_at rim r).slot.index (rim_at rim r).face
   has_off u k b e r h =
       elim (same_or_off u k (rim_at rim r).slot.index (rim_at rim r).face) [
         | inr off ↦ off
-        | inl is ↦ absurd (none_some b (side (slots_in F) u k) (side_stays u k (has_out u k b e) ∙ rw (is.0, is.1) (clears.outer r h)) e)
+        | inl is ↦ absurd (none_some b (link_behind (slots_in F) u k) (side_stays u k (has_out u k b e) ∙ rw (is.0, is.1) (clears.outer r h)) e)
       ]
 
-  before : (u k : ℕ) (b : SlotFace) → side (slots_in F) u k ≡ Some b → side (slots_in A) u k ≡ Some b
+  before : (u k : ℕ) (b : SlotFace) → link_behind (slots_in F) u k ≡ Some b → link_behind (slots_in A) u k ≡ Some b
   before u k b e = sym (side_stays u k (has_out u k b e) ∙ clears.others u k (has_off u k b e)) ∙ e
 
   -- and neither does it lead there
-  leads_out : (u k : ℕ) (b : SlotFace) → side (slots_in F) u k ≡ Some b → IsIn cavity b.slot → ⊥
+  leads_out : (u k : ℕ) (b : SlotFace) → link_behind (slots_in F) u k ≡ Some b → IsInCavitySlots cavity b.slot → ⊥
   leads_out u k b e found =
       let r = edge.all u k b (before u k b e) (has_out u k b e) found in
       elim (has_off u k b e r.0 r.1) [ inl differ ↦ differ (sym r.2) | inr differ ↦ differ (sym r.3) ]
 
-  back : (u k : ℕ) (b : SlotFace) → side (slots_in F) u k ≡ Some b → side (slots_in F) b.slot b.face ≡ Some (at u k)
+  back : (u k : ℕ) (b : SlotFace) → link_behind (slots_in F) u k ≡ Some b → link_behind (slots_in F) b.slot b.face ≡ Some (at u k)
   back u k b e =
-      let home : side (slots_in A) b.slot b.face ≡ Some (at u k) = mesh.back u k b (before u k b e) in
+      let home : link_behind (slots_in A) b.slot b.face ≡ Some (at u k) = mesh.back u k b (before u k b e) in
       let off : (r : ℕ) → r < length rim → Off b.slot b.face (rim_at rim r).slot.index (rim_at rim r).face =
       λ r h. elim (same_or_off b.slot b.face (rim_at rim r).slot.index (rim_at rim r).face) [
         | inr away ↦ away
         | inl is ↦
             let there : face_side (slots_in A) (rim_at rim r) ≡ Some (at u k) = rw (← is.0, ← is.1) home in
             let same : (behind_rim (slots_in A) rim r).slot ≡ u = ap (λ (x : SlotFace). x.slot) (ap behind there) in
-            absurd (has_out u k b e (subst (IsIn cavity) same (edge.inner r h)))
+            absurd (has_out u k b e (subst (IsInCavitySlots cavity) same (edge.inner r h)))
       ] in
       side_stays b.slot b.face (leads_out u k b e) ∙ clears.others b.slot b.face off ∙ home
 
-  pub IsMesh-cut : IsMesh (slots_in F)
+  pub IsMesh-cut : IsArenaMesh (slots_in F)
   IsMesh-cut =
       record {
         shaped = λ u t e. elim (in_or_not cavity u) [

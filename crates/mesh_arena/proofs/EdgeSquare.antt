@@ -11,27 +11,27 @@ use Rattle.mesh_arena.specs.declared.edge.Edge.{Edge}
 use Rattle.mesh_arena.specs.declared.edge.End.{End}
 use Rattle.mesh_arena.specs.declared.edge.Ends.{Ends}
 use Rattle.mesh_arena.specs.declared.square.MetFace.{MetFace}
-use Rattle.mesh_arena.specs.Edges.{edge_of, place_of, SquareValue, face_of, faces_in, IsSquare, IsInSquare, IsEnd, KeepsRows, MeetsNone, AddsNone, AddsOnly}
+use Rattle.mesh_arena.specs.Edges.{edge_of, square_place, SquareValue, met_face, faces_in, IsSquare, IsInSquare, IsRowEnd, KeepsRows, MeetsNone, AddsNone, AddsOnly}
 
 abbrev face_at : MetFace → SlotFace
 face_at m = record { slot = m.slot; face = m.face }
 
 -- what is of another round counts as nothing
-not_now : (round : ℕ) (m : MetFace) → m.round ≢ round → face_of round m ≡ None
+not_now : (round : ℕ) (m : MetFace) → m.round ≢ round → met_face round m ≡ None
 not_now round m differ = ap (λ b. cond b (Some (face_at m)) None) (ne_eqb m.round round differ)
 
-now : (round : ℕ) (m : MetFace) → m.round ≡ round → face_of round m ≡ Some (face_at m)
+now : (round : ℕ) (m : MetFace) → m.round ≡ round → met_face round m ≡ Some (face_at m)
 now round m same = ap (λ b. cond b (Some (face_at m)) None) (eq-eqb m.round round same)
 
-read : (met : List MetFace) (round k : ℕ) (d : MetFace) → k < length met → get_or (faces_in met round) k None ≡ face_of round (get_or met k d)
-read met round k d lt = get_or-map (face_of round) met k d None lt
+read : (met : List MetFace) (round k : ℕ) (d : MetFace) → k < length met → get_or (faces_in met round) k None ≡ met_face round (get_or met k d)
+read met round k d lt = get_or-map (met_face round) met k d None lt
 
 -- what was met stands in the square
 within : (met : List MetFace) (round k : ℕ) (s : SlotFace) → get_or (faces_in met round) k None ≡ Some s → k < length met
 within met round k s is =
     elim (cases_lt k (length met)) [
       | inl lt ↦ lt
-      | inr past ↦ absurd (none-some s (sym (get_or_past (faces_in met round) k None (omega (arith, length-map met (face_of round)))) ∙ is))
+      | inr past ↦ absurd (none-some s (sym (get_or_past (faces_in met round) k None (omega (arith, length-map met (met_face round)))) ∙ is))
     ]
 
 -- where no place is of this round no rows are needed
@@ -43,8 +43,8 @@ IsSquare-others met round rows some few all others =
       few = few;
       between = λ row last s _ is.
           let never : MetFace = record { slot = 0; round = 0; face = 0 } in
-          let lt = within met round (place_of row last) s is in
-          absurd (none-some s (sym (not_now round _ (others (place_of row last) never lt)) ∙ sym (read met round (place_of row last) never lt) ∙ is));
+          let lt = within met round (square_place row last) s is in
+          absurd (none-some s (sym (not_now round _ (others (square_place row last) never lt)) ∙ sym (read met round (square_place row last) never lt) ∙ is));
     }
 
 -- without rows no place is of this round
@@ -62,7 +62,7 @@ MeetsNone-square square empty e s is_in =
     omega (arith, lt, ap length empty)
 
 -- a row tells its number
-number_in : (rows : List ℕ) (row n : ℕ) (end : End) → IsEnd rows end → end.row < 64 → row ≡ end.row → slice_get rows row ≡ Some n → n ≡ end.number
+number_in : (rows : List ℕ) (row n : ℕ) (end : End) → IsRowEnd rows end → end.row < 64 → row ≡ end.row → slice_get rows row ≡ Some n → n ≡ end.number
 number_in rows row n end is_end lt same has = same_Some _ _ (sym has ∙ ap (slice_get rows) same ∙ is_end.has lt)
 
 abbrev square_of : List MetFace → ℕ → List ℕ → SquareValue
@@ -74,7 +74,7 @@ turned a b =
     let high : max a b ≡ max b a = omega arith in
     ap (λ n. record { low = n; high = max a b }) low ∙ ap (λ n. record { low = min b a; high = n }) high
 
-module _ (met : List MetFace) (round : ℕ) (rows : List ℕ) (ends : Ends) (one : IsEnd rows ends.one) (other : IsEnd rows ends.other) (one_lt : ends.one.row < 64) (other_lt : ends.other.row < 64) (place : ℕ) (is_place : place ≡ place_of ends.one.row ends.other.row) (inside : place < length met) where
+module _ (met : List MetFace) (round : ℕ) (rows : List ℕ) (ends : Ends) (one : IsRowEnd rows ends.one) (other : IsRowEnd rows ends.other) (one_lt : ends.one.row < 64) (other_lt : ends.other.row < 64) (place : ℕ) (is_place : place ≡ square_place ends.one.row ends.other.row) (inside : place < length met) where
   -- a place that has this edge, in this direction
   pub IsInSquare-read : (m : MetFace) → m ≡ get_or met place m → m.round ≡ round
       → IsInSquare (square_of met round rows) (edge_of ends.one.number ends.other.number) (face_at m)
@@ -89,12 +89,12 @@ module _ (met : List MetFace) (round : ℕ) (rows : List ℕ) (ends : Ends) (one
         is_first = one.has one_lt;
         is_second = other.has other_lt;
         ends = refl;
-        is = ap (λ n. get_or (faces_in met round) n None) (sym is_place) ∙ read met round place m inside ∙ ap (face_of round) (sym is) ∙ now round m same;
+        is = ap (λ n. get_or (faces_in met round) n None) (sym is_place) ∙ read met round place m inside ∙ ap (met_face round) (sym is) ∙ now round m same;
       }
 
   module _ (s : SlotFace) (m : MetFace) (is : m ≡ record { slot = s.slot; round = round; face = s.face }) where
     written : faces_in (set met place m) round ≡ set (faces_in met round) place (Some s)
-    written = map-set (face_of round) met _ m ∙ ap (set (faces_in met round) _) (ap (face_of round) is ∙ now round (record { slot = s.slot; round = round; face = s.face }) refl)
+    written = map-set (met_face round) met _ m ∙ ap (set (faces_in met round) _) (ap (met_face round) is ∙ now round (record { slot = s.slot; round = round; face = s.face }) refl)
 
     there : (k : ℕ) (t : SlotFace) → get_or (faces_in (set met place m) round) k None ≡ Some t
         → ((k ≡ place) × (t ≡ s)) ⊎ (get_or (faces_in met round) k None ≡ Some t)
@@ -104,12 +104,12 @@ module _ (met : List MetFace) (round : ℕ) (rows : List ℕ) (ends : Ends) (one
           | inr differ ↦ inr (sym (get_or-set_other (faces_in met round) _ k (Some s) None differ) ∙ now_at)
           | inl same ↦
               let here = subst (λ n. get_or (set (faces_in met round) place (Some s)) n None ≡ Some t) same now_at in
-              inl (same, sym (same_Some _ _ (sym (get_or-set_same (faces_in met round) _ (Some s) None (omega (arith, inside, length-map met (face_of round)))) ∙ here)))
+              inl (same, sym (same_Some _ _ (sym (get_or-set_same (faces_in met round) _ (Some s) None (omega (arith, inside, length-map met (met_face round)))) ∙ here)))
         ]
 
     -- the place tells the edge
     same_edge : (e : Edge) (t : SlotFace) (is_in : IsInSquare (square_of (set met place m) round rows) e t)
-        → place_of is_in.row is_in.other_row ≡ place → e ≡ edge_of ends.one.number ends.other.number
+        → square_place is_in.row is_in.other_row ≡ place → e ≡ edge_of ends.one.number ends.other.number
     same_edge e t is_in same =
         let below = is_in.below in
         let other_below = is_in.other_below in
@@ -120,7 +120,7 @@ module _ (met : List MetFace) (round : ℕ) (rows : List ℕ) (ends : Ends) (one
     -- one place is written
     pub AddsOnly-square : AddsOnly (IsInSquare (square_of met round rows)) (IsInSquare (square_of (set met place m) round rows)) (edge_of ends.one.number ends.other.number) s
     AddsOnly-square e t is_in =
-        elim (there (place_of is_in.row is_in.other_row) t is_in.is) [
+        elim (there (square_place is_in.row is_in.other_row) t is_in.is) [
           | inr was ↦ inl (record {
             row = is_in.row;
             other_row = is_in.other_row;
@@ -145,7 +145,7 @@ module _ (met : List MetFace) (round : ℕ) (rows : List ℕ) (ends : Ends) (one
           some = square.some;
           all = All-set (λ (x : MetFace). x.round ≤ round) met place m (omega (arith, ap (λ (x : MetFace). x.round) is)) square.all;
           few = omega (arith, length-set met place m, square.few);
-          between = λ row last t last_lt met_at. elim (there (place_of row last) t met_at) [
+          between = λ row last t last_lt met_at. elim (there (square_place row last) t met_at) [
             | inl here ↦ let same = here.0 in (omega (arith, is_place, one_lt, other_lt, one_taken, other_taken), omega (arith, is_place, one_lt, other_lt, one_taken, other_taken))
             | inr was ↦ square.between row last t last_lt was
           ];

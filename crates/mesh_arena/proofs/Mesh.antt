@@ -4,7 +4,7 @@ use Rattle.std.proofs.lemmas.Bool.{cases_eq, cases_lt}
 use Rattle.std.proofs.lemmas.List.{get_or-set_same, get_or-set_other, get_or_past, get_or_push, get_or_append_left, length_push}
 use Rattle.mesh_arena.specs.declared.slot.Corner.{Corner}
 use Rattle.mesh_arena.specs.declared.arena.SlotFace.{SlotFace}
-use Rattle.mesh_arena.specs.Mesh.{SlotValue, tet_at, corners_at, corner_in, IsLive, corner, side_in, side, at, OnFace, SameFace, IsShaped, IsMesh, Off, Links, Takes, AllDiffer, tet_with}
+use Rattle.mesh_arena.specs.Mesh.{SlotValue, tet_at, corners_at, corner_in, IsLive, corner, side_in, link_behind, at, OnFace, SameFace, IsShaped, IsArenaMesh, Off, Links, Takes, AllDiffer, tet_with}
 
 pub same_or_off : (u k s i : ℕ) → ((u ≡ s) × (k ≡ i)) ⊎ Off u k s i
 same_or_off u k s i =
@@ -17,8 +17,8 @@ same_or_off u k s i =
 pub record Writes (old new : List (Option SlotValue)) (s i : ℕ) (b : Option SlotFace) : Type 0 where
   pub len : length new ≡ length old
   pub corners : (u : ℕ) → corners_at new u ≡ corners_at old u
-  pub here : side new s i ≡ b
-  pub others : (u k : ℕ) → Off u k s i → side new u k ≡ side old u k
+  pub here : link_behind new s i ≡ b
+  pub others : (u k : ℕ) → Off u k s i → link_behind new u k ≡ link_behind old u k
   pub shaped : IsShaped new
 
 pub Writes-set : (slots : List (Option SlotValue)) (s i : ℕ) (t : SlotValue) (b : Option SlotFace) → IsShaped slots → tet_at slots s ≡ Some t → i < 4 → Writes slots (set slots s (Some (tet_with t i b))) s i b
@@ -87,7 +87,7 @@ SameFace-flip slots s i t j faces = record { to = faces.from; from = faces.to }
 pub none_some : (b : SlotFace) (o : Option SlotFace) → o ≡ None → o ≡ Some b → ⊥
 none_some b o e f = cc
 
-pub IsMesh-links : (old new : List (Option SlotValue)) (s i t j : ℕ) → IsMesh old → IsShaped new → s ≢ t → SameFace old s i t j → side old s i ≡ None → side old t j ≡ None → Links old new s i t j → IsMesh new
+pub IsMesh-links : (old new : List (Option SlotValue)) (s i t j : ℕ) → IsArenaMesh old → IsShaped new → s ≢ t → SameFace old s i t j → link_behind old s i ≡ None → link_behind old t j ≡ None → Links old new s i t j → IsArenaMesh new
 IsMesh-links old new s i t j mesh shaped differ faces free_s free_t links =
     record {
       shaped = shaped;
@@ -97,38 +97,38 @@ IsMesh-links old new s i t j mesh shaped differ faces free_s free_t links =
       shared = λ u k b e. by_shared u k b e (same_or_off u k s i) (same_or_off u k t j);
     }
   where
-    off_s : (u k : ℕ) (b : SlotFace) → side old u k ≡ Some b → Off b.slot b.face s i
+    off_s : (u k : ℕ) (b : SlotFace) → link_behind old u k ≡ Some b → Off b.slot b.face s i
     off_s u k b e = elim (same_or_off b.slot b.face s i) [
       | inr off ↦ off
-      | inl is ↦ absurd (none_some (at u k) (side old s i) free_s (subst (λ n. side old s n ≡ Some (at u k)) is.1 (subst (λ n. side old n b.face ≡ Some (at u k)) is.0 (mesh.back u k b e))))
+      | inl is ↦ absurd (none_some (at u k) (link_behind old s i) free_s (subst (λ n. link_behind old s n ≡ Some (at u k)) is.1 (subst (λ n. link_behind old n b.face ≡ Some (at u k)) is.0 (mesh.back u k b e))))
     ]
 
-    off_t : (u k : ℕ) (b : SlotFace) → side old u k ≡ Some b → Off b.slot b.face t j
+    off_t : (u k : ℕ) (b : SlotFace) → link_behind old u k ≡ Some b → Off b.slot b.face t j
     off_t u k b e = elim (same_or_off b.slot b.face t j) [
       | inr off ↦ off
-      | inl is ↦ absurd (none_some (at u k) (side old t j) free_t (subst (λ n. side old t n ≡ Some (at u k)) is.1 (subst (λ n. side old n b.face ≡ Some (at u k)) is.0 (mesh.back u k b e))))
+      | inl is ↦ absurd (none_some (at u k) (link_behind old t j) free_t (subst (λ n. link_behind old t n ≡ Some (at u k)) is.1 (subst (λ n. link_behind old n b.face ≡ Some (at u k)) is.0 (mesh.back u k b e))))
     ]
 
     -- what stands behind the one face, behind the other, and behind any other
-    at_first : (u k : ℕ) (b : SlotFace) → side new u k ≡ Some b → (u ≡ s) × (k ≡ i) → b ≡ at t j
-    at_first u k b e is = let h = links.first in let there : side new s i ≡ Some b = rw (← is.0, ← is.1) e in cc
+    at_first : (u k : ℕ) (b : SlotFace) → link_behind new u k ≡ Some b → (u ≡ s) × (k ≡ i) → b ≡ at t j
+    at_first u k b e is = let h = links.first in let there : link_behind new s i ≡ Some b = rw (← is.0, ← is.1) e in cc
 
-    at_second : (u k : ℕ) (b : SlotFace) → side new u k ≡ Some b → (u ≡ t) × (k ≡ j) → b ≡ at s i
-    at_second u k b e is = let h = links.second in let there : side new t j ≡ Some b = rw (← is.0, ← is.1) e in cc
+    at_second : (u k : ℕ) (b : SlotFace) → link_behind new u k ≡ Some b → (u ≡ t) × (k ≡ j) → b ≡ at s i
+    at_second u k b e is = let h = links.second in let there : link_behind new t j ≡ Some b = rw (← is.0, ← is.1) e in cc
 
-    by_place : (u k : ℕ) (b : SlotFace) → side new u k ≡ Some b → ((u ≡ s) × (k ≡ i)) ⊎ Off u k s i → ((u ≡ t) × (k ≡ j)) ⊎ Off u k t j → side new b.slot b.face ≡ Some (at u k)
+    by_place : (u k : ℕ) (b : SlotFace) → link_behind new u k ≡ Some b → ((u ≡ s) × (k ≡ i)) ⊎ Off u k s i → ((u ≡ t) × (k ≡ j)) ⊎ Off u k t j → link_behind new b.slot b.face ≡ Some (at u k)
     by_place u k b e (inl is) _ = rw (at_first u k b e is, is.0, is.1) links.second
     by_place u k b e (inr off) (inl is) = rw (at_second u k b e is, is.0, is.1) links.first
     by_place u k b e (inr off) (inr off2) =
-        let was : side old u k ≡ Some b = sym (links.others u k off off2) ∙ e in
+        let was : link_behind old u k ≡ Some b = sym (links.others u k off off2) ∙ e in
         links.others b.slot b.face (off_s u k b was) (off_t u k b was) ∙ mesh.back u k b was
 
-    by_apart : (u k : ℕ) (b : SlotFace) → side new u k ≡ Some b → ((u ≡ s) × (k ≡ i)) ⊎ Off u k s i → ((u ≡ t) × (k ≡ j)) ⊎ Off u k t j → b.slot ≢ u
+    by_apart : (u k : ℕ) (b : SlotFace) → link_behind new u k ≡ Some b → ((u ≡ s) × (k ≡ i)) ⊎ Off u k s i → ((u ≡ t) × (k ≡ j)) ⊎ Off u k t j → b.slot ≢ u
     by_apart u k b e (inl is) _ = rw (at_first u k b e is, is.0) (λ same. differ (sym same))
     by_apart u k b e (inr off) (inl is) = rw (at_second u k b e is, is.0) differ
     by_apart u k b e (inr off) (inr off2) = mesh.apart u k b (sym (links.others u k off off2) ∙ e)
 
-    by_shared : (u k : ℕ) (b : SlotFace) → side new u k ≡ Some b → ((u ≡ s) × (k ≡ i)) ⊎ Off u k s i → ((u ≡ t) × (k ≡ j)) ⊎ Off u k t j → SameFace new u k b.slot b.face
+    by_shared : (u k : ℕ) (b : SlotFace) → link_behind new u k ≡ Some b → ((u ≡ s) × (k ≡ i)) ⊎ Off u k s i → ((u ≡ t) × (k ≡ j)) ⊎ Off u k t j → SameFace new u k b.slot b.face
     by_shared u k b e (inl is) _ = rw (at_first u k b e is, is.0, is.1) (SameFace-along old new links.corners s i t j faces)
     by_shared u k b e (inr off) (inl is) = rw (at_second u k b e is, is.0, is.1) (SameFace-along old new links.corners t j s i (SameFace-flip old s i t j faces))
     by_shared u k b e (inr off) (inr off2) = SameFace-along old new links.corners u k b.slot b.face (mesh.shared u k b (sym (links.others u k off off2) ∙ e))
@@ -163,7 +163,7 @@ lone_bare cs (suc (suc (suc (suc i)))) = refl
 
 pub Takes-puts : (old new : List (Option SlotValue)) (s : ℕ) (cs : List Corner) → Puts old new s (Some (lone cs)) → tet_at old s ≡ None → ((u : ℕ) → u < length old → corners_at old u ≡ None → s < length old) → (s < length old → length new ≡ length old) → (length old ≤ s → (s ≡ length old) × (length new ≡ length old + 1)) → Takes old new s cs
 Takes-puts old new s cs puts free reuses within past =
-    let bare : (i : ℕ) → side new s i ≡ None = λ i. rw puts.here (lone_bare cs i) in
+    let bare : (i : ℕ) → link_behind new s i ≡ None = λ i. rw puts.here (lone_bare cs i) in
     record {
       free = rw free refl;
       made = rw puts.here refl;
@@ -194,7 +194,7 @@ face_kept old new s i t j e f faces =
     }
 
 -- what has a side is live
-pub side_live : (slots : List (Option SlotValue)) (s i : ℕ) (b : SlotFace) → IsShaped slots → side slots s i ≡ Some b → IsSome (corners_at slots s) × (i < 4)
+pub side_live : (slots : List (Option SlotValue)) (s i : ℕ) (b : SlotFace) → IsShaped slots → link_behind slots s i ≡ Some b → IsSome (corners_at slots s) × (i < 4)
 side_live slots s i b shaped e = by_tet (tet_at slots s) refl e
   where
     by_tet : (o : Option SlotValue) → tet_at slots s ≡ o → side_in o i ≡ Some b → IsSome (corners_at slots s) × (i < 4)
@@ -204,7 +204,7 @@ side_live slots s i b shaped e = by_tet (tet_at slots s) refl e
         let lt : i < length t.sides = grind (arith, get_or_past) in
         (rw is refl, omega arith)
 
-pub IsMesh-takes : (old new : List (Option SlotValue)) (s : ℕ) (cs : List Corner) → IsMesh old → Puts old new s (Some (lone cs)) → length cs ≡ 4 → AllDiffer cs → Takes old new s cs → IsMesh new
+pub IsMesh-takes : (old new : List (Option SlotValue)) (s : ℕ) (cs : List Corner) → IsArenaMesh old → Puts old new s (Some (lone cs)) → length cs ≡ 4 → AllDiffer cs → Takes old new s cs → IsArenaMesh new
 IsMesh-takes old new s cs mesh puts four differ takes =
     record {
       shaped = λ u t e. elim (cases_eq u s) [
@@ -224,5 +224,5 @@ IsMesh-takes old new s cs mesh puts four differ takes =
           face_kept old new u k b.slot b.face (takes.corners u (off u k b was)) (takes.corners b.slot (off b.slot b.face (at u k) (mesh.back u k b was))) (mesh.shared u k b was);
     }
   where
-    off : (u k : ℕ) (b : SlotFace) → side old u k ≡ Some b → u ≢ s
+    off : (u k : ℕ) (b : SlotFace) → link_behind old u k ≡ Some b → u ≢ s
     off u k b e same = none_live (corners_at old s) takes.free (subst (λ n. IsSome (corners_at old n)) same (side_live old u k b mesh.shaped e).0)

@@ -7,7 +7,7 @@ use Rattle.std.proofs.lemmas.List.Sums.{sum-map, sum_by-set, sum_by-le, get_or-l
 use Rattle.mesh_arena.specs.declared.slot.Corner.{Corner}
 use Rattle.mesh_arena.specs.declared.arena.SlotFace.{SlotFace}
 use Rattle.mesh_arena.specs.declared.slot.RimFace.{RimFace}
-use Rattle.mesh_arena.specs.Mesh.{SlotValue, side, at, IsMesh, Links}
+use Rattle.mesh_arena.specs.Mesh.{SlotValue, link_behind, at, IsArenaMesh, Links}
 use Rattle.mesh_arena.specs.Star.{behind, rim_at, no_face, behind_rim}
 use Rattle.mesh_arena.specs.StarLinks.{IsStar, LinksStar, open_side, open_at, open_behind, open_faces}
 use Rattle.mesh_arena.proofs.Pairs.{rim_side, star_live}
@@ -35,38 +35,38 @@ some_from_open None e = absurd (omega arith)
 some_from_open (Some b) e = refl
 
 -- a face that gets a neighbor is open no more
-open_less : (old new : List (Option SlotValue)) (s i : ℕ) (b : SlotFace) → i < 4 → side old s i ≡ None → side new s i ≡ Some b → ((k : ℕ) → k ≢ i → side new s k ≡ side old s k) → open_at new s + 1 ≡ open_at old s
+open_less : (old new : List (Option SlotValue)) (s i : ℕ) (b : SlotFace) → i < 4 → link_behind old s i ≡ None → link_behind new s i ≡ Some b → ((k : ℕ) → k ≢ i → link_behind new s k ≡ link_behind old s k) → open_at new s + 1 ≡ open_at old s
 open_less old new s i b i4 was is rest =
-    let before : open_side (side old s i) ≡ 1 = ap open_side was in
-    let after : open_side (side new s i) ≡ 0 = ap open_side is in
-    let same : (k : ℕ) → k ≢ i → open_side (side new s k) ≡ open_side (side old s k) = λ k differ. ap open_side (rest k differ) in
+    let before : open_side (link_behind old s i) ≡ 1 = ap open_side was in
+    let after : open_side (link_behind new s i) ≡ 0 = ap open_side is in
+    let same : (k : ℕ) → k ≢ i → open_side (link_behind new s k) ≡ open_side (link_behind old s k) = λ k differ. ap open_side (rest k differ) in
     elim (cases_eq i 0) [
-      | inl i0 ↦ omega (arith, subst (λ n. open_side (side old s n) ≡ 1) i0 before, subst (λ n. open_side (side new s n) ≡ 0) i0 after, same 1 (λ e. omega arith), same 2 (λ e. omega arith), same 3 (λ e. omega arith))
+      | inl i0 ↦ omega (arith, subst (λ n. open_side (link_behind old s n) ≡ 1) i0 before, subst (λ n. open_side (link_behind new s n) ≡ 0) i0 after, same 1 (λ e. omega arith), same 2 (λ e. omega arith), same 3 (λ e. omega arith))
       | inr n0 ↦ elim (cases_eq i 1) [
-        | inl i1 ↦ omega (arith, subst (λ n. open_side (side old s n) ≡ 1) i1 before, subst (λ n. open_side (side new s n) ≡ 0) i1 after, same 0 (λ e. omega arith), same 2 (λ e. omega arith), same 3 (λ e. omega arith))
+        | inl i1 ↦ omega (arith, subst (λ n. open_side (link_behind old s n) ≡ 1) i1 before, subst (λ n. open_side (link_behind new s n) ≡ 0) i1 after, same 0 (λ e. omega arith), same 2 (λ e. omega arith), same 3 (λ e. omega arith))
         | inr n1 ↦ elim (cases_eq i 2) [
-          | inl i2 ↦ omega (arith, subst (λ n. open_side (side old s n) ≡ 1) i2 before, subst (λ n. open_side (side new s n) ≡ 0) i2 after, same 0 (λ e. omega arith), same 1 (λ e. omega arith), same 3 (λ e. omega arith))
+          | inl i2 ↦ omega (arith, subst (λ n. open_side (link_behind old s n) ≡ 1) i2 before, subst (λ n. open_side (link_behind new s n) ≡ 0) i2 after, same 0 (λ e. omega arith), same 1 (λ e. omega arith), same 3 (λ e. omega arith))
           | inr n2 ↦
               let i3 : i ≡ 3 = omega arith in
-              omega (arith, subst (λ n. open_side (side old s n) ≡ 1) i3 before, subst (λ n. open_side (side new s n) ≡ 0) i3 after, same 0 (λ e. omega arith), same 1 (λ e. omega arith), same 2 (λ e. omega arith))
+              omega (arith, subst (λ n. open_side (link_behind old s n) ≡ 1) i3 before, subst (λ n. open_side (link_behind new s n) ≡ 0) i3 after, same 0 (λ e. omega arith), same 1 (λ e. omega arith), same 2 (λ e. omega arith))
         ]
       ]
     ]
 
 -- one with a neighbor is not open
-open_le_three : (slots : List (Option SlotValue)) (s i : ℕ) (b : SlotFace) → i < 4 → side slots s i ≡ Some b → open_at slots s ≤ 3
+open_le_three : (slots : List (Option SlotValue)) (s i : ℕ) (b : SlotFace) → i < 4 → link_behind slots s i ≡ Some b → open_at slots s ≤ 3
 open_le_three slots s i b i4 is =
-    let here : open_side (side slots s i) ≡ 0 = ap open_side is in
-    let most : (k : ℕ) → open_side (side slots s k) ≤ 1 = λ k. open_le_one (side slots s k) in
+    let here : open_side (link_behind slots s i) ≡ 0 = ap open_side is in
+    let most : (k : ℕ) → open_side (link_behind slots s k) ≤ 1 = λ k. open_le_one (link_behind slots s k) in
     elim (cases_eq i 0) [
-      | inl i0 ↦ omega (arith, subst (λ n. open_side (side slots s n) ≡ 0) i0 here, most 1, most 2, most 3)
+      | inl i0 ↦ omega (arith, subst (λ n. open_side (link_behind slots s n) ≡ 0) i0 here, most 1, most 2, most 3)
       | inr n0 ↦ elim (cases_eq i 1) [
-        | inl i1 ↦ omega (arith, subst (λ n. open_side (side slots s n) ≡ 0) i1 here, most 0, most 2, most 3)
+        | inl i1 ↦ omega (arith, subst (λ n. open_side (link_behind slots s n) ≡ 0) i1 here, most 0, most 2, most 3)
         | inr n1 ↦ elim (cases_eq i 2) [
-          | inl i2 ↦ omega (arith, subst (λ n. open_side (side slots s n) ≡ 0) i2 here, most 0, most 1, most 3)
+          | inl i2 ↦ omega (arith, subst (λ n. open_side (link_behind slots s n) ≡ 0) i2 here, most 0, most 1, most 3)
           | inr n2 ↦
               let i3 : i ≡ 3 = omega arith in
-              omega (arith, subst (λ n. open_side (side slots s n) ≡ 0) i3 here, most 0, most 1, most 2)
+              omega (arith, subst (λ n. open_side (link_behind slots s n) ≡ 0) i3 here, most 0, most 1, most 2)
         ]
       ]
     ]
@@ -75,9 +75,9 @@ open_le_three slots s i b i4 is =
     open_le_one None = omega arith
     open_le_one (Some b) = omega arith
 
-none_open : (slots : List (Option SlotValue)) (s m : ℕ) → m < 4 → open_at slots s ≡ 0 → IsSome (side slots s m)
+none_open : (slots : List (Option SlotValue)) (s m : ℕ) → m < 4 → open_at slots s ≡ 0 → IsSome (link_behind slots s m)
 none_open slots s m m4 none =
-    some_from_open (side slots s m) (elim (cases_eq m 0) [
+    some_from_open (link_behind slots s m) (elim (cases_eq m 0) [
       | inl m0 ↦ rw m0 (omega arith)
       | inr n0 ↦ elim (cases_eq m 1) [
         | inl m1 ↦ rw m1 (omega arith)
@@ -88,7 +88,7 @@ none_open slots s m m4 none =
       ]
     ])
 
-open_same : (old new : List (Option SlotValue)) (u : ℕ) → ((k : ℕ) → side new u k ≡ side old u k) → open_at new u ≡ open_at old u
+open_same : (old new : List (Option SlotValue)) (u : ℕ) → ((k : ℕ) → link_behind new u k ≡ link_behind old u k) → open_at new u ≡ open_at old u
 open_same old new u same = rw (same 0, same 1, same 2, same 3) refl
 
 open_read : (slots : List (Option SlotValue)) (rim : List RimFace) (k : ℕ) → k < length rim → get_or (map (open_behind slots) rim) k 0 ≡ open_at slots (behind_rim slots rim k).slot
@@ -100,7 +100,7 @@ module _ (old new : List (Option SlotValue)) (rim : List RimFace) (p : Corner) (
 
   -- a link takes two open faces away
   pub open_faces-link : LinksStar old new rim p 0 → (a b s i t j : ℕ) → a < length rim → b < length rim → s ≡ (behind_rim old rim a).slot → t ≡ (behind_rim old rim b).slot
-      → i < 4 → j < 4 → s ≢ t → side old s i ≡ None → side old t j ≡ None → Links old new s i t j → open_faces new rim + 2 ≡ open_faces old rim
+      → i < 4 → j < 4 → s ≢ t → link_behind old s i ≡ None → link_behind old t j ≡ None → Links old new s i t j → open_faces new rim + 2 ≡ open_faces old rim
   open_faces-link star_links a b s i t j la lb es et i4 j4 differ free_a free_b links =
       let xs : List ℕ = map (open_behind old) rim in
       let ys : List ℕ = map (open_behind new) rim in
@@ -127,11 +127,11 @@ module _ (old new : List (Option SlotValue)) (rim : List RimFace) (p : Corner) (
         linked = λ q m lt m4.
             let le = get_or-le-sum_by (open_behind new) rim q no_face lt in
             let zero : open_at new (behind_rim new rim q).slot ≡ 0 = omega (arith, le, none) in
-            subst (λ (f : SlotFace). IsSome (side new f.slot m)) (kept links q lt) (none_open new (behind_rim new rim q).slot m m4 zero);
+            subst (λ (f : SlotFace). IsSome (link_behind new f.slot m)) (kept links q lt) (none_open new (behind_rim new rim q).slot m m4 zero);
       }
 
 -- each slot of a star has a neighbor on the rim
-pub open_faces-le : (slots : List (Option SlotValue)) (rim : List RimFace) (p : Corner) → IsMesh slots → IsStar slots rim p → open_faces slots rim ≤ length rim * 3
+pub open_faces-le : (slots : List (Option SlotValue)) (rim : List RimFace) (p : Corner) → IsArenaMesh slots → IsStar slots rim p → open_faces slots rim ≤ length rim * 3
 open_faces-le slots rim p mesh star =
     sum_by-le (open_behind slots) 3 rim (λ k d lt.
     let is : get_or rim k d ≡ rim_at rim k = get_or_default rim k d no_face lt in

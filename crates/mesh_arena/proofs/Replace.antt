@@ -7,12 +7,12 @@ use Rattle.mesh_arena.specs.declared.slot.Corner.TheVariants.{Ghost}
 use Rattle.mesh_arena.specs.declared.arena.SlotFace.{SlotFace}
 use Rattle.mesh_arena.specs.declared.slot.Slot.{Slot}
 use Rattle.mesh_arena.specs.declared.slot.RimFace.{RimFace}
-use Rattle.mesh_arena.specs.Mesh.{SlotValue, corners_at, corner_in, IsLive, corner, side, at, IsMesh, AllDiffer}
+use Rattle.mesh_arena.specs.Mesh.{SlotValue, corners_at, corner_in, IsLive, corner, link_behind, at, IsArenaMesh, AllDiffer}
 use Rattle.mesh_arena.specs.Star.{behind, rim_at, face_side, behind_rim}
 use Rattle.mesh_arena.specs.declared.star.StarSlot.{StarSlot}
 use Rattle.mesh_arena.specs.Surgery.{star_at, star_corners, Plans, FitsFace, CanAdd, AddsStar}
 use Rattle.mesh_arena.specs.StarLinks.{OnRim, ArePaired, IsStar, LinksStar}
-use Rattle.mesh_arena.specs.Cavity.{slot_at, IsIn}
+use Rattle.mesh_arena.specs.Cavity.{slot_at, IsInCavitySlots}
 use Rattle.mesh_arena.specs.Cut.{Cuts}
 use Rattle.mesh_arena.specs.Replace.{IsCavity, IsRim, IsOffRim, IsStarSlot, Replaces}
 use Rattle.mesh_arena.proofs.Mesh.{none_some, none_live}
@@ -20,14 +20,14 @@ use Rattle.mesh_arena.proofs.Cone.{corners_four, faces_below, cone_differ, cone_
 use Rattle.mesh_arena.proofs.AddStar.{free_from_dead, live_by_side, live_not_free}
 
 -- a slot is on the list or not
-pub in_or_not : (cavity : List Slot) (s : ℕ) → IsIn cavity s ⊎ (IsIn cavity s → ⊥)
+pub in_or_not : (cavity : List Slot) (s : ℕ) → IsInCavitySlots cavity s ⊎ (IsInCavitySlots cavity s → ⊥)
 in_or_not cavity s =
     elim (below_not (length cavity) (omega arith)) [
       | inl found ↦ inl found
       | inr none ↦ inr (λ found. none found.place found.inside found.is)
     ]
   where
-    below_not : (n : ℕ) → n ≤ length cavity → IsIn cavity s ⊎ ((j : ℕ) → j < n → slot_at cavity j ≢ s)
+    below_not : (n : ℕ) → n ≤ length cavity → IsInCavitySlots cavity s ⊎ ((j : ℕ) → j < n → slot_at cavity j ≢ s)
     below_not zero h = inr (λ j lt. absurd (omega arith))
     below_not (suc n) h =
         elim (below_not n (omega arith)) [
@@ -42,8 +42,8 @@ some_corners : (o : Option (List Corner)) → IsSome o → (cs : List Corner) ×
 some_corners None some = absurd (search rules)
 some_corners (Some cs) some = (cs, refl)
 
-module _ (A : List (Option SlotValue)) (cavity : List Slot) (rim : List RimFace) (p : Corner) (mesh_A : IsMesh A) (hole : IsCavity A cavity) (edge : IsRim A cavity rim) (pairs : ArePaired A rim) (off : IsOffRim A rim p) where
-  in_live : (u : ℕ) → IsIn cavity u → IsLive A u
+module _ (A : List (Option SlotValue)) (cavity : List Slot) (rim : List RimFace) (p : Corner) (mesh_A : IsArenaMesh A) (hole : IsCavity A cavity) (edge : IsRim A cavity rim) (pairs : ArePaired A rim) (off : IsOffRim A rim p) where
+  in_live : (u : ℕ) → IsInCavitySlots cavity u → IsLive A u
   in_live u found = subst (IsLive A) found.is (hole.live found.place found.inside)
 
   inner_live : (r : ℕ) → r < length rim → IsLive A (behind_rim A rim r).slot
@@ -53,7 +53,7 @@ module _ (A : List (Option SlotValue)) (cavity : List Slot) (rim : List RimFace)
   outer_live r h = live_by_side A _ _ _ (edge.has r h)
 
   module _ (F : List (Option SlotValue)) (cuts : Cuts A F cavity rim) where
-    live_F : (u : ℕ) → IsLive A u → (IsIn cavity u → ⊥) → IsLive F u
+    live_F : (u : ℕ) → IsLive A u → (IsInCavitySlots cavity u → ⊥) → IsLive F u
     live_F u live out = subst IsSome (sym (cuts.kept u out)) live
 
     outer_F : (r : ℕ) → r < length rim → corners_at F (rim_at rim r).slot.index ≡ corners_at A (rim_at rim r).slot.index
@@ -145,10 +145,10 @@ module _ (A : List (Option SlotValue)) (cavity : List Slot) (rim : List RimFace)
             }
 
         module _ (L : List (Option SlotValue)) (links_star : LinksStar S L rim p (length rim)) where
-          corners_L : (u : ℕ) → IsLive A u → (IsIn cavity u → ⊥) → corners_at L u ≡ corners_at A u
+          corners_L : (u : ℕ) → IsLive A u → (IsInCavitySlots cavity u → ⊥) → corners_at L u ≡ corners_at A u
           corners_L u live out = links_star.corners u ∙ adds_star.kept u (live_F u live out) ∙ cuts.kept u out
 
-          sides_L : (u k : ℕ) → IsLive F u → side L u k ≡ side S u k
+          sides_L : (u k : ℕ) → IsLive F u → link_behind L u k ≡ link_behind S u k
           sides_L u k live = links_star.sides u k (λ q h. star_new q u h live)
 
           rim_side : (r : ℕ) → r < length rim → face_side L (rim_at rim r) ≡ face_side S (rim_at rim r)
@@ -161,7 +161,7 @@ module _ (A : List (Option SlotValue)) (cavity : List Slot) (rim : List RimFace)
           same_slot r h = ap (λ (b : SlotFace). b.slot) (ap behind (rim_side r h))
 
           -- a place that was not free is the cavity's
-          star_fresh : (r : ℕ) → r < length rim → IsLive A (behind_rim S rim r).slot → IsIn cavity (behind_rim S rim r).slot
+          star_fresh : (r : ℕ) → r < length rim → IsLive A (behind_rim S rim r).slot → IsInCavitySlots cavity (behind_rim S rim r).slot
           star_fresh r h live =
               elim (in_or_not cavity (behind_rim S rim r).slot) [
                 | inl found ↦ found
@@ -172,7 +172,7 @@ module _ (A : List (Option SlotValue)) (cavity : List Slot) (rim : List RimFace)
           stands r h =
               let o = adds_star.over r h in
               let inner = behind_rim A rim r in
-              let P : ℕ → Type 0 = λ s. (face_side L (rim_at rim r) ≡ Some (at s inner.face)) × (IsLive A s → IsIn cavity s) × (corners_at L s ≡ option_map (λ (cs : List Corner). set cs inner.face p) (corners_at A inner.slot)) × ((k : ℕ) → k < 4 → IsSome (side L s k)) in
+              let P : ℕ → Type 0 = λ s. (face_side L (rim_at rim r) ≡ Some (at s inner.face)) × (IsLive A s → IsInCavitySlots cavity s) × (corners_at L s ≡ option_map (λ (cs : List Corner). set cs inner.face p) (corners_at A inner.slot)) × ((k : ℕ) → k < 4 → IsSome (link_behind L s k)) in
               let all : P (behind_rim L rim r).slot = subst P (sym (same_slot r h)) (
                 rim_side r h ∙ o.is ∙ ap (λ (k : ℕ). Some (at (behind_rim S rim r).slot k)) (plans.face r h),
                 star_fresh r h,
@@ -181,11 +181,11 @@ module _ (A : List (Option SlotValue)) (cavity : List Slot) (rim : List RimFace)
               ) in
               record { is = all.0; fresh = all.1; corners = all.2; linked = all.3 }
 
-          live_after : (u : ℕ) → IsLive L u → (IsLive A u × (IsIn cavity u → ⊥)) ⊎ ((r : ℕ) × (r < length rim) × ((behind_rim L rim r).slot ≡ u))
+          live_after : (u : ℕ) → IsLive L u → (IsLive A u × (IsInCavitySlots cavity u → ⊥)) ⊎ ((r : ℕ) × (r < length rim) × ((behind_rim L rim r).slot ≡ u))
           live_after u live =
               elim (adds_star.live u (subst IsSome (links_star.corners u) live)) [
                 | inl before ↦
-                    let out : IsIn cavity u → ⊥ = λ found. none_live _ (cuts.gone u found) before in
+                    let out : IsInCavitySlots cavity u → ⊥ = λ found. none_live _ (cuts.gone u found) before in
                     inl (subst IsSome (cuts.kept u out) before, out)
                 | inr found ↦ inr (found.0, found.1, same_slot found.0 found.1 ∙ found.2)
               ]

@@ -8,25 +8,25 @@ use Rattle.mesh_arena.specs.declared.arena.SlotFace.{SlotFace}
 use Rattle.mesh_arena.specs.declared.edge.Edge.{Edge}
 use Rattle.mesh_arena.specs.declared.slot.RimFace.{RimFace}
 use Rattle.mesh_arena.specs.declared.star.StarSlot.{StarSlot}
-use Rattle.mesh_arena.specs.Mesh.{SlotValue, corner_in, corner, side, at, SameFace, IsMesh, Links}
+use Rattle.mesh_arena.specs.Mesh.{SlotValue, corner_in, corner, link_behind, at, SameFace, IsArenaMesh, Links}
 use Rattle.mesh_arena.specs.Cells.{cell_corners}
 use Rattle.mesh_arena.specs.Star.{behind, behind_rim}
-use Rattle.mesh_arena.specs.StarLinks.{Places, IsStar, LinksStar, IsOverEdge, AreOverEdges}
+use Rattle.mesh_arena.specs.StarLinks.{AreFourPlaces, IsStar, LinksStar, IsOverEdge, AreOverEdges}
 use Rattle.mesh_arena.specs.Surgery.{no_slot, star_at, AddsStar, StandsOver, AreOverRim}
-use Rattle.mesh_arena.specs.Edges.{edge_between, Table, IsMet, AddsOnly}
+use Rattle.mesh_arena.specs.Edges.{edge_between, Table, IsEdgeMet, AddsOnly}
 use Rattle.mesh_arena.proofs.Mesh.{same_corner}
 use Rattle.mesh_arena.proofs.EdgeEnds.{same_ends}
 use Rattle.mesh_arena.proofs.Pairs.{SameFace-three, LinksStar-mates}
 
 -- the places of a slot in another order
-pub turned : (k f a b : ℕ) → Places k f a b → Places k f b a
+pub turned : (k f a b : ℕ) → AreFourPlaces k f a b → AreFourPlaces k f b a
 turned k f a b p = record { k4 = p.k4; f4 = p.f4; a4 = p.b4; b4 = p.a4; fk = p.fk; ak = p.bk; bk = p.ak; fa = p.fb; fb = p.fa; ab = λ e. p.ab (sym e) }
 
 -- the face opposite the place a
-pub opposite : (f a b c : ℕ) → Places f a b c → Places a f b c
+pub opposite : (f a b c : ℕ) → AreFourPlaces f a b c → AreFourPlaces a f b c
 opposite f a b c p = record { k4 = p.f4; f4 = p.k4; a4 = p.a4; b4 = p.b4; fk = λ e. p.fk (sym e); ak = λ e. p.fa (sym e); bk = λ e. p.fb (sym e); fa = λ e. p.ak (sym e); fb = λ e. p.bk (sym e); ab = p.ab }
 
-pub first_last : (f a b c : ℕ) → Places f a b c → Places f b a c
+pub first_last : (f a b c : ℕ) → AreFourPlaces f a b c → AreFourPlaces f b a c
 first_last f a b c p = record { k4 = p.k4; f4 = p.a4; a4 = p.f4; b4 = p.b4; fk = p.ak; ak = p.fk; bk = p.bk; fa = λ e. p.fa (sym e); fb = p.ab; ab = p.fb }
 
 -- links keep what stands over the rim
@@ -61,7 +61,7 @@ module _ (old new : List (Option SlotValue)) (rim : List RimFace) (p : Corner) (
   pub AreOverEdges-along : (table : Table) → AreOverEdges old rim p table → AreOverEdges new rim p table
   AreOverEdges-along table over e s met = IsOverEdge-along e s (over e s met)
 
-pub AreOverEdges-met : (slots : List (Option SlotValue)) (rim : List RimFace) (p : Corner) (old new : Table) (e : Edge) (s : SlotFace) → AddsOnly (IsMet old) (IsMet new) e s → IsOverEdge slots rim p e s → AreOverEdges slots rim p old → AreOverEdges slots rim p new
+pub AreOverEdges-met : (slots : List (Option SlotValue)) (rim : List RimFace) (p : Corner) (old new : Table) (e : Edge) (s : SlotFace) → AddsOnly (IsEdgeMet old) (IsEdgeMet new) e s → IsOverEdge slots rim p e s → AreOverEdges slots rim p old → AreOverEdges slots rim p new
 AreOverEdges-met slots rim p old new e s only here before e2 s2 met =
     elim (only e2 s2 met) [
       | inl was ↦ before e2 s2 was
@@ -69,7 +69,7 @@ AreOverEdges-met slots rim p old new e s only here before e2 s2 met =
     ]
 
 -- a face of the slot over the face r
-pub IsOverEdge-face : (slots : List (Option SlotValue)) (rim : List RimFace) (p : Corner) → IsStar slots rim p → (r : ℕ) (s : StarSlot) (k a b : ℕ) (e : Edge) → r < length rim → StandsOver slots rim r s → Places k s.face a b → e ≡ edge_between (get_or (cell_corners s.cell) a Ghost) (get_or (cell_corners s.cell) b Ghost) → IsOverEdge slots rim p e (at s.slot k)
+pub IsOverEdge-face : (slots : List (Option SlotValue)) (rim : List RimFace) (p : Corner) → IsStar slots rim p → (r : ℕ) (s : StarSlot) (k a b : ℕ) (e : Edge) → r < length rim → StandsOver slots rim r s → AreFourPlaces k s.face a b → e ≡ edge_between (get_or (cell_corners s.cell) a Ghost) (get_or (cell_corners s.cell) b Ghost) → IsOverEdge slots rim p e (at s.slot k)
 IsOverEdge-face slots rim p star r s k a b e lt over places is =
     let corners = cell_corners s.cell in
     let at_s : (m : ℕ) → corner slots s.slot m ≡ get_or corners m Ghost = λ m. ap (λ (o : Option (List Corner)). corner_in o m) over.corners in
@@ -85,7 +85,7 @@ IsOverEdge-face slots rim p star r s k a b e lt over places is =
       ends = ap (λ (x : Corner). edge_between x (corner slots s.slot b)) (at_s a) ∙ ap (edge_between (get_or corners a Ghost)) (at_s b) ∙ sym is;
     }
 
-module _ (slots : List (Option SlotValue)) (rim : List RimFace) (p : Corner) (mesh : IsMesh slots) (star : IsStar slots rim p) where
+module _ (slots : List (Option SlotValue)) (rim : List RimFace) (p : Corner) (mesh : IsArenaMesh slots) (star : IsStar slots rim p) where
   -- faces over the same edge have the same corners
   pub over_same : (e : Edge) (s t : SlotFace) → IsOverEdge slots rim p e s → IsOverEdge slots rim p e t → SameFace slots s.slot s.face t.slot t.face
   over_same e s t a b =
@@ -95,7 +95,7 @@ module _ (slots : List (Option SlotValue)) (rim : List RimFace) (p : Corner) (me
         | inr across ↦ SameFace-three slots s.slot s.face a.apex a.first a.second t.slot t.face b.apex b.second b.first a.places (turned _ _ _ _ b.places) apex across.0 across.1
       ]
 
-  pub LinksStar-over : (new : List (Option SlotValue)) (e : Edge) (s t : SlotFace) → IsOverEdge slots rim p e s → IsOverEdge slots rim p e t → s.slot ≢ t.slot → side slots t.slot t.face ≡ None → Links slots new s.slot s.face t.slot t.face → LinksStar slots new rim p 0
+  pub LinksStar-over : (new : List (Option SlotValue)) (e : Edge) (s t : SlotFace) → IsOverEdge slots rim p e s → IsOverEdge slots rim p e t → s.slot ≢ t.slot → link_behind slots t.slot t.face ≡ None → Links slots new s.slot s.face t.slot t.face → LinksStar slots new rim p 0
   LinksStar-over new e s t a b differ free links =
       LinksStar-mates slots new rim p a.over s.face b.over t.face s.slot t.slot mesh star a.inside b.inside
       (λ same. differ (a.slot ∙ ap (λ n. (behind_rim slots rim n).slot) (sym same) ∙ sym b.slot))

@@ -6,7 +6,7 @@ use Rattle.mesh_arena.specs.declared.slot.Slot.{Slot}
 abbrev pub slot_at : List Slot → ℕ → ℕ
 slot_at cavity j = (slice_index_or cavity j (record { index = 0 })).index
 
-pub record IsIn (cavity : List Slot) (s : ℕ) : Type 0 where
+pub record IsInCavitySlots (cavity : List Slot) (s : ℕ) : Type 0 where
   pub place : ℕ
   pub inside : place < length cavity
   pub is : slot_at cavity place ≡ s

@@ -5,20 +5,20 @@ use Rattle.mesh_arena.specs.declared.cell.Cell.{Cell}
 use Rattle.mesh_arena.specs.declared.arena.SlotFace.{SlotFace}
 use Rattle.mesh_arena.specs.declared.slot.Corner.{Corner}
 use Rattle.mesh_arena.specs.declared.slot.Corner.TheVariants.{Point, Ghost}
-use Rattle.mesh_arena.specs.Mesh.{SlotValue, at, IsMesh}
+use Rattle.mesh_arena.specs.Mesh.{SlotValue, at, IsArenaMesh}
 
 -- the number that is kept of a corner
-abbrev pub number_in : Corner → ℕ
-number_in (Point i) = i
-number_in Ghost = 0
+abbrev pub kept_number : Corner → ℕ
+kept_number (Point i) = i
+kept_number Ghost = 0
 
 -- A link is one number for a face: the slot behind it times 16, and the place of the shared face in that slot, or 4 where there is none,
 -- and 8 more where the corner opposite the face is the point at infinity. The first link of a free cell has the next free cell and 5
 abbrev pub slot_in : ℕ → ℕ
 slot_in link = link / 16
 
-abbrev pub face_in : ℕ → ℕ
-face_in link = link % 8
+abbrev pub link_face : ℕ → ℕ
+link_face link = link % 8
 
 abbrev pub is_infinite : ℕ → Bool
 is_infinite link = (link / 8) % 2 == 1
@@ -37,7 +37,7 @@ cell_corners c = corners_in c.points c.links
 
 -- the slot and face behind a face, if there is one
 abbrev pub side_to : ℕ → Option SlotFace
-side_to link = if nat_lt (face_in link) 4 then Some (at (slot_in link) (face_in link)) else None
+side_to link = if nat_lt (link_face link) 4 then Some (at (slot_in link) (link_face link)) else None
 
 abbrev pub sides_in : List ℕ → List (Option SlotFace)
 sides_in links = map side_to links
@@ -47,10 +47,10 @@ tet_in c = record { corners = corners_in c.points c.links; sides = sides_in c.li
 
 -- whether the cell is live
 abbrev pub live_in : Cell → Bool
-live_in c = not (face_in (slice_index_or c.links 0 0) == 5)
+live_in c = not (link_face (slice_index_or c.links 0 0) == 5)
 
 -- a live cell with four corners and no neighbor
-pub record IsBare (c : Cell) : Type 0 where
+pub record IsUnlinked (c : Cell) : Type 0 where
   pub live : live_in c ≡ true
   pub corners : length (cell_corners c) ≡ 4
   pub sides : sides_in c.links ≡ None ∷ None ∷ None ∷ None ∷ []
@@ -80,13 +80,13 @@ pub record IsCounted (cells : List Cell) (live next : ℕ) : Type 0 where
   pub total : live + free ≡ length cells
   pub linked : IsFreeList cells free next
 
-pub record IsSound (cells : List Cell) (live next : ℕ) : Type 0 where
+pub record AreSoundCells (cells : List Cell) (live next : ℕ) : Type 0 where
   pub counted : IsCounted cells live next
-  pub mesh : IsMesh (map tet_of cells)
+  pub mesh : IsArenaMesh (map tet_of cells)
   pub small : length cells ≤ most_cells
 
 -- there is room for the star over a rim of `spare` faces, of so many cells, and of so many slots on the list of the star
 pub record IsReady (cells : List Cell) (live next spare capacity slots : ℕ) : Type 0 where
-  pub sound : IsSound cells live next
+  pub sound : AreSoundCells cells live next
   pub room : spare ≤ min capacity most_cells - live
   pub star : spare ≤ slots

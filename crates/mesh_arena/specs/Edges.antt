@@ -11,16 +11,16 @@ use Rattle.mesh_arena.specs.declared.square.MetFace.{MetFace}
 use Rattle.mesh_arena.specs.declared.hashed.Met.{Met}
 
 -- a number of its own for each corner
-abbrev pub corner_number : Corner → ℕ
-corner_number (Point i) = i + 1
-corner_number Ghost = 0
+abbrev pub corner_key : Corner → ℕ
+corner_key (Point i) = i + 1
+corner_key Ghost = 0
 
 -- the edge between the corners with these numbers
 abbrev pub edge_of : ℕ → ℕ → Edge
 edge_of a b = record { low = min a b; high = max a b }
 
 abbrev pub edge_between : Corner → Corner → Edge
-edge_between x y = edge_of (corner_number x) (corner_number y)
+edge_between x y = edge_of (corner_key x) (corner_key y)
 
 -- no corner had a row in a later round, and one that had one in this round has that one
 pub record AreRows (corners : List ℕ) (last : List LastRow) (round : ℕ) : Type 0 where
@@ -36,8 +36,8 @@ AreKept old new = (corner : ℕ) (d : LastRow) → corner < length new
     → ((slice_index_or new corner d).round ≡ 0) ⊎ ((corner < length old) × (slice_index_or new corner d ≡ slice_index_or old corner d))
 
 -- the place in a square of the edge from one row to another
-abbrev pub place_of : ℕ → ℕ → ℕ
-place_of a b = a * 64 + b
+abbrev pub square_place : ℕ → ℕ → ℕ
+square_place a b = a * 64 + b
 
 -- in each row of a square the number of a corner, and in each place the face that an edge was met at, or nothing
 pub record SquareValue : Type 0 where
@@ -45,11 +45,11 @@ pub record SquareValue : Type 0 where
   pub faces : List (Option SlotFace)
 
 -- what a place has, if it is of this round
-abbrev pub face_of : ℕ → MetFace → Option SlotFace
-face_of round m = if m.round == round then Some (record { slot = m.slot; face = m.face }) else None
+abbrev pub met_face : ℕ → MetFace → Option SlotFace
+met_face round m = if m.round == round then Some (record { slot = m.slot; face = m.face }) else None
 
 abbrev pub faces_in : List MetFace → ℕ → List (Option SlotFace)
-faces_in met round = map (face_of round) met
+faces_in met round = map (met_face round) met
 
 -- no place is of a later round, and those of this round lie between rows that are taken
 pub record IsSquare (met : List MetFace) (round : ℕ) (rows : List ℕ) : Type 0 where
@@ -57,7 +57,7 @@ pub record IsSquare (met : List MetFace) (round : ℕ) (rows : List ℕ) : Type 
   pub all : All (λ m. m.round ≤ round) met
   pub few : length met ≤ 4096
   pub between : (row other : ℕ) (face : SlotFace) → other < 64
-      → slice_index_or (faces_in met round) (place_of row other) None ≡ Some face → (row < length rows) × (other < length rows)
+      → slice_index_or (faces_in met round) (square_place row other) None ≡ Some face → (row < length rows) × (other < length rows)
 
 -- the edge has the corners in two rows for ends, and was met at this face
 pub record IsInSquare (square : SquareValue) (edge : Edge) (face : SlotFace) : Type 0 where
@@ -70,10 +70,10 @@ pub record IsInSquare (square : SquareValue) (edge : Edge) (face : SlotFace) : T
   pub is_first : slice_get square.rows row ≡ Some first
   pub is_second : slice_get square.rows other_row ≡ Some second
   pub ends : edge ≡ edge_of first second
-  pub is : slice_index_or square.faces (place_of row other_row) None ≡ Some face
+  pub is : slice_index_or square.faces (square_place row other_row) None ≡ Some face
 
 -- the row of the end has its number
-pub record IsEnd (rows : List ℕ) (end : End) : Type 0 where
+pub record IsRowEnd (rows : List ℕ) (end : End) : Type 0 where
   pub most : end.row ≤ 64
   pub has : end.row < 64 → slice_get rows end.row ≡ Some end.number
 
@@ -94,7 +94,7 @@ abbrev pub meetings_in : List Met → ℕ → Meetings
 meetings_in met round = map (meeting_of round) met
 
 -- no place is of a later round
-pub record IsUpTo (met : List Met) (round : ℕ) : Type 0 where
+pub record AreMetUpTo (met : List Met) (round : ℕ) : Type 0 where
   pub some : 0 < round
   pub all : All (λ m. m.round ≤ round) met
 
@@ -108,8 +108,8 @@ pub record Table : Type 0 where
   pub square : SquareValue
   pub hashed : Meetings
 
-abbrev pub IsMet : Table → Edge → SlotFace → Type 0
-IsMet table edge face = IsInSquare table.square edge face ⊎ IsHashed table.hashed edge face
+abbrev pub IsEdgeMet : Table → Edge → SlotFace → Type 0
+IsEdgeMet table edge face = IsInSquare table.square edge face ⊎ IsHashed table.hashed edge face
 
 -- no edge was met
 abbrev pub MeetsNone : (Edge → SlotFace → Type 0) → Type 0

@@ -41,8 +41,8 @@ side_in None i = None
 side_in (Some t) i = slice_index_or t.sides i None
 
 -- the slot and face behind a face
-abbrev pub side : List (Option SlotValue) → ℕ → ℕ → Option SlotFace
-side slots s i = side_in (tet_at slots s) i
+abbrev pub link_behind : List (Option SlotValue) → ℕ → ℕ → Option SlotFace
+link_behind slots s i = side_in (tet_at slots s) i
 
 -- the place of a face
 abbrev pub at : ℕ → ℕ → SlotFace
@@ -65,12 +65,12 @@ abbrev pub IsShaped : List (Option SlotValue) → Type 0
 IsShaped slots = (s : ℕ) (t : SlotValue) → tet_at slots s ≡ Some t → (length t.corners ≡ 4) × (length t.sides ≡ 4)
 
 -- the corners of a live slot differ; neighbors are mutual, differ, and share the face's corners
-pub record IsMesh (slots : List (Option SlotValue)) : Type 0 where
+pub record IsArenaMesh (slots : List (Option SlotValue)) : Type 0 where
   pub shaped : IsShaped slots
   pub differ : (s i j : ℕ) → IsLive slots s → i < 4 → j < 4 → corner slots s i ≡ corner slots s j → i ≡ j
-  pub back : (s i : ℕ) (b : SlotFace) → side slots s i ≡ Some b → side slots b.slot b.face ≡ Some (at s i)
-  pub apart : (s i : ℕ) (b : SlotFace) → side slots s i ≡ Some b → b.slot ≢ s
-  pub shared : (s i : ℕ) (b : SlotFace) → side slots s i ≡ Some b → SameFace slots s i b.slot b.face
+  pub back : (s i : ℕ) (b : SlotFace) → link_behind slots s i ≡ Some b → link_behind slots b.slot b.face ≡ Some (at s i)
+  pub apart : (s i : ℕ) (b : SlotFace) → link_behind slots s i ≡ Some b → b.slot ≢ s
+  pub shared : (s i : ℕ) (b : SlotFace) → link_behind slots s i ≡ Some b → SameFace slots s i b.slot b.face
 
 -- another face
 abbrev pub Off : ℕ → ℕ → ℕ → ℕ → Type 0
@@ -80,13 +80,13 @@ Off u k s i = (u ≢ s) ⊎ (k ≢ i)
 pub record Links (old new : List (Option SlotValue)) (s i t j : ℕ) : Type 0 where
   pub len : length new ≡ length old
   pub corners : (u : ℕ) → corners_at new u ≡ corners_at old u
-  pub first : side new s i ≡ Some (at t j)
-  pub second : side new t j ≡ Some (at s i)
-  pub others : (u k : ℕ) → Off u k s i → Off u k t j → side new u k ≡ side old u k
+  pub first : link_behind new s i ≡ Some (at t j)
+  pub second : link_behind new t j ≡ Some (at s i)
+  pub others : (u k : ℕ) → Off u k s i → Off u k t j → link_behind new u k ≡ link_behind old u k
 
 -- the corners of a tetrahedron, which are the points with these numbers
-abbrev pub numbered : List ℕ → List Corner
-numbered ns = map Numbered ns
+abbrev pub numbered_corners : List ℕ → List Corner
+numbered_corners ns = map Numbered ns
 
 abbrev pub corner_list : SlotCorners → List Corner
 corner_list c = c.a ∷ c.b ∷ c.c ∷ c.d ∷ []
@@ -100,9 +100,9 @@ AllDiffer cs = (i j : ℕ) → i < 4 → j < 4 → slice_index_or cs i Ghost ≡
 pub record Takes (old new : List (Option SlotValue)) (s : ℕ) (cs : List Corner) : Type 0 where
   pub free : corners_at old s ≡ None
   pub made : corners_at new s ≡ Some cs
-  pub bare : (i : ℕ) → side new s i ≡ None
+  pub bare : (i : ℕ) → link_behind new s i ≡ None
   pub corners : (u : ℕ) → u ≢ s → corners_at new u ≡ corners_at old u
-  pub sides : (u k : ℕ) → side new u k ≡ side old u k
+  pub sides : (u k : ℕ) → link_behind new u k ≡ link_behind old u k
   pub reuses : (u : ℕ) → u < length old → corners_at old u ≡ None → s < length old
   pub within : s < length old → length new ≡ length old
   pub past : length old ≤ s → (s ≡ length old) × (length new ≡ length old + 1)

@@ -4,10 +4,10 @@ use Rattle.mesh_arena.specs.declared.slot.Corner.{Corner}
 use Rattle.mesh_arena.specs.declared.slot.Corner.TheVariants.{Ghost}
 use Rattle.mesh_arena.specs.declared.arena.SlotFace.{SlotFace}
 use Rattle.mesh_arena.specs.declared.slot.RimFace.{RimFace}
-use Rattle.mesh_arena.specs.Mesh.{SlotValue, corners_at, corner, side, OnFace, SameFace}
+use Rattle.mesh_arena.specs.Mesh.{SlotValue, corners_at, corner, link_behind, OnFace, SameFace}
 use Rattle.mesh_arena.specs.Star.{behind, rim_at, face_side, behind_rim}
 use Rattle.mesh_arena.specs.declared.edge.Edge.{Edge}
-use Rattle.mesh_arena.specs.Edges.{edge_between, Table, IsMet}
+use Rattle.mesh_arena.specs.Edges.{edge_between, Table, IsEdgeMet}
 
 abbrev pub CornerValue : Type 0
 CornerValue = Corner
@@ -20,7 +20,7 @@ pub record Has (cs : List Corner) (off : ℕ) (x : Corner) : Type 0 where
   pub is : slice_index_or cs place Ghost ≡ x
 
 -- the four places of a slot
-pub record Places (k f a b : ℕ) : Type 0 where
+pub record AreFourPlaces (k f a b : ℕ) : Type 0 where
   pub k4 : k < 4
   pub f4 : f < 4
   pub a4 : a < 4
@@ -56,7 +56,7 @@ pub record IsStar (slots : List (Option SlotValue)) (rim : List RimFace) (p : Co
   pub outside : (r q : ℕ) → r < length rim → q < length rim → (behind_rim slots rim r).slot ≢ (rim_at rim q).slot.index
   pub apex : (r : ℕ) → r < length rim → corner slots (behind_rim slots rim r).slot (behind_rim slots rim r).face ≡ p
   pub closed : (r k : ℕ) (b : SlotFace) → r < length rim → k ≢ (behind_rim slots rim r).face
-      → side slots (behind_rim slots rim r).slot k ≡ Some b → (q : ℕ) × (q < length rim) × (b.slot ≡ (behind_rim slots rim q).slot)
+      → link_behind slots (behind_rim slots rim r).slot k ≡ Some b → (q : ℕ) × (q < length rim) × (b.slot ≡ (behind_rim slots rim q).slot)
 
 -- a face of another slot of the star with no neighbor and the same corners as the face k of the slot over r
 pub record Mate (slots : List (Option SlotValue)) (rim : List RimFace) (r k : ℕ) (t : SlotFace) : Type 0 where
@@ -65,7 +65,7 @@ pub record Mate (slots : List (Option SlotValue)) (rim : List RimFace) (r k : �
   pub differs : face ≢ r
   pub slot : t.slot ≡ (behind_rim slots rim face).slot
   pub below : t.face < 4
-  pub free : side slots t.slot t.face ≡ None
+  pub free : link_behind slots t.slot t.face ≡ None
   pub same : SameFace slots (behind_rim slots rim r).slot k t.slot t.face
 
 -- the face k of the slot over r has a neighbor now, no side goes away, and the slots outside of the star stay
@@ -73,17 +73,17 @@ pub record LinksFace (old new : List (Option SlotValue)) (rim : List RimFace) (p
   pub len : length new ≡ length old
   pub corners : (u : ℕ) → corners_at new u ≡ corners_at old u
   pub star : IsStar new rim p
-  pub sides : (u m : ℕ) → ((q : ℕ) → q < length rim → (behind_rim old rim q).slot ≢ u) → side new u m ≡ side old u m
-  pub keeps : (u m : ℕ) → IsSome (side old u m) → IsSome (side new u m)
-  pub here : IsSome (side new (behind_rim old rim r).slot k)
+  pub sides : (u m : ℕ) → ((q : ℕ) → q < length rim → (behind_rim old rim q).slot ≢ u) → link_behind new u m ≡ link_behind old u m
+  pub keeps : (u m : ℕ) → IsSome (link_behind old u m) → IsSome (link_behind new u m)
+  pub here : IsSome (link_behind new (behind_rim old rim r).slot k)
 
 -- each face of the slots over the first n faces has a neighbor, and the slots outside of the star stay
 pub record LinksStar (old new : List (Option SlotValue)) (rim : List RimFace) (p : Corner) (n : ℕ) : Type 0 where
   pub len : length new ≡ length old
   pub corners : (u : ℕ) → corners_at new u ≡ corners_at old u
   pub star : IsStar new rim p
-  pub sides : (u m : ℕ) → ((q : ℕ) → q < length rim → (behind_rim old rim q).slot ≢ u) → side new u m ≡ side old u m
-  pub linked : (q m : ℕ) → q < n → m < 4 → IsSome (side new (behind_rim old rim q).slot m)
+  pub sides : (u m : ℕ) → ((q : ℕ) → q < length rim → (behind_rim old rim q).slot ≢ u) → link_behind new u m ≡ link_behind old u m
+  pub linked : (q m : ℕ) → q < n → m < 4 → IsSome (link_behind new (behind_rim old rim q).slot m)
 
 -- 1 where nothing stands behind a face
 abbrev pub open_side : Option SlotFace → ℕ
@@ -92,7 +92,7 @@ open_side (Some b) = 0
 
 -- how many faces of a slot have no neighbor
 abbrev pub open_at : List (Option SlotValue) → ℕ → ℕ
-open_at slots u = open_side (side slots u 0) + open_side (side slots u 1) + open_side (side slots u 2) + open_side (side slots u 3)
+open_at slots u = open_side (link_behind slots u 0) + open_side (link_behind slots u 1) + open_side (link_behind slots u 2) + open_side (link_behind slots u 3)
 
 abbrev pub open_behind : List (Option SlotValue) → RimFace → ℕ
 open_behind slots f = open_at slots (behind (face_side slots f)).slot
@@ -109,10 +109,10 @@ pub record IsOverEdge (slots : List (Option SlotValue)) (rim : List RimFace) (p 
   pub apex : ℕ
   pub first : ℕ
   pub second : ℕ
-  pub places : Places face.face apex first second
+  pub places : AreFourPlaces face.face apex first second
   pub point : corner slots face.slot apex ≡ p
   pub ends : edge_between (corner slots face.slot first) (corner slots face.slot second) ≡ edge
 
 -- each edge was met at such a face
 abbrev pub AreOverEdges : List (Option SlotValue) → List RimFace → Corner → Table → Type 0
-AreOverEdges slots rim p table = (e : Edge) (s : SlotFace) → IsMet table e s → IsOverEdge slots rim p e s
+AreOverEdges slots rim p table = (e : Edge) (s : SlotFace) → IsEdgeMet table e s → IsOverEdge slots rim p e s

@@ -4,8 +4,8 @@ use Rattle.std.specs.Prelude.{◌≡◌, ◌≢◌, ℕ, ◌<◌, ◌⊎◌, Lis
 use Rattle.mesh_arena.specs.declared.slot.Corner.{Corner}
 use Rattle.mesh_arena.specs.declared.slot.RimFace.{RimFace}
 use Rattle.mesh_arena.specs.declared.star.StarSlot.{StarSlot}
-use Rattle.mesh_arena.specs.Mesh.{SlotValue, corners_at, IsLive, side, at, OnFace, Off, AllDiffer}
-use Rattle.mesh_arena.specs.Cells.{cell_corners, IsBare}
+use Rattle.mesh_arena.specs.Mesh.{SlotValue, corners_at, IsLive, link_behind, at, OnFace, Off, AllDiffer}
+use Rattle.mesh_arena.specs.Cells.{cell_corners, IsUnlinked}
 use Rattle.mesh_arena.specs.Star.{rim_at, face_side, behind_rim}
 use Rattle.mesh_arena.specs.StarLinks.{Has}
 
@@ -24,7 +24,7 @@ star_corners star r = cell_corners (star_at star r).cell
 -- it
 pub record Plans (slots : List (Option SlotValue)) (rim : List RimFace) (p : Corner) (star : List StarSlot) (n : ℕ) : Type 0 where
   pub len : length star ≡ n
-  pub bare : (r : ℕ) → r < n → IsBare (star_at star r).cell
+  pub bare : (r : ℕ) → r < n → IsUnlinked (star_at star r).cell
   pub face : (r : ℕ) → r < n → (star_at star r).face ≡ (behind_rim slots rim r).face
   pub corners : (r : ℕ) → r < n
       → Some (star_corners star r) ≡ option_map
@@ -40,9 +40,9 @@ pub record AddsOver (old new : List (Option SlotValue)) (s i : ℕ) (made : ℕ)
   pub fresh : corners_at old made ≡ None
   pub made_corners : corners_at new made ≡ Some cs
   pub corners : (u : ℕ) → u ≢ made → corners_at new u ≡ corners_at old u
-  pub to : side new s i ≡ Some (at made j)
-  pub bare : (k : ℕ) → k ≢ j → side new made k ≡ None
-  pub others : (u k : ℕ) → Off u k s i → u ≢ made → side new u k ≡ side old u k
+  pub to : link_behind new s i ≡ Some (at made j)
+  pub bare : (k : ℕ) → k ≢ j → link_behind new made k ≡ None
+  pub others : (u k : ℕ) → Off u k s i → u ≢ made → link_behind new u k ≡ link_behind old u k
 
 -- the faces of the rim differ and have no neighbor, and each fits the slot that is to stand over it
 pub record CanAdd (slots : List (Option SlotValue)) (rim : List RimFace) (star : List StarSlot) : Type 0 where
@@ -51,7 +51,7 @@ pub record CanAdd (slots : List (Option SlotValue)) (rim : List RimFace) (star :
   pub free : (r : ℕ) → r < length rim → face_side slots (rim_at rim r) ≡ None
   pub once : (r q : ℕ) → r < length rim → q < length rim → (rim_at rim r).slot.index ≡ (rim_at rim q).slot.index
       → (rim_at rim r).face ≡ (rim_at rim q).face → r ≡ q
-  pub bare : (r : ℕ) → r < length rim → IsBare (star_at star r).cell
+  pub bare : (r : ℕ) → r < length rim → IsUnlinked (star_at star r).cell
   pub face : (r : ℕ) → r < length rim → (star_at star r).face < 4
   pub differ : (r : ℕ) → r < length rim → AllDiffer (star_corners star r)
   pub fits : (r : ℕ) → r < length rim
@@ -62,7 +62,7 @@ pub record IsOver (old new : List (Option SlotValue)) (rim : List RimFace) (star
   pub is : face_side new (rim_at rim r) ≡ Some (at (behind_rim new rim r).slot (star_at star r).face)
   pub fresh : corners_at old (behind_rim new rim r).slot ≡ None
   pub corners : corners_at new (behind_rim new rim r).slot ≡ Some (star_corners star r)
-  pub bare : (k : ℕ) → k ≢ (star_at star r).face → side new (behind_rim new rim r).slot k ≡ None
+  pub bare : (k : ℕ) → k ≢ (star_at star r).face → link_behind new (behind_rim new rim r).slot k ≡ None
 
 -- a slot was added over each of the first n faces, and nothing else changed
 pub record AddsStar (old new : List (Option SlotValue)) (rim : List RimFace) (star : List StarSlot) (n : ℕ) : Type 0 where
@@ -71,7 +71,7 @@ pub record AddsStar (old new : List (Option SlotValue)) (rim : List RimFace) (st
   pub kept : (u : ℕ) → IsLive old u → corners_at new u ≡ corners_at old u
   pub live : (u : ℕ) → IsLive new u → IsLive old u ⊎ ((r : ℕ) × (r < n) × ((behind_rim new rim r).slot ≡ u))
   pub sides : (u k : ℕ) → IsLive old u → ((r : ℕ) → r < n → Off u k (rim_at rim r).slot.index (rim_at rim r).face)
-      → side new u k ≡ side old u k
+      → link_behind new u k ≡ link_behind old u k
 
 -- this is the slot over the face r
 pub record StandsOver (slots : List (Option SlotValue)) (rim : List RimFace) (r : ℕ) (s : StarSlot) : Type 0 where

@@ -2,10 +2,10 @@
 ghost use Rattle.std.specs.Prelude.{◌≡◌, ◌≢◌, ℕ, ◌+◌, ◌<◌, ◌≤◌, ◌↔◌, IsTrue, [], length, Some};
 ghost use Rattle.std.specs.Prelude.{None, IsSome, IfSome, IsOk, IfOk, OnOk, OnErr, MatchOption};
 ghost use Rattle.std.specs.Prelude.{option_map, vec_capacity, List};
-ghost use Rattle.mesh_arena.specs.Mesh.{tet_at, corners_at, IsLive, at, side, corner_list};
-ghost use Rattle.mesh_arena.specs.Mesh.{numbered};
-ghost use Rattle.mesh_arena.specs.Mesh.{AllDiffer, SameFace, IsMesh, Links, Takes};
-ghost use Rattle.mesh_arena.specs.Cells.{cell_corners, IsBare};
+ghost use Rattle.mesh_arena.specs.Mesh.{tet_at, corners_at, IsLive, at, link_behind, corner_list};
+ghost use Rattle.mesh_arena.specs.Mesh.{numbered_corners};
+ghost use Rattle.mesh_arena.specs.Mesh.{AllDiffer, SameFace, IsArenaMesh, Links, Takes};
+ghost use Rattle.mesh_arena.specs.Cells.{cell_corners, IsUnlinked};
 ghost use Rattle.mesh_arena.specs.Replace.{IsCavity, IsRim};
 ghost use Rattle.mesh_arena.specs.Cut.{Cuts};
 
@@ -115,7 +115,7 @@ impl Arena {
     pub fn tet(&self, s: Slot) -> SlotCorners
         requires { IsLive self.now.slots s.index }
         ensures corners { corners_at self.now.slots s.index ≡ Some (corner_list result) }
-        ensures mesh { IsMesh self.now.slots }
+        ensures mesh { IsArenaMesh self.now.slots }
     {
         let [a, b, c, d] = self.cells[s.index as usize].corners();
         SlotCorners { a, b, c, d }
@@ -127,8 +127,8 @@ impl Arena {
     pub fn tetrahedron(&self, s: Slot) -> Option<[u32; 4]>
         requires { IsLive self.now.slots s.index }
         ensures { MatchOption result
-            ((ns : List ℕ) → corners_at self.now.slots s.index ≢ Some (numbered ns))
-            (λ ns. corners_at self.now.slots s.index ≡ Some (numbered ns)) }
+            ((ns : List ℕ) → corners_at self.now.slots s.index ≢ Some (numbered_corners ns))
+            (λ ns. corners_at self.now.slots s.index ≡ Some (numbered_corners ns)) }
     {
         self.cells[s.index as usize].numbers()
     }
@@ -139,7 +139,7 @@ impl Arena {
         requires live { IsLive self.now.slots s.index }
         requires face { face < 4 }
         ensures value { option_map (λ n. n.index) result
-            ≡ option_map (λ b. b.slot) (side self.now.slots s.index face) }
+            ≡ option_map (λ b. b.slot) (link_behind self.now.slots s.index face) }
         ensures live { IfSome result (λ n. IsLive self.now.slots n.index) }
     {
         match self.cells[s.index as usize].side(face) {
@@ -153,7 +153,7 @@ impl Arena {
         requires live { IsLive self.now.slots s.index }
         requires face { face < 4 }
         ensures value { option_map (λ f. at f.slot.index f.face) result
-            ≡ side self.now.slots s.index face }
+            ≡ link_behind self.now.slots s.index face }
         ensures live { IfSome result (λ f. IsLive self.now.slots f.slot.index × (f.face < 4)) }
     {
         match self.cells[s.index as usize].side(face) {
@@ -185,8 +185,8 @@ impl Arena {
         requires faces { (i < 4) × (j < 4) }
         requires differ { s.index ≢ t.index }
         requires same { SameFace self.old.slots s.index i t.index j }
-        requires first_free { side self.old.slots s.index i ≡ None }
-        requires second_free { side self.old.slots t.index j ≡ None }
+        requires first_free { link_behind self.old.slots s.index i ≡ None }
+        requires second_free { link_behind self.old.slots t.index j ≡ None }
         ensures links { Links self.old.slots self.new.slots s.index i t.index j }
         ensures spare { self.new.spare ≡ self.old.spare }
         ensures room { self.new.room ≡ self.old.room }
@@ -216,7 +216,7 @@ impl Arena {
         ensures within { self.new.spare ≤ self.new.room }
         ensures succeeds { faces ≤ self.old.spare → IsOk result }
         ensures slots { self.new.slots ≡ self.old.slots }
-        ensures mesh { IsMesh self.new.slots }
+        ensures mesh { IsArenaMesh self.new.slots }
         ensures err { OnErr result (self.new ≡ self.old) }
     {
         if faces <= self.spare {
@@ -254,7 +254,7 @@ impl Arena {
 
     // `alloc_slot` where there is room.
     pub(crate) fn take_slot(&mut self, cell: &Cell) -> u32
-        requires bare { IsBare cell.now }
+        requires bare { IsUnlinked cell.now }
         requires differ { AllDiffer (cell_corners cell.now) }
         requires room { 0 < self.old.room }
         ensures takes { Takes self.old.slots self.new.slots result (cell_corners cell.now) }
@@ -299,7 +299,7 @@ impl Arena {
     // Takes that list back.
     pub(crate) fn keep_star(&mut self, star: Vec<StarSlot>)
         ensures slots { self.new.slots ≡ self.old.slots }
-        ensures mesh { IsMesh self.new.slots }
+        ensures mesh { IsArenaMesh self.new.slots }
     {
         let room = self.cells.capacity().min(MOST_CELLS) - self.live;
         self.spare = room.min(star.capacity());

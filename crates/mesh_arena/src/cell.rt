@@ -3,11 +3,11 @@ ghost use Rattle.std.specs.Prelude.{◌≡◌, ℕ, ◌<◌, ◌^◌, IsTrue, tr
 ghost use Rattle.std.specs.Prelude.{IsSome, slice_index_or, slice_set, if◌then◌else◌};
 ghost use Rattle.mesh_arena.specs.declared.slot.Corner.TheVariants.{Ghost as Infinite};
 ghost use Rattle.std.specs.Prelude.{MatchOption, List, ◌≢◌};
-ghost use Rattle.mesh_arena.specs.Mesh.{corner_list, at, tet_with, numbered};
-ghost use Rattle.mesh_arena.specs.Cells.{number_in, corners_in, corner_with, sides_in, side_to};
-ghost use Rattle.mesh_arena.specs.Cells.{is_infinite, slot_in, face_in, live_in, tet_in, next_of};
-ghost use Rattle.mesh_arena.specs.Cells.{cell_corners, IsBare};
-ghost use Rattle.mesh_arena.specs.Edges.{corner_number};
+ghost use Rattle.mesh_arena.specs.Mesh.{corner_list, at, tet_with, numbered_corners};
+ghost use Rattle.mesh_arena.specs.Cells.{kept_number, corners_in, corner_with, sides_in, side_to};
+ghost use Rattle.mesh_arena.specs.Cells.{is_infinite, slot_in, link_face, live_in, tet_in, next_of};
+ghost use Rattle.mesh_arena.specs.Cells.{cell_corners, IsUnlinked};
+ghost use Rattle.mesh_arena.specs.Edges.{corner_key};
 
 use crate::arena::SlotFace;
 use crate::{Corner, SlotCorners};
@@ -32,9 +32,9 @@ const INFINITE: u32 = 8;
 
 // The link of a face that nothing stands behind, opposite this corner.
 fn bare(corner: Corner) -> u32
-    ensures corner { corner_with (number_in corner) result ≡ corner }
+    ensures corner { corner_with (kept_number corner) result ≡ corner }
     ensures side { side_to result ≡ None }
-    ensures face { face_in result ≡ 4 }
+    ensures face { link_face result ≡ 4 }
 {
     match corner {
         Corner::Point(_) => NO_FACE,
@@ -54,7 +54,7 @@ fn either(first: bool, one: u32, two: u32) -> u32
 fn unlinked(link: u32) -> u32
     ensures infinite { is_infinite result ≡ is_infinite link }
     ensures side { side_to result ≡ None }
-    ensures face { face_in result ≡ 4 }
+    ensures face { link_face result ≡ 4 }
 {
     link / INFINITE % 2 * INFINITE + NO_FACE
 }
@@ -65,7 +65,7 @@ fn linked(link: u32, slot: u32, face: u32) -> u32
     requires face { face < 8 }
     ensures infinite { is_infinite result ≡ is_infinite link }
     ensures slot { slot_in result ≡ slot }
-    ensures face { face_in result ≡ face }
+    ensures face { link_face result ≡ face }
 {
     slot * SLOT + link % SLOT / INFINITE * INFINITE + face
 }
@@ -73,7 +73,7 @@ fn linked(link: u32, slot: u32, face: u32) -> u32
 impl Cell {
     // A cell with these corners and no neighbor.
     pub(crate) fn new(corners: SlotCorners) -> Self
-        ensures bare { IsBare result }
+        ensures bare { IsUnlinked result }
         ensures corners { cell_corners result ≡ corner_list corners }
     {
         let SlotCorners { a, b, c, d } = corners;
@@ -86,7 +86,7 @@ impl Cell {
     // A cell with no neighbor that has a point in this place, and else these corners.
     pub(crate) fn cone(&self, place: u8, point: u32) -> Self
         requires { place < 4 }
-        ensures bare { IsBare result }
+        ensures bare { IsUnlinked result }
         ensures corners { cell_corners result
             ≡ slice_set (cell_corners self.now) place (Corner.Point point) }
     {
@@ -134,7 +134,7 @@ impl Cell {
     pub(crate) fn number(&self, place: u8) -> usize
         requires { place < 4 }
         ensures { result
-            ≡ corner_number (slice_index_or (cell_corners self.now) place Corner.Ghost) }
+            ≡ corner_key (slice_index_or (cell_corners self.now) place Corner.Ghost) }
     {
         if self.links[place as usize] / INFINITE % 2 == 1 {
             0
@@ -146,8 +146,8 @@ impl Cell {
     // The numbers of the corners, in their places. None where one is the point at infinity.
     pub(crate) fn numbers(&self) -> Option<[u32; 4]>
         ensures { MatchOption result
-            ((ns : List ℕ) → corners_in self.now.points self.now.links ≢ numbered ns)
-            (λ ns. corners_in self.now.points self.now.links ≡ numbered ns) }
+            ((ns : List ℕ) → corners_in self.now.points self.now.links ≢ numbered_corners ns)
+            (λ ns. corners_in self.now.points self.now.links ≡ numbered_corners ns) }
     {
         let [i, j, k, l] = self.links;
         if is_infinite(i) || is_infinite(j) || is_infinite(k) || is_infinite(l) {
@@ -258,7 +258,7 @@ fn side_of(link: u32) -> Option<SlotFace>
 }
 
 fn number_of(corner: Corner) -> u32
-    ensures { result ≡ number_in corner }
+    ensures { result ≡ kept_number corner }
 {
     match corner {
         Corner::Point(number) => number,

@@ -1,6 +1,6 @@
 //! The edges of a star, by the corners at their ends.
 ghost use Rattle.std.specs.Prelude.{◌≡◌, ◌<◌};
-ghost use Rattle.mesh_arena.specs.Edges.{edge_of, place_of};
+ghost use Rattle.mesh_arena.specs.Edges.{edge_of, square_place};
 
 use crate::rows::ROWS;
 
@@ -62,7 +62,7 @@ impl Ends {
     #[inline(always)]
     pub(crate) fn place(self) -> usize
         requires { (self.one.row < 64) × (self.other.row < 64) }
-        ensures place { result ≡ place_of self.one.row self.other.row }
+        ensures place { result ≡ square_place self.one.row self.other.row }
         ensures small { result < 4096 }
     {
         self.one.row * ROWS + self.other.row

@@ -1,6 +1,6 @@
 //! A table of the edges of a star, by which the two faces over an edge find one another.
 ghost use Rattle.std.specs.Prelude.{◌≡◌, ◌<◌, ◌≤◌, length, IfSome, IsTrue};
-ghost use Rattle.mesh_arena.specs.Edges.{edge_of, IsMet, IsEnd, KeepsRows, MeetsNone};
+ghost use Rattle.mesh_arena.specs.Edges.{edge_of, IsEdgeMet, IsRowEnd, KeepsRows, MeetsNone};
 ghost use Rattle.mesh_arena.specs.Edges.{AddsNone, AddsOnly};
 
 use crate::arena::SlotFace;
@@ -43,7 +43,7 @@ impl EdgeTable {
 
     /// Begins a round for the edges of a rim of this many faces, in a mesh of this many slots.
     pub(crate) fn start(&mut self, faces: usize, slots: usize)
-        ensures { MeetsNone (IsMet self.new) }
+        ensures { MeetsNone (IsEdgeMet self.new) }
     {
         self.square.start(slots);
         self.has_rows = corners_of(faces) <= ROWS && self.square.len() >= PLACES;
@@ -62,10 +62,10 @@ impl EdgeTable {
     #[inline(always)]
     pub(crate) fn end(&mut self, number: usize) -> End
         ensures number { result.number ≡ number }
-        ensures end { IsEnd self.new.square.rows result }
+        ensures end { IsRowEnd self.new.square.rows result }
         ensures rows { KeepsRows self.old.square.rows self.new.square.rows }
         ensures faces { self.new.square.faces ≡ self.old.square.faces }
-        ensures met { AddsNone (IsMet self.old) (IsMet self.new) }
+        ensures met { AddsNone (IsEdgeMet self.old) (IsEdgeMet self.new) }
     {
         self.square.end(number)
     }
@@ -75,13 +75,13 @@ impl EdgeTable {
     /// on.
     #[inline(always)]
     pub(crate) fn meet(&mut self, ends: Ends, face: SlotFace) -> Option<SlotFace>
-        requires one { IsEnd self.old.square.rows ends.one }
-        requires other { IsEnd self.old.square.rows ends.other }
+        requires one { IsRowEnd self.old.square.rows ends.one }
+        requires other { IsRowEnd self.old.square.rows ends.other }
         requires rows { (ends.one.row < 64) × (ends.other.row < 64) }
         requires places { 4096 ≤ length self.old.square.faces }
         ensures found { IfSome result
-            (λ s. IsMet self.old (edge_of ends.one.number ends.other.number) s) }
-        ensures only { AddsOnly (IsMet self.old) (IsMet self.new)
+            (λ s. IsEdgeMet self.old (edge_of ends.one.number ends.other.number) s) }
+        ensures only { AddsOnly (IsEdgeMet self.old) (IsEdgeMet self.new)
             (edge_of ends.one.number ends.other.number) face }
         ensures same_rows { self.new.square.rows ≡ self.old.square.rows }
         ensures same_places { length self.new.square.faces ≡ length self.old.square.faces }
@@ -91,8 +91,8 @@ impl EdgeTable {
 
     /// The same by a hash of the edge, if a place is free for it.
     pub(crate) fn meet_hashed(&mut self, edge: Edge, face: SlotFace) -> Option<SlotFace>
-        ensures found { IfSome result (λ s. IsMet self.old edge s) }
-        ensures only { AddsOnly (IsMet self.old) (IsMet self.new) edge face }
+        ensures found { IfSome result (λ s. IsEdgeMet self.old edge s) }
+        ensures only { AddsOnly (IsEdgeMet self.old) (IsEdgeMet self.new) edge face }
         ensures square { self.new.square ≡ self.old.square }
     {
         self.hashed.meet(edge, face)

@@ -39,13 +39,13 @@ pub(crate) struct HashedEdges {
 }
 
 impl Model for HashedEdges {
-    ghost use Rattle.mesh_arena.specs.Edges.{Meetings, meetings_in, IsUpTo};
+    ghost use Rattle.mesh_arena.specs.Edges.{Meetings, meetings_in, AreMetUpTo};
 
     ghost Value = { Meetings };
 
     ghost view = { λ t. meetings_in t.met.items t.round };
 
-    ghost invariant = { λ t. IsUpTo t.met.items t.round };
+    ghost invariant = { λ t. AreMetUpTo t.met.items t.round };
 }
 
 // How many places an edge may have.

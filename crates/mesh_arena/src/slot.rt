@@ -1,6 +1,6 @@
 //! Corners and slots, and the lists of them that surgery takes.
 ghost use Rattle.std.specs.Prelude.{◌<◌, ◌↔◌, IsTrue};
-ghost use Rattle.mesh_arena.specs.StarLinks.{CornerValue, Has, Places};
+ghost use Rattle.mesh_arena.specs.StarLinks.{CornerValue, Has, AreFourPlaces};
 
 use tet_ports::Items;
 
@@ -70,7 +70,7 @@ pub(crate) fn covers(a: &[Corner; 4], i: u8, b: &[Corner; 4], j: u8) -> bool
 // the one place is.
 pub(crate) fn other_places(place: u8) -> (u8, u8, u8)
     requires { place < 4 }
-    ensures { Places place result.0 result.1 result.2 }
+    ensures { AreFourPlaces place result.0 result.1 result.2 }
 {
     (place ^ 1, place ^ 2, place ^ 3)
 }

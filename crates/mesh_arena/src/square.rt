@@ -1,6 +1,6 @@
 //! A square table of the edges between few corners.
 ghost use Rattle.std.specs.Prelude.{◌≡◌, ◌<◌, ◌≤◌, [], length, IfSome};
-ghost use Rattle.mesh_arena.specs.Edges.{edge_of, IsInSquare, IsEnd, KeepsRows};
+ghost use Rattle.mesh_arena.specs.Edges.{edge_of, IsInSquare, IsRowEnd, KeepsRows};
 ghost use Rattle.mesh_arena.specs.Edges.{MeetsNone, AddsNone, AddsOnly};
 
 use crate::arena::SlotFace;
@@ -111,7 +111,7 @@ impl Square {
     #[inline(always)]
     pub(crate) fn end(&mut self, number: usize) -> End
         ensures number { result.number ≡ number }
-        ensures end { IsEnd self.new.rows result }
+        ensures end { IsRowEnd self.new.rows result }
         ensures rows { KeepsRows self.old.rows self.new.rows }
         ensures faces { self.new.faces ≡ self.old.faces }
         ensures met { AddsNone (IsInSquare self.old) (IsInSquare self.new) }
@@ -124,8 +124,8 @@ impl Square {
     /// Where there is none, the edge is met at `face` from now on, in this direction.
     #[inline(always)]
     pub(crate) fn meet(&mut self, ends: Ends, face: SlotFace) -> Option<SlotFace>
-        requires one { IsEnd self.old.rows ends.one }
-        requires other { IsEnd self.old.rows ends.other }
+        requires one { IsRowEnd self.old.rows ends.one }
+        requires other { IsRowEnd self.old.rows ends.other }
         requires rows { (ends.one.row < 64) × (ends.other.row < 64) }
         requires places { 4096 ≤ length self.old.faces }
         ensures found { IfSome result

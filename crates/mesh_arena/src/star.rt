@@ -1,8 +1,8 @@
 //! The star of a point, planned while its cavity stands.
 ghost use Rattle.std.specs.Prelude.{◌≡◌, ℕ, ◌<◌, ◌≤◌, length, Some, IsSome, slice_set, option_map};
 ghost use Rattle.std.specs.Prelude.{vec_capacity};
-ghost use Rattle.mesh_arena.specs.Cells.{cell_corners, IsBare};
-ghost use Rattle.mesh_arena.specs.Mesh.{corners_at, side};
+ghost use Rattle.mesh_arena.specs.Cells.{cell_corners, IsUnlinked};
+ghost use Rattle.mesh_arena.specs.Mesh.{corners_at, link_behind};
 ghost use Rattle.mesh_arena.specs.Star.{behind, rim_at, face_side};
 ghost use Rattle.mesh_arena.specs.Surgery.{Plans};
 
@@ -22,14 +22,14 @@ impl Arena {
     // The slot that is to stand over a face: the corners of the slot behind it, with the point in
     // place of the one opposite the face.
     fn star_slot(&self, outer: RimFace, point: u32) -> StarSlot
-        requires { IsSome (side self.now.slots outer.slot.index outer.face) }
+        requires { IsSome (link_behind self.now.slots outer.slot.index outer.face) }
         ensures face { result.face
-            ≡ (behind (side self.now.slots outer.slot.index outer.face)).face }
-        ensures corners { let inner = behind (side self.now.slots outer.slot.index outer.face) in
+            ≡ (behind (link_behind self.now.slots outer.slot.index outer.face)).face }
+        ensures corners { let inner = behind (link_behind self.now.slots outer.slot.index outer.face) in
             Some (cell_corners result.cell)
             ≡ option_map (λ cs. slice_set cs inner.face (Corner.Point point))
             (corners_at self.now.slots inner.slot) }
-        ensures bare { IsBare result.cell }
+        ensures bare { IsUnlinked result.cell }
     {
         let inner = self.over(outer);
         StarSlot {

@@ -2,15 +2,15 @@
 ghost use Rattle.std.specs.Prelude.{◌≡◌, ◌≢◌, ℕ, ◌+◌, ◌*◌, ◌<◌, ◌≤◌, ◌↔◌, length, Some, None};
 ghost use Rattle.std.specs.Prelude.{IsSome};
 ghost use Rattle.std.specs.Prelude.{IsOk, IfOk, IfSome, OnErr, MatchOption, IsTrue, if◌then◌else◌};
-ghost use Rattle.mesh_arena.specs.Cells.{cell_corners, IsBare};
-ghost use Rattle.mesh_arena.specs.Mesh.{IsLive, side, SameFace, IsMesh, AllDiffer};
+ghost use Rattle.mesh_arena.specs.Cells.{cell_corners, IsUnlinked};
+ghost use Rattle.mesh_arena.specs.Mesh.{IsLive, link_behind, SameFace, IsArenaMesh, AllDiffer};
 ghost use Rattle.mesh_arena.specs.Star.{behind_rim};
 ghost use Rattle.mesh_arena.specs.Surgery.{FitsFace, AddsOver, CanAdd, AddsStar, StandsOver};
 ghost use Rattle.mesh_arena.specs.Surgery.{AreOverRim};
 ghost use Rattle.mesh_arena.specs.Replace.{IsCavity, IsRim, IsOffRim, Replaces};
 ghost use Rattle.mesh_arena.specs.StarLinks.{IsStar, ArePaired, Mate, LinksFace, LinksStar};
 ghost use Rattle.mesh_arena.specs.StarLinks.{IsOverEdge, AreOverEdges, open_faces};
-ghost use Rattle.mesh_arena.specs.Edges.{edge_of, IsEnd};
+ghost use Rattle.mesh_arena.specs.Edges.{edge_of, IsRowEnd};
 
 use crate::arena::{Arena, SlotFace};
 use crate::edge::{Edge, Ends};
@@ -26,8 +26,8 @@ impl Arena {
     fn add_over(&mut self, outer: RimFace, slot: &StarSlot) -> u32
         requires live { IsLive self.old.slots outer.slot.index }
         requires faces { (outer.face < 4) × (slot.now.face < 4) }
-        requires free { side self.old.slots outer.slot.index outer.face ≡ None }
-        requires bare { IsBare slot.now.cell }
+        requires free { link_behind self.old.slots outer.slot.index outer.face ≡ None }
+        requires bare { IsUnlinked slot.now.cell }
         requires differ { AllDiffer (cell_corners slot.now.cell) }
         requires fits { FitsFace self.old.slots outer.slot.index outer.face
             (cell_corners slot.now.cell) slot.now.face }
@@ -46,7 +46,7 @@ impl Arena {
         requires rim { CanAdd self.old.slots rim.now star.old.items }
         requires star { length star.old.items ≡ length rim.now }
         requires room { length rim.now ≤ self.old.room }
-        ensures mesh { IsMesh self.new.slots }
+        ensures mesh { IsArenaMesh self.new.slots }
         ensures adds_star { AddsStar self.old.slots self.new.slots rim.now star.old.items
             (length rim.now) }
         ensures over { AreOverRim self.new.slots rim.now star.new.items }
@@ -63,7 +63,7 @@ impl Arena {
     pub(crate) fn side(&self, s: u32, face: u8) -> Option<SlotFace>
         requires live { IsLive self.now.slots s }
         requires face { face < 4 }
-        ensures { result ≡ side self.now.slots s face }
+        ensures { result ≡ link_behind self.now.slots s face }
     {
         self.cells[s as usize].side(face)
     }
@@ -73,8 +73,8 @@ impl Arena {
         requires first { IsLive self.now.slots s }
         requires second { IsLive self.now.slots t }
         ensures { MatchOption result
-            ((j : ℕ) → j < 4 → side self.now.slots t j ≡ None → SameFace self.now.slots s i t j → ⊥)
-            (λ j. (j < 4) × (side self.now.slots t j ≡ None) × SameFace self.now.slots s i t j) }
+            ((j : ℕ) → j < 4 → link_behind self.now.slots t j ≡ None → SameFace self.now.slots s i t j → ⊥)
+            (λ j. (j < 4) × (link_behind self.now.slots t j ≡ None) × SameFace self.now.slots s i t j) }
     {
         for j in 0..4u8 {
             if self.side(t, j).is_none()
@@ -88,8 +88,8 @@ impl Arena {
 
     // The slot and face behind a face.
     pub(crate) fn over(&self, face: RimFace) -> SlotFace
-        requires { IsSome (side self.now.slots face.slot.index face.face) }
-        ensures value { side self.now.slots face.slot.index face.face ≡ Some result }
+        requires { IsSome (link_behind self.now.slots face.slot.index face.face) }
+        ensures value { link_behind self.now.slots face.slot.index face.face ≡ Some result }
         ensures live { IsLive self.now.slots result.slot × (result.face < 4) }
     {
         let Some(side) = self.cells[face.slot.index as usize].side(face.face) else {
@@ -104,7 +104,7 @@ impl Arena {
         requires pairs { ArePaired self.now.slots rim.now }
         requires inside { r < length rim.now }
         requires face { k < 4 }
-        requires free { side self.now.slots (behind_rim self.now.slots rim.now r).slot k ≡ None }
+        requires free { link_behind self.now.slots (behind_rim self.now.slots rim.now r).slot k ≡ None }
         ensures { Mate self.now.slots rim.now r k result }
     {
         let _ = &self.cells;
@@ -187,8 +187,8 @@ impl Arena {
         table: &mut EdgeTable,
     ) -> bool
         requires star { IsStar self.old.slots rim.now (Corner.Point point) }
-        requires one { IsEnd table.old.square.rows ends.one }
-        requires other { IsEnd table.old.square.rows ends.other }
+        requires one { IsRowEnd table.old.square.rows ends.one }
+        requires other { IsRowEnd table.old.square.rows ends.other }
         requires rows { (ends.one.row < 64) × (ends.other.row < 64) }
         requires places { 4096 ≤ length table.old.square.faces }
         requires over { IsOverEdge self.old.slots rim.now (Corner.Point point)
@@ -333,7 +333,7 @@ impl Arena {
     // Whether each face has a neighbor.
     fn is_linked(&self, s: u32) -> bool
         requires { IsLive self.now.slots s }
-        ensures { IsTrue result → (k : ℕ) → k < 4 → IsSome (side self.now.slots s k) }
+        ensures { IsTrue result → (k : ℕ) → k < 4 → IsSome (link_behind self.now.slots s k) }
     {
         self.cells[s as usize].is_linked()
     }
@@ -398,7 +398,7 @@ impl Arena {
         ensures ok { IfOk result
             (λ s. Replaces self.old.slots self.new.slots cavity.now rim.now (Corner.Point point)
             s.index) }
-        ensures mesh { IsMesh self.new.slots }
+        ensures mesh { IsArenaMesh self.new.slots }
         ensures err { OnErr result (self.new ≡ self.old) }
         ensures succeeds { length rim.now ≤ self.old.spare → IsOk result }
     {

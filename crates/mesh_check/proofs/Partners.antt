@@ -9,11 +9,11 @@ use Rattle.geo_laws.specs.Faces.{face_of}
 use Rattle.geo_laws.specs.declared.faces.Face.{Face}
 use Rattle.geo_laws.specs.declared.tetrahedra.Tet.{Tet}
 use Rattle.geo_laws.proofs.Members.{both_true, either_true}
-use Rattle.incidence.specs.Links.{row_at}
 use Rattle.incidence.specs.Pairs.{is_face, has_face, is_partner, partner}
 use Rattle.incidence.proofs.Partners.{face_same, face_itself, has_0, has_1, has_2, both}
 use Rattle.mesh_check.specs.Corners.{point_in, face_in, IsShared}
-use Rattle.mesh_check.specs.Defects.{side_of, AreOpposite, LieOnOneSide, IsSameSide}
+use Rattle.mesh_check.specs.Defects.{point_side, AreOppositeSigns, LieOnOneSide, IsSameSide}
+use Rattle.geo_laws.specs.Delaunay.{row_at}
 
 -- ---- faces of rows
 
@@ -98,7 +98,7 @@ partner_has rows i j f lt ne has =
 clash : (z : ℤ) → pos 0 <ℤ z → z <ℤ pos 0 → ⊥
 clash z a b = omega (arith, ints)
 
-three : (x y z : ℤ) → AreOpposite x y → AreOpposite x z → AreOpposite y z → ⊥
+three : (x y z : ℤ) → AreOppositeSigns x y → AreOppositeSigns x z → AreOppositeSigns y z → ⊥
 three x y z (inl a) (inl b) (inl c) = clash y c.0 a.1
 three x y z (inl a) (inl b) (inr c) = clash z c.1 b.1
 three x y z (inl a) (inr b) c = clash x a.0 b.0
@@ -106,20 +106,20 @@ three x y z (inr a) (inl b) c = clash x b.0 a.0
 three x y z (inr a) (inr b) (inl c) = clash z b.1 c.1
 three x y z (inr a) (inr b) (inr c) = clash y a.1 c.0
 
-turned : (x y : ℤ) → AreOpposite x y → AreOpposite y x
+turned : (x y : ℤ) → AreOppositeSigns x y → AreOppositeSigns y x
 turned x y (inl a) = inr (a.1, a.0)
 turned x y (inr a) = inl (a.1, a.0)
 
 -- on which side of the face opposite it a corner lies
 abbrev own_side : List Point → List Tet → ℕ → ℕ → ℤ
-own_side ps rows i p = side_of ps (face_in (row_at rows i) p) (point_in (row_at rows i) p)
+own_side ps rows i p = point_side ps (face_in (row_at rows i) p) (point_in (row_at rows i) p)
 
 abbrev pub HasNoSameSide : List Point → List Tet → Type 0
 HasNoSameSide ps rows = (i j : ℕ) → ¬ IsSameSide ps rows i j
 
 -- two rows with a common face lie on different sides of it
 opposed : (ps : List Point) (rows : List Tet) → HasNoSameSide ps rows → (i j p q : ℕ) → i < length rows → j < length rows → i ≢ j → p < 4 → q < 4 → face_in (row_at rows i) p ≡ face_in (row_at rows j) q
-    → ¬ (¬ AreOpposite (own_side ps rows i p) (own_side ps rows j q))
+    → ¬ (¬ AreOppositeSigns (own_side ps rows i p) (own_side ps rows j q))
 opposed ps rows none i j p q lt mt ne small less e apart =
     elim (cases_lt i j) [
       | inl before ↦ none i j (before, mt, (p, q, record { corner = small; other = less; same = e }, apart))

@@ -4,15 +4,14 @@ use Rattle.std.specs.Prelude.{All, HoldsAt, slice_index_or}
 use Rattle.std.specs.List.{flat_map, enumerate_from}
 use Rattle.std.proofs.lemmas.List.{take_more, flat_map_more, map-append, get_or-map}
 use Rattle.sign_predicates.specs.Point.{Point}
-use Rattle.geo_laws.specs.Delaunay.{IsOn, numbers}
+use Rattle.geo_laws.specs.Delaunay.{IsOn, numbers, row_at}
 use Rattle.geo_laws.specs.Faces.{face_of, row_faces, faces_of_rows}
 use Rattle.geo_laws.specs.declared.faces.Face.{Face}
 use Rattle.geo_laws.specs.declared.tetrahedra.Tet.{Tet}
-use Rattle.incidence.specs.Links.{row_at}
 use Rattle.incidence.specs.Pairs.{pairs_of, across_of}
 use Rattle.incidence.specs.declared.pairs.Across.{Across}
 use Rattle.mesh_files.specs.declared.markers.FaceRow.{FaceRow}
-use Rattle.mesh_check.specs.Corners.{point_in, face_in, face_listed, face_at, entry_in}
+use Rattle.mesh_check.specs.Corners.{point_in, face_in, face_listed, listed_face_at, entry_in}
 use Rattle.incidence.specs.Pairs.{partner}
 
 -- a row that was read at a place
@@ -68,7 +67,7 @@ faces_more rows i t lt at = flat_map_more row_faces [] (take i rows) t ∙ sym (
 pub listed_more : (faces : List FaceRow) (i : ℕ) (f : FaceRow) → i < length faces → HoldsAt (λ r. r ≡ f) faces i → map face_listed (take i faces) ++ face_listed f ∷ [] ≡ map face_listed (take (i + 1) faces)
 listed_more faces i f lt at = sym (ap (map face_listed) (taken_more faces i f lt at) ∙ map-append face_listed (take i faces) (f ∷ []))
 
-pub listed_at : (faces : List FaceRow) (i : ℕ) (f : FaceRow) → i < length faces → HoldsAt (λ r. r ≡ f) faces i → face_at faces i ≡ face_listed f
+pub listed_at : (faces : List FaceRow) (i : ℕ) (f : FaceRow) → i < length faces → HoldsAt (λ r. r ≡ f) faces i → listed_face_at faces i ≡ face_listed f
 listed_at faces i f lt at = get_or-map face_listed faces i f _ lt ∙ ap face_listed (at f)
 
 -- ---- what is across

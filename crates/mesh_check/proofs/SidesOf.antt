@@ -7,13 +7,13 @@ use Rattle.geo_laws.proofs.Sorting.{int_lt_true, int_lt_false}
 use Rattle.sign_predicates.specs.Point.{Point}
 use Rattle.geo_laws.specs.declared.faces.Face.{Face}
 use Rattle.geo_laws.specs.declared.tetrahedra.Tet.{Tet}
-use Rattle.incidence.specs.Links.{row_at}
 use Rattle.mesh_check.specs.Corners.{point_in, face_in, IsShared}
-use Rattle.mesh_check.specs.Defects.{side_of, AreOpposite, LieOnOneSide, IsSameSide, PairBefore}
-use Rattle.mesh_check.specs.Searches.{IsFirstOf, IsFirstPair}
-use Rattle.mesh_check.specs.Sides.{face_side, same_side, sign_code, side_at, HasSideBelow, HasSide, AreAlike, IsLaterOn, AreFirstsFrom, IsLaterLike, MeetsLater, IsPutBelow, least_of, paired}
+use Rattle.mesh_check.specs.Defects.{point_side, AreOppositeSigns, LieOnOneSide, IsSameSide, PairBefore}
+use Rattle.mesh_check.specs.Searches.{IsLeastOf, IsLeastPair}
+use Rattle.mesh_check.specs.Sides.{side_of_face, same_side, sign_code, side_at, HasSideBelow, HasFaceSide, AreAlike, IsLaterOn, AreFirstsFrom, IsLaterLike, MeetsLater, IsPutBelow, lesser_of, paired}
 use Rattle.mesh_check.specs.declared.same_side.FaceSide.{FaceSide}
 use Rattle.mesh_check.proofs.Firsts.{first_of_either, first_as}
+use Rattle.geo_laws.specs.Delaunay.{row_at}
 
 -- ---- signs
 
@@ -47,7 +47,7 @@ code_small z = go (signed z)
 abbrev Alike : ℕ → ℕ → Type 0
 Alike m n = (m ≡ n) ⊎ ((m ≡ 1) ⊎ (n ≡ 1))
 
-alike_of : (x y : ℤ) → ¬ AreOpposite x y → Alike (sign_code x) (sign_code y)
+alike_of : (x y : ℤ) → ¬ AreOppositeSigns x y → Alike (sign_code x) (sign_code y)
 alike_of x y apart = go (signed x) (signed y)
   where
     go : Signed x → Signed y → Alike (sign_code x) (sign_code y)
@@ -59,10 +59,10 @@ alike_of x y apart = go (signed x) (signed y)
     go (below lt is) (above mt it) = absurd (apart (inr (lt, mt)))
     go (above lt is) (below mt it) = absurd (apart (inl (lt, mt)))
 
-not_opposite : (x y : ℤ) → Alike (sign_code x) (sign_code y) → ¬ AreOpposite x y
+not_opposite : (x y : ℤ) → Alike (sign_code x) (sign_code y) → ¬ AreOppositeSigns x y
 not_opposite x y alike apart = go (signed x) (signed y) apart alike
   where
-    go : Signed x → Signed y → AreOpposite x y → Alike (sign_code x) (sign_code y) → ⊥
+    go : Signed x → Signed y → AreOppositeSigns x y → Alike (sign_code x) (sign_code y) → ⊥
     go (on a b is) t (inl p) alike = b p.0
     go (on a b is) t (inr p) alike = a p.0
     go (below lt is) t (inl p) alike = let q = p.0 in absurd (omega (arith, ints))
@@ -82,18 +82,18 @@ not_opposite x y alike apart = go (signed x) (signed y) apart alike
 
 pub side_small : (ps : List Point) (t : Tet) (k : ℕ) → (side_at ps t k).side ≤ 2
 unfolding side_at
-side_small ps t k = code_small (side_of ps (face_in t k) (point_in t k))
+side_small ps t k = code_small (point_side ps (face_in t k) (point_in t k))
 
 -- two corners of two rows lie on sides that are alike exactly where their opposite faces are one and they lie on one side of it
 alike_shared : (ps : List Point) (s t : Tet) (p q : ℕ) → AreAlike (side_at ps s p) (side_at ps t q) → face_in s p ≡ face_in t q
 unfolding side_at
 alike_shared ps s t p q h = λ j. record { a = h.a j; b = h.b j; c = h.c j }
 
-alike_side : (ps : List Point) (s t : Tet) (p q : ℕ) → AreAlike (side_at ps s p) (side_at ps t q) → ¬ AreOpposite (side_of ps (face_in s p) (point_in s p)) (side_of ps (face_in t q) (point_in t q))
+alike_side : (ps : List Point) (s t : Tet) (p q : ℕ) → AreAlike (side_at ps s p) (side_at ps t q) → ¬ AreOppositeSigns (point_side ps (face_in s p) (point_in s p)) (point_side ps (face_in t q) (point_in t q))
 unfolding side_at
 alike_side ps s t p q h = not_opposite _ _ h.side
 
-shared_alike : (ps : List Point) (s t : Tet) (p q : ℕ) → face_in s p ≡ face_in t q → ¬ AreOpposite (side_of ps (face_in s p) (point_in s p)) (side_of ps (face_in t q) (point_in t q)) → AreAlike (side_at ps s p) (side_at ps t q)
+shared_alike : (ps : List Point) (s t : Tet) (p q : ℕ) → face_in s p ≡ face_in t q → ¬ AreOppositeSigns (point_side ps (face_in s p) (point_in s p)) (point_side ps (face_in t q) (point_in t q)) → AreAlike (side_at ps s p) (side_at ps t q)
 unfolding side_at
 shared_alike ps s t p q e apart = record {
   a = ap (λ (f : Face). f.a) e;
@@ -122,16 +122,16 @@ none_later : (ps : List Point) (rows : List Tet) (q : FaceSide) (from k : ℕ) �
 none_later ps rows q from k le h = let a = h.0 in let b = h.1 in absurd (omega arith)
 
 pub firsts_none : (ps : List Point) (rows : List Tet) (look : FaceSide → Option ℕ) → ((q : FaceSide) → look q ≡ None) → AreFirstsFrom ps rows (length rows) look
-firsts_none ps rows look none q = subst (λ (o : Option ℕ). IsFirstOf (IsLaterOn ps rows (length rows) q) o) (sym (none q)) (λ k. none_later ps rows q (length rows) k (omega arith))
+firsts_none ps rows look none q = subst (λ (o : Option ℕ). IsLeastOf (IsLaterOn ps rows (length rows) q) o) (sym (none q)) (λ k. none_later ps rows q (length rows) k (omega arith))
 
-here : (ps : List Point) (rows : List Tet) (i : ℕ) (q : FaceSide) → i < length rows → HasSide ps (row_at rows i) q → IsFirstOf (IsLaterOn ps rows i q) (Some i)
+here : (ps : List Point) (rows : List Tet) (i : ℕ) (q : FaceSide) → i < length rows → HasFaceSide ps (row_at rows i) q → IsLeastOf (IsLaterOn ps rows i q) (Some i)
 here ps rows i q lt has = ((omega arith, lt, has), λ k less h. let a = h.0 in absurd (omega arith))
 
-later : (ps : List Point) (rows : List Tet) (i : ℕ) (q : FaceSide) (k : ℕ) → ¬ HasSide ps (row_at rows i) q → IsLaterOn ps rows i q k → IsLaterOn ps rows (i + 1) q k
+later : (ps : List Point) (rows : List Tet) (i : ℕ) (q : FaceSide) (k : ℕ) → ¬ HasFaceSide ps (row_at rows i) q → IsLaterOn ps rows i q k → IsLaterOn ps rows (i + 1) q k
 later ps rows i q k none h =
     elim (cases_lt i k) [
       | inl less ↦ (omega arith, h.1, h.2)
-      | inr le ↦ let a = h.0 in let e : k ≡ i = omega arith in absurd (none (subst (λ (n : ℕ). HasSide ps (row_at rows n) q) e h.2))
+      | inr le ↦ let a = h.0 in let e : k ≡ i = omega arith in absurd (none (subst (λ (n : ℕ). HasFaceSide ps (row_at rows n) q) e h.2))
     ]
 
 sooner : (ps : List Point) (rows : List Tet) (i : ℕ) (q : FaceSide) (k : ℕ) → IsLaterOn ps rows (i + 1) q k → IsLaterOn ps rows i q k
@@ -141,10 +141,10 @@ sooner ps rows i q k h = let a = h.0 in (omega arith, h.1, h.2)
 pub firsts_put : (ps : List Point) (rows : List Tet) (i : ℕ) (row : Tet) (old new : FaceSide → Option ℕ) → i < length rows → row_at rows i ≡ row → AreFirstsFrom ps rows (i + 1) old → IsPutBelow ps row 4 i old new → AreFirstsFrom ps rows i new
 firsts_put ps rows i row old new lt is firsts put q =
     elim (put q) [
-      | inl h ↦ subst (λ (o : Option ℕ). IsFirstOf (IsLaterOn ps rows i q) o) (sym h.1) (here ps rows i q lt (subst (λ (t : Tet). HasSide ps t q) (sym is) h.0))
+      | inl h ↦ subst (λ (o : Option ℕ). IsLeastOf (IsLaterOn ps rows i q) o) (sym h.1) (here ps rows i q lt (subst (λ (t : Tet). HasFaceSide ps t q) (sym is) h.0))
       | inr h ↦
-          let none = subst (λ (t : Tet). ¬ HasSide ps t q) (sym is) h.0 in
-          subst (λ (o : Option ℕ). IsFirstOf (IsLaterOn ps rows i q) o) (sym h.1)
+          let none = subst (λ (t : Tet). ¬ HasFaceSide ps t q) (sym is) h.0 in
+          subst (λ (o : Option ℕ). IsLeastOf (IsLaterOn ps rows i q) o) (sym h.1)
           (first_as (IsLaterOn ps rows (i + 1) q) (IsLaterOn ps rows i q) (old q) (firsts q) (λ k. sooner ps rows i q k) (λ k. later ps rows i q k none))
     ]
 
@@ -223,17 +223,17 @@ on_some_side ps rows from p j (q, alike, h) = at (numbers q.side (side_of_row ps
 
 -- on the plane of the face: all three sides are like it
 pub met_on_plane : (ps : List Point) (rows : List Tet) (from : ℕ) (p : FaceSide) (o0 o1 o2 : Option ℕ) → p.side ≡ 1
-    → IsFirstOf (IsLaterOn ps rows from (record p { side = 0 })) o0 → IsFirstOf (IsLaterOn ps rows from (record p { side = 1 })) o1 → IsFirstOf (IsLaterOn ps rows from (record p { side = 2 })) o2
-    → IsFirstOf (IsLaterLike ps rows from p) (least_of o1 (least_of o0 o2))
+    → IsLeastOf (IsLaterOn ps rows from (record p { side = 0 })) o0 → IsLeastOf (IsLaterOn ps rows from (record p { side = 1 })) o1 → IsLeastOf (IsLaterOn ps rows from (record p { side = 2 })) o2
+    → IsLeastOf (IsLaterLike ps rows from p) (lesser_of o1 (lesser_of o0 o2))
 met_on_plane ps rows from p o0 o1 o2 is f0 f1 f2 =
     let both = first_of_either (On ps rows from p 0) (On ps rows from p 2) (λ j. On ps rows from p 0 j ⊎ On ps rows from p 2 j) o0 o2 f0 f2 (λ k h. h) (λ k h. inl h) (λ k h. inr h) in
-    first_of_either (On ps rows from p 1) (λ j. On ps rows from p 0 j ⊎ On ps rows from p 2 j) (IsLaterLike ps rows from p) o1 (least_of o0 o2) f1 both (on_some_side ps rows from p)
+    first_of_either (On ps rows from p 1) (λ j. On ps rows from p 0 j ⊎ On ps rows from p 2 j) (IsLaterLike ps rows from p) o1 (lesser_of o0 o2) f1 both (on_some_side ps rows from p)
     (λ j h. on_side ps rows from p 1 j (inr (inr refl)) h)
     (λ j h. elim h [ inl a ↦ on_side ps rows from p 0 j (inr (inl is)) a | inr b ↦ on_side ps rows from p 2 j (inr (inl is)) b ])
 
 -- off the plane: its own side and the plane are like it
 pub met_off_plane : (ps : List Point) (rows : List Tet) (from : ℕ) (p : FaceSide) (o1 o : Option ℕ) → p.side ≢ 1
-    → IsFirstOf (IsLaterOn ps rows from (record p { side = 1 })) o1 → IsFirstOf (IsLaterOn ps rows from p) o → IsFirstOf (IsLaterLike ps rows from p) (least_of o1 o)
+    → IsLeastOf (IsLaterOn ps rows from (record p { side = 1 })) o1 → IsLeastOf (IsLaterOn ps rows from p) o → IsLeastOf (IsLaterLike ps rows from p) (lesser_of o1 o)
 met_off_plane ps rows from p o1 o off f1 f =
     first_of_either (IsLaterOn ps rows from (record p { side = 1 })) (IsLaterOn ps rows from p) (IsLaterLike ps rows from p) o1 o f1 f split
     (λ j h. on_side ps rows from p 1 j (inr (inr refl)) h) (λ j h. (p, record { a = refl; b = refl; c = refl; side = inl refl }, h))
@@ -248,11 +248,11 @@ met_off_plane ps rows from p o1 o off f1 f =
 
 -- ---- corner by corner
 
-pub meets_none : (ps : List Point) (rows : List Tet) (from : ℕ) (t : Tet) → IsFirstOf (MeetsLater ps rows from t 0) None
+pub meets_none : (ps : List Point) (rows : List Tet) (from : ℕ) (t : Tet) → IsLeastOf (MeetsLater ps rows from t 0) None
 meets_none ps rows from t j h = let lt = h.1 in absurd (omega arith)
 
-pub meets_more : (ps : List Point) (rows : List Tet) (from : ℕ) (t : Tet) (n : ℕ) (at : FaceSide) (o r : Option ℕ) → at ≡ side_at ps t n → IsFirstOf (MeetsLater ps rows from t n) o → IsFirstOf (IsLaterLike ps rows from at) r
-    → IsFirstOf (MeetsLater ps rows from t (n + 1)) (least_of o r)
+pub meets_more : (ps : List Point) (rows : List Tet) (from : ℕ) (t : Tet) (n : ℕ) (at : FaceSide) (o r : Option ℕ) → at ≡ side_at ps t n → IsLeastOf (MeetsLater ps rows from t n) o → IsLeastOf (IsLaterLike ps rows from at) r
+    → IsLeastOf (MeetsLater ps rows from t (n + 1)) (lesser_of o r)
 meets_more ps rows from t n at o r is before here = first_of_either (MeetsLater ps rows from t n) (IsLaterLike ps rows from at) (MeetsLater ps rows from t (n + 1)) o r before here split left right
   where
     split : (j : ℕ) → MeetsLater ps rows from t (n + 1) j → MeetsLater ps rows from t n j ⊎ IsLaterLike ps rows from at j
@@ -272,19 +272,19 @@ meets_more ps rows from t n at o r is before here = first_of_either (MeetsLater 
 
 -- the first pair of rows from a place on
 abbrev pub FirstFrom : List Point → List Tet → ℕ → Option (ℕ × ℕ) → Type 0
-FirstFrom ps rows from o = IsFirstPair (λ i j. (from ≤ i) × IsSameSide ps rows i j) o
+FirstFrom ps rows from o = IsLeastPair (λ i j. (from ≤ i) × IsSameSide ps rows i j) o
 
 pub from_end : (ps : List Point) (rows : List Tet) → FirstFrom ps rows (length rows) None
 from_end ps rows i j h = let le = h.0 in let lt = h.1.0 in let mt = h.1.1 in absurd (omega arith)
 
-pub from_met : (ps : List Point) (rows : List Tet) (i : ℕ) (row : Tet) (j : ℕ) → row_at rows i ≡ row → IsFirstOf (MeetsLater ps rows (i + 1) row 4) (Some j) → FirstFrom ps rows i (Some (i, j))
+pub from_met : (ps : List Point) (rows : List Tet) (i : ℕ) (row : Tet) (j : ℕ) → row_at rows i ≡ row → IsLeastOf (MeetsLater ps rows (i + 1) row 4) (Some j) → FirstFrom ps rows i (Some (i, j))
 from_met ps rows i row j is first = ((omega arith, meets_same ps rows i row j is first.0), λ a b before h. at a b before h)
   where
     at : (a b : ℕ) → PairBefore (a, b) (i, j) → (i ≤ a) × IsSameSide ps rows a b → ⊥
     at a b (inl lt) h = let le = h.0 in absurd (omega arith)
     at a b (inr e) h = first.1 b e.1 (same_meets ps rows i row b is (subst (λ (n : ℕ). IsSameSide ps rows n b) e.0 h.1))
 
-pub from_unmet : (ps : List Point) (rows : List Tet) (i : ℕ) (row : Tet) (o : Option (ℕ × ℕ)) → row_at rows i ≡ row → IsFirstOf (MeetsLater ps rows (i + 1) row 4) None → FirstFrom ps rows (i + 1) o → FirstFrom ps rows i o
+pub from_unmet : (ps : List Point) (rows : List Tet) (i : ℕ) (row : Tet) (o : Option (ℕ × ℕ)) → row_at rows i ≡ row → IsLeastOf (MeetsLater ps rows (i + 1) row 4) None → FirstFrom ps rows (i + 1) o → FirstFrom ps rows i o
 from_unmet ps rows i row None is none rest = λ a b h. rest a b (later a b h)
   where
     later : (a b : ℕ) → (i ≤ a) × IsSameSide ps rows a b → (i + 1 ≤ a) × IsSameSide ps rows a b
@@ -302,10 +302,10 @@ from_unmet ps rows i row (Some p) is none rest = ((let le = rest.0.0 in omega ar
           | inr le ↦ let ge = h.0 in let e : a ≡ i = omega arith in absurd (none b (same_meets ps rows i row b is (subst (λ (n : ℕ). IsSameSide ps rows n b) e h.1)))
         ]
 
-pub from_start : (ps : List Point) (rows : List Tet) (o : Option (ℕ × ℕ)) → FirstFrom ps rows 0 o → IsFirstPair (IsSameSide ps rows) o
+pub from_start : (ps : List Point) (rows : List Tet) (o : Option (ℕ × ℕ)) → FirstFrom ps rows 0 o → IsLeastPair (IsSameSide ps rows) o
 from_start ps rows None first = λ a b h. first a b (omega arith, h)
 from_start ps rows (Some p) first = (first.0.1, λ a b before h. first.1 a b before (omega arith, h))
 
-pub from_step : (ps : List Point) (rows : List Tet) (i : ℕ) (row : Tet) (r : Option ℕ) (o : Option (ℕ × ℕ)) → row_at rows i ≡ row → IsFirstOf (MeetsLater ps rows (i + 1) row 4) r → FirstFrom ps rows (i + 1) o → FirstFrom ps rows i (paired i r o)
+pub from_step : (ps : List Point) (rows : List Tet) (i : ℕ) (row : Tet) (r : Option ℕ) (o : Option (ℕ × ℕ)) → row_at rows i ≡ row → IsLeastOf (MeetsLater ps rows (i + 1) row 4) r → FirstFrom ps rows (i + 1) o → FirstFrom ps rows i (paired i r o)
 from_step ps rows i row (Some j) o is first rest = from_met ps rows i row j is first
 from_step ps rows i row None o is first rest = from_unmet ps rows i row o is first rest

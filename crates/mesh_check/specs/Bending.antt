@@ -3,9 +3,8 @@ use Rattle.std.specs.Prelude.{◌≡◌, ℕ, ◌<◌, pos, ◌<ℤ◌, List, So
 use Rattle.std.specs.HashSet.{HashSet}
 use Rattle.sign_predicates.specs.Point.{Point}
 use Rattle.sign_predicates.specs.Sphere.{in_sphere}
-use Rattle.geo_laws.specs.Delaunay.{point, corners}
+use Rattle.geo_laws.specs.Delaunay.{point, corners, row_at}
 use Rattle.geo_laws.specs.declared.tetrahedra.Tet.{Tet}
-use Rattle.incidence.specs.Links.{row_at}
 use Rattle.incidence.specs.declared.pairs.Across.{Across}
 use Rattle.mesh_check.specs.Corners.{face_in, point_in, entry_in}
 use Rattle.mesh_check.specs.FaceSets.{HasFace}

@@ -19,10 +19,6 @@ face_in t k =
 abbrev pub entry_in : Across → ℕ → Option ℕ
 entry_in x k = if k == 0 then x.n0 else (if k == 1 then x.n1 else (if k == 2 then x.n2 else x.n3))
 
--- the entry at a place, where there is one
-abbrev pub across_at : List Across → ℕ → Across
-across_at xs i = slice_index_or xs i (record { n0 = None; n1 = None; n2 = None; n3 = None })
-
 -- a listed face as a set of three numbers
 abbrev pub face_listed : FaceRow → Face
 face_listed f = face_of f.a f.b f.c
@@ -32,8 +28,8 @@ abbrev pub IsListed : List FaceRow → Face → Type 0
 IsListed faces f = Contains (map face_listed faces) f
 
 -- the face of the row at a place in the list of faces
-abbrev pub face_at : List FaceRow → ℕ → Face
-face_at faces k = slice_index_or (map face_listed faces) k (record { a = 0; b = 0; c = 0 })
+abbrev pub listed_face_at : List FaceRow → ℕ → Face
+listed_face_at faces k = slice_index_or (map face_listed faces) k (record { a = 0; b = 0; c = 0 })
 
 -- the faces opposite two corners of two rows are one
 pub record IsShared (s t : Tet) (p q : ℕ) : Type 0 where

@@ -3,22 +3,21 @@ use Rattle.std.specs.Prelude.{◌≡◌, ◌≢◌, ◌⊎◌, ℕ, ◌<◌, ℤ
 use Rattle.sign_predicates.specs.Point.{Point}
 use Rattle.sign_predicates.specs.Orientation.{IsPositive, Triangle, side}
 use Rattle.sign_predicates.specs.Sphere.{in_sphere}
-use Rattle.geo_laws.specs.Delaunay.{point, corners}
+use Rattle.geo_laws.specs.Delaunay.{point, corners, row_at}
 use Rattle.geo_laws.specs.Faces.{faces_of_rows}
 use Rattle.geo_laws.specs.declared.faces.Face.{Face}
 use Rattle.geo_laws.specs.declared.tetrahedra.Tet.{Tet}
-use Rattle.incidence.specs.Links.{row_at}
-use Rattle.incidence.specs.Pairs.{partner, pairs_of}
+use Rattle.incidence.specs.Pairs.{partner, pairs_of, across_at}
 use Rattle.incidence.specs.declared.pairs.Across.{Across}
 use Rattle.mesh_files.specs.declared.markers.FaceRow.{FaceRow}
-use Rattle.mesh_check.specs.Corners.{point_in, face_in, entry_in, across_at, face_at, IsListed, IsShared}
+use Rattle.mesh_check.specs.Corners.{point_in, face_in, entry_in, listed_face_at, IsListed, IsShared}
 use Rattle.mesh_check.specs.declared.defect.Defect.{Defect}
 use Rattle.mesh_check.specs.declared.defect.Defect.TheVariants.{NotPositive, SameSide, NeighborCount, WrongNeighbor, Stray, Unlisted, Bent}
 use Rattle.mesh_check.specs.declared.defect.Verdict.{Verdict}
 use Rattle.mesh_check.specs.declared.defect.Verdict.TheVariants.{Sound, Fault}
 
 -- what is read of a mesh: its points, its rows, the listed faces, and what is listed across the faces of each row
-pub record Mesh : Type 0 where
+pub record ReadMesh : Type 0 where
   pub points : List Point
   pub rows : List Tet
   pub faces : List FaceRow
@@ -36,18 +35,18 @@ abbrev pub IsNotPositive : List Point → List Tet → ℕ → Type 0
 IsNotPositive ps rows i = (i < length rows) × ¬ IsPositive (corners ps (row_at rows i))
 
 -- one number above 0 and one below it
-abbrev pub AreOpposite : ℤ → ℤ → Type 0
-AreOpposite x y = (pos 0 <ℤ x) × (y <ℤ pos 0) ⊎ (x <ℤ pos 0) × (pos 0 <ℤ y)
+abbrev pub AreOppositeSigns : ℤ → ℤ → Type 0
+AreOppositeSigns x y = (pos 0 <ℤ x) × (y <ℤ pos 0) ⊎ (x <ℤ pos 0) × (pos 0 <ℤ y)
 
 -- on which side of a face, whose numbers ascend, the point with a number lies
-abbrev pub side_of : List Point → Face → ℕ → ℤ
-side_of ps f e = side (record { a = point ps f.a; b = point ps f.b; c = point ps f.c }) (point ps e)
+abbrev pub point_side : List Point → Face → ℕ → ℤ
+point_side ps f e = side (record { a = point ps f.a; b = point ps f.b; c = point ps f.c }) (point ps e)
 
 -- The rows share a face, and the corners opposite it lie on one side of it: not strictly on different sides. Where the rows are positive,
 -- neither corner is on the face's plane
 abbrev pub LieOnOneSide : List Point → Tet → Tet → Type 0
 LieOnOneSide ps s t =
-    (p : ℕ) × (q : ℕ) × IsShared s t p q × ¬ AreOpposite (side_of ps (face_in s p) (point_in s p)) (side_of ps (face_in t q) (point_in t q))
+    (p : ℕ) × (q : ℕ) × IsShared s t p q × ¬ AreOppositeSigns (point_side ps (face_in s p) (point_in s p)) (point_side ps (face_in t q) (point_in t q))
 
 abbrev pub IsSameSide : List Point → List Tet → ℕ → ℕ → Type 0
 IsSameSide ps rows i j = (i < j) × (j < length rows) × LieOnOneSide ps (row_at rows i) (row_at rows j)
@@ -59,7 +58,7 @@ IsWrongNeighbor rows neighbors i k =
 
 -- a listed face is a face of no row
 abbrev pub IsStray : List Tet → List FaceRow → ℕ → Type 0
-IsStray rows faces k = (k < length faces) × ¬ Contains (faces_of_rows rows) (face_at faces k)
+IsStray rows faces k = (k < length faces) × ¬ Contains (faces_of_rows rows) (listed_face_at faces k)
 
 -- no other row has the face opposite a corner, and it is not listed
 abbrev pub IsUnlisted : List Tet → List FaceRow → ℕ → ℕ → Type 0
@@ -75,7 +74,7 @@ abbrev pub IsBent : List Point → List Tet → List FaceRow → ℕ → ℕ →
 IsBent ps rows faces i j = (i < j) × (j < length rows) × AreBentAt ps faces (row_at rows i) (row_at rows j)
 
 -- the mesh has the defect
-abbrev pub HasDefect : Mesh → Defect → Type 0
+abbrev pub HasDefect : ReadMesh → Defect → Type 0
 HasDefect m (NotPositive i) = IsNotPositive m.points m.rows i
 HasDefect m (SameSide i j) = IsSameSide m.points m.rows i j
 HasDefect m NeighborCount = length m.neighbors ≢ length m.rows
@@ -113,11 +112,11 @@ IsToldBefore d e = (kind_of d < kind_of e) ⊎ (kind_of d ≡ kind_of e) × Pair
 -- ---- the verdict
 
 -- the mesh has the defect, and none that is told before it
-pub record IsFirstDefect (m : Mesh) (d : Defect) : Type 0 where
+pub record IsFirstDefect (m : ReadMesh) (d : Defect) : Type 0 where
   pub has : HasDefect m d
   pub first : (e : Defect) → IsToldBefore e d → ¬ HasDefect m e
 
 -- sound exactly where there is no defect, else the first one
-abbrev pub IsVerdict : Mesh → Verdict → Type 0
+abbrev pub IsVerdict : ReadMesh → Verdict → Type 0
 IsVerdict m Sound = (d : Defect) → ¬ HasDefect m d
 IsVerdict m (Fault d) = IsFirstDefect m d

@@ -3,11 +3,11 @@ use Rattle.std.specs.Prelude.{ℕ, ◌<◌, Option, Some, None}
 use Rattle.mesh_check.specs.Defects.{PairBefore}
 
 -- the first number of which P holds, or none where it holds of no number
-abbrev pub IsFirstOf : (ℕ → Type 0) → Option ℕ → Type 0
-IsFirstOf P None = (i : ℕ) → ¬ P i
-IsFirstOf P (Some i) = P i × ((k : ℕ) → k < i → ¬ P k)
+abbrev pub IsLeastOf : (ℕ → Type 0) → Option ℕ → Type 0
+IsLeastOf P None = (i : ℕ) → ¬ P i
+IsLeastOf P (Some i) = P i × ((k : ℕ) → k < i → ¬ P k)
 
 -- the same of pairs, by rising numbers
-abbrev pub IsFirstPair : (ℕ → ℕ → Type 0) → Option (ℕ × ℕ) → Type 0
-IsFirstPair P None = (i k : ℕ) → ¬ P i k
-IsFirstPair P (Some p) = P p.0 p.1 × ((i k : ℕ) → PairBefore (i, k) p → ¬ P i k)
+abbrev pub IsLeastPair : (ℕ → ℕ → Type 0) → Option (ℕ × ℕ) → Type 0
+IsLeastPair P None = (i k : ℕ) → ¬ P i k
+IsLeastPair P (Some p) = P p.0 p.1 × ((i k : ℕ) → PairBefore (i, k) p → ¬ P i k)

@@ -3,14 +3,14 @@ use Rattle.std.specs.Prelude.{◌≡◌, ◌⊎◌, ℕ, ◌<◌, ◌≤◌, ◌
 use Rattle.sign_predicates.specs.Point.{Point}
 use Rattle.geo_laws.specs.declared.faces.Face.{Face}
 use Rattle.geo_laws.specs.declared.tetrahedra.Tet.{Tet}
-use Rattle.incidence.specs.Links.{row_at}
 use Rattle.mesh_check.specs.Corners.{point_in, face_in}
-use Rattle.mesh_check.specs.Defects.{side_of}
-use Rattle.mesh_check.specs.Searches.{IsFirstOf}
+use Rattle.mesh_check.specs.Defects.{point_side}
+use Rattle.mesh_check.specs.Searches.{IsLeastOf}
 use Rattle.mesh_check.specs.declared.same_side.FaceSide.{FaceSide}
+use Rattle.geo_laws.specs.Delaunay.{row_at}
 
-abbrev pub face_side : Face → ℕ → FaceSide
-face_side f side = record { a = f.a; b = f.b; c = f.c; side = side }
+abbrev pub side_of_face : Face → ℕ → FaceSide
+side_of_face f side = record { a = f.a; b = f.b; c = f.c; side = side }
 
 abbrev pub same_side : FaceSide → FaceSide → Bool
 same_side p q = p.a == q.a && (p.b == q.b && (p.c == q.c && p.side == q.side))
@@ -21,14 +21,14 @@ sign_code z = if int_lt z (pos 0) then 0 else (if int_lt (pos 0) z then 2 else 1
 
 -- the side of the face opposite a corner on which that corner lies: 0 below it, 1 on its plane, 2 above it
 unfoldable pub side_at : List Point → Tet → ℕ → FaceSide
-side_at ps t k = face_side (face_in t k) (sign_code (side_of ps (face_in t k) (point_in t k)))
+side_at ps t k = side_of_face (face_in t k) (sign_code (point_side ps (face_in t k) (point_in t k)))
 
 -- one of the first n corners of the row lies on the side
 abbrev pub HasSideBelow : List Point → Tet → ℕ → FaceSide → Type 0
 HasSideBelow ps t n q = (k : ℕ) × (k < n) × (side_at ps t k ≡ q)
 
-abbrev pub HasSide : List Point → Tet → FaceSide → Type 0
-HasSide ps t q = HasSideBelow ps t 4 q
+abbrev pub HasFaceSide : List Point → Tet → FaceSide → Type 0
+HasFaceSide ps t q = HasSideBelow ps t 4 q
 
 -- the sides are of one face, and not its two strict sides
 pub record AreAlike (p q : FaceSide) : Type 0 where
@@ -39,11 +39,11 @@ pub record AreAlike (p q : FaceSide) : Type 0 where
 
 -- the row at a place is there, from a place on, and lies on the side
 abbrev pub IsLaterOn : List Point → List Tet → ℕ → FaceSide → ℕ → Type 0
-IsLaterOn ps rows from q k = (from ≤ k) × (k < length rows) × HasSide ps (row_at rows k) q
+IsLaterOn ps rows from q k = (from ≤ k) × (k < length rows) × HasFaceSide ps (row_at rows k) q
 
 -- from each side one is led to the first row, from a place on, that lies on it
 abbrev pub AreFirstsFrom : List Point → List Tet → ℕ → (FaceSide → Option ℕ) → Type 0
-AreFirstsFrom ps rows from look = (q : FaceSide) → IsFirstOf (IsLaterOn ps rows from q) (look q)
+AreFirstsFrom ps rows from look = (q : FaceSide) → IsLeastOf (IsLaterOn ps rows from q) (look q)
 
 -- the row at a place is there, from a place on, and lies on a side like this one
 abbrev pub IsLaterLike : List Point → List Tet → ℕ → FaceSide → ℕ → Type 0
@@ -54,10 +54,10 @@ abbrev pub MeetsLater : List Point → List Tet → ℕ → Tet → ℕ → ℕ 
 MeetsLater ps rows from t n j = (k : ℕ) × (k < n) × IsLaterLike ps rows from (side_at ps t k) j
 
 -- the least of two numbers that may be missing
-abbrev pub least_of : Option ℕ → Option ℕ → Option ℕ
-least_of None b = b
-least_of (Some x) None = Some x
-least_of (Some x) (Some y) = Some (min x y)
+abbrev pub lesser_of : Option ℕ → Option ℕ → Option ℕ
+lesser_of None b = b
+lesser_of (Some x) None = Some x
+lesser_of (Some x) (Some y) = Some (min x y)
 
 -- the sides of the first n corners of the row lead to its place, and all others where they led
 abbrev pub IsPutBelow : List Point → Tet → ℕ → ℕ → (FaceSide → Option ℕ) → (FaceSide → Option ℕ) → Type 0

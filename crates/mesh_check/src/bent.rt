@@ -6,7 +6,7 @@ ghost use Rattle.incidence.specs.Pairs.{pairs_of, IsAcrossWithin, AreAllWithin};
 ghost use Rattle.mesh_check.specs.Corners.{face_in, face_listed};
 ghost use Rattle.mesh_check.specs.Defects.{IsSameSide, IsBent};
 ghost use Rattle.mesh_check.specs.FaceSets.{HasExactly};
-ghost use Rattle.mesh_check.specs.Searches.{IsFirstOf, IsFirstPair};
+ghost use Rattle.mesh_check.specs.Searches.{IsLeastOf, IsLeastPair};
 ghost use Rattle.mesh_check.specs.Bending.{IsBentOnce, IsBentFrom, IsBentAcross, MeetsBent};
 
 use crate::face_set::{FaceSet, entry_in, face_in, has, point_in};
@@ -57,7 +57,7 @@ fn is_bent_at(mesh: Bending, s: Tet, t: Tet, p: u8, q: u8) -> bool
 fn bent_corner(mesh: Bending, s: Tet, t: Tet, p: u8) -> Option<u8>
     requires s { IsOn mesh.points.now s }
     requires t { IsOn mesh.points.now t }
-    ensures { IsFirstOf (λ q. (q < 4) × IsBentOnce mesh.entry.points.now mesh.entry.listed.now s t p q) result }
+    ensures { IsLeastOf (λ q. (q < 4) × IsBentOnce mesh.entry.points.now mesh.entry.listed.now s t p q) result }
 {
     for q in 0..CORNERS {
         if is_bent_at(mesh, s, t, p, q) {
@@ -71,7 +71,7 @@ fn bent_corner(mesh: Bending, s: Tet, t: Tet, p: u8) -> Option<u8>
 fn first_bent_corner(mesh: Bending, s: Tet, t: Tet) -> Option<u8>
     requires s { IsOn mesh.points.now s }
     requires t { IsOn mesh.points.now t }
-    ensures { IsFirstOf (λ p. (p < 4) × IsBentFrom mesh.entry.points.now mesh.entry.listed.now s t p) result }
+    ensures { IsLeastOf (λ p. (p < 4) × IsBentFrom mesh.entry.points.now mesh.entry.listed.now s t p) result }
 {
     for p in 0..CORNERS {
         if bent_corner(mesh, s, t, p).is_some() {
@@ -87,7 +87,7 @@ fn bent_across(mesh: Bending, place: usize, across: Across, corner: u8) -> Optio
     requires place { place < length mesh.list.now }
     requires rows { All (IsOn mesh.points.now) mesh.list.now }
     requires within { IsAcrossWithin (length mesh.list.now) across }
-    ensures { IsFirstOf (IsBentAcross mesh.entry.points.now mesh.entry.listed.now mesh.entry.list.now place across corner) result }
+    ensures { IsLeastOf (IsBentAcross mesh.entry.points.now mesh.entry.listed.now mesh.entry.list.now place across corner) result }
 {
     let two = entry_in(across, corner)?;
     if two <= place {
@@ -106,7 +106,7 @@ fn first_bent_with(mesh: Bending, place: usize, across: Across) -> Option<usize>
     requires place { place < length mesh.list.now }
     requires rows { All (IsOn mesh.points.now) mesh.list.now }
     requires within { IsAcrossWithin (length mesh.list.now) across }
-    ensures { IsFirstOf (MeetsBent mesh.entry.points.now mesh.entry.listed.now mesh.entry.list.now place across 4) result }
+    ensures { IsLeastOf (MeetsBent mesh.entry.points.now mesh.entry.listed.now mesh.entry.list.now place across 4) result }
 {
     let mut least = None;
     for corner in 0..CORNERS {
@@ -122,7 +122,7 @@ pub(crate) fn first_bent(mesh: Bending, pairs: &Pairs, faces: &FaceRows) -> Opti
     requires pairs { pairs.now ≡ pairs_of mesh.list.now }
     requires within { AreAllWithin (length pairs.now) pairs.now }
     requires listed { HasExactly mesh.listed.now (map face_listed faces.now) }
-    ensures { IsFirstPair (IsBent mesh.entry.points.now mesh.entry.list.now faces.now) result }
+    ensures { IsLeastPair (IsBent mesh.entry.points.now mesh.entry.list.now faces.now) result }
 {
     for i in 0..mesh.list.len() {
         let across = pairs.at(i);

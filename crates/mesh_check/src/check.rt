@@ -7,7 +7,7 @@ ghost use Rattle.sign_predicates.specs.Point.{Point};
 ghost use Rattle.incidence.specs.declared.pairs.Across.{Across};
 ghost use Rattle.mesh_files.specs.declared.markers.FaceRow.{FaceRow};
 ghost use Rattle.incidence.specs.Pairs.{pairs_of, AreAllWithin};
-ghost use Rattle.mesh_check.specs.Among.{IsFirstAmong};
+ghost use Rattle.mesh_check.specs.Among.{IsFirstOfKinds};
 ghost use Rattle.mesh_check.specs.Defects.{neighbors_or, IsSameSide, IsVerdict};
 
 use crate::bent::{Bending, first_bent};
@@ -29,7 +29,7 @@ use tet_ports::NoMemory;
 fn rows_defect(alloc: Global, points: &Points, list: &TetList) -> Result<Option<Defect>, NoMemory>
     requires { All (IsOn points.now) list.now }
     ensures { IfOk result (λ defect. (faces : List FaceRow) (neighbors : List Across)
-        → IsFirstAmong (record { points = points.now; rows = list.now; faces = faces; neighbors = neighbors }) 0 2 defect) }
+        → IsFirstOfKinds (record { points = points.now; rows = list.now; faces = faces; neighbors = neighbors }) 0 2 defect) }
 {
     if let Some(row) = first_not_positive(points, list) {
         return Ok(Some(Defect::NotPositive { row }));
@@ -44,7 +44,7 @@ fn rows_defect(alloc: Global, points: &Points, list: &TetList) -> Result<Option<
 /// The first defect of the listed neighbors.
 fn neighbors_defect(list: &TetList, pairs: &Pairs, neighbors: Option<&Neighbors>) -> Option<Defect>
     requires { pairs.now ≡ pairs_of list.now }
-    ensures { (points : List Point) (faces : List FaceRow) → IsFirstAmong (record {
+    ensures { (points : List Point) (faces : List FaceRow) → IsFirstOfKinds (record {
       points = points;
       rows = list.now;
       faces = faces;
@@ -72,7 +72,7 @@ fn faces_defect(
     requires pairs { pairs.now ≡ pairs_of list.now }
     requires within { AreAllWithin (length pairs.now) pairs.now }
     ensures { IfOk result (λ defect. (neighbors : List Across)
-        → IsFirstAmong (record { points = points.now; rows = list.now; faces = faces.now; neighbors = neighbors }) 4 7 defect) }
+        → IsFirstOfKinds (record { points = points.now; rows = list.now; faces = faces.now; neighbors = neighbors }) 4 7 defect) }
 {
     let owned = owned_faces(alloc, list)?;
     if let Some(face) = first_stray(list, faces, &owned) {

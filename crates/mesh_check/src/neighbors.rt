@@ -4,7 +4,7 @@ ghost use Rattle.std.specs.Prelude.{◌≡◌, ◌≢◌, ◌<◌, length};
 ghost use Rattle.incidence.specs.Pairs.{pairs_of};
 ghost use Rattle.mesh_check.specs.Corners.{entry_in};
 ghost use Rattle.mesh_check.specs.Defects.{IsWrongNeighbor};
-ghost use Rattle.mesh_check.specs.Searches.{IsFirstOf, IsFirstPair};
+ghost use Rattle.mesh_check.specs.Searches.{IsLeastOf, IsLeastPair};
 
 use crate::face_set::entry_in;
 use geo_laws::TetList;
@@ -16,7 +16,7 @@ const CORNERS: u8 = 4;
 
 /// The first corner across whose face not the right neighbor is listed.
 fn wrong_corner(listed: Across, across: Across) -> Option<u8>
-    ensures { IsFirstOf (λ k. (k < 4) × (entry_in listed k ≢ entry_in across k)) result }
+    ensures { IsLeastOf (λ k. (k < 4) × (entry_in listed k ≢ entry_in across k)) result }
 {
     for corner in 0..CORNERS {
         if entry_in(listed, corner) != entry_in(across, corner) {
@@ -34,7 +34,7 @@ pub(crate) fn first_wrong_neighbor(
 ) -> Option<(usize, u8)>
     requires pairs { pairs.now ≡ pairs_of list.now }
     requires long { length neighbors.now ≡ length list.now }
-    ensures { IsFirstPair (IsWrongNeighbor list.now neighbors.now) result }
+    ensures { IsLeastPair (IsWrongNeighbor list.now neighbors.now) result }
 {
     for i in 0..list.len() {
         let listed = neighbors.at(i);

@@ -4,7 +4,7 @@ ghost use Rattle.std.specs.Prelude.{◌≡◌, ◌↔◌, IsTrue, All};
 ghost use Rattle.sign_predicates.specs.Orientation.{IsPositive};
 ghost use Rattle.geo_laws.specs.Delaunay.{corners, IsOn};
 ghost use Rattle.mesh_check.specs.Defects.{IsNotPositive};
-ghost use Rattle.mesh_check.specs.Searches.{IsFirstOf};
+ghost use Rattle.mesh_check.specs.Searches.{IsLeastOf};
 
 use geo_laws::{Points, Tet, TetList};
 use sign_predicates::{Corners, Sign, orient};
@@ -33,7 +33,7 @@ fn is_positive(points: &Points, row: Tet) -> bool
 /// The first row that is not positive, by its place.
 pub fn first_not_positive(points: &Points, list: &TetList) -> Option<usize>
     requires { All (IsOn points.now) list.now }
-    ensures { IsFirstOf (IsNotPositive points.now list.now) result }
+    ensures { IsLeastOf (IsNotPositive points.now list.now) result }
 {
     for i in 0..list.len() {
         let row = list.at(i);

@@ -4,9 +4,9 @@ ghost use Rattle.std.specs.Prelude.{◌≡◌, ◌≤◌, ◌-◌, ℤ, All, IfO
 ghost use Rattle.std.specs.HashMap.{get};
 ghost use Rattle.geo_laws.specs.Delaunay.{IsOn};
 ghost use Rattle.mesh_check.specs.Defects.{IsSameSide};
-ghost use Rattle.mesh_check.specs.Searches.{IsFirstOf, IsFirstPair};
+ghost use Rattle.mesh_check.specs.Searches.{IsLeastOf, IsLeastPair};
 ghost use Rattle.sign_predicates.specs.Sign.{IsSignOf};
-ghost use Rattle.mesh_check.specs.Sides.{face_side, same_side, sign_code, side_at, least_of, paired};
+ghost use Rattle.mesh_check.specs.Sides.{side_of_face, same_side, sign_code, side_at, lesser_of, paired};
 ghost use Rattle.mesh_check.specs.Sides.{AreFirstsFrom, IsLaterLike, MeetsLater, IsPutBelow};
 
 use crate::face_set::{face_in, point_in};
@@ -32,7 +32,7 @@ pub(crate) struct FaceSide {
 type Sides = HashMap<FaceSide, usize>;
 
 fn face_side(face: Face, side: u32) -> FaceSide
-    ensures { result ≡ face_side face side }
+    ensures { result ≡ side_of_face face side }
 {
     let Face { a, b, c } = face;
     FaceSide { a, b, c, side }
@@ -65,7 +65,7 @@ fn side_at(points: &Points, row: Tet, corner: u8) -> FaceSide
 
 /// The lesser of two places.
 pub(crate) fn least_of(one: Option<usize>, two: Option<usize>) -> Option<usize>
-    ensures { result ≡ least_of one two }
+    ensures { result ≡ lesser_of one two }
 {
     match one {
         None => two,
@@ -92,7 +92,7 @@ fn met_at(
     sides: &Sides,
 ) -> Option<usize>
     requires { AreFirstsFrom points.now list.now from (get same_side sides.now) }
-    ensures { at.side ≤ 2 → IsFirstOf (IsLaterLike points.now list.now from at) result }
+    ensures { at.side ≤ 2 → IsLeastOf (IsLaterLike points.now list.now from at) result }
 {
     let middle = kept(sides, at, 1);
     if at.side == 1 {
@@ -105,7 +105,7 @@ fn met_at(
 fn first_met(points: &Points, row: Tet, list: &TetList, from: usize, sides: &Sides) -> Option<usize>
     requires row { IsOn points.now row }
     requires sides { AreFirstsFrom points.now list.now from (get same_side sides.now) }
-    ensures { IsFirstOf (MeetsLater points.now list.now from row 4) result }
+    ensures { IsLeastOf (MeetsLater points.now list.now from row 4) result }
 {
     let mut least = None;
     for corner in 0..CORNERS {
@@ -144,7 +144,7 @@ pub(crate) fn first_same_side(
     list: &TetList,
 ) -> Result<Option<(usize, usize)>, NoMemory>
     requires { All (IsOn points.now) list.now }
-    ensures { IfOk result (IsFirstPair (IsSameSide points.now list.now)) }
+    ensures { IfOk result (IsLeastPair (IsSameSide points.now list.now)) }
 {
     let mut sides = HashMap::with_capacity(alloc, list.len().saturating_mul(4))?;
     let mut first = None;

@@ -4,7 +4,7 @@ ghost use Rattle.std.specs.Prelude.{◌≡◌, ◌<◌};
 ghost use Rattle.geo_laws.specs.Faces.{faces_of_rows};
 ghost use Rattle.mesh_check.specs.Defects.{IsStray};
 ghost use Rattle.mesh_check.specs.FaceSets.{HasExactly};
-ghost use Rattle.mesh_check.specs.Searches.{IsFirstOf};
+ghost use Rattle.mesh_check.specs.Searches.{IsLeastOf};
 
 use crate::face_set::{FaceSet, face_listed, has};
 use geo_laws::TetList;
@@ -13,7 +13,7 @@ use mesh_files::FaceRows;
 /// The first listed face that is a face of no row, where the set has the faces of all rows.
 pub(crate) fn first_stray(list: &TetList, faces: &FaceRows, owned: &FaceSet) -> Option<usize>
     requires { HasExactly owned.now (faces_of_rows list.now) }
-    ensures { IsFirstOf (IsStray list.now faces.now) result }
+    ensures { IsLeastOf (IsStray list.now faces.now) result }
 {
     for i in 0..faces.len() {
         if !has(owned, face_listed(faces.at(i))) {

@@ -5,7 +5,7 @@ ghost use Rattle.incidence.specs.Pairs.{pairs_of};
 ghost use Rattle.mesh_check.specs.Corners.{entry_in, face_in, face_listed};
 ghost use Rattle.mesh_check.specs.Defects.{IsUnlisted};
 ghost use Rattle.mesh_check.specs.FaceSets.{HasFace, HasExactly};
-ghost use Rattle.mesh_check.specs.Searches.{IsFirstOf, IsFirstPair};
+ghost use Rattle.mesh_check.specs.Searches.{IsLeastOf, IsLeastPair};
 
 use crate::face_set::{FaceSet, entry_in, face_in, has};
 use geo_laws::{Tet, TetList};
@@ -17,7 +17,7 @@ const CORNERS: u8 = 4;
 
 /// The first corner with nothing across its face, where that face is not in the set.
 fn unlisted_corner(row: Tet, across: Across, listed: &FaceSet) -> Option<u8>
-    ensures { IsFirstOf (λ k. (k < 4) × (entry_in across k ≡ None) × ¬ HasFace listed.now (face_in row k)) result }
+    ensures { IsLeastOf (λ k. (k < 4) × (entry_in across k ≡ None) × ¬ HasFace listed.now (face_in row k)) result }
 {
     for corner in 0..CORNERS {
         if entry_in(across, corner).is_none() && !has(listed, face_in(row, corner)) {
@@ -37,7 +37,7 @@ pub(crate) fn first_unlisted(
 ) -> Option<(usize, u8)>
     requires pairs { pairs.now ≡ pairs_of list.now }
     requires listed { HasExactly listed.now (map face_listed faces.now) }
-    ensures { IsFirstPair (IsUnlisted list.now faces.now) result }
+    ensures { IsLeastPair (IsUnlisted list.now faces.now) result }
 {
     for i in 0..list.len() {
         let row = list.at(i);

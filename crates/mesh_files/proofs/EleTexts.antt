@@ -12,7 +12,7 @@ use Rattle.std.proofs.lemmas.List.Elements.{All-nil, All-cons, All-head, All-tai
 use Rattle.geo_laws.specs.Delaunay.{numbers}
 use Rattle.geo_laws.specs.declared.complex.Region.{Region}
 use Rattle.geo_laws.specs.declared.tetrahedra.Tet.{Tet}
-use Rattle.mesh_files.specs.Texts.{fields_then, line_of, attribute_of, AreNamed}
+use Rattle.mesh_files.specs.Texts.{fields_then, text_line, attribute_of, AreNamed}
 use Rattle.mesh_files.specs.Laws.{AreInOneLine, EleTextLaw}
 
 -- ---- where a text is cut
@@ -230,7 +230,7 @@ marked_ends regions regions' marks marks' lines lines' = record {
 
 -- the number of rows, four corners, and how many attributes
 header_same : (n n' k k' : ℕ) (s t : List ℕ) → k < 10 → k' < 10
-    → line_of n (pos 4 ∷ pos k ∷ []) ++ s ≡ line_of n' (pos 4 ∷ pos k' ∷ []) ++ t → (k ≡ k') × (s ≡ t)
+    → text_line n (pos 4 ∷ pos k ∷ []) ++ s ≡ text_line n' (pos 4 ∷ pos k' ∷ []) ++ t → (k ≡ k') × (s ≡ t)
 header_same n n' k k' s t lt lt' e =
     let front = λ (j : ℕ). flat_map (λ z. 32 ∷ signed_decimal z) (pos 4 ∷ pos j ∷ []) in
     let itself = λ (j : ℕ). j in

@@ -15,8 +15,8 @@ use Rattle.geo_laws.specs.declared.faces.Face.{Face}
 use Rattle.geo_laws.proofs.Members.{IsMember, contains_of, member_of, in_map, map_cases, at_place}
 use Rattle.geo_laws.proofs.RowOrder.{by_last, face_before}
 use Rattle.incidence.proofs.Orders.{face_cmp, same_face, face_not_before}
-use Rattle.mesh_files.specs.FaceRows.{IsFirst, AreFacetsThere}
-use Rattle.mesh_files.specs.FacetFaces.{IsIn, FacetFaceBefore, AreFacetFaces}
+use Rattle.mesh_files.specs.FaceRows.{IsFirstLying, AreFacetsThere}
+use Rattle.mesh_files.specs.FacetFaces.{IsTriangleIn, FacetFaceBefore, AreFacetFaces}
 use Rattle.mesh_files.specs.declared.facet_faces.FacetFace.{FacetFace}
 
 -- ---- the list
@@ -31,7 +31,7 @@ take_all (t ∷ ts) zero h = absurd (omega arith)
 take_all (t ∷ ts) (suc k) h = ap (λ s. t ∷ s) (take_all ts k (omega arith))
 
 -- the triangles as faces
-pub faces_are : (ts : List FacetTriangle) (faces : List FacetFace) (k : ℕ) → faces ≡ map as_facet_face (take k ts) → length ts ≤ k → (face : Face) (facet : ℕ) → IsIn faces face facet ↔ Contains ts (as_triangle facet face)
+pub faces_are : (ts : List FacetTriangle) (faces : List FacetFace) (k : ℕ) → faces ≡ map as_facet_face (take k ts) → length ts ≤ k → (face : Face) (facet : ℕ) → IsTriangleIn faces face facet ↔ Contains ts (as_triangle facet face)
 faces_are ts faces k e h face facet = (to, from)
   where
     x : FacetFace
@@ -96,7 +96,7 @@ module _ (faces : List FacetFace) (ascending : AllPairs FacetFaceBefore faces) (
 
   module _ (low : ℕ) (before : (i : ℕ) (d : FacetFace) → i < low → FaceBefore (slice_index_or faces i d).face f) (after : (i : ℕ) (d : FacetFace) → low ≤ i → i < length faces → ¬ FaceBefore (slice_index_or faces i d).face f) where
     -- so a triangle with the face stands at that place or after one with the face
-    stands : (g : ℕ) → IsIn faces f g → (low < length faces) × ((d : FacetFace) → (slice_index_or faces low d ≡ record { face = f; facet = g }) ⊎ ((slice_index_or faces low d).face ≡ f) × ((slice_index_or faces low d).facet < g))
+    stands : (g : ℕ) → IsTriangleIn faces f g → (low < length faces) × ((d : FacetFace) → (slice_index_or faces low d ≡ record { face = f; facet = g }) ⊎ ((slice_index_or faces low d).face ≡ f) × ((slice_index_or faces low d).facet < g))
     stands g (k, below, at) = (place (cases_order k low), λ d. go d (cases_order k low))
       where
         x : FacetFace
@@ -119,17 +119,17 @@ module _ (faces : List FacetFace) (ascending : AllPairs FacetFaceBefore faces) (
             from (inl b) = absurd (after low d (omega arith) (omega (arith, h, below)) b)
             from (inr b) = inr b
 
-    pub first_there : (x : FacetFace) → low < length faces → ((d : FacetFace) → slice_index_or faces low d ≡ x) → x.face ≡ f → IsFirst (IsIn faces f) x.facet
+    pub first_there : (x : FacetFace) → low < length faces → ((d : FacetFace) → slice_index_or faces low d ≡ x) → x.face ≡ f → IsFirstLying (IsTriangleIn faces f) x.facet
     first_there x there at e = (contains_of faces (record { face = f; facet = x.facet }) (subst (λ h. IsMember (record { face = h; facet = x.facet }) faces) e (subst (λ y. IsMember y faces) (at x) (at_place faces low x there))), none)
       where
-        none : (g : ℕ) → g < x.facet → ¬ IsIn faces f g
+        none : (g : ℕ) → g < x.facet → ¬ IsTriangleIn faces f g
         none g less c = go ((stands g c).1 x)
           where
             go : (slice_index_or faces low x ≡ record { face = f; facet = g }) ⊎ ((slice_index_or faces low x).face ≡ f) × ((slice_index_or faces low x).facet < g) → ⊥
             go (inl p) = let q : x.facet ≡ g = ap (λ y. y.facet) (sym (at x) ∙ p) in omega (arith, q, less)
             go (inr p) = let q : (slice_index_or faces low x).facet ≡ x.facet = ap (λ y. y.facet) (at x) in omega (arith, q, less, p.1)
 
-    pub none_there : (low < length faces → (d : FacetFace) → ¬ ((slice_index_or faces low d).face ≡ f)) → ¬ ((facet : ℕ) × IsIn faces f facet)
+    pub none_there : (low < length faces → (d : FacetFace) → ¬ ((slice_index_or faces low d).face ≡ f)) → ¬ ((facet : ℕ) × IsTriangleIn faces f facet)
     none_there n (g, c) = let s = stands g c in let d : FacetFace = record { face = f; facet = g } in go d s.0 (s.1 d)
       where
         go : (d : FacetFace) → low < length faces → (slice_index_or faces low d ≡ record { face = f; facet = g }) ⊎ ((slice_index_or faces low d).face ≡ f) × ((slice_index_or faces low d).facet < g) → ⊥

@@ -6,7 +6,7 @@ use Rattle.geo_laws.specs.Delaunay.{numbers}
 use Rattle.geo_laws.specs.declared.tetrahedra.Tet.{Tet}
 use Rattle.std.proofs.lemmas.List.{get_or-map}
 use Rattle.geo_laws.specs.declared.complex.Region.{Region}
-use Rattle.mesh_files.specs.Texts.{attribute_of, fields_then, marked_line, numbered}
+use Rattle.mesh_files.specs.Texts.{attribute_of, fields_then, marked_line, file_number}
 use Rattle.std.specs.List.{enumerate_from}
 
 -- the lines of items, numbered from a place
@@ -53,11 +53,11 @@ last_field out front last = append_assoc out (front ++ (32 ∷ [])) last ∙ ap 
 
 -- as the attribute of a row is
 pub line_with_mark : (regions : List Region) (names : List ℕ) (first place : ℕ) (row : Tet) (mark : Option ℕ) (out begun whole : List ℕ)
-    → begun ≡ out ++ fields_then (place + first) (map (numbered names first) (numbers row)) (32 ∷ []) → whole ≡ begun ++ (attribute_of regions mark ++ (10 ∷ []))
+    → begun ≡ out ++ fields_then (place + first) (map (file_number names first) (numbers row)) (32 ∷ []) → whole ≡ begun ++ (attribute_of regions mark ++ (10 ∷ []))
     → whole ≡ out ++ marked_line regions names first place row mark
 line_with_mark regions names first place row mark out begun whole e f =
     f ∙ ap (λ s. s ++ (attribute_of regions mark ++ (10 ∷ []))) e
-    ∙ last_field out (decimal (place + first) ++ flat_map (λ z. 32 ∷ signed_decimal z) (map (numbered names first) (numbers row))) (attribute_of regions mark ++ (10 ∷ []))
+    ∙ last_field out (decimal (place + first) ++ flat_map (λ z. 32 ∷ signed_decimal z) (map (file_number names first) (numbers row))) (attribute_of regions mark ++ (10 ∷ []))
 
 -- the attribute of a region that is there
 pub attribute_at : (regions : List Region) (mark : Option ℕ) (k : ℕ) (r : Region) → mark ≡ Some k → k < length regions → ((d : Region) → get_or regions k d ≡ r) → r.attribute ≡ attribute_of regions mark

@@ -9,7 +9,7 @@ use Rattle.geo_laws.specs.Complex.{Complex}
 use Rattle.geo_laws.specs.Delaunay.{corners, point}
 use Rattle.geo_laws.specs.Laws.{plane_through}
 use Rattle.geo_laws.specs.Faces.{faces_of_rows}
-use Rattle.geo_laws.specs.Facet.{LiesIn, centroid}
+use Rattle.geo_laws.specs.Facet.{LiesIn, triangle_centroid}
 use Rattle.geo_laws.specs.declared.complex.Facet.{Facet}
 use Rattle.geo_laws.specs.declared.complex.FacetTriangle.{FacetTriangle}
 use Rattle.geo_laws.specs.declared.faces.Face.{Face}
@@ -22,8 +22,8 @@ use Rattle.facet_laws.proofs.FaceIn.{centroid_in, law_face_in_facet}
 use Rattle.incidence.specs.Pairs.{has_face}
 use Rattle.incidence.specs.declared.uses.Use.{Use}
 use Rattle.incidence.specs.Uses.{AreAllUses}
-use Rattle.mesh_files.specs.FaceRows.{AreFacesMet, IsFirst, IsMarker, IsAsked, IsRowOf, IsFaceRow, AreFaceRowsOf, is_on_hull, corners_of, marker_or_1}
-use Rattle.mesh_files.specs.FacetFaces.{IsIn, AreFacetFaces}
+use Rattle.mesh_files.specs.FaceRows.{AreTrianglesMetByFaces, IsFirstLying, IsFaceMarker, IsAsked, IsFaceRowOf, IsFaceRow, AreFaceRowsOf, is_on_hull, corners_of, marker_or_1}
+use Rattle.mesh_files.specs.FacetFaces.{IsTriangleIn, AreFacetFaces}
 use Rattle.mesh_files.specs.declared.facet_faces.FacetFace.{FacetFace}
 use Rattle.mesh_files.specs.declared.markers.FaceRow.{FaceRow}
 use Rattle.mesh_files.proofs.Found.{AreItems, AreFoundBefore, found_all, no_row, row_of_face, in_row}
@@ -31,7 +31,7 @@ use Rattle.mesh_files.proofs.Spans.{face_spans}
 
 -- ---- a face has one marker
 
-first_same : (lies : ℕ → Type 0) (f g : ℕ) → IsFirst lies f → IsFirst lies g → f ≡ g
+first_same : (lies : ℕ → Type 0) (f g : ℕ) → IsFirstLying lies f → IsFirstLying lies g → f ≡ g
 first_same lies f g p q = go (cases_order f g)
   where
     go : (f ≡ g) ⊎ ((f < g) ⊎ (g < f)) → f ≡ g
@@ -42,13 +42,13 @@ first_same lies f g p q = go (cases_order f g)
 no_facet : Facet
 no_facet = record { first = 0; past = 0; holes = []; marker = None }
 
-marker_same : (lies : ℕ → Type 0) (facets : List Facet) (on_hull : Bool) (m n : ℤ) → IsMarker lies facets on_hull m → IsMarker lies facets on_hull n → m ≡ n
+marker_same : (lies : ℕ → Type 0) (facets : List Facet) (on_hull : Bool) (m n : ℤ) → IsFaceMarker lies facets on_hull m → IsFaceMarker lies facets on_hull n → m ≡ n
 marker_same lies facets on_hull m n (inl (f, p, e)) (inl (g, q, d)) = e no_facet ∙ ap (λ k. marker_or_1 (get_or facets k no_facet).marker) (first_same lies f g p q) ∙ sym (d no_facet)
 marker_same lies facets on_hull m n (inl (f, p, e)) (inr (none, d)) = absurd (none (f, p.0))
 marker_same lies facets on_hull m n (inr (none, e)) (inl (g, q, d)) = absurd (none (g, q.0))
 marker_same lies facets on_hull m n (inr (none, e)) (inr (_, d)) = e ∙ sym d
 
-pub row_items : (lies : Face → ℕ → Type 0) (facets : List Facet) (rows : List Tet) (all : Bool) → AreItems corners_of (IsRowOf lies facets rows all)
+pub row_items : (lies : Face → ℕ → Type 0) (facets : List Facet) (rows : List Tet) (all : Bool) → AreItems corners_of (IsFaceRowOf lies facets rows all)
 row_items lies facets rows all = record {
   own = λ f r w. w.corners_are;
   one = λ f r s v w. ap (λ (g : Face). row g r.marker) (v.corners_are ∙ sym w.corners_are) ∙ ap (row (corners_of s)) (marker_same (lies f) facets _ r.marker s.marker v.marker_is w.marker_is);
@@ -59,7 +59,7 @@ row_items lies facets rows all = record {
 
 -- ---- by whatever it is known in which facets the face lies
 
-marker_by : (lies lies' : ℕ → Type 0) → ((facet : ℕ) → lies facet ↔ lies' facet) → (facets : List Facet) (on_hull : Bool) (m : ℤ) → IsMarker lies facets on_hull m → IsMarker lies' facets on_hull m
+marker_by : (lies lies' : ℕ → Type 0) → ((facet : ℕ) → lies facet ↔ lies' facet) → (facets : List Facet) (on_hull : Bool) (m : ℤ) → IsFaceMarker lies facets on_hull m → IsFaceMarker lies' facets on_hull m
 marker_by lies lies' same facets on_hull m (inl (f, p, e)) = inl (f, ((same f).0 p.0, λ g l k. p.1 g l ((same g).1 k)), e)
 marker_by lies lies' same facets on_hull m (inr (none, e)) = inr ((λ k. none (k.0, (same k.0).1 k.1)), e)
 
@@ -69,7 +69,7 @@ asked_by lies lies' same all on_hull (inr (inl h)) = inr (inl h)
 asked_by lies lies' same all on_hull (inr (inr (f, h))) = inr (inr (f, (same f).0 h))
 
 row_by : (lies lies' : Face → ℕ → Type 0) (facets : List Facet) (rows : List Tet) (all : Bool) (f : Face) (r : FaceRow) → ((facet : ℕ) → lies f facet ↔ lies' f facet)
-    → IsRowOf lies facets rows all f r → IsRowOf lies' facets rows all f r
+    → IsFaceRowOf lies facets rows all f r → IsFaceRowOf lies' facets rows all f r
 row_by lies lies' facets rows all f r same w = record {
   corners_are = w.corners_are;
   marker_is = marker_by (lies f) (lies' f) same facets _ r.marker w.marker_is;
@@ -81,22 +81,22 @@ abbrev pub IsTriangleOf : List FacetTriangle → Face → ℕ → Type 0
 IsTriangleOf ts f facet = Contains ts (as_triangle facet f)
 
 abbrev pub IsListedRow : List FacetTriangle → Complex → List Tet → Bool → Face → FaceRow → Type 0
-IsListedRow ts complex rows all f r = IsRowOf (IsTriangleOf ts) complex.facets rows all f r
+IsListedRow ts complex rows all f r = IsFaceRowOf (IsTriangleOf ts) complex.facets rows all f r
 
 -- by the list of the triangles as faces
 pub listed_row : (ts : List FacetTriangle) (faces : List FacetFace) → AreFacetFaces ts faces → (complex : Complex) (rows : List Tet) (all : Bool) (f : Face) (r : FaceRow)
-    → IsRowOf (IsIn faces) complex.facets rows all f r ↔ IsListedRow ts complex rows all f r
+    → IsFaceRowOf (IsTriangleIn faces) complex.facets rows all f r ↔ IsListedRow ts complex rows all f r
 listed_row ts faces a complex rows all f r = (
-  row_by (IsIn faces) (IsTriangleOf ts) complex.facets rows all f r (a.exactly f),
-  row_by (IsTriangleOf ts) (IsIn faces) complex.facets rows all f r (λ facet. let s = a.exactly f facet in (s.1, s.0)),
+  row_by (IsTriangleIn faces) (IsTriangleOf ts) complex.facets rows all f r (a.exactly f),
+  row_by (IsTriangleOf ts) (IsTriangleIn faces) complex.facets rows all f r (λ facet. let s = a.exactly f facet in (s.1, s.0)),
 )
 
 -- without triangles no face lies in a facet
 pub nothing_lies : (ps : List Point) (facet : ℕ) (f : Face) → ¬ LiesIn ps [] facet f
-nothing_lies ps facet f lies = let on = lies (centroid (point ps f.a) (point ps f.b) (point ps f.c)) (omega (arith, ints)) (centroid_in ps f.a f.b f.c) in omega (arith, on.2)
+nothing_lies ps facet f lies = let on = lies (triangle_centroid (point ps f.a) (point ps f.b) (point ps f.c)) (omega (arith, ints)) (centroid_in ps f.a f.b f.c) in omega (arith, on.2)
 
 -- a face of positive rows lies in a facet exactly where it is one of its triangles
-lies_in : (ps : List Point) (ts : List FacetTriangle) (rows : List Tet) → AreFacesMet ps ts rows → (f : Face) → Contains (faces_of_rows rows) f → (facet : ℕ) → LiesIn ps ts facet f ↔ IsTriangleOf ts f facet
+lies_in : (ps : List Point) (ts : List FacetTriangle) (rows : List Tet) → AreTrianglesMetByFaces ps ts rows → (f : Face) → Contains (faces_of_rows rows) f → (facet : ℕ) → LiesIn ps ts facet f ↔ IsTriangleOf ts f facet
 lies_in ps [] rows met f c facet = (λ h. absurd (nothing_lies ps facet f h), λ h. absurd (omega (arith, h.1)))
 lies_in ps (s ∷ ts) rows met f c facet =
     law_face_in_facet ps (s ∷ ts) facet f (subst (λ g. Ascends (as_triangle facet g)) (sym u.1) (record { first = up.first; second = up.second }))
@@ -122,7 +122,7 @@ pub without_facets : (ps : List Point) (rows : List Tet) (complex : Complex) (al
     → (f : Face) × Contains (faces_of_rows rows) f × (corners_of r ≡ f) × (r.marker ≡ (if is_on_hull rows f then pos 1 else pos 0)) × (IsTrue all ⊎ IsTrue (is_on_hull rows f))
 without_facets ps rows complex all r (f, c, w) = (f, c, w.corners_are, by_marker w.marker_is, by_asked w.asked)
   where
-    by_marker : IsMarker (λ facet. LiesIn ps [] facet f) complex.facets (is_on_hull rows f) r.marker → r.marker ≡ (if is_on_hull rows f then pos 1 else pos 0)
+    by_marker : IsFaceMarker (λ facet. LiesIn ps [] facet f) complex.facets (is_on_hull rows f) r.marker → r.marker ≡ (if is_on_hull rows f then pos 1 else pos 0)
     by_marker (inl (facet, p, e)) = absurd (nothing_lies ps facet f p.0)
     by_marker (inr (none, e)) = e
 
@@ -132,7 +132,7 @@ without_facets ps rows complex all r (f, c, w) = (f, c, w.corners_are, by_marker
     by_asked (inr (inr (facet, h))) = absurd (nothing_lies ps facet f h)
 
 -- what is found after all uses
-pub rows_found : (ps : List Point) (ts : List FacetTriangle) (rows : List Tet) (complex : Complex) (all : Bool) (uses : List Use) (at : ℕ) (found : List FaceRow) → AreFacesMet ps ts rows → AreAllUses rows uses
+pub rows_found : (ps : List Point) (ts : List FacetTriangle) (rows : List Tet) (complex : Complex) (all : Bool) (uses : List Use) (at : ℕ) (found : List FaceRow) → AreTrianglesMetByFaces ps ts rows → AreAllUses rows uses
     → at ≡ length uses → AreFoundBefore corners_of (IsListedRow ts complex rows all) uses at found → AreFaceRowsOf ps rows complex ts all found
 rows_found ps ts rows complex all uses at found met a end f = record {
   exactly = λ r.

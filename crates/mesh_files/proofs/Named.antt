@@ -2,20 +2,19 @@
 use Rattle.std.proofs.Common.{◌≡◌, ◌⊎◌, inl, inr, ℕ, ◌<◌, List, [], ◌∷◌, length, get_or, refl, sym, subst, arith}
 use Rattle.std.specs.Prelude.{min, max, All, Contains}
 use Rattle.std.proofs.lemmas.List.Elements.{All-nil, All-cons, All-contains}
-use Rattle.geo_laws.specs.Delaunay.{numbers}
+use Rattle.geo_laws.specs.Delaunay.{numbers, row_at}
 use Rattle.geo_laws.specs.Faces.{face_of, side_of, row_faces, row_sides, face_numbers, side_numbers, faces_of_rows, sides_of_rows}
 use Rattle.geo_laws.specs.declared.faces.Face.{Face}
 use Rattle.geo_laws.specs.declared.faces.Side.{Side}
 use Rattle.geo_laws.specs.declared.tetrahedra.Tet.{Tet}
 use Rattle.geo_laws.proofs.Members.{IsMember, in_cons, contains_of, member_of, flat_map_cases}
 use Rattle.incidence.specs.HalfFaces.{used}
-use Rattle.incidence.specs.Links.{row_at}
 use Rattle.incidence.specs.Uses.{AreUsesOf}
 use Rattle.incidence.specs.declared.half_faces.HalfFace.{HalfFace}
 use Rattle.incidence.specs.declared.uses.Use.{Use}
 use Rattle.incidence.proofs.Partners.{of_row}
 use Rattle.mesh_files.specs.FaceRows.{corners_of}
-use Rattle.mesh_files.specs.Texts.{corner_numbers, AreNamed}
+use Rattle.mesh_files.specs.Texts.{marked_corners, AreNamed}
 use Rattle.mesh_files.specs.declared.markers.FaceRow.{FaceRow}
 use Rattle.mesh_files.proofs.Found.{in_row}
 
@@ -119,7 +118,7 @@ side_named names rows h s c =
     side_of_row_named names r.0 (All-contains (λ t. AreNamed names (numbers t)) rows r.0 h (contains_of rows r.0 r.1)) s (contains_of (row_sides r.0) s r.2)
 
 -- a face with its marker has the face's corners
-pub row_named : (names : List ℕ) (f : Face) (r : FaceRow) → corners_of r ≡ f → AreNamed names (face_numbers f) → AreNamed names (corner_numbers r)
+pub row_named : (names : List ℕ) (f : Face) (r : FaceRow) → corners_of r ≡ f → AreNamed names (face_numbers f) → AreNamed names (marked_corners r)
 row_named names f r e h = subst (λ g. AreNamed names (face_numbers g)) (sym e) h
 
 -- the face of a use is one of a row

@@ -2,12 +2,12 @@
 use Rattle.std.proofs.Common.{◌≡◌, ◌++◌, ◌+◌, ◌-◌, ◌%◌, ◌^◌, ◌<◌, ◌≤◌, ℕ, [], ◌∷◌, length, take, slice_set, get_or, refl, sym, ap, subst, ◌∙◌, arith}
 use Rattle.std.proofs.lemmas.List.{length-append, length-take-le, get_or_at, append_cancel_right, set-get_or}
 use Rattle.std.proofs.lemmas.Grind.{take-set_at}
-use Rattle.mesh_files.specs.Fields.{IsField, with_last}
+use Rattle.mesh_files.specs.Fields.{IsNumberField, with_last}
 use Rattle.mesh_files.specs.declared.fields.Field.{Field}
 use Rattle.mesh_files.proofs.Pieces.{last_digit}
 
 -- a field has a space and a digit at least
-pub field_long : (n : ℕ) (f : Field) → length f.text ≡ 8 → n + 1 < 2 ^ 64 → IsField n f → 2 ≤ f.len
+pub field_long : (n : ℕ) (f : Field) → length f.text ≡ 8 → n + 1 < 2 ^ 64 → IsNumberField n f → 2 ≤ f.len
 field_long n f room fits is =
     let d = last_digit n fits in
     omega (arith, length-take-le f.len f.text (omega (arith, is.0)), ap length is.1, ap length d.1, length-append d.0 ((48 + n % 10) ∷ []))
@@ -18,7 +18,7 @@ ends_with : (f : Field) (last : ℕ) → length f.text ≡ 8 → 1 ≤ f.len →
 ends_with f last room one short = take-set_at f.text (f.len - 1) f.len last (omega arith) (omega arith)
 
 -- so the last digit is that of the number
-digit_of : (n : ℕ) (f : Field) (last : ℕ) → length f.text ≡ 8 → 1 ≤ f.len → (fits : n + 1 < 2 ^ 64) → IsField n (with_last f last)
+digit_of : (n : ℕ) (f : Field) (last : ℕ) → length f.text ≡ 8 → 1 ≤ f.len → (fits : n + 1 < 2 ^ 64) → IsNumberField n (with_last f last)
     → (last ≡ 48 + n % 10) × (take (f.len - 1) f.text ≡ 32 ∷ (last_digit n fits).0)
 digit_of n f last room one fits is =
     let d = last_digit n fits in
@@ -30,12 +30,12 @@ digit_of n f last room one fits is =
     (same, append_cancel_right front (32 ∷ d.0) (x ∷ []) (subst (λ y. front ++ (y ∷ []) ≡ (32 ∷ d.0) ++ (x ∷ [])) same e))
 
 -- it is a digit
-pub digit_small : (n : ℕ) (f : Field) (last : ℕ) → length f.text ≡ 8 → 1 ≤ f.len → n + 1 < 2 ^ 64 → IsField n (with_last f last) → last ≤ 57
+pub digit_small : (n : ℕ) (f : Field) (last : ℕ) → length f.text ≡ 8 → 1 ≤ f.len → n + 1 < 2 ^ 64 → IsNumberField n (with_last f last) → last ≤ 57
 digit_small n f last room one fits is = omega (arith, (digit_of n f last room one fits is).0)
 
 -- where it has one after it, the next number's field has that one
-pub next_field : (n : ℕ) (f : Field) (last : ℕ) → length f.text ≡ 8 → 1 ≤ f.len → n + 1 < 2 ^ 64 → IsField n (with_last f last) → last < 57
-    → IsField (n + 1) (with_last f (last + 1))
+pub next_field : (n : ℕ) (f : Field) (last : ℕ) → length f.text ≡ 8 → 1 ≤ f.len → n + 1 < 2 ^ 64 → IsNumberField n (with_last f last) → last < 57
+    → IsNumberField (n + 1) (with_last f (last + 1))
 next_field n f last room one fits is small =
     let d = last_digit n fits in
     let e = digit_of n f last room one fits is in (
@@ -47,9 +47,9 @@ next_field n f last room one fits is small =
 
 -- a field that is the number's with this last digit
 abbrev pub IsNow : ℕ → Field → ℕ → Type 0
-IsNow n f last = (length f.text ≡ 8) × (1 ≤ f.len) × IsField n (with_last f last)
+IsNow n f last = (length f.text ≡ 8) × (1 ≤ f.len) × IsNumberField n (with_last f last)
 
 -- a field has its own last digit
-pub own_last : (n : ℕ) (f : Field) → length f.text ≡ 8 → n + 1 < 2 ^ 64 → IsField n f → IsNow n f (get_or f.text (f.len - 1) 0)
+pub own_last : (n : ℕ) (f : Field) → length f.text ≡ 8 → n + 1 < 2 ^ 64 → IsNumberField n f → IsNow n f (get_or f.text (f.len - 1) 0)
 own_last n f room fits is =
-    (room, omega (arith, field_long n f room fits is), subst (IsField n) (sym (ap (λ s. record { text = s; len = f.len }) (set-get_or f.text (f.len - 1) 0))) is)
+    (room, omega (arith, field_long n f room fits is), subst (IsNumberField n) (sym (ap (λ s. record { text = s; len = f.len }) (set-get_or f.text (f.len - 1) 0))) is)

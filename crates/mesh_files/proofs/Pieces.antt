@@ -7,7 +7,7 @@ use Rattle.std.proofs.Math.Seq.{take-append-add, take-set-lt, set-set}
 use Rattle.std.proofs.lemmas.Bool.{false≢true}
 use Rattle.std.proofs.lemmas.Fmt.{decimal_digit, decimal_step}
 use Rattle.std.specs.Fmt.{decimal, signed_decimal}
-use Rattle.mesh_files.specs.Fields.{AreFields, IsField}
+use Rattle.mesh_files.specs.Fields.{AreFields, IsNumberField}
 use Rattle.mesh_files.specs.declared.fields.Field.{Field}
 use borrow.Rule.Slice.PartMut.{put_mid, post_of}
 
@@ -154,15 +154,15 @@ field_put text front new out number zs i z l read f e =
 pub fields_none : AreFields []
 fields_none k h d = absurd (omega arith)
 
-pub fields_more : (fields new : List Field) (n : ℕ) (f : Field) → length fields ≡ n → AreFields fields → IsField n f → new ≡ fields ++ (f ∷ []) → AreFields new
+pub fields_more : (fields new : List Field) (n : ℕ) (f : Field) → length fields ≡ n → AreFields fields → IsNumberField n f → new ≡ fields ++ (f ∷ []) → AreFields new
 fields_more fields new n f e are is added =
     subst AreFields (sym added)
     (λ k h d. elim (eq-zero-or-pos (n - k)) [
       | inl z ↦
           let at : k ≡ n = omega (arith, length-append fields (f ∷ [])) in
-          subst (λ j. IsField j (get_or (fields ++ (f ∷ [])) j d)) (sym at) (subst (IsField n) (sym (get_or_at fields f [] d n e)) is)
-      | inr g ↦ subst (IsField k) (sym (get_or_append_left fields (f ∷ []) d k (omega arith))) (are k (omega arith) d)
+          subst (λ j. IsNumberField j (get_or (fields ++ (f ∷ [])) j d)) (sym at) (subst (IsNumberField n) (sym (get_or_at fields f [] d n e)) is)
+      | inr g ↦ subst (IsNumberField k) (sym (get_or_append_left fields (f ∷ []) d k (omega arith))) (are k (omega arith) d)
     ])
 
-pub field_at : (fields : List Field) (n : ℕ) (f : Field) → AreFields fields → n < length fields → HoldsAt (λ x. x ≡ f) fields n → IsField n f
-field_at fields n f are l at = subst (IsField n) (at f) (are n l f)
+pub field_at : (fields : List Field) (n : ℕ) (f : Field) → AreFields fields → n < length fields → HoldsAt (λ x. x ≡ f) fields n → IsNumberField n f
+field_at fields n f are l at = subst (IsNumberField n) (at f) (are n l f)

@@ -5,8 +5,8 @@ use Rattle.tet_text.specs.declared.fault.TextFault.{TextFault}
 use Rattle.tet_text.specs.Reading.{◌>>=◌}
 use Rattle.mesh_files.specs.declared.fault.MeshFault.{MeshFault}
 use Rattle.mesh_files.specs.declared.fault.MeshFault.TheVariants as faults
-use Rattle.mesh_files.specs.Outcome.{Fails}
-use Rattle.mesh_files.specs.Repeated.{so_many, onto}
+use Rattle.mesh_files.specs.Outcome.{MeshFails}
+use Rattle.tet_text.specs.Repeated.{so_many, onto}
 
 abbrev Read : Type 0 → Type 0 → Type 0
 Read X R = Result (List X × R) TextFault
@@ -35,8 +35,8 @@ stops one front count i place fault whole lt is so_far =
     let step : onto front (so_many one (count - i) place) ≡ Err fault = rw (left, is) refl in
     sym so_far ∙ step
 
-pub many_stop : {X R : Type 0} (one : R → Result (X × R) TextFault) (front : List X) (count i : ℕ) (place : R) (fault : MeshFault) (whole : Read X R) → i < count → Fails fault (one place)
-    → onto front (so_many one (count - i) place) ≡ whole → Fails fault whole
+pub many_stop : {X R : Type 0} (one : R → Result (X × R) TextFault) (front : List X) (count i : ℕ) (place : R) (fault : MeshFault) (whole : Read X R) → i < count → MeshFails fault (one place)
+    → onto front (so_many one (count - i) place) ≡ whole → MeshFails fault whole
 many_stop one front count i place faults.NoMemory whole lt fails so_far = tt
 many_stop one front count i place (faults.Text fault) whole lt fails so_far = stops one front count i place fault whole lt fails so_far
 

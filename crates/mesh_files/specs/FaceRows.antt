@@ -22,8 +22,8 @@ pub record IsMet (ps : List Point) (rows : List Tet) (t : FacetTriangle) : Type 
   pub properly_met : (face : Face) → Contains (faces_of_rows rows) face → ProperlyMet ps (face_numbers face) (corner_numbers t)
 
 -- each triangle is met so
-abbrev pub AreFacesMet : List Point → List FacetTriangle → List Tet → Type 0
-AreFacesMet ps ts rows = All (IsMet ps rows) ts
+abbrev pub AreTrianglesMetByFaces : List Point → List FacetTriangle → List Tet → Type 0
+AreTrianglesMetByFaces ps ts rows = All (IsMet ps rows) ts
 
 -- the facets of the triangles are there
 abbrev pub AreFacetsThere : List FacetTriangle → Complex → Type 0
@@ -41,13 +41,13 @@ marker_or_1 (Some marker) = marker
 -- ---- of a face by the facets in which it lies
 
 -- the facet is the first one of these
-abbrev pub IsFirst : (ℕ → Type 0) → ℕ → Type 0
-IsFirst lies facet = lies facet × ((g : ℕ) → g < facet → ¬ lies g)
+abbrev pub IsFirstLying : (ℕ → Type 0) → ℕ → Type 0
+IsFirstLying lies facet = lies facet × ((g : ℕ) → g < facet → ¬ lies g)
 
 -- the marker of the face: that of the first facet in which it lies; where it lies in none, 1 if it is on the hull, else 0
-abbrev pub IsMarker : (ℕ → Type 0) → List Facet → Bool → ℤ → Type 0
-IsMarker lies facets on_hull marker =
-    ((facet : ℕ) × IsFirst lies facet × HoldsAt (λ f. marker ≡ marker_or_1 f.marker) facets facet)
+abbrev pub IsFaceMarker : (ℕ → Type 0) → List Facet → Bool → ℤ → Type 0
+IsFaceMarker lies facets on_hull marker =
+    ((facet : ℕ) × IsFirstLying lies facet × HoldsAt (λ f. marker ≡ marker_or_1 f.marker) facets facet)
     ⊎ (¬ ((facet : ℕ) × lies facet)) × (marker ≡ (if on_hull then pos 1 else pos 0))
 
 -- all faces are asked for, or those on the hull and those that lie in facets
@@ -60,15 +60,15 @@ abbrev pub corners_of : FaceRow → Face
 corners_of r = record { a = r.a; b = r.b; c = r.c }
 
 -- the face with its marker, where it is asked for
-pub record IsRowOf (lies : Face → ℕ → Type 0) (facets : List Facet) (rows : List Tet) (all : Bool) (f : Face) (r : FaceRow) : Type 0 where
+pub record IsFaceRowOf (lies : Face → ℕ → Type 0) (facets : List Facet) (rows : List Tet) (all : Bool) (f : Face) (r : FaceRow) : Type 0 where
   pub corners_are : corners_of r ≡ f
-  pub marker_is : IsMarker (lies f) facets (is_on_hull rows f) r.marker
+  pub marker_is : IsFaceMarker (lies f) facets (is_on_hull rows f) r.marker
   pub asked : IsAsked (lies f) all (is_on_hull rows f)
 
 -- by the points of each face
 abbrev pub IsFaceRow : List Point → List Tet → Complex → List FacetTriangle → Bool → FaceRow → Type 0
 IsFaceRow ps rows complex ts all r =
-    (f : Face) × Contains (faces_of_rows rows) f × IsRowOf (λ g facet. LiesIn ps ts facet g) complex.facets rows all f r
+    (f : Face) × Contains (faces_of_rows rows) f × IsFaceRowOf (λ g facet. LiesIn ps ts facet g) complex.facets rows all f r
 
 -- each face that is asked for once, with its marker, ascending
 pub record AreFaceRowsOf (ps : List Point) (rows : List Tet) (complex : Complex) (ts : List FacetTriangle) (all : Bool)

@@ -4,8 +4,8 @@ use Rattle.std.specs.Fmt.{decimal}
 use Rattle.mesh_files.specs.declared.fields.Field.{Field}
 
 -- a space and the decimals of the number
-abbrev pub IsField : ℕ → Field → Type 0
-IsField number f = (f.len ≤ 8) × (take f.len f.text ≡ 32 ∷ decimal number)
+abbrev pub IsNumberField : ℕ → Field → Type 0
+IsNumberField number f = (f.len ≤ 8) × (take f.len f.text ≡ 32 ∷ decimal number)
 
 -- a field with another last digit
 abbrev pub with_last : Field → ℕ → Field
@@ -13,4 +13,4 @@ with_last f last = record { text = slice_set f.text (f.len - 1) last; len = f.le
 
 -- those of the numbers from 0 on
 abbrev pub AreFields : List Field → Type 0
-AreFields fields = (k : ℕ) → k < length fields → HoldsAt (IsField k) fields k
+AreFields fields = (k : ℕ) → k < length fields → HoldsAt (IsNumberField k) fields k

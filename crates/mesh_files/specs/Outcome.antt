@@ -5,11 +5,11 @@ use Rattle.mesh_files.specs.declared.fault.MeshFault.{MeshFault}
 use Rattle.mesh_files.specs.declared.fault.MeshFault.TheVariants as faults
 
 -- the fault is that of the reading, unless memory ran out
-abbrev pub Fails : {Y : Type 0} → MeshFault → Result Y TextFault → Type 0
-Fails (faults.Text fault) reading = reading ≡ Err fault
-Fails faults.NoMemory reading = Unit {0}
+abbrev pub MeshFails : {Y : Type 0} → MeshFault → Result Y TextFault → Type 0
+MeshFails (faults.Text fault) reading = reading ≡ Err fault
+MeshFails faults.NoMemory reading = Unit {0}
 
 -- what was returned, seen by `view`, is what the reading gives, unless memory ran out
-abbrev pub Gives : {X Y : Type 0} → (X → Y) → Result X MeshFault → Result Y TextFault → Type 0
-Gives view (Ok x) reading = reading ≡ Ok (view x)
-Gives view (Err fault) reading = Fails fault reading
+abbrev pub MeshGives : {X Y : Type 0} → (X → Y) → Result X MeshFault → Result Y TextFault → Type 0
+MeshGives view (Ok x) reading = reading ≡ Ok (view x)
+MeshGives view (Err fault) reading = MeshFails fault reading

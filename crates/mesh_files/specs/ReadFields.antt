@@ -43,8 +43,8 @@ abbrev pub is_listed : Listed → ℕ → Bool
 is_listed listed number = nat_le listed.first number && nat_lt number (listed.first + listed.points)
 
 -- a corner by its place, where one of the points has its number
-unfoldable pub corner_at : Listed → ℕ → Fields → Result (ℕ × Fields) TextFault
-corner_at listed line fields = do
+unfoldable pub corner_place_at : Listed → ℕ → Fields → Result (ℕ × Fields) TextFault
+corner_place_at listed line fields = do
   number ← count_at line fields
   if is_listed listed number.0 then Ok (number.0 - listed.first, number.1) else Err (bad_index line)
 

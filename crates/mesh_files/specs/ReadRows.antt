@@ -9,8 +9,9 @@ use Rattle.geo_laws.specs.declared.tetrahedra.Tet.{Tet}
 use Rattle.incidence.specs.declared.pairs.Across.{Across}
 use Rattle.mesh_files.specs.declared.markers.FaceRow.{FaceRow}
 use Rattle.mesh_files.specs.declared.field_reading.Listed.{Listed}
-use Rattle.mesh_files.specs.ReadFields.{four_head, flag_head, numbered, corner_at, passed_over}
-use Rattle.mesh_files.specs.Repeated.{so_many, next_row}
+use Rattle.mesh_files.specs.ReadFields.{four_head, flag_head, numbered, corner_place_at, passed_over}
+use Rattle.mesh_files.specs.Repeated.{next_row}
+use Rattle.tet_text.specs.Repeated.{so_many}
 
 -- ---- tetrahedra
 
@@ -18,10 +19,10 @@ use Rattle.mesh_files.specs.Repeated.{so_many, next_row}
 unfoldable pub tet_row : Listed → Bool → ℕ → ContentLine → Result Tet TextFault
 tet_row listed flag wanted line = do
   number ← numbered wanted line.line line.fields
-  a ← corner_at listed line.line number.1
-  b ← corner_at listed line.line a.1
-  c ← corner_at listed line.line b.1
-  d ← corner_at listed line.line c.1
+  a ← corner_place_at listed line.line number.1
+  b ← corner_place_at listed line.line a.1
+  c ← corner_place_at listed line.line b.1
+  d ← corner_place_at listed line.line c.1
   rest ← passed_over flag line.line d.1
   _ ← end_at line.line rest.1
   Ok (record { a = a.0; b = b.0; c = c.0; d = d.0 })
@@ -40,7 +41,7 @@ abbrev pub ele_of : ℕ → ℕ → ℕ → List ContentLine → Result (List Te
 ele_of first points = tets_of (record { first = first; points = points })
 
 -- each corner is one of so many points
-pub record IsBelow (points : ℕ) (t : Tet) : Type 0 where
+pub record AreCornersBelow (points : ℕ) (t : Tet) : Type 0 where
   pub a : t.a < points
   pub b : t.b < points
   pub c : t.c < points
@@ -49,32 +50,32 @@ pub record IsBelow (points : ℕ) (t : Tet) : Type 0 where
 -- ---- faces
 
 -- a marker where the flag is set, and else 0
-unfoldable pub marker_at : Bool → ℕ → Fields → Result (ℤ × Fields) TextFault
-marker_at true line fields = whole_at line fields
-marker_at false line fields = Ok (pos 0, fields)
+unfoldable pub marker_field : Bool → ℕ → Fields → Result (ℤ × Fields) TextFault
+marker_field true line fields = whole_at line fields
+marker_field false line fields = Ok (pos 0, fields)
 
 -- <row #> <corner> <corner> <corner> [<marker>]
 unfoldable pub face_row : Listed → Bool → ℕ → ContentLine → Result FaceRow TextFault
 face_row listed flag wanted line = do
   number ← numbered wanted line.line line.fields
-  a ← corner_at listed line.line number.1
-  b ← corner_at listed line.line a.1
-  c ← corner_at listed line.line b.1
-  marker ← marker_at flag line.line c.1
+  a ← corner_place_at listed line.line number.1
+  b ← corner_place_at listed line.line a.1
+  c ← corner_place_at listed line.line b.1
+  marker ← marker_field flag line.line c.1
   _ ← end_at line.line marker.1
   Ok (record { a = a.0; b = b.0; c = c.0; marker = marker.0 })
 
 -- the faces of a text of so many lines, with no content line behind them
-unfoldable pub faces_of : Listed → ℕ → List ContentLine → Result (List FaceRow) TextFault
-faces_of listed total lines = do
+unfoldable pub face_rows_of : Listed → ℕ → List ContentLine → Result (List FaceRow) TextFault
+face_rows_of listed total lines = do
   line ← line_at total lines
   head ← flag_head line.0
   rows ← so_many (next_row (face_row listed head.flag) total) head.count (listed.first, line.1)
   _ ← text_end_at rows.1.1
   Ok rows.0
 
-abbrev pub face_of : ℕ → ℕ → ℕ → List ContentLine → Result (List FaceRow) TextFault
-face_of first points = faces_of (record { first = first; points = points })
+abbrev pub face_list_of : ℕ → ℕ → ℕ → List ContentLine → Result (List FaceRow) TextFault
+face_list_of first points = face_rows_of (record { first = first; points = points })
 
 -- each corner is one of so many points
 pub record IsFaceBelow (points : ℕ) (f : FaceRow) : Type 0 where
@@ -85,14 +86,14 @@ pub record IsFaceBelow (points : ℕ) (f : FaceRow) : Type 0 where
 -- ---- neighbors
 
 -- the place that a number stands for, counted from the first number, and none for -1; nothing for the other numbers
-abbrev pub place_of : ℕ → ℤ → Option (Option ℕ)
-place_of first (pos n) = if nat_le first n then Some (Some (n - first)) else None
-place_of first (negsuc n) = if n == 0 then Some None else None
+abbrev pub neighbor_place : ℕ → ℤ → Option (Option ℕ)
+neighbor_place first (pos n) = if nat_le first n then Some (Some (n - first)) else None
+neighbor_place first (negsuc n) = if n == 0 then Some None else None
 
 unfoldable pub neighbor_at : ℕ → ℕ → Fields → Result (Option ℕ × Fields) TextFault
 neighbor_at first line fields = do
   number ← whole_at line fields
-  place ← ok_or (place_of first number.0) (bad_index line)
+  place ← ok_or (neighbor_place first number.0) (bad_index line)
   Ok (place, number.1)
 
 -- <row #> <neighbor> <neighbor> <neighbor> <neighbor>

@@ -4,7 +4,7 @@ ghost use Rattle.std.specs.Prelude.{IfSome, OnOk, IfOk};
 ghost use Rattle.std.specs.Option.{option_copied};
 ghost use Rattle.geo_laws.specs.Delaunay.{numbers};
 ghost use Rattle.mesh_files.specs.Texts.{attribute_of, attributed_text, fields_then, ele_line};
-ghost use Rattle.mesh_files.specs.Texts.{ele_text, ele_text_of, numbered, AreNamed};
+ghost use Rattle.mesh_files.specs.Texts.{ele_text, ele_text_of, file_number, AreNamed};
 
 use crate::line::{Lines, append_fields, append_line, room_for_lines};
 use crate::names::{Names, numbered, numbers_of};
@@ -80,7 +80,7 @@ fn append_corners(
     requires place { place < 2 ^ 63 }
     requires named { AreNamed names.now (numbers row) }
     ensures { OnOk result (out.new ≡ out.old ++ fields_then (place + first)
-        (map (numbered names.now first) (numbers row)) (end ∷ [])) }
+        (map (file_number names.now first) (numbers row)) (end ∷ [])) }
 {
     append_fields(
         out,

@@ -4,9 +4,10 @@ ghost use Rattle.std.specs.Prelude.{◌≡◌, ◌<◌, ◌-◌, ◌+◌, ◌^�
 ghost use Rattle.tet_text.specs.Lines.{content_lines, line_count_of};
 ghost use Rattle.tet_text.specs.Reading.{left_after};
 ghost use Rattle.tet_text.specs.Views.{content_left, line_total};
-ghost use Rattle.mesh_files.specs.Outcome.{Gives};
-ghost use Rattle.mesh_files.specs.Repeated.{so_many, next_row};
-ghost use Rattle.mesh_files.specs.ReadRows.{tet_row, tets_of, ele_of, IsBelow};
+ghost use Rattle.mesh_files.specs.Outcome.{MeshGives};
+ghost use Rattle.mesh_files.specs.Repeated.{next_row};
+ghost use Rattle.mesh_files.specs.ReadRows.{tet_row, tets_of, ele_of, AreCornersBelow};
+ghost use Rattle.tet_text.specs.Repeated.{so_many};
 
 use crate::MeshFault;
 use crate::field_reading::{Head, Listed, pass_over, read_corner, read_four_head, read_number};
@@ -20,7 +21,7 @@ use tet_text::{Fields, Lines, TextFault};
 fn read_row(listed: Listed, flag: bool, wanted: u64, fields: &mut Fields) -> Result<Tet, TextFault>
     requires { listed.points < 2 ^ 32 - 1 }
     ensures value { result ≡ tet_row listed flag wanted fields.old }
-    ensures there { IfOk result (IsBelow listed.points) }
+    ensures there { IfOk result (AreCornersBelow listed.points) }
 {
     read_number(wanted, fields)?;
     let a = read_corner(listed, fields)?;
@@ -38,7 +39,7 @@ fn read_next(listed: Listed, flag: bool, wanted: u64, lines: &mut Lines) -> Resu
     requires lines { line_total lines.old + 1 < 2 ^ 64 }
     ensures value { left_after (λ row. row) result (wanted + 1, content_left lines.new)
         ≡ next_row (tet_row listed flag) (line_total lines.old) (wanted, content_left lines.old) }
-    ensures there { IfOk result (IsBelow listed.points) }
+    ensures there { IfOk result (AreCornersBelow listed.points) }
     ensures count { line_total lines.new ≡ line_total lines.old }
 {
     let mut fields = lines.want_line()?;
@@ -55,10 +56,10 @@ fn read_rows(
     requires points { listed.points < 2 ^ 32 - 1 }
     requires count { head.count < 10 ^ 18 }
     requires lines { line_total lines.old + 1 < 2 ^ 64 }
-    ensures value { Gives (λ rows. (rows, (listed.first + head.count, content_left lines.new)))
+    ensures value { MeshGives (λ rows. (rows, (listed.first + head.count, content_left lines.new)))
         result (so_many (next_row (tet_row listed head.flag) (line_total lines.old)) head.count
         (listed.first, content_left lines.old)) }
-    ensures there { IfOk result (All (IsBelow listed.points)) }
+    ensures there { IfOk result (All (AreCornersBelow listed.points)) }
     ensures count { line_total lines.new ≡ line_total lines.old }
 {
     let mut rows = TetList::new(alloc);
@@ -73,9 +74,9 @@ fn read_rows(
 fn read_list(alloc: Global, listed: Listed, lines: &mut Lines) -> Result<TetList, MeshFault>
     requires points { listed.points < 2 ^ 32 - 1 }
     requires lines { line_total lines.old + 1 < 2 ^ 64 }
-    ensures value { Gives (λ rows. rows) result
+    ensures value { MeshGives (λ rows. rows) result
         (tets_of listed (line_total lines.old) (content_left lines.old)) }
-    ensures there { IfOk result (All (IsBelow listed.points)) }
+    ensures there { IfOk result (All (AreCornersBelow listed.points)) }
 {
     let mut fields = lines.want_line()?;
     let head = read_four_head(true, &mut fields)?;
@@ -92,9 +93,9 @@ fn read_list(alloc: Global, listed: Listed, lines: &mut Lines) -> Result<TetList
 pub fn read_ele(alloc: Global, bytes: &Bytes, first: u32, points: u64) -> Result<TetList, MeshFault>
     requires points { points < 2 ^ 32 - 1 }
     requires short { length bytes.now < 2 ^ 32 - 1 }
-    ensures value { Gives (λ rows. rows) result
+    ensures value { MeshGives (λ rows. rows) result
         (ele_of first points (line_count_of bytes.now) (content_lines bytes.now)) }
-    ensures there { IfOk result (All (IsBelow points)) }
+    ensures there { IfOk result (All (AreCornersBelow points)) }
 {
     let mut lines = Lines::new(bytes.as_slice());
     read_list(alloc, Listed { first, points }, &mut lines)

@@ -1,6 +1,6 @@
 //! The text of the `.face` file.
 ghost use Rattle.std.specs.Prelude.{◌≡◌, ◌++◌, ◌+◌, ◌<◌, ◌^◌, All, OnOk, IfOk};
-ghost use Rattle.mesh_files.specs.Texts.{corner_numbers, face_text, face_line, AreNamed};
+ghost use Rattle.mesh_files.specs.Texts.{marked_corners, face_text, face_line, AreNamed};
 
 use crate::line::{Lines, append_line, room_for_lines};
 use crate::markers::{FaceRow, FaceRows};
@@ -18,7 +18,7 @@ pub fn write_face(
     names: &Names,
     first: u32,
 ) -> Result<Bytes, NoMemory>
-    requires { All (λ face. AreNamed names.now (corner_numbers face)) rows.now }
+    requires { All (λ face. AreNamed names.now (marked_corners face)) rows.now }
     ensures { IfOk result (λ text. text ≡ face_text names.now first rows.now) }
 {
     let mut out = room_for_lines(alloc, rows.len(), numbers_of(names, first))?;
@@ -39,7 +39,7 @@ pub(crate) fn append_face(
     first: u32,
 ) -> Result<(), NoMemory>
     requires place { place < 2 ^ 63 }
-    requires named { AreNamed names.now (corner_numbers face) }
+    requires named { AreNamed names.now (marked_corners face) }
     ensures { OnOk result (out.new ≡ out.old ++ face_line names.now first place face) }
 {
     append_line(

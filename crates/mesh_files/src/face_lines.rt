@@ -2,7 +2,7 @@
 ghost use Rattle.std.specs.Prelude.{◌≡◌, true, List, count_by, length, All, IfOk};
 ghost use Rattle.geo_laws.specs.Delaunay.{numbers};
 ghost use Rattle.incidence.specs.Uses.{AreUsesOf};
-ghost use Rattle.mesh_files.specs.FaceRows.{AreFaceRowsOf, AreFacesMet, AreFacetsThere};
+ghost use Rattle.mesh_files.specs.FaceRows.{AreFaceRowsOf, AreTrianglesMetByFaces, AreFacetsThere};
 ghost use Rattle.mesh_files.specs.Texts.{face_text, AreNamed};
 ghost use Rattle.mesh_files.specs.declared.markers.FaceRow.{FaceRow};
 
@@ -39,7 +39,7 @@ pub fn write_all_faces(
     first: u32,
 ) -> Result<Bytes, NoMemory>
     requires named { All (λ row. AreNamed names.now (numbers row)) mesh.now.list.now }
-    requires met { AreFacesMet mesh.now.points.now mesh.now.triangles.now mesh.now.list.now }
+    requires met { AreTrianglesMetByFaces mesh.now.points.now mesh.now.triangles.now mesh.now.list.now }
     requires facets { AreFacetsThere mesh.now.triangles.now mesh.now.complex.now }
     requires uses { AreUsesOf mesh.now.list.now uses.now }
     ensures { IfOk result (λ text. (found : List FaceRow) × AreFaceRowsOf

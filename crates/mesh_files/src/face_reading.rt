@@ -4,9 +4,10 @@ ghost use Rattle.std.specs.Prelude.{◌≡◌, ◌<◌, ◌-◌, ◌+◌, ◌^�
 ghost use Rattle.tet_text.specs.Lines.{content_lines, line_count_of};
 ghost use Rattle.tet_text.specs.Reading.{left_after};
 ghost use Rattle.tet_text.specs.Views.{content_left, line_total};
-ghost use Rattle.mesh_files.specs.Outcome.{Gives};
-ghost use Rattle.mesh_files.specs.Repeated.{so_many, next_row};
-ghost use Rattle.mesh_files.specs.ReadRows.{marker_at, face_row, faces_of, face_of, IsFaceBelow};
+ghost use Rattle.mesh_files.specs.Outcome.{MeshGives};
+ghost use Rattle.mesh_files.specs.Repeated.{next_row};
+ghost use Rattle.mesh_files.specs.ReadRows.{marker_field, face_row, face_rows_of, face_list_of, IsFaceBelow};
+ghost use Rattle.tet_text.specs.Repeated.{so_many};
 
 use crate::MeshFault;
 use crate::field_reading::{Head, Listed, read_corner, read_flag_head, read_number};
@@ -16,10 +17,10 @@ use tet_ports::Bytes;
 use tet_text::{Fields, Lines, TextFault};
 
 /// The marker of a face where the flag is set, and else 0.
-#[tactic(auto, unfolding(crate::specs::ReadRows::marker_at))]
+#[tactic(auto, unfolding(crate::specs::ReadRows::marker_field))]
 fn read_marker(flag: bool, fields: &mut Fields) -> Result<i64, TextFault>
     ensures value { left_after (λ n. n) result fields.new.fields
-        ≡ marker_at flag fields.old.line fields.old.fields }
+        ≡ marker_field flag fields.old.line fields.old.fields }
     ensures line { fields.new.line ≡ fields.old.line }
 {
     if flag { fields.want_whole() } else { Ok(0) }
@@ -74,7 +75,7 @@ fn read_rows(
     requires points { listed.points < 2 ^ 32 - 1 }
     requires count { head.count < 10 ^ 18 }
     requires lines { line_total lines.old + 1 < 2 ^ 64 }
-    ensures value { Gives (λ rows. (rows, (listed.first + head.count, content_left lines.new)))
+    ensures value { MeshGives (λ rows. (rows, (listed.first + head.count, content_left lines.new)))
         result (so_many (next_row (face_row listed head.flag) (line_total lines.old)) head.count
         (listed.first, content_left lines.old)) }
     ensures there { IfOk result (All (IsFaceBelow listed.points)) }
@@ -88,12 +89,12 @@ fn read_rows(
     Ok(rows)
 }
 
-#[tactic(auto, unfolding(crate::specs::ReadRows::faces_of))]
+#[tactic(auto, unfolding(crate::specs::ReadRows::face_rows_of))]
 fn read_list(alloc: Global, listed: Listed, lines: &mut Lines) -> Result<FaceRows, MeshFault>
     requires points { listed.points < 2 ^ 32 - 1 }
     requires lines { line_total lines.old + 1 < 2 ^ 64 }
-    ensures value { Gives (λ rows. rows) result
-        (faces_of listed (line_total lines.old) (content_left lines.old)) }
+    ensures value { MeshGives (λ rows. rows) result
+        (face_rows_of listed (line_total lines.old) (content_left lines.old)) }
     ensures there { IfOk result (All (IsFaceBelow listed.points)) }
 {
     let mut fields = lines.want_line()?;
@@ -116,8 +117,8 @@ pub fn read_face(
 ) -> Result<FaceRows, MeshFault>
     requires points { points < 2 ^ 32 - 1 }
     requires short { length bytes.now < 2 ^ 32 - 1 }
-    ensures value { Gives (λ rows. rows) result
-        (face_of first points (line_count_of bytes.now) (content_lines bytes.now)) }
+    ensures value { MeshGives (λ rows. rows) result
+        (face_list_of first points (line_count_of bytes.now) (content_lines bytes.now)) }
     ensures there { IfOk result (All (IsFaceBelow points)) }
 {
     let mut lines = Lines::new(bytes.as_slice());

@@ -1,6 +1,6 @@
 //! The facet triangles as faces, with the first facet of which a face is a triangle.
 ghost use Rattle.std.specs.Prelude.{◌≡◌, ◌↔◌, ◌<◌, true, length, All, AllPairs, IfOk, IfSome};
-ghost use Rattle.mesh_files.specs.FacetFaces.{AreFacetFaces, FacetFaceBefore, IsFirstOrNone, IsIn};
+ghost use Rattle.mesh_files.specs.FacetFaces.{AreFacetFaces, FacetFaceBefore, IsFirstOrNone, IsTriangleIn};
 
 use geo_laws::{Face, FacetTriangles, stands_before};
 use std::alloc::Global;
@@ -39,7 +39,7 @@ pub(crate) fn facet_faces(alloc: Global, triangles: &FacetTriangles) -> Result<F
 /// list in which it may be.
 pub(crate) fn first_facet(faces: &FacetFaces, face: Face) -> Option<u32>
     requires { AllPairs FacetFaceBefore faces.now }
-    ensures { IsFirstOrNone (IsIn faces.now face) result }
+    ensures { IsFirstOrNone (IsTriangleIn faces.now face) result }
 {
     let mut low = 0;
     let mut high = faces.len();

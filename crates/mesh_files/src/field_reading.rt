@@ -2,8 +2,8 @@
 
 ghost use Rattle.std.specs.Prelude.{◌≡◌, ◌<◌, ◌≤◌, ◌+◌, ◌-◌, ◌^◌, drop, IfOk};
 ghost use Rattle.tet_text.specs.Reading.{left_after};
-ghost use Rattle.node_files.specs.Header.{is_within, count_within};
-ghost use Rattle.mesh_files.specs.ReadFields.{is_listed, flag_at, numbered, corner_at, passed_over, four_head, flag_head};
+ghost use Rattle.node_files.specs.Header.{is_count_in_range, count_within};
+ghost use Rattle.mesh_files.specs.ReadFields.{is_listed, flag_at, numbered, corner_place_at, passed_over, four_head, flag_head};
 
 use node_files::count_or;
 use tet_text::{Fields, TextFault, TextKind};
@@ -24,7 +24,7 @@ pub(crate) struct Listed {
 }
 
 fn is_within(least: u64, most: u64, count: u64) -> bool
-    ensures { result ≡ is_within least most count }
+    ensures { result ≡ is_count_in_range least most count }
 {
     least <= count && count <= most
 }
@@ -110,11 +110,11 @@ fn is_listed(listed: Listed, number: u64) -> bool
 }
 
 /// A corner, by its place in the list of points.
-#[tactic(auto, unfolding(crate::specs::ReadFields::corner_at))]
+#[tactic(auto, unfolding(crate::specs::ReadFields::corner_place_at))]
 pub(crate) fn read_corner(listed: Listed, fields: &mut Fields) -> Result<u32, TextFault>
     requires { listed.points < 2 ^ 32 - 1 }
     ensures value { left_after (λ n. n) result fields.new.fields
-        ≡ corner_at listed fields.old.line fields.old.fields }
+        ≡ corner_place_at listed fields.old.line fields.old.fields }
     ensures there { IfOk result (λ n. n < listed.points) }
     ensures line { fields.new.line ≡ fields.old.line }
 {

@@ -2,7 +2,7 @@
 ghost use Rattle.std.specs.Prelude.{◌≡◌, [], ◌∷◌, ◌++◌, ◌+◌, ◌≤◌, ◌<◌, ◌^◌, length, take};
 ghost use Rattle.std.specs.Prelude.{vec_len, vec_capacity};
 ghost use Rattle.std.specs.Fmt.{signed_decimal};
-ghost use Rattle.mesh_files.specs.Fields.{AreFields, IsField, with_last};
+ghost use Rattle.mesh_files.specs.Fields.{AreFields, IsNumberField, with_last};
 
 use crate::counter::Counter;
 use crate::piece::{SPAN, put, write_field};
@@ -66,7 +66,7 @@ impl Fields {
 #[inline(always)]
 fn field_of(counter: &Counter) -> Field
     requires { counter.now.number < 10 ^ 7 }
-    ensures { IsField counter.now.number result }
+    ensures { IsNumberField counter.now.number result }
 {
     let mut line = [b' '; 1 + SPAN];
     let len = counter.put(&mut line, 1);

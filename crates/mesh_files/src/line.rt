@@ -1,7 +1,7 @@
 //! Lines of numbers.
 ghost use Rattle.std.specs.Prelude.{◌≡◌, [], ◌∷◌, ◌++◌, ◌+◌, ◌≤◌, List, ℕ, length, take};
 ghost use Rattle.std.specs.Prelude.{IfOk, OnOk};
-ghost use Rattle.mesh_files.specs.Texts.{fields_then, line_of};
+ghost use Rattle.mesh_files.specs.Texts.{fields_then, text_line};
 
 use crate::counter::Counter;
 use crate::fields::{Fields, put_field};
@@ -98,7 +98,7 @@ impl Lines {
 #[inline(always)]
 pub(crate) fn append_line(out: &mut Lines, number: u64, fields: &[i64]) -> Result<(), NoMemory>
     requires { length fields.now ≤ 4 }
-    ensures { OnOk result (out.new ≡ out.old ++ line_of number fields.now) }
+    ensures { OnOk result (out.new ≡ out.old ++ text_line number fields.now) }
 {
     append_fields(out, number, fields, b'\n')
 }

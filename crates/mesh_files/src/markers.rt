@@ -3,9 +3,9 @@ ghost use Rattle.std.specs.Prelude.{◌≡◌, ◌<◌, pos, if◌then◌else◌
 ghost use Rattle.std.specs.Prelude.{IfOk, IsSome, IsTrue, IsFalse};
 ghost use Rattle.incidence.specs.HalfFaces.{used};
 ghost use Rattle.incidence.specs.Uses.{AreUsesOf, IsRunStart, FollowsLike};
-ghost use Rattle.mesh_files.specs.FaceRows.{AreFaceRowsOf, AreFacesMet, AreFacetsThere, IsRowOf};
+ghost use Rattle.mesh_files.specs.FaceRows.{AreFaceRowsOf, AreTrianglesMetByFaces, AreFacetsThere, IsFaceRowOf};
 ghost use Rattle.mesh_files.specs.FaceRows.{corners_of, is_on_hull, marker_or_1};
-ghost use Rattle.mesh_files.specs.FacetFaces.{FacetFaceBefore, IsIn, IsRowOrNone};
+ghost use Rattle.mesh_files.specs.FacetFaces.{FacetFaceBefore, IsTriangleIn, IsRowOrNone};
 
 use crate::facet_faces::{FacetFaces, facet_faces, first_facet};
 use geo_laws::{Complex, Face, FacetTriangles, Points, TetList};
@@ -38,7 +38,7 @@ pub fn face_rows(
     triangles: &FacetTriangles,
     all: bool,
 ) -> Result<FaceRows, NoMemory>
-    requires met { AreFacesMet points.now triangles.now list.now }
+    requires met { AreTrianglesMetByFaces points.now triangles.now list.now }
     requires facets { AreFacetsThere triangles.now complex.now }
     ensures { IfOk result (λ found. AreFaceRowsOf points.now list.now complex.now triangles.now all found) }
 {
@@ -56,7 +56,7 @@ pub fn used_faces(
     triangles: &FacetTriangles,
     all: bool,
 ) -> Result<FaceRows, NoMemory>
-    requires met { AreFacesMet points.now triangles.now list.now }
+    requires met { AreTrianglesMetByFaces points.now triangles.now list.now }
     requires facets { AreFacetsThere triangles.now complex.now }
     requires uses { AreUsesOf list.now uses.now }
     ensures { IfOk result (λ found. AreFaceRowsOf points.now list.now complex.now triangles.now all found) }
@@ -130,8 +130,8 @@ pub(crate) fn row_at(
     requires run { IsRunStart (used list.now uses.now) at at }
     requires ascending { AllPairs FacetFaceBefore facets.now }
     requires facets { All (λ x. x.facet < length complex.now.facets) facets.now }
-    ensures row { HoldsAt (λ u. IsRowOrNone (IsRowOf
-        (IsIn facets.now) complex.now.facets list.now all u.face) result) (used list.now uses.now) at }
+    ensures row { HoldsAt (λ u. IsRowOrNone (IsFaceRowOf
+        (IsTriangleIn facets.now) complex.now.facets list.now all u.face) result) (used list.now uses.now) at }
     ensures asked { IsTrue all → IsSome result }
 {
     let face = use_at(uses, at, list).face;

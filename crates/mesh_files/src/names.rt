@@ -1,6 +1,6 @@
 //! The numbers by which files name points.
 ghost use Rattle.std.specs.Prelude.{◌≡◌, ◌<◌, length};
-ghost use Rattle.mesh_files.specs.Texts.{numbered};
+ghost use Rattle.mesh_files.specs.Texts.{file_number};
 
 use tet_ports::Items;
 
@@ -11,7 +11,7 @@ pub type Names = Items<u32>;
 #[inline(always)]
 pub(crate) fn numbered(names: &Names, first: u32, point: u32) -> i64
     requires { point < length names.now }
-    ensures { result ≡ numbered names.now first point }
+    ensures { result ≡ file_number names.now first point }
 {
     i64::from(names.at(point as usize)) + i64::from(first)
 }

@@ -4,9 +4,10 @@ ghost use Rattle.std.specs.Prelude.{◌≡◌, ◌<◌, ◌-◌, ◌+◌, ◌^�
 ghost use Rattle.tet_text.specs.Lines.{content_lines, line_count_of};
 ghost use Rattle.tet_text.specs.Reading.{left_after};
 ghost use Rattle.tet_text.specs.Views.{content_left, line_total};
-ghost use Rattle.mesh_files.specs.Outcome.{Gives};
-ghost use Rattle.mesh_files.specs.Repeated.{so_many, next_row};
-ghost use Rattle.mesh_files.specs.ReadRows.{place_of, neighbor_at, across_row, neighbors_of, neigh_of};
+ghost use Rattle.mesh_files.specs.Outcome.{MeshGives};
+ghost use Rattle.mesh_files.specs.Repeated.{next_row};
+ghost use Rattle.mesh_files.specs.ReadRows.{neighbor_place, neighbor_at, across_row, neighbors_of, neigh_of};
+ghost use Rattle.tet_text.specs.Repeated.{so_many};
 
 use crate::MeshFault;
 use crate::field_reading::{Head, read_four_head, read_number};
@@ -21,7 +22,7 @@ pub type Neighbors = Items<Across>;
 /// The place that the number of a neighbor stands for, or none for -1. None where the number stands
 /// for nothing.
 fn place_of(first: u32, number: i64) -> Option<Option<usize>>
-    ensures { result ≡ place_of first number }
+    ensures { result ≡ neighbor_place first number }
 {
     let first = i64::from(first);
     if number >= first {
@@ -78,7 +79,7 @@ fn read_rows(
 ) -> Result<Neighbors, MeshFault>
     requires count { head.count < 10 ^ 18 }
     requires lines { line_total lines.old + 1 < 2 ^ 64 }
-    ensures value { Gives (λ rows. (rows, (first + head.count, content_left lines.new)))
+    ensures value { MeshGives (λ rows. (rows, (first + head.count, content_left lines.new)))
         result (so_many (next_row (across_row first) (line_total lines.old)) head.count
         (first, content_left lines.old)) }
     ensures count { line_total lines.new ≡ line_total lines.old }
@@ -94,7 +95,7 @@ fn read_rows(
 #[tactic(auto, unfolding(crate::specs::ReadRows::neighbors_of))]
 fn read_list(alloc: Global, first: u32, lines: &mut Lines) -> Result<Neighbors, MeshFault>
     requires { line_total lines.old + 1 < 2 ^ 64 }
-    ensures { Gives (λ rows. rows) result
+    ensures { MeshGives (λ rows. rows) result
         (neighbors_of first (line_total lines.old) (content_left lines.old)) }
 {
     let mut fields = lines.want_line()?;
@@ -111,7 +112,7 @@ fn read_list(alloc: Global, first: u32, lines: &mut Lines) -> Result<Neighbors, 
 /// fault. It refuses besides for want of memory alone.
 pub fn read_neigh(alloc: Global, bytes: &Bytes, first: u32) -> Result<Neighbors, MeshFault>
     requires { length bytes.now < 2 ^ 32 - 1 }
-    ensures { Gives (λ rows. rows) result
+    ensures { MeshGives (λ rows. rows) result
         (neigh_of first (line_count_of bytes.now) (content_lines bytes.now)) }
 {
     let mut lines = Lines::new(bytes.as_slice());

@@ -29,16 +29,16 @@ use Rattle.mesh_laws.proofs.Rows.{same_row}
 -- ---- slots
 
 module _ (slots : List (Option SlotValue)) (ps : List Point) (ms : List ℕ) (within : AreNumbersOf ps ms) where
-  abbrev pub row_of : (s : ℕ) (t : Row) → IsRowSlot slots ps ms s t → lowest.IsRowSlot (lifted ps) slots ps ms s t
+  abbrev pub row_of : (s : ℕ) (t : Row) → IsRowSlot slots ps ms s t → lowest.IsLowestRowSlot (lifted ps) slots ps ms s t
   row_of s t x = record { is = x.is; row = x.row; is_row = lowest_of ps ms within x.row x.is_row; same_corners = x.same_corners; is_positive = x.is_positive }
 
-  abbrev pub row_from : (s : ℕ) (t : Row) → lowest.IsRowSlot (lifted ps) slots ps ms s t → IsRowSlot slots ps ms s t
+  abbrev pub row_from : (s : ℕ) (t : Row) → lowest.IsLowestRowSlot (lifted ps) slots ps ms s t → IsRowSlot slots ps ms s t
   row_from s t x = record { is = x.is; row = x.row; is_row = delaunay_of ps ms within x.row x.is_row; same_corners = x.same_corners; is_positive = x.is_positive }
 
-  abbrev pub ghost_of : (s : ℕ) (t : Row) (k : ℕ) → IsGhostSlot slots ps ms s t k → lowest.IsGhostSlot (lifted ps) slots ps ms s t k
+  abbrev pub ghost_of : (s : ℕ) (t : Row) (k : ℕ) → IsGhostSlot slots ps ms s t k → lowest.IsLowestGhostSlot (lifted ps) slots ps ms s t k
   ghost_of s t k x = record { within = x.within; is = x.is; is_hull = hull_of ps ms within (lowest.face_off t k) x.is_hull }
 
-  abbrev pub ghost_from : (s : ℕ) (t : Row) (k : ℕ) → lowest.IsGhostSlot (lifted ps) slots ps ms s t k → IsGhostSlot slots ps ms s t k
+  abbrev pub ghost_from : (s : ℕ) (t : Row) (k : ℕ) → lowest.IsLowestGhostSlot (lifted ps) slots ps ms s t k → IsGhostSlot slots ps ms s t k
   ghost_from s t k x = record { within = x.within; is = x.is; is_hull = hull_from ps ms within (lowest.face_off t k) x.is_hull }
 
 -- ---- meshes
@@ -55,16 +55,16 @@ module _ (slots : List (Option SlotValue)) (ps : List Point) (ms : List ℕ) whe
     linked = now.linked;
   }
     where
-      row_to : (s : ℕ) (t : Row) → IsRowSlot slots ps ms s t → lowest.IsRowSlot (lifted ps) slots ps ms s t
+      row_to : (s : ℕ) (t : Row) → IsRowSlot slots ps ms s t → lowest.IsLowestRowSlot (lifted ps) slots ps ms s t
       row_to = row_of slots ps ms now.within
 
-      row_back : (s : ℕ) (t : Row) → lowest.IsRowSlot (lifted ps) slots ps ms s t → IsRowSlot slots ps ms s t
+      row_back : (s : ℕ) (t : Row) → lowest.IsLowestRowSlot (lifted ps) slots ps ms s t → IsRowSlot slots ps ms s t
       row_back = row_from slots ps ms now.within
 
-      ghost_to : (s : ℕ) (t : Row) (k : ℕ) → IsGhostSlot slots ps ms s t k → lowest.IsGhostSlot (lifted ps) slots ps ms s t k
+      ghost_to : (s : ℕ) (t : Row) (k : ℕ) → IsGhostSlot slots ps ms s t k → lowest.IsLowestGhostSlot (lifted ps) slots ps ms s t k
       ghost_to = ghost_of slots ps ms now.within
 
-      ghost_back : (s : ℕ) (t : Row) (k : ℕ) → lowest.IsGhostSlot (lifted ps) slots ps ms s t k → IsGhostSlot slots ps ms s t k
+      ghost_back : (s : ℕ) (t : Row) (k : ℕ) → lowest.IsLowestGhostSlot (lifted ps) slots ps ms s t k → IsGhostSlot slots ps ms s t k
       ghost_back = ghost_from slots ps ms now.within
 
   pub mesh_from : lowest.IsLowestMesh (lifted ps) slots ps ms → IsDelaunayMesh slots ps ms
@@ -78,16 +78,16 @@ module _ (slots : List (Option SlotValue)) (ps : List Point) (ms : List ℕ) whe
     linked = now.linked;
   }
     where
-      row_to : (s : ℕ) (t : Row) → IsRowSlot slots ps ms s t → lowest.IsRowSlot (lifted ps) slots ps ms s t
+      row_to : (s : ℕ) (t : Row) → IsRowSlot slots ps ms s t → lowest.IsLowestRowSlot (lifted ps) slots ps ms s t
       row_to = row_of slots ps ms now.within
 
-      row_back : (s : ℕ) (t : Row) → lowest.IsRowSlot (lifted ps) slots ps ms s t → IsRowSlot slots ps ms s t
+      row_back : (s : ℕ) (t : Row) → lowest.IsLowestRowSlot (lifted ps) slots ps ms s t → IsRowSlot slots ps ms s t
       row_back = row_from slots ps ms now.within
 
-      ghost_to : (s : ℕ) (t : Row) (k : ℕ) → IsGhostSlot slots ps ms s t k → lowest.IsGhostSlot (lifted ps) slots ps ms s t k
+      ghost_to : (s : ℕ) (t : Row) (k : ℕ) → IsGhostSlot slots ps ms s t k → lowest.IsLowestGhostSlot (lifted ps) slots ps ms s t k
       ghost_to = ghost_of slots ps ms now.within
 
-      ghost_back : (s : ℕ) (t : Row) (k : ℕ) → lowest.IsGhostSlot (lifted ps) slots ps ms s t k → IsGhostSlot slots ps ms s t k
+      ghost_back : (s : ℕ) (t : Row) (k : ℕ) → lowest.IsLowestGhostSlot (lifted ps) slots ps ms s t k → IsGhostSlot slots ps ms s t k
       ghost_back = ghost_from slots ps ms now.within
 
 -- ---- what a rule reaches
@@ -125,45 +125,45 @@ module _ (slots : List (Option SlotValue)) (ps : List Point) (ms : List ℕ) (p 
       by (inr (t, k, slot)) =
           absurd (no_ghost u k slot.within (ap (λ cs. get_or cs k Ghost) (same_corners slots s _ _ is slot.is) ∙ get_or-set_same (row_corners t) k Ghost Ghost (omega (arith, slot.within))))
 
-  row_takes : (s : ℕ) → IsAt slots (IsTakenRow ps (point ps p) p) s → IsAt slots (lowest_rule.IsTakenRow (lifted ps) ps p) s
+  row_takes : (s : ℕ) → IsAt slots (IsTakenRow ps (point ps p) p) s → IsAt slots (lowest_rule.IsLowestTakenRow (lifted ps) ps p) s
   row_takes s x = record { corners = x.corners; is = x.is; here = record { row = x.here.row; is = x.here.is; holds = λ a. x.here.holds ((at_slot s x.here.row (x.is ∙ ap Some x.here.is)).1 a) } }
 
-  row_takes_back : (s : ℕ) → IsAt slots (lowest_rule.IsTakenRow (lifted ps) ps p) s → IsAt slots (IsTakenRow ps (point ps p) p) s
+  row_takes_back : (s : ℕ) → IsAt slots (lowest_rule.IsLowestTakenRow (lifted ps) ps p) s → IsAt slots (IsTakenRow ps (point ps p) p) s
   row_takes_back s x = record { corners = x.corners; is = x.is; here = record { row = x.here.row; is = x.here.is; holds = λ o. x.here.holds ((at_slot s x.here.row (x.is ∙ ap Some x.here.is)).0 o) } }
 
-  sees_of : (s k : ℕ) → IsSeen slots ps (point ps p) p s k → lowest_rule.IsSeen (lifted ps) slots ps p s k
+  sees_of : (s k : ℕ) → IsSeen slots ps (point ps p) p s k → lowest_rule.IsLowestSeen (lifted ps) slots ps p s k
   sees_of s k x = record {
     ghost = x.ghost;
     is = x.is;
     sees = elim x.sees [ inl h ↦ inl h | inr h ↦ inr (h.0, record { inner = h.1.inner; is = h.1.is; takes = row_takes h.1.inner.slot h.1.takes }) ];
   }
 
-  sees_from : (s k : ℕ) → lowest_rule.IsSeen (lifted ps) slots ps p s k → IsSeen slots ps (point ps p) p s k
+  sees_from : (s k : ℕ) → lowest_rule.IsLowestSeen (lifted ps) slots ps p s k → IsSeen slots ps (point ps p) p s k
   sees_from s k x = record {
     ghost = x.ghost;
     is = x.is;
     sees = elim x.sees [ inl h ↦ inl h | inr h ↦ inr (h.0, record { inner = h.1.inner; is = h.1.is; takes = row_takes_back h.1.inner.slot h.1.takes }) ];
   }
 
-  pub taken_of : (s : ℕ) → IsTaken slots ps (point ps p) p s → lowest_rule.IsTaken (lifted ps) slots ps p s
+  pub taken_of : (s : ℕ) → IsTaken slots ps (point ps p) p s → lowest_rule.IsLowestTaken (lifted ps) slots ps p s
   taken_of s (inl row) = inl (row_takes s row)
   taken_of s (inr x) = inr (record { place = x.place; within = x.within; infinite = x.infinite; seen = sees_of s x.place x.seen })
 
-  pub taken_from : (s : ℕ) → lowest_rule.IsTaken (lifted ps) slots ps p s → IsTaken slots ps (point ps p) p s
+  pub taken_from : (s : ℕ) → lowest_rule.IsLowestTaken (lifted ps) slots ps p s → IsTaken slots ps (point ps p) p s
   taken_from s (inl row) = inl (row_takes_back s row)
   taken_from s (inr x) = inr (record { place = x.place; within = x.within; infinite = x.infinite; seen = sees_from s x.place x.seen })
 
-  pub grown_of : (start : ℕ) (cavity : List Slot) (rim : List RimFace) → Grown slots (IsTaken slots ps (point ps p) p) start cavity rim → Grown slots (lowest_rule.IsTaken (lifted ps) slots ps p) start cavity rim
-  grown_of = grown_by slots (IsTaken slots ps (point ps p) p) (lowest_rule.IsTaken (lifted ps) slots ps p) (λ u. (taken_of u, taken_from u))
+  pub grown_of : (start : ℕ) (cavity : List Slot) (rim : List RimFace) → Grown slots (IsTaken slots ps (point ps p) p) start cavity rim → Grown slots (lowest_rule.IsLowestTaken (lifted ps) slots ps p) start cavity rim
+  grown_of = grown_by slots (IsTaken slots ps (point ps p) p) (lowest_rule.IsLowestTaken (lifted ps) slots ps p) (λ u. (taken_of u, taken_from u))
 
-  pub whole_of : (start : ℕ) → IsWholeFrom slots ps p start → lowest_growth.IsWholeFrom (lifted ps) slots ps p start
+  pub whole_of : (start : ℕ) → IsWholeFrom slots ps p start → lowest_growth.IsLowestWholeFrom (lifted ps) slots ps p start
   whole_of start w = record {
     takes_start = taken_of start w.takes_start;
-    all = λ u takes. reach_by slots (IsTaken slots ps (point ps p) p) (lowest_rule.IsTaken (lifted ps) slots ps p) taken_of start u (w.all u (taken_from u takes));
+    all = λ u takes. reach_by slots (IsTaken slots ps (point ps p) p) (lowest_rule.IsLowestTaken (lifted ps) slots ps p) taken_of start u (w.all u (taken_from u takes));
   }
 
-  pub whole_from : (start : ℕ) → lowest_growth.IsWholeFrom (lifted ps) slots ps p start → IsWholeFrom slots ps p start
+  pub whole_from : (start : ℕ) → lowest_growth.IsLowestWholeFrom (lifted ps) slots ps p start → IsWholeFrom slots ps p start
   whole_from start w = record {
     takes_start = taken_from start w.takes_start;
-    all = λ u takes. reach_by slots (lowest_rule.IsTaken (lifted ps) slots ps p) (IsTaken slots ps (point ps p) p) taken_from start u (w.all u (taken_of u takes));
+    all = λ u takes. reach_by slots (lowest_rule.IsLowestTaken (lifted ps) slots ps p) (IsTaken slots ps (point ps p) p) taken_from start u (w.all u (taken_of u takes));
   }

@@ -11,13 +11,13 @@ use Rattle.geo_laws.specs.OrientedFace.{Face, reversed}
 use Rattle.insert_laws.specs.LowestInsertion.{HasSameCorners, IsFaceOf}
 use Rattle.insert_laws.proofs.LowestInsert.{law_one_row}
 use Rattle.insert_laws.proofs.LowestLists.{law_hull_face}
-use Rattle.mesh_arena.specs.Mesh.{SlotValue, corners_at, corner, corner_in, side, at, OnFace, IsMesh}
+use Rattle.mesh_arena.specs.Mesh.{SlotValue, corners_at, corner, corner_in, link_behind, at, OnFace, IsArenaMesh}
 use Rattle.mesh_arena.specs.declared.arena.SlotFace.{SlotFace}
 use Rattle.mesh_arena.specs.declared.slot.Corner.TheVariants.{Point as Numbered, Ghost}
 use Rattle.mesh_arena.proofs.Mesh.{side_live}
 use Rattle.mesh_arena.proofs.AddStar.{live_by_side}
 use Rattle.point_locate.specs.Place.{row_corners}
-use Rattle.mesh_laws.specs.LowestLiving.{face_off, IsFaceCorner, HasSameFaceCorners, IsRowSlot, IsGhostSlot, IsLowestMesh}
+use Rattle.mesh_laws.specs.LowestLiving.{face_off, IsFaceCorner, HasSameFaceCorners, IsLowestRowSlot, IsLowestGhostSlot, IsLowestMesh}
 use Rattle.mesh_laws.proofs.LowestFaces.{AreApart, hull_apart, place_of, off_corner, corner_off, apart_off, row_beside, row_off}
 
 pub row_corner : (t : Row) (m : ℕ) → m < 4 → get_or (row_corners t) m Ghost ≡ Numbered (number t (place_of m))
@@ -64,19 +64,19 @@ module _ (slots : List (Option SlotValue)) (s k : ℕ) (t : Row) (k4 : k < 4) (i
   shows_hull = shows slots s k t k4 finite_at
 
 module _ (lifts : ℕ → ℤ) (slots : List (Option SlotValue)) (ps : List Point) (ms : List ℕ) where
-  pub row_shows : (s k : ℕ) (t : Row) → k < 4 → IsRowSlot lifts slots ps ms s t → Shows slots s k (face_off t k)
+  pub row_shows : (s k : ℕ) (t : Row) → k < 4 → IsLowestRowSlot lifts slots ps ms s t → Shows slots s k (face_off t k)
   row_shows s k t k4 slot = shows slots s k t k4 (λ m m4 off. ap (λ o. corner_in o m) slot.is ∙ row_corner t m m4)
 
-  pub ghost_corner : (s k : ℕ) (t : Row) → IsGhostSlot lifts slots ps ms s t k → (m : ℕ) → m < 4 → m ≢ k → corner slots s m ≡ Numbered (number t (place_of m))
+  pub ghost_corner : (s k : ℕ) (t : Row) → IsLowestGhostSlot lifts slots ps ms s t k → (m : ℕ) → m < 4 → m ≢ k → corner slots s m ≡ Numbered (number t (place_of m))
   ghost_corner s k t slot = finite_at slots s k t slot.within slot.is
 
-  pub infinite_corner : (s k : ℕ) (t : Row) → IsGhostSlot lifts slots ps ms s t k → corner slots s k ≡ Ghost
+  pub infinite_corner : (s k : ℕ) (t : Row) → IsLowestGhostSlot lifts slots ps ms s t k → corner slots s k ≡ Ghost
   infinite_corner s k t slot = infinite_at slots s k t slot.within slot.is
 
-  pub ghost_shows : (s k : ℕ) (t : Row) → IsGhostSlot lifts slots ps ms s t k → Shows slots s k (face_off t k)
+  pub ghost_shows : (s k : ℕ) (t : Row) → IsLowestGhostSlot lifts slots ps ms s t k → Shows slots s k (face_off t k)
   ghost_shows s k t slot = shows_hull slots s k t slot.within slot.is
 
-  module _ (mesh : IsMesh slots) (now : IsLowestMesh lifts slots ps ms) (s k : ℕ) (f : Face) (b : SlotFace) (shown : Shows slots s k f) (is : side slots s k ≡ Some b) where
+  module _ (mesh : IsArenaMesh slots) (now : IsLowestMesh lifts slots ps ms) (s k : ℕ) (f : Face) (b : SlotFace) (shown : Shows slots s k f) (is : link_behind slots s k ≡ Some b) where
     -- the neighbor shows the same face
     pub behind_shows : Shows slots b.slot b.face f
     behind_shows =
@@ -90,21 +90,21 @@ module _ (lifts : ℕ → ℤ) (slots : List (Option SlotValue)) (ps : List Poin
     agree t other i = (λ c. other.to i (behind_shows.from i c), λ c. behind_shows.to i (other.from i c))
 
     -- it is a row with the face, or the ghost of a hull face with the same corners
-    pub behind : ((t : Row) × IsRowSlot lifts slots ps ms b.slot t × HasSameFaceCorners f (face_off t b.face)) ⊎ ((t : Row) × IsGhostSlot lifts slots ps ms b.slot t b.face × HasSameFaceCorners f (face_off t b.face))
+    pub behind : ((t : Row) × IsLowestRowSlot lifts slots ps ms b.slot t × HasSameFaceCorners f (face_off t b.face)) ⊎ ((t : Row) × IsLowestGhostSlot lifts slots ps ms b.slot t b.face × HasSameFaceCorners f (face_off t b.face))
     behind = by (now.each b.slot (live_by_side slots b.slot b.face (at s k) (mesh.back s k b is)))
       where
-        by : ((t : Row) × IsRowSlot lifts slots ps ms b.slot t) ⊎ ((t : Row) × (j : ℕ) × IsGhostSlot lifts slots ps ms b.slot t j)
-            → ((t : Row) × IsRowSlot lifts slots ps ms b.slot t × HasSameFaceCorners f (face_off t b.face)) ⊎ ((t : Row) × IsGhostSlot lifts slots ps ms b.slot t b.face × HasSameFaceCorners f (face_off t b.face))
+        by : ((t : Row) × IsLowestRowSlot lifts slots ps ms b.slot t) ⊎ ((t : Row) × (j : ℕ) × IsLowestGhostSlot lifts slots ps ms b.slot t j)
+            → ((t : Row) × IsLowestRowSlot lifts slots ps ms b.slot t × HasSameFaceCorners f (face_off t b.face)) ⊎ ((t : Row) × IsLowestGhostSlot lifts slots ps ms b.slot t b.face × HasSameFaceCorners f (face_off t b.face))
         by (inl row) = inl (row.0, row.1, agree row.0 (row_shows b.slot b.face row.0 behind_face row.1))
         by (inr ghost) = elim (cases_eq ghost.1 b.face) [
           | inl same ↦
-              let slot = subst (IsGhostSlot lifts slots ps ms b.slot ghost.0) same ghost.2 in
+              let slot = subst (IsLowestGhostSlot lifts slots ps ms b.slot ghost.0) same ghost.2 in
               inr (ghost.0, slot, agree ghost.0 (ghost_shows b.slot b.face ghost.0 slot))
           | inr other ↦ absurd (behind_shows.finite (record { place = ghost.1; within = ghost.2.within; off = other; is = infinite_corner b.slot ghost.1 ghost.0 ghost.2 }))
         ]
 
   -- behind the hull face of a ghost stands the row behind that face
-  pub behind_ghost : (mesh : IsMesh slots) (now : IsLowestMesh lifts slots ps ms) (s k : ℕ) (t : Row) (b : SlotFace) (slot : IsGhostSlot lifts slots ps ms s t k) → side slots s k ≡ Some b → (r : Row) × (inner : IsRowSlot lifts slots ps ms b.slot r) × (inner.row ≡ slot.is_hull.behind)
+  pub behind_ghost : (mesh : IsArenaMesh slots) (now : IsLowestMesh lifts slots ps ms) (s k : ℕ) (t : Row) (b : SlotFace) (slot : IsLowestGhostSlot lifts slots ps ms s t k) → link_behind slots s k ≡ Some b → (r : Row) × (inner : IsLowestRowSlot lifts slots ps ms b.slot r) × (inner.row ≡ slot.is_hull.behind)
   behind_ghost mesh now s k t b slot is = by (behind mesh now s k f b (ghost_shows s k t slot) is)
     where
       f : Face
@@ -113,8 +113,8 @@ module _ (lifts : ℕ → ℤ) (slots : List (Option SlotValue)) (ps : List Poin
       d : AreApart f
       d = hull_apart lifts ps ms f slot.is_hull
 
-      by : ((r : Row) × IsRowSlot lifts slots ps ms b.slot r × HasSameFaceCorners f (face_off r b.face)) ⊎ ((r : Row) × IsGhostSlot lifts slots ps ms b.slot r b.face × HasSameFaceCorners f (face_off r b.face))
-          → (r : Row) × (inner : IsRowSlot lifts slots ps ms b.slot r) × (inner.row ≡ slot.is_hull.behind)
+      by : ((r : Row) × IsLowestRowSlot lifts slots ps ms b.slot r × HasSameFaceCorners f (face_off r b.face)) ⊎ ((r : Row) × IsLowestGhostSlot lifts slots ps ms b.slot r b.face × HasSameFaceCorners f (face_off r b.face))
+          → (r : Row) × (inner : IsLowestRowSlot lifts slots ps ms b.slot r) × (inner.row ≡ slot.is_hull.behind)
       by (inl row) =
           let b4 : b.face < 4 = (side_live slots b.slot b.face (at s k) mesh.shaped (mesh.back s k b is)).1 in
           elim (row_beside ps row.0 row.1.row b.face f b4 d row.1.is_positive row.1.same_corners row.2) [
@@ -124,8 +124,8 @@ module _ (lifts : ℕ → ℤ) (slots : List (Option SlotValue)) (ps : List Poin
       by (inr ghost) = absurd (mesh.apart s k b is (sym (now.one_ghost s b.slot t ghost.0 k b.face slot ghost.1 ghost.2)))
 
   -- behind a face of a row stands the row on its other side, or the ghost of a hull face with those corners
-  pub behind_row : (mesh : IsMesh slots) (now : IsLowestMesh lifts slots ps ms) (s k : ℕ) (t : Row) (b : SlotFace) (slot : IsRowSlot lifts slots ps ms s t) → side slots s k ≡ Some b
-      → ((r : Row) × (other : IsRowSlot lifts slots ps ms b.slot r) × IsFaceOf ps (reversed (face_off t k)) other.row) ⊎ ((r : Row) × IsGhostSlot lifts slots ps ms b.slot r b.face × HasSameFaceCorners (face_off t k) (face_off r b.face))
+  pub behind_row : (mesh : IsArenaMesh slots) (now : IsLowestMesh lifts slots ps ms) (s k : ℕ) (t : Row) (b : SlotFace) (slot : IsLowestRowSlot lifts slots ps ms s t) → link_behind slots s k ≡ Some b
+      → ((r : Row) × (other : IsLowestRowSlot lifts slots ps ms b.slot r) × IsFaceOf ps (reversed (face_off t k)) other.row) ⊎ ((r : Row) × IsLowestGhostSlot lifts slots ps ms b.slot r b.face × HasSameFaceCorners (face_off t k) (face_off r b.face))
   behind_row mesh now s k t b slot is = by (behind mesh now s k f b (row_shows s k t k4 slot) is)
     where
       f : Face
@@ -137,8 +137,8 @@ module _ (lifts : ℕ → ℤ) (slots : List (Option SlotValue)) (ps : List Poin
       same_of : (r : Row) → slot.row ≡ r → (u : Row) → HasSameCorners u r → HasSameCorners t u
       same_of r e u h i = (λ c. (h i).1 (subst (λ (x : Row). Contains (numbers x) i) e ((slot.same_corners i).0 c)), λ c. (slot.same_corners i).1 (subst (λ (x : Row). Contains (numbers x) i) (sym e) ((h i).0 c)))
 
-      by : ((r : Row) × IsRowSlot lifts slots ps ms b.slot r × HasSameFaceCorners f (face_off r b.face)) ⊎ ((r : Row) × IsGhostSlot lifts slots ps ms b.slot r b.face × HasSameFaceCorners f (face_off r b.face))
-          → ((r : Row) × (other : IsRowSlot lifts slots ps ms b.slot r) × IsFaceOf ps (reversed f) other.row) ⊎ ((r : Row) × IsGhostSlot lifts slots ps ms b.slot r b.face × HasSameFaceCorners f (face_off r b.face))
+      by : ((r : Row) × IsLowestRowSlot lifts slots ps ms b.slot r × HasSameFaceCorners f (face_off r b.face)) ⊎ ((r : Row) × IsLowestGhostSlot lifts slots ps ms b.slot r b.face × HasSameFaceCorners f (face_off r b.face))
+          → ((r : Row) × (other : IsLowestRowSlot lifts slots ps ms b.slot r) × IsFaceOf ps (reversed f) other.row) ⊎ ((r : Row) × IsLowestGhostSlot lifts slots ps ms b.slot r b.face × HasSameFaceCorners f (face_off r b.face))
       by (inr ghost) = inr ghost
       by (inl row) =
           let b4 : b.face < 4 = (side_live slots b.slot b.face (at s k) mesh.shaped (mesh.back s k b is)).1 in

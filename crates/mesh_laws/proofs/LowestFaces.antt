@@ -10,7 +10,7 @@ use Rattle.sign_predicates.proofs.Places.{Place, A, B, C, D, opposite}
 use Rattle.geo_laws.proofs.Places.{number}
 use Rattle.geo_laws.proofs.Corners.{IsCorner, corner_of, contains_corner, distinct, side-own_point}
 use Rattle.geo_laws.specs.OrientedFace.{Face, triangle, reversed, beside}
-use Rattle.insert_laws.specs.LowestInsertion.{HasSameCorners, IsFaceOf, IsHullFace}
+use Rattle.insert_laws.specs.LowestInsertion.{HasSameCorners, IsFaceOf, IsLowestHullFace}
 use Rattle.insert_laws.proofs.FacePencil.{side_of, side_of-reversed}
 use Rattle.insert_laws.proofs.Beyond.{turn, side-turn}
 use Rattle.mesh_laws.specs.LowestLiving.{face_off, IsFaceCorner, HasSameFaceCorners}
@@ -213,5 +213,5 @@ face_apart ps f t face =
     let r = beside (reversed f) face.opposite in
     record { ab = distinct ps r face.over A C tt; ac = distinct ps r face.over A B tt; bc = distinct ps r face.over C B tt }
 
-pub hull_apart : (lifts : ℕ → ℤ) (ps : List Point) (ms : List ℕ) (f : Face) → IsHullFace lifts ps ms f → AreApart f
+pub hull_apart : (lifts : ℕ → ℤ) (ps : List Point) (ms : List ℕ) (f : Face) → IsLowestHullFace lifts ps ms f → AreApart f
 hull_apart lifts ps ms f h = face_apart ps f h.behind h.is_face

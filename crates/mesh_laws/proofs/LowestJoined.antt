@@ -10,14 +10,14 @@ use Rattle.sign_predicates.proofs.Places.{A, B, C, D, IsOther}
 use Rattle.geo_laws.proofs.Places.{number}
 use Rattle.geo_laws.proofs.Corners.{IsCorner, corner_of, contains_corner, distinct}
 use Rattle.geo_laws.specs.OrientedFace.{Face, reversed, beside}
-use Rattle.insert_laws.specs.LowestInsertion.{HasSameCorners, IsFaceOf, IsHullFace}
+use Rattle.insert_laws.specs.LowestInsertion.{HasSameCorners, IsFaceOf, IsLowestHullFace}
 use Rattle.insert_laws.proofs.FacePencil.{side_of, side_of-reversed}
 use Rattle.insert_laws.proofs.LowestInsert.{law_one_row}
 use Rattle.insert_laws.proofs.LowestLists.{law_hull_face}
-use Rattle.mesh_arena.specs.Mesh.{SlotValue, side, at, IsMesh}
+use Rattle.mesh_arena.specs.Mesh.{SlotValue, link_behind, at, IsArenaMesh}
 use Rattle.mesh_arena.specs.declared.arena.SlotFace.{SlotFace}
 use Rattle.mesh_arena.proofs.Mesh.{side_live}
-use Rattle.mesh_laws.specs.LowestLiving.{face_off, IsFaceCorner, HasSameFaceCorners, IsRowSlot, IsGhostSlot, IsLowestMesh}
+use Rattle.mesh_laws.specs.LowestLiving.{face_off, IsFaceCorner, HasSameFaceCorners, IsLowestRowSlot, IsLowestGhostSlot, IsLowestMesh}
 use Rattle.mesh_laws.proofs.LowestFaces.{AreApart, faces_agree, hull_apart, place_of, corner_off, corner_split, row_beside, same_trans}
 use Rattle.mesh_laws.proofs.LowestAcross.{Shows, row_shows, behind, behind_ghost, some_side}
 
@@ -142,7 +142,7 @@ module _ (lifts : ℕ → ℤ) (ps : List Point) (ms : List ℕ) where
   opposite_in f r row face = row.is_on face.opposite ((face.same_corners face.opposite).0 (contains_corner (beside f face.opposite) face.opposite (D, refl)))
 
   -- a face between two rows is none of the hull
-  pub no_hull : (f g : Face) (r q : Row) → HasSameFaceCorners f g → IsHullFace lifts ps ms g → IsLowestAmong ps ms lifts r → IsFaceOf ps f r → IsLowestAmong ps ms lifts q → IsFaceOf ps (reversed f) q → ⊥
+  pub no_hull : (f g : Face) (r q : Row) → HasSameFaceCorners f g → IsLowestHullFace lifts ps ms g → IsLowestAmong ps ms lifts r → IsFaceOf ps f r → IsLowestAmong ps ms lifts q → IsFaceOf ps (reversed f) q → ⊥
   no_hull f g r q same hull row before other after =
       elim (faces_agree ps g f (hull_apart lifts ps ms g hull) (same_back f g same)) [
         | inl agree ↦ hull.none_beyond before.opposite (opposite_in f r row before) (subst (λ z. pos 0 <ℤ z) (sym (agree before.opposite)) before.over)
@@ -150,7 +150,7 @@ module _ (lifts : ℕ → ℤ) (ps : List Point) (ms : List ℕ) where
       ]
 
   -- two hull faces with the same corners have the same sides, so a row is behind both or none
-  pub hull_behind : (f g : Face) (r : Row) → HasSameFaceCorners f g → IsHullFace lifts ps ms f → IsHullFace lifts ps ms g → IsLowestAmong ps ms lifts r → IsFaceOf ps (reversed f) r → IsFaceOf ps (reversed g) r
+  pub hull_behind : (f g : Face) (r : Row) → HasSameFaceCorners f g → IsLowestHullFace lifts ps ms f → IsLowestHullFace lifts ps ms g → IsLowestAmong ps ms lifts r → IsFaceOf ps (reversed f) r → IsFaceOf ps (reversed g) r
   hull_behind f g r same hf hg row face =
       let o = face.opposite in
       let corners_of : HasSameFaceCorners (reversed g) (reversed f) = same_then (reversed g) g (reversed f) (same_reversed g) (same_then g f (reversed f) (same_back f g same) (same_back (reversed f) f (same_reversed f))) in
@@ -165,23 +165,23 @@ module _ (lifts : ℕ → ℤ) (ps : List Point) (ms : List ℕ) where
 pub record IsNextTo (lifts : ℕ → ℤ) (slots : List (Option SlotValue)) (v u : ℕ) : Type 0 where
   pub face : ℕ
   pub over : SlotFace
-  pub is : side slots v face ≡ Some over
+  pub is : link_behind slots v face ≡ Some over
   pub there : over.slot ≡ u
 
-module _ (lifts : ℕ → ℤ) (slots : List (Option SlotValue)) (ps : List Point) (ms : List ℕ) (mesh : IsMesh slots) (now : IsLowestMesh lifts slots ps ms) where
+module _ (lifts : ℕ → ℤ) (slots : List (Option SlotValue)) (ps : List Point) (ms : List ℕ) (mesh : IsArenaMesh slots) (now : IsLowestMesh lifts slots ps ms) where
   same_rows : (t r x y : Row) → HasSameCorners t x → HasSameCorners r y → x ≡ y → HasSameCorners t r
   same_rows t r x y h g e i = (λ c. (g i).1 (subst (λ (z : Row). Contains (numbers z) i) e ((h i).0 c)), λ c. (h i).1 (subst (λ (z : Row). Contains (numbers z) i) (sym e) ((g i).0 c)))
 
   -- one slot for each row
-  pub one_slot : (s u : ℕ) (t r : Row) (x : IsRowSlot lifts slots ps ms s t) (y : IsRowSlot lifts slots ps ms u r) → x.row ≡ y.row → s ≡ u
+  pub one_slot : (s u : ℕ) (t r : Row) (x : IsLowestRowSlot lifts slots ps ms s t) (y : IsLowestRowSlot lifts slots ps ms u r) → x.row ≡ y.row → s ≡ u
   one_slot s u t r x y e = now.one_row s u t r x y (same_rows t r x.row y.row x.same_corners y.same_corners e)
 
-  module _ (v : ℕ) (t : Row) (slot : IsRowSlot lifts slots ps ms v t) (f : Face) (face : IsFaceOf ps f slot.row) where
+  module _ (v : ℕ) (t : Row) (slot : IsLowestRowSlot lifts slots ps ms v t) (f : Face) (face : IsFaceOf ps f slot.row) where
     spot : (k : ℕ) × (k < 4) × HasSameFaceCorners f (face_off t k)
     spot = place_of_face ps t slot.row f slot.is_positive slot.same_corners face
 
-    over : (b : SlotFace) × (side slots v spot.0 ≡ Some b)
-    over = some_side (side slots v spot.0) (now.linked v spot.0 (rw slot.is refl) spot.1)
+    over : (b : SlotFace) × (link_behind slots v spot.0 ≡ Some b)
+    over = some_side (link_behind slots v spot.0) (now.linked v spot.0 (rw slot.is refl) spot.1)
 
     apart_face : AreApart f
     apart_face = let d = distinct ps (beside f face.opposite) face.over in record { ab = d A B tt; ac = d A C tt; bc = d B C tt }
@@ -189,14 +189,14 @@ module _ (lifts : ℕ → ℤ) (slots : List (Option SlotValue)) (ps : List Poin
     b4 : over.0.face < 4
     b4 = (side_live slots over.0.slot over.0.face (at v spot.0) mesh.shaped (mesh.back v spot.0 over.0 over.1)).1
 
-    found : ((q : Row) × IsRowSlot lifts slots ps ms over.0.slot q × HasSameFaceCorners f (face_off q over.0.face)) ⊎ ((q : Row) × IsGhostSlot lifts slots ps ms over.0.slot q over.0.face × HasSameFaceCorners f (face_off q over.0.face))
+    found : ((q : Row) × IsLowestRowSlot lifts slots ps ms over.0.slot q × HasSameFaceCorners f (face_off q over.0.face)) ⊎ ((q : Row) × IsLowestGhostSlot lifts slots ps ms over.0.slot q over.0.face × HasSameFaceCorners f (face_off q over.0.face))
     found = behind lifts slots ps ms mesh now v spot.0 f over.0 (shows_with slots v spot.0 f (face_off t spot.0) spot.2 (row_shows lifts slots ps ms v spot.0 t spot.1 slot)) over.1
 
     -- the slot of a row has the row on the other side of a face as a neighbor
-    pub next_row : (u : ℕ) (r : Row) (other : IsRowSlot lifts slots ps ms u r) → IsFaceOf ps (reversed f) other.row → IsNextTo lifts slots v u
+    pub next_row : (u : ℕ) (r : Row) (other : IsLowestRowSlot lifts slots ps ms u r) → IsFaceOf ps (reversed f) other.row → IsNextTo lifts slots v u
     next_row u r other after = record { face = spot.0; over = over.0; is = over.1; there = by found }
       where
-        by : ((q : Row) × IsRowSlot lifts slots ps ms over.0.slot q × HasSameFaceCorners f (face_off q over.0.face)) ⊎ ((q : Row) × IsGhostSlot lifts slots ps ms over.0.slot q over.0.face × HasSameFaceCorners f (face_off q over.0.face)) → over.0.slot ≡ u
+        by : ((q : Row) × IsLowestRowSlot lifts slots ps ms over.0.slot q × HasSameFaceCorners f (face_off q over.0.face)) ⊎ ((q : Row) × IsLowestGhostSlot lifts slots ps ms over.0.slot q over.0.face × HasSameFaceCorners f (face_off q over.0.face)) → over.0.slot ≡ u
         by (inl row) = elim (row_beside ps row.0 row.1.row over.0.face f b4 apart_face row.1.is_positive row.1.same_corners row.2) [
           | inl before ↦ absurd (mesh.apart v spot.0 over.0 over.1 (one_slot over.0.slot v row.0 t row.1 slot (law_one_row lifts ps ms now.within f row.1.row slot.row row.1.is_row before slot.is_row face)))
           | inr behind_it ↦ one_slot over.0.slot u row.0 r row.1 other (law_one_row lifts ps ms now.within (reversed f) row.1.row other.row row.1.is_row behind_it other.is_row after)
@@ -204,10 +204,10 @@ module _ (lifts : ℕ → ℤ) (slots : List (Option SlotValue)) (ps : List Poin
         by (inr ghost) = absurd (no_hull lifts ps ms f (face_off ghost.0 over.0.face) slot.row other.row ghost.2 ghost.1.is_hull slot.is_row face other.is_row after)
 
     -- and the ghost of a hull face that it is behind
-    pub next_ghost : (u : ℕ) (r : Row) (j : ℕ) (g : Face) → IsGhostSlot lifts slots ps ms u r j → IsHullFace lifts ps ms g → HasSameFaceCorners (face_off r j) g → f ≡ reversed g → IsNextTo lifts slots v u
+    pub next_ghost : (u : ℕ) (r : Row) (j : ℕ) (g : Face) → IsLowestGhostSlot lifts slots ps ms u r j → IsLowestHullFace lifts ps ms g → HasSameFaceCorners (face_off r j) g → f ≡ reversed g → IsNextTo lifts slots v u
     next_ghost u r j g ghost hull same e = record { face = spot.0; over = over.0; is = over.1; there = by found }
       where
-        by : ((q : Row) × IsRowSlot lifts slots ps ms over.0.slot q × HasSameFaceCorners f (face_off q over.0.face)) ⊎ ((q : Row) × IsGhostSlot lifts slots ps ms over.0.slot q over.0.face × HasSameFaceCorners f (face_off q over.0.face)) → over.0.slot ≡ u
+        by : ((q : Row) × IsLowestRowSlot lifts slots ps ms over.0.slot q × HasSameFaceCorners f (face_off q over.0.face)) ⊎ ((q : Row) × IsLowestGhostSlot lifts slots ps ms over.0.slot q over.0.face × HasSameFaceCorners f (face_off q over.0.face)) → over.0.slot ≡ u
         by (inl row) = elim (row_beside ps row.0 row.1.row over.0.face f b4 apart_face row.1.is_positive row.1.same_corners row.2) [
           | inl before ↦ absurd (mesh.apart v spot.0 over.0 over.1 (one_slot over.0.slot v row.0 t row.1 slot (law_one_row lifts ps ms now.within f row.1.row slot.row row.1.is_row before slot.is_row face)))
           | inr behind_it ↦ absurd ((law_hull_face lifts ps ms now.within g hull.behind hull.is_row hull.is_face).0 hull row.1.row row.1.is_row (subst (λ (x : Face). IsFaceOf ps (reversed x) row.1.row) e behind_it))
@@ -217,9 +217,9 @@ module _ (lifts : ℕ → ℤ) (slots : List (Option SlotValue)) (ps : List Poin
             now.one_ghost over.0.slot u at_hull.0 r over.0.face j at_hull.1 ghost (same_then (face_off at_hull.0 over.0.face) f (face_off r j) (same_back f (face_off at_hull.0 over.0.face) at_hull.2) (same_then f g (face_off r j) to_g (same_back (face_off r j) g same)))
 
   -- the ghost of a hull face has the row behind it as a neighbor
-  pub next_inner : (v k : ℕ) (t : Row) (slot : IsGhostSlot lifts slots ps ms v t k) (g : Face) → HasSameFaceCorners (face_off t k) g → IsHullFace lifts ps ms g → (u : ℕ) (r : Row) (other : IsRowSlot lifts slots ps ms u r) → IsFaceOf ps (reversed g) other.row → IsNextTo lifts slots v u
+  pub next_inner : (v k : ℕ) (t : Row) (slot : IsLowestGhostSlot lifts slots ps ms v t k) (g : Face) → HasSameFaceCorners (face_off t k) g → IsLowestHullFace lifts ps ms g → (u : ℕ) (r : Row) (other : IsLowestRowSlot lifts slots ps ms u r) → IsFaceOf ps (reversed g) other.row → IsNextTo lifts slots v u
   next_inner v k t slot g same hull u r other after =
-      let over = some_side (side slots v k) (now.linked v k (rw slot.is refl) slot.within) in
+      let over = some_side (link_behind slots v k) (now.linked v k (rw slot.is refl) slot.within) in
       let there = behind_ghost lifts slots ps ms mesh now v k t over.0 slot over.1 in
       let face = hull_behind lifts ps ms g (face_off t k) other.row (same_back (face_off t k) g same) hull slot.is_hull other.is_row after in
       let one : other.row ≡ slot.is_hull.behind = law_one_row lifts ps ms now.within (reversed (face_off t k)) other.row slot.is_hull.behind other.is_row face slot.is_hull.is_row slot.is_hull.is_face in

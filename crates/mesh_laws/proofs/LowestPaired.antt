@@ -2,21 +2,21 @@
 use Rattle.std.proofs.Common.{◌≡◌, ◌≢◌, ◌⊎◌, inl, inr, ℕ, ◌<◌, List, length, Option, refl, sym, ap, subst, ◌∙◌, ℤ}
 use Rattle.sign_predicates.specs.Point.{Point}
 use Rattle.geo_laws.specs.OrientedFace.{Face}
-use Rattle.insert_laws.specs.LowestInsertion.{IsNew, IsHullRim, IsRimFace, edge_and}
+use Rattle.insert_laws.specs.LowestInsertion.{IsNew, IsLowestHullRim, IsLowestRimFace, edge_and}
 use Rattle.insert_laws.proofs.Beyond.{turn}
 use Rattle.insert_laws.proofs.Rim.{law_rim_edge, law_hull_rim}
-use Rattle.mesh_arena.specs.Mesh.{SlotValue, IsMesh}
+use Rattle.mesh_arena.specs.Mesh.{SlotValue, IsArenaMesh}
 use Rattle.mesh_arena.specs.Star.{rim_at}
 use Rattle.mesh_arena.specs.StarLinks.{OnRim, Other}
 use Rattle.mesh_arena.specs.declared.slot.Corner.{Corner}
 use Rattle.mesh_arena.specs.declared.slot.Corner.TheVariants.{Point as Numbered, Ghost}
 use Rattle.mesh_arena.specs.declared.slot.Slot.{Slot}
 use Rattle.mesh_arena.specs.declared.slot.RimFace.{RimFace}
-use Rattle.mesh_laws.specs.LowestRule.{IsTaken}
+use Rattle.mesh_laws.specs.LowestRule.{IsLowestTaken}
 use Rattle.mesh_laws.specs.Reach.{Grown}
 use Rattle.mesh_laws.specs.LowestLiving.{IsFaceCorner, IsLowestMesh}
-use Rattle.mesh_laws.specs.LowestLaws.{IsWholeFrom}
-use Rattle.mesh_laws.specs.LowestRimLaws.{PairedLaw}
+use Rattle.mesh_laws.specs.LowestLaws.{IsLowestWholeFrom}
+use Rattle.mesh_laws.specs.LowestRimLaws.{LowestPairedLaw}
 use Rattle.mesh_laws.proofs.LowestFaces.{AreApart}
 use Rattle.mesh_laws.proofs.LowestJoined.{same_reversed}
 use Rattle.mesh_laws.proofs.NextHull.{ShowsEdge, along}
@@ -33,11 +33,11 @@ data HasEdge (lifts : ℕ → ℤ) (slots : List (Option SlotValue)) (ps : List 
 swap : (slots : List (Option SlotValue)) (rim : List RimFace) (r : ℕ) (x y : Corner) → Other slots rim r x y → Other slots rim r y x
 swap slots rim r x y o = record { face = o.face; inside = o.inside; differs = o.differs; first = o.second; second = o.first; only = λ t h n on_y on_x. o.only t h n on_x on_y }
 
-module _ (lifts : ℕ → ℤ) (slots : List (Option SlotValue)) (ps : List Point) (ms : List ℕ) (mesh : IsMesh slots) (now : IsLowestMesh lifts slots ps ms) (rim : List RimFace) (p start : ℕ) (cavity : List Slot) (new : IsNew ps ms p) (grown : Grown slots (IsTaken lifts slots ps p) start cavity rim) (whole : IsWholeFrom lifts slots ps p start) where
-  rim_of : (r : ℕ) (f : Face) → r < length rim → IsTriangle lifts slots ps ms rim r f → IsRimFace lifts ps ms p f
+module _ (lifts : ℕ → ℤ) (slots : List (Option SlotValue)) (ps : List Point) (ms : List ℕ) (mesh : IsArenaMesh slots) (now : IsLowestMesh lifts slots ps ms) (rim : List RimFace) (p start : ℕ) (cavity : List Slot) (new : IsNew ps ms p) (grown : Grown slots (IsLowestTaken lifts slots ps p) start cavity rim) (whole : IsLowestWholeFrom lifts slots ps p start) where
+  rim_of : (r : ℕ) (f : Face) → r < length rim → IsTriangle lifts slots ps ms rim r f → IsLowestRimFace lifts ps ms p f
   rim_of = triangle_rim lifts slots ps ms mesh now rim p start cavity new grown whole
 
-  edge_of : (r i j : ℕ) → r < length rim → IsEdge lifts slots ps ms rim r i j → IsHullRim lifts ps ms p i j
+  edge_of : (r i j : ℕ) → r < length rim → IsEdge lifts slots ps ms rim r i j → IsLowestHullRim lifts ps ms p i j
   edge_of = edge_rim lifts slots ps ms mesh now rim p start cavity new grown whole
 
   same_triangle : (r q : ℕ) (f : Face) → r < length rim → q < length rim → IsTriangle lifts slots ps ms rim r f → IsTriangle lifts slots ps ms rim q f → r ≡ q
@@ -90,13 +90,13 @@ module _ (lifts : ℕ → ℤ) (slots : List (Option SlotValue)) (ps : List Poin
   paired_triangle : (r i j k : ℕ) → r < length rim → IsTriangle lifts slots ps ms rim r (edge_and i j k) → Other slots rim r (Numbered i) (Numbered j)
   paired_triangle r i j k hr is = by (law_rim_edge lifts ps ms p new i j k here).0
     where
-      here : IsRimFace lifts ps ms p (edge_and i j k)
+      here : IsLowestRimFace lifts ps ms p (edge_and i j k)
       here = rim_of r (edge_and i j k) hr is
 
       d : AreApart (edge_and i j k)
       d = rim_apart lifts ps ms p new (edge_and i j k) here
 
-      by : IsHullRim lifts ps ms p i j ⊎ ((q : ℕ) × IsRimFace lifts ps ms p (edge_and j i q)) → Other slots rim r (Numbered i) (Numbered j)
+      by : IsLowestHullRim lifts ps ms p i j ⊎ ((q : ℕ) × IsLowestRimFace lifts ps ms p (edge_and j i q)) → Other slots rim r (Numbered i) (Numbered j)
       by (inl edge) = record {
         face = found.0;
         inside = found.1;
@@ -135,7 +135,7 @@ module _ (lifts : ℕ → ℤ) (slots : List (Option SlotValue)) (ps : List Poin
           third : IsFaceCorner (edge_and i j k) q → ⊥
           third (inl e) = apart.bc (sym e)
           third (inr (inl e)) = apart.ac (sym e)
-          third (inr (inr e)) = one_side lifts ps ms p new i j k here (subst (λ x. IsRimFace lifts ps ms p (edge_and j i x)) e there)
+          third (inr (inr e)) = one_side lifts ps ms p new i j k here (subst (λ x. IsLowestRimFace lifts ps ms p (edge_and j i x)) e there)
 
           differs : IsTriangle lifts slots ps ms rim r (edge_and j i q) → ⊥
           differs both = third (triangle_corner r (edge_and i j k) q is (on_triangle r (edge_and j i q) q both (inr (inr refl))))
@@ -151,14 +151,14 @@ module _ (lifts : ℕ → ℤ) (slots : List (Option SlotValue)) (ps : List Poin
   -- ---- the other faces at an edge where the rim meets the hull
 
   module _ (r i j : ℕ) (hr : r < length rim) (is : IsEdge lifts slots ps ms rim r i j) where
-    here : IsHullRim lifts ps ms p i j
+    here : IsLowestHullRim lifts ps ms p i j
     here = edge_of r i j hr is
 
-    follow : ((k : ℕ) × IsRimFace lifts ps ms p (edge_and i j k)) × ((q : ℕ) × IsHullRim lifts ps ms p j q × ((x : ℕ) → IsHullRim lifts ps ms p j x → q ≡ x))
+    follow : ((k : ℕ) × IsLowestRimFace lifts ps ms p (edge_and i j k)) × ((q : ℕ) × IsLowestHullRim lifts ps ms p j q × ((x : ℕ) → IsLowestHullRim lifts ps ms p j x → q ≡ x))
     follow = law_hull_rim lifts ps ms p new here.seen.behind here.seen.is_row i j here
 
     -- the edge is none of the rim when it is turned
-    not_back : IsHullRim lifts ps ms p j i → ⊥
+    not_back : IsLowestHullRim lifts ps ms p j i → ⊥
     not_back edge = rim_ends lifts ps ms p new j i follow.0.0 edge follow.0.1
 
     paired_edge : Other slots rim r (Numbered i) (Numbered j)
@@ -194,13 +194,13 @@ module _ (lifts : ℕ → ℤ) (slots : List (Option SlotValue)) (ps : List Poin
         ]
 
     -- no face is over two edges of which one follows the other
-    not_both : (a b c d : ℕ) → IsHullRim lifts ps ms p a b → IsHullRim lifts ps ms p c d → b ≡ c → (t : ℕ) → IsEdge lifts slots ps ms rim t a b → IsEdge lifts slots ps ms rim t c d → ⊥
+    not_both : (a b c d : ℕ) → IsLowestHullRim lifts ps ms p a b → IsLowestHullRim lifts ps ms p c d → b ≡ c → (t : ℕ) → IsEdge lifts slots ps ms rim t a b → IsEdge lifts slots ps ms rim t c d → ⊥
     not_both a b c d first second e t x y = by ((shows_edge lifts slots ps ms mesh now rim t a b x).to d (shows_edge lifts slots ps ms mesh now rim t c d y).second)
       where
         by : (d ≡ a) ⊎ (d ≡ b) → ⊥
-        by (inl z) = rim_ends lifts ps ms p new c d (behind_first.0) second (subst (λ w. IsRimFace lifts ps ms p (edge_and w c behind_first.0)) (sym z) (subst (λ w. IsRimFace lifts ps ms p (edge_and a w behind_first.0)) e behind_first.1))
+        by (inl z) = rim_ends lifts ps ms p new c d (behind_first.0) second (subst (λ w. IsLowestRimFace lifts ps ms p (edge_and w c behind_first.0)) (sym z) (subst (λ w. IsLowestRimFace lifts ps ms p (edge_and a w behind_first.0)) e behind_first.1))
           where
-            behind_first : (k : ℕ) × IsRimFace lifts ps ms p (edge_and a b k)
+            behind_first : (k : ℕ) × IsLowestRimFace lifts ps ms p (edge_and a b k)
             behind_first = (law_hull_rim lifts ps ms p new first.seen.behind first.seen.is_row a b first).0
         by (inr z) = hull_rim_apart lifts ps ms p new c d second (cc)
 
@@ -231,13 +231,13 @@ module _ (lifts : ℕ → ℤ) (slots : List (Option SlotValue)) (ps : List Poin
       only = λ t h n on_i infinite. only t h n (infinite_edge t i h on_i infinite);
     }
       where
-        before : (q : ℕ) × IsHullRim lifts ps ms p q i
+        before : (q : ℕ) × IsLowestHullRim lifts ps ms p q i
         before = edge_before lifts ps ms p new i j here
 
         found : (x : ℕ) × (x < length rim) × IsEdge lifts slots ps ms rim x before.0 i
         found = edge_at lifts slots ps ms mesh now rim p start cavity new grown whole before.0 i before.1
 
-        onward_of : (b : ℕ) → IsHullRim lifts ps ms p i b → b ≡ j
+        onward_of : (b : ℕ) → IsLowestHullRim lifts ps ms p i b → b ≡ j
         onward_of b edge = let next = (law_hull_rim lifts ps ms p new before.1.seen.behind before.1.seen.is_row before.0 i before.1).1 in sym (next.2 b edge) ∙ next.2 j here
 
         only : (t : ℕ) → t < length rim → t ≢ r → ((a : ℕ) × IsEdge lifts slots ps ms rim t a i) ⊎ ((b : ℕ) × IsEdge lifts slots ps ms rim t i b) → t ≡ found.0
@@ -268,5 +268,5 @@ module _ (lifts : ℕ → ℤ) (slots : List (Option SlotValue)) (ps : List Poin
   paired r Ghost (Numbered j) h on_x on_y n = swap slots rim r (Numbered j) Ghost (paired_infinite r j h on_y on_x)
   paired r Ghost Ghost h on_x on_y n = absurd (n refl)
 
-pub law_paired : PairedLaw
+pub law_paired : LowestPairedLaw
 law_paired lifts slots ps ms p start cavity rim mesh now new grown whole = paired lifts slots ps ms mesh now rim p start cavity new grown whole

@@ -8,16 +8,16 @@ use Rattle.geo_laws.specs.Height.{IsLowestAmong}
 use Rattle.geo_laws.specs.declared.tetrahedra.Tet.{Tet as Row}
 use Rattle.geo_laws.proofs.Arrangement.{even_back}
 use Rattle.geo_laws.specs.OrientedFace.{Face, triangle}
-use Rattle.insert_laws.specs.LowestInsertion.{IsNew, IsHullFace}
+use Rattle.insert_laws.specs.LowestInsertion.{IsNew, IsLowestHullFace}
 use Rattle.insert_laws.proofs.LowestBridge.{even_of_same}
 use Rattle.insert_laws.proofs.LowestStart.{law_locate}
-use Rattle.mesh_arena.specs.Mesh.{SlotValue, corner_in, IsLive, IsMesh}
+use Rattle.mesh_arena.specs.Mesh.{SlotValue, corner_in, IsLive, IsArenaMesh}
 use Rattle.mesh_arena.specs.declared.slot.Corner.{Corner}
 use Rattle.mesh_arena.specs.declared.slot.Corner.TheVariants.{Point as Numbered, Ghost}
-use Rattle.point_locate.specs.Place.{IsOn, AreCornersOn, IsSomePlace, row_corners}
+use Rattle.point_locate.specs.Place.{IsCornerOn, AreCornersOn, IsSomePlace, row_corners}
 use Rattle.point_locate.specs.declared.walk.Place.TheVariants.{Inside, Beyond}
 use Rattle.mesh_laws.specs.LowestLiving.{face_off, IsLowestMesh}
-use Rattle.mesh_laws.specs.LowestRimLaws.{PlacedLaw}
+use Rattle.mesh_laws.specs.LowestRimLaws.{LowestPlacedLaw}
 use Rattle.mesh_laws.proofs.LowestJoined.{same_back}
 use Rattle.mesh_laws.proofs.Seen.{ghost_of, ghost_list, ghost_volume}
 use Rattle.mesh_laws.proofs.Reached.{hull_sides}
@@ -25,7 +25,7 @@ use Rattle.mesh_laws.proofs.LowestWhole.{closed_even}
 use Rattle.mesh_laws.proofs.LowestCutOut.{number_in}
 use Rattle.mesh_laws.proofs.LowestSomeRim.{row_of_slot}
 
-corners_on : (lifts : ℕ → ℤ) (slots : List (Option SlotValue)) (ps : List Point) (ms : List ℕ) → IsMesh slots → IsLowestMesh lifts slots ps ms → AreCornersOn slots ps
+corners_on : (lifts : ℕ → ℤ) (slots : List (Option SlotValue)) (ps : List Point) (ms : List ℕ) → IsArenaMesh slots → IsLowestMesh lifts slots ps ms → AreCornersOn slots ps
 corners_on lifts slots ps ms mesh now s cs is k k4 = by (get_or cs k Ghost) refl
   where
     live : IsLive slots s
@@ -34,15 +34,15 @@ corners_on lifts slots ps ms mesh now s cs is k k4 = by (get_or cs k Ghost) refl
     next : k ≢ suc k
     next e = omega arith
 
-    by : (c : Corner) → get_or cs k Ghost ≡ c → IsOn ps c
+    by : (c : Corner) → get_or cs k Ghost ≡ c → IsCornerOn ps c
     by (Numbered i) e = now.within i (number_in lifts slots ps ms s (suc k) i mesh now live (record { place = k; within = k4; off = next; is = ap (λ o. corner_in o k) is ∙ e }))
     by Ghost e = tt
 
 -- the row that holds the point has a slot, and so has the hull face that it is strictly beyond
-somewhere : (lifts : ℕ → ℤ) (slots : List (Option SlotValue)) (ps : List Point) (ms : List ℕ) (p start : ℕ) → IsMesh slots → IsLowestMesh lifts slots ps ms → IsNew ps ms p → IsLive slots start → IsSomePlace slots ps (point ps p)
+somewhere : (lifts : ℕ → ℤ) (slots : List (Option SlotValue)) (ps : List Point) (ms : List ℕ) (p start : ℕ) → IsArenaMesh slots → IsLowestMesh lifts slots ps ms → IsNew ps ms p → IsLive slots start → IsSomePlace slots ps (point ps p)
 somewhere lifts slots ps ms p start mesh now new live = by (let some = row_of_slot lifts slots ps ms start now live in law_locate lifts ps ms p new some.0 some.1)
   where
-    by : ((t : Row) × IsLowestAmong ps ms lifts t × InClosed (corners ps t) (as_rational (point ps p))) ⊎ ((f : Face) × IsHullFace lifts ps ms f × (pos 0 <ℤ side_at (triangle ps f) (point ps p))) → IsSomePlace slots ps (point ps p)
+    by : ((t : Row) × IsLowestAmong ps ms lifts t × InClosed (corners ps t) (as_rational (point ps p))) ⊎ ((f : Face) × IsLowestHullFace lifts ps ms f × (pos 0 <ℤ side_at (triangle ps f) (point ps p))) → IsSomePlace slots ps (point ps p)
     by (inl row) =
         let s = now.rows row.0 row.1 in
         let even = even_of_same ps s.1 s.2.row s.2.is_positive s.2.is_row.is_positive s.2.is_row.is_arranged s.2.same_corners in
@@ -68,5 +68,5 @@ somewhere lifts slots ps ms p start mesh now new live = by (let some = row_of_sl
           },
         )
 
-pub law_placed : PlacedLaw
+pub law_placed : LowestPlacedLaw
 law_placed = record { corners = corners_on; somewhere = somewhere }

@@ -12,8 +12,8 @@ use Rattle.insert_laws.proofs.LowestBridge.{even_of_same}
 use Rattle.mesh_arena.specs.Mesh.{SlotValue}
 use Rattle.mesh_arena.specs.declared.slot.Corner.TheVariants.{Ghost}
 use Rattle.point_locate.specs.Place.{row_corners}
-use Rattle.mesh_laws.specs.LowestRule.{IsTaken}
-use Rattle.mesh_laws.specs.LowestLiving.{IsRowSlot}
+use Rattle.mesh_laws.specs.LowestRule.{IsLowestTaken}
+use Rattle.mesh_laws.specs.LowestLiving.{IsLowestRowSlot}
 use Rattle.mesh_laws.proofs.LowestTaken.{no_ghost, same_corners}
 
 -- a four of the same corners in an even arrangement has the same points above
@@ -33,18 +33,18 @@ same_row u t e =
     let d : u.d ≡ t.d = cc in
     λ i. record { a = a i; b = b i; c = c i; d = d i }
 
-module _ (lifts : ℕ → ℤ) (slots : List (Option SlotValue)) (ps : List Point) (ms : List ℕ) (p : ℕ) (new : IsNew ps ms p) (s : ℕ) (t : Row) (slot : IsRowSlot lifts slots ps ms s t) where
+module _ (lifts : ℕ → ℤ) (slots : List (Option SlotValue)) (ps : List Point) (ms : List ℕ) (p : ℕ) (new : IsNew ps ms p) (s : ℕ) (t : Row) (slot : IsLowestRowSlot lifts slots ps ms s t) where
   pub above_slot : HasAbove lifts ps t p ↔ HasAbove lifts ps slot.row p
   above_slot = above_even lifts ps t slot.row p slot.is_positive slot.is_row.is_positive slot.is_row.is_arranged slot.same_corners
 
-  pub taken_row : IsTaken lifts slots ps p s ↔ (¬ HasAbove lifts ps slot.row p)
+  pub taken_row : IsLowestTaken lifts slots ps p s ↔ (¬ HasAbove lifts ps slot.row p)
   taken_row = (to, from)
     where
-      to : IsTaken lifts slots ps p s → ¬ HasAbove lifts ps slot.row p
+      to : IsLowestTaken lifts slots ps p s → ¬ HasAbove lifts ps slot.row p
       to (inl row) =
           let same : row.here.row ≡ t = same_row row.here.row t (sym row.here.is ∙ same_corners slots s _ _ row.is slot.is) in
           λ o. subst (λ (u : Row). ¬ HasAbove lifts ps u p) same row.here.holds (above_slot.1 o)
       to (inr ghost) = absurd (no_ghost t ghost.place ghost.within (ap (λ cs. get_or cs ghost.place Ghost) (same_corners slots s _ _ slot.is ghost.infinite.is) ∙ ghost.infinite.here))
 
-      from : (¬ HasAbove lifts ps slot.row p) → IsTaken lifts slots ps p s
+      from : (¬ HasAbove lifts ps slot.row p) → IsLowestTaken lifts slots ps p s
       from not = inl (record { corners = row_corners t; is = slot.is; here = record { row = t; is = refl; holds = λ o. not (above_slot.0 o) } })

@@ -5,16 +5,16 @@ use Rattle.sign_predicates.specs.Point.{Point}
 use Rattle.geo_laws.specs.declared.tetrahedra.Tet.{Tet as Row}
 use Rattle.geo_laws.proofs.Places.{number}
 use Rattle.geo_laws.specs.OrientedFace.{Face}
-use Rattle.insert_laws.specs.LowestInsertion.{IsHullFace, edge_and}
+use Rattle.insert_laws.specs.LowestInsertion.{IsLowestHullFace, edge_and}
 use Rattle.insert_laws.proofs.Beyond.{turn}
 use Rattle.insert_laws.proofs.LowestStart.{law_hull_turn}
 use Rattle.insert_laws.proofs.LowestHull.{law_hull_edge}
-use Rattle.mesh_arena.specs.Mesh.{SlotValue, corner, corner_in, IsLive, side, at, OnFace, IsMesh}
+use Rattle.mesh_arena.specs.Mesh.{SlotValue, corner, corner_in, IsLive, link_behind, at, OnFace, IsArenaMesh}
 use Rattle.mesh_arena.specs.declared.arena.SlotFace.{SlotFace}
 use Rattle.mesh_arena.specs.declared.slot.Corner.TheVariants.{Point as Numbered, Ghost}
 use Rattle.mesh_arena.proofs.Mesh.{side_live}
 use Rattle.mesh_arena.proofs.AddStar.{live_by_side}
-use Rattle.mesh_laws.specs.LowestLiving.{face_off, IsFaceCorner, HasSameFaceCorners, IsRowSlot, IsGhostSlot, IsLowestMesh}
+use Rattle.mesh_laws.specs.LowestLiving.{face_off, IsFaceCorner, HasSameFaceCorners, IsLowestRowSlot, IsLowestGhostSlot, IsLowestMesh}
 use Rattle.mesh_laws.proofs.LowestFaces.{AreApart, hull_apart, place_of, off_corner, corner_off}
 use Rattle.mesh_laws.proofs.LowestAcross.{some_side, row_corner, same_number, ghost_corner, infinite_corner}
 use Rattle.mesh_laws.proofs.LowestJoined.{IsNextTo, same_then, same_back}
@@ -42,9 +42,9 @@ along P {a} {b} {c} {d} e g x = subst (λ m. P m d) e (subst (λ n. P a n) g x)
 pub record IsOverEdge (lifts : ℕ → ℤ) (slots : List (Option SlotValue)) (ps : List Point) (ms : List ℕ) (i j u k : ℕ) : Type 0 where
   pub row : Row
   pub place : ℕ
-  pub slot : IsGhostSlot lifts slots ps ms u row place
+  pub slot : IsLowestGhostSlot lifts slots ps ms u row place
   pub apex : ℕ
-  pub hull : IsHullFace lifts ps ms (edge_and j i apex)
+  pub hull : IsLowestHullFace lifts ps ms (edge_and j i apex)
   pub same : HasSameFaceCorners (face_off row place) (edge_and j i apex)
   pub within : k < 4
   pub off : k ≢ place
@@ -57,25 +57,25 @@ pub record ShowsEdge (slots : List (Option SlotValue)) (u k i j : ℕ) : Type 0 
   pub second : OnFace slots u k (Numbered j)
   pub infinite : OnFace slots u k Ghost
 
-module _ (lifts : ℕ → ℤ) (slots : List (Option SlotValue)) (ps : List Point) (ms : List ℕ) (mesh : IsMesh slots) (now : IsLowestMesh lifts slots ps ms) where
-  pub turned : (f : Face) → IsHullFace lifts ps ms f → IsHullFace lifts ps ms (turn f)
+module _ (lifts : ℕ → ℤ) (slots : List (Option SlotValue)) (ps : List Point) (ms : List ℕ) (mesh : IsArenaMesh slots) (now : IsLowestMesh lifts slots ps ms) where
+  pub turned : (f : Face) → IsLowestHullFace lifts ps ms f → IsLowestHullFace lifts ps ms (turn f)
   turned f h = law_hull_turn lifts ps ms now.within f.a f.b f.c h
 
   -- a hull face with the corners i and j has one of the two edges between them
-  pub edge_in : (f : Face) (i j : ℕ) → IsHullFace lifts ps ms f → i ≢ j → IsFaceCorner f i → IsFaceCorner f j
-      → ((x : ℕ) × IsHullFace lifts ps ms (edge_and i j x) × HasSameFaceCorners f (edge_and i j x)) ⊎ ((x : ℕ) × IsHullFace lifts ps ms (edge_and j i x) × HasSameFaceCorners f (edge_and j i x))
+  pub edge_in : (f : Face) (i j : ℕ) → IsLowestHullFace lifts ps ms f → i ≢ j → IsFaceCorner f i → IsFaceCorner f j
+      → ((x : ℕ) × IsLowestHullFace lifts ps ms (edge_and i j x) × HasSameFaceCorners f (edge_and i j x)) ⊎ ((x : ℕ) × IsLowestHullFace lifts ps ms (edge_and j i x) × HasSameFaceCorners f (edge_and j i x))
   edge_in f i j hull n (inl p) (inl q) = absurd (n (p ∙ sym q))
-  edge_in f i j hull n (inl p) (inr (inl q)) = inl (f.c, along (λ (m n : ℕ). IsHullFace lifts ps ms (edge_and m n f.c)) (sym p) (sym q) (hull), along (λ (m n : ℕ). HasSameFaceCorners f (edge_and m n f.c)) (sym p) (sym q) ((λ k. (λ c. c, λ c. c))))
-  edge_in f i j hull n (inl p) (inr (inr q)) = inr (f.b, along (λ (m n : ℕ). IsHullFace lifts ps ms (edge_and n m f.b)) (sym p) (sym q) (turned (turn f) (turned f hull)), along (λ (m n : ℕ). HasSameFaceCorners f (edge_and n m f.b)) (sym p) (sym q) (turned_twice f))
-  edge_in f i j hull n (inr (inl p)) (inl q) = inr (f.c, along (λ (m n : ℕ). IsHullFace lifts ps ms (edge_and n m f.c)) (sym p) (sym q) (hull), along (λ (m n : ℕ). HasSameFaceCorners f (edge_and n m f.c)) (sym p) (sym q) ((λ k. (λ c. c, λ c. c))))
+  edge_in f i j hull n (inl p) (inr (inl q)) = inl (f.c, along (λ (m n : ℕ). IsLowestHullFace lifts ps ms (edge_and m n f.c)) (sym p) (sym q) (hull), along (λ (m n : ℕ). HasSameFaceCorners f (edge_and m n f.c)) (sym p) (sym q) ((λ k. (λ c. c, λ c. c))))
+  edge_in f i j hull n (inl p) (inr (inr q)) = inr (f.b, along (λ (m n : ℕ). IsLowestHullFace lifts ps ms (edge_and n m f.b)) (sym p) (sym q) (turned (turn f) (turned f hull)), along (λ (m n : ℕ). HasSameFaceCorners f (edge_and n m f.b)) (sym p) (sym q) (turned_twice f))
+  edge_in f i j hull n (inr (inl p)) (inl q) = inr (f.c, along (λ (m n : ℕ). IsLowestHullFace lifts ps ms (edge_and n m f.c)) (sym p) (sym q) (hull), along (λ (m n : ℕ). HasSameFaceCorners f (edge_and n m f.c)) (sym p) (sym q) ((λ k. (λ c. c, λ c. c))))
   edge_in f i j hull n (inr (inl p)) (inr (inl q)) = absurd (n (p ∙ sym q))
-  edge_in f i j hull n (inr (inl p)) (inr (inr q)) = inl (f.a, along (λ (m n : ℕ). IsHullFace lifts ps ms (edge_and m n f.a)) (sym p) (sym q) (turned f hull), along (λ (m n : ℕ). HasSameFaceCorners f (edge_and m n f.a)) (sym p) (sym q) (turned_corners f))
-  edge_in f i j hull n (inr (inr p)) (inl q) = inl (f.b, along (λ (m n : ℕ). IsHullFace lifts ps ms (edge_and m n f.b)) (sym p) (sym q) (turned (turn f) (turned f hull)), along (λ (m n : ℕ). HasSameFaceCorners f (edge_and m n f.b)) (sym p) (sym q) (turned_twice f))
-  edge_in f i j hull n (inr (inr p)) (inr (inl q)) = inr (f.a, along (λ (m n : ℕ). IsHullFace lifts ps ms (edge_and n m f.a)) (sym p) (sym q) (turned f hull), along (λ (m n : ℕ). HasSameFaceCorners f (edge_and n m f.a)) (sym p) (sym q) (turned_corners f))
+  edge_in f i j hull n (inr (inl p)) (inr (inr q)) = inl (f.a, along (λ (m n : ℕ). IsLowestHullFace lifts ps ms (edge_and m n f.a)) (sym p) (sym q) (turned f hull), along (λ (m n : ℕ). HasSameFaceCorners f (edge_and m n f.a)) (sym p) (sym q) (turned_corners f))
+  edge_in f i j hull n (inr (inr p)) (inl q) = inl (f.b, along (λ (m n : ℕ). IsLowestHullFace lifts ps ms (edge_and m n f.b)) (sym p) (sym q) (turned (turn f) (turned f hull)), along (λ (m n : ℕ). HasSameFaceCorners f (edge_and m n f.b)) (sym p) (sym q) (turned_twice f))
+  edge_in f i j hull n (inr (inr p)) (inr (inl q)) = inr (f.a, along (λ (m n : ℕ). IsLowestHullFace lifts ps ms (edge_and n m f.a)) (sym p) (sym q) (turned f hull), along (λ (m n : ℕ). HasSameFaceCorners f (edge_and n m f.a)) (sym p) (sym q) (turned_corners f))
   edge_in f i j hull n (inr (inr p)) (inr (inr q)) = absurd (n (p ∙ sym q))
 
   -- a number on a ghost is a corner of its hull face
-  pub on_ghost : (s k j : ℕ) (t : Row) (i : ℕ) → IsGhostSlot lifts slots ps ms s t k → OnFace slots s j (Numbered i) → IsFaceCorner (face_off t k) i
+  pub on_ghost : (s k j : ℕ) (t : Row) (i : ℕ) → IsLowestGhostSlot lifts slots ps ms s t k → OnFace slots s j (Numbered i) → IsFaceCorner (face_off t k) i
   on_ghost s k j t i slot on = elim (cases_eq on.place k) [
     | inl same ↦ absurd (never i (sym (infinite_corner lifts slots ps ms s k t slot) ∙ ap (corner slots s) (sym same) ∙ on.is))
     | inr other ↦ subst (IsFaceCorner (face_off t k)) (same_number _ i (sym (ghost_corner lifts slots ps ms s k t slot on.place on.within other) ∙ on.is)) (off_corner t k on.place slot.within on.within other)
@@ -84,7 +84,7 @@ module _ (lifts : ℕ → ℤ) (slots : List (Option SlotValue)) (ps : List Poin
       never : (i : ℕ) → Ghost ≡ Numbered i → ⊥
       never i e = cc
 
-  pub no_infinite : (s j : ℕ) (t : Row) → IsRowSlot lifts slots ps ms s t → OnFace slots s j Ghost → ⊥
+  pub no_infinite : (s j : ℕ) (t : Row) → IsLowestRowSlot lifts slots ps ms s t → OnFace slots s j Ghost → ⊥
   no_infinite s j t slot on = never _ (sym (ap (λ o. corner_in o on.place) slot.is ∙ row_corner t on.place on.within) ∙ on.is)
     where
       never : (i : ℕ) → Numbered i ≡ Ghost → ⊥
@@ -94,7 +94,7 @@ module _ (lifts : ℕ → ℤ) (slots : List (Option SlotValue)) (ps : List Poin
   own_off : (u k : ℕ) → IsLive slots u → k < 4 → OnFace slots u k (corner slots u k) → ⊥
   own_off u k live k4 on = on.off (mesh.differ u on.place k live on.within k4 on.is)
 
-  ghost_live : (u k : ℕ) (t : Row) → IsGhostSlot lifts slots ps ms u t k → IsLive slots u
+  ghost_live : (u k : ℕ) (t : Row) → IsLowestGhostSlot lifts slots ps ms u t k → IsLive slots u
   ghost_live u k t slot = rw slot.is refl
 
   pub edge_shows : (i j u k : ℕ) → IsOverEdge lifts slots ps ms i j u k → ShowsEdge slots u k i j
@@ -127,7 +127,7 @@ module _ (lifts : ℕ → ℤ) (slots : List (Option SlotValue)) (ps : List Poin
           }
 
   -- each face of a ghost off one of its numbers is over an edge
-  pub edge_of_ghost : (u l k : ℕ) (t : Row) → IsGhostSlot lifts slots ps ms u t l → k < 4 → k ≢ l → (i : ℕ) × (j : ℕ) × IsOverEdge lifts slots ps ms i j u k
+  pub edge_of_ghost : (u l k : ℕ) (t : Row) → IsLowestGhostSlot lifts slots ps ms u t l → k < 4 → k ≢ l → (i : ℕ) × (j : ℕ) × IsOverEdge lifts slots ps ms i j u k
   edge_of_ghost u l k t slot k4 off = by (off_corner t l k slot.within k4 off)
     where
       f : Face
@@ -139,14 +139,14 @@ module _ (lifts : ℕ → ℤ) (slots : List (Option SlotValue)) (ps : List Poin
       by (inr (inr c)) = (f.b, f.a, record { row = t; place = l; slot = slot; apex = f.c; hull = slot.is_hull; same = λ x. (λ y. y, λ y. y); within = k4; off = off; is = c })
 
   -- and each edge of a hull face has such a face
-  pub edge_of_hull : (i j q : ℕ) → IsHullFace lifts ps ms (edge_and j i q) → (u : ℕ) × (k : ℕ) × (over : IsOverEdge lifts slots ps ms i j u k) × (over.apex ≡ q)
+  pub edge_of_hull : (i j q : ℕ) → IsLowestHullFace lifts ps ms (edge_and j i q) → (u : ℕ) × (k : ℕ) × (over : IsOverEdge lifts slots ps ms i j u k) × (over.apex ≡ q)
   edge_of_hull i j q hull =
       let s = now.ghosts (edge_and j i q) hull in
       let m = corner_off s.1 s.2 q s.3.within ((s.4 q).1 (inr (inr refl))) in
       (s.0, m.0, record { row = s.1; place = s.2; slot = s.3; apex = q; hull = hull; same = s.4; within = m.1; off = m.2; is = m.3 }, refl)
 
   -- the hull face is the one on its side of the edge
-  pub edge_corners : (i j u k q : ℕ) (e : IsOverEdge lifts slots ps ms i j u k) → IsHullFace lifts ps ms (edge_and j i q) → HasSameFaceCorners (face_off e.row e.place) (edge_and j i q)
+  pub edge_corners : (i j u k q : ℕ) (e : IsOverEdge lifts slots ps ms i j u k) → IsLowestHullFace lifts ps ms (edge_and j i q) → HasSameFaceCorners (face_off e.row e.place) (edge_and j i q)
   edge_corners i j u k q e hull = subst (λ x. HasSameFaceCorners (face_off e.row e.place) (edge_and j i x)) ((law_hull_edge lifts ps ms now.within j i e.apex e.hull).1 q hull) e.same
 
   -- one slot is over an edge
@@ -154,7 +154,7 @@ module _ (lifts : ℕ → ℤ) (slots : List (Option SlotValue)) (ps : List Poin
   edge_once i j u k v l e d = now.one_ghost u v e.row d.row e.place d.place e.slot d.slot (same_then (face_off e.row e.place) (edge_and j i e.apex) (face_off d.row d.place) e.same (same_back (face_off d.row d.place) (edge_and j i e.apex) (edge_corners i j v l e.apex d e.hull)))
 
   -- behind it stands the ghost of the hull face across the edge
-  pub edge_across : (i j u k : ℕ) (b : SlotFace) → IsOverEdge lifts slots ps ms i j u k → side slots u k ≡ Some b → IsOverEdge lifts slots ps ms j i b.slot b.face
+  pub edge_across : (i j u k : ℕ) (b : SlotFace) → IsOverEdge lifts slots ps ms i j u k → link_behind slots u k ≡ Some b → IsOverEdge lifts slots ps ms j i b.slot b.face
   edge_across i j u k b e is = by (now.each b.slot live)
     where
       shown : ShowsEdge slots u k i j
@@ -172,7 +172,7 @@ module _ (lifts : ℕ → ℤ) (slots : List (Option SlotValue)) (ps : List Poin
       d : AreApart (edge_and j i e.apex)
       d = hull_apart lifts ps ms (edge_and j i e.apex) e.hull
 
-      by : ((r : Row) × IsRowSlot lifts slots ps ms b.slot r) ⊎ ((r : Row) × (l : ℕ) × IsGhostSlot lifts slots ps ms b.slot r l) → IsOverEdge lifts slots ps ms j i b.slot b.face
+      by : ((r : Row) × IsLowestRowSlot lifts slots ps ms b.slot r) ⊎ ((r : Row) × (l : ℕ) × IsLowestGhostSlot lifts slots ps ms b.slot r l) → IsOverEdge lifts slots ps ms j i b.slot b.face
       by (inl row) = absurd (no_infinite b.slot b.face row.0 row.1 (behind_on Ghost shown.infinite))
       by (inr ghost) =
           let f = face_off ghost.0 ghost.1 in
@@ -201,12 +201,12 @@ module _ (lifts : ℕ → ℤ) (slots : List (Option SlotValue)) (ps : List Poin
           named o (inr (inr c)) = c
 
   -- the ghosts of hull faces on both sides of an edge are neighbors
-  pub next_hull : (v u k l : ℕ) (t r : Row) → IsGhostSlot lifts slots ps ms v t k → IsGhostSlot lifts slots ps ms u r l → (i j o q : ℕ) → IsHullFace lifts ps ms (edge_and j i q) → IsHullFace lifts ps ms (edge_and i j o)
+  pub next_hull : (v u k l : ℕ) (t r : Row) → IsLowestGhostSlot lifts slots ps ms v t k → IsLowestGhostSlot lifts slots ps ms u r l → (i j o q : ℕ) → IsLowestHullFace lifts ps ms (edge_and j i q) → IsLowestHullFace lifts ps ms (edge_and i j o)
       → HasSameFaceCorners (face_off t k) (edge_and j i q) → HasSameFaceCorners (face_off r l) (edge_and i j o) → IsNextTo lifts slots v u
   next_hull v u k l t r one two i j o q hull next same same_next =
       let m = corner_off t k q one.within ((same q).1 (inr (inr refl))) in
       let e : IsOverEdge lifts slots ps ms i j v m.0 = record { row = t; place = k; slot = one; apex = q; hull = hull; same = same; within = m.1; off = m.2; is = m.3 } in
-      let over = some_side (side slots v m.0) (now.linked v m.0 (ghost_live v k t one) m.1) in
+      let over = some_side (link_behind slots v m.0) (now.linked v m.0 (ghost_live v k t one) m.1) in
       let behind = edge_across i j v m.0 over.0 e over.1 in
       let corners_of = edge_corners j i over.0.slot over.0.face o behind next in
       record {

@@ -8,16 +8,16 @@ use Rattle.geo_laws.specs.declared.tetrahedra.Tet.{Tet as Row}
 use Rattle.sign_predicates.proofs.Places.{A, B, C}
 use Rattle.geo_laws.proofs.Corners.{distinct}
 use Rattle.geo_laws.specs.OrientedFace.{Face, reversed, beside}
-use Rattle.insert_laws.specs.LowestInsertion.{IsNew, IsFaceOf, IsHullFace, IsCavityPlace, cavity_row, cavity_ghost, IsClearPlace, clear_row, clear_ghost, IsRimFace, row_place, ghost_place, row_in, ghost_in}
+use Rattle.insert_laws.specs.LowestInsertion.{IsNew, IsFaceOf, IsLowestHullFace, IsLowestCavityPlace, cavity_row, cavity_ghost, IsLowestClearPlace, clear_row, clear_ghost, IsLowestRimFace, row_place, ghost_place, row_in, ghost_in}
 use Rattle.insert_laws.proofs.FacePencil.{side_of, side_of-reversed}
 use Rattle.insert_laws.proofs.Beyond.{turn, side-turn}
 use Rattle.insert_laws.proofs.LowestInsert.{law_one_row}
 use Rattle.insert_laws.proofs.Sides.{law_place}
-use Rattle.mesh_arena.specs.Mesh.{SlotValue, IsLive, corner, side, at, OnFace, IsMesh}
+use Rattle.mesh_arena.specs.Mesh.{SlotValue, IsLive, corner, link_behind, at, OnFace, IsArenaMesh}
 use Rattle.mesh_arena.specs.declared.arena.SlotFace.{SlotFace}
 use Rattle.mesh_arena.proofs.Mesh.{side_live}
-use Rattle.mesh_laws.specs.LowestRule.{IsTaken}
-use Rattle.mesh_laws.specs.LowestLiving.{face_off, HasSameFaceCorners, IsRowSlot, IsGhostSlot, IsLowestMesh}
+use Rattle.mesh_laws.specs.LowestRule.{IsLowestTaken}
+use Rattle.mesh_laws.specs.LowestLiving.{face_off, HasSameFaceCorners, IsLowestRowSlot, IsLowestGhostSlot, IsLowestMesh}
 use Rattle.mesh_laws.proofs.LowestFaces.{faces_agree, hull_apart, same_trans, row_beside}
 use Rattle.mesh_laws.proofs.LowestAcross.{Shows, row_shows, ghost_shows, behind}
 use Rattle.mesh_laws.proofs.LowestRows.{taken_row}
@@ -28,8 +28,8 @@ use Rattle.mesh_laws.proofs.Reached.{sees_same, taken_at}
 
 -- The slot u has the face f off its place k and stands on the positive side of f: a row there, or the ghost of a hull face
 pub data IsOver (lifts : ℕ → ℤ) (slots : List (Option SlotValue)) (ps : List Point) (ms : List ℕ) (f : Face) (u k : ℕ) : Type 0 where
-  row_over : (t : Row) (slot : IsRowSlot lifts slots ps ms u t) → k < 4 → HasSameFaceCorners f (face_off t k) → IsFaceOf ps f slot.row → IsOver lifts slots ps ms f u k
-  ghost_over : (t : Row) → IsGhostSlot lifts slots ps ms u t k → HasSameFaceCorners f (face_off t k) → IsHullFace lifts ps ms f → IsOver lifts slots ps ms f u k
+  row_over : (t : Row) (slot : IsLowestRowSlot lifts slots ps ms u t) → k < 4 → HasSameFaceCorners f (face_off t k) → IsFaceOf ps f slot.row → IsOver lifts slots ps ms f u k
+  ghost_over : (t : Row) → IsLowestGhostSlot lifts slots ps ms u t k → HasSameFaceCorners f (face_off t k) → IsLowestHullFace lifts ps ms f → IsOver lifts slots ps ms f u k
 
 -- a row's face with the same corners and sides
 face_named : (ps : List Point) (f g : Face) (t : Row) → HasSameFaceCorners f g → ((o : ℕ) → side_of ps f o ≡ side_of ps g o) → IsFaceOf ps g t → IsFaceOf ps f t
@@ -46,7 +46,7 @@ pub reversed_same : (f g : Face) → HasSameFaceCorners f g → HasSameFaceCorne
 reversed_same f g same = same_then (reversed f) f (reversed g) (same_reversed f) (same_then f g (reversed g) same (same_back (reversed g) g (same_reversed g)))
 
 -- a hull face with the same corners and sides
-hull_named : (lifts : ℕ → ℤ) (ps : List Point) (ms : List ℕ) (f g : Face) → HasSameFaceCorners f g → ((o : ℕ) → side_of ps f o ≡ side_of ps g o) → IsHullFace lifts ps ms g → IsHullFace lifts ps ms f
+hull_named : (lifts : ℕ → ℤ) (ps : List Point) (ms : List ℕ) (f g : Face) → HasSameFaceCorners f g → ((o : ℕ) → side_of ps f o ≡ side_of ps g o) → IsLowestHullFace lifts ps ms g → IsLowestHullFace lifts ps ms f
 hull_named lifts ps ms f g same sides hull = record {
   behind = hull.behind;
   is_row = hull.is_row;
@@ -55,7 +55,7 @@ hull_named lifts ps ms f g same sides hull = record {
 }
 
 -- no row is before a hull face
-not_before : (lifts : ℕ → ℤ) (ps : List Point) (ms : List ℕ) (f : Face) (t : Row) → IsHullFace lifts ps ms f → IsLowestAmong ps ms lifts t → IsFaceOf ps f t → ⊥
+not_before : (lifts : ℕ → ℤ) (ps : List Point) (ms : List ℕ) (f : Face) (t : Row) → IsLowestHullFace lifts ps ms f → IsLowestAmong ps ms lifts t → IsFaceOf ps f t → ⊥
 not_before lifts ps ms f t hull row face = hull.none_beyond face.opposite (opposite_in lifts ps ms f t row face) face.over
 
 module _ (lifts : ℕ → ℤ) (slots : List (Option SlotValue)) (ps : List Point) (ms : List ℕ) where
@@ -72,7 +72,7 @@ module _ (lifts : ℕ → ℤ) (slots : List (Option SlotValue)) (ps : List Poin
   pub over_turn : (f : Face) (u k : ℕ) → IsOver lifts slots ps ms f u k → IsOver lifts slots ps ms (turn f) u k
   over_turn f u k over = over_named f (turn f) u k (same_back f (turn f) (turned_corners f)) (side-turn ps f) over
 
-  module _ (mesh : IsMesh slots) (now : IsLowestMesh lifts slots ps ms) where
+  module _ (mesh : IsArenaMesh slots) (now : IsLowestMesh lifts slots ps ms) where
     -- a face of a slot with all corners of another face is that face
     pub one_place : (u k l : ℕ) → IsLive slots u → k < 4 → ((x : _) → OnFace slots u l x → OnFace slots u k x) → k ≡ l
     one_place u k l live k4 on = elim (cases_eq k l) [
@@ -88,7 +88,7 @@ module _ (lifts : ℕ → ℤ) (slots : List (Option SlotValue)) (ps : List Poin
     over_once f u k v l (ghost_over t slot same hull) (ghost_over r other same' hull') = now.one_ghost u v t r k l slot other (same_then (face_off t k) f (face_off r l) (same_back f (face_off t k) same) same')
 
     -- behind the face stands what is on its other side
-    pub over_across : (f : Face) (u k : ℕ) (b : SlotFace) → IsOver lifts slots ps ms f u k → side slots u k ≡ Some b → IsOver lifts slots ps ms (reversed f) b.slot b.face
+    pub over_across : (f : Face) (u k : ℕ) (b : SlotFace) → IsOver lifts slots ps ms f u k → link_behind slots u k ≡ Some b → IsOver lifts slots ps ms (reversed f) b.slot b.face
     over_across f u k b over is = by over (behind lifts slots ps ms mesh now u k f b (over_shows f u k over) is)
       where
         b4 : b.face < 4
@@ -97,7 +97,7 @@ module _ (lifts : ℕ → ℤ) (slots : List (Option SlotValue)) (ps : List Poin
         same_behind : (t : Row) → HasSameFaceCorners f (face_off t b.face) → HasSameFaceCorners (reversed f) (face_off t b.face)
         same_behind t same = same_then (reversed f) f (face_off t b.face) (same_reversed f) same
 
-        by : IsOver lifts slots ps ms f u k → ((t : Row) × IsRowSlot lifts slots ps ms b.slot t × HasSameFaceCorners f (face_off t b.face)) ⊎ ((t : Row) × IsGhostSlot lifts slots ps ms b.slot t b.face × HasSameFaceCorners f (face_off t b.face)) → IsOver lifts slots ps ms (reversed f) b.slot b.face
+        by : IsOver lifts slots ps ms f u k → ((t : Row) × IsLowestRowSlot lifts slots ps ms b.slot t × HasSameFaceCorners f (face_off t b.face)) ⊎ ((t : Row) × IsLowestGhostSlot lifts slots ps ms b.slot t b.face × HasSameFaceCorners f (face_off t b.face)) → IsOver lifts slots ps ms (reversed f) b.slot b.face
         by (row_over t slot k4 same face) (inl row) =
             let d = distinct ps (beside f face.opposite) face.over in
             elim (row_beside ps row.0 row.1.row b.face f b4 (record { ab = d A B tt; ac = d A C tt; bc = d B C tt }) row.1.is_positive row.1.same_corners row.2) [
@@ -119,7 +119,7 @@ module _ (lifts : ℕ → ℤ) (slots : List (Option SlotValue)) (ps : List Poin
 
     module _ (p : ℕ) (new : IsNew ps ms p) where
       -- the slot over a face is taken where a place of the cavity is there
-      pub cavity_taken : (f : Face) (u k : ℕ) → IsOver lifts slots ps ms f u k → IsCavityPlace lifts ps ms p f → IsTaken lifts slots ps p u
+      pub cavity_taken : (f : Face) (u k : ℕ) → IsOver lifts slots ps ms f u k → IsLowestCavityPlace lifts ps ms p f → IsLowestTaken lifts slots ps p u
       cavity_taken f u k (row_over t slot k4 same face) (cavity_row r row before not) =
           let one = law_one_row lifts ps ms now.within f r slot.row row before slot.is_row face in
           taken_at lifts slots ps ms mesh now p new (row_place r) (row_in r row not) u (t, slot, sym one)
@@ -127,23 +127,23 @@ module _ (lifts : ℕ → ℤ) (slots : List (Option SlotValue)) (ps : List Poin
       cavity_taken f u k (ghost_over t slot same hull) (cavity_row r row before not) = absurd (not_before lifts ps ms f r hull row before)
       cavity_taken f u k (ghost_over t slot same hull) (cavity_ghost seen sees) = taken_at lifts slots ps ms mesh now p new (ghost_place f) (ghost_in f seen sees) u (t, k, slot, same_back f (face_off t k) same, seen)
 
-      pub taken_cavity : (f : Face) (u k : ℕ) → IsOver lifts slots ps ms f u k → IsTaken lifts slots ps p u → IsCavityPlace lifts ps ms p f
+      pub taken_cavity : (f : Face) (u k : ℕ) → IsOver lifts slots ps ms f u k → IsLowestTaken lifts slots ps p u → IsLowestCavityPlace lifts ps ms p f
       taken_cavity f u k (row_over t slot k4 same face) taken = cavity_row slot.row slot.is_row face ((taken_row lifts slots ps ms p new u t slot).0 taken)
       taken_cavity f u k (ghost_over t slot same hull) taken = cavity_ghost hull (sees_same lifts slots ps ms mesh now p new (face_off t k) f (same_back f (face_off t k) same) slot.is_hull hull ((taken_sees lifts slots ps ms p new mesh now u k t slot).0 taken))
 
       -- and not where a clear one is
-      pub clear_not_taken : (f : Face) (u k : ℕ) → IsOver lifts slots ps ms f u k → IsClearPlace lifts ps ms p f → IsTaken lifts slots ps p u → ⊥
+      pub clear_not_taken : (f : Face) (u k : ℕ) → IsOver lifts slots ps ms f u k → IsLowestClearPlace lifts ps ms p f → IsLowestTaken lifts slots ps p u → ⊥
       clear_not_taken f u k over clear taken = (law_place lifts ps ms p new).exclusive f (taken_cavity f u k over taken) clear
 
-      pub clear_of_not : (f : Face) (u k : ℕ) → IsOver lifts slots ps ms f u k → (IsTaken lifts slots ps p u → ⊥) → IsClearPlace lifts ps ms p f
+      pub clear_of_not : (f : Face) (u k : ℕ) → IsOver lifts slots ps ms f u k → (IsLowestTaken lifts slots ps p u → ⊥) → IsLowestClearPlace lifts ps ms p f
       clear_of_not f u k over not = elim (decided over) [ inl cavity ↦ absurd (not (cavity_taken f u k over cavity)) | inr clear ↦ clear ]
         where
-          decided : IsOver lifts slots ps ms f u k → IsCavityPlace lifts ps ms p f ⊎ IsClearPlace lifts ps ms p f
+          decided : IsOver lifts slots ps ms f u k → IsLowestCavityPlace lifts ps ms p f ⊎ IsLowestClearPlace lifts ps ms p f
           decided (row_over t slot k4 same face) = (law_place lifts ps ms p new).decided f slot.row slot.is_row (inl face)
           decided (ghost_over t slot same hull) = (law_place lifts ps ms p new).decided f hull.behind hull.is_row (inr hull.is_face)
 
       -- a clear place has a slot
-      pub clear_slot : (f : Face) → IsClearPlace lifts ps ms p f → (u : ℕ) × (k : ℕ) × IsOver lifts slots ps ms f u k
+      pub clear_slot : (f : Face) → IsLowestClearPlace lifts ps ms p f → (u : ℕ) × (k : ℕ) × IsOver lifts slots ps ms f u k
       clear_slot f (clear_row r row face outside) =
           let s = now.rows r row in
           let face_of : IsFaceOf ps f s.2.row = subst (λ (q : Row). IsFaceOf ps f q) (sym s.3) face in
@@ -152,7 +152,7 @@ module _ (lifts : ℕ → ℤ) (slots : List (Option SlotValue)) (ps : List Poin
       clear_slot f (clear_ghost hull not) = let s = now.ghosts f hull in (s.0, s.2, ghost_over s.1 s.3 (same_back (face_off s.1 s.2) f s.4) hull)
 
       -- a rim face is one between a slot that is taken and one that isn't
-      pub rim_face : (f : Face) (u k : ℕ) (b : SlotFace) → IsOver lifts slots ps ms (reversed f) u k → side slots u k ≡ Some b → (IsTaken lifts slots ps p u → ⊥) → IsTaken lifts slots ps p b.slot → IsRimFace lifts ps ms p f
+      pub rim_face : (f : Face) (u k : ℕ) (b : SlotFace) → IsOver lifts slots ps ms (reversed f) u k → link_behind slots u k ≡ Some b → (IsLowestTaken lifts slots ps p u → ⊥) → IsLowestTaken lifts slots ps p b.slot → IsLowestRimFace lifts ps ms p f
       rim_face f u k b over is not taken = record {
         cavity = taken_cavity f b.slot b.face (over_across (reversed f) u k b over is) taken;
         clear = clear_of_not (reversed f) u k over not;

@@ -7,15 +7,15 @@ use Rattle.geo_laws.specs.Delaunay.{point, corners}
 use Rattle.geo_laws.specs.declared.tetrahedra.Tet.{Tet as Row}
 use Rattle.geo_laws.proofs.Places.{replaced}
 use Rattle.geo_laws.proofs.Determinants.{volume-replaced}
-use Rattle.insert_laws.specs.LowestInsertion.{IsNew, HasAbove, Sees}
+use Rattle.insert_laws.specs.LowestInsertion.{IsNew, HasAbove, LowestSees}
 use Rattle.insert_laws.proofs.FacePencil.{side_of}
-use Rattle.mesh_arena.specs.Mesh.{SlotValue, corner_list, side, IsMesh}
+use Rattle.mesh_arena.specs.Mesh.{SlotValue, corner_list, link_behind, IsArenaMesh}
 use Rattle.mesh_arena.specs.declared.arena.SlotFace.{SlotFace}
 use Rattle.mesh_arena.specs.declared.slot.Corner.TheVariants.{Point as Numbered, Ghost}
 use Rattle.mesh_arena.specs.declared.slot.SlotCorners.{SlotCorners}
 use Rattle.point_locate.specs.Place.{row_corners, placed}
-use Rattle.mesh_laws.specs.LowestRule.{IsTaken, IsInnerTaken, IsSeen}
-use Rattle.mesh_laws.specs.LowestLiving.{face_off, IsGhostSlot, IsLowestMesh}
+use Rattle.mesh_laws.specs.LowestRule.{IsLowestTaken, IsLowestInnerTaken, IsLowestSeen}
+use Rattle.mesh_laws.specs.LowestLiving.{face_off, IsLowestGhostSlot, IsLowestMesh}
 use Rattle.mesh_laws.proofs.LowestTaken.{no_ghost, same_corners, one_ghost}
 use Rattle.mesh_laws.proofs.LowestRows.{taken_row, above_slot}
 use Rattle.mesh_laws.proofs.LowestFaces.{place_of, triangle_off}
@@ -61,17 +61,17 @@ ghost_volume ps p t k g h e =
     ∙ volume-replaced (corners ps t) (place_of k) (point ps p)
     ∙ ap (λ f. side_at f (point ps p)) (sym (triangle_off ps t k h))
 
-module _ (lifts : ℕ → ℤ) (slots : List (Option SlotValue)) (ps : List Point) (ms : List ℕ) (p : ℕ) (new : IsNew ps ms p) (mesh : IsMesh slots) (now : IsLowestMesh lifts slots ps ms) (s k : ℕ) (t : Row) (slot : IsGhostSlot lifts slots ps ms s t k) where
+module _ (lifts : ℕ → ℤ) (slots : List (Option SlotValue)) (ps : List Point) (ms : List ℕ) (p : ℕ) (new : IsNew ps ms p) (mesh : IsArenaMesh slots) (now : IsLowestMesh lifts slots ps ms) (s k : ℕ) (t : Row) (slot : IsLowestGhostSlot lifts slots ps ms s t k) where
   infinite : get_or (set (row_corners t) k Ghost) k Ghost ≡ Ghost
   infinite = get_or-set_same (row_corners t) k Ghost Ghost (omega (arith, slot.within))
 
   -- the row on the inner side has p above or not, as the neighbor tells
-  inner_to : IsInnerTaken lifts slots ps p s k → ¬ HasAbove lifts ps slot.is_hull.behind p
+  inner_to : IsLowestInnerTaken lifts slots ps p s k → ¬ HasAbove lifts ps slot.is_hull.behind p
   inner_to inner =
       let there = behind_ghost lifts slots ps ms mesh now s k t inner.inner slot inner.is in
       subst (λ (r : Row). ¬ HasAbove lifts ps r p) there.2 ((taken_row lifts slots ps ms p new inner.inner.slot there.0 there.1).0 (inl inner.takes))
 
-  inner_from : (¬ HasAbove lifts ps slot.is_hull.behind p) → (b : SlotFace) → side slots s k ≡ Some b → IsInnerTaken lifts slots ps p s k
+  inner_from : (¬ HasAbove lifts ps slot.is_hull.behind p) → (b : SlotFace) → link_behind slots s k ≡ Some b → IsLowestInnerTaken lifts slots ps p s k
   inner_from not b is =
       let there = behind_ghost lifts slots ps ms mesh now s k t b slot is in
       record {
@@ -84,34 +84,34 @@ module _ (lifts : ℕ → ℤ) (slots : List (Option SlotValue)) (ps : List Poin
         };
       }
 
-  pub taken_sees : IsTaken lifts slots ps p s ↔ Sees lifts ps p (face_off t k) slot.is_hull.behind
+  pub taken_sees : IsLowestTaken lifts slots ps p s ↔ LowestSees lifts ps p (face_off t k) slot.is_hull.behind
   taken_sees = (to, from)
     where
-      to : IsTaken lifts slots ps p s → Sees lifts ps p (face_off t k) slot.is_hull.behind
+      to : IsLowestTaken lifts slots ps p s → LowestSees lifts ps p (face_off t k) slot.is_hull.behind
       to (inl row) = absurd (no_ghost row.here.row k slot.within (ap (λ cs. get_or cs k Ghost) (sym row.here.is ∙ same_corners slots s _ _ row.is slot.is) ∙ infinite))
       to (inr ghost) =
           let cs = same_corners slots s _ _ slot.is ghost.infinite.is in
           let at : ghost.place ≡ k = one_ghost slots s (set (row_corners t) k Ghost) ghost.place k mesh slot.is ghost.within slot.within (ap (λ xs. get_or xs ghost.place Ghost) cs ∙ ghost.infinite.here) infinite in
-          by (subst (IsSeen lifts slots ps p s) at ghost.seen)
+          by (subst (IsLowestSeen lifts slots ps p s) at ghost.seen)
         where
-          by : IsSeen lifts slots ps p s k → Sees lifts ps p (face_off t k) slot.is_hull.behind
+          by : IsLowestSeen lifts slots ps p s k → LowestSees lifts ps p (face_off t k) slot.is_hull.behind
           by seen = go seen.sees
             where
               same : volume (placed ps (point ps p) seen.ghost) ≡ side_of ps (face_off t k) p
               same = ghost_volume ps p t k seen.ghost slot.within (same_corners slots s _ _ slot.is seen.is)
 
-              go : (pos 0 <ℤ volume (placed ps (point ps p) seen.ghost)) ⊎ ((volume (placed ps (point ps p) seen.ghost) ≡ pos 0) × IsInnerTaken lifts slots ps p s k) → Sees lifts ps p (face_off t k) slot.is_hull.behind
+              go : (pos 0 <ℤ volume (placed ps (point ps p) seen.ghost)) ⊎ ((volume (placed ps (point ps p) seen.ghost) ≡ pos 0) × IsLowestInnerTaken lifts slots ps p s k) → LowestSees lifts ps p (face_off t k) slot.is_hull.behind
               go (inl over) = inl (subst (λ z. pos 0 <ℤ z) same over)
               go (inr level) = inr (sym same ∙ level.0, inner_to level.1)
 
-      from : Sees lifts ps p (face_off t k) slot.is_hull.behind → IsTaken lifts slots ps p s
+      from : LowestSees lifts ps p (face_off t k) slot.is_hull.behind → IsLowestTaken lifts slots ps p s
       from sees = inr (record { place = k; within = slot.within; infinite = record { corners = set (row_corners t) k Ghost; is = slot.is; here = infinite }; seen = record { ghost = ghost_of t k; is = slot.is ∙ ap Some (ghost_list t k slot.within); sees = go sees } })
         where
           same : volume (placed ps (point ps p) (ghost_of t k)) ≡ side_of ps (face_off t k) p
           same = ghost_volume ps p t k (ghost_of t k) slot.within (ghost_list t k slot.within)
 
-          go : Sees lifts ps p (face_off t k) slot.is_hull.behind → (pos 0 <ℤ volume (placed ps (point ps p) (ghost_of t k))) ⊎ ((volume (placed ps (point ps p) (ghost_of t k)) ≡ pos 0) × IsInnerTaken lifts slots ps p s k)
+          go : LowestSees lifts ps p (face_off t k) slot.is_hull.behind → (pos 0 <ℤ volume (placed ps (point ps p) (ghost_of t k))) ⊎ ((volume (placed ps (point ps p) (ghost_of t k)) ≡ pos 0) × IsLowestInnerTaken lifts slots ps p s k)
           go (inl over) = inl (subst (λ z. pos 0 <ℤ z) (sym same) over)
           go (inr level) =
-              let b = some_side (side slots s k) (now.linked s k (rw slot.is refl) slot.within) in
+              let b = some_side (link_behind slots s k) (now.linked s k (rw slot.is refl) slot.within) in
               inr (same ∙ level.0, inner_from level.1 b.0 b.1)

@@ -13,7 +13,7 @@ use Rattle.mesh_arena.specs.Mesh.{SlotValue, corner_list}
 use Rattle.mesh_arena.specs.declared.slot.Corner.{Corner}
 use Rattle.mesh_arena.specs.declared.slot.Corner.TheVariants.{Point as Numbered, Ghost}
 use Rattle.mesh_arena.specs.declared.slot.SlotCorners.{SlotCorners}
-use Rattle.point_locate.specs.Place.{IsOn, AreOn, AreCornersOn, corner_point, placed, row_corners, IsInside, IsBeyond, IsPlace, IsSomePlace}
+use Rattle.point_locate.specs.Place.{IsCornerOn, AreOn, AreCornersOn, corner_point, placed, row_corners, IsInside, IsBeyond, IsPlace, IsSomePlace}
 use Rattle.point_locate.specs.declared.walk.Place.{Place}
 use Rattle.point_locate.specs.declared.walk.Place.TheVariants.{Inside, Beyond}
 use Rattle.mesh_laws.specs.Living.{IsDelaunayMesh}
@@ -38,7 +38,7 @@ module _ (ps : List Point) (q : Point) where
       let d = same_point row.d (on 3 (omega arith)) in
       λ j. record { a = a j; b = b j; c = c j; d = d j }
 
-  same_corner : (c : Corner) → IsOn ps c → corner_point longer q c ≡ corner_point ps q c
+  same_corner : (c : Corner) → IsCornerOn ps c → corner_point longer q c ≡ corner_point ps q c
   same_corner (Numbered i) on = same_point i on
   same_corner Ghost on = refl
 

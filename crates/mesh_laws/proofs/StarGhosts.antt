@@ -7,23 +7,23 @@ use Rattle.geo_laws.specs.Height.{IsLowestAmong}
 use Rattle.geo_laws.specs.declared.tetrahedra.Tet.{Tet as Row}
 use Rattle.geo_laws.proofs.Places.{number, with_number}
 use Rattle.geo_laws.specs.OrientedFace.{Face, reversed}
-use Rattle.insert_laws.specs.LowestInsertion.{IsNew, IsHullFace, IsHullRim, edge_and}
+use Rattle.insert_laws.specs.LowestInsertion.{IsNew, IsLowestHullFace, IsLowestHullRim, edge_and}
 use Rattle.insert_laws.proofs.FacePencil.{side_of, side_of-reversed}
 use Rattle.insert_laws.proofs.Beyond.{turn, side-turn}
 use Rattle.insert_laws.proofs.LowestStart.{law_hull_turn}
 use Rattle.insert_laws.proofs.HullLaws.{law_new_hull}
-use Rattle.mesh_arena.specs.Mesh.{SlotValue, at, IsMesh}
+use Rattle.mesh_arena.specs.Mesh.{SlotValue, at, IsArenaMesh}
 use Rattle.mesh_arena.specs.Star.{rim_at}
-use Rattle.mesh_arena.specs.Cavity.{IsIn}
+use Rattle.mesh_arena.specs.Cavity.{IsInCavitySlots}
 use Rattle.mesh_arena.specs.Replace.{Replaces}
 use Rattle.mesh_arena.specs.declared.arena.SlotFace.{SlotFace}
 use Rattle.mesh_arena.specs.declared.slot.Corner.TheVariants.{Point as Numbered, Ghost}
 use Rattle.mesh_arena.specs.declared.slot.Slot.{Slot}
 use Rattle.mesh_arena.specs.declared.slot.RimFace.{RimFace}
 use Rattle.point_locate.specs.Place.{row_corners}
-use Rattle.mesh_laws.specs.LowestRule.{IsTaken}
+use Rattle.mesh_laws.specs.LowestRule.{IsLowestTaken}
 use Rattle.mesh_laws.specs.Reach.{Grown}
-use Rattle.mesh_laws.specs.LowestLiving.{face_off, IsFaceCorner, HasSameFaceCorners, IsGhostSlot, IsLowestMesh}
+use Rattle.mesh_laws.specs.LowestLiving.{face_off, IsFaceCorner, HasSameFaceCorners, IsLowestGhostSlot, IsLowestMesh}
 use Rattle.mesh_laws.proofs.LowestFaces.{AreApart, hull_apart, place_of}
 use Rattle.mesh_laws.proofs.LowestJoined.{same_back, same_then}
 use Rattle.mesh_laws.proofs.NextHull.{turned_corners, turned_twice}
@@ -44,21 +44,21 @@ named_same f g (inr (inl e)) = subst (HasSameFaceCorners f) e (turned_corners f)
 named_same f g (inr (inr e)) = subst (HasSameFaceCorners f) e (turned_twice f)
 
 module _ (lifts : ℕ → ℤ) (ps : List Point) (ms : List ℕ) (within : AreNumbersOf ps ms) where
-  turned : (f : Face) → IsHullFace lifts ps ms f → IsHullFace lifts ps ms (turn f)
+  turned : (f : Face) → IsLowestHullFace lifts ps ms f → IsLowestHullFace lifts ps ms (turn f)
   turned f h = law_hull_turn lifts ps ms within f.a f.b f.c h
 
-  named_to : (f g : Face) → IsNamed f g → IsHullFace lifts ps ms f → IsHullFace lifts ps ms g
-  named_to f g (inl e) h = subst (IsHullFace lifts ps ms) e h
-  named_to f g (inr (inl e)) h = subst (IsHullFace lifts ps ms) e (turned f h)
-  named_to f g (inr (inr e)) h = subst (IsHullFace lifts ps ms) e (turned (turn f) (turned f h))
+  named_to : (f g : Face) → IsNamed f g → IsLowestHullFace lifts ps ms f → IsLowestHullFace lifts ps ms g
+  named_to f g (inl e) h = subst (IsLowestHullFace lifts ps ms) e h
+  named_to f g (inr (inl e)) h = subst (IsLowestHullFace lifts ps ms) e (turned f h)
+  named_to f g (inr (inr e)) h = subst (IsLowestHullFace lifts ps ms) e (turned (turn f) (turned f h))
 
-  named_back : (f g : Face) → IsNamed f g → IsHullFace lifts ps ms g → IsHullFace lifts ps ms f
-  named_back f g (inl e) h = subst (IsHullFace lifts ps ms) (sym e) h
-  named_back f g (inr (inl e)) h = turned (turn (turn f)) (turned (turn f) (subst (IsHullFace lifts ps ms) (sym e) h))
-  named_back f g (inr (inr e)) h = turned (turn (turn f)) (subst (IsHullFace lifts ps ms) (sym e) h)
+  named_back : (f g : Face) → IsNamed f g → IsLowestHullFace lifts ps ms g → IsLowestHullFace lifts ps ms f
+  named_back f g (inl e) h = subst (IsLowestHullFace lifts ps ms) (sym e) h
+  named_back f g (inr (inl e)) h = turned (turn (turn f)) (turned (turn f) (subst (IsLowestHullFace lifts ps ms) (sym e) h))
+  named_back f g (inr (inr e)) h = turned (turn (turn f)) (subst (IsLowestHullFace lifts ps ms) (sym e) h)
 
 -- two hull faces with the same corners, named from the same one, are on the same edge
-pub same_edge : (lifts : ℕ → ℤ) (ps : List Point) (ms : List ℕ) (i j k l o : ℕ) → IsHullFace lifts ps ms (edge_and i j o) → IsHullFace lifts ps ms (edge_and k l o) → HasSameFaceCorners (edge_and i j o) (edge_and k l o) → (i ≡ k) × (j ≡ l)
+pub same_edge : (lifts : ℕ → ℤ) (ps : List Point) (ms : List ℕ) (i j k l o : ℕ) → IsLowestHullFace lifts ps ms (edge_and i j o) → IsLowestHullFace lifts ps ms (edge_and k l o) → HasSameFaceCorners (edge_and i j o) (edge_and k l o) → (i ≡ k) × (j ≡ l)
 same_edge lifts ps ms i j k l o h g same = by ((same i).0 (inl refl)) ((same j).0 (inr (inl refl)))
   where
     d : AreApart (edge_and i j o)
@@ -118,14 +118,14 @@ edge_off t (suc (suc (suc (suc l)))) k p h g n = absurd (omega arith)
 
 -- ---- the faces of the rim
 
-module _ (lifts : ℕ → ℤ) (old new : List (Option SlotValue)) (ps : List Point) (ms : List ℕ) (p start : ℕ) (cavity : List Slot) (rim : List RimFace) (s : ℕ) (mesh : IsMesh old) (now : IsLowestMesh lifts old ps ms) (fresh : IsNew ps ms p) (grown : Grown old (IsTaken lifts old ps p) start cavity rim) (whole : (u : ℕ) → IsTaken lifts old ps p u → IsIn cavity u) (star : Replaces old new cavity rim (Numbered p) s) (within_new : AreNumbersOf ps (p ∷ ms)) (some : Row) (some_is : IsLowestAmong ps ms lifts some) where
+module _ (lifts : ℕ → ℤ) (old new : List (Option SlotValue)) (ps : List Point) (ms : List ℕ) (p start : ℕ) (cavity : List Slot) (rim : List RimFace) (s : ℕ) (mesh : IsArenaMesh old) (now : IsLowestMesh lifts old ps ms) (fresh : IsNew ps ms p) (grown : Grown old (IsLowestTaken lifts old ps p) start cavity rim) (whole : (u : ℕ) → IsLowestTaken lifts old ps p u → IsInCavitySlots cavity u) (star : Replaces old new cavity rim (Numbered p) s) (within_new : AreNumbersOf ps (p ∷ ms)) (some : Row) (some_is : IsLowestAmong ps ms lifts some) where
   -- the face r has the point at infinity: behind it is a ghost, and the face is no hull face
   pub record IsEdgeOver (r : ℕ) : Type 0 where
     pub inner : SlotFace
     pub is_behind : IsBehind lifts old new ps ms p start cavity rim s mesh now fresh grown whole star r inner
     pub row : Row
     pub place : ℕ
-    pub slot : IsGhostSlot lifts old ps ms inner.slot row place
+    pub slot : IsLowestGhostSlot lifts old ps ms inner.slot row place
     pub off : inner.face ≢ place
 
   module _ (r : ℕ) (x : IsEdgeOver r) where
@@ -136,7 +136,7 @@ module _ (lifts : ℕ → ℤ) (old new : List (Option SlotValue)) (ps : List Po
     abbrev old_face : Face
     old_face = edge_and edge.j edge.i (number x.row (place_of x.inner.face))
 
-    old_hull : IsHullFace lifts ps ms old_face
+    old_hull : IsLowestHullFace lifts ps ms old_face
     old_hull = named_to lifts ps ms now.within (face_off x.row x.place) old_face edge.named x.slot.is_hull
 
     old_same : HasSameFaceCorners (face_off x.row x.place) old_face
@@ -159,10 +159,10 @@ module _ (lifts : ℕ → ℤ) (old new : List (Option SlotValue)) (ps : List Po
     pub is_edge : IsEdge lifts old ps ms rim r edge.j edge.i
     is_edge = edge_across lifts old ps ms mesh now edge.i edge.j x.inner.slot x.inner.face (at (rim_at rim r).slot.index (rim_at rim r).face) over_edge x.is_behind.back
 
-    is_hull_rim : IsHullRim lifts ps ms p edge.j edge.i
+    is_hull_rim : IsLowestHullRim lifts ps ms p edge.j edge.i
     is_hull_rim = edge_rim lifts old ps ms mesh now rim p start cavity fresh grown (whole_from lifts old new ps ms p start cavity rim s mesh now fresh grown whole star) r edge.j edge.i x.is_behind.inside is_edge
 
-    pub new_hull : IsHullFace lifts ps (p ∷ ms) (edge_and edge.j edge.i p)
+    pub new_hull : IsLowestHullFace lifts ps (p ∷ ms) (edge_and edge.j edge.i p)
     new_hull = (law_new_hull lifts ps ms p fresh some some_is edge.j edge.i).1 is_hull_rim
 
     -- the corners of the slot over it, one of them the point at infinity
@@ -173,7 +173,7 @@ module _ (lifts : ℕ → ℤ) (old new : List (Option SlotValue)) (ps : List Po
     new_same = named_same (face_off star_four x.place) (edge_and edge.j edge.i p) edge.named_new
 
     -- the slot is the ghost of the edge and p
-    pub ghost_slot : IsGhostSlot lifts new ps (p ∷ ms) (made lifts old new ps ms p start cavity rim s mesh now fresh grown whole star r) star_four x.place
+    pub ghost_slot : IsLowestGhostSlot lifts new ps (p ∷ ms) (made lifts old new ps ms p start cavity rim s mesh now fresh grown whole star r) star_four x.place
     ghost_slot = record {
       within = x.slot.within;
       is = x.is_behind.corners ∙ ap (option_map (λ cs. set cs x.inner.face (Numbered p))) x.slot.is ∙ ap Some edge.corners;
@@ -211,7 +211,7 @@ module _ (lifts : ℕ → ℤ) (old new : List (Option SlotValue)) (ps : List Po
     pub over : IsEdgeOver face
     pub same : HasSameFaceCorners (face_off (star_four face over) over.place) (edge_and i j p)
 
-  pub edge_over : (i j : ℕ) → IsHullRim lifts ps ms p i j → HasEdgeOver i j
+  pub edge_over : (i j : ℕ) → IsLowestHullRim lifts ps ms p i j → HasEdgeOver i j
   edge_over i j h = record { face = r.0; over = x; same = subst (λ m. HasSameFaceCorners (face_off (star_four r.0 x) x.place) (edge_and i m p)) one.1 (subst (λ m. HasSameFaceCorners (face_off (star_four r.0 x) x.place) (edge_and m (edge r.0 x).i p)) one.0 (new_same r.0 x)) }
     where
       r : (q : ℕ) × (q < length rim) × IsEdge lifts old ps ms rim q i j
@@ -230,8 +230,8 @@ module _ (lifts : ℕ → ℤ) (old new : List (Option SlotValue)) (ps : List Po
       apex : ℕ
       apex = number v.row (place_of b.0.face)
 
-      seen : IsHullFace lifts ps ms (edge_and i j apex)
-      seen = subst (λ m. IsHullFace lifts ps ms (edge_and i j m)) (sym v.is) v.hull
+      seen : IsLowestHullFace lifts ps ms (edge_and i j apex)
+      seen = subst (λ m. IsLowestHullFace lifts ps ms (edge_and i j m)) (sym v.is) v.hull
 
       on_seen : HasSameFaceCorners (face_off v.row v.place) (edge_and i j apex)
       on_seen = subst (λ m. HasSameFaceCorners (face_off v.row v.place) (edge_and i j m)) (sym v.is) v.same

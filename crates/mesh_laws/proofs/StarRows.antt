@@ -13,13 +13,13 @@ use Rattle.geo_laws.proofs.Corners.{AreDistinct, distinct}
 use Rattle.geo_laws.proofs.Determinants.{volume-replaced}
 use Rattle.geo_laws.proofs.Arrangement.{arranged, even_positive}
 use Rattle.geo_laws.specs.OrientedFace.{Face, reversed, beside}
-use Rattle.insert_laws.specs.LowestInsertion.{HasSameCorners, IsNew, IsRimFace}
+use Rattle.insert_laws.specs.LowestInsertion.{HasSameCorners, IsNew, IsLowestRimFace}
 use Rattle.insert_laws.proofs.FacePencil.{side_of}
 use Rattle.insert_laws.proofs.LowestInsert.{law_rim, law_insertion}
 use Rattle.insert_laws.proofs.LowestBridge.{same_of_even}
-use Rattle.mesh_arena.specs.Mesh.{SlotValue, corners_at, side, at, IsMesh}
+use Rattle.mesh_arena.specs.Mesh.{SlotValue, corners_at, link_behind, at, IsArenaMesh}
 use Rattle.mesh_arena.specs.Star.{behind, rim_at, behind_rim}
-use Rattle.mesh_arena.specs.Cavity.{IsIn}
+use Rattle.mesh_arena.specs.Cavity.{IsInCavitySlots}
 use Rattle.mesh_arena.specs.Replace.{Replaces}
 use Rattle.mesh_arena.specs.declared.arena.SlotFace.{SlotFace}
 use Rattle.mesh_arena.specs.declared.slot.Corner.TheVariants.{Point as Numbered, Ghost}
@@ -27,10 +27,10 @@ use Rattle.mesh_arena.specs.declared.slot.Slot.{Slot}
 use Rattle.mesh_arena.specs.declared.slot.RimFace.{RimFace}
 use Rattle.mesh_arena.proofs.Mesh.{side_live}
 use Rattle.point_locate.specs.Place.{row_corners}
-use Rattle.mesh_laws.specs.LowestRule.{IsTaken}
+use Rattle.mesh_laws.specs.LowestRule.{IsLowestTaken}
 use Rattle.mesh_laws.specs.Reach.{Reach, first, Grown}
-use Rattle.mesh_laws.specs.LowestLiving.{face_off, IsFaceCorner, HasSameFaceCorners, IsRowSlot, IsGhostSlot, IsLowestMesh}
-use Rattle.mesh_laws.specs.LowestLaws.{IsWholeFrom}
+use Rattle.mesh_laws.specs.LowestLiving.{face_off, IsFaceCorner, HasSameFaceCorners, IsLowestRowSlot, IsLowestGhostSlot, IsLowestMesh}
+use Rattle.mesh_laws.specs.LowestLaws.{IsLowestWholeFrom}
 use Rattle.mesh_laws.proofs.LowestFaces.{Agree, faces_agree, place_of, beside_same, triangle_off, row_off, same_trans}
 use Rattle.mesh_laws.proofs.OverFace.{IsOver, row_over, ghost_over, reversed_sides, reversed_same, over_named, over_across}
 use Rattle.mesh_laws.proofs.RimNames.{IsTriangle, triangle_rim, one_triangle}
@@ -71,15 +71,15 @@ no_both m n e h k = omega (arith, ints)
 
 -- ---- the faces of the rim
 
-module _ (lifts : ℕ → ℤ) (old new : List (Option SlotValue)) (ps : List Point) (ms : List ℕ) (p start : ℕ) (cavity : List Slot) (rim : List RimFace) (s : ℕ) (mesh : IsMesh old) (now : IsLowestMesh lifts old ps ms) (fresh : IsNew ps ms p) (grown : Grown old (IsTaken lifts old ps p) start cavity rim) (whole : (u : ℕ) → IsTaken lifts old ps p u → IsIn cavity u) (star : Replaces old new cavity rim (Numbered p) s) where
-  pub in_taken : (u : ℕ) → IsIn cavity u → IsTaken lifts old ps p u
-  in_taken u found = subst (IsTaken lifts old ps p) found.is (grown.taken found.place found.inside)
+module _ (lifts : ℕ → ℤ) (old new : List (Option SlotValue)) (ps : List Point) (ms : List ℕ) (p start : ℕ) (cavity : List Slot) (rim : List RimFace) (s : ℕ) (mesh : IsArenaMesh old) (now : IsLowestMesh lifts old ps ms) (fresh : IsNew ps ms p) (grown : Grown old (IsLowestTaken lifts old ps p) start cavity rim) (whole : (u : ℕ) → IsLowestTaken lifts old ps p u → IsInCavitySlots cavity u) (star : Replaces old new cavity rim (Numbered p) s) where
+  pub in_taken : (u : ℕ) → IsInCavitySlots cavity u → IsLowestTaken lifts old ps p u
+  in_taken u found = subst (IsLowestTaken lifts old ps p) found.is (grown.taken found.place found.inside)
 
-  pub out_free : (u : ℕ) → (IsIn cavity u → ⊥) → IsTaken lifts old ps p u → ⊥
+  pub out_free : (u : ℕ) → (IsInCavitySlots cavity u → ⊥) → IsLowestTaken lifts old ps p u → ⊥
   out_free u out taken = out (whole u taken)
 
-  pub whole_from : IsWholeFrom lifts old ps p start
-  whole_from = record { takes_start = in_taken start (grown.all start first); all = λ u taken. let found = whole u taken in subst (Reach old (IsTaken lifts old ps p) start) found.is (grown.reached found.place found.inside) }
+  pub whole_from : IsLowestWholeFrom lifts old ps p start
+  whole_from = record { takes_start = in_taken start (grown.all start first); all = λ u taken. let found = whole u taken in subst (Reach old (IsLowestTaken lifts old ps p) start) found.is (grown.reached found.place found.inside) }
 
   -- the slot that surgery puts over the face r of the rim
   abbrev pub made : ℕ → ℕ
@@ -88,8 +88,8 @@ module _ (lifts : ℕ → ℤ) (old new : List (Option SlotValue)) (ps : List Po
   -- the slot and face behind the face r, in the cavity
   pub record IsBehind (r : ℕ) (b : SlotFace) : Type 0 where
     pub inside : r < length rim
-    pub is : side old (rim_at rim r).slot.index (rim_at rim r).face ≡ Some b
-    pub back : side old b.slot b.face ≡ Some (at (rim_at rim r).slot.index (rim_at rim r).face)
+    pub is : link_behind old (rim_at rim r).slot.index (rim_at rim r).face ≡ Some b
+    pub back : link_behind old b.slot b.face ≡ Some (at (rim_at rim r).slot.index (rim_at rim r).face)
     pub within : b.face < 4
     pub corners : corners_at new (made r) ≡ option_map (λ cs. set cs b.face (Numbered p)) (corners_at old b.slot)
 
@@ -115,7 +115,7 @@ module _ (lifts : ℕ → ℤ) (old new : List (Option SlotValue)) (ps : List Po
     pub inner : SlotFace
     pub is_behind : IsBehind r inner
     pub row : Row
-    pub slot : IsRowSlot lifts old ps ms inner.slot row ⊎ IsGhostSlot lifts old ps ms inner.slot row inner.face
+    pub slot : IsLowestRowSlot lifts old ps ms inner.slot row ⊎ IsLowestGhostSlot lifts old ps ms inner.slot row inner.face
 
   module _ (r : ℕ) (x : IsRowOver r) where
     -- the face, turned to the cavity
@@ -129,14 +129,14 @@ module _ (lifts : ℕ → ℤ) (old new : List (Option SlotValue)) (ps : List Po
     is_over : IsOver lifts old ps ms rim_face x.inner.slot x.inner.face
     is_over = by x.slot
       where
-        by : IsRowSlot lifts old ps ms x.inner.slot x.row ⊎ IsGhostSlot lifts old ps ms x.inner.slot x.row x.inner.face → IsOver lifts old ps ms (face_off x.row x.inner.face) x.inner.slot x.inner.face
+        by : IsLowestRowSlot lifts old ps ms x.inner.slot x.row ⊎ IsLowestGhostSlot lifts old ps ms x.inner.slot x.row x.inner.face → IsOver lifts old ps ms (face_off x.row x.inner.face) x.inner.slot x.inner.face
         by (inl row) = row_over x.row row x.is_behind.within (λ i. (λ c. c, λ c. c)) (row_off ps x.row row.row x.inner.face x.is_behind.within row.is_positive row.same_corners)
         by (inr ghost) = ghost_over x.row ghost (λ i. (λ c. c, λ c. c)) ghost.is_hull
 
     pub is_triangle : IsTriangle lifts old ps ms rim r rim_face
     is_triangle = over_across lifts old ps ms mesh now rim_face x.inner.slot x.inner.face (at (rim_at rim r).slot.index (rim_at rim r).face) is_over x.is_behind.back
 
-    is_rim : IsRimFace lifts ps ms p rim_face
+    is_rim : IsLowestRimFace lifts ps ms p rim_face
     is_rim = triangle_rim lifts old ps ms mesh now rim p start cavity fresh grown whole_from r rim_face x.is_behind.inside is_triangle
 
     pub rim_positive : pos 0 <ℤ side_of ps rim_face p
@@ -148,7 +148,7 @@ module _ (lifts : ℕ → ℤ) (old new : List (Option SlotValue)) (ps : List Po
     pub star_corners : corners_at new (made r) ≡ Some (row_corners star_row)
     star_corners = by x.slot
       where
-        by : IsRowSlot lifts old ps ms x.inner.slot x.row ⊎ IsGhostSlot lifts old ps ms x.inner.slot x.row x.inner.face → corners_at new (made r) ≡ Some (row_corners star_row)
+        by : IsLowestRowSlot lifts old ps ms x.inner.slot x.row ⊎ IsLowestGhostSlot lifts old ps ms x.inner.slot x.row x.inner.face → corners_at new (made r) ≡ Some (row_corners star_row)
         by (inl row) = x.is_behind.corners ∙ ap (option_map (λ cs. set cs x.inner.face (Numbered p))) row.is ∙ ap Some (set_corner x.row x.inner.face p x.is_behind.within)
         by (inr ghost) =
             x.is_behind.corners
@@ -162,11 +162,11 @@ module _ (lifts : ℕ → ℤ) (old new : List (Option SlotValue)) (ps : List Po
         corner : HasSameCorners (beside rim_face p) star_row
         corner = beside_with x.row x.inner.face p x.is_behind.within
 
-    abbrev pub row_slot : (row : Row) → IsLowestAmong ps (p ∷ ms) lifts row → HasSameCorners (beside rim_face p) row → IsRowSlot lifts new ps (p ∷ ms) (made r) star_row
+    abbrev pub row_slot : (row : Row) → IsLowestAmong ps (p ∷ ms) lifts row → HasSameCorners (beside rim_face p) row → IsLowestRowSlot lifts new ps (p ∷ ms) (made r) star_row
     row_slot row is_row same = record { is = star_corners; row = row; is_row = is_row; same_corners = row_corner row same; is_positive = star_positive }
 
     -- and there is one
-    pub some_row : (some : Row) → IsLowestAmong ps ms lifts some → IsRowSlot lifts new ps (p ∷ ms) (made r) star_row
+    pub some_row : (some : Row) → IsLowestAmong ps ms lifts some → IsLowestRowSlot lifts new ps (p ∷ ms) (made r) star_row
     some_row some is =
         let t = arranged ps star_row star_positive in
         let same = same_trans (beside rim_face p) star_row t.0 (beside_with x.row x.inner.face p x.is_behind.within) (same_of_even ps star_row t.0 t.1) in

@@ -1,14 +1,14 @@
 -- A slot is a row or a ghost, and a ghost has the point at infinity in one place.
 use Rattle.std.proofs.Common.{◌≡◌, ◌↔◌, inl, inr, ℕ, ◌<◌, List, get_or, Bool, IsTrue, Option, Some, refl, sym, ap, subst, ◌∙◌}
 use Rattle.sign_predicates.specs.Point.{Point}
-use Rattle.mesh_arena.specs.Mesh.{SlotValue, corners_at, corner_list, IsLive, IsMesh}
+use Rattle.mesh_arena.specs.Mesh.{SlotValue, corners_at, corner_list, IsLive, IsArenaMesh}
 use Rattle.mesh_arena.specs.declared.slot.Corner.TheVariants.{Ghost}
 use Rattle.mesh_arena.specs.declared.slot.SlotCorners.{SlotCorners}
 use Rattle.mesh_laws.proofs.LowestTaken.{one_ghost}
 use Rattle.mesh_laws.specs.Rule.{IsSeen, IsTaken}
 pub use Rattle.mesh_laws.proofs.LowestTaken.{no_ghost, same_corners}
 
-pub taken_ghost : (slots : List (Option SlotValue)) (ps : List Point) (p : Point) (number s : ℕ) (t : SlotCorners) (place : ℕ) (b : Bool) → IsMesh slots → corners_at slots s ≡ Some (corner_list t) → place < 4 → get_or (corner_list t) place Ghost ≡ Ghost → IsTrue b ↔ IsSeen slots ps p number s place → IsTrue b ↔ IsTaken slots ps p number s
+pub taken_ghost : (slots : List (Option SlotValue)) (ps : List Point) (p : Point) (number s : ℕ) (t : SlotCorners) (place : ℕ) (b : Bool) → IsArenaMesh slots → corners_at slots s ≡ Some (corner_list t) → place < 4 → get_or (corner_list t) place Ghost ≡ Ghost → IsTrue b ↔ IsSeen slots ps p number s place → IsTrue b ↔ IsTaken slots ps p number s
 taken_ghost slots ps p number s t place b mesh is within infinite seen = (to, from)
   where
     to : IsTrue b → IsTaken slots ps p number s

@@ -8,7 +8,7 @@ use Rattle.insert_laws.proofs.Start.{law_start}
 use Rattle.point_locate.specs.Place.{IsPlace}
 use Rattle.point_locate.specs.declared.walk.Place.{Place}
 use Rattle.point_locate.specs.declared.walk.Place.TheVariants.{Inside, Beyond}
-use Rattle.mesh_laws.specs.LowestRule.{IsTaken}
+use Rattle.mesh_laws.specs.LowestRule.{IsLowestTaken}
 use Rattle.mesh_laws.specs.LowestLiving.{IsLowestMesh}
 use Rattle.mesh_laws.proofs.LowestRows.{taken_row}
 use Rattle.mesh_laws.proofs.LowestWhole as lowest
@@ -21,7 +21,7 @@ law_cavity slots ps ms p mesh now new apart place here = whole_from slots ps ms 
     low : IsLowestMesh (lifted ps) slots ps ms
     low = mesh_of slots ps ms now
 
-    taken : (place : Place) → IsPlace slots ps (point ps p) place → IsTaken (lifted ps) slots ps p (slot_of place)
+    taken : (place : Place) → IsPlace slots ps (point ps p) place → IsLowestTaken (lifted ps) slots ps p (slot_of place)
     taken (Inside s) inside =
         let round = lowest.row_round (lifted ps) slots ps ms p mesh low new s.index inside in
         let row = delaunay_of ps ms now.within round.1.row round.1.is_row in

@@ -3,7 +3,7 @@ use Rattle.std.specs.Prelude.{◌≢◌, ℕ, ◌<◌, List, length, Option, Con
 use Rattle.sign_predicates.specs.Point.{Point}
 use Rattle.geo_laws.specs.Delaunay.{point}
 use Rattle.insert_laws.specs.Insertion.{IsNew}
-use Rattle.mesh_arena.specs.Mesh.{SlotValue, IsMesh}
+use Rattle.mesh_arena.specs.Mesh.{SlotValue, IsArenaMesh}
 use Rattle.mesh_arena.specs.declared.slot.Slot.{Slot}
 use Rattle.mesh_arena.specs.declared.slot.RimFace.{RimFace}
 use Rattle.point_locate.specs.Place.{IsPlace}
@@ -20,12 +20,12 @@ pub record IsWholeFrom (slots : List (Option SlotValue)) (ps : List Point) (p st
 
 -- From the place of a new point, which is none of the points there, the search finds all that the point takes
 abbrev pub CavityLaw : Type 0
-CavityLaw = (slots : List (Option SlotValue)) (ps : List Point) (ms : List ℕ) (p : ℕ) → IsMesh slots → IsDelaunayMesh slots ps ms
+CavityLaw = (slots : List (Option SlotValue)) (ps : List Point) (ms : List ℕ) (p : ℕ) → IsArenaMesh slots → IsDelaunayMesh slots ps ms
     → IsNew ps ms p → ((i : ℕ) → Contains ms i → point ps i ≢ point ps p)
     → (place : Place) → IsPlace slots ps (point ps p) place → IsWholeFrom slots ps p (slot_of place)
 
 -- a cavity that was grown in a Delaunay mesh is cut out, if it has a rim
 abbrev pub CutOutLaw : Type 0
 CutOutLaw = (slots : List (Option SlotValue)) (ps : List Point) (ms : List ℕ) (p start : ℕ) (cavity : List Slot) (rim : List RimFace)
-    → IsMesh slots → IsDelaunayMesh slots ps ms → IsNew ps ms p
+    → IsArenaMesh slots → IsDelaunayMesh slots ps ms → IsNew ps ms p
     → Grown slots (IsTaken slots ps (point ps p) p) start cavity rim → 0 < length rim → IsCutOut slots cavity rim p

@@ -7,7 +7,7 @@ use Rattle.geo_laws.specs.Delaunay.{corners, AreNumbersOf, IsDelaunayAmong}
 use Rattle.geo_laws.specs.declared.tetrahedra.Tet.{Tet as Row}
 use Rattle.geo_laws.specs.OrientedFace.{Face}
 use Rattle.insert_laws.specs.Insertion.{HasSameCorners, IsHullFace}
-use Rattle.mesh_arena.specs.Mesh.{SlotValue, corners_at, IsLive, side}
+use Rattle.mesh_arena.specs.Mesh.{SlotValue, corners_at, IsLive, link_behind}
 use Rattle.mesh_arena.specs.declared.slot.Corner.TheVariants.{Ghost}
 use Rattle.point_locate.specs.Place.{row_corners}
 pub use Rattle.mesh_laws.specs.LowestLiving.{face_off, IsFaceCorner, HasSameFaceCorners}
@@ -37,4 +37,4 @@ pub record IsDelaunayMesh (slots : List (Option SlotValue)) (ps : List Point) (m
       × HasSameFaceCorners (face_off t k) f
   pub one_ghost : (s u : ℕ) (t r : Row) (k j : ℕ) → IsGhostSlot slots ps ms s t k → IsGhostSlot slots ps ms u r j
       → HasSameFaceCorners (face_off t k) (face_off r j) → s ≡ u
-  pub linked : (s k : ℕ) → IsLive slots s → k < 4 → IsSome (side slots s k)
+  pub linked : (s k : ℕ) → IsLive slots s → k < 4 → IsSome (link_behind slots s k)

@@ -3,7 +3,7 @@ use Rattle.std.specs.Prelude.{ℕ, ◌<◌, ℤ, List, ◌∷◌, length, Option
 use Rattle.sign_predicates.specs.Point.{Point}
 use Rattle.geo_laws.specs.Delaunay.{point}
 use Rattle.insert_laws.specs.LowestInsertion.{IsNew}
-use Rattle.mesh_arena.specs.Mesh.{SlotValue, IsMesh}
+use Rattle.mesh_arena.specs.Mesh.{SlotValue, IsArenaMesh}
 use Rattle.mesh_arena.specs.Replace.{IsCavity, IsRim, IsOffRim}
 use Rattle.mesh_arena.specs.declared.slot.Corner.TheVariants.{Point as Numbered}
 use Rattle.mesh_arena.specs.declared.slot.Slot.{Slot}
@@ -11,7 +11,7 @@ use Rattle.mesh_arena.specs.declared.slot.RimFace.{RimFace}
 use Rattle.point_locate.specs.Place.{IsPlace}
 use Rattle.point_locate.specs.declared.walk.Place.{Place}
 use Rattle.point_locate.specs.declared.walk.Place.TheVariants.{Inside, Beyond}
-use Rattle.mesh_laws.specs.LowestRule.{IsTaken}
+use Rattle.mesh_laws.specs.LowestRule.{IsLowestTaken}
 use Rattle.mesh_laws.specs.Reach.{Reach, Grown}
 use Rattle.mesh_laws.specs.LowestLiving.{IsLowestMesh}
 
@@ -21,22 +21,22 @@ slot_of (Inside s) = s.index
 slot_of (Beyond s) = s.index
 
 -- the point takes the start, and each slot that it takes is reached from there
-pub record IsWholeFrom (lifts : ℕ → ℤ) (slots : List (Option SlotValue)) (ps : List Point) (p start : ℕ) : Type 0 where
-  pub takes_start : IsTaken lifts slots ps p start
-  pub all : (u : ℕ) → IsTaken lifts slots ps p u → Reach slots (IsTaken lifts slots ps p) start u
+pub record IsLowestWholeFrom (lifts : ℕ → ℤ) (slots : List (Option SlotValue)) (ps : List Point) (p start : ℕ) : Type 0 where
+  pub takes_start : IsLowestTaken lifts slots ps p start
+  pub all : (u : ℕ) → IsLowestTaken lifts slots ps p u → Reach slots (IsLowestTaken lifts slots ps p) start u
 
 -- From the place of a new point, if its slot is taken, the search finds all that the point takes
-abbrev pub CavityLaw : Type 0
-CavityLaw = (lifts : ℕ → ℤ) (slots : List (Option SlotValue)) (ps : List Point) (ms : List ℕ) (p : ℕ) → IsMesh slots
+abbrev pub LowestCavityLaw : Type 0
+LowestCavityLaw = (lifts : ℕ → ℤ) (slots : List (Option SlotValue)) (ps : List Point) (ms : List ℕ) (p : ℕ) → IsArenaMesh slots
     → IsLowestMesh lifts slots ps ms
-    → IsNew ps ms p → (place : Place) → IsPlace slots ps (point ps p) place → IsTaken lifts slots ps p (slot_of place)
-    → IsWholeFrom lifts slots ps p (slot_of place)
+    → IsNew ps ms p → (place : Place) → IsPlace slots ps (point ps p) place → IsLowestTaken lifts slots ps p (slot_of place)
+    → IsLowestWholeFrom lifts slots ps p (slot_of place)
 
 -- And if it is not taken, the point is hidden: the mesh is that with the point as it stands
 abbrev pub HiddenPointLaw : Type 0
-HiddenPointLaw = (lifts : ℕ → ℤ) (slots : List (Option SlotValue)) (ps : List Point) (ms : List ℕ) (p : ℕ) → IsMesh slots
+HiddenPointLaw = (lifts : ℕ → ℤ) (slots : List (Option SlotValue)) (ps : List Point) (ms : List ℕ) (p : ℕ) → IsArenaMesh slots
     → IsLowestMesh lifts slots ps ms
-    → IsNew ps ms p → (place : Place) → IsPlace slots ps (point ps p) place → ¬ IsTaken lifts slots ps p (slot_of place)
+    → IsNew ps ms p → (place : Place) → IsPlace slots ps (point ps p) place → ¬ IsLowestTaken lifts slots ps p (slot_of place)
     → IsLowestMesh lifts slots ps (p ∷ ms)
 
 -- what `replace_cavity` asks of a cavity and its rim, but that the rim's faces are paired
@@ -46,7 +46,7 @@ pub record IsCutOut (slots : List (Option SlotValue)) (cavity : List Slot) (rim 
   pub is_off_rim : IsOffRim slots rim (Numbered p)
 
 -- a cavity that was grown in a lowest mesh is cut out, if it has a rim
-abbrev pub CutOutLaw : Type 0
-CutOutLaw = (lifts : ℕ → ℤ) (slots : List (Option SlotValue)) (ps : List Point) (ms : List ℕ) (p start : ℕ) (cavity : List Slot) (rim : List RimFace)
-    → IsMesh slots → IsLowestMesh lifts slots ps ms → IsNew ps ms p
-    → Grown slots (IsTaken lifts slots ps p) start cavity rim → 0 < length rim → IsCutOut slots cavity rim p
+abbrev pub LowestCutOutLaw : Type 0
+LowestCutOutLaw = (lifts : ℕ → ℤ) (slots : List (Option SlotValue)) (ps : List Point) (ms : List ℕ) (p start : ℕ) (cavity : List Slot) (rim : List RimFace)
+    → IsArenaMesh slots → IsLowestMesh lifts slots ps ms → IsNew ps ms p
+    → Grown slots (IsLowestTaken lifts slots ps p) start cavity rim → 0 < length rim → IsCutOut slots cavity rim p

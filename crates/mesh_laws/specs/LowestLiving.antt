@@ -7,8 +7,8 @@ use Rattle.geo_laws.specs.Delaunay.{corners, AreNumbersOf}
 use Rattle.geo_laws.specs.Height.{IsLowestAmong}
 use Rattle.geo_laws.specs.declared.tetrahedra.Tet.{Tet as Row}
 use Rattle.geo_laws.specs.OrientedFace.{Face}
-use Rattle.insert_laws.specs.LowestInsertion.{HasSameCorners, IsHullFace}
-use Rattle.mesh_arena.specs.Mesh.{SlotValue, corners_at, IsLive, side}
+use Rattle.insert_laws.specs.LowestInsertion.{HasSameCorners, IsLowestHullFace}
+use Rattle.mesh_arena.specs.Mesh.{SlotValue, corners_at, IsLive, link_behind}
 use Rattle.mesh_arena.specs.declared.slot.Corner.TheVariants.{Ghost}
 use Rattle.point_locate.specs.Place.{row_corners}
 
@@ -28,7 +28,7 @@ abbrev pub HasSameFaceCorners : Face → Face → Type 0
 HasSameFaceCorners f g = (i : ℕ) → IsFaceCorner f i ↔ IsFaceCorner g i
 
 -- the slot has the corners of a lowest row, in the places of the four t: an even arrangement, since both are positive
-pub record IsRowSlot (lifts : ℕ → ℤ) (slots : List (Option SlotValue)) (ps : List Point) (ms : List ℕ) (s : ℕ) (t : Row) : Type 0 where
+pub record IsLowestRowSlot (lifts : ℕ → ℤ) (slots : List (Option SlotValue)) (ps : List Point) (ms : List ℕ) (s : ℕ) (t : Row) : Type 0 where
   pub is : corners_at slots s ≡ Some (row_corners t)
   pub row : Row
   pub is_row : IsLowestAmong ps ms lifts row
@@ -37,19 +37,19 @@ pub record IsRowSlot (lifts : ℕ → ℤ) (slots : List (Option SlotValue)) (ps
 
 -- the slot has the corners of a hull face, and the point at infinity in the place k of the four t, in an order that is positive where a
 -- point strictly beyond the face stands there
-pub record IsGhostSlot (lifts : ℕ → ℤ) (slots : List (Option SlotValue)) (ps : List Point) (ms : List ℕ) (s : ℕ) (t : Row) (k : ℕ) : Type 0 where
+pub record IsLowestGhostSlot (lifts : ℕ → ℤ) (slots : List (Option SlotValue)) (ps : List Point) (ms : List ℕ) (s : ℕ) (t : Row) (k : ℕ) : Type 0 where
   pub within : k < 4
   pub is : corners_at slots s ≡ Some (slice_set (row_corners t) k Ghost)
-  pub is_hull : IsHullFace lifts ps ms (face_off t k)
+  pub is_hull : IsLowestHullFace lifts ps ms (face_off t k)
 
 -- There is one slot for each row and one for each hull face, no other live slot, and each face of a live slot has a neighbor
 pub record IsLowestMesh (lifts : ℕ → ℤ) (slots : List (Option SlotValue)) (ps : List Point) (ms : List ℕ) : Type 0 where
   pub within : AreNumbersOf ps ms
-  pub each : (s : ℕ) → IsLive slots s → ((t : Row) × IsRowSlot lifts slots ps ms s t) ⊎ ((t : Row) × (k : ℕ) × IsGhostSlot lifts slots ps ms s t k)
-  pub rows : (r : Row) → IsLowestAmong ps ms lifts r → (s : ℕ) × (t : Row) × (slot : IsRowSlot lifts slots ps ms s t) × (slot.row ≡ r)
-  pub one_row : (s u : ℕ) (t r : Row) → IsRowSlot lifts slots ps ms s t → IsRowSlot lifts slots ps ms u r → HasSameCorners t r → s ≡ u
-  pub ghosts : (f : Face) → IsHullFace lifts ps ms f → (s : ℕ) × (t : Row) × (k : ℕ) × IsGhostSlot lifts slots ps ms s t k
+  pub each : (s : ℕ) → IsLive slots s → ((t : Row) × IsLowestRowSlot lifts slots ps ms s t) ⊎ ((t : Row) × (k : ℕ) × IsLowestGhostSlot lifts slots ps ms s t k)
+  pub rows : (r : Row) → IsLowestAmong ps ms lifts r → (s : ℕ) × (t : Row) × (slot : IsLowestRowSlot lifts slots ps ms s t) × (slot.row ≡ r)
+  pub one_row : (s u : ℕ) (t r : Row) → IsLowestRowSlot lifts slots ps ms s t → IsLowestRowSlot lifts slots ps ms u r → HasSameCorners t r → s ≡ u
+  pub ghosts : (f : Face) → IsLowestHullFace lifts ps ms f → (s : ℕ) × (t : Row) × (k : ℕ) × IsLowestGhostSlot lifts slots ps ms s t k
       × HasSameFaceCorners (face_off t k) f
-  pub one_ghost : (s u : ℕ) (t r : Row) (k j : ℕ) → IsGhostSlot lifts slots ps ms s t k → IsGhostSlot lifts slots ps ms u r j
+  pub one_ghost : (s u : ℕ) (t r : Row) (k j : ℕ) → IsLowestGhostSlot lifts slots ps ms s t k → IsLowestGhostSlot lifts slots ps ms u r j
       → HasSameFaceCorners (face_off t k) (face_off r j) → s ≡ u
-  pub linked : (s k : ℕ) → IsLive slots s → k < 4 → IsSome (side slots s k)
+  pub linked : (s k : ℕ) → IsLive slots s → k < 4 → IsSome (link_behind slots s k)

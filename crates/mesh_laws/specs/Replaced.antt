@@ -4,8 +4,8 @@ use Rattle.sign_predicates.specs.Point.{Point}
 use Rattle.geo_laws.specs.Delaunay.{point, IsDelaunayAmong}
 use Rattle.geo_laws.specs.declared.tetrahedra.Tet.{Tet as Row}
 use Rattle.insert_laws.specs.Insertion.{IsNew}
-use Rattle.mesh_arena.specs.Mesh.{SlotValue, IsMesh}
-use Rattle.mesh_arena.specs.Cavity.{IsIn}
+use Rattle.mesh_arena.specs.Mesh.{SlotValue, IsArenaMesh}
+use Rattle.mesh_arena.specs.Cavity.{IsInCavitySlots}
 use Rattle.mesh_arena.specs.Replace.{Replaces}
 use Rattle.mesh_arena.specs.declared.slot.Corner.TheVariants.{Point as Numbered}
 use Rattle.mesh_arena.specs.declared.slot.Slot.{Slot}
@@ -18,9 +18,9 @@ use Rattle.mesh_laws.specs.Living.{IsDelaunayMesh}
 -- is there says that the points aren't all coplanar.)
 abbrev pub ReplacedLaw : Type 0
 ReplacedLaw = (old new : List (Option SlotValue)) (ps : List Point) (ms : List ℕ) (p start : ℕ) (cavity : List Slot) (rim : List RimFace)
-    (s : ℕ) → IsMesh old → IsMesh new → IsDelaunayMesh old ps ms → IsNew ps ms p
+    (s : ℕ) → IsArenaMesh old → IsArenaMesh new → IsDelaunayMesh old ps ms → IsNew ps ms p
     → (some : Row) → IsDelaunayAmong ps ms some → Grown old (IsTaken old ps (point ps p) p) start cavity rim
-    → ((u : ℕ) → IsTaken old ps (point ps p) p u → IsIn cavity u)
+    → ((u : ℕ) → IsTaken old ps (point ps p) p u → IsInCavitySlots cavity u)
     → Replaces old new cavity rim (Numbered p) s → IsDelaunayMesh new ps (p ∷ ms)
 
 -- the order of the numbers doesn't matter

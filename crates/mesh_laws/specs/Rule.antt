@@ -6,7 +6,7 @@ use Rattle.sign_predicates.specs.Orientation.{volume}
 use Rattle.sign_predicates.specs.Sphere.{is_outside}
 use Rattle.geo_laws.specs.Delaunay.{corners, as_numbers}
 use Rattle.geo_laws.specs.declared.tetrahedra.Tet.{Tet as Row}
-use Rattle.mesh_arena.specs.Mesh.{SlotValue, corners_at, corner_list, side}
+use Rattle.mesh_arena.specs.Mesh.{SlotValue, corners_at, corner_list, link_behind}
 use Rattle.mesh_arena.specs.declared.arena.SlotFace.{SlotFace}
 use Rattle.mesh_arena.specs.declared.slot.Corner.{Corner}
 use Rattle.mesh_arena.specs.declared.slot.Corner.TheVariants.{Ghost}
@@ -22,7 +22,7 @@ pub record IsTakenRow (ps : List Point) (p : Point) (number : ℕ) (cs : List Co
 -- behind the face stands such a row
 pub record IsInnerTaken (slots : List (Option SlotValue)) (ps : List Point) (p : Point) (number s face : ℕ) : Type 0 where
   pub inner : SlotFace
-  pub is : side slots s face ≡ Some inner
+  pub is : link_behind slots s face ≡ Some inner
   pub takes : IsAt slots (IsTakenRow ps p number) inner.slot
 
 -- p is strictly beyond the hull face of a ghost with the point at infinity in this place, or on its plane where the row on the inner side

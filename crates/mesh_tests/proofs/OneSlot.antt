@@ -4,9 +4,9 @@ use Rattle.mesh_arena.specs.declared.slot.Corner.{Corner}
 use Rattle.mesh_arena.specs.declared.slot.RimFace.{RimFace}
 use Rattle.mesh_arena.specs.declared.slot.Slot.{Slot}
 use Rattle.mesh_arena.specs.declared.arena.SlotFace.{SlotFace}
-use Rattle.mesh_arena.specs.Mesh.{SlotValue, IsLive, corner, side, at, OnFace, IsMesh}
+use Rattle.mesh_arena.specs.Mesh.{SlotValue, IsLive, corner, link_behind, at, OnFace, IsArenaMesh}
 use Rattle.mesh_arena.specs.Star.{behind, rim_at, face_side, behind_rim}
-use Rattle.mesh_arena.specs.Cavity.{slot_at, IsIn}
+use Rattle.mesh_arena.specs.Cavity.{slot_at, IsInCavitySlots}
 use Rattle.mesh_arena.specs.StarLinks.{OnRim, ArePaired}
 use Rattle.mesh_arena.specs.Replace.{IsCavity, IsRim, IsOffRim}
 use Rattle.mesh_arena.proofs.Mesh.{side_live}
@@ -14,9 +14,9 @@ use Rattle.mesh_arena.proofs.Pairs.{one_left}
 
 -- the face stands behind the face k of the slot
 abbrev pub IsAcross : List (Option SlotValue) → Slot → ℕ → RimFace → Type 0
-IsAcross slots s k f = side slots s.index k ≡ Some (at f.slot.index f.face)
+IsAcross slots s k f = link_behind slots s.index k ≡ Some (at f.slot.index f.face)
 
-module _ (slots : List (Option SlotValue)) (s : Slot) (a b c d : RimFace) (mesh : IsMesh slots) (is_a : IsAcross slots s 0 a) (is_b : IsAcross slots s 1 b) (is_c : IsAcross slots s 2 c) (is_d : IsAcross slots s 3 d) where
+module _ (slots : List (Option SlotValue)) (s : Slot) (a b c d : RimFace) (mesh : IsArenaMesh slots) (is_a : IsAcross slots s 0 a) (is_b : IsAcross slots s 1 b) (is_c : IsAcross slots s 2 c) (is_d : IsAcross slots s 3 d) where
   abbrev cavity : List Slot
   cavity = s ∷ []
 
@@ -33,14 +33,14 @@ module _ (slots : List (Option SlotValue)) (s : Slot) (a b c d : RimFace) (mesh 
   live : IsLive slots s.index
   live = (side_live slots s.index 0 _ mesh.shaped is_a).0
 
-  in_is : (u : ℕ) → IsIn cavity u → u ≡ s.index
+  in_is : (u : ℕ) → IsInCavitySlots cavity u → u ≡ s.index
   in_is u found = by_place found.place found.inside found.is
     where
       by_place : (j : ℕ) → j < 1 → slot_at cavity j ≡ u → u ≡ s.index
       by_place zero h e = sym e
       by_place (suc j) h e = absurd (omega arith)
 
-  is_in : IsIn cavity s.index
+  is_in : IsInCavitySlots cavity s.index
   is_in = record { place = 0; inside = omega arith; is = refl }
 
   back : (r : ℕ) → r < 4 → face_side slots (rim_at rim r) ≡ Some (at s.index r)
@@ -65,14 +65,14 @@ module _ (slots : List (Option SlotValue)) (s : Slot) (a b c d : RimFace) (mesh 
         inner = λ r h. rw (behind_is r h) is_in;
         once = λ r q h g e f.
             let left = back r h in
-            let right : side slots (rim_at rim r).slot.index (rim_at rim r).face ≡ Some (at s.index q) = rw (e, f) (back q g) in
+            let right : link_behind slots (rim_at rim r).slot.index (rim_at rim r).face ≡ Some (at s.index q) = rw (e, f) (back q g) in
             let both : at s.index r ≡ at s.index q = cc in
             ap (λ (x : SlotFace). x.face) both;
         all = λ u k x e out found.
-            let home : side slots x.slot x.face ≡ Some (at u k) = mesh.back u k x e in
+            let home : link_behind slots x.slot x.face ≡ Some (at u k) = mesh.back u k x e in
             let is : x.slot ≡ s.index = in_is x.slot found in
             let below : x.face < 4 = (side_live slots x.slot x.face _ mesh.shaped home).1 in
-            let there : side slots s.index x.face ≡ Some (at u k) = subst (λ n. side slots n x.face ≡ Some (at u k)) is home in
+            let there : link_behind slots s.index x.face ≡ Some (at u k) = subst (λ n. link_behind slots n x.face ≡ Some (at u k)) is home in
             let both : at (rim_at rim x.face).slot.index (rim_at rim x.face).face ≡ at u k = let g = across x.face below in cc in
             (x.face, below, ap (λ (y : SlotFace). y.slot) both, ap (λ (y : SlotFace). y.face) both);
       }

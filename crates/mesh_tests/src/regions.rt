@@ -1,5 +1,5 @@
 ghost use Rattle.std.specs.Prelude.{◌<◌, All, IsTrue};
-ghost use Rattle.facet_plane.specs.Corners.{HasCornersOf};
+ghost use Rattle.geo_laws.specs.Complex.{HasCornersOf};
 
 use facet_plane::*;
 use geo_laws::{Complex, Points, Tet};

@@ -2,7 +2,7 @@
 ghost use Rattle.std.specs.Prelude.{ℕ, ◌≢◌, ◌<◌, ◌≤◌, IsTrue, length};
 ghost use Rattle.geo_laws.specs.Delaunay.{point, HasDistinctPoints, IsOn};
 ghost use Rattle.tangle_fill.specs.Fill.{AreFacetTriangles};
-ghost use Rattle.tangle_fill.specs.Sample.{IsFacetTriangle};
+ghost use Rattle.tangle_fill.specs.Sample.{IsPlaneTriangle};
 
 use cavity_insert::delaunay;
 use geo_laws::{Face, FacetTriangle, FacetTriangles, Points, Tet, TetList};
@@ -122,7 +122,7 @@ fn are_distinct(points: &Points) -> bool
 
 /// Whether the triangle ascends, is on the points and not on a line.
 fn is_facet_triangle(points: &Points, t: FacetTriangle) -> bool
-    ensures { IsTrue result → IsFacetTriangle points.now t }
+    ensures { IsTrue result → IsPlaneTriangle points.now t }
 {
     let FacetTriangle { facet: _, a, b, c } = t;
     a < b && b < c && is_triangle(points, Face { a, b, c })

@@ -1,7 +1,7 @@
 //! Points in and round one tetrahedron, and two.
 ghost use Rattle.std.specs.Prelude.{◌≡◌, ◌≢◌, ℕ, ◌<◌, IsTrue};
 ghost use Rattle.mesh_arena.specs.Mesh.{IsLive, corners_at, corner_list, AllDiffer};
-ghost use Rattle.point_locate.specs.Place.{IsOn, AreOn, AreCornersOn};
+ghost use Rattle.point_locate.specs.Place.{IsCornerOn, AreOn, AreCornersOn};
 
 use geo_laws::Points;
 use mesh_arena::{Arena, Corner, Slot, SlotCorners};
@@ -32,7 +32,7 @@ fn grid_point(x: i8, y: i8, z: i8) -> GridPoint {
 }
 
 fn is_on(points: &Points, corner: Corner) -> bool
-    ensures { IsTrue result → IsOn points.now corner }
+    ensures { IsTrue result → IsCornerOn points.now corner }
 {
     match corner {
         Corner::Point(i) => (i as usize) < points.len(),

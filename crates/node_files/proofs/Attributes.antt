@@ -3,7 +3,8 @@ use Rattle.std.proofs.Common.{◌≡◌, ℕ, suc, ◌+◌, ◌-◌, ◌<◌, �
 use Rattle.std.proofs.lemmas.List.{append-nil}
 use Rattle.tet_text.specs.declared.fault.TextFault.{TextFault}
 use Rattle.tet_text.specs.Reading.{◌>>=◌, Fields, field_at}
-use Rattle.node_files.specs.Point.{attributes_at, onto}
+use Rattle.node_files.specs.Point.{attributes_at}
+use Rattle.tet_text.specs.Repeated.{onto}
 
 abbrev Read : Type 0
 Read = Result (Fields × Fields) TextFault

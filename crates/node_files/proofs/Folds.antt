@@ -11,7 +11,7 @@ use Rattle.sign_predicates.specs.Point.{Point, origin}
 use Rattle.geo_laws.specs.Delaunay.{point, HasDistinctPoints}
 use Rattle.geo_laws.proofs.Members.{IsMember, here, there, append_cases, in_append_left, in_append_right, in_cons, at_place, contains_of, member_of, found_of}
 use Rattle.geo_laws.proofs.Ascending.{Rises, none, more, rises-same}
-use Rattle.node_files.specs.Folding.{IsKept, IsFolded, names_with}
+use Rattle.node_files.specs.Folding.{IsKeptPoint, IsFolded, names_with}
 use Rattle.node_files.specs.declared.table.NodeTable.{NodeTable}
 use Rattle.node_files.proofs.KnownPlaces.{Key, key, same_key, Knows, knows_none, knows_more, knows_again, unknown_new, known_equal}
 
@@ -23,12 +23,12 @@ point_before qs p i lt = get_or_append_left qs (p ∷ []) origin i lt
 point_last : (qs : List Point) (p : Point) (i : ℕ) → length qs ≡ i → point (qs ++ p ∷ []) i ≡ p
 point_last qs p i e = get_or_at qs p [] origin i e
 
-kept_still : (qs : List Point) (p : Point) (i : ℕ) → IsKept qs i → IsKept (qs ++ p ∷ []) i
+kept_still : (qs : List Point) (p : Point) (i : ℕ) → IsKeptPoint qs i → IsKeptPoint (qs ++ p ∷ []) i
 kept_still qs p i h =
     let lt = h.0 in
     (omega (arith, length_push qs p), λ j l e. h.1 j l (sym (point_before qs p j (omega arith)) ∙ e ∙ point_before qs p i lt))
 
-kept_already : (qs : List Point) (p : Point) (i : ℕ) → i < length qs → IsKept (qs ++ p ∷ []) i → IsKept qs i
+kept_already : (qs : List Point) (p : Point) (i : ℕ) → i < length qs → IsKeptPoint (qs ++ p ∷ []) i → IsKeptPoint qs i
 kept_already qs p i lt h = (lt, λ j l e. h.1 j l (point_before qs p j (omega arith) ∙ e ∙ sym (point_before qs p i lt)))
 
 -- names are places in the list
@@ -72,11 +72,11 @@ fold_new qs ps ns fs p h new = record {
       (λ i l. let o = h.equal i l in let lt = o.0 in (omega (arith, length_push ps p), point_before ps p _ lt ∙ o.1)) (omega (arith, length_push ps p)) (point_last ps p (length ps) refl);
 }
   where
-    to : (i : ℕ) → IsMember i ns ⊎ IsMember i (length qs ∷ []) → IsKept (qs ++ p ∷ []) i
+    to : (i : ℕ) → IsMember i ns ⊎ IsMember i (length qs ∷ []) → IsKeptPoint (qs ++ p ∷ []) i
     to i (inl m) = kept_still qs p i ((h.kept i).0 (contains_of ns i m))
     to i (inr m) = last i (in_cons i (length qs) [] m)
       where
-        last : (i : ℕ) → (i ≡ length qs) ⊎ IsMember i [] → IsKept (qs ++ p ∷ []) i
+        last : (i : ℕ) → (i ≡ length qs) ⊎ IsMember i [] → IsKeptPoint (qs ++ p ∷ []) i
         last i (inl e) = (
           omega (arith, length_push qs p, e),
           λ j l same.
@@ -86,7 +86,7 @@ fold_new qs ps ns fs p h new = record {
         )
         last i (inr m) = elim m [ ]
 
-    from : (i : ℕ) → IsKept (qs ++ p ∷ []) i → IsMember i (ns ++ length qs ∷ [])
+    from : (i : ℕ) → IsKeptPoint (qs ++ p ∷ []) i → IsMember i (ns ++ length qs ∷ [])
     from i k = elim (cases_lt i (length qs)) [
       | inl lt ↦ in_append_left i ns (length qs ∷ []) (member_of ns i ((h.kept i).1 (kept_already qs p i lt k)))
       | inr le ↦
@@ -115,7 +115,7 @@ fold_again qs ps ns fs p v h lt is = record {
           sym (get_or-map (point qs) ns v 0 origin (omega arith)) ∙ ap (λ (xs : List Point). point xs v) (sym h.points_are) ∙ is,
         )
 
-    from : (i : ℕ) → IsKept (qs ++ p ∷ []) i → Contains ns i
+    from : (i : ℕ) → IsKeptPoint (qs ++ p ∷ []) i → Contains ns i
     from i k = elim (cases_lt i (length qs)) [
       | inl less ↦ (h.kept i).1 (kept_already qs p i less k)
       | inr le ↦

@@ -7,10 +7,10 @@ use Rattle.std.proofs.lemmas.List.Recursion.{max_bounds}
 use Rattle.std.proofs.lemmas.Bool.{cond-true, cond-false, le-leb, lt-leb, lt-ltb, le-ltb, cases_lt, cases_Bool}
 use Rattle.grid_coords.specs.declared.grid.Grid.{Grid}
 use Rattle.grid_coords.specs.declared.points.DecimalPoint.{DecimalPoint}
-use Rattle.grid_coords.specs.Units.{limit, within}
+use Rattle.grid_coords.specs.Units.{limit, if_at_most}
 use Rattle.grid_coords.specs.Choice.{unless_over}
 use Rattle.grid_coords.proofs.Products.{over_within, kept_within}
-use Rattle.node_files.specs.LeastGrid.{greatest, twos_of, fives_of, coarsest, size_on, is_over, first_over, IsPointOnGrid}
+use Rattle.node_files.specs.LeastGrid.{greatest, twos_of, fives_of, coarsest, size_on, is_over_units, first_over_units, IsPointInUnits}
 
 -- the rest of a list from the place of p on
 from_here : {X : Type 0} (xs : List X) (i : ℕ) (x : X) → i < length xs → x ≡ get_or xs i x → drop i xs ≡ x ∷ drop (i + 1) xs
@@ -30,23 +30,23 @@ unfolding greatest
 greatest_all f ps i most le = let e : greatest f (drop i ps) ≡ 0 = at_drop_all (greatest f) ps i le in omega arith
 
 -- a size that is not kept is over the limit
-pub over_is : (n : ℕ) → within limit n ≡ None → nat_lt limit n ≡ true
+pub over_is : (n : ℕ) → if_at_most limit n ≡ None → nat_lt limit n ≡ true
 over_is n none = lt-ltb limit n (over_within limit n none)
 
-pub small_is : (n m : ℕ) → within limit n ≡ Some m → nat_lt limit n ≡ false
+pub small_is : (n m : ℕ) → if_at_most limit n ≡ Some m → nat_lt limit n ≡ false
 small_is n m some = let kept = kept_within limit n m some in let e = kept.0 in let le = kept.1 in le-ltb limit n (omega arith)
 
-pub first_more : (g : Grid) (ps : List DecimalPoint) (i : ℕ) (p : DecimalPoint) → i < length ps → p ≡ get_or ps i p → is_over g p ≡ false → first_over g (drop i ps) ≡ first_over g (drop (i + 1) ps)
-unfolding first_over
-first_more g ps i p lt is small = ap (first_over g) (from_here ps i p lt is) ∙ cond-false _ _ _ small
+pub first_more : (g : Grid) (ps : List DecimalPoint) (i : ℕ) (p : DecimalPoint) → i < length ps → p ≡ get_or ps i p → is_over_units g p ≡ false → first_over_units g (drop i ps) ≡ first_over_units g (drop (i + 1) ps)
+unfolding first_over_units
+first_more g ps i p lt is small = ap (first_over_units g) (from_here ps i p lt is) ∙ cond-false _ _ _ small
 
-pub first_here : (g : Grid) (ps : List DecimalPoint) (i : ℕ) (p : DecimalPoint) → i < length ps → p ≡ get_or ps i p → is_over g p ≡ true → first_over g (drop i ps) ≡ Some p
-unfolding first_over
-first_here g ps i p lt is over = ap (first_over g) (from_here ps i p lt is) ∙ cond-true _ _ _ over
+pub first_here : (g : Grid) (ps : List DecimalPoint) (i : ℕ) (p : DecimalPoint) → i < length ps → p ≡ get_or ps i p → is_over_units g p ≡ true → first_over_units g (drop i ps) ≡ Some p
+unfolding first_over_units
+first_here g ps i p lt is over = ap (first_over_units g) (from_here ps i p lt is) ∙ cond-true _ _ _ over
 
-pub first_all : (g : Grid) (ps : List DecimalPoint) (i : ℕ) → length ps ≤ i → first_over g (drop i ps) ≡ None
-unfolding first_over
-first_all g ps i le = at_drop_all (first_over g) ps i le
+pub first_all : (g : Grid) (ps : List DecimalPoint) (i : ℕ) → length ps ≤ i → first_over_units g (drop i ps) ≡ None
+unfolding first_over_units
+first_all g ps i le = at_drop_all (first_over_units g) ps i le
 
 pub line_some : (o : Option DecimalPoint) (g : Grid) (line : ℕ) → option_map (λ p. p.line) o ≡ Some line → unless_over o g ≡ Err (record { line = line })
 line_some None g line is = absurd (cc)
@@ -56,16 +56,16 @@ pub line_none : (o : Option DecimalPoint) → option_map (λ p. p.line) o ≡ No
 line_none None is = refl
 line_none (Some p) is = absurd (cc)
 
-none_found : (g : Grid) (ps : List DecimalPoint) (k : ℕ) (d : DecimalPoint) → find (is_over g) ps ≡ None → k < length ps → is_over g (get_or ps k d) ≡ false
+none_found : (g : Grid) (ps : List DecimalPoint) (k : ℕ) (d : DecimalPoint) → find (is_over_units g) ps ≡ None → k < length ps → is_over_units g (get_or ps k d) ≡ false
 none_found g [] k d none lt = absurd (omega arith)
 none_found g (p ∷ ps) zero d none lt =
-    elim (cases_Bool (is_over g p)) [
-      | inl over ↦ let found : find (is_over g) (p ∷ ps) ≡ Some p = cond-true _ _ _ over in absurd (cc)
+    elim (cases_Bool (is_over_units g p)) [
+      | inl over ↦ let found : find (is_over_units g) (p ∷ ps) ≡ Some p = cond-true _ _ _ over in absurd (cc)
       | inr small ↦ small
     ]
 none_found g (p ∷ ps) (suc k) d none lt =
-    elim (cases_Bool (is_over g p)) [
-      | inl over ↦ let found : find (is_over g) (p ∷ ps) ≡ Some p = cond-true _ _ _ over in absurd (cc)
+    elim (cases_Bool (is_over_units g p)) [
+      | inl over ↦ let found : find (is_over_units g) (p ∷ ps) ≡ Some p = cond-true _ _ _ over in absurd (cc)
       | inr small ↦ none_found g ps k d (sym (cond-false _ _ _ small) ∙ none) (omega arith)
     ]
 
@@ -77,8 +77,8 @@ not_over n is =
     ]
 
 -- each point is on the grid that is chosen, where none is over its limit
-pub points_on : (ps : List DecimalPoint) → first_over (coarsest ps) ps ≡ None → All (IsPointOnGrid (coarsest ps)) ps
-unfolding first_over greatest
+pub points_on : (ps : List DecimalPoint) → first_over_units (coarsest ps) ps ≡ None → All (IsPointInUnits (coarsest ps)) ps
+unfolding first_over_units greatest
 points_on ps none k d lt =
     let g = coarsest ps in
     let p = get_or ps k d in

@@ -6,7 +6,7 @@ use Rattle.grid_coords.specs.declared.grid.Grid.{Grid}
 use Rattle.grid_coords.specs.declared.points.DecimalPoint.{DecimalPoint}
 use Rattle.grid_coords.specs.Units.{grid_point}
 use Rattle.std.specs.Prelude.{if◌then◌else◌}
-use Rattle.node_files.specs.Writing.{marks_of}
+use Rattle.node_files.specs.Writing.{mark_count}
 use Rattle.node_files.specs.Settling.{rounded_points, rounded_point}
 
 rounded_length : (decimals : Option ℕ) (ps : List DecimalPoint) → length (rounded_points decimals ps) ≡ length ps
@@ -18,6 +18,6 @@ pub settled_length : (decimals : Option ℕ) (g : Grid) (ps qs rs : List Decimal
 settled_length decimals g ps qs rs points rounded same placed = ap length placed ∙ length-map rs (grid_point g) ∙ ap length (same ∙ rounded) ∙ rounded_length decimals ps
 
 -- a marker for each point, or none
-pub shares : (flag : Bool) (n : ℕ) → (if flag then n else 0) ≡ marks_of flag * n
+pub shares : (flag : Bool) (n : ℕ) → (if flag then n else 0) ≡ mark_count flag * n
 shares true n = omega arith
 shares false n = omega arith

@@ -8,15 +8,15 @@ use Rattle.node_files.specs.declared.header.Header.{Header}
 use Rattle.node_files.specs.declared.node_text.NodeText.{NodeText}
 use Rattle.node_files.specs.declared.fault.NodeFault.{NodeFault}
 use Rattle.node_files.specs.declared.fault.NodeFault.TheVariants as faults
-use Rattle.node_files.specs.Outcome.{Fails}
-use Rattle.node_files.specs.Point.{Point, point_of}
-use Rattle.node_files.specs.Node.{points_of, first_with, first_number, with_point, point_onto, points_table, text_of}
+use Rattle.node_files.specs.Outcome.{NodeFails}
+use Rattle.node_files.specs.Point.{ListedPoint, point_of}
+use Rattle.node_files.specs.Node.{points_of, first_with, first_number, with_point, point_onto, points_table, listed_text}
 use Rattle.grid_coords.specs.declared.points.DecimalPoint.{DecimalPoint}
 use Rattle.std.specs.List.{flat_map}
 use Rattle.std.specs.Prelude.{ℤ, map}
 
 -- the table with further points
-abbrev pub with_points : Option ℕ → NodeText → List Point → NodeText
+abbrev pub with_points : Option ℕ → NodeText → List ListedPoint → NodeText
 with_points before text [] = text
 with_points before text (point ∷ points) = with_points (Some point.number) (with_point before text point) points
 
@@ -24,7 +24,7 @@ abbrev pub Read : Type 0
 Read = Result (NodeText × List ContentLine) TextFault
 
 -- the table so far, and the points that are read now
-abbrev pub joined : Option ℕ → NodeText → Result (List Point × List ContentLine) TextFault → Read
+abbrev pub joined : Option ℕ → NodeText → Result (List ListedPoint × List ContentLine) TextFault → Read
 joined before text read = read >>= λ x. Ok (with_points before text x.0, x.1)
 
 -- a step that gave a value
@@ -42,11 +42,11 @@ done x = Ok x
 pub ok_is : {A : Type 0} (x y : A) → done x ≡ done y → x ≡ y
 ok_is x y e = cc
 
-regroup : (before : Option ℕ) (text : NodeText) (point : Point) (read : Result (List Point × List ContentLine) TextFault) → joined before text (read >>= λ x. Ok (point ∷ x.0, x.1)) ≡ joined (Some point.number) (with_point before text point) read
+regroup : (before : Option ℕ) (text : NodeText) (point : ListedPoint) (read : Result (List ListedPoint × List ContentLine) TextFault) → joined before text (read >>= λ x. Ok (point ∷ x.0, x.1)) ≡ joined (Some point.number) (with_point before text point) read
 regroup before text point (Ok x) = refl
 regroup before text point (Err fault) = refl
 
-one_more : (header : Header) (before : Option ℕ) (text : NodeText) (i total : ℕ) (lines rest : List ContentLine) (line : ContentLine) (point : Point) → i < header.count → line_at total lines ≡ Ok (line, rest)
+one_more : (header : Header) (before : Option ℕ) (text : NodeText) (i total : ℕ) (lines rest : List ContentLine) (line : ContentLine) (point : ListedPoint) → i < header.count → line_at total lines ≡ Ok (line, rest)
     → point_of header.attribute_count header.flag before line ≡ Ok point
     → joined before text (points_of header.attribute_count header.flag before (header.count - i) total lines) ≡ joined (Some point.number) (with_point before text point) (points_of header.attribute_count header.flag (Some point.number) (header.count - (i + 1)) total rest)
 unfolding points_of
@@ -76,7 +76,7 @@ points_end header before text i total lines fault whole lt line-is so_far =
 
 -- a point's line has a fault
 pub points_stop : (header : Header) (before : Option ℕ) (text : NodeText) (i total : ℕ) (lines rest : List ContentLine) (line : ContentLine) (fault : NodeFault) (whole : Read) → i < header.count → line_at total lines ≡ Ok (line, rest)
-    → Fails fault (point_onto header before line text) → joined before text (points_of header.attribute_count header.flag before (header.count - i) total lines) ≡ whole → Fails fault whole
+    → NodeFails fault (point_onto header before line text) → joined before text (points_of header.attribute_count header.flag before (header.count - i) total lines) ≡ whole → NodeFails fault whole
 unfolding points_of
 points_stop header before text i total lines rest line faults.NoMemory whole lt line-is fails so_far = tt
 points_stop header before text i total lines rest line (faults.TooMany count most) whole lt line-is fails so_far = elim fails [ ]
@@ -95,7 +95,7 @@ points_all header before text i total lines whole le so_far =
     sym so_far ∙ one
 
 -- the first number, where these points come behind `before`
-abbrev first_behind : Option ℕ → ℕ → List Point → ℕ
+abbrev first_behind : Option ℕ → ℕ → List ListedPoint → ℕ
 first_behind None first [] = first
 first_behind None first (point ∷ points) = point.number
 first_behind (Some before) first points = first
@@ -106,7 +106,7 @@ table text first decimals attributes markers = record text { first = first; deci
 same_table : (text : NodeText) (f g : ℕ) (d e : List DecimalPoint) (a b : List (List ℕ)) (m n : List ℤ) → f ≡ g → d ≡ e → a ≡ b → m ≡ n → table text f d a m ≡ table text g e b n
 same_table text f g d e a b m n ff dd aa mm = cc
 
-behind_is : (before : Option ℕ) (first : ℕ) (point : Point) (points : List Point) → first_with before first point.number ≡ first_behind before first (point ∷ points)
+behind_is : (before : Option ℕ) (first : ℕ) (point : ListedPoint) (points : List ListedPoint) → first_with before first point.number ≡ first_behind before first (point ∷ points)
 behind_is None first point points = refl
 behind_is (Some b) first point points = refl
 
@@ -115,7 +115,7 @@ behind_none None first = refl
 behind_none (Some b) first = refl
 
 -- the points put onto a table, all at once
-with_points_is : (before : Option ℕ) (text : NodeText) (points : List Point)
+with_points_is : (before : Option ℕ) (text : NodeText) (points : List ListedPoint)
     → with_points before text points ≡ table text (first_behind before text.first points) (text.decimals ++ map (λ point. point.place) points) (text.attributes ++ flat_map (λ point. point.attributes) points) (text.markers ++ flat_map (λ point. point.markers) points)
 with_points_is before text [] = same_table text _ _ _ _ _ _ _ _ (behind_none before text.first) (sym (append-nil text.decimals)) (sym (append-nil text.attributes)) (sym (append-nil text.markers))
 with_points_is before text (point ∷ points) =
@@ -125,13 +125,13 @@ with_points_is before text (point ∷ points) =
 abbrev pub empty : Header → NodeText
 empty header = record { first = 1; attribute_count = header.attribute_count; flag = header.flag; decimals = []; attributes = []; markers = [] }
 
-first_is : (points : List Point) → first_behind None 1 points ≡ first_number points
+first_is : (points : List ListedPoint) → first_behind None 1 points ≡ first_number points
 first_is [] = refl
 first_is (point ∷ points) = refl
 
-joined_is : (header : Header) (read : Result (List Point × List ContentLine) TextFault) → joined None (empty header) read ≡ (read >>= λ x. Ok (text_of header x.0, x.1))
+joined_is : (header : Header) (read : Result (List ListedPoint × List ContentLine) TextFault) → joined None (empty header) read ≡ (read >>= λ x. Ok (listed_text header x.0, x.1))
 joined_is header (Ok x) =
-    let whole : with_points None (empty header) x.0 ≡ text_of header x.0 = with_points_is None (empty header) x.0 ∙ same_table (empty header) _ _ _ _ _ _ _ _ (first_is x.0) refl refl refl in
+    let whole : with_points None (empty header) x.0 ≡ listed_text header x.0 = with_points_is None (empty header) x.0 ∙ same_table (empty header) _ _ _ _ _ _ _ _ (first_is x.0) refl refl refl in
     ap (λ (text : NodeText). let made : Read = Ok (text, x.1) in made) whole
 joined_is header (Err fault) = refl
 

@@ -1,14 +1,14 @@
 -- Numbers times powers of two bases, within the limit.
 use Rattle.std.proofs.Common.{◌≡◌, ℕ, ◌*◌, ◌^◌, Some, None, sym, ap, ◌∙◌, arith, refl}
 use Rattle.std.specs.Prelude.{option_and_then}
-use Rattle.grid_coords.specs.Units.{limit, within}
+use Rattle.grid_coords.specs.Units.{limit, if_at_most}
 use Rattle.grid_coords.proofs.Products.{within_twice, pow_some}
 
-pub twice_none : (n a b : ℕ) → within limit (n * 5 ^ a) ≡ None → within limit (n * 5 ^ a * 2 ^ b) ≡ None
+pub twice_none : (n a b : ℕ) → if_at_most limit (n * 5 ^ a) ≡ None → if_at_most limit (n * 5 ^ a * 2 ^ b) ≡ None
 twice_none n a b none =
-    sym (within_twice limit (n * 5 ^ a) (2 ^ b) (pow_some 2 b (omega arith))) ∙ ap (option_and_then (λ m. within limit (m * 2 ^ b))) none
+    sym (within_twice limit (n * 5 ^ a) (2 ^ b) (pow_some 2 b (omega arith))) ∙ ap (option_and_then (λ m. if_at_most limit (m * 2 ^ b))) none
 
-pub twice_some : (n a b m k : ℕ) → within limit (n * 5 ^ a) ≡ Some m → k ≡ m → within limit (k * 2 ^ b) ≡ within limit (n * 5 ^ a * 2 ^ b)
+pub twice_some : (n a b m k : ℕ) → if_at_most limit (n * 5 ^ a) ≡ Some m → k ≡ m → if_at_most limit (k * 2 ^ b) ≡ if_at_most limit (n * 5 ^ a * 2 ^ b)
 twice_some n a b m k some is =
-    ap (λ (j : ℕ). within limit (j * 2 ^ b)) is
-    ∙ sym (sym (within_twice limit (n * 5 ^ a) (2 ^ b) (pow_some 2 b (omega arith))) ∙ ap (option_and_then (λ j. within limit (j * 2 ^ b))) some)
+    ap (λ (j : ℕ). if_at_most limit (j * 2 ^ b)) is
+    ∙ sym (sym (within_twice limit (n * 5 ^ a) (2 ^ b) (pow_some 2 b (omega arith))) ∙ ap (option_and_then (λ j. if_at_most limit (j * 2 ^ b))) some)

@@ -10,9 +10,9 @@ use Rattle.tet_text.specs.Faults.{bad_count, bad_index}
 use Rattle.tet_text.specs.Reading.{◌>>=◌, Fields, field_at, count_at, whole_at, end_at, line_at}
 use Rattle.node_files.specs.declared.header.Header.{Header}
 use Rattle.node_files.specs.declared.node_text.NodeText.{NodeText}
-use Rattle.node_files.specs.Header.{is_within, count_within, count_or, header_of}
-use Rattle.node_files.specs.Point.{Point, is_next, index_at, place_at, attributes_at, markers_at, point_of}
-use Rattle.node_files.specs.Node.{points_of, points_table, node_list_of, text_of, first_number, IsNodeText}
+use Rattle.node_files.specs.Header.{is_count_in_range, count_within, count_or, header_of}
+use Rattle.node_files.specs.Point.{ListedPoint, is_next, index_at, place_at, attributes_at, markers_at, point_of}
+use Rattle.node_files.specs.Node.{points_of, points_table, node_list_of, listed_text, first_number, IsNodeText}
 use Rattle.std.proofs.Math.Nat.{mul-suc}
 use Rattle.node_files.proofs.Points.{bind_ok, ok_is}
 
@@ -46,12 +46,12 @@ index_is_next before line fields x is =
     ap (λ (p : ℕ × Fields). is_next before p.0) (sym both.1) ∙ both.0
 
 -- a point that was read
-record IsPoint (attribute_count : ℕ) (flag : Bool) (before : Option ℕ) (point : Point) : Type 0 where
+record IsPoint (attribute_count : ℕ) (flag : Bool) (before : Option ℕ) (point : ListedPoint) : Type 0 where
   number : is_next before point.number ≡ true
   attributes : length point.attributes ≡ attribute_count
   markers : length point.markers ≡ cond flag 1 0
 
-point_is : (attribute_count : ℕ) (flag : Bool) (before : Option ℕ) (line : ContentLine) (point : Point) → point_of attribute_count flag before line ≡ Ok point → IsPoint attribute_count flag before point
+point_is : (attribute_count : ℕ) (flag : Bool) (before : Option ℕ) (line : ContentLine) (point : ListedPoint) → point_of attribute_count flag before line ≡ Ok point → IsPoint attribute_count flag before point
 unfolding point_of
 point_is attribute_count flag before line point is =
     let number = bind_ok (index_at before line.line line.fields) (λ number. place_at line.line number.1 >>= λ place. attributes_at attribute_count line.line place.1 >>= λ attributes. markers_at flag line.line attributes.1 >>= λ markers. end_at line.line markers.1 >>= λ _. Ok (record { number = number.0; place = place.0; attributes = attributes.0; markers = markers.0 })) point is in
@@ -59,18 +59,18 @@ point_is attribute_count flag before line point is =
     let attributes = bind_ok (attributes_at attribute_count line.line place.0.1) (λ attributes. markers_at flag line.line attributes.1 >>= λ markers. end_at line.line markers.1 >>= λ _. Ok (record { number = number.0.0; place = place.0.0; attributes = attributes.0; markers = markers.0 })) point place.2 in
     let markers = bind_ok (markers_at flag line.line attributes.0.1) (λ markers. end_at line.line markers.1 >>= λ _. Ok (record { number = number.0.0; place = place.0.0; attributes = attributes.0.0; markers = markers.0 })) point attributes.2 in
     let ended = bind_ok (end_at line.line markers.0.1) (λ _. Ok (record { number = number.0.0; place = place.0.0; attributes = attributes.0.0; markers = markers.0.0 })) point markers.2 in
-    let made : Point = record { number = number.0.0; place = place.0.0; attributes = attributes.0.0; markers = markers.0.0 } in
+    let made : ListedPoint = record { number = number.0.0; place = place.0.0; attributes = attributes.0.0; markers = markers.0.0 } in
     let fits : IsPoint attribute_count flag before made = record { number = index_is_next before line.line line.fields number.0 number.1; attributes = attributes_count attribute_count line.line place.0.1 attributes.0 attributes.1; markers = markers_count flag line.line attributes.0.1 markers.0 markers.1 } in
-    subst (λ (p : Point). IsPoint attribute_count flag before p) {x = made} (ok_is made point ended.2) fits
+    subst (λ (p : ListedPoint). IsPoint attribute_count flag before p) {x = made} (ok_is made point ended.2) fits
 
 -- points that were read, of so many lines
-record ArePoints (attribute_count : ℕ) (flag : Bool) (lines : List ContentLine) (points : List Point) : Type 0 where
+record ArePoints (attribute_count : ℕ) (flag : Bool) (lines : List ContentLine) (points : List ListedPoint) : Type 0 where
   attributes : length (flat_map (λ p. p.attributes) points) ≡ attribute_count * length points
   markers : length (flat_map (λ p. p.markers) points) ≡ cond flag (length points) 0
   few : length points ≤ length lines
 
 abbrev Listed : Type 0
-Listed = List Point × List ContentLine
+Listed = List ListedPoint × List ContentLine
 
 line_is : (total : ℕ) (lines : List ContentLine) (x : ContentLine × List ContentLine) → line_at total lines ≡ Ok x → length lines ≡ suc (length x.1)
 line_is total [] x is = absurd cc
@@ -87,7 +87,7 @@ none_marked : (flag : Bool) (n : ℕ) → n ≡ 0 → n ≡ cond flag n 0
 none_marked true n none = refl
 none_marked false n none = none
 
-one_more_point : (attribute_count : ℕ) (flag : Bool) (before : Option ℕ) (lines rest : List ContentLine) (point : Point) (points : List Point) → IsPoint attribute_count flag before point → ArePoints attribute_count flag rest points → length lines ≡ suc (length rest)
+one_more_point : (attribute_count : ℕ) (flag : Bool) (before : Option ℕ) (lines rest : List ContentLine) (point : ListedPoint) (points : List ListedPoint) → IsPoint attribute_count flag before point → ArePoints attribute_count flag rest points → length lines ≡ suc (length rest)
     → ArePoints attribute_count flag lines (point ∷ points)
 one_more_point attribute_count flag before lines rest point points first are more = record {
   attributes = length-append point.attributes (flat_map (λ p. p.attributes) points) ∙ one_more_times attribute_count (length point.attributes) (length (flat_map (λ p. p.attributes) points)) (length points) first.attributes are.attributes;
@@ -125,8 +125,8 @@ first_low attribute_count flag (suc n) total lines x is =
 within_most : (least most line : ℕ) (fields : Fields) (x : ℕ × Fields) → count_within least most line fields ≡ Ok x → x.0 ≤ most
 unfolding count_within
 within_most least most line fields x is =
-    let count = bind_ok (count_at line fields) (λ n. cond (is_within least most n.0) (Ok n) (Err (bad_count line))) x is in
-    let both = if_ok (is_within least most count.0.0) count.0 x (bad_count line) count.2 in
+    let count = bind_ok (count_at line fields) (λ n. cond (is_count_in_range least most n.0) (Ok n) (Err (bad_count line))) x is in
+    let both = if_ok (is_count_in_range least most count.0.0) count.0 x (bad_count line) count.2 in
     ap_le (leb-true count.0.0 most (and_parts _ _ both.0).1) (ap (λ (p : ℕ × Fields). p.0) both.1)
   where
     ap_le : {a b m : ℕ} → a ≤ m → a ≡ b → b ≤ m
@@ -151,18 +151,18 @@ header_small line header is =
 table_is : (header : Header) (total : ℕ) (lines : List ContentLine) (x : NodeText × List ContentLine) → points_table header total lines ≡ Ok x → header.attribute_count ≤ 100 → length lines < 2 ^ 32 - 1 → IsNodeText x.0
 unfolding points_table
 table_is header total lines x is small few =
-    let points = bind_ok (points_of header.attribute_count header.flag None header.count total lines) (λ points. Ok (text_of header points.0, points.1)) x is in
+    let points = bind_ok (points_of header.attribute_count header.flag None header.count total lines) (λ points. Ok (listed_text header points.0, points.1)) x is in
     let are = points_are header.attribute_count header.flag None header.count total lines points.0 points.1 in
     let low = first_low header.attribute_count header.flag header.count total lines points.0 points.1 in
     let many : length (map (λ p. p.place) points.0.0) ≡ length points.0.0 = length-map points.0.0 (λ p. p.place) in
-    let table : IsNodeText (text_of header points.0.0) = record {
+    let table : IsNodeText (listed_text header points.0.0) = record {
       first = low;
       few_attributes = small;
       attributes = are.attributes ∙ ap (λ (k : ℕ). header.attribute_count * k) (sym many);
       markers = are.markers ∙ ap (λ (k : ℕ). cond header.flag k 0) (sym many);
       few = omega (arith, are.few, many);
     } in
-    subst (λ (p : NodeText × List ContentLine). IsNodeText p.0) (ok_is (text_of header points.0.0, points.0.1) x points.2) table
+    subst (λ (p : NodeText × List ContentLine). IsNodeText p.0) (ok_is (listed_text header points.0.0, points.0.1) x points.2) table
 
 pub node_list_is : (total : ℕ) (lines : List ContentLine) (x : NodeText × List ContentLine) → node_list_of total lines ≡ Ok x → length lines < 2 ^ 32 - 1 → IsNodeText x.0
 unfolding node_list_of

@@ -6,14 +6,14 @@ use Rattle.tet_text.specs.Faults.{bad_count}
 use Rattle.tet_text.specs.Reading.{◌>>=◌, Fields, count_at, end_at}
 use Rattle.node_files.specs.declared.header.Header.{Header}
 
-abbrev pub is_within : ℕ → ℕ → ℕ → Bool
-is_within least most count = nat_le least count && nat_le count most
+abbrev pub is_count_in_range : ℕ → ℕ → ℕ → Bool
+is_count_in_range least most count = nat_le least count && nat_le count most
 
 -- a count from `least` to `most`
 unfoldable pub count_within : ℕ → ℕ → ℕ → Fields → Result (ℕ × Fields) TextFault
 count_within least most line fields = do
   count ← count_at line fields
-  if is_within least most count.0 then Ok count else Err (bad_count line)
+  if is_count_in_range least most count.0 then Ok count else Err (bad_count line)
 
 -- the same, or this one where no field is left
 unfoldable pub count_or : ℕ → ℕ → ℕ → ℕ → Fields → Result (ℕ × Fields) TextFault

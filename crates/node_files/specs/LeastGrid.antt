@@ -35,28 +35,28 @@ units_on g d =
 abbrev pub size_on : Grid → DecimalPoint → ℕ
 size_on g p = max (units_on g p.x) (max (units_on g p.y) (units_on g p.z))
 
-abbrev pub is_over : Grid → DecimalPoint → Bool
-is_over g p = nat_lt limit (size_on g p)
+abbrev pub is_over_units : Grid → DecimalPoint → Bool
+is_over_units g p = nat_lt limit (size_on g p)
 
 -- the first point with a coordinate over 2^23 units
-unfoldable pub first_over : Grid → List DecimalPoint → Option DecimalPoint
-first_over g ps = find (is_over g) ps
+unfoldable pub first_over_units : Grid → List DecimalPoint → Option DecimalPoint
+first_over_units g ps = find (is_over_units g) ps
 
 -- the least grid, or the line of the first point that is over its limit
 unfoldable pub least_grid_of : List DecimalPoint → Result Grid Range
-least_grid_of ps = unless_over (first_over (coarsest ps) ps) (coarsest ps)
+least_grid_of ps = unless_over (first_over_units (coarsest ps) ps) (coarsest ps)
 
 -- the number is a whole number of grid units, and at most 2^23 of them in size
-pub record IsOnGrid (g : Grid) (d : Scaled) : Type 0 where
+pub record IsInUnits (g : Grid) (d : Scaled) : Type 0 where
   pub fives : (terms_of d).fives ≤ g.decimals
   pub twos : (terms_of d).twos ≤ g.decimals + g.halvings
   pub small : units_on g d ≤ limit
 
 -- so is each coordinate of the point
-pub record IsPointOnGrid (g : Grid) (p : DecimalPoint) : Type 0 where
-  pub x : IsOnGrid g p.x
-  pub y : IsOnGrid g p.y
-  pub z : IsOnGrid g p.z
+pub record IsPointInUnits (g : Grid) (p : DecimalPoint) : Type 0 where
+  pub x : IsInUnits g p.x
+  pub y : IsInUnits g p.y
+  pub z : IsInUnits g p.z
 
 -- the number in grid units
 abbrev pub coordinate_on : Grid → Scaled → ℤ

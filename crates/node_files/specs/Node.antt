@@ -1,4 +1,4 @@
--- Point lists.
+-- ListedPoint lists.
 use Rattle.std.specs.Prelude.{◌≡◌, ◌≤◌, ◌<◌, ◌*◌, ◌-◌, ◌^◌, length, if◌then◌else◌, ℕ, zero, suc, Bool, List, [], ◌∷◌, ◌++◌, map, Option, Some, None, Result, Ok}
 use Rattle.std.specs.List.{flat_map}
 use Rattle.tet_text.specs.declared.fault.TextFault.{TextFault}
@@ -7,10 +7,10 @@ use Rattle.tet_text.specs.Reading.{◌>>=◌, line_at, text_end_at}
 use Rattle.node_files.specs.declared.header.Header.{Header}
 use Rattle.node_files.specs.declared.node_text.NodeText.{NodeText}
 use Rattle.node_files.specs.Header.{header_of}
-use Rattle.node_files.specs.Point.{Point, point_of}
+use Rattle.node_files.specs.Point.{ListedPoint, point_of}
 
 -- so many points, one a line, behind the one with this number, in a text of so many lines
-unfoldable pub points_of : ℕ → Bool → Option ℕ → ℕ → ℕ → List ContentLine → Result (List Point × List ContentLine) TextFault
+unfoldable pub points_of : ℕ → Bool → Option ℕ → ℕ → ℕ → List ContentLine → Result (List ListedPoint × List ContentLine) TextFault
 points_of attribute_count flag before zero total lines = Ok ([], lines)
 points_of attribute_count flag before (suc count) total lines = do
   line ← line_at total lines
@@ -19,13 +19,13 @@ points_of attribute_count flag before (suc count) total lines = do
   Ok (point ∷ others.0, others.1)
 
 -- the number of the first point, and 1 where there is none
-abbrev pub first_number : List Point → ℕ
+abbrev pub first_number : List ListedPoint → ℕ
 first_number [] = 1
 first_number (point ∷ points) = point.number
 
 -- the table of the points
-abbrev pub text_of : Header → List Point → NodeText
-text_of header points = record {
+abbrev pub listed_text : Header → List ListedPoint → NodeText
+listed_text header points = record {
   first = first_number points;
   attribute_count = header.attribute_count;
   flag = header.flag;
@@ -38,7 +38,7 @@ text_of header points = record {
 unfoldable pub points_table : Header → ℕ → List ContentLine → Result (NodeText × List ContentLine) TextFault
 points_table header total lines = do
   points ← points_of header.attribute_count header.flag None header.count total lines
-  Ok (text_of header points.0, points.1)
+  Ok (listed_text header points.0, points.1)
 
 -- a point list, and the content lines behind it, in a text of so many lines
 unfoldable pub node_list_of : ℕ → List ContentLine → Result (NodeText × List ContentLine) TextFault
@@ -60,7 +60,7 @@ first_with None first number = number
 first_with (Some before) first number = first
 
 -- the table with one more point
-abbrev pub with_point : Option ℕ → NodeText → Point → NodeText
+abbrev pub with_point : Option ℕ → NodeText → ListedPoint → NodeText
 with_point before text point = record text { first = first_with before text.first point.number; decimals = text.decimals ++ point.place ∷ []; attributes = text.attributes ++ point.attributes; markers = text.markers ++ point.markers }
 
 -- the point's number, and the table with it

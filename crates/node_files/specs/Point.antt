@@ -7,7 +7,7 @@ use Rattle.tet_text.specs.Faults.{bad_index}
 use Rattle.tet_text.specs.Reading.{◌>>=◌, Fields, field_at, count_at, whole_at, decimal_at, end_at}
 
 -- a point with its number, its attributes as they are written, and its marker, if it has one
-pub record Point : Type 0 where
+pub record ListedPoint : Type 0 where
   pub number : ℕ
   pub place : DecimalPoint
   pub attributes : List (List ℕ)
@@ -46,7 +46,7 @@ markers_at true line fields = do
   Ok (marker.0 ∷ [], marker.1)
 
 -- <point #> <x> <y> <z> <attributes> [<marker>]
-unfoldable pub point_of : ℕ → Bool → Option ℕ → ContentLine → Result Point TextFault
+unfoldable pub point_of : ℕ → Bool → Option ℕ → ContentLine → Result ListedPoint TextFault
 point_of attribute_count flag before line = do
   number ← index_at before line.line line.fields
   place ← place_at line.line number.1
@@ -54,7 +54,3 @@ point_of attribute_count flag before line = do
   markers ← markers_at flag line.line attributes.1
   _ ← end_at line.line markers.1
   Ok (record { number = number.0; place = place.0; attributes = attributes.0; markers = markers.0 })
-
--- what was read before, and what is read now
-abbrev pub onto : {X : Type 0} → List X → Result (List X × Fields) TextFault → Result (List X × Fields) TextFault
-onto front read = read >>= λ x. Ok (front ++ x.0, x.1)

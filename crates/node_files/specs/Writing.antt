@@ -38,28 +38,28 @@ like_lines g number [] attributes markers = []
 like_lines g number (p ∷ ps) attributes markers = point_line g number p attributes markers ++ like_lines g (number + 1) ps attributes markers
 
 -- how many markers a point has
-abbrev pub marks_of : Bool → ℕ
-marks_of flag = if flag then 1 else 0
+abbrev pub mark_count : Bool → ℕ
+mark_count flag = if flag then 1 else 0
 
 -- <# of points> 3 <# of attributes> <marker flag>
 abbrev pub head_line : NodeTable → ℕ → List ℕ
-head_line table count = line_text (pos count) (whole_text (pos 3) ∷ whole_text (pos table.attribute_count) ∷ whole_text (pos (marks_of table.flag)) ∷ [])
+head_line table count = line_text (pos count) (whole_text (pos 3) ∷ whole_text (pos table.attribute_count) ∷ whole_text (pos (mark_count table.flag)) ∷ [])
 
 -- the first line, all listed points of the table, and the added ones with these attributes and markers
 unfoldable pub list_text : NodeTable → List Point → ℕ → List (List ℕ) → List ℤ → List ℕ
 list_text table added first attributes markers =
     head_line table (length table.listed + length added)
-    ++ (point_lines table.grid table.attribute_count (marks_of table.flag) first table.listed table.attributes table.markers
+    ++ (point_lines table.grid table.attribute_count (mark_count table.flag) first table.listed table.attributes table.markers
     ++ like_lines table.grid (first + length table.listed) added attributes markers)
 
 -- where the added points have attributes '0', 48, and the marker 0
 abbrev pub node_text : NodeTable → List Point → ℕ → List ℕ
-node_text table added first = list_text table added first (replicate table.attribute_count (48 ∷ [])) (replicate (marks_of table.flag) (pos 0))
+node_text table added first = list_text table added first (replicate table.attribute_count (48 ∷ [])) (replicate (mark_count table.flag) (pos 0))
 
 -- each listed point has as many attributes as stated and a marker where the flag is set, the grid is halved at most 12 times, and equal
 -- points are folded
 pub record IsNodeTable (table : NodeTable) : Type 0 where
   pub attributes : length table.attributes ≡ table.attribute_count * length table.listed
-  pub markers : length table.markers ≡ marks_of table.flag * length table.listed
+  pub markers : length table.markers ≡ mark_count table.flag * length table.listed
   pub halvings : table.grid.halvings ≤ 12
   pub folded : IsFolded table.listed table.points table.names table.folded

@@ -2,7 +2,7 @@
 
 ghost use Rattle.std.specs.Prelude.{◌≡◌, ◌≤◌, drop, IfOk};
 ghost use Rattle.tet_text.specs.Reading.{left_after};
-ghost use Rattle.node_files.specs.Header.{is_within, count_within, count_or, header_of};
+ghost use Rattle.node_files.specs.Header.{is_count_in_range, count_within, count_or, header_of};
 
 use tet_text::{Fields, TextFault, TextKind};
 
@@ -15,7 +15,7 @@ pub(crate) struct Header {
 }
 
 fn is_within(least: u64, most: u64, count: u64) -> bool
-    ensures { result ≡ is_within least most count }
+    ensures { result ≡ is_count_in_range least most count }
 {
     least <= count && count <= most
 }

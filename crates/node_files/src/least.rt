@@ -1,9 +1,9 @@
 //! The least grid on which points have whole coordinates.
 
 ghost use Rattle.std.specs.Prelude.{◌≡◌, ◌≤◌, All, IfOk, option_map, unsigned_abs};
-ghost use Rattle.grid_coords.specs.Units.{limit, within};
-ghost use Rattle.node_files.specs.LeastGrid.{twos_of, fives_of, greatest, size_on, is_over};
-ghost use Rattle.node_files.specs.LeastGrid.{coarsest, first_over, least_grid_of, coordinate_on, point_on, IsOnGrid, IsPointOnGrid};
+ghost use Rattle.grid_coords.specs.Units.{limit, if_at_most};
+ghost use Rattle.node_files.specs.LeastGrid.{twos_of, fives_of, greatest, size_on, is_over_units};
+ghost use Rattle.node_files.specs.LeastGrid.{coarsest, first_over_units, least_grid_of, coordinate_on, point_on, IsInUnits, IsPointInUnits};
 
 use crate::grid::units_on;
 use crate::terms::terms_of;
@@ -57,7 +57,7 @@ fn most_fives(points: &[DecimalPoint]) -> u32
 
 /// The greatest size of the point's coordinates, or None where that is over the limit.
 fn size_on(grid: &Grid, p: &DecimalPoint) -> Option<u64>
-    ensures { result ≡ within limit (size_on grid.now p.now) }
+    ensures { result ≡ if_at_most limit (size_on grid.now p.now) }
 {
     let x = units_on(grid, &p.x)?;
     let y = units_on(grid, &p.y)?;
@@ -66,7 +66,7 @@ fn size_on(grid: &Grid, p: &DecimalPoint) -> Option<u64>
 }
 
 fn is_over(grid: &Grid, p: &DecimalPoint) -> bool
-    ensures { result ≡ is_over grid.now p.now }
+    ensures { result ≡ is_over_units grid.now p.now }
 {
     match size_on(grid, p) {
         Some(_) => false,
@@ -76,7 +76,7 @@ fn is_over(grid: &Grid, p: &DecimalPoint) -> bool
 
 /// The line of the first point with a coordinate over the limit.
 fn line_over(grid: &Grid, points: &[DecimalPoint]) -> Option<usize>
-    ensures { result ≡ option_map (λ p. p.line) (first_over grid.now points.now) }
+    ensures { result ≡ option_map (λ p. p.line) (first_over_units grid.now points.now) }
 {
     for p in points {
         if is_over(grid, p) {
@@ -103,7 +103,7 @@ pub fn least_grid(points: &DecimalPoints) -> Result<Grid, Range>
     ensures value { result ≡ least_grid_of points.now }
 
     // Each point has whole coordinates on the grid, at most 2^23 in size.
-    ensures on_grid { IfOk result (λ g. All (IsPointOnGrid g) points.now) }
+    ensures on_grid { IfOk result (λ g. All (IsPointInUnits g) points.now) }
 {
     let grid = coarsest(points.as_slice());
     match line_over(&grid, points.as_slice()) {
@@ -113,7 +113,7 @@ pub fn least_grid(points: &DecimalPoints) -> Result<Grid, Range>
 }
 
 fn coordinate_on(grid: &Grid, d: &Decimal) -> i32
-    requires { IsOnGrid grid.now d.now }
+    requires { IsInUnits grid.now d.now }
     ensures value { result ≡ coordinate_on grid.now d.now }
     ensures size { unsigned_abs result ≤ limit }
 {
@@ -123,7 +123,7 @@ fn coordinate_on(grid: &Grid, d: &Decimal) -> i32
 
 /// The point in units of a grid on which it has whole coordinates, at most 2^23 in size.
 pub(crate) fn to_least_grid(grid: &Grid, p: &DecimalPoint) -> GridPoint
-    requires { IsPointOnGrid grid.now p.now }
+    requires { IsPointInUnits grid.now p.now }
     ensures { result ≡ point_on grid.now p.now }
 {
     GridPoint {

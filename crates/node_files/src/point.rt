@@ -2,8 +2,9 @@
 
 ghost use Rattle.std.specs.Prelude.{◌≡◌, ◌<◌, ◌^◌, IfOk, true};
 ghost use Rattle.tet_text.specs.Reading.{left_after};
-ghost use Rattle.node_files.specs.Outcome.{Gives};
-ghost use Rattle.node_files.specs.Point.{is_next, index_at, place_at, attributes_at, markers_at, onto};
+ghost use Rattle.node_files.specs.Outcome.{NodeGives};
+ghost use Rattle.node_files.specs.Point.{is_next, index_at, place_at, attributes_at, markers_at};
+ghost use Rattle.tet_text.specs.Repeated.{onto};
 
 use crate::{Markers, NodeFault};
 use grid_coords::DecimalPoint;
@@ -59,7 +60,7 @@ pub(crate) fn read_attributes(
     fields: &mut Fields,
     attributes: &mut Words,
 ) -> Result<(), NodeFault>
-    ensures value { Gives (λ _. (attributes.new, fields.new.fields)) result
+    ensures value { NodeGives (λ _. (attributes.new, fields.new.fields)) result
         (onto attributes.old (attributes_at count fields.old.line fields.old.fields)) }
     ensures line { fields.new.line ≡ fields.old.line }
 {
@@ -78,7 +79,7 @@ pub(crate) fn read_marker(
     fields: &mut Fields,
     markers: &mut Markers,
 ) -> Result<(), NodeFault>
-    ensures value { Gives (λ _. (markers.new, fields.new.fields)) result
+    ensures value { NodeGives (λ _. (markers.new, fields.new.fields)) result
         (onto markers.old (markers_at flag fields.old.line fields.old.fields)) }
     ensures line { fields.new.line ≡ fields.old.line }
 {

@@ -3,7 +3,7 @@
 ghost use Rattle.std.specs.Prelude.{◌≡◌, ◌<◌, ◌≤◌, ◌+◌, ◌-◌, ◌^◌, length, OnErr, IfOk, true};
 ghost use Rattle.tet_text.specs.Lines.{content_lines, line_count_of};
 ghost use Rattle.tet_text.specs.Views.{content_left, line_total};
-ghost use Rattle.node_files.specs.Outcome.{Gives};
+ghost use Rattle.node_files.specs.Outcome.{NodeGives};
 ghost use Rattle.node_files.specs.Point.{is_next};
 ghost use Rattle.node_files.specs.Node.{first_with, point_onto, points_table, node_list_of, node_of, IsNodeText};
 
@@ -35,7 +35,7 @@ fn read_point(
     fields: &mut Fields,
     text: &mut NodeText,
 ) -> Result<u64, NodeFault>
-    ensures { Gives (λ number. (number, text.new)) result
+    ensures { NodeGives (λ number. (number, text.new)) result
         (point_onto header before fields.old text.old) }
 {
     let number = read_index(before, fields)?;
@@ -51,7 +51,7 @@ fn read_point(
 /// The points that the first line states.
 fn read_points(alloc: Global, header: Header, lines: &mut Lines) -> Result<NodeText, NodeFault>
     requires { line_total lines.old + 1 < 2 ^ 64 }
-    ensures value { Gives (λ text. (text, content_left lines.new)) result
+    ensures value { NodeGives (λ text. (text, content_left lines.new)) result
         (points_table header (line_total lines.old) (content_left lines.old)) }
     ensures count { line_total lines.new ≡ line_total lines.old }
 {
@@ -75,7 +75,7 @@ fn read_points(alloc: Global, header: Header, lines: &mut Lines) -> Result<NodeT
 #[tactic(auto, unfolding(crate::specs::Node::node_list_of))]
 fn node_list(alloc: Global, lines: &mut Lines) -> Result<NodeText, NodeFault>
     requires { line_total lines.old + 1 < 2 ^ 64 }
-    ensures value { Gives (λ text. (text, content_left lines.new)) result
+    ensures value { NodeGives (λ text. (text, content_left lines.new)) result
         (node_list_of (line_total lines.old) (content_left lines.old)) }
     ensures count { line_total lines.new ≡ line_total lines.old }
 {
@@ -88,7 +88,7 @@ fn node_list(alloc: Global, lines: &mut Lines) -> Result<NodeText, NodeFault>
 /// refusal the lines are as they were.
 pub fn read_node_list(alloc: Global, lines: &mut Lines) -> Result<NodeText, NodeFault>
     requires { line_total lines.old < 2 ^ 32 - 1 }
-    ensures value { Gives (λ text. (text, content_left lines.new)) result
+    ensures value { NodeGives (λ text. (text, content_left lines.new)) result
         (node_list_of (line_total lines.old) (content_left lines.old)) }
     ensures count { line_total lines.new ≡ line_total lines.old }
     ensures err { OnErr result (lines.new ≡ lines.old) }
@@ -104,7 +104,7 @@ pub fn read_node_list(alloc: Global, lines: &mut Lines) -> Result<NodeText, Node
 #[tactic(auto, unfolding(crate::specs::Node::node_of))]
 pub fn read_node(alloc: Global, bytes: &Bytes) -> Result<NodeText, NodeFault>
     requires { length bytes.now < 2 ^ 32 - 1 }
-    ensures value { Gives (λ text. text) result
+    ensures value { NodeGives (λ text. text) result
         (node_of (line_count_of bytes.now) (content_lines bytes.now)) }
     ensures table { IfOk result IsNodeText }
 {

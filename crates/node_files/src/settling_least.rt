@@ -1,8 +1,9 @@
 //! The points of a mesh on their least grid.
 
 ghost use Rattle.std.specs.Prelude.{◌≡◌, ◌≤◌, ◌<◌, ◌-◌, ◌^◌, map, All, IfOk, length};
-ghost use Rattle.node_files.specs.LeastGrid.{point_on, IsPointOnGrid};
-ghost use Rattle.node_files.specs.SettlingLeast.{rounded_point, rounded_points, Settles};
+ghost use Rattle.node_files.specs.LeastGrid.{point_on, IsPointInUnits};
+ghost use Rattle.node_files.specs.SettlingLeast.{SettlesLeast};
+ghost use Rattle.node_files.specs.Settling.{rounded_point, rounded_points};
 
 use crate::GridFault;
 use crate::least::{least_grid, to_least_grid};
@@ -38,7 +39,7 @@ fn each_rounded(
 
 /// The points in units of a grid on which all have whole coordinates, at most 2^23 in size.
 pub fn grid_points(alloc: Global, grid: &Grid, points: &[DecimalPoint]) -> Result<Points, NoMemory>
-    requires { All (IsPointOnGrid grid.now) points.now }
+    requires { All (IsPointInUnits grid.now) points.now }
     ensures { IfOk result (λ list. list ≡ map (point_on grid.now) points.now) }
 {
     let mut list = Points::with_capacity(alloc, points.len())?;
@@ -50,7 +51,7 @@ pub fn grid_points(alloc: Global, grid: &Grid, points: &[DecimalPoint]) -> Resul
 
 /// The points on their least grid.
 fn on_least_grid(alloc: Global, points: &DecimalPoints) -> Result<Points, GridFault>
-    ensures outcome { Settles points.now None (length points.now) result }
+    ensures outcome { SettlesLeast points.now None (length points.now) result }
     ensures count { IfOk result (λ list. length list ≡ length points.now) }
 {
     let grid = least_grid(points)?;
@@ -68,7 +69,7 @@ pub fn settle_least(
     most_points: u64,
 ) -> Result<Points, GridFault>
     requires { most_points < 2 ^ 32 - 1 }
-    ensures outcome { Settles points.now decimals most_points result }
+    ensures outcome { SettlesLeast points.now decimals most_points result }
     ensures count { IfOk result (λ list. length list ≡ length points.now) }
     ensures few { IfOk result (λ list. length list ≤ most_points) }
 {

@@ -3,7 +3,7 @@
 ghost use Rattle.std.specs.Prelude.{◌≡◌, ◌≤◌, ◌<◌, ◌+◌, ◌*◌, ◌^◌, ◌++◌, [], ◌∷◌, ℤ, pos, length};
 ghost use Rattle.std.specs.Prelude.{map, replicate, OnOk, IfOk};
 ghost use Rattle.grid_coords.specs.Units.{grid_text};
-ghost use Rattle.node_files.specs.Writing.{whole_text, fields_text, place_fields, point_line, point_lines, like_lines, marks_of, head_line, list_text, node_text, IsNodeTable};
+ghost use Rattle.node_files.specs.Writing.{whole_text, fields_text, place_fields, point_line, point_lines, like_lines, mark_count, head_line, list_text, node_text, IsNodeTable};
 
 use crate::{Markers, NodeTable};
 use geo_laws::Points;
@@ -100,7 +100,7 @@ fn put_point(
 
 /// How many markers a point has.
 fn marks_of(flag: bool) -> usize
-    ensures { result ≡ marks_of flag }
+    ensures { result ≡ mark_count flag }
 {
     if flag { 1 } else { 0 }
 }
@@ -111,7 +111,7 @@ fn put_points(table: &NodeTable, first: u32, out: &mut Bytes) -> Result<(), NoMe
     requires few { length table.now.listed < 2 ^ 32 }
     ensures { OnOk result (out.new
         ≡ out.old ++ point_lines table.now.grid table.now.attribute_count
-        (marks_of table.now.flag) first table.now.listed table.now.attributes table.now.markers) }
+        (mark_count table.now.flag) first table.now.listed table.now.attributes table.now.markers) }
 {
     let mut attributes = table.attributes.as_slice();
     let mut markers = table.markers.as_slice();
@@ -180,7 +180,7 @@ fn zero_attributes(alloc: Global, count: u32) -> Result<Words, NoMemory>
 
 /// The marker of an added point, where it has one.
 fn zero_markers(alloc: Global, flag: bool) -> Result<Markers, NoMemory>
-    ensures { IfOk result (λ markers. markers ≡ replicate (marks_of flag) (pos 0)) }
+    ensures { IfOk result (λ markers. markers ≡ replicate (mark_count flag) (pos 0)) }
 {
     let mut markers = Markers::new(alloc);
     if flag {

@@ -11,9 +11,9 @@ use Rattle.tet_text.specs.Numbers.{whole_of}
 use Rattle.grid_coords.specs.declared.points.DecimalPoint.{DecimalPoint}
 use Rattle.node_files.specs.Point.{place_at}
 use Rattle.plc_files.specs.declared.parts.RegionText.{RegionText}
-use Rattle.plc_files.specs.Repeated.{so_many}
 use Rattle.plc_files.specs.Facet.{Lines, last_or_none, region_of, region_line}
 use Rattle.plc_files.proofs.Counts.{step_ok, ok_is}
+use Rattle.tet_text.specs.Repeated.{so_many}
 
 abbrev HasFields : ContentLine → Type 0
 HasFields line = All IsField line.fields

@@ -13,7 +13,7 @@ use Rattle.geo_laws.specs.Complex.{Complex}
 use Rattle.node_files.specs.declared.limits.Limits.{Limits}
 use Rattle.plc_files.specs.declared.fault.PlcFault.{PlcFault}
 use Rattle.tet_text.specs.Lines.{IsField}
-use Rattle.plc_files.specs.Text.{AreWritten, Facet, Plc}
+use Rattle.plc_files.specs.Text.{AreWritten, ReadFacet, Plc}
 use Rattle.plc_files.specs.Checks.{corners_check}
 use Rattle.complex_folding.specs.Folding.{HasCornersBelow}
 use Rattle.plc_files.specs.Binding.{bound_facets, bound_region, complex_of, HasWeights, Binds}
@@ -27,7 +27,7 @@ points_weigh grid hs =
     let P : RationalPoint → Type 0 = λ h. pos 0 <ℤ h.w in
     All-map P (rational_point grid) hs (λ k d lt. million)
 
-facets_weigh : (grid : Grid) (from : ℕ) (fs : List Facet) → All (λ f. All (λ h. pos 0 <ℤ h.w) f.holes) (bound_facets grid from fs)
+facets_weigh : (grid : Grid) (from : ℕ) (fs : List ReadFacet) → All (λ f. All (λ h. pos 0 <ℤ h.w) f.holes) (bound_facets grid from fs)
 facets_weigh grid from [] k d lt = absurd (omega (arith, lt))
 facets_weigh grid from (f ∷ fs) zero d lt = points_weigh grid f.holes
 facets_weigh grid from (f ∷ fs) (suc k) d lt = facets_weigh grid (from + length f.polygons) fs k d (omega (arith, lt))

@@ -19,13 +19,13 @@ use Rattle.point_locate.specs.declared.look.Shape.{Shape}
 use Rattle.point_locate.specs.declared.look.Shape.TheVariants.{Row as RowShape, Ghost as GhostShape}
 
 -- the corner is a point of the list, or the point at infinity
-abbrev pub IsOn : List Point → Corner → Type 0
-IsOn ps (Numbered i) = i < length ps
-IsOn ps Ghost = ⊤
+abbrev pub IsCornerOn : List Point → Corner → Type 0
+IsCornerOn ps (Numbered i) = i < length ps
+IsCornerOn ps Ghost = ⊤
 
 -- and so are all of these
 abbrev pub AreOn : List Point → List Corner → Type 0
-AreOn ps cs = (k : ℕ) → k < 4 → IsOn ps (slice_index_or cs k Ghost)
+AreOn ps cs = (k : ℕ) → k < 4 → IsCornerOn ps (slice_index_or cs k Ghost)
 
 -- the corners of each live slot are points of the list, or the point at infinity
 abbrev pub AreCornersOn : List (Option SlotValue) → List Point → Type 0

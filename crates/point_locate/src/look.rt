@@ -3,7 +3,7 @@ ghost use Rattle.std.specs.Prelude.{◌≡◌, ℕ, ◌<◌, ◌≤ℤ◌, ◌<�
 ghost use Rattle.sign_predicates.specs.Orientation.{side, opposite_face, IsPositive};
 ghost use Rattle.geo_laws.specs.Delaunay.{corners};
 ghost use Rattle.mesh_arena.specs.Mesh.{corner_list};
-ghost use Rattle.point_locate.specs.Place.{corner_point, placed, row_corners, AreOn, IsOn, Looks};
+ghost use Rattle.point_locate.specs.Place.{corner_point, placed, row_corners, AreOn, IsCornerOn, Looks};
 ghost use Rattle.point_locate.specs.Place.{HasShape};
 
 use geo_laws::{Points, Tet};
@@ -49,7 +49,7 @@ pub fn shape_of(t: SlotCorners) -> Shape
 /// The point of a corner, or `p` for the point at infinity. Corners are places in `points`, from 0,
 /// and coordinates are in grid units.
 fn corner_point(points: &Points, p: GridPoint, corner: Corner) -> GridPoint
-    requires { IsOn points.now corner }
+    requires { IsCornerOn points.now corner }
     ensures { result ≡ corner_point points.now p corner }
 {
     match corner {

@@ -7,15 +7,15 @@ use Rattle.std.proofs.lemmas.Nat.{mul-le}
 use Rattle.grid_coords.specs.declared.points.DecimalPoint.{DecimalPoint}
 use Rattle.std.specs.List.{range_with_len}
 use Rattle.node_files.specs.declared.table.NodeTable.{NodeTable}
-use Rattle.point_weights.specs.Weights.{weight_in, line_of, first_attribute, weight_of, behind, all_of, weights_of, ReadsWeights}
+use Rattle.point_weights.specs.Weights.{weight_in, line_of_weight, first_attribute, weight_of, weights_behind, all_of, weights_of, ReadsWeights}
 use Rattle.point_weights.specs.declared.fault.WeightFault.{WeightFault}
 use Rattle.point_weights.specs.declared.fault.WeightFault.TheVariants as faults
 
-behind-behind : (xs ys : List ℤ) (r : Result (List ℤ) WeightFault) → behind xs (behind ys r) ≡ behind (xs ++ ys) r
+behind-behind : (xs ys : List ℤ) (r : Result (List ℤ) WeightFault) → weights_behind xs (weights_behind ys r) ≡ weights_behind (xs ++ ys) r
 behind-behind xs ys (Ok ws) = ap Ok (sym (append_assoc xs ys ws))
 behind-behind xs ys (Err fault) = refl
 
-behind-none : (r : Result (List ℤ) WeightFault) → behind [] r ≡ r
+behind-none : (r : Result (List ℤ) WeightFault) → weights_behind [] r ≡ r
 behind-none (Ok ws) = refl
 behind-none (Err fault) = refl
 
@@ -27,32 +27,32 @@ from_here : (n i : ℕ) → i < n → range_with_len i (n - i) ≡ i ∷ range_w
 from_here n i lt = let e : n - i ≡ suc (n - (i + 1)) = omega arith in ap (range_with_len i) e
 
 -- none is read yet
-pub none_read : (table : NodeTable) (n : ℕ) → all_of (map (weight_of table) (range_with_len 0 n)) ≡ behind [] (weights_from table n 0)
+pub none_read : (table : NodeTable) (n : ℕ) → all_of (map (weight_of table) (range_with_len 0 n)) ≡ weights_behind [] (weights_from table n 0)
 none_read table n = let e : n ≡ n - 0 = omega arith in ap (λ (k : ℕ). all_of (map (weight_of table) (range_with_len 0 k))) e ∙ sym (behind-none _)
 
 -- one more is read
 pub one_read : (table : NodeTable) (n i : ℕ) (w : ℤ) (front : List ℤ) → i < n → weight_of table i ≡ Ok w
-    → behind front (weights_from table n i) ≡ behind (front ++ w ∷ []) (weights_from table n (i + 1))
+    → weights_behind front (weights_from table n i) ≡ weights_behind (front ++ w ∷ []) (weights_from table n (i + 1))
 unfolding all_of
 one_read table n i w front lt is =
     let later = map (weight_of table) (range_with_len (i + 1) (n - (i + 1))) in
-    ap (λ ks. behind front (all_of (map (weight_of table) ks))) (from_here n i lt) ∙ ap (λ r. behind front (all_of (r ∷ later))) is
+    ap (λ ks. weights_behind front (all_of (map (weight_of table) ks))) (from_here n i lt) ∙ ap (λ r. weights_behind front (all_of (r ∷ later))) is
     ∙ behind-behind front (w ∷ []) (all_of later)
 
 -- one is refused
 pub one_refused : (table : NodeTable) (n i : ℕ) (fault : WeightFault) (front : List ℤ) → i < n → weight_of table i ≡ Err fault
-    → behind front (weights_from table n i) ≡ Err fault
+    → weights_behind front (weights_from table n i) ≡ Err fault
 unfolding all_of
 one_refused table n i fault front lt is =
     let later = map (weight_of table) (range_with_len (i + 1) (n - (i + 1))) in
-    ap (λ ks. behind front (all_of (map (weight_of table) ks))) (from_here n i lt) ∙ ap (λ r. behind front (all_of (r ∷ later))) is
+    ap (λ ks. weights_behind front (all_of (map (weight_of table) ks))) (from_here n i lt) ∙ ap (λ r. weights_behind front (all_of (r ∷ later))) is
 
 -- all are read
-pub all_read : (table : NodeTable) (n i : ℕ) (front : List ℤ) → n ≤ i → behind front (weights_from table n i) ≡ Ok front
+pub all_read : (table : NodeTable) (n i : ℕ) (front : List ℤ) → n ≤ i → weights_behind front (weights_from table n i) ≡ Ok front
 unfolding all_of
 all_read table n i front le =
     let e : n - i ≡ 0 = omega arith in
-    ap (λ (k : ℕ). behind front (all_of (map (weight_of table) (range_with_len i k)))) e ∙ ap Ok (append-nil front)
+    ap (λ (k : ℕ). weights_behind front (all_of (map (weight_of table) (range_with_len i k)))) e ∙ ap Ok (append-nil front)
 
 -- a refusal that is not for want of memory is that of the first weight that is refused
 pub refused : (table : NodeTable) (fault : WeightFault) → weights_of table ≡ Err fault → ReadsWeights table (Err fault)
@@ -80,6 +80,6 @@ pub weight_is : (table : NodeTable) (i : ℕ) (p : DecimalPoint) (text : List �
     → get_or table.attributes (i * table.attribute_count) text ≡ text → i * table.attribute_count < length table.attributes → (table.attribute_count == 0) ≡ false
     → r ≡ weight_in table.grid p.line text → r ≡ weight_of table i
 weight_is table i p text r lt at first inside some is =
-    let line : line_of table i ≡ p.line = get_or-map (λ p. p.line) table.decimals i p 0 lt ∙ ap (λ (q : DecimalPoint). q.line) at in
+    let line : line_of_weight table i ≡ p.line = get_or-map (λ p. p.line) table.decimals i p 0 lt ∙ ap (λ (q : DecimalPoint). q.line) at in
     let word : first_attribute table i ≡ text = get_or_default table.attributes (i * table.attribute_count) [] text inside ∙ first in
-    is ∙ ap (λ (l : ℕ). weight_in table.grid l text) (sym line) ∙ ap (weight_in table.grid (line_of table i)) (sym word) ∙ sym (cond-false _ _ _ some)
+    is ∙ ap (λ (l : ℕ). weight_in table.grid l text) (sym line) ∙ ap (weight_in table.grid (line_of_weight table i)) (sym word) ∙ sym (cond-false _ _ _ some)

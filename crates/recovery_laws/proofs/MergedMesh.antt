@@ -17,7 +17,7 @@ use Rattle.facet_laws.proofs.Pieces.{all_sides_tested, area_listed}
 use Rattle.segment_protect.specs.Spots.{HasTwoEnds}
 use Rattle.segment_protect.proofs.PieceLaws.{from_first}
 use Rattle.segment_protect.proofs.Splits.{all_members}
-use Rattle.complex_laws.specs.SoundComplex.{IsSound, facet_at}
+use Rattle.complex_laws.specs.SoundComplex.{IsSoundFacet, facet_numbered}
 use Rattle.recovery_laws.proofs.Pieces.{by_members}
 use Rattle.merge_laws.specs.Merged.{members, merged_facet, merged_segments, outer_sides}
 use Rattle.merge_laws.specs.Merged as merged
@@ -70,7 +70,7 @@ law_merged_sound ps c group inner distinct on flat grouping k = by grouping
     corner : (i : ℕ) → IsMember i (all_corners (merged_facet group c k)) → i < length ps
     corner i m = let o = corner_of group c k i m in on o.e.0 i o.is.below o.corner
 
-    by : IsGrouping ps c group inner → IsSound ps (merged_segments inner c) (merged_facet group c k)
+    by : IsGrouping ps c group inner → IsSoundFacet ps (merged_segments inner c) (merged_facet group c k)
     by (inl merging) = record {
       on = by_members (λ i. i < length ps) (all_corners (merged_facet group c k)) corner;
       flat = law_merged_flat ps c group inner flat merging k;
@@ -108,7 +108,7 @@ item_at f low (suc n) (suc k) d h = item_at f (low + 1) n k d (omega arith) ∙ 
     next : low + 1 + k ≡ low + suc k
     next = omega arith
 
-pub facet_is : (group : ℕ → ℕ) (c : Complex) (k : ℕ) → k < length (merged_facets group c) → facet_at (merged_facets group c) k ≡ merged_facet group c k
+pub facet_is : (group : ℕ → ℕ) (c : Complex) (k : ℕ) → k < length (merged_facets group c) → facet_numbered (merged_facets group c) k ≡ merged_facet group c k
 facet_is group c k h = item_at (merged_facet group c) 0 (length c.facets) k (record { polygons = []; holes = [] }) (subst (λ n. k < n) (length-map-range_with_len (merged_facet group c) 0 (length c.facets)) h) ∙ ap (merged_facet group c) zero_first
   where
     zero_first : 0 + k ≡ k
@@ -122,7 +122,7 @@ law_merged_recovery depth splits ps c group inner qs rest ts r = record {
   start = r.start;
   can_split = r.can_split;
   ends = r.ends;
-  sound = λ k h. subst (IsSound ps (merged_segments inner c)) (sym (facet_is group c k h)) (law_merged_sound ps c group inner r.start.distinct r.corners r.flat r.grouping k);
+  sound = λ k h. subst (IsSoundFacet ps (merged_segments inner c)) (sym (facet_is group c k h)) (law_merged_sound ps c group inner r.start.distinct r.corners r.flat r.grouping k);
   has_triangles = r.has_triangles;
   met = r.met;
 }
@@ -137,5 +137,5 @@ pub law_merged_cover : MergedCoverLaw
 law_merged_cover depth splits ps c group inner qs rest ts r k h p has =
     let after = law_recoverable depth splits ps (merged_segments inner c) (merged_facets group c) qs rest ts (law_merged_recovery depth splits ps c group inner qs rest ts r) in
     let below = subst (λ n. k < n) (sym (length-map-range_with_len (merged_facet group c) 0 (length c.facets))) h in
-    let sound = subst (IsSound qs (merged_segments inner c)) (facet_is group c k below) (after.sound k below) in
+    let sound = subst (IsSoundFacet qs (merged_segments inner c)) (facet_is group c k below) (after.sound k below) in
     law_bounded_cover qs k (merged_facet group c k) p (merged_segments inner c) after.distinct sound.on has sound.flat sound.bounded after.has_pieces

@@ -13,7 +13,7 @@ use Rattle.geo_laws.specs.declared.tetrahedra.Tet.{Tet}
 use Rattle.geo_laws.specs.declared.complex.Piece.{Piece}
 use Rattle.geo_laws.specs.declared.complex.FacetTriangle.{FacetTriangle}
 use Rattle.facet_laws.specs.Region.{CoversBounded}
-use Rattle.complex_laws.specs.SoundComplex.{IsSound, HasTriangles}
+use Rattle.complex_laws.specs.SoundComplex.{IsSoundFacet, HasTriangles}
 use Rattle.refill_laws.specs.Refill.{IsRefill}
 use Rattle.segment_protect.specs.Spots.{HasTwoEnds}
 use Rattle.segment_protect.specs.Ends.{IsStart, CanSplit}
@@ -40,7 +40,7 @@ IsGrouping ps c group inner = IsMerging ps c group inner ⊎ IsUnmerged group in
 abbrev pub MergedSoundLaw : Type 0
 MergedSoundLaw = (ps : List Point) (c : Complex) (group : ℕ → ℕ) (inner : ℕ → Piece → Bool) → HasDistinctPoints ps → HasCornersOn ps c
     → AreFlat ps c → IsGrouping ps c group inner
-    → (k : ℕ) → IsSound ps (merged_segments inner c) (merged_facet group c k)
+    → (k : ℕ) → IsSoundFacet ps (merged_segments inner c) (merged_facet group c k)
 
 -- These segments have two ends each
 abbrev pub MergedEndsLaw : Type 0

@@ -9,7 +9,7 @@ use Rattle.incidence.specs.Pairs.{pairs_of}
 use Rattle.incidence.specs.declared.pairs.Across.{Across}
 use Rattle.mesh_files.specs.Texts.{ele_text, face_text, neigh_text}
 use Rattle.mesh_files.specs.declared.markers.FaceRow.{FaceRow}
-use Rattle.mesh_files.specs.ReadRows.{ele_of, face_of, neigh_of}
+use Rattle.mesh_files.specs.ReadRows.{ele_of, face_list_of, neigh_of}
 use Rattle.node_files.specs.Writing.{node_text}
 use Rattle.node_files.specs.declared.table.NodeTable.{NodeTable}
 use Rattle.node_files.specs.LeastGrid.{coarsest, point_on}
@@ -37,8 +37,8 @@ module _ (seen : FolderSeen) (base : List ℕ) (table : NodeTable) (added : List
   rows_here : ele_of is.points.first (length is.points.decimals) (line_count_of (ele_text names first rows)) (content_lines (ele_text names first rows)) ≡ Ok is.tetrahedra
   rows_here = ap (λ (n : ℕ). ele_of n (length is.points.decimals) (line_count_of (ele_text names first rows)) (content_lines (ele_text names first rows))) numbered ∙ is.ele_read _
 
-  faces_here : face_of is.points.first (length is.points.decimals) (line_count_of (face_text names first faces)) (content_lines (face_text names first faces)) ≡ Ok is.listed
-  faces_here = ap (λ (n : ℕ). face_of n (length is.points.decimals) (line_count_of (face_text names first faces)) (content_lines (face_text names first faces))) numbered ∙ is.face_read _
+  faces_here : face_list_of is.points.first (length is.points.decimals) (line_count_of (face_text names first faces)) (content_lines (face_text names first faces)) ≡ Ok is.listed
+  faces_here = ap (λ (n : ℕ). face_list_of n (length is.points.decimals) (line_count_of (face_text names first faces)) (content_lines (face_text names first faces))) numbered ∙ is.face_read _
 
   neighbors_here : neigh_of is.points.first (line_count_of (neigh_text first (pairs_of rows))) (content_lines (neigh_text first (pairs_of rows))) ≡ Ok is.neighbors
   neighbors_here = ap (λ (n : ℕ). neigh_of n (line_count_of (neigh_text first (pairs_of rows))) (content_lines (neigh_text first (pairs_of rows)))) numbered ∙ is.neigh_read _

@@ -12,18 +12,18 @@ use Rattle.std.proofs.lemmas.List.{append-nil}
 use Rattle.std.proofs.lemmas.List.Folds.{list_all-append}
 use Rattle.tet_text.specs.Decimals.{Scaled}
 use Rattle.tet_text.specs.Lines.{is_line_feed, is_comment_mark, is_no_blank}
-use Rattle.tet_text.specs.Printing.{numeral, with_zeros, with_point, size_text, sign_text, decimal_text}
+use Rattle.tet_text.specs.Printing.{numeral, with_zeros, with_decimal_point, size_text, sign_text, decimal_text}
 use Rattle.tet_text.proofs.Texts.{numeral_zero, numeral_glyphs, numeral_some, no_zeros}
 use Rattle.node_files.specs.Writing.{whole_text}
-use Rattle.reread_laws.specs.Reread.{IsShort}
+use Rattle.reread_laws.specs.Reread.{IsShortNumber}
 use Rattle.reread_laws.proofs.Words.{IsWord}
 
 -- ---- whole numbers
 
-wide : (n : ℕ) → IsShort n → n < 2 ^ 64
+wide : (n : ℕ) → IsShortNumber n → n < 2 ^ 64
 wide n h = lt_of_lt_of_le h (lit≤ tt)
 
-numeral_is : (n : ℕ) → IsShort n → numeral n ≡ decimal n
+numeral_is : (n : ℕ) → IsShortNumber n → numeral n ≡ decimal n
 numeral_is n h = go (cases_eq n 0)
   where
     go : (n ≡ 0) ⊎ (n ≡ 0 → ⊥) → numeral n ≡ decimal n
@@ -33,13 +33,13 @@ numeral_is n h = go (cases_eq n 0)
         some : (n : ℕ) → (n ≡ 0 → ⊥) → 0 < n
         some n ne = grind arith
 
-size_is : (n : ℕ) → IsShort n → size_text n 0 ≡ decimal n
+size_is : (n : ℕ) → IsShortNumber n → size_text n 0 ≡ decimal n
 size_is n h =
     let some = numeral_some n in
     let whole : with_zeros 0 (numeral n) ≡ numeral n = no_zeros (numeral n) 0 some in
-    ap (with_point 0) whole ∙ append-nil (take (length (numeral n) - 0) (numeral n)) ∙ ap (λ (k : ℕ). take k (numeral n)) (let e : length (numeral n) - 0 ≡ length (numeral n) = omega arith in e) ∙ take-length (numeral n) ∙ numeral_is n h
+    ap (with_decimal_point 0) whole ∙ append-nil (take (length (numeral n) - 0) (numeral n)) ∙ ap (λ (k : ℕ). take k (numeral n)) (let e : length (numeral n) - 0 ≡ length (numeral n) = omega arith in e) ∙ take-length (numeral n) ∙ numeral_is n h
 
-pub whole_is_decimal : (n : ℕ) → IsShort n → whole_text (pos n) ≡ decimal n
+pub whole_is_decimal : (n : ℕ) → IsShortNumber n → whole_text (pos n) ≡ decimal n
 whole_is_decimal n h = ap (λ (b : Bool). sign_text b ++ size_text n 0) (le-ltb n 0 (omega arith)) ∙ size_is n h
 
 -- ---- decimals

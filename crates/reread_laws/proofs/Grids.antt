@@ -55,7 +55,7 @@ chosen most ps g e =
 within : (z : ℤ) → unsigned_abs z ≤ 8388608 → (negsuc 8388607 ≤ℤ z) × (z ≤ℤ pos 8388608)
 within z h = (omega (arith, ints), omega (arith, ints))
 
-coordinate_within : (g : Grid) (d : Scaled) → units.IsOnGrid g d → (negsuc 8388607 ≤ℤ grid_coordinate g d) × (grid_coordinate g d ≤ℤ pos 8388608)
+coordinate_within : (g : Grid) (d : Scaled) → units.IsDecimalOnGrid g d → (negsuc 8388607 ≤ℤ grid_coordinate g d) × (grid_coordinate g d ≤ℤ pos 8388608)
 coordinate_within g d on =
     let size = abs_signed (is_negative d) (units.units g.decimals g.halvings d) in
     let small = on.small in

@@ -8,7 +8,7 @@ use Rattle.sign_predicates.specs.Point.{Point, origin}
 use Rattle.geo_laws.specs.Delaunay.{point}
 use Rattle.node_files.specs.Folding.{IsFolded}
 use Rattle.node_files.proofs.Folds.{names_long, kept_at}
-use Rattle.reread_laws.specs.Listed.{ListedLaw}
+use Rattle.reread_laws.specs.Listed.{ListedNamesLaw}
 
 module _ (listed points added : List Point) (names folded : List ℕ) (h : IsFolded listed points names folded) where
   behind : List ℕ
@@ -97,7 +97,7 @@ module _ (listed points added : List Point) (names folded : List ℕ) (h : IsFol
       go (inl li) = let e = kept_name i d li in let within = (kept_at listed points names folded h i li).0 in omega arith
       go (inr (k, lk, is)) = let name = subst (λ (n : ℕ). get_or all n d ≡ length listed + k) (sym is) (added_name k d lk) in omega arith
 
-pub listed_names : ListedLaw
+pub listed_names : ListedNamesLaw
 unfolding all behind
 listed_names listed points added names folded h =
     let count = all_long listed points added names folded h in

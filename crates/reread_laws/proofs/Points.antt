@@ -14,19 +14,19 @@ use Rattle.tet_text.specs.Numbers.{are_digits}
 use Rattle.tet_text.specs.Reading as reading
 use Rattle.tet_text.specs.Reading.{◌>>=◌, Fields, count_at, end_at}
 use Rattle.tet_text.proofs.ContentLines.{no_line}
-use Rattle.grid_coords.specs.Units.{decimal_at, grid_text}
+use Rattle.grid_coords.specs.Units.{decimal_of_units, grid_text}
 use Rattle.grid_coords.specs.declared.grid.Grid.{Grid}
 use Rattle.grid_coords.specs.declared.points.DecimalPoint.{DecimalPoint}
 use Rattle.grid_coords.proofs.Printed.{number_at}
 use Rattle.node_files.specs.Header.{header_of, count_or}
-use Rattle.node_files.specs.Node.{points_of, points_table, node_list_of, node_of, text_of, first_number}
+use Rattle.node_files.specs.Node.{points_of, points_table, node_list_of, node_of, listed_text, first_number}
 use Rattle.node_files.specs.Point.{point_of, index_at, place_at, attributes_at, markers_at, is_next}
 use Rattle.node_files.specs.Point as read
-use Rattle.node_files.specs.Writing.{whole_text, fields_text, line_text, place_fields, point_lines, like_lines, list_text, node_text, marks_of}
+use Rattle.node_files.specs.Writing.{whole_text, fields_text, line_text, place_fields, point_lines, like_lines, list_text, node_text, mark_count}
 use Rattle.node_files.specs.declared.table.NodeTable.{NodeTable}
 use Rattle.written_laws.specs.LeastGrids.{IsPointAt}
 use Rattle.written_laws.proofs.Reread.{reread}
-use Rattle.reread_laws.specs.Reread.{IsShort}
+use Rattle.reread_laws.specs.Reread.{IsShortNumber}
 use Rattle.reread_laws.specs.NodeRead.{IsLegible, IsLegiblePoint, IsBareTable, NodeReadLaw}
 use Rattle.reread_laws.proofs.Words.{IsWord, AreWords, joined, line_read}
 use Rattle.reread_laws.proofs.Decimals.{decimal_word}
@@ -40,7 +40,7 @@ unfolding fields_text
 joined_is [] = refl
 joined_is (f ∷ fs) = ap (λ (s : List ℕ). 32 ∷ (f ++ s)) (joined_is fs)
 
-text_line : (k n : ℕ) (fs : List (List ℕ)) (rest : List ℕ) → IsShort n → AreWords fs
+text_line : (k n : ℕ) (fs : List (List ℕ)) (rest : List ℕ) → IsShortNumber n → AreWords fs
     → content_lines_from k (lines_of (line_text (pos n) fs ++ rest)) ≡ record { line = k; fields = decimal n ∷ fs } ∷ content_lines_from (k + 1) (lines_of rest)
 unfolding line_text
 text_line k n fs rest h all =
@@ -59,41 +59,41 @@ some_byte : (w : List ℕ) (d : Scaled) → decimal_of w ≡ Some d → 0 < leng
 some_byte [] d e = let clash : None ≡ Some d = sym nothing_read ∙ e in absurd (cc)
 some_byte (c ∷ w) d e = omega arith
 
-value_read : (g : Grid) (c : ℤ) → g.halvings ≤ 12 → IsLegible g c → decimal_of (grid_text g c) ≡ Some (decimal_at g c)
+value_read : (g : Grid) (c : ℤ) → g.halvings ≤ 12 → IsLegible g c → decimal_of (grid_text g c) ≡ Some (decimal_of_units g c)
 value_read g c few is = (reread g c is.small few is.short).0
 
 coordinate_word : (g : Grid) (c : ℤ) → g.halvings ≤ 12 → IsLegible g c → IsWord (grid_text g c)
-coordinate_word g c few is = text_word (decimal_at g c) (some_byte (grid_text g c) (decimal_at g c) (value_read g c few is))
+coordinate_word g c few is = text_word (decimal_of_units g c) (some_byte (grid_text g c) (decimal_of_units g c) (value_read g c few is))
 
-coordinate_read : (line : ℕ) (g : Grid) (c : ℤ) (rest : Fields) → g.halvings ≤ 12 → IsLegible g c → reading.decimal_at line (grid_text g c ∷ rest) ≡ Ok (decimal_at g c, rest)
+coordinate_read : (line : ℕ) (g : Grid) (c : ℤ) (rest : Fields) → g.halvings ≤ 12 → IsLegible g c → reading.decimal_at line (grid_text g c ∷ rest) ≡ Ok (decimal_of_units g c, rest)
 coordinate_read line g c rest few is = ap (λ (o : Option Scaled). ok_or o (not_a_number line) >>= λ k. Ok (k, rest)) (value_read g c few is)
 
 -- the point as it is read on a line
 placed : Grid → ℕ → Point → DecimalPoint
-placed g line p = record { x = decimal_at g p.x; y = decimal_at g p.y; z = decimal_at g p.z; line = line }
+placed g line p = record { x = decimal_of_units g p.x; y = decimal_of_units g p.y; z = decimal_of_units g p.z; line = line }
 
 place_read : (line : ℕ) (g : Grid) (p : Point) → g.halvings ≤ 12 → IsLegiblePoint g p → place_at line (place_fields g p) ≡ Ok (placed g line p, [])
 unfolding place_at placed
 place_read line g p few is =
     ap (λ (r : Result (Scaled × Fields) TextFault). r >>= λ x. reading.decimal_at line x.1 >>= λ y. reading.decimal_at line y.1 >>= λ z. ended (record { x = x.0; y = y.0; z = z.0; line = line }) z.1) (coordinate_read line g p.x (grid_text g p.y ∷ grid_text g p.z ∷ []) few is.x)
-    ∙ ap (λ (r : Result (Scaled × Fields) TextFault). r >>= λ y. reading.decimal_at line y.1 >>= λ z. ended (record { x = decimal_at g p.x; y = y.0; z = z.0; line = line }) z.1) (coordinate_read line g p.y (grid_text g p.z ∷ []) few is.y)
-    ∙ ap (λ (r : Result (Scaled × Fields) TextFault). r >>= λ z. ended (record { x = decimal_at g p.x; y = decimal_at g p.y; z = z.0; line = line }) z.1) (coordinate_read line g p.z [] few is.z)
+    ∙ ap (λ (r : Result (Scaled × Fields) TextFault). r >>= λ y. reading.decimal_at line y.1 >>= λ z. ended (record { x = decimal_of_units g p.x; y = y.0; z = z.0; line = line }) z.1) (coordinate_read line g p.y (grid_text g p.z ∷ []) few is.y)
+    ∙ ap (λ (r : Result (Scaled × Fields) TextFault). r >>= λ z. ended (record { x = decimal_of_units g p.x; y = decimal_of_units g p.y; z = z.0; line = line }) z.1) (coordinate_read line g p.z [] few is.z)
   where
     ended : DecimalPoint → Fields → Result (DecimalPoint × Fields) TextFault
     ended d fields = Ok (d, fields)
 
 -- ---- points
 
-number_read : (before : Option ℕ) (line n : ℕ) (rest : Fields) → IsShort n → is_next before n ≡ true → index_at before line (decimal n ∷ rest) ≡ Ok (n, rest)
+number_read : (before : Option ℕ) (line n : ℕ) (rest : Fields) → IsShortNumber n → is_next before n ≡ true → index_at before line (decimal n ∷ rest) ≡ Ok (n, rest)
 unfolding index_at
 number_read before line n rest h next =
     ap (λ (r : Result (ℕ × Fields) TextFault). r >>= λ number. if is_next before number.0 then Ok number else Err (bad_index line)) (count_read line n rest h)
     ∙ cond-true (is_next before n) _ _ next
 
-made : Grid → ℕ → ℕ → Point → read.Point
+made : Grid → ℕ → ℕ → Point → read.ListedPoint
 made g n line p = record { number = n; place = placed g line p; attributes = []; markers = [] }
 
-point_read : (before : Option ℕ) (line n : ℕ) (g : Grid) (p : Point) → IsShort n → is_next before n ≡ true → g.halvings ≤ 12 → IsLegiblePoint g p
+point_read : (before : Option ℕ) (line n : ℕ) (g : Grid) (p : Point) → IsShortNumber n → is_next before n ≡ true → g.halvings ≤ 12 → IsLegiblePoint g p
     → point_of 0 false before (record { line = line; fields = decimal n ∷ place_fields g p }) ≡ Ok (made g n line p)
 unfolding point_of attributes_at markers_at made
 point_read before line n g p h next few is = rw (number_read before line n (place_fields g p) h next, place_read line g p few is) refl
@@ -102,7 +102,7 @@ bare_lines : Grid → ℕ → List Point → List ℕ
 bare_lines g n [] = []
 bare_lines g n (p ∷ ps) = line_text (pos n) (place_fields g p) ++ bare_lines g (n + 1) ps
 
-all_made : Grid → ℕ → ℕ → List Point → List read.Point
+all_made : Grid → ℕ → ℕ → List Point → List read.ListedPoint
 all_made g n k [] = []
 all_made g n k (p ∷ ps) = made g n k p ∷ all_made g (n + 1) (k + 1) ps
 
@@ -116,22 +116,22 @@ points_read g few total k n before [] next small all = λ j. Ok ([], no_line k [
 points_read g few total k n before (p ∷ ps) next small all =
     let others = points_read g few total (k + 1) (n + 1) (Some n) ps (eq-eqb (n + 1) (n + 1) refl) (omega arith) (λ i d l. all (suc i) d (omega arith)) in
     ap (λ (ls : List ContentLine). points_of 0 false before (suc (length ps)) total ls) lines
-    ∙ ap (λ (r : Result read.Point TextFault). go r) (point_read before k n g p short next few is)
-    ∙ ap (λ (r : Result (List read.Point × List ContentLine) TextFault). add r) others
+    ∙ ap (λ (r : Result read.ListedPoint TextFault). go r) (point_read before k n g p short next few is)
+    ∙ ap (λ (r : Result (List read.ListedPoint × List ContentLine) TextFault). add r) others
   where
     is : IsLegiblePoint g p
     is = all 0 p (omega arith)
 
-    short : IsShort n
+    short : IsShortNumber n
     short = omega arith
 
     lines : content_lines_from k (lines_of (bare_lines g n (p ∷ ps))) ≡ record { line = k; fields = decimal n ∷ place_fields g p } ∷ content_lines_from (k + 1) (lines_of (bare_lines g (n + 1) ps))
     lines = text_line k n (place_fields g p) (bare_lines g (n + 1) ps) short (place_words g p few is)
 
-    go : Result read.Point TextFault → Result (List read.Point × List ContentLine) TextFault
+    go : Result read.ListedPoint TextFault → Result (List read.ListedPoint × List ContentLine) TextFault
     go r = r >>= λ one. points_of 0 false (Some one.number) (length ps) total (content_lines_from (k + 1) (lines_of (bare_lines g (n + 1) ps))) >>= λ more. Ok (one ∷ more.0, more.1)
 
-    add : Result (List read.Point × List ContentLine) TextFault → Result (List read.Point × List ContentLine) TextFault
+    add : Result (List read.ListedPoint × List ContentLine) TextFault → Result (List read.ListedPoint × List ContentLine) TextFault
     add r = r >>= λ more. Ok (made g n k p ∷ more.0, more.1)
 
 -- ---- the table
@@ -166,17 +166,17 @@ text_is table added first bare =
   where
     f : ℕ → Bool → List ℕ
     f count flag =
-        line_text (pos (length table.listed + length added)) (whole_text (pos 3) ∷ whole_text (pos count) ∷ whole_text (pos (marks_of flag)) ∷ [])
-        ++ (point_lines table.grid count (marks_of flag) first table.listed table.attributes table.markers
-        ++ like_lines table.grid (first + length table.listed) added (replicate count (48 ∷ [])) (replicate (marks_of flag) (pos 0)))
+        line_text (pos (length table.listed + length added)) (whole_text (pos 3) ∷ whole_text (pos count) ∷ whole_text (pos (mark_count flag)) ∷ [])
+        ++ (point_lines table.grid count (mark_count flag) first table.listed table.attributes table.markers
+        ++ like_lines table.grid (first + length table.listed) added (replicate count (48 ∷ [])) (replicate (mark_count flag) (pos 0)))
 
-zero_short : IsShort 0
+zero_short : IsShortNumber 0
 zero_short = omega arith
 
-three_short : IsShort 3
+three_short : IsShortNumber 3
 three_short = omega arith
 
-heading_read : (k count : ℕ) → IsShort count → header_of (record { line = k; fields = decimal count ∷ decimal 3 ∷ decimal 0 ∷ decimal 0 ∷ [] }) ≡ Ok (record { count = count; attribute_count = 0; flag = false })
+heading_read : (k count : ℕ) → IsShortNumber count → header_of (record { line = k; fields = decimal count ∷ decimal 3 ∷ decimal 0 ∷ decimal 0 ∷ [] }) ≡ Ok (record { count = count; attribute_count = 0; flag = false })
 unfolding header_of
 heading_read k count h =
     ap (λ (r : Result (ℕ × Fields) TextFault). r >>= λ count. count_or 3 3 3 k count.1 >>= λ dimension. count_or 0 0 100 k dimension.1 >>= λ attributes. count_or 0 0 1 k attributes.1 >>= λ flag. end_at k flag.1 >>= λ u. Ok (record { count = count.0; attribute_count = attributes.0; flag = flag.0 == 1 })) (count_read k count _ h)
@@ -210,7 +210,7 @@ pub node_read : NodeReadLaw
 unfolding node_of node_list_of points_table bare_text
 node_read table added first bare one short all =
     let long = made_long g first 2 ps in (
-      text_of (record { count = length ps; attribute_count = 0; flag = false }) (all_made g first 2 ps),
+      listed_text (record { count = length ps; attribute_count = 0; flag = false }) (all_made g first 2 ps),
       λ total. ap (λ (s : List ℕ). node_of total (content_lines_from 1 (lines_of s))) (text_is table added first bare) ∙ ap (λ (ls : List ContentLine). node_of total ls) lines
           ∙ rw (heading_read 1 (length ps) few, body total) refl,
       record { numbered = made_number g first 2 ps; decimals = record { long = long; at = λ i d lt. at_made g first 2 ps all i d (omega arith) }; bare = made_bare g first 2 ps },
@@ -222,7 +222,7 @@ node_read table added first bare one short all =
     ps : List Point
     ps = table.listed ++ added
 
-    few : IsShort (length ps)
+    few : IsShortNumber (length ps)
     few = let h = short in omega arith
 
     lines : content_lines_from 1 (lines_of (bare_text g first ps)) ≡ record { line = 1; fields = decimal (length ps) ∷ decimal 3 ∷ decimal 0 ∷ decimal 0 ∷ [] } ∷ content_lines_from 2 (lines_of (bare_lines g first ps))

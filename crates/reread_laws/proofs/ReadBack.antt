@@ -3,12 +3,11 @@ use Rattle.std.proofs.Common.{◌≡◌, ℕ, ◌+◌, ◌<◌, List, ◌++◌, 
 use Rattle.std.specs.Prelude.{All, Contains, IfSome, max, slice_index, slice_index_or}
 use Rattle.std.proofs.lemmas.List.{length-map}
 use Rattle.sign_predicates.specs.Point.{Point}
-use Rattle.geo_laws.specs.Delaunay.{IsOn}
+use Rattle.geo_laws.specs.Delaunay.{IsOn, row_at}
 use Rattle.geo_laws.specs.Faces.{row_faces, faces_of_rows}
 use Rattle.geo_laws.specs.declared.faces.Face.{Face}
 use Rattle.geo_laws.specs.declared.tetrahedra.Tet.{Tet}
 use Rattle.geo_laws.proofs.Members.{contains_of, member_of, flat_map_cases}
-use Rattle.incidence.specs.Links.{row_at}
 use Rattle.incidence.specs.Pairs.{partner, pairs_of, across_of}
 use Rattle.mesh_files.specs.declared.markers.FaceRow.{FaceRow}
 use Rattle.mesh_check.specs.Corners.{face_listed}
@@ -22,7 +21,7 @@ use Rattle.written_laws.specs.WrittenMesh.{written_mesh}
 use Rattle.written_laws.proofs.LargerUnit.{larger_unit}
 use Rattle.written_laws.proofs.Renamed.{renamed_mesh}
 use Rattle.reread_laws.specs.ReadBack.{ReadBackLaw}
-use Rattle.reread_laws.specs.Reread.{IsShort, IsOneOf, HasNames, HasFaceNames, AreBelow}
+use Rattle.reread_laws.specs.Reread.{IsShortNumber, IsOneOf, HasNames, HasFaceNames, AreBelow}
 use Rattle.reread_laws.proofs.Points.{node_read}
 use Rattle.reread_laws.proofs.Rows.{ele_read, face_read, neigh_read}
 
@@ -85,9 +84,9 @@ read_back table added names first ps rows faces is none =
       points_long = long;
       rows_long = length-map rows (renamed_row (slice_index names));
       fits = least.fits;
-      ele_read = λ total. ele_read names first (length text.decimals) total rows (subst IsShort count is.points_short) is.rows_short (λ k d lt. row_names (length text.decimals) long k d lt);
-      face_read = λ total. face_read names first (length text.decimals) total faces (subst IsShort count is.points_short) is.faces_short (λ k d lt. listed_names (length text.decimals) long k d lt);
-      neigh_read = λ total. neigh_read first total (pairs_of rows) (subst (λ (n : ℕ). IsShort (first + n)) (sym (pairs_long rows)) is.rows_short) (neighbors_below rows);
+      ele_read = λ total. ele_read names first (length text.decimals) total rows (subst IsShortNumber count is.points_short) is.rows_short (λ k d lt. row_names (length text.decimals) long k d lt);
+      face_read = λ total. face_read names first (length text.decimals) total faces (subst IsShortNumber count is.points_short) is.faces_short (λ k d lt. listed_names (length text.decimals) long k d lt);
+      neigh_read = λ total. neigh_read first total (pairs_of rows) (subst (λ (n : ℕ). IsShortNumber (first + n)) (sym (pairs_long rows)) is.rows_short) (neighbors_below rows);
       sound = larger_unit _ qs (map (point_on (coarsest text.decimals)) text.decimals) least.same _ _ _ (renamed_mesh names ps qs is.named rows faces (pairs_of rows) is.on none);
     }
   where

@@ -2,19 +2,19 @@
 use Rattle.std.specs.Prelude.{◌≡◌, ℕ, ◌+◌, ◌<◌, ◌≤◌, unsigned_abs, ℤ, List, ◌++◌, length, All, false, [], Ok}
 use Rattle.sign_predicates.specs.Point.{Point}
 use Rattle.tet_text.specs.Lines.{content_lines}
-use Rattle.grid_coords.specs.Units.{limit, decimal_at}
+use Rattle.grid_coords.specs.Units.{limit, decimal_of_units}
 use Rattle.grid_coords.specs.declared.grid.Grid.{Grid}
 use Rattle.node_files.specs.Node.{node_of}
 use Rattle.node_files.specs.Writing.{node_text}
 use Rattle.node_files.specs.declared.node_text.NodeText.{NodeText}
 use Rattle.node_files.specs.declared.table.NodeTable.{NodeTable}
 use Rattle.written_laws.specs.LeastGrids.{ArePointsAt}
-use Rattle.reread_laws.specs.Reread.{IsShort}
+use Rattle.reread_laws.specs.Reread.{IsShortNumber}
 
 -- a coordinate at most 2^23 in size, with at most 35 decimals
 pub record IsLegible (g : Grid) (c : ℤ) : Type 0 where
   pub small : unsigned_abs c ≤ limit
-  pub short : (decimal_at g c).scale ≤ 35
+  pub short : (decimal_of_units g c).scale ≤ 35
 
 pub record IsLegiblePoint (g : Grid) (p : Point) : Type 0 where
   pub x : IsLegible g p.x
@@ -36,7 +36,7 @@ pub record IsReadBack (g : Grid) (first : ℕ) (ps : List Point) (text : NodeTex
 -- `.node`: the text of points is read back as their decimals
 abbrev pub NodeReadLaw : Type 0
 NodeReadLaw = (table : NodeTable) (added : List Point) (first : ℕ) → IsBareTable table → first ≤ 1
-    → IsShort (first + length (table.listed ++ added))
+    → IsShortNumber (first + length (table.listed ++ added))
     → All (IsLegiblePoint table.grid) (table.listed ++ added)
     → (text : NodeText) × ((total : ℕ) → node_of total (content_lines (node_text table added first)) ≡ Ok text)
     × IsReadBack table.grid first (table.listed ++ added) text

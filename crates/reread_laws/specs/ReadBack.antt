@@ -8,7 +8,7 @@ use Rattle.incidence.specs.Pairs.{pairs_of}
 use Rattle.incidence.specs.declared.pairs.Across.{Across}
 use Rattle.mesh_files.specs.Texts.{ele_text, face_text, neigh_text}
 use Rattle.mesh_files.specs.declared.markers.FaceRow.{FaceRow}
-use Rattle.mesh_files.specs.ReadRows.{ele_of, face_of, neigh_of}
+use Rattle.mesh_files.specs.ReadRows.{ele_of, face_list_of, neigh_of}
 use Rattle.node_files.specs.Node.{node_of}
 use Rattle.node_files.specs.Writing.{node_text}
 use Rattle.node_files.specs.declared.node_text.NodeText.{NodeText}
@@ -19,7 +19,7 @@ use Rattle.mesh_check.specs.declared.defect.Verdict.TheVariants.{Sound}
 use Rattle.written_laws.specs.Renamed.{AreNamesIn}
 use Rattle.written_laws.specs.WrittenMesh.{written_mesh}
 use Rattle.reread_laws.specs.NodeRead.{IsBareTable, IsLegiblePoint}
-use Rattle.reread_laws.specs.Reread.{IsShort}
+use Rattle.reread_laws.specs.Reread.{IsShortNumber}
 
 -- A mesh whose texts can be read: points without attributes and markers, each coordinate with at most 35 decimals; names of its points in
 -- the list of points that is written; and numbers and markers of at most 18 digits
@@ -30,10 +30,10 @@ pub record IsReadable (table : NodeTable) (added : List Point) (names : List ℕ
   pub named : AreNamesIn names ps (table.listed ++ added)
   pub within : All (λ n. n < length (table.listed ++ added)) names
   pub on : All (IsOn ps) rows
-  pub points_short : IsShort (first + length (table.listed ++ added))
-  pub rows_short : IsShort (first + length rows)
-  pub faces_short : IsShort (first + length faces)
-  pub markers_short : All (λ f. IsShort (unsigned_abs f.marker)) faces
+  pub points_short : IsShortNumber (first + length (table.listed ++ added))
+  pub rows_short : IsShortNumber (first + length rows)
+  pub faces_short : IsShortNumber (first + length faces)
+  pub markers_short : All (λ f. IsShortNumber (unsigned_abs f.marker)) faces
 
 -- what the texts of a mesh are read as: points that fit their least grid, and rows, faces and neighbors among which there is no defect
 pub record AreReadSound (table : NodeTable) (added : List Point) (names : List ℕ) (first : ℕ) (rows : List Tet)
@@ -48,7 +48,7 @@ pub record AreReadSound (table : NodeTable) (added : List Point) (names : List �
   pub rows_long : length tetrahedra ≡ length rows
   pub fits : least_grid_of points.decimals ≡ Ok (coarsest points.decimals)
   pub ele_read : (total : ℕ) → ele_of first (length points.decimals) total (content_lines (ele_text names first rows)) ≡ Ok tetrahedra
-  pub face_read : (total : ℕ) → face_of first (length points.decimals) total (content_lines (face_text names first faces)) ≡ Ok listed
+  pub face_read : (total : ℕ) → face_list_of first (length points.decimals) total (content_lines (face_text names first faces)) ≡ Ok listed
   pub neigh_read : (total : ℕ) → neigh_of first total (content_lines (neigh_text first (pairs_of rows))) ≡ Ok neighbors
   pub sound : IsVerdict (record { points = map (point_on (coarsest points.decimals)) points.decimals; rows = tetrahedra; faces = listed; neighbors = neighbors }) Sound
 

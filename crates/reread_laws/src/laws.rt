@@ -1,6 +1,6 @@
 //! The texts of a mesh are read back.
 ghost use Rattle.reread_laws.specs.Checked.{CheckedBackLaw};
-ghost use Rattle.reread_laws.specs.Listed.{ListedLaw};
+ghost use Rattle.reread_laws.specs.Listed.{ListedNamesLaw};
 ghost use Rattle.reread_laws.specs.NodeRead.{NodeReadLaw};
 ghost use Rattle.reread_laws.specs.ReadBack.{ReadBackLaw};
 ghost use Rattle.reread_laws.specs.Reread.{EleReadLaw, FaceReadLaw, NeighReadLaw};
@@ -35,7 +35,7 @@ pub fn law_read_back()
 /// The names of points that are kept of a list, and those of added points, are rising places in the
 /// list with the added points behind it, where the same points stand.
 pub fn law_listed()
-    ensures { ListedLaw }
+    ensures { ListedNamesLaw }
 {}
 
 /// The check of the files that are written of a mesh without a defect, without attributes and

@@ -7,7 +7,7 @@ use Rattle.std.proofs.Math.Nat.{div-le_of_le-mul, le-div_iff_mul-le}
 use Rattle.exact_algebra.proofs.Ring.{var, num, ring, same, ◌⊕◌, ◌⊗◌}
 use Rattle.exact_algebra.proofs.Signs.{mul_le, mul_nonneg, le_of_mul}
 use Rattle.crossing_laws.proofs.Tests.{lt_not}
-use Rattle.row_cells.specs.Boxes.{ahead, along, span_of, spans}
+use Rattle.row_cells.specs.Boxes.{ahead, whole_units, span_of, spans}
 
 -- ---- weighted sums
 
@@ -85,7 +85,7 @@ le_times : (h m n : ℕ) → pos n ≤ℤ (pos h *ℤ pos m) → n ≤ h * m
 le_times h m n le = omega (arith, ints, le)
 
 -- whole units between two numbers of them
-between : (l h m : ℕ) (parts : ℤ) → 0 < m → (pos l *ℤ pos m) ≤ℤ parts → parts ≤ℤ (pos h *ℤ pos m) → spans (record { low = l; high = h }) (along parts (pos m)) ≡ true
+between : (l h m : ℕ) (parts : ℤ) → 0 < m → (pos l *ℤ pos m) ≤ℤ parts → parts ≤ℤ (pos h *ℤ pos m) → spans (record { low = l; high = h }) (whole_units parts (pos m)) ≡ true
 between l h m (pos n) some low high =
     let at_least : l ≤ n / m = (le-div_iff_mul-le some).1 (times_le l m n low) in
     let product = le_times h m n high in
@@ -99,7 +99,7 @@ between l h m (negsuc n) some low high = absurd (below (pos l *ℤ pos m) (mul_n
 
 -- the cell of a point along an axis lies in the span of the corners
 pub in_span : (wa wb wc wd a b c d v w x : ℤ) → Weighs wa wb wc wd a b c d v w x → pos 0 <ℤ w → negsuc 8388607 ≤ℤ a → negsuc 8388607 ≤ℤ b → negsuc 8388607 ≤ℤ c → negsuc 8388607 ≤ℤ d
-    → spans (span_of (ahead a) (ahead b) (ahead c) (ahead d)) (along (x +ℤ pos 8388608 *ℤ w) w) ≡ true
+    → spans (span_of (ahead a) (ahead b) (ahead c) (ahead d)) (whole_units (x +ℤ pos 8388608 *ℤ w) w) ≡ true
 in_span wa wb wc wd a b c d v (negsuc m) x k some la lb lc ld = absurd (omega (arith, ints))
 in_span wa wb wc wd a b c d v (pos m) x k some la lb lc ld =
     let l : ℕ = min (min (min (ahead a) (ahead b)) (ahead c)) (ahead d) in

@@ -13,7 +13,7 @@ use Rattle.geo_laws.proofs.Members.{both_true}
 use Rattle.crossing_laws.proofs.Cramer.{weights-w, weights-x, side-a_a, side-a_b, side-a_c, side-a_d, side-b_a, side-b_b, side-b_c, side-b_d, side-c_a, side-c_b, side-c_c, side-c_d, side-d_a, side-d_b, side-d_c, side-d_d}
 use Rattle.crossing_laws.proofs.Identities.{leg_point, side_rational-leg_point}
 use Rattle.row_cells.specs.Boxes.{ahead, box_of, AreOnGrid}
-use Rattle.row_cells.specs.Parts.{reaches, end_at, MeetsSlab, ReachLaw}
+use Rattle.row_cells.specs.Parts.{reaches, cell_end, MeetsSlab, ReachLaw}
 use Rattle.row_cells.specs.declared.parts.Axis.TheVariants.{X}
 use Rattle.row_cells.proofs.Along.{Weighs, most, least, ahead_is, low_end, high_end}
 
@@ -116,8 +116,8 @@ le_at a b c d h e f = omega (arith, ints)
 right_of : (l r w x : ℤ) → pos 0 ≤ℤ w → l ≤ℤ r → x ≡ l *ℤ w → x ≤ℤ (r *ℤ w)
 right_of l r w x hw h is = le_at (w *ℤ l) (w *ℤ r) x (r *ℤ w) (mul_le w l r hw h) (swap w l ∙ sym is) (swap w r)
 
-common : (from to : ℕ) (t : Corners) → from ≤ to → Low t (end_at to) → High t (end_at from) → MeetsSlab from to t
-common from to t ends low high = go (low.at.x) (high.at.x) (test (end_at from) low.at.x)
+common : (from to : ℕ) (t : Corners) → from ≤ to → Low t (cell_end to) → High t (cell_end from) → MeetsSlab from to t
+common from to t ends low high = go (low.at.x) (high.at.x) (test (cell_end from) low.at.x)
   where
     test : (l v : ℤ) → (l ≤ℤ v) ⊎ (v <ℤ l)
     test l v = grind (arith, ints)
@@ -143,10 +143,10 @@ common from to t ends low high = go (low.at.x) (high.at.x) (test (end_at from) l
     low_at : (l n : ℤ) → n ≡ l → l ≤ℤ n
     low_at l n e = omega (arith, ints)
 
-    go : (v u : ℤ) → (end_at from ≤ℤ low.at.x) ⊎ (low.at.x <ℤ end_at from) → MeetsSlab from to t
-    go v u (inl h) = (as_rational low.at, omega (arith, ints), (low.closed, record { left = once (end_at from) low.at.x h; right = once_right (end_at to) low.at.x low.is }))
+    go : (v u : ℤ) → (cell_end from ≤ℤ low.at.x) ⊎ (low.at.x <ℤ cell_end from) → MeetsSlab from to t
+    go v u (inl h) = (as_rational low.at, omega (arith, ints), (low.closed, record { left = once (cell_end from) low.at.x h; right = once_right (cell_end to) low.at.x low.is }))
     go v u (inr h) =
-        let l = end_at from in
+        let l = cell_end from in
         let m = high.at.x +ℤ neg_ℤ l in
         let n = l +ℤ neg_ℤ low.at.x in
         let z = leg_point m n (as_rational low.at) (as_rational high.at) in
@@ -156,7 +156,7 @@ common from to t ends low high = go (low.at.x) (high.at.x) (test (end_at from) l
           w,
           (
             leg_closed t m n (as_rational low.at) (as_rational high.at) (gap l high.at.x high.is) (gap low.at.x l (strict l low.at.x h)) low.closed high.closed,
-            record { left = low_at (l *ℤ z.w) z.x plane; right = right_of l (end_at to) z.w z.x (weak z.w w) wide plane },
+            record { left = low_at (l *ℤ z.w) z.x plane; right = right_of l (cell_end to) z.w z.x (weak z.w w) wide plane },
           ),
         )
 
@@ -194,5 +194,5 @@ reach_law place from to t ends p grid = (there, back)
         let most_x = most _ _ _ _ t.a.x t.b.x t.c.x t.d.x (volume t) x.w x.x (pos high -ℤ pos 8388608) weighs
         (high_end t.a.x high (ahead t.a.x) (omega arith) (ahead_is t.a.x grid.a.x_low)) (high_end t.b.x high (ahead t.b.x) (omega arith) (ahead_is t.b.x grid.b.x_low))
         (high_end t.c.x high (ahead t.c.x) (omega arith) (ahead_is t.c.x grid.c.x_low)) (high_end t.d.x high (ahead t.d.x) (omega arith) (ahead_is t.d.x grid.d.x_low)) in
-        two_true _ _ (le-leb low to (numbers low to (cancel (pos low -ℤ pos 8388608) (end_at to) x.w x.x m.1 least_x slab.right)))
-        (le-leb from high (numbers from high (cancel (end_at from) (pos high -ℤ pos 8388608) x.w x.x m.1 slab.left most_x)))
+        two_true _ _ (le-leb low to (numbers low to (cancel (pos low -ℤ pos 8388608) (cell_end to) x.w x.x m.1 least_x slab.right)))
+        (le-leb from high (numbers from high (cancel (cell_end from) (pos high -ℤ pos 8388608) x.w x.x m.1 slab.left most_x)))

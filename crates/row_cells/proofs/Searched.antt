@@ -16,10 +16,10 @@ use Rattle.geo_laws.proofs.Members.{IsMember, here, there, at_place, both_true, 
 use Rattle.crossing_laws.proofs.Tests.{le_of}
 use Rattle.row_cells.specs.declared.boxes.RowBox.{RowBox}
 use Rattle.row_cells.specs.Boxes.{row, box_of, boxes_of, cell_of, is_near, AreOnGrid}
-use Rattle.row_cells.specs.Parts.{reaches, mark, part_of, parts_of, strips_of, cells_of, ArePositiveOn}
+use Rattle.row_cells.specs.Parts.{reaches, mark, part_of, cut_parts, strips_of, cells_of, ArePositiveOn}
 use Rattle.row_cells.specs.declared.parts.Axis.TheVariants.{X, Y, Z}
 use Rattle.row_cells.specs.declared.parts.Cuts.{Cuts}
-use Rattle.row_cells.specs.Where.{row_holds, place_of, first_in}
+use Rattle.row_cells.specs.Where.{row_holds, first_holding, first_in}
 use Rattle.row_cells.proofs.Near.{IsCellAt, reaches_cell, near_of, reach_of}
 
 -- what passes the test is among those that are kept, and its box is taken
@@ -81,7 +81,7 @@ cell_is cuts s t u boxes =
 
 -- the point is sought among the rows of its cell
 pub in_cell : (ps : List Point) (rows : List Tet) (x : RationalPoint) (cuts : Cuts) (s t u : ℕ) → pos 0 <ℤ x.w → ArePositiveOn ps rows → All (λ t. AreOnGrid (corners ps t)) rows
-    → IsCellAt cuts s t u (cell_of x) → first_in ps rows (cell_of x) x (cell_list cuts s t u (boxes_of ps rows)) ≡ place_of ps rows x
+    → IsCellAt cuts s t u (cell_of x) → first_in ps rows (cell_of x) x (cell_list cuts s t u (boxes_of ps rows)) ≡ first_holding ps rows x
 in_cell ps rows x cuts s t u w positive grid at =
     ap (first_in ps rows (cell_of x) x) (cell_is cuts s t u (boxes_of ps rows))
     ∙ searched (λ b. is_near b (cell_of x) && row_holds ps rows x b.row) (reaches_cell cuts s t u) (λ i. box_of i (corners ps (row rows i))) (row_holds ps rows x) (λ i. refl) (numbers_below (length rows))
@@ -133,12 +133,12 @@ strips_are cuts boxes s cells strips = made_at (λ s. strips_of cuts.y cuts.z (p
 
 pub strips_count : (cuts : Cuts) (boxes : List RowBox) (s : ℕ) (cells : Cells) (strips : Strips) → cells ≡ cells_of cuts boxes → s < 32 → get_or cells s [] ≡ strips
     → length strips ≡ 32
-strips_count cuts boxes s cells strips are below is = made_count (λ t. parts_of Z cuts.z (part_of Y cuts.y t (part_of X cuts.x s boxes))) strips (strips_are cuts boxes s cells strips are below is)
+strips_count cuts boxes s cells strips are below is = made_count (λ t. cut_parts Z cuts.z (part_of Y cuts.y t (part_of X cuts.x s boxes))) strips (strips_are cuts boxes s cells strips are below is)
 
 parts_are : (cuts : Cuts) (boxes : List RowBox) (s t : ℕ) (cells : Cells) (strips : Strips) (parts : List (List RowBox)) → Way cuts boxes s t cells strips parts
-    → parts ≡ parts_of Z cuts.z (part_of Y cuts.y t (part_of X cuts.x s boxes))
+    → parts ≡ cut_parts Z cuts.z (part_of Y cuts.y t (part_of X cuts.x s boxes))
 parts_are cuts boxes s t cells strips parts w =
-    made_at (λ t. parts_of Z cuts.z (part_of Y cuts.y t (part_of X cuts.x s boxes))) strips t [] parts (strips_are cuts boxes s cells strips w.cells_are w.s_there w.strip_found) w.t_there w.parts_found
+    made_at (λ t. cut_parts Z cuts.z (part_of Y cuts.y t (part_of X cuts.x s boxes))) strips t [] parts (strips_are cuts boxes s cells strips w.cells_are w.s_there w.strip_found) w.t_there w.parts_found
 
 pub parts_count : (cuts : Cuts) (boxes : List RowBox) (s t : ℕ) (cells : Cells) (strips : Strips) (parts : List (List RowBox)) → Way cuts boxes s t cells strips parts
     → length parts ≡ 32

@@ -35,15 +35,15 @@ abbrev pub boxes_of : List Point → List Tet → List RowBox
 boxes_of ps rows = map (λ i. box_of i (corners ps (row rows i))) (numbers_below (length rows))
 
 -- how many whole units, of so many parts, the parts are; 0 where they are below 0
-abbrev pub along : ℤ → ℤ → ℕ
-along parts unit = if int_lt parts (pos 0) then 0 else unsigned_abs parts / unsigned_abs unit
+abbrev pub whole_units : ℤ → ℤ → ℕ
+whole_units parts unit = if int_lt parts (pos 0) then 0 else unsigned_abs parts / unsigned_abs unit
 
 -- how many whole grid units the point lies from -2^23 on, along each axis
 abbrev pub cell_of : RationalPoint → Cell
 cell_of x = record {
-  x = along (x.x +ℤ pos 8388608 *ℤ x.w) x.w;
-  y = along (x.y +ℤ pos 8388608 *ℤ x.w) x.w;
-  z = along (x.z +ℤ pos 8388608 *ℤ x.w) x.w;
+  x = whole_units (x.x +ℤ pos 8388608 *ℤ x.w) x.w;
+  y = whole_units (x.y +ℤ pos 8388608 *ℤ x.w) x.w;
+  z = whole_units (x.z +ℤ pos 8388608 *ℤ x.w) x.w;
 }
 
 abbrev pub spans : Span → ℕ → Bool

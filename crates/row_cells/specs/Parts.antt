@@ -33,12 +33,12 @@ abbrev pub part_of : Axis → Cut → ℕ → List RowBox → List RowBox
 part_of axis cut s boxes = filter (reaches axis (mark cut s) (mark cut (s + 1))) boxes
 
 -- the same for each part
-abbrev pub parts_of : Axis → Cut → List RowBox → List (List RowBox)
-parts_of axis cut boxes = map (λ s. part_of axis cut s boxes) (numbers_below 32)
+abbrev pub cut_parts : Axis → Cut → List RowBox → List (List RowBox)
+cut_parts axis cut boxes = map (λ s. part_of axis cut s boxes) (numbers_below 32)
 
 -- for each part along y its parts along z
 abbrev pub strips_of : Cut → Cut → List RowBox → List (List (List RowBox))
-strips_of y z boxes = map (λ s. parts_of Z z (part_of Y y s boxes)) (numbers_below 32)
+strips_of y z boxes = map (λ s. cut_parts Z z (part_of Y y s boxes)) (numbers_below 32)
 
 -- For each part along x, along y and along z the rows that reach into all three, in their order
 abbrev pub cells_of : Cuts → List RowBox → List (List (List (List RowBox)))
@@ -63,17 +63,17 @@ pub record StandsFor (ps : List Point) (rows : List Tet) (c : RowCells) : Type 0
 -- ---- what lies between two ends along x, as a set of points
 
 -- an end, as a coordinate
-abbrev pub end_at : ℕ → ℤ
-end_at n = pos n -ℤ pos 8388608
+abbrev pub cell_end : ℕ → ℤ
+cell_end n = pos n -ℤ pos 8388608
 
 -- the point lies between them
-pub record IsBetween (from to : ℕ) (x : RationalPoint) : Type 0 where
-  pub left : (end_at from *ℤ x.w) ≤ℤ x.x
-  pub right : x.x ≤ℤ (end_at to *ℤ x.w)
+pub record IsBetweenEnds (from to : ℕ) (x : RationalPoint) : Type 0 where
+  pub left : (cell_end from *ℤ x.w) ≤ℤ x.x
+  pub right : x.x ≤ℤ (cell_end to *ℤ x.w)
 
 -- some point of the closed tetrahedron does
 abbrev pub MeetsSlab : ℕ → ℕ → Corners → Type 0
-MeetsSlab from to t = SomeRational (λ x. InClosed t x × IsBetween from to x)
+MeetsSlab from to t = SomeRational (λ x. InClosed t x × IsBetweenEnds from to x)
 
 -- a row reaches into a slab exactly where its closed tetrahedron meets it
 abbrev pub ReachLaw : Type 0

@@ -14,8 +14,8 @@ abbrev pub row_holds : List Point → List Tet → RationalPoint → ℕ → Boo
 row_holds ps rows x i = in_closed (corners ps (row rows i)) x
 
 -- the first row whose closed tetrahedron holds the point, by its place in the list
-abbrev pub place_of : List Point → List Tet → RationalPoint → Option ℕ
-place_of ps rows x = find (row_holds ps rows x) (numbers_below (length rows))
+abbrev pub first_holding : List Point → List Tet → RationalPoint → Option ℕ
+first_holding ps rows x = find (row_holds ps rows x) (numbers_below (length rows))
 
 -- the same among some rows with their boxes, where those are passed over whose box does not have the point's cell in it
 abbrev pub first_in : List Point → List Tet → Cell → RationalPoint → List RowBox → Option ℕ

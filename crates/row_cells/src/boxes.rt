@@ -3,7 +3,7 @@
 ghost use Rattle.std.specs.Prelude.{◌≡◌, ◌<◌, ◌-◌, ◌+◌, ◌≤ℤ◌, ◌<ℤ◌, ◌+ℤ◌, ◌/◌, pos, negsuc, length, map, All, IfOk, unsigned_abs};
 ghost use Rattle.sign_predicates.specs.Point.{IsOnGrid};
 ghost use Rattle.geo_laws.specs.Delaunay.{corners, IsOn};
-ghost use Rattle.row_cells.specs.Boxes.{ahead, along, span_of, box_of, row, boxes_of, cell_of, spans, is_near, AreOnGrid};
+ghost use Rattle.row_cells.specs.Boxes.{ahead, whole_units, span_of, box_of, row, boxes_of, cell_of, spans, is_near, AreOnGrid};
 
 use geo_laws::{Points, Tet, TetList};
 use sign_predicates::{Corners, GridPoint, RatPoint};
@@ -116,7 +116,7 @@ pub(crate) fn boxes_of(
 /// How many whole units, of so many parts, this many parts are; 0 where they are below 0.
 fn along(parts: i64, unit: i64) -> u64
     requires { pos 0 <ℤ unit }
-    ensures { result ≡ along parts unit }
+    ensures { result ≡ whole_units parts unit }
 {
     if parts < 0 {
         return 0;

@@ -4,7 +4,7 @@ ghost use Rattle.std.specs.Prelude.{◌≡◌, ◌<◌, length, All, IfOk};
 ghost use Rattle.sign_predicates.specs.Orientation.{in_closed};
 ghost use Rattle.geo_laws.specs.Delaunay.{corners, IsOn};
 ghost use Rattle.row_cells.specs.Parts.{ArePositiveOn, StandsFor};
-ghost use Rattle.row_cells.specs.Where.{place_of, first_in};
+ghost use Rattle.row_cells.specs.Where.{first_holding, first_in};
 
 use crate::boxes::{Cell, RowBox, boxes_of, cell_of, corners_of, is_near};
 use crate::parts::{Cells, Cuts, cells_of, part_at};
@@ -70,7 +70,7 @@ impl RowCells {
     pub fn find(&self, points: &Points, list: &TetList, x: RatPoint) -> Option<usize>
         requires rows { ArePositiveOn points.now list.now }
         requires cells { StandsFor points.now list.now self.now }
-        ensures { result ≡ place_of points.now list.now x }
+        ensures { result ≡ first_holding points.now list.now x }
     {
         let at = cell_of(x);
         let strips = self.cells.get(part_at(self.cuts.x, at.x));

@@ -2,7 +2,7 @@
 //! into these.
 
 ghost use Rattle.std.specs.Prelude.{◌≡◌, ◌<◌, ◌+◌, ◌*◌, ◌≤◌, length, IfOk};
-ghost use Rattle.row_cells.specs.Parts.{span_along, reaches, mark, part_of, parts_of, strips_of, cells_of, AreWide};
+ghost use Rattle.row_cells.specs.Parts.{span_along, reaches, mark, part_of, cut_parts, strips_of, cells_of, AreWide};
 
 use crate::boxes::{RowBox, Span};
 use std::alloc::Global;
@@ -112,7 +112,7 @@ fn parts_of(
     cut: Cut,
     boxes: &Items<RowBox>,
 ) -> Result<Items<Items<RowBox>>, NoMemory>
-    ensures { IfOk result (λ parts. parts ≡ parts_of axis cut boxes.now) }
+    ensures { IfOk result (λ parts. parts ≡ cut_parts axis cut boxes.now) }
 {
     let mut parts = Items::with_capacity(alloc, PARTS)?;
     for s in 0..PARTS {

@@ -21,7 +21,7 @@ use Rattle.check_steps.specs.Steps as check
 use Rattle.written_laws.specs.WrittenMesh.{written_mesh}
 use Rattle.written_laws.specs.Renamed.{AreNamesIn}
 use Rattle.reread_laws.specs.ReadBack.{IsReadable}
-use Rattle.reread_laws.specs.Reread.{IsShort}
+use Rattle.reread_laws.specs.Reread.{IsShortNumber}
 use Rattle.reread_laws.specs.NodeRead.{IsLegiblePoint}
 use Rattle.reread_laws.specs.Checked.{AreThere}
 use Rattle.reread_laws.proofs.Listed.{listed_names}
@@ -47,7 +47,7 @@ use Rattle.run_laws.proofs.Tables.{IsOfTable, of_table, short_markers}
 small : (z : ℤ) → negsuc 8388607 ≤ℤ z → z ≤ℤ pos 8388608 → unsigned_abs z ≤ 8388608
 small z low high = omega (arith, ints)
 
-short_count : (n : ℕ) → n ≤ most_bytes → (first : ℕ) → first ≤ 1 → IsShort (first + n)
+short_count : (n : ℕ) → n ≤ most_bytes → (first : ℕ) → first ≤ 1 → IsShortNumber (first + n)
 short_count n few first one = omega arith
 
 first_small : (options : Options) (mesh : Meshed) → mesh.table.first ≤ 1 → first_of options mesh ≤ 1

@@ -3,7 +3,7 @@ use Rattle.std.proofs.Common.{◌≡◌, ℕ, zero, suc, ◌+◌, ◌%◌, ◌*�
 use Rattle.std.specs.Prelude.{◌==◌}
 use Rattle.sign_predicates.specs.Point.{Point}
 use Rattle.tet_text.specs.Decimals.{lowest}
-use Rattle.grid_coords.specs.Units.{decimal_at}
+use Rattle.grid_coords.specs.Units.{decimal_of_units}
 use Rattle.grid_coords.specs.declared.grid.Grid.{Grid}
 use Rattle.run_laws.specs.CheckedRun.{FewDecimalsLaw}
 
@@ -15,8 +15,8 @@ lowest_few n (suc scale) = go (n % 10 == 0) (lowest_few (n / 10) scale)
     go true few = omega arith
     go false few = omega arith
 
-at_few : (g : Grid) (c : ℤ) → g.decimals + g.halvings ≤ 35 → (decimal_at g c).scale ≤ 35
-unfolding decimal_at
+at_few : (g : Grid) (c : ℤ) → g.decimals + g.halvings ≤ 35 → (decimal_of_units g c).scale ≤ 35
+unfolding decimal_of_units
 at_few g c few = let less = lowest_few (unsigned_abs c * 5 ^ g.halvings) (g.decimals + g.halvings) in omega arith
 
 pub few_decimals : FewDecimalsLaw

@@ -17,11 +17,11 @@ use Rattle.node_files.specs.declared.table.NodeTable.{NodeTable}
 use Rattle.node_files.proofs.Points.{bind_ok, ok_is}
 use Rattle.plc_files.specs.Binding.{bound_facets}
 use Rattle.plc_files.specs.Sample.{sample_of, box_facets}
-use Rattle.plc_files.specs.Text.{Facet, Plc}
+use Rattle.plc_files.specs.Text.{ReadFacet, Plc}
 use Rattle.complex_mesh.specs.Meshing.{IsComplexMesh}
 use Rattle.complex_mesh.specs.declared.mesh.ComplexMesh.{ComplexMesh}
 use Rattle.complex_mesh.proofs.Added.{added}
-use Rattle.reread_laws.specs.Reread.{IsShort}
+use Rattle.reread_laws.specs.Reread.{IsShortNumber}
 use Rattle.input_laws.specs.Numbers.{HasShortNumbers, AreMarkedShort, IsNumberedShort}
 use Rattle.input_laws.proofs.Numbers.{IsShortWhole}
 use Rattle.input_laws.proofs.Nodes.{nodes_read}
@@ -158,9 +158,9 @@ budget_small words = go (last_budget words) (last_small None words tt)
 pub record HasInputNumbers (mesh : Meshed) : Type 0 where
   pub first : mesh.table.first ≤ 1
   pub few : length (mesh.table.listed ++ mesh.added) ≤ 120000
-  pub markers : All (λ f. IfSome f.marker (λ m. IsShort (unsigned_abs m))) mesh.complex.facets
+  pub markers : All (λ f. IfSome f.marker (λ m. IsShortNumber (unsigned_abs m))) mesh.complex.facets
 
-bound_short : (grid : Grid) (from : ℕ) (fs : List Facet) → AreMarkedShort fs → All (λ f. IfSome f.marker IsShortWhole) (bound_facets grid from fs)
+bound_short : (grid : Grid) (from : ℕ) (fs : List ReadFacet) → AreMarkedShort fs → All (λ f. IfSome f.marker IsShortWhole) (bound_facets grid from fs)
 bound_short grid from [] h k d lt = absurd (omega arith)
 bound_short grid from (f ∷ fs) h zero d lt = h 0 f (omega arith)
 bound_short grid from (f ∷ fs) h (suc k) d lt = bound_short grid (from + length f.polygons) fs (λ i e l. h (suc i) e (omega arith)) k d (omega arith)

@@ -4,10 +4,10 @@ use Rattle.std.specs.Prelude.{flat_map, map}
 use Rattle.std.specs.Fmt.{decimal, signed_decimal}
 use Rattle.geo_laws.specs.Delaunay.{numbers}
 use Rattle.geo_laws.specs.declared.tetrahedra.Tet.{Tet}
-use Rattle.mesh_files.specs.Texts.{line_of, numbered, ele_line, ele_lines, ele_text, face_line, face_lines, face_text}
+use Rattle.mesh_files.specs.Texts.{text_line, file_number, ele_line, ele_lines, ele_text, face_line, face_lines, face_text}
 use Rattle.mesh_files.specs.declared.markers.FaceRow.{FaceRow}
 
-line_long : (number : ℕ) (fields : List ℤ) → 1 ≤ length (line_of number fields)
+line_long : (number : ℕ) (fields : List ℤ) → 1 ≤ length (text_line number fields)
 line_long number fields =
     let e = length-append (decimal number ++ flat_map (λ z. 32 ∷ signed_decimal z) fields) (10 ∷ []) in omega arith
 
@@ -15,13 +15,13 @@ ele_lines_long : (names : List ℕ) (first place : ℕ) (rows : List Tet) → le
 ele_lines_long names first place [] = omega arith
 ele_lines_long names first place (t ∷ rows) =
     let e = length-append (ele_line names first place t) (ele_lines names first (place + 1) rows) in
-    let one : 1 ≤ length (ele_line names first place t) = line_long (place + first) (map (numbered names first) (numbers t)) in
+    let one : 1 ≤ length (ele_line names first place t) = line_long (place + first) (map (file_number names first) (numbers t)) in
     let more = ele_lines_long names first (place + 1) rows in
     omega arith
 
 pub ele_long : (names : List ℕ) (first : ℕ) (rows : List Tet) → length rows ≤ length (ele_text names first rows)
 ele_long names first rows =
-    let e = length-append (line_of (length rows) (pos 4 ∷ pos 0 ∷ [])) (ele_lines names first 0 rows) in
+    let e = length-append (text_line (length rows) (pos 4 ∷ pos 0 ∷ [])) (ele_lines names first 0 rows) in
     let more = ele_lines_long names first 0 rows in
     omega arith
 
@@ -29,12 +29,12 @@ face_lines_long : (names : List ℕ) (first place : ℕ) (faces : List FaceRow) 
 face_lines_long names first place [] = omega arith
 face_lines_long names first place (f ∷ faces) =
     let e = length-append (face_line names first place f) (face_lines names first (place + 1) faces) in
-    let one : 1 ≤ length (face_line names first place f) = line_long (place + first) (numbered names first f.a ∷ numbered names first f.b ∷ numbered names first f.c ∷ f.marker ∷ []) in
+    let one : 1 ≤ length (face_line names first place f) = line_long (place + first) (file_number names first f.a ∷ file_number names first f.b ∷ file_number names first f.c ∷ f.marker ∷ []) in
     let more = face_lines_long names first (place + 1) faces in
     omega arith
 
 pub face_long : (names : List ℕ) (first : ℕ) (faces : List FaceRow) → length faces ≤ length (face_text names first faces)
 face_long names first faces =
-    let e = length-append (line_of (length faces) (pos 1 ∷ [])) (face_lines names first 0 faces) in
+    let e = length-append (text_line (length faces) (pos 1 ∷ [])) (face_lines names first 0 faces) in
     let more = face_lines_long names first 0 faces in
     omega arith

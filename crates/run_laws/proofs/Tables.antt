@@ -9,7 +9,7 @@ use Rattle.sign_predicates.specs.Point.{Point, IsOnGrid, origin}
 use Rattle.geo_laws.specs.Delaunay.{AreCoplanar}
 use Rattle.geo_laws.specs.Segment.{pieces}
 use Rattle.geo_laws.specs.declared.complex.Facet.{Facet}
-use Rattle.mesh_files.specs.FaceRows.{IsMarker, AreFaceRowsOf, marker_or_1}
+use Rattle.mesh_files.specs.FaceRows.{IsFaceMarker, AreFaceRowsOf, marker_or_1}
 use Rattle.mesh_files.specs.declared.markers.FaceRow.{FaceRow}
 use Rattle.node_files.specs.Limits.{tetgen_limits}
 use Rattle.node_files.specs.Folding.{IsFolded, names_with}
@@ -19,7 +19,7 @@ use Rattle.node_files.specs.declared.table.NodeTable.{NodeTable}
 use Rattle.node_files.proofs.Folds.{folded_few, kept_at}
 use Rattle.complex_mesh.specs.Meshing.{IsComplexMesh}
 use Rattle.complex_mesh.specs.declared.mesh.ComplexMesh.{ComplexMesh}
-use Rattle.reread_laws.specs.Reread.{IsShort}
+use Rattle.reread_laws.specs.Reread.{IsShortNumber}
 use Rattle.reread_laws.proofs.Grids.{settled_within}
 use Rattle.command_words.specs.declared.options.Options.{Options}
 use Rattle.run_steps.specs.Meshing.{BoundAnswer, MeshAnswer, MeshOf, PointsMeshOf, grid_options, mesh_options, mesh_of_points, mesh_of_complex}
@@ -99,27 +99,27 @@ abbrev bare : Facet
 bare = record { first = 0; past = 0; holes = []; marker = None }
 
 -- the marker of a face is that of a facet, or 1 or 0
-short_marker : (lies : ℕ → Type 0) (facets : List Facet) (on_hull : Bool) (marker : ℤ) → All (λ f. IfSome f.marker (λ m. IsShort (unsigned_abs m))) facets
-    → IsMarker lies facets on_hull marker → IsShort (unsigned_abs marker)
-short_marker lies facets on_hull marker all (inr none) = subst (λ (z : ℤ). IsShort (unsigned_abs z)) (sym none.1) (flag on_hull)
+short_marker : (lies : ℕ → Type 0) (facets : List Facet) (on_hull : Bool) (marker : ℤ) → All (λ f. IfSome f.marker (λ m. IsShortNumber (unsigned_abs m))) facets
+    → IsFaceMarker lies facets on_hull marker → IsShortNumber (unsigned_abs marker)
+short_marker lies facets on_hull marker all (inr none) = subst (λ (z : ℤ). IsShortNumber (unsigned_abs z)) (sym none.1) (flag on_hull)
   where
-    flag : (b : Bool) → IsShort (unsigned_abs (if b then pos 1 else pos 0))
+    flag : (b : Bool) → IsShortNumber (unsigned_abs (if b then pos 1 else pos 0))
     flag true = omega arith
     flag false = omega arith
 short_marker lies facets on_hull marker all (inl (facet, first, holds)) =
-    subst (λ (z : ℤ). IsShort (unsigned_abs z)) (sym (holds bare)) (shown (slice_index_or facets facet bare).marker (at facets facet all))
+    subst (λ (z : ℤ). IsShortNumber (unsigned_abs z)) (sym (holds bare)) (shown (slice_index_or facets facet bare).marker (at facets facet all))
   where
-    at : (fs : List Facet) (k : ℕ) → All (λ f. IfSome f.marker (λ m. IsShort (unsigned_abs m))) fs → IfSome (slice_index_or fs k bare).marker (λ m. IsShort (unsigned_abs m))
+    at : (fs : List Facet) (k : ℕ) → All (λ f. IfSome f.marker (λ m. IsShortNumber (unsigned_abs m))) fs → IfSome (slice_index_or fs k bare).marker (λ m. IsShortNumber (unsigned_abs m))
     at [] k all = tt
     at (f ∷ fs) zero all = all 0 f (omega arith)
     at (f ∷ fs) (suc k) all = at fs k (λ i d lt. all (suc i) d (omega arith))
 
-    shown : (o : Option ℤ) → IfSome o (λ m. IsShort (unsigned_abs m)) → IsShort (unsigned_abs (marker_or_1 o))
+    shown : (o : Option ℤ) → IfSome o (λ m. IsShortNumber (unsigned_abs m)) → IsShortNumber (unsigned_abs (marker_or_1 o))
     shown None h = omega arith
     shown (Some m) h = h
 
-pub short_markers : (mesh : Meshed) (asked : Bool) (faces : List FaceRow) → All (λ f. IfSome f.marker (λ m. IsShort (unsigned_abs m))) mesh.complex.facets
-    → AreFaceRowsOf mesh.points mesh.tetrahedra mesh.complex mesh.triangles asked faces → All (λ f. IsShort (unsigned_abs f.marker)) faces
+pub short_markers : (mesh : Meshed) (asked : Bool) (faces : List FaceRow) → All (λ f. IfSome f.marker (λ m. IsShortNumber (unsigned_abs m))) mesh.complex.facets
+    → AreFaceRowsOf mesh.points mesh.tetrahedra mesh.complex mesh.triangles asked faces → All (λ f. IsShortNumber (unsigned_abs f.marker)) faces
 short_markers mesh asked faces all are k d lt =
     let r = slice_index_or faces k d in
     let is = (are.exactly r).0 (k, lt, get_or_default faces k r d lt) in

@@ -3,7 +3,7 @@ use Rattle.std.specs.Prelude.{◌≡◌, ◌⊎◌, ℕ, ◌+◌, ◌≤◌, tru
 use Rattle.std.specs.FinMap as map
 use Rattle.sign_predicates.specs.Point.{Point}
 use Rattle.tet_ports.specs.Files.{Files}
-use Rattle.grid_coords.specs.Units.{decimal_at}
+use Rattle.grid_coords.specs.Units.{decimal_of_units}
 use Rattle.grid_coords.specs.declared.grid.Grid.{Grid}
 use Rattle.command_words.specs.Grammar.{words_fault}
 use Rattle.command_words.specs.Meaning.{options_of}
@@ -20,9 +20,9 @@ use Rattle.tetgen_run.specs.Run.{IsAnswer, IsMeshOfRun, asks_check}
 
 -- each coordinate has at most 35 decimals, as many as can be read back
 pub record HasFewDecimals (g : Grid) (p : Point) : Type 0 where
-  pub x : (decimal_at g p.x).scale ≤ 35
-  pub y : (decimal_at g p.y).scale ≤ 35
-  pub z : (decimal_at g p.z).scale ≤ 35
+  pub x : (decimal_of_units g p.x).scale ≤ 35
+  pub y : (decimal_of_units g p.y).scale ≤ 35
+  pub z : (decimal_of_units g p.z).scale ≤ 35
 
 -- So it is on a grid with as few decimals and halvings
 abbrev pub FewDecimalsLaw : Type 0

@@ -10,7 +10,7 @@ use Rattle.complex_mesh.specs.Protection.{IsMeshable}
 use Rattle.geo_laws.specs.Segment.{pieces}
 use Rattle.complex_mesh.specs.declared.mesh.ComplexMesh.{ComplexMesh}
 use Rattle.complex_mesh.specs.declared.mesh.MeshOptions.{MeshOptions}
-use Rattle.hole_carve.specs.Marks.{AreMarks, IsFirstOf, mark_at}
+use Rattle.hole_carve.specs.Marks.{AreRegionMarks, IsFirstOf, mark_at}
 use Rattle.geo_laws.specs.Complex.{Complex}
 use Rattle.complex_laws.proofs.ComplexMesh.{law_hull_mesh}
 use Rattle.geo_laws.proofs.DelaunayList.{law_delaunay_list}
@@ -155,11 +155,11 @@ writable options bound made b budget m =
     below P None h = tt
     below P (Some k) h = h.0
 
-    marks_long : (marks : Option (List (Option ℕ))) → IfSome marks (AreMarks made.points made.triangles made.tetrahedra bound.complex.regions) → IfSome marks (λ ms. length ms ≡ length made.tetrahedra)
+    marks_long : (marks : Option (List (Option ℕ))) → IfSome marks (AreRegionMarks made.points made.triangles made.tetrahedra bound.complex.regions) → IfSome marks (λ ms. length ms ≡ length made.tetrahedra)
     marks_long None h = tt
     marks_long (Some ms) h = h.long
 
-    marks_there : (marks : Option (List (Option ℕ))) → IfSome marks (AreMarks made.points made.triangles made.tetrahedra bound.complex.regions)
+    marks_there : (marks : Option (List (Option ℕ))) → IfSome marks (AreRegionMarks made.points made.triangles made.tetrahedra bound.complex.regions)
         → IfSome marks (λ ms. All (λ mark. IfSome mark (λ region. region < length bound.complex.regions)) ms)
     marks_there None h = tt
     marks_there (Some ms) h = λ i d l. subst (λ mark. IfSome mark (λ region. region < length bound.complex.regions)) (get_or_default ms i None d l) (below _ (mark_at ms i) (h.each i (omega (arith, h.long))))

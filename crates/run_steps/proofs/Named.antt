@@ -10,7 +10,7 @@ use Rattle.geo_laws.specs.declared.complex.FacetTriangle.{FacetTriangle}
 use Rattle.geo_laws.specs.declared.faces.Side.{Side}
 use Rattle.geo_laws.specs.declared.tetrahedra.Tet.{Tet}
 use Rattle.mesh_files.specs.FaceRows.{AreFaceRowsOf}
-use Rattle.mesh_files.specs.Texts.{corner_numbers, AreNamed}
+use Rattle.mesh_files.specs.Texts.{marked_corners, AreNamed}
 use Rattle.mesh_files.specs.declared.markers.FaceRow.{FaceRow}
 use Rattle.mesh_files.proofs.Named.{face_named, side_named, row_named}
 
@@ -19,7 +19,7 @@ in_list : {X : Type 0} (xs : List X) (k : ℕ) (d : X) → k < length xs → Con
 in_list xs k d l = (k, l, get_or_default xs k (get_or xs k d) d l)
 
 pub faces_named : (names : List ℕ) (ps : List Point) (rows : List Tet) (complex : Complex) (ts : List FacetTriangle) (all : Bool) (found : List FaceRow) → All (λ t. AreNamed names (numbers t)) rows
-    → AreFaceRowsOf ps rows complex ts all found → All (λ f. AreNamed names (corner_numbers f)) found
+    → AreFaceRowsOf ps rows complex ts all found → All (λ f. AreNamed names (marked_corners f)) found
 faces_named names ps rows complex ts all found h a = λ k d l.
     let r = get_or found k d in
     let is = (a.exactly r).0 (in_list found k d l) in

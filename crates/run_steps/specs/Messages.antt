@@ -12,7 +12,7 @@ use Rattle.tangle_laws.specs.declared.anomaly.Anomaly.TheVariants.{Bare, Doubled
 use Rattle.tet_text.specs.declared.fault.TextFault.{TextFault}
 use Rattle.tet_text.specs.declared.fault.TextKind.{TextKind}
 use Rattle.tet_text.specs.declared.fault.TextKind.TheVariants.{Ended, NotANumber, Extra, BadCount, BadIndex}
-use Rattle.run_steps.specs.Numbering.{number_of}
+use Rattle.run_steps.specs.Numbering.{told_number}
 use Rattle.run_steps.specs.declared.numbering.Numbering.{Numbering}
 use Rattle.run_steps.specs.declared.status.LimitKind.{LimitKind}
 use Rattle.run_steps.specs.declared.status.LimitKind.TheVariants.{Bytes, Points, MeshPoints, Facets, Corners, Grid, Weight}
@@ -30,7 +30,7 @@ kind_text BadIndex = codes "bad number"
 
 -- the number of a point, behind a space
 abbrev pub point_text : Option Numbering → ℕ → List ℕ
-point_text by n = codes " " ++ decimal (number_of by n)
+point_text by n = codes " " ++ decimal (told_number by n)
 
 -- the two ends of a piece, the less first
 abbrev pub ends_text : Option Numbering → Piece → List ℕ

@@ -13,6 +13,6 @@ number_by by point =
     (if nat_lt point (length by.names) then slice_index by.names point else by.listed + (point - length by.names)) + by.first
 
 -- and its place where there is no numbering
-abbrev pub number_of : Option Numbering → ℕ → ℕ
-number_of None point = point
-number_of (Some by) point = number_by by point
+abbrev pub told_number : Option Numbering → ℕ → ℕ
+told_number None point = point
+told_number (Some by) point = number_by by point

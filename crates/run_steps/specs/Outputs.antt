@@ -6,7 +6,7 @@ use Rattle.geo_laws.specs.Faces.{AreFacesOf, AreHullFacesOf, AreSidesOf}
 use Rattle.geo_laws.specs.declared.faces.Face.{Face}
 use Rattle.geo_laws.specs.declared.faces.Side.{Side}
 use Rattle.incidence.specs.Pairs.{pairs_of}
-use Rattle.mesh_files.specs.FaceRows.{AreFaceRowsOf, AreFacesMet, AreFacetsThere}
+use Rattle.mesh_files.specs.FaceRows.{AreFaceRowsOf, AreTrianglesMetByFaces, AreFacetsThere}
 use Rattle.mesh_files.specs.Texts.{ele_text_of, face_text, edge_text, neigh_text, AreNamed}
 use Rattle.mesh_files.specs.declared.markers.FaceRow.{FaceRow}
 use Rattle.node_files.specs.Writing.{node_text, IsNodeTable}
@@ -89,7 +89,7 @@ pub record IsWritable (mesh : Meshed) : Type 0 where
   pub table : IsNodeTable mesh.table
   pub few : length mesh.table.listed + length mesh.added < 2 ^ 32
   pub named : All (λ t. AreNamed mesh.names (numbers t)) mesh.tetrahedra
-  pub met : AreFacesMet mesh.points mesh.triangles mesh.tetrahedra
+  pub met : AreTrianglesMetByFaces mesh.points mesh.triangles mesh.tetrahedra
   pub there : AreFacetsThere mesh.triangles mesh.complex
   pub marks_long : IfSome mesh.marks (λ marks. length marks ≡ length mesh.tetrahedra)
   pub marks_there : IfSome mesh.marks (λ marks. All (λ mark. IfSome mark (λ region. region < length mesh.complex.regions)) marks)

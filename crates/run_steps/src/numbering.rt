@@ -1,7 +1,7 @@
 //! The numbers by which a run tells points.
 
 ghost use Rattle.std.specs.Prelude.{◌≡◌, ◌<◌, ◌^◌, length, IfOk};
-ghost use Rattle.run_steps.specs.Numbering.{numbering_of, number_of, number_by};
+ghost use Rattle.run_steps.specs.Numbering.{numbering_of, told_number, number_by};
 
 use node_files::{Names, NodeTable};
 use std::alloc::Global;
@@ -35,7 +35,7 @@ pub fn numbering_of(alloc: Global, table: &NodeTable) -> Result<Numbering, NoMem
 
 /// The number of a point; its place where there is no numbering.
 pub(crate) fn number_of(by: &Option<Numbering>, point: u32) -> usize
-    ensures { result ≡ number_of by.now point }
+    ensures { result ≡ told_number by.now point }
 {
     match by {
         Some(by) => number_by(by, point),

@@ -6,7 +6,7 @@ ghost use Rattle.geo_laws.specs.Faces.{side_numbers, AreFacesOf, AreSidesOf};
 ghost use Rattle.geo_laws.specs.declared.faces.Face.{Face};
 ghost use Rattle.incidence.specs.Uses.{AreUsesOf};
 ghost use Rattle.mesh_files.specs.FaceRows.{AreFaceRowsOf};
-ghost use Rattle.mesh_files.specs.Texts.{corner_numbers, AreNamed};
+ghost use Rattle.mesh_files.specs.Texts.{marked_corners, AreNamed};
 ghost use Rattle.run_steps.specs.Outputs.{named, first_of, node_file, ele_file, face_file, edge_file, neigh_file, hidden_text, summary_of, names_sides, asks_uses, asks_hull_alone, IsWritable, IsHullOf, IsFaceFileOf, AreFaceOutputsOf, AreSideOutputsOf, AreOutputsOf};
 ghost use Rattle.run_steps.specs.Stores.{in_order, TellsFailure};
 
@@ -355,7 +355,7 @@ fn face_file(
     mesh: &Meshed,
     marked: &FaceRows,
 ) -> Result<Option<NamedText>, NoMemory>
-    requires { options.now.no_face ≡ false → All (λ face. AreNamed mesh.now.names (corner_numbers face)) marked.now }
+    requires { options.now.no_face ≡ false → All (λ face. AreNamed mesh.now.names (marked_corners face)) marked.now }
     ensures { IfOk result (λ file. file ≡ face_file options.now mesh.now marked.now) }
 {
     if options.no_face {

@@ -5,7 +5,7 @@ use Rattle.std.proofs.lemmas.List.{append-nil, get_or-map}
 use Rattle.sign_predicates.specs.Point.{Point}
 use Rattle.geo_laws.specs.Segment.{first_missing}
 use Rattle.geo_laws.specs.declared.complex.Piece.{Piece}
-use Rattle.cavity_insert.specs.Living.{HasSide}
+use Rattle.cavity_insert.specs.Living.{IsDelaunaySide}
 use Rattle.segment_protect.specs.Watch.{pieces_of, IsWatched}
 use Rattle.segment_protect.specs.Passed.{IsSide}
 use Rattle.segment_protect.specs.Front.{pieces_in, IsNextMissing, IsWatching, HasPassedSides}
@@ -16,7 +16,7 @@ use Rattle.segment_protect.proofs.Watching.{pieces_length, top_at, all_and_last}
 
 -- of sides none is missing
 none_missing : (ps : List Point) (ws : List Watched) → All (IsSide ps) ws → first_missing ps (pieces_of ws) ≡ None
-none_missing ps ws sides = find_none (misses ps) (pieces_of ws) (λ k d h. not_missing ps (get_or (pieces_of ws) k d) (let l = pieces_length ws in subst (λ p. HasSide ps p.a p.b) (sym (get_or-map (λ (v : Watched). v.piece) ws k (record { piece = d; seen = 0 }) d (omega arith))) (sides k (record { piece = d; seen = 0 }) (omega arith))))
+none_missing ps ws sides = find_none (misses ps) (pieces_of ws) (λ k d h. not_missing ps (get_or (pieces_of ws) k d) (let l = pieces_length ws in subst (λ p. IsDelaunaySide ps p.a p.b) (sym (get_or-map (λ (v : Watched). v.piece) ws k (record { piece = d; seen = 0 }) d (omega arith))) (sides k (record { piece = d; seen = 0 }) (omega arith))))
 
 -- all pieces were passed
 pub none_left : (front : Front) → HasPassedSides front → front.rest.items ≡ [] → first_missing front.living.points (pieces_in front) ≡ None

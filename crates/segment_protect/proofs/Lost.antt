@@ -6,7 +6,7 @@ use Rattle.std.proofs.lemmas.List.{get_or-map, length-map, take_more, take_all}
 use Rattle.std.proofs.lemmas.List.Elements.{Contains-push_cases}
 use Rattle.sign_predicates.specs.Point.{Point}
 use Rattle.geo_laws.specs.declared.complex.Piece.{Piece}
-use Rattle.cavity_insert.specs.Living.{HasSide}
+use Rattle.cavity_insert.specs.Living.{IsDelaunaySide}
 use Rattle.segment_protect.specs.Watch.{pieces_of}
 use Rattle.segment_protect.specs.Passed.{IsLast, AreLinked, IsSideAt, IsSideOrLost, AreSidesBefore, AreSidesFrom}
 use Rattle.segment_protect.specs.declared.watch.Watched.{Watched}
@@ -18,7 +18,7 @@ no_piece = record { a = 0; b = 0; halvings = 0 }
 pub record AreSearched (ps : List Point) (pieces : List Piece) (v count place : ℕ) : Type 0 where
   pub within : count ≤ length pieces
   pub begins : (d : Piece) → 0 < count → (get_or pieces (count - 1) d).a ≡ v
-  pub sides : (j : ℕ) (d : Piece) → count ≤ j → j < place → j < length pieces → (get_or pieces j d).a ≡ v → HasSide ps (get_or pieces j d).a (get_or pieces j d).b
+  pub sides : (j : ℕ) (d : Piece) → count ≤ j → j < place → j < length pieces → (get_or pieces j d).a ≡ v → IsDelaunaySide ps (get_or pieces j d).a (get_or pieces j d).b
 
 -- one is led back
 pub led_back : (n : ℕ) (pieces : List Piece) (earlier latest : List ℕ) (count next : ℕ) → AreLinked n pieces earlier latest → 0 < count → count ≤ length pieces → next ≡ get_or earlier (count - 1) next
@@ -46,11 +46,11 @@ searched_more ps n pieces earlier latest v count next place less are so some is 
     order : (j k : ℕ) → (j < k) ⊎ ((j ≡ k) ⊎ (k < j))
     order j k = grind arith
 
-    side : (j : ℕ) (d : Piece) → j < less → j ≡ count - 1 → (less ≤ count - 1) ⊎ IsSideAt ps pieces (count - 1) → HasSide ps (get_or pieces j d).a (get_or pieces j d).b
+    side : (j : ℕ) (d : Piece) → j < less → j ≡ count - 1 → (less ≤ count - 1) ⊎ IsSideAt ps pieces (count - 1) → IsDelaunaySide ps (get_or pieces j d).a (get_or pieces j d).b
     side j d b e (inl h) = absurd (omega arith)
-    side j d b e (inr s) = subst (λ i. HasSide ps (get_or pieces i d).a (get_or pieces i d).b) (sym e) (s d)
+    side j d b e (inr s) = subst (λ i. IsDelaunaySide ps (get_or pieces i d).a (get_or pieces i d).b) (sym e) (s d)
 
-    by : (j : ℕ) (d : Piece) → next ≤ j → j < less → j < length pieces → (get_or pieces j d).a ≡ v → (j < count - 1) ⊎ ((j ≡ count - 1) ⊎ (count - 1 < j)) → HasSide ps (get_or pieces j d).a (get_or pieces j d).b
+    by : (j : ℕ) (d : Piece) → next ≤ j → j < less → j < length pieces → (get_or pieces j d).a ≡ v → (j < count - 1) ⊎ ((j ≡ count - 1) ⊎ (count - 1 < j)) → IsDelaunaySide ps (get_or pieces j d).a (get_or pieces j d).b
     by j d g b l e (inl h) = absurd (last.no_later j d g h e)
     by j d g b l e (inr (inl f)) = side j d b f here
     by j d g b l e (inr (inr h)) = so.sides j d (omega arith) (omega arith) l e
@@ -59,7 +59,7 @@ searched_more ps n pieces earlier latest v count next place less are so some is 
 
 -- the pieces before a place that begin at one of the points are sides
 abbrev pub AreSidesOf : List Point → List ℕ → ℕ → List Piece → Type 0
-AreSidesOf ps lost place pieces = (j : ℕ) (d : Piece) → j < place → j < length pieces → Contains lost (get_or pieces j d).a → HasSide ps (get_or pieces j d).a (get_or pieces j d).b
+AreSidesOf ps lost place pieces = (j : ℕ) (d : Piece) → j < place → j < length pieces → Contains lost (get_or pieces j d).a → IsDelaunaySide ps (get_or pieces j d).a (get_or pieces j d).b
 
 from_take : (lost : List ℕ) (i v u : ℕ) → i < length lost → get_or lost i 0 ≡ v → Contains (take (i + 1) lost) u → Contains (take i lost) u ⊎ (v ≡ u)
 from_take lost i v u h at c = Contains-push_cases (take i lost) v u (subst (λ xs. Contains xs u) (take_more lost i 0 h ∙ ap (λ n. take i lost ++ n ∷ []) at) c)
@@ -69,7 +69,7 @@ pub sides_more : (ps : List Point) (lost : List ℕ) (i v place less : ℕ) (pie
     → AreSidesOf ps (take (i + 1) lost) less pieces
 sides_more ps lost i v place less pieces h at below of_those from j d g l c = go (from_take lost i v (get_or pieces j d).a h at c)
   where
-    go : Contains (take i lost) (get_or pieces j d).a ⊎ (v ≡ (get_or pieces j d).a) → HasSide ps (get_or pieces j d).a (get_or pieces j d).b
+    go : Contains (take i lost) (get_or pieces j d).a ⊎ (v ≡ (get_or pieces j d).a) → IsDelaunaySide ps (get_or pieces j d).a (get_or pieces j d).b
     go (inl k) = of_those j d (omega arith) l k
     go (inr e) = from j d g l (sym e)
 
@@ -78,14 +78,14 @@ pub sides_left_out : (ps : List Point) (n : ℕ) (lost : List ℕ) (i v place : 
     → AreSidesOf ps (take (i + 1) lost) place pieces
 sides_left_out ps n lost i v place pieces ends h at out of_those j d g l c = go (from_take lost i v (get_or pieces j d).a h at c)
   where
-    go : Contains (take i lost) (get_or pieces j d).a ⊎ (v ≡ (get_or pieces j d).a) → HasSide ps (get_or pieces j d).a (get_or pieces j d).b
+    go : Contains (take i lost) (get_or pieces j d).a ⊎ (v ≡ (get_or pieces j d).a) → IsDelaunaySide ps (get_or pieces j d).a (get_or pieces j d).b
     go (inl k) = of_those j d g l k
     go (inr e) = let b = ends j d l in absurd (omega arith)
 
 -- the pieces before the place are sides
 pub sides_before : (ps : List Point) (lost : List ℕ) (k place : ℕ) (old new : List Watched) → length lost ≤ k → pieces_of new ≡ pieces_of old → All (IsSideOrLost ps lost) old → AreSidesOf ps (take k lost) place (pieces_of old)
     → AreSidesBefore ps place new
-sides_before ps lost k place old new all same kept of_those j d h l = subst (λ p. HasSide ps p.a p.b) (at new l) (subst (λ ws. HasSide ps (get_or ws j d.piece).a (get_or ws j d.piece).b) (sym same) side)
+sides_before ps lost k place old new all same kept of_those j d h l = subst (λ p. IsDelaunaySide ps p.a p.b) (at new l) (subst (λ ws. IsDelaunaySide ps (get_or ws j d.piece).a (get_or ws j d.piece).b) (sym same) side)
   where
     at : (ws : List Watched) → j < length ws → get_or (pieces_of ws) j d.piece ≡ (get_or ws j d).piece
     at ws h = get_or-map (λ (v : Watched). v.piece) ws j d d.piece h
@@ -93,11 +93,11 @@ sides_before ps lost k place old new all same kept of_those j d h l = subst (λ 
     there : j < length old
     there = let a = length-map old (λ (v : Watched). v.piece) in let b = length-map new (λ (v : Watched). v.piece) in let e = ap length same in omega arith
 
-    side : HasSide ps (get_or (pieces_of old) j d.piece).a (get_or (pieces_of old) j d.piece).b
+    side : IsDelaunaySide ps (get_or (pieces_of old) j d.piece).a (get_or (pieces_of old) j d.piece).b
     side = go (kept j d there)
       where
-        go : IsSideOrLost ps lost (get_or old j d) → HasSide ps (get_or (pieces_of old) j d.piece).a (get_or (pieces_of old) j d.piece).b
-        go (inl s) = subst (λ p. HasSide ps p.a p.b) (sym (at old there)) s
+        go : IsSideOrLost ps lost (get_or old j d) → IsDelaunaySide ps (get_or (pieces_of old) j d.piece).a (get_or (pieces_of old) j d.piece).b
+        go (inl s) = subst (λ p. IsDelaunaySide ps p.a p.b) (sym (at old there)) s
         go (inr c) =
             of_those j d.piece h (let a = length-map old (λ (v : Watched). v.piece) in let t = there in omega arith)
             (subst (Contains (take k lost)) (ap (λ p. p.a) (sym (at old there))) (subst (λ xs. Contains xs (get_or old j d).piece.a) (sym (take_all k lost all)) c.0))

@@ -13,18 +13,18 @@ use Rattle.geo_laws.proofs.Members.{IsMember, here, there, member_of}
 use Rattle.path_laws.proofs.Rows.{place_of}
 use Rattle.complex_laws.proofs.MetFaces.{parts_met}
 use Rattle.complex_laws.proofs.Whole.{delaunay_whole}
-use Rattle.cavity_insert.specs.Living.{HasSide}
+use Rattle.cavity_insert.specs.Living.{IsDelaunaySide}
 use Rattle.box_pairs.specs.declared.complex_parts.Compared.TheVariants.{Any}
 use Rattle.box_pairs.specs.declared.complex_parts.Part.{Part}
 use Rattle.box_pairs.specs.declared.complex_parts.Part.TheVariants.{Segment}
 use Rattle.box_pairs.specs.Parts.{IsPairMet}
 use Rattle.box_pairs.specs.Pairs.{IsMarked, AreMarkedMet}
 use Rattle.segment_protect.specs.Crossing.{AreMet}
-use Rattle.segment_protect.specs.Watch.{pieces_of, IsSeen, seen_marks}
+use Rattle.segment_protect.specs.Watch.{pieces_of, IsSeenOrSide, seen_marks}
 use Rattle.segment_protect.specs.declared.watch.Watched.{Watched}
 
 -- two sides of the Delaunay list
-sides_met : (ps : List Point) (p q : Piece) → HasSide ps p.a p.b → HasSide ps q.a q.b → AreMet ps p q
+sides_met : (ps : List Point) (p q : Piece) → IsDelaunaySide ps p.a p.b → IsDelaunaySide ps q.a q.b → AreMet ps p q
 sides_met ps p q f g =
     parts_met ps [] (delaunay_rows ps) (delaunay_whole ps (delaunay_rows ps) (law_delaunay_list ps)).filling f.row g.row (listed f.row f.is_row) (listed g.row g.is_row)
     (ends p) (ends q) (λ i m. place_of f.row i (own p f i m)) (own q g)
@@ -32,7 +32,7 @@ sides_met ps p q f g =
     listed : (r : Tet) → IsDelaunay ps r → Contains (delaunay_rows ps) r
     listed r h = ((law_delaunay_list ps).exactly r).1 h
 
-    own : (p : Piece) (h : HasSide ps p.a p.b) (i : ℕ) → IsMember i (ends p) → IsMember i (numbers h.row)
+    own : (p : Piece) (h : IsDelaunaySide ps p.a p.b) (i : ℕ) → IsMember i (ends p) → IsMember i (numbers h.row)
     own p h i here = member_of (numbers h.row) p.a h.first
     own p h i (there here) = member_of (numbers h.row) p.b h.second
     own p h i (there (there m)) = elim m [ ]
@@ -40,8 +40,8 @@ sides_met ps p q f g =
 unseen : Watched
 unseen = record { piece = record { a = 0; b = 0; halvings = 0 }; seen = 0 }
 
-seen_side : (ps : List Point) (watched : List Watched) (k : ℕ) → All (IsSeen ps) watched → k < length watched → IsMarked (seen_marks watched) k
-    → HasSide ps (get_or watched k unseen).piece.a (get_or watched k unseen).piece.b
+seen_side : (ps : List Point) (watched : List Watched) (k : ℕ) → All (IsSeenOrSide ps) watched → k < length watched → IsMarked (seen_marks watched) k
+    → IsDelaunaySide ps (get_or watched k unseen).piece.a (get_or watched k unseen).piece.b
 seen_side ps watched k seen l marked = by (seen k unseen l)
   where
     w : Watched
@@ -50,11 +50,11 @@ seen_side ps watched k seen l marked = by (seen k unseen l)
     above : nat_lt 0 w.seen ≡ true
     above = sym (get_or-map (λ (v : Watched). nat_lt 0 v.seen) watched k unseen true l) ∙ marked
 
-    by : IsSeen ps w → HasSide ps w.piece.a w.piece.b
+    by : IsSeenOrSide ps w → IsDelaunaySide ps w.piece.a w.piece.b
     by (inl none) = absurd (false≢true (ap (nat_lt 0) (sym none) ∙ above))
     by (inr side) = side.1
 
-marked_met : (ps : List Point) (watched : List Watched) → All (IsSeen ps) watched → AreMarkedMet Any ps (map Segment (pieces_of watched)) (seen_marks watched)
+marked_met : (ps : List Point) (watched : List Watched) → All (IsSeenOrSide ps) watched → AreMarkedMet Any ps (map Segment (pieces_of watched)) (seen_marks watched)
 marked_met ps watched seen i j h n mi mj d =
     let P : Part → Type 0 = λ u. IsPairMet Any ps u (get_or (map Segment (pieces_of watched)) j d) in
     let Q : Part → Type 0 = λ u. IsPairMet Any ps (Segment (get_or watched i unseen).piece) u in
@@ -72,6 +72,6 @@ marked_met ps watched seen i j h n mi mj d =
 
 -- the parts of pieces that were seen to be sides
 pub known_sides : (ps : List Point) (pieces : List Piece) (watched : List Watched) (parts : List Part) (marks : List Bool) → parts ≡ map Segment pieces → pieces_of watched ≡ pieces → marks ≡ seen_marks watched
-    → All (IsSeen ps) watched → AreMarkedMet Any ps parts marks
+    → All (IsSeenOrSide ps) watched → AreMarkedMet Any ps parts marks
 known_sides ps pieces watched parts marks are same noted seen =
     subst (λ ms. AreMarkedMet Any ps parts ms) (sym noted) (subst (λ us. AreMarkedMet Any ps us (seen_marks watched)) (sym (are ∙ ap (map Segment) (sym same))) (marked_met ps watched seen))

@@ -2,7 +2,7 @@
 use Rattle.std.specs.Prelude.{◌≡◌, ◌≢◌, ◌⊎◌, ℕ, ◌-◌, ◌<◌, ◌≤◌, List, length, All, Contains, slice_index, slice_index_or}
 use Rattle.sign_predicates.specs.Point.{Point}
 use Rattle.geo_laws.specs.declared.complex.Piece.{Piece}
-use Rattle.cavity_insert.specs.Living.{HasSide}
+use Rattle.cavity_insert.specs.Living.{IsDelaunaySide}
 use Rattle.segment_protect.specs.Watch.{pieces_of, IsWatched}
 use Rattle.segment_protect.specs.declared.watch.Watched.{Watched}
 use Rattle.segment_protect.specs.declared.passed.Passed.{Passed}
@@ -32,7 +32,7 @@ pub record IsPassed (ps : List Point) (touched : List ℕ) (passed : Passed) : T
 
 -- the piece is a side
 abbrev pub IsSide : List Point → Watched → Type 0
-IsSide ps w = HasSide ps w.piece.a w.piece.b
+IsSide ps w = IsDelaunaySide ps w.piece.a w.piece.b
 
 -- it is one, or both its ends are among the numbers that are lost
 abbrev pub IsSideOrLost : List Point → List ℕ → Watched → Type 0
@@ -40,7 +40,7 @@ IsSideOrLost ps lost w = IsSide ps w ⊎ (Contains lost w.piece.a × Contains lo
 
 -- the piece at a place is a side
 abbrev pub IsSideAt : List Point → List Piece → ℕ → Type 0
-IsSideAt ps pieces k = (d : Piece) → HasSide ps (slice_index_or pieces k d).a (slice_index_or pieces k d).b
+IsSideAt ps pieces k = (d : Piece) → IsDelaunaySide ps (slice_index_or pieces k d).a (slice_index_or pieces k d).b
 
 -- the pieces before a place are sides
 abbrev pub AreSidesBefore : List Point → ℕ → List Watched → Type 0
@@ -49,4 +49,4 @@ AreSidesBefore ps place watched = (j : ℕ) (d : Watched) → j < place → j < 
 -- those of them that begin at the point v are
 abbrev pub AreSidesFrom : List Point → ℕ → ℕ → List Piece → Type 0
 AreSidesFrom ps v place pieces = (j : ℕ) (d : Piece) → j < place → j < length pieces → (slice_index_or pieces j d).a ≡ v
-    → HasSide ps (slice_index_or pieces j d).a (slice_index_or pieces j d).b
+    → IsDelaunaySide ps (slice_index_or pieces j d).a (slice_index_or pieces j d).b

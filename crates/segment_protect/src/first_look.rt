@@ -3,7 +3,7 @@ ghost use Rattle.std.specs.Prelude.{◌≡◌, ◌≢◌, ◌^◌, ◌<◌, [], 
 ghost use Rattle.std.specs.Prelude.{IfOk};
 ghost use Rattle.geo_laws.specs.Delaunay.{numbers};
 ghost use Rattle.piece_set.specs.Found.{with_pieces};
-ghost use Rattle.segment_protect.specs.Watch.{pieces_of, HasSidesOf, IsSeen};
+ghost use Rattle.segment_protect.specs.Watch.{pieces_of, HasSidesOf, IsSeenOrSide};
 
 use crate::watch::Watched;
 use cavity_insert::{Living, has_corner};
@@ -29,9 +29,9 @@ fn has_ends(row: Tet, piece: Piece) -> bool
 fn see_piece(living: &Living, watched: &mut Vec<Watched>, row: Tet, k: usize)
     requires row { HasSidesOf living.now.points row }
     requires few { length living.now.points < 2 ^ 32 }
-    requires seen { All (IsSeen living.now.points) watched.old.items }
+    requires seen { All (IsSeenOrSide living.now.points) watched.old.items }
     ensures pieces { pieces_of watched.new.items ≡ pieces_of watched.old.items }
-    ensures seen { All (IsSeen living.now.points) watched.new.items }
+    ensures seen { All (IsSeenOrSide living.now.points) watched.new.items }
 {
     if k >= watched.len() {
         return;
@@ -58,9 +58,9 @@ fn see_side(
 )
     requires row { HasSidesOf living.now.points row }
     requires few { length living.now.points < 2 ^ 32 }
-    requires seen { All (IsSeen living.now.points) watched.old.items }
+    requires seen { All (IsSeenOrSide living.now.points) watched.old.items }
     ensures pieces { pieces_of watched.new.items ≡ pieces_of watched.old.items }
-    ensures seen { All (IsSeen living.now.points) watched.new.items }
+    ensures seen { All (IsSeenOrSide living.now.points) watched.new.items }
 {
     let Some(k) = places.place_of(Piece { a, b, halvings: 0 }) else {
         return;
@@ -72,9 +72,9 @@ fn see_side(
 fn see_row(living: &Living, places: &PieceSet, watched: &mut Vec<Watched>, row: Tet)
     requires row { HasSidesOf living.now.points row }
     requires few { length living.now.points < 2 ^ 32 }
-    requires seen { All (IsSeen living.now.points) watched.old.items }
+    requires seen { All (IsSeenOrSide living.now.points) watched.old.items }
     ensures pieces { pieces_of watched.new.items ≡ pieces_of watched.old.items }
-    ensures seen { All (IsSeen living.now.points) watched.new.items }
+    ensures seen { All (IsSeenOrSide living.now.points) watched.new.items }
 {
     let sides = [
         (row.a, row.b),
@@ -93,9 +93,9 @@ fn see_row(living: &Living, places: &PieceSet, watched: &mut Vec<Watched>, row: 
 fn see_slot(living: &Living, places: &PieceSet, watched: &mut Vec<Watched>, i: usize)
     requires there { i < length living.now.slots }
     requires few { length living.now.points < 2 ^ 32 }
-    requires seen { All (IsSeen living.now.points) watched.old.items }
+    requires seen { All (IsSeenOrSide living.now.points) watched.old.items }
     ensures pieces { pieces_of watched.new.items ≡ pieces_of watched.old.items }
-    ensures seen { All (IsSeen living.now.points) watched.new.items }
+    ensures seen { All (IsSeenOrSide living.now.points) watched.new.items }
 {
     let arena = living.arena();
     let Some(s) = arena.slot(i) else {
@@ -110,9 +110,9 @@ fn see_slot(living: &Living, places: &PieceSet, watched: &mut Vec<Watched>, i: u
 /// Notes the pieces that are sides of the mesh.
 pub(crate) fn see_sides(living: &Living, places: &PieceSet, watched: &mut Vec<Watched>)
     requires few { length living.now.points < 2 ^ 32 }
-    requires seen { All (IsSeen living.now.points) watched.old.items }
+    requires seen { All (IsSeenOrSide living.now.points) watched.old.items }
     ensures pieces { pieces_of watched.new.items ≡ pieces_of watched.old.items }
-    ensures seen { All (IsSeen living.now.points) watched.new.items }
+    ensures seen { All (IsSeenOrSide living.now.points) watched.new.items }
 {
     for i in 0..living.arena().slots() {
         see_slot(living, places, watched, i);

@@ -1,7 +1,7 @@
 //! Pieces that were passed, in their order. Those that begin at a point are found from there.
 ghost use Rattle.std.specs.Prelude.{◌≡◌, ◌+◌, ◌<◌, ◌≤◌, ◌^◌, ◌++◌, [], ◌∷◌, length};
 ghost use Rattle.std.specs.Prelude.{All, IsTrue, IfOk, OnOk, MatchOption};
-ghost use Rattle.segment_protect.specs.Watch.{pieces_of, AreMarks};
+ghost use Rattle.segment_protect.specs.Watch.{pieces_of, AreTouchMarks};
 ghost use Rattle.segment_protect.specs.Passed.{IsLinked, IsPassed, IsSideAt, IsSideOrLost};
 ghost use Rattle.segment_protect.specs.Passed.{AreSidesBefore, AreSidesFrom};
 
@@ -79,7 +79,7 @@ impl Passed {
     /// Whether the piece at this place is a side. If so, it is noted that it was seen to be one.
     fn is_side_at(&mut self, living: &Living, touched: &[u32], k: usize) -> bool
         requires passed { IsPassed living.now.points touched.now self.old }
-        requires marks { AreMarks living.now.points touched.now }
+        requires marks { AreTouchMarks living.now.points touched.now }
         requires few { length living.now.points < 2 ^ 32 }
         requires there { k < length self.old.watched.items }
         ensures passed { IsPassed living.now.points touched.now self.new }
@@ -102,7 +102,7 @@ impl Passed {
     /// else `least`.
     fn first_lost_at(&mut self, living: &Living, touched: &[u32], v: usize, least: usize) -> usize
         requires passed { IsPassed living.now.points touched.now self.old }
-        requires marks { AreMarks living.now.points touched.now }
+        requires marks { AreTouchMarks living.now.points touched.now }
         requires few { length living.now.points < 2 ^ 32 }
         requires inside { v < length living.now.points }
         ensures passed { IsPassed living.now.points touched.now self.new }
@@ -126,7 +126,7 @@ impl Passed {
     /// Only those with both ends in `lost` may be none.
     pub(crate) fn first_lost(&mut self, living: &Living, touched: &[u32], lost: &[u32]) -> usize
         requires passed { IsPassed living.now.points touched.now self.old }
-        requires marks { AreMarks living.now.points touched.now }
+        requires marks { AreTouchMarks living.now.points touched.now }
         requires few { length living.now.points < 2 ^ 32 }
         requires kept { All (IsSideOrLost living.now.points lost.now) self.old.watched.items }
         ensures passed { IsPassed living.now.points touched.now self.new }

@@ -12,7 +12,7 @@ use Rattle.sign_predicates.specs.Orientation.{dot, det, orient}
 use Rattle.sign_predicates.specs.Sphere.{square_length, in_sphere, HaveOneSign, AreSides}
 use Rattle.sign_predicates.specs.Vector.{IsDifference, sphere_sum}
 use Rattle.sign_predicates.specs.Sign.{IsSignOf}
-use Rattle.sign_predicates.specs.Lifted.{IsLifted, rise, volumes_of, IsStepsFrom, IsInFrame, AreInFrame, IsSphereSign}
+use Rattle.sign_predicates.specs.Lifted.{IsLifted, lift_rise, volumes_of, IsStepsFrom, IsInFrame, AreInFrame, IsSphereSign}
 use Rattle.sign_predicates.specs.declared.tetrahedron.Corners.{Corners}
 use Rattle.sign_predicates.specs.declared.tetrahedron.Sign.{Sign}
 use Rattle.sign_predicates.specs.declared.tetrahedron.Sign.TheVariants.{Below, Zero, Above}
@@ -55,7 +55,7 @@ sum_of_columns k l m n g h i j p q r s =
     (by_othersE (var 0) (var 1) (var 2) (var 3) (var 8) (var 9) (var 10) (var 11) ⊕ two ⊗ by_othersE (var 4) (var 5) (var 6) (var 7) (var 8) (var 9) (var 10) (var 11))
     tt (k ∷ l ∷ m ∷ n ∷ g ∷ h ∷ i ∷ j ∷ p ∷ q ∷ r ∷ s ∷ [])
 
-rise_is : (e a : Point) → rise e a ≡ square_length (from_to e a) +ℤ pos 2 *ℤ dot e (from_to e a)
+rise_is : (e a : Point) → lift_rise e a ≡ square_length (from_to e a) +ℤ pos 2 *ℤ dot e (from_to e a)
 unfolding same
 rise_is e a =
     let E = pointE 0 in
@@ -64,7 +64,7 @@ rise_is e a =
 
 -- the sphere's sum with the differences of the heights in place of the squared lengths
 pub rises_sum : (t : Corners) (e : Point)
-    → by_others (rise e t.a) (rise e t.b) (rise e t.c) (rise e t.d) (from_to e t.a) (from_to e t.b) (from_to e t.c) (from_to e t.d) ≡ in_sphere t e
+    → by_others (lift_rise e t.a) (lift_rise e t.b) (lift_rise e t.c) (lift_rise e t.d) (from_to e t.a) (from_to e t.b) (from_to e t.c) (from_to e t.d) ≡ in_sphere t e
 rises_sum t e =
     let a = from_to e t.a in
     let b = from_to e t.b in
@@ -83,8 +83,8 @@ rises_sum t e =
 
 -- the same, with the volumes in place of the determinants
 pub rises_volumes : (t : Corners) (e : Point)
-    → rise e t.a *ℤ (volumes_of t e).a -ℤ rise e t.b *ℤ (volumes_of t e).b
-    +ℤ rise e t.c *ℤ (volumes_of t e).c -ℤ rise e t.d *ℤ (volumes_of t e).d ≡ in_sphere t e
+    → lift_rise e t.a *ℤ (volumes_of t e).a -ℤ lift_rise e t.b *ℤ (volumes_of t e).b
+    +ℤ lift_rise e t.c *ℤ (volumes_of t e).c -ℤ lift_rise e t.d *ℤ (volumes_of t e).d ≡ in_sphere t e
 unfolding orient
 rises_volumes t e = rises_sum t e
 

@@ -9,7 +9,7 @@ use Rattle.sign_predicates.specs.Orientation.{Triangle, side}
 use Rattle.sign_predicates.specs.declared.tetrahedron.Corners.{Corners}
 use Rattle.sign_predicates.specs.declared.tetrahedron.Numbers.{Numbers}
 use Rattle.sign_predicates.specs.Sphere.{in_sphere, opposite_faces, alongside, wins_tie}
-use Rattle.sign_predicates.specs.Ties.{Decision, decision_of, decisions, put_by_number, by_rising_number, first_decision, AreDifferent, TieLaw}
+use Rattle.sign_predicates.specs.Ties.{Decision, decision_of, decisions, put_by_number, by_rising_number, first_decision, AreFiveDifferent, TieLaw}
 
 -- ---- the numbers of the points for outside and against it
 
@@ -242,7 +242,7 @@ least_is t n e m =
     let wins : ℕ → Bool = λ i. list_all (nat_lt i) (alongside t n e) in
     (λ k. all_are (nat_lt m) e fs k || any_for (λ i. all_are (nat_lt i) e fs k) ds) ∙ ap (λ b. wins m || b) (any_are wins e fs)
 
-differ : (t : Corners) (n : Numbers) (e : Point) (m : ℕ) → AreDifferent n m → AllDiffer (decisions t n e m)
+differ : (t : Corners) (n : Numbers) (e : Point) (m : ℕ) → AreFiveDifferent n m → AllDiffer (decisions t n e m)
 differ t n e m h = (
   (h 0 1 0 (omega arith) (omega arith), (h 0 2 0 (omega arith) (omega arith), (h 0 3 0 (omega arith) (omega arith), (h 0 4 0 (omega arith) (omega arith), tt)))),
   (

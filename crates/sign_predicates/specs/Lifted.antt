@@ -25,8 +25,8 @@ pub record IsLifted (q : Point) (height : ℤ) : Type 0 where
   pub height_is : square_length q ≡ height
 
 -- how much higher b is lifted than a
-abbrev pub rise : Point → Point → ℤ
-rise a b = square_length b -ℤ square_length a
+abbrev pub lift_rise : Point → Point → ℤ
+lift_rise a b = square_length b -ℤ square_length a
 
 -- six times the signed volumes of e with each three of the corners, named after the corner left out
 abbrev pub volumes_of : Corners → Point → Volumes

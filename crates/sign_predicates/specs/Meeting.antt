@@ -15,8 +15,8 @@ pub record IsMeanOf (f : Triangle) (i j k : ℕ) (x : RationalPoint) : Type 0 wh
 abbrev pub InTriangle : Triangle → RationalPoint → Type 0
 InTriangle f x = (i j k : ℕ) × IsMeanOf f i j k x
 
-abbrev pub triangle : Point → Point → Point → Triangle
-triangle a b c = record { a = a; b = b; c = c }
+abbrev pub triangle_of : Point → Point → Point → Triangle
+triangle_of a b c = record { a = a; b = b; c = c }
 
 -- the closed segment is the triangle with its second end twice
 abbrev pub segment : Point → Point → Triangle

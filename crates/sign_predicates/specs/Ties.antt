@@ -45,9 +45,9 @@ is_outside_by_rising_number t n e m =
     if int_lt sum (pos 0) then true else (if int_lt (pos 0) sum then false else tie)
 
 -- the five numbers differ
-abbrev pub AreDifferent : Numbers → ℕ → Type 0
-AreDifferent n m = AllPairs (λ i j. i ≢ j) (m ∷ n.a ∷ n.b ∷ n.c ∷ n.d ∷ [])
+abbrev pub AreFiveDifferent : Numbers → ℕ → Type 0
+AreFiveDifferent n m = AllPairs (λ i j. i ≢ j) (m ∷ n.a ∷ n.b ∷ n.c ∷ n.d ∷ [])
 
 -- The rule of least numbers, by which a program needs no sorting, is the rule by rising number.
 abbrev pub TieLaw : Type 0
-TieLaw = (t : Corners) (n : Numbers) (e : Point) (m : ℕ) → AreDifferent n m → is_outside t n e m ≡ is_outside_by_rising_number t n e m
+TieLaw = (t : Corners) (n : Numbers) (e : Point) (m : ℕ) → AreFiveDifferent n m → is_outside t n e m ≡ is_outside_by_rising_number t n e m

@@ -1,6 +1,6 @@
 //! Triangles whose boxes are apart, a cheap test before the exact ones.
 ghost use Rattle.std.specs.Prelude.{IsTrue, ◌⊎◌};
-ghost use Rattle.sign_predicates.specs.Meeting.{triangle, TrianglesMeet};
+ghost use Rattle.sign_predicates.specs.Meeting.{triangle_of, TrianglesMeet};
 ghost use Rattle.sign_predicates.specs.Turns.{AllBelow};
 
 use crate::GridPoint;
@@ -30,7 +30,7 @@ fn apart_x(
     e: GridPoint,
     f: GridPoint,
 ) -> bool
-    ensures { IsTrue result → ¬ TrianglesMeet (triangle a b c) (triangle d e f) }
+    ensures { IsTrue result → ¬ TrianglesMeet (triangle_of a b c) (triangle_of d e f) }
 {
     apart_along(a.x, b.x, c.x, d.x, e.x, f.x)
 }
@@ -44,7 +44,7 @@ fn apart_y(
     e: GridPoint,
     f: GridPoint,
 ) -> bool
-    ensures { IsTrue result → ¬ TrianglesMeet (triangle a b c) (triangle d e f) }
+    ensures { IsTrue result → ¬ TrianglesMeet (triangle_of a b c) (triangle_of d e f) }
 {
     apart_along(a.y, b.y, c.y, d.y, e.y, f.y)
 }
@@ -58,7 +58,7 @@ fn apart_z(
     e: GridPoint,
     f: GridPoint,
 ) -> bool
-    ensures { IsTrue result → ¬ TrianglesMeet (triangle a b c) (triangle d e f) }
+    ensures { IsTrue result → ¬ TrianglesMeet (triangle_of a b c) (triangle_of d e f) }
 {
     apart_along(a.z, b.z, c.z, d.z, e.z, f.z)
 }
@@ -74,7 +74,7 @@ pub(crate) fn boxes_apart(
     e: GridPoint,
     f: GridPoint,
 ) -> bool
-    ensures { IsTrue result → ¬ TrianglesMeet (triangle a b c) (triangle d e f) }
+    ensures { IsTrue result → ¬ TrianglesMeet (triangle_of a b c) (triangle_of d e f) }
 {
     if apart_x(a, b, c, d, e, f) {
         true

@@ -1,7 +1,7 @@
 //! Signs at the centroid of a tetrahedron, which is taken four times over: the sum of the corners.
 ghost use Rattle.std.specs.Prelude.{◌≡◌, ◌^◌, ◌≤◌, ◌+ℤ◌, ◌-ℤ◌, ◌*ℤ◌, unsigned_abs, pos};
 ghost use Rattle.sign_predicates.specs.Orientation.{orient_rational, normal};
-ghost use Rattle.sign_predicates.specs.Meeting.{triangle};
+ghost use Rattle.sign_predicates.specs.Meeting.{triangle_of};
 ghost use Rattle.sign_predicates.specs.Turns.{turn};
 ghost use Rattle.sign_predicates.specs.Centroid.{centroid, turn_rational, IsFirstSignOf};
 ghost use Rattle.sign_predicates.specs.Sign.{IsSignOf};
@@ -83,7 +83,7 @@ pub fn turn_centroid(
     r: GridPoint,
     t: &Corners,
 ) -> Sign
-    ensures { IsSignOf result (turn_rational (normal (triangle a b c)) q r (centroid t.now)) }
+    ensures { IsSignOf result (turn_rational (normal (triangle_of a b c)) q r (centroid t.now)) }
 {
     sign_of(turn_centroid_sum(cross(from_to(a, b), from_to(a, c)), q, r, t))
 }
@@ -98,7 +98,7 @@ pub fn turn_sign(
     r: GridPoint,
     p: GridPoint,
 ) -> Sign
-    ensures { IsSignOf result (turn (normal (triangle a b c)) q r p) }
+    ensures { IsSignOf result (turn (normal (triangle_of a b c)) q r p) }
 {
     sign_of(turn(cross(from_to(a, b), from_to(a, c)), q, r, p))
 }
@@ -106,7 +106,7 @@ pub fn turn_sign(
 /// The sign of the first coordinate of the triangle's normal that is not 0, or of the last one.
 #[inline]
 pub fn normal_sign(a: GridPoint, b: GridPoint, c: GridPoint) -> Sign
-    ensures { IsFirstSignOf result (normal (triangle a b c)) }
+    ensures { IsFirstSignOf result (normal (triangle_of a b c)) }
 {
     first_sign(cross(from_to(a, b), from_to(a, c)))
 }

@@ -1,7 +1,7 @@
 //! Whether a triangle enters the inside of a tetrahedron. All sums are orientations.
 ghost use Rattle.std.specs.Prelude.{◌≡◌, ◌⊎◌, pos, ◌<ℤ◌, ◌≤ℤ◌, IsTrue, ◌↔◌, None, IfSome};
 ghost use Rattle.sign_predicates.specs.Orientation.{orient, IsPositive, SpansPlane, side};
-ghost use Rattle.sign_predicates.specs.Meeting.{triangle, segment, TriangleEnters};
+ghost use Rattle.sign_predicates.specs.Meeting.{triangle_of, segment, TriangleEnters};
 ghost use Rattle.sign_predicates.specs.Turns.{PassesWithin};
 ghost use Rattle.sign_predicates.specs.Entering.{AreLows, AreFaceLows, AreTriangleLows, FacesOpen, PassesFace, EdgesOpen, SideEnters, CrossesWithin, CrossesFrom, SectionWithin, Straddles, SomeAbove, SomeBelow, IsSpot};
 
@@ -52,7 +52,7 @@ fn face_lows(
     b: GridPoint,
     c: GridPoint,
 ) -> FaceLows
-    ensures { AreFaceLows (triangle u v w) (triangle a b c) result }
+    ensures { AreFaceLows (triangle_of u v w) (triangle_of a b c) result }
 {
     FaceLows {
         a: is_low(u, v, w, a),
@@ -81,8 +81,8 @@ struct TriangleLows {
 /// side: then the triangle does not enter. The first such face ends the search.
 #[inline]
 fn triangle_lows(t: &Corners, a: GridPoint, b: GridPoint, c: GridPoint) -> Option<TriangleLows>
-    ensures some { IfSome result (AreTriangleLows t.now (triangle a b c)) }
-    ensures none { result ≡ None → ¬ TriangleEnters t.now (triangle a b c) }
+    ensures some { IfSome result (AreTriangleLows t.now (triangle_of a b c)) }
+    ensures none { result ≡ None → ¬ TriangleEnters t.now (triangle_of a b c) }
 {
     let at_a = face_lows(t.b, t.d, t.c, a, b, c);
     if is_beyond(at_a) {
@@ -210,7 +210,7 @@ fn side_enters(
     requires la_is { AreLows t.now a la }
     requires lb_is { AreLows t.now b lb }
     requires lc_is { AreLows t.now c lc }
-    ensures { IsTrue result ↔ SideEnters t.now (triangle a b c) }
+    ensures { IsTrue result ↔ SideEnters t.now (triangle_of a b c) }
 {
     if leg_enters(t, a, b, la, lb) {
         true
@@ -232,7 +232,7 @@ struct Spot {
 fn find_spot(a: GridPoint, b: GridPoint, c: GridPoint, p: GridPoint, side: i128) -> Spot
     requires { side ≡ orient a b c p }
     ensures at { result.at ≡ p }
-    ensures spot { IsSpot (triangle a b c) result }
+    ensures spot { IsSpot (triangle_of a b c) result }
 {
     Spot {
         at: p,
@@ -243,9 +243,9 @@ fn find_spot(a: GridPoint, b: GridPoint, c: GridPoint, p: GridPoint, side: i128)
 /// Whether the edge from `p` to `q` meets the plane within the triangle, where `p` is strictly
 /// above the plane and `q` isn't.
 fn crosses_within(p: &Spot, q: &Spot, a: GridPoint, b: GridPoint, c: GridPoint) -> bool
-    requires p_is { IsSpot (triangle a b c) p.now }
-    requires q_is { IsSpot (triangle a b c) q.now }
-    ensures { IsTrue result ↔ CrossesWithin (triangle a b c) p.now.at q.now.at }
+    requires p_is { IsSpot (triangle_of a b c) p.now }
+    requires q_is { IsSpot (triangle_of a b c) q.now }
+    ensures { IsTrue result ↔ CrossesWithin (triangle_of a b c) p.now.at q.now.at }
 {
     if p.above && !q.above {
         passes_within(p.at, q.at, a, b, c)
@@ -264,11 +264,11 @@ fn crosses_from(
     b: GridPoint,
     c: GridPoint,
 ) -> bool
-    requires p_is { IsSpot (triangle a b c) p.now }
-    requires q_is { IsSpot (triangle a b c) q.now }
-    requires r_is { IsSpot (triangle a b c) r.now }
-    requires s_is { IsSpot (triangle a b c) s.now }
-    ensures { IsTrue result ↔ CrossesFrom (triangle a b c) p.now.at q.now.at r.now.at s.now.at }
+    requires p_is { IsSpot (triangle_of a b c) p.now }
+    requires q_is { IsSpot (triangle_of a b c) q.now }
+    requires r_is { IsSpot (triangle_of a b c) r.now }
+    requires s_is { IsSpot (triangle_of a b c) s.now }
+    ensures { IsTrue result ↔ CrossesFrom (triangle_of a b c) p.now.at q.now.at r.now.at s.now.at }
 {
     crosses_within(p, q, a, b, c) && crosses_within(p, r, a, b, c) && crosses_within(p, s, a, b, c)
 }
@@ -283,12 +283,12 @@ fn crosses_from_both(
     b: GridPoint,
     c: GridPoint,
 ) -> bool
-    requires p_is { IsSpot (triangle a b c) p.now }
-    requires q_is { IsSpot (triangle a b c) q.now }
-    requires r_is { IsSpot (triangle a b c) r.now }
-    requires s_is { IsSpot (triangle a b c) s.now }
-    ensures { IsTrue result ↔ (CrossesFrom (triangle a b c) p.now.at q.now.at r.now.at s.now.at
-        × CrossesFrom (triangle a b c) q.now.at p.now.at r.now.at s.now.at) }
+    requires p_is { IsSpot (triangle_of a b c) p.now }
+    requires q_is { IsSpot (triangle_of a b c) q.now }
+    requires r_is { IsSpot (triangle_of a b c) r.now }
+    requires s_is { IsSpot (triangle_of a b c) s.now }
+    ensures { IsTrue result ↔ (CrossesFrom (triangle_of a b c) p.now.at q.now.at r.now.at s.now.at
+        × CrossesFrom (triangle_of a b c) q.now.at p.now.at r.now.at s.now.at) }
 {
     crosses_from(p, q, r, s, a, b, c) && crosses_from(q, p, r, s, a, b, c)
 }
@@ -303,12 +303,12 @@ fn section_within(
     b: GridPoint,
     c: GridPoint,
 ) -> bool
-    requires p_is { IsSpot (triangle a b c) p.now }
-    requires q_is { IsSpot (triangle a b c) q.now }
-    requires r_is { IsSpot (triangle a b c) r.now }
-    requires s_is { IsSpot (triangle a b c) s.now }
+    requires p_is { IsSpot (triangle_of a b c) p.now }
+    requires q_is { IsSpot (triangle_of a b c) q.now }
+    requires r_is { IsSpot (triangle_of a b c) r.now }
+    requires s_is { IsSpot (triangle_of a b c) s.now }
     ensures { IsTrue result ↔ SectionWithin
-        (record { a = p.now.at; b = q.now.at; c = r.now.at; d = s.now.at }) (triangle a b c) }
+        (record { a = p.now.at; b = q.now.at; c = r.now.at; d = s.now.at }) (triangle_of a b c) }
 {
     crosses_from_both(p, q, r, s, a, b, c) && crosses_from_both(r, s, p, q, a, b, c)
 }
@@ -347,14 +347,14 @@ fn enters_across(
     s: &Spot,
 ) -> bool
     requires positive { IsPositive t.now }
-    requires p_is { IsSpot (triangle a b c) p.now }
-    requires q_is { IsSpot (triangle a b c) q.now }
-    requires r_is { IsSpot (triangle a b c) r.now }
-    requires s_is { IsSpot (triangle a b c) s.now }
-    requires spans { SpansPlane (triangle a b c) }
-    requires straddles { Straddles t.now (triangle a b c) }
+    requires p_is { IsSpot (triangle_of a b c) p.now }
+    requires q_is { IsSpot (triangle_of a b c) q.now }
+    requires r_is { IsSpot (triangle_of a b c) r.now }
+    requires s_is { IsSpot (triangle_of a b c) s.now }
+    requires spans { SpansPlane (triangle_of a b c) }
+    requires straddles { Straddles t.now (triangle_of a b c) }
     requires corners { t.now ≡ record { a = p.now.at; b = q.now.at; c = r.now.at; d = s.now.at } }
-    ensures { IsTrue result ↔ TriangleEnters t.now (triangle a b c) }
+    ensures { IsTrue result ↔ TriangleEnters t.now (triangle_of a b c) }
 {
     match triangle_lows(t, a, b, c) {
         Some(l) => { side_enters(t, a, b, c, l.a, l.b, l.c) || section_within(p, q, r, s, a, b, c) }
@@ -375,12 +375,12 @@ fn enters_at(
     sd: i128,
 ) -> bool
     requires positive { IsPositive t.now }
-    requires spans { SpansPlane (triangle a b c) }
+    requires spans { SpansPlane (triangle_of a b c) }
     requires sa_is { sa ≡ orient a b c t.now.a }
     requires sb_is { sb ≡ orient a b c t.now.b }
     requires sc_is { sc ≡ orient a b c t.now.c }
     requires sd_is { sd ≡ orient a b c t.now.d }
-    ensures { IsTrue result ↔ TriangleEnters t.now (triangle a b c) }
+    ensures { IsTrue result ↔ TriangleEnters t.now (triangle_of a b c) }
 {
     if has_both_signs(sa, sb, sc, sd) {
         let p = find_spot(a, b, c, t.a, sa);
@@ -399,8 +399,8 @@ fn enters_at(
 /// a corner of the section leaves the triangle through a side.
 pub fn triangle_enters(t: Corners, a: GridPoint, b: GridPoint, c: GridPoint) -> bool
     requires positive { IsPositive t }
-    requires spans { SpansPlane (triangle a b c) }
-    ensures { IsTrue result ↔ TriangleEnters t (triangle a b c) }
+    requires spans { SpansPlane (triangle_of a b c) }
+    ensures { IsTrue result ↔ TriangleEnters t (triangle_of a b c) }
 {
     let sa = orient_sum(a, b, c, t.a);
     let sb = orient_sum(a, b, c, t.b);

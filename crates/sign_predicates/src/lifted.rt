@@ -3,7 +3,7 @@ ghost use Rattle.std.specs.Prelude.{◌≡◌, ◌*◌, ◌^◌, ◌<◌, ◌≤
 ghost use Rattle.sign_predicates.specs.Point.{Point, from_to};
 ghost use Rattle.sign_predicates.specs.Sphere.{in_sphere, IsTieBySides};
 ghost use Rattle.sign_predicates.specs.Vector.{IsShort};
-ghost use Rattle.sign_predicates.specs.Lifted.{rise, IsNarrow, IsStepsFrom, IsInFrame, IsSphereSign};
+ghost use Rattle.sign_predicates.specs.Lifted.{lift_rise, IsNarrow, IsStepsFrom, IsInFrame, IsSphereSign};
 ghost use Rattle.sign_predicates.specs.Lifted.{volumes_of, IsOutsideInFrame};
 ghost use Rattle.sign_predicates.specs.Volumes.{AreShortVolumes};
 
@@ -131,7 +131,7 @@ fn from_to(a: Lifted, b: Lifted) -> Vector
 /// How much higher `b` is lifted than `a`.
 #[inline(always)]
 fn rise(a: Lifted, b: Lifted) -> i64
-    ensures value { result ≡ rise a b }
+    ensures value { result ≡ lift_rise a b }
     ensures size { unsigned_abs result ≤ 3 * 2 ^ 48 }
 {
     b.height - a.height

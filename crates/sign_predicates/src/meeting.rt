@@ -2,7 +2,7 @@
 //! of scalar products of two cross products, at most `3 * 2^98` in size.
 ghost use Rattle.std.specs.Prelude.{◌≡◌, ◌⊎◌, pos, ◌<ℤ◌, ◌≤ℤ◌, IsTrue, ◌↔◌};
 ghost use Rattle.sign_predicates.specs.Orientation.{orient, normal, dot, SpansPlane};
-ghost use Rattle.sign_predicates.specs.Meeting.{triangle, segment, SegmentMeetsTriangle, TrianglesMeet};
+ghost use Rattle.sign_predicates.specs.Meeting.{triangle_of, segment, SegmentMeetsTriangle, TrianglesMeet};
 ghost use Rattle.sign_predicates.specs.Turns.{turn, IsZeroVector, IsBetween, TurnsAcross, TurnsAbout, PassesWithin, common_normal};
 
 use crate::GridPoint;
@@ -94,15 +94,15 @@ pub fn segments_meet(p: GridPoint, q: GridPoint, a: GridPoint, b: GridPoint) -> 
 
 /// Whether the three points are not on a line.
 pub fn spans_plane(a: GridPoint, b: GridPoint, c: GridPoint) -> bool
-    ensures { IsTrue result ↔ SpansPlane (triangle a b c) }
+    ensures { IsTrue result ↔ SpansPlane (triangle_of a b c) }
 {
     !is_zero(cross(from_to(a, b), from_to(a, c)))
 }
 
 /// Whether `p`, in the plane of the triangle, lies in it.
 fn lies_about(n: Normal, a: GridPoint, b: GridPoint, c: GridPoint, p: GridPoint) -> bool
-    requires { n ≡ normal (triangle a b c) }
-    ensures { IsTrue result ↔ TurnsAbout (triangle a b c) p }
+    requires { n ≡ normal (triangle_of a b c) }
+    ensures { IsTrue result ↔ TurnsAbout (triangle_of a b c) p }
 {
     turns_left(n, b, c, p) && turns_left(n, c, a, p) && turns_left(n, a, b, p)
 }
@@ -110,8 +110,8 @@ fn lies_about(n: Normal, a: GridPoint, b: GridPoint, c: GridPoint, p: GridPoint)
 /// Whether the triangle isn't on a line and holds `p`, which lies in its plane.
 fn holds_flat(a: GridPoint, b: GridPoint, c: GridPoint, p: GridPoint) -> bool
     requires { orient a b c p ≡ pos 0 }
-    ensures { IsTrue result ↔ (¬ IsZeroVector (normal (triangle a b c))
-        × TurnsAbout (triangle a b c) p) }
+    ensures { IsTrue result ↔ (¬ IsZeroVector (normal (triangle_of a b c))
+        × TurnsAbout (triangle_of a b c) p) }
 {
     let n = cross(from_to(a, b), from_to(a, c));
     !is_zero(n) && lies_about(n, a, b, c, p)
@@ -132,7 +132,7 @@ fn meets_side(p: GridPoint, q: GridPoint, a: GridPoint, b: GridPoint, c: GridPoi
 /// Whether a segment meets a triangle in whose plane its first end lies.
 fn meets_flat(p: GridPoint, q: GridPoint, a: GridPoint, b: GridPoint, c: GridPoint) -> bool
     requires { orient a b c p ≡ pos 0 }
-    ensures { IsTrue result ↔ SegmentMeetsTriangle p q (triangle a b c) }
+    ensures { IsTrue result ↔ SegmentMeetsTriangle p q (triangle_of a b c) }
 {
     holds_flat(a, b, c, p) || meets_side(p, q, a, b, c)
 }
@@ -153,7 +153,7 @@ pub(crate) fn passes_within(
     b: GridPoint,
     c: GridPoint,
 ) -> bool
-    ensures { IsTrue result ↔ PassesWithin p q (triangle a b c) }
+    ensures { IsTrue result ↔ PassesWithin p q (triangle_of a b c) }
 {
     has_above(b, c, q, p) && has_above(c, a, q, p) && has_above(a, b, q, p)
 }
@@ -179,7 +179,7 @@ fn meets_at(
 ) -> bool
     requires s_is { s ≡ orient a b c p }
     requires t_is { t ≡ orient a b c q }
-    ensures { IsTrue result ↔ SegmentMeetsTriangle p q (triangle a b c) }
+    ensures { IsTrue result ↔ SegmentMeetsTriangle p q (triangle_of a b c) }
 {
     if falls(s, t) {
         if s == t {
@@ -205,7 +205,7 @@ pub fn segment_meets_triangle(
     b: GridPoint,
     c: GridPoint,
 ) -> bool
-    ensures { IsTrue result ↔ SegmentMeetsTriangle p q (triangle a b c) }
+    ensures { IsTrue result ↔ SegmentMeetsTriangle p q (triangle_of a b c) }
 {
     if boxes_apart(p, q, q, a, b, c) {
         false
@@ -244,7 +244,7 @@ fn lies_apart(
     e: GridPoint,
     f: GridPoint,
 ) -> bool
-    ensures { IsTrue result → ¬ TrianglesMeet (triangle a b c) (triangle d e f) }
+    ensures { IsTrue result → ¬ TrianglesMeet (triangle_of a b c) (triangle_of d e f) }
 {
     has_one_sign(
         orient_sum(a, b, c, d),
@@ -263,7 +263,7 @@ fn are_apart(
     e: GridPoint,
     f: GridPoint,
 ) -> bool
-    ensures { IsTrue result → ¬ TrianglesMeet (triangle a b c) (triangle d e f) }
+    ensures { IsTrue result → ¬ TrianglesMeet (triangle_of a b c) (triangle_of d e f) }
 {
     if boxes_apart(a, b, c, d, e, f) {
         true
@@ -283,8 +283,8 @@ fn sides_meet(
     e: GridPoint,
     f: GridPoint,
 ) -> bool
-    ensures { IsTrue result ↔ (SegmentMeetsTriangle a b (triangle d e f)
-        ⊎ (SegmentMeetsTriangle b c (triangle d e f) ⊎ SegmentMeetsTriangle c a (triangle d e f))) }
+    ensures { IsTrue result ↔ (SegmentMeetsTriangle a b (triangle_of d e f)
+        ⊎ (SegmentMeetsTriangle b c (triangle_of d e f) ⊎ SegmentMeetsTriangle c a (triangle_of d e f))) }
 {
     if segment_meets_triangle(a, b, d, e, f) {
         true
@@ -304,7 +304,7 @@ pub fn triangles_meet(
     e: GridPoint,
     f: GridPoint,
 ) -> bool
-    ensures { IsTrue result ↔ TrianglesMeet (triangle a b c) (triangle d e f) }
+    ensures { IsTrue result ↔ TrianglesMeet (triangle_of a b c) (triangle_of d e f) }
 {
     if are_apart(a, b, c, d, e, f) {
         false

@@ -6,7 +6,7 @@ use Rattle.tet_text.specs.Reading.{◌>>=◌}
 use Rattle.grid_coords.specs.declared.points.DecimalPoint.{DecimalPoint}
 use Rattle.plc_files.specs.declared.parts.PolygonText.{PolygonText}
 use Rattle.plc_files.specs.declared.fault.PlcFault.{PlcFault}
-use Rattle.plc_files.specs.Outcome.{Gives}
+use Rattle.plc_files.specs.Outcome.{PlcGives}
 use Rattle.plc_files.specs.Text.{Plc}
 use Rattle.plc_files.proofs.Counts.{step_ok, ok_is}
 use Rattle.soup_files.specs.BinaryStl.{facets_to_end, count_in, binary_stl_of, settled}
@@ -39,6 +39,6 @@ binary_small bytes t is less =
     subst IsSmall {x = triangles_of facets.0} (ok_is (triangles_of facets.0) t facets.2)
     (surface_small points faces (omega (arith, few, less, length-drop 84 bytes, length-map facets.0 (triangle_in points))))
 
-pub binary_read : (bytes : List ℕ) (r : Result Plc PlcFault) → Gives (λ t. t) r (binary_stl_of bytes) → length bytes < 2 ^ 32 - 1 → IfOk r IsSmall
+pub binary_read : (bytes : List ℕ) (r : Result Plc PlcFault) → PlcGives (λ t. t) r (binary_stl_of bytes) → length bytes < 2 ^ 32 - 1 → IfOk r IsSmall
 binary_read bytes (Ok t) gives few = binary_small bytes t gives few
 binary_read bytes (Err fault) gives few = tt

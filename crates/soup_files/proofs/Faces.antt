@@ -6,7 +6,7 @@ use Rattle.std.proofs.lemmas.List.Sums.{fold-append}
 use Rattle.geo_laws.specs.Complex.{change_last}
 use Rattle.plc_files.specs.declared.parts.CornerText.{CornerText}
 use Rattle.plc_files.specs.declared.parts.PolygonText.{PolygonText}
-use Rattle.plc_files.specs.Text.{Facet, Plc, LastHasPolygon, empty_polygon, empty_facet, plus_corner, plus_polygon, last_plus_corner, with_facet, with_polygon, with_corner}
+use Rattle.plc_files.specs.Text.{ReadFacet, Plc, LastHasPolygon, empty_polygon, empty_facet, plus_corner, plus_polygon, last_plus_corner, with_facet_text, with_polygon_text, with_corner}
 use Rattle.soup_files.specs.Surface.{facet_of_one, plus_face, plus_faces, plus_corners}
 
 change_last-append : {X : Type 0} (f : X → X) (xs : List X) (x : X) → change_last f (xs ++ x ∷ []) ≡ xs ++ f x ∷ []
@@ -20,18 +20,18 @@ length-change_last f (x ∷ []) = refl
 length-change_last f (x ∷ y ∷ ys) = let h = length-change_last f (y ∷ ys) in omega arith
 
 -- with these facets
-abbrev with_facets : Plc → List Facet → Plc
+abbrev with_facets : Plc → List ReadFacet → Plc
 with_facets t fs = record t { facets = fs }
 
 -- a facet with a polygon that has no corner yet
-pub started : (line : ℕ) (t : Plc) → with_polygon line (with_facet None t) ≡ plus_face (empty_polygon line) t
+pub started : (line : ℕ) (t : Plc) → with_polygon_text line (with_facet_text None t) ≡ plus_face (empty_polygon line) t
 started line t = ap (with_facets t) (change_last-append (plus_polygon line) t.facets (empty_facet None))
 
 -- a corner of the face that was appended last
 pub corner_added : (number line : ℕ) (face : PolygonText) (t : Plc) → with_corner number line (plus_face face t) ≡ plus_face (plus_corner number line face) t
 corner_added number line face t = ap (with_facets t) (change_last-append (last_plus_corner number line) t.facets (facet_of_one face))
 
-last_has : (fs : List Facet) (f : Facet) → 0 < length f.polygons → LastHasPolygon (fs ++ f ∷ [])
+last_has : (fs : List ReadFacet) (f : ReadFacet) → 0 < length f.polygons → LastHasPolygon (fs ++ f ∷ [])
 last_has [] f some = some
 last_has (g ∷ []) f some = some
 last_has (g ∷ h ∷ hs) f some = last_has (h ∷ hs) f some
@@ -39,7 +39,7 @@ last_has (g ∷ h ∷ hs) f some = last_has (h ∷ hs) f some
 pub face_has : (face : PolygonText) (t : Plc) → LastHasPolygon (plus_face face t).facets
 face_has face t = last_has t.facets (facet_of_one face) (omega arith)
 
-has_kept : (number line : ℕ) (fs : List Facet) → LastHasPolygon fs → LastHasPolygon (change_last (last_plus_corner number line) fs)
+has_kept : (number line : ℕ) (fs : List ReadFacet) → LastHasPolygon fs → LastHasPolygon (change_last (last_plus_corner number line) fs)
 has_kept number line [] has = elim has [ ]
 has_kept number line (f ∷ []) has = omega (arith, has, length-change_last (plus_corner number line) f.polygons)
 has_kept number line (f ∷ g ∷ []) has = has_kept number line (g ∷ []) has
@@ -74,4 +74,4 @@ pub faces_none : (t : Plc) → t ≡ plus_faces [] t
 faces_none t = ap (with_facets t) (sym (append-nil t.facets))
 
 pub faces_more : (fs : List PolygonText) (f : PolygonText) (t : Plc) → plus_face f (plus_faces fs t) ≡ plus_faces (fs ++ f ∷ []) t
-faces_more fs f t = ap (with_facets t) (append_assoc t.facets (map facet_of_one fs) (facet_of_one f ∷ []) ∙ ap (λ (gs : List Facet). t.facets ++ gs) (sym (map-append facet_of_one fs (f ∷ []))))
+faces_more fs f t = ap (with_facets t) (append_assoc t.facets (map facet_of_one fs) (facet_of_one f ∷ []) ∙ ap (λ (gs : List ReadFacet). t.facets ++ gs) (sym (map-append facet_of_one fs (f ∷ []))))

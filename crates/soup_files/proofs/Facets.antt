@@ -5,17 +5,18 @@ use Rattle.tet_text.specs.declared.fault.TextFault.{TextFault}
 use Rattle.tet_text.specs.Lines.{ContentLine}
 use Rattle.tet_text.specs.Faults.{ended}
 use Rattle.tet_text.specs.Reading.{◌>>=◌, line_at}
-use Rattle.plc_files.specs.Repeated.{onto}
 use Rattle.plc_files.proofs.Counts.{done, ok_is}
 use Rattle.soup_files.specs.declared.stl_facet.StlFacet.{StlFacet}
-use Rattle.soup_files.specs.Stl.{Lines, more_facets, facet_of, facets_of}
+use Rattle.soup_files.specs.Stl.{more_facets, ascii_facet_of, ascii_facets_of}
+use Rattle.tet_text.specs.Repeated.{onto}
+use Rattle.plc_files.specs.Facet.{Lines}
 
 abbrev pub Read : Type 0
 Read = Result (List StlFacet × Lines) TextFault
 
 -- the text ends where a line is wanted
-no_line : (most total : ℕ) (left : Lines) (fault : TextFault) → line_at total left ≡ Err fault → facets_of most total left ≡ Err fault
-unfolding facets_of
+no_line : (most total : ℕ) (left : Lines) (fault : TextFault) → line_at total left ≡ Err fault → ascii_facets_of most total left ≡ Err fault
+unfolding ascii_facets_of
 no_line zero total [] fault is = cc
 no_line (suc most) total [] fault is = cc
 no_line most total (line ∷ left) fault is = absurd cc
@@ -23,51 +24,51 @@ no_line most total (line ∷ left) fault is = absurd cc
 onto_err : (fs : List StlFacet) (read whole : Read) (fault : TextFault) → read ≡ Err fault → onto fs read ≡ whole → whole ≡ Err fault
 onto_err fs read whole fault is so_far = sym so_far ∙ ap (onto fs) is
 
-pub stop_line : (fs : List StlFacet) (most total : ℕ) (left : Lines) (fault : TextFault) (whole : Read) → line_at total left ≡ Err fault → onto fs (facets_of most total left) ≡ whole → whole ≡ Err fault
-stop_line fs most total left fault whole is so_far = onto_err fs (facets_of most total left) whole fault (no_line most total left fault is) so_far
+pub stop_line : (fs : List StlFacet) (most total : ℕ) (left : Lines) (fault : TextFault) (whole : Read) → line_at total left ≡ Err fault → onto fs (ascii_facets_of most total left) ≡ whole → whole ≡ Err fault
+stop_line fs most total left fault whole is so_far = onto_err fs (ascii_facets_of most total left) whole fault (no_line most total left fault is) so_far
 
 -- a line that begins no facet and does not end them
-first_stop : (most total : ℕ) (left behind : Lines) (line : ContentLine) (fault : TextFault) → line_at total left ≡ Ok (line, behind) → more_facets line ≡ Err fault → facets_of (suc most) total left ≡ Err fault
-unfolding facets_of
+first_stop : (most total : ℕ) (left behind : Lines) (line : ContentLine) (fault : TextFault) → line_at total left ≡ Ok (line, behind) → more_facets line ≡ Err fault → ascii_facets_of (suc most) total left ≡ Err fault
+unfolding ascii_facets_of
 first_stop most total left behind line fault is stops = rw (is, stops) refl
 
 pub stop_first : (fs : List StlFacet) (most total : ℕ) (left behind : Lines) (line : ContentLine) (fault : TextFault) (whole : Read) → line_at total left ≡ Ok (line, behind) → more_facets line ≡ Err fault
-    → onto fs (facets_of (suc most) total left) ≡ whole → whole ≡ Err fault
-stop_first fs most total left behind line fault whole is stops so_far = onto_err fs (facets_of (suc most) total left) whole fault (first_stop most total left behind line fault is stops) so_far
+    → onto fs (ascii_facets_of (suc most) total left) ≡ whole → whole ≡ Err fault
+stop_first fs most total left behind line fault whole is stops so_far = onto_err fs (ascii_facets_of (suc most) total left) whole fault (first_stop most total left behind line fault is stops) so_far
 
 -- the line that ends them
-ends : (most total : ℕ) (left behind : Lines) (line : ContentLine) → line_at total left ≡ Ok (line, behind) → more_facets line ≡ Ok false → facets_of (suc most) total left ≡ Ok ([], behind)
-unfolding facets_of
+ends : (most total : ℕ) (left behind : Lines) (line : ContentLine) → line_at total left ≡ Ok (line, behind) → more_facets line ≡ Ok false → ascii_facets_of (suc most) total left ≡ Ok ([], behind)
+unfolding ascii_facets_of
 ends most total left behind line is end = rw (is, end) refl
 
 pub all_facets : (fs : List StlFacet) (most total : ℕ) (left behind : Lines) (line : ContentLine) (whole : Read) → line_at total left ≡ Ok (line, behind) → more_facets line ≡ Ok false
-    → onto fs (facets_of (suc most) total left) ≡ whole → whole ≡ Ok (fs, behind)
+    → onto fs (ascii_facets_of (suc most) total left) ≡ whole → whole ≡ Ok (fs, behind)
 all_facets fs most total left behind line whole is end so_far =
     sym so_far ∙ ap (onto fs) (ends most total left behind line is end) ∙ ap (λ (gs : List StlFacet). let made : Read = Ok (gs, behind) in made) (append-nil fs)
 
 -- a facet
-facet_stop : (most total : ℕ) (left behind : Lines) (line : ContentLine) (fault : TextFault) → line_at total left ≡ Ok (line, behind) → more_facets line ≡ Ok true → facet_of total line.line behind ≡ Err fault
-    → facets_of (suc most) total left ≡ Err fault
-unfolding facets_of
+facet_stop : (most total : ℕ) (left behind : Lines) (line : ContentLine) (fault : TextFault) → line_at total left ≡ Ok (line, behind) → more_facets line ≡ Ok true → ascii_facet_of total line.line behind ≡ Err fault
+    → ascii_facets_of (suc most) total left ≡ Err fault
+unfolding ascii_facets_of
 facet_stop most total left behind line fault is more stops = rw (is, more, stops) refl
 
 pub stop_facet : (fs : List StlFacet) (most total : ℕ) (left behind : Lines) (line : ContentLine) (fault : TextFault) (whole : Read) → line_at total left ≡ Ok (line, behind) → more_facets line ≡ Ok true
-    → facet_of total line.line behind ≡ Err fault → onto fs (facets_of (suc most) total left) ≡ whole → whole ≡ Err fault
-stop_facet fs most total left behind line fault whole is more stops so_far = onto_err fs (facets_of (suc most) total left) whole fault (facet_stop most total left behind line fault is more stops) so_far
+    → ascii_facet_of total line.line behind ≡ Err fault → onto fs (ascii_facets_of (suc most) total left) ≡ whole → whole ≡ Err fault
+stop_facet fs most total left behind line fault whole is more stops so_far = onto_err fs (ascii_facets_of (suc most) total left) whole fault (facet_stop most total left behind line fault is more stops) so_far
 
 regroup : (fs : List StlFacet) (f : StlFacet) (read : Read) → onto fs (read >>= λ others. Ok (f ∷ others.0, others.1)) ≡ onto (fs ++ f ∷ []) read
 regroup fs f (Ok y) = ap (λ (gs : List StlFacet). let made : Read = Ok (gs, y.1) in made) (sym (append_assoc fs (f ∷ []) y.0))
 regroup fs f (Err fault) = refl
 
-one_more : (most total : ℕ) (left behind rest : Lines) (line : ContentLine) (f : StlFacet) → line_at total left ≡ Ok (line, behind) → more_facets line ≡ Ok true → facet_of total line.line behind ≡ Ok (f, rest)
-    → facets_of (suc most) total left ≡ (facets_of most total rest >>= λ others. Ok (f ∷ others.0, others.1))
-unfolding facets_of
+one_more : (most total : ℕ) (left behind rest : Lines) (line : ContentLine) (f : StlFacet) → line_at total left ≡ Ok (line, behind) → more_facets line ≡ Ok true → ascii_facet_of total line.line behind ≡ Ok (f, rest)
+    → ascii_facets_of (suc most) total left ≡ (ascii_facets_of most total rest >>= λ others. Ok (f ∷ others.0, others.1))
+unfolding ascii_facets_of
 one_more most total left behind rest line f is more made = rw (is, more, made) refl
 
 pub facets_more : (fs : List StlFacet) (most total : ℕ) (left behind rest : Lines) (line : ContentLine) (f : StlFacet) (whole : Read) → line_at total left ≡ Ok (line, behind) → more_facets line ≡ Ok true
-    → facet_of total line.line behind ≡ Ok (f, rest) → onto fs (facets_of (suc most) total left) ≡ whole → onto (fs ++ f ∷ []) (facets_of most total rest) ≡ whole
+    → ascii_facet_of total line.line behind ≡ Ok (f, rest) → onto fs (ascii_facets_of (suc most) total left) ≡ whole → onto (fs ++ f ∷ []) (ascii_facets_of most total rest) ≡ whole
 facets_more fs most total left behind rest line f whole is more made so_far =
-    sym (ap (onto fs) (one_more most total left behind rest line f is more made) ∙ regroup fs f (facets_of most total rest)) ∙ so_far
+    sym (ap (onto fs) (one_more most total left behind rest line f is more made) ∙ regroup fs f (ascii_facets_of most total rest)) ∙ so_far
 
 -- ---- a loop over the lines, of which there are so many
 
@@ -77,8 +78,8 @@ line_left total (first ∷ left) behind line is = ap (λ (p : ContentLine × Lin
 
 -- a line is left, so there may be a further facet
 pub going_on : (fs : List StlFacet) (lines_count total : ℕ) (left behind : Lines) (line : ContentLine) (whole : Read) → line_at total left ≡ Ok (line, behind) → length fs + length left ≤ lines_count
-    → onto fs (facets_of (lines_count - length fs) total left) ≡ whole → onto fs (facets_of (suc (lines_count - (length fs + 1))) total left) ≡ whole
+    → onto fs (ascii_facets_of (lines_count - length fs) total left) ≡ whole → onto fs (ascii_facets_of (suc (lines_count - (length fs + 1))) total left) ≡ whole
 going_on fs lines_count total left behind line whole is few so_far =
     let one = line_left total left behind line is in
     let e : lines_count - length fs ≡ suc (lines_count - (length fs + 1)) = omega arith in
-    subst (λ (most : ℕ). onto fs (facets_of most total left) ≡ whole) e so_far
+    subst (λ (most : ℕ). onto fs (ascii_facets_of most total left) ≡ whole) e so_far

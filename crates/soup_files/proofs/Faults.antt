@@ -8,16 +8,17 @@ use Rattle.plc_files.specs.declared.fault.PlcFault.TheVariants as faults
 use Rattle.plc_files.specs.declared.parts.CornerText.{CornerText}
 use Rattle.plc_files.specs.declared.parts.PolygonText.{PolygonText}
 use Rattle.plc_files.specs.Fields.{some_count_at}
-use Rattle.plc_files.specs.Repeated.{so_many}
-use Rattle.plc_files.specs.Outcome.{Fails, Gives}
+use Rattle.plc_files.specs.Outcome.{PlcFails, PlcGives}
 use Rattle.plc_files.specs.Text.{Plc, empty_polygon}
 use Rattle.plc_files.proofs.Counts.{step_ok, done, ok_is}
 use Rattle.soup_files.specs.Surface.{plus_face, plus_corners, corners_onto, face_onto}
-use Rattle.soup_files.specs.Off.{Lines, corner_at, face_of}
+use Rattle.soup_files.specs.Off.{corner_at, off_polygon}
 use Rattle.soup_files.proofs.Faces.{corners_added}
+use Rattle.tet_text.specs.Repeated.{so_many}
+use Rattle.plc_files.specs.Facet.{Lines}
 
 -- a reading that fails makes each that goes on with it fail
-pub fails_then : {A B : Type 0} (fault : PlcFault) (read : Result A TextFault) (next : A → Result B TextFault) → Fails fault read → Fails fault (read >>= next)
+pub fails_then : {A B : Type 0} (fault : PlcFault) (read : Result A TextFault) (next : A → Result B TextFault) → PlcFails fault read → PlcFails fault (read >>= next)
 fails_then faults.NoMemory read next fails = tt
 fails_then (faults.Facets n most) read next fails = elim fails [ ]
 fails_then (faults.Corners line n most) read next fails = elim fails [ ]
@@ -39,7 +40,7 @@ face_behind line rest read = read >>= λ corners. Ok (record { line = line; corn
 
 -- the corners that were read onto a face with none are those of the face
 pub face_read : (line : ℕ) (start mid new : Plc) (left : Fields) (rest : List ContentLine) (read : Corners) (r : Result (Unit {0}) PlcFault) → mid ≡ plus_face (empty_polygon line) start
-    → Gives (λ _. (new, left)) r (corners_onto mid read) → Gives (λ _. (new, rest)) r (face_onto start (face_behind line rest read))
+    → PlcGives (λ _. (new, left)) r (corners_onto mid read) → PlcGives (λ _. (new, rest)) r (face_onto start (face_behind line rest read))
 face_read line start mid new left rest (Ok cs) (Ok x) begun gives =
     let made : Plc × Fields = (plus_corners cs.0 mid, cs.1) in
     let e = ok_is made (new, left) gives in
@@ -63,7 +64,7 @@ unfolding corner_at
 corner_ok line start n fields rest here is = rw (← here, ← is) refl
 
 -- a reading whose value is seen otherwise fails only by itself
-pub fails_before : {A B : Type 0} (fault : PlcFault) (read : Result A TextFault) (f : A → B) → Fails fault (read >>= λ x. Ok (f x)) → Fails fault read
+pub fails_before : {A B : Type 0} (fault : PlcFault) (read : Result A TextFault) (f : A → B) → PlcFails fault (read >>= λ x. Ok (f x)) → PlcFails fault read
 fails_before faults.NoMemory read f fails = tt
 fails_before (faults.Facets n most) read f fails = elim fails [ ]
 fails_before (faults.Corners line n most) read f fails = elim fails [ ]
@@ -73,16 +74,16 @@ fails_before (faults.Text fault) (Err other) f fails = cc
 -- ---- a face
 
 face_is : (total : ℕ) (lines rest : Lines) (line : ContentLine) (n : ℕ) (fields : Fields) → Ok (line, rest) ≡ line_at total lines → Ok (n, fields) ≡ some_count_at line.line line.fields
-    → face_of total lines ≡ face_behind line.line rest (so_many (corner_at line.line) n fields)
-unfolding face_of
+    → off_polygon total lines ≡ face_behind line.line rest (so_many (corner_at line.line) n fields)
+unfolding off_polygon
 face_is total lines rest line n fields first count = rw (← first, ← count) refl
 
 -- its first line, its number of corners, and the corners that were read onto a facet that was begun on line `written`
 pub face_whole : (total : ℕ) (lines rest : Lines) (line : ContentLine) (n at written : ℕ) (fields left : Fields) (start mid new : Plc) (r : Result (Unit {0}) PlcFault)
     → Ok (line, rest) ≡ line_at total lines → Ok (n, fields) ≡ some_count_at line.line line.fields → at ≡ line.line → written ≡ at → mid ≡ plus_face (empty_polygon written) start
-    → Gives (λ _. (new, left)) r (corners_onto mid (so_many (corner_at at) n fields)) → Gives (λ _. (new, rest)) r (face_onto start (face_of total lines))
+    → PlcGives (λ _. (new, left)) r (corners_onto mid (so_many (corner_at at) n fields)) → PlcGives (λ _. (new, rest)) r (face_onto start (off_polygon total lines))
 face_whole total lines rest line n at written fields left start mid new r first count here begun_at begun gives =
     let begun_here = begun ∙ ap (λ (l : ℕ). plus_face (empty_polygon l) start) (begun_at ∙ here) in
-    let gives_here = subst (λ (l : ℕ). Gives (λ (u : Unit {0}). (new, left)) r (corners_onto mid (so_many (corner_at l) n fields))) here gives in
+    let gives_here = subst (λ (l : ℕ). PlcGives (λ (u : Unit {0}). (new, left)) r (corners_onto mid (so_many (corner_at l) n fields))) here gives in
     let whole = face_read line.line start mid new left rest (so_many (corner_at line.line) n fields) r begun_here gives_here in
-    subst (λ (read : Result (PolygonText × Lines) TextFault). Gives (λ (u : Unit {0}). (new, rest)) r (face_onto start read)) (sym (face_is total lines rest line n fields first count)) whole
+    subst (λ (read : Result (PolygonText × Lines) TextFault). PlcGives (λ (u : Unit {0}). (new, rest)) r (face_onto start read)) (sym (face_is total lines rest line n fields first count)) whole

@@ -15,8 +15,8 @@ use Rattle.soup_files.specs.declared.vertex_set.Vertex.{Vertex}
 use Rattle.soup_files.specs.declared.stl.Triangle.{Triangle}
 use Rattle.soup_files.specs.declared.stl_facet.StlFacet.{StlFacet}
 use Rattle.soup_files.specs.Vertices.{same_vertex, with_vertex, distinct_vertices, vertex_place, vertices_equiv}
-use Rattle.soup_files.specs.Stl.{vertices_of, triangle_in, corner_in}
-use Rattle.soup_files.specs.Triangles.{corner_of, polygon_of, with_corners, Places, placed}
+use Rattle.soup_files.specs.Stl.{vertices_of, triangle_in, stl_corner}
+use Rattle.soup_files.specs.Triangles.{placed_corner, triangle_polygon, with_corners, IsPlacedBy, placed_facets}
 
 -- ---- one list
 
@@ -136,7 +136,7 @@ abbrev pub KnowsAll : List DecimalPoint → List StlFacet → Type 0
 KnowsAll points [] = Unit {0}
 KnowsAll points (f ∷ fs) = KnowsCorners points f × KnowsAll points fs
 
-corner_kept : (points : List DecimalPoint) (p q : DecimalPoint) → Knows points q → corner_in (with_vertex points p) q ≡ corner_in points q
+corner_kept : (points : List DecimalPoint) (p q : DecimalPoint) → Knows points q → stl_corner (with_vertex points p) q ≡ stl_corner points q
 corner_kept points p q known = ap (λ (n : ℕ). record { number = n; line = q.line }) (place_kept points p q known)
 
 triangle_kept : (points : List DecimalPoint) (p : DecimalPoint) (f : StlFacet) → KnowsCorners points f → triangle_in (with_vertex points p) f ≡ triangle_in points f
@@ -189,10 +189,10 @@ corners_known points f =
       c = put_known q f.c;
     }
 
-corner_is : (points : List DecimalPoint) (place : ℕ) (q : DecimalPoint) → place ≡ vertex_place points q → corner_in points q ≡ record { number = place; line = q.line }
+corner_is : (points : List DecimalPoint) (place : ℕ) (q : DecimalPoint) → place ≡ vertex_place points q → stl_corner points q ≡ record { number = place; line = q.line }
 corner_is points place q e = ap (λ (n : ℕ). record { number = n; line = q.line }) (sym e)
 
-facet_is : (points new : List DecimalPoint) (f : StlFacet) (t : Triangle) → Places f points t new → triangle_in (with_corners f points) f ≡ polygon_of t
+facet_is : (points new : List DecimalPoint) (f : StlFacet) (t : Triangle) → IsPlacedBy f points t new → triangle_in (with_corners f points) f ≡ triangle_polygon t
 facet_is points new f t places =
     let p = with_vertex points f.a in
     let q = with_vertex p f.b in
@@ -202,7 +202,7 @@ facet_is points new f t places =
     let c = ap (λ (n : ℕ). record { number = n; line = f.c.line }) (put_place q f.c) ∙ sym places.c in
     λ i. record { line = sym places.line i; corners = a i ∷ b i ∷ c i ∷ [] }
 
-pub seen_more : (fs : List StlFacet) (points new : List DecimalPoint) (faces : List PolygonText) (f : StlFacet) (t : Triangle) → Seen fs points faces → Places f points t new → Seen (fs ++ f ∷ []) new (faces ++ polygon_of t ∷ [])
+pub seen_more : (fs : List StlFacet) (points new : List DecimalPoint) (faces : List PolygonText) (f : StlFacet) (t : Triangle) → Seen fs points faces → IsPlacedBy f points t new → Seen (fs ++ f ∷ []) new (faces ++ triangle_polygon t ∷ [])
 seen_more fs points new faces f t seen places =
     let p = with_vertex points f.a in
     let q = with_vertex p f.b in
@@ -210,18 +210,18 @@ seen_more fs points new faces f t seen places =
     let known-q = all_kept p f.b fs known-p in
     let old-faces = triangles_kept q f.c fs known-q ∙ triangles_kept p f.b fs known-p ∙ triangles_kept points f.a fs seen.known in
     let one = facet_is points new f t places in
-    let made : Seen (fs ++ f ∷ []) (with_corners f points) (faces ++ polygon_of t ∷ []) = record {
+    let made : Seen (fs ++ f ∷ []) (with_corners f points) (faces ++ triangle_polygon t ∷ []) = record {
       points_are = new_points fs f points seen.points_are;
       known = all_more (with_corners f points) fs f (all_kept q f.c fs known-q) (corners_known points f);
-      faces_are = ap (λ (ps : List PolygonText). ps ++ polygon_of t ∷ []) (seen.faces_are ∙ sym old-faces)
+      faces_are = ap (λ (ps : List PolygonText). ps ++ triangle_polygon t ∷ []) (seen.faces_are ∙ sym old-faces)
           ∙ sym (map-append (triangle_in (with_corners f points)) fs (f ∷ []) ∙ ap (λ (x : PolygonText). map (triangle_in (with_corners f points)) fs ++ x ∷ []) one);
     } in
     rw places.new_is made
 
 pub seen_placed : {R : Type 0} (fs : List StlFacet) (points : List DecimalPoint) (faces : List PolygonText) (behind : R) (read : Result (List StlFacet × R) TextFault) → Seen fs points faces → read ≡ Ok (fs, behind)
-    → placed read ≡ Ok ((points, faces), behind)
+    → placed_facets read ≡ Ok ((points, faces), behind)
 seen_placed {R} fs points faces behind read seen is =
     let are = seen.points_are in
     let triangles = seen.faces_are in
     let pair : (distinct_vertices (vertices_of fs), map (triangle_in (distinct_vertices (vertices_of fs))) fs) ≡ (points, faces) = λ i. (sym are i, (ap (λ (ps : List DecimalPoint). map (triangle_in ps) fs) (sym are) ∙ sym triangles) i) in
-    ap placed is ∙ ap (λ (p : List DecimalPoint × List PolygonText). let made : Result ((List DecimalPoint × List PolygonText) × R) TextFault = Ok (p, behind) in made) pair
+    ap placed_facets is ∙ ap (λ (p : List DecimalPoint × List PolygonText). let made : Result ((List DecimalPoint × List PolygonText) × R) TextFault = Ok (p, behind) in made) pair

@@ -10,12 +10,12 @@ use Rattle.plc_files.specs.declared.parts.CornerText.{CornerText}
 use Rattle.plc_files.specs.declared.parts.PolygonText.{PolygonText}
 use Rattle.plc_files.specs.Fields.{some_count_at}
 use Rattle.plc_files.specs.Polygon.{field_ahead}
-use Rattle.plc_files.specs.Repeated.{so_many}
 use Rattle.plc_files.proofs.Counts.{step_ok, done, ok_is}
 use Rattle.soup_files.specs.declared.stl_facet.StlFacet.{StlFacet}
 use Rattle.soup_files.specs.Keyword.{keyword_at, word_line}
 use Rattle.soup_files.specs.Off as off
 use Rattle.soup_files.specs.Stl as stl
+use Rattle.tet_text.specs.Repeated.{so_many}
 
 abbrev Lines : Type 0
 Lines = List ContentLine
@@ -61,8 +61,8 @@ off_vertex_takes n lines x is =
     let place = step_ok (place_at line.line line.fields) (λ place. end_at line.line place.1 >>= λ _. Ok (place.0, rest)) y e in
     leaves (end_at line.line place.0.1) (λ _. place.0.0) rest y place.2) lines x is
 
-pub face_takes : (n : ℕ) → TakesLine (off.face_of n)
-unfolding off.face_of
+pub face_takes : (n : ℕ) → TakesLine (off.off_polygon n)
+unfolding off.off_polygon
 face_takes n lines x is =
     line_then n (λ line rest. some_count_at line.line line.fields >>= λ count. so_many (off.corner_at line.line) count.0 count.1 >>= λ corners. Ok (record { line = line.line; corners = corners.0 }, rest))
     (λ line rest y e.
@@ -116,8 +116,8 @@ stl_vertex_takes n lines x is =
     leaves (end_at line.line place.0.1) (λ _. place.0.0) rest y place.2) lines x is
 
 -- six lines
-pub facet_takes : (n first : ℕ) (lines : Lines) (x : StlFacet × Lines) → stl.facet_of n first lines ≡ Ok x → length x.1 + 6 ≤ length lines
-unfolding stl.facet_of
+pub facet_takes : (n first : ℕ) (lines : Lines) (x : StlFacet × Lines) → stl.ascii_facet_of n first lines ≡ Ok x → length x.1 + 6 ≤ length lines
+unfolding stl.ascii_facet_of
 facet_takes n first lines x is =
     let outer = step_ok (stl.loop_line n lines) (λ outer. stl.vertex_line n outer.1 >>= λ a. stl.vertex_line n a.1 >>= λ b. stl.vertex_line n b.1 >>= λ c. word_line (codes "endloop") n c.1 >>= λ inner. word_line (codes "endfacet") n inner.1 >>= λ last. Ok (record { line = first; a = a.0; b = b.0; c = c.0 }, last.1)) x is in
     let a = step_ok (stl.vertex_line n outer.0.1) (λ a. stl.vertex_line n a.1 >>= λ b. stl.vertex_line n b.1 >>= λ c. word_line (codes "endloop") n c.1 >>= λ inner. word_line (codes "endfacet") n inner.1 >>= λ last. Ok (record { line = first; a = a.0; b = b.0; c = c.0 }, last.1)) x outer.2 in
@@ -144,24 +144,24 @@ abbrev Facets : Type 0
 Facets = List StlFacet × Lines
 
 abbrev facets_if : ℕ → ℕ → ContentLine → Lines → Bool → Result Facets TextFault
-facets_if most n line rest more = if more then (stl.facet_of n line.line rest >>= λ facet. stl.facets_of most n facet.1 >>= λ others. Ok (facet.0 ∷ others.0, others.1)) else Ok ([], rest)
+facets_if most n line rest more = if more then (stl.ascii_facet_of n line.line rest >>= λ facet. stl.ascii_facets_of most n facet.1 >>= λ others. Ok (facet.0 ∷ others.0, others.1)) else Ok ([], rest)
 
 -- seven lines for each facet
-pub facets_few : (most n : ℕ) (lines : Lines) (x : Facets) → stl.facets_of most n lines ≡ Ok x → 7 * length x.0 + length x.1 ≤ length lines
-unfolding stl.facets_of
+pub facets_few : (most n : ℕ) (lines : Lines) (x : Facets) → stl.ascii_facets_of most n lines ≡ Ok x → 7 * length x.0 + length x.1 ≤ length lines
+unfolding stl.ascii_facets_of
 facets_few zero n lines x is = absurd cc
 facets_few (suc most) n [] x is = absurd cc
 facets_few (suc most) n (line ∷ lines) x is =
     let more = step_ok (stl.more_facets line) (facets_if most n line lines) x is in
     go more.0 more.2 (λ rest y e. facets_few most n rest y e)
   where
-    go : (more : Bool) → facets_if most n line lines more ≡ Ok x → ((rest : Lines) (y : Facets) → stl.facets_of most n rest ≡ Ok y → 7 * length y.0 + length y.1 ≤ length rest) → 7 * length x.0 + length x.1 ≤ suc (length lines)
+    go : (more : Bool) → facets_if most n line lines more ≡ Ok x → ((rest : Lines) (y : Facets) → stl.ascii_facets_of most n rest ≡ Ok y → 7 * length y.0 + length y.1 ≤ length rest) → 7 * length x.0 + length x.1 ≤ suc (length lines)
     go false e others_few =
         let made : Facets = ([], lines) in
         subst (λ (p : Facets). 7 * length p.0 + length p.1 ≤ suc (length lines)) {x = made} (ok_is made x e) (omega arith)
     go true e others_few =
-        let facet = step_ok (stl.facet_of n line.line lines) (λ facet. stl.facets_of most n facet.1 >>= λ others. Ok (facet.0 ∷ others.0, others.1)) x e in
-        let others = step_ok (stl.facets_of most n facet.0.1) (λ others. Ok (facet.0.0 ∷ others.0, others.1)) x facet.2 in
+        let facet = step_ok (stl.ascii_facet_of n line.line lines) (λ facet. stl.ascii_facets_of most n facet.1 >>= λ others. Ok (facet.0 ∷ others.0, others.1)) x e in
+        let others = step_ok (stl.ascii_facets_of most n facet.0.1) (λ others. Ok (facet.0.0 ∷ others.0, others.1)) x facet.2 in
         let made : Facets = (facet.0.0 ∷ others.0.0, others.0.1) in
         let taken = facet_takes n line.line lines facet.0 facet.1 in
         let le = others_few facet.0.1 others.0 others.1 in

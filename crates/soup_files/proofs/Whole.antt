@@ -8,19 +8,19 @@ use Rattle.tet_text.specs.Reading.{◌>>=◌, text_end_at}
 use Rattle.grid_coords.specs.declared.points.DecimalPoint.{DecimalPoint}
 use Rattle.plc_files.specs.declared.parts.PolygonText.{PolygonText}
 use Rattle.plc_files.specs.declared.fault.PlcFault.{PlcFault}
-use Rattle.plc_files.specs.Outcome.{Gives}
+use Rattle.plc_files.specs.Outcome.{PlcGives}
 use Rattle.plc_files.specs.Checks.{all_polygons, HasFewParts}
-use Rattle.plc_files.specs.Repeated.{so_many}
 use Rattle.plc_files.specs.Text.{Plc, AreWritten}
 use Rattle.plc_files.proofs.Counts.{step_ok, ok_is}
 use Rattle.soup_files.specs.declared.stl_facet.StlFacet.{StlFacet}
 use Rattle.soup_files.specs.Surface.{facet_of_one, surface_of}
-use Rattle.soup_files.specs.Off.{head_of, vertex_line, face_of, off_of}
-use Rattle.soup_files.specs.Stl.{solid_line, facets_of, triangle_in, vertices_of, triangles_of, stl_of}
-use Rattle.soup_files.specs.Triangles.{placed}
+use Rattle.soup_files.specs.Off.{head_of, vertex_line, off_polygon, off_of}
+use Rattle.soup_files.specs.Stl.{solid_line, ascii_facets_of, triangle_in, vertices_of, triangles_of, stl_of}
+use Rattle.soup_files.specs.Triangles.{placed_facets}
 use Rattle.soup_files.specs.Vertices.{distinct_vertices}
 use Rattle.soup_files.proofs.Spent.{many_few, head_takes, off_vertex_takes, face_takes, solid_takes, facets_few}
 use Rattle.soup_files.proofs.FoundVertices.{distinct_few}
+use Rattle.tet_text.specs.Repeated.{so_many}
 
 polygon_each : (faces : List PolygonText) → length (all_polygons (map facet_of_one faces)) ≡ length faces
 polygon_each [] = refl
@@ -40,24 +40,24 @@ surface_small points faces few = record {
 off_small : (n : ℕ) (lines : List ContentLine) (t : Plc) → off_of n lines ≡ Ok t → length lines < 2 ^ 32 - 1 → IsSmall t
 unfolding off_of
 off_small n lines t is few =
-    let head = step_ok (head_of n lines) (λ head. so_many (vertex_line n) head.0.0 head.1 >>= λ points. so_many (face_of n) head.0.1 points.1 >>= λ faces. text_end_at faces.1 >>= λ _. Ok (surface_of points.0 faces.0)) t is in
-    let points = step_ok (so_many (vertex_line n) head.0.0.0 head.0.1) (λ points. so_many (face_of n) head.0.0.1 points.1 >>= λ faces. text_end_at faces.1 >>= λ _. Ok (surface_of points.0 faces.0)) t head.2 in
-    let faces = step_ok (so_many (face_of n) head.0.0.1 points.0.1) (λ faces. text_end_at faces.1 >>= λ _. Ok (surface_of points.0.0 faces.0)) t points.2 in
+    let head = step_ok (head_of n lines) (λ head. so_many (vertex_line n) head.0.0 head.1 >>= λ points. so_many (off_polygon n) head.0.1 points.1 >>= λ faces. text_end_at faces.1 >>= λ _. Ok (surface_of points.0 faces.0)) t is in
+    let points = step_ok (so_many (vertex_line n) head.0.0.0 head.0.1) (λ points. so_many (off_polygon n) head.0.0.1 points.1 >>= λ faces. text_end_at faces.1 >>= λ _. Ok (surface_of points.0 faces.0)) t head.2 in
+    let faces = step_ok (so_many (off_polygon n) head.0.0.1 points.0.1) (λ faces. text_end_at faces.1 >>= λ _. Ok (surface_of points.0.0 faces.0)) t points.2 in
     let ended = step_ok (text_end_at faces.0.1) (λ _. Ok (surface_of points.0.0 faces.0.0)) t faces.2 in
     let l1 = head_takes n lines head.0 head.1 in
     let l2 = many_few (vertex_line n) (off_vertex_takes n) head.0.0.0 head.0.1 points.0 points.1 in
-    let l3 = many_few (face_of n) (face_takes n) head.0.0.1 points.0.1 faces.0 faces.1 in
+    let l3 = many_few (off_polygon n) (face_takes n) head.0.0.1 points.0.1 faces.0 faces.1 in
     subst IsSmall {x = surface_of points.0.0 faces.0.0} (ok_is (surface_of points.0.0 faces.0.0) t ended.2) (surface_small points.0.0 faces.0.0 (omega (arith, few, l1, l2, l3)))
 
-pub off_read : (n : ℕ) (lines : List ContentLine) (r : Result Plc PlcFault) → Gives (λ t. t) r (off_of n lines) → length lines < 2 ^ 32 - 1 → IfOk r IsSmall
+pub off_read : (n : ℕ) (lines : List ContentLine) (r : Result Plc PlcFault) → PlcGives (λ t. t) r (off_of n lines) → length lines < 2 ^ 32 - 1 → IfOk r IsSmall
 off_read n lines (Ok t) gives few = off_small n lines t gives few
 off_read n lines (Err fault) gives few = tt
 
 stl_small : (n : ℕ) (lines : List ContentLine) (t : Plc) → stl_of n lines ≡ Ok t → length lines < 2 ^ 32 - 1 → IsSmall t
 unfolding stl_of
 stl_small n lines t is few =
-    let solid = step_ok (solid_line n lines) (λ solid. facets_of (length solid.1) n solid.1 >>= λ facets. text_end_at facets.1 >>= λ _. Ok (triangles_of facets.0)) t is in
-    let facets = step_ok (facets_of (length solid.0.1) n solid.0.1) (λ facets. text_end_at facets.1 >>= λ _. Ok (triangles_of facets.0)) t solid.2 in
+    let solid = step_ok (solid_line n lines) (λ solid. ascii_facets_of (length solid.1) n solid.1 >>= λ facets. text_end_at facets.1 >>= λ _. Ok (triangles_of facets.0)) t is in
+    let facets = step_ok (ascii_facets_of (length solid.0.1) n solid.0.1) (λ facets. text_end_at facets.1 >>= λ _. Ok (triangles_of facets.0)) t solid.2 in
     let ended = step_ok (text_end_at facets.0.1) (λ _. Ok (triangles_of facets.0.0)) t facets.2 in
     let points = distinct_vertices (vertices_of facets.0.0) in
     let faces = map (triangle_in points) facets.0.0 in
@@ -65,7 +65,7 @@ stl_small n lines t is few =
     let l2 = facets_few (length solid.0.1) n solid.0.1 facets.0 facets.1 in
     subst IsSmall {x = triangles_of facets.0.0} (ok_is (triangles_of facets.0.0) t ended.2) (surface_small points faces (omega (arith, few, l1, l2, length-map facets.0.0 (triangle_in points))))
 
-pub stl_read : (n : ℕ) (lines : List ContentLine) (r : Result Plc PlcFault) → Gives (λ t. t) r (stl_of n lines) → length lines < 2 ^ 32 - 1 → IfOk r IsSmall
+pub stl_read : (n : ℕ) (lines : List ContentLine) (r : Result Plc PlcFault) → PlcGives (λ t. t) r (stl_of n lines) → length lines < 2 ^ 32 - 1 → IfOk r IsSmall
 stl_read n lines (Ok t) gives few = stl_small n lines t gives few
 stl_read n lines (Err fault) gives few = tt
 
@@ -77,9 +77,9 @@ abbrev Placed : Type 0
 Placed = (List DecimalPoint × List PolygonText) × List ContentLine
 
 -- the points of facets that were read
-pub few_points : (most n : ℕ) (lines : List ContentLine) (x : Placed) → placed (facets_of most n lines) ≡ Ok x → length x.0.0 ≤ length lines
+pub few_points : (most n : ℕ) (lines : List ContentLine) (x : Placed) → placed_facets (ascii_facets_of most n lines) ≡ Ok x → length x.0.0 ≤ length lines
 few_points most n lines x is =
-    let read = step_ok (facets_of most n lines) (λ r. Ok ((distinct_vertices (vertices_of r.0), map (triangle_in (distinct_vertices (vertices_of r.0))) r.0), r.1)) x is in
+    let read = step_ok (ascii_facets_of most n lines) (λ r. Ok ((distinct_vertices (vertices_of r.0), map (triangle_in (distinct_vertices (vertices_of r.0))) r.0), r.1)) x is in
     let fs = read.0.0 in
     let made : Placed = ((distinct_vertices (vertices_of fs), map (triangle_in (distinct_vertices (vertices_of fs))) fs), read.0.1) in
     let few = facets_few most n lines read.0 read.1 in

@@ -30,26 +30,26 @@ is_binary_stl bytes = if nat_lt (length bytes) 84 then false else length bytes =
 abbrev pub coordinate_at : ℕ → List ℕ → ℕ → Result Scaled TextFault
 coordinate_at facet bytes i = ok_or (float_decimal (word_at bytes i)) (not_a_number facet)
 
-unfoldable pub corner_at : ℕ → List ℕ → ℕ → Result DecimalPoint TextFault
-corner_at facet bytes i = do
+unfoldable pub vertex_at : ℕ → List ℕ → ℕ → Result DecimalPoint TextFault
+vertex_at facet bytes i = do
   x ← coordinate_at facet bytes i
   y ← coordinate_at facet bytes (i + 4)
   z ← coordinate_at facet bytes (i + 8)
   Ok (record { x = x; y = y; z = z; line = facet })
 
 -- a normal of 12 bytes, which is not read, three corners, and two bytes of any kind
-unfoldable pub facet_at : ℕ → List ℕ → Result StlFacet TextFault
-facet_at facet bytes = if nat_lt (length bytes) 50 then Err (ended facet) else (do
-  a ← corner_at facet bytes 12
-  b ← corner_at facet bytes 24
-  c ← corner_at facet bytes 36
+unfoldable pub binary_facet_at : ℕ → List ℕ → Result StlFacet TextFault
+binary_facet_at facet bytes = if nat_lt (length bytes) 50 then Err (ended facet) else (do
+  a ← vertex_at facet bytes 12
+  b ← vertex_at facet bytes 24
+  c ← vertex_at facet bytes 36
   Ok (record { line = facet; a = a; b = b; c = c }))
 
 -- so many facets, of which the first has this number, and then the end
 unfoldable pub facets_to_end : ℕ → ℕ → List ℕ → Result (List StlFacet) TextFault
 facets_to_end zero facet bytes = if length bytes == 0 then Ok [] else Err (extra facet)
 facets_to_end (suc more) facet bytes = do
-  first ← facet_at facet bytes
+  first ← binary_facet_at facet bytes
   others ← facets_to_end more (facet + 1) (drop 50 bytes)
   Ok (first ∷ others)
 
@@ -73,5 +73,5 @@ settled read =
     >>= λ facets. Ok (distinct_vertices (vertices_of facets), map (triangle_in (distinct_vertices (vertices_of facets))) facets)
 
 -- facets before, and those that are read
-abbrev pub behind : List StlFacet → Result (List StlFacet) TextFault → Result (List StlFacet) TextFault
-behind front read = read >>= λ facets. Ok (front ++ facets)
+abbrev pub facets_behind : List StlFacet → Result (List StlFacet) TextFault → Result (List StlFacet) TextFault
+facets_behind front read = read >>= λ facets. Ok (front ++ facets)

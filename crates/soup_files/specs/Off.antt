@@ -10,13 +10,11 @@ use Rattle.plc_files.specs.declared.parts.CornerText.{CornerText}
 use Rattle.plc_files.specs.declared.parts.PolygonText.{PolygonText}
 use Rattle.plc_files.specs.Fields.{some_count_at}
 use Rattle.plc_files.specs.Polygon.{field_ahead}
-use Rattle.plc_files.specs.Repeated.{so_many}
 use Rattle.plc_files.specs.Text.{Plc}
 use Rattle.soup_files.specs.Keyword.{keyword_at}
 use Rattle.soup_files.specs.Surface.{surface_of}
-
-abbrev pub Lines : Type 0
-Lines = List ContentLine
+use Rattle.tet_text.specs.Repeated.{so_many}
+use Rattle.plc_files.specs.Facet.{Lines}
 
 -- <# of points> <# of faces> [<# of edges>], where the number of edges is any count
 unfoldable pub counts_of : ContentLine → Result (ℕ × ℕ) TextFault
@@ -51,8 +49,8 @@ corner_at line fields = do
   Ok (record { number = number.0; line = line }, number.1)
 
 -- <# of corners> <corner> .., and whatever stands behind the last corner
-unfoldable pub face_of : ℕ → Lines → Result (PolygonText × Lines) TextFault
-face_of total lines = do
+unfoldable pub off_polygon : ℕ → Lines → Result (PolygonText × Lines) TextFault
+off_polygon total lines = do
   line ← line_at total lines
   count ← some_count_at line.0.line line.0.fields
   corners ← so_many (corner_at line.0.line) count.0 count.1
@@ -63,6 +61,6 @@ unfoldable pub off_of : ℕ → Lines → Result Plc TextFault
 off_of total lines = do
   head ← head_of total lines
   points ← so_many (vertex_line total) head.0.0 head.1
-  faces ← so_many (face_of total) head.0.1 points.1
+  faces ← so_many (off_polygon total) head.0.1 points.1
   _ ← text_end_at faces.1
   Ok (surface_of points.0 faces.0)

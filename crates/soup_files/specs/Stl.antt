@@ -15,9 +15,7 @@ use Rattle.soup_files.specs.declared.stl_facet.StlFacet.{StlFacet}
 use Rattle.soup_files.specs.Keyword.{keyword_at, word_line}
 use Rattle.soup_files.specs.Vertices.{distinct_vertices, vertex_place}
 use Rattle.soup_files.specs.Surface.{surface_of}
-
-abbrev pub Lines : Type 0
-Lines = List ContentLine
+use Rattle.plc_files.specs.Facet.{Lines}
 
 -- ---- the grammar
 
@@ -63,8 +61,8 @@ vertex_line total lines = do
   Ok (place.0, line.1)
 
 -- the six lines behind the first line of a facet, whose number is this one
-unfoldable pub facet_of : ℕ → ℕ → Lines → Result (StlFacet × Lines) TextFault
-facet_of total first lines = do
+unfoldable pub ascii_facet_of : ℕ → ℕ → Lines → Result (StlFacet × Lines) TextFault
+ascii_facet_of total first lines = do
   outer ← loop_line total lines
   a ← vertex_line total outer.1
   b ← vertex_line total a.1
@@ -74,14 +72,14 @@ facet_of total first lines = do
   Ok (record { line = first; a = a.0; b = b.0; c = c.0 }, last.1)
 
 -- the facets up to the line that ends them, of which there are fewer than `most`
-unfoldable pub facets_of : ℕ → ℕ → Lines → Result (List StlFacet × Lines) TextFault
-facets_of zero total lines = Err (ended (total + 1))
-facets_of (suc most) total lines = do
+unfoldable pub ascii_facets_of : ℕ → ℕ → Lines → Result (List StlFacet × Lines) TextFault
+ascii_facets_of zero total lines = Err (ended (total + 1))
+ascii_facets_of (suc most) total lines = do
   line ← line_at total lines
   more ← more_facets line.0
   if more then (do
-    facet ← facet_of total line.0.line line.1
-    others ← facets_of most total facet.1
+    facet ← ascii_facet_of total line.0.line line.1
+    others ← ascii_facets_of most total facet.1
     Ok (facet.0 ∷ others.0, others.1)) else Ok ([], line.1)
 
 -- ---- what is read
@@ -91,11 +89,11 @@ abbrev pub vertices_of : List StlFacet → List DecimalPoint
 vertices_of facets = flat_map (λ f. f.a ∷ f.b ∷ f.c ∷ []) facets
 
 -- a corner by the place of its point
-abbrev pub corner_in : List DecimalPoint → DecimalPoint → CornerText
-corner_in points p = record { number = vertex_place points p; line = p.line }
+abbrev pub stl_corner : List DecimalPoint → DecimalPoint → CornerText
+stl_corner points p = record { number = vertex_place points p; line = p.line }
 
 abbrev pub triangle_in : List DecimalPoint → StlFacet → PolygonText
-triangle_in points f = record { line = f.line; corners = corner_in points f.a ∷ corner_in points f.b ∷ corner_in points f.c ∷ [] }
+triangle_in points f = record { line = f.line; corners = stl_corner points f.a ∷ stl_corner points f.b ∷ stl_corner points f.c ∷ [] }
 
 -- the distinct corners are the points, and each facet is a triangle of these
 abbrev pub triangles_of : List StlFacet → Plc
@@ -105,6 +103,6 @@ triangles_of facets = surface_of (distinct_vertices (vertices_of facets)) (map (
 unfoldable pub stl_of : ℕ → Lines → Result Plc TextFault
 stl_of total lines = do
   solid ← solid_line total lines
-  facets ← facets_of (length solid.1) total solid.1
+  facets ← ascii_facets_of (length solid.1) total solid.1
   _ ← text_end_at facets.1
   Ok (triangles_of facets.0)

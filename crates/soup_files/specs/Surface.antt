@@ -6,10 +6,10 @@ use Rattle.grid_coords.specs.declared.points.DecimalPoint.{DecimalPoint}
 use Rattle.node_files.specs.declared.node_text.NodeText.{NodeText}
 use Rattle.plc_files.specs.declared.parts.CornerText.{CornerText}
 use Rattle.plc_files.specs.declared.parts.PolygonText.{PolygonText}
-use Rattle.plc_files.specs.Text.{Facet, Plc, with_corner}
+use Rattle.plc_files.specs.Text.{ReadFacet, Plc, with_corner}
 
 -- a facet of one polygon, with no hole and no marker
-abbrev pub facet_of_one : PolygonText → Facet
+abbrev pub facet_of_one : PolygonText → ReadFacet
 facet_of_one face = record { polygons = face ∷ []; holes = []; marker = None }
 
 -- points numbered from 0, with no attribute and no marker

@@ -2,11 +2,11 @@
 
 ghost use Rattle.std.specs.Prelude.{◌≡◌, ◌≤◌, ◌+◌, ◌-◌, ◌<◌, ◌^◌, ◌==◌, [], drop, length, map, IfOk, Ok, Err, if◌then◌else◌};
 ghost use Rattle.tet_text.specs.Faults.{extra};
-ghost use Rattle.plc_files.specs.Outcome.{Gives};
+ghost use Rattle.plc_files.specs.Outcome.{PlcGives};
 ghost use Rattle.plc_files.specs.Checks.{HasFewParts};
 ghost use Rattle.plc_files.specs.Text.{AreWritten};
-ghost use Rattle.soup_files.specs.BinaryStl.{word_at, is_binary_stl, coordinate_at, corner_at, facet_at, facets_to_end, count_in, settled, binary_stl_of};
-ghost use Rattle.soup_files.specs.Triangles.{polygon_of};
+ghost use Rattle.soup_files.specs.BinaryStl.{word_at, is_binary_stl, coordinate_at, vertex_at, binary_facet_at, facets_to_end, count_in, settled, binary_stl_of};
+ghost use Rattle.soup_files.specs.Triangles.{triangle_polygon};
 
 use crate::stl::{Triangle, placed, surface};
 use crate::stl_facet::StlFacet;
@@ -57,10 +57,10 @@ fn coordinate(facet: usize, bytes: &[u8], i: usize) -> Result<Decimal, TextFault
     float_decimal(word_at(bytes, i)).ok_or(fault(facet, TextKind::NotANumber))
 }
 
-#[tactic(auto, unfolding(crate::specs::BinaryStl::corner_at))]
+#[tactic(auto, unfolding(crate::specs::BinaryStl::vertex_at))]
 fn corner(facet: usize, bytes: &[u8], i: usize) -> Result<DecimalPoint, TextFault>
     requires { i + 12 ≤ length bytes.now }
-    ensures { result ≡ corner_at facet bytes.now i }
+    ensures { result ≡ vertex_at facet bytes.now i }
 {
     let x = coordinate(facet, bytes, i)?;
     let y = coordinate(facet, bytes, i + 4)?;
@@ -71,9 +71,9 @@ fn corner(facet: usize, bytes: &[u8], i: usize) -> Result<DecimalPoint, TextFaul
 
 /// The facet that stands at the front of the bytes. Its normal is not read, nor are its last two
 /// bytes.
-#[tactic(auto, unfolding(crate::specs::BinaryStl::facet_at))]
+#[tactic(auto, unfolding(crate::specs::BinaryStl::binary_facet_at))]
 fn facet_at(facet: usize, bytes: &[u8]) -> Result<StlFacet, TextFault>
-    ensures value { result ≡ facet_at facet bytes.now }
+    ensures value { result ≡ binary_facet_at facet bytes.now }
     ensures whole { IfOk result (λ _. 50 ≤ length bytes.now) }
 {
     if bytes.len() < FACET {
@@ -112,7 +112,7 @@ fn read_facets(
     points: &mut VertexSet,
 ) -> Result<Items<Triangle>, PlcFault>
     requires { points.old ≡ [] }
-    ensures { Gives (λ triangles. (points.new, map polygon_of triangles)) result
+    ensures { PlcGives (λ triangles. (points.new, map triangle_polygon triangles)) result
         (settled (facets_to_end count 1 bytes.now)) }
 {
     let mut triangles = Items::new(alloc);
@@ -141,7 +141,7 @@ fn read_count(bytes: &[u8]) -> Result<u32, TextFault>
 #[tactic(auto, unfolding(crate::specs::BinaryStl::binary_stl_of))]
 fn read_bytes(alloc: Global, bytes: &[u8]) -> Result<PlcText, PlcFault>
     requires { length bytes.now < 2 ^ 32 - 1 }
-    ensures { Gives (λ text. text) result (binary_stl_of bytes.now) }
+    ensures { PlcGives (λ text. text) result (binary_stl_of bytes.now) }
 {
     let count = read_count(bytes)?;
     let mut points = VertexSet::new(alloc);
@@ -158,7 +158,7 @@ fn read_bytes(alloc: Global, bytes: &[u8]) -> Result<PlcText, PlcFault>
 /// behind the last facet.
 pub fn read_binary_stl(alloc: Global, bytes: &Bytes) -> Result<PlcText, PlcFault>
     requires { length bytes.now < 2 ^ 32 - 1 }
-    ensures value { Gives (λ text. text) result (binary_stl_of bytes.now) }
+    ensures value { PlcGives (λ text. text) result (binary_stl_of bytes.now) }
     ensures attributes { IfOk result (λ text. AreWritten text.regions) }
     ensures few { IfOk result HasFewParts }
 {

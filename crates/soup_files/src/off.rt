@@ -4,12 +4,12 @@ ghost use Rattle.std.specs.Prelude.{◌≡◌, ◌-◌, ◌+◌, ◌<◌, ◌^�
 ghost use Rattle.tet_text.specs.Lines.{content_lines, line_count_of};
 ghost use Rattle.tet_text.specs.Reading.{left_after};
 ghost use Rattle.tet_text.specs.Views.{content_left, line_total};
-ghost use Rattle.plc_files.specs.Outcome.{Gives};
-ghost use Rattle.plc_files.specs.Repeated.{so_many};
+ghost use Rattle.plc_files.specs.Outcome.{PlcGives};
 ghost use Rattle.plc_files.specs.Checks.{HasFewParts};
 ghost use Rattle.plc_files.specs.Text.{AreWritten, LastHasPolygon};
 ghost use Rattle.soup_files.specs.Surface.{corners_onto, face_onto, faces_onto};
-ghost use Rattle.soup_files.specs.Off.{counts_of, head_of, vertex_line, corner_at, face_of, off_of};
+ghost use Rattle.soup_files.specs.Off.{counts_of, head_of, vertex_line, corner_at, off_polygon, off_of};
+ghost use Rattle.tet_text.specs.Repeated.{so_many};
 
 use crate::fields::{go_on, some_count, want_keyword};
 use crate::surface::{nodes_at, start_face};
@@ -65,7 +65,7 @@ fn read_vertex(lines: &mut Lines) -> Result<DecimalPoint, TextFault>
 /// So many points, one a line.
 fn read_vertices(alloc: Global, count: u64, lines: &mut Lines) -> Result<DecimalPoints, PlcFault>
     requires { line_total lines.old + 1 < 2 ^ 64 }
-    ensures value { Gives (λ points. (points, content_left lines.new)) result
+    ensures value { PlcGives (λ points. (points, content_left lines.new)) result
         (so_many (vertex_line (line_total lines.old)) count (content_left lines.old)) }
     ensures count { line_total lines.new ≡ line_total lines.old }
 {
@@ -80,7 +80,7 @@ fn read_vertices(alloc: Global, count: u64, lines: &mut Lines) -> Result<Decimal
 /// So many corners, appended to the last polygon of the complex.
 fn read_corners(count: u64, fields: &mut Fields, text: &mut PlcText) -> Result<(), PlcFault>
     requires { LastHasPolygon text.old.facets }
-    ensures { Gives (λ _. (text.new, fields.new.fields)) result
+    ensures { PlcGives (λ _. (text.new, fields.new.fields)) result
         (corners_onto text.old (so_many (corner_at fields.old.line) count fields.old.fields)) }
 {
     let line = fields.line();
@@ -92,11 +92,11 @@ fn read_corners(count: u64, fields: &mut Fields, text: &mut PlcText) -> Result<(
 }
 
 /// A face, appended to the complex. Fields behind its last corner are passed over.
-#[tactic(auto, unfolding(crate::specs::Off::face_of))]
+#[tactic(auto, unfolding(crate::specs::Off::off_polygon))]
 fn read_face(lines: &mut Lines, text: &mut PlcText) -> Result<(), PlcFault>
     requires { line_total lines.old + 1 < 2 ^ 64 }
-    ensures value { Gives (λ _. (text.new, content_left lines.new)) result
-        (face_onto text.old (face_of (line_total lines.old) (content_left lines.old))) }
+    ensures value { PlcGives (λ _. (text.new, content_left lines.new)) result
+        (face_onto text.old (off_polygon (line_total lines.old) (content_left lines.old))) }
     ensures count { line_total lines.new ≡ line_total lines.old }
 {
     let mut fields = lines.want_line()?;
@@ -108,9 +108,9 @@ fn read_face(lines: &mut Lines, text: &mut PlcText) -> Result<(), PlcFault>
 /// So many faces, appended to the complex.
 fn read_faces(count: u64, lines: &mut Lines, text: &mut PlcText) -> Result<(), PlcFault>
     requires { line_total lines.old + 1 < 2 ^ 64 }
-    ensures value { Gives (λ _. (text.new, content_left lines.new)) result
+    ensures value { PlcGives (λ _. (text.new, content_left lines.new)) result
         (faces_onto text.old
-        (so_many (face_of (line_total lines.old)) count (content_left lines.old))) }
+        (so_many (off_polygon (line_total lines.old)) count (content_left lines.old))) }
     ensures count { line_total lines.new ≡ line_total lines.old }
 {
     for _ in 0..count {
@@ -123,7 +123,7 @@ fn read_faces(count: u64, lines: &mut Lines, text: &mut PlcText) -> Result<(), P
 #[tactic(auto, unfolding(crate::specs::Off::off_of))]
 fn read_lines(alloc: Global, lines: &mut Lines) -> Result<PlcText, PlcFault>
     requires { line_total lines.old < 2 ^ 32 - 1 }
-    ensures { Gives (λ text. text) result
+    ensures { PlcGives (λ text. text) result
         (off_of (line_total lines.old) (content_left lines.old)) }
 {
     let (points, faces) = read_head(lines)?;
@@ -139,7 +139,7 @@ fn read_lines(alloc: Global, lines: &mut Lines) -> Result<PlcText, PlcFault>
 /// range. The point list is there also where it has no point.
 pub fn read_off(alloc: Global, bytes: &Bytes) -> Result<PlcText, PlcFault>
     requires { length bytes.now < 2 ^ 32 - 1 }
-    ensures value { Gives (λ text. text) result
+    ensures value { PlcGives (λ text. text) result
         (off_of (line_count_of bytes.now) (content_lines bytes.now)) }
     ensures attributes { IfOk result (λ text. AreWritten text.regions) }
     ensures few { IfOk result HasFewParts }

@@ -4,12 +4,12 @@ ghost use Rattle.std.specs.Prelude.{◌≡◌, ◌-◌, ◌+◌, ◌<◌, ◌^�
 ghost use Rattle.tet_text.specs.Lines.{content_lines, line_count_of};
 ghost use Rattle.tet_text.specs.Reading.{left_after};
 ghost use Rattle.tet_text.specs.Views.{content_left, line_total};
-ghost use Rattle.plc_files.specs.Outcome.{Gives};
+ghost use Rattle.plc_files.specs.Outcome.{PlcGives};
 ghost use Rattle.plc_files.specs.Checks.{HasFewParts};
 ghost use Rattle.plc_files.specs.Text.{AreWritten};
 ghost use Rattle.soup_files.specs.Surface.{plus_face, surface_of};
-ghost use Rattle.soup_files.specs.Stl.{solid_line, facets_of, stl_of};
-ghost use Rattle.soup_files.specs.Triangles.{polygon_of, placed, Places};
+ghost use Rattle.soup_files.specs.Stl.{solid_line, ascii_facets_of, stl_of};
+ghost use Rattle.soup_files.specs.Triangles.{triangle_polygon, placed_facets, IsPlacedBy};
 
 use crate::fields::want_keyword;
 use crate::stl_facet::{StlFacet, read_facet, starts_facet};
@@ -49,7 +49,7 @@ fn pass_solid(lines: &mut Lines) -> Result<(), TextFault>
 
 /// The facet by the places of its corners, which are put in where they are not there.
 pub(crate) fn placed(facet: StlFacet, points: &mut VertexSet) -> Result<Triangle, NoMemory>
-    ensures { IfOk result (λ triangle. Places facet points.old triangle points.new) }
+    ensures { IfOk result (λ triangle. IsPlacedBy facet points.old triangle points.new) }
 {
     let a = PlacedCorner {
         place: points.put(facet.a)?,
@@ -75,8 +75,8 @@ fn read_facets(
 ) -> Result<Items<Triangle>, PlcFault>
     requires total { line_total lines.old + 1 < 2 ^ 64 }
     requires none { points.old ≡ [] }
-    ensures value { Gives (λ triangles. ((points.new, map polygon_of triangles), content_left lines.new)) result
-        (placed (facets_of (length (content_left lines.old)) (line_total lines.old) (content_left lines.old))) }
+    ensures value { PlcGives (λ triangles. ((points.new, map triangle_polygon triangles), content_left lines.new)) result
+        (placed_facets (ascii_facets_of (length (content_left lines.old)) (line_total lines.old) (content_left lines.old))) }
     ensures count { line_total lines.new ≡ line_total lines.old }
 {
     let mut triangles = Items::new(alloc);
@@ -93,7 +93,7 @@ fn read_facets(
 
 /// Appends a triangle to the complex.
 fn add_triangle(triangle: Triangle, text: &mut PlcText) -> Result<(), NoMemory>
-    ensures { OnOk result (text.new ≡ plus_face (polygon_of triangle) text.old) }
+    ensures { OnOk result (text.new ≡ plus_face (triangle_polygon triangle) text.old) }
 {
     start_face(triangle.line, text)?;
     text.add_corner(triangle.a.place, triangle.a.line)?;
@@ -108,7 +108,7 @@ pub(crate) fn surface(
     triangles: &Items<Triangle>,
 ) -> Result<PlcText, NoMemory>
     requires { length points.now < 2 ^ 32 - 1 }
-    ensures { IfOk result (λ text. text ≡ surface_of points.now (map polygon_of triangles.now)) }
+    ensures { IfOk result (λ text. text ≡ surface_of points.now (map triangle_polygon triangles.now)) }
 {
     let nodes = nodes_at(alloc, points.points()?);
     let mut text = PlcText::new(alloc, Some(nodes));
@@ -122,7 +122,7 @@ pub(crate) fn surface(
 #[tactic(auto, unfolding(crate::specs::Stl::stl_of))]
 fn read_lines(alloc: Global, lines: &mut Lines) -> Result<PlcText, PlcFault>
     requires { line_total lines.old < 2 ^ 32 - 1 }
-    ensures { Gives (λ text. text) result
+    ensures { PlcGives (λ text. text) result
         (stl_of (line_total lines.old) (content_left lines.old)) }
 {
     pass_solid(lines)?;
@@ -139,7 +139,7 @@ fn read_lines(alloc: Global, lines: &mut Lines) -> Result<PlcText, PlcFault>
 /// one, is refused where it first leaves it.
 pub fn read_ascii_stl(alloc: Global, bytes: &Bytes) -> Result<PlcText, PlcFault>
     requires { length bytes.now < 2 ^ 32 - 1 }
-    ensures value { Gives (λ text. text) result
+    ensures value { PlcGives (λ text. text) result
         (stl_of (line_count_of bytes.now) (content_lines bytes.now)) }
     ensures attributes { IfOk result (λ text. AreWritten text.regions) }
     ensures few { IfOk result HasFewParts }

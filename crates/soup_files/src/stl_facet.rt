@@ -3,7 +3,7 @@
 ghost use Rattle.std.specs.Prelude.{◌≡◌, ◌+◌, ◌<◌, ◌^◌, codes};
 ghost use Rattle.tet_text.specs.Reading.{left_after};
 ghost use Rattle.tet_text.specs.Views.{content_left, line_total};
-ghost use Rattle.soup_files.specs.Stl.{normal_at, more_facets, loop_line, vertex_line, facet_of};
+ghost use Rattle.soup_files.specs.Stl.{normal_at, more_facets, loop_line, vertex_line, ascii_facet_of};
 
 use crate::fields::{bad_count, is_word, want_keyword, want_word_line};
 use grid_coords::DecimalPoint;
@@ -75,11 +75,11 @@ fn read_vertex(lines: &mut Lines) -> Result<DecimalPoint, TextFault>
 }
 
 /// The rest of a facet behind its first line, whose number is this one.
-#[tactic(auto, unfolding(crate::specs::Stl::facet_of))]
+#[tactic(auto, unfolding(crate::specs::Stl::ascii_facet_of))]
 pub(crate) fn read_facet(line: usize, lines: &mut Lines) -> Result<StlFacet, TextFault>
     requires { line_total lines.old + 1 < 2 ^ 64 }
     ensures value { left_after (λ facet. facet) result (content_left lines.new)
-        ≡ facet_of (line_total lines.old) line (content_left lines.old) }
+        ≡ ascii_facet_of (line_total lines.old) line (content_left lines.old) }
     ensures count { line_total lines.new ≡ line_total lines.old }
 {
     pass_loop(lines)?;

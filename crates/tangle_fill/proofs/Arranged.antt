@@ -12,7 +12,7 @@ use Rattle.crossing_laws.proofs.Tests.{decided}
 use Rattle.crossing_laws.proofs.Faces.{Same, straight, onward, backward, same_of}
 use Rattle.tangle_laws.specs.Tangle.{lies_on}
 use Rattle.tangle_laws.proofs.Apart.{fails_true}
-use Rattle.tangle_fill.specs.Indexed.{same_side, side_of, has_side, IsIndexed, IsPut}
+use Rattle.tangle_fill.specs.Indexed.{same_face_side, face_side_of, has_side, IsIndexed, IsSidePut}
 use Rattle.tangle_fill.specs.declared.growth.FaceSide.{FaceSide}
 use Rattle.tangle_fill.specs.declared.growth.Growth.{Growth}
 use Rattle.tangle_fill.proofs.Indexed.{three_same}
@@ -37,7 +37,7 @@ one_order f g lf lg (backward a b c) = absurd (let h = lf.b in let k = lg.c in o
 
 -- where the row of no such side is kept, no row lies on it
 pub none_straight : (g : Growth) (row : Tet) (f : Face) → IsIndexed g → All IsArranged g.rows → IsArranged row → IsMember f (faces_of row)
-    → get same_side g.sides (side_of f) ≡ None → All (λ t. lies_on f t ≡ false) g.rows
+    → get same_face_side g.sides (face_side_of f) ≡ None → All (λ t. lies_on f t ≡ false) g.rows
 none_straight g row f i arranged r m n k d l = go (decided (lies_on f t))
   where
     t : Tet
@@ -48,33 +48,33 @@ none_straight g row f i arranged r m n k d l = go (decided (lies_on f t))
     go (inl h) =
         let s = some_true (is_same f) (faces_of t) h in
         let e = one_order f s.0 (least_first row r f m) (least_first t (arranged k d l) s.0 s.1) (same_of f s.0 s.2) in
-        fails_true (has_side t (side_of f)) (i.none (side_of f) n k d l)
-        (any_true (λ h. same_side (side_of h) (side_of f)) (faces_of t) s.0 s.1 (three_same s.0 (side_of f) (sym e.0) (sym e.1) (sym e.2)))
+        fails_true (has_side t (face_side_of f)) (i.none (face_side_of f) n k d l)
+        (any_true (λ h. same_face_side (face_side_of h) (face_side_of f)) (faces_of t) s.0 s.1 (three_same s.0 (face_side_of f) (sym e.0) (sym e.1) (sym e.2)))
 
 -- a side that led nowhere after another one was put in led nowhere before
-before_put : {S : Type 0} (old new : IndexMap FaceSide Tet S) (p q : FaceSide) (row : Tet) → IsPut old new p row → get same_side new q ≡ None → get same_side old q ≡ None
-before_put old new p q row put n = go (same_side p q) (sym (put q) ∙ n)
+before_put : {S : Type 0} (old new : IndexMap FaceSide Tet S) (p q : FaceSide) (row : Tet) → IsSidePut old new p row → get same_face_side new q ≡ None → get same_face_side old q ≡ None
+before_put old new p q row put n = go (same_face_side p q) (sym (put q) ∙ n)
   where
-    go : (b : Bool) → cond b (Some row) (get same_side old q) ≡ None → get same_side old q ≡ None
+    go : (b : Bool) → cond b (Some row) (get same_face_side old q) ≡ None → get same_face_side old q ≡ None
     go true e = absurd (let m : Some row ≡ None = e in cc)
     go false e = e
 
 abbrev side_a : Tet → FaceSide
-side_a row = side_of (record { a = row.b; b = row.d; c = row.c })
+side_a row = face_side_of (record { a = row.b; b = row.d; c = row.c })
 
 abbrev side_b : Tet → FaceSide
-side_b row = side_of (record { a = row.a; b = row.c; c = row.d })
+side_b row = face_side_of (record { a = row.a; b = row.c; c = row.d })
 
 abbrev side_c : Tet → FaceSide
-side_c row = side_of (record { a = row.a; b = row.d; c = row.b })
+side_c row = face_side_of (record { a = row.a; b = row.d; c = row.b })
 
 abbrev side_d : Tet → FaceSide
-side_d row = side_of (record { a = row.a; b = row.b; c = row.c })
+side_d row = face_side_of (record { a = row.a; b = row.b; c = row.c })
 
 -- when four sides are put in, each of which led nowhere then, all led nowhere before
-pub sides_free : {S : Type 0} (m0 m1 m2 m3 : IndexMap FaceSide Tet S) (row : Tet) → IsPut m0 m1 (side_a row) row → IsPut m1 m2 (side_b row) row → IsPut m2 m3 (side_c row) row
-    → get same_side m0 (side_a row) ≡ None → get same_side m1 (side_b row) ≡ None → get same_side m2 (side_c row) ≡ None → get same_side m3 (side_d row) ≡ None
-    → (get same_side m0 (side_a row) ≡ None) × (get same_side m0 (side_b row) ≡ None) × (get same_side m0 (side_c row) ≡ None) × (get same_side m0 (side_d row) ≡ None)
+pub sides_free : {S : Type 0} (m0 m1 m2 m3 : IndexMap FaceSide Tet S) (row : Tet) → IsSidePut m0 m1 (side_a row) row → IsSidePut m1 m2 (side_b row) row → IsSidePut m2 m3 (side_c row) row
+    → get same_face_side m0 (side_a row) ≡ None → get same_face_side m1 (side_b row) ≡ None → get same_face_side m2 (side_c row) ≡ None → get same_face_side m3 (side_d row) ≡ None
+    → (get same_face_side m0 (side_a row) ≡ None) × (get same_face_side m0 (side_b row) ≡ None) × (get same_face_side m0 (side_c row) ≡ None) × (get same_face_side m0 (side_d row) ≡ None)
 sides_free m0 m1 m2 m3 row p1 p2 p3 a b c d = (
   a,
   before_put m0 m1 (side_a row) (side_b row) row p1 b,
@@ -84,7 +84,7 @@ sides_free m0 m1 m2 m3 row p1 p2 p3 a b c d = (
 
 -- a row all of whose sides lead nowhere lies apart
 pub lies_apart : (g : Growth) (row : Tet) → IsIndexed g → All IsArranged g.rows → IsArranged row
-    → (get same_side g.sides (side_a row) ≡ None) × (get same_side g.sides (side_b row) ≡ None) × (get same_side g.sides (side_c row) ≡ None) × (get same_side g.sides (side_d row) ≡ None)
+    → (get same_face_side g.sides (side_a row) ≡ None) × (get same_face_side g.sides (side_b row) ≡ None) × (get same_face_side g.sides (side_c row) ≡ None) × (get same_face_side g.sides (side_d row) ≡ None)
     → All (λ t. list_any (λ f. lies_on f t) (faces_of row) ≡ false) g.rows
 lies_apart g row i arranged r n =
     let a = none_straight g row (record { a = row.b; b = row.d; c = row.c }) i arranged r here n.0 in

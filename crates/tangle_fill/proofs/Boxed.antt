@@ -9,7 +9,7 @@ use Rattle.sign_predicates.specs.Centroid.{centroid}
 use Rattle.sign_predicates.specs.Orientation.{side_rational, IsPositive, StrictlyInside, SpansPlane}
 use Rattle.sign_predicates.specs.Meeting.{TriangleEnters}
 use Rattle.geo_laws.specs.Delaunay.{point, corners, numbers}
-use Rattle.geo_laws.specs.Facet.{corner_numbers}
+use Rattle.geo_laws.specs.Facet.{corner_numbers, IsUncrossed}
 use Rattle.geo_laws.specs.Path.{IsOnLeg}
 use Rattle.geo_laws.specs.Simplex.{InSimplex, has_number}
 use Rattle.geo_laws.specs.OrientedFace.{triangle}
@@ -23,13 +23,13 @@ use Rattle.simplex_meets.proofs.Along.{sum_most, sum_least}
 use Rattle.simplex_meets.proofs.Step.{Coordinate, X, Y, Z, at, coordinate, mean_of, sum}
 use Rattle.simplex_meets.proofs.Sums.{total}
 use Rattle.crossing_laws.proofs.Tests.{decided}
-use Rattle.tangle_laws.specs.Tangle.{facet_face, IsUncrossed}
+use Rattle.tangle_laws.specs.Tangle.{facet_face}
 use Rattle.tangle_laws.specs.Hidden.{hides}
 use Rattle.tangle_laws.proofs.Between.{law_hides}
 use Rattle.tangle_laws.proofs.Counted.{centroid_inside, centroid_w}
 use Rattle.box_tree.specs.declared.bounds.Interval.{Interval}
 use Rattle.box_tree.specs.declared.bounds.Bounds.{Bounds}
-use Rattle.box_tree.specs.Bounds.{IsIn, AreApart, AreBoundsApart, HoldsPoint, HoldsCorners, HoldsQuotient, HoldsRational}
+use Rattle.box_tree.specs.Bounds.{IsIn, AreDisjoint, AreBoundsApart, HoldsPoint, HoldsCorners, HoldsQuotient, HoldsRational}
 use Rattle.tangle_fill.specs.Fill.{AreFacetTriangles}
 use Rattle.tangle_fill.proofs.Entered.{of_simplex, to_simplex, enters_none}
 
@@ -63,7 +63,7 @@ beside a b x w hw h p q = clash (a *ℤ w) (b *ℤ w) (w *ℤ a) (w *ℤ b) p q 
     clash k m n o p q l d e = omega (arith, ints)
 
 -- two intervals with a common number are not apart
-common : (i j : Interval) (x w : ℤ) → pos 0 <ℤ w → HoldsQuotient i x w → HoldsQuotient j x w → AreApart i j → ⊥
+common : (i j : Interval) (x w : ℤ) → pos 0 <ℤ w → HoldsQuotient i x w → HoldsQuotient j x w → AreDisjoint i j → ⊥
 common i j x w hw p q (inl h) = beside i.high j.low x w hw h p.1 q.0
 common i j x w hw p q (inr h) = beside j.high i.low x w hw h q.1 p.0
 

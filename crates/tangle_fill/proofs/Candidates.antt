@@ -21,11 +21,11 @@ use Rattle.geo_laws.proofs.Members.{at_place, contains_of, member_of, filter_cas
 use Rattle.crossing_laws.proofs.Tests.{both, all_at, decided}
 use Rattle.crossing_laws.proofs.Faces.{eq_of}
 use Rattle.tangle_laws.specs.Tangle.{lies_on}
-use Rattle.tangle_laws.specs.Growth.{ShareNoSide, triangle_face}
+use Rattle.tangle_laws.specs.Growth.{ShareNoSide, sorted_triangle}
 use Rattle.tangle_laws.proofs.Apart.{fails_true}
 use Rattle.tangle_laws.proofs.Sides.{side_of_face}
 use Rattle.tangle_laws.proofs.Sorted.{row_face}
-use Rattle.tangle_fill.specs.Fill.{oriented}
+use Rattle.tangle_fill.specs.Fill.{as_oriented}
 use Rattle.tangle_fill.specs.Accept.{AreTriangleFaces, IsEven, IsEvenAcross, IsEvenRow}
 use Rattle.tangle_fill.proofs.Joined.{is_not, triangle_found}
 use Rattle.tangle_fill.proofs.Smoothed.{not_both}
@@ -72,10 +72,10 @@ same_rows s t e =
 
 -- ---- facet triangles
 
-pub more_faces : (ts : List FacetTriangle) (faces : List Face) (k : FacetTriangle) (i : ℕ) → i < length ts → HoldsAt (λ u. u ≡ k) ts i → AreTriangleFaces ts faces → AreTriangleFaces ts (faces ++ triangle_face k ∷ [])
-more_faces ts faces k i l is before face m = go (Contains-push_cases faces (triangle_face k) face m)
+pub more_faces : (ts : List FacetTriangle) (faces : List Face) (k : FacetTriangle) (i : ℕ) → i < length ts → HoldsAt (λ u. u ≡ k) ts i → AreTriangleFaces ts faces → AreTriangleFaces ts (faces ++ sorted_triangle k ∷ [])
+more_faces ts faces k i l is before face m = go (Contains-push_cases faces (sorted_triangle k) face m)
   where
-    go : Contains faces face ⊎ (triangle_face k ≡ face) → Contains (map triangle_face ts) face
+    go : Contains faces face ⊎ (sorted_triangle k ≡ face) → Contains (map sorted_triangle ts) face
     go (inl c) = before face c
     go (inr e) = triangle_found ts k i face l is e
 
@@ -90,20 +90,20 @@ outside_row ps s t ds dt k d l =
     ds.others i (dt.is_on i (contains_of (numbers t) i m.0)) (λ c. fails_true (has_number (numbers s) i) (is_not (has_number (numbers s) i) m.1) (any_true (λ j. j == i) (numbers s) i (member_of (numbers s) i c) (eq-eqb i i refl)))
 
 -- a row with the face lies on one of its sides
-pub on_sides : (ps : List Point) (t : Tet) (face : Face) → IsPositive (corners ps t) → Contains (row_faces t) face → (lies_on (oriented face) t ≡ true) ⊎ (lies_on (reversed (oriented face)) t ≡ true)
-on_sides ps t face p c = side_of_face (oriented face) t (row_face ps t p face (member_of (row_faces t) face c)).has
+pub on_sides : (ps : List Point) (t : Tet) (face : Face) → IsPositive (corners ps t) → Contains (row_faces t) face → (lies_on (as_oriented face) t ≡ true) ⊎ (lies_on (reversed (as_oriented face)) t ≡ true)
+on_sides ps t face p c = side_of_face (as_oriented face) t (row_face ps t p face (member_of (row_faces t) face c)).has
 
 -- a row that is so with each across its face, and another row with the face
 with_row : (ps : List Point) (rows : List Tet) (faces : List Face) (face : Face) (u v : Tet) → Contains rows v → ShareNoSide u v
-    → (lies_on (oriented face) u ≡ true) ⊎ (lies_on (reversed (oriented face)) u ≡ true) → (lies_on (oriented face) v ≡ true) ⊎ (lies_on (reversed (oriented face)) v ≡ true)
+    → (lies_on (as_oriented face) u ≡ true) ⊎ (lies_on (reversed (as_oriented face)) u ≡ true) → (lies_on (as_oriented face) v ≡ true) ⊎ (lies_on (reversed (as_oriented face)) v ≡ true)
     → IsEvenAcross ps faces rows u face → IsEven ps faces face u v
-with_row ps rows faces face u v cv apart (inl a) (inl b) e = absurd (not_both u v apart (oriented face) a b)
+with_row ps rows faces face u v cv apart (inl a) (inl b) e = absurd (not_both u v apart (as_oriented face) a b)
 with_row ps rows faces face u v cv apart (inl a) (inr b) e = e.0 a v cv b
-with_row ps rows faces face u v cv apart (inr a) (inr b) e = absurd (not_both u v apart (reversed (oriented face)) a b)
-with_row ps rows faces face u v cv apart (inr a) (inl b) e = by (decided (lies_on (oriented face) u))
+with_row ps rows faces face u v cv apart (inr a) (inr b) e = absurd (not_both u v apart (reversed (as_oriented face)) a b)
+with_row ps rows faces face u v cv apart (inr a) (inl b) e = by (decided (lies_on (as_oriented face) u))
   where
-    by : (lies_on (oriented face) u ≡ true) ⊎ (lies_on (oriented face) u ≡ false) → IsEven ps faces face u v
-    by (inl on) = absurd (not_both u v apart (oriented face) on b)
+    by : (lies_on (as_oriented face) u ≡ true) ⊎ (lies_on (as_oriented face) u ≡ false) → IsEven ps faces face u v
+    by (inl on) = absurd (not_both u v apart (as_oriented face) on b)
     by (inr off) = e.1 off v cv b
 
 -- a row that is so with each across its faces, and one of these with a common face

@@ -29,17 +29,18 @@ use Rattle.tangle_laws.proofs.Counted.{holds_own, centroid_w}
 use Rattle.tangle_laws.proofs.Nudged.{law_nudged}
 use Rattle.tangle_laws.proofs.Sides.{on_own, common_inside, share_back}
 use Rattle.tangle_laws.proofs.Steps.{on_of_delaunay, before_differ}
-use Rattle.tangle_fill.specs.Fill.{oriented}
-use Rattle.tangle_fill.specs.Accept.{IsRow, AreRows, HasTriangle, AreTriangleFaces, IsEvenRow, IsPairedGrowth}
+use Rattle.tangle_fill.specs.Fill.{as_oriented}
+use Rattle.tangle_fill.specs.Accept.{IsRow, AreArrangedRows, HasTriangle, AreTriangleFaces, IsEvenRow, IsPairedGrowth}
 use Rattle.tangle_fill.specs.Indexed.{IsIndexed}
-use Rattle.tangle_fill.specs.Removed.{IsWithin}
-use Rattle.tangle_fill.specs.Change.{is_marked, IsMarkedRow, IsMarkedFace, HasNoMarkedFace, IsNear, IsChange, IsFilledNear, IsClosedNear}
+use Rattle.tangle_fill.specs.Removed.{AreAmong}
+use Rattle.tangle_fill.specs.Change.{IsMarkedRow, IsMarkedFace, HasNoMarkedFace, HoldsNearRows, IsChange, IsFilledNear, IsClosedNear}
 use Rattle.tangle_fill.specs.declared.change.Change.{Change}
 use Rattle.tangle_fill.specs.declared.growth.Growth.{Growth}
 use Rattle.tangle_fill.proofs.Candidates.{outside_row, on_sides, even_pair}
 use Rattle.tangle_fill.proofs.Growing.{none_shared}
 use Rattle.tangle_fill.proofs.Removal.{row_beyond}
 use Rattle.tangle_fill.proofs.Smoothed.{only_one}
+use Rattle.geo_laws.specs.Marks.{is_marked}
 
 -- ---- marked faces
 
@@ -75,14 +76,14 @@ marked_side marks t m f h = let g = some_true (is_same f) (faces_of t) h in mark
     four = (record { a = m.b; b = m.d; c = m.c }, (record { a = m.a; b = m.c; c = m.d }, (record { a = m.a; b = m.d; c = m.b }, (record { a = m.a; b = m.b; c = m.c }, tt))))
 
 -- a row with a marked face is near
-pub near_row : (marks : List Bool) (rows : List Tet) (near : Growth) → IsNear marks rows near → (t : Tet) → Contains rows t → (f : Face) → lies_on f t ≡ true → IsMarkedFace marks f → Contains near.rows t
+pub near_row : (marks : List Bool) (rows : List Tet) (near : Growth) → HoldsNearRows marks rows near → (t : Tet) → Contains rows t → (f : Face) → lies_on f t ≡ true → IsMarkedFace marks f → Contains near.rows t
 near_row marks rows near h t c f on m = go (h.others t c)
   where
     go : Contains near.rows t ⊎ HasNoMarkedFace marks t → Contains near.rows t
     go (inl k) = k
     go (inr none) = absurd (none f on m)
 
-pub near_sides : (marks : List Bool) (rows : List Tet) (near : Growth) → IsNear marks rows near → (t : Tet) → Contains rows t → (f : Face)
+pub near_sides : (marks : List Bool) (rows : List Tet) (near : Growth) → HoldsNearRows marks rows near → (t : Tet) → Contains rows t → (f : Face)
     → (lies_on f t ≡ true) ⊎ (lies_on (reversed f) t ≡ true) → IsMarkedFace marks f → Contains near.rows t
 near_sides marks rows near h t c f (inl on) m = near_row marks rows near h t c f on m
 near_sides marks rows near h t c f (inr on) m = near_row marks rows near h t c (reversed f) on (marked_back marks f m)
@@ -112,10 +113,10 @@ module _ (ps : List Point) (old : List Tet) (c : Change) (list : IsDelaunayList 
   pub row_at : (t : Tet) → Contains c.rows t → IsRow ps t
   row_at t m = row_of t (h.added.others t m)
 
-  pub all_rows : AreRows ps c.rows
+  pub all_rows : AreArrangedRows ps c.rows
   all_rows k d l = row_at (slice_index_or c.rows k d) (Contains-get_or c.rows k d l)
 
-  pub near_rows : AreRows ps c.near.rows
+  pub near_rows : AreArrangedRows ps c.near.rows
   near_rows k d l = row_at (slice_index_or c.near.rows k d) (h.near.within (slice_index_or c.near.rows k d) (Contains-get_or c.near.rows k d l))
 
   pub near_paired : IsPairedGrowth ps c.near
@@ -205,8 +206,8 @@ module _ (ps : List Point) (old : List Tet) (c : Change) (list : IsDelaunayList 
       beside s t cs ct apart fs ft m =
           let p = (row_at s cs).1 in
           let q = (row_at t ct).1 in
-          let marked = added_sides s m (oriented face) (on_sides ps s face p fs) in
-          even_pair ps c.near.rows faces s t p q apart face fs ft open_face (near_sides c.marks.items c.rows c.near h.near t ct (oriented face) (on_sides ps t face q ft) marked) (even_of s m)
+          let marked = added_sides s m (as_oriented face) (on_sides ps s face p fs) in
+          even_pair ps c.near.rows faces s t p q apart face fs ft open_face (near_sides c.marks.items c.rows c.near h.near t ct (as_oriented face) (on_sides ps t face q ft) marked) (even_of s m)
 
       pair : (s t : Tet) → Contains c.rows s → Contains c.rows t → ShareNoSide s t → Contains (row_faces s) face → Contains (row_faces t) face → IsLocallyDelaunay ps s t
       pair s t cs ct apart fs ft = go (h.added.others s cs) (h.added.others t ct)
@@ -247,7 +248,7 @@ triangle_in rows near k within f = let m = within f.1 (f.0, f.2, f.3) in (m.0, f
 
 -- so it is with the first i rows
 pub record IsNearBelow (marks : List Bool) (rows : List Tet) (near : Growth) (i : ℕ) : Type 0 where
-  pub within : IsWithin rows near.rows
+  pub within : AreAmong rows near.rows
   pub others : AllWithin (λ t. Contains near.rows t ⊎ HasNoMarkedFace marks t) rows 0 i
   pub one_a_side : AllPairs ShareNoSide near.rows
   pub indexed : IsIndexed near
@@ -294,7 +295,7 @@ near_taken marks rows before after i row l h is none e indexed = record {
     by t (inl c) = h.within t c
     by t (inr e) = subst (Contains rows) e (i, l, is row)
 
-pub near_all : (marks : List Bool) (rows : List Tet) (near : Growth) (i : ℕ) → length rows ≤ i → IsNearBelow marks rows near i → IsNear marks rows near
+pub near_all : (marks : List Bool) (rows : List Tet) (near : Growth) (i : ℕ) → length rows ≤ i → IsNearBelow marks rows near i → HoldsNearRows marks rows near
 near_all marks rows near i l h = record {
   within = h.within;
   others = λ t c. subst (λ t. Contains near.rows t ⊎ HasNoMarkedFace marks t) c.2 (h.others c.0 t (omega arith) (below c.0 c.1));

@@ -11,25 +11,26 @@ use Rattle.geo_laws.specs.declared.tetrahedra.Tet.{Tet}
 use Rattle.geo_laws.specs.declared.complex.FacetTriangle.{FacetTriangle}
 use Rattle.geo_laws.proofs.Corners.{contains_below, all_within}
 use Rattle.geo_laws.proofs.Members.{IsMember, some_true, any_true}
-use Rattle.insert_laws.specs.Insertion.{IsFaceOf, HasNoneBeyond}
+use Rattle.insert_laws.specs.Insertion.{IsFaceOf, HasNoneAmongBeyond}
 use Rattle.insert_laws.proofs.Insert.{law_face_pairing}
 use Rattle.crossing_laws.specs.Crossing.{faces_of, is_same}
 use Rattle.crossing_laws.proofs.Faces.{Same, same_of, same_test, same_back, opposite_back, side-same}
 use Rattle.refill_laws.proofs.SameFaces.{face_of_row, own_is_face, at_place}
-use Rattle.tangle_laws.specs.Tangle.{IsUncrossed, lies_on, HasPointOn}
+use Rattle.tangle_laws.specs.Tangle.{lies_on, HasPointOn}
 use Rattle.tangle_laws.proofs.Apart.{fails_true}
 use Rattle.tangle_laws.proofs.Sides.{same_alike}
 use Rattle.tangle_laws.proofs.Steps.{on_of_delaunay}
 use Rattle.tangle_fill.specs.Indexed.{IsIndexed}
-use Rattle.tangle_fill.specs.Removed.{IsWithin, IsRemoved, IsBareIn}
+use Rattle.tangle_fill.specs.Removed.{AreAmong, IsRemoved, IsBareIn}
 use Rattle.tangle_fill.specs.Change.{IsRest}
 use Rattle.tangle_fill.specs.declared.growth.Growth.{Growth}
+use Rattle.geo_laws.specs.Facet.{IsUncrossed}
 
 -- ---- one row after another
 
 -- so it is with the first i rows of the list
 pub record IsRemovedBelow (old rows rest : List Tet) (i : ℕ) : Type 0 where
-  pub within : IsWithin old rest
+  pub within : AreAmong old rest
   pub others : AllWithin (λ t. Contains rows t ⊎ Contains rest t) old 0 i
 
 pub removed_none : (old rows : List Tet) → IsRemovedBelow old rows [] 0
@@ -84,7 +85,7 @@ removed_of old rows rest removed h same indexed = record {
 
 -- ---- rows of a Delaunay list
 
-pub removed_positive : (ps : List Point) (old rest : List Tet) → IsDelaunayList ps old → IsWithin old rest → (t : Tet) → Contains rest t → IsOn ps t × IsPositive (corners ps t)
+pub removed_positive : (ps : List Point) (old rest : List Tet) → IsDelaunayList ps old → AreAmong old rest → (t : Tet) → Contains rest t → IsOn ps t × IsPositive (corners ps t)
 removed_positive ps old rest list within t c = let d = (list.exactly t).0 (within t c) in (on_of_delaunay ps t d, d.is_positive)
 
 -- where facets cross the removed rows, those that none crosses are kept
@@ -118,7 +119,7 @@ row_beyond ps old f list b p =
         face : IsFaceOf ps (reversed (reversed g)) u
         face = let place = at_place u g m in subst (λ (h : Face). IsFaceOf ps h u) (sym place.is) (own_is_face ps u d.is_positive place.place)
 
-        go : HasNoneBeyond ps (all_numbers ps) (reversed g) ⊎ ((s : Tet) × IsDelaunayAmong ps (all_numbers ps) s × IsFaceOf ps (reversed g) s) → (s : Tet) × Contains old s × (lies_on f s ≡ true)
+        go : HasNoneAmongBeyond ps (all_numbers ps) (reversed g) ⊎ ((s : Tet) × IsDelaunayAmong ps (all_numbers ps) s × IsFaceOf ps (reversed g) s) → (s : Tet) × Contains old s × (lies_on f s ≡ true)
         go (inl beyond) = absurd (beyond p.0 (contains_below (length ps) p.0 p.1) (subst (λ v. pos 0 <ℤ v) (side-same ps (point ps p.0) f (reversed g) same) p.2))
         go (inr s) = across g same s.0 s.1 s.2
 

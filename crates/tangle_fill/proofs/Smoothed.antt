@@ -20,7 +20,7 @@ use Rattle.tangle_laws.specs.Growth.{ShareNoSide, IsSmooth}
 use Rattle.tangle_laws.proofs.Apart.{fails_true}
 use Rattle.tangle_laws.proofs.Sides.{same_alike, side_of_face}
 use Rattle.tangle_laws.proofs.Sorted.{row_face}
-use Rattle.tangle_fill.specs.Fill.{oriented, AreSmooth}
+use Rattle.tangle_fill.specs.Fill.{as_oriented, AreSmooth}
 use Rattle.tangle_fill.specs.Smooth.{IsSmoothAt, IsSmoothBelow, IsWholeGrowth}
 use Rattle.tangle_fill.specs.declared.growth.Growth.{Growth}
 
@@ -49,11 +49,11 @@ only_one rows apart s t cs ct f on_s on_t = go (found_of rows s (member_of rows 
 -- ---- the rows on the two sides of a face
 
 -- those that are found are all
-pub smooth_pair : (ps : List Point) (ts : List FacetTriangle) (g : Growth) (face : sorted_face.Face) (s t : Tet) → IsWholeGrowth ps ts g → Contains g.rows s × (lies_on (oriented face) s ≡ true) → Contains g.rows t × (lies_on (reversed (oriented face)) t ≡ true)
+pub smooth_pair : (ps : List Point) (ts : List FacetTriangle) (g : Growth) (face : sorted_face.Face) (s t : Tet) → IsWholeGrowth ps ts g → Contains g.rows s × (lies_on (as_oriented face) s ≡ true) → Contains g.rows t × (lies_on (reversed (as_oriented face)) t ≡ true)
     → AreSmooth ps ts s t → IsSmoothAt ps ts g.rows face
 smooth_pair ps ts g face s t whole hs ht smooth u v cu cv on_u on_v =
-    subst (λ (w : Tet). AreSmooth ps ts w v) (only_one g.rows whole.one_a_side s u hs.0 cu (oriented face) hs.1 on_u)
-    (subst (AreSmooth ps ts s) (only_one g.rows whole.one_a_side t v ht.0 cv (reversed (oriented face)) ht.1 on_v) smooth)
+    subst (λ (w : Tet). AreSmooth ps ts w v) (only_one g.rows whole.one_a_side s u hs.0 cu (as_oriented face) hs.1 on_u)
+    (subst (AreSmooth ps ts s) (only_one g.rows whole.one_a_side t v ht.0 cv (reversed (as_oriented face)) ht.1 on_v) smooth)
 
 -- ---- all rows
 
@@ -61,7 +61,7 @@ turned : (ps : List Point) (ts : List FacetTriangle) (s t : Tet) → AreSmooth p
 turned ps ts s t h = record { smooth = λ o. let l = h.smooth (o.0, o.2, o.1, o.3) in (l.1, l.0) }
 
 pub all_smooth : (ps : List Point) (ts : List FacetTriangle) (g : Growth) → IsWholeGrowth ps ts g → All (λ t. AllByRecursion (IsSmoothBelow ps ts g.rows t) (row_faces t)) g.rows → IsSmooth ps ts g.rows
-all_smooth ps ts g whole all i j d l k face fs ft none = go (side_of_face (oriented face) s (row_face ps s s_row.is_positive face (member_of (row_faces s) face fs)).has) (side_of_face (oriented face) t (row_face ps t t_row.is_positive face (member_of (row_faces t) face ft)).has)
+all_smooth ps ts g whole all i j d l k face fs ft none = go (side_of_face (as_oriented face) s (row_face ps s s_row.is_positive face (member_of (row_faces s) face fs)).has) (side_of_face (as_oriented face) t (row_face ps t t_row.is_positive face (member_of (row_faces t) face ft)).has)
   where
     rows : List Tet
     rows = g.rows
@@ -99,9 +99,9 @@ all_smooth ps ts g whole all i j d l k face fs ft none = go (side_of_face (orien
     smooth : AreSmooth ps ts (slice_index_or g.rows i d) (slice_index_or g.rows j d) → IsLocallyDelaunay ps (slice_index_or g.rows i d) (slice_index_or g.rows j d)
     smooth h = h.smooth (face, fs, ft, none)
 
-    go : (lies_on (oriented face) (slice_index_or g.rows i d) ≡ true) ⊎ (lies_on (reversed (oriented face)) (slice_index_or g.rows i d) ≡ true)
-        → (lies_on (oriented face) (slice_index_or g.rows j d) ≡ true) ⊎ (lies_on (reversed (oriented face)) (slice_index_or g.rows j d) ≡ true) → IsLocallyDelaunay ps (slice_index_or g.rows i d) (slice_index_or g.rows j d)
-    go (inl a) (inl b) = absurd (not_both _ _ apart (oriented face) a b)
+    go : (lies_on (as_oriented face) (slice_index_or g.rows i d) ≡ true) ⊎ (lies_on (reversed (as_oriented face)) (slice_index_or g.rows i d) ≡ true)
+        → (lies_on (as_oriented face) (slice_index_or g.rows j d) ≡ true) ⊎ (lies_on (reversed (as_oriented face)) (slice_index_or g.rows j d) ≡ true) → IsLocallyDelaunay ps (slice_index_or g.rows i d) (slice_index_or g.rows j d)
+    go (inl a) (inl b) = absurd (not_both _ _ apart (as_oriented face) a b)
     go (inl a) (inr b) = smooth (below_s a _ _ cs ct a b)
     go (inr a) (inl b) = smooth (turned ps ts _ _ (below_t b _ _ ct cs b a))
-    go (inr a) (inr b) = absurd (not_both _ _ apart (reversed (oriented face)) a b)
+    go (inr a) (inr b) = absurd (not_both _ _ apart (reversed (as_oriented face)) a b)

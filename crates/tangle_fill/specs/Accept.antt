@@ -11,10 +11,10 @@ use Rattle.geo_laws.specs.OrientedFace.{reversed}
 use Rattle.geo_laws.specs.declared.faces.Face.{Face}
 use Rattle.geo_laws.specs.declared.tetrahedra.Tet.{Tet}
 use Rattle.geo_laws.specs.declared.complex.FacetTriangle.{FacetTriangle}
-use Rattle.tangle_laws.specs.Tangle.{lies_on, has_face, facet_face}
-use Rattle.tangle_laws.specs.Growth.{ShareNoSide, triangle_face}
+use Rattle.tangle_laws.specs.Tangle.{lies_on, has_face_either_way, facet_face}
+use Rattle.tangle_laws.specs.Growth.{ShareNoSide, sorted_triangle}
 use Rattle.tangle_fill.specs.Indexed.{IsIndexed}
-use Rattle.tangle_fill.specs.Fill.{oriented}
+use Rattle.tangle_fill.specs.Fill.{as_oriented}
 use Rattle.tangle_fill.specs.declared.growth.Growth.{Growth}
 
 -- on the points, positive and in the least even arrangement
@@ -22,22 +22,22 @@ abbrev pub IsRow : List Point → Tet → Type 0
 IsRow ps t = IsOn ps t × IsPositive (corners ps t) × IsArranged t
 
 -- each row is so
-abbrev pub AreRows : List Point → List Tet → Type 0
-AreRows ps rows = All (IsRow ps) rows
+abbrev pub AreArrangedRows : List Point → List Tet → Type 0
+AreArrangedRows ps rows = All (IsRow ps) rows
 
 -- rows that are so, found by the sides on which they lie, no two of them on one side of a face
 pub record IsPairedGrowth (ps : List Point) (g : Growth) : Type 0 where
-  pub rows : AreRows ps g.rows
+  pub rows : AreArrangedRows ps g.rows
   pub one_a_side : AllPairs ShareNoSide g.rows
   pub indexed : IsIndexed g
 
 -- the facet triangle is a face of a row
 abbrev pub HasTriangle : List Tet → FacetTriangle → Type 0
-HasTriangle rows k = Any (λ t. IsTrue (has_face (facet_face k) t)) rows
+HasTriangle rows k = Any (λ t. IsTrue (has_face_either_way (facet_face k) t)) rows
 
 -- each of the faces is a facet triangle
 abbrev pub AreTriangleFaces : List FacetTriangle → List Face → Type 0
-AreTriangleFaces ts faces = (face : Face) → Contains faces face → Contains (map triangle_face ts) face
+AreTriangleFaces ts faces = (face : Face) → Contains faces face → Contains (map sorted_triangle ts) face
 
 -- the rows are locally Delaunay, where the face is not among the faces
 abbrev pub IsEven : List Point → List Face → Face → Tet → Tet → Type 0
@@ -50,8 +50,8 @@ IsEvenTo ps faces rows row face across = (t : Tet) → Contains rows t → IsTru
 -- so it is with each on the other side of the face
 abbrev pub IsEvenAcross : List Point → List Face → List Tet → Tet → Face → Type 0
 IsEvenAcross ps faces rows row face =
-    (IsTrue (lies_on (oriented face) row) → IsEvenTo ps faces rows row face (reversed (oriented face)))
-    × (lies_on (oriented face) row ≡ false → IsEvenTo ps faces rows row face (oriented face))
+    (IsTrue (lies_on (as_oriented face) row) → IsEvenTo ps faces rows row face (reversed (as_oriented face)))
+    × (lies_on (as_oriented face) row ≡ false → IsEvenTo ps faces rows row face (as_oriented face))
 
 -- so it is with each face of the row
 abbrev pub IsEvenRow : List Point → List Face → List Tet → Tet → Type 0

@@ -9,21 +9,19 @@ use Rattle.geo_laws.specs.declared.tetrahedra.Tet.{Tet}
 use Rattle.crossing_laws.specs.Crossing.{faces_of}
 use Rattle.tangle_laws.specs.Tangle.{lies_on}
 use Rattle.tangle_laws.specs.Growth.{ShareNoSide, IsFilled}
-use Rattle.tangle_fill.specs.Accept.{AreRows}
+use Rattle.tangle_fill.specs.Accept.{AreArrangedRows}
 use Rattle.tangle_fill.specs.Indexed.{IsIndexed}
-use Rattle.tangle_fill.specs.Removed.{IsWithin, IsRemoved}
+use Rattle.tangle_fill.specs.Removed.{AreAmong, IsRemoved}
 use Rattle.tangle_fill.specs.declared.change.Change.{Change}
 use Rattle.tangle_fill.specs.declared.growth.Growth.{Growth}
+use Rattle.geo_laws.specs.Marks.{is_marked}
 
 -- the rows of the list that are not in the other one
 pub record IsRest (list other rest : List Tet) : Type 0 where
-  pub within : IsWithin list rest
+  pub within : AreAmong list rest
   pub others : (t : Tet) → Contains list t → Contains other t ⊎ Contains rest t
 
 -- ---- marks at points
-
-abbrev pub is_marked : List Bool → ℕ → Bool
-is_marked marks i = slice_index_or marks i false
 
 -- what was marked still is
 abbrev pub KeepsMarks : List Bool → List Bool → Type 0
@@ -56,8 +54,8 @@ pub record IsPutApart (before after : Growth) (row : Tet) : Type 0 where
   pub apart : All (λ t. list_any (λ f. lies_on f t) (faces_of row) ≡ false) before.rows
 
 -- those of the rows that have a marked face, and maybe more, found by their sides; no two of them on one side of a face
-pub record IsNear (marks : List Bool) (rows : List Tet) (near : Growth) : Type 0 where
-  pub within : IsWithin rows near.rows
+pub record HoldsNearRows (marks : List Bool) (rows : List Tet) (near : Growth) : Type 0 where
+  pub within : AreAmong rows near.rows
   pub others : (t : Tet) → Contains rows t → Contains near.rows t ⊎ HasNoMarkedFace marks t
   pub one_a_side : AllPairs ShareNoSide near.rows
   pub indexed : IsIndexed near
@@ -66,10 +64,10 @@ pub record IsNear (marks : List Bool) (rows : List Tet) (near : Growth) : Type 0
 pub record IsChange (ps : List Point) (old : List Tet) (c : Change) : Type 0 where
   pub added : IsRest c.rows old c.added
   pub removed : IsRemoved old c.rows c.removed
-  pub added_rows : AreRows ps c.added
+  pub added_rows : AreArrangedRows ps c.added
   pub added_marked : All (IsMarkedRow c.marks.items) c.added
   pub removed_marked : All (IsMarkedRow c.marks.items) c.removed.rows
-  pub near : IsNear c.marks.items c.rows c.near
+  pub near : HoldsNearRows c.marks.items c.rows c.near
 
 -- where the face is marked, a row lies on its positive side, or no point
 abbrev pub IsFilledNear : List Point → Change → Face → Type 0

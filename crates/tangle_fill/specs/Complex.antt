@@ -3,10 +3,10 @@ use Rattle.std.specs.Prelude.{◌^◌, ◌-◌, ◌<◌, length}
 use Rattle.sign_predicates.specs.Orientation.{IsPositive}
 use Rattle.geo_laws.specs.Delaunay.{corners, IsOn}
 use Rattle.geo_laws.specs.declared.tetrahedra.Tet.{Tet}
-use Rattle.tangle_laws.specs.Tangle.{IsUncrossed}
 use Rattle.box_tree.specs.Bodies.{IsPointTree, IsTriangleTree}
 use Rattle.tangle_fill.specs.Fill.{AreFacetTriangles}
 use Rattle.tangle_fill.specs.declared.complex.IndexedComplex.{IndexedComplex}
+use Rattle.geo_laws.specs.Facet.{IsUncrossed}
 
 -- triangles of facets on points whose numbers have 32 bits, and the trees of their boxes and of those of the points
 pub record IsIndexedComplex (c : IndexedComplex) : Type 0 where

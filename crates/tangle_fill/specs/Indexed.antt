@@ -9,21 +9,21 @@ use Rattle.tangle_fill.specs.declared.growth.FaceSide.{FaceSide}
 use Rattle.tangle_fill.specs.declared.growth.Growth.{Growth}
 
 -- the same corners in the same order
-abbrev pub same_side : FaceSide → FaceSide → Bool
-same_side p q = (p.face.a == q.face.a && p.face.b == q.face.b) && p.face.c == q.face.c
+abbrev pub same_face_side : FaceSide → FaceSide → Bool
+same_face_side p q = (p.face.a == q.face.a && p.face.b == q.face.b) && p.face.c == q.face.c
 
-abbrev pub side_of : Face → FaceSide
-side_of f = record { face = record { a = f.a; b = f.b; c = f.c } }
+abbrev pub face_side_of : Face → FaceSide
+face_side_of f = record { face = record { a = f.a; b = f.b; c = f.c } }
 
 -- the row has this face with its corners in this order
 abbrev pub has_side : Tet → FaceSide → Bool
-has_side t q = list_any (λ f. same_side (side_of f) q) (faces_of t)
+has_side t q = list_any (λ f. same_face_side (face_side_of f) q) (faces_of t)
 
 -- the faces of the rows lead to their rows, and nothing else leads anywhere
 pub record IsIndexed (g : Growth) : Type 0 where
-  pub found : (q : FaceSide) → IfSome (get same_side g.sides q) (λ t. Contains g.rows t × IsTrue (has_side t q))
-  pub none : (q : FaceSide) → get same_side g.sides q ≡ None → All (λ t. has_side t q ≡ false) g.rows
+  pub found : (q : FaceSide) → IfSome (get same_face_side g.sides q) (λ t. Contains g.rows t × IsTrue (has_side t q))
+  pub none : (q : FaceSide) → get same_face_side g.sides q ≡ None → All (λ t. has_side t q ≡ false) g.rows
 
 -- the one side leads to the row, and all others lead where they led
-abbrev pub IsPut : {S : Type 0} → IndexMap FaceSide Tet S → IndexMap FaceSide Tet S → FaceSide → Tet → Type 0
-IsPut old new p row = (q : FaceSide) → get same_side new q ≡ cond (same_side p q) (Some row) (get same_side old q)
+abbrev pub IsSidePut : {S : Type 0} → IndexMap FaceSide Tet S → IndexMap FaceSide Tet S → FaceSide → Tet → Type 0
+IsSidePut old new p row = (q : FaceSide) → get same_face_side new q ≡ cond (same_face_side p q) (Some row) (get same_face_side old q)

@@ -7,12 +7,12 @@ use Rattle.tangle_fill.specs.Indexed.{IsIndexed}
 use Rattle.tangle_fill.specs.declared.growth.Growth.{Growth}
 
 -- the rows are among the old ones
-abbrev pub IsWithin : List Tet → List Tet → Type 0
-IsWithin old rest = (t : Tet) → Contains rest t → Contains old t
+abbrev pub AreAmong : List Tet → List Tet → Type 0
+AreAmong old rest = (t : Tet) → Contains rest t → Contains old t
 
 -- rows of the old list, found by the sides on which they lie; each further row of it is among the new ones
 pub record IsRemoved (old rows : List Tet) (removed : Growth) : Type 0 where
-  pub within : IsWithin old removed.rows
+  pub within : AreAmong old removed.rows
   pub others : (t : Tet) → Contains old t → Contains rows t ⊎ Contains removed.rows t
   pub indexed : IsIndexed removed
 

@@ -7,17 +7,17 @@ use Rattle.geo_laws.specs.declared.tetrahedra.Tet.{Tet}
 use Rattle.geo_laws.specs.declared.complex.FacetTriangle.{FacetTriangle}
 use Rattle.tangle_laws.specs.Tangle.{lies_on}
 use Rattle.tangle_laws.specs.Growth.{ShareNoSide}
-use Rattle.tangle_fill.specs.Fill.{oriented, AreSmooth, IsWhole}
+use Rattle.tangle_fill.specs.Fill.{as_oriented, AreSmooth, IsWhole}
 use Rattle.tangle_fill.specs.Indexed.{IsIndexed}
 use Rattle.tangle_fill.specs.declared.growth.Growth.{Growth}
 
 -- rows on the two sides of the face are locally Delaunay
 abbrev pub IsSmoothAt : List Point → List FacetTriangle → List Tet → Face → Type 0
-IsSmoothAt ps ts rows face = (s t : Tet) → Contains rows s → Contains rows t → IsTrue (lies_on (oriented face) s) → IsTrue (lies_on (reversed (oriented face)) t) → AreSmooth ps ts s t
+IsSmoothAt ps ts rows face = (s t : Tet) → Contains rows s → Contains rows t → IsTrue (lies_on (as_oriented face) s) → IsTrue (lies_on (reversed (as_oriented face)) t) → AreSmooth ps ts s t
 
 -- so they are where the row lies on the face's positive side
 abbrev pub IsSmoothBelow : List Point → List FacetTriangle → List Tet → Tet → Face → Type 0
-IsSmoothBelow ps ts rows row face = IsTrue (lies_on (oriented face) row) → IsSmoothAt ps ts rows face
+IsSmoothBelow ps ts rows row face = IsTrue (lies_on (as_oriented face) row) → IsSmoothAt ps ts rows face
 
 -- a growth over the whole hull, of whose rows no two lie on one side of a face
 pub record IsWholeGrowth (ps : List Point) (ts : List FacetTriangle) (g : Growth) : Type 0 where

@@ -4,13 +4,14 @@ ghost use Rattle.sign_predicates.specs.Orientation.{IsPositive};
 ghost use Rattle.geo_laws.specs.Delaunay.{corners, IsOn, IsDelaunayList, RowBefore};
 ghost use Rattle.geo_laws.specs.OrientedFace.{reversed};
 ghost use Rattle.geo_laws.specs.declared.tetrahedra.Tet.{Tet};
-ghost use Rattle.tangle_laws.specs.Tangle.{IsUncrossed, lies_on};
-ghost use Rattle.tangle_laws.specs.Growth.{IsAlone, IsSmooth, IsRefilled};
-ghost use Rattle.tangle_fill.specs.Fill.{oriented, IsFaceOn, AreFacetTriangles};
+ghost use Rattle.tangle_laws.specs.Tangle.{lies_on};
+ghost use Rattle.tangle_laws.specs.Growth.{IsAlone, IsSmooth, IsGrownList};
+ghost use Rattle.tangle_fill.specs.Fill.{as_oriented, IsFaceOn, AreFacetTriangles};
 ghost use Rattle.tangle_fill.specs.Indexed.{IsIndexed};
-ghost use Rattle.tangle_fill.specs.Removed.{IsWithin, IsBareIn};
+ghost use Rattle.tangle_fill.specs.Removed.{AreAmong, IsBareIn};
 ghost use Rattle.tangle_fill.specs.Accept.{IsPairedGrowth, HasTriangle, AreTriangleFaces, IsEven, IsEvenTo, IsEvenAcross, IsEvenRow};
 ghost use Rattle.tangle_fill.specs.Change.{IsChange, IsFilledNear, IsClosedNear};
+ghost use Rattle.geo_laws.specs.Facet.{IsUncrossed};
 
 use crate::change::{Change, change_of, is_marked_face};
 use crate::crossed::uncrossed_near;
@@ -34,9 +35,9 @@ fn holds_row(list: &TetList, row: Tet) -> bool
 /// positive side. The row is one of those that have the face behind it.
 fn is_bare_side(list: &TetList, removed: &Growth, row: Tet, f: Face) -> bool
     requires indexed { IsIndexed removed.now }
-    requires within { IsWithin list.now removed.now.rows }
-    requires row { IsTrue (lies_on (reversed (oriented f)) row) }
-    ensures { IsTrue result → IsBareIn list.now removed.now.rows (oriented f) }
+    requires within { AreAmong list.now removed.now.rows }
+    requires row { IsTrue (lies_on (reversed (as_oriented f)) row) }
+    ensures { IsTrue result → IsBareIn list.now removed.now.rows (as_oriented f) }
 {
     if let Some(_) = removed.row_on(f) {
         return false;
@@ -55,9 +56,9 @@ fn is_filled(points: &Points, list: &TetList, change: &Change, row: Tet, f: Face
     requires few { length points.now < 2 ^ 32 - 1 }
     requires delaunay { IsDelaunayList points.now list.now }
     requires face { IsFaceOn points.now f }
-    requires row { IsTrue (lies_on (reversed (oriented f)) row) }
+    requires row { IsTrue (lies_on (reversed (as_oriented f)) row) }
     requires change { IsChange points.now list.now change.now }
-    ensures { IsTrue result → IsFilledNear points.now change.now (oriented f) }
+    ensures { IsTrue result → IsFilledNear points.now change.now (as_oriented f) }
 {
     if !is_marked_face(&change.marks, f) {
         return true;
@@ -206,7 +207,7 @@ fn is_even_to(
     requires paired { IsPairedGrowth points.now growth.now }
     requires row { Contains growth.now.rows row }
     ensures { IsTrue result
-        → IsEvenTo points.now faces.now growth.now.rows row face (oriented across) }
+        → IsEvenTo points.now faces.now growth.now.rows row face (as_oriented across) }
 {
     match growth.row_on(across) {
         Some(other) => is_even_pair(points, faces, row, other, face),
@@ -262,7 +263,7 @@ fn is_even_row(points: &Points, faces: &Items<Face>, growth: &Growth, row: Tet) 
 /// Whether so it is with each of these rows.
 fn are_even(points: &Points, faces: &Items<Face>, growth: &Growth, rows: &TetList) -> bool
     requires paired { IsPairedGrowth points.now growth.now }
-    requires rows { IsWithin growth.now.rows rows.now }
+    requires rows { AreAmong growth.now.rows rows.now }
     ensures { IsTrue result → All (IsEvenRow points.now faces.now growth.now.rows) rows.now }
 {
     for j in 0..rows.len() {
@@ -345,7 +346,7 @@ fn is_refilled(
     requires change { IsChange points.now list.now change.now }
     requires ascending { AllPairs RowBefore change.now.rows }
     ensures { IfOk result (λ refilled. IsTrue refilled
-        → IsRefilled points.now triangles.now list.now change.now.rows) }
+        → IsGrownList points.now triangles.now list.now change.now.rows) }
 {
     if !is_single(points, list, change) {
         return Ok(false);
@@ -377,7 +378,7 @@ pub(crate) fn accepted_by(
     requires few { length points.now < 2 ^ 32 - 1 }
     requires facets { AreFacetTriangles points.now triangles.now }
     requires delaunay { IsDelaunayList points.now list.now }
-    ensures { IfOk result (λ found. IfSome found (IsRefilled points.now triangles.now list.now)) }
+    ensures { IfOk result (λ found. IfSome found (IsGrownList points.now triangles.now list.now)) }
 {
     candidate.keep_distinct();
     let Some(change) = change_of(alloc, points, list, triangles, candidate)? else {
@@ -404,7 +405,7 @@ pub fn accepted(
     requires few { length points.now < 2 ^ 32 - 1 }
     requires facets { AreFacetTriangles points.now triangles.now }
     requires delaunay { IsDelaunayList points.now list.now }
-    ensures { IfOk result (λ found. IfSome found (IsRefilled points.now triangles.now list.now)) }
+    ensures { IfOk result (λ found. IfSome found (IsGrownList points.now triangles.now list.now)) }
 {
     let unknown = Items::new(alloc);
     accepted_by(alloc, points, list, triangles, candidate, &unknown)

@@ -3,11 +3,12 @@
 ghost use Rattle.std.specs.Prelude.{◌≡◌, false, IsTrue, IfOk, IfSome, OnOk, All, Contains};
 ghost use Rattle.sign_predicates.specs.Orientation.{IsPositive};
 ghost use Rattle.geo_laws.specs.Delaunay.{IsOn, IsArranged};
-ghost use Rattle.tangle_fill.specs.Fill.{oriented};
+ghost use Rattle.tangle_fill.specs.Fill.{as_oriented};
 ghost use Rattle.tangle_fill.specs.Indexed.{IsIndexed};
 ghost use Rattle.tangle_fill.specs.Removed.{IsRemoved};
-ghost use Rattle.tangle_fill.specs.Accept.{IsRow, AreRows};
-ghost use Rattle.tangle_fill.specs.Change.{IsRest, is_marked, KeepsMarks, IsMarkedRow, IsMarkedFace, HasNoMarkedFace, IsPutApart, IsNear, IsChange};
+ghost use Rattle.tangle_fill.specs.Accept.{IsRow, AreArrangedRows};
+ghost use Rattle.tangle_fill.specs.Change.{IsRest, KeepsMarks, IsMarkedRow, IsMarkedFace, HasNoMarkedFace, IsPutApart, HoldsNearRows, IsChange};
+ghost use Rattle.geo_laws.specs.Marks.{is_marked};
 
 use crate::admit::{is_arranged, is_row};
 use crate::growth::Growth;
@@ -39,7 +40,7 @@ fn is_any_row(points: &Points, row: Tet) -> bool
 
 /// Whether each row is.
 fn are_rows(points: &Points, rows: &TetList) -> bool
-    ensures { IsTrue result → AreRows points.now rows.now }
+    ensures { IsTrue result → AreArrangedRows points.now rows.now }
 {
     for i in 0..rows.len() {
         if !is_any_row(points, rows.at(i)) {
@@ -176,7 +177,7 @@ fn is_marked(marks: &[bool], number: u32) -> bool
 
 /// Whether all corners of the face are marked.
 pub(crate) fn is_marked_face(marks: &[bool], f: Face) -> bool
-    ensures { result ≡ false → ¬ IsMarkedFace marks.now (oriented f) }
+    ensures { result ≡ false → ¬ IsMarkedFace marks.now (as_oriented f) }
 {
     is_marked(marks, f.a) && is_marked(marks, f.b) && is_marked(marks, f.c)
 }
@@ -213,7 +214,7 @@ fn near_of(
     rows: &TetList,
     likely: usize,
 ) -> Result<Option<Growth>, NoMemory>
-    ensures { IfOk result (λ found. IfSome found (IsNear marks.now rows.now)) }
+    ensures { IfOk result (λ found. IfSome found (HoldsNearRows marks.now rows.now)) }
 {
     let mut near = Growth::with_room(alloc, likely)?;
     for i in 0..rows.len() {

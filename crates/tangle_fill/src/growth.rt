@@ -9,8 +9,8 @@ ghost use Rattle.geo_laws.specs.Delaunay.{IsArranged};
 ghost use Rattle.crossing_laws.specs.Crossing.{faces_of};
 ghost use Rattle.tangle_laws.specs.Tangle.{lies_on};
 ghost use Rattle.geo_laws.specs.declared.tetrahedra.Tet.{Tet};
-ghost use Rattle.tangle_fill.specs.Fill.{oriented};
-ghost use Rattle.tangle_fill.specs.Indexed.{same_side, IsIndexed, IsPut};
+ghost use Rattle.tangle_fill.specs.Fill.{as_oriented};
+ghost use Rattle.tangle_fill.specs.Indexed.{same_face_side, IsIndexed, IsSidePut};
 
 use crate::nudge::all_four;
 use geo_laws::{Face, Tet, TetList};
@@ -54,7 +54,7 @@ impl Hash for FaceSide {
 /// The face with its corners in the same cyclic order, the least one first, as in a row in its
 /// least even arrangement.
 fn turned(f: Face) -> Face
-    ensures { (t : Tet) → lies_on (oriented result) t ≡ lies_on (oriented f) t }
+    ensures { (t : Tet) → lies_on (as_oriented result) t ≡ lies_on (as_oriented f) t }
 {
     let Face { a, b, c } = f;
     let least = a.min(b).min(c);
@@ -99,7 +99,7 @@ impl Growth {
 
     /// The row that is kept for these corners in this order.
     fn row_of(&self, face: Face) -> Option<Tet>
-        ensures { result ≡ get same_side self.now.sides (record { face = face }) }
+        ensures { result ≡ get same_face_side self.now.sides (record { face = face }) }
     {
         self.sides.get(&FaceSide { face }).copied()
     }
@@ -108,8 +108,8 @@ impl Growth {
     /// corners that most rows keep is looked for first.
     pub(crate) fn row_on(&self, f: Face) -> Option<Tet>
         requires { IsIndexed self.now }
-        ensures { MatchOption result (All (λ t. lies_on (oriented f) t ≡ false) self.now.rows)
-            (λ t. Contains self.now.rows t × IsTrue (lies_on (oriented f) t)) }
+        ensures { MatchOption result (All (λ t. lies_on (as_oriented f) t ≡ false) self.now.rows)
+            (λ t. Contains self.now.rows t × IsTrue (lies_on (as_oriented f) t)) }
     {
         self.row_round(turned(f))
     }
@@ -117,8 +117,8 @@ impl Growth {
     /// The same, by the corners in this order, and turned once and twice.
     fn row_round(&self, f: Face) -> Option<Tet>
         requires { IsIndexed self.now }
-        ensures { MatchOption result (All (λ t. lies_on (oriented f) t ≡ false) self.now.rows)
-            (λ t. Contains self.now.rows t × IsTrue (lies_on (oriented f) t)) }
+        ensures { MatchOption result (All (λ t. lies_on (as_oriented f) t ≡ false) self.now.rows)
+            (λ t. Contains self.now.rows t × IsTrue (lies_on (as_oriented f) t)) }
     {
         let Face { a, b, c } = f;
         if let Some(row) = self.row_of(f) {
@@ -152,9 +152,9 @@ impl Growth {
     /// Keeps the row for the corners of a face of it; whether none was kept for them.
     fn put_side(&mut self, face: Face, row: Tet) -> Result<bool, NoMemory>
         ensures rows { OnOk result (self.new.rows ≡ self.old.rows) }
-        ensures put { OnOk result (IsPut self.old.sides self.new.sides (record { face = face }) row) }
+        ensures put { OnOk result (IsSidePut self.old.sides self.new.sides (record { face = face }) row) }
         ensures free { IfOk result (λ free. IsTrue free
-            → get same_side self.old.sides (record { face = face }) ≡ None) }
+            → get same_face_side self.old.sides (record { face = face }) ≡ None) }
     {
         let kept = self.sides.insert(FaceSide { face }, row)?;
         Ok(kept.is_none())

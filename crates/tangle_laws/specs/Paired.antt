@@ -9,8 +9,9 @@ use Rattle.geo_laws.specs.OrientedFace.{reversed}
 use Rattle.geo_laws.specs.declared.tetrahedra.Tet.{Tet}
 use Rattle.geo_laws.specs.declared.complex.FacetTriangle.{FacetTriangle}
 use Rattle.crossing_laws.specs.Crossing.{faces_of}
-use Rattle.tangle_laws.specs.Tangle.{IsUncrossed, has_face, facet_face}
-use Rattle.tangle_laws.specs.Growth.{ShareNoSide, IsFilled, IsAlone, Ascend, IsSmooth, IsRefilled}
+use Rattle.tangle_laws.specs.Tangle.{has_face_either_way, facet_face}
+use Rattle.tangle_laws.specs.Growth.{ShareNoSide, IsFilled, IsAlone, Ascend, IsSmooth, IsGrownList}
+use Rattle.geo_laws.specs.Facet.{IsUncrossed}
 
 -- Ascending positive rows, among them the uncrossed ones of the old list, no two of which lie on one side of a face; across each face lies
 -- a row, or no point; each facet triangle is a face
@@ -20,10 +21,10 @@ pub record IsPaired (ps : List Point) (ts : List FacetTriangle) (old rows : List
   pub kept : (t : Tet) → Contains old t → IsUncrossed ps ts t → Contains rows t
   pub one_a_side : AllPairs ShareNoSide rows
   pub across : All (λ t. AllByRecursion (λ f. IsFilled ps rows (reversed f)) (faces_of t)) rows
-  pub facets : All (λ k. Any (λ t. IsTrue (has_face (facet_face k) t)) rows) ts
+  pub facets : All (λ k. Any (λ t. IsTrue (has_face_either_way (facet_face k) t)) rows) ts
 
 -- A paired list in which one row alone holds its centroid, locally Delaunay across each common face that is no facet triangle, keeps the
 -- whole promise of a refilled list
-abbrev pub PairedLaw : Type 0
-PairedLaw = (ps : List Point) (ts : List FacetTriangle) (old rows : List Tet) → Ascend ts → IsPaired ps ts old rows
-    → (t : Tet) → Contains rows t → IsAlone ps rows t → IsSmooth ps ts rows → IsRefilled ps ts old rows
+abbrev pub PairedListLaw : Type 0
+PairedListLaw = (ps : List Point) (ts : List FacetTriangle) (old rows : List Tet) → Ascend ts → IsPaired ps ts old rows
+    → (t : Tet) → Contains rows t → IsAlone ps rows t → IsSmooth ps ts rows → IsGrownList ps ts old rows

@@ -2,7 +2,7 @@
 
 ghost use Rattle.std.specs.Prelude.{◌≡◌, ◌≤◌, ℕ, List, Option, OnOk, IsErrOf};
 ghost use Rattle.tet_ports.specs.Counts.{Rose};
-ghost use Rattle.tet_ports.specs.Written.{PartlyPut, with_piece};
+ghost use Rattle.tet_ports.specs.Written.{PartlyPut, with_written};
 ghost use Rattle.tet_ports.specs.declared.sink.PutFault.TheVariants.{Failed, NoMemory as PutNoMemory};
 
 use crate::NoMemory;
@@ -44,7 +44,7 @@ pub trait Sink {
     /// `NoMemory`, with nothing appended.
     fn put(&mut self, piece: &[u8]) -> Result<(), PutFault>
         ensures appended { OnOk result (written self.new
-            ≡ with_piece (written self.old) piece.now) }
+            ≡ with_written (written self.old) piece.now) }
         ensures failed { IsErrOf result Failed → Rose (faults self.old) (faults self.new) }
         ensures partly { IsErrOf result Failed
             → PartlyPut (written self.old) piece.now (written self.new) }

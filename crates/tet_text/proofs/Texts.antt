@@ -9,7 +9,7 @@ use Rattle.std.proofs.lemmas.Int.Digits.{digits_of_step}
 use Rattle.std.proofs.lemmas.Nat.{div_below}
 use Rattle.std.proofs.Math.ListN.{drop_of_length-le}
 use Rattle.std.proofs.Math.Nat.{pow-suc}
-use Rattle.tet_text.specs.Printing.{glyphs, numeral, with_point}
+use Rattle.tet_text.specs.Printing.{glyphs, numeral, with_decimal_point}
 
 pub numeral_zero : (n : ℕ) → n ≡ 0 → numeral n ≡ 48 ∷ []
 unfolding numeral
@@ -45,19 +45,19 @@ digits_left n (suc k) some small =
     let one : suc k - 1 ≡ k = omega arith in
     (omega arith, rw one lt)
 
-pointed : (body : List ℕ) (scale : ℕ) → 0 < scale → length body ≡ scale → with_point scale (48 ∷ body) ≡ 48 ∷ 46 ∷ body
+pointed : (body : List ℕ) (scale : ℕ) → 0 < scale → length body ≡ scale → with_decimal_point scale (48 ∷ body) ≡ 48 ∷ 46 ∷ body
 pointed body scale some e =
     let one : suc (length body) - scale ≡ 1 = omega arith in
     rw (one, ne_eqb scale 0 (λ z. omega arith)) refl
 
 -- a number below one: a zero before the point
-pub fraction_text : (out digits : List ℕ) (scale : ℕ) → 0 < length digits → length digits ≤ scale → (out ++ 48 ∷ 46 ∷ replicate (scale - length digits) 48) ++ digits ≡ out ++ with_point scale (replicate (scale + 1 - length digits) 48 ++ digits)
+pub fraction_text : (out digits : List ℕ) (scale : ℕ) → 0 < length digits → length digits ≤ scale → (out ++ 48 ∷ 46 ∷ replicate (scale - length digits) 48) ++ digits ≡ out ++ with_decimal_point scale (replicate (scale + 1 - length digits) 48 ++ digits)
 fraction_text out digits scale some few =
     let k = scale - length digits in
     let body = replicate k 48 ++ digits in
     let more : scale + 1 - length digits ≡ suc k = omega arith in
     let long : length body ≡ scale = length-append (replicate k 48) digits ∙ ap (λ (n : ℕ). n + length digits) (length-replicate k 48) ∙ omega arith in
-    append_assoc out (48 ∷ 46 ∷ replicate k 48) digits ∙ ap (λ (t : List ℕ). out ++ t) (sym (pointed body scale (omega arith) long)) ∙ ap (λ (n : ℕ). out ++ with_point scale (replicate n 48 ++ digits)) (sym more)
+    append_assoc out (48 ∷ 46 ∷ replicate k 48) digits ∙ ap (λ (t : List ℕ). out ++ t) (sym (pointed body scale (omega arith) long)) ∙ ap (λ (n : ℕ). out ++ with_decimal_point scale (replicate n 48 ++ digits)) (sym more)
 
 -- where no zero is in front
 pub no_zeros : (digits : List ℕ) (scale : ℕ) → scale < length digits → replicate (scale + 1 - length digits) 48 ++ digits ≡ digits

@@ -8,3 +8,4 @@ pub mod Faults
 pub mod Printing
 pub mod Reading
 pub mod Laws
+pub mod Repeated

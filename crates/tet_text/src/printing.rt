@@ -1,7 +1,7 @@
 //! Decimals as text.
 
 ghost use Rattle.std.specs.Prelude.{◌≡◌, ◌<◌, ◌≤◌, ◌+◌, ◌-◌, ◌*◌, ◌^◌, ◌++◌, [], ◌∷◌, length, take, drop, replicate, OnOk, OnErr};
-ghost use Rattle.tet_text.specs.Printing.{glyphs, numeral, with_point, with_zeros, size_text, sign_text, decimal_text};
+ghost use Rattle.tet_text.specs.Printing.{glyphs, numeral, with_decimal_point, with_zeros, size_text, sign_text, decimal_text};
 
 use crate::Decimal;
 use tet_ports::{Bytes, NoMemory};
@@ -85,7 +85,7 @@ fn put_fraction(digits: &[u8], scale: u64, out: &mut Bytes) -> Result<(), NoMemo
 
 fn put_with_point(digits: &[u8], scale: u64, out: &mut Bytes) -> Result<(), NoMemory>
     requires { scale < length digits.now }
-    ensures ok { OnOk result (out.new ≡ out.old ++ with_point scale digits.now) }
+    ensures ok { OnOk result (out.new ≡ out.old ++ with_decimal_point scale digits.now) }
     ensures err { OnErr result (take (length out.old) out.new ≡ out.old) }
 {
     let (whole, fraction) = digits.split_at(digits.len() - scale as usize);
@@ -100,7 +100,7 @@ fn put_with_point(digits: &[u8], scale: u64, out: &mut Bytes) -> Result<(), NoMe
 #[tactic(auto, using(crate::proofs::Texts::fraction_text, crate::proofs::Texts::no_zeros))]
 fn put_digits(digits: &[u8], scale: u64, out: &mut Bytes) -> Result<(), NoMemory>
     requires { 0 < length digits.now }
-    ensures ok { OnOk result (out.new ≡ out.old ++ with_point scale (with_zeros scale digits.now)) }
+    ensures ok { OnOk result (out.new ≡ out.old ++ with_decimal_point scale (with_zeros scale digits.now)) }
     ensures err { OnErr result (take (length out.old) out.new ≡ out.old) }
 {
     if digits.len() > scale as usize {

@@ -22,7 +22,7 @@ use Rattle.run_steps.specs.declared.status.Status.TheVariants.{Usage, NoFill, No
 use Rattle.tet_ports.specs.Files.{Files}
 use Rattle.tetgen_run.proofs.Endings.{answers_same}
 use Rattle.tetfit_run.specs.Outputs.{FitWordsAnswer, IsFitUsage, IsFittedTo, MadeBy, OutputsOfFit, Says, fit_limits}
-use Rattle.tetfit_run.specs.Run.{IsAnswer, IsComplete}
+use Rattle.tetfit_run.specs.Run.{IsFitAnswer, IsFitComplete}
 
 -- ---- the words
 
@@ -129,6 +129,6 @@ made_same Mesh told words seen h =
     and_then_same (FitWordsAnswer (others words)) (λ options. AndThen (ModelAnswer fit_limits seen options) (IsFittedTo options)) (words_once (others words))
     (λ options. and_then_same (ModelAnswer fit_limits seen options) (IsFittedTo options) (model_once told seen options h) (fitted_same options))
 
-pub answer_complete : (words : List (List ℕ)) (folder : FolderSeen) (out : SinkSeen) (s : Status) → IsAnswer words folder out s → IsComplete words folder out s
+pub answer_complete : (words : List (List ℕ)) (folder : FolderSeen) (out : SinkSeen) (s : Status) → IsFitAnswer words folder out s → IsFitComplete words folder out s
 answer_complete words folder out s h told e f n other m k =
     answers_same (OutputsOfFit words folder) (made_same (request_of words) told words folder (record { files = e; no_fault = f.0 })) folder out f s other n m h k

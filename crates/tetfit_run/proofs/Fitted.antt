@@ -35,7 +35,7 @@ use Rattle.tetgen_run.specs.Stops.{stop_of_words}
 use Rattle.tetgen_run.specs.declared.stop.Stop.{Stop}
 use Rattle.tetgen_run.specs.declared.stop.Stop.TheVariants.{Refused, Unwritten, Unsummed, NoMemory as Wanting}
 use Rattle.tetfit_run.specs.Outputs.{FitWordsAnswer, IsFitUsage, IsFittedTo, IsMore, IsMoreBy, MadeBy, OutputsOfFit, OutputsOfModel, OutputsOfOptions, fit_limits, outputs_at}
-use Rattle.tetfit_run.specs.Run.{IsAskedBy, IsKnown, IsKnownOf, IsMeshOfModel, IsNumbering, IsNumberingOf, IsUnfitted, TellsOffGrid}
+use Rattle.tetfit_run.specs.Run.{IsAskedBy, IsKnown, IsKnownOf, IsMeshOfModel, IsFitNumbering, IsNumberingOf, IsUnfitted, TellsOffGrid}
 
 -- ---- answers
 
@@ -82,7 +82,7 @@ fit_refuses words folder = made_refuses (request_of words) words folder
 numbers_of : (options : Options) (folder : FolderSeen) (hint : List ℕ) → NumbersPoints (IsNumberingOf options folder hint)
 numbers_of options folder hint s by e = λ t. absurd (not_true (subst IsTrue e t))
 
-pub numbers_points : (words : List (List ℕ)) (folder : FolderSeen) (hint : List ℕ) → NumbersPoints (IsNumbering words folder hint)
+pub numbers_points : (words : List (List ℕ)) (folder : FolderSeen) (hint : List ℕ) → NumbersPoints (IsFitNumbering words folder hint)
 numbers_points words = numbers_of (options_of words)
 
 numbered : (folder : FolderSeen) (options : Options) (input : Input) (hint : List ℕ) (m : ℕ) (s : Status) (by : Option Numbering) → ModelAnswer fit_limits folder options (Ok input)
@@ -142,7 +142,7 @@ options_stop words folder hint options Wanting w h = tt
 
 -- what is known of the numbers
 pub ends_numbered : (Made : Result Outputs Status → Type 0) (words : List (List ℕ)) (folder : FolderSeen) (hint : List ℕ) (out : SinkSeen) (stop : Stop)
-    → EndsWith Made (IsKnown words folder hint) folder out (Err stop) → EndsWith Made (IsNumbering words folder hint) folder out (Err stop)
+    → EndsWith Made (IsKnown words folder hint) folder out (Err stop) → EndsWith Made (IsFitNumbering words folder hint) folder out (Err stop)
 ends_numbered Made words folder hint out (Refused s by) h = (h.0, h.1, h.2.0)
 ends_numbered Made words folder hint out (Unwritten text) h = h
 ends_numbered Made words folder hint out Unsummed h = h

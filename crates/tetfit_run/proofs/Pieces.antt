@@ -6,7 +6,7 @@ use Rattle.std.proofs.lemmas.List.{append-nil, append_assoc, take-append-drop}
 use Rattle.tet_ports.specs.Counts.{Rose}
 use Rattle.tet_ports.specs.declared.sink.PutFault.{PutFault}
 use Rattle.tet_ports.specs.declared.sink.PutFault.TheVariants.{Failed, NoMemory as PutNoMemory}
-use Rattle.tet_ports.specs.Written.{PartlyPut, with_piece}
+use Rattle.tet_ports.specs.Written.{PartlyPut, with_written}
 use Rattle.run_steps.specs.declared.numbering.Numbering.{Numbering}
 use Rattle.run_steps.specs.declared.status.Status.{Status}
 use Rattle.run_steps.specs.declared.status.Status.TheVariants.{NoMemory}
@@ -14,7 +14,7 @@ use Rattle.tetgen_run.specs.Ends.{IsPut, IsToldAs, answer_of, numbering_in}
 use Rattle.tetgen_run.specs.declared.stop.Stop.{Stop}
 use Rattle.tetfit_run.specs.Run.{AreStages}
 
-pub piece_append : (w : Option (List ℕ)) (a b : List ℕ) → with_piece (with_piece w a) b ≡ with_piece w (a ++ b)
+pub piece_append : (w : Option (List ℕ)) (a b : List ℕ) → with_written (with_written w a) b ≡ with_written w (a ++ b)
 piece_append None a b = refl
 piece_append (Some w) a b = ap Some (append_assoc w a b)
 
@@ -25,24 +25,24 @@ prefix_of k a b =
 
 -- a prefix of the first is one of both
 pub partly_first : (w now : Option (List ℕ)) (a b : List ℕ) → PartlyPut w a now → PartlyPut w (a ++ b) now
-partly_first w now a b h = (length (take h.0 a), h.1 ∙ ap (with_piece w) (sym (prefix_of h.0 a b)))
+partly_first w now a b h = (length (take h.0 a), h.1 ∙ ap (with_written w) (sym (prefix_of h.0 a b)))
 
 -- the first whole and a prefix of the second are a prefix of both
-pub partly_second : (w now : Option (List ℕ)) (a b : List ℕ) → PartlyPut (with_piece w a) b now → PartlyPut w (a ++ b) now
-partly_second w now a b h = (length a + h.0, h.1 ∙ piece_append w a (take h.0 b) ∙ ap (with_piece w) (sym (take-append-add a b h.0)))
+pub partly_second : (w now : Option (List ℕ)) (a b : List ℕ) → PartlyPut (with_written w a) b now → PartlyPut w (a ++ b) now
+partly_second w now a b h = (length a + h.0, h.1 ∙ piece_append w a (take h.0 b) ∙ ap (with_written w) (sym (take-append-add a b h.0)))
 
 rose_later : (a b c : ℕ) → c ≤ a → Rose a b → Rose c b
 rose_later a b c h r = omega arith
 
 -- a sink that took the first piece whole, and then the second so
-pub put_after : (front back : List ℕ) (before mid now : Option (List ℕ)) (fb fm fn wb wm wn : ℕ) → mid ≡ with_piece before front → fb ≤ fm → wb ≤ wm
+pub put_after : (front back : List ℕ) (before mid now : Option (List ℕ)) (fb fm fn wb wm wn : ℕ) → mid ≡ with_written before front → fb ≤ fm → wb ≤ wm
     → IsPut back (record { written_before = mid; written_now = now; faults_before = fm; faults_now = fn; wants_before = wm; wants_now = wn })
     → IsPut (front ++ back) (record { written_before = before; written_now = now; faults_before = fb; faults_now = fn; wants_before = wb; wants_now = wn })
-put_after front back before mid now fb fm fn wb wm wn e f w (inl h) = inl (h ∙ ap (λ s. with_piece s back) e ∙ piece_append before front back)
+put_after front back before mid now fb fm fn wb wm wn e f w (inl h) = inl (h ∙ ap (λ s. with_written s back) e ∙ piece_append before front back)
 put_after front back before mid now fb fm fn wb wm wn e f w (inr (p, inl r)) = inr (partly_second before now front back (subst (λ s. PartlyPut s back now) e p), inl (rose_later fm fn fb f r))
 put_after front back before mid now fb fm fn wb wm wn e f w (inr (p, inr r)) = inr (partly_second before now front back (subst (λ s. PartlyPut s back now) e p), inr (rose_later wm wn wb w r))
 
-nothing_put : (w : Option (List ℕ)) → with_piece w [] ≡ w
+nothing_put : (w : Option (List ℕ)) → with_written w [] ≡ w
 nothing_put None = refl
 nothing_put (Some w) = ap Some (append-nil w)
 
@@ -71,6 +71,6 @@ told_earlier message stop s before now fb fm fn wb wm wn f w (inr h) = inr (h.0,
 pub stages_after : (words : List (List ℕ)) (before mid now : Option (List ℕ)) → AreStages words before mid → AreStages words mid now → AreStages words before now
 stages_after words before mid now h k = record {
   lines = h.lines ++ k.lines;
-  more = k.more ∙ ap (λ w. with_piece w k.lines) h.more ∙ piece_append before h.lines k.lines;
+  more = k.more ∙ ap (λ w. with_written w k.lines) h.more ∙ piece_append before h.lines k.lines;
   none = λ e. k.none e ∙ h.none e;
 }

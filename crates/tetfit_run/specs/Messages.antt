@@ -9,8 +9,8 @@ use Rattle.run_steps.specs.declared.status.Status.{Status}
 use Rattle.run_steps.specs.declared.status.Status.TheVariants.{Usage, Missing, Limit, Flat, NotFlat, SegmentsCross, Crossing, GridEnd, BudgetEnd, NoFill}
 
 -- the line of the program for exact texts, with this program's name in place of its own
-abbrev pub renamed : List ℕ → List ℕ
-renamed line = codes "tetfit: " ++ drop 8 line
+abbrev pub renamed_program : List ℕ → List ℕ
+renamed_program line = codes "tetfit: " ++ drop 8 line
 
 -- what would help where a limit is passed
 abbrev pub help_of_limit : LimitKind → List ℕ
@@ -34,7 +34,7 @@ help_of status = []
 -- the line itself
 abbrev pub line_of : List (List ℕ) → Option Numbering → Status → List ℕ
 line_of words by (Usage word place) = refused_line words word place
-line_of words by status = renamed (message_of by status)
+line_of words by status = renamed_program (message_of by status)
 
 -- more is told of the model: a segment or parts of it, or a point that is off the grid
 abbrev pub has_hint : Status → Bool

@@ -21,7 +21,7 @@ use Rattle.run_steps.specs.declared.status.LimitKind.TheVariants.{Grid}
 use Rattle.run_steps.specs.declared.status.Status.{Status}
 use Rattle.run_steps.specs.declared.status.Status.TheVariants.{Limit, NoMemory}
 use Rattle.tet_ports.specs.Files.{Files}
-use Rattle.tet_ports.specs.Written.{with_piece}
+use Rattle.tet_ports.specs.Written.{with_written}
 use Rattle.tetgen_run.specs.Ends.{AnswersBy, HasNoFault, LeavesBy, TellsBy, names_points}
 use Rattle.tetgen_run.specs.Run.{IsMeshBy}
 use Rattle.tetgen_run.specs.declared.stop.Stop.{Stop}
@@ -31,15 +31,15 @@ use Rattle.tetfit_run.specs.Outputs.{IsMore, OutputsOfFit, fit_limits, outputs_a
 
 -- The cause of each answer. Done where there are outputs, and any other answer is the refusal of a step: of a mesh it is that of the run at
 -- some number of decimals, and at each greater number up to the first one that is tried the grid refuses
-abbrev pub IsAnswer : List (List ℕ) → FolderSeen → SinkSeen → Status → Type 0
-IsAnswer words folder = AnswersBy (OutputsOfFit words folder) folder
+abbrev pub IsFitAnswer : List (List ℕ) → FolderSeen → SinkSeen → Status → Type 0
+IsFitAnswer words folder = AnswersBy (OutputsOfFit words folder) folder
 
 -- where the files are told, no count of faults rose and memory was not wanting, each answer that has a cause is the answer, but for facets
 -- that are tangled, as of a run on exact texts
-abbrev pub IsComplete : List (List ℕ) → FolderSeen → SinkSeen → Status → Type 0
-IsComplete words folder out status =
+abbrev pub IsFitComplete : List (List ℕ) → FolderSeen → SinkSeen → Status → Type 0
+IsFitComplete words folder out status =
     (told : Files) → folder.files_before ≡ Some told → HasNoFault folder out → status ≢ NoMemory
-    → (other : Status) → other ≢ NoMemory → IsAnswer words folder out other → forced_answer status ≡ forced_answer other
+    → (other : Status) → other ≢ NoMemory → IsFitAnswer words folder out other → forced_answer status ≡ forced_answer other
 
 -- ---- what is left
 
@@ -63,8 +63,8 @@ IsAskedBy Version words folder outputs = outputs ≡ said VERSION.now
 IsAskedBy Mesh words folder outputs = IsMeshOfModel (others words) folder outputs
 
 -- what each answer leaves
-abbrev pub IsLeft : List (List ℕ) → FolderSeen → SinkSeen → Status → Type 0
-IsLeft words folder = LeavesBy (IsAskedBy (request_of words) words folder) folder
+abbrev pub IsFitLeft : List (List ℕ) → FolderSeen → SinkSeen → Status → Type 0
+IsFitLeft words folder = LeavesBy (IsAskedBy (request_of words) words folder) folder
 
 -- ---- what is told
 
@@ -88,8 +88,8 @@ IsNumberingOf options folder hint status by =
     × (by ≡ Some (numbering_of bound.table))
     × IsHintBy fit_limits (at_decimals m options) input (numbering_of bound.table) status hint
 
-abbrev pub IsNumbering : List (List ℕ) → FolderSeen → List ℕ → Status → Option Numbering → Type 0
-IsNumbering words = IsNumberingOf (options_of words)
+abbrev pub IsFitNumbering : List (List ℕ) → FolderSeen → List ℕ → Status → Option Numbering → Type 0
+IsFitNumbering words = IsNumberingOf (options_of words)
 
 -- what more is told of a point off the grid is its coordinates, if anything
 abbrev pub TellsOffGrid : Options → FolderSeen → List ℕ → Status → Type 0
@@ -111,12 +111,12 @@ after_stages err written = record err { written_before = written }
 -- what is told of the stages, only where they are asked for
 pub record AreStages (words : List (List ℕ)) (before now : Option (List ℕ)) : Type 0 where
   pub lines : List ℕ
-  pub more : now ≡ with_piece before lines
+  pub more : now ≡ with_written before lines
   pub none : asks_stages words ≡ false → now ≡ before
 
 -- the stages, where they are asked for, and then the message of each answer but Done
-abbrev pub IsTold : List (List ℕ) → FolderSeen → SinkSeen → Status → Type 0
-IsTold words folder err status =
+abbrev pub IsFitTold : List (List ℕ) → FolderSeen → SinkSeen → Status → Type 0
+IsFitTold words folder err status =
     (written : Option (List ℕ)) × AreStages words err.written_before written
     × (hint : List ℕ) × TellsOffGrid (options_of (others words)) folder hint status
-    × TellsBy (fit_message (others words) hint) (IsNumbering (others words) folder hint) (after_stages err written) status
+    × TellsBy (fit_message (others words) hint) (IsFitNumbering (others words) folder hint) (after_stages err written) status

@@ -5,7 +5,7 @@ ghost use Rattle.run_steps.specs.Seen.{sink_seen};
 ghost use Rattle.fit_words.specs.Words.{others};
 ghost use Rattle.tetgen_run.specs.Ends.{IsPut, IsTellable, IsToldAs};
 ghost use Rattle.tetfit_run.specs.Messages.{fit_message, has_hint, help_of, help_of_limit, hint_in};
-ghost use Rattle.tetfit_run.specs.Messages.{line_of, renamed};
+ghost use Rattle.tetfit_run.specs.Messages.{line_of, renamed_program};
 
 use fit_words::{other_words, refused_line};
 use run_steps::{LimitKind, Numbering, Status, message};
@@ -74,7 +74,7 @@ fn behind_name(line: &[u8]) -> &[u8]
 
 /// The line of the program for exact texts, with this program's name in place of its own.
 fn renamed(alloc: Global, line: &[u8]) -> Result<Bytes, NoMemory>
-    ensures { IfOk result (λ made. made ≡ renamed line.now) }
+    ensures { IfOk result (λ made. made ≡ renamed_program line.now) }
 {
     let mut made = Bytes::from_slice(alloc, NAME)?;
     made.append(behind_name(line))?;
@@ -155,7 +155,7 @@ fn put<E: Sink>(line: &[u8], err: &mut E)
 /// Puts the line of the program for exact texts with this program's name, where there may be no
 /// memory for it; a failure changes nothing.
 fn put_renamed<E: Sink>(line: &[u8], err: &mut E)
-    ensures { IsPut (renamed line.now) (sink_seen E.written E.faults E.wants err.old err.new) }
+    ensures { IsPut (renamed_program line.now) (sink_seen E.written E.faults E.wants err.old err.new) }
 {
     match err.put(NAME) {
         Ok(()) => put(behind_name(line), err),

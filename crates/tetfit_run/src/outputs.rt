@@ -3,7 +3,7 @@
 ghost use Rattle.std.specs.Prelude.{◌≡◌, ◌≤◌, ◌-◌, [], IfOk, IfErr, Ok, length, take};
 ghost use Rattle.command_words.specs.Meaning.{AreInRange};
 ghost use Rattle.fit_steps.specs.Trying.{IsFitted};
-ghost use Rattle.fit_words.specs.Words.{IsPlain, others, request_of};
+ghost use Rattle.fit_words.specs.Words.{IsPlainRequest, others, request_of};
 ghost use Rattle.run_steps.specs.Reading.{IsSound};
 ghost use Rattle.run_steps.specs.Seen.{folder_seen};
 ghost use Rattle.tetgen_run.specs.Ends.{StopsSo};
@@ -148,7 +148,7 @@ fn outputs_of_options<F: Folder>(
     hint: &mut Bytes,
 ) -> Result<Outputs, Stop>
     requires ranges { AreInRange options.now }
-    requires plain { IsPlain options.now }
+    requires plain { IsPlainRequest options.now }
     requires none { hint.old ≡ [] }
     ensures made { IfOk result (λ outputs. OutputsOfOptions options.now
         (folder_seen F.held F.faults F.misses folder.old folder.new) (Ok outputs)) }

@@ -5,7 +5,7 @@ ghost use Rattle.fit_words.specs.Words.{others};
 ghost use Rattle.run_steps.specs.Seen.{folder_seen, sink_seen};
 ghost use Rattle.tetgen_run.specs.Ends.{EndsWith};
 ghost use Rattle.tetfit_run.specs.Outputs.{OutputsOfFit};
-ghost use Rattle.tetfit_run.specs.Run.{AreStages, IsAnswer, IsComplete, IsKnown, IsLeft, IsTold};
+ghost use Rattle.tetfit_run.specs.Run.{AreStages, IsFitAnswer, IsFitComplete, IsKnown, IsFitLeft, IsFitTold};
 
 use crate::messages::tell;
 use crate::outputs::outputs_of;
@@ -28,16 +28,16 @@ pub fn run_fit<F: Folder, O: Sink, E: Sink>(
     out: &mut O,
     err: &mut E,
 ) -> Status
-    ensures answer { IsAnswer words.now
+    ensures answer { IsFitAnswer words.now
         (folder_seen F.held F.faults F.misses folder.old folder.new)
         (sink_seen O.written O.faults O.wants out.old out.new) result }
-    ensures complete { IsComplete words.now
+    ensures complete { IsFitComplete words.now
         (folder_seen F.held F.faults F.misses folder.old folder.new)
         (sink_seen O.written O.faults O.wants out.old out.new) result }
-    ensures left { IsLeft words.now
+    ensures left { IsFitLeft words.now
         (folder_seen F.held F.faults F.misses folder.old folder.new)
         (sink_seen O.written O.faults O.wants out.old out.new) result }
-    ensures told { IsTold words.now
+    ensures told { IsFitTold words.now
         (folder_seen F.held F.faults F.misses folder.old folder.new)
         (sink_seen E.written E.faults E.wants err.old err.new) result }
 {

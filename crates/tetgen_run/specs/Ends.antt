@@ -1,7 +1,7 @@
 -- How a run ends that makes outputs and stores them, whatever its steps are: what it answers, leaves and tells.
 use Rattle.std.specs.Prelude.{◌≡◌, ◌⊎◌, ℕ, Bool, true, false, IsTrue, List, Option, Some, None, Result, Ok, Err, Contains}
 use Rattle.tet_ports.specs.Counts.{Rose}
-use Rattle.tet_ports.specs.Written.{PartlyPut, with_piece}
+use Rattle.tet_ports.specs.Written.{PartlyPut, with_written}
 use Rattle.run_steps.specs.declared.numbering.Numbering.{Numbering}
 use Rattle.run_steps.specs.Seen.{FolderSeen, SinkSeen}
 use Rattle.run_steps.specs.Stores.{in_order, with_files, AreStoredTo, AreStoredInto, TellsFailure}
@@ -44,7 +44,7 @@ pub record IsUnchanged (folder : FolderSeen) (out : SinkSeen) : Type 0 where
 -- the bytes with the summary after them, where there is one
 abbrev pub with_summary : Option (List ℕ) → Option (List ℕ) → Option (List ℕ)
 with_summary written None = written
-with_summary written (Some line) = with_piece written line
+with_summary written (Some line) = with_written written line
 
 -- a prefix of the summary is appended
 abbrev pub PartlySummed : Option (List ℕ) → Option (List ℕ) → Option (List ℕ) → Type 0
@@ -83,7 +83,7 @@ names_points status = false
 -- the message is appended, or a prefix of it where the sink failed or wanted memory
 abbrev pub IsPut : List ℕ → SinkSeen → Type 0
 IsPut message err =
-    (err.written_now ≡ with_piece err.written_before message)
+    (err.written_now ≡ with_written err.written_before message)
     ⊎ (PartlyPut err.written_before message err.written_now × (Rose err.faults_before err.faults_now ⊎ Rose err.wants_before err.wants_now))
 
 -- Done tells nothing. Every other answer has its message, by such a numbering

@@ -3,9 +3,9 @@ use Rattle.std.specs.Prelude.{◌≡◌, ◌≢◌, ◌⊎◌, ◌++◌, ℕ, Li
 use Rattle.std.specs.List.{slice_index_or}
 use Rattle.tet_ports.specs.Counts.{Rose}
 use Rattle.tet_ports.specs.Files.{Files}
-use Rattle.tet_ports.specs.Written.{PartlyPut, with_piece}
+use Rattle.tet_ports.specs.Written.{PartlyPut, with_written}
 use Rattle.node_files.specs.declared.node_text.NodeText.{NodeText}
-use Rattle.check_steps.specs.Reading.{FileAnswer, nodes_of}
+use Rattle.check_steps.specs.Reading.{FileAnswer, nodes_in_text}
 use Rattle.check_steps.specs.Steps.{FolderSeen}
 use Rattle.check_steps.specs.Seen.{SinkSeen, IsMessagePut}
 use Rattle.check_steps.specs.declared.fault.CheckFault.{CheckFault}
@@ -45,7 +45,7 @@ IsAsBefore out = out.written_now ≡ out.written_before
 -- want of memory, which is free: nothing
 abbrev pub IsQueryAnswer : List (List ℕ) → FolderSeen → SinkSeen → WhereStatus → Type 0
 IsQueryAnswer words folder out Done = (lines : List ℕ) × FilesAnswer words folder (Ok lines)
-    × (out.written_now ≡ with_piece out.written_before lines)
+    × (out.written_now ≡ with_written out.written_before lines)
 IsQueryAnswer words folder out WriteFault = (lines : List ℕ) × FilesAnswer words folder (Ok lines)
     × PartlyPut out.written_before lines out.written_now × Rose out.faults_before out.faults_now
 IsQueryAnswer words folder out NoMemory = IsAsBefore out
@@ -65,7 +65,7 @@ IsCompleteQuery words folder out status =
 -- where a row is told, rows are numbered from this number on: that of the first point in the mesh's file of points
 abbrev pub IsFirstNumber : List (List ℕ) → FolderSeen → WhereStatus → ℕ → Type 0
 IsFirstNumber words folder (Unsound defect) first =
-    (nodes : NodeText) × FileAnswer folder (mesh_base_of words ++ codes ".node") nodes_of (Ok nodes) × (first ≡ nodes.first)
+    (nodes : NodeText) × FileAnswer folder (mesh_base_of words ++ codes ".node") nodes_in_text (Ok nodes) × (first ≡ nodes.first)
 IsFirstNumber words folder status first = Unit {0}
 
 -- Done tells nothing. Every other answer has its message
@@ -95,7 +95,7 @@ IsUnput lines out status = ⊥
 
 -- what the put of the lines leaves
 abbrev pub IsLinesPut : List ℕ → SinkSeen → Result (Unit {0}) Stop → Type 0
-IsLinesPut lines out (Ok done) = out.written_now ≡ with_piece out.written_before lines
+IsLinesPut lines out (Ok done) = out.written_now ≡ with_written out.written_before lines
 IsLinesPut lines out (Err stop) = IsUnput lines out stop.status
 
 -- only a fault of the sink comes after something was put

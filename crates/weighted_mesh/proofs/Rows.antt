@@ -20,7 +20,7 @@ use Rattle.insert_laws.specs.LowestCover.{IsLowestListAmong}
 use Rattle.cavity_insert.proofs.SlotRows.{slot_within}
 use Rattle.mesh_arena.specs.Mesh.{SlotValue, corners_at, corner_in}
 use Rattle.point_locate.specs.Place.{row_corners, IsAt}
-use Rattle.mesh_laws.specs.LowestLiving.{IsRowSlot, IsGhostSlot, IsLowestMesh}
+use Rattle.mesh_laws.specs.LowestLiving.{IsLowestRowSlot, IsLowestGhostSlot, IsLowestMesh}
 use Rattle.mesh_laws.proofs.LowestTaken.{no_ghost, same_corners}
 use Rattle.mesh_laws.proofs.LowestRows.{same_row}
 use Rattle.mesh_laws.proofs.LowestAcross.{infinite_corner}
@@ -40,7 +40,7 @@ arranged_of ps t p first second =
 
 module _ (lifts : ℕ → ℤ) (slots : List (Option SlotValue)) (ps : List Point) (ms : List ℕ) (mesh : IsLowestMesh lifts slots ps ms) where
   -- the least even arrangement of a row slot's corners is its row
-  row_is : (s : ℕ) (t row : Row) (slot : IsRowSlot lifts slots ps ms s t) → IsRowOf (row_corners t) row → row ≡ slot.row
+  row_is : (s : ℕ) (t row : Row) (slot : IsLowestRowSlot lifts slots ps ms s t) → IsRowOf (row_corners t) row → row ≡ slot.row
   row_is s t row slot is =
       let even : IsEvenOf t row = subst (λ (z : Row). IsEvenOf z row) (same_row is.four t (sym is.is)) is.even in
       let positive : IsPositive (corners ps row) = even_positive ps t row (even_of ps t row even) slot.is_positive in
@@ -50,11 +50,11 @@ module _ (lifts : ℕ → ℤ) (slots : List (Option SlotValue)) (ps : List Poin
       (λ i c. corner_to t row same i (corner_from t slot.row slot.same_corners i c))
 
   -- a slot of a tetrahedron of points is the slot of a row
-  pub slot_of_row : (s : ℕ) (t : Row) → corners_at slots s ≡ Some (row_corners t) → IsRowSlot lifts slots ps ms s t
+  pub slot_of_row : (s : ℕ) (t : Row) → corners_at slots s ≡ Some (row_corners t) → IsLowestRowSlot lifts slots ps ms s t
   slot_of_row s t e = by (mesh.each s (subst IsSome (sym e) refl))
     where
-      by : ((u : Row) × IsRowSlot lifts slots ps ms s u) ⊎ ((u : Row) × (k : ℕ) × IsGhostSlot lifts slots ps ms s u k) → IsRowSlot lifts slots ps ms s t
-      by (inl slot) = subst (IsRowSlot lifts slots ps ms s) (same_row slot.0 t (same_corners slots s (row_corners slot.0) (row_corners t) slot.1.is e)) slot.1
+      by : ((u : Row) × IsLowestRowSlot lifts slots ps ms s u) ⊎ ((u : Row) × (k : ℕ) × IsLowestGhostSlot lifts slots ps ms s u k) → IsLowestRowSlot lifts slots ps ms s t
+      by (inl slot) = subst (IsLowestRowSlot lifts slots ps ms s) (same_row slot.0 t (same_corners slots s (row_corners slot.0) (row_corners t) slot.1.is e)) slot.1
       by (inr ghost) = absurd (no_ghost t ghost.1 ghost.2.within (ap (λ o. corner_in o ghost.1) (sym e) ∙ infinite_corner lifts slots ps ms s ghost.1 ghost.0 ghost.2))
 
   lowest_at : (s : ℕ) (row : Row) → IsAt slots (λ cs. IsRowOf cs row) s → IsLowestAmong ps ms lifts row
@@ -72,7 +72,7 @@ module _ (lifts : ℕ → ℤ) (slots : List (Option SlotValue)) (ps : List Poin
       to : (row : Row) → (s : ℕ) × IsAt slots (λ cs. IsRowOf cs row) s → IsLowestAmong ps ms lifts row
       to row at = lowest_at at.0 row at.1
 
-      from : (row : Row) → (s : ℕ) × (t : Row) × (slot : IsRowSlot lifts slots ps ms s t) × (slot.row ≡ row) → Contains rows row
+      from : (row : Row) → (s : ℕ) × (t : Row) × (slot : IsLowestRowSlot lifts slots ps ms s t) × (slot.row ≡ row) → Contains rows row
       from row slot =
           let found = are.to slot.0 (slot_within slots slot.0 (row_corners slot.1) slot.2.is) slot.1 slot.2.is in
           subst (Contains rows) (row_is slot.0 slot.1 found.0 slot.2 found.2 ∙ slot.3) found.1

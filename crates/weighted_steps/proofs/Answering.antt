@@ -15,14 +15,14 @@ use Rattle.geo_laws.proofs.Members.{at_place, contains_of, member_of}
 use Rattle.node_files.specs.Folding.{IsFolded}
 use Rattle.node_files.specs.declared.table.NodeTable.{NodeTable}
 use Rattle.node_files.proofs.Folds.{name_below, names_long}
-use Rattle.point_weights.specs.Weights.{weight_of, behind, all_of, weights_of}
+use Rattle.point_weights.specs.Weights.{weight_of, weights_behind, all_of, weights_of}
 use Rattle.point_weights.specs.declared.fault.WeightFault.{WeightFault}
 use Rattle.point_weights.specs.declared.fault.WeightFault.TheVariants as read
 use Rattle.regular_laws.specs.Regular.{weight, AreWeightsOf, IsRegularList}
 use Rattle.regular_laws.proofs.Weighted.{law_weighted_cover, law_no_weights}
 use Rattle.weighted_steps.specs.Hidden.{hidden_count}
 use Rattle.weighted_steps.specs.Laws.{RegularListLaw, OneAnswerLaw}
-use Rattle.weighted_steps.specs.Meshing.{kept_weights, IsRegularMeshOf, IsUnmeshed}
+use Rattle.weighted_steps.specs.Meshing.{kept_weights, IsRegularMeshOf, HasNoRegularMesh}
 use Rattle.weighted_steps.specs.declared.fault.RegularFault.{RegularFault}
 use Rattle.weighted_steps.specs.declared.fault.RegularFault.TheVariants as faults
 use Rattle.weighted_steps.specs.declared.meshing.RegularMesh.{RegularMesh}
@@ -96,7 +96,7 @@ zeros table none (suc n) low =
     let later = zeros table none n (low + 1) in
     let others = map (weight_of table) (range_with_len (low + 1) n) in
     let first : weight_of table low ≡ Ok (pos 0) = cond-true _ _ _ (eq-eqb table.attribute_count 0 none) in
-    (pos 0 ∷ later.0, ap (λ r. all_of (r ∷ others)) first ∙ ap (behind (pos 0 ∷ [])) later.1, zero_first later.0 later.2)
+    (pos 0 ∷ later.0, ap (λ r. all_of (r ∷ others)) first ∙ ap (weights_behind (pos 0 ∷ [])) later.1, zero_first later.0 later.2)
   where
     zero_first : (ws : List ℤ) → ((i : ℕ) → weight ws i ≡ pos 0) → (i : ℕ) → weight (pos 0 ∷ ws) i ≡ pos 0
     zero_first ws all zero = refl
@@ -130,7 +130,7 @@ one_mesh table one two a b =
     let hidden = a.hidden ∙ ap (hidden_count (length table.points)) rows ∙ sym b.hidden in
     λ i. record { rows = rows i; hidden = hidden i }
 
-mesh_or_fault : (table : NodeTable) (mesh : RegularMesh) (fault : RegularFault) → IsRegularMeshOf table mesh → IsUnmeshed table fault → fault ≢ faults.NoMemory → ⊥
+mesh_or_fault : (table : NodeTable) (mesh : RegularMesh) (fault : RegularFault) → IsRegularMeshOf table mesh → HasNoRegularMesh table fault → fault ≢ faults.NoMemory → ⊥
 mesh_or_fault table mesh (faults.Text fault) a b n = no_clash (weights_of table) a.weights (read.Text fault) a.weights_are b
 mesh_or_fault table mesh (faults.TooHeavy line) a b n = no_clash (weights_of table) a.weights (read.TooHeavy line) a.weights_are b
 mesh_or_fault table mesh faults.Flat a b n = a.solid b.2
@@ -139,7 +139,7 @@ mesh_or_fault table mesh faults.NoMemory a b n = n refl
 same_refusal : (r : Result (List ℤ) WeightFault) (one two : WeightFault) → r ≡ Err one → r ≡ Err two → one ≡ two
 same_refusal r one two a b = cc
 
-one_fault : (table : NodeTable) (one two : RegularFault) → IsUnmeshed table one → IsUnmeshed table two → one ≢ faults.NoMemory → two ≢ faults.NoMemory → one ≡ two
+one_fault : (table : NodeTable) (one two : RegularFault) → HasNoRegularMesh table one → HasNoRegularMesh table two → one ≢ faults.NoMemory → two ≢ faults.NoMemory → one ≡ two
 one_fault table (faults.Text one) (faults.Text two) a b n m = let e = same_refusal (weights_of table) (read.Text one) (read.Text two) a b in cc
 one_fault table (faults.Text one) (faults.TooHeavy two) a b n m = let e = same_refusal (weights_of table) (read.Text one) (read.TooHeavy two) a b in absurd (cc)
 one_fault table (faults.Text one) faults.Flat a b n m = absurd (no_clash (weights_of table) b.0 (read.Text one) b.1 a)

@@ -3,12 +3,12 @@ use Rattle.std.proofs.Common.{◌≡◌, ℕ, suc, ◌+◌, ◌<◌, Bool, true,
 use Rattle.std.specs.Prelude.{not, count_by, ◌==◌, ◌↔◌, IsTrue, Any, Contains}
 use Rattle.std.specs.List.{range_with_len, list_any}
 use Rattle.std.proofs.lemmas.List.Sums.{sum_by-cons}
-use Rattle.cavity_insert.specs.Marks.{is_marked}
 use Rattle.geo_laws.specs.Delaunay.{numbers, has_corner}
 use Rattle.geo_laws.specs.declared.tetrahedra.Tet.{Tet}
 use Rattle.geo_laws.proofs.Members.{some_true, any_true, contains_of, member_of, found_of}
 use Rattle.regular_laws.specs.Regular.{IsHiddenPoint}
-use Rattle.weighted_steps.specs.Hidden.{is_hidden, hidden_count}
+use Rattle.weighted_steps.specs.Hidden.{is_corner_of_none, hidden_count}
+use Rattle.geo_laws.specs.Marks.{is_marked}
 
 -- ---- counts
 
@@ -29,8 +29,8 @@ counted_by_place p q (x ∷ xs) d low same =
 pub unmarked_are_hidden : (marks : List Bool) (n : ℕ) (rows : List Tet) → length marks ≡ n → ((i : ℕ) → is_marked marks i ≡ list_any (λ t. has_corner t i) rows)
     → count_by not marks ≡ hidden_count n rows
 unmarked_are_hidden marks n rows long same =
-    counted_by_place not (is_hidden rows) marks false 0 (λ k lt. ap not (same k) ∙ (let e : k ≡ 0 + k = omega arith in ap (is_hidden rows) e))
-    ∙ ap (λ (k : ℕ). count_by (is_hidden rows) (range_with_len 0 k)) long
+    counted_by_place not (is_corner_of_none rows) marks false 0 (λ k lt. ap not (same k) ∙ (let e : k ≡ 0 + k = omega arith in ap (is_corner_of_none rows) e))
+    ∙ ap (λ (k : ℕ). count_by (is_corner_of_none rows) (range_with_len 0 k)) long
 
 -- ---- hidden points
 
@@ -44,7 +44,7 @@ test_corner : (t : Tet) (i : ℕ) → Contains (numbers t) i → has_corner t i 
 test_corner t i c = any_true (λ j. j == i) (numbers t) i (member_of (numbers t) i c) (eq-eqb i i refl)
 
 -- a point counts as hidden where it is a corner of no row
-pub hidden_or_corner : (rows : List Tet) (i : ℕ) → IsTrue (is_hidden rows i) ↔ IsHiddenPoint rows i
+pub hidden_or_corner : (rows : List Tet) (i : ℕ) → IsTrue (is_corner_of_none rows i) ↔ IsHiddenPoint rows i
 hidden_or_corner rows i = (
   λ hidden any.
       let yes = any_true (λ t. has_corner t i) rows any.1 (member_of rows any.1 (any.0, any.2, any.3)) (test_corner any.1 i any.4) in

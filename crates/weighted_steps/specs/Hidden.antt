@@ -5,9 +5,9 @@ use Rattle.geo_laws.specs.Delaunay.{numbers_below, has_corner}
 use Rattle.geo_laws.specs.declared.tetrahedra.Tet.{Tet}
 
 -- whether the point with this number is a corner of no row
-abbrev pub is_hidden : List Tet → ℕ → Bool
-is_hidden rows i = not (list_any (λ t. has_corner t i) rows)
+abbrev pub is_corner_of_none : List Tet → ℕ → Bool
+is_corner_of_none rows i = not (list_any (λ t. has_corner t i) rows)
 
 -- how many of so many points are corners of no row
 abbrev pub hidden_count : ℕ → List Tet → ℕ
-hidden_count n rows = count_by (is_hidden rows) (numbers_below n)
+hidden_count n rows = count_by (is_corner_of_none rows) (numbers_below n)

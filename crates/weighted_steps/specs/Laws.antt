@@ -5,7 +5,7 @@ use Rattle.geo_laws.specs.Laws.{IsTriangulation}
 use Rattle.geo_laws.specs.declared.tetrahedra.Tet.{Tet}
 use Rattle.node_files.specs.declared.table.NodeTable.{NodeTable}
 use Rattle.regular_laws.specs.Regular.{IsRegularList, IsHiddenPoint}
-use Rattle.weighted_steps.specs.Hidden.{is_hidden}
+use Rattle.weighted_steps.specs.Hidden.{is_corner_of_none}
 use Rattle.weighted_steps.specs.Meshing.{RegularAnswer}
 use Rattle.weighted_steps.specs.declared.fault.RegularFault.{RegularFault}
 use Rattle.weighted_steps.specs.declared.fault.RegularFault.TheVariants.{NoMemory}
@@ -17,7 +17,7 @@ pub record RegularListLaw : Type 0 where
   pub triangulation : (ps : List Point) (ws : List ℤ) (rows : List Tet) → IsRegularList ps ws rows → IsTriangulation ps rows
   pub only : (ps : List Point) (ws : List ℤ) (rows others : List Tet) → IsRegularList ps ws rows → IsRegularList ps ws others
       → rows ≡ others
-  pub hidden : (rows : List Tet) (i : ℕ) → IsTrue (is_hidden rows i) ↔ IsHiddenPoint rows i
+  pub hidden : (rows : List Tet) (i : ℕ) → IsTrue (is_corner_of_none rows i) ↔ IsHiddenPoint rows i
 
 -- two answers of one list are the same, but for want of memory
 abbrev pub OneAnswerLaw : Type 0

@@ -36,12 +36,12 @@ pub record IsRegularMeshOf (table : NodeTable) (mesh : RegularMesh) : Type 0 whe
   pub hidden : mesh.hidden ≡ hidden_count (length table.points) mesh.rows
 
 -- Why there is no mesh: the first weight that is refused, or else kept points that all lie in one plane
-abbrev pub IsUnmeshed : NodeTable → RegularFault → Type 0
-IsUnmeshed table (faults.Text fault) = weights_of table ≡ Err (read.Text fault)
-IsUnmeshed table (faults.TooHeavy line) = weights_of table ≡ Err (read.TooHeavy line)
-IsUnmeshed table faults.Flat = (weights : List ℤ) × (weights_of table ≡ Ok weights) × AreCoplanar table.points
-IsUnmeshed table faults.NoMemory = Unit {0}
+abbrev pub HasNoRegularMesh : NodeTable → RegularFault → Type 0
+HasNoRegularMesh table (faults.Text fault) = weights_of table ≡ Err (read.Text fault)
+HasNoRegularMesh table (faults.TooHeavy line) = weights_of table ≡ Err (read.TooHeavy line)
+HasNoRegularMesh table faults.Flat = (weights : List ℤ) × (weights_of table ≡ Ok weights) × AreCoplanar table.points
+HasNoRegularMesh table faults.NoMemory = Unit {0}
 
 abbrev pub RegularAnswer : NodeTable → Result RegularMesh RegularFault → Type 0
 RegularAnswer table (Ok mesh) = IsRegularMeshOf table mesh
-RegularAnswer table (Err fault) = IsUnmeshed table fault
+RegularAnswer table (Err fault) = HasNoRegularMesh table fault

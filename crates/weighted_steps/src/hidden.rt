@@ -2,8 +2,8 @@
 
 ghost use Rattle.std.specs.Prelude.{ℕ, ◌≡◌, ◌<◌, ◌||◌, not, length, All, count_by, IfOk};
 ghost use Rattle.geo_laws.specs.Delaunay.{numbers, has_corner};
-ghost use Rattle.cavity_insert.specs.Marks.{is_marked};
 ghost use Rattle.weighted_steps.specs.Hidden.{hidden_count};
+ghost use Rattle.geo_laws.specs.Marks.{is_marked};
 
 use geo_laws::{Tet, TetList};
 use std::alloc::Global;

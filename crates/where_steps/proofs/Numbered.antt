@@ -5,7 +5,7 @@ use Rattle.mesh_check.specs.declared.defect.Defect.{Defect}
 use Rattle.mesh_check.specs.declared.defect.Defect.TheVariants.{NotPositive}
 use Rattle.node_files.specs.declared.node_text.NodeText.{NodeText}
 use Rattle.tet_text.specs.declared.fault.TextFault.{TextFault}
-use Rattle.check_steps.specs.Reading.{FileAnswer, nodes_of, rows_of}
+use Rattle.check_steps.specs.Reading.{FileAnswer, nodes_in_text, rows_of}
 use Rattle.check_steps.specs.Steps.{FolderSeen}
 use Rattle.check_steps.specs.declared.fault.CheckFault.TheVariants.{Unsound}
 use Rattle.where_steps.specs.Locating.{IsNegative, TextLocated, LocateAnswer}
@@ -19,9 +19,9 @@ unread seen name reading d first (inl h) = h
 unread seen name reading d first (inr h) = h.2
 
 unread_where : (seen : FolderSeen) (base queries : List ℕ) (d : Defect) (first : ℕ) → WhereTextAnswer seen base queries (Err (Unsound d first)) → ⊥
-unread_where seen base queries d first (inl h) = unread seen (base ++ codes ".node") nodes_of d first h
+unread_where seen base queries d first (inl h) = unread seen (base ++ codes ".node") nodes_in_text d first h
 unread_where seen base queries d first (inr (nodes, n, inl h)) = unread seen (base ++ codes ".ele") (rows_of nodes) d first h
-unread_where seen base queries d first (inr (nodes, n, inr (rows, r, inl h))) = unread seen queries nodes_of d first h
+unread_where seen base queries d first (inr (nodes, n, inr (rows, r, inl h))) = unread seen queries nodes_in_text d first h
 unread_where seen base queries d first (inr (nodes, n, inr (rows, r, inr (list, l, e)))) = absurd (cc)
 
 negative_first : (text : WhereText) (s : Settled) (d : Defect) (first : ℕ) → IsNegative text s (Unsound d first) → first ≡ text.nodes.first
@@ -34,6 +34,6 @@ located_first text d first (inr (s, h, inl n)) = negative_first text s d first n
 located_first text d first (inr (s, h, inr (done, p, e))) = absurd (cc)
 
 pub numbered : (seen : FolderSeen) (base queries : List ℕ) (d : Defect) (first : ℕ) → LocateAnswer seen base queries (Err (Unsound d first))
-    → (nodes : NodeText) × FileAnswer seen (base ++ codes ".node") nodes_of (Ok nodes) × (first ≡ nodes.first)
+    → (nodes : NodeText) × FileAnswer seen (base ++ codes ".node") nodes_in_text (Ok nodes) × (first ≡ nodes.first)
 numbered seen base queries d first (inl h) = absurd (unread_where seen base queries d first h)
 numbered seen base queries d first (inr (text, r, l)) = (r.0, r.1, located_first text d first l ∙ ap (λ (t : WhereText). t.nodes.first) r.2.2.2)

@@ -9,7 +9,7 @@ use Rattle.mesh_check.specs.Defects.{IsNotPositive}
 use Rattle.mesh_check.specs.declared.defect.Defect.TheVariants.{NotPositive}
 use Rattle.node_files.specs.LeastGrid.{point_on}
 use Rattle.tet_ports.specs.Files.{Files}
-use Rattle.check_steps.specs.Reading.{FileAnswer, nodes_of, rows_of}
+use Rattle.check_steps.specs.Reading.{FileAnswer, nodes_in_text, rows_of}
 use Rattle.check_steps.specs.Steps.{FolderSeen, Gives}
 use Rattle.check_steps.specs.declared.fault.CheckFault.TheVariants.{Missing, ReadFault, TooLong, BadText, TooMany, OffGrid, Unsound, NoMemory}
 use Rattle.check_steps.proofs.Once.{IsOnce, IsTold, and_then_once, file_once}
@@ -25,9 +25,9 @@ gives_once a (Err s) r n m h k = absurd (n h)
 
 text_once : (told : Files) (seen : FolderSeen) (base queries : List ℕ) → IsTold told seen → IsOnce (WhereTextAnswer seen base queries)
 text_once told seen base queries t =
-    and_then_once (FileAnswer seen (base ++ codes ".node") nodes_of) _ (file_once told seen (base ++ codes ".node") nodes_of t)
+    and_then_once (FileAnswer seen (base ++ codes ".node") nodes_in_text) _ (file_once told seen (base ++ codes ".node") nodes_in_text t)
     (λ nodes. and_then_once (FileAnswer seen (base ++ codes ".ele") (rows_of nodes)) _ (file_once told seen (base ++ codes ".ele") (rows_of nodes) t)
-    (λ rows. and_then_once (FileAnswer seen queries nodes_of) _ (file_once told seen queries nodes_of t)
+    (λ rows. and_then_once (FileAnswer seen queries nodes_in_text) _ (file_once told seen queries nodes_in_text t)
     (λ list. gives_once (record { nodes = nodes; rows = rows; queries = list }))))
 
 -- ---- the points

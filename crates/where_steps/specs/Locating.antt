@@ -5,10 +5,10 @@ use Rattle.std.specs.List.{flat_map, enumerate_from}
 use Rattle.grid_coords.specs.Units.{rational_point}
 use Rattle.grid_coords.specs.declared.points.DecimalPoint.{DecimalPoint}
 use Rattle.mesh_check.specs.Defects.{IsNotPositive}
-use Rattle.mesh_check.specs.Searches.{IsFirstOf}
+use Rattle.mesh_check.specs.Searches.{IsLeastOf}
 use Rattle.mesh_check.specs.declared.defect.Defect.TheVariants.{NotPositive}
 use Rattle.node_files.specs.LeastGrid.{least_grid_of, point_on}
-use Rattle.row_cells.specs.Where.{place_of}
+use Rattle.row_cells.specs.Where.{first_holding}
 use Rattle.check_steps.specs.Checking.{IsUnsettled, most_points}
 use Rattle.check_steps.specs.Steps.{FolderSeen, AndThen, Gives}
 use Rattle.check_steps.specs.declared.fault.CheckFault.{CheckFault}
@@ -30,12 +30,12 @@ SettledAnswer ps (Err fault) = IsUnsettled None ps fault
 
 -- the first row that is not positive
 abbrev pub IsNegative : WhereText → Settled → CheckFault → Type 0
-IsNegative text s (Unsound (NotPositive row) first) = (first ≡ text.nodes.first) × IsFirstOf (IsNotPositive s.points text.rows) (Some row)
+IsNegative text s (Unsound (NotPositive row) first) = (first ≡ text.nodes.first) × IsLeastOf (IsNotPositive s.points text.rows) (Some row)
 IsNegative text s fault = ⊥
 
 -- all rows are positive
 abbrev pub PositiveAnswer : WhereText → Settled → Result (Unit {0}) CheckFault → Type 0
-PositiveAnswer text s (Ok done) = IsFirstOf (IsNotPositive s.points text.rows) None
+PositiveAnswer text s (Ok done) = IsLeastOf (IsNotPositive s.points text.rows) None
 PositiveAnswer text s (Err fault) = IsNegative text s fault
 
 -- the number of a row, or -1 where there is none
@@ -47,7 +47,7 @@ found_row_text first (Some row) = decimal (row + first)
 abbrev pub query_line : WhereText → Settled → ℕ → DecimalPoint → List ℕ
 query_line text s place query =
     decimal (place + text.queries.first) ++ codes " "
-    ++ found_row_text text.nodes.first (place_of s.points text.rows (rational_point s.grid query)) ++ (10 ∷ [])
+    ++ found_row_text text.nodes.first (first_holding s.points text.rows (rational_point s.grid query)) ++ (10 ∷ [])
 
 -- the lines of queries from a place on
 abbrev pub query_lines : WhereText → Settled → ℕ → List DecimalPoint → List ℕ

@@ -1,7 +1,7 @@
 //! The answers to queries.
 
 ghost use Rattle.std.specs.Prelude.{◌≡◌, ◌≤◌, ◌<◌, ◌+◌, ◌-◌, ◌^◌, ◌++◌, length, All, IfOk, OnOk};
-ghost use Rattle.mesh_files.specs.ReadRows.{IsBelow};
+ghost use Rattle.mesh_files.specs.ReadRows.{AreCornersBelow};
 ghost use Rattle.row_cells.specs.Parts.{ArePositiveOn, StandsFor};
 ghost use Rattle.check_steps.specs.Steps.{folder_seen};
 ghost use Rattle.where_steps.specs.Locating.{found_row_text, query_line, answer_text, AnswersAnswer, TextLocated, LocateAnswer};
@@ -60,7 +60,7 @@ fn answers(alloc: Global, text: &WhereText, settled: &Settled) -> Result<Bytes, 
 }
 
 fn locate_text(alloc: Global, text: &WhereText) -> Result<Bytes, CheckFault>
-    requires { All (IsBelow (length text.now.nodes.decimals)) text.now.rows }
+    requires { All (AreCornersBelow (length text.now.nodes.decimals)) text.now.rows }
     ensures { TextLocated text.now result }
 {
     let settled = settle(alloc, &text.nodes.decimals)?;

@@ -1,7 +1,7 @@
 //! The files of a mesh, and a list of queries.
 
 ghost use Rattle.std.specs.Prelude.{◌≡◌, ◌≤◌, ◌<◌, ◌-◌, ◌^◌, length, All, IfOk};
-ghost use Rattle.mesh_files.specs.ReadRows.{IsBelow};
+ghost use Rattle.mesh_files.specs.ReadRows.{AreCornersBelow};
 ghost use Rattle.check_steps.specs.Steps.{folder_seen};
 ghost use Rattle.where_steps.specs.Reading.{WhereTextAnswer};
 
@@ -32,7 +32,7 @@ pub(crate) fn read_where<F: Folder>(
     ensures answer { WhereTextAnswer
         (folder_seen F.held F.faults F.misses folder.old folder.new)
         base.now queries.now result }
-    ensures there { IfOk result (λ text. All (IsBelow (length text.nodes.decimals)) text.rows) }
+    ensures there { IfOk result (λ text. All (AreCornersBelow (length text.nodes.decimals)) text.rows) }
     ensures few { IfOk result (λ text. length text.queries.decimals < 2 ^ 32 - 1) }
     ensures unchanged { F.held folder.new ≡ F.held folder.old }
     ensures faults { F.faults folder.old ≤ F.faults folder.new }

@@ -1,7 +1,7 @@
 //! The points of a mesh on their least grid, and whether its rows are positive.
 
 ghost use Rattle.std.specs.Prelude.{◌≡◌, length, All, IfOk};
-ghost use Rattle.mesh_files.specs.ReadRows.{IsBelow};
+ghost use Rattle.mesh_files.specs.ReadRows.{AreCornersBelow};
 ghost use Rattle.where_steps.specs.Locating.{SettledAnswer, PositiveAnswer};
 
 use crate::reading::WhereText;
@@ -40,7 +40,7 @@ pub(crate) fn settle(alloc: Global, decimals: &DecimalPoints) -> Result<Settled,
 /// Refuses with the first row that is not positive.
 pub(crate) fn want_positive(text: &WhereText, settled: &Settled) -> Result<(), CheckFault>
     requires count { length settled.now.points ≡ length text.now.nodes.decimals }
-    requires there { All (IsBelow (length text.now.nodes.decimals)) text.now.rows }
+    requires there { All (AreCornersBelow (length text.now.nodes.decimals)) text.now.rows }
     ensures { PositiveAnswer text.now settled.now result }
 {
     match first_not_positive(&settled.points, &text.rows) {

@@ -4,7 +4,7 @@
 
 ghost use Rattle.std.specs.Prelude.{◌≡◌, ◌<◌, ◌&&◌, None, length};
 ghost use Rattle.command_words.specs.Grammar.{is_name};
-ghost use Rattle.where_words.specs.Words.{is_named, bad_word};
+ghost use Rattle.where_words.specs.Words.{is_named_at, bad_word};
 
 use tet_ports::Words;
 
@@ -17,7 +17,7 @@ fn is_name(word: &[u8]) -> bool
 
 /// Whether a name stands at this place, from 0.
 fn is_named(words: &Words, i: usize) -> bool
-    ensures { result ≡ is_named words.now i }
+    ensures { result ≡ is_named_at words.now i }
 {
     i < words.len() && is_name(words.word(i).as_slice())
 }

@@ -15,7 +15,6 @@ use Rattle.node_files.specs.Point.{point_of, index_at, place_at, attributes_at, 
 use Rattle.node_files.proofs.Folds.{folded_distinct}
 use Rattle.plc_files.specs.Checks.{corners_check, first_fault}
 use Rattle.plc_files.specs.Plc.{facets_of, list_count, list_head_of, count_line, listed, plc_of}
-use Rattle.plc_files.specs.Repeated.{so_many}
 use Rattle.plc_files.specs.Text.{Plc}
 use Rattle.plc_files.specs.declared.form.Form.TheVariants.{Poly}
 use Rattle.worked_run.specs.Pyramid.{complex_bytes}
@@ -23,6 +22,7 @@ use Rattle.worked_run.proofs.Grid.{folded_are, places}
 use Rattle.worked_run.proofs.NonplanarText.{line_with}
 use Rattle.worked_run.proofs.Reading.{pyramid_text}
 use Rattle.worked_run.proofs.Rows.{at, grid_points}
+use Rattle.tet_text.specs.Repeated.{so_many}
 
 pub eight_lines : line_count_of complex_bytes ≡ 8
 unfolding lines_of

@@ -32,7 +32,7 @@ use Rattle.run_steps.specs.declared.status.Status.{Status}
 use Rattle.run_steps.specs.declared.status.Status.TheVariants.{NoFill, NoMemory}
 use Rattle.run_steps.proofs.Once.{bound_once, input_once}
 use Rattle.tetgen_run.specs.Ends.{IsPut}
-use Rattle.worked_run.specs.Nonplanar.{ChangesNothing, EndsNotFlat, IsRefused, TellsFacet, not_flat, nonplanar_bytes, nonplanar_start}
+use Rattle.worked_run.specs.Nonplanar.{ChangesNothing, EndsNotFlat, IsNonplanarRefused, TellsFacet, not_flat, nonplanar_bytes, nonplanar_start}
 use Rattle.worked_run.specs.Runs.{HasFile}
 use Rattle.worked_run.proofs.Grid.{pyramid_grid}
 use Rattle.worked_run.proofs.Rows.{row}
@@ -115,7 +115,7 @@ first = record { there = omega arith; before = All-nil (IsFlat nonplanar_points)
 unmeshed : MeshAnswer asking bound (Err not_flat)
 unmeshed = (fault.NotFlat 0 (row 0 1 2 3), refl, (not_coplanar, first))
 
-pub refused : IsRefused
+pub refused : IsNonplanarRefused
 refused folder has = inr (asking, (understood, sym asked), inr (input, read folder has, inr (bound, on_grid, inl unmeshed)))
 
 -- ---- the answer

@@ -25,14 +25,14 @@ use Rattle.plc_files.specs.Fields.{count_or_zero, some_count_at, whole_or_none}
 use Rattle.plc_files.specs.Folding.{folded_complex}
 use Rattle.plc_files.specs.Plc.{facets_of, list_count, list_head_of, count_line, listed, plc_of}
 use Rattle.plc_files.specs.Polygon.{corner_of, polygon_of}
-use Rattle.plc_files.specs.Repeated.{so_many}
-use Rattle.plc_files.specs.Text.{Facet, Plc}
+use Rattle.plc_files.specs.Text.{ReadFacet, Plc}
 use Rattle.plc_files.specs.declared.form.Form.TheVariants.{Poly}
 use Rattle.plc_files.specs.declared.parts.CornerText.{CornerText}
 use Rattle.worked_run.specs.Nonplanar.{nonplanar_bytes}
 use Rattle.worked_run.proofs.Grid.{pyramid_grid, step}
 use Rattle.worked_run.proofs.Reading.{stated}
 use Rattle.worked_run.proofs.Rows.{at, row}
+use Rattle.tet_text.specs.Repeated.{so_many}
 
 pub nine_lines : line_count_of nonplanar_bytes ≡ 9
 unfolding lines_of
@@ -62,7 +62,7 @@ abbrev corner : ℕ → CornerText
 corner n = record { number = n; line = 8 }
 
 -- the facet has one polygon
-abbrev nonplanar_facet : Facet
+abbrev nonplanar_facet : ReadFacet
 nonplanar_facet = record { polygons = record { line = 8; corners = corner 1 ∷ corner 2 ∷ corner 3 ∷ corner 4 ∷ [] } ∷ []; holes = []; marker = None }
 
 abbrev pub nonplanar_text : Plc

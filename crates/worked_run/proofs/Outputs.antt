@@ -2,7 +2,7 @@
 use Rattle.std.proofs.Common.{[], map, Bool, true, false, None, refl}
 use Rattle.std.specs.Fmt.{digits}
 use Rattle.geo_laws.specs.Complex.{empty_complex}
-use Rattle.grid_coords.specs.Units.{decimal_at}
+use Rattle.grid_coords.specs.Units.{decimal_of_units}
 use Rattle.node_files.specs.Writing.{fields_text, like_lines, line_text, list_text, point_lines}
 use Rattle.node_files.specs.declared.table.NodeTable.{NodeTable}
 use Rattle.tet_text.specs.Printing.{numeral}
@@ -46,7 +46,7 @@ pyramid_mesh = record {
 }
 
 pub plain_are : (complex : Bool) → AreOutputsOf (asking false complex) pyramid_mesh plain_outputs
-unfolding decimal_at digits fields_text like_lines line_text list_text point_lines numeral
+unfolding decimal_of_units digits fields_text like_lines line_text list_text point_lines numeral
 plain_are complex = record {
   marked = map marked hull;
   marked_are = λ e. hull_rows;
@@ -63,7 +63,7 @@ plain_are complex = record {
 }
 
 pub full_are : AreOutputsOf (asking true false) pyramid_mesh full_outputs
-unfolding decimal_at digits fields_text like_lines line_text list_text point_lines numeral
+unfolding decimal_of_units digits fields_text like_lines line_text list_text point_lines numeral
 full_are = record {
   marked = map marked all_faces;
   marked_are = λ e. all_rows;

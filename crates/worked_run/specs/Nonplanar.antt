@@ -24,8 +24,8 @@ not_flat = NotFlat 0 (record { a = 0; b = 1; c = 2; d = 3 })
 -- ---- the laws of the run
 
 -- it is refused so
-abbrev pub IsRefused : Type 0
-IsRefused = (folder : FolderSeen) → HasFile nonplanar_start folder → OutputsOfRun tetgen_limits nonplanar_start.words folder (Err not_flat)
+abbrev pub IsNonplanarRefused : Type 0
+IsNonplanarRefused = (folder : FolderSeen) → HasFile nonplanar_start folder → OutputsOfRun tetgen_limits nonplanar_start.words folder (Err not_flat)
 
 -- so this is the complete answer to it, where no fault rose and memory was not wanting
 abbrev pub EndsNotFlat : Type 0

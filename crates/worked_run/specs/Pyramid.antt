@@ -29,24 +29,24 @@ complex_start = record { words = codes "-c" ∷ codes "pyramid.poly" ∷ []; nam
 -- ---- what is written
 
 -- the points as they were read
-abbrev pub node_text : NamedText
-node_text = record {
+abbrev pub pyramid_node_text : NamedText
+pyramid_node_text = record {
   name = codes "pyramid.1.node";
   content = codes "5 3 0 0\n0 0 0 0\n1 2 0 0\n2 2 2 0\n3 0 2 0\n4 1 1 2\n";
   message = codes "tetgen: pyramid.1.node: write failed\n";
 }
 
 -- two tetrahedra: the diagonal of the square goes from 1 to 3
-abbrev pub ele_text : NamedText
-ele_text = record {
+abbrev pub pyramid_ele_text : NamedText
+pyramid_ele_text = record {
   name = codes "pyramid.1.ele";
   content = codes "2 4 0\n0 0 1 3 4\n1 1 2 3 4\n";
   message = codes "tetgen: pyramid.1.ele: write failed\n";
 }
 
 -- a face file with these bytes
-abbrev pub face_text : List ℕ → NamedText
-face_text content = record {
+abbrev pub pyramid_face_text : List ℕ → NamedText
+pyramid_face_text content = record {
   name = codes "pyramid.1.face";
   content = content;
   message = codes "tetgen: pyramid.1.face: write failed\n";
@@ -60,16 +60,16 @@ hull_bytes = codes "6 1\n0 0 1 3 1\n1 0 1 4 1\n2 0 3 4 1\n3 1 2 3 1\n4 1 2 4 1\n
 abbrev pub face_bytes : List ℕ
 face_bytes = codes "7 1\n0 0 1 3 1\n1 0 1 4 1\n2 0 3 4 1\n3 1 2 3 1\n4 1 2 4 1\n5 1 3 4 0\n6 2 3 4 1\n"
 
-abbrev pub edge_text : NamedText
-edge_text = record {
+abbrev pub pyramid_edge_text : NamedText
+pyramid_edge_text = record {
   name = codes "pyramid.1.edge";
   content = codes "9 0\n0 0 1\n1 0 3\n2 0 4\n3 1 2\n4 1 3\n5 1 4\n6 2 3\n7 2 4\n8 3 4\n";
   message = codes "tetgen: pyramid.1.edge: write failed\n";
 }
 
 -- each tetrahedron has the other across the face opposite its first or its second corner
-abbrev pub neigh_text : NamedText
-neigh_text = record {
+abbrev pub pyramid_neigh_text : NamedText
+pyramid_neigh_text = record {
   name = codes "pyramid.1.neigh";
   content = codes "2 4\n0 1 -1 -1 -1\n1 -1 0 -1 -1\n";
   message = codes "tetgen: pyramid.1.neigh: write failed\n";
@@ -81,7 +81,7 @@ summary_line = codes "points 5 added 0 tetrahedra 2 faces 7 edges 9\n"
 -- the outputs without a switch, and those of the complex
 abbrev pub plain_outputs : Outputs
 plain_outputs = record {
-  texts = record { node = Some node_text; ele = Some ele_text; face = Some (face_text hull_bytes); edge = None; neigh = None };
+  texts = record { node = Some pyramid_node_text; ele = Some pyramid_ele_text; face = Some (pyramid_face_text hull_bytes); edge = None; neigh = None };
   summary = Some summary_line;
 }
 
@@ -89,11 +89,11 @@ plain_outputs = record {
 abbrev pub full_outputs : Outputs
 full_outputs = record {
   texts = record {
-    node = Some node_text;
-    ele = Some ele_text;
-    face = Some (face_text face_bytes);
-    edge = Some edge_text;
-    neigh = Some neigh_text;
+    node = Some pyramid_node_text;
+    ele = Some pyramid_ele_text;
+    face = Some (pyramid_face_text face_bytes);
+    edge = Some pyramid_edge_text;
+    neigh = Some pyramid_neigh_text;
   };
   summary = Some summary_line;
 }

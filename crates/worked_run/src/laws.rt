@@ -1,7 +1,7 @@
 //! Runs on the five points of a pyramid, and on a complex with a facet that is not flat.
 ghost use Rattle.worked_run.specs.Runs.{EndsDone, HasNoOthers, HasOutputs, Leaves};
 ghost use Rattle.worked_run.specs.Pyramid.{complex_start, full_outputs, full_start, plain_outputs, plain_start};
-ghost use Rattle.worked_run.specs.Nonplanar.{ChangesNothing, EndsNotFlat, IsRefused, TellsFacet};
+ghost use Rattle.worked_run.specs.Nonplanar.{ChangesNothing, EndsNotFlat, IsNonplanarRefused, TellsFacet};
 
 /// Over a folder with the points of the pyramid, and with the name of their file alone: the texts
 /// and the summary of the run, byte for byte, and no others. Where no fault rose and memory was
@@ -34,7 +34,7 @@ pub fn law_complex_pyramid()
 /// where no fault rose and memory was not wanting. Nothing is changed, and the facet and these
 /// corners are told by the numbers of the file.
 pub fn law_nonplanar()
-    ensures refused { IsRefused }
+    ensures refused { IsNonplanarRefused }
     ensures status { EndsNotFlat }
     ensures unchanged { ChangesNothing }
     ensures told { TellsFacet }

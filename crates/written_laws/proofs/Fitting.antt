@@ -16,7 +16,7 @@ use Rattle.grid_coords.specs.declared.grid.Grid.{Grid}
 use Rattle.grid_coords.specs.declared.grid.Range.{Range}
 use Rattle.grid_coords.specs.declared.points.DecimalPoint.{DecimalPoint}
 use Rattle.node_files.specs.Terms.{terms_of}
-use Rattle.node_files.specs.LeastGrid.{twos_of, fives_of, greatest, coarsest, units_on, size_on, is_over, first_over, least_grid_of, coordinate_on, point_on}
+use Rattle.node_files.specs.LeastGrid.{twos_of, fives_of, greatest, coarsest, units_on, size_on, is_over_units, first_over_units, least_grid_of, coordinate_on, point_on}
 use Rattle.node_files.specs.declared.grid_fault.GridFault.TheVariants as faults
 use Rattle.node_files.proofs.LowestTerms.{terms_are}
 use Rattle.written_laws.specs.LeastGrids.{times, AreMultiples, ratio, FittingLaw, SettlingLaw}
@@ -119,12 +119,12 @@ within_greatest f [] i d lt = absurd (omega arith)
 within_greatest f (e ∷ ds) zero d lt = omega arith
 within_greatest f (e ∷ ds) (suc i) d lt = let rest = within_greatest f ds i d (omega arith) in omega arith
 
-none_over : (g : Grid) (ds : List DecimalPoint) → ((i : ℕ) (d : DecimalPoint) → i < length ds → size_on g (slice_index_or ds i d) ≤ limit) → find (is_over g) ds ≡ None
+none_over : (g : Grid) (ds : List DecimalPoint) → ((i : ℕ) (d : DecimalPoint) → i < length ds → size_on g (slice_index_or ds i d) ≤ limit) → find (is_over_units g) ds ≡ None
 none_over g [] h = refl
 none_over g (d ∷ ds) h = cond-false _ _ _ (le-ltb limit (size_on g d) (h 0 d (omega arith))) ∙ none_over g ds (λ i e lt. h (suc i) e (omega arith))
 
 pub fits : FittingLaw
-unfolding least_grid_of first_over
+unfolding least_grid_of first_over_units
 fits g ps ds at = record {
   fits = ap (λ (o : Option DecimalPoint). unless_over o least) (none_over least ds small);
   fewer_decimals = fewer;

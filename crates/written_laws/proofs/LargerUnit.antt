@@ -4,16 +4,16 @@ use Rattle.crossing_laws.proofs.Tests.{lt_test, lt_of}
 use Rattle.sign_predicates.specs.Point.{Point}
 use Rattle.sign_predicates.specs.Sphere.{HaveOneSign}
 use Rattle.geo_laws.specs.declared.tetrahedra.Tet.{Tet}
-use Rattle.incidence.specs.Links.{row_at}
 use Rattle.incidence.specs.declared.pairs.Across.{Across}
 use Rattle.mesh_files.specs.declared.markers.FaceRow.{FaceRow}
 use Rattle.mesh_check.specs.Corners.{point_in, face_in}
-use Rattle.mesh_check.specs.Defects.{HasDefect, AreOpposite}
+use Rattle.mesh_check.specs.Defects.{HasDefect, AreOppositeSigns}
 use Rattle.mesh_check.specs.declared.defect.Defect.{Defect}
 use Rattle.mesh_check.specs.declared.defect.Defect.TheVariants.{NotPositive, SameSide, NeighborCount, WrongNeighbor, Stray, Unlisted, Bent}
 use Rattle.written_laws.specs.LeastGrids.{HaveSameSigns}
 use Rattle.written_laws.proofs.Signs.{same_signs}
 use Rattle.written_laws.specs.WrittenMesh.{LargerUnitLaw}
+use Rattle.geo_laws.specs.Delaunay.{row_at}
 
 above : (x y : ℤ) → HaveOneSign x y → pos 0 <ℤ x → pos 0 <ℤ y
 above x y s h = lt_of (pos 0) y (sym s.above ∙ lt_test (pos 0) x h)
@@ -24,7 +24,7 @@ above_back x y s h = lt_of (pos 0) x (s.above ∙ lt_test (pos 0) y h)
 below : (x y : ℤ) → HaveOneSign x y → x <ℤ pos 0 → y <ℤ pos 0
 below x y s h = lt_of y (pos 0) (sym s.below ∙ lt_test x (pos 0) h)
 
-opposite : (x y u v : ℤ) → HaveOneSign x u → HaveOneSign y v → AreOpposite x y → AreOpposite u v
+opposite : (x y u v : ℤ) → HaveOneSign x u → HaveOneSign y v → AreOppositeSigns x y → AreOppositeSigns u v
 opposite x y u v s t (inl h) = inl (above x u s h.0, below y v t h.1)
 opposite x y u v s t (inr h) = inr (below x u s h.0, above y v t h.1)
 

@@ -15,7 +15,7 @@ use Rattle.geo_laws.specs.declared.faces.Face.{Face}
 use Rattle.geo_laws.specs.declared.tetrahedra.Tet.{Tet}
 use Rattle.geo_laws.proofs.Members.{here, contains_of, member_of, in_map}
 use Rattle.geo_laws.proofs.Simplices.{corner_in}
-use Rattle.mesh_files.specs.FaceRows.{AreFaceRowsOf, AreFacetsThere, IsAsked, IsMarker, is_on_hull, marker_or_1}
+use Rattle.mesh_files.specs.FaceRows.{AreFaceRowsOf, AreFacetsThere, IsAsked, IsFaceMarker, is_on_hull, marker_or_1}
 use Rattle.mesh_files.specs.declared.markers.FaceRow.{FaceRow}
 use Rattle.mesh_check.specs.Corners.{face_listed, IsListed}
 use Rattle.written_laws.proofs.Listings.{contains_or_not}
@@ -43,7 +43,7 @@ listed_if_asked ps ts complex rows all faces there are f of_rows asked =
     row : ℤ → FaceRow
     row marker = record { a = f.a; b = f.b; c = f.c; marker = marker }
 
-    found : (marker : ℤ) → IsMarker (λ facet. LiesIn ps ts facet f) complex.facets (is_on_hull rows f) marker → IsAsked (λ facet. LiesIn ps ts facet f) all (is_on_hull rows f) → IsListed faces f
+    found : (marker : ℤ) → IsFaceMarker (λ facet. LiesIn ps ts facet f) complex.facets (is_on_hull rows f) marker → IsAsked (λ facet. LiesIn ps ts facet f) all (is_on_hull rows f) → IsListed faces f
     found marker is wanted =
         let c = (are.exactly (row marker)).1 (f, of_rows, record { corners_are = refl; marker_is = is; asked = wanted }) in
         subst (IsListed faces) (of_rows_itself rows f of_rows) (contains_of (map face_listed faces) _ (in_map face_listed (row marker) faces (member_of faces (row marker) c)))

@@ -7,10 +7,10 @@ use Rattle.geo_laws.specs.Faces.{face_of, row_faces}
 use Rattle.geo_laws.specs.declared.faces.Face.{Face}
 use Rattle.geo_laws.specs.declared.tetrahedra.Tet.{Tet}
 use Rattle.geo_laws.proofs.Members.{contains_of, member_of, some_true, any_true, both_true, either_true}
-use Rattle.incidence.specs.Links.{row_at}
 use Rattle.incidence.specs.Pairs.{is_face, has_face, is_partner, partner}
 use Rattle.incidence.proofs.Partners.{face_same, face_itself}
 use Rattle.mesh_check.specs.Corners.{face_in}
+use Rattle.geo_laws.specs.Delaunay.{row_at}
 
 -- ---- faces
 

@@ -16,7 +16,7 @@ use Rattle.crossing_laws.proofs.Cramer as cramer
 use Rattle.crossing_laws.proofs.Faces.{Same, straight, onward, backward, over, same_of, same_test, same_back, either}
 use Rattle.crossing_laws.specs.Crossing.{faces_of, faces_beside, is_same, is_opposite, same_corners, LieApart}
 use Rattle.mesh_check.specs.Corners.{point_in, face_in, IsShared}
-use Rattle.mesh_check.specs.Defects.{AreOpposite, LieOnOneSide, side_of}
+use Rattle.mesh_check.specs.Defects.{AreOppositeSigns, LieOnOneSide, point_side}
 use Rattle.written_laws.proofs.Sorted.{oriented, ascending, is_sorted, keeps_sides}
 
 -- ---- the faces of a row
@@ -110,18 +110,18 @@ corners_of f g e = go (is_sorted f) (subst (λ (u : sorted.Face). Same g (orient
 
 -- ---- different sides
 
-below_of : (x y u v : ℤ) → u ≡ x → v ≡ y → pos 0 <ℤ x → AreOpposite u v → y <ℤ pos 0
+below_of : (x y u v : ℤ) → u ≡ x → v ≡ y → pos 0 <ℤ x → AreOppositeSigns u v → y <ℤ pos 0
 below_of x y u v d e p (inl h) = let k = h.1 in omega (arith, ints)
 below_of x y u v d e p (inr h) = absurd (let k = h.0 in omega (arith, ints))
 
-below_of_turned : (x y u v : ℤ) → u ≡ neg_ℤ x → v ≡ neg_ℤ y → pos 0 <ℤ x → AreOpposite u v → y <ℤ pos 0
+below_of_turned : (x y u v : ℤ) → u ≡ neg_ℤ x → v ≡ neg_ℤ y → pos 0 <ℤ x → AreOppositeSigns u v → y <ℤ pos 0
 below_of_turned x y u v d e p (inl h) = absurd (let k = h.0 in omega (arith, ints))
 below_of_turned x y u v d e p (inr h) = let k = h.1 in omega (arith, ints)
 
-opposite_of : (x y u v : ℤ) → u ≡ x → v ≡ y → pos 0 <ℤ x → y <ℤ pos 0 → AreOpposite u v
+opposite_of : (x y u v : ℤ) → u ≡ x → v ≡ y → pos 0 <ℤ x → y <ℤ pos 0 → AreOppositeSigns u v
 opposite_of x y u v d e p h = inl (omega (arith, ints), omega (arith, ints))
 
-opposite_of_turned : (x y u v : ℤ) → u ≡ neg_ℤ x → v ≡ neg_ℤ y → pos 0 <ℤ x → y <ℤ pos 0 → AreOpposite u v
+opposite_of_turned : (x y u v : ℤ) → u ≡ neg_ℤ x → v ≡ neg_ℤ y → pos 0 <ℤ x → y <ℤ pos 0 → AreOppositeSigns u v
 opposite_of_turned x y u v d e p h = inr (omega (arith, ints), omega (arith, ints))
 
 moved : (a b : ℤ) → a ≡ b → pos 0 <ℤ b → pos 0 <ℤ a
@@ -129,7 +129,7 @@ moved a b e h = omega (arith, ints)
 
 -- the sides of the two further corners, as they are compared
 abbrev pub AreOpposed : List Point → Tet → Tet → ℕ → ℕ → Type 0
-AreOpposed ps s t p q = AreOpposite (side_of ps (face_in s p) (point_in s p)) (side_of ps (face_in t q) (point_in t q))
+AreOpposed ps s t p q = AreOppositeSigns (point_side ps (face_in s p) (point_in s p)) (point_side ps (face_in t q) (point_in t q))
 
 -- the further corner of the second row lies beyond the first row's face
 abbrev pub IsBeyond : List Point → Tet → Tet → ℕ → ℕ → Type 0
@@ -137,12 +137,12 @@ IsBeyond ps s t p q = side (triangle ps (beside_at s p)) (point ps (point_in t q
 
 -- the side of the face of the second row, as it is compared
 second_side : (ps : List Point) (s t : Tet) (p q : ℕ) → p < 4 → face_in s p ≡ face_in t q
-    → side_of ps (face_in t q) (point_in t q) ≡ side (triangle ps (oriented (ascending (beside_at s p)))) (point ps (point_in t q))
-second_side ps s t p q h e = ap (λ (f : sorted.Face). side_of ps f (point_in t q)) (sym e ∙ face_is s p h)
+    → point_side ps (face_in t q) (point_in t q) ≡ side (triangle ps (oriented (ascending (beside_at s p)))) (point ps (point_in t q))
+second_side ps s t p q h e = ap (λ (f : sorted.Face). point_side ps f (point_in t q)) (sym e ∙ face_is s p h)
 
 first_side : (ps : List Point) (s : Tet) (p : ℕ) → p < 4
-    → side_of ps (face_in s p) (point_in s p) ≡ side (triangle ps (oriented (ascending (beside_at s p)))) (point ps (point_in s p))
-first_side ps s p h = ap (λ (f : sorted.Face). side_of ps f (point_in s p)) (face_is s p h)
+    → point_side ps (face_in s p) (point_in s p) ≡ side (triangle ps (oriented (ascending (beside_at s p)))) (point ps (point_in s p))
+first_side ps s p h = ap (λ (f : sorted.Face). point_side ps f (point_in s p)) (face_is s p h)
 
 pub beyond_of : (ps : List Point) (s t : Tet) (p q : ℕ) → IsPositive (corners ps s) → IsShared s t p q → AreOpposed ps s t p q → IsBeyond ps s t p q
 beyond_of ps s t p q positive shared opposed =

@@ -6,17 +6,16 @@ use Rattle.std.proofs.lemmas.List.{get_or-map, length-map}
 use Rattle.sign_predicates.specs.Point.{Point}
 use Rattle.sign_predicates.specs.Orientation.{orient, IsPositive}
 use Rattle.sign_predicates.specs.Sphere.{in_sphere}
-use Rattle.geo_laws.specs.Delaunay.{point, corners, IsOn}
+use Rattle.geo_laws.specs.Delaunay.{point, corners, IsOn, row_at}
 use Rattle.geo_laws.specs.Faces.{row_faces, faces_of_rows}
 use Rattle.geo_laws.specs.declared.faces.Face.{Face}
 use Rattle.geo_laws.specs.declared.tetrahedra.Tet.{Tet}
 use Rattle.geo_laws.proofs.Members.{IsMember, contains_of, member_of, in_map, map_cases, in_flat_map, flat_map_cases}
-use Rattle.incidence.specs.Links.{row_at}
 use Rattle.incidence.specs.Pairs.{partner}
 use Rattle.incidence.specs.declared.pairs.Across.{Across}
 use Rattle.mesh_files.specs.declared.markers.FaceRow.{FaceRow}
-use Rattle.mesh_check.specs.Corners.{point_in, face_in, face_listed, face_at, IsListed, IsShared}
-use Rattle.mesh_check.specs.Defects.{HasDefect, AreOpposite, side_of}
+use Rattle.mesh_check.specs.Corners.{point_in, face_in, face_listed, listed_face_at, IsListed, IsShared}
+use Rattle.mesh_check.specs.Defects.{HasDefect, AreOppositeSigns, point_side}
 use Rattle.mesh_check.specs.declared.defect.Defect.{Defect}
 use Rattle.mesh_check.specs.declared.defect.Defect.TheVariants.{NotPositive, SameSide, NeighborCount, WrongNeighbor, Stray, Unlisted, Bent}
 use Rattle.mesh_check.proofs.Rows.{corner_on, face_on, IsFaceOn}
@@ -45,7 +44,7 @@ corners_renamed r ps qs same t on = λ n. record {
   d = same t.d (on 3 0 (omega arith)) n;
 }
 
-side_renamed : (r : ℕ → ℕ) (ps qs : List Point) → NamesSame r ps qs → (f : Face) (e : ℕ) → IsFaceOn ps f → e < length ps → side_of qs (renamed r f) (r e) ≡ side_of ps f e
+side_renamed : (r : ℕ → ℕ) (ps qs : List Point) → NamesSame r ps qs → (f : Face) (e : ℕ) → IsFaceOn ps f → e < length ps → point_side qs (renamed r f) (r e) ≡ point_side ps f e
 side_renamed r ps qs same f e on lt = λ n. orient (same f.a on.a n) (same f.b on.b n) (same f.c on.c n) (same e lt n)
 
 -- ---- faces
@@ -81,12 +80,12 @@ shared_of r up s t p q shared = record {
 }
 
 own_side : (r : ℕ → ℕ) → Rises r → (ps qs : List Point) → NamesSame r ps qs → (t : Tet) → IsOn ps t → (p : ℕ) → p < 4
-    → side_of qs (face_in (renamed_row r t) p) (point_in (renamed_row r t) p) ≡ side_of ps (face_in t p) (point_in t p)
+    → point_side qs (face_in (renamed_row r t) p) (point_in (renamed_row r t) p) ≡ point_side ps (face_in t p) (point_in t p)
 own_side r up ps qs same t on p h =
-    (λ n. side_of qs (face_in_renamed r up t p h n) (point_in_renamed r t p h n)) ∙ side_renamed r ps qs same (face_in t p) (point_in t p) (face_on ps t p on) (corner_on ps t p on)
+    (λ n. point_side qs (face_in_renamed r up t p h n) (point_in_renamed r t p h n)) ∙ side_renamed r ps qs same (face_in t p) (point_in t p) (face_on ps t p on) (corner_on ps t p on)
 
-opposite_same : (x y u v : ℤ) → x ≡ u → y ≡ v → AreOpposite u v → AreOpposite x y
-opposite_same x y u v d e h = subst (λ (z : ℤ). AreOpposite x z) (sym e) (subst (λ (z : ℤ). AreOpposite z v) (sym d) h)
+opposite_same : (x y u v : ℤ) → x ≡ u → y ≡ v → AreOppositeSigns u v → AreOppositeSigns x y
+opposite_same x y u v d e h = subst (λ (z : ℤ). AreOppositeSigns x z) (sym e) (subst (λ (z : ℤ). AreOppositeSigns z v) (sym d) h)
 
 sphere_renamed : (r : ℕ → ℕ) (ps qs : List Point) → NamesSame r ps qs → (s t : Tet) → IsOn ps s → IsOn ps t → (q : ℕ) → q < 4
     → in_sphere (corners qs (renamed_row r s)) (point qs (point_in (renamed_row r t) q)) ≡ in_sphere (corners ps s) (point ps (point_in t q))
@@ -115,8 +114,8 @@ defect_of r up ps qs same rows faces neighbors on (SameSide i j) (lt, mt, (p, q,
     let es = row_renamed r rows i here in
     let et = row_renamed r rows j there in
     let both = subst (λ (u : Tet). IsShared (renamed_row r s) u p q) et (subst (λ (u : Tet). IsShared u (row_at (map (renamed_row r) rows) j) p q) es shared) in
-    let first = ap (λ (u : Tet). side_of qs (face_in u p) (point_in u p)) es ∙ own_side r up ps qs same s (on_row ps rows on i here) p shared.corner in
-    let second = ap (λ (u : Tet). side_of qs (face_in u q) (point_in u q)) et ∙ own_side r up ps qs same t (on_row ps rows on j there) q shared.other in
+    let first = ap (λ (u : Tet). point_side qs (face_in u p) (point_in u p)) es ∙ own_side r up ps qs same s (on_row ps rows on i here) p shared.corner in
+    let second = ap (λ (u : Tet). point_side qs (face_in u q) (point_in u q)) et ∙ own_side r up ps qs same t (on_row ps rows on j there) q shared.other in
     (lt, there, (p, q, shared_of r up s t p q both, λ h. none (opposite_same _ _ _ _ first second h)))
 defect_of r up ps qs same rows faces neighbors on NeighborCount ne = λ e. ne (e ∙ sym (length-map rows (renamed_row r)))
 defect_of r up ps qs same rows faces neighbors on (WrongNeighbor i k) (lt, mt, ne) =
@@ -131,7 +130,7 @@ defect_of r up ps qs same rows faces neighbors on (Stray k) (lt, out) =
     let within : k < length faces = omega arith in
     let is = get_or-map face_listed (map (renamed_face r) faces) k no_face _ lt ∙ ap face_listed (get_or-map (renamed_face r) faces k no_face no_face within) ∙ listed_renamed r up (slice_index_or faces k no_face)
     ∙ ap (renamed r) (sym (get_or-map face_listed faces k no_face _ within)) in
-    (within, λ c. out (subst (Contains (faces_of_rows (map (renamed_row r) rows))) (sym is) (of_rows r up rows (face_at faces k) c)))
+    (within, λ c. out (subst (Contains (faces_of_rows (map (renamed_row r) rows))) (sym is) (of_rows r up rows (listed_face_at faces k) c)))
 defect_of r up ps qs same rows faces neighbors on (Unlisted i k) (lt, mt, none, out) =
     let l = length-map rows (renamed_row r) in
     let within : i < length rows = omega arith in

@@ -5,7 +5,7 @@ use Rattle.std.proofs.Math.Nat.{pow-le-pow_right, mul-le-mul, lt_of_le_of_lt}
 use Rattle.tet_text.specs.Decimals.{IsDecimal, lowest, signed}
 use Rattle.tet_text.proofs.Scaling.{abs_signed, lowest_is_decimal}
 use Rattle.tet_text.proofs.Reread.{printed_law}
-use Rattle.grid_coords.specs.Units.{limit, decimal_at}
+use Rattle.grid_coords.specs.Units.{limit, decimal_of_units}
 use Rattle.grid_coords.specs.declared.grid.Grid.{Grid}
 use Rattle.grid_coords.proofs.Printed.{number_at}
 use Rattle.written_laws.specs.LeastGrids.{RereadLaw}
@@ -22,8 +22,8 @@ size_small n k h l = within (n * 5 ^ k) (product_le n (5 ^ k) limit (5 ^ 12) h (
     within : (m : ℕ) → m ≤ limit * 5 ^ 12 → m < 10 ^ 36
     within m le = lt_of_le_of_lt le (lit< tt)
 
-is_decimal : (g : Grid) (c : ℤ) → unsigned_abs c ≤ limit → g.halvings ≤ 12 → IsDecimal (decimal_at g c)
-unfolding decimal_at
+is_decimal : (g : Grid) (c : ℤ) → unsigned_abs c ≤ limit → g.halvings ≤ 12 → IsDecimal (decimal_of_units g c)
+unfolding decimal_of_units
 is_decimal g c small few =
     let low = lowest (unsigned_abs c * 5 ^ g.halvings) (g.decimals + g.halvings) in
     let d = lowest_is_decimal (unsigned_abs c * 5 ^ g.halvings) (g.decimals + g.halvings) (size_small (unsigned_abs c) g.halvings small few) in
@@ -34,4 +34,4 @@ is_decimal g c small few =
     }
 
 pub reread : RereadLaw
-reread g c small few short = (printed_law (decimal_at g c) (is_decimal g c small few) short, number_at g c)
+reread g c small few short = (printed_law (decimal_of_units g c) (is_decimal g c small few) short, number_at g c)

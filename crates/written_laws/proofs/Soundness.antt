@@ -7,17 +7,16 @@ use Rattle.std.proofs.lemmas.List.{same_lists, get_or_default, get_or-map}
 use Rattle.sign_predicates.specs.Point.{Point}
 use Rattle.sign_predicates.specs.Orientation.{volume, IsPositive}
 use Rattle.sign_predicates.specs.Sphere.{in_sphere}
-use Rattle.geo_laws.specs.Delaunay.{point, corners}
+use Rattle.geo_laws.specs.Delaunay.{point, corners, row_at}
 use Rattle.geo_laws.specs.Faces.{row_faces, faces_of_rows, IsOfOneRow}
 use Rattle.geo_laws.specs.declared.faces.Face.{Face}
 use Rattle.geo_laws.specs.declared.tetrahedra.Tet.{Tet}
-use Rattle.incidence.specs.Links.{row_at}
-use Rattle.incidence.specs.Pairs.{partner, pairs_of}
+use Rattle.incidence.specs.Pairs.{partner, pairs_of, across_at}
 use Rattle.incidence.specs.declared.pairs.Across.{Across}
 use Rattle.mesh_files.specs.declared.markers.FaceRow.{FaceRow}
 use Rattle.crossing_laws.specs.Crossing.{LieApart}
-use Rattle.mesh_check.specs.Corners.{point_in, face_in, entry_in, across_at, face_listed, IsListed, IsShared}
-use Rattle.mesh_check.specs.Defects.{Mesh, IsVerdict, IsNotPositive, IsWrongNeighbor, IsUnlisted, AreOpposite, LieOnOneSide}
+use Rattle.mesh_check.specs.Corners.{point_in, face_in, entry_in, face_listed, IsListed, IsShared}
+use Rattle.mesh_check.specs.Defects.{ReadMesh, IsVerdict, IsNotPositive, IsWrongNeighbor, IsUnlisted, AreOppositeSigns, LieOnOneSide}
 use Rattle.mesh_check.specs.declared.defect.Defect.TheVariants.{NotPositive, SameSide, NeighborCount, WrongNeighbor, Stray, Unlisted, Bent}
 use Rattle.mesh_check.specs.declared.defect.Verdict.TheVariants.{Sound}
 use Rattle.mesh_check.proofs.Partners.{HasNoSameSide, partner_is}
@@ -89,7 +88,7 @@ neighbors_are rows neighbors long right = same_lists neighbors (pairs_of rows) (
 -- ---- faces of one row
 
 -- a row that stands at two places lies on one side of its faces with itself
-opposite_self : (x y : ℤ) → x ≡ y → AreOpposite x y → ⊥
+opposite_self : (x y : ℤ) → x ≡ y → AreOppositeSigns x y → ⊥
 opposite_self x y e (inl h) = let k = h.0 in let l = h.1 in omega (arith, ints)
 opposite_self x y e (inr h) = let k = h.0 in let l = h.1 in omega (arith, ints)
 
@@ -137,7 +136,7 @@ hull_listed ps rows faces none listed f one =
 
 -- ---- no defect: sound
 
-pub sound_of : (m : Mesh) → IsVerdict m Sound → IsSoundMesh m
+pub sound_of : (m : ReadMesh) → IsVerdict m Sound → IsSoundMesh m
 sound_of m none = record {
   apart = apart_rows m (λ i. none (NotPositive i)) (λ i j. none (SameSide i j));
   neighbors = neighbors_are m.rows m.neighbors long (λ i k. none (WrongNeighbor i k));
@@ -166,12 +165,12 @@ sound_of m none = record {
 
 -- ---- sound: no defect
 
-one_side_none : (m : Mesh) → IsSoundMesh m → HasNoSameSide m.points m.rows
+one_side_none : (m : ReadMesh) → IsSoundMesh m → HasNoSameSide m.points m.rows
 one_side_none m sound i j h =
     none_of_apart m.points (row_at m.rows i) (row_at m.rows j) (sound.apart.positive i _ (let lt = h.0 in let mt = h.1 in omega arith)) (sound.apart.apart i j _ h.0 h.1) h.2
 
 -- a face with no other row across it is a face of one row only
-one_row : (m : Mesh) → IsSoundMesh m → (i k : ℕ) → i < length m.rows → k < 4 → partner m.rows i (face_in (row_at m.rows i) k) ≡ None → IsOfOneRow m.rows (face_in (row_at m.rows i) k)
+one_row : (m : ReadMesh) → IsSoundMesh m → (i k : ℕ) → i < length m.rows → k < 4 → partner m.rows i (face_in (row_at m.rows i) k) ≡ None → IsOfOneRow m.rows (face_in (row_at m.rows i) k)
 one_row m sound i k lt mt none = record {
   row = row_at m.rows i;
   is_row = (i, lt, get_or_default m.rows i (row_at m.rows i) _ lt);
@@ -190,7 +189,7 @@ one_row m sound i k lt mt none = record {
         let clash : None ≡ Some j = sym none ∙ some in
         absurd (cc)
 
-pub none_of : (m : Mesh) → IsSoundMesh m → IsVerdict m Sound
+pub none_of : (m : ReadMesh) → IsSoundMesh m → IsVerdict m Sound
 none_of m sound (NotPositive i) h = h.1 (sound.apart.positive i _ h.0)
 none_of m sound (SameSide i j) h = one_side_none m sound i j h
 none_of m sound NeighborCount ne = ne (ap (λ (xs : List Across). length xs) sound.neighbors ∙ pairs_long m.rows)

@@ -6,11 +6,11 @@ use Rattle.sign_predicates.specs.Sphere.{in_sphere, HaveOneSign}
 use Rattle.geo_laws.specs.Delaunay.{point, corners}
 use Rattle.geo_laws.specs.declared.tetrahedra.Tet.{Tet}
 use Rattle.tet_text.specs.Decimals.{decimal_of}
-use Rattle.grid_coords.specs.Units.{limit, decimal_at, grid_text, IsNumberAt}
+use Rattle.grid_coords.specs.Units.{limit, decimal_of_units, grid_text, IsNumberAt}
 use Rattle.grid_coords.specs.declared.grid.Grid.{Grid}
 use Rattle.grid_coords.specs.declared.points.DecimalPoint.{DecimalPoint}
 use Rattle.node_files.specs.LeastGrid.{least_grid_of, coarsest, point_on}
-use Rattle.node_files.specs.SettlingLeast.{Settles}
+use Rattle.node_files.specs.SettlingLeast.{SettlesLeast}
 use Rattle.node_files.specs.declared.grid_fault.GridFault.{GridFault}
 use Rattle.node_files.specs.declared.grid_fault.GridFault.TheVariants as faults
 
@@ -61,7 +61,7 @@ FittingLaw = (g : Grid) (ps : List Point) (ds : List DecimalPoint) → ArePoints
 -- So they settle there, where they are not too many and are not rounded: never is a coordinate out of range
 abbrev pub SettlingLaw : Type 0
 SettlingLaw = (g : Grid) (ps : List Point) (ds : List DecimalPoint) → ArePointsAt g ps ds → (most : ℕ) → length ps ≤ most
-    → (result : Result (List Point) GridFault) → Settles ds None most result
+    → (result : Result (List Point) GridFault) → SettlesLeast ds None most result
     → MatchResult result (AreMultiples (ratio g (coarsest ds)) ps) (λ fault. fault ≡ faults.NoMemory)
 
 -- Points in a larger unit have the same orientations, and lie on the same sides of spheres
@@ -76,5 +76,5 @@ SameSignsLaw = (f : ℕ) (ps qs : List Point) → AreMultiples f ps qs → HaveS
 -- The text of a coordinate is read back as its decimal, which is the number that so many grid units are. With more than 35 decimals it has
 -- more digits than a decimal may have
 abbrev pub RereadLaw : Type 0
-RereadLaw = (g : Grid) (c : ℤ) → unsigned_abs c ≤ limit → g.halvings ≤ 12 → (decimal_at g c).scale ≤ 35
-    → (decimal_of (grid_text g c) ≡ Some (decimal_at g c)) × IsNumberAt g c (decimal_at g c)
+RereadLaw = (g : Grid) (c : ℤ) → unsigned_abs c ≤ limit → g.halvings ≤ 12 → (decimal_of_units g c).scale ≤ 35
+    → (decimal_of (grid_text g c) ≡ Some (decimal_of_units g c)) × IsNumberAt g c (decimal_of_units g c)

@@ -10,7 +10,7 @@ use Rattle.incidence.specs.Pairs.{pairs_of}
 use Rattle.mesh_files.specs.declared.markers.FaceRow.{FaceRow}
 use Rattle.crossing_laws.specs.Crossing.{AreApart}
 use Rattle.mesh_check.specs.Corners.{point_in, face_in, face_listed, IsListed, IsShared}
-use Rattle.mesh_check.specs.Defects.{Mesh, HasDefect, IsVerdict}
+use Rattle.mesh_check.specs.Defects.{ReadMesh, HasDefect, IsVerdict}
 use Rattle.mesh_check.specs.declared.defect.Defect.TheVariants.{NotPositive, SameSide}
 use Rattle.mesh_check.specs.declared.defect.Verdict.TheVariants.{Sound}
 
@@ -20,7 +20,7 @@ AreDelaunayAcross ps faces s t =
     (p q : ℕ) → IsShared s t p q → ¬ IsListed faces (face_in s p) → in_sphere (corners ps s) (point ps (point_in t q)) ≤ℤ pos 0
 
 -- a mesh whose files say the same of it
-pub record IsSoundMesh (m : Mesh) : Type 0 where
+pub record IsSoundMesh (m : ReadMesh) : Type 0 where
   -- the rows are positive, and two with a common face lie on different sides of it
   pub apart : AreApart m.points m.rows
   pub neighbors : m.neighbors ≡ pairs_of m.rows
@@ -30,9 +30,9 @@ pub record IsSoundMesh (m : Mesh) : Type 0 where
 
 -- Without the first two kinds of defects the rows are apart
 abbrev pub RowsApartLaw : Type 0
-RowsApartLaw = (m : Mesh) → ((i : ℕ) → ¬ HasDefect m (NotPositive i)) → ((i j : ℕ) → ¬ HasDefect m (SameSide i j))
+RowsApartLaw = (m : ReadMesh) → ((i : ℕ) → ¬ HasDefect m (NotPositive i)) → ((i j : ℕ) → ¬ HasDefect m (SameSide i j))
     → AreApart m.points m.rows
 
 -- A mesh has no defect exactly where its files say the same of it
 abbrev pub SoundMeshLaw : Type 0
-SoundMeshLaw = (m : Mesh) → IsVerdict m Sound ↔ IsSoundMesh m
+SoundMeshLaw = (m : ReadMesh) → IsVerdict m Sound ↔ IsSoundMesh m

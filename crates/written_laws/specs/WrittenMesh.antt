@@ -16,12 +16,12 @@ use Rattle.incidence.specs.declared.pairs.Across.{Across}
 use Rattle.mesh_files.specs.FaceRows.{AreFaceRowsOf, AreFacetsThere}
 use Rattle.mesh_files.specs.declared.markers.FaceRow.{FaceRow}
 use Rattle.crossing_laws.specs.Crossing.{AreApart}
-use Rattle.mesh_check.specs.Defects.{Mesh, IsVerdict}
+use Rattle.mesh_check.specs.Defects.{ReadMesh, IsVerdict}
 use Rattle.mesh_check.specs.declared.defect.Verdict.TheVariants.{Sound}
 use Rattle.written_laws.specs.LeastGrids.{AreMultiples}
 
 -- the points, rows and faces of a mesh, with the neighbors that its rows have
-abbrev pub written_mesh : List Point → List Tet → List FaceRow → Mesh
+abbrev pub written_mesh : List Point → List Tet → List FaceRow → ReadMesh
 written_mesh ps rows faces = record { points = ps; rows = rows; faces = faces; neighbors = pairs_of rows }
 
 -- ascending rows that are apart, and locally Delaunay across each common face that lies in no facet

@@ -2,8 +2,8 @@ use Rattle.std.proofs.Common.{◌≡◌, ◌↔◌, true, false, IsTrue, List, s
 use Rattle.sign_predicates.specs.Point.{Point}
 use Rattle.geo_laws.specs.Delaunay.{point}
 use Rattle.point_locate.specs.Place.{IsPlace, IsSomePlace}
-use Rattle.mesh_laws.specs.LowestRule.{IsTaken}
-use Rattle.mesh_laws.specs.LowestLaws.{IsWholeFrom}
+use Rattle.mesh_laws.specs.LowestRule.{IsLowestTaken}
+use Rattle.mesh_laws.specs.LowestLaws.{IsLowestWholeFrom}
 use Rattle.cavity_insert.proofs.LiftedRows.{corners_on, same_zone, same_grown}
 use Rattle.cavity_insert.proofs.Insertion.{somewhere, hidden_at, whole_at, cavity_for}
 use Rattle.cavity_insert.proofs.insert.grow_at.Goals as goal
@@ -33,7 +33,7 @@ returns-then-not-test-clause-hidden g c ms ready =
     let heights = g.H.Lift.heights c.args.lift.now in
     let q : c.point_at-p.result ≡ point ps c.args.number = rw c.points-points.ensures at c.point_at-p.ensures in
     let place : IsPlace slots ps c.point_at-p.result c.locate.result = subst (λ (xs : List Point). IsPlace slots xs c.point_at-p.result c.locate.result) c.points-points.ensures c.locate.ensures in
-    let zone : IsTrue c.test.result ↔ IsTaken heights slots ps c.args.number c.slot_of-first.result.index =
+    let zone : IsTrue c.test.result ↔ IsLowestTaken heights slots ps c.args.number c.slot_of-first.result.index =
     same_zone g.H.Lift.heights g.H.Lift.points _ _ c.new-search.ensures c.test.result c.slot_of-first.result.index c.test.ensures in
     hidden_at heights slots ps ms c.args.number c.tet.ensures.mesh ready c.point_at-p.result c.locate.result c.slot_of-first.result.index q c.slot_of-first.ensures place
     (λ t. never (sym c.if-not-test.true ∙ zone.1 t))
@@ -48,9 +48,9 @@ returns-clause-grown g c =
     let heights = g.H.Lift.heights c.args.lift.now in
     let q : c.point_at-p.result ≡ point ps c.args.number = rw c.points-points.ensures at c.point_at-p.ensures in
     let place : IsPlace slots ps c.point_at-p.result c.locate.result = subst (λ (xs : List Point). IsPlace slots xs c.point_at-p.result c.locate.result) c.points-points.ensures c.locate.ensures in
-    let zone : IsTrue c.test.result ↔ IsTaken heights slots ps c.args.number c.slot_of-first.result.index =
+    let zone : IsTrue c.test.result ↔ IsLowestTaken heights slots ps c.args.number c.slot_of-first.result.index =
     same_zone g.H.Lift.heights g.H.Lift.points _ _ c.new-search.ensures c.test.result c.slot_of-first.result.index c.test.ensures in
-    let whole : IsWholeFrom heights slots ps c.args.number c.slot_of-first.result.index =
+    let whole : IsLowestWholeFrom heights slots ps c.args.number c.slot_of-first.result.index =
     whole_at heights slots ps c.requires.ready.0 c.args.number c.tet.ensures.mesh c.requires.ready.1 c.point_at-p.result c.locate.result c.slot_of-first.result.index q c.slot_of-first.ensures place
     (zone.0 c.if-not-test.false) in
     cavity_for heights slots ps _ _ _ _ _ c.begin.ensures.start_is c.tet.ensures.mesh whole

@@ -1,7 +1,7 @@
 use Rattle.std.proofs.Common.{◌≡◌, ◌≤◌, ◌++◌, ◌∙◌, inl, inr, refl, sym, Ok, Err, Option, List, ℕ, Result, arith}
 use Rattle.std.specs.Prelude.{codes}
 use Rattle.std.proofs.lemmas.Result.{err_from_is_err_and}
-use Rattle.check_steps.specs.Reading.{FileAnswer, NeighborsAnswer, nodes_of, rows_of, faces_of}
+use Rattle.check_steps.specs.Reading.{FileAnswer, NeighborsAnswer, nodes_in_text, rows_of, faces_in_text}
 use Rattle.check_steps.specs.Steps.{FolderSeen, folder_seen}
 use Rattle.check_steps.proofs.Windows.{IsWithin, file_wider, neighbors_wider, within_of}
 use Rattle.check_steps.proofs.reading.read_mesh.Goals as goal
@@ -19,7 +19,7 @@ returns-in_err-rows-clause-answer g c =
     let u2 = a2.faults in
     let v2 = a2.misses in
     let p = err_from_is_err_and c.from_residual-in_err-rows.result c.from_residual-in_err-rows.ensures.1 in
-    rw (p.1, p.2) (inr (c.in_ok-nodes.nodes, file_wider (folder_seen F.held F.faults F.misses f0 f1) (folder_seen F.held F.faults F.misses f0 f2) (within_of F.held F.faults F.misses f0 f0 f1 f2 (refl) (omega arith) (omega arith) (omega arith) (omega arith)) (c.args.base.now ++ codes ".node") nodes_of (Ok c.in_ok-nodes.nodes) c.in_ok-nodes.ensures.answer, inl (file_wider (folder_seen F.held F.faults F.misses f1 f2) (folder_seen F.held F.faults F.misses f0 f2) (within_of F.held F.faults F.misses f0 f1 f2 f2 (a1.unchanged) (omega arith) (omega arith) (omega arith) (omega arith)) (c.args.base.now ++ codes ".ele") (rows_of c.in_ok-nodes.nodes) (Err c.in_err-rows.field-0.0) c.in_err-rows.ensures.answer)))
+    rw (p.1, p.2) (inr (c.in_ok-nodes.nodes, file_wider (folder_seen F.held F.faults F.misses f0 f1) (folder_seen F.held F.faults F.misses f0 f2) (within_of F.held F.faults F.misses f0 f0 f1 f2 (refl) (omega arith) (omega arith) (omega arith) (omega arith)) (c.args.base.now ++ codes ".node") nodes_in_text (Ok c.in_ok-nodes.nodes) c.in_ok-nodes.ensures.answer, inl (file_wider (folder_seen F.held F.faults F.misses f1 f2) (folder_seen F.held F.faults F.misses f0 f2) (within_of F.held F.faults F.misses f0 f1 f2 f2 (a1.unchanged) (omega arith) (omega arith) (omega arith) (omega arith)) (c.args.base.now ++ codes ".ele") (rows_of c.in_ok-nodes.nodes) (Err c.in_err-rows.field-0.0) c.in_err-rows.ensures.answer)))
 
 pub returns-in_err-faces-clause-answer : goal.returns-in_err-faces-clause-answer
 returns-in_err-faces-clause-answer g c =
@@ -38,7 +38,7 @@ returns-in_err-faces-clause-answer g c =
     let u3 = a3.faults in
     let v3 = a3.misses in
     let p = err_from_is_err_and c.from_residual-in_err-faces.result c.from_residual-in_err-faces.ensures.1 in
-    rw (p.1, p.2) (inr (c.in_ok-nodes.nodes, file_wider (folder_seen F.held F.faults F.misses f0 f1) (folder_seen F.held F.faults F.misses f0 f3) (within_of F.held F.faults F.misses f0 f0 f1 f3 (refl) (omega arith) (omega arith) (omega arith) (omega arith)) (c.args.base.now ++ codes ".node") nodes_of (Ok c.in_ok-nodes.nodes) c.in_ok-nodes.ensures.answer, inr (c.in_ok-rows.rows, file_wider (folder_seen F.held F.faults F.misses f1 f2) (folder_seen F.held F.faults F.misses f0 f3) (within_of F.held F.faults F.misses f0 f1 f2 f3 (a1.unchanged) (omega arith) (omega arith) (omega arith) (omega arith)) (c.args.base.now ++ codes ".ele") (rows_of c.in_ok-nodes.nodes) (Ok c.in_ok-rows.rows) c.in_ok-rows.ensures.answer, inl (file_wider (folder_seen F.held F.faults F.misses f2 f3) (folder_seen F.held F.faults F.misses f0 f3) (within_of F.held F.faults F.misses f0 f2 f3 f3 (a2.unchanged ∙ a1.unchanged) (omega arith) (omega arith) (omega arith) (omega arith)) (c.args.base.now ++ codes ".face") (faces_of c.in_ok-nodes.nodes) (Err c.in_err-faces.field-0.0) c.in_err-faces.ensures.answer))))
+    rw (p.1, p.2) (inr (c.in_ok-nodes.nodes, file_wider (folder_seen F.held F.faults F.misses f0 f1) (folder_seen F.held F.faults F.misses f0 f3) (within_of F.held F.faults F.misses f0 f0 f1 f3 (refl) (omega arith) (omega arith) (omega arith) (omega arith)) (c.args.base.now ++ codes ".node") nodes_in_text (Ok c.in_ok-nodes.nodes) c.in_ok-nodes.ensures.answer, inr (c.in_ok-rows.rows, file_wider (folder_seen F.held F.faults F.misses f1 f2) (folder_seen F.held F.faults F.misses f0 f3) (within_of F.held F.faults F.misses f0 f1 f2 f3 (a1.unchanged) (omega arith) (omega arith) (omega arith) (omega arith)) (c.args.base.now ++ codes ".ele") (rows_of c.in_ok-nodes.nodes) (Ok c.in_ok-rows.rows) c.in_ok-rows.ensures.answer, inl (file_wider (folder_seen F.held F.faults F.misses f2 f3) (folder_seen F.held F.faults F.misses f0 f3) (within_of F.held F.faults F.misses f0 f2 f3 f3 (a2.unchanged ∙ a1.unchanged) (omega arith) (omega arith) (omega arith) (omega arith)) (c.args.base.now ++ codes ".face") (faces_in_text c.in_ok-nodes.nodes) (Err c.in_err-faces.field-0.0) c.in_err-faces.ensures.answer))))
 
 pub returns-in_err-neighbors-clause-answer : goal.returns-in_err-neighbors-clause-answer
 returns-in_err-neighbors-clause-answer g c =
@@ -61,7 +61,7 @@ returns-in_err-neighbors-clause-answer g c =
     let u4 = a4.faults in
     let v4 = a4.misses in
     let p = err_from_is_err_and c.from_residual-in_err-neighbors.result c.from_residual-in_err-neighbors.ensures.1 in
-    rw (p.1, p.2) (inr (c.in_ok-nodes.nodes, file_wider (folder_seen F.held F.faults F.misses f0 f1) (folder_seen F.held F.faults F.misses f0 f4) (within_of F.held F.faults F.misses f0 f0 f1 f4 (refl) (omega arith) (omega arith) (omega arith) (omega arith)) (c.args.base.now ++ codes ".node") nodes_of (Ok c.in_ok-nodes.nodes) c.in_ok-nodes.ensures.answer, inr (c.in_ok-rows.rows, file_wider (folder_seen F.held F.faults F.misses f1 f2) (folder_seen F.held F.faults F.misses f0 f4) (within_of F.held F.faults F.misses f0 f1 f2 f4 (a1.unchanged) (omega arith) (omega arith) (omega arith) (omega arith)) (c.args.base.now ++ codes ".ele") (rows_of c.in_ok-nodes.nodes) (Ok c.in_ok-rows.rows) c.in_ok-rows.ensures.answer, inr (c.in_ok-faces.faces, file_wider (folder_seen F.held F.faults F.misses f2 f3) (folder_seen F.held F.faults F.misses f0 f4) (within_of F.held F.faults F.misses f0 f2 f3 f4 (a2.unchanged ∙ a1.unchanged) (omega arith) (omega arith) (omega arith) (omega arith)) (c.args.base.now ++ codes ".face") (faces_of c.in_ok-nodes.nodes) (Ok c.in_ok-faces.faces) c.in_ok-faces.ensures.answer, inl (neighbors_wider (folder_seen F.held F.faults F.misses f3 f4) (folder_seen F.held F.faults F.misses f0 f4) (within_of F.held F.faults F.misses f0 f3 f4 f4 (a3.unchanged ∙ a2.unchanged ∙ a1.unchanged) (omega arith) (omega arith) (omega arith) (omega arith)) c.args.base.now c.in_ok-nodes.nodes (Err c.in_err-neighbors.field-0.0) c.in_err-neighbors.ensures.answer)))))
+    rw (p.1, p.2) (inr (c.in_ok-nodes.nodes, file_wider (folder_seen F.held F.faults F.misses f0 f1) (folder_seen F.held F.faults F.misses f0 f4) (within_of F.held F.faults F.misses f0 f0 f1 f4 (refl) (omega arith) (omega arith) (omega arith) (omega arith)) (c.args.base.now ++ codes ".node") nodes_in_text (Ok c.in_ok-nodes.nodes) c.in_ok-nodes.ensures.answer, inr (c.in_ok-rows.rows, file_wider (folder_seen F.held F.faults F.misses f1 f2) (folder_seen F.held F.faults F.misses f0 f4) (within_of F.held F.faults F.misses f0 f1 f2 f4 (a1.unchanged) (omega arith) (omega arith) (omega arith) (omega arith)) (c.args.base.now ++ codes ".ele") (rows_of c.in_ok-nodes.nodes) (Ok c.in_ok-rows.rows) c.in_ok-rows.ensures.answer, inr (c.in_ok-faces.faces, file_wider (folder_seen F.held F.faults F.misses f2 f3) (folder_seen F.held F.faults F.misses f0 f4) (within_of F.held F.faults F.misses f0 f2 f3 f4 (a2.unchanged ∙ a1.unchanged) (omega arith) (omega arith) (omega arith) (omega arith)) (c.args.base.now ++ codes ".face") (faces_in_text c.in_ok-nodes.nodes) (Ok c.in_ok-faces.faces) c.in_ok-faces.ensures.answer, inl (neighbors_wider (folder_seen F.held F.faults F.misses f3 f4) (folder_seen F.held F.faults F.misses f0 f4) (within_of F.held F.faults F.misses f0 f3 f4 f4 (a3.unchanged ∙ a2.unchanged ∙ a1.unchanged) (omega arith) (omega arith) (omega arith) (omega arith)) c.args.base.now c.in_ok-nodes.nodes (Err c.in_err-neighbors.field-0.0) c.in_err-neighbors.ensures.answer)))))
 
 pub returns-clause-answer : goal.returns-clause-answer
 returns-clause-answer g c =
@@ -83,4 +83,4 @@ returns-clause-answer g c =
     let v3 = a3.misses in
     let u4 = a4.faults in
     let v4 = a4.misses in
-    (c.in_ok-nodes.nodes, file_wider (folder_seen F.held F.faults F.misses f0 f1) (folder_seen F.held F.faults F.misses f0 f4) (within_of F.held F.faults F.misses f0 f0 f1 f4 (refl) (omega arith) (omega arith) (omega arith) (omega arith)) (c.args.base.now ++ codes ".node") nodes_of (Ok c.in_ok-nodes.nodes) c.in_ok-nodes.ensures.answer, (c.in_ok-rows.rows, file_wider (folder_seen F.held F.faults F.misses f1 f2) (folder_seen F.held F.faults F.misses f0 f4) (within_of F.held F.faults F.misses f0 f1 f2 f4 (a1.unchanged) (omega arith) (omega arith) (omega arith) (omega arith)) (c.args.base.now ++ codes ".ele") (rows_of c.in_ok-nodes.nodes) (Ok c.in_ok-rows.rows) c.in_ok-rows.ensures.answer, (c.in_ok-faces.faces, file_wider (folder_seen F.held F.faults F.misses f2 f3) (folder_seen F.held F.faults F.misses f0 f4) (within_of F.held F.faults F.misses f0 f2 f3 f4 (a2.unchanged ∙ a1.unchanged) (omega arith) (omega arith) (omega arith) (omega arith)) (c.args.base.now ++ codes ".face") (faces_of c.in_ok-nodes.nodes) (Ok c.in_ok-faces.faces) c.in_ok-faces.ensures.answer, (c.in_ok-neighbors.neighbors, neighbors_wider (folder_seen F.held F.faults F.misses f3 f4) (folder_seen F.held F.faults F.misses f0 f4) (within_of F.held F.faults F.misses f0 f3 f4 f4 (a3.unchanged ∙ a2.unchanged ∙ a1.unchanged) (omega arith) (omega arith) (omega arith) (omega arith)) c.args.base.now c.in_ok-nodes.nodes (Ok c.in_ok-neighbors.neighbors) c.in_ok-neighbors.ensures.answer, refl))))
+    (c.in_ok-nodes.nodes, file_wider (folder_seen F.held F.faults F.misses f0 f1) (folder_seen F.held F.faults F.misses f0 f4) (within_of F.held F.faults F.misses f0 f0 f1 f4 (refl) (omega arith) (omega arith) (omega arith) (omega arith)) (c.args.base.now ++ codes ".node") nodes_in_text (Ok c.in_ok-nodes.nodes) c.in_ok-nodes.ensures.answer, (c.in_ok-rows.rows, file_wider (folder_seen F.held F.faults F.misses f1 f2) (folder_seen F.held F.faults F.misses f0 f4) (within_of F.held F.faults F.misses f0 f1 f2 f4 (a1.unchanged) (omega arith) (omega arith) (omega arith) (omega arith)) (c.args.base.now ++ codes ".ele") (rows_of c.in_ok-nodes.nodes) (Ok c.in_ok-rows.rows) c.in_ok-rows.ensures.answer, (c.in_ok-faces.faces, file_wider (folder_seen F.held F.faults F.misses f2 f3) (folder_seen F.held F.faults F.misses f0 f4) (within_of F.held F.faults F.misses f0 f2 f3 f4 (a2.unchanged ∙ a1.unchanged) (omega arith) (omega arith) (omega arith) (omega arith)) (c.args.base.now ++ codes ".face") (faces_in_text c.in_ok-nodes.nodes) (Ok c.in_ok-faces.faces) c.in_ok-faces.ensures.answer, (c.in_ok-neighbors.neighbors, neighbors_wider (folder_seen F.held F.faults F.misses f3 f4) (folder_seen F.held F.faults F.misses f0 f4) (within_of F.held F.faults F.misses f0 f3 f4 f4 (a3.unchanged ∙ a2.unchanged ∙ a1.unchanged) (omega arith) (omega arith) (omega arith) (omega arith)) c.args.base.now c.in_ok-nodes.nodes (Ok c.in_ok-neighbors.neighbors) c.in_ok-neighbors.ensures.answer, refl))))

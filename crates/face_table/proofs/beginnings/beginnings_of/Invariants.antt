@@ -1,6 +1,7 @@
 use Rattle.std.proofs.Common.{◌≡◌, ℕ, ◌<◌, true, length}
-use Rattle.face_table.specs.Chains.{face_at, is_marked}
+use Rattle.face_table.specs.Chains.{face_at}
 use Rattle.face_table.proofs.beginnings.beginnings_of.Given as goal
+use Rattle.geo_laws.specs.Marks.{is_marked}
 
 abbrev pub invariant-loop-at : goal.invariant-loop-at
 invariant-loop-at l = record {

@@ -4,9 +4,9 @@ use Rattle.sign_predicates.specs.Point.{Point}
 use Rattle.geo_laws.specs.Facet.{second_of_two}
 use Rattle.facet_plane.specs.Axes.{axis_is}
 use Rattle.facet_plane.proofs.Sums.{wide_back}
-use Rattle.facet_plane.specs.Walk.{xor}
 use Rattle.facet_plane.proofs.Walks.{unlike}
 use Rattle.facet_plane.proofs.outline.is_between.Goals as goal
+use Rattle.facet_laws.specs.Parity.{xor}
 
 pub returns : goal.returns
 returns c =

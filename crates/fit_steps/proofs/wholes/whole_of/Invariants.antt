@@ -1,11 +1,11 @@
-use Rattle.fit_steps.specs.Hints.{IsPartOf}
+use Rattle.fit_steps.specs.Hints.{IsHalvedPartOf}
 use Rattle.geo_laws.specs.declared.complex.Piece.{Piece}
 use Rattle.fit_steps.proofs.wholes.whole_of.Given as goal
 
 -- what this piece is a part of, the first one is too
 abbrev pub invariant-loop-left : goal.invariant-loop-left
 invariant-loop-left l =
-    (whole : Piece) → IsPartOf l.limits l.options l.input l.count l.left l.whole whole → IsPartOf l.limits l.options l.input l.count l.fn.piece.halvings l.fn.piece whole
+    (whole : Piece) → IsHalvedPartOf l.limits l.options l.input l.count l.left l.whole whole → IsHalvedPartOf l.limits l.options l.input l.count l.fn.piece.halvings l.fn.piece whole
 
 abbrev pub decreases-loop-left : goal.decreases-loop-left
 decreases-loop-left l = l.left

@@ -1,6 +1,6 @@
 use Rattle.std.proofs.Common.{refl, sym, arith}
 use Rattle.tet_text.proofs.Numerals.{tens_le, pow10_pos}
-use Rattle.grid_coords.specs.Rounding.{nearest}
+use Rattle.grid_coords.specs.Rounding.{nearest_whole}
 use Rattle.grid_coords.proofs.Nearest.{nearest_nothing}
 use Rattle.grid_coords.proofs.rounding.nearest.Goals as goal
 
@@ -20,5 +20,5 @@ pub nonzero_div-result : goal.nonzero_div-result
 nonzero_div-result c = omega (arith, pow10_pos c.args.steps)
 
 pub returns-clause-value : goal.returns-clause-value
-unfolding nearest
+unfolding nearest_whole
 returns-clause-value c = rw c.pow-unit.ensures refl

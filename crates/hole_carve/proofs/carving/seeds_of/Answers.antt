@@ -1,9 +1,9 @@
 use Rattle.std.proofs.Common.{◌≡◌, ◌↔◌, ℕ, true, length}
-use Rattle.hole_carve.specs.Flooding.{is_marked}
 use Rattle.hole_carve.specs.Seeds.{BeginsAt}
 use Rattle.std.proofs.Common.{sym, subst, arith}
 use Rattle.hole_carve.proofs.Begun.{front_of}
 use Rattle.hole_carve.proofs.carving.seeds_of.Goals as goal
+use Rattle.geo_laws.specs.Marks.{is_marked}
 
 -- src/carving.rt:105:1
 pub returns-clause-marked : goal.returns-clause-marked

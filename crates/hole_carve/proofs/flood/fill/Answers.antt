@@ -1,5 +1,5 @@
 use Rattle.std.proofs.Common.{◌<◌, length, sym, subst, ◌∙◌, arith}
-use Rattle.hole_carve.specs.Flooding.{begins, queue_at, IsDone}
+use Rattle.hole_carve.specs.Flooding.{begins, queue_at, IsClosedFrom}
 use Rattle.hole_carve.proofs.Flooding.{queue_short, marked_is, flooded_is, done_still, below_next, default_at, extends_more, marked_inside}
 use Rattle.hole_carve.proofs.flood.fill.Goals as goal
 
@@ -27,9 +27,9 @@ loop-at-preserved c =
       filled = e.filled;
       grown = extends_more _ _ _ _ _ _ was.grown e.grown;
       seeded = λ v s. e.grown.marked v (was.seeded v s);
-      done = below_next (λ q. IsDone c.args.ways.now new_marks (queue_at new_queue q)) c.loop-at.at
+      done = below_next (λ q. IsClosedFrom c.args.ways.now new_marks (queue_at new_queue q)) c.loop-at.at
           (λ q l. done_still c.args.ways.now c.loop-at.marks new_marks c.loop-at.queue.items new_queue e.grown q (omega (arith, c.loop-at-test.true, l)) (was.done q l))
-          (subst (IsDone c.args.ways.now new_marks) (sym (e.grown.same c.loop-at.at (omega (arith, c.loop-at-test.true)) ∙ default_at c.loop-at.queue.items c.loop-at.at 0 c.index-place.result.now (omega (arith, c.loop-at-test.true)) ∙ sym c.index-place.ensures)) e.done);
+          (subst (IsClosedFrom c.args.ways.now new_marks) (sym (e.grown.same c.loop-at.at (omega (arith, c.loop-at-test.true)) ∙ default_at c.loop-at.queue.items c.loop-at.at 0 c.index-place.result.now (omega (arith, c.loop-at-test.true)) ∙ sym c.index-place.ensures)) e.done);
     }
 
 pub loop-at-init : goal.loop-at-init

@@ -1,7 +1,8 @@
 use Rattle.std.proofs.Common.{◌≡◌, true, length, arith}
-use Rattle.hole_carve.specs.Flooding.{IsWay, is_marked}
+use Rattle.hole_carve.specs.Flooding.{IsWay}
 use Rattle.hole_carve.proofs.Flooding.{extends_more, way_inside, below_next}
 use Rattle.hole_carve.proofs.flood.reach_from_beyond.Goals as goal
+use Rattle.geo_laws.specs.Marks.{is_marked}
 
 pub loop-row-preserved : goal.loop-row-preserved
 loop-row-preserved c =

@@ -1,7 +1,7 @@
 use Rattle.std.proofs.Common.{◌≡◌, ◌+◌, ◌<◌, None, length, sym, ap, ◌∙◌, arith}
-use Rattle.incidence.specs.Links.{row_at}
 use Rattle.hole_carve.proofs.KeptMarks.{row_found, still_ahead, one_longer, each_next}
 use Rattle.hole_carve.proofs.marks.kept_marks.Goals as goal
+use Rattle.geo_laws.specs.Delaunay.{row_at}
 
 pub at-requires-in-loop-at : goal.at-requires-in-loop-at
 at-requires-in-loop-at c =

@@ -1,7 +1,7 @@
 use Rattle.std.proofs.Common.{◌≡◌, ℕ, ◌<◌, ◌≤◌, length}
-use Rattle.incidence.specs.Links.{row_at}
 use Rattle.hole_carve.specs.Marks.{mark_at}
 use Rattle.hole_carve.proofs.marks.kept_marks.Given as goal
+use Rattle.geo_laws.specs.Delaunay.{row_at}
 
 abbrev pub invariant-loop-at : goal.invariant-loop-at
 invariant-loop-at l = record {

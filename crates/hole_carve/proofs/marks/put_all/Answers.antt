@@ -1,7 +1,7 @@
 use Rattle.std.proofs.Common.{◌≡◌, ℕ, false, length, refl, sym, ap, subst, arith}
-use Rattle.hole_carve.specs.Flooding.{is_marked}
 use Rattle.hole_carve.proofs.Flooding.{none_marked}
 use Rattle.hole_carve.proofs.marks.put_all.Goals as goal
+use Rattle.geo_laws.specs.Marks.{is_marked}
 
 pub put_each-requires-clause-no_seeds : goal.put_each-requires-clause-no_seeds
 put_each-requires-clause-no_seeds c =

@@ -1,7 +1,7 @@
 use Rattle.std.proofs.Common.{◌≡◌, ◌+◌, [], length, inl, sym, ap, subst, ◌∙◌, arith}
 use Rattle.std.proofs.lemmas.Bool.{true≢false}
 use Rattle.sign_predicates.specs.Point.{as_rational, origin}
-use Rattle.hole_carve.specs.Flooding.{IsFilled}
+use Rattle.hole_carve.specs.Flooding.{IsQueued}
 use Rattle.hole_carve.specs.Marks.{region_point, AreNumbered}
 use Rattle.hole_carve.proofs.Flooding.{no_flood, filled_none, filled_more}
 use Rattle.hole_carve.proofs.Marked.{IsFloodedBy, region_seeds_none, region_seeds_next, numbered_none, numbered_next}
@@ -13,7 +13,7 @@ loop-k-init c = record {
   seeds_are = region_seeds_none c.args.points.now c.args.closed.now c.args.list.now c.args.complex.now.regions c.args.seeds.now c.requires.no_seeds;
   reached_long = c.requires.reached ∙ ap (λ n. n + 1) (sym c.requires.ways);
   exactly = λ i. (λ m. absurd (true≢false (sym m ∙ c.requires.none_reached i)), λ r. absurd (no_flood c.args.ways.now c.args.seeds.now c.requires.no_seeds i r));
-  filled = subst (IsFilled c.args.ways.now c.args.seeds.now c.args.reached.now) (sym c.new-queue.ensures.items) (filled_none c.args.ways.now c.args.seeds.now c.args.reached.now c.requires.none_reached);
+  filled = subst (IsQueued c.args.ways.now c.args.seeds.now c.args.reached.now) (sym c.new-queue.ensures.items) (filled_none c.args.ways.now c.args.seeds.now c.args.reached.now c.requires.none_reached);
   done = λ q l. let none = ap length c.new-queue.ensures.items in absurd (omega (arith, none, l));
   long = c.requires.long;
   numbered = numbered_none c.args.points.now c.args.closed.now c.args.list.now c.args.ways.now c.args.complex.now.regions c.args.marks.now c.requires.clear;

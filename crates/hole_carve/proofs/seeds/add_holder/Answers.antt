@@ -3,7 +3,7 @@ use Rattle.std.proofs.lemmas.Bool.{true≢false}
 use Rattle.sign_predicates.specs.Orientation.{IsPositive, InClosed}
 use Rattle.geo_laws.specs.declared.tetrahedra.Tet.{Tet}
 use Rattle.geo_laws.specs.Delaunay.{corners}
-use Rattle.hole_carve.specs.Seeds.{Holds}
+use Rattle.hole_carve.specs.Seeds.{RowHolds}
 use Rattle.hole_carve.proofs.Seeding.{gathered_next, gathered_past}
 use Rattle.hole_carve.proofs.seeds.add_holder.Goals as goal
 
@@ -14,10 +14,10 @@ holds-requires-clause-positive c =
 
 pub returns-then-holds : goal.returns-then-holds
 returns-then-holds c =
-    gathered_next (Holds c.args.points.now c.args.list.now c.args.x) c.args.holders.now.items c.push.new.self.items c.args.at c.requires.before c.in_ok-push.ensures.items
+    gathered_next (RowHolds c.args.points.now c.args.list.now c.args.x) c.args.holders.now.items c.push.new.self.items c.args.at c.requires.before c.in_ok-push.ensures.items
     (c.requires.there, subst (λ t. InClosed (corners c.args.points.now t) c.args.x) c.row_on.ensures.is (c.holds.ensures.0 c.if-holds.true))
 
 pub returns : goal.returns
 returns c =
-    gathered_past (Holds c.args.points.now c.args.list.now c.args.x) c.args.holders.now.items c.args.at c.requires.before
+    gathered_past (RowHolds c.args.points.now c.args.list.now c.args.x) c.args.holders.now.items c.args.at c.requires.before
     (λ h. true≢false (sym (c.holds.ensures.1 (subst (λ t. InClosed (corners c.args.points.now t) c.args.x) (sym c.row_on.ensures.is) h.1)) ∙ c.if-holds.false))

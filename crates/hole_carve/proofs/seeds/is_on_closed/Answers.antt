@@ -1,11 +1,11 @@
 use Rattle.std.proofs.Common.{refl, sym, subst, ◌∙◌, arith}
 use Rattle.std.proofs.lemmas.Bool.{true≢false}
-use Rattle.incidence.specs.Links.{row_at}
 use Rattle.hole_carve.specs.Flooding.{queue_at}
 use Rattle.hole_carve.specs.Seeds.{HoldsOn}
 use Rattle.hole_carve.proofs.Flooding.{below_next}
 use Rattle.hole_carve.proofs.Seeding.{at_of, of_at, lies_same, lies_back}
 use Rattle.hole_carve.proofs.seeds.is_on_closed.Goals as goal
+use Rattle.geo_laws.specs.Delaunay.{row_at}
 
 pub returns-then-lies_on_some : goal.returns-then-lies_on_some
 returns-then-lies_on_some c =

@@ -1,8 +1,9 @@
 use Rattle.std.proofs.Common.{◌≡◌, ◌⊎◌, inl, inr, ℕ, ◌<◌, true, subst, arith}
 use Rattle.std.specs.Prelude.{Contains}
-use Rattle.hole_carve.specs.Flooding.{is_marked, queue_at}
+use Rattle.hole_carve.specs.Flooding.{queue_at}
 use Rattle.hole_carve.proofs.Seeding.{at_of, of_at}
 use Rattle.hole_carve.proofs.seeds.mark_all.Goals as goal
+use Rattle.geo_laws.specs.Marks.{is_marked}
 
 pub mark_one-requires : goal.mark_one-requires
 mark_one-requires c = omega (arith, c.requires _ (of_at c.args.places.now c.loop-at.at c.loop-at-test.true), c.loop-at.invariant.long)

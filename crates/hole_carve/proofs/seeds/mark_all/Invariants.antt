@@ -1,7 +1,8 @@
 use Rattle.std.proofs.Common.{◌≡◌, ◌⊎◌, ℕ, ◌<◌, true, length}
 use Rattle.std.specs.Prelude.{◌↔◌}
-use Rattle.hole_carve.specs.Flooding.{is_marked, queue_at}
+use Rattle.hole_carve.specs.Flooding.{queue_at}
 use Rattle.hole_carve.proofs.seeds.mark_all.Given as goal
+use Rattle.geo_laws.specs.Marks.{is_marked}
 
 abbrev pub invariant-loop-at : goal.invariant-loop-at
 invariant-loop-at l = record {

@@ -1,9 +1,9 @@
 use Rattle.std.proofs.Common.{◌≡◌, ◌⊎◌, true, length, sym, subst, ◌∙◌, arith, eqb-true, eq-eqb}
 use Rattle.std.specs.Prelude.{◌↔◌}
 use Rattle.std.proofs.lemmas.Bool.{true≢false}
-use Rattle.hole_carve.specs.Flooding.{is_marked}
 use Rattle.hole_carve.proofs.Seeding.{seeds_beyond, seeds_held, above_zero}
 use Rattle.hole_carve.proofs.seeds.mark_found.Goals as goal
+use Rattle.geo_laws.specs.Marks.{is_marked}
 
 pub mark_all-requires : goal.mark_all-requires
 mark_all-requires c i h = let k = (c.requires.holders i).0 h in omega (arith, k.0, c.requires.long)

@@ -2,13 +2,13 @@ use Rattle.std.proofs.Common.{[], ℕ, ◌+◌, ◌<◌, Option, ap, map, length
 use Rattle.std.specs.Prelude.{IfSome}
 use Rattle.std.proofs.lemmas.List.{map-set, get_or-map, get_or_default, length-map}
 use Rattle.incidence.specs.HalfFaces.{use_of, used}
-use Rattle.incidence.specs.Links.{row_at}
-use Rattle.incidence.specs.Pairs.{partner, is_partner, placed, across_in}
+use Rattle.incidence.specs.Pairs.{partner, is_partner, with_partner, across_in}
 use Rattle.incidence.proofs.Halves.{used_at, used_length, by_row_of}
 use Rattle.incidence.proofs.Firsts.{first_within}
 use Rattle.incidence.proofs.Runs.{run_before_next}
 use Rattle.incidence.proofs.Settled.{AllSettled, settled_first, settled_next, settled_last}
 use Rattle.incidence.proofs.pairs.put_partners.Goals as goal
+use Rattle.geo_laws.specs.Delaunay.{row_at}
 
 below : (n m : ℕ) (o : Option ℕ) → n < m + 1 → IfSome o (λ i. i < 0 + n) → IfSome o (λ i. i < m)
 below n m o h k = grind (arith, h, k)
@@ -54,7 +54,7 @@ loop-at-preserved c =
       settled = subst (λ xs. AllSettled rows uses (at + 1) xs) (sym (map-set across_in places half.row new))
           (settled_next rows uses at (map across_in places) here (row_at rows half.row) _ _ _ (length-map _ _ ∙ omega arith) there
           is (λ t. get_or_default rows half.row t (record { a = 0; b = 0; c = 0; d = 0 }) there) its_partner
-          (c.put_partner.ensures ∙ ap (placed (row_at rows half.row) here.face _) was) c.loop-at.invariant.settled);
+          (c.put_partner.ensures ∙ ap (with_partner (row_at rows half.row) here.face _) was) c.loop-at.invariant.settled);
       run = run_before_next uses c.run_start-first.result at c.requires.uses.uses.ascending (omega (arith, used_length rows c.args.uses.now)) c.run_start-first.ensures;
     }
 

@@ -1,6 +1,6 @@
 use Rattle.std.proofs.Common.{◌≡◌, ◌-◌, subst, sym, arith}
 use Rattle.merged_facets.specs.Merging.{group_of}
-use Rattle.merged_facets.specs.MergedComplex.{AreChains}
+use Rattle.merged_facets.specs.MergedComplex.{AreMemberChains}
 use Rattle.merged_facets.proofs.Walk.{no_chains, chain_step}
 use Rattle.merged_facets.proofs.chains.chained.Goals as goal
 

@@ -1,10 +1,10 @@
 use Rattle.std.proofs.Common.{◌≡◌, ℕ, Some, None, subst, sym, ◌∙◌, arith}
 use Rattle.geo_laws.specs.declared.tetrahedra.Tet.{Tet}
-use Rattle.incidence.specs.Links.{row_at}
 use Rattle.mesh_check.specs.Bending.{AreBentIn}
 use Rattle.mesh_check.proofs.Bends.{entry_below, across_holds, across_fails, corner_holds, corner_fails}
 use Rattle.mesh_check.proofs.Rows.{row_is, row_on}
 use Rattle.mesh_check.proofs.bent.bent_across.Goals as goal
+use Rattle.geo_laws.specs.Delaunay.{row_at}
 
 pub first_bent_corner-requires-clause-s : goal.first_bent_corner-requires-clause-s
 first_bent_corner-requires-clause-s c = row_on c.args.mesh.points.now c.args.mesh.list.now c.args.place c.at-s.result c.requires.rows c.requires.place c.at-s.ensures

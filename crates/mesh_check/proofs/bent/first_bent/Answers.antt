@@ -2,7 +2,7 @@ use Rattle.std.proofs.Common.{◌≡◌, ◌<◌, ℕ, List, Option, Some, None,
 use Rattle.incidence.specs.Pairs.{IsAcrossWithin}
 use Rattle.incidence.specs.declared.pairs.Across.{Across}
 use Rattle.mesh_check.specs.Defects.{IsBent}
-use Rattle.mesh_check.specs.Searches.{IsFirstOf}
+use Rattle.mesh_check.specs.Searches.{IsLeastOf}
 use Rattle.mesh_check.proofs.Bends.{bent_is}
 use Rattle.mesh_check.proofs.Firsts.{pair_here, pairs_more, no_pair}
 use Rattle.mesh_check.proofs.Rows.{across_is, pairs_long}
@@ -26,7 +26,7 @@ returns-in-Some c =
     let lt : i < length c.args.pairs.now = omega (arith, e) in
     let within = subst (λ (n : ℕ). IsAcrossWithin n c.at-across.result) e (subst (λ (x : Across). IsAcrossWithin (length c.args.pairs.now) x) (c.at-across.ensures.same c.at-across.result) (c.requires.within i c.at-across.result lt)) in
     let found = bent_is m.points.now m.listed.now rows c.args.faces.now i c.at-across.result c.first_bent_with.result c.requires.apart c.requires.listed (omega arith) within (across_is rows c.args.pairs.now i c.at-across.result c.requires.pairs (omega arith) c.at-across.ensures.same) c.first_bent_with.ensures in
-    let first = subst (λ (o : Option ℕ). IsFirstOf (IsBent m.points.now rows c.args.faces.now i) o) c.in-Some.is found in
+    let first = subst (λ (o : Option ℕ). IsLeastOf (IsBent m.points.now rows c.args.faces.now i) o) c.in-Some.is found in
     pair_here (IsBent m.points.now rows c.args.faces.now) i c.in-Some.two c.loop-i.invariant first.0 first.1
 
 pub loop-i-preserved : goal.loop-i-preserved
@@ -38,7 +38,7 @@ loop-i-preserved c =
     let lt : i < length c.args.pairs.now = omega (arith, e) in
     let within = subst (λ (n : ℕ). IsAcrossWithin n c.at-across.result) e (subst (λ (x : Across). IsAcrossWithin (length c.args.pairs.now) x) (c.at-across.ensures.same c.at-across.result) (c.requires.within i c.at-across.result lt)) in
     let found = bent_is m.points.now m.listed.now rows c.args.faces.now i c.at-across.result c.first_bent_with.result c.requires.apart c.requires.listed (omega arith) within (across_is rows c.args.pairs.now i c.at-across.result c.requires.pairs (omega arith) c.at-across.ensures.same) c.first_bent_with.ensures in
-    let first = subst (λ (o : Option ℕ). IsFirstOf (IsBent m.points.now rows c.args.faces.now i) o) c.in_default.is found in
+    let first = subst (λ (o : Option ℕ). IsLeastOf (IsBent m.points.now rows c.args.faces.now i) o) c.in_default.is found in
     pairs_more (IsBent m.points.now rows c.args.faces.now) i c.loop-i.invariant first
 
 pub returns : goal.returns

@@ -1,6 +1,6 @@
 use Rattle.std.proofs.Common.{◌≡◌, ◌+◌, ◌<◌, ◌≤◌, ◌-◌, ℕ, Option, None, subst, sym, ap, ◌∙◌, arith, length, refl}
 use Rattle.std.specs.HashMap.{get}
-use Rattle.mesh_check.specs.Searches.{IsFirstOf}
+use Rattle.mesh_check.specs.Searches.{IsLeastOf}
 use Rattle.mesh_check.specs.Sides.{same_side, AreFirstsFrom, MeetsLater}
 use Rattle.mesh_check.proofs.Rows.{row_is, row_on}
 use Rattle.mesh_check.proofs.SidesOf.{FirstFrom, firsts_none, firsts_put, from_end, from_step, from_start}
@@ -33,7 +33,7 @@ loop-left-preserved c =
     let is = row_is rows i c.at-row.result c.at-row.ensures in
     let kept = subst (λ (n : ℕ). AreFirstsFrom ps rows n (get same_side c.loop-left.sides)) next c.loop-left.invariant.kept in
     let first = subst (λ (n : ℕ). FirstFrom ps rows n c.loop-left.first) next c.loop-left.invariant.first in
-    let met = subst (λ (n : ℕ). IsFirstOf (MeetsLater ps rows n c.at-row.result 4) c.first_met-met.result) next c.first_met-met.ensures in
+    let met = subst (λ (n : ℕ). IsLeastOf (MeetsLater ps rows n c.at-row.result 4) c.first_met-met.result) next c.first_met-met.ensures in
     record {
       there = omega arith;
       kept = firsts_put ps rows i c.at-row.result (get same_side c.loop-left.sides) (get same_side c.put_row.new.sides) lt is kept c.in_ok-put_row.ensures;

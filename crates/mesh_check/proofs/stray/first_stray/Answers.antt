@@ -2,7 +2,7 @@ use Rattle.std.proofs.Common.{◌≡◌, ℕ, subst, sym, ◌∙◌, arith}
 use Rattle.std.specs.Prelude.{Contains}
 use Rattle.geo_laws.specs.Faces.{faces_of_rows}
 use Rattle.geo_laws.specs.declared.faces.Face.{Face}
-use Rattle.mesh_check.specs.Corners.{face_at}
+use Rattle.mesh_check.specs.Corners.{listed_face_at}
 use Rattle.mesh_check.specs.Defects.{IsStray}
 use Rattle.mesh_check.proofs.Firsts.{none_more}
 use Rattle.mesh_check.proofs.Rows.{listed_at}

@@ -2,12 +2,13 @@ use Rattle.std.proofs.Common.{◌≡◌, ◌∙◌, ◌+◌, ◌-◌, ◌++◌, 
 use Rattle.std.proofs.lemmas.Result.{err_from_is_err_and}
 use Rattle.tet_text.specs.Lines.{ContentLine}
 use Rattle.tet_text.specs.Views.{content_left, line_total}
-use Rattle.mesh_files.specs.Repeated.{so_many, next_row, onto}
+use Rattle.mesh_files.specs.Repeated.{next_row}
 use Rattle.std.proofs.lemmas.List.Elements.{All-push}
-use Rattle.mesh_files.specs.ReadRows.{tet_row, IsBelow}
+use Rattle.mesh_files.specs.ReadRows.{tet_row, AreCornersBelow}
 use Rattle.mesh_files.specs.declared.fault.MeshFault.TheVariants as faults
 use Rattle.mesh_files.proofs.Repeats.{many_none, many_more, many_stop, many_all}
 use Rattle.mesh_files.proofs.ele_reading.read_rows.Goals as goal
+use Rattle.tet_text.specs.Repeated.{so_many, onto}
 
 pub loop-i-init : goal.loop-i-init
 loop-i-init c =
@@ -41,7 +42,7 @@ loop-i-preserved c =
           (subst (λ (n : ℕ). onto (c.loop-i.rows ++ c.in_ok-row.row ∷ []) (so_many one (c.args.head.count - (i + 1)) (n, left)) ≡ whole) next
           (many_more one c.loop-i.rows c.args.head.count i (c.args.listed.first + i, content_left c.loop-i.lines) (c.args.listed.first + i + 1, left) c.in_ok-row.row whole c.loop-i-test.true made c.loop-i.invariant.0)),
       c.in_ok-row.ensures.count ∙ c.loop-i.invariant.1,
-      rw c.in_ok-push.ensures.ok (All-push (IsBelow c.args.listed.points) c.loop-i.rows c.in_ok-row.row c.loop-i.invariant.2 c.in_ok-row.ensures.there),
+      rw c.in_ok-push.ensures.ok (All-push (AreCornersBelow c.args.listed.points) c.loop-i.rows c.in_ok-row.row c.loop-i.invariant.2 c.in_ok-row.ensures.there),
     )
 
 pub returns-clause-value : goal.returns-clause-value

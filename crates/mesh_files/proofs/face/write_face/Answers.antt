@@ -1,6 +1,6 @@
 use Rattle.std.proofs.Common.{subst, arith}
 use Rattle.mesh_files.specs.Texts.{face_line}
-use Rattle.mesh_files.specs.Texts.{corner_numbers, AreNamed}
+use Rattle.mesh_files.specs.Texts.{marked_corners, AreNamed}
 use Rattle.mesh_files.specs.declared.markers.FaceRow.{FaceRow}
 use Rattle.mesh_files.proofs.Lines.{next_line}
 use Rattle.mesh_files.proofs.face.write_face.Goals as goal
@@ -11,4 +11,4 @@ loop-i-preserved c =
 
 pub append_face-requires-clause-named : goal.append_face-requires-clause-named
 append_face-requires-clause-named c =
-    subst (λ (f : FaceRow). AreNamed c.args.names.now (corner_numbers f)) (c.at.ensures c.at.result) (c.requires c.loop-i.i c.at.result (omega arith))
+    subst (λ (f : FaceRow). AreNamed c.args.names.now (marked_corners f)) (c.at.ensures c.at.result) (c.requires c.loop-i.i c.at.result (omega arith))

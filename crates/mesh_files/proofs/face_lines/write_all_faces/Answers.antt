@@ -9,9 +9,9 @@ use Rattle.incidence.specs.HalfFaces.{used}
 use Rattle.incidence.specs.declared.half_faces.Corner.TheVariants.{A}
 use Rattle.incidence.specs.declared.half_faces.HalfFace.{HalfFace}
 use Rattle.incidence.proofs.Halves.{used_length}
-use Rattle.mesh_files.specs.FaceRows.{IsRowOf, corners_of}
-use Rattle.mesh_files.specs.FacetFaces.{IsIn}
-use Rattle.mesh_files.specs.Texts.{line_of, face_line, face_lines}
+use Rattle.mesh_files.specs.FaceRows.{IsFaceRowOf, corners_of}
+use Rattle.mesh_files.specs.FacetFaces.{IsTriangleIn}
+use Rattle.mesh_files.specs.Texts.{text_line, face_line, face_lines}
 use Rattle.mesh_files.specs.declared.markers.FaceRow.{FaceRow}
 use Rattle.mesh_files.proofs.FacetFaces.{facets_there}
 use Rattle.mesh_files.proofs.Found.{found_first, found_again, found_pushed, no_use}
@@ -37,7 +37,7 @@ loop-at-init c =
         [],
         found_first corners_of (IsListedRow mesh.triangles.now mesh.complex.now mesh.list.now true) (used mesh.list.now c.args.uses.now),
         refl,
-        c.in_ok-append_line.ensures ∙ ap (λ s. s ++ line_of c.first_count-count.result (pos 1 ∷ [])) c.in_ok-out.ensures ∙ sym (append-nil (line_of c.first_count-count.result (pos 1 ∷ []))),
+        c.in_ok-append_line.ensures ∙ ap (λ s. s ++ text_line c.first_count-count.result (pos 1 ∷ [])) c.in_ok-out.ensures ∙ sym (append-nil (text_line c.first_count-count.result (pos 1 ∷ []))),
       );
     }
 
@@ -74,7 +74,7 @@ loop-at-preserved c =
     let is = IsListedRow triangles complex rows true in
     let here : at < length halves = omega arith in
     let there : at < length uses = omega (arith, used_length rows halves) in
-    let listed : (f : Face) (r : FaceRow) → IsRowOf (IsIn c.in_ok-facets.facets) complex.facets rows true f r ↔ is f r = listed_row triangles c.in_ok-facets.facets c.in_ok-facets.ensures complex rows true in
+    let listed : (f : Face) (r : FaceRow) → IsFaceRowOf (IsTriangleIn c.in_ok-facets.facets) complex.facets rows true f r ↔ is f r = listed_row triangles c.in_ok-facets.facets c.in_ok-facets.ensures complex rows true in
     elim c.if-is_first.branch [
       | then-is_first+in-Some+in_ok-append_face w ↦
           let row = w.in-Some.row in
@@ -85,7 +85,7 @@ loop-at-preserved c =
               found_pushed corners_of is (row_items (IsTriangleOf triangles) complex.facets rows true) uses at found row c.requires.uses.uses.ascending there (c.is_first.ensures.first w.if-is_first.true)
                   (λ d. (listed _ row).0 (w.in-Some.ensures.row d)) o.1,
               omega (arith, w.place-is, o.2, length-append found (row ∷ [])),
-              w.out-is ∙ w.in_ok-append_face.ensures ∙ line_pushed (face_line c.args.names.now first) c.loop-at.place found row c.loop-at.out (line_of c.first_count-count.result (pos 1 ∷ [])) o.2 o.3,
+              w.out-is ∙ w.in_ok-append_face.ensures ∙ line_pushed (face_line c.args.names.now first) c.loop-at.place found row c.loop-at.out (text_line c.first_count-count.result (pos 1 ∷ [])) o.2 o.3,
             );
           }
       | then-is_first+in_default w ↦ absurd (true≢false (sym (w.in_default.ensures.asked refl)))
@@ -108,6 +108,6 @@ returns c =
     (λ text is. (
       o.0,
       rows_found mesh.points.now mesh.triangles.now rows mesh.complex.now true (used rows halves) c.loop-at.at o.0 c.requires.met c.requires.uses.uses (omega (arith, used_length rows halves)) o.1,
-      is ∙ o.3 ∙ ap (λ n. line_of n (pos 1 ∷ []) ++ face_lines c.args.names.now c.args.first 0 o.0) all,
+      is ∙ o.3 ∙ ap (λ n. text_line n (pos 1 ∷ []) ++ face_lines c.args.names.now c.args.first 0 o.0) all,
     ))
     c.finish.ensures

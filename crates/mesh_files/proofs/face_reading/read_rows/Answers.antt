@@ -2,12 +2,13 @@ use Rattle.std.proofs.Common.{◌≡◌, ◌∙◌, ◌+◌, ◌-◌, ◌++◌, 
 use Rattle.std.proofs.lemmas.Result.{err_from_is_err_and}
 use Rattle.tet_text.specs.Lines.{ContentLine}
 use Rattle.tet_text.specs.Views.{content_left, line_total}
-use Rattle.mesh_files.specs.Repeated.{so_many, next_row, onto}
+use Rattle.mesh_files.specs.Repeated.{next_row}
 use Rattle.std.proofs.lemmas.List.Elements.{All-push}
 use Rattle.mesh_files.specs.ReadRows.{face_row, IsFaceBelow}
 use Rattle.mesh_files.specs.declared.fault.MeshFault.TheVariants as faults
 use Rattle.mesh_files.proofs.Repeats.{many_none, many_more, many_stop, many_all}
 use Rattle.mesh_files.proofs.face_reading.read_rows.Goals as goal
+use Rattle.tet_text.specs.Repeated.{so_many, onto}
 
 pub loop-i-init : goal.loop-i-init
 loop-i-init c =

@@ -3,8 +3,8 @@ use Rattle.std.specs.Prelude.{◌↔◌}
 use Rattle.geo_laws.specs.declared.faces.Face.{Face}
 use Rattle.incidence.specs.HalfFaces.{used}
 use Rattle.incidence.proofs.Halves.{used_length}
-use Rattle.mesh_files.specs.FaceRows.{IsRowOf, corners_of}
-use Rattle.mesh_files.specs.FacetFaces.{IsIn}
+use Rattle.mesh_files.specs.FaceRows.{IsFaceRowOf, corners_of}
+use Rattle.mesh_files.specs.FacetFaces.{IsTriangleIn}
 use Rattle.mesh_files.specs.declared.markers.FaceRow.{FaceRow}
 use Rattle.mesh_files.proofs.FacetFaces.{facets_there}
 use Rattle.mesh_files.proofs.Found.{AreFoundBefore, found_first, found_again, found_none, found_pushed}
@@ -31,7 +31,7 @@ loop-at-preserved c =
     let at = c.loop-at.at in
     let found = c.loop-at.found in
     let is = IsListedRow triangles complex rows all in
-    let listed : (f : Face) (r : FaceRow) → IsRowOf (IsIn c.in_ok-facets.facets) complex.facets rows all f r ↔ is f r = listed_row triangles c.in_ok-facets.facets c.in_ok-facets.ensures complex rows all in
+    let listed : (f : Face) (r : FaceRow) → IsFaceRowOf (IsTriangleIn c.in_ok-facets.facets) complex.facets rows all f r ↔ is f r = listed_row triangles c.in_ok-facets.facets c.in_ok-facets.ensures complex rows all in
     elim c.if-is_first.branch [
       | then-is_first+in-Some+in_ok-push w ↦
           subst (AreFoundBefore corners_of is uses (at + 1)) (sym (w.found-is ∙ w.in_ok-push.ensures.ok))

@@ -1,9 +1,10 @@
 use Rattle.std.proofs.Common.{◌≡◌, ◌-◌, ◌+◌}
 use Rattle.std.specs.Prelude.{All}
 use Rattle.tet_text.specs.Views.{content_left, line_total}
-use Rattle.mesh_files.specs.Repeated.{so_many, next_row, onto}
+use Rattle.mesh_files.specs.Repeated.{next_row}
 use Rattle.mesh_files.specs.ReadRows.{across_row}
 use Rattle.mesh_files.proofs.neigh_reading.read_rows.Given as goal
+use Rattle.tet_text.specs.Repeated.{so_many, onto}
 
 abbrev pub invariant-loop-i : goal.invariant-loop-i
 invariant-loop-i l =

@@ -1,12 +1,12 @@
 use Rattle.std.proofs.Common.{◌≡◌, length, sym, subst, arith}
 use Rattle.std.proofs.lemmas.List.Elements.{AllWithin-more}
-use Rattle.tangle_fill.specs.Sample.{IsFacetTriangle}
+use Rattle.tangle_fill.specs.Sample.{IsPlaneTriangle}
 use Rattle.mesh_tests.proofs.tangles.are_facet_triangles.Goals as goal
 
 pub loop-i-preserved : goal.loop-i-preserved
 loop-i-preserved c =
-    AllWithin-more (IsFacetTriangle c.args.points.now) c.args.triangles.now 0 c.loop-i.i c.loop-i.invariant
-    (λ d. subst (IsFacetTriangle c.args.points.now) (sym (c.at.ensures d)) (c.is_facet_triangle.ensures c.if-not-is_facet_triangle.false))
+    AllWithin-more (IsPlaneTriangle c.args.points.now) c.args.triangles.now 0 c.loop-i.i c.loop-i.invariant
+    (λ d. subst (IsPlaneTriangle c.args.points.now) (sym (c.at.ensures d)) (c.is_facet_triangle.ensures c.if-not-is_facet_triangle.false))
 
 pub returns : goal.returns
 returns c t =

@@ -3,7 +3,7 @@ use Rattle.std.specs.Prelude.{All, option_map}
 use Rattle.grid_coords.specs.declared.grid.Grid.{Grid}
 use Rattle.grid_coords.specs.declared.points.DecimalPoint.{DecimalPoint}
 use Rattle.grid_coords.specs.Choice.{unless_over}
-use Rattle.node_files.specs.LeastGrid.{coarsest, first_over, least_grid_of, IsPointOnGrid}
+use Rattle.node_files.specs.LeastGrid.{coarsest, first_over_units, least_grid_of, IsPointInUnits}
 use Rattle.node_files.proofs.Greatest.{line_some, line_none, points_on}
 use Rattle.node_files.proofs.least.least_grid.Goals as goal
 
@@ -13,7 +13,7 @@ returns-in-Some-clause-value c =
     let ps = c.args.points.now in
     let grid = c.coarsest-grid.ensures ∙ ap coarsest c.as_slice.ensures in
     let found = rw (grid, c.as_slice-2.ensures) at (sym c.line_over.ensures ∙ c.in-Some.is) in
-    sym (line_some (first_over (coarsest ps) ps) (coarsest ps) c.in-Some.line found)
+    sym (line_some (first_over_units (coarsest ps) ps) (coarsest ps) c.in-Some.line found)
 
 pub returns-in-None-clause-value : goal.returns-in-None-clause-value
 unfolding least_grid_of

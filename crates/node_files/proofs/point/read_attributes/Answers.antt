@@ -1,8 +1,9 @@
 use Rattle.std.proofs.Common.{◌≡◌, ℕ, List, ◌++◌, ◌∷◌, [], sym, ap, ◌∙◌}
 use Rattle.std.proofs.lemmas.Result.{err_from_is_err_and}
-use Rattle.node_files.specs.Point.{attributes_at, onto}
+use Rattle.node_files.specs.Point.{attributes_at}
 use Rattle.node_files.proofs.Attributes.{attributes_more, attributes_stop, attributes_all}
 use Rattle.node_files.proofs.point.read_attributes.Goals as goal
+use Rattle.tet_text.specs.Repeated.{onto}
 
 pub returns-in_err-field-clause-value : goal.returns-in_err-field-clause-value
 returns-in_err-field-clause-value c =

@@ -1,6 +1,7 @@
 use Rattle.std.proofs.Common.{◌≡◌, ◌-◌}
-use Rattle.node_files.specs.Point.{attributes_at, onto}
+use Rattle.node_files.specs.Point.{attributes_at}
 use Rattle.node_files.proofs.point.read_attributes.Given as goal
+use Rattle.tet_text.specs.Repeated.{onto}
 
 abbrev pub invariant-loop : goal.invariant-loop
 invariant-loop l =

@@ -1,5 +1,5 @@
 use Rattle.std.proofs.Common.{◌++◌, ◌+◌}
-use Rattle.node_files.specs.Writing.{head_line, point_lines, like_lines, marks_of, list_text}
+use Rattle.node_files.specs.Writing.{head_line, point_lines, like_lines, mark_count, list_text}
 use Rattle.node_files.proofs.Written.{ok_after}
 use Rattle.node_files.proofs.writing.put_list.Goals as goal
 
@@ -9,7 +9,7 @@ returns c =
     let t = c.args.table.now in
     let out = c.args.out.now in
     let last = c.put_alike.new.out in
-    let points = point_lines t.grid t.attribute_count (marks_of t.flag) c.args.first t.listed t.attributes t.markers in
+    let points = point_lines t.grid t.attribute_count (mark_count t.flag) c.args.first t.listed t.attributes t.markers in
     let count = c.len-count.ensures.count in
     let others = c.len.ensures.count in
     let from = c.from.ensures in

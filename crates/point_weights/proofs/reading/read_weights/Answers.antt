@@ -4,7 +4,7 @@ use Rattle.std.proofs.lemmas.List.Elements.{All-push}
 use Rattle.std.proofs.lemmas.Result.{err_from_is_err_and}
 use Rattle.sign_predicates.specs.Weighted.{IsWeight}
 use Rattle.sign_predicates.proofs.WeightedTerms.{weight_back}
-use Rattle.point_weights.specs.Weights.{ReadsWeights, behind}
+use Rattle.point_weights.specs.Weights.{ReadsWeights, weights_behind}
 use Rattle.point_weights.proofs.ListedWeights.{weights_from, one_read, one_refused, all_read, refused}
 use Rattle.point_weights.proofs.reading.read_weights.Goals as goal
 
@@ -25,7 +25,7 @@ loop-i-preserved c =
     let read = c.loop-i.invariant.0 ∙ one_read table (length table.listed) c.loop-i.i w c.loop-i.weights (omega arith) (sym c.in_ok-weight.ensures.value) in
     let long = c.loop-i.invariant.1 in
     let ok : c.push.new.self ≡ c.loop-i.weights ++ w ∷ [] = c.in_ok-push.ensures.ok ∙ ap (λ v. c.loop-i.weights ++ v ∷ []) (weight_back w c.in_ok-weight.ensures.small) in (
-      read ∙ ap (λ ws. behind ws rest) (sym ok),
+      read ∙ ap (λ ws. weights_behind ws rest) (sym ok),
       ap (λ ws. length ws) ok ∙ omega (arith, length-append c.loop-i.weights (w ∷ [])),
       subst (All IsWeight) (sym ok) (All-push IsWeight c.loop-i.weights w c.loop-i.invariant.2 c.in_ok-weight.ensures.small),
     )

@@ -1,7 +1,7 @@
 use Rattle.std.proofs.Common.{◌≡◌}
 use Rattle.std.specs.Prelude.{All}
-use Rattle.segment_protect.specs.Watch.{pieces_of, IsSeen}
+use Rattle.segment_protect.specs.Watch.{pieces_of, IsSeenOrSide}
 use Rattle.segment_protect.proofs.first_look.see_sides.Given as goal
 
 abbrev pub invariant-loop-i : goal.invariant-loop-i
-invariant-loop-i l = (pieces_of l.watched.items ≡ pieces_of l.fn.watched.items) × All (IsSeen l.living.points) l.watched.items
+invariant-loop-i l = (pieces_of l.watched.items ≡ pieces_of l.fn.watched.items) × All (IsSeenOrSide l.living.points) l.watched.items

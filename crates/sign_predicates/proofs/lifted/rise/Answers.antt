@@ -1,7 +1,7 @@
 use Rattle.std.proofs.Common.{◌∙◌, ◌≤◌, ◌*◌, ◌^◌, ◌-ℤ◌, [], ◌∷◌, w64, ℤ, unsigned_abs, subst, sym, arith}
 use Rattle.std.proofs.lemmas.Int.{ints}
 use Rattle.exact_algebra.proofs.Size.{raw_fits}
-use Rattle.sign_predicates.specs.Lifted.{rise}
+use Rattle.sign_predicates.specs.Lifted.{lift_rise}
 use Rattle.sign_predicates.proofs.Lifting.{height_small, height_bounds, height_difference, rise_back}
 use Rattle.sign_predicates.proofs.lifted.rise.Goals as goal
 
@@ -21,7 +21,7 @@ returns-clause-value c =
     let k = height_small (record { x = b.x; y = b.y; z = b.z }) b.height c.b.invariant in
     rise_back a.height b.height h k
     ∙ (λ t. sym c.b.invariant.height_is t -ℤ sym c.a.invariant.height_is t)
-    ∙ (λ t. rise (c.a.view_is t) (c.b.view_is t))
+    ∙ (λ t. lift_rise (c.a.view_is t) (c.b.view_is t))
 
 pub returns-clause-size : goal.returns-clause-size
 returns-clause-size c =

@@ -4,7 +4,6 @@ use Rattle.tet_text.specs.declared.fault.TextFault.{TextFault}
 use Rattle.tet_text.specs.Reading.{Fields}
 use Rattle.plc_files.specs.declared.fault.PlcFault.TheVariants as faults
 use Rattle.plc_files.specs.declared.parts.CornerText.{CornerText}
-use Rattle.plc_files.specs.Repeated.{so_many}
 use Rattle.plc_files.specs.Text.{Plc, with_corner}
 use Rattle.plc_files.proofs.Repeats.{many_more, many_stop, many_all}
 use Rattle.soup_files.specs.Off.{corner_at}
@@ -12,6 +11,7 @@ use Rattle.soup_files.specs.Surface.{plus_corners, corners_onto}
 use Rattle.soup_files.proofs.Faces.{corners_keep, corners_more}
 use Rattle.soup_files.proofs.Faults.{fails_then, corner_err, corner_ok}
 use Rattle.soup_files.proofs.off.read_corners.Goals as goal
+use Rattle.tet_text.specs.Repeated.{so_many}
 
 pub returns-in_err-number : goal.returns-in_err-number
 returns-in_err-number c =

@@ -1,9 +1,9 @@
 use Rattle.std.proofs.Common.{◌≡◌, ◌-◌, List}
 use Rattle.plc_files.specs.declared.parts.CornerText.{CornerText}
-use Rattle.plc_files.specs.Repeated.{so_many, onto}
 use Rattle.soup_files.specs.Off.{corner_at}
 use Rattle.soup_files.specs.Surface.{plus_corners}
 use Rattle.soup_files.proofs.off.read_corners.Given as goal
+use Rattle.tet_text.specs.Repeated.{so_many, onto}
 
 abbrev pub invariant-loop : goal.invariant-loop
 invariant-loop l =

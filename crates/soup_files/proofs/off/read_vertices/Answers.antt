@@ -1,11 +1,11 @@
 use Rattle.std.proofs.Common.{◌≡◌, ◌∙◌, sym, subst, ℕ, Ok, Err}
 use Rattle.std.proofs.lemmas.Result.{err_from_is_err_and}
 use Rattle.tet_text.specs.Views.{content_left, line_total}
-use Rattle.plc_files.specs.Repeated.{so_many}
 use Rattle.soup_files.specs.Off.{vertex_line}
 use Rattle.plc_files.specs.declared.fault.PlcFault.TheVariants as faults
 use Rattle.plc_files.proofs.Repeats.{many_more, many_stop, many_all}
 use Rattle.soup_files.proofs.off.read_vertices.Goals as goal
+use Rattle.tet_text.specs.Repeated.{so_many}
 
 pub returns-in_err-point-clause-value : goal.returns-in_err-point-clause-value
 returns-in_err-point-clause-value c =

@@ -1,8 +1,8 @@
 use Rattle.std.proofs.Common.{◌≡◌, ◌-◌}
 use Rattle.tet_text.specs.Views.{content_left, line_total}
-use Rattle.plc_files.specs.Repeated.{so_many, onto}
 use Rattle.soup_files.specs.Off.{vertex_line}
 use Rattle.soup_files.proofs.off.read_vertices.Given as goal
+use Rattle.tet_text.specs.Repeated.{so_many, onto}
 
 abbrev pub invariant-loop : goal.invariant-loop
 invariant-loop l =

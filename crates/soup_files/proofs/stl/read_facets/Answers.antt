@@ -4,8 +4,8 @@ use Rattle.std.proofs.lemmas.List.{map-append, length_push}
 use Rattle.tet_text.specs.declared.fault.TextFault.{TextFault}
 use Rattle.tet_text.specs.Views.{content_left, line_total}
 use Rattle.tet_text.specs.Reading.{line_at}
-use Rattle.soup_files.specs.Stl.{more_facets, facet_of, facets_of}
-use Rattle.soup_files.specs.Triangles.{polygon_of, placed}
+use Rattle.soup_files.specs.Stl.{more_facets, ascii_facet_of, ascii_facets_of}
+use Rattle.soup_files.specs.Triangles.{triangle_polygon, placed_facets}
 use Rattle.soup_files.proofs.Spent.{facet_takes}
 use Rattle.soup_files.proofs.FoundVertices.{seen_none, seen_more, seen_placed}
 use Rattle.soup_files.proofs.Facets.{stop_line, stop_first, stop_facet, all_facets, facets_more, line_left, going_on}
@@ -15,30 +15,30 @@ pub returns-in_err-fields-clause-value : goal.returns-in_err-fields-clause-value
 returns-in_err-fields-clause-value c =
     let inv = c.loop-triangles.invariant in
     let start = c.args.lines.now in
-    let whole = facets_of (length (content_left start)) (line_total start) (content_left start) in
+    let whole = ascii_facets_of (length (content_left start)) (line_total start) (content_left start) in
     let p = err_from_is_err_and c.from_residual.result c.from_residual.ensures.1 in
     let left = content_left c.loop-triangles.lines in
     let none = ap (λ (total : ℕ). line_at total left) (sym inv.4) ∙ sym c.in_err-fields.ensures.value in
-    rw (p.1, p.2) (ap placed (stop_line inv.0 (length (content_left start) - length inv.0) (line_total start) left c.in_err-fields.field-0.0 whole none inv.2))
+    rw (p.1, p.2) (ap placed_facets (stop_line inv.0 (length (content_left start) - length inv.0) (line_total start) left c.in_err-fields.field-0.0 whole none inv.2))
 
 pub returns-in_err-starts_facet-clause-value : goal.returns-in_err-starts_facet-clause-value
 returns-in_err-starts_facet-clause-value c =
     let inv = c.loop-triangles.invariant in
     let start = c.args.lines.now in
-    let whole = facets_of (length (content_left start)) (line_total start) (content_left start) in
+    let whole = ascii_facets_of (length (content_left start)) (line_total start) (content_left start) in
     let p = err_from_is_err_and c.from_residual-in_err-starts_facet.result c.from_residual-in_err-starts_facet.ensures.1 in
     let left = content_left c.loop-triangles.lines in
     let behind = content_left c.want_line.new.self in
     let line = c.in_ok-fields.fields in
     let first = ap (λ (total : ℕ). line_at total left) (sym inv.4) ∙ sym c.in_ok-fields.ensures.value in
     let going = going_on inv.0 (length (content_left start)) (line_total start) left behind line whole first inv.3 inv.2 in
-    rw (p.1, p.2) (ap placed (stop_first inv.0 (length (content_left start) - (length inv.0 + 1)) (line_total start) left behind line c.in_err-starts_facet.field-0.0 whole first (sym c.in_err-starts_facet.ensures) going))
+    rw (p.1, p.2) (ap placed_facets (stop_first inv.0 (length (content_left start) - (length inv.0 + 1)) (line_total start) left behind line c.in_err-starts_facet.field-0.0 whole first (sym c.in_err-starts_facet.ensures) going))
 
 pub returns-then-not-branch-clause-value : goal.returns-then-not-branch-clause-value
 returns-then-not-branch-clause-value c =
     let inv = c.loop-triangles.invariant in
     let start = c.args.lines.now in
-    let whole = facets_of (length (content_left start)) (line_total start) (content_left start) in
+    let whole = ascii_facets_of (length (content_left start)) (line_total start) (content_left start) in
     let left = content_left c.loop-triangles.lines in
     let behind = content_left c.want_line.new.self in
     let line = c.in_ok-fields.fields in
@@ -46,13 +46,13 @@ returns-then-not-branch-clause-value c =
     let first = ap (λ (total : ℕ). line_at total left) (sym inv.4) ∙ sym c.in_ok-fields.ensures.value in
     let going = going_on inv.0 (length (content_left start)) (line_total start) left behind line whole first inv.3 inv.2 in
     let end = sym c.in_ok-starts_facet.ensures ∙ ap (λ (b : Bool). let made : Result Bool TextFault = Ok b in made) c.if-not-branch.true in
-    seen_placed inv.0 c.loop-triangles.points (map polygon_of c.loop-triangles.triangles) behind whole inv.1 (all_facets inv.0 most (line_total start) left behind line whole first end going)
+    seen_placed inv.0 c.loop-triangles.points (map triangle_polygon c.loop-triangles.triangles) behind whole inv.1 (all_facets inv.0 most (line_total start) left behind line whole first end going)
 
 pub returns-in_err-facet-clause-value : goal.returns-in_err-facet-clause-value
 returns-in_err-facet-clause-value c =
     let inv = c.loop-triangles.invariant in
     let start = c.args.lines.now in
-    let whole = facets_of (length (content_left start)) (line_total start) (content_left start) in
+    let whole = ascii_facets_of (length (content_left start)) (line_total start) (content_left start) in
     let left = content_left c.loop-triangles.lines in
     let behind = content_left c.want_line.new.self in
     let line = c.in_ok-fields.fields in
@@ -63,8 +63,8 @@ returns-in_err-facet-clause-value c =
     let more = sym c.in_ok-starts_facet.ensures ∙ ap (λ (b : Bool). let made : Result Bool TextFault = Ok b in made) c.if-not-branch.false in
     let p = err_from_is_err_and c.from_residual-in_err-facet.result c.from_residual-in_err-facet.ensures.1 in
     let fault = c.in_err-facet.field-0.0 in
-    let failed : facet_of (line_total start) line.line behind ≡ Err fault = sym (ap (λ (n : ℕ). facet_of n c.line-line.result behind) total ∙ ap (λ (l : ℕ). facet_of (line_total start) l behind) c.line-line.ensures) ∙ sym c.in_err-facet.ensures.value in
-    rw (p.1, p.2) (ap placed (stop_facet inv.0 most (line_total start) left behind line fault whole first more failed going))
+    let failed : ascii_facet_of (line_total start) line.line behind ≡ Err fault = sym (ap (λ (n : ℕ). ascii_facet_of n c.line-line.result behind) total ∙ ap (λ (l : ℕ). ascii_facet_of (line_total start) l behind) c.line-line.ensures) ∙ sym c.in_err-facet.ensures.value in
+    rw (p.1, p.2) (ap placed_facets (stop_facet inv.0 most (line_total start) left behind line fault whole first more failed going))
 
 pub loop-triangles-smaller : goal.loop-triangles-smaller
 loop-triangles-smaller c =
@@ -78,7 +78,7 @@ pub loop-triangles-preserved : goal.loop-triangles-preserved
 loop-triangles-preserved c =
     let inv = c.loop-triangles.invariant in
     let start = c.args.lines.now in
-    let whole = facets_of (length (content_left start)) (line_total start) (content_left start) in
+    let whole = ascii_facets_of (length (content_left start)) (line_total start) (content_left start) in
     let left = content_left c.loop-triangles.lines in
     let behind = content_left c.want_line.new.self in
     let line = c.in_ok-fields.fields in
@@ -89,9 +89,9 @@ loop-triangles-preserved c =
     let more = sym c.in_ok-starts_facet.ensures ∙ ap (λ (b : Bool). let made : Result Bool TextFault = Ok b in made) c.if-not-branch.false in
     let facet = c.in_ok-facet.facet in
     let rest = content_left c.read_facet.new.lines in
-    let made : facet_of (line_total start) line.line behind ≡ Ok (facet, rest) = sym (ap (λ (n : ℕ). facet_of n c.line-line.result behind) total ∙ ap (λ (l : ℕ). facet_of (line_total start) l behind) c.line-line.ensures) ∙ sym c.in_ok-facet.ensures.value in
-    let seen = seen_more inv.0 c.loop-triangles.points c.placed.new.points (map polygon_of c.loop-triangles.triangles) facet c.in_ok-placed.field-0 inv.1 c.in_ok-placed.ensures in
-    let faces : map polygon_of c.push.new.self ≡ map polygon_of c.loop-triangles.triangles ++ polygon_of c.in_ok-placed.field-0 ∷ [] = ap (map polygon_of) c.in_ok-push.ensures.ok ∙ map-append polygon_of c.loop-triangles.triangles (c.in_ok-placed.field-0 ∷ []) in
+    let made : ascii_facet_of (line_total start) line.line behind ≡ Ok (facet, rest) = sym (ap (λ (n : ℕ). ascii_facet_of n c.line-line.result behind) total ∙ ap (λ (l : ℕ). ascii_facet_of (line_total start) l behind) c.line-line.ensures) ∙ sym c.in_ok-facet.ensures.value in
+    let seen = seen_more inv.0 c.loop-triangles.points c.placed.new.points (map triangle_polygon c.loop-triangles.triangles) facet c.in_ok-placed.field-0 inv.1 c.in_ok-placed.ensures in
+    let faces : map triangle_polygon c.push.new.self ≡ map triangle_polygon c.loop-triangles.triangles ++ triangle_polygon c.in_ok-placed.field-0 ∷ [] = ap (map triangle_polygon) c.in_ok-push.ensures.ok ∙ map-append triangle_polygon c.loop-triangles.triangles (c.in_ok-placed.field-0 ∷ []) in
     let count : length (inv.0 ++ facet ∷ []) ≡ length inv.0 + 1 = length_push inv.0 facet in
     let gone = facets_more inv.0 most (line_total start) left behind rest line facet whole first more made going in
     let one = line_left (line_total start) left behind line first in

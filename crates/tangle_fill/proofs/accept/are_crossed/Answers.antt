@@ -4,9 +4,9 @@ use Rattle.std.proofs.lemmas.List.Elements.{AllWithin-more, All-from_all_within}
 use Rattle.sign_predicates.specs.Orientation.{IsPositive}
 use Rattle.geo_laws.specs.Delaunay.{corners, IsOn}
 use Rattle.geo_laws.specs.declared.tetrahedra.Tet.{Tet}
-use Rattle.tangle_laws.specs.Tangle.{IsUncrossed}
 use Rattle.tangle_laws.proofs.Apart.{fails_true}
 use Rattle.tangle_fill.proofs.accept.are_crossed.Goals as goal
+use Rattle.geo_laws.specs.Facet.{IsUncrossed}
 
 pub uncrossed_near-requires-clause-on : goal.uncrossed_near-requires-clause-on
 uncrossed_near-requires-clause-on c =

@@ -6,7 +6,7 @@ use Rattle.tetgen_run.proofs.Endings.{end_answers, end_leaves, stop_answers, sto
 use Rattle.tetgen_run.specs.Ends.{EndsWith, IsToldAs}
 use Rattle.tetfit_run.specs.Messages.{fit_message}
 use Rattle.tetfit_run.specs.Outputs.{OutputsOfFit}
-use Rattle.tetfit_run.specs.Run.{IsAskedBy, IsKnown, IsNumbering, after_stages}
+use Rattle.tetfit_run.specs.Run.{IsAskedBy, IsKnown, IsFitNumbering, after_stages}
 use Rattle.tetfit_run.proofs.Complete.{answer_complete}
 use Rattle.tetfit_run.proofs.Fitted.{ends_numbered, fit_asked, fit_refuses, numbers_points, told_off}
 use Rattle.tetfit_run.proofs.Pieces.{told_earlier}
@@ -111,5 +111,5 @@ returns-clause-told g c =
       c.run.ensures.stages,
       hint,
       told_off made message (others words) folder hint out (sink_seen E.written E.faults E.wants mid new) c.in-Err.stop c.tell.result ended tells,
-      stop_tells message made (IsNumbering (others words) folder hint) (fit_refuses words folder) (numbers_points (others words) folder hint) folder out (after_stages whole (E.written mid)) c.in-Err.stop c.tell.result (ends_numbered made (others words) folder hint out c.in-Err.stop ended) told,
+      stop_tells message made (IsFitNumbering (others words) folder hint) (fit_refuses words folder) (numbers_points (others words) folder hint) folder out (after_stages whole (E.written mid)) c.in-Err.stop c.tell.result (ends_numbered made (others words) folder hint out c.in-Err.stop ended) told,
     )

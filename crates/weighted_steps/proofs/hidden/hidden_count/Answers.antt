@@ -4,9 +4,9 @@ use Rattle.std.proofs.lemmas.List.{take_all}
 use Rattle.std.specs.List.{list_any}
 use Rattle.geo_laws.specs.Delaunay.{numbers, has_corner}
 use Rattle.geo_laws.specs.declared.tetrahedra.Tet.{Tet}
-use Rattle.cavity_insert.specs.Marks.{is_marked}
 use Rattle.weighted_steps.proofs.Marking.{unmarked_are_hidden}
 use Rattle.weighted_steps.proofs.hidden.hidden_count.Goals as goal
+use Rattle.geo_laws.specs.Marks.{is_marked}
 
 pub mark_corners-requires : goal.mark_corners-requires
 mark_corners-requires c = λ k d lt.

@@ -1,8 +1,8 @@
 use Rattle.std.proofs.Common.{◌≡◌, ℕ, length, take}
 use Rattle.std.specs.List.{list_any}
-use Rattle.cavity_insert.specs.Marks.{is_marked}
 use Rattle.geo_laws.specs.Delaunay.{has_corner}
 use Rattle.weighted_steps.proofs.hidden.hidden_count.Given as goal
+use Rattle.geo_laws.specs.Marks.{is_marked}
 
 abbrev pub invariant-loop-row : goal.invariant-loop-row
 invariant-loop-row l =

@@ -2,7 +2,7 @@ use Rattle.std.proofs.Common.{◌≡◌, ◌<◌, [], ◌∷◌, ◌++◌, sym, 
 use Rattle.std.proofs.lemmas.Result.{on_ok_weaker}
 use Rattle.std.proofs.lemmas.List.{get_or_append_left}
 use Rattle.mesh_arena.specs.Mesh.{IsLive}
-use Rattle.mesh_arena.specs.Cavity.{IsIn}
+use Rattle.mesh_arena.specs.Cavity.{IsInCavitySlots}
 use Rattle.mesh_arena.specs.declared.slot.Slot.{Slot}
 use Rattle.cavity_insert.specs.Growth.{entry_of}
 use Rattle.cavity_insert.proofs.Growth.{Growing-in, Growing-out, Grown-in, behind_is, none_behind, in_behind, AreEntered-push}
@@ -37,7 +37,7 @@ returns-in_ok-push-2-clause-growing g c =
     let fits : c.args.i < length was.entries.items = omega (arith, c.requires.inside, now.entered.many) in
     let small : entry < 4 = now.entered.faces c.args.i c.requires.inside in
     let is = behind_is (g.Z.Zone.slots c.args.zone.now) was.cavity c.args.i c.args.k c.at.result _ c.at.ensures c.in-Some.ensures.value in
-    let fresh : IsIn was.cavity f.slot.index → ⊥ = λ h. true≢false (sym (c.has.ensures.1 h) ∙ c.if-has.false) in
+    let fresh : IsInCavitySlots was.cavity f.slot.index → ⊥ = λ h. true≢false (sym (c.has.ensures.1 h) ∙ c.if-has.false) in
     let grown = Grown-in (g.Z.Zone.slots c.args.zone.now) (g.Z.Zone.takes c.args.zone.now) was.start.index c.requires.mesh was.cavity was.rim c.args.i entry c.args.k f c.requires.inside small c.requires.face is now.growing fresh c.in-Some.ensures.live.0 (c.test.ensures.value.0 c.if-test.true) in
     let entered = AreEntered-push (g.Z.Zone.slots c.args.zone.now) c.requires.mesh was.cavity was.entries.items c.args.i c.args.k f c.requires.inside c.in-Some.ensures.live.1 is now.entered in
     let same = get_or_append_left was.entries.items (f.face ∷ []) 0 c.args.i fits in

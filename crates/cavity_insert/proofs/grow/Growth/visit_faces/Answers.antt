@@ -1,5 +1,5 @@
 use Rattle.std.proofs.Common.{◌≡◌, ◌<◌, ◌+◌, sym, subst, ◌∙◌, arith}
-use Rattle.cavity_insert.specs.Grow.{turn}
+use Rattle.cavity_insert.specs.Grow.{face_turn}
 use Rattle.cavity_insert.specs.Growth.{IsGrowing, entry_of}
 use Rattle.cavity_insert.proofs.Growth.{Growing-row, Growing-entered}
 use Rattle.cavity_insert.proofs.Turns.{turn_back, turn_small}
@@ -16,7 +16,7 @@ visit-requires-clause-growing g c =
     let now = c.loop-k.invariant in
     let entry = entry_of c.loop-k.self c.args.i in
     let small : entry < 4 = now.growing.entered.faces c.args.i (omega (arith, c.requires.inside, now.longer)) in
-    let back : turn entry (turn entry c.loop-k.k) ≡ c.loop-k.k = turn_back entry c.loop-k.k small (omega arith) in
+    let back : face_turn entry (face_turn entry c.loop-k.k) ≡ c.loop-k.k = turn_back entry c.loop-k.k small (omega arith) in
     rw (sym now.entry, back) now.growing
 
 pub loop-k-preserved : goal.loop-k-preserved
@@ -25,8 +25,8 @@ loop-k-preserved g c =
     let more = c.in_ok-visit.ensures in
     let entry = entry_of c.loop-k.self c.args.i in
     let small : entry < 4 = now.growing.entered.faces c.args.i (omega (arith, c.requires.inside, now.longer)) in
-    let back : turn entry (turn entry c.loop-k.k) ≡ c.loop-k.k = turn_back entry c.loop-k.k small (omega arith) in
-    let said : turn entry (turn c.index-entry.result.now c.loop-k.k) ≡ c.loop-k.k = rw (sym now.entry) back in
+    let back : face_turn entry (face_turn entry c.loop-k.k) ≡ c.loop-k.k = turn_back entry c.loop-k.k small (omega arith) in
+    let said : face_turn entry (face_turn c.index-entry.result.now c.loop-k.k) ≡ c.loop-k.k = rw (sym now.entry) back in
     record {
       few = omega (arith, more.few, now.few);
       many = omega (arith, more.many, now.many);

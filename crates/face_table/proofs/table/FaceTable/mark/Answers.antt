@@ -1,10 +1,11 @@
 use Rattle.std.proofs.Common.{◌≡◌, ◌<◌, ℕ, true, List, Bool, length, set, refl, sym, subst, ap, ◌∙◌, arith}
 use Rattle.std.proofs.lemmas.Bool.{true≢false}
 use Rattle.std.proofs.lemmas.List.{get_or-set_other, length-set}
-use Rattle.face_table.specs.Chains.{face_at, chain_of, is_marked, AreMarkedTo}
+use Rattle.face_table.specs.Chains.{face_at, chain_of, AreMarkedTo}
 use Rattle.face_table.proofs.Chained.{same_corners, corners_same, marked_next, set_marked, still_marked}
 use Rattle.face_table.proofs.table.FaceTable.mark.Goals as goal
 use Rattle.face_table.proofs.table.FaceTable.mark.Goals.{then-eq, else-eq}
+use Rattle.geo_laws.specs.Marks.{is_marked}
 
 pub loop-at-preserved : goal.loop-at-preserved
 loop-at-preserved c =

@@ -2,10 +2,11 @@ use Rattle.std.proofs.Common.{◌+◌, drop, ap, ◌∙◌, arith}
 use Rattle.geo_laws.specs.Facet.{crosses_ray}
 use Rattle.facet_plane.specs.Axes.{axis_is}
 use Rattle.facet_plane.specs.Outline.{side_crosses}
-use Rattle.facet_plane.specs.Walk.{xor, is_odd}
+use Rattle.facet_plane.specs.Walk.{is_odd}
 use Rattle.facet_plane.proofs.Around.{ahead, odd_next, odd_past, odd_never, odd_block}
 use Rattle.facet_plane.proofs.Walks.{unlike}
 use Rattle.facet_plane.proofs.outline.Outline.is_round.Goals as goal
+use Rattle.facet_laws.specs.Parity.{xor}
 
 pub loop-i-smaller-in-Never : goal.loop-i-smaller-in-Never
 loop-i-smaller-in-Never c =

@@ -1,8 +1,9 @@
 use Rattle.std.proofs.Common.{◌≡◌, ◌-◌, drop, length}
 use Rattle.facet_plane.specs.Axes.{axis_is}
 use Rattle.facet_plane.specs.Outline.{side_crosses}
-use Rattle.facet_plane.specs.Walk.{xor, is_odd}
+use Rattle.facet_plane.specs.Walk.{is_odd}
 use Rattle.facet_plane.proofs.outline.Outline.is_round.Given as goal
+use Rattle.facet_laws.specs.Parity.{xor}
 
 -- `odd` and the sides from the place i on give what all sides give
 abbrev pub invariant-loop-i : goal.invariant-loop-i

@@ -1,7 +1,7 @@
 use Rattle.std.proofs.Common.{◌+◌, ◌++◌, drop, ap, sym, ◌∙◌, arith}
 use Rattle.facet_plane.specs.Axes.{axis_is}
 use Rattle.facet_plane.specs.Outline.{IsBlocked}
-use Rattle.facet_plane.specs.Prepared.{shape, shape_round, places_of}
+use Rattle.facet_plane.specs.Prepared.{shape, shape_round, passing_places}
 use Rattle.facet_plane.proofs.Rows.{all_here, places_apart, places_hit, places_miss, no_outline}
 use Rattle.facet_plane.proofs.prepared.Outlines.put_round.Goals as goal
 use Rattle.facet_plane.proofs.prepared.Outlines.put_round.Goals.{then-is_round+in_ok-push, else-is_round}
@@ -24,7 +24,7 @@ loop-q-preserved c =
           (sym c.is_round.ensures ∙ w.if-is_round.true) (ap (λ v. v.items) w.places-is ∙ w.in_ok-push.ensures.items)
           ∙ c.loop-q.invariant
       | else-is_round w ↦
-          ap (λ v. v.items ++ places_of (λ o. shape_round (axis_is c.args.self.now.axis) c.args.x (shape o)) (q + 1) (drop (q + 1) each)) w.places-is
+          ap (λ v. v.items ++ passing_places (λ o. shape_round (axis_is c.args.self.now.axis) c.args.x (shape o)) (q + 1) (drop (q + 1) each)) w.places-is
           ∙ ap (λ ps. c.loop-q.places.items ++ ps) (places_miss (λ o. shape_round (axis_is c.args.self.now.axis) c.args.x (shape o)) each q c.get.result.now (omega arith) c.get.ensures (sym c.is_round.ensures ∙ w.if-is_round.false))
           ∙ c.loop-q.invariant
     ]

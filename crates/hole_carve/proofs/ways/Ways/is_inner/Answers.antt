@@ -1,12 +1,12 @@
 use Rattle.std.proofs.Common.{◌≡◌, ◌<◌, None, length, ap, sym, subst, ◌∙◌, arith}
 use Rattle.std.specs.Prelude.{slice_index_or}
 use Rattle.incidence.specs.declared.pairs.Across.{Across}
-use Rattle.incidence.specs.Links.{row_at}
 use Rattle.incidence.specs.Pairs.{across_of}
 use Rattle.hole_carve.specs.Flooding.{way, IsWay}
 use Rattle.hole_carve.proofs.Steps.{pairs_at, ways-length}
 use Rattle.hole_carve.proofs.Reached.{inner_none}
 use Rattle.hole_carve.proofs.ways.Ways.is_inner.Goals as goal
+use Rattle.geo_laws.specs.Delaunay.{row_at}
 
 abbrev nothing : Across
 nothing = record { n0 = None; n1 = None; n2 = None; n3 = None }

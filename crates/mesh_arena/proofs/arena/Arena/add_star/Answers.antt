@@ -1,7 +1,7 @@
 use Rattle.std.proofs.Common.{◌≡◌, ◌<◌, length, sym, subst, ◌∙◌, arith}
 use Rattle.mesh_arena.specs.declared.star.StarSlot.{StarSlot}
 use Rattle.mesh_arena.specs.Mesh.{AllDiffer}
-use Rattle.mesh_arena.specs.Cells.{cell_corners, IsBare}
+use Rattle.mesh_arena.specs.Cells.{cell_corners, IsUnlinked}
 use Rattle.mesh_arena.specs.Star.{rim_at}
 use Rattle.mesh_arena.specs.Surgery.{star_at, star_corners, FitsFace, AddsOver}
 use Rattle.mesh_arena.proofs.AddStar.{waiting_fits, AddsStar-step, same_star, new_star}
@@ -12,7 +12,7 @@ pub add_over-made-requires-clause-bare : goal.add_over-made-requires-clause-bare
 add_over-made-requires-clause-bare c =
     let placed = c.loop-r.invariant.placed in
     let is : star_at c.args.star.now.items c.loop-r.r ≡ c.index.result.now = sym (placed.rest c.loop-r.r (omega arith)) ∙ star_read c.loop-r.star.items c.loop-r.r c.index.result.now (omega (arith, placed.len)) c.index.ensures in
-    subst (λ (s : StarSlot). IsBare s.cell) is (c.requires.rim.bare c.loop-r.r c.loop-r-test.true)
+    subst (λ (s : StarSlot). IsUnlinked s.cell) is (c.requires.rim.bare c.loop-r.r c.loop-r-test.true)
 
 pub add_over-made-requires-clause-differ : goal.add_over-made-requires-clause-differ
 add_over-made-requires-clause-differ c =

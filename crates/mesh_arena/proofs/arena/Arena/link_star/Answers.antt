@@ -1,6 +1,6 @@
 use Rattle.std.proofs.Common.{◌≡◌, ◌+◌, ◌*◌, ◌≤◌, length, arith}
 use Rattle.mesh_arena.specs.declared.slot.Corner.TheVariants.{Point}
-use Rattle.mesh_arena.specs.Mesh.{IsMesh}
+use Rattle.mesh_arena.specs.Mesh.{IsArenaMesh}
 use Rattle.mesh_arena.specs.StarLinks.{LinksStar, open_faces}
 use Rattle.mesh_arena.proofs.OpenFaces.{open_faces-le, LinksStar-all}
 use Rattle.mesh_arena.proofs.Pairs.{ArePaired-along, LinksStar-then}
@@ -31,7 +31,7 @@ returns-else-not-are_all c =
     let rim = c.args.rim.now in
     let point = Point c.args.point in
     let new = c.link_edges-links.new.self.slots in
-    let mesh : IsMesh slots = rw (← c.self.view_is) c.self.invariant.sound.mesh in
+    let mesh : IsArenaMesh slots = rw (← c.self.view_is) c.self.invariant.sound.mesh in
     let links : LinksStar slots new rim point 0 = rw c.lend_edges-table.ensures at c.link_edges-links.ensures.links in
     let left : open_faces new rim + 2 * c.link_edges-links.result ≤ open_faces slots rim = rw c.lend_edges-table.ensures at c.link_edges-links.ensures.left in
     let none : open_faces new rim ≡ 0 = omega (arith, left, open_faces-le slots rim point mesh c.requires.star, c.are_all.ensures c.if-not-are_all.false) in

@@ -1,6 +1,6 @@
 use Rattle.std.proofs.Common.{◌≡◌, ◌∷◌, ◌+◌, ◌-◌, ◌^◌, ◌<◌, ℕ, [], length, get_or, sym, ap, subst, ◌∙◌, arith}
 use Rattle.std.proofs.lemmas.List.{length-append}
-use Rattle.mesh_files.specs.Fields.{IsField, with_last}
+use Rattle.mesh_files.specs.Fields.{IsNumberField, with_last}
 use Rattle.mesh_files.specs.declared.fields.Field.{Field}
 use Rattle.mesh_files.proofs.Pieces.{fields_more}
 use Rattle.mesh_files.proofs.NextFields.{IsNow, own_last, digit_small, next_field}
@@ -8,11 +8,11 @@ use Rattle.mesh_files.proofs.fields.Fields.below.Goals.{then-last-gt57, else-las
 use Rattle.mesh_files.proofs.fields.Fields.below.Goals as goal
 
 -- a field that was just made, with its last digit
-made : (n m : ℕ) (f g : Field) (len last : ℕ) → length f.text ≡ 8 → n + 1 < 2 ^ 64 → m ≡ n → IsField m f → len ≡ f.len → g ≡ f
+made : (n m : ℕ) (f g : Field) (len last : ℕ) → length f.text ≡ 8 → n + 1 < 2 ^ 64 → m ≡ n → IsNumberField m f → len ≡ f.len → g ≡ f
     → last ≡ get_or f.text (len - 1) 0 → IsNow n g last
 made n m f g len last room fits reached is long same read =
     subst (λ (h : Field). IsNow n h last) (sym same)
-    (subst (IsNow n f) (sym (read ∙ ap (λ k. get_or f.text (k - 1) 0) long)) (own_last n f room fits (subst (λ k. IsField k f) reached is)))
+    (subst (IsNow n f) (sym (read ∙ ap (λ k. get_or f.text (k - 1) 0) long)) (own_last n f room fits (subst (λ k. IsNumberField k f) reached is)))
 
 pub overflow_add-last-in-loop-number : goal.overflow_add-last-in-loop-number
 overflow_add-last-in-loop-number c =

@@ -7,16 +7,16 @@ use Rattle.geo_laws.specs.Segment.{midpoint, with_midpoint, with_halves, first_m
 use Rattle.geo_laws.specs.Delaunay.{point}
 use Rattle.geo_laws.specs.declared.complex.Piece.{Piece}
 use Rattle.segment_protect.specs.Front.{pieces_in}
-use Rattle.segment_protect.specs.Ends.{IsNext}
+use Rattle.segment_protect.specs.Ends.{IsNextMissing}
 use Rattle.segment_protect.proofs.Ends.{ends_at, ends_fault, ends_split}
 use Rattle.segment_protect.proofs.front.Front.split_missing.Goals as goal
 
 -- the next missing piece, or none
-next_none : (depth : ℕ) (ps : List Point) (pieces : List Piece) (o : Option (ℕ × Piece)) → o ≡ None → IsNext depth ps pieces (Ok o) → first_missing ps pieces ≡ None
-next_none depth ps pieces o e next = let P : Option (ℕ × Piece) → Type 0 = λ u. IsNext depth ps pieces (Ok u) in subst P e next
+next_none : (depth : ℕ) (ps : List Point) (pieces : List Piece) (o : Option (ℕ × Piece)) → o ≡ None → IsNextMissing depth ps pieces (Ok o) → first_missing ps pieces ≡ None
+next_none depth ps pieces o e next = let P : Option (ℕ × Piece) → Type 0 = λ u. IsNextMissing depth ps pieces (Ok u) in subst P e next
 
-next_some : (depth : ℕ) (ps : List Point) (pieces : List Piece) (o : Option (ℕ × Piece)) (k : ℕ) (p : Piece) → o ≡ Some (k, p) → IsNext depth ps pieces (Ok o) → IsNext depth ps pieces (Ok (Some (k, p)))
-next_some depth ps pieces o k p e next = let P : Option (ℕ × Piece) → Type 0 = λ u. IsNext depth ps pieces (Ok u) in subst P e next
+next_some : (depth : ℕ) (ps : List Point) (pieces : List Piece) (o : Option (ℕ × Piece)) (k : ℕ) (p : Piece) → o ≡ Some (k, p) → IsNextMissing depth ps pieces (Ok o) → IsNextMissing depth ps pieces (Ok (Some (k, p)))
+next_some depth ps pieces o k p e next = let P : Option (ℕ × Piece) → Type 0 = λ u. IsNextMissing depth ps pieces (Ok u) in subst P e next
 
 pub loop-left-init : goal.loop-left-init
 loop-left-init c = (c.requires.front, refl, refl)
