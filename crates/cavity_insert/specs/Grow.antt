@@ -52,7 +52,8 @@ pub record Growing (slots : List (Option SlotValue)) (rule : ℕ → Type 0) (st
   pub taken : (j : ℕ) → j < length cavity → rule (slot_at cavity j)
   pub live : (j : ℕ) → j < length cavity → IsLive slots (slot_at cavity j)
   pub once : (j q : ℕ) → j < length cavity → q < length cavity → slot_at cavity j ≡ slot_at cavity q → j ≡ q
-  pub seen : (j m : ℕ) (b : SlotFace) → j < length cavity → Before i entry k j m → link_behind slots (slot_at cavity j) m ≡ Some b → IsInCavitySlots cavity b.slot
+  pub seen : (j m : ℕ) (b : SlotFace) → j < length cavity → Before i entry k j m → link_behind slots (slot_at cavity j) m ≡ Some b
+      → IsInCavitySlots cavity b.slot
       ⊎ IsRimListed rim b
   pub borders : (r : ℕ) → r < length rim → BordersCavity slots rule cavity i entry k (rim_at rim r)
   pub rim_once : (r q : ℕ) → r < length rim → q < length rim → (rim_at rim r).slot.index ≡ (rim_at rim q).slot.index

@@ -74,6 +74,8 @@ covers one i two j =
 -- whether these two faces have the same corners and nothing behind them yet
 abbrev pub fits_behind : List Shared → Shared → Bool
 fits_behind linked p =
-    (is_some (start_places p.slot) && is_some (start_places p.behind)) && ((not (p.slot == p.behind) && (nat_lt p.face 4 && nat_lt p.back 4))
-    && ((covers (start_places p.slot) p.face (start_places p.behind) p.back && covers (start_places p.behind) p.back (start_places p.slot) p.face)
+    (is_some (start_places p.slot) && is_some (start_places p.behind)) && ((not (p.slot == p.behind)
+    && (nat_lt p.face 4 && nat_lt p.back 4))
+    && ((covers (start_places p.slot) p.face (start_places p.behind) p.back
+    && covers (start_places p.behind) p.back (start_places p.slot) p.face)
     && (is_none (behind_face linked p.slot p.face) && is_none (behind_face linked p.behind p.back))))

@@ -8,8 +8,7 @@ ghost use Rattle.check_steps.specs.Reading.{most_bytes, nodes_in_text, rows_of, 
 
 use crate::CheckFault;
 use geo_laws::TetList;
-use mesh_files::FaceRows;
-use mesh_files::{MeshFault, Neighbors, read_ele, read_face, read_neigh};
+use mesh_files::{FaceRows, MeshFault, Neighbors, read_ele, read_face, read_neigh};
 use node_files::{NodeFault, NodeText, read_node};
 use std::alloc::Global;
 use tet_ports::{Bytes, FetchFault, Folder, Name, NoMemory};
@@ -47,7 +46,8 @@ fn named(alloc: Global, base: &Name, extension: &[u8]) -> Result<Name, NoMemory>
 fn fetch<F: Folder>(alloc: Global, name: Name, folder: &mut F) -> Result<Fetched, CheckFault>
     ensures named { IfOk result (λ file. file.name ≡ name) }
     ensures read { IfOk result (λ file. IsRead (F.held folder.old) name file.bytes) }
-    ensures err { IfErr result (IsUnfetched (folder_seen F.held F.faults F.misses folder.old folder.new) name) }
+    ensures err { IfErr result (IsUnfetched
+        (folder_seen F.held F.faults F.misses folder.old folder.new) name) }
     ensures unchanged { F.held folder.new ≡ F.held folder.old }
     ensures faults { F.faults folder.old ≤ F.faults folder.new }
     ensures misses { F.misses folder.old ≤ F.misses folder.new }
@@ -139,7 +139,8 @@ pub fn read_nodes<F: Folder>(
     base: &Name,
     folder: &mut F,
 ) -> Result<NodeText, CheckFault>
-    ensures answer { FileAnswer (folder_seen F.held F.faults F.misses folder.old folder.new) (base.now ++ codes ".node") nodes_in_text result }
+    ensures answer { FileAnswer (folder_seen F.held F.faults F.misses folder.old folder.new)
+        (base.now ++ codes ".node") nodes_in_text result }
     ensures table { IfOk result IsNodeText }
     ensures unchanged { F.held folder.new ≡ F.held folder.old }
     ensures faults { F.faults folder.old ≤ F.faults folder.new }
@@ -158,7 +159,8 @@ pub fn read_rows<F: Folder>(
     folder: &mut F,
 ) -> Result<TetList, CheckFault>
     requires { IsNodeText nodes.now }
-    ensures answer { FileAnswer (folder_seen F.held F.faults F.misses folder.old folder.new) (base.now ++ codes ".ele") (rows_of nodes.now) result }
+    ensures answer { FileAnswer (folder_seen F.held F.faults F.misses folder.old folder.new)
+        (base.now ++ codes ".ele") (rows_of nodes.now) result }
     ensures there { IfOk result (All (AreCornersBelow (length nodes.now.decimals))) }
     ensures unchanged { F.held folder.new ≡ F.held folder.old }
     ensures faults { F.faults folder.old ≤ F.faults folder.new }
@@ -177,7 +179,8 @@ fn read_faces<F: Folder>(
     folder: &mut F,
 ) -> Result<FaceRows, CheckFault>
     requires { IsNodeText nodes.now }
-    ensures answer { FileAnswer (folder_seen F.held F.faults F.misses folder.old folder.new) (base.now ++ codes ".face") (faces_in_text nodes.now) result }
+    ensures answer { FileAnswer (folder_seen F.held F.faults F.misses folder.old folder.new)
+        (base.now ++ codes ".face") (faces_in_text nodes.now) result }
     ensures unchanged { F.held folder.new ≡ F.held folder.old }
     ensures faults { F.faults folder.old ≤ F.faults folder.new }
     ensures misses { F.misses folder.old ≤ F.misses folder.new }
@@ -219,7 +222,8 @@ pub(crate) fn read_mesh<F: Folder>(
     folder: &mut F,
 ) -> Result<MeshText, CheckFault>
     ensures answer { MeshAnswer (folder_seen F.held F.faults F.misses folder.old folder.new) base.now result }
-    ensures there { IfOk result (λ text. All (AreCornersBelow (length text.nodes.decimals)) text.rows) }
+    ensures there { IfOk result (λ text. All (AreCornersBelow
+        (length text.nodes.decimals)) text.rows) }
     ensures unchanged { F.held folder.new ≡ F.held folder.old }
     ensures faults { F.faults folder.old ≤ F.faults folder.new }
     ensures misses { F.misses folder.old ≤ F.misses folder.new }

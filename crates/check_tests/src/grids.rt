@@ -2,8 +2,7 @@
 
 use crate::texts::bytes_of;
 use grid_coords::Range;
-use node_files::{GridFault, least_grid, settle_least};
-use node_files::{NodeText, read_node};
+use node_files::{GridFault, NodeText, least_grid, read_node, settle_least};
 use sign_predicates::GridPoint;
 use std::alloc::Global;
 

@@ -6,8 +6,7 @@ ghost use Rattle.geo_laws.specs.Delaunay.{IsOn};
 use crate::texts::{bytes_of, points_of};
 use geo_laws::{Points, TetList};
 use mesh_check::{Defect, Verdict, check_mesh};
-use mesh_files::FaceRows;
-use mesh_files::{Neighbors, read_ele, read_face, read_neigh};
+use mesh_files::{FaceRows, Neighbors, read_ele, read_face, read_neigh};
 use std::alloc::Global;
 
 const PYRAMID: &[u8] = b"5 3 0 0\n0 0 0 0\n1 2 0 0\n2 2 2 0\n3 0 2 0\n4 1 1 2\n";

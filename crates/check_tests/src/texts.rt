@@ -3,9 +3,8 @@
 ghost use Rattle.std.specs.Prelude.{◌<◌, ◌≤◌, ◌-◌, ◌^◌, IfSome, length};
 
 use geo_laws::Points;
-use node_files::settle_least;
 use mesh_files::{MeshFault, read_ele, read_face, read_neigh};
-use node_files::read_node;
+use node_files::{read_node, settle_least};
 use std::alloc::Global;
 use tet_ports::Bytes;
 use tet_text::TextKind::{BadCount, BadIndex, Ended, Extra, NotANumber};

@@ -102,7 +102,8 @@ fn copy_regions(complex: &Complex, made: &mut Complex) -> Result<(), NoMemory>
 /// The facets of a complex, with their corners folded.
 fn folded_facets(alloc: Global, complex: &Complex, folded: &Names) -> Result<Complex, NoMemory>
     requires { HasCornersBelow (length folded.now) complex.now }
-    ensures { IfOk result (λ made. made ≡ record (folded_complex folded.now complex.now) { holes = []; regions = [] }) }
+    ensures { IfOk result (λ made. made ≡ record
+        (folded_complex folded.now complex.now) { holes = []; regions = [] }) }
 {
     let mut made = Complex::new(alloc);
     for i in 0..complex.facet_count() {

@@ -56,7 +56,8 @@ pub record IsComplexMesh (o : MeshOptions) (ps : List Point) (c : Complex) (m : 
   -- without facets there are none, unless the hull is kept
   pub no_facets : o.keep_hull ≡ false → c.facets ≡ [] → m.tetrahedra ≡ []
   -- where no two facets cross one Delaunay row, a piece with an inner point in the mesh is a side of the mesh
-  pub pieces_kept : IsUntangled m.points m.triangles → (p : Piece) → Contains rest p → EachRational (λ x. IsInnerOf m.points p x → Any (λ t. InClosed (corners m.points t) x) m.tetrahedra → is_side m.tetrahedra p ≡ true)
+  pub pieces_kept : IsUntangled m.points m.triangles → (p : Piece) → Contains rest p
+      → EachRational (λ x. IsInnerOf m.points p x → Any (λ t. InClosed (corners m.points t) x) m.tetrahedra → is_side m.tetrahedra p ≡ true)
   -- each face of the mesh is properly met with each triangle, as its marker asks for
   pub faces_met : AreTrianglesMetByFaces m.points m.triangles m.tetrahedra
   pub facets_there : AreFacetsThere m.triangles c
@@ -74,10 +75,12 @@ IsMeshFault o ps c (SegmentsCross one two) =
     (segs : List Piece) × (fs : List Facet) × (¬ AreCoplanar ps) × All (IsFlat ps) (facets c) × AreMeshed o.keep_facets ps c segs fs
     × segment.IsFirstPieceCrossing ps (pieces ps segs) one two
 IsMeshFault o ps c (GridEnd piece) =
-    (segs : List Piece) × (fs : List Facet) × All (IsFlat ps) (facets c) × AreMeshed o.keep_facets ps c segs fs × CanSplit ps (pieces ps segs)
+    (segs : List Piece) × (fs : List Facet) × All (IsFlat ps) (facets c) × AreMeshed o.keep_facets ps c segs fs
+    × CanSplit ps (pieces ps segs)
     × (protect o.halvings o.budget ps (pieces ps segs) ≡ GridEndOf piece)
 IsMeshFault o ps c (BudgetEnd made piece) =
-    (segs : List Piece) × (fs : List Facet) × All (IsFlat ps) (facets c) × AreMeshed o.keep_facets ps c segs fs × CanSplit ps (pieces ps segs)
+    (segs : List Piece) × (fs : List Facet) × All (IsFlat ps) (facets c) × AreMeshed o.keep_facets ps c segs fs
+    × CanSplit ps (pieces ps segs)
     × (made ≡ o.budget) × (protect o.halvings o.budget ps (pieces ps segs) ≡ BudgetEndOf piece)
 IsMeshFault o ps c (Crossing one two) =
     (segs : List Piece) × (fs : List Facet) × (qs : List Point) × (rest : List Piece) × IsProtectedComplex o ps c segs fs qs rest

@@ -40,7 +40,8 @@ AreMeshed false ps c segs fs = AreOfMerged ps c segs fs
 
 -- the facets as read are flat, the points are not all in one plane, any two pieces of the segments are properly met, and protection ends
 -- with these points and pieces
-pub record IsProtectedComplex (o : MeshOptions) (ps : List Point) (c : Complex) (segs : List Piece) (fs : List Facet) (qs : List Point) (rest : List Piece) : Type 0 where
+pub record IsProtectedComplex (o : MeshOptions) (ps : List Point) (c : Complex) (segs : List Piece) (fs : List Facet) (qs : List Point)
+    (rest : List Piece) : Type 0 where
   pub flat : All (IsFlat ps) (facets c)
   pub meshed : AreMeshed o.keep_facets ps c segs fs
   pub can_split : CanSplit ps (pieces ps segs)

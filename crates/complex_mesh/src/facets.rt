@@ -23,7 +23,8 @@ fn complex_triangles(
     complex: &Complex,
 ) -> Result<FacetTriangles, NoMemory>
     requires { HasSoundFacets points.now _pieces.now complex.now }
-    ensures { IfOk result (λ triangles. triangles ≡ complex_triangles points.now (facets complex.now)) }
+    ensures { IfOk result (λ triangles. triangles
+        ≡ complex_triangles points.now (facets complex.now)) }
 {
     let tree = point_tree(alloc, points)?;
     let mut triangles = FacetTriangles::new(alloc);

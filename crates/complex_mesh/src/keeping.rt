@@ -25,7 +25,8 @@ fn marks_of(
 ) -> Result<Marks, NoMemory>
     requires filling { IsFilling points.now triangles.now whole.now }
     requires ascending { AllPairs RowBefore whole.now }
-    requires carved { (carving : Carving) × IsCarved carving points.now triangles.now complex.now.holes whole.now kept.now }
+    requires carved { (carving : Carving)
+        × IsCarved carving points.now triangles.now complex.now.holes whole.now kept.now }
     requires regions { All (λ r. pos 0 <ℤ r.at.w) complex.now.regions }
     ensures { IfOk result (AreRegionMarks points.now triangles.now kept.now complex.now.regions) }
 {
@@ -47,7 +48,8 @@ pub(crate) fn kept_mesh(
     requires ascending { AllPairs RowBefore whole.now }
     requires holes { All (λ h. pos 0 <ℤ h.w) complex.now.holes }
     requires regions { All (λ r. pos 0 <ℤ r.at.w) complex.now.regions }
-    ensures { IfOk result (λ mesh. (mesh.points ≡ points) × (mesh.triangles ≡ triangles) × IsKeptMesh options.now complex.now whole.now mesh) }
+    ensures { IfOk result (λ mesh. (mesh.points ≡ points) × (mesh.triangles ≡ triangles)
+        × IsKeptMesh options.now complex.now whole.now mesh) }
 {
     let holes = complex.hole_points();
     let tetrahedra = carve(alloc, &points, whole, &triangles, holes, options.keep_hull)?;

@@ -29,7 +29,8 @@ fn mesh_facets(
 ) -> Result<ComplexMesh, MeshFault>
     requires meshable { IsMeshable options.now.halvings options.now.budget points complex.now }
     requires flat { All (IsFlat points) (facets complex.now) }
-    requires meshed { AreMeshed options.now.keep_facets points complex.now segments.now (facets meshed.now) }
+    requires meshed { AreMeshed options.now.keep_facets points complex.now segments.now
+        (facets meshed.now) }
     requires corners { HasCornersOf points meshed.now }
     ensures { MeshesSo options.now points complex.now result }
 {

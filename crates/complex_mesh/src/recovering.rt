@@ -22,7 +22,8 @@ pub(crate) fn recovered(
     requires solid { ¬ AreCoplanar points.now }
     requires list { list.now ≡ delaunay_rows points.now }
     requires complex { IsProtected points.now triangles.now (delaunay_rows points.now) }
-    ensures { MatchResult result (IsRecovered points.now triangles.now) (IsTangleFault points.now triangles.now) }
+    ensures { MatchResult result (IsRecovered points.now triangles.now)
+        (IsTangleFault points.now triangles.now) }
 {
     let whole = refill(alloc, points, list, triangles)?;
     Ok(whole)

@@ -11,7 +11,8 @@ use Rattle.facet_laws.specs.Legs.{IsWeightedMean}
 
 -- no point between a and b lies strictly between c and d
 abbrev pub IsOffInside : Point → Point → Point → Point → Type 0
-IsOffInside a b c d = EachRational (λ z. IsWeightedMean (as_rational a) (as_rational b) z → (l : IsWeightedMean (as_rational c) (as_rational d) z)
+IsOffInside a b c d = EachRational (λ z. IsWeightedMean (as_rational a) (as_rational b) z
+    → (l : IsWeightedMean (as_rational c) (as_rational d) z)
     → pos 0 <ℤ l.to_x → ¬ (pos 0 <ℤ l.to_y))
 
 -- the polygon has the side at one place, and none of its other sides passes through a point of it

@@ -93,7 +93,8 @@ LeftOnceLaw = (a b c d : Point) → EachRational (λ x. EachRational (λ y. (h :
 
 -- Another side of a polygon that the leg leaves through a side s: the leg has no common point with it, or passes through it where it has
 -- none with s, with the polygon on the hand of its start, or on the other hand and then not before it passes through s
-pub data IsOtherSide (ps : List Point) (f : Triangle) (polygon : List ℕ) (x y : RationalPoint) (s r : Piece) (h : PassesThrough x y (point ps s.a) (point ps s.b)) : Type 0 where
+pub data IsOtherSide (ps : List Point) (f : Triangle) (polygon : List ℕ) (x y : RationalPoint) (s r : Piece)
+    (h : PassesThrough x y (point ps s.a) (point ps s.b)) : Type 0 where
   missed : IsClear x y (point ps r.a) (point ps r.b) → IsOtherSide ps f polygon x y s r h
   left : (k : PassesThrough x y (point ps r.a) (point ps r.b)) → LiesBeside ps f k.g polygon
       → ¬ IsWeightedMean (as_rational (point ps s.a)) (as_rational (point ps s.b)) k.at

@@ -12,10 +12,10 @@ ghost use Rattle.facet_plane.specs.Outline.{side_between, sides_between, side_me
 ghost use Rattle.facet_plane.specs.Outline.{AreBoxesTo, IsBlocked, IsOutlineOf};
 ghost use Rattle.facet_laws.specs.Parity.{xor};
 
-use crate::spot::Spot;
 use crate::blocks::{Block, Extent, blocks_of, extent_of, whole_extent};
 use crate::plane::{Axis, crosses_ray, first_of_two, is_between_in_two, is_upward, second_of_two};
 use crate::polygon::is_on_segment;
+use crate::spot::Spot;
 use crate::vectors::toward;
 use geo_laws::Points;
 use sign_predicates::GridPoint;

@@ -13,10 +13,10 @@ ghost use Rattle.facet_plane.specs.Prepared.{shape, shape_meets, shape_round, pa
 ghost use Rattle.facet_plane.specs.Prepared.{HoldsOutline, AreOutlinesOf, AreBlocked, AreHoles};
 ghost use Rattle.facet_plane.specs.Prepared.{prepared_holds, IsPreparedOf};
 
-use crate::spot::Spot;
 use crate::blocks::{Block, blocks_of};
 use crate::outline::{Outline, Reach, is_apart};
 use crate::plane::{Axis, normal};
+use crate::spot::Spot;
 use crate::vectors::{Normal, toward};
 use geo_laws::{Complex, Facet, Points};
 use sign_predicates::GridPoint;

@@ -8,7 +8,8 @@ use Rattle.face_table.specs.Chains.{face_of_triangle}
 
 -- the triangles that are no faces of the rows
 abbrev pub AreMissing : List FacetTriangle → List Tet → List FacetTriangle → Type 0
-AreMissing ts rows missing = (t : FacetTriangle) → Contains missing t ↔ (Contains ts t × ¬ Contains (faces_of_rows rows) (face_of_triangle t))
+AreMissing ts rows missing = (t : FacetTriangle) → Contains missing t ↔ (Contains ts t
+    × ¬ Contains (faces_of_rows rows) (face_of_triangle t))
 
 -- a mark for each triangle: whether it is a face of the rows
 pub record AreListed (ts : List FacetTriangle) (rows : List Tet) (marks : List Bool) : Type 0 where

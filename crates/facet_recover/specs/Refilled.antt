@@ -28,7 +28,8 @@ AreUntangled ps ts rows = (t : Tet) → Contains rows t → ¬ IsTangled ps ts t
 pub record IsRefilledBySides (ps : List Point) (ts : List FacetTriangle) (rows whole : List Tet) : Type 0 where
   pub refill : IsRefill ps ts rows whole
   -- a side of the old list that meets no triangle but in its own corners stays
-  pub sides_kept : (s : Side) → Contains (sides_of_rows rows) s → All (λ t. ProperlyMet ps (corner_numbers t) (side_numbers s)) ts → Contains (sides_of_rows whole) s
+  pub sides_kept : (s : Side) → Contains (sides_of_rows rows) s → All (λ t. ProperlyMet ps (corner_numbers t) (side_numbers s)) ts
+      → Contains (sides_of_rows whole) s
 
 -- the fault of filling tangles, as one of refilling
 abbrev pub fault_of_filling : FillFault → RecoverFault

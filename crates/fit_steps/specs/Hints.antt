@@ -68,7 +68,8 @@ pub record IsHalvedAfter (limits : Limits) (options : Options) (input : Input) (
 abbrev pub IsHalvedPartOf : Limits → Options → Input → ℕ → ℕ → Piece → Piece → Type 0
 IsHalvedPartOf limits options input count zero p whole = whole ≡ p
 IsHalvedPartOf limits options input count (suc n) p whole =
-    (before : Piece) × IsHalvedAfter limits options input (max p.a p.b - count) before × IsHalvedPartOf limits options input count n before whole
+    (before : Piece) × IsHalvedAfter limits options input (max p.a p.b - count) before
+    × IsHalvedPartOf limits options input count n before whole
 
 -- both ends of the piece are corners
 abbrev pub has_both : Piece → List ℕ → Bool
@@ -94,7 +95,8 @@ hinted_facet_text (Some k) = codes " of facet " ++ decimal (k + 1)
 
 abbrev pub segment_line : Numbering → Piece → Option ℕ → List ℕ
 segment_line by p facet =
-    codes "tetfit: it lies on segment" ++ number_text by (min p.a p.b) ++ number_text by (max p.a p.b) ++ hinted_facet_text facet ++ codes "\n"
+    codes "tetfit: it lies on segment" ++ number_text by (min p.a p.b) ++ number_text by (max p.a p.b) ++ hinted_facet_text facet
+    ++ codes "\n"
 
 -- the line names this segment
 pub record IsLineOf (limits : Limits) (options : Options) (input : Input) (by : Numbering) (whole : Piece) (line : List ℕ) : Type 0 where

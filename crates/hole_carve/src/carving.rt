@@ -50,7 +50,8 @@ fn mark_hull(list: &TetList, keep_hull: bool, seeds: &mut [bool])
     requires long { length seeds.old ≡ length list.now + 1 }
     requires clear { (i : ℕ) → is_marked seeds.old i ≡ false }
     ensures long { length seeds.new ≡ length list.now + 1 }
-    ensures marked { (i : ℕ) → (is_marked seeds.new i ≡ true) ↔ ((keep_hull ≡ false) × (i ≡ length list.now)) }
+    ensures marked { (i : ℕ) → (is_marked seeds.new i ≡ true)
+        ↔ ((keep_hull ≡ false) × (i ≡ length list.now)) }
 {
     if keep_hull {
         return;
@@ -142,7 +143,8 @@ pub fn carve(
     requires holes { All (λ h. pos 0 <ℤ h.w) holes.now }
     ensures kept { IfOk result (λ rows. IsKeptPart
         (carving_of keep_hull) points.now triangles.now list.now holes.now rows) }
-    ensures ascending { AllPairs RowBefore list.now → IfOk result (λ rows. AllPairs RowBefore rows) }
+    ensures ascending { AllPairs RowBefore list.now
+        → IfOk result (λ rows. AllPairs RowBefore rows) }
 {
     let closed = FaceTable::of_triangles(alloc, triangles)?;
     let pairs = pair_faces(alloc, list)?;

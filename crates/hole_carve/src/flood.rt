@@ -99,7 +99,8 @@ fn reach_back(
     requires comes { IsFlooded ways.now seeds.now (length ways.now) }
     requires filled { IsQueued ways.now seeds.now marks.old queue.old.items }
     ensures filled { OnOk result (IsQueued ways.now seeds.now marks.new queue.new.items) }
-    ensures reached { OnOk result (IsWay ways.now row (length ways.now) → is_marked marks.new row ≡ true) }
+    ensures reached { OnOk result (IsWay ways.now row (length ways.now) → is_marked marks.new row
+        ≡ true) }
     ensures grown { OnOk result (Extends marks.old queue.old.items marks.new queue.new.items) }
 {
     if ways.is_inner(row) {
@@ -166,9 +167,11 @@ pub(crate) fn fill(
     requires seeds { length seeds.now ≡ length ways.now + 1 }
     requires within { LeadsWithin ways.now }
     requires filled { IsQueued ways.now seeds.now marks.old queue.old.items }
-    requires done { (q : ℕ) → q < length queue.old.items → IsClosedFrom ways.now marks.old (queue_at queue.old.items q) }
+    requires done { (q : ℕ) → q < length queue.old.items
+        → IsClosedFrom ways.now marks.old (queue_at queue.old.items q) }
     ensures long { OnOk result (length marks.new ≡ length ways.now + 1) }
-    ensures exactly { OnOk result ((i : ℕ) → (is_marked marks.new i ≡ true) ↔ IsFlooded ways.now seeds.now i) }
+    ensures exactly { OnOk result ((i : ℕ) → (is_marked marks.new i ≡ true)
+        ↔ IsFlooded ways.now seeds.now i) }
     ensures filled { OnOk result (IsQueued ways.now seeds.now marks.new queue.new.items) }
     ensures done { OnOk result ((q : ℕ) → q < length queue.new.items
         → IsClosedFrom ways.now marks.new (queue_at queue.new.items q)) }

@@ -57,7 +57,8 @@ fn put_flood(
     requires done { (q : ℕ) → q < length queue.old.items
         → IsClosedFrom ways.now reached.old (queue_at queue.old.items q) }
     ensures long { OnOk result (length reached.new ≡ length ways.now + 1) }
-    ensures exactly { OnOk result ((i : ℕ) → (is_marked reached.new i ≡ true) ↔ IsFlooded ways.now seeds.now i) }
+    ensures exactly { OnOk result ((i : ℕ) → (is_marked reached.new i ≡ true)
+        ↔ IsFlooded ways.now seeds.now i) }
     ensures filled { OnOk result (IsQueued ways.now seeds.now reached.new queue.new.items) }
     ensures done { OnOk result ((q : ℕ) → q < length queue.new.items
         → IsClosedFrom ways.now reached.new (queue_at queue.new.items q)) }

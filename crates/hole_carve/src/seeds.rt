@@ -86,7 +86,8 @@ fn lies_on_face(row: Tet, t: &Corners, closed: &FaceTable, corner: usize, x: Rat
 
 /// Whether a point lies on the plane of a face of the row that is closed.
 fn lies_on_some(row: Tet, t: &Corners, closed: &FaceTable, x: RatPoint) -> bool
-    ensures { (result ≡ true) ↔ ((k : ℕ) × (k < 4) × (side_rational (opposite_face t.now k) x ≡ pos 0)
+    ensures { (result ≡ true) ↔ ((k : ℕ) × (k < 4) × (side_rational (opposite_face t.now k) x
+        ≡ pos 0)
         × Contains closed.now (face_opposite row k)) }
 {
     for corner in 0..4 {
@@ -108,7 +109,8 @@ fn add_holder(
     requires on { All (IsOn points.now) list.now }
     requires positive { All (λ t. IsPositive (corners points.now t)) list.now }
     requires there { at < length list.now }
-    requires before { (i : ℕ) → Contains holders.old.items i ↔ ((i < at) × RowHolds points.now list.now x i) }
+    requires before { (i : ℕ) → Contains holders.old.items i
+        ↔ ((i < at) × RowHolds points.now list.now x i) }
     ensures { OnOk result ((i : ℕ) → Contains holders.new.items i
         ↔ ((i < at + 1) × RowHolds points.now list.now x i)) }
 {
@@ -128,7 +130,8 @@ fn holders_of(
 ) -> Result<Vec<usize>, NoMemory>
     requires on { All (IsOn points.now) list.now }
     requires positive { All (λ t. IsPositive (corners points.now t)) list.now }
-    ensures { IfOk result (λ holders. (i : ℕ) → Contains holders.items i ↔ RowHolds points.now list.now x i) }
+    ensures { IfOk result (λ holders. (i : ℕ) → Contains holders.items i
+        ↔ RowHolds points.now list.now x i) }
 {
     let mut holders = Vec::new(alloc);
     for at in 0..list.len() {
@@ -162,7 +165,8 @@ fn is_on_closed(
 fn mark_one(place: usize, marks: &mut [bool])
     requires { place < length marks.old }
     ensures long { length marks.new ≡ length marks.old }
-    ensures marked { (i : ℕ) → (is_marked marks.new i ≡ true) ↔ ((is_marked marks.old i ≡ true) ⊎ (i ≡ place)) }
+    ensures marked { (i : ℕ) → (is_marked marks.new i ≡ true)
+        ↔ ((is_marked marks.old i ≡ true) ⊎ (i ≡ place)) }
 {
     marks[place] = true;
 }

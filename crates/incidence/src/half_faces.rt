@@ -85,7 +85,8 @@ pub(crate) fn corner_numbered(number: u64) -> Corner
 /// and the corner add up to the row.
 fn are_opposite(row: Tet, face: Face) -> [bool; 4]
     requires { has_face face row ≡ true }
-    ensures { result ≡ is_face (face_of row.b row.c row.d) face ∷ is_face (face_of row.a row.c row.d) face
+    ensures { result ≡ is_face (face_of row.b row.c row.d) face ∷ is_face
+        (face_of row.a row.c row.d) face
         ∷ is_face (face_of row.a row.b row.d) face ∷ is_face (face_of row.a row.b row.c) face ∷ [] }
 {
     let of_face = u64::from(face.a) + u64::from(face.b) + u64::from(face.c);
@@ -175,8 +176,10 @@ pub(crate) fn push_halves(
     requires marked { AreFirstsMarked (used list.now halves.old.items) (marks_of halves.old.items) }
     requires apart { (u v : Use) → Contains (used list.now halves.old.items) u → Contains uses.now v
         → ¬ (u.face ≡ v.face) }
-    ensures used { OnOk result (used list.now halves.new.items ≡ used list.now halves.old.items ++ uses.now) }
-    ensures marked { OnOk result (AreFirstsMarked (used list.now halves.new.items) (marks_of halves.new.items)) }
+    ensures used { OnOk result (used list.now halves.new.items ≡ used list.now halves.old.items
+        ++ uses.now) }
+    ensures marked { OnOk result (AreFirstsMarked (used list.now halves.new.items)
+        (marks_of halves.new.items)) }
 {
     halves.reserve(uses.len())?;
     for at in 0..uses.len() {

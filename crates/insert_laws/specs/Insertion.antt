@@ -55,22 +55,26 @@ InsertionLaw = (ps : List Point) (ms : List ℕ) (p : ℕ) → IsNew ps ms p →
 
 -- p is on the positive side of each face of the rim, turned to the cavity
 abbrev pub RimLaw : Type 0
-RimLaw = (ps : List Point) (ms : List ℕ) (p : ℕ) → IsNew ps ms p → (f : Face) → IsCavityPlace ps ms p f → IsClearPlace ps ms p (reversed f) → pos 0 <ℤ side (triangle ps f) (point ps p)
+RimLaw = (ps : List Point) (ms : List ℕ) (p : ℕ) → IsNew ps ms p → (f : Face) → IsCavityPlace ps ms p f → IsClearPlace ps ms p (reversed f)
+    → pos 0 <ℤ side (triangle ps f) (point ps p)
 
 -- across each face of a Delaunay row lies another one, or no point
 abbrev pub FacePairingLaw : Type 0
-FacePairingLaw = (ps : List Point) (ms : List ℕ) → AreNumbersOf ps ms → (f : Face) (t : Tet) → IsDelaunayAmong ps ms t → IsFaceOf ps (reversed f) t
+FacePairingLaw = (ps : List Point) (ms : List ℕ) → AreNumbersOf ps ms → (f : Face) (t : Tet) → IsDelaunayAmong ps ms t
+    → IsFaceOf ps (reversed f) t
     → HasNoneAmongBeyond ps ms f ⊎ ((s : Tet) × IsDelaunayAmong ps ms s × IsFaceOf ps f s)
 
 -- at most one Delaunay row lies on one side of a face
 abbrev pub OneRowLaw : Type 0
-OneRowLaw = (ps : List Point) (ms : List ℕ) → AreNumbersOf ps ms → (f : Face) (s t : Tet) → IsDelaunayAmong ps ms s → IsFaceOf ps f s → IsDelaunayAmong ps ms t → IsFaceOf ps f t → s ≡ t
+OneRowLaw = (ps : List Point) (ms : List ℕ) → AreNumbersOf ps ms → (f : Face) (s t : Tet) → IsDelaunayAmong ps ms s → IsFaceOf ps f s
+    → IsDelaunayAmong ps ms t → IsFaceOf ps f t → s ≡ t
 
 -- ---- the hull
 
 -- The hull faces without p as a corner are those before that p doesn't see
 abbrev pub OldHullLaw : Type 0
-OldHullLaw = (ps : List Point) (ms : List ℕ) (p : ℕ) → IsNew ps ms p → (some : Tet) → IsDelaunayAmong ps ms some → (f : Face) → Contains ms f.a → Contains ms f.b → Contains ms f.c
+OldHullLaw = (ps : List Point) (ms : List ℕ) (p : ℕ) → IsNew ps ms p → (some : Tet) → IsDelaunayAmong ps ms some → (f : Face)
+    → Contains ms f.a → Contains ms f.b → Contains ms f.c
     → IsHullFace ps (p ∷ ms) f ↔ ((h : IsHullFace ps ms f) × ¬ Sees ps p f h.behind)
 
 -- the edge is one of a hull face that p sees, and turned one of a hull face that p doesn't see
@@ -84,7 +88,8 @@ pub record IsHullRim (ps : List Point) (ms : List ℕ) (p : ℕ) (i j : ℕ) : T
 
 -- and those with p are p and the edges between
 abbrev pub NewHullLaw : Type 0
-NewHullLaw = (ps : List Point) (ms : List ℕ) (p : ℕ) → IsNew ps ms p → (some : Tet) → IsDelaunayAmong ps ms some → (i j : ℕ) → IsHullFace ps (p ∷ ms) (edge_and i j p) ↔ IsHullRim ps ms p i j
+NewHullLaw = (ps : List Point) (ms : List ℕ) (p : ℕ) → IsNew ps ms p → (some : Tet) → IsDelaunayAmong ps ms some → (i j : ℕ)
+    → IsHullFace ps (p ∷ ms) (edge_and i j p) ↔ IsHullRim ps ms p i j
 
 -- across each edge of a hull face lies exactly one other
 abbrev pub HullEdgeLaw : Type 0
@@ -105,12 +110,14 @@ pub data ArePlacesJoined (ps : List Point) (ms : List ℕ) (p : ℕ) : RowOrGhos
 
 -- where p lies in the closed row s of the cavity, each place of the cavity is joined to s
 abbrev pub InsideCavityLaw : Type 0
-InsideCavityLaw = (ps : List Point) (ms : List ℕ) (p : ℕ) → IsNew ps ms p → (s : Tet) → IsDelaunayAmong ps ms s → InClosed (corners ps s) (as_rational (point ps p)) → ¬ HasOutside ps s p
+InsideCavityLaw = (ps : List Point) (ms : List ℕ) (p : ℕ) → IsNew ps ms p → (s : Tet) → IsDelaunayAmong ps ms s
+    → InClosed (corners ps s) (as_rational (point ps p)) → ¬ HasOutside ps s p
     → (a : RowOrGhost) → IsInCavity ps ms p a → ArePlacesJoined ps ms p a (row_place s)
 
 -- where p is strictly beyond the hull face f, each place of the cavity is joined to the ghost of f
 abbrev pub BeyondCavityLaw : Type 0
-BeyondCavityLaw = (ps : List Point) (ms : List ℕ) (p : ℕ) → IsNew ps ms p → (f : Face) → IsHullFace ps ms f → pos 0 <ℤ side (triangle ps f) (point ps p)
+BeyondCavityLaw = (ps : List Point) (ms : List ℕ) (p : ℕ) → IsNew ps ms p → (f : Face) → IsHullFace ps ms f
+    → pos 0 <ℤ side (triangle ps f) (point ps p)
     → (a : RowOrGhost) → IsInCavity ps ms p a → ArePlacesJoined ps ms p a (ghost_place f)
 
 -- the Delaunay rows of a list are those among its numbers in the list with a further point, which isn't among them
@@ -119,25 +126,30 @@ StartOfListLaw = (ps : List Point) (p : Point) (t : Tet) → IsDelaunay ps t ↔
 
 -- the order of the numbers doesn't matter
 abbrev pub SameNumbersLaw : Type 0
-SameNumbersLaw = (ps : List Point) (ms ks : List ℕ) → ((i : ℕ) → Contains ms i ↔ Contains ks i) → (t : Tet) → IsDelaunayAmong ps ms t → IsDelaunayAmong ps ks t
+SameNumbersLaw = (ps : List Point) (ms ks : List ℕ) → ((i : ℕ) → Contains ms i ↔ Contains ks i) → (t : Tet) → IsDelaunayAmong ps ms t
+    → IsDelaunayAmong ps ks t
 
 -- a hull face is a face of a row behind it, and of none before it
 abbrev pub HullFaceLaw : Type 0
-HullFaceLaw = (ps : List Point) (ms : List ℕ) → AreNumbersOf ps ms → (f : Face) (t : Tet) → IsDelaunayAmong ps ms t → IsFaceOf ps (reversed f) t
+HullFaceLaw = (ps : List Point) (ms : List ℕ) → AreNumbersOf ps ms → (f : Face) (t : Tet) → IsDelaunayAmong ps ms t
+    → IsFaceOf ps (reversed f) t
     → IsHullFace ps ms f ↔ ((s : Tet) → IsDelaunayAmong ps ms s → ¬ IsFaceOf ps f s)
 
 -- the name of a hull face from its next corner
 abbrev pub HullTurnLaw : Type 0
-HullTurnLaw = (ps : List Point) (ms : List ℕ) → AreNumbersOf ps ms → (i j o : ℕ) → IsHullFace ps ms (edge_and i j o) → IsHullFace ps ms (edge_and j o i)
+HullTurnLaw = (ps : List Point) (ms : List ℕ) → AreNumbersOf ps ms → (i j o : ℕ) → IsHullFace ps ms (edge_and i j o)
+    → IsHullFace ps ms (edge_and j o i)
 
 -- a further point lies in a closed row, or strictly beyond a hull face
 abbrev pub LocateLaw : Type 0
 LocateLaw = (ps : List Point) (ms : List ℕ) (p : ℕ) → IsNew ps ms p → (some : Tet) → IsDelaunayAmong ps ms some
-    → ((t : Tet) × IsDelaunayAmong ps ms t × InClosed (corners ps t) (as_rational (point ps p))) ⊎ ((f : Face) × IsHullFace ps ms f × (pos 0 <ℤ side (triangle ps f) (point ps p)))
+    → ((t : Tet) × IsDelaunayAmong ps ms t × InClosed (corners ps t) (as_rational (point ps p)))
+    ⊎ ((f : Face) × IsHullFace ps ms f × (pos 0 <ℤ side (triangle ps f) (point ps p)))
 
 -- a closed row that holds p, where p is none of its corners, is in the cavity
 abbrev pub StartLaw : Type 0
-StartLaw = (ps : List Point) (ms : List ℕ) (p : ℕ) → IsNew ps ms p → ((i : ℕ) → Contains ms i → point ps i ≢ point ps p) → (t : Tet) → IsDelaunayAmong ps ms t
+StartLaw = (ps : List Point) (ms : List ℕ) (p : ℕ) → IsNew ps ms p → ((i : ℕ) → Contains ms i → point ps i ≢ point ps p) → (t : Tet)
+    → IsDelaunayAmong ps ms t
     → InClosed (corners ps t) (as_rational (point ps p)) → ¬ HasOutside ps t p
 
 -- a face between a place of the cavity, on its positive side, and one that isn't in it
@@ -153,12 +165,14 @@ RimEdgeLaw = (ps : List Point) (ms : List ℕ) (p : ℕ) → IsNew ps ms p → (
 
 -- behind each edge where the rim meets the hull lies a rim face, and the edges follow one another
 abbrev pub HullRimLaw : Type 0
-HullRimLaw = (ps : List Point) (ms : List ℕ) (p : ℕ) → IsNew ps ms p → (some : Tet) → IsDelaunayAmong ps ms some → (i j : ℕ) → IsHullRim ps ms p i j
+HullRimLaw = (ps : List Point) (ms : List ℕ) (p : ℕ) → IsNew ps ms p → (some : Tet) → IsDelaunayAmong ps ms some → (i j : ℕ)
+    → IsHullRim ps ms p i j
     → ((k : ℕ) × IsRimFace ps ms p (edge_and i j k)) × ((q : ℕ) × IsHullRim ps ms p j q × ((r : ℕ) → IsHullRim ps ms p j r → q ≡ r))
 
 -- a further point, which is none of those there, has a rim face
 abbrev pub SomeRimFaceLaw : Type 0
-SomeRimFaceLaw = (ps : List Point) (ms : List ℕ) (p : ℕ) → IsNew ps ms p → ((i : ℕ) → Contains ms i → point ps i ≢ point ps p) → (some : Tet) → IsDelaunayAmong ps ms some
+SomeRimFaceLaw = (ps : List Point) (ms : List ℕ) (p : ℕ) → IsNew ps ms p → ((i : ℕ) → Contains ms i → point ps i ≢ point ps p)
+    → (some : Tet) → IsDelaunayAmong ps ms some
     → (f : Face) × IsRimFace ps ms p f
 
 -- among its own corners a tetrahedron is the only Delaunay one, and its faces are those of the hull
@@ -172,7 +186,8 @@ FirstLaw = (ps : List Point) (t : Tet) → IsPositive (corners ps t) → IsArran
 
 -- on each side of a face of a Delaunay tetrahedron stands a place of the cavity or a clear one, and not both
 pub record IsDivided (ps : List Point) (ms : List ℕ) (p : ℕ) : Type 0 where
-  pub decided : (f : Face) (t : Tet) → IsDelaunayAmong ps ms t → IsFaceOf ps f t ⊎ IsFaceOf ps (reversed f) t → IsCavityPlace ps ms p f ⊎ IsClearPlace ps ms p f
+  pub decided : (f : Face) (t : Tet) → IsDelaunayAmong ps ms t → IsFaceOf ps f t ⊎ IsFaceOf ps (reversed f) t → IsCavityPlace ps ms p f
+      ⊎ IsClearPlace ps ms p f
   pub exclusive : (f : Face) → IsCavityPlace ps ms p f → IsClearPlace ps ms p f → ⊥
 
 -- a new point divides the places into its cavity and the rest

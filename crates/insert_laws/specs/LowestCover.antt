@@ -13,5 +13,6 @@ pub record IsLowestListAmong (lifts : ℕ → ℤ) (ps : List Point) (ms : List 
 
 -- It triangulates the hull of its points
 abbrev pub LowestCoverLaw : Type 0
-LowestCoverLaw = (lifts : ℕ → ℤ) (ps : List Point) (ms : List ℕ) → AreNumbersOf ps ms → (rows : List Tet) → IsLowestListAmong lifts ps ms rows
+LowestCoverLaw = (lifts : ℕ → ℤ) (ps : List Point) (ms : List ℕ) → AreNumbersOf ps ms → (rows : List Tet)
+    → IsLowestListAmong lifts ps ms rows
     → IsTriangulationAmong ps ms rows

@@ -88,7 +88,8 @@ LowestFacePairingLaw = (lifts : ℕ → ℤ) (ps : List Point) (ms : List ℕ) �
 
 -- at most one lowest row lies on one side of a face
 abbrev pub LowestOneRowLaw : Type 0
-LowestOneRowLaw = (lifts : ℕ → ℤ) (ps : List Point) (ms : List ℕ) → AreNumbersOf ps ms → (f : Face) (s t : Tet) → IsLowestAmong ps ms lifts s
+LowestOneRowLaw = (lifts : ℕ → ℤ) (ps : List Point) (ms : List ℕ) → AreNumbersOf ps ms → (f : Face) (s t : Tet)
+    → IsLowestAmong ps ms lifts s
     → IsFaceOf ps f s → IsLowestAmong ps ms lifts t → IsFaceOf ps f t → s ≡ t
 
 -- ---- the hull
@@ -119,7 +120,8 @@ LowestNewHullLaw = (lifts : ℕ → ℤ) (ps : List Point) (ms : List ℕ) (p : 
 
 -- across each edge of a hull face lies exactly one other
 abbrev pub LowestHullEdgeLaw : Type 0
-LowestHullEdgeLaw = (lifts : ℕ → ℤ) (ps : List Point) (ms : List ℕ) → AreNumbersOf ps ms → (i j o : ℕ) → IsLowestHullFace lifts ps ms (edge_and i j o)
+LowestHullEdgeLaw = (lifts : ℕ → ℤ) (ps : List Point) (ms : List ℕ) → AreNumbersOf ps ms → (i j o : ℕ)
+    → IsLowestHullFace lifts ps ms (edge_and i j o)
     → ((q : ℕ) × IsLowestHullFace lifts ps ms (edge_and j i q)) × ((q : ℕ) → IsLowestHullFace lifts ps ms (edge_and i j q) → o ≡ q)
 
 -- ---- the cavity is connected
@@ -132,7 +134,8 @@ pub data RowOrGhost : Type 0 where
 -- the place is in the cavity of p
 pub data IsInLowestCavity (lifts : ℕ → ℤ) (ps : List Point) (ms : List ℕ) (p : ℕ) : RowOrGhost → Type 0 where
   row_in : (t : Tet) → IsLowestAmong ps ms lifts t → ¬ HasAbove lifts ps t p → IsInLowestCavity lifts ps ms p (row_place t)
-  ghost_in : (f : Face) → (h : IsLowestHullFace lifts ps ms f) → LowestSees lifts ps p f h.behind → IsInLowestCavity lifts ps ms p (ghost_place f)
+  ghost_in : (f : Face) → (h : IsLowestHullFace lifts ps ms f) → LowestSees lifts ps p f h.behind
+      → IsInLowestCavity lifts ps ms p (ghost_place f)
 
 -- the two places have a face in common; the last case is one ghost, its face named from another corner
 pub data Touches (ps : List Point) : RowOrGhost → RowOrGhost → Type 0 where
@@ -145,7 +148,8 @@ pub data Touches (ps : List Point) : RowOrGhost → RowOrGhost → Type 0 where
 -- a chain of places of the cavity leads from the one to the other
 pub data AreLowestPlacesJoined (lifts : ℕ → ℤ) (ps : List Point) (ms : List ℕ) (p : ℕ) : RowOrGhost → RowOrGhost → Type 0 where
   joined_self : (a : RowOrGhost) → AreLowestPlacesJoined lifts ps ms p a a
-  joined_by : (a b c : RowOrGhost) → Touches ps a b → IsInLowestCavity lifts ps ms p b → AreLowestPlacesJoined lifts ps ms p b c → AreLowestPlacesJoined lifts ps ms p a c
+  joined_by : (a b c : RowOrGhost) → Touches ps a b → IsInLowestCavity lifts ps ms p b → AreLowestPlacesJoined lifts ps ms p b c
+      → AreLowestPlacesJoined lifts ps ms p a c
 
 -- where p lies in the closed row s of the cavity, each place of the cavity is joined to s
 abbrev pub LowestInsideCavityLaw : Type 0
@@ -155,7 +159,8 @@ LowestInsideCavityLaw = (lifts : ℕ → ℤ) (ps : List Point) (ms : List ℕ) 
 
 -- where p is strictly beyond the hull face f, each place of the cavity is joined to the ghost of f
 abbrev pub LowestBeyondCavityLaw : Type 0
-LowestBeyondCavityLaw = (lifts : ℕ → ℤ) (ps : List Point) (ms : List ℕ) (p : ℕ) → IsNew ps ms p → (f : Face) → IsLowestHullFace lifts ps ms f
+LowestBeyondCavityLaw = (lifts : ℕ → ℤ) (ps : List Point) (ms : List ℕ) (p : ℕ) → IsNew ps ms p → (f : Face)
+    → IsLowestHullFace lifts ps ms f
     → pos 0 <ℤ side (triangle ps f) (point ps p)
     → (a : RowOrGhost) → IsInLowestCavity lifts ps ms p a → AreLowestPlacesJoined lifts ps ms p a (ghost_place f)
 
@@ -166,7 +171,8 @@ LowestSameNumbersLaw = (lifts : ℕ → ℤ) (ps : List Point) (ms ks : List ℕ
 
 -- a hull face is a face of a row behind it, and of none before it
 abbrev pub LowestHullFaceLaw : Type 0
-LowestHullFaceLaw = (lifts : ℕ → ℤ) (ps : List Point) (ms : List ℕ) → AreNumbersOf ps ms → (f : Face) (t : Tet) → IsLowestAmong ps ms lifts t
+LowestHullFaceLaw = (lifts : ℕ → ℤ) (ps : List Point) (ms : List ℕ) → AreNumbersOf ps ms → (f : Face) (t : Tet)
+    → IsLowestAmong ps ms lifts t
     → IsFaceOf ps (reversed f) t
     → IsLowestHullFace lifts ps ms f ↔ ((s : Tet) → IsLowestAmong ps ms lifts s → ¬ IsFaceOf ps f s)
 
@@ -178,7 +184,8 @@ LowestHullTurnLaw = (lifts : ℕ → ℤ) (ps : List Point) (ms : List ℕ) → 
 -- a further point lies in a closed row, or strictly beyond a hull face
 abbrev pub LowestLocateLaw : Type 0
 LowestLocateLaw = (lifts : ℕ → ℤ) (ps : List Point) (ms : List ℕ) (p : ℕ) → IsNew ps ms p → (some : Tet) → IsLowestAmong ps ms lifts some
-    → ((t : Tet) × IsLowestAmong ps ms lifts t × InClosed (corners ps t) (as_rational (point ps p))) ⊎ ((f : Face) × IsLowestHullFace lifts ps ms f × (pos 0 <ℤ side (triangle ps f) (point ps p)))
+    → ((t : Tet) × IsLowestAmong ps ms lifts t × InClosed (corners ps t) (as_rational (point ps p)))
+    ⊎ ((f : Face) × IsLowestHullFace lifts ps ms f × (pos 0 <ℤ side (triangle ps f) (point ps p)))
 
 -- A point that lies in a closed row and above it is hidden: it changes neither the rows nor the hull, and its cavity has no place
 pub record IsHidden (lifts : ℕ → ℤ) (ps : List Point) (ms : List ℕ) (p : ℕ) : Type 0 where
@@ -213,7 +220,8 @@ LowestHullRimLaw = (lifts : ℕ → ℤ) (ps : List Point) (ms : List ℕ) (p : 
 
 -- a further point whose cavity has a place has a rim face: the cavity is not all of space
 abbrev pub LowestSomeRimFaceLaw : Type 0
-LowestSomeRimFaceLaw = (lifts : ℕ → ℤ) (ps : List Point) (ms : List ℕ) (p : ℕ) → IsNew ps ms p → (some : Tet) → IsLowestAmong ps ms lifts some
+LowestSomeRimFaceLaw = (lifts : ℕ → ℤ) (ps : List Point) (ms : List ℕ) (p : ℕ) → IsNew ps ms p → (some : Tet)
+    → IsLowestAmong ps ms lifts some
     → (a : RowOrGhost) → IsInLowestCavity lifts ps ms p a → (f : Face) × IsLowestRimFace lifts ps ms p f
 
 -- among its own corners a tetrahedron is the only lowest one, and its faces are those of the hull

@@ -119,4 +119,8 @@ members group c f = filter (λ g. group g.0 == f) (zip (numbers_below (length c.
 -- the merged facet that stands at the number: the polygons and hole points of its members. It has none where the number is not the least of
 -- its group
 abbrev pub merged_facet : (ℕ → ℕ) → Complex → ℕ → Facet
-merged_facet group c f = record { polygons = flat_map (λ g. g.1.polygons) (members group c f); holes = flat_map (λ g. g.1.holes) (members group c f) }
+merged_facet group c f = record {
+  polygons = flat_map (λ g. g.1.polygons) (members group c f);
+  holes = flat_map (λ g. g.1.holes)
+      (members group c f);
+}

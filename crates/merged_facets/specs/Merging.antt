@@ -75,7 +75,8 @@ IsBehind (Some m) j = m < j
 -- the side at i is noted with each earlier one with the same ends that is behind a place
 abbrev pub AreNotedBehind : List Point → Complex → List FacetSide → ℕ → Option ℕ → List InnerSide → (ℕ → ℕ) → Type 0
 AreNotedBehind ps c list i next inner label =
-    (j : ℕ) → j < i → IsBehind next j → ends_at list j ≡ ends_at list i → IsNoted ps c inner label (facet_side_at list i) (facet_side_at list j)
+    (j : ℕ) → j < i → IsBehind next j → ends_at list j ≡ ends_at list i
+    → IsNoted ps c inner label (facet_side_at list i) (facet_side_at list j)
 
 -- each side before i is noted with each earlier one with the same ends
 abbrev pub AreNotedBelow : List Point → Complex → List FacetSide → ℕ → List InnerSide → (ℕ → ℕ) → Type 0

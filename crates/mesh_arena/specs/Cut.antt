@@ -34,5 +34,6 @@ pub record Cuts (old new : List (Option SlotValue)) (cavity : List Slot) (rim : 
   pub gone : (u : ℕ) → IsInCavitySlots cavity u → corners_at new u ≡ None
   pub kept : (u : ℕ) → (IsInCavitySlots cavity u → ⊥) → corners_at new u ≡ corners_at old u
   pub outer : (r : ℕ) → r < length rim → face_side new (rim_at rim r) ≡ None
-  pub sides : (u k : ℕ) → (IsInCavitySlots cavity u → ⊥) → ((r : ℕ) → r < length rim → Off u k (rim_at rim r).slot.index (rim_at rim r).face)
+  pub sides : (u k : ℕ) → (IsInCavitySlots cavity u → ⊥) → ((r : ℕ) → r < length rim
+      → Off u k (rim_at rim r).slot.index (rim_at rim r).face)
       → link_behind new u k ≡ link_behind old u k

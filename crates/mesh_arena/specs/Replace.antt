@@ -22,7 +22,8 @@ pub record IsRim (slots : List (Option SlotValue)) (cavity : List Slot) (rim : L
   pub inner : (r : ℕ) → r < length rim → IsInCavitySlots cavity (behind_rim slots rim r).slot
   pub once : (r q : ℕ) → r < length rim → q < length rim → (rim_at rim r).slot.index ≡ (rim_at rim q).slot.index
       → (rim_at rim r).face ≡ (rim_at rim q).face → r ≡ q
-  pub all : (u k : ℕ) (b : SlotFace) → link_behind slots u k ≡ Some b → (IsInCavitySlots cavity u → ⊥) → IsInCavitySlots cavity b.slot → (r : ℕ) × (r < length rim)
+  pub all : (u k : ℕ) (b : SlotFace) → link_behind slots u k ≡ Some b → (IsInCavitySlots cavity u → ⊥) → IsInCavitySlots cavity b.slot
+      → (r : ℕ) × (r < length rim)
       × ((rim_at rim r).slot.index ≡ u) × ((rim_at rim r).face ≡ k)
 
 -- no face of the rim has this corner

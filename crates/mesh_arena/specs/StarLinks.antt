@@ -92,7 +92,8 @@ open_side (Some b) = 0
 
 -- how many faces of a slot have no neighbor
 abbrev pub open_at : List (Option SlotValue) → ℕ → ℕ
-open_at slots u = open_side (link_behind slots u 0) + open_side (link_behind slots u 1) + open_side (link_behind slots u 2) + open_side (link_behind slots u 3)
+open_at slots u = open_side (link_behind slots u 0) + open_side (link_behind slots u 1) + open_side (link_behind slots u 2) + open_side
+    (link_behind slots u 3)
 
 abbrev pub open_behind : List (Option SlotValue) → RimFace → ℕ
 open_behind slots f = open_at slots (behind (face_side slots f)).slot

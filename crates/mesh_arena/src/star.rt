@@ -25,7 +25,8 @@ impl Arena {
         requires { IsSome (link_behind self.now.slots outer.slot.index outer.face) }
         ensures face { result.face
             ≡ (behind (link_behind self.now.slots outer.slot.index outer.face)).face }
-        ensures corners { let inner = behind (link_behind self.now.slots outer.slot.index outer.face) in
+        ensures corners { let inner = behind
+            (link_behind self.now.slots outer.slot.index outer.face) in
             Some (cell_corners result.cell)
             ≡ option_map (λ cs. slice_set cs inner.face (Corner.Point point))
             (corners_at self.now.slots inner.slot) }

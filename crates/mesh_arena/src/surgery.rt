@@ -104,7 +104,8 @@ impl Arena {
         requires pairs { ArePaired self.now.slots rim.now }
         requires inside { r < length rim.now }
         requires face { k < 4 }
-        requires free { link_behind self.now.slots (behind_rim self.now.slots rim.now r).slot k ≡ None }
+        requires free { link_behind self.now.slots (behind_rim self.now.slots rim.now r).slot k
+            ≡ None }
         ensures { Mate self.now.slots rim.now r k result }
     {
         let _ = &self.cells;

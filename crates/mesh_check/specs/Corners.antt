@@ -13,7 +13,8 @@ point_in t k = if k == 0 then t.a else (if k == 1 then t.b else (if k == 2 then 
 -- the face opposite a corner
 abbrev pub face_in : Tet → ℕ → Face
 face_in t k =
-    if k == 0 then face_of t.b t.c t.d else (if k == 1 then face_of t.a t.c t.d else (if k == 2 then face_of t.a t.b t.d else face_of t.a t.b t.c))
+    if k == 0 then face_of t.b t.c t.d else (if k == 1 then face_of t.a t.c t.d else
+    (if k == 2 then face_of t.a t.b t.d else face_of t.a t.b t.c))
 
 -- what is across that face
 abbrev pub entry_in : Across → ℕ → Option ℕ

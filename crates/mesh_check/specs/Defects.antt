@@ -46,7 +46,8 @@ point_side ps f e = side (record { a = point ps f.a; b = point ps f.b; c = point
 -- neither corner is on the face's plane
 abbrev pub LieOnOneSide : List Point → Tet → Tet → Type 0
 LieOnOneSide ps s t =
-    (p : ℕ) × (q : ℕ) × IsShared s t p q × ¬ AreOppositeSigns (point_side ps (face_in s p) (point_in s p)) (point_side ps (face_in t q) (point_in t q))
+    (p : ℕ) × (q : ℕ) × IsShared s t p q × ¬ AreOppositeSigns (point_side ps (face_in s p) (point_in s p))
+    (point_side ps (face_in t q) (point_in t q))
 
 abbrev pub IsSameSide : List Point → List Tet → ℕ → ℕ → Type 0
 IsSameSide ps rows i j = (i < j) × (j < length rows) × LieOnOneSide ps (row_at rows i) (row_at rows j)

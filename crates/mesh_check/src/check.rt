@@ -20,8 +20,7 @@ use crate::unlisted::first_unlisted;
 use crate::{Defect, Verdict};
 use geo_laws::{Points, TetList};
 use incidence::{Pairs, pair_faces};
-use mesh_files::FaceRows;
-use mesh_files::Neighbors;
+use mesh_files::{FaceRows, Neighbors};
 use std::alloc::Global;
 use tet_ports::NoMemory;
 

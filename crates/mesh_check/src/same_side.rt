@@ -118,7 +118,8 @@ fn first_met(points: &Points, row: Tet, list: &TetList, from: usize, sides: &Sid
 /// Keeps a row for the sides on which it lies.
 fn put_row(points: &Points, row: Tet, place: usize, sides: &mut Sides) -> Result<(), NoMemory>
     requires { IsOn points.now row }
-    ensures { OnOk result (IsPutBelow points.now row 4 place (get same_side sides.old) (get same_side sides.new)) }
+    ensures { OnOk result (IsPutBelow points.now row 4 place (get same_side sides.old)
+        (get same_side sides.new)) }
 {
     for corner in 0..CORNERS {
         sides.insert(side_at(points, row, corner), place)?;

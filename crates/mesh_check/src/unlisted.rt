@@ -17,7 +17,8 @@ const CORNERS: u8 = 4;
 
 /// The first corner with nothing across its face, where that face is not in the set.
 fn unlisted_corner(row: Tet, across: Across, listed: &FaceSet) -> Option<u8>
-    ensures { IsLeastOf (λ k. (k < 4) × (entry_in across k ≡ None) × ¬ HasFace listed.now (face_in row k)) result }
+    ensures { IsLeastOf (λ k. (k < 4) × (entry_in across k ≡ None)
+        × ¬ HasFace listed.now (face_in row k)) result }
 {
     for corner in 0..CORNERS {
         if entry_in(across, corner).is_none() && !has(listed, face_in(row, corner)) {

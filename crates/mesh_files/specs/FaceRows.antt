@@ -60,7 +60,8 @@ abbrev pub corners_of : FaceRow → Face
 corners_of r = record { a = r.a; b = r.b; c = r.c }
 
 -- the face with its marker, where it is asked for
-pub record IsFaceRowOf (lies : Face → ℕ → Type 0) (facets : List Facet) (rows : List Tet) (all : Bool) (f : Face) (r : FaceRow) : Type 0 where
+pub record IsFaceRowOf (lies : Face → ℕ → Type 0) (facets : List Facet) (rows : List Tet) (all : Bool) (f : Face)
+    (r : FaceRow) : Type 0 where
   pub corners_are : corners_of r ≡ f
   pub marker_is : IsFaceMarker (lies f) facets (is_on_hull rows f) r.marker
   pub asked : IsAsked (lies f) all (is_on_hull rows f)

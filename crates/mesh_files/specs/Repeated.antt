@@ -5,7 +5,8 @@ use Rattle.tet_text.specs.Lines.{ContentLine}
 use Rattle.tet_text.specs.Reading.{◌>>=◌, line_at}
 
 -- the next row of a list, in a text of so many lines, where `row` reads its line, and the number that the row behind it has
-unfoldable pub next_row : {X : Type 0} → (ℕ → ContentLine → Result X TextFault) → ℕ → ℕ × List ContentLine → Result (X × (ℕ × List ContentLine)) TextFault
+unfoldable pub next_row : {X : Type 0} → (ℕ → ContentLine → Result X TextFault) → ℕ → ℕ × List ContentLine
+    → Result (X × (ℕ × List ContentLine)) TextFault
 next_row row total place = do
   line ← line_at total place.1
   item ← row place.0 line.0

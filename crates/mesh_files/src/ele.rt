@@ -29,7 +29,8 @@ pub fn write_ele(
 ) -> Result<Bytes, NoMemory>
     requires named { All (λ row. AreNamed names.now (numbers row)) list.now }
     requires long { IfSome marks (λ m. length m.now ≡ length list.now) }
-    requires regions { IfSome marks (λ m. All (λ mark. IfSome mark (λ r. r < length complex.now.regions)) m.now) }
+    requires regions { IfSome marks (λ m. All (λ mark. IfSome mark
+        (λ r. r < length complex.now.regions)) m.now) }
     ensures { IfOk result (λ text. text ≡ ele_text_of
         (option_copied marks.entry) complex.now.regions names.now first list.now) }
 {
@@ -122,7 +123,8 @@ fn write_attributed(
 /// Ends a line with the attribute of the region that the mark names, and `0` where there is none.
 fn end_with_attribute(out: &mut Lines, complex: &Complex, mark: Option<u32>) -> Result<(), NoMemory>
     requires { IfSome mark (λ r. r < length complex.now.regions) }
-    ensures { OnOk result (out.new ≡ out.old ++ (attribute_of complex.now.regions mark ++ 10 ∷ [])) }
+    ensures { OnOk result (out.new ≡ out.old ++ (attribute_of complex.now.regions mark
+        ++ 10 ∷ [])) }
 {
     append_attribute(out, complex, mark)?;
     out.append(b"\n")

@@ -9,9 +9,8 @@ ghost use Rattle.mesh_files.specs.Repeated.{next_row};
 ghost use Rattle.mesh_files.specs.ReadRows.{marker_field, face_row, face_rows_of, face_list_of, IsFaceBelow};
 ghost use Rattle.tet_text.specs.Repeated.{so_many};
 
-use crate::MeshFault;
 use crate::field_reading::{Head, Listed, read_corner, read_flag_head, read_number};
-use crate::{FaceRow, FaceRows};
+use crate::{FaceRow, FaceRows, MeshFault};
 use std::alloc::Global;
 use tet_ports::Bytes;
 use tet_text::{Fields, Lines, TextFault};

@@ -129,7 +129,8 @@ pub(crate) fn append_fields(
 #[inline(always)]
 fn settle(text: &mut Bytes, block: &[u8], used: usize) -> Result<usize, NoMemory>
     requires { used ≤ length block.now }
-    ensures same { IfOk result (λ left. text.new ++ take left block.now ≡ text.old ++ take used block.now) }
+    ensures same { IfOk result (λ left. text.new ++ take left block.now ≡ text.old
+        ++ take used block.now) }
     ensures room { IfOk result (λ left. left ≤ 888) }
 {
     if used <= FULL {

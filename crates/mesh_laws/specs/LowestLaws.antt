@@ -47,6 +47,7 @@ pub record IsCutOut (slots : List (Option SlotValue)) (cavity : List Slot) (rim 
 
 -- a cavity that was grown in a lowest mesh is cut out, if it has a rim
 abbrev pub LowestCutOutLaw : Type 0
-LowestCutOutLaw = (lifts : ℕ → ℤ) (slots : List (Option SlotValue)) (ps : List Point) (ms : List ℕ) (p start : ℕ) (cavity : List Slot) (rim : List RimFace)
+LowestCutOutLaw = (lifts : ℕ → ℤ) (slots : List (Option SlotValue)) (ps : List Point) (ms : List ℕ) (p start : ℕ) (cavity : List Slot)
+    (rim : List RimFace)
     → IsArenaMesh slots → IsLowestMesh lifts slots ps ms → IsNew ps ms p
     → Grown slots (IsLowestTaken lifts slots ps p) start cavity rim → 0 < length rim → IsCutOut slots cavity rim p

@@ -28,7 +28,8 @@ abbrev pub HasSameFaceCorners : Face → Face → Type 0
 HasSameFaceCorners f g = (i : ℕ) → IsFaceCorner f i ↔ IsFaceCorner g i
 
 -- the slot has the corners of a lowest row, in the places of the four t: an even arrangement, since both are positive
-pub record IsLowestRowSlot (lifts : ℕ → ℤ) (slots : List (Option SlotValue)) (ps : List Point) (ms : List ℕ) (s : ℕ) (t : Row) : Type 0 where
+pub record IsLowestRowSlot (lifts : ℕ → ℤ) (slots : List (Option SlotValue)) (ps : List Point) (ms : List ℕ) (s : ℕ)
+    (t : Row) : Type 0 where
   pub is : corners_at slots s ≡ Some (row_corners t)
   pub row : Row
   pub is_row : IsLowestAmong ps ms lifts row
@@ -37,7 +38,8 @@ pub record IsLowestRowSlot (lifts : ℕ → ℤ) (slots : List (Option SlotValue
 
 -- the slot has the corners of a hull face, and the point at infinity in the place k of the four t, in an order that is positive where a
 -- point strictly beyond the face stands there
-pub record IsLowestGhostSlot (lifts : ℕ → ℤ) (slots : List (Option SlotValue)) (ps : List Point) (ms : List ℕ) (s : ℕ) (t : Row) (k : ℕ) : Type 0 where
+pub record IsLowestGhostSlot (lifts : ℕ → ℤ) (slots : List (Option SlotValue)) (ps : List Point) (ms : List ℕ) (s : ℕ) (t : Row)
+    (k : ℕ) : Type 0 where
   pub within : k < 4
   pub is : corners_at slots s ≡ Some (slice_set (row_corners t) k Ghost)
   pub is_hull : IsLowestHullFace lifts ps ms (face_off t k)
@@ -45,9 +47,11 @@ pub record IsLowestGhostSlot (lifts : ℕ → ℤ) (slots : List (Option SlotVal
 -- There is one slot for each row and one for each hull face, no other live slot, and each face of a live slot has a neighbor
 pub record IsLowestMesh (lifts : ℕ → ℤ) (slots : List (Option SlotValue)) (ps : List Point) (ms : List ℕ) : Type 0 where
   pub within : AreNumbersOf ps ms
-  pub each : (s : ℕ) → IsLive slots s → ((t : Row) × IsLowestRowSlot lifts slots ps ms s t) ⊎ ((t : Row) × (k : ℕ) × IsLowestGhostSlot lifts slots ps ms s t k)
+  pub each : (s : ℕ) → IsLive slots s → ((t : Row) × IsLowestRowSlot lifts slots ps ms s t)
+      ⊎ ((t : Row) × (k : ℕ) × IsLowestGhostSlot lifts slots ps ms s t k)
   pub rows : (r : Row) → IsLowestAmong ps ms lifts r → (s : ℕ) × (t : Row) × (slot : IsLowestRowSlot lifts slots ps ms s t) × (slot.row ≡ r)
-  pub one_row : (s u : ℕ) (t r : Row) → IsLowestRowSlot lifts slots ps ms s t → IsLowestRowSlot lifts slots ps ms u r → HasSameCorners t r → s ≡ u
+  pub one_row : (s u : ℕ) (t r : Row) → IsLowestRowSlot lifts slots ps ms s t → IsLowestRowSlot lifts slots ps ms u r → HasSameCorners t r
+      → s ≡ u
   pub ghosts : (f : Face) → IsLowestHullFace lifts ps ms f → (s : ℕ) × (t : Row) × (k : ℕ) × IsLowestGhostSlot lifts slots ps ms s t k
       × HasSameFaceCorners (face_off t k) f
   pub one_ghost : (s u : ℕ) (t r : Row) (k j : ℕ) → IsLowestGhostSlot lifts slots ps ms s t k → IsLowestGhostSlot lifts slots ps ms u r j

@@ -17,7 +17,8 @@ use Rattle.mesh_laws.specs.LowestLiving.{IsLowestMesh}
 -- Where the cavity has all slots that the new point takes, the star in place of it makes the lowest mesh with that point. (That some row
 -- is there says that the points aren't all coplanar.)
 abbrev pub LowestReplacedLaw : Type 0
-LowestReplacedLaw = (lifts : ℕ → ℤ) (old new : List (Option SlotValue)) (ps : List Point) (ms : List ℕ) (p start : ℕ) (cavity : List Slot) (rim : List RimFace)
+LowestReplacedLaw = (lifts : ℕ → ℤ) (old new : List (Option SlotValue)) (ps : List Point) (ms : List ℕ) (p start : ℕ) (cavity : List Slot)
+    (rim : List RimFace)
     (s : ℕ) → IsArenaMesh old → IsArenaMesh new → IsLowestMesh lifts old ps ms → IsNew ps ms p
     → (some : Row) → IsLowestAmong ps ms lifts some → Grown old (IsLowestTaken lifts old ps p) start cavity rim
     → ((u : ℕ) → IsLowestTaken lifts old ps p u → IsInCavitySlots cavity u)

@@ -16,13 +16,15 @@ use Rattle.mesh_laws.specs.LowestLaws.{IsLowestWholeFrom}
 -- The rim of a cavity with all that a new point takes is a closed surface: each edge of a face of it is that of exactly one other face,
 -- where the point at infinity counts as a corner
 abbrev pub LowestPairedLaw : Type 0
-LowestPairedLaw = (lifts : ℕ → ℤ) (slots : List (Option SlotValue)) (ps : List Point) (ms : List ℕ) (p start : ℕ) (cavity : List Slot) (rim : List RimFace)
+LowestPairedLaw = (lifts : ℕ → ℤ) (slots : List (Option SlotValue)) (ps : List Point) (ms : List ℕ) (p start : ℕ) (cavity : List Slot)
+    (rim : List RimFace)
     → IsArenaMesh slots → IsLowestMesh lifts slots ps ms → IsNew ps ms p
     → Grown slots (IsLowestTaken lifts slots ps p) start cavity rim → IsLowestWholeFrom lifts slots ps p start → ArePaired slots rim
 
 -- and it is not empty
 abbrev pub LowestSomeRimLaw : Type 0
-LowestSomeRimLaw = (lifts : ℕ → ℤ) (slots : List (Option SlotValue)) (ps : List Point) (ms : List ℕ) (p start : ℕ) (cavity : List Slot) (rim : List RimFace)
+LowestSomeRimLaw = (lifts : ℕ → ℤ) (slots : List (Option SlotValue)) (ps : List Point) (ms : List ℕ) (p start : ℕ) (cavity : List Slot)
+    (rim : List RimFace)
     → IsArenaMesh slots → IsLowestMesh lifts slots ps ms → IsNew ps ms p
     → Grown slots (IsLowestTaken lifts slots ps p) start cavity rim
     → IsLowestWholeFrom lifts slots ps p start → 0 < length rim

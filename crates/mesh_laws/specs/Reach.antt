@@ -24,5 +24,6 @@ pub record Grown (slots : List (Option SlotValue)) (rule : ℕ → Type 0) (star
       × IsInCavitySlots cavity b.slot
   pub rim_once : (r q : ℕ) → r < length rim → q < length rim → (rim_at rim r).slot.index ≡ (rim_at rim q).slot.index
       → (rim_at rim r).face ≡ (rim_at rim q).face → r ≡ q
-  pub rim_all : (u k : ℕ) (b : SlotFace) → link_behind slots u k ≡ Some b → (IsInCavitySlots cavity u → ⊥) → IsInCavitySlots cavity b.slot → (r : ℕ) × (r < length rim)
+  pub rim_all : (u k : ℕ) (b : SlotFace) → link_behind slots u k ≡ Some b → (IsInCavitySlots cavity u → ⊥) → IsInCavitySlots cavity b.slot
+      → (r : ℕ) × (r < length rim)
       × ((rim_at rim r).slot.index ≡ u) × ((rim_at rim r).face ≡ k)

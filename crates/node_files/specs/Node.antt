@@ -61,7 +61,13 @@ first_with (Some before) first number = first
 
 -- the table with one more point
 abbrev pub with_point : Option ℕ → NodeText → ListedPoint → NodeText
-with_point before text point = record text { first = first_with before text.first point.number; decimals = text.decimals ++ point.place ∷ []; attributes = text.attributes ++ point.attributes; markers = text.markers ++ point.markers }
+with_point before text point = record text {
+  first = first_with before text.first point.number;
+  decimals = text.decimals
+      ++ point.place ∷ [];
+  attributes = text.attributes ++ point.attributes;
+  markers = text.markers ++ point.markers;
+}
 
 -- the point's number, and the table with it
 abbrev pub point_onto : Header → Option ℕ → ContentLine → NodeText → Result (ℕ × NodeText) TextFault

@@ -30,12 +30,14 @@ point_line g number p attributes markers = line_text (pos number) (place_fields 
 unfoldable pub point_lines : Grid → ℕ → ℕ → ℕ → List Point → List (List ℕ) → List ℤ → List ℕ
 point_lines g each marks number [] attributes markers = []
 point_lines g each marks number (p ∷ ps) attributes markers =
-    point_line g number p (take each attributes) (take marks markers) ++ point_lines g each marks (number + 1) ps (drop each attributes) (drop marks markers)
+    point_line g number p (take each attributes) (take marks markers)
+    ++ point_lines g each marks (number + 1) ps (drop each attributes) (drop marks markers)
 
 -- the lines of points that all have these attributes and markers
 unfoldable pub like_lines : Grid → ℕ → List Point → List (List ℕ) → List ℤ → List ℕ
 like_lines g number [] attributes markers = []
-like_lines g number (p ∷ ps) attributes markers = point_line g number p attributes markers ++ like_lines g (number + 1) ps attributes markers
+like_lines g number (p ∷ ps) attributes markers = point_line g number p attributes markers
+    ++ like_lines g (number + 1) ps attributes markers
 
 -- how many markers a point has
 abbrev pub mark_count : Bool → ℕ
@@ -43,7 +45,8 @@ mark_count flag = if flag then 1 else 0
 
 -- <# of points> 3 <# of attributes> <marker flag>
 abbrev pub head_line : NodeTable → ℕ → List ℕ
-head_line table count = line_text (pos count) (whole_text (pos 3) ∷ whole_text (pos table.attribute_count) ∷ whole_text (pos (mark_count table.flag)) ∷ [])
+head_line table count = line_text (pos count) (whole_text (pos 3) ∷ whole_text (pos table.attribute_count) ∷ whole_text
+    (pos (mark_count table.flag)) ∷ [])
 
 -- the first line, all listed points of the table, and the added ones with these attributes and markers
 unfoldable pub list_text : NodeTable → List Point → ℕ → List (List ℕ) → List ℤ → List ℕ
@@ -54,7 +57,8 @@ list_text table added first attributes markers =
 
 -- where the added points have attributes '0', 48, and the marker 0
 abbrev pub node_text : NodeTable → List Point → ℕ → List ℕ
-node_text table added first = list_text table added first (replicate table.attribute_count (48 ∷ [])) (replicate (mark_count table.flag) (pos 0))
+node_text table added first = list_text table added first (replicate table.attribute_count (48 ∷ []))
+    (replicate (mark_count table.flag) (pos 0))
 
 -- each listed point has as many attributes as stated and a marker where the flag is set, the grid is halved at most 12 times, and equal
 -- points are folded

@@ -39,7 +39,8 @@ first_attribute table i = slice_index_or table.attributes (i * table.attribute_c
 
 -- the weight of a listed point, from its first attribute; 0 where the points have none
 abbrev pub weight_of : NodeTable → ℕ → Result ℤ WeightFault
-weight_of table i = if table.attribute_count == 0 then Ok (pos 0) else weight_in table.grid (line_of_weight table i) (first_attribute table i)
+weight_of table i = if table.attribute_count == 0 then Ok (pos 0) else weight_in table.grid (line_of_weight table i)
+    (first_attribute table i)
 
 -- these weights and those that follow, if none of them is refused
 abbrev pub weights_behind : List ℤ → Result (List ℤ) WeightFault → Result (List ℤ) WeightFault

@@ -49,7 +49,8 @@ MergedEndsLaw = (ps : List Point) (c : Complex) (inner : ℕ → Piece → Bool)
 
 -- The points `ps` and the complex that are given, with flat facets; its groups and inner sides; the points `qs` and the pieces `rest` with
 -- which the protection of the segments ends; the merged facets' triangles, pairwise properly met
-pub record IsMergedRecovery (depth splits : ℕ) (ps : List Point) (c : Complex) (group : ℕ → ℕ) (inner : ℕ → Piece → Bool) (qs : List Point) (rest : List Piece) (ts : List FacetTriangle) : Type 0 where
+pub record IsMergedRecovery (depth splits : ℕ) (ps : List Point) (c : Complex) (group : ℕ → ℕ) (inner : ℕ → Piece
+    → Bool) (qs : List Point) (rest : List Piece) (ts : List FacetTriangle) : Type 0 where
   pub corners : HasCornersOn ps c
   pub flat : AreFlat ps c
   pub grouping : IsGrouping ps c group inner

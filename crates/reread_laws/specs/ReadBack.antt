@@ -23,7 +23,8 @@ use Rattle.reread_laws.specs.Reread.{IsShortNumber}
 
 -- A mesh whose texts can be read: points without attributes and markers, each coordinate with at most 35 decimals; names of its points in
 -- the list of points that is written; and numbers and markers of at most 18 digits
-pub record IsReadable (table : NodeTable) (added : List Point) (names : List ℕ) (first : ℕ) (ps : List Point) (rows : List Tet) (faces : List FaceRow) : Type 0 where
+pub record IsReadable (table : NodeTable) (added : List Point) (names : List ℕ) (first : ℕ) (ps : List Point) (rows : List Tet)
+    (faces : List FaceRow) : Type 0 where
   pub bare : IsBareTable table
   pub legible : All (IsLegiblePoint table.grid) (table.listed ++ added)
   pub one : first ≤ 1
@@ -50,9 +51,16 @@ pub record AreReadSound (table : NodeTable) (added : List Point) (names : List �
   pub ele_read : (total : ℕ) → ele_of first (length points.decimals) total (content_lines (ele_text names first rows)) ≡ Ok tetrahedra
   pub face_read : (total : ℕ) → face_list_of first (length points.decimals) total (content_lines (face_text names first faces)) ≡ Ok listed
   pub neigh_read : (total : ℕ) → neigh_of first total (content_lines (neigh_text first (pairs_of rows))) ≡ Ok neighbors
-  pub sound : IsVerdict (record { points = map (point_on (coarsest points.decimals)) points.decimals; rows = tetrahedra; faces = listed; neighbors = neighbors }) Sound
+  pub sound : IsVerdict (record {
+    points = map
+        (point_on (coarsest points.decimals)) points.decimals;
+    rows = tetrahedra;
+    faces = listed;
+    neighbors = neighbors;
+  }) Sound
 
 -- The texts of a mesh without a defect are read back as one without a defect
 abbrev pub ReadBackLaw : Type 0
-ReadBackLaw = (table : NodeTable) (added : List Point) (names : List ℕ) (first : ℕ) (ps : List Point) (rows : List Tet) (faces : List FaceRow) → IsReadable table added names first ps rows faces
+ReadBackLaw = (table : NodeTable) (added : List Point) (names : List ℕ) (first : ℕ) (ps : List Point) (rows : List Tet)
+    (faces : List FaceRow) → IsReadable table added names first ps rows faces
     → IsVerdict (written_mesh ps rows faces) Sound → AreReadSound table added names first rows faces

@@ -31,7 +31,8 @@ pub record HasFaceNames (names : List ℕ) (points : ℕ) (f : FaceRow) : Type 0
 
 -- `.ele` without attributes: the rows, with each corner by its name
 abbrev pub EleReadLaw : Type 0
-EleReadLaw = (names : List ℕ) (first points total : ℕ) (rows : List Tet) → IsShortNumber (first + points) → IsShortNumber (first + length rows)
+EleReadLaw = (names : List ℕ) (first points total : ℕ) (rows : List Tet) → IsShortNumber (first + points)
+    → IsShortNumber (first + length rows)
     → All (HasNames names points) rows
     → ele_of first points total (content_lines (ele_text names first rows)) ≡ Ok (map (renamed_row (slice_index names)) rows)
 

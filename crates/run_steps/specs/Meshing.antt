@@ -141,7 +141,8 @@ IsUnmeshed options bound status =
 abbrev pub PointsMeshOf : Bool → Options → Bound → Result Meshed Status → Type 0
 PointsMeshOf false options bound (Ok mesh) = ¬ AreCoplanar bound.table.points × (mesh ≡ mesh_of_points bound.table)
 PointsMeshOf false options bound (Err status) = IsFlatRefusal bound status
-PointsMeshOf true options bound (Ok mesh) = (made : RegularMesh) × RegularAnswer bound.table (Ok made) × (mesh ≡ mesh_of_weights bound.table made)
+PointsMeshOf true options bound (Ok mesh) = (made : RegularMesh) × RegularAnswer bound.table (Ok made)
+    × (mesh ≡ mesh_of_weights bound.table made)
 PointsMeshOf true options bound (Err status) =
     (fault : RegularFault) × (status ≡ status_of_weights (file_name options.base Node) fault) × RegularAnswer bound.table (Err fault)
 
@@ -149,7 +150,8 @@ PointsMeshOf true options bound (Err status) =
 abbrev pub MeshOf : Bool → Options → Bound → Result Meshed Status → Type 0
 MeshOf false options bound answer = PointsMeshOf options.weighted options bound answer
 MeshOf true options bound (Ok mesh) =
-    (made : ComplexMesh) × IsComplexMesh (mesh_options options bound.table) bound.table.points bound.complex made × (mesh ≡ mesh_of_complex bound made)
+    (made : ComplexMesh) × IsComplexMesh (mesh_options options bound.table) bound.table.points bound.complex made
+    × (mesh ≡ mesh_of_complex bound made)
 MeshOf true options bound (Err status) = IsUnmeshed options bound status
 
 abbrev pub MeshAnswer : Options → Bound → Result Meshed Status → Type 0

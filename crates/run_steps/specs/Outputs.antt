@@ -39,7 +39,8 @@ node_file options mesh =
 abbrev pub ele_file : Options → Meshed → Option NamedText
 ele_file options mesh =
     if options.no_ele then None
-    else Some (named options.base (codes ".1.ele") (ele_text_of mesh.marks mesh.complex.regions mesh.names (first_of options mesh) mesh.tetrahedra))
+    else Some (named options.base (codes ".1.ele") (ele_text_of mesh.marks mesh.complex.regions mesh.names
+    (first_of options mesh) mesh.tetrahedra))
 
 abbrev pub face_file : Options → Meshed → List FaceRow → Option NamedText
 face_file options mesh faces =
@@ -47,7 +48,8 @@ face_file options mesh faces =
 
 abbrev pub edge_file : Options → Meshed → List Side → Option NamedText
 edge_file options mesh sides =
-    if options.no_face || not options.edges then None else Some (named options.base (codes ".1.edge") (edge_text mesh.names (first_of options mesh) sides))
+    if options.no_face || not options.edges then None else Some (named options.base (codes ".1.edge")
+    (edge_text mesh.names (first_of options mesh) sides))
 
 abbrev pub neigh_file : Options → Meshed → Option NamedText
 neigh_file options mesh =

@@ -108,7 +108,8 @@ complex_file name text = record { name = name; text = text }
 abbrev pub FormAnswer : Limits → FolderSeen → List ℕ → Extension → Result ComplexFile Status → Type 0
 FormAnswer limits seen base extension =
     let name = file_name base extension in
-    AndThen (FetchAnswer limits seen name) (λ bytes. AndThen (TextAnswer name (plc_text_of extension bytes)) (λ text. Gives (complex_file name text)))
+    AndThen (FetchAnswer limits seen name) (λ bytes. AndThen (TextAnswer name (plc_text_of extension bytes))
+    (λ text. Gives (complex_file name text)))
 
 -- the complex of the file with this base: with no extension that of its `.poly` file, or where there is none of its `.smesh` file
 abbrev pub ComplexFileAnswer : Limits → FolderSeen → List ℕ → Option Extension → Result ComplexFile Status → Type 0

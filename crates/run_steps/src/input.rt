@@ -90,7 +90,8 @@ fn read_points_alone<F: Folder>(
     folder: &mut F,
 ) -> Result<Input, Status>
     requires { AreIndexable limits }
-    ensures answer { InputOf limits false (folder_seen F.held F.faults F.misses folder.old folder.new) options.now result }
+    ensures answer { InputOf limits false
+        (folder_seen F.held F.faults F.misses folder.old folder.new) options.now result }
     ensures sound { IfOk result IsSound }
     ensures unchanged { F.held folder.new ≡ F.held folder.old }
     ensures faults { F.faults folder.old ≤ F.faults folder.new }
@@ -147,7 +148,8 @@ fn read_complex_file<F: Folder>(
     folder: &mut F,
 ) -> Result<ComplexFile, Status>
     requires { AreIndexable limits }
-    ensures answer { ComplexFileAnswer limits (folder_seen F.held F.faults F.misses folder.old folder.new) base.now extension result }
+    ensures answer { ComplexFileAnswer limits
+        (folder_seen F.held F.faults F.misses folder.old folder.new) base.now extension result }
     ensures few { IfOk result (λ file. HasFewParts file.text) }
     ensures unchanged { F.held folder.new ≡ F.held folder.old }
     ensures faults { F.faults folder.old ≤ F.faults folder.new }
@@ -171,7 +173,9 @@ fn read_bare<F: Folder>(
     folder: &mut F,
 ) -> Result<ComplexFile, Status>
     requires { AreIndexable limits }
-    ensures answer { IfMissing (FormAnswer limits (folder_seen F.held F.faults F.misses folder.old folder.new) base.now Poly) (FormAnswer limits (folder_seen F.held F.faults F.misses folder.old folder.new) base.now Smesh) result }
+    ensures answer { IfMissing (FormAnswer limits
+        (folder_seen F.held F.faults F.misses folder.old folder.new) base.now Poly)
+        (FormAnswer limits (folder_seen F.held F.faults F.misses folder.old folder.new) base.now Smesh) result }
     ensures few { IfOk result (λ file. HasFewParts file.text) }
     ensures unchanged { F.held folder.new ≡ F.held folder.old }
     ensures faults { F.faults folder.old ≤ F.faults folder.new }
@@ -221,7 +225,9 @@ pub fn with_points<F: Folder>(
 ) -> Result<Input, Status>
     requires limits { AreIndexable limits }
     requires few { HasFewParts file.text }
-    ensures answer { AndThen (NodesAnswer limits (folder_seen F.held F.faults F.misses folder.old folder.new) base.now file.text.nodes) (BoundedAnswer file) result }
+    ensures answer { AndThen (NodesAnswer limits
+        (folder_seen F.held F.faults F.misses folder.old folder.new) base.now file.text.nodes)
+        (BoundedAnswer file) result }
     ensures sound { IfOk result IsSound }
     ensures unchanged { F.held folder.new ≡ F.held folder.old }
     ensures faults { F.faults folder.old ≤ F.faults folder.new }
@@ -281,7 +287,8 @@ pub fn fetch<F: Folder>(
     ensures named { IfOk result (λ file. file.name ≡ name) }
     ensures read { IfOk result (λ file. IsRead limits (F.held folder.old) name file.bytes) }
     ensures short { IfOk result (λ file. length file.bytes < 2 ^ 32 - 1) }
-    ensures err { IfErr result (IsUnfetched limits (folder_seen F.held F.faults F.misses folder.old folder.new) name) }
+    ensures err { IfErr result (IsUnfetched limits
+        (folder_seen F.held F.faults F.misses folder.old folder.new) name) }
     ensures unchanged { F.held folder.new ≡ F.held folder.old }
     ensures faults { F.faults folder.old ≤ F.faults folder.new }
     ensures misses { F.misses folder.old ≤ F.misses folder.new }
@@ -320,7 +327,8 @@ fn points_of(alloc: Global, file: Fetched) -> Result<NodeText, Status>
 /// The complex that a file spells in one form: it refuses with `BadText`, or for want of memory.
 pub fn complex_of(alloc: Global, extension: Extension, file: Fetched) -> Result<ComplexFile, Status>
     requires { length file.bytes < 2 ^ 32 - 1 }
-    ensures answer { AndThen (TextAnswer file.name (plc_text_of extension file.bytes)) (λ text. Gives (complex_file file.name text)) result }
+    ensures answer { AndThen (TextAnswer file.name (plc_text_of extension file.bytes))
+        (λ text. Gives (complex_file file.name text)) result }
     ensures few { IfOk result (λ made. HasFewParts made.text) }
 {
     let Fetched { name, bytes } = file;

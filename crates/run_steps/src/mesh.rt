@@ -96,7 +96,8 @@ pub fn bind_nodes(
     requires limits { AreIndexable limits }
     requires input { IsSound (record { nodes = nodes; complex = complex.now }) }
     requires ranges { AreInRange options.now }
-    ensures answer { BoundAnswer limits options.now (record { nodes = nodes; complex = complex.now }) result }
+    ensures answer { BoundAnswer limits options.now
+        (record { nodes = nodes; complex = complex.now }) result }
     ensures meshable { IfOk result (IsMeshableBound options.now) }
 {
     match bind_parts(alloc, limits, options, nodes, complex) {
@@ -386,9 +387,12 @@ struct Added {
 /// What these points have after those of the table, and the names of all of them.
 fn added_to(alloc: Global, table: &NodeTable, points: &Points) -> Result<Added, NoMemory>
     requires begins { length table.now.points ≤ length points.now }
-    requires few { length table.now.listed + (length points.now - length table.now.points) < 2 ^ 32 - 1 }
-    ensures points { IfOk result (λ added. added.points ≡ drop (length table.now.points) points.now) }
-    ensures names { IfOk result (λ added. added.names ≡ names_with table.now (length added.points)) }
+    requires few { length table.now.listed +
+        (length points.now - length table.now.points) < 2 ^ 32 - 1 }
+    ensures points { IfOk result (λ added. added.points
+        ≡ drop (length table.now.points) points.now) }
+    ensures names { IfOk result (λ added. added.names
+        ≡ names_with table.now (length added.points)) }
 {
     let added = points_from(alloc, points, table.points.len())?;
     let names = names_of(alloc, table, added.len() as u32)?;

@@ -239,7 +239,8 @@ fn hull_outputs(
 
 /// The uses of the faces, if something speaks of them.
 fn wanted_uses(alloc: Global, options: &Options, mesh: &Meshed) -> Result<Uses, NoMemory>
-    ensures { IfOk result (λ uses. asks_uses options.now ≡ true → AreUsesOf mesh.now.tetrahedra uses) }
+    ensures { IfOk result (λ uses. asks_uses options.now ≡ true
+        → AreUsesOf mesh.now.tetrahedra uses) }
 {
     if !asks_uses(options) {
         return Ok(Uses::new(alloc));
@@ -250,7 +251,8 @@ fn wanted_uses(alloc: Global, options: &Options, mesh: &Meshed) -> Result<Uses, 
 /// The number of faces, if the summary tells it.
 fn wanted_face_count(options: &Options, mesh: &Meshed, uses: &Uses) -> usize
     requires { asks_uses options.now ≡ true → AreUsesOf mesh.now.tetrahedra uses.now }
-    ensures { (faces : List Face) × (options.now.quiet ≡ false → AreFacesOf mesh.now.tetrahedra faces) × (result ≡ length faces) }
+    ensures { (faces : List Face) × (options.now.quiet ≡ false
+        → AreFacesOf mesh.now.tetrahedra faces) × (result ≡ length faces) }
 {
     if options.quiet {
         return 0;
@@ -267,7 +269,8 @@ fn wanted_face_rows(
 ) -> Result<FaceRows, NoMemory>
     requires mesh { IsWritable mesh.now }
     requires uses { asks_uses options.now ≡ true → AreUsesOf mesh.now.tetrahedra uses }
-    ensures { IfOk result (λ marked. options.now.no_face ≡ false → AreFaceRowsOf mesh.now.points mesh.now.tetrahedra mesh.now.complex mesh.now.triangles options.now.all_faces marked) }
+    ensures { IfOk result (λ marked. options.now.no_face ≡ false
+        → AreFaceRowsOf mesh.now.points mesh.now.tetrahedra mesh.now.complex mesh.now.triangles options.now.all_faces marked) }
 {
     if options.no_face {
         return Ok(FaceRows::new(alloc));
@@ -307,8 +310,10 @@ fn side_outputs(alloc: Global, options: &Options, mesh: &Meshed) -> Result<SideO
 /// The sides, if the edge file or the summary is asked for.
 fn wanted_sides(alloc: Global, options: &Options, mesh: &Meshed) -> Result<Edges, NoMemory>
     requires { IsWritable mesh.now }
-    ensures sides { IfOk result (λ sides. names_sides options.now ≡ true → AreSidesOf mesh.now.tetrahedra sides) }
-    ensures named { IfOk result (λ sides. All (λ side. AreNamed mesh.now.names (side_numbers side)) sides) }
+    ensures sides { IfOk result (λ sides. names_sides options.now ≡ true
+        → AreSidesOf mesh.now.tetrahedra sides) }
+    ensures named { IfOk result (λ sides. All (λ side. AreNamed mesh.now.names
+        (side_numbers side)) sides) }
 {
     if !names_sides(options) {
         return Ok(Edges::new(alloc));
@@ -355,7 +360,8 @@ fn face_file(
     mesh: &Meshed,
     marked: &FaceRows,
 ) -> Result<Option<NamedText>, NoMemory>
-    requires { options.now.no_face ≡ false → All (λ face. AreNamed mesh.now.names (marked_corners face)) marked.now }
+    requires { options.now.no_face ≡ false
+        → All (λ face. AreNamed mesh.now.names (marked_corners face)) marked.now }
     ensures { IfOk result (λ file. file ≡ face_file options.now mesh.now marked.now) }
 {
     if options.no_face {

@@ -64,7 +64,8 @@ fn append(text: Option<NamedText>, list: &mut Vec<NamedText>) -> Result<(), NoMe
 pub fn store_all<F: Folder>(texts: Vec<NamedText>, folder: &mut F) -> Result<(), StoreStop>
     ensures stored { OnOk result (F.held folder.new ≡ with_files (F.held folder.old) texts.items) }
     ensures stopped { IfErr result (AreLeft (F.held folder.old) texts.items (F.held folder.new)) }
-    ensures failed { IfErr result (λ stop. IfFailed stop (Rose (F.faults folder.old) (F.faults folder.new))) }
+    ensures failed { IfErr result (λ stop. IfFailed stop
+        (Rose (F.faults folder.old) (F.faults folder.new))) }
     ensures faults { F.faults folder.old ≤ F.faults folder.new }
     ensures misses { F.misses folder.old ≤ F.misses folder.new }
 {

@@ -16,4 +16,5 @@ turn_rational n p q x = dot n (cross (from_to p q) (from_to_rational p x))
 
 -- the sign of the first coordinate that is not 0, or of the last one
 abbrev pub IsFirstSignOf : Sign → Point → Type 0
-IsFirstSignOf s n = ((n.x ≢ pos 0) × IsSignOf s n.x) ⊎ ((n.x ≡ pos 0) × (((n.y ≢ pos 0) × IsSignOf s n.y) ⊎ ((n.y ≡ pos 0) × IsSignOf s n.z)))
+IsFirstSignOf s n = ((n.x ≢ pos 0) × IsSignOf s n.x) ⊎ ((n.x ≡ pos 0) × (((n.y ≢ pos 0) × IsSignOf s n.y)
+    ⊎ ((n.y ≡ pos 0) × IsSignOf s n.z)))

@@ -43,7 +43,8 @@ PassesEdge low_q low_p u v p q = IsTrue low_q → IsTrue low_p → pos 0 <ℤ or
 
 -- so at the three edges of a face, with the corners b, c and d
 abbrev pub PassesFace : Bool → Bool → Bool → Bool → Point → Point → Point → Point → Point → Type 0
-PassesFace low_q low_b low_c low_d b c d p q = PassesEdge low_q low_b d c p q × PassesEdge low_q low_c b d p q × PassesEdge low_q low_d c b p q
+PassesFace low_q low_b low_c low_d b c d p q = PassesEdge low_q low_b d c p q × PassesEdge low_q low_c b d p q
+    × PassesEdge low_q low_d c b p q
 
 -- and at those of all faces
 pub record EdgesOpen (t : Corners) (p q : Point) (low_p low_q : Lows) : Type 0 where
@@ -84,4 +85,5 @@ SomeBelow a b c d = (a <ℤ pos 0) ⊎ ((b <ℤ pos 0) ⊎ ((c <ℤ pos 0) ⊎ (
 
 -- the plane has a corner strictly above it and one strictly below it
 abbrev pub Straddles : Corners → Triangle → Type 0
-Straddles t f = SomeAbove (side f t.a) (side f t.b) (side f t.c) (side f t.d) × SomeBelow (side f t.a) (side f t.b) (side f t.c) (side f t.d)
+Straddles t f = SomeAbove (side f t.a) (side f t.b) (side f t.c) (side f t.d)
+    × SomeBelow (side f t.a) (side f t.b) (side f t.c) (side f t.d)

@@ -14,7 +14,8 @@ use Rattle.written_laws.specs.WrittenMesh.{written_mesh}
 
 -- The mesh of a complex, with the faces on its hull and in facets, or all faces, has no defect
 abbrev pub SoundComplexLaw : Type 0
-SoundComplexLaw = (o : MeshOptions) (ps : List Point) (c : Complex) (m : ComplexMesh) → IsComplexMesh o ps c m → (all : Bool) (faces : List FaceRow)
+SoundComplexLaw = (o : MeshOptions) (ps : List Point) (c : Complex) (m : ComplexMesh) → IsComplexMesh o ps c m
+    → (all : Bool) (faces : List FaceRow)
     → AreFaceRowsOf m.points m.tetrahedra c m.triangles all faces → IsVerdict (written_mesh m.points m.tetrahedra faces) Sound
 
 -- and so has the Delaunay list of points

@@ -97,7 +97,8 @@ triangle_in points f = record { line = f.line; corners = stl_corner points f.a �
 
 -- the distinct corners are the points, and each facet is a triangle of these
 abbrev pub triangles_of : List StlFacet → Plc
-triangles_of facets = surface_of (distinct_vertices (vertices_of facets)) (map (triangle_in (distinct_vertices (vertices_of facets))) facets)
+triangles_of facets = surface_of (distinct_vertices (vertices_of facets))
+    (map (triangle_in (distinct_vertices (vertices_of facets))) facets)
 
 -- a whole text of so many lines. Each facet has lines for itself, so there are at most as many facets as lines
 unfoldable pub stl_of : ℕ → Lines → Result Plc TextFault

@@ -30,5 +30,13 @@ pub record IsPlacedBy (f : StlFacet) (old : List DecimalPoint) (t : Triangle) (n
   pub c : placed_corner t.c ≡ record { number = vertex_place (with_vertex (with_vertex old f.a) f.b) f.c; line = f.c.line }
 
 -- the distinct corners of the facets that are read, and the facets by these
-abbrev pub placed_facets : {R : Type 0} → Result (List StlFacet × R) TextFault → Result ((List DecimalPoint × List PolygonText) × R) TextFault
-placed_facets read = read >>= λ x. Ok ((distinct_vertices (vertices_of x.0), map (triangle_in (distinct_vertices (vertices_of x.0))) x.0), x.1)
+abbrev pub placed_facets : {R : Type 0} → Result (List StlFacet × R) TextFault
+    → Result ((List DecimalPoint × List PolygonText) × R) TextFault
+placed_facets read = read >>= λ x. Ok (
+  (
+    distinct_vertices (vertices_of x.0),
+    map
+        (triangle_in (distinct_vertices (vertices_of x.0))) x.0,
+  ),
+  x.1,
+)

@@ -75,7 +75,8 @@ fn read_facets(
 ) -> Result<Items<Triangle>, PlcFault>
     requires total { line_total lines.old + 1 < 2 ^ 64 }
     requires none { points.old ≡ [] }
-    ensures value { PlcGives (λ triangles. ((points.new, map triangle_polygon triangles), content_left lines.new)) result
+    ensures value { PlcGives (λ triangles.
+        ((points.new, map triangle_polygon triangles), content_left lines.new)) result
         (placed_facets (ascii_facets_of (length (content_left lines.old)) (line_total lines.old) (content_left lines.old))) }
     ensures count { line_total lines.new ≡ line_total lines.old }
 {
@@ -108,7 +109,8 @@ pub(crate) fn surface(
     triangles: &Items<Triangle>,
 ) -> Result<PlcText, NoMemory>
     requires { length points.now < 2 ^ 32 - 1 }
-    ensures { IfOk result (λ text. text ≡ surface_of points.now (map triangle_polygon triangles.now)) }
+    ensures { IfOk result (λ text. text ≡ surface_of points.now
+        (map triangle_polygon triangles.now)) }
 {
     let nodes = nodes_at(alloc, points.points()?);
     let mut text = PlcText::new(alloc, Some(nodes));

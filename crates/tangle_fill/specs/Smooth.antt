@@ -13,7 +13,8 @@ use Rattle.tangle_fill.specs.declared.growth.Growth.{Growth}
 
 -- rows on the two sides of the face are locally Delaunay
 abbrev pub IsSmoothAt : List Point → List FacetTriangle → List Tet → Face → Type 0
-IsSmoothAt ps ts rows face = (s t : Tet) → Contains rows s → Contains rows t → IsTrue (lies_on (as_oriented face) s) → IsTrue (lies_on (reversed (as_oriented face)) t) → AreSmooth ps ts s t
+IsSmoothAt ps ts rows face = (s t : Tet) → Contains rows s → Contains rows t → IsTrue (lies_on (as_oriented face) s)
+    → IsTrue (lies_on (reversed (as_oriented face)) t) → AreSmooth ps ts s t
 
 -- so they are where the row lies on the face's positive side
 abbrev pub IsSmoothBelow : List Point → List FacetTriangle → List Tet → Tet → Face → Type 0

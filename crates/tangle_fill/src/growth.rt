@@ -133,7 +133,8 @@ impl Growth {
     /// A row that lies with this one on one side of a face; None where each lies apart.
     pub(crate) fn rival(&self, row: Tet) -> Option<Tet>
         requires { IsIndexed self.now }
-        ensures { MatchOption result (All (λ t. list_any (λ f. lies_on f t) (faces_of row) ≡ false) self.now.rows)
+        ensures { MatchOption result (All (λ t. list_any (λ f. lies_on f t) (faces_of row)
+            ≡ false) self.now.rows)
             (λ t. Contains self.now.rows t × IsTrue (list_any (λ f. lies_on f t) (faces_of row))) }
     {
         let Tet { a, b, c, d } = row;
@@ -152,7 +153,8 @@ impl Growth {
     /// Keeps the row for the corners of a face of it; whether none was kept for them.
     fn put_side(&mut self, face: Face, row: Tet) -> Result<bool, NoMemory>
         ensures rows { OnOk result (self.new.rows ≡ self.old.rows) }
-        ensures put { OnOk result (IsSidePut self.old.sides self.new.sides (record { face = face }) row) }
+        ensures put { OnOk result (IsSidePut self.old.sides self.new.sides
+            (record { face = face }) row) }
         ensures free { IfOk result (λ free. IsTrue free
             → get same_face_side self.old.sides (record { face = face }) ≡ None) }
     {

@@ -30,4 +30,5 @@ failures calls = failures_among calls.made calls.failing
 
 -- they are stored as the pair of the fields
 abbrev pub calls_code : Coded Calls
-calls_code = code_by (ℕ × Option ℕ) (coded× coded_ℕ (coded_option coded_ℕ)) (λ c. (c.made, c.failing)) (λ p. record { made = p.0; failing = p.1 }) (λ _. refl)
+calls_code = code_by (ℕ × Option ℕ) (coded× coded_ℕ (coded_option coded_ℕ)) (λ c. (c.made, c.failing))
+    (λ p. record { made = p.0; failing = p.1 }) (λ _. refl)

@@ -24,5 +24,7 @@ failures_of folder = failures folder.fetches + failures folder.stores
 -- it is stored as the tuple of its fields
 abbrev pub memory_files_code : Coded MemoryFiles
 memory_files_code =
-    code_by (Files × (Calls × (Calls × ℕ))) (coded× (map.code (coded_list coded_ℕ) (coded_list coded_ℕ)) (coded× calls_code (coded× calls_code coded_ℕ)))
-    (λ s. (s.files, (s.fetches, (s.stores, s.kept)))) (λ p. record { files = p.0; fetches = p.1.0; stores = p.1.1.0; kept = p.1.1.1 }) (λ _. refl)
+    code_by (Files × (Calls × (Calls × ℕ))) (coded× (map.code (coded_list coded_ℕ) (coded_list coded_ℕ))
+    (coded× calls_code (coded× calls_code coded_ℕ)))
+    (λ s. (s.files, (s.fetches, (s.stores, s.kept)))) (λ p. record { files = p.0; fetches = p.1.0; stores = p.1.1.0; kept = p.1.1.1 })
+    (λ _. refl)

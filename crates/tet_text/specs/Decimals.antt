@@ -51,7 +51,8 @@ parts_of text = record {
 
 -- by how many tens an exponent of 1 to 3 digits raises a number, and by how many it lowers it
 abbrev pub steps_of : List ℕ → Option (ℕ × ℕ)
-steps_of exponent = option_map (λ size. if starts_with_minus exponent then (0, size) else (size, 0)) (number_of 3 (without_leading_sign exponent))
+steps_of exponent = option_map (λ size. if starts_with_minus exponent then (0, size) else (size, 0))
+    (number_of 3 (without_leading_sign exponent))
 
 -- n / 10^scale, as it is written with no trailing zero in the fraction
 abbrev pub lowest : ℕ → ℕ → ℕ × ℕ
@@ -97,5 +98,6 @@ lowering parts = length parts.fraction + (if starts_with_minus parts.exponent th
 
 -- value / 10^scale is what the parts write: their digits × 10^raising / 10^lowering, with their sign
 pub record IsNumberOf (parts : Parts) (d : Scaled) : Type 0 where
-  pub size : unsigned_abs d.value * 10 ^ lowering parts ≡ digits_value 10 (parts.whole ++ parts.fraction) * 10 ^ raising parts * 10 ^ d.scale
+  pub size : unsigned_abs d.value * 10 ^ lowering parts ≡ digits_value 10 (parts.whole
+      ++ parts.fraction) * 10 ^ raising parts * 10 ^ d.scale
   pub sign : d.value ≡ signed parts.negative (unsigned_abs d.value)

@@ -17,7 +17,8 @@ with_zeros scale digits = replicate (scale + 1 - length digits) 48 ++ digits
 
 -- the digits with a point, 46, before the last `scale` of them; no point before none
 abbrev pub with_decimal_point : ℕ → List ℕ → List ℕ
-with_decimal_point scale digits = take (length digits - scale) digits ++ (if scale == 0 then [] else 46 ∷ drop (length digits - scale) digits)
+with_decimal_point scale digits = take (length digits - scale) digits
+    ++ (if scale == 0 then [] else 46 ∷ drop (length digits - scale) digits)
 
 abbrev pub size_text : ℕ → ℕ → List ℕ
 size_text n scale = with_decimal_point scale (with_zeros scale (numeral n))

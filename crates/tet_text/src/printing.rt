@@ -100,7 +100,8 @@ fn put_with_point(digits: &[u8], scale: u64, out: &mut Bytes) -> Result<(), NoMe
 #[tactic(auto, using(crate::proofs::Texts::fraction_text, crate::proofs::Texts::no_zeros))]
 fn put_digits(digits: &[u8], scale: u64, out: &mut Bytes) -> Result<(), NoMemory>
     requires { 0 < length digits.now }
-    ensures ok { OnOk result (out.new ≡ out.old ++ with_decimal_point scale (with_zeros scale digits.now)) }
+    ensures ok { OnOk result (out.new ≡ out.old
+        ++ with_decimal_point scale (with_zeros scale digits.now)) }
     ensures err { OnErr result (take (length out.old) out.new ≡ out.old) }
 {
     if digits.len() > scale as usize {

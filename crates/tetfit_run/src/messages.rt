@@ -155,7 +155,8 @@ fn put<E: Sink>(line: &[u8], err: &mut E)
 /// Puts the line of the program for exact texts with this program's name, where there may be no
 /// memory for it; a failure changes nothing.
 fn put_renamed<E: Sink>(line: &[u8], err: &mut E)
-    ensures { IsPut (renamed_program line.now) (sink_seen E.written E.faults E.wants err.old err.new) }
+    ensures { IsPut (renamed_program line.now)
+        (sink_seen E.written E.faults E.wants err.old err.new) }
 {
     match err.put(NAME) {
         Ok(()) => put(behind_name(line), err),

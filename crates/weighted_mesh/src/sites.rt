@@ -11,9 +11,8 @@ use cavity_insert::Lift;
 use geo_laws::{Points, Tet};
 use point_locate::row_points;
 use regular_laws::Weights;
-use sign_predicates::{GridPoint, Numbers};
+use sign_predicates::{FourWeights, GridPoint, Numbers, outside_weighted};
 use std::marker::Model;
-use sign_predicates::{FourWeights, outside_weighted};
 
 /// A list of points, and a weight for each: a point is lifted by its squared length less its
 /// weight. Contracts see the points and the weights.

@@ -7,11 +7,10 @@ ghost use Rattle.sign_predicates.specs.Weighted.{IsWeight, AreWeights};
 use cavity_insert::BuildFault;
 use geo_laws::{Points, Tet, TetList};
 use regular_laws::Weights;
-use sign_predicates::{Corners, GridPoint, Numbers, Sign, orient};
+use sign_predicates::{Corners, FourWeights, GridPoint, Numbers, Sign, orient, outside_weighted};
 use std::alloc::Global;
 use tet_ports::NoMemory;
 use weighted_mesh::regular;
-use sign_predicates::{FourWeights, outside_weighted};
 
 fn grid_point(p: [i8; 3]) -> GridPoint {
     GridPoint {

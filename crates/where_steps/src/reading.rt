@@ -32,7 +32,8 @@ pub(crate) fn read_where<F: Folder>(
     ensures answer { WhereTextAnswer
         (folder_seen F.held F.faults F.misses folder.old folder.new)
         base.now queries.now result }
-    ensures there { IfOk result (λ text. All (AreCornersBelow (length text.nodes.decimals)) text.rows) }
+    ensures there { IfOk result (λ text. All (AreCornersBelow
+        (length text.nodes.decimals)) text.rows) }
     ensures few { IfOk result (λ text. length text.queries.decimals < 2 ^ 32 - 1) }
     ensures unchanged { F.held folder.new ≡ F.held folder.old }
     ensures faults { F.faults folder.old ≤ F.faults folder.new }

@@ -25,7 +25,8 @@ not_flat = NotFlat 0 (record { a = 0; b = 1; c = 2; d = 3 })
 
 -- it is refused so
 abbrev pub IsNonplanarRefused : Type 0
-IsNonplanarRefused = (folder : FolderSeen) → HasFile nonplanar_start folder → OutputsOfRun tetgen_limits nonplanar_start.words folder (Err not_flat)
+IsNonplanarRefused = (folder : FolderSeen) → HasFile nonplanar_start folder
+    → OutputsOfRun tetgen_limits nonplanar_start.words folder (Err not_flat)
 
 -- so this is the complete answer to it, where no fault rose and memory was not wanting
 abbrev pub EndsNotFlat : Type 0

@@ -81,7 +81,14 @@ summary_line = codes "points 5 added 0 tetrahedra 2 faces 7 edges 9\n"
 -- the outputs without a switch, and those of the complex
 abbrev pub plain_outputs : Outputs
 plain_outputs = record {
-  texts = record { node = Some pyramid_node_text; ele = Some pyramid_ele_text; face = Some (pyramid_face_text hull_bytes); edge = None; neigh = None };
+  texts = record {
+    node = Some pyramid_node_text;
+    ele = Some pyramid_ele_text;
+    face = Some
+        (pyramid_face_text hull_bytes);
+    edge = None;
+    neigh = None;
+  };
   summary = Some summary_line;
 }
 

@@ -67,7 +67,8 @@ SettlingLaw = (g : Grid) (ps : List Point) (ds : List DecimalPoint) → ArePoint
 -- Points in a larger unit have the same orientations, and lie on the same sides of spheres
 pub record HaveSameSigns (ps qs : List Point) : Type 0 where
   pub orientations : (a b c d : ℕ)
-      → HaveOneSign (orient (point ps a) (point ps b) (point ps c) (point ps d)) (orient (point qs a) (point qs b) (point qs c) (point qs d))
+      → HaveOneSign (orient (point ps a) (point ps b) (point ps c) (point ps d))
+      (orient (point qs a) (point qs b) (point qs c) (point qs d))
   pub spheres : (t : Tet) (e : ℕ) → HaveOneSign (in_sphere (corners ps t) (point ps e)) (in_sphere (corners qs t) (point qs e))
 
 abbrev pub SameSignsLaw : Type 0

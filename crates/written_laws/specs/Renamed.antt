@@ -26,4 +26,10 @@ abbrev pub RenamedLaw : Type 0
 RenamedLaw = (names : List ℕ) (ps qs : List Point) → AreNamesIn names ps qs
     → (rows : List Tet) (faces : List FaceRow) (neighbors : List Across) → All (IsOn ps) rows
     → IsVerdict (record { points = ps; rows = rows; faces = faces; neighbors = neighbors }) Sound
-    → IsVerdict (record { points = qs; rows = map (renamed_row (slice_index names)) rows; faces = map (renamed_face (slice_index names)) faces; neighbors = neighbors }) Sound
+    → IsVerdict (record {
+      points = qs;
+      rows = map (renamed_row (slice_index names)) rows;
+      faces = map
+          (renamed_face (slice_index names)) faces;
+      neighbors = neighbors;
+    }) Sound

@@ -28,7 +28,8 @@ written_mesh ps rows faces = record { points = ps; rows = rows; faces = faces; n
 pub record IsApartMesh (ps : List Point) (ts : List FacetTriangle) (rows : List Tet) : Type 0 where
   pub apart : AreApart ps rows
   pub ascending : AllPairs RowBefore rows
-  pub locally_delaunay : AllPairs (λ s t. (face : Face) → Contains (row_faces s) face → Contains (row_faces t) face → ¬ LiesInSome ps ts face → IsLocallyDelaunay ps s t) rows
+  pub locally_delaunay : AllPairs (λ s t. (face : Face) → Contains (row_faces s) face → Contains (row_faces t) face
+      → ¬ LiesInSome ps ts face → IsLocallyDelaunay ps s t) rows
 
 -- With the faces on the hull and in facets, or all faces, such rows have no defect
 abbrev pub WrittenMeshLaw : Type 0
