@@ -1,5 +1,5 @@
 -- What is left of a list that was sorted and in which like neighbors were made one.
-use Rattle.std.proofs.Common.{◌≡◌, ◌↔◌, true, Bool, List, [], ◌∷◌, sym, subst, ◌∙◌, arith}
+use Rattle.std.proofs.Common.{◌≡◌, ◌↔◌, true, Bool, List, [], sym, subst}
 use Rattle.std.specs.Prelude.{AllPairs, Contains}
 use Rattle.std.specs.Cmp.{IsTotalOrder, IsEquivalence}
 use Rattle.std.specs.Ordering.{eq_by_cmp}

@@ -1,8 +1,8 @@
 -- What a folder in memory holds, and which of its calls are to fail.
-use Rattle.std.specs.Prelude.{ℕ, ◌+◌, List, refl}
+use Rattle.std.specs.Prelude.{ℕ, List, refl}
 use Rattle.std.specs.Coded.{Coded, code_by, coded×, coded_ℕ, coded_list}
 use Rattle.std.specs.FinMap as map
-use Rattle.tet_ports.specs.Calls.{calls_code, failures, one_more}
+use Rattle.tet_ports.specs.Calls.{calls_code, one_more}
 use Rattle.tet_ports.specs.Files.{Files}
 use Rattle.tet_ports.specs.declared.calls.Calls.{Calls}
 
@@ -16,10 +16,6 @@ pub record MemoryFiles : Type 0 where
 -- the folder after one more store, with this name set to this text
 abbrev pub stored : MemoryFiles → List ℕ → List ℕ → MemoryFiles
 stored folder name text = record folder { files = map.insert folder.files name text; stores = one_more folder.stores }
-
--- how many of its calls have failed that were set to fail
-abbrev pub failures_of : MemoryFiles → ℕ
-failures_of folder = failures folder.fetches + failures folder.stores
 
 -- it is stored as the tuple of its fields
 abbrev pub memory_files_code : Coded MemoryFiles

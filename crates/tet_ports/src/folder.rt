@@ -4,6 +4,7 @@ ghost use Rattle.std.specs.Prelude.{◌≡◌, ◌≤◌, ◌+◌, ℕ, Option, 
 ghost use Rattle.tet_ports.specs.Counts.{Rose};
 ghost use Rattle.tet_ports.specs.Files.{Files, Holds, HoldsMore, IsAbsent, PartlyStored, with_file};
 ghost use Rattle.tet_ports.specs.Faults.{IfTooLarge};
+ghost use Rattle.tet_ports.specs.Seen.{IsOnlyRead, folder_seen};
 ghost use Rattle.tet_ports.specs.declared.folder.StoreFault.TheVariants.{Failed as StoreFailed, NoMemory as StoreNoMemory};
 ghost use Rattle.tet_ports.specs.declared.folder.FetchFault.TheVariants.{Missing, Failed, NoMemory as FetchNoMemory};
 
@@ -60,8 +61,11 @@ pub trait Folder {
     /// The files that it holds, where it tells them.
     ghost held: { Self → Option Files };
 
-    /// How often a fetch or a store has failed. It stays at the last value of a u64.
-    ghost faults: { Self → ℕ };
+    /// How often a fetch has failed. It stays at the last value of a u64.
+    ghost read_faults: { Self → ℕ };
+
+    /// How often a store has failed. It stays at the last value of a u64.
+    ghost write_faults: { Self → ℕ };
 
     /// How often a fetched name was absent, where the files are not told. It stays at the last
     /// value of a u64.
@@ -76,14 +80,14 @@ pub trait Folder {
         ensures bounded { IfOk result (λ bytes. length bytes ≤ most) }
         ensures missing { IsErrOf result Missing
             → IsAbsent (held self.old) name.now (misses self.old) (misses self.new) }
-        ensures failed { IsErrOf result Failed → Rose (faults self.old) (faults self.new) }
+        ensures failed { IsErrOf result Failed
+            → Rose (read_faults self.old) (read_faults self.new) }
         ensures too_large { IfErr result
             (λ fault. IfTooLarge fault (λ taken. length taken ≡ most + 1)) }
         ensures longer { IfErr result
             (λ fault. IfTooLarge fault (HoldsMore (held self.old) name.now most)) }
-        ensures unchanged { held self.new ≡ held self.old }
-        ensures fault_count { faults self.old ≤ faults self.new }
-        ensures miss_count { misses self.old ≤ misses self.new };
+        ensures read { IsOnlyRead
+            (folder_seen held read_faults write_faults misses self.old self.new) };
 
     /// Sets the file with this name to this text.
     ///
@@ -91,10 +95,12 @@ pub trait Folder {
     /// name; `NoMemory`, with nothing changed.
     fn store(&mut self, name: &Name, text: &Bytes) -> Result<(), StoreFault>
         ensures stored { OnOk result (held self.new ≡ with_file (held self.old) name.now text.now) }
-        ensures failed { IsErrOf result StoreFailed → Rose (faults self.old) (faults self.new) }
+        ensures failed { IsErrOf result StoreFailed
+            → Rose (write_faults self.old) (write_faults self.new) }
         ensures partly { IsErrOf result StoreFailed
             → PartlyStored (held self.old) name.now text.now (held self.new) }
         ensures kept { IsErrOf result StoreNoMemory → held self.new ≡ held self.old }
-        ensures fault_count { faults self.old ≤ faults self.new }
-        ensures miss_count { misses self.old ≤ misses self.new };
+        ensures unread { read_faults self.new ≡ read_faults self.old }
+        ensures fault_count { write_faults self.old ≤ write_faults self.new }
+        ensures miss_count { misses self.new ≡ misses self.old };
 }

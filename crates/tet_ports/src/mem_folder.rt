@@ -2,10 +2,10 @@
 
 ghost use Rattle.std.specs.Prelude.{◌≡◌, ◌≤◌, ◌+◌, ◌↔◌, Some, None, OnOk, OnErr, IsNone, IfSome, IfOk, IfErr, IsErrOf, IsTrue, length, take};
 ghost use Rattle.std.specs.FinMap as map;
-ghost use Rattle.tet_ports.specs.Calls.{failing_at, fresh_calls, one_more, IsNextFailing};
+ghost use Rattle.tet_ports.specs.Calls.{failing_at, failures, fresh_calls, one_more, IsNextFailing};
 ghost use Rattle.tet_ports.specs.Faults.{IfTooLarge};
 ghost use Rattle.tet_ports.specs.Files.{HoldsMore};
-ghost use Rattle.tet_ports.specs.MemFolder.{MemoryFiles, failures_of, memory_files_code, stored};
+ghost use Rattle.tet_ports.specs.MemFolder.{MemoryFiles, memory_files_code, stored};
 ghost use Rattle.tet_ports.specs.declared.folder.FetchFault.TheVariants.{Missing, Failed as FetchFailed};
 ghost use Rattle.tet_ports.specs.declared.folder.StoreFault.TheVariants.{Failed as StoreFailed, NoMemory as StoreNoMemory};
 
@@ -109,7 +109,9 @@ impl MemFolder {
 impl Folder for MemFolder {
     ghost held = { λ folder. Some folder.files };
 
-    ghost faults = { failures_of };
+    ghost read_faults = { λ folder. failures folder.fetches };
+
+    ghost write_faults = { λ folder. failures folder.stores };
 
     ghost misses = { λ _. 0 };
 
@@ -124,8 +126,8 @@ impl Folder for MemFolder {
             (λ fault. IfTooLarge fault (HoldsMore (Some self.old.files) name.now most)) }
         ensures counted { self.new ≡ record self.old { fetches = one_more self.old.fetches } }
         ensures failures { IsNextFailing self.old.fetches
-            → failures_of self.new ≡ failures_of self.old + 1 }
-        ensures failure_count { failures_of self.old ≤ failures_of self.new }
+            → failures self.new.fetches ≡ failures self.old.fetches + 1 }
+        ensures failure_count { failures self.old.fetches ≤ failures self.new.fetches }
     {
         if self.fetches.count() {
             return Err(FetchFault::Failed);
@@ -150,8 +152,8 @@ impl Folder for MemFolder {
         ensures next { OnOk result (¬ IsNextFailing self.old.stores) }
         ensures failed { IsErrOf result StoreFailed → IsNextFailing self.old.stores }
         ensures failures { IsNextFailing self.old.stores
-            → failures_of self.new ≡ failures_of self.old + 1 }
-        ensures failure_count { failures_of self.old ≤ failures_of self.new }
+            → failures self.new.stores ≡ failures self.old.stores + 1 }
+        ensures failure_count { failures self.old.stores ≤ failures self.new.stores }
     {
         let text = text.as_slice();
         if self.stores.count() {

@@ -16,18 +16,20 @@ use std::{fs, io};
 #[derive(Debug, Drop)]
 pub struct OsFolder<R> {
     rt: R,
-    faults: u64,
+    read_faults: u64,
+    write_faults: u64,
     misses: u64,
 }
 
 impl<R: Files + Drop> OsFolder<R> {
     /// The files that this runtime reaches.
     pub fn new(rt: R) -> Self
-        ensures { (result.faults ≡ 0) × (result.misses ≡ 0) }
+        ensures { (result.read_faults ≡ 0) × (result.write_faults ≡ 0) × (result.misses ≡ 0) }
     {
         OsFolder {
             rt,
-            faults: 0,
+            read_faults: 0,
+            write_faults: 0,
             misses: 0,
         }
     }
@@ -36,7 +38,9 @@ impl<R: Files + Drop> OsFolder<R> {
 impl<R: Files + Drop> Folder for OsFolder<R> {
     ghost held = { λ _. None };
 
-    ghost faults = { λ folder. folder.faults };
+    ghost read_faults = { λ folder. folder.read_faults };
+
+    ghost write_faults = { λ folder. folder.write_faults };
 
     ghost misses = { λ folder. folder.misses };
 
@@ -44,22 +48,24 @@ impl<R: Files + Drop> Folder for OsFolder<R> {
         let fetched = read_file(alloc, &self.rt, name, most);
         match fetched {
             Err(FetchFault::Missing) => self.misses = self.misses.saturating_add(1),
-            Err(FetchFault::Failed) => self.faults = self.faults.saturating_add(1),
+            Err(FetchFault::Failed) => self.read_faults = self.read_faults.saturating_add(1),
             _ => {}
         }
         fetched
     }
 
     fn store(&mut self, name: &Name, text: &Bytes) -> Result<(), StoreFault>
-        ensures failed { IsErrOf result StoreFailed → Rose self.old.faults self.new.faults }
+        ensures failed { IsErrOf result StoreFailed
+            → Rose self.old.write_faults self.new.write_faults }
         ensures takes_no_memory { ¬ IsErrOf result StoreNoMemory }
-        ensures fault_count { self.old.faults ≤ self.new.faults }
-        ensures miss_count { self.old.misses ≤ self.new.misses }
+        ensures unread { self.new.read_faults ≡ self.old.read_faults }
+        ensures fault_count { self.old.write_faults ≤ self.new.write_faults }
+        ensures miss_count { self.new.misses ≡ self.old.misses }
     {
         match write_file(&self.rt, name, text) {
             Ok(()) => Ok(()),
             Err(_) => {
-                self.faults = self.faults.saturating_add(1);
+                self.write_faults = self.write_faults.saturating_add(1);
                 Err(StoreFault::Failed)
             }
         }

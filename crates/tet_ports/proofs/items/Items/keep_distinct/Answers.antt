@@ -1,4 +1,3 @@
-use Rattle.std.proofs.Common.{◌≡◌, subst}
 use Rattle.std.specs.Prelude.{IsPermutation}
 use Rattle.tet_ports.proofs.Sorted.{IsDistinct, sorted_distinct}
 use Rattle.tet_ports.proofs.items.Items.keep_distinct.Goals as goal
