@@ -1,7 +1,9 @@
 //! Tetrahedra by the numbers of their corners, and lists of points and of tetrahedra.
+ghost use Rattle.std.specs.Prelude.{◌≡◌};
 ghost use Rattle.geo_laws.specs.Arrangement.{IsEvenOf, HasLeastFirst, HasLeastSecond};
+ghost use Rattle.geo_laws.specs.Delaunay.{corners, IsOn};
 
-use sign_predicates::GridPoint;
+use sign_predicates::{Corners, GridPoint};
 use tet_ports::Items;
 
 /// A row: the four corners of a tetrahedron by the numbers of their points, which are places in a
@@ -19,6 +21,21 @@ pub type Points = Items<GridPoint>;
 
 /// A list of tetrahedra.
 pub type TetList = Items<Tet>;
+
+/// The corners of a row, whose numbers are places in `points`, from 0. Coordinates are in grid
+/// units.
+#[inline]
+pub fn corners_of(points: &Points, row: Tet) -> Corners
+    requires { IsOn points.now row }
+    ensures { result ≡ corners points.now row }
+{
+    Corners {
+        a: points.at(row.a as usize),
+        b: points.at(row.b as usize),
+        c: points.at(row.c as usize),
+        d: points.at(row.d as usize),
+    }
+}
 
 /// The least even arrangement of a row: the least number stands first, and the next least of the
 /// others second. A row keeps its corners and its orientation so.

@@ -10,23 +10,10 @@ ghost use Rattle.geo_laws.specs.Marks.{is_marked};
 
 use crate::boxes::is_off_box;
 use face_table::FaceTable;
-use geo_laws::{Face, Points, Tet, TetList, row_faces};
+use geo_laws::{Face, Points, Tet, TetList, corners_of, row_faces};
 use sign_predicates::{Corners, GridPoint, Hold, RatPoint, Sign, in_tet, orient_rat};
 use std::alloc::Global;
 use tet_ports::NoMemory;
-
-/// The corners of a row.
-fn corners(points: &Points, row: Tet) -> Corners
-    requires { IsOn points.now row }
-    ensures { result ≡ corners points.now row }
-{
-    Corners {
-        a: points.at(row.a as usize),
-        b: points.at(row.b as usize),
-        c: points.at(row.c as usize),
-        d: points.at(row.d as usize),
-    }
-}
 
 /// The row at a place, which is on the points.
 fn row_on(points: &Points, list: &TetList, at: usize) -> Tet
@@ -44,7 +31,7 @@ fn holds(points: &Points, row: Tet, x: RatPoint) -> bool
     requires positive { IsPositive (corners points.now row) }
     ensures { (result ≡ true) ↔ InClosed (corners points.now row) x }
 {
-    let t = corners(points, row);
+    let t = corners_of(points, row);
     if is_off_box(&t, x) {
         return false;
     }
@@ -154,7 +141,7 @@ fn is_on_closed(
 {
     for at in 0..holders.len() {
         let row = row_on(points, list, holders[at]);
-        if lies_on_some(row, &corners(points, row), closed, x) {
+        if lies_on_some(row, &corners_of(points, row), closed, x) {
             return true;
         }
     }

@@ -10,10 +10,9 @@ ghost use Rattle.mesh_check.specs.Searches.{IsLeastOf, IsLeastPair};
 ghost use Rattle.mesh_check.specs.Bending.{IsBentOnce, IsBentFrom, IsBentAcross, MeetsBent};
 
 use crate::face_set::{FaceSet, entry_in, face_in, has, point_in};
-use crate::positive::corners_of;
 use crate::same_side::least_of;
 use crate::sphere::is_inside_sphere;
-use geo_laws::{Points, Tet, TetList};
+use geo_laws::{Points, Tet, TetList, corners_of};
 use incidence::{Across, Pairs};
 use mesh_files::FaceRows;
 

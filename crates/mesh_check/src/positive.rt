@@ -6,21 +6,8 @@ ghost use Rattle.geo_laws.specs.Delaunay.{corners, IsOn};
 ghost use Rattle.mesh_check.specs.Defects.{IsNotPositive};
 ghost use Rattle.mesh_check.specs.Searches.{IsLeastOf};
 
-use geo_laws::{Points, Tet, TetList};
+use geo_laws::{Points, Tet, TetList, corners_of};
 use sign_predicates::{Corners, Sign, orient};
-
-/// The corners of a row.
-pub(crate) fn corners_of(points: &Points, row: Tet) -> Corners
-    requires { IsOn points.now row }
-    ensures { result ≡ corners points.now row }
-{
-    Corners {
-        a: points.at(row.a as usize),
-        b: points.at(row.b as usize),
-        c: points.at(row.c as usize),
-        d: points.at(row.d as usize),
-    }
-}
 
 fn is_positive(points: &Points, row: Tet) -> bool
     requires { IsOn points.now row }

@@ -5,7 +5,7 @@ ghost use Rattle.sign_predicates.specs.Point.{IsOnGrid};
 ghost use Rattle.geo_laws.specs.Delaunay.{corners, IsOn};
 ghost use Rattle.row_cells.specs.Boxes.{ahead, whole_units, span_of, box_of, row, boxes_of, cell_of, spans, is_near, AreOnGrid};
 
-use geo_laws::{Points, Tet, TetList};
+use geo_laws::{Points, TetList, corners_of};
 use sign_predicates::{Corners, GridPoint, RatPoint};
 use std::alloc::Global;
 use tet_ports::{Items, NoMemory};
@@ -49,19 +49,6 @@ fn span_of(a: u32, b: u32, c: u32, d: u32) -> Span
     let low = a.min(b).min(c).min(d);
     let high = a.max(b).max(c).max(d);
     Span { low, high }
-}
-
-/// The corners of a row.
-pub(crate) fn corners_of(points: &Points, t: Tet) -> Corners
-    requires { IsOn points.now t }
-    ensures { result ≡ corners points.now t }
-{
-    Corners {
-        a: points.at(t.a as usize),
-        b: points.at(t.b as usize),
-        c: points.at(t.c as usize),
-        d: points.at(t.d as usize),
-    }
 }
 
 fn span_x(a: GridPoint, b: GridPoint, c: GridPoint, d: GridPoint) -> Span

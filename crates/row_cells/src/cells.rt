@@ -6,10 +6,10 @@ ghost use Rattle.geo_laws.specs.Delaunay.{corners, IsOn};
 ghost use Rattle.row_cells.specs.Parts.{ArePositiveOn, StandsFor};
 ghost use Rattle.row_cells.specs.Where.{first_holding, first_in};
 
-use crate::boxes::{Cell, RowBox, boxes_of, cell_of, corners_of, is_near};
+use crate::boxes::{Cell, RowBox, boxes_of, cell_of, is_near};
 use crate::parts::{Cells, Cuts, cells_of, part_at};
 use crate::widths::cuts_of;
-use geo_laws::{Points, Tet, TetList};
+use geo_laws::{Points, Tet, TetList, corners_of};
 use sign_predicates::{Hold, RatPoint, in_tet};
 use std::alloc::Global;
 use tet_ports::NoMemory;

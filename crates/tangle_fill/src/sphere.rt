@@ -5,9 +5,8 @@ ghost use Rattle.geo_laws.specs.Delaunay.{corners, IsOn};
 ghost use Rattle.box_tree.specs.Bounds.{IsIn};
 ghost use Rattle.tangle_fill.specs.Sphere.{HoldsSphere};
 
-use crate::smooth::corners;
 use box_tree::{Bounds, Interval};
-use geo_laws::{Points, Tet};
+use geo_laws::{Points, Tet, corners_of};
 use sign_predicates::{GridPoint, sphere_reach};
 
 /// The interval of the numbers that differ by no more than the reach from a coordinate of the grid.
@@ -29,7 +28,7 @@ pub(crate) fn sphere_bounds(points: &Points, row: Tet) -> Option<Bounds>
     requires positive { IsPositive (corners points.now row) }
     ensures { IfSome result (HoldsSphere (corners points.now row)) }
 {
-    let reach = sphere_reach(corners(points, row))?;
+    let reach = sphere_reach(corners_of(points, row))?;
     let a = points.at(row.a as usize);
     Some(Bounds {
         x: around(a.x, reach),

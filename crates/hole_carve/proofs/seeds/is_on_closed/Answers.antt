@@ -11,7 +11,7 @@ pub returns-then-lies_on_some : goal.returns-then-lies_on_some
 returns-then-lies_on_some c =
     let place = queue_at c.args.holders.now c.loop-at.at in
     let h = (c.requires.holders place).0 (of_at c.args.holders.now c.loop-at.at c.loop-at-test.true) in (
-      λ e. (place, h.0, (h.1, lies_same c.args.points.now c.args.closed.now c.args.x c.corners.result c.row_on-row.result (row_at c.args.list.now place) c.corners.ensures c.row_on-row.ensures.is (c.lies_on_some.ensures.0 c.if-lies_on_some.true))),
+      λ e. (place, h.0, (h.1, lies_same c.args.points.now c.args.closed.now c.args.x c.corners_of.result c.row_on-row.result (row_at c.args.list.now place) c.corners_of.ensures c.row_on-row.ensures.is (c.lies_on_some.ensures.0 c.if-lies_on_some.true))),
       λ e. refl,
     )
 
@@ -19,7 +19,7 @@ pub loop-at-preserved : goal.loop-at-preserved
 loop-at-preserved c =
     let place = queue_at c.args.holders.now c.loop-at.at in
     below_next (λ i. ¬ HoldsOn c.args.points.now c.args.closed.now (row_at c.args.list.now (queue_at c.args.holders.now i)) c.args.x) c.loop-at.at c.loop-at.invariant
-    (λ h. true≢false (sym (c.lies_on_some.ensures.1 (lies_back c.args.points.now c.args.closed.now c.args.x c.corners.result c.row_on-row.result (row_at c.args.list.now place) c.corners.ensures c.row_on-row.ensures.is h.1)) ∙ c.if-lies_on_some.false))
+    (λ h. true≢false (sym (c.lies_on_some.ensures.1 (lies_back c.args.points.now c.args.closed.now c.args.x c.corners_of.result c.row_on-row.result (row_at c.args.list.now place) c.corners_of.ensures c.row_on-row.ensures.is h.1)) ∙ c.if-lies_on_some.false))
 
 pub returns : goal.returns
 returns c = (
