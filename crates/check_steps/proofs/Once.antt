@@ -19,7 +19,8 @@ use Rattle.tet_ports.specs.Files.{Files}
 use Rattle.tet_text.specs.declared.fault.TextFault.{TextFault}
 use Rattle.check_steps.specs.Checking.{CheckAnswer, TextChecked, LeastGridAnswer, VerdictAnswer, mesh_of, most_points}
 use Rattle.check_steps.specs.Reading.{most_bytes, FetchAnswer, IsBadText, TextAnswer, FileAnswer, NeighborsAnswer, MeshAnswer, nodes_in_text, rows_of, faces_in_text, neighbors_in_text}
-use Rattle.check_steps.specs.Steps.{FolderSeen, AndThen, Gives}
+use Rattle.tet_ports.specs.Seen.{FolderSeen}
+use Rattle.check_steps.specs.Steps.{AndThen, Gives}
 use Rattle.check_steps.specs.declared.fault.CheckFault.{CheckFault}
 use Rattle.check_steps.specs.declared.fault.CheckFault.TheVariants.{Missing, ReadFault, TooLong, BadText, TooMany, OffGrid, Unsound, NoMemory}
 use Rattle.check_steps.specs.declared.reading.MeshText.{MeshText}
@@ -80,7 +81,7 @@ data FetchCase (told : Files) (name : List ℕ) (r : Result (List ℕ) CheckFaul
   absent : map_of.get told name ≡ None → r ≡ Err (Missing name) → FetchCase told name r
   long : (bytes : List ℕ) → map_of.get told name ≡ Some bytes → most_bytes < length bytes → r ≡ Err (TooLong name) → FetchCase told name r
 
-fetch_case : (told : Files) (seen : FolderSeen) (name : List ℕ) (r : Result (List ℕ) CheckFault) → ¬ Rose seen.faults_before seen.faults_now → IsDecided r
+fetch_case : (told : Files) (seen : FolderSeen) (name : List ℕ) (r : Result (List ℕ) CheckFault) → ¬ Rose seen.read_faults_before seen.read_faults_now → IsDecided r
     → FetchAnswer (record seen { files = Some told }) name r → FetchCase told name r
 fetch_case told seen name (Ok bytes) f n h = found bytes h.0 h.1 refl
 fetch_case told seen name (Err (Missing missing)) f n h = absent h.1 (ap (λ x. Err (Missing x)) h.0)
@@ -102,8 +103,8 @@ fetch_same told name r s (long b e l h) (long c f m k) = h ∙ sym k
 
 -- the files are told, and no fault rose
 pub record IsTold (told : Files) (seen : FolderSeen) : Type 0 where
-  pub files : seen.files ≡ Some told
-  pub no_fault : ¬ Rose seen.faults_before seen.faults_now
+  pub files : seen.files_before ≡ Some told
+  pub no_fault : ¬ Rose seen.read_faults_before seen.read_faults_now
 
 fetch_once : (told : Files) (seen : FolderSeen) (name : List ℕ) → IsTold told seen → IsOnce (FetchAnswer seen name)
 fetch_once told seen name t = subst (λ files. IsOnce (FetchAnswer (record seen { files = files }) name)) (sym t.files)

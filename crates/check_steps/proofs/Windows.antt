@@ -1,39 +1,20 @@
 -- What a step answers over a part of a run, it answers over all of it: counts never fall, and a fetch changes no file.
 use Rattle.std.proofs.Common.{◌≡◌, ◌≤◌, ◌++◌, inl, inr, ℕ, List, Option, Some, None, Result, Ok, Err, subst, arith}
 use Rattle.std.specs.Prelude.{◌⊎◌, codes}
-use Rattle.tet_ports.specs.Counts.{Rose}
 use Rattle.tet_ports.specs.Files.{Files, IsAbsent, Holds}
 use Rattle.tet_text.specs.declared.fault.TextFault.{TextFault}
 use Rattle.incidence.specs.declared.pairs.Across.{Across}
 use Rattle.node_files.specs.declared.node_text.NodeText.{NodeText}
 use Rattle.check_steps.specs.Reading.{most_bytes, IsRead, IsUnfetched, FetchAnswer, TextAnswer, FileAnswer, NeighborsAnswer, neighbors_in_text}
-use Rattle.check_steps.specs.Steps.{FolderSeen, folder_seen, AndThen}
+use Rattle.tet_ports.proofs.Windows.{IsWithin, absent_within, rose_within}
+use Rattle.tet_ports.specs.Seen.{FolderSeen, folder_seen}
+use Rattle.check_steps.specs.Steps.{AndThen}
 use Rattle.check_steps.specs.declared.fault.CheckFault.{CheckFault}
 use Rattle.check_steps.specs.declared.fault.CheckFault.TheVariants.{Missing, ReadFault, TooLong, BadText, TooMany, OffGrid, Unsound, NoMemory}
 
--- the part begins with the same files, not earlier, and ends not later
-pub record IsWithin (part wide : FolderSeen) : Type 0 where
-  pub files : part.files ≡ wide.files
-  pub faults_before : wide.faults_before ≤ part.faults_before
-  pub faults_now : part.faults_now ≤ wide.faults_now
-  pub misses_before : wide.misses_before ≤ part.misses_before
-  pub misses_now : part.misses_now ≤ wide.misses_now
-
-rose_wider : (a b c d : ℕ) → c ≤ a → b ≤ d → Rose a b → Rose c d
-rose_wider a b c d h k r = omega arith
-
-absent_wider : (files : Option Files) (name : List ℕ) (a b c d : ℕ) → c ≤ a → b ≤ d → IsAbsent files name a b → IsAbsent files name c d
-absent_wider None name a b c d h k r = rose_wider a b c d h k r
-absent_wider (Some told) name a b c d h k r = r
-
-absent_within : (part wide : FolderSeen) → IsWithin part wide → (name : List ℕ) → IsAbsent part.files name part.misses_before part.misses_now → IsAbsent wide.files name wide.misses_before wide.misses_now
-absent_within part wide w name h =
-    subst (λ (files : Option Files). IsAbsent files name wide.misses_before wide.misses_now) w.files
-    (absent_wider part.files name part.misses_before part.misses_now wide.misses_before wide.misses_now w.misses_before w.misses_now h)
-
 unfetched_wider : (part wide : FolderSeen) → IsWithin part wide → (name : List ℕ) (f : CheckFault) → IsUnfetched part name f → IsUnfetched wide name f
 unfetched_wider part wide w name (Missing missing) h = (h.0, absent_within part wide w name h.1)
-unfetched_wider part wide w name (ReadFault failed) h = (h.0, rose_wider part.faults_before part.faults_now wide.faults_before wide.faults_now w.faults_before w.faults_now h.1)
+unfetched_wider part wide w name (ReadFault failed) h = (h.0, rose_within part wide w h.1)
 unfetched_wider part wide w name (TooLong long) h = (h.0, (h.1.0, subst (λ (files : Option Files). Holds files name h.1.0) w.files h.1.1, h.1.2))
 unfetched_wider part wide w name (BadText bad fault) h = absurd h
 unfetched_wider part wide w name (TooMany count) h = absurd h
@@ -61,8 +42,3 @@ neighbors_wider part wide w base nodes (Err (TooMany count)) h = file_wider part
 neighbors_wider part wide w base nodes (Err (OffGrid line)) h = file_wider part wide w (base ++ codes ".neigh") (neighbors_in_text nodes) (Err (OffGrid line)) h
 neighbors_wider part wide w base nodes (Err (Unsound defect first)) h = file_wider part wide w (base ++ codes ".neigh") (neighbors_in_text nodes) (Err (Unsound defect first)) h
 neighbors_wider part wide w base nodes (Err NoMemory) h = file_wider part wide w (base ++ codes ".neigh") (neighbors_in_text nodes) (Err NoMemory) h
-
--- a window between two calls of one folder
-pub within_of : {F : Type 0} (held : F → Option Files) (faults misses : F → ℕ) (s a b e : F) → held a ≡ held s → faults s ≤ faults a → faults b ≤ faults e → misses s ≤ misses a → misses b ≤ misses e
-    → IsWithin (folder_seen held faults misses a b) (folder_seen held faults misses s e)
-within_of held faults misses s a b e same f g m n = record { files = same; faults_before = f; faults_now = g; misses_before = m; misses_now = n }

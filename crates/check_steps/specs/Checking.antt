@@ -5,7 +5,8 @@ use Rattle.mesh_check.specs.Defects.{ReadMesh, IsVerdict, neighbors_or}
 use Rattle.mesh_check.specs.declared.defect.Verdict.TheVariants.{Sound, Fault}
 use Rattle.node_files.specs.SettlingLeast.{AreTooMany, IsOffLeastGrid, IsOnLeastGrid}
 use Rattle.check_steps.specs.Reading.{MeshAnswer}
-use Rattle.check_steps.specs.Steps.{FolderSeen, AndThen}
+use Rattle.tet_ports.specs.Seen.{FolderSeen}
+use Rattle.check_steps.specs.Steps.{AndThen}
 use Rattle.check_steps.specs.declared.fault.CheckFault.{CheckFault}
 use Rattle.check_steps.specs.declared.fault.CheckFault.TheVariants.{TooMany, OffGrid, Unsound, NoMemory}
 use Rattle.check_steps.specs.declared.reading.MeshText.{MeshText}

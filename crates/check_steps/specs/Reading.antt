@@ -10,7 +10,8 @@ use Rattle.mesh_files.specs.declared.markers.FaceRow.{FaceRow}
 use Rattle.mesh_files.specs.ReadRows.{ele_of, face_list_of, neigh_of}
 use Rattle.node_files.specs.Node.{node_of}
 use Rattle.node_files.specs.declared.node_text.NodeText.{NodeText}
-use Rattle.check_steps.specs.Steps.{FolderSeen, AndThen, Gives}
+use Rattle.tet_ports.specs.Seen.{FolderSeen}
+use Rattle.check_steps.specs.Steps.{AndThen, Gives}
 use Rattle.check_steps.specs.declared.fault.CheckFault.{CheckFault}
 use Rattle.check_steps.specs.declared.fault.CheckFault.TheVariants.{Missing, ReadFault, TooLong, BadText, NoMemory}
 use Rattle.check_steps.specs.declared.reading.MeshText.{MeshText}
@@ -25,15 +26,15 @@ IsRead files name bytes = Holds files name bytes × (length bytes ≤ most_bytes
 
 -- why a fetch gives no bytes
 abbrev pub IsUnfetched : FolderSeen → List ℕ → CheckFault → Type 0
-IsUnfetched seen name (Missing missing) = (missing ≡ name) × IsAbsent seen.files name seen.misses_before seen.misses_now
-IsUnfetched seen name (ReadFault failed) = (failed ≡ name) × Rose seen.faults_before seen.faults_now
-IsUnfetched seen name (TooLong long) = (long ≡ name) × ((bytes : List ℕ) × Holds seen.files name bytes × (most_bytes < length bytes))
+IsUnfetched seen name (Missing missing) = (missing ≡ name) × IsAbsent seen.files_before name seen.misses_before seen.misses_now
+IsUnfetched seen name (ReadFault failed) = (failed ≡ name) × Rose seen.read_faults_before seen.read_faults_now
+IsUnfetched seen name (TooLong long) = (long ≡ name) × ((bytes : List ℕ) × Holds seen.files_before name bytes × (most_bytes < length bytes))
 IsUnfetched seen name NoMemory = Unit {0}
 IsUnfetched seen name fault = ⊥
 
 -- the bytes of a file
 abbrev pub FetchAnswer : FolderSeen → List ℕ → Result (List ℕ) CheckFault → Type 0
-FetchAnswer seen name (Ok bytes) = IsRead seen.files name bytes
+FetchAnswer seen name (Ok bytes) = IsRead seen.files_before name bytes
 FetchAnswer seen name (Err fault) = IsUnfetched seen name fault
 
 -- why a text is refused, whose reading is given
@@ -65,7 +66,7 @@ neighbors_in_text nodes bytes = neigh_of nodes.first (line_count_of bytes) (cont
 
 -- the neighbors, where there is a file of them
 abbrev pub NeighborsAnswer : FolderSeen → List ℕ → NodeText → Result (Option (List Across)) CheckFault → Type 0
-NeighborsAnswer seen base nodes (Ok None) = IsAbsent seen.files (base ++ codes ".neigh") seen.misses_before seen.misses_now
+NeighborsAnswer seen base nodes (Ok None) = IsAbsent seen.files_before (base ++ codes ".neigh") seen.misses_before seen.misses_now
 NeighborsAnswer seen base nodes (Ok (Some neighbors)) = FileAnswer seen (base ++ codes ".neigh") (neighbors_in_text nodes) (Ok neighbors)
 NeighborsAnswer seen base nodes (Err (Missing name)) = ⊥
 NeighborsAnswer seen base nodes (Err fault) = FileAnswer seen (base ++ codes ".neigh") (neighbors_in_text nodes) (Err fault)

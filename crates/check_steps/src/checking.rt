@@ -3,7 +3,7 @@
 ghost use Rattle.std.specs.Prelude.{◌≡◌, ◌≤◌, length, All, IfOk};
 ghost use Rattle.mesh_files.specs.ReadRows.{AreCornersBelow};
 ghost use Rattle.check_steps.specs.Checking.{LeastGridAnswer, VerdictAnswer, TextChecked, CheckAnswer};
-ghost use Rattle.check_steps.specs.Steps.{folder_seen};
+ghost use Rattle.tet_ports.specs.Seen.{IsOnlyRead, folder_seen};
 
 use crate::CheckFault;
 use crate::reading::{MeshText, read_mesh};
@@ -68,10 +68,9 @@ pub fn check_files<F: Folder>(
     decimals: Option<u32>,
     folder: &mut F,
 ) -> Result<usize, CheckFault>
-    ensures answer { CheckAnswer (folder_seen F.held F.faults F.misses folder.old folder.new) base.now decimals result }
-    ensures unchanged { F.held folder.new ≡ F.held folder.old }
-    ensures faults { F.faults folder.old ≤ F.faults folder.new }
-    ensures misses { F.misses folder.old ≤ F.misses folder.new }
+    ensures answer { CheckAnswer (folder_seen F.held F.read_faults F.write_faults F.misses folder.old folder.new) base.now decimals result }
+    ensures only_read { IsOnlyRead
+        (folder_seen F.held F.read_faults F.write_faults F.misses folder.old folder.new) }
 {
     let text = read_mesh(alloc, base, folder)?;
     check_text(alloc, decimals, &text)

@@ -3,7 +3,7 @@
 ghost use Rattle.std.specs.Prelude.{◌≡◌, ◌++◌, IfOk, OnOk};
 ghost use Rattle.std.specs.Fmt.{decimal};
 ghost use Rattle.check_steps.specs.Messages.{line, kind_text, file_message, usage_message, text_message};
-ghost use Rattle.check_steps.specs.Seen.{sink_seen, IsMessagePut};
+ghost use Rattle.tet_ports.specs.Seen.{sink_seen, IsMessagePut};
 
 use itoa::Buffer;
 use std::alloc::Global;

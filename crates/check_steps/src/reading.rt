@@ -3,7 +3,7 @@
 ghost use Rattle.std.specs.Prelude.{◌≡◌, ◌≤◌, ◌++◌, codes, length, All, IfOk, IfErr};
 ghost use Rattle.mesh_files.specs.ReadRows.{AreCornersBelow};
 ghost use Rattle.node_files.specs.Node.{IsNodeText};
-ghost use Rattle.check_steps.specs.Steps.{folder_seen};
+ghost use Rattle.tet_ports.specs.Seen.{IsOnlyRead, folder_seen};
 ghost use Rattle.check_steps.specs.Reading.{most_bytes, nodes_in_text, rows_of, faces_in_text, neighbors_in_text, IsRead, IsUnfetched, TextAnswer, FileAnswer, NeighborsAnswer, MeshAnswer};
 
 use crate::CheckFault;
@@ -47,10 +47,9 @@ fn fetch<F: Folder>(alloc: Global, name: Name, folder: &mut F) -> Result<Fetched
     ensures named { IfOk result (λ file. file.name ≡ name) }
     ensures read { IfOk result (λ file. IsRead (F.held folder.old) name file.bytes) }
     ensures err { IfErr result (IsUnfetched
-        (folder_seen F.held F.faults F.misses folder.old folder.new) name) }
-    ensures unchanged { F.held folder.new ≡ F.held folder.old }
-    ensures faults { F.faults folder.old ≤ F.faults folder.new }
-    ensures misses { F.misses folder.old ≤ F.misses folder.new }
+        (folder_seen F.held F.read_faults F.write_faults F.misses folder.old folder.new) name) }
+    ensures only_read { IsOnlyRead
+        (folder_seen F.held F.read_faults F.write_faults F.misses folder.old folder.new) }
 {
     match folder.fetch(alloc, &name, MOST_BYTES) {
         Ok(bytes) => Ok(Fetched { name, bytes }),
@@ -122,11 +121,10 @@ pub fn read_list<F: Folder>(
     list: &Name,
     folder: &mut F,
 ) -> Result<NodeText, CheckFault>
-    ensures answer { FileAnswer (folder_seen F.held F.faults F.misses folder.old folder.new) list.now nodes_in_text result }
+    ensures answer { FileAnswer (folder_seen F.held F.read_faults F.write_faults F.misses folder.old folder.new) list.now nodes_in_text result }
     ensures table { IfOk result IsNodeText }
-    ensures unchanged { F.held folder.new ≡ F.held folder.old }
-    ensures faults { F.faults folder.old ≤ F.faults folder.new }
-    ensures misses { F.misses folder.old ≤ F.misses folder.new }
+    ensures only_read { IsOnlyRead
+        (folder_seen F.held F.read_faults F.write_faults F.misses folder.old folder.new) }
 {
     let name = Name::from_slice(alloc, list.as_slice())?;
     let file = fetch(alloc, name, folder)?;
@@ -139,12 +137,11 @@ pub fn read_nodes<F: Folder>(
     base: &Name,
     folder: &mut F,
 ) -> Result<NodeText, CheckFault>
-    ensures answer { FileAnswer (folder_seen F.held F.faults F.misses folder.old folder.new)
+    ensures answer { FileAnswer (folder_seen F.held F.read_faults F.write_faults F.misses folder.old folder.new)
         (base.now ++ codes ".node") nodes_in_text result }
     ensures table { IfOk result IsNodeText }
-    ensures unchanged { F.held folder.new ≡ F.held folder.old }
-    ensures faults { F.faults folder.old ≤ F.faults folder.new }
-    ensures misses { F.misses folder.old ≤ F.misses folder.new }
+    ensures only_read { IsOnlyRead
+        (folder_seen F.held F.read_faults F.write_faults F.misses folder.old folder.new) }
 {
     let name = named(alloc, base, b".node")?;
     let file = fetch(alloc, name, folder)?;
@@ -159,12 +156,11 @@ pub fn read_rows<F: Folder>(
     folder: &mut F,
 ) -> Result<TetList, CheckFault>
     requires { IsNodeText nodes.now }
-    ensures answer { FileAnswer (folder_seen F.held F.faults F.misses folder.old folder.new)
+    ensures answer { FileAnswer (folder_seen F.held F.read_faults F.write_faults F.misses folder.old folder.new)
         (base.now ++ codes ".ele") (rows_of nodes.now) result }
     ensures there { IfOk result (All (AreCornersBelow (length nodes.now.decimals))) }
-    ensures unchanged { F.held folder.new ≡ F.held folder.old }
-    ensures faults { F.faults folder.old ≤ F.faults folder.new }
-    ensures misses { F.misses folder.old ≤ F.misses folder.new }
+    ensures only_read { IsOnlyRead
+        (folder_seen F.held F.read_faults F.write_faults F.misses folder.old folder.new) }
 {
     let name = named(alloc, base, b".ele")?;
     let file = fetch(alloc, name, folder)?;
@@ -179,11 +175,10 @@ fn read_faces<F: Folder>(
     folder: &mut F,
 ) -> Result<FaceRows, CheckFault>
     requires { IsNodeText nodes.now }
-    ensures answer { FileAnswer (folder_seen F.held F.faults F.misses folder.old folder.new)
+    ensures answer { FileAnswer (folder_seen F.held F.read_faults F.write_faults F.misses folder.old folder.new)
         (base.now ++ codes ".face") (faces_in_text nodes.now) result }
-    ensures unchanged { F.held folder.new ≡ F.held folder.old }
-    ensures faults { F.faults folder.old ≤ F.faults folder.new }
-    ensures misses { F.misses folder.old ≤ F.misses folder.new }
+    ensures only_read { IsOnlyRead
+        (folder_seen F.held F.read_faults F.write_faults F.misses folder.old folder.new) }
 {
     let name = named(alloc, base, b".face")?;
     let file = fetch(alloc, name, folder)?;
@@ -197,10 +192,9 @@ fn read_neighbors<F: Folder>(
     nodes: &NodeText,
     folder: &mut F,
 ) -> Result<Option<Neighbors>, CheckFault>
-    ensures answer { NeighborsAnswer (folder_seen F.held F.faults F.misses folder.old folder.new) base.now nodes.now result }
-    ensures unchanged { F.held folder.new ≡ F.held folder.old }
-    ensures faults { F.faults folder.old ≤ F.faults folder.new }
-    ensures misses { F.misses folder.old ≤ F.misses folder.new }
+    ensures answer { NeighborsAnswer (folder_seen F.held F.read_faults F.write_faults F.misses folder.old folder.new) base.now nodes.now result }
+    ensures only_read { IsOnlyRead
+        (folder_seen F.held F.read_faults F.write_faults F.misses folder.old folder.new) }
 {
     let name = named(alloc, base, b".neigh")?;
     match fetch(alloc, name, folder) {
@@ -221,12 +215,11 @@ pub(crate) fn read_mesh<F: Folder>(
     base: &Name,
     folder: &mut F,
 ) -> Result<MeshText, CheckFault>
-    ensures answer { MeshAnswer (folder_seen F.held F.faults F.misses folder.old folder.new) base.now result }
+    ensures answer { MeshAnswer (folder_seen F.held F.read_faults F.write_faults F.misses folder.old folder.new) base.now result }
     ensures there { IfOk result (λ text. All (AreCornersBelow
         (length text.nodes.decimals)) text.rows) }
-    ensures unchanged { F.held folder.new ≡ F.held folder.old }
-    ensures faults { F.faults folder.old ≤ F.faults folder.new }
-    ensures misses { F.misses folder.old ≤ F.misses folder.new }
+    ensures only_read { IsOnlyRead
+        (folder_seen F.held F.read_faults F.write_faults F.misses folder.old folder.new) }
 {
     let nodes = read_nodes(alloc, base, folder)?;
     let rows = read_rows(alloc, base, &nodes, folder)?;

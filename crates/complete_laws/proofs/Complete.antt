@@ -17,7 +17,7 @@ use Rattle.command_words.specs.declared.options.Extension.TheVariants.{Node}
 use Rattle.command_words.specs.declared.options.Options.{Options}
 use Rattle.run_steps.specs.Meshing.{IsUnbound, IsFlatRefusal, MeshOf, MeshedAnswer, OutputsOfRun, PointsMeshOf}
 use Rattle.run_steps.specs.Reading.{IsUsage, IsUnfetched, IsBadText, InputAnswer, InputOf, PointsAnswer, node_text_of, points_alone}
-use Rattle.run_steps.specs.Seen.{FolderSeen, SinkSeen}
+use Rattle.tet_ports.specs.Seen.{FolderSeen, SinkSeen}
 use Rattle.run_steps.specs.declared.input.Input.{Input}
 use Rattle.run_steps.specs.declared.mesh.Bound.{Bound}
 use Rattle.run_steps.specs.declared.status.LimitKind.TheVariants.{Bytes, Points, Facets, Corners, Grid as OnGrid}
@@ -36,7 +36,7 @@ usage words none NoMemory u = refl
 usage words none status u = elim u [ ]
 
 module _ (options : Options) (asked : AskForPoints options) (folder : FolderSeen) (told : Files) (tells : folder.files_before ≡ Some told) (good : IsGoodFile options told)
-    (quiet : ¬ Rose folder.faults_before folder.faults_now) where
+    (quiet : ¬ Rose folder.read_faults_before folder.read_faults_now) where
   same_bytes : (bytes : List ℕ) → Holds folder.files_before (file_name options.base Node) bytes → bytes ≡ good.bytes
   same_bytes bytes h = some bytes good.bytes (sym (subst (λ files. Holds files (file_name options.base Node) bytes) tells h) ∙ good.there)
     where
@@ -116,7 +116,7 @@ module _ (options : Options) (asked : AskForPoints options) (folder : FolderSeen
       meshed status (subst (λ i. MeshedAnswer tetgen_limits options i (Err status)) is u)
 
 refused : (words : List (List ℕ)) (folder : FolderSeen) (told : Files) → words_fault words ≡ None → AskForPoints (options_of words) → folder.files_before ≡ Some told → IsGoodFile (options_of words) told
-    → ¬ Rose folder.faults_before folder.faults_now → (status : Status) → OutputsOfRun tetgen_limits words folder (Err status) → status ≡ NoMemory
+    → ¬ Rose folder.read_faults_before folder.read_faults_now → (status : Status) → OutputsOfRun tetgen_limits words folder (Err status) → status ≡ NoMemory
 refused words folder told none asked tells good quiet status (inl u) = usage words none status u
 refused words folder told none asked tells good quiet status (inr (options, is, rest)) =
     after_words (options_of words) asked folder told tells good quiet status
@@ -125,8 +125,8 @@ refused words folder told none asked tells good quiet status (inr (options, is, 
 mesh_answer : (words : List (List ℕ)) (folder : FolderSeen) (out : SinkSeen) → HasNoFault folder out → ((status : Status) → OutputsOfRun tetgen_limits words folder (Err status) → status ≡ NoMemory)
     → (status : Status) → IsMeshAnswer tetgen_limits words folder out status → (status ≡ Done) ⊎ (status ≡ NoMemory)
 mesh_answer words folder out quiet none Done u = inl refl
-mesh_answer words folder out quiet none (WriteFault None) u = absurd (quiet.1 u.2)
-mesh_answer words folder out quiet none (WriteFault (Some name)) u = absurd (quiet.0 u.2)
+mesh_answer words folder out quiet none (WriteFault None) u = absurd (quiet.2 u.2)
+mesh_answer words folder out quiet none (WriteFault (Some name)) u = absurd (quiet.1 u.2)
 mesh_answer words folder out quiet none NoMemory u = inr refl
 mesh_answer words folder out quiet none status u = inr (none status u)
 

@@ -9,7 +9,7 @@ use Rattle.node_files.specs.Limits.{tetgen_limits}
 use Rattle.run_steps.specs.Codes.{status_of_fault}
 use Rattle.run_steps.specs.Meshing.{BoundAnswer, MeshOf, MeshAnswer, MeshedAnswer, OutputsAnswer, OutputsOfRun, IsUnmeshed, mesh_options}
 use Rattle.run_steps.specs.Reading.{IsUsage, InputAnswer}
-use Rattle.run_steps.specs.Seen.{FolderSeen, SinkSeen}
+use Rattle.tet_ports.specs.Seen.{FolderSeen, SinkSeen}
 use Rattle.run_steps.specs.Steps.{AndThen}
 use Rattle.run_steps.specs.declared.input.Input.{Input}
 use Rattle.run_steps.specs.declared.mesh.Bound.{Bound}
@@ -54,8 +54,8 @@ refused words folder status v (inr h) = input (subst (λ (options : Options). An
 
 ended : (words : List (List ℕ)) (folder : FolderSeen) (out : SinkSeen) (status : Status) → IsValidRun words folder → HasNoFault folder out → IsMeshAnswer tetgen_limits words folder out status → (status ≡ Done) ⊎ (status ≡ NoMemory)
 ended words folder out Done v n h = inl refl
-ended words folder out (WriteFault None) v n h = absurd (n.1 h.2)
-ended words folder out (WriteFault (Some name)) v n h = absurd (n.0 h.2)
+ended words folder out (WriteFault None) v n h = absurd (n.2 h.2)
+ended words folder out (WriteFault (Some name)) v n h = absurd (n.1 h.2)
 ended words folder out NoMemory v n h = inr refl
 ended words folder out status v n h = inr (refused words folder status v h)
 

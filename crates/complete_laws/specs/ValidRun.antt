@@ -6,7 +6,7 @@ use Rattle.complex_mesh.specs.Protection.{complex_triangles}
 use Rattle.node_files.specs.Limits.{tetgen_limits}
 use Rattle.run_steps.specs.Meshing.{BoundAnswer, mesh_options}
 use Rattle.run_steps.specs.Reading.{InputAnswer}
-use Rattle.run_steps.specs.Seen.{FolderSeen, SinkSeen}
+use Rattle.tet_ports.specs.Seen.{FolderSeen, SinkSeen}
 use Rattle.run_steps.specs.declared.input.Input.{Input}
 use Rattle.run_steps.specs.declared.mesh.Bound.{Bound}
 use Rattle.run_steps.specs.declared.status.Status.{Status}

@@ -5,7 +5,7 @@ use Rattle.command_words.specs.declared.options.Extension.TheVariants.{Stl}
 use Rattle.command_words.specs.declared.options.Options.{Options}
 use Rattle.node_files.specs.declared.limits.Limits.{Limits}
 use Rattle.run_steps.specs.Reading.{complex_file, FetchAnswer, TextAnswer, NodesAnswer, BoundedAnswer}
-use Rattle.run_steps.specs.Seen.{FolderSeen}
+use Rattle.tet_ports.specs.Seen.{FolderSeen}
 use Rattle.run_steps.specs.Steps.{AndThen, Gives}
 use Rattle.run_steps.specs.declared.input.ComplexFile.{ComplexFile}
 use Rattle.run_steps.specs.declared.input.Input.{Input}
@@ -14,7 +14,8 @@ use Rattle.run_steps.specs.declared.status.Status.{Status}
 use Rattle.run_steps.specs.declared.status.Status.TheVariants.{Missing, ReadFault, BadText, Limit, NoMemory}
 use Rattle.run_steps.proofs.Refusals.{want_has, fetch_has, text_has, nodes_have, bounded_has, input_has}
 use Rattle.run_steps.proofs.Steps.{and_then_refuses, and_then_wider}
-use Rattle.run_steps.proofs.Wider.{IsWithin, fetch_wider, bounded_wider, input_wider}
+use Rattle.tet_ports.proofs.Windows.{IsWithin}
+use Rattle.run_steps.proofs.Wider.{fetch_wider, bounded_wider, input_wider}
 use Rattle.tet_text.specs.declared.fault.TextFault.{TextFault}
 use Rattle.fit_steps.specs.Models.{stl_text_of, names_stl, StlAnswer, StlInputAnswer, ModelBy, ModelAnswer}
 

@@ -7,7 +7,7 @@ use Rattle.command_words.specs.declared.options.Options.{Options}
 use Rattle.node_files.specs.declared.limits.Limits.{Limits}
 use Rattle.plc_files.specs.Text.{Plc}
 use Rattle.run_steps.specs.Reading.{FetchAnswer, TextAnswer, NodesAnswer, BoundedAnswer, InputAnswer, complex_file, plc_text_of}
-use Rattle.run_steps.specs.Seen.{FolderSeen}
+use Rattle.tet_ports.specs.Seen.{FolderSeen}
 use Rattle.run_steps.specs.Steps.{AndThen, Gives}
 use Rattle.run_steps.specs.declared.input.ComplexFile.{ComplexFile}
 use Rattle.run_steps.specs.declared.input.Input.{Input}

@@ -4,7 +4,7 @@ ghost use Rattle.std.specs.Prelude.{◌≡◌, ◌≤◌, ◌<◌, ◌-◌, ◌^
 ghost use Rattle.node_files.specs.Limits.{AreIndexable};
 ghost use Rattle.plc_files.specs.Checks.{HasFewParts};
 ghost use Rattle.run_steps.specs.Reading.{complex_file, IsSound, TextAnswer};
-ghost use Rattle.run_steps.specs.Seen.{folder_seen};
+ghost use Rattle.tet_ports.specs.Seen.{IsOnlyRead, folder_seen};
 ghost use Rattle.run_steps.specs.Steps.{AndThen, Gives};
 ghost use Rattle.fit_steps.specs.Models.{is_stl, names_stl, stl_text_of};
 ghost use Rattle.fit_steps.specs.Models.{ModelAnswer, StlAnswer, StlInputAnswer};
@@ -30,11 +30,10 @@ pub fn read_model<F: Folder>(
     requires limits { AreIndexable limits }
     requires sample { IfSome options.now.sample (λ n. n ≤ 10000) }
     ensures answer { ModelAnswer limits
-        (folder_seen F.held F.faults F.misses folder.old folder.new) options.now result }
+        (folder_seen F.held F.read_faults F.write_faults F.misses folder.old folder.new) options.now result }
     ensures sound { IfOk result IsSound }
-    ensures unchanged { F.held folder.new ≡ F.held folder.old }
-    ensures faults { F.faults folder.old ≤ F.faults folder.new }
-    ensures misses { F.misses folder.old ≤ F.misses folder.new }
+    ensures only_read { IsOnlyRead
+        (folder_seen F.held F.read_faults F.write_faults F.misses folder.old folder.new) }
 {
     if names_stl(options) {
         return read_stl(alloc, limits, &options.base, folder);
@@ -64,11 +63,10 @@ fn read_stl<F: Folder>(
 ) -> Result<Input, Status>
     requires { AreIndexable limits }
     ensures answer { StlInputAnswer limits
-        (folder_seen F.held F.faults F.misses folder.old folder.new) base.now result }
+        (folder_seen F.held F.read_faults F.write_faults F.misses folder.old folder.new) base.now result }
     ensures sound { IfOk result IsSound }
-    ensures unchanged { F.held folder.new ≡ F.held folder.old }
-    ensures faults { F.faults folder.old ≤ F.faults folder.new }
-    ensures misses { F.misses folder.old ≤ F.misses folder.new }
+    ensures only_read { IsOnlyRead
+        (folder_seen F.held F.read_faults F.write_faults F.misses folder.old folder.new) }
 {
     let file = read_stl_file(alloc, limits, base, folder)?;
     with_points(alloc, limits, base, file, folder)
@@ -83,11 +81,10 @@ fn read_stl_file<F: Folder>(
 ) -> Result<ComplexFile, Status>
     requires { AreIndexable limits }
     ensures answer { StlAnswer limits
-        (folder_seen F.held F.faults F.misses folder.old folder.new) base.now result }
+        (folder_seen F.held F.read_faults F.write_faults F.misses folder.old folder.new) base.now result }
     ensures few { IfOk result (λ file. HasFewParts file.text) }
-    ensures unchanged { F.held folder.new ≡ F.held folder.old }
-    ensures faults { F.faults folder.old ≤ F.faults folder.new }
-    ensures misses { F.misses folder.old ≤ F.misses folder.new }
+    ensures only_read { IsOnlyRead
+        (folder_seen F.held F.read_faults F.write_faults F.misses folder.old folder.new) }
 {
     let name = file_name(alloc, base, Extension::Stl)?;
     let file = fetch(alloc, limits, name, folder)?;

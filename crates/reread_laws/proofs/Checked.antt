@@ -18,7 +18,7 @@ use Rattle.mesh_check.specs.declared.defect.Verdict.TheVariants.{Sound}
 use Rattle.written_laws.proofs.Soundness.{sound_of}
 use Rattle.check_steps.specs.Checking.{CheckAnswer, most_points}
 use Rattle.check_steps.specs.Reading.{IsRead, MeshAnswer, NeighborsAnswer}
-use Rattle.check_steps.specs.Steps.{FolderSeen}
+use Rattle.tet_ports.specs.Seen.{FolderSeen}
 use Rattle.check_steps.specs.declared.reading.MeshText.{MeshText}
 use Rattle.reread_laws.specs.ReadBack.{AreReadSound}
 use Rattle.reread_laws.specs.Checked.{AreThere, CheckedBackLaw}
@@ -76,7 +76,7 @@ module _ (seen : FolderSeen) (base : List ℕ) (table : NodeTable) (added : List
   pub check_of : CheckAnswer seen base None (Ok (length rows))
   check_of = go there.neigh
     where
-      go : IsRead seen.files (base ++ codes ".neigh") (neigh_text first (pairs_of rows)) ⊎ IsAbsent seen.files (base ++ codes ".neigh") seen.misses_before seen.misses_now
+      go : IsRead seen.files_before (base ++ codes ".neigh") (neigh_text first (pairs_of rows)) ⊎ IsAbsent seen.files_before (base ++ codes ".neigh") seen.misses_before seen.misses_now
           → CheckAnswer seen base None (Ok (length rows))
       go (inl read) = checked (Some is.neighbors) (neigh_text first (pairs_of rows), read, neighbors_here) is.sound
       go (inr absent) = checked None absent (subst IsSoundWith (sound_of (record { points = map (point_on (coarsest is.points.decimals)) is.points.decimals; rows = is.tetrahedra; faces = is.listed; neighbors = is.neighbors }) is.sound).neighbors is.sound)

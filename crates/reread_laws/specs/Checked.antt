@@ -12,7 +12,7 @@ use Rattle.mesh_check.specs.Defects.{IsVerdict}
 use Rattle.mesh_check.specs.declared.defect.Verdict.TheVariants.{Sound}
 use Rattle.check_steps.specs.Checking.{CheckAnswer, most_points}
 use Rattle.check_steps.specs.Reading.{IsRead}
-use Rattle.check_steps.specs.Steps.{FolderSeen}
+use Rattle.tet_ports.specs.Seen.{FolderSeen}
 use Rattle.written_laws.specs.WrittenMesh.{written_mesh}
 use Rattle.reread_laws.specs.ReadBack.{IsReadable}
 
@@ -20,11 +20,11 @@ use Rattle.reread_laws.specs.ReadBack.{IsReadable}
 -- rows, its faces, and its neighbors, or no file of neighbors
 pub record AreThere (seen : FolderSeen) (base : List ℕ) (table : NodeTable) (added : List Point) (names : List ℕ) (first : ℕ)
     (rows : List Tet) (faces : List FaceRow) : Type 0 where
-  pub node : IsRead seen.files (base ++ codes ".node") (node_text table added first)
-  pub ele : IsRead seen.files (base ++ codes ".ele") (ele_text names first rows)
-  pub face : IsRead seen.files (base ++ codes ".face") (face_text names first faces)
-  pub neigh : IsRead seen.files (base ++ codes ".neigh") (neigh_text first (pairs_of rows))
-      ⊎ IsAbsent seen.files (base ++ codes ".neigh") seen.misses_before seen.misses_now
+  pub node : IsRead seen.files_before (base ++ codes ".node") (node_text table added first)
+  pub ele : IsRead seen.files_before (base ++ codes ".ele") (ele_text names first rows)
+  pub face : IsRead seen.files_before (base ++ codes ".face") (face_text names first faces)
+  pub neigh : IsRead seen.files_before (base ++ codes ".neigh") (neigh_text first (pairs_of rows))
+      ⊎ IsAbsent seen.files_before (base ++ codes ".neigh") seen.misses_before seen.misses_now
 
 -- The check of the files of a mesh without a defect, with 1 to 120,000 points, answers that it is sound, and how many tetrahedra it has
 abbrev pub CheckedBackLaw : Type 0

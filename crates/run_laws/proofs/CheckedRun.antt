@@ -6,6 +6,7 @@ use Rattle.std.specs.FinMap as map
 use Rattle.std.proofs.lemmas.Int.{ints}
 use Rattle.sign_predicates.specs.Point.{Point}
 use Rattle.geo_laws.specs.Delaunay.{IsOn}
+use Rattle.tet_ports.specs.Seen.{FolderSeen}
 use Rattle.tet_ports.specs.Files.{Files, Holds, IsAbsent}
 use Rattle.incidence.specs.Pairs.{pairs_of}
 use Rattle.mesh_files.specs.FaceRows.{AreFaceRowsOf}
@@ -17,7 +18,6 @@ use Rattle.mesh_check.specs.Defects.{IsVerdict}
 use Rattle.mesh_check.specs.declared.defect.Verdict.TheVariants.{Sound}
 use Rattle.check_steps.specs.Checking.{CheckAnswer}
 use Rattle.check_steps.specs.Reading.{IsRead, most_bytes}
-use Rattle.check_steps.specs.Steps as check
 use Rattle.written_laws.specs.WrittenMesh.{written_mesh}
 use Rattle.written_laws.specs.Renamed.{AreNamesIn}
 use Rattle.reread_laws.specs.ReadBack.{IsReadable}
@@ -34,7 +34,7 @@ use Rattle.run_steps.specs.declared.meshed.Meshed.{Meshed}
 use Rattle.run_steps.specs.declared.outputs.Outputs.{Outputs}
 use Rattle.run_steps.specs.declared.store.NamedText.{NamedText}
 use Rattle.run_steps.specs.declared.status.Status.TheVariants.{Done}
-use Rattle.tetgen_run.specs.Run.{AnswerBy, check_seen}
+use Rattle.tetgen_run.specs.Run.{AnswerBy}
 use Rattle.run_laws.proofs.SoundRun.{sound_run}
 use Rattle.run_laws.specs.CheckedRun.{AreCheckable, CheckedRunLaw, CheckedAfterLaw}
 use Rattle.run_laws.proofs.Lengths.{ele_long, face_long}
@@ -175,16 +175,16 @@ module _ (options : Options) (mesh : Meshed) (outputs : Outputs) (are : AreOutpu
       neigh false = refl
 
   module _ (before : Files) (fresh : (options.neighbors ≡ true) ⊎ (map.get before (options.base ++ codes ".1.neigh") ≡ None))
-      (seen : check.FolderSeen) (left : seen.files ≡ with_files (Some before) (in_order outputs.texts)) where
+      (seen : FolderSeen) (left : seen.files_before ≡ with_files (Some before) (in_order outputs.texts)) where
     texts : List (Option NamedText)
     texts = outputs.texts.node ∷ outputs.texts.ele ∷ outputs.texts.face ∷ outputs.texts.edge ∷ outputs.texts.neigh ∷ []
 
     -- what a name holds in the end
-    holds : (name content : List ℕ) → all_held name texts (map.get before name) ≡ Some content → Holds seen.files name content
+    holds : (name content : List ℕ) → all_held name texts (map.get before name) ≡ Some content → Holds seen.files_before name content
     unfolding texts
     holds name content e = subst (λ o. Holds o name content) (sym (left ∙ (after before texts).is)) ((after before texts).holds name ∙ e)
 
-    absent : (name : List ℕ) → all_held name texts (map.get before name) ≡ None → IsAbsent seen.files name seen.misses_before seen.misses_now
+    absent : (name : List ℕ) → all_held name texts (map.get before name) ≡ None → IsAbsent seen.files_before name seen.misses_before seen.misses_now
     unfolding texts
     absent name e = subst (λ o. IsAbsent o name seen.misses_before seen.misses_now) (sym (left ∙ (after before texts).is)) ((after before texts).holds name ∙ e)
 
@@ -192,21 +192,21 @@ module _ (options : Options) (mesh : Meshed) (outputs : Outputs) (are : AreOutpu
     behind : (extension : List ℕ) → options.base ++ (codes ".1" ++ extension) ≡ (options.base ++ codes ".1") ++ extension
     behind extension = sym (append_assoc options.base (codes ".1") extension)
 
-    read_under : (extension content : List ℕ) → Holds seen.files (options.base ++ (codes ".1" ++ extension)) content → length content ≤ most_bytes
-        → IsRead seen.files ((options.base ++ codes ".1") ++ extension) content
-    read_under extension content h few = (subst (λ n. Holds seen.files n content) (behind extension) h, few)
+    read_under : (extension content : List ℕ) → Holds seen.files_before (options.base ++ (codes ".1" ++ extension)) content → length content ≤ most_bytes
+        → IsRead seen.files_before ((options.base ++ codes ".1") ++ extension) content
+    read_under extension content h few = (subst (λ n. Holds seen.files_before n content) (behind extension) h, few)
 
-    neighbors : IsRead seen.files ((options.base ++ codes ".1") ++ codes ".neigh") (neigh_text first (pairs_of mesh.tetrahedra)) ⊎ IsAbsent seen.files ((options.base ++ codes ".1") ++ codes ".neigh") seen.misses_before seen.misses_now
+    neighbors : IsRead seen.files_before ((options.base ++ codes ".1") ++ codes ".neigh") (neigh_text first (pairs_of mesh.tetrahedra)) ⊎ IsAbsent seen.files_before ((options.base ++ codes ".1") ++ codes ".neigh") seen.misses_before seen.misses_now
     unfolding first texts
     neighbors = go options.neighbors refl
       where
-        go : (b : Bool) → options.neighbors ≡ b → IsRead seen.files ((options.base ++ codes ".1") ++ codes ".neigh") (neigh_text (first_of options mesh) (pairs_of mesh.tetrahedra)) ⊎ IsAbsent seen.files ((options.base ++ codes ".1") ++ codes ".neigh") seen.misses_before seen.misses_now
+        go : (b : Bool) → options.neighbors ≡ b → IsRead seen.files_before ((options.base ++ codes ".1") ++ codes ".neigh") (neigh_text (first_of options mesh) (pairs_of mesh.tetrahedra)) ⊎ IsAbsent seen.files_before ((options.base ++ codes ".1") ++ codes ".neigh") seen.misses_before seen.misses_now
         go true asked =
             let is : outputs.texts.neigh ≡ Some text = are.neigh_is ∙ ap (λ (b : Bool). if not b then None else Some text) asked in
             inl (read_under (codes ".neigh") _ (holds (options.base ++ codes ".1.neigh") _ (neigh_held options.base _ _ _ _ _ under (map.get before (options.base ++ codes ".1.neigh")) text is)) (subst (λ o. IfSome o IsFewBytes) is each_few.3))
         go false unasked =
             let is : outputs.texts.neigh ≡ None = are.neigh_is ∙ ap (λ (b : Bool). if not b then None else Some text) unasked in
-            inr (subst (λ n. IsAbsent seen.files n seen.misses_before seen.misses_now) (behind (codes ".neigh"))
+            inr (subst (λ n. IsAbsent seen.files_before n seen.misses_before seen.misses_now) (behind (codes ".neigh"))
             (absent (options.base ++ codes ".1.neigh") (neigh_kept options.base _ _ _ _ _ under (map.get before (options.base ++ codes ".1.neigh")) is ∙ lacks fresh unasked)))
           where
             lacks : (options.neighbors ≡ true) ⊎ (map.get before (options.base ++ codes ".1.neigh") ≡ None) → options.neighbors ≡ false → map.get before (options.base ++ codes ".1.neigh") ≡ None
@@ -249,9 +249,8 @@ checked_run words folder outputs run plain can before fresh seen left =
 -- what the later run answers
 pub checked_after : CheckedAfterLaw
 checked_after words folder outputs run plain can before held fresh stored later after out understood asks base exact kept =
-    let seen = check_seen after in
     let left : after.files_before ≡ with_files (Some before) (in_order outputs.texts) = kept ∙ stored ∙ ap (λ files. with_files files (in_order outputs.texts)) held in
-    let one = checked_run words folder outputs run plain can before fresh seen left in
-    let based = subst (λ name. CheckAnswer seen name None (Ok (length run.mesh.tetrahedra))) (sym base) one in
-    let whole = subst (λ decimals. CheckAnswer seen (options_of later).base decimals (Ok (length run.mesh.tetrahedra))) (sym exact) based in
+    let one = checked_run words folder outputs run plain can before fresh after left in
+    let based = subst (λ name. CheckAnswer after name None (Ok (length run.mesh.tetrahedra))) (sym base) one in
+    let whole = subst (λ decimals. CheckAnswer after (options_of later).base decimals (Ok (length run.mesh.tetrahedra))) (sym exact) based in
     subst (λ b. AnswerBy tetgen_limits b later after out Done) (sym asks) (length run.mesh.tetrahedra, understood, whole)

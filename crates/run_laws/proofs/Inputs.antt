@@ -33,7 +33,7 @@ use Rattle.command_words.specs.declared.options.Extension.TheVariants.{Node, Pol
 use Rattle.command_words.specs.declared.options.Options.{Options}
 use Rattle.run_steps.specs.Meshing.{BoundAnswer, MeshAnswer, MeshOf, PointsMeshOf, grid_options, mesh_options, mesh_of_points, mesh_of_complex}
 use Rattle.run_steps.specs.Reading.{InputAnswer, InputOf, PointsAnswer, NodesAnswer, SourceAnswer, ComplexFileAnswer, FormAnswer, node_text_of, plc_text_of}
-use Rattle.run_steps.specs.Seen.{FolderSeen}
+use Rattle.tet_ports.specs.Seen.{FolderSeen}
 use Rattle.run_steps.specs.Steps.{IfMissing}
 use Rattle.run_steps.specs.declared.input.ComplexFile.{ComplexFile}
 use Rattle.run_steps.specs.declared.input.Input.{Input}

@@ -10,8 +10,7 @@ use Rattle.command_words.specs.Meaning.{options_of}
 use Rattle.command_words.specs.declared.options.Options.{Options}
 use Rattle.check_steps.specs.Checking.{CheckAnswer}
 use Rattle.check_steps.specs.Reading.{most_bytes}
-use Rattle.check_steps.specs.Steps as check
-use Rattle.run_steps.specs.Seen.{FolderSeen, SinkSeen}
+use Rattle.tet_ports.specs.Seen.{FolderSeen, SinkSeen}
 use Rattle.run_steps.specs.Stores.{in_order, with_files}
 use Rattle.run_steps.specs.declared.meshed.Meshed.{Meshed}
 use Rattle.run_steps.specs.declared.outputs.Outputs.{Outputs}
@@ -47,7 +46,7 @@ CheckedRunLaw = (words : List (List ℕ)) (folder : FolderSeen) (outputs : Outpu
     → (options_of words).weighted ≡ false → AreCheckable (options_of words) run.mesh outputs
     → (before : Files)
     → ((options_of words).neighbors ≡ true) ⊎ (map.get before ((options_of words).base ++ codes ".1.neigh") ≡ None)
-    → (seen : check.FolderSeen) → seen.files ≡ with_files (Some before) (in_order outputs.texts)
+    → (seen : FolderSeen) → seen.files_before ≡ with_files (Some before) (in_order outputs.texts)
     → CheckAnswer seen ((options_of words).base ++ codes ".1") None (Ok (length run.mesh.tetrahedra))
 
 -- So a later run on what is left, by words that ask for a check of the base of the outputs and for no rounding, has the answer Done

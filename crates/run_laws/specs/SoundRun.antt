@@ -12,7 +12,7 @@ use Rattle.run_steps.specs.Outputs.{AreOutputsOf, face_file}
 use Rattle.run_steps.specs.declared.mesh.Bound.{Bound}
 use Rattle.run_steps.specs.declared.meshed.Meshed.{Meshed}
 use Rattle.run_steps.specs.declared.outputs.Outputs.{Outputs}
-use Rattle.run_steps.specs.Seen.{FolderSeen}
+use Rattle.tet_ports.specs.Seen.{FolderSeen}
 use Rattle.tetgen_run.specs.Run.{IsMeshOfRun}
 
 -- The mesh of a run that asks for no weights, with the faces on its hull and in facets, or all faces, has no defect

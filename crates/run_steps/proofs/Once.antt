@@ -35,7 +35,7 @@ use Rattle.tet_text.specs.declared.fault.TextFault.{TextFault}
 use Rattle.run_steps.specs.Codes.{status_of_fault, status_of_weights}
 use Rattle.run_steps.specs.Meshing.{grid_options, mesh_options, IsSmall, IsBoundOn, BoundAnswer, IsFlatRefusal, PointsMeshOf, MeshOf, MeshAnswer, OutputsAnswer, MeshedAnswer, OutputsOfRun}
 use Rattle.run_steps.specs.Reading.{complex_file, points_alone, on_points, node_text_of, plc_text_of, IsUsage, WordsAnswer, FetchAnswer, IsBadText, TextAnswer, PointsAnswer, FormAnswer, ComplexFileAnswer, SourceAnswer, NodesAnswer, BoundedAnswer, InputOf, InputAnswer}
-use Rattle.run_steps.specs.Seen.{FolderSeen}
+use Rattle.tet_ports.specs.Seen.{FolderSeen}
 use Rattle.run_steps.specs.Steps.{AndThen, IfMissing, Gives, forced_answer}
 use Rattle.run_steps.specs.declared.input.ComplexFile.{ComplexFile}
 use Rattle.run_steps.specs.declared.input.Input.{Input}
@@ -76,7 +76,7 @@ data FetchCase (limits : Limits) (told : Files) (name : List ℕ) (r : Result (L
   absent : map_of.get told name ≡ None → r ≡ Err (Missing name) → FetchCase limits told name r
   long : (bytes : List ℕ) → map_of.get told name ≡ Some bytes → limits.bytes < length bytes → r ≡ Err (Limit (TooLong name limits.bytes)) → FetchCase limits told name r
 
-fetch_case : (limits : Limits) (told : Files) (seen : FolderSeen) (name : List ℕ) (r : Result (List ℕ) Status) → ¬ Rose seen.faults_before seen.faults_now → IsDecided r
+fetch_case : (limits : Limits) (told : Files) (seen : FolderSeen) (name : List ℕ) (r : Result (List ℕ) Status) → ¬ Rose seen.read_faults_before seen.read_faults_now → IsDecided r
     → FetchAnswer limits (record seen { files_before = Some told }) name r → FetchCase limits told name r
 fetch_case limits told seen name (Ok bytes) f n h = found bytes h.0 h.1 refl
 fetch_case limits told seen name (Err (Missing missing)) f n h = absent h.1 (ap (λ x. Err (Missing x)) h.0)
@@ -96,7 +96,7 @@ fetch_same limits told name r s (long b e l h) (found c f m k) = let same = ap (
 fetch_same limits told name r s (long b e l h) (absent f k) = absurd (cc)
 fetch_same limits told name r s (long b e l h) (long c f m k) = h ∙ sym k
 
-pub fetch_once : (limits : Limits) (told : Files) (seen : FolderSeen) (name : List ℕ) → seen.files_before ≡ Some told → ¬ Rose seen.faults_before seen.faults_now → IsOnce (FetchAnswer limits seen name)
+pub fetch_once : (limits : Limits) (told : Files) (seen : FolderSeen) (name : List ℕ) → seen.files_before ≡ Some told → ¬ Rose seen.read_faults_before seen.read_faults_now → IsOnce (FetchAnswer limits seen name)
 fetch_once limits told seen name e f = subst (λ files. IsOnce (FetchAnswer limits (record seen { files_before = files }) name)) (sym e)
     (λ r s n m h k. fetch_same limits told name r s (fetch_case limits told seen name r f n h) (fetch_case limits told seen name s f m k))
 
@@ -128,7 +128,7 @@ text_once {A = A} name reading (Err s) (Err t) n m h k =
 -- the files are told, and no fault rose
 pub record IsTold (told : Files) (seen : FolderSeen) : Type 0 where
   pub files : seen.files_before ≡ Some told
-  pub no_fault : ¬ Rose seen.faults_before seen.faults_now
+  pub no_fault : ¬ Rose seen.read_faults_before seen.read_faults_now
 
 points_once : (limits : Limits) (told : Files) (seen : FolderSeen) (base : List ℕ) → IsTold told seen → IsOnce (PointsAnswer limits seen base)
 points_once limits told seen base h =
@@ -367,7 +367,7 @@ meshed_same limits options input =
     and_then_same (BoundAnswer limits options input) (λ bound. AndThen (MeshAnswer options bound) (OutputsAnswer options)) (bound_once limits options input)
     (λ bound. and_then_sure (MeshAnswer options bound) (OutputsAnswer options) (mesh_of_same options bound options.piecewise) (λ mesh s h. h))
 
-pub run_same : (limits : Limits) (told : Files) (words : List (List ℕ)) (seen : FolderSeen) → seen.files_before ≡ Some told → ¬ Rose seen.faults_before seen.faults_now → IsSame (OutputsOfRun limits words seen)
+pub run_same : (limits : Limits) (told : Files) (words : List (List ℕ)) (seen : FolderSeen) → seen.files_before ≡ Some told → ¬ Rose seen.read_faults_before seen.read_faults_now → IsSame (OutputsOfRun limits words seen)
 run_same limits told words seen e f =
     and_then_same (WordsAnswer words) (λ options. AndThen (InputAnswer limits seen options) (MeshedAnswer limits options)) (words_once words)
     (λ options. and_then_same (InputAnswer limits seen options) (MeshedAnswer limits options) (input_once limits told seen options (record { files = e; no_fault = f })) (meshed_same limits options))

@@ -6,10 +6,10 @@ use Rattle.command_words.specs.declared.options.Extension.TheVariants.{Node, Pol
 use Rattle.command_words.specs.declared.options.Options.{Options}
 use Rattle.node_files.specs.declared.limits.Limits.{Limits}
 use Rattle.node_files.specs.declared.node_text.NodeText.{NodeText}
-use Rattle.tet_ports.specs.Counts.{Rose}
 use Rattle.tet_ports.specs.Files.{Files, IsAbsent}
 use Rattle.run_steps.specs.Reading.{complex_file, points_alone, node_text_of, plc_text_of, IsRead, IsTooLong, IsUnfetched, FetchAnswer, TextAnswer, PointsAnswer, FormAnswer, ComplexFileAnswer, SourceAnswer, NodesAnswer, BoundedAnswer, InputOf, InputAnswer}
-use Rattle.run_steps.specs.Seen.{FolderSeen}
+use Rattle.tet_ports.proofs.Windows.{IsWithin, absent_within, rose_within}
+use Rattle.tet_ports.specs.Seen.{FolderSeen}
 use Rattle.run_steps.specs.Steps.{AndThen, IfMissing, Gives}
 use Rattle.run_steps.specs.declared.input.ComplexFile.{ComplexFile}
 use Rattle.run_steps.specs.declared.input.Input.{Input}
@@ -18,26 +18,11 @@ use Rattle.run_steps.specs.declared.status.Status.{Status}
 use Rattle.run_steps.specs.declared.status.Status.TheVariants.{Missing, ReadFault, Limit, NoMemory}
 use Rattle.run_steps.proofs.Steps.{and_then_wider}
 
--- the part begins with the same files, not earlier, and ends not later
-pub record IsWithin (part wide : FolderSeen) : Type 0 where
-  pub files : part.files_before ≡ wide.files_before
-  pub faults_before : wide.faults_before ≤ part.faults_before
-  pub faults_now : part.faults_now ≤ wide.faults_now
-  pub misses_before : wide.misses_before ≤ part.misses_before
-  pub misses_now : part.misses_now ≤ wide.misses_now
-
-rose_wider : (a b c d : ℕ) → c ≤ a → b ≤ d → Rose a b → Rose c d
-rose_wider a b c d h k r = omega arith
-
-absent_wider : (files : Option Files) (name : List ℕ) (a b c d : ℕ) → c ≤ a → b ≤ d → IsAbsent files name a b → IsAbsent files name c d
-absent_wider None name a b c d h k r = rose_wider a b c d h k r
-absent_wider (Some told) name a b c d h k r = r
-
 module _ (limits : Limits) (part wide : FolderSeen) (w : IsWithin part wide) where
   unfetched_wider : (name : List ℕ) (s : Status) → IsUnfetched limits part name s → IsUnfetched limits wide name s
   unfetched_wider name (Missing missing) h =
-      (h.0, subst (λ files. IsAbsent files name wide.misses_before wide.misses_now) w.files (absent_wider part.files_before name part.misses_before part.misses_now wide.misses_before wide.misses_now w.misses_before w.misses_now h.1))
-  unfetched_wider name (ReadFault failed) h = (h.0, rose_wider part.faults_before part.faults_now wide.faults_before wide.faults_now w.faults_before w.faults_now h.1)
+      (h.0, absent_within part wide w name h.1)
+  unfetched_wider name (ReadFault failed) h = (h.0, rose_within part wide w h.1)
   unfetched_wider name (Limit (TooLong long most)) h = (h.0, subst (λ files. IsTooLong limits files name) w.files h.1, h.2)
   unfetched_wider name NoMemory h = tt
   unfetched_wider name s h = absurd h

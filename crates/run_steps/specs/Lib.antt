@@ -4,6 +4,5 @@ pub mod Numbering
 pub mod Messages
 pub mod Outputs
 pub mod Reading
-pub mod Seen
 pub mod Steps
 pub mod Stores

@@ -24,7 +24,7 @@ use Rattle.plc_files.specs.Text.{Plc}
 use Rattle.run_steps.specs.Codes.{status_of_fault, status_of_weights}
 use Rattle.run_steps.specs.Outputs.{AreOutputsOf}
 use Rattle.run_steps.specs.Reading.{WordsAnswer, InputAnswer}
-use Rattle.run_steps.specs.Seen.{FolderSeen}
+use Rattle.tet_ports.specs.Seen.{FolderSeen}
 use Rattle.run_steps.specs.Steps.{AndThen}
 use Rattle.run_steps.specs.declared.input.Input.{Input}
 use Rattle.run_steps.specs.declared.mesh.Bound.{Bound}

@@ -21,7 +21,7 @@ use Rattle.plc_files.specs.declared.form.Form.{Form}
 use Rattle.plc_files.specs.declared.form.Form.TheVariants as form
 use Rattle.soup_files.specs.Off.{off_of}
 use Rattle.soup_files.specs.Stl.{stl_of}
-use Rattle.run_steps.specs.Seen.{FolderSeen}
+use Rattle.tet_ports.specs.Seen.{FolderSeen}
 use Rattle.run_steps.specs.Steps.{AndThen, IfMissing, Gives}
 use Rattle.run_steps.specs.declared.input.ComplexFile.{ComplexFile}
 use Rattle.run_steps.specs.declared.input.Input.{Input}
@@ -55,7 +55,7 @@ IsTooLong limits files name = (bytes : List ℕ) × Holds files name bytes × (l
 -- why a fetch gives no bytes
 abbrev pub IsUnfetched : Limits → FolderSeen → List ℕ → Status → Type 0
 IsUnfetched limits seen name (Missing missing) = (missing ≡ name) × IsAbsent seen.files_before name seen.misses_before seen.misses_now
-IsUnfetched limits seen name (ReadFault failed) = (failed ≡ name) × Rose seen.faults_before seen.faults_now
+IsUnfetched limits seen name (ReadFault failed) = (failed ≡ name) × Rose seen.read_faults_before seen.read_faults_now
 IsUnfetched limits seen name (Limit (TooLong long most)) = (long ≡ name) × IsTooLong limits seen.files_before name × (most ≡ limits.bytes)
 IsUnfetched limits seen name NoMemory = Unit {0}
 IsUnfetched limits seen name status = ⊥

@@ -65,9 +65,9 @@ pub fn store_all<F: Folder>(texts: Vec<NamedText>, folder: &mut F) -> Result<(),
     ensures stored { OnOk result (F.held folder.new ≡ with_files (F.held folder.old) texts.items) }
     ensures stopped { IfErr result (AreLeft (F.held folder.old) texts.items (F.held folder.new)) }
     ensures failed { IfErr result (λ stop. IfFailed stop
-        (Rose (F.faults folder.old) (F.faults folder.new))) }
-    ensures faults { F.faults folder.old ≤ F.faults folder.new }
-    ensures misses { F.misses folder.old ≤ F.misses folder.new }
+        (Rose (F.write_faults folder.old) (F.write_faults folder.new))) }
+    ensures unread { F.read_faults folder.new ≡ F.read_faults folder.old }
+    ensures misses { F.misses folder.new ≡ F.misses folder.old }
 {
     for text in texts {
         match folder.store(&text.name, &text.content) {

@@ -45,3 +45,11 @@ module _ {F : Type 0} (held : F → Option Files) (read_faults write_faults miss
   -- so are the last
   pub last_within : (s a e : F) → IsOnlyRead (seen s a) → IsWithin (seen a e) (seen s e)
   last_within s a e h = record { files = h.0; faults_before = h.2; faults_now = omega arith; misses_before = h.3; misses_now = omega arith }
+
+  -- between a folder and itself nothing was stored
+  pub only_read_refl : (s : F) → IsOnlyRead (seen s s)
+  only_read_refl s = (refl, refl, omega arith, omega arith)
+
+  -- two spans in which files were fetched alone are one such span
+  pub only_read_trans : (s m e : F) → IsOnlyRead (seen s m) → IsOnlyRead (seen m e) → IsOnlyRead (seen s e)
+  only_read_trans s m e h k = (k.0 ∙ h.0, k.1 ∙ h.1, omega (arith, h.2, k.2), omega (arith, h.3, k.3))

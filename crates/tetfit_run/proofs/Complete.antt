@@ -13,7 +13,7 @@ use Rattle.fit_words.specs.declared.request.Request.TheVariants.{Page, Version, 
 use Rattle.run_steps.proofs.Once.{IsTold, bounded_once, fetch_once, input_once, meshed_same, nodes_once, text_once}
 use Rattle.run_steps.proofs.Steps.{IsDecided, IsOnce, IsSame, and_then_once, and_then_same, gives_once, status_of}
 use Rattle.run_steps.specs.Reading.{BoundedAnswer, FetchAnswer, NodesAnswer, TextAnswer, complex_file}
-use Rattle.run_steps.specs.Seen.{FolderSeen, SinkSeen}
+use Rattle.tet_ports.specs.Seen.{FolderSeen, SinkSeen}
 use Rattle.run_steps.specs.Steps.{AndThen, Gives, forced_answer}
 use Rattle.run_steps.specs.declared.input.Input.{Input}
 use Rattle.run_steps.specs.declared.outputs.Outputs.{Outputs}

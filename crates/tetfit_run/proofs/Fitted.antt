@@ -17,8 +17,8 @@ use Rattle.fit_words.specs.Words.{fit_fault, others, request_of}
 use Rattle.fit_words.specs.declared.request.Request.{Request}
 use Rattle.fit_words.specs.declared.request.Request.TheVariants.{Page, Version, Mesh}
 use Rattle.run_steps.proofs.Steps.{and_then_refuses, and_then_wider}
-use Rattle.run_steps.proofs.Wider.{IsWithin}
-use Rattle.run_steps.specs.Seen.{FolderSeen, SinkSeen}
+use Rattle.tet_ports.proofs.Windows.{IsWithin}
+use Rattle.tet_ports.specs.Seen.{FolderSeen, SinkSeen}
 use Rattle.run_steps.specs.Stores.{in_order, TellsFailure}
 use Rattle.run_steps.specs.declared.input.Input.{Input}
 use Rattle.run_steps.specs.declared.numbering.Numbering.{Numbering}

@@ -10,7 +10,8 @@ use Rattle.tet_ports.specs.Written.{PartlyPut, with_written}
 use Rattle.run_steps.specs.declared.numbering.Numbering.{Numbering}
 use Rattle.run_steps.specs.declared.status.Status.{Status}
 use Rattle.run_steps.specs.declared.status.Status.TheVariants.{NoMemory}
-use Rattle.tetgen_run.specs.Ends.{IsPut, IsToldAs, answer_of, numbering_in}
+use Rattle.tet_ports.specs.Seen.{IsMessagePut}
+use Rattle.tetgen_run.specs.Ends.{IsToldAs, answer_of, numbering_in}
 use Rattle.tetgen_run.specs.declared.stop.Stop.{Stop}
 use Rattle.tetfit_run.specs.Run.{AreStages}
 
@@ -36,8 +37,8 @@ rose_later a b c h r = omega arith
 
 -- a sink that took the first piece whole, and then the second so
 pub put_after : (front back : List ℕ) (before mid now : Option (List ℕ)) (fb fm fn wb wm wn : ℕ) → mid ≡ with_written before front → fb ≤ fm → wb ≤ wm
-    → IsPut back (record { written_before = mid; written_now = now; faults_before = fm; faults_now = fn; wants_before = wm; wants_now = wn })
-    → IsPut (front ++ back) (record { written_before = before; written_now = now; faults_before = fb; faults_now = fn; wants_before = wb; wants_now = wn })
+    → IsMessagePut back (record { written_before = mid; written_now = now; faults_before = fm; faults_now = fn; wants_before = wm; wants_now = wn })
+    → IsMessagePut (front ++ back) (record { written_before = before; written_now = now; faults_before = fb; faults_now = fn; wants_before = wb; wants_now = wn })
 put_after front back before mid now fb fm fn wb wm wn e f w (inl h) = inl (h ∙ ap (λ s. with_written s back) e ∙ piece_append before front back)
 put_after front back before mid now fb fm fn wb wm wn e f w (inr (p, inl r)) = inr (partly_second before now front back (subst (λ s. PartlyPut s back now) e p), inl (rose_later fm fn fb f r))
 put_after front back before mid now fb fm fn wb wm wn e f w (inr (p, inr r)) = inr (partly_second before now front back (subst (λ s. PartlyPut s back now) e p), inr (rose_later wm wn wb w r))
@@ -49,14 +50,14 @@ nothing_put (Some w) = ap Some (append-nil w)
 -- a sink that refused the first piece
 pub put_front : {T : Type 0} (front back : List ℕ) (before now : Option (List ℕ)) (fb fn wb wn : ℕ) (fault : PutFault) (r : Result T PutFault) → r ≡ Err fault
     → (r ≡ Err Failed → Rose fb fn) → (r ≡ Err Failed → PartlyPut before front now) → (r ≡ Err PutNoMemory → Rose wb wn) → (r ≡ Err PutNoMemory → now ≡ before)
-    → IsPut (front ++ back) (record { written_before = before; written_now = now; faults_before = fb; faults_now = fn; wants_before = wb; wants_now = wn })
+    → IsMessagePut (front ++ back) (record { written_before = before; written_now = now; faults_before = fb; faults_now = fn; wants_before = wb; wants_now = wn })
 put_front front back before now fb fn wb wn Failed r e failed partly wanting kept = inr (partly_first before now front back (partly e), inl (failed e))
 put_front front back before now fb fn wb wn PutNoMemory r e failed partly wanting kept = inr ((0, kept e ∙ sym (nothing_put before)), inr (wanting e))
 
 -- the sink as it was earlier
 put_earlier : (message : List ℕ) (before now : Option (List ℕ)) (fb fm fn wb wm wn : ℕ) → fb ≤ fm → wb ≤ wm
-    → IsPut message (record { written_before = before; written_now = now; faults_before = fm; faults_now = fn; wants_before = wm; wants_now = wn })
-    → IsPut message (record { written_before = before; written_now = now; faults_before = fb; faults_now = fn; wants_before = wb; wants_now = wn })
+    → IsMessagePut message (record { written_before = before; written_now = now; faults_before = fm; faults_now = fn; wants_before = wm; wants_now = wn })
+    → IsMessagePut message (record { written_before = before; written_now = now; faults_before = fb; faults_now = fn; wants_before = wb; wants_now = wn })
 put_earlier message before now fb fm fn wb wm wn f w (inl h) = inl h
 put_earlier message before now fb fm fn wb wm wn f w (inr (p, inl r)) = inr (p, inl (rose_later fm fn fb f r))
 put_earlier message before now fb fm fn wb wm wn f w (inr (p, inr r)) = inr (p, inr (rose_later wm wn wb w r))

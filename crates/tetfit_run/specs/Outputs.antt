@@ -12,7 +12,7 @@ use Rattle.fit_words.specs.declared.page.TheConstants.{PAGE, VERSION}
 use Rattle.fit_words.specs.declared.request.Request.{Request}
 use Rattle.fit_words.specs.declared.request.Request.TheVariants.{Page, Version, Mesh}
 use Rattle.node_files.specs.declared.limits.Limits.{Limits}
-use Rattle.run_steps.specs.Seen.{FolderSeen}
+use Rattle.tet_ports.specs.Seen.{FolderSeen}
 use Rattle.run_steps.specs.Steps.{AndThen}
 use Rattle.run_steps.specs.declared.input.Input.{Input}
 use Rattle.run_steps.specs.declared.outputs.Outputs.{Outputs}

@@ -1,12 +1,13 @@
 //! The lines that each refusal is told in.
 
 ghost use Rattle.std.specs.Prelude.{◌≡◌, ◌++◌, IfOk, OnOk, drop};
-ghost use Rattle.run_steps.specs.Seen.{sink_seen};
+ghost use Rattle.tet_ports.specs.Seen.{IsMessagePut, sink_seen};
 ghost use Rattle.fit_words.specs.Words.{others};
-ghost use Rattle.tetgen_run.specs.Ends.{IsPut, IsTellable, IsToldAs};
+ghost use Rattle.tetgen_run.specs.Ends.{IsTellable, IsToldAs};
 ghost use Rattle.tetfit_run.specs.Messages.{fit_message, has_hint, help_of, help_of_limit, hint_in};
 ghost use Rattle.tetfit_run.specs.Messages.{line_of, renamed_program};
 
+use check_steps::put_message;
 use fit_words::{other_words, refused_line};
 use run_steps::{LimitKind, Numbering, Status, message};
 use std::alloc::Global;
@@ -145,21 +146,14 @@ fn fit_message(
     Ok(line)
 }
 
-/// Puts a message; a failure there changes nothing.
-fn put<E: Sink>(line: &[u8], err: &mut E)
-    ensures { IsPut line.now (sink_seen E.written E.faults E.wants err.old err.new) }
-{
-    let _ = err.put(line);
-}
-
 /// Puts the line of the program for exact texts with this program's name, where there may be no
 /// memory for it; a failure changes nothing.
 fn put_renamed<E: Sink>(line: &[u8], err: &mut E)
-    ensures { IsPut (renamed_program line.now)
+    ensures { IsMessagePut (renamed_program line.now)
         (sink_seen E.written E.faults E.wants err.old err.new) }
 {
     match err.put(NAME) {
-        Ok(()) => put(behind_name(line), err),
+        Ok(()) => put_message(behind_name(line), err),
         Err(_) => {}
     }
 }
@@ -181,11 +175,11 @@ pub(crate) fn tell<E: Sink>(
         Stop::Refused { status, numbering } => {
             match fit_message(alloc, words, hint, &numbering, &status) {
                 Ok(line) => {
-                    put(line.as_slice(), err);
+                    put_message(line.as_slice(), err);
                     status
                 }
                 Err(_) => {
-                    put(OUT_OF_MEMORY, err);
+                    put_message(OUT_OF_MEMORY, err);
                     Status::NoMemory
                 }
             }
@@ -197,11 +191,11 @@ pub(crate) fn tell<E: Sink>(
             }
         }
         Stop::Unsummed => {
-            put(SUMMARY_FAILED, err);
+            put_message(SUMMARY_FAILED, err);
             Status::WriteFault { name: None }
         }
         Stop::NoMemory => {
-            put(OUT_OF_MEMORY, err);
+            put_message(OUT_OF_MEMORY, err);
             Status::NoMemory
         }
     }

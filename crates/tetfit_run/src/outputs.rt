@@ -5,7 +5,7 @@ ghost use Rattle.command_words.specs.Meaning.{AreInRange};
 ghost use Rattle.fit_steps.specs.Trying.{IsFitted};
 ghost use Rattle.fit_words.specs.Words.{IsPlainRequest, others, request_of};
 ghost use Rattle.run_steps.specs.Reading.{IsSound};
-ghost use Rattle.run_steps.specs.Seen.{folder_seen};
+ghost use Rattle.tet_ports.specs.Seen.{IsOnlyRead, folder_seen};
 ghost use Rattle.tetgen_run.specs.Ends.{StopsSo};
 ghost use Rattle.tetfit_run.specs.Outputs.{IsFittedTo, MadeBy, OutputsOfFit, OutputsOfModel};
 ghost use Rattle.tetfit_run.specs.Outputs.{IsMore, OutputsOfOptions, Says, fit_limits, outputs_at};
@@ -151,15 +151,14 @@ fn outputs_of_options<F: Folder>(
     requires plain { IsPlainRequest options.now }
     requires none { hint.old ≡ [] }
     ensures made { IfOk result (λ outputs. OutputsOfOptions options.now
-        (folder_seen F.held F.faults F.misses folder.old folder.new) (Ok outputs)) }
+        (folder_seen F.held F.read_faults F.write_faults F.misses folder.old folder.new) (Ok outputs)) }
     ensures stopped { IfErr result (StopsSo
         (OutputsOfOptions options.now
-        (folder_seen F.held F.faults F.misses folder.old folder.new))
+        (folder_seen F.held F.read_faults F.write_faults F.misses folder.old folder.new))
         (IsKnownOf options.now
-        (folder_seen F.held F.faults F.misses folder.old folder.new) hint.new)) }
-    ensures unchanged { F.held folder.new ≡ F.held folder.old }
-    ensures faults { F.faults folder.old ≤ F.faults folder.new }
-    ensures misses { F.misses folder.old ≤ F.misses folder.new }
+        (folder_seen F.held F.read_faults F.write_faults F.misses folder.old folder.new) hint.new)) }
+    ensures only_read { IsOnlyRead
+        (folder_seen F.held F.read_faults F.write_faults F.misses folder.old folder.new) }
 {
     let input = read_model(alloc, fit_limits(), options, folder)?;
     fitted_outputs(alloc, options, &input, hint)
@@ -174,15 +173,14 @@ fn outputs_of_words<F: Folder>(
 ) -> Result<Outputs, Stop>
     requires { hint.old ≡ [] }
     ensures made { IfOk result (λ outputs. OutputsOfModel words.now
-        (folder_seen F.held F.faults F.misses folder.old folder.new) (Ok outputs)) }
+        (folder_seen F.held F.read_faults F.write_faults F.misses folder.old folder.new) (Ok outputs)) }
     ensures stopped { IfErr result (StopsSo
         (OutputsOfModel words.now
-        (folder_seen F.held F.faults F.misses folder.old folder.new))
+        (folder_seen F.held F.read_faults F.write_faults F.misses folder.old folder.new))
         (IsKnown words.now
-        (folder_seen F.held F.faults F.misses folder.old folder.new) hint.new)) }
-    ensures unchanged { F.held folder.new ≡ F.held folder.old }
-    ensures faults { F.faults folder.old ≤ F.faults folder.new }
-    ensures misses { F.misses folder.old ≤ F.misses folder.new }
+        (folder_seen F.held F.read_faults F.write_faults F.misses folder.old folder.new) hint.new)) }
+    ensures only_read { IsOnlyRead
+        (folder_seen F.held F.read_faults F.write_faults F.misses folder.old folder.new) }
 {
     let options = read_options(alloc, words)?;
     outputs_of_options(alloc, &options, folder, hint)
@@ -197,15 +195,14 @@ fn outputs_of_model<F: Folder>(
 ) -> Result<Outputs, Stop>
     requires { hint.old ≡ [] }
     ensures made { IfOk result (λ outputs. OutputsOfModel (others words.now)
-        (folder_seen F.held F.faults F.misses folder.old folder.new) (Ok outputs)) }
+        (folder_seen F.held F.read_faults F.write_faults F.misses folder.old folder.new) (Ok outputs)) }
     ensures stopped { IfErr result (StopsSo
         (OutputsOfModel (others words.now)
-        (folder_seen F.held F.faults F.misses folder.old folder.new))
+        (folder_seen F.held F.read_faults F.write_faults F.misses folder.old folder.new))
         (IsKnown (others words.now)
-        (folder_seen F.held F.faults F.misses folder.old folder.new) hint.new)) }
-    ensures unchanged { F.held folder.new ≡ F.held folder.old }
-    ensures faults { F.faults folder.old ≤ F.faults folder.new }
-    ensures misses { F.misses folder.old ≤ F.misses folder.new }
+        (folder_seen F.held F.read_faults F.write_faults F.misses folder.old folder.new) hint.new)) }
+    ensures only_read { IsOnlyRead
+        (folder_seen F.held F.read_faults F.write_faults F.misses folder.old folder.new) }
 {
     let plain = other_words(alloc, words)?;
     outputs_of_words(alloc, &plain, folder, hint)
@@ -220,14 +217,13 @@ pub(crate) fn outputs_of<F: Folder>(
 ) -> Result<Outputs, Stop>
     requires { hint.old ≡ [] }
     ensures made { IfOk result (λ outputs. OutputsOfFit words.now
-        (folder_seen F.held F.faults F.misses folder.old folder.new) (Ok outputs)) }
+        (folder_seen F.held F.read_faults F.write_faults F.misses folder.old folder.new) (Ok outputs)) }
     ensures stopped { IfErr result (StopsSo
-        (OutputsOfFit words.now (folder_seen F.held F.faults F.misses folder.old folder.new))
+        (OutputsOfFit words.now (folder_seen F.held F.read_faults F.write_faults F.misses folder.old folder.new))
         (IsKnown (others words.now)
-        (folder_seen F.held F.faults F.misses folder.old folder.new) hint.new)) }
-    ensures unchanged { F.held folder.new ≡ F.held folder.old }
-    ensures faults { F.faults folder.old ≤ F.faults folder.new }
-    ensures misses { F.misses folder.old ≤ F.misses folder.new }
+        (folder_seen F.held F.read_faults F.write_faults F.misses folder.old folder.new) hint.new)) }
+    ensures only_read { IsOnlyRead
+        (folder_seen F.held F.read_faults F.write_faults F.misses folder.old folder.new) }
 {
     match request_of(words) {
         Request::Page => Ok(said(alloc, PAGE)?),

@@ -2,7 +2,7 @@
 
 ghost use Rattle.std.specs.Prelude.{◌≡◌, ◌≤◌, []};
 ghost use Rattle.fit_words.specs.Words.{others};
-ghost use Rattle.run_steps.specs.Seen.{folder_seen, sink_seen};
+ghost use Rattle.tet_ports.specs.Seen.{folder_seen, sink_seen};
 ghost use Rattle.tetgen_run.specs.Ends.{EndsWith};
 ghost use Rattle.tetfit_run.specs.Outputs.{OutputsOfFit};
 ghost use Rattle.tetfit_run.specs.Run.{AreStages, IsFitAnswer, IsFitComplete, IsKnown, IsFitLeft, IsFitTold};
@@ -29,16 +29,16 @@ pub fn run_fit<F: Folder, O: Sink, E: Sink>(
     err: &mut E,
 ) -> Status
     ensures answer { IsFitAnswer words.now
-        (folder_seen F.held F.faults F.misses folder.old folder.new)
+        (folder_seen F.held F.read_faults F.write_faults F.misses folder.old folder.new)
         (sink_seen O.written O.faults O.wants out.old out.new) result }
     ensures complete { IsFitComplete words.now
-        (folder_seen F.held F.faults F.misses folder.old folder.new)
+        (folder_seen F.held F.read_faults F.write_faults F.misses folder.old folder.new)
         (sink_seen O.written O.faults O.wants out.old out.new) result }
     ensures left { IsFitLeft words.now
-        (folder_seen F.held F.faults F.misses folder.old folder.new)
+        (folder_seen F.held F.read_faults F.write_faults F.misses folder.old folder.new)
         (sink_seen O.written O.faults O.wants out.old out.new) result }
     ensures told { IsFitTold words.now
-        (folder_seen F.held F.faults F.misses folder.old folder.new)
+        (folder_seen F.held F.read_faults F.write_faults F.misses folder.old folder.new)
         (sink_seen E.written E.faults E.wants err.old err.new) result }
 {
     let mut hint = Bytes::new(alloc);
@@ -59,10 +59,10 @@ fn run<F: Folder, O: Sink, E: Sink>(
 ) -> Result<(), Stop>
     requires { hint.old ≡ [] }
     ensures ends { EndsWith
-        (OutputsOfFit words.now (folder_seen F.held F.faults F.misses folder.old folder.new))
+        (OutputsOfFit words.now (folder_seen F.held F.read_faults F.write_faults F.misses folder.old folder.new))
         (IsKnown (others words.now)
-        (folder_seen F.held F.faults F.misses folder.old folder.new) hint.new)
-        (folder_seen F.held F.faults F.misses folder.old folder.new)
+        (folder_seen F.held F.read_faults F.write_faults F.misses folder.old folder.new) hint.new)
+        (folder_seen F.held F.read_faults F.write_faults F.misses folder.old folder.new)
         (sink_seen O.written O.faults O.wants out.old out.new) result }
     ensures stages { AreStages words.now (E.written err.old) (E.written err.new) }
     ensures faults { E.faults err.old ≤ E.faults err.new }

@@ -10,14 +10,14 @@ use Rattle.command_words.specs.Meaning.{options_of}
 use Rattle.command_words.specs.declared.options.Options.{Options}
 use Rattle.node_files.specs.declared.limits.Limits.{Limits}
 use Rattle.run_steps.specs.Messages.{message_of}
-use Rattle.run_steps.specs.Seen.{FolderSeen, SinkSeen}
+use Rattle.tet_ports.specs.Seen.{IsMessagePut, FolderSeen, SinkSeen}
 use Rattle.run_steps.specs.declared.numbering.Numbering.{Numbering}
 use Rattle.run_steps.specs.declared.status.Status.{Status}
 use Rattle.run_steps.specs.declared.status.Status.TheVariants.{Done, Usage, NoMemory, WriteFault}
 use Rattle.tet_ports.specs.Counts.{Rose}
 use Rattle.tet_ports.specs.Files.{Files}
-use Rattle.tetgen_run.specs.Ends.{HasNoFault, IsEarly, IsPut, IsSummed, IsTellable, IsUnchanged, answer_of, numbering_in, with_summary}
-use Rattle.tetgen_run.specs.Run.{Checked, IsCheckAnswer, IsLeftByCheck, IsNumbering, IsToldWithin, check_seen, sound_summary, status_of_check}
+use Rattle.tetgen_run.specs.Ends.{HasNoFault, IsEarly, IsSummed, IsTellable, IsUnchanged, answer_of, numbering_in, with_summary}
+use Rattle.tetgen_run.specs.Run.{Checked, IsCheckAnswer, IsLeftByCheck, IsNumbering, IsToldWithin, sound_summary, status_of_check}
 use Rattle.tetgen_run.specs.Steps.{ChecksSo, EndsByCheck}
 use Rattle.tetgen_run.specs.Stops.{stop_of_check}
 use Rattle.tetgen_run.specs.declared.stop.Stop.{Stop}
@@ -151,7 +151,7 @@ data Cause (words : List (List ℕ)) (folder : FolderSeen) (s : Status) : Type 0
 cause_of : (words : List (List ℕ)) (folder : FolderSeen) (out : SinkSeen) (s : Status) → HasNoFault folder out → s ≢ NoMemory → IsCheckAnswer words folder out s → Cause words folder s
 cause_of words folder out Done f n h = checked (Ok h.0) h.1 h.2 tt refl
 cause_of words folder out (Usage word place) f n h = misunderstood (word, place) h refl
-cause_of words folder out (WriteFault None) f n h = absurd (f.1 h.3)
+cause_of words folder out (WriteFault None) f n h = absurd (f.2 h.3)
 cause_of words folder out (WriteFault (Some name)) f n h = absurd h
 cause_of words folder out NoMemory f n h = absurd (n refl)
 cause_of words folder out s f n h = checked (Err h.0) h.1 h.2 (λ e. n (sym h.3 ∙ ap status_of_check e)) (sym h.3)
@@ -159,7 +159,7 @@ cause_of words folder out s f n h = checked (Err h.0) h.1 h.2 (λ e. n (sym h.3 
 some_same : {A : Type 0} (a b : A) → Some a ≡ Some b → a ≡ b
 some_same a b e = cc
 
-causes_same : (words : List (List ℕ)) (folder : FolderSeen) (told : Files) → folder.files_before ≡ Some told → ¬ Rose folder.faults_before folder.faults_now → (one two : Status)
+causes_same : (words : List (List ℕ)) (folder : FolderSeen) (told : Files) → folder.files_before ≡ Some told → ¬ Rose folder.read_faults_before folder.read_faults_now → (one two : Status)
     → Cause words folder one → Cause words folder two → one ≡ two
 causes_same words folder told e f one two (misunderstood a w s) (misunderstood b v t) =
     s ∙ ap (λ (at : ℕ × ℕ). Usage at.0 at.1) (some_same a b (sym w ∙ v)) ∙ sym t
@@ -167,7 +167,7 @@ causes_same words folder told e f one two (misunderstood a w s) (checked q v c d
 causes_same words folder told e f one two (checked p w c d s) (misunderstood a v t) = absurd (cc)
 causes_same words folder told e f one two (checked p w c d s) (checked q v k m t) =
     let o = options_of words in
-    s ∙ ap status_of (check_once told (check_seen folder) o.base o.decimals (record { files = e; no_fault = f }) p q d m c k) ∙ sym t
+    s ∙ ap status_of (check_once told folder o.base o.decimals (record { files = e; no_fault = f }) p q d m c k) ∙ sym t
 
 -- where no fault rose, it has one answer beside want of memory
 pub check_same : (words : List (List ℕ)) (folder : FolderSeen) (out : SinkSeen) (told : Files) → folder.files_before ≡ Some told → HasNoFault folder out → (one two : Status)
@@ -205,7 +205,7 @@ early_check words folder out Wanting h e = absurd e
 -- ---- what is told
 
 pub check_told : (limits : Limits) (words : List (List ℕ)) (folder : FolderSeen) (out err : SinkSeen) (stop : Stop) → EndsByCheck words folder out (Err stop)
-    → IsPut (message_of (numbering_in stop) (answer_of (Err stop))) err → IsToldWithin limits words folder err (answer_of (Err stop))
+    → IsMessagePut (message_of (numbering_in stop) (answer_of (Err stop))) err → IsToldWithin limits words folder err (answer_of (Err stop))
 check_told limits words folder out err (Refused s by) h p =
     refusal_told message_of (IsNumbering limits words folder) err s by (not_done s (refused_refuses words folder out s by h)) (λ t. absurd (not_true (subst IsTrue (refused_silent words folder out s by h) t))) p
 check_told limits words folder out err (Unwritten text) h p = absurd h.1

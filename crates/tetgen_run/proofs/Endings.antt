@@ -4,7 +4,7 @@ use Rattle.std.specs.Prelude.{◌≢◌, IsTrue, All, Contains}
 use Rattle.std.proofs.lemmas.List.Elements.{All-contains}
 use Rattle.std.proofs.lemmas.List.{append-nil}
 use Rattle.tet_ports.specs.Counts.{Rose}
-use Rattle.run_steps.specs.Seen.{FolderSeen, SinkSeen}
+use Rattle.tet_ports.specs.Seen.{IsMessagePut, FolderSeen, SinkSeen}
 use Rattle.run_steps.specs.Stores.{in_order, with_files, AreLeft, IfFailed, TellsFailure}
 use Rattle.run_steps.specs.declared.numbering.Numbering.{Numbering}
 use Rattle.run_steps.specs.declared.outputs.Outputs.{Outputs}
@@ -15,7 +15,7 @@ use Rattle.run_steps.specs.declared.store.StoreStop.{StoreStop}
 use Rattle.run_steps.specs.declared.store.StoreStop.TheVariants.{Failed, NoMemory as StoreWanting}
 use Rattle.run_steps.specs.Steps.{forced_answer}
 use Rattle.run_steps.proofs.Steps.{IsDecided, IsSame, status_of}
-use Rattle.tetgen_run.specs.Ends.{AnswersBy, EndsWith, FinishesSo, HasNoFault, IsEarly, IsPut, IsSummed, IsTellable, IsToldAs, IsUnchanged, LeavesBy, TellsBy, answer_of, names_points, numbering_in}
+use Rattle.tetgen_run.specs.Ends.{AnswersBy, EndsWith, FinishesSo, HasNoFault, IsEarly, IsSummed, IsTellable, IsToldAs, IsUnchanged, LeavesBy, TellsBy, answer_of, names_points, numbering_in}
 use Rattle.tetgen_run.specs.Stops.{stop_of_store}
 use Rattle.tetgen_run.specs.declared.stop.Stop.{Stop}
 use Rattle.tetgen_run.specs.declared.stop.Stop.TheVariants.{Refused, Unwritten, Unsummed, NoMemory as Wanting}
@@ -54,8 +54,8 @@ record Outcome (Made : Result Outputs Status → Type 0) (s : Status) : Type 0 w
 
 outcome_of : (Made : Result Outputs Status → Type 0) (folder : FolderSeen) (out : SinkSeen) (s : Status) → HasNoFault folder out → s ≢ NoMemory → AnswersBy Made folder out s → Outcome Made s
 outcome_of Made folder out Done f n h = record { result = Ok h.0; ran = h.1; decided = tt; is = refl }
-outcome_of Made folder out (WriteFault None) f n h = absurd (f.1 h.2)
-outcome_of Made folder out (WriteFault (Some name)) f n h = absurd (f.0 h.2)
+outcome_of Made folder out (WriteFault None) f n h = absurd (f.2 h.2)
+outcome_of Made folder out (WriteFault (Some name)) f n h = absurd (f.1 h.2)
 outcome_of Made folder out NoMemory f n h = absurd (n refl)
 outcome_of Made folder out s f n h = record { result = Err s; ran = h; decided = n; is = refl }
 
@@ -106,7 +106,7 @@ stop_leaves message Made Numbered P refuses has folder out err stop s h (inl t) 
 stop_leaves message Made Numbered P refuses has folder out err stop s h (inr t) = subst (LeavesBy P folder out) (sym t.0) (early_leaves Made Numbered P folder out stop h t.1)
 
 pub end_tells : (message : Option Numbering → Status → List ℕ) (Made : Result Outputs Status → Type 0) (Numbered : Status → Option Numbering → Type 0) → Refuses Made → NumbersPoints Numbered → (folder : FolderSeen) (out err : SinkSeen) (stop : Stop)
-    → EndsWith Made Numbered folder out (Err stop) → IsPut (message (numbering_in stop) (answer_of (Err stop))) err
+    → EndsWith Made Numbered folder out (Err stop) → IsMessagePut (message (numbering_in stop) (answer_of (Err stop))) err
     → TellsBy message Numbered err (answer_of (Err stop))
 end_tells message Made Numbered refuses silent folder out err (Refused status by) h p = refusal_told message Numbered err status by (not_done status (refuses status h.1)) h.2 p
 end_tells message Made Numbered refuses silent folder out err (Unwritten text) h p = (None, silent (WriteFault (Some text.name)) None refl, p)
@@ -136,7 +136,7 @@ failed_wider StoreWanting earlier before now h r = tt
 
 -- where a store is refused
 pub store_finishes : (outputs : Outputs) (folder : FolderSeen) (out : SinkSeen) (stop : StoreStop) → AreLeft folder.files_before (in_order outputs.texts) folder.files_now stop
-    → IfFailed stop (Rose folder.faults_before folder.faults_now) → out.written_now ≡ out.written_before → FinishesSo outputs folder out (Err (stop_of_store stop))
+    → IfFailed stop (Rose folder.write_faults_before folder.write_faults_now) → out.written_now ≡ out.written_before → FinishesSo outputs folder out (Err (stop_of_store stop))
 store_finishes outputs folder out (Failed text) left rose w = (left.0, w, rose, left.1)
 store_finishes outputs folder out StoreWanting left rose w = (w, left)
 
@@ -151,8 +151,8 @@ summed_finishes outputs folder out (Err (Unwritten text)) f s = absurd s
 
 -- the end of the stores is that of the run, where they began with the files as they were
 pub finish_ends : (Made : Result Outputs Status → Type 0) (Numbered : Status → Option Numbering → Type 0) (outputs : Outputs) (part folder : FolderSeen) (out : SinkSeen) (result : Result (Unit {0}) Stop)
-    → Made (Ok outputs) → All TellsFailure (in_order outputs.texts) → part.files_before ≡ folder.files_before → part.files_now ≡ folder.files_now → folder.faults_before ≤ part.faults_before
-    → part.faults_now ≡ folder.faults_now → FinishesSo outputs part out result → EndsWith Made Numbered folder out result
+    → Made (Ok outputs) → All TellsFailure (in_order outputs.texts) → part.files_before ≡ folder.files_before → part.files_now ≡ folder.files_now → folder.write_faults_before ≤ part.write_faults_before
+    → part.write_faults_now ≡ folder.write_faults_now → FinishesSo outputs part out result → EndsWith Made Numbered folder out result
 finish_ends Made Numbered outputs part folder out (Ok done) ran told b n e f h = (outputs, ran, rw (sym b, sym n) h.0, h.1)
 finish_ends Made Numbered outputs part folder out (Err Unsummed) ran told b n e f h = (outputs, ran, rw (sym b, sym n) h.0, h.1, h.2)
 finish_ends Made Numbered outputs part folder out (Err Wanting) ran told b n e f h = (h.0, inr (outputs, ran, rw (sym b, sym n) h.1))

@@ -1,11 +1,11 @@
 -- What a refusal is, and what is told of it.
 use Rattle.std.proofs.Common.{◌≡◌, ℕ, true, false, List, Option, refl}
 use Rattle.std.specs.Prelude.{◌≢◌, IsTrue}
-use Rattle.run_steps.specs.Seen.{SinkSeen}
+use Rattle.tet_ports.specs.Seen.{IsMessagePut, SinkSeen}
 use Rattle.run_steps.specs.declared.numbering.Numbering.{Numbering}
 use Rattle.run_steps.specs.declared.status.Status.{Status}
 use Rattle.run_steps.specs.declared.status.Status.TheVariants.{Done, WriteFault}
-use Rattle.tetgen_run.specs.Ends.{IsPut, TellsBy, names_points}
+use Rattle.tetgen_run.specs.Ends.{TellsBy, names_points}
 
 pub not_true : IsTrue false → ⊥
 not_true t = cc
@@ -21,7 +21,7 @@ abbrev pub IsSilent : Status → Type 0
 IsSilent s = names_points s ≡ false
 
 pub refusal_told : (message : Option Numbering → Status → List ℕ) (Numbered : Status → Option Numbering → Type 0) (err : SinkSeen) (s : Status) (by : Option Numbering) → s ≢ Done → Numbered s by
-    → IsPut (message by s) err → TellsBy message Numbered err s
+    → IsMessagePut (message by s) err → TellsBy message Numbered err s
 refusal_told message Numbered err Done by n h p = absurd (n refl)
 refusal_told message Numbered err s by n h p = (by, h, p)
 

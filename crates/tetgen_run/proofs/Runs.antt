@@ -32,9 +32,9 @@ use Rattle.run_steps.specs.Meshing.{OutputsOfRun, BoundAnswer, IsUnbound, Points
 use Rattle.run_steps.specs.Outputs.{named, AreOutputsOf}
 use Rattle.run_steps.specs.Reading.{complex_file, points_alone, on_points, WordsAnswer, FetchAnswer, TextAnswer, PointsAnswer, FormAnswer, ComplexFileAnswer, SourceAnswer, NodesAnswer, BoundedAnswer, InputOf, InputAnswer, IsUsage, IsUnfetched, IsBadText, node_text_of, plc_text_of}
 use Rattle.tetgen_run.specs.Run.{asks_check, AnswerBy, IsMeshAnswer, IsAnswerWithin, IsCompleteWithin, LeftBy, IsLeftByMesh, IsLeftWithin, asks_regular, IsRegularMesh, IsMeshBy, IsMeshOfRunWithin, IsToldWithin, IsNumbering}
-use Rattle.tetgen_run.specs.Ends.{HasNoFault, IsUnchanged, IsPut, IsToldAs, IsEarly, IsTellable, FinishesSo, answer_of, numbering_in}
+use Rattle.tetgen_run.specs.Ends.{HasNoFault, IsUnchanged, IsToldAs, IsEarly, IsTellable, FinishesSo, answer_of, numbering_in}
 use Rattle.tetgen_run.specs.Steps.{ChecksSo, EndsByMesh, EndsBy, EndsSo}
-use Rattle.run_steps.specs.Seen.{FolderSeen, SinkSeen}
+use Rattle.tet_ports.specs.Seen.{IsMessagePut, FolderSeen, SinkSeen}
 use Rattle.tetgen_run.specs.Stops.{stop_of_words}
 use Rattle.run_steps.specs.Stores.{given, in_order, with_files, AreLeft, IfFailed, TellsFailure}
 use Rattle.command_words.specs.declared.fault.WordsFault.{WordsFault}
@@ -268,16 +268,16 @@ stop_left limits words folder out err stop s h (inl t) = subst (IsLeftWithin lim
 stop_left limits words folder out err stop s h (inr t) = subst (IsLeftWithin limits words folder out) (sym t.0) (early_left limits words folder out stop h t.1)
 
 mesh_told : (limits : Limits) (words : List (List ℕ)) (folder : FolderSeen) (out err : SinkSeen) (stop : Stop) → EndsByMesh limits words folder out (Err stop)
-    → IsPut (message_of (numbering_in stop) (answer_of (Err stop))) err → IsToldWithin limits words folder err (answer_of (Err stop))
+    → IsMessagePut (message_of (numbering_in stop) (answer_of (Err stop))) err → IsToldWithin limits words folder err (answer_of (Err stop))
 mesh_told limits words folder = end_tells message_of (OutputsOfRun limits words folder) (IsNumbering limits words folder) (run_refuses limits words folder) (numbers_points limits words folder) folder
 
 first_told_by : (limits : Limits) (b : Bool) (words : List (List ℕ)) (folder : FolderSeen) (out err : SinkSeen) (stop : Stop) → EndsBy limits b words folder out (Err stop)
-    → IsPut (message_of (numbering_in stop) (answer_of (Err stop))) err → IsToldWithin limits words folder err (answer_of (Err stop))
+    → IsMessagePut (message_of (numbering_in stop) (answer_of (Err stop))) err → IsToldWithin limits words folder err (answer_of (Err stop))
 first_told_by limits false = mesh_told limits
 first_told_by limits true = check_told limits
 
 first_told : (limits : Limits) (words : List (List ℕ)) (folder : FolderSeen) (out err : SinkSeen) (stop : Stop) → EndsSo limits words folder out (Err stop)
-    → IsPut (message_of (numbering_in stop) (answer_of (Err stop))) err → IsToldWithin limits words folder err (answer_of (Err stop))
+    → IsMessagePut (message_of (numbering_in stop) (answer_of (Err stop))) err → IsToldWithin limits words folder err (answer_of (Err stop))
 first_told limits words = first_told_by limits (asks_check words) words
 
 pub stop_told : (limits : Limits) (words : List (List ℕ)) (folder : FolderSeen) (out err : SinkSeen) (stop : Stop) (s : Status) → EndsSo limits words folder out (Err stop) → IsToldAs message_of stop err s → IsToldWithin limits words folder err s
@@ -385,8 +385,8 @@ run_told limits words folder outputs h = let m = h.2.2 in outputs_told h.0 m.2.0
 
 -- the end of the stores and of the summary is that of the run
 pub finish_end : (limits : Limits) (words : List (List ℕ)) (part folder : FolderSeen) (out : SinkSeen) (options : Options) (outputs : Outputs) (result : Result (Unit {0}) Stop) → WordsAnswer words (Ok options)
-    → options.check ≡ false → OutputsOfRun limits words folder (Ok outputs) → part.files_before ≡ folder.files_before → part.files_now ≡ folder.files_now → folder.faults_before ≤ part.faults_before
-    → part.faults_now ≡ folder.faults_now → FinishesSo outputs part out result → EndsSo limits words folder out result
+    → options.check ≡ false → OutputsOfRun limits words folder (Ok outputs) → part.files_before ≡ folder.files_before → part.files_now ≡ folder.files_now → folder.write_faults_before ≤ part.write_faults_before
+    → part.write_faults_now ≡ folder.write_faults_now → FinishesSo outputs part out result → EndsSo limits words folder out result
 finish_end limits words part folder out options outputs result w n ran b now e f h =
     by_mesh limits words folder out options result w n
     (finish_ends (OutputsOfRun limits words folder) (IsNumbering limits words folder) outputs part folder out result ran (run_told limits words folder outputs ran) b now e f h)

@@ -3,7 +3,7 @@ use Rattle.std.specs.Prelude.{◌≡◌, ◌⊎◌, ℕ, Bool, true, false, IsTr
 use Rattle.tet_ports.specs.Counts.{Rose}
 use Rattle.tet_ports.specs.Written.{PartlyPut, with_written}
 use Rattle.run_steps.specs.declared.numbering.Numbering.{Numbering}
-use Rattle.run_steps.specs.Seen.{FolderSeen, SinkSeen}
+use Rattle.tet_ports.specs.Seen.{IsMessagePut, FolderSeen, SinkSeen}
 use Rattle.run_steps.specs.Stores.{in_order, with_files, AreStoredTo, AreStoredInto, TellsFailure}
 use Rattle.run_steps.specs.declared.outputs.Outputs.{Outputs}
 use Rattle.run_steps.specs.declared.status.Status.{Status}
@@ -26,13 +26,15 @@ answer_of (Err Wanting) = NoMemory
 abbrev pub AnswersBy : (Result Outputs Status → Type 0) → FolderSeen → SinkSeen → Status → Type 0
 AnswersBy Made folder out Done = (outputs : Outputs) × Made (Ok outputs)
 AnswersBy Made folder out (WriteFault None) = (outputs : Outputs) × Made (Ok outputs) × Rose out.faults_before out.faults_now
-AnswersBy Made folder out (WriteFault (Some name)) = (outputs : Outputs) × Made (Ok outputs) × Rose folder.faults_before folder.faults_now
+AnswersBy Made folder out (WriteFault (Some name)) = (outputs : Outputs) × Made (Ok outputs)
+    × Rose folder.write_faults_before folder.write_faults_now
 AnswersBy Made folder out NoMemory = Unit {0}
 AnswersBy Made folder out status = Made (Err status)
 
--- no count of faults rose
+-- no fetch, no store and no put failed
 abbrev pub HasNoFault : FolderSeen → SinkSeen → Type 0
-HasNoFault folder out = ¬ Rose folder.faults_before folder.faults_now × ¬ Rose out.faults_before out.faults_now
+HasNoFault folder out = ¬ Rose folder.read_faults_before folder.read_faults_now × ¬ Rose folder.write_faults_before folder.write_faults_now
+    × ¬ Rose out.faults_before out.faults_now
 
 -- ---- what is left
 
@@ -80,16 +82,10 @@ names_points (BudgetEnd made piece) = true
 names_points (NoFill anomaly) = true
 names_points status = false
 
--- the message is appended, or a prefix of it where the sink failed or wanted memory
-abbrev pub IsPut : List ℕ → SinkSeen → Type 0
-IsPut message err =
-    (err.written_now ≡ with_written err.written_before message)
-    ⊎ (PartlyPut err.written_before message err.written_now × (Rose err.faults_before err.faults_now ⊎ Rose err.wants_before err.wants_now))
-
 -- Done tells nothing. Every other answer has its message, by such a numbering
 abbrev pub TellsBy : (Option Numbering → Status → List ℕ) → (Status → Option Numbering → Type 0) → SinkSeen → Status → Type 0
 TellsBy message Numbered err Done = err.written_now ≡ err.written_before
-TellsBy message Numbered err status = (by : Option Numbering) × Numbered status by × IsPut (message by status) err
+TellsBy message Numbered err status = (by : Option Numbering) × Numbered status by × IsMessagePut (message by status) err
 
 -- ---- the end before the message
 
@@ -100,7 +96,7 @@ FinishesSo outputs folder out (Ok done) = (folder.files_now ≡ with_files folde
 FinishesSo outputs folder out (Err (Refused status by)) = ⊥
 FinishesSo outputs folder out (Err (Unwritten text)) =
     AreStoredInto folder.files_before (in_order outputs.texts) text.name folder.files_now × (out.written_now ≡ out.written_before)
-    × Rose folder.faults_before folder.faults_now × Contains (in_order outputs.texts) text
+    × Rose folder.write_faults_before folder.write_faults_now × Contains (in_order outputs.texts) text
 FinishesSo outputs folder out (Err Unsummed) = (folder.files_now ≡ with_files folder.files_before (in_order outputs.texts))
     × PartlySummed out.written_before outputs.summary out.written_now
     × Rose out.faults_before out.faults_now
@@ -122,7 +118,7 @@ EndsWith Made Numbered folder out (Ok done) = (outputs : Outputs) × Made (Ok ou
 EndsWith Made Numbered folder out (Err (Refused status by)) = IsUnchanged folder out × Made (Err status) × Numbered status by
 EndsWith Made Numbered folder out (Err (Unwritten text)) = (outputs : Outputs) × Made (Ok outputs)
     × AreStoredInto folder.files_before (in_order outputs.texts) text.name folder.files_now × (out.written_now ≡ out.written_before)
-    × Rose folder.faults_before folder.faults_now × TellsFailure text
+    × Rose folder.write_faults_before folder.write_faults_now × TellsFailure text
 EndsWith Made Numbered folder out (Err Unsummed) = (outputs : Outputs) × Made (Ok outputs)
     × (folder.files_now ≡ with_files folder.files_before (in_order outputs.texts))
     × PartlySummed out.written_before outputs.summary out.written_now
@@ -156,5 +152,5 @@ IsEarly stop = ⊥
 -- the answer after a stop, and its message; or want of memory, where an early stop found none for that message
 abbrev pub IsToldAs : (Option Numbering → Status → List ℕ) → Stop → SinkSeen → Status → Type 0
 IsToldAs message stop err status =
-    ((status ≡ answer_of (Err stop)) × IsPut (message (numbering_in stop) (answer_of (Err stop))) err)
-    ⊎ ((status ≡ NoMemory) × IsEarly stop × IsPut (message None NoMemory) err)
+    ((status ≡ answer_of (Err stop)) × IsMessagePut (message (numbering_in stop) (answer_of (Err stop))) err)
+    ⊎ ((status ≡ NoMemory) × IsEarly stop × IsMessagePut (message None NoMemory) err)

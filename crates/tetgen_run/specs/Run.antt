@@ -1,7 +1,6 @@
 -- What a run of the program answers, stores and tells.
 use Rattle.std.specs.Prelude.{◌≡◌, ◌≢◌, ℕ, ◌+◌, ◌<◌, ◌^◌, ℤ, Bool, true, false, ◌&&◌, not, IsTrue, List, All, length, Option, Some, None, Result, Ok, Err, if◌then◌else◌}
 use Rattle.check_steps.specs.Checking.{CheckAnswer}
-use Rattle.check_steps.specs.Steps as check
 use Rattle.check_steps.specs.Telling.{sound_line}
 use Rattle.check_steps.specs.declared.fault.CheckFault.{CheckFault}
 use Rattle.command_words.specs.Grammar.{words_fault}
@@ -30,7 +29,7 @@ use Rattle.run_steps.specs.declared.numbering.Numbering.{Numbering}
 use Rattle.run_steps.specs.Meshing.{BoundAnswer, MeshAnswer, OutputsOfRun}
 use Rattle.run_steps.specs.Outputs.{AreOutputsOf, first_of}
 use Rattle.run_steps.specs.Reading.{InputAnswer}
-use Rattle.run_steps.specs.Seen.{FolderSeen, SinkSeen}
+use Rattle.tet_ports.specs.Seen.{FolderSeen, SinkSeen}
 use Rattle.run_steps.specs.Steps.{forced_answer}
 use Rattle.run_steps.specs.declared.input.Input.{Input}
 use Rattle.run_steps.specs.declared.mesh.Bound.{Bound}
@@ -43,19 +42,9 @@ use Rattle.tetgen_run.specs.Stops.{stop_of_check}
 
 -- ---- the check of a mesh
 
--- what a folder shows of itself to a check
-abbrev pub check_seen : FolderSeen → check.FolderSeen
-check_seen folder = record {
-  files = folder.files_before;
-  faults_before = folder.faults_before;
-  faults_now = folder.faults_now;
-  misses_before = folder.misses_before;
-  misses_now = folder.misses_now;
-}
-
 -- the check of the files that the options name: how many tetrahedra the mesh has, where it is sound, or the first refusal
 abbrev pub Checked : Options → FolderSeen → Result ℕ CheckFault → Type 0
-Checked options folder = CheckAnswer (check_seen folder) options.base options.decimals
+Checked options folder = CheckAnswer folder options.base options.decimals
 
 -- the line on a sound mesh, if it is asked for
 abbrev pub sound_summary : Options → ℕ → Option (List ℕ)
@@ -96,7 +85,7 @@ AnswerBy limits true = IsCheckAnswer
 abbrev pub IsAnswerWithin : Limits → List (List ℕ) → FolderSeen → SinkSeen → Status → Type 0
 IsAnswerWithin limits words = AnswerBy limits (asks_check words) words
 
--- Where the files are told, no count of faults rose and memory was not wanting, each answer that has a cause is the answer: the refusal of
+-- Where the files are told, nothing failed in the folder and the sink and memory was not wanting, each answer that has a cause is the answer: the refusal of
 -- the first step that refuses, and Done where none does. Only where facets are tangled there may be more: Done, and the anomalies that hold
 abbrev pub IsCompleteWithin : Limits → List (List ℕ) → FolderSeen → SinkSeen → Status → Type 0
 IsCompleteWithin limits words folder out status =

@@ -7,7 +7,7 @@ use Rattle.command_words.specs.declared.options.Options.{Options}
 use Rattle.node_files.specs.declared.limits.Limits.{Limits}
 use Rattle.tet_ports.specs.Counts.{Rose}
 use Rattle.run_steps.specs.Meshing.{OutputsOfRun}
-use Rattle.run_steps.specs.Seen.{FolderSeen, SinkSeen}
+use Rattle.tet_ports.specs.Seen.{FolderSeen, SinkSeen}
 use Rattle.run_steps.specs.declared.status.Status.TheVariants.{Usage}
 use Rattle.tetgen_run.specs.Ends.{EndsWith, IsUnchanged, PartlySummed, with_summary}
 use Rattle.tetgen_run.specs.Run.{Checked, IsNumbering, asks_check, sound_summary}

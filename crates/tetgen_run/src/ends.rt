@@ -2,10 +2,11 @@
 
 ghost use Rattle.std.specs.Prelude.{◌≡◌, ◌≤◌, ◌⊎◌, IsErrOf, Err};
 ghost use Rattle.run_steps.specs.Messages.{message_of};
-ghost use Rattle.run_steps.specs.Seen.{folder_seen, sink_seen};
-ghost use Rattle.tetgen_run.specs.Ends.{FinishesSo, IsPut, IsSummed, IsTellable, IsToldAs};
+ghost use Rattle.tet_ports.specs.Seen.{IsMessagePut, folder_seen, sink_seen};
+ghost use Rattle.tetgen_run.specs.Ends.{FinishesSo, IsSummed, IsTellable, IsToldAs};
 
 use crate::stop::Stop;
+use check_steps::put_message;
 use run_steps::{OUT_OF_MEMORY, Outputs, SUMMARY_FAILED, Status, message, store_all};
 use std::alloc::Global;
 use tet_ports::{Bytes, Folder, PutFault, Sink};
@@ -18,10 +19,10 @@ pub fn finish<F: Folder, O: Sink>(
     out: &mut O,
 ) -> Result<(), Stop>
     ensures finish { FinishesSo outputs
-        (folder_seen F.held F.faults F.misses folder.old folder.new)
+        (folder_seen F.held F.read_faults F.write_faults F.misses folder.old folder.new)
         (sink_seen O.written O.faults O.wants out.old out.new) result }
-    ensures faults { F.faults folder.old ≤ F.faults folder.new }
-    ensures misses { F.misses folder.old ≤ F.misses folder.new }
+    ensures unread { F.read_faults folder.new ≡ F.read_faults folder.old }
+    ensures misses { F.misses folder.new ≡ F.misses folder.old }
 {
     let Outputs { texts, summary } = outputs;
     store_all(texts.in_order(alloc)?, folder)?;
@@ -42,13 +43,6 @@ pub(crate) fn sum_up<O: Sink>(summary: Option<Bytes>, out: &mut O) -> Result<(),
     }
 }
 
-/// Puts a message; a failure there changes nothing.
-fn put<E: Sink>(line: &[u8], err: &mut E)
-    ensures { IsPut line.now (sink_seen E.written E.faults E.wants err.old err.new) }
-{
-    let _ = err.put(line);
-}
-
 /// Puts the message of a stop, and answers its status. Where there is no memory for the message,
 /// the answer is want of memory.
 pub(crate) fn tell<E: Sink>(alloc: Global, stop: Stop, err: &mut E) -> Status
@@ -59,26 +53,26 @@ pub(crate) fn tell<E: Sink>(alloc: Global, stop: Stop, err: &mut E) -> Status
     match stop {
         Stop::Refused { status, numbering } => match message(alloc, &numbering, &status) {
             Ok(line) => {
-                put(line.as_slice(), err);
+                put_message(line.as_slice(), err);
                 status
             }
             Err(_) => {
-                put(OUT_OF_MEMORY, err);
+                put_message(OUT_OF_MEMORY, err);
                 Status::NoMemory
             }
         },
         Stop::Unwritten(text) => {
-            put(text.message.as_slice(), err);
+            put_message(text.message.as_slice(), err);
             Status::WriteFault {
                 name: Some(text.name),
             }
         }
         Stop::Unsummed => {
-            put(SUMMARY_FAILED, err);
+            put_message(SUMMARY_FAILED, err);
             Status::WriteFault { name: None }
         }
         Stop::NoMemory => {
-            put(OUT_OF_MEMORY, err);
+            put_message(OUT_OF_MEMORY, err);
             Status::NoMemory
         }
     }

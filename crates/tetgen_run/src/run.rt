@@ -4,7 +4,7 @@ ghost use Rattle.std.specs.Prelude.{◌≡◌, ◌≤◌, ◌⊎◌, IsErrOf, Er
 ghost use Rattle.tetgen_run.specs.Run.{IsAnswer, IsAnswerWithin, IsComplete, IsCompleteWithin, IsLeft, IsLeftWithin, IsTold, IsToldWithin};
 ghost use Rattle.tetgen_run.specs.Steps.{ChecksSo, EndsSo};
 ghost use Rattle.node_files.specs.Limits.{AreIndexable};
-ghost use Rattle.run_steps.specs.Seen.{folder_seen, sink_seen};
+ghost use Rattle.tet_ports.specs.Seen.{folder_seen, sink_seen};
 
 use crate::ends::{finish, sum_up, tell};
 use crate::stop::Stop;
@@ -28,16 +28,16 @@ pub fn run_tetgen<F: Folder, O: Sink, E: Sink>(
     err: &mut E,
 ) -> Status
     ensures answer { IsAnswer words.now
-        (folder_seen F.held F.faults F.misses folder.old folder.new)
+        (folder_seen F.held F.read_faults F.write_faults F.misses folder.old folder.new)
         (sink_seen O.written O.faults O.wants out.old out.new) result }
     ensures complete { IsComplete words.now
-        (folder_seen F.held F.faults F.misses folder.old folder.new)
+        (folder_seen F.held F.read_faults F.write_faults F.misses folder.old folder.new)
         (sink_seen O.written O.faults O.wants out.old out.new) result }
     ensures left { IsLeft words.now
-        (folder_seen F.held F.faults F.misses folder.old folder.new)
+        (folder_seen F.held F.read_faults F.write_faults F.misses folder.old folder.new)
         (sink_seen O.written O.faults O.wants out.old out.new) result }
     ensures told { IsTold words.now
-        (folder_seen F.held F.faults F.misses folder.old folder.new)
+        (folder_seen F.held F.read_faults F.write_faults F.misses folder.old folder.new)
         (sink_seen E.written E.faults E.wants err.old err.new) result }
 {
     run_within(alloc, Limits::tetgen(), words, folder, out, err)
@@ -55,16 +55,16 @@ pub fn run_within<F: Folder, O: Sink, E: Sink>(
 ) -> Status
     requires { AreIndexable limits }
     ensures answer { IsAnswerWithin limits words.now
-        (folder_seen F.held F.faults F.misses folder.old folder.new)
+        (folder_seen F.held F.read_faults F.write_faults F.misses folder.old folder.new)
         (sink_seen O.written O.faults O.wants out.old out.new) result }
     ensures complete { IsCompleteWithin limits words.now
-        (folder_seen F.held F.faults F.misses folder.old folder.new)
+        (folder_seen F.held F.read_faults F.write_faults F.misses folder.old folder.new)
         (sink_seen O.written O.faults O.wants out.old out.new) result }
     ensures left { IsLeftWithin limits words.now
-        (folder_seen F.held F.faults F.misses folder.old folder.new)
+        (folder_seen F.held F.read_faults F.write_faults F.misses folder.old folder.new)
         (sink_seen O.written O.faults O.wants out.old out.new) result }
     ensures told { IsToldWithin limits words.now
-        (folder_seen F.held F.faults F.misses folder.old folder.new)
+        (folder_seen F.held F.read_faults F.write_faults F.misses folder.old folder.new)
         (sink_seen E.written E.faults E.wants err.old err.new) result }
 {
     match run(alloc, limits, words, folder, out) {
@@ -83,7 +83,7 @@ fn run<F: Folder, O: Sink>(
 ) -> Result<(), Stop>
     requires { AreIndexable limits }
     ensures { EndsSo limits words.now
-        (folder_seen F.held F.faults F.misses folder.old folder.new)
+        (folder_seen F.held F.read_faults F.write_faults F.misses folder.old folder.new)
         (sink_seen O.written O.faults O.wants out.old out.new) result }
 {
     let options = read_words(alloc, words)?;
@@ -113,7 +113,7 @@ fn check<F: Folder, O: Sink>(
     out: &mut O,
 ) -> Result<(), Stop>
     ensures { ChecksSo options.now
-        (folder_seen F.held F.faults F.misses folder.old folder.new)
+        (folder_seen F.held F.read_faults F.write_faults F.misses folder.old folder.new)
         (sink_seen O.written O.faults O.wants out.old out.new) result }
 {
     let count = check_files(alloc, &options.base, options.decimals, folder)?;

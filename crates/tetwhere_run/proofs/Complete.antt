@@ -1,14 +1,14 @@
 -- The answer that has a cause is given, where the files are told, no fault rose and memory is not wanting.
 use Rattle.std.proofs.Common.{◌≡◌, ◌≢◌, ◌∙◌, ℕ, List, Some, None, Result, Ok, Err, refl, sym, ap}
 use Rattle.tet_ports.specs.Files.{Files}
-use Rattle.check_steps.specs.Steps.{FolderSeen}
-use Rattle.check_steps.specs.Seen.{SinkSeen}
+use Rattle.tet_ports.specs.Seen.{FolderSeen}
+use Rattle.tet_ports.specs.Seen.{SinkSeen}
 use Rattle.check_steps.specs.declared.fault.CheckFault.{CheckFault}
 use Rattle.check_steps.proofs.Once.{IsDecided, IsTold}
 use Rattle.where_words.specs.Words.{bad_word}
 use Rattle.where_steps.proofs.Once.{locate_once}
 use Rattle.tetwhere_run.specs.Statuses.{status_of}
-use Rattle.tetwhere_run.specs.Run.{mesh_base_of, queries_of, FilesAnswer, HasCause, IsQueryAnswer, IsCompleteQuery, HasNoFault}
+use Rattle.tetwhere_run.specs.Run.{mesh_base_of, queries_of, FilesAnswer, HasCause, IsQueryAnswer, IsCompleteQuery, HasNoReadFault}
 use Rattle.tetwhere_run.specs.declared.status.WhereStatus.{WhereStatus}
 use Rattle.tetwhere_run.specs.declared.status.WhereStatus.TheVariants.{Done, Usage, Missing, ReadFault, BadText, Limit, Unsound, NoMemory, WriteFault}
 
@@ -49,7 +49,7 @@ cause_same told words folder s t i (answered r n h e) (answered q m k f) =
     e ∙ ap status_by (locate_once told folder (mesh_base_of words) (queries_of words) i r q n m h.1 k.1) ∙ sym f
 
 -- where no fault rose, an answer that memory was not wanting for has its cause
-caused : (words : List (List ℕ)) (folder : FolderSeen) (out : SinkSeen) (s : WhereStatus) → HasNoFault folder out → s ≢ NoMemory → IsQueryAnswer words folder out s → HasCause words folder s
+caused : (words : List (List ℕ)) (folder : FolderSeen) (out : SinkSeen) (s : WhereStatus) → HasNoReadFault folder out → s ≢ NoMemory → IsQueryAnswer words folder out s → HasCause words folder s
 caused words folder out Done f n h = (h.0, h.1)
 caused words folder out WriteFault f n h = f.1 h.3
 caused words folder out NoMemory f n h = n refl

@@ -1,7 +1,7 @@
 -- How a run ends, put together.
 use Rattle.std.proofs.Common.{◌≡◌, inl, inr, ℕ, List, Some, Result, Ok, Err, refl, sym, subst}
-use Rattle.check_steps.specs.Steps.{FolderSeen}
-use Rattle.check_steps.specs.Seen.{SinkSeen, IsMessagePut}
+use Rattle.tet_ports.specs.Seen.{FolderSeen}
+use Rattle.tet_ports.specs.Seen.{SinkSeen, IsMessagePut}
 use Rattle.check_steps.specs.declared.fault.CheckFault.{CheckFault}
 use Rattle.check_steps.specs.declared.fault.CheckFault.TheVariants as faults
 use Rattle.where_words.specs.Words.{bad_word}

@@ -6,8 +6,8 @@ use Rattle.tet_ports.specs.Files.{Files}
 use Rattle.tet_ports.specs.Written.{PartlyPut, with_written}
 use Rattle.node_files.specs.declared.node_text.NodeText.{NodeText}
 use Rattle.check_steps.specs.Reading.{FileAnswer, nodes_in_text}
-use Rattle.check_steps.specs.Steps.{FolderSeen}
-use Rattle.check_steps.specs.Seen.{SinkSeen, IsMessagePut}
+use Rattle.tet_ports.specs.Seen.{FolderSeen}
+use Rattle.tet_ports.specs.Seen.{SinkSeen, IsMessagePut}
 use Rattle.check_steps.specs.declared.fault.CheckFault.{CheckFault}
 use Rattle.where_words.specs.Words.{bad_word}
 use Rattle.where_steps.specs.Locating.{LocateAnswer}
@@ -51,15 +51,15 @@ IsQueryAnswer words folder out WriteFault = (lines : List ℕ) × FilesAnswer wo
 IsQueryAnswer words folder out NoMemory = IsAsBefore out
 IsQueryAnswer words folder out status = IsAsBefore out × HasCause words folder status
 
--- no count of faults rose
-abbrev pub HasNoFault : FolderSeen → SinkSeen → Type 0
-HasNoFault folder out = ¬ Rose folder.faults_before folder.faults_now × ¬ Rose out.faults_before out.faults_now
+-- no fetch and no put failed
+abbrev pub HasNoReadFault : FolderSeen → SinkSeen → Type 0
+HasNoReadFault folder out = ¬ Rose folder.read_faults_before folder.read_faults_now × ¬ Rose out.faults_before out.faults_now
 
--- Where the files are told, no count of faults rose and memory was not wanting, the answer that has a cause is given: the first refusal in
+-- Where the files are told, no fetch and no put failed and memory was not wanting, the answer that has a cause is given: the first refusal in
 -- order, and Done where there is none
 abbrev pub IsCompleteQuery : List (List ℕ) → FolderSeen → SinkSeen → WhereStatus → Type 0
 IsCompleteQuery words folder out status =
-    (told : Files) → folder.files ≡ Some told → HasNoFault folder out → status ≢ NoMemory
+    (told : Files) → folder.files_before ≡ Some told → HasNoReadFault folder out → status ≢ NoMemory
     → (other : WhereStatus) → HasCause words folder other → status ≡ other
 
 -- where a row is told, rows are numbered from this number on: that of the first point in the mesh's file of points

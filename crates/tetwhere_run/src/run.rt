@@ -1,8 +1,8 @@
 //! The run of the program: from its words to the lines of its queries.
 
 ghost use Rattle.std.specs.Prelude.{◌≡◌, ◌≤◌, ◌<◌, length};
-ghost use Rattle.check_steps.specs.Steps.{folder_seen};
-ghost use Rattle.check_steps.specs.Seen.{sink_seen};
+ghost use Rattle.tet_ports.specs.Seen.{folder_seen};
+ghost use Rattle.tet_ports.specs.Seen.{sink_seen};
 ghost use Rattle.tetwhere_run.specs.Run.{IsQueryAnswer, IsCompleteQuery, IsQueryTold, QueryEndsSo, IsLinesPut, IsQueryToldAs};
 
 use crate::messages::{OUT_OF_MEMORY, WRITE_FAILED, message};
@@ -26,13 +26,13 @@ pub fn run_where<F: Folder, O: Sink, E: Sink>(
     err: &mut E,
 ) -> WhereStatus
     ensures answer { IsQueryAnswer words.now
-        (folder_seen F.held F.faults F.misses folder.old folder.new)
+        (folder_seen F.held F.read_faults F.write_faults F.misses folder.old folder.new)
         (sink_seen O.written O.faults O.wants out.old out.new) result }
     ensures complete { IsCompleteQuery words.now
-        (folder_seen F.held F.faults F.misses folder.old folder.new)
+        (folder_seen F.held F.read_faults F.write_faults F.misses folder.old folder.new)
         (sink_seen O.written O.faults O.wants out.old out.new) result }
     ensures told { IsQueryTold words.now
-        (folder_seen F.held F.faults F.misses folder.old folder.new)
+        (folder_seen F.held F.read_faults F.write_faults F.misses folder.old folder.new)
         (sink_seen E.written E.faults E.wants err.old err.new) result }
     ensures unchanged { F.held folder.new ≡ F.held folder.old }
 {
@@ -50,7 +50,7 @@ fn run<F: Folder, O: Sink>(
     out: &mut O,
 ) -> Result<(), Stop>
     ensures ends { QueryEndsSo words.now
-        (folder_seen F.held F.faults F.misses folder.old folder.new)
+        (folder_seen F.held F.read_faults F.write_faults F.misses folder.old folder.new)
         (sink_seen O.written O.faults O.wants out.old out.new) result }
     ensures unchanged { F.held folder.new ≡ F.held folder.old }
 {

@@ -6,7 +6,7 @@ use Rattle.mesh_check.specs.declared.defect.Defect.TheVariants.{NotPositive}
 use Rattle.node_files.specs.declared.node_text.NodeText.{NodeText}
 use Rattle.tet_text.specs.declared.fault.TextFault.{TextFault}
 use Rattle.check_steps.specs.Reading.{FileAnswer, nodes_in_text, rows_of}
-use Rattle.check_steps.specs.Steps.{FolderSeen}
+use Rattle.tet_ports.specs.Seen.{FolderSeen}
 use Rattle.check_steps.specs.declared.fault.CheckFault.TheVariants.{Unsound}
 use Rattle.where_steps.specs.Locating.{IsNegative, TextLocated, LocateAnswer}
 use Rattle.where_steps.specs.Reading.{WhereTextAnswer}

@@ -10,7 +10,8 @@ use Rattle.mesh_check.specs.declared.defect.Defect.TheVariants.{NotPositive}
 use Rattle.node_files.specs.LeastGrid.{point_on}
 use Rattle.tet_ports.specs.Files.{Files}
 use Rattle.check_steps.specs.Reading.{FileAnswer, nodes_in_text, rows_of}
-use Rattle.check_steps.specs.Steps.{FolderSeen, Gives}
+use Rattle.tet_ports.specs.Seen.{FolderSeen}
+use Rattle.check_steps.specs.Steps.{Gives}
 use Rattle.check_steps.specs.declared.fault.CheckFault.TheVariants.{Missing, ReadFault, TooLong, BadText, TooMany, OffGrid, Unsound, NoMemory}
 use Rattle.check_steps.proofs.Once.{IsOnce, IsTold, and_then_once, file_once}
 use Rattle.where_steps.specs.Locating.{SettledAnswer, PositiveAnswer, TextLocated, LocateAnswer, answer_text}

@@ -10,7 +10,8 @@ use Rattle.mesh_check.specs.declared.defect.Defect.TheVariants.{NotPositive}
 use Rattle.node_files.specs.LeastGrid.{least_grid_of, point_on}
 use Rattle.row_cells.specs.Where.{first_holding}
 use Rattle.check_steps.specs.Checking.{IsUnsettled, most_points}
-use Rattle.check_steps.specs.Steps.{FolderSeen, AndThen, Gives}
+use Rattle.tet_ports.specs.Seen.{FolderSeen}
+use Rattle.check_steps.specs.Steps.{AndThen, Gives}
 use Rattle.check_steps.specs.declared.fault.CheckFault.{CheckFault}
 use Rattle.check_steps.specs.declared.fault.CheckFault.TheVariants.{Unsound, NoMemory}
 use Rattle.where_steps.specs.Reading.{WhereTextAnswer}

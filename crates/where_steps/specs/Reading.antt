@@ -1,7 +1,8 @@
 -- The files of a mesh and a list of queries, in the order in which they are read.
 use Rattle.std.specs.Prelude.{ℕ, ◌++◌, List, codes, Result}
 use Rattle.check_steps.specs.Reading.{FileAnswer, nodes_in_text, rows_of}
-use Rattle.check_steps.specs.Steps.{FolderSeen, AndThen, Gives}
+use Rattle.tet_ports.specs.Seen.{FolderSeen}
+use Rattle.check_steps.specs.Steps.{AndThen, Gives}
 use Rattle.check_steps.specs.declared.fault.CheckFault.{CheckFault}
 use Rattle.where_steps.specs.declared.reading.WhereText.{WhereText}
 

@@ -3,7 +3,7 @@
 ghost use Rattle.std.specs.Prelude.{◌≡◌, ◌≤◌, ◌<◌, ◌+◌, ◌-◌, ◌^◌, ◌++◌, length, All, IfOk, OnOk};
 ghost use Rattle.mesh_files.specs.ReadRows.{AreCornersBelow};
 ghost use Rattle.row_cells.specs.Parts.{ArePositiveOn, StandsFor};
-ghost use Rattle.check_steps.specs.Steps.{folder_seen};
+ghost use Rattle.tet_ports.specs.Seen.{IsOnlyRead, folder_seen};
 ghost use Rattle.where_steps.specs.Locating.{found_row_text, query_line, answer_text, AnswersAnswer, TextLocated, LocateAnswer};
 
 use crate::reading::{WhereText, read_where};
@@ -80,11 +80,10 @@ pub fn locate_files<F: Folder>(
     folder: &mut F,
 ) -> Result<Bytes, CheckFault>
     ensures answer { LocateAnswer
-        (folder_seen F.held F.faults F.misses folder.old folder.new)
+        (folder_seen F.held F.read_faults F.write_faults F.misses folder.old folder.new)
         base.now queries.now result }
-    ensures unchanged { F.held folder.new ≡ F.held folder.old }
-    ensures faults { F.faults folder.old ≤ F.faults folder.new }
-    ensures misses { F.misses folder.old ≤ F.misses folder.new }
+    ensures only_read { IsOnlyRead
+        (folder_seen F.held F.read_faults F.write_faults F.misses folder.old folder.new) }
 {
     let text = read_where(alloc, base, queries, folder)?;
     locate_text(alloc, &text)

@@ -2,7 +2,7 @@
 
 ghost use Rattle.std.specs.Prelude.{◌≡◌, ◌≤◌, ◌<◌, ◌-◌, ◌^◌, length, All, IfOk};
 ghost use Rattle.mesh_files.specs.ReadRows.{AreCornersBelow};
-ghost use Rattle.check_steps.specs.Steps.{folder_seen};
+ghost use Rattle.tet_ports.specs.Seen.{IsOnlyRead, folder_seen};
 ghost use Rattle.where_steps.specs.Reading.{WhereTextAnswer};
 
 use check_steps::{CheckFault, read_list, read_nodes, read_rows};
@@ -30,14 +30,13 @@ pub(crate) fn read_where<F: Folder>(
     folder: &mut F,
 ) -> Result<WhereText, CheckFault>
     ensures answer { WhereTextAnswer
-        (folder_seen F.held F.faults F.misses folder.old folder.new)
+        (folder_seen F.held F.read_faults F.write_faults F.misses folder.old folder.new)
         base.now queries.now result }
     ensures there { IfOk result (λ text. All (AreCornersBelow
         (length text.nodes.decimals)) text.rows) }
     ensures few { IfOk result (λ text. length text.queries.decimals < 2 ^ 32 - 1) }
-    ensures unchanged { F.held folder.new ≡ F.held folder.old }
-    ensures faults { F.faults folder.old ≤ F.faults folder.new }
-    ensures misses { F.misses folder.old ≤ F.misses folder.new }
+    ensures only_read { IsOnlyRead
+        (folder_seen F.held F.read_faults F.write_faults F.misses folder.old folder.new) }
 {
     let nodes = read_nodes(alloc, base, folder)?;
     let rows = read_rows(alloc, base, &nodes, folder)?;

@@ -12,7 +12,7 @@ use Rattle.complex_mesh.specs.declared.mesh.ComplexMesh.{ComplexMesh}
 use Rattle.run_steps.specs.Codes.{status_of_fault}
 use Rattle.run_steps.specs.Meshing.{MeshAnswer, mesh_of_complex}
 use Rattle.run_steps.specs.Reading.{InputAnswer, complex_file, plc_text_of}
-use Rattle.run_steps.specs.Seen.{FolderSeen}
+use Rattle.tet_ports.specs.Seen.{FolderSeen}
 use Rattle.worked_run.specs.Pyramid.{complex_bytes, complex_start, plain_outputs}
 use Rattle.worked_run.specs.Runs.{HasFile}
 use Rattle.worked_run.proofs.ComplexText.{complex_lines_are, complex_text, complex_text_is, eight_lines, meshable, no_corners}

@@ -24,14 +24,14 @@ use Rattle.run_steps.specs.Meshing.{BoundAnswer, MeshAnswer}
 use Rattle.run_steps.specs.Messages.{message_of}
 use Rattle.run_steps.specs.Numbering.{numbering_of}
 use Rattle.run_steps.specs.Reading.{InputAnswer, complex_file, on_points, plc_text_of}
-use Rattle.run_steps.specs.Seen.{FolderSeen}
+use Rattle.tet_ports.specs.Seen.{FolderSeen}
 use Rattle.run_steps.specs.Steps.{forced_answer}
 use Rattle.run_steps.specs.declared.input.Input.{Input}
 use Rattle.run_steps.specs.declared.mesh.Bound.{Bound}
 use Rattle.run_steps.specs.declared.status.Status.{Status}
 use Rattle.run_steps.specs.declared.status.Status.TheVariants.{NoFill, NoMemory}
 use Rattle.run_steps.proofs.Once.{bound_once, input_once}
-use Rattle.tetgen_run.specs.Ends.{IsPut}
+use Rattle.tet_ports.specs.Seen.{IsMessagePut}
 use Rattle.worked_run.specs.Nonplanar.{ChangesNothing, EndsNotFlat, IsNonplanarRefused, TellsFacet, not_flat, nonplanar_bytes, nonplanar_start}
 use Rattle.worked_run.specs.Runs.{HasFile}
 use Rattle.worked_run.proofs.Grid.{pyramid_grid}
@@ -135,7 +135,7 @@ changes folder out left = left
 
 -- ---- the message
 
-input_is : (folder : FolderSeen) → HasFile nonplanar_start folder → ¬ Rose folder.faults_before folder.faults_now → (other : Input) → InputAnswer tetgen_limits folder asking (Ok other) → other ≡ input
+input_is : (folder : FolderSeen) → HasFile nonplanar_start folder → ¬ Rose folder.read_faults_before folder.read_faults_now → (other : Input) → InputAnswer tetgen_limits folder asking (Ok other) → other ≡ input
 input_is folder has no_fault other answer =
     ok_same other input (input_once tetgen_limits has.told folder asking (record { files = has.files; no_fault = no_fault }) (Ok other) (Ok input) tt tt answer (read folder has))
 
@@ -147,4 +147,4 @@ unfolding digits
 tells folder err has no_fault told =
     let n = told.1 refl in
     let same = bound_is n.0 n.2 (input_is folder has no_fault n.0 n.1) n.3 in
-    subst (λ by. IsPut (message_of by not_flat) err) (n.4 ∙ ap (λ (b : Bound). Some (numbering_of b.table)) same) told.2
+    subst (λ by. IsMessagePut (message_of by not_flat) err) (n.4 ∙ ap (λ (b : Bound). Some (numbering_of b.table)) same) told.2

@@ -10,7 +10,7 @@ use Rattle.tet_ports.specs.Files.{Holds}
 use Rattle.tet_text.specs.Lines.{content_lines}
 use Rattle.run_steps.specs.Meshing.{BoundAnswer, IsFlatRefusal, MeshAnswer, mesh_on}
 use Rattle.run_steps.specs.Reading.{InputAnswer, node_text_of, points_alone}
-use Rattle.run_steps.specs.Seen.{FolderSeen}
+use Rattle.tet_ports.specs.Seen.{FolderSeen}
 use Rattle.run_steps.specs.declared.input.Input.{Input}
 use Rattle.run_steps.specs.declared.mesh.Bound.{Bound}
 use Rattle.run_steps.specs.declared.status.Status.{Status}

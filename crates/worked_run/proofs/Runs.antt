@@ -9,7 +9,7 @@ use Rattle.node_files.specs.Limits.{tetgen_limits}
 use Rattle.run_steps.specs.Meshing.{BoundAnswer, MeshAnswer, MeshedAnswer, OutputsAnswer, OutputsOfRun}
 use Rattle.run_steps.specs.Outputs.{AreOutputsOf}
 use Rattle.run_steps.specs.Reading.{InputAnswer, WordsAnswer}
-use Rattle.run_steps.specs.Seen.{FolderSeen, SinkSeen}
+use Rattle.tet_ports.specs.Seen.{FolderSeen, SinkSeen}
 use Rattle.run_steps.specs.Steps.{AndThen}
 use Rattle.run_steps.specs.Stores.{in_order, with_files}
 use Rattle.run_steps.specs.declared.input.Input.{Input}
@@ -49,7 +49,7 @@ module _ (start : Start) (options : Options) (input : Input) (bound : Bound) (me
   outputs_only (Ok other) n h = ap (λ o. Ok o) (outputs_same options mesh other outputs h are)
   outputs_only (Err s) n h = absurd (n h)
 
-  run_only : (folder : FolderSeen) → HasFile start folder → ¬ Rose folder.faults_before folder.faults_now → IsOnly (OutputsOfRun tetgen_limits start.words folder) outputs
+  run_only : (folder : FolderSeen) → HasFile start folder → ¬ Rose folder.read_faults_before folder.read_faults_now → IsOnly (OutputsOfRun tetgen_limits start.words folder) outputs
   run_only folder has no_fault =
       then_only (WordsAnswer start.words) (λ o. AndThen (InputAnswer tetgen_limits folder o) (MeshedAnswer tetgen_limits o)) options outputs
       (once_only (WordsAnswer start.words) options (words_once start.words) words_are)
@@ -74,13 +74,13 @@ module _ (start : Start) (options : Options) (input : Input) (bound : Bound) (me
   -- each cause of another status is excluded
   done_of : (folder : FolderSeen) (out : SinkSeen) (s : Status) → HasFile start folder → HasNoFault folder out → s ≢ NoMemory → IsMeshAnswer tetgen_limits start.words folder out s → s ≡ Done
   done_of folder out Done has no_fault n h = refl
-  done_of folder out (WriteFault None) has no_fault n h = absurd (no_fault.1 h.2)
-  done_of folder out (WriteFault (Some name)) has no_fault n h = absurd (no_fault.0 h.2)
+  done_of folder out (WriteFault None) has no_fault n h = absurd (no_fault.2 h.2)
+  done_of folder out (WriteFault (Some name)) has no_fault n h = absurd (no_fault.1 h.2)
   done_of folder out NoMemory has no_fault n h = absurd (n refl)
   done_of folder out s has no_fault n h = absurd (ok_err outputs s (run_only folder has no_fault.0 (Err s) n h))
 
   -- the outputs of the mesh of this run are these
-  outputs_of_mesh : (folder : FolderSeen) (other : Outputs) → HasFile start folder → ¬ Rose folder.faults_before folder.faults_now → IsMeshOfRun start.words folder other → other ≡ outputs
+  outputs_of_mesh : (folder : FolderSeen) (other : Outputs) → HasFile start folder → ¬ Rose folder.read_faults_before folder.read_faults_now → IsMeshOfRun start.words folder other → other ≡ outputs
   outputs_of_mesh folder other has no_fault run =
       let ran : OutputsOfRun tetgen_limits start.words folder (Ok other) = (options_of start.words, (understood, refl), (run.input, run.read, (run.bound, run.on_grid, (run.mesh, run.made, run.outputs_are)))) in
       ok_same other outputs (run_only folder has no_fault (Ok other) tt ran)

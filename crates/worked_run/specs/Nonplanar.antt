@@ -3,10 +3,10 @@ use Rattle.std.specs.Prelude.{◌≡◌, ◌≢◌, ℕ, List, [], ◌∷◌, Er
 use Rattle.tet_ports.specs.Counts.{Rose}
 use Rattle.node_files.specs.Limits.{tetgen_limits}
 use Rattle.run_steps.specs.Meshing.{OutputsOfRun}
-use Rattle.run_steps.specs.Seen.{FolderSeen, SinkSeen}
+use Rattle.tet_ports.specs.Seen.{IsMessagePut, FolderSeen, SinkSeen}
 use Rattle.run_steps.specs.declared.status.Status.{Status}
 use Rattle.run_steps.specs.declared.status.Status.TheVariants.{NoMemory, NotFlat}
-use Rattle.tetgen_run.specs.Ends.{HasNoFault, IsPut, IsUnchanged}
+use Rattle.tetgen_run.specs.Ends.{HasNoFault, IsUnchanged}
 use Rattle.tetgen_run.specs.Run.{IsComplete, IsLeft, IsTold}
 use Rattle.worked_run.specs.Runs.{HasFile, Start}
 
@@ -39,5 +39,5 @@ ChangesNothing = (folder : FolderSeen) (out : SinkSeen) → IsLeft nonplanar_sta
 
 -- and tells this line, with the numbers of the file
 abbrev pub TellsFacet : Type 0
-TellsFacet = (folder : FolderSeen) (err : SinkSeen) → HasFile nonplanar_start folder → ¬ Rose folder.faults_before folder.faults_now
-    → IsTold nonplanar_start.words folder err not_flat → IsPut (codes "tetgen: facet 1 is not flat: points 1 2 3 4\n") err
+TellsFacet = (folder : FolderSeen) (err : SinkSeen) → HasFile nonplanar_start folder → ¬ Rose folder.read_faults_before folder.read_faults_now
+    → IsTold nonplanar_start.words folder err not_flat → IsMessagePut (codes "tetgen: facet 1 is not flat: points 1 2 3 4\n") err

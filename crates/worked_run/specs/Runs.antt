@@ -5,7 +5,7 @@ use Rattle.tet_ports.specs.Counts.{Rose}
 use Rattle.tet_ports.specs.Files.{Files}
 use Rattle.node_files.specs.Limits.{tetgen_limits}
 use Rattle.run_steps.specs.Meshing.{OutputsOfRun}
-use Rattle.run_steps.specs.Seen.{FolderSeen, SinkSeen}
+use Rattle.tet_ports.specs.Seen.{FolderSeen, SinkSeen}
 use Rattle.run_steps.specs.Steps.{forced_answer}
 use Rattle.run_steps.specs.Stores.{in_order, with_files}
 use Rattle.run_steps.specs.declared.outputs.Outputs.{Outputs}
@@ -32,7 +32,7 @@ HasOutputs start outputs = (folder : FolderSeen) → HasFile start folder → Ou
 
 -- It has no others, and no refusal but want of memory, where no fault of the folder rose
 abbrev pub HasNoOthers : Start → Outputs → Type 0
-HasNoOthers start outputs = (folder : FolderSeen) → HasFile start folder → ¬ Rose folder.faults_before folder.faults_now
+HasNoOthers start outputs = (folder : FolderSeen) → HasFile start folder → ¬ Rose folder.read_faults_before folder.read_faults_now
     → (answer : Result Outputs Status) → OutputsOfRun tetgen_limits start.words folder answer
     → (answer ≡ Ok outputs) ⊎ (answer ≡ Err NoMemory)
 

@@ -1,9 +1,10 @@
 use Rattle.std.proofs.Common.{refl, Ok, arith}
 use Rattle.run_steps.specs.Reading.{SourceAnswer, NodesAnswer, BoundedAnswer}
-use Rattle.run_steps.specs.Seen.{FolderSeen, folder_seen}
+use Rattle.tet_ports.specs.Seen.{FolderSeen, folder_seen}
 use Rattle.run_steps.specs.Steps.{AndThen}
 use Rattle.run_steps.proofs.Steps.{and_then_ok}
-use Rattle.run_steps.proofs.Wider.{IsWithin, source_wider, bounded_wider}
+use Rattle.tet_ports.proofs.Windows.{IsWithin, first_within, last_within}
+use Rattle.run_steps.proofs.Wider.{source_wider, bounded_wider}
 use Rattle.run_steps.proofs.input.read_complex.Goals as goal
 
 pub returns-clause-answer : goal.returns-clause-answer
@@ -12,24 +13,12 @@ returns-clause-answer g c =
     let l = c.args.limits in
     let o = c.args.options.now in
     let file = c.in_ok-file.file in
-    let first : FolderSeen = folder_seen F.held F.faults F.misses c.args.folder.now c.read_source.new.folder in
-    let second : FolderSeen = folder_seen F.held F.faults F.misses c.read_source.new.folder c.with_points.new.folder in
-    let wide : FolderSeen = folder_seen F.held F.faults F.misses c.args.folder.now c.with_points.new.folder in
+    let first : FolderSeen = folder_seen F.held F.read_faults F.write_faults F.misses c.args.folder.now c.read_source.new.folder in
+    let second : FolderSeen = folder_seen F.held F.read_faults F.write_faults F.misses c.read_source.new.folder c.with_points.new.folder in
+    let wide : FolderSeen = folder_seen F.held F.read_faults F.write_faults F.misses c.args.folder.now c.with_points.new.folder in
     let a = c.read_source.ensures in
     let b = c.with_points.ensures in
-    let one : IsWithin first wide = record {
-      files = refl;
-      faults_before = omega arith;
-      faults_now = b.faults;
-      misses_before = omega arith;
-      misses_now = b.misses;
-    } in
-    let two : IsWithin second wide = record {
-      files = a.unchanged;
-      faults_before = a.faults;
-      faults_now = omega arith;
-      misses_before = a.misses;
-      misses_now = omega arith;
-    } in
+    let one : IsWithin first wide = first_within F.held F.read_faults F.write_faults F.misses c.args.folder.now c.read_source.new.folder c.with_points.new.folder b.only_read in
+    let two : IsWithin second wide = last_within F.held F.read_faults F.write_faults F.misses c.args.folder.now c.read_source.new.folder c.with_points.new.folder a.only_read in
     and_then_ok (SourceAnswer l wide o.base o.extension o.sample) (λ f. AndThen (NodesAnswer l wide o.base f.text.nodes) (BoundedAnswer f)) file c.with_points.result
     (source_wider l first wide one o.base o.extension o.sample (Ok file) c.in_ok-file.ensures.answer) (bounded_wider l second wide two o.base file c.with_points.result b.answer)

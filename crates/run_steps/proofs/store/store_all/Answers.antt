@@ -19,5 +19,6 @@ loop-text-preserved g c =
           ∙ ap (λ files. with_file files c.in-Some.text.name c.in-Some.text.content) c.loop-text.invariant.stored
           ∙ sym (with_files-push before c.loop-text.yielded c.in-Some.text);
       faults = omega (arith, c.store.ensures.fault_count, c.loop-text.invariant.faults);
-      misses = omega (arith, c.store.ensures.miss_count, c.loop-text.invariant.misses);
+      unread = c.store.ensures.unread ∙ c.loop-text.invariant.unread;
+      misses = c.store.ensures.miss_count ∙ c.loop-text.invariant.misses;
     }

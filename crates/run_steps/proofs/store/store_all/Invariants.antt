@@ -8,6 +8,7 @@ abbrev pub invariant-loop-text : goal.invariant-loop-text
 invariant-loop-text g l = record {
   all : l.fn.texts.items ≡ l.yielded ++ into_iter_items l.text-iterator;
   stored : g.F.Folder.held l.folder ≡ with_files (g.F.Folder.held l.fn.folder) l.yielded;
-  faults : g.F.Folder.faults l.fn.folder ≤ g.F.Folder.faults l.folder;
-  misses : g.F.Folder.misses l.fn.folder ≤ g.F.Folder.misses l.folder;
+  faults : g.F.Folder.write_faults l.fn.folder ≤ g.F.Folder.write_faults l.folder;
+  unread : g.F.Folder.read_faults l.folder ≡ g.F.Folder.read_faults l.fn.folder;
+  misses : g.F.Folder.misses l.folder ≡ g.F.Folder.misses l.fn.folder;
 }

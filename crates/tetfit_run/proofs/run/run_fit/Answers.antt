@@ -1,6 +1,6 @@
 use Rattle.std.proofs.Common.{Ok, subst}
 use Rattle.fit_words.specs.Words.{others, request_of}
-use Rattle.run_steps.specs.Seen.{FolderSeen, SinkSeen, folder_seen, sink_seen}
+use Rattle.tet_ports.specs.Seen.{FolderSeen, SinkSeen, folder_seen, sink_seen}
 use Rattle.run_steps.specs.declared.status.Status.TheVariants.{Done}
 use Rattle.tetgen_run.proofs.Endings.{end_answers, end_leaves, stop_answers, stop_leaves, stop_tells}
 use Rattle.tetgen_run.specs.Ends.{EndsWith, IsToldAs}
@@ -17,7 +17,7 @@ returns-in-Ok-clause-complete g c =
     let F = g.F.Folder in
     let O = g.O.Sink in
     let words = c.args.words.now in
-    let folder : FolderSeen = folder_seen F.held F.faults F.misses c.args.folder.now c.run.new.folder in
+    let folder : FolderSeen = folder_seen F.held F.read_faults F.write_faults F.misses c.args.folder.now c.run.new.folder in
     let out : SinkSeen = sink_seen O.written O.faults O.wants c.args.out.now c.run.new.out in
     let made = OutputsOfFit words folder in
     let hint = c.run.new.hint in
@@ -30,7 +30,7 @@ returns-in-Ok-clause-left g c =
     let F = g.F.Folder in
     let O = g.O.Sink in
     let words = c.args.words.now in
-    let folder : FolderSeen = folder_seen F.held F.faults F.misses c.args.folder.now c.run.new.folder in
+    let folder : FolderSeen = folder_seen F.held F.read_faults F.write_faults F.misses c.args.folder.now c.run.new.folder in
     let out : SinkSeen = sink_seen O.written O.faults O.wants c.args.out.now c.run.new.out in
     let made = OutputsOfFit words folder in
     let hint = c.run.new.hint in
@@ -44,7 +44,7 @@ returns-clause-answer g c =
     let O = g.O.Sink in
     let E = g.E.Sink in
     let words = c.args.words.now in
-    let folder : FolderSeen = folder_seen F.held F.faults F.misses c.args.folder.now c.run.new.folder in
+    let folder : FolderSeen = folder_seen F.held F.read_faults F.write_faults F.misses c.args.folder.now c.run.new.folder in
     let out : SinkSeen = sink_seen O.written O.faults O.wants c.args.out.now c.run.new.out in
     let made = OutputsOfFit words folder in
     let hint = c.run.new.hint in
@@ -60,7 +60,7 @@ returns-clause-complete g c =
     let O = g.O.Sink in
     let E = g.E.Sink in
     let words = c.args.words.now in
-    let folder : FolderSeen = folder_seen F.held F.faults F.misses c.args.folder.now c.run.new.folder in
+    let folder : FolderSeen = folder_seen F.held F.read_faults F.write_faults F.misses c.args.folder.now c.run.new.folder in
     let out : SinkSeen = sink_seen O.written O.faults O.wants c.args.out.now c.run.new.out in
     let made = OutputsOfFit words folder in
     let hint = c.run.new.hint in
@@ -76,7 +76,7 @@ returns-clause-left g c =
     let O = g.O.Sink in
     let E = g.E.Sink in
     let words = c.args.words.now in
-    let folder : FolderSeen = folder_seen F.held F.faults F.misses c.args.folder.now c.run.new.folder in
+    let folder : FolderSeen = folder_seen F.held F.read_faults F.write_faults F.misses c.args.folder.now c.run.new.folder in
     let out : SinkSeen = sink_seen O.written O.faults O.wants c.args.out.now c.run.new.out in
     let made = OutputsOfFit words folder in
     let hint = c.run.new.hint in
@@ -92,7 +92,7 @@ returns-clause-told g c =
     let O = g.O.Sink in
     let E = g.E.Sink in
     let words = c.args.words.now in
-    let folder : FolderSeen = folder_seen F.held F.faults F.misses c.args.folder.now c.run.new.folder in
+    let folder : FolderSeen = folder_seen F.held F.read_faults F.write_faults F.misses c.args.folder.now c.run.new.folder in
     let out : SinkSeen = sink_seen O.written O.faults O.wants c.args.out.now c.run.new.out in
     let made = OutputsOfFit words folder in
     let hint = c.run.new.hint in

@@ -1,6 +1,6 @@
 use Rattle.std.proofs.Common.{◌≡◌, [], refl, subst}
 use Rattle.std.proofs.lemmas.Result.{err_from_is_err_and}
-use Rattle.run_steps.specs.Seen.{FolderSeen, SinkSeen, folder_seen, sink_seen}
+use Rattle.tet_ports.specs.Seen.{FolderSeen, SinkSeen, folder_seen, sink_seen}
 use Rattle.run_steps.specs.Stores.{AreLeft, with_files}
 use Rattle.tetgen_run.proofs.Endings.{store_finishes, summed_finishes}
 use Rattle.tetgen_run.proofs.ends.finish.Goals as goal
@@ -9,7 +9,7 @@ pub returns-in_err-store_all-clause-finish : goal.returns-in_err-store_all-claus
 returns-in_err-store_all-clause-finish g c =
     let F = g.F.Folder in
     let O = g.O.Sink in
-    let folder : FolderSeen = folder_seen F.held F.faults F.misses c.args.folder.now c.store_all.new.folder in
+    let folder : FolderSeen = folder_seen F.held F.read_faults F.write_faults F.misses c.args.folder.now c.store_all.new.folder in
     let out : SinkSeen = sink_seen O.written O.faults O.wants c.args.out.now c.args.out.now in
     let stop = c.in_err-store_all.field-0.0 in
     let left = subst (λ texts. AreLeft (F.held c.args.folder.now) texts (F.held c.store_all.new.folder) stop) c.in_ok-in_order.ensures c.in_err-store_all.ensures.stopped in
@@ -20,7 +20,7 @@ pub returns-clause-finish : goal.returns-clause-finish
 returns-clause-finish g c =
     let F = g.F.Folder in
     let O = g.O.Sink in
-    let folder : FolderSeen = folder_seen F.held F.faults F.misses c.args.folder.now c.store_all.new.folder in
+    let folder : FolderSeen = folder_seen F.held F.read_faults F.write_faults F.misses c.args.folder.now c.store_all.new.folder in
     let out : SinkSeen = sink_seen O.written O.faults O.wants c.args.out.now c.sum_up.new.out in
     let stored = subst (λ texts. F.held c.store_all.new.folder ≡ with_files (F.held c.args.folder.now) texts) c.in_ok-in_order.ensures c.in_ok-store_all.ensures.stored in
     summed_finishes c.args.outputs folder out c.sum_up.result stored c.sum_up.ensures

@@ -1,6 +1,6 @@
 use Rattle.std.proofs.Common.{subst, Ok}
 use Rattle.tetgen_run.specs.Steps.{EndsSo}
-use Rattle.run_steps.specs.Seen.{FolderSeen, SinkSeen, folder_seen, sink_seen}
+use Rattle.tet_ports.specs.Seen.{FolderSeen, SinkSeen, folder_seen, sink_seen}
 use Rattle.tetgen_run.proofs.Runs.{end_answer, end_left, answer_complete, stop_answer, stop_left, stop_told}
 use Rattle.tetgen_run.proofs.run.run_within.Goals as goal
 
@@ -8,7 +8,7 @@ pub returns-in-Ok-clause-complete : goal.returns-in-Ok-clause-complete
 returns-in-Ok-clause-complete g c =
     let F = g.F.Folder in
     let O = g.O.Sink in
-    let folder : FolderSeen = folder_seen F.held F.faults F.misses c.args.folder.now c.run.new.folder in
+    let folder : FolderSeen = folder_seen F.held F.read_faults F.write_faults F.misses c.args.folder.now c.run.new.folder in
     let out : SinkSeen = sink_seen O.written O.faults O.wants c.args.out.now c.run.new.out in
     let ended = subst (EndsSo c.args.limits c.args.words.now folder out) c.in-Ok.is c.run.ensures in
     answer_complete c.args.limits c.args.words.now folder out _ (end_answer c.args.limits c.args.words.now folder out (Ok c.in-Ok.field-0) ended)
@@ -17,7 +17,7 @@ pub returns-in-Ok-clause-left : goal.returns-in-Ok-clause-left
 returns-in-Ok-clause-left g c =
     let F = g.F.Folder in
     let O = g.O.Sink in
-    let folder : FolderSeen = folder_seen F.held F.faults F.misses c.args.folder.now c.run.new.folder in
+    let folder : FolderSeen = folder_seen F.held F.read_faults F.write_faults F.misses c.args.folder.now c.run.new.folder in
     let out : SinkSeen = sink_seen O.written O.faults O.wants c.args.out.now c.run.new.out in
     let ended = subst (EndsSo c.args.limits c.args.words.now folder out) c.in-Ok.is c.run.ensures in
     end_left c.args.limits c.args.words.now folder out (Ok c.in-Ok.field-0) ended
@@ -27,7 +27,7 @@ returns-in-Err-clause-answer g c =
     let F = g.F.Folder in
     let O = g.O.Sink in
     let E = g.E.Sink in
-    let folder : FolderSeen = folder_seen F.held F.faults F.misses c.args.folder.now c.run.new.folder in
+    let folder : FolderSeen = folder_seen F.held F.read_faults F.write_faults F.misses c.args.folder.now c.run.new.folder in
     let out : SinkSeen = sink_seen O.written O.faults O.wants c.args.out.now c.run.new.out in
     let err : SinkSeen = sink_seen E.written E.faults E.wants c.args.err.now c.tell.new.err in
     let ended = subst (EndsSo c.args.limits c.args.words.now folder out) c.in-Err.is c.run.ensures in
@@ -38,7 +38,7 @@ returns-in-Err-clause-complete g c =
     let F = g.F.Folder in
     let O = g.O.Sink in
     let E = g.E.Sink in
-    let folder : FolderSeen = folder_seen F.held F.faults F.misses c.args.folder.now c.run.new.folder in
+    let folder : FolderSeen = folder_seen F.held F.read_faults F.write_faults F.misses c.args.folder.now c.run.new.folder in
     let out : SinkSeen = sink_seen O.written O.faults O.wants c.args.out.now c.run.new.out in
     let err : SinkSeen = sink_seen E.written E.faults E.wants c.args.err.now c.tell.new.err in
     let ended = subst (EndsSo c.args.limits c.args.words.now folder out) c.in-Err.is c.run.ensures in
@@ -49,7 +49,7 @@ returns-in-Err-clause-left g c =
     let F = g.F.Folder in
     let O = g.O.Sink in
     let E = g.E.Sink in
-    let folder : FolderSeen = folder_seen F.held F.faults F.misses c.args.folder.now c.run.new.folder in
+    let folder : FolderSeen = folder_seen F.held F.read_faults F.write_faults F.misses c.args.folder.now c.run.new.folder in
     let out : SinkSeen = sink_seen O.written O.faults O.wants c.args.out.now c.run.new.out in
     let err : SinkSeen = sink_seen E.written E.faults E.wants c.args.err.now c.tell.new.err in
     let ended = subst (EndsSo c.args.limits c.args.words.now folder out) c.in-Err.is c.run.ensures in
@@ -60,7 +60,7 @@ returns-in-Err-clause-told g c =
     let F = g.F.Folder in
     let O = g.O.Sink in
     let E = g.E.Sink in
-    let folder : FolderSeen = folder_seen F.held F.faults F.misses c.args.folder.now c.run.new.folder in
+    let folder : FolderSeen = folder_seen F.held F.read_faults F.write_faults F.misses c.args.folder.now c.run.new.folder in
     let out : SinkSeen = sink_seen O.written O.faults O.wants c.args.out.now c.run.new.out in
     let err : SinkSeen = sink_seen E.written E.faults E.wants c.args.err.now c.tell.new.err in
     let ended = subst (EndsSo c.args.limits c.args.words.now folder out) c.in-Err.is c.run.ensures in

@@ -1,6 +1,6 @@
 use Rattle.std.proofs.Common.{subst}
-use Rattle.check_steps.specs.Steps.{FolderSeen, folder_seen}
-use Rattle.check_steps.specs.Seen.{SinkSeen, sink_seen}
+use Rattle.tet_ports.specs.Seen.{FolderSeen, folder_seen}
+use Rattle.tet_ports.specs.Seen.{SinkSeen, sink_seen}
 use Rattle.tetwhere_run.specs.Run.{QueryEndsSo}
 use Rattle.tetwhere_run.specs.declared.status.WhereStatus.TheVariants.{Done}
 use Rattle.tetwhere_run.proofs.Complete.{answer_complete}
@@ -11,7 +11,7 @@ pub returns-in-Ok-clause-complete : goal.returns-in-Ok-clause-complete
 returns-in-Ok-clause-complete g c =
     let F = g.F.Folder in
     let O = g.O.Sink in
-    let folder : FolderSeen = folder_seen F.held F.faults F.misses c.args.folder.now c.run.new.folder in
+    let folder : FolderSeen = folder_seen F.held F.read_faults F.write_faults F.misses c.args.folder.now c.run.new.folder in
     let out : SinkSeen = sink_seen O.written O.faults O.wants c.args.out.now c.run.new.out in
     answer_complete c.args.words.now folder out Done (subst (QueryEndsSo c.args.words.now folder out) c.in-Ok.is c.run.ensures.ends)
 
@@ -20,7 +20,7 @@ returns-in-Err-clause-complete g c =
     let F = g.F.Folder in
     let O = g.O.Sink in
     let E = g.E.Sink in
-    let folder : FolderSeen = folder_seen F.held F.faults F.misses c.args.folder.now c.run.new.folder in
+    let folder : FolderSeen = folder_seen F.held F.read_faults F.write_faults F.misses c.args.folder.now c.run.new.folder in
     let out : SinkSeen = sink_seen O.written O.faults O.wants c.args.out.now c.run.new.out in
     let err : SinkSeen = sink_seen E.written E.faults E.wants c.args.err.now c.tell.new.err in
     let ended = subst (QueryEndsSo c.args.words.now folder out) c.in-Err.is c.run.ensures.ends in
@@ -31,7 +31,7 @@ returns-in-Err-clause-told g c =
     let F = g.F.Folder in
     let O = g.O.Sink in
     let E = g.E.Sink in
-    let folder : FolderSeen = folder_seen F.held F.faults F.misses c.args.folder.now c.run.new.folder in
+    let folder : FolderSeen = folder_seen F.held F.read_faults F.write_faults F.misses c.args.folder.now c.run.new.folder in
     let out : SinkSeen = sink_seen O.written O.faults O.wants c.args.out.now c.run.new.out in
     let err : SinkSeen = sink_seen E.written E.faults E.wants c.args.err.now c.tell.new.err in
     let ended = subst (QueryEndsSo c.args.words.now folder out) c.in-Err.is c.run.ensures.ends in
