@@ -14,11 +14,12 @@ use crate::fitting::Refused;
 use crate::places::{append_name, append_part, size_line};
 use crate::wholes::whole_of;
 use box_pairs::Part;
+use check_steps::append_number;
 use command_words::Options;
 use geo_laws::{Complex, Piece};
 use grid_coords::DecimalPoint;
 use node_files::Limits;
-use run_steps::{Input, LimitKind, Numbering, Status, append_number, bind_nodes};
+use run_steps::{Input, LimitKind, Numbering, Status, bind_nodes};
 use std::alloc::Global;
 use tet_ports::{Bytes, NoMemory};
 

@@ -11,10 +11,11 @@ ghost use Rattle.fit_steps.specs.Trying.{at_decimals};
 use crate::copies::{at_decimals, nodes_of};
 use crate::places::append_name;
 use crate::sides::open_side;
+use check_steps::append_number;
 use command_words::Options;
 use geo_laws::Piece;
 use node_files::Limits;
-use run_steps::{Bound, Input, Numbering, append_number, bind_nodes, numbering_of};
+use run_steps::{Bound, Input, Numbering, bind_nodes, numbering_of};
 use std::alloc::Global;
 use tet_ports::{Bytes, NoMemory};
 

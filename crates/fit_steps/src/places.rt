@@ -6,8 +6,9 @@ ghost use Rattle.fit_steps.specs.Hints.{at_text, corner_text, corners_text, fron
 ghost use Rattle.fit_steps.specs.Hints.{part_line, place_text, size_line, stated_text};
 
 use box_pairs::Part;
+use check_steps::append_number;
 use grid_coords::DecimalPoint;
-use run_steps::{Numbering, append_number};
+use run_steps::Numbering;
 use std::alloc::Global;
 use tet_ports::{Bytes, NoMemory};
 use tet_text::print_decimal;

@@ -1,6 +1,7 @@
 -- The line that each refusal is told in. Points are told by their numbers in the input, added ones behind them, and facets from 1.
-use Rattle.std.specs.Prelude.{ℕ, ◌+◌, List, [], ◌∷◌, ◌++◌, Option, Some, None, codes, min, max}
+use Rattle.std.specs.Prelude.{ℕ, ◌+◌, List, [], ◌++◌, Option, Some, None, codes, min, max}
 use Rattle.std.specs.Fmt.{decimal}
+use Rattle.check_steps.specs.Messages.{file_message, line, text_message, usage_message}
 use Rattle.check_steps.specs.Telling.{defect_text}
 use Rattle.box_pairs.specs.declared.complex_parts.Part.{Part}
 use Rattle.box_pairs.specs.declared.complex_parts.Part.TheVariants.{Triangle, Segment}
@@ -9,9 +10,6 @@ use Rattle.geo_laws.specs.declared.complex.Piece.{Piece}
 use Rattle.geo_laws.specs.declared.tetrahedra.Tet.{Tet}
 use Rattle.tangle_laws.specs.declared.anomaly.Anomaly.{Anomaly}
 use Rattle.tangle_laws.specs.declared.anomaly.Anomaly.TheVariants.{Bare, Doubled, Bent}
-use Rattle.tet_text.specs.declared.fault.TextFault.{TextFault}
-use Rattle.tet_text.specs.declared.fault.TextKind.{TextKind}
-use Rattle.tet_text.specs.declared.fault.TextKind.TheVariants.{Ended, NotANumber, Extra, BadCount, BadIndex}
 use Rattle.run_steps.specs.Numbering.{told_number}
 use Rattle.run_steps.specs.declared.numbering.Numbering.{Numbering}
 use Rattle.run_steps.specs.declared.status.LimitKind.{LimitKind}
@@ -20,13 +18,6 @@ use Rattle.run_steps.specs.declared.status.Status.{Status}
 use Rattle.run_steps.specs.declared.status.Status.TheVariants.{Done, Usage, Missing, ReadFault, BadText, Limit, Flat, NotFlat, SegmentsCross, Crossing, GridEnd, BudgetEnd, NoFill, NoMemory, WriteFault, Unsound}
 
 -- ---- parts of a line
-
-abbrev pub kind_text : TextKind → List ℕ
-kind_text Ended = codes "too few"
-kind_text NotANumber = codes "not a number"
-kind_text Extra = codes "too many"
-kind_text BadCount = codes "bad count"
-kind_text BadIndex = codes "bad number"
 
 -- the number of a point, behind a space
 abbrev pub point_text : Option Numbering → ℕ → List ℕ
@@ -61,50 +52,40 @@ part_text by (Segment p) = codes "segment" ++ ends_text by p
 
 -- ---- lines
 
--- a line that begins with the program's name
-abbrev pub line : List ℕ → List ℕ
-line text = codes "tetgen: " ++ text ++ (10 ∷ [])
-
--- a line on a file
-abbrev pub file_message : List ℕ → List ℕ → List ℕ
-file_message name text = line (name ++ codes ": " ++ text)
-
-abbrev pub usage_message : ℕ → ℕ → List ℕ
-usage_message word place = line (codes "word " ++ decimal word ++ codes ", place " ++ decimal place ++ codes ": not understood")
-
-abbrev pub text_message : List ℕ → TextFault → List ℕ
-text_message name fault = line (name ++ codes ": line " ++ decimal fault.line ++ codes ": " ++ kind_text fault.kind)
+-- with what each line begins
+abbrev pub tetgen_name : List ℕ
+tetgen_name = codes "tetgen: "
 
 -- how many are allowed
 abbrev pub at_most : ℕ → List ℕ
 at_most most = codes ", at most " ++ decimal most
 
 abbrev pub limit_message : LimitKind → List ℕ
-limit_message (Bytes name most) = file_message name (codes "over " ++ decimal most ++ codes " bytes")
-limit_message (Points count most) = line (decimal count ++ codes " points" ++ at_most most)
-limit_message (MeshPoints count) = line (decimal count ++ codes " points, at most 120000")
-limit_message (Facets count most) = line (decimal count ++ codes " facets" ++ at_most most)
+limit_message (Bytes name most) = file_message tetgen_name name (codes "over " ++ decimal most ++ codes " bytes")
+limit_message (Points count most) = line tetgen_name (decimal count ++ codes " points" ++ at_most most)
+limit_message (MeshPoints count) = line tetgen_name (decimal count ++ codes " points, at most 120000")
+limit_message (Facets count most) = line tetgen_name (decimal count ++ codes " facets" ++ at_most most)
 limit_message (Corners place count most) =
-    line (codes "line " ++ decimal place ++ codes ": " ++ decimal count ++ codes " corners" ++ at_most most)
-limit_message (Grid place) = line (codes "line " ++ decimal place ++ codes ": coordinate off the grid")
-limit_message (Weight place) = line (codes "line " ++ decimal place ++ codes ": weight off the grid")
+    line tetgen_name (codes "line " ++ decimal place ++ codes ": " ++ decimal count ++ codes " corners" ++ at_most most)
+limit_message (Grid place) = line tetgen_name (codes "line " ++ decimal place ++ codes ": coordinate off the grid")
+limit_message (Weight place) = line tetgen_name (codes "line " ++ decimal place ++ codes ": weight off the grid")
 
 -- the message of a refusal; a run that is done has none
 abbrev pub message_of : Option Numbering → Status → List ℕ
 message_of by Done = []
-message_of by (Usage word place) = usage_message word place
-message_of by (Missing name) = file_message name (codes "not found")
-message_of by (ReadFault name) = file_message name (codes "read failed")
-message_of by (BadText name fault) = text_message name fault
+message_of by (Usage word place) = usage_message tetgen_name word place
+message_of by (Missing name) = file_message tetgen_name name (codes "not found")
+message_of by (ReadFault name) = file_message tetgen_name name (codes "read failed")
+message_of by (BadText name fault) = text_message tetgen_name name fault
 message_of by (Limit what) = limit_message what
-message_of by (Unsound defect first) = line (defect_text first defect)
-message_of by Flat = line (codes "all points lie in one plane")
-message_of by (NotFlat facet four) = line (codes "facet " ++ facet_text facet ++ codes " is not flat: points" ++ tetrahedron_text by four)
-message_of by (SegmentsCross one two) = line (codes "segments" ++ ends_text by one ++ codes " and" ++ ends_text by two ++ codes " cross")
-message_of by (Crossing one two) = line (codes "crossing: " ++ part_text by one ++ codes " and " ++ part_text by two)
-message_of by (GridEnd piece) = line (codes "segment" ++ ends_text by piece ++ codes " needs a finer grid")
-message_of by (BudgetEnd made piece) = line (decimal made ++ codes " splits used, segment" ++ ends_text by piece ++ codes " is missing")
-message_of by (NoFill anomaly) = line (anomaly_text by anomaly)
-message_of by NoMemory = line (codes "out of memory")
-message_of by (WriteFault None) = line (codes "summary: write failed")
-message_of by (WriteFault (Some name)) = file_message name (codes "write failed")
+message_of by (Unsound defect first) = line tetgen_name (defect_text first defect)
+message_of by Flat = line tetgen_name (codes "all points lie in one plane")
+message_of by (NotFlat facet four) = line tetgen_name (codes "facet " ++ facet_text facet ++ codes " is not flat: points" ++ tetrahedron_text by four)
+message_of by (SegmentsCross one two) = line tetgen_name (codes "segments" ++ ends_text by one ++ codes " and" ++ ends_text by two ++ codes " cross")
+message_of by (Crossing one two) = line tetgen_name (codes "crossing: " ++ part_text by one ++ codes " and " ++ part_text by two)
+message_of by (GridEnd piece) = line tetgen_name (codes "segment" ++ ends_text by piece ++ codes " needs a finer grid")
+message_of by (BudgetEnd made piece) = line tetgen_name (decimal made ++ codes " splits used, segment" ++ ends_text by piece ++ codes " is missing")
+message_of by (NoFill anomaly) = line tetgen_name (anomaly_text by anomaly)
+message_of by NoMemory = line tetgen_name (codes "out of memory")
+message_of by (WriteFault None) = line tetgen_name (codes "summary: write failed")
+message_of by (WriteFault (Some name)) = file_message tetgen_name name (codes "write failed")

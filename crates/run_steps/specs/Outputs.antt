@@ -10,7 +10,8 @@ use Rattle.mesh_files.specs.FaceRows.{AreFaceRowsOf, AreTrianglesMetByFaces, Are
 use Rattle.mesh_files.specs.Texts.{ele_text_of, face_text, edge_text, neigh_text, AreNamed}
 use Rattle.mesh_files.specs.declared.markers.FaceRow.{FaceRow}
 use Rattle.node_files.specs.Writing.{node_text, IsNodeTable}
-use Rattle.run_steps.specs.Messages.{file_message}
+use Rattle.check_steps.specs.Messages.{file_message}
+use Rattle.run_steps.specs.Messages.{tetgen_name}
 use Rattle.run_steps.specs.declared.meshed.Meshed.{Meshed}
 use Rattle.run_steps.specs.declared.outputs.Outputs.{Outputs}
 use Rattle.run_steps.specs.declared.outputs.FaceOutputs.{FaceOutputs}
@@ -23,7 +24,7 @@ abbrev pub named : List ℕ → List ℕ → List ℕ → NamedText
 named base extension content = record {
   name = base ++ extension;
   content = content;
-  message = file_message (base ++ extension) (codes "write failed");
+  message = file_message tetgen_name (base ++ extension) (codes "write failed");
 }
 
 -- the number of the first row, face, side and point in what is written

@@ -1,7 +1,8 @@
 -- Texts that are stored one after the other.
 use Rattle.std.specs.Prelude.{◌≡◌, ℕ, List, [], ◌∷◌, ◌++◌, Option, Some, None, Contains, codes}
 use Rattle.tet_ports.specs.Files.{Files, PartlyStored, with_file}
-use Rattle.run_steps.specs.Messages.{file_message}
+use Rattle.check_steps.specs.Messages.{file_message}
+use Rattle.run_steps.specs.Messages.{tetgen_name}
 use Rattle.run_steps.specs.declared.store.NamedText.{NamedText}
 use Rattle.run_steps.specs.declared.store.StoreStop.{StoreStop}
 use Rattle.run_steps.specs.declared.store.StoreStop.TheVariants.{Failed, NoMemory}
@@ -40,7 +41,7 @@ pub record AreStoredInto (before : Option Files) (texts : List NamedText) (name 
 
 -- the message says that the file with this name could not be written
 abbrev pub TellsFailure : NamedText → Type 0
-TellsFailure text = text.message ≡ file_message text.name (codes "write failed")
+TellsFailure text = text.message ≡ file_message tetgen_name text.name (codes "write failed")
 
 -- what a stop leaves
 abbrev pub AreLeft : Option Files → List NamedText → Option Files → StoreStop → Type 0

@@ -14,7 +14,7 @@ mod store;
 
 pub use input::{ComplexFile, Fetched, Input, complex_of, fetch, read_input, with_points};
 pub use mesh::{Bound, bind_input, bind_nodes, mesh_outputs};
-pub use messages::{OUT_OF_MEMORY, SUMMARY_FAILED, append_number, message};
+pub use messages::{OUT_OF_MEMORY, SUMMARY_FAILED, message};
 pub use numbering::{Numbering, numbering_of};
 pub use outputs::Outputs;
 pub use status::{LimitKind, Status};

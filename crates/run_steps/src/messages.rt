@@ -2,7 +2,8 @@
 
 ghost use Rattle.std.specs.Prelude.{◌≡◌, ◌∷◌, [], ◌++◌, ◌+◌, None, IfOk, OnOk};
 ghost use Rattle.std.specs.Fmt.{decimal};
-ghost use Rattle.run_steps.specs.Messages.{line, point_text, ends_text, triangle_text, tetrahedron_text, two_tetrahedra_text, facet_text, part_text, kind_text, file_message, usage_message, text_message, at_most, limit_message, message_of};
+ghost use Rattle.check_steps.specs.Messages.{line, file_message};
+ghost use Rattle.run_steps.specs.Messages.{tetgen_name, point_text, ends_text, triangle_text, tetrahedron_text, two_tetrahedra_text, facet_text, part_text, at_most, limit_message, message_of};
 ghost use Rattle.tangle_laws.specs.declared.anomaly.Anomaly.TheVariants.{Bare};
 ghost use Rattle.run_steps.specs.declared.status.LimitKind.TheVariants.{Bytes as TooLong, MeshPoints, Corners, Grid, Weight};
 ghost use Rattle.run_steps.specs.declared.status.Status.TheVariants.{NotFlat, SegmentsCross, Crossing, GridEnd, BudgetEnd, NoFill, Unsound};
@@ -10,14 +11,17 @@ ghost use Rattle.run_steps.specs.declared.status.Status.TheVariants.{NotFlat, Se
 use crate::numbering::{Numbering, number_of};
 use crate::status::{LimitKind, Status};
 use box_pairs::Part;
-use check_steps::defect_text;
+use check_steps::{
+    append_number, defect_text, file_message, line, text_message, usage_message,
+};
 use geo_laws::{Face, FacetTriangle, Piece, Tet};
-use itoa::Buffer;
 use mesh_check::Defect;
 use std::alloc::Global;
 use tangle_laws::Anomaly;
 use tet_ports::{Bytes, Name, NoMemory};
-use tet_text::{TextFault, TextKind};
+
+/// With what each line begins.
+pub(crate) const NAME: &[u8] = b"tetgen: ";
 
 /// The message of want of memory, which takes none.
 pub const OUT_OF_MEMORY: &[u8] = b"tetgen: out of memory\n";
@@ -31,12 +35,12 @@ pub fn message(alloc: Global, by: &Option<Numbering>, status: &Status) -> Result
 {
     match status {
         Status::Done => Ok(Bytes::new(alloc)),
-        Status::Usage { word, place } => usage_message(alloc, *word, *place),
-        Status::Missing { name } => file_message(alloc, name, b"not found"),
-        Status::ReadFault { name } => file_message(alloc, name, b"read failed"),
-        Status::BadText { name, fault } => text_message(alloc, name, *fault),
+        Status::Usage { word, place } => usage_message(alloc, NAME, *word, *place),
+        Status::Missing { name } => file_message(alloc, NAME, name, b"not found"),
+        Status::ReadFault { name } => file_message(alloc, NAME, name, b"read failed"),
+        Status::BadText { name, fault } => text_message(alloc, NAME, name, *fault),
         Status::Limit { what } => limit_message(alloc, what),
-        Status::Flat => line(alloc, b"all points lie in one plane"),
+        Status::Flat => line(alloc, NAME, b"all points lie in one plane"),
         Status::NotFlat { facet, four } => not_flat_message(alloc, by, *facet, *four),
         Status::SegmentsCross { one, two } => segments_message(alloc, by, *one, *two),
         Status::Crossing { one, two } => crossing_message(alloc, by, *one, *two),
@@ -44,53 +48,10 @@ pub fn message(alloc: Global, by: &Option<Numbering>, status: &Status) -> Result
         Status::BudgetEnd { made, piece } => budget_message(alloc, by, *made, *piece),
         Status::NoFill { anomaly } => no_fill_message(alloc, by, *anomaly),
         Status::Unsound { defect, first } => unsound_message(alloc, *defect, *first),
-        Status::NoMemory => line(alloc, b"out of memory"),
-        Status::WriteFault { name: None } => line(alloc, b"summary: write failed"),
-        Status::WriteFault { name: Some(name) } => file_message(alloc, name, b"write failed"),
+        Status::NoMemory => line(alloc, NAME, b"out of memory"),
+        Status::WriteFault { name: None } => line(alloc, NAME, b"summary: write failed"),
+        Status::WriteFault { name: Some(name) } => file_message(alloc, NAME, name, b"write failed"),
     }
-}
-
-/// A line that begins with the program's name.
-fn line(alloc: Global, text: &[u8]) -> Result<Bytes, NoMemory>
-    ensures { IfOk result (λ made. made ≡ line text.now) }
-{
-    let mut made = Bytes::from_slice(alloc, b"tetgen: ")?;
-    made.append(text)?;
-    made.append(b"\n")?;
-    Ok(made)
-}
-
-/// A line on a file.
-pub fn file_message(alloc: Global, name: &Name, told: &[u8]) -> Result<Bytes, NoMemory>
-    ensures { IfOk result (λ line. line ≡ file_message name.now told.now) }
-{
-    let mut text = Bytes::from_slice(alloc, name.as_slice())?;
-    text.append(b": ")?;
-    text.append(told)?;
-    line(alloc, text.as_slice())
-}
-
-fn usage_message(alloc: Global, word: usize, place: usize) -> Result<Bytes, NoMemory>
-    ensures { IfOk result (λ line. line ≡ usage_message word place) }
-{
-    let mut text = Bytes::from_slice(alloc, b"word ")?;
-    append_number(&mut text, word)?;
-    text.append(b", place ")?;
-    append_number(&mut text, place)?;
-    text.append(b": not understood")?;
-    line(alloc, text.as_slice())
-}
-
-/// A message on a text that is not in its grammar.
-fn text_message(alloc: Global, name: &Name, fault: TextFault) -> Result<Bytes, NoMemory>
-    ensures { IfOk result (λ line. line ≡ text_message name.now fault) }
-{
-    let mut text = Bytes::from_slice(alloc, name.as_slice())?;
-    text.append(b": line ")?;
-    append_number(&mut text, fault.line)?;
-    text.append(b": ")?;
-    text.append(kind_text(fault.kind))?;
-    line(alloc, text.as_slice())
 }
 
 /// A message on an input that is over a limit.
@@ -115,7 +76,7 @@ fn bytes_message(alloc: Global, name: &Name, most: usize) -> Result<Bytes, NoMem
     let mut text = Bytes::from_slice(alloc, b"over ")?;
     append_number(&mut text, most)?;
     text.append(b" bytes")?;
-    file_message(alloc, name, text.as_slice())
+    file_message(alloc, NAME, name, text.as_slice())
 }
 
 /// Appends how many are allowed.
@@ -128,13 +89,13 @@ fn append_most(text: &mut Bytes, most: usize) -> Result<(), NoMemory>
 
 /// A line that says how many there are, of what, and how many are allowed.
 fn count_message(alloc: Global, count: u64, what: &[u8], most: usize) -> Result<Bytes, NoMemory>
-    ensures { IfOk result (λ made. made ≡ line (decimal count ++ what.now ++ at_most most)) }
+    ensures { IfOk result (λ made. made ≡ line tetgen_name (decimal count ++ what.now ++ at_most most)) }
 {
     let mut text = Bytes::new(alloc);
     append_number(&mut text, count as usize)?;
     text.append(what)?;
     append_most(&mut text, most)?;
-    line(alloc, text.as_slice())
+    line(alloc, NAME, text.as_slice())
 }
 
 fn mesh_points_message(alloc: Global, count: u64) -> Result<Bytes, NoMemory>
@@ -143,14 +104,14 @@ fn mesh_points_message(alloc: Global, count: u64) -> Result<Bytes, NoMemory>
     let mut text = Bytes::new(alloc);
     append_number(&mut text, count as usize)?;
     text.append(b" points, at most 120000")?;
-    line(alloc, text.as_slice())
+    line(alloc, NAME, text.as_slice())
 }
 
 fn unsound_message(alloc: Global, defect: Defect, first: u32) -> Result<Bytes, NoMemory>
     ensures { IfOk result (λ line. line ≡ message_of None (Unsound defect first)) }
 {
     let text = defect_text(alloc, first, defect)?;
-    line(alloc, text.as_slice())
+    line(alloc, NAME, text.as_slice())
 }
 
 fn corners_message(alloc: Global, place: usize, count: u64, most: usize) -> Result<Bytes, NoMemory>
@@ -162,7 +123,7 @@ fn corners_message(alloc: Global, place: usize, count: u64, most: usize) -> Resu
     append_number(&mut text, count as usize)?;
     text.append(b" corners")?;
     append_most(&mut text, most)?;
-    line(alloc, text.as_slice())
+    line(alloc, NAME, text.as_slice())
 }
 
 fn grid_limit_message(alloc: Global, place: usize) -> Result<Bytes, NoMemory>
@@ -171,7 +132,7 @@ fn grid_limit_message(alloc: Global, place: usize) -> Result<Bytes, NoMemory>
     let mut text = Bytes::from_slice(alloc, b"line ")?;
     append_number(&mut text, place)?;
     text.append(b": coordinate off the grid")?;
-    line(alloc, text.as_slice())
+    line(alloc, NAME, text.as_slice())
 }
 
 fn weight_limit_message(alloc: Global, place: usize) -> Result<Bytes, NoMemory>
@@ -180,7 +141,7 @@ fn weight_limit_message(alloc: Global, place: usize) -> Result<Bytes, NoMemory>
     let mut text = Bytes::from_slice(alloc, b"line ")?;
     append_number(&mut text, place)?;
     text.append(b": weight off the grid")?;
-    line(alloc, text.as_slice())
+    line(alloc, NAME, text.as_slice())
 }
 
 fn not_flat_message(
@@ -195,7 +156,7 @@ fn not_flat_message(
     append_facet(&mut text, facet)?;
     text.append(b" is not flat: points")?;
     append_tetrahedron(&mut text, by, four)?;
-    line(alloc, text.as_slice())
+    line(alloc, NAME, text.as_slice())
 }
 
 fn segments_message(
@@ -211,7 +172,7 @@ fn segments_message(
     text.append(b" and")?;
     append_ends(&mut text, by, two)?;
     text.append(b" cross")?;
-    line(alloc, text.as_slice())
+    line(alloc, NAME, text.as_slice())
 }
 
 fn crossing_message(
@@ -226,7 +187,7 @@ fn crossing_message(
     text.append(part_text(alloc, by, one)?.as_slice())?;
     text.append(b" and ")?;
     text.append(part_text(alloc, by, two)?.as_slice())?;
-    line(alloc, text.as_slice())
+    line(alloc, NAME, text.as_slice())
 }
 
 fn grid_message(alloc: Global, by: &Option<Numbering>, piece: Piece) -> Result<Bytes, NoMemory>
@@ -235,7 +196,7 @@ fn grid_message(alloc: Global, by: &Option<Numbering>, piece: Piece) -> Result<B
     let mut text = Bytes::from_slice(alloc, b"segment")?;
     append_ends(&mut text, by, piece)?;
     text.append(b" needs a finer grid")?;
-    line(alloc, text.as_slice())
+    line(alloc, NAME, text.as_slice())
 }
 
 fn budget_message(
@@ -251,7 +212,7 @@ fn budget_message(
     text.append(b" splits used, segment")?;
     append_ends(&mut text, by, piece)?;
     text.append(b" is missing")?;
-    line(alloc, text.as_slice())
+    line(alloc, NAME, text.as_slice())
 }
 
 fn no_fill_message(
@@ -275,7 +236,7 @@ fn bare_message(alloc: Global, by: &Option<Numbering>, face: Face) -> Result<Byt
     append_point(&mut text, by, face.a)?;
     append_point(&mut text, by, face.b)?;
     append_point(&mut text, by, face.c)?;
-    line(alloc, text.as_slice())
+    line(alloc, NAME, text.as_slice())
 }
 
 /// A line on two tetrahedra.
@@ -286,33 +247,13 @@ fn fillings_message(
     one: Tet,
     two: Tet,
 ) -> Result<Bytes, NoMemory>
-    ensures { IfOk result (λ made. made ≡ line (told.now ++ two_tetrahedra_text by.now one two)) }
+    ensures { IfOk result (λ made. made ≡ line tetgen_name (told.now ++ two_tetrahedra_text by.now one two)) }
 {
     let mut text = Bytes::from_slice(alloc, told)?;
     append_tetrahedron(&mut text, by, one)?;
     text.append(b" and")?;
     append_tetrahedron(&mut text, by, two)?;
-    line(alloc, text.as_slice())
-}
-
-fn kind_text(kind: TextKind) -> &'static [u8]
-    ensures { result.now ≡ kind_text kind }
-{
-    match kind {
-        TextKind::Ended => b"too few",
-        TextKind::NotANumber => b"not a number",
-        TextKind::Extra => b"too many",
-        TextKind::BadCount => b"bad count",
-        TextKind::BadIndex => b"bad number",
-    }
-}
-
-/// Appends a number.
-pub fn append_number(text: &mut Bytes, n: usize) -> Result<(), NoMemory>
-    ensures { OnOk result (text.new ≡ text.old ++ decimal n) }
-{
-    let mut buffer = Buffer::new();
-    text.append(buffer.format(n).as_bytes())
+    line(alloc, NAME, text.as_slice())
 }
 
 /// Appends the number of a facet, which counts from 1.

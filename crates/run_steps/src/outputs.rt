@@ -11,8 +11,9 @@ ghost use Rattle.run_steps.specs.Outputs.{named, first_of, node_file, ele_file, 
 ghost use Rattle.run_steps.specs.Stores.{in_order, TellsFailure};
 
 use crate::meshed::{HulledMesh, Meshed};
-use crate::messages::{append_number, file_message};
+use crate::messages::NAME;
 use crate::store::{NamedText, Texts};
+use check_steps::{append_number, file_message};
 use command_words::{Options, with_extension};
 use incidence::{Uses, pair_uses, uses_of};
 use mesh_files::{
@@ -417,7 +418,7 @@ fn named(
     ensures { IfOk result (λ text. text ≡ named options.now.base extension.now content) }
 {
     let name = with_extension(alloc, &options.base, extension)?;
-    let message = file_message(alloc, &name, b"write failed")?;
+    let message = file_message(alloc, NAME, &name, b"write failed")?;
     Ok(NamedText {
         name,
         content,

@@ -5,7 +5,8 @@ use crate::test_inputs::{
     SMALLEST, THIRD, WRITTEN,
 };
 use node_files::Limits;
-use run_steps::{Status, append_number};
+use check_steps::append_number;
+use run_steps::Status;
 use std::alloc::Global;
 use std::test::Fail;
 use tet_ports::{Bytes, MemFolder, MemSink, Name, NoMemory, Words};

@@ -13,10 +13,11 @@ ghost use Rattle.tetfit_run.specs.Outputs.{said, tells_none, with_decimals};
 ghost use Rattle.tetfit_run.specs.Run.{IsKnown, IsKnownOf, IsUnfitted};
 
 use crate::limits::fit_limits;
+use check_steps::append_number;
 use command_words::Options;
 use fit_steps::{Fitted, Unfitted, fit_input, hint_of, opening_of, read_model};
 use fit_words::{PAGE, Request, VERSION, other_words, read_options, request_of};
-use run_steps::{Input, Outputs, Texts, append_number};
+use run_steps::{Input, Outputs, Texts};
 use std::alloc::Global;
 use tet_ports::{Bytes, Folder, NoMemory, Words};
 use tetgen_run::Stop;
