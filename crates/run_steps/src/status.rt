@@ -52,7 +52,7 @@ pub enum LimitKind {
 /// How a run ends. Names are those of files. Facets are named by their places, from 0, and so are
 /// points: those that are kept where equal points of the input are folded, and the added ones
 /// behind them.
-#[derive(Drop)]
+#[derive(Debug, Drop)]
 pub enum Status {
     /// The files are stored and the summary is put.
     Done,

@@ -10,7 +10,7 @@ use run_steps::{LimitKind, NamedText, Numbering, Status, StoreStop};
 use tet_ports::NoMemory;
 
 /// Why a run stopped before its end.
-#[derive(Drop)]
+#[derive(Debug, Drop)]
 pub enum Stop {
     /// An answer before which nothing was stored, and the numbers of the input's points, where they
     /// are on their grid.

@@ -9,7 +9,7 @@ use tet_ports::{Name, NoMemory};
 use tet_text::TextFault;
 
 /// What is over a limit.
-#[derive(Drop)]
+#[derive(Debug, Drop)]
 pub enum WhereLimit {
     /// The file has over 2^26 bytes.
     Bytes { name: Name },
@@ -20,7 +20,7 @@ pub enum WhereLimit {
 }
 
 /// The answer of a run.
-#[derive(Drop)]
+#[derive(Debug, Drop)]
 pub enum WhereStatus {
     Done,
     /// The words are not two names; the first bad word, from 1, and the place in it.

@@ -7,7 +7,7 @@ use crate::status::WhereStatus;
 use check_steps::CheckFault;
 
 /// Why a run stopped before its end: its answer, and the number from which rows are numbered.
-#[derive(Drop)]
+#[derive(Debug, Drop)]
 pub struct Stop {
     pub status: WhereStatus,
     /// The number of the mesh's first point in its file; 0 where no row is told.
