@@ -1,5 +1,5 @@
 -- What was seen in a part of some calls was seen in all of them: counts never fall, and a fetch changes no file.
-use Rattle.std.proofs.Common.{◌≡◌, ◌≤◌, ℕ, List, Option, Some, None, subst, arith}
+use Rattle.std.proofs.Common.{◌≡◌, ◌≤◌, ℕ, List, Option, Some, None, refl, subst, ◌∙◌, arith}
 use Rattle.tet_ports.specs.Counts.{Rose}
 use Rattle.tet_ports.specs.Files.{Files, IsAbsent}
 use Rattle.tet_ports.specs.Seen.{FolderSeen, IsOnlyRead, folder_seen}
