@@ -33,7 +33,7 @@ use geo_laws::{Complex, FacetTriangles, Points, TetList};
 use grid_coords::{DecimalPoints, Grid};
 use mesh_files::Faces;
 use node_files::{GridOptions, Limits, Names, NodeFault, NodeTable, NodeText, names_of, settle};
-use plc_files::{PlcFault, PlcText, bind, fold};
+use plc_files::{PlcFault, PlcText, bind, check_sizes, fold};
 use std::alloc::Global;
 use std::mem;
 use tet_ports::{Name, NoMemory};
@@ -131,9 +131,7 @@ fn bind_parts(
             Ok(Bound { table, complex })
         }
         Err(NodeFault::TooMany { count, most }) => Err(BindFault::Points { count, most }),
-        Err(NodeFault::Range { line }) => Err(limit_before(
-            alloc, limits, text, first, count, line,
-        )),
+        Err(NodeFault::Range { line }) => Err(limit_before(limits, text, line)),
         Err(NodeFault::NoMemory) => Err(BindFault::NoMemory),
         Err(NodeFault::Text(_)) => unreachable!(),
     }
@@ -193,29 +191,15 @@ fn bind_complex(
 }
 
 /// The limit that the complex is over, which comes before that of the grid at this line; or that.
-/// The grid serves no other end.
-fn limit_before(
-    alloc: Global,
-    limits: Limits,
-    text: &PlcText,
-    first: u32,
-    count: u64,
-    line: usize,
-) -> BindFault
-    requires limits { AreIndexable limits }
-    requires corners { corners_check first count text.now ≡ Ok tt }
-    requires count { count < 2 ^ 32 - 1 }
-    requires few { HasFewParts text.now }
+fn limit_before(limits: Limits, text: &PlcText, line: usize) -> BindFault
     ensures { IsSmall limits text.now × (status_of_bind result ≡ Limit (OnGrid line))
         ⊎ IsOverLimit limits text.now (status_of_bind result) }
 {
-    let grid = Grid {
-        decimals: 0,
-        halvings: 0,
-    };
-    match bind_complex(alloc, limits, text, first, count, &grid) {
-        Ok(_) => BindFault::Grid { line },
-        Err(limit) => limit,
+    match check_sizes(limits, text) {
+        Ok(()) => BindFault::Grid { line },
+        Err(PlcFault::Facets { count, most }) => BindFault::Facets { count, most },
+        Err(PlcFault::Corners { line, count, most }) => BindFault::Corners { line, count, most },
+        Err(_) => unreachable!(),
     }
 }
 
