@@ -68,9 +68,9 @@ pub fn check_files<F: Folder>(
     decimals: Option<u32>,
     folder: &mut F,
 ) -> Result<usize, CheckFault>
-    ensures answer { CheckAnswer (folder_seen F.held F.read_faults F.write_faults F.misses folder.old folder.new) base.now decimals result }
-    ensures only_read { IsOnlyRead
-        (folder_seen F.held F.read_faults F.write_faults F.misses folder.old folder.new) }
+    ensures answer { CheckAnswer (folder_seen F.state folder.old folder.new)
+        base.now decimals result }
+    ensures only_read { IsOnlyRead (folder_seen F.state folder.old folder.new) }
 {
     let text = read_mesh(alloc, base, folder)?;
     check_text(alloc, decimals, &text)

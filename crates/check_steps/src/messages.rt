@@ -91,7 +91,7 @@ pub fn append_number(text: &mut Bytes, n: usize) -> Result<(), NoMemory>
 
 /// Puts a message; a failure there changes nothing.
 pub fn put_message<E: Sink>(message: &[u8], err: &mut E)
-    ensures { IsMessagePut message.now (sink_seen E.written E.faults E.wants err.old err.new) }
+    ensures { IsMessagePut message.now (sink_seen E.state err.old err.new) }
 {
     let _ = err.put(message);
 }

@@ -45,11 +45,9 @@ fn named(alloc: Global, base: &Name, extension: &[u8]) -> Result<Name, NoMemory>
 /// The bytes of a file.
 fn fetch<F: Folder>(alloc: Global, name: Name, folder: &mut F) -> Result<Fetched, CheckFault>
     ensures named { IfOk result (λ file. file.name ≡ name) }
-    ensures read { IfOk result (λ file. IsRead (F.held folder.old) name file.bytes) }
-    ensures err { IfErr result (IsUnfetched
-        (folder_seen F.held F.read_faults F.write_faults F.misses folder.old folder.new) name) }
-    ensures only_read { IsOnlyRead
-        (folder_seen F.held F.read_faults F.write_faults F.misses folder.old folder.new) }
+    ensures read { IfOk result (λ file. IsRead (F.state folder.old).files name file.bytes) }
+    ensures err { IfErr result (IsUnfetched (folder_seen F.state folder.old folder.new) name) }
+    ensures only_read { IsOnlyRead (folder_seen F.state folder.old folder.new) }
 {
     match folder.fetch(alloc, &name, MOST_BYTES) {
         Ok(bytes) => Ok(Fetched { name, bytes }),
@@ -121,10 +119,10 @@ pub fn read_list<F: Folder>(
     list: &Name,
     folder: &mut F,
 ) -> Result<NodeText, CheckFault>
-    ensures answer { FileAnswer (folder_seen F.held F.read_faults F.write_faults F.misses folder.old folder.new) list.now nodes_in_text result }
+    ensures answer { FileAnswer (folder_seen F.state folder.old folder.new)
+        list.now nodes_in_text result }
     ensures table { IfOk result IsNodeText }
-    ensures only_read { IsOnlyRead
-        (folder_seen F.held F.read_faults F.write_faults F.misses folder.old folder.new) }
+    ensures only_read { IsOnlyRead (folder_seen F.state folder.old folder.new) }
 {
     let name = Name::from_slice(alloc, list.as_slice())?;
     let file = fetch(alloc, name, folder)?;
@@ -137,11 +135,10 @@ pub fn read_nodes<F: Folder>(
     base: &Name,
     folder: &mut F,
 ) -> Result<NodeText, CheckFault>
-    ensures answer { FileAnswer (folder_seen F.held F.read_faults F.write_faults F.misses folder.old folder.new)
+    ensures answer { FileAnswer (folder_seen F.state folder.old folder.new)
         (base.now ++ codes ".node") nodes_in_text result }
     ensures table { IfOk result IsNodeText }
-    ensures only_read { IsOnlyRead
-        (folder_seen F.held F.read_faults F.write_faults F.misses folder.old folder.new) }
+    ensures only_read { IsOnlyRead (folder_seen F.state folder.old folder.new) }
 {
     let name = named(alloc, base, b".node")?;
     let file = fetch(alloc, name, folder)?;
@@ -156,11 +153,10 @@ pub fn read_rows<F: Folder>(
     folder: &mut F,
 ) -> Result<TetList, CheckFault>
     requires { IsNodeText nodes.now }
-    ensures answer { FileAnswer (folder_seen F.held F.read_faults F.write_faults F.misses folder.old folder.new)
+    ensures answer { FileAnswer (folder_seen F.state folder.old folder.new)
         (base.now ++ codes ".ele") (rows_of nodes.now) result }
     ensures there { IfOk result (All (AreCornersBelow (length nodes.now.decimals))) }
-    ensures only_read { IsOnlyRead
-        (folder_seen F.held F.read_faults F.write_faults F.misses folder.old folder.new) }
+    ensures only_read { IsOnlyRead (folder_seen F.state folder.old folder.new) }
 {
     let name = named(alloc, base, b".ele")?;
     let file = fetch(alloc, name, folder)?;
@@ -175,10 +171,9 @@ fn read_faces<F: Folder>(
     folder: &mut F,
 ) -> Result<FaceRows, CheckFault>
     requires { IsNodeText nodes.now }
-    ensures answer { FileAnswer (folder_seen F.held F.read_faults F.write_faults F.misses folder.old folder.new)
+    ensures answer { FileAnswer (folder_seen F.state folder.old folder.new)
         (base.now ++ codes ".face") (faces_in_text nodes.now) result }
-    ensures only_read { IsOnlyRead
-        (folder_seen F.held F.read_faults F.write_faults F.misses folder.old folder.new) }
+    ensures only_read { IsOnlyRead (folder_seen F.state folder.old folder.new) }
 {
     let name = named(alloc, base, b".face")?;
     let file = fetch(alloc, name, folder)?;
@@ -192,9 +187,9 @@ fn read_neighbors<F: Folder>(
     nodes: &NodeText,
     folder: &mut F,
 ) -> Result<Option<Neighbors>, CheckFault>
-    ensures answer { NeighborsAnswer (folder_seen F.held F.read_faults F.write_faults F.misses folder.old folder.new) base.now nodes.now result }
-    ensures only_read { IsOnlyRead
-        (folder_seen F.held F.read_faults F.write_faults F.misses folder.old folder.new) }
+    ensures answer { NeighborsAnswer (folder_seen F.state folder.old folder.new)
+        base.now nodes.now result }
+    ensures only_read { IsOnlyRead (folder_seen F.state folder.old folder.new) }
 {
     let name = named(alloc, base, b".neigh")?;
     match fetch(alloc, name, folder) {
@@ -215,11 +210,10 @@ pub(crate) fn read_mesh<F: Folder>(
     base: &Name,
     folder: &mut F,
 ) -> Result<MeshText, CheckFault>
-    ensures answer { MeshAnswer (folder_seen F.held F.read_faults F.write_faults F.misses folder.old folder.new) base.now result }
+    ensures answer { MeshAnswer (folder_seen F.state folder.old folder.new) base.now result }
     ensures there { IfOk result (λ text. All (AreCornersBelow
         (length text.nodes.decimals)) text.rows) }
-    ensures only_read { IsOnlyRead
-        (folder_seen F.held F.read_faults F.write_faults F.misses folder.old folder.new) }
+    ensures only_read { IsOnlyRead (folder_seen F.state folder.old folder.new) }
 {
     let nodes = read_nodes(alloc, base, folder)?;
     let rows = read_rows(alloc, base, &nodes, folder)?;

@@ -30,10 +30,9 @@ pub fn read_model<F: Folder>(
     requires limits { AreIndexable limits }
     requires sample { IfSome options.now.sample (λ n. n ≤ 10000) }
     ensures answer { ModelAnswer limits
-        (folder_seen F.held F.read_faults F.write_faults F.misses folder.old folder.new) options.now result }
+        (folder_seen F.state folder.old folder.new) options.now result }
     ensures sound { IfOk result IsSound }
-    ensures only_read { IsOnlyRead
-        (folder_seen F.held F.read_faults F.write_faults F.misses folder.old folder.new) }
+    ensures only_read { IsOnlyRead (folder_seen F.state folder.old folder.new) }
 {
     if names_stl(options) {
         return read_stl(alloc, limits, &options.base, folder);
@@ -63,10 +62,9 @@ fn read_stl<F: Folder>(
 ) -> Result<Input, Status>
     requires { AreIndexable limits }
     ensures answer { StlInputAnswer limits
-        (folder_seen F.held F.read_faults F.write_faults F.misses folder.old folder.new) base.now result }
+        (folder_seen F.state folder.old folder.new) base.now result }
     ensures sound { IfOk result IsSound }
-    ensures only_read { IsOnlyRead
-        (folder_seen F.held F.read_faults F.write_faults F.misses folder.old folder.new) }
+    ensures only_read { IsOnlyRead (folder_seen F.state folder.old folder.new) }
 {
     let file = read_stl_file(alloc, limits, base, folder)?;
     with_points(alloc, limits, base, file, folder)
@@ -80,11 +78,9 @@ fn read_stl_file<F: Folder>(
     folder: &mut F,
 ) -> Result<ComplexFile, Status>
     requires { AreIndexable limits }
-    ensures answer { StlAnswer limits
-        (folder_seen F.held F.read_faults F.write_faults F.misses folder.old folder.new) base.now result }
+    ensures answer { StlAnswer limits (folder_seen F.state folder.old folder.new) base.now result }
     ensures few { IfOk result (λ file. HasFewParts file.text) }
-    ensures only_read { IsOnlyRead
-        (folder_seen F.held F.read_faults F.write_faults F.misses folder.old folder.new) }
+    ensures only_read { IsOnlyRead (folder_seen F.state folder.old folder.new) }
 {
     let name = file_name(alloc, base, Extension::Stl)?;
     let file = fetch(alloc, limits, name, folder)?;

@@ -80,11 +80,14 @@ message_of by (BadText name fault) = text_message tetgen_name name fault
 message_of by (Limit what) = limit_message what
 message_of by (Unsound defect first) = line tetgen_name (defect_text first defect)
 message_of by Flat = line tetgen_name (codes "all points lie in one plane")
-message_of by (NotFlat facet four) = line tetgen_name (codes "facet " ++ facet_text facet ++ codes " is not flat: points" ++ tetrahedron_text by four)
-message_of by (SegmentsCross one two) = line tetgen_name (codes "segments" ++ ends_text by one ++ codes " and" ++ ends_text by two ++ codes " cross")
+message_of by (NotFlat facet four) =
+    line tetgen_name (codes "facet " ++ facet_text facet ++ codes " is not flat: points" ++ tetrahedron_text by four)
+message_of by (SegmentsCross one two) =
+    line tetgen_name (codes "segments" ++ ends_text by one ++ codes " and" ++ ends_text by two ++ codes " cross")
 message_of by (Crossing one two) = line tetgen_name (codes "crossing: " ++ part_text by one ++ codes " and " ++ part_text by two)
 message_of by (GridEnd piece) = line tetgen_name (codes "segment" ++ ends_text by piece ++ codes " needs a finer grid")
-message_of by (BudgetEnd made piece) = line tetgen_name (decimal made ++ codes " splits used, segment" ++ ends_text by piece ++ codes " is missing")
+message_of by (BudgetEnd made piece) =
+    line tetgen_name (decimal made ++ codes " splits used, segment" ++ ends_text by piece ++ codes " is missing")
 message_of by (NoFill anomaly) = line tetgen_name (anomaly_text by anomaly)
 message_of by NoMemory = line tetgen_name (codes "out of memory")
 message_of by (WriteFault None) = line tetgen_name (codes "summary: write failed")

@@ -51,10 +51,10 @@ pub fn read_input<F: Folder>(
 ) -> Result<Input, Status>
     requires limits { AreIndexable limits }
     requires sample { IfSome options.now.sample (λ n. n ≤ 10000) }
-    ensures answer { InputAnswer limits (folder_seen F.held F.read_faults F.write_faults F.misses folder.old folder.new) options.now result }
+    ensures answer { InputAnswer limits (folder_seen F.state folder.old folder.new)
+        options.now result }
     ensures sound { IfOk result IsSound }
-    ensures only_read { IsOnlyRead
-        (folder_seen F.held F.read_faults F.write_faults F.misses folder.old folder.new) }
+    ensures only_read { IsOnlyRead (folder_seen F.state folder.old folder.new) }
 {
     if options.piecewise {
         return read_complex(alloc, limits, options, folder);
@@ -71,10 +71,10 @@ fn read_complex<F: Folder>(
 ) -> Result<Input, Status>
     requires limits { AreIndexable limits }
     requires sample { IfSome options.now.sample (λ n. n ≤ 10000) }
-    ensures answer { InputOf limits true (folder_seen F.held F.read_faults F.write_faults F.misses folder.old folder.new) options.now result }
+    ensures answer { InputOf limits true (folder_seen F.state folder.old folder.new)
+        options.now result }
     ensures sound { IfOk result IsSound }
-    ensures only_read { IsOnlyRead
-        (folder_seen F.held F.read_faults F.write_faults F.misses folder.old folder.new) }
+    ensures only_read { IsOnlyRead (folder_seen F.state folder.old folder.new) }
 {
     let file = read_source(alloc, limits, options, folder)?;
     with_points(alloc, limits, &options.base, file, folder)
@@ -89,10 +89,9 @@ fn read_points_alone<F: Folder>(
 ) -> Result<Input, Status>
     requires { AreIndexable limits }
     ensures answer { InputOf limits false
-        (folder_seen F.held F.read_faults F.write_faults F.misses folder.old folder.new) options.now result }
+        (folder_seen F.state folder.old folder.new) options.now result }
     ensures sound { IfOk result IsSound }
-    ensures only_read { IsOnlyRead
-        (folder_seen F.held F.read_faults F.write_faults F.misses folder.old folder.new) }
+    ensures only_read { IsOnlyRead (folder_seen F.state folder.old folder.new) }
 {
     let nodes = read_points(alloc, limits, &options.base, folder)?;
     Ok(Input {
@@ -110,10 +109,10 @@ fn read_source<F: Folder>(
 ) -> Result<ComplexFile, Status>
     requires limits { AreIndexable limits }
     requires sample { IfSome options.now.sample (λ n. n ≤ 10000) }
-    ensures answer { SourceAnswer limits (folder_seen F.held F.read_faults F.write_faults F.misses folder.old folder.new) options.now.base options.now.extension options.now.sample result }
+    ensures answer { SourceAnswer limits (folder_seen F.state folder.old folder.new)
+        options.now.base options.now.extension options.now.sample result }
     ensures few { IfOk result (λ file. HasFewParts file.text) }
-    ensures only_read { IsOnlyRead
-        (folder_seen F.held F.read_faults F.write_faults F.misses folder.old folder.new) }
+    ensures only_read { IsOnlyRead (folder_seen F.state folder.old folder.new) }
 {
     match options.sample {
         Some(n) => read_sample(alloc, n),
@@ -145,10 +144,9 @@ fn read_complex_file<F: Folder>(
 ) -> Result<ComplexFile, Status>
     requires { AreIndexable limits }
     ensures answer { ComplexFileAnswer limits
-        (folder_seen F.held F.read_faults F.write_faults F.misses folder.old folder.new) base.now extension result }
+        (folder_seen F.state folder.old folder.new) base.now extension result }
     ensures few { IfOk result (λ file. HasFewParts file.text) }
-    ensures only_read { IsOnlyRead
-        (folder_seen F.held F.read_faults F.write_faults F.misses folder.old folder.new) }
+    ensures only_read { IsOnlyRead (folder_seen F.state folder.old folder.new) }
 {
     match extension {
         Some(Extension::Smesh) => read_form(alloc, limits, base, Extension::Smesh, folder),
@@ -169,11 +167,10 @@ fn read_bare<F: Folder>(
 ) -> Result<ComplexFile, Status>
     requires { AreIndexable limits }
     ensures answer { IfMissing (FormAnswer limits
-        (folder_seen F.held F.read_faults F.write_faults F.misses folder.old folder.new) base.now Poly)
-        (FormAnswer limits (folder_seen F.held F.read_faults F.write_faults F.misses folder.old folder.new) base.now Smesh) result }
+        (folder_seen F.state folder.old folder.new) base.now Poly)
+        (FormAnswer limits (folder_seen F.state folder.old folder.new) base.now Smesh) result }
     ensures few { IfOk result (λ file. HasFewParts file.text) }
-    ensures only_read { IsOnlyRead
-        (folder_seen F.held F.read_faults F.write_faults F.misses folder.old folder.new) }
+    ensures only_read { IsOnlyRead (folder_seen F.state folder.old folder.new) }
 {
     match read_form(alloc, limits, base, Extension::Poly, folder) {
         Err(Status::Missing { name: _ }) => read_form(
@@ -196,10 +193,10 @@ fn read_form<F: Folder>(
     folder: &mut F,
 ) -> Result<ComplexFile, Status>
     requires { AreIndexable limits }
-    ensures answer { FormAnswer limits (folder_seen F.held F.read_faults F.write_faults F.misses folder.old folder.new) base.now extension result }
+    ensures answer { FormAnswer limits (folder_seen F.state folder.old folder.new)
+        base.now extension result }
     ensures few { IfOk result (λ file. HasFewParts file.text) }
-    ensures only_read { IsOnlyRead
-        (folder_seen F.held F.read_faults F.write_faults F.misses folder.old folder.new) }
+    ensures only_read { IsOnlyRead (folder_seen F.state folder.old folder.new) }
 {
     let name = file_name(alloc, base, extension)?;
     let file = fetch(alloc, limits, name, folder)?;
@@ -219,11 +216,10 @@ pub fn with_points<F: Folder>(
     requires limits { AreIndexable limits }
     requires few { HasFewParts file.text }
     ensures answer { AndThen (NodesAnswer limits
-        (folder_seen F.held F.read_faults F.write_faults F.misses folder.old folder.new) base.now file.text.nodes)
+        (folder_seen F.state folder.old folder.new) base.now file.text.nodes)
         (BoundedAnswer file) result }
     ensures sound { IfOk result IsSound }
-    ensures only_read { IsOnlyRead
-        (folder_seen F.held F.read_faults F.write_faults F.misses folder.old folder.new) }
+    ensures only_read { IsOnlyRead (folder_seen F.state folder.old folder.new) }
 {
     let ComplexFile { name, mut text } = file;
     let own = text.take_nodes();
@@ -256,10 +252,10 @@ fn read_points<F: Folder>(
     folder: &mut F,
 ) -> Result<NodeText, Status>
     requires { AreIndexable limits }
-    ensures answer { PointsAnswer limits (folder_seen F.held F.read_faults F.write_faults F.misses folder.old folder.new) base.now result }
+    ensures answer { PointsAnswer limits (folder_seen F.state folder.old folder.new)
+        base.now result }
     ensures table { IfOk result IsNodeText }
-    ensures only_read { IsOnlyRead
-        (folder_seen F.held F.read_faults F.write_faults F.misses folder.old folder.new) }
+    ensures only_read { IsOnlyRead (folder_seen F.state folder.old folder.new) }
 {
     let name = file_name(alloc, base, Extension::Node)?;
     let file = fetch(alloc, limits, name, folder)?;
@@ -276,12 +272,11 @@ pub fn fetch<F: Folder>(
 ) -> Result<Fetched, Status>
     requires { AreIndexable limits }
     ensures named { IfOk result (λ file. file.name ≡ name) }
-    ensures read { IfOk result (λ file. IsRead limits (F.held folder.old) name file.bytes) }
+    ensures read { IfOk result (λ file. IsRead limits (F.state folder.old).files name file.bytes) }
     ensures short { IfOk result (λ file. length file.bytes < 2 ^ 32 - 1) }
     ensures err { IfErr result (IsUnfetched limits
-        (folder_seen F.held F.read_faults F.write_faults F.misses folder.old folder.new) name) }
-    ensures only_read { IsOnlyRead
-        (folder_seen F.held F.read_faults F.write_faults F.misses folder.old folder.new) }
+        (folder_seen F.state folder.old folder.new) name) }
+    ensures only_read { IsOnlyRead (folder_seen F.state folder.old folder.new) }
 {
     match folder.fetch(alloc, &name, limits.bytes) {
         Ok(bytes) => Ok(Fetched { name, bytes }),

@@ -11,9 +11,7 @@ ghost use Rattle.run_steps.specs.declared.status.Status.TheVariants.{NotFlat, Se
 use crate::numbering::{Numbering, number_of};
 use crate::status::{LimitKind, Status};
 use box_pairs::Part;
-use check_steps::{
-    append_number, defect_text, file_message, line, text_message, usage_message,
-};
+use check_steps::{append_number, defect_text, file_message, line, text_message, usage_message};
 use geo_laws::{Face, FacetTriangle, Piece, Tet};
 use mesh_check::Defect;
 use std::alloc::Global;
@@ -89,7 +87,8 @@ fn append_most(text: &mut Bytes, most: usize) -> Result<(), NoMemory>
 
 /// A line that says how many there are, of what, and how many are allowed.
 fn count_message(alloc: Global, count: u64, what: &[u8], most: usize) -> Result<Bytes, NoMemory>
-    ensures { IfOk result (λ made. made ≡ line tetgen_name (decimal count ++ what.now ++ at_most most)) }
+    ensures { IfOk result
+        (λ made. made ≡ line tetgen_name (decimal count ++ what.now ++ at_most most)) }
 {
     let mut text = Bytes::new(alloc);
     append_number(&mut text, count as usize)?;
@@ -247,7 +246,8 @@ fn fillings_message(
     one: Tet,
     two: Tet,
 ) -> Result<Bytes, NoMemory>
-    ensures { IfOk result (λ made. made ≡ line tetgen_name (told.now ++ two_tetrahedra_text by.now one two)) }
+    ensures { IfOk result
+        (λ made. made ≡ line tetgen_name (told.now ++ two_tetrahedra_text by.now one two)) }
 {
     let mut text = Bytes::from_slice(alloc, told)?;
     append_tetrahedron(&mut text, by, one)?;

@@ -62,12 +62,14 @@ fn append(text: Option<NamedText>, list: &mut Vec<NamedText>) -> Result<(), NoMe
 
 /// Stores the texts in their order, until a store is refused.
 pub fn store_all<F: Folder>(texts: Vec<NamedText>, folder: &mut F) -> Result<(), StoreStop>
-    ensures stored { OnOk result (F.held folder.new ≡ with_files (F.held folder.old) texts.items) }
-    ensures stopped { IfErr result (AreLeft (F.held folder.old) texts.items (F.held folder.new)) }
+    ensures stored { OnOk result
+        ((F.state folder.new).files ≡ with_files (F.state folder.old).files texts.items) }
+    ensures stopped { IfErr result
+        (AreLeft (F.state folder.old).files texts.items (F.state folder.new).files) }
     ensures failed { IfErr result (λ stop. IfFailed stop
-        (Rose (F.write_faults folder.old) (F.write_faults folder.new))) }
-    ensures unread { F.read_faults folder.new ≡ F.read_faults folder.old }
-    ensures misses { F.misses folder.new ≡ F.misses folder.old }
+        (Rose (F.state folder.old).write_faults (F.state folder.new).write_faults)) }
+    ensures unread { (F.state folder.new).read_faults ≡ (F.state folder.old).read_faults }
+    ensures misses { (F.state folder.new).misses ≡ (F.state folder.old).misses }
 {
     for text in texts {
         match folder.store(&text.name, &text.content) {

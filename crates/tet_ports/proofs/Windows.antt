@@ -2,7 +2,7 @@
 use Rattle.std.proofs.Common.{◌≡◌, ◌≤◌, ℕ, List, Option, Some, None, refl, subst, ◌∙◌, arith}
 use Rattle.tet_ports.specs.Counts.{Rose}
 use Rattle.tet_ports.specs.Files.{Files, IsAbsent}
-use Rattle.tet_ports.specs.Seen.{FolderSeen, IsOnlyRead, folder_seen}
+use Rattle.tet_ports.specs.Seen.{FolderSeen, FolderState, IsOnlyRead, folder_seen}
 
 -- the part begins with the same files, not earlier, and ends not later
 pub record IsWithin (part wide : FolderSeen) : Type 0 where
@@ -30,9 +30,9 @@ absent_within part wide w name h =
     subst (λ (files : Option Files). IsAbsent files name wide.misses_before wide.misses_now) w.files
     (absent_wider part.files_before name part.misses_before part.misses_now wide.misses_before wide.misses_now w.misses_before w.misses_now h)
 
-module _ {F : Type 0} (held : F → Option Files) (read_faults write_faults misses : F → ℕ) where
+module _ {F : Type 0} (state : F → FolderState) where
   abbrev seen : F → F → FolderSeen
-  seen = folder_seen held read_faults write_faults misses
+  seen = folder_seen state
 
   -- the calls from a to b are a part of those from s to e, where between the others files are fetched alone
   pub within_of : (s a b e : F) → IsOnlyRead (seen s a) → IsOnlyRead (seen b e) → IsWithin (seen a b) (seen s e)

@@ -4,7 +4,21 @@ use Rattle.tet_ports.specs.Counts.{Rose}
 use Rattle.tet_ports.specs.Files.{Files}
 use Rattle.tet_ports.specs.Written.{PartlyPut, with_written}
 
--- a folder: its files, where they are told, and the counts of fetches and of stores that failed, and of absent files
+-- a folder: the files that it holds, where it tells them, and the counts of fetches that failed, of stores that failed, and of names that
+-- were absent, where the files are not told
+pub record FolderState : Type 0 where
+  pub files : Option Files
+  pub read_faults : ℕ
+  pub write_faults : ℕ
+  pub misses : ℕ
+
+-- a sink: the bytes that it has taken, where it tells them, and the counts of its faults and of puts refused for want of memory
+pub record SinkState : Type 0 where
+  pub written : Option (List ℕ)
+  pub faults : ℕ
+  pub wants : ℕ
+
+-- a folder before some calls and after them
 pub record FolderSeen : Type 0 where
   pub files_before : Option Files
   pub files_now : Option Files
@@ -15,7 +29,7 @@ pub record FolderSeen : Type 0 where
   pub misses_before : ℕ
   pub misses_now : ℕ
 
--- a sink: its bytes, where they are told, and the counts of its faults and of puts refused for want of memory
+-- a sink before some calls and after them
 pub record SinkSeen : Type 0 where
   pub written_before : Option (List ℕ)
   pub written_now : Option (List ℕ)
@@ -24,28 +38,28 @@ pub record SinkSeen : Type 0 where
   pub wants_before : ℕ
   pub wants_now : ℕ
 
--- by what the folder says of itself, before and now
-abbrev pub folder_seen : {F : Type 0} → (F → Option Files) → (F → ℕ) → (F → ℕ) → (F → ℕ) → F → F → FolderSeen
-folder_seen held read_faults write_faults misses before now = record {
-  files_before = held before;
-  files_now = held now;
-  read_faults_before = read_faults before;
-  read_faults_now = read_faults now;
-  write_faults_before = write_faults before;
-  write_faults_now = write_faults now;
-  misses_before = misses before;
-  misses_now = misses now;
+-- by what the folder shows of itself
+abbrev pub folder_seen : {F : Type 0} → (F → FolderState) → F → F → FolderSeen
+folder_seen state before now = record {
+  files_before = (state before).files;
+  files_now = (state now).files;
+  read_faults_before = (state before).read_faults;
+  read_faults_now = (state now).read_faults;
+  write_faults_before = (state before).write_faults;
+  write_faults_now = (state now).write_faults;
+  misses_before = (state before).misses;
+  misses_now = (state now).misses;
 }
 
--- by what the sink says of itself, before and now
-abbrev pub sink_seen : {S : Type 0} → (S → Option (List ℕ)) → (S → ℕ) → (S → ℕ) → S → S → SinkSeen
-sink_seen written faults wants before now = record {
-  written_before = written before;
-  written_now = written now;
-  faults_before = faults before;
-  faults_now = faults now;
-  wants_before = wants before;
-  wants_now = wants now;
+-- by what the sink shows of itself
+abbrev pub sink_seen : {S : Type 0} → (S → SinkState) → S → S → SinkSeen
+sink_seen state before now = record {
+  written_before = (state before).written;
+  written_now = (state now).written;
+  faults_before = (state before).faults;
+  faults_now = (state now).faults;
+  wants_before = (state before).wants;
+  wants_now = (state now).wants;
 }
 
 -- nothing was stored: the files and the count of failed stores are the same, and the counts of failed fetches and of absent files have

@@ -4,7 +4,7 @@ ghost use Rattle.std.specs.Prelude.{◌≡◌, ◌≤◌, ◌+◌, ℕ, Option, 
 ghost use Rattle.tet_ports.specs.Counts.{Rose};
 ghost use Rattle.tet_ports.specs.Files.{Files, Holds, HoldsMore, IsAbsent, PartlyStored, with_file};
 ghost use Rattle.tet_ports.specs.Faults.{IfTooLarge};
-ghost use Rattle.tet_ports.specs.Seen.{IsOnlyRead, folder_seen};
+ghost use Rattle.tet_ports.specs.Seen.{FolderState, IsOnlyRead, folder_seen};
 ghost use Rattle.tet_ports.specs.declared.folder.StoreFault.TheVariants.{Failed as StoreFailed, NoMemory as StoreNoMemory};
 ghost use Rattle.tet_ports.specs.declared.folder.FetchFault.TheVariants.{Missing, Failed, NoMemory as FetchNoMemory};
 
@@ -58,49 +58,43 @@ impl From<NoMemory> for StoreFault {
 
 /// A folder of files, each a name with its bytes.
 pub trait Folder {
-    /// The files that it holds, where it tells them.
-    ghost held: { Self → Option Files };
-
-    /// How often a fetch has failed. It stays at the last value of a u64.
-    ghost read_faults: { Self → ℕ };
-
-    /// How often a store has failed. It stays at the last value of a u64.
-    ghost write_faults: { Self → ℕ };
-
-    /// How often a fetched name was absent, where the files are not told. It stays at the last
-    /// value of a u64.
-    ghost misses: { Self → ℕ };
+    /// What it shows of itself: the files that it holds, where it tells them; how often a fetch and
+    /// how often a store has failed; and how often a fetched name was absent, where the files are
+    /// not told. Each count stays at the last value of a u64.
+    ghost state: { Self → FolderState };
 
     /// The bytes of the file with this name, of which there are at most `most`.
     ///
     /// Refusals: `Missing`, the folder lacks the name; `Failed`, the folder failed; `TooLarge`, the
     /// file has more bytes; `NoMemory`.
     fn fetch(&mut self, alloc: Global, name: &Name, most: usize) -> Result<Bytes, FetchFault>
-        ensures found { IfOk result (λ bytes. Holds (held self.old) name.now bytes) }
+        ensures found { IfOk result (λ bytes. Holds (state self.old).files name.now bytes) }
         ensures bounded { IfOk result (λ bytes. length bytes ≤ most) }
         ensures missing { IsErrOf result Missing
-            → IsAbsent (held self.old) name.now (misses self.old) (misses self.new) }
+            → IsAbsent (state self.old).files name.now
+            (state self.old).misses (state self.new).misses }
         ensures failed { IsErrOf result Failed
-            → Rose (read_faults self.old) (read_faults self.new) }
+            → Rose (state self.old).read_faults (state self.new).read_faults }
         ensures too_large { IfErr result
             (λ fault. IfTooLarge fault (λ taken. length taken ≡ most + 1)) }
         ensures longer { IfErr result
-            (λ fault. IfTooLarge fault (HoldsMore (held self.old) name.now most)) }
-        ensures read { IsOnlyRead
-            (folder_seen held read_faults write_faults misses self.old self.new) };
+            (λ fault. IfTooLarge fault (HoldsMore (state self.old).files name.now most)) }
+        ensures read { IsOnlyRead (folder_seen state self.old self.new) };
 
     /// Sets the file with this name to this text.
     ///
     /// Refusals: `Failed`, the folder failed, and may have kept a prefix of the text under the
     /// name; `NoMemory`, with nothing changed.
     fn store(&mut self, name: &Name, text: &Bytes) -> Result<(), StoreFault>
-        ensures stored { OnOk result (held self.new ≡ with_file (held self.old) name.now text.now) }
+        ensures stored { OnOk result
+            ((state self.new).files ≡ with_file (state self.old).files name.now text.now) }
         ensures failed { IsErrOf result StoreFailed
-            → Rose (write_faults self.old) (write_faults self.new) }
+            → Rose (state self.old).write_faults (state self.new).write_faults }
         ensures partly { IsErrOf result StoreFailed
-            → PartlyStored (held self.old) name.now text.now (held self.new) }
-        ensures kept { IsErrOf result StoreNoMemory → held self.new ≡ held self.old }
-        ensures unread { read_faults self.new ≡ read_faults self.old }
-        ensures fault_count { write_faults self.old ≤ write_faults self.new }
-        ensures miss_count { misses self.new ≡ misses self.old };
+            → PartlyStored (state self.old).files name.now text.now (state self.new).files }
+        ensures kept { IsErrOf result StoreNoMemory
+            → (state self.new).files ≡ (state self.old).files }
+        ensures unread { (state self.new).read_faults ≡ (state self.old).read_faults }
+        ensures fault_count { (state self.old).write_faults ≤ (state self.new).write_faults }
+        ensures miss_count { (state self.new).misses ≡ (state self.old).misses };
 }

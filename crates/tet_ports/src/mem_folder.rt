@@ -107,13 +107,13 @@ impl MemFolder {
 }
 
 impl Folder for MemFolder {
-    ghost held = { λ folder. Some folder.files };
-
-    ghost read_faults = { λ folder. failures folder.fetches };
-
-    ghost write_faults = { λ folder. failures folder.stores };
-
-    ghost misses = { λ _. 0 };
+    ghost state = { λ folder.
+        record {
+          files = Some folder.files;
+          read_faults = failures folder.fetches;
+          write_faults = failures folder.stores;
+          misses = 0;
+        } };
 
     fn fetch(&mut self, alloc: Global, name: &Name, most: usize) -> Result<Bytes, FetchFault>
         ensures found { IfOk result (λ bytes. (map.get self.old.files name.now ≡ Some bytes)

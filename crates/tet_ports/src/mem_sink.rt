@@ -58,11 +58,8 @@ impl MemSink {
 }
 
 impl Sink for MemSink {
-    ghost written = { λ sink. Some sink.bytes };
-
-    ghost faults = { λ sink. failures sink.puts };
-
-    ghost wants = { λ sink. sink.wants };
+    ghost state = { λ sink.
+        record { written = Some sink.bytes; faults = failures sink.puts; wants = sink.wants } };
 
     fn put(&mut self, piece: &[u8]) -> Result<(), PutFault>
         ensures appended { OnOk result (self.new ≡ appended self.old piece.now) }

@@ -36,13 +36,13 @@ impl<R: Files + Drop> OsFolder<R> {
 }
 
 impl<R: Files + Drop> Folder for OsFolder<R> {
-    ghost held = { λ _. None };
-
-    ghost read_faults = { λ folder. folder.read_faults };
-
-    ghost write_faults = { λ folder. folder.write_faults };
-
-    ghost misses = { λ folder. folder.misses };
+    ghost state = { λ folder.
+        record {
+          files = None;
+          read_faults = folder.read_faults;
+          write_faults = folder.write_faults;
+          misses = folder.misses;
+        } };
 
     fn fetch(&mut self, alloc: Global, name: &Name, most: usize) -> Result<Bytes, FetchFault> {
         let fetched = read_file(alloc, &self.rt, name, most);

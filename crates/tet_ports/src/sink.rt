@@ -2,6 +2,7 @@
 
 ghost use Rattle.std.specs.Prelude.{◌≡◌, ◌≤◌, ℕ, List, Option, OnOk, IsErrOf};
 ghost use Rattle.tet_ports.specs.Counts.{Rose};
+ghost use Rattle.tet_ports.specs.Seen.{SinkState};
 ghost use Rattle.tet_ports.specs.Written.{PartlyPut, with_written};
 ghost use Rattle.tet_ports.specs.declared.sink.PutFault.TheVariants.{Failed, NoMemory as PutNoMemory};
 
@@ -29,27 +30,26 @@ impl From<NoMemory> for PutFault {
 
 /// Takes bytes, such as the lines of a program's output.
 pub trait Sink {
-    /// The bytes that it has taken, where it tells them.
-    ghost written: { Self → Option (List ℕ) };
-
-    /// How often a put has failed. It stays at the last value of a u64.
-    ghost faults: { Self → ℕ };
-
-    /// How many puts were refused for want of memory. It stays at the last value of a u64.
-    ghost wants: { Self → ℕ };
+    /// What it shows of itself: the bytes that it has taken, where it tells them; how often a put has
+    /// failed; and how many puts were refused for want of memory. Each count stays at the last value
+    /// of a u64.
+    ghost state: { Self → SinkState };
 
     /// Appends this piece.
     ///
     /// Refusals: `Failed`, the sink failed, and may have appended a prefix of the piece;
     /// `NoMemory`, with nothing appended.
     fn put(&mut self, piece: &[u8]) -> Result<(), PutFault>
-        ensures appended { OnOk result (written self.new
-            ≡ with_written (written self.old) piece.now) }
-        ensures failed { IsErrOf result Failed → Rose (faults self.old) (faults self.new) }
+        ensures appended { OnOk result ((state self.new).written
+            ≡ with_written (state self.old).written piece.now) }
+        ensures failed { IsErrOf result Failed
+            → Rose (state self.old).faults (state self.new).faults }
         ensures partly { IsErrOf result Failed
-            → PartlyPut (written self.old) piece.now (written self.new) }
-        ensures wanting { IsErrOf result PutNoMemory → Rose (wants self.old) (wants self.new) }
-        ensures kept { IsErrOf result PutNoMemory → written self.new ≡ written self.old }
-        ensures fault_count { faults self.old ≤ faults self.new }
-        ensures want_count { wants self.old ≤ wants self.new };
+            → PartlyPut (state self.old).written piece.now (state self.new).written }
+        ensures wanting { IsErrOf result PutNoMemory
+            → Rose (state self.old).wants (state self.new).wants }
+        ensures kept { IsErrOf result PutNoMemory
+            → (state self.new).written ≡ (state self.old).written }
+        ensures fault_count { (state self.old).faults ≤ (state self.new).faults }
+        ensures want_count { (state self.old).wants ≤ (state self.new).wants };
 }

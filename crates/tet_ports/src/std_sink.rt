@@ -27,11 +27,7 @@ impl<W: Write + Drop> StdSink<W> {
 }
 
 impl<W: Write + Drop> Sink for StdSink<W> {
-    ghost written = { λ _. None };
-
-    ghost faults = { λ sink. sink.faults };
-
-    ghost wants = { λ _. 0 };
+    ghost state = { λ sink. record { written = None; faults = sink.faults; wants = 0 } };
 
     fn put(&mut self, piece: &[u8]) -> Result<(), PutFault>
         ensures whole { OnOk result (Appends (W.contents self.old.writer)

@@ -150,7 +150,7 @@ fn fit_message(
 /// memory for it; a failure changes nothing.
 fn put_renamed<E: Sink>(line: &[u8], err: &mut E)
     ensures { IsMessagePut (renamed_program line.now)
-        (sink_seen E.written E.faults E.wants err.old err.new) }
+        (sink_seen E.state err.old err.new) }
 {
     match err.put(NAME) {
         Ok(()) => put_message(behind_name(line), err),
@@ -169,7 +169,7 @@ pub(crate) fn tell<E: Sink>(
 ) -> Status
     requires { IsTellable stop }
     ensures { IsToldAs (fit_message (others words.now) hint.now) stop
-        (sink_seen E.written E.faults E.wants err.old err.new) result }
+        (sink_seen E.state err.old err.new) result }
 {
     match stop {
         Stop::Refused { status, numbering } => {

@@ -152,14 +152,13 @@ fn outputs_of_options<F: Folder>(
     requires plain { IsPlainRequest options.now }
     requires none { hint.old ≡ [] }
     ensures made { IfOk result (λ outputs. OutputsOfOptions options.now
-        (folder_seen F.held F.read_faults F.write_faults F.misses folder.old folder.new) (Ok outputs)) }
+        (folder_seen F.state folder.old folder.new) (Ok outputs)) }
     ensures stopped { IfErr result (StopsSo
         (OutputsOfOptions options.now
-        (folder_seen F.held F.read_faults F.write_faults F.misses folder.old folder.new))
+        (folder_seen F.state folder.old folder.new))
         (IsKnownOf options.now
-        (folder_seen F.held F.read_faults F.write_faults F.misses folder.old folder.new) hint.new)) }
-    ensures only_read { IsOnlyRead
-        (folder_seen F.held F.read_faults F.write_faults F.misses folder.old folder.new) }
+        (folder_seen F.state folder.old folder.new) hint.new)) }
+    ensures only_read { IsOnlyRead (folder_seen F.state folder.old folder.new) }
 {
     let input = read_model(alloc, fit_limits(), options, folder)?;
     fitted_outputs(alloc, options, &input, hint)
@@ -174,14 +173,13 @@ fn outputs_of_words<F: Folder>(
 ) -> Result<Outputs, Stop>
     requires { hint.old ≡ [] }
     ensures made { IfOk result (λ outputs. OutputsOfModel words.now
-        (folder_seen F.held F.read_faults F.write_faults F.misses folder.old folder.new) (Ok outputs)) }
+        (folder_seen F.state folder.old folder.new) (Ok outputs)) }
     ensures stopped { IfErr result (StopsSo
         (OutputsOfModel words.now
-        (folder_seen F.held F.read_faults F.write_faults F.misses folder.old folder.new))
+        (folder_seen F.state folder.old folder.new))
         (IsKnown words.now
-        (folder_seen F.held F.read_faults F.write_faults F.misses folder.old folder.new) hint.new)) }
-    ensures only_read { IsOnlyRead
-        (folder_seen F.held F.read_faults F.write_faults F.misses folder.old folder.new) }
+        (folder_seen F.state folder.old folder.new) hint.new)) }
+    ensures only_read { IsOnlyRead (folder_seen F.state folder.old folder.new) }
 {
     let options = read_options(alloc, words)?;
     outputs_of_options(alloc, &options, folder, hint)
@@ -196,14 +194,13 @@ fn outputs_of_model<F: Folder>(
 ) -> Result<Outputs, Stop>
     requires { hint.old ≡ [] }
     ensures made { IfOk result (λ outputs. OutputsOfModel (others words.now)
-        (folder_seen F.held F.read_faults F.write_faults F.misses folder.old folder.new) (Ok outputs)) }
+        (folder_seen F.state folder.old folder.new) (Ok outputs)) }
     ensures stopped { IfErr result (StopsSo
         (OutputsOfModel (others words.now)
-        (folder_seen F.held F.read_faults F.write_faults F.misses folder.old folder.new))
+        (folder_seen F.state folder.old folder.new))
         (IsKnown (others words.now)
-        (folder_seen F.held F.read_faults F.write_faults F.misses folder.old folder.new) hint.new)) }
-    ensures only_read { IsOnlyRead
-        (folder_seen F.held F.read_faults F.write_faults F.misses folder.old folder.new) }
+        (folder_seen F.state folder.old folder.new) hint.new)) }
+    ensures only_read { IsOnlyRead (folder_seen F.state folder.old folder.new) }
 {
     let plain = other_words(alloc, words)?;
     outputs_of_words(alloc, &plain, folder, hint)
@@ -218,13 +215,12 @@ pub(crate) fn outputs_of<F: Folder>(
 ) -> Result<Outputs, Stop>
     requires { hint.old ≡ [] }
     ensures made { IfOk result (λ outputs. OutputsOfFit words.now
-        (folder_seen F.held F.read_faults F.write_faults F.misses folder.old folder.new) (Ok outputs)) }
+        (folder_seen F.state folder.old folder.new) (Ok outputs)) }
     ensures stopped { IfErr result (StopsSo
-        (OutputsOfFit words.now (folder_seen F.held F.read_faults F.write_faults F.misses folder.old folder.new))
+        (OutputsOfFit words.now (folder_seen F.state folder.old folder.new))
         (IsKnown (others words.now)
-        (folder_seen F.held F.read_faults F.write_faults F.misses folder.old folder.new) hint.new)) }
-    ensures only_read { IsOnlyRead
-        (folder_seen F.held F.read_faults F.write_faults F.misses folder.old folder.new) }
+        (folder_seen F.state folder.old folder.new) hint.new)) }
+    ensures only_read { IsOnlyRead (folder_seen F.state folder.old folder.new) }
 {
     match request_of(words) {
         Request::Page => Ok(said(alloc, PAGE)?),

@@ -28,18 +28,14 @@ pub fn run_fit<F: Folder, O: Sink, E: Sink>(
     out: &mut O,
     err: &mut E,
 ) -> Status
-    ensures answer { IsFitAnswer words.now
-        (folder_seen F.held F.read_faults F.write_faults F.misses folder.old folder.new)
-        (sink_seen O.written O.faults O.wants out.old out.new) result }
-    ensures complete { IsFitComplete words.now
-        (folder_seen F.held F.read_faults F.write_faults F.misses folder.old folder.new)
-        (sink_seen O.written O.faults O.wants out.old out.new) result }
-    ensures left { IsFitLeft words.now
-        (folder_seen F.held F.read_faults F.write_faults F.misses folder.old folder.new)
-        (sink_seen O.written O.faults O.wants out.old out.new) result }
-    ensures told { IsFitTold words.now
-        (folder_seen F.held F.read_faults F.write_faults F.misses folder.old folder.new)
-        (sink_seen E.written E.faults E.wants err.old err.new) result }
+    ensures answer { IsFitAnswer words.now (folder_seen F.state folder.old folder.new)
+        (sink_seen O.state out.old out.new) result }
+    ensures complete { IsFitComplete words.now (folder_seen F.state folder.old folder.new)
+        (sink_seen O.state out.old out.new) result }
+    ensures left { IsFitLeft words.now (folder_seen F.state folder.old folder.new)
+        (sink_seen O.state out.old out.new) result }
+    ensures told { IsFitTold words.now (folder_seen F.state folder.old folder.new)
+        (sink_seen E.state err.old err.new) result }
 {
     let mut hint = Bytes::new(alloc);
     match run(alloc, words, folder, out, err, &mut hint) {
@@ -59,14 +55,14 @@ fn run<F: Folder, O: Sink, E: Sink>(
 ) -> Result<(), Stop>
     requires { hint.old ≡ [] }
     ensures ends { EndsWith
-        (OutputsOfFit words.now (folder_seen F.held F.read_faults F.write_faults F.misses folder.old folder.new))
+        (OutputsOfFit words.now (folder_seen F.state folder.old folder.new))
         (IsKnown (others words.now)
-        (folder_seen F.held F.read_faults F.write_faults F.misses folder.old folder.new) hint.new)
-        (folder_seen F.held F.read_faults F.write_faults F.misses folder.old folder.new)
-        (sink_seen O.written O.faults O.wants out.old out.new) result }
-    ensures stages { AreStages words.now (E.written err.old) (E.written err.new) }
-    ensures faults { E.faults err.old ≤ E.faults err.new }
-    ensures wants { E.wants err.old ≤ E.wants err.new }
+        (folder_seen F.state folder.old folder.new) hint.new)
+        (folder_seen F.state folder.old folder.new)
+        (sink_seen O.state out.old out.new) result }
+    ensures stages { AreStages words.now (E.state err.old).written (E.state err.new).written }
+    ensures faults { (E.state err.old).faults ≤ (E.state err.new).faults }
+    ensures wants { (E.state err.old).wants ≤ (E.state err.new).wants }
 {
     say(words, b"tetfit: reads and meshes the model\n", err);
     let outputs = outputs_of(alloc, words, folder, hint)?;

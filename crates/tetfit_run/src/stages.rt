@@ -8,9 +8,9 @@ use tet_ports::{Sink, Words};
 
 /// Says a stage, where the words ask for it; a failure there changes nothing.
 pub(crate) fn say<E: Sink>(words: &Words, stage: &[u8], err: &mut E)
-    ensures stages { AreStages words.now (E.written err.old) (E.written err.new) }
-    ensures faults { E.faults err.old ≤ E.faults err.new }
-    ensures wants { E.wants err.old ≤ E.wants err.new }
+    ensures stages { AreStages words.now (E.state err.old).written (E.state err.new).written }
+    ensures faults { (E.state err.old).faults ≤ (E.state err.new).faults }
+    ensures wants { (E.state err.old).wants ≤ (E.state err.new).wants }
 {
     if asks_stages(words) {
         let _ = err.put(stage);

@@ -85,8 +85,9 @@ AnswerBy limits true = IsCheckAnswer
 abbrev pub IsAnswerWithin : Limits → List (List ℕ) → FolderSeen → SinkSeen → Status → Type 0
 IsAnswerWithin limits words = AnswerBy limits (asks_check words) words
 
--- Where the files are told, nothing failed in the folder and the sink and memory was not wanting, each answer that has a cause is the answer: the refusal of
--- the first step that refuses, and Done where none does. Only where facets are tangled there may be more: Done, and the anomalies that hold
+-- Where the files are told, nothing failed in the folder and the sink and memory was not wanting, each answer that has a cause is the
+-- answer: the refusal of the first step that refuses, and Done where none does. Only where facets are tangled there may be more: Done,
+-- and the anomalies that hold
 abbrev pub IsCompleteWithin : Limits → List (List ℕ) → FolderSeen → SinkSeen → Status → Type 0
 IsCompleteWithin limits words folder out status =
     (told : Files) → folder.files_before ≡ Some told → HasNoFault folder out → status ≢ NoMemory

@@ -18,11 +18,10 @@ pub fn finish<F: Folder, O: Sink>(
     folder: &mut F,
     out: &mut O,
 ) -> Result<(), Stop>
-    ensures finish { FinishesSo outputs
-        (folder_seen F.held F.read_faults F.write_faults F.misses folder.old folder.new)
-        (sink_seen O.written O.faults O.wants out.old out.new) result }
-    ensures unread { F.read_faults folder.new ≡ F.read_faults folder.old }
-    ensures misses { F.misses folder.new ≡ F.misses folder.old }
+    ensures finish { FinishesSo outputs (folder_seen F.state folder.old folder.new)
+        (sink_seen O.state out.old out.new) result }
+    ensures unread { (F.state folder.new).read_faults ≡ (F.state folder.old).read_faults }
+    ensures misses { (F.state folder.new).misses ≡ (F.state folder.old).misses }
 {
     let Outputs { texts, summary } = outputs;
     store_all(texts.in_order(alloc)?, folder)?;
@@ -31,7 +30,7 @@ pub fn finish<F: Folder, O: Sink>(
 
 /// Puts the summary, where there is one.
 pub(crate) fn sum_up<O: Sink>(summary: Option<Bytes>, out: &mut O) -> Result<(), Stop>
-    ensures { IsSummed summary (sink_seen O.written O.faults O.wants out.old out.new) result }
+    ensures { IsSummed summary (sink_seen O.state out.old out.new) result }
 {
     let Some(line) = summary else {
         return Ok(());
@@ -48,7 +47,7 @@ pub(crate) fn sum_up<O: Sink>(summary: Option<Bytes>, out: &mut O) -> Result<(),
 pub(crate) fn tell<E: Sink>(alloc: Global, stop: Stop, err: &mut E) -> Status
     requires { IsTellable stop }
     ensures { IsToldAs message_of stop
-        (sink_seen E.written E.faults E.wants err.old err.new) result }
+        (sink_seen E.state err.old err.new) result }
 {
     match stop {
         Stop::Refused { status, numbering } => match message(alloc, &numbering, &status) {

@@ -27,18 +27,14 @@ pub fn run_tetgen<F: Folder, O: Sink, E: Sink>(
     out: &mut O,
     err: &mut E,
 ) -> Status
-    ensures answer { IsAnswer words.now
-        (folder_seen F.held F.read_faults F.write_faults F.misses folder.old folder.new)
-        (sink_seen O.written O.faults O.wants out.old out.new) result }
-    ensures complete { IsComplete words.now
-        (folder_seen F.held F.read_faults F.write_faults F.misses folder.old folder.new)
-        (sink_seen O.written O.faults O.wants out.old out.new) result }
-    ensures left { IsLeft words.now
-        (folder_seen F.held F.read_faults F.write_faults F.misses folder.old folder.new)
-        (sink_seen O.written O.faults O.wants out.old out.new) result }
-    ensures told { IsTold words.now
-        (folder_seen F.held F.read_faults F.write_faults F.misses folder.old folder.new)
-        (sink_seen E.written E.faults E.wants err.old err.new) result }
+    ensures answer { IsAnswer words.now (folder_seen F.state folder.old folder.new)
+        (sink_seen O.state out.old out.new) result }
+    ensures complete { IsComplete words.now (folder_seen F.state folder.old folder.new)
+        (sink_seen O.state out.old out.new) result }
+    ensures left { IsLeft words.now (folder_seen F.state folder.old folder.new)
+        (sink_seen O.state out.old out.new) result }
+    ensures told { IsTold words.now (folder_seen F.state folder.old folder.new)
+        (sink_seen E.state err.old err.new) result }
 {
     run_within(alloc, Limits::tetgen(), words, folder, out, err)
 }
@@ -54,18 +50,14 @@ pub fn run_within<F: Folder, O: Sink, E: Sink>(
     err: &mut E,
 ) -> Status
     requires { AreIndexable limits }
-    ensures answer { IsAnswerWithin limits words.now
-        (folder_seen F.held F.read_faults F.write_faults F.misses folder.old folder.new)
-        (sink_seen O.written O.faults O.wants out.old out.new) result }
-    ensures complete { IsCompleteWithin limits words.now
-        (folder_seen F.held F.read_faults F.write_faults F.misses folder.old folder.new)
-        (sink_seen O.written O.faults O.wants out.old out.new) result }
-    ensures left { IsLeftWithin limits words.now
-        (folder_seen F.held F.read_faults F.write_faults F.misses folder.old folder.new)
-        (sink_seen O.written O.faults O.wants out.old out.new) result }
-    ensures told { IsToldWithin limits words.now
-        (folder_seen F.held F.read_faults F.write_faults F.misses folder.old folder.new)
-        (sink_seen E.written E.faults E.wants err.old err.new) result }
+    ensures answer { IsAnswerWithin limits words.now (folder_seen F.state folder.old folder.new)
+        (sink_seen O.state out.old out.new) result }
+    ensures complete { IsCompleteWithin limits words.now (folder_seen F.state folder.old folder.new)
+        (sink_seen O.state out.old out.new) result }
+    ensures left { IsLeftWithin limits words.now (folder_seen F.state folder.old folder.new)
+        (sink_seen O.state out.old out.new) result }
+    ensures told { IsToldWithin limits words.now (folder_seen F.state folder.old folder.new)
+        (sink_seen E.state err.old err.new) result }
 {
     match run(alloc, limits, words, folder, out) {
         Ok(()) => Status::Done,
@@ -82,9 +74,8 @@ fn run<F: Folder, O: Sink>(
     out: &mut O,
 ) -> Result<(), Stop>
     requires { AreIndexable limits }
-    ensures { EndsSo limits words.now
-        (folder_seen F.held F.read_faults F.write_faults F.misses folder.old folder.new)
-        (sink_seen O.written O.faults O.wants out.old out.new) result }
+    ensures { EndsSo limits words.now (folder_seen F.state folder.old folder.new)
+        (sink_seen O.state out.old out.new) result }
 {
     let options = read_words(alloc, words)?;
     if options.check {
@@ -112,9 +103,8 @@ fn check<F: Folder, O: Sink>(
     folder: &mut F,
     out: &mut O,
 ) -> Result<(), Stop>
-    ensures { ChecksSo options.now
-        (folder_seen F.held F.read_faults F.write_faults F.misses folder.old folder.new)
-        (sink_seen O.written O.faults O.wants out.old out.new) result }
+    ensures { ChecksSo options.now (folder_seen F.state folder.old folder.new)
+        (sink_seen O.state out.old out.new) result }
 {
     let count = check_files(alloc, &options.base, options.decimals, folder)?;
     if options.quiet {

@@ -55,8 +55,8 @@ IsQueryAnswer words folder out status = IsAsBefore out × HasCause words folder 
 abbrev pub HasNoReadFault : FolderSeen → SinkSeen → Type 0
 HasNoReadFault folder out = ¬ Rose folder.read_faults_before folder.read_faults_now × ¬ Rose out.faults_before out.faults_now
 
--- Where the files are told, no fetch and no put failed and memory was not wanting, the answer that has a cause is given: the first refusal in
--- order, and Done where there is none
+-- Where the files are told, no fetch and no put failed and memory was not wanting, the answer that has a cause is given: the first refusal
+-- in order, and Done where there is none
 abbrev pub IsCompleteQuery : List (List ℕ) → FolderSeen → SinkSeen → WhereStatus → Type 0
 IsCompleteQuery words folder out status =
     (told : Files) → folder.files_before ≡ Some told → HasNoReadFault folder out → status ≢ NoMemory

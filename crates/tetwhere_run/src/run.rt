@@ -25,16 +25,13 @@ pub fn run_where<F: Folder, O: Sink, E: Sink>(
     out: &mut O,
     err: &mut E,
 ) -> WhereStatus
-    ensures answer { IsQueryAnswer words.now
-        (folder_seen F.held F.read_faults F.write_faults F.misses folder.old folder.new)
-        (sink_seen O.written O.faults O.wants out.old out.new) result }
-    ensures complete { IsCompleteQuery words.now
-        (folder_seen F.held F.read_faults F.write_faults F.misses folder.old folder.new)
-        (sink_seen O.written O.faults O.wants out.old out.new) result }
-    ensures told { IsQueryTold words.now
-        (folder_seen F.held F.read_faults F.write_faults F.misses folder.old folder.new)
-        (sink_seen E.written E.faults E.wants err.old err.new) result }
-    ensures unchanged { F.held folder.new ≡ F.held folder.old }
+    ensures answer { IsQueryAnswer words.now (folder_seen F.state folder.old folder.new)
+        (sink_seen O.state out.old out.new) result }
+    ensures complete { IsCompleteQuery words.now (folder_seen F.state folder.old folder.new)
+        (sink_seen O.state out.old out.new) result }
+    ensures told { IsQueryTold words.now (folder_seen F.state folder.old folder.new)
+        (sink_seen E.state err.old err.new) result }
+    ensures unchanged { (F.state folder.new).files ≡ (F.state folder.old).files }
 {
     match run(alloc, words, folder, out) {
         Ok(()) => WhereStatus::Done,
@@ -49,10 +46,9 @@ fn run<F: Folder, O: Sink>(
     folder: &mut F,
     out: &mut O,
 ) -> Result<(), Stop>
-    ensures ends { QueryEndsSo words.now
-        (folder_seen F.held F.read_faults F.write_faults F.misses folder.old folder.new)
-        (sink_seen O.written O.faults O.wants out.old out.new) result }
-    ensures unchanged { F.held folder.new ≡ F.held folder.old }
+    ensures ends { QueryEndsSo words.now (folder_seen F.state folder.old folder.new)
+        (sink_seen O.state out.old out.new) result }
+    ensures unchanged { (F.state folder.new).files ≡ (F.state folder.old).files }
 {
     if let Some(word) = bad_word(words) {
         return Err(Stop::from(WhereStatus::Usage { word, place: 1 }));
@@ -63,7 +59,7 @@ fn run<F: Folder, O: Sink>(
 
 /// Puts the lines of all queries.
 fn put_lines<O: Sink>(lines: &Bytes, out: &mut O) -> Result<(), Stop>
-    ensures { IsLinesPut lines.now (sink_seen O.written O.faults O.wants out.old out.new) result }
+    ensures { IsLinesPut lines.now (sink_seen O.state out.old out.new) result }
 {
     match out.put(lines.as_slice()) {
         Ok(()) => Ok(()),
@@ -75,7 +71,7 @@ fn put_lines<O: Sink>(lines: &Bytes, out: &mut O) -> Result<(), Stop>
 /// Puts the message of a refusal, and answers it. Where there is no memory for the message, the
 /// answer is want of memory.
 fn tell<E: Sink>(alloc: Global, stop: Stop, err: &mut E) -> WhereStatus
-    ensures { IsQueryToldAs stop (sink_seen E.written E.faults E.wants err.old err.new) result }
+    ensures { IsQueryToldAs stop (sink_seen E.state err.old err.new) result }
 {
     let Stop { status, first } = stop;
     if matches!(&status, WhereStatus::WriteFault) {

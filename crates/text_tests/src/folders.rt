@@ -448,11 +448,12 @@ fn short_interrupted_and_failing_streams(rt: HostRuntime) {
 
 /// Sets one file to the bytes of another, over any folder, also one that tells nothing.
 fn copy_file<F: Folder>(alloc: Global, folder: &mut F, from: &Name, to: &Name) -> Result<(), NoCopy>
-    ensures done { OnOk result ((text : List ℕ) × Holds (F.held folder.old) from.now text
-        × (F.held folder.new ≡ with_file (F.held folder.old) to.now text)) }
+    ensures done { OnOk result ((text : List ℕ) × Holds (F.state folder.old).files from.now text
+        × ((F.state folder.new).files ≡ with_file (F.state folder.old).files to.now text)) }
     ensures refused { OnErr result
-        ((text : List ℕ) × PartlyStored (F.held folder.old) to.now text (F.held folder.new)) }
-    ensures untold { F.held folder.old ≡ None → F.held folder.new ≡ None }
+        ((text : List ℕ)
+        × PartlyStored (F.state folder.old).files to.now text (F.state folder.new).files) }
+    ensures untold { (F.state folder.old).files ≡ None → (F.state folder.new).files ≡ None }
 {
     let Ok(text) = folder.fetch(alloc, from, 100) else {
         return Err(NoCopy);

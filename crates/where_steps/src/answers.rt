@@ -79,11 +79,9 @@ pub fn locate_files<F: Folder>(
     queries: &Name,
     folder: &mut F,
 ) -> Result<Bytes, CheckFault>
-    ensures answer { LocateAnswer
-        (folder_seen F.held F.read_faults F.write_faults F.misses folder.old folder.new)
+    ensures answer { LocateAnswer (folder_seen F.state folder.old folder.new)
         base.now queries.now result }
-    ensures only_read { IsOnlyRead
-        (folder_seen F.held F.read_faults F.write_faults F.misses folder.old folder.new) }
+    ensures only_read { IsOnlyRead (folder_seen F.state folder.old folder.new) }
 {
     let text = read_where(alloc, base, queries, folder)?;
     locate_text(alloc, &text)

@@ -29,14 +29,12 @@ pub(crate) fn read_where<F: Folder>(
     queries: &Name,
     folder: &mut F,
 ) -> Result<WhereText, CheckFault>
-    ensures answer { WhereTextAnswer
-        (folder_seen F.held F.read_faults F.write_faults F.misses folder.old folder.new)
+    ensures answer { WhereTextAnswer (folder_seen F.state folder.old folder.new)
         base.now queries.now result }
     ensures there { IfOk result (λ text. All (AreCornersBelow
         (length text.nodes.decimals)) text.rows) }
     ensures few { IfOk result (λ text. length text.queries.decimals < 2 ^ 32 - 1) }
-    ensures only_read { IsOnlyRead
-        (folder_seen F.held F.read_faults F.write_faults F.misses folder.old folder.new) }
+    ensures only_read { IsOnlyRead (folder_seen F.state folder.old folder.new) }
 {
     let nodes = read_nodes(alloc, base, folder)?;
     let rows = read_rows(alloc, base, &nodes, folder)?;

@@ -39,5 +39,6 @@ ChangesNothing = (folder : FolderSeen) (out : SinkSeen) → IsLeft nonplanar_sta
 
 -- and tells this line, with the numbers of the file
 abbrev pub TellsFacet : Type 0
-TellsFacet = (folder : FolderSeen) (err : SinkSeen) → HasFile nonplanar_start folder → ¬ Rose folder.read_faults_before folder.read_faults_now
+TellsFacet = (folder : FolderSeen) (err : SinkSeen) → HasFile nonplanar_start folder
+    → ¬ Rose folder.read_faults_before folder.read_faults_now
     → IsTold nonplanar_start.words folder err not_flat → IsMessagePut (codes "tetgen: facet 1 is not flat: points 1 2 3 4\n") err

@@ -15,12 +15,12 @@ returns-clause-answer g c =
     let l = c.args.limits in
     let base = c.args.base.now in
     let file = c.in_ok-file.file in
-    let first : FolderSeen = folder_seen F.held F.read_faults F.write_faults F.misses c.args.folder.now c.read_stl_file.new.folder in
-    let second : FolderSeen = folder_seen F.held F.read_faults F.write_faults F.misses c.read_stl_file.new.folder c.with_points.new.folder in
-    let wide : FolderSeen = folder_seen F.held F.read_faults F.write_faults F.misses c.args.folder.now c.with_points.new.folder in
+    let first : FolderSeen = folder_seen F.state c.args.folder.now c.read_stl_file.new.folder in
+    let second : FolderSeen = folder_seen F.state c.read_stl_file.new.folder c.with_points.new.folder in
+    let wide : FolderSeen = folder_seen F.state c.args.folder.now c.with_points.new.folder in
     let a = c.read_stl_file.ensures in
     let b = c.with_points.ensures in
-    let one : IsWithin first wide = first_within F.held F.read_faults F.write_faults F.misses c.args.folder.now c.read_stl_file.new.folder c.with_points.new.folder b.only_read in
-    let two : IsWithin second wide = last_within F.held F.read_faults F.write_faults F.misses c.args.folder.now c.read_stl_file.new.folder c.with_points.new.folder a.only_read in
+    let one : IsWithin first wide = first_within F.state c.args.folder.now c.read_stl_file.new.folder c.with_points.new.folder b.only_read in
+    let two : IsWithin second wide = last_within F.state c.args.folder.now c.read_stl_file.new.folder c.with_points.new.folder a.only_read in
     and_then_ok (StlAnswer l wide base) (λ f. AndThen (NodesAnswer l wide base f.text.nodes) (BoundedAnswer f)) file c.with_points.result
     (stl_wider l first wide one base (Ok file) c.in_ok-file.ensures.answer) (bounded_wider l second wide two base file c.with_points.result b.answer)

@@ -10,7 +10,7 @@ longer (Some told) name most taken h e = (h.0, h.1, h.2)
 
 pub returns-in-Err-TooLarge-clause-err : goal.returns-in-Err-TooLarge-clause-err
 returns-in-Err-TooLarge-clause-err g c =
-    let files = g.F.Folder.held c.args.folder.now in
+    let files = (g.F.Folder.state c.args.folder.now).files in
     let more = rw c.in-Err-TooLarge.field-0-is at c.in-Err-TooLarge.ensures.longer in
     let long = rw c.in-Err-TooLarge.field-0-is at c.in-Err-TooLarge.ensures.too_large in
     (refl, longer files c.args.name c.args.limits.bytes c.in-Err-TooLarge.field-0-0 more long, refl)

@@ -9,13 +9,13 @@ use Rattle.run_steps.proofs.input.read_bare.Goals as goal
 pub returns-in-Err-Missing-clause-answer : goal.returns-in-Err-Missing-clause-answer
 returns-in-Err-Missing-clause-answer g c =
     let F = g.F.Folder in
-    let first : FolderSeen = folder_seen F.held F.read_faults F.write_faults F.misses c.args.folder.now c.read_form.new.folder in
-    let second : FolderSeen = folder_seen F.held F.read_faults F.write_faults F.misses c.read_form.new.folder c.read_form-in-Err-Missing.new.folder in
-    let wide : FolderSeen = folder_seen F.held F.read_faults F.write_faults F.misses c.args.folder.now c.read_form-in-Err-Missing.new.folder in
+    let first : FolderSeen = folder_seen F.state c.args.folder.now c.read_form.new.folder in
+    let second : FolderSeen = folder_seen F.state c.read_form.new.folder c.read_form-in-Err-Missing.new.folder in
+    let wide : FolderSeen = folder_seen F.state c.args.folder.now c.read_form-in-Err-Missing.new.folder in
     let a = c.read_form.ensures in
     let b = c.read_form-in-Err-Missing.ensures in
-    let one : IsWithin first wide = first_within F.held F.read_faults F.write_faults F.misses c.args.folder.now c.read_form.new.folder c.read_form-in-Err-Missing.new.folder b.only_read in
-    let two : IsWithin second wide = last_within F.held F.read_faults F.write_faults F.misses c.args.folder.now c.read_form.new.folder c.read_form-in-Err-Missing.new.folder a.only_read in
+    let one : IsWithin first wide = first_within F.state c.args.folder.now c.read_form.new.folder c.read_form-in-Err-Missing.new.folder b.only_read in
+    let two : IsWithin second wide = last_within F.state c.args.folder.now c.read_form.new.folder c.read_form-in-Err-Missing.new.folder a.only_read in
     inr (
       c.in-Err-Missing.field-0-0,
       form_wider c.args.limits first wide one c.args.base.now Poly (Err (Missing c.in-Err-Missing.field-0-0)) (rw c.in-Err-Missing.field-0-is at c.in-Err-Missing.ensures.answer),

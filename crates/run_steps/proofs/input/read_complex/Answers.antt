@@ -13,12 +13,12 @@ returns-clause-answer g c =
     let l = c.args.limits in
     let o = c.args.options.now in
     let file = c.in_ok-file.file in
-    let first : FolderSeen = folder_seen F.held F.read_faults F.write_faults F.misses c.args.folder.now c.read_source.new.folder in
-    let second : FolderSeen = folder_seen F.held F.read_faults F.write_faults F.misses c.read_source.new.folder c.with_points.new.folder in
-    let wide : FolderSeen = folder_seen F.held F.read_faults F.write_faults F.misses c.args.folder.now c.with_points.new.folder in
+    let first : FolderSeen = folder_seen F.state c.args.folder.now c.read_source.new.folder in
+    let second : FolderSeen = folder_seen F.state c.read_source.new.folder c.with_points.new.folder in
+    let wide : FolderSeen = folder_seen F.state c.args.folder.now c.with_points.new.folder in
     let a = c.read_source.ensures in
     let b = c.with_points.ensures in
-    let one : IsWithin first wide = first_within F.held F.read_faults F.write_faults F.misses c.args.folder.now c.read_source.new.folder c.with_points.new.folder b.only_read in
-    let two : IsWithin second wide = last_within F.held F.read_faults F.write_faults F.misses c.args.folder.now c.read_source.new.folder c.with_points.new.folder a.only_read in
+    let one : IsWithin first wide = first_within F.state c.args.folder.now c.read_source.new.folder c.with_points.new.folder b.only_read in
+    let two : IsWithin second wide = last_within F.state c.args.folder.now c.read_source.new.folder c.with_points.new.folder a.only_read in
     and_then_ok (SourceAnswer l wide o.base o.extension o.sample) (λ f. AndThen (NodesAnswer l wide o.base f.text.nodes) (BoundedAnswer f)) file c.with_points.result
     (source_wider l first wide one o.base o.extension o.sample (Ok file) c.in_ok-file.ensures.answer) (bounded_wider l second wide two o.base file c.with_points.result b.answer)

@@ -12,7 +12,7 @@ with_files-push files (first ∷ texts) text = with_files-push (with_file files 
 
 pub loop-text-preserved : goal.loop-text-preserved
 loop-text-preserved g c =
-    let before = g.F.Folder.held c.args.folder.now in
+    let before = (g.F.Folder.state c.args.folder.now).files in
     record {
       all = c.loop-text.invariant.all ∙ ap (λ rest. c.loop-text.yielded ++ rest) c.in-Some.ensures.steps.0 ∙ sym (append_assoc c.loop-text.yielded (c.in-Some.text ∷ []) _);
       stored = c.in-Ok.ensures.stored

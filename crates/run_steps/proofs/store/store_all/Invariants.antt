@@ -7,8 +7,8 @@ use Rattle.run_steps.proofs.store.store_all.Given as goal
 abbrev pub invariant-loop-text : goal.invariant-loop-text
 invariant-loop-text g l = record {
   all : l.fn.texts.items ≡ l.yielded ++ into_iter_items l.text-iterator;
-  stored : g.F.Folder.held l.folder ≡ with_files (g.F.Folder.held l.fn.folder) l.yielded;
-  faults : g.F.Folder.write_faults l.fn.folder ≤ g.F.Folder.write_faults l.folder;
-  unread : g.F.Folder.read_faults l.folder ≡ g.F.Folder.read_faults l.fn.folder;
-  misses : g.F.Folder.misses l.folder ≡ g.F.Folder.misses l.fn.folder;
+  stored : (g.F.Folder.state l.folder).files ≡ with_files (g.F.Folder.state l.fn.folder).files l.yielded;
+  faults : (g.F.Folder.state l.fn.folder).write_faults ≤ (g.F.Folder.state l.folder).write_faults;
+  unread : (g.F.Folder.state l.folder).read_faults ≡ (g.F.Folder.state l.fn.folder).read_faults;
+  misses : (g.F.Folder.state l.folder).misses ≡ (g.F.Folder.state l.fn.folder).misses;
 }

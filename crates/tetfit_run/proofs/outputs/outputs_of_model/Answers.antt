@@ -9,11 +9,11 @@ use Rattle.tetfit_run.proofs.outputs.outputs_of_model.Goals as goal
 pub returns-clause-made : goal.returns-clause-made
 returns-clause-made g c =
     let F = g.F.Folder in
-    let folder : FolderSeen = folder_seen F.held F.read_faults F.write_faults F.misses c.args.folder.now c.outputs_of_words.new.folder in
+    let folder : FolderSeen = folder_seen F.state c.args.folder.now c.outputs_of_words.new.folder in
     subst (λ plain. IfOk c.outputs_of_words.result (λ outputs. OutputsOfModel plain folder (Ok outputs))) c.in_ok-plain.ensures c.outputs_of_words.ensures.made
 
 pub returns-clause-stopped : goal.returns-clause-stopped
 returns-clause-stopped g c =
     let F = g.F.Folder in
-    let folder : FolderSeen = folder_seen F.held F.read_faults F.write_faults F.misses c.args.folder.now c.outputs_of_words.new.folder in
+    let folder : FolderSeen = folder_seen F.state c.args.folder.now c.outputs_of_words.new.folder in
     subst (λ plain. IfErr c.outputs_of_words.result (StopsSo (OutputsOfModel plain folder) (IsKnown plain folder c.outputs_of_words.new.hint))) c.in_ok-plain.ensures c.outputs_of_words.ensures.stopped

@@ -11,7 +11,7 @@ use Rattle.tetfit_run.proofs.outputs.outputs_of_options.Goals as goal
 pub returns-in_err-input-clause-stopped : goal.returns-in_err-input-clause-stopped
 returns-in_err-input-clause-stopped g c =
     let F = g.F.Folder in
-    let folder : FolderSeen = folder_seen F.held F.read_faults F.write_faults F.misses c.args.folder.now c.read_model.new.folder in
+    let folder : FolderSeen = folder_seen F.state c.args.folder.now c.read_model.new.folder in
     let options = c.args.options.now in
     let status = c.in_err-input.field-0.0 in
     let p = err_from_is_err_and c.from_residual.result c.from_residual.ensures.1 in
@@ -20,7 +20,7 @@ returns-in_err-input-clause-stopped g c =
 pub returns-clause-stopped : goal.returns-clause-stopped
 returns-clause-stopped g c =
     let F = g.F.Folder in
-    let folder : FolderSeen = folder_seen F.held F.read_faults F.write_faults F.misses c.args.folder.now c.read_model.new.folder in
+    let folder : FolderSeen = folder_seen F.state c.args.folder.now c.read_model.new.folder in
     let options = c.args.options.now in
     let input = c.in_ok-input.input in
     let hint = c.fitted_outputs.new.hint in

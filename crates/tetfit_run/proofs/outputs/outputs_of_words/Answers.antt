@@ -9,7 +9,7 @@ use Rattle.tetfit_run.proofs.outputs.outputs_of_words.Goals as goal
 pub returns-clause-made : goal.returns-clause-made
 returns-clause-made g c =
     let F = g.F.Folder in
-    let folder : FolderSeen = folder_seen F.held F.read_faults F.write_faults F.misses c.args.folder.now c.outputs_of_options.new.folder in
+    let folder : FolderSeen = folder_seen F.state c.args.folder.now c.outputs_of_options.new.folder in
     let words = c.args.words.now in
     let options = c.in_ok-options.options in
     ok_to c.outputs_of_options.result (λ outputs. OutputsOfOptions options folder (Ok outputs)) (λ outputs. OutputsOfModel words folder (Ok outputs))
@@ -18,7 +18,7 @@ returns-clause-made g c =
 pub returns-clause-stopped : goal.returns-clause-stopped
 returns-clause-stopped g c =
     let F = g.F.Folder in
-    let folder : FolderSeen = folder_seen F.held F.read_faults F.write_faults F.misses c.args.folder.now c.outputs_of_options.new.folder in
+    let folder : FolderSeen = folder_seen F.state c.args.folder.now c.outputs_of_options.new.folder in
     let hint = c.outputs_of_options.new.hint in
     let words = c.args.words.now in
     let options = c.in_ok-options.options in

@@ -17,8 +17,8 @@ returns-in-Ok-clause-complete g c =
     let F = g.F.Folder in
     let O = g.O.Sink in
     let words = c.args.words.now in
-    let folder : FolderSeen = folder_seen F.held F.read_faults F.write_faults F.misses c.args.folder.now c.run.new.folder in
-    let out : SinkSeen = sink_seen O.written O.faults O.wants c.args.out.now c.run.new.out in
+    let folder : FolderSeen = folder_seen F.state c.args.folder.now c.run.new.folder in
+    let out : SinkSeen = sink_seen O.state c.args.out.now c.run.new.out in
     let made = OutputsOfFit words folder in
     let hint = c.run.new.hint in
     let numbered = IsKnown (others words) folder hint in
@@ -30,8 +30,8 @@ returns-in-Ok-clause-left g c =
     let F = g.F.Folder in
     let O = g.O.Sink in
     let words = c.args.words.now in
-    let folder : FolderSeen = folder_seen F.held F.read_faults F.write_faults F.misses c.args.folder.now c.run.new.folder in
-    let out : SinkSeen = sink_seen O.written O.faults O.wants c.args.out.now c.run.new.out in
+    let folder : FolderSeen = folder_seen F.state c.args.folder.now c.run.new.folder in
+    let out : SinkSeen = sink_seen O.state c.args.out.now c.run.new.out in
     let made = OutputsOfFit words folder in
     let hint = c.run.new.hint in
     let numbered = IsKnown (others words) folder hint in
@@ -44,13 +44,13 @@ returns-clause-answer g c =
     let O = g.O.Sink in
     let E = g.E.Sink in
     let words = c.args.words.now in
-    let folder : FolderSeen = folder_seen F.held F.read_faults F.write_faults F.misses c.args.folder.now c.run.new.folder in
-    let out : SinkSeen = sink_seen O.written O.faults O.wants c.args.out.now c.run.new.out in
+    let folder : FolderSeen = folder_seen F.state c.args.folder.now c.run.new.folder in
+    let out : SinkSeen = sink_seen O.state c.args.out.now c.run.new.out in
     let made = OutputsOfFit words folder in
     let hint = c.run.new.hint in
     let numbered = IsKnown (others words) folder hint in
     let ended = subst (EndsWith made numbered folder out) c.in-Err.is c.run.ensures.ends in
-    let err : SinkSeen = sink_seen E.written E.faults E.wants c.run.new.err c.tell.new.err in
+    let err : SinkSeen = sink_seen E.state c.run.new.err c.tell.new.err in
     let tells = subst (λ h. IsToldAs (fit_message (others words) h) c.in-Err.stop err c.tell.result) c.as_slice.ensures c.tell.ensures in
     stop_answers (fit_message (others words) hint) made numbered (fit_refuses words folder) folder out err c.in-Err.stop c.tell.result ended tells
 
@@ -60,13 +60,13 @@ returns-clause-complete g c =
     let O = g.O.Sink in
     let E = g.E.Sink in
     let words = c.args.words.now in
-    let folder : FolderSeen = folder_seen F.held F.read_faults F.write_faults F.misses c.args.folder.now c.run.new.folder in
-    let out : SinkSeen = sink_seen O.written O.faults O.wants c.args.out.now c.run.new.out in
+    let folder : FolderSeen = folder_seen F.state c.args.folder.now c.run.new.folder in
+    let out : SinkSeen = sink_seen O.state c.args.out.now c.run.new.out in
     let made = OutputsOfFit words folder in
     let hint = c.run.new.hint in
     let numbered = IsKnown (others words) folder hint in
     let ended = subst (EndsWith made numbered folder out) c.in-Err.is c.run.ensures.ends in
-    let err : SinkSeen = sink_seen E.written E.faults E.wants c.run.new.err c.tell.new.err in
+    let err : SinkSeen = sink_seen E.state c.run.new.err c.tell.new.err in
     let tells = subst (λ h. IsToldAs (fit_message (others words) h) c.in-Err.stop err c.tell.result) c.as_slice.ensures c.tell.ensures in
     answer_complete words folder out c.tell.result (stop_answers (fit_message (others words) hint) made numbered (fit_refuses words folder) folder out err c.in-Err.stop c.tell.result ended tells)
 
@@ -76,13 +76,13 @@ returns-clause-left g c =
     let O = g.O.Sink in
     let E = g.E.Sink in
     let words = c.args.words.now in
-    let folder : FolderSeen = folder_seen F.held F.read_faults F.write_faults F.misses c.args.folder.now c.run.new.folder in
-    let out : SinkSeen = sink_seen O.written O.faults O.wants c.args.out.now c.run.new.out in
+    let folder : FolderSeen = folder_seen F.state c.args.folder.now c.run.new.folder in
+    let out : SinkSeen = sink_seen O.state c.args.out.now c.run.new.out in
     let made = OutputsOfFit words folder in
     let hint = c.run.new.hint in
     let numbered = IsKnown (others words) folder hint in
     let ended = subst (EndsWith made numbered folder out) c.in-Err.is c.run.ensures.ends in
-    let err : SinkSeen = sink_seen E.written E.faults E.wants c.run.new.err c.tell.new.err in
+    let err : SinkSeen = sink_seen E.state c.run.new.err c.tell.new.err in
     let tells = subst (λ h. IsToldAs (fit_message (others words) h) c.in-Err.stop err c.tell.result) c.as_slice.ensures c.tell.ensures in
     stop_leaves (fit_message (others words) hint) made numbered (IsAskedBy (request_of words) words folder) (fit_refuses words folder) (fit_asked words folder) folder out err c.in-Err.stop c.tell.result ended tells
 
@@ -92,24 +92,24 @@ returns-clause-told g c =
     let O = g.O.Sink in
     let E = g.E.Sink in
     let words = c.args.words.now in
-    let folder : FolderSeen = folder_seen F.held F.read_faults F.write_faults F.misses c.args.folder.now c.run.new.folder in
-    let out : SinkSeen = sink_seen O.written O.faults O.wants c.args.out.now c.run.new.out in
+    let folder : FolderSeen = folder_seen F.state c.args.folder.now c.run.new.folder in
+    let out : SinkSeen = sink_seen O.state c.args.out.now c.run.new.out in
     let made = OutputsOfFit words folder in
     let hint = c.run.new.hint in
     let numbered = IsKnown (others words) folder hint in
     let ended = subst (EndsWith made numbered folder out) c.in-Err.is c.run.ensures.ends in
-    let err : SinkSeen = sink_seen E.written E.faults E.wants c.run.new.err c.tell.new.err in
+    let err : SinkSeen = sink_seen E.state c.run.new.err c.tell.new.err in
     let tells = subst (λ h. IsToldAs (fit_message (others words) h) c.in-Err.stop err c.tell.result) c.as_slice.ensures c.tell.ensures in
     let old = c.args.err.now in
     let mid = c.run.new.err in
     let new = c.tell.new.err in
-    let whole : SinkSeen = sink_seen E.written E.faults E.wants old new in
+    let whole : SinkSeen = sink_seen E.state old new in
     let message = fit_message (others words) hint in
-    let told = told_earlier message c.in-Err.stop c.tell.result (E.written mid) (E.written new) (E.faults old) (E.faults mid) (E.faults new) (E.wants old) (E.wants mid) (E.wants new)
+    let told = told_earlier message c.in-Err.stop c.tell.result (E.state mid).written (E.state new).written (E.state old).faults (E.state mid).faults (E.state new).faults (E.state old).wants (E.state mid).wants (E.state new).wants
     c.run.ensures.faults c.run.ensures.wants tells in (
-      E.written mid,
+      (E.state mid).written,
       c.run.ensures.stages,
       hint,
-      told_off made message (others words) folder hint out (sink_seen E.written E.faults E.wants mid new) c.in-Err.stop c.tell.result ended tells,
-      stop_tells message made (IsFitNumbering (others words) folder hint) (fit_refuses words folder) (numbers_points (others words) folder hint) folder out (after_stages whole (E.written mid)) c.in-Err.stop c.tell.result (ends_numbered made (others words) folder hint out c.in-Err.stop ended) told,
+      told_off made message (others words) folder hint out (sink_seen E.state mid new) c.in-Err.stop c.tell.result ended tells,
+      stop_tells message made (IsFitNumbering (others words) folder hint) (fit_refuses words folder) (numbers_points (others words) folder hint) folder out (after_stages whole (E.state mid).written) c.in-Err.stop c.tell.result (ends_numbered made (others words) folder hint out c.in-Err.stop ended) told,
     )

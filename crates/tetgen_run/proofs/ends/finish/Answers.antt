@@ -9,10 +9,10 @@ pub returns-in_err-store_all-clause-finish : goal.returns-in_err-store_all-claus
 returns-in_err-store_all-clause-finish g c =
     let F = g.F.Folder in
     let O = g.O.Sink in
-    let folder : FolderSeen = folder_seen F.held F.read_faults F.write_faults F.misses c.args.folder.now c.store_all.new.folder in
-    let out : SinkSeen = sink_seen O.written O.faults O.wants c.args.out.now c.args.out.now in
+    let folder : FolderSeen = folder_seen F.state c.args.folder.now c.store_all.new.folder in
+    let out : SinkSeen = sink_seen O.state c.args.out.now c.args.out.now in
     let stop = c.in_err-store_all.field-0.0 in
-    let left = subst (λ texts. AreLeft (F.held c.args.folder.now) texts (F.held c.store_all.new.folder) stop) c.in_ok-in_order.ensures c.in_err-store_all.ensures.stopped in
+    let left = subst (λ texts. AreLeft (F.state c.args.folder.now).files texts (F.state c.store_all.new.folder).files stop) c.in_ok-in_order.ensures c.in_err-store_all.ensures.stopped in
     let p = err_from_is_err_and c.from_residual-in_err-store_all.result c.from_residual-in_err-store_all.ensures.1 in
     rw (p.1, p.2) (store_finishes c.args.outputs folder out stop left c.in_err-store_all.ensures.failed refl)
 
@@ -20,7 +20,7 @@ pub returns-clause-finish : goal.returns-clause-finish
 returns-clause-finish g c =
     let F = g.F.Folder in
     let O = g.O.Sink in
-    let folder : FolderSeen = folder_seen F.held F.read_faults F.write_faults F.misses c.args.folder.now c.store_all.new.folder in
-    let out : SinkSeen = sink_seen O.written O.faults O.wants c.args.out.now c.sum_up.new.out in
-    let stored = subst (λ texts. F.held c.store_all.new.folder ≡ with_files (F.held c.args.folder.now) texts) c.in_ok-in_order.ensures c.in_ok-store_all.ensures.stored in
+    let folder : FolderSeen = folder_seen F.state c.args.folder.now c.store_all.new.folder in
+    let out : SinkSeen = sink_seen O.state c.args.out.now c.sum_up.new.out in
+    let stored = subst (λ texts. (F.state c.store_all.new.folder).files ≡ with_files (F.state c.args.folder.now).files texts) c.in_ok-in_order.ensures c.in_ok-store_all.ensures.stored in
     summed_finishes c.args.outputs folder out c.sum_up.result stored c.sum_up.ensures

@@ -5,7 +5,7 @@ use Rattle.tetgen_run.proofs.ends.tell.Goals as goal
 pub returns-in-Ok : goal.returns-in-Ok
 returns-in-Ok g c =
     let E = g.E.Sink in
-    let seen : SinkSeen = sink_seen E.written E.faults E.wants c.args.err.now c.put_message.new.err in
+    let seen : SinkSeen = sink_seen E.state c.args.err.now c.put_message.new.err in
     rw c.in-Refused.is (inl (refl, subst (λ line. IsMessagePut line seen) c.in-Ok.ensures (subst (λ line. IsMessagePut line seen) c.as_slice.ensures c.put_message.ensures)))
 
 pub returns-in-Unsummed : goal.returns-in-Unsummed

@@ -11,8 +11,8 @@ pub returns-in_err-lines-clause-ends : goal.returns-in_err-lines-clause-ends
 returns-in_err-lines-clause-ends g c =
     let F = g.F.Folder in
     let O = g.O.Sink in
-    let folder : FolderSeen = folder_seen F.held F.read_faults F.write_faults F.misses c.args.folder.now c.locate_files.new.folder in
-    let out : SinkSeen = sink_seen O.written O.faults O.wants c.args.out.now c.args.out.now in
+    let folder : FolderSeen = folder_seen F.state c.args.folder.now c.locate_files.new.folder in
+    let out : SinkSeen = sink_seen O.state c.args.out.now c.args.out.now in
     let f = c.in_err-lines.field-0.0 in
     let named = subst (λ base. LocateAnswer folder base (slice_index_or c.args.words.now 1 []) (Err f)) (sym (c.word.ensures [])) (subst (λ queries. LocateAnswer folder c.word.result.now queries (Err f)) (sym (c.word-2.ensures [])) c.in_err-lines.ensures.answer) in
     let p = err_from_is_err_and c.from_residual.result c.from_residual.ensures.1 in
@@ -22,8 +22,8 @@ pub returns-clause-ends : goal.returns-clause-ends
 returns-clause-ends g c =
     let F = g.F.Folder in
     let O = g.O.Sink in
-    let folder : FolderSeen = folder_seen F.held F.read_faults F.write_faults F.misses c.args.folder.now c.locate_files.new.folder in
-    let out : SinkSeen = sink_seen O.written O.faults O.wants c.args.out.now c.put_lines.new.out in
+    let folder : FolderSeen = folder_seen F.state c.args.folder.now c.locate_files.new.folder in
+    let out : SinkSeen = sink_seen O.state c.args.out.now c.put_lines.new.out in
     let lines = c.in_ok-lines.lines in
     let named = subst (λ base. LocateAnswer folder base (slice_index_or c.args.words.now 1 []) (Ok lines)) (sym (c.word.ensures [])) (subst (λ queries. LocateAnswer folder c.word.result.now queries (Ok lines)) (sym (c.word-2.ensures [])) c.in_ok-lines.ensures.answer) in
     put_end c.args.words.now folder out lines c.put_lines.result (sym c.in_default.ensures.fault, named) c.put_lines.ensures

@@ -11,8 +11,8 @@ pub returns-in-Ok-clause-complete : goal.returns-in-Ok-clause-complete
 returns-in-Ok-clause-complete g c =
     let F = g.F.Folder in
     let O = g.O.Sink in
-    let folder : FolderSeen = folder_seen F.held F.read_faults F.write_faults F.misses c.args.folder.now c.run.new.folder in
-    let out : SinkSeen = sink_seen O.written O.faults O.wants c.args.out.now c.run.new.out in
+    let folder : FolderSeen = folder_seen F.state c.args.folder.now c.run.new.folder in
+    let out : SinkSeen = sink_seen O.state c.args.out.now c.run.new.out in
     answer_complete c.args.words.now folder out Done (subst (QueryEndsSo c.args.words.now folder out) c.in-Ok.is c.run.ensures.ends)
 
 pub returns-in-Err-clause-complete : goal.returns-in-Err-clause-complete
@@ -20,9 +20,9 @@ returns-in-Err-clause-complete g c =
     let F = g.F.Folder in
     let O = g.O.Sink in
     let E = g.E.Sink in
-    let folder : FolderSeen = folder_seen F.held F.read_faults F.write_faults F.misses c.args.folder.now c.run.new.folder in
-    let out : SinkSeen = sink_seen O.written O.faults O.wants c.args.out.now c.run.new.out in
-    let err : SinkSeen = sink_seen E.written E.faults E.wants c.args.err.now c.tell.new.err in
+    let folder : FolderSeen = folder_seen F.state c.args.folder.now c.run.new.folder in
+    let out : SinkSeen = sink_seen O.state c.args.out.now c.run.new.out in
+    let err : SinkSeen = sink_seen E.state c.args.err.now c.tell.new.err in
     let ended = subst (QueryEndsSo c.args.words.now folder out) c.in-Err.is c.run.ensures.ends in
     answer_complete c.args.words.now folder out c.tell.result (stop_answer c.args.words.now folder out err c.in-Err.stop c.tell.result ended c.tell.ensures)
 
@@ -31,8 +31,8 @@ returns-in-Err-clause-told g c =
     let F = g.F.Folder in
     let O = g.O.Sink in
     let E = g.E.Sink in
-    let folder : FolderSeen = folder_seen F.held F.read_faults F.write_faults F.misses c.args.folder.now c.run.new.folder in
-    let out : SinkSeen = sink_seen O.written O.faults O.wants c.args.out.now c.run.new.out in
-    let err : SinkSeen = sink_seen E.written E.faults E.wants c.args.err.now c.tell.new.err in
+    let folder : FolderSeen = folder_seen F.state c.args.folder.now c.run.new.folder in
+    let out : SinkSeen = sink_seen O.state c.args.out.now c.run.new.out in
+    let err : SinkSeen = sink_seen E.state c.args.err.now c.tell.new.err in
     let ended = subst (QueryEndsSo c.args.words.now folder out) c.in-Err.is c.run.ensures.ends in
     stop_told c.args.words.now folder out err c.in-Err.stop c.tell.result ended c.tell.ensures
