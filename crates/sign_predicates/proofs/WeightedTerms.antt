@@ -1,5 +1,5 @@
 -- The sums of the weighted sphere test, as terms of the ring normalizer, with the bounds of their variables.
-use Rattle.std.proofs.Common.{◌≡◌, ℕ, ◌^◌, ◌*◌, List, [], ◌∷◌, ℤ, ◌+ℤ◌, ◌-ℤ◌, ◌*ℤ◌, w64, to_z, of_z, refl}
+use Rattle.std.proofs.Common.{◌≡◌, ℕ, ◌^◌, List, [], ◌∷◌, ℤ, ◌+ℤ◌, ◌-ℤ◌, ◌*ℤ◌, w64, to_z, of_z, refl}
 use Rattle.exact_algebra.proofs.Ring.{Expr, var, add, sub}
 use Rattle.exact_algebra.proofs.Size.{back}
 use Rattle.sign_predicates.specs.Point.{Point, from_to}
@@ -10,9 +10,6 @@ use Rattle.sign_predicates.specs.declared.tetrahedron.Corners.{Corners}
 use Rattle.sign_predicates.specs.Weighted.{IsWeight, weighted_sum, in_weighted_sphere}
 use Rattle.sign_predicates.specs.declared.weighted.FourWeights.{FourWeights}
 
-abbrev pub coordinate_bounds : List ℕ
-coordinate_bounds = 2 ^ 49 ∷ 2 ^ 24 ∷ 2 ^ 49 ∷ 2 ^ 24 ∷ 2 ^ 49 ∷ 2 ^ 24 ∷ []
-
 abbrev pub lowered : Expr
 lowered = sub three_squares (var 3)
 
@@ -22,10 +19,6 @@ raised = add lowered (var 4)
 -- three coordinates and two weights
 abbrev pub rise_bounds : List ℕ
 rise_bounds = 2 ^ 24 ∷ 2 ^ 24 ∷ 2 ^ 24 ∷ 2 ^ 46 ∷ 2 ^ 46 ∷ []
-
--- rises and determinants
-abbrev pub sum_bounds : List ℕ
-sum_bounds = 7 * 2 ^ 47 ∷ 3 * 2 ^ 73 ∷ 7 * 2 ^ 47 ∷ 3 * 2 ^ 73 ∷ 7 * 2 ^ 47 ∷ 3 * 2 ^ 73 ∷ 7 * 2 ^ 47 ∷ 3 * 2 ^ 73 ∷ []
 
 pub weighted_sum_is : (a b c d : Point) (w : FourWeights) (own : ℤ)
     → (square_length a -ℤ w.a +ℤ own) *ℤ det b c d -ℤ (square_length b -ℤ w.b +ℤ own) *ℤ det a c d

@@ -12,13 +12,23 @@ use crate::{Corners, GridPoint, Numbers};
 /// It is above each number of a point.
 const NO_NUMBER: u64 = 1 << 32;
 
-/// Four products of a square and a determinant, with alternating signs.
+/// Four products of a height and a determinant, with alternating signs. A height is a square, or a
+/// square and two weights. The sum is at most `84 * 2^120` in size.
 #[inline]
-fn sum_of_four(a: i64, p: i128, b: i64, q: i128, c: i64, r: i128, d: i64, s: i128) -> i128
-    requires a_small { unsigned_abs a ≤ 3 * 2 ^ 48 }
-    requires b_small { unsigned_abs b ≤ 3 * 2 ^ 48 }
-    requires c_small { unsigned_abs c ≤ 3 * 2 ^ 48 }
-    requires d_small { unsigned_abs d ≤ 3 * 2 ^ 48 }
+pub(crate) fn sum_of_four(
+    a: i64,
+    p: i128,
+    b: i64,
+    q: i128,
+    c: i64,
+    r: i128,
+    d: i64,
+    s: i128,
+) -> i128
+    requires a_small { unsigned_abs a ≤ 7 * 2 ^ 47 }
+    requires b_small { unsigned_abs b ≤ 7 * 2 ^ 47 }
+    requires c_small { unsigned_abs c ≤ 7 * 2 ^ 47 }
+    requires d_small { unsigned_abs d ≤ 7 * 2 ^ 47 }
     requires p_small { unsigned_abs p ≤ 3 * 2 ^ 73 }
     requires q_small { unsigned_abs q ≤ 3 * 2 ^ 73 }
     requires r_small { unsigned_abs r ≤ 3 * 2 ^ 73 }

@@ -1,9 +1,12 @@
 //! The sphere test of weighted points, with ties by the points' numbers.
-ghost use Rattle.std.specs.Prelude.{◌≡◌, ◌↔◌, int_lt, pos, IsTrue};
+ghost use Rattle.std.specs.Prelude.{◌≡◌};
 ghost use Rattle.sign_predicates.specs.Weighted.{IsWeight, AreWeights, in_weighted_sphere};
 ghost use Rattle.sign_predicates.specs.Weighted.{weighted_sum, is_outside_weighted};
 
-use crate::weighted_sums::{det_of_minors, minor, rise, sum_of_four};
+use crate::sign::{is_below, vanishes};
+use crate::sphere::sum_of_four;
+use crate::vector::{det_of_minors, minor};
+use crate::weighted_sums::rise;
 use crate::{Corners, GridPoint, Numbers, Vector, from_to, wins_tie};
 
 /// The weights of a tetrahedron's corners, in squares of grid units. Each is at most `2^46` in
@@ -55,20 +58,6 @@ fn in_weighted_sphere(t: Corners, w: FourWeights, p: GridPoint, pw: i64) -> i128
         w,
         pw,
     )
-}
-
-/// Whether a number is 0.
-fn vanishes(n: i128) -> bool
-    ensures { IsTrue result ↔ n ≡ pos 0 }
-{
-    n == 0
-}
-
-/// Whether a number is below 0.
-fn is_below(n: i128) -> bool
-    ensures { result ≡ int_lt n (pos 0) }
-{
-    n < 0
 }
 
 /// Whether `p`, with the number `m` and the weight `pw`, is weighted outside of the positive

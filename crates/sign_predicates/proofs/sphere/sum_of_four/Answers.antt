@@ -5,13 +5,13 @@ use mir.Syntax.{w128}
 use Rattle.sign_predicates.proofs.sphere.sum_of_four.Goals as goal
 
 abbrev bounds : List ℕ
-bounds = 3 * 2 ^ 48 ∷ 3 * 2 ^ 73 ∷ 3 * 2 ^ 48 ∷ 3 * 2 ^ 73 ∷ 3 * 2 ^ 48 ∷ 3 * 2 ^ 73 ∷ 3 * 2 ^ 48 ∷ 3 * 2 ^ 73 ∷ []
+bounds = 7 * 2 ^ 47 ∷ 3 * 2 ^ 73 ∷ 7 * 2 ^ 47 ∷ 3 * 2 ^ 73 ∷ 7 * 2 ^ 47 ∷ 3 * 2 ^ 73 ∷ 7 * 2 ^ 47 ∷ 3 * 2 ^ 73 ∷ []
 
 abbrev read : ℤ → ℤ
 read z = to_z w64 (of_z w64 z)
 
-square_back : (z : ℤ) → unsigned_abs z ≤ 3 * 2 ^ 48 → read z ≡ z
-square_back z h = back w64 (3 * 2 ^ 48) z tt h
+square_back : (z : ℤ) → unsigned_abs z ≤ 7 * 2 ^ 47 → read z ≡ z
+square_back z h = back w64 (7 * 2 ^ 47) z tt h
 
 pub overflow_mul-result : goal.overflow_mul-result
 overflow_mul-result c =
