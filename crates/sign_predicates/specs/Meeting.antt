@@ -3,6 +3,7 @@ use Rattle.std.specs.Prelude.{◌≡◌, ℕ, ◌+◌, ◌<◌, pos, ◌+ℤ◌,
 use Rattle.sign_predicates.specs.Point.{Point, RationalPoint, SomeRational}
 use Rattle.sign_predicates.specs.Orientation.{Triangle, StrictlyInside}
 use Rattle.sign_predicates.specs.declared.tetrahedron.Corners.{Corners}
+use Rattle.sign_predicates.specs.declared.triangle.GridTriangle.{GridTriangle}
 
 -- x is the mean of the triangle's corners under these weights, which are not all 0
 pub record IsMeanOf (f : Triangle) (i j k : ℕ) (x : RationalPoint) : Type 0 where
@@ -17,6 +18,9 @@ InTriangle f x = (i j k : ℕ) × IsMeanOf f i j k x
 
 abbrev pub triangle_of : Point → Point → Point → Triangle
 triangle_of a b c = record { a = a; b = b; c = c }
+
+abbrev pub as_triangle : GridTriangle → Triangle
+as_triangle f = triangle_of f.a f.b f.c
 
 -- the closed segment is the triangle with its second end twice
 abbrev pub segment : Point → Point → Triangle

@@ -1,9 +1,9 @@
 //! Triangles whose boxes are apart, a cheap test before the exact ones.
 ghost use Rattle.std.specs.Prelude.{IsTrue, ◌⊎◌};
-ghost use Rattle.sign_predicates.specs.Meeting.{triangle_of, TrianglesMeet};
+ghost use Rattle.sign_predicates.specs.Meeting.{as_triangle, TrianglesMeet};
 ghost use Rattle.sign_predicates.specs.Turns.{AllBelow};
 
-use crate::GridPoint;
+use crate::triangle::GridTriangle;
 
 /// Whether the first three numbers are all below the others.
 #[inline]
@@ -21,64 +21,17 @@ fn apart_along(a: i32, b: i32, c: i32, d: i32, e: i32, f: i32) -> bool
     all_below(a, b, c, d, e, f) || all_below(d, e, f, a, b, c)
 }
 
-#[inline]
-fn apart_x(
-    a: GridPoint,
-    b: GridPoint,
-    c: GridPoint,
-    d: GridPoint,
-    e: GridPoint,
-    f: GridPoint,
-) -> bool
-    ensures { IsTrue result → ¬ TrianglesMeet (triangle_of a b c) (triangle_of d e f) }
-{
-    apart_along(a.x, b.x, c.x, d.x, e.x, f.x)
-}
-
-#[inline]
-fn apart_y(
-    a: GridPoint,
-    b: GridPoint,
-    c: GridPoint,
-    d: GridPoint,
-    e: GridPoint,
-    f: GridPoint,
-) -> bool
-    ensures { IsTrue result → ¬ TrianglesMeet (triangle_of a b c) (triangle_of d e f) }
-{
-    apart_along(a.y, b.y, c.y, d.y, e.y, f.y)
-}
-
-#[inline]
-fn apart_z(
-    a: GridPoint,
-    b: GridPoint,
-    c: GridPoint,
-    d: GridPoint,
-    e: GridPoint,
-    f: GridPoint,
-) -> bool
-    ensures { IsTrue result → ¬ TrianglesMeet (triangle_of a b c) (triangle_of d e f) }
-{
-    apart_along(a.z, b.z, c.z, d.z, e.z, f.z)
-}
-
 /// Whether the boxes of two triangles, with sides along the axes, are apart: then no point lies in
 /// both.
 #[inline]
-pub(crate) fn boxes_apart(
-    a: GridPoint,
-    b: GridPoint,
-    c: GridPoint,
-    d: GridPoint,
-    e: GridPoint,
-    f: GridPoint,
-) -> bool
-    ensures { IsTrue result → ¬ TrianglesMeet (triangle_of a b c) (triangle_of d e f) }
+pub(crate) fn boxes_apart(f: &GridTriangle, g: &GridTriangle) -> bool
+    ensures { IsTrue result → ¬ TrianglesMeet (as_triangle f.now) (as_triangle g.now) }
 {
-    if apart_x(a, b, c, d, e, f) {
-        true
-    } else {
-        apart_y(a, b, c, d, e, f) || apart_z(a, b, c, d, e, f)
+    if apart_along(f.a.x, f.b.x, f.c.x, g.a.x, g.b.x, g.c.x) {
+        return true;
     }
+    if apart_along(f.a.y, f.b.y, f.c.y, g.a.y, g.b.y, g.c.y) {
+        return true;
+    }
+    apart_along(f.a.z, f.b.z, f.c.z, g.a.z, g.b.z, g.c.z)
 }

@@ -8,6 +8,7 @@ ghost use Rattle.sign_predicates.specs.Entering.{AreLows, AreFaceLows, AreTriang
 use crate::meeting::passes_within;
 use crate::orientation::orient_sum;
 use crate::sign::{is_not_above, is_strictly_above};
+use crate::triangle::GridTriangle;
 use crate::{Corners, GridPoint};
 
 /// Of each face of a tetrahedron, by the opposite corner: whether a point isn't strictly on its
@@ -248,7 +249,7 @@ fn crosses_within(p: &Spot, q: &Spot, a: GridPoint, b: GridPoint, c: GridPoint) 
     ensures { IsTrue result ↔ CrossesWithin (triangle_of a b c) p.now.at q.now.at }
 {
     if p.above && !q.above {
-        passes_within(p.at, q.at, a, b, c)
+        passes_within(p.at, q.at, &GridTriangle { a, b, c })
     } else {
         true
     }

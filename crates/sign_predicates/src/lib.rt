@@ -14,6 +14,7 @@ mod reach;
 mod sign;
 mod sphere;
 mod tetrahedron;
+mod triangle;
 mod vector;
 mod volumes;
 mod weighted;

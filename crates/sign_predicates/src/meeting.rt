@@ -1,14 +1,15 @@
 //! Whether closed segments and triangles have a point in common. All sums are of orientations, and
 //! of scalar products of two cross products, at most `3 * 2^98` in size.
 ghost use Rattle.std.specs.Prelude.{◌≡◌, ◌⊎◌, pos, ◌<ℤ◌, ◌≤ℤ◌, IsTrue, ◌↔◌};
-ghost use Rattle.sign_predicates.specs.Orientation.{orient, normal, dot, SpansPlane};
-ghost use Rattle.sign_predicates.specs.Meeting.{triangle_of, segment, SegmentMeetsTriangle, TrianglesMeet};
+ghost use Rattle.sign_predicates.specs.Orientation.{orient, side, normal, dot, SpansPlane};
+ghost use Rattle.sign_predicates.specs.Meeting.{triangle_of, as_triangle, segment, SegmentMeetsTriangle, TrianglesMeet};
 ghost use Rattle.sign_predicates.specs.Turns.{turn, IsZeroVector, IsBetween, TurnsAcross, TurnsAbout, PassesWithin, common_normal};
 
 use crate::GridPoint;
 use crate::boxes::boxes_apart;
 use crate::orientation::{coplanar, orient_sum};
 use crate::sign::{is_not_above, is_not_below};
+use crate::triangle::GridTriangle;
 use crate::vector::{Normal, Vector, cross, dot, dot_normals, from_to, is_zero};
 
 /// Twice the area of the triangle `a b p`, with its sign as seen against the direction `n`, times
@@ -85,7 +86,9 @@ fn segments_meet_flat(p: GridPoint, q: GridPoint, a: GridPoint, b: GridPoint) ->
 pub fn segments_meet(p: GridPoint, q: GridPoint, a: GridPoint, b: GridPoint) -> bool
     ensures { IsTrue result ↔ SegmentMeetsTriangle p q (segment a b) }
 {
-    if boxes_apart(p, q, q, a, b, b) {
+    let first = GridTriangle { a: p, b: q, c: q };
+    let second = GridTriangle { a, b, c: b };
+    if boxes_apart(&first, &second) {
         false
     } else {
         coplanar(p, q, a, b) && segments_meet_flat(p, q, a, b)
@@ -100,41 +103,41 @@ pub fn spans_plane(a: GridPoint, b: GridPoint, c: GridPoint) -> bool
 }
 
 /// Whether `p`, in the plane of the triangle, lies in it.
-fn lies_about(n: Normal, a: GridPoint, b: GridPoint, c: GridPoint, p: GridPoint) -> bool
-    requires { n ≡ normal (triangle_of a b c) }
-    ensures { IsTrue result ↔ TurnsAbout (triangle_of a b c) p }
+fn lies_about(n: Normal, f: &GridTriangle, p: GridPoint) -> bool
+    requires { n ≡ normal (as_triangle f.now) }
+    ensures { IsTrue result ↔ TurnsAbout (as_triangle f.now) p }
 {
-    turns_left(n, b, c, p) && turns_left(n, c, a, p) && turns_left(n, a, b, p)
+    turns_left(n, f.b, f.c, p) && turns_left(n, f.c, f.a, p) && turns_left(n, f.a, f.b, p)
 }
 
 /// Whether the triangle isn't on a line and holds `p`, which lies in its plane.
-fn holds_flat(a: GridPoint, b: GridPoint, c: GridPoint, p: GridPoint) -> bool
-    requires { orient a b c p ≡ pos 0 }
-    ensures { IsTrue result ↔ (¬ IsZeroVector (normal (triangle_of a b c))
-        × TurnsAbout (triangle_of a b c) p) }
+fn holds_flat(f: &GridTriangle, p: GridPoint) -> bool
+    requires { side (as_triangle f.now) p ≡ pos 0 }
+    ensures { IsTrue result ↔ (¬ IsZeroVector (normal (as_triangle f.now))
+        × TurnsAbout (as_triangle f.now) p) }
 {
-    let n = cross(from_to(a, b), from_to(a, c));
-    !is_zero(n) && lies_about(n, a, b, c, p)
+    let n = cross(from_to(f.a, f.b), from_to(f.a, f.c));
+    !is_zero(n) && lies_about(n, f, p)
 }
 
 /// Whether the segment meets a side of the triangle.
-fn meets_side(p: GridPoint, q: GridPoint, a: GridPoint, b: GridPoint, c: GridPoint) -> bool
-    ensures { IsTrue result ↔ (SegmentMeetsTriangle p q (segment a b)
-        ⊎ (SegmentMeetsTriangle p q (segment b c) ⊎ SegmentMeetsTriangle p q (segment c a))) }
+fn meets_side(p: GridPoint, q: GridPoint, f: &GridTriangle) -> bool
+    ensures { IsTrue result ↔ (SegmentMeetsTriangle p q (segment f.now.a f.now.b)
+        ⊎ (SegmentMeetsTriangle p q (segment f.now.b f.now.c) ⊎ SegmentMeetsTriangle p q (segment f.now.c f.now.a))) }
 {
-    if segments_meet(p, q, a, b) {
+    if segments_meet(p, q, f.a, f.b) {
         true
     } else {
-        segments_meet(p, q, b, c) || segments_meet(p, q, c, a)
+        segments_meet(p, q, f.b, f.c) || segments_meet(p, q, f.c, f.a)
     }
 }
 
 /// Whether a segment meets a triangle in whose plane its first end lies.
-fn meets_flat(p: GridPoint, q: GridPoint, a: GridPoint, b: GridPoint, c: GridPoint) -> bool
-    requires { orient a b c p ≡ pos 0 }
-    ensures { IsTrue result ↔ SegmentMeetsTriangle p q (triangle_of a b c) }
+fn meets_flat(p: GridPoint, q: GridPoint, f: &GridTriangle) -> bool
+    requires { side (as_triangle f.now) p ≡ pos 0 }
+    ensures { IsTrue result ↔ SegmentMeetsTriangle p q (as_triangle f.now) }
 {
-    holds_flat(a, b, c, p) || meets_side(p, q, a, b, c)
+    holds_flat(f, p) || meets_side(p, q, f)
 }
 
 /// Whether `d` lies on the positive side of the plane through `a`, `b` and `c`, or on that plane.
@@ -146,16 +149,10 @@ fn has_above(a: GridPoint, b: GridPoint, c: GridPoint, d: GridPoint) -> bool
 }
 
 /// Whether the leg from `q` up to `p` passes the triangle's sides on their inner side.
-pub(crate) fn passes_within(
-    p: GridPoint,
-    q: GridPoint,
-    a: GridPoint,
-    b: GridPoint,
-    c: GridPoint,
-) -> bool
-    ensures { IsTrue result ↔ PassesWithin p q (triangle_of a b c) }
+pub(crate) fn passes_within(p: GridPoint, q: GridPoint, f: &GridTriangle) -> bool
+    ensures { IsTrue result ↔ PassesWithin p q (as_triangle f.now) }
 {
-    has_above(b, c, q, p) && has_above(c, a, q, p) && has_above(a, b, q, p)
+    has_above(f.b, f.c, q, p) && has_above(f.c, f.a, q, p) && has_above(f.a, f.b, q, p)
 }
 
 /// Whether the first number is at least 0 and the second at most 0.
@@ -166,31 +163,40 @@ fn falls(s: i128, t: i128) -> bool
     s >= 0 && t <= 0
 }
 
-/// `segment_meets_triangle`, where `s` and `t` say on which sides of the triangle's plane the two
-/// ends lie.
-fn meets_at(
-    s: i128,
-    t: i128,
-    p: GridPoint,
-    q: GridPoint,
-    a: GridPoint,
-    b: GridPoint,
-    c: GridPoint,
-) -> bool
-    requires s_is { s ≡ orient a b c p }
-    requires t_is { t ≡ orient a b c q }
-    ensures { IsTrue result ↔ SegmentMeetsTriangle p q (triangle_of a b c) }
+/// `leg_meets`, where `s` and `t` say on which sides of the triangle's plane the two ends lie.
+fn meets_at(s: i128, t: i128, p: GridPoint, q: GridPoint, f: &GridTriangle) -> bool
+    requires s_is { s ≡ side (as_triangle f.now) p }
+    requires t_is { t ≡ side (as_triangle f.now) q }
+    ensures { IsTrue result ↔ SegmentMeetsTriangle p q (as_triangle f.now) }
 {
     if falls(s, t) {
         if s == t {
-            meets_flat(p, q, a, b, c)
+            meets_flat(p, q, f)
         } else {
-            passes_within(p, q, a, b, c)
+            passes_within(p, q, f)
         }
     } else if falls(t, s) {
-        passes_within(q, p, a, b, c)
+        passes_within(q, p, f)
     } else {
         false
+    }
+}
+
+/// `segment_meets_triangle`, for the triangle `f`.
+fn leg_meets(p: GridPoint, q: GridPoint, f: &GridTriangle) -> bool
+    ensures { IsTrue result ↔ SegmentMeetsTriangle p q (as_triangle f.now) }
+{
+    let leg = GridTriangle { a: p, b: q, c: q };
+    if boxes_apart(&leg, f) {
+        false
+    } else {
+        meets_at(
+            orient_sum(f.a, f.b, f.c, p),
+            orient_sum(f.a, f.b, f.c, q),
+            p,
+            q,
+            f,
+        )
     }
 }
 
@@ -207,19 +213,7 @@ pub fn segment_meets_triangle(
 ) -> bool
     ensures { IsTrue result ↔ SegmentMeetsTriangle p q (triangle_of a b c) }
 {
-    if boxes_apart(p, q, q, a, b, c) {
-        false
-    } else {
-        meets_at(
-            orient_sum(a, b, c, p),
-            orient_sum(a, b, c, q),
-            p,
-            q,
-            a,
-            b,
-            c,
-        )
-    }
+    leg_meets(p, q, &GridTriangle { a, b, c })
 }
 
 /// Whether three numbers are all above 0 or all below.
@@ -236,60 +230,40 @@ fn has_one_sign(x: i128, y: i128, z: i128) -> bool
 }
 
 /// Whether the second triangle lies strictly on one side of the plane of the first.
-fn lies_apart(
-    a: GridPoint,
-    b: GridPoint,
-    c: GridPoint,
-    d: GridPoint,
-    e: GridPoint,
-    f: GridPoint,
-) -> bool
-    ensures { IsTrue result → ¬ TrianglesMeet (triangle_of a b c) (triangle_of d e f) }
+fn lies_apart(f: &GridTriangle, g: &GridTriangle) -> bool
+    ensures { IsTrue result → ¬ TrianglesMeet (as_triangle f.now) (as_triangle g.now) }
 {
     has_one_sign(
-        orient_sum(a, b, c, d),
-        orient_sum(a, b, c, e),
-        orient_sum(a, b, c, f),
+        orient_sum(f.a, f.b, f.c, g.a),
+        orient_sum(f.a, f.b, f.c, g.b),
+        orient_sum(f.a, f.b, f.c, g.c),
     )
 }
 
 /// Whether the boxes of the two triangles are apart, or one lies strictly on one side of the
 /// other's plane.
-fn are_apart(
-    a: GridPoint,
-    b: GridPoint,
-    c: GridPoint,
-    d: GridPoint,
-    e: GridPoint,
-    f: GridPoint,
-) -> bool
-    ensures { IsTrue result → ¬ TrianglesMeet (triangle_of a b c) (triangle_of d e f) }
+fn are_apart(f: &GridTriangle, g: &GridTriangle) -> bool
+    ensures { IsTrue result → ¬ TrianglesMeet (as_triangle f.now) (as_triangle g.now) }
 {
-    if boxes_apart(a, b, c, d, e, f) {
+    if boxes_apart(f, g) {
         true
-    } else if lies_apart(a, b, c, d, e, f) {
+    } else if lies_apart(f, g) {
         true
     } else {
-        lies_apart(d, e, f, a, b, c)
+        lies_apart(g, f)
     }
 }
 
 /// Whether a side of the first triangle meets the second.
-fn sides_meet(
-    a: GridPoint,
-    b: GridPoint,
-    c: GridPoint,
-    d: GridPoint,
-    e: GridPoint,
-    f: GridPoint,
-) -> bool
-    ensures { IsTrue result ↔ (SegmentMeetsTriangle a b (triangle_of d e f)
-        ⊎ (SegmentMeetsTriangle b c (triangle_of d e f) ⊎ SegmentMeetsTriangle c a (triangle_of d e f))) }
+fn sides_meet(f: &GridTriangle, g: &GridTriangle) -> bool
+    ensures { IsTrue result ↔ (SegmentMeetsTriangle f.now.a f.now.b (as_triangle g.now)
+        ⊎ (SegmentMeetsTriangle f.now.b f.now.c (as_triangle g.now)
+        ⊎ SegmentMeetsTriangle f.now.c f.now.a (as_triangle g.now))) }
 {
-    if segment_meets_triangle(a, b, d, e, f) {
+    if leg_meets(f.a, f.b, g) {
         true
     } else {
-        segment_meets_triangle(b, c, d, e, f) || segment_meets_triangle(c, a, d, e, f)
+        leg_meets(f.b, f.c, g) || leg_meets(f.c, f.a, g)
     }
 }
 
@@ -306,9 +280,11 @@ pub fn triangles_meet(
 ) -> bool
     ensures { IsTrue result ↔ TrianglesMeet (triangle_of a b c) (triangle_of d e f) }
 {
-    if are_apart(a, b, c, d, e, f) {
+    let first = GridTriangle { a, b, c };
+    let second = GridTriangle { a: d, b: e, c: f };
+    if are_apart(&first, &second) {
         false
     } else {
-        sides_meet(a, b, c, d, e, f) || sides_meet(d, e, f, a, b, c)
+        sides_meet(&first, &second) || sides_meet(&second, &first)
     }
 }
