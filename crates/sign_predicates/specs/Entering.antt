@@ -9,6 +9,7 @@ use Rattle.sign_predicates.specs.declared.entering.FaceLows.{FaceLows}
 use Rattle.sign_predicates.specs.declared.entering.Lows.{Lows}
 use Rattle.sign_predicates.specs.declared.entering.TriangleLows.{TriangleLows}
 use Rattle.sign_predicates.specs.declared.entering.Spot.{Spot}
+use Rattle.sign_predicates.specs.declared.entering.Spots.{Spots}
 
 -- of each face of the tetrahedron: whether the point isn't strictly on its inner side
 pub record AreLows (t : Corners) (p : Point) (lows : Lows) : Type 0 where
@@ -60,6 +61,16 @@ SideEnters t f = TriangleEnters t (segment f.a f.b) ⊎ (TriangleEnters t (segme
 -- the point, and whether it is strictly above the triangle's plane
 abbrev pub IsSpot : Triangle → Spot → Type 0
 IsSpot f spot = IsTrue spot.above ↔ pos 0 <ℤ side f spot.at
+
+-- so of the four corners of a tetrahedron
+pub record AreSpots (f : Triangle) (spots : Spots) : Type 0 where
+  pub a_spot : IsSpot f spots.a
+  pub b_spot : IsSpot f spots.b
+  pub c_spot : IsSpot f spots.c
+  pub d_spot : IsSpot f spots.d
+
+abbrev pub corners_at : Spots → Corners
+corners_at spots = record { a = spots.a.at; b = spots.b.at; c = spots.c.at; d = spots.d.at }
 
 -- where p is strictly above the triangle's plane and q isn't, the leg between them meets the plane within the triangle
 abbrev pub CrossesWithin : Triangle → Point → Point → Type 0

@@ -1,9 +1,9 @@
 //! Whether a triangle enters the inside of a tetrahedron. All sums are orientations.
 ghost use Rattle.std.specs.Prelude.{◌≡◌, ◌⊎◌, pos, ◌<ℤ◌, ◌≤ℤ◌, IsTrue, ◌↔◌, None, IfSome};
 ghost use Rattle.sign_predicates.specs.Orientation.{orient, IsPositive, SpansPlane, side};
-ghost use Rattle.sign_predicates.specs.Meeting.{triangle_of, segment, TriangleEnters};
+ghost use Rattle.sign_predicates.specs.Meeting.{triangle_of, as_triangle, segment, TriangleEnters};
 ghost use Rattle.sign_predicates.specs.Turns.{PassesWithin};
-ghost use Rattle.sign_predicates.specs.Entering.{AreLows, AreFaceLows, AreTriangleLows, FacesOpen, PassesFace, EdgesOpen, SideEnters, CrossesWithin, CrossesFrom, SectionWithin, Straddles, SomeAbove, SomeBelow, IsSpot};
+ghost use Rattle.sign_predicates.specs.Entering.{AreLows, AreFaceLows, AreTriangleLows, FacesOpen, PassesFace, EdgesOpen, SideEnters, CrossesWithin, CrossesFrom, SectionWithin, Straddles, SomeAbove, SomeBelow, IsSpot, AreSpots, corners_at};
 
 use crate::meeting::passes_within;
 use crate::orientation::orient_sum;
@@ -43,22 +43,15 @@ struct FaceLows {
     c: bool,
 }
 
-/// So for the triangle `a b c` and the face from `u` to `v` and `w`.
+/// So for the triangle `f` and the face from `u` to `v` and `w`.
 #[inline]
-fn face_lows(
-    u: GridPoint,
-    v: GridPoint,
-    w: GridPoint,
-    a: GridPoint,
-    b: GridPoint,
-    c: GridPoint,
-) -> FaceLows
-    ensures { AreFaceLows (triangle_of u v w) (triangle_of a b c) result }
+fn face_lows(u: GridPoint, v: GridPoint, w: GridPoint, f: &GridTriangle) -> FaceLows
+    ensures { AreFaceLows (triangle_of u v w) (as_triangle f.now) result }
 {
     FaceLows {
-        a: is_low(u, v, w, a),
-        b: is_low(u, v, w, b),
-        c: is_low(u, v, w, c),
+        a: is_low(u, v, w, f.a),
+        b: is_low(u, v, w, f.b),
+        c: is_low(u, v, w, f.c),
     }
 }
 
@@ -81,23 +74,23 @@ struct TriangleLows {
 /// The marks of the triangle's corners, or None where a face has none of them strictly on its inner
 /// side: then the triangle does not enter. The first such face ends the search.
 #[inline]
-fn triangle_lows(t: &Corners, a: GridPoint, b: GridPoint, c: GridPoint) -> Option<TriangleLows>
-    ensures some { IfSome result (AreTriangleLows t.now (triangle_of a b c)) }
-    ensures none { result ≡ None → ¬ TriangleEnters t.now (triangle_of a b c) }
+fn triangle_lows(t: &Corners, f: &GridTriangle) -> Option<TriangleLows>
+    ensures some { IfSome result (AreTriangleLows t.now (as_triangle f.now)) }
+    ensures none { result ≡ None → ¬ TriangleEnters t.now (as_triangle f.now) }
 {
-    let at_a = face_lows(t.b, t.d, t.c, a, b, c);
+    let at_a = face_lows(t.b, t.d, t.c, f);
     if is_beyond(at_a) {
         return None;
     }
-    let at_b = face_lows(t.a, t.c, t.d, a, b, c);
+    let at_b = face_lows(t.a, t.c, t.d, f);
     if is_beyond(at_b) {
         return None;
     }
-    let at_c = face_lows(t.a, t.d, t.b, a, b, c);
+    let at_c = face_lows(t.a, t.d, t.b, f);
     if is_beyond(at_c) {
         return None;
     }
-    let at_d = face_lows(t.a, t.b, t.c, a, b, c);
+    let at_d = face_lows(t.a, t.b, t.c, f);
     if is_beyond(at_d) {
         return None;
     }
@@ -198,25 +191,15 @@ fn leg_enters(t: &Corners, p: GridPoint, q: GridPoint, lp: Lows, lq: Lows) -> bo
 }
 
 /// Whether a side of the triangle has a point strictly inside.
-fn side_enters(
-    t: &Corners,
-    a: GridPoint,
-    b: GridPoint,
-    c: GridPoint,
-    la: Lows,
-    lb: Lows,
-    lc: Lows,
-) -> bool
+fn side_enters(t: &Corners, f: &GridTriangle, lows: TriangleLows) -> bool
     requires positive { IsPositive t.now }
-    requires la_is { AreLows t.now a la }
-    requires lb_is { AreLows t.now b lb }
-    requires lc_is { AreLows t.now c lc }
-    ensures { IsTrue result ↔ SideEnters t.now (triangle_of a b c) }
+    requires lows_are { AreTriangleLows t.now (as_triangle f.now) lows }
+    ensures { IsTrue result ↔ SideEnters t.now (as_triangle f.now) }
 {
-    if leg_enters(t, a, b, la, lb) {
+    if leg_enters(t, f.a, f.b, lows.a, lows.b) {
         true
     } else {
-        leg_enters(t, b, c, lb, lc) || leg_enters(t, c, a, lc, la)
+        leg_enters(t, f.b, f.c, lows.b, lows.c) || leg_enters(t, f.c, f.a, lows.c, lows.a)
     }
 }
 
@@ -229,11 +212,20 @@ struct Spot {
     above: bool,
 }
 
+/// The four corners of a tetrahedron so.
+#[derive(Clone, Copy)]
+struct Spots {
+    a: Spot,
+    b: Spot,
+    c: Spot,
+    d: Spot,
+}
+
 #[inline]
-fn find_spot(a: GridPoint, b: GridPoint, c: GridPoint, p: GridPoint, side: i128) -> Spot
-    requires { side ≡ orient a b c p }
+fn find_spot(f: &GridTriangle, p: GridPoint, side: i128) -> Spot
+    requires { side ≡ orient f.now.a f.now.b f.now.c p }
     ensures at { result.at ≡ p }
-    ensures spot { IsSpot (triangle_of a b c) result }
+    ensures spot { IsSpot (as_triangle f.now) result }
 {
     Spot {
         at: p,
@@ -243,75 +235,39 @@ fn find_spot(a: GridPoint, b: GridPoint, c: GridPoint, p: GridPoint, side: i128)
 
 /// Whether the edge from `p` to `q` meets the plane within the triangle, where `p` is strictly
 /// above the plane and `q` isn't.
-fn crosses_within(p: &Spot, q: &Spot, a: GridPoint, b: GridPoint, c: GridPoint) -> bool
-    requires p_is { IsSpot (triangle_of a b c) p.now }
-    requires q_is { IsSpot (triangle_of a b c) q.now }
-    ensures { IsTrue result ↔ CrossesWithin (triangle_of a b c) p.now.at q.now.at }
+fn crosses_within(p: &Spot, q: &Spot, f: &GridTriangle) -> bool
+    requires p_is { IsSpot (as_triangle f.now) p.now }
+    requires q_is { IsSpot (as_triangle f.now) q.now }
+    ensures { IsTrue result ↔ CrossesWithin (as_triangle f.now) p.now.at q.now.at }
 {
     if p.above && !q.above {
-        passes_within(p.at, q.at, &GridTriangle { a, b, c })
+        passes_within(p.at, q.at, f)
     } else {
         true
     }
 }
 
 /// So for the three edges from `p`.
-fn crosses_from(
-    p: &Spot,
-    q: &Spot,
-    r: &Spot,
-    s: &Spot,
-    a: GridPoint,
-    b: GridPoint,
-    c: GridPoint,
-) -> bool
-    requires p_is { IsSpot (triangle_of a b c) p.now }
-    requires q_is { IsSpot (triangle_of a b c) q.now }
-    requires r_is { IsSpot (triangle_of a b c) r.now }
-    requires s_is { IsSpot (triangle_of a b c) s.now }
-    ensures { IsTrue result ↔ CrossesFrom (triangle_of a b c) p.now.at q.now.at r.now.at s.now.at }
+fn crosses_from(p: &Spot, q: &Spot, r: &Spot, s: &Spot, f: &GridTriangle) -> bool
+    requires p_is { IsSpot (as_triangle f.now) p.now }
+    requires q_is { IsSpot (as_triangle f.now) q.now }
+    requires r_is { IsSpot (as_triangle f.now) r.now }
+    requires s_is { IsSpot (as_triangle f.now) s.now }
+    ensures { IsTrue result ↔ CrossesFrom (as_triangle f.now) p.now.at q.now.at r.now.at s.now.at }
 {
-    crosses_within(p, q, a, b, c) && crosses_within(p, r, a, b, c) && crosses_within(p, s, a, b, c)
-}
-
-/// So for the edges from `p` and from `q`.
-fn crosses_from_both(
-    p: &Spot,
-    q: &Spot,
-    r: &Spot,
-    s: &Spot,
-    a: GridPoint,
-    b: GridPoint,
-    c: GridPoint,
-) -> bool
-    requires p_is { IsSpot (triangle_of a b c) p.now }
-    requires q_is { IsSpot (triangle_of a b c) q.now }
-    requires r_is { IsSpot (triangle_of a b c) r.now }
-    requires s_is { IsSpot (triangle_of a b c) s.now }
-    ensures { IsTrue result ↔ (CrossesFrom (triangle_of a b c) p.now.at q.now.at r.now.at s.now.at
-        × CrossesFrom (triangle_of a b c) q.now.at p.now.at r.now.at s.now.at) }
-{
-    crosses_from(p, q, r, s, a, b, c) && crosses_from(q, p, r, s, a, b, c)
+    crosses_within(p, q, f) && crosses_within(p, r, f) && crosses_within(p, s, f)
 }
 
 /// Whether the plane cuts the tetrahedron within the triangle.
-fn section_within(
-    p: &Spot,
-    q: &Spot,
-    r: &Spot,
-    s: &Spot,
-    a: GridPoint,
-    b: GridPoint,
-    c: GridPoint,
-) -> bool
-    requires p_is { IsSpot (triangle_of a b c) p.now }
-    requires q_is { IsSpot (triangle_of a b c) q.now }
-    requires r_is { IsSpot (triangle_of a b c) r.now }
-    requires s_is { IsSpot (triangle_of a b c) s.now }
-    ensures { IsTrue result ↔ SectionWithin
-        (record { a = p.now.at; b = q.now.at; c = r.now.at; d = s.now.at }) (triangle_of a b c) }
+fn section_within(spots: &Spots, f: &GridTriangle) -> bool
+    requires { AreSpots (as_triangle f.now) spots.now }
+    ensures { IsTrue result ↔ SectionWithin (corners_at spots.now) (as_triangle f.now) }
 {
-    crosses_from_both(p, q, r, s, a, b, c) && crosses_from_both(r, s, p, q, a, b, c)
+    let Spots { a, b, c, d } = spots;
+    crosses_from(a, b, c, d, f)
+        && crosses_from(b, a, c, d, f)
+        && crosses_from(c, d, a, b, f)
+        && crosses_from(d, c, a, b, f)
 }
 
 #[inline]
@@ -337,58 +293,37 @@ fn has_both_signs(a: i128, b: i128, c: i128, d: i128) -> bool
 }
 
 /// `triangle_enters`, where the plane has corners strictly on both sides.
-fn enters_across(
-    t: &Corners,
-    a: GridPoint,
-    b: GridPoint,
-    c: GridPoint,
-    p: &Spot,
-    q: &Spot,
-    r: &Spot,
-    s: &Spot,
-) -> bool
+fn enters_across(t: &Corners, f: &GridTriangle, spots: &Spots) -> bool
     requires positive { IsPositive t.now }
-    requires p_is { IsSpot (triangle_of a b c) p.now }
-    requires q_is { IsSpot (triangle_of a b c) q.now }
-    requires r_is { IsSpot (triangle_of a b c) r.now }
-    requires s_is { IsSpot (triangle_of a b c) s.now }
-    requires spans { SpansPlane (triangle_of a b c) }
-    requires straddles { Straddles t.now (triangle_of a b c) }
-    requires corners { t.now ≡ record { a = p.now.at; b = q.now.at; c = r.now.at; d = s.now.at } }
-    ensures { IsTrue result ↔ TriangleEnters t.now (triangle_of a b c) }
+    requires spots_are { AreSpots (as_triangle f.now) spots.now }
+    requires spans { SpansPlane (as_triangle f.now) }
+    requires straddles { Straddles t.now (as_triangle f.now) }
+    requires corners { t.now ≡ corners_at spots.now }
+    ensures { IsTrue result ↔ TriangleEnters t.now (as_triangle f.now) }
 {
-    match triangle_lows(t, a, b, c) {
-        Some(l) => { side_enters(t, a, b, c, l.a, l.b, l.c) || section_within(p, q, r, s, a, b, c) }
+    match triangle_lows(t, f) {
+        Some(lows) => side_enters(t, f, lows) || section_within(spots, f),
         None => false,
     }
 }
 
 /// `triangle_enters`, where the last four numbers say on which sides of the triangle's plane the
 /// corners lie.
-fn enters_at(
-    t: &Corners,
-    a: GridPoint,
-    b: GridPoint,
-    c: GridPoint,
-    sa: i128,
-    sb: i128,
-    sc: i128,
-    sd: i128,
-) -> bool
+fn enters_at(t: &Corners, f: &GridTriangle, sa: i128, sb: i128, sc: i128, sd: i128) -> bool
     requires positive { IsPositive t.now }
-    requires spans { SpansPlane (triangle_of a b c) }
-    requires sa_is { sa ≡ orient a b c t.now.a }
-    requires sb_is { sb ≡ orient a b c t.now.b }
-    requires sc_is { sc ≡ orient a b c t.now.c }
-    requires sd_is { sd ≡ orient a b c t.now.d }
-    ensures { IsTrue result ↔ TriangleEnters t.now (triangle_of a b c) }
+    requires spans { SpansPlane (as_triangle f.now) }
+    requires sa_is { sa ≡ side (as_triangle f.now) t.now.a }
+    requires sb_is { sb ≡ side (as_triangle f.now) t.now.b }
+    requires sc_is { sc ≡ side (as_triangle f.now) t.now.c }
+    requires sd_is { sd ≡ side (as_triangle f.now) t.now.d }
+    ensures { IsTrue result ↔ TriangleEnters t.now (as_triangle f.now) }
 {
     if has_both_signs(sa, sb, sc, sd) {
-        let p = find_spot(a, b, c, t.a, sa);
-        let q = find_spot(a, b, c, t.b, sb);
-        let r = find_spot(a, b, c, t.c, sc);
-        let s = find_spot(a, b, c, t.d, sd);
-        enters_across(t, a, b, c, &p, &q, &r, &s)
+        let a = find_spot(f, t.a, sa);
+        let b = find_spot(f, t.b, sb);
+        let c = find_spot(f, t.c, sc);
+        let d = find_spot(f, t.d, sd);
+        enters_across(t, f, &Spots { a, b, c, d })
     } else {
         false
     }
@@ -407,5 +342,5 @@ pub fn triangle_enters(t: Corners, a: GridPoint, b: GridPoint, c: GridPoint) -> 
     let sb = orient_sum(a, b, c, t.b);
     let sc = orient_sum(a, b, c, t.c);
     let sd = orient_sum(a, b, c, t.d);
-    enters_at(&t, a, b, c, sa, sb, sc, sd)
+    enters_at(&t, &GridTriangle { a, b, c }, sa, sb, sc, sd)
 }
