@@ -107,9 +107,13 @@ pub minor_back : (a b c d : ℤ) → unsigned_abs a ≤ 2 ^ 24 → unsigned_abs 
 unfolding det_of_two
 minor_back a b c d h i j k = det_of_two_back a b c d h i j k
 
+-- a determinant, as 128 bits hold it
+pub determinant_back : (z : ℤ) → unsigned_abs z ≤ 3 * 2 ^ 73 → to_z w128 (of_z w128 z) ≡ z
+determinant_back z h = back w128 (3 * 2 ^ 73) z tt h
+
 -- a determinant with its sign turned
 pub turned_back : (z : ℤ) → unsigned_abs z ≤ 3 * 2 ^ 73 → to_z w128 (of_z w128 (pos 0 -ℤ to_z w128 (of_z w128 z))) ≡ neg_ℤ z
 turned_back z h =
-    ap (λ y. to_z w128 (of_z w128 (pos 0 -ℤ y))) (back w128 (3 * 2 ^ 73) z tt h)
+    ap (λ y. to_z w128 (of_z w128 (pos 0 -ℤ y))) (determinant_back z h)
     ∙ back w128 (3 * 2 ^ 73) (pos 0 -ℤ z) tt (omega (arith, ints))
     ∙ omega (arith, ints)

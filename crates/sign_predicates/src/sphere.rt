@@ -5,8 +5,8 @@ ghost use Rattle.sign_predicates.specs.Sphere.{IsTieBySides};
 ghost use Rattle.sign_predicates.specs.Vector.{IsShort, sphere_sum};
 
 use crate::sign::{is_above, is_below, vanishes};
-use crate::vector::{Vector, are_short, det_of_minors, from_to, minor, square_length};
-use crate::volumes::short_volumes;
+use crate::vector::{Vector, are_short, from_to, square_length};
+use crate::volumes::{short_volumes, wide_volumes};
 use crate::{Corners, GridPoint, Numbers};
 
 /// It is above each number of a point.
@@ -90,21 +90,16 @@ fn short_sphere_sum(a: Vector, b: Vector, c: Vector, d: Vector) -> i128
 fn long_sphere_sum(a: Vector, b: Vector, c: Vector, d: Vector) -> i128
     ensures { result ≡ sphere_sum a b c d }
 {
-    let ab = minor(a, b);
-    let ac = minor(a, c);
-    let ad = minor(a, d);
-    let bc = minor(b, c);
-    let bd = minor(b, d);
-    let cd = minor(c, d);
+    let v = wide_volumes(a, b, c, d);
     sum_of_four(
         square_length(a),
-        det_of_minors(b, c, d, cd, bd, bc),
+        v.a,
         square_length(b),
-        det_of_minors(a, c, d, cd, ad, ac),
+        v.b,
         square_length(c),
-        det_of_minors(a, b, d, bd, ad, ab),
+        v.c,
         square_length(d),
-        det_of_minors(a, b, c, bc, ac, ab),
+        v.d,
     )
 }
 
@@ -170,19 +165,13 @@ pub(crate) fn wins_by_sides(a: i128, b: i128, c: i128, d: i128, n: Numbers, m: u
 pub fn wins_tie(t: &Corners, n: Numbers, p: GridPoint, m: u32) -> bool
     ensures { result ≡ wins_tie t.now n p m }
 {
-    let (u, v) = (from_to(p, t.a), from_to(p, t.b));
-    let (w, x) = (from_to(p, t.c), from_to(p, t.d));
-    let uv = minor(u, v);
-    let uw = minor(u, w);
-    let ux = minor(u, x);
-    let vw = minor(v, w);
-    let vx = minor(v, x);
-    let wx = minor(w, x);
-    let a = det_of_minors(v, w, x, wx, vx, vw);
-    let b = det_of_minors(u, w, x, wx, ux, uw);
-    let c = det_of_minors(u, v, x, vx, ux, uv);
-    let d = det_of_minors(u, v, w, vw, uw, uv);
-    wins_by_sides(a, -b, c, -d, n, m)
+    let v = wide_volumes(
+        from_to(p, t.a),
+        from_to(p, t.b),
+        from_to(p, t.c),
+        from_to(p, t.d),
+    );
+    wins_by_sides(v.a, -v.b, v.c, -v.d, n, m)
 }
 
 /// The same by value: only in a tie do the corners have to lie in memory.

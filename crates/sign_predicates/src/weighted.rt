@@ -5,7 +5,7 @@ ghost use Rattle.sign_predicates.specs.Weighted.{weighted_sum, is_outside_weight
 
 use crate::sign::{is_below, vanishes};
 use crate::sphere::sum_of_four;
-use crate::vector::{det_of_minors, minor};
+use crate::volumes::wide_volumes;
 use crate::weighted_sums::rise;
 use crate::{Corners, GridPoint, Numbers, Vector, from_to, wins_tie};
 
@@ -19,27 +19,22 @@ pub struct FourWeights {
     pub d: i64,
 }
 
-/// The sum at the vectors from the point to the corners. It has each minor once.
+/// The sum at the vectors from the point to the corners.
 fn weighted_sum(a: Vector, b: Vector, c: Vector, d: Vector, w: FourWeights, own: i64) -> i128
     requires weights { AreWeights w }
     requires weight { IsWeight own }
     ensures { result ≡ weighted_sum a b c d w own }
 {
-    let ab = minor(a, b);
-    let ac = minor(a, c);
-    let ad = minor(a, d);
-    let bc = minor(b, c);
-    let bd = minor(b, d);
-    let cd = minor(c, d);
+    let v = wide_volumes(a, b, c, d);
     sum_of_four(
         rise(a, w.a, own),
-        det_of_minors(b, c, d, cd, bd, bc),
+        v.a,
         rise(b, w.b, own),
-        det_of_minors(a, c, d, cd, ad, ac),
+        v.b,
         rise(c, w.c, own),
-        det_of_minors(a, b, d, bd, ad, ab),
+        v.c,
         rise(d, w.d, own),
-        det_of_minors(a, b, c, bc, ac, ab),
+        v.d,
     )
 }
 
