@@ -107,6 +107,10 @@ pub minor_back : (a b c d : ℤ) → unsigned_abs a ≤ 2 ^ 24 → unsigned_abs 
 unfolding det_of_two
 minor_back a b c d h i j k = det_of_two_back a b c d h i j k
 
+-- the square of a length
+pub square_back : (z : ℤ) → unsigned_abs z ≤ 3 * 2 ^ 48 → to_z w64 (of_z w64 z) ≡ z
+square_back z h = back w64 (3 * 2 ^ 48) z tt h
+
 -- a determinant, as 128 bits hold it
 pub determinant_back : (z : ℤ) → unsigned_abs z ≤ 3 * 2 ^ 73 → to_z w128 (of_z w128 z) ≡ z
 determinant_back z h = back w128 (3 * 2 ^ 73) z tt h

@@ -1,14 +1,25 @@
 -- Inside and outside of the sphere through the corners of a tetrahedron, where ties are broken by the points' numbers.
-use Rattle.std.specs.Prelude.{◌≡◌, ℤ, pos, ◌+ℤ◌, ◌-ℤ◌, ◌*ℤ◌, ℕ, Bool, ◌&&◌, ◌||◌, if◌then◌else◌, int_lt, int_le, nat_lt, List, [], ◌∷◌, map, filter}
+use Rattle.std.specs.Prelude.{◌≡◌, ℤ, pos, ◌+ℤ◌, ◌-ℤ◌, ◌*ℤ◌, ℕ, ◌*◌, ◌^◌, ◌≤◌, unsigned_abs, Bool, ◌&&◌, ◌||◌, if◌then◌else◌, int_lt, int_le, nat_lt, List, [], ◌∷◌, map, filter}
 use Rattle.std.specs.List.{list_all, list_any}
 use Rattle.sign_predicates.specs.Point.{Point, from_to}
 use Rattle.sign_predicates.specs.Orientation.{dot, det, Triangle, side, opposite_a, opposite_b, opposite_c, opposite_d}
 use Rattle.sign_predicates.specs.declared.tetrahedron.Corners.{Corners}
 use Rattle.sign_predicates.specs.declared.tetrahedron.Numbers.{Numbers}
+use Rattle.sign_predicates.specs.declared.sphere.Squares.{Squares}
 
 -- the square of a vector's length
 abbrev pub square_length : Point → ℤ
 square_length v = dot v v
+
+abbrev pub squares : Point → Point → Point → Point → Squares
+squares a b c d = record { a = square_length a; b = square_length b; c = square_length c; d = square_length d }
+
+-- each is that of a vector between two points of the grid
+pub record AreGridSquares (s : Squares) : Type 0 where
+  pub a_small : unsigned_abs s.a ≤ 3 * 2 ^ 48
+  pub b_small : unsigned_abs s.b ≤ 3 * 2 ^ 48
+  pub c_small : unsigned_abs s.c ≤ 3 * 2 ^ 48
+  pub d_small : unsigned_abs s.d ≤ 3 * 2 ^ 48
 
 -- for a positive tetrahedron: below 0 where e is outside of the sphere through its corners, 0 where it is on it
 unfoldable pub in_sphere : Corners → Point → ℤ

@@ -1,7 +1,7 @@
 //! Whether a point is outside of the sphere through the corners of a positive tetrahedron.
 ghost use Rattle.std.specs.Prelude.{◌≡◌, ◌*◌, ◌^◌, ◌≤◌, ◌+ℤ◌, ◌-ℤ◌, ◌*ℤ◌, unsigned_abs};
 ghost use Rattle.sign_predicates.specs.Sphere.{in_sphere, least_of, wins_tie, is_outside};
-ghost use Rattle.sign_predicates.specs.Sphere.{IsTieBySides};
+ghost use Rattle.sign_predicates.specs.Sphere.{IsTieBySides, squares, AreGridSquares};
 ghost use Rattle.sign_predicates.specs.Vector.{IsShort, sphere_sum};
 
 use crate::sign::{is_above, is_below, vanishes};
@@ -63,6 +63,28 @@ pub(crate) fn short_sum_of_four(
     a as i128 * p as i128 - b as i128 * q as i128 + c as i128 * r as i128 - d as i128 * s as i128
 }
 
+/// The squares of the lengths of four vectors.
+#[derive(Clone, Copy)]
+struct Squares {
+    a: i64,
+    b: i64,
+    c: i64,
+    d: i64,
+}
+
+#[inline(always)]
+fn squares_of(a: Vector, b: Vector, c: Vector, d: Vector) -> Squares
+    ensures value { result ≡ squares a b c d }
+    ensures size { AreGridSquares result }
+{
+    Squares {
+        a: square_length(a),
+        b: square_length(b),
+        c: square_length(c),
+        d: square_length(d),
+    }
+}
+
 /// The sphere's sum at short vectors.
 #[inline(always)]
 fn short_sphere_sum(a: Vector, b: Vector, c: Vector, d: Vector) -> i128
@@ -72,17 +94,9 @@ fn short_sphere_sum(a: Vector, b: Vector, c: Vector, d: Vector) -> i128
     requires d_short { IsShort d }
     ensures { result ≡ sphere_sum a b c d }
 {
+    let s = squares_of(a, b, c, d);
     let v = short_volumes(a, b, c, d);
-    short_sum_of_four(
-        square_length(a),
-        v.a,
-        square_length(b),
-        v.b,
-        square_length(c),
-        v.c,
-        square_length(d),
-        v.d,
-    )
+    short_sum_of_four(s.a, v.a, s.b, v.b, s.c, v.c, s.d, v.d)
 }
 
 /// The sphere's sum at any vectors, with its determinants in 128 bits.
@@ -90,17 +104,9 @@ fn short_sphere_sum(a: Vector, b: Vector, c: Vector, d: Vector) -> i128
 fn long_sphere_sum(a: Vector, b: Vector, c: Vector, d: Vector) -> i128
     ensures { result ≡ sphere_sum a b c d }
 {
+    let s = squares_of(a, b, c, d);
     let v = wide_volumes(a, b, c, d);
-    sum_of_four(
-        square_length(a),
-        v.a,
-        square_length(b),
-        v.b,
-        square_length(c),
-        v.c,
-        square_length(d),
-        v.d,
-    )
+    sum_of_four(s.a, v.a, s.b, v.b, s.c, v.c, s.d, v.d)
 }
 
 /// The sphere's sum at the vectors from the point to the corners. Where they are short, its

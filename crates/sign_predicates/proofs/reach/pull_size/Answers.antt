@@ -1,12 +1,10 @@
-use Rattle.std.proofs.Common.{◌≡◌, ◌+◌, ◌*◌, ◌^◌, ◌≤◌, ℤ, w64, to_z, of_z, unsigned_abs, ap, ◌∙◌}
+use Rattle.std.proofs.Common.{◌≡◌, ◌+◌, ◌^◌, ◌≤◌, ℤ, w64, to_z, of_z, unsigned_abs, ap, ◌∙◌}
 use Rattle.exact_algebra.proofs.Size.{read, back}
 use Rattle.sign_predicates.specs.Sphere.{square_length}
 use Rattle.sign_predicates.specs.Reach.{combined, pull}
+use Rattle.sign_predicates.proofs.Vectors.{square_back}
 use mir.Syntax.{w128}
 use Rattle.sign_predicates.proofs.reach.pull_size.Goals as goal
-
-square_back : (z : ℤ) → unsigned_abs z ≤ 3 * 2 ^ 48 → to_z w64 (of_z w64 z) ≡ z
-square_back z h = back w64 (3 * 2 ^ 48) z tt h
 
 normal_back : (z : ℤ) → unsigned_abs z ≤ 2 ^ 49 → to_z w64 (of_z w64 z) ≡ z
 normal_back z h = back w64 (2 ^ 49) z tt h
