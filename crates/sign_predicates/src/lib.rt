@@ -18,7 +18,6 @@ mod triangle;
 mod vector;
 mod volumes;
 mod weighted;
-mod weighted_sums;
 
 pub use centroid::{normal_sign, orient_centroid, turn_centroid, turn_sign};
 pub use entering::triangle_enters;

@@ -3,7 +3,7 @@ use Rattle.exact_algebra.proofs.Ring.{eval}
 use Rattle.exact_algebra.proofs.Size.{machine, machine_at, raw_fits_at, eval_within, AllWithin, back}
 use Rattle.sign_predicates.proofs.Products.{two_squares, three_squares}
 use Rattle.sign_predicates.proofs.WeightedTerms.{lowered, raised, rise_bounds}
-use Rattle.sign_predicates.proofs.weighted_sums.raised_squares.Goals as goal
+use Rattle.sign_predicates.proofs.weighted.raised_squares.Goals as goal
 
 abbrev read : ℤ → ℤ
 read z = to_z w32 (of_z w32 z)
