@@ -123,7 +123,8 @@ fn holds_flat(f: &GridTriangle, p: GridPoint) -> bool
 /// Whether the segment meets a side of the triangle.
 fn meets_side(p: GridPoint, q: GridPoint, f: &GridTriangle) -> bool
     ensures { IsTrue result ↔ (SegmentMeetsTriangle p q (segment f.now.a f.now.b)
-        ⊎ (SegmentMeetsTriangle p q (segment f.now.b f.now.c) ⊎ SegmentMeetsTriangle p q (segment f.now.c f.now.a))) }
+        ⊎ (SegmentMeetsTriangle p q (segment f.now.b f.now.c)
+        ⊎ SegmentMeetsTriangle p q (segment f.now.c f.now.a))) }
 {
     if segments_meet(p, q, f.a, f.b) {
         true

@@ -21,7 +21,8 @@ struct Minors {
 fn minors_of(a: Vector, b: Vector, c: Vector, d: Vector) -> Minors
     ensures value { AreMinors a b c d result }
     ensures size { AreMinorsWithin (2 ^ 49) result }
-    ensures short { IsShort a → IsShort b → IsShort c → IsShort d → AreMinorsWithin (2 ^ 41) result }
+    ensures short { IsShort a → IsShort b → IsShort c → IsShort d
+        → AreMinorsWithin (2 ^ 41) result }
 {
     Minors {
         ab: minor(a, b),
