@@ -6,26 +6,13 @@ ghost use Rattle.grid_coords.specs.Units.{decimal_of_units, grid_text, IsNumberA
 
 use crate::Grid;
 use tet_ports::{Bytes, NoMemory};
-use tet_text::print_scaled;
+use tet_text::{lowest, print_scaled};
 
 fn with_fives(size: u32, halvings: u32) -> u64
     requires { halvings ≤ 12 }
     ensures { result ≡ size * 5 ^ halvings }
 {
     u64::from(size) * 5u64.pow(halvings)
-}
-
-/// The number / 10^`scale` with no trailing zero in its fraction.
-fn lowest(number: u64, scale: u64) -> (u64, u64)
-    ensures { result ≡ lowest number scale }
-{
-    let mut value = number;
-    let mut left = scale;
-    while left > 0 && value % 10 == 0 {
-        value /= 10;
-        left -= 1;
-    }
-    (value, left)
 }
 
 /// Appends the exact decimal that so many grid units are, with no trailing zero in the fraction.
@@ -38,6 +25,7 @@ pub fn print_grid(grid: &Grid, coordinate: i32, out: &mut Bytes) -> Result<(), N
     ensures exact { IsNumberAt grid.now coordinate (decimal_of_units grid.now coordinate) }
 {
     let size = with_fives(coordinate.unsigned_abs(), grid.halvings);
-    let (size, scale) = lowest(size, u64::from(grid.decimals) + u64::from(grid.halvings));
-    print_scaled(coordinate < 0, u128::from(size), scale, out)
+    let scale = u64::from(grid.decimals) + u64::from(grid.halvings);
+    let (size, scale) = lowest(u128::from(size), scale);
+    print_scaled(coordinate < 0, size, scale, out)
 }

@@ -9,7 +9,6 @@ ghost use Rattle.tet_text.specs.Faults.{not_a_number};
 use crate::cuts::{cut_exponent, cut_point};
 use crate::digits::{cut_sign, digits_after, read_digits};
 use crate::numbers::no_number;
-use crate::plain::lowest_of;
 use crate::{Field, TextFault};
 use std::marker::Model;
 
@@ -54,8 +53,9 @@ fn raised(number: u128, by: u32) -> Option<u128>
 
 /// The number / 10^`scale` with no trailing zero in its fraction: what is left of the number, and
 /// of the scale.
-pub fn without_trailing_zeros(number: u128, scale: u32) -> (u128, u32)
-    ensures { result ≡ lowest number scale }
+pub fn lowest(number: u128, scale: u64) -> (u128, u64)
+    ensures value { result ≡ lowest number scale }
+    ensures shorter { result.1 ≤ scale }
 {
     let mut value = number;
     let mut left = scale;
@@ -64,6 +64,14 @@ pub fn without_trailing_zeros(number: u128, scale: u32) -> (u128, u32)
         left -= 1;
     }
     (value, left)
+}
+
+/// The same, where the scale is one of a decimal.
+pub fn without_trailing_zeros(number: u128, scale: u32) -> (u128, u32)
+    ensures { result ≡ lowest number scale }
+{
+    let (value, left) = lowest(number, u64::from(scale));
+    (value, left as u32)
 }
 
 /// The number times 10^`raise` / 10^`lower`, or None where that is 10^36 or more.
@@ -117,8 +125,8 @@ pub(crate) fn short_decimal(negative: bool, number: u64, decimals: u32) -> Decim
     requires { number < 10 ^ 19 }
     ensures { result ≡ with_sign negative (lowest number decimals) }
 {
-    let (size, scale) = lowest_of(number, decimals);
-    let value = signed(negative, u128::from(size));
+    let (size, scale) = without_trailing_zeros(u128::from(number), decimals);
+    let value = signed(negative, size);
     Decimal { value, scale }
 }
 

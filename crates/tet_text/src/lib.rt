@@ -12,7 +12,7 @@ mod plain;
 mod printing;
 mod wanted;
 
-pub use decimal::{Decimal, decimal_in, read_decimal, without_trailing_zeros};
+pub use decimal::{Decimal, decimal_in, lowest, read_decimal, without_trailing_zeros};
 pub use digits::read_digits;
 pub use fault::{TextFault, TextKind};
 pub use laws::{law_fields, law_printed};

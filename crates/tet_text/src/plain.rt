@@ -4,7 +4,6 @@ ghost use Rattle.std.specs.Prelude.{◌≡◌, ◌==◌, ◌≤◌, ◌<◌, ◌
 ghost use Rattle.std.specs.List.{list_all, prefix_len};
 ghost use Rattle.tet_text.specs.Lines.{is_no_blank};
 ghost use Rattle.tet_text.specs.Numbers.{digits_from};
-ghost use Rattle.tet_text.specs.Decimals.{lowest};
 ghost use Rattle.tet_text.specs.PlainTexts.{IsPlain, IsPlainField};
 
 use crate::cuts::is_blank;
@@ -88,18 +87,4 @@ pub(crate) fn plain_field(bytes: &[u8]) -> Option<(bool, u64, u32, &[u8])>
         return None;
     }
     Some((negative, number, decimals, rest))
-}
-
-/// The number / 10^`scale` with no trailing zero in its fraction: what is left of the number, and
-/// of the scale.
-pub(crate) fn lowest_of(number: u64, scale: u32) -> (u64, u32)
-    ensures { result ≡ lowest number scale }
-{
-    let mut value = number;
-    let mut left = scale;
-    while left > 0 && value % 10 == 0 {
-        value /= 10;
-        left -= 1;
-    }
-    (value, left)
 }
