@@ -10,13 +10,15 @@ use crate::{DecimalPoint, DecimalPoints, Grid, Range};
 /// How often a unit is halved at most.
 const MOST_HALVINGS: u32 = 12;
 
-fn decimals_of(p: &DecimalPoint) -> u32
+/// The most decimals that a coordinate of the point has.
+pub fn decimals_of(p: &DecimalPoint) -> u32
     ensures { result ≡ decimals_of p.now }
 {
     p.x.scale.max(p.y.scale.max(p.z.scale))
 }
 
-fn most_decimals(points: &[DecimalPoint]) -> u32
+/// The most decimals that a coordinate of the points has, or 0 where there is no point.
+pub fn most_decimals(points: &[DecimalPoint]) -> u32
     ensures { result ≡ most_decimals points.now }
 {
     let mut most = 0;
@@ -26,8 +28,9 @@ fn most_decimals(points: &[DecimalPoint]) -> u32
     most
 }
 
-/// The greatest size of the point's coordinates, or None where that is over the limit.
-fn size_of(decimals: u32, p: &DecimalPoint) -> Option<u64>
+/// The greatest size of the point's coordinates in units of so many decimals, or None where that is
+/// over 2^23.
+pub fn size_of(decimals: u32, p: &DecimalPoint) -> Option<u64>
     ensures { result ≡ if_at_most limit (size_of decimals p.now) }
 {
     let decimals = u64::from(decimals);

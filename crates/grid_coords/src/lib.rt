@@ -10,7 +10,7 @@ mod printing;
 mod rounding;
 mod units;
 
-pub use choice::choose_grid;
+pub use choice::{choose_grid, decimals_of, most_decimals, size_of};
 pub use grid::{Grid, Range};
 pub use middle::midpoint;
 pub use place::{to_grid, to_rat};
