@@ -1,5 +1,5 @@
 -- The places of points, looked up by their coordinates.
-use Rattle.std.proofs.Common.{◌≡◌, ◌≢◌, ℕ, ℤ, ◌+◌, ◌<◌, ◌≤◌, length, List, [], ◌∷◌, ◌++◌, Bool, true, cond, Option, Some, None, refl, sym, ap, ◌∙◌, arith, inl, inr, ◌&&◌}
+use Rattle.std.proofs.Common.{◌≡◌, ◌≢◌, ℕ, ℤ, ◌<◌, length, List, [], ◌∷◌, ◌++◌, Bool, true, cond, Option, Some, None, refl, sym, ap, ◌∙◌, arith, inl, inr, ◌&&◌}
 use Rattle.std.specs.Ordering.{int_eq}
 use Rattle.std.proofs.lemmas.Cmp.{int_eq_equiv}
 use Rattle.std.proofs.lemmas.Bool.Decides.{Decides-int_eq}

@@ -1,11 +1,9 @@
 -- Fractions in lowest terms.
-use Rattle.std.proofs.Common.{◌≡◌, ◌≢◌, ℕ, zero, suc, ◌+◌, ◌-◌, ◌*◌, ◌/◌, ◌%◌, ◌^◌, ◌<◌, ◌≤◌, Bool, true, false, eqb, refl, sym, ap, ◌∙◌, arith, inl, inr, unsigned_abs}
+use Rattle.std.proofs.Common.{◌≡◌, ◌≢◌, ℕ, zero, suc, ◌+◌, ◌-◌, ◌*◌, ◌/◌, ◌%◌, ◌^◌, ◌<◌, ◌≤◌, true, false, eqb, refl, sym, ap, ◌∙◌, arith, inl, inr, unsigned_abs}
 use Rattle.std.proofs.lemmas.Bool.{cond-true, cond-false, eqb-true, cases_Bool}
 use Rattle.std.proofs.lemmas.Nat.{pow-add, mul-pow, div-add-mod', mul-mod_first}
 use Rattle.std.proofs.Math.Nat.{pow-suc, mul_assoc}
-use Rattle.tet_text.specs.Decimals.{Scaled}
-use Rattle.grid_coords.specs.declared.grid.Grid.{Grid}
-use Rattle.node_files.specs.Terms.{divided_out, terms_of, AreLowestTerms, TermsLaw}
+use Rattle.node_files.specs.Terms.{divided_out, terms_of, TermsLaw}
 use Rattle.node_files.specs.LeastGrid.{units_on, UnitsLaw}
 
 -- a step in which the factor is taken out, and one in which it stays

@@ -1,5 +1,5 @@
 -- Numbers times powers of two bases, within the limit.
-use Rattle.std.proofs.Common.{◌≡◌, ℕ, ◌*◌, ◌^◌, Some, None, sym, ap, ◌∙◌, arith, refl}
+use Rattle.std.proofs.Common.{◌≡◌, ℕ, ◌*◌, ◌^◌, Some, None, sym, ap, ◌∙◌, arith}
 use Rattle.std.specs.Prelude.{option_and_then}
 use Rattle.grid_coords.specs.Units.{limit, if_at_most}
 use Rattle.grid_coords.proofs.Products.{within_twice, pow_some}

@@ -1,5 +1,5 @@
 -- How large an input may be.
-use Rattle.std.specs.Prelude.{ℕ, ◌-◌, ◌≤◌, ◌<◌, ◌^◌}
+use Rattle.std.specs.Prelude.{◌-◌, ◌≤◌, ◌<◌, ◌^◌}
 use Rattle.node_files.specs.declared.limits.Limits.{Limits}
 
 -- the limits of the program `tetgen`: 2^26 bytes of a file, and so many points, facets, and corners of a polygon

@@ -1,13 +1,11 @@
 -- The points of a mesh on their least grid.
-use Rattle.std.specs.Prelude.{◌≡◌, ℕ, ◌<◌, ◌≤◌, length, List, map, Option, Some, None, Result, Ok, Err}
+use Rattle.std.specs.Prelude.{◌≡◌, ℕ, ◌<◌, ◌≤◌, length, List, map, Option, Result, Ok, Err}
 use Rattle.sign_predicates.specs.Point.{Point}
 use Rattle.grid_coords.specs.declared.grid.Grid.{Grid}
 use Rattle.grid_coords.specs.declared.points.DecimalPoint.{DecimalPoint}
-use Rattle.grid_coords.specs.Rounding.{rounded}
 use Rattle.node_files.specs.declared.grid_fault.GridFault.{GridFault}
 use Rattle.node_files.specs.declared.grid_fault.GridFault.TheVariants as faults
 use Rattle.node_files.specs.LeastGrid.{least_grid_of, point_on}
-use Rattle.node_files.specs.Settling.{rounded_point}
 use Rattle.node_files.specs.Settling.{rounded_points}
 
 -- there are more points than are allowed

@@ -5,40 +5,16 @@ ghost use Rattle.grid_coords.specs.Units.{IsPointOnGrid, grid_point};
 ghost use Rattle.geo_laws.specs.Delaunay.{HasDistinctPoints};
 ghost use Rattle.node_files.specs.Limits.{AreIndexable};
 ghost use Rattle.node_files.specs.Node.{IsNodeText};
-ghost use Rattle.node_files.specs.Settling.{rounded_point, rounded_points, Settles};
+ghost use Rattle.node_files.specs.Settling.{rounded_points, Settles};
 ghost use Rattle.node_files.specs.Writing.{IsNodeTable};
 
 use crate::folding::{Folding, fold_points};
+use crate::rounding::each_rounded;
 use crate::{GridOptions, Limits, NodeFault, NodeTable, NodeText};
 use geo_laws::Points;
-use grid_coords::{DecimalPoint, DecimalPoints, Grid, choose_grid, round_to, to_grid};
+use grid_coords::{DecimalPoint, DecimalPoints, Grid, choose_grid, to_grid};
 use std::alloc::Global;
 use tet_ports::NoMemory;
-
-fn rounded_point(decimals: u32, p: &DecimalPoint) -> DecimalPoint
-    ensures { result ≡ rounded_point decimals p.now }
-{
-    DecimalPoint {
-        x: round_to(&p.x, decimals),
-        y: round_to(&p.y, decimals),
-        z: round_to(&p.z, decimals),
-        line: p.line,
-    }
-}
-
-fn each_rounded(
-    alloc: Global,
-    decimals: u32,
-    points: &[DecimalPoint],
-) -> Result<DecimalPoints, NoMemory>
-    ensures { IfOk result (λ list. list ≡ map (rounded_point decimals) points.now) }
-{
-    let mut list = DecimalPoints::with_capacity(alloc, points.len())?;
-    for p in points {
-        list.push(rounded_point(decimals, p))?;
-    }
-    Ok(list)
-}
 
 fn rounded_points(
     alloc: Global,

@@ -3,39 +3,14 @@
 ghost use Rattle.std.specs.Prelude.{◌≡◌, ◌≤◌, ◌<◌, ◌-◌, ◌^◌, map, All, IfOk, length};
 ghost use Rattle.node_files.specs.LeastGrid.{point_on, IsPointInUnits};
 ghost use Rattle.node_files.specs.SettlingLeast.{SettlesLeast};
-ghost use Rattle.node_files.specs.Settling.{rounded_point, rounded_points};
 
 use crate::GridFault;
 use crate::least::{least_grid, to_least_grid};
+use crate::rounding::each_rounded;
 use geo_laws::Points;
-use grid_coords::{DecimalPoint, DecimalPoints, Grid, round_to};
+use grid_coords::{DecimalPoint, DecimalPoints, Grid};
 use std::alloc::Global;
 use tet_ports::NoMemory;
-
-fn rounded_point(decimals: u32, p: &DecimalPoint) -> DecimalPoint
-    ensures { result ≡ rounded_point decimals p.now }
-{
-    DecimalPoint {
-        x: round_to(&p.x, decimals),
-        y: round_to(&p.y, decimals),
-        z: round_to(&p.z, decimals),
-        line: p.line,
-    }
-}
-
-fn each_rounded(
-    alloc: Global,
-    decimals: u32,
-    points: &[DecimalPoint],
-) -> Result<DecimalPoints, NoMemory>
-    ensures { IfOk result (λ list. list ≡ map (rounded_point decimals) points.now) }
-{
-    let mut list = DecimalPoints::with_capacity(alloc, points.len())?;
-    for p in points {
-        list.push(rounded_point(decimals, p))?;
-    }
-    Ok(list)
-}
 
 /// The points in units of a grid on which all have whole coordinates, at most 2^23 in size.
 pub fn grid_points(alloc: Global, grid: &Grid, points: &[DecimalPoint]) -> Result<Points, NoMemory>

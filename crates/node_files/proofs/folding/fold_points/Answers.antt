@@ -1,4 +1,4 @@
-use Rattle.std.proofs.Common.{◌≡◌, ap, sym, ◌∙◌, arith, Some, None, cond, refl}
+use Rattle.std.proofs.Common.{◌≡◌, ap, sym, ◌∙◌, arith, Some, cond, refl}
 use Rattle.std.specs.HashMap.{get}
 use Rattle.sign_predicates.specs.Point.{origin}
 use Rattle.geo_laws.specs.Delaunay.{point}

@@ -1,9 +1,5 @@
-use Rattle.std.proofs.Common.{◌≡◌, sym, ap, ◌∙◌, subst, None, Some, refl}
-use Rattle.std.specs.Prelude.{All, option_map}
-use Rattle.grid_coords.specs.declared.grid.Grid.{Grid}
-use Rattle.grid_coords.specs.declared.points.DecimalPoint.{DecimalPoint}
-use Rattle.grid_coords.specs.Choice.{unless_over}
-use Rattle.node_files.specs.LeastGrid.{coarsest, first_over_units, least_grid_of, IsPointInUnits}
+use Rattle.std.proofs.Common.{sym, ap, ◌∙◌, refl}
+use Rattle.node_files.specs.LeastGrid.{coarsest, first_over_units, least_grid_of}
 use Rattle.node_files.proofs.Greatest.{line_some, line_none, points_on}
 use Rattle.node_files.proofs.least.least_grid.Goals as goal
 

@@ -1,10 +1,9 @@
-use Rattle.std.proofs.Common.{◌≡◌, ℕ, ◌≤◌, ◌^◌, ap, ◌∙◌, arith}
+use Rattle.std.proofs.Common.{ℕ, ◌≤◌, ◌^◌, ap, ◌∙◌, arith}
 use Rattle.std.specs.Int.{w128}
 use Rattle.std.specs.Prelude.{unsigned_abs}
 use Rattle.exact_algebra.proofs.Size.{back}
 use Rattle.tet_text.specs.Decimals.{Scaled}
 use Rattle.node_files.specs.Terms.{divided_out}
-use Rattle.node_files.specs.declared.terms.Terms.{Terms}
 use Rattle.node_files.proofs.terms.terms_of.Goals as goal
 
 pub returns : goal.returns
