@@ -1,5 +1,5 @@
 -- The fields of the rows of a mesh's files.
-use Rattle.std.specs.Prelude.{ℕ, ◌+◌, ◌-◌, Bool, true, false, ◌&&◌, [], ◌∷◌, Result, Ok, Err, nat_le, nat_lt, ◌==◌, if◌then◌else◌}
+use Rattle.std.specs.Prelude.{ℕ, ◌+◌, ◌-◌, Bool, true, false, ◌&&◌, Result, Ok, Err, nat_le, nat_lt, ◌==◌, if◌then◌else◌}
 use Rattle.tet_text.specs.declared.fault.TextFault.{TextFault}
 use Rattle.tet_text.specs.Lines.{ContentLine}
 use Rattle.tet_text.specs.Faults.{bad_index}

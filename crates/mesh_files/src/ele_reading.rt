@@ -10,64 +10,35 @@ ghost use Rattle.mesh_files.specs.ReadRows.{tet_row, tets_of, ele_of, AreCorners
 ghost use Rattle.tet_text.specs.Repeated.{so_many};
 
 use crate::MeshFault;
-use crate::field_reading::{Head, Listed, pass_over, read_corner, read_four_head, read_number};
+use crate::field_reading::{Listed, pass_over, read_corner, read_four_head, read_number};
+use crate::rows::{Row, read_rows};
 use geo_laws::{Tet, TetList};
 use std::alloc::Global;
 use tet_ports::Bytes;
 use tet_text::{Fields, Lines, TextFault};
 
-/// A row with the wanted number: its corners, and an attribute where the flag is set.
-#[tactic(auto, unfolding(crate::specs::ReadRows::tet_row))]
-fn read_row(listed: Listed, flag: bool, wanted: u64, fields: &mut Fields) -> Result<Tet, TextFault>
-    requires { listed.points < 2 ^ 32 - 1 }
-    ensures value { result ≡ tet_row listed flag wanted fields.old }
-    ensures there { IfOk result (AreCornersBelow listed.points) }
-{
-    read_number(wanted, fields)?;
-    let a = read_corner(listed, fields)?;
-    let b = read_corner(listed, fields)?;
-    let c = read_corner(listed, fields)?;
-    let d = read_corner(listed, fields)?;
-    pass_over(flag, fields)?;
-    fields.want_end()?;
-    Ok(Tet { a, b, c, d })
-}
+impl Row for Tet {
+    ghost row_of = { tet_row };
 
-#[tactic(auto, unfolding(crate::specs::Repeated::next_row))]
-fn read_next(listed: Listed, flag: bool, wanted: u64, lines: &mut Lines) -> Result<Tet, TextFault>
-    requires points { listed.points < 2 ^ 32 - 1 }
-    requires lines { line_total lines.old + 1 < 2 ^ 64 }
-    ensures value { left_after (λ row. row) result (wanted + 1, content_left lines.new)
-        ≡ next_row (tet_row listed flag) (line_total lines.old) (wanted, content_left lines.old) }
-    ensures there { IfOk result (AreCornersBelow listed.points) }
-    ensures count { line_total lines.new ≡ line_total lines.old }
-{
-    let mut fields = lines.want_line()?;
-    read_row(listed, flag, wanted, &mut fields)
-}
+    ghost is_below = { AreCornersBelow };
 
-/// So many rows, numbered from the first number on.
-fn read_rows(
-    alloc: Global,
-    listed: Listed,
-    head: Head,
-    lines: &mut Lines,
-) -> Result<TetList, MeshFault>
-    requires points { listed.points < 2 ^ 32 - 1 }
-    requires count { head.count < 10 ^ 18 }
-    requires lines { line_total lines.old + 1 < 2 ^ 64 }
-    ensures value { MeshGives (λ rows. (rows, (listed.first + head.count, content_left lines.new)))
-        result (so_many (next_row (tet_row listed head.flag) (line_total lines.old)) head.count
-        (listed.first, content_left lines.old)) }
-    ensures there { IfOk result (All (AreCornersBelow listed.points)) }
-    ensures count { line_total lines.new ≡ line_total lines.old }
-{
-    let mut rows = TetList::new(alloc);
-    for i in 0..head.count {
-        let row = read_next(listed, head.flag, u64::from(listed.first) + i, lines)?;
-        rows.push(row)?;
+    /// A row with the wanted number: its corners, and an attribute where the flag is set.
+    #[tactic(auto, unfolding(crate::specs::ReadRows::tet_row))]
+    fn read(
+        listed: Listed,
+        flag: bool,
+        wanted: u64,
+        fields: &mut Fields,
+    ) -> Result<Tet, TextFault> {
+        read_number(wanted, fields)?;
+        let a = read_corner(listed, fields)?;
+        let b = read_corner(listed, fields)?;
+        let c = read_corner(listed, fields)?;
+        let d = read_corner(listed, fields)?;
+        pass_over(flag, fields)?;
+        fields.want_end()?;
+        Ok(Tet { a, b, c, d })
     }
-    Ok(rows)
 }
 
 #[tactic(auto, unfolding(crate::specs::ReadRows::tets_of))]

@@ -9,7 +9,8 @@ ghost use Rattle.mesh_files.specs.Repeated.{next_row};
 ghost use Rattle.mesh_files.specs.ReadRows.{marker_field, face_row, face_rows_of, face_list_of, IsFaceBelow};
 ghost use Rattle.tet_text.specs.Repeated.{so_many};
 
-use crate::field_reading::{Head, Listed, read_corner, read_flag_head, read_number};
+use crate::field_reading::{Listed, read_corner, read_flag_head, read_number};
+use crate::rows::{Row, read_rows};
 use crate::{FaceRow, FaceRows, MeshFault};
 use std::alloc::Global;
 use tet_ports::Bytes;
@@ -25,67 +26,27 @@ fn read_marker(flag: bool, fields: &mut Fields) -> Result<i64, TextFault>
     if flag { fields.want_whole() } else { Ok(0) }
 }
 
-/// A row with the wanted number: its corners, and a marker where the flag is set.
-#[tactic(auto, unfolding(crate::specs::ReadRows::face_row))]
-fn read_row(
-    listed: Listed,
-    flag: bool,
-    wanted: u64,
-    fields: &mut Fields,
-) -> Result<FaceRow, TextFault>
-    requires { listed.points < 2 ^ 32 - 1 }
-    ensures value { result ≡ face_row listed flag wanted fields.old }
-    ensures there { IfOk result (IsFaceBelow listed.points) }
-{
-    read_number(wanted, fields)?;
-    let a = read_corner(listed, fields)?;
-    let b = read_corner(listed, fields)?;
-    let c = read_corner(listed, fields)?;
-    let marker = read_marker(flag, fields)?;
-    fields.want_end()?;
-    Ok(FaceRow { a, b, c, marker })
-}
+impl Row for FaceRow {
+    ghost row_of = { face_row };
 
-#[tactic(auto, unfolding(crate::specs::Repeated::next_row))]
-fn read_next(
-    listed: Listed,
-    flag: bool,
-    wanted: u64,
-    lines: &mut Lines,
-) -> Result<FaceRow, TextFault>
-    requires points { listed.points < 2 ^ 32 - 1 }
-    requires lines { line_total lines.old + 1 < 2 ^ 64 }
-    ensures value { left_after (λ row. row) result (wanted + 1, content_left lines.new)
-        ≡ next_row (face_row listed flag) (line_total lines.old) (wanted, content_left lines.old) }
-    ensures there { IfOk result (IsFaceBelow listed.points) }
-    ensures count { line_total lines.new ≡ line_total lines.old }
-{
-    let mut fields = lines.want_line()?;
-    read_row(listed, flag, wanted, &mut fields)
-}
+    ghost is_below = { IsFaceBelow };
 
-/// So many rows, numbered from the first number on.
-fn read_rows(
-    alloc: Global,
-    listed: Listed,
-    head: Head,
-    lines: &mut Lines,
-) -> Result<FaceRows, MeshFault>
-    requires points { listed.points < 2 ^ 32 - 1 }
-    requires count { head.count < 10 ^ 18 }
-    requires lines { line_total lines.old + 1 < 2 ^ 64 }
-    ensures value { MeshGives (λ rows. (rows, (listed.first + head.count, content_left lines.new)))
-        result (so_many (next_row (face_row listed head.flag) (line_total lines.old)) head.count
-        (listed.first, content_left lines.old)) }
-    ensures there { IfOk result (All (IsFaceBelow listed.points)) }
-    ensures count { line_total lines.new ≡ line_total lines.old }
-{
-    let mut rows = FaceRows::new(alloc);
-    for i in 0..head.count {
-        let row = read_next(listed, head.flag, u64::from(listed.first) + i, lines)?;
-        rows.push(row)?;
+    /// A row with the wanted number: its corners, and a marker where the flag is set.
+    #[tactic(auto, unfolding(crate::specs::ReadRows::face_row))]
+    fn read(
+        listed: Listed,
+        flag: bool,
+        wanted: u64,
+        fields: &mut Fields,
+    ) -> Result<FaceRow, TextFault> {
+        read_number(wanted, fields)?;
+        let a = read_corner(listed, fields)?;
+        let b = read_corner(listed, fields)?;
+        let c = read_corner(listed, fields)?;
+        let marker = read_marker(flag, fields)?;
+        fields.want_end()?;
+        Ok(FaceRow { a, b, c, marker })
     }
-    Ok(rows)
 }
 
 #[tactic(auto, unfolding(crate::specs::ReadRows::face_rows_of))]

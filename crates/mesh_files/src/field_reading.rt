@@ -2,10 +2,9 @@
 
 ghost use Rattle.std.specs.Prelude.{◌≡◌, ◌<◌, ◌≤◌, ◌+◌, ◌-◌, ◌^◌, drop, IfOk};
 ghost use Rattle.tet_text.specs.Reading.{left_after};
-ghost use Rattle.node_files.specs.Header.{is_count_in_range, count_within};
 ghost use Rattle.mesh_files.specs.ReadFields.{is_listed, flag_at, numbered, corner_place_at, passed_over, four_head, flag_head};
 
-use node_files::count_or;
+use node_files::{count_or, count_within};
 use tet_text::{Fields, TextFault, TextKind};
 
 /// What the first line of a list says: how many rows there are, and whether each ends with a
@@ -21,29 +20,6 @@ pub(crate) struct Head {
 pub(crate) struct Listed {
     pub(crate) first: u32,
     pub(crate) points: u64,
-}
-
-fn is_within(least: u64, most: u64, count: u64) -> bool
-    ensures { result ≡ is_count_in_range least most count }
-{
-    least <= count && count <= most
-}
-
-/// The next field as a count from `least` to `most`.
-#[tactic(auto, unfolding(node_files::specs::Header::count_within))]
-fn count_within(least: u64, most: u64, fields: &mut Fields) -> Result<u64, TextFault>
-    ensures value { left_after (λ n. n) result fields.new.fields
-        ≡ count_within least most fields.old.line fields.old.fields }
-    ensures line { fields.new.line ≡ fields.old.line }
-{
-    let count = fields.want_count()?;
-    if is_within(least, most, count) {
-        return Ok(count);
-    }
-    Err(TextFault {
-        line: fields.line(),
-        kind: TextKind::BadCount,
-    })
 }
 
 /// The flag, which may be missing, where there may be one.

@@ -22,6 +22,7 @@ mod names;
 mod neigh;
 mod neigh_reading;
 mod piece;
+mod rows;
 
 pub use edge::write_edge;
 pub use ele::write_ele;

@@ -1,5 +1,4 @@
 use Rattle.std.proofs.Common.{◌≡◌, ◌-◌, ◌+◌}
-use Rattle.std.specs.Prelude.{All}
 use Rattle.tet_text.specs.Views.{content_left, line_total}
 use Rattle.mesh_files.specs.Repeated.{next_row}
 use Rattle.mesh_files.specs.ReadRows.{across_row}
