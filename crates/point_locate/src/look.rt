@@ -6,7 +6,7 @@ ghost use Rattle.mesh_arena.specs.Mesh.{corner_list};
 ghost use Rattle.point_locate.specs.Place.{corner_point, placed, row_corners, AreOn, IsCornerOn, Looks};
 ghost use Rattle.point_locate.specs.Place.{HasShape};
 
-use geo_laws::{Points, Tet};
+use geo_laws::{Points, Tet, corners_of};
 use mesh_arena::{Corner, SlotCorners};
 use sign_predicates::{Corners, GridPoint, Sign, beyond, orient};
 
@@ -80,12 +80,7 @@ pub fn row_points(points: &Points, row: Tet) -> Corners
     requires { AreOn points.now (row_corners row) }
     ensures { result ≡ corners points.now row }
 {
-    Corners {
-        a: points.at(row.a as usize),
-        b: points.at(row.b as usize),
-        c: points.at(row.c as usize),
-        d: points.at(row.d as usize),
-    }
+    corners_of(points, row)
 }
 
 fn is_positive(t: Corners) -> bool
