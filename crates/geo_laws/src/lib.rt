@@ -14,4 +14,4 @@ pub use laws::{
     law_cover, law_delaunay_list, law_hull, law_least_height, law_lift, law_nudge, law_radical,
     law_residual, law_three_term,
 };
-pub use tetrahedra::{Points, Tet, TetList, arranged, corners_of};
+pub use tetrahedra::{Points, Tet, TetList, arranged, corners_of, numbers_of};

@@ -1,9 +1,9 @@
 //! Tetrahedra by the numbers of their corners, and lists of points and of tetrahedra.
 ghost use Rattle.std.specs.Prelude.{◌≡◌};
 ghost use Rattle.geo_laws.specs.Arrangement.{IsEvenOf, HasLeastFirst, HasLeastSecond};
-ghost use Rattle.geo_laws.specs.Delaunay.{corners, IsOn};
+ghost use Rattle.geo_laws.specs.Delaunay.{as_numbers, corners, IsOn};
 
-use sign_predicates::{Corners, GridPoint};
+use sign_predicates::{Corners, GridPoint, Numbers};
 use tet_ports::Items;
 
 /// A row: the four corners of a tetrahedron by the numbers of their points, which are places in a
@@ -34,6 +34,19 @@ pub fn corners_of(points: &Points, row: Tet) -> Corners
         b: points.at(row.b as usize),
         c: points.at(row.c as usize),
         d: points.at(row.d as usize),
+    }
+}
+
+/// The numbers of a row's corners.
+#[inline]
+pub fn numbers_of(row: Tet) -> Numbers
+    ensures { result ≡ as_numbers row }
+{
+    Numbers {
+        a: row.a,
+        b: row.b,
+        c: row.c,
+        d: row.d,
     }
 }
 
