@@ -1,13 +1,17 @@
 //! Lists, cavities and sides of small sets of points.
-ghost use Rattle.std.specs.Prelude.{ℕ, ◌≡◌, ◌≢◌, ◌^◌, ◌<◌, ◌≤◌, ◌≤ℤ◌, pos, IsTrue, IfSome, length};
-ghost use Rattle.geo_laws.specs.Delaunay.{point, all_numbers, HasDistinctPoints};
+ghost use Rattle.std.specs.Prelude.{◌≡◌, ◌^◌, ◌<◌, ◌≤◌, ◌≤ℤ◌, pos, length};
+ghost use Rattle.geo_laws.specs.Delaunay.{all_numbers, HasDistinctPoints};
 ghost use Rattle.mesh_arena.specs.Mesh.{IsLive};
 ghost use Rattle.mesh_laws.specs.Living.{IsDelaunayMesh};
 
+use crate::small_sets::{
+    CUBE, CUBE_ROWS, are_distinct, are_rows, grid_point, is_new, is_small_set, next_state,
+    small_set,
+};
 use cavity_insert::{
     BuildFault, Living, Steps, delaunay, delaunay_with_hull, grow_cavity, test_slot,
 };
-use geo_laws::{Face, Points, Tet, TetList};
+use geo_laws::{Face, Points};
 use mesh_arena::{Arena, Slot};
 use sign_predicates::GridPoint;
 use std::alloc::Global;
@@ -15,78 +19,9 @@ use std::marker::Brand;
 use std::sync::ledger::{Blank, Ledger};
 use tet_ports::NoMemory;
 
-fn grid_point(p: [i8; 3]) -> GridPoint {
-    GridPoint {
-        x: p[0] as i32,
-        y: p[1] as i32,
-        z: p[2] as i32,
-    }
-}
-
-fn points(alloc: Global, coordinates: &[[i8; 3]]) -> Result<Points, NoMemory> {
-    let mut points = Points::new(alloc);
-    for p in coordinates {
-        points.push(grid_point(*p))?;
-    }
-    Ok(points)
-}
-
-/// Whether the point is none of the first n.
-fn is_new(points: &Points, n: usize, p: GridPoint) -> bool
-    requires { n ≤ length points.now }
-    ensures { IsTrue result → (i : ℕ) → i < n → point points.now i ≢ p }
-{
-    for i in 0..n {
-        if points.at(i) == p {
-            return false;
-        }
-    }
-    true
-}
-
-fn are_distinct(points: &Points) -> bool
-    ensures { IsTrue result → HasDistinctPoints points.now }
-{
-    for j in 0..points.len() {
-        if !is_new(points, j, points.at(j)) {
-            return false;
-        }
-    }
-    true
-}
-
-fn are_rows(rows: &TetList, want: &[[u32; 4]]) -> bool {
-    if rows.len() != want.len() {
-        return false;
-    }
-    for (i, w) in want.iter().enumerate() {
-        let row = Tet {
-            a: w[0],
-            b: w[1],
-            c: w[2],
-            d: w[3],
-        };
-        if rows.at(i) != row {
-            return false;
-        }
-    }
-    true
-}
-
-/// These points, if they are distinct and few.
-fn distinct_points(alloc: Global, coordinates: &[[i8; 3]]) -> Option<Points>
-    ensures distinct { IfSome result HasDistinctPoints }
-    ensures few { IfSome result (λ points. length points ≤ 1000) }
-{
-    match points(alloc, coordinates) {
-        Ok(points) if points.len() <= 1000 && are_distinct(&points) => Some(points),
-        _ => None,
-    }
-}
-
 /// Whether the list of the points has these rows; none stands for `Flat`.
-fn has_list(alloc: Global, coordinates: &[[i8; 3]], want: &[[u32; 4]]) -> bool {
-    match distinct_points(alloc, coordinates) {
+fn has_list(alloc: Global, parts: &[&[[i8; 3]]], want: &[[u32; 4]]) -> bool {
+    match small_set(alloc, parts) {
         Some(points) => has_rows(alloc, &points, want),
         None => false,
     }
@@ -107,18 +42,6 @@ const PYRAMID: [[i8; 3]; 5] = [[0, 0, 0], [2, 0, 0], [2, 2, 0], [0, 2, 0], [1, 1
 
 const PYRAMID_ROWS: [[u32; 4]; 2] = [[0, 1, 3, 4], [1, 2, 3, 4]];
 
-// The corners of a cube.
-const CUBE: [[i8; 3]; 8] = [
-    [0, 0, 0],
-    [2, 0, 0],
-    [2, 2, 0],
-    [0, 2, 0],
-    [0, 0, 2],
-    [2, 0, 2],
-    [2, 2, 2],
-    [0, 2, 2],
-];
-
 // A box and the ends of three axes on a sphere of radius 3.
 const ON_A_SPHERE: [[i8; 3]; 14] = [
     [1, 2, 2],
@@ -137,8 +60,8 @@ const ON_A_SPHERE: [[i8; 3]; 14] = [
     [0, 0, -3],
 ];
 
-// Points of one plane with two off it, on either side.
-const NEARLY_FLAT: [[i8; 3]; 10] = [
+// Points of one plane with one off it, and one on the other side.
+const NEARLY_FLAT: [[i8; 3]; 9] = [
     [1, 1, 0],
     [0, 0, 0],
     [2, 2, 0],
@@ -148,21 +71,9 @@ const NEARLY_FLAT: [[i8; 3]; 10] = [
     [2, 0, 0],
     [0, 1, 0],
     [1, 1, 1],
-    [2, 1, -1],
 ];
 
-// The same without the point below the plane.
-const NEARLY_FLAT_ABOVE: [[i8; 3]; 9] = [
-    [1, 1, 0],
-    [0, 0, 0],
-    [2, 2, 0],
-    [1, 0, 0],
-    [0, 2, 0],
-    [1, 2, 0],
-    [2, 0, 0],
-    [0, 1, 0],
-    [1, 1, 1],
-];
+const BELOW: [[i8; 3]; 1] = [[2, 1, -1]];
 
 // Points of one line with two off it.
 const NEARLY_STRAIGHT: [[i8; 3]; 7] = [
@@ -206,43 +117,42 @@ const GRID: [[i8; 3]; 27] = [
     [1, 2, 2],
 ];
 
-/// Points, and the rows of their list; none stands for `Flat`.
+/// Points in parts, and the rows of their list; none stands for `Flat`.
 struct ListCase {
-    points: &'static [[i8; 3]],
+    name: &'static str,
+    points: &'static [&'static [[i8; 3]]],
     rows: &'static [[u32; 4]],
 }
 
 static LISTS: [ListCase; 11] = [
     ListCase {
-        points: &[[0, 0, 0], [1, 0, 0], [0, 1, 0], [0, 0, 1]],
+        name: "tetrahedron",
+        points: &[&[[0, 0, 0], [1, 0, 0], [0, 1, 0], [0, 0, 1]]],
         rows: &[[0, 1, 2, 3]],
     },
-    // The same in an order that is negative.
     ListCase {
-        points: &[[0, 0, 0], [0, 1, 0], [1, 0, 0], [0, 0, 1]],
+        name: "negative order",
+        points: &[&[[0, 0, 0], [0, 1, 0], [1, 0, 0], [0, 0, 1]]],
         rows: &[[0, 1, 3, 2]],
     },
     ListCase {
-        points: &PYRAMID,
+        name: "pyramid",
+        points: &[&PYRAMID],
         rows: &PYRAMID_ROWS,
     },
     ListCase {
-        points: &CUBE,
-        rows: &[
-            [0, 1, 3, 4],
-            [1, 2, 3, 5],
-            [1, 3, 4, 5],
-            [2, 3, 5, 6],
-            [3, 4, 5, 7],
-            [3, 5, 6, 7],
-        ],
+        name: "cube",
+        points: &[&CUBE],
+        rows: &CUBE_ROWS,
     },
     ListCase {
-        points: &[[0, 0, 0], [1, 0, 0], [0, 1, 0]],
+        name: "triangle",
+        points: &[&[[0, 0, 0], [1, 0, 0], [0, 1, 0]]],
         rows: &[],
     },
     ListCase {
-        points: &[
+        name: "points of a plane",
+        points: &[&[
             [0, 0, 0],
             [1, 0, 0],
             [2, 0, 0],
@@ -252,11 +162,12 @@ static LISTS: [ListCase; 11] = [
             [0, 2, 0],
             [1, 2, 0],
             [2, 2, 0],
-        ],
+        ]],
         rows: &[],
     },
     ListCase {
-        points: &ON_A_SPHERE,
+        name: "on a sphere",
+        points: &[&ON_A_SPHERE],
         rows: &[
             [0, 2, 11, 4],
             [0, 4, 11, 6],
@@ -280,7 +191,8 @@ static LISTS: [ListCase; 11] = [
         ],
     },
     ListCase {
-        points: &NEARLY_FLAT,
+        name: "nearly flat",
+        points: &[&NEARLY_FLAT, &BELOW],
         rows: &[
             [0, 2, 5, 8],
             [0, 2, 6, 9],
@@ -299,7 +211,8 @@ static LISTS: [ListCase; 11] = [
         ],
     },
     ListCase {
-        points: &NEARLY_FLAT_ABOVE,
+        name: "nearly flat, none below",
+        points: &[&NEARLY_FLAT],
         rows: &[
             [0, 2, 5, 8],
             [0, 2, 8, 6],
@@ -311,11 +224,13 @@ static LISTS: [ListCase; 11] = [
         ],
     },
     ListCase {
-        points: &NEARLY_STRAIGHT,
+        name: "nearly straight",
+        points: &[&NEARLY_STRAIGHT],
         rows: &[[0, 3, 6, 5], [0, 4, 5, 6], [1, 3, 5, 6], [2, 4, 6, 5]],
     },
     ListCase {
-        points: &GRID,
+        name: "grid",
+        points: &[&GRID],
         rows: &[
             [0, 14, 15, 18],
             [1, 14, 19, 16],
@@ -364,14 +279,14 @@ static LISTS: [ListCase; 11] = [
 #[test]
 fn lists(rt: HostRuntime) {
     let alloc = rt.alloc();
-    for (i, case) in LISTS.iter().enumerate() {
-        assert!(rt; has_list(alloc, case.points, case.rows), "case {i}");
+    for case in &LISTS {
+        assert!(rt; has_list(alloc, case.points, case.rows), "{}", case.name);
     }
 }
 
 /// Whether the hull of the points has these faces.
-fn has_hull(alloc: Global, coordinates: &[[i8; 3]], want: &[[u32; 3]]) -> bool {
-    let Some(points) = distinct_points(alloc, coordinates) else {
+fn has_hull(alloc: Global, set: &[[i8; 3]], want: &[[u32; 3]]) -> bool {
+    let Some(points) = small_set(alloc, &[set]) else {
         return false;
     };
     match delaunay_with_hull(alloc, &points) {
@@ -431,9 +346,7 @@ fn wide_pyramid(alloc: Global) -> Result<Points, NoMemory> {
 
 fn has_wide_list(alloc: Global) -> bool {
     match wide_pyramid(alloc) {
-        Ok(points) if points.len() <= 1000 && are_distinct(&points) => {
-            has_rows(alloc, &points, &PYRAMID_ROWS)
-        }
+        Ok(points) if is_small_set(&points) => has_rows(alloc, &points, &PYRAMID_ROWS),
         _ => false,
     }
 }
@@ -447,9 +360,7 @@ fn wide_points(rt: HostRuntime) {
 fn drawn(state: &mut u64) -> u32
     ensures { result < 2 ^ 21 }
 {
-    *state = state
-        .wrapping_mul(6_364_136_223_846_793_005)
-        .wrapping_add(1_442_695_040_888_963_407);
+    *state = next_state(*state);
     1 + 2 * (*state >> 45) as u32
 }
 
@@ -562,7 +473,7 @@ fn sizes(alloc: Global, living: &Living, new: &NewPoint) -> Option<(usize, usize
 
 /// The mesh of these points.
 fn living_of(alloc: Global, set: &[[i8; 3]]) -> Option<Living> {
-    let points = distinct_points(alloc, set)?;
+    let points = small_set(alloc, &[set])?;
     match Living::new(alloc, points) {
         Ok(living) => Some(living),
         Err(_) => None,

@@ -10,6 +10,10 @@ mod protection;
 #[cfg(test)]
 mod regions;
 #[cfg(test)]
+mod slots;
+#[cfg(test)]
+mod small_sets;
+#[cfg(test)]
 mod surgery;
 #[cfg(test)]
 mod tangles;

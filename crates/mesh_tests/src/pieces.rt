@@ -1,3 +1,4 @@
+//! Segments of polygons, and their places.
 use geo_laws::{Piece, Segments};
 use piece_set::{PieceSet, Polygon, Polygons, put_sides, segments_of};
 use std::alloc::Global;
@@ -15,17 +16,19 @@ const CORNERS: [&[u32]; 6] = [
     &[9, 4, 5, 9, 4],
 ];
 
-fn polygons(alloc: Global) -> Result<Polygons, NoMemory> {
+/// The sides of polygons that are given by their corners.
+pub(crate) fn sides(alloc: Global, corners: &[&[u32]]) -> Result<Segments, NoMemory> {
     let mut polygons = Polygons::new(alloc);
-    for corners in CORNERS {
+    for c in corners {
         let mut polygon = Polygon::new(alloc);
-        polygon.extend_from_slice(corners)?;
+        polygon.extend_from_slice(c)?;
         polygons.push(polygon)?;
     }
-    Ok(polygons)
+    segments_of(alloc, &polygons)
 }
 
-fn are_ends(segments: &Segments, want: &[[u32; 2]]) -> bool {
+/// Whether these are the ends of segments.
+pub(crate) fn are_ends(segments: &Segments, want: &[[u32; 2]]) -> bool {
     if segments.len() != want.len() {
         return false;
     }
@@ -39,7 +42,7 @@ fn are_ends(segments: &Segments, want: &[[u32; 2]]) -> bool {
 }
 
 fn found(alloc: Global) -> Result<bool, NoMemory> {
-    let segments = segments_of(alloc, &polygons(alloc)?)?;
+    let segments = sides(alloc, &CORNERS)?;
     Ok(are_ends(
         &segments,
         &[

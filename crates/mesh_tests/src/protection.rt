@@ -1,67 +1,18 @@
-ghost use Rattle.std.specs.Prelude.{ℕ, ◌≡◌, ◌≢◌, ◌<◌, ◌≤◌, pos, ◌*ℤ◌, unsigned_abs, All, IsTrue, IfOk, IfSome, length};
+//! Segments cut at the points on them, and protected by added points.
+ghost use Rattle.std.specs.Prelude.{ℕ, ◌≡◌, ◌<◌, ◌≤◌, pos, ◌*ℤ◌, unsigned_abs, All, IsTrue, IfOk, IfSome, length};
 ghost use Rattle.geo_laws.specs.Delaunay.{point, HasDistinctPoints};
 ghost use Rattle.segment_protect.specs.Spots.{HasTwoEnds};
 ghost use Rattle.segment_protect.specs.Protection.{IsMultiple, AreCut};
 
+use crate::pieces::{are_ends, sides};
+use crate::small_sets::{is_new, is_small_set, small_set};
 use cavity_insert::{Living, delaunay};
 use geo_laws::{Piece, Pieces, Points, Segments, TetList};
-use piece_set::{Polygon, Polygons, segments_of};
 use segment_protect::{ProtectFault, Protected, pieces, protect};
 use sign_predicates::GridPoint;
 use std::alloc::Global;
 use std::test::Fail;
 use tet_ports::NoMemory;
-
-fn grid_point(p: [i16; 3]) -> GridPoint {
-    GridPoint {
-        x: p[0] as i32,
-        y: p[1] as i32,
-        z: p[2] as i32,
-    }
-}
-
-fn points(alloc: Global, coordinates: &[[i16; 3]]) -> Result<Points, NoMemory> {
-    let mut points = Points::new(alloc);
-    for p in coordinates {
-        points.push(grid_point(*p))?;
-    }
-    Ok(points)
-}
-
-/// The sides of polygons.
-fn sides(alloc: Global, corners: &[&[u32]]) -> Result<Segments, NoMemory> {
-    let mut polygons = Polygons::new(alloc);
-    for c in corners {
-        let mut polygon = Polygon::new(alloc);
-        polygon.extend_from_slice(c)?;
-        polygons.push(polygon)?;
-    }
-    segments_of(alloc, &polygons)
-}
-
-/// Whether the point is none of the first n.
-fn is_new(points: &Points, n: usize, p: GridPoint) -> bool
-    requires { n ≤ length points.now }
-    ensures { IsTrue result → (i : ℕ) → i < n → point points.now i ≢ p }
-{
-    for i in 0..n {
-        if points.at(i) == p {
-            return false;
-        }
-    }
-    true
-}
-
-fn are_distinct(points: &Points) -> bool
-    ensures { IsTrue result → HasDistinctPoints points.now }
-{
-    for j in 0..points.len() {
-        if !is_new(points, j, points.at(j)) {
-            return false;
-        }
-    }
-    true
-}
 
 fn has_two_ends(n: usize, s: Piece) -> bool
     ensures { IsTrue result → HasTwoEnds n s }
@@ -94,21 +45,8 @@ fn cut(alloc: Global, points: &Points, corners: &[&[u32]]) -> Option<Pieces>
     pieces(alloc, points, &segments).ok()
 }
 
-fn are_ends(pieces: &Pieces, want: &[[u32; 2]]) -> bool {
-    if pieces.len() != want.len() {
-        return false;
-    }
-    for (i, w) in want.iter().enumerate() {
-        let p = pieces.at(i);
-        if p.a != w[0] || p.b != w[1] {
-            return false;
-        }
-    }
-    true
-}
-
 // Five points on a line, the third and the fourth between the first two, and a point off it.
-const LINE: [[i16; 3]; 6] = [
+const LINE: [[i8; 3]; 6] = [
     [0, 0, 0],
     [4, 4, 0],
     [2, 2, 0],
@@ -169,12 +107,9 @@ static CUTS: [CutCase; 9] = [
 ];
 
 fn cuts(alloc: Global, case: &CutCase) -> bool {
-    let Ok(points) = points(alloc, &LINE) else {
+    let Some(points) = small_set(alloc, &[&LINE]) else {
         return false;
     };
-    if !are_distinct(&points) {
-        return false;
-    }
     match cut(alloc, &points, case.corners) {
         Some(found) => are_ends(&found, case.pieces),
         None => false,
@@ -237,7 +172,7 @@ fn protection(alloc: Global, budget: u32) -> Option<Result<Protected, ProtectFau
     let Ok(points) = split_points(alloc) else {
         return None;
     };
-    if points.len() > 1000 || !are_distinct(&points) {
+    if !is_small_set(&points) {
         return None;
     }
     let pieces = cut(alloc, &points, &[&[0, 1]])?;
@@ -246,7 +181,7 @@ fn protection(alloc: Global, budget: u32) -> Option<Result<Protected, ProtectFau
 
 /// Whether these are the rows of the Delaunay list of the points.
 fn is_list_of(alloc: Global, points: &Points, rows: &TetList) -> bool {
-    if points.len() > 1000 || !are_distinct(points) {
+    if !is_small_set(points) {
         return false;
     }
     match delaunay(alloc, points) {
@@ -286,7 +221,7 @@ fn has_lists(alloc: Global) -> bool {
     let Ok(points) = split_points(alloc) else {
         return false;
     };
-    if points.len() > 1000 || !are_distinct(&points) {
+    if !is_small_set(&points) {
         return false;
     }
     let Ok(mut living) = Living::new(alloc, points) else {

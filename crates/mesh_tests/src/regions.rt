@@ -1,19 +1,20 @@
+//! Facets of several polygons, with hole points.
 ghost use Rattle.std.specs.Prelude.{◌<◌, All, IsTrue};
 ghost use Rattle.geo_laws.specs.Complex.{HasCornersOf};
 
+use crate::small_sets::points_of;
 use facet_plane::*;
 use geo_laws::{Complex, Points, Tet};
-use sign_predicates::{GridPoint, RatPoint};
+use sign_predicates::RatPoint;
 use std::alloc::Global;
 use std::test::Fail;
 use tet_ports::NoMemory;
 
 /// A place on the grid.
-type Place = (i8, i8, i8);
+type Place = [i8; 3];
 
 /// The place as a rational point.
-fn at(place: Place) -> RatPoint {
-    let (x, y, z) = place;
+fn at([x, y, z]: Place) -> RatPoint {
     RatPoint {
         x: i64::from(x),
         y: i64::from(y),
@@ -24,34 +25,22 @@ fn at(place: Place) -> RatPoint {
 
 /// A square, a square in it, and points in their plane and off it.
 static PLACES: [Place; 15] = [
-    (0, 0, 0),
-    (9, 0, 0),
-    (9, 9, 0),
-    (0, 9, 0),
-    (3, 3, 0),
-    (6, 3, 0),
-    (6, 6, 0),
-    (3, 6, 0),
-    (4, 4, 5),
-    (20, 20, 0),
-    (1, 5, 0),
-    (18, 0, 0),
-    (9, 3, 0),
-    (9, 6, 0),
-    (1, 1, 5),
+    [0, 0, 0],
+    [9, 0, 0],
+    [9, 9, 0],
+    [0, 9, 0],
+    [3, 3, 0],
+    [6, 3, 0],
+    [6, 6, 0],
+    [3, 6, 0],
+    [4, 4, 5],
+    [20, 20, 0],
+    [1, 5, 0],
+    [18, 0, 0],
+    [9, 3, 0],
+    [9, 6, 0],
+    [1, 1, 5],
 ];
-
-fn places(alloc: Global) -> Result<Points, NoMemory> {
-    let mut points = Points::new(alloc);
-    for (x, y, z) in &PLACES {
-        points.push(GridPoint {
-            x: i32::from(*x),
-            y: i32::from(*y),
-            z: i32::from(*z),
-        })?;
-    }
-    Ok(points)
-}
 
 /// One facet more, while there are few, of these polygons and hole points.
 fn add_facet(complex: &mut Complex, polygons: &[&[u32]], holes: &[Place]) -> Result<(), NoMemory> {
@@ -74,19 +63,19 @@ fn add_facet(complex: &mut Complex, polygons: &[&[u32]], holes: &[Place]) -> Res
 /// The polygons and the hole points of facets.
 static SHAPES: [(&[&[u32]], &[Place]); 15] = [
     // 0: a square with a hole
-    (&[&[0, 1, 2, 3], &[4, 5, 6, 7]], &[(5, 4, 0)]),
+    (&[&[0, 1, 2, 3], &[4, 5, 6, 7]], &[[5, 4, 0]]),
     // 1: the hole point lies on a side of the inner square
-    (&[&[0, 1, 2, 3], &[4, 5, 6, 7]], &[(4, 3, 0)]),
+    (&[&[0, 1, 2, 3], &[4, 5, 6, 7]], &[[4, 3, 0]]),
     // 2: on a segment across it
-    (&[&[0, 1, 2, 3], &[4, 5, 6, 7], &[4, 6]], &[(4, 4, 0)]),
+    (&[&[0, 1, 2, 3], &[4, 5, 6, 7], &[4, 6]], &[[4, 4, 0]]),
     // 3: off the plane
-    (&[&[0, 1, 2, 3], &[4, 5, 6, 7]], &[(5, 4, 3)]),
+    (&[&[0, 1, 2, 3], &[4, 5, 6, 7]], &[[5, 4, 3]]),
     // 4: off the plane over a side
-    (&[&[0, 1, 2, 3], &[4, 5, 6, 7]], &[(4, 3, 2)]),
+    (&[&[0, 1, 2, 3], &[4, 5, 6, 7]], &[[4, 3, 2]]),
     // 5: two hole points in one hole
-    (&[&[0, 1, 2, 3], &[4, 5, 6, 7]], &[(5, 4, 0), (4, 5, 0)]),
+    (&[&[0, 1, 2, 3], &[4, 5, 6, 7]], &[[5, 4, 0], [4, 5, 0]]),
     // 6: a square and a triangle that overlap, and a hole point within both
-    (&[&[0, 1, 2, 3], &[4, 9, 1]], &[(8, 4, 0)]),
+    (&[&[0, 1, 2, 3], &[4, 9, 1]], &[[8, 4, 0]]),
     // 7 to 9: triangles that share a corner, a side and a part of a side with the square
     (&[&[2, 9, 11]], &[]),
     (&[&[1, 11, 2]], &[]),
@@ -154,43 +143,43 @@ const SQUARE: Plane = Some((0, 1, 2));
 
 /// A facet with its plane, and whether it holds a place.
 static HELD: [(u32, Plane, Place, bool); 32] = [
-    (0, SQUARE, (1, 1, 0), true),
-    (0, SQUARE, (4, 5, 0), false),
-    (0, SQUARE, (4, 3, 0), true),
-    (0, SQUARE, (6, 6, 0), true),
-    (0, SQUARE, (1, 1, 1), false),
-    (0, SQUARE, (10, 1, 0), false),
-    (1, SQUARE, (5, 5, 0), true),
-    (2, SQUARE, (5, 4, 0), true),
-    (3, SQUARE, (4, 5, 0), false),
-    (3, SQUARE, (1, 5, 0), true),
-    (4, SQUARE, (5, 5, 0), true),
-    (5, SQUARE, (5, 5, 0), false),
-    (5, SQUARE, (1, 1, 0), true),
-    (6, SQUARE, (7, 5, 0), false),
-    (6, SQUARE, (12, 8, 0), true),
-    (6, SQUARE, (1, 5, 0), true),
-    (7, Some((2, 9, 11)), (9, 9, 0), true),
-    (7, Some((2, 9, 11)), (8, 8, 0), false),
-    (8, Some((1, 11, 2)), (9, 5, 0), true),
-    (8, Some((1, 11, 2)), (10, 1, 0), true),
-    (8, Some((1, 11, 2)), (8, 5, 0), false),
-    (9, Some((12, 11, 13)), (9, 5, 0), true),
-    (9, Some((12, 11, 13)), (9, 7, 0), false),
-    (10, Some((0, 1, 6)), (5, 4, 0), true),
-    (10, Some((0, 1, 6)), (1, 5, 0), false),
-    (11, Some((10, 8, 14)), (1, 5, 0), true),
-    (11, Some((10, 8, 14)), (4, 4, 0), false),
-    (12, SQUARE, (1, 1, 0), true),
-    (12, SQUARE, (0, 5, 0), true),
-    (12, SQUARE, (10, 1, 0), false),
-    (13, None, (3, 3, 0), false),
-    (14, SQUARE, (5, 0, 0), false),
+    (0, SQUARE, [1, 1, 0], true),
+    (0, SQUARE, [4, 5, 0], false),
+    (0, SQUARE, [4, 3, 0], true),
+    (0, SQUARE, [6, 6, 0], true),
+    (0, SQUARE, [1, 1, 1], false),
+    (0, SQUARE, [10, 1, 0], false),
+    (1, SQUARE, [5, 5, 0], true),
+    (2, SQUARE, [5, 4, 0], true),
+    (3, SQUARE, [4, 5, 0], false),
+    (3, SQUARE, [1, 5, 0], true),
+    (4, SQUARE, [5, 5, 0], true),
+    (5, SQUARE, [5, 5, 0], false),
+    (5, SQUARE, [1, 1, 0], true),
+    (6, SQUARE, [7, 5, 0], false),
+    (6, SQUARE, [12, 8, 0], true),
+    (6, SQUARE, [1, 5, 0], true),
+    (7, Some((2, 9, 11)), [9, 9, 0], true),
+    (7, Some((2, 9, 11)), [8, 8, 0], false),
+    (8, Some((1, 11, 2)), [9, 5, 0], true),
+    (8, Some((1, 11, 2)), [10, 1, 0], true),
+    (8, Some((1, 11, 2)), [8, 5, 0], false),
+    (9, Some((12, 11, 13)), [9, 5, 0], true),
+    (9, Some((12, 11, 13)), [9, 7, 0], false),
+    (10, Some((0, 1, 6)), [5, 4, 0], true),
+    (10, Some((0, 1, 6)), [1, 5, 0], false),
+    (11, Some((10, 8, 14)), [1, 5, 0], true),
+    (11, Some((10, 8, 14)), [4, 4, 0], false),
+    (12, SQUARE, [1, 1, 0], true),
+    (12, SQUARE, [0, 5, 0], true),
+    (12, SQUARE, [10, 1, 0], false),
+    (13, None, [3, 3, 0], false),
+    (14, SQUARE, [5, 0, 0], false),
 ];
 
 /// The first facet that has another plane, or holds its place otherwise than it is said.
 fn first_other(alloc: Global) -> Result<Option<usize>, NoMemory> {
-    let points = places(alloc)?;
+    let points = points_of(alloc, &[&PLACES])?;
     let complex = facets(alloc)?;
     for (i, (facet, plane, place, held)) in HELD.iter().enumerate() {
         if looked_up(&points, &complex, *facet, at(*place)) != Some((*plane, *held)) {
@@ -251,7 +240,7 @@ fn is_told(
     polygons: &[&[u32]],
     told: Result<(), NotFlat>,
 ) -> Result<bool, NoMemory> {
-    let points = places(alloc)?;
+    let points = points_of(alloc, &[&PLACES])?;
     Ok(flatness(alloc, &points, polygons)? == Some(told))
 }
 

@@ -1,97 +1,20 @@
 //! Surgery on the mesh of a cube, by hand.
 ghost use Rattle.std.specs.Prelude.{◌≡◌, ◌≢◌, ℕ, ◌<◌, [], ◌∷◌, IsTrue, IfOk, IfSome, slice_index_or};
 ghost use Rattle.mesh_arena.specs.declared.slot.Corner.TheVariants.{Ghost};
-ghost use Rattle.mesh_arena.specs.Mesh.{corners_at, IsLive, corner_list, AllDiffer};
+ghost use Rattle.mesh_arena.specs.Mesh.{IsLive, corner_list};
 
+use crate::slots::{GHOST, add_slots, link_all, slot_corners};
+use crate::small_sets::CUBE_ROWS;
 use mesh_arena::{Arena, Cavity, Corner, Rim, RimFace, Slot, SlotCorners};
 use std::alloc::Global;
 use std::test::Fail;
 use tet_ports::NoMemory;
-
-// The corners in these places: a point's number, or -1 for the point at infinity.
-fn slot_corners(row: [i32; 4]) -> SlotCorners {
-    let [a, b, c, d] = row;
-    SlotCorners {
-        a: corner_of(a),
-        b: corner_of(b),
-        c: corner_of(c),
-        d: corner_of(d),
-    }
-}
-
-fn corner_of(i: i32) -> Corner {
-    match u32::try_from(i) {
-        Ok(i) => Corner::Point(i),
-        Err(_) => Corner::Ghost,
-    }
-}
-
-// Whether the corners differ.
-fn are_different(t: SlotCorners) -> bool
-    ensures { IsTrue result → AllDiffer (corner_list t) }
-{
-    t.a != t.b && t.a != t.c && t.a != t.d && t.b != t.c && t.b != t.d && t.c != t.d
-}
 
 // Whether no corner is x.
 fn lacks(t: SlotCorners, x: Corner) -> bool
     ensures { IsTrue result → (k : ℕ) → k < 4 → slice_index_or (corner_list t) k Ghost ≢ x }
 {
     t.a != x && t.b != x && t.c != x && t.d != x
-}
-
-fn link_faces(arena: &mut Arena, s: Slot, i: u8, t: Slot, j: u8)
-    requires first { IsLive arena.old.slots s.index }
-    requires second { IsLive arena.old.slots t.index }
-    requires faces { (i < 4) × (j < 4) }
-    requires differ { s.index ≢ t.index }
-    ensures { (u : ℕ) → corners_at arena.new.slots u ≡ corners_at arena.old.slots u }
-{
-    if arena.neighbor(s, i).is_none() && arena.neighbor(t, j).is_none() {
-        if arena.same_face(s, i, t, j) {
-            arena.link(s, i, t, j);
-        }
-    }
-}
-
-fn link_slots(arena: &mut Arena, s: Slot, t: Slot)
-    requires first { IsLive arena.old.slots s.index }
-    requires second { IsLive arena.old.slots t.index }
-    requires differ { s.index ≢ t.index }
-{
-    for i in 0..4u8 {
-        for j in 0..4u8 {
-            link_faces(arena, s, i, t, j);
-        }
-    }
-}
-
-fn link_places(arena: &mut Arena, i: usize, j: usize) {
-    if i < arena.slots() && j < arena.slots() && i != j {
-        if let Some(s) = arena.slot(i) {
-            if let Some(t) = arena.slot(j) {
-                link_slots(arena, s, t);
-            }
-        }
-    }
-}
-
-// A mesh of these slots, in which faces with the same corners are linked.
-fn linked_mesh(alloc: Global, rows: &[[i32; 4]]) -> Result<Arena, Fail> {
-    let mut arena = Arena::new(alloc);
-    for row in rows {
-        let t = slot_corners(*row);
-        if !are_different(t) {
-            return Err("a corner stands twice".into());
-        }
-        arena.alloc_slot(t)?;
-    }
-    for i in 0..rows.len() {
-        for j in 0..i {
-            link_places(&mut arena, i, j);
-        }
-    }
-    Ok(arena)
 }
 
 fn one_slot(alloc: Global, s: Slot) -> Result<Cavity, NoMemory>
@@ -162,7 +85,7 @@ fn neighbors(arena: &Arena, s: Slot) -> [Option<SlotCorners>; 4]
 }
 
 // The slot with these corners.
-fn find(arena: &Arena, row: [i32; 4]) -> Option<Slot>
+fn find(arena: &Arena, row: [u32; 4]) -> Option<Slot>
     ensures { IfSome result (λ s. IsLive arena.now.slots s.index) }
 {
     let t = slot_corners(row);
@@ -176,31 +99,34 @@ fn find(arena: &Arena, row: [i32; 4]) -> Option<Slot>
     None
 }
 
-// The Delaunay list of a cube's corners, and its ghosts.
-const CUBE: [[i32; 4]; 18] = [
-    [0, 1, 3, 4],
-    [1, 2, 3, 5],
-    [1, 3, 4, 5],
-    [2, 3, 5, 6],
-    [3, 4, 5, 7],
-    [3, 5, 6, 7],
-    [0, 1, 3, -1],
-    [0, 1, 4, -1],
-    [0, 3, 4, -1],
-    [1, 2, 3, -1],
-    [1, 2, 5, -1],
-    [1, 4, 5, -1],
-    [2, 3, 6, -1],
-    [2, 5, 6, -1],
-    [3, 4, 7, -1],
-    [3, 6, 7, -1],
-    [4, 5, 7, -1],
-    [5, 6, 7, -1],
+// The hull of the cube.
+const HULL: [[u32; 4]; 12] = [
+    [0, 1, 3, GHOST],
+    [0, 1, 4, GHOST],
+    [0, 3, 4, GHOST],
+    [1, 2, 3, GHOST],
+    [1, 2, 5, GHOST],
+    [1, 4, 5, GHOST],
+    [2, 3, 6, GHOST],
+    [2, 5, 6, GHOST],
+    [3, 4, 7, GHOST],
+    [3, 6, 7, GHOST],
+    [4, 5, 7, GHOST],
+    [5, 6, 7, GHOST],
 ];
+
+// The mesh of the cube.
+fn cube(alloc: Global) -> Result<Arena, Fail> {
+    let mut arena = Arena::new(alloc);
+    add_slots(&mut arena, &CUBE_ROWS)?;
+    add_slots(&mut arena, &HULL)?;
+    link_all(&mut arena);
+    Ok(arena)
+}
 
 // The mesh of the cube with the point 8 in place of one of its tetrahedra.
 fn split_cube(alloc: Global) -> Result<Arena, Fail> {
-    let mut arena = linked_mesh(alloc, &CUBE)?;
+    let mut arena = cube(alloc)?;
     arena.reserve(64)?;
     let s = find(&arena, [1, 3, 4, 5]).ok_or("not there")?;
     split(alloc, &mut arena, s, 8)?;
@@ -209,8 +135,8 @@ fn split_cube(alloc: Global) -> Result<Arena, Fail> {
 
 // A slot, and what stands behind its faces.
 struct SlotCase {
-    slot: [i32; 4],
-    behind: [[i32; 4]; 4],
+    slot: [u32; 4],
+    behind: [[u32; 4]; 4],
 }
 
 // The star of the point 8, and two of the slots round it.
@@ -221,7 +147,7 @@ static STAR: [SlotCase; 6] = [
     },
     SlotCase {
         slot: [1, 8, 4, 5],
-        behind: [[8, 3, 4, 5], [1, 4, 5, -1], [1, 3, 8, 5], [1, 3, 4, 8]],
+        behind: [[8, 3, 4, 5], [1, 4, 5, GHOST], [1, 3, 8, 5], [1, 3, 4, 8]],
     },
     SlotCase {
         slot: [1, 3, 8, 5],
@@ -233,11 +159,21 @@ static STAR: [SlotCase; 6] = [
     },
     SlotCase {
         slot: [0, 1, 3, 4],
-        behind: [[1, 3, 4, 8], [0, 3, 4, -1], [0, 1, 4, -1], [0, 1, 3, -1]],
+        behind: [
+            [1, 3, 4, 8],
+            [0, 3, 4, GHOST],
+            [0, 1, 4, GHOST],
+            [0, 1, 3, GHOST],
+        ],
     },
     SlotCase {
-        slot: [1, 2, 3, -1],
-        behind: [[2, 3, 6, -1], [0, 1, 3, -1], [1, 2, 5, -1], [1, 2, 3, 5]],
+        slot: [1, 2, 3, GHOST],
+        behind: [
+            [2, 3, 6, GHOST],
+            [0, 1, 3, GHOST],
+            [1, 2, 5, GHOST],
+            [1, 2, 3, 5],
+        ],
     },
 ];
 
@@ -259,16 +195,16 @@ fn a_point_replaces_a_tetrahedron_of_a_cube(rt: HostRuntime) -> Result<(), Fail>
 }
 
 // The numbers of the slot with these corners.
-fn numbers_of(arena: &Arena, row: [i32; 4]) -> Option<[u32; 4]> {
+fn numbers_of(arena: &Arena, row: [u32; 4]) -> Option<[u32; 4]> {
     arena.tetrahedron(find(arena, row)?)
 }
 
 #[test]
 fn numbers_of_tetrahedra(rt: HostRuntime) -> Result<(), Fail> {
-    let arena = linked_mesh(rt.alloc(), &CUBE)?;
+    let arena = cube(rt.alloc())?;
     let numbers = (
         numbers_of(&arena, [1, 3, 4, 5]),
-        numbers_of(&arena, [1, 2, 3, -1]),
+        numbers_of(&arena, [1, 2, 3, GHOST]),
     );
     assert_eq!(rt; numbers, (Some([1, 3, 4, 5]), None));
     Ok(())
@@ -305,10 +241,10 @@ fn split_in_turn(alloc: Global, arena: &mut Arena) -> Result<usize, NoMemory> {
 #[test]
 fn many_surgeries_in_turn(rt: HostRuntime) -> Result<(), Fail> {
     let alloc = rt.alloc();
-    let mut arena = linked_mesh(alloc, &CUBE)?;
+    let mut arena = cube(alloc)?;
     let made = split_in_turn(alloc, &mut arena)?;
     // Each surgery takes the place of the slot that it removes, and three more.
-    let slots = CUBE.len() + 3 * SURGERIES as usize;
+    let slots = CUBE_ROWS.len() + HULL.len() + 3 * SURGERIES as usize;
     assert_eq!(rt; (made, arena.slots()), (SURGERIES as usize, slots));
     Ok(())
 }

@@ -1,56 +1,52 @@
 //! Tangled cavities of a few points.
-ghost use Rattle.std.specs.Prelude.{ℕ, ◌≢◌, ◌<◌, ◌≤◌, IsTrue, length};
-ghost use Rattle.geo_laws.specs.Delaunay.{point, HasDistinctPoints, IsOn};
+ghost use Rattle.std.specs.Prelude.{IsTrue};
+ghost use Rattle.geo_laws.specs.Delaunay.{IsOn};
 ghost use Rattle.tangle_fill.specs.Fill.{AreFacetTriangles};
 ghost use Rattle.tangle_fill.specs.Sample.{IsPlaneTriangle};
 
+use crate::small_sets::{points_of, row, small_set};
 use cavity_insert::delaunay;
 use geo_laws::{Face, FacetTriangle, FacetTriangles, Points, Tet, TetList};
-use sign_predicates::GridPoint;
 use simplex_meets::is_triangle;
 use std::alloc::Global;
 use tangle_fill::{FillFault, accepted, admissible, fill_tangle};
 use tet_ports::NoMemory;
 
-/// Two thin plates over one another, with a point above and one below.
-const TWO_PLATES: &[[i8; 3]] = &[
+/// A set of points, in parts.
+type Set = &'static [&'static [[i8; 3]]];
+
+/// Two thin plates over one another.
+const PLATES: [[i8; 3]; 6] = [
     [-9, -9, 0],
     [9, -9, 0],
     [0, 9, 0],
     [-9, -9, 1],
     [9, -9, 1],
     [0, 9, 1],
-    [0, 0, 3],
-    [0, 0, -2],
 ];
 
-/// Three thin plates over one another, with a point above and one below.
-const THREE_PLATES: &[[i8; 3]] = &[
-    [-9, -9, 0],
-    [9, -9, 0],
-    [0, 9, 0],
-    [-9, -9, 1],
-    [9, -9, 1],
-    [0, 9, 1],
-    [-9, -9, 2],
-    [9, -9, 2],
-    [0, 9, 2],
-    [0, 0, 4],
-    [0, 0, -2],
+/// The two with a point above and one below.
+const TWO_PLATES: Set = &[&PLATES, &[[0, 0, 3], [0, 0, -2]]];
+
+/// The two and a third over them, with a point above and one below.
+const THREE_PLATES: Set = &[
+    &PLATES,
+    &[[-9, -9, 2], [9, -9, 2], [0, 9, 2]],
+    &[[0, 0, 4], [0, 0, -2]],
 ];
 
 /// A prism whose upper triangle is turned against the lower one.
-const TWISTED_PRISM: &[[i8; 3]] = &[
+const TWISTED_PRISM: Set = &[&[
     [20, 0, 0],
     [-10, 17, 0],
     [-10, -17, 0],
     [17, 10, 20],
     [-17, 10, 20],
     [0, -20, 20],
-];
+]];
 
 /// Two thin plates over one another in a cloud, most of whose tetrahedra stay as they are.
-const PLATES_IN_CLOUD: &[[i8; 3]] = &[
+const PLATES_IN_CLOUD: Set = &[&[
     [-20, -19, 0],
     [21, -20, 0],
     [1, 20, 0],
@@ -69,19 +65,7 @@ const PLATES_IN_CLOUD: &[[i8; 3]] = &[
     [-99, -83, 81],
     [100, 101, 97],
     [-103, -97, -92],
-];
-
-fn points_of(alloc: Global, places: &[[i8; 3]]) -> Result<Points, NoMemory> {
-    let mut points = Points::new(alloc);
-    for p in places {
-        points.push(GridPoint {
-            x: p[0] as i32,
-            y: p[1] as i32,
-            z: p[2] as i32,
-        })?;
-    }
-    Ok(points)
-}
+]];
 
 fn triangles_of(alloc: Global, corners: &[[u32; 3]]) -> Result<FacetTriangles, NoMemory> {
     let mut triangles = FacetTriangles::new(alloc);
@@ -94,30 +78,6 @@ fn triangles_of(alloc: Global, corners: &[[u32; 3]]) -> Result<FacetTriangles, N
         })?;
     }
     Ok(triangles)
-}
-
-/// Whether the point is none of the first n.
-fn is_new(points: &Points, n: usize, p: GridPoint) -> bool
-    requires { n ≤ length points.now }
-    ensures { IsTrue result → (i : ℕ) → i < n → point points.now i ≢ p }
-{
-    for i in 0..n {
-        if points.at(i) == p {
-            return false;
-        }
-    }
-    true
-}
-
-fn are_distinct(points: &Points) -> bool
-    ensures { IsTrue result → HasDistinctPoints points.now }
-{
-    for j in 0..points.len() {
-        if !is_new(points, j, points.at(j)) {
-            return false;
-        }
-    }
-    true
 }
 
 /// Whether the triangle ascends, is on the points and not on a line.
@@ -160,10 +120,12 @@ enum End {
 }
 
 /// Where the points with these facets end.
-fn end_of(alloc: Global, places: &[[i8; 3]], corners: &[[u32; 3]]) -> Result<End, FillFault> {
-    let points = points_of(alloc, places)?;
+fn end_of(alloc: Global, set: &[&[[i8; 3]]], corners: &[[u32; 3]]) -> Result<End, FillFault> {
+    let Some(points) = small_set(alloc, set) else {
+        return Ok(End::Unfit);
+    };
     let triangles = triangles_of(alloc, corners)?;
-    if points.len() > 99 || !are_distinct(&points) || !are_facet_triangles(&points, &triangles) {
+    if !are_facet_triangles(&points, &triangles) {
         return Ok(End::Unfit);
     }
     let Ok(list) = delaunay(alloc, &points) else {
@@ -180,11 +142,10 @@ fn end_of(alloc: Global, places: &[[i8; 3]], corners: &[[u32; 3]]) -> Result<End
 }
 
 /// Whether the tetrahedron of the two plates is admissible; None where it may not be asked.
-fn is_admissible(alloc: Global, row: [u32; 4]) -> Result<Option<bool>, NoMemory> {
+fn is_admissible(alloc: Global, corners: [u32; 4]) -> Result<Option<bool>, NoMemory> {
     let points = points_of(alloc, TWO_PLATES)?;
     let triangles = triangles_of(alloc, &[[0, 1, 2], [3, 4, 5]])?;
-    let [a, b, c, d] = row;
-    let row = Tet { a, b, c, d };
+    let row = row(corners);
     if points.len() < 99 && is_on(&points, row) && are_facet_triangles(&points, &triangles) {
         Ok(Some(admissible(&points, row, &triangles)))
     } else {
@@ -193,7 +154,7 @@ fn is_admissible(alloc: Global, row: [u32; 4]) -> Result<Option<bool>, NoMemory>
 }
 
 /// Points, the facets on them, and where they end.
-static SAMPLES: [(&[[i8; 3]], &[[u32; 3]], End); 5] = [
+static SAMPLES: [(Set, &[[u32; 3]], End); 5] = [
     // Each plate parts the tetrahedra, and a prism between two plates has three.
     (TWO_PLATES, &[[0, 1, 2], [3, 4, 5]], End::Filled(5)),
     (
@@ -224,8 +185,8 @@ static SAMPLES: [(&[[i8; 3]], &[[u32; 3]], End); 5] = [
 ];
 
 /// Whether the points with these facets end so.
-fn ends(alloc: Global, places: &[[i8; 3]], corners: &[[u32; 3]], want: End) -> bool {
-    match end_of(alloc, places, corners) {
+fn ends(alloc: Global, set: &[&[[i8; 3]]], corners: &[[u32; 3]], want: End) -> bool {
+    match end_of(alloc, set, corners) {
         Ok(end) => end == want,
         Err(_) => false,
     }
@@ -233,8 +194,8 @@ fn ends(alloc: Global, places: &[[i8; 3]], corners: &[[u32; 3]], want: End) -> b
 
 #[test]
 fn tangled_samples(rt: HostRuntime) {
-    for (places, corners, want) in &SAMPLES {
-        assert!(rt; ends(rt.alloc(), places, corners, *want));
+    for (set, corners, want) in &SAMPLES {
+        assert!(rt; ends(rt.alloc(), set, corners, *want));
     }
 }
 
@@ -293,14 +254,15 @@ const CANDIDATES: &[(&[[u32; 4]], bool)] = &[
 
 /// Whether the list is accepted for the two plates; None where it may not be asked.
 fn is_accepted(alloc: Global, rows: &[[u32; 4]]) -> Result<Option<bool>, NoMemory> {
-    let points = points_of(alloc, TWO_PLATES)?;
+    let Some(points) = small_set(alloc, TWO_PLATES) else {
+        return Ok(None);
+    };
     let triangles = triangles_of(alloc, &[[0, 1, 2], [3, 4, 5]])?;
     let mut candidate = TetList::new(alloc);
-    for row in rows {
-        let [a, b, c, d] = *row;
-        candidate.push(Tet { a, b, c, d })?;
+    for corners in rows {
+        candidate.push(row(*corners))?;
     }
-    if points.len() > 99 || !are_distinct(&points) || !are_facet_triangles(&points, &triangles) {
+    if !are_facet_triangles(&points, &triangles) {
         return Ok(None);
     }
     let Ok(list) = delaunay(alloc, &points) else {

@@ -1,6 +1,6 @@
 use Rattle.std.proofs.Common.{below_more, refl, ◌∙◌, arith}
 use Rattle.sign_predicates.specs.Point.{origin}
-use Rattle.mesh_tests.proofs.delaunay_lists.are_distinct.Goals as goal
+use Rattle.mesh_tests.proofs.small_sets.are_distinct.Goals as goal
 
 pub loop-j-preserved : goal.loop-j-preserved
 loop-j-preserved c = below_more _ _ c.loop-j.invariant (λ i h e. c.if-not-is_new.ensures refl i h (e ∙ c.at.ensures origin))

@@ -1,5 +1,5 @@
 use Rattle.mesh_arena.specs.Mesh.{IsLive}
-use Rattle.mesh_tests.proofs.surgery.link_slots.Given as goal
+use Rattle.mesh_tests.proofs.slots.link_slots.Given as goal
 
 abbrev pub invariant-loop-j : goal.invariant-loop-j
 invariant-loop-j l = record { first : IsLive l.arena.slots l.s.index; second : IsLive l.arena.slots l.t.index }

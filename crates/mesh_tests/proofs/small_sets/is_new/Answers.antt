@@ -1,7 +1,7 @@
 use Rattle.std.proofs.Common.{◌≡◌, below_more, sym, ◌∙◌, false, ◌&&◌, int_eq}
 use Rattle.std.proofs.lemmas.Cmp.{int_eq_equiv}
 use Rattle.sign_predicates.specs.Point.{Point, origin}
-use Rattle.mesh_tests.proofs.tangles.is_new.Goals as goal
+use Rattle.mesh_tests.proofs.small_sets.is_new.Goals as goal
 
 itself : (p : Point) → false ≡ int_eq p.x p.x && (int_eq p.y p.y && int_eq p.z p.z) → ⊥
 itself p e =
