@@ -1,4 +1,4 @@
-//! Lists, cavities, pieces, facets and tangles of small sets of points.
+//! Lists, cavities, pieces, facets and tangles of small sets of points, and regular lists.
 #![tactic(auto)]
 
 #[cfg(test)]
@@ -10,6 +10,8 @@ mod protection;
 #[cfg(test)]
 mod regions;
 #[cfg(test)]
+mod regular_lists;
+#[cfg(test)]
 mod slots;
 #[cfg(test)]
 mod small_sets;
@@ -19,3 +21,5 @@ mod surgery;
 mod tangles;
 #[cfg(test)]
 mod walks;
+#[cfg(test)]
+mod weighted_lists;

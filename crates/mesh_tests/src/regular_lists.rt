@@ -1,9 +1,9 @@
-//! Worked lists, and lists that a plain filter over all fours makes too.
-ghost use Rattle.std.specs.Prelude.{ℕ, ◌≡◌, ◌≢◌, ◌<◌, ◌≤◌, ◌^◌, All, IsTrue, length, unsigned_abs};
-ghost use Rattle.geo_laws.specs.Delaunay.{point, HasDistinctPoints};
+//! Worked regular lists, and lists that a plain filter over all fours makes too.
+ghost use Rattle.std.specs.Prelude.{◌≡◌, ◌<◌, ◌≤◌, All, IsTrue, length};
 ghost use Rattle.regular_laws.specs.Regular.{AreWeightsOf};
 ghost use Rattle.sign_predicates.specs.Weighted.{IsWeight, AreWeights};
 
+use crate::small_sets::{CUBE_ROWS, are_rows, is_small_set, next_state, points_of};
 use cavity_insert::BuildFault;
 use geo_laws::{Points, Tet, TetList};
 use regular_laws::Weights;
@@ -12,70 +12,12 @@ use std::alloc::Global;
 use tet_ports::NoMemory;
 use weighted_mesh::regular;
 
-fn grid_point(p: [i8; 3]) -> GridPoint {
-    GridPoint {
-        x: p[0] as i32,
-        y: p[1] as i32,
-        z: p[2] as i32,
-    }
-}
-
-fn points(alloc: Global, coordinates: &[[i8; 3]]) -> Result<Points, NoMemory> {
-    let mut points = Points::new(alloc);
-    for p in coordinates {
-        points.push(grid_point(*p))?;
-    }
-    Ok(points)
-}
-
 fn weights(alloc: Global, numbers: &[i16]) -> Result<Weights, NoMemory> {
     let mut weights = Weights::new(alloc);
     for w in numbers {
         weights.push(*w as i64)?;
     }
     Ok(weights)
-}
-
-/// Whether the point is none of the first n.
-fn is_new(points: &Points, n: usize, p: GridPoint) -> bool
-    requires { n ≤ length points.now }
-    ensures { IsTrue result → (i : ℕ) → i < n → point points.now i ≢ p }
-{
-    for i in 0..n {
-        if points.at(i) == p {
-            return false;
-        }
-    }
-    true
-}
-
-fn are_distinct(points: &Points) -> bool
-    ensures { IsTrue result → HasDistinctPoints points.now }
-{
-    for j in 0..points.len() {
-        if !is_new(points, j, points.at(j)) {
-            return false;
-        }
-    }
-    true
-}
-
-fn are_rows(rows: &TetList, want: &[[u32; 4]]) -> bool {
-    if rows.len() != want.len() {
-        return false;
-    }
-    for (i, w) in want.iter().enumerate() {
-        let row = Tet {
-            a: w[0],
-            b: w[1],
-            c: w[2],
-            d: w[3],
-        };
-        if rows.at(i) != row {
-            return false;
-        }
-    }
-    true
 }
 
 /// Whether there is one weight for each point, each small.
@@ -91,7 +33,7 @@ fn are_weights(points: &Points, weights: &Weights) -> bool
 }
 
 fn has_rows(alloc: Global, points: &Points, weights: &Weights, want: &[[u32; 4]]) -> bool {
-    if points.len() > 1000 || !are_distinct(points) || !are_weights(points, weights) {
+    if !is_small_set(points) || !are_weights(points, weights) {
         return false;
     }
     match regular(alloc, points, weights) {
@@ -103,8 +45,8 @@ fn has_rows(alloc: Global, points: &Points, weights: &Weights, want: &[[u32; 4]]
 
 /// Whether the regular list of these points with these weights has these rows; none stands for
 /// `Flat`.
-fn has_list(alloc: Global, coordinates: &[[i8; 3]], numbers: &[i16], want: &[[u32; 4]]) -> bool {
-    let Ok(points) = points(alloc, coordinates) else {
+fn has_list(alloc: Global, set: &[[i8; 3]], numbers: &[i16], want: &[[u32; 4]]) -> bool {
+    let Ok(points) = points_of(alloc, &[set]) else {
         return false;
     };
     match weights(alloc, numbers) {
@@ -127,15 +69,6 @@ const CUBE: [[i8; 3]; 8] = [
     [1, 0, 1],
     [1, 1, 1],
     [0, 1, 1],
-];
-
-const CUBE_ROWS: [[u32; 4]; 6] = [
-    [0, 1, 3, 4],
-    [1, 2, 3, 5],
-    [1, 3, 4, 5],
-    [2, 3, 5, 6],
-    [3, 4, 5, 7],
-    [3, 5, 6, 7],
 ];
 
 /// Points and their weights, and the rows of their list.
@@ -189,9 +122,7 @@ fn drawn(state: &mut u64, n: u32) -> u32
     requires { 0 < n }
     ensures { result < n }
 {
-    *state = state
-        .wrapping_mul(6_364_136_223_846_793_005)
-        .wrapping_add(1_442_695_040_888_963_407);
+    *state = next_state(*state);
     ((*state >> 33) % u64::from(n)) as u32
 }
 
@@ -274,27 +205,15 @@ fn plain_list(alloc: Global, points: &Points, weights: &Weights) -> Result<TetLi
     Ok(rows)
 }
 
-fn are_same(rows: &TetList, others: &TetList) -> bool {
-    if rows.len() != others.len() {
-        return false;
-    }
-    for i in 0..rows.len() {
-        if rows.at(i) != others.at(i) {
-            return false;
-        }
-    }
-    true
-}
-
 /// Whether the list of weighted points is that of the plain filter. None where two of the points
 /// are equal, or where memory is wanting.
 fn is_plain(alloc: Global, points: &Points, weights: &Weights) -> Option<bool> {
-    if points.len() > 1000 || !are_distinct(points) || !are_weights(points, weights) {
+    if !is_small_set(points) || !are_weights(points, weights) {
         return None;
     }
     let plain = plain_list(alloc, points, weights).ok()?;
     match regular(alloc, points, weights) {
-        Ok(rows) => Some(are_same(&rows, &plain)),
+        Ok(rows) => Some(rows.as_slice() == plain.as_slice()),
         Err(BuildFault::Flat) => Some(plain.is_empty()),
         Err(BuildFault::NoMemory) => None,
     }

@@ -3,7 +3,7 @@ ghost use Rattle.std.specs.Prelude.{◌≡◌, ◌≤◌, length, IfSome};
 ghost use Rattle.node_files.specs.Limits.{tetgen_limits};
 ghost use Rattle.node_files.specs.Writing.{IsNodeTable};
 
-use geo_laws::TetList;
+use crate::small_sets::are_rows;
 use node_files::{GridOptions, Limits, NodeTable, read_node, settle};
 use std::alloc::Global;
 use tet_ports::Bytes;
@@ -34,19 +34,6 @@ fn mesh(alloc: Global, text: &[u8]) -> Option<Result<RegularMesh, RegularFault>>
         return None;
     }
     Some(regular_mesh(alloc, &table))
-}
-
-fn are_rows(rows: &TetList, want: &[[u32; 4]]) -> bool {
-    if rows.len() != want.len() {
-        return false;
-    }
-    for (i, w) in want.iter().enumerate() {
-        let row = rows.at(i);
-        if row.a != w[0] || row.b != w[1] || row.c != w[2] || row.d != w[3] {
-            return false;
-        }
-    }
-    true
 }
 
 /// Whether the text has a mesh with these rows that hides so many points.
