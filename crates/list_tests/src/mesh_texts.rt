@@ -1,24 +1,11 @@
 //! Texts of small meshes, against the formats of the manual.
 
-use crate::tet_lists::list_of;
+use crate::tet_lists::{CUBE, PYRAMID, Row, SMALLEST, list_of};
 use geo_laws::{Complex, FacetTriangles, Points, Tet, TetList};
 use mesh_files::*;
 use std::alloc::Global;
 use std::test::Fail;
 use tet_ports::{Bytes, NoMemory};
-
-const SMALLEST: [[u32; 4]; 1] = [[0, 1, 2, 3]];
-
-const PYRAMID: [[u32; 4]; 2] = [[0, 1, 3, 4], [1, 2, 3, 4]];
-
-const CUBE: [[u32; 4]; 6] = [
-    [0, 1, 3, 4],
-    [1, 2, 3, 5],
-    [1, 3, 4, 5],
-    [2, 3, 5, 6],
-    [3, 4, 5, 7],
-    [3, 5, 6, 7],
-];
 
 /// The bytes as text.
 fn text_of(bytes: &Bytes) -> &str {
@@ -26,13 +13,13 @@ fn text_of(bytes: &Bytes) -> &str {
 }
 
 /// The neighbors of rows as text.
-fn neighbor_text(alloc: Global, rows: &[[u32; 4]], first: u32) -> Result<Bytes, NoMemory> {
+fn neighbor_text(alloc: Global, rows: &[Row], first: u32) -> Result<Bytes, NoMemory> {
     let list = list_of(alloc, rows)?;
     let pairs = neighbors_of(alloc, &list)?;
     write_neigh(alloc, &pairs, first)
 }
 
-static NEIGHBOR_TEXTS: [(&[[u32; 4]], u32, &str); 5] = [
+static NEIGHBOR_TEXTS: [(&[Row], u32, &str); 5] = [
     (&SMALLEST, 1, "1 4\n1 -1 -1 -1 -1\n"),
     (&PYRAMID, 0, "2 4\n0 1 -1 -1 -1\n1 -1 0 -1 -1\n"),
     (&PYRAMID, 1, "2 4\n1 2 -1 -1 -1\n2 -1 1 -1 -1\n"),
@@ -68,7 +55,7 @@ fn bare_face_rows(alloc: Global, list: &TetList, all: bool) -> Result<FaceRows, 
 }
 
 /// How many faces, sides, rows of faces and faces on the surface there are.
-fn counts(alloc: Global, rows: &[[u32; 4]]) -> Result<[usize; 4], NoMemory> {
+fn counts(alloc: Global, rows: &[Row]) -> Result<[usize; 4], NoMemory> {
     let list = list_of(alloc, rows)?;
     Ok([
         faces_of(alloc, &list)?.len(),
@@ -80,7 +67,7 @@ fn counts(alloc: Global, rows: &[[u32; 4]]) -> Result<[usize; 4], NoMemory> {
 
 /// With T rows, P points in all and B of them on the surface, a ball has 2T + B - 2 faces, T + P +
 /// B - 3 sides and 2B - 4 faces on the surface. Here all points are on it.
-static BALLS: [(&[[u32; 4]], [usize; 4]); 3] = [
+static BALLS: [(&[Row], [usize; 4]); 3] = [
     (&SMALLEST, [4, 6, 4, 4]),
     (&PYRAMID, [7, 9, 7, 6]),
     (&CUBE, [18, 19, 18, 12]),

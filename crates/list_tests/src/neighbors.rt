@@ -1,29 +1,9 @@
-//! Pairs of small meshes, drawn by hand.
-use crate::tet_lists::tet;
-use geo_laws::TetList;
+//! Pairs of small meshes.
+use crate::tet_lists::{CUBE, PYRAMID, Row, SMALLEST, list_of};
 use incidence::{Across, pair_faces};
 use std::alloc::Global;
 use std::test::Fail;
 use tet_ports::NoMemory;
-
-/// A row, and what is across its faces.
-type Row = ([u32; 4], [Option<usize>; 4]);
-
-const ONE: [Row; 1] = [([0, 1, 2, 3], [None; 4])];
-
-const PYRAMID: [Row; 2] = [
-    ([0, 1, 3, 4], [Some(1), None, None, None]),
-    ([1, 2, 3, 4], [None, Some(0), None, None]),
-];
-
-const CUBE: [Row; 6] = [
-    ([0, 1, 3, 4], [Some(2), None, None, None]),
-    ([1, 2, 3, 5], [Some(3), Some(2), None, None]),
-    ([1, 3, 4, 5], [Some(4), None, Some(1), Some(0)]),
-    ([2, 3, 5, 6], [Some(5), None, None, Some(1)]),
-    ([3, 4, 5, 7], [None, Some(5), None, Some(2)]),
-    ([3, 5, 6, 7], [None, None, Some(4), Some(3)]),
-];
 
 /// One face in four rows, corners in any order.
 const FAN: [Row; 4] = [
@@ -45,15 +25,6 @@ fn are_across(across: Across, want: [Option<usize>; 4]) -> bool {
     [across.n0, across.n1, across.n2, across.n3] == want
 }
 
-/// The list of these rows.
-fn list_of(alloc: Global, rows: &[Row]) -> Result<TetList, NoMemory> {
-    let mut list = TetList::new(alloc);
-    for (row, _) in rows {
-        list.push(tet(*row))?;
-    }
-    Ok(list)
-}
-
 /// The place of the first row with another row across a face than is wanted; None where each has
 /// what is wanted.
 fn first_wrong(alloc: Global, rows: &[Row]) -> Result<Option<usize>, NoMemory> {
@@ -70,14 +41,20 @@ fn first_wrong(alloc: Global, rows: &[Row]) -> Result<Option<usize>, NoMemory> {
     Ok(None)
 }
 
+/// Small meshes by their names.
+static MESHES: [(&str, &[Row]); 6] = [
+    ("none", &[]),
+    ("smallest", &SMALLEST),
+    ("pyramid", &PYRAMID),
+    ("cube", &CUBE),
+    ("fan", &FAN),
+    ("repeated", &REPEATED),
+];
+
 #[test]
 fn rows_have_the_least_other_row_with_the_face(rt: HostRuntime) -> Result<(), Fail> {
-    let alloc = rt.alloc();
-    assert_eq!(rt; first_wrong(alloc, &[])?, None);
-    assert_eq!(rt; first_wrong(alloc, &ONE)?, None);
-    assert_eq!(rt; first_wrong(alloc, &PYRAMID)?, None);
-    assert_eq!(rt; first_wrong(alloc, &CUBE)?, None);
-    assert_eq!(rt; first_wrong(alloc, &FAN)?, None);
-    assert_eq!(rt; first_wrong(alloc, &REPEATED)?, None);
+    for (name, rows) in &MESHES {
+        assert!(rt; first_wrong(rt.alloc(), rows)?.is_none(), "{name}");
+    }
     Ok(())
 }
