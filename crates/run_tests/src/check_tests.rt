@@ -1,7 +1,9 @@
 //! Runs that check a mesh.
 
+use crate::runs::End::{Refused, Told};
+use crate::runs::Program::Tetgen;
+use crate::runs::{Place, Run, other_run};
 use crate::test_inputs::{BAR, PYRAMID, SPLIT};
-use crate::tests::{Place, Run, leaves};
 use std::test::Fail;
 
 const ROWS: &[u8] = b"2 4 0\n0 0 1 3 4\n1 1 2 3 4\n";
@@ -12,100 +14,91 @@ const NEIGHBORS: &[u8] = b"2 4\n0 1 -1 -1 -1\n1 -1 0 -1 -1\n";
 
 static CHECKS: [Run<'static>; 8] = [
     Run {
+        name: "sound",
         held: &[
-            (b"t.node", PYRAMID),
-            (b"t.ele", ROWS),
-            (b"t.face", FACES),
-            (b"t.neigh", NEIGHBORS),
+            (b"t.node", &[PYRAMID]),
+            (b"t.ele", &[ROWS]),
+            (b"t.face", &[FACES]),
+            (b"t.neigh", &[NEIGHBORS]),
         ],
         words: &[b"-rC", b"t"],
-        end: (0, Some(b"sound: 2 tetrahedra\n"), Some(b"")),
+        end: Told(b"sound: 2 tetrahedra\n"),
         files: &[(b"t.1.ele", None)],
     },
-    // Quiet, by the name of the point file, and without neighbors.
     Run {
-        held: &[(b"t.node", PYRAMID), (b"t.ele", ROWS), (b"t.face", FACES)],
+        name: "quiet, by the name of the point file, and without neighbors",
+        held: &[
+            (b"t.node", &[PYRAMID]),
+            (b"t.ele", &[ROWS]),
+            (b"t.face", &[FACES]),
+        ],
         words: &[b"-CQ", b"t.node", b"-r"],
-        end: (0, Some(b""), Some(b"")),
+        end: Told(b""),
         files: &[],
     },
-    // A row that is not positive.
     Run {
+        name: "a row that is not positive",
         held: &[
-            (b"t.node", PYRAMID),
-            (b"t.ele", b"2 4 0\n0 0 1 3 4\n1 2 1 3 4\n"),
-            (b"t.face", FACES),
-            (b"t.neigh", NEIGHBORS),
+            (b"t.node", &[PYRAMID]),
+            (b"t.ele", &[b"2 4 0\n0 0 1 3 4\n1 2 1 3 4\n"]),
+            (b"t.face", &[FACES]),
+            (b"t.neigh", &[NEIGHBORS]),
         ],
         words: &[b"-rC", b"t"],
-        end: (
+        end: Refused(13, b"tetgen: defect: row 1 is not positive\n"),
+        files: &[],
+    },
+    Run {
+        name: "a third row",
+        held: &[
+            (b"t.node", &[PYRAMID]),
+            (b"t.ele", &[b"3 4 0\n0 0 1 3 4\n1 1 2 3 4\n2 0 1 2 4\n"]),
+            (b"t.face", &[FACES]),
+        ],
+        words: &[b"-rC", b"t"],
+        end: Refused(
             13,
-            Some(b""),
-            Some(b"tetgen: defect: row 1 is not positive\n"),
+            b"tetgen: defect: rows 0 and 2 lie on one side of a face\n",
         ),
         files: &[],
     },
-    // A third row.
     Run {
+        name: "a file that is missing",
+        held: &[(b"t.node", &[PYRAMID]), (b"t.ele", &[ROWS])],
+        words: &[b"-rC", b"t"],
+        end: Refused(2, b"tetgen: t.face: not found\n"),
+        files: &[],
+    },
+    Run {
+        name: "a corner that is no point",
         held: &[
-            (b"t.node", PYRAMID),
-            (b"t.ele", b"3 4 0\n0 0 1 3 4\n1 1 2 3 4\n2 0 1 2 4\n"),
-            (b"t.face", FACES),
+            (b"t.node", &[PYRAMID]),
+            (b"t.ele", &[b"1 4\n0 0 1 3 5\n"]),
+            (b"t.face", &[FACES]),
         ],
         words: &[b"-rC", b"t"],
-        end: (
-            13,
-            Some(b""),
-            Some(b"tetgen: defect: rows 0 and 2 lie on one side of a face\n"),
-        ),
+        end: Refused(4, b"tetgen: t.ele: line 2: bad number\n"),
         files: &[],
     },
-    // A file that is missing.
     Run {
-        held: &[(b"t.node", PYRAMID), (b"t.ele", ROWS)],
-        words: &[b"-rC", b"t"],
-        end: (2, Some(b""), Some(b"tetgen: t.face: not found\n")),
-        files: &[],
-    },
-    // A corner that is no point.
-    Run {
-        held: &[
-            (b"t.node", PYRAMID),
-            (b"t.ele", b"1 4\n0 0 1 3 5\n"),
-            (b"t.face", FACES),
-        ],
-        words: &[b"-rC", b"t"],
-        end: (4, Some(b""), Some(b"tetgen: t.ele: line 2: bad number\n")),
-        files: &[],
-    },
-    // The letters go together only.
-    Run {
-        held: &[(b"t.node", PYRAMID)],
+        name: "the letters go together only",
+        held: &[(b"t.node", &[PYRAMID])],
         words: &[b"-r", b"t"],
-        end: (
-            1,
-            Some(b""),
-            Some(b"tetgen: word 3, place 2: not understood\n"),
-        ),
+        end: Refused(1, b"tetgen: word 3, place 2: not understood\n"),
         files: &[],
     },
     Run {
+        name: "the letters go together only, for a complex",
         held: &[(b"bar.poly", BAR)],
         words: &[b"-rC", b"bar.poly"],
-        end: (
-            1,
-            Some(b""),
-            Some(b"tetgen: word 3, place 2: not understood\n"),
-        ),
+        end: Refused(1, b"tetgen: word 3, place 2: not understood\n"),
         files: &[],
     },
 ];
 
 #[test]
 fn meshes_are_checked(rt: HostRuntime) -> Result<(), Fail> {
-    for case in &CHECKS {
-        assert!(rt; leaves(rt.alloc(), case)?);
-    }
+    assert_eq!(rt; other_run(rt.alloc(), Tetgen, &CHECKS)?, None);
     Ok(())
 }
 
@@ -113,9 +106,9 @@ fn meshes_are_checked(rt: HostRuntime) -> Result<(), Fail> {
 #[test]
 fn a_mesh_that_was_made_is_sound(rt: HostRuntime) -> Result<(), Fail> {
     let alloc = rt.alloc();
-    let mut place = Place::with_files(alloc, &[(b"s.poly", SPLIT)])?;
-    place.run(alloc, &[b"-pcnQ", b"s"])?;
-    place.run(alloc, &[b"-rC", b"s.1"])?;
-    assert!(rt; place.has(alloc, (0, Some(b"sound: 18 tetrahedra\n"), Some(b"")), &[])?);
+    let mut place = Place::with_files(alloc, &[(b"s.poly", &[SPLIT])])?;
+    place.run(alloc, Tetgen, &[b"-pcnQ", b"s"])?;
+    place.run(alloc, Tetgen, &[b"-rC", b"s.1"])?;
+    assert!(rt; place.has(alloc, Told(b"sound: 18 tetrahedra\n"), &[])?);
     Ok(())
 }

@@ -1,7 +1,10 @@
 //! Runs on thousands of points with facets among them, drawn by a linear congruential generator.
 ghost use Rattle.std.specs.Prelude.{◌<◌, ◌≤◌};
 
-use crate::tests::{Run, add_point, leaves};
+use crate::large_tests::add_point;
+use crate::runs::End::Told;
+use crate::runs::Program::Tetgen;
+use crate::runs::{Run, leaves};
 use check_steps::append_number;
 use std::alloc::Global;
 use std::test::Fail;
@@ -158,19 +161,24 @@ fn small_plates(alloc: Global) -> Result<Bytes, NoMemory> {
     Ok(text)
 }
 
+/// Whether a run on the complex of a text ends well with this summary.
+fn is_meshed(alloc: Global, text: &Bytes, summary: &[u8]) -> Result<bool, NoMemory> {
+    let run = Run {
+        name: "cloud",
+        held: &[(b"t.poly", &[text.as_slice()])],
+        words: &[b"-pc", b"t"],
+        end: Told(summary),
+        files: &[],
+    };
+    leaves(alloc, Tetgen, &run)
+}
+
 #[test]
 fn a_plate_crosses_thousands_of_tetrahedra(rt: HostRuntime) -> Result<(), Fail> {
     let alloc = rt.alloc();
     let text = plate_in_cloud(alloc, 10_000)?;
-    let held = [(b"t.poly".as_slice(), text.as_slice())];
     let summary = b"points 10128 added 0 tetrahedra 67642 faces 135415 edges 77900\n";
-    let run = Run {
-        held: &held,
-        words: &[b"-pc", b"t"],
-        end: (0, Some(summary), Some(b"")),
-        files: &[],
-    };
-    assert!(rt; leaves(alloc, &run)?);
+    assert!(rt; is_meshed(alloc, &text, summary)?);
     Ok(())
 }
 
@@ -178,14 +186,7 @@ fn a_plate_crosses_thousands_of_tetrahedra(rt: HostRuntime) -> Result<(), Fail> 
 fn many_plates_are_crossed(rt: HostRuntime) -> Result<(), Fail> {
     let alloc = rt.alloc();
     let text = small_plates(alloc)?;
-    let held = [(b"t.poly".as_slice(), text.as_slice())];
     let summary = b"points 625 added 0 tetrahedra 3401 faces 6873 edges 4096\n";
-    let run = Run {
-        held: &held,
-        words: &[b"-pc", b"t"],
-        end: (0, Some(summary), Some(b"")),
-        files: &[],
-    };
-    assert!(rt; leaves(alloc, &run)?);
+    assert!(rt; is_meshed(alloc, &text, summary)?);
     Ok(())
 }

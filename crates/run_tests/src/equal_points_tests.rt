@@ -1,6 +1,8 @@
 //! Runs over inputs with equal points, which are folded.
 
-use crate::tests::{Run, leaves};
+use crate::runs::End::{Refused, Told};
+use crate::runs::Program::Tetgen;
+use crate::runs::{Run, other_run};
 use std::test::Fail;
 
 /// A tetrahedron whose second corner is listed again, behind the others.
@@ -12,11 +14,14 @@ const BETWEEN: &[u8] =
 
 /// The surface of a tetrahedron, each triangle with corners of its own.
 const SURFACE: &[u8] =
-    b"12\n0 0 0 0\n1 0 1 0\n2 1 0 0\n3 0 0 0\n4 1 0 0\n5 0 0 1\n6 0 0 0\n7 0 0 1\n8 0 1 0\n9 1 0 0\n10 0 1 0\n11 0 0 1\n4 1\n3 0 1 2 7\n3 3 4 5\n3 6 7 8\n3 9 10 11\n0\n1\n0 0.1 0.1 0.1 x\n";
+    b"12\n0 0 0 0\n1 0 1 0\n2 1 0 0\n3 0 0 0\n4 1 0 0\n5 0 0 1\n6 0 0 0\n7 0 0 1\n8 0 1 0\n\
+      9 1 0 0\n10 0 1 0\n11 0 0 1\n4 1\n3 0 1 2 7\n3 3 4 5\n3 6 7 8\n3 9 10 11\n0\n1\n\
+      0 0.1 0.1 0.1 x\n";
 
 /// A segment that is split in a mesh, with its first end listed again, behind the other points.
 const SPLIT_TWICE: &[u8] =
-    b"9 3 0 0\n0 -8 0 0\n1 8 0 0\n2 -4 1 0\n3 -4 -1 1\n4 -4 -1 -1\n5 4 1 0\n6 4 -1 1\n7 4 -1 -1\n8 -8 0 0\n1\n1\n2 8 1\n";
+    b"9 3 0 0\n0 -8 0 0\n1 8 0 0\n2 -4 1 0\n3 -4 -1 1\n4 -4 -1 -1\n5 4 1 0\n6 4 -1 1\n7 4 -1 -1\n\
+      8 -8 0 0\n1\n1\n2 8 1\n";
 
 /// Two segments that cross, behind a point that is listed twice.
 const CROSSED: &[u8] =
@@ -27,13 +32,10 @@ const UNEVEN: &[u8] = b"6\n0 5 5 5\n1 5 5 5\n2 0 0 0\n3 1 0 0\n4 1 1 1\n5 0 1 0\
 
 static POINTS: [Run<'static>; 3] = [
     Run {
-        held: &[(b"t.node", LAST)],
+        name: "listed again behind the others",
+        held: &[(b"t.node", &[LAST])],
         words: &[b"-ne", b"t"],
-        end: (
-            0,
-            Some(b"points 5 added 0 tetrahedra 1 faces 4 edges 6\n"),
-            Some(b""),
-        ),
+        end: Told(b"points 5 added 0 tetrahedra 1 faces 4 edges 6\n"),
         files: &[
             (b"t.1.ele", Some(b"1 4 0\n1 1 2 3 4\n")),
             (
@@ -44,13 +46,10 @@ static POINTS: [Run<'static>; 3] = [
         ],
     },
     Run {
-        held: &[(b"t.node", BETWEEN)],
+        name: "listed again between the others",
+        held: &[(b"t.node", &[BETWEEN])],
         words: &[b"-ef", b"t"],
-        end: (
-            0,
-            Some(b"points 5 added 0 tetrahedra 1 faces 4 edges 6\n"),
-            Some(b""),
-        ),
+        end: Told(b"points 5 added 0 tetrahedra 1 faces 4 edges 6\n"),
         files: &[
             (b"t.1.ele", Some(b"1 4 0\n1 1 2 4 5\n")),
             (
@@ -67,11 +66,11 @@ static POINTS: [Run<'static>; 3] = [
             ),
         ],
     },
-    // From 0.
     Run {
-        held: &[(b"t.node", BETWEEN)],
+        name: "from 0",
+        held: &[(b"t.node", &[BETWEEN])],
         words: &[b"-zQ", b"t"],
-        end: (0, Some(b""), Some(b"")),
+        end: Told(b""),
         files: &[
             (b"t.1.ele", Some(b"1 4 0\n0 0 1 3 4\n")),
             (
@@ -84,21 +83,16 @@ static POINTS: [Run<'static>; 3] = [
 
 #[test]
 fn equal_points_are_folded(rt: HostRuntime) -> Result<(), Fail> {
-    for case in &POINTS {
-        assert!(rt; leaves(rt.alloc(), case)?);
-    }
+    assert_eq!(rt; other_run(rt.alloc(), Tetgen, &POINTS)?, None);
     Ok(())
 }
 
 static COMPLEXES: [Run<'static>; 2] = [
     Run {
-        held: &[(b"s.smesh", SURFACE)],
+        name: "triangles with corners of their own",
+        held: &[(b"s.smesh", &[SURFACE])],
         words: &[b"-pAe", b"s"],
-        end: (
-            0,
-            Some(b"points 12 added 0 tetrahedra 1 faces 4 edges 6\n"),
-            Some(b""),
-        ),
+        end: Told(b"points 12 added 0 tetrahedra 1 faces 4 edges 6\n"),
         files: &[
             (b"s.1.ele", Some(b"1 4 1\n0 0 1 5 2 x\n")),
             (
@@ -111,19 +105,16 @@ static COMPLEXES: [Run<'static>; 2] = [
             ),
         ],
     },
-    // Added points are numbered behind all listed ones.
     Run {
-        held: &[(b"s.poly", SPLIT_TWICE)],
+        name: "added points are numbered behind all listed ones",
+        held: &[(b"s.poly", &[SPLIT_TWICE])],
         words: &[b"-pc", b"s"],
-        end: (
-            0,
-            Some(b"points 9 added 3 tetrahedra 18 faces 42 edges 34\n"),
-            Some(b""),
-        ),
+        end: Told(b"points 9 added 3 tetrahedra 18 faces 42 edges 34\n"),
         files: &[(
             b"s.1.node",
             Some(
-                b"12 3 0 0\n0 -8 0 0\n1 8 0 0\n2 -4 1 0\n3 -4 -1 1\n4 -4 -1 -1\n5 4 1 0\n6 4 -1 1\n7 4 -1 -1\n8 -8 0 0\n9 0 0 0\n10 -4 0 0\n11 4 0 0\n",
+                b"12 3 0 0\n0 -8 0 0\n1 8 0 0\n2 -4 1 0\n3 -4 -1 1\n4 -4 -1 -1\n5 4 1 0\n6 4 -1 1\n\
+                  7 4 -1 -1\n8 -8 0 0\n9 0 0 0\n10 -4 0 0\n11 4 0 0\n",
             ),
         )],
     },
@@ -131,56 +122,43 @@ static COMPLEXES: [Run<'static>; 2] = [
 
 #[test]
 fn corners_name_kept_points(rt: HostRuntime) -> Result<(), Fail> {
-    for case in &COMPLEXES {
-        assert!(rt; leaves(rt.alloc(), case)?);
-    }
+    assert_eq!(rt; other_run(rt.alloc(), Tetgen, &COMPLEXES)?, None);
     Ok(())
 }
 
 static MESSAGES: [Run<'static>; 4] = [
     Run {
-        held: &[(b"s.poly", CROSSED)],
+        name: "segments that cross",
+        held: &[(b"s.poly", &[CROSSED])],
         words: &[b"-p", b"s"],
-        end: (6, Some(b""), Some(b"tetgen: segments 1 3 and 4 5 cross\n")),
+        end: Refused(6, b"tetgen: segments 1 3 and 4 5 cross\n"),
         files: &[],
     },
     Run {
-        held: &[(b"s.poly", UNEVEN)],
+        name: "not flat",
+        held: &[(b"s.poly", &[UNEVEN])],
         words: &[b"-p", b"s"],
-        end: (
-            6,
-            Some(b""),
-            Some(b"tetgen: facet 1 is not flat: points 2 3 4 5\n"),
-        ),
+        end: Refused(6, b"tetgen: facet 1 is not flat: points 2 3 4 5\n"),
         files: &[],
     },
-    // An added point.
     Run {
-        held: &[(b"s.poly", SPLIT_TWICE)],
+        name: "an added point",
+        held: &[(b"s.poly", &[SPLIT_TWICE])],
         words: &[b"-pc", b"--halvings=1", b"s"],
-        end: (
-            7,
-            Some(b""),
-            Some(b"tetgen: segment 0 9 needs a finer grid\n"),
-        ),
+        end: Refused(7, b"tetgen: segment 0 9 needs a finer grid\n"),
         files: &[],
     },
     Run {
-        held: &[(b"s.poly", SPLIT_TWICE)],
+        name: "too few splits",
+        held: &[(b"s.poly", &[SPLIT_TWICE])],
         words: &[b"-pcS2", b"s"],
-        end: (
-            8,
-            Some(b""),
-            Some(b"tetgen: 2 splits used, segment 1 9 is missing\n"),
-        ),
+        end: Refused(8, b"tetgen: 2 splits used, segment 1 9 is missing\n"),
         files: &[],
     },
 ];
 
 #[test]
 fn messages_tell_names(rt: HostRuntime) -> Result<(), Fail> {
-    for case in &MESSAGES {
-        assert!(rt; leaves(rt.alloc(), case)?);
-    }
+    assert_eq!(rt; other_run(rt.alloc(), Tetgen, &MESSAGES)?, None);
     Ok(())
 }

@@ -1,6 +1,8 @@
 //! Runs that fit the decimals of a model to its grid, over a folder and streams in memory.
 
-use crate::tests::{Run, fits};
+use crate::runs::End::{Refused, Told};
+use crate::runs::Program::Tetfit;
+use crate::runs::{Run, other_run};
 use std::test::Fail;
 
 /// A tetrahedron one of whose zeros is written with many decimals, as programs for floats do.
@@ -13,7 +15,11 @@ const NODE: &[u8] = b"4 3 0 0\n0 0 0 0\n1 1 0 0\n2 0 1.5 0\n3 0 0 1\n";
 
 /// An L-shaped beam with a cavity of six decimals, for one of whose sides the grid is too coarse.
 const BEAM: &[u8] =
-    b"16 3 0 0\n1 0 0 -8\n2 2 0 -8\n3 2 1 -8\n4 1 1 -8\n5 1 2 -8\n6 0 2 -8\n7 0 0 8\n8 2 0 8\n9 2 1 8\n10 1 1 8\n11 1 2 8\n12 0 2 8\n13 0.912345 0.5 0\n14 0.5 0.912345 0\n15 0.6 0.6 0.2\n16 0.6 0.6 -0.2\n12 0\n1\n6 1 2 3 4 5 6\n1\n6 7 8 9 10 11 12\n1\n4 1 2 8 7\n1\n4 2 3 9 8\n1\n4 3 4 10 9\n1\n4 4 5 11 10\n1\n4 5 6 12 11\n1\n4 6 1 7 12\n1\n3 13 14 15\n1\n3 13 14 16\n1\n3 13 15 16\n1\n3 14 15 16\n1\n1 0.65 0.65 0\n0\n";
+    b"16 3 0 0\n1 0 0 -8\n2 2 0 -8\n3 2 1 -8\n4 1 1 -8\n5 1 2 -8\n6 0 2 -8\n7 0 0 8\n8 2 0 8\n\
+      9 2 1 8\n10 1 1 8\n11 1 2 8\n12 0 2 8\n13 0.912345 0.5 0\n14 0.5 0.912345 0\n15 0.6 0.6 0.2\n\
+      16 0.6 0.6 -0.2\n12 0\n1\n6 1 2 3 4 5 6\n1\n6 7 8 9 10 11 12\n1\n4 1 2 8 7\n1\n4 2 3 9 8\n1\n\
+      4 3 4 10 9\n1\n4 4 5 11 10\n1\n4 5 6 12 11\n1\n4 6 1 7 12\n1\n3 13 14 15\n1\n3 13 14 16\n1\n\
+      3 13 15 16\n1\n3 14 15 16\n1\n1 0.65 0.65 0\n0\n";
 
 /// A point off each grid.
 const FAR: &[u8] = b"4 3 0 0\n1 0 0 0\n2 12345678.5 0 0\n3 0 1 0\n4 0 0 1\n";
@@ -51,85 +57,72 @@ tetfit: the surface is open: only facet 1 has the side 1 4\n";
 /// What is told of a model beside its status.
 static TOLD: [Run<'static>; 4] = [
     Run {
-        held: &[(b"t.node", FAR)],
+        name: "off each grid",
+        held: &[(b"t.node", &[FAR])],
         words: &[b"t.node"],
-        end: (5, Some(b""), Some(FAR_TOLD)),
+        end: Refused(5, FAR_TOLD),
         files: &[],
     },
     Run {
-        held: &[(b"s.poly", CROSSED)],
+        name: "segments that cross",
+        held: &[(b"s.poly", &[CROSSED])],
         words: &[b"s.poly"],
-        end: (6, Some(b""), Some(CROSSED_TOLD)),
+        end: Refused(6, CROSSED_TOLD),
         files: &[],
     },
-    // The missing piece ends in an added point.
     Run {
-        held: &[(b"b.poly", BEAM)],
+        name: "a missing piece that ends in an added point",
+        held: &[(b"b.poly", &[BEAM])],
         words: &[b"-S1", b"b.poly"],
-        end: (8, Some(b""), Some(BEAM_TOLD)),
+        end: Refused(8, BEAM_TOLD),
         files: &[],
     },
     Run {
-        held: &[(b"o.poly", OPEN)],
+        name: "a box with no lid",
+        held: &[(b"o.poly", &[OPEN])],
         words: &[b"-NEF", b"o.poly"],
-        end: (0, Some(OPEN_TOLD), Some(b"")),
+        end: Told(OPEN_TOLD),
         files: &[],
     },
 ];
 
 static FITS: [Run<'static>; 5] = [
     Run {
-        held: &[(b"t.node", TINY)],
+        name: "many decimals",
+        held: &[(b"t.node", &[TINY])],
         words: &[b"t.node"],
-        end: (
-            0,
-            Some(b"points 4 added 0 tetrahedra 1 faces 4 edges 6 decimals 16\n"),
-            Some(b""),
-        ),
+        end: Told(b"points 4 added 0 tetrahedra 1 faces 4 edges 6 decimals 16\n"),
         files: &[(b"t.1.node", Some(NODE))],
     },
     Run {
-        held: &[(b"t.node", EXPONENT)],
+        name: "an exponent",
+        held: &[(b"t.node", &[EXPONENT])],
         words: &[b"t.node"],
-        end: (
-            0,
-            Some(b"points 4 added 0 tetrahedra 1 faces 4 edges 6 decimals 16\n"),
-            Some(b""),
-        ),
+        end: Told(b"points 4 added 0 tetrahedra 1 faces 4 edges 6 decimals 16\n"),
         files: &[(b"t.1.node", Some(NODE))],
     },
-    // As it stands.
     Run {
-        held: &[(b"t.node", NODE)],
+        name: "as it stands",
+        held: &[(b"t.node", &[NODE])],
         words: &[b"t"],
-        end: (
-            0,
-            Some(b"points 4 added 0 tetrahedra 1 faces 4 edges 6 decimals 1\n"),
-            Some(b""),
-        ),
+        end: Told(b"points 4 added 0 tetrahedra 1 faces 4 edges 6 decimals 1\n"),
         files: &[(b"t.1.node", Some(NODE))],
     },
-    // The grid of six decimals is too coarse for a segment, and that of five is not.
     Run {
-        held: &[(b"b.poly", BEAM)],
+        name: "a segment for which the grid of six decimals is too coarse",
+        held: &[(b"b.poly", &[BEAM])],
         words: &[b"-NEF", b"b.poly"],
-        end: (
-            0,
-            Some(b"points 16 added 3 tetrahedra 44 faces 103 edges 76 decimals 5\n"),
-            Some(b""),
-        ),
+        end: Told(b"points 16 added 3 tetrahedra 44 faces 103 edges 76 decimals 5\n"),
         files: &[(b"b.1.ele", None)],
     },
-    // A word that is not understood.
     Run {
+        name: "a word that is not understood",
         held: &[],
         words: &[b"-V", b"-pq1.4", b"b"],
-        end: (
+        end: Refused(
             1,
-            Some(b""),
-            Some(
-                b"tetfit: reads and meshes the model\ntetfit: -pq1.4: q: quality meshes are not there\n",
-            ),
+            b"tetfit: reads and meshes the model\n\
+              tetfit: -pq1.4: q: quality meshes are not there\n",
         ),
         files: &[],
     },
@@ -137,16 +130,12 @@ static FITS: [Run<'static>; 5] = [
 
 #[test]
 fn decimals_are_fitted(rt: HostRuntime) -> Result<(), Fail> {
-    for case in &FITS {
-        assert!(rt; fits(rt.alloc(), case)?);
-    }
+    assert_eq!(rt; other_run(rt.alloc(), Tetfit, &FITS)?, None);
     Ok(())
 }
 
 #[test]
 fn what_is_known_is_told(rt: HostRuntime) -> Result<(), Fail> {
-    for case in &TOLD {
-        assert!(rt; fits(rt.alloc(), case)?);
-    }
+    assert_eq!(rt; other_run(rt.alloc(), Tetfit, &TOLD)?, None);
     Ok(())
 }

@@ -12,9 +12,13 @@ mod equal_points_tests;
 #[cfg(test)]
 mod fit_tests;
 #[cfg(test)]
+mod large_tests;
+#[cfg(test)]
 mod located_point_tests;
 #[cfg(test)]
 mod merged_facet_tests;
+#[cfg(test)]
+mod runs;
 #[cfg(test)]
 mod surface_tests;
 #[cfg(test)]

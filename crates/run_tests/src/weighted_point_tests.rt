@@ -1,6 +1,8 @@
 //! Runs over points with weights.
 
-use crate::tests::{Run, leaves};
+use crate::runs::End::{Refused, Told};
+use crate::runs::Program::Tetgen;
+use crate::runs::{Run, other_run};
 use std::test::Fail;
 
 /// A corner of a cube and a point within, which is hidden.
@@ -22,13 +24,10 @@ const TIED_ELE: &[u8] = b"4 4 0\n0 0 1 2 4\n1 0 1 4 3\n2 0 2 3 4\n3 1 2 4 3\n";
 
 static WEIGHTED: [Run<'static>; 6] = [
     Run {
-        held: &[(b"t.node", HIDDEN)],
+        name: "hidden",
+        held: &[(b"t.node", &[HIDDEN])],
         words: &[b"-wn", b"t"],
-        end: (
-            0,
-            Some(b"points 5 added 0 tetrahedra 1 faces 4 edges 6 hidden 1\n"),
-            Some(b""),
-        ),
+        end: Told(b"points 5 added 0 tetrahedra 1 faces 4 edges 6 hidden 1\n"),
         files: &[
             (b"t.1.ele", Some(b"1 4 0\n0 0 1 2 3\n")),
             (
@@ -39,49 +38,44 @@ static WEIGHTED: [Run<'static>; 6] = [
         ],
     },
     Run {
-        held: &[(b"t.node", TIED)],
+        name: "tied",
+        held: &[(b"t.node", &[TIED])],
         words: &[b"-w", b"t.node"],
-        end: (
-            0,
-            Some(b"points 5 added 0 tetrahedra 4 faces 10 edges 10 hidden 0\n"),
-            Some(b""),
-        ),
+        end: Told(b"points 5 added 0 tetrahedra 4 faces 10 edges 10 hidden 0\n"),
         files: &[(b"t.1.ele", Some(TIED_ELE))],
     },
     Run {
-        held: &[(b"t.node", BARE)],
+        name: "without weights",
+        held: &[(b"t.node", &[BARE])],
         words: &[b"-wQ", b"t"],
-        end: (0, Some(b""), Some(b"")),
+        end: Told(b""),
         files: &[(b"t.1.ele", Some(TIED_ELE))],
     },
     Run {
-        held: &[(b"t.node", WORD)],
+        name: "a word",
+        held: &[(b"t.node", &[WORD])],
         words: &[b"-w", b"t"],
-        end: (
-            4,
-            Some(b""),
-            Some(b"tetgen: t.node: line 4: not a number\n"),
-        ),
+        end: Refused(4, b"tetgen: t.node: line 4: not a number\n"),
         files: &[(b"t.1.ele", None)],
     },
     Run {
-        held: &[(b"t.node", HEAVY)],
+        name: "heavy",
+        held: &[(b"t.node", &[HEAVY])],
         words: &[b"-w", b"t"],
-        end: (5, Some(b""), Some(b"tetgen: line 4: weight off the grid\n")),
+        end: Refused(5, b"tetgen: line 4: weight off the grid\n"),
         files: &[(b"t.1.ele", None)],
     },
     Run {
-        held: &[(b"t.node", FLAT)],
+        name: "flat",
+        held: &[(b"t.node", &[FLAT])],
         words: &[b"-w", b"t"],
-        end: (6, Some(b""), Some(b"tetgen: all points lie in one plane\n")),
+        end: Refused(6, b"tetgen: all points lie in one plane\n"),
         files: &[(b"t.1.ele", None)],
     },
 ];
 
 #[test]
 fn weighted_points_are_meshed(rt: HostRuntime) -> Result<(), Fail> {
-    for case in &WEIGHTED {
-        assert!(rt; leaves(rt.alloc(), case)?);
-    }
+    assert_eq!(rt; other_run(rt.alloc(), Tetgen, &WEIGHTED)?, None);
     Ok(())
 }
