@@ -1,5 +1,5 @@
 //! Worked regular lists, and lists that a plain filter over all fours makes too.
-ghost use Rattle.std.specs.Prelude.{◌≡◌, ◌<◌, ◌≤◌, All, IsTrue, length};
+ghost use Rattle.std.specs.Prelude.{◌≡◌, ◌<◌, ◌≤◌, ◌^◌, All, IsTrue, length, unsigned_abs};
 ghost use Rattle.regular_laws.specs.Regular.{AreWeightsOf};
 ghost use Rattle.sign_predicates.specs.Weighted.{IsWeight, AreWeights};
 

@@ -4,7 +4,7 @@ ghost use Rattle.geo_laws.specs.Delaunay.{IsOn};
 ghost use Rattle.tangle_fill.specs.Fill.{AreFacetTriangles};
 ghost use Rattle.tangle_fill.specs.Sample.{IsPlaneTriangle};
 
-use crate::small_sets::{points_of, row, small_set};
+use crate::small_sets::{row, small_set};
 use cavity_insert::delaunay;
 use geo_laws::{Face, FacetTriangle, FacetTriangles, Points, Tet, TetList};
 use simplex_meets::is_triangle;
@@ -143,10 +143,12 @@ fn end_of(alloc: Global, set: &[&[[i8; 3]]], corners: &[[u32; 3]]) -> Result<End
 
 /// Whether the tetrahedron of the two plates is admissible; None where it may not be asked.
 fn is_admissible(alloc: Global, corners: [u32; 4]) -> Result<Option<bool>, NoMemory> {
-    let points = points_of(alloc, TWO_PLATES)?;
+    let Some(points) = small_set(alloc, TWO_PLATES) else {
+        return Ok(None);
+    };
     let triangles = triangles_of(alloc, &[[0, 1, 2], [3, 4, 5]])?;
     let row = row(corners);
-    if points.len() < 99 && is_on(&points, row) && are_facet_triangles(&points, &triangles) {
+    if is_on(&points, row) && are_facet_triangles(&points, &triangles) {
         Ok(Some(admissible(&points, row, &triangles)))
     } else {
         Ok(None)
