@@ -16,27 +16,41 @@ use tet_text::TextKind::{BadCount, BadIndex, Ended, Extra, NotANumber};
 use tet_text::{Decimal, TextFault, TextKind};
 
 const BAR: &[u8] =
-    b"# Part 1 - node list\n8 3 0 0\n1 0.0 0.0 0.0\n2 2.0 0.0 0.0\n3 2.0 2.0 0.0\n4 0.0 2.0 0.0\n5 0.0 0.0 12.0\n6 2.0 0.0 12.0\n7 2.0 2.0 12.0\n8 0.0 2.0 12.0\n# Part 2 - facet list\n6 1\n1 0 -1   # one polygon, no hole, marker\n4 1 2 3 4\n1 0 -2\n4 5 6 7 8\n1 0 0\n4 1 5 6 2\n1 0 0\n4 2 6 7 3\n1 0 0\n4 3 7 8 4\n1 0 0\n4 4 8 5 1\n# Part 3 - hole list\n0\n# Part 4 - region list\n0\n";
+    b"# Part 1 - node list\n8 3 0 0\n1 0.0 0.0 0.0\n2 2.0 0.0 0.0\n3 2.0 2.0 0.0\n4 0.0 2.0 0.0\n\
+      5 0.0 0.0 12.0\n6 2.0 0.0 12.0\n7 2.0 2.0 12.0\n8 0.0 2.0 12.0\n# Part 2 - facet list\n6 1\n\
+      1 0 -1   # one polygon, no hole, marker\n4 1 2 3 4\n1 0 -2\n4 5 6 7 8\n1 0 0\n4 1 5 6 2\n\
+      1 0 0\n4 2 6 7 3\n1 0 0\n4 3 7 8 4\n1 0 0\n4 4 8 5 1\n# Part 3 - hole list\n0\n\
+      # Part 4 - region list\n0\n";
 
 // The same, whose third facet is missing.
 const CUT: &[u8] =
-    b"# Part 1 - node list\n8 3 0 0\n1 0.0 0.0 0.0\n2 2.0 0.0 0.0\n3 2.0 2.0 0.0\n4 0.0 2.0 0.0\n5 0.0 0.0 12.0\n6 2.0 0.0 12.0\n7 2.0 2.0 12.0\n8 0.0 2.0 12.0\n# Part 2 - facet list\n6 1\n1 0 -1   # one polygon, no hole, marker\n4 1 2 3 4\n1 0 -2\n4 5 6 7 8\n";
+    b"# Part 1 - node list\n8 3 0 0\n1 0.0 0.0 0.0\n2 2.0 0.0 0.0\n3 2.0 2.0 0.0\n4 0.0 2.0 0.0\n\
+      5 0.0 0.0 12.0\n6 2.0 0.0 12.0\n7 2.0 2.0 12.0\n8 0.0 2.0 12.0\n# Part 2 - facet list\n6 1\n\
+      1 0 -1   # one polygon, no hole, marker\n4 1 2 3 4\n1 0 -2\n4 5 6 7 8\n";
 
 // The same complex in the other form, but for the marker of its fifth facet; no hole list.
 const BAR_SMESH: &[u8] =
-    b"8\n1 0.0 0.0 0.0\n2 2.0 0.0 0.0\n3 2.0 2.0 0.0\n4 0.0 2.0 0.0\n5 0.0 0.0 12.0\n6 2.0 0.0 12.0\n7 2.0 2.0 12.0\n8 0.0 2.0 12.0\n6 1\n4 1 2 3 4 -1\n4 5 6 7 8 -2\n4 1 5 6 2 0\n4 2 6 7 3 0\n4 3 7\n8 4\n4 4 8 5 1 0\n";
+    b"8\n1 0.0 0.0 0.0\n2 2.0 0.0 0.0\n3 2.0 2.0 0.0\n4 0.0 2.0 0.0\n5 0.0 0.0 12.0\n\
+      6 2.0 0.0 12.0\n7 2.0 2.0 12.0\n8 0.0 2.0 12.0\n6 1\n4 1 2 3 4 -1\n4 5 6 7 8 -2\n\
+      4 1 5 6 2 0\n4 2 6 7 3 0\n4 3 7\n8 4\n4 4 8 5 1 0\n";
 
 // Two polygons, a facet hole, and corners over three lines; a hole point and two regions.
 const PARTS: &[u8] =
-    b"4\n0 0 0 0\n1 1 0 0\n2 0 1 0\n3 0 0 1\n2 0\n2 1 7\n3 0\n# between\n1\n2\n2 1 3\n-1 .5 -0.25 0\n1\n1 3\n1\n9 1.4 1.5 1.6\n2\n1 0.5 1.4 1.6 10\n2 1.4 1.5 1.6 a 0.1\n";
+    b"4\n0 0 0 0\n1 1 0 0\n2 0 1 0\n3 0 0 1\n2 0\n2 1 7\n3 0\n# between\n1\n2\n2 1 3\n\
+      -1 .5 -0.25 0\n1\n1 3\n1\n9 1.4 1.5 1.6\n2\n1 0.5 1.4 1.6 10\n2 1.4 1.5 1.6 a 0.1\n";
 
 // The same with the flag, and with carriage returns, tabs, comments and blank lines in every place.
 const LOOSE: &[u8] =
-    b"\r\n# points\r\n 4\t3 # four\r\n\r\n0 0 0 0\r\n# between\r\n1 1 0 0 # right\r\n\t2 0 1 0\r\n3 0 0 1#\r\n \t\r\n# facets\r\n2 1\r\n\r\n2 1 7# two polygons\r\n#\r\n3\r\n\r\n0 1 # go on\r\n# and on\r\n2\r\n\r\n2 1 # go on\r\n\t 3\r\n# a hole\r\n-1 .5 -0.25 0\r\n\r\n1\r\n#\r\n1 3 # a point\r\n\r\n1 # hole\r\n9 1.4 1.5 1.6\r\n# regions\r\n2\r\n1 0.5 1.4 1.6 10\r\n\r\n2 1.4 1.5 1.6 a 0.1 # limit\r\n\r\n# end";
+    b"\r\n# points\r\n 4\t3 # four\r\n\r\n0 0 0 0\r\n# between\r\n1 1 0 0 # right\r\n\t2 0 1 0\r\n\
+      3 0 0 1#\r\n \t\r\n# facets\r\n2 1\r\n\r\n2 1 7# two polygons\r\n#\r\n3\r\n\r\n\
+      0 1 # go on\r\n# and on\r\n2\r\n\r\n2 1 # go on\r\n\t 3\r\n# a hole\r\n-1 .5 -0.25 0\r\n\r\n\
+      1\r\n#\r\n1 3 # a point\r\n\r\n1 # hole\r\n9 1.4 1.5 1.6\r\n# regions\r\n2\r\n\
+      1 0.5 1.4 1.6 10\r\n\r\n2 1.4 1.5 1.6 a 0.1 # limit\r\n\r\n# end";
 
 // A facet over three lines and its marker, comments and blank lines; no region list.
 const LOOSE_SMESH: &[u8] =
-    b"# points\r\n4\r\n0 0 0 0\r\n1 1 0 0\r\n2 0 1 0\r\n3 0 0 1\r\n\r\n2 1 # flag\r\n3 0 # go on\r\n\r\n1\r\n# and on\r\n2\t-7\r\n1 3\r\n# holes\r\n1\r\n1 1.4 1.5 1.6\r\n";
+    b"# points\r\n4\r\n0 0 0 0\r\n1 1 0 0\r\n2 0 1 0\r\n3 0 0 1\r\n\r\n2 1 # flag\r\n\
+      3 0 # go on\r\n\r\n1\r\n# and on\r\n2\t-7\r\n1 3\r\n# holes\r\n1\r\n1 1.4 1.5 1.6\r\n";
 
 /// A point by its coordinates over its denominator.
 type PointCase = (i64, i64, i64, i64);

@@ -405,7 +405,8 @@ static TABLES: [TableCase; 2] = [
         ],
         is_added: true,
         first: 0,
-        written: b"5 3 1 1\n0 0.5 0 0 7e2 5\n1 -1.25 0 0 a 0\n2 0 3 0 b 0\n3 0 0 0.5 c -1\n4 0.00000244140625 -20.48 0.01 0 0\n",
+        written: b"5 3 1 1\n0 0.5 0 0 7e2 5\n1 -1.25 0 0 a 0\n2 0 3 0 b 0\n3 0 0 0.5 c -1\n\
+                   4 0.00000244140625 -20.48 0.01 0 0\n",
     },
     TableCase {
         text: THIRD,
