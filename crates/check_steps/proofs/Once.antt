@@ -82,7 +82,7 @@ data FetchCase (told : Files) (name : List ℕ) (r : Result (List ℕ) CheckFaul
   long : (bytes : List ℕ) → map_of.get told name ≡ Some bytes → most_bytes < length bytes → r ≡ Err (TooLong name) → FetchCase told name r
 
 fetch_case : (told : Files) (seen : FolderSeen) (name : List ℕ) (r : Result (List ℕ) CheckFault) → ¬ Rose seen.read_faults_before seen.read_faults_now → IsDecided r
-    → FetchAnswer (record seen { files = Some told }) name r → FetchCase told name r
+    → FetchAnswer (record seen { files_before = Some told }) name r → FetchCase told name r
 fetch_case told seen name (Ok bytes) f n h = found bytes h.0 h.1 refl
 fetch_case told seen name (Err (Missing missing)) f n h = absent h.1 (ap (λ x. Err (Missing x)) h.0)
 fetch_case told seen name (Err (ReadFault failed)) f n h = absurd (f h.1)
@@ -107,7 +107,7 @@ pub record IsTold (told : Files) (seen : FolderSeen) : Type 0 where
   pub no_fault : ¬ Rose seen.read_faults_before seen.read_faults_now
 
 fetch_once : (told : Files) (seen : FolderSeen) (name : List ℕ) → IsTold told seen → IsOnce (FetchAnswer seen name)
-fetch_once told seen name t = subst (λ files. IsOnce (FetchAnswer (record seen { files = files }) name)) (sym t.files)
+fetch_once told seen name t = subst (λ files. IsOnce (FetchAnswer (record seen { files_before = files }) name)) (sym t.files)
     (λ r s n m h k. fetch_same told name r s (fetch_case told seen name r t.no_fault n h) (fetch_case told seen name s t.no_fault m k))
 
 bad_text_is : {A : Type 0} (name : List ℕ) (reading : Result A TextFault) (s : CheckFault) → s ≢ NoMemory → IsBadText name reading s
