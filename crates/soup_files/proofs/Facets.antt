@@ -1,11 +1,10 @@
 -- Facets that are read one after another, up to the line that ends them.
-use Rattle.std.proofs.Common.{◌≡◌, ℕ, zero, suc, ◌+◌, ◌-◌, ◌<◌, ◌≤◌, true, false, List, [], ◌∷◌, ◌++◌, length, Result, Ok, Err, refl, sym, ap, ◌∙◌, append_assoc, arith, subst}
+use Rattle.std.proofs.Common.{◌≡◌, ℕ, zero, suc, ◌+◌, ◌-◌, ◌≤◌, true, false, List, [], ◌∷◌, ◌++◌, length, Result, Ok, Err, refl, sym, ap, ◌∙◌, append_assoc, arith, subst}
 use Rattle.std.proofs.lemmas.List.{append-nil}
 use Rattle.tet_text.specs.declared.fault.TextFault.{TextFault}
 use Rattle.tet_text.specs.Lines.{ContentLine}
-use Rattle.tet_text.specs.Faults.{ended}
 use Rattle.tet_text.specs.Reading.{◌>>=◌, line_at}
-use Rattle.plc_files.proofs.Counts.{done, ok_is}
+use Rattle.plc_files.proofs.Counts.{ok_is}
 use Rattle.soup_files.specs.declared.stl_facet.StlFacet.{StlFacet}
 use Rattle.soup_files.specs.Stl.{more_facets, ascii_facet_of, ascii_facets_of}
 use Rattle.tet_text.specs.Repeated.{onto}

@@ -1,5 +1,5 @@
 -- Faults of readings that are read onto what was read before.
-use Rattle.std.proofs.Common.{◌≡◌, ℕ, List, [], ◌∷◌, ◌++◌, Result, Ok, Err, refl, sym, ap, subst, ◌∙◌}
+use Rattle.std.proofs.Common.{◌≡◌, ℕ, List, Result, Ok, Err, refl, sym, ap, subst, ◌∙◌}
 use Rattle.tet_text.specs.declared.fault.TextFault.{TextFault}
 use Rattle.tet_text.specs.Lines.{ContentLine}
 use Rattle.tet_text.specs.Reading.{◌>>=◌, Fields, count_at, line_at}
@@ -10,7 +10,7 @@ use Rattle.plc_files.specs.declared.parts.PolygonText.{PolygonText}
 use Rattle.plc_files.specs.Fields.{some_count_at}
 use Rattle.plc_files.specs.Outcome.{PlcFails, PlcGives}
 use Rattle.plc_files.specs.Text.{Plc, empty_polygon}
-use Rattle.plc_files.proofs.Counts.{step_ok, done, ok_is}
+use Rattle.plc_files.proofs.Counts.{step_ok, ok_is}
 use Rattle.soup_files.specs.Surface.{plus_face, plus_corners, corners_onto, face_onto}
 use Rattle.soup_files.specs.Off.{corner_at, off_polygon}
 use Rattle.soup_files.proofs.Faces.{corners_added}

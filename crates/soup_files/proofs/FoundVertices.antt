@@ -1,10 +1,9 @@
 -- Points that are put in one after another: what is known of their places.
 use Rattle.tet_text.specs.declared.fault.TextFault.{TextFault}
-use Rattle.std.proofs.Common.{Result, Ok, ◌≡◌, ℕ, ◌+◌, ◌≤◌, ◌*◌, Bool, true, false, cond, ◌&&◌, ◌||◌, List, [], ◌∷◌, ◌++◌, length, refl, sym, ap, ◌∙◌, arith, length-append}
-use Rattle.std.specs.Prelude.{map, not, fold, nat_eq, if◌then◌else◌}
-use Rattle.std.specs.List.{list_any, position_or_len, flat_map}
-use Rattle.std.specs.Ordering.{int_eq}
-use Rattle.std.proofs.lemmas.Bool.{false≢true, cases_Bool}
+use Rattle.std.proofs.Common.{Result, Ok, ◌≡◌, ℕ, ◌+◌, ◌≤◌, Bool, true, false, cond, ◌||◌, List, [], ◌∷◌, ◌++◌, length, refl, sym, ap, ◌∙◌, arith, length-append}
+use Rattle.std.specs.Prelude.{map, not, fold, if◌then◌else◌}
+use Rattle.std.specs.List.{list_any, position_or_len}
+use Rattle.std.proofs.lemmas.Bool.{false≢true}
 use Rattle.std.proofs.lemmas.List.{map-append}
 use Rattle.std.proofs.lemmas.List.Folds.{list_any-append}
 use Rattle.std.proofs.lemmas.List.Sums.{fold-append}
@@ -16,7 +15,7 @@ use Rattle.soup_files.specs.declared.stl.Triangle.{Triangle}
 use Rattle.soup_files.specs.declared.stl_facet.StlFacet.{StlFacet}
 use Rattle.soup_files.specs.Vertices.{same_vertex, with_vertex, distinct_vertices, vertex_place, vertices_equiv}
 use Rattle.soup_files.specs.Stl.{vertices_of, triangle_in, stl_corner}
-use Rattle.soup_files.specs.Triangles.{placed_corner, triangle_polygon, with_corners, IsPlacedBy, placed_facets}
+use Rattle.soup_files.specs.Triangles.{triangle_polygon, with_corners, IsPlacedBy, placed_facets}
 
 -- ---- one list
 

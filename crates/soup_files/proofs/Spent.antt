@@ -1,16 +1,13 @@
 -- How many lines are left behind what was read.
-use Rattle.std.proofs.Common.{◌≡◌, ℕ, zero, suc, ◌+◌, ◌*◌, ◌≤◌, ◌<◌, Bool, true, false, cond, List, [], ◌∷◌, length, Result, Ok, Err, refl, sym, ap, subst, arith}
+use Rattle.std.proofs.Common.{◌≡◌, ℕ, zero, suc, ◌+◌, ◌*◌, ◌≤◌, Bool, true, false, List, [], ◌∷◌, length, Result, Ok, Err, subst, arith}
 use Rattle.std.specs.Prelude.{codes, if◌then◌else◌}
 use Rattle.tet_text.specs.declared.fault.TextFault.{TextFault}
 use Rattle.tet_text.specs.Lines.{ContentLine}
-use Rattle.tet_text.specs.Reading.{◌>>=◌, Fields, field_at, end_at, line_at}
-use Rattle.grid_coords.specs.declared.points.DecimalPoint.{DecimalPoint}
+use Rattle.tet_text.specs.Reading.{◌>>=◌, Fields, end_at, line_at}
 use Rattle.node_files.specs.Point.{place_at}
-use Rattle.plc_files.specs.declared.parts.CornerText.{CornerText}
-use Rattle.plc_files.specs.declared.parts.PolygonText.{PolygonText}
 use Rattle.plc_files.specs.Fields.{some_count_at}
 use Rattle.plc_files.specs.Polygon.{field_ahead}
-use Rattle.plc_files.proofs.Counts.{step_ok, done, ok_is}
+use Rattle.plc_files.proofs.Counts.{step_ok, ok_is}
 use Rattle.soup_files.specs.declared.stl_facet.StlFacet.{StlFacet}
 use Rattle.soup_files.specs.Keyword.{keyword_at, word_line}
 use Rattle.soup_files.specs.Off as off

@@ -1,5 +1,5 @@
 -- The `.off` files: a keyword, the counts, the points, and the faces.
-use Rattle.std.specs.Prelude.{ℕ, List, codes, Result, Ok}
+use Rattle.std.specs.Prelude.{ℕ, codes, Result, Ok}
 use Rattle.tet_text.specs.declared.fault.TextFault.{TextFault}
 use Rattle.tet_text.specs.Lines.{ContentLine}
 use Rattle.tet_text.specs.Reading.{◌>>=◌, Fields, count_at, end_at, line_at, text_end_at}

@@ -1,5 +1,5 @@
 -- Complexes that are given by their points and by faces: each face is a facet of one polygon.
-use Rattle.std.specs.Prelude.{ℕ, false, List, [], ◌∷◌, ◌++◌, map, fold, Some, None, Result, Ok}
+use Rattle.std.specs.Prelude.{false, List, [], ◌∷◌, ◌++◌, map, fold, Some, None, Result, Ok}
 use Rattle.tet_text.specs.declared.fault.TextFault.{TextFault}
 use Rattle.tet_text.specs.Reading.{◌>>=◌}
 use Rattle.grid_coords.specs.declared.points.DecimalPoint.{DecimalPoint}

@@ -1,5 +1,5 @@
 -- Facets by the places of the points of their corners, as they are found one after another.
-use Rattle.std.specs.Prelude.{◌≡◌, ℕ, List, [], ◌∷◌, map, Result, Ok}
+use Rattle.std.specs.Prelude.{◌≡◌, List, [], ◌∷◌, map, Result, Ok}
 use Rattle.tet_text.specs.declared.fault.TextFault.{TextFault}
 use Rattle.tet_text.specs.Reading.{◌>>=◌}
 use Rattle.grid_coords.specs.declared.points.DecimalPoint.{DecimalPoint}

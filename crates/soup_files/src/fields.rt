@@ -1,11 +1,9 @@
-//! Fields that are wanted: keywords, and numbers of corners.
+//! Fields that are wanted: keywords.
 
 ghost use Rattle.std.specs.Prelude.{◌≡◌, ◌+◌, ◌<◌, ◌^◌};
 ghost use Rattle.std.specs.Str.{bytes_eq};
 ghost use Rattle.tet_text.specs.Reading.{left_after};
 ghost use Rattle.tet_text.specs.Views.{content_left, line_total};
-ghost use Rattle.plc_files.specs.Fields.{some_count_at};
-ghost use Rattle.plc_files.specs.Polygon.{field_ahead};
 ghost use Rattle.tet_text.specs.Faults.{bad_count};
 ghost use Rattle.soup_files.specs.Keyword.{keyword_at, word_line};
 
@@ -55,32 +53,4 @@ pub(crate) fn want_word_line(word: &[u8], lines: &mut Lines) -> Result<(), TextF
     let mut fields = lines.want_line()?;
     want_keyword(word, &mut fields)?;
     fields.want_end()
-}
-
-/// The next field as a count of at least 1; BadCount where it is 0.
-#[tactic(auto, unfolding(plc_files::specs::Fields::some_count_at))]
-pub(crate) fn some_count(fields: &mut Fields) -> Result<u64, TextFault>
-    ensures value { left_after (λ n. n) result fields.new.fields
-        ≡ some_count_at fields.old.line fields.old.fields }
-    ensures line { fields.new.line ≡ fields.old.line }
-{
-    let count = fields.want_count()?;
-    if count > 0 {
-        return Ok(count);
-    }
-    Err(bad_count(fields))
-}
-
-/// Goes on to the next content line where the line has no further field.
-pub(crate) fn go_on<'a>(fields: &mut Fields<'a>, lines: &mut Lines<'a>) -> Result<(), TextFault>
-    requires { line_total lines.old + 1 < 2 ^ 64 }
-    ensures value { left_after (λ _. fields.new) result (content_left lines.new)
-        ≡ field_ahead (line_total lines.old) fields.old.line fields.old.fields
-        (content_left lines.old) }
-    ensures count { line_total lines.new ≡ line_total lines.old }
-{
-    if fields.is_empty() {
-        *fields = lines.want_line()?;
-    }
-    Ok(())
 }

@@ -11,11 +11,11 @@ ghost use Rattle.soup_files.specs.Surface.{corners_onto, face_onto, faces_onto};
 ghost use Rattle.soup_files.specs.Off.{counts_of, head_of, vertex_line, corner_at, off_polygon, off_of};
 ghost use Rattle.tet_text.specs.Repeated.{so_many};
 
-use crate::fields::{go_on, some_count, want_keyword};
+use crate::fields::want_keyword;
 use crate::surface::{nodes_at, start_face};
 use grid_coords::{DecimalPoint, DecimalPoints};
 use node_files::{count_or, read_place};
-use plc_files::{PlcFault, PlcText};
+use plc_files::{PlcFault, PlcText, go_on, some_count};
 use std::alloc::Global;
 use tet_ports::Bytes;
 use tet_text::{Fields, Lines, TextFault};

@@ -1,13 +1,13 @@
-use Rattle.std.proofs.Common.{◌≡◌, ◌∙◌, ◌++◌, ◌∷◌, ◌+◌, ◌-◌, [], ℕ, List, length, map, sym, ap, Result, Ok, Err, Bool, arith}
+use Rattle.std.proofs.Common.{◌≡◌, ◌∙◌, ◌++◌, ◌∷◌, ◌+◌, ◌-◌, [], ℕ, length, map, sym, ap, Result, Ok, Err, Bool, arith}
 use Rattle.std.proofs.lemmas.Result.{err_from_is_err_and}
 use Rattle.std.proofs.lemmas.List.{map-append, length_push}
 use Rattle.tet_text.specs.declared.fault.TextFault.{TextFault}
 use Rattle.tet_text.specs.Views.{content_left, line_total}
 use Rattle.tet_text.specs.Reading.{line_at}
-use Rattle.soup_files.specs.Stl.{more_facets, ascii_facet_of, ascii_facets_of}
+use Rattle.soup_files.specs.Stl.{ascii_facet_of, ascii_facets_of}
 use Rattle.soup_files.specs.Triangles.{triangle_polygon, placed_facets}
 use Rattle.soup_files.proofs.Spent.{facet_takes}
-use Rattle.soup_files.proofs.FoundVertices.{seen_none, seen_more, seen_placed}
+use Rattle.soup_files.proofs.FoundVertices.{seen_more, seen_placed}
 use Rattle.soup_files.proofs.Facets.{stop_line, stop_first, stop_facet, all_facets, facets_more, line_left, going_on}
 use Rattle.soup_files.proofs.stl.read_facets.Goals as goal
 
