@@ -1,9 +1,9 @@
 -- Parts put behind those of the last facet of a complex.
-use Rattle.std.proofs.Common.{◌≡◌, ℕ, ℤ, suc, ◌+◌, ◌-◌, ◌<◌, ◌≤◌, List, [], ◌∷◌, ◌++◌, map, take, drop, length, get_or, refl, ap, sym, subst, ◌∙◌, arith, append_assoc, length-drop}
-use Rattle.std.specs.Prelude.{All, Contains, HoldsAt, slice_range, Option}
+use Rattle.std.proofs.Common.{◌≡◌, ℕ, ℤ, ◌+◌, ◌-◌, ◌<◌, ◌≤◌, List, [], ◌∷◌, ◌++◌, map, take, drop, length, get_or, refl, ap, sym, subst, ◌∙◌, arith, append_assoc, length-drop}
+use Rattle.std.specs.Prelude.{Contains, HoldsAt, slice_range, Option}
 use Rattle.std.proofs.lemmas.List.{take-append-le, drop-append-le, map-append, length-append, length-map, take_more, take_all, get_or-map}
 use Rattle.std.proofs.lemmas.List.Elements.{All-push}
-use Rattle.std.proofs.lemmas.List.FromFn.{map-range_with_len_more, length-range_with_len}
+use Rattle.std.proofs.lemmas.List.FromFn.{map-range_with_len_more}
 use Rattle.sign_predicates.specs.Point.{RationalPoint}
 use Rattle.geo_laws.specs.Delaunay.{numbers_below}
 use Rattle.geo_laws.specs.Facet.{Facet}

@@ -5,7 +5,7 @@ use lib.Seq.{drop-cons}
 use Rattle.std.proofs.lemmas.List.{drop_all, get_or-set_same, get_or-set_other, length-set, length-append}
 use Rattle.std.proofs.lemmas.Bool.{cases_order}
 use Rattle.geo_laws.specs.Facet.{Facet}
-use Rattle.geo_laws.specs.Complex.{Polygon, Complex, flat_facet, facets}
+use Rattle.geo_laws.specs.Complex.{Complex, flat_facet}
 use Rattle.geo_laws.specs.declared.complex.Facet.{Facet as StoredFacet}
 use Rattle.merge_laws.specs.Merged.{no_facet, merged_facet}
 use Rattle.merged_facets.specs.MergedComplex.{IsFirstFrom, AreMemberChains, AreNone, IsMaking, HasParts, with_parts}

@@ -1,6 +1,5 @@
 -- The sides of facets that may be joined, and which of them have the same ends.
-use Rattle.std.specs.Prelude.{◌≡◌, ◌≢◌, ℕ, ◌<◌, ◌==◌, ◌&&◌, Bool, min, max, Option, Some, None, List, length, get_or, All, Contains}
-use Rattle.sign_predicates.specs.Point.{Point}
+use Rattle.std.specs.Prelude.{◌≡◌, ◌≢◌, ℕ, ◌<◌, ◌==◌, ◌&&◌, Bool, min, max, Option, Some, None, List, length, get_or, Contains}
 use Rattle.geo_laws.specs.Segment.{piece, sides}
 use Rattle.geo_laws.specs.Complex.{Complex}
 use Rattle.geo_laws.specs.declared.complex.Piece.{Piece}

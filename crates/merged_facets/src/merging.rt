@@ -139,30 +139,6 @@ fn note_earlier(
     Ok(())
 }
 
-/// Notes all sides.
-fn note_all(
-    points: &Points,
-    complex: &Complex,
-    list: &Items<FacetSide>,
-    earlier: &Items<Option<usize>>,
-    found: &mut Found,
-) -> Result<(), NoMemory>
-    requires corners { HasCornersOf points.now complex.now }
-    requires flat { All (IsFlat points.now) (facets complex.now) }
-    requires distinct { HasDistinctPoints points.now }
-    requires sides { AreFacetSidesOf complex.now list.now }
-    requires earlier { AreEarlier list.now earlier.now }
-    requires found { HasFound points.now complex.now list.now 0
-        found.old.down.items found.old.inner.keys }
-    ensures { OnOk result (HasFound points.now complex.now list.now (length list.now)
-        found.new.down.items found.new.inner.keys) }
-{
-    for i in 0..list.len() {
-        note_earlier(points, complex, list, earlier, i, found)?;
-    }
-    Ok(())
-}
-
 /// Each facet in a group of its own.
 fn alone(alloc: Global, count: u32) -> Result<Vec<u32>, NoMemory>
     ensures { IfOk result (λ down. IsIdentity down.items count) }
@@ -192,7 +168,9 @@ fn merging_by(
         down: alone(alloc, complex.facet_count())?,
         inner: IndexSet::new(alloc),
     };
-    note_all(points, complex, list, &earlier, &mut found)?;
+    for i in 0..list.len() {
+        note_earlier(points, complex, list, &earlier, i, &mut found)?;
+    }
     settle(&mut found.down);
     Ok(Merging {
         group: found.down,

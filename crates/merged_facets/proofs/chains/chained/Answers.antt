@@ -1,7 +1,6 @@
-use Rattle.std.proofs.Common.{◌≡◌, ◌-◌, subst, sym, arith}
+use Rattle.std.proofs.Common.{◌-◌, arith}
 use Rattle.merged_facets.specs.Merging.{group_of}
-use Rattle.merged_facets.specs.MergedComplex.{AreMemberChains}
-use Rattle.merged_facets.proofs.Walk.{no_chains, chain_step}
+use Rattle.merged_facets.proofs.Walk.{chain_step}
 use Rattle.merged_facets.proofs.chains.chained.Goals as goal
 
 pub loop-i-preserved : goal.loop-i-preserved

@@ -1,5 +1,3 @@
-use Rattle.std.proofs.Common.{◌≡◌, ℕ, subst, arith, refl}
-use Rattle.merged_facets.specs.MergedComplex.{AreNone}
 use Rattle.merged_facets.proofs.Walk.{none_more}
 use Rattle.merged_facets.proofs.chains.nothing.Goals as goal
 

@@ -1,8 +1,8 @@
-use Rattle.std.proofs.Common.{◌≡◌, ℕ, ◌+◌, ◌<◌, subst, sym, arith}
-use Rattle.std.specs.Prelude.{Option, Some, None, length, get_or}
+use Rattle.std.proofs.Common.{◌+◌, ◌<◌, subst, arith}
+use Rattle.std.specs.Prelude.{length}
 use Rattle.merged_facets.specs.Merging.{group_of}
 use Rattle.merged_facets.specs.MergedComplex.{IsFirstFrom}
-use Rattle.merged_facets.proofs.Walk.{HasSome, found_at, some_first, some_more, some_all, left_to, falls}
+use Rattle.merged_facets.proofs.Walk.{HasSome, found_at, some_first, some_more, some_all}
 use Rattle.merged_facets.proofs.complex.add_members.Goals as goal
 
 pub loop-member-init : goal.loop-member-init

@@ -1,4 +1,4 @@
-use Rattle.std.proofs.Common.{◌≡◌, ℕ, subst, sym, arith}
+use Rattle.std.proofs.Common.{◌≡◌, arith}
 use Rattle.std.specs.Prelude.{length}
 use Rattle.merged_facets.specs.Merging.{group_of}
 use Rattle.merged_facets.proofs.Parts.{facet_making, merged_more, merged_all}

@@ -7,8 +7,8 @@ use Rattle.merged_facets.proofs.Labels.{whole}
 use Rattle.merged_facets.proofs.Merged.{found_first, merging_found}
 use Rattle.merged_facets.proofs.merging.merging_by.Goals as goal
 
-pub note_all-requires-clause-found : goal.note_all-requires-clause-found
-note_all-requires-clause-found c =
+pub loop-i-init : goal.loop-i-init
+loop-i-init c =
     let ps = c.args.points.now in
     let cx = c.args.complex.now in
     let list = c.args.list.now in
@@ -18,14 +18,15 @@ note_all-requires-clause-found c =
 
 pub returns : goal.returns
 returns c =
-    let down = c.note_all.new.found.down.items in
+    let down = c.loop-i.found.down.items in
     let ps = c.args.points.now in
     let cx = c.args.complex.now in
-    let inner = c.note_all.new.found.inner.keys in
+    let inner = c.loop-i.found.inner.keys in
     let new = c.settle.new.down in
     let long : length new ≡ length down = omega (arith, c.settle.auto.down, ap length c.deref_mut.ensures.value) in
-    let count : c.note_all.new.found.down.len ≡ length new = omega (arith, c.settle.auto.down, c.deref_mut.ensures.len) in
+    let count : c.loop-i.found.down.len ≡ length new = omega (arith, c.settle.auto.down, c.deref_mut.ensures.len) in
+    let all : HasFound ps cx c.args.list.now (length c.args.list.now) down inner = subst (λ (n : ℕ). HasFound ps cx c.args.list.now n down inner) (omega arith) c.loop-i.invariant in
     let P : List ℕ → Type 0 = λ d. IsMerging ps cx (group_of (record { least = d; inner = inner })) (is_inner (record { least = d; inner = inner })) in
-    subst P (sym (whole c.note_all.new.found.down.len new down count))
-    (merging_found ps cx c.args.list.now down (record { least = new; inner = inner }) c.requires.distinct c.requires.corners c.requires.sides c.in_ok-note_all.ensures long
+    subst P (sym (whole c.loop-i.found.down.len new down count))
+    (merging_found ps cx c.args.list.now down (record { least = new; inner = inner }) c.requires.distinct c.requires.corners c.requires.sides all long
     (λ label h i l. c.settle.ensures label (subst (λ (d : List ℕ). AreLabels d label) (sym c.deref_mut.ensures.value) h) i l))
