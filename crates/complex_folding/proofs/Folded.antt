@@ -7,7 +7,7 @@ use Rattle.sign_predicates.specs.Point.{RationalPoint}
 use Rattle.geo_laws.specs.declared.complex.Facet.{Facet}
 use Rattle.geo_laws.specs.declared.complex.Region.{Region}
 use Rattle.geo_laws.specs.Complex.{Polygon, Complex, AreFollowing, empty_complex, with_hole, with_facet_hole, with_region}
-use Rattle.complex_folding.specs.Folding.{HasCornersBelow, folded_polygon, folded_complex, polygons_between, plus_folded}
+use Rattle.complex_folding.specs.Folding.{HasCornersBelow, folded_polygon, folded_complex, polygons_between, plus_folded, IsFoldedTo}
 use Rattle.complex_folding.specs.Appending.{plus_facet_holes, plus_holes, plus_regions}
 use Rattle.complex_folding.proofs.Appended.{from_here, facet_made, holes_step, holes_end}
 
@@ -63,14 +63,6 @@ joined : (first past : ℕ) (ps : List Polygon) → first ≤ past → take firs
 joined first past ps le = ap (λ (qs : List Polygon). qs ++ drop first (take past ps)) (sym (take-take first past ps le)) ∙ take-append-drop first (take past ps)
 
 -- ---- facets
-
--- the first facets of a complex, with their polygons folded; the facets behind them begin where these polygons end
-pub record IsFoldedTo (folded : List ℕ) (c : Complex) (i : ℕ) (made : Complex) : Type 0 where
-  pub facets : made.facets ≡ take i c.facets
-  pub polygons : made.polygons ≡ map (folded_polygon folded) (take (length made.polygons) c.polygons)
-  pub following : AreFollowing (length made.polygons) (drop i c.facets) (length c.polygons)
-  pub no_holes : made.holes ≡ []
-  pub no_regions : made.regions ≡ []
 
 pub to_none : (folded : List ℕ) (c : Complex) → AreFollowing 0 c.facets (length c.polygons) → IsFoldedTo folded c 0 empty_complex
 to_none folded c follow = record { facets = refl; polygons = refl; following = follow; no_holes = refl; no_regions = refl }

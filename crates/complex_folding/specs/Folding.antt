@@ -1,7 +1,7 @@
 -- A complex whose corners name the points that are kept where equal ones are folded.
-use Rattle.std.specs.Prelude.{ℕ, ◌<◌, ℤ, List, All, map, drop, take, slice_index, Option}
+use Rattle.std.specs.Prelude.{◌≡◌, ℕ, ◌<◌, ℤ, List, [], length, All, map, drop, take, slice_index, Option}
 use Rattle.sign_predicates.specs.Point.{RationalPoint}
-use Rattle.geo_laws.specs.Complex.{Polygon, Complex, with_facet}
+use Rattle.geo_laws.specs.Complex.{Polygon, Complex, AreFollowing, with_facet}
 use Rattle.geo_laws.specs.declared.complex.Facet.{Facet}
 use Rattle.complex_folding.specs.Appending.{plus_polygons, plus_facet_holes}
 
@@ -30,3 +30,11 @@ plus_whole_facet ps hs marker c = plus_facet_holes hs (plus_polygons ps (with_fa
 -- with a facet of another complex, its polygons folded
 abbrev pub plus_folded : List ℕ → List Polygon → Facet → Complex → Complex
 plus_folded folded ps f = plus_whole_facet (map (folded_polygon folded) (polygons_between f.first f.past ps)) f.holes f.marker
+
+-- the first facets of a complex, with their polygons folded; the facets behind them begin where these polygons end
+pub record IsFoldedTo (folded : List ℕ) (c : Complex) (i : ℕ) (made : Complex) : Type 0 where
+  pub facets : made.facets ≡ take i c.facets
+  pub polygons : made.polygons ≡ map (folded_polygon folded) (take (length made.polygons) c.polygons)
+  pub following : AreFollowing (length made.polygons) (drop i c.facets) (length c.polygons)
+  pub no_holes : made.holes ≡ []
+  pub no_regions : made.regions ≡ []

@@ -1,8 +1,8 @@
 //! Complexes whose corners name the points that are kept where equal ones are folded.
 
-ghost use Rattle.std.specs.Prelude.{◌≡◌, ◌<◌, ◌≤◌, ◌-◌, ◌^◌, [], length, map, slice_index, All, IfOk, OnOk};
+ghost use Rattle.std.specs.Prelude.{◌≡◌, ◌<◌, ◌≤◌, ◌+◌, ◌-◌, ◌^◌, [], length, map, slice_index, All, IfOk, OnOk};
 ghost use Rattle.node_files.specs.Writing.{IsNodeTable};
-ghost use Rattle.complex_folding.specs.Folding.{HasCornersBelow, folded_polygon, folded_complex, polygons_between, plus_folded};
+ghost use Rattle.complex_folding.specs.Folding.{HasCornersBelow, folded_polygon, folded_complex, polygons_between, IsFoldedTo};
 ghost use Rattle.complex_folding.specs.Appending.{plus_polygons, plus_facet_holes, plus_holes, plus_regions};
 
 use geo_laws::{Complex, Facet, RatPoints};
@@ -56,22 +56,21 @@ fn copy_facet_holes(holes: &RatPoints, made: &mut Complex) -> Result<(), NoMemor
     Ok(())
 }
 
-/// Appends a facet, with its corners folded.
+/// Appends the facet at a place, with its corners folded, to those before it.
 fn fold_facet(
     alloc: Global,
     complex: &Complex,
-    facet: &Facet,
+    i: u32,
     folded: &Names,
     made: &mut Complex,
 ) -> Result<(), NoMemory>
-    requires order { facet.now.first ≤ facet.now.past }
-    requires there { facet.now.past ≤ length complex.now.polygons }
+    requires there { i < length complex.now.facets }
     requires corners { HasCornersBelow (length folded.now) complex.now }
     requires few { length made.old.facets < 2 ^ 32 - 1 }
-    requires place { length made.old.polygons ≡ facet.now.first }
-    ensures { OnOk result (made.new
-        ≡ plus_folded folded.now complex.now.polygons facet.now made.old) }
+    requires before { IsFoldedTo folded.now complex.now i made.old }
+    ensures { OnOk result (IsFoldedTo folded.now complex.now (i + 1) made.new) }
 {
+    let facet = complex.facet(i);
     made.add_facet(facet.marker)?;
     fold_polygons(alloc, complex, facet, folded, made)?;
     copy_facet_holes(&facet.holes, made)
@@ -107,7 +106,7 @@ fn folded_facets(alloc: Global, complex: &Complex, folded: &Names) -> Result<Com
 {
     let mut made = Complex::new(alloc);
     for i in 0..complex.facet_count() {
-        fold_facet(alloc, complex, complex.facet(i), folded, &mut made)?;
+        fold_facet(alloc, complex, i, folded, &mut made)?;
     }
     Ok(made)
 }

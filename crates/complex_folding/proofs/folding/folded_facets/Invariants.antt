@@ -1,4 +1,4 @@
-use Rattle.complex_folding.proofs.Folded.{IsFoldedTo}
+use Rattle.complex_folding.specs.Folding.{IsFoldedTo}
 use Rattle.complex_folding.proofs.folding.folded_facets.Given as goal
 
 abbrev pub invariant-loop-i : goal.invariant-loop-i
