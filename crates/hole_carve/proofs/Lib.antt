@@ -6,6 +6,7 @@ pub mod Reached
 pub mod Steps
 pub mod FacetFaces
 pub mod Flooding
+pub mod Floods
 pub mod Marked
 pub mod KeptMarks
 pub mod Apart

@@ -1,4 +1,5 @@
 pub mod Flooding
+pub mod Floods
 pub mod Ways
 pub mod Seeds
 pub mod Kept

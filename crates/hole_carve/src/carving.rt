@@ -10,7 +10,7 @@ ghost use Rattle.hole_carve.specs.Kept.{unmarked};
 ghost use Rattle.hole_carve.specs.Seeds.{BeginsAt};
 ghost use Rattle.geo_laws.specs.Marks.{is_marked};
 
-use crate::flood::flood;
+use crate::flood::flooded;
 use crate::seeds::mark_seeds;
 use crate::ways::Ways;
 use face_table::FaceTable;
@@ -150,6 +150,6 @@ pub fn carve(
     let pairs = pair_faces(alloc, list)?;
     let ways = Ways::new(list, &pairs, &closed);
     let seeds = seeds_of(alloc, points, list, &closed, holes, keep_hull)?;
-    let marks = flood(alloc, &ways, &seeds)?;
+    let marks = flooded(alloc, &ways, &seeds)?;
     rows_unmarked(alloc, list, &marks)
 }

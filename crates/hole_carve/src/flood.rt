@@ -1,9 +1,10 @@
 //! A flood over the tetrahedra and what lies beyond the hull, breadth first.
-ghost use Rattle.std.specs.Prelude.{◌≡◌, ◌↔◌, ◌+◌, ◌<◌, ◌≤◌, ℕ, true, length, IfOk, OnOk, Option};
-ghost use Rattle.std.specs.Prelude.{Some};
+ghost use Rattle.std.specs.Prelude.{◌≡◌, ◌↔◌, ◌+◌, ◌<◌, ◌≤◌, ℕ, true, false, [], length, IfOk, OnOk};
+ghost use Rattle.std.specs.Prelude.{Option, Some};
 ghost use Rattle.hole_carve.specs.Flooding.{way, IsWay, IsFlooded, IsQueued};
-ghost use Rattle.hole_carve.specs.Flooding.{Extends, queue_at, LeadsWithin, IsClosedAt};
+ghost use Rattle.hole_carve.specs.Flooding.{LeadsWithin, IsClosedAt};
 ghost use Rattle.hole_carve.specs.Flooding.{IsClosedBeyond, IsClosedFrom};
+ghost use Rattle.hole_carve.specs.Floods.{IsFlood, IsGrown, GoesOn, IsDone, HasReached};
 ghost use Rattle.incidence.specs.Pairs.{across_at};
 ghost use Rattle.geo_laws.specs.Marks.{is_marked};
 
@@ -24,54 +25,6 @@ fn way(across: Across, corner: usize) -> Option<usize>
     }
 }
 
-/// Marks a place that the flood comes to, and puts it into the queue, if it isn't marked yet.
-fn reach(
-    ways: &Ways<'_>,
-    seeds: &[bool],
-    place: usize,
-    marks: &mut [bool],
-    queue: &mut Vec<usize>,
-) -> Result<(), NoMemory>
-    requires there { place < length marks.old }
-    requires comes { IsFlooded ways.now seeds.now place }
-    requires filled { IsQueued ways.now seeds.now marks.old queue.old.items }
-    ensures filled { OnOk result (IsQueued ways.now seeds.now marks.new queue.new.items) }
-    ensures marked { OnOk result (is_marked marks.new place ≡ true) }
-    ensures grown { OnOk result (Extends marks.old queue.old.items marks.new queue.new.items) }
-{
-    if !marks[place] {
-        marks[place] = true;
-        queue.push(place)?;
-    }
-    Ok(())
-}
-
-/// Reaches what one comes to from a row in the queue.
-fn reach_from(
-    ways: &Ways<'_>,
-    seeds: &[bool],
-    row: usize,
-    marks: &mut [bool],
-    queue: &mut Vec<usize>,
-) -> Result<(), NoMemory>
-    requires there { row < length ways.now }
-    requires long { length marks.old ≡ length ways.now + 1 }
-    requires within { LeadsWithin ways.now }
-    requires comes { IsFlooded ways.now seeds.now row }
-    requires filled { IsQueued ways.now seeds.now marks.old queue.old.items }
-    ensures filled { OnOk result (IsQueued ways.now seeds.now marks.new queue.new.items) }
-    ensures closed { OnOk result (IsClosedAt ways.now marks.new row) }
-    ensures grown { OnOk result (Extends marks.old queue.old.items marks.new queue.new.items) }
-{
-    let across = ways.at(row);
-    for corner in 0..4 {
-        if let Some(place) = way(across, corner) {
-            reach(ways, seeds, place, marks, queue)?;
-        }
-    }
-    Ok(())
-}
-
 /// Whether one comes to the place through a face.
 fn leads_to(across: Across, place: usize) -> bool
     ensures { (result ≡ true) ↔ ((k : ℕ) × (k < 4) × (way across k ≡ Some place)) }
@@ -86,123 +39,144 @@ fn leads_to(across: Across, place: usize) -> bool
     false
 }
 
-/// Reaches a row from beyond the hull, if one comes there from it.
-fn reach_back(
-    ways: &Ways<'_>,
-    seeds: &[bool],
-    row: usize,
-    marks: &mut [bool],
-    queue: &mut Vec<usize>,
-) -> Result<(), NoMemory>
-    requires there { row < length ways.now }
-    requires long { length marks.old ≡ length ways.now + 1 }
-    requires comes { IsFlooded ways.now seeds.now (length ways.now) }
-    requires filled { IsQueued ways.now seeds.now marks.old queue.old.items }
-    ensures filled { OnOk result (IsQueued ways.now seeds.now marks.new queue.new.items) }
-    ensures reached { OnOk result (IsWay ways.now row (length ways.now) → is_marked marks.new row
-        ≡ true) }
-    ensures grown { OnOk result (Extends marks.old queue.old.items marks.new queue.new.items) }
-{
-    if ways.is_inner(row) {
-        return Ok(());
-    }
-    if leads_to(ways.at(row), ways.len()) {
-        return reach(ways, seeds, row, marks, queue);
-    }
-    Ok(())
+/// A flood over places: those that it came to are marked, and stand in a queue in the order in
+/// which it came to them.
+#[derive(Drop)]
+pub(crate) struct Flood {
+    marks: Vec<bool>,
+    pub(crate) queue: Vec<usize>,
 }
 
-/// Reaches what one comes to from beyond the hull.
-fn reach_from_beyond(
-    ways: &Ways<'_>,
-    seeds: &[bool],
-    marks: &mut [bool],
-    queue: &mut Vec<usize>,
-) -> Result<(), NoMemory>
-    requires long { length marks.old ≡ length ways.now + 1 }
-    requires comes { IsFlooded ways.now seeds.now (length ways.now) }
-    requires filled { IsQueued ways.now seeds.now marks.old queue.old.items }
-    ensures filled { OnOk result (IsQueued ways.now seeds.now marks.new queue.new.items) }
-    ensures closed { OnOk result (IsClosedBeyond ways.now marks.new) }
-    ensures grown { OnOk result (Extends marks.old queue.old.items marks.new queue.new.items) }
-{
-    for row in 0..ways.len() {
-        reach_back(ways, seeds, row, marks, queue)?;
+impl Flood {
+    /// A flood over so many places that has not begun.
+    pub(crate) fn new(alloc: Global, places: usize) -> Result<Self, NoMemory>
+        ensures long { IfOk result (λ f. length f.marks.items ≡ places) }
+        ensures clear { IfOk result (λ f. (i : ℕ) → is_marked f.marks.items i ≡ false) }
+        ensures empty { IfOk result (λ f. f.queue.items ≡ []) }
+    {
+        let mut marks = Vec::new(alloc);
+        marks.resize(places, false)?;
+        Ok(Flood {
+            marks,
+            queue: Vec::new(alloc),
+        })
     }
-    Ok(())
-}
 
-/// Reaches what one comes to from a place in the queue.
-fn reach_next(
-    ways: &Ways<'_>,
-    seeds: &[bool],
-    place: usize,
-    marks: &mut [bool],
-    queue: &mut Vec<usize>,
-) -> Result<(), NoMemory>
-    requires there { place < length marks.old }
-    requires long { length marks.old ≡ length ways.now + 1 }
-    requires within { LeadsWithin ways.now }
-    requires comes { IsFlooded ways.now seeds.now place }
-    requires filled { IsQueued ways.now seeds.now marks.old queue.old.items }
-    ensures filled { OnOk result (IsQueued ways.now seeds.now marks.new queue.new.items) }
-    ensures done { OnOk result (IsClosedFrom ways.now marks.new place) }
-    ensures grown { OnOk result (Extends marks.old queue.old.items marks.new queue.new.items) }
-{
-    if place < ways.len() {
-        return reach_from(ways, seeds, place, marks, queue);
-    }
-    reach_from_beyond(ways, seeds, marks, queue)
-}
-
-/// Marks the places that a flood comes to. Those in the queue before are marked, with what one
-/// comes to from them; the further ones are put behind them.
-pub(crate) fn fill(
-    ways: &Ways<'_>,
-    seeds: &[bool],
-    marks: &mut [bool],
-    queue: &mut Vec<usize>,
-) -> Result<(), NoMemory>
-    requires long { length marks.old ≡ length ways.now + 1 }
-    requires seeds { length seeds.now ≡ length ways.now + 1 }
-    requires within { LeadsWithin ways.now }
-    requires filled { IsQueued ways.now seeds.now marks.old queue.old.items }
-    requires done { (q : ℕ) → q < length queue.old.items
-        → IsClosedFrom ways.now marks.old (queue_at queue.old.items q) }
-    ensures long { OnOk result (length marks.new ≡ length ways.now + 1) }
-    ensures exactly { OnOk result ((i : ℕ) → (is_marked marks.new i ≡ true)
-        ↔ IsFlooded ways.now seeds.now i) }
-    ensures filled { OnOk result (IsQueued ways.now seeds.now marks.new queue.new.items) }
-    ensures done { OnOk result ((q : ℕ) → q < length queue.new.items
-        → IsClosedFrom ways.now marks.new (queue_at queue.new.items q)) }
-    ensures grown { OnOk result (Extends marks.old queue.old.items marks.new queue.new.items) }
-{
-    let mut at = queue.len();
-    for place in 0..seeds.len() {
-        if seeds[place] {
-            reach(ways, seeds, place, marks, queue)?;
+    /// Marks a place that the flood comes to, and puts it into the queue, if it isn't marked yet.
+    fn reach(&mut self, ways: &Ways<'_>, seeds: &[bool], place: usize) -> Result<(), NoMemory>
+        requires there { place < length self.old.marks.items }
+        requires comes { IsFlooded ways.now seeds.now place }
+        requires filled { IsQueued ways.now seeds.now self.old.marks.items self.old.queue.items }
+        ensures filled { OnOk result
+            (IsQueued ways.now seeds.now self.new.marks.items self.new.queue.items) }
+        ensures marked { OnOk result (is_marked self.new.marks.items place ≡ true) }
+        ensures grown { OnOk result (IsGrown self.old self.new) }
+    {
+        if !self.marks[place] {
+            self.marks[place] = true;
+            self.queue.push(place)?;
         }
+        Ok(())
     }
-    while at < queue.len() {
-        let place = queue[at];
-        reach_next(ways, seeds, place, marks, queue)?;
-        at += 1;
+
+    /// Reaches what one comes to from a row in the queue.
+    fn reach_from(&mut self, ways: &Ways<'_>, seeds: &[bool], row: usize) -> Result<(), NoMemory>
+        requires there { row < length ways.now }
+        requires within { LeadsWithin ways.now }
+        requires comes { IsFlooded ways.now seeds.now row }
+        requires flood { IsFlood ways.now seeds.now self.old }
+        ensures closed { OnOk result (IsClosedAt ways.now self.new.marks.items row) }
+        ensures goes_on { OnOk result (GoesOn ways.now seeds.now self.old self.new) }
+    {
+        let across = ways.at(row);
+        for corner in 0..4 {
+            if let Some(place) = way(across, corner) {
+                self.reach(ways, seeds, place)?;
+            }
+        }
+        Ok(())
     }
-    Ok(())
+
+    /// Reaches a row from beyond the hull, if one comes there from it.
+    fn reach_back(&mut self, ways: &Ways<'_>, seeds: &[bool], row: usize) -> Result<(), NoMemory>
+        requires there { row < length ways.now }
+        requires comes { IsFlooded ways.now seeds.now (length ways.now) }
+        requires flood { IsFlood ways.now seeds.now self.old }
+        ensures reached { OnOk result (IsWay ways.now row (length ways.now)
+            → is_marked self.new.marks.items row ≡ true) }
+        ensures goes_on { OnOk result (GoesOn ways.now seeds.now self.old self.new) }
+    {
+        if !ways.is_inner(row) && leads_to(ways.at(row), ways.len()) {
+            self.reach(ways, seeds, row)?;
+        }
+        Ok(())
+    }
+
+    /// Reaches what one comes to from beyond the hull.
+    fn reach_from_beyond(&mut self, ways: &Ways<'_>, seeds: &[bool]) -> Result<(), NoMemory>
+        requires comes { IsFlooded ways.now seeds.now (length ways.now) }
+        requires flood { IsFlood ways.now seeds.now self.old }
+        ensures closed { OnOk result (IsClosedBeyond ways.now self.new.marks.items) }
+        ensures goes_on { OnOk result (GoesOn ways.now seeds.now self.old self.new) }
+    {
+        for row in 0..ways.len() {
+            self.reach_back(ways, seeds, row)?;
+        }
+        Ok(())
+    }
+
+    /// Reaches what one comes to from a place in the queue.
+    fn reach_next(&mut self, ways: &Ways<'_>, seeds: &[bool], place: usize) -> Result<(), NoMemory>
+        requires there { place < length ways.now + 1 }
+        requires within { LeadsWithin ways.now }
+        requires comes { IsFlooded ways.now seeds.now place }
+        requires flood { IsFlood ways.now seeds.now self.old }
+        ensures done { OnOk result (IsClosedFrom ways.now self.new.marks.items place) }
+        ensures goes_on { OnOk result (GoesOn ways.now seeds.now self.old self.new) }
+    {
+        if place < ways.len() {
+            return self.reach_from(ways, seeds, place);
+        }
+        self.reach_from_beyond(ways, seeds)
+    }
+
+    /// Marks the places that the flood comes to. Those in the queue before are marked, with what
+    /// one comes to from them; the further ones are put behind them.
+    pub(crate) fn fill(&mut self, ways: &Ways<'_>, seeds: &[bool]) -> Result<(), NoMemory>
+        requires seeds { length seeds.now ≡ length ways.now + 1 }
+        requires within { LeadsWithin ways.now }
+        requires flood { IsFlood ways.now seeds.now self.old }
+        requires done { IsDone ways.now self.old }
+        ensures exactly { OnOk result (HasReached self.new (IsFlooded ways.now seeds.now)) }
+        ensures goes_on { OnOk result (GoesOn ways.now seeds.now self.old self.new) }
+        ensures done { OnOk result (IsDone ways.now self.new) }
+    {
+        let mut at = self.queue.len();
+        for place in 0..seeds.len() {
+            if seeds[place] {
+                self.reach(ways, seeds, place)?;
+            }
+        }
+        while at < self.queue.len() {
+            let place = self.queue[at];
+            self.reach_next(ways, seeds, place)?;
+            at += 1;
+        }
+        Ok(())
+    }
 }
 
 /// Marks the places that a flood comes to, of the rows and, past the last row, of what lies beyond
 /// the hull. It begins at the places that are marked as seeds.
-pub(crate) fn flood(alloc: Global, ways: &Ways<'_>, seeds: &[bool]) -> Result<Vec<bool>, NoMemory>
+pub(crate) fn flooded(alloc: Global, ways: &Ways<'_>, seeds: &[bool]) -> Result<Vec<bool>, NoMemory>
     requires seeds { length seeds.now ≡ length ways.now + 1 }
     requires within { LeadsWithin ways.now }
     ensures long { IfOk result (λ marks. length marks.items ≡ length ways.now + 1) }
     ensures exactly { IfOk result (λ marks. (i : ℕ)
         → (is_marked marks.items i ≡ true) ↔ IsFlooded ways.now seeds.now i) }
 {
-    let mut marks = Vec::new(alloc);
-    marks.resize(seeds.len(), false)?;
-    let mut queue = Vec::new(alloc);
-    fill(ways, seeds, &mut marks, &mut queue)?;
+    let mut flood = Flood::new(alloc, seeds.len())?;
+    flood.fill(ways, seeds)?;
+    let Flood { marks, .. } = flood;
     Ok(marks)
 }

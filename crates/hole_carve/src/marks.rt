@@ -1,16 +1,16 @@
 //! The region of each tetrahedron: the first region point that a free path joins with it.
 ghost use Rattle.std.specs.Prelude.{◌≡◌, ◌≢◌, ◌+◌, ◌<◌, ◌≤◌, ◌↔◌, ◌<ℤ◌, pos, ℕ, true, false};
-ghost use Rattle.std.specs.Prelude.{AllPairs, All, Contains, Some, None, length, IfOk, OnOk};
+ghost use Rattle.std.specs.Prelude.{AllPairs, All, Contains, Some, None, [], length, IfOk, OnOk};
 ghost use Rattle.sign_predicates.specs.Orientation.{IsPositive};
 ghost use Rattle.geo_laws.specs.Delaunay.{corners, IsOn, RowBefore};
 ghost use Rattle.path_laws.specs.Places.{IsFilling};
-ghost use Rattle.hole_carve.specs.Flooding.{queue_at, IsFlooded, IsQueued, IsClosedFrom};
-ghost use Rattle.hole_carve.specs.Flooding.{Extends, LeadsWithin};
+ghost use Rattle.hole_carve.specs.Flooding.{IsFlooded, LeadsWithin};
+ghost use Rattle.hole_carve.specs.Floods.{IsFlood, GoesOn, IsDone, HasReached};
 ghost use Rattle.hole_carve.specs.Marks.{mark_at, IsPutFrom, AreNumbered, AreRegionMarks, AreKeptMarks};
 ghost use Rattle.hole_carve.specs.Marks.{IsPlaceFrom, KeptMarksLaw};
 ghost use Rattle.geo_laws.specs.Marks.{is_marked};
 
-use crate::flood::fill;
+use crate::flood::Flood;
 use crate::seeds::mark_seeds;
 use crate::ways::Ways;
 use face_table::FaceTable;
@@ -46,29 +46,22 @@ fn put_flood(
     ways: &Ways<'_>,
     seeds: &[bool],
     number: u32,
-    reached: &mut [bool],
-    queue: &mut Vec<usize>,
+    flood: &mut Flood,
     marks: &mut [Option<u32>],
 ) -> Result<(), NoMemory>
-    requires long { length reached.old ≡ length ways.now + 1 }
     requires seeds { length seeds.now ≡ length ways.now + 1 }
     requires within { LeadsWithin ways.now }
-    requires filled { IsQueued ways.now seeds.now reached.old queue.old.items }
-    requires done { (q : ℕ) → q < length queue.old.items
-        → IsClosedFrom ways.now reached.old (queue_at queue.old.items q) }
-    ensures long { OnOk result (length reached.new ≡ length ways.now + 1) }
-    ensures exactly { OnOk result ((i : ℕ) → (is_marked reached.new i ≡ true)
-        ↔ IsFlooded ways.now seeds.now i) }
-    ensures filled { OnOk result (IsQueued ways.now seeds.now reached.new queue.new.items) }
-    ensures done { OnOk result ((q : ℕ) → q < length queue.new.items
-        → IsClosedFrom ways.now reached.new (queue_at queue.new.items q)) }
-    ensures grown { OnOk result (Extends reached.old queue.old.items reached.new queue.new.items) }
-    ensures put { OnOk result (IsPutFrom queue.new.items (length queue.old.items)
-        (length queue.new.items) number marks.old marks.new) }
+    requires flood { IsFlood ways.now seeds.now flood.old }
+    requires done { IsDone ways.now flood.old }
+    ensures exactly { OnOk result (HasReached flood.new (IsFlooded ways.now seeds.now)) }
+    ensures goes_on { OnOk result (GoesOn ways.now seeds.now flood.old flood.new) }
+    ensures done { OnOk result (IsDone ways.now flood.new) }
+    ensures put { OnOk result (IsPutFrom flood.new.queue.items (length flood.old.queue.items)
+        (length flood.new.queue.items) number marks.old marks.new) }
 {
-    let from = queue.len();
-    fill(ways, seeds, reached, queue)?;
-    put_from(queue, from, number, marks);
+    let from = flood.queue.len();
+    flood.fill(ways, seeds)?;
+    put_from(&flood.queue, from, number, marks);
     Ok(())
 }
 
@@ -82,7 +75,7 @@ fn put_each(
     ways: &Ways<'_>,
     complex: &Complex,
     seeds: &mut [bool],
-    reached: &mut [bool],
+    flood: &mut Flood,
     marks: &mut [Option<u32>],
 ) -> Result<(), NoMemory>
     requires on { All (IsOn points.now) list.now }
@@ -91,18 +84,18 @@ fn put_each(
     requires within { LeadsWithin ways.now }
     requires seeds { length seeds.old ≡ length list.now + 1 }
     requires no_seeds { (i : ℕ) → is_marked seeds.old i ≡ false }
-    requires reached { length reached.old ≡ length list.now + 1 }
-    requires none_reached { (i : ℕ) → is_marked reached.old i ≡ false }
+    requires reached { length flood.old.marks.items ≡ length list.now + 1 }
+    requires none_reached { (i : ℕ) → is_marked flood.old.marks.items i ≡ false }
+    requires empty { flood.old.queue.items ≡ [] }
     requires long { length marks.old ≡ length list.now }
     requires clear { (i : ℕ) → mark_at marks.old i ≡ None }
     ensures long { OnOk result (length marks.new ≡ length list.now) }
     ensures numbered { OnOk result (AreNumbered points.now closed.now list.now ways.now complex.now.regions
         (length complex.now.regions) marks.new) }
 {
-    let mut queue = Vec::new(alloc);
     for k in 0..complex.region_count() {
         mark_seeds(alloc, points, list, closed, complex.region(k).at, seeds)?;
-        put_flood(ways, seeds, k, reached, &mut queue, marks)?;
+        put_flood(ways, seeds, k, flood, marks)?;
     }
     Ok(())
 }
@@ -129,18 +122,9 @@ fn put_all(
 {
     let mut seeds = Vec::new(alloc);
     seeds.resize(list.len() + 1, false)?;
-    let mut reached = Vec::new(alloc);
-    reached.resize(list.len() + 1, false)?;
+    let mut flood = Flood::new(alloc, list.len() + 1)?;
     put_each(
-        alloc,
-        points,
-        list,
-        closed,
-        ways,
-        complex,
-        &mut seeds,
-        &mut reached,
-        marks,
+        alloc, points, list, closed, ways, complex, &mut seeds, &mut flood, marks,
     )
 }
 

@@ -13,8 +13,8 @@ use Rattle.std.specs.Prelude.{AllPairs}
 use Rattle.hole_carve.proofs.KeptRows.{unmarked_ascends}
 use Rattle.hole_carve.proofs.carving.carve.Goals as goal
 
-pub flood-requires-clause-within : goal.flood-requires-clause-within
-flood-requires-clause-within c =
+pub flooded-requires-clause-within : goal.flooded-requires-clause-within
+flooded-requires-clause-within c =
     let s : Setting c.args.points.now c.args.triangles.now c.args.list.now c.in_ok-closed.closed c.new-ways.result =
     record { filling = c.requires.filling; closes = closes_are _ _ c.in_ok-closed.ensures; are = subst (AreWays c.in_ok-closed.closed c.args.list.now) (sym c.new-ways.ensures.same) (are_ways _ _) } in
     leads_within _ _ _ _ _ s

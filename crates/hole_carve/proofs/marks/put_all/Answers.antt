@@ -8,9 +8,3 @@ put_each-requires-clause-no_seeds c =
     let long = ap length c.deref_mut.ensures.value in
     subst (λ s. (i : ℕ) → is_marked s i ≡ false) (sym c.deref_mut.ensures.value) (none_marked c.resize.new.self.items
     (λ k h. c.in_ok-resize.ensures.by_index.1 k false refl (omega (arith, c.new-seeds.ensures.len)) (omega (arith, h, long, c.deref_mut.ensures.len, c.in_ok-resize.ensures.len))))
-
-pub put_each-requires-clause-none_reached : goal.put_each-requires-clause-none_reached
-put_each-requires-clause-none_reached c =
-    let long = ap length c.deref_mut-2.ensures.value in
-    subst (λ s. (i : ℕ) → is_marked s i ≡ false) (sym c.deref_mut-2.ensures.value) (none_marked c.resize-2.new.self.items
-    (λ k h. c.in_ok-resize-2.ensures.by_index.1 k false refl (omega (arith, c.new-reached.ensures.len)) (omega (arith, h, long, c.deref_mut-2.ensures.len, c.in_ok-resize-2.ensures.len))))

@@ -1,6 +1,6 @@
 use Rattle.std.proofs.Common.{Some, ap, sym, ◌∙◌}
 use Rattle.hole_carve.specs.Flooding.{way, comes_in}
-use Rattle.hole_carve.proofs.flood.reach_back.Goals as goal
+use Rattle.hole_carve.proofs.flood.Flood.reach_back.Goals as goal
 
 pub reach-requires-clause-comes : goal.reach-requires-clause-comes
 reach-requires-clause-comes c =

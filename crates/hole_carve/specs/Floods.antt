@@ -1,0 +1,28 @@
+-- A flood as it goes on.
+use Rattle.std.specs.Prelude.{◌≡◌, ◌↔◌, ℕ, ◌+◌, ◌<◌, Bool, true, List, length}
+use Rattle.incidence.specs.declared.pairs.Across.{Across}
+use Rattle.geo_laws.specs.Marks.{is_marked}
+use Rattle.hole_carve.specs.declared.flood.Flood.{Flood}
+use Rattle.hole_carve.specs.Flooding.{queue_at, IsQueued, Extends, IsClosedFrom}
+
+-- a flood from the seeds over the rows and what lies beyond the hull
+pub record IsFlood (ways : List Across) (seeds : List Bool) (f : Flood) : Type 0 where
+  pub long : length f.marks.items ≡ length ways + 1
+  pub filled : IsQueued ways seeds f.marks.items f.queue.items
+
+-- its marks and its queue only grow
+abbrev pub IsGrown : Flood → Flood → Type 0
+IsGrown old new = Extends old.marks.items old.queue.items new.marks.items new.queue.items
+
+-- it stays a flood, and only grows
+pub record GoesOn (ways : List Across) (seeds : List Bool) (old new : Flood) : Type 0 where
+  pub flood : IsFlood ways seeds new
+  pub grown : IsGrown old new
+
+-- each place that one comes to from those in the queue is marked
+abbrev pub IsDone : List Across → Flood → Type 0
+IsDone ways f = (q : ℕ) → q < length f.queue.items → IsClosedFrom ways f.marks.items (queue_at f.queue.items q)
+
+-- exactly these places are marked
+abbrev pub HasReached : Flood → (ℕ → Type 0) → Type 0
+HasReached f P = (i : ℕ) → (is_marked f.marks.items i ≡ true) ↔ P i
