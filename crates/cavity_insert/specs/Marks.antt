@@ -1,6 +1,5 @@
 -- The marks of the slots of a cavity.
-use Rattle.std.specs.Prelude.{◌≡◌, ℕ, List, Bool, true, false}
-use Rattle.std.specs.List.{slice_index_or}
+use Rattle.std.specs.Prelude.{◌≡◌, ℕ, List, Bool, true}
 use Rattle.mesh_arena.specs.declared.slot.Slot.{Slot}
 use Rattle.mesh_arena.specs.Cavity.{IsInCavitySlots}
 use Rattle.geo_laws.specs.Marks.{is_marked}

@@ -1,6 +1,6 @@
 //! The points of a list, lifted over a narrow frame, with which tests of rows take least time.
 ghost use Rattle.std.specs.Prelude.{◌≡◌, ◌<◌, ◌↔◌, length, IsTrue};
-ghost use Rattle.geo_laws.specs.Delaunay.{corners, as_numbers};
+ghost use Rattle.geo_laws.specs.Delaunay.{corners};
 ghost use Rattle.geo_laws.specs.Height.{lifted};
 ghost use Rattle.insert_laws.specs.Insertion.{HasOutside};
 ghost use Rattle.point_locate.specs.Place.{AreOn, row_corners};
@@ -8,9 +8,9 @@ ghost use Rattle.cavity_insert.specs.Lifting.{IsOnAxis, AreLifted, MayBeLifted, 
 
 use crate::insert::point_at;
 use crate::lift::Lift;
-use geo_laws::{Points, Tet};
+use geo_laws::{Points, Tet, numbers_of};
 use point_locate::row_points;
-use sign_predicates::{Frame, GridPoint, Lifted, LiftedCorners, Numbers, lifted_outside, outside};
+use sign_predicates::{Frame, GridPoint, Lifted, LiftedCorners, lifted_outside, outside};
 use std::alloc::Global;
 use std::marker::Model;
 use tet_ports::Items;
@@ -139,19 +139,6 @@ pub(crate) fn lift_points(alloc: Global, points: &Points) -> Option<LiftedPoints
         frame,
         points: lifted,
     })
-}
-
-/// The numbers of a row's corners.
-#[inline]
-pub(crate) fn numbers_of(row: Tet) -> Numbers
-    ensures { result ≡ as_numbers row }
-{
-    Numbers {
-        a: row.a,
-        b: row.b,
-        c: row.c,
-        d: row.d,
-    }
 }
 
 impl LiftedPoints {

@@ -95,33 +95,8 @@ fn insert_all<H: Lift, L: Ledger>(
     Ok(())
 }
 
-/// The mesh of distinct points that are lifted: they are inserted one after another. `Flat` comes
-/// exactly where all points lie in one plane.
-fn mesh_points<H: Lift, L: Ledger>(
-    alloc: Global,
-    lift: &H,
-    steps: &mut Steps<L>,
-) -> Result<Built, BuildFault>
-    requires distinct { HasDistinctPoints (H.points lift.now) }
-    requires few { length (H.points lift.now) < 2 ^ 32 - 1 }
-    ensures mesh { IfOk result (λ b. IsLowestMesh (H.heights lift.now) b.arena.slots
-        (H.points lift.now) (all_numbers (H.points lift.now))) }
-    ensures live { IfOk result (λ b. IsLive b.arena.slots b.last.index) }
-    ensures not_flat { OnOk result (¬ AreCoplanar (H.points lift.now)) }
-    ensures flat { IsErrOf result BuildFault.Flat → AreCoplanar (H.points lift.now) }
-{
-    let points = lift.points();
-    let Some(first) = first_row(points) else {
-        return Err(BuildFault::Flat);
-    };
-    let turns = insertion_order(alloc, points)?;
-    let (arena, last) = start_mesh(alloc, points, first)?;
-    let mut built = Built { arena, last };
-    insert_all(alloc, &mut built, lift, first, &turns, steps)?;
-    Ok(built)
-}
-
-/// The same with a counter of its own.
+/// The mesh of distinct points that are lifted: they are inserted one after another, and the tests
+/// of slots are counted. `Flat` comes exactly where all points lie in one plane.
 fn mesh_counted<H: Lift, L: Ledger>(
     alloc: Global,
     lift: &H,
@@ -138,8 +113,16 @@ fn mesh_counted<H: Lift, L: Ledger>(
     ensures not_flat { OnOk result (¬ AreCoplanar (H.points lift.now)) }
     ensures flat { IsErrOf result BuildFault.Flat → AreCoplanar (H.points lift.now) }
 {
+    let points = lift.points();
+    let Some(first) = first_row(points) else {
+        return Err(BuildFault::Flat);
+    };
+    let turns = insertion_order(alloc, points)?;
+    let (arena, last) = start_mesh(alloc, points, first)?;
+    let mut built = Built { arena, last };
     let mut steps = Steps::<L>::new(blank);
-    mesh_points(alloc, lift, &mut steps)
+    insert_all(alloc, &mut built, lift, first, &turns, &mut steps)?;
+    Ok(built)
 }
 
 /// The mesh of distinct points that are lifted: its rows are the lower hull of the lifted points,

@@ -7,10 +7,9 @@ ghost use Rattle.point_locate.specs.Place.{AreCornersOn, AreOn, row_corners, pla
 ghost use Rattle.cavity_insert.specs.PointZone.{zone_for, IsInZone};
 ghost use Rattle.mesh_laws.specs.Rule.{IsTakenRow, IsSeen, IsInnerTaken, IsTaken};
 
-use crate::lifting::numbers_of;
 use crate::steps::Steps;
 use crate::zone::Zone;
-use geo_laws::{Points, Tet};
+use geo_laws::{Points, Tet, numbers_of};
 use mesh_arena::{Arena, Slot, SlotCorners};
 use point_locate::{Shape, placed, row_points, shape_of};
 use sign_predicates::{GridPoint, Sign, orient, outside};

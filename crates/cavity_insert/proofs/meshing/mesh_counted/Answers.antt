@@ -2,7 +2,7 @@ use Rattle.sign_predicates.specs.Orientation.{IsPositive}
 use Rattle.geo_laws.specs.Delaunay.{corners, IsOn}
 use Rattle.cavity_insert.proofs.FirstRow.{begun_for}
 use Rattle.cavity_insert.proofs.Flat.{not_coplanar_of}
-use Rattle.cavity_insert.proofs.meshing.mesh_points.Goals as goal
+use Rattle.cavity_insert.proofs.meshing.mesh_counted.Goals as goal
 
 pub insert_all-requires-clause-mesh : goal.insert_all-requires-clause-mesh
 insert_all-requires-clause-mesh g c =
