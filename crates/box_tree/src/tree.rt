@@ -82,7 +82,7 @@ fn wide_bounds(boxes: &Items<Boxed>, from: usize, past: usize) -> Bounds
 
 /// The place after the last node that the wide box of the node at `i` holds: as many as the
 /// greatest power of two that divides `i`.
-fn past_of(i: usize, count: usize) -> usize
+pub fn past_of(i: usize, count: usize) -> usize
     requires { i < count }
     ensures after { i < result }
     ensures there { result ≤ count }

@@ -3,6 +3,7 @@ ghost use Rattle.std.specs.Prelude.{◌<◌, ◌≤◌, ◌≤ℤ◌, pos, negsu
 ghost use Rattle.facet_plane.specs.Blocks.{IsBelow, IsHeld, IsSubbox};
 ghost use Rattle.facet_plane.specs.Blocks.{HoldsBox, HoldsBetween, AreBlocks};
 
+use box_tree::past_of;
 use sign_predicates::GridPoint;
 use std::alloc::Global;
 use tet_ports::{Items, NoMemory};
@@ -108,17 +109,6 @@ fn extent_between(boxes: &Items<Extent>, first: usize, past: usize) -> Extent
         extent = joined(extent, boxes.at(i));
     }
     extent
-}
-
-/// The place after the last item of the block at `i`: the block has as many as the greatest power
-/// of two that divides `i`.
-fn past_of(i: usize, count: usize) -> usize
-    requires { i < count }
-    ensures after { i < result }
-    ensures there { result ≤ count }
-{
-    let span = (i & i.wrapping_neg()).max(1);
-    i.saturating_add(span).min(count)
 }
 
 /// A block for each of the boxes, in their order.
