@@ -9,8 +9,8 @@ use Rattle.box_tree.proofs.Lists.{all_at}
 use Rattle.facet_recover.proofs.Lists.{taken_more}
 use Rattle.facet_recover.proofs.Parting.{kept_row, crossed_row, sorted_rows, facet_order}
 use Rattle.facet_recover.proofs.Stars.{star_on}
-use Rattle.facet_recover.proofs.cavity.part_near.Goals as goal
-use Rattle.facet_recover.proofs.cavity.part_near.Goals.{in-Nobody+in_ok-push-in-Nobody, in-One+in_ok-push-in-One}
+use Rattle.facet_recover.proofs.cavity.part_rows.Goals as goal
+use Rattle.facet_recover.proofs.cavity.part_rows.Goals.{in-Nobody+in_ok-push-in-Nobody, in-One+in_ok-push-in-One}
 
 pub owner_in-requires-clause-on : goal.owner_in-requires-clause-on
 owner_in-requires-clause-on c = (all_at (IsRowOn c.args.points.now) c.args.list.now c.loop-i.i c.at-tet.result c.requires.rows (omega arith) c.at-tet.ensures).0

@@ -1,7 +1,7 @@
 use Rattle.std.proofs.Common.{take}
 use Rattle.facet_recover.specs.Parted.{IsParted}
 use Rattle.facet_recover.specs.Stars.{IsStarFrom}
-use Rattle.facet_recover.proofs.cavity.part_near.Given as goal
+use Rattle.facet_recover.proofs.cavity.part_rows.Given as goal
 
 abbrev pub invariant-loop-i : goal.invariant-loop-i
 invariant-loop-i l =
