@@ -11,7 +11,7 @@ ghost use Rattle.hole_carve.specs.Seeds.{BeginsAt};
 ghost use Rattle.geo_laws.specs.Marks.{is_marked};
 
 use crate::flood::flooded;
-use crate::seeds::mark_seeds;
+use crate::seeds::{Walled, mark_seeds};
 use crate::ways::Ways;
 use face_table::FaceTable;
 use geo_laws::{FacetTriangles, Points, RatPoints, TetList};
@@ -62,24 +62,24 @@ fn mark_hull(list: &TetList, keep_hull: bool, seeds: &mut [bool])
 /// Marks where the floods from the hole points begin, too.
 fn mark_holes(
     alloc: Global,
-    points: &Points,
-    list: &TetList,
-    closed: &FaceTable,
+    mesh: &Walled<'_>,
     holes: &RatPoints,
     keep_hull: bool,
     seeds: &mut [bool],
 ) -> Result<(), NoMemory>
-    requires on { All (IsOn points.now) list.now }
-    requires positive { All (λ t. IsPositive (corners points.now t)) list.now }
-    requires long { length seeds.old ≡ length list.now + 1 }
+    requires on { All (IsOn mesh.now.points.now) mesh.now.list.now }
+    requires positive { All (λ t. IsPositive (corners mesh.now.points.now t)) mesh.now.list.now }
+    requires long { length seeds.old ≡ length mesh.now.list.now + 1 }
     requires marked { (i : ℕ) → (is_marked seeds.old i ≡ true)
-        ↔ BeginsAt keep_hull points.now closed.now list.now holes.now 0 i }
-    ensures long { OnOk result (length seeds.new ≡ length list.now + 1) }
+        ↔ BeginsAt keep_hull mesh.now.points.now mesh.now.closed.now mesh.now.list.now holes.now
+        0 i }
+    ensures long { OnOk result (length seeds.new ≡ length mesh.now.list.now + 1) }
     ensures marked { OnOk result ((i : ℕ) → (is_marked seeds.new i ≡ true)
-        ↔ BeginsAt keep_hull points.now closed.now list.now holes.now (length holes.now) i) }
+        ↔ BeginsAt keep_hull mesh.now.points.now mesh.now.closed.now mesh.now.list.now holes.now
+        (length holes.now) i) }
 {
     for at in 0..holes.len() {
-        mark_seeds(alloc, points, list, closed, holes.at(at), seeds)?;
+        mark_seeds(alloc, mesh, holes.at(at), seeds)?;
     }
     Ok(())
 }
@@ -88,44 +88,42 @@ fn mark_holes(
 /// point.
 fn mark_all(
     alloc: Global,
-    points: &Points,
-    list: &TetList,
-    closed: &FaceTable,
+    mesh: &Walled<'_>,
     holes: &RatPoints,
     keep_hull: bool,
     seeds: &mut [bool],
 ) -> Result<(), NoMemory>
-    requires on { All (IsOn points.now) list.now }
-    requires positive { All (λ t. IsPositive (corners points.now t)) list.now }
-    requires long { length seeds.old ≡ length list.now + 1 }
+    requires on { All (IsOn mesh.now.points.now) mesh.now.list.now }
+    requires positive { All (λ t. IsPositive (corners mesh.now.points.now t)) mesh.now.list.now }
+    requires long { length seeds.old ≡ length mesh.now.list.now + 1 }
     requires clear { (i : ℕ) → is_marked seeds.old i ≡ false }
-    ensures long { OnOk result (length seeds.new ≡ length list.now + 1) }
+    ensures long { OnOk result (length seeds.new ≡ length mesh.now.list.now + 1) }
     ensures marked { OnOk result ((i : ℕ) → (is_marked seeds.new i ≡ true)
-        ↔ BeginsAt keep_hull points.now closed.now list.now holes.now (length holes.now) i) }
+        ↔ BeginsAt keep_hull mesh.now.points.now mesh.now.closed.now mesh.now.list.now holes.now
+        (length holes.now) i) }
 {
-    mark_hull(list, keep_hull, seeds);
-    mark_holes(alloc, points, list, closed, holes, keep_hull, seeds)
+    mark_hull(mesh.list, keep_hull, seeds);
+    mark_holes(alloc, mesh, holes, keep_hull, seeds)
 }
 
 /// Where a flood begins that carves: beyond the hull if that isn't kept, and at each hole point.
 fn seeds_of(
     alloc: Global,
-    points: &Points,
-    list: &TetList,
-    closed: &FaceTable,
+    mesh: &Walled<'_>,
     holes: &RatPoints,
     keep_hull: bool,
 ) -> Result<Vec<bool>, NoMemory>
-    requires on { All (IsOn points.now) list.now }
-    requires positive { All (λ t. IsPositive (corners points.now t)) list.now }
-    ensures long { IfOk result (λ seeds. length seeds.items ≡ length list.now + 1) }
+    requires on { All (IsOn mesh.now.points.now) mesh.now.list.now }
+    requires positive { All (λ t. IsPositive (corners mesh.now.points.now t)) mesh.now.list.now }
+    ensures long { IfOk result (λ seeds. length seeds.items ≡ length mesh.now.list.now + 1) }
     ensures marked { IfOk result (λ seeds. (i : ℕ)
         → (is_marked seeds.items i ≡ true)
-        ↔ BeginsAt keep_hull points.now closed.now list.now holes.now (length holes.now) i) }
+        ↔ BeginsAt keep_hull mesh.now.points.now mesh.now.closed.now mesh.now.list.now holes.now
+        (length holes.now) i) }
 {
     let mut seeds = Vec::new(alloc);
-    seeds.resize(list.len() + 1, false)?;
-    mark_all(alloc, points, list, closed, holes, keep_hull, &mut seeds)?;
+    seeds.resize(mesh.list.len() + 1, false)?;
+    mark_all(alloc, mesh, holes, keep_hull, &mut seeds)?;
     Ok(seeds)
 }
 
@@ -149,7 +147,12 @@ pub fn carve(
     let closed = FaceTable::of_triangles(alloc, triangles)?;
     let pairs = pair_faces(alloc, list)?;
     let ways = Ways::new(list, &pairs, &closed);
-    let seeds = seeds_of(alloc, points, list, &closed, holes, keep_hull)?;
+    let mesh = Walled {
+        points,
+        list,
+        closed: &closed,
+    };
+    let seeds = seeds_of(alloc, &mesh, holes, keep_hull)?;
     let marks = flooded(alloc, &ways, &seeds)?;
     rows_unmarked(alloc, list, &marks)
 }

@@ -11,7 +11,7 @@ ghost use Rattle.hole_carve.specs.Marks.{IsPlaceFrom, KeptMarksLaw};
 ghost use Rattle.geo_laws.specs.Marks.{is_marked};
 
 use crate::flood::Flood;
-use crate::seeds::mark_seeds;
+use crate::seeds::{Walled, mark_seeds};
 use crate::ways::Ways;
 use face_table::FaceTable;
 use geo_laws::{Complex, FacetTriangles, Points, Tet, TetList};
@@ -69,32 +69,31 @@ fn put_flood(
 /// point to the next. It has not begun before.
 fn put_each(
     alloc: Global,
-    points: &Points,
-    list: &TetList,
-    closed: &FaceTable,
+    mesh: &Walled<'_>,
     ways: &Ways<'_>,
     complex: &Complex,
     seeds: &mut [bool],
     flood: &mut Flood,
     marks: &mut [Option<u32>],
 ) -> Result<(), NoMemory>
-    requires on { All (IsOn points.now) list.now }
-    requires positive { All (λ t. IsPositive (corners points.now t)) list.now }
-    requires ways { length ways.now ≡ length list.now }
+    requires on { All (IsOn mesh.now.points.now) mesh.now.list.now }
+    requires positive { All (λ t. IsPositive (corners mesh.now.points.now t)) mesh.now.list.now }
+    requires ways { length ways.now ≡ length mesh.now.list.now }
     requires within { LeadsWithin ways.now }
-    requires seeds { length seeds.old ≡ length list.now + 1 }
+    requires seeds { length seeds.old ≡ length mesh.now.list.now + 1 }
     requires no_seeds { (i : ℕ) → is_marked seeds.old i ≡ false }
-    requires reached { length flood.old.marks.items ≡ length list.now + 1 }
+    requires reached { length flood.old.marks.items ≡ length mesh.now.list.now + 1 }
     requires none_reached { (i : ℕ) → is_marked flood.old.marks.items i ≡ false }
     requires empty { flood.old.queue.items ≡ [] }
-    requires long { length marks.old ≡ length list.now }
+    requires long { length marks.old ≡ length mesh.now.list.now }
     requires clear { (i : ℕ) → mark_at marks.old i ≡ None }
-    ensures long { OnOk result (length marks.new ≡ length list.now) }
-    ensures numbered { OnOk result (AreNumbered points.now closed.now list.now ways.now complex.now.regions
+    ensures long { OnOk result (length marks.new ≡ length mesh.now.list.now) }
+    ensures numbered { OnOk result (AreNumbered mesh.now.points.now mesh.now.closed.now
+        mesh.now.list.now ways.now complex.now.regions
         (length complex.now.regions) marks.new) }
 {
     for k in 0..complex.region_count() {
-        mark_seeds(alloc, points, list, closed, complex.region(k).at, seeds)?;
+        mark_seeds(alloc, mesh, complex.region(k).at, seeds)?;
         put_flood(ways, seeds, k, flood, marks)?;
     }
     Ok(())
@@ -103,51 +102,47 @@ fn put_each(
 /// The same from no seeds, where nothing is reached.
 fn put_all(
     alloc: Global,
-    points: &Points,
-    list: &TetList,
-    closed: &FaceTable,
+    mesh: &Walled<'_>,
     ways: &Ways<'_>,
     complex: &Complex,
     marks: &mut [Option<u32>],
 ) -> Result<(), NoMemory>
-    requires on { All (IsOn points.now) list.now }
-    requires positive { All (λ t. IsPositive (corners points.now t)) list.now }
-    requires ways { length ways.now ≡ length list.now }
+    requires on { All (IsOn mesh.now.points.now) mesh.now.list.now }
+    requires positive { All (λ t. IsPositive (corners mesh.now.points.now t)) mesh.now.list.now }
+    requires ways { length ways.now ≡ length mesh.now.list.now }
     requires within { LeadsWithin ways.now }
-    requires long { length marks.old ≡ length list.now }
+    requires long { length marks.old ≡ length mesh.now.list.now }
     requires clear { (i : ℕ) → mark_at marks.old i ≡ None }
-    ensures long { OnOk result (length marks.new ≡ length list.now) }
-    ensures numbered { OnOk result (AreNumbered points.now closed.now list.now ways.now complex.now.regions
+    ensures long { OnOk result (length marks.new ≡ length mesh.now.list.now) }
+    ensures numbered { OnOk result (AreNumbered mesh.now.points.now mesh.now.closed.now
+        mesh.now.list.now ways.now complex.now.regions
         (length complex.now.regions) marks.new) }
 {
     let mut seeds = Vec::new(alloc);
-    seeds.resize(list.len() + 1, false)?;
-    let mut flood = Flood::new(alloc, list.len() + 1)?;
-    put_each(
-        alloc, points, list, closed, ways, complex, &mut seeds, &mut flood, marks,
-    )
+    seeds.resize(mesh.list.len() + 1, false)?;
+    let mut flood = Flood::new(alloc, mesh.list.len() + 1)?;
+    put_each(alloc, mesh, ways, complex, &mut seeds, &mut flood, marks)
 }
 
 /// The numbers of the region points, by the rows to which the floods from them come.
 fn numbers_of(
     alloc: Global,
-    points: &Points,
-    list: &TetList,
-    closed: &FaceTable,
+    mesh: &Walled<'_>,
     ways: &Ways<'_>,
     complex: &Complex,
 ) -> Result<Vec<Option<u32>>, NoMemory>
-    requires on { All (IsOn points.now) list.now }
-    requires positive { All (λ t. IsPositive (corners points.now t)) list.now }
-    requires ways { length ways.now ≡ length list.now }
+    requires on { All (IsOn mesh.now.points.now) mesh.now.list.now }
+    requires positive { All (λ t. IsPositive (corners mesh.now.points.now t)) mesh.now.list.now }
+    requires ways { length ways.now ≡ length mesh.now.list.now }
     requires within { LeadsWithin ways.now }
-    ensures long { IfOk result (λ marks. length marks.items ≡ length list.now) }
-    ensures numbered { IfOk result (λ marks. AreNumbered points.now closed.now list.now ways.now
+    ensures long { IfOk result (λ marks. length marks.items ≡ length mesh.now.list.now) }
+    ensures numbered { IfOk result (λ marks. AreNumbered mesh.now.points.now mesh.now.closed.now
+        mesh.now.list.now ways.now
         complex.now.regions (length complex.now.regions) marks.items) }
 {
     let mut marks = Vec::new(alloc);
-    marks.resize(list.len(), None)?;
-    put_all(alloc, points, list, closed, ways, complex, &mut marks)?;
+    marks.resize(mesh.list.len(), None)?;
+    put_all(alloc, mesh, ways, complex, &mut marks)?;
     Ok(marks)
 }
 
@@ -167,7 +162,12 @@ pub fn mark_regions(
     let closed = FaceTable::of_triangles(alloc, triangles)?;
     let pairs = pair_faces(alloc, list)?;
     let ways = Ways::new(list, &pairs, &closed);
-    let marks = numbers_of(alloc, points, list, &closed, &ways, complex)?;
+    let mesh = Walled {
+        points,
+        list,
+        closed: &closed,
+    };
+    let marks = numbers_of(alloc, &mesh, &ways, complex)?;
     Ok(Marks::from(marks))
 }
 

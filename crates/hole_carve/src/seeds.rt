@@ -15,6 +15,14 @@ use sign_predicates::{Corners, GridPoint, Hold, RatPoint, Sign, in_tet, orient_r
 use std::alloc::Global;
 use tet_ports::NoMemory;
 
+/// A mesh with walls: rows on points, and the faces through which no flood goes.
+#[derive(Drop)]
+pub(crate) struct Walled<'a> {
+    pub(crate) points: &'a Points,
+    pub(crate) list: &'a TetList,
+    pub(crate) closed: &'a FaceTable,
+}
+
 /// The row at a place, which is on the points.
 fn row_on(points: &Points, list: &TetList, at: usize) -> Tet
     requires there { at < length list.now }
@@ -202,20 +210,19 @@ fn mark_found(
 /// beyond the hull.
 pub(crate) fn mark_seeds(
     alloc: Global,
-    points: &Points,
-    list: &TetList,
-    closed: &FaceTable,
+    mesh: &Walled<'_>,
     x: RatPoint,
     seeds: &mut [bool],
 ) -> Result<(), NoMemory>
-    requires on { All (IsOn points.now) list.now }
-    requires positive { All (λ t. IsPositive (corners points.now t)) list.now }
-    requires long { length seeds.old ≡ length list.now + 1 }
-    ensures long { OnOk result (length seeds.new ≡ length list.now + 1) }
+    requires on { All (IsOn mesh.now.points.now) mesh.now.list.now }
+    requires positive { All (λ t. IsPositive (corners mesh.now.points.now t)) mesh.now.list.now }
+    requires long { length seeds.old ≡ length mesh.now.list.now + 1 }
+    ensures long { OnOk result (length seeds.new ≡ length mesh.now.list.now + 1) }
     ensures marked { OnOk result ((i : ℕ) → (is_marked seeds.new i ≡ true)
-        ↔ ((is_marked seeds.old i ≡ true) ⊎ IsSeedAt points.now closed.now list.now x i)) }
+        ↔ ((is_marked seeds.old i ≡ true)
+        ⊎ IsSeedAt mesh.now.points.now mesh.now.closed.now mesh.now.list.now x i)) }
 {
-    let holders = holders_of(alloc, points, list, x)?;
-    mark_found(points, list, closed, x, &holders, seeds);
+    let holders = holders_of(alloc, mesh.points, mesh.list, x)?;
+    mark_found(mesh.points, mesh.list, mesh.closed, x, &holders, seeds);
     Ok(())
 }

@@ -6,5 +6,5 @@ use Rattle.hole_carve.proofs.carving.mark_holes.Goals as goal
 pub loop-at-preserved : goal.loop-at-preserved
 loop-at-preserved c = record {
   long = c.in_ok-mark_seeds.ensures.long;
-  marked = begins_next c.args.keep_hull c.args.points.now c.args.closed.now c.args.list.now c.args.holes.now c.loop-at.at c.at.result _ _ (c.at.ensures (as_rational origin)) c.loop-at.invariant.marked c.in_ok-mark_seeds.ensures.marked;
+  marked = begins_next c.args.keep_hull c.args.mesh.now.points.now c.args.mesh.now.closed.now c.args.mesh.now.list.now c.args.holes.now c.loop-at.at c.at.result _ _ (c.at.ensures (as_rational origin)) c.loop-at.invariant.marked c.in_ok-mark_seeds.ensures.marked;
 }

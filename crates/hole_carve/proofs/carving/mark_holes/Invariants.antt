@@ -6,6 +6,6 @@ use Rattle.geo_laws.specs.Marks.{is_marked}
 
 abbrev pub invariant-loop-at : goal.invariant-loop-at
 invariant-loop-at l = record {
-  long : length l.seeds ≡ length l.list + 1;
-  marked : (i : ℕ) → (is_marked l.seeds i ≡ true) ↔ BeginsAt l.keep_hull l.points l.closed l.list l.holes l.at i;
+  long : length l.seeds ≡ length l.mesh.list.now + 1;
+  marked : (i : ℕ) → (is_marked l.seeds i ≡ true) ↔ BeginsAt l.keep_hull l.mesh.points.now l.mesh.closed.now l.mesh.list.now l.holes l.at i;
 }

@@ -9,4 +9,4 @@ use Rattle.geo_laws.specs.Marks.{is_marked}
 pub returns-clause-marked : goal.returns-clause-marked
 returns-clause-marked c =
     let long : c.resize.new.self.len ≡ length c.mark_all.new.seeds = omega (arith, c.in_ok-resize.ensures.len, c.len.ensures.count, c.in_ok-mark_all.ensures.long) in
-    subst (λ s. (i : ℕ) → (is_marked s i ≡ true) ↔ BeginsAt c.args.keep_hull c.args.points.now c.args.closed.now c.args.list.now c.args.holes.now (length c.args.holes.now) i) (sym (front_of c.mark_all.new.seeds _ _ long)) c.in_ok-mark_all.ensures.marked
+    subst (λ s. (i : ℕ) → (is_marked s i ≡ true) ↔ BeginsAt c.args.keep_hull c.args.mesh.now.points.now c.args.mesh.now.closed.now c.args.mesh.now.list.now c.args.holes.now (length c.args.holes.now) i) (sym (front_of c.mark_all.new.seeds _ _ long)) c.in_ok-mark_all.ensures.marked

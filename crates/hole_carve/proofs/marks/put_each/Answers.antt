@@ -14,7 +14,7 @@ loop-k-init c =
     let reached = c.args.flood.now.marks.items in
     record {
       seeds_long = c.requires.seeds;
-      seeds_are = region_seeds_none c.args.points.now c.args.closed.now c.args.list.now c.args.complex.now.regions seeds c.requires.no_seeds;
+      seeds_are = region_seeds_none c.args.mesh.now.points.now c.args.mesh.now.closed.now c.args.mesh.now.list.now c.args.complex.now.regions seeds c.requires.no_seeds;
       flood = record {
         long = c.requires.reached ∙ ap (λ n. n + 1) (sym c.requires.ways);
         filled = subst (IsQueued ways seeds reached) (sym c.requires.empty) (filled_none ways seeds reached c.requires.none_reached);
@@ -22,7 +22,7 @@ loop-k-init c =
       exactly = λ i. (λ m. absurd (true≢false (sym m ∙ c.requires.none_reached i)), λ r. absurd (no_flood ways seeds c.requires.no_seeds i r));
       done = λ q l. let none = ap length c.requires.empty in absurd (omega (arith, none, l));
       long = c.requires.long;
-      numbered = numbered_none c.args.points.now c.args.closed.now c.args.list.now ways c.args.complex.now.regions c.args.marks.now c.requires.clear;
+      numbered = numbered_none c.args.mesh.now.points.now c.args.mesh.now.closed.now c.args.mesh.now.list.now ways c.args.complex.now.regions c.args.marks.now c.requires.clear;
     }
 
 pub put_flood-requires-clause-flood : goal.put_flood-requires-clause-flood
@@ -38,9 +38,9 @@ loop-k-preserved c =
     let was = c.loop-k.invariant in
     let now = c.in_ok-put_flood.ensures in
     let k = c.loop-k.k in
-    let ps = c.args.points.now in
-    let closed = c.args.closed.now in
-    let rows = c.args.list.now in
+    let ps = c.args.mesh.now.points.now in
+    let closed = c.args.mesh.now.closed.now in
+    let rows = c.args.mesh.now.list.now in
     let ways = c.args.ways.now in
     let regions = c.args.complex.now.regions in
     let x = c.region.result.now.at in
@@ -64,4 +64,4 @@ loop-k-preserved c =
 pub returns-clause-numbered : goal.returns-clause-numbered
 returns-clause-numbered c =
     let all : c.loop-k.k ≡ length c.args.complex.now.regions = omega (arith, c.loop-k-test.false, c.loop-k.auto.k-end, c.region_count-k-end.ensures) in
-    subst (λ n. AreNumbered c.args.points.now c.args.closed.now c.args.list.now c.args.ways.now c.args.complex.now.regions n c.loop-k.marks) all c.loop-k.invariant.numbered
+    subst (λ n. AreNumbered c.args.mesh.now.points.now c.args.mesh.now.closed.now c.args.mesh.now.list.now c.args.ways.now c.args.complex.now.regions n c.loop-k.marks) all c.loop-k.invariant.numbered

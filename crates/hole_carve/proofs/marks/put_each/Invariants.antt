@@ -6,11 +6,11 @@ use Rattle.hole_carve.proofs.marks.put_each.Given as goal
 
 abbrev pub invariant-loop-k : goal.invariant-loop-k
 invariant-loop-k l = record {
-  seeds_long : length l.seeds ≡ length l.list + 1;
-  seeds_are : AreRegionSeeds l.points l.closed l.list l.complex.regions l.k l.seeds;
+  seeds_long : length l.seeds ≡ length l.mesh.list.now + 1;
+  seeds_are : AreRegionSeeds l.mesh.points.now l.mesh.closed.now l.mesh.list.now l.complex.regions l.k l.seeds;
   flood : IsFlood l.ways l.seeds l.flood;
   exactly : HasReached l.flood (IsFlooded l.ways l.seeds);
   done : IsDone l.ways l.flood;
-  long : length l.marks ≡ length l.list;
-  numbered : AreNumbered l.points l.closed l.list l.ways l.complex.regions l.k l.marks;
+  long : length l.marks ≡ length l.mesh.list.now;
+  numbered : AreNumbered l.mesh.points.now l.mesh.closed.now l.mesh.list.now l.ways l.complex.regions l.k l.marks;
 }
