@@ -495,19 +495,22 @@ fn sizes_in_cube(alloc: Global, p: [i8; 3]) -> Option<(usize, usize)> {
     }
 }
 
-static CAVITIES: [([i8; 3], (usize, usize)); 4] = [
-    ([1, 1, 1], (6, 12)),
-    ([3, 1, 1], (2, 6)),
-    ([2, 1, 1], (8, 14)),
-    ([2, 4, 1], (2, 6)),
+/// Points, and how many slots and faces their cavities and rims have.
+static CAVITIES: [(&str, [i8; 3], (usize, usize)); 4] = [
+    ("in the middle", [1, 1, 1], (6, 12)),
+    ("strictly beyond a face of the cube", [3, 1, 1], (2, 6)),
+    ("in the middle of a face", [2, 1, 1], (8, 14)),
+    (
+        "in the plane of a face, outside of the sphere",
+        [2, 4, 1],
+        (2, 6),
+    ),
 ];
 
 #[test]
 fn cavities_in_a_cube(rt: HostRuntime) {
-    // In the middle, strictly beyond a face of the cube, in the middle of one, and in its plane
-    // outside of the sphere.
-    for (p, want) in &CAVITIES {
-        assert!(rt; sizes_in_cube(rt.alloc(), *p) == Some(*want));
+    for (name, p, want) in &CAVITIES {
+        assert!(rt; sizes_in_cube(rt.alloc(), *p) == Some(*want), "{name}");
     }
 }
 
@@ -551,17 +554,49 @@ fn rows_and_sides(alloc: Global, set: &[[i8; 3]], more: &[[i8; 3]]) -> Option<(u
 
 const TETRAHEDRON: [[i8; 3]; 4] = [[0, 0, 0], [4, 0, 0], [0, 4, 0], [0, 0, 4]];
 
-static ADDED_POINTS: [(&[[i8; 3]], &[[i8; 3]], (usize, usize)); 4] = [
-    (&TETRAHEDRON, &[[1, 1, 1]], (4, 20)),
-    (&TETRAHEDRON, &[[1, 1, 1], [4, 4, 4]], (6, 28)),
-    (&TETRAHEDRON, &[[1, 1, 1], [4, 4, 4], [-1, 0, 3]], (8, 36)),
-    (&GRID, &[], (40, 180)),
+/// Points, more of them, and how many rows and sides their mesh has.
+struct AddedCase {
+    name: &'static str,
+    points: &'static [[i8; 3]],
+    more: &'static [[i8; 3]],
+    counts: (usize, usize),
+}
+
+static ADDED_POINTS: [AddedCase; 4] = [
+    AddedCase {
+        name: "in the tetrahedron",
+        points: &TETRAHEDRON,
+        more: &[[1, 1, 1]],
+        counts: (4, 20),
+    },
+    AddedCase {
+        name: "and beyond a face of it",
+        points: &TETRAHEDRON,
+        more: &[[1, 1, 1], [4, 4, 4]],
+        counts: (6, 28),
+    },
+    AddedCase {
+        name: "and in the plane of another face",
+        points: &TETRAHEDRON,
+        more: &[[1, 1, 1], [4, 4, 4], [-1, 0, 3]],
+        counts: (8, 36),
+    },
+    AddedCase {
+        name: "none",
+        points: &GRID,
+        more: &[],
+        counts: (40, 180),
+    },
 ];
+
+/// Whether the mesh has that many rows and sides.
+fn has_counts(alloc: Global, case: &AddedCase) -> bool {
+    rows_and_sides(alloc, case.points, case.more) == Some(case.counts)
+}
 
 #[test]
 fn points_are_added(rt: HostRuntime) {
-    // In the tetrahedron, beyond a face of it, and in the plane of another; none.
-    for (set, more, want) in &ADDED_POINTS {
-        assert!(rt; rows_and_sides(rt.alloc(), set, more) == Some(*want));
+    for case in &ADDED_POINTS {
+        assert!(rt; has_counts(rt.alloc(), case), "{}", case.name);
     }
 }

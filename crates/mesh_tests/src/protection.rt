@@ -57,50 +57,54 @@ const LINE: [[i8; 3]; 6] = [
 
 /// Polygons, and the ends of the pieces of their sides.
 struct CutCase {
+    name: &'static str,
     corners: &'static [&'static [u32]],
     pieces: &'static [[u32; 2]],
 }
 
 static CUTS: [CutCase; 9] = [
-    // A side through points of the input, and the way back.
     CutCase {
+        name: "through points of the input",
         corners: &[&[0, 1]],
         pieces: &[[0, 3], [3, 2], [2, 1]],
     },
     CutCase {
+        name: "the way back",
         corners: &[&[1, 0]],
         pieces: &[[1, 2], [2, 3], [3, 0]],
     },
-    // The pieces of one side, and then those of a longer one the other way.
     CutCase {
+        name: "one side, and then a longer one the other way",
         corners: &[&[0, 2], &[1, 0], &[4, 2]],
         pieces: &[[0, 3], [3, 2], [1, 2], [4, 2]],
     },
-    // Two sides on a line that overlap, and one within the other.
     CutCase {
+        name: "two sides of a line that overlap",
         corners: &[&[0, 2], &[3, 1]],
         pieces: &[[0, 3], [3, 2], [2, 1]],
     },
     CutCase {
+        name: "one side within another",
         corners: &[&[2, 3], &[5, 0]],
         pieces: &[[2, 3], [5, 1], [1, 2], [3, 0]],
     },
-    // A side given twice, and in both directions.
     CutCase {
+        name: "a side given twice, and in both directions",
         corners: &[&[4, 0], &[4, 0], &[0, 4]],
         pieces: &[[4, 0]],
     },
-    // A polygon of one corner.
     CutCase {
+        name: "a polygon of one corner",
         corners: &[&[3], &[4, 2]],
         pieces: &[[4, 2]],
     },
-    // Corners that are repeated, one after the other and later.
     CutCase {
+        name: "repeated corners",
         corners: &[&[0, 0, 3, 3, 4, 0, 3]],
         pieces: &[[0, 3], [3, 4], [4, 0]],
     },
     CutCase {
+        name: "no polygon",
         corners: &[],
         pieces: &[],
     },
@@ -119,8 +123,8 @@ fn cuts(alloc: Global, case: &CutCase) -> bool {
 #[test]
 fn pieces_of_sides(rt: HostRuntime) {
     let alloc = rt.alloc();
-    for (i, case) in CUTS.iter().enumerate() {
-        assert!(rt; cuts(alloc, case), "case {i}");
+    for case in &CUTS {
+        assert!(rt; cuts(alloc, case), "{}", case.name);
     }
 }
 

@@ -223,15 +223,18 @@ const BENT: NotFlat = NotFlat {
 };
 
 /// Facets of one polygon, and what is told of them.
-static FLATNESS: [(&[&[u32]], Result<(), NotFlat>); 3] = [
-    // flat: a square, and a plane through a line and a point off it
-    (&[&[0, 1, 2, 3], &[0, 4, 6, 8]], Ok(())),
-    // the second facet of four is bent, and so is the last
+static FLATNESS: [(&str, &[&[u32]], Result<(), NotFlat>); 3] = [
     (
+        "a square, and a plane through a line and a point off it",
+        &[&[0, 1, 2, 3], &[0, 4, 6, 8]],
+        Ok(()),
+    ),
+    (
+        "the second of four is bent, and so is the last",
         &[&[0, 1, 2], &[0, 0, 1, 2, 8], &[10, 8, 14], &[0, 1, 8, 9]],
         Err(BENT),
     ),
-    (&[], Ok(())),
+    ("none", &[], Ok(())),
 ];
 
 /// Whether that is told of the facets.
@@ -246,8 +249,8 @@ fn is_told(
 
 #[test]
 fn the_first_facet_that_is_bent_is_told(rt: HostRuntime) -> Result<(), Fail> {
-    for (polygons, told) in &FLATNESS {
-        assert!(rt; is_told(rt.alloc(), polygons, *told)?);
+    for (name, polygons, told) in &FLATNESS {
+        assert!(rt; is_told(rt.alloc(), polygons, *told)?, "{name}");
     }
     Ok(())
 }

@@ -156,23 +156,46 @@ fn is_admissible(alloc: Global, corners: [u32; 4]) -> Result<Option<bool>, NoMem
 }
 
 /// Points, the facets on them, and where they end.
-static SAMPLES: [(Set, &[[u32; 3]], End); 5] = [
+struct Sample {
+    name: &'static str,
+    points: Set,
+    facets: &'static [[u32; 3]],
+    end: End,
+}
+
+static SAMPLES: [Sample; 5] = [
     // Each plate parts the tetrahedra, and a prism between two plates has three.
-    (TWO_PLATES, &[[0, 1, 2], [3, 4, 5]], End::Filled(5)),
-    (
-        THREE_PLATES,
-        &[[0, 1, 2], [3, 4, 5], [6, 7, 8]],
-        End::Filled(8),
-    ),
-    // One plate, with the corners of the other as further points.
-    (TWO_PLATES, &[[0, 1, 2]], End::Filled(8)),
+    Sample {
+        name: "two plates",
+        points: TWO_PLATES,
+        facets: &[[0, 1, 2], [3, 4, 5]],
+        end: End::Filled(5),
+    },
+    Sample {
+        name: "three plates",
+        points: THREE_PLATES,
+        facets: &[[0, 1, 2], [3, 4, 5], [6, 7, 8]],
+        end: End::Filled(8),
+    },
+    Sample {
+        name: "one plate, with the corners of the other as further points",
+        points: TWO_PLATES,
+        facets: &[[0, 1, 2]],
+        end: End::Filled(8),
+    },
     // The admissible ones of all fours of points, counted one by one; 64 before.
-    (PLATES_IN_CLOUD, &[[0, 1, 2], [3, 4, 5]], End::Filled(61)),
+    Sample {
+        name: "plates in a cloud",
+        points: PLATES_IN_CLOUD,
+        facets: &[[0, 1, 2], [3, 4, 5]],
+        end: End::Filled(61),
+    },
     // The twisted prism can't be cut into tetrahedra (Schoenhardt, 1928): the flips come to no list
     // that is accepted, and the growth tells an anomaly.
-    (
-        TWISTED_PRISM,
-        &[
+    Sample {
+        name: "twisted prism",
+        points: TWISTED_PRISM,
+        facets: &[
             [0, 1, 2],
             [3, 4, 5],
             [0, 1, 4],
@@ -182,45 +205,44 @@ static SAMPLES: [(Set, &[[u32; 3]], End); 5] = [
             [0, 2, 3],
             [2, 3, 5],
         ],
-        End::Refused,
-    ),
+        end: End::Refused,
+    },
 ];
 
 /// Whether the points with these facets end so.
-fn ends(alloc: Global, set: &[&[[i8; 3]]], corners: &[[u32; 3]], want: End) -> bool {
-    match end_of(alloc, set, corners) {
-        Ok(end) => end == want,
+fn ends(alloc: Global, sample: &Sample) -> bool {
+    match end_of(alloc, sample.points, sample.facets) {
+        Ok(end) => end == sample.end,
         Err(_) => false,
     }
 }
 
 #[test]
 fn tangled_samples(rt: HostRuntime) {
-    for (set, corners, want) in &SAMPLES {
-        assert!(rt; ends(rt.alloc(), set, corners, *want));
+    for sample in &SAMPLES {
+        assert!(rt; ends(rt.alloc(), sample), "{}", sample.name);
     }
 }
 
 /// Tetrahedra of the two plates, and whether they are admissible.
-static ROWS: [([u32; 4], bool); 8] = [
-    // The five of the mesh.
-    ([0, 1, 2, 3], true),
-    ([0, 1, 7, 2], true),
-    ([1, 2, 3, 4], true),
-    ([2, 3, 4, 5], true),
-    ([3, 4, 5, 6], true),
-    // A facet crosses it.
-    ([0, 1, 7, 6], false),
-    // It is not in the least even arrangement.
-    ([1, 2, 0, 3], false),
-    // It is not positive.
-    ([0, 1, 3, 2], false),
+static ROWS: [(&str, [u32; 4], bool); 8] = [
+    ("the first of the prism", [0, 1, 2, 3], true),
+    ("below", [0, 1, 7, 2], true),
+    ("the second", [1, 2, 3, 4], true),
+    ("the third", [2, 3, 4, 5], true),
+    ("above", [3, 4, 5, 6], true),
+    ("a facet crosses it", [0, 1, 7, 6], false),
+    ("not in the least even arrangement", [1, 2, 0, 3], false),
+    ("not positive", [0, 1, 3, 2], false),
 ];
 
 #[test]
 fn admissible_on_two_plates(rt: HostRuntime) {
-    for (row, want) in &ROWS {
-        assert!(rt; is_admissible(rt.alloc(), *row) == Ok(Some(*want)));
+    for (name, row, want) in &ROWS {
+        assert!(rt;
+            is_admissible(rt.alloc(), *row) == Ok(Some(*want)),
+            "{name}"
+        );
     }
 }
 
@@ -236,22 +258,63 @@ const SECOND: [u32; 4] = [1, 2, 3, 4];
 const THIRD: [u32; 4] = [2, 3, 4, 5];
 
 /// Lists, and whether they are accepted for the two plates.
-const CANDIDATES: &[(&[[u32; 4]], bool)] = &[
-    // Neither the order matters nor one that stands twice.
-    (&[ABOVE, FIRST, THIRD, BELOW, SECOND, FIRST], true),
-    // None, and one left out at the end and in the middle.
-    (&[], false),
-    (&[FIRST, BELOW, SECOND, THIRD], false),
-    (&[FIRST, BELOW, THIRD, ABOVE], false),
-    // Two that overlap.
-    (&[FIRST, BELOW, SECOND, THIRD, ABOVE, [0, 1, 7, 6]], false),
-    // Turned over, in another arrangement, on no point, with another corner.
-    (&[FIRST, BELOW, SECOND, THIRD, [3, 4, 6, 5]], false),
-    (&[FIRST, BELOW, SECOND, THIRD, [4, 5, 3, 6]], false),
-    (&[FIRST, BELOW, SECOND, THIRD, [3, 4, 5, 8]], false),
-    (&[FIRST, BELOW, SECOND, THIRD, [3, 4, 5, 7]], false),
-    // The prism cut another way.
-    (&[[0, 1, 2, 4], BELOW, [0, 2, 3, 4], THIRD, ABOVE], false),
+struct Candidate {
+    name: &'static str,
+    rows: &'static [[u32; 4]],
+    is_accepted: bool,
+}
+
+static CANDIDATES: [Candidate; 10] = [
+    Candidate {
+        name: "in another order, and one that stands twice",
+        rows: &[ABOVE, FIRST, THIRD, BELOW, SECOND, FIRST],
+        is_accepted: true,
+    },
+    Candidate {
+        name: "none",
+        rows: &[],
+        is_accepted: false,
+    },
+    Candidate {
+        name: "one left out at the end",
+        rows: &[FIRST, BELOW, SECOND, THIRD],
+        is_accepted: false,
+    },
+    Candidate {
+        name: "one left out in the middle",
+        rows: &[FIRST, BELOW, THIRD, ABOVE],
+        is_accepted: false,
+    },
+    Candidate {
+        name: "two that overlap",
+        rows: &[FIRST, BELOW, SECOND, THIRD, ABOVE, [0, 1, 7, 6]],
+        is_accepted: false,
+    },
+    Candidate {
+        name: "turned over",
+        rows: &[FIRST, BELOW, SECOND, THIRD, [3, 4, 6, 5]],
+        is_accepted: false,
+    },
+    Candidate {
+        name: "in another arrangement",
+        rows: &[FIRST, BELOW, SECOND, THIRD, [4, 5, 3, 6]],
+        is_accepted: false,
+    },
+    Candidate {
+        name: "on no point",
+        rows: &[FIRST, BELOW, SECOND, THIRD, [3, 4, 5, 8]],
+        is_accepted: false,
+    },
+    Candidate {
+        name: "with another corner",
+        rows: &[FIRST, BELOW, SECOND, THIRD, [3, 4, 5, 7]],
+        is_accepted: false,
+    },
+    Candidate {
+        name: "the prism cut another way",
+        rows: &[[0, 1, 2, 4], BELOW, [0, 2, 3, 4], THIRD, ABOVE],
+        is_accepted: false,
+    },
 ];
 
 /// Whether the list is accepted for the two plates; None where it may not be asked.
@@ -274,9 +337,14 @@ fn is_accepted(alloc: Global, rows: &[[u32; 4]]) -> Result<Option<bool>, NoMemor
     Ok(Some(found.is_some()))
 }
 
+/// Whether that is told of the list.
+fn is_told(alloc: Global, candidate: &Candidate) -> bool {
+    is_accepted(alloc, candidate.rows) == Ok(Some(candidate.is_accepted))
+}
+
 #[test]
 fn candidates_on_two_plates(rt: HostRuntime) {
-    for (rows, want) in CANDIDATES {
-        assert!(rt; is_accepted(rt.alloc(), rows) == Ok(Some(*want)));
+    for candidate in &CANDIDATES {
+        assert!(rt; is_told(rt.alloc(), candidate), "{}", candidate.name);
     }
 }

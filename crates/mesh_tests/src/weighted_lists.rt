@@ -136,21 +136,25 @@ fn why_not(alloc: Global, text: &[u8]) -> Option<Refusal> {
     }
 }
 
-static REFUSALS: [(&[u8], Refusal); 4] = [
+/// Point lists, and why they have no mesh.
+static REFUSALS: [(&str, &[u8], Refusal); 4] = [
     (
+        "a word",
         b"5 3 1\n0 0 0 0 0\n1 4 0 0 x\n2 0 4 0 y\n3 0 0 4 0\n4 1 1 1 9e30\n",
         Refusal::Word(3),
     ),
     (
+        "off the grid",
         b"4 3 1\n0 0 0 0 4194304\n1 4 0 0 -4194305\n2 0 4 0 x\n3 0 0 4 0\n",
         Refusal::Heavy(3),
     ),
     (
+        "points of a plane",
         b"4 3 1\n0 0 0 0 4194304\n1 4 0 0 0\n2 0 4 0 0\n3 1 1 0 -4194304\n",
         Refusal::Flat,
     ),
-    // Of a folded point.
     (
+        "a word of a folded point",
         b"5 3 1\n0 0 0 0 0\n1 4 0 0 0\n2 0 4 0 0\n3 0 0 4 0\n4 0 0 0 x\n",
         Refusal::Word(6),
     ),
@@ -158,7 +162,7 @@ static REFUSALS: [(&[u8], Refusal); 4] = [
 
 #[test]
 fn bad_weights(rt: HostRuntime) {
-    for (text, want) in &REFUSALS {
-        assert!(rt; why_not(rt.alloc(), text) == Some(*want));
+    for (name, text, want) in &REFUSALS {
+        assert!(rt; why_not(rt.alloc(), text) == Some(*want), "{name}");
     }
 }
