@@ -5,7 +5,7 @@ use std::alloc::Global;
 use tet_ports::{Name, NoMemory, Words};
 
 /// These words as the program gets them.
-fn words_of(alloc: Global, words: &[&[u8]]) -> Result<Words, NoMemory> {
+pub(crate) fn words_of(alloc: Global, words: &[&[u8]]) -> Result<Words, NoMemory> {
     let mut named = Words::new(alloc);
     for word in words {
         named.push(Name::from_slice(alloc, word)?)?;

@@ -1,20 +1,12 @@
 //! Words of the program for models as they are found.
 
+use crate::command_line::words_of;
 use command_words::WordsFault;
 use fit_words::{
     PAGE, Request, VERSION, asks_stages, other_words, read_options, refused_line, request_of,
 };
 use std::alloc::Global;
-use tet_ports::{Bytes, Name, NoMemory, Words};
-
-/// These words as the program gets them.
-fn words_of(alloc: Global, words: &[&[u8]]) -> Result<Words, NoMemory> {
-    let mut named = Words::new(alloc);
-    for word in words {
-        named.push(Name::from_slice(alloc, word)?)?;
-    }
-    Ok(named)
-}
+use tet_ports::{Bytes, NoMemory};
 
 static REQUESTS: [(&[&[u8]], Request); 3] = [
     (&[b"-p", b"--help"], Request::Page),
