@@ -1,6 +1,6 @@
 //! Points with weights, and whether one of them is outside of a row.
 ghost use Rattle.std.specs.Prelude.{◌≡◌, ◌<◌, All, length};
-ghost use Rattle.geo_laws.specs.Delaunay.{point, as_numbers};
+ghost use Rattle.geo_laws.specs.Delaunay.{point};
 ghost use Rattle.point_locate.specs.Place.{AreOn, row_corners};
 ghost use Rattle.regular_laws.specs.Regular.{weight, corner_weights, is_weighted_outside};
 ghost use Rattle.regular_laws.specs.Regular.{AreWeightsOf, weighted_lift};
@@ -8,10 +8,10 @@ ghost use Rattle.sign_predicates.specs.Weighted.{IsWeight, AreWeights};
 ghost use Rattle.weighted_mesh.specs.Sites.{weighted};
 
 use cavity_insert::Lift;
-use geo_laws::{Points, Tet};
+use geo_laws::{Points, Tet, numbers_of};
 use point_locate::row_points;
 use regular_laws::Weights;
-use sign_predicates::{FourWeights, GridPoint, Numbers, outside_weighted};
+use sign_predicates::{FourWeights, GridPoint, outside_weighted};
 use std::marker::Model;
 
 /// A list of points, and a weight for each: a point is lifted by its squared length less its
@@ -72,18 +72,6 @@ fn weight_at(weights: &Weights, i: u32) -> i64
     ensures small { IsWeight result }
 {
     weights.at(i as usize)
-}
-
-/// The numbers of a row's corners.
-fn numbers_of(row: Tet) -> Numbers
-    ensures { result ≡ as_numbers row }
-{
-    Numbers {
-        a: row.a,
-        b: row.b,
-        c: row.c,
-        d: row.d,
-    }
 }
 
 /// The weights of a row's corners.
