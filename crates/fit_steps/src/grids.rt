@@ -2,35 +2,22 @@
 
 ghost use Rattle.std.specs.Prelude.{◌≡◌, ◌≤◌, ◌<◌, min, map, IsTrue};
 ghost use Rattle.std.specs.List.{list_any};
-ghost use Rattle.grid_coords.specs.Choice.{decimals_of, is_over, most_decimals, size_of};
-ghost use Rattle.grid_coords.specs.Units.{limit, if_at_most};
+ghost use Rattle.grid_coords.specs.Choice.{is_over, most_decimals};
 ghost use Rattle.node_files.specs.Settling.{rounded_point};
 ghost use Rattle.fit_steps.specs.Grids.{AreOffBetween, IsOffRounded};
 
-use grid_coords::{DecimalPoint, round_to, units_within};
+use grid_coords::{DecimalPoint, decimals_of, most_decimals, size_of};
+use node_files::rounded_point;
 
 /// The most decimals to which coordinates are rounded.
 const MOST: u32 = 20;
-
-/// The greatest size of a grid coordinate, 2^23.
-const LIMIT: u64 = 8_388_608;
-
-fn decimals_of(p: &DecimalPoint) -> u32
-    ensures { result ≡ decimals_of p.now }
-{
-    p.x.scale.max(p.y.scale.max(p.z.scale))
-}
 
 /// The first number of decimals that is tried: the most that a coordinate has, or 20 where one has
 /// more.
 pub(crate) fn most_tried(points: &[DecimalPoint]) -> u32
     ensures { result ≡ min 20 (most_decimals points.now) }
 {
-    let mut most = 0;
-    for p in points {
-        most = decimals_of(p).max(most);
-    }
-    MOST.min(most)
+    MOST.min(most_decimals(points))
 }
 
 /// The next number of decimals that is tried after a refusal at this one: the greatest that is
@@ -64,17 +51,6 @@ fn has_over(finest: u32, decimals: u32, points: &[DecimalPoint]) -> bool
         .any(|p| is_over(finest, &rounded_point(decimals, p)))
 }
 
-fn rounded_point(decimals: u32, p: &DecimalPoint) -> DecimalPoint
-    ensures { result ≡ rounded_point decimals p.now }
-{
-    DecimalPoint {
-        x: round_to(&p.x, decimals),
-        y: round_to(&p.y, decimals),
-        z: round_to(&p.z, decimals),
-        line: p.line,
-    }
-}
-
 /// The most decimals of the points once they are rounded to so many; as many as that are the most,
 /// where a coordinate has them.
 fn rounded_decimals(points: &[DecimalPoint], decimals: u32) -> u32
@@ -88,17 +64,6 @@ fn rounded_decimals(points: &[DecimalPoint], decimals: u32) -> u32
         }
     }
     most
-}
-
-/// The greatest size of the point's coordinates, or None where that is over 2^23 units.
-fn size_of(decimals: u32, p: &DecimalPoint) -> Option<u64>
-    ensures { result ≡ if_at_most limit (size_of decimals p.now) }
-{
-    let decimals = u64::from(decimals);
-    let x = units_within(&p.x, decimals, 0, LIMIT)?;
-    let y = units_within(&p.y, decimals, 0, LIMIT)?;
-    let z = units_within(&p.z, decimals, 0, LIMIT)?;
-    Some(x.max(y.max(z)))
 }
 
 /// Whether a coordinate of the point is over 2^23 units in size.
