@@ -1,13 +1,10 @@
 //! The tetrahedra of an `.ele` file.
 
-ghost use Rattle.std.specs.Prelude.{◌≡◌, ◌<◌, ◌-◌, ◌+◌, ◌^◌, length, All, IfOk};
+ghost use Rattle.std.specs.Prelude.{◌<◌, ◌-◌, ◌+◌, ◌^◌, length, All, IfOk};
 ghost use Rattle.tet_text.specs.Lines.{content_lines, line_count_of};
-ghost use Rattle.tet_text.specs.Reading.{left_after};
 ghost use Rattle.tet_text.specs.Views.{content_left, line_total};
 ghost use Rattle.mesh_files.specs.Outcome.{MeshGives};
-ghost use Rattle.mesh_files.specs.Repeated.{next_row};
 ghost use Rattle.mesh_files.specs.ReadRows.{tet_row, tets_of, ele_of, AreCornersBelow};
-ghost use Rattle.tet_text.specs.Repeated.{so_many};
 
 use crate::MeshFault;
 use crate::field_reading::{Listed, pass_over, read_corner, read_four_head, read_number};

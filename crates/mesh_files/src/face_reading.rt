@@ -5,9 +5,7 @@ ghost use Rattle.tet_text.specs.Lines.{content_lines, line_count_of};
 ghost use Rattle.tet_text.specs.Reading.{left_after};
 ghost use Rattle.tet_text.specs.Views.{content_left, line_total};
 ghost use Rattle.mesh_files.specs.Outcome.{MeshGives};
-ghost use Rattle.mesh_files.specs.Repeated.{next_row};
 ghost use Rattle.mesh_files.specs.ReadRows.{marker_field, face_row, face_rows_of, face_list_of, IsFaceBelow};
-ghost use Rattle.tet_text.specs.Repeated.{so_many};
 
 use crate::field_reading::{Listed, read_corner, read_flag_head, read_number};
 use crate::rows::{Row, read_rows};

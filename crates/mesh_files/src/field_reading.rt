@@ -1,6 +1,6 @@
 //! The fields of rows.
 
-ghost use Rattle.std.specs.Prelude.{◌≡◌, ◌<◌, ◌≤◌, ◌+◌, ◌-◌, ◌^◌, drop, IfOk};
+ghost use Rattle.std.specs.Prelude.{◌≡◌, ◌<◌, ◌+◌, ◌-◌, ◌^◌, IfOk};
 ghost use Rattle.tet_text.specs.Reading.{left_after};
 ghost use Rattle.mesh_files.specs.ReadFields.{is_listed, flag_at, numbered, corner_place_at, passed_over, four_head, flag_head};
 
