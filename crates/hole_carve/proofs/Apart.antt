@@ -1,7 +1,7 @@
 -- A point that is on one side of all four corners along an axis is not in the closed tetrahedron.
-use Rattle.std.proofs.Common.{◌≡◌, ◌⊎◌, inl, inr, ℕ, ℤ, pos, neg_ℤ, ◌+ℤ◌, ◌-ℤ◌, ◌*ℤ◌, ◌<ℤ◌, ◌≤ℤ◌, List, [], ◌∷◌, refl, sym, subst, ◌∙◌, arith}
+use Rattle.std.proofs.Common.{◌≡◌, ◌⊎◌, inl, inr, ℕ, ℤ, pos, neg_ℤ, ◌+ℤ◌, ◌-ℤ◌, ◌*ℤ◌, ◌<ℤ◌, ◌≤ℤ◌, List, [], ◌∷◌, sym, subst, arith}
 use Rattle.std.proofs.lemmas.Int.{ints}
-use Rattle.exact_algebra.proofs.Ring.{Expr, var, num, neg, ring, same}
+use Rattle.exact_algebra.proofs.Ring.{var, num, neg, ring, same}
 use Rattle.exact_algebra.proofs.Ring.{◌⊕◌, ◌⊖◌, ◌⊗◌}
 use Rattle.sign_predicates.specs.Point.{Point, RationalPoint, as_rational}
 use Rattle.sign_predicates.specs.Orientation.{IsPositive, InClosed}

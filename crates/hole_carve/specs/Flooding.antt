@@ -1,5 +1,5 @@
 -- A flood over rows by their places in a list; the place past the last row is for what lies beyond the hull.
-use Rattle.std.specs.Prelude.{◌≡◌, ◌≢◌, ℕ, ◌+◌, ◌<◌, ◌≤◌, ◌==◌, Bool, true, false, if◌then◌else◌, Option, Some, None, List, length, slice_index_or, Contains}
+use Rattle.std.specs.Prelude.{◌≡◌, ◌≢◌, ℕ, ◌+◌, ◌<◌, ◌≤◌, ◌==◌, Bool, true, if◌then◌else◌, Option, Some, List, length, slice_index_or, Contains}
 use Rattle.incidence.specs.declared.pairs.Across.{Across}
 use Rattle.incidence.specs.Pairs.{across_at}
 use Rattle.geo_laws.specs.Marks.{is_marked}

@@ -1,4 +1,4 @@
-use Rattle.std.proofs.Common.{◌≡◌, ◌*ℤ◌, ◌∙◌, w32, w64, ℤ, to_z, of_z, to_z-of_z}
+use Rattle.std.proofs.Common.{◌*ℤ◌, ◌∙◌, w64, to_z-of_z}
 use Rattle.exact_algebra.proofs.Size.{read}
 use Rattle.hole_carve.proofs.Apart.{apart_same}
 use Rattle.hole_carve.proofs.boxes.are_apart_over.Goals as goal

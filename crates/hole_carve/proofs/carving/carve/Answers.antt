@@ -2,7 +2,6 @@ use Rattle.path_laws.specs.Places.{IsKeptPart}
 use Rattle.path_laws.specs.Flood.{carving_of}
 use Rattle.hole_carve.specs.Kept.{unmarked}
 use Rattle.std.proofs.Common.{refl, sym, subst}
-use Rattle.hole_carve.specs.Flooding.{LeadsWithin}
 use Rattle.hole_carve.proofs.FacetFaces.{closes_are}
 use Rattle.hole_carve.specs.Ways.{AreWays}
 use Rattle.hole_carve.proofs.Steps.{are_ways}

@@ -1,5 +1,4 @@
 use Rattle.std.proofs.Common.{refl, sym, subst}
-use Rattle.hole_carve.specs.Flooding.{LeadsWithin}
 use Rattle.hole_carve.proofs.FacetFaces.{closes_are}
 use Rattle.hole_carve.specs.Ways.{AreWays}
 use Rattle.hole_carve.proofs.Steps.{are_ways}

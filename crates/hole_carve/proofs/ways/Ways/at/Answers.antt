@@ -3,7 +3,7 @@ use Rattle.std.specs.Prelude.{slice_index_or}
 use Rattle.incidence.specs.declared.pairs.Across.{Across}
 use Rattle.incidence.specs.Pairs.{across_of, across_at}
 use Rattle.hole_carve.specs.Ways.{ways_through}
-use Rattle.hole_carve.proofs.Steps.{pairs_at, pairs-length, ways-length, ways_at}
+use Rattle.hole_carve.proofs.Steps.{pairs_at, ways-length, ways_at}
 use Rattle.hole_carve.proofs.ways.Ways.at.Goals as goal
 use Rattle.geo_laws.specs.Delaunay.{row_at}
 
