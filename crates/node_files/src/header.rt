@@ -20,8 +20,8 @@ fn is_within(least: u64, most: u64, count: u64) -> bool
     least <= count && count <= most
 }
 
-/// The next field as a count from `least` to `most`. NotANumber where it is no count, BadCount where
-/// it is none of these. The field is passed over, also if it is refused.
+/// The next field as a count from `least` to `most`. NotANumber where it is no count, BadCount
+/// where it is none of these. The field is passed over, also if it is refused.
 #[tactic(auto, unfolding(crate::specs::Header::count_within))]
 pub fn count_within(least: u64, most: u64, fields: &mut Fields) -> Result<u64, TextFault>
     ensures value { left_after (λ n. n) result fields.new.fields
