@@ -1,4 +1,4 @@
-use Rattle.std.proofs.Common.{◌≡◌, List, sym, subst, ◌∙◌}
+use Rattle.std.proofs.Common.{sym, subst, ◌∙◌}
 use Rattle.point_locate.specs.Place.{AreOn, row_corners}
 use Rattle.regular_laws.specs.Regular.{is_weighted_outside}
 use Rattle.weighted_mesh.specs.Sites.{Weighted}
