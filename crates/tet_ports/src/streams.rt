@@ -68,6 +68,14 @@ fn read_blocks<R: Read>(
     Err(FetchFault::TooLarge { taken: text })
 }
 
+/// A fault of a read or a write, but that a signal interrupts it.
+fn unless_interrupted(fault: io::Error) -> io::Result<()> {
+    if fault.kind() == io::ErrorKind::Interrupted {
+        return Ok(());
+    }
+    Err(fault)
+}
+
 /// One read, tried again where a signal interrupts it.
 fn read_some<R: Read>(reader: &mut R, buf: &mut [u8]) -> io::Result<usize>
     ensures bound { ReadsAtMost result buf.new }
@@ -78,11 +86,7 @@ fn read_some<R: Read>(reader: &mut R, buf: &mut [u8]) -> io::Result<usize>
     for _ in 0..u64::MAX {
         match reader.read(buf) {
             Ok(count) => return Ok(count),
-            Err(fault) => {
-                if fault.kind() != io::ErrorKind::Interrupted {
-                    return Err(fault);
-                }
-            }
+            Err(fault) => unless_interrupted(fault)?,
         }
     }
     Err(io::Error::from(io::ErrorKind::Interrupted))
@@ -118,11 +122,7 @@ fn write_some<W: Write>(writer: &mut W, bytes: &[u8]) -> io::Result<usize>
     for _ in 0..u64::MAX {
         match writer.write(bytes) {
             Ok(count) => return Ok(count),
-            Err(fault) => {
-                if fault.kind() != io::ErrorKind::Interrupted {
-                    return Err(fault);
-                }
-            }
+            Err(fault) => unless_interrupted(fault)?,
         }
     }
     Err(io::Error::from(io::ErrorKind::Interrupted))
