@@ -63,14 +63,14 @@ abbrev pub IsSpot : Triangle → Spot → Type 0
 IsSpot f spot = IsTrue spot.above ↔ pos 0 <ℤ side f spot.at
 
 -- so of the four corners of a tetrahedron
-pub record AreSpots (f : Triangle) (spots : Spots) : Type 0 where
+pub record AreSpotsOver (f : Triangle) (spots : Spots) : Type 0 where
   pub a_spot : IsSpot f spots.a
   pub b_spot : IsSpot f spots.b
   pub c_spot : IsSpot f spots.c
   pub d_spot : IsSpot f spots.d
 
-abbrev pub corners_at : Spots → Corners
-corners_at spots = record { a = spots.a.at; b = spots.b.at; c = spots.c.at; d = spots.d.at }
+abbrev pub spot_corners : Spots → Corners
+spot_corners spots = record { a = spots.a.at; b = spots.b.at; c = spots.c.at; d = spots.d.at }
 
 -- where p is strictly above the triangle's plane and q isn't, the leg between them meets the plane within the triangle
 abbrev pub CrossesWithin : Triangle → Point → Point → Type 0

@@ -19,8 +19,8 @@ InTriangle f x = (i j k : ℕ) × IsMeanOf f i j k x
 abbrev pub triangle_of : Point → Point → Point → Triangle
 triangle_of a b c = record { a = a; b = b; c = c }
 
-abbrev pub as_triangle : GridTriangle → Triangle
-as_triangle f = triangle_of f.a f.b f.c
+abbrev pub grid_triangle : GridTriangle → Triangle
+grid_triangle f = triangle_of f.a f.b f.c
 
 -- the closed segment is the triangle with its second end twice
 abbrev pub segment : Point → Point → Triangle

@@ -1,6 +1,6 @@
 //! Triangles whose boxes are apart, a cheap test before the exact ones.
 ghost use Rattle.std.specs.Prelude.{IsTrue, ◌⊎◌};
-ghost use Rattle.sign_predicates.specs.Meeting.{as_triangle, TrianglesMeet};
+ghost use Rattle.sign_predicates.specs.Meeting.{grid_triangle, TrianglesMeet};
 ghost use Rattle.sign_predicates.specs.Turns.{AllBelow};
 
 use crate::triangle::GridTriangle;
@@ -25,7 +25,7 @@ fn apart_along(a: i32, b: i32, c: i32, d: i32, e: i32, f: i32) -> bool
 /// both.
 #[inline]
 pub(crate) fn boxes_apart(f: &GridTriangle, g: &GridTriangle) -> bool
-    ensures { IsTrue result → ¬ TrianglesMeet (as_triangle f.now) (as_triangle g.now) }
+    ensures { IsTrue result → ¬ TrianglesMeet (grid_triangle f.now) (grid_triangle g.now) }
 {
     if apart_along(f.a.x, f.b.x, f.c.x, g.a.x, g.b.x, g.c.x) {
         return true;

@@ -1,9 +1,9 @@
 //! Whether a triangle enters the inside of a tetrahedron. All sums are orientations.
 ghost use Rattle.std.specs.Prelude.{◌≡◌, ◌⊎◌, pos, ◌<ℤ◌, ◌≤ℤ◌, IsTrue, ◌↔◌, None, IfSome};
 ghost use Rattle.sign_predicates.specs.Orientation.{orient, IsPositive, SpansPlane, side};
-ghost use Rattle.sign_predicates.specs.Meeting.{triangle_of, as_triangle, segment, TriangleEnters};
+ghost use Rattle.sign_predicates.specs.Meeting.{triangle_of, grid_triangle, segment, TriangleEnters};
 ghost use Rattle.sign_predicates.specs.Turns.{PassesWithin};
-ghost use Rattle.sign_predicates.specs.Entering.{AreLows, AreFaceLows, AreTriangleLows, FacesOpen, PassesFace, EdgesOpen, SideEnters, CrossesWithin, CrossesFrom, SectionWithin, Straddles, SomeAbove, SomeBelow, IsSpot, AreSpots, corners_at};
+ghost use Rattle.sign_predicates.specs.Entering.{AreLows, AreFaceLows, AreTriangleLows, FacesOpen, PassesFace, EdgesOpen, SideEnters, CrossesWithin, CrossesFrom, SectionWithin, Straddles, SomeAbove, SomeBelow, IsSpot, AreSpotsOver, spot_corners};
 
 use crate::meeting::passes_within;
 use crate::orientation::orient_sum;
@@ -46,7 +46,7 @@ struct FaceLows {
 /// So for the triangle `f` and the face from `u` to `v` and `w`.
 #[inline]
 fn face_lows(u: GridPoint, v: GridPoint, w: GridPoint, f: &GridTriangle) -> FaceLows
-    ensures { AreFaceLows (triangle_of u v w) (as_triangle f.now) result }
+    ensures { AreFaceLows (triangle_of u v w) (grid_triangle f.now) result }
 {
     FaceLows {
         a: is_low(u, v, w, f.a),
@@ -75,8 +75,8 @@ struct TriangleLows {
 /// side: then the triangle does not enter. The first such face ends the search.
 #[inline]
 fn triangle_lows(t: &Corners, f: &GridTriangle) -> Option<TriangleLows>
-    ensures some { IfSome result (AreTriangleLows t.now (as_triangle f.now)) }
-    ensures none { result ≡ None → ¬ TriangleEnters t.now (as_triangle f.now) }
+    ensures some { IfSome result (AreTriangleLows t.now (grid_triangle f.now)) }
+    ensures none { result ≡ None → ¬ TriangleEnters t.now (grid_triangle f.now) }
 {
     let at_a = face_lows(t.b, t.d, t.c, f);
     if is_beyond(at_a) {
@@ -193,8 +193,8 @@ fn leg_enters(t: &Corners, p: GridPoint, q: GridPoint, lp: Lows, lq: Lows) -> bo
 /// Whether a side of the triangle has a point strictly inside.
 fn side_enters(t: &Corners, f: &GridTriangle, lows: TriangleLows) -> bool
     requires positive { IsPositive t.now }
-    requires lows_are { AreTriangleLows t.now (as_triangle f.now) lows }
-    ensures { IsTrue result ↔ SideEnters t.now (as_triangle f.now) }
+    requires lows_are { AreTriangleLows t.now (grid_triangle f.now) lows }
+    ensures { IsTrue result ↔ SideEnters t.now (grid_triangle f.now) }
 {
     if leg_enters(t, f.a, f.b, lows.a, lows.b) {
         true
@@ -225,7 +225,7 @@ struct Spots {
 fn find_spot(f: &GridTriangle, p: GridPoint, side: i128) -> Spot
     requires { side ≡ orient f.now.a f.now.b f.now.c p }
     ensures at { result.at ≡ p }
-    ensures spot { IsSpot (as_triangle f.now) result }
+    ensures spot { IsSpot (grid_triangle f.now) result }
 {
     Spot {
         at: p,
@@ -236,9 +236,9 @@ fn find_spot(f: &GridTriangle, p: GridPoint, side: i128) -> Spot
 /// Whether the edge from `p` to `q` meets the plane within the triangle, where `p` is strictly
 /// above the plane and `q` isn't.
 fn crosses_within(p: &Spot, q: &Spot, f: &GridTriangle) -> bool
-    requires p_is { IsSpot (as_triangle f.now) p.now }
-    requires q_is { IsSpot (as_triangle f.now) q.now }
-    ensures { IsTrue result ↔ CrossesWithin (as_triangle f.now) p.now.at q.now.at }
+    requires p_is { IsSpot (grid_triangle f.now) p.now }
+    requires q_is { IsSpot (grid_triangle f.now) q.now }
+    ensures { IsTrue result ↔ CrossesWithin (grid_triangle f.now) p.now.at q.now.at }
 {
     if p.above && !q.above {
         passes_within(p.at, q.at, f)
@@ -249,19 +249,19 @@ fn crosses_within(p: &Spot, q: &Spot, f: &GridTriangle) -> bool
 
 /// So for the three edges from `p`.
 fn crosses_from(p: &Spot, q: &Spot, r: &Spot, s: &Spot, f: &GridTriangle) -> bool
-    requires p_is { IsSpot (as_triangle f.now) p.now }
-    requires q_is { IsSpot (as_triangle f.now) q.now }
-    requires r_is { IsSpot (as_triangle f.now) r.now }
-    requires s_is { IsSpot (as_triangle f.now) s.now }
-    ensures { IsTrue result ↔ CrossesFrom (as_triangle f.now) p.now.at q.now.at r.now.at s.now.at }
+    requires p_is { IsSpot (grid_triangle f.now) p.now }
+    requires q_is { IsSpot (grid_triangle f.now) q.now }
+    requires r_is { IsSpot (grid_triangle f.now) r.now }
+    requires s_is { IsSpot (grid_triangle f.now) s.now }
+    ensures { IsTrue result ↔ CrossesFrom (grid_triangle f.now) p.now.at q.now.at r.now.at s.now.at }
 {
     crosses_within(p, q, f) && crosses_within(p, r, f) && crosses_within(p, s, f)
 }
 
 /// Whether the plane cuts the tetrahedron within the triangle.
 fn section_within(spots: &Spots, f: &GridTriangle) -> bool
-    requires { AreSpots (as_triangle f.now) spots.now }
-    ensures { IsTrue result ↔ SectionWithin (corners_at spots.now) (as_triangle f.now) }
+    requires { AreSpotsOver (grid_triangle f.now) spots.now }
+    ensures { IsTrue result ↔ SectionWithin (spot_corners spots.now) (grid_triangle f.now) }
 {
     let Spots { a, b, c, d } = spots;
     crosses_from(a, b, c, d, f)
@@ -295,11 +295,11 @@ fn has_both_signs(a: i128, b: i128, c: i128, d: i128) -> bool
 /// `triangle_enters`, where the plane has corners strictly on both sides.
 fn enters_across(t: &Corners, f: &GridTriangle, spots: &Spots) -> bool
     requires positive { IsPositive t.now }
-    requires spots_are { AreSpots (as_triangle f.now) spots.now }
-    requires spans { SpansPlane (as_triangle f.now) }
-    requires straddles { Straddles t.now (as_triangle f.now) }
-    requires corners { t.now ≡ corners_at spots.now }
-    ensures { IsTrue result ↔ TriangleEnters t.now (as_triangle f.now) }
+    requires spots_are { AreSpotsOver (grid_triangle f.now) spots.now }
+    requires spans { SpansPlane (grid_triangle f.now) }
+    requires straddles { Straddles t.now (grid_triangle f.now) }
+    requires corners { t.now ≡ spot_corners spots.now }
+    ensures { IsTrue result ↔ TriangleEnters t.now (grid_triangle f.now) }
 {
     match triangle_lows(t, f) {
         Some(lows) => side_enters(t, f, lows) || section_within(spots, f),
@@ -311,12 +311,12 @@ fn enters_across(t: &Corners, f: &GridTriangle, spots: &Spots) -> bool
 /// corners lie.
 fn enters_at(t: &Corners, f: &GridTriangle, sa: i128, sb: i128, sc: i128, sd: i128) -> bool
     requires positive { IsPositive t.now }
-    requires spans { SpansPlane (as_triangle f.now) }
-    requires sa_is { sa ≡ side (as_triangle f.now) t.now.a }
-    requires sb_is { sb ≡ side (as_triangle f.now) t.now.b }
-    requires sc_is { sc ≡ side (as_triangle f.now) t.now.c }
-    requires sd_is { sd ≡ side (as_triangle f.now) t.now.d }
-    ensures { IsTrue result ↔ TriangleEnters t.now (as_triangle f.now) }
+    requires spans { SpansPlane (grid_triangle f.now) }
+    requires sa_is { sa ≡ side (grid_triangle f.now) t.now.a }
+    requires sb_is { sb ≡ side (grid_triangle f.now) t.now.b }
+    requires sc_is { sc ≡ side (grid_triangle f.now) t.now.c }
+    requires sd_is { sd ≡ side (grid_triangle f.now) t.now.d }
+    ensures { IsTrue result ↔ TriangleEnters t.now (grid_triangle f.now) }
 {
     if has_both_signs(sa, sb, sc, sd) {
         let a = find_spot(f, t.a, sa);

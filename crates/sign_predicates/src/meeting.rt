@@ -2,7 +2,7 @@
 //! of scalar products of two cross products, at most `3 * 2^98` in size.
 ghost use Rattle.std.specs.Prelude.{◌≡◌, ◌⊎◌, pos, ◌<ℤ◌, ◌≤ℤ◌, IsTrue, ◌↔◌};
 ghost use Rattle.sign_predicates.specs.Orientation.{orient, side, normal, dot, SpansPlane};
-ghost use Rattle.sign_predicates.specs.Meeting.{triangle_of, as_triangle, segment, SegmentMeetsTriangle, TrianglesMeet};
+ghost use Rattle.sign_predicates.specs.Meeting.{triangle_of, grid_triangle, segment, SegmentMeetsTriangle, TrianglesMeet};
 ghost use Rattle.sign_predicates.specs.Turns.{turn, IsZeroVector, IsBetween, TurnsAcross, TurnsAbout, PassesWithin, common_normal};
 
 use crate::GridPoint;
@@ -104,17 +104,17 @@ pub fn spans_plane(a: GridPoint, b: GridPoint, c: GridPoint) -> bool
 
 /// Whether `p`, in the plane of the triangle, lies in it.
 fn lies_about(n: Normal, f: &GridTriangle, p: GridPoint) -> bool
-    requires { n ≡ normal (as_triangle f.now) }
-    ensures { IsTrue result ↔ TurnsAbout (as_triangle f.now) p }
+    requires { n ≡ normal (grid_triangle f.now) }
+    ensures { IsTrue result ↔ TurnsAbout (grid_triangle f.now) p }
 {
     turns_left(n, f.b, f.c, p) && turns_left(n, f.c, f.a, p) && turns_left(n, f.a, f.b, p)
 }
 
 /// Whether the triangle isn't on a line and holds `p`, which lies in its plane.
 fn holds_flat(f: &GridTriangle, p: GridPoint) -> bool
-    requires { side (as_triangle f.now) p ≡ pos 0 }
-    ensures { IsTrue result ↔ (¬ IsZeroVector (normal (as_triangle f.now))
-        × TurnsAbout (as_triangle f.now) p) }
+    requires { side (grid_triangle f.now) p ≡ pos 0 }
+    ensures { IsTrue result ↔ (¬ IsZeroVector (normal (grid_triangle f.now))
+        × TurnsAbout (grid_triangle f.now) p) }
 {
     let n = cross(from_to(f.a, f.b), from_to(f.a, f.c));
     !is_zero(n) && lies_about(n, f, p)
@@ -135,8 +135,8 @@ fn meets_side(p: GridPoint, q: GridPoint, f: &GridTriangle) -> bool
 
 /// Whether a segment meets a triangle in whose plane its first end lies.
 fn meets_flat(p: GridPoint, q: GridPoint, f: &GridTriangle) -> bool
-    requires { side (as_triangle f.now) p ≡ pos 0 }
-    ensures { IsTrue result ↔ SegmentMeetsTriangle p q (as_triangle f.now) }
+    requires { side (grid_triangle f.now) p ≡ pos 0 }
+    ensures { IsTrue result ↔ SegmentMeetsTriangle p q (grid_triangle f.now) }
 {
     holds_flat(f, p) || meets_side(p, q, f)
 }
@@ -151,7 +151,7 @@ fn has_above(a: GridPoint, b: GridPoint, c: GridPoint, d: GridPoint) -> bool
 
 /// Whether the leg from `q` up to `p` passes the triangle's sides on their inner side.
 pub(crate) fn passes_within(p: GridPoint, q: GridPoint, f: &GridTriangle) -> bool
-    ensures { IsTrue result ↔ PassesWithin p q (as_triangle f.now) }
+    ensures { IsTrue result ↔ PassesWithin p q (grid_triangle f.now) }
 {
     has_above(f.b, f.c, q, p) && has_above(f.c, f.a, q, p) && has_above(f.a, f.b, q, p)
 }
@@ -166,9 +166,9 @@ fn falls(s: i128, t: i128) -> bool
 
 /// `leg_meets`, where `s` and `t` say on which sides of the triangle's plane the two ends lie.
 fn meets_at(s: i128, t: i128, p: GridPoint, q: GridPoint, f: &GridTriangle) -> bool
-    requires s_is { s ≡ side (as_triangle f.now) p }
-    requires t_is { t ≡ side (as_triangle f.now) q }
-    ensures { IsTrue result ↔ SegmentMeetsTriangle p q (as_triangle f.now) }
+    requires s_is { s ≡ side (grid_triangle f.now) p }
+    requires t_is { t ≡ side (grid_triangle f.now) q }
+    ensures { IsTrue result ↔ SegmentMeetsTriangle p q (grid_triangle f.now) }
 {
     if falls(s, t) {
         if s == t {
@@ -185,7 +185,7 @@ fn meets_at(s: i128, t: i128, p: GridPoint, q: GridPoint, f: &GridTriangle) -> b
 
 /// `segment_meets_triangle`, for the triangle `f`.
 fn leg_meets(p: GridPoint, q: GridPoint, f: &GridTriangle) -> bool
-    ensures { IsTrue result ↔ SegmentMeetsTriangle p q (as_triangle f.now) }
+    ensures { IsTrue result ↔ SegmentMeetsTriangle p q (grid_triangle f.now) }
 {
     let leg = GridTriangle { a: p, b: q, c: q };
     if boxes_apart(&leg, f) {
@@ -232,7 +232,7 @@ fn has_one_sign(x: i128, y: i128, z: i128) -> bool
 
 /// Whether the second triangle lies strictly on one side of the plane of the first.
 fn lies_apart(f: &GridTriangle, g: &GridTriangle) -> bool
-    ensures { IsTrue result → ¬ TrianglesMeet (as_triangle f.now) (as_triangle g.now) }
+    ensures { IsTrue result → ¬ TrianglesMeet (grid_triangle f.now) (grid_triangle g.now) }
 {
     has_one_sign(
         orient_sum(f.a, f.b, f.c, g.a),
@@ -244,7 +244,7 @@ fn lies_apart(f: &GridTriangle, g: &GridTriangle) -> bool
 /// Whether the boxes of the two triangles are apart, or one lies strictly on one side of the
 /// other's plane.
 fn are_apart(f: &GridTriangle, g: &GridTriangle) -> bool
-    ensures { IsTrue result → ¬ TrianglesMeet (as_triangle f.now) (as_triangle g.now) }
+    ensures { IsTrue result → ¬ TrianglesMeet (grid_triangle f.now) (grid_triangle g.now) }
 {
     if boxes_apart(f, g) {
         true
@@ -257,9 +257,9 @@ fn are_apart(f: &GridTriangle, g: &GridTriangle) -> bool
 
 /// Whether a side of the first triangle meets the second.
 fn sides_meet(f: &GridTriangle, g: &GridTriangle) -> bool
-    ensures { IsTrue result ↔ (SegmentMeetsTriangle f.now.a f.now.b (as_triangle g.now)
-        ⊎ (SegmentMeetsTriangle f.now.b f.now.c (as_triangle g.now)
-        ⊎ SegmentMeetsTriangle f.now.c f.now.a (as_triangle g.now))) }
+    ensures { IsTrue result ↔ (SegmentMeetsTriangle f.now.a f.now.b (grid_triangle g.now)
+        ⊎ (SegmentMeetsTriangle f.now.b f.now.c (grid_triangle g.now)
+        ⊎ SegmentMeetsTriangle f.now.c f.now.a (grid_triangle g.now))) }
 {
     if leg_meets(f.a, f.b, g) {
         true

@@ -1,6 +1,6 @@
 use Rattle.std.proofs.Common.{◌∙◌}
 use Rattle.exact_algebra.proofs.Size.{read}
-use Rattle.sign_predicates.specs.Meeting.{as_triangle}
+use Rattle.sign_predicates.specs.Meeting.{grid_triangle}
 use Rattle.sign_predicates.proofs.Meets.{not_true}
 use Rattle.sign_predicates.proofs.Legs.{enters_of}
 use Rattle.sign_predicates.proofs.Enter.{straddles_of, same_signs, signs_back}
@@ -22,5 +22,5 @@ returns-else-has_both_signs c =
       λ h. absurd (not_true h),
       λ k. absurd (not_true (c.if-has_both_signs.ensures.1 (signs_back
           (read w128 a.sa c.ranges.sa.sfits ∙ r.sa_is) (read w128 a.sb c.ranges.sb.sfits ∙ r.sb_is) (read w128 a.sc c.ranges.sc.sfits ∙ r.sc_is) (read w128 a.sd c.ranges.sd.sfits ∙ r.sd_is)
-          (straddles_of a.t.now (as_triangle a.f.now) r.positive r.spans (enters_of a.t.now (as_triangle a.f.now) k))))),
+          (straddles_of a.t.now (grid_triangle a.f.now) r.positive r.spans (enters_of a.t.now (grid_triangle a.f.now) k))))),
     )
