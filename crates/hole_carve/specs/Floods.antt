@@ -11,17 +11,17 @@ pub record IsFlood (ways : List Across) (seeds : List Bool) (f : Flood) : Type 0
   pub filled : IsQueued ways seeds f.marks.items f.queue.items
 
 -- its marks and its queue only grow
-abbrev pub IsGrown : Flood → Flood → Type 0
-IsGrown old new = Extends old.marks.items old.queue.items new.marks.items new.queue.items
+abbrev pub HasGrown : Flood → Flood → Type 0
+HasGrown old new = Extends old.marks.items old.queue.items new.marks.items new.queue.items
 
 -- it stays a flood, and only grows
 pub record GoesOn (ways : List Across) (seeds : List Bool) (old new : Flood) : Type 0 where
   pub flood : IsFlood ways seeds new
-  pub grown : IsGrown old new
+  pub grown : HasGrown old new
 
 -- each place that one comes to from those in the queue is marked
-abbrev pub IsDone : List Across → Flood → Type 0
-IsDone ways f = (q : ℕ) → q < length f.queue.items → IsClosedFrom ways f.marks.items (queue_at f.queue.items q)
+abbrev pub IsFloodDone : List Across → Flood → Type 0
+IsFloodDone ways f = (q : ℕ) → q < length f.queue.items → IsClosedFrom ways f.marks.items (queue_at f.queue.items q)
 
 -- exactly these places are marked
 abbrev pub HasReached : Flood → (ℕ → Type 0) → Type 0

@@ -7,7 +7,7 @@ ghost use Rattle.geo_laws.specs.Delaunay.{corners, IsOn, RowBefore};
 ghost use Rattle.path_laws.specs.Places.{IsFilling, IsKeptPart};
 ghost use Rattle.path_laws.specs.Flood.{carving_of};
 ghost use Rattle.hole_carve.specs.Kept.{unmarked};
-ghost use Rattle.hole_carve.specs.Seeds.{BeginsAt};
+ghost use Rattle.hole_carve.specs.Seeds.{ArePositiveIn, BeginsAt};
 ghost use Rattle.geo_laws.specs.Marks.{is_marked};
 
 use crate::flood::flooded;
@@ -67,8 +67,7 @@ fn mark_holes(
     keep_hull: bool,
     seeds: &mut [bool],
 ) -> Result<(), NoMemory>
-    requires on { All (IsOn mesh.now.points.now) mesh.now.list.now }
-    requires positive { All (λ t. IsPositive (corners mesh.now.points.now t)) mesh.now.list.now }
+    requires rows { ArePositiveIn mesh.now.points.now mesh.now.list.now }
     requires long { length seeds.old ≡ length mesh.now.list.now + 1 }
     requires marked { (i : ℕ) → (is_marked seeds.old i ≡ true)
         ↔ BeginsAt keep_hull mesh.now.points.now mesh.now.closed.now mesh.now.list.now holes.now
@@ -93,8 +92,7 @@ fn mark_all(
     keep_hull: bool,
     seeds: &mut [bool],
 ) -> Result<(), NoMemory>
-    requires on { All (IsOn mesh.now.points.now) mesh.now.list.now }
-    requires positive { All (λ t. IsPositive (corners mesh.now.points.now t)) mesh.now.list.now }
+    requires rows { ArePositiveIn mesh.now.points.now mesh.now.list.now }
     requires long { length seeds.old ≡ length mesh.now.list.now + 1 }
     requires clear { (i : ℕ) → is_marked seeds.old i ≡ false }
     ensures long { OnOk result (length seeds.new ≡ length mesh.now.list.now + 1) }
@@ -113,8 +111,7 @@ fn seeds_of(
     holes: &RatPoints,
     keep_hull: bool,
 ) -> Result<Vec<bool>, NoMemory>
-    requires on { All (IsOn mesh.now.points.now) mesh.now.list.now }
-    requires positive { All (λ t. IsPositive (corners mesh.now.points.now t)) mesh.now.list.now }
+    requires rows { ArePositiveIn mesh.now.points.now mesh.now.list.now }
     ensures long { IfOk result (λ seeds. length seeds.items ≡ length mesh.now.list.now + 1) }
     ensures marked { IfOk result (λ seeds. (i : ℕ)
         → (is_marked seeds.items i ≡ true)

@@ -4,7 +4,7 @@ ghost use Rattle.std.specs.Prelude.{Option, Some};
 ghost use Rattle.hole_carve.specs.Flooding.{way, IsWay, IsFlooded, IsQueued};
 ghost use Rattle.hole_carve.specs.Flooding.{LeadsWithin, IsClosedAt};
 ghost use Rattle.hole_carve.specs.Flooding.{IsClosedBeyond, IsClosedFrom};
-ghost use Rattle.hole_carve.specs.Floods.{IsFlood, IsGrown, GoesOn, IsDone, HasReached};
+ghost use Rattle.hole_carve.specs.Floods.{IsFlood, HasGrown, GoesOn, IsFloodDone, HasReached};
 ghost use Rattle.incidence.specs.Pairs.{across_at};
 ghost use Rattle.geo_laws.specs.Marks.{is_marked};
 
@@ -70,7 +70,7 @@ impl Flood {
         ensures filled { OnOk result
             (IsQueued ways.now seeds.now self.new.marks.items self.new.queue.items) }
         ensures marked { OnOk result (is_marked self.new.marks.items place ≡ true) }
-        ensures grown { OnOk result (IsGrown self.old self.new) }
+        ensures grown { OnOk result (HasGrown self.old self.new) }
     {
         if !self.marks[place] {
             self.marks[place] = true;
@@ -146,10 +146,10 @@ impl Flood {
         requires seeds { length seeds.now ≡ length ways.now + 1 }
         requires within { LeadsWithin ways.now }
         requires flood { IsFlood ways.now seeds.now self.old }
-        requires done { IsDone ways.now self.old }
+        requires done { IsFloodDone ways.now self.old }
         ensures exactly { OnOk result (HasReached self.new (IsFlooded ways.now seeds.now)) }
         ensures goes_on { OnOk result (GoesOn ways.now seeds.now self.old self.new) }
-        ensures done { OnOk result (IsDone ways.now self.new) }
+        ensures done { OnOk result (IsFloodDone ways.now self.new) }
     {
         let mut at = self.queue.len();
         for place in 0..seeds.len() {

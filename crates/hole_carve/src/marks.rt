@@ -4,8 +4,9 @@ ghost use Rattle.std.specs.Prelude.{AllPairs, All, Contains, Some, None, [], len
 ghost use Rattle.sign_predicates.specs.Orientation.{IsPositive};
 ghost use Rattle.geo_laws.specs.Delaunay.{corners, IsOn, RowBefore};
 ghost use Rattle.path_laws.specs.Places.{IsFilling};
+ghost use Rattle.hole_carve.specs.Seeds.{ArePositiveIn};
 ghost use Rattle.hole_carve.specs.Flooding.{IsFlooded, LeadsWithin};
-ghost use Rattle.hole_carve.specs.Floods.{IsFlood, GoesOn, IsDone, HasReached};
+ghost use Rattle.hole_carve.specs.Floods.{IsFlood, GoesOn, IsFloodDone, HasReached};
 ghost use Rattle.hole_carve.specs.Marks.{mark_at, IsPutFrom, AreNumbered, AreRegionMarks, AreKeptMarks};
 ghost use Rattle.hole_carve.specs.Marks.{IsPlaceFrom, KeptMarksLaw};
 ghost use Rattle.geo_laws.specs.Marks.{is_marked};
@@ -52,10 +53,10 @@ fn put_flood(
     requires seeds { length seeds.now ≡ length ways.now + 1 }
     requires within { LeadsWithin ways.now }
     requires flood { IsFlood ways.now seeds.now flood.old }
-    requires done { IsDone ways.now flood.old }
+    requires done { IsFloodDone ways.now flood.old }
     ensures exactly { OnOk result (HasReached flood.new (IsFlooded ways.now seeds.now)) }
     ensures goes_on { OnOk result (GoesOn ways.now seeds.now flood.old flood.new) }
-    ensures done { OnOk result (IsDone ways.now flood.new) }
+    ensures done { OnOk result (IsFloodDone ways.now flood.new) }
     ensures put { OnOk result (IsPutFrom flood.new.queue.items (length flood.old.queue.items)
         (length flood.new.queue.items) number marks.old marks.new) }
 {
@@ -76,8 +77,7 @@ fn put_each(
     flood: &mut Flood,
     marks: &mut [Option<u32>],
 ) -> Result<(), NoMemory>
-    requires on { All (IsOn mesh.now.points.now) mesh.now.list.now }
-    requires positive { All (λ t. IsPositive (corners mesh.now.points.now t)) mesh.now.list.now }
+    requires rows { ArePositiveIn mesh.now.points.now mesh.now.list.now }
     requires ways { length ways.now ≡ length mesh.now.list.now }
     requires within { LeadsWithin ways.now }
     requires seeds { length seeds.old ≡ length mesh.now.list.now + 1 }
@@ -107,8 +107,7 @@ fn put_all(
     complex: &Complex,
     marks: &mut [Option<u32>],
 ) -> Result<(), NoMemory>
-    requires on { All (IsOn mesh.now.points.now) mesh.now.list.now }
-    requires positive { All (λ t. IsPositive (corners mesh.now.points.now t)) mesh.now.list.now }
+    requires rows { ArePositiveIn mesh.now.points.now mesh.now.list.now }
     requires ways { length ways.now ≡ length mesh.now.list.now }
     requires within { LeadsWithin ways.now }
     requires long { length marks.old ≡ length mesh.now.list.now }
@@ -131,8 +130,7 @@ fn numbers_of(
     ways: &Ways<'_>,
     complex: &Complex,
 ) -> Result<Vec<Option<u32>>, NoMemory>
-    requires on { All (IsOn mesh.now.points.now) mesh.now.list.now }
-    requires positive { All (λ t. IsPositive (corners mesh.now.points.now t)) mesh.now.list.now }
+    requires rows { ArePositiveIn mesh.now.points.now mesh.now.list.now }
     requires ways { length ways.now ≡ length mesh.now.list.now }
     requires within { LeadsWithin ways.now }
     ensures long { IfOk result (λ marks. length marks.items ≡ length mesh.now.list.now) }

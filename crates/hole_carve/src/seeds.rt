@@ -5,7 +5,7 @@ ghost use Rattle.sign_predicates.specs.Orientation.{IsPositive, InClosed, orient
 ghost use Rattle.sign_predicates.specs.Orientation.{opposite_face};
 ghost use Rattle.geo_laws.specs.Delaunay.{corners, IsOn, row_at};
 ghost use Rattle.hole_carve.specs.Ways.{face_opposite};
-ghost use Rattle.hole_carve.specs.Seeds.{RowHolds, HoldsOnSome, IsSeedAt};
+ghost use Rattle.hole_carve.specs.Seeds.{ArePositiveIn, RowHolds, HoldsOnSome, IsSeedAt};
 ghost use Rattle.geo_laws.specs.Marks.{is_marked};
 
 use crate::boxes::is_off_box;
@@ -214,8 +214,7 @@ pub(crate) fn mark_seeds(
     x: RatPoint,
     seeds: &mut [bool],
 ) -> Result<(), NoMemory>
-    requires on { All (IsOn mesh.now.points.now) mesh.now.list.now }
-    requires positive { All (λ t. IsPositive (corners mesh.now.points.now t)) mesh.now.list.now }
+    requires rows { ArePositiveIn mesh.now.points.now mesh.now.list.now }
     requires long { length seeds.old ≡ length mesh.now.list.now + 1 }
     ensures long { OnOk result (length seeds.new ≡ length mesh.now.list.now + 1) }
     ensures marked { OnOk result ((i : ℕ) → (is_marked seeds.new i ≡ true)
