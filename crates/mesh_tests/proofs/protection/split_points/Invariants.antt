@@ -1,4 +1,4 @@
-use Rattle.std.proofs.Common.{◌≡◌, ℕ, ◌<◌, length}
+use Rattle.std.proofs.Common.{ℕ, ◌<◌, length}
 use Rattle.geo_laws.specs.Delaunay.{point}
 use Rattle.segment_protect.specs.Protection.{IsMultiple}
 use Rattle.mesh_tests.proofs.protection.split_points.Given as goal
