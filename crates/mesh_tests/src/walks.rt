@@ -1,5 +1,5 @@
 //! Points in and round one tetrahedron, and two.
-ghost use Rattle.std.specs.Prelude.{◌<◌, IsTrue};
+ghost use Rattle.std.specs.Prelude.{IsTrue};
 ghost use Rattle.mesh_arena.specs.Mesh.{IsLive, corner_list};
 ghost use Rattle.point_locate.specs.Place.{IsCornerOn, AreOn, AreCornersOn};
 
