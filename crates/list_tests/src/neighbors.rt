@@ -7,22 +7,22 @@ use tet_ports::NoMemory;
 
 /// One face in four rows, corners in any order.
 const FAN: [Row; 4] = [
-    ([9, 8, 7, 1], [None, None, None, Some(1)]),
-    ([2, 7, 8, 9], [Some(0), None, None, None]),
-    ([8, 3, 9, 7], [None, Some(0), None, None]),
-    ([7, 9, 4, 8], [None, None, Some(0), None]),
+    ([9, 8, 7, 1], &[None, None, None, Some(1)]),
+    ([2, 7, 8, 9], &[Some(0), None, None, None]),
+    ([8, 3, 9, 7], &[None, Some(0), None, None]),
+    ([7, 9, 4, 8], &[None, None, Some(0), None]),
 ];
 
 /// Rows with repeated corners.
 const REPEATED: [Row; 3] = [
-    ([5, 5, 5, 6], [Some(2), Some(2), Some(2), Some(2)]),
-    ([5, 6, 6, 6], [None, None, None, None]),
-    ([6, 5, 5, 5], [Some(0), Some(0), Some(0), Some(0)]),
+    ([5, 5, 5, 6], &[Some(2), Some(2), Some(2), Some(2)]),
+    ([5, 6, 6, 6], &[None, None, None, None]),
+    ([6, 5, 5, 5], &[Some(0), Some(0), Some(0), Some(0)]),
 ];
 
 /// Whether this is what is across the faces of a row.
-fn are_across(across: Across, want: [Option<usize>; 4]) -> bool {
-    [across.n0, across.n1, across.n2, across.n3] == want
+fn are_across(across: Across, want: &[Option<usize>; 4]) -> bool {
+    [across.n0, across.n1, across.n2, across.n3] == *want
 }
 
 /// The place of the first row with another row across a face than is wanted; None where each has
