@@ -163,9 +163,11 @@ fn small_plates(alloc: Global) -> Result<Bytes, NoMemory> {
 
 /// Whether a run on the complex of a text ends well with this summary.
 fn is_meshed(alloc: Global, text: &Bytes, summary: &[u8]) -> Result<bool, NoMemory> {
+    let parts = [text.as_slice()];
+    let held = [(b"t.poly".as_slice(), parts.as_slice())];
     let run = Run {
         name: "cloud",
-        held: &[(b"t.poly", &[text.as_slice()])],
+        held: &held,
         words: &[b"-pc", b"t"],
         end: Told(summary),
         files: &[],
