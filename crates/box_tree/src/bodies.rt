@@ -1,11 +1,12 @@
-//! Trees of the boxes of points and of triangles.
+//! Trees of the boxes of points, of triangles and of tetrahedra.
 ghost use Rattle.std.specs.Prelude.{All, IfOk};
 ghost use Rattle.box_tree.specs.Bounds.{IsTriangleOn};
-ghost use Rattle.box_tree.specs.Bodies.{IsPointTree, IsTriangleTree};
+ghost use Rattle.box_tree.specs.Bodies.{IsPointTree, IsRowTree, IsTriangleTree};
+ghost use Rattle.geo_laws.specs.Delaunay.{IsOn};
 
-use crate::bounds::{point_bounds, triangle_bounds};
+use crate::bounds::{point_bounds, tet_bounds, triangle_bounds};
 use crate::tree::{Tree, tree_of, with_key};
-use geo_laws::{FacetTriangles, Points};
+use geo_laws::{FacetTriangles, Points, TetList};
 use std::alloc::Global;
 use tet_ports::{Items, NoMemory};
 
@@ -32,6 +33,18 @@ pub fn triangle_tree(
     let mut boxes = Items::with_capacity(alloc, triangles.len())?;
     for place in 0..triangles.len() {
         boxes.push(with_key(triangle_bounds(points, triangles.at(place)), place))?;
+    }
+    tree_of(alloc, boxes)
+}
+
+/// The tree of the boxes of the rows, which have their corners among the points.
+pub fn row_tree(alloc: Global, points: &Points, rows: &TetList) -> Result<Tree, NoMemory>
+    requires { All (IsOn points.now) rows.now }
+    ensures { IfOk result (IsRowTree points.now rows.now) }
+{
+    let mut boxes = Items::with_capacity(alloc, rows.len())?;
+    for place in 0..rows.len() {
+        boxes.push(with_key(tet_bounds(points, rows.at(place)), place))?;
     }
     tree_of(alloc, boxes)
 }

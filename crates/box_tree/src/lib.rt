@@ -6,7 +6,7 @@ mod bodies;
 mod bounds;
 mod tree;
 
-pub use bodies::{point_tree, triangle_tree};
+pub use bodies::{point_tree, row_tree, triangle_tree};
 pub use bounds::{
     Bounds, Interval, are_bounds_apart, joined, point_bounds, tet_bounds, triangle_bounds,
 };

@@ -13,9 +13,10 @@ use Rattle.refill_laws.specs.Refill.{row_centroid}
 use Rattle.box_tree.specs.declared.bounds.Interval.{Interval}
 use Rattle.box_tree.specs.declared.bounds.Bounds.{Bounds}
 use Rattle.box_tree.specs.declared.tree.Node.{Node}
+use Rattle.box_tree.specs.Bodies.{IsRowTree}
 use Rattle.box_tree.specs.Bounds.{AreBoundsApart, HoldsCorners, HoldsQuotient, HoldsRational}
 use Rattle.tangle_fill.proofs.Boxed.{common_point, held_simplex}
-use Rattle.facet_recover.specs.Cavity.{IsRowOn, holds_centroid, lies_in_cavity, IsCavityTree}
+use Rattle.facet_recover.specs.Cavity.{IsRowOn, holds_centroid, lies_in_cavity}
 use Rattle.box_tree.specs.Tree.{AreApartBetween}
 use Rattle.box_tree.proofs.Lists.{less_or_more}
 use Rattle.facet_recover.proofs.Centroid.{closed_test}
@@ -51,7 +52,7 @@ pub record AreMissedBefore (ps : List Point) (cavity : List Tet) (t : Tet) (node
 pub missed_start : (ps : List Point) (cavity : List Tet) (t : Tet) (nodes : List Node) → AreMissedBefore ps cavity t nodes 0
 missed_start ps cavity t nodes = record { missed = λ j d l. absurd (omega arith) }
 
-apart_missed : (ps : List Point) (cavity : List Tet) (t : Tet) (nodes : List Node) (b : Bounds) → All (IsRowOn ps) cavity → IsCavityTree ps cavity nodes → HoldsRational b (row_centroid (corners ps t))
+apart_missed : (ps : List Point) (cavity : List Tet) (t : Tet) (nodes : List Node) (b : Bounds) → All (IsRowOn ps) cavity → IsRowTree ps cavity nodes → HoldsRational b (row_centroid (corners ps t))
     → (j : ℕ) (d : Node) → j < length nodes → AreBoundsApart (get_or nodes j d).own.bounds b → IsMissed ps cavity t (get_or nodes j d)
 apart_missed ps cavity t nodes b rows tree round j d l apart e =
     let n = get_or nodes j d in
@@ -60,7 +61,7 @@ apart_missed ps cavity t nodes b rows tree round j d l apart e =
     not_true (holds_centroid ps r t)
     (λ h. apart_closed ps r n.own.bounds b (row_centroid (corners ps t)) (let four : pos 0 <ℤ pos 4 = omega (arith, ints) in four) (rows n.own.place e q.0).1 (q.1 e) round apart ((closed_test (corners ps r) (row_centroid (corners ps t))).0 h))
 
-pub missed_further : (ps : List Point) (cavity : List Tet) (t : Tet) (nodes : List Node) (b : Bounds) (i k : ℕ) → All (IsRowOn ps) cavity → IsCavityTree ps cavity nodes → HoldsRational b (row_centroid (corners ps t))
+pub missed_further : (ps : List Point) (cavity : List Tet) (t : Tet) (nodes : List Node) (b : Bounds) (i k : ℕ) → All (IsRowOn ps) cavity → IsRowTree ps cavity nodes → HoldsRational b (row_centroid (corners ps t))
     → AreMissedBefore ps cavity t nodes i → AreApartBetween nodes b i k → k ≤ length nodes → AreMissedBefore ps cavity t nodes k
 missed_further ps cavity t nodes b i k rows tree round h apart l = record { missed = λ j d m. go j d m (less_or_more j i) }
   where
@@ -79,7 +80,7 @@ missed_more ps cavity t nodes i n r there is h off = record { missed = λ j d m.
     go j d m (inr (inr a)) e = absurd (omega arith)
 
 -- when all nodes are done with
-pub none_holds : (ps : List Point) (cavity : List Tet) (t : Tet) (nodes : List Node) (i : ℕ) → IsCavityTree ps cavity nodes → length nodes ≤ i → AreMissedBefore ps cavity t nodes i → lies_in_cavity ps cavity t ≡ false
+pub none_holds : (ps : List Point) (cavity : List Tet) (t : Tet) (nodes : List Node) (i : ℕ) → IsRowTree ps cavity nodes → length nodes ≤ i → AreMissedBefore ps cavity t nodes i → lies_in_cavity ps cavity t ≡ false
 none_holds ps cavity t nodes i tree l h = none cavity (λ k d m. at_node k d (tree.each k m))
   where
     at_node : (k : ℕ) (d : Tet) → Any (λ n. n.own.place ≡ k) nodes → holds_centroid ps (get_or cavity k d) t ≡ false
