@@ -10,3 +10,4 @@ pub mod Floods
 pub mod Marked
 pub mod KeptMarks
 pub mod Apart
+pub mod Treed

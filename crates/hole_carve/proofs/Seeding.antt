@@ -37,33 +37,41 @@ contains_behind s v i = (λ c. go (append_cases i s (v ∷ []) (member_of _ i c)
     back (inl c) = contains_of _ i (in_append_left i s (v ∷ []) (member_of s i c))
     back (inr e) = contains_of _ i (in_append_right i s (v ∷ []) (subst (λ w. IsMember w (v ∷ [])) (sym e) here))
 
+-- one place more, of which P holds
+pub added : (P : ℕ → Type 0) (s s' : List ℕ) (at : ℕ) → s' ≡ s ++ at ∷ [] → P at → (i : ℕ) → Contains s' i ↔ (Contains s i ⊎ (i ≡ at) × P i)
+added P s s' at e p i = (λ c. to ((contains_behind s at i).0 (subst (λ l. Contains l i) e c)), λ h. subst (λ l. Contains l i) (sym e) ((contains_behind s at i).1 (from h)))
+  where
+    to : Contains s i ⊎ (i ≡ at) → Contains s i ⊎ (i ≡ at) × P i
+    to (inl c) = inl c
+    to (inr d) = inr (d, subst P (sym d) p)
+
+    from : Contains s i ⊎ (i ≡ at) × P i → Contains s i ⊎ (i ≡ at)
+    from (inl c) = inl c
+    from (inr d) = inr d.0
+
+-- none more, where P does not hold of it
+pub unadded : (P : ℕ → Type 0) (s : List ℕ) (at : ℕ) → ¬ P at → (i : ℕ) → Contains s i ↔ (Contains s i ⊎ (i ≡ at) × P i)
+unadded P s at n i = (λ c. inl c, from)
+  where
+    from : Contains s i ⊎ (i ≡ at) × P i → Contains s i
+    from (inl c) = c
+    from (inr d) = absurd (n (subst P d.0 d.1))
+
 -- what is gathered up to a place, and one more
-pub gathered_next : (P : ℕ → Type 0) (s s' : List ℕ) (at : ℕ) → ((i : ℕ) → Contains s i ↔ ((i < at) × P i)) → s' ≡ s ++ at ∷ [] → P at → (i : ℕ) → Contains s' i ↔ ((i < at + 1) × P i)
-gathered_next P s s' at was e p i = (λ c. to ((contains_behind s at i).0 (subst (λ l. Contains l i) e c)), λ h. subst (λ l. Contains l i) (sym e) ((contains_behind s at i).1 (from h.0 h.1)))
+pub gathered_more : (P : ℕ → Type 0) (s s' : List ℕ) (at : ℕ) → ((i : ℕ) → Contains s i ↔ ((i < at) × P i)) → ((i : ℕ) → Contains s' i ↔ (Contains s i ⊎ (i ≡ at) × P i)) → (i : ℕ)
+    → Contains s' i ↔ ((i < at + 1) × P i)
+gathered_more P s s' at was more i = (λ c. to ((more i).0 c), λ h. (more i).1 (by h.1 (order i at) h.0))
   where
     order : (a b : ℕ) → (a < b) ⊎ (b ≤ a)
     order a b = grind arith
 
-    to : Contains s i ⊎ (i ≡ at) → (i < at + 1) × P i
+    to : Contains s i ⊎ (i ≡ at) × P i → (i < at + 1) × P i
     to (inl c) = let h = (was i).0 c in (let l = h.0 in omega arith, h.1)
-    to (inr d) = (omega arith, subst P (sym d) p)
+    to (inr d) = let e = d.0 in (omega arith, d.1)
 
-    by : P i → (i < at) ⊎ (at ≤ i) → i < at + 1 → Contains s i ⊎ (i ≡ at)
+    by : P i → (i < at) ⊎ (at ≤ i) → i < at + 1 → Contains s i ⊎ (i ≡ at) × P i
     by q (inl l) h = inl ((was i).1 (l, q))
-    by q (inr l) h = inr (omega arith)
-
-    from : i < at + 1 → P i → Contains s i ⊎ (i ≡ at)
-    from h q = by q (order i at) h
-
-pub gathered_past : (P : ℕ → Type 0) (s : List ℕ) (at : ℕ) → ((i : ℕ) → Contains s i ↔ ((i < at) × P i)) → ¬ P at → (i : ℕ) → Contains s i ↔ ((i < at + 1) × P i)
-gathered_past P s at was n i = (λ c. let h = (was i).0 c in (let l = h.0 in omega arith, h.1), λ h. (was i).1 (by (order i at) h.0 h.1, h.1))
-  where
-    order : (a b : ℕ) → (a < b) ⊎ (b ≤ a)
-    order a b = grind arith
-
-    by : (i < at) ⊎ (at ≤ i) → i < at + 1 → P i → i < at
-    by (inl l) h q = l
-    by (inr l) h q = absurd (n (subst P (let e : i ≡ at = omega arith in e) q))
+    by q (inr l) h = inr (omega arith, q)
 
 -- marks at the places up to one, and at that one
 pub marked_next : (old marks marks' : List Bool) (places : List ℕ) (at place : ℕ) → queue_at places at ≡ place

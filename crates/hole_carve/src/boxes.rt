@@ -1,8 +1,12 @@
-//! Whether a point is outside of the box of a tetrahedron, which costs less than the exact test.
-ghost use Rattle.std.specs.Prelude.{◌≡◌, ◌≤◌, ◌^◌, ◌*ℤ◌, unsigned_abs, IsTrue};
+//! Whether a point is outside of the box of a tetrahedron, which costs less than the exact test,
+//! and a box round a point.
+ghost use Rattle.std.specs.Prelude.{◌≡◌, ◌⊎◌, ◌≤◌, ◌^◌, ◌*ℤ◌, ◌≤ℤ◌, ◌<ℤ◌, pos, unsigned_abs, IsTrue};
+ghost use Rattle.sign_predicates.specs.Point.{IsNear};
+ghost use Rattle.box_tree.specs.Bounds.{HoldsQuotient, HoldsRational};
 ghost use Rattle.sign_predicates.specs.Orientation.{IsPositive, InClosed};
 ghost use Rattle.hole_carve.specs.Boxes.{AreBelowOrAbove};
 
+use box_tree::{Bounds, Interval};
 use sign_predicates::{Corners, RatPoint};
 
 /// A coordinate of the grid times a denominator.
@@ -45,4 +49,41 @@ pub(crate) fn is_off_box(t: &Corners, x: RatPoint) -> bool
         return true;
     }
     are_apart_over(t.a.z, t.b.z, t.c.z, t.d.z, x.z, x.w)
+}
+
+/// An interval of whole numbers round so many millionths.
+fn round_millionths(x: i64) -> Interval
+    requires { unsigned_abs x ≤ 8388609000000 }
+    ensures low { (result.low *ℤ pos 1000000) ≤ℤ x }
+    ensures high { x ≤ℤ (result.high *ℤ pos 1000000) }
+{
+    let low = ((x + 8388609000000) as u64 / 1000000) as i32 - 8388609;
+    Interval { low, high: low + 1 }
+}
+
+/// An interval of whole numbers round `x` over `w`.
+fn round_quotient(x: i64, w: i64) -> Interval
+    requires w_is { (w ≡ pos 1) ⊎ (w ≡ pos 1000000) }
+    requires near { IsNear w x }
+    ensures { HoldsQuotient result x w }
+{
+    if w == 1 {
+        return Interval {
+            low: x as i32,
+            high: x as i32,
+        };
+    }
+    round_millionths(x)
+}
+
+/// A box round a point, whose denominator is above 0.
+pub(crate) fn box_round(x: RatPoint) -> Bounds
+    ensures holds { HoldsRational result x }
+    ensures weight { pos 0 <ℤ x.w }
+{
+    Bounds {
+        x: round_quotient(x.x, x.w),
+        y: round_quotient(x.y, x.w),
+        z: round_quotient(x.z, x.w),
+    }
 }

@@ -7,11 +7,11 @@ ghost use Rattle.geo_laws.specs.Delaunay.{corners, IsOn, RowBefore};
 ghost use Rattle.path_laws.specs.Places.{IsFilling, IsKeptPart};
 ghost use Rattle.path_laws.specs.Flood.{carving_of};
 ghost use Rattle.hole_carve.specs.Kept.{unmarked};
-ghost use Rattle.hole_carve.specs.Seeds.{ArePositiveIn, BeginsAt};
+ghost use Rattle.hole_carve.specs.Seeds.{IsSearchable, BeginsAt};
 ghost use Rattle.geo_laws.specs.Marks.{is_marked};
 
 use crate::flood::flooded;
-use crate::seeds::{Walled, mark_seeds};
+use crate::seeds::{Walled, mark_seeds, tree_for};
 use crate::ways::Ways;
 use face_table::FaceTable;
 use geo_laws::{FacetTriangles, Points, RatPoints, TetList};
@@ -67,7 +67,7 @@ fn mark_holes(
     keep_hull: bool,
     seeds: &mut [bool],
 ) -> Result<(), NoMemory>
-    requires rows { ArePositiveIn mesh.now.points.now mesh.now.list.now }
+    requires rows { IsSearchable mesh.now }
     requires long { length seeds.old ≡ length mesh.now.list.now + 1 }
     requires marked { (i : ℕ) → (is_marked seeds.old i ≡ true)
         ↔ BeginsAt keep_hull mesh.now.points.now mesh.now.closed.now mesh.now.list.now holes.now
@@ -92,7 +92,7 @@ fn mark_all(
     keep_hull: bool,
     seeds: &mut [bool],
 ) -> Result<(), NoMemory>
-    requires rows { ArePositiveIn mesh.now.points.now mesh.now.list.now }
+    requires rows { IsSearchable mesh.now }
     requires long { length seeds.old ≡ length mesh.now.list.now + 1 }
     requires clear { (i : ℕ) → is_marked seeds.old i ≡ false }
     ensures long { OnOk result (length seeds.new ≡ length mesh.now.list.now + 1) }
@@ -111,7 +111,7 @@ fn seeds_of(
     holes: &RatPoints,
     keep_hull: bool,
 ) -> Result<Vec<bool>, NoMemory>
-    requires rows { ArePositiveIn mesh.now.points.now mesh.now.list.now }
+    requires rows { IsSearchable mesh.now }
     ensures long { IfOk result (λ seeds. length seeds.items ≡ length mesh.now.list.now + 1) }
     ensures marked { IfOk result (λ seeds. (i : ℕ)
         → (is_marked seeds.items i ≡ true)
@@ -144,10 +144,12 @@ pub fn carve(
     let closed = FaceTable::of_triangles(alloc, triangles)?;
     let pairs = pair_faces(alloc, list)?;
     let ways = Ways::new(list, &pairs, &closed);
+    let tree = tree_for(alloc, points, list, holes.len())?;
     let mesh = Walled {
         points,
         list,
         closed: &closed,
+        tree: &tree,
     };
     let seeds = seeds_of(alloc, &mesh, holes, keep_hull)?;
     let marks = flooded(alloc, &ways, &seeds)?;

@@ -4,7 +4,7 @@ ghost use Rattle.std.specs.Prelude.{AllPairs, All, Contains, Some, None, [], len
 ghost use Rattle.sign_predicates.specs.Orientation.{IsPositive};
 ghost use Rattle.geo_laws.specs.Delaunay.{corners, IsOn, RowBefore};
 ghost use Rattle.path_laws.specs.Places.{IsFilling};
-ghost use Rattle.hole_carve.specs.Seeds.{ArePositiveIn};
+ghost use Rattle.hole_carve.specs.Seeds.{IsSearchable};
 ghost use Rattle.hole_carve.specs.Flooding.{IsFlooded, LeadsWithin};
 ghost use Rattle.hole_carve.specs.Floods.{IsFlood, GoesOn, IsFloodDone, HasReached};
 ghost use Rattle.hole_carve.specs.Marks.{mark_at, IsPutFrom, AreNumbered, AreRegionMarks, AreKeptMarks};
@@ -12,7 +12,7 @@ ghost use Rattle.hole_carve.specs.Marks.{IsPlaceFrom, KeptMarksLaw};
 ghost use Rattle.geo_laws.specs.Marks.{is_marked};
 
 use crate::flood::Flood;
-use crate::seeds::{Walled, mark_seeds};
+use crate::seeds::{Walled, mark_seeds, tree_for};
 use crate::ways::Ways;
 use face_table::FaceTable;
 use geo_laws::{Complex, FacetTriangles, Points, Tet, TetList};
@@ -77,7 +77,7 @@ fn put_each(
     flood: &mut Flood,
     marks: &mut [Option<u32>],
 ) -> Result<(), NoMemory>
-    requires rows { ArePositiveIn mesh.now.points.now mesh.now.list.now }
+    requires rows { IsSearchable mesh.now }
     requires ways { length ways.now ≡ length mesh.now.list.now }
     requires within { LeadsWithin ways.now }
     requires seeds { length seeds.old ≡ length mesh.now.list.now + 1 }
@@ -107,7 +107,7 @@ fn put_all(
     complex: &Complex,
     marks: &mut [Option<u32>],
 ) -> Result<(), NoMemory>
-    requires rows { ArePositiveIn mesh.now.points.now mesh.now.list.now }
+    requires rows { IsSearchable mesh.now }
     requires ways { length ways.now ≡ length mesh.now.list.now }
     requires within { LeadsWithin ways.now }
     requires long { length marks.old ≡ length mesh.now.list.now }
@@ -130,7 +130,7 @@ fn numbers_of(
     ways: &Ways<'_>,
     complex: &Complex,
 ) -> Result<Vec<Option<u32>>, NoMemory>
-    requires rows { ArePositiveIn mesh.now.points.now mesh.now.list.now }
+    requires rows { IsSearchable mesh.now }
     requires ways { length ways.now ≡ length mesh.now.list.now }
     requires within { LeadsWithin ways.now }
     ensures long { IfOk result (λ marks. length marks.items ≡ length mesh.now.list.now) }
@@ -155,15 +155,18 @@ pub fn mark_regions(
 ) -> Result<Marks, NoMemory>
     requires filling { IsFilling points.now triangles.now list.now }
     requires regions { All (λ r. pos 0 <ℤ r.at.w) complex.now.regions }
-    ensures { IfOk result (λ marks. AreRegionMarks points.now triangles.now list.now complex.now.regions marks) }
+    ensures { IfOk result (λ marks. AreRegionMarks points.now triangles.now list.now
+        complex.now.regions marks) }
 {
     let closed = FaceTable::of_triangles(alloc, triangles)?;
     let pairs = pair_faces(alloc, list)?;
     let ways = Ways::new(list, &pairs, &closed);
+    let tree = tree_for(alloc, points, list, complex.region_count() as usize)?;
     let mesh = Walled {
         points,
         list,
         closed: &closed,
+        tree: &tree,
     };
     let marks = numbers_of(alloc, &mesh, &ways, complex)?;
     Ok(Marks::from(marks))

@@ -1,26 +1,50 @@
 //! Where the flood from a hole or region point begins.
 ghost use Rattle.std.specs.Prelude.{◌≡◌, ◌↔◌, ◌⊎◌, ◌+◌, ◌<◌, ℕ, pos, true, AllPairs, All, Contains};
-ghost use Rattle.std.specs.Prelude.{length, IfOk, OnOk};
+ghost use Rattle.std.specs.Prelude.{length, IfOk, IfSome, OnOk};
+ghost use Rattle.box_tree.specs.Bodies.{IsRowTree};
 ghost use Rattle.sign_predicates.specs.Orientation.{IsPositive, InClosed, orient_rational, side_rational};
 ghost use Rattle.sign_predicates.specs.Orientation.{opposite_face};
 ghost use Rattle.geo_laws.specs.Delaunay.{corners, IsOn, row_at};
 ghost use Rattle.hole_carve.specs.Ways.{face_opposite};
-ghost use Rattle.hole_carve.specs.Seeds.{ArePositiveIn, RowHolds, HoldsOnSome, IsSeedAt};
+ghost use Rattle.hole_carve.specs.Seeds.{IsSearchable, RowHolds, HoldsOnSome, IsSeedAt};
 ghost use Rattle.geo_laws.specs.Marks.{is_marked};
 
-use crate::boxes::is_off_box;
+use crate::boxes::{box_round, is_off_box};
+use box_tree::{Tree, next_meeting, row_tree};
 use face_table::FaceTable;
 use geo_laws::{Face, Points, Tet, TetList, corners_of, row_faces};
 use sign_predicates::{Corners, GridPoint, Hold, RatPoint, Sign, in_tet, orient_rat};
 use std::alloc::Global;
 use tet_ports::NoMemory;
 
-/// A mesh with walls: rows on points, and the faces through which no flood goes.
+/// For so many points the boxes of all rows are gone over one by one: to sort them costs more.
+const FEW: usize = 4;
+
+/// A mesh with walls: rows on points, the faces through which no flood goes, and the tree of the
+/// boxes of the rows, where there are many points to look for.
 #[derive(Drop)]
 pub(crate) struct Walled<'a> {
     pub(crate) points: &'a Points,
     pub(crate) list: &'a TetList,
     pub(crate) closed: &'a FaceTable,
+    pub(crate) tree: &'a Option<Tree>,
+}
+
+/// The tree of the boxes of the rows, where there are many points to look for.
+pub(crate) fn tree_for(
+    alloc: Global,
+    points: &Points,
+    list: &TetList,
+    count: usize,
+) -> Result<Option<Tree>, NoMemory>
+    requires { All (IsOn points.now) list.now }
+    ensures { IfOk result (λ tree. IfSome tree (IsRowTree points.now list.now)) }
+{
+    if count <= FEW {
+        return Ok(None);
+    }
+    let tree = row_tree(alloc, points, list)?;
+    Ok(Some(tree))
 }
 
 /// The row at a place, which is on the points.
@@ -104,10 +128,8 @@ fn add_holder(
     requires on { All (IsOn points.now) list.now }
     requires positive { All (λ t. IsPositive (corners points.now t)) list.now }
     requires there { at < length list.now }
-    requires before { (i : ℕ) → Contains holders.old.items i
-        ↔ ((i < at) × RowHolds points.now list.now x i) }
     ensures { OnOk result ((i : ℕ) → Contains holders.new.items i
-        ↔ ((i < at + 1) × RowHolds points.now list.now x i)) }
+        ↔ (Contains holders.old.items i ⊎ (i ≡ at) × RowHolds points.now list.now x i)) }
 {
     if holds(points, row_on(points, list, at), x) {
         holders.push(at)?;
@@ -133,6 +155,42 @@ fn holders_of(
         add_holder(points, list, at, x, &mut holders)?;
     }
     Ok(holders)
+}
+
+/// The same by the tree of the boxes of the rows.
+fn holders_in(
+    alloc: Global,
+    points: &Points,
+    list: &TetList,
+    tree: &Tree,
+    x: RatPoint,
+) -> Result<Vec<usize>, NoMemory>
+    requires on { All (IsOn points.now) list.now }
+    requires positive { All (λ t. IsPositive (corners points.now t)) list.now }
+    requires tree { IsRowTree points.now list.now tree.now }
+    ensures { IfOk result (λ holders. (i : ℕ) → Contains holders.items i
+        ↔ RowHolds points.now list.now x i) }
+{
+    let bounds = box_round(x);
+    let mut holders = Vec::new(alloc);
+    let mut i = next_meeting(tree, &bounds, 0);
+    while i < tree.len() {
+        add_holder(points, list, tree.get(i).own.place, x, &mut holders)?;
+        i = next_meeting(tree, &bounds, i + 1);
+    }
+    Ok(holders)
+}
+
+/// The same, by the tree where there is one.
+fn holders_by(alloc: Global, mesh: &Walled<'_>, x: RatPoint) -> Result<Vec<usize>, NoMemory>
+    requires { IsSearchable mesh.now }
+    ensures { IfOk result (λ holders. (i : ℕ) → Contains holders.items i
+        ↔ RowHolds mesh.now.points.now mesh.now.list.now x i) }
+{
+    match mesh.tree {
+        Some(tree) => holders_in(alloc, mesh.points, mesh.list, tree, x),
+        None => holders_of(alloc, mesh.points, mesh.list, x),
+    }
 }
 
 /// Whether a row that holds a point has it on the plane of a face that is closed.
@@ -214,14 +272,14 @@ pub(crate) fn mark_seeds(
     x: RatPoint,
     seeds: &mut [bool],
 ) -> Result<(), NoMemory>
-    requires rows { ArePositiveIn mesh.now.points.now mesh.now.list.now }
+    requires rows { IsSearchable mesh.now }
     requires long { length seeds.old ≡ length mesh.now.list.now + 1 }
     ensures long { OnOk result (length seeds.new ≡ length mesh.now.list.now + 1) }
     ensures marked { OnOk result ((i : ℕ) → (is_marked seeds.new i ≡ true)
         ↔ ((is_marked seeds.old i ≡ true)
         ⊎ IsSeedAt mesh.now.points.now mesh.now.closed.now mesh.now.list.now x i)) }
 {
-    let holders = holders_of(alloc, mesh.points, mesh.list, x)?;
+    let holders = holders_by(alloc, mesh, x)?;
     mark_found(mesh.points, mesh.list, mesh.closed, x, &holders, seeds);
     Ok(())
 }

@@ -4,7 +4,7 @@ use Rattle.sign_predicates.specs.Orientation.{IsPositive, InClosed}
 use Rattle.geo_laws.specs.declared.tetrahedra.Tet.{Tet}
 use Rattle.geo_laws.specs.Delaunay.{corners}
 use Rattle.hole_carve.specs.Seeds.{RowHolds}
-use Rattle.hole_carve.proofs.Seeding.{gathered_next, gathered_past}
+use Rattle.hole_carve.proofs.Seeding.{added, unadded}
 use Rattle.hole_carve.proofs.seeds.add_holder.Goals as goal
 
 pub holds-requires-clause-positive : goal.holds-requires-clause-positive
@@ -14,10 +14,10 @@ holds-requires-clause-positive c =
 
 pub returns-then-holds : goal.returns-then-holds
 returns-then-holds c =
-    gathered_next (RowHolds c.args.points.now c.args.list.now c.args.x) c.args.holders.now.items c.push.new.self.items c.args.at c.requires.before c.in_ok-push.ensures.items
+    added (RowHolds c.args.points.now c.args.list.now c.args.x) c.args.holders.now.items c.push.new.self.items c.args.at c.in_ok-push.ensures.items
     (c.requires.there, subst (λ t. InClosed (corners c.args.points.now t) c.args.x) c.row_on.ensures.is (c.holds.ensures.0 c.if-holds.true))
 
 pub returns : goal.returns
 returns c =
-    gathered_past (RowHolds c.args.points.now c.args.list.now c.args.x) c.args.holders.now.items c.args.at c.requires.before
+    unadded (RowHolds c.args.points.now c.args.list.now c.args.x) c.args.holders.now.items c.args.at
     (λ h. true≢false (sym (c.holds.ensures.1 (subst (λ t. InClosed (corners c.args.points.now t) c.args.x) (sym c.row_on.ensures.is) h.1)) ∙ c.if-holds.false))
