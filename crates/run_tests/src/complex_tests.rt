@@ -49,6 +49,12 @@ const THREE_NESTED: &[u8] =
       3 4 5 6\n1\n3 4 5 7\n1\n3 4 6 7\n1\n3 5 6 7\n1\n3 8 9 10\n1\n3 8 9 11\n1\n3 8 10 11\n1\n\
       3 9 10 11\n";
 
+/// A list of 25 hole points, but for the last: these are beyond the hull.
+const BEYOND_24: &[u8] =
+    b"25\n1 9 9 9\n2 9 9 9\n3 9 9 9\n4 9 9 9\n5 9 9 9\n6 9 9 9\n7 9 9 9\n8 9 9 9\n\
+      9 9 9 9\n10 9 9 9\n11 9 9 9\n12 9 9 9\n13 9 9 9\n14 9 9 9\n15 9 9 9\n16 9 9 9\n\
+      17 9 9 9\n18 9 9 9\n19 9 9 9\n20 9 9 9\n21 9 9 9\n22 9 9 9\n23 9 9 9\n24 9 9 9\n";
+
 /// A box in a box.
 const BOX_IN_BOX: &[u8] =
     b"16 3 0 0\n1 0 0 0\n2 3 0 0\n3 3 3 0\n4 0 3 0\n5 0 0 3\n6 3 0 3\n7 3 3 3\n8 0 3 3\n9 1 1 1\n\
@@ -238,7 +244,7 @@ fn complexes_are_meshed(rt: HostRuntime) -> Result<(), Fail> {
     Ok(())
 }
 
-static CARVED: [Run<'static>; 14] = [
+static CARVED: [Run<'static>; 15] = [
     Run {
         name: "hole points on a facet, a side and a corner, and beyond the hull",
         held: &[(
@@ -359,6 +365,13 @@ static CARVED: [Run<'static>; 14] = [
     Run {
         name: "a box in a box with a hole in the inner one",
         held: &[(b"t.poly", &[BOX_IN_BOX, b"1\n1 1.4 1.5 1.6\n"])],
+        words: &[b"-p", b"t"],
+        end: Told(b"points 16 added 0 tetrahedra 36 faces 84 edges 62\n"),
+        files: &[],
+    },
+    Run {
+        name: "a box in a box with a hole in the inner one, behind 24 beyond the hull",
+        held: &[(b"t.poly", &[BOX_IN_BOX, BEYOND_24, b"25 1.4 1.5 1.6\n"])],
         words: &[b"-p", b"t"],
         end: Told(b"points 16 added 0 tetrahedra 36 faces 84 edges 62\n"),
         files: &[],
