@@ -2,20 +2,14 @@
 //! facets.
 #![tactic(auto)]
 
-use program_words::words_of;
+use program_start::start;
 use run_steps::Status;
-use std::alloc::Global;
 use std::process::ExitCode;
-use tet_ports::{OsFolder, StdSink};
 pub use tetgen_run::run_tetgen;
 
 fn main(rt: HostRuntime) -> ExitCode {
-    let Ok(words) = words_of(&rt) else {
-        return ExitCode::from(Status::NoMemory.code());
-    };
-    let mut out = StdSink::new(rt.stdout());
-    let mut err = StdSink::new(rt.stderr());
-    let alloc = rt.alloc();
-    let mut folder = OsFolder::new(rt);
-    ExitCode::from(run_tetgen(alloc, &words, &mut folder, &mut out, &mut err).code())
+    let no_memory = Status::NoMemory.code();
+    start(rt, no_memory, |alloc, words, folder, out, err| {
+        run_tetgen(alloc, words, folder, out, err).code()
+    })
 }
