@@ -2,8 +2,4 @@
 #![tactic(auto)]
 
 #[cfg(test)]
-mod grids;
-#[cfg(test)]
-mod meshes;
-#[cfg(test)]
-mod texts;
+mod tests;

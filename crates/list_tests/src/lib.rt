@@ -2,8 +2,4 @@
 #![tactic(auto)]
 
 #[cfg(test)]
-mod mesh_texts;
-#[cfg(test)]
-mod neighbors;
-#[cfg(test)]
-mod tet_lists;
+mod tests;

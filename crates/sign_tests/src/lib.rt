@@ -2,10 +2,4 @@
 #![tactic(auto)]
 
 #[cfg(test)]
-mod complex_parts;
-#[cfg(test)]
-mod signs;
-#[cfg(test)]
-mod simplex_places;
-#[cfg(test)]
-mod simplices;
+mod tests;

@@ -1,0 +1,5 @@
+//! Tests of reading and checking a mesh, on worked rows.
+
+mod grids;
+mod meshes;
+mod texts;

@@ -1,0 +1,141 @@
+//! Runs that fit the decimals of a model to its grid, over a folder and streams in memory.
+
+use crate::tests::harness::End::{Refused, Told};
+use crate::tests::harness::Program::Tetfit;
+use crate::tests::harness::{Run, other_run};
+use std::test::Fail;
+
+/// A tetrahedron one of whose zeros is written with many decimals, as programs for floats do.
+const TINY: &[u8] = b"4 3 0 0\n0 0.000000000000000012 0 0\n1 1 0 0\n2 0 1.5 0\n3 0 0 1\n";
+
+/// The same as `1.2e-17`.
+const EXPONENT: &[u8] = b"4 3 0 0\n0 1.2e-17 0 0\n1 1 0 0\n2 0 1.5 0\n3 0 0 1\n";
+
+const NODE: &[u8] = b"4 3 0 0\n0 0 0 0\n1 1 0 0\n2 0 1.5 0\n3 0 0 1\n";
+
+/// An L-shaped beam with a cavity of six decimals, for one of whose sides the grid is too coarse.
+const BEAM: &[u8] =
+    b"16 3 0 0\n1 0 0 -8\n2 2 0 -8\n3 2 1 -8\n4 1 1 -8\n5 1 2 -8\n6 0 2 -8\n7 0 0 8\n8 2 0 8\n\
+      9 2 1 8\n10 1 1 8\n11 1 2 8\n12 0 2 8\n13 0.912345 0.5 0\n14 0.5 0.912345 0\n15 0.6 0.6 0.2\n\
+      16 0.6 0.6 -0.2\n12 0\n1\n6 1 2 3 4 5 6\n1\n6 7 8 9 10 11 12\n1\n4 1 2 8 7\n1\n4 2 3 9 8\n1\n\
+      4 3 4 10 9\n1\n4 4 5 11 10\n1\n4 5 6 12 11\n1\n4 6 1 7 12\n1\n3 13 14 15\n1\n3 13 14 16\n1\n\
+      3 13 15 16\n1\n3 14 15 16\n1\n1 0.65 0.65 0\n0\n";
+
+/// A point off each grid.
+const FAR: &[u8] = b"4 3 0 0\n1 0 0 0\n2 12345678.5 0 0\n3 0 1 0\n4 0 0 1\n";
+
+/// Two segments that cross.
+const CROSSED: &[u8] = b"\
+5 3 0 0\n1 0 0 0\n2 2.5 2.5 0\n3 0 2 0\n4 2 0 0\n5 0 0 3\n\
+2 0\n1\n2 1 2\n1\n2 3 4\n0\n0\n";
+
+/// A box with no lid.
+const OPEN: &[u8] = b"\
+8 3 0 0\n1 0 0 0\n2 1 0 0\n3 1 1 0\n4 0 1 0\n5 0 0 1\n6 1 0 1\n7 1 1 1\n8 0 1 1\n\
+5 0\n1\n4 1 2 3 4\n1\n4 5 6 7 8\n1\n4 1 2 6 5\n1\n4 2 3 7 6\n1\n4 3 4 8 7\n0\n0\n";
+
+const FAR_TOLD: &[u8] = b"\
+tetfit: line 3: coordinate off the grid\n\
+tetfit: line 3 has (12345678.5 0 0)\n\
+tetfit: no coordinate may be over 8388608 in size: scale the model down\n";
+
+const CROSSED_TOLD: &[u8] = b"\
+tetfit: segments 1 2 and 3 4 cross\n\
+tetfit: points 1 (0 0 0) 2 (2.5 2.5 0)\n\
+tetfit: points 3 (0 2 0) 4 (2 0 0)\n\
+tetfit: give both segments the point at which they cross\n";
+
+const BEAM_TOLD: &[u8] = b"\
+tetfit: 1 splits used, segment 4 17 is missing\n\
+tetfit: it lies on segment 4 10 of facet 5\n\
+tetfit: allow more added points by -S\n";
+
+const OPEN_TOLD: &[u8] = b"\
+points 8 added 0 tetrahedra 0 faces 0 edges 0 decimals 0\n\
+tetfit: the surface is open: only facet 1 has the side 1 4\n";
+
+/// What is told of a model beside its status.
+static TOLD: [Run<'static>; 4] = [
+    Run {
+        name: "off each grid",
+        held: &[(b"t.node", &[FAR])],
+        words: &[b"t.node"],
+        end: Refused(5, FAR_TOLD),
+        files: &[],
+    },
+    Run {
+        name: "segments that cross",
+        held: &[(b"s.poly", &[CROSSED])],
+        words: &[b"s.poly"],
+        end: Refused(6, CROSSED_TOLD),
+        files: &[],
+    },
+    Run {
+        name: "a missing piece that ends in an added point",
+        held: &[(b"b.poly", &[BEAM])],
+        words: &[b"-S1", b"b.poly"],
+        end: Refused(8, BEAM_TOLD),
+        files: &[],
+    },
+    Run {
+        name: "a box with no lid",
+        held: &[(b"o.poly", &[OPEN])],
+        words: &[b"-NEF", b"o.poly"],
+        end: Told(OPEN_TOLD),
+        files: &[],
+    },
+];
+
+static FITS: [Run<'static>; 5] = [
+    Run {
+        name: "many decimals",
+        held: &[(b"t.node", &[TINY])],
+        words: &[b"t.node"],
+        end: Told(b"points 4 added 0 tetrahedra 1 faces 4 edges 6 decimals 16\n"),
+        files: &[(b"t.1.node", Some(NODE))],
+    },
+    Run {
+        name: "an exponent",
+        held: &[(b"t.node", &[EXPONENT])],
+        words: &[b"t.node"],
+        end: Told(b"points 4 added 0 tetrahedra 1 faces 4 edges 6 decimals 16\n"),
+        files: &[(b"t.1.node", Some(NODE))],
+    },
+    Run {
+        name: "as it stands",
+        held: &[(b"t.node", &[NODE])],
+        words: &[b"t"],
+        end: Told(b"points 4 added 0 tetrahedra 1 faces 4 edges 6 decimals 1\n"),
+        files: &[(b"t.1.node", Some(NODE))],
+    },
+    Run {
+        name: "a segment for which the grid of six decimals is too coarse",
+        held: &[(b"b.poly", &[BEAM])],
+        words: &[b"-NEF", b"b.poly"],
+        end: Told(b"points 16 added 3 tetrahedra 44 faces 103 edges 76 decimals 5\n"),
+        files: &[(b"b.1.ele", None)],
+    },
+    Run {
+        name: "a word that is not understood",
+        held: &[],
+        words: &[b"-V", b"-pq1.4", b"b"],
+        end: Refused(
+            1,
+            b"tetfit: reads and meshes the model\n\
+              tetfit: -pq1.4: q: quality meshes are not there\n",
+        ),
+        files: &[],
+    },
+];
+
+#[test]
+fn decimals_are_fitted(rt: HostRuntime) -> Result<(), Fail> {
+    assert_eq!(rt; other_run(rt.alloc(), Tetfit, &FITS)?, None);
+    Ok(())
+}
+
+#[test]
+fn what_is_known_is_told(rt: HostRuntime) -> Result<(), Fail> {
+    assert_eq!(rt; other_run(rt.alloc(), Tetfit, &TOLD)?, None);
+    Ok(())
+}

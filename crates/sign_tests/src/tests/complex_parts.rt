@@ -1,0 +1,197 @@
+ghost use Rattle.std.specs.Prelude.{All, IsTrue, length};
+ghost use Rattle.simplex_meets.specs.Proper.{IsTriangle, IsSegment, triangle_face};
+ghost use Rattle.box_pairs.specs.Parts.{piece_side};
+
+use crate::tests::simplex_places::places;
+use box_pairs::{Part, PlaneFault, crossings};
+use geo_laws::{Face, FacetTriangle, FacetTriangles, Piece, Pieces, Points, Side};
+use simplex_meets::{is_segment, is_triangle};
+use std::alloc::Global;
+use tet_ports::NoMemory;
+
+fn triangle(f: [u32; 3]) -> FacetTriangle {
+    FacetTriangle {
+        facet: 0,
+        a: f[0],
+        b: f[1],
+        c: f[2],
+    }
+}
+
+fn piece(s: [u32; 2]) -> Piece {
+    Piece {
+        a: s[0],
+        b: s[1],
+        halvings: 0,
+    }
+}
+
+fn are_triangles(points: &Points, triangles: &FacetTriangles) -> bool
+    ensures { IsTrue result → All (λ t. IsTriangle points.now (triangle_face t)) triangles.now }
+{
+    for i in 0..triangles.len() {
+        let t = triangles.at(i);
+        let is = is_triangle(
+            points,
+            Face {
+                a: t.a,
+                b: t.b,
+                c: t.c,
+            },
+        );
+        if !is {
+            return false;
+        }
+    }
+    true
+}
+
+fn are_segments(points: &Points, pieces: &Pieces) -> bool
+    ensures { IsTrue result → All (λ p. IsSegment points.now (piece_side p)) pieces.now }
+{
+    for i in 0..pieces.len() {
+        let p = pieces.at(i);
+        let is = is_segment(points, Side { a: p.a, b: p.b });
+        if !is {
+            return false;
+        }
+    }
+    true
+}
+
+/// The corners of a part; the second end of a piece twice.
+fn corners_of(part: Part) -> [u32; 3] {
+    match part {
+        Part::Triangle(t) => [t.a, t.b, t.c],
+        Part::Segment(p) => [p.a, p.b, p.b],
+    }
+}
+
+/// Triangles and pieces, and the corners of the first two parts that cross.
+struct Case {
+    triangles: &'static [[u32; 3]],
+    pieces: &'static [[u32; 2]],
+    first: Option<[[u32; 3]; 2]>,
+}
+
+static CASES: [Case; 15] = [
+    // The square with three pieces.
+    Case {
+        triangles: &[[0, 1, 2], [0, 2, 3]],
+        pieces: &[[0, 1], [2, 3], [0, 5]],
+        first: None,
+    },
+    // Pieces that cross are not told.
+    Case {
+        triangles: &[],
+        pieces: &[[0, 2], [1, 3]],
+        first: None,
+    },
+    // Triangles of one plane that overlap: the first such two.
+    Case {
+        triangles: &[[0, 2, 3], [0, 1, 2], [0, 1, 3]],
+        pieces: &[[4, 5]],
+        first: Some([[0, 2, 3], [0, 1, 3]]),
+    },
+    // A piece that ends on a side, and one that lies on it.
+    Case {
+        triangles: &[[0, 1, 2], [0, 2, 3]],
+        pieces: &[[5, 6], [4, 5]],
+        first: Some([[0, 1, 2], [4, 5, 5]]),
+    },
+    Case {
+        triangles: &[[0, 1, 2]],
+        pieces: &[[0, 4]],
+        first: Some([[0, 1, 2], [0, 4, 4]]),
+    },
+    // A common corner: in one plane, and not in one.
+    Case {
+        triangles: &[[0, 1, 4], [2, 3, 4]],
+        pieces: &[],
+        first: None,
+    },
+    Case {
+        triangles: &[[0, 1, 4], [2, 5, 4]],
+        pieces: &[],
+        first: None,
+    },
+    // A common corner, and the one goes through the other.
+    Case {
+        triangles: &[[0, 1, 2], [0, 6, 5]],
+        pieces: &[],
+        first: Some([[0, 1, 2], [0, 6, 5]]),
+    },
+    // A common side: in one plane, and not in one.
+    Case {
+        triangles: &[[1, 2, 0], [0, 2, 3], [2, 0, 5]],
+        pieces: &[],
+        first: None,
+    },
+    // A common part of a side, and the same where the one is cut at the end of that part.
+    Case {
+        triangles: &[[0, 1, 2], [0, 4, 5]],
+        pieces: &[],
+        first: Some([[0, 1, 2], [0, 4, 5]]),
+    },
+    Case {
+        triangles: &[[0, 1, 4], [4, 1, 2], [0, 4, 5]],
+        pieces: &[],
+        first: None,
+    },
+    // A corner that touches the other from one side, within it and on its side.
+    Case {
+        triangles: &[[2, 5, 7], [1, 3, 6]],
+        pieces: &[],
+        first: Some([[2, 5, 7], [1, 3, 6]]),
+    },
+    Case {
+        triangles: &[[0, 1, 2], [4, 5, 7]],
+        pieces: &[],
+        first: Some([[0, 1, 2], [4, 5, 7]]),
+    },
+    // The same triangle twice.
+    Case {
+        triangles: &[[0, 1, 2], [2, 0, 1]],
+        pieces: &[],
+        first: None,
+    },
+    Case {
+        triangles: &[],
+        pieces: &[],
+        first: None,
+    },
+];
+
+fn told(answer: Result<(), PlaneFault>) -> Result<Option<[[u32; 3]; 2]>, NoMemory> {
+    match answer {
+        Ok(()) => Ok(None),
+        Err(PlaneFault::Crossing { one, two }) => Ok(Some([corners_of(one), corners_of(two)])),
+        Err(PlaneFault::NoMemory) => Err(NoMemory),
+    }
+}
+
+/// What `crossings` tells; None where it may not be asked.
+fn crossing(alloc: Global, case: &Case) -> Result<Option<Option<[[u32; 3]; 2]>>, NoMemory> {
+    let points = places(alloc)?;
+    let mut triangles = FacetTriangles::new(alloc);
+    for f in case.triangles {
+        triangles.push(triangle(*f))?;
+    }
+    let mut pieces = Pieces::new(alloc);
+    for s in case.pieces {
+        pieces.push(piece(*s))?;
+    }
+    if are_triangles(&points, &triangles) && are_segments(&points, &pieces) {
+        Ok(Some(told(crossings(alloc, &points, &pieces, &triangles))?))
+    } else {
+        Ok(None)
+    }
+}
+
+#[test]
+fn first_crossings(rt: HostRuntime) {
+    let alloc = rt.alloc();
+    for (i, case) in CASES.iter().enumerate() {
+        assert_eq!(rt; crossing(alloc, case), Ok(Some(case.first)), "case {i}");
+    }
+}
