@@ -29,7 +29,7 @@ pub record IsValidRun (words : List (List ℕ)) (folder : FolderSeen) : Type 0 w
       → (v : IsValid (mesh_options (options_of words) bound.table) bound.table.points bound.complex)
       × HasNoAnomaly v.qs (complex_triangles v.qs v.fs)
 
--- Where no count of faults rose, such a run is done, or memory was wanting
+-- Where no fetch, no store and no put failed, such a run is done, or memory was wanting
 abbrev pub ValidRunLaw : Type 0
 ValidRunLaw = (words : List (List ℕ)) (folder : FolderSeen) (out : SinkSeen) (status : Status) → IsValidRun words folder
     → HasNoFault folder out → IsAnswer words folder out status → (status ≡ Done) ⊎ (status ≡ NoMemory)

@@ -10,7 +10,7 @@ pub fn law_valid_complex()
 {}
 
 /// A run over such a complex ends well, but for want of memory: where its words are in the grammar,
-/// the files that they name are read and within the limits, and no count of faults rose.
+/// the files that they name are read and within the limits, and no fetch, store or put failed.
 pub fn law_valid_run()
     ensures { ValidRunLaw }
 {}

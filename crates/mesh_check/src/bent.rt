@@ -56,7 +56,8 @@ fn is_bent_at(mesh: Bending, s: Tet, t: Tet, p: u8, q: u8) -> bool
 fn bent_corner(mesh: Bending, s: Tet, t: Tet, p: u8) -> Option<u8>
     requires s { IsOn mesh.points.now s }
     requires t { IsOn mesh.points.now t }
-    ensures { IsLeastOf (λ q. (q < 4) × IsBentOnce mesh.entry.points.now mesh.entry.listed.now s t p q) result }
+    ensures { IsLeastOf
+        (λ q. (q < 4) × IsBentOnce mesh.entry.points.now mesh.entry.listed.now s t p q) result }
 {
     for q in 0..CORNERS {
         if is_bent_at(mesh, s, t, p, q) {
@@ -70,7 +71,8 @@ fn bent_corner(mesh: Bending, s: Tet, t: Tet, p: u8) -> Option<u8>
 fn first_bent_corner(mesh: Bending, s: Tet, t: Tet) -> Option<u8>
     requires s { IsOn mesh.points.now s }
     requires t { IsOn mesh.points.now t }
-    ensures { IsLeastOf (λ p. (p < 4) × IsBentFrom mesh.entry.points.now mesh.entry.listed.now s t p) result }
+    ensures { IsLeastOf
+        (λ p. (p < 4) × IsBentFrom mesh.entry.points.now mesh.entry.listed.now s t p) result }
 {
     for p in 0..CORNERS {
         if bent_corner(mesh, s, t, p).is_some() {
@@ -86,7 +88,8 @@ fn bent_across(mesh: Bending, place: usize, across: Across, corner: u8) -> Optio
     requires place { place < length mesh.list.now }
     requires rows { All (IsOn mesh.points.now) mesh.list.now }
     requires within { IsAcrossWithin (length mesh.list.now) across }
-    ensures { IsLeastOf (IsBentAcross mesh.entry.points.now mesh.entry.listed.now mesh.entry.list.now place across corner) result }
+    ensures { IsLeastOf (IsBentAcross mesh.entry.points.now mesh.entry.listed.now
+        mesh.entry.list.now place across corner) result }
 {
     let two = entry_in(across, corner)?;
     if two <= place {
@@ -105,7 +108,8 @@ fn first_bent_with(mesh: Bending, place: usize, across: Across) -> Option<usize>
     requires place { place < length mesh.list.now }
     requires rows { All (IsOn mesh.points.now) mesh.list.now }
     requires within { IsAcrossWithin (length mesh.list.now) across }
-    ensures { IsLeastOf (MeetsBent mesh.entry.points.now mesh.entry.listed.now mesh.entry.list.now place across 4) result }
+    ensures { IsLeastOf (MeetsBent mesh.entry.points.now mesh.entry.listed.now mesh.entry.list.now
+        place across 4) result }
 {
     let mut least = None;
     for corner in 0..CORNERS {

@@ -28,7 +28,12 @@ use tet_ports::NoMemory;
 fn rows_defect(alloc: Global, points: &Points, list: &TetList) -> Result<Option<Defect>, NoMemory>
     requires { All (IsOn points.now) list.now }
     ensures { IfOk result (λ defect. (faces : List FaceRow) (neighbors : List Across)
-        → IsFirstOfKinds (record { points = points.now; rows = list.now; faces = faces; neighbors = neighbors }) 0 2 defect) }
+        → IsFirstOfKinds (record {
+          points = points.now;
+          rows = list.now;
+          faces = faces;
+          neighbors = neighbors;
+        }) 0 2 defect) }
 {
     if let Some(row) = first_not_positive(points, list) {
         return Ok(Some(Defect::NotPositive { row }));
@@ -71,7 +76,12 @@ fn faces_defect(
     requires pairs { pairs.now ≡ pairs_of list.now }
     requires within { AreAllWithin (length pairs.now) pairs.now }
     ensures { IfOk result (λ defect. (neighbors : List Across)
-        → IsFirstOfKinds (record { points = points.now; rows = list.now; faces = faces.now; neighbors = neighbors }) 4 7 defect) }
+        → IsFirstOfKinds (record {
+          points = points.now;
+          rows = list.now;
+          faces = faces.now;
+          neighbors = neighbors;
+        }) 4 7 defect) }
 {
     let owned = owned_faces(alloc, list)?;
     if let Some(face) = first_stray(list, faces, &owned) {

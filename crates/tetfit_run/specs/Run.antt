@@ -34,7 +34,7 @@ use Rattle.tetfit_run.specs.Outputs.{IsMore, OutputsOfFit, fit_limits, outputs_a
 abbrev pub IsFitAnswer : List (List ℕ) → FolderSeen → SinkSeen → Status → Type 0
 IsFitAnswer words folder = AnswersBy (OutputsOfFit words folder) folder
 
--- where the files are told, no count of faults rose and memory was not wanting, each answer that has a cause is the answer, but for facets
+-- where the files are told, nothing failed and memory was not wanting, each answer that has a cause is the answer, but for facets
 -- that are tangled, as of a run on exact texts
 abbrev pub IsFitComplete : List (List ℕ) → FolderSeen → SinkSeen → Status → Type 0
 IsFitComplete words folder out status =
