@@ -19,6 +19,7 @@ use Rattle.box_tree.proofs.Lists.{less_or_more}
 use Rattle.tangle_fill.specs.Fill.{is_corner_or_outside, Passes}
 use Rattle.tangle_fill.specs.Sphere.{HoldsSphere}
 use Rattle.tangle_fill.proofs.Boxed.{common_point, held_point}
+use Rattle.tangle_fill.proofs.Trees.{point_tree_had}
 
 or_yes : (a : Bool) → (a || true) ≡ true
 or_yes true = refl
@@ -42,12 +43,12 @@ far_passes ps ts t i b c sphere holds apart = record { either = inl (by (sign_of
 abbrev pub ArePassed : List Point → List FacetTriangle → Tet → List Node → ℕ → Type 0
 ArePassed ps ts t nodes i = (j : ℕ) (d : Node) → j < i → Passes ps ts t (get_or nodes j d).own.place
 
-pub passed_further : (ps : List Point) (ts : List FacetTriangle) (t : Tet) (nodes : List Node) (b : Bounds) (i k : ℕ) → IsPointTree ps nodes → HoldsSphere (corners ps t) b → ArePassed ps ts t nodes i → AreApartBetween nodes b i k → k ≤ length nodes
+pub passed_further : (ps : List Point) (ts : List FacetTriangle) (t : Tet) (nodes : List Node) (b : Bounds) (i k : ℕ) → ∥ IsPointTree ps nodes ∥₁ → HoldsSphere (corners ps t) b → ArePassed ps ts t nodes i → AreApartBetween nodes b i k → k ≤ length nodes
     → ArePassed ps ts t nodes k
 passed_further ps ts t nodes b i k tree sphere h apart l j d m = go (less_or_more j i)
   where
     far : i ≤ j → Passes ps ts t (get_or nodes j d).own.place
-    far a = far_passes ps ts t (get_or nodes j d).own.place b (get_or nodes j d).own.bounds sphere (tree.listed j d (omega arith)).1 (apart j d a m)
+    far a = far_passes ps ts t (get_or nodes j d).own.place b (get_or nodes j d).own.bounds sphere ((point_tree_had ps nodes tree).listed j d (omega arith)).1 (apart j d a m)
 
     go : (j < i) ⊎ ((j ≡ i) ⊎ (i < j)) → Passes ps ts t (get_or nodes j d).own.place
     go (inl a) = h j d a
@@ -62,13 +63,13 @@ passed_more ps ts t nodes i n at h p j d m = go (less_or_more j i)
     go (inr (inl a)) = subst (λ (m : Node). Passes ps ts t m.own.place) (sym (ap (λ x. get_or nodes x d) a ∙ at d)) p
     go (inr (inr a)) = absurd (omega arith)
 
-pub all_passed : (ps : List Point) (ts : List FacetTriangle) (t : Tet) (nodes : List Node) (i : ℕ) → IsPointTree ps nodes → length nodes ≤ i → ArePassed ps ts t nodes i → (k : ℕ) → k < length ps → Passes ps ts t k
-all_passed ps ts t nodes i tree l h k m = at_node (tree.each k m)
+pub all_passed : (ps : List Point) (ts : List FacetTriangle) (t : Tet) (nodes : List Node) (i : ℕ) → ∥ IsPointTree ps nodes ∥₁ → length nodes ≤ i → ArePassed ps ts t nodes i → (k : ℕ) → k < length ps → Passes ps ts t k
+all_passed ps ts t nodes i tree l h k m = at_node ((point_tree_had ps nodes tree).each k m)
   where
     at_node : Any (λ n. n.own.place ≡ k) nodes → Passes ps ts t k
     at_node a =
         let low = a.2 in
         subst (Passes ps ts t) (ap (λ (n : Node). n.own.place) a.3 ∙ a.4) (h a.0 a.1 (omega arith))
 
-pub place_of : (ps : List Point) (nodes : List Node) (k : ℕ) (n : Node) → IsPointTree ps nodes → k < length nodes → HoldsAt (λ m. m ≡ n) nodes k → n.own.place < length ps
-place_of ps nodes k n tree l at = subst (λ (m : Node). m.own.place < length ps) (at n) (tree.listed k n l).0
+pub place_of : (ps : List Point) (nodes : List Node) (k : ℕ) (n : Node) → ∥ IsPointTree ps nodes ∥₁ → k < length nodes → HoldsAt (λ m. m ≡ n) nodes k → n.own.place < length ps
+place_of ps nodes k n tree l at = subst (λ (m : Node). m.own.place < length ps) (at n) ((point_tree_had ps nodes tree).listed k n l).0

@@ -1,7 +1,7 @@
 -- What a list that was found in any way changes of an old one, the points that are corners of what changed, and the rows of it that have a
 -- face among these points: beside any other face stand two old rows, or a face of the hull.
 use Rattle.std.specs.Prelude.{◌≡◌, ◌⊎◌, ℕ, Bool, false, IsTrue, List, [], ◌∷◌, ◌++◌, All, AllPairs, Contains}
-use Rattle.std.specs.List.{AllByRecursion, list_any, slice_index_or}
+use Rattle.std.specs.List.{AllByRecursion, list_any}
 use Rattle.sign_predicates.specs.Point.{Point}
 use Rattle.geo_laws.specs.Delaunay.{IsArranged}
 use Rattle.geo_laws.specs.OrientedFace.{Face, reversed}

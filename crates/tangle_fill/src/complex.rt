@@ -1,13 +1,21 @@
 //! The points and the facet triangles, with the trees of the boxes round them.
+ghost use Rattle.std.specs.Prelude.{◌^◌, ◌-◌, ◌<◌, length};
+ghost use Rattle.box_tree.specs.Bodies.{IsPointTree, IsTriangleTree};
+ghost use Rattle.tangle_fill.specs.Fill.{AreFacetTriangles};
+
 use box_tree::Tree;
 use geo_laws::{FacetTriangles, Points};
 
-/// The points, the triangles of the facets on them, and the trees of the boxes of both, in which
-/// what is near a tetrahedron is found.
+/// The points, whose numbers have 32 bits, the triangles of the facets on them, and the trees of
+/// the boxes of both, in which what is near a tetrahedron is found.
 #[derive(Drop)]
 pub(crate) struct IndexedComplex<'a> {
     pub(crate) points: &'a Points,
     pub(crate) triangles: &'a FacetTriangles,
     pub(crate) point_tree: Tree,
     pub(crate) triangle_tree: Tree,
+    ghost few: { length points.now < 2 ^ 32 - 1 },
+    ghost facets: { AreFacetTriangles points.now triangles.now },
+    ghost over_points: { ∥ IsPointTree points.now point_tree ∥₁ },
+    ghost over_triangles: { ∥ IsTriangleTree points.now triangles.now triangle_tree ∥₁ },
 }

@@ -13,10 +13,11 @@ use Rattle.tangle_laws.specs.Hidden.{hides}
 use Rattle.tangle_laws.proofs.Apart.{fails_true}
 use Rattle.tangle_fill.proofs.Boxed.{not_hiding, spans_of}
 use Rattle.tangle_fill.proofs.Near.{none_done, done_further, done_more, all_done}
+use Rattle.tangle_fill.proofs.Trees.{triangle_tree_had}
 use Rattle.tangle_fill.proofs.admit.shade_near.Goals as goal
 
 pub next_meeting-k-requires-clause-tree : goal.next_meeting-k-requires-clause-tree
-next_meeting-k-requires-clause-tree c = c.requires.complex.triangle_tree.tree
+next_meeting-k-requires-clause-tree c = (triangle_tree_had _ _ _ c.args.complex.now.over_triangles).tree
 
 pub loop-k-init : goal.loop-k-init
 loop-k-init c =
@@ -32,19 +33,19 @@ loop-k-init c =
     record {
       there = c.next_meeting-k.ensures.there;
       done =
-          done_further P ps ts nodes bounds 0 c.next_meeting-k.result c.requires.complex.triangle_tree
-          (λ u b m h a. not_hiding ps ts t i u b bounds (member_of ts u m) (spans_of ps ts c.requires.complex.facets u m) c.requires.free.positive c.requires.free.free h corner at a)
+          done_further P ps ts nodes bounds 0 c.next_meeting-k.result (triangle_tree_had _ _ _ c.args.complex.now.over_triangles)
+          (λ u b m h a. not_hiding ps ts t i u b bounds (member_of ts u m) (spans_of ps ts c.args.complex.now.facets u m) c.requires.free.positive c.requires.free.free h corner at a)
           (none_done P ts nodes) c.next_meeting-k.ensures.apart c.next_meeting-k.ensures.there;
     }
 
 pub at-requires-in-loop-k : goal.at-requires-in-loop-k
-at-requires-in-loop-k c = place_there c.args.complex.now.triangle_tree c.loop-k.k c.get.result.now c.requires.complex.triangle_tree (omega arith) c.get.ensures
+at-requires-in-loop-k c = place_there c.args.complex.now.triangle_tree c.loop-k.k c.get.result.now (triangle_tree_had _ _ _ c.args.complex.now.over_triangles) (omega arith) c.get.ensures
 
 pub next_meeting-k-requires-in-loop-k-clause-tree : goal.next_meeting-k-requires-in-loop-k-clause-tree
-next_meeting-k-requires-in-loop-k-clause-tree c = c.requires.complex.triangle_tree.tree
+next_meeting-k-requires-in-loop-k-clause-tree c = (triangle_tree_had _ _ _ c.args.complex.now.over_triangles).tree
 
 pub is_behind-requires-clause-of_facet : goal.is_behind-requires-clause-of_facet
-is_behind-requires-clause-of_facet c = (c.get.result.now.own.place, place_there c.args.complex.now.triangle_tree c.loop-k.k c.get.result.now c.requires.complex.triangle_tree (omega arith) c.get.ensures, c.at-in-loop-k.ensures c.at-in-loop-k.result)
+is_behind-requires-clause-of_facet c = (c.get.result.now.own.place, place_there c.args.complex.now.triangle_tree c.loop-k.k c.get.result.now (triangle_tree_had _ _ _ c.args.complex.now.over_triangles) (omega arith) c.get.ensures, c.at-in-loop-k.ensures c.at-in-loop-k.result)
 
 pub loop-k-preserved : goal.loop-k-preserved
 loop-k-preserved c =
@@ -60,8 +61,8 @@ loop-k-preserved c =
     record {
       there = c.next_meeting-k-in-loop-k.ensures.there;
       done =
-          done_further P ps ts nodes bounds (c.loop-k.k + 1) c.next_meeting-k-in-loop-k.result c.requires.complex.triangle_tree
-          (λ u b m h a. not_hiding ps ts t i u b bounds (member_of ts u m) (spans_of ps ts c.requires.complex.facets u m) c.requires.free.positive c.requires.free.free h corner at a)
+          done_further P ps ts nodes bounds (c.loop-k.k + 1) c.next_meeting-k-in-loop-k.result (triangle_tree_had _ _ _ c.args.complex.now.over_triangles)
+          (λ u b m h a. not_hiding ps ts t i u b bounds (member_of ts u m) (spans_of ps ts c.args.complex.now.facets u m) c.requires.free.positive c.requires.free.free h corner at a)
           (done_more P ts nodes c.loop-k.k c.get.result.now c.at-in-loop-k.result c.get.ensures c.at-in-loop-k.ensures c.loop-k.invariant.done (sym c.is_behind.ensures ∙ c.if-is_behind.false))
           c.next_meeting-k-in-loop-k.ensures.apart c.next_meeting-k-in-loop-k.ensures.there;
     }
@@ -69,7 +70,7 @@ loop-k-preserved c =
 pub returns-then-is_behind : goal.returns-then-is_behind
 returns-then-is_behind c =
     let ts = c.args.complex.now.triangles.now in
-    let m = member_of ts c.at-in-loop-k.result (c.get.result.now.own.place, place_there c.args.complex.now.triangle_tree c.loop-k.k c.get.result.now c.requires.complex.triangle_tree (omega arith) c.get.ensures, c.at-in-loop-k.ensures c.at-in-loop-k.result) in
+    let m = member_of ts c.at-in-loop-k.result (c.get.result.now.own.place, place_there c.args.complex.now.triangle_tree c.loop-k.k c.get.result.now (triangle_tree_had _ _ _ c.args.complex.now.over_triangles) (omega arith) c.get.ensures, c.at-in-loop-k.ensures c.at-in-loop-k.result) in
     record {
       by_sign =
           any_true (λ k. hides (triangle c.args.complex.now.points.now (facet_face k)) (centroid (corners c.args.complex.now.points.now c.args.row)) (as_rational (point c.args.complex.now.points.now c.args.i))) ts c.at-in-loop-k.result m
@@ -83,4 +84,4 @@ returns c s =
     let test = λ (k : FacetTriangle). hides (triangle ps (facet_face k)) (centroid (corners ps c.args.row)) (as_rational (point ps c.args.i)) in
     let P : FacetTriangle → Type 0 = λ k. hides (triangle ps (facet_face k)) (centroid (corners ps c.args.row)) (as_rational (point ps c.args.i)) ≡ false in
     let k = some_true test ts s.by_sign in
-    fails_true _ (all_done P ps ts c.args.complex.now.triangle_tree c.loop-k.k c.requires.complex.triangle_tree (omega arith) c.loop-k.invariant.done k.0 (contains_of ts k.0 k.1)) k.2
+    fails_true _ (all_done P ps ts c.args.complex.now.triangle_tree c.loop-k.k (triangle_tree_had _ _ _ c.args.complex.now.over_triangles) (omega arith) c.loop-k.invariant.done k.0 (contains_of ts k.0 k.1)) k.2

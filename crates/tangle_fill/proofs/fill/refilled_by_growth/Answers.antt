@@ -10,7 +10,7 @@ test_count-requires-clause-admissible c =
 
 pub test_count-requires-clause-some : goal.test_count-requires-clause-some
 test_count-requires-clause-some c =
-    not_empty c.args.complex.now.points.now c.args.complex.now.triangles.now c.args.list.now c.keep_distinct.new.self c.requires.complex.facets c.requires.delaunay c.requires.some
+    not_empty c.args.complex.now.points.now c.args.complex.now.triangles.now c.args.list.now c.keep_distinct.new.self c.args.complex.now.facets c.requires.delaunay c.requires.some
     (ordered_grown c.args.complex.now.points.now c.args.complex.now.triangles.now c.args.list.now c.in_ok-growth.growth.rows c.keep_distinct.new.self c.keep_distinct.ensures.exactly c.keep_distinct.ensures.ascending c.in_ok-growth.ensures.grown)
 
 pub test_bent-requires-clause-whole : goal.test_bent-requires-clause-whole
@@ -21,7 +21,7 @@ test_bent-requires-clause-whole c =
     c.in_ok-growth.ensures.grown
     in
     record {
-      whole = whole_of c.args.complex.now.points.now c.args.complex.now.triangles.now c.args.list.now c.keep_distinct.new.self c.requires.complex.facets grown one.0 one.1 one.2;
+      whole = whole_of c.args.complex.now.points.now c.args.complex.now.triangles.now c.args.list.now c.keep_distinct.new.self c.args.complex.now.facets grown one.0 one.1 one.2;
       one_a_side = grown.growth.one_a_side;
       indexed =
           indexed_order c.in_ok-growth.growth (record { rows = c.keep_distinct.new.self; sides = c.in_ok-growth.growth.sides }) c.in_ok-growth.ensures.indexed refl
@@ -31,6 +31,6 @@ test_bent-requires-clause-whole c =
 pub returns : goal.returns
 returns c =
     let one = c.in_ok-test_count.ensures in
-    law_refilled c.args.complex.now.points.now c.args.complex.now.triangles.now c.args.list.now c.keep_distinct.new.self c.requires.complex.facets.ascend c.requires.complex.facets.spans
+    law_refilled c.args.complex.now.points.now c.args.complex.now.triangles.now c.args.list.now c.keep_distinct.new.self c.args.complex.now.facets.ascend c.args.complex.now.facets.spans
     (ordered_grown c.args.complex.now.points.now c.args.complex.now.triangles.now c.args.list.now c.in_ok-growth.growth.rows c.keep_distinct.new.self c.keep_distinct.ensures.exactly c.keep_distinct.ensures.ascending c.in_ok-growth.ensures.grown)
     (rows_ascend c.keep_distinct.new.self c.keep_distinct.ensures.ascending) one.0 one.1 one.2 c.in_ok-test_bent.ensures
