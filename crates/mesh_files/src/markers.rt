@@ -83,21 +83,24 @@ fn face_room(uses: &Uses, all: bool) -> usize {
     }
 }
 
+/// A face with a marker.
+fn marked(face: Face, marker: i64) -> FaceRow
+    ensures corners { corners_of result ≡ face }
+    ensures marker { result.marker ≡ marker }
+{
+    let Face { a, b, c } = face;
+    FaceRow { a, b, c, marker }
+}
+
 /// A face with the marker of the facet at this place, from 0, and 1 where that has none.
 fn in_facet(face: Face, complex: &Complex, facet: u32) -> FaceRow
     requires { facet < length complex.now.facets }
     ensures corners { corners_of result ≡ face }
     ensures marker { HoldsAt (λ f. result.marker ≡ marker_or_1 f.marker) complex.now.facets facet }
 {
-    let marker = match complex.facet(facet).marker {
-        Some(marker) => marker,
-        None => 1,
-    };
-    FaceRow {
-        a: face.a,
-        b: face.b,
-        c: face.c,
-        marker,
+    match complex.facet(facet).marker {
+        Some(marker) => marked(face, marker),
+        None => marked(face, 1),
     }
 }
 
@@ -106,13 +109,7 @@ pub(crate) fn in_no_facet(face: Face, on_hull: bool) -> FaceRow
     ensures corners { corners_of result ≡ face }
     ensures marker { result.marker ≡ (if on_hull then pos 1 else pos 0) }
 {
-    let marker = if on_hull { 1 } else { 0 };
-    FaceRow {
-        a: face.a,
-        b: face.b,
-        c: face.c,
-        marker,
-    }
+    marked(face, if on_hull { 1 } else { 0 })
 }
 
 /// The face whose first use is at a place, with its marker, if it is asked for.

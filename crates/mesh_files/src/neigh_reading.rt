@@ -5,12 +5,11 @@ ghost use Rattle.tet_text.specs.Lines.{content_lines, line_count_of};
 ghost use Rattle.tet_text.specs.Reading.{left_after};
 ghost use Rattle.tet_text.specs.Views.{content_left, line_total};
 ghost use Rattle.mesh_files.specs.Outcome.{MeshGives};
-ghost use Rattle.mesh_files.specs.Repeated.{next_row};
 ghost use Rattle.mesh_files.specs.ReadRows.{neighbor_place, neighbor_at, across_row, neighbors_of, neigh_of};
-ghost use Rattle.tet_text.specs.Repeated.{so_many};
 
 use crate::MeshFault;
-use crate::field_reading::{Head, read_four_head, read_number};
+use crate::field_reading::{Listed, read_four_head, read_number};
+use crate::rows::{Row, read_rows};
 use incidence::Across;
 use std::alloc::Global;
 use tet_ports::{Bytes, Items};
@@ -45,51 +44,28 @@ fn read_neighbor(first: u32, fields: &mut Fields) -> Result<Option<usize>, TextF
     })
 }
 
-/// A row with the wanted number: its four neighbors.
-#[tactic(auto, unfolding(crate::specs::ReadRows::across_row))]
-fn read_row(first: u32, wanted: u64, fields: &mut Fields) -> Result<Across, TextFault>
-    ensures { result ≡ across_row first wanted fields.old }
-{
-    read_number(wanted, fields)?;
-    let n0 = read_neighbor(first, fields)?;
-    let n1 = read_neighbor(first, fields)?;
-    let n2 = read_neighbor(first, fields)?;
-    let n3 = read_neighbor(first, fields)?;
-    fields.want_end()?;
-    Ok(Across { n0, n1, n2, n3 })
-}
+impl Row for Across {
+    ghost row_of = { λ listed flag. across_row listed.first };
 
-#[tactic(auto, unfolding(crate::specs::Repeated::next_row))]
-fn read_next(first: u32, wanted: u64, lines: &mut Lines) -> Result<Across, TextFault>
-    requires { line_total lines.old + 1 < 2 ^ 64 }
-    ensures value { left_after (λ row. row) result (wanted + 1, content_left lines.new)
-        ≡ next_row (across_row first) (line_total lines.old) (wanted, content_left lines.old) }
-    ensures count { line_total lines.new ≡ line_total lines.old }
-{
-    let mut fields = lines.want_line()?;
-    read_row(first, wanted, &mut fields)
-}
+    ghost is_below = { λ points across. Unit {0} };
 
-/// So many rows, numbered from the first number on.
-fn read_rows(
-    alloc: Global,
-    first: u32,
-    head: Head,
-    lines: &mut Lines,
-) -> Result<Neighbors, MeshFault>
-    requires count { head.count < 10 ^ 18 }
-    requires lines { line_total lines.old + 1 < 2 ^ 64 }
-    ensures value { MeshGives (λ rows. (rows, (first + head.count, content_left lines.new)))
-        result (so_many (next_row (across_row first) (line_total lines.old)) head.count
-        (first, content_left lines.old)) }
-    ensures count { line_total lines.new ≡ line_total lines.old }
-{
-    let mut rows = Neighbors::new(alloc);
-    for i in 0..head.count {
-        let row = read_next(first, u64::from(first) + i, lines)?;
-        rows.push(row)?;
+    /// A row with the wanted number: its four neighbors.
+    #[tactic(auto, unfolding(crate::specs::ReadRows::across_row))]
+    fn read(
+        listed: Listed,
+        _flag: bool,
+        wanted: u64,
+        fields: &mut Fields,
+    ) -> Result<Across, TextFault> {
+        let first = listed.first;
+        read_number(wanted, fields)?;
+        let n0 = read_neighbor(first, fields)?;
+        let n1 = read_neighbor(first, fields)?;
+        let n2 = read_neighbor(first, fields)?;
+        let n3 = read_neighbor(first, fields)?;
+        fields.want_end()?;
+        Ok(Across { n0, n1, n2, n3 })
     }
-    Ok(rows)
 }
 
 #[tactic(auto, unfolding(crate::specs::ReadRows::neighbors_of))]
@@ -100,7 +76,7 @@ fn read_list(alloc: Global, first: u32, lines: &mut Lines) -> Result<Neighbors, 
 {
     let mut fields = lines.want_line()?;
     let head = read_four_head(false, &mut fields)?;
-    let rows = read_rows(alloc, first, head, lines)?;
+    let rows = read_rows(alloc, Listed { first, points: 0 }, head, lines)?;
     lines.want_end()?;
     Ok(rows)
 }

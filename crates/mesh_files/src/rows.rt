@@ -16,7 +16,7 @@ use std::alloc::Global;
 use tet_ports::Items;
 use tet_text::{Fields, Lines, TextFault};
 
-/// A row of a list: it begins with its number, and has corners, which are points of a list.
+/// A row of a list: it begins with its number, and may have corners, which are points of a list.
 pub(crate) trait Row: Copy {
     /// What a line says as the row with a number, where a flag says whether a further field ends
     /// it.

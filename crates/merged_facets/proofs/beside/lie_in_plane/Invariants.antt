@@ -1,7 +1,0 @@
-use Rattle.std.proofs.Common.{ℕ, ◌<◌, get_or}
-use Rattle.merged_facets.specs.Beside.{LieInPlane}
-use Rattle.merged_facets.proofs.beside.lie_in_plane.Given as goal
-
--- the corners so far do
-abbrev pub invariant-loop-k : goal.invariant-loop-k
-invariant-loop-k l = (k d : ℕ) → k < l.k → LieInPlane l.points l.s l.i (get_or l.corners k d)
