@@ -47,8 +47,17 @@ begins_none b ps closed rows holes before was i = (λ m. inl ((was i).0 m), λ m
     only (inl h) = h
     only (inr (k, h, s)) = absurd (omega arith)
 
-pub front_of : (xs zs : List Bool) (n : ℕ) → n ≡ length xs → take n (xs ++ zs) ≡ xs
+-- where as many marks as there are rows and one more are those at which floods begin
+pub record AreBegun (b : Bool) (ps : List Point) (closed : List Face) (rows : List Tet) (holes : List RationalPoint) (n : ℕ) (marks : List Bool) : Type 0 where
+  pub long : length marks ≡ length rows + 1
+  pub marked : (i : ℕ) → (is_marked marks i ≡ true) ↔ BeginsAt b ps closed rows holes n i
+
+pub front_of : {A : Type 0} (xs zs : List A) (n : ℕ) → n ≡ length xs → take n (xs ++ zs) ≡ xs
 front_of [] zs zero h = refl
 front_of [] zs (suc n) h = absurd (omega arith)
 front_of (x ∷ xs) zs zero h = absurd (omega arith)
 front_of (x ∷ xs) zs (suc n) h = ap (λ s. x ∷ s) (front_of xs zs n (omega arith))
+
+-- what holds of the elements holds of the list that they were written into
+pub written : {A : Type 0} (P : List A → Type 0) (xs zs : List A) (n : ℕ) → n ≡ length xs → P xs → P (take n (xs ++ zs))
+written P xs zs n h p = subst P (sym (front_of xs zs n h)) p

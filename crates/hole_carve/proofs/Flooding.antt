@@ -169,8 +169,8 @@ filled_none ways seeds marks clear = record {
 pub queue_place : (queue : List ℕ) (v : ℕ) → Contains queue v → (q : ℕ) × (q < length queue) × (queue_at queue q ≡ v)
 queue_place queue v c = (c.0, c.1, default_at queue c.0 0 v c.1 ∙ c.2)
 
--- where no place of the list is marked, none is
-pub none_marked : (marks : List Bool) → ((k : ℕ) → k < length marks → is_marked marks k ≡ false) → (i : ℕ) → is_marked marks i ≡ false
-none_marked [] h i = refl
-none_marked (m ∷ marks) h zero = h 0 (omega arith)
-none_marked (m ∷ marks) h (suc i) = none_marked marks (λ k l. h (suc k) (omega arith)) i
+-- where each element is one value, that is read past the end too
+pub one_value : {A : Type 0} (xs : List A) (d : A) → ((k : ℕ) → k < length xs → slice_index_or xs k d ≡ d) → (i : ℕ) → slice_index_or xs i d ≡ d
+one_value [] d h i = refl
+one_value (x ∷ xs) d h zero = h 0 (omega arith)
+one_value (x ∷ xs) d h (suc i) = one_value xs d (λ k l. h (suc k) (omega arith)) i

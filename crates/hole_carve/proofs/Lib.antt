@@ -11,3 +11,4 @@ pub mod Marked
 pub mod KeptMarks
 pub mod Apart
 pub mod Treed
+pub mod Walls

@@ -9,6 +9,8 @@ use Rattle.geo_laws.specs.declared.complex.Region.{Region}
 use Rattle.geo_laws.proofs.Corners.{same_or_not}
 use Rattle.incidence.specs.declared.pairs.Across.{Across}
 use Rattle.hole_carve.specs.Flooding.{queue_at, IsFlooded, IsFloodedFrom, IsQueued, Extends}
+use Rattle.hole_carve.specs.declared.flood.Flood.{Flood}
+use Rattle.hole_carve.specs.Floods.{IsFlood, GoesOn, IsFloodDone, HasReached}
 use Rattle.hole_carve.specs.Seeds.{IsSeedAt}
 use Rattle.hole_carve.specs.Marks.{mark_at, region_point, IsInRegion, IsFirstOf, AreRegionMarks, AreNumbered, AreRegionSeeds, IsPutFrom}
 use Rattle.hole_carve.proofs.Flooding.{flooded_more, flooded_by_some, queue_place}
@@ -157,6 +159,36 @@ numbered_next ps closed rows ways regions n seeds seeds' reached reached' queue 
     go (inl m) any = kept (in_old m) (λ e p. let k = reached_by ps closed rows ways regions n seeds reached queue f i m in none_before P n (mark_at marks i) (was i h) e k.0 k.1 k.2)
     go (inr m) (inl m') = subst (IsFirstOf P (n + 1)) (sym (put_now m m')) (first_now m (reached_by ps closed rows ways regions (n + 1) seeds' reached' queue' f' i m'))
     go (inr m) (inr m') = kept (not_in_new m') (λ e p. never_both (is_marked reached' i) (reached_from ps closed rows ways regions (n + 1) seeds' reached' queue' f' i n (omega arith) p) m')
+
+-- a flood that is over, and the numbers that were put in, as far as some region points tell
+pub record IsNumberedBy (ps : List Point) (closed : List Face) (rows : List Tet) (ways : List Across) (regions : List Region) (n : ℕ) (seeds : List Bool) (flood : Flood) (marks : List (Option ℕ)) : Type 0 where
+  pub seeds_long : length seeds ≡ length rows + 1
+  pub seeds_are : AreRegionSeeds ps closed rows regions n seeds
+  pub flood_is : IsFlood ways seeds flood
+  pub exactly : HasReached flood (IsFlooded ways seeds)
+  pub done : IsFloodDone ways flood
+  pub long : length marks ≡ length rows
+  pub numbered : AreNumbered ps closed rows ways regions n marks
+
+-- one region point more
+pub numbered_on : (ps : List Point) (closed : List Face) (rows : List Tet) (ways : List Across) (regions : List Region) (n : ℕ) (x : RationalPoint) (seeds seeds' : List Bool) (old new : Flood) (marks marks' : List (Option ℕ))
+    → region_point regions n ≡ x → IsNumberedBy ps closed rows ways regions n seeds old marks → length seeds' ≡ length rows + 1
+    → ((i : ℕ) → (is_marked seeds' i ≡ true) ↔ ((is_marked seeds i ≡ true) ⊎ IsSeedAt ps closed rows x i))
+    → HasReached new (IsFlooded ways seeds') → GoesOn ways seeds' old new → IsFloodDone ways new → IsPutFrom new.queue.items (length old.queue.items) (length new.queue.items) n marks marks'
+    → IsNumberedBy ps closed rows ways regions (n + 1) seeds' new marks'
+numbered_on ps closed rows ways regions n x seeds seeds' old new marks marks' e was seeds_long marked exactly goes_on done put = record {
+  seeds_long = seeds_long;
+  seeds_are = seeds_are;
+  flood_is = goes_on.flood;
+  exactly = exactly;
+  done = done;
+  long = put.long ∙ was.long;
+  numbered = numbered_next ps closed rows ways regions n seeds seeds' old.marks.items new.marks.items old.queue.items new.queue.items marks marks'
+      (record { seeds_are = was.seeds_are; exactly = was.exactly; filled = was.flood_is.filled }) (record { seeds_are = seeds_are; exactly = exactly; filled = goes_on.flood.filled }) goes_on.grown put was.long was.numbered;
+}
+  where
+    seeds_are : AreRegionSeeds ps closed rows regions (n + 1) seeds'
+    seeds_are = region_seeds_next ps closed rows regions n x seeds seeds' e was.seeds_are marked
 
 -- the numbers of all region points, by free paths
 numbered_joined : (ps : List Point) (ts : List FacetTriangle) (rows : List Tet) (closed : List Face) (ways : List Across) (regions : List Region) (marks : List (Option ℕ))

@@ -5,3 +5,4 @@ pub mod Seeds
 pub mod Kept
 pub mod Marks
 pub mod Boxes
+pub mod Walled

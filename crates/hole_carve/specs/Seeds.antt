@@ -6,7 +6,7 @@ use Rattle.geo_laws.specs.Delaunay.{corners, row_at, IsOn}
 use Rattle.geo_laws.specs.declared.faces.Face.{Face}
 use Rattle.geo_laws.specs.declared.tetrahedra.Tet.{Tet}
 use Rattle.box_tree.specs.Bodies.{IsRowTree}
-use Rattle.hole_carve.specs.declared.seeds.Walled.{Walled}
+use Rattle.hole_carve.specs.declared.walled.Walled.{Walled}
 use Rattle.hole_carve.specs.Ways.{face_opposite}
 
 -- the rows are positive tetrahedra on the points
@@ -15,7 +15,7 @@ ArePositiveIn ps rows = All (IsOn ps) rows × All (λ t. IsPositive (corners ps 
 
 -- the rows are so, and where there is a tree, it has their boxes
 abbrev pub IsSearchable : Walled → Type 0
-IsSearchable mesh = ArePositiveIn mesh.points.now mesh.list.now × IfSome mesh.tree.now (IsRowTree mesh.points.now mesh.list.now)
+IsSearchable mesh = ArePositiveIn mesh.points.now mesh.list.now × IfSome mesh.tree (IsRowTree mesh.points.now mesh.list.now)
 
 -- the closed row holds the point, on the plane of a face that is closed
 abbrev pub HoldsOn : List Point → List Face → Tet → RationalPoint → Type 0

@@ -11,11 +11,9 @@ ghost use Rattle.hole_carve.specs.Seeds.{IsSearchable, BeginsAt};
 ghost use Rattle.geo_laws.specs.Marks.{is_marked};
 
 use crate::flood::flooded;
-use crate::seeds::{Walled, mark_seeds, tree_for};
-use crate::ways::Ways;
-use face_table::FaceTable;
+use crate::seeds::{mark_seeds, no_marks};
+use crate::walled::Walled;
 use geo_laws::{FacetTriangles, Points, RatPoints, TetList};
-use incidence::pair_faces;
 use std::alloc::Global;
 use tet_ports::NoMemory;
 
@@ -59,51 +57,6 @@ fn mark_hull(list: &TetList, keep_hull: bool, seeds: &mut [bool])
     seeds[list.len()] = true;
 }
 
-/// Marks where the floods from the hole points begin, too.
-fn mark_holes(
-    alloc: Global,
-    mesh: &Walled<'_>,
-    holes: &RatPoints,
-    keep_hull: bool,
-    seeds: &mut [bool],
-) -> Result<(), NoMemory>
-    requires rows { IsSearchable mesh.now }
-    requires long { length seeds.old ≡ length mesh.now.list.now + 1 }
-    requires marked { (i : ℕ) → (is_marked seeds.old i ≡ true)
-        ↔ BeginsAt keep_hull mesh.now.points.now mesh.now.closed.now mesh.now.list.now holes.now
-        0 i }
-    ensures long { OnOk result (length seeds.new ≡ length mesh.now.list.now + 1) }
-    ensures marked { OnOk result ((i : ℕ) → (is_marked seeds.new i ≡ true)
-        ↔ BeginsAt keep_hull mesh.now.points.now mesh.now.closed.now mesh.now.list.now holes.now
-        (length holes.now) i) }
-{
-    for at in 0..holes.len() {
-        mark_seeds(alloc, mesh, holes.at(at), seeds)?;
-    }
-    Ok(())
-}
-
-/// Marks where a flood begins that carves: beyond the hull if that isn't kept, and at each hole
-/// point.
-fn mark_all(
-    alloc: Global,
-    mesh: &Walled<'_>,
-    holes: &RatPoints,
-    keep_hull: bool,
-    seeds: &mut [bool],
-) -> Result<(), NoMemory>
-    requires rows { IsSearchable mesh.now }
-    requires long { length seeds.old ≡ length mesh.now.list.now + 1 }
-    requires clear { (i : ℕ) → is_marked seeds.old i ≡ false }
-    ensures long { OnOk result (length seeds.new ≡ length mesh.now.list.now + 1) }
-    ensures marked { OnOk result ((i : ℕ) → (is_marked seeds.new i ≡ true)
-        ↔ BeginsAt keep_hull mesh.now.points.now mesh.now.closed.now mesh.now.list.now holes.now
-        (length holes.now) i) }
-{
-    mark_hull(mesh.list, keep_hull, seeds);
-    mark_holes(alloc, mesh, holes, keep_hull, seeds)
-}
-
 /// Where a flood begins that carves: beyond the hull if that isn't kept, and at each hole point.
 fn seeds_of(
     alloc: Global,
@@ -115,12 +68,14 @@ fn seeds_of(
     ensures long { IfOk result (λ seeds. length seeds.items ≡ length mesh.now.list.now + 1) }
     ensures marked { IfOk result (λ seeds. (i : ℕ)
         → (is_marked seeds.items i ≡ true)
-        ↔ BeginsAt keep_hull mesh.now.points.now mesh.now.closed.now mesh.now.list.now holes.now
+        ↔ BeginsAt keep_hull mesh.now.points.now mesh.now.closed mesh.now.list.now holes.now
         (length holes.now) i) }
 {
-    let mut seeds = Vec::new(alloc);
-    seeds.resize(mesh.list.len() + 1, false)?;
-    mark_all(alloc, mesh, holes, keep_hull, &mut seeds)?;
+    let mut seeds = no_marks(alloc, mesh.list.len() + 1)?;
+    mark_hull(mesh.list, keep_hull, &mut seeds);
+    for at in 0..holes.len() {
+        mark_seeds(alloc, mesh, holes.at(at), &mut seeds)?;
+    }
     Ok(seeds)
 }
 
@@ -141,16 +96,8 @@ pub fn carve(
     ensures ascending { AllPairs RowBefore list.now
         → IfOk result (λ rows. AllPairs RowBefore rows) }
 {
-    let closed = FaceTable::of_triangles(alloc, triangles)?;
-    let pairs = pair_faces(alloc, list)?;
-    let ways = Ways::new(list, &pairs, &closed);
-    let tree = tree_for(alloc, points, list, holes.len())?;
-    let mesh = Walled {
-        points,
-        list,
-        closed: &closed,
-        tree: &tree,
-    };
+    let mesh = Walled::new(alloc, points, list, triangles, holes.len())?;
+    let ways = mesh.ways();
     let seeds = seeds_of(alloc, &mesh, holes, keep_hull)?;
     let marks = flooded(alloc, &ways, &seeds)?;
     rows_unmarked(alloc, list, &marks)

@@ -8,6 +8,7 @@ ghost use Rattle.hole_carve.specs.Floods.{IsFlood, HasGrown, GoesOn, IsFloodDone
 ghost use Rattle.incidence.specs.Pairs.{across_at};
 ghost use Rattle.geo_laws.specs.Marks.{is_marked};
 
+use crate::seeds::no_marks;
 use crate::ways::Ways;
 use incidence::Across;
 use std::alloc::Global;
@@ -54,10 +55,8 @@ impl Flood {
         ensures clear { IfOk result (λ f. (i : ℕ) → is_marked f.marks.items i ≡ false) }
         ensures empty { IfOk result (λ f. f.queue.items ≡ []) }
     {
-        let mut marks = Vec::new(alloc);
-        marks.resize(places, false)?;
         Ok(Flood {
-            marks,
+            marks: no_marks(alloc, places)?,
             queue: Vec::new(alloc),
         })
     }

@@ -7,6 +7,7 @@ mod carving;
 mod flood;
 mod marks;
 mod seeds;
+mod walled;
 mod ways;
 
 pub use carving::carve;

@@ -12,11 +12,11 @@ ghost use Rattle.hole_carve.specs.Marks.{IsPlaceFrom, KeptMarksLaw};
 ghost use Rattle.geo_laws.specs.Marks.{is_marked};
 
 use crate::flood::Flood;
-use crate::seeds::{Walled, mark_seeds, tree_for};
+use crate::seeds::{mark_seeds, no_marks};
+use crate::walled::Walled;
 use crate::ways::Ways;
-use face_table::FaceTable;
 use geo_laws::{Complex, FacetTriangles, Points, Tet, TetList};
-use incidence::{Marks, pair_faces};
+use incidence::Marks;
 use std::alloc::Global;
 use tet_ports::NoMemory;
 
@@ -66,64 +66,8 @@ fn put_flood(
     Ok(())
 }
 
-/// Puts the numbers of the region points, the first one first, by one flood that goes on from each
-/// point to the next. It has not begun before.
-fn put_each(
-    alloc: Global,
-    mesh: &Walled<'_>,
-    ways: &Ways<'_>,
-    complex: &Complex,
-    seeds: &mut [bool],
-    flood: &mut Flood,
-    marks: &mut [Option<u32>],
-) -> Result<(), NoMemory>
-    requires rows { IsSearchable mesh.now }
-    requires ways { length ways.now ≡ length mesh.now.list.now }
-    requires within { LeadsWithin ways.now }
-    requires seeds { length seeds.old ≡ length mesh.now.list.now + 1 }
-    requires no_seeds { (i : ℕ) → is_marked seeds.old i ≡ false }
-    requires reached { length flood.old.marks.items ≡ length mesh.now.list.now + 1 }
-    requires none_reached { (i : ℕ) → is_marked flood.old.marks.items i ≡ false }
-    requires empty { flood.old.queue.items ≡ [] }
-    requires long { length marks.old ≡ length mesh.now.list.now }
-    requires clear { (i : ℕ) → mark_at marks.old i ≡ None }
-    ensures long { OnOk result (length marks.new ≡ length mesh.now.list.now) }
-    ensures numbered { OnOk result (AreNumbered mesh.now.points.now mesh.now.closed.now
-        mesh.now.list.now ways.now complex.now.regions
-        (length complex.now.regions) marks.new) }
-{
-    for k in 0..complex.region_count() {
-        mark_seeds(alloc, mesh, complex.region(k).at, seeds)?;
-        put_flood(ways, seeds, k, flood, marks)?;
-    }
-    Ok(())
-}
-
-/// The same from no seeds, where nothing is reached.
-fn put_all(
-    alloc: Global,
-    mesh: &Walled<'_>,
-    ways: &Ways<'_>,
-    complex: &Complex,
-    marks: &mut [Option<u32>],
-) -> Result<(), NoMemory>
-    requires rows { IsSearchable mesh.now }
-    requires ways { length ways.now ≡ length mesh.now.list.now }
-    requires within { LeadsWithin ways.now }
-    requires long { length marks.old ≡ length mesh.now.list.now }
-    requires clear { (i : ℕ) → mark_at marks.old i ≡ None }
-    ensures long { OnOk result (length marks.new ≡ length mesh.now.list.now) }
-    ensures numbered { OnOk result (AreNumbered mesh.now.points.now mesh.now.closed.now
-        mesh.now.list.now ways.now complex.now.regions
-        (length complex.now.regions) marks.new) }
-{
-    let mut seeds = Vec::new(alloc);
-    seeds.resize(mesh.list.len() + 1, false)?;
-    let mut flood = Flood::new(alloc, mesh.list.len() + 1)?;
-    put_each(alloc, mesh, ways, complex, &mut seeds, &mut flood, marks)
-}
-
-/// The numbers of the region points, by the rows to which the floods from them come.
+/// The numbers of the region points, the first one first, at the rows to which the floods from them
+/// come: it is one flood, which goes on from each point to the next.
 fn numbers_of(
     alloc: Global,
     mesh: &Walled<'_>,
@@ -134,13 +78,18 @@ fn numbers_of(
     requires ways { length ways.now ≡ length mesh.now.list.now }
     requires within { LeadsWithin ways.now }
     ensures long { IfOk result (λ marks. length marks.items ≡ length mesh.now.list.now) }
-    ensures numbered { IfOk result (λ marks. AreNumbered mesh.now.points.now mesh.now.closed.now
+    ensures numbered { IfOk result (λ marks. AreNumbered mesh.now.points.now mesh.now.closed
         mesh.now.list.now ways.now
         complex.now.regions (length complex.now.regions) marks.items) }
 {
     let mut marks = Vec::new(alloc);
     marks.resize(mesh.list.len(), None)?;
-    put_all(alloc, mesh, ways, complex, &mut marks)?;
+    let mut seeds = no_marks(alloc, mesh.list.len() + 1)?;
+    let mut flood = Flood::new(alloc, mesh.list.len() + 1)?;
+    for k in 0..complex.region_count() {
+        mark_seeds(alloc, mesh, complex.region(k).at, &mut seeds)?;
+        put_flood(ways, &seeds, k, &mut flood, &mut marks)?;
+    }
     Ok(marks)
 }
 
@@ -158,16 +107,14 @@ pub fn mark_regions(
     ensures { IfOk result (λ marks. AreRegionMarks points.now triangles.now list.now
         complex.now.regions marks) }
 {
-    let closed = FaceTable::of_triangles(alloc, triangles)?;
-    let pairs = pair_faces(alloc, list)?;
-    let ways = Ways::new(list, &pairs, &closed);
-    let tree = tree_for(alloc, points, list, complex.region_count() as usize)?;
-    let mesh = Walled {
+    let mesh = Walled::new(
+        alloc,
         points,
         list,
-        closed: &closed,
-        tree: &tree,
-    };
+        triangles,
+        complex.region_count() as usize,
+    )?;
+    let ways = mesh.ways();
     let marks = numbers_of(alloc, &mesh, &ways, complex)?;
     Ok(Marks::from(marks))
 }

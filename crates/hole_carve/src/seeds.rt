@@ -1,5 +1,5 @@
 //! Where the flood from a hole or region point begins.
-ghost use Rattle.std.specs.Prelude.{◌≡◌, ◌↔◌, ◌⊎◌, ◌+◌, ◌<◌, ℕ, pos, true, AllPairs, All, Contains};
+ghost use Rattle.std.specs.Prelude.{◌≡◌, ◌↔◌, ◌⊎◌, ◌+◌, ◌<◌, ℕ, pos, true, false, AllPairs, All, Contains};
 ghost use Rattle.std.specs.Prelude.{length, IfOk, IfSome, OnOk};
 ghost use Rattle.box_tree.specs.Bodies.{IsRowTree};
 ghost use Rattle.sign_predicates.specs.Orientation.{IsPositive, InClosed, orient_rational, side_rational};
@@ -10,42 +10,13 @@ ghost use Rattle.hole_carve.specs.Seeds.{IsSearchable, RowHolds, HoldsOnSome, Is
 ghost use Rattle.geo_laws.specs.Marks.{is_marked};
 
 use crate::boxes::{box_round, is_off_box};
-use box_tree::{Tree, next_meeting, row_tree};
+use crate::walled::Walled;
+use box_tree::{Tree, next_meeting};
 use face_table::FaceTable;
 use geo_laws::{Face, Points, Tet, TetList, corners_of, row_faces};
 use sign_predicates::{Corners, GridPoint, Hold, RatPoint, Sign, in_tet, orient_rat};
 use std::alloc::Global;
 use tet_ports::NoMemory;
-
-/// For so many points the boxes of all rows are gone over one by one: to sort them costs more.
-const FEW: usize = 4;
-
-/// A mesh with walls: rows on points, the faces through which no flood goes, and the tree of the
-/// boxes of the rows, where there are many points to look for.
-#[derive(Drop)]
-pub(crate) struct Walled<'a> {
-    pub(crate) points: &'a Points,
-    pub(crate) list: &'a TetList,
-    pub(crate) closed: &'a FaceTable,
-    pub(crate) tree: &'a Option<Tree>,
-}
-
-/// The tree of the boxes of the rows, where there are many points to look for.
-pub(crate) fn tree_for(
-    alloc: Global,
-    points: &Points,
-    list: &TetList,
-    count: usize,
-) -> Result<Option<Tree>, NoMemory>
-    requires { All (IsOn points.now) list.now }
-    ensures { IfOk result (λ tree. IfSome tree (IsRowTree points.now list.now)) }
-{
-    if count <= FEW {
-        return Ok(None);
-    }
-    let tree = row_tree(alloc, points, list)?;
-    Ok(Some(tree))
-}
 
 /// The row at a place, which is on the points.
 fn row_on(points: &Points, list: &TetList, at: usize) -> Tet
@@ -187,7 +158,7 @@ fn holders_by(alloc: Global, mesh: &Walled<'_>, x: RatPoint) -> Result<Vec<usize
     ensures { IfOk result (λ holders. (i : ℕ) → Contains holders.items i
         ↔ RowHolds mesh.now.points.now mesh.now.list.now x i) }
 {
-    match mesh.tree {
+    match &mesh.tree {
         Some(tree) => holders_in(alloc, mesh.points, mesh.list, tree, x),
         None => holders_of(alloc, mesh.points, mesh.list, x),
     }
@@ -212,6 +183,16 @@ fn is_on_closed(
         }
     }
     false
+}
+
+/// So many places, of which none is marked.
+pub(crate) fn no_marks(alloc: Global, places: usize) -> Result<Vec<bool>, NoMemory>
+    ensures long { IfOk result (λ marks. length marks.items ≡ places) }
+    ensures clear { IfOk result (λ marks. (i : ℕ) → is_marked marks.items i ≡ false) }
+{
+    let mut marks = Vec::new(alloc);
+    marks.resize(places, false)?;
+    Ok(marks)
 }
 
 /// Marks a place.
@@ -277,9 +258,9 @@ pub(crate) fn mark_seeds(
     ensures long { OnOk result (length seeds.new ≡ length mesh.now.list.now + 1) }
     ensures marked { OnOk result ((i : ℕ) → (is_marked seeds.new i ≡ true)
         ↔ ((is_marked seeds.old i ≡ true)
-        ⊎ IsSeedAt mesh.now.points.now mesh.now.closed.now mesh.now.list.now x i)) }
+        ⊎ IsSeedAt mesh.now.points.now mesh.now.closed mesh.now.list.now x i)) }
 {
     let holders = holders_by(alloc, mesh, x)?;
-    mark_found(mesh.points, mesh.list, mesh.closed, x, &holders, seeds);
+    mark_found(mesh.points, mesh.list, &mesh.closed, x, &holders, seeds);
     Ok(())
 }
