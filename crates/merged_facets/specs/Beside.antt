@@ -7,6 +7,8 @@ use Rattle.sign_predicates.specs.declared.tetrahedron.Sign.TheVariants.{Below, Z
 use Rattle.geo_laws.specs.Delaunay.{point}
 use Rattle.geo_laws.specs.Facet.{Facet, IsFlat, spans_plane}
 use Rattle.geo_laws.specs.declared.complex.Piece.{Piece}
+use Rattle.merged_facets.specs.declared.beside.Lie.{Lie}
+use Rattle.merged_facets.specs.declared.beside.Lie.TheVariants.{InPlane, Beside, Across}
 use Rattle.merge_laws.specs.Merged.{has_span, alike_turned, AreOnOneSideOf, AreOnEitherSide, places_of, MeetsOthers}
 
 -- the facet of one polygon
@@ -44,6 +46,12 @@ pub record LieBeside (ps : List Point) (s : Piece) (i j : ℕ) : Type 0 where
 -- it lies on the line of the side, or on the other hand
 pub record LieAcross (ps : List Point) (s : Piece) (i j : ℕ) : Type 0 where
   pub across : alike_turned ps s i j ≤ℤ pos 0
+
+-- the corner j lies so
+abbrev pub Lies : Lie → List Point → Piece → ℕ → ℕ → Type 0
+Lies InPlane ps s i j = LieInPlane ps s i j
+Lies Beside ps s i j = LieBeside ps s i j
+Lies Across ps s i j = LieAcross ps s i j
 
 abbrev pub not_below : Sign → Bool
 not_below Below = false

@@ -1,8 +1,10 @@
 -- Which facets of a complex are one facet, and how that is found side by side.
-use Rattle.std.specs.Prelude.{◌≡◌, ◌⊎◌, ℕ, ◌<◌, Bool, ◌&&◌, ◌==◌, Option, Some, None, List, length, get_or, Contains}
+use Rattle.std.specs.Prelude.{◌≡◌, ◌⊎◌, ℕ, ◌<◌, Bool, ◌&&◌, ◌==◌, Option, Some, None, List, length, get_or, All, Contains}
 use Rattle.std.specs.List.{list_any}
 use Rattle.sign_predicates.specs.Point.{Point}
-use Rattle.geo_laws.specs.Complex.{Complex}
+use Rattle.geo_laws.specs.Complex.{Complex, facets, HasCornersOf}
+use Rattle.geo_laws.specs.Delaunay.{HasDistinctPoints}
+use Rattle.geo_laws.specs.Facet.{IsFlat}
 use Rattle.geo_laws.specs.Segment.{piece}
 use Rattle.geo_laws.specs.declared.complex.Piece.{Piece}
 use Rattle.merge_laws.specs.Merged.{AreJoined, AreChained, IsInner}
@@ -29,6 +31,12 @@ abbrev pub is_inner : Groups → ℕ → Piece → Bool
 is_inner m f s = list_any (is_side_of f s) m.inner
 
 -- ---- while it is looked for
+
+-- flat facets of some points, no two of which are at one place
+pub record AreMergeable (ps : List Point) (c : Complex) : Type 0 where
+  pub corners : HasCornersOf ps c
+  pub flat : All (IsFlat ps) (facets c)
+  pub distinct : HasDistinctPoints ps
 
 abbrev pub inner_side : FacetSide → InnerSide
 inner_side e = record { facet = e.facet; ends = ends_of e.side }

@@ -6,7 +6,7 @@ ghost use Rattle.geo_laws.specs.Facet.{IsFlat};
 ghost use Rattle.geo_laws.specs.Segment.{same_ends};
 ghost use Rattle.merge_laws.specs.Merged.{alike_turned};
 ghost use Rattle.merged_facets.specs.Beside.{one_facet, is_off, not_below, not_above, AreBeside};
-ghost use Rattle.merged_facets.specs.Beside.{LieInPlane, LieBeside, LieAcross, HasSideOnce};
+ghost use Rattle.merged_facets.specs.Beside.{Lies, HasSideOnce};
 ghost use Rattle.merged_facets.specs.Beside.{IsSideAmong, IsOffCorner};
 
 use geo_laws::{Piece, Points, Side};
@@ -88,89 +88,48 @@ fn is_not_above(sign: Sign) -> bool
     }
 }
 
-/// Whether the corner `j` lies on the line of the side, or on the same hand as the corner `i`.
+/// How a corner may lie to a side, as against a corner `i` that is off the side's line.
+#[derive(Clone, Copy)]
+enum Lie {
+    /// In the plane of the side and the corner `i`.
+    InPlane,
+    /// On the line of the side, or on the same hand as the corner `i`.
+    Beside,
+    /// On the line of the side, or on the other hand than the corner `i`.
+    Across,
+}
+
+/// Whether the corner `j` lies so, as against the corner `i`.
 #[inline]
-fn is_beside(points: &Points, s: Piece, i: u32, j: u32) -> bool
+fn lies(points: &Points, s: Piece, i: u32, j: u32, lie: Lie) -> bool
     requires a_there { s.a < length points.now }
     requires b_there { s.b < length points.now }
     requires i_there { i < length points.now }
     requires j_there { j < length points.now }
-    ensures { IsTrue result ↔ LieBeside points.now s i j }
+    ensures { IsTrue result ↔ Lies lie points.now s i j }
 {
-    is_not_below(turn_of(points, s, i, j))
-}
-
-/// Whether the corner `j` lies on the line of the side, or on the other hand than the corner `i`.
-#[inline]
-fn is_across(points: &Points, s: Piece, i: u32, j: u32) -> bool
-    requires a_there { s.a < length points.now }
-    requires b_there { s.b < length points.now }
-    requires i_there { i < length points.now }
-    requires j_there { j < length points.now }
-    ensures { IsTrue result ↔ LieAcross points.now s i j }
-{
-    is_not_above(turn_of(points, s, i, j))
-}
-
-/// Whether the corner `j` lies in the plane of the side and the corner `i`.
-#[inline]
-fn is_in_plane(points: &Points, s: Piece, i: u32, j: u32) -> bool
-    requires a_there { s.a < length points.now }
-    requires b_there { s.b < length points.now }
-    requires i_there { i < length points.now }
-    requires j_there { j < length points.now }
-    ensures { IsTrue result ↔ LieInPlane points.now s i j }
-{
-    coplanar(
-        points.at(s.a as usize),
-        points.at(s.b as usize),
-        points.at(i as usize),
-        points.at(j as usize),
-    )
-}
-
-/// Whether no corner lies on the other hand of the side than the corner `i`.
-fn lie_beside(points: &Points, s: Piece, i: u32, corners: &[u32]) -> bool
-    requires a_there { s.a < length points.now }
-    requires b_there { s.b < length points.now }
-    requires i_there { i < length points.now }
-    requires corners { All (λ i. i < length points.now) corners.now }
-    ensures { IsTrue result ↔ All (LieBeside points.now s i) corners.now }
-{
-    for k in 0..corners.len() {
-        if !is_beside(points, s, i, corners[k]) {
-            return false;
-        }
+    match lie {
+        Lie::InPlane => coplanar(
+            points.at(s.a as usize),
+            points.at(s.b as usize),
+            points.at(i as usize),
+            points.at(j as usize),
+        ),
+        Lie::Beside => is_not_below(turn_of(points, s, i, j)),
+        Lie::Across => is_not_above(turn_of(points, s, i, j)),
     }
-    true
 }
 
-/// Whether no corner lies on the same hand of the side as the corner `i`.
-fn lie_across(points: &Points, s: Piece, i: u32, corners: &[u32]) -> bool
+/// Whether each corner lies so, as against the corner `i`.
+fn all_lie(points: &Points, s: Piece, i: u32, corners: &[u32], lie: Lie) -> bool
     requires a_there { s.a < length points.now }
     requires b_there { s.b < length points.now }
     requires i_there { i < length points.now }
     requires corners { All (λ i. i < length points.now) corners.now }
-    ensures { IsTrue result ↔ All (LieAcross points.now s i) corners.now }
+    ensures { IsTrue result ↔ All (Lies lie points.now s i) corners.now }
 {
     for k in 0..corners.len() {
-        if !is_across(points, s, i, corners[k]) {
-            return false;
-        }
-    }
-    true
-}
-
-/// Whether all corners lie in the plane of the side and the corner `i`.
-fn lie_in_plane(points: &Points, s: Piece, i: u32, corners: &[u32]) -> bool
-    requires a_there { s.a < length points.now }
-    requires b_there { s.b < length points.now }
-    requires i_there { i < length points.now }
-    requires corners { All (λ i. i < length points.now) corners.now }
-    ensures { IsTrue result ↔ All (LieInPlane points.now s i) corners.now }
-{
-    for k in 0..corners.len() {
-        if !is_in_plane(points, s, i, corners[k]) {
+        if !lies(points, s, i, corners[k], lie) {
             return false;
         }
     }
@@ -226,13 +185,13 @@ fn are_on_either_hand(points: &Points, s: Piece, i: u32, p: &[u32], q: &[u32]) -
     requires off { IsOffCorner points.now s p.now i }
     ensures { IsTrue result ↔ AreBeside points.now s p.now q.now }
 {
-    if !lie_in_plane(points, s, i, q) {
+    if !all_lie(points, s, i, q, Lie::InPlane) {
         return false;
     }
-    if !lie_across(points, s, i, q) {
+    if !all_lie(points, s, i, q, Lie::Across) {
         return false;
     }
-    if !lie_beside(points, s, i, p) {
+    if !all_lie(points, s, i, p, Lie::Beside) {
         return false;
     }
     match off_line(points, s, q) {

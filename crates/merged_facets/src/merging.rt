@@ -7,7 +7,7 @@ ghost use Rattle.merge_laws.specs.Merged.{IsMerging, AreJoined};
 ghost use Rattle.merged_facets.specs.Labels.{IsIdentity};
 ghost use Rattle.merged_facets.specs.FacetSides.{AreFacetSidesOf, AreEarlier, IsFacetSideOf, IsPair};
 ghost use Rattle.merged_facets.specs.Merging.{group_of, is_inner, inner_side, WithInner, IsSoundForest};
-ghost use Rattle.merged_facets.specs.Merging.{NotesPair, HasFound};
+ghost use Rattle.merged_facets.specs.Merging.{AreMergeable, NotesPair, HasFound};
 
 use crate::beside::are_beside;
 use crate::groups::{join, settle};
@@ -70,9 +70,7 @@ fn same_marker(m: Option<i64>, n: Option<i64>) -> bool
 
 /// Whether the facets of two sides with the same ends are joined over them.
 fn are_joined(points: &Points, complex: &Complex, x: FacetSide, y: FacetSide) -> bool
-    requires corners { HasCornersOf points.now complex.now }
-    requires flat { All (IsFlat points.now) (facets complex.now) }
-    requires distinct { HasDistinctPoints points.now }
+    requires mergeable { AreMergeable points.now complex.now }
     requires x_is { IsFacetSideOf complex.now x }
     requires y_is { IsFacetSideOf complex.now y }
     ensures { IsTrue result ↔ AreJoined points.now complex.now x.side x.facet y.facet }
@@ -94,9 +92,7 @@ fn note_pair(
     y: FacetSide,
     found: &mut Found,
 ) -> Result<(), NoMemory>
-    requires corners { HasCornersOf points.now complex.now }
-    requires flat { All (IsFlat points.now) (facets complex.now) }
-    requires distinct { HasDistinctPoints points.now }
+    requires mergeable { AreMergeable points.now complex.now }
     requires pair { IsPair complex.now x y }
     requires sound { (label : ℕ → ℕ)
         × IsSoundForest points.now complex.now found.old.down.items found.old.inner.keys label }
@@ -120,9 +116,7 @@ fn note_earlier(
     i: usize,
     found: &mut Found,
 ) -> Result<(), NoMemory>
-    requires corners { HasCornersOf points.now complex.now }
-    requires flat { All (IsFlat points.now) (facets complex.now) }
-    requires distinct { HasDistinctPoints points.now }
+    requires mergeable { AreMergeable points.now complex.now }
     requires sides { AreFacetSidesOf complex.now list.now }
     requires earlier { AreEarlier list.now earlier.now }
     requires there { i < length list.now }
@@ -157,9 +151,7 @@ fn merging_by(
     complex: &Complex,
     list: &Items<FacetSide>,
 ) -> Result<Merging, NoMemory>
-    requires corners { HasCornersOf points.now complex.now }
-    requires flat { All (IsFlat points.now) (facets complex.now) }
-    requires distinct { HasDistinctPoints points.now }
+    requires mergeable { AreMergeable points.now complex.now }
     requires sides { AreFacetSidesOf complex.now list.now }
     ensures { IfOk result (λ m. IsMerging points.now complex.now (group_of m) (is_inner m)) }
 {

@@ -4,19 +4,19 @@ use Rattle.merged_facets.proofs.Once.{refused, not_true}
 use Rattle.merged_facets.proofs.merging.are_joined.Goals as goal
 
 pub are_beside-requires-clause-there : goal.are_beside-requires-clause-there
-are_beside-requires-clause-there c = side_among c.args.points.now c.args.complex.now c.args.x c.requires.corners c.requires.x_is
+are_beside-requires-clause-there c = side_among c.args.points.now c.args.complex.now c.args.x c.requires.mergeable.corners c.requires.x_is
 
 pub are_beside-requires-clause-p_corners : goal.are_beside-requires-clause-p_corners
 are_beside-requires-clause-p_corners c =
-    corners_there c.args.points.now c.args.complex.now c.args.x.facet c.only_polygon-p.result.now c.requires.corners c.requires.x_is.there c.only_polygon-p.ensures
+    corners_there c.args.points.now c.args.complex.now c.args.x.facet c.only_polygon-p.result.now c.requires.mergeable.corners c.requires.x_is.there c.only_polygon-p.ensures
 
 pub are_beside-requires-clause-q_corners : goal.are_beside-requires-clause-q_corners
 are_beside-requires-clause-q_corners c =
-    corners_there c.args.points.now c.args.complex.now c.args.y.facet c.only_polygon-q.result.now c.requires.corners c.requires.y_is.there c.only_polygon-q.ensures
+    corners_there c.args.points.now c.args.complex.now c.args.y.facet c.only_polygon-q.result.now c.requires.mergeable.corners c.requires.y_is.there c.only_polygon-q.ensures
 
 pub are_beside-requires-clause-p_flat : goal.are_beside-requires-clause-p_flat
 are_beside-requires-clause-p_flat c =
-    flat_polygon c.args.points.now c.args.complex.now c.args.x.facet c.only_polygon-p.result.now c.requires.flat c.requires.x_is.there c.only_polygon-p.ensures
+    flat_polygon c.args.points.now c.args.complex.now c.args.x.facet c.only_polygon-p.result.now c.requires.mergeable.flat c.requires.x_is.there c.only_polygon-p.ensures
 
 pub returns-then-same_marker : goal.returns-then-same_marker
 returns-then-same_marker c =

@@ -28,5 +28,5 @@ returns c =
     let all : HasFound ps cx c.args.list.now (length c.args.list.now) down inner = subst (λ (n : ℕ). HasFound ps cx c.args.list.now n down inner) (omega arith) c.loop-i.invariant in
     let P : List ℕ → Type 0 = λ d. IsMerging ps cx (group_of (record { least = d; inner = inner })) (is_inner (record { least = d; inner = inner })) in
     subst P (sym (whole c.loop-i.found.down.len new down count))
-    (merging_found ps cx c.args.list.now down (record { least = new; inner = inner }) c.requires.distinct c.requires.corners c.requires.sides all long
+    (merging_found ps cx c.args.list.now down (record { least = new; inner = inner }) c.requires.mergeable.distinct c.requires.mergeable.corners c.requires.sides all long
     (λ label h i l. c.settle.ensures label (subst (λ (d : List ℕ). AreLabels d label) (sym c.deref_mut.ensures.value) h) i l))
