@@ -3,13 +3,13 @@ use Rattle.std.proofs.Common.{◌≡◌, ℕ, zero, suc, ◌+◌, ◌*◌, ◌�
 use Rattle.std.specs.Prelude.{codes, if◌then◌else◌}
 use Rattle.tet_text.specs.declared.fault.TextFault.{TextFault}
 use Rattle.tet_text.specs.Lines.{ContentLine}
-use Rattle.tet_text.specs.Reading.{◌>>=◌, Fields, end_at, line_at}
-use Rattle.node_files.specs.Point.{place_at}
+use Rattle.tet_text.specs.Reading.{◌>>=◌, Fields, line_at}
 use Rattle.plc_files.specs.Fields.{some_count_at}
 use Rattle.plc_files.specs.Polygon.{field_ahead}
 use Rattle.plc_files.proofs.Counts.{step_ok, ok_is}
 use Rattle.soup_files.specs.declared.stl_facet.StlFacet.{StlFacet}
-use Rattle.soup_files.specs.Keyword.{keyword_at, word_line}
+use Rattle.soup_files.specs.Keyword.{keyword_at}
+use Rattle.soup_files.specs.OnLine.{on_line, word_of, place_of}
 use Rattle.soup_files.specs.Off as off
 use Rattle.soup_files.specs.Stl as stl
 use Rattle.tet_text.specs.Repeated.{so_many}
@@ -34,6 +34,11 @@ leaves {A} {X} (Ok a) f rest x is =
     subst (λ (p : X × Lines). length p.1 ≤ length rest) {x = made} (ok_is made x is) (omega arith)
 leaves (Err fault) f rest x is = absurd cc
 
+-- what is read of one line
+on_line_takes : {X : Type 0} (read : ContentLine → Result X TextFault) (n : ℕ) → TakesLine (on_line read n)
+unfolding on_line
+on_line_takes read n lines x is = line_then n (λ line rest. read line >>= λ v. Ok (v, rest)) (λ line rest y e. leaves (read line) (λ v. v) rest y e) lines x is
+
 -- so many, each with a line
 pub many_few : {X : Type 0} (one : Lines → Result (X × Lines) TextFault) → TakesLine one → (n : ℕ) (lines : Lines) (x : List X × Lines) → so_many one n lines ≡ Ok x → length x.0 + length x.1 ≤ length lines
 unfolding so_many
@@ -52,11 +57,7 @@ many_few {X} one takes (suc n) lines x is =
 
 pub off_vertex_takes : (n : ℕ) → TakesLine (off.vertex_line n)
 unfolding off.vertex_line
-off_vertex_takes n lines x is =
-    line_then n (λ line rest. place_at line.line line.fields >>= λ place. end_at line.line place.1 >>= λ _. Ok (place.0, rest))
-    (λ line rest y e.
-    let place = step_ok (place_at line.line line.fields) (λ place. end_at line.line place.1 >>= λ _. Ok (place.0, rest)) y e in
-    leaves (end_at line.line place.0.1) (λ _. place.0.0) rest y place.2) lines x is
+off_vertex_takes n = on_line_takes place_of n
 
 pub face_takes : (n : ℕ) → TakesLine (off.off_polygon n)
 unfolding off.off_polygon
@@ -86,49 +87,23 @@ head_takes n lines x is =
 
 -- ---- facets
 
-word_takes : (word : List ℕ) (n : ℕ) → TakesLine (word_line word n)
-unfolding word_line
-word_takes word n lines x is =
-    line_then n (λ line rest. keyword_at word line.line line.fields >>= λ left. end_at line.line left.1 >>= λ _. Ok (tt, rest))
-    (λ line rest y e.
-    let left = step_ok (keyword_at word line.line line.fields) (λ left. end_at line.line left.1 >>= λ _. Ok (tt, rest)) y e in
-    leaves (end_at line.line left.0.1) (λ _. tt) rest y left.2) lines x is
-
-loop_takes : (n : ℕ) → TakesLine (stl.loop_line n)
-unfolding stl.loop_line
-loop_takes n lines x is =
-    line_then n (λ line rest. keyword_at (codes "outer") line.line line.fields >>= λ left. keyword_at (codes "loop") line.line left.1 >>= λ last. end_at line.line last.1 >>= λ _. Ok (tt, rest))
-    (λ line rest y e.
-    let left = step_ok (keyword_at (codes "outer") line.line line.fields) (λ left. keyword_at (codes "loop") line.line left.1 >>= λ last. end_at line.line last.1 >>= λ _. Ok (tt, rest)) y e in
-    let last = step_ok (keyword_at (codes "loop") line.line left.0.1) (λ last. end_at line.line last.1 >>= λ _. Ok (tt, rest)) y left.2 in
-    leaves (end_at line.line last.0.1) (λ _. tt) rest y last.2) lines x is
-
-stl_vertex_takes : (n : ℕ) → TakesLine (stl.vertex_line n)
-unfolding stl.vertex_line
-stl_vertex_takes n lines x is =
-    line_then n (λ line rest. keyword_at (codes "vertex") line.line line.fields >>= λ left. place_at line.line left.1 >>= λ place. end_at line.line place.1 >>= λ _. Ok (place.0, rest))
-    (λ line rest y e.
-    let left = step_ok (keyword_at (codes "vertex") line.line line.fields) (λ left. place_at line.line left.1 >>= λ place. end_at line.line place.1 >>= λ _. Ok (place.0, rest)) y e in
-    let place = step_ok (place_at line.line left.0.1) (λ place. end_at line.line place.1 >>= λ _. Ok (place.0, rest)) y left.2 in
-    leaves (end_at line.line place.0.1) (λ _. place.0.0) rest y place.2) lines x is
-
 -- six lines
 pub facet_takes : (n first : ℕ) (lines : Lines) (x : StlFacet × Lines) → stl.ascii_facet_of n first lines ≡ Ok x → length x.1 + 6 ≤ length lines
 unfolding stl.ascii_facet_of
 facet_takes n first lines x is =
-    let outer = step_ok (stl.loop_line n lines) (λ outer. stl.vertex_line n outer.1 >>= λ a. stl.vertex_line n a.1 >>= λ b. stl.vertex_line n b.1 >>= λ c. word_line (codes "endloop") n c.1 >>= λ inner. word_line (codes "endfacet") n inner.1 >>= λ last. Ok (record { line = first; a = a.0; b = b.0; c = c.0 }, last.1)) x is in
-    let a = step_ok (stl.vertex_line n outer.0.1) (λ a. stl.vertex_line n a.1 >>= λ b. stl.vertex_line n b.1 >>= λ c. word_line (codes "endloop") n c.1 >>= λ inner. word_line (codes "endfacet") n inner.1 >>= λ last. Ok (record { line = first; a = a.0; b = b.0; c = c.0 }, last.1)) x outer.2 in
-    let b = step_ok (stl.vertex_line n a.0.1) (λ b. stl.vertex_line n b.1 >>= λ c. word_line (codes "endloop") n c.1 >>= λ inner. word_line (codes "endfacet") n inner.1 >>= λ last. Ok (record { line = first; a = a.0.0; b = b.0; c = c.0 }, last.1)) x a.2 in
-    let c = step_ok (stl.vertex_line n b.0.1) (λ c. word_line (codes "endloop") n c.1 >>= λ inner. word_line (codes "endfacet") n inner.1 >>= λ last. Ok (record { line = first; a = a.0.0; b = b.0.0; c = c.0 }, last.1)) x b.2 in
-    let inner = step_ok (word_line (codes "endloop") n c.0.1) (λ inner. word_line (codes "endfacet") n inner.1 >>= λ last. Ok (record { line = first; a = a.0.0; b = b.0.0; c = c.0.0 }, last.1)) x c.2 in
-    let last = step_ok (word_line (codes "endfacet") n inner.0.1) (λ last. Ok (record { line = first; a = a.0.0; b = b.0.0; c = c.0.0 }, last.1)) x inner.2 in
+    let outer = step_ok (on_line stl.loop_of n lines) (λ outer. on_line stl.vertex_of n outer.1 >>= λ a. on_line stl.vertex_of n a.1 >>= λ b. on_line stl.vertex_of n b.1 >>= λ c. on_line (word_of (codes "endloop")) n c.1 >>= λ inner. on_line (word_of (codes "endfacet")) n inner.1 >>= λ last. Ok (record { line = first; a = a.0; b = b.0; c = c.0 }, last.1)) x is in
+    let a = step_ok (on_line stl.vertex_of n outer.0.1) (λ a. on_line stl.vertex_of n a.1 >>= λ b. on_line stl.vertex_of n b.1 >>= λ c. on_line (word_of (codes "endloop")) n c.1 >>= λ inner. on_line (word_of (codes "endfacet")) n inner.1 >>= λ last. Ok (record { line = first; a = a.0; b = b.0; c = c.0 }, last.1)) x outer.2 in
+    let b = step_ok (on_line stl.vertex_of n a.0.1) (λ b. on_line stl.vertex_of n b.1 >>= λ c. on_line (word_of (codes "endloop")) n c.1 >>= λ inner. on_line (word_of (codes "endfacet")) n inner.1 >>= λ last. Ok (record { line = first; a = a.0.0; b = b.0; c = c.0 }, last.1)) x a.2 in
+    let c = step_ok (on_line stl.vertex_of n b.0.1) (λ c. on_line (word_of (codes "endloop")) n c.1 >>= λ inner. on_line (word_of (codes "endfacet")) n inner.1 >>= λ last. Ok (record { line = first; a = a.0.0; b = b.0.0; c = c.0 }, last.1)) x b.2 in
+    let inner = step_ok (on_line (word_of (codes "endloop")) n c.0.1) (λ inner. on_line (word_of (codes "endfacet")) n inner.1 >>= λ last. Ok (record { line = first; a = a.0.0; b = b.0.0; c = c.0.0 }, last.1)) x c.2 in
+    let last = step_ok (on_line (word_of (codes "endfacet")) n inner.0.1) (λ last. Ok (record { line = first; a = a.0.0; b = b.0.0; c = c.0.0 }, last.1)) x inner.2 in
     let made : StlFacet × Lines = (record { line = first; a = a.0.0; b = b.0.0; c = c.0.0 }, last.0.1) in
-    let l1 = loop_takes n lines outer.0 outer.1 in
-    let l2 = stl_vertex_takes n outer.0.1 a.0 a.1 in
-    let l3 = stl_vertex_takes n a.0.1 b.0 b.1 in
-    let l4 = stl_vertex_takes n b.0.1 c.0 c.1 in
-    let l5 = word_takes (codes "endloop") n c.0.1 inner.0 inner.1 in
-    let l6 = word_takes (codes "endfacet") n inner.0.1 last.0 last.1 in
+    let l1 = on_line_takes stl.loop_of n lines outer.0 outer.1 in
+    let l2 = on_line_takes stl.vertex_of n outer.0.1 a.0 a.1 in
+    let l3 = on_line_takes stl.vertex_of n a.0.1 b.0 b.1 in
+    let l4 = on_line_takes stl.vertex_of n b.0.1 c.0 c.1 in
+    let l5 = on_line_takes (word_of (codes "endloop")) n c.0.1 inner.0 inner.1 in
+    let l6 = on_line_takes (word_of (codes "endfacet")) n inner.0.1 last.0 last.1 in
     subst (λ (p : StlFacet × Lines). length p.1 + 6 ≤ length lines) {x = made} (ok_is made x last.2) (omega arith)
 
 pub solid_takes : (n : ℕ) → TakesLine (stl.solid_line n)

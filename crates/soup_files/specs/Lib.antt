@@ -1,4 +1,5 @@
 pub mod Keyword
+pub mod OnLine
 pub mod Surface
 pub mod Off
 pub mod Vertices

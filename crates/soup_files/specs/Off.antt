@@ -5,13 +5,13 @@ use Rattle.tet_text.specs.Lines.{ContentLine}
 use Rattle.tet_text.specs.Reading.{◌>>=◌, Fields, count_at, end_at, line_at, text_end_at}
 use Rattle.grid_coords.specs.declared.points.DecimalPoint.{DecimalPoint}
 use Rattle.node_files.specs.Header.{count_or}
-use Rattle.node_files.specs.Point.{place_at}
 use Rattle.plc_files.specs.declared.parts.CornerText.{CornerText}
 use Rattle.plc_files.specs.declared.parts.PolygonText.{PolygonText}
 use Rattle.plc_files.specs.Fields.{some_count_at}
 use Rattle.plc_files.specs.Polygon.{field_ahead}
 use Rattle.plc_files.specs.Text.{Plc}
 use Rattle.soup_files.specs.Keyword.{keyword_at}
+use Rattle.soup_files.specs.OnLine.{on_line, place_of}
 use Rattle.soup_files.specs.Surface.{surface_of}
 use Rattle.tet_text.specs.Repeated.{so_many}
 use Rattle.plc_files.specs.Facet.{Lines}
@@ -36,11 +36,7 @@ head_of total lines = do
 
 -- <x> <y> <z>
 unfoldable pub vertex_line : ℕ → Lines → Result (DecimalPoint × Lines) TextFault
-vertex_line total lines = do
-  line ← line_at total lines
-  place ← place_at line.0.line line.0.fields
-  _ ← end_at line.0.line place.1
-  Ok (place.0, line.1)
+vertex_line = on_line place_of
 
 -- a corner, on the line of its face
 unfoldable pub corner_at : ℕ → Fields → Result (CornerText × Fields) TextFault

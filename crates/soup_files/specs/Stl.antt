@@ -7,12 +7,12 @@ use Rattle.tet_text.specs.Lines.{ContentLine}
 use Rattle.tet_text.specs.Faults.{ended, bad_count}
 use Rattle.tet_text.specs.Reading.{◌>>=◌, Fields, field_at, end_at, line_at, text_end_at}
 use Rattle.grid_coords.specs.declared.points.DecimalPoint.{DecimalPoint}
-use Rattle.node_files.specs.Point.{place_at}
 use Rattle.plc_files.specs.declared.parts.CornerText.{CornerText}
 use Rattle.plc_files.specs.declared.parts.PolygonText.{PolygonText}
 use Rattle.plc_files.specs.Text.{Plc}
 use Rattle.soup_files.specs.declared.stl_facet.StlFacet.{StlFacet}
-use Rattle.soup_files.specs.Keyword.{keyword_at, word_line}
+use Rattle.soup_files.specs.Keyword.{keyword_at}
+use Rattle.soup_files.specs.OnLine.{on_line, last_word_at, last_place_at, word_of}
 use Rattle.soup_files.specs.Vertices.{distinct_vertices, vertex_place}
 use Rattle.soup_files.specs.Surface.{surface_of}
 use Rattle.plc_files.specs.Facet.{Lines}
@@ -43,32 +43,26 @@ more_facets line = do
       if bytes_eq first.0 (codes "facet") then (normal_at line.line first.1 >>= λ _. Ok true) else Err (bad_count line.line)
 
 -- outer loop
-unfoldable pub loop_line : ℕ → Lines → Result (Unit {0} × Lines) TextFault
-loop_line total lines = do
-  line ← line_at total lines
-  rest ← keyword_at (codes "outer") line.0.line line.0.fields
-  last ← keyword_at (codes "loop") line.0.line rest.1
-  _ ← end_at line.0.line last.1
-  Ok (tt, line.1)
+unfoldable pub loop_of : ContentLine → Result (Unit {0}) TextFault
+loop_of line = do
+  rest ← keyword_at (codes "outer") line.line line.fields
+  last_word_at (codes "loop") line.line rest.1
 
 -- vertex <x> <y> <z>
-unfoldable pub vertex_line : ℕ → Lines → Result (DecimalPoint × Lines) TextFault
-vertex_line total lines = do
-  line ← line_at total lines
-  rest ← keyword_at (codes "vertex") line.0.line line.0.fields
-  place ← place_at line.0.line rest.1
-  _ ← end_at line.0.line place.1
-  Ok (place.0, line.1)
+unfoldable pub vertex_of : ContentLine → Result DecimalPoint TextFault
+vertex_of line = do
+  rest ← keyword_at (codes "vertex") line.line line.fields
+  last_place_at line.line rest.1
 
 -- the six lines behind the first line of a facet, whose number is this one
 unfoldable pub ascii_facet_of : ℕ → ℕ → Lines → Result (StlFacet × Lines) TextFault
 ascii_facet_of total first lines = do
-  outer ← loop_line total lines
-  a ← vertex_line total outer.1
-  b ← vertex_line total a.1
-  c ← vertex_line total b.1
-  inner ← word_line (codes "endloop") total c.1
-  last ← word_line (codes "endfacet") total inner.1
+  outer ← on_line loop_of total lines
+  a ← on_line vertex_of total outer.1
+  b ← on_line vertex_of total a.1
+  c ← on_line vertex_of total b.1
+  inner ← on_line (word_of (codes "endloop")) total c.1
+  last ← on_line (word_of (codes "endfacet")) total inner.1
   Ok (record { line = first; a = a.0; b = b.0; c = c.0 }, last.1)
 
 -- the facets up to the line that ends them, of which there are fewer than `most`

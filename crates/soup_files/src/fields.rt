@@ -1,13 +1,15 @@
-//! Fields that are wanted: keywords.
+//! Fields that are wanted: keywords, and coordinates.
 
-ghost use Rattle.std.specs.Prelude.{◌≡◌, ◌+◌, ◌<◌, ◌^◌};
+ghost use Rattle.std.specs.Prelude.{◌≡◌};
 ghost use Rattle.std.specs.Str.{bytes_eq};
 ghost use Rattle.tet_text.specs.Reading.{left_after};
-ghost use Rattle.tet_text.specs.Views.{content_left, line_total};
 ghost use Rattle.tet_text.specs.Faults.{bad_count};
-ghost use Rattle.soup_files.specs.Keyword.{keyword_at, word_line};
+ghost use Rattle.soup_files.specs.Keyword.{keyword_at};
+ghost use Rattle.soup_files.specs.OnLine.{last_word_at, last_place_at};
 
-use tet_text::{Fields, Lines, TextFault, TextKind};
+use grid_coords::DecimalPoint;
+use node_files::read_place;
+use tet_text::{Fields, TextFault, TextKind};
 
 /// The fault of a field of this line that is not the keyword, or not the number of corners, that is
 /// wanted.
@@ -42,15 +44,21 @@ pub(crate) fn want_keyword(word: &[u8], fields: &mut Fields) -> Result<(), TextF
     Err(bad_count(fields))
 }
 
-/// A content line with this word alone.
-#[tactic(auto, unfolding(crate::specs::Keyword::word_line))]
-pub(crate) fn want_word_line(word: &[u8], lines: &mut Lines) -> Result<(), TextFault>
-    requires { line_total lines.old + 1 < 2 ^ 64 }
-    ensures value { left_after (λ x. x) result (content_left lines.new)
-        ≡ word_line word.now (line_total lines.old) (content_left lines.old) }
-    ensures count { line_total lines.new ≡ line_total lines.old }
+/// This word, and the end of the line.
+#[tactic(auto, unfolding(crate::specs::OnLine::last_word_at))]
+pub(crate) fn want_last_word(word: &[u8], fields: &mut Fields) -> Result<(), TextFault>
+    ensures { result ≡ last_word_at word.now fields.old.line fields.old.fields }
 {
-    let mut fields = lines.want_line()?;
-    want_keyword(word, &mut fields)?;
+    want_keyword(word, fields)?;
     fields.want_end()
+}
+
+/// The coordinates of a point, and the end of the line.
+#[tactic(auto, unfolding(crate::specs::OnLine::last_place_at))]
+pub(crate) fn want_last_place(fields: &mut Fields) -> Result<DecimalPoint, TextFault>
+    ensures { result ≡ last_place_at fields.old.line fields.old.fields }
+{
+    let place = read_place(fields)?;
+    fields.want_end()?;
+    Ok(place)
 }

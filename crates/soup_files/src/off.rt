@@ -11,10 +11,10 @@ ghost use Rattle.soup_files.specs.Surface.{corners_onto, face_onto, faces_onto};
 ghost use Rattle.soup_files.specs.Off.{counts_of, head_of, vertex_line, corner_at, off_polygon, off_of};
 ghost use Rattle.tet_text.specs.Repeated.{so_many};
 
-use crate::fields::want_keyword;
+use crate::fields::{want_keyword, want_last_place};
 use crate::surface::{nodes_at, start_face};
 use grid_coords::{DecimalPoint, DecimalPoints};
-use node_files::{count_or, read_place};
+use node_files::count_or;
 use plc_files::{PlcFault, PlcText, go_on, some_count};
 use std::alloc::Global;
 use tet_ports::Bytes;
@@ -49,7 +49,7 @@ fn read_head(lines: &mut Lines) -> Result<(u64, u64), TextFault>
     read_counts(&mut fields)
 }
 
-#[tactic(auto, unfolding(crate::specs::Off::vertex_line))]
+#[tactic(auto, unfolding(crate::specs::Off::vertex_line, crate::specs::OnLine::on_line))]
 fn read_vertex(lines: &mut Lines) -> Result<DecimalPoint, TextFault>
     requires { line_total lines.old + 1 < 2 ^ 64 }
     ensures value { left_after (λ point. point) result (content_left lines.new)
@@ -57,9 +57,7 @@ fn read_vertex(lines: &mut Lines) -> Result<DecimalPoint, TextFault>
     ensures count { line_total lines.new ≡ line_total lines.old }
 {
     let mut fields = lines.want_line()?;
-    let place = read_place(&mut fields)?;
-    fields.want_end()?;
-    Ok(place)
+    want_last_place(&mut fields)
 }
 
 /// So many points, one a line.

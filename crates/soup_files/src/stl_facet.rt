@@ -3,11 +3,10 @@
 ghost use Rattle.std.specs.Prelude.{◌≡◌, ◌+◌, ◌<◌, ◌^◌, codes};
 ghost use Rattle.tet_text.specs.Reading.{left_after};
 ghost use Rattle.tet_text.specs.Views.{content_left, line_total};
-ghost use Rattle.soup_files.specs.Stl.{normal_at, more_facets, loop_line, vertex_line, ascii_facet_of};
+ghost use Rattle.soup_files.specs.Stl.{normal_at, more_facets, loop_of, vertex_of, ascii_facet_of};
 
-use crate::fields::{bad_count, is_word, want_keyword, want_word_line};
+use crate::fields::{bad_count, is_word, want_keyword, want_last_place, want_last_word};
 use grid_coords::DecimalPoint;
-use node_files::read_place;
 use tet_text::{Fields, Lines, TextFault};
 
 /// A facet: the number of its first line, and its corners.
@@ -47,46 +46,35 @@ pub(crate) fn starts_facet(fields: &mut Fields) -> Result<bool, TextFault>
     Ok(true)
 }
 
-#[tactic(auto, unfolding(crate::specs::Stl::loop_line))]
-fn pass_loop(lines: &mut Lines) -> Result<(), TextFault>
-    requires { line_total lines.old + 1 < 2 ^ 64 }
-    ensures value { left_after (λ x. x) result (content_left lines.new)
-        ≡ loop_line (line_total lines.old) (content_left lines.old) }
-    ensures count { line_total lines.new ≡ line_total lines.old }
+#[tactic(auto, unfolding(crate::specs::Stl::loop_of))]
+fn pass_loop(fields: &mut Fields) -> Result<(), TextFault>
+    ensures { result ≡ loop_of fields.old }
 {
-    let mut fields = lines.want_line()?;
-    want_keyword(b"outer", &mut fields)?;
-    want_keyword(b"loop", &mut fields)?;
-    fields.want_end()
+    want_keyword(b"outer", fields)?;
+    want_last_word(b"loop", fields)
 }
 
-#[tactic(auto, unfolding(crate::specs::Stl::vertex_line))]
-fn read_vertex(lines: &mut Lines) -> Result<DecimalPoint, TextFault>
-    requires { line_total lines.old + 1 < 2 ^ 64 }
-    ensures value { left_after (λ point. point) result (content_left lines.new)
-        ≡ vertex_line (line_total lines.old) (content_left lines.old) }
-    ensures count { line_total lines.new ≡ line_total lines.old }
+#[tactic(auto, unfolding(crate::specs::Stl::vertex_of))]
+fn read_vertex(fields: &mut Fields) -> Result<DecimalPoint, TextFault>
+    ensures { result ≡ vertex_of fields.old }
 {
-    let mut fields = lines.want_line()?;
-    want_keyword(b"vertex", &mut fields)?;
-    let place = read_place(&mut fields)?;
-    fields.want_end()?;
-    Ok(place)
+    want_keyword(b"vertex", fields)?;
+    want_last_place(fields)
 }
 
 /// The rest of a facet behind its first line, whose number is this one.
-#[tactic(auto, unfolding(crate::specs::Stl::ascii_facet_of))]
+#[tactic(auto, unfolding(crate::specs::Stl::ascii_facet_of, crate::specs::OnLine::on_line))]
 pub(crate) fn read_facet(line: usize, lines: &mut Lines) -> Result<StlFacet, TextFault>
     requires { line_total lines.old + 1 < 2 ^ 64 }
     ensures value { left_after (λ facet. facet) result (content_left lines.new)
         ≡ ascii_facet_of (line_total lines.old) line (content_left lines.old) }
     ensures count { line_total lines.new ≡ line_total lines.old }
 {
-    pass_loop(lines)?;
-    let a = read_vertex(lines)?;
-    let b = read_vertex(lines)?;
-    let c = read_vertex(lines)?;
-    want_word_line(b"endloop", lines)?;
-    want_word_line(b"endfacet", lines)?;
+    pass_loop(&mut lines.want_line()?)?;
+    let a = read_vertex(&mut lines.want_line()?)?;
+    let b = read_vertex(&mut lines.want_line()?)?;
+    let c = read_vertex(&mut lines.want_line()?)?;
+    want_last_word(b"endloop", &mut lines.want_line()?)?;
+    want_last_word(b"endfacet", &mut lines.want_line()?)?;
     Ok(StlFacet { line, a, b, c })
 }

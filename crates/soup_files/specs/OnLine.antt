@@ -1,0 +1,36 @@
+-- What a content line says.
+use Rattle.std.specs.Prelude.{ℕ, List, Result, Ok}
+use Rattle.tet_text.specs.declared.fault.TextFault.{TextFault}
+use Rattle.tet_text.specs.Lines.{ContentLine}
+use Rattle.tet_text.specs.Reading.{◌>>=◌, Fields, end_at, line_at}
+use Rattle.grid_coords.specs.declared.points.DecimalPoint.{DecimalPoint}
+use Rattle.node_files.specs.Point.{place_at}
+use Rattle.soup_files.specs.Keyword.{keyword_at}
+
+-- what is read of the next content line, and the lines behind it, in a text of so many lines
+unfoldable pub on_line : {X : Type 0} → (ContentLine → Result X TextFault) → ℕ → List ContentLine → Result (X × List ContentLine) TextFault
+on_line read total lines = do
+  line ← line_at total lines
+  x ← read line.0
+  Ok (x, line.1)
+
+-- this word, and the end of the line
+unfoldable pub last_word_at : List ℕ → ℕ → Fields → Result (Unit {0}) TextFault
+last_word_at word line fields = do
+  rest ← keyword_at word line fields
+  end_at line rest.1
+
+-- <x> <y> <z>, and the end of the line
+unfoldable pub last_place_at : ℕ → Fields → Result DecimalPoint TextFault
+last_place_at line fields = do
+  place ← place_at line fields
+  _ ← end_at line place.1
+  Ok place.0
+
+-- a line with this word alone
+abbrev pub word_of : List ℕ → ContentLine → Result (Unit {0}) TextFault
+word_of word line = last_word_at word line.line line.fields
+
+-- a line with a point's coordinates alone
+abbrev pub place_of : ContentLine → Result DecimalPoint TextFault
+place_of line = last_place_at line.line line.fields
