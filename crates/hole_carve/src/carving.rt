@@ -1,9 +1,7 @@
 //! The tetrahedra that are left when the outside and the holes are cut away.
-ghost use Rattle.std.specs.Prelude.{pos, ◌<ℤ◌, ◌≡◌, ◌<◌, ◌≤◌, ◌↔◌, ◌⊎◌, ◌+◌, ℕ, true, false};
-ghost use Rattle.std.specs.Prelude.{AllPairs, All, Any, length, take, IfOk, OnOk};
-ghost use Rattle.sign_predicates.specs.Point.{RationalPoint};
-ghost use Rattle.sign_predicates.specs.Orientation.{IsPositive};
-ghost use Rattle.geo_laws.specs.Delaunay.{corners, IsOn, RowBefore};
+ghost use Rattle.std.specs.Prelude.{pos, ◌<ℤ◌, ◌≡◌, ◌<◌, ◌≤◌, ◌↔◌, ◌+◌, ℕ, true, false};
+ghost use Rattle.std.specs.Prelude.{AllPairs, All, length, take, IfOk, OnOk};
+ghost use Rattle.geo_laws.specs.Delaunay.{RowBefore};
 ghost use Rattle.path_laws.specs.Places.{IsFilling, IsKeptPart};
 ghost use Rattle.path_laws.specs.Flood.{carving_of};
 ghost use Rattle.hole_carve.specs.Kept.{unmarked};

@@ -1,15 +1,13 @@
 //! The region of each tetrahedron: the first region point that a free path joins with it.
-ghost use Rattle.std.specs.Prelude.{◌≡◌, ◌≢◌, ◌+◌, ◌<◌, ◌≤◌, ◌↔◌, ◌<ℤ◌, pos, ℕ, true, false};
-ghost use Rattle.std.specs.Prelude.{AllPairs, All, Contains, Some, None, [], length, IfOk, OnOk};
-ghost use Rattle.sign_predicates.specs.Orientation.{IsPositive};
-ghost use Rattle.geo_laws.specs.Delaunay.{corners, IsOn, RowBefore};
+ghost use Rattle.std.specs.Prelude.{◌≡◌, ◌≢◌, ◌+◌, ◌<◌, ◌≤◌, ◌<ℤ◌, pos, ℕ};
+ghost use Rattle.std.specs.Prelude.{AllPairs, All, Contains, Some, None, length, IfOk, OnOk};
+ghost use Rattle.geo_laws.specs.Delaunay.{RowBefore};
 ghost use Rattle.path_laws.specs.Places.{IsFilling};
 ghost use Rattle.hole_carve.specs.Seeds.{IsSearchable};
 ghost use Rattle.hole_carve.specs.Flooding.{IsFlooded, LeadsWithin};
 ghost use Rattle.hole_carve.specs.Floods.{IsFlood, GoesOn, IsFloodDone, HasReached};
 ghost use Rattle.hole_carve.specs.Marks.{mark_at, IsPutFrom, AreNumbered, AreRegionMarks, AreKeptMarks};
 ghost use Rattle.hole_carve.specs.Marks.{IsPlaceFrom, KeptMarksLaw};
-ghost use Rattle.geo_laws.specs.Marks.{is_marked};
 
 use crate::flood::Flood;
 use crate::seeds::{mark_seeds, no_marks};

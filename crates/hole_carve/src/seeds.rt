@@ -1,6 +1,6 @@
 //! Where the flood from a hole or region point begins.
-ghost use Rattle.std.specs.Prelude.{◌≡◌, ◌↔◌, ◌⊎◌, ◌+◌, ◌<◌, ℕ, pos, true, false, AllPairs, All, Contains};
-ghost use Rattle.std.specs.Prelude.{length, IfOk, IfSome, OnOk};
+ghost use Rattle.std.specs.Prelude.{◌≡◌, ◌↔◌, ◌⊎◌, ◌+◌, ◌<◌, ℕ, pos, true, false, All, Contains};
+ghost use Rattle.std.specs.Prelude.{length, IfOk, OnOk};
 ghost use Rattle.box_tree.specs.Bodies.{IsRowTree};
 ghost use Rattle.sign_predicates.specs.Orientation.{IsPositive, InClosed, orient_rational, side_rational};
 ghost use Rattle.sign_predicates.specs.Orientation.{opposite_face};
