@@ -9,22 +9,11 @@ ghost use Rattle.mesh_files.specs.declared.markers.FaceRow.{FaceRow};
 use crate::face::append_face;
 use crate::facet_faces::facet_faces;
 use crate::line::{append_line, room_for_lines};
-use crate::markers::{is_first, row_at};
+use crate::markers::{MarkedList, is_first, row_at};
 use crate::names::{Names, numbers_of};
-use geo_laws::{Complex, FacetTriangles, Points, TetList};
 use incidence::Uses;
 use std::alloc::Global;
 use tet_ports::{Bytes, NoMemory};
-
-/// A list of rows, the points that they are of, and the complex that marks their faces, with the
-/// triangles of its facets.
-#[derive(Clone, Copy)]
-pub struct MarkedList<'a> {
-    pub points: &'a Points,
-    pub list: &'a TetList,
-    pub complex: &'a Complex,
-    pub triangles: &'a FacetTriangles,
-}
 
 /// The text of the `.face` file of all faces: that of `write_face` for the rows of `used_faces`,
 /// which take no memory here. Faces are numbered from `first`, and a corner is told by its name,
@@ -39,7 +28,8 @@ pub fn write_all_faces(
     first: u32,
 ) -> Result<Bytes, NoMemory>
     requires named { All (λ row. AreNamed names.now (numbers row)) mesh.now.list.now }
-    requires met { AreTrianglesMetByFaces mesh.now.points.now mesh.now.triangles.now mesh.now.list.now }
+    requires met { AreTrianglesMetByFaces mesh.now.points.now mesh.now.triangles.now
+        mesh.now.list.now }
     requires facets { AreFacetsThere mesh.now.triangles.now mesh.now.complex.now }
     requires uses { AreUsesOf mesh.now.list.now uses.now }
     ensures { IfOk result (λ text. (found : List FaceRow) × AreFaceRowsOf

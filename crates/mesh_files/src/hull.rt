@@ -18,7 +18,8 @@ use tet_ports::NoMemory;
 /// `all` where there are no facets. It refuses for want of memory alone.
 pub fn hull_rows(alloc: Global, hull: &Faces) -> Result<FaceRows, NoMemory>
     ensures { IfOk result (λ found. (ps : List Point) (complex : Complex) (rows : List Row)
-        → AllPairs RowBefore rows → AreHullFacesOf rows hull.now → AreFaceRowsOf ps rows complex [] false found) }
+        → AllPairs RowBefore rows → AreHullFacesOf rows hull.now
+        → AreFaceRowsOf ps rows complex [] false found) }
 {
     let mut found = FaceRows::with_capacity(alloc, hull.len())?;
     for face in hull.as_slice() {

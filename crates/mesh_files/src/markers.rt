@@ -25,6 +25,16 @@ pub struct FaceRow {
 /// A list of faces with their markers.
 pub type FaceRows = Items<FaceRow>;
 
+/// A list of rows, the points that they are of, and the complex that marks their faces, with the
+/// triangles of its facets.
+#[derive(Clone, Copy)]
+pub struct MarkedList<'a> {
+    pub points: &'a Points,
+    pub list: &'a TetList,
+    pub complex: &'a Complex,
+    pub triangles: &'a FacetTriangles,
+}
+
 /// The faces of rows, each once, ascending, with their markers. The marker is that of the first
 /// facet in which the face lies, by its place in the complex, and 1 where that facet has none. A
 /// face in no facet has 1 where one row alone has it, so that it is on the hull of the mesh, else
@@ -40,28 +50,35 @@ pub fn face_rows(
 ) -> Result<FaceRows, NoMemory>
     requires met { AreTrianglesMetByFaces points.now triangles.now list.now }
     requires facets { AreFacetsThere triangles.now complex.now }
-    ensures { IfOk result (λ found. AreFaceRowsOf points.now list.now complex.now triangles.now all found) }
+    ensures { IfOk result (λ found. AreFaceRowsOf points.now list.now complex.now triangles.now
+        all found) }
 {
     let uses = uses_of(alloc, list)?;
-    used_faces(alloc, points, list, &uses, complex, triangles, all)
+    let mesh = MarkedList {
+        points,
+        list,
+        complex,
+        triangles,
+    };
+    used_faces(alloc, &mesh, &uses, all)
 }
 
 /// The same, where the uses of the faces are known already.
 pub fn used_faces(
     alloc: Global,
-    points: &Points,
-    list: &TetList,
+    mesh: &MarkedList<'_>,
     uses: &Uses,
-    complex: &Complex,
-    triangles: &FacetTriangles,
     all: bool,
 ) -> Result<FaceRows, NoMemory>
-    requires met { AreTrianglesMetByFaces points.now triangles.now list.now }
-    requires facets { AreFacetsThere triangles.now complex.now }
-    requires uses { AreUsesOf list.now uses.now }
-    ensures { IfOk result (λ found. AreFaceRowsOf points.now list.now complex.now triangles.now all found) }
+    requires met { AreTrianglesMetByFaces mesh.now.points.now mesh.now.triangles.now
+        mesh.now.list.now }
+    requires facets { AreFacetsThere mesh.now.triangles.now mesh.now.complex.now }
+    requires uses { AreUsesOf mesh.now.list.now uses.now }
+    ensures { IfOk result (λ found. AreFaceRowsOf mesh.now.points.now mesh.now.list.now
+        mesh.now.complex.now mesh.now.triangles.now all found) }
 {
-    let facets = facet_faces(alloc, triangles)?;
+    let MarkedList { list, complex, .. } = *mesh;
+    let facets = facet_faces(alloc, mesh.triangles)?;
     let mut found = FaceRows::with_capacity(alloc, face_room(uses, all))?;
     for at in 0..uses.len() {
         if is_first(list, uses, at) {
@@ -128,7 +145,8 @@ pub(crate) fn row_at(
     requires ascending { AllPairs FacetFaceBefore facets.now }
     requires facets { All (λ x. x.facet < length complex.now.facets) facets.now }
     ensures row { HoldsAt (λ u. IsRowOrNone (IsFaceRowOf
-        (IsTriangleIn facets.now) complex.now.facets list.now all u.face) result) (used list.now uses.now) at }
+        (IsTriangleIn facets.now) complex.now.facets list.now all u.face) result)
+        (used list.now uses.now) at }
     ensures asked { IsTrue all → IsSome result }
 {
     let face = use_at(uses, at, list).face;

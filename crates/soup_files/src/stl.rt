@@ -77,7 +77,8 @@ fn read_facets(
     requires none { points.old ≡ [] }
     ensures value { PlcGives (λ triangles.
         ((points.new, map triangle_polygon triangles), content_left lines.new)) result
-        (placed_facets (ascii_facets_of (length (content_left lines.old)) (line_total lines.old) (content_left lines.old))) }
+        (placed_facets (ascii_facets_of (length (content_left lines.old)) (line_total lines.old)
+        (content_left lines.old))) }
     ensures count { line_total lines.new ≡ line_total lines.old }
 {
     let mut triangles = Items::new(alloc);

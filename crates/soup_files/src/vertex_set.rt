@@ -41,7 +41,9 @@ impl Eq for Vertex {
 }
 
 impl Hash for Vertex {
-    ghost hash_input = { λ p. fed.i128 p.point.x.value ++ fed.u32 p.point.x.scale ++ fed.i128 p.point.y.value ++ fed.u32 p.point.y.scale ++ fed.i128 p.point.z.value ++ fed.u32 p.point.z.scale };
+    ghost hash_input = { λ p. fed.i128 p.point.x.value ++ fed.u32 p.point.x.scale
+        ++ fed.i128 p.point.y.value ++ fed.u32 p.point.y.scale
+        ++ fed.i128 p.point.z.value ++ fed.u32 p.point.z.scale };
 
     ghost respects_eq = { Prim.search (hashing, rules) };
 

@@ -14,17 +14,17 @@ use Rattle.mesh_files.proofs.markers.used_faces.Goals as goal
 
 pub loop-at-init : goal.loop-at-init
 loop-at-init c =
-    subst (AreFoundBefore corners_of (IsListedRow c.args.triangles.now c.args.complex.now c.args.list.now c.args.all) (used c.args.list.now c.args.uses.now) 0) (sym c.in_ok-found.ensures)
-    (found_first corners_of (IsListedRow c.args.triangles.now c.args.complex.now c.args.list.now c.args.all) (used c.args.list.now c.args.uses.now))
+    subst (AreFoundBefore corners_of (IsListedRow c.args.mesh.now.triangles.now c.args.mesh.now.complex.now c.args.mesh.now.list.now c.args.all) (used c.args.mesh.now.list.now c.args.uses.now) 0) (sym c.in_ok-found.ensures)
+    (found_first corners_of (IsListedRow c.args.mesh.now.triangles.now c.args.mesh.now.complex.now c.args.mesh.now.list.now c.args.all) (used c.args.mesh.now.list.now c.args.uses.now))
 
 pub row_at-requires-clause-facets : goal.row_at-requires-clause-facets
-row_at-requires-clause-facets c = facets_there c.args.triangles.now c.in_ok-facets.facets c.args.complex.now c.in_ok-facets.ensures c.requires.facets
+row_at-requires-clause-facets c = facets_there c.args.mesh.now.triangles.now c.in_ok-facets.facets c.args.mesh.now.complex.now c.in_ok-facets.ensures c.requires.facets
 
 pub loop-at-preserved : goal.loop-at-preserved
 loop-at-preserved c =
-    let triangles = c.args.triangles.now in
-    let complex = c.args.complex.now in
-    let rows = c.args.list.now in
+    let triangles = c.args.mesh.now.triangles.now in
+    let complex = c.args.mesh.now.complex.now in
+    let rows = c.args.mesh.now.list.now in
     let all = c.args.all in
     let uses = used rows c.args.uses.now in
     let there : c.loop-at.at < length uses = omega (arith, used_length rows c.args.uses.now) in
@@ -45,4 +45,4 @@ loop-at-preserved c =
 
 pub returns : goal.returns
 returns c =
-    rows_found c.args.points.now c.args.triangles.now c.args.list.now c.args.complex.now c.args.all (used c.args.list.now c.args.uses.now) c.loop-at.at c.loop-at.found c.requires.met c.requires.uses.uses (omega (arith, used_length c.args.list.now c.args.uses.now)) c.loop-at.invariant
+    rows_found c.args.mesh.now.points.now c.args.mesh.now.triangles.now c.args.mesh.now.list.now c.args.mesh.now.complex.now c.args.all (used c.args.mesh.now.list.now c.args.uses.now) c.loop-at.at c.loop-at.found c.requires.met c.requires.uses.uses (omega (arith, used_length c.args.mesh.now.list.now c.args.uses.now)) c.loop-at.invariant

@@ -6,4 +6,4 @@ use Rattle.mesh_files.proofs.markers.used_faces.Given as goal
 
 -- the faces so far are those of the uses so far
 abbrev pub invariant-loop-at : goal.invariant-loop-at
-invariant-loop-at l = AreFoundBefore corners_of (IsListedRow l.triangles l.complex l.list l.all) (used l.list l.uses) l.at l.found
+invariant-loop-at l = AreFoundBefore corners_of (IsListedRow l.mesh.triangles.now l.complex l.list l.all) (used l.list l.uses) l.at l.found
