@@ -5,4 +5,5 @@ pub mod Named
 pub mod Once
 pub mod Refusals
 pub mod Steps
+pub mod Unbound
 pub mod Wider

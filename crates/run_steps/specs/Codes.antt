@@ -1,10 +1,10 @@
--- The status with which the program ends, and the statuses of a complex and of weighted points that have no mesh.
+-- The status with which the program ends, and those of a complex that is on no grid or has no mesh, and of weighted points that have none.
 use Rattle.std.specs.Prelude.{ℕ, List}
 use Rattle.complex_mesh.specs.declared.fault.MeshFault.{MeshFault}
 use Rattle.complex_mesh.specs.declared.fault.MeshFault.TheVariants as fault
-use Rattle.run_steps.specs.declared.bind_fault.BindFault.{BindFault}
-use Rattle.run_steps.specs.declared.bind_fault.BindFault.TheVariants as bind
-use Rattle.run_steps.specs.declared.status.LimitKind.TheVariants.{Points, Facets, Corners, Grid, Weight}
+use Rattle.plc_files.specs.declared.fault.PlcFault.{PlcFault}
+use Rattle.plc_files.specs.declared.fault.PlcFault.TheVariants as bind
+use Rattle.run_steps.specs.declared.status.LimitKind.TheVariants.{Facets, Corners, Weight}
 use Rattle.run_steps.specs.declared.status.Status.{Status}
 use Rattle.run_steps.specs.declared.status.Status.TheVariants.{Done, Usage, Missing, ReadFault, BadText, Limit, Flat, NotFlat, SegmentsCross, Crossing, GridEnd, BudgetEnd, NoFill, NoMemory, WriteFault, Unsound}
 use Rattle.weighted_steps.specs.declared.fault.RegularFault.{RegularFault}
@@ -45,10 +45,13 @@ status_of_weights name (regular.TooHeavy line) = Limit (Weight line)
 status_of_weights name regular.Flat = Flat
 status_of_weights name regular.NoMemory = NoMemory
 
--- of an input that is over a limit on its way to the grid
-abbrev pub status_of_bind : BindFault → Status
-status_of_bind (bind.Points count most) = Limit (Points count most)
+-- the complex was read: this is no fault of its text
+abbrev pub IsOfRead : PlcFault → Type 0
+IsOfRead (bind.Text fault) = ⊥
+IsOfRead fault = Unit {0}
+
+-- of such a complex on its way to the grid
+abbrev pub status_of_bind : PlcFault → Status
 status_of_bind (bind.Facets count most) = Limit (Facets count most)
 status_of_bind (bind.Corners line count most) = Limit (Corners line count most)
-status_of_bind (bind.Grid line) = Limit (Grid line)
-status_of_bind bind.NoMemory = NoMemory
+status_of_bind fault = NoMemory

@@ -6,7 +6,7 @@ ghost use Rattle.node_files.specs.Limits.{AreIndexable};
 ghost use Rattle.node_files.specs.Node.{IsNodeText};
 ghost use Rattle.plc_files.specs.Checks.{HasFewParts};
 ghost use Rattle.plc_files.specs.Sample.{sample_of};
-ghost use Rattle.run_steps.specs.Reading.{complex_file, node_text_of, plc_text_of, IsRead, IsUnfetched, TextAnswer, PointsAnswer, FormAnswer, ComplexFileAnswer, SourceAnswer, NodesAnswer, BoundedAnswer, InputOf, InputAnswer, IsSound};
+ghost use Rattle.run_steps.specs.Reading.{complex_file, node_text_of, plc_text_of, IsRead, IsUnfetched, TextAnswer, PointsAnswer, FormAnswer, SourceAnswer, NodesAnswer, BoundedAnswer, InputAnswer, IsSound};
 ghost use Rattle.tet_ports.specs.Seen.{IsOnlyRead, folder_seen};
 ghost use Rattle.run_steps.specs.Steps.{AndThen, IfMissing, Gives};
 
@@ -57,42 +57,9 @@ pub fn read_input<F: Folder>(
     ensures only_read { IsOnlyRead (folder_seen F.state folder.old folder.new) }
 {
     if options.piecewise {
-        return read_complex(alloc, limits, options, folder);
+        let file = read_source(alloc, limits, options, folder)?;
+        return with_points(alloc, limits, &options.base, file, folder);
     }
-    read_points_alone(alloc, limits, options, folder)
-}
-
-/// A complex on its points.
-fn read_complex<F: Folder>(
-    alloc: Global,
-    limits: Limits,
-    options: &Options,
-    folder: &mut F,
-) -> Result<Input, Status>
-    requires limits { AreIndexable limits }
-    requires sample { IfSome options.now.sample (λ n. n ≤ 10000) }
-    ensures answer { InputOf limits true (folder_seen F.state folder.old folder.new)
-        options.now result }
-    ensures sound { IfOk result IsSound }
-    ensures only_read { IsOnlyRead (folder_seen F.state folder.old folder.new) }
-{
-    let file = read_source(alloc, limits, options, folder)?;
-    with_points(alloc, limits, &options.base, file, folder)
-}
-
-/// The points of a file, with no complex.
-fn read_points_alone<F: Folder>(
-    alloc: Global,
-    limits: Limits,
-    options: &Options,
-    folder: &mut F,
-) -> Result<Input, Status>
-    requires { AreIndexable limits }
-    ensures answer { InputOf limits false
-        (folder_seen F.state folder.old folder.new) options.now result }
-    ensures sound { IfOk result IsSound }
-    ensures only_read { IsOnlyRead (folder_seen F.state folder.old folder.new) }
-{
     let nodes = read_points(alloc, limits, &options.base, folder)?;
     Ok(Input {
         nodes,
@@ -100,7 +67,8 @@ fn read_points_alone<F: Folder>(
     })
 }
 
-/// The complex that the options name: the sample, or that of a file.
+/// The complex that the options name: the sample, or that of the file with their base, whose `.poly`
+/// file comes before its `.smesh` file, if no extension says which.
 fn read_source<F: Folder>(
     alloc: Global,
     limits: Limits,
@@ -114,9 +82,16 @@ fn read_source<F: Folder>(
     ensures few { IfOk result (λ file. HasFewParts file.text) }
     ensures only_read { IsOnlyRead (folder_seen F.state folder.old folder.new) }
 {
+    let base = &options.base;
     match options.sample {
         Some(n) => read_sample(alloc, n),
-        None => read_complex_file(alloc, limits, &options.base, options.extension, folder),
+        None => match options.extension {
+            Some(Extension::Smesh) => read_form(alloc, limits, base, Extension::Smesh, folder),
+            Some(Extension::Poly) => read_form(alloc, limits, base, Extension::Poly, folder),
+            Some(Extension::Off) => read_form(alloc, limits, base, Extension::Off, folder),
+            Some(Extension::Stl) => read_form(alloc, limits, base, Extension::Stl, folder),
+            Some(Extension::Node) | None => read_bare(alloc, limits, base, folder),
+        },
     }
 }
 
@@ -131,31 +106,6 @@ fn read_sample(alloc: Global, n: u32) -> Result<ComplexFile, Status>
         name: Name::new(alloc),
         text,
     })
-}
-
-/// The complex of the file with this base: of its `.poly` file, or where there is none of its
-/// `.smesh` file, if no extension says which.
-fn read_complex_file<F: Folder>(
-    alloc: Global,
-    limits: Limits,
-    base: &Name,
-    extension: Option<Extension>,
-    folder: &mut F,
-) -> Result<ComplexFile, Status>
-    requires { AreIndexable limits }
-    ensures answer { ComplexFileAnswer limits
-        (folder_seen F.state folder.old folder.new) base.now extension result }
-    ensures few { IfOk result (λ file. HasFewParts file.text) }
-    ensures only_read { IsOnlyRead (folder_seen F.state folder.old folder.new) }
-{
-    match extension {
-        Some(Extension::Smesh) => read_form(alloc, limits, base, Extension::Smesh, folder),
-        Some(Extension::Poly) => read_form(alloc, limits, base, Extension::Poly, folder),
-        Some(Extension::Off) => read_form(alloc, limits, base, Extension::Off, folder),
-        Some(Extension::Stl) => read_form(alloc, limits, base, Extension::Stl, folder),
-        Some(Extension::Node) => read_bare(alloc, limits, base, folder),
-        None => read_bare(alloc, limits, base, folder),
-    }
 }
 
 /// The complex of the `.poly` file with this base, or where there is none of its `.smesh` file.

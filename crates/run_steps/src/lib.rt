@@ -2,7 +2,6 @@
 //! and how it ends.
 #![tactic(auto)]
 
-mod bind_fault;
 mod input;
 mod mesh;
 mod meshed;

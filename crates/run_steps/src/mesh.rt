@@ -9,10 +9,10 @@ ghost use Rattle.node_files.specs.Folding.{names_with};
 ghost use Rattle.node_files.specs.Limits.{AreIndexable};
 ghost use Rattle.node_files.specs.Writing.{IsNodeTable};
 ghost use Rattle.plc_files.specs.Folding.{HasCornersBelow};
-ghost use Rattle.plc_files.specs.Binding.{IsBound, HasWeights};
+ghost use Rattle.plc_files.specs.Binding.{HasWeights};
 ghost use Rattle.plc_files.specs.Checks.{corners_check, HasFewParts};
-ghost use Rattle.run_steps.specs.Meshing.{grid_options, mesh_options, IsSmall, IsOverLimit, IsMeshableBound, BoundAnswer, IsUnbound, IsUnmeshed, IsFlatRefusal, mesh_on, mesh_of_complex, mesh_in, without_decimals, IsBoundOn, PointsMeshOf, MeshOf, MeshAnswer, OutputsAnswer};
-ghost use Rattle.run_steps.specs.Codes.{status_of_bind, status_of_fault, status_of_weights};
+ghost use Rattle.run_steps.specs.Meshing.{grid_options, mesh_options, IsSmall, IsOverLimit, IsMeshableBound, BoundAnswer, IsUnmeshed, IsFlatRefusal, mesh_on, mesh_of_complex, mesh_in, without_decimals, IsBoundOn, PointsMeshOf, MeshOf, MeshAnswer, OutputsAnswer};
+ghost use Rattle.run_steps.specs.Codes.{IsOfRead, status_of_bind, status_of_fault, status_of_weights};
 ghost use Rattle.run_steps.specs.declared.status.LimitKind.TheVariants.{Grid as OnGrid};
 ghost use Rattle.run_steps.specs.declared.status.Status.TheVariants.{Limit, NoMemory as Wanting};
 ghost use Rattle.command_words.specs.Names.{file_name};
@@ -21,7 +21,6 @@ ghost use Rattle.run_steps.specs.Steps.{AndThen};
 ghost use Rattle.run_steps.specs.Outputs.{IsWritable, IsHullOf};
 ghost use Rattle.run_steps.specs.Reading.{IsSound};
 
-use crate::bind_fault::BindFault;
 use crate::input::Input;
 use crate::meshed::{HulledMesh, Meshed};
 use crate::outputs::{Outputs, asks_hull_alone, outputs_of};
@@ -30,7 +29,7 @@ use cavity_insert::{BuildFault, HulledList, delaunay, delaunay_with_hull};
 use command_words::{Extension, Options, file_name};
 use complex_mesh::{ComplexMesh, MeshFault, MeshOptions, mesh_complex};
 use geo_laws::{Complex, FacetTriangles, Points, TetList};
-use grid_coords::{DecimalPoints, Grid};
+use grid_coords::DecimalPoints;
 use mesh_files::Faces;
 use node_files::{GridOptions, Limits, Names, NodeFault, NodeTable, NodeText, names_of, settle};
 use plc_files::{PlcFault, PlcText, bind, check_sizes, fold};
@@ -100,110 +99,77 @@ pub fn bind_nodes(
         (record { nodes = nodes; complex = complex.now }) result }
     ensures meshable { IfOk result (IsMeshableBound options.now) }
 {
-    match bind_parts(alloc, limits, options, nodes, complex) {
-        Ok(bound) => Ok(bound),
-        Err(fault) => Err(Status::from(fault)),
-    }
-}
-
-/// The same of the parts of an input.
-fn bind_parts(
-    alloc: Global,
-    limits: Limits,
-    options: &Options,
-    nodes: NodeText,
-    text: &PlcText,
-) -> Result<Bound, BindFault>
-    requires limits { AreIndexable limits }
-    requires input { IsSound (record { nodes = nodes; complex = text.now }) }
-    requires ranges { AreInRange options.now }
-    ensures bound { IfOk result
-        (λ bound. BoundAnswer limits options.now (record { nodes = nodes; complex = text.now }) (Ok bound)) }
-    ensures unbound { IfErr result
-        (λ fault. IsUnbound limits options.now (record { nodes = nodes; complex = text.now }) (status_of_bind fault)) }
-    ensures meshable { IfOk result (IsMeshableBound options.now) }
-{
     let first = nodes.first;
-    let count = nodes.decimals.len() as u64;
     match settle(alloc, limits, nodes, &grid_options(options)) {
         Ok(table) => {
-            let complex = bind_folded(alloc, limits, text, first, count, &table)?;
+            let complex = bind_on(alloc, limits, complex, first, &table)?;
             Ok(Bound { table, complex })
         }
-        Err(NodeFault::TooMany { count, most }) => Err(BindFault::Points { count, most }),
-        Err(NodeFault::Range { line }) => Err(limit_before(limits, text, line)),
-        Err(NodeFault::NoMemory) => Err(BindFault::NoMemory),
+        Err(NodeFault::TooMany { count, most }) => Err(Status::Limit {
+            what: LimitKind::Points { count, most },
+        }),
+        Err(NodeFault::Range { line }) => Err(limit_before(limits, complex, line)),
+        Err(NodeFault::NoMemory) => Err(Status::NoMemory),
         Err(NodeFault::Text(_)) => unreachable!(),
     }
 }
 
 /// The complex on the points of a table, where its corners name those that are kept.
-fn bind_folded(
+fn bind_on(
     alloc: Global,
     limits: Limits,
     text: &PlcText,
     first: u32,
-    count: u64,
     table: &NodeTable,
-) -> Result<Complex, BindFault>
+) -> Result<Complex, Status>
     requires limits { AreIndexable limits }
-    requires corners { corners_check first count text.now ≡ Ok tt }
-    requires count { count < 2 ^ 32 - 1 }
+    requires corners { corners_check first (length table.now.listed) text.now ≡ Ok tt }
     requires few { HasFewParts text.now }
     requires table { IsNodeTable table.now }
-    requires listed { length table.now.listed ≡ count }
+    requires listed { length table.now.listed < 2 ^ 32 - 1 }
     ensures bound { IfOk result (IsBoundOn limits text.now first table.now) }
-    ensures over { IfErr result (λ fault. IsOverLimit limits text.now (status_of_bind fault)) }
+    ensures over { IfErr result (IsOverLimit limits text.now) }
     ensures corners { IfOk result (HasCornersBelow (length table.now.points)) }
     ensures weights { IfOk result HasWeights }
 {
-    let bound = bind_complex(alloc, limits, text, first, count, &table.grid)?;
-    Ok(fold(alloc, &bound, table)?)
-}
-
-/// The complex on a grid.
-fn bind_complex(
-    alloc: Global,
-    limits: Limits,
-    text: &PlcText,
-    first: u32,
-    count: u64,
-    grid: &Grid,
-) -> Result<Complex, BindFault>
-    requires limits { AreIndexable limits }
-    requires corners { corners_check first count text.now ≡ Ok tt }
-    requires count { count < 2 ^ 32 - 1 }
-    requires few { HasFewParts text.now }
-    ensures bound { IfOk result (IsBound limits text.now first grid.now) }
-    ensures over { IfErr result (λ fault. IsOverLimit limits text.now (status_of_bind fault)) }
-    ensures corners { IfOk result (HasCornersBelow count) }
-    ensures weights { IfOk result HasWeights }
-{
-    match bind(alloc, limits, text, first, count, grid) {
-        Ok(complex) => Ok(complex),
-        Err(PlcFault::Facets { count, most }) => Err(BindFault::Facets { count, most }),
-        Err(PlcFault::Corners { line, count, most }) => {
-            Err(BindFault::Corners { line, count, most })
-        }
-        Err(PlcFault::NoMemory) => Err(BindFault::NoMemory),
-        Err(PlcFault::Text(_)) => unreachable!(),
+    let count = table.listed.len() as u64;
+    match bind(alloc, limits, text, first, count, &table.grid) {
+        Ok(bound) => Ok(fold(alloc, &bound, table)?),
+        Err(fault) => Err(binding_refused(fault)),
     }
 }
 
 /// The limit that the complex is over, which comes before that of the grid at this line; or that.
-fn limit_before(limits: Limits, text: &PlcText, line: usize) -> BindFault
-    ensures { IsSmall limits text.now × (status_of_bind result ≡ Limit (OnGrid line))
-        ⊎ IsOverLimit limits text.now (status_of_bind result) }
+fn limit_before(limits: Limits, text: &PlcText, line: usize) -> Status
+    ensures { IsSmall limits text.now × (result ≡ Limit (OnGrid line))
+        ⊎ IsOverLimit limits text.now result }
 {
     match check_sizes(limits, text) {
-        Ok(()) => BindFault::Grid { line },
-        Err(PlcFault::Facets { count, most }) => BindFault::Facets { count, most },
-        Err(PlcFault::Corners { line, count, most }) => BindFault::Corners { line, count, most },
-        Err(_) => unreachable!(),
+        Ok(()) => Status::Limit {
+            what: LimitKind::Grid { line },
+        },
+        Err(fault) => binding_refused(fault),
     }
 }
 
-/// The mesh of points alone, or of a complex.
+/// How a run ends whose complex, which was read, has this fault on its way to the grid.
+fn binding_refused(fault: PlcFault) -> Status
+    requires { IsOfRead fault }
+    ensures { result ≡ status_of_bind fault }
+{
+    match fault {
+        PlcFault::Facets { count, most } => Status::Limit {
+            what: LimitKind::Facets { count, most },
+        },
+        PlcFault::Corners { line, count, most } => Status::Limit {
+            what: LimitKind::Corners { line, count, most },
+        },
+        PlcFault::NoMemory => Status::NoMemory,
+        PlcFault::Text(_) => unreachable!(),
+    }
+}
+
+/// The mesh of points alone, of weighted points, or of a complex.
 fn mesh_bound(alloc: Global, options: &Options, bound: Bound) -> Result<HulledMesh, Status>
     requires { IsMeshableBound options.now bound }
     ensures answer { MeshAnswer options.now bound (mesh_in result) }
@@ -212,25 +178,13 @@ fn mesh_bound(alloc: Global, options: &Options, bound: Bound) -> Result<HulledMe
 {
     if options.piecewise {
         let mesh = mesh_plc(alloc, options, bound)?;
-        Ok(HulledMesh { mesh, hull: None })
-    } else {
-        mesh_points(alloc, options, bound)
+        return Ok(HulledMesh { mesh, hull: None });
     }
-}
-
-/// The mesh of points alone, or of weighted points.
-fn mesh_points(alloc: Global, options: &Options, bound: Bound) -> Result<HulledMesh, Status>
-    requires { IsMeshableBound options.now bound }
-    ensures answer { MeshOf false options.now bound (mesh_in result) }
-    ensures writable { IfOk result (λ made. IsWritable made.mesh) }
-    ensures hull { IfOk result (λ made. IfSome made.hull (IsHullOf made.mesh)) }
-{
     if options.weighted {
         let mesh = mesh_weighted(alloc, options, bound)?;
-        Ok(HulledMesh { mesh, hull: None })
-    } else {
-        mesh_delaunay(alloc, options, bound)
+        return Ok(HulledMesh { mesh, hull: None });
     }
+    mesh_delaunay(alloc, options, bound)
 }
 
 /// The mesh of points alone, with its hull where nothing else is asked for of the faces.

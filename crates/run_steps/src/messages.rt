@@ -1,11 +1,11 @@
 //! The line that each refusal is told in.
 
-ghost use Rattle.std.specs.Prelude.{◌≡◌, ◌∷◌, [], ◌++◌, ◌+◌, None, IfOk, OnOk};
+ghost use Rattle.std.specs.Prelude.{◌≡◌, ◌∷◌, [], ◌++◌, ◌+◌, None, IfOk, OnOk, codes};
 ghost use Rattle.std.specs.Fmt.{decimal};
 ghost use Rattle.check_steps.specs.Messages.{line, file_message};
 ghost use Rattle.run_steps.specs.Messages.{tetgen_name, point_text, ends_text, triangle_text, tetrahedron_text, two_tetrahedra_text, facet_text, part_text, at_most, limit_message, message_of};
 ghost use Rattle.tangle_laws.specs.declared.anomaly.Anomaly.TheVariants.{Bare};
-ghost use Rattle.run_steps.specs.declared.status.LimitKind.TheVariants.{Bytes as TooLong, MeshPoints, Corners, Grid, Weight};
+ghost use Rattle.run_steps.specs.declared.status.LimitKind.TheVariants.{Bytes as TooLong, MeshPoints, Corners};
 ghost use Rattle.run_steps.specs.declared.status.Status.TheVariants.{NotFlat, SegmentsCross, Crossing, GridEnd, BudgetEnd, NoFill, Unsound};
 
 use crate::numbering::{Numbering, number_of};
@@ -52,8 +52,11 @@ pub fn message(alloc: Global, by: &Option<Numbering>, status: &Status) -> Result
     }
 }
 
+/// A line that is told, unless memory is wanting.
+type LineAnswer = Result<Bytes, NoMemory>;
+
 /// A message on an input that is over a limit.
-fn limit_message(alloc: Global, what: &LimitKind) -> Result<Bytes, NoMemory>
+fn limit_message(alloc: Global, what: &LimitKind) -> LineAnswer
     ensures { IfOk result (λ line. line ≡ limit_message what.now) }
 {
     match what {
@@ -62,13 +65,13 @@ fn limit_message(alloc: Global, what: &LimitKind) -> Result<Bytes, NoMemory>
         LimitKind::MeshPoints { count } => mesh_points_message(alloc, *count),
         LimitKind::Facets { count, most } => count_message(alloc, *count, b" facets", *most),
         LimitKind::Corners { line, count, most } => corners_message(alloc, *line, *count, *most),
-        LimitKind::Grid { line } => grid_limit_message(alloc, *line),
-        LimitKind::Weight { line } => weight_limit_message(alloc, *line),
+        LimitKind::Grid { line } => place_message(alloc, *line, b": coordinate off the grid"),
+        LimitKind::Weight { line } => place_message(alloc, *line, b": weight off the grid"),
     }
 }
 
 /// A line on a file that is too long.
-fn bytes_message(alloc: Global, name: &Name, most: usize) -> Result<Bytes, NoMemory>
+fn bytes_message(alloc: Global, name: &Name, most: usize) -> LineAnswer
     ensures { IfOk result (λ line. line ≡ limit_message (TooLong name.now most)) }
 {
     let mut text = Bytes::from_slice(alloc, b"over ")?;
@@ -86,7 +89,7 @@ fn append_most(text: &mut Bytes, most: usize) -> Result<(), NoMemory>
 }
 
 /// A line that says how many there are, of what, and how many are allowed.
-fn count_message(alloc: Global, count: u64, what: &[u8], most: usize) -> Result<Bytes, NoMemory>
+fn count_message(alloc: Global, count: u64, what: &[u8], most: usize) -> LineAnswer
     ensures { IfOk result
         (λ made. made ≡ line tetgen_name (decimal count ++ what.now ++ at_most most)) }
 {
@@ -97,7 +100,7 @@ fn count_message(alloc: Global, count: u64, what: &[u8], most: usize) -> Result<
     line(alloc, NAME, text.as_slice())
 }
 
-fn mesh_points_message(alloc: Global, count: u64) -> Result<Bytes, NoMemory>
+fn mesh_points_message(alloc: Global, count: u64) -> LineAnswer
     ensures { IfOk result (λ made. made ≡ limit_message (MeshPoints count)) }
 {
     let mut text = Bytes::new(alloc);
@@ -106,49 +109,35 @@ fn mesh_points_message(alloc: Global, count: u64) -> Result<Bytes, NoMemory>
     line(alloc, NAME, text.as_slice())
 }
 
-fn unsound_message(alloc: Global, defect: Defect, first: u32) -> Result<Bytes, NoMemory>
+fn unsound_message(alloc: Global, defect: Defect, first: u32) -> LineAnswer
     ensures { IfOk result (λ line. line ≡ message_of None (Unsound defect first)) }
 {
     let text = defect_text(alloc, first, defect)?;
     line(alloc, NAME, text.as_slice())
 }
 
-fn corners_message(alloc: Global, place: usize, count: u64, most: usize) -> Result<Bytes, NoMemory>
+fn corners_message(alloc: Global, place: usize, count: u64, most: usize) -> LineAnswer
     ensures { IfOk result (λ line. line ≡ limit_message (Corners place count most)) }
 {
-    let mut text = Bytes::from_slice(alloc, b"line ")?;
-    append_number(&mut text, place)?;
-    text.append(b": ")?;
+    let mut text = Bytes::from_slice(alloc, b": ")?;
     append_number(&mut text, count as usize)?;
     text.append(b" corners")?;
     append_most(&mut text, most)?;
-    line(alloc, NAME, text.as_slice())
+    place_message(alloc, place, text.as_slice())
 }
 
-fn grid_limit_message(alloc: Global, place: usize) -> Result<Bytes, NoMemory>
-    ensures { IfOk result (λ line. line ≡ limit_message (Grid place)) }
+/// A line on a line of a file, and what is told of it.
+fn place_message(alloc: Global, place: usize, told: &[u8]) -> LineAnswer
+    ensures { IfOk result
+        (λ made. made ≡ line tetgen_name (codes "line " ++ decimal place ++ told.now)) }
 {
     let mut text = Bytes::from_slice(alloc, b"line ")?;
     append_number(&mut text, place)?;
-    text.append(b": coordinate off the grid")?;
+    text.append(told)?;
     line(alloc, NAME, text.as_slice())
 }
 
-fn weight_limit_message(alloc: Global, place: usize) -> Result<Bytes, NoMemory>
-    ensures { IfOk result (λ line. line ≡ limit_message (Weight place)) }
-{
-    let mut text = Bytes::from_slice(alloc, b"line ")?;
-    append_number(&mut text, place)?;
-    text.append(b": weight off the grid")?;
-    line(alloc, NAME, text.as_slice())
-}
-
-fn not_flat_message(
-    alloc: Global,
-    by: &Option<Numbering>,
-    facet: u32,
-    four: Tet,
-) -> Result<Bytes, NoMemory>
+fn not_flat_message(alloc: Global, by: &Option<Numbering>, facet: u32, four: Tet) -> LineAnswer
     ensures { IfOk result (λ line. line ≡ message_of by.now (NotFlat facet four)) }
 {
     let mut text = Bytes::from_slice(alloc, b"facet ")?;
@@ -158,28 +147,32 @@ fn not_flat_message(
     line(alloc, NAME, text.as_slice())
 }
 
-fn segments_message(
-    alloc: Global,
-    by: &Option<Numbering>,
-    one: Piece,
-    two: Piece,
-) -> Result<Bytes, NoMemory>
+fn segments_message(alloc: Global, by: &Option<Numbering>, one: Piece, two: Piece) -> LineAnswer
     ensures { IfOk result (λ line. line ≡ message_of by.now (SegmentsCross one two)) }
 {
     let mut text = Bytes::from_slice(alloc, b"segments")?;
     append_ends(&mut text, by, one)?;
     text.append(b" and")?;
-    append_ends(&mut text, by, two)?;
-    text.append(b" cross")?;
+    piece_message(alloc, by, text, two, b" cross")
+}
+
+/// The line that goes on from this text with the two ends of a piece, and what is told of it.
+fn piece_message(
+    alloc: Global,
+    by: &Option<Numbering>,
+    mut text: Bytes,
+    piece: Piece,
+    told: &[u8],
+) -> LineAnswer
+    ensures { IfOk result
+        (λ made. made ≡ line tetgen_name (text ++ ends_text by.now piece ++ told.now)) }
+{
+    append_ends(&mut text, by, piece)?;
+    text.append(told)?;
     line(alloc, NAME, text.as_slice())
 }
 
-fn crossing_message(
-    alloc: Global,
-    by: &Option<Numbering>,
-    one: Part,
-    two: Part,
-) -> Result<Bytes, NoMemory>
+fn crossing_message(alloc: Global, by: &Option<Numbering>, one: Part, two: Part) -> LineAnswer
     ensures { IfOk result (λ line. line ≡ message_of by.now (Crossing one two)) }
 {
     let mut text = Bytes::from_slice(alloc, b"crossing: ")?;
@@ -189,36 +182,23 @@ fn crossing_message(
     line(alloc, NAME, text.as_slice())
 }
 
-fn grid_message(alloc: Global, by: &Option<Numbering>, piece: Piece) -> Result<Bytes, NoMemory>
+fn grid_message(alloc: Global, by: &Option<Numbering>, piece: Piece) -> LineAnswer
     ensures { IfOk result (λ line. line ≡ message_of by.now (GridEnd piece)) }
 {
-    let mut text = Bytes::from_slice(alloc, b"segment")?;
-    append_ends(&mut text, by, piece)?;
-    text.append(b" needs a finer grid")?;
-    line(alloc, NAME, text.as_slice())
+    let text = Bytes::from_slice(alloc, b"segment")?;
+    piece_message(alloc, by, text, piece, b" needs a finer grid")
 }
 
-fn budget_message(
-    alloc: Global,
-    by: &Option<Numbering>,
-    made: u32,
-    piece: Piece,
-) -> Result<Bytes, NoMemory>
+fn budget_message(alloc: Global, by: &Option<Numbering>, made: u32, piece: Piece) -> LineAnswer
     ensures { IfOk result (λ line. line ≡ message_of by.now (BudgetEnd made piece)) }
 {
     let mut text = Bytes::new(alloc);
     append_number(&mut text, made as usize)?;
     text.append(b" splits used, segment")?;
-    append_ends(&mut text, by, piece)?;
-    text.append(b" is missing")?;
-    line(alloc, NAME, text.as_slice())
+    piece_message(alloc, by, text, piece, b" is missing")
 }
 
-fn no_fill_message(
-    alloc: Global,
-    by: &Option<Numbering>,
-    anomaly: Anomaly,
-) -> Result<Bytes, NoMemory>
+fn no_fill_message(alloc: Global, by: &Option<Numbering>, anomaly: Anomaly) -> LineAnswer
     ensures { IfOk result (λ line. line ≡ message_of by.now (NoFill anomaly)) }
 {
     match anomaly {
@@ -228,7 +208,7 @@ fn no_fill_message(
     }
 }
 
-fn bare_message(alloc: Global, by: &Option<Numbering>, face: Face) -> Result<Bytes, NoMemory>
+fn bare_message(alloc: Global, by: &Option<Numbering>, face: Face) -> LineAnswer
     ensures { IfOk result (λ line. line ≡ message_of by.now (NoFill (Bare face))) }
 {
     let mut text = Bytes::from_slice(alloc, b"no filling at face")?;
@@ -245,7 +225,7 @@ fn fillings_message(
     told: &[u8],
     one: Tet,
     two: Tet,
-) -> Result<Bytes, NoMemory>
+) -> LineAnswer
     ensures { IfOk result
         (λ made. made ≡ line tetgen_name (told.now ++ two_tetrahedra_text by.now one two)) }
 {

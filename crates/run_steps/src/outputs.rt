@@ -54,6 +54,9 @@ struct SideOutputs {
     count: usize,
 }
 
+/// A file of a mesh, where it is asked for.
+type FileAnswer = Result<Option<NamedText>, NoMemory>;
+
 /// The files and the summary that the options ask for.
 pub fn outputs_of(alloc: Global, options: &Options, made: &HulledMesh) -> Result<Outputs, NoMemory>
     requires mesh { IsWritable made.now.mesh }
@@ -176,12 +179,7 @@ fn used_outputs(alloc: Global, options: &Options, mesh: &Meshed) -> Result<FaceO
 
 /// The face file by the uses of the faces: straight from them where all faces are asked for, and
 /// else from rows, for whose text the uses are let go.
-fn used_face_file(
-    alloc: Global,
-    options: &Options,
-    mesh: &Meshed,
-    uses: Uses,
-) -> Result<Option<NamedText>, NoMemory>
+fn used_face_file(alloc: Global, options: &Options, mesh: &Meshed, uses: Uses) -> FileAnswer
     requires mesh { IsWritable mesh.now }
     requires uses { asks_uses options.now ≡ true → AreUsesOf mesh.now.tetrahedra uses }
     ensures { IfOk result (IsFaceFileOf options.now mesh.now) }
@@ -194,12 +192,7 @@ fn used_face_file(
 }
 
 /// The file of all faces with their markers. The uses are let go.
-fn all_face_file(
-    alloc: Global,
-    options: &Options,
-    mesh: &Meshed,
-    uses: Uses,
-) -> Result<Option<NamedText>, NoMemory>
+fn all_face_file(alloc: Global, options: &Options, mesh: &Meshed, uses: Uses) -> FileAnswer
     requires mesh { IsWritable mesh.now }
     requires uses { AreUsesOf mesh.now.tetrahedra uses }
     requires written { options.now.no_face ≡ false }
@@ -214,7 +207,7 @@ fn all_face_file(
     };
     let text = write_all_faces(alloc, &rows, &uses, &mesh.names, first_of(options, mesh))?;
     uses.let_go();
-    Ok(Some(named(alloc, options, b".1.face", text)?))
+    named(alloc, options, b".1.face", text)
 }
 
 /// What is told of the faces, where only those on the hull are asked for and are known.
@@ -323,7 +316,7 @@ fn wanted_sides(alloc: Global, options: &Options, mesh: &Meshed) -> Result<Edges
 }
 
 /// The points of the input and the added ones.
-fn node_file(alloc: Global, options: &Options, mesh: &Meshed) -> Result<Option<NamedText>, NoMemory>
+fn node_file(alloc: Global, options: &Options, mesh: &Meshed) -> FileAnswer
     requires { IsWritable mesh.now }
     ensures { IfOk result (λ file. file ≡ node_file options.now mesh.now) }
 {
@@ -331,11 +324,11 @@ fn node_file(alloc: Global, options: &Options, mesh: &Meshed) -> Result<Option<N
         return Ok(None);
     }
     let text = write_node(alloc, &mesh.table, &mesh.added, first_of(options, mesh))?;
-    Ok(Some(named(alloc, options, b".1.node", text)?))
+    named(alloc, options, b".1.node", text)
 }
 
 /// The tetrahedra, with the attributes of their regions where these are asked for.
-fn ele_file(alloc: Global, options: &Options, mesh: &Meshed) -> Result<Option<NamedText>, NoMemory>
+fn ele_file(alloc: Global, options: &Options, mesh: &Meshed) -> FileAnswer
     requires { IsWritable mesh.now }
     ensures { IfOk result (λ file. file ≡ ele_file options.now mesh.now) }
 {
@@ -351,16 +344,11 @@ fn ele_file(alloc: Global, options: &Options, mesh: &Meshed) -> Result<Option<Na
         &mesh.names,
         first,
     )?;
-    Ok(Some(named(alloc, options, b".1.ele", text)?))
+    named(alloc, options, b".1.ele", text)
 }
 
 /// The faces that are asked for, with their markers.
-fn face_file(
-    alloc: Global,
-    options: &Options,
-    mesh: &Meshed,
-    marked: &FaceRows,
-) -> Result<Option<NamedText>, NoMemory>
+fn face_file(alloc: Global, options: &Options, mesh: &Meshed, marked: &FaceRows) -> FileAnswer
     requires { options.now.no_face ≡ false
         → All (λ face. AreNamed mesh.now.names (marked_corners face)) marked.now }
     ensures { IfOk result (λ file. file ≡ face_file options.now mesh.now marked.now) }
@@ -369,16 +357,11 @@ fn face_file(
         return Ok(None);
     }
     let text = write_face(alloc, marked, &mesh.names, first_of(options, mesh))?;
-    Ok(Some(named(alloc, options, b".1.face", text)?))
+    named(alloc, options, b".1.face", text)
 }
 
 /// The sides of all tetrahedra.
-fn edge_file(
-    alloc: Global,
-    options: &Options,
-    mesh: &Meshed,
-    sides: &Edges,
-) -> Result<Option<NamedText>, NoMemory>
+fn edge_file(alloc: Global, options: &Options, mesh: &Meshed, sides: &Edges) -> FileAnswer
     requires { All (λ side. AreNamed mesh.now.names (side_numbers side)) sides.now }
     ensures { IfOk result (λ file. file ≡ edge_file options.now mesh.now sides.now) }
 {
@@ -386,16 +369,11 @@ fn edge_file(
         return Ok(None);
     }
     let text = write_edge(alloc, sides, &mesh.names, first_of(options, mesh))?;
-    Ok(Some(named(alloc, options, b".1.edge", text)?))
+    named(alloc, options, b".1.edge", text)
 }
 
 /// The neighbors of each tetrahedron.
-fn neigh_file(
-    alloc: Global,
-    options: &Options,
-    mesh: &Meshed,
-    uses: &Uses,
-) -> Result<Option<NamedText>, NoMemory>
+fn neigh_file(alloc: Global, options: &Options, mesh: &Meshed, uses: &Uses) -> FileAnswer
     requires { asks_uses options.now ≡ true → AreUsesOf mesh.now.tetrahedra uses.now }
     ensures { IfOk result (λ file. file ≡ neigh_file options.now mesh.now) }
 {
@@ -405,25 +383,20 @@ fn neigh_file(
     let pairs = pair_uses(alloc, &mesh.tetrahedra, uses)?;
     let text = write_neigh(alloc, &pairs, first_of(options, mesh))?;
     pairs.let_go();
-    Ok(Some(named(alloc, options, b".1.neigh", text)?))
+    named(alloc, options, b".1.neigh", text)
 }
 
 /// A text under the base with an extension.
-fn named(
-    alloc: Global,
-    options: &Options,
-    extension: &[u8],
-    content: Bytes,
-) -> Result<NamedText, NoMemory>
-    ensures { IfOk result (λ text. text ≡ named options.now.base extension.now content) }
+fn named(alloc: Global, options: &Options, extension: &[u8], content: Bytes) -> FileAnswer
+    ensures { IfOk result (λ file. file ≡ Some (named options.now.base extension.now content)) }
 {
     let name = with_extension(alloc, &options.base, extension)?;
     let message = file_message(alloc, NAME, &name, b"write failed")?;
-    Ok(NamedText {
+    Ok(Some(NamedText {
         name,
         content,
         message,
-    })
+    }))
 }
 
 /// The line that sums up the mesh, if it is asked for.

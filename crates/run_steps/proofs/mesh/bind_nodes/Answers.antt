@@ -1,14 +1,15 @@
-use Rattle.std.proofs.Common.{◌≡◌, ◌≤◌, ◌^◌, length, subst, sym, ◌∙◌, arith}
+use Rattle.std.proofs.Common.{◌≡◌, ◌≤◌, ◌^◌, Ok, length, subst, sym, arith}
 use Rattle.node_files.specs.Settling.{IsSettled}
+use Rattle.plc_files.specs.Checks.{corners_check}
 use Rattle.run_steps.proofs.Meshables.{as_many, meshable_bound}
-use Rattle.run_steps.specs.Meshing.{grid_options}
-use Rattle.run_steps.proofs.mesh.bind_parts.Goals as goal
+use Rattle.run_steps.proofs.mesh.bind_nodes.Goals as goal
 
-pub bind_folded-requires-clause-table : goal.bind_folded-requires-clause-table
-bind_folded-requires-clause-table c = c.in-Ok.ensures.table c.requires.input.nodes
+pub bind_on-requires-clause-corners : goal.bind_on-requires-clause-corners
+bind_on-requires-clause-corners c =
+    subst (λ n. corners_check c.args.nodes.first n c.args.complex.now ≡ Ok tt) (sym (as_many c.args.limits c.args.nodes c.grid_options.result c.in-Ok.table c.in-Ok.ensures.outcome)) c.requires.input.corners
 
-pub bind_folded-requires-clause-listed : goal.bind_folded-requires-clause-listed
-bind_folded-requires-clause-listed c = as_many c.args.limits c.args.nodes c.grid_options.result c.in-Ok.table c.in-Ok.ensures.outcome ∙ sym c.len-count.ensures.count
+pub bind_on-requires-clause-table : goal.bind_on-requires-clause-table
+bind_on-requires-clause-table c = c.in-Ok.ensures.table c.requires.input.nodes
 
 pub returns-in_ok-complex-in-Ok-clause-meshable : goal.returns-in_ok-complex-in-Ok-clause-meshable
 returns-in_ok-complex-in-Ok-clause-meshable c =
