@@ -304,7 +304,8 @@ fn mesh_plc(alloc: Global, options: &Options, bound: Bound) -> Result<Meshed, Me
 /// What is made of a complex on its points.
 fn made_of(alloc: Global, options: &Options, bound: &Bound) -> Result<ComplexMesh, MeshFault>
     requires { IsMeshableBound options.now bound.now }
-    ensures { MeshesSo (mesh_options options.now bound.now.table) bound.now.table.points bound.now.complex result }
+    ensures { MeshesSo (mesh_options options.now bound.now.table) bound.now.table.points
+        bound.now.complex result }
 {
     let points = points_from(alloc, &bound.table.points, 0)?;
     mesh_complex(

@@ -2,7 +2,7 @@
 
 use geo_laws::{Complex, FacetTriangles, Points, TetList};
 use hole_carve::Marks;
-use mesh_files::Faces;
+use mesh_files::{Faces, MarkedList};
 use node_files::{Names, NodeTable};
 
 /// A mesh, with the points and the complex that it is one of. Points are named by their places,
@@ -28,6 +28,25 @@ pub struct Meshed {
     pub marks: Option<Marks>,
     /// How many of the kept points are corners of no tetrahedron, where they have weights.
     pub hidden: Option<usize>,
+}
+
+impl Meshed {
+    ghost use Rattle.std.specs.Prelude.{◌≡◌};
+
+    /// Its tetrahedra, with what marks their faces.
+    pub(crate) fn marked_list(&self) -> MarkedList<'_>
+        ensures points { result.points.now ≡ self.now.points }
+        ensures list { result.list.now ≡ self.now.tetrahedra }
+        ensures complex { result.complex.now ≡ self.now.complex }
+        ensures triangles { result.triangles.now ≡ self.now.triangles }
+    {
+        MarkedList {
+            points: &self.points,
+            list: &self.tetrahedra,
+            complex: &self.complex,
+            triangles: &self.triangles,
+        }
+    }
 }
 
 /// A mesh, and the faces of its hull, ascending, where they are known.

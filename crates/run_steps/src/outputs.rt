@@ -17,8 +17,8 @@ use check_steps::{append_number, file_message};
 use command_words::{Options, with_extension};
 use incidence::{Uses, pair_uses, uses_of};
 use mesh_files::{
-    Edges, FaceRows, Faces, MarkedList, edges_of, face_count, hull_rows, used_faces,
-    write_all_faces, write_edge, write_ele, write_face, write_neigh,
+    Edges, FaceRows, Faces, edges_of, face_count, hull_rows, used_faces, write_all_faces,
+    write_edge, write_ele, write_face, write_neigh,
 };
 use node_files::write_node;
 use std::alloc::Global;
@@ -199,13 +199,8 @@ fn all_face_file(alloc: Global, options: &Options, mesh: &Meshed, uses: Uses) ->
     requires all { options.now.all_faces ≡ true }
     ensures { IfOk result (IsFaceFileOf options.now mesh.now) }
 {
-    let rows = MarkedList {
-        points: &mesh.points,
-        list: &mesh.tetrahedra,
-        complex: &mesh.complex,
-        triangles: &mesh.triangles,
-    };
-    let text = write_all_faces(alloc, &rows, &uses, &mesh.names, first_of(options, mesh))?;
+    let list = mesh.marked_list();
+    let text = write_all_faces(alloc, &list, &uses, &mesh.names, first_of(options, mesh))?;
     uses.let_go();
     named(alloc, options, b".1.face", text)
 }
@@ -264,27 +259,13 @@ fn wanted_face_rows(
     requires mesh { IsWritable mesh.now }
     requires uses { asks_uses options.now ≡ true → AreUsesOf mesh.now.tetrahedra uses }
     ensures { IfOk result (λ marked. options.now.no_face ≡ false
-        → AreFaceRowsOf mesh.now.points mesh.now.tetrahedra mesh.now.complex mesh.now.triangles options.now.all_faces marked) }
+        → AreFaceRowsOf mesh.now.points mesh.now.tetrahedra mesh.now.complex mesh.now.triangles
+        options.now.all_faces marked) }
 {
     if options.no_face {
         return Ok(FaceRows::new(alloc));
     }
-    let Meshed {
-        points,
-        complex,
-        triangles,
-        tetrahedra,
-        ..
-    } = mesh;
-    let faces = used_faces(
-        alloc,
-        points,
-        tetrahedra,
-        &uses,
-        complex,
-        triangles,
-        options.all_faces,
-    )?;
+    let faces = used_faces(alloc, &mesh.marked_list(), &uses, options.all_faces)?;
     uses.let_go();
     Ok(faces)
 }
