@@ -1,10 +1,10 @@
 -- What is read of a model, in a wider view, and by which statuses it is refused.
-use Rattle.std.proofs.Common.{ℕ, Bool, true, false, List, Result, Err}
+use Rattle.std.proofs.Common.{◌≡◌, ℕ, Bool, true, false, List, Result, Err, sym, subst, ◌∙◌}
 use Rattle.command_words.specs.Names.{file_name}
 use Rattle.command_words.specs.declared.options.Extension.TheVariants.{Stl}
 use Rattle.command_words.specs.declared.options.Options.{Options}
 use Rattle.node_files.specs.declared.limits.Limits.{Limits}
-use Rattle.run_steps.specs.Reading.{complex_file, FetchAnswer, TextAnswer, NodesAnswer, BoundedAnswer}
+use Rattle.run_steps.specs.Reading.{complex_file, FetchAnswer, IsRead, TextAnswer, NodesAnswer, BoundedAnswer}
 use Rattle.tet_ports.specs.Seen.{FolderSeen}
 use Rattle.run_steps.specs.Steps.{AndThen, Gives}
 use Rattle.run_steps.specs.declared.input.ComplexFile.{ComplexFile}
@@ -13,11 +13,23 @@ use Rattle.run_steps.specs.declared.status.LimitKind.{LimitKind}
 use Rattle.run_steps.specs.declared.status.Status.{Status}
 use Rattle.run_steps.specs.declared.status.Status.TheVariants.{Missing, ReadFault, BadText, Limit, NoMemory}
 use Rattle.run_steps.proofs.Refusals.{want_has, fetch_has, text_has, nodes_have, bounded_has, input_has}
-use Rattle.run_steps.proofs.Steps.{and_then_refuses, and_then_wider}
+use Rattle.run_steps.proofs.Steps.{and_then_ok, and_then_refuses, and_then_wider}
 use Rattle.tet_ports.proofs.Windows.{IsWithin}
 use Rattle.run_steps.proofs.Wider.{fetch_wider, bounded_wider, input_wider}
 use Rattle.tet_text.specs.declared.fault.TextFault.{TextFault}
 use Rattle.fit_steps.specs.Models.{stl_text_of, names_stl, StlAnswer, StlInputAnswer, ModelBy, ModelAnswer}
+
+-- the options name an `.stl` file, and this is read of it
+pub stl_model : (limits : Limits) (seen : FolderSeen) (options : Options) (r : Result Input Status) → names_stl options ≡ true → StlInputAnswer limits seen options.base r → ModelAnswer limits seen options r
+stl_model limits seen options r named = subst (λ b. ModelBy b limits seen options r) (sym named)
+
+-- what the bytes of a file spell that is fetched by its name
+pub stl_fetched : (limits : Limits) (seen : FolderSeen) (base asked name bytes : List ℕ) (r : Result ComplexFile Status) → asked ≡ file_name base Stl → name ≡ asked → IsRead limits seen.files_before asked bytes
+    → AndThen (TextAnswer name (stl_text_of bytes)) (λ text. Gives (complex_file name text)) r → StlAnswer limits seen base r
+stl_fetched limits seen base asked name bytes r a n read spelled =
+    let wanted = file_name base Stl in
+    and_then_ok (FetchAnswer limits seen wanted) (λ bytes. AndThen (TextAnswer wanted (stl_text_of bytes)) (λ text. Gives (complex_file wanted text))) bytes r
+    (subst (λ x. IsRead limits seen.files_before x bytes) a read) (subst (λ x. AndThen (TextAnswer x (stl_text_of bytes)) (λ text. Gives (complex_file x text)) r) (n ∙ a) spelled)
 
 -- what is read over a part of a run is read over all of it
 module _ (limits : Limits) (part wide : FolderSeen) (w : IsWithin part wide) where

@@ -7,8 +7,7 @@ ghost use Rattle.run_steps.specs.Reading.{complex_file, IsSound, TextAnswer};
 ghost use Rattle.tet_ports.specs.Seen.{IsOnlyRead, folder_seen};
 ghost use Rattle.run_steps.specs.Steps.{AndThen, Gives};
 ghost use Rattle.fit_steps.specs.Models.{is_stl, names_stl, stl_text_of};
-ghost use Rattle.fit_steps.specs.Models.{ModelAnswer, StlAnswer, StlInputAnswer};
-ghost use Rattle.soup_files.specs.BinaryStl.{binary_stl_of};
+ghost use Rattle.fit_steps.specs.Models.{ModelAnswer};
 
 use command_words::{Extension, Options, file_name};
 use node_files::Limits;
@@ -16,7 +15,7 @@ use plc_files::PlcFault;
 use run_steps::{ComplexFile, Fetched, Input, Status, complex_of, fetch, read_input, with_points};
 use soup_files::{is_binary_stl, read_binary_stl};
 use std::alloc::Global;
-use tet_ports::{Folder, Name};
+use tet_ports::Folder;
 
 /// The model that the options name: as `read_input` reads it, but that an `.stl` file may be a
 /// binary one, which is told by its length. Each file is fetched once. It refuses as `read_input`
@@ -34,10 +33,13 @@ pub fn read_model<F: Folder>(
     ensures sound { IfOk result IsSound }
     ensures only_read { IsOnlyRead (folder_seen F.state folder.old folder.new) }
 {
-    if names_stl(options) {
-        return read_stl(alloc, limits, &options.base, folder);
+    if !names_stl(options) {
+        return read_input(alloc, limits, options, folder);
     }
-    read_input(alloc, limits, options, folder)
+    let name = file_name(alloc, &options.base, Extension::Stl)?;
+    let file = fetch(alloc, limits, name, folder)?;
+    let surface = surface_of(alloc, file)?;
+    with_points(alloc, limits, &options.base, surface, folder)
 }
 
 fn is_stl(extension: Option<Extension>) -> bool
@@ -53,61 +55,16 @@ fn names_stl(options: &Options) -> bool
     options.piecewise && is_stl(options.extension)
 }
 
-/// The model of the `.stl` file with this base.
-fn read_stl<F: Folder>(
-    alloc: Global,
-    limits: Limits,
-    base: &Name,
-    folder: &mut F,
-) -> Result<Input, Status>
-    requires { AreIndexable limits }
-    ensures answer { StlInputAnswer limits
-        (folder_seen F.state folder.old folder.new) base.now result }
-    ensures sound { IfOk result IsSound }
-    ensures only_read { IsOnlyRead (folder_seen F.state folder.old folder.new) }
-{
-    let file = read_stl_file(alloc, limits, base, folder)?;
-    with_points(alloc, limits, base, file, folder)
-}
-
-/// The complex of the `.stl` file with this base.
-fn read_stl_file<F: Folder>(
-    alloc: Global,
-    limits: Limits,
-    base: &Name,
-    folder: &mut F,
-) -> Result<ComplexFile, Status>
-    requires { AreIndexable limits }
-    ensures answer { StlAnswer limits (folder_seen F.state folder.old folder.new) base.now result }
-    ensures few { IfOk result (λ file. HasFewParts file.text) }
-    ensures only_read { IsOnlyRead (folder_seen F.state folder.old folder.new) }
-{
-    let name = file_name(alloc, base, Extension::Stl)?;
-    let file = fetch(alloc, limits, name, folder)?;
-    surface_of(alloc, file)
-}
-
-/// The complex that an `.stl` file spells.
+/// The complex that an `.stl` file spells, of which the binary ones are told by their length.
 fn surface_of(alloc: Global, file: Fetched) -> Result<ComplexFile, Status>
     requires { length file.bytes < 2 ^ 32 - 1 }
     ensures answer { AndThen (TextAnswer file.name (stl_text_of file.bytes))
         (λ text. Gives (complex_file file.name text)) result }
     ensures few { IfOk result (λ made. HasFewParts made.text) }
 {
-    if is_binary_stl(&file.bytes) {
-        binary_surface_of(alloc, file)
-    } else {
-        complex_of(alloc, Extension::Stl, file)
+    if !is_binary_stl(&file.bytes) {
+        return complex_of(alloc, Extension::Stl, file);
     }
-}
-
-/// The complex that a binary `.stl` file spells.
-fn binary_surface_of(alloc: Global, file: Fetched) -> Result<ComplexFile, Status>
-    requires { length file.bytes < 2 ^ 32 - 1 }
-    ensures answer { AndThen (TextAnswer file.name (binary_stl_of file.bytes))
-        (λ text. Gives (complex_file file.name text)) result }
-    ensures few { IfOk result (λ made. HasFewParts made.text) }
-{
     let Fetched { name, bytes } = file;
     let read = read_binary_stl(alloc, &bytes);
     bytes.let_go();
