@@ -7,7 +7,6 @@ use Rattle.geo_laws.specs.Complex.{Complex, Polygon}
 use Rattle.geo_laws.specs.declared.complex.Facet.{Facet}
 use Rattle.geo_laws.specs.declared.complex.Piece.{Piece}
 use Rattle.node_files.specs.declared.limits.Limits.{Limits}
-use Rattle.node_files.specs.declared.node_text.NodeText.{NodeText}
 use Rattle.run_steps.specs.Meshing.{BoundAnswer}
 use Rattle.run_steps.specs.Numbering.{numbering_of}
 use Rattle.run_steps.specs.declared.input.Input.{Input}
@@ -59,15 +58,13 @@ side_told bound side facet by (Ok line) o b is = inl (record {
 })
 side_told bound side facet by (Err e) o b is = is
 
--- over the same points
+-- of an input on its grid
 told_over : (limits : Limits) (options : Options) (input : Input) (bound : Bound) (line : List ℕ) → BoundAnswer limits options input (Ok bound) → TellsOpenSide bound line
     → TellsOpening limits options input line
 told_over limits options input bound line h (inl told) = inl (bound, h, told)
 told_over limits options input bound line h (inr is) = inr is
 
-pub opening_told : (limits : Limits) (options tried : Options) (input : Input) (nodes : NodeText) (bound : Bound) (r : Result (List ℕ) NoMemory) → tried ≡ options → nodes ≡ input.nodes
-    → BoundAnswer limits tried (record { nodes = nodes; complex = input.complex }) (Ok bound) → IfOk r (TellsOpenSide bound) → IfOk r (TellsOpening limits options input)
-opening_told limits options tried input nodes bound (Ok line) t n h told =
-    let same = subst (λ ns. BoundAnswer limits tried (record { nodes = ns; complex = input.complex }) (Ok bound)) n h in
-    told_over limits options input bound line (subst (λ q. BoundAnswer limits q input (Ok bound)) t same) told
-opening_told limits options tried input nodes bound (Err e) t n h told = told
+pub opening_told : (limits : Limits) (options tried : Options) (input : Input) (bound : Bound) (r : Result (List ℕ) NoMemory) → tried ≡ options → BoundAnswer limits tried input (Ok bound)
+    → IfOk r (TellsOpenSide bound) → IfOk r (TellsOpening limits options input)
+opening_told limits options tried input bound (Ok line) t h told = told_over limits options input bound line (subst (λ q. BoundAnswer limits q input (Ok bound)) t h) told
+opening_told limits options tried input bound (Err e) t h told = told

@@ -1,28 +1,15 @@
 -- What a piece is a part of.
-use Rattle.std.proofs.Common.{ℕ, zero, suc, ◌-◌, ◌<◌, ◌≡◌, max, length, List, Option, Some, None, Result, Ok, Err, inl, refl, subst, sym, arith}
+use Rattle.std.proofs.Common.{ℕ, zero, suc, ◌-◌, ◌<◌, ◌≡◌, max, length, List, Option, Result, Ok, Err, inl, refl, subst, sym, arith}
 use Rattle.std.specs.Prelude.{IfOk, IfSome}
 use Rattle.command_words.specs.declared.options.Options.{Options}
 use Rattle.geo_laws.specs.declared.complex.Piece.{Piece}
 use Rattle.node_files.specs.declared.limits.Limits.{Limits}
-use Rattle.node_files.specs.declared.node_text.NodeText.{NodeText}
-use Rattle.run_steps.specs.Meshing.{BoundAnswer, MeshedAnswer}
+use Rattle.run_steps.specs.Meshing.{BoundAnswer}
 use Rattle.run_steps.specs.declared.mesh.Bound.{Bound}
 use Rattle.run_steps.specs.declared.numbering.Numbering.{Numbering}
 use Rattle.tet_ports.specs.declared.NoMemory.{NoMemory}
 use Rattle.run_steps.specs.declared.input.Input.{Input}
-use Rattle.run_steps.specs.declared.status.Status.{Status}
-use Rattle.fit_steps.specs.Hints.{first_facet, missing_in, segment_line, with_budget, IsHalvedAfter, IsHalvedPartOf, TellsLine, TellsSegment}
-
--- what is missing at the end of a try over the same points
-pub halved_as : (limits : Limits) (options tried : Options) (input : Input) (nodes : NodeText) (added : ℕ) (status : Status) (found : Option Piece) → tried ≡ with_budget added options
-    → nodes ≡ input.nodes → MeshedAnswer limits tried (record { nodes = nodes; complex = input.complex }) (Err status) → found ≡ missing_in status
-    → IfSome found (IsHalvedAfter limits options input added)
-halved_as limits options tried input nodes added status None t n h e = tt
-halved_as limits options tried input nodes added status (Some p) t n h e = record {
-  status = status;
-  answer = subst (λ o. MeshedAnswer limits o input (Err status)) t (subst (λ ns. MeshedAnswer limits tried (record { nodes = ns; complex = input.complex }) (Err status)) n h);
-  missing = sym e;
-}
+use Rattle.fit_steps.specs.Hints.{first_facet, segment_line, IsHalvedAfter, IsHalvedPartOf, TellsLine, TellsSegment}
 
 -- as many points
 pub halved_too : (limits : Limits) (options : Options) (input : Input) (n m : ℕ) (found : Option Piece) → n ≡ m → IfSome found (IsHalvedAfter limits options input n)
@@ -43,16 +30,11 @@ part_whole limits options input count left p e = subst (λ k. IsHalvedPartOf lim
 
 -- ---- what is told
 
--- the line of a segment over the same points
-pub line_told : (limits : Limits) (options : Options) (input : Input) (nodes : NodeText) (by : Numbering) (whole : Piece) (bound : Bound) (r : Result (List ℕ) NoMemory) → nodes ≡ input.nodes
-    → BoundAnswer limits options (record { nodes = nodes; complex = input.complex }) (Ok bound) → IfOk r (λ line. line ≡ segment_line by whole (first_facet bound.complex whole))
-    → IfOk r (TellsLine limits options input by whole)
-line_told limits options input nodes by whole bound (Ok line) n h is = inl (record {
-  bound = bound;
-  on_grid = subst (λ ns. BoundAnswer limits options (record { nodes = ns; complex = input.complex }) (Ok bound)) n h;
-  is = is;
-})
-line_told limits options input nodes by whole bound (Err e) n h is = is
+-- the line of a segment
+pub line_told : (limits : Limits) (options : Options) (input : Input) (by : Numbering) (whole : Piece) (bound : Bound) (r : Result (List ℕ) NoMemory)
+    → BoundAnswer limits options input (Ok bound) → IfOk r (λ line. line ≡ segment_line by whole (first_facet bound.complex whole)) → IfOk r (TellsLine limits options input by whole)
+line_told limits options input by whole bound (Ok line) h is = inl (record { bound = bound; on_grid = h; is = is })
+line_told limits options input by whole bound (Err e) h is = is
 
 -- and of a piece
 pub whole_told : (limits : Limits) (options : Options) (input : Input) (by : Numbering) (p whole : Piece) (count : ℕ) (r : Result (List ℕ) NoMemory) → count ≡ length by.names

@@ -7,6 +7,7 @@ ghost use Rattle.run_steps.specs.Reading.{IsSound};
 ghost use Rattle.fit_steps.specs.Trying.{is_of_grid, IsFitted, IsRefused};
 
 use crate::grids::{most_tried, next_tried};
+use crate::trial::Trial;
 use crate::trying::{Unfitted, outputs_at};
 use command_words::Options;
 use node_files::Limits;
@@ -65,10 +66,11 @@ pub fn fit_input(
         fitted.decimals (Ok fitted.outputs)) }
     ensures refused { IfErr result (IsRefused limits options.now input.now) }
 {
+    let trial = Trial::new(limits, options, input);
     let points = input.nodes.decimals.as_slice();
     let mut decimals = most_tried(points);
     loop {
-        match outputs_at(alloc, limits, options, input, decimals) {
+        match outputs_at(alloc, &trial, decimals) {
             Ok(outputs) => return Ok(Fitted { decimals, outputs }),
             Err(end) => {
                 if !goes_on(decimals, &end.status) {

@@ -12,6 +12,7 @@ use crate::copies::{at_decimals, nodes_of};
 use crate::facets::first_facet;
 use crate::fitting::Refused;
 use crate::places::{append_name, append_part, size_line};
+use crate::trial::Trial;
 use crate::wholes::whole_of;
 use box_pairs::Part;
 use check_steps::append_number;
@@ -19,7 +20,7 @@ use command_words::Options;
 use geo_laws::{Complex, Piece};
 use grid_coords::DecimalPoint;
 use node_files::Limits;
-use run_steps::{Input, LimitKind, Numbering, Status, bind_nodes};
+use run_steps::{Input, LimitKind, Numbering, Status};
 use std::alloc::Global;
 use tet_ports::{Bytes, NoMemory};
 
@@ -55,21 +56,12 @@ fn segment_line(
 }
 
 /// The line of a segment of the input, or nothing.
-fn whole_hint(
-    alloc: Global,
-    limits: Limits,
-    options: &Options,
-    input: &Input,
-    by: &Numbering,
-    whole: Piece,
-) -> Result<Bytes, NoMemory>
-    requires limits { AreIndexable limits }
-    requires input { IsSound input.now }
-    requires ranges { AreInRange options.now }
-    ensures { IfOk result (TellsLine limits options.now input.now by.now whole) }
+fn whole_hint(alloc: Global, trial: &Trial, by: &Numbering, whole: Piece) -> Result<Bytes, NoMemory>
+    ensures { IfOk result (TellsLine trial.now.limits trial.now.options
+        trial.now.input by.now whole) }
 {
-    let nodes = nodes_of(alloc, &input.nodes)?;
-    match bind_nodes(alloc, limits, options, nodes, &input.complex) {
+    let nodes = nodes_of(alloc, &trial.input.nodes)?;
+    match trial.bind(alloc, nodes) {
         Ok(bound) => segment_line(alloc, &bound.complex, by, whole),
         Err(_) => Ok(Bytes::new(alloc)),
     }
@@ -78,20 +70,16 @@ fn whole_hint(
 /// The line of the segment that a piece lies on, or nothing.
 fn segment_hint(
     alloc: Global,
-    limits: Limits,
-    options: &Options,
-    input: &Input,
+    trial: &Trial,
     by: &Numbering,
     piece: Piece,
 ) -> Result<Bytes, NoMemory>
-    requires limits { AreIndexable limits }
-    requires input { IsSound input.now }
-    requires ranges { AreInRange options.now }
-    ensures { IfOk result (TellsSegment limits options.now input.now by.now piece) }
+    ensures { IfOk result (TellsSegment trial.now.limits trial.now.options
+        trial.now.input by.now piece) }
 {
-    let found = whole_of(alloc, limits, options, input, by.names.len(), piece)?;
+    let found = whole_of(alloc, trial, by.names.len(), piece)?;
     match found {
-        Some(whole) => whole_hint(alloc, limits, options, input, by, whole),
+        Some(whole) => whole_hint(alloc, trial, by, whole),
         None => Ok(Bytes::new(alloc)),
     }
 }
@@ -114,29 +102,18 @@ fn parts_hint(
 }
 
 /// What more is told of an input whose points are numbered so.
-fn hint_by(
-    alloc: Global,
-    limits: Limits,
-    options: &Options,
-    input: &Input,
-    by: &Numbering,
-    status: &Status,
-) -> Result<Bytes, NoMemory>
-    requires limits { AreIndexable limits }
-    requires input { IsSound input.now }
-    requires ranges { AreInRange options.now }
-    ensures { IfOk result (IsHintBy limits options.now input.now by.now status.now) }
+fn hint_by(alloc: Global, trial: &Trial, by: &Numbering, status: &Status) -> Result<Bytes, NoMemory>
+    ensures { IfOk result (IsHintBy trial.now.limits trial.now.options
+        trial.now.input by.now status.now) }
 {
-    let points = input.nodes.decimals.as_slice();
+    let points = trial.input.nodes.decimals.as_slice();
     match status {
         Status::SegmentsCross { one, two } => {
             parts_hint(alloc, points, by, Part::Segment(*one), Part::Segment(*two))
         }
         Status::Crossing { one, two } => parts_hint(alloc, points, by, *one, *two),
-        Status::GridEnd { piece } => segment_hint(alloc, limits, options, input, by, *piece),
-        Status::BudgetEnd { made: _, piece } => {
-            segment_hint(alloc, limits, options, input, by, *piece)
-        }
+        Status::GridEnd { piece } => segment_hint(alloc, trial, by, *piece),
+        Status::BudgetEnd { made: _, piece } => segment_hint(alloc, trial, by, *piece),
         _ => Ok(Bytes::new(alloc)),
     }
 }
@@ -176,7 +153,8 @@ pub fn hint_of(
         None => grid_hint(alloc, input, &refused.end.status),
         Some(by) => {
             let options = at_decimals(alloc, options, refused.decimals)?;
-            hint_by(alloc, limits, &options, input, by, &refused.end.status)
+            let trial = Trial::new(limits, &options, input);
+            hint_by(alloc, &trial, by, &refused.end.status)
         }
     }
 }

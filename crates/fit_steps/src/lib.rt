@@ -11,6 +11,7 @@ mod model;
 mod opening;
 mod places;
 mod sides;
+mod trial;
 mod trying;
 mod wholes;
 

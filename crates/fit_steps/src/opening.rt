@@ -11,11 +11,12 @@ ghost use Rattle.fit_steps.specs.Trying.{at_decimals};
 use crate::copies::{at_decimals, nodes_of};
 use crate::places::append_name;
 use crate::sides::open_side;
+use crate::trial::Trial;
 use check_steps::append_number;
 use command_words::Options;
 use geo_laws::Piece;
 use node_files::Limits;
-use run_steps::{Bound, Input, Numbering, bind_nodes, numbering_of};
+use run_steps::{Bound, Input, Numbering, numbering_of};
 use std::alloc::Global;
 use tet_ports::{Bytes, NoMemory};
 
@@ -77,7 +78,8 @@ pub fn opening_of(
 {
     let options = at_decimals(alloc, options, decimals)?;
     let nodes = nodes_of(alloc, &input.nodes)?;
-    match bind_nodes(alloc, limits, &options, nodes, &input.complex) {
+    let tried = Trial::new(limits, &options, input);
+    match tried.bind(alloc, nodes) {
         Ok(bound) => opening_in(alloc, &bound),
         Err(_) => nothing_line(alloc),
     }

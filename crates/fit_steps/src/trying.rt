@@ -1,18 +1,15 @@
 //! One try: the outputs of an input at a number of decimals.
 
 ghost use Rattle.std.specs.Prelude.{◌≡◌, ◌≤◌, Some, IfErr, IfOk};
-ghost use Rattle.command_words.specs.Meaning.{AreInRange};
-ghost use Rattle.node_files.specs.Limits.{AreIndexable};
 ghost use Rattle.run_steps.specs.Meshing.{IsMeshableBound, MeshedAnswer};
-ghost use Rattle.run_steps.specs.Reading.{IsSound};
 ghost use Rattle.fit_steps.specs.Trying.{answer_in, AnswerAt, MadeAnswer};
 ghost use Rattle.fit_steps.specs.Trying.{IsNumbered, IsNumberedAt};
 
 use crate::copies::{at_decimals, nodes_of};
+use crate::trial::Trial;
 use command_words::Options;
-use node_files::{Limits, NodeText};
-use plc_files::PlcText;
-use run_steps::{Bound, Input, Numbering, Outputs, Status, bind_nodes, mesh_outputs, numbering_of};
+use node_files::NodeText;
+use run_steps::{Bound, Numbering, Outputs, Status, mesh_outputs, numbering_of};
 use std::alloc::Global;
 use tet_ports::NoMemory;
 
@@ -48,46 +45,36 @@ impl From<NoMemory> for Unfitted {
     }
 }
 
-/// The outputs of the input, its coordinates rounded to so many decimals. It refuses as the steps
+/// The outputs of a trial, the coordinates rounded to so many decimals. It refuses as the steps
 /// `bind_input` and `mesh_outputs` do.
-pub(crate) fn outputs_at(
-    alloc: Global,
-    limits: Limits,
-    options: &Options,
-    input: &Input,
-    decimals: u32,
-) -> Result<Outputs, Unfitted>
-    requires limits { AreIndexable limits }
-    requires input { IsSound input.now }
-    requires ranges { AreInRange options.now }
-    requires decimals { decimals ≤ 20 }
-    ensures answer { AnswerAt limits options.now input.now decimals (answer_in result) }
-    ensures numbered { IfErr result (IsNumberedAt limits options.now input.now decimals) }
+pub(crate) fn outputs_at(alloc: Global, trial: &Trial, decimals: u32) -> Result<Outputs, Unfitted>
+    requires { decimals ≤ 20 }
+    ensures answer { AnswerAt trial.now.limits trial.now.options trial.now.input
+        decimals (answer_in result) }
+    ensures numbered { IfErr result
+        (IsNumberedAt trial.now.limits trial.now.options trial.now.input decimals) }
 {
-    let options = at_decimals(alloc, options, decimals)?;
-    let nodes = nodes_of(alloc, &input.nodes)?;
-    outputs_with(alloc, limits, &options, nodes, &input.complex)
+    let options = at_decimals(alloc, trial.options, decimals)?;
+    let nodes = nodes_of(alloc, &trial.input.nodes)?;
+    let rounded = Trial::new(trial.limits, &options, trial.input);
+    outputs_with(alloc, &rounded, nodes)
 }
 
-/// The outputs of the points and the complex of an input.
+/// The outputs of a trial, where these are its points.
 pub(crate) fn outputs_with(
     alloc: Global,
-    limits: Limits,
-    options: &Options,
+    trial: &Trial,
     nodes: NodeText,
-    complex: &PlcText,
 ) -> Result<Outputs, Unfitted>
-    requires limits { AreIndexable limits }
-    requires input { IsSound (record { nodes = nodes; complex = complex.now }) }
-    requires ranges { AreInRange options.now }
-    ensures answer { MeshedAnswer limits options.now
-        (record { nodes = nodes; complex = complex.now }) (answer_in result) }
-    ensures numbered { IfErr result (λ end. IsNumbered limits options.now
-        (record { nodes = nodes; complex = complex.now }) end.status end.numbering) }
+    requires { nodes ≡ trial.now.input.nodes }
+    ensures answer { MeshedAnswer trial.now.limits trial.now.options trial.now.input
+        (answer_in result) }
+    ensures numbered { IfErr result (λ end. IsNumbered trial.now.limits
+        trial.now.options trial.now.input end.status end.numbering) }
 {
-    let bound = bind_nodes(alloc, limits, options, nodes, complex)?;
+    let bound = trial.bind(alloc, nodes)?;
     let numbering = numbering_of(alloc, &bound.table)?;
-    outputs_of(alloc, options, bound, numbering)
+    outputs_of(alloc, trial.options, bound, numbering)
 }
 
 /// The outputs of points and a complex on their grid. These are the numbers of the points.

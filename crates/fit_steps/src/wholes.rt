@@ -1,17 +1,13 @@
 //! The segment that a missing piece lies on.
 
 ghost use Rattle.std.specs.Prelude.{◌≡◌, ◌≤◌, ◌-◌, max, IfOk, IfSome};
-ghost use Rattle.command_words.specs.Meaning.{AreInRange};
-ghost use Rattle.node_files.specs.Limits.{AreIndexable};
-ghost use Rattle.run_steps.specs.Reading.{IsSound};
 ghost use Rattle.fit_steps.specs.Hints.{missing_in, IsHalvedAfter, IsHalvedPartOf};
 
 use crate::copies::{nodes_of, with_budget};
+use crate::trial::Trial;
 use crate::trying::outputs_with;
-use command_words::Options;
 use geo_laws::Piece;
-use node_files::Limits;
-use run_steps::{Input, Status};
+use run_steps::Status;
 use std::alloc::Global;
 use tet_ports::NoMemory;
 
@@ -28,72 +24,41 @@ fn missing_in(status: &Status) -> Option<Piece>
     }
 }
 
-/// The piece that is missing once so many points are added, or None where that is not told.
-fn halved_after(
-    alloc: Global,
-    limits: Limits,
-    options: &Options,
-    input: &Input,
-    added: u32,
-) -> Result<Option<Piece>, NoMemory>
-    requires limits { AreIndexable limits }
-    requires input { IsSound input.now }
-    requires ranges { AreInRange options.now }
-    requires added { added ≤ 100000 }
-    ensures { IfOk result
-        (λ found. IfSome found (IsHalvedAfter limits options.now input.now added)) }
-{
-    let options = with_budget(alloc, options, added)?;
-    let nodes = nodes_of(alloc, &input.nodes)?;
-    match outputs_with(alloc, limits, &options, nodes, &input.complex) {
-        Ok(_) => Ok(None),
-        Err(end) => Ok(missing_in(&end.status)),
-    }
-}
-
-/// The piece that the later end of this one was added to halve, of a model with so many points;
-/// None where that is not told.
-fn piece_before(
-    alloc: Global,
-    limits: Limits,
-    options: &Options,
-    input: &Input,
-    count: usize,
-    piece: Piece,
-) -> Result<Option<Piece>, NoMemory>
-    requires limits { AreIndexable limits }
-    requires input { IsSound input.now }
-    requires ranges { AreInRange options.now }
+/// The piece that is missing once so many points are added, or None where that is not told or more
+/// are added than may be.
+fn halved_after(alloc: Global, trial: &Trial, added: usize) -> Result<Option<Piece>, NoMemory>
     ensures { IfOk result (λ found. IfSome found
-        (IsHalvedAfter limits options.now input.now (max piece.a piece.b - count))) }
+        (IsHalvedAfter trial.now.limits trial.now.options trial.now.input added)) }
 {
-    let added = (piece.a.max(piece.b) as usize).saturating_sub(count);
     if added > MOST_ADDED {
         return Ok(None);
     }
-    halved_after(alloc, limits, options, input, added as u32)
+    let options = with_budget(alloc, trial.options, added as u32)?;
+    let nodes = nodes_of(alloc, &trial.input.nodes)?;
+    let halved = Trial::new(trial.limits, &options, trial.input);
+    match outputs_with(alloc, &halved, nodes) {
+        Ok(_) => Ok(None),
+        Err(end) => Ok(missing_in(&end.status)),
+    }
 }
 
 /// What a piece of a model with so many points is a part of: a piece that was never halved, so
 /// that both of its ends are points of the model. None where that is not told.
 pub(crate) fn whole_of(
     alloc: Global,
-    limits: Limits,
-    options: &Options,
-    input: &Input,
+    trial: &Trial,
     count: usize,
     piece: Piece,
 ) -> Result<Option<Piece>, NoMemory>
-    requires limits { AreIndexable limits }
-    requires input { IsSound input.now }
-    requires ranges { AreInRange options.now }
     ensures { IfOk result (λ found. IfSome found
-        (IsHalvedPartOf limits options.now input.now count piece.halvings piece)) }
+        (IsHalvedPartOf trial.now.limits trial.now.options trial.now.input
+        count piece.halvings piece)) }
 {
     let mut whole = piece;
     let mut left = piece.halvings;
     while left > 0 {
-        let found = piece_before(alloc, limits, options, input, count, whole)?;
+        let added = (whole.a.max(whole.b) as usize).saturating_sub(count);
+        let found = halved_after(alloc, trial, added)?;
         match found {
             Some(before) => whole = before,
             None => return Ok(None),

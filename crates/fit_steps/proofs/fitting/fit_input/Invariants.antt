@@ -6,7 +6,7 @@ use Rattle.fit_steps.proofs.fitting.fit_input.Given as goal
 abbrev pub invariant-loop-outputs : goal.invariant-loop-outputs
 invariant-loop-outputs l = record {
   within : l.decimals ≤ most_tried l.input;
-  finer : (n : ℕ) → l.decimals < n → n ≤ most_tried l.input → IsRefusedByGrid l.limits l.options l.input n;
+  finer : (n : ℕ) → l.decimals < n → n ≤ most_tried l.input → IsRefusedByGrid l.fn.limits l.options l.input n;
 }
 
 abbrev pub decreases-loop-outputs : goal.decreases-loop-outputs

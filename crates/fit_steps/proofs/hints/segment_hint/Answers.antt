@@ -6,6 +6,7 @@ use Rattle.fit_steps.proofs.hints.segment_hint.Goals as goal
 
 pub returns-in-Some : goal.returns-in-Some
 returns-in-Some c =
+    let t = c.args.trial.now in
     let p = c.args.piece in
-    let part = subst (λ found. IfSome found (IsHalvedPartOf c.args.limits c.args.options.now c.args.input.now c.len.result p.halvings p)) c.in-Some.is c.in_ok-found.ensures in
-    whole_told c.args.limits c.args.options.now c.args.input.now c.args.by.now p c.in-Some.whole c.len.result c.whole_hint.result c.len.ensures.count part c.whole_hint.ensures
+    let part = subst (λ found. IfSome found (IsHalvedPartOf t.limits t.options t.input c.len.result p.halvings p)) c.in-Some.is c.in_ok-found.ensures in
+    whole_told t.limits t.options t.input c.args.by.now p c.in-Some.whole c.len.result c.whole_hint.result c.len.ensures.count part c.whole_hint.ensures

@@ -5,7 +5,7 @@ use Rattle.fit_steps.proofs.wholes.whole_of.Given as goal
 -- what this piece is a part of, the first one is too
 abbrev pub invariant-loop-left : goal.invariant-loop-left
 invariant-loop-left l =
-    (whole : Piece) → IsHalvedPartOf l.limits l.options l.input l.count l.left l.whole whole → IsHalvedPartOf l.limits l.options l.input l.count l.fn.piece.halvings l.fn.piece whole
+    (whole : Piece) → IsHalvedPartOf l.trial.limits l.trial.options l.trial.input l.count l.left l.whole whole → IsHalvedPartOf l.trial.limits l.trial.options l.trial.input l.count l.fn.piece.halvings l.fn.piece whole
 
 abbrev pub decreases-loop-left : goal.decreases-loop-left
 decreases-loop-left l = l.left
