@@ -49,30 +49,17 @@ pub(crate) fn tell<E: Sink>(alloc: Global, stop: Stop, err: &mut E) -> Status
     ensures { IsToldAs message_of stop
         (sink_seen E.state err.old err.new) result }
 {
-    match stop {
-        Stop::Refused { status, numbering } => match message(alloc, &numbering, &status) {
-            Ok(line) => {
-                put_message(line.as_slice(), err);
-                status
-            }
+    match &stop {
+        Stop::Refused { status, numbering } => match message(alloc, numbering, status) {
+            Ok(line) => put_message(line.as_slice(), err),
             Err(_) => {
                 put_message(OUT_OF_MEMORY, err);
-                Status::NoMemory
+                return Status::NoMemory;
             }
         },
-        Stop::Unwritten(text) => {
-            put_message(text.message.as_slice(), err);
-            Status::WriteFault {
-                name: Some(text.name),
-            }
-        }
-        Stop::Unsummed => {
-            put_message(SUMMARY_FAILED, err);
-            Status::WriteFault { name: None }
-        }
-        Stop::NoMemory => {
-            put_message(OUT_OF_MEMORY, err);
-            Status::NoMemory
-        }
+        Stop::Unwritten(text) => put_message(text.message.as_slice(), err),
+        Stop::Unsummed => put_message(SUMMARY_FAILED, err),
+        Stop::NoMemory => put_message(OUT_OF_MEMORY, err),
     }
+    stop.status()
 }

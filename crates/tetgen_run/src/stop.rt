@@ -1,6 +1,7 @@
 //! Why a run stopped before its end.
 
-ghost use Rattle.std.specs.Prelude.{◌≡◌, None};
+ghost use Rattle.std.specs.Prelude.{◌≡◌, Err, None};
+ghost use Rattle.tetgen_run.specs.Ends.{answer_of};
 ghost use Rattle.tetgen_run.specs.Stops.{stop_of_words, stop_of_check, stop_of_store};
 ghost use Rattle.tetgen_run.specs.declared.stop.Stop.TheVariants.{Refused};
 
@@ -23,6 +24,25 @@ pub enum Stop {
     /// The summary could not be put.
     Unsummed,
     NoMemory,
+}
+
+impl Stop {
+    /// The answer of a run that stopped so.
+    pub fn status(self) -> Status
+        ensures { result ≡ answer_of (Err self) }
+    {
+        match self {
+            Stop::Refused {
+                status,
+                numbering: _,
+            } => status,
+            Stop::Unwritten(text) => Status::WriteFault {
+                name: Some(text.name),
+            },
+            Stop::Unsummed => Status::WriteFault { name: None },
+            Stop::NoMemory => Status::NoMemory,
+        }
+    }
 }
 
 impl From<Status> for Stop {
