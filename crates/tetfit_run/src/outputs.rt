@@ -1,20 +1,21 @@
 //! What the words ask for.
 
-ghost use Rattle.std.specs.Prelude.{◌≡◌, ◌≤◌, ◌-◌, [], IfOk, IfErr, Ok, length, take};
+ghost use Rattle.std.specs.Prelude.{◌≡◌, ◌≤◌, ◌-◌, ℕ, [], IfOk, IfErr, Ok, Err, Some, length, take};
 ghost use Rattle.command_words.specs.Meaning.{AreInRange};
+ghost use Rattle.command_words.specs.declared.fault.WordsFault.TheVariants.{Usage};
 ghost use Rattle.fit_steps.specs.Trying.{IsFitted};
-ghost use Rattle.fit_words.specs.Words.{IsPlainRequest, others, request_of};
+ghost use Rattle.fit_words.specs.Words.{IsPlainRequest, fit_fault, others, request_of};
 ghost use Rattle.run_steps.specs.Reading.{IsSound};
 ghost use Rattle.tet_ports.specs.Seen.{IsOnlyRead, folder_seen};
 ghost use Rattle.tetgen_run.specs.Ends.{StopsSo};
-ghost use Rattle.tetfit_run.specs.Outputs.{IsFittedTo, MadeBy, OutputsOfFit, OutputsOfModel};
+ghost use Rattle.tetfit_run.specs.Outputs.{FitWordsAnswer, IsFittedTo, MadeBy, OutputsOfFit};
 ghost use Rattle.tetfit_run.specs.Outputs.{IsMore, OutputsOfOptions, Says, fit_limits, outputs_at};
 ghost use Rattle.tetfit_run.specs.Outputs.{said, tells_none, with_decimals};
 ghost use Rattle.tetfit_run.specs.Run.{IsKnown, IsKnownOf, IsUnfitted};
 
 use crate::limits::fit_limits;
 use check_steps::append_number;
-use command_words::Options;
+use command_words::{Options, WordsFault};
 use fit_steps::{Fitted, Unfitted, fit_input, hint_of, opening_of, read_model};
 use fit_words::{PAGE, Request, VERSION, other_words, read_options, request_of};
 use run_steps::{Input, Outputs, Texts};
@@ -164,46 +165,17 @@ fn outputs_of_options<F: Folder>(
     fitted_outputs(alloc, options, &input, hint)
 }
 
-/// The outputs of the model that these words name, among which none asks for the stages.
-fn outputs_of_words<F: Folder>(
-    alloc: Global,
-    words: &Words,
-    folder: &mut F,
-    hint: &mut Bytes,
-) -> Result<Outputs, Stop>
-    requires { hint.old ≡ [] }
-    ensures made { IfOk result (λ outputs. OutputsOfModel words.now
-        (folder_seen F.state folder.old folder.new) (Ok outputs)) }
-    ensures stopped { IfErr result (StopsSo
-        (OutputsOfModel words.now
-        (folder_seen F.state folder.old folder.new))
-        (IsKnown words.now
-        (folder_seen F.state folder.old folder.new) hint.new)) }
-    ensures only_read { IsOnlyRead (folder_seen F.state folder.old folder.new) }
-{
-    let options = read_options(alloc, words)?;
-    outputs_of_options(alloc, &options, folder, hint)
-}
-
-/// The outputs of the model that the words name.
-fn outputs_of_model<F: Folder>(
-    alloc: Global,
-    words: &Words,
-    folder: &mut F,
-    hint: &mut Bytes,
-) -> Result<Outputs, Stop>
-    requires { hint.old ≡ [] }
-    ensures made { IfOk result (λ outputs. OutputsOfModel (others words.now)
-        (folder_seen F.state folder.old folder.new) (Ok outputs)) }
-    ensures stopped { IfErr result (StopsSo
-        (OutputsOfModel (others words.now)
-        (folder_seen F.state folder.old folder.new))
-        (IsKnown (others words.now)
-        (folder_seen F.state folder.old folder.new) hint.new)) }
-    ensures only_read { IsOnlyRead (folder_seen F.state folder.old folder.new) }
+/// The options of the words, without those that ask for the stages.
+fn fit_options(alloc: Global, words: &Words) -> Result<Options, WordsFault>
+    ensures understood { IfOk result
+        (λ options. FitWordsAnswer (others words.now) (Ok options)) }
+    ensures usage { (word place : ℕ) → result ≡ Err (Usage word place)
+        → fit_fault (others words.now) ≡ Some (word, place) }
+    ensures ranges { IfOk result AreInRange }
+    ensures plain { IfOk result IsPlainRequest }
 {
     let plain = other_words(alloc, words)?;
-    outputs_of_words(alloc, &plain, folder, hint)
+    read_options(alloc, &plain)
 }
 
 /// The outputs that the words ask for: the page, the version, or those of the model that they name.
@@ -225,6 +197,9 @@ pub(crate) fn outputs_of<F: Folder>(
     match request_of(words) {
         Request::Page => Ok(said(alloc, PAGE)?),
         Request::Version => Ok(said(alloc, VERSION)?),
-        Request::Mesh => outputs_of_model(alloc, words, folder, hint),
+        Request::Mesh => {
+            let options = fit_options(alloc, words)?;
+            outputs_of_options(alloc, &options, folder, hint)
+        }
     }
 }
