@@ -19,6 +19,10 @@ pub piece_append : (w : Option (List ℕ)) (a b : List ℕ) → with_written (wi
 piece_append None a b = refl
 piece_append (Some w) a b = ap Some (append_assoc w a b)
 
+-- a line with no hint and no help behind it
+pub nothing_behind : (line : List ℕ) → line ++ [] ++ [] ≡ line
+nothing_behind line = append-nil (line ++ []) ∙ append-nil line
+
 prefix_of : (k : ℕ) (a b : List ℕ) → take (length (take k a)) (a ++ b) ≡ take k a
 prefix_of k a b =
     let p = take k a in

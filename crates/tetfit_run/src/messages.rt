@@ -171,32 +171,19 @@ pub(crate) fn tell<E: Sink>(
     ensures { IsToldAs (fit_message (others words.now) hint.now) stop
         (sink_seen E.state err.old err.new) result }
 {
-    match stop {
+    match &stop {
         Stop::Refused { status, numbering } => {
-            match fit_message(alloc, words, hint, &numbering, &status) {
-                Ok(line) => {
-                    put_message(line.as_slice(), err);
-                    status
-                }
+            match fit_message(alloc, words, hint, numbering, status) {
+                Ok(line) => put_message(line.as_slice(), err),
                 Err(_) => {
                     put_message(OUT_OF_MEMORY, err);
-                    Status::NoMemory
+                    return Status::NoMemory;
                 }
             }
         }
-        Stop::Unwritten(text) => {
-            put_renamed(text.message.as_slice(), err);
-            Status::WriteFault {
-                name: Some(text.name),
-            }
-        }
-        Stop::Unsummed => {
-            put_message(SUMMARY_FAILED, err);
-            Status::WriteFault { name: None }
-        }
-        Stop::NoMemory => {
-            put_message(OUT_OF_MEMORY, err);
-            Status::NoMemory
-        }
+        Stop::Unwritten(text) => put_renamed(text.message.as_slice(), err),
+        Stop::Unsummed => put_message(SUMMARY_FAILED, err),
+        Stop::NoMemory => put_message(OUT_OF_MEMORY, err),
     }
+    stop.status()
 }

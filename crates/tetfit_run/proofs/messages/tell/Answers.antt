@@ -1,15 +1,26 @@
-use Rattle.std.proofs.Common.{inl, refl, subst}
+use Rattle.std.proofs.Common.{inl, subst, ap, sym, ◌∙◌}
 use Rattle.tet_ports.specs.Seen.{IsMessagePut, SinkSeen, sink_seen}
+use Rattle.tetgen_run.specs.Ends.{IsTellable}
+use Rattle.tetfit_run.specs.Messages.{renamed_program}
+use Rattle.tetfit_run.proofs.Pieces.{nothing_behind}
 use Rattle.tetfit_run.proofs.messages.tell.Goals as goal
+use Rattle.tetfit_run.proofs.messages.tell.Goals.{in-Refused+in-Ok, in-Unwritten, in-Unsummed, in-NoMemory}
 
-pub returns-in-Ok : goal.returns-in-Ok
-returns-in-Ok g c =
+pub returns : goal.returns
+returns g c =
     let E = g.E.Sink in
-    let seen : SinkSeen = sink_seen E.state c.args.err.now c.put_message.new.err in
-    rw c.in-Refused.is (inl (refl, subst (λ line. IsMessagePut line seen) c.in-Ok.ensures (subst (λ line. IsMessagePut line seen) c.as_slice.ensures c.put_message.ensures)))
-
-pub returns-in-Unsummed : goal.returns-in-Unsummed
-returns-in-Unsummed g c = rw c.in-Unsummed.is (inl (refl, c.put_message-in-Unsummed.ensures))
-
-pub returns-in-NoMemory : goal.returns-in-NoMemory
-returns-in-NoMemory g c = rw c.in-NoMemory.is (inl (refl, c.put_message-in-NoMemory.ensures))
+    inl (
+      c.status.ensures,
+      elim c.match-stop.branch [
+        | in-Refused+in-Ok w ↦
+            let seen : SinkSeen = sink_seen E.state c.args.err.now w.put_message.new.err in
+            rw (w.in-Refused.is, w.err-is) (subst (λ line. IsMessagePut line seen) (w.as_slice.ensures ∙ w.in-Ok.ensures) w.put_message.ensures)
+        | in-Unwritten w ↦
+            let seen : SinkSeen = sink_seen E.state c.args.err.now w.put_renamed.new.err in
+            let tells = subst IsTellable w.in-Unwritten.is c.requires in
+            let line_is = ap renamed_program (w.as_slice-in-Unwritten.ensures ∙ tells) ∙ sym (nothing_behind _) in
+            rw (w.in-Unwritten.is, w.err-is) (subst (λ line. IsMessagePut line seen) line_is w.put_renamed.ensures)
+        | in-Unsummed w ↦ rw (w.in-Unsummed.is, w.err-is) w.put_message-in-Unsummed.ensures
+        | in-NoMemory w ↦ rw (w.in-NoMemory.is, w.err-is) w.put_message-in-NoMemory.ensures
+      ],
+    )
