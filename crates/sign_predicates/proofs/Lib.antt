@@ -4,6 +4,7 @@ pub mod Vectors
 pub mod Short
 pub mod Lifting
 pub mod Ties
+pub mod Parts
 pub mod RisingNumber
 pub mod Holds
 pub mod Exit

@@ -261,7 +261,7 @@ pub volume_turned : (z : ℤ) → unsigned_abs z ≤ 3 * 2 ^ 61
 volume_turned z h = ap (λ y. to_z w128 (of_z w128 (pos 0 -ℤ to_z w128 (of_z w128 y)))) (volume_back z h) ∙ turned_back z (omega arith)
 
 -- the steps between two coordinates of the grid
-pub steps_in_frame : (step : ℕ) (corner q x : ℤ) → negsuc 8388607 ≤ℤ corner → corner ≤ℤ pos 8388608 → negsuc 8388607 ≤ℤ x → x ≤ℤ pos 8388608
+pub steps_in_frame : (step : ℕ) (corner q x : ℤ) → negsuc 536870911 ≤ℤ corner → corner ≤ℤ pos 536870912 → negsuc 536870911 ≤ℤ x → x ≤ℤ pos 536870912
     → IsStepsFrom (to_z w32 (of_z w32 corner)) (pos step) q (to_z w32 (of_z w32 x)) × (pos 0 ≤ℤ q) × (q ≤ℤ pos 1048576)
     → IsStepsFrom corner (pos step) (to_z w32 (of_z w32 q)) x
 steps_in_frame step corner q x cl ch xl xh (h, ql, qh) =
@@ -269,19 +269,19 @@ steps_in_frame step corner q x cl ch xl xh (h, ql, qh) =
     sym (grid_back x xl xh) ∙ h ∙ (λ i. grid_back corner cl ch i +ℤ pos step *ℤ sym back_q i)
 
 -- the same, of the coordinates as they are read
-pub steps_as_read : (step : ℕ) (corner q x : ℤ) → negsuc 8388607 ≤ℤ corner → corner ≤ℤ pos 8388608 → negsuc 8388607 ≤ℤ x → x ≤ℤ pos 8388608
+pub steps_as_read : (step : ℕ) (corner q x : ℤ) → negsuc 536870911 ≤ℤ corner → corner ≤ℤ pos 536870912 → negsuc 536870911 ≤ℤ x → x ≤ℤ pos 536870912
     → IsStepsFrom corner (pos step) q x → IsStepsFrom (to_z w32 (of_z w32 corner)) (pos step) q (to_z w32 (of_z w32 x))
 steps_as_read step corner q x cl ch xl xh h = grid_back x xl xh ∙ h ∙ (λ i. sym (grid_back corner cl ch) i +ℤ pos step *ℤ q)
 
 -- so many units above the corner are whole steps, and no more than the frame has
-pub whole_steps : (step units : ℕ) (corner q x : ℤ) → 0 < step → unsigned_abs corner ≤ 2 ^ 23 → unsigned_abs x ≤ 2 ^ 23
+pub whole_steps : (step units : ℕ) (corner q x : ℤ) → 0 < step → unsigned_abs corner ≤ 2 ^ 29 → unsigned_abs x ≤ 2 ^ 29
     → units ≡ nat_abs (to_z w32 (of_z w32 (to_z w32 (of_z w32 x) -ℤ to_z w32 (of_z w32 corner))))
     → pos 0 ≤ℤ q → q ≤ℤ pos 1048576 → IsStepsFrom corner (pos step) q x
     → (units / step ≤ 1048576) × (units % step ≡ 0)
 whole_steps step units corner (negsuc n) x s ch xh u low high is = absurd (omega (arith, ints))
 whole_steps step units corner (pos n) x s ch xh u low high is =
     let difference : to_z w32 (of_z w32 (to_z w32 (of_z w32 x) -ℤ to_z w32 (of_z w32 corner))) ≡ x -ℤ corner =
-    machine_is w32 (2 ^ 23 ∷ 2 ^ 23 ∷ []) (corner ∷ x ∷ []) (sub (var 1) (var 0)) (ch, (xh, tt)) tt in
+    machine_is w32 (2 ^ 29 ∷ 2 ^ 29 ∷ []) (corner ∷ x ∷ []) (sub (var 1) (var 0)) (ch, (xh, tt)) tt in
     let product = pos-*ℤ-pos step n in
     let steps : x -ℤ corner ≡ pos (step * n) = omega (arith, ints) in
     let whole : units ≡ step * n = u ∙ ap nat_abs (difference ∙ steps) in (

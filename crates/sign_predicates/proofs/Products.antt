@@ -10,7 +10,7 @@ abbrev pub two_by_two : Expr
 two_by_two = sub (mul (var 0) (var 3)) (mul (var 1) (var 2))
 
 abbrev pub two_by_two_bounds : List ℕ
-two_by_two_bounds = 2 ^ 24 ∷ 2 ^ 24 ∷ 2 ^ 24 ∷ 2 ^ 24 ∷ []
+two_by_two_bounds = 2 ^ 30 ∷ 2 ^ 30 ∷ 2 ^ 30 ∷ 2 ^ 30 ∷ []
 
 abbrev pub two_squares : Expr
 two_squares = add (mul (var 0) (var 0)) (mul (var 1) (var 1))
@@ -19,7 +19,7 @@ abbrev pub three_squares : Expr
 three_squares = add two_squares (mul (var 2) (var 2))
 
 abbrev pub squares_bounds : List ℕ
-squares_bounds = 2 ^ 24 ∷ 2 ^ 24 ∷ 2 ^ 24 ∷ []
+squares_bounds = 2 ^ 30 ∷ 2 ^ 30 ∷ 2 ^ 30 ∷ []
 
 abbrev pub one_product : Expr
 one_product = mul (var 0) (var 1)
@@ -37,13 +37,13 @@ abbrev pub sum_of_three_products : Expr
 sum_of_three_products = add sum_of_two_products (mul (var 4) (var 5))
 
 abbrev pub normal_bounds : List ℕ
-normal_bounds = 2 ^ 49 ∷ 2 ^ 49 ∷ 2 ^ 49 ∷ 2 ^ 49 ∷ 2 ^ 49 ∷ 2 ^ 49 ∷ []
+normal_bounds = 2 ^ 61 ∷ 2 ^ 61 ∷ 2 ^ 61 ∷ 2 ^ 61 ∷ 2 ^ 61 ∷ 2 ^ 61 ∷ []
 
 abbrev pub four_products : Expr
 four_products = sub three_products (mul (var 6) (var 7))
 
 abbrev pub three_bounds : List ℕ
-three_bounds = 2 ^ 49 ∷ 2 ^ 44 ∷ 2 ^ 49 ∷ 2 ^ 44 ∷ 2 ^ 49 ∷ 2 ^ 44 ∷ []
+three_bounds = 2 ^ 61 ∷ 2 ^ 50 ∷ 2 ^ 61 ∷ 2 ^ 50 ∷ 2 ^ 61 ∷ 2 ^ 50 ∷ []
 
 abbrev minorE : Expr → Expr → Expr → Expr → Expr
 minorE a b c d = sub (mul a d) (mul b c)

@@ -11,26 +11,26 @@ use Rattle.exact_algebra.proofs.Ring.{var, sub, neg, ring, same}
 use Rattle.sign_predicates.proofs.Terms.{pointE, orientE, of_point}
 use Rattle.exact_algebra.proofs.Size.{machine_is, back}
 
-pub grid_size : (z : ℤ) → negsuc 8388607 ≤ℤ z → z ≤ℤ pos 8388608 → unsigned_abs z ≤ 2 ^ 23
+pub grid_size : (z : ℤ) → negsuc 536870911 ≤ℤ z → z ≤ℤ pos 536870912 → unsigned_abs z ≤ 2 ^ 29
 grid_size z low high = omega (arith, ints)
 
 -- the difference of two coordinates of the grid
-pub difference_back : (a b : ℤ) → negsuc 8388607 ≤ℤ a → a ≤ℤ pos 8388608 → negsuc 8388607 ≤ℤ b → b ≤ℤ pos 8388608
+pub difference_back : (a b : ℤ) → negsuc 536870911 ≤ℤ a → a ≤ℤ pos 536870912 → negsuc 536870911 ≤ℤ b → b ≤ℤ pos 536870912
     → to_z w32 (of_z w32 (to_z w32 (of_z w32 b) -ℤ to_z w32 (of_z w32 a))) ≡ b -ℤ a
 difference_back a b al ah bl bh =
-    machine_is w32 (2 ^ 23 ∷ 2 ^ 23 ∷ []) (a ∷ b ∷ []) (sub (var 1) (var 0)) (grid_size a al ah, (grid_size b bl bh, tt)) tt
+    machine_is w32 (2 ^ 29 ∷ 2 ^ 29 ∷ []) (a ∷ b ∷ []) (sub (var 1) (var 0)) (grid_size a al ah, (grid_size b bl bh, tt)) tt
 
 -- a coordinate of a vector
-pub coordinate_back : (z : ℤ) → unsigned_abs z ≤ 2 ^ 24 → to_z w32 (of_z w32 z) ≡ z
-coordinate_back z h = back w32 (2 ^ 24) z tt h
+pub coordinate_back : (z : ℤ) → unsigned_abs z ≤ 2 ^ 30 → to_z w32 (of_z w32 z) ≡ z
+coordinate_back z h = back w32 (2 ^ 30) z tt h
 
-pub det_of_two_back : (a b c d : ℤ) → unsigned_abs a ≤ 2 ^ 24 → unsigned_abs b ≤ 2 ^ 24 → unsigned_abs c ≤ 2 ^ 24 → unsigned_abs d ≤ 2 ^ 24
+pub det_of_two_back : (a b c d : ℤ) → unsigned_abs a ≤ 2 ^ 30 → unsigned_abs b ≤ 2 ^ 30 → unsigned_abs c ≤ 2 ^ 30 → unsigned_abs d ≤ 2 ^ 30
     → det_of_two (to_z w32 (of_z w32 a)) (to_z w32 (of_z w32 b)) (to_z w32 (of_z w32 c)) (to_z w32 (of_z w32 d)) ≡ det_of_two a b c d
 det_of_two_back a b c d h i j k = λ t. det_of_two (coordinate_back a h t) (coordinate_back b i t) (coordinate_back c j t) (coordinate_back d k t)
 
 -- a coordinate of a vector that is read as 64 bits
-pub wide_back : (z : ℤ) → unsigned_abs z ≤ 2 ^ 24 → to_z w64 (of_z w64 (to_z w32 (of_z w32 z))) ≡ z
-wide_back z h = ap (λ y. to_z w64 (of_z w64 y)) (coordinate_back z h) ∙ back w64 (2 ^ 24) z tt h
+pub wide_back : (z : ℤ) → unsigned_abs z ≤ 2 ^ 30 → to_z w64 (of_z w64 (to_z w32 (of_z w32 z))) ≡ z
+wide_back z h = ap (λ y. to_z w64 (of_z w64 y)) (coordinate_back z h) ∙ back w64 (2 ^ 30) z tt h
 
 -- ---- the definitions over points, by their vectors
 
@@ -82,11 +82,11 @@ side_turned a b c p =
 
 -- ---- coordinates of grid points and rational points
 
-pub grid_back : (z : ℤ) → negsuc 8388607 ≤ℤ z → z ≤ℤ pos 8388608 → to_z w32 (of_z w32 z) ≡ z
-grid_back z low high = back w32 (2 ^ 23) z tt (grid_size z low high)
+pub grid_back : (z : ℤ) → negsuc 536870911 ≤ℤ z → z ≤ℤ pos 536870912 → to_z w32 (of_z w32 z) ≡ z
+grid_back z low high = back w32 (2 ^ 29) z tt (grid_size z low high)
 
-pub grid_size_back : (z : ℤ) → negsuc 8388607 ≤ℤ z → z ≤ℤ pos 8388608 → unsigned_abs (to_z w32 (of_z w32 z)) ≤ 2 ^ 23
-grid_size_back z low high = subst (λ y. unsigned_abs y ≤ 2 ^ 23) (sym (grid_back z low high)) (grid_size z low high)
+pub grid_size_back : (z : ℤ) → negsuc 536870911 ≤ℤ z → z ≤ℤ pos 536870912 → unsigned_abs (to_z w32 (of_z w32 z)) ≤ 2 ^ 29
+grid_size_back z low high = subst (λ y. unsigned_abs y ≤ 2 ^ 29) (sym (grid_back z low high)) (grid_size z low high)
 
 denominator_size : (w : ℤ) → (w ≡ pos 1) ⊎ (w ≡ pos 1000000) → unsigned_abs w ≤ 1000000
 denominator_size w (inl e) = omega (arith, ap unsigned_abs e)
@@ -99,25 +99,25 @@ pub denominator_size_back : (w : ℤ) → (w ≡ pos 1) ⊎ (w ≡ pos 1000000) 
 denominator_size_back w e = subst (λ y. unsigned_abs y ≤ 1000000) (sym (denominator_back w e)) (denominator_size w e)
 
 pub near_back : (w x : ℤ) → (w ≡ pos 1) ⊎ (w ≡ pos 1000000) → IsNear w x → to_z w64 (of_z w64 x) ≡ x
-near_back w x e h = let k = denominator_size w e in back w64 (8388609 * 1000000) x tt (omega arith)
+near_back w x e h = let k = denominator_size w e in back w64 (536870913 * 1000000) x tt (omega arith)
 
 -- a minor of two vectors
-pub minor_back : (a b c d : ℤ) → unsigned_abs a ≤ 2 ^ 24 → unsigned_abs b ≤ 2 ^ 24 → unsigned_abs c ≤ 2 ^ 24 → unsigned_abs d ≤ 2 ^ 24
+pub minor_back : (a b c d : ℤ) → unsigned_abs a ≤ 2 ^ 30 → unsigned_abs b ≤ 2 ^ 30 → unsigned_abs c ≤ 2 ^ 30 → unsigned_abs d ≤ 2 ^ 30
     → det_of_two (to_z w32 (of_z w32 a)) (to_z w32 (of_z w32 b)) (to_z w32 (of_z w32 c)) (to_z w32 (of_z w32 d)) ≡ a *ℤ d -ℤ b *ℤ c
 unfolding det_of_two
 minor_back a b c d h i j k = det_of_two_back a b c d h i j k
 
 -- the square of a length
-pub square_back : (z : ℤ) → unsigned_abs z ≤ 3 * 2 ^ 48 → to_z w64 (of_z w64 z) ≡ z
-square_back z h = back w64 (3 * 2 ^ 48) z tt h
+pub square_back : (z : ℤ) → unsigned_abs z ≤ 3 * 2 ^ 60 → to_z w64 (of_z w64 z) ≡ z
+square_back z h = back w64 (3 * 2 ^ 60) z tt h
 
 -- a determinant, as 128 bits hold it
-pub determinant_back : (z : ℤ) → unsigned_abs z ≤ 3 * 2 ^ 73 → to_z w128 (of_z w128 z) ≡ z
-determinant_back z h = back w128 (3 * 2 ^ 73) z tt h
+pub determinant_back : (z : ℤ) → unsigned_abs z ≤ 3 * 2 ^ 91 → to_z w128 (of_z w128 z) ≡ z
+determinant_back z h = back w128 (3 * 2 ^ 91) z tt h
 
 -- a determinant with its sign turned
-pub turned_back : (z : ℤ) → unsigned_abs z ≤ 3 * 2 ^ 73 → to_z w128 (of_z w128 (pos 0 -ℤ to_z w128 (of_z w128 z))) ≡ neg_ℤ z
+pub turned_back : (z : ℤ) → unsigned_abs z ≤ 3 * 2 ^ 91 → to_z w128 (of_z w128 (pos 0 -ℤ to_z w128 (of_z w128 z))) ≡ neg_ℤ z
 turned_back z h =
     ap (λ y. to_z w128 (of_z w128 (pos 0 -ℤ y))) (determinant_back z h)
-    ∙ back w128 (3 * 2 ^ 73) (pos 0 -ℤ z) tt (omega (arith, ints))
+    ∙ back w128 (3 * 2 ^ 91) (pos 0 -ℤ z) tt (omega (arith, ints))
     ∙ omega (arith, ints)

@@ -18,7 +18,7 @@ raised = add lowered (var 4)
 
 -- three coordinates and two weights
 abbrev pub rise_bounds : List ℕ
-rise_bounds = 2 ^ 24 ∷ 2 ^ 24 ∷ 2 ^ 24 ∷ 2 ^ 46 ∷ 2 ^ 46 ∷ []
+rise_bounds = 2 ^ 30 ∷ 2 ^ 30 ∷ 2 ^ 30 ∷ 2 ^ 46 ∷ 2 ^ 46 ∷ []
 
 pub weighted_sum_is : (a b c d : Point) (w : FourWeights) (own : ℤ)
     → (square_length a -ℤ w.a +ℤ own) *ℤ det b c d -ℤ (square_length b -ℤ w.b +ℤ own) *ℤ det a c d

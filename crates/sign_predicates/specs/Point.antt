@@ -34,20 +34,20 @@ EachRational P = (p : RationalPoint) → pos 0 <ℤ p.w → P p
 abbrev pub SomeRational : (RationalPoint → Type 0) → Type 0
 SomeRational P = (p : RationalPoint) × (pos 0 <ℤ p.w) × P p
 
--- each coordinate is at most 2^23 in size
+-- each coordinate is at most 2^29 in size
 pub record IsOnGrid (p : Point) : Type 0 where
-  pub x_low : negsuc 8388607 ≤ℤ p.x
-  pub x_high : p.x ≤ℤ pos 8388608
-  pub y_low : negsuc 8388607 ≤ℤ p.y
-  pub y_high : p.y ≤ℤ pos 8388608
-  pub z_low : negsuc 8388607 ≤ℤ p.z
-  pub z_high : p.z ≤ℤ pos 8388608
+  pub x_low : negsuc 536870911 ≤ℤ p.x
+  pub x_high : p.x ≤ℤ pos 536870912
+  pub y_low : negsuc 536870911 ≤ℤ p.y
+  pub y_high : p.y ≤ℤ pos 536870912
+  pub z_low : negsuc 536870911 ≤ℤ p.z
+  pub z_high : p.z ≤ℤ pos 536870912
 
--- a number at most 2^23 + 1 in size over the denominator w, which is 1 or 10^6
+-- a number at most 2^29 + 1 in size over the denominator w, which is 1 or 10^6
 abbrev pub IsNear : ℤ → ℤ → Type 0
-IsNear w x = unsigned_abs x ≤ 8388609 * unsigned_abs w
+IsNear w x = unsigned_abs x ≤ 536870913 * unsigned_abs w
 
--- the denominator is 1 or 10^6, and each coordinate is at most 2^23 + 1 in size
+-- the denominator is 1 or 10^6, and each coordinate is at most 2^29 + 1 in size
 pub record IsNearGrid (p : RationalPoint) : Type 0 where
   pub w_is : (p.w ≡ pos 1) ⊎ (p.w ≡ pos 1000000)
   pub x_near : IsNear p.w p.x

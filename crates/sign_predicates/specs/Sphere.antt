@@ -1,25 +1,45 @@
 -- Inside and outside of the sphere through the corners of a tetrahedron, where ties are broken by the points' numbers.
-use Rattle.std.specs.Prelude.{◌≡◌, ℤ, pos, ◌+ℤ◌, ◌-ℤ◌, ◌*ℤ◌, ℕ, ◌*◌, ◌^◌, ◌≤◌, unsigned_abs, Bool, ◌&&◌, ◌||◌, if◌then◌else◌, int_lt, int_le, nat_lt, List, [], ◌∷◌, map, filter}
+use Rattle.std.specs.Prelude.{◌≡◌, ℤ, pos, ◌+◌, ◌≤ℤ◌, ◌+ℤ◌, ◌-ℤ◌, ◌*ℤ◌, ℕ, ◌*◌, ◌^◌, ◌≤◌, unsigned_abs, Bool, ◌&&◌, ◌||◌, if◌then◌else◌, int_lt, int_le, nat_lt, List, [], ◌∷◌, map, filter}
 use Rattle.std.specs.List.{list_all, list_any}
 use Rattle.sign_predicates.specs.Point.{Point, from_to}
 use Rattle.sign_predicates.specs.Orientation.{dot, det, Triangle, side, opposite_a, opposite_b, opposite_c, opposite_d}
 use Rattle.sign_predicates.specs.declared.tetrahedron.Corners.{Corners}
 use Rattle.sign_predicates.specs.declared.tetrahedron.Numbers.{Numbers}
-use Rattle.sign_predicates.specs.declared.sphere.Squares.{Squares}
+use Rattle.sign_predicates.specs.declared.sphere.Heights.{Heights}
+use Rattle.sign_predicates.specs.declared.volumes.WideVolumes.{WideVolumes}
 
 -- the square of a vector's length
 abbrev pub square_length : Point → ℤ
 square_length v = dot v v
 
-abbrev pub squares : Point → Point → Point → Point → Squares
+abbrev pub squares : Point → Point → Point → Point → Heights
 squares a b c d = record { a = square_length a; b = square_length b; c = square_length c; d = square_length d }
 
--- each is that of a vector between two points of the grid
-pub record AreGridSquares (s : Squares) : Type 0 where
-  pub a_small : unsigned_abs s.a ≤ 3 * 2 ^ 48
-  pub b_small : unsigned_abs s.b ≤ 3 * 2 ^ 48
-  pub c_small : unsigned_abs s.c ≤ 3 * 2 ^ 48
-  pub d_small : unsigned_abs s.d ≤ 3 * 2 ^ 48
+-- each is the square of the length of a vector between two points of the grid
+pub record AreGridSquares (h : Heights) : Type 0 where
+  pub a_small : unsigned_abs h.a ≤ 3 * 2 ^ 60
+  pub b_small : unsigned_abs h.b ≤ 3 * 2 ^ 60
+  pub c_small : unsigned_abs h.c ≤ 3 * 2 ^ 60
+  pub d_small : unsigned_abs h.d ≤ 3 * 2 ^ 60
+  pub a_above : pos 0 ≤ℤ h.a
+  pub b_above : pos 0 ≤ℤ h.b
+  pub c_above : pos 0 ≤ℤ h.c
+  pub d_above : pos 0 ≤ℤ h.d
+
+-- each is that of a vector between two points of the grid, which may have weights
+pub record AreHeights (h : Heights) : Type 0 where
+  pub a_small : unsigned_abs h.a ≤ 7 * 2 ^ 59
+  pub b_small : unsigned_abs h.b ≤ 7 * 2 ^ 59
+  pub c_small : unsigned_abs h.c ≤ 7 * 2 ^ 59
+  pub d_small : unsigned_abs h.d ≤ 7 * 2 ^ 59
+
+-- the sizes of the heights together
+abbrev pub total_size : Heights → ℕ
+total_size h = unsigned_abs h.a + unsigned_abs h.b + unsigned_abs h.c + unsigned_abs h.d
+
+-- each height times the determinant without its corner, with alternating signs
+abbrev pub lifted_sum : Heights → WideVolumes → ℤ
+lifted_sum h v = h.a *ℤ v.a -ℤ h.b *ℤ v.b +ℤ h.c *ℤ v.c -ℤ h.d *ℤ v.d
 
 -- for a positive tetrahedron: below 0 where e is outside of the sphere through its corners, 0 where it is on it
 unfoldable pub in_sphere : Corners → Point → ℤ
@@ -50,6 +70,10 @@ least_of counts i least = if counts && nat_lt i least then i else least
 -- e and the corners across their face are for outside.
 abbrev pub wins_tie : Corners → Numbers → Point → ℕ → Bool
 wins_tie t n e m = list_any (λ i. list_all (nat_lt i) (alongside t n e)) (m ∷ across t n e)
+
+-- the number of these two parts
+unfoldable pub in_parts : ℤ → ℤ → ℤ
+in_parts high low = pos (2 ^ 48) *ℤ high +ℤ low
 
 -- two numbers of one sign
 pub record HaveOneSign (x y : ℤ) : Type 0 where

@@ -4,9 +4,9 @@ use Rattle.sign_predicates.specs.Point.{Point}
 use Rattle.sign_predicates.specs.Orientation.{det}
 use Rattle.sign_predicates.specs.Sphere.{square_length}
 
--- a difference of two coordinates: at most 2^24 in size
+-- a difference of two coordinates: at most 2^30 in size
 abbrev pub IsDifference : ℤ → Type 0
-IsDifference z = unsigned_abs z ≤ 2 ^ 24
+IsDifference z = unsigned_abs z ≤ 2 ^ 30
 
 -- each coordinate is a difference of two coordinates of the grid
 pub record IsGridVector (v : Point) : Type 0 where
@@ -34,6 +34,6 @@ sphere_sum a b c d = square_length a *ℤ det b c d -ℤ square_length b *ℤ de
 
 -- each coordinate is at most that of a cross product of two such vectors
 pub record IsSmallNormal (v : Point) : Type 0 where
-  pub x_small : unsigned_abs v.x ≤ 2 ^ 49
-  pub y_small : unsigned_abs v.y ≤ 2 ^ 49
-  pub z_small : unsigned_abs v.z ≤ 2 ^ 49
+  pub x_small : unsigned_abs v.x ≤ 2 ^ 61
+  pub y_small : unsigned_abs v.y ≤ 2 ^ 61
+  pub z_small : unsigned_abs v.z ≤ 2 ^ 61

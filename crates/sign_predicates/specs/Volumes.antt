@@ -41,7 +41,7 @@ abbrev pub wide_volumes : Point → Point → Point → Point → WideVolumes
 wide_volumes a b c d = record { a = det b c d; b = det a c d; c = det a b d; d = det a b c }
 
 pub record AreWideVolumes (v : WideVolumes) : Type 0 where
-  pub a_wide : unsigned_abs v.a ≤ 3 * 2 ^ 73
-  pub b_wide : unsigned_abs v.b ≤ 3 * 2 ^ 73
-  pub c_wide : unsigned_abs v.c ≤ 3 * 2 ^ 73
-  pub d_wide : unsigned_abs v.d ≤ 3 * 2 ^ 73
+  pub a_wide : unsigned_abs v.a ≤ 3 * 2 ^ 91
+  pub b_wide : unsigned_abs v.b ≤ 3 * 2 ^ 91
+  pub c_wide : unsigned_abs v.c ≤ 3 * 2 ^ 91
+  pub d_wide : unsigned_abs v.d ≤ 3 * 2 ^ 91

@@ -14,13 +14,13 @@ use crate::{Corners, GridPoint, Sign};
 /// A coordinate of the sum of four points, less four times that of another.
 #[inline]
 fn four_times(a: i32, p: i32, q: i32, r: i32, s: i32) -> i64
-    requires a_small { unsigned_abs a ≤ 2 ^ 23 }
-    requires p_small { unsigned_abs p ≤ 2 ^ 23 }
-    requires q_small { unsigned_abs q ≤ 2 ^ 23 }
-    requires r_small { unsigned_abs r ≤ 2 ^ 23 }
-    requires s_small { unsigned_abs s ≤ 2 ^ 23 }
+    requires a_small { unsigned_abs a ≤ 2 ^ 29 }
+    requires p_small { unsigned_abs p ≤ 2 ^ 29 }
+    requires q_small { unsigned_abs q ≤ 2 ^ 29 }
+    requires r_small { unsigned_abs r ≤ 2 ^ 29 }
+    requires s_small { unsigned_abs s ≤ 2 ^ 29 }
     ensures value { result ≡ p +ℤ q +ℤ r +ℤ s -ℤ a *ℤ pos 4 }
-    ensures size { unsigned_abs result ≤ 2 ^ 26 }
+    ensures size { unsigned_abs result ≤ 2 ^ 32 }
 {
     p as i64 + q as i64 + r as i64 + s as i64 - a as i64 * 4
 }

@@ -57,8 +57,8 @@ const WIDTH: u32 = 1 << 20;
 /// 2^20.
 fn steps_from(corner: i32, step: u32, x: i32) -> Option<i32>
     requires step { 0 < step }
-    requires corner { unsigned_abs corner ≤ 2 ^ 23 }
-    requires x { unsigned_abs x ≤ 2 ^ 23 }
+    requires corner { unsigned_abs corner ≤ 2 ^ 29 }
+    requires x { unsigned_abs x ≤ 2 ^ 29 }
     ensures there { IfSome result
         (λ q. IsStepsFrom corner (pos step) q x × (pos 0 ≤ℤ q) × (q ≤ℤ pos 1048576)) }
     ensures none { IfNone result
@@ -132,7 +132,7 @@ fn from_to(a: Lifted, b: Lifted) -> Vector
 #[inline(always)]
 fn rise(a: Lifted, b: Lifted) -> i64
     ensures value { result ≡ lift_rise a b }
-    ensures size { unsigned_abs result ≤ 3 * 2 ^ 48 }
+    ensures size { unsigned_abs result ≤ 3 * 2 ^ 60 }
 {
     b.height - a.height
 }

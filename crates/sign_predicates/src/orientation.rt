@@ -54,18 +54,18 @@ pub fn beyond(t: Corners, corner: u8, p: GridPoint) -> Sign
 /// the denominator, which is at most a million.
 #[inline]
 pub fn scaled_difference(a: i32, x: i64, w: i64) -> i64
-    requires a_small { unsigned_abs a ≤ 2 ^ 23 }
+    requires a_small { unsigned_abs a ≤ 2 ^ 29 }
     requires w_small { unsigned_abs w ≤ 1000000 }
-    requires x_small { unsigned_abs x ≤ 8388609 * unsigned_abs w }
+    requires x_small { unsigned_abs x ≤ 536870913 * unsigned_abs w }
     ensures value { result ≡ x -ℤ a *ℤ w }
-    ensures size { unsigned_abs result ≤ 2 ^ 44 }
+    ensures size { unsigned_abs result ≤ 2 ^ 50 }
 {
     x - a as i64 * w
 }
 
 /// `w` times six times the signed volume of the tetrahedron `a b c x`. With coordinates of `x` up
-/// to `(2^23 + 1) * w` and `w` up to `10^6`, the scaled differences are below `2^44`, the minors at
-/// most `2^49`, and the sum below `2^95`.
+/// to `(2^29 + 1) * w` and `w` up to `10^6`, the scaled differences are below `2^50`, the minors at
+/// most `2^61`, and the sum below `2^95`.
 #[inline]
 fn orient_rat_sum(a: GridPoint, b: GridPoint, c: GridPoint, x: RatPoint) -> i128
     ensures { result ≡ orient_rational a b c x }
@@ -81,7 +81,7 @@ fn orient_rat_sum(a: GridPoint, b: GridPoint, c: GridPoint, x: RatPoint) -> i128
 
 /// On which side of the plane through `a`, `b` and `c` the rational point `x` lies, as `orient` for
 /// a grid point. The sum is that of `orient` times `w`. It stays within 128 bits: `w` is at most
-/// `10^6` and the coordinates of `x` at most `(2^23 + 1) * w` in size, so that the sum is below
+/// `10^6` and the coordinates of `x` at most `(2^29 + 1) * w` in size, so that the sum is below
 /// `2^95`.
 #[inline]
 pub fn orient_rat(a: GridPoint, b: GridPoint, c: GridPoint, x: RatPoint) -> Sign

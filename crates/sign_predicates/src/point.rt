@@ -4,7 +4,7 @@ ghost use Rattle.sign_predicates.specs.Point.{as_rational};
 
 use std::marker::Model;
 
-/// A point of the grid, in grid units. Each coordinate is at most `2^23` in size.
+/// A point of the grid, in grid units. Each coordinate is at most `2^29` in size.
 #[derive(Clone, Copy, Debug, PartialEq, Eq)]
 pub struct GridPoint {
     pub x: i32,
@@ -25,7 +25,7 @@ impl Model for GridPoint {
 }
 
 /// The rational point `(x/w, y/w, z/w)`, in grid units. `w` is 1 or `10^6`, and each of `x`, `y`
-/// and `z` is at most `(2^23 + 1) * w` in size.
+/// and `z` is at most `(2^29 + 1) * w` in size.
 #[derive(Clone, Copy, Debug, PartialEq, Eq)]
 pub struct RatPoint {
     pub x: i64,

@@ -10,14 +10,14 @@ use crate::vector::{Vector, cross, det, from_to, square_length};
 /// Three products of a square and a coordinate of a cross product, with alternating signs.
 #[inline]
 fn combined(k: i64, x: i64, m: i64, y: i64, n: i64, z: i64) -> i128
-    requires k_small { unsigned_abs k ≤ 3 * 2 ^ 48 }
-    requires m_small { unsigned_abs m ≤ 3 * 2 ^ 48 }
-    requires n_small { unsigned_abs n ≤ 3 * 2 ^ 48 }
-    requires x_small { unsigned_abs x ≤ 2 ^ 49 }
-    requires y_small { unsigned_abs y ≤ 2 ^ 49 }
-    requires z_small { unsigned_abs z ≤ 2 ^ 49 }
+    requires k_small { unsigned_abs k ≤ 3 * 2 ^ 60 }
+    requires m_small { unsigned_abs m ≤ 3 * 2 ^ 60 }
+    requires n_small { unsigned_abs n ≤ 3 * 2 ^ 60 }
+    requires x_small { unsigned_abs x ≤ 2 ^ 61 }
+    requires y_small { unsigned_abs y ≤ 2 ^ 61 }
+    requires z_small { unsigned_abs z ≤ 2 ^ 61 }
     ensures value { result ≡ combined k x m y n z }
-    ensures size { unsigned_abs result ≤ 9 * 2 ^ 97 }
+    ensures size { unsigned_abs result ≤ 9 * 2 ^ 121 }
 {
     k as i128 * x as i128 - m as i128 * y as i128 + n as i128 * z as i128
 }
@@ -34,7 +34,7 @@ fn pull_size(b: Vector, c: Vector, d: Vector) -> u128
 }
 
 /// The width of the grid.
-const WIDTH: u128 = 1 << 24;
+const WIDTH: u128 = 1 << 30;
 
 /// How far along an axis a point can at most be from the corner `a` of a positive tetrahedron where
 /// it is in the sphere through the corners, or on it, in grid units: no more than twice the
@@ -42,8 +42,8 @@ const WIDTH: u128 = 1 << 24;
 pub fn sphere_reach(t: Corners) -> Option<u32>
     requires { IsPositive t }
     ensures reach { IfSome result (IsReach t) }
-    ensures value { MatchOption result (2 ^ 24 < reach_of t) (λ reach. reach ≡ reach_of t) }
-    ensures small { IfSome result (λ reach. reach ≤ 2 ^ 24) }
+    ensures value { MatchOption result (2 ^ 30 < reach_of t) (λ reach. reach ≡ reach_of t) }
+    ensures small { IfSome result (λ reach. reach ≤ 2 ^ 30) }
 {
     let b = from_to(t.a, t.b);
     let c = from_to(t.a, t.c);

@@ -1,44 +1,22 @@
 //! Whether a point is outside of the sphere through the corners of a positive tetrahedron.
 ghost use Rattle.std.specs.Prelude.{◌≡◌, ◌*◌, ◌^◌, ◌≤◌, ◌+ℤ◌, ◌-ℤ◌, ◌*ℤ◌, unsigned_abs};
 ghost use Rattle.sign_predicates.specs.Sphere.{in_sphere, least_of, wins_tie, is_outside};
-ghost use Rattle.sign_predicates.specs.Sphere.{IsTieBySides, squares, AreGridSquares};
+ghost use Rattle.sign_predicates.specs.Sphere.{IsTieBySides, HaveOneSign, in_parts, squares, AreGridSquares};
+ghost use Rattle.sign_predicates.specs.Sphere.{AreHeights, total_size, lifted_sum};
+ghost use Rattle.sign_predicates.specs.Volumes.{AreWideVolumes};
 ghost use Rattle.sign_predicates.specs.Vector.{IsShort, sphere_sum};
 
 use crate::sign::{is_above, is_below, vanishes};
 use crate::vector::{Vector, are_short, from_to, square_length};
-use crate::volumes::{short_volumes, wide_volumes};
+use crate::volumes::{WideVolumes, short_volumes, wide_volumes};
 use crate::{Corners, GridPoint, Numbers};
 
 /// It is above each number of a point.
 const NO_NUMBER: u64 = 1 << 32;
 
-/// Four products of a height and a determinant, with alternating signs. A height is a square, or a
-/// square and two weights. The sum is at most `84 * 2^120` in size.
-#[inline]
-pub(crate) fn sum_of_four(
-    a: i64,
-    p: i128,
-    b: i64,
-    q: i128,
-    c: i64,
-    r: i128,
-    d: i64,
-    s: i128,
-) -> i128
-    requires a_small { unsigned_abs a ≤ 7 * 2 ^ 47 }
-    requires b_small { unsigned_abs b ≤ 7 * 2 ^ 47 }
-    requires c_small { unsigned_abs c ≤ 7 * 2 ^ 47 }
-    requires d_small { unsigned_abs d ≤ 7 * 2 ^ 47 }
-    requires p_small { unsigned_abs p ≤ 3 * 2 ^ 73 }
-    requires q_small { unsigned_abs q ≤ 3 * 2 ^ 73 }
-    requires r_small { unsigned_abs r ≤ 3 * 2 ^ 73 }
-    requires s_small { unsigned_abs s ≤ 3 * 2 ^ 73 }
-    ensures { result ≡ a *ℤ p -ℤ b *ℤ q +ℤ c *ℤ r -ℤ d *ℤ s }
-{
-    a as i128 * p - b as i128 * q + c as i128 * r - d as i128 * s
-}
-
-/// The same where the determinants fit 64 bits.
+/// Four products with alternating signs. A height is a square, or a square and two weights, and a
+/// factor a determinant of short vectors, or a part of one. The sum is at most `84 * 2^120` in
+/// size.
 #[inline]
 pub(crate) fn short_sum_of_four(
     a: i64,
@@ -50,39 +28,126 @@ pub(crate) fn short_sum_of_four(
     d: i64,
     s: i64,
 ) -> i128
-    requires a_small { unsigned_abs a ≤ 3 * 2 ^ 48 }
-    requires b_small { unsigned_abs b ≤ 3 * 2 ^ 48 }
-    requires c_small { unsigned_abs c ≤ 3 * 2 ^ 48 }
-    requires d_small { unsigned_abs d ≤ 3 * 2 ^ 48 }
+    requires a_small { unsigned_abs a ≤ 7 * 2 ^ 59 }
+    requires b_small { unsigned_abs b ≤ 7 * 2 ^ 59 }
+    requires c_small { unsigned_abs c ≤ 7 * 2 ^ 59 }
+    requires d_small { unsigned_abs d ≤ 7 * 2 ^ 59 }
     requires p_small { unsigned_abs p ≤ 3 * 2 ^ 61 }
     requires q_small { unsigned_abs q ≤ 3 * 2 ^ 61 }
     requires r_small { unsigned_abs r ≤ 3 * 2 ^ 61 }
     requires s_small { unsigned_abs s ≤ 3 * 2 ^ 61 }
-    ensures { result ≡ a *ℤ p -ℤ b *ℤ q +ℤ c *ℤ r -ℤ d *ℤ s }
+    ensures value { result ≡ a *ℤ p -ℤ b *ℤ q +ℤ c *ℤ r -ℤ d *ℤ s }
+    ensures size { unsigned_abs result ≤ 84 * 2 ^ 120 }
 {
     a as i128 * p as i128 - b as i128 * q as i128 + c as i128 * r as i128 - d as i128 * s as i128
 }
 
-/// The squares of the lengths of four vectors.
+/// A determinant in two parts, `high * 2^48 + low`, where the low part has 48 bits and no sign.
 #[derive(Clone, Copy)]
-struct Squares {
-    a: i64,
-    b: i64,
-    c: i64,
-    d: i64,
+struct TwoParts {
+    high: i64,
+    low: i64,
 }
 
+/// The determinant in two parts.
 #[inline(always)]
-fn squares_of(a: Vector, b: Vector, c: Vector, d: Vector) -> Squares
+fn split(p: i128) -> TwoParts
+    requires { unsigned_abs p ≤ 3 * 2 ^ 91 }
+    ensures value { in_parts result.high result.low ≡ p }
+    ensures high { unsigned_abs result.high ≤ 3 * 2 ^ 61 }
+    ensures low { unsigned_abs result.low ≤ 2 ^ 48 }
+{
+    let high = p >> 48;
+    TwoParts {
+        high: high as i64,
+        low: (p - high * (1 << 48)) as i64,
+    }
+}
+
+/// A number of the sign of `high * 2^48 + low`.
+#[inline(always)]
+fn folded(high: i128, low: i128) -> i128
+    requires high_small { unsigned_abs high ≤ 84 * 2 ^ 120 }
+    requires low_small { unsigned_abs low ≤ 84 * 2 ^ 120 }
+    ensures { HaveOneSign result (in_parts high low) }
+{
+    let carry = low >> 48;
+    let above = high + carry;
+    if vanishes(above) {
+        low - carry * (1 << 48)
+    } else {
+        above
+    }
+}
+
+/// How much higher each corner of a tetrahedron is lifted than a point.
+#[derive(Clone, Copy)]
+pub(crate) struct Heights {
+    pub(crate) a: i64,
+    pub(crate) b: i64,
+    pub(crate) c: i64,
+    pub(crate) d: i64,
+}
+
+/// A number of the sign of the products of heights and determinants, with alternating signs. Their
+/// sum takes up to 157 bits, and is made in two parts.
+#[inline(never)]
+fn sum_in_parts(h: Heights, v: WideVolumes) -> i128
+    requires heights { AreHeights h }
+    requires volumes { AreWideVolumes v }
+    ensures { HaveOneSign result (lifted_sum h v) }
+{
+    let p = split(v.a);
+    let q = split(v.b);
+    let r = split(v.c);
+    let s = split(v.d);
+    let high = short_sum_of_four(h.a, p.high, h.b, q.high, h.c, r.high, h.d, s.high);
+    let low = short_sum_of_four(h.a, p.low, h.b, q.low, h.c, r.low, h.d, s.low);
+    folded(high, low)
+}
+
+/// A number of the sign of the products of heights and determinants, with alternating signs, where
+/// the heights are at most `reach` together. The lower part of their sum is at most `2^48 * reach`,
+/// so that the upper part has the sign where it is over `reach`.
+#[inline]
+pub(crate) fn sum_of_four(h: Heights, reach: u64, v: WideVolumes) -> i128
+    requires heights { AreHeights h }
+    requires reach { total_size h ≤ reach }
+    requires volumes { AreWideVolumes v }
+    ensures { HaveOneSign result (lifted_sum h v) }
+{
+    let p = split(v.a);
+    let q = split(v.b);
+    let r = split(v.c);
+    let s = split(v.d);
+    let high = short_sum_of_four(h.a, p.high, h.b, q.high, h.c, r.high, h.d, s.high);
+    if high.unsigned_abs() > u128::from(reach) {
+        return high;
+    }
+    sum_in_parts(h, v)
+}
+
+/// The squares of the lengths of four vectors.
+#[inline(always)]
+fn squares_of(a: Vector, b: Vector, c: Vector, d: Vector) -> Heights
     ensures value { result ≡ squares a b c d }
     ensures size { AreGridSquares result }
 {
-    Squares {
+    Heights {
         a: square_length(a),
         b: square_length(b),
         c: square_length(c),
         d: square_length(d),
     }
+}
+
+/// The sum of four squares of lengths.
+#[inline(always)]
+fn total_of(h: Heights) -> u64
+    requires { AreGridSquares h }
+    ensures { result ≡ total_size h }
+{
+    h.a as u64 + h.b as u64 + h.c as u64 + h.d as u64
 }
 
 /// The sphere's sum at short vectors.
@@ -99,21 +164,20 @@ fn short_sphere_sum(a: Vector, b: Vector, c: Vector, d: Vector) -> i128
     short_sum_of_four(s.a, v.a, s.b, v.b, s.c, v.c, s.d, v.d)
 }
 
-/// The sphere's sum at any vectors, with its determinants in 128 bits.
+/// A number of the sign of the sphere's sum at any vectors, with its determinants in 128 bits.
 #[inline(always)]
 fn long_sphere_sum(a: Vector, b: Vector, c: Vector, d: Vector) -> i128
-    ensures { result ≡ sphere_sum a b c d }
+    ensures { HaveOneSign result (sphere_sum a b c d) }
 {
     let s = squares_of(a, b, c, d);
-    let v = wide_volumes(a, b, c, d);
-    sum_of_four(s.a, v.a, s.b, v.b, s.c, v.c, s.d, v.d)
+    sum_of_four(s, total_of(s), wide_volumes(a, b, c, d))
 }
 
-/// The sphere's sum at the vectors from the point to the corners. Where they are short, its
-/// determinants fit 64 bits.
+/// A number of the sign of the sphere's sum at the vectors from the point to the corners. Where
+/// they are short, its determinants fit 64 bits.
 #[inline(always)]
 fn sphere_sum(a: Vector, b: Vector, c: Vector, d: Vector) -> i128
-    ensures { result ≡ sphere_sum a b c d }
+    ensures { HaveOneSign result (sphere_sum a b c d) }
 {
     if are_short(a, b, c, d) {
         short_sphere_sum(a, b, c, d)
@@ -122,11 +186,10 @@ fn sphere_sum(a: Vector, b: Vector, c: Vector, d: Vector) -> i128
     }
 }
 
-/// The sum whose sign says where `e` lies: below 0 outside of the sphere, 0 on it. Its size is at
-/// most `72 * 2^120`.
+/// A number whose sign says where `e` lies: below 0 outside of the sphere, 0 on it.
 #[inline(always)]
 pub(crate) fn in_sphere(t: Corners, e: GridPoint) -> i128
-    ensures { result ≡ in_sphere t e }
+    ensures { HaveOneSign result (in_sphere t e) }
 {
     sphere_sum(
         from_to(e, t.a),

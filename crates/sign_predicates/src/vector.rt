@@ -1,5 +1,5 @@
 //! Vectors between points of the grid, and the exact products of them that the predicates sum.
-ghost use Rattle.std.specs.Prelude.{◌≡◌, ◌+◌, ◌*◌, ◌^◌, ◌<◌, ◌≤◌, ◌+ℤ◌, ◌-ℤ◌, ◌*ℤ◌, unsigned_abs, IsTrue, ◌↔◌};
+ghost use Rattle.std.specs.Prelude.{◌≡◌, ◌+◌, ◌*◌, ◌^◌, ◌<◌, ◌≤◌, ◌+ℤ◌, ◌-ℤ◌, ◌*ℤ◌, unsigned_abs, IsTrue, ◌↔◌, pos, ◌≤ℤ◌};
 ghost use Rattle.sign_predicates.specs.Point.{from_to};
 ghost use Rattle.sign_predicates.specs.Orientation.{det, dot, cross};
 ghost use Rattle.sign_predicates.specs.Turns.{IsZeroVector};
@@ -11,7 +11,7 @@ use crate::sign::sign_of;
 use crate::{GridPoint, Sign};
 use std::marker::Model;
 
-/// The vector from one grid point to another. Each coordinate is at most `2^24` in size.
+/// The vector from one grid point to another. Each coordinate is at most `2^30` in size.
 #[derive(Clone, Copy)]
 pub struct Vector {
     pub x: i32,
@@ -47,7 +47,7 @@ pub fn from_to(a: GridPoint, b: GridPoint) -> Vector
 /// The bits of a coordinate raised by `2^20`.
 #[inline(always)]
 fn raised(x: i32) -> u32
-    requires { unsigned_abs x ≤ 2 ^ 24 }
+    requires { unsigned_abs x ≤ 2 ^ 30 }
     ensures { result < 2 ^ 21 → unsigned_abs x ≤ 2 ^ 20 }
 {
     (x + (1 << 20)).cast_unsigned()
@@ -76,12 +76,12 @@ pub(crate) fn are_short(a: Vector, b: Vector, c: Vector, d: Vector) -> bool
 /// The determinant of the rows `a b` and `c d`.
 #[inline]
 fn det_of_two(a: i32, b: i32, c: i32, d: i32) -> i64
-    requires a_small { unsigned_abs a ≤ 2 ^ 24 }
-    requires b_small { unsigned_abs b ≤ 2 ^ 24 }
-    requires c_small { unsigned_abs c ≤ 2 ^ 24 }
-    requires d_small { unsigned_abs d ≤ 2 ^ 24 }
+    requires a_small { unsigned_abs a ≤ 2 ^ 30 }
+    requires b_small { unsigned_abs b ≤ 2 ^ 30 }
+    requires c_small { unsigned_abs c ≤ 2 ^ 30 }
+    requires d_small { unsigned_abs d ≤ 2 ^ 30 }
     ensures value { result ≡ det_of_two a b c d }
-    ensures size { unsigned_abs result ≤ 2 ^ 49 }
+    ensures size { unsigned_abs result ≤ 2 ^ 61 }
     ensures short { unsigned_abs a ≤ 2 ^ 20 → unsigned_abs b ≤ 2 ^ 20 → unsigned_abs c ≤ 2 ^ 20
         → unsigned_abs d ≤ 2 ^ 20 → unsigned_abs result ≤ 2 ^ 41 }
 {
@@ -92,7 +92,7 @@ fn det_of_two(a: i32, b: i32, c: i32, d: i32) -> i64
 #[inline]
 pub(crate) fn minor(u: Vector, v: Vector) -> i64
     ensures value { result ≡ minor u v }
-    ensures size { unsigned_abs result ≤ 2 ^ 49 }
+    ensures size { unsigned_abs result ≤ 2 ^ 61 }
     ensures short { IsShort u → IsShort v → unsigned_abs result ≤ 2 ^ 41 }
 {
     det_of_two(u.x, u.y, v.x, v.y)
@@ -101,11 +101,11 @@ pub(crate) fn minor(u: Vector, v: Vector) -> i64
 /// The sum of three squares.
 #[inline]
 pub(crate) fn sum_of_squares(x: i32, y: i32, z: i32) -> i64
-    requires x_small { unsigned_abs x ≤ 2 ^ 24 }
-    requires y_small { unsigned_abs y ≤ 2 ^ 24 }
-    requires z_small { unsigned_abs z ≤ 2 ^ 24 }
+    requires x_small { unsigned_abs x ≤ 2 ^ 30 }
+    requires y_small { unsigned_abs y ≤ 2 ^ 30 }
+    requires z_small { unsigned_abs z ≤ 2 ^ 30 }
     ensures value { result ≡ x *ℤ x +ℤ y *ℤ y +ℤ z *ℤ z }
-    ensures size { unsigned_abs result ≤ 3 * 2 ^ 48 }
+    ensures size { unsigned_abs result ≤ 3 * 2 ^ 60 }
 {
     x as i64 * x as i64 + y as i64 * y as i64 + z as i64 * z as i64
 }
@@ -114,7 +114,8 @@ pub(crate) fn sum_of_squares(x: i32, y: i32, z: i32) -> i64
 #[inline]
 pub(crate) fn square_length(v: Vector) -> i64
     ensures value { result ≡ square_length v }
-    ensures size { unsigned_abs result ≤ 3 * 2 ^ 48 }
+    ensures size { unsigned_abs result ≤ 3 * 2 ^ 60 }
+    ensures above { pos 0 ≤ℤ result }
 {
     sum_of_squares(v.x, v.y, v.z)
 }
@@ -122,15 +123,15 @@ pub(crate) fn square_length(v: Vector) -> i64
 /// Three products of a minor and a number, with alternating signs.
 #[inline]
 fn sum_of_three(a: i64, x: i64, b: i64, y: i64, c: i64, z: i64) -> i128
-    requires a_small { unsigned_abs a ≤ 2 ^ 49 }
-    requires b_small { unsigned_abs b ≤ 2 ^ 49 }
-    requires c_small { unsigned_abs c ≤ 2 ^ 49 }
-    requires x_small { unsigned_abs x ≤ 2 ^ 44 }
-    requires y_small { unsigned_abs y ≤ 2 ^ 44 }
-    requires z_small { unsigned_abs z ≤ 2 ^ 44 }
+    requires a_small { unsigned_abs a ≤ 2 ^ 61 }
+    requires b_small { unsigned_abs b ≤ 2 ^ 61 }
+    requires c_small { unsigned_abs c ≤ 2 ^ 61 }
+    requires x_small { unsigned_abs x ≤ 2 ^ 50 }
+    requires y_small { unsigned_abs y ≤ 2 ^ 50 }
+    requires z_small { unsigned_abs z ≤ 2 ^ 50 }
     ensures value { result ≡ a *ℤ x -ℤ b *ℤ y +ℤ c *ℤ z }
     ensures size { unsigned_abs result
-        ≤ 2 ^ 49 * (unsigned_abs x + unsigned_abs y + unsigned_abs z) }
+        ≤ 2 ^ 61 * (unsigned_abs x + unsigned_abs y + unsigned_abs z) }
 {
     a as i128 * x as i128 - b as i128 * y as i128 + c as i128 * z as i128
 }
@@ -138,9 +139,9 @@ fn sum_of_three(a: i64, x: i64, b: i64, y: i64, c: i64, z: i64) -> i128
 /// The determinant of `u`, `v` and the vector `(x, y, z)`.
 #[inline]
 pub(crate) fn det_with(u: Vector, v: Vector, x: i64, y: i64, z: i64) -> i128
-    requires x_small { unsigned_abs x ≤ 2 ^ 44 }
-    requires y_small { unsigned_abs y ≤ 2 ^ 44 }
-    requires z_small { unsigned_abs z ≤ 2 ^ 44 }
+    requires x_small { unsigned_abs x ≤ 2 ^ 50 }
+    requires y_small { unsigned_abs y ≤ 2 ^ 50 }
+    requires z_small { unsigned_abs z ≤ 2 ^ 50 }
     ensures { result ≡ det u v (record { x = x; y = y; z = z }) }
 {
     sum_of_three(
@@ -167,11 +168,11 @@ pub(crate) fn det_of_minors(u: Vector, v: Vector, w: Vector, vw: i64, uw: i64, u
     requires vw_is { vw ≡ minor v w }
     requires uw_is { uw ≡ minor u w }
     requires uv_is { uv ≡ minor u v }
-    requires vw_small { unsigned_abs vw ≤ 2 ^ 49 }
-    requires uw_small { unsigned_abs uw ≤ 2 ^ 49 }
-    requires uv_small { unsigned_abs uv ≤ 2 ^ 49 }
+    requires vw_small { unsigned_abs vw ≤ 2 ^ 61 }
+    requires uw_small { unsigned_abs uw ≤ 2 ^ 61 }
+    requires uv_small { unsigned_abs uv ≤ 2 ^ 61 }
     ensures value { result ≡ det u v w }
-    ensures size { unsigned_abs result ≤ 3 * 2 ^ 73 }
+    ensures size { unsigned_abs result ≤ 3 * 2 ^ 91 }
 {
     sum_of_three(vw, u.z as i64, uw, v.z as i64, uv, w.z as i64)
 }
@@ -209,7 +210,7 @@ pub(crate) fn short_det_of_minors(u: Vector, v: Vector, w: Vector, vw: i64, uw: 
     short_sum_of_three(vw, u.z as i64, uw, v.z as i64, uv, w.z as i64)
 }
 
-/// A vector at right angles to two others, their cross product. Each coordinate is at most `2^49`
+/// A vector at right angles to two others, their cross product. Each coordinate is at most `2^61`
 /// in size.
 #[derive(Clone, Copy)]
 pub(crate) struct Normal {
@@ -254,18 +255,18 @@ pub(crate) fn is_zero(n: Normal) -> bool
 /// The sum of three products.
 #[inline]
 fn sum_of_products(a: i64, x: i64, b: i64, y: i64, c: i64, z: i64) -> i128
-    requires a_small { unsigned_abs a ≤ 2 ^ 49 }
-    requires b_small { unsigned_abs b ≤ 2 ^ 49 }
-    requires c_small { unsigned_abs c ≤ 2 ^ 49 }
-    requires x_small { unsigned_abs x ≤ 2 ^ 49 }
-    requires y_small { unsigned_abs y ≤ 2 ^ 49 }
-    requires z_small { unsigned_abs z ≤ 2 ^ 49 }
+    requires a_small { unsigned_abs a ≤ 2 ^ 61 }
+    requires b_small { unsigned_abs b ≤ 2 ^ 61 }
+    requires c_small { unsigned_abs c ≤ 2 ^ 61 }
+    requires x_small { unsigned_abs x ≤ 2 ^ 61 }
+    requires y_small { unsigned_abs y ≤ 2 ^ 61 }
+    requires z_small { unsigned_abs z ≤ 2 ^ 61 }
     ensures { result ≡ a *ℤ x +ℤ b *ℤ y +ℤ c *ℤ z }
 {
     a as i128 * x as i128 + b as i128 * y as i128 + c as i128 * z as i128
 }
 
-/// The scalar product of two cross products. It is at most `3 * 2^98` in size.
+/// The scalar product of two cross products. It is at most `3 * 2^122` in size.
 #[inline]
 pub(crate) fn dot_normals(n: Normal, m: Normal) -> i128
     ensures { result ≡ dot n m }
@@ -287,15 +288,15 @@ pub(crate) fn dot(u: Vector, v: Vector) -> i128
 /// long as one between grid points.
 #[inline]
 fn triple_of(n: i64, o: i64, p: i64, u: i64, v: i64, w: i64, x: i64, y: i64, z: i64) -> i128
-    requires n_small { unsigned_abs n ≤ 2 ^ 49 }
-    requires o_small { unsigned_abs o ≤ 2 ^ 49 }
-    requires p_small { unsigned_abs p ≤ 2 ^ 49 }
-    requires u_small { unsigned_abs u ≤ 2 ^ 24 }
-    requires v_small { unsigned_abs v ≤ 2 ^ 24 }
-    requires w_small { unsigned_abs w ≤ 2 ^ 24 }
-    requires x_small { unsigned_abs x ≤ 2 ^ 26 }
-    requires y_small { unsigned_abs y ≤ 2 ^ 26 }
-    requires z_small { unsigned_abs z ≤ 2 ^ 26 }
+    requires n_small { unsigned_abs n ≤ 2 ^ 61 }
+    requires o_small { unsigned_abs o ≤ 2 ^ 61 }
+    requires p_small { unsigned_abs p ≤ 2 ^ 61 }
+    requires u_small { unsigned_abs u ≤ 2 ^ 30 }
+    requires v_small { unsigned_abs v ≤ 2 ^ 30 }
+    requires w_small { unsigned_abs w ≤ 2 ^ 30 }
+    requires x_small { unsigned_abs x ≤ 2 ^ 32 }
+    requires y_small { unsigned_abs y ≤ 2 ^ 32 }
+    requires z_small { unsigned_abs z ≤ 2 ^ 32 }
     ensures { result ≡ n *ℤ (v *ℤ z -ℤ w *ℤ y) +ℤ o *ℤ (w *ℤ x -ℤ u *ℤ z)
         +ℤ p *ℤ (u *ℤ y -ℤ v *ℤ x) }
 {
@@ -305,12 +306,12 @@ fn triple_of(n: i64, o: i64, p: i64, u: i64, v: i64, w: i64, x: i64, y: i64, z: 
 }
 
 /// The scalar product of a normal and the cross product of two vectors, of which the second may be
-/// four times as long as one between grid points. It is at most `3 * 2^100` in size.
+/// four times as long as one between grid points. It is at most `3 * 2^124` in size.
 #[inline]
 pub(crate) fn triple(n: Normal, u: Vector, x: i64, y: i64, z: i64) -> i128
-    requires x_small { unsigned_abs x ≤ 2 ^ 26 }
-    requires y_small { unsigned_abs y ≤ 2 ^ 26 }
-    requires z_small { unsigned_abs z ≤ 2 ^ 26 }
+    requires x_small { unsigned_abs x ≤ 2 ^ 32 }
+    requires y_small { unsigned_abs y ≤ 2 ^ 32 }
+    requires z_small { unsigned_abs z ≤ 2 ^ 32 }
     ensures { result ≡ dot n (cross u (record { x = x; y = y; z = z })) }
 {
     triple_of(n.x, n.y, n.z, u.x as i64, u.y as i64, u.z as i64, x, y, z)
@@ -319,9 +320,9 @@ pub(crate) fn triple(n: Normal, u: Vector, x: i64, y: i64, z: i64) -> i128
 /// The sign of the first number that is not 0, or of the last one.
 #[inline]
 fn first_of(x: i64, y: i64, z: i64) -> Sign
-    requires x_small { unsigned_abs x ≤ 2 ^ 49 }
-    requires y_small { unsigned_abs y ≤ 2 ^ 49 }
-    requires z_small { unsigned_abs z ≤ 2 ^ 49 }
+    requires x_small { unsigned_abs x ≤ 2 ^ 61 }
+    requires y_small { unsigned_abs y ≤ 2 ^ 61 }
+    requires z_small { unsigned_abs z ≤ 2 ^ 61 }
     ensures { IsFirstSignOf result (record { x = x; y = y; z = z }) }
 {
     if x != 0 {

@@ -20,7 +20,7 @@ struct Minors {
 #[inline(always)]
 fn minors_of(a: Vector, b: Vector, c: Vector, d: Vector) -> Minors
     ensures value { AreMinors a b c d result }
-    ensures size { AreMinorsWithin (2 ^ 49) result }
+    ensures size { AreMinorsWithin (2 ^ 61) result }
     ensures short { IsShort a → IsShort b → IsShort c → IsShort d
         → AreMinorsWithin (2 ^ 41) result }
 {

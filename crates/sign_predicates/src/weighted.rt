@@ -1,11 +1,11 @@
 //! The sphere test of weighted points, with ties by the points' numbers.
 ghost use Rattle.std.specs.Prelude.{◌≡◌, ◌*◌, ◌^◌, ◌≤◌, ◌+ℤ◌, ◌-ℤ◌, ◌*ℤ◌, unsigned_abs};
-ghost use Rattle.sign_predicates.specs.Sphere.{square_length};
+ghost use Rattle.sign_predicates.specs.Sphere.{square_length, HaveOneSign, AreHeights, total_size};
 ghost use Rattle.sign_predicates.specs.Weighted.{IsWeight, AreWeights, in_weighted_sphere};
 ghost use Rattle.sign_predicates.specs.Weighted.{weighted_sum, is_outside_weighted};
 
 use crate::sign::{is_below, vanishes};
-use crate::sphere::sum_of_four;
+use crate::sphere::{Heights, sum_of_four};
 use crate::volumes::wide_volumes;
 use crate::{Corners, GridPoint, Numbers, Vector, from_to, wins_tie};
 
@@ -21,13 +21,13 @@ pub struct FourWeights {
 
 /// The sum of three squares and the difference of two weights.
 fn raised_squares(x: i32, y: i32, z: i32, own: i64, other: i64) -> i64
-    requires x_small { unsigned_abs x ≤ 2 ^ 24 }
-    requires y_small { unsigned_abs y ≤ 2 ^ 24 }
-    requires z_small { unsigned_abs z ≤ 2 ^ 24 }
+    requires x_small { unsigned_abs x ≤ 2 ^ 30 }
+    requires y_small { unsigned_abs y ≤ 2 ^ 30 }
+    requires z_small { unsigned_abs z ≤ 2 ^ 30 }
     requires own_small { IsWeight own }
     requires other_small { IsWeight other }
     ensures value { result ≡ x *ℤ x +ℤ y *ℤ y +ℤ z *ℤ z -ℤ own +ℤ other }
-    ensures size { unsigned_abs result ≤ 7 * 2 ^ 47 }
+    ensures size { unsigned_abs result ≤ 7 * 2 ^ 59 }
 {
     x as i64 * x as i64 + y as i64 * y as i64 + z as i64 * z as i64 - own + other
 }
@@ -38,36 +38,40 @@ fn rise(v: Vector, own: i64, other: i64) -> i64
     requires own_small { IsWeight own }
     requires other_small { IsWeight other }
     ensures value { result ≡ square_length v -ℤ own +ℤ other }
-    ensures size { unsigned_abs result ≤ 7 * 2 ^ 47 }
+    ensures size { unsigned_abs result ≤ 7 * 2 ^ 59 }
 {
     raised_squares(v.x, v.y, v.z, own, other)
 }
 
-/// The sum at the vectors from the point to the corners.
+/// The sizes of four heights together.
+fn total_size(h: Heights) -> u64
+    requires { AreHeights h }
+    ensures { result ≡ total_size h }
+{
+    h.a.unsigned_abs() + h.b.unsigned_abs() + h.c.unsigned_abs() + h.d.unsigned_abs()
+}
+
+/// A number of the sign of the sum at the vectors from the point to the corners.
 fn weighted_sum(a: Vector, b: Vector, c: Vector, d: Vector, w: FourWeights, own: i64) -> i128
     requires weights { AreWeights w }
     requires weight { IsWeight own }
-    ensures { result ≡ weighted_sum a b c d w own }
+    ensures { HaveOneSign result (weighted_sum a b c d w own) }
 {
-    let v = wide_volumes(a, b, c, d);
-    sum_of_four(
-        rise(a, w.a, own),
-        v.a,
-        rise(b, w.b, own),
-        v.b,
-        rise(c, w.c, own),
-        v.c,
-        rise(d, w.d, own),
-        v.d,
-    )
+    let h = Heights {
+        a: rise(a, w.a, own),
+        b: rise(b, w.b, own),
+        c: rise(c, w.c, own),
+        d: rise(d, w.d, own),
+    };
+    sum_of_four(h, total_size(h), wide_volumes(a, b, c, d))
 }
 
-/// The sum whose sign says where the weighted point `p` lies: below 0 outside of the sphere that is
-/// orthogonal to the corners, 0 on it. Its size is at most `84 * 2^120`.
+/// A number whose sign says where the weighted point `p` lies: below 0 outside of the sphere that
+/// is orthogonal to the corners, 0 on it.
 fn in_weighted_sphere(t: Corners, w: FourWeights, p: GridPoint, pw: i64) -> i128
     requires weights { AreWeights w }
     requires weight { IsWeight pw }
-    ensures { result ≡ in_weighted_sphere t w p pw }
+    ensures { HaveOneSign result (in_weighted_sphere t w p pw) }
 {
     weighted_sum(
         from_to(p, t.a),

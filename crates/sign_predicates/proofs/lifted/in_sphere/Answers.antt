@@ -19,6 +19,6 @@ returns c =
     let v = volume_back a.v.c h.c_short ∙ ap (λ (v : Volumes). v.c) is in
     let w = volume_back a.v.d h.d_short ∙ ap (λ (v : Volumes). v.d) is in
     read w128 c.short_sum_of_four.result c.short_sum_of_four.type_inv
-    ∙ c.short_sum_of_four.ensures
+    ∙ c.short_sum_of_four.ensures.value
     ∙ (λ i. p i *ℤ t i -ℤ q i *ℤ u i +ℤ r i *ℤ v i -ℤ s i *ℤ w i)
     ∙ rises_volumes (record { a = a.a; b = a.b; c = a.c; d = a.d }) a.e

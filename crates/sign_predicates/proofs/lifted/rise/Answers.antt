@@ -29,4 +29,4 @@ returns-clause-size c =
     let b = c.b.inside in
     let h = height_small (record { x = a.x; y = a.y; z = a.z }) a.height c.a.invariant in
     let k = height_small (record { x = b.x; y = b.y; z = b.z }) b.height c.b.invariant in
-    subst (λ (z : ℤ). unsigned_abs z ≤ 3 * 2 ^ 48) (sym (rise_back a.height b.height h k)) (omega (arith, ints))
+    subst (λ (z : ℤ). unsigned_abs z ≤ 3 * 2 ^ 60) (sym (rise_back a.height b.height h k)) (omega (arith, ints))

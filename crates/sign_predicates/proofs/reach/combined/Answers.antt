@@ -6,7 +6,7 @@ use mir.Syntax.{w128}
 use Rattle.sign_predicates.proofs.reach.combined.Goals as goal
 
 abbrev bounds : List ℕ
-bounds = 3 * 2 ^ 48 ∷ 2 ^ 49 ∷ 3 * 2 ^ 48 ∷ 2 ^ 49 ∷ 3 * 2 ^ 48 ∷ 2 ^ 49 ∷ []
+bounds = 3 * 2 ^ 60 ∷ 2 ^ 61 ∷ 3 * 2 ^ 60 ∷ 2 ^ 61 ∷ 3 * 2 ^ 60 ∷ 2 ^ 61 ∷ []
 
 pub overflow_sub-result : goal.overflow_sub-result
 overflow_sub-result c = raw_fits_cast w128 w64 bounds (c.args.k ∷ c.args.x ∷ c.args.m ∷ c.args.y ∷ []) two_products (omega arith) tt tt
@@ -20,4 +20,4 @@ returns c =
     let h : AllWithin bounds ρ = omega arith in
     let e : machine w128 (cast w64 ρ) three_products ≡ eval ρ three_products = machine_cast w128 w64 bounds ρ three_products h tt tt in
     let s : unsigned_abs (eval ρ three_products) ≤ bound bounds three_products = eval_within bounds ρ three_products h in
-    record { value = e; size = subst (λ z. unsigned_abs z ≤ 9 * 2 ^ 97) (sym e) (omega (arith, s)) }
+    record { value = e; size = subst (λ z. unsigned_abs z ≤ 9 * 2 ^ 121) (sym e) (omega (arith, s)) }

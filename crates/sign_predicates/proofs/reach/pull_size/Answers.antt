@@ -6,8 +6,8 @@ use Rattle.sign_predicates.proofs.Vectors.{square_back}
 use mir.Syntax.{w128}
 use Rattle.sign_predicates.proofs.reach.pull_size.Goals as goal
 
-normal_back : (z : ℤ) → unsigned_abs z ≤ 2 ^ 49 → to_z w64 (of_z w64 z) ≡ z
-normal_back z h = back w64 (2 ^ 49) z tt h
+normal_back : (z : ℤ) → unsigned_abs z ≤ 2 ^ 61 → to_z w64 (of_z w64 z) ≡ z
+normal_back z h = back w64 (2 ^ 61) z tt h
 
 pub returns : goal.returns
 unfolding pull

@@ -25,7 +25,7 @@ returns-then-reach-gt-WIDTH-clause-value c =
     ∙ ap unsigned_abs (read w128 c.det.result c.det.type_inv ∙ c.det.ensures ∙ (λ s. det (c.from_to-b.ensures s) (c.from_to-c.ensures s) (c.from_to-d.ensures s)) ∙ orient_is t.a t.b t.c t.d) in
     let size : c.pull_size.result ≡ sizes (pull (from_to t.a t.b) (from_to t.a t.c) (from_to t.a t.d)) =
     c.pull_size.ensures ∙ (λ s. sizes (pull (c.from_to-b.ensures s) (c.from_to-c.ensures s) (c.from_to-d.ensures s))) in
-    subst (λ n. 16777216 < n) (λ i. size i / is i) c.if-reach-gt-WIDTH.true
+    subst (λ n. 1073741824 < n) (λ i. size i / is i) c.if-reach-gt-WIDTH.true
 
 pub returns-clause-value : goal.returns-clause-value
 returns-clause-value c =

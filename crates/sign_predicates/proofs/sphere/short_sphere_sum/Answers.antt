@@ -23,6 +23,6 @@ returns c =
     let v = volume_back m.c h.c_short ∙ ap (λ (v : Volumes). v.c) is in
     let w = volume_back m.d h.d_short ∙ ap (λ (v : Volumes). v.d) is in
     read w128 c.short_sum_of_four.result c.short_sum_of_four.type_inv
-    ∙ c.short_sum_of_four.ensures
+    ∙ c.short_sum_of_four.ensures.value
     ∙ (λ i. p i *ℤ t i -ℤ q i *ℤ u i +ℤ r i *ℤ v i -ℤ s i *ℤ w i)
     ∙ sphere_sum_is c.args.a c.args.b c.args.c c.args.d

@@ -19,6 +19,6 @@ returns c =
     let e : machine w64 (cast w32 ρ) two_by_two ≡ eval ρ two_by_two = machine_cast w64 w32 two_by_two_bounds ρ two_by_two h tt tt in
     record {
       value = e;
-      size = subst (λ z. unsigned_abs z ≤ 2 ^ 49) (sym e) (eval_within two_by_two_bounds ρ two_by_two h);
+      size = subst (λ z. unsigned_abs z ≤ 2 ^ 61) (sym e) (eval_within two_by_two_bounds ρ two_by_two h);
       short = λ i j k l. subst (λ z. unsigned_abs z ≤ 2 ^ 41) (sym e) (eval_within short_bounds ρ two_by_two (i, (j, (k, (l, tt)))));
     }

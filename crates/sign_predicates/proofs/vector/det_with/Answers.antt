@@ -17,9 +17,9 @@ returns c =
     let one = read w64 c.det_of_two.result c.det_of_two.type_inv ∙ c.det_of_two.ensures.value ∙ det_of_two_back u.y u.z v.y v.z g.y_small g.z_small h.y_small h.z_small in
     let two = read w64 c.det_of_two-2.result c.det_of_two-2.type_inv ∙ c.det_of_two-2.ensures.value ∙ det_of_two_back u.x u.z v.x v.z g.x_small g.z_small h.x_small h.z_small in
     let three = read w64 c.det_of_two-3.result c.det_of_two-3.type_inv ∙ c.det_of_two-3.ensures.value ∙ det_of_two_back u.x u.y v.x v.y g.x_small g.y_small h.x_small h.y_small in
-    let x : to_z w64 (of_z w64 a.x) ≡ a.x = back w64 (2 ^ 44) a.x tt c.requires.x_small in
-    let y : to_z w64 (of_z w64 a.y) ≡ a.y = back w64 (2 ^ 44) a.y tt c.requires.y_small in
-    let z : to_z w64 (of_z w64 a.z) ≡ a.z = back w64 (2 ^ 44) a.z tt c.requires.z_small in
+    let x : to_z w64 (of_z w64 a.x) ≡ a.x = back w64 (2 ^ 50) a.x tt c.requires.x_small in
+    let y : to_z w64 (of_z w64 a.y) ≡ a.y = back w64 (2 ^ 50) a.y tt c.requires.y_small in
+    let z : to_z w64 (of_z w64 a.z) ≡ a.z = back w64 (2 ^ 50) a.z tt c.requires.z_small in
     let p : Point = record { x = u.x; y = u.y; z = u.z } in
     let q : Point = record { x = v.x; y = v.y; z = v.z } in
     let d = det_along_last p q a.x a.y a.z in

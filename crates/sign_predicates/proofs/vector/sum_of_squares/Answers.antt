@@ -15,4 +15,4 @@ returns c =
     let ρ : List ℤ = c.args.x ∷ c.args.y ∷ c.args.z ∷ [] in
     let h : AllWithin squares_bounds ρ = omega arith in
     let e : machine w64 (cast w32 ρ) three_squares ≡ eval ρ three_squares = machine_cast w64 w32 squares_bounds ρ three_squares h tt tt in
-    record { value = e; size = subst (λ z. unsigned_abs z ≤ 3 * 2 ^ 48) (sym e) (eval_within squares_bounds ρ three_squares h) }
+    record { value = e; size = subst (λ z. unsigned_abs z ≤ 3 * 2 ^ 60) (sym e) (eval_within squares_bounds ρ three_squares h) }

@@ -17,10 +17,10 @@ returns c =
     let ρ : List ℤ = c.args.a ∷ c.args.x ∷ c.args.b ∷ c.args.y ∷ c.args.c ∷ c.args.z ∷ [] in
     let h : AllWithin three_bounds ρ = omega arith in
     let e : machine w128 (cast w64 ρ) three_products ≡ eval ρ three_products = machine_cast w128 w64 three_bounds ρ three_products h tt tt in
-    let β : List ℕ = 2 ^ 49 ∷ unsigned_abs c.args.x ∷ 2 ^ 49 ∷ unsigned_abs c.args.y ∷ 2 ^ 49 ∷ unsigned_abs c.args.z ∷ [] in
+    let β : List ℕ = 2 ^ 61 ∷ unsigned_abs c.args.x ∷ 2 ^ 61 ∷ unsigned_abs c.args.y ∷ 2 ^ 61 ∷ unsigned_abs c.args.z ∷ [] in
     let k : AllWithin β ρ = omega arith in
     let s : unsigned_abs (eval ρ three_products) ≤ bound β three_products = eval_within β ρ three_products k in
     record {
       value = e;
-      size = subst (λ z. unsigned_abs z ≤ 2 ^ 49 * (unsigned_abs c.args.x + unsigned_abs c.args.y + unsigned_abs c.args.z)) (sym e) (omega (arith, s));
+      size = subst (λ z. unsigned_abs z ≤ 2 ^ 61 * (unsigned_abs c.args.x + unsigned_abs c.args.y + unsigned_abs c.args.z)) (sym e) (omega (arith, s));
     }

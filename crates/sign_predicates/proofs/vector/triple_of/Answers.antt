@@ -23,7 +23,7 @@ abbrev third : Expr
 third = mul (var 2) minor_xy
 
 abbrev bounds : List ℕ
-bounds = 2 ^ 49 ∷ 2 ^ 49 ∷ 2 ^ 49 ∷ 2 ^ 24 ∷ 2 ^ 24 ∷ 2 ^ 24 ∷ 2 ^ 26 ∷ 2 ^ 26 ∷ 2 ^ 26 ∷ []
+bounds = 2 ^ 61 ∷ 2 ^ 61 ∷ 2 ^ 61 ∷ 2 ^ 30 ∷ 2 ^ 30 ∷ 2 ^ 30 ∷ 2 ^ 32 ∷ 2 ^ 32 ∷ 2 ^ 32 ∷ []
 
 pub overflow_sub-result : goal.overflow_sub-result
 overflow_sub-result c = raw_fits_cast w128 w64 bounds (c.args.n ∷ c.args.o ∷ c.args.p ∷ c.args.u ∷ c.args.v ∷ c.args.w ∷ c.args.x ∷ c.args.y ∷ c.args.z ∷ []) minor_yz (omega arith) tt tt

@@ -8,8 +8,8 @@ use Rattle.sign_predicates.proofs.weighted.raised_squares.Goals as goal
 abbrev read : ℤ → ℤ
 read z = to_z w32 (of_z w32 z)
 
-small_back : (z : ℤ) → unsigned_abs z ≤ 2 ^ 24 → read z ≡ z
-small_back z h = back w32 (2 ^ 24) z tt h
+small_back : (z : ℤ) → unsigned_abs z ≤ 2 ^ 30 → read z ≡ z
+small_back z h = back w32 (2 ^ 30) z tt h
 
 pub overflow_add-result : goal.overflow_add-result
 overflow_add-result c =
@@ -39,4 +39,4 @@ returns c =
     let e : machine w64 ρ raised ≡ eval σ raised =
     machine_at w64 rise_bounds ρ σ raised
     (small_back c.args.x c.requires.x_small, (small_back c.args.y c.requires.y_small, (small_back c.args.z c.requires.z_small, (refl, (refl, tt))))) h tt in
-    record { value = e; size = subst (λ z. unsigned_abs z ≤ 7 * 2 ^ 47) (sym e) (eval_within rise_bounds σ raised h) }
+    record { value = e; size = subst (λ z. unsigned_abs z ≤ 7 * 2 ^ 59) (sym e) (omega (arith, eval_within rise_bounds σ raised h)) }
