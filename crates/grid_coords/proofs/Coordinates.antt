@@ -25,11 +25,11 @@ pub sign_back : (z value : ℤ) (b : Bool) → unsigned_abs z ≤ 10 ^ 36 → z 
 sign_back z value b small same is = sym (ap (λ (y : ℤ). int_lt y (pos 0)) (back w128 (10 ^ 36) z tt small ∙ same)) ∙ is
 
 -- a size with its sign
-pub size_above : (n : ℕ) (size : ℤ) → size ≡ pos n → unsigned_abs size ≤ 8388609000000 → to_z w64 (of_z w64 size) ≡ signed false n
-size_above n size is small = back w64 8388609000000 size tt small ∙ is
+pub size_above : (n : ℕ) (size : ℤ) → size ≡ pos n → unsigned_abs size ≤ 536870913000000 → to_z w64 (of_z w64 size) ≡ signed false n
+size_above n size is small = back w64 536870913000000 size tt small ∙ is
 
-pub size_below : (n : ℕ) (size : ℤ) → size ≡ pos n → unsigned_abs size ≤ 8388609000000 → to_z w64 (of_z w64 (pos 0 -ℤ to_z w64 (of_z w64 size))) ≡ signed true n
+pub size_below : (n : ℕ) (size : ℤ) → size ≡ pos n → unsigned_abs size ≤ 536870913000000 → to_z w64 (of_z w64 (pos 0 -ℤ to_z w64 (of_z w64 size))) ≡ signed true n
 size_below n size is small =
-    let low : unsigned_abs (pos 0 -ℤ pos n) ≤ 8388609000000 = omega (arith, ints) in
+    let low : unsigned_abs (pos 0 -ℤ pos n) ≤ 536870913000000 = omega (arith, ints) in
     let turned : pos 0 -ℤ pos n ≡ neg_ℤ (pos n) = omega (arith, ints) in
-    ap (λ (z : ℤ). to_z w64 (of_z w64 (pos 0 -ℤ z))) (size_above n size is small) ∙ back w64 8388609000000 (pos 0 -ℤ pos n) tt low ∙ turned
+    ap (λ (z : ℤ). to_z w64 (of_z w64 (pos 0 -ℤ z))) (size_above n size is small) ∙ back w64 536870913000000 (pos 0 -ℤ pos n) tt low ∙ turned

@@ -41,17 +41,17 @@ pub greatest_all : (decimals : ℕ) (ps : List DecimalPoint) (i greatest : ℕ) 
 unfolding greatest_size
 greatest_all decimals ps i greatest le = let e : greatest_size decimals (drop i ps) ≡ 0 = at_drop_all (greatest_size decimals) ps i le in omega arith
 
-pub first_more : (decimals : ℕ) (ps : List DecimalPoint) (i : ℕ) (p : DecimalPoint) → i < length ps → p ≡ get_or ps i p → size_of decimals p ≤ limit → first_over decimals (drop i ps) ≡ first_over decimals (drop (i + 1) ps)
+pub first_more : (wide : ℕ) (decimals : ℕ) (ps : List DecimalPoint) (i : ℕ) (p : DecimalPoint) → i < length ps → p ≡ get_or ps i p → size_of decimals p ≤ wide → first_over wide decimals (drop i ps) ≡ first_over wide decimals (drop (i + 1) ps)
 unfolding first_over
-first_more decimals ps i p lt is small = ap (first_over decimals) (from_here ps i p lt is) ∙ cond-false _ _ _ (le-ltb limit (size_of decimals p) small)
+first_more wide decimals ps i p lt is small = ap (first_over wide decimals) (from_here ps i p lt is) ∙ cond-false _ _ _ (le-ltb wide (size_of decimals p) small)
 
-pub first_here : (decimals : ℕ) (ps : List DecimalPoint) (i : ℕ) (p : DecimalPoint) → i < length ps → p ≡ get_or ps i p → limit < size_of decimals p → first_over decimals (drop i ps) ≡ Some p
+pub first_here : (wide : ℕ) (decimals : ℕ) (ps : List DecimalPoint) (i : ℕ) (p : DecimalPoint) → i < length ps → p ≡ get_or ps i p → wide < size_of decimals p → first_over wide decimals (drop i ps) ≡ Some p
 unfolding first_over
-first_here decimals ps i p lt is over = ap (first_over decimals) (from_here ps i p lt is) ∙ cond-true _ _ _ (lt-ltb limit (size_of decimals p) over)
+first_here wide decimals ps i p lt is over = ap (first_over wide decimals) (from_here ps i p lt is) ∙ cond-true _ _ _ (lt-ltb wide (size_of decimals p) over)
 
-pub first_all : (decimals : ℕ) (ps : List DecimalPoint) (i : ℕ) → length ps ≤ i → first_over decimals (drop i ps) ≡ None
+pub first_all : (wide : ℕ) (decimals : ℕ) (ps : List DecimalPoint) (i : ℕ) → length ps ≤ i → first_over wide decimals (drop i ps) ≡ None
 unfolding first_over
-first_all decimals ps i le = at_drop_all (first_over decimals) ps i le
+first_all wide decimals ps i le = at_drop_all (first_over wide decimals) ps i le
 
 -- ---- the largest number of halvings
 
@@ -81,64 +81,67 @@ one_more p most =
     last true = omega arith
     last false = refl
 
-none_halved : (size : ℕ) → halvings_for 0 size ≡ 0
+none_halved : (wide : ℕ) (size : ℕ) → halvings_for wide 0 size ≡ 0
 unfolding halvings_for largest
-none_halved size = at (fits size 0)
+none_halved wide size = at (fits wide size 0)
   where
     at : (b : Bool) → largest (cond b (0 ∷ []) []) ≡ 0
     at true = refl
     at false = refl
 
-once_more : (most size : ℕ) → halvings_for (most + 1) size ≡ max (halvings_for most size) (cond (fits size (most + 1)) (most + 1) 0)
+once_more : (wide : ℕ) (most size : ℕ) → halvings_for wide (most + 1) size ≡ max (halvings_for wide most size) (cond (fits wide size (most + 1)) (most + 1) 0)
 unfolding halvings_for
-once_more most size = one_more (fits size) most
+once_more wide most size = one_more (fits wide size) most
 
 cond_le : (b : Bool) (n : ℕ) → cond b n 0 ≤ n
 cond_le true n = omega arith
 cond_le false n = omega arith
 
-pub halvings_le : (most size : ℕ) → halvings_for most size ≤ most
-halvings_le zero size = omega (arith, none_halved size)
-halvings_le (suc most) size =
+pub halvings_le : (wide : ℕ) (most size : ℕ) → halvings_for wide most size ≤ most
+halvings_le wide zero size = omega (arith, none_halved wide size)
+halvings_le wide (suc most) size =
     let e : suc most ≡ most + 1 = omega arith in
-    rw e (omega (arith, once_more most size, halvings_le most size, cond_le (fits size (most + 1)) (most + 1)))
+    rw e (omega (arith, once_more wide most size, halvings_le wide most size, cond_le (fits wide size (most + 1)) (most + 1)))
 
 -- with one more halving allowed, that many where the size still fits, and else as many as before
-halvings_more : (most size : ℕ) → halvings_for (most + 1) size ≡ cond (fits size (most + 1)) (most + 1) (halvings_for most size)
-halvings_more most size = once_more most size ∙ by_test (fits size (most + 1)) (halvings_for most size) (halvings_le most size)
+halvings_more : (wide : ℕ) (most size : ℕ) → halvings_for wide (most + 1) size ≡ cond (fits wide size (most + 1)) (most + 1) (halvings_for wide most size)
+halvings_more wide most size = once_more wide most size ∙ by_test (fits wide size (most + 1)) (halvings_for wide most size) (halvings_le wide most size)
   where
     by_test : (b : Bool) (before : ℕ) → before ≤ most → max before (cond b (most + 1) 0) ≡ cond b (most + 1) before
     by_test true before le = omega arith
     by_test false before le = omega arith
 
 -- one halving less where there are too many
-pub halvings_less : (halvings size : ℕ) → 0 < halvings → limit < size * 2 ^ halvings → halvings_for (halvings - 1) size ≡ halvings_for halvings size
-halvings_less zero size some over = absurd (omega arith)
-halvings_less (suc halvings) size some over =
+pub halvings_less : (wide : ℕ) (halvings size : ℕ) → 0 < halvings → wide < size * 2 ^ halvings → halvings_for wide (halvings - 1) size ≡ halvings_for wide halvings size
+halvings_less wide zero size some over = absurd (omega arith)
+halvings_less wide (suc halvings) size some over =
     let e : suc halvings ≡ halvings + 1 = omega arith in
     let less : suc halvings - 1 ≡ halvings = omega arith in
-    let too_large : limit < size * 2 ^ (halvings + 1) = rw e at over in
-    rw (less, e) (sym (halvings_more halvings size ∙ cond-false _ _ _ (lt-leb (size * 2 ^ (halvings + 1)) limit too_large)))
+    let too_large : wide < size * 2 ^ (halvings + 1) = rw e at over in
+    rw (less, e) (sym (halvings_more wide halvings size ∙ cond-false _ _ _ (lt-leb (size * 2 ^ (halvings + 1)) wide too_large)))
 
-pub halvings_found : (halvings size : ℕ) → size * 2 ^ halvings ≤ limit → halvings_for halvings size ≡ halvings
-halvings_found zero size small = none_halved size
-halvings_found (suc halvings) size small =
+pub halvings_found : (wide : ℕ) (halvings size : ℕ) → size * 2 ^ halvings ≤ wide → halvings_for wide halvings size ≡ halvings
+halvings_found wide zero size small = none_halved wide size
+halvings_found wide (suc halvings) size small =
     let e : suc halvings ≡ halvings + 1 = omega arith in
-    let fits_so : size * 2 ^ (halvings + 1) ≤ limit = rw e at small in
-    rw e (halvings_more halvings size ∙ cond-true _ _ _ (le-leb (size * 2 ^ (halvings + 1)) limit fits_so))
+    let fits_so : size * 2 ^ (halvings + 1) ≤ wide = rw e at small in
+    rw e (halvings_more wide halvings size ∙ cond-true _ _ _ (le-leb (size * 2 ^ (halvings + 1)) wide fits_so))
 
-pub halvings_none : (halvings size : ℕ) → halvings ≡ 0 → halvings_for halvings size ≡ 0
-halvings_none halvings size none = omega (arith, halvings_le halvings size, none)
+pub halvings_none : (wide : ℕ) (halvings size : ℕ) → halvings ≡ 0 → halvings_for wide halvings size ≡ 0
+halvings_none wide halvings size none = omega (arith, halvings_le wide halvings size, none)
 
 -- the size still fits with the halvings
-pub halvings_fit : (most size : ℕ) → size ≤ limit → size * 2 ^ halvings_for most size ≤ limit
-halvings_fit zero size small = rw (none_halved size) (omega arith)
-halvings_fit (suc most) size small =
+pub halvings_fit : (wide : ℕ) (most size : ℕ) → size ≤ wide → size * 2 ^ halvings_for wide most size ≤ wide
+halvings_fit wide zero size small = rw (none_halved wide size) (omega arith)
+halvings_fit wide (suc most) size small =
     let e : suc most ≡ most + 1 = omega arith in
-    rw (e, halvings_more most size) (elim (cases_lt limit (size * 2 ^ (most + 1))) [
-      | inl over ↦ rw (lt-leb (size * 2 ^ (most + 1)) limit over) (halvings_fit most size small)
-      | inr le ↦ rw (le-leb (size * 2 ^ (most + 1)) limit le) le
+    rw (e, halvings_more wide most size) (elim (cases_lt wide (size * 2 ^ (most + 1))) [
+      | inl over ↦ rw (lt-leb (size * 2 ^ (most + 1)) wide over) (halvings_fit wide most size small)
+      | inr le ↦ rw (le-leb (size * 2 ^ (most + 1)) wide le) le
     ])
+
+pub fits_limit : (n wide : ℕ) → n ≤ wide → wide ≤ limit → n ≤ limit
+fits_limit n wide small low = omega arith
 
 -- what was found, or the point that was too large
 pub over_same : {X Y : Type 0} (o : Option DecimalPoint) (x : X) (y : Y) (r : Range) → unless_over o x ≡ Err r → unless_over o y ≡ Err r
@@ -154,11 +157,14 @@ units_halved : (decimals halvings : ℕ) (d : Scaled) → units decimals halving
 unfolding units
 units_halved decimals halvings d = let e : unsigned_abs d.value * 10 ^ (decimals - d.scale) * 2 ^ 0 ≡ unsigned_abs d.value * 10 ^ (decimals - d.scale) = omega arith in rw e refl
 
-number_on : (decimals halvings size : ℕ) (d : Scaled) → d.scale ≤ decimals → units decimals 0 d ≤ size → size * 2 ^ halvings ≤ limit → IsDecimalOnGrid (record { decimals = decimals; halvings = halvings }) d
-number_on decimals halvings size d whole small fits =
+pub units_small : (decimals halvings size wide : ℕ) (d : Scaled) → units decimals 0 d ≤ size → size * 2 ^ halvings ≤ wide → units decimals halvings d ≤ wide
+units_small decimals halvings size wide d small fits =
     let e = units_halved decimals halvings d in
     let le : units decimals 0 d * 2 ^ halvings ≤ size * 2 ^ halvings = mul-le-mul_right (2 ^ halvings) small in
-    record { whole = whole; small = omega arith }
+    omega arith
+
+number_on : (decimals halvings size : ℕ) (d : Scaled) → d.scale ≤ decimals → units decimals 0 d ≤ size → size * 2 ^ halvings ≤ limit → IsDecimalOnGrid (record { decimals = decimals; halvings = halvings }) d
+number_on decimals halvings size d whole small fits = record { whole = whole; small = units_small decimals halvings size limit d small fits }
 
 pub point_on : (decimals halvings size : ℕ) (p : DecimalPoint) → decimals_of p ≤ decimals → size_of decimals p ≤ size → size * 2 ^ halvings ≤ limit → IsPointOnGrid (record { decimals = decimals; halvings = halvings }) p
 point_on decimals halvings size p whole small fits = record {

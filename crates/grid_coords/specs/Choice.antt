@@ -4,7 +4,7 @@ use Rattle.std.specs.List.{range_with_len}
 use Rattle.grid_coords.specs.declared.grid.Grid.{Grid}
 use Rattle.grid_coords.specs.declared.grid.Range.{Range}
 use Rattle.grid_coords.specs.declared.points.DecimalPoint.{DecimalPoint}
-use Rattle.grid_coords.specs.Units.{limit, units}
+use Rattle.grid_coords.specs.Units.{units}
 
 -- the most decimals of a coordinate
 abbrev pub decimals_of : DecimalPoint → ℕ
@@ -22,16 +22,16 @@ unfoldable pub greatest_size : ℕ → List DecimalPoint → ℕ
 greatest_size decimals [] = 0
 greatest_size decimals (p ∷ ps) = max (size_of decimals p) (greatest_size decimals ps)
 
--- the first point with a coordinate over 2^23 units
-abbrev pub is_over : ℕ → DecimalPoint → Bool
-is_over decimals p = nat_lt limit (size_of decimals p)
+-- the first point with a coordinate over so many units
+abbrev pub is_over : ℕ → ℕ → DecimalPoint → Bool
+is_over wide decimals p = nat_lt wide (size_of decimals p)
 
-unfoldable pub first_over : ℕ → List DecimalPoint → Option DecimalPoint
-first_over decimals ps = find (is_over decimals) ps
+unfoldable pub first_over : ℕ → ℕ → List DecimalPoint → Option DecimalPoint
+first_over wide decimals ps = find (is_over wide decimals) ps
 
--- with so many halvings a coordinate of this size is at most 2^23
-abbrev pub fits : ℕ → ℕ → Bool
-fits size halvings = nat_le (size * 2 ^ halvings) limit
+-- with so many halvings a coordinate of this size is at most so wide
+abbrev pub fits : ℕ → ℕ → ℕ → Bool
+fits wide size halvings = nat_le (size * 2 ^ halvings) wide
 
 abbrev pub numbers_up_to : ℕ → List ℕ
 numbers_up_to most = range_with_len 0 (most + 1)
@@ -42,19 +42,20 @@ largest [] = 0
 largest (n ∷ ns) = max n (largest ns)
 
 -- how often the unit is halved: the largest number up to `most` with which each coordinate fits, where this is the greatest size of one
-unfoldable pub halvings_for : ℕ → ℕ → ℕ
-halvings_for most size = largest (filter (fits size) (numbers_up_to most))
+unfoldable pub halvings_for : ℕ → ℕ → ℕ → ℕ
+halvings_for wide most size = largest (filter (fits wide size) (numbers_up_to most))
 
 abbrev pub most_halvings : ℕ
-most_halvings = 12
+most_halvings = 18
 
 -- what is found where no point is too large, or the line of that point
 abbrev pub unless_over : {X : Type 0} → Option DecimalPoint → X → Result X Range
 unless_over None x = Ok x
 unless_over (Some p) x = Err (record { line = p.line })
 
-unfoldable pub grid_of : ℕ → List DecimalPoint → Result Grid Range
-grid_of most ps =
+-- where a coordinate may be so many units in size
+unfoldable pub grid_of : ℕ → ℕ → List DecimalPoint → Result Grid Range
+grid_of wide most ps =
     let decimals = most_decimals ps in
-    let halvings = halvings_for (min most_halvings most) (greatest_size decimals ps) in
-    unless_over (first_over decimals ps) (record { decimals = decimals; halvings = halvings })
+    let halvings = halvings_for wide (min most_halvings most) (greatest_size decimals ps) in
+    unless_over (first_over wide decimals ps) (record { decimals = decimals; halvings = halvings })

@@ -7,9 +7,9 @@ use Rattle.grid_coords.specs.declared.grid.Grid.{Grid}
 use Rattle.grid_coords.specs.declared.points.DecimalPoint.{DecimalPoint}
 use Rattle.grid_coords.specs.Rounding.{rounded}
 
--- the greatest size of a grid coordinate, 2^23
+-- the greatest size of a grid coordinate, 2^29
 abbrev pub limit : ℕ
-limit = 8388608
+limit = 536870912
 
 -- the number, where it is at most this
 abbrev pub if_at_most : ℕ → ℕ → Option ℕ
@@ -19,7 +19,7 @@ if_at_most most n = if nat_le n most then Some n else None
 unfoldable pub units : ℕ → ℕ → Scaled → ℕ
 units decimals halvings d = unsigned_abs d.value * 10 ^ (decimals - d.scale) * 2 ^ halvings
 
--- the number is a whole number of grid units, and at most 2^23 of them in size
+-- the number is a whole number of grid units, and at most 2^29 of them in size
 pub record IsDecimalOnGrid (g : Grid) (d : Scaled) : Type 0 where
   pub whole : d.scale ≤ g.decimals
   pub small : units g.decimals g.halvings d ≤ limit
@@ -41,7 +41,7 @@ grid_coordinate g d = signed (is_negative d) (units g.decimals g.halvings d)
 abbrev pub grid_point : Grid → DecimalPoint → Point
 grid_point g p = record { x = grid_coordinate g p.x; y = grid_coordinate g p.y; z = grid_coordinate g p.z }
 
--- a size in millionths of a grid unit, and 2^23 + 1 grid units where it is over 2^23 of them
+-- a size in millionths of a grid unit, and 2^29 + 1 grid units where it is over 2^29 of them
 abbrev pub capped : ℕ → ℕ
 capped n = if nat_le n (limit * 1000000) then n else (limit + 1) * 1000000
 

@@ -7,10 +7,10 @@ use sign_predicates::GridPoint;
 
 /// Half the sum, or None where it is odd.
 fn half_sum(a: i32, b: i32) -> Option<i32>
-    requires a_small { unsigned_abs a ≤ 8388608 }
-    requires b_small { unsigned_abs b ≤ 8388608 }
+    requires a_small { unsigned_abs a ≤ 536870912 }
+    requires b_small { unsigned_abs b ≤ 536870912 }
     ensures { MatchOption result ((h : ℤ) → ¬ (h +ℤ h ≡ a +ℤ b))
-        (λ h. (h +ℤ h ≡ a +ℤ b) × (unsigned_abs h ≤ 8388608)) }
+        (λ h. (h +ℤ h ≡ a +ℤ b) × (unsigned_abs h ≤ 536870912)) }
 {
     let sum = a + b;
     if sum % 2 != 0 {

@@ -23,7 +23,7 @@ fn to_coordinate(grid: &Grid, d: &Decimal) -> i32
     if d.value < 0 { -size } else { size }
 }
 
-/// The point in grid units, where its coordinates are whole numbers of them, at most 2^23 in size.
+/// The point in grid units, where its coordinates are whole numbers of them, at most 2^29 in size.
 pub fn to_grid(grid: &Grid, p: &DecimalPoint) -> GridPoint
     requires { IsPointOnGrid grid.now p.now }
     ensures { result ≡ grid_point grid.now p.now }
@@ -35,17 +35,17 @@ pub fn to_grid(grid: &Grid, p: &DecimalPoint) -> GridPoint
     }
 }
 
-/// The size of the number in parts of a unit, at most 2^23 + 1 units.
+/// The size of the number in parts of a unit, at most 2^29 + 1 units.
 fn parts_of(d: &Decimal, decimals: u64, halvings: u32) -> i64
     ensures value { result ≡ pos (capped (units decimals halvings d.now)) }
-    ensures size { unsigned_abs result ≤ 8388609000000 }
+    ensures size { unsigned_abs result ≤ 536870913000000 }
 {
     units_within(d, decimals, halvings, LIMIT * PARTS).unwrap_or((LIMIT + 1) * PARTS) as i64
 }
 
 fn to_parts(grid: &Grid, d: &Decimal) -> i64
     ensures value { result ≡ rational_coordinate grid.now d.now }
-    ensures size { unsigned_abs result ≤ 8388609000000 }
+    ensures size { unsigned_abs result ≤ 536870913000000 }
 {
     let rounded = round_to(d, grid.decimals.saturating_add(6).min(d.scale));
     let size = parts_of(&rounded, u64::from(grid.decimals) + 6, grid.halvings);
@@ -53,8 +53,8 @@ fn to_parts(grid: &Grid, d: &Decimal) -> i64
 }
 
 /// The point over the denominator 10^6 of grid units. Each coordinate is first rounded to six
-/// decimals more than the grid has, halves away from zero; a coordinate that is then over 2^23 grid
-/// units in size becomes 2^23 + 1 with its sign.
+/// decimals more than the grid has, halves away from zero; a coordinate that is then over 2^29 grid
+/// units in size becomes 2^29 + 1 with its sign.
 pub fn to_rat(grid: &Grid, p: &DecimalPoint) -> RatPoint
     ensures { result ≡ rational_point grid.now p.now }
 {

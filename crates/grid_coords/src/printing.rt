@@ -8,16 +8,17 @@ use crate::Grid;
 use tet_ports::{Bytes, NoMemory};
 use tet_text::{lowest, print_scaled};
 
-fn with_fives(size: u32, halvings: u32) -> u64
-    requires { halvings ≤ 12 }
-    ensures { result ≡ size * 5 ^ halvings }
+fn with_fives(size: u32, halvings: u32) -> u128
+    requires { halvings ≤ 18 }
+    ensures value { result ≡ size * 5 ^ halvings }
+    ensures small { result ≤ 2 ^ 32 * 5 ^ 18 }
 {
-    u64::from(size) * 5u64.pow(halvings)
+    u128::from(size) * 5u128.pow(halvings)
 }
 
 /// Appends the exact decimal that so many grid units are, with no trailing zero in the fraction.
 pub fn print_grid(grid: &Grid, coordinate: i32, out: &mut Bytes) -> Result<(), NoMemory>
-    requires { grid.now.halvings ≤ 12 }
+    requires { grid.now.halvings ≤ 18 }
     ensures ok { OnOk result (out.new ≡ out.old ++ grid_text grid.now coordinate) }
     ensures err { OnErr result (out.new ≡ out.old) }
 
@@ -26,6 +27,6 @@ pub fn print_grid(grid: &Grid, coordinate: i32, out: &mut Bytes) -> Result<(), N
 {
     let size = with_fives(coordinate.unsigned_abs(), grid.halvings);
     let scale = u64::from(grid.decimals) + u64::from(grid.halvings);
-    let (size, scale) = lowest(u128::from(size), scale);
+    let (size, scale) = lowest(size, scale);
     print_scaled(coordinate < 0, size, scale, out)
 }

@@ -5,8 +5,8 @@ ghost use Rattle.grid_coords.specs.Units.{if_at_most, units};
 
 use tet_text::Decimal;
 
-/// The greatest size of a grid coordinate, 2^23.
-pub(crate) const LIMIT: u64 = 8_388_608;
+/// The greatest size of a grid coordinate, 2^29.
+pub(crate) const LIMIT: u64 = 536_870_912;
 
 /// The number times `base`^`steps`, or None where that is over `most`.
 fn raised(number: u128, base: u32, steps: u64, most: u64) -> Option<u64>

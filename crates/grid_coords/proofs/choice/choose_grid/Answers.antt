@@ -1,7 +1,7 @@
 use Rattle.std.proofs.Common.{sym, ap, ◌∙◌, arith, refl}
 use Rattle.std.proofs.lemmas.Result.{err_from_is_err_and}
 use Rattle.grid_coords.specs.Choice.{most_decimals, grid_of}
-use Rattle.grid_coords.proofs.Sizes.{over_same, none_over, halvings_le, halvings_fit, points_on}
+use Rattle.grid_coords.proofs.Sizes.{over_same, none_over, halvings_le, halvings_fit, fits_limit, points_on}
 use Rattle.grid_coords.proofs.choice.choose_grid.Goals as goal
 
 pub returns-in_err-size-clause-value : goal.returns-in_err-size-clause-value
@@ -30,7 +30,7 @@ returns-clause-on_grid c =
     let none = none_over _ _ _ (sym found) in
     points_on c.args.points.now c.most_decimals-decimals.result c.halvings_for-halvings.result c.in_ok-size.size
     (c.most_decimals-decimals.ensures ∙ ap most_decimals c.as_slice.ensures) none.1
-    (rw c.halvings_for-halvings.ensures (halvings_fit c.min.result c.in_ok-size.size c.in_ok-size.ensures.small))
+    (rw c.halvings_for-halvings.ensures (fits_limit _ c.args.wide (halvings_fit c.args.wide c.min.result c.in_ok-size.size c.in_ok-size.ensures.small) c.requires))
 
 pub returns-clause-halvings : goal.returns-clause-halvings
-returns-clause-halvings c = omega (arith, c.halvings_for-halvings.ensures, halvings_le c.min.result c.in_ok-size.size)
+returns-clause-halvings c = omega (arith, c.halvings_for-halvings.ensures, halvings_le c.args.wide c.min.result c.in_ok-size.size)
