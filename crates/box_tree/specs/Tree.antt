@@ -2,22 +2,28 @@
 use Rattle.std.specs.Prelude.{◌≡◌, ℕ, ◌<◌, ◌≤◌, List, length, Any, Contains, All, slice_index_or}
 use Rattle.box_tree.specs.declared.bounds.Bounds.{Bounds}
 use Rattle.box_tree.specs.declared.tree.Boxed.{Boxed}
+use Rattle.box_tree.specs.declared.tree.Keyed.{Keyed}
 use Rattle.box_tree.specs.declared.tree.Node.{Node}
 use Rattle.box_tree.specs.Bounds.{IsBoxWithin, AreBoundsApart}
 
+-- these are the first boxes, with their places along the curve
+pub record AreKeyed (boxes : List Boxed) (count : ℕ) (keyed : List Keyed) : Type 0 where
+  pub counted : length keyed ≡ count
+  pub each : (i : ℕ) (d : Keyed) (e : Boxed) → i < count → (slice_index_or keyed i d).own ≡ slice_index_or boxes i e
+
 -- the box holds those at the places from first to before past
-abbrev pub HoldsFrom : List Boxed → ℕ → ℕ → Bounds → Type 0
-HoldsFrom boxes first past wide = (j : ℕ) (d : Boxed) → first ≤ j → j < past → IsBoxWithin (slice_index_or boxes j d).bounds wide
+abbrev pub HoldsFrom : List Keyed → ℕ → ℕ → Bounds → Type 0
+HoldsFrom boxes first past wide = (j : ℕ) (d : Keyed) → first ≤ j → j < past → IsBoxWithin (slice_index_or boxes j d).own.bounds wide
 
 -- the node is that of the box at this place, and its wide box holds those of the places before its end
-pub record IsNode (boxes : List Boxed) (i : ℕ) (n : Node) : Type 0 where
-  pub own : (d : Boxed) → slice_index_or boxes i d ≡ n.own
+pub record IsNode (boxes : List Keyed) (i : ℕ) (n : Node) : Type 0 where
+  pub own : (d : Keyed) → (slice_index_or boxes i d).own ≡ n.own
   pub onward : i < n.past
   pub there : n.past ≤ length boxes
   pub holds : HoldsFrom boxes i n.past n.wide
 
 -- these are the nodes of the first boxes
-pub record AreNodes (boxes : List Boxed) (count : ℕ) (nodes : List Node) : Type 0 where
+pub record AreNodes (boxes : List Keyed) (count : ℕ) (nodes : List Node) : Type 0 where
   pub counted : length nodes ≡ count
   pub each : (i : ℕ) (d : Node) → i < count → IsNode boxes i (slice_index_or nodes i d)
 

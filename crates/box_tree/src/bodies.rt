@@ -5,7 +5,7 @@ ghost use Rattle.box_tree.specs.Bodies.{IsPointTree, IsRowTree, IsTriangleTree};
 ghost use Rattle.geo_laws.specs.Delaunay.{IsOn};
 
 use crate::bounds::{point_bounds, tet_bounds, triangle_bounds};
-use crate::tree::{Tree, tree_of, with_key};
+use crate::tree::{Tree, box_of, tree_of};
 use geo_laws::{FacetTriangles, Points, TetList};
 use std::alloc::Global;
 use tet_ports::{Items, NoMemory};
@@ -16,7 +16,7 @@ pub fn point_tree(alloc: Global, points: &Points) -> Result<Tree, NoMemory>
 {
     let mut boxes = Items::with_capacity(alloc, points.len())?;
     for place in 0..points.len() {
-        boxes.push(with_key(point_bounds(points.at(place)), place))?;
+        boxes.push(box_of(point_bounds(points.at(place)), place))?;
     }
     tree_of(alloc, boxes)
 }
@@ -32,7 +32,7 @@ pub fn triangle_tree(
 {
     let mut boxes = Items::with_capacity(alloc, triangles.len())?;
     for place in 0..triangles.len() {
-        boxes.push(with_key(triangle_bounds(points, triangles.at(place)), place))?;
+        boxes.push(box_of(triangle_bounds(points, triangles.at(place)), place))?;
     }
     tree_of(alloc, boxes)
 }
@@ -44,7 +44,7 @@ pub fn row_tree(alloc: Global, points: &Points, rows: &TetList) -> Result<Tree, 
 {
     let mut boxes = Items::with_capacity(alloc, rows.len())?;
     for place in 0..rows.len() {
-        boxes.push(with_key(tet_bounds(points, rows.at(place)), place))?;
+        boxes.push(box_of(tet_bounds(points, rows.at(place)), place))?;
     }
     tree_of(alloc, boxes)
 }

@@ -4,10 +4,11 @@
 
 mod bodies;
 mod bounds;
+mod curve;
 mod tree;
 
 pub use bodies::{point_tree, row_tree, triangle_tree};
 pub use bounds::{
     Bounds, Interval, are_bounds_apart, joined, point_bounds, tet_bounds, triangle_bounds,
 };
-pub use tree::{Boxed, Node, Tree, next_meeting, past_of, tree_of, with_key};
+pub use tree::{Boxed, Node, Tree, box_of, next_meeting, past_of, tree_of};

@@ -1,20 +1,27 @@
 //! A tree of boxes in the order of a space-filling curve, in which those that meet a box are found
 //! without looking at all.
-ghost use Rattle.std.specs.Prelude.{◌≡◌, ℕ, ◌+◌, ◌^◌, ◌<◌, ◌≤◌, length, IfOk, slice_index_or};
+ghost use Rattle.std.specs.Prelude.{◌≡◌, ℕ, ◌+◌, ◌<◌, ◌≤◌, length, IfOk, slice_index_or};
 ghost use Rattle.box_tree.specs.Bounds.{IsBoxWithin, AreBoundsApart};
-ghost use Rattle.box_tree.specs.Tree.{HoldsFrom, AreNodes, IsTree, IsTreeOf, AreApartBetween};
+ghost use Rattle.box_tree.specs.Tree.{AreKeyed, HoldsFrom, AreNodes};
+ghost use Rattle.box_tree.specs.Tree.{IsTree, IsTreeOf, AreApartBetween};
 
 use crate::bounds::{Bounds, Interval, are_bounds_apart, joined};
+use crate::curve::{frame_of, on_curve};
 use std::alloc::Global;
 use tet_ports::{Items, NoMemory};
 
-/// The box of a body, the place of the body in its list, from 0, and a key along the curve. The
-/// order is by key first.
+/// The box of a body, and the place of the body in its list, from 0.
 #[derive(Clone, Copy, Debug, PartialEq, Eq, PartialOrd, Ord)]
 pub struct Boxed {
-    key: u64,
     pub place: usize,
     pub bounds: Bounds,
+}
+
+/// A box with its place along the curve. The order is by that first.
+#[derive(Clone, Copy, PartialEq, Eq, PartialOrd, Ord)]
+struct Keyed {
+    key: u64,
+    own: Boxed,
 }
 
 /// A node of a tree: a box, and a wide one that holds the boxes of this node and of those after it
@@ -29,53 +36,56 @@ pub struct Node {
 /// A tree of boxes. Each node is followed by those whose boxes its wide box holds.
 pub type Tree = Items<Node>;
 
-/// The lowest 21 bits, each followed by two zeros.
-fn spread_bits(bits: u64) -> u64 {
-    let mut all = bits & 0x1f_ffff;
-    all = (all | all << 32) & 0x1f_0000_0000_ffff;
-    all = (all | all << 16) & 0x1f_0000_ff00_00ff;
-    all = (all | all << 8) & 0x100f_00f0_0f00_f00f;
-    all = (all | all << 4) & 0x10c3_0c30_c30c_30c3;
-    (all | all << 2) & 0x1249_2492_4924_9249
-}
+/// Holds no number. The least interval round it and another is that other.
+const EMPTY: Interval = Interval {
+    low: i32::MAX,
+    high: i32::MIN,
+};
 
-/// The coordinate, counted from the least of the grid.
-fn from_least(x: i32) -> u64
-    ensures { result < 2 ^ 32 }
-{
-    u64::from(x.abs_diff(-(1 << 23)))
-}
-
-/// The 21 leading bits of the middle of an interval of the grid, spread.
-fn spread_middle(i: Interval) -> u64 {
-    spread_bits((from_least(i.low) + from_least(i.high)) >> 4)
-}
-
-/// The box with its key: the place of its middle on the curve (Morton, 1966). So those sides of
-/// nested boxes that face one way follow one another, and the wide boxes round them are thin.
-pub fn with_key(bounds: Bounds, place: usize) -> Boxed
+/// The box of the body at this place of its list.
+pub fn box_of(bounds: Bounds, place: usize) -> Boxed
     ensures place { result.place ≡ place }
     ensures bounds { result.bounds ≡ bounds }
 {
-    let x = spread_middle(bounds.x);
-    let y = spread_middle(bounds.y);
-    let z = spread_middle(bounds.z);
-    Boxed {
-        key: x | y << 1 | z << 2,
-        place,
-        bounds,
+    Boxed { place, bounds }
+}
+
+/// The least box round all of the boxes.
+fn extent_of(boxes: &Items<Boxed>) -> Bounds {
+    let mut extent = Bounds {
+        x: EMPTY,
+        y: EMPTY,
+        z: EMPTY,
+    };
+    for i in 0..boxes.len() {
+        extent = joined(extent, boxes.at(i).bounds);
     }
+    extent
+}
+
+/// The boxes with their places along the curve through the least box round all.
+fn keyed_boxes(alloc: Global, boxes: &Items<Boxed>) -> Result<Items<Keyed>, NoMemory>
+    ensures { IfOk result (AreKeyed boxes.now (length boxes.now)) }
+{
+    let frame = frame_of(&extent_of(boxes));
+    let mut keyed = Items::with_capacity(alloc, boxes.len())?;
+    for i in 0..boxes.len() {
+        let own = boxes.at(i);
+        let key = on_curve(frame, &own.bounds);
+        keyed.push(Keyed { key, own })?;
+    }
+    Ok(keyed)
 }
 
 /// The least box round the boxes at the places from `from` on and before `past`.
-fn wide_bounds(boxes: &Items<Boxed>, from: usize, past: usize) -> Bounds
+fn wide_bounds(boxes: &Items<Keyed>, from: usize, past: usize) -> Bounds
     requires some { from < past }
     requires there { past ≤ length boxes.now }
     ensures { HoldsFrom boxes.now from past result }
 {
-    let mut wide = boxes.at(from).bounds;
+    let mut wide = boxes.at(from).own.bounds;
     for i in from + 1..past {
-        wide = joined(wide, boxes.at(i).bounds);
+        wide = joined(wide, boxes.at(i).own.bounds);
     }
     wide
 }
@@ -92,14 +102,14 @@ pub fn past_of(i: usize, count: usize) -> usize
 }
 
 /// A node for each of the boxes, in their order.
-fn nodes_of(alloc: Global, boxes: &Items<Boxed>) -> Result<Tree, NoMemory>
+fn nodes_of(alloc: Global, boxes: &Items<Keyed>) -> Result<Tree, NoMemory>
     ensures { IfOk result (λ nodes. AreNodes boxes.now (length boxes.now) nodes) }
 {
     let mut nodes = Tree::with_capacity(alloc, boxes.len())?;
     for i in 0..boxes.len() {
         let past = past_of(i, boxes.len());
         nodes.push(Node {
-            own: boxes.at(i),
+            own: boxes.at(i).own,
             wide: wide_bounds(boxes, i, past),
             past,
         })?;
@@ -107,12 +117,16 @@ fn nodes_of(alloc: Global, boxes: &Items<Boxed>) -> Result<Tree, NoMemory>
     Ok(nodes)
 }
 
-/// The tree of the boxes.
-pub fn tree_of(alloc: Global, mut boxes: Items<Boxed>) -> Result<Tree, NoMemory>
+/// The tree of the boxes, in their order along the curve (Morton, 1966). So those sides of nested
+/// boxes that face one way follow one another, and the wide boxes round them are thin. The list
+/// without keys is let go before the nodes are made.
+pub fn tree_of(alloc: Global, boxes: Items<Boxed>) -> Result<Tree, NoMemory>
     ensures { IfOk result (IsTreeOf boxes) }
 {
-    boxes.keep_distinct();
-    nodes_of(alloc, &boxes)
+    let mut keyed = keyed_boxes(alloc, &boxes)?;
+    drop(boxes);
+    keyed.keep_distinct();
+    nodes_of(alloc, &keyed)
 }
 
 /// The first place from `from` on whose box is not apart from this one; the number of nodes, where

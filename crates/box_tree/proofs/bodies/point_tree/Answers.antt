@@ -14,8 +14,8 @@ pub loop-place-preserved : goal.loop-place-preserved
 loop-place-preserved c =
     let ps = c.args.points.now in
     subst (AreBoxesTo (λ i b. HoldsPoint b (point ps i)) (c.loop-place.place + 1)) (sym c.in_ok-push.ensures.ok)
-    (boxes_more (λ i b. HoldsPoint b (point ps i)) c.loop-place.place c.loop-place.boxes c.with_key.result c.loop-place.invariant c.with_key.ensures.place
-    (subst (λ b. HoldsPoint b (point ps c.loop-place.place)) (sym c.with_key.ensures.bounds)
+    (boxes_more (λ i b. HoldsPoint b (point ps i)) c.loop-place.place c.loop-place.boxes c.box_of.result c.loop-place.invariant c.box_of.ensures.place
+    (subst (λ b. HoldsPoint b (point ps c.loop-place.place)) (sym c.box_of.ensures.bounds)
     (subst (HoldsPoint c.point_bounds.result) (sym (c.at.ensures origin)) c.point_bounds.ensures)))
 
 pub returns : goal.returns

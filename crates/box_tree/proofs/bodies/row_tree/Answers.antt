@@ -20,8 +20,8 @@ loop-place-preserved c =
     let ps = c.args.points.now in
     let rows = c.args.rows.now in
     subst (AreBoxesTo (λ i b. (d : Tet) → HoldsCorners ps (numbers (slice_index_or rows i d)) b) (c.loop-place.place + 1)) (sym c.in_ok-push.ensures.ok)
-    (boxes_more (λ i b. (d : Tet) → HoldsCorners ps (numbers (slice_index_or rows i d)) b) c.loop-place.place c.loop-place.boxes c.with_key.result c.loop-place.invariant c.with_key.ensures.place
-    (λ d. subst (λ (t : Tet). HoldsCorners ps (numbers t) c.with_key.result.bounds) (sym (c.at.ensures d)) (subst (HoldsCorners ps (numbers c.at.result)) (sym c.with_key.ensures.bounds) c.tet_bounds.ensures)))
+    (boxes_more (λ i b. (d : Tet) → HoldsCorners ps (numbers (slice_index_or rows i d)) b) c.loop-place.place c.loop-place.boxes c.box_of.result c.loop-place.invariant c.box_of.ensures.place
+    (λ d. subst (λ (t : Tet). HoldsCorners ps (numbers t) c.box_of.result.bounds) (sym (c.at.ensures d)) (subst (HoldsCorners ps (numbers c.at.result)) (sym c.box_of.ensures.bounds) c.tet_bounds.ensures)))
 
 pub returns : goal.returns
 returns c =

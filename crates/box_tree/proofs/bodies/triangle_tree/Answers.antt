@@ -20,8 +20,8 @@ loop-place-preserved c =
     let ps = c.args.points.now in
     let ts = c.args.triangles.now in
     subst (AreBoxesTo (λ i b. (d : FacetTriangle) → HoldsCorners ps (corner_numbers (slice_index_or ts i d)) b) (c.loop-place.place + 1)) (sym c.in_ok-push.ensures.ok)
-    (boxes_more (λ i b. (d : FacetTriangle) → HoldsCorners ps (corner_numbers (slice_index_or ts i d)) b) c.loop-place.place c.loop-place.boxes c.with_key.result c.loop-place.invariant c.with_key.ensures.place
-    (λ d. subst (λ (t : FacetTriangle). HoldsCorners ps (corner_numbers t) c.with_key.result.bounds) (sym (c.at.ensures d)) (subst (HoldsCorners ps (corner_numbers c.at.result)) (sym c.with_key.ensures.bounds) c.triangle_bounds.ensures)))
+    (boxes_more (λ i b. (d : FacetTriangle) → HoldsCorners ps (corner_numbers (slice_index_or ts i d)) b) c.loop-place.place c.loop-place.boxes c.box_of.result c.loop-place.invariant c.box_of.ensures.place
+    (λ d. subst (λ (t : FacetTriangle). HoldsCorners ps (corner_numbers t) c.box_of.result.bounds) (sym (c.at.ensures d)) (subst (HoldsCorners ps (corner_numbers c.at.result)) (sym c.box_of.ensures.bounds) c.triangle_bounds.ensures)))
 
 pub returns : goal.returns
 returns c =
