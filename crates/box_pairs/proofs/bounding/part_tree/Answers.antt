@@ -15,8 +15,8 @@ loop-place-preserved c =
     let ps = c.args.points.now in
     let holds = HoldsPart ps c.args.parts.now in
     subst (AreBoxesTo holds (c.loop-place.place + 1)) (sym c.in_ok-push.ensures.ok)
-    (boxes_more holds c.loop-place.place c.loop-place.boxes c.with_key.result c.loop-place.invariant c.with_key.ensures.place
-    (holds_at ps c.args.parts.now c.loop-place.place c.with_key.result.bounds (omega arith) (subst (HoldsCorners ps (part_numbers (get_or c.args.parts.now c.loop-place.place no_part))) (sym c.with_key.ensures.bounds) c.part_bounds.ensures)))
+    (boxes_more holds c.loop-place.place c.loop-place.boxes c.box_of.result c.loop-place.invariant c.box_of.ensures.place
+    (holds_at ps c.args.parts.now c.loop-place.place c.box_of.result.bounds (omega arith) (subst (HoldsCorners ps (part_numbers (get_or c.args.parts.now c.loop-place.place no_part))) (sym c.box_of.ensures.bounds) c.part_bounds.ensures)))
 
 pub returns : goal.returns
 returns c =

@@ -24,8 +24,8 @@ loop-place-preserved c =
       | then-not-is_marked+in_ok-push w ↦
           subst P (sym w.boxes-is)
           (subst P (sym w.in_ok-push.ensures.ok)
-          (unmarked_more ps parts marks i c.loop-place.boxes w.with_key.result so w.with_key.ensures.place
-          (holds_at ps parts i w.with_key.result.bounds (omega arith) (subst (HoldsCorners ps (part_numbers (get_or parts i no_part))) (sym w.with_key.ensures.bounds) w.part_bounds.ensures))))
+          (unmarked_more ps parts marks i c.loop-place.boxes w.box_of.result so w.box_of.ensures.place
+          (holds_at ps parts i w.box_of.result.bounds (omega arith) (subst (HoldsCorners ps (part_numbers (get_or parts i no_part))) (sym w.box_of.ensures.bounds) w.part_bounds.ensures))))
       | else-not-is_marked w ↦ subst P (sym w.boxes-is) (unmarked_same ps parts marks i c.loop-place.boxes (c.is_marked.ensures.0 w.if-not-is_marked.false) so)
     ]
 
