@@ -5,8 +5,8 @@ use Rattle.sign_predicates.proofs.Vectors.{coordinate_back, grid_back}
 use Rattle.cavity_insert.specs.First.{IsOnLine}
 
 -- a coordinate of the vector from one point to another
-pub from_to_read : (r x y p q : ℤ) → unsigned_abs r ≤ 2 ^ 24 → r ≡ to_z w32 (of_z w32 y) -ℤ to_z w32 (of_z w32 x)
-    → negsuc 8388607 ≤ℤ x → x ≤ℤ pos 8388608 → negsuc 8388607 ≤ℤ y → y ≤ℤ pos 8388608 → x ≡ p → y ≡ q → to_z w32 (of_z w32 r) ≡ q -ℤ p
+pub from_to_read : (r x y p q : ℤ) → unsigned_abs r ≤ 2 ^ 30 → r ≡ to_z w32 (of_z w32 y) -ℤ to_z w32 (of_z w32 x)
+    → negsuc 536870911 ≤ℤ x → x ≤ℤ pos 536870912 → negsuc 536870911 ≤ℤ y → y ≤ℤ pos 536870912 → x ≡ p → y ≡ q → to_z w32 (of_z w32 r) ≡ q -ℤ p
 from_to_read r x y p q small e xl xh yl yh ep eq = coordinate_back r small ∙ e ∙ (λ j. (grid_back y yl yh ∙ eq) j -ℤ (grid_back x xl xh ∙ ep) j)
 
 -- the minors are zero just where the three points lie on one line

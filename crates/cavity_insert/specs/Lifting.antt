@@ -9,7 +9,7 @@ use Rattle.cavity_insert.specs.declared.lifting.LiftedPoints.{LiftedPoints}
 
 -- a coordinate of the grid
 abbrev pub IsOnAxis : ℤ → Type 0
-IsOnAxis z = (negsuc 8388607 ≤ℤ z) × (z ≤ℤ pos 8388608)
+IsOnAxis z = (negsuc 536870911 ≤ℤ z) × (z ≤ℤ pos 536870912)
 
 -- the steps of lifted corners
 abbrev pub as_corners : LiftedCorners → Corners

@@ -87,20 +87,20 @@ fn is_on_line(a: GridPoint, b: GridPoint, c: GridPoint) -> bool
 
 /// How far one coordinate is from another.
 fn difference(from: i32, to: i32) -> i32
-    requires from_small { unsigned_abs from ≤ 2 ^ 23 }
-    requires to_small { unsigned_abs to ≤ 2 ^ 23 }
+    requires from_small { unsigned_abs from ≤ 2 ^ 29 }
+    requires to_small { unsigned_abs to ≤ 2 ^ 29 }
     ensures value { result ≡ to -ℤ from }
-    ensures size { unsigned_abs result ≤ 2 ^ 24 }
+    ensures size { unsigned_abs result ≤ 2 ^ 30 }
 {
     to - from
 }
 
 /// Whether the determinant of the rows `a b` and `c d` is zero.
 fn has_no_minor(a: i32, b: i32, c: i32, d: i32) -> bool
-    requires a_small { unsigned_abs a ≤ 2 ^ 24 }
-    requires b_small { unsigned_abs b ≤ 2 ^ 24 }
-    requires c_small { unsigned_abs c ≤ 2 ^ 24 }
-    requires d_small { unsigned_abs d ≤ 2 ^ 24 }
+    requires a_small { unsigned_abs a ≤ 2 ^ 30 }
+    requires b_small { unsigned_abs b ≤ 2 ^ 30 }
+    requires c_small { unsigned_abs c ≤ 2 ^ 30 }
+    requires d_small { unsigned_abs d ≤ 2 ^ 30 }
     ensures { IsTrue result ↔ (a *ℤ d ≡ b *ℤ c) }
 {
     a as i64 * d as i64 == b as i64 * c as i64

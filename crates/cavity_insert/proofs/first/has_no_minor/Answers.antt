@@ -5,12 +5,12 @@ use Rattle.sign_predicates.proofs.Vectors.{wide_back}
 use Rattle.cavity_insert.proofs.first.has_no_minor.Goals as goal
 
 -- the product of two numbers of 32 bits, as 64 bits hold it
-product : (x y : ℤ) → unsigned_abs x ≤ 2 ^ 24 → unsigned_abs y ≤ 2 ^ 24
+product : (x y : ℤ) → unsigned_abs x ≤ 2 ^ 30 → unsigned_abs y ≤ 2 ^ 30
     → of_z w64 (to_z w64 (of_z w64 (to_z w32 (of_z w32 x))) *ℤ to_z w64 (of_z w64 (to_z w32 (of_z w32 y)))) ≡ of_z w64 (x *ℤ y)
 product x y h k = λ j. of_z w64 (wide_back x h j *ℤ wide_back y k j)
 
-held : (x y : ℤ) → unsigned_abs x ≤ 2 ^ 24 → unsigned_abs y ≤ 2 ^ 24 → to_z w64 (of_z w64 (x *ℤ y)) ≡ x *ℤ y
-held x y h k = back w64 (2 ^ 24 * 2 ^ 24) (x *ℤ y) tt (abs_mul x y (2 ^ 24) (2 ^ 24) h k)
+held : (x y : ℤ) → unsigned_abs x ≤ 2 ^ 30 → unsigned_abs y ≤ 2 ^ 30 → to_z w64 (of_z w64 (x *ℤ y)) ≡ x *ℤ y
+held x y h k = back w64 (2 ^ 30 * 2 ^ 30) (x *ℤ y) tt (abs_mul x y (2 ^ 30) (2 ^ 30) h k)
 
 pub returns : goal.returns
 returns c =
