@@ -25,14 +25,14 @@ pub(crate) struct Block {
 /// The lesser of two coordinates of the grid.
 #[inline]
 fn least(a: i32, b: i32) -> i32
-    requires a_low { negsuc 8388607 ≤ℤ a }
-    requires a_high { a ≤ℤ pos 8388608 }
-    requires b_low { negsuc 8388607 ≤ℤ b }
-    requires b_high { b ≤ℤ pos 8388608 }
+    requires a_low { negsuc 536870911 ≤ℤ a }
+    requires a_high { a ≤ℤ pos 536870912 }
+    requires b_low { negsuc 536870911 ≤ℤ b }
+    requires b_high { b ≤ℤ pos 536870912 }
     ensures first { result ≤ℤ a }
     ensures second { result ≤ℤ b }
-    ensures low { negsuc 8388607 ≤ℤ result }
-    ensures high { result ≤ℤ pos 8388608 }
+    ensures low { negsuc 536870911 ≤ℤ result }
+    ensures high { result ≤ℤ pos 536870912 }
 {
     if a <= b { a } else { b }
 }
@@ -40,14 +40,14 @@ fn least(a: i32, b: i32) -> i32
 /// The greater of two coordinates of the grid.
 #[inline]
 fn greatest(a: i32, b: i32) -> i32
-    requires a_low { negsuc 8388607 ≤ℤ a }
-    requires a_high { a ≤ℤ pos 8388608 }
-    requires b_low { negsuc 8388607 ≤ℤ b }
-    requires b_high { b ≤ℤ pos 8388608 }
+    requires a_low { negsuc 536870911 ≤ℤ a }
+    requires a_high { a ≤ℤ pos 536870912 }
+    requires b_low { negsuc 536870911 ≤ℤ b }
+    requires b_high { b ≤ℤ pos 536870912 }
     ensures first { a ≤ℤ result }
     ensures second { b ≤ℤ result }
-    ensures low { negsuc 8388607 ≤ℤ result }
-    ensures high { result ≤ℤ pos 8388608 }
+    ensures low { negsuc 536870911 ≤ℤ result }
+    ensures high { result ≤ℤ pos 536870912 }
 {
     if a <= b { b } else { a }
 }
