@@ -11,7 +11,7 @@ use sign_predicates::{Corners, RatPoint};
 
 /// A coordinate of the grid times a denominator.
 fn scaled(a: i32, w: i64) -> i64
-    requires a_small { unsigned_abs a ≤ 2 ^ 23 }
+    requires a_small { unsigned_abs a ≤ 2 ^ 29 }
     requires w_small { unsigned_abs w ≤ 1000000 }
     ensures { result ≡ a *ℤ w }
 {
@@ -27,10 +27,10 @@ fn are_apart(a: i64, b: i64, c: i64, d: i64, x: i64) -> bool
 
 /// The same of four coordinates and that of a point, by its denominator.
 fn are_apart_over(a: i32, b: i32, c: i32, d: i32, x: i64, w: i64) -> bool
-    requires a_small { unsigned_abs a ≤ 2 ^ 23 }
-    requires b_small { unsigned_abs b ≤ 2 ^ 23 }
-    requires c_small { unsigned_abs c ≤ 2 ^ 23 }
-    requires d_small { unsigned_abs d ≤ 2 ^ 23 }
+    requires a_small { unsigned_abs a ≤ 2 ^ 29 }
+    requires b_small { unsigned_abs b ≤ 2 ^ 29 }
+    requires c_small { unsigned_abs c ≤ 2 ^ 29 }
+    requires d_small { unsigned_abs d ≤ 2 ^ 29 }
     requires w_small { unsigned_abs w ≤ 1000000 }
     ensures { IsTrue result → AreBelowOrAbove (a *ℤ w) (b *ℤ w) (c *ℤ w) (d *ℤ w) x }
 {
@@ -53,11 +53,11 @@ pub(crate) fn is_off_box(t: &Corners, x: RatPoint) -> bool
 
 /// An interval of whole numbers round so many millionths.
 fn round_millionths(x: i64) -> Interval
-    requires { unsigned_abs x ≤ 8388609000000 }
+    requires { unsigned_abs x ≤ 536870913000000 }
     ensures low { (result.low *ℤ pos 1000000) ≤ℤ x }
     ensures high { x ≤ℤ (result.high *ℤ pos 1000000) }
 {
-    let low = ((x + 8388609000000) as u64 / 1000000) as i32 - 8388609;
+    let low = ((x + 536870913000000) as u64 / 1000000) as i32 - 536870913;
     Interval { low, high: low + 1 }
 }
 
