@@ -44,35 +44,35 @@ least wa wb wc wd a b c d v w x h k la lb lc ld =
     (mul_le wa h a k.a_least la) (mul_le wb h b k.b_least lb) (mul_le wc h c k.c_least lc) (mul_le wd h d k.d_least ld)
     (spread wa wb wc wd h ∙ ap (λ n. n *ℤ h) k.whole ∙ turned v w h) k.sum)
 
--- ---- counted from -2^23 on
+-- ---- counted from -2^29 on
 
-drawn : (h w : ℤ) → (h -ℤ pos 8388608) *ℤ w +ℤ pos 8388608 *ℤ w ≡ h *ℤ w
+drawn : (h w : ℤ) → (h -ℤ pos 536870912) *ℤ w +ℤ pos 536870912 *ℤ w ≡ h *ℤ w
 unfolding same
-drawn h w = ring ((var 0 ⊕ num (negsuc 8388607)) ⊗ var 1 ⊕ num (pos 8388608) ⊗ var 1) (var 0 ⊗ var 1) tt (h ∷ w ∷ [])
+drawn h w = ring ((var 0 ⊕ num (negsuc 536870911)) ⊗ var 1 ⊕ num (pos 536870912) ⊗ var 1) (var 0 ⊗ var 1) tt (h ∷ w ∷ [])
 
-up_to : (h w x s : ℤ) → x ≤ℤ ((h -ℤ pos 8388608) *ℤ w) → (x +ℤ pos 8388608 *ℤ w) ≤ℤ (h *ℤ w)
-up_to h w x s le = go ((h -ℤ pos 8388608) *ℤ w) (pos 8388608 *ℤ w) (h *ℤ w) le (drawn h w)
+up_to : (h w x s : ℤ) → x ≤ℤ ((h -ℤ pos 536870912) *ℤ w) → (x +ℤ pos 536870912 *ℤ w) ≤ℤ (h *ℤ w)
+up_to h w x s le = go ((h -ℤ pos 536870912) *ℤ w) (pos 536870912 *ℤ w) (h *ℤ w) le (drawn h w)
   where
     go : (k m n : ℤ) → x ≤ℤ k → k +ℤ m ≡ n → (x +ℤ m) ≤ℤ n
     go k m n le e = omega (arith, ints)
 
-from_on : (h w x s : ℤ) → ((h -ℤ pos 8388608) *ℤ w) ≤ℤ x → (h *ℤ w) ≤ℤ (x +ℤ pos 8388608 *ℤ w)
-from_on h w x s le = go ((h -ℤ pos 8388608) *ℤ w) (pos 8388608 *ℤ w) (h *ℤ w) le (drawn h w)
+from_on : (h w x s : ℤ) → ((h -ℤ pos 536870912) *ℤ w) ≤ℤ x → (h *ℤ w) ≤ℤ (x +ℤ pos 536870912 *ℤ w)
+from_on h w x s le = go ((h -ℤ pos 536870912) *ℤ w) (pos 536870912 *ℤ w) (h *ℤ w) le (drawn h w)
   where
     go : (k m n : ℤ) → k ≤ℤ x → k +ℤ m ≡ n → n ≤ℤ (x +ℤ m)
     go k m n le e = omega (arith, ints)
 
-pub ahead_is : (a : ℤ) → negsuc 8388607 ≤ℤ a → pos (ahead a) ≡ a +ℤ pos 8388608
-ahead_is a low = go (a +ℤ pos 8388608) (omega (arith, ints))
+pub ahead_is : (a : ℤ) → negsuc 536870911 ≤ℤ a → pos (ahead a) ≡ a +ℤ pos 536870912
+ahead_is a low = go (a +ℤ pos 536870912) (omega (arith, ints))
   where
     go : (z : ℤ) → pos 0 ≤ℤ z → pos (unsigned_abs z) ≡ z
     go (pos n) h = refl
     go (negsuc n) h = absurd (omega (arith, ints))
 
-pub low_end : (a : ℤ) (l n : ℕ) → l ≤ n → pos n ≡ a +ℤ pos 8388608 → (pos l -ℤ pos 8388608) ≤ℤ a
+pub low_end : (a : ℤ) (l n : ℕ) → l ≤ n → pos n ≡ a +ℤ pos 536870912 → (pos l -ℤ pos 536870912) ≤ℤ a
 low_end a l n le e = omega (arith, ints)
 
-pub high_end : (a : ℤ) (h n : ℕ) → n ≤ h → pos n ≡ a +ℤ pos 8388608 → a ≤ℤ (pos h -ℤ pos 8388608)
+pub high_end : (a : ℤ) (h n : ℕ) → n ≤ h → pos n ≡ a +ℤ pos 536870912 → a ≤ℤ (pos h -ℤ pos 536870912)
 high_end a h n le e = omega (arith, ints)
 
 two_true : (a b : Bool) → a ≡ true → b ≡ true → (a && b) ≡ true
@@ -98,18 +98,18 @@ between l h m (negsuc n) some low high = absurd (below (pos l *ℤ pos m) (mul_n
     below k p q = omega (arith, ints)
 
 -- the cell of a point along an axis lies in the span of the corners
-pub in_span : (wa wb wc wd a b c d v w x : ℤ) → Weighs wa wb wc wd a b c d v w x → pos 0 <ℤ w → negsuc 8388607 ≤ℤ a → negsuc 8388607 ≤ℤ b → negsuc 8388607 ≤ℤ c → negsuc 8388607 ≤ℤ d
-    → spans (span_of (ahead a) (ahead b) (ahead c) (ahead d)) (whole_units (x +ℤ pos 8388608 *ℤ w) w) ≡ true
+pub in_span : (wa wb wc wd a b c d v w x : ℤ) → Weighs wa wb wc wd a b c d v w x → pos 0 <ℤ w → negsuc 536870911 ≤ℤ a → negsuc 536870911 ≤ℤ b → negsuc 536870911 ≤ℤ c → negsuc 536870911 ≤ℤ d
+    → spans (span_of (ahead a) (ahead b) (ahead c) (ahead d)) (whole_units (x +ℤ pos 536870912 *ℤ w) w) ≡ true
 in_span wa wb wc wd a b c d v (negsuc m) x k some la lb lc ld = absurd (omega (arith, ints))
 in_span wa wb wc wd a b c d v (pos m) x k some la lb lc ld =
     let l : ℕ = min (min (min (ahead a) (ahead b)) (ahead c)) (ahead d) in
     let h : ℕ = max (max (max (ahead a) (ahead b)) (ahead c)) (ahead d) in
-    let low = from_on (pos l) (pos m) x x (least wa wb wc wd a b c d v (pos m) x (pos l -ℤ pos 8388608) k
+    let low = from_on (pos l) (pos m) x x (least wa wb wc wd a b c d v (pos m) x (pos l -ℤ pos 536870912) k
     (low_end a l (ahead a) (omega arith) (ahead_is a la)) (low_end b l (ahead b) (omega arith) (ahead_is b lb)) (low_end c l (ahead c) (omega arith) (ahead_is c lc)) (low_end d l (ahead d) (omega arith) (ahead_is d ld))) in
-    let high = up_to (pos h) (pos m) x x (most wa wb wc wd a b c d v (pos m) x (pos h -ℤ pos 8388608) k
+    let high = up_to (pos h) (pos m) x x (most wa wb wc wd a b c d v (pos m) x (pos h -ℤ pos 536870912) k
     (high_end a h (ahead a) (omega arith) (ahead_is a la)) (high_end b h (ahead b) (omega arith) (ahead_is b lb)) (high_end c h (ahead c) (omega arith) (ahead_is c lc)) (high_end d h (ahead d) (omega arith) (ahead_is d ld))) in
-    between l h m (x +ℤ pos 8388608 *ℤ pos m) (omega (arith, ints, some)) low high
+    between l h m (x +ℤ pos 536870912 *ℤ pos m) (omega (arith, ints, some)) low high
 
 -- the greatest of four coordinates on the grid, and the least
-pub edge : (a b c d : ℤ) → negsuc 8388607 ≤ℤ a → a ≤ℤ pos 8388608 → (span_of (ahead a) (ahead b) (ahead c) (ahead d)).low ≤ 16777216
+pub edge : (a b c d : ℤ) → negsuc 536870911 ≤ℤ a → a ≤ℤ pos 536870912 → (span_of (ahead a) (ahead b) (ahead c) (ahead d)).low ≤ 1073741824
 edge a b c d low high = let e = ahead_is a low in omega (arith, ints)

@@ -36,9 +36,9 @@ near_of i t x w p grid inside =
 
 -- the least coordinate of a box lies on the grid
 record IsLow (b : RowBox) : Type 0 where
-  x : b.x.low ≤ 16777216
-  y : b.y.low ≤ 16777216
-  z : b.z.low ≤ 16777216
+  x : b.x.low ≤ 1073741824
+  y : b.y.low ≤ 1073741824
+  z : b.z.low ≤ 1073741824
 
 low_of : (i : ℕ) (t : Corners) → AreOnGrid t → IsLow (box_of i t)
 low_of i t grid = record {
@@ -53,11 +53,11 @@ pub record IsPartAt (cut : Cut) (s at : ℕ) : Type 0 where
   pub left : mark cut s ≤ at
   pub right : s < 31 → at ≤ mark cut (s + 1)
 
-last_mark : (cut : Cut) (s n : ℕ) → n ≤ 16777216 → s ≡ 31 → n ≤ mark cut (s + 1)
+last_mark : (cut : Cut) (s n : ℕ) → n ≤ 1073741824 → s ≡ 31 → n ≤ mark cut (s + 1)
 last_mark cut s n h e = subst (λ (k : ℕ). n ≤ mark cut (k + 1)) (sym e) h
 
 -- what has the place in it reaches into the part
-in_part : (cut : Cut) (s at : ℕ) (span : Span) → IsPartAt cut s at → span.low ≤ 16777216 → spans span at ≡ true → (nat_le span.low (mark cut (s + 1)) && nat_le (mark cut s) span.high) ≡ true
+in_part : (cut : Cut) (s at : ℕ) (span : Span) → IsPartAt cut s at → span.low ≤ 1073741824 → spans span at ≡ true → (nat_le span.low (mark cut (s + 1)) && nat_le (mark cut s) span.high) ≡ true
 in_part cut s at span p on_grid h =
     let ends = both_true _ _ h in
     let low = leb-true span.low at ends.0 in

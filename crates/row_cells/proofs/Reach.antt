@@ -66,32 +66,32 @@ record High (t : Corners) (l : ℤ) : Type 0 where
   closed : InClosed t (as_rational at)
   is : l ≤ℤ at.x
 
-under : (x : ℤ) (n r : ℕ) → pos n ≡ x +ℤ pos 8388608 → n ≤ r → x ≤ℤ (pos r -ℤ pos 8388608)
+under : (x : ℤ) (n r : ℕ) → pos n ≡ x +ℤ pos 536870912 → n ≤ r → x ≤ℤ (pos r -ℤ pos 536870912)
 under x n r e h = omega (arith, ints)
 
-over : (x : ℤ) (n l : ℕ) → pos n ≡ x +ℤ pos 8388608 → l ≤ n → (pos l -ℤ pos 8388608) ≤ℤ x
+over : (x : ℤ) (n l : ℕ) → pos n ≡ x +ℤ pos 536870912 → l ≤ n → (pos l -ℤ pos 536870912) ≤ℤ x
 over x n l e h = omega (arith, ints)
 
-low_corner : (t : Corners) (r : ℕ) → IsPositive t → AreOnGrid t → min (min (min (ahead t.a.x) (ahead t.b.x)) (ahead t.c.x)) (ahead t.d.x) ≤ r → Low t (pos r -ℤ pos 8388608)
+low_corner : (t : Corners) (r : ℕ) → IsPositive t → AreOnGrid t → min (min (min (ahead t.a.x) (ahead t.b.x)) (ahead t.c.x)) (ahead t.d.x) ≤ r → Low t (pos r -ℤ pos 536870912)
 low_corner t r p grid h = go (cases_lt r (ahead t.a.x)) (cases_lt r (ahead t.b.x)) (cases_lt r (ahead t.c.x)) (cases_lt r (ahead t.d.x))
   where
     none : (a b c d : ℕ) → min (min (min a b) c) d ≤ r → r < a → r < b → r < c → r < d → ⊥
     none a b c d h p q u v = omega arith
 
-    go : (r < ahead t.a.x) ⊎ (ahead t.a.x ≤ r) → (r < ahead t.b.x) ⊎ (ahead t.b.x ≤ r) → (r < ahead t.c.x) ⊎ (ahead t.c.x ≤ r) → (r < ahead t.d.x) ⊎ (ahead t.d.x ≤ r) → Low t (pos r -ℤ pos 8388608)
+    go : (r < ahead t.a.x) ⊎ (ahead t.a.x ≤ r) → (r < ahead t.b.x) ⊎ (ahead t.b.x ≤ r) → (r < ahead t.c.x) ⊎ (ahead t.c.x ≤ r) → (r < ahead t.d.x) ⊎ (ahead t.d.x ≤ r) → Low t (pos r -ℤ pos 536870912)
     go (inr k) _ _ _ = record { at = t.a; closed = corner_a t p; is = under t.a.x (ahead t.a.x) r (ahead_is t.a.x grid.a.x_low) k }
     go (inl i) (inr k) _ _ = record { at = t.b; closed = corner_b t p; is = under t.b.x (ahead t.b.x) r (ahead_is t.b.x grid.b.x_low) k }
     go (inl i) (inl j) (inr k) _ = record { at = t.c; closed = corner_c t p; is = under t.c.x (ahead t.c.x) r (ahead_is t.c.x grid.c.x_low) k }
     go (inl i) (inl j) (inl m) (inr k) = record { at = t.d; closed = corner_d t p; is = under t.d.x (ahead t.d.x) r (ahead_is t.d.x grid.d.x_low) k }
     go (inl i) (inl j) (inl m) (inl k) = absurd (none (ahead t.a.x) (ahead t.b.x) (ahead t.c.x) (ahead t.d.x) h i j m k)
 
-high_corner : (t : Corners) (l : ℕ) → IsPositive t → AreOnGrid t → l ≤ max (max (max (ahead t.a.x) (ahead t.b.x)) (ahead t.c.x)) (ahead t.d.x) → High t (pos l -ℤ pos 8388608)
+high_corner : (t : Corners) (l : ℕ) → IsPositive t → AreOnGrid t → l ≤ max (max (max (ahead t.a.x) (ahead t.b.x)) (ahead t.c.x)) (ahead t.d.x) → High t (pos l -ℤ pos 536870912)
 high_corner t l p grid h = go (cases_lt (ahead t.a.x) l) (cases_lt (ahead t.b.x) l) (cases_lt (ahead t.c.x) l) (cases_lt (ahead t.d.x) l)
   where
     none : (a b c d : ℕ) → l ≤ max (max (max a b) c) d → a < l → b < l → c < l → d < l → ⊥
     none a b c d h p q u v = omega arith
 
-    go : (ahead t.a.x < l) ⊎ (l ≤ ahead t.a.x) → (ahead t.b.x < l) ⊎ (l ≤ ahead t.b.x) → (ahead t.c.x < l) ⊎ (l ≤ ahead t.c.x) → (ahead t.d.x < l) ⊎ (l ≤ ahead t.d.x) → High t (pos l -ℤ pos 8388608)
+    go : (ahead t.a.x < l) ⊎ (l ≤ ahead t.a.x) → (ahead t.b.x < l) ⊎ (l ≤ ahead t.b.x) → (ahead t.c.x < l) ⊎ (l ≤ ahead t.c.x) → (ahead t.d.x < l) ⊎ (l ≤ ahead t.d.x) → High t (pos l -ℤ pos 536870912)
     go (inr k) _ _ _ = record { at = t.a; closed = corner_a t p; is = over t.a.x (ahead t.a.x) l (ahead_is t.a.x grid.a.x_low) k }
     go (inl i) (inr k) _ _ = record { at = t.b; closed = corner_b t p; is = over t.b.x (ahead t.b.x) l (ahead_is t.b.x grid.b.x_low) k }
     go (inl i) (inl j) (inr k) _ = record { at = t.c; closed = corner_c t p; is = over t.c.x (ahead t.c.x) l (ahead_is t.c.x grid.c.x_low) k }
@@ -128,7 +128,7 @@ common from to t ends low high = go (low.at.x) (high.at.x) (test (cell_end from)
     once_right : (k x : ℤ) → x ≤ℤ k → x ≤ℤ (k *ℤ pos 1)
     once_right k x h = omega (arith, ints)
 
-    wide : (pos from -ℤ pos 8388608) ≤ℤ (pos to -ℤ pos 8388608)
+    wide : (pos from -ℤ pos 536870912) ≤ℤ (pos to -ℤ pos 536870912)
     wide = omega (arith, ints)
 
     some : (l v u : ℤ) → v <ℤ l → l ≤ℤ u → pos 0 <ℤ ((u +ℤ neg_ℤ l) *ℤ pos 1 +ℤ (l +ℤ neg_ℤ v) *ℤ pos 1)
@@ -168,7 +168,7 @@ cancel a b w x hw p q = le_of_mul w a b hw (go (a *ℤ w) (b *ℤ w) (w *ℤ a) 
     go : (k m n o : ℤ) → k ≤ℤ x → x ≤ℤ m → k ≡ n → m ≡ o → n ≤ℤ o
     go k m n o p q e f = omega (arith, ints)
 
-numbers : (a b : ℕ) → (pos a -ℤ pos 8388608) ≤ℤ (pos b -ℤ pos 8388608) → a ≤ b
+numbers : (a b : ℕ) → (pos a -ℤ pos 536870912) ≤ℤ (pos b -ℤ pos 536870912) → a ≤ b
 numbers a b h = omega (arith, ints)
 
 pub reach_law : ReachLaw
@@ -188,11 +188,11 @@ reach_law place from to t ends p grid = (there, back)
         let high : ℕ = max (max (max (ahead t.a.x) (ahead t.b.x)) (ahead t.c.x)) (ahead t.d.x) in
         let weighs : Weighs (side_rational (opposite_a t) x) (side_rational (opposite_b t) x) (side_rational (opposite_c t) x) (side_rational (opposite_d t) x) t.a.x t.b.x t.c.x t.d.x (volume t) x.w x.x =
         record { a_least = inside.0; b_least = inside.1.0; c_least = inside.1.1.0; d_least = inside.1.1.1.0; whole = weights-w t x; sum = weights-x t x; positive = p } in
-        let least_x = least _ _ _ _ t.a.x t.b.x t.c.x t.d.x (volume t) x.w x.x (pos low -ℤ pos 8388608) weighs
+        let least_x = least _ _ _ _ t.a.x t.b.x t.c.x t.d.x (volume t) x.w x.x (pos low -ℤ pos 536870912) weighs
         (low_end t.a.x low (ahead t.a.x) (omega arith) (ahead_is t.a.x grid.a.x_low)) (low_end t.b.x low (ahead t.b.x) (omega arith) (ahead_is t.b.x grid.b.x_low))
         (low_end t.c.x low (ahead t.c.x) (omega arith) (ahead_is t.c.x grid.c.x_low)) (low_end t.d.x low (ahead t.d.x) (omega arith) (ahead_is t.d.x grid.d.x_low)) in
-        let most_x = most _ _ _ _ t.a.x t.b.x t.c.x t.d.x (volume t) x.w x.x (pos high -ℤ pos 8388608) weighs
+        let most_x = most _ _ _ _ t.a.x t.b.x t.c.x t.d.x (volume t) x.w x.x (pos high -ℤ pos 536870912) weighs
         (high_end t.a.x high (ahead t.a.x) (omega arith) (ahead_is t.a.x grid.a.x_low)) (high_end t.b.x high (ahead t.b.x) (omega arith) (ahead_is t.b.x grid.b.x_low))
         (high_end t.c.x high (ahead t.c.x) (omega arith) (ahead_is t.c.x grid.c.x_low)) (high_end t.d.x high (ahead t.d.x) (omega arith) (ahead_is t.d.x grid.d.x_low)) in
-        two_true _ _ (le-leb low to (numbers low to (cancel (pos low -ℤ pos 8388608) (cell_end to) x.w x.x m.1 least_x slab.right)))
-        (le-leb from high (numbers from high (cancel (cell_end from) (pos high -ℤ pos 8388608) x.w x.x m.1 slab.left most_x)))
+        two_true _ _ (le-leb low to (numbers low to (cancel (pos low -ℤ pos 536870912) (cell_end to) x.w x.x m.1 least_x slab.right)))
+        (le-leb from high (numbers from high (cancel (cell_end from) (pos high -ℤ pos 536870912) x.w x.x m.1 slab.left most_x)))

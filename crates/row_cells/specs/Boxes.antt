@@ -1,4 +1,4 @@
--- Boxes with their sides along the axes, round the rows of a list. Lengths along an axis are counted in grid units from -2^23 on.
+-- Boxes with their sides along the axes, round the rows of a list. Lengths along an axis are counted in grid units from -2^29 on.
 use Rattle.std.specs.Prelude.{ℕ, ◌/◌, ℤ, pos, ◌+ℤ◌, ◌*ℤ◌, Bool, ◌&&◌, List, length, map, min, max, nat_le, int_lt, unsigned_abs, if◌then◌else◌}
 use Rattle.std.specs.List.{slice_index_or}
 use Rattle.sign_predicates.specs.Point.{Point, RationalPoint, IsOnGrid}
@@ -13,9 +13,9 @@ use Rattle.row_cells.specs.declared.boxes.RowBox.{RowBox}
 abbrev pub row : List Tet → ℕ → Tet
 row rows i = slice_index_or rows i (record { a = 0; b = 0; c = 0; d = 0 })
 
--- a coordinate, from -2^23 on
+-- a coordinate, from -2^29 on
 abbrev pub ahead : ℤ → ℕ
-ahead x = unsigned_abs (x +ℤ pos 8388608)
+ahead x = unsigned_abs (x +ℤ pos 536870912)
 
 -- from the least to the greatest of four numbers
 abbrev pub span_of : ℕ → ℕ → ℕ → ℕ → Span
@@ -38,12 +38,12 @@ boxes_of ps rows = map (λ i. box_of i (corners ps (row rows i))) (numbers_below
 abbrev pub whole_units : ℤ → ℤ → ℕ
 whole_units parts unit = if int_lt parts (pos 0) then 0 else unsigned_abs parts / unsigned_abs unit
 
--- how many whole grid units the point lies from -2^23 on, along each axis
+-- how many whole grid units the point lies from -2^29 on, along each axis
 abbrev pub cell_of : RationalPoint → Cell
 cell_of x = record {
-  x = whole_units (x.x +ℤ pos 8388608 *ℤ x.w) x.w;
-  y = whole_units (x.y +ℤ pos 8388608 *ℤ x.w) x.w;
-  z = whole_units (x.z +ℤ pos 8388608 *ℤ x.w) x.w;
+  x = whole_units (x.x +ℤ pos 536870912 *ℤ x.w) x.w;
+  y = whole_units (x.y +ℤ pos 536870912 *ℤ x.w) x.w;
+  z = whole_units (x.z +ℤ pos 536870912 *ℤ x.w) x.w;
 }
 
 abbrev pub spans : Span → ℕ → Bool

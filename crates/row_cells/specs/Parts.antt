@@ -1,4 +1,4 @@
--- The 32 parts into which each axis is cut, and the cells that they make up. Lengths along an axis are counted in grid units from -2^23 on.
+-- The 32 parts into which each axis is cut, and the cells that they make up. Lengths along an axis are counted in grid units from -2^29 on.
 use Rattle.std.specs.Prelude.{◌≡◌, ◌↔◌, ℕ, ◌+◌, ◌*◌, ◌<◌, ◌≤◌, ℤ, pos, ◌-ℤ◌, ◌*ℤ◌, ◌≤ℤ◌, Bool, true, ◌&&◌, List, map, filter, All, nat_le, nat_eq, if◌then◌else◌}
 use Rattle.sign_predicates.specs.Point.{Point, RationalPoint, SomeRational}
 use Rattle.sign_predicates.specs.declared.tetrahedron.Corners.{Corners}
@@ -26,7 +26,7 @@ reaches axis from to b = nat_le (span_along axis b).low to && nat_le from (span_
 
 -- where a part begins and the one before it ends: the first begins where the grid does, the last ends where the grid does
 abbrev pub mark : Cut → ℕ → ℕ
-mark cut s = if nat_eq s 0 then 0 else if nat_eq s 32 then 16777216 else cut.low + cut.width * s
+mark cut s = if nat_eq s 0 then 0 else if nat_eq s 32 then 1073741824 else cut.low + cut.width * s
 
 -- the rows that reach into the part s along an axis, in their order
 abbrev pub part_of : Axis → Cut → ℕ → List RowBox → List RowBox
@@ -64,7 +64,7 @@ pub record StandsFor (ps : List Point) (rows : List Tet) (c : RowCells) : Type 0
 
 -- an end, as a coordinate
 abbrev pub cell_end : ℕ → ℤ
-cell_end n = pos n -ℤ pos 8388608
+cell_end n = pos n -ℤ pos 536870912
 
 -- the point lies between them
 pub record IsBetweenEnds (from to : ℕ) (x : RationalPoint) : Type 0 where

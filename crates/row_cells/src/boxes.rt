@@ -10,7 +10,7 @@ use sign_predicates::{Corners, GridPoint, RatPoint};
 use std::alloc::Global;
 use tet_ports::{Items, NoMemory};
 
-/// The least and the greatest of some coordinates, in grid units from `-2^23` on.
+/// The least and the greatest of some coordinates, in grid units from `-2^29` on.
 #[derive(Clone, Copy, Debug)]
 pub struct Span {
     pub low: u32,
@@ -26,7 +26,7 @@ pub struct RowBox {
     pub z: Span,
 }
 
-/// How many whole grid units a point lies from `-2^23` on, along each axis.
+/// How many whole grid units a point lies from `-2^29` on, along each axis.
 #[derive(Clone, Copy, Debug)]
 pub struct Cell {
     pub x: u64,
@@ -34,13 +34,13 @@ pub struct Cell {
     pub z: u64,
 }
 
-/// A coordinate, from `-2^23` on.
+/// A coordinate, from `-2^29` on.
 fn ahead(x: i32) -> u32
-    requires low { negsuc 8388607 ≤ℤ x }
-    requires high { x ≤ℤ pos 8388608 }
+    requires low { negsuc 536870911 ≤ℤ x }
+    requires high { x ≤ℤ pos 536870912 }
     ensures { result ≡ ahead x }
 {
-    (x + 8_388_608) as u32
+    (x + 536_870_912) as u32
 }
 
 fn span_of(a: u32, b: u32, c: u32, d: u32) -> Span
@@ -117,9 +117,9 @@ pub(crate) fn cell_of(x: RatPoint) -> Cell
     ensures unit { pos 0 <ℤ x.w }
 {
     Cell {
-        x: along(x.x + 8_388_608 * x.w, x.w),
-        y: along(x.y + 8_388_608 * x.w, x.w),
-        z: along(x.z + 8_388_608 * x.w, x.w),
+        x: along(x.x + 536_870_912 * x.w, x.w),
+        y: along(x.y + 536_870_912 * x.w, x.w),
+        z: along(x.z + 536_870_912 * x.w, x.w),
     }
 }
 

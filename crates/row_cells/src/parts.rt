@@ -19,7 +19,7 @@ pub enum Axis {
     Z,
 }
 
-/// How an axis is cut, in grid units from `-2^23` on: the first part begins where the grid does,
+/// How an axis is cut, in grid units from `-2^29` on: the first part begins where the grid does,
 /// the part s at `low + s * width`, and the last one ends where the grid does.
 #[derive(Clone, Copy, Debug)]
 pub struct Cut {
@@ -58,12 +58,12 @@ fn mark(cut: Cut, s: usize) -> u64
         return 0;
     }
     if s == PARTS {
-        return 16_777_216;
+        return 1_073_741_824;
     }
     u64::from(cut.low) + u64::from(cut.width) * s as u64
 }
 
-/// The part of what lies this many whole units from `-2^23` on, or the last one where it lies
+/// The part of what lies this many whole units from `-2^29` on, or the last one where it lies
 /// beyond all.
 pub(crate) fn part_at(cut: Cut, at: u64) -> usize
     requires { 0 < cut.width }

@@ -22,7 +22,7 @@ fn cut_of(axis: Axis, parts: u32, boxes: &Items<RowBox>) -> Cut
         low = low.min(span.low);
         high = high.max(span.high);
     }
-    let width = (high.saturating_sub(low) / parts).min(16_777_216) + 1;
+    let width = (high.saturating_sub(low) / parts).min(1_073_741_824) + 1;
     Cut { low, width }
 }
 
