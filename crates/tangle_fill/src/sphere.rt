@@ -11,8 +11,8 @@ use sign_predicates::{GridPoint, sphere_reach};
 
 /// The interval of the numbers that differ by no more than the reach from a coordinate of the grid.
 fn around(x: i32, reach: u32) -> Interval
-    requires coordinate { unsigned_abs x ≤ 2 ^ 23 }
-    requires reach { reach ≤ 2 ^ 24 }
+    requires coordinate { unsigned_abs x ≤ 2 ^ 29 }
+    requires reach { reach ≤ 2 ^ 30 }
     ensures { (z : ℤ) → unsigned_abs (z -ℤ x) ≤ reach → IsIn result z }
 {
     Interval {

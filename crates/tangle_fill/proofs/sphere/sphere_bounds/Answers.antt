@@ -19,9 +19,9 @@ returns c e h =
     let reach = c.in_ok-reach.reach in
     let near : AreWithin reach t.a e = c.in_ok-reach.ensures.reach e (subst (λ s. pos 0 ≤ℤ in_sphere s e) (sym c.corners_of.ensures) h) in
     let at = c.a.view_is ∙ sym (c.at-a.ensures origin) ∙ ap (λ (s : Corners). s.a) (sym c.corners_of.ensures) in
-    let x = back w32 (2 ^ 23) p.x tt (grid_size p.x g.x_low g.x_high) ∙ ap (λ (q : Point). q.x) at in
-    let y = back w32 (2 ^ 23) p.y tt (grid_size p.y g.y_low g.y_high) ∙ ap (λ (q : Point). q.y) at in
-    let z = back w32 (2 ^ 23) p.z tt (grid_size p.z g.z_low g.z_high) ∙ ap (λ (q : Point). q.z) at in
+    let x = back w32 (2 ^ 29) p.x tt (grid_size p.x g.x_low g.x_high) ∙ ap (λ (q : Point). q.x) at in
+    let y = back w32 (2 ^ 29) p.y tt (grid_size p.y g.y_low g.y_high) ∙ ap (λ (q : Point). q.y) at in
+    let z = back w32 (2 ^ 29) p.z tt (grid_size p.z g.z_low g.z_high) ∙ ap (λ (q : Point). q.z) at in
     record {
       x = c.around.ensures e.x (subst (λ k. unsigned_abs (e.x -ℤ k) ≤ reach) (sym x) near.x);
       y = c.around-2.ensures e.y (subst (λ k. unsigned_abs (e.y -ℤ k) ≤ reach) (sym y) near.y);
