@@ -1,5 +1,12 @@
 //! Five corners and how the height of one over the other four depends on their heights. They stand
 //! in one order: the three corners of a face, the corner of its row, and the one across.
+//!
+//! The coordinates of the grid are at most `2^29` in size, so those of a vector between two of its
+//! points are at most `2^30`. Minors are then at most `2^61`, squares of distances `3 * 2^60`, and
+//! volumes `3 * 2^91`; a point twice as far away gives minors up to `2^62` and volumes up to
+//! `3 * 2^92`. The coefficients of a circuit and the sides of a plane are volumes. A sum of four
+//! coefficients times squares is below `2^157`, and one of five coefficients times sides below
+//! `2^188`: these have 256 bits where the points are not near enough for fewer.
 use crate::wide::{Wide, minus, plus, product, widened};
 
 /// A point by its differences from a base point, over the common power of two.
@@ -47,6 +54,10 @@ fn from_to(a: Spot, b: Spot) -> Spot {
 
 /// The coordinates of short vectors are below this, and not below its negative.
 pub(crate) const SHORT: i64 = 1 << 19;
+
+/// The coordinates of near vectors are below this, and not below its negative. Four coefficients
+/// times squares of distances are then below `2^127` in sum.
+pub(crate) const NEAR: i64 = 1 << 24;
 
 /// A number that is below a power of two exactly where all coordinates are, and are not below its
 /// negative.
@@ -200,14 +211,59 @@ fn square(a: Spot, b: Spot) -> i128 {
     i128::from(sum)
 }
 
-/// The coefficients times the squares of the distances from the corner across: not below 0 where
-/// that corner is outside of the sphere through the others.
-pub(crate) fn sum_of(circuit: &[i128; 5], corners: &[Spot; 5]) -> i128 {
+/// The coefficients times the squares of the distances from the corner across, where the corners
+/// are near one another.
+fn near_sum(circuit: &[i128; 5], corners: &[Spot; 5]) -> i128 {
     let mut sum = 0i128;
     for i in 0..4 {
         sum = sum.wrapping_add(circuit[i].wrapping_mul(square(corners[i], corners[4])));
     }
     sum
+}
+
+/// A sum as the total of its terms above 0 less that of its terms below 0.
+struct Totals {
+    above: Wide,
+    below: Wide,
+}
+
+/// The coefficients times those of five numbers that are above 0.
+fn long_totals(circuit: &[i128; 5], numbers: &[i128; 5]) -> Totals {
+    let (mut above, mut below) = (widened(0), widened(0));
+    for i in 0..5 {
+        let number = numbers[i].max(0).unsigned_abs();
+        let part = product(circuit[i].unsigned_abs(), number);
+        if circuit[i] < 0 {
+            below = plus(below, part);
+        } else {
+            above = plus(above, part);
+        }
+    }
+    Totals { above, below }
+}
+
+/// The coefficients times the squares of the distances from the corner across, in 256 bits; `None`
+/// where that is below 0.
+fn far_sum(circuit: &[i128; 5], corners: &[Spot; 5]) -> Option<Wide> {
+    let [a, b, c, d, across] = *corners;
+    let (a, b) = (square(a, across), square(b, across));
+    let (c, d) = (square(c, across), square(d, across));
+    let Totals { above, below } = long_totals(circuit, &[a, b, c, d, 0]);
+    if above < below {
+        return None;
+    }
+    Some(minus(above, below))
+}
+
+/// The coefficients times the squares of the distances from the corner across; `None` where that is
+/// below 0: the corner across is inside the sphere through the others.
+pub(crate) fn sum_of(is_near: bool, circuit: &[i128; 5], corners: &[Spot; 5]) -> Option<Wide> {
+    if is_near {
+        let sum = near_sum(circuit, corners);
+        (sum >= 0).then_some(widened(sum.unsigned_abs()))
+    } else {
+        far_sum(circuit, corners)
+    }
 }
 
 /// A product of 128 bits, where the side has at most 60 bits and the coefficient 64.
@@ -231,22 +287,14 @@ fn short_weight(circuit: &[i128; 5], sides: &[i128; 5]) -> Option<i128> {
     Some(sum)
 }
 
-/// The same in 256 bits; `None` where it is not above 0.
+/// Minus the coefficients times the sides of the points above the plane, in 256 bits; `None` where
+/// that is not above 0.
 fn long_weight(circuit: &[i128; 5], sides: &[i128; 5]) -> Option<Wide> {
-    let (mut above, mut below) = (widened(0), widened(0));
-    for i in 0..5 {
-        let side = sides[i].max(0).unsigned_abs();
-        let part = product(circuit[i].unsigned_abs(), side);
-        if circuit[i] < 0 {
-            above = plus(above, part);
-        } else {
-            below = plus(below, part);
-        }
-    }
-    if above <= below {
+    let Totals { above, below } = long_totals(circuit, sides);
+    if below <= above {
         return None;
     }
-    Some(minus(above, below))
+    Some(minus(below, above))
 }
 
 /// How fast the sum falls as the points above the plane rise: minus the coefficients times their

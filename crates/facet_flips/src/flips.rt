@@ -160,11 +160,7 @@ impl Local {
         let Some(weight) = weight_of(&circuit, &or_stop(self.heights_of(&numbers))?) else {
             return Ok(None)
         };
-        let sum = sum_of(&circuit, &spots);
-        if sum < 0 {
-            return Err(Stop::GivesUp);
-        }
-        let sum = sum.unsigned_abs();
+        let sum = or_stop(sum_of(self.is_near, &circuit, &spots))?;
         Ok(Some(Event {
             flip: Flip {
                 row: joint.row,
@@ -172,11 +168,11 @@ impl Local {
                 kind,
                 numbers,
             },
+            rank: rank_of(sum, weight),
             circuit,
             lead: lead_of(&numbers, &circuit),
             sum,
             weight,
-            rank: rank_of(sum, weight),
         }))
     }
 

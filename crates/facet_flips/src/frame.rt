@@ -1,5 +1,5 @@
 //! The corners of the crossed rows by numbers of their own, in the order of the points.
-use crate::circuit::{Plane, SHORT, Spot, reach_of};
+use crate::circuit::{NEAR, Plane, SHORT, Spot, reach_of};
 use crate::heap::Waiting;
 use crate::local::{Corner, Local, NO_SIDES, corner_at};
 use crate::stop::{Stop, or_stop};
@@ -137,7 +137,7 @@ impl Frame {
         rows: &TetList,
     ) -> Result<Local, Stop> {
         let mut spots = self.spots(alloc, points)?;
-        let is_short = reduce(&mut spots);
+        let reach = reduce(&mut spots);
         let nowhere = Spot { x: 0, y: 0, z: 0 };
         let mut local = Local {
             slots: Vec::with_capacity(alloc, rows.len())?,
@@ -149,7 +149,8 @@ impl Frame {
             stamp: 0,
             waiting: Waiting::new(alloc),
             flips_left: rows.len().saturating_mul(FLIPS),
-            is_short,
+            is_short: reach < SHORT / 2,
+            is_near: reach < NEAR / 2,
         };
         local.fill(alloc, &self.locals(alloc, rows)?)?;
         Ok(local)
@@ -175,10 +176,11 @@ fn over_power(v: Spot, power: u32) -> Spot {
 }
 
 /// Puts the vectors from the first of the points in their places, over the common power of two of
-/// all coordinates; whether vectors between any two of them are short then.
-pub(crate) fn reduce(spots: &mut [Spot]) -> bool {
+/// all coordinates. Answers a number that is below a power of two exactly where all coordinates are
+/// then, and are not below its negative.
+pub(crate) fn reduce(spots: &mut [Spot]) -> i64 {
     let Some(base) = spots.first().copied() else {
-        return true;
+        return 0;
     };
     let (mut bits, mut reach) = (0, 0);
     for spot in spots.iter() {
@@ -190,7 +192,7 @@ pub(crate) fn reduce(spots: &mut [Spot]) -> bool {
     for i in 0..spots.len() {
         spots[i] = over_power(between(base, spots[i]), power);
     }
-    reach.wrapping_shr(power) < SHORT / 2
+    reach.wrapping_shr(power)
 }
 
 /// The corners at these places.

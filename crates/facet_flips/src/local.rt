@@ -86,7 +86,7 @@ pub(crate) fn corner_at(spot: Spot) -> Corner {
 
 /// The rows, their corners, the plane of the facet that is put in and its number, from 1, the faces
 /// that wait to be flipped, how many flips are left, and whether the vectors between corners are
-/// short.
+/// short, and whether they are near.
 #[derive(Drop)]
 pub(crate) struct Local {
     pub(crate) slots: Vec<Slot>,
@@ -96,6 +96,7 @@ pub(crate) struct Local {
     pub(crate) waiting: Waiting,
     pub(crate) flips_left: usize,
     pub(crate) is_short: bool,
+    pub(crate) is_near: bool,
 }
 
 /// The place of a corner in a row.

@@ -1,6 +1,6 @@
 //! The heights at which circuits turn over, and their order, with ties by rising point numbers.
 use crate::circuit::Kind;
-use crate::wide::{Wide, product, times};
+use crate::wide::{Wide, long_product, product, times};
 use std::cmp::Ordering;
 
 /// A face between two rows that is to be flipped: the rows by their slots, the kind of flip, and
@@ -18,11 +18,11 @@ pub(crate) struct Flip {
 #[derive(Clone, Copy)]
 pub(crate) struct Event {
     pub(crate) flip: Flip,
+    pub(crate) rank: u64,
     pub(crate) circuit: [i128; 5],
     pub(crate) lead: Lead,
-    pub(crate) sum: u128,
+    pub(crate) sum: Wide,
     pub(crate) weight: Wide,
-    pub(crate) rank: u64,
 }
 
 /// The least of five corners whose coefficient is not 0, and its coefficient.
@@ -118,12 +118,16 @@ fn by_corners(e: &Event, f: &Event) -> Ordering {
     Ordering::Equal
 }
 
-/// The order of the quotients. The events of one circuit have one weight.
+/// The order of the quotients. The events of one circuit have one weight. A sum, below `2^157`,
+/// times a weight, below `2^188`, fits 384 bits.
 fn by_quotient(e: &Event, f: &Event) -> Ordering {
     if e.weight == f.weight {
         return e.sum.cmp(&f.sum);
     }
-    by_sizes(e.sum, e.weight, f.sum, f.weight)
+    if e.sum.high == 0 && f.sum.high == 0 {
+        return by_sizes(e.sum.low, e.weight, f.sum.low, f.weight);
+    }
+    long_product(f.weight, e.sum).cmp(&long_product(e.weight, f.sum))
 }
 
 /// Whether one event comes before the other: by the quotients, then by the coefficients of the

@@ -3,13 +3,13 @@
 //! with a row, or nothing of it. So one point of the section tells.
 ghost use Rattle.box_tree.specs.Tree.{IsTree};
 
-use crate::circuit::{Plane, Spot, is_passed, plane_of, side_of};
+use crate::circuit::{Plane, SHORT, Spot, is_passed, plane_of, side_of};
 use crate::frame::{reduce, spot_of};
 use crate::missing::Missing;
 use crate::stop::{Stop, or_stop};
 use box_tree::{
-    Bounds, Boxed, Interval, Tree, are_bounds_apart, joined, next_meeting, point_bounds, tree_of,
-    with_key,
+    Bounds, Boxed, Interval, Tree, are_bounds_apart, box_of, joined, next_meeting, point_bounds,
+    tree_of,
 };
 use geo_laws::{FacetTriangle, FacetTriangles, Points, Tet, TetList};
 use sign_predicates::GridPoint;
@@ -142,7 +142,7 @@ fn spots_of(alloc: Global, points: &Points) -> Result<Spots, NoMemory> {
     for p in points.as_slice() {
         all.push(spot_of(*p))?;
     }
-    let are_short = reduce(&mut all);
+    let are_short = reduce(&mut all) < SHORT / 2;
     Ok(Spots { all, are_short })
 }
 
@@ -244,7 +244,7 @@ fn all_spans(
 fn boxes_of_spans(alloc: Global, all: &Items<Span>) -> Result<Items<Boxed>, NoMemory> {
     let mut boxes = Items::with_capacity(alloc, all.len())?;
     for i in 0..all.len() {
-        boxes.push(with_key(all.at(i).bounds, i))?;
+        boxes.push(box_of(all.at(i).bounds, i))?;
     }
     Ok(boxes)
 }
@@ -259,7 +259,7 @@ fn sheet_of(
     let mut boxes = Items::new(alloc);
     for i in span.first..span.past.min(missing.len()) {
         let bounds = or_stop(triangle_bounds(points, missing.at(i)))?;
-        boxes.push(with_key(bounds, i))?;
+        boxes.push(box_of(bounds, i))?;
     }
     let tree = tree_of(alloc, boxes)?;
     Ok(Sheet { span, tree })

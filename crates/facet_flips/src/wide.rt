@@ -69,6 +69,22 @@ pub(crate) fn times(a: Wide, b: u128) -> Widest {
     }
 }
 
+/// The product of two numbers; what is above 384 bits is lost.
+pub(crate) fn long_product(a: Wide, b: Wide) -> Widest {
+    let lower = times(a, b.low);
+    let upper = product(a.low, b.high);
+    let (middle, carry) = lower.middle.overflowing_add(upper.low);
+    let above = a.high.wrapping_mul(b.high).wrapping_add(upper.high);
+    Widest {
+        high: lower
+            .high
+            .wrapping_add(above)
+            .wrapping_add(u128::from(carry)),
+        middle,
+        low: lower.low,
+    }
+}
+
 /// The number without its lowest 0, 64 or 128 bits, so that at least 64 are left where some were
 /// taken away, and how many were taken.
 fn shortened(a: Wide) -> (u128, u32) {
@@ -92,8 +108,8 @@ fn leading(a: Wide) -> (u32, u128) {
 /// A quotient, rounded down, as the bits of a floating point number: ten of the exponent, and 54
 /// that follow the leading one. It does not fall where the quotient rises, by more than a few
 /// units in the last place. The divisor is not 0.
-pub(crate) fn rank_of(a: u128, b: Wide) -> u64 {
-    let (bits, top) = leading(widened(a));
+pub(crate) fn rank_of(a: Wide, b: Wide) -> u64 {
+    let (bits, top) = leading(a);
     let (bits_below, below) = leading(b);
     if top == 0 || below == 0 {
         return 0;
