@@ -29,24 +29,25 @@ pub greatest_all : (f : DecimalPoint → ℕ) (ps : List DecimalPoint) (i most :
 unfolding greatest
 greatest_all f ps i most le = let e : greatest f (drop i ps) ≡ 0 = at_drop_all (greatest f) ps i le in omega arith
 
--- a size that is not kept is over the limit
-pub over_is : (n : ℕ) → if_at_most limit n ≡ None → nat_lt limit n ≡ true
-over_is n none = lt-ltb limit n (over_within limit n none)
+-- a size that is not kept is over each number up to the limit
+pub over_is : (wide n : ℕ) → wide ≤ limit → if_at_most limit n ≡ None → nat_lt wide n ≡ true
+over_is wide n within none = lt-ltb wide n (let over = over_within limit n none in omega arith)
 
-pub small_is : (n m : ℕ) → if_at_most limit n ≡ Some m → nat_lt limit n ≡ false
-small_is n m some = let kept = kept_within limit n m some in let e = kept.0 in let le = kept.1 in le-ltb limit n (omega arith)
+-- and one that is kept is as large as it is
+pub small_is : (wide n m : ℕ) → if_at_most limit n ≡ Some m → nat_lt wide n ≡ nat_lt wide m
+small_is wide n m some = let kept = kept_within limit n m some in ap (nat_lt wide) kept.0
 
-pub first_more : (g : Grid) (ps : List DecimalPoint) (i : ℕ) (p : DecimalPoint) → i < length ps → p ≡ get_or ps i p → is_over_units g p ≡ false → first_over_units g (drop i ps) ≡ first_over_units g (drop (i + 1) ps)
+pub first_more : (wide : ℕ) (g : Grid) (ps : List DecimalPoint) (i : ℕ) (p : DecimalPoint) → i < length ps → p ≡ get_or ps i p → is_over_units wide g p ≡ false → first_over_units wide g (drop i ps) ≡ first_over_units wide g (drop (i + 1) ps)
 unfolding first_over_units
-first_more g ps i p lt is small = ap (first_over_units g) (from_here ps i p lt is) ∙ cond-false _ _ _ small
+first_more wide g ps i p lt is small = ap (first_over_units wide g) (from_here ps i p lt is) ∙ cond-false _ _ _ small
 
-pub first_here : (g : Grid) (ps : List DecimalPoint) (i : ℕ) (p : DecimalPoint) → i < length ps → p ≡ get_or ps i p → is_over_units g p ≡ true → first_over_units g (drop i ps) ≡ Some p
+pub first_here : (wide : ℕ) (g : Grid) (ps : List DecimalPoint) (i : ℕ) (p : DecimalPoint) → i < length ps → p ≡ get_or ps i p → is_over_units wide g p ≡ true → first_over_units wide g (drop i ps) ≡ Some p
 unfolding first_over_units
-first_here g ps i p lt is over = ap (first_over_units g) (from_here ps i p lt is) ∙ cond-true _ _ _ over
+first_here wide g ps i p lt is over = ap (first_over_units wide g) (from_here ps i p lt is) ∙ cond-true _ _ _ over
 
-pub first_all : (g : Grid) (ps : List DecimalPoint) (i : ℕ) → length ps ≤ i → first_over_units g (drop i ps) ≡ None
+pub first_all : (wide : ℕ) (g : Grid) (ps : List DecimalPoint) (i : ℕ) → length ps ≤ i → first_over_units wide g (drop i ps) ≡ None
 unfolding first_over_units
-first_all g ps i le = at_drop_all (first_over_units g) ps i le
+first_all wide g ps i le = at_drop_all (first_over_units wide g) ps i le
 
 pub line_some : (o : Option DecimalPoint) (g : Grid) (line : ℕ) → option_map (λ p. p.line) o ≡ Some line → unless_over o g ≡ Err (record { line = line })
 line_some None g line is = absurd (cc)
@@ -56,35 +57,35 @@ pub line_none : (o : Option DecimalPoint) → option_map (λ p. p.line) o ≡ No
 line_none None is = refl
 line_none (Some p) is = absurd (cc)
 
-none_found : (g : Grid) (ps : List DecimalPoint) (k : ℕ) (d : DecimalPoint) → find (is_over_units g) ps ≡ None → k < length ps → is_over_units g (get_or ps k d) ≡ false
-none_found g [] k d none lt = absurd (omega arith)
-none_found g (p ∷ ps) zero d none lt =
-    elim (cases_Bool (is_over_units g p)) [
-      | inl over ↦ let found : find (is_over_units g) (p ∷ ps) ≡ Some p = cond-true _ _ _ over in absurd (cc)
+none_found : (wide : ℕ) (g : Grid) (ps : List DecimalPoint) (k : ℕ) (d : DecimalPoint) → find (is_over_units wide g) ps ≡ None → k < length ps → is_over_units wide g (get_or ps k d) ≡ false
+none_found wide g [] k d none lt = absurd (omega arith)
+none_found wide g (p ∷ ps) zero d none lt =
+    elim (cases_Bool (is_over_units wide g p)) [
+      | inl over ↦ let found : find (is_over_units wide g) (p ∷ ps) ≡ Some p = cond-true _ _ _ over in absurd (cc)
       | inr small ↦ small
     ]
-none_found g (p ∷ ps) (suc k) d none lt =
-    elim (cases_Bool (is_over_units g p)) [
-      | inl over ↦ let found : find (is_over_units g) (p ∷ ps) ≡ Some p = cond-true _ _ _ over in absurd (cc)
-      | inr small ↦ none_found g ps k d (sym (cond-false _ _ _ small) ∙ none) (omega arith)
+none_found wide g (p ∷ ps) (suc k) d none lt =
+    elim (cases_Bool (is_over_units wide g p)) [
+      | inl over ↦ let found : find (is_over_units wide g) (p ∷ ps) ≡ Some p = cond-true _ _ _ over in absurd (cc)
+      | inr small ↦ none_found wide g ps k d (sym (cond-false _ _ _ small) ∙ none) (omega arith)
     ]
 
-not_over : (n : ℕ) → nat_lt limit n ≡ false → n ≤ limit
-not_over n is =
-    elim (cases_lt limit n) [
-      | inl over ↦ let e = lt-ltb limit n over in absurd (cc)
+not_over : (wide n : ℕ) → nat_lt wide n ≡ false → n ≤ wide
+not_over wide n is =
+    elim (cases_lt wide n) [
+      | inl over ↦ let e = lt-ltb wide n over in absurd (cc)
       | inr le ↦ le
     ]
 
--- each point is on the grid that is chosen, where none is over its limit
-pub points_on : (ps : List DecimalPoint) → first_over_units (coarsest ps) ps ≡ None → All (IsPointInUnits (coarsest ps)) ps
+-- each point is on the grid that is chosen, where none is over so many of its units
+pub points_on : (wide : ℕ) (ps : List DecimalPoint) → wide ≤ limit → first_over_units wide (coarsest ps) ps ≡ None → All (IsPointInUnits (coarsest ps)) ps
 unfolding first_over_units greatest
-points_on ps none k d lt =
+points_on wide ps within none k d lt =
     let g = coarsest ps in
     let p = get_or ps k d in
     let five = max_bounds (greatest fives_of) fives_of refl (λ _ _. refl) ps k d lt in
     let two = max_bounds (greatest twos_of) twos_of refl (λ _ _. refl) ps k d lt in
-    let small = not_over (size_on g p) (none_found g ps k d none lt) in
+    let small = not_over wide (size_on g p) (none_found wide g ps k d none lt) in
     record {
       x = record { fives = omega arith; twos = omega arith; small = omega arith };
       y = record { fives = omega arith; twos = omega arith; small = omega arith };

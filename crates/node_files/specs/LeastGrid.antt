@@ -35,18 +35,18 @@ units_on g d =
 abbrev pub size_on : Grid → DecimalPoint → ℕ
 size_on g p = max (units_on g p.x) (max (units_on g p.y) (units_on g p.z))
 
-abbrev pub is_over_units : Grid → DecimalPoint → Bool
-is_over_units g p = nat_lt limit (size_on g p)
+abbrev pub is_over_units : ℕ → Grid → DecimalPoint → Bool
+is_over_units wide g p = nat_lt wide (size_on g p)
 
--- the first point with a coordinate over 2^23 units
-unfoldable pub first_over_units : Grid → List DecimalPoint → Option DecimalPoint
-first_over_units g ps = find (is_over_units g) ps
+-- the first point with a coordinate over so many units
+unfoldable pub first_over_units : ℕ → Grid → List DecimalPoint → Option DecimalPoint
+first_over_units wide g ps = find (is_over_units wide g) ps
 
--- the least grid, or the line of the first point that is over its limit
-unfoldable pub least_grid_of : List DecimalPoint → Result Grid Range
-least_grid_of ps = unless_over (first_over_units (coarsest ps) ps) (coarsest ps)
+-- the least grid, or the line of the first point with a coordinate over so many of its units
+unfoldable pub least_grid_of : ℕ → List DecimalPoint → Result Grid Range
+least_grid_of wide ps = unless_over (first_over_units wide (coarsest ps) ps) (coarsest ps)
 
--- the number is a whole number of grid units, and at most 2^23 of them in size
+-- the number is a whole number of grid units, and at most 2^29 of them in size
 pub record IsInUnits (g : Grid) (d : Scaled) : Type 0 where
   pub fives : (terms_of d).fives ≤ g.decimals
   pub twos : (terms_of d).twos ≤ g.decimals + g.halvings

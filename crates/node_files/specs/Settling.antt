@@ -42,12 +42,12 @@ pub record IsTooMany (limits : Limits) (text : NodeText) (count most : ℕ) : Ty
 -- there are not too many, and no grid, since the point of this line is off it
 pub record IsOffGrid (limits : Limits) (text : NodeText) (options : GridOptions) (line : ℕ) : Type 0 where
   pub few : length text.decimals ≤ limits.points
-  pub off : grid_of options.halvings (rounded_points options.decimals text.decimals) ≡ Err (record { line = line })
+  pub off : grid_of limits.grid options.halvings (rounded_points options.decimals text.decimals) ≡ Err (record { line = line })
 
 -- there are not too many, and they are on this grid
 pub record IsOnItsGrid (limits : Limits) (text : NodeText) (options : GridOptions) (grid : Grid) : Type 0 where
   pub few : length text.decimals ≤ limits.points
-  pub on : grid_of options.halvings (rounded_points options.decimals text.decimals) ≡ Ok grid
+  pub on : grid_of limits.grid options.halvings (rounded_points options.decimals text.decimals) ≡ Ok grid
 
 -- they are on a grid, where equal ones are folded, and the table says so
 pub record IsSettled (limits : Limits) (text : NodeText) (options : GridOptions) (table : NodeTable) : Type 0 where

@@ -60,10 +60,10 @@ abbrev pub node_text : NodeTable → List Point → ℕ → List ℕ
 node_text table added first = list_text table added first (replicate table.attribute_count (48 ∷ []))
     (replicate (mark_count table.flag) (pos 0))
 
--- each listed point has as many attributes as stated and a marker where the flag is set, the grid is halved at most 12 times, and equal
+-- each listed point has as many attributes as stated and a marker where the flag is set, the grid is halved at most 18 times, and equal
 -- points are folded
 pub record IsNodeTable (table : NodeTable) : Type 0 where
   pub attributes : length table.attributes ≡ table.attribute_count * length table.listed
   pub markers : length table.markers ≡ mark_count table.flag * length table.listed
-  pub halvings : table.grid.halvings ≤ 12
+  pub halvings : table.grid.halvings ≤ 18
   pub folded : IsFolded table.listed table.points table.names table.folded

@@ -9,8 +9,8 @@ use crate::terms::terms_of;
 use grid_coords::Grid;
 use tet_text::Decimal;
 
-/// The greatest size of a grid coordinate, 2^23.
-const LIMIT: u64 = 8_388_608;
+/// The greatest size of a grid coordinate, 2^29.
+const LIMIT: u64 = 536_870_912;
 
 /// The number times `base`^`steps`, or None where that is over the limit.
 fn raised(number: u128, base: u32, steps: u64) -> Option<u64>

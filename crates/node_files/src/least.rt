@@ -65,21 +65,24 @@ fn size_on(grid: &Grid, p: &DecimalPoint) -> Option<u64>
     Some(x.max(y.max(z)))
 }
 
-fn is_over(grid: &Grid, p: &DecimalPoint) -> bool
-    ensures { result ≡ is_over_units grid.now p.now }
+/// Whether a coordinate of the point is over `wide` units in size.
+fn is_over(wide: u64, grid: &Grid, p: &DecimalPoint) -> bool
+    requires { wide ≤ limit }
+    ensures { result ≡ is_over_units wide grid.now p.now }
 {
     match size_on(grid, p) {
-        Some(_) => false,
+        Some(size) => size > wide,
         None => true,
     }
 }
 
-/// The line of the first point with a coordinate over the limit.
-fn line_over(grid: &Grid, points: &[DecimalPoint]) -> Option<usize>
-    ensures { result ≡ option_map (λ p. p.line) (first_over_units grid.now points.now) }
+/// The line of the first point with a coordinate over `wide` units in size.
+fn line_over(wide: u64, grid: &Grid, points: &[DecimalPoint]) -> Option<usize>
+    requires { wide ≤ limit }
+    ensures { result ≡ option_map (λ p. p.line) (first_over_units wide grid.now points.now) }
 {
     for p in points {
-        if is_over(grid, p) {
+        if is_over(wide, grid, p) {
             return Some(p.line);
         }
     }
@@ -97,16 +100,17 @@ fn coarsest(points: &[DecimalPoint]) -> Grid
 
 /// The least grid on which all coordinates are whole. In lowest terms each coordinate has a
 /// denominator `2^i * 5^j`; the grid has as many decimals as the greatest `j`, and so many halvings
-/// besides that the greatest `i` is reached. Range exactly where a coordinate is over 2^23 units in
-/// size on that grid; its line is that of the first such point. It takes no memory.
-pub fn least_grid(points: &DecimalPoints) -> Result<Grid, Range>
-    ensures value { result ≡ least_grid_of points.now }
+/// besides that the greatest `i` is reached. Range exactly where a coordinate is over `wide` units
+/// in size on that grid; its line is that of the first such point. It takes no memory.
+pub fn least_grid(points: &DecimalPoints, wide: u64) -> Result<Grid, Range>
+    requires { wide ≤ limit }
+    ensures value { result ≡ least_grid_of wide points.now }
 
-    // Each point has whole coordinates on the grid, at most 2^23 in size.
+    // Each point has whole coordinates on the grid.
     ensures on_grid { IfOk result (λ g. All (IsPointInUnits g) points.now) }
 {
     let grid = coarsest(points.as_slice());
-    match line_over(&grid, points.as_slice()) {
+    match line_over(wide, &grid, points.as_slice()) {
         Some(line) => Err(Range { line }),
         None => Ok(grid),
     }
@@ -121,7 +125,7 @@ fn coordinate_on(grid: &Grid, d: &Decimal) -> i32
     if d.value < 0 { -size } else { size }
 }
 
-/// The point in units of a grid on which it has whole coordinates, at most 2^23 in size.
+/// The point in units of a grid on which it has whole coordinates, at most 2^29 in size.
 pub(crate) fn to_least_grid(grid: &Grid, p: &DecimalPoint) -> GridPoint
     requires { IsPointInUnits grid.now p.now }
     ensures { result ≡ point_on grid.now p.now }

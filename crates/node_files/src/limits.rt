@@ -14,10 +14,13 @@ pub struct Limits {
     pub facets: usize,
     /// The corners of a polygon.
     pub corners: usize,
+    /// The greatest size of a coordinate, in grid units.
+    pub grid: u64,
 }
 
 impl Limits {
-    /// The limits of the program `tetgen`: 2^26 bytes, 20,000 points and facets, and 1,000 corners.
+    /// The limits of the program `tetgen`: 2^26 bytes, 20,000 points and facets, 1,000
+    /// corners, and coordinates up to 2^23 in size.
     pub fn tetgen() -> Limits
         ensures values { result ≡ tetgen_limits }
         ensures indexable { AreIndexable result }
@@ -27,6 +30,7 @@ impl Limits {
             points: 20_000,
             facets: 20_000,
             corners: 1000,
+            grid: 8_388_608,
         }
     }
 }

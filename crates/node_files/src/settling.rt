@@ -63,7 +63,7 @@ pub fn settle(
         });
     }
     let decimals = rounded_points(alloc, options.decimals, text.decimals)?;
-    let grid = choose_grid(&decimals, options.halvings)?;
+    let grid = choose_grid(&decimals, options.halvings, limits.grid)?;
     let listed = grid_points(alloc, &grid, decimals.as_slice())?;
     let Folding {
         points,

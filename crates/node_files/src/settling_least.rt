@@ -1,6 +1,7 @@
 //! The points of a mesh on their least grid.
 
 ghost use Rattle.std.specs.Prelude.{◌≡◌, ◌≤◌, ◌<◌, ◌-◌, ◌^◌, map, All, IfOk, length};
+ghost use Rattle.grid_coords.specs.Units.{limit};
 ghost use Rattle.node_files.specs.LeastGrid.{point_on, IsPointInUnits};
 ghost use Rattle.node_files.specs.SettlingLeast.{SettlesLeast};
 
@@ -12,7 +13,7 @@ use grid_coords::{DecimalPoint, DecimalPoints, Grid};
 use std::alloc::Global;
 use tet_ports::NoMemory;
 
-/// The points in units of a grid on which all have whole coordinates, at most 2^23 in size.
+/// The points in units of a grid on which all have whole coordinates, at most 2^29 in size.
 pub fn grid_points(alloc: Global, grid: &Grid, points: &[DecimalPoint]) -> Result<Points, NoMemory>
     requires { All (IsPointInUnits grid.now) points.now }
     ensures { IfOk result (λ list. list ≡ map (point_on grid.now) points.now) }
@@ -25,26 +26,29 @@ pub fn grid_points(alloc: Global, grid: &Grid, points: &[DecimalPoint]) -> Resul
 }
 
 /// The points on their least grid.
-fn on_least_grid(alloc: Global, points: &DecimalPoints) -> Result<Points, GridFault>
-    ensures outcome { SettlesLeast points.now None (length points.now) result }
+fn on_least_grid(alloc: Global, points: &DecimalPoints, wide: u64) -> Result<Points, GridFault>
+    requires { wide ≤ limit }
+    ensures outcome { SettlesLeast wide points.now None (length points.now) result }
     ensures count { IfOk result (λ list. length list ≡ length points.now) }
 {
-    let grid = least_grid(points)?;
+    let grid = least_grid(points, wide)?;
     let list = grid_points(alloc, &grid, points.as_slice())?;
     Ok(list)
 }
 
 /// The points of a mesh on their least grid, each rounded first where that is asked for. TooMany
 /// exactly where there are more than `most_points`; then Range exactly where a coordinate is over
-/// 2^23 in size on that grid, with the line of the first such point.
+/// `wide` units in size on that grid, with the line of the first such point.
 pub fn settle_least(
     alloc: Global,
     points: &DecimalPoints,
     decimals: Option<u32>,
     most_points: u64,
+    wide: u64,
 ) -> Result<Points, GridFault>
-    requires { most_points < 2 ^ 32 - 1 }
-    ensures outcome { SettlesLeast points.now decimals most_points result }
+    requires points { most_points < 2 ^ 32 - 1 }
+    requires wide { wide ≤ limit }
+    ensures outcome { SettlesLeast wide points.now decimals most_points result }
     ensures count { IfOk result (λ list. length list ≡ length points.now) }
     ensures few { IfOk result (λ list. length list ≤ most_points) }
 {
@@ -55,8 +59,8 @@ pub fn settle_least(
     match decimals {
         Some(decimals) => {
             let rounded = each_rounded(alloc, decimals, points.as_slice())?;
-            on_least_grid(alloc, &rounded)
+            on_least_grid(alloc, &rounded, wide)
         }
-        None => on_least_grid(alloc, points),
+        None => on_least_grid(alloc, points, wide),
     }
 }

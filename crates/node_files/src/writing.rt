@@ -43,7 +43,7 @@ fn put_count_field(n: u64, out: &mut Bytes) -> Result<(), NoMemory>
 }
 
 fn put_coordinate(grid: &Grid, coordinate: i32, out: &mut Bytes) -> Result<(), NoMemory>
-    requires halvings { grid.now.halvings ≤ 12 }
+    requires halvings { grid.now.halvings ≤ 18 }
     ensures { OnOk result (out.new ≡ out.old ++ 32 ∷ grid_text grid.now coordinate) }
 {
     out.push(b' ')?;
@@ -51,7 +51,7 @@ fn put_coordinate(grid: &Grid, coordinate: i32, out: &mut Bytes) -> Result<(), N
 }
 
 fn put_place(grid: &Grid, p: GridPoint, out: &mut Bytes) -> Result<(), NoMemory>
-    requires halvings { grid.now.halvings ≤ 12 }
+    requires halvings { grid.now.halvings ≤ 18 }
     ensures { OnOk result (out.new ≡ out.old ++ fields_text (place_fields grid.now p)) }
 {
     put_coordinate(grid, p.x, out)?;
@@ -86,7 +86,7 @@ fn put_point(
     markers: &[i64],
     out: &mut Bytes,
 ) -> Result<(), NoMemory>
-    requires halvings { grid.now.halvings ≤ 12 }
+    requires halvings { grid.now.halvings ≤ 18 }
     requires number { number < 2 ^ 63 }
     ensures { OnOk result (out.new
         ≡ out.old ++ point_line grid.now number p attributes.now markers.now) }
@@ -136,7 +136,7 @@ fn put_alike(
     markers: &[i64],
     out: &mut Bytes,
 ) -> Result<(), NoMemory>
-    requires halvings { grid.now.halvings ≤ 12 }
+    requires halvings { grid.now.halvings ≤ 18 }
     requires few { length points.now < 2 ^ 32 }
     requires first { first < 2 ^ 33 }
     ensures { OnOk result (out.new

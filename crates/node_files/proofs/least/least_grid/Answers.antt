@@ -9,7 +9,7 @@ returns-in-Some-clause-value c =
     let ps = c.args.points.now in
     let grid = c.coarsest-grid.ensures ∙ ap coarsest c.as_slice.ensures in
     let found = rw (grid, c.as_slice-2.ensures) at (sym c.line_over.ensures ∙ c.in-Some.is) in
-    sym (line_some (first_over_units (coarsest ps) ps) (coarsest ps) c.in-Some.line found)
+    sym (line_some (first_over_units c.args.wide (coarsest ps) ps) (coarsest ps) c.in-Some.line found)
 
 pub returns-in-None-clause-value : goal.returns-in-None-clause-value
 unfolding least_grid_of
@@ -24,4 +24,4 @@ returns-in-None-clause-on_grid c =
     let ps = c.args.points.now in
     let grid = c.coarsest-grid.ensures ∙ ap coarsest c.as_slice.ensures in
     let none = line_none _ (rw (grid, c.as_slice-2.ensures) at (sym c.line_over.ensures ∙ c.in-None.is)) in
-    rw grid (points_on ps none)
+    rw grid (points_on c.args.wide ps c.requires none)
