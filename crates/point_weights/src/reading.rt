@@ -15,7 +15,7 @@ use tet_text::{TextFault, TextKind, decimal_in};
 
 /// The weight that a text of this line writes.
 fn weight_in(grid: &Grid, line: usize, text: &[u8]) -> Result<i64, WeightFault>
-    requires { grid.now.halvings ≤ 12 }
+    requires { grid.now.halvings ≤ 18 }
     ensures value { result ≡ weight_in grid.now line text.now }
     ensures small { IfOk result IsWeight }
 {

@@ -33,7 +33,7 @@ fn signed(negative: bool, size: u64) -> i64
 /// first rounded to twice the grid's decimals, halves away from zero. None where it is then over
 /// 2^46 in size.
 pub(crate) fn to_weight(grid: &Grid, d: &Decimal) -> Option<i64>
-    requires { grid.now.halvings ≤ 12 }
+    requires { grid.now.halvings ≤ 18 }
     ensures value { result ≡ weight_units grid.now d.now }
     ensures small { IfSome result IsWeight }
 {
