@@ -3,7 +3,7 @@ use Rattle.std.proofs.Common.{◌≡◌, ℕ, ◌+◌, Bool, true, false, not, �
 use Rattle.std.specs.Prelude.{find, unwrap_or, IsSome}
 use Rattle.std.specs.List.{list_any}
 use Rattle.std.specs.Option.{option_or}
-use Rattle.command_words.specs.Grammar.{bad_word_from, is_name, is_named, is_sampled, sample_words, name_of, are_at_odds, words_fault}
+use Rattle.command_words.specs.Grammar.{bad_word_from, is_name, is_named, is_sampled, sample_words, name_of, are_at_odds, words_fault_within}
 
 -- the first that passes is not there, where none passes
 first_none : {X : Type 0} (b : Bool) (x : X) (rest : Bool) (found : Option X) → (b || rest) ≡ false → (rest ≡ false → found ≡ None) → (if b then Some x else found) ≡ None
@@ -22,9 +22,9 @@ name_or_sample None true true fault rest is h = cc
 name_or_sample None true false fault rest is h = cc
 name_or_sample None false sampled fault rest is h = refl
 
-pub name_of-sampled : (words : List (List ℕ)) → words_fault words ≡ None → IsSome (sample_words words) → name_of words ≡ []
-name_of-sampled words is h =
-    let none = find-list_any is_name words (name_or_sample (bad_word_from 1 false words) (is_named words) (is_sampled words) (length words + 1, 1) (if are_at_odds words then Some (length words + 1, 2) else None) is h) in
+pub name_of-sampled : (halvings : ℕ) (words : List (List ℕ)) → words_fault_within halvings words ≡ None → IsSome (sample_words words) → name_of words ≡ []
+name_of-sampled halvings words is h =
+    let none = find-list_any is_name words (name_or_sample (bad_word_from halvings 1 false words) (is_named words) (is_sampled words) (length words + 1, 1) (if are_at_odds words then Some (length words + 1, 2) else None) is h) in
     ap (λ (name : Option (List ℕ)). unwrap_or name []) none
 
 -- ---- of the sample no file is stored

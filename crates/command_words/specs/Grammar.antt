@@ -84,10 +84,10 @@ number_fault place most text =
     if not (is_some (number_at_front most text)) then Some place else
     if nat_lt (digit_count text) (length text) then Some (digit_count text + place) else None
 
--- at most 12 halvings, 20 decimals, and 10,000 points of the sample
-abbrev pub long_fault : List ℕ → Option ℕ
-long_fault word =
-    if starts_with nat_eq word (codes "--halvings=") then number_fault 12 12 (drop 11 word) else
+-- at most so many halvings, 20 decimals, and 10,000 points of the sample
+abbrev pub long_fault : ℕ → List ℕ → Option ℕ
+long_fault halvings word =
+    if starts_with nat_eq word (codes "--halvings=") then number_fault 12 halvings (drop 11 word) else
     if starts_with nat_eq word (codes "--decimals=") then number_fault 12 20 (drop 11 word) else
     if starts_with nat_eq word (codes "--sample=") then number_fault 10 10000 (drop 9 word) else Some 3
 
@@ -110,19 +110,20 @@ sample_words words = last_number (codes "--sample=") 10000 words
 -- ---- all words
 
 -- the place of the fault of a word by itself, or None where it has none
-abbrev pub word_fault : List ℕ → Option ℕ
-word_fault word =
+abbrev pub word_fault : ℕ → List ℕ → Option ℕ
+word_fault halvings word =
     if length word == 0 then Some 1 else
-    if is_long word then long_fault word else
+    if is_long word then long_fault halvings word else
     if is_cluster word then cluster_fault word else None
 
 -- The first bad word and the place in it, where the first of these words has this number, and `named` says that a name stands before them:
 -- a second name is bad.
-abbrev pub bad_word_from : ℕ → Bool → List (List ℕ) → Option (ℕ × ℕ)
-bad_word_from number named [] = None
-bad_word_from number named (word ∷ more) =
+abbrev pub bad_word_from : ℕ → ℕ → Bool → List (List ℕ) → Option (ℕ × ℕ)
+bad_word_from halvings number named [] = None
+bad_word_from halvings number named (word ∷ more) =
     if named && is_name word then Some (number, 1)
-    else option_map_or (λ place. Some (number, place)) (word_fault word) (bad_word_from (number + 1) (named || is_name word) more)
+    else option_map_or (λ place. Some (number, place)) (word_fault halvings word)
+    (bad_word_from halvings (number + 1) (named || is_name word) more)
 
 -- the words have a name
 abbrev pub is_named : List (List ℕ) → Bool
@@ -174,9 +175,13 @@ abbrev pub are_at_odds : List (List ℕ) → Bool
 are_at_odds words = is_no_check words || are_not_weighted words
 
 -- The first fault of the words: the number of the word and the place in it. All together they have a name or ask for the sample, and not
--- both; and their switches go together. That is told after the last word.
-abbrev pub words_fault : List (List ℕ) → Option (ℕ × ℕ)
-words_fault words =
-    option_or (bad_word_from 1 false words)
+-- both; and their switches go together. That is told after the last word. The words ask for at most so many halvings.
+abbrev pub words_fault_within : ℕ → List (List ℕ) → Option (ℕ × ℕ)
+words_fault_within halvings words =
+    option_or (bad_word_from halvings 1 false words)
     (if is_named words && is_sampled words || not (is_named words || is_sampled words) then Some (length words + 1, 1) else
     (if are_at_odds words then Some (length words + 1, 2) else None))
+
+-- of `tetgen`, with at most 12 halvings
+abbrev pub words_fault : List (List ℕ) → Option (ℕ × ℕ)
+words_fault = words_fault_within 12

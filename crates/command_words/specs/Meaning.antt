@@ -33,9 +33,9 @@ is_piecewise asked (Some Stl) = true
 -- ---- the options
 
 -- What the words ask for; 112 is p, 110 n, 102 f, 101 e, 122 z, 99 c, 65 A, 81 Q, 78 N, 69 E, 70 F, 77 M, 114 r and 119 w.
--- Of the sample no file is stored
-abbrev pub options_of : List (List ℕ) → Options
-options_of words = record {
+-- Of the sample no file is stored. They ask for at most so many halvings, and for so many where they name no number.
+abbrev pub options_within : ℕ → List (List ℕ) → Options
+options_within halvings words = record {
   piecewise = is_piecewise (is_switched words 112 || is_sampled words) (extension_of (name_of words));
   neighbors = is_switched words 110 && not (is_sampled words);
   all_faces = is_switched words 102;
@@ -51,17 +51,21 @@ options_of words = record {
   check = is_switched words 114;
   weighted = is_switched words 119;
   budget = unwrap_or (last_budget words) 100000;
-  halvings = unwrap_or (last_number (codes "--halvings=") 12 words) 12;
+  halvings = unwrap_or (last_number (codes "--halvings=") halvings words) halvings;
   decimals = last_number (codes "--decimals=") 20 words;
   sample = sample_words words;
   base = base_of (name_of words);
   extension = extension_of (name_of words);
 }
 
+-- of `tetgen`, with at most 12 halvings
+abbrev pub options_of : List (List ℕ) → Options
+options_of = options_within 12
+
 -- the numbers of options are in their ranges
 pub record AreInRange (options : Options) : Type 0 where
   pub budget : options.budget ≤ 100000
-  pub halvings : options.halvings ≤ 12
+  pub halvings : options.halvings ≤ 18
   pub decimals : IfSome options.decimals (λ n. n ≤ 20)
   pub sample : IfSome options.sample (λ n. n ≤ 10000)
 

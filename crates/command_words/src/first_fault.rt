@@ -1,23 +1,23 @@
 //! Where words are against their grammar.
 
 ghost use Rattle.std.specs.Prelude.{◌≡◌, ◌≤◌, ◌<◌, false, length, drop};
-ghost use Rattle.command_words.specs.Grammar.{are_at_odds, is_no_check, are_not_weighted, bad_word_from, cluster_fault, is_of_complex, names_complex, long_fault, number_fault, switches_fault, word_fault, words_fault};
+ghost use Rattle.command_words.specs.Grammar.{are_at_odds, is_no_check, are_not_weighted, bad_word_from, cluster_fault, is_of_complex, names_complex, long_fault, number_fault, switches_fault, word_fault, words_fault_within};
 
 use crate::budget::budget_at_front;
 use crate::grammar::{is_cluster, is_letter, is_long, is_name, is_named, is_switched, name_of};
 use crate::names::extension_of;
 use crate::numbers::{
-    DECIMALS, HALVINGS, MOST_DECIMALS, MOST_HALVINGS, MOST_SAMPLE, SAMPLE, digit_count,
-    number_at_front, sample_of,
+    DECIMALS, HALVINGS, MOST_DECIMALS, MOST_SAMPLE, SAMPLE, digit_count, number_at_front, sample_of,
 };
 use crate::options::Extension;
 use tet_ports::Words;
 
-/// The first fault of the words: the number of the word and the place in it, both counted from 1.
-pub(crate) fn words_fault(words: &Words) -> Option<(usize, usize)>
-    ensures { result ≡ words_fault words.now }
+/// The first fault of the words, which may ask for so many halvings: the number of the word and the
+/// place in it, both counted from 1.
+pub(crate) fn words_fault(halvings: u32, words: &Words) -> Option<(usize, usize)>
+    ensures { result ≡ words_fault_within halvings words.now }
 {
-    if let Some(fault) = bad_word(words) {
+    if let Some(fault) = bad_word(halvings, words) {
         return Some(fault);
     }
     if is_named(words) == sample_of(words).is_some() {
@@ -75,8 +75,8 @@ fn are_at_odds(words: &Words) -> bool
 }
 
 /// The first bad word and the place in it.
-fn bad_word(words: &Words) -> Option<(usize, usize)>
-    ensures { result ≡ bad_word_from 1 false words.now }
+fn bad_word(halvings: u32, words: &Words) -> Option<(usize, usize)>
+    ensures { result ≡ bad_word_from halvings 1 false words.now }
 {
     let mut named = false;
     for (i, word) in words.as_slice().iter().enumerate() {
@@ -84,7 +84,7 @@ fn bad_word(words: &Words) -> Option<(usize, usize)>
         if named && is_name(bytes) {
             return Some((i + 1, 1));
         }
-        if let Some(place) = word_fault(bytes) {
+        if let Some(place) = word_fault(halvings, bytes) {
             return Some((i + 1, place));
         }
         named = named || is_name(bytes);
@@ -93,13 +93,13 @@ fn bad_word(words: &Words) -> Option<(usize, usize)>
 }
 
 /// The place of the fault of a word by itself, counted from 1.
-fn word_fault(word: &[u8]) -> Option<usize>
-    ensures { result ≡ word_fault word.now }
+fn word_fault(halvings: u32, word: &[u8]) -> Option<usize>
+    ensures { result ≡ word_fault halvings word.now }
 {
     if word.is_empty() {
         Some(1)
     } else if is_long(word) {
-        long_fault(word)
+        long_fault(halvings, word)
     } else if is_cluster(word) {
         cluster_fault(word)
     } else {
@@ -158,11 +158,11 @@ fn number_fault(place: usize, most: u32, text: &[u8]) -> Option<usize>
 }
 
 /// The place of the fault of a word that begins with two hyphens.
-fn long_fault(word: &[u8]) -> Option<usize>
-    ensures { result ≡ long_fault word.now }
+fn long_fault(halvings: u32, word: &[u8]) -> Option<usize>
+    ensures { result ≡ long_fault halvings word.now }
 {
     if word.starts_with(HALVINGS) {
-        number_fault(HALVINGS.len() + 1, MOST_HALVINGS, &word[HALVINGS.len()..])
+        number_fault(HALVINGS.len() + 1, halvings, &word[HALVINGS.len()..])
     } else if word.starts_with(DECIMALS) {
         number_fault(DECIMALS.len() + 1, MOST_DECIMALS, &word[DECIMALS.len()..])
     } else if word.starts_with(SAMPLE) {

@@ -15,4 +15,4 @@ pub use fault::WordsFault;
 pub use laws::law_switches;
 pub use names::{base_of, file_name, with_extension};
 pub use options::{Extension, Options};
-pub use reading::read_words;
+pub use reading::{read_words, read_words_within};

@@ -10,7 +10,7 @@ use tet_text::read_digits;
 /// The front of the long word that bounds the halvings of the grid.
 pub(crate) const HALVINGS: &[u8] = b"--halvings=";
 
-/// The most halvings of the grid.
+/// The most halvings of the grid that the words of `tetgen` ask for.
 pub(crate) const MOST_HALVINGS: u32 = 12;
 
 /// The front of the long word that rounds coordinates.

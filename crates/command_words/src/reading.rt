@@ -1,8 +1,8 @@
 //! The options that the words of the command line ask for.
 
-ghost use Rattle.std.specs.Prelude.{◌≡◌, ◌||◌, ◌&&◌, not, ℕ, Some, None, Err, IfOk, IsSome};
-ghost use Rattle.command_words.specs.Grammar.{words_fault};
-ghost use Rattle.command_words.specs.Meaning.{is_piecewise, options_of, AreInRange, AreOfSample};
+ghost use Rattle.std.specs.Prelude.{◌≡◌, ◌≤◌, ◌||◌, ◌&&◌, not, ℕ, Some, None, Err, IfOk, IsSome};
+ghost use Rattle.command_words.specs.Grammar.{words_fault, words_fault_within};
+ghost use Rattle.command_words.specs.Meaning.{is_piecewise, options_of, options_within, AreInRange, AreOfSample};
 ghost use Rattle.command_words.specs.declared.fault.WordsFault.TheVariants.{Usage};
 
 use crate::budget::{MOST_BUDGET, last_budget};
@@ -15,7 +15,7 @@ use crate::options::{Extension, Options};
 use std::alloc::Global;
 use tet_ports::{Name, Words};
 
-/// Reads the words of the command line.
+/// Reads the words of the command line of `tetgen`, which ask for at most 12 halvings.
 ///
 /// `Usage` exactly where they are not in the grammar, with the first fault: the word's number and
 /// the place in it.
@@ -26,9 +26,25 @@ pub fn read_words(alloc: Global, words: &Words) -> Result<Options, WordsFault>
     ensures usage { (word place : ℕ) → result ≡ Err (Usage word place)
         → words_fault words.now ≡ Some (word, place) }
     ensures ranges { IfOk result (λ options. AreInRange options) }
+    ensures halvings { IfOk result (λ options. options.halvings ≤ 12) }
     ensures sampled { IfOk result (λ options. IsSome options.sample → AreOfSample options) }
 {
-    if let Some((word, place)) = words_fault(words) {
+    read_words_within(alloc, words, MOST_HALVINGS)
+}
+
+/// As `read_words`, of words that ask for at most so many halvings, and for so many where they name
+/// no number.
+pub fn read_words_within(alloc: Global, words: &Words, halvings: u32) -> Result<Options, WordsFault>
+    requires { halvings ≤ 18 }
+    ensures understood { IfOk result (λ options. words_fault_within halvings words.now ≡ None) }
+    ensures options { IfOk result (λ options. options ≡ options_within halvings words.now) }
+    ensures usage { (word place : ℕ) → result ≡ Err (Usage word place)
+        → words_fault_within halvings words.now ≡ Some (word, place) }
+    ensures ranges { IfOk result (λ options. AreInRange options) }
+    ensures halvings { IfOk result (λ options. options.halvings ≤ halvings) }
+    ensures sampled { IfOk result (λ options. IsSome options.sample → AreOfSample options) }
+{
+    if let Some((word, place)) = words_fault(halvings, words) {
         return Err(WordsFault::Usage { word, place });
     }
     let name = name_of(words);
@@ -51,7 +67,7 @@ pub fn read_words(alloc: Global, words: &Words) -> Result<Options, WordsFault>
         check: is_switched(words, b'r'),
         weighted: is_switched(words, b'w'),
         budget: last_budget(words).unwrap_or(MOST_BUDGET),
-        halvings: last_number(HALVINGS, MOST_HALVINGS, words).unwrap_or(MOST_HALVINGS),
+        halvings: last_number(HALVINGS, halvings, words).unwrap_or(halvings),
         decimals: last_number(DECIMALS, MOST_DECIMALS, words),
         sample,
         base: Name::from_slice(alloc, base_of(name))?,

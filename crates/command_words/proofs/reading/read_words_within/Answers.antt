@@ -4,14 +4,14 @@ use Rattle.command_words.proofs.Sampled.{name_of-sampled, left_out, not_stored}
 use Rattle.command_words.specs.Grammar.{sample_words}
 use Rattle.command_words.specs.Meaning.{is_piecewise}
 use Rattle.command_words.specs.Names.{base_of, extension_of}
-use Rattle.command_words.proofs.reading.read_words.Goals as goal
-use Rattle.command_words.proofs.reading.read_words.Goals.{then-is_switched, else-is_switched}
+use Rattle.command_words.proofs.reading.read_words_within.Goals as goal
+use Rattle.command_words.proofs.reading.read_words_within.Goals.{then-is_switched, else-is_switched}
 
 -- src/reading.rt:22:1
 pub returns-clause-sampled : goal.returns-clause-sampled
 returns-clause-sampled c = λ h.
     let sampled : IsSome (sample_words c.args.words.now) = ap (λ (o : Option ℕ). is_some o) (sym c.sample_of-sample.ensures.value) ∙ h in
-    let unnamed : c.name_of-name.result.now ≡ [] = c.name_of-name.ensures ∙ name_of-sampled c.args.words.now (sym c.in_default.ensures) sampled in
+    let unnamed : c.name_of-name.result.now ≡ [] = c.name_of-name.ensures ∙ name_of-sampled c.args.halvings c.args.words.now (sym c.in_default.ensures) sampled in
     let none : c.extension_of-extension.result ≡ None = c.extension_of-extension.ensures ∙ ap extension_of unnamed in
     let some : c.is_some-sampled.result ≡ true = c.is_some-sampled.ensures ∙ h in
     let asked : c.if-is_switched.is_piecewise ≡ true =
