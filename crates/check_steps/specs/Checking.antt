@@ -16,17 +16,21 @@ use Rattle.grid_coords.specs.declared.points.DecimalPoint.{DecimalPoint}
 abbrev pub most_points : ℕ
 most_points = 120000
 
--- why the points are on no grid
-abbrev pub IsUnsettled : Option ℕ → List DecimalPoint → CheckFault → Type 0
-IsUnsettled decimals ps (TooMany count) = AreTooMany ps most_points count
-IsUnsettled decimals ps (OffGrid line) = IsOffLeastGrid ps decimals most_points line
-IsUnsettled decimals ps NoMemory = Unit {0}
-IsUnsettled decimals ps fault = ⊥
+-- how large a coordinate of a mesh that is checked may be, in units of the points' least grid
+abbrev pub checked_grid : ℕ
+checked_grid = 8388608
+
+-- why the points are on no grid on which a coordinate is at most so many units in size
+abbrev pub IsUnsettled : ℕ → Option ℕ → List DecimalPoint → CheckFault → Type 0
+IsUnsettled wide decimals ps (TooMany count) = AreTooMany ps most_points count
+IsUnsettled wide decimals ps (OffGrid line) = IsOffLeastGrid wide ps decimals most_points line
+IsUnsettled wide decimals ps NoMemory = Unit {0}
+IsUnsettled wide decimals ps fault = ⊥
 
 -- the points on their least grid
 abbrev pub LeastGridAnswer : Option ℕ → MeshText → Result (List Point) CheckFault → Type 0
-LeastGridAnswer decimals text (Ok points) = IsOnLeastGrid text.nodes.decimals decimals most_points points
-LeastGridAnswer decimals text (Err fault) = IsUnsettled decimals text.nodes.decimals fault
+LeastGridAnswer decimals text (Ok points) = IsOnLeastGrid checked_grid text.nodes.decimals decimals most_points points
+LeastGridAnswer decimals text (Err fault) = IsUnsettled checked_grid decimals text.nodes.decimals fault
 
 -- the mesh that the files spell, on these points
 abbrev pub mesh_of : MeshText → List Point → ReadMesh

@@ -16,12 +16,21 @@ use tet_ports::{Folder, Name};
 /// How many points a mesh that is read has at most.
 pub const MOST_POINTS: u64 = 120_000;
 
+/// How large a coordinate of a mesh that is checked may be, in units of the points' least grid.
+const CHECKED_GRID: u64 = 8_388_608;
+
 /// The points on their least grid, each coordinate rounded first where that is asked for.
 fn settle(alloc: Global, decimals: Option<u32>, text: &MeshText) -> Result<Points, CheckFault>
     ensures answer { LeastGridAnswer decimals text.now result }
     ensures count { IfOk result (λ points. length points ≡ length text.now.nodes.decimals) }
 {
-    match settle_least(alloc, &text.nodes.decimals, decimals, MOST_POINTS) {
+    match settle_least(
+        alloc,
+        &text.nodes.decimals,
+        decimals,
+        MOST_POINTS,
+        CHECKED_GRID,
+    ) {
         Ok(points) => Ok(points),
         Err(GridFault::TooMany { count }) => Err(CheckFault::TooMany { count }),
         Err(GridFault::Range { line }) => Err(CheckFault::OffGrid { line }),
