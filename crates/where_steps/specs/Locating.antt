@@ -18,16 +18,20 @@ use Rattle.where_steps.specs.Reading.{WhereTextAnswer}
 use Rattle.where_steps.specs.declared.reading.WhereText.{WhereText}
 use Rattle.where_steps.specs.declared.settling.Settled.{Settled}
 
+-- how large a coordinate of a mesh may be, in units of the points' least grid
+abbrev pub where_grid : ℕ
+where_grid = 536870912
+
 -- there are not too many points, and these are their least grid and the points on it
 pub record IsSettledMesh (ps : List DecimalPoint) (s : Settled) : Type 0 where
   pub few : length ps ≤ most_points
-  pub grid : least_grid_of ps ≡ Ok s.grid
+  pub grid : least_grid_of where_grid ps ≡ Ok s.grid
   pub points : s.points ≡ map (point_on s.grid) ps
 
 -- the points on their least grid
 abbrev pub SettledAnswer : List DecimalPoint → Result Settled CheckFault → Type 0
 SettledAnswer ps (Ok settled) = IsSettledMesh ps settled
-SettledAnswer ps (Err fault) = IsUnsettled None ps fault
+SettledAnswer ps (Err fault) = IsUnsettled where_grid None ps fault
 
 -- the first row that is not positive
 abbrev pub IsNegative : WhereText → Settled → CheckFault → Type 0

@@ -12,6 +12,10 @@ use mesh_check::{Defect, first_not_positive};
 use node_files::{grid_points, least_grid};
 use std::alloc::Global;
 
+/// How large a coordinate of a mesh may be, in units of the points' least grid: as large as in a
+/// mesh of `tetfit`.
+const GRID: u64 = 536_870_912;
+
 /// The least grid of a mesh's points, and these points on it.
 #[derive(Drop)]
 pub struct Settled {
@@ -28,7 +32,7 @@ pub(crate) fn settle(alloc: Global, decimals: &DecimalPoints) -> Result<Settled,
     if count > MOST_POINTS {
         return Err(CheckFault::TooMany { count });
     }
-    match least_grid(decimals) {
+    match least_grid(decimals, GRID) {
         Ok(grid) => {
             let points = grid_points(alloc, &grid, decimals.as_slice())?;
             Ok(Settled { grid, points })
