@@ -11,7 +11,7 @@ use Rattle.sign_predicates.specs.Point.{origin}
 use Rattle.geo_laws.specs.Delaunay.{point}
 use Rattle.tet_text.specs.Decimals.{Scaled, signed}
 use Rattle.grid_coords.specs.Choice.{unless_over}
-use Rattle.grid_coords.specs.Units.{limit, is_negative, IsNumberAt}
+use Rattle.grid_coords.specs.Units.{is_negative, IsNumberAt}
 use Rattle.grid_coords.specs.declared.grid.Grid.{Grid}
 use Rattle.grid_coords.specs.declared.grid.Range.{Range}
 use Rattle.grid_coords.specs.declared.points.DecimalPoint.{DecimalPoint}
@@ -119,14 +119,14 @@ within_greatest f [] i d lt = absurd (omega arith)
 within_greatest f (e ∷ ds) zero d lt = omega arith
 within_greatest f (e ∷ ds) (suc i) d lt = let rest = within_greatest f ds i d (omega arith) in omega arith
 
-none_over : (g : Grid) (ds : List DecimalPoint) → ((i : ℕ) (d : DecimalPoint) → i < length ds → size_on g (slice_index_or ds i d) ≤ limit) → find (is_over_units g) ds ≡ None
-none_over g [] h = refl
-none_over g (d ∷ ds) h = cond-false _ _ _ (le-ltb limit (size_on g d) (h 0 d (omega arith))) ∙ none_over g ds (λ i e lt. h (suc i) e (omega arith))
+none_over : (wide : ℕ) (g : Grid) (ds : List DecimalPoint) → ((i : ℕ) (d : DecimalPoint) → i < length ds → size_on g (slice_index_or ds i d) ≤ wide) → find (is_over_units wide g) ds ≡ None
+none_over wide g [] h = refl
+none_over wide g (d ∷ ds) h = cond-false _ _ _ (le-ltb wide (size_on g d) (h 0 d (omega arith))) ∙ none_over wide g ds (λ i e lt. h (suc i) e (omega arith))
 
 pub fits : FittingLaw
 unfolding least_grid_of first_over_units
-fits g ps ds at = record {
-  fits = ap (λ (o : Option DecimalPoint). unless_over o least) (none_over least ds small);
+fits wide g ps ds at = record {
+  fits = ap (λ (o : Option DecimalPoint). unless_over o least) (none_over wide least ds small);
   fewer_decimals = fewer;
   coarser = coarser;
   same = record { some = ratio_some g least; long = length-map ds (point_on least) ∙ at.long; at = same };
@@ -169,10 +169,10 @@ fits g ps ds at = record {
     z_holds : (i : ℕ) (d : DecimalPoint) → i < length ds → HoldsNumber g least (slice_index_or ds i d).z
     z_holds i d lt = let five = within_greatest fives_of ds i d lt in let two = within_greatest twos_of ds i d lt in holds _ (omega arith) (omega arith)
 
-    one_small : (c : ℤ) (d : Scaled) → IsNumberAt g c d → HoldsNumber g least d → unsigned_abs c ≤ limit → units_on least d ≤ limit
-    one_small c d number held le = units_small (units_on least d) (ratio g least) (unsigned_abs c) limit (size_is g least c d number held) (ratio_some g least) le
+    one_small : (c : ℤ) (d : Scaled) → IsNumberAt g c d → HoldsNumber g least d → unsigned_abs c ≤ wide → units_on least d ≤ wide
+    one_small c d number held le = units_small (units_on least d) (ratio g least) (unsigned_abs c) wide (size_is g least c d number held) (ratio_some g least) le
 
-    small : (i : ℕ) (d : DecimalPoint) → i < length ds → size_on least (slice_index_or ds i d) ≤ limit
+    small : (i : ℕ) (d : DecimalPoint) → i < length ds → size_on least (slice_index_or ds i d) ≤ wide
     small i d lt =
         let p = at.at i d lt in
         let x = one_small _ _ p.x_is (x_holds i d lt) p.x_small in
@@ -213,13 +213,13 @@ ok_is : (a b : Grid) (r : Result Grid Range) → r ≡ Ok a → r ≡ Ok b → a
 ok_is a b r d e = let both : Ok a ≡ Ok b = sym d ∙ e in cc
 
 pub settles : SettlingLaw
-settles g ps ds at most few (Ok points) h =
-    let f = fits g ps ds at in
-    let same : h.grid ≡ coarsest ds = ok_is h.grid (coarsest ds) (least_grid_of ds) h.on f.fits in
+settles wide g ps ds at most few (Ok points) h =
+    let f = fits wide g ps ds at in
+    let same : h.grid ≡ coarsest ds = ok_is h.grid (coarsest ds) (least_grid_of wide ds) h.on f.fits in
     subst (AreMultiples (ratio g (coarsest ds)) ps) (sym (h.is ∙ ap (λ (least : Grid). map (point_on least) ds) same)) f.same
-settles g ps ds at most few (Err (faults.TooMany count)) h = let l = at.long in let many = h.many in absurd (omega arith)
-settles g ps ds at most few (Err (faults.Range line)) h =
-    let f = fits g ps ds at in
+settles wide g ps ds at most few (Err (faults.TooMany count)) h = let l = at.long in let many = h.many in absurd (omega arith)
+settles wide g ps ds at most few (Err (faults.Range line)) h =
+    let f = fits wide g ps ds at in
     let clash = sym f.fits ∙ h.off in
     absurd (cc)
-settles g ps ds at most few (Err faults.NoMemory) h = refl
+settles wide g ps ds at most few (Err faults.NoMemory) h = refl

@@ -13,16 +13,16 @@ use Rattle.written_laws.specs.LeastGrids.{RereadLaw}
 product_le : (m n p q : ℕ) → m ≤ p → n ≤ q → m * n ≤ p * q
 product_le m n p q h k = mul-le-mul h k
 
-few_fives : (k : ℕ) → k ≤ 12 → 5 ^ k ≤ 5 ^ 12
+few_fives : (k : ℕ) → k ≤ 18 → 5 ^ k ≤ 5 ^ 18
 few_fives k h = pow-le-pow_right (omega arith) h
 
-size_small : (n k : ℕ) → n ≤ limit → k ≤ 12 → n * 5 ^ k < 10 ^ 36
-size_small n k h l = within (n * 5 ^ k) (product_le n (5 ^ k) limit (5 ^ 12) h (few_fives k l))
+size_small : (n k : ℕ) → n ≤ limit → k ≤ 18 → n * 5 ^ k < 10 ^ 36
+size_small n k h l = within (n * 5 ^ k) (product_le n (5 ^ k) limit (5 ^ 18) h (few_fives k l))
   where
-    within : (m : ℕ) → m ≤ limit * 5 ^ 12 → m < 10 ^ 36
+    within : (m : ℕ) → m ≤ limit * 5 ^ 18 → m < 10 ^ 36
     within m le = lt_of_le_of_lt le (lit< tt)
 
-is_decimal : (g : Grid) (c : ℤ) → unsigned_abs c ≤ limit → g.halvings ≤ 12 → IsDecimal (decimal_of_units g c)
+is_decimal : (g : Grid) (c : ℤ) → unsigned_abs c ≤ limit → g.halvings ≤ 18 → IsDecimal (decimal_of_units g c)
 unfolding decimal_of_units
 is_decimal g c small few =
     let low = lowest (unsigned_abs c * 5 ^ g.halvings) (g.decimals + g.halvings) in

@@ -16,19 +16,19 @@ use Rattle.node_files.specs.declared.grid_fault.GridFault.TheVariants as faults
 
 -- ---- points as decimals
 
--- the decimals are the numbers that the coordinates are in units of the grid, each at most 2^23 in size
-pub record IsPointAt (g : Grid) (p : Point) (d : DecimalPoint) : Type 0 where
+-- the decimals are the numbers that the coordinates are in units of the grid, each at most so many in size
+pub record IsPointAt (wide : ℕ) (g : Grid) (p : Point) (d : DecimalPoint) : Type 0 where
   pub x_is : IsNumberAt g p.x d.x
   pub y_is : IsNumberAt g p.y d.y
   pub z_is : IsNumberAt g p.z d.z
-  pub x_small : unsigned_abs p.x ≤ limit
-  pub y_small : unsigned_abs p.y ≤ limit
-  pub z_small : unsigned_abs p.z ≤ limit
+  pub x_small : unsigned_abs p.x ≤ wide
+  pub y_small : unsigned_abs p.y ≤ wide
+  pub z_small : unsigned_abs p.z ≤ wide
 
 -- the decimals are those of the points, in order
-pub record ArePointsAt (g : Grid) (ps : List Point) (ds : List DecimalPoint) : Type 0 where
+pub record ArePointsAt (wide : ℕ) (g : Grid) (ps : List Point) (ds : List DecimalPoint) : Type 0 where
   pub long : length ds ≡ length ps
-  pub at : (i : ℕ) (d : DecimalPoint) → i < length ds → IsPointAt g (point ps i) (slice_index_or ds i d)
+  pub at : (i : ℕ) (d : DecimalPoint) → i < length ds → IsPointAt wide g (point ps i) (slice_index_or ds i d)
 
 -- ---- the same points in a larger unit
 
@@ -46,8 +46,8 @@ abbrev pub ratio : Grid → Grid → ℕ
 ratio g least = 5 ^ (g.decimals - least.decimals) * 2 ^ ((g.decimals + g.halvings) - (least.decimals + least.halvings))
 
 -- the decimals fit their least grid, which is no finer than the grid of the points, and on which these are the same points in a larger unit
-pub record FitsLeast (g : Grid) (ps : List Point) (ds : List DecimalPoint) : Type 0 where
-  pub fits : least_grid_of ds ≡ Ok (coarsest ds)
+pub record FitsLeast (wide : ℕ) (g : Grid) (ps : List Point) (ds : List DecimalPoint) : Type 0 where
+  pub fits : least_grid_of wide ds ≡ Ok (coarsest ds)
   pub fewer_decimals : (coarsest ds).decimals ≤ g.decimals
   pub coarser : (coarsest ds).decimals + (coarsest ds).halvings ≤ g.decimals + g.halvings
   pub same : AreMultiples (ratio g (coarsest ds)) ps (map (point_on (coarsest ds)) ds)
@@ -56,12 +56,12 @@ pub record FitsLeast (g : Grid) (ps : List Point) (ds : List DecimalPoint) : Typ
 
 -- Decimals of points of a grid fit their least grid
 abbrev pub FittingLaw : Type 0
-FittingLaw = (g : Grid) (ps : List Point) (ds : List DecimalPoint) → ArePointsAt g ps ds → FitsLeast g ps ds
+FittingLaw = (wide : ℕ) (g : Grid) (ps : List Point) (ds : List DecimalPoint) → ArePointsAt wide g ps ds → FitsLeast wide g ps ds
 
 -- So they settle there, where they are not too many and are not rounded: never is a coordinate out of range
 abbrev pub SettlingLaw : Type 0
-SettlingLaw = (g : Grid) (ps : List Point) (ds : List DecimalPoint) → ArePointsAt g ps ds → (most : ℕ) → length ps ≤ most
-    → (result : Result (List Point) GridFault) → SettlesLeast ds None most result
+SettlingLaw = (wide : ℕ) (g : Grid) (ps : List Point) (ds : List DecimalPoint) → ArePointsAt wide g ps ds → (most : ℕ) → length ps ≤ most
+    → (result : Result (List Point) GridFault) → SettlesLeast wide ds None most result
     → MatchResult result (AreMultiples (ratio g (coarsest ds)) ps) (λ fault. fault ≡ faults.NoMemory)
 
 -- Points in a larger unit have the same orientations, and lie on the same sides of spheres
@@ -77,5 +77,5 @@ SameSignsLaw = (f : ℕ) (ps qs : List Point) → AreMultiples f ps qs → HaveS
 -- The text of a coordinate is read back as its decimal, which is the number that so many grid units are. With more than 35 decimals it has
 -- more digits than a decimal may have
 abbrev pub RereadLaw : Type 0
-RereadLaw = (g : Grid) (c : ℤ) → unsigned_abs c ≤ limit → g.halvings ≤ 12 → (decimal_of_units g c).scale ≤ 35
+RereadLaw = (g : Grid) (c : ℤ) → unsigned_abs c ≤ limit → g.halvings ≤ 18 → (decimal_of_units g c).scale ≤ 35
     → (decimal_of (grid_text g c) ≡ Some (decimal_of_units g c)) × IsNumberAt g c (decimal_of_units g c)
