@@ -16,7 +16,7 @@ use Rattle.node_files.specs.LeastGrid.{coarsest, point_on}
 use Rattle.mesh_check.specs.Defects.{IsVerdict, neighbors_or}
 use Rattle.mesh_check.specs.declared.defect.Verdict.TheVariants.{Sound}
 use Rattle.written_laws.proofs.Soundness.{sound_of}
-use Rattle.check_steps.specs.Checking.{CheckAnswer, most_points}
+use Rattle.check_steps.specs.Checking.{checked_grid, CheckAnswer, most_points}
 use Rattle.check_steps.specs.Reading.{IsRead, MeshAnswer, NeighborsAnswer}
 use Rattle.tet_ports.specs.Seen.{FolderSeen}
 use Rattle.check_steps.specs.declared.reading.MeshText.{MeshText}
@@ -25,7 +25,7 @@ use Rattle.reread_laws.specs.Checked.{AreThere, CheckedBackLaw}
 use Rattle.reread_laws.proofs.ReadBack.{read_back}
 
 module _ (seen : FolderSeen) (base : List ℕ) (table : NodeTable) (added : List Point) (names : List ℕ) (first : ℕ) (rows : List Tet) (faces : List FaceRow)
-    (is : AreReadSound table added names first rows faces) (there : AreThere seen base table added names first rows faces)
+    (is : AreReadSound checked_grid table added names first rows faces) (there : AreThere seen base table added names first rows faces)
     (some : 0 < length (table.listed ++ added)) (few : length (table.listed ++ added) ≤ most_points) where
   numbered : is.points.first ≡ first
   numbered = is.numbered some
@@ -83,4 +83,4 @@ module _ (seen : FolderSeen) (base : List ℕ) (table : NodeTable) (added : List
 
 pub checked_back : CheckedBackLaw
 checked_back seen base table added names first ps rows faces readable sound some few there =
-    check_of seen base table added names first rows faces (read_back table added names first ps rows faces readable sound) there some few
+    check_of seen base table added names first rows faces (read_back checked_grid table added names first ps rows faces readable sound) there some few

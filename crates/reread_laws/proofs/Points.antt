@@ -14,7 +14,7 @@ use Rattle.tet_text.specs.Numbers.{are_digits}
 use Rattle.tet_text.specs.Reading as reading
 use Rattle.tet_text.specs.Reading.{◌>>=◌, Fields, count_at, end_at}
 use Rattle.tet_text.proofs.ContentLines.{no_line}
-use Rattle.grid_coords.specs.Units.{decimal_of_units, grid_text}
+use Rattle.grid_coords.specs.Units.{limit, decimal_of_units, grid_text}
 use Rattle.grid_coords.specs.declared.grid.Grid.{Grid}
 use Rattle.grid_coords.specs.declared.points.DecimalPoint.{DecimalPoint}
 use Rattle.grid_coords.proofs.Printed.{number_at}
@@ -59,20 +59,27 @@ some_byte : (w : List ℕ) (d : Scaled) → decimal_of w ≡ Some d → 0 < leng
 some_byte [] d e = let clash : None ≡ Some d = sym nothing_read ∙ e in absurd (cc)
 some_byte (c ∷ w) d e = omega arith
 
-value_read : (g : Grid) (c : ℤ) → g.halvings ≤ 12 → IsLegible g c → decimal_of (grid_text g c) ≡ Some (decimal_of_units g c)
+-- a coordinate within a bound is within a greater one
+legible_in : {wide : ℕ} {g : Grid} {c : ℤ} → wide ≤ limit → IsLegible wide g c → IsLegible limit g c
+legible_in within is = record { small = let h = is.small in omega arith; short = is.short }
+
+legible : {wide : ℕ} {g : Grid} {p : Point} → wide ≤ limit → IsLegiblePoint wide g p → IsLegiblePoint limit g p
+legible within is = record { x = legible_in within is.x; y = legible_in within is.y; z = legible_in within is.z }
+
+value_read : (g : Grid) (c : ℤ) → g.halvings ≤ 18 → IsLegible limit g c → decimal_of (grid_text g c) ≡ Some (decimal_of_units g c)
 value_read g c few is = (reread g c is.small few is.short).0
 
-coordinate_word : (g : Grid) (c : ℤ) → g.halvings ≤ 12 → IsLegible g c → IsWord (grid_text g c)
+coordinate_word : (g : Grid) (c : ℤ) → g.halvings ≤ 18 → IsLegible limit g c → IsWord (grid_text g c)
 coordinate_word g c few is = text_word (decimal_of_units g c) (some_byte (grid_text g c) (decimal_of_units g c) (value_read g c few is))
 
-coordinate_read : (line : ℕ) (g : Grid) (c : ℤ) (rest : Fields) → g.halvings ≤ 12 → IsLegible g c → reading.decimal_at line (grid_text g c ∷ rest) ≡ Ok (decimal_of_units g c, rest)
+coordinate_read : (line : ℕ) (g : Grid) (c : ℤ) (rest : Fields) → g.halvings ≤ 18 → IsLegible limit g c → reading.decimal_at line (grid_text g c ∷ rest) ≡ Ok (decimal_of_units g c, rest)
 coordinate_read line g c rest few is = ap (λ (o : Option Scaled). ok_or o (not_a_number line) >>= λ k. Ok (k, rest)) (value_read g c few is)
 
 -- the point as it is read on a line
 placed : Grid → ℕ → Point → DecimalPoint
 placed g line p = record { x = decimal_of_units g p.x; y = decimal_of_units g p.y; z = decimal_of_units g p.z; line = line }
 
-place_read : (line : ℕ) (g : Grid) (p : Point) → g.halvings ≤ 12 → IsLegiblePoint g p → place_at line (place_fields g p) ≡ Ok (placed g line p, [])
+place_read : (line : ℕ) (g : Grid) (p : Point) → g.halvings ≤ 18 → IsLegiblePoint limit g p → place_at line (place_fields g p) ≡ Ok (placed g line p, [])
 unfolding place_at placed
 place_read line g p few is =
     ap (λ (r : Result (Scaled × Fields) TextFault). r >>= λ x. reading.decimal_at line x.1 >>= λ y. reading.decimal_at line y.1 >>= λ z. ended (record { x = x.0; y = y.0; z = z.0; line = line }) z.1) (coordinate_read line g p.x (grid_text g p.y ∷ grid_text g p.z ∷ []) few is.x)
@@ -93,7 +100,7 @@ number_read before line n rest h next =
 made : Grid → ℕ → ℕ → Point → read.ListedPoint
 made g n line p = record { number = n; place = placed g line p; attributes = []; markers = [] }
 
-point_read : (before : Option ℕ) (line n : ℕ) (g : Grid) (p : Point) → IsShortNumber n → is_next before n ≡ true → g.halvings ≤ 12 → IsLegiblePoint g p
+point_read : (before : Option ℕ) (line n : ℕ) (g : Grid) (p : Point) → IsShortNumber n → is_next before n ≡ true → g.halvings ≤ 18 → IsLegiblePoint limit g p
     → point_of 0 false before (record { line = line; fields = decimal n ∷ place_fields g p }) ≡ Ok (made g n line p)
 unfolding point_of attributes_at markers_at made
 point_read before line n g p h next few is = rw (number_read before line n (place_fields g p) h next, place_read line g p few is) refl
@@ -106,10 +113,10 @@ all_made : Grid → ℕ → ℕ → List Point → List read.ListedPoint
 all_made g n k [] = []
 all_made g n k (p ∷ ps) = made g n k p ∷ all_made g (n + 1) (k + 1) ps
 
-place_words : (g : Grid) (p : Point) → g.halvings ≤ 12 → IsLegiblePoint g p → AreWords (place_fields g p)
+place_words : (g : Grid) (p : Point) → g.halvings ≤ 18 → IsLegiblePoint limit g p → AreWords (place_fields g p)
 place_words g p few is = (coordinate_word g p.x few is.x, (coordinate_word g p.y few is.y, (coordinate_word g p.z few is.z, tt)))
 
-points_read : (g : Grid) → g.halvings ≤ 12 → (total k n : ℕ) (before : Option ℕ) (ps : List Point) → is_next before n ≡ true → n + length ps ≤ 10 ^ 18 → All (IsLegiblePoint g) ps
+points_read : (g : Grid) → g.halvings ≤ 18 → (total k n : ℕ) (before : Option ℕ) (ps : List Point) → is_next before n ≡ true → n + length ps ≤ 10 ^ 18 → All (IsLegiblePoint limit g) ps
     → points_of 0 false before (length ps) total (content_lines_from k (lines_of (bare_lines g n ps))) ≡ Ok (all_made g n k ps, [])
 unfolding points_of bare_lines all_made made
 points_read g few total k n before [] next small all = λ j. Ok ([], no_line k [] refl j)
@@ -119,7 +126,7 @@ points_read g few total k n before (p ∷ ps) next small all =
     ∙ ap (λ (r : Result read.ListedPoint TextFault). go r) (point_read before k n g p short next few is)
     ∙ ap (λ (r : Result (List read.ListedPoint × List ContentLine) TextFault). add r) others
   where
-    is : IsLegiblePoint g p
+    is : IsLegiblePoint limit g p
     is = all 0 p (omega arith)
 
     short : IsShortNumber n
@@ -183,13 +190,13 @@ heading_read k count h =
     ∙ rw (or_read 3 3 3 k 3 (decimal 0 ∷ decimal 0 ∷ []) three_short (omega arith) (omega arith), or_read 0 0 100 k 0 (decimal 0 ∷ []) zero_short (omega arith) (omega arith), or_read 0 0 1 k 0 [] zero_short (omega arith) (omega arith)) refl
 
 -- the decimals that are read are those of the points
-at_made : (g : Grid) (n k : ℕ) (ps : List Point) → All (IsLegiblePoint g) ps → (i : ℕ) (d : DecimalPoint) → i < length ps → IsPointAt g (point ps i) (slice_index_or (map (λ p. p.place) (all_made g n k ps)) i d)
+at_made : (wide : ℕ) (g : Grid) (n k : ℕ) (ps : List Point) → All (IsLegiblePoint wide g) ps → (i : ℕ) (d : DecimalPoint) → i < length ps → IsPointAt wide g (point ps i) (slice_index_or (map (λ p. p.place) (all_made g n k ps)) i d)
 unfolding all_made made placed
-at_made g n k [] all i d lt = absurd (omega arith)
-at_made g n k (p ∷ ps) all zero d lt =
+at_made wide g n k [] all i d lt = absurd (omega arith)
+at_made wide g n k (p ∷ ps) all zero d lt =
     let is = all 0 p (omega arith) in
     record { x_is = number_at g p.x; y_is = number_at g p.y; z_is = number_at g p.z; x_small = is.x.small; y_small = is.y.small; z_small = is.z.small }
-at_made g n k (p ∷ ps) all (suc i) d lt = at_made g (n + 1) (k + 1) ps (λ j e l. all (suc j) e (omega arith)) i d (omega arith)
+at_made wide g n k (p ∷ ps) all (suc i) d lt = at_made wide g (n + 1) (k + 1) ps (λ j e l. all (suc j) e (omega arith)) i d (omega arith)
 
 made_long : (g : Grid) (n k : ℕ) (ps : List Point) → length (map (λ p. p.place) (all_made g n k ps)) ≡ length ps
 unfolding all_made
@@ -208,12 +215,12 @@ made_number g n k (p ∷ ps) some = refl
 
 pub node_read : NodeReadLaw
 unfolding node_of node_list_of points_table bare_text
-node_read table added first bare one short all =
+node_read wide within table added first bare one short all =
     let long = made_long g first 2 ps in (
       listed_text (record { count = length ps; attribute_count = 0; flag = false }) (all_made g first 2 ps),
       λ total. ap (λ (s : List ℕ). node_of total (content_lines_from 1 (lines_of s))) (text_is table added first bare) ∙ ap (λ (ls : List ContentLine). node_of total ls) lines
           ∙ rw (heading_read 1 (length ps) few, body total) refl,
-      record { numbered = made_number g first 2 ps; decimals = record { long = long; at = λ i d lt. at_made g first 2 ps all i d (omega arith) }; bare = made_bare g first 2 ps },
+      record { numbered = made_number g first 2 ps; decimals = record { long = long; at = λ i d lt. at_made wide g first 2 ps all i d (omega arith) }; bare = made_bare g first 2 ps },
     )
   where
     g : Grid
@@ -231,4 +238,4 @@ node_read table added first bare one short all =
         ∙ text_line 1 (length ps) (decimal 3 ∷ decimal 0 ∷ decimal 0 ∷ []) (bare_lines g first ps) few (decimal_word 3 three_short, (decimal_word 0 zero_short, (decimal_word 0 zero_short, tt)))
 
     body : (total : ℕ) → points_of 0 false None (length ps) total (content_lines_from 2 (lines_of (bare_lines g first ps))) ≡ Ok (all_made g first 2 ps, [])
-    body total = points_read g bare.halvings total 2 first None ps (le-leb first 1 one) (let h = short in omega arith) all
+    body total = points_read g bare.halvings total 2 first None ps (le-leb first 1 one) (let h = short in omega arith) (λ i d lt. legible within (all i d lt))

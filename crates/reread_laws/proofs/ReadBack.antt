@@ -68,11 +68,11 @@ neighbors_below rows k d lt =
 -- ---- the mesh
 
 pub read_back : ReadBackLaw
-read_back table added names first ps rows faces is none =
-    let read = node_read table added first is.bare is.one is.points_short is.legible in
+read_back wide table added names first ps rows faces is none =
+    let read = node_read wide is.on_grid table added first is.bare is.one is.points_short is.legible in
     let text = read.0 in
     let long = read.2.decimals.long in
-    let least = fits table.grid qs text.decimals read.2.decimals in
+    let least = fits wide table.grid qs text.decimals read.2.decimals in
     let count : first + length qs ≡ first + length text.decimals = ap (λ (n : ℕ). first + n) (sym long) in
     record {
       points = text;

@@ -10,7 +10,7 @@ use Rattle.node_files.specs.Writing.{node_text}
 use Rattle.node_files.specs.declared.table.NodeTable.{NodeTable}
 use Rattle.mesh_check.specs.Defects.{IsVerdict}
 use Rattle.mesh_check.specs.declared.defect.Verdict.TheVariants.{Sound}
-use Rattle.check_steps.specs.Checking.{CheckAnswer, most_points}
+use Rattle.check_steps.specs.Checking.{checked_grid, CheckAnswer, most_points}
 use Rattle.check_steps.specs.Reading.{IsRead}
 use Rattle.tet_ports.specs.Seen.{FolderSeen}
 use Rattle.written_laws.specs.WrittenMesh.{written_mesh}
@@ -30,6 +30,6 @@ pub record AreThere (seen : FolderSeen) (base : List ℕ) (table : NodeTable) (a
 abbrev pub CheckedBackLaw : Type 0
 CheckedBackLaw = (seen : FolderSeen) (base : List ℕ) (table : NodeTable) (added : List Point) (names : List ℕ) (first : ℕ)
     (ps : List Point) (rows : List Tet) (faces : List FaceRow)
-    → IsReadable table added names first ps rows faces → IsVerdict (written_mesh ps rows faces) Sound
+    → IsReadable checked_grid table added names first ps rows faces → IsVerdict (written_mesh ps rows faces) Sound
     → 0 < length (table.listed ++ added) → length (table.listed ++ added) ≤ most_points
     → AreThere seen base table added names first rows faces → CheckAnswer seen base None (Ok (length rows))

@@ -11,32 +11,32 @@ use Rattle.node_files.specs.declared.table.NodeTable.{NodeTable}
 use Rattle.written_laws.specs.LeastGrids.{ArePointsAt}
 use Rattle.reread_laws.specs.Reread.{IsShortNumber}
 
--- a coordinate at most 2^23 in size, with at most 35 decimals
-pub record IsLegible (g : Grid) (c : ℤ) : Type 0 where
-  pub small : unsigned_abs c ≤ limit
+-- a coordinate at most so many grid units in size, with at most 35 decimals
+pub record IsLegible (wide : ℕ) (g : Grid) (c : ℤ) : Type 0 where
+  pub small : unsigned_abs c ≤ wide
   pub short : (decimal_of_units g c).scale ≤ 35
 
-pub record IsLegiblePoint (g : Grid) (p : Point) : Type 0 where
-  pub x : IsLegible g p.x
-  pub y : IsLegible g p.y
-  pub z : IsLegible g p.z
+pub record IsLegiblePoint (wide : ℕ) (g : Grid) (p : Point) : Type 0 where
+  pub x : IsLegible wide g p.x
+  pub y : IsLegible wide g p.y
+  pub z : IsLegible wide g p.z
 
 -- points without attributes and markers
 pub record IsBareTable (table : NodeTable) : Type 0 where
   pub no_attributes : table.attribute_count ≡ 0
   pub no_markers : table.flag ≡ false
-  pub halvings : table.grid.halvings ≤ 12
+  pub halvings : table.grid.halvings ≤ 18
 
 -- what is read back: points that are numbered from the first number on, with the decimals of the listed points and the added ones
-pub record IsReadBack (g : Grid) (first : ℕ) (ps : List Point) (text : NodeText) : Type 0 where
+pub record IsReadBack (wide : ℕ) (g : Grid) (first : ℕ) (ps : List Point) (text : NodeText) : Type 0 where
   pub numbered : 0 < length ps → text.first ≡ first
-  pub decimals : ArePointsAt g ps text.decimals
+  pub decimals : ArePointsAt wide g ps text.decimals
   pub bare : text.attributes ≡ []
 
 -- `.node`: the text of points is read back as their decimals
 abbrev pub NodeReadLaw : Type 0
-NodeReadLaw = (table : NodeTable) (added : List Point) (first : ℕ) → IsBareTable table → first ≤ 1
+NodeReadLaw = (wide : ℕ) → wide ≤ limit → (table : NodeTable) (added : List Point) (first : ℕ) → IsBareTable table → first ≤ 1
     → IsShortNumber (first + length (table.listed ++ added))
-    → All (IsLegiblePoint table.grid) (table.listed ++ added)
+    → All (IsLegiblePoint wide table.grid) (table.listed ++ added)
     → (text : NodeText) × ((total : ℕ) → node_of total (content_lines (node_text table added first)) ≡ Ok text)
-    × IsReadBack table.grid first (table.listed ++ added) text
+    × IsReadBack wide table.grid first (table.listed ++ added) text
