@@ -1,0 +1,2 @@
+pub mod Addable
+pub mod Laws
