@@ -1,5 +1,5 @@
 -- What the mesh of a complex is made of, from its points and its facets on their grid.
-use Rattle.std.proofs.Common.{length-drop, drop, get_or, ◌≡◌, ◌≤◌, ◌<◌, ◌-◌, ◌^◌, pos, ℕ, List, length, map, Option, Some, None, IfSome, All, refl, sym, ap, subst, ◌∙◌, arith}
+use Rattle.std.proofs.Common.{length-drop, drop, get_or, ◌≡◌, ◌≤◌, ◌<◌, ◌+◌, ◌-◌, ◌^◌, pos, ℕ, List, length, map, Option, Some, None, IfSome, All, refl, sym, ap, subst, ◌∙◌, arith}
 use Rattle.std.proofs.lemmas.List.{get_or-map, length-map, get_or_default}
 use Rattle.std.specs.Prelude.{slice_index, slice_index_or, AllPairs}
 use Rattle.command_words.specs.Meaning.{AreInRange}
@@ -36,7 +36,7 @@ use Rattle.plc_files.specs.Binding.{HasWeights}
 use Rattle.recovery_laws.proofs.Start.{law_multiples}
 use Rattle.segment_protect.specs.Protection.{IsMultiple}
 use Rattle.sign_predicates.specs.Point.{Point}
-use Rattle.run_steps.specs.Meshing.{grid_options, mesh_options, mesh_of_complex, mesh_of_points, mesh_of_weights, mesh_on, without_decimals, IsMeshableBound}
+use Rattle.run_steps.specs.Meshing.{grid_options, mesh_options, mesh_of_complex, mesh_of_points, mesh_on, without_decimals, IsMeshableBound}
 use Rattle.run_steps.specs.Outputs.{IsWritable, IsHullOf}
 use Rattle.run_steps.specs.declared.meshed.Meshed.{Meshed}
 use Rattle.run_steps.specs.declared.mesh.Bound.{Bound}
@@ -132,18 +132,14 @@ pub with_hull : (table : NodeTable) (rows : List Tet) (hidden : Option ℕ) (hul
 with_hull table rows hidden None mesh is up h = tt
 with_hull table rows hidden (Some faces) mesh is up h = subst (λ m. IsHullOf m faces) (sym is) (record { bare = refl; ascending = up; faces = h })
 
--- the mesh of a complex can be written
-pub writable : (options : Options) (bound : Bound) (made : ComplexMesh) → IsMeshableBound options bound → options.budget ≤ 100000
-    → IsComplexMesh (mesh_options options bound.table) bound.table.points bound.complex made → IsWritable (mesh_of_complex bound made)
-writable options bound made b budget m =
-    let all = (added bound.table.grid.halvings made.points m.rest options.budget bound.table.points (pieces bound.table.points m.segs) m.protected.ends).1 in
+-- the mesh of a complex can be written, whatever points stand behind those of the table, where there are few
+pub writable_on : (o : MeshOptions) (ps : List Point) (bound : Bound) (made : ComplexMesh) → IsNodeTable bound.table → length bound.table.points ≤ length made.points
+    → length bound.table.listed + (length made.points - length bound.table.points) < 2 ^ 32 → IsComplexMesh o ps bound.complex made → IsWritable (mesh_of_complex bound made)
+writable_on o ps bound made table before few m =
     let less = length-drop (length bound.table.points) made.points in
-    let before = (added bound.table.grid.halvings made.points m.rest options.budget bound.table.points (pieces bound.table.points m.segs) m.protected.ends).0 in
-    let long = names_with_long bound.table (length made.points - length bound.table.points) b.table.folded in
-    let few = b.few in
-    let fewer = folded_few bound.table.listed bound.table.points bound.table.names bound.table.folded b.table.folded in record {
-      table = light b.table;
-      few = omega (arith, all, less, few, fewer, budget);
+    let long = names_with_long bound.table (length made.points - length bound.table.points) table.folded in record {
+      table = light table;
+      few = omega (arith, less, few);
       named = named made.points (names_with bound.table (length made.points - length bound.table.points)) made.tetrahedra (omega (arith, long, before)) m.mesh.positive;
       met = m.faces_met;
       there = m.facets_there;
@@ -163,6 +159,16 @@ writable options bound made b budget m =
         → IfSome marks (λ ms. All (λ mark. IfSome mark (λ region. region < length bound.complex.regions)) ms)
     marks_there None h = tt
     marks_there (Some ms) h = λ i d l. subst (λ mark. IfSome mark (λ region. region < length bound.complex.regions)) (get_or_default ms i None d l) (below _ (mark_at ms i) (h.each i (omega (arith, h.long))))
+
+-- the mesh of a complex on its own points can be written
+pub writable : (options : Options) (bound : Bound) (made : ComplexMesh) → IsMeshableBound options bound → options.budget ≤ 100000
+    → IsComplexMesh (mesh_options options bound.table) bound.table.points bound.complex made → IsWritable (mesh_of_complex bound made)
+writable options bound made b budget m =
+    let more = added bound.table.grid.halvings made.points m.rest options.budget bound.table.points (pieces bound.table.points m.segs) m.protected.ends in
+    let all = more.1 in
+    let few = b.few in
+    let fewer = folded_few bound.table.listed bound.table.points bound.table.names bound.table.folded b.table.folded in
+    writable_on (mesh_options options bound.table) bound.table.points bound made b.table more.0 (omega (arith, all, few, fewer, budget)) m
 
 -- no point is taken away
 pub begins : (options : Options) (bound : Bound) (made : ComplexMesh) → IsComplexMesh (mesh_options options bound.table) bound.table.points bound.complex made → length bound.table.points ≤ length made.points

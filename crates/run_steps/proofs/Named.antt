@@ -1,5 +1,5 @@
 -- What is written of a mesh whose corners have names names points that have one.
-use Rattle.std.proofs.Common.{◌≡◌, ◌<◌, ℕ, Bool, List, length, get_or}
+use Rattle.std.proofs.Common.{◌<◌, ℕ, Bool, List, length, get_or}
 use Rattle.std.specs.Prelude.{All, Contains}
 use Rattle.std.proofs.lemmas.List.{get_or_default}
 use Rattle.sign_predicates.specs.Point.{Point}

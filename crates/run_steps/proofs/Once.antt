@@ -1,6 +1,5 @@
 -- Each step of a run answers in one way at most, where the files are told and no fault rose.
-use Rattle.std.proofs.Common.{◌≡◌, ◌≤◌, ◌<◌, ◌⊎◌, inl, inr, ℕ, Bool, true, false, List, [], length, Option, Some, None, Result, Ok, Err, refl, sym, ap, subst, ◌∙◌, arith}
-use Rattle.std.proofs.lemmas.Bool.{cases_order}
+use Rattle.std.proofs.Common.{◌≡◌, ◌≤◌, ◌<◌, ℕ, Bool, true, false, List, [], length, Option, Some, None, Result, Ok, Err, refl, sym, ap, subst, ◌∙◌, arith}
 use Rattle.std.specs.FinMap as map_of
 use Rattle.std.specs.Prelude.{◌≢◌, map}
 use Rattle.command_words.specs.Grammar.{words_fault}
@@ -12,7 +11,7 @@ use Rattle.complex_mesh.proofs.OneAnswer.{law_one_fault, law_no_fault}
 use Rattle.complex_mesh.specs.OneAnswer.{IsForcing}
 use Rattle.complex_mesh.specs.declared.fault.MeshFault.{MeshFault}
 use Rattle.complex_mesh.specs.declared.fault.MeshFault.TheVariants as mesh_faults
-use Rattle.geo_laws.specs.Delaunay.{AreCoplanar, point}
+use Rattle.geo_laws.specs.Delaunay.{AreCoplanar}
 use Rattle.grid_coords.specs.Units.{grid_point}
 use Rattle.grid_coords.specs.declared.grid.Grid.{Grid}
 use Rattle.grid_coords.specs.declared.grid.Range.{Range}
@@ -28,7 +27,6 @@ use Rattle.plc_files.specs.Folding.{folded_complex}
 use Rattle.plc_files.specs.Sample.{sample_of}
 use Rattle.plc_files.specs.declared.fault.PlcFault.{PlcFault}
 use Rattle.plc_files.specs.declared.fault.PlcFault.TheVariants as plc_faults
-use Rattle.sign_predicates.specs.Point.{Point}
 use Rattle.tet_ports.specs.Counts.{Rose}
 use Rattle.tet_ports.specs.Files.{Files}
 use Rattle.tet_text.specs.declared.fault.TextFault.{TextFault}
@@ -346,7 +344,7 @@ points_same options bound true (Err s) (Err t) n m h k =
     let same = unmade_same h.0 k.0 (one_answer_law bound.table (Err h.0) (Err k.0) h.2 k.2 (λ e. one (unmade_same h.0 regular_faults.NoMemory e)) (λ e. two (unmade_same k.0 regular_faults.NoMemory e))) in
     ap forced_answer (h.1 ∙ ap (status_of_weights name) same ∙ sym k.1)
 
-mesh_of_same : (options : Options) (bound : Bound) (piecewise : Bool) → IsSame (MeshOf piecewise options bound)
+pub mesh_of_same : (options : Options) (bound : Bound) (piecewise : Bool) → IsSame (MeshOf piecewise options bound)
 mesh_of_same options bound false r s n m h k = points_same options bound options.weighted r s n m h k
 mesh_of_same options bound true (Ok a) (Ok b) n m h k = refl
 mesh_of_same options bound true (Ok a) (Err t) n m h k =

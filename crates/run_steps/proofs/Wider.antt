@@ -1,12 +1,11 @@
 -- What a step answers over a part of a run, it answers over all of it: counts never fall, and a fetch changes no file.
-use Rattle.std.proofs.Common.{◌≡◌, ◌≤◌, inl, inr, ℕ, Bool, true, false, List, Option, Some, None, Result, Ok, Err, subst, arith}
+use Rattle.std.proofs.Common.{inl, inr, ℕ, Bool, true, false, List, Option, Some, None, Result, Ok, Err, subst}
 use Rattle.command_words.specs.Names.{file_name}
 use Rattle.command_words.specs.declared.options.Extension.{Extension}
 use Rattle.command_words.specs.declared.options.Extension.TheVariants.{Node, Poly, Smesh, Off, Stl}
 use Rattle.command_words.specs.declared.options.Options.{Options}
 use Rattle.node_files.specs.declared.limits.Limits.{Limits}
 use Rattle.node_files.specs.declared.node_text.NodeText.{NodeText}
-use Rattle.tet_ports.specs.Files.{Files, IsAbsent}
 use Rattle.run_steps.specs.Reading.{complex_file, points_alone, node_text_of, plc_text_of, IsRead, IsTooLong, IsUnfetched, FetchAnswer, TextAnswer, PointsAnswer, FormAnswer, ComplexFileAnswer, SourceAnswer, NodesAnswer, BoundedAnswer, InputOf, InputAnswer}
 use Rattle.tet_ports.proofs.Windows.{IsWithin, absent_within, rose_within}
 use Rattle.tet_ports.specs.Seen.{FolderSeen}

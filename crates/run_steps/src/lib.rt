@@ -12,9 +12,10 @@ mod status;
 mod store;
 
 pub use input::{ComplexFile, Fetched, Input, complex_of, fetch, read_input, with_points};
-pub use mesh::{Bound, bind_input, bind_nodes, mesh_outputs};
+pub use mesh::{Bound, bind_input, bind_nodes, complex_meshed, mesh_outputs};
+pub use meshed::{HulledMesh, Meshed};
 pub use messages::{OUT_OF_MEMORY, SUMMARY_FAILED, message};
 pub use numbering::{Numbering, numbering_of};
-pub use outputs::Outputs;
+pub use outputs::{Outputs, outputs_of};
 pub use status::{LimitKind, Status};
 pub use store::{NamedText, StoreStop, Texts, store_all};

@@ -363,6 +363,19 @@ fn with_added(alloc: Global, bound: Bound, made: ComplexMesh, added: Added) -> M
     }
 }
 
+/// The mesh of a complex on the points of a table, of what is made on these points and others
+/// behind them.
+pub fn complex_meshed(alloc: Global, bound: Bound, made: ComplexMesh) -> Result<Meshed, NoMemory>
+    requires table { IsNodeTable bound.table }
+    requires begins { length bound.table.points ≤ length made.points }
+    requires few { length bound.table.listed +
+        (length made.points - length bound.table.points) < 2 ^ 32 - 1 }
+    ensures { IfOk result (λ mesh. mesh ≡ mesh_of_complex bound made) }
+{
+    let added = added_to(alloc, &bound.table, &made.points)?;
+    Ok(with_added(alloc, bound, made, added))
+}
+
 /// A point list without the decimals of its points, which are let go: once the points are on their
 /// grid nothing is written from them.
 fn without_decimals(alloc: Global, mut table: NodeTable) -> NodeTable

@@ -1,4 +1,4 @@
-use Rattle.std.proofs.Common.{inr, refl, Err, arith}
+use Rattle.std.proofs.Common.{inr, Err}
 use Rattle.command_words.specs.declared.options.Extension.TheVariants.{Poly, Smesh}
 use Rattle.tet_ports.specs.Seen.{FolderSeen, folder_seen}
 use Rattle.run_steps.specs.declared.status.Status.TheVariants.{Missing}

@@ -1,7 +1,5 @@
-use Rattle.std.proofs.Common.{◌≡◌, ◌≤◌, List, refl, sym, subst, ◌∙◌, length-drop, arith}
-use Rattle.std.proofs.lemmas.Result.{err_from_is_err_and}
+use Rattle.std.proofs.Common.{refl, sym, subst, ◌∙◌, length-drop, arith}
 use Rattle.std.specs.Prelude.{length}
-use Rattle.complex_mesh.specs.declared.fault.MeshFault.TheVariants as fault
 use Rattle.run_steps.specs.Outputs.{IsWritable}
 use Rattle.run_steps.proofs.Meshables.{writable, begins, few_added, with_added}
 use Rattle.run_steps.proofs.mesh.mesh_plc.Goals as goal
