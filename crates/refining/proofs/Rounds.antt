@@ -1,0 +1,45 @@
+-- What is refined, and what is told of it.
+use Rattle.std.proofs.Common.{◌≡◌, ◌≤◌, ℕ, true, List, [], Result, Ok, Err, inl, inr, refl, sym, subst, ◌∙◌}
+use Rattle.sign_predicates.specs.Point.{Point}
+use Rattle.command_words.specs.declared.options.Options.{Options}
+use Rattle.complex_mesh.specs.declared.fault.MeshFault.{MeshFault}
+use Rattle.complex_mesh.specs.declared.mesh.ComplexMesh.{ComplexMesh}
+use Rattle.refined_mesh.proofs.Behind.{law_plain}
+use Rattle.refined_mesh.specs.Refined.{IsFewWith, IsMeshWith}
+use Rattle.run_steps.specs.Codes.{status_of_fault}
+use Rattle.run_steps.specs.Meshing.{IsUnmeshed, MeshOf, OutputsAnswer, mesh_of_complex}
+use Rattle.run_steps.specs.declared.mesh.Bound.{Bound}
+use Rattle.run_steps.specs.declared.meshed.Meshed.{Meshed}
+use Rattle.run_steps.specs.declared.outputs.Outputs.{Outputs}
+use Rattle.run_steps.specs.declared.status.Status.{Status}
+use Rattle.refining.specs.Outputs.{RefinedMade}
+use Rattle.refining.specs.Refining.{IsTakenMesh, IsRefinedTo}
+use Rattle.refining.specs.declared.refining.Bounds.{Bounds}
+use Rattle.refining.specs.declared.refining.Refined.{Refined}
+use Rattle.refining.specs.declared.refining.Taken.{Taken}
+
+pub refined_to : (options : Options) (bound : Bound) (bounds : Bounds) (plain : ComplexMesh) (taken : Taken) (mesh : Meshed) (rounds : ℕ) → IsFewWith options bound [] bound.table.grid.halvings plain
+    → IsTakenMesh options bound taken → mesh ≡ mesh_of_complex bound taken.made → rounds ≤ bounds.rounds
+    → IsRefinedTo options bound bounds (record { added = taken.added; halvings = taken.halvings; mesh = mesh; rounds = rounds })
+refined_to options bound bounds plain taken mesh rounds p t is few = record {
+  plain = mesh_of_complex bound plain;
+  plain_is = law_plain options bound (mesh_of_complex bound plain) (plain, p.with_them, refl);
+  answer = (taken.made, t.made.with_them, is);
+  same = λ none.
+      let bare = subst (λ more. IsMeshWith options bound more taken.halvings taken.made) none t.made.with_them in
+      law_plain options bound mesh (taken.made, subst (λ h. IsMeshWith options bound [] h taken.made) (t.bare none) bare, is);
+  rounds = few;
+}
+
+-- the outputs of what is refined
+pub outputs_made : (options : Options) (bound : Bound) (bounds : Bounds) (refined : Refined) (r : Result Outputs Status) → options.piecewise ≡ true → IsRefinedTo options bound bounds refined
+    → OutputsAnswer options refined.mesh r → RefinedMade options bound r
+outputs_made options bound bounds refined (Ok outputs) complex h k =
+    (h.plain, subst (λ p. MeshOf p options bound (Ok h.plain)) (sym complex) h.plain_is, (refined.added, refined.halvings, refined.mesh, h.answer, k))
+outputs_made options bound bounds refined (Err status) complex h k =
+    inr (h.plain, subst (λ p. MeshOf p options bound (Ok h.plain)) (sym complex) h.plain_is, k)
+
+pub refused_made : (options : Options) (bound : Bound) (fault : MeshFault) (status : Status) → options.piecewise ≡ true → IsUnmeshed options bound (status_of_fault fault) → status ≡ status_of_fault fault
+    → RefinedMade options bound (Err status)
+refused_made options bound fault status complex h is =
+    inl (subst (λ p. MeshOf p options bound (Err status)) (sym complex) (subst (IsUnmeshed options bound) (sym is) h))

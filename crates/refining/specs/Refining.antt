@@ -1,0 +1,23 @@
+-- Meshes of a complex with more and more points behind its own.
+use Rattle.std.specs.Prelude.{◌≡◌, ◌≤◌, ℕ, true, List, [], Ok, Err}
+use Rattle.command_words.specs.declared.options.Options.{Options}
+use Rattle.run_steps.specs.Meshing.{MeshOf}
+use Rattle.run_steps.specs.declared.mesh.Bound.{Bound}
+use Rattle.run_steps.specs.declared.meshed.Meshed.{Meshed}
+use Rattle.refined_mesh.specs.Refined.{IsFewWith, MeshAnswerWith}
+use Rattle.refining.specs.declared.refining.Bounds.{Bounds}
+use Rattle.refining.specs.declared.refining.Refined.{Refined}
+use Rattle.refining.specs.declared.refining.Taken.{Taken}
+
+-- a mesh that was made with points behind those of the complex; without any, with as many halvings as the grid allows
+pub record IsTakenMesh (options : Options) (bound : Bound) (taken : Taken) : Type 0 where
+  pub made : IsFewWith options bound taken.added taken.halvings taken.made
+  pub bare : taken.added ≡ [] → taken.halvings ≡ bound.table.grid.halvings
+
+-- The complex has a mesh without further points. The answer is one with the points that were added, and where none was, it is one without
+pub record IsRefinedTo (options : Options) (bound : Bound) (bounds : Bounds) (refined : Refined) : Type 0 where
+  pub plain : Meshed
+  pub plain_is : MeshOf true options bound (Ok plain)
+  pub answer : MeshAnswerWith refined.added refined.halvings options bound refined.mesh
+  pub same : refined.added ≡ [] → MeshOf true options bound (Ok refined.mesh)
+  pub rounds : refined.rounds ≤ bounds.rounds

@@ -1,0 +1,163 @@
+//! Meshes with more and more points.
+
+ghost use Rattle.std.specs.Prelude.{◌≡◌, ◌≤◌, ◌^◌, IfOk, IfErr, IfSome};
+ghost use Rattle.run_steps.specs.Meshing.{IsMeshableBound, IsUnmeshed};
+ghost use Rattle.run_steps.specs.Outputs.{IsWritable};
+ghost use Rattle.run_steps.specs.Codes.{status_of_fault};
+ghost use Rattle.refining.specs.Refining.{IsTakenMesh, IsRefinedTo};
+
+use crate::addable::addable;
+use crate::propose::Propose;
+use command_words::Options;
+use complex_mesh::{ComplexMesh, MeshFault};
+use geo_laws::Points;
+use refined_mesh::{mesh_plain, mesh_with, placed};
+use run_steps::{Bound, Meshed};
+use std::alloc::Global;
+use tet_ports::NoMemory;
+
+/// How far a mesh is refined.
+#[derive(Clone, Copy, Debug)]
+pub struct Bounds {
+    /// How often a segment may be halved once points were added: each coordinate of these is a
+    /// multiple of `2^halvings` grid units.
+    pub halvings: u32,
+    /// How often points are added.
+    pub rounds: u32,
+    /// How many points may be added.
+    pub added: usize,
+    /// How many points there may be with them.
+    pub most: usize,
+}
+
+/// A mesh of a complex with the points that were added to it, so often.
+#[derive(Drop)]
+pub struct Refined {
+    pub added: Points,
+    /// How often a segment may be halved.
+    pub halvings: u32,
+    pub mesh: Meshed,
+    pub rounds: u32,
+}
+
+/// A mesh that was made with some points.
+#[derive(Drop)]
+struct Taken {
+    added: Points,
+    halvings: u32,
+    made: ComplexMesh,
+}
+
+/// How many points there may be, which are no more than 2^30.
+fn most_of(bounds: &Bounds) -> usize
+    ensures { result ≤ 2 ^ 30 }
+{
+    bounds.most.min(1_073_741_824)
+}
+
+/// A mesh with more points than this one, where some are proposed and a mesh is made with them.
+fn next_taken<P: Propose>(
+    alloc: Global,
+    options: &Options,
+    bound: &Bound,
+    bounds: &Bounds,
+    taken: &Taken,
+    proposer: &mut P,
+) -> Result<Option<Taken>, NoMemory>
+    requires bound { IsMeshableBound options.now bound.now }
+    ensures { IfOk result (λ next. IfSome next (IsTakenMesh options.now bound.now)) }
+{
+    let known = bound.table.points.len().saturating_add(taken.added.len());
+    let proposed = proposer.propose(alloc, &bound.complex, &taken.made, known)?;
+    let halvings = bounds.halvings.min(bound.table.grid.halvings);
+    let points = &bound.table.points;
+    let more = addable(
+        alloc,
+        points,
+        &taken.added,
+        &proposed,
+        halvings,
+        bounds.added,
+    )?;
+    if more.is_empty() || more.len() == taken.added.len() {
+        return Ok(None);
+    }
+    match mesh_with(alloc, options, bound, &more, halvings, most_of(bounds)) {
+        Ok(made) => Ok(Some(Taken {
+            added: more,
+            halvings,
+            made,
+        })),
+        Err(_) => Ok(None),
+    }
+}
+
+/// A mesh that was made after so many rounds.
+#[derive(Drop)]
+struct Rounds {
+    taken: Taken,
+    rounds: u32,
+}
+
+/// The last mesh of those that are made from this one on, round by round.
+fn taken_last<P: Propose>(
+    alloc: Global,
+    options: &Options,
+    bound: &Bound,
+    bounds: &Bounds,
+    first: Taken,
+    proposer: &mut P,
+) -> Result<Rounds, NoMemory>
+    requires bound { IsMeshableBound options.now bound.now }
+    requires first { IsTakenMesh options.now bound.now first }
+    ensures taken { IfOk result (λ last. IsTakenMesh options.now bound.now last.taken) }
+    ensures rounds { IfOk result (λ last. last.rounds ≤ bounds.now.rounds) }
+{
+    let mut taken = first;
+    for rounds in 0..bounds.rounds {
+        match next_taken(alloc, options, bound, bounds, &taken, proposer)? {
+            None => return Ok(Rounds { taken, rounds }),
+            Some(next) => taken = next,
+        }
+    }
+    Ok(Rounds {
+        taken,
+        rounds: bounds.rounds,
+    })
+}
+
+/// The mesh of a complex with the points that are proposed, round by round: each round's points are
+/// kept where there is a mesh with them. It ends where none is added, or where the bounds are
+/// reached. It refuses the complex as `mesh_plain` does; or for want of memory.
+pub(crate) fn refine<P: Propose>(
+    alloc: Global,
+    options: &Options,
+    bound: Bound,
+    bounds: &Bounds,
+    proposer: &mut P,
+) -> Result<Refined, MeshFault>
+    requires bound { IsMeshableBound options.now bound }
+    ensures refined { IfOk result (IsRefinedTo options.now bound bounds.now) }
+    ensures refused { IfErr result (λ fault. IsUnmeshed options.now bound (status_of_fault fault)) }
+    ensures writable { IfOk result (λ refined. IsWritable refined.mesh) }
+{
+    let made = mesh_plain(alloc, options, &bound)?;
+    let first = Taken {
+        added: Points::new(alloc),
+        halvings: bound.table.grid.halvings,
+        made,
+    };
+    let Rounds { taken, rounds } = taken_last(alloc, options, &bound, bounds, first, proposer)?;
+    let Taken {
+        added,
+        halvings,
+        made,
+    } = taken;
+    let mesh = placed(alloc, options, bound, made)?;
+    Ok(Refined {
+        added,
+        halvings,
+        mesh,
+        rounds,
+    })
+}
