@@ -10,6 +10,7 @@ use Rattle.command_words.specs.declared.options.Options.{Options}
 use Rattle.complex_laws.proofs.ComplexMesh.{law_hull_mesh}
 use Rattle.complex_mesh.specs.Meshing.{IsComplexMesh}
 use Rattle.complex_mesh.specs.declared.mesh.ComplexMesh.{ComplexMesh}
+use Rattle.complex_mesh.specs.declared.mesh.MeshOptions.{MeshOptions}
 use Rattle.geo_laws.specs.Delaunay.{numbers, all_numbers, delaunay_rows, IsOn}
 use Rattle.geo_laws.specs.declared.tetrahedra.Tet.{Tet}
 use Rattle.geo_laws.proofs.Corners.{on_of_among, all_within}
@@ -119,14 +120,19 @@ points_determined options bound true mesh folded h =
     subst (IsDetermined options) (sym h.2)
     (rows_determined options (without_decimals bound.table) h.0.rows (Some h.0.hidden) folded (regular_on ps (kept_weights bound.table h.1.weights) h.0.rows h.1.list))
 
+-- so of the mesh of a complex, whatever points stand behind those of the table
+pub complex_determined_on : (o : MeshOptions) (ps : List Point) (options : Options) (bound : Bound) (made : ComplexMesh) → IsFolded bound.table.listed bound.table.points bound.table.names bound.table.folded
+    → length bound.table.points ≤ length made.points → IsComplexMesh o ps bound.complex made → IsDetermined options (mesh_of_complex bound made)
+complex_determined_on o ps options bound made folded before m =
+    let given = length bound.table.points in
+    let count : length made.points - given ≡ length (drop given made.points) = sym (length-drop given made.points) in
+    let long = names_with_long bound.table (length made.points - given) folded in
+    determined options (mesh_of_complex bound made) folded (ap (λ (n : ℕ). names_with bound.table n) count) (omega (arith, long, before)) (λ k d l. (m.mesh.positive k d l).0)
+
 complex_determined : (options : Options) (bound : Bound) (made : ComplexMesh) → IsFolded bound.table.listed bound.table.points bound.table.names bound.table.folded
     → IsComplexMesh (mesh_options options bound.table) bound.table.points bound.complex made → IsDetermined options (mesh_of_complex bound made)
 complex_determined options bound made folded m =
-    let given = length bound.table.points in
-    let count : length made.points - given ≡ length (drop given made.points) = sym (length-drop given made.points) in
-    let before = begins options bound made m in
-    let long = names_with_long bound.table (length made.points - given) folded in
-    determined options (mesh_of_complex bound made) folded (ap (λ (n : ℕ). names_with bound.table n) count) (omega (arith, long, before)) (λ k d l. (m.mesh.positive k d l).0)
+    complex_determined_on (mesh_options options bound.table) bound.table.points options bound made folded (begins options bound made m) m
 
 by_mesh : (piecewise : Bool) (options : Options) (bound : Bound) (mesh : Meshed) → IsFolded bound.table.listed bound.table.points bound.table.names bound.table.folded → MeshOf piecewise options bound (Ok mesh)
     → IsDetermined options mesh
