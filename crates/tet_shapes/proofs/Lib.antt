@@ -1,0 +1,4 @@
+pub mod Numbers
+pub mod Center
+pub mod Counts
+pub mod Slim

@@ -1,0 +1,5 @@
+pub mod Wide
+pub mod Shape
+pub mod Sizes
+pub mod Vector
+pub mod Laws

@@ -1,0 +1,236 @@
+//! Shapes of worked tetrahedra. The values were found with fractions: the center by three linear
+//! equations.
+ghost use Rattle.std.specs.Prelude.{◌≤◌, ◌^◌, unsigned_abs, All, IfSome, IfOk, IsTrue};
+ghost use Rattle.geo_laws.specs.Delaunay.{IsOn};
+ghost use Rattle.tet_shapes.specs.Shape.{IsFine};
+
+use crate::{Ratio, count_large, count_slim, is_large, is_slim, is_slim_at};
+use geo_laws::{Points, Tet, TetList};
+use sign_predicates::{Corners, GridPoint};
+use std::alloc::Global;
+use tet_ports::NoMemory;
+
+/// The greatest size of a coordinate, and the least coordinate.
+const FAR: i32 = 536_870_912;
+
+const LEAST: i32 = -536_870_912;
+
+/// The point, where it is one of the grid.
+fn at(p: [i32; 3]) -> Option<GridPoint> {
+    let [x, y, z] = p;
+    if x.unsigned_abs() > 536_870_912
+        || y.unsigned_abs() > 536_870_912
+        || z.unsigned_abs() > 536_870_912
+    {
+        return None;
+    }
+    Some(GridPoint { x, y, z })
+}
+
+fn tet(p: [[i32; 3]; 4]) -> Option<Corners> {
+    Some(Corners {
+        a: at(p[0])?,
+        b: at(p[1])?,
+        c: at(p[2])?,
+        d: at(p[3])?,
+    })
+}
+
+/// The ratio, where it is fine enough.
+fn ratio(over: u32, under: u32) -> Option<Ratio>
+    ensures { IfSome result IsFine }
+{
+    if over > 1 << 20 || under > 1 << 20 {
+        return None;
+    }
+    Some(Ratio { over, under })
+}
+
+/// The radius is 3 and the shortest edge 2.
+const BOX: [[i32; 3]; 4] = [[0, 0, 0], [4, 0, 0], [0, 4, 0], [0, 0, 2]];
+
+/// `BOX`, as large as the grid holds it.
+const LARGE_BOX: [[i32; 3]; 4] = [
+    [LEAST, LEAST, LEAST],
+    [FAR, LEAST, LEAST],
+    [LEAST, FAR, LEAST],
+    [LEAST, LEAST, 0],
+];
+
+/// The square of the radius over the shortest edge, the last one, is 83 / 10.
+const LAST: [[i32; 3]; 4] = [[0, 0, 0], [9, 0, 0], [0, 9, 0], [1, 9, 2]];
+
+/// The square is 3 / 4, at the greatest coordinates.
+const CORNER: [[i32; 3]; 4] = [
+    [LEAST, LEAST, LEAST],
+    [FAR, LEAST, LEAST],
+    [LEAST, FAR, LEAST],
+    [LEAST, LEAST, FAR],
+];
+
+/// All but flat: the square is a little over 1 / 2.
+const SLIVER: [[i32; 3]; 4] = [
+    [LEAST, LEAST, 0],
+    [FAR, LEAST, 0],
+    [FAR, FAR, 0],
+    [LEAST, FAR, 1],
+];
+
+/// The radius is some 144 thousand million million times the shortest edge.
+const NEEDLE: [[i32; 3]; 4] = [[LEAST, 0, 0], [0, 0, 1], [FAR, 0, 0], [0, 1, 0]];
+
+/// Tetrahedra, a numerator and a denominator, and whether the radius over the shortest edge is
+/// over that.
+static SHAPES: [(&str, [[i32; 3]; 4], u32, u32, bool); 17] = [
+    ("box, at the bound", BOX, 3, 2, false),
+    ("box, below", BOX, 149_999, 100_000, true),
+    ("box, above", BOX, 150_001, 100_000, false),
+    (
+        "large box, at the bound",
+        LARGE_BOX,
+        1_048_575,
+        699_050,
+        false,
+    ),
+    ("large box, below", LARGE_BOX, 1_048_574, 699_050, true),
+    ("large box, above", LARGE_BOX, 1_048_576, 699_050, false),
+    ("last edge", LAST, 288, 100, true),
+    ("last edge, above", LAST, 289, 100, false),
+    ("corner", CORNER, 866_025, 1_000_000, true),
+    ("corner, above", CORNER, 866_026, 1_000_000, false),
+    ("corner, the finest", CORNER, 908_093, 1_048_576, true),
+    (
+        "corner, above the finest",
+        CORNER,
+        908_094,
+        1_048_576,
+        false,
+    ),
+    ("sliver", SLIVER, 707_106, 1_000_000, true),
+    ("sliver, above", SLIVER, 707_107, 1_000_000, false),
+    ("needle", NEEDLE, 1_048_576, 1, true),
+    ("over nothing", NEEDLE, 1, 0, false),
+    ("no bound", BOX, 0, 1, true),
+];
+
+fn is_slim_shape(corners: [[i32; 3]; 4], over: u32, under: u32) -> Option<bool> {
+    Some(is_slim_at(tet(corners)?, ratio(over, under)?))
+}
+
+#[test]
+fn radius_over_shortest_edge(rt: HostRuntime) {
+    for (name, corners, over, under, want) in &SHAPES {
+        assert!(rt;
+            is_slim_shape(*corners, *over, *under) == Some(*want),
+            "{name}"
+        );
+    }
+}
+
+// ---- lists
+
+/// The corners of three tetrahedra, `BOX`, `LAST` and one with the legs 1, 1 and 2.
+const POINTS: [[i32; 3]; 9] = [
+    [0, 0, 0],
+    [4, 0, 0],
+    [0, 4, 0],
+    [0, 0, 2],
+    [9, 0, 0],
+    [0, 9, 0],
+    [1, 9, 2],
+    [1, 0, 0],
+    [0, 1, 0],
+];
+
+const ROWS: [[u32; 4]; 3] = [[0, 1, 2, 3], [0, 4, 5, 6], [0, 7, 8, 3]];
+
+fn points(alloc: Global) -> Option<Points> {
+    let mut list = Points::new(alloc);
+    for p in &POINTS {
+        list.push(at(*p)?).ok()?;
+    }
+    Some(list)
+}
+
+fn is_on(points: &Points, row: Tet) -> bool
+    ensures { IsTrue result → IsOn points.now row }
+{
+    (row.a as usize) < points.len()
+        && (row.b as usize) < points.len()
+        && (row.c as usize) < points.len()
+        && (row.d as usize) < points.len()
+}
+
+/// The rows whose corners are points of the list.
+fn rows(alloc: Global, points: &Points) -> Result<TetList, NoMemory>
+    ensures { IfOk result (All (IsOn points.now)) }
+{
+    let mut list = TetList::new(alloc);
+    for [a, b, c, d] in ROWS {
+        let row = Tet { a, b, c, d };
+        if is_on(points, row) {
+            list.push(row)?;
+        }
+    }
+    Ok(list)
+}
+
+/// How many rows are slim at a bound, and how many large at another.
+fn counts(alloc: Global, bound: Ratio, most: i128) -> Option<(usize, usize)>
+    requires { IsFine bound }
+{
+    let points = points(alloc)?;
+    let Ok(rows) = rows(alloc, &points) else {
+        return None;
+    };
+    Some((
+        count_slim(&points, &rows, bound),
+        count_large(&points, &rows, most),
+    ))
+}
+
+/// Of the three rows the squares of the radius over the shortest edge are 9 / 4, 83 / 10 and 3 / 2,
+/// and six times the volume is 32, 162 and 2.
+static COUNTS: [(u32, u32, i128, usize, usize); 6] = [
+    (3, 1, 162, 0, 0),
+    (288, 100, 161, 1, 1),
+    (3, 2, 32, 1, 1),
+    (149, 100, 31, 2, 2),
+    (123, 100, 2, 2, 2),
+    (122, 100, 1, 3, 3),
+];
+
+fn counts_at(alloc: Global, over: u32, under: u32, most: i128) -> Option<(usize, usize)> {
+    counts(alloc, ratio(over, under)?, most)
+}
+
+#[test]
+fn slim_and_large_rows(rt: HostRuntime) {
+    for (over, under, most, slim, large) in &COUNTS {
+        let found = counts_at(rt.alloc(), *over, *under, *most);
+        assert!(rt; found == Some((*slim, *large)), "{over} / {under}, {most}");
+    }
+}
+
+/// Whether the row of `BOX` is slim and large at these bounds.
+fn first_row(alloc: Global, over: u32, under: u32, most: i128) -> Option<(bool, bool)> {
+    let points = points(alloc)?;
+    let bound = ratio(over, under)?;
+    let row = Tet {
+        a: 0,
+        b: 1,
+        c: 2,
+        d: 3,
+    };
+    if !is_on(&points, row) {
+        return None;
+    }
+    Some((is_slim(&points, row, bound), is_large(&points, row, most)))
+}
+
+#[test]
+fn one_row(rt: HostRuntime) {
+    assert!(rt; first_row(rt.alloc(), 149, 100, 31) == Some((true, true)));
+    assert!(rt; first_row(rt.alloc(), 3, 2, 32) == Some((false, false)));
+    assert!(rt; first_row(rt.alloc(), 3, 2, -33) == Some((false, true)));
+}
