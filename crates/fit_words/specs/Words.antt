@@ -6,8 +6,8 @@ use Rattle.std.specs.Option.{option_map, option_map_or, option_or}
 use Rattle.fit_words.specs.declared.request.Request.{Request}
 use Rattle.fit_words.specs.declared.request.Request.TheVariants.{Page, Version, Mesh}
 use Rattle.command_words.specs.declared.options.Options.{Options}
-use Rattle.command_words.specs.Grammar.{is_cluster, words_fault}
-use Rattle.command_words.specs.Meaning.{options_of}
+use Rattle.command_words.specs.Grammar.{is_cluster, words_fault_within}
+use Rattle.command_words.specs.Meaning.{options_within}
 
 -- ---- words of their own: they ask for the page, for the version, and for the stages to be said
 
@@ -50,11 +50,19 @@ abbrev pub first_elsewhere : ℕ → List (List ℕ) → Option (ℕ × ℕ)
 first_elsewhere number [] = None
 first_elsewhere number (word ∷ more) = option_map_or (λ place. Some (number, place)) (elsewhere_in word) (first_elsewhere (number + 1) more)
 
+-- how often the words may ask that the grid be halved
+abbrev pub most_halvings : ℕ
+most_halvings = 18
+
+-- what the words ask for, at most so many halvings, and so many where they name no number
+abbrev pub fit_options : List (List ℕ) → Options
+fit_options = options_within most_halvings
+
 -- the first fault of these words: one of their grammar, or else the first word that asks for one of the four
 abbrev pub fit_fault : List (List ℕ) → Option (ℕ × ℕ)
 fit_fault words =
-    option_or (words_fault words)
-    (if asks_elsewhere (options_of words) then Some (unwrap_or (first_elsewhere 1 words) (1, 1)) else None)
+    option_or (words_fault_within most_halvings words)
+    (if asks_elsewhere (fit_options words) then Some (unwrap_or (first_elsewhere 1 words) (1, 1)) else None)
 
 -- the words ask neither for weights nor for a check, and give neither decimals nor a sample
 pub record IsPlainRequest (options : Options) : Type 0 where

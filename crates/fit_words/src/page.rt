@@ -25,7 +25,7 @@ name.1.face.\n\
 \x20 Q     no summary\n\
 \x20 V     say each stage on standard error; a word of its own\n\
 \x20 h     this page; a word of its own, as --help\n\
-\x20 --halvings=<n>  halve the grid at most n times, from 0 to 12\n\
+\x20 --halvings=<n>  halve the grid at most n times, from 0 to 18\n\
 \x20 --version       the version\n\
 \n\
 Examples:\n\

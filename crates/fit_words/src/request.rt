@@ -2,14 +2,17 @@
 
 ghost use Rattle.std.specs.Prelude.{◌≡◌, ◌+◌, ◌<◌, ℕ, length, Some, None, Err, IfOk, IfSome, position};
 ghost use Rattle.std.specs.Str.{bytes_eq};
-ghost use Rattle.command_words.specs.Meaning.{options_of, AreInRange};
+ghost use Rattle.command_words.specs.Meaning.{AreInRange};
 ghost use Rattle.command_words.specs.declared.fault.WordsFault.TheVariants.{Usage};
-ghost use Rattle.fit_words.specs.Words.{request_of, asks_page, asks_stages, asks_version, elsewhere_in, first_elsewhere, fit_fault, has_word, asks_elsewhere, is_letter_elsewhere, others, IsPlainRequest};
+ghost use Rattle.fit_words.specs.Words.{request_of, asks_page, asks_stages, asks_version, elsewhere_in, first_elsewhere, fit_fault, fit_options, has_word, asks_elsewhere, is_letter_elsewhere, others, IsPlainRequest};
 
 use crate::kinds::{DECIMALS, SAMPLE, is_cluster};
-use command_words::{Options, WordsFault, read_words};
+use command_words::{Options, WordsFault, read_words_within};
 use std::alloc::Global;
 use tet_ports::{Name, NoMemory, Words};
+
+/// How often the words may ask that the grid be halved.
+const MOST_HALVINGS: u32 = 18;
 
 /// What the words ask for first of all.
 #[derive(Clone, Copy, Debug, PartialEq, Eq)]
@@ -125,18 +128,18 @@ fn is_elsewhere(options: &Options) -> bool
 
 /// The options that the words without `-V` ask for.
 ///
-/// `Usage` exactly where they are not in the grammar of `read_words`, with its first fault, or ask
-/// for weights, a check, decimals or the sample, with the first word that does and the place in
-/// it.
+/// `Usage` exactly where they are not in the grammar of `read_words_within`, with its first fault,
+/// or ask for weights, a check, decimals or the sample, with the first word that does and the place
+/// in it.
 pub fn read_options(alloc: Global, words: &Words) -> Result<Options, WordsFault>
     ensures understood { IfOk result (λ options. fit_fault words.now ≡ None) }
-    ensures options { IfOk result (λ options. options ≡ options_of words.now) }
+    ensures options { IfOk result (λ options. options ≡ fit_options words.now) }
     ensures usage { (word place : ℕ) → result ≡ Err (Usage word place)
         → fit_fault words.now ≡ Some (word, place) }
     ensures ranges { IfOk result (λ options. AreInRange options) }
     ensures plain { IfOk result (λ options. IsPlainRequest options) }
 {
-    let options = read_words(alloc, words)?;
+    let options = read_words_within(alloc, words, MOST_HALVINGS)?;
     if is_elsewhere(&options) {
         let (word, place) = first_elsewhere(words).unwrap_or((1, 1));
         return Err(WordsFault::Usage { word, place });
