@@ -7,7 +7,7 @@ use Rattle.std.proofs.lemmas.Bool.{cond-true, cond-false, lt-ltb, le-ltb, lt-leb
 use Rattle.std.proofs.lemmas.List.Recursion.{max_bounds}
 use borrow.Author.Tests.{ltb-true}
 use Rattle.grid_coords.specs.Choice.{decimals_of, most_decimals, size_of, is_over, first_over, grid_of}
-use Rattle.grid_coords.specs.Units.{limit, if_at_most, units}
+use Rattle.grid_coords.specs.Units.{if_at_most, units}
 use Rattle.grid_coords.specs.declared.points.DecimalPoint.{DecimalPoint}
 use Rattle.node_files.specs.Settling.{rounded_point}
 use Rattle.tet_text.specs.Decimals.{Scaled}
@@ -52,12 +52,12 @@ units_rise few many d le =
     let tens : unsigned_abs d.value * 10 ^ (few - d.scale) ≤ unsigned_abs d.value * 10 ^ (many - d.scale) = mul-le-mul_left (unsigned_abs d.value) (pow-le-pow_right (omega arith) steps) in
     mul-le-mul_right (2 ^ 0) tens
 
-over_rises : (few many : ℕ) (p : DecimalPoint) → few ≤ many → is_over few p ≡ true → is_over many p ≡ true
-over_rises few many p le over =
+over_rises : (wide few many : ℕ) (p : DecimalPoint) → few ≤ many → is_over wide few p ≡ true → is_over wide many p ≡ true
+over_rises wide few many p le over =
     let x = units_rise few many p.x le in
     let y = units_rise few many p.y le in
     let z = units_rise few many p.z le in
-    lt-ltb limit (size_of many p) (let lt = ltb-true limit (size_of few p) over in omega (arith, x, y, z, lt))
+    lt-ltb wide (size_of many p) (let lt = ltb-true wide (size_of few p) over in omega (arith, x, y, z, lt))
 
 -- what one test finds in a list, where the other passes no fewer
 found_here : {X : Type 0} (a b : Bool) (first : X) (rest : Option X) (any : Bool) → (a ≡ true → b ≡ true) → (any ≡ true → (y : X) × (rest ≡ Some y)) → (a || any) ≡ true
@@ -72,9 +72,9 @@ found p q r [] more any = absurd (cc)
 found p q r (x ∷ xs) more any = found_here (p (r x)) (q (r x)) (r x) (find q (map r xs)) (list_any (λ x. p (r x)) xs) (more (r x)) (found p q r xs more) any
 
 -- a point over the limit at no more decimals than the points have
-pub off_rounded : (m few : ℕ) (ps : List DecimalPoint) → few ≤ most_decimals (map (rounded_point m) ps) → list_any (λ p. is_over few (rounded_point m p)) ps ≡ true → IsOffRounded ps m
+pub off_rounded : (wide m few : ℕ) (ps : List DecimalPoint) → few ≤ most_decimals (map (rounded_point m) ps) → list_any (λ p. is_over wide few (rounded_point m p)) ps ≡ true → IsOffRounded wide ps m
 unfolding grid_of first_over
-off_rounded m few ps le any =
+off_rounded wide m few ps le any =
     let most = most_decimals (map (rounded_point m) ps) in
-    let one = found (is_over few) (is_over most) (rounded_point m) ps (λ p. over_rises few most p le) any in
+    let one = found (is_over wide few) (is_over wide most) (rounded_point m) ps (λ p. over_rises wide few most p le) any in
     record { line = one.0.line; off = λ halvings. rw one.1 refl }

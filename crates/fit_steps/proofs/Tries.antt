@@ -35,7 +35,7 @@ module _ (limits : Limits) (options : Options) (input : Input) where
   within_limits status e (inr h) = record { few = h.1.0.on.few; small = h.1.1.small }
 
 -- where a point is off the grid, the grid refuses
-off_refused : (limits : Limits) (options : Options) (input : Input) (m : ℕ) → IsWithinLimits limits input → IsOffRounded input.nodes.decimals m
+off_refused : (limits : Limits) (options : Options) (input : Input) (m : ℕ) → IsWithinLimits limits input → IsOffRounded limits.grid input.nodes.decimals m
     → IsRefusedByGrid limits options input m
 off_refused limits options input m within off =
     let off_grid : IsOffGrid limits input.nodes (grid_options (at_decimals m options)) off.line = record { few = within.few; off = off.off options.halvings } in
@@ -52,7 +52,7 @@ by_order P m n below here above = at (cases_lt n m) (cases_lt m n)
 
 -- after a refusal at m the numbers of decimals behind the next one are refused
 pub refused_behind : (limits : Limits) (options : Options) (input : Input) (most m next : ℕ) (status : Status) → is_of_grid status ≡ true
-    → AnswerAt limits options input m (Err status) → AreOffBetween input.nodes.decimals next m
+    → AnswerAt limits options input m (Err status) → AreOffBetween limits.grid input.nodes.decimals next m
     → ((n : ℕ) → m < n → n ≤ most → IsRefusedByGrid limits options input n)
     → (n : ℕ) → next < n → n ≤ most → IsRefusedByGrid limits options input n
 refused_behind limits options input most m next status e refused off finer n less le =

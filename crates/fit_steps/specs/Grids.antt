@@ -4,11 +4,11 @@ use Rattle.grid_coords.specs.Choice.{grid_of}
 use Rattle.grid_coords.specs.declared.points.DecimalPoint.{DecimalPoint}
 use Rattle.node_files.specs.Settling.{rounded_point}
 
--- the line of a point that is off the grid once all points are rounded to so many decimals
-pub record IsOffRounded (points : List DecimalPoint) (m : ℕ) : Type 0 where
+-- the line of a point that is off each grid of coordinates up to so many units, once all points are rounded to so many decimals
+pub record IsOffRounded (wide : ℕ) (points : List DecimalPoint) (m : ℕ) : Type 0 where
   pub line : ℕ
-  pub off : (halvings : ℕ) → grid_of halvings (map (rounded_point m) points) ≡ Err (record { line = line })
+  pub off : (halvings : ℕ) → grid_of wide halvings (map (rounded_point m) points) ≡ Err (record { line = line })
 
 -- so at each number of decimals between these
-abbrev pub AreOffBetween : List DecimalPoint → ℕ → ℕ → Type 0
-AreOffBetween points least most = (n : ℕ) → least < n → n < most → IsOffRounded points n
+abbrev pub AreOffBetween : ℕ → List DecimalPoint → ℕ → ℕ → Type 0
+AreOffBetween wide points least most = (n : ℕ) → least < n → n < most → IsOffRounded wide points n

@@ -78,6 +78,6 @@ pub fn fit_input(
                 }
             }
         }
-        decimals = next_tried(points, decimals);
+        decimals = next_tried(points, decimals, limits.grid);
     }
 }

@@ -21,34 +21,34 @@ pub(crate) fn most_tried(points: &[DecimalPoint]) -> u32
 }
 
 /// The next number of decimals that is tried after a refusal at this one: the greatest that is
-/// smaller and at which the points are on a grid, or 0.
-pub(crate) fn next_tried(points: &[DecimalPoint], decimals: u32) -> u32
+/// smaller and at which the points are on a grid of coordinates up to `wide` units, or 0.
+pub(crate) fn next_tried(points: &[DecimalPoint], decimals: u32, wide: u64) -> u32
     requires { 0 < decimals }
     ensures less { result < decimals }
-    ensures off { AreOffBetween points.now result decimals }
+    ensures off { AreOffBetween wide points.now result decimals }
 {
     let mut next = decimals - 1;
-    while next > 0 && is_off_grid(points, next) {
+    while next > 0 && is_off_grid(wide, points, next) {
         next -= 1;
     }
     next
 }
 
 /// Whether a point is off each grid once the points are rounded to so many decimals.
-fn is_off_grid(points: &[DecimalPoint], decimals: u32) -> bool
-    ensures { IsTrue result → IsOffRounded points.now decimals }
+fn is_off_grid(wide: u64, points: &[DecimalPoint], decimals: u32) -> bool
+    ensures { IsTrue result → IsOffRounded wide points.now decimals }
 {
     let finest = rounded_decimals(points, decimals);
-    has_over(finest, decimals, points)
+    has_over(wide, finest, decimals, points)
 }
 
-/// Whether a point that is rounded to so many decimals is over 2^23 units of the finest.
-fn has_over(finest: u32, decimals: u32, points: &[DecimalPoint]) -> bool
-    ensures { result ≡ list_any (λ p. is_over finest (rounded_point decimals p)) points.now }
+/// Whether a point that is rounded to so many decimals is over `wide` units of the finest.
+fn has_over(wide: u64, finest: u32, decimals: u32, points: &[DecimalPoint]) -> bool
+    ensures { result ≡ list_any (λ p. is_over wide finest (rounded_point decimals p)) points.now }
 {
     points
         .iter()
-        .any(|p| is_over(finest, &rounded_point(decimals, p)))
+        .any(|p| is_over(wide, finest, &rounded_point(decimals, p)))
 }
 
 /// The most decimals of the points once they are rounded to so many; as many as that are the most,
@@ -66,9 +66,9 @@ fn rounded_decimals(points: &[DecimalPoint], decimals: u32) -> u32
     most
 }
 
-/// Whether a coordinate of the point is over 2^23 units in size.
-fn is_over(decimals: u32, p: &DecimalPoint) -> bool
-    ensures { result ≡ is_over decimals p.now }
+/// Whether a coordinate of the point is over `wide` units in size.
+fn is_over(wide: u64, decimals: u32, p: &DecimalPoint) -> bool
+    ensures { result ≡ is_over wide decimals p.now }
 {
-    size_of(decimals, p).is_none()
+    size_of(wide, decimals, p).is_none()
 }

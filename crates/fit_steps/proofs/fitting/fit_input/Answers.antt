@@ -12,7 +12,7 @@ loop-outputs-preserved c =
     let input = c.args.input.now in
     let status = c.in-Err.end.status in
     let refused = c.goes_on.ensures.on c.if-not-goes_on.false in
-    let off = subst (λ ps. AreOffBetween ps next.result m) c.as_slice-points.ensures next.ensures.off in
+    let off = subst (λ ps. AreOffBetween c.args.limits.grid ps next.result m) c.as_slice-points.ensures next.ensures.off in
     let IsRefusedIn : TrialValue → Type 0 = λ t. AnswerAt t.limits t.options t.input m (Err status) in
     let answer = subst IsRefusedIn c.new-trial.ensures c.in-Err.ensures.answer in
     record {
