@@ -2,7 +2,6 @@
 use Rattle.std.proofs.Common.{◌≡◌, inl, inr, ℕ, true, false, List, [], Option, Some, None, Result, Ok, Err, refl, sym, ◌∙◌, subst, ap}
 use Rattle.std.specs.Prelude.{Bool, IsTrue, All, IfOk, IfErr}
 use Rattle.std.proofs.lemmas.List.Elements.{All-nil}
-use Rattle.command_words.specs.Meaning.{options_of}
 use Rattle.command_words.specs.declared.fault.WordsFault.{WordsFault}
 use Rattle.command_words.specs.declared.fault.WordsFault.TheVariants.{Usage as Misunderstood, NoMemory as WordsWanting}
 use Rattle.command_words.specs.declared.options.Options.{Options}
@@ -13,7 +12,7 @@ use Rattle.fit_steps.specs.Opening.{TellsOpening}
 use Rattle.fit_steps.specs.Trying.{IsFitted, IsNumbered, IsRefused, at_decimals}
 use Rattle.fit_steps.specs.declared.fitting.Refused.{Refused as Unfit}
 use Rattle.node_files.specs.declared.limits.Limits.{Limits}
-use Rattle.fit_words.specs.Words.{fit_fault, others, request_of}
+use Rattle.fit_words.specs.Words.{fit_fault, fit_options, others, request_of}
 use Rattle.fit_words.specs.declared.request.Request.{Request}
 use Rattle.fit_words.specs.declared.request.Request.TheVariants.{Page, Version, Mesh}
 use Rattle.run_steps.proofs.Steps.{and_then_refuses, and_then_wider}
@@ -83,7 +82,7 @@ numbers_of : (options : Options) (folder : FolderSeen) (hint : List ℕ) → Num
 numbers_of options folder hint s by e = λ t. absurd (not_true (subst IsTrue e t))
 
 pub numbers_points : (words : List (List ℕ)) (folder : FolderSeen) (hint : List ℕ) → NumbersPoints (IsFitNumbering words folder hint)
-numbers_points words = numbers_of (options_of words)
+numbers_points words = numbers_of (fit_options words)
 
 numbered : (folder : FolderSeen) (options : Options) (input : Input) (hint : List ℕ) (m : ℕ) (s : Status) (by : Option Numbering) → ModelAnswer fit_limits folder options (Ok input)
     → IsFitted fit_limits options input m (Err s) → IsNumbered fit_limits (at_decimals m options) input s by → IsHint fit_limits (at_decimals m options) input by s hint
@@ -149,7 +148,7 @@ ends_numbered Made words folder hint out Unsummed h = h
 ends_numbered Made words folder hint out Wanting h = h
 
 stop_off : (Made : Result Outputs Status → Type 0) (words : List (List ℕ)) (folder : FolderSeen) (hint : List ℕ) (out : SinkSeen) (stop : Stop)
-    → EndsWith Made (IsKnown words folder hint) folder out (Err stop) → TellsOffGrid (options_of words) folder hint (answer_of (Err stop))
+    → EndsWith Made (IsKnown words folder hint) folder out (Err stop) → TellsOffGrid (fit_options words) folder hint (answer_of (Err stop))
 stop_off Made words folder hint out (Refused s by) h = h.2.1
 stop_off Made words folder hint out (Unwritten text) h = tt
 stop_off Made words folder hint out Unsummed h = tt
@@ -157,9 +156,9 @@ stop_off Made words folder hint out Wanting h = tt
 
 -- and of a point off the grid
 pub told_off : (Made : Result Outputs Status → Type 0) (message : Option Numbering → Status → List ℕ) (words : List (List ℕ)) (folder : FolderSeen) (hint : List ℕ) (out err : SinkSeen) (stop : Stop) (s : Status)
-    → EndsWith Made (IsKnown words folder hint) folder out (Err stop) → IsToldAs message stop err s → TellsOffGrid (options_of words) folder hint s
-told_off Made message words folder hint out err stop s h (inl told) = subst (TellsOffGrid (options_of words) folder hint) (sym told.0) (stop_off Made words folder hint out stop h)
-told_off Made message words folder hint out err stop s h (inr told) = subst (TellsOffGrid (options_of words) folder hint) (sym told.0) tt
+    → EndsWith Made (IsKnown words folder hint) folder out (Err stop) → IsToldAs message stop err s → TellsOffGrid (fit_options words) folder hint s
+told_off Made message words folder hint out err stop s h (inl told) = subst (TellsOffGrid (fit_options words) folder hint) (sym told.0) (stop_off Made words folder hint out stop h)
+told_off Made message words folder hint out err stop s h (inr told) = subst (TellsOffGrid (fit_options words) folder hint) (sym told.0) tt
 
 pub options_made : (words : List (List ℕ)) (folder : FolderSeen) (options : Options) (outputs : Outputs) → FitWordsAnswer words (Ok options) → OutputsOfOptions options folder (Ok outputs)
     → OutputsOfModel words folder (Ok outputs)
@@ -186,7 +185,7 @@ fitted_told options input m made more (Err e) h k is = is
 
 model_mesh : (words : List (List ℕ)) (folder : FolderSeen) (outputs : Outputs) → OutputsOfModel words folder (Ok outputs) → IsMeshOfModel words folder outputs
 model_mesh words folder outputs h =
-    let o = options_of words in
+    let o = fit_options words in
     let e = h.1.1 in
     let input = h.2.0 in
     let f = h.2.2 in

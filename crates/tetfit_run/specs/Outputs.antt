@@ -2,12 +2,11 @@
 use Rattle.std.specs.Prelude.{◌≡◌, ℕ, ◌-◌, nat_eq, Bool, true, false, List, [], ◌++◌, length, take, codes, Option, Some, None, Result, Ok, Err}
 use Rattle.std.specs.Fmt.{decimal}
 use Rattle.std.specs.List.{ends_with}
-use Rattle.command_words.specs.Meaning.{options_of}
 use Rattle.command_words.specs.declared.options.Options.{Options}
 use Rattle.fit_steps.specs.Models.{ModelAnswer}
 use Rattle.fit_steps.specs.Opening.{TellsOpening}
 use Rattle.fit_steps.specs.Trying.{IsFitted, at_decimals}
-use Rattle.fit_words.specs.Words.{fit_fault, others, request_of}
+use Rattle.fit_words.specs.Words.{fit_fault, fit_options, others, request_of}
 use Rattle.fit_words.specs.declared.page.TheConstants.{PAGE, VERSION}
 use Rattle.fit_words.specs.declared.request.Request.{Request}
 use Rattle.fit_words.specs.declared.request.Request.TheVariants.{Page, Version, Mesh}
@@ -19,9 +18,10 @@ use Rattle.run_steps.specs.declared.outputs.Outputs.{Outputs}
 use Rattle.run_steps.specs.declared.status.Status.{Status}
 use Rattle.run_steps.specs.declared.status.Status.TheVariants.{Usage, NoMemory}
 
--- the limits of the program: 2^30 bytes of a file, 4,000,000 points and facets, and 1,000,000 corners of a polygon
+-- the limits of the program: 2^30 bytes of a file, 4,000,000 points and facets, 1,000,000 corners of a polygon, and coordinates up to 2^29
+-- in size
 abbrev pub fit_limits : Limits
-fit_limits = record { bytes = 1073741824; points = 4000000; facets = 4000000; corners = 1000000 }
+fit_limits = record { bytes = 1073741824; points = 4000000; facets = 4000000; corners = 1000000; grid = 536870912 }
 
 -- ---- the words, without those that ask for the stages
 
@@ -33,7 +33,7 @@ IsFitUsage words status = ⊥
 
 -- what words ask for
 abbrev pub FitWordsAnswer : List (List ℕ) → Result Options Status → Type 0
-FitWordsAnswer words (Ok options) = (fit_fault words ≡ None) × (options ≡ options_of words)
+FitWordsAnswer words (Ok options) = (fit_fault words ≡ None) × (options ≡ fit_options words)
 FitWordsAnswer words (Err status) = IsFitUsage words status
 
 -- ---- the mesh

@@ -1,11 +1,10 @@
 -- What a run of the program answers, leaves and tells.
 use Rattle.std.specs.Prelude.{◌≡◌, ◌≢◌, ◌⊎◌, ℕ, IsTrue, false, List, [], Option, Some, None, Ok, Err}
-use Rattle.command_words.specs.Meaning.{options_of}
 use Rattle.command_words.specs.declared.options.Options.{Options}
 use Rattle.fit_steps.specs.Hints.{IsHint, IsHintBy, size_line}
 use Rattle.fit_steps.specs.Models.{ModelAnswer}
 use Rattle.fit_steps.specs.Trying.{IsFitted, IsNumbered, at_decimals}
-use Rattle.fit_words.specs.Words.{asks_stages, fit_fault, others, request_of}
+use Rattle.fit_words.specs.Words.{asks_stages, fit_fault, fit_options, others, request_of}
 use Rattle.fit_words.specs.declared.page.TheConstants.{PAGE, VERSION}
 use Rattle.fit_words.specs.declared.request.Request.{Request}
 use Rattle.fit_words.specs.declared.request.Request.TheVariants.{Page, Version, Mesh}
@@ -50,10 +49,10 @@ pub record IsMeshOfModel (words : List (List ℕ)) (folder : FolderSeen) (output
   pub decimals : ℕ
   pub made : Outputs
   pub more : List ℕ
-  pub mesh : IsMeshBy fit_limits (at_decimals decimals (options_of words)) (fit_fault words ≡ None)
-      (λ input. ModelAnswer fit_limits folder (options_of words) (Ok input)
-      × IsFitted fit_limits (options_of words) input decimals (Ok made)
-      × IsMore (options_of words) input decimals made more) made
+  pub mesh : IsMeshBy fit_limits (at_decimals decimals (fit_options words)) (fit_fault words ≡ None)
+      (λ input. ModelAnswer fit_limits folder (fit_options words) (Ok input)
+      × IsFitted fit_limits (fit_options words) input decimals (Ok made)
+      × IsMore (fit_options words) input decimals made more) made
   pub outputs_are : outputs ≡ outputs_at decimals more made
 
 -- what the outputs of a request are
@@ -89,7 +88,7 @@ IsNumberingOf options folder hint status by =
     × IsHintBy fit_limits (at_decimals m options) input (numbering_of bound.table) status hint
 
 abbrev pub IsFitNumbering : List (List ℕ) → FolderSeen → List ℕ → Status → Option Numbering → Type 0
-IsFitNumbering words = IsNumberingOf (options_of words)
+IsFitNumbering words = IsNumberingOf (fit_options words)
 
 -- what more is told of a point off the grid is its coordinates, if anything
 abbrev pub TellsOffGrid : Options → FolderSeen → List ℕ → Status → Type 0
@@ -102,7 +101,7 @@ abbrev pub IsKnownOf : Options → FolderSeen → List ℕ → Status → Option
 IsKnownOf options folder hint status by = IsNumberingOf options folder hint status by × TellsOffGrid options folder hint status
 
 abbrev pub IsKnown : List (List ℕ) → FolderSeen → List ℕ → Status → Option Numbering → Type 0
-IsKnown words = IsKnownOf (options_of words)
+IsKnown words = IsKnownOf (fit_options words)
 
 -- the sink once the stages are said, which it may not be, with what it had and lines behind it
 abbrev pub after_stages : SinkSeen → Option (List ℕ) → SinkSeen
@@ -118,5 +117,5 @@ pub record AreStages (words : List (List ℕ)) (before now : Option (List ℕ)) 
 abbrev pub IsFitTold : List (List ℕ) → FolderSeen → SinkSeen → Status → Type 0
 IsFitTold words folder err status =
     (written : Option (List ℕ)) × AreStages words err.written_before written
-    × (hint : List ℕ) × TellsOffGrid (options_of (others words)) folder hint status
+    × (hint : List ℕ) × TellsOffGrid (fit_options (others words)) folder hint status
     × TellsBy (fit_message (others words) hint) (IsFitNumbering (others words) folder hint) (after_stages err written) status

@@ -6,8 +6,8 @@ ghost use Rattle.tetfit_run.specs.Outputs.{fit_limits};
 
 use node_files::Limits;
 
-/// The limits of the program: 2^30 bytes of a file, 4,000,000 points and facets, and 1,000,000
-/// corners of a polygon.
+/// The limits of the program: 2^30 bytes of a file, 4,000,000 points and facets, 1,000,000 corners
+/// of a polygon, and coordinates up to 2^29 in size.
 pub(crate) fn fit_limits() -> Limits
     ensures values { result ≡ fit_limits }
     ensures indexable { AreIndexable result }
@@ -17,5 +17,6 @@ pub(crate) fn fit_limits() -> Limits
         points: 4_000_000,
         facets: 4_000_000,
         corners: 1_000_000,
+        grid: 536_870_912,
     }
 }
