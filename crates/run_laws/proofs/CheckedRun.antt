@@ -44,9 +44,6 @@ use Rattle.run_laws.proofs.Tables.{IsOfTable, of_table, short_markers}
 
 -- ---- the mesh can be read
 
-small : (z : ℤ) → negsuc 8388607 ≤ℤ z → z ≤ℤ pos 8388608 → unsigned_abs z ≤ 8388608
-small z low high = omega (arith, ints)
-
 short_count : (n : ℕ) → n ≤ most_bytes → (first : ℕ) → first ≤ 1 → IsShortNumber (first + n)
 short_count n few first one = omega arith
 
@@ -111,15 +108,15 @@ module _ (options : Options) (mesh : Meshed) (outputs : Outputs) (are : AreOutpu
   face_few : length (face_text mesh.names first faces) ≤ most_bytes
   face_few = subst (λ o. IfSome o IsFewBytes) face_there each_few.2
 
-  legible : All (IsLegiblePoint mesh.table.grid) qs
+  legible : All (IsLegiblePoint tetgen_limits.grid mesh.table.grid) qs
   unfolding qs
   legible i d lt =
       let g = table.on_grid i d lt in
       let s = can.decimals i d lt in
       record {
-        x = record { small = small _ g.x_low g.x_high; short = s.x };
-        y = record { small = small _ g.y_low g.y_high; short = s.y };
-        z = record { small = small _ g.z_low g.z_high; short = s.z };
+        x = record { small = g.x_small; short = s.x };
+        y = record { small = g.y_small; short = s.y };
+        z = record { small = g.z_small; short = s.z };
       }
 
   names : AreNamesIn mesh.names mesh.points qs × All (λ n. n < length qs) mesh.names
@@ -131,7 +128,7 @@ module _ (options : Options) (mesh : Meshed) (outputs : Outputs) (are : AreOutpu
         subst (λ ns. All (λ n. n < length (mesh.table.listed ++ mesh.added)) ns) (sym table.names_are) h.1,
       )
 
-  readable : IsReadable mesh.table mesh.added mesh.names first mesh.points mesh.tetrahedra faces
+  readable : IsReadable tetgen_limits.grid mesh.table mesh.added mesh.names first mesh.points mesh.tetrahedra faces
   unfolding qs
   readable =
       let rows_few = ele_long mesh.names first mesh.tetrahedra in
@@ -140,6 +137,7 @@ module _ (options : Options) (mesh : Meshed) (outputs : Outputs) (are : AreOutpu
       let listed_bytes = face_few in
       let points_few = input.few in
       record {
+        on_grid = omega arith;
         bare = record { no_attributes = can.no_attributes; no_markers = can.no_markers; halvings = table.halvings };
         legible = legible;
         one = one;

@@ -1,13 +1,14 @@
 -- What protection keeps of its points.
 use Rattle.std.proofs.Common.{◌≡◌, ◌≢◌, ℕ, zero, suc, ◌+◌, ◌≤ℤ◌, ◌+ℤ◌, ℤ, pos, negsuc, Bool, true, false, List, [], ◌∷◌, ◌++◌, length, Option, None, Some, refl, sym, subst, ◌∙◌, arith, append_assoc, eqb-true, eq-eqb}
-use Rattle.std.specs.Prelude.{◌==◌, All, int_div}
+use Rattle.std.specs.Prelude.{◌==◌, ◌≤◌, All, int_div, unsigned_abs}
 use Rattle.std.proofs.lemmas.Int.{ints}
 use Rattle.std.proofs.lemmas.List.{append-nil}
 use Rattle.std.proofs.lemmas.List.Elements.{All-push}
-use Rattle.sign_predicates.specs.Point.{Point, IsOnGrid, origin}
+use Rattle.sign_predicates.specs.Point.{Point, origin}
 use Rattle.geo_laws.specs.Delaunay.{point}
 use Rattle.geo_laws.specs.Segment.{Protected, GridEnd, BudgetEnd, protect, first_missing, with_midpoint, with_halves, midpoint}
 use Rattle.geo_laws.specs.declared.complex.Piece.{Piece}
+use Rattle.reread_laws.proofs.Grids.{IsWithin}
 use Rattle.segment_protect.proofs.Ends.{end_done, end_grid, end_budget, end_split}
 
 module _ (P : List Point → Type 0) (step : (ps : List Point) (p : Piece) → P ps → P (with_midpoint ps p)) (depth : ℕ) (qs : List Point) (rest : List Piece) where
@@ -53,30 +54,26 @@ module _ (P : List Point → Type 0) (step : (ps : List Point) (p : Piece) → P
               later (with_midpoint ps p) (with_halves p (length ps) pieces) (sym (end_split depth (suc splits) splits ps pieces p one_less f (differs p.halvings depth d)) ∙ e)
               (step ps p holds)
 
--- ---- points on the grid
+-- ---- points within the grid of the program
 
-abbrev IsWithin : ℤ → Type 0
-IsWithin z = (negsuc 8388607 ≤ℤ z) × (z ≤ℤ pos 8388608)
+-- how large a coordinate may be
+abbrev wide : ℕ
+wide = 8388608
 
-half_within : (a b : ℤ) → IsWithin a → IsWithin b → IsWithin (int_div (a +ℤ b) (pos 2))
-half_within a b h k =
-    let al = h.0 in
-    let ah = h.1 in
-    let bl = k.0 in
-    let bh = k.1 in
-    (omega (arith, ints), omega (arith, ints))
+half_within : (a b : ℤ) → unsigned_abs a ≤ wide → unsigned_abs b ≤ wide → unsigned_abs (int_div (a +ℤ b) (pos 2)) ≤ wide
+half_within a b h k = omega (arith, ints)
 
-midpoint_within : (a b : Point) → IsOnGrid a → IsOnGrid b → IsOnGrid (midpoint a b)
-midpoint_within a b h k =
-    let x = half_within a.x b.x (h.x_low, h.x_high) (k.x_low, k.x_high) in
-    let y = half_within a.y b.y (h.y_low, h.y_high) (k.y_low, k.y_high) in
-    let z = half_within a.z b.z (h.z_low, h.z_high) (k.z_low, k.z_high) in
-    record { x_low = x.0; x_high = x.1; y_low = y.0; y_high = y.1; z_low = z.0; z_high = z.1 }
+midpoint_within : (a b : Point) → IsWithin wide a → IsWithin wide b → IsWithin wide (midpoint a b)
+midpoint_within a b h k = record {
+  x_small = half_within a.x b.x h.x_small k.x_small;
+  y_small = half_within a.y b.y h.y_small k.y_small;
+  z_small = half_within a.z b.z h.z_small k.z_small;
+}
 
-origin_within : IsOnGrid origin
-origin_within = record { x_low = omega (arith, ints); x_high = omega (arith, ints); y_low = omega (arith, ints); y_high = omega (arith, ints); z_low = omega (arith, ints); z_high = omega (arith, ints) }
+origin_within : IsWithin wide origin
+origin_within = record { x_small = omega (arith, ints); y_small = omega (arith, ints); z_small = omega (arith, ints) }
 
-point_within : (ps : List Point) (i : ℕ) → All IsOnGrid ps → IsOnGrid (point ps i)
+point_within : (ps : List Point) (i : ℕ) → All (IsWithin wide) ps → IsWithin wide (point ps i)
 point_within [] i all = origin_within
 point_within (p ∷ ps) zero all = all 0 p (omega arith)
 point_within (p ∷ ps) (suc i) all = point_within ps i (λ k d lt. all (suc k) d (omega arith))
@@ -85,9 +82,9 @@ point_within (p ∷ ps) (suc i) all = point_within ps i (λ k d lt. all (suc k) 
 pub record IsGrown (first : List Point) (ps : List Point) : Type 0 where
   pub more : List Point
   pub is : ps ≡ first ++ more
-  pub on_grid : All IsOnGrid ps
+  pub on_grid : All (IsWithin wide) ps
 
-pub grown_none : (first : List Point) → All IsOnGrid first → IsGrown first first
+pub grown_none : (first : List Point) → All (IsWithin wide) first → IsGrown first first
 grown_none first all = record { more = []; is = sym (append-nil first); on_grid = all }
 
 grown_more : (first ps : List Point) (p : Piece) → IsGrown first ps → IsGrown first (with_midpoint ps p)
@@ -97,9 +94,9 @@ grown_more first ps p g =
     record {
       more = g.more ++ m ∷ [];
       is = (λ j. g.is j ++ m ∷ []) ∙ append_assoc first g.more (m ∷ []);
-      on_grid = All-push IsOnGrid ps m g.on_grid small;
+      on_grid = All-push (IsWithin wide) ps m g.on_grid small;
     }
 
 -- so it is after protection
-pub grown : (depth splits : ℕ) (ps qs : List Point) (pieces rest : List Piece) → All IsOnGrid ps → protect depth splits ps pieces ≡ Protected qs rest → IsGrown ps qs
+pub grown : (depth splits : ℕ) (ps qs : List Point) (pieces rest : List Piece) → All (IsWithin wide) ps → protect depth splits ps pieces ≡ Protected qs rest → IsGrown ps qs
 grown depth splits ps qs pieces rest all e = kept (IsGrown ps) (grown_more ps) depth qs rest splits ps pieces e (grown_none ps all)

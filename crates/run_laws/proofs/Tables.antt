@@ -5,7 +5,7 @@ use Rattle.std.specs.List.{range_with_len}
 use Rattle.std.proofs.lemmas.List.{append-nil, length-drop, get_or_default}
 use Rattle.std.proofs.Math.Seq.{drop-append_seam}
 use Rattle.std.proofs.lemmas.List.Elements.{All-append, All-drop}
-use Rattle.sign_predicates.specs.Point.{Point, IsOnGrid, origin}
+use Rattle.sign_predicates.specs.Point.{Point, origin}
 use Rattle.geo_laws.specs.Delaunay.{AreCoplanar}
 use Rattle.geo_laws.specs.Segment.{pieces}
 use Rattle.geo_laws.specs.declared.complex.Facet.{Facet}
@@ -20,7 +20,7 @@ use Rattle.node_files.proofs.Folds.{folded_few, kept_at}
 use Rattle.complex_mesh.specs.Meshing.{IsComplexMesh}
 use Rattle.complex_mesh.specs.declared.mesh.ComplexMesh.{ComplexMesh}
 use Rattle.reread_laws.specs.Reread.{IsShortNumber}
-use Rattle.reread_laws.proofs.Grids.{settled_within}
+use Rattle.reread_laws.proofs.Grids.{IsWithin, settled_within}
 use Rattle.command_words.specs.declared.options.Options.{Options}
 use Rattle.run_steps.specs.Meshing.{BoundAnswer, MeshAnswer, MeshOf, PointsMeshOf, grid_options, mesh_options, mesh_of_points, mesh_of_complex}
 use Rattle.run_steps.specs.declared.input.Input.{Input}
@@ -28,13 +28,13 @@ use Rattle.run_steps.specs.declared.mesh.Bound.{Bound}
 use Rattle.run_steps.specs.declared.meshed.Meshed.{Meshed}
 use Rattle.run_laws.proofs.Protections.{grown}
 
--- the points of a mesh are the kept ones of its table and the added ones, named so, and each lies on the grid
+-- the points of a mesh are the kept ones of its table and the added ones, named so, and each lies within the grid of the program
 pub record IsOfTable (mesh : Meshed) : Type 0 where
-  pub halvings : mesh.table.grid.halvings ≤ 12
+  pub halvings : mesh.table.grid.halvings ≤ 18
   pub folded : IsFolded mesh.table.listed mesh.table.points mesh.table.names mesh.table.folded
   pub points_are : mesh.points ≡ mesh.table.points ++ mesh.added
   pub names_are : mesh.names ≡ mesh.table.names ++ range_with_len (length mesh.table.listed) (length mesh.added)
-  pub on_grid : All IsOnGrid (mesh.table.listed ++ mesh.added)
+  pub on_grid : All (IsWithin tetgen_limits.grid) (mesh.table.listed ++ mesh.added)
   pub some : 0 < length (mesh.table.listed ++ mesh.added)
 
 some_of : (ps : List Point) → ¬ AreCoplanar ps → 0 < length ps
@@ -55,16 +55,16 @@ module _ (options : Options) (text : NodeText) (bound : Bound) (settled : IsSett
         folded = settled.folded;
         points_are = sym (append-nil bound.table.points);
         names_are = refl;
-        on_grid = subst (All IsOnGrid) (sym (append-nil bound.table.listed)) within.1;
+        on_grid = subst (All (IsWithin tetgen_limits.grid)) (sym (append-nil bound.table.listed)) within.1;
         some = some_listed bound.table [] settled.folded apart;
       }
 
   -- the kept points lie on the grid as the listed ones do
-  kept_within : All IsOnGrid bound.table.points
+  kept_within : All (IsWithin tetgen_limits.grid) bound.table.points
   kept_within i d lt =
       let within = settled_within tetgen_limits text (grid_options options) bound.table settled in
       let at = kept_at bound.table.listed bound.table.points bound.table.names bound.table.folded settled.folded i lt in
-      subst IsOnGrid (sym (get_or_default bound.table.points i d origin lt ∙ at.1)) (within.1 (slice_index bound.table.names i) origin at.0)
+      subst (IsWithin tetgen_limits.grid) (sym (get_or_default bound.table.points i d origin lt ∙ at.1)) (within.1 (slice_index bound.table.names i) origin at.0)
 
   of_complex : (made : ComplexMesh) → IsComplexMesh (mesh_options options bound.table) bound.table.points bound.complex made → IsOfTable (mesh_of_complex bound made)
   of_complex made m =
@@ -76,12 +76,12 @@ module _ (options : Options) (text : NodeText) (bound : Bound) (settled : IsSett
         folded = settled.folded;
         points_are = g.is ∙ ap (λ (xs : List Point). bound.table.points ++ xs) (sym more);
         names_are = ap (λ (n : ℕ). names_with bound.table n) count;
-        on_grid = All-append IsOnGrid bound.table.listed (drop (length bound.table.points) made.points) within.1 (added_within made.points g.on_grid);
+        on_grid = All-append (IsWithin tetgen_limits.grid) bound.table.listed (drop (length bound.table.points) made.points) within.1 (added_within made.points g.on_grid);
         some = some_listed bound.table (drop (length bound.table.points) made.points) settled.folded m.protected.can_split.0;
       }
     where
-      added_within : (qs : List Point) → All IsOnGrid qs → All IsOnGrid (drop (length bound.table.points) qs)
-      added_within qs all = All-drop IsOnGrid (length bound.table.points) qs all
+      added_within : (qs : List Point) → All (IsWithin tetgen_limits.grid) qs → All (IsWithin tetgen_limits.grid) (drop (length bound.table.points) qs)
+      added_within qs all = All-drop (IsWithin tetgen_limits.grid) (length bound.table.points) qs all
 
 by_mesh : (piecewise : Bool) (options : Options) (text : NodeText) (bound : Bound) (mesh : Meshed) → options.weighted ≡ false → IsSettled tetgen_limits text (grid_options options) bound.table
     → MeshOf piecewise options bound (Ok mesh) → IsOfTable mesh
