@@ -37,7 +37,7 @@ pub record IsGoodFile (options : Options) (told : Files) : Type 0 where
   pub read : node_text_of bytes ≡ Ok nodes
   pub few_points : length nodes.decimals ≤ tetgen_limits.points
   pub grid : Grid
-  pub on_grid : grid_of (grid_options options).halvings (rounded_points options.decimals nodes.decimals) ≡ Ok grid
+  pub on_grid : grid_of tetgen_limits.grid (grid_options options).halvings (rounded_points options.decimals nodes.decimals) ≡ Ok grid
   pub in_space : (table : NodeTable) → IsSettled tetgen_limits nodes (grid_options options) table → ¬ AreCoplanar table.points
 
 -- Words in the grammar that ask for points alone, a good file in a folder that tells, and no fault of the folder or of the sink: the answer
