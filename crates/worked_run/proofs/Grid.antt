@@ -17,7 +17,7 @@ use Rattle.worked_run.proofs.Rows.{at, grid_points}
 abbrev pub pyramid_grid : Grid
 pyramid_grid = record { decimals = 0; halvings = 12 }
 
-pub grid_is : grid_of 12 stated_points ≡ Ok pyramid_grid
+pub grid_is : grid_of 8388608 12 stated_points ≡ Ok pyramid_grid
 unfolding grid_of most_decimals greatest_size first_over halvings_for largest units
 grid_is = refl
 

@@ -78,7 +78,7 @@ corners_are_there = refl
 
 -- ---- the grid
 
-pub grid_is : grid_of 12 stated_points ≡ Ok pyramid_grid
+pub grid_is : grid_of 8388608 12 stated_points ≡ Ok pyramid_grid
 unfolding grid_of most_decimals greatest_size first_over halvings_for largest units
 grid_is = refl
 
