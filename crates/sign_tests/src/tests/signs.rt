@@ -83,10 +83,10 @@ fn least_numbers(rt: HostRuntime) {
     assert_eq!(rt; ties(), [true, false]);
 }
 
-const FAR: i32 = 8_388_608;
+const FAR: i32 = 536_870_912;
 
 // The greatest size of a coordinate of a rational point, over 10^6.
-const BEYOND: i64 = 8_388_609_000_000;
+const BEYOND: i64 = 536_870_913_000_000;
 
 // Five corners of the cube of all points.
 fn far() -> [GridPoint; 5] {
@@ -164,8 +164,8 @@ fn far_sign(step: u32) -> Option<Sign>
 
 #[test]
 fn widest_frame(rt: HostRuntime) {
-    assert_eq!(rt; far_sign(16), Some(Sign::Zero));
-    assert_eq!(rt; far_sign(8), None);
+    assert_eq!(rt; far_sign(1024), Some(Sign::Zero));
+    assert_eq!(rt; far_sign(512), None);
 }
 
 // Whether the last is outside of the first four, and the first outside of the last four.
