@@ -125,7 +125,7 @@ static GRIDS: [(&[&[u8]], u32, Result<Grid, Range>); 9] = [
 
 /// The grid of points with these first coordinates.
 fn grid_of(alloc: Global, xs: &[&[u8]], most_halvings: u32) -> Option<Result<Grid, Range>> {
-    Some(choose_grid(&points(alloc, xs)?, most_halvings))
+    Some(choose_grid(&points(alloc, xs)?, most_halvings, 8_388_608))
 }
 
 /// The place of the first points with another grid.
@@ -148,7 +148,7 @@ fn roundings_and_grids(rt: HostRuntime) {
 fn placed(alloc: Global) -> Option<(Grid, [i32; 3])> {
     let mut list = DecimalPoints::new(alloc);
     list.push(point(2, b"0.5", b"-1.250", b"3")?).ok()?;
-    let grid = choose_grid(&list, 12).ok()?;
+    let grid = choose_grid(&list, 12, 8_388_608).ok()?;
     if list.len() != 1 {
         return None;
     }
@@ -176,7 +176,7 @@ static TEXTS_OF_COORDINATES: [(i32, &[u8]); 6] = [
     (1_228_800, b"x 3"),
     (0, b"x 0"),
     (1, b"x 0.00000244140625"),
-    (-8_388_608, b"x -20.48"),
+    (-536_870_912, b"x -1310.72"),
 ];
 
 /// Whether a coordinate has this text.
@@ -201,10 +201,10 @@ static RATIONAL_PLACES: [(&[u8], i64); 7] = [
     (b"0.5", 20_000_000),
     (b"-0.00000015", -8),
     (b"0.00000014", 4),
-    (b"209715.2", 8_388_608_000_000),
-    (b"209715.20000004", 8_388_608_000_000),
-    (b"209715.2000001", 8_388_609_000_000),
-    (b"-1e35", -8_388_609_000_000),
+    (b"13421772.8", 536_870_912_000_000),
+    (b"13421772.80000004", 536_870_912_000_000),
+    (b"13421772.8000001", 536_870_913_000_000),
+    (b"-1e35", -536_870_913_000_000),
 ];
 
 const QUARTER_TENTHS: Grid = Grid {
@@ -251,8 +251,42 @@ fn have_none() -> bool {
     middle(1, 0, 0).is_none() && middle(0, -3, 0).is_none() && middle(0, 0, 5).is_none()
 }
 
+/// A corner of the cube of all points, and the opposite one.
+const LEAST: GridPoint = GridPoint {
+    x: -536_870_912,
+    y: 536_870_912,
+    z: -536_870_912,
+};
+
+const GREATEST: GridPoint = GridPoint {
+    x: 536_870_912,
+    y: -536_870_912,
+    z: 536_870_912,
+};
+
+/// The point from which the way to the last one has no midpoint, where each way begins at the
+/// midpoint of the one before, and how many midpoints there were.
+fn halved_ways(first: GridPoint, last: GridPoint) -> (GridPoint, u32) {
+    let mut from = first;
+    for halvings in 0..40u32 {
+        let Some(m) = midpoint(from, last) else {
+            return (from, halvings);
+        };
+        from = m;
+    }
+    (from, 40)
+}
+
+const NEXT_TO_GREATEST: GridPoint = GridPoint {
+    x: 536_870_911,
+    y: -536_870_911,
+    z: 536_870_911,
+};
+
 #[test]
 fn midpoints(rt: HostRuntime) {
     assert!(rt; middle(0, 4, -6) == Some([1, 2, -3]));
     assert!(rt; have_none());
+    assert_eq!(rt; halved_ways(LEAST, GREATEST), (NEXT_TO_GREATEST, 30));
+    assert_eq!(rt; midpoint(GREATEST, GREATEST), Some(GREATEST));
 }
