@@ -9,7 +9,7 @@ use std::alloc::Global;
 /// The decimals and the halvings of the least grid of a text's points, or the first line off it.
 fn grid_of(alloc: Global, text: &[u8]) -> Option<Result<(u32, u32), usize>> {
     let nodes = read_node(alloc, &bytes_of(alloc, text)?).ok()?;
-    match least_grid(&nodes.decimals) {
+    match least_grid(&nodes.decimals, 8_388_608) {
         Ok(grid) => Some(Ok((grid.decimals, grid.halvings))),
         Err(Range { line }) => Some(Err(line)),
     }
@@ -43,7 +43,7 @@ const SETTLED: [GridPoint; 2] = [
 
 /// Whether the two points are these in tenths.
 fn are_settled(alloc: Global, nodes: &NodeText) -> bool {
-    match settle_least(alloc, &nodes.decimals, Some(1), 2) {
+    match settle_least(alloc, &nodes.decimals, Some(1), 2, 8_388_608) {
         Ok(points) => points.as_slice() == SETTLED.as_slice(),
         Err(_) => false,
     }
@@ -51,7 +51,7 @@ fn are_settled(alloc: Global, nodes: &NodeText) -> bool {
 
 /// Whether the two points are refused where one is allowed.
 fn are_refused(alloc: Global, nodes: &NodeText) -> bool {
-    let fault = settle_least(alloc, &nodes.decimals, None, 1).err();
+    let fault = settle_least(alloc, &nodes.decimals, None, 1, 8_388_608).err();
     fault == Some(GridFault::TooMany { count: 2 })
 }
 

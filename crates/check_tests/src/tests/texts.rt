@@ -25,7 +25,7 @@ pub(crate) fn points_of(alloc: Global, text: &[u8]) -> Option<Points>
     ensures { IfSome result (λ points. length points ≤ 120000) }
 {
     let nodes = read_node(alloc, &bytes_of(alloc, text)?).ok()?;
-    settle_least(alloc, &nodes.decimals, None, 120_000).ok()
+    settle_least(alloc, &nodes.decimals, None, 120_000, 8_388_608).ok()
 }
 
 /// The three files that are read here.
