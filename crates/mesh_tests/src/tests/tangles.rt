@@ -1,12 +1,14 @@
 //! Tangled cavities of a few points.
-ghost use Rattle.std.specs.Prelude.{IsTrue};
+ghost use Rattle.std.specs.Prelude.{◌≤ℤ◌, IsTrue, negsuc, pos};
 ghost use Rattle.geo_laws.specs.Delaunay.{IsOn};
 ghost use Rattle.tangle_fill.specs.Fill.{AreFacetTriangles};
 ghost use Rattle.tangle_fill.specs.Sample.{IsPlaneTriangle};
 
 use crate::tests::small_sets::{row, small_set};
 use cavity_insert::delaunay;
+use facet_flips::candidate;
 use geo_laws::{Face, FacetTriangle, FacetTriangles, Points, Tet, TetList};
+use sign_predicates::GridPoint;
 use simplex_meets::is_triangle;
 use std::alloc::Global;
 use tangle_fill::{FillFault, accepted, admissible, fill_tangle};
@@ -347,4 +349,64 @@ fn candidates_on_two_plates(rt: HostRuntime) {
     for candidate in &CANDIDATES {
         assert!(rt; is_told(rt.alloc(), candidate), "{}", candidate.name);
     }
+}
+
+/// An odd factor that takes small sets towards the ends of the grid: the power of two that all
+/// coordinates have in common stays as it is.
+const FAR: i32 = (1 << 22) - 1;
+
+/// The coordinate so many times as far out.
+fn far_out(x: i8) -> i32
+    ensures low { negsuc 536870911 ≤ℤ result }
+    ensures high { result ≤ℤ pos 536870912 }
+{
+    i32::from(x) * FAR
+}
+
+/// The point so many times as far out.
+fn far_point([x, y, z]: [i8; 3]) -> GridPoint {
+    GridPoint {
+        x: far_out(x),
+        y: far_out(y),
+        z: far_out(z),
+    }
+}
+
+/// The points at these places, so many times as far out.
+fn far_points(alloc: Global, places: &[[i8; 3]]) -> Result<Points, NoMemory> {
+    let mut points = Points::new(alloc);
+    for place in places {
+        points.push(far_point(*place))?;
+    }
+    Ok(points)
+}
+
+/// The list that flips make for two plates, if they come to one.
+fn flipped(alloc: Global, points: &Points, list: &TetList) -> Result<Option<TetList>, NoMemory> {
+    let triangles = triangles_of(alloc, &[[0, 1, 2], [3, 4, 5]])?;
+    let found = candidate(alloc, points, list, &triangles)?;
+    Ok(found.map(|made| made.rows))
+}
+
+/// Whether flips come to a list for the plates in a cloud, and to the same one far out.
+fn flips_alike_far_out(alloc: Global) -> Result<bool, NoMemory> {
+    let Some(points) = small_set(alloc, PLATES_IN_CLOUD) else {
+        return Ok(false);
+    };
+    let Ok(list) = delaunay(alloc, &points) else {
+        return Ok(false);
+    };
+    let Some(near) = flipped(alloc, &points, &list)? else {
+        return Ok(false);
+    };
+    let points = far_points(alloc, PLATES_IN_CLOUD[0])?;
+    match flipped(alloc, &points, &list)? {
+        Some(far) => Ok(near.as_slice() == far.as_slice()),
+        None => Ok(false),
+    }
+}
+
+#[test]
+fn flips_far_out(rt: HostRuntime) {
+    assert!(rt; flips_alike_far_out(rt.alloc()) == Ok(true));
 }
