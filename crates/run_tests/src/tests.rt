@@ -10,6 +10,7 @@ mod large_runs;
 mod located_point_runs;
 mod merged_facet_runs;
 mod program_runs;
+mod refined_runs;
 mod surface_runs;
 mod test_inputs;
 mod weighted_point_runs;

@@ -13,16 +13,16 @@ const EXPONENT: &[u8] = b"4 3 0 0\n0 1.2e-17 0 0\n1 1 0 0\n2 0 1.5 0\n3 0 0 1\n"
 
 const NODE: &[u8] = b"4 3 0 0\n0 0 0 0\n1 1 0 0\n2 0 1.5 0\n3 0 0 1\n";
 
-/// An L-shaped beam with a cavity of six decimals, for one of whose sides the grid is too coarse.
-const BEAM: &[u8] =
-    b"16 3 0 0\n1 0 0 -8\n2 2 0 -8\n3 2 1 -8\n4 1 1 -8\n5 1 2 -8\n6 0 2 -8\n7 0 0 8\n8 2 0 8\n\
-      9 2 1 8\n10 1 1 8\n11 1 2 8\n12 0 2 8\n13 0.912345 0.5 0\n14 0.5 0.912345 0\n15 0.6 0.6 0.2\n\
-      16 0.6 0.6 -0.2\n12 0\n1\n6 1 2 3 4 5 6\n1\n6 7 8 9 10 11 12\n1\n4 1 2 8 7\n1\n4 2 3 9 8\n1\n\
-      4 3 4 10 9\n1\n4 4 5 11 10\n1\n4 5 6 12 11\n1\n4 6 1 7 12\n1\n3 13 14 15\n1\n3 13 14 16\n1\n\
+/// An L-shaped beam with a cavity of seven decimals, for one of whose sides the grid is too coarse.
+const BEAM: &[u8] = b"16 3 0 0\n1 0 0 -14\n2 2 0 -14\n3 2 1 -14\n4 1 1 -14\n5 1 2 -14\n6 0 2 -14\n\
+      7 0 0 14\n8 2 0 14\n9 2 1 14\n10 1 1 14\n11 1 2 14\n12 0 2 14\n\
+      13 0.9123457 0.5 0\n14 0.5 0.9123457 0\n15 0.6 0.6 0.2\n16 0.6 0.6 -0.2\n12 0\n\
+      1\n6 1 2 3 4 5 6\n1\n6 7 8 9 10 11 12\n1\n4 1 2 8 7\n1\n4 2 3 9 8\n1\n4 3 4 10 9\n\
+      1\n4 4 5 11 10\n1\n4 5 6 12 11\n1\n4 6 1 7 12\n1\n3 13 14 15\n1\n3 13 14 16\n1\n\
       3 13 15 16\n1\n3 14 15 16\n1\n1 0.65 0.65 0\n0\n";
 
 /// A point off each grid.
-const FAR: &[u8] = b"4 3 0 0\n1 0 0 0\n2 12345678.5 0 0\n3 0 1 0\n4 0 0 1\n";
+const FAR: &[u8] = b"4 3 0 0\n1 0 0 0\n2 1234567890.5 0 0\n3 0 1 0\n4 0 0 1\n";
 
 /// Two segments that cross.
 const CROSSED: &[u8] = b"\
@@ -36,8 +36,8 @@ const OPEN: &[u8] = b"\
 
 const FAR_TOLD: &[u8] = b"\
 tetfit: line 3: coordinate off the grid\n\
-tetfit: line 3 has (12345678.5 0 0)\n\
-tetfit: no coordinate may be over 8388608 in size: scale the model down\n";
+tetfit: line 3 has (1234567890.5 0 0)\n\
+tetfit: no coordinate may be over 536870912 in size: scale the model down\n";
 
 const CROSSED_TOLD: &[u8] = b"\
 tetfit: segments 1 2 and 3 4 cross\n\
@@ -109,10 +109,10 @@ static FITS: [Run<'static>; 5] = [
         files: &[(b"t.1.node", Some(NODE))],
     },
     Run {
-        name: "a segment for which the grid of six decimals is too coarse",
+        name: "a segment for which the grid of seven decimals is too coarse",
         held: &[(b"b.poly", &[BEAM])],
         words: &[b"-NEF", b"b.poly"],
-        end: Told(b"points 16 added 3 tetrahedra 44 faces 103 edges 76 decimals 5\n"),
+        end: Told(b"points 16 added 3 tetrahedra 44 faces 103 edges 76 decimals 6\n"),
         files: &[(b"b.1.ele", None)],
     },
     Run {
