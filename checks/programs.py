@@ -1,7 +1,7 @@
 """Runs the built program on more inputs than tests would pay for: where a proof says that two inputs have one mesh, coplanar triangles in place of whole
 facets, cut in all ways, and triangles with points of their own in place of shared ones; words that are not understood; a crossing of merged facets; and the
-examples that have an answer; and that tetfit leaves the files that tetgen leaves at its decimals, where that answers. It prints what differs. The programs are those that rt ci
-has built."""
+examples that have an answer; and that tetfit leaves the files that tetgen leaves at its decimals, where that answers. It prints what differs. The programs are those
+that rt ci has built."""
 import filecmp
 import itertools
 import os
