@@ -72,7 +72,7 @@ fn turn_centroid_sum(n: Normal, q: GridPoint, r: GridPoint, t: &Corners) -> i128
 }
 
 /// Which way from `q` over `r` to the centroid of `t` turns, as seen against the normal of the
-/// triangle `a b c`: `Above` where it turns counterclockwise. The sum is at most `3 * 2^100` in
+/// triangle `a b c`: `Above` where it turns counterclockwise. The sum is at most `3 * 2^124` in
 /// size.
 #[inline]
 pub fn turn_centroid(

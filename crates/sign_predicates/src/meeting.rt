@@ -1,5 +1,5 @@
 //! Whether closed segments and triangles have a point in common. All sums are of orientations, and
-//! of scalar products of two cross products, at most `3 * 2^98` in size.
+//! of scalar products of two cross products, at most `3 * 2^122` in size.
 ghost use Rattle.std.specs.Prelude.{◌≡◌, ◌⊎◌, pos, ◌<ℤ◌, ◌≤ℤ◌, IsTrue, ◌↔◌};
 ghost use Rattle.sign_predicates.specs.Orientation.{orient, side, normal, dot, SpansPlane};
 ghost use Rattle.sign_predicates.specs.Meeting.{triangle_of, grid_triangle, segment, SegmentMeetsTriangle, TrianglesMeet};

@@ -65,7 +65,7 @@ pub fn scaled_difference(a: i32, x: i64, w: i64) -> i64
 
 /// `w` times six times the signed volume of the tetrahedron `a b c x`. With coordinates of `x` up
 /// to `(2^29 + 1) * w` and `w` up to `10^6`, the scaled differences are below `2^50`, the minors at
-/// most `2^61`, and the sum below `2^95`.
+/// most `2^61`, and the sum below `2^113`.
 #[inline]
 fn orient_rat_sum(a: GridPoint, b: GridPoint, c: GridPoint, x: RatPoint) -> i128
     ensures { result ≡ orient_rational a b c x }
@@ -82,7 +82,7 @@ fn orient_rat_sum(a: GridPoint, b: GridPoint, c: GridPoint, x: RatPoint) -> i128
 /// On which side of the plane through `a`, `b` and `c` the rational point `x` lies, as `orient` for
 /// a grid point. The sum is that of `orient` times `w`. It stays within 128 bits: `w` is at most
 /// `10^6` and the coordinates of `x` at most `(2^29 + 1) * w` in size, so that the sum is below
-/// `2^95`.
+/// `2^113`.
 #[inline]
 pub fn orient_rat(a: GridPoint, b: GridPoint, c: GridPoint, x: RatPoint) -> Sign
     ensures { IsSignOf result (orient_rational a b c x) }
