@@ -16,9 +16,9 @@ use Rattle.facet_plane.specs.declared.flat.NotFlat.{NotFlat as Bent}
 use Rattle.segment_protect.specs.Ends.{IsProtectFault}
 use Rattle.segment_protect.specs.declared.fault.ProtectFault.{ProtectFault}
 use Rattle.segment_protect.specs.declared.fault.ProtectFault.TheVariants as protection
-use Rattle.box_pairs.specs.Crossing.{AreTrianglesMet, IsPlaneFault}
-use Rattle.box_pairs.specs.declared.crossing.PlaneFault.{PlaneFault}
-use Rattle.box_pairs.specs.declared.crossing.PlaneFault.TheVariants as planes
+use Rattle.simplex_meets.specs.Crossing.{AreTrianglesMet, IsPlaneFault}
+use Rattle.simplex_meets.specs.declared.crossing.PlaneFault.{PlaneFault}
+use Rattle.simplex_meets.specs.declared.crossing.PlaneFault.TheVariants as planes
 use Rattle.facet_recover.specs.Refilled.{IsCause}
 use Rattle.facet_recover.specs.declared.recover.RecoverFault.{RecoverFault}
 use Rattle.facet_recover.specs.declared.recover.RecoverFault.TheVariants as recovery

@@ -24,8 +24,8 @@ use Rattle.facet_laws.proofs.General.{own_plane}
 use Rattle.facet_laws.proofs.Facets.{Circle, circle_of, middle_of, plane_spans}
 use Rattle.facet_laws.proofs.Meets.{law_circle_meet, law_piece_meet}
 use Rattle.facet_laws.proofs.FaceIn.{law_meet_order}
-use Rattle.box_pairs.specs.Parts.{lies_in_plane}
-use Rattle.box_pairs.specs.Crossing.{AreFlatMet}
+use Rattle.simplex_meets.specs.Parts.{lies_in_plane}
+use Rattle.simplex_meets.specs.Crossing.{AreFlatMet}
 use Rattle.complex_mesh.specs.Protection.{triangles_at, complex_triangles}
 use Rattle.complex_mesh.proofs.Triangles.{of_list}
 

@@ -17,7 +17,7 @@ use Rattle.geo_laws.specs.declared.complex.FacetTriangle.{FacetTriangle}
 use Rattle.geo_laws.proofs.DelaunayList.{law_delaunay_list}
 use Rattle.geo_laws.proofs.Members.{member_of, contains_of, at_place, flat_map_cases}
 use Rattle.path_laws.specs.Flood.{carving_of}
-use Rattle.box_pairs.specs.Crossing.{AreTrianglesMet}
+use Rattle.simplex_meets.specs.Crossing.{AreTrianglesMet}
 use Rattle.segment_protect.proofs.Splits.{each_member}
 use Rattle.complex_laws.specs.ComplexMesh.{HasNoCrossing, IsCarved}
 use Rattle.complex_laws.proofs.ComplexMesh.{law_uncrossed, law_all_kept}

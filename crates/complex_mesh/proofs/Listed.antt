@@ -7,7 +7,7 @@ use Rattle.geo_laws.specs.Delaunay.{delaunay_rows}
 use Rattle.geo_laws.specs.Segment.{is_side}
 use Rattle.geo_laws.specs.declared.complex.Piece.{Piece}
 use Rattle.geo_laws.specs.declared.complex.FacetTriangle.{FacetTriangle}
-use Rattle.box_pairs.specs.Crossing.{AreKnownMet}
+use Rattle.simplex_meets.specs.Crossing.{AreKnownMet}
 use Rattle.facet_recover.specs.Missing.{AreListed}
 use Rattle.complex_laws.proofs.MetFaces.{listed_faces_met, listed_side_met}
 

@@ -8,7 +8,7 @@ use Rattle.geo_laws.specs.Segment.{segments}
 use Rattle.geo_laws.specs.declared.complex.Piece.{Piece}
 use Rattle.geo_laws.proofs.Members.{member_of}
 use Rattle.segment_protect.proofs.Splits.{each_member}
-use Rattle.merge_laws.specs.Merged.{IsMerging, alone, merged_segments}
+use Rattle.merged_facets.specs.Merged.{IsMerging, alone, merged_segments}
 use Rattle.merged_facets.specs.MergedComplex.{IsMergedComplex}
 use Rattle.complex_mesh.specs.Protection.{AreMeshed}
 

@@ -4,7 +4,7 @@ use Rattle.std.specs.Prelude.{◌≢◌, All}
 use Rattle.sign_predicates.specs.Point.{Point}
 use Rattle.geo_laws.specs.Complex.{Complex, facets}
 use Rattle.geo_laws.specs.Delaunay.{AreCoplanar, numbers_below}
-use Rattle.merge_laws.proofs.Once.{law_one_merging}
+use Rattle.merged_facets.proofs.MergedOnce.{law_one_merging}
 use Rattle.geo_laws.specs.Segment.{pieces, protect, ProtectionEnd, Protected, GridEnd as GridEndOf, BudgetEnd as BudgetEndOf}
 use Rattle.geo_laws.specs.Facet.{Facet, IsFlat}
 use Rattle.geo_laws.specs.declared.complex.Piece.{Piece}
@@ -13,8 +13,8 @@ use Rattle.segment_protect.specs.Ends.{CanSplit}
 use Rattle.segment_protect.specs.Crossing.{ArePiecesPairwiseMet, IsFirstPieceCrossing as IsFirstSegments}
 use Rattle.facet_plane.specs.Flat.{IsFirstNotFlat}
 use Rattle.facet_plane.specs.declared.flat.NotFlat.{NotFlat as Bent}
-use Rattle.box_pairs.specs.declared.complex_parts.Part.{Part}
-use Rattle.box_pairs.specs.Crossing.{AreTrianglesMet, IsFirstCrossing as IsFirstParts}
+use Rattle.simplex_meets.specs.declared.complex_parts.Part.{Part}
+use Rattle.simplex_meets.specs.Crossing.{AreTrianglesMet, IsFirstCrossing as IsFirstParts}
 use Rattle.complex_mesh.specs.Protection.{AreMeshed, IsProtectedComplex, complex_triangles}
 use Rattle.complex_mesh.specs.Meshing.{IsComplexMesh, IsMeshFault}
 use Rattle.complex_mesh.specs.OneAnswer.{IsForcing, OneFaultLaw, NoFaultLaw}

@@ -15,12 +15,12 @@ use Rattle.facet_laws.proofs.FlatTest.{law_flat}
 use Rattle.facet_plane.specs.Flat.{IsFirstNotFlat}
 use Rattle.facet_plane.specs.declared.flat.NotFlat.{NotFlat}
 use Rattle.segment_protect.specs.Crossing.{AreMet, ArePiecesPairwiseMet, IsFirstPieceCrossing as IsFirstSegments}
-use Rattle.box_pairs.specs.declared.complex_parts.Compared.TheVariants.{WithTriangle}
-use Rattle.box_pairs.specs.declared.complex_parts.Part.{Part}
-use Rattle.box_pairs.specs.declared.complex_parts.Part.TheVariants.{Triangle, Segment}
-use Rattle.box_pairs.specs.Parts.{IsPairMet}
-use Rattle.box_pairs.specs.Pairs.{IsUnmet}
-use Rattle.box_pairs.specs.Crossing.{parts_in, AreTrianglesMet, IsFirstCrossing as IsFirstParts}
+use Rattle.simplex_meets.specs.declared.complex_parts.Compared.TheVariants.{WithTriangle}
+use Rattle.simplex_meets.specs.declared.complex_parts.Part.{Part}
+use Rattle.simplex_meets.specs.declared.complex_parts.Part.TheVariants.{Triangle, Segment}
+use Rattle.simplex_meets.specs.Parts.{IsPairMet}
+use Rattle.simplex_meets.specs.Pairs.{IsUnmet}
+use Rattle.simplex_meets.specs.Crossing.{parts_in, AreTrianglesMet, IsFirstCrossing as IsFirstParts}
 
 -- ---- the first of places, and of pairs of places
 

@@ -12,9 +12,9 @@ use Rattle.geo_laws.proofs.Members.{IsMember, here, there, at_place}
 use Rattle.complex_laws.specs.SoundComplex.{IsSoundFacet, HasTriangles, facet_numbered}
 use Rattle.refill_laws.specs.Protected.{IsProtected}
 use Rattle.simplex_meets.specs.Proper.{IsSegment}
-use Rattle.box_pairs.specs.Parts.{piece_side}
-use Rattle.box_pairs.specs.declared.complex_parts.Part.TheVariants.{Segment}
-use Rattle.box_pairs.specs.Crossing.{AreTrianglesMet}
+use Rattle.simplex_meets.specs.Parts.{piece_side}
+use Rattle.simplex_meets.specs.declared.complex_parts.Part.TheVariants.{Segment}
+use Rattle.simplex_meets.specs.Crossing.{AreTrianglesMet}
 use Rattle.segment_protect.specs.Spots.{HasTwoEnds}
 use Rattle.segment_protect.specs.Ends.{IsStart, CanSplit}
 use Rattle.segment_protect.proofs.PieceLaws.{pieces_cut}
@@ -38,8 +38,8 @@ use Rattle.geo_laws.specs.Facet.{Facet, IsFlat, all_corners}
 use Rattle.geo_laws.proofs.Members.{member_of}
 use Rattle.facet_laws.proofs.Chains.{all_at}
 use Rattle.facet_plane.proofs.FlatFacets.{facet_count}
-use Rattle.merge_laws.specs.Merged.{merged_facet, merged_segments}
-use Rattle.merge_laws.specs.Facets.{HasCornersOn, AreFlat}
+use Rattle.merged_facets.specs.Merged.{merged_facet, merged_segments}
+use Rattle.merged_facets.specs.Facets.{HasCornersOn, AreFlat}
 use Rattle.recovery_laws.specs.MergedMesh.{merged_facets}
 use Rattle.recovery_laws.proofs.MergedMesh.{facet_is, law_merged_sound, law_merged_ends}
 

@@ -1,8 +1,8 @@
 -- The faults of the steps, as faults of the whole.
 use Rattle.segment_protect.specs.declared.fault.ProtectFault.{ProtectFault}
 use Rattle.segment_protect.specs.declared.fault.ProtectFault.TheVariants as protection
-use Rattle.box_pairs.specs.declared.crossing.PlaneFault.{PlaneFault}
-use Rattle.box_pairs.specs.declared.crossing.PlaneFault.TheVariants as planes
+use Rattle.simplex_meets.specs.declared.crossing.PlaneFault.{PlaneFault}
+use Rattle.simplex_meets.specs.declared.crossing.PlaneFault.TheVariants as planes
 use Rattle.facet_recover.specs.declared.recover.RecoverFault.{RecoverFault}
 use Rattle.facet_recover.specs.declared.recover.RecoverFault.TheVariants as recovery
 use Rattle.complex_mesh.specs.declared.fault.MeshFault.{MeshFault}

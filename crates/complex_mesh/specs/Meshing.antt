@@ -14,7 +14,7 @@ use Rattle.path_laws.specs.Flood.{carving_of}
 use Rattle.segment_protect.specs.Ends.{CanSplit}
 use Rattle.segment_protect.specs.Crossing as segment
 use Rattle.facet_plane.specs.Flat.{IsFirstNotFlat}
-use Rattle.box_pairs.specs.Crossing.{AreTrianglesMet, IsFirstCrossing}
+use Rattle.simplex_meets.specs.Crossing.{AreTrianglesMet, IsFirstCrossing}
 use Rattle.refill_laws.specs.Refill.{IsRefill}
 use Rattle.tangle_laws.specs.Tangle.{AnomalyHolds}
 use Rattle.tangle_laws.specs.Growth.{IsGrownList}

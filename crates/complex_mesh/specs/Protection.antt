@@ -11,7 +11,7 @@ use Rattle.geo_laws.specs.declared.complex.FacetTriangle.{FacetTriangle}
 use Rattle.complex_laws.specs.SoundComplex.{facet_numbered}
 use Rattle.segment_protect.specs.Ends.{CanSplit}
 use Rattle.segment_protect.specs.Protection.{IsMultiple}
-use Rattle.merge_laws.specs.Merged.{IsMerging, merged_segments}
+use Rattle.merged_facets.specs.Merged.{IsMerging, merged_segments}
 use Rattle.recovery_laws.specs.MergedMesh.{merged_facets}
 use Rattle.complex_mesh.specs.declared.mesh.MeshOptions.{MeshOptions}
 

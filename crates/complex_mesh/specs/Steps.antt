@@ -10,7 +10,7 @@ use Rattle.geo_laws.specs.declared.complex.FacetTriangle.{FacetTriangle}
 use Rattle.complex_laws.specs.SoundComplex.{IsSoundFacet, facet_numbered}
 use Rattle.facet_laws.specs.Region.{HavePieces}
 use Rattle.segment_protect.specs.Spots.{HasTwoEnds}
-use Rattle.box_pairs.specs.Crossing.{IsFirstCrossing}
+use Rattle.simplex_meets.specs.Crossing.{IsFirstCrossing}
 use Rattle.facet_recover.specs.Refilled.{HasTangle}
 use Rattle.complex_mesh.specs.Protection.{complex_triangles}
 use Rattle.refill_laws.specs.Refill.{IsRefill}

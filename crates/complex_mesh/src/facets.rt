@@ -1,17 +1,17 @@
 //! The triangles of all facets.
 ghost use Rattle.std.specs.Prelude.{◌≡◌, MatchResult, IfOk};
-ghost use Rattle.box_pairs.specs.Crossing.{AreTrianglesMet};
+ghost use Rattle.simplex_meets.specs.Crossing.{AreTrianglesMet};
 ghost use Rattle.geo_laws.specs.Complex.{facets};
 ghost use Rattle.geo_laws.specs.Delaunay.{delaunay_rows};
 ghost use Rattle.complex_mesh.specs.Protection.{complex_triangles};
 ghost use Rattle.complex_mesh.specs.Steps.{HasSoundFacets, IsCrossingFault};
 
 use crate::fault::MeshFault;
-use box_pairs::crossings_beside;
 use box_tree::point_tree;
 use facet_plane::facet_triangles_in;
 use facet_recover::listed_triangles;
 use geo_laws::{Complex, FacetTriangles, Pieces, Points, TetList};
+use simplex_meets::crossings_beside;
 use std::alloc::Global;
 use tet_ports::NoMemory;
 

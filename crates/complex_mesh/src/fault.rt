@@ -1,9 +1,9 @@
 //! Why a complex has no mesh.
-use box_pairs::{Part, PlaneFault};
 use facet_plane::NotFlat;
 use facet_recover::RecoverFault;
 use geo_laws::{Piece, Tet};
 use segment_protect::ProtectFault;
+use simplex_meets::{Part, PlaneFault};
 use tangle_laws::Anomaly;
 use tet_ports::NoMemory;
 use thiserror::Error;

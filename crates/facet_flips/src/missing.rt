@@ -1,6 +1,6 @@
 //! The facet triangles that are no faces of a list.
-use face_table::FaceTable;
 use geo_laws::{Face, FacetTriangle, FacetTriangles, Tet, TetList, row_faces};
+use incidence::FaceTable;
 use std::alloc::Global;
 use tet_ports::{Items, NoMemory};
 

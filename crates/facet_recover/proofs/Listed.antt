@@ -8,7 +8,7 @@ use Rattle.geo_laws.specs.declared.tetrahedra.Tet.{Tet}
 use Rattle.geo_laws.specs.declared.complex.FacetTriangle.{FacetTriangle}
 use Rattle.geo_laws.proofs.Members.{IsMember, here, there, member_of, contains_of, append_cases, in_append_left, in_append_right}
 use Rattle.box_tree.proofs.Lists.{more_cases, in_more, in_last}
-use Rattle.face_table.specs.Chains.{face_at, face_of_triangle}
+use Rattle.incidence.specs.Chains.{face_at, face_of_triangle}
 use Rattle.facet_recover.specs.Missing.{AreMissing, AreListed}
 use Rattle.geo_laws.specs.Marks.{is_marked}
 

@@ -21,7 +21,7 @@ use Rattle.refill_laws.proofs.Region.{lowest_row}
 use Rattle.geo_laws.proofs.RowFaces.{in_face_of, of_face_of}
 use Rattle.facet_recover.specs.declared.cavity.Crossed.{Crossed}
 use Rattle.facet_recover.specs.declared.cavity.Parted.{Parted}
-use Rattle.face_table.specs.Chains.{face_of_triangle}
+use Rattle.incidence.specs.Chains.{face_of_triangle}
 use Rattle.facet_recover.specs.Missing.{AreMissing}
 use Rattle.facet_recover.specs.Parted.{IsParted, AreByFacet}
 use Rattle.facet_recover.specs.Refilled.{HasTangle}

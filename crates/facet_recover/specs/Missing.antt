@@ -4,7 +4,7 @@ use Rattle.std.specs.Prelude.{List, length, slice_index_or, Contains}
 use Rattle.geo_laws.specs.Faces.{faces_of_rows}
 use Rattle.geo_laws.specs.declared.tetrahedra.Tet.{Tet}
 use Rattle.geo_laws.specs.declared.complex.FacetTriangle.{FacetTriangle}
-use Rattle.face_table.specs.Chains.{face_of_triangle}
+use Rattle.incidence.specs.Chains.{face_of_triangle}
 
 -- the triangles that are no faces of the rows
 abbrev pub AreMissing : List FacetTriangle → List Tet → List FacetTriangle → Type 0

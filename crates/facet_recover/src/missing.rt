@@ -2,12 +2,12 @@
 ghost use Rattle.std.specs.Prelude.{◌≡◌, ◌↔◌, ◌⊎◌, ◌<◌, ℕ, true, false, List, length, Contains, IfOk};
 ghost use Rattle.geo_laws.specs.Faces.{row_faces, faces_of_rows};
 ghost use Rattle.geo_laws.specs.declared.tetrahedra.Tet.{Tet as Row};
-ghost use Rattle.face_table.specs.Chains.{face_at};
+ghost use Rattle.incidence.specs.Chains.{face_at};
 ghost use Rattle.facet_recover.specs.Missing.{AreMissing, AreListed};
 ghost use Rattle.geo_laws.specs.Marks.{is_marked};
 
-use face_table::FaceTable;
 use geo_laws::{FacetTriangles, Tet, TetList, face_of};
+use incidence::FaceTable;
 use std::alloc::Global;
 use tet_ports::NoMemory;
 

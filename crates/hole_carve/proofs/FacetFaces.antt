@@ -4,7 +4,7 @@ use Rattle.std.specs.Prelude.{Contains, ◌↔◌}
 use Rattle.geo_laws.specs.declared.faces.Face.{Face}
 use Rattle.geo_laws.specs.declared.complex.FacetTriangle.{FacetTriangle}
 use Rattle.geo_laws.proofs.Members.{IsMember, contains_of, member_of, in_map, map_cases}
-use Rattle.face_table.specs.Chains.{face_of_triangle}
+use Rattle.incidence.specs.Chains.{face_of_triangle}
 use Rattle.path_laws.specs.Flood.{IsFacetFace}
 
 -- the triangles as faces

@@ -3,7 +3,7 @@ use Rattle.std.specs.Prelude.{◌≡◌, List, map}
 use Rattle.sign_predicates.specs.Point.{Point}
 use Rattle.geo_laws.specs.declared.tetrahedra.Tet.{Tet}
 use Rattle.geo_laws.specs.declared.complex.FacetTriangle.{FacetTriangle}
-use Rattle.face_table.specs.Chains.{face_of_triangle}
+use Rattle.incidence.specs.Chains.{face_of_triangle}
 use Rattle.incidence.specs.Pairs.{pairs_of}
 use Rattle.hole_carve.specs.declared.walled.Walled.{Walled}
 

@@ -10,9 +10,8 @@ ghost use Rattle.hole_carve.specs.Walled.{IsWalledBy};
 
 use crate::ways::Ways;
 use box_tree::{Tree, row_tree};
-use face_table::FaceTable;
 use geo_laws::{FacetTriangles, Points, TetList};
-use incidence::{Pairs, pair_faces};
+use incidence::{FaceTable, Pairs, pair_faces};
 use std::alloc::Global;
 use tet_ports::NoMemory;
 

@@ -4,9 +4,8 @@ ghost use Rattle.incidence.specs.Pairs.{pairs_of, across_at};
 ghost use Rattle.hole_carve.specs.Flooding.{way, IsWay};
 ghost use Rattle.hole_carve.specs.Ways.{way_through, ways_through, ways_of};
 
-use face_table::FaceTable;
 use geo_laws::{Face, Tet, TetList, face_of};
-use incidence::{Across, Pairs};
+use incidence::{Across, FaceTable, Pairs};
 use std::marker::Model;
 
 /// Where one comes to from each row of a list, which contracts see: through a face that is a facet

@@ -10,3 +10,4 @@ pub mod Runs
 pub mod Settled
 pub mod SortedRuns
 pub mod Turns
+pub mod Chained

@@ -5,3 +5,4 @@ pub mod Links
 pub mod Pairs
 pub mod Runs
 pub mod Uses
+pub mod Chains

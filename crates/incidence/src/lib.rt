@@ -2,15 +2,19 @@
 //! faces, the tetrahedra on the other sides of faces, and the edges.
 #![tactic(auto)]
 
+mod beginnings;
+mod chains;
 mod gathering;
 mod half_faces;
 mod links;
 mod pairs;
 mod sides;
 mod sorting;
+mod table;
 mod uses;
 
 pub use half_faces::{Corner, HalfFace};
 pub use pairs::{Across, Marks, Pairs, pair_faces, pair_uses};
 pub use sides::{Edges, edges_of};
+pub use table::FaceTable;
 pub use uses::{Use, Uses, use_at, uses_of};

@@ -14,7 +14,7 @@ use Rattle.geo_laws.specs.declared.complex.Piece.{Piece}
 use Rattle.geo_laws.proofs.Members.{IsMember, some_true, any_true}
 use Rattle.facet_laws.proofs.Circles.{squares_above}
 use Rattle.facet_laws.proofs.PlaneOf.{IsZero, zero_of, test_of, along, apart}
-use Rattle.merge_laws.specs.Merged.{has_span, alike_turned}
+use Rattle.merged_facets.specs.Merged.{has_span, alike_turned}
 
 -- ---- the dot products of three vectors, of which one is along both others
 

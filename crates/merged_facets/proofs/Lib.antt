@@ -11,3 +11,9 @@ pub mod Merged
 pub mod Outer
 pub mod Parts
 pub mod Walk
+pub mod FacetGroups
+pub mod Members
+pub mod Inner
+pub mod Planes
+pub mod MergedOnce
+pub mod Markers

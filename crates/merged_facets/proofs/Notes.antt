@@ -8,8 +8,8 @@ use Rattle.geo_laws.specs.Complex.{Complex}
 use Rattle.geo_laws.specs.Segment.{piece, same_ends}
 use Rattle.geo_laws.specs.declared.complex.Piece.{Piece}
 use Rattle.geo_laws.proofs.Members.{IsMember, here, at_place, member_of, contains_of, both_true, some_true, in_append_left, in_append_right, append_cases, in_cons}
-use Rattle.merge_laws.specs.Merged.{AreJoined, AreChained, alone, onward, IsInner}
-use Rattle.merge_laws.proofs.Groups.{law_joined_back}
+use Rattle.merged_facets.specs.Merged.{AreJoined, AreChained, alone, onward, IsInner}
+use Rattle.merged_facets.proofs.FacetGroups.{law_joined_back}
 use Rattle.piece_set.proofs.Found.{SameEnds, same_of, by_order}
 use Rattle.merged_facets.specs.Labels.{IsForest, AreLabels, joined_label}
 use Rattle.merged_facets.specs.FacetSides.{facet_side, ends_of, ends_at, IsPair, AreFacetSidesOf, IsLastBefore}

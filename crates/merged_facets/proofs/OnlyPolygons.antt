@@ -6,7 +6,7 @@ use Rattle.sign_predicates.specs.Point.{RationalPoint}
 use Rattle.geo_laws.specs.Facet.{Facet as FlatFacet}
 use Rattle.geo_laws.specs.Complex.{Complex, Polygon, flat_facet, corner_lists}
 use Rattle.geo_laws.specs.declared.complex.Facet.{Facet}
-use Rattle.merge_laws.specs.Merged.{only_polygon, facet_at, no_facet}
+use Rattle.merged_facets.specs.Merged.{only_polygon, facet_at, no_facet}
 
 abbrev pub flat : List (List ℕ) → List RationalPoint → FlatFacet
 flat qs hs = record { polygons = qs; holes = hs }

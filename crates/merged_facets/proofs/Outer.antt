@@ -13,7 +13,7 @@ use Rattle.geo_laws.specs.Facet.{Facet}
 use Rattle.geo_laws.specs.Segment.{piece, sides}
 use Rattle.geo_laws.specs.declared.complex.Piece.{Piece}
 use Rattle.geo_laws.specs.declared.complex.Facet.{Facet as StoredFacet}
-use Rattle.merge_laws.specs.Merged.{no_facet, outer_sides, merged_segments}
+use Rattle.merged_facets.specs.Merged.{no_facet, outer_sides, merged_segments}
 use Rattle.piece_set.specs.Found.{with_piece, with_pieces}
 use Rattle.piece_set.proofs.Found.{with_pieces-none}
 use Rattle.piece_set.proofs.Polygons.{sides_before, IsNext}

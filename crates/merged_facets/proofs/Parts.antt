@@ -11,7 +11,7 @@ use Rattle.geo_laws.specs.Complex.{Polygon, Complex, corner_lists, flat_facet, f
 use Rattle.geo_laws.specs.declared.complex.Facet.{Facet as StoredFacet}
 use Rattle.geo_laws.proofs.Members.{contains_of, at_place}
 use Rattle.geo_laws.proofs.Complexes.{length_change_last, facet_follows, last_follows, last_stays, ends_at}
-use Rattle.merge_laws.specs.Merged.{no_facet, merged_facet}
+use Rattle.merged_facets.specs.Merged.{no_facet, merged_facet}
 use Rattle.merged_facets.specs.MergedComplex.{with_parts, with_polygons, with_holes, markers, IsMergedComplex, IsMaking, HasParts}
 use Rattle.merged_facets.proofs.Outer.{append_nil, no_polygon, run_none, run_more}
 

@@ -7,7 +7,7 @@ use Rattle.std.proofs.lemmas.Bool.{cases_order}
 use Rattle.geo_laws.specs.Facet.{Facet}
 use Rattle.geo_laws.specs.Complex.{Complex, flat_facet}
 use Rattle.geo_laws.specs.declared.complex.Facet.{Facet as StoredFacet}
-use Rattle.merge_laws.specs.Merged.{no_facet, merged_facet}
+use Rattle.merged_facets.specs.Merged.{no_facet, merged_facet}
 use Rattle.merged_facets.specs.MergedComplex.{IsFirstFrom, AreMemberChains, AreNone, IsMaking, HasParts, with_parts}
 use Rattle.merged_facets.proofs.Outer.{append_nil, numbered, numbered_at, numbered_length}
 use Rattle.merged_facets.proofs.Parts.{no_parts, parts_then}

@@ -9,7 +9,7 @@ use Rattle.geo_laws.specs.Facet.{Facet, IsFlat, spans_plane}
 use Rattle.geo_laws.specs.declared.complex.Piece.{Piece}
 use Rattle.merged_facets.specs.declared.beside.Lie.{Lie}
 use Rattle.merged_facets.specs.declared.beside.Lie.TheVariants.{InPlane, Beside, Across}
-use Rattle.merge_laws.specs.Merged.{has_span, alike_turned, AreOnOneSideOf, AreOnEitherSide, places_of, MeetsOthers}
+use Rattle.merged_facets.specs.Merged.{has_span, alike_turned, AreOnOneSideOf, AreOnEitherSide, places_of, MeetsOthers}
 
 -- the facet of one polygon
 abbrev pub one_facet : List ℕ → Facet

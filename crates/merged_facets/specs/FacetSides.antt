@@ -3,7 +3,7 @@ use Rattle.std.specs.Prelude.{◌≡◌, ◌≢◌, ℕ, ◌<◌, ◌==◌, ◌&
 use Rattle.geo_laws.specs.Segment.{piece, sides}
 use Rattle.geo_laws.specs.Complex.{Complex}
 use Rattle.geo_laws.specs.declared.complex.Piece.{Piece}
-use Rattle.merge_laws.specs.Merged.{only_polygon, facet_at}
+use Rattle.merged_facets.specs.Merged.{only_polygon, facet_at}
 use Rattle.merged_facets.specs.declared.sides.FacetSide.{FacetSide}
 use Rattle.merged_facets.specs.declared.sides.Ends.{Ends}
 

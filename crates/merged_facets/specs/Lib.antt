@@ -4,3 +4,7 @@ pub mod FacetSides
 pub mod Merging
 pub mod Segments
 pub mod MergedComplex
+pub mod Merged
+pub mod Groups
+pub mod Facets
+pub mod Markers

@@ -4,7 +4,7 @@ use Rattle.sign_predicates.specs.Point.{RationalPoint}
 use Rattle.geo_laws.specs.Delaunay.{numbers_below}
 use Rattle.geo_laws.specs.Facet.{Facet}
 use Rattle.geo_laws.specs.Complex.{Polygon, Complex, corner_lists, facets, AreFollowing, change_last}
-use Rattle.merge_laws.specs.Merged.{merged_facet}
+use Rattle.merged_facets.specs.Merged.{merged_facet}
 
 -- the markers of the facets
 abbrev pub markers : Complex → List (Option ℤ)

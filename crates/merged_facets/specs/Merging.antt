@@ -7,7 +7,7 @@ use Rattle.geo_laws.specs.Delaunay.{HasDistinctPoints}
 use Rattle.geo_laws.specs.Facet.{IsFlat}
 use Rattle.geo_laws.specs.Segment.{piece}
 use Rattle.geo_laws.specs.declared.complex.Piece.{Piece}
-use Rattle.merge_laws.specs.Merged.{AreJoined, AreChained, IsInner}
+use Rattle.merged_facets.specs.Merged.{AreJoined, AreChained, IsInner}
 use Rattle.merged_facets.specs.Labels.{IsForest, AreLabels}
 use Rattle.merged_facets.specs.FacetSides.{facet_side, ends_of, ends_at}
 use Rattle.merged_facets.specs.declared.sides.FacetSide.{FacetSide}

@@ -4,7 +4,7 @@ ghost use Rattle.sign_predicates.specs.Sign.{IsSignOf};
 ghost use Rattle.geo_laws.specs.Delaunay.{HasDistinctPoints};
 ghost use Rattle.geo_laws.specs.Facet.{IsFlat};
 ghost use Rattle.geo_laws.specs.Segment.{same_ends};
-ghost use Rattle.merge_laws.specs.Merged.{alike_turned};
+ghost use Rattle.merged_facets.specs.Merged.{alike_turned};
 ghost use Rattle.merged_facets.specs.Beside.{one_facet, is_off, not_below, not_above, AreBeside};
 ghost use Rattle.merged_facets.specs.Beside.{Lies, HasSideOnce};
 ghost use Rattle.merged_facets.specs.Beside.{IsSideAmong, IsOffCorner};

@@ -1,7 +1,7 @@
 //! The complex of the merged facets.
 ghost use Rattle.std.specs.Prelude.{◌≡◌, ◌<◌, ◌≤◌, ℕ, [], length, IfOk, OnOk};
 ghost use Rattle.geo_laws.specs.Complex.{flat_facet};
-ghost use Rattle.merge_laws.specs.Merged.{merged_facet};
+ghost use Rattle.merged_facets.specs.Merged.{merged_facet};
 ghost use Rattle.merged_facets.specs.Merging.{group_of};
 ghost use Rattle.merged_facets.specs.MergedComplex.{IsFirstFrom, AreMemberChains, IsMaking, HasParts};
 ghost use Rattle.merged_facets.specs.MergedComplex.{with_polygons, with_holes, IsMergedComplex};

@@ -3,7 +3,7 @@ ghost use Rattle.std.specs.Prelude.{◌≡◌, ◌↔◌, ◌<◌, ◌+◌, ℕ,
 ghost use Rattle.geo_laws.specs.Delaunay.{HasDistinctPoints};
 ghost use Rattle.geo_laws.specs.Complex.{facets, HasCornersOf};
 ghost use Rattle.geo_laws.specs.Facet.{IsFlat};
-ghost use Rattle.merge_laws.specs.Merged.{IsMerging, AreJoined};
+ghost use Rattle.merged_facets.specs.Merged.{IsMerging, AreJoined};
 ghost use Rattle.merged_facets.specs.Labels.{IsIdentity};
 ghost use Rattle.merged_facets.specs.FacetSides.{AreFacetSidesOf, AreEarlier, IsFacetSideOf, IsPair};
 ghost use Rattle.merged_facets.specs.Merging.{group_of, is_inner, inner_side, WithInner, IsSoundForest};

@@ -1,6 +1,6 @@
 //! The one polygon of a facet that may be joined with others.
 ghost use Rattle.std.specs.Prelude.{◌≡◌, ◌<◌, length};
-ghost use Rattle.merge_laws.specs.Merged.{only_polygon, facet_at, marker_at};
+ghost use Rattle.merged_facets.specs.Merged.{only_polygon, facet_at, marker_at};
 
 use geo_laws::Complex;
 

@@ -7,3 +7,6 @@ pub mod Partners
 pub mod Bends
 pub mod DefectKinds
 pub mod Listed
+pub mod Windows
+pub mod CornersOn
+pub mod Once

@@ -5,3 +5,8 @@ pub mod FaceSets
 pub mod Sides
 pub mod Bending
 pub mod Among
+pub mod Steps
+pub mod Messages
+pub mod Reading
+pub mod Checking
+pub mod Telling

@@ -15,7 +15,7 @@ use Rattle.plc_files.specs.declared.fault.PlcFault.{PlcFault}
 use Rattle.tet_text.specs.Lines.{IsField}
 use Rattle.plc_files.specs.Text.{AreWritten, ReadFacet, Plc}
 use Rattle.plc_files.specs.Checks.{corners_check}
-use Rattle.complex_folding.specs.Folding.{HasCornersBelow}
+use Rattle.plc_files.specs.Folding.{HasCornersBelow}
 use Rattle.plc_files.specs.Binding.{bound_facets, bound_region, complex_of, HasWeights, Binds}
 use Rattle.plc_files.proofs.Ranges.{corners_below}
 

@@ -19,11 +19,11 @@ use Rattle.segment_protect.proofs.PieceLaws.{from_first}
 use Rattle.segment_protect.proofs.Splits.{all_members}
 use Rattle.complex_laws.specs.SoundComplex.{IsSoundFacet, facet_numbered}
 use Rattle.recovery_laws.proofs.Pieces.{by_members}
-use Rattle.merge_laws.specs.Merged.{members, merged_facet, merged_segments, outer_sides}
-use Rattle.merge_laws.specs.Merged as merged
-use Rattle.merge_laws.specs.Facets.{HasCornersOn, AreFlat}
-use Rattle.merge_laws.proofs.Members.{Member, member_is, all_numbered, facet_of}
-use Rattle.merge_laws.proofs.Planes.{law_merged_flat, law_merged_bounded, outer_segment}
+use Rattle.merged_facets.specs.Merged.{members, merged_facet, merged_segments, outer_sides}
+use Rattle.merged_facets.specs.Merged as merged
+use Rattle.merged_facets.specs.Facets.{HasCornersOn, AreFlat}
+use Rattle.merged_facets.proofs.Members.{Member, member_is, all_numbered, facet_of}
+use Rattle.merged_facets.proofs.Planes.{law_merged_flat, law_merged_bounded, outer_segment}
 use Rattle.recovery_laws.proofs.Chain.{law_recoverable, law_recovery_mesh, law_piece_of_rest}
 use Rattle.recovery_laws.specs.MergedMesh.{merged_facets, IsUnmerged, IsGrouping, IsMergedRecovery, MergedSoundLaw, MergedEndsLaw, MergedRecoveryLaw, MergedMeshLaw, MergedPieceLaw, MergedCoverLaw}
 

@@ -19,8 +19,8 @@ use Rattle.segment_protect.specs.Spots.{HasTwoEnds}
 use Rattle.segment_protect.specs.Ends.{IsStart, CanSplit}
 use Rattle.complex_laws.specs.ComplexMesh.{IsUntangled, IsCarved}
 use Rattle.complex_laws.specs.Sides.{IsInnerOf}
-use Rattle.merge_laws.specs.Merged.{IsMerging, merged_facet, merged_segments}
-use Rattle.merge_laws.specs.Facets.{HasCornersOn, AreFlat}
+use Rattle.merged_facets.specs.Merged.{IsMerging, merged_facet, merged_segments}
+use Rattle.merged_facets.specs.Facets.{HasCornersOn, AreFlat}
 use Rattle.recovery_laws.specs.Recovery.{IsRecovery}
 
 -- the merged facets of a complex, by their numbers

@@ -1,1 +1,5 @@
 pub mod Rounds
+pub mod Divisors
+pub mod NewPoints
+pub mod Meshables
+pub mod PointsBehind

@@ -4,8 +4,8 @@ use Rattle.sign_predicates.specs.Point.{Point}
 use Rattle.command_words.specs.declared.options.Options.{Options}
 use Rattle.complex_mesh.specs.declared.fault.MeshFault.{MeshFault}
 use Rattle.complex_mesh.specs.declared.mesh.ComplexMesh.{ComplexMesh}
-use Rattle.refined_mesh.proofs.Behind.{law_plain}
-use Rattle.refined_mesh.specs.Refined.{IsFewWith, IsMeshWith}
+use Rattle.refining.proofs.PointsBehind.{law_plain}
+use Rattle.refining.specs.Refined.{IsFewWith, IsMeshWith}
 use Rattle.run_steps.specs.Codes.{status_of_fault}
 use Rattle.run_steps.specs.Meshing.{IsUnmeshed, MeshOf, OutputsAnswer, mesh_of_complex}
 use Rattle.run_steps.specs.declared.mesh.Bound.{Bound}

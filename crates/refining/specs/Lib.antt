@@ -1,2 +1,5 @@
 pub mod Refining
 pub mod Outputs
+pub mod Addable
+pub mod Laws
+pub mod Refined

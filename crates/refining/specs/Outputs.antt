@@ -3,7 +3,7 @@ use Rattle.std.specs.Prelude.{◌≡◌, ℕ, Bool, true, false, List, Option, S
 use Rattle.sign_predicates.specs.Point.{Point}
 use Rattle.command_words.specs.declared.options.Options.{Options}
 use Rattle.node_files.specs.declared.limits.Limits.{Limits}
-use Rattle.refined_mesh.specs.Refined.{MeshAnswerWith}
+use Rattle.refining.specs.Refined.{MeshAnswerWith}
 use Rattle.run_steps.specs.Meshing.{BoundAnswer, MeshAnswer, OutputsAnswer}
 use Rattle.run_steps.specs.Outputs.{AreOutputsOf}
 use Rattle.run_steps.specs.Steps.{AndThen}

@@ -4,7 +4,7 @@ use Rattle.command_words.specs.declared.options.Options.{Options}
 use Rattle.run_steps.specs.Meshing.{MeshOf}
 use Rattle.run_steps.specs.declared.mesh.Bound.{Bound}
 use Rattle.run_steps.specs.declared.meshed.Meshed.{Meshed}
-use Rattle.refined_mesh.specs.Refined.{IsFewWith, MeshAnswerWith}
+use Rattle.refining.specs.Refined.{IsFewWith, MeshAnswerWith}
 use Rattle.refining.specs.declared.refining.Bounds.{Bounds}
 use Rattle.refining.specs.declared.refining.Refined.{Refined}
 use Rattle.refining.specs.declared.refining.Taken.{Taken}

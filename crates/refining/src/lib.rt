@@ -1,13 +1,25 @@
-//! Meshes of a complex that are made again and again, with more and more points behind its own.
+//! Points that may be added behind those of a complex, the mesh of the complex with them, and such
+//! meshes made again and again, with more and more points.
 #![tactic(auto)]
 
+mod add_fault;
 mod addable;
+mod behind;
 mod long_edges;
+mod meshable;
+mod meshing;
+mod multiples;
 mod outputs;
+mod placing;
+mod plain;
 mod propose;
+mod refine_fault;
 mod refining;
+mod repeats;
 
 pub use long_edges::LongEdges;
+pub use meshable::law_meshable;
 pub use outputs::{Aim, aimed_outputs, refined_outputs};
+pub use plain::law_plain;
 pub use propose::Propose;
 pub use refining::{Bounds, Refined};

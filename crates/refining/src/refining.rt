@@ -7,11 +7,12 @@ ghost use Rattle.run_steps.specs.Codes.{status_of_fault};
 ghost use Rattle.refining.specs.Refining.{IsTakenMesh, IsRefinedTo};
 
 use crate::addable::addable;
+use crate::meshing::{mesh_plain, mesh_with};
+use crate::placing::placed;
 use crate::propose::Propose;
 use command_words::Options;
 use complex_mesh::{ComplexMesh, MeshFault};
 use geo_laws::Points;
-use refined_mesh::{mesh_plain, mesh_with, placed};
 use run_steps::{Bound, Meshed};
 use std::alloc::Global;
 use tet_ports::NoMemory;

@@ -16,16 +16,16 @@ use Rattle.node_files.specs.Limits.{tetgen_limits}
 use Rattle.node_files.specs.Writing.{node_text}
 use Rattle.mesh_check.specs.Defects.{IsVerdict}
 use Rattle.mesh_check.specs.declared.defect.Verdict.TheVariants.{Sound}
-use Rattle.check_steps.specs.Checking.{CheckAnswer}
-use Rattle.check_steps.specs.Reading.{IsRead, most_bytes}
+use Rattle.mesh_check.specs.Checking.{CheckAnswer}
+use Rattle.mesh_check.specs.Reading.{IsRead, most_bytes}
 use Rattle.written_laws.specs.WrittenMesh.{written_mesh}
 use Rattle.written_laws.specs.Renamed.{AreNamesIn}
-use Rattle.reread_laws.specs.ReadBack.{IsReadable}
-use Rattle.reread_laws.specs.Reread.{IsShortNumber}
-use Rattle.reread_laws.specs.NodeRead.{IsLegiblePoint}
-use Rattle.reread_laws.specs.Checked.{AreThere}
-use Rattle.reread_laws.proofs.Listed.{listed_names}
-use Rattle.reread_laws.proofs.Checked.{checked_back}
+use Rattle.run_laws.specs.ReadBack.{IsReadable}
+use Rattle.run_laws.specs.Reread.{IsShortNumber}
+use Rattle.run_laws.specs.NodeRead.{IsLegiblePoint}
+use Rattle.run_laws.specs.Checked.{AreThere}
+use Rattle.run_laws.proofs.Listed.{listed_names}
+use Rattle.run_laws.proofs.Checked.{checked_back}
 use Rattle.command_words.specs.Meaning.{options_of}
 use Rattle.command_words.specs.declared.options.Options.{Options}
 use Rattle.run_steps.specs.Outputs.{AreOutputsOf, first_of, named}
@@ -39,7 +39,7 @@ use Rattle.run_laws.proofs.SoundRun.{sound_run}
 use Rattle.run_laws.specs.CheckedRun.{AreCheckable, CheckedRunLaw, CheckedAfterLaw}
 use Rattle.run_laws.proofs.Lengths.{ele_long, face_long}
 use Rattle.run_laws.proofs.Stored.{IsUnder, AreFiles, all_held, after, first_given, node_held, ele_held, face_held, neigh_held, neigh_kept}
-use Rattle.run_laws.proofs.Inputs.{HasInputNumbers, input_numbers}
+use Rattle.run_laws.proofs.ReadInputs.{HasInputNumbers, input_numbers}
 use Rattle.run_laws.proofs.Tables.{IsOfTable, of_table, short_markers}
 
 -- ---- the mesh can be read

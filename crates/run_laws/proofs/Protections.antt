@@ -8,7 +8,7 @@ use Rattle.sign_predicates.specs.Point.{Point, origin}
 use Rattle.geo_laws.specs.Delaunay.{point}
 use Rattle.geo_laws.specs.Segment.{Protected, GridEnd, BudgetEnd, protect, first_missing, with_midpoint, with_halves, midpoint}
 use Rattle.geo_laws.specs.declared.complex.Piece.{Piece}
-use Rattle.reread_laws.proofs.Grids.{IsWithin}
+use Rattle.run_laws.proofs.Grids.{IsWithin}
 use Rattle.segment_protect.proofs.Ends.{end_done, end_grid, end_budget, end_split}
 
 module _ (P : List Point → Type 0) (step : (ps : List Point) (p : Piece) → P ps → P (with_midpoint ps p)) (depth : ℕ) (qs : List Point) (rest : List Piece) where

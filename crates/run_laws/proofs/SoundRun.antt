@@ -8,7 +8,7 @@ use Rattle.mesh_files.specs.declared.markers.FaceRow.{FaceRow}
 use Rattle.mesh_check.specs.Defects.{IsVerdict}
 use Rattle.mesh_check.specs.declared.defect.Verdict.TheVariants.{Sound}
 use Rattle.written_laws.specs.WrittenMesh.{written_mesh}
-use Rattle.sound_mesh_laws.proofs.SoundMeshes.{sound_points, sound_complex}
+use Rattle.run_laws.proofs.SoundMeshes.{sound_points, sound_complex}
 use Rattle.run_steps.specs.Meshing.{MeshOf, PointsMeshOf}
 use Rattle.run_steps.specs.declared.mesh.Bound.{Bound}
 use Rattle.run_steps.specs.declared.meshed.Meshed.{Meshed}

@@ -19,8 +19,8 @@ use Rattle.node_files.specs.declared.table.NodeTable.{NodeTable}
 use Rattle.node_files.proofs.Folds.{folded_few, kept_at}
 use Rattle.complex_mesh.specs.Meshing.{IsComplexMesh}
 use Rattle.complex_mesh.specs.declared.mesh.ComplexMesh.{ComplexMesh}
-use Rattle.reread_laws.specs.Reread.{IsShortNumber}
-use Rattle.reread_laws.proofs.Grids.{IsWithin, settled_within}
+use Rattle.run_laws.specs.Reread.{IsShortNumber}
+use Rattle.run_laws.proofs.Grids.{IsWithin, settled_within}
 use Rattle.command_words.specs.declared.options.Options.{Options}
 use Rattle.run_steps.specs.Meshing.{BoundAnswer, MeshAnswer, MeshOf, PointsMeshOf, grid_options, mesh_options, mesh_of_points, mesh_of_complex}
 use Rattle.run_steps.specs.declared.input.Input.{Input}

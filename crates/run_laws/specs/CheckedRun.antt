@@ -8,8 +8,8 @@ use Rattle.grid_coords.specs.declared.grid.Grid.{Grid}
 use Rattle.command_words.specs.Grammar.{words_fault}
 use Rattle.command_words.specs.Meaning.{options_of}
 use Rattle.command_words.specs.declared.options.Options.{Options}
-use Rattle.check_steps.specs.Checking.{CheckAnswer}
-use Rattle.check_steps.specs.Reading.{most_bytes}
+use Rattle.mesh_check.specs.Checking.{CheckAnswer}
+use Rattle.mesh_check.specs.Reading.{most_bytes}
 use Rattle.tet_ports.specs.Seen.{FolderSeen, SinkSeen}
 use Rattle.run_steps.specs.Stores.{in_order, with_files}
 use Rattle.run_steps.specs.declared.meshed.Meshed.{Meshed}

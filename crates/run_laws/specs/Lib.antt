@@ -1,2 +1,16 @@
 pub mod SoundRun
 pub mod CheckedRun
+pub mod SoundMeshes
+pub mod Complete
+pub mod Valid
+pub mod ValidRun
+pub mod Runs
+pub mod Pyramid
+pub mod Nonplanar
+pub mod Numbers
+pub mod Reread
+pub mod NodeRead
+pub mod ReadBack
+pub mod Listed
+pub mod Checked
+pub mod Refined

@@ -1,9 +1,27 @@
-//! The mesh that a run leaves has no defect, and a later check of its files says so. Each law is
+//! Laws of whole runs: what they read, the meshes that they make, the files that they leave and a
+//! later check of these, the runs that end with Done, and worked runs, byte for byte. Each law is
 //! the contract of a function that does nothing.
 #![tactic(auto)]
 
 mod checked_runs;
-mod laws;
+mod complete_points;
+mod inputs;
+mod refined;
+mod reread;
+mod sound_meshes;
+mod sound_runs;
+mod valid_complexes;
+mod worked;
 
 pub use checked_runs::{law_checked_after, law_checked_run, law_few_decimals};
-pub use laws::{law_sound_left, law_sound_outputs, law_sound_run};
+pub use complete_points::law_points_complete;
+pub use inputs::{law_nodes_read, law_plc_read, law_surface_read};
+pub use refined::{law_refined_mesh, law_refined_same};
+pub use reread::{
+    law_checked_back, law_ele_read, law_face_read, law_listed, law_neigh_read, law_node_read,
+    law_read_back,
+};
+pub use sound_meshes::{law_sound_complex, law_sound_points};
+pub use sound_runs::{law_sound_left, law_sound_outputs, law_sound_run};
+pub use valid_complexes::{law_valid_complex, law_valid_run};
+pub use worked::{law_complex_pyramid, law_full_pyramid, law_nonplanar, law_pyramid};

@@ -41,10 +41,10 @@ use Rattle.run_steps.specs.declared.mesh.Bound.{Bound}
 use Rattle.run_steps.specs.declared.status.LimitKind.TheVariants.{Bytes as TooLong, Points, Facets, Corners, Grid as OnGrid}
 use Rattle.run_steps.specs.declared.status.Status.{Status}
 use Rattle.run_steps.specs.declared.status.Status.TheVariants.{Done, Usage, Missing, ReadFault, BadText, Limit, Flat, NoMemory}
-use Rattle.weighted_steps.proofs.Answering.{one_answer_law}
-use Rattle.weighted_steps.specs.declared.fault.RegularFault.{RegularFault}
-use Rattle.weighted_steps.specs.declared.fault.RegularFault.TheVariants as regular_faults
-use Rattle.weighted_steps.specs.declared.meshing.RegularMesh.{RegularMesh}
+use Rattle.weighted_mesh.proofs.Answering.{one_answer_law}
+use Rattle.weighted_mesh.specs.declared.regular_fault.RegularFault.{RegularFault}
+use Rattle.weighted_mesh.specs.declared.regular_fault.RegularFault.TheVariants as regular_faults
+use Rattle.weighted_mesh.specs.declared.of_table.RegularMesh.{RegularMesh}
 use Rattle.run_steps.proofs.Steps.{IsDecided, IsOnce, IsSame, gives_once, if_missing_once, and_then_once, and_then_same, and_then_sure}
 
 -- ---- the words

@@ -7,8 +7,8 @@ use Rattle.plc_files.specs.declared.fault.PlcFault.TheVariants as bind
 use Rattle.run_steps.specs.declared.status.LimitKind.TheVariants.{Facets, Corners, Weight}
 use Rattle.run_steps.specs.declared.status.Status.{Status}
 use Rattle.run_steps.specs.declared.status.Status.TheVariants.{Done, Usage, Missing, ReadFault, BadText, Limit, Flat, NotFlat, SegmentsCross, Crossing, GridEnd, BudgetEnd, NoFill, NoMemory, WriteFault, Unsound}
-use Rattle.weighted_steps.specs.declared.fault.RegularFault.{RegularFault}
-use Rattle.weighted_steps.specs.declared.fault.RegularFault.TheVariants as regular
+use Rattle.weighted_mesh.specs.declared.regular_fault.RegularFault.{RegularFault}
+use Rattle.weighted_mesh.specs.declared.regular_fault.RegularFault.TheVariants as regular
 
 abbrev pub code_of : Status → ℕ
 code_of Done = 0

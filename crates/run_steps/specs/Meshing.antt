@@ -34,9 +34,9 @@ use Rattle.run_steps.specs.declared.outputs.Outputs.{Outputs}
 use Rattle.run_steps.specs.declared.status.LimitKind.TheVariants.{Points, Facets, Corners, Grid as OnGrid}
 use Rattle.run_steps.specs.declared.status.Status.{Status}
 use Rattle.run_steps.specs.declared.status.Status.TheVariants.{Limit, Flat, NoMemory}
-use Rattle.weighted_steps.specs.Meshing.{RegularAnswer}
-use Rattle.weighted_steps.specs.declared.fault.RegularFault.{RegularFault}
-use Rattle.weighted_steps.specs.declared.meshing.RegularMesh.{RegularMesh}
+use Rattle.weighted_mesh.specs.Meshing.{RegularAnswer}
+use Rattle.weighted_mesh.specs.declared.regular_fault.RegularFault.{RegularFault}
+use Rattle.weighted_mesh.specs.declared.of_table.RegularMesh.{RegularMesh}
 
 -- ---- the grid
 

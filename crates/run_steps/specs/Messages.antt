@@ -1,10 +1,10 @@
 -- The line that each refusal is told in. Points are told by their numbers in the input, added ones behind them, and facets from 1.
 use Rattle.std.specs.Prelude.{ℕ, ◌+◌, List, [], ◌++◌, Option, Some, None, codes, min, max}
 use Rattle.std.specs.Fmt.{decimal}
-use Rattle.check_steps.specs.Messages.{file_message, line, text_message, usage_message}
-use Rattle.check_steps.specs.Telling.{defect_text}
-use Rattle.box_pairs.specs.declared.complex_parts.Part.{Part}
-use Rattle.box_pairs.specs.declared.complex_parts.Part.TheVariants.{Triangle, Segment}
+use Rattle.mesh_check.specs.Messages.{file_message, line, text_message, usage_message}
+use Rattle.mesh_check.specs.Telling.{defect_text}
+use Rattle.simplex_meets.specs.declared.complex_parts.Part.{Part}
+use Rattle.simplex_meets.specs.declared.complex_parts.Part.TheVariants.{Triangle, Segment}
 use Rattle.geo_laws.specs.declared.complex.FacetTriangle.{FacetTriangle}
 use Rattle.geo_laws.specs.declared.complex.Piece.{Piece}
 use Rattle.geo_laws.specs.declared.tetrahedra.Tet.{Tet}

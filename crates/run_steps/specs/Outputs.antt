@@ -10,7 +10,7 @@ use Rattle.mesh_files.specs.FaceRows.{AreFaceRowsOf, AreTrianglesMetByFaces, Are
 use Rattle.mesh_files.specs.Texts.{ele_text_of, face_text, edge_text, neigh_text, AreNamed}
 use Rattle.mesh_files.specs.declared.markers.FaceRow.{FaceRow}
 use Rattle.node_files.specs.Writing.{node_text, IsNodeTable}
-use Rattle.check_steps.specs.Messages.{file_message}
+use Rattle.mesh_check.specs.Messages.{file_message}
 use Rattle.run_steps.specs.Messages.{tetgen_name}
 use Rattle.run_steps.specs.declared.meshed.Meshed.{Meshed}
 use Rattle.run_steps.specs.declared.outputs.Outputs.{Outputs}

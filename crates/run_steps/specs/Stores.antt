@@ -1,7 +1,7 @@
 -- Texts that are stored one after the other.
 use Rattle.std.specs.Prelude.{◌≡◌, ℕ, List, [], ◌∷◌, ◌++◌, Option, Some, None, Contains, codes}
 use Rattle.tet_ports.specs.Files.{Files, PartlyStored, with_file}
-use Rattle.check_steps.specs.Messages.{file_message}
+use Rattle.mesh_check.specs.Messages.{file_message}
 use Rattle.run_steps.specs.Messages.{tetgen_name}
 use Rattle.run_steps.specs.declared.store.NamedText.{NamedText}
 use Rattle.run_steps.specs.declared.store.StoreStop.{StoreStop}

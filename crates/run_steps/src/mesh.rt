@@ -36,7 +36,7 @@ use plc_files::{PlcFault, PlcText, bind, check_sizes, fold};
 use std::alloc::Global;
 use std::mem;
 use tet_ports::{Name, NoMemory};
-use weighted_steps::{RegularFault, RegularMesh, regular_mesh};
+use weighted_mesh::{RegularFault, RegularMesh, regular_mesh};
 
 /// The points and the complex of an input on their grid.
 #[derive(Drop)]

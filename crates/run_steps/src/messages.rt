@@ -2,7 +2,7 @@
 
 ghost use Rattle.std.specs.Prelude.{◌≡◌, ◌∷◌, [], ◌++◌, ◌+◌, None, IfOk, OnOk, codes};
 ghost use Rattle.std.specs.Fmt.{decimal};
-ghost use Rattle.check_steps.specs.Messages.{line, file_message};
+ghost use Rattle.mesh_check.specs.Messages.{line, file_message};
 ghost use Rattle.run_steps.specs.Messages.{tetgen_name, point_text, ends_text, triangle_text, tetrahedron_text, two_tetrahedra_text, facet_text, part_text, at_most, limit_message, message_of};
 ghost use Rattle.tangle_laws.specs.declared.anomaly.Anomaly.TheVariants.{Bare};
 ghost use Rattle.run_steps.specs.declared.status.LimitKind.TheVariants.{Bytes as TooLong, MeshPoints, Corners};
@@ -10,10 +10,11 @@ ghost use Rattle.run_steps.specs.declared.status.Status.TheVariants.{NotFlat, Se
 
 use crate::numbering::{Numbering, number_of};
 use crate::status::{LimitKind, Status};
-use box_pairs::Part;
-use check_steps::{append_number, defect_text, file_message, line, text_message, usage_message};
 use geo_laws::{Face, FacetTriangle, Piece, Tet};
-use mesh_check::Defect;
+use mesh_check::{
+    Defect, append_number, defect_text, file_message, line, text_message, usage_message,
+};
+use simplex_meets::Part;
 use std::alloc::Global;
 use tangle_laws::Anomaly;
 use tet_ports::{Bytes, Name, NoMemory};

@@ -13,9 +13,9 @@ ghost use Rattle.run_steps.specs.Stores.{in_order, TellsFailure};
 use crate::meshed::{HulledMesh, Meshed};
 use crate::messages::NAME;
 use crate::store::{NamedText, Texts};
-use check_steps::{append_number, file_message};
 use command_words::{Options, with_extension};
 use incidence::{Uses, pair_uses, uses_of};
+use mesh_check::{append_number, file_message};
 use mesh_files::{
     Edges, FaceRows, Faces, edges_of, face_count, hull_rows, used_faces, write_all_faces,
     write_edge, write_ele, write_face, write_neigh,

@@ -1,9 +1,9 @@
 //! How a run ends.
 
-use box_pairs::Part;
 use complex_mesh::MeshFault;
 use geo_laws::{Piece, Tet};
 use mesh_check::Defect;
+use simplex_meets::Part;
 use tangle_laws::Anomaly;
 use tet_ports::{Name, NoMemory};
 use tet_text::TextFault;

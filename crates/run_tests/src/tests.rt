@@ -5,6 +5,7 @@ mod cloud_runs;
 mod complex_runs;
 mod equal_points_runs;
 mod fit_runs;
+mod found_words;
 mod harness;
 mod large_runs;
 mod located_point_runs;

@@ -14,11 +14,11 @@ use Rattle.path_laws.proofs.Rows.{place_of}
 use Rattle.complex_laws.proofs.MetFaces.{parts_met}
 use Rattle.complex_laws.proofs.Whole.{delaunay_whole}
 use Rattle.cavity_insert.specs.Living.{IsDelaunaySide}
-use Rattle.box_pairs.specs.declared.complex_parts.Compared.TheVariants.{Any}
-use Rattle.box_pairs.specs.declared.complex_parts.Part.{Part}
-use Rattle.box_pairs.specs.declared.complex_parts.Part.TheVariants.{Segment}
-use Rattle.box_pairs.specs.Parts.{IsPairMet}
-use Rattle.box_pairs.specs.Pairs.{IsMarked, AreMarkedMet}
+use Rattle.simplex_meets.specs.declared.complex_parts.Compared.TheVariants.{Any}
+use Rattle.simplex_meets.specs.declared.complex_parts.Part.{Part}
+use Rattle.simplex_meets.specs.declared.complex_parts.Part.TheVariants.{Segment}
+use Rattle.simplex_meets.specs.Parts.{IsPairMet}
+use Rattle.simplex_meets.specs.Pairs.{IsMarked, AreMarkedMet}
 use Rattle.segment_protect.specs.Crossing.{AreMet}
 use Rattle.segment_protect.specs.Watch.{pieces_of, IsSeenOrSide, seen_marks}
 use Rattle.segment_protect.specs.declared.watch.Watched.{Watched}

@@ -1,9 +1,9 @@
 //! The program `tetfit`: tetrahedral meshes of models as they are found.
 #![tactic(auto)]
 
-use program_start::start;
 use run_steps::Status;
 use std::process::ExitCode;
+use tet_ports::start;
 pub use tetfit_run::run_fit;
 
 fn main(rt: HostRuntime) -> ExitCode {

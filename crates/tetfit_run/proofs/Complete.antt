@@ -5,11 +5,11 @@ use Rattle.box_tree.proofs.Lists.{less_or_more}
 use Rattle.command_words.specs.Names.{file_name}
 use Rattle.command_words.specs.declared.options.Extension.TheVariants.{Stl}
 use Rattle.command_words.specs.declared.options.Options.{Options}
-use Rattle.fit_steps.specs.Models.{ModelAnswer, ModelBy, StlAnswer, names_stl, stl_text_of}
-use Rattle.fit_steps.specs.Trying.{IsFitted, at_decimals, is_of_grid}
-use Rattle.fit_words.specs.Words.{fit_fault, others, request_of}
-use Rattle.fit_words.specs.declared.request.Request.{Request}
-use Rattle.fit_words.specs.declared.request.Request.TheVariants.{Page, Version, Mesh}
+use Rattle.tetfit_run.specs.Models.{ModelAnswer, ModelBy, StlAnswer, names_stl, stl_text_of}
+use Rattle.tetfit_run.specs.Trying.{IsFitted, at_decimals, is_of_grid}
+use Rattle.tetfit_run.specs.Words.{fit_fault, others, request_of}
+use Rattle.tetfit_run.specs.declared.request.Request.{Request}
+use Rattle.tetfit_run.specs.declared.request.Request.TheVariants.{Page, Version, Mesh}
 use Rattle.run_steps.proofs.Once.{IsTold, bounded_once, fetch_once, input_once, meshed_same, nodes_once, text_once}
 use Rattle.run_steps.proofs.Steps.{IsDecided, IsOnce, IsSame, and_then_once, and_then_same, gives_once, status_of}
 use Rattle.run_steps.specs.Reading.{BoundedAnswer, FetchAnswer, NodesAnswer, TextAnswer, complex_file}

@@ -5,16 +5,16 @@ use Rattle.std.proofs.lemmas.List.Elements.{All-nil}
 use Rattle.command_words.specs.declared.fault.WordsFault.{WordsFault}
 use Rattle.command_words.specs.declared.fault.WordsFault.TheVariants.{Usage as Misunderstood, NoMemory as WordsWanting}
 use Rattle.command_words.specs.declared.options.Options.{Options}
-use Rattle.fit_steps.proofs.Models.{model_has, model_wider}
-use Rattle.fit_steps.specs.Hints.{IsHint, IsHintBy}
-use Rattle.fit_steps.specs.Models.{ModelAnswer}
-use Rattle.fit_steps.specs.Opening.{TellsOpening}
-use Rattle.fit_steps.specs.Trying.{IsFitted, IsNumbered, IsRefused, at_decimals}
-use Rattle.fit_steps.specs.declared.fitting.Refused.{Refused as Unfit}
+use Rattle.tetfit_run.proofs.Models.{model_has, model_wider}
+use Rattle.tetfit_run.specs.Hints.{IsHint, IsHintBy}
+use Rattle.tetfit_run.specs.Models.{ModelAnswer}
+use Rattle.tetfit_run.specs.Opening.{TellsOpening}
+use Rattle.tetfit_run.specs.Trying.{IsFitted, IsNumbered, IsRefused, at_decimals}
+use Rattle.tetfit_run.specs.declared.fitting.Refused.{Refused as Unfit}
 use Rattle.node_files.specs.declared.limits.Limits.{Limits}
-use Rattle.fit_words.specs.Words.{fit_fault, fit_options, others, request_of}
-use Rattle.fit_words.specs.declared.request.Request.{Request}
-use Rattle.fit_words.specs.declared.request.Request.TheVariants.{Page, Version, Mesh}
+use Rattle.tetfit_run.specs.Words.{fit_fault, fit_options, others, request_of}
+use Rattle.tetfit_run.specs.declared.request.Request.{Request}
+use Rattle.tetfit_run.specs.declared.request.Request.TheVariants.{Page, Version, Mesh}
 use Rattle.run_steps.proofs.Steps.{and_then_refuses, and_then_wider}
 use Rattle.tet_ports.proofs.Windows.{IsWithin}
 use Rattle.tet_ports.specs.Seen.{FolderSeen, SinkSeen}

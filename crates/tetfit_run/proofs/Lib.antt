@@ -1,3 +1,10 @@
 pub mod Complete
 pub mod Fitted
 pub mod Pieces
+pub mod Models
+mod Appends
+mod Firsts
+mod OffGrid
+mod Tries
+mod PartsBefore
+mod Openings

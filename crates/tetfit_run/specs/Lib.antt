@@ -1,3 +1,12 @@
 pub mod Messages
 pub mod Outputs
 pub mod Run
+pub mod Words
+pub mod Reasons
+pub mod Texts
+pub mod Grids
+pub mod Hints
+pub mod Models
+pub mod Opening
+pub mod Trial
+pub mod Trying

@@ -1,6 +1,6 @@
 -- The lines that each refusal is told in.
 use Rattle.std.specs.Prelude.{ℕ, Bool, true, false, List, [], ◌++◌, drop, codes, Option, if◌then◌else◌}
-use Rattle.fit_words.specs.Texts.{refused_line}
+use Rattle.tetfit_run.specs.Texts.{refused_line}
 use Rattle.run_steps.specs.Messages.{message_of}
 use Rattle.run_steps.specs.declared.numbering.Numbering.{Numbering}
 use Rattle.run_steps.specs.declared.status.LimitKind.{LimitKind}

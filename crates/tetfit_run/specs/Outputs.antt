@@ -3,13 +3,13 @@ use Rattle.std.specs.Prelude.{◌≡◌, ℕ, ◌-◌, nat_eq, Bool, true, false
 use Rattle.std.specs.Fmt.{decimal}
 use Rattle.std.specs.List.{ends_with}
 use Rattle.command_words.specs.declared.options.Options.{Options}
-use Rattle.fit_steps.specs.Models.{ModelAnswer}
-use Rattle.fit_steps.specs.Opening.{TellsOpening}
-use Rattle.fit_steps.specs.Trying.{IsFitted, at_decimals}
-use Rattle.fit_words.specs.Words.{fit_fault, fit_options, others, request_of}
-use Rattle.fit_words.specs.declared.page.TheConstants.{PAGE, VERSION}
-use Rattle.fit_words.specs.declared.request.Request.{Request}
-use Rattle.fit_words.specs.declared.request.Request.TheVariants.{Page, Version, Mesh}
+use Rattle.tetfit_run.specs.Models.{ModelAnswer}
+use Rattle.tetfit_run.specs.Opening.{TellsOpening}
+use Rattle.tetfit_run.specs.Trying.{IsFitted, at_decimals}
+use Rattle.tetfit_run.specs.Words.{fit_fault, fit_options, others, request_of}
+use Rattle.tetfit_run.specs.declared.page.TheConstants.{PAGE, VERSION}
+use Rattle.tetfit_run.specs.declared.request.Request.{Request}
+use Rattle.tetfit_run.specs.declared.request.Request.TheVariants.{Page, Version, Mesh}
 use Rattle.node_files.specs.declared.limits.Limits.{Limits}
 use Rattle.tet_ports.specs.Seen.{FolderSeen}
 use Rattle.run_steps.specs.Steps.{AndThen}

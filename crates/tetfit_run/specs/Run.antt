@@ -1,13 +1,13 @@
 -- What a run of the program answers, leaves and tells.
 use Rattle.std.specs.Prelude.{◌≡◌, ◌≢◌, ◌⊎◌, ℕ, IsTrue, false, List, [], Option, Some, None, Ok, Err}
 use Rattle.command_words.specs.declared.options.Options.{Options}
-use Rattle.fit_steps.specs.Hints.{IsHint, IsHintBy, size_line}
-use Rattle.fit_steps.specs.Models.{ModelAnswer}
-use Rattle.fit_steps.specs.Trying.{IsFitted, IsNumbered, at_decimals}
-use Rattle.fit_words.specs.Words.{asks_stages, fit_fault, fit_options, others, request_of}
-use Rattle.fit_words.specs.declared.page.TheConstants.{PAGE, VERSION}
-use Rattle.fit_words.specs.declared.request.Request.{Request}
-use Rattle.fit_words.specs.declared.request.Request.TheVariants.{Page, Version, Mesh}
+use Rattle.tetfit_run.specs.Hints.{IsHint, IsHintBy, size_line}
+use Rattle.tetfit_run.specs.Models.{ModelAnswer}
+use Rattle.tetfit_run.specs.Trying.{IsFitted, IsNumbered, at_decimals}
+use Rattle.tetfit_run.specs.Words.{asks_stages, fit_fault, fit_options, others, request_of}
+use Rattle.tetfit_run.specs.declared.page.TheConstants.{PAGE, VERSION}
+use Rattle.tetfit_run.specs.declared.request.Request.{Request}
+use Rattle.tetfit_run.specs.declared.request.Request.TheVariants.{Page, Version, Mesh}
 use Rattle.run_steps.specs.Meshing.{BoundAnswer}
 use Rattle.run_steps.specs.Numbering.{numbering_of}
 use Rattle.tet_ports.specs.Seen.{FolderSeen, SinkSeen}

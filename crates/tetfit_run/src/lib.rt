@@ -2,10 +2,29 @@
 //! streams.
 #![tactic(auto)]
 
+mod copies;
+mod facets;
+mod fitting;
+mod grids;
+mod hints;
+mod kinds;
 mod limits;
 mod messages;
+mod model;
+mod opening;
 mod outputs;
+mod page;
+mod places;
+mod reason;
+mod refined;
+mod request;
 mod run;
+mod sides;
 mod stages;
+mod told;
+mod trial;
+mod trying;
+mod wholes;
 
+pub use refined::refined_at;
 pub use run::run_fit;

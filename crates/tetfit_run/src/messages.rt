@@ -2,13 +2,14 @@
 
 ghost use Rattle.std.specs.Prelude.{◌≡◌, ◌++◌, IfOk, OnOk, drop};
 ghost use Rattle.tet_ports.specs.Seen.{IsMessagePut, sink_seen};
-ghost use Rattle.fit_words.specs.Words.{others};
+ghost use Rattle.tetfit_run.specs.Words.{others};
 ghost use Rattle.tetgen_run.specs.Ends.{IsTellable, IsToldAs};
 ghost use Rattle.tetfit_run.specs.Messages.{fit_message, has_hint, help_of, help_of_limit, hint_in};
 ghost use Rattle.tetfit_run.specs.Messages.{line_of, renamed_program};
 
-use check_steps::put_message;
-use fit_words::{other_words, refused_line};
+use crate::request::other_words;
+use crate::told::refused_line;
+use mesh_check::put_message;
 use run_steps::{LimitKind, Numbering, Status, message};
 use std::alloc::Global;
 use tet_ports::{Bytes, NoMemory, Sink, Words};

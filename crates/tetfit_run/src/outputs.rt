@@ -3,8 +3,8 @@
 ghost use Rattle.std.specs.Prelude.{◌≡◌, ◌≤◌, ◌-◌, ℕ, [], IfOk, IfErr, Ok, Err, Some, length, take};
 ghost use Rattle.command_words.specs.Meaning.{AreInRange};
 ghost use Rattle.command_words.specs.declared.fault.WordsFault.TheVariants.{Usage};
-ghost use Rattle.fit_steps.specs.Trying.{IsFitted};
-ghost use Rattle.fit_words.specs.Words.{IsPlainRequest, fit_fault, others, request_of};
+ghost use Rattle.tetfit_run.specs.Trying.{IsFitted};
+ghost use Rattle.tetfit_run.specs.Words.{IsPlainRequest, fit_fault, others, request_of};
 ghost use Rattle.run_steps.specs.Reading.{IsSound};
 ghost use Rattle.tet_ports.specs.Seen.{IsOnlyRead, folder_seen};
 ghost use Rattle.tetgen_run.specs.Ends.{StopsSo};
@@ -13,11 +13,16 @@ ghost use Rattle.tetfit_run.specs.Outputs.{IsMore, OutputsOfOptions, Says, fit_l
 ghost use Rattle.tetfit_run.specs.Outputs.{said, tells_none, with_decimals};
 ghost use Rattle.tetfit_run.specs.Run.{IsKnown, IsKnownOf, IsUnfitted};
 
+use crate::fitting::{Fitted, fit_input};
+use crate::hints::hint_of;
 use crate::limits::fit_limits;
-use check_steps::append_number;
+use crate::model::read_model;
+use crate::opening::opening_of;
+use crate::page::{PAGE, VERSION};
+use crate::request::{Request, other_words, read_options, request_of};
+use crate::trying::Unfitted;
 use command_words::{Options, WordsFault};
-use fit_steps::{Fitted, Unfitted, fit_input, hint_of, opening_of, read_model};
-use fit_words::{PAGE, Request, VERSION, other_words, read_options, request_of};
+use mesh_check::append_number;
 use run_steps::{Input, Outputs, Texts};
 use std::alloc::Global;
 use tet_ports::{Bytes, Folder, NoMemory, Words};

@@ -1,7 +1,7 @@
 //! The run of the program: from its words to the files of a mesh.
 
 ghost use Rattle.std.specs.Prelude.{◌≡◌, ◌≤◌, []};
-ghost use Rattle.fit_words.specs.Words.{others};
+ghost use Rattle.tetfit_run.specs.Words.{others};
 ghost use Rattle.tet_ports.specs.Seen.{folder_seen, sink_seen};
 ghost use Rattle.tetgen_run.specs.Ends.{EndsWith};
 ghost use Rattle.tetfit_run.specs.Outputs.{OutputsOfFit};

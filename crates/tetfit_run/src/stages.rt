@@ -3,7 +3,7 @@
 ghost use Rattle.std.specs.Prelude.{◌≡◌, ◌≤◌};
 ghost use Rattle.tetfit_run.specs.Run.{AreStages};
 
-use fit_words::asks_stages;
+use crate::request::asks_stages;
 use tet_ports::{Sink, Words};
 
 /// Says a stage, where the words ask for it; a failure there changes nothing.

@@ -2,9 +2,9 @@
 //! facets.
 #![tactic(auto)]
 
-use program_start::start;
 use run_steps::Status;
 use std::process::ExitCode;
+use tet_ports::start;
 pub use tetgen_run::run_tetgen;
 
 fn main(rt: HostRuntime) -> ExitCode {

@@ -1,10 +1,10 @@
 -- What a run that checks a mesh leaves, answers and tells, put together.
 use Rattle.std.proofs.Common.{◌≡◌, ℕ, Bool, true, false, List, Option, Some, None, Result, Ok, Err, refl, sym, subst, ap, ◌∙◌}
 use Rattle.std.specs.Prelude.{◌≢◌, IsTrue}
-use Rattle.check_steps.proofs.Once.{check_once, IsDecided, IsTold as IsToldTo}
-use Rattle.check_steps.specs.declared.fault.CheckFault.{CheckFault}
-use Rattle.check_steps.specs.declared.fault.CheckFault.TheVariants as check
-use Rattle.check_steps.specs.Telling.{sound_line}
+use Rattle.mesh_check.proofs.Once.{check_once, IsDecided, IsTold as IsToldTo}
+use Rattle.mesh_check.specs.declared.fault.CheckFault.{CheckFault}
+use Rattle.mesh_check.specs.declared.fault.CheckFault.TheVariants as check
+use Rattle.mesh_check.specs.Telling.{sound_line}
 use Rattle.command_words.specs.Grammar.{words_fault}
 use Rattle.command_words.specs.Meaning.{options_of}
 use Rattle.command_words.specs.declared.options.Options.{Options}

@@ -30,7 +30,7 @@ use Rattle.run_steps.specs.declared.mesh.Bound.{Bound}
 use Rattle.run_steps.specs.declared.meshed.Meshed.{Meshed}
 use Rattle.sign_predicates.specs.Point.{Point}
 use Rattle.tetgen_run.specs.Run.{IsDetermined}
-use Rattle.weighted_steps.specs.Meshing.{kept_weights}
+use Rattle.weighted_mesh.specs.Meshing.{kept_weights}
 
 -- ---- names ascend
 

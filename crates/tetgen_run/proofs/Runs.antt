@@ -53,10 +53,10 @@ use Rattle.run_steps.specs.declared.status.Status.{Status}
 use Rattle.run_steps.specs.declared.status.Status.TheVariants.{Done, Usage, Missing, ReadFault, BadText, Limit, Flat, NoMemory, WriteFault}
 use Rattle.tetgen_run.specs.declared.stop.Stop.{Stop}
 use Rattle.tetgen_run.specs.declared.stop.Stop.TheVariants.{Refused, Unwritten, Unsummed, NoMemory as Wanting}
-use Rattle.weighted_steps.specs.declared.fault.RegularFault.{RegularFault}
-use Rattle.weighted_steps.specs.declared.fault.RegularFault.TheVariants as regular
-use Rattle.weighted_steps.specs.Meshing.{kept_weights}
-use Rattle.weighted_steps.proofs.Answering.{regular_list_law}
+use Rattle.weighted_mesh.specs.declared.regular_fault.RegularFault.{RegularFault}
+use Rattle.weighted_mesh.specs.declared.regular_fault.RegularFault.TheVariants as regular
+use Rattle.weighted_mesh.specs.Meshing.{kept_weights}
+use Rattle.weighted_mesh.proofs.Answering.{regular_list_law}
 use Rattle.run_steps.proofs.Determined.{outputs_same}
 use Rattle.run_steps.proofs.Once.{run_same}
 use Rattle.run_steps.proofs.Refusals.{input_has}

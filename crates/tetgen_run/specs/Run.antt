@@ -1,8 +1,8 @@
 -- What a run of the program answers, stores and tells.
 use Rattle.std.specs.Prelude.{◌≡◌, ◌≢◌, ℕ, ◌+◌, ◌<◌, ◌^◌, ℤ, Bool, true, false, ◌&&◌, not, IsTrue, List, All, length, Option, Some, None, Result, Ok, Err, if◌then◌else◌}
-use Rattle.check_steps.specs.Checking.{CheckAnswer}
-use Rattle.check_steps.specs.Telling.{sound_line}
-use Rattle.check_steps.specs.declared.fault.CheckFault.{CheckFault}
+use Rattle.mesh_check.specs.Checking.{CheckAnswer}
+use Rattle.mesh_check.specs.Telling.{sound_line}
+use Rattle.mesh_check.specs.declared.fault.CheckFault.{CheckFault}
 use Rattle.command_words.specs.Grammar.{words_fault}
 use Rattle.command_words.specs.Meaning.{options_of}
 use Rattle.command_words.specs.declared.options.Options.{Options}
@@ -17,10 +17,10 @@ use Rattle.node_files.specs.Limits.{tetgen_limits}
 use Rattle.node_files.specs.declared.limits.Limits.{Limits}
 use Rattle.node_files.specs.declared.table.NodeTable.{NodeTable}
 use Rattle.path_laws.specs.Flood.{carving_of}
-use Rattle.point_weights.specs.Weights.{weights_of}
+use Rattle.weighted_mesh.specs.Weights.{weights_of}
 use Rattle.regular_laws.specs.Regular.{IsRegularList}
-use Rattle.weighted_steps.specs.Hidden.{hidden_count}
-use Rattle.weighted_steps.specs.Meshing.{kept_weights}
+use Rattle.weighted_mesh.specs.Hidden.{hidden_count}
+use Rattle.weighted_mesh.specs.Meshing.{kept_weights}
 use Rattle.tet_ports.specs.Counts.{Rose}
 use Rattle.tet_ports.specs.Files.{Files}
 use Rattle.run_steps.specs.Messages.{message_of}

@@ -1,6 +1,6 @@
 -- How a run ends before its message, by its steps.
 use Rattle.std.specs.Prelude.{◌≡◌, ℕ, Bool, true, false, List, Some, None, Result, Ok, Err}
-use Rattle.check_steps.specs.declared.fault.CheckFault.{CheckFault}
+use Rattle.mesh_check.specs.declared.fault.CheckFault.{CheckFault}
 use Rattle.command_words.specs.Grammar.{words_fault}
 use Rattle.command_words.specs.Meaning.{options_of}
 use Rattle.command_words.specs.declared.options.Options.{Options}

@@ -1,8 +1,8 @@
 -- Why a run stopped before its end, by the step in which it did.
 use Rattle.std.specs.Prelude.{None}
-use Rattle.check_steps.specs.Reading.{most_bytes}
-use Rattle.check_steps.specs.declared.fault.CheckFault.{CheckFault}
-use Rattle.check_steps.specs.declared.fault.CheckFault.TheVariants as check
+use Rattle.mesh_check.specs.Reading.{most_bytes}
+use Rattle.mesh_check.specs.declared.fault.CheckFault.{CheckFault}
+use Rattle.mesh_check.specs.declared.fault.CheckFault.TheVariants as check
 use Rattle.run_steps.specs.declared.status.LimitKind.TheVariants.{Bytes, MeshPoints, Grid}
 use Rattle.run_steps.specs.declared.status.Status.TheVariants.{Usage, Missing, ReadFault, BadText, Limit, Unsound}
 use Rattle.tetgen_run.specs.declared.stop.Stop.{Stop}

@@ -6,7 +6,7 @@ ghost use Rattle.tet_ports.specs.Seen.{IsMessagePut, folder_seen, sink_seen};
 ghost use Rattle.tetgen_run.specs.Ends.{FinishesSo, IsSummed, IsTellable, IsToldAs};
 
 use crate::stop::Stop;
-use check_steps::put_message;
+use mesh_check::put_message;
 use run_steps::{OUT_OF_MEMORY, Outputs, SUMMARY_FAILED, Status, message, store_all};
 use std::alloc::Global;
 use tet_ports::{Bytes, Folder, PutFault, Sink};

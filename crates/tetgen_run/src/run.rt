@@ -8,8 +8,8 @@ ghost use Rattle.tet_ports.specs.Seen.{folder_seen, sink_seen};
 
 use crate::ends::{finish, sum_up, tell};
 use crate::stop::Stop;
-use check_steps::{check_files, sound_line};
 use command_words::{Options, read_words};
+use mesh_check::{check_files, sound_line};
 use node_files::Limits;
 use run_steps::{Status, bind_input, mesh_outputs, numbering_of, read_input};
 use std::alloc::Global;

@@ -5,8 +5,8 @@ ghost use Rattle.tetgen_run.specs.Ends.{answer_of};
 ghost use Rattle.tetgen_run.specs.Stops.{stop_of_words, stop_of_check, stop_of_store};
 ghost use Rattle.tetgen_run.specs.declared.stop.Stop.TheVariants.{Refused};
 
-use check_steps::{CheckFault, MOST_BYTES};
 use command_words::WordsFault;
+use mesh_check::{CheckFault, MOST_BYTES};
 use run_steps::{LimitKind, NamedText, Numbering, Status, StoreStop};
 use tet_ports::NoMemory;
 

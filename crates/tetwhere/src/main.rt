@@ -1,8 +1,8 @@
 //! The program `tetwhere`: which tetrahedron of a mesh holds each point of a list.
 #![tactic(auto)]
 
-use program_start::start;
 use std::process::ExitCode;
+use tet_ports::start;
 use tetwhere_run::{WhereStatus, run_where};
 
 fn main(rt: HostRuntime) -> ExitCode {

@@ -3,10 +3,10 @@ use Rattle.std.proofs.Common.{◌≡◌, ◌≢◌, ◌∙◌, ℕ, List, Some, 
 use Rattle.tet_ports.specs.Files.{Files}
 use Rattle.tet_ports.specs.Seen.{FolderSeen}
 use Rattle.tet_ports.specs.Seen.{SinkSeen}
-use Rattle.check_steps.specs.declared.fault.CheckFault.{CheckFault}
-use Rattle.check_steps.proofs.Once.{IsDecided, IsTold}
-use Rattle.where_words.specs.Words.{bad_word}
-use Rattle.where_steps.proofs.Once.{locate_once}
+use Rattle.mesh_check.specs.declared.fault.CheckFault.{CheckFault}
+use Rattle.mesh_check.proofs.Once.{IsDecided, IsTold}
+use Rattle.tetwhere_run.specs.Words.{bad_word}
+use Rattle.tetwhere_run.proofs.Once.{locate_once}
 use Rattle.tetwhere_run.specs.Statuses.{status_of}
 use Rattle.tetwhere_run.specs.Run.{mesh_base_of, queries_of, FilesAnswer, HasCause, IsQueryAnswer, IsCompleteQuery, HasNoReadFault}
 use Rattle.tetwhere_run.specs.declared.status.WhereStatus.{WhereStatus}

@@ -2,10 +2,10 @@
 use Rattle.std.proofs.Common.{◌≡◌, inl, inr, ℕ, List, Some, Result, Ok, Err, refl, sym, subst}
 use Rattle.tet_ports.specs.Seen.{FolderSeen}
 use Rattle.tet_ports.specs.Seen.{SinkSeen, IsMessagePut}
-use Rattle.check_steps.specs.declared.fault.CheckFault.{CheckFault}
-use Rattle.check_steps.specs.declared.fault.CheckFault.TheVariants as faults
-use Rattle.where_words.specs.Words.{bad_word}
-use Rattle.where_steps.proofs.Numbered.{numbered}
+use Rattle.mesh_check.specs.declared.fault.CheckFault.{CheckFault}
+use Rattle.mesh_check.specs.declared.fault.CheckFault.TheVariants as faults
+use Rattle.tetwhere_run.specs.Words.{bad_word}
+use Rattle.tetwhere_run.proofs.Numbered.{numbered}
 use Rattle.tetwhere_run.specs.Messages.{query_message_of}
 use Rattle.tetwhere_run.specs.Stops.{stop_of, stop_with}
 use Rattle.tetwhere_run.specs.Run.{mesh_base_of, queries_of, FilesAnswer, IsAsBefore, IsQueryAnswer, IsFirstNumber, IsQueryTold, IsRefusal, QueryEndsSo, IsUnput, IsLinesPut, IsEarlyQuery, IsQueryToldAs}

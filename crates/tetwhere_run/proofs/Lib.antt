@@ -1,2 +1,4 @@
 pub mod Ends
 pub mod Complete
+pub mod Numbered
+pub mod Once

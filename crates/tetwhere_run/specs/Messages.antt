@@ -1,8 +1,8 @@
 -- The line that each refusal is told in.
 use Rattle.std.specs.Prelude.{ℕ, List, [], ◌++◌, codes}
 use Rattle.std.specs.Fmt.{decimal}
-use Rattle.check_steps.specs.Messages.{line, file_message, usage_message, text_message}
-use Rattle.check_steps.specs.Telling.{defect_text}
+use Rattle.mesh_check.specs.Messages.{line, file_message, usage_message, text_message}
+use Rattle.mesh_check.specs.Telling.{defect_text}
 use Rattle.tetwhere_run.specs.declared.status.WhereLimit.{WhereLimit}
 use Rattle.tetwhere_run.specs.declared.status.WhereLimit.TheVariants.{Bytes, Points, Grid}
 use Rattle.tetwhere_run.specs.declared.status.WhereStatus.{WhereStatus}

@@ -5,12 +5,12 @@ use Rattle.tet_ports.specs.Counts.{Rose}
 use Rattle.tet_ports.specs.Files.{Files}
 use Rattle.tet_ports.specs.Written.{PartlyPut, with_written}
 use Rattle.node_files.specs.declared.node_text.NodeText.{NodeText}
-use Rattle.check_steps.specs.Reading.{FileAnswer, nodes_in_text}
+use Rattle.mesh_check.specs.Reading.{FileAnswer, nodes_in_text}
 use Rattle.tet_ports.specs.Seen.{FolderSeen}
 use Rattle.tet_ports.specs.Seen.{SinkSeen, IsMessagePut}
-use Rattle.check_steps.specs.declared.fault.CheckFault.{CheckFault}
-use Rattle.where_words.specs.Words.{bad_word}
-use Rattle.where_steps.specs.Locating.{LocateAnswer}
+use Rattle.mesh_check.specs.declared.fault.CheckFault.{CheckFault}
+use Rattle.tetwhere_run.specs.Words.{bad_word}
+use Rattle.tetwhere_run.specs.Locating.{LocateAnswer}
 use Rattle.tetwhere_run.specs.Messages.{query_message_of}
 use Rattle.tetwhere_run.specs.Statuses.{status_of}
 use Rattle.tetwhere_run.specs.declared.status.WhereStatus.{WhereStatus}

@@ -1,7 +1,7 @@
 -- The answers of the program.
 use Rattle.std.specs.Prelude.{ℕ}
-use Rattle.check_steps.specs.declared.fault.CheckFault.{CheckFault}
-use Rattle.check_steps.specs.declared.fault.CheckFault.TheVariants as faults
+use Rattle.mesh_check.specs.declared.fault.CheckFault.{CheckFault}
+use Rattle.mesh_check.specs.declared.fault.CheckFault.TheVariants as faults
 use Rattle.tetwhere_run.specs.declared.status.WhereLimit.TheVariants.{Bytes, Points, Grid}
 use Rattle.tetwhere_run.specs.declared.status.WhereStatus.{WhereStatus}
 use Rattle.tetwhere_run.specs.declared.status.WhereStatus.TheVariants.{Done, Usage, Missing, ReadFault, BadText, Limit, Unsound, NoMemory, WriteFault}

@@ -1,7 +1,7 @@
 -- Why a run stopped before its end.
 use Rattle.std.specs.Prelude.{ℕ}
-use Rattle.check_steps.specs.declared.fault.CheckFault.{CheckFault}
-use Rattle.check_steps.specs.declared.fault.CheckFault.TheVariants as faults
+use Rattle.mesh_check.specs.declared.fault.CheckFault.{CheckFault}
+use Rattle.mesh_check.specs.declared.fault.CheckFault.TheVariants as faults
 use Rattle.tetwhere_run.specs.Statuses.{status_of}
 use Rattle.tetwhere_run.specs.declared.status.WhereStatus.{WhereStatus}
 use Rattle.tetwhere_run.specs.declared.stop.Stop.{Stop}

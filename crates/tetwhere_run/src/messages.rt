@@ -4,7 +4,7 @@ ghost use Rattle.std.specs.Prelude.{◌≡◌, IfOk};
 ghost use Rattle.tetwhere_run.specs.Messages.{query_limit_message, query_message_of};
 
 use crate::status::{WhereLimit, WhereStatus};
-use check_steps::{append_number, defect_text, file_message, line, text_message, usage_message};
+use mesh_check::{append_number, defect_text, file_message, line, text_message, usage_message};
 use std::alloc::Global;
 use tet_ports::{Bytes, NoMemory};
 

@@ -5,14 +5,14 @@ ghost use Rattle.tet_ports.specs.Seen.{folder_seen};
 ghost use Rattle.tet_ports.specs.Seen.{sink_seen};
 ghost use Rattle.tetwhere_run.specs.Run.{IsQueryAnswer, IsCompleteQuery, IsQueryTold, QueryEndsSo, IsLinesPut, IsQueryToldAs};
 
+use crate::answers::locate_files;
 use crate::messages::{OUT_OF_MEMORY, WRITE_FAILED, message};
 use crate::status::WhereStatus;
 use crate::stop::Stop;
-use check_steps::put_message;
+use crate::words::bad_word;
+use mesh_check::put_message;
 use std::alloc::Global;
 use tet_ports::{Bytes, Folder, PutFault, Sink, Words};
-use where_steps::locate_files;
-use where_words::bad_word;
 
 /// Reads the words, fetches the mesh and the queries that they name, and puts one line for each
 /// query to `out`, all at once: its number, and that of the first row whose closed tetrahedron

@@ -3,8 +3,7 @@
 ghost use Rattle.std.specs.Prelude.{◌≡◌};
 ghost use Rattle.tetwhere_run.specs.Statuses.{query_code_of, status_of};
 
-use check_steps::CheckFault;
-use mesh_check::Defect;
+use mesh_check::{CheckFault, Defect};
 use tet_ports::{Name, NoMemory};
 use tet_text::TextFault;
 

@@ -4,7 +4,7 @@ ghost use Rattle.std.specs.Prelude.{◌≡◌};
 ghost use Rattle.tetwhere_run.specs.Stops.{first_point_number, stop_of, stop_with};
 
 use crate::status::WhereStatus;
-use check_steps::CheckFault;
+use mesh_check::CheckFault;
 
 /// Why a run stopped before its end: its answer, and the number from which rows are numbered.
 #[derive(Debug, Drop)]

@@ -5,7 +5,6 @@ mod command_line;
 mod complexes;
 mod fields;
 mod folders;
-mod found_words;
 mod grids;
 mod point_lists;
 mod surfaces;

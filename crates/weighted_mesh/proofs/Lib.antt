@@ -1,2 +1,5 @@
 pub mod Above
 pub mod Rows
+pub mod ListedWeights
+pub mod Marking
+pub mod Answering

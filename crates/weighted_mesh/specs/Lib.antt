@@ -1,1 +1,5 @@
 pub mod Sites
+pub mod Weights
+pub mod Hidden
+pub mod Meshing
+pub mod Laws

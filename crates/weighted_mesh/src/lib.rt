@@ -1,7 +1,18 @@
 //! The regular list of weighted points, by inserting one point after another.
 #![tactic(auto)]
 
+mod hidden;
+mod kept;
+mod laws;
 mod meshing;
+mod of_table;
+mod reading;
+mod regular_fault;
 mod sites;
+mod units;
+mod weight_fault;
 
+pub use laws::{law_one_answer, law_regular_list};
 pub use meshing::regular;
+pub use of_table::{RegularMesh, regular_mesh};
+pub use regular_fault::RegularFault;

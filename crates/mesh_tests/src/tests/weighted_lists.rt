@@ -8,7 +8,7 @@ use node_files::{GridOptions, Limits, NodeTable, read_node, settle};
 use std::alloc::Global;
 use tet_ports::Bytes;
 use tet_text::{TextFault, TextKind};
-use weighted_steps::{RegularFault, RegularMesh, regular_mesh};
+use weighted_mesh::{RegularFault, RegularMesh, regular_mesh};
 
 /// The point list of a text, on its grid.
 fn table(alloc: Global, text: &[u8]) -> Option<NodeTable>

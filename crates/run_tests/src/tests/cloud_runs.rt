@@ -5,7 +5,7 @@ use crate::tests::harness::End::Told;
 use crate::tests::harness::Program::Tetgen;
 use crate::tests::harness::{Run, difference};
 use crate::tests::large_runs::add_point;
-use check_steps::append_number;
+use mesh_check::append_number;
 use std::alloc::Global;
 use std::test::Fail;
 use tet_ports::{Bytes, NoMemory};

@@ -4,7 +4,7 @@ use crate::tests::harness::End::{Done, Refused};
 use crate::tests::harness::Program::{Tetgen, Within};
 use crate::tests::harness::{End, Place};
 use crate::tests::test_inputs::PYRAMID;
-use check_steps::append_number;
+use mesh_check::append_number;
 use std::alloc::Global;
 use std::test::Fail;
 use tet_ports::{Bytes, Name, NoMemory};

@@ -1,12 +1,12 @@
 //! The mesh of a cube with points added in the middle of its long edges.
 
 use command_words::read_words;
-use fit_steps::refined_at;
 use node_files::Limits;
 use refining::{Aim, Bounds, LongEdges, aimed_outputs};
 use run_steps::{Outputs, Status, bind_input, read_input};
 use std::alloc::Global;
 use tet_ports::{Bytes, MemFolder, Name, NoMemory, Words};
+use tetfit_run::refined_at;
 
 /// A cube with sides of 8 units, which the grid halves twelve times.
 const CUBE: &[u8] = b"\

@@ -1,11 +1,10 @@
 ghost use Rattle.std.specs.Prelude.{All, IsTrue, length};
 ghost use Rattle.simplex_meets.specs.Proper.{IsTriangle, IsSegment, triangle_face};
-ghost use Rattle.box_pairs.specs.Parts.{piece_side};
+ghost use Rattle.simplex_meets.specs.Parts.{piece_side};
 
 use crate::tests::simplex_places::places;
-use box_pairs::{Part, PlaneFault, crossings};
 use geo_laws::{Face, FacetTriangle, FacetTriangles, Piece, Pieces, Points, Side};
-use simplex_meets::{is_segment, is_triangle};
+use simplex_meets::{Part, PlaneFault, crossings, is_segment, is_triangle};
 use std::alloc::Global;
 use tet_ports::NoMemory;
 

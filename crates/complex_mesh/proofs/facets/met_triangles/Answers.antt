@@ -6,7 +6,7 @@ use Rattle.simplex_meets.specs.Proper.{IsTriangle, triangle_face}
 use Rattle.complex_mesh.proofs.Causes.{plane_cause}
 use Rattle.complex_mesh.proofs.Triangles.{triangles_span}
 use Rattle.complex_mesh.proofs.Protected.{are_segments}
-use Rattle.box_pairs.specs.Crossing.{AreKnownMet, AreFlatMet}
+use Rattle.simplex_meets.specs.Crossing.{AreKnownMet, AreFlatMet}
 use Rattle.facet_recover.specs.Missing.{AreListed}
 use Rattle.complex_mesh.proofs.Listed.{listed_known}
 use Rattle.complex_mesh.proofs.InPlane.{met_in_plane}

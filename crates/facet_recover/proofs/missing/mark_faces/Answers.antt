@@ -1,6 +1,6 @@
 use Rattle.std.proofs.Common.{inl, inr}
 use Rattle.geo_laws.specs.Faces.{face_of}
-use Rattle.face_table.specs.Chains.{face_at}
+use Rattle.incidence.specs.Chains.{face_at}
 use Rattle.facet_recover.proofs.Listed.{marked_four, told_of}
 use Rattle.facet_recover.proofs.missing.mark_faces.Goals as goal
 

@@ -1,5 +1,5 @@
 use Rattle.std.proofs.Common.{◌≡◌, ℕ, List, length, ap, sym, subst, arith}
-use Rattle.merge_laws.specs.Merged.{IsMerging}
+use Rattle.merged_facets.specs.Merged.{IsMerging}
 use Rattle.merged_facets.specs.Labels.{AreLabels, IsIdentity}
 use Rattle.merged_facets.specs.Merging.{HasFound, group_of, is_inner}
 use Rattle.merged_facets.specs.declared.merging.InnerSide.{InnerSide}

@@ -1,7 +1,7 @@
 use Rattle.std.proofs.Common.{ap, sym, ◌∙◌, refl}
 use Rattle.geo_laws.specs.Complex.{corner_lists}
 use Rattle.std.specs.Prelude.{slice_range}
-use Rattle.merge_laws.specs.Merged.{only_polygon}
+use Rattle.merged_facets.specs.Merged.{only_polygon}
 use Rattle.merged_facets.proofs.OnlyPolygons.{facet_is, none_of_count, none_of_holes, none_of_few, one, one_polygon, run_length, flat, not_empty}
 use Rattle.merged_facets.proofs.polygon.only_polygon.Goals as goal
 use Rattle.merged_facets.proofs.polygon.only_polygon.Goals.{then-parts-eq1+then-is_empty+else-corners-gt2, else-parts-eq1, else-parts-eq1-via-then-parts-eq1+else-is_empty, else-parts-eq1-via-else-parts-eq1}

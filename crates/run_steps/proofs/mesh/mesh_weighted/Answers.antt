@@ -1,7 +1,7 @@
 use Rattle.std.proofs.Common.{Some, inl, inr, sym, subst}
 use Rattle.run_steps.proofs.Meshables.{rows_writable}
 use Rattle.run_steps.specs.Outputs.{IsWritable}
-use Rattle.weighted_steps.specs.declared.fault.RegularFault.TheVariants as regular
+use Rattle.weighted_mesh.specs.declared.regular_fault.RegularFault.TheVariants as regular
 use Rattle.run_steps.proofs.mesh.mesh_weighted.Goals as goal
 
 pub returns-in_ok-mesh_on-in-Ok-clause-writable : goal.returns-in_ok-mesh_on-in-Ok-clause-writable

@@ -1,10 +1,10 @@
 use Rattle.std.proofs.Common.{List, map, sym, subst, ◌∙◌}
 use Rattle.std.specs.Prelude.{All}
-use Rattle.box_pairs.specs.declared.complex_parts.Compared.TheVariants.{Any}
-use Rattle.box_pairs.specs.declared.complex_parts.Part.{Part}
-use Rattle.box_pairs.specs.declared.complex_parts.Part.TheVariants.{Segment}
-use Rattle.box_pairs.specs.Parts.{IsPart}
-use Rattle.box_pairs.proofs.Lists.{none_found, some_found}
+use Rattle.simplex_meets.specs.declared.complex_parts.Compared.TheVariants.{Any}
+use Rattle.simplex_meets.specs.declared.complex_parts.Part.{Part}
+use Rattle.simplex_meets.specs.declared.complex_parts.Part.TheVariants.{Segment}
+use Rattle.simplex_meets.specs.Parts.{IsPart}
+use Rattle.simplex_meets.proofs.Lists.{none_found, some_found}
 use Rattle.segment_protect.proofs.Crossings.{are_parts, all_met, first_of, only_pieces}
 use Rattle.segment_protect.proofs.MetSides.{known_sides}
 use Rattle.segment_protect.proofs.crossing.first_crossing_beside.Goals as goal

@@ -1,7 +1,7 @@
 use Rattle.std.proofs.Common.{◌≡◌, Ok, sym, subst, ◌∙◌}
 use Rattle.std.specs.Prelude.{IfOk, IfErr}
-use Rattle.fit_words.specs.Words.{others, request_of}
-use Rattle.fit_words.specs.declared.request.Request.TheVariants.{Mesh}
+use Rattle.tetfit_run.specs.Words.{others, request_of}
+use Rattle.tetfit_run.specs.declared.request.Request.TheVariants.{Mesh}
 use Rattle.tet_ports.specs.Seen.{FolderSeen, folder_seen}
 use Rattle.tetgen_run.specs.Ends.{StopsSo}
 use Rattle.tetfit_run.specs.Outputs.{MadeBy, OutputsOfModel, OutputsOfOptions}

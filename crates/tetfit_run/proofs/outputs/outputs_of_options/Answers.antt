@@ -1,6 +1,6 @@
 use Rattle.std.proofs.Common.{Ok, Err, subst}
 use Rattle.std.proofs.lemmas.Result.{err_from_is_err_and}
-use Rattle.fit_steps.specs.Models.{ModelAnswer}
+use Rattle.tetfit_run.specs.Models.{ModelAnswer}
 use Rattle.tet_ports.specs.Seen.{FolderSeen, folder_seen}
 use Rattle.tetgen_run.specs.Ends.{StopsSo}
 use Rattle.tetfit_run.specs.Outputs.{OutputsOfOptions}

@@ -1,5 +1,5 @@
 use Rattle.std.proofs.Common.{Ok, refl, arith}
-use Rattle.fit_words.specs.Words.{others}
+use Rattle.tetfit_run.specs.Words.{others}
 use Rattle.tet_ports.proofs.Windows.{IsWithin}
 use Rattle.tet_ports.specs.Seen.{FolderSeen, SinkSeen, folder_seen, sink_seen}
 use Rattle.tetgen_run.proofs.Endings.{finish_ends}

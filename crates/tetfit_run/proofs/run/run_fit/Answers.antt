@@ -1,5 +1,5 @@
 use Rattle.std.proofs.Common.{Ok, subst}
-use Rattle.fit_words.specs.Words.{others, request_of}
+use Rattle.tetfit_run.specs.Words.{others, request_of}
 use Rattle.tet_ports.specs.Seen.{FolderSeen, SinkSeen, folder_seen, sink_seen}
 use Rattle.run_steps.specs.declared.status.Status.TheVariants.{Done}
 use Rattle.tetgen_run.proofs.Endings.{end_answers, end_leaves, stop_answers, stop_leaves, stop_tells}

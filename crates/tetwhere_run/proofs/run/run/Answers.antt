@@ -3,7 +3,7 @@ use Rattle.std.specs.List.{slice_index_or}
 use Rattle.std.proofs.lemmas.Result.{err_from_is_err_and}
 use Rattle.tet_ports.specs.Seen.{FolderSeen, folder_seen}
 use Rattle.tet_ports.specs.Seen.{SinkSeen, sink_seen}
-use Rattle.where_steps.specs.Locating.{LocateAnswer}
+use Rattle.tetwhere_run.specs.Locating.{LocateAnswer}
 use Rattle.tetwhere_run.proofs.Ends.{refused_end, put_end}
 use Rattle.tetwhere_run.proofs.run.run.Goals as goal
 

@@ -1,7 +1,7 @@
 use Rattle.std.proofs.Common.{ℕ, ◌<◌, get_or}
 use Rattle.geo_laws.specs.declared.complex.Piece.{Piece}
 use Rattle.simplex_meets.specs.Proper.{IsSegment}
-use Rattle.box_pairs.specs.Parts.{piece_side}
+use Rattle.simplex_meets.specs.Parts.{piece_side}
 use Rattle.sign_tests.proofs.tests.complex_parts.are_segments.Given as goal
 
 abbrev pub invariant-loop-i : goal.invariant-loop-i

@@ -1,6 +1,6 @@
 use Rattle.geo_laws.specs.declared.complex.FacetTriangle.{FacetTriangle}
 use Rattle.simplex_meets.specs.Proper.{IsTriangle, triangle_face}
-use Rattle.box_pairs.proofs.Lists.{all_more}
+use Rattle.simplex_meets.proofs.Lists.{all_more}
 use Rattle.sign_tests.proofs.tests.complex_parts.are_triangles.Goals as goal
 
 pub loop-i-preserved : goal.loop-i-preserved

@@ -1,3 +1,0 @@
-pub mod Divisors
-pub mod NewPoints
-pub mod Meshables

@@ -1,2 +1,0 @@
-pub mod Addable
-pub mod Laws

@@ -1,9 +1,0 @@
-//! The law of points that are put behind those of a complex. It is the contract of a function that
-//! does nothing.
-ghost use Rattle.added_points.specs.Laws.{MeshableLaw};
-
-/// A complex stays meshable when points are put behind its own, with as many halvings as their
-/// coordinates allow.
-pub fn law_meshable()
-    ensures { MeshableLaw }
-{}

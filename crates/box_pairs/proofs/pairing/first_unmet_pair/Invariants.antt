@@ -1,7 +1,0 @@
-use Rattle.std.proofs.Common.{ℕ, ◌<◌, length}
-use Rattle.box_pairs.specs.Pairs.{AreMetAt}
-use Rattle.box_pairs.proofs.pairing.first_unmet_pair.Given as goal
-
--- the parts so far are properly met with all later ones
-abbrev pub invariant-loop-i : goal.invariant-loop-i
-invariant-loop-i l = (k j : ℕ) → k < l.i → k < j → j < length l.parts → AreMetAt l.compared l.points l.parts k j

@@ -1,3 +1,0 @@
-pub mod Windows
-pub mod CornersOn
-pub mod Once

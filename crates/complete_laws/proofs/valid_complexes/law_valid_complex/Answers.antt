@@ -1,5 +1,0 @@
-use Rattle.complete_laws.proofs.Valid.{valid_complex}
-use Rattle.complete_laws.proofs.valid_complexes.law_valid_complex.Goals as goal
-
-pub returns : goal.returns
-returns c = valid_complex

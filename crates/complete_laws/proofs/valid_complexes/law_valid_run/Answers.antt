@@ -1,5 +1,0 @@
-use Rattle.complete_laws.proofs.ValidRun.{valid_run}
-use Rattle.complete_laws.proofs.valid_complexes.law_valid_run.Goals as goal
-
-pub returns : goal.returns
-returns c = valid_run

@@ -1,6 +1,0 @@
-use Rattle.std.proofs.Common.{arith}
-use Rattle.complex_folding.proofs.Folded.{to_all}
-use Rattle.complex_folding.proofs.folding.folded_facets.Goals as goal
-
-pub returns : goal.returns
-returns c = to_all c.args.folded.now c.args.complex.now c.loop-i.i c.loop-i.made (omega (arith, c.loop-i-test.false, c.facet_count-i-end.ensures.count)) c.loop-i.invariant

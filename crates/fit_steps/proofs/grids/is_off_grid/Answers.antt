@@ -1,6 +1,0 @@
-use Rattle.std.proofs.Common.{sym, ◌∙◌}
-use Rattle.fit_steps.proofs.OffGrid.{off_rounded}
-use Rattle.fit_steps.proofs.grids.is_off_grid.Goals as goal
-
-pub returns : goal.returns
-returns c = λ t. off_rounded c.args.wide c.args.decimals c.rounded_decimals-finest.result c.args.points.now c.rounded_decimals-finest.ensures (sym c.has_over.ensures ∙ t)

@@ -1,5 +1,0 @@
-use Rattle.fit_steps.proofs.OffGrid.{over_test}
-use Rattle.fit_steps.proofs.grids.is_over.Goals as goal
-
-pub returns : goal.returns
-returns c = over_test _ _ c.size_of.result c.is_none.result c.size_of.ensures c.is_none.ensures

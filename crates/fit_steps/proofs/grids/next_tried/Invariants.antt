@@ -1,9 +1,0 @@
-use Rattle.std.proofs.Common.{◌<◌}
-use Rattle.fit_steps.specs.Grids.{AreOffBetween}
-use Rattle.fit_steps.proofs.grids.next_tried.Given as goal
-
-abbrev pub invariant-loop-next : goal.invariant-loop-next
-invariant-loop-next l = record { less : l.next < l.decimals; off : AreOffBetween l.wide l.points l.next l.decimals }
-
-abbrev pub decreases-loop-next : goal.decreases-loop-next
-decreases-loop-next l = l.next

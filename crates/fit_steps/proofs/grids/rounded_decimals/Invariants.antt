@@ -1,7 +1,0 @@
-use Rattle.std.proofs.Common.{◌≤◌, map}
-use Rattle.grid_coords.specs.Choice.{most_decimals}
-use Rattle.node_files.specs.Settling.{rounded_point}
-use Rattle.fit_steps.proofs.grids.rounded_decimals.Given as goal
-
-abbrev pub invariant-loop-p : goal.invariant-loop-p
-invariant-loop-p l = l.most ≤ most_decimals (map (rounded_point l.decimals) l.points)

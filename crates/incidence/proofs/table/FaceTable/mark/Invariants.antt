@@ -1,0 +1,13 @@
+use Rattle.std.proofs.Common.{◌≡◌, ◌-◌, ◌<◌, ◌≤◌, length}
+use Rattle.incidence.specs.Chains.{face_at, chain_of, AreMarkedTo}
+use Rattle.incidence.proofs.table.FaceTable.mark.Given as goal
+
+abbrev pub invariant-loop-at : goal.invariant-loop-at
+invariant-loop-at l = record {
+  within : l.at ≤ length l.self;
+  like : l.at < length l.self → chain_of (face_at l.self l.at) ≡ chain_of l.face;
+  marked : AreMarkedTo l.self l.face l.at l.initial.marks l.marks;
+}
+
+abbrev pub decreases-loop-at : goal.decreases-loop-at
+decreases-loop-at l = length l.self - l.at

@@ -1,0 +1,30 @@
+//! The points at which faces begin.
+ghost use Rattle.std.specs.Prelude.{◌<◌, ℕ, length, IfOk};
+ghost use Rattle.incidence.specs.Chains.{face_at, AreBegun};
+
+use geo_laws::Face;
+use std::alloc::Global;
+use tet_ports::NoMemory;
+
+/// One more than the greatest first corner.
+fn corner_count(faces: &[Face]) -> usize
+    ensures { (k : ℕ) → k < length faces.now → (face_at faces.now k).a < result }
+{
+    let mut count = 0;
+    for at in 0..faces.len() {
+        count = count.max(faces[at].a as usize + 1);
+    }
+    count
+}
+
+/// Whether a face begins at a point, up to the last one at which one does.
+pub(crate) fn beginnings_of(alloc: Global, faces: &[Face]) -> Result<Vec<bool>, NoMemory>
+    ensures { IfOk result (λ begins. AreBegun faces.now begins.items) }
+{
+    let mut begins = Vec::new(alloc);
+    begins.resize(corner_count(faces), false)?;
+    for at in 0..faces.len() {
+        begins[faces[at].a as usize] = true;
+    }
+    Ok(begins)
+}

@@ -1,6 +1,0 @@
-pub mod Groups
-pub mod Members
-pub mod Inner
-pub mod Planes
-pub mod Once
-pub mod Markers

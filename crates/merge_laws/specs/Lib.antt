@@ -1,4 +1,0 @@
-pub mod Merged
-pub mod Groups
-pub mod Facets
-pub mod Markers

@@ -1,9 +1,0 @@
-//! The law of the mesh with no point behind those of a complex. It is the contract of a function
-//! that does nothing.
-ghost use Rattle.refined_mesh.specs.Refined.{PlainLaw};
-
-/// With no point behind its own and as many halvings as the grid allows, the mesh of a complex is
-/// the one of a run.
-pub fn law_plain()
-    ensures { PlainLaw }
-{}

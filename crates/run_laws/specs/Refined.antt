@@ -1,0 +1,45 @@
+-- What the files of a refined mesh spell.
+use Rattle.std.specs.Prelude.{◌≡◌, ◌+◌, ℕ, true, List, ◌++◌, length, take, Ok, Result}
+use Rattle.sign_predicates.specs.Point.{Point}
+use Rattle.command_words.specs.declared.options.Options.{Options}
+use Rattle.geo_laws.specs.Mesh.{IsMesh}
+use Rattle.node_files.specs.declared.limits.Limits.{Limits}
+use Rattle.path_laws.specs.Flood.{carving_of}
+use Rattle.refining.specs.Refined.{MeshAnswerWith}
+use Rattle.refining.specs.Outputs.{RefinedMeshed}
+use Rattle.run_steps.proofs.Steps.{IsSame}
+use Rattle.run_steps.specs.Meshing.{BoundAnswer, MeshAnswer}
+use Rattle.run_steps.specs.Outputs.{AreOutputsOf}
+use Rattle.run_steps.specs.declared.input.Input.{Input}
+use Rattle.run_steps.specs.declared.mesh.Bound.{Bound}
+use Rattle.run_steps.specs.declared.meshed.Meshed.{Meshed}
+use Rattle.run_steps.specs.declared.outputs.Outputs.{Outputs}
+use Rattle.tetgen_run.specs.Run.{IsDetermined}
+
+-- The outputs are those of one mesh of an input that is read so, where the words are understood so: of its complex with more points behind
+-- its own. All that `IsMeshBy` says of the mesh of a complex is so of this one, with those points; and the complex has a mesh without them
+pub record IsRefinedMeshBy (limits : Limits) (options : Options) (Understood : Type 0) (Read : Input → Type 0)
+    (outputs : Outputs) : Type 0 where
+  pub understood : Understood
+  pub input : Input
+  pub read : Read input
+  pub bound : Bound
+  pub on_grid : BoundAnswer limits options input (Ok bound)
+  pub plain : Meshed
+  pub plain_made : MeshAnswer options bound (Ok plain)
+  pub more : List Point
+  pub halvings : ℕ
+  pub mesh : Meshed
+  pub made : MeshAnswerWith more halvings options bound mesh
+  pub whole : IsMesh (carving_of options.keep_hull) mesh.points mesh.triangles mesh.complex.holes mesh.tetrahedra
+  pub outputs_are : AreOutputsOf options mesh outputs
+  pub only : (other : Outputs) → AreOutputsOf options mesh other → other ≡ outputs
+  pub determined : IsDetermined options mesh
+
+abbrev pub RefinedMeshLaw : Type 0
+RefinedMeshLaw =
+    (limits : Limits) (options : Options) (input : Input) (outputs : Outputs) → RefinedMeshed limits options input (Ok outputs)
+    → IsRefinedMeshBy limits options (Unit {0}) (λ other. other ≡ input) outputs
+
+abbrev pub RefinedSameLaw : Type 0
+RefinedSameLaw = (limits : Limits) (options : Options) (input : Input) → IsSame (RefinedMeshed limits options input)

@@ -1,0 +1,70 @@
+//! Words of the program for models as they are found that ask for no mesh, or are not understood.
+
+use crate::tests::harness::End::{Refused, Told};
+use crate::tests::harness::Program::Tetfit;
+use crate::tests::harness::{Run, other_run};
+use std::test::Fail;
+
+static TOLD: [Run<'static>; 7] = [
+    Run {
+        name: "the version",
+        held: &[],
+        words: &[b"--version"],
+        end: Told(b"tetfit 1.0\n"),
+        files: &[],
+    },
+    Run {
+        name: "a letter of tetgen's manual",
+        held: &[],
+        words: &[b"-pq1.4", b"x"],
+        end: Refused(1, b"tetfit: -pq1.4: q: quality meshes are not there\n"),
+        files: &[],
+    },
+    Run {
+        name: "weights",
+        held: &[],
+        words: &[b"x.node", b"-nw"],
+        end: Refused(
+            1,
+            b"tetfit: -nw: w: points with weights are meshed by tetgen -w\n",
+        ),
+        files: &[],
+    },
+    Run {
+        name: "a number of decimals",
+        held: &[],
+        words: &[b"--decimals=3", b"x"],
+        end: Refused(
+            1,
+            b"tetfit: --decimals=3: decimals are found here; tetgen takes their number\n",
+        ),
+        files: &[],
+    },
+    Run {
+        name: "no name",
+        held: &[],
+        words: &[b"-p"],
+        end: Refused(1, b"tetfit: the name of a file is wanted\n"),
+        files: &[],
+    },
+    Run {
+        name: "no number",
+        held: &[],
+        words: &[b"-S", b"x"],
+        end: Refused(1, b"tetfit: -S: a number within its limit is wanted\n"),
+        files: &[],
+    },
+    Run {
+        name: "a letter that is not known",
+        held: &[],
+        words: &[b"-b", b"x"],
+        end: Refused(1, b"tetfit: -b: b: a letter that is not known\n"),
+        files: &[],
+    },
+];
+
+#[test]
+fn words_of_models(rt: HostRuntime) -> Result<(), Fail> {
+    assert_eq!(rt; other_run(rt.alloc(), Tetfit, &TOLD)?, None);
+    Ok(())
+}

@@ -1,0 +1,75 @@
+-- What is read of a model, in a wider view, and by which statuses it is refused.
+use Rattle.std.proofs.Common.{◌≡◌, ℕ, Bool, true, false, List, Result, Err, sym, subst, ◌∙◌}
+use Rattle.command_words.specs.Names.{file_name}
+use Rattle.command_words.specs.declared.options.Extension.TheVariants.{Stl}
+use Rattle.command_words.specs.declared.options.Options.{Options}
+use Rattle.node_files.specs.declared.limits.Limits.{Limits}
+use Rattle.run_steps.specs.Reading.{complex_file, FetchAnswer, IsRead, TextAnswer, NodesAnswer, BoundedAnswer}
+use Rattle.tet_ports.specs.Seen.{FolderSeen}
+use Rattle.run_steps.specs.Steps.{AndThen, Gives}
+use Rattle.run_steps.specs.declared.input.ComplexFile.{ComplexFile}
+use Rattle.run_steps.specs.declared.input.Input.{Input}
+use Rattle.run_steps.specs.declared.status.LimitKind.{LimitKind}
+use Rattle.run_steps.specs.declared.status.Status.{Status}
+use Rattle.run_steps.specs.declared.status.Status.TheVariants.{Missing, ReadFault, BadText, Limit, NoMemory}
+use Rattle.run_steps.proofs.Refusals.{want_has, fetch_has, text_has, nodes_have, bounded_has, input_has}
+use Rattle.run_steps.proofs.Steps.{and_then_ok, and_then_refuses, and_then_wider}
+use Rattle.tet_ports.proofs.Windows.{IsWithin}
+use Rattle.run_steps.proofs.Wider.{fetch_wider, bounded_wider, input_wider}
+use Rattle.tet_text.specs.declared.fault.TextFault.{TextFault}
+use Rattle.tetfit_run.specs.Models.{stl_text_of, names_stl, StlAnswer, StlInputAnswer, ModelBy, ModelAnswer}
+
+-- the options name an `.stl` file, and this is read of it
+pub stl_model : (limits : Limits) (seen : FolderSeen) (options : Options) (r : Result Input Status) → names_stl options ≡ true → StlInputAnswer limits seen options.base r → ModelAnswer limits seen options r
+stl_model limits seen options r named = subst (λ b. ModelBy b limits seen options r) (sym named)
+
+-- what the bytes of a file spell that is fetched by its name
+pub stl_fetched : (limits : Limits) (seen : FolderSeen) (base asked name bytes : List ℕ) (r : Result ComplexFile Status) → asked ≡ file_name base Stl → name ≡ asked → IsRead limits seen.files_before asked bytes
+    → AndThen (TextAnswer name (stl_text_of bytes)) (λ text. Gives (complex_file name text)) r → StlAnswer limits seen base r
+stl_fetched limits seen base asked name bytes r a n read spelled =
+    let wanted = file_name base Stl in
+    and_then_ok (FetchAnswer limits seen wanted) (λ bytes. AndThen (TextAnswer wanted (stl_text_of bytes)) (λ text. Gives (complex_file wanted text))) bytes r
+    (subst (λ x. IsRead limits seen.files_before x bytes) a read) (subst (λ x. AndThen (TextAnswer x (stl_text_of bytes)) (λ text. Gives (complex_file x text)) r) (n ∙ a) spelled)
+
+-- what is read over a part of a run is read over all of it
+module _ (limits : Limits) (part wide : FolderSeen) (w : IsWithin part wide) where
+  pub stl_wider : (base : List ℕ) (r : Result ComplexFile Status) → StlAnswer limits part base r → StlAnswer limits wide base r
+  stl_wider base =
+      let name = file_name base Stl in
+      and_then_wider (FetchAnswer limits part name) (FetchAnswer limits wide name) (λ bytes. AndThen (TextAnswer name (stl_text_of bytes)) (λ text. Gives (complex_file name text)))
+      (λ bytes. AndThen (TextAnswer name (stl_text_of bytes)) (λ text. Gives (complex_file name text))) (fetch_wider limits part wide w name) (λ bytes r h. h)
+
+  stl_input_wider : (base : List ℕ) (r : Result Input Status) → StlInputAnswer limits part base r → StlInputAnswer limits wide base r
+  stl_input_wider base =
+      and_then_wider (StlAnswer limits part base) (StlAnswer limits wide base) (λ file. AndThen (NodesAnswer limits part base file.text.nodes) (BoundedAnswer file))
+      (λ file. AndThen (NodesAnswer limits wide base file.text.nodes) (BoundedAnswer file)) (stl_wider base) (bounded_wider limits part wide w base)
+
+  model_by_wider : (stl : Bool) (options : Options) (r : Result Input Status) → ModelBy stl limits part options r → ModelBy stl limits wide options r
+  model_by_wider true options = stl_input_wider options.base
+  model_by_wider false options = input_wider limits part wide w options
+
+  pub model_wider : (options : Options) (r : Result Input Status) → ModelAnswer limits part options r → ModelAnswer limits wide options r
+  model_wider options = model_by_wider (names_stl options) options
+
+-- what each refusal of the reading of a model has
+module _ (P : Status → Type 0) (missing : (name : List ℕ) → P (Missing name)) (failed : (name : List ℕ) → P (ReadFault name)) (bad : (name : List ℕ) (fault : TextFault) → P (BadText name fault))
+    (limit : (what : LimitKind) → P (Limit what)) (want : P NoMemory) where
+  stl_has : (limits : Limits) (seen : FolderSeen) (base : List ℕ) (s : Status) → StlAnswer limits seen base (Err s) → P s
+  stl_has limits seen base =
+      let name = file_name base Stl in
+      and_then_refuses P (FetchAnswer limits seen name) (λ bytes. AndThen (TextAnswer name (stl_text_of bytes)) (λ text. Gives (complex_file name text))) (fetch_has P missing failed bad limit want limits seen name)
+      (λ bytes. and_then_refuses P (TextAnswer name (stl_text_of bytes)) (λ text. Gives (complex_file name text)) (text_has P missing failed bad limit want name (stl_text_of bytes))
+      (λ text. want_has P missing failed bad limit want))
+
+  stl_input_has : (limits : Limits) (seen : FolderSeen) (base : List ℕ) (s : Status) → StlInputAnswer limits seen base (Err s) → P s
+  stl_input_has limits seen base =
+      and_then_refuses P (StlAnswer limits seen base) (λ file. AndThen (NodesAnswer limits seen base file.text.nodes) (BoundedAnswer file)) (stl_has limits seen base)
+      (λ file. and_then_refuses P (NodesAnswer limits seen base file.text.nodes) (BoundedAnswer file) (nodes_have P missing failed bad limit want limits seen base file.text.nodes)
+      (bounded_has P missing failed bad limit want file))
+
+  model_by_has : (stl : Bool) (limits : Limits) (seen : FolderSeen) (options : Options) (s : Status) → ModelBy stl limits seen options (Err s) → P s
+  model_by_has true limits seen options = stl_input_has limits seen options.base
+  model_by_has false limits seen options = input_has P missing failed bad limit want limits seen options options.piecewise
+
+  pub model_has : (limits : Limits) (seen : FolderSeen) (options : Options) (s : Status) → ModelAnswer limits seen options (Err s) → P s
+  model_has limits seen options = model_by_has (names_stl options) limits seen options

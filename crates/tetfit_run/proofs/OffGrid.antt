@@ -1,0 +1,80 @@
+-- Points that are off each grid.
+use Rattle.std.proofs.Common.{◌≡◌, ℕ, ◌-◌, ◌*◌, ◌^◌, ◌<◌, ◌≤◌, Bool, true, false, List, [], ◌∷◌, length, get_or, map, Some, refl, sym, ap, ◌∙◌, subst, arith, inl, inr}
+use Rattle.std.specs.Prelude.{max, find, nat_lt, unsigned_abs, is_some, not, Option, ◌||◌, ◌⊎◌, if◌then◌else◌}
+use Rattle.std.specs.List.{list_any}
+use Rattle.std.proofs.Math.Nat.{mul-le-mul_left, mul-le-mul_right, pow-le-pow_right}
+use Rattle.std.proofs.lemmas.Bool.{cond-true, cond-false, lt-ltb, le-ltb, lt-leb, le-leb, cases_lt}
+use Rattle.std.proofs.lemmas.List.Recursion.{max_bounds}
+use borrow.Author.Tests.{ltb-true}
+use Rattle.grid_coords.specs.Choice.{decimals_of, most_decimals, size_of, is_over, first_over, grid_of}
+use Rattle.grid_coords.specs.Units.{if_at_most, units}
+use Rattle.grid_coords.specs.declared.points.DecimalPoint.{DecimalPoint}
+use Rattle.node_files.specs.Settling.{rounded_point}
+use Rattle.tet_text.specs.Decimals.{Scaled}
+use Rattle.tetfit_run.specs.Grids.{IsOffRounded}
+
+-- ---- the most decimals
+
+-- a rounded point has no more decimals than the list of them
+pub one_most : (m : ℕ) (ps : List DecimalPoint) (i : ℕ) (p : DecimalPoint) → i < length ps → p ≡ get_or ps i p
+    → decimals_of (rounded_point m p) ≤ most_decimals (map (rounded_point m) ps)
+unfolding most_decimals
+one_most m ps i p lt is =
+    let all : decimals_of (rounded_point m (get_or ps i p)) ≤ most_decimals (map (rounded_point m) ps) =
+    max_bounds (λ (qs : List DecimalPoint). most_decimals (map (rounded_point m) qs)) (λ q. decimals_of (rounded_point m q)) refl (λ q qs. refl) ps i p lt in
+    subst (λ (q : DecimalPoint). decimals_of (rounded_point m q) ≤ most_decimals (map (rounded_point m) ps)) (sym is) all
+
+-- so have one more point and those before it
+pub either_most : (one before all greatest : ℕ) {here : ℕ} → one ≡ here → here ≤ all → before ≤ all → greatest ≡ max one before → greatest ≤ all
+either_most one before all greatest same here earlier is = omega arith
+
+-- ---- sizes
+
+-- a size is over the limit, or within it
+pub over_test : (most n : ℕ) (o : Option ℕ) (b : Bool) → o ≡ if_at_most most n → is_some o ≡ not b → b ≡ nat_lt most n
+over_test most n o b e same = opposite b (nat_lt most n) (sym same ∙ ap is_some e ∙ at (cases_lt most n))
+  where
+    opposite : (b c : Bool) → not b ≡ not c → b ≡ c
+    opposite true true e = refl
+    opposite false false e = refl
+    opposite true false e = cc
+    opposite false true e = cc
+
+    at : (most < n) ⊎ (n ≤ most) → is_some (if_at_most most n) ≡ not (nat_lt most n)
+    at (inl over) = ap is_some (cond-false _ _ _ (lt-leb n most over)) ∙ sym (ap not (lt-ltb most n over))
+    at (inr le) = ap is_some (cond-true _ _ _ (le-leb n most le)) ∙ sym (ap not (le-ltb most n le))
+
+-- with more decimals a number has no fewer units
+units_rise : (few many : ℕ) (d : Scaled) → few ≤ many → units few 0 d ≤ units many 0 d
+unfolding units
+units_rise few many d le =
+    let steps : few - d.scale ≤ many - d.scale = omega arith in
+    let tens : unsigned_abs d.value * 10 ^ (few - d.scale) ≤ unsigned_abs d.value * 10 ^ (many - d.scale) = mul-le-mul_left (unsigned_abs d.value) (pow-le-pow_right (omega arith) steps) in
+    mul-le-mul_right (2 ^ 0) tens
+
+over_rises : (wide few many : ℕ) (p : DecimalPoint) → few ≤ many → is_over wide few p ≡ true → is_over wide many p ≡ true
+over_rises wide few many p le over =
+    let x = units_rise few many p.x le in
+    let y = units_rise few many p.y le in
+    let z = units_rise few many p.z le in
+    lt-ltb wide (size_of many p) (let lt = ltb-true wide (size_of few p) over in omega (arith, x, y, z, lt))
+
+-- what one test finds in a list, where the other passes no fewer
+found_here : {X : Type 0} (a b : Bool) (first : X) (rest : Option X) (any : Bool) → (a ≡ true → b ≡ true) → (any ≡ true → (y : X) × (rest ≡ Some y)) → (a || any) ≡ true
+    → (y : X) × ((if b then Some first else rest) ≡ Some y)
+found_here true true first rest any more others e = (first, refl)
+found_here false true first rest any more others e = (first, refl)
+found_here true false first rest any more others e = let e : false ≡ true = more refl in absurd (cc)
+found_here false false first rest any more others e = others e
+
+found : {X : Type 0} (p q : X → Bool) (r : X → X) (xs : List X) → ((x : X) → p x ≡ true → q x ≡ true) → list_any (λ x. p (r x)) xs ≡ true → (y : X) × (find q (map r xs) ≡ Some y)
+found p q r [] more any = absurd (cc)
+found p q r (x ∷ xs) more any = found_here (p (r x)) (q (r x)) (r x) (find q (map r xs)) (list_any (λ x. p (r x)) xs) (more (r x)) (found p q r xs more) any
+
+-- a point over the limit at no more decimals than the points have
+pub off_rounded : (wide m few : ℕ) (ps : List DecimalPoint) → few ≤ most_decimals (map (rounded_point m) ps) → list_any (λ p. is_over wide few (rounded_point m p)) ps ≡ true → IsOffRounded wide ps m
+unfolding grid_of first_over
+off_rounded wide m few ps le any =
+    let most = most_decimals (map (rounded_point m) ps) in
+    let one = found (is_over wide few) (is_over wide most) (rounded_point m) ps (λ p. over_rises wide few most p le) any in
+    record { line = one.0.line; off = λ halvings. rw one.1 refl }

@@ -1,0 +1,47 @@
+-- What a piece is a part of.
+use Rattle.std.proofs.Common.{ℕ, zero, suc, ◌-◌, ◌<◌, ◌≡◌, max, length, List, Option, Result, Ok, Err, inl, refl, subst, sym, arith}
+use Rattle.std.specs.Prelude.{IfOk, IfSome}
+use Rattle.command_words.specs.declared.options.Options.{Options}
+use Rattle.geo_laws.specs.declared.complex.Piece.{Piece}
+use Rattle.node_files.specs.declared.limits.Limits.{Limits}
+use Rattle.run_steps.specs.Meshing.{BoundAnswer}
+use Rattle.run_steps.specs.declared.mesh.Bound.{Bound}
+use Rattle.run_steps.specs.declared.numbering.Numbering.{Numbering}
+use Rattle.tet_ports.specs.declared.NoMemory.{NoMemory}
+use Rattle.run_steps.specs.declared.input.Input.{Input}
+use Rattle.tetfit_run.specs.Hints.{first_facet, segment_line, IsHalvedAfter, IsHalvedPartOf, TellsLine, TellsSegment}
+
+-- as many points
+pub halved_too : (limits : Limits) (options : Options) (input : Input) (n m : ℕ) (found : Option Piece) → n ≡ m → IfSome found (IsHalvedAfter limits options input n)
+    → IfSome found (IsHalvedAfter limits options input m)
+halved_too limits options input n m found e = subst (λ k. IfSome found (IsHalvedAfter limits options input k)) e
+
+-- it is a part of what the piece before it is a part of
+pub part_before : (limits : Limits) (options : Options) (input : Input) (count left : ℕ) (p before whole : Piece) → 0 < left → IsHalvedAfter limits options input (max p.a p.b - count) before
+    → IsHalvedPartOf limits options input count (left - 1) before whole → IsHalvedPartOf limits options input count left p whole
+part_before limits options input count zero p before whole lt h part = absurd (omega arith)
+part_before limits options input count (suc n) p before whole lt h part =
+    let e : suc n - 1 ≡ n = omega arith in
+    (before, h, subst (λ k. IsHalvedPartOf limits options input count k before whole) e part)
+
+-- a piece that was not halved is the whole
+pub part_whole : (limits : Limits) (options : Options) (input : Input) (count left : ℕ) (p : Piece) → left ≡ 0 → IsHalvedPartOf limits options input count left p p
+part_whole limits options input count left p e = subst (λ k. IsHalvedPartOf limits options input count k p p) (sym e) refl
+
+-- ---- what is told
+
+-- the line of a segment
+pub line_told : (limits : Limits) (options : Options) (input : Input) (by : Numbering) (whole : Piece) (bound : Bound) (r : Result (List ℕ) NoMemory)
+    → BoundAnswer limits options input (Ok bound) → IfOk r (λ line. line ≡ segment_line by whole (first_facet bound.complex whole)) → IfOk r (TellsLine limits options input by whole)
+line_told limits options input by whole bound (Ok line) h is = inl (record { bound = bound; on_grid = h; is = is })
+line_told limits options input by whole bound (Err e) h is = is
+
+-- and of a piece
+pub whole_told : (limits : Limits) (options : Options) (input : Input) (by : Numbering) (p whole : Piece) (count : ℕ) (r : Result (List ℕ) NoMemory) → count ≡ length by.names
+    → IsHalvedPartOf limits options input count p.halvings p whole → IfOk r (TellsLine limits options input by whole) → IfOk r (TellsSegment limits options input by p)
+whole_told limits options input by p whole count (Ok line) c part told = inl (record {
+  whole = whole;
+  part = subst (λ n. IsHalvedPartOf limits options input n p.halvings p whole) c part;
+  told = told;
+})
+whole_told limits options input by p whole count (Err e) c part told = told

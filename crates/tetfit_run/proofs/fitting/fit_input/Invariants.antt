@@ -1,0 +1,13 @@
+use Rattle.std.proofs.Common.{◌<◌, ◌≤◌, ℕ}
+use Rattle.tetfit_run.specs.Trying.{most_tried, IsRefusedByGrid}
+use Rattle.tetfit_run.proofs.fitting.fit_input.Given as goal
+
+-- each greater number of decimals is refused
+abbrev pub invariant-loop-outputs : goal.invariant-loop-outputs
+invariant-loop-outputs l = record {
+  within : l.decimals ≤ most_tried l.input;
+  finer : (n : ℕ) → l.decimals < n → n ≤ most_tried l.input → IsRefusedByGrid l.fn.limits l.options l.input n;
+}
+
+abbrev pub decreases-loop-outputs : goal.decreases-loop-outputs
+decreases-loop-outputs l = l.decimals

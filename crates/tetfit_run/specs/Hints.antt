@@ -1,0 +1,149 @@
+-- What more is told of a model that is refused.
+use Rattle.std.specs.Prelude.{◌≡◌, ◌⊎◌, ℕ, zero, suc, ◌+◌, ◌-◌, min, max, nat_lt, nat_le, ◌==◌, ◌&&◌, Bool, length, position, drop, find, slice_get, slice_index, List, [], ◌++◌, codes, Option, Some, None, Ok, Err, if◌then◌else◌}
+use Rattle.std.specs.Fmt.{decimal}
+use Rattle.std.specs.List.{list_any}
+use Rattle.std.specs.Option.{option_map_or}
+use Rattle.simplex_meets.specs.declared.complex_parts.Part.{Part}
+use Rattle.simplex_meets.specs.declared.complex_parts.Part.TheVariants.{Triangle, Segment as SegmentPart}
+use Rattle.command_words.specs.declared.options.Options.{Options}
+use Rattle.geo_laws.specs.Complex.{Complex}
+use Rattle.geo_laws.specs.declared.complex.Facet.{Facet}
+use Rattle.geo_laws.specs.declared.complex.Piece.{Piece}
+use Rattle.grid_coords.specs.declared.points.DecimalPoint.{DecimalPoint}
+use Rattle.node_files.specs.declared.limits.Limits.{Limits}
+use Rattle.run_steps.specs.Meshing.{BoundAnswer, MeshedAnswer}
+use Rattle.run_steps.specs.declared.input.Input.{Input}
+use Rattle.run_steps.specs.declared.mesh.Bound.{Bound}
+use Rattle.run_steps.specs.declared.numbering.Numbering.{Numbering}
+use Rattle.run_steps.specs.declared.status.LimitKind.TheVariants.{Grid}
+use Rattle.run_steps.specs.declared.status.Status.{Status}
+use Rattle.run_steps.specs.declared.status.Status.TheVariants.{Limit, SegmentsCross, Crossing, GridEnd, BudgetEnd}
+use Rattle.tet_text.specs.Printing.{decimal_text}
+
+-- ---- the points of the file
+
+-- the number that the file gives a point, behind a space; nothing of an added one
+abbrev pub number_text : Numbering → ℕ → List ℕ
+number_text by n = if nat_lt n (length by.names) then codes " " ++ decimal (slice_index by.names n + by.first) else []
+
+-- the coordinates of a point as the file has them
+unfoldable pub at_text : DecimalPoint → List ℕ
+at_text p = codes " (" ++ decimal_text p.x ++ codes " " ++ decimal_text p.y ++ codes " " ++ decimal_text p.z ++ codes ")"
+
+abbrev pub place_text : List DecimalPoint → Numbering → ℕ → List ℕ
+place_text points by n =
+    if nat_lt n (length by.names) then option_map_or at_text (slice_get (drop (slice_index by.names n) points) 0) [] else []
+
+-- the number of a point and its coordinates
+abbrev pub corner_text : List DecimalPoint → Numbering → ℕ → List ℕ
+corner_text points by n = number_text by n ++ place_text points by n
+
+abbrev pub corners_text : List DecimalPoint → Numbering → Part → List ℕ
+corners_text points by (Triangle t) = corner_text points by t.a ++ corner_text points by t.b ++ corner_text points by t.c
+corners_text points by (SegmentPart p) = corner_text points by p.a ++ corner_text points by p.b
+
+-- the line of a triangle or a segment: its corners that the file has
+abbrev pub part_line : List DecimalPoint → Numbering → Part → List ℕ
+part_line points by part = codes "tetfit: points" ++ corners_text points by part ++ codes "\n"
+
+-- ---- the segment that a piece lies on
+
+-- the same options, with so many points that may be added
+abbrev pub with_budget : ℕ → Options → Options
+with_budget added options = record options { budget = added }
+
+-- the piece that is missing where no more points may be added
+abbrev pub missing_in : Status → Option Piece
+missing_in (BudgetEnd made piece) = Some piece
+missing_in status = None
+
+-- once so many points are added this piece is missing, so the next point is added to halve it
+pub record IsHalvedAfter (limits : Limits) (options : Options) (input : Input) (added : ℕ) (p : Piece) : Type 0 where
+  pub status : Status
+  pub answer : MeshedAnswer limits (with_budget added options) input (Err status)
+  pub missing : missing_in status ≡ Some p
+
+-- A piece that was halved so many times, of a model with so many points, is a part of the whole: its later end was added to halve
+-- the piece before it
+abbrev pub IsHalvedPartOf : Limits → Options → Input → ℕ → ℕ → Piece → Piece → Type 0
+IsHalvedPartOf limits options input count zero p whole = whole ≡ p
+IsHalvedPartOf limits options input count (suc n) p whole =
+    (before : Piece) × IsHalvedAfter limits options input (max p.a p.b - count) before
+    × IsHalvedPartOf limits options input count n before whole
+
+-- both ends of the piece are corners
+abbrev pub has_both : Piece → List ℕ → Bool
+has_both p corners = list_any (λ c. c == p.a) corners && list_any (λ c. c == p.b) corners
+
+-- the polygon is one of the facet
+abbrev pub has_polygon : ℕ → Facet → Bool
+has_polygon i f = nat_le f.first i && nat_lt i f.past
+
+-- the first facet that has this polygon
+abbrev pub first_facet_of : Complex → Option ℕ → Option ℕ
+first_facet_of c None = None
+first_facet_of c (Some i) = position (has_polygon i) c.facets
+
+-- the first facet with a polygon that has both ends of the piece
+abbrev pub first_facet : Complex → Piece → Option ℕ
+first_facet c p = first_facet_of c (position (λ g. has_both p g.corners) c.polygons)
+
+-- facets count from 1
+abbrev pub hinted_facet_text : Option ℕ → List ℕ
+hinted_facet_text None = []
+hinted_facet_text (Some k) = codes " of facet " ++ decimal (k + 1)
+
+abbrev pub segment_line : Numbering → Piece → Option ℕ → List ℕ
+segment_line by p facet =
+    codes "tetfit: it lies on segment" ++ number_text by (min p.a p.b) ++ number_text by (max p.a p.b) ++ hinted_facet_text facet
+    ++ codes "\n"
+
+-- the line names this segment
+pub record IsLineOf (limits : Limits) (options : Options) (input : Input) (by : Numbering) (whole : Piece) (line : List ℕ) : Type 0 where
+  pub bound : Bound
+  pub on_grid : BoundAnswer limits options input (Ok bound)
+  pub is : line ≡ segment_line by whole (first_facet bound.complex whole)
+
+-- or nothing is told of it
+abbrev pub TellsLine : Limits → Options → Input → Numbering → Piece → List ℕ → Type 0
+TellsLine limits options input by whole line = IsLineOf limits options input by whole line ⊎ (line ≡ [])
+
+-- the line names what the piece is a part of
+pub record TellsWhole (limits : Limits) (options : Options) (input : Input) (by : Numbering) (p : Piece) (line : List ℕ) : Type 0 where
+  pub whole : Piece
+  pub part : IsHalvedPartOf limits options input (length by.names) p.halvings p whole
+  pub told : TellsLine limits options input by whole line
+
+abbrev pub TellsSegment : Limits → Options → Input → Numbering → Piece → List ℕ → Type 0
+TellsSegment limits options input by p line = TellsWhole limits options input by p line ⊎ (line ≡ [])
+
+-- ---- the lines
+
+-- what more is told of an input with these options that is refused so, its points numbered so
+abbrev pub IsHintBy : Limits → Options → Input → Numbering → Status → List ℕ → Type 0
+IsHintBy limits options input by (SegmentsCross one two) lines =
+    lines ≡ part_line input.nodes.decimals by (SegmentPart one) ++ part_line input.nodes.decimals by (SegmentPart two)
+IsHintBy limits options input by (Crossing one two) lines =
+    lines ≡ part_line input.nodes.decimals by one ++ part_line input.nodes.decimals by two
+IsHintBy limits options input by (GridEnd piece) lines = TellsSegment limits options input by piece lines
+IsHintBy limits options input by (BudgetEnd made piece) lines = TellsSegment limits options input by piece lines
+IsHintBy limits options input by status lines = lines ≡ []
+
+abbrev pub front_text : ℕ → List ℕ
+front_text line = codes "tetfit: line " ++ decimal line ++ codes " has"
+
+-- the coordinates of the point that this line states
+abbrev pub stated_text : ℕ → DecimalPoint → List ℕ
+stated_text line p = front_text line ++ at_text p ++ codes "\n"
+
+abbrev pub size_line : List DecimalPoint → ℕ → List ℕ
+size_line points line = option_map_or (stated_text line) (find (λ p. p.line == line) points) []
+
+-- of an input that is on no grid
+abbrev pub grid_hint : Input → Status → List ℕ
+grid_hint input (Limit (Grid line)) = size_line input.nodes.decimals line
+grid_hint input status = []
+
+abbrev pub IsHint : Limits → Options → Input → Option Numbering → Status → List ℕ → Type 0
+IsHint limits options input None status lines = lines ≡ grid_hint input status
+IsHint limits options input (Some by) status lines = IsHintBy limits options input by status lines

@@ -1,0 +1,55 @@
+-- Why a word is not understood.
+use Rattle.std.specs.Prelude.{ℕ, ◌-◌, ◌==◌, nat_eq, nat_lt, length, List, [], codes, if◌then◌else◌}
+use Rattle.std.specs.List.{slice_index_or, starts_with}
+use Rattle.command_words.specs.Grammar.{is_cluster, is_long}
+use Rattle.tetfit_run.specs.declared.reason.Reason.{Reason}
+use Rattle.tetfit_run.specs.declared.reason.Reason.TheVariants.{Quality, Volumes, Sizes, Boundary, Order, Insertion, Coarsening, Optimization, Tolerance, Exactness, Crossings, Voronoi, OtherFiles, Weights, Check, OwnWord, Decimals, Sample, Number, NoSwitch, EmptyWord, SecondName, NoName, LongWord, Letter}
+
+-- letters of TetGen that have no meaning here
+abbrev pub reason_of : ℕ → Reason
+reason_of byte =
+    if byte == 113 then Quality else
+    if byte == 97 then Volumes else
+    if byte == 109 then Sizes else
+    if byte == 89 then Boundary else
+    if byte == 111 then Order else
+    if byte == 105 then Insertion else
+    if byte == 82 then Coarsening else
+    if byte == 79 then Optimization else
+    if byte == 68 then Optimization else
+    if byte == 84 then Tolerance else
+    if byte == 88 then Exactness else
+    if byte == 100 then Crossings else
+    if byte == 118 then Voronoi else
+    if byte == 103 then OtherFiles else
+    if byte == 107 then OtherFiles else
+    if byte == 119 then Weights else
+    if byte == 114 then Check else
+    if byte == 67 then Check else
+    if byte == 86 then OwnWord else
+    if byte == 104 then OwnWord else Letter
+
+-- of the byte at this place of a cluster, from 1. Behind an S, 83, a number stands
+abbrev pub cluster_reason : List ℕ → ℕ → Reason
+cluster_reason word place =
+    if slice_index_or word (place - 2) 0 == 83 then Number else
+    if nat_lt (place - 1) (length word) then reason_of (slice_index_or word (place - 1) 0) else NoSwitch
+
+abbrev pub long_reason : List ℕ → Reason
+long_reason word =
+    if starts_with nat_eq word (codes "--decimals=") then Decimals else
+    if starts_with nat_eq word (codes "--sample=") then Sample else
+    if starts_with nat_eq word (codes "--halvings=") then Number else LongWord
+
+-- of a word that is not understood at this place
+abbrev pub word_reason : List ℕ → ℕ → Reason
+word_reason word place =
+    if length word == 0 then EmptyWord else
+    if is_long word then long_reason word else
+    if is_cluster word then cluster_reason word place else SecondName
+
+-- of the fault at this word and place, both from 1: behind the last word a name is wanted, or r, C or w stands that is not there
+abbrev pub why_not : List (List ℕ) → ℕ → ℕ → Reason
+why_not words word place =
+    if nat_lt (word - 1) (length words) then word_reason (slice_index_or words (word - 1) []) place else
+    if place == 1 then NoName else Check

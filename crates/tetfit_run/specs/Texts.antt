@@ -1,0 +1,48 @@
+-- What is told of a word that is not understood.
+use Rattle.std.specs.Prelude.{ℕ, ◌-◌, ◌&&◌, nat_lt, length, List, [], ◌∷◌, ◌++◌, codes, if◌then◌else◌}
+use Rattle.std.specs.List.{slice_index_or}
+use Rattle.command_words.specs.Grammar.{is_cluster}
+use Rattle.tetfit_run.specs.declared.reason.Reason.{Reason}
+use Rattle.tetfit_run.specs.declared.reason.Reason.TheVariants.{Quality, Volumes, Sizes, Boundary, Order, Insertion, Coarsening, Optimization, Tolerance, Exactness, Crossings, Voronoi, OtherFiles, Weights, Check, OwnWord, Decimals, Sample, Number, NoSwitch, EmptyWord, SecondName, NoName, LongWord, Letter}
+use Rattle.tetfit_run.specs.Reasons.{why_not}
+
+abbrev pub reason_text : Reason → List ℕ
+reason_text Quality = codes "quality meshes are not there"
+reason_text Volumes = codes "bounds on volumes are not there"
+reason_text Sizes = codes "sizes of tetrahedra are not there"
+reason_text Boundary = codes "segments take points where they need them"
+reason_text Order = codes "a tetrahedron has four corners, and no midpoints"
+reason_text Insertion = codes "points are not added from a list"
+reason_text Coarsening = codes "meshes are not made coarser"
+reason_text Optimization = codes "meshes are not improved"
+reason_text Tolerance = codes "signs are exact, and take no tolerance"
+reason_text Exactness = codes "signs are always exact"
+reason_text Crossings = codes "crossing parts are told without a switch"
+reason_text Voronoi = codes "Voronoi cells are not written"
+reason_text OtherFiles = codes "files of other programs are not written"
+reason_text Weights = codes "points with weights are meshed by tetgen -w"
+reason_text Check = codes "a mesh is checked by tetgen -rC"
+reason_text OwnWord = codes "this letter is a word of its own, with its hyphen"
+reason_text Decimals = codes "decimals are found here; tetgen takes their number"
+reason_text Sample = codes "the sample is meshed by tetgen"
+reason_text Number = codes "a number within its limit is wanted"
+reason_text NoSwitch = codes "a switch is wanted behind the hyphen"
+reason_text EmptyWord = codes "the word is empty"
+reason_text SecondName = codes "there is one name already"
+reason_text NoName = codes "the name of a file is wanted"
+reason_text LongWord = codes "a word that is not known"
+reason_text Letter = codes "a letter that is not known"
+
+-- the letter of a cluster at this place, from 1
+abbrev pub letter_at : List ℕ → ℕ → List ℕ
+letter_at word place = if is_cluster word && nat_lt (place - 1) (length word) then slice_index_or word (place - 1) 0 ∷ codes ": " else []
+
+-- the word and the letter that is not understood; behind the last word there is none
+abbrev pub word_told : List (List ℕ) → ℕ → ℕ → List ℕ
+word_told words word place =
+    if nat_lt (word - 1) (length words) then
+    slice_index_or words (word - 1) [] ++ codes ": " ++ letter_at (slice_index_or words (word - 1) []) place else []
+
+-- the line, which a line feed ends
+abbrev pub refused_line : List (List ℕ) → ℕ → ℕ → List ℕ
+refused_line words word place = codes "tetfit: " ++ word_told words word place ++ reason_text (why_not words word place) ++ codes "\n"

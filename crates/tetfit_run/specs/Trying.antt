@@ -1,0 +1,72 @@
+-- The decimals at which an input is tried, from the most that it has downward.
+use Rattle.std.specs.Prelude.{◌≡◌, ◌≤◌, ◌<◌, ℕ, min, Bool, true, false, Option, Some, None, Result, Ok, Err, IfErr}
+use Rattle.command_words.specs.declared.options.Options.{Options}
+use Rattle.grid_coords.specs.Choice.{most_decimals}
+use Rattle.node_files.specs.declared.limits.Limits.{Limits}
+use Rattle.run_steps.specs.Meshing.{BoundAnswer, MeshAnswer, OutputsAnswer, MeshedAnswer}
+use Rattle.run_steps.specs.Numbering.{numbering_of}
+use Rattle.run_steps.specs.Steps.{AndThen}
+use Rattle.run_steps.specs.declared.input.Input.{Input}
+use Rattle.run_steps.specs.declared.mesh.Bound.{Bound}
+use Rattle.run_steps.specs.declared.numbering.Numbering.{Numbering}
+use Rattle.run_steps.specs.declared.outputs.Outputs.{Outputs}
+use Rattle.run_steps.specs.declared.status.LimitKind.TheVariants.{Grid}
+use Rattle.run_steps.specs.declared.status.Status.{Status}
+use Rattle.run_steps.specs.declared.status.Status.TheVariants.{Limit, GridEnd}
+use Rattle.tetfit_run.specs.declared.fitting.Refused.{Refused}
+use Rattle.tetfit_run.specs.declared.trying.Unfitted.{Unfitted}
+
+-- the same options, with coordinates rounded to so many decimals
+abbrev pub at_decimals : ℕ → Options → Options
+at_decimals m options = record options { decimals = Some m }
+
+-- the first number of decimals that is tried: the most that a coordinate has, and 20 where one has more
+abbrev pub most_tried : Input → ℕ
+most_tried input = min 20 (most_decimals input.nodes.decimals)
+
+-- the grid refuses: it does not reach a point, or it is too coarse for a segment
+abbrev pub is_of_grid : Status → Bool
+is_of_grid (Limit (Grid line)) = true
+is_of_grid (GridEnd piece) = true
+is_of_grid status = false
+
+-- what the run without stores answers at so many decimals
+abbrev pub AnswerAt : Limits → Options → Input → ℕ → Result Outputs Status → Type 0
+AnswerAt limits options input m = MeshedAnswer limits (at_decimals m options) input
+
+-- at so many decimals the grid refuses
+pub record IsRefusedByGrid (limits : Limits) (options : Options) (input : Input) (m : ℕ) : Type 0 where
+  pub status : Status
+  pub of_grid : is_of_grid status ≡ true
+  pub answer : AnswerAt limits options input m (Err status)
+
+-- The answer at the greatest number of decimals at which the grid does not refuse; where it refuses at each number of them, the answer at 0
+pub record IsFitted (limits : Limits) (options : Options) (input : Input) (m : ℕ) (made : Result Outputs Status) : Type 0 where
+  pub within : m ≤ most_tried input
+  pub answer : AnswerAt limits options input m made
+  pub finer : (n : ℕ) → m < n → n ≤ most_tried input → IsRefusedByGrid limits options input n
+  pub last : IfErr made (λ status. is_of_grid status ≡ true → m ≡ 0)
+
+-- what the outputs of a bound input answer
+abbrev pub MadeAnswer : Options → Bound → Result Outputs Status → Type 0
+MadeAnswer options bound = AndThen (MeshAnswer options bound) (OutputsAnswer options)
+
+-- by which numbers the points of a refused try are told: by none where the input is on no grid, and else by those of the points on it
+abbrev pub IsNumbered : Limits → Options → Input → Status → Option Numbering → Type 0
+IsNumbered limits options input status None = BoundAnswer limits options input (Err status)
+IsNumbered limits options input status (Some by) =
+    (bound : Bound) × BoundAnswer limits options input (Ok bound) × MadeAnswer options bound (Err status) × (by ≡ numbering_of bound.table)
+
+-- so of a try at so many decimals
+abbrev pub IsNumberedAt : Limits → Options → Input → ℕ → Unfitted → Type 0
+IsNumberedAt limits options input m end = IsNumbered limits (at_decimals m options) input end.status end.numbering
+
+-- the status of a refused try in place of its end
+abbrev pub answer_in : Result Outputs Unfitted → Result Outputs Status
+answer_in (Ok outputs) = Ok outputs
+answer_in (Err end) = Err end.status
+
+-- the refusal of an input that is fitted, with the numbers of its points
+abbrev pub IsRefused : Limits → Options → Input → Refused → Type 0
+IsRefused limits options input refused =
+    IsFitted limits options input refused.decimals (Err refused.end.status) × IsNumberedAt limits options input refused.decimals refused.end

@@ -1,0 +1,109 @@
+//! What each try takes of its own.
+
+ghost use Rattle.std.specs.Prelude.{◌≡◌, IfOk};
+ghost use Rattle.tetfit_run.specs.Hints.{with_budget};
+ghost use Rattle.tetfit_run.specs.Trying.{at_decimals};
+
+use command_words::Options;
+use grid_coords::DecimalPoints;
+use node_files::{Markers, NodeText};
+use std::alloc::Global;
+use tet_ports::{Name, NoMemory, Words};
+
+/// The same options.
+fn same_options(alloc: Global, options: &Options) -> Result<Options, NoMemory>
+    ensures { IfOk result (λ made. made ≡ options.now) }
+{
+    let base = Name::from_slice(alloc, options.base.as_slice())?;
+    Ok(Options {
+        piecewise: options.piecewise,
+        neighbors: options.neighbors,
+        all_faces: options.all_faces,
+        edges: options.edges,
+        from_zero: options.from_zero,
+        keep_hull: options.keep_hull,
+        regions: options.regions,
+        quiet: options.quiet,
+        no_node: options.no_node,
+        no_ele: options.no_ele,
+        no_face: options.no_face,
+        keep_facets: options.keep_facets,
+        check: options.check,
+        weighted: options.weighted,
+        budget: options.budget,
+        halvings: options.halvings,
+        decimals: options.decimals,
+        sample: options.sample,
+        base,
+        extension: options.extension,
+    })
+}
+
+/// The same options with so many decimals.
+pub(crate) fn at_decimals(
+    alloc: Global,
+    options: &Options,
+    decimals: u32,
+) -> Result<Options, NoMemory>
+    ensures { IfOk result (λ made. made ≡ at_decimals decimals options.now) }
+{
+    let mut made = same_options(alloc, options)?;
+    made.decimals = Some(decimals);
+    Ok(made)
+}
+
+/// The same options with so many points that may be added.
+pub(crate) fn with_budget(
+    alloc: Global,
+    options: &Options,
+    budget: u32,
+) -> Result<Options, NoMemory>
+    ensures { IfOk result (λ made. made ≡ with_budget budget options.now) }
+{
+    let mut made = same_options(alloc, options)?;
+    made.budget = budget;
+    Ok(made)
+}
+
+fn words_of(alloc: Global, words: &Words) -> Result<Words, NoMemory>
+    ensures { IfOk result (λ made. made ≡ words.now) }
+{
+    let mut made = Words::with_capacity(alloc, words.len())?;
+    for word in words.as_slice() {
+        made.push(Name::from_slice(alloc, word.as_slice())?)?;
+    }
+    Ok(made)
+}
+
+fn decimals_of(alloc: Global, points: &DecimalPoints) -> Result<DecimalPoints, NoMemory>
+    ensures { IfOk result (λ made. made ≡ points.now) }
+{
+    let mut made = DecimalPoints::with_capacity(alloc, points.len())?;
+    made.extend_from_slice(points.as_slice())?;
+    Ok(made)
+}
+
+fn markers_of(alloc: Global, markers: &Markers) -> Result<Markers, NoMemory>
+    ensures { IfOk result (λ made. made ≡ markers.now) }
+{
+    let mut made = Markers::with_capacity(alloc, markers.len())?;
+    made.extend_from_slice(markers.as_slice())?;
+    Ok(made)
+}
+
+/// The same point list.
+pub(crate) fn nodes_of(alloc: Global, nodes: &NodeText) -> Result<NodeText, NoMemory>
+    ensures { IfOk result (λ made. made ≡ nodes.now) }
+{
+    let decimals = decimals_of(alloc, &nodes.decimals)?;
+    let attributes = words_of(alloc, &nodes.attributes)?;
+    let markers = markers_of(alloc, &nodes.markers)?;
+    Ok(NodeText {
+        first: nodes.first,
+        attribute_count: nodes.attribute_count,
+        flag: nodes.flag,
+        decimals,
+        attributes,
+        markers,
+    })
+}

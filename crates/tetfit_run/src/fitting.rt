@@ -1,0 +1,83 @@
+//! The tries, from the most decimals downward.
+
+ghost use Rattle.std.specs.Prelude.{◌≡◌, ◌<◌, true, false, IsTrue, IfErr, IfOk, Ok};
+ghost use Rattle.command_words.specs.Meaning.{AreInRange};
+ghost use Rattle.node_files.specs.Limits.{AreIndexable};
+ghost use Rattle.run_steps.specs.Reading.{IsSound};
+ghost use Rattle.tetfit_run.specs.Trying.{is_of_grid, IsFitted, IsRefused};
+
+use crate::grids::{most_tried, next_tried};
+use crate::trial::Trial;
+use crate::trying::{Unfitted, outputs_at};
+use command_words::Options;
+use node_files::Limits;
+use run_steps::{Input, LimitKind, Outputs, Status};
+use std::alloc::Global;
+
+/// The outputs of an input, and to how many decimals its coordinates were rounded.
+#[derive(Drop)]
+pub struct Fitted {
+    pub decimals: u32,
+    pub outputs: Outputs,
+}
+
+/// At how many decimals an input is refused, and how.
+#[derive(Drop)]
+pub struct Refused {
+    pub decimals: u32,
+    pub end: Unfitted,
+}
+
+/// Whether the grid refuses: it does not reach a point, or it is too coarse for a segment.
+fn is_of_grid(status: &Status) -> bool
+    ensures { result ≡ is_of_grid status.now }
+{
+    match status {
+        Status::Limit {
+            what: LimitKind::Grid { .. },
+        } => true,
+        Status::GridEnd { .. } => true,
+        _ => false,
+    }
+}
+
+/// Whether fewer decimals are tried after this refusal.
+fn goes_on(decimals: u32, status: &Status) -> bool
+    ensures on { IsTrue result → (0 < decimals) × (is_of_grid status.now ≡ true) }
+    ensures off { result ≡ false → is_of_grid status.now ≡ true → decimals ≡ 0 }
+{
+    decimals > 0 && is_of_grid(status)
+}
+
+/// The outputs of the input at the greatest number of decimals at which the grid does not refuse
+/// it, of those from the most that a coordinate has, or 20 where one has more, down to 0. It
+/// refuses as the steps `bind_input` and `mesh_outputs` do at that number, or at 0 where the grid
+/// refuses at each.
+pub fn fit_input(
+    alloc: Global,
+    limits: Limits,
+    options: &Options,
+    input: &Input,
+) -> Result<Fitted, Refused>
+    requires limits { AreIndexable limits }
+    requires input { IsSound input.now }
+    requires ranges { AreInRange options.now }
+    ensures fitted { IfOk result (λ fitted. IsFitted limits options.now input.now
+        fitted.decimals (Ok fitted.outputs)) }
+    ensures refused { IfErr result (IsRefused limits options.now input.now) }
+{
+    let trial = Trial::new(limits, options, input);
+    let points = input.nodes.decimals.as_slice();
+    let mut decimals = most_tried(points);
+    loop {
+        match outputs_at(alloc, &trial, decimals) {
+            Ok(outputs) => return Ok(Fitted { decimals, outputs }),
+            Err(end) => {
+                if !goes_on(decimals, &end.status) {
+                    return Err(Refused { decimals, end });
+                }
+            }
+        }
+        decimals = next_tried(points, decimals, limits.grid);
+    }
+}

@@ -1,0 +1,185 @@
+//! Why a word is not understood.
+
+ghost use Rattle.std.specs.Prelude.{◌≡◌};
+ghost use Rattle.tetfit_run.specs.Reasons.{cluster_reason, long_reason, reason_of, why_not, word_reason};
+ghost use Rattle.tetfit_run.specs.Texts.{reason_text};
+
+use crate::kinds::{DECIMALS, HALVINGS, SAMPLE, byte_at, is_cluster, is_long};
+use tet_ports::Words;
+
+/// Why a word is not understood.
+#[derive(Clone, Copy, Debug, PartialEq, Eq)]
+pub enum Reason {
+    /// The letter q: bounds on the shape of tetrahedra.
+    Quality,
+    /// The letter a: bounds on the volume of tetrahedra.
+    Volumes,
+    /// The letter m: sizes of tetrahedra, from a file.
+    Sizes,
+    /// The letter Y: no points added on the boundary.
+    Boundary,
+    /// The letter o: tetrahedra with midpoints.
+    Order,
+    /// The letter i: further points, from a file.
+    Insertion,
+    /// The letter R: fewer points.
+    Coarsening,
+    /// The letters O and D: better tetrahedra.
+    Optimization,
+    /// The letter T: a tolerance for points in one plane.
+    Tolerance,
+    /// The letter X: no exact arithmetic.
+    Exactness,
+    /// The letter d: a search for crossing facets.
+    Crossings,
+    /// The letter v: the Voronoi diagram.
+    Voronoi,
+    /// The letters g and k: files for other programs.
+    OtherFiles,
+    /// The letter w, which only the program for exact texts has.
+    Weights,
+    /// The letters r and C, which only the program for exact texts has.
+    Check,
+    /// The letters V and h, which stand alone behind their hyphen.
+    OwnWord,
+    /// The long word for decimals, which only the program for exact texts has.
+    Decimals,
+    /// The long word for the sample, which only the program for exact texts has.
+    Sample,
+    /// No number, or too great a one, behind S or `--halvings=`.
+    Number,
+    /// A hyphen alone.
+    NoSwitch,
+    /// A word of no byte.
+    EmptyWord,
+    /// A second name.
+    SecondName,
+    /// No name among the words.
+    NoName,
+    /// An unknown word that begins with two hyphens.
+    LongWord,
+    /// An unknown letter.
+    Letter,
+}
+
+impl Reason {
+    /// What is said of it.
+    pub(crate) fn text(self) -> &'static [u8]
+        ensures { result.now ≡ reason_text self }
+    {
+        match self {
+            Reason::Quality => b"quality meshes are not there",
+            Reason::Volumes => b"bounds on volumes are not there",
+            Reason::Sizes => b"sizes of tetrahedra are not there",
+            Reason::Boundary => b"segments take points where they need them",
+            Reason::Order => b"a tetrahedron has four corners, and no midpoints",
+            Reason::Insertion => b"points are not added from a list",
+            Reason::Coarsening => b"meshes are not made coarser",
+            Reason::Optimization => b"meshes are not improved",
+            Reason::Tolerance => b"signs are exact, and take no tolerance",
+            Reason::Exactness => b"signs are always exact",
+            Reason::Crossings => b"crossing parts are told without a switch",
+            Reason::Voronoi => b"Voronoi cells are not written",
+            Reason::OtherFiles => b"files of other programs are not written",
+            Reason::Weights => b"points with weights are meshed by tetgen -w",
+            Reason::Check => b"a mesh is checked by tetgen -rC",
+            Reason::OwnWord => b"this letter is a word of its own, with its hyphen",
+            Reason::Decimals => b"decimals are found here; tetgen takes their number",
+            Reason::Sample => b"the sample is meshed by tetgen",
+            Reason::Number => b"a number within its limit is wanted",
+            Reason::NoSwitch => b"a switch is wanted behind the hyphen",
+            Reason::EmptyWord => b"the word is empty",
+            Reason::SecondName => b"there is one name already",
+            Reason::NoName => b"the name of a file is wanted",
+            Reason::LongWord => b"a word that is not known",
+            Reason::Letter => b"a letter that is not known",
+        }
+    }
+}
+
+/// Of a letter that is no switch.
+fn reason_of(byte: u8) -> Reason
+    ensures { result ≡ reason_of byte }
+{
+    match byte {
+        b'q' => Reason::Quality,
+        b'a' => Reason::Volumes,
+        b'm' => Reason::Sizes,
+        b'Y' => Reason::Boundary,
+        b'o' => Reason::Order,
+        b'i' => Reason::Insertion,
+        b'R' => Reason::Coarsening,
+        b'O' => Reason::Optimization,
+        b'D' => Reason::Optimization,
+        b'T' => Reason::Tolerance,
+        b'X' => Reason::Exactness,
+        b'd' => Reason::Crossings,
+        b'v' => Reason::Voronoi,
+        b'g' => Reason::OtherFiles,
+        b'k' => Reason::OtherFiles,
+        b'w' => Reason::Weights,
+        b'r' => Reason::Check,
+        b'C' => Reason::Check,
+        b'V' => Reason::OwnWord,
+        b'h' => Reason::OwnWord,
+        _ => Reason::Letter,
+    }
+}
+
+/// Of the byte at this place of a cluster, from 1; behind an S a number is wanted.
+fn cluster_reason(word: &[u8], place: usize) -> Reason
+    ensures { result ≡ cluster_reason word.now place }
+{
+    if byte_at(word, place.saturating_sub(2)) == b'S' {
+        return Reason::Number;
+    }
+    let i = place.saturating_sub(1);
+    if i < word.len() {
+        reason_of(byte_at(word, i))
+    } else {
+        Reason::NoSwitch
+    }
+}
+
+fn long_reason(word: &[u8]) -> Reason
+    ensures { result ≡ long_reason word.now }
+{
+    if word.starts_with(DECIMALS) {
+        Reason::Decimals
+    } else if word.starts_with(SAMPLE) {
+        Reason::Sample
+    } else if word.starts_with(HALVINGS) {
+        Reason::Number
+    } else {
+        Reason::LongWord
+    }
+}
+
+fn word_reason(word: &[u8], place: usize) -> Reason
+    ensures { result ≡ word_reason word.now place }
+{
+    if word.is_empty() {
+        Reason::EmptyWord
+    } else if is_long(word) {
+        long_reason(word)
+    } else if is_cluster(word) {
+        cluster_reason(word, place)
+    } else {
+        Reason::SecondName
+    }
+}
+
+/// Why the words are not understood whose fault is this one: the number of the word and the place
+/// in it, both from 1, as `read_options` tells them.
+pub fn why_not(words: &Words, word: usize, place: usize) -> Reason
+    ensures { result ≡ why_not words.now word place }
+{
+    let i = word.saturating_sub(1);
+    if i < words.len() {
+        word_reason(words.word(i).as_slice(), place)
+    } else if place == 1 {
+        Reason::NoName
+    } else {
+        Reason::Check
+    }
+}

@@ -1,0 +1,148 @@
+//! What the words ask for.
+
+ghost use Rattle.std.specs.Prelude.{◌≡◌, ◌+◌, ◌<◌, ℕ, length, Some, None, Err, IfOk, IfSome, position};
+ghost use Rattle.std.specs.Str.{bytes_eq};
+ghost use Rattle.command_words.specs.Meaning.{AreInRange};
+ghost use Rattle.command_words.specs.declared.fault.WordsFault.TheVariants.{Usage};
+ghost use Rattle.tetfit_run.specs.Words.{request_of, asks_page, asks_stages, asks_version, elsewhere_in, first_elsewhere, fit_fault, fit_options, has_word, asks_elsewhere, is_letter_elsewhere, others, IsPlainRequest};
+
+use crate::kinds::{DECIMALS, SAMPLE, is_cluster};
+use command_words::{Options, WordsFault, read_words_within};
+use std::alloc::Global;
+use tet_ports::{Name, NoMemory, Words};
+
+/// How often the words may ask that the grid be halved.
+const MOST_HALVINGS: u32 = 18;
+
+/// What the words ask for first of all.
+#[derive(Clone, Copy, Debug, PartialEq, Eq)]
+pub enum Request {
+    /// The page that says how the program is called.
+    Page,
+    /// The version of the program.
+    Version,
+    /// A mesh, as the words without `-V` say (`other_words`).
+    Mesh,
+}
+
+fn is_word(word: &[u8], wanted: &[u8]) -> bool
+    ensures { result ≡ bytes_eq word.now wanted.now }
+{
+    word == wanted
+}
+
+fn has_word(words: &Words, wanted: &[u8]) -> bool
+    ensures { result ≡ has_word words.now wanted.now }
+{
+    words
+        .as_slice()
+        .iter()
+        .any(|word| is_word(word.as_slice(), wanted))
+}
+
+fn asks_page(words: &Words) -> bool
+    ensures { result ≡ asks_page words.now }
+{
+    words.is_empty() || has_word(words, b"-h") || has_word(words, b"--help")
+}
+
+/// What the words ask for first of all: `-h`, `--help` and no word at all ask for the page, and
+/// `--version` for the version.
+pub fn request_of(words: &Words) -> Request
+    ensures { result ≡ request_of words.now }
+{
+    if asks_page(words) {
+        Request::Page
+    } else if has_word(words, b"--version") {
+        Request::Version
+    } else {
+        Request::Mesh
+    }
+}
+
+/// Whether the word `-V` asks that the stages be said.
+pub fn asks_stages(words: &Words) -> bool
+    ensures { result ≡ asks_stages words.now }
+{
+    has_word(words, b"-V")
+}
+
+/// The words but for `-V`.
+pub fn other_words(alloc: Global, words: &Words) -> Result<Words, NoMemory>
+    ensures { IfOk result (λ kept. kept ≡ others words.now) }
+{
+    let mut kept = Words::new(alloc);
+    for word in words.as_slice() {
+        if !is_word(word.as_slice(), b"-V") {
+            kept.push(Name::from_slice(alloc, word.as_slice())?)?;
+        }
+    }
+    Ok(kept)
+}
+
+fn is_letter_elsewhere(byte: u8) -> bool
+    ensures { result ≡ is_letter_elsewhere byte }
+{
+    byte == b'w' || byte == b'r' || byte == b'C'
+}
+
+fn first_letter_elsewhere(word: &[u8]) -> Option<usize>
+    ensures value { result ≡ position is_letter_elsewhere word.now }
+    ensures bound { IfSome result (λ i. i < length word.now) }
+{
+    word.iter().position(|byte| is_letter_elsewhere(*byte))
+}
+
+/// The place in a word, from 1, at which it asks for weights, a check, decimals or the sample.
+fn elsewhere_in(word: &[u8]) -> Option<usize>
+    ensures { result ≡ elsewhere_in word.now }
+{
+    if is_cluster(word) {
+        let i = first_letter_elsewhere(word)?;
+        return Some(i + 1);
+    }
+    if word.starts_with(DECIMALS) || word.starts_with(SAMPLE) {
+        return Some(3);
+    }
+    None
+}
+
+/// The first word that asks for one of these four, and the place in it, both from 1.
+fn first_elsewhere(words: &Words) -> Option<(usize, usize)>
+    ensures { result ≡ first_elsewhere 1 words.now }
+{
+    for (i, word) in words.as_slice().iter().enumerate() {
+        if let Some(place) = elsewhere_in(word.as_slice()) {
+            return Some((i + 1, place));
+        }
+    }
+    None
+}
+
+/// Whether the options have one of these four.
+fn is_elsewhere(options: &Options) -> bool
+    ensures { result ≡ asks_elsewhere options.now }
+{
+    options.weighted || options.check || (options.decimals.is_some() || options.sample.is_some())
+}
+
+/// The options that the words without `-V` ask for.
+///
+/// `Usage` exactly where they are not in the grammar of `read_words_within`, with its first fault,
+/// or ask for weights, a check, decimals or the sample, with the first word that does and the place
+/// in it.
+pub fn read_options(alloc: Global, words: &Words) -> Result<Options, WordsFault>
+    ensures understood { IfOk result (λ options. fit_fault words.now ≡ None) }
+    ensures options { IfOk result (λ options. options ≡ fit_options words.now) }
+    ensures usage { (word place : ℕ) → result ≡ Err (Usage word place)
+        → fit_fault words.now ≡ Some (word, place) }
+    ensures ranges { IfOk result (λ options. AreInRange options) }
+    ensures plain { IfOk result (λ options. IsPlainRequest options) }
+{
+    let options = read_words_within(alloc, words, MOST_HALVINGS)?;
+    if is_elsewhere(&options) {
+        let (word, place) = first_elsewhere(words).unwrap_or((1, 1));
+        return Err(WordsFault::Usage { word, place });
+    }
+    Ok(options)
+}

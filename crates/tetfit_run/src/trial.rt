@@ -1,0 +1,57 @@
+//! An input that is tried, with the options of the try, within limits.
+
+ghost use Rattle.std.specs.Prelude.{◌≡◌, IfOk};
+ghost use Rattle.command_words.specs.Meaning.{AreInRange};
+ghost use Rattle.node_files.specs.Limits.{AreIndexable};
+ghost use Rattle.run_steps.specs.Meshing.{BoundAnswer, IsMeshableBound};
+ghost use Rattle.run_steps.specs.Reading.{IsSound};
+ghost use Rattle.tetfit_run.specs.Trial.{trial_of};
+
+use command_words::Options;
+use node_files::{Limits, NodeText};
+use run_steps::{Bound, Input, Status, bind_nodes};
+use std::alloc::Global;
+use std::marker::Model;
+
+/// An input that is tried, with the options of the try, within limits. Contracts see the three;
+/// they are such that the steps after reading may be taken.
+#[derive(Drop)]
+pub(crate) struct Trial<'a> {
+    pub(crate) limits: Limits,
+    pub(crate) options: &'a Options,
+    pub(crate) input: &'a Input,
+}
+
+impl<'a> Model for Trial<'a> {
+    ghost use Rattle.tetfit_run.specs.Trial.{MayBeTried, TrialValue, trial_of as seen_of};
+
+    ghost Value = { TrialValue };
+
+    ghost view = { λ t. seen_of t.limits t.options.now t.input.now };
+
+    ghost invariant = { λ t. MayBeTried t.limits t.options.now t.input.now };
+}
+
+impl<'a> Trial<'a> {
+    pub(crate) fn new(limits: Limits, options: &'a Options, input: &'a Input) -> Self
+        requires limits { AreIndexable limits }
+        requires input { IsSound input.now }
+        requires ranges { AreInRange options.now }
+        ensures { result ≡ trial_of limits options.now input.now }
+    {
+        Trial {
+            limits,
+            options,
+            input,
+        }
+    }
+
+    /// The points and the complex on their grid, where these are the points.
+    pub(crate) fn bind(&self, alloc: Global, nodes: NodeText) -> Result<Bound, Status>
+        requires { nodes ≡ self.now.input.nodes }
+        ensures answer { BoundAnswer self.now.limits self.now.options self.now.input result }
+        ensures meshable { IfOk result (IsMeshableBound self.now.options) }
+    {
+        bind_nodes(alloc, self.limits, self.options, nodes, &self.input.complex)
+    }
+}

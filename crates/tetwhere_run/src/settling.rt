@@ -1,0 +1,56 @@
+//! The points of a mesh on their least grid, and whether its rows are positive.
+
+ghost use Rattle.std.specs.Prelude.{◌≡◌, length, All, IfOk};
+ghost use Rattle.mesh_files.specs.ReadRows.{AreCornersBelow};
+ghost use Rattle.tetwhere_run.specs.Locating.{SettledAnswer, PositiveAnswer};
+
+use crate::reading::WhereText;
+use geo_laws::Points;
+use grid_coords::{DecimalPoints, Grid, Range};
+use mesh_check::{CheckFault, Defect, MOST_POINTS, first_not_positive};
+use node_files::{grid_points, least_grid};
+use std::alloc::Global;
+
+/// How large a coordinate of a mesh may be, in units of the points' least grid: as large as in a
+/// mesh of `tetfit`.
+const GRID: u64 = 536_870_912;
+
+/// The least grid of a mesh's points, and these points on it.
+#[derive(Drop)]
+pub struct Settled {
+    pub grid: Grid,
+    pub points: Points,
+}
+
+/// The points on their least grid.
+pub(crate) fn settle(alloc: Global, decimals: &DecimalPoints) -> Result<Settled, CheckFault>
+    ensures answer { SettledAnswer decimals.now result }
+    ensures count { IfOk result (λ settled. length settled.points ≡ length decimals.now) }
+{
+    let count = decimals.len() as u64;
+    if count > MOST_POINTS {
+        return Err(CheckFault::TooMany { count });
+    }
+    match least_grid(decimals, GRID) {
+        Ok(grid) => {
+            let points = grid_points(alloc, &grid, decimals.as_slice())?;
+            Ok(Settled { grid, points })
+        }
+        Err(Range { line }) => Err(CheckFault::OffGrid { line }),
+    }
+}
+
+/// Refuses with the first row that is not positive.
+pub(crate) fn want_positive(text: &WhereText, settled: &Settled) -> Result<(), CheckFault>
+    requires count { length settled.now.points ≡ length text.now.nodes.decimals }
+    requires there { All (AreCornersBelow (length text.now.nodes.decimals)) text.now.rows }
+    ensures { PositiveAnswer text.now settled.now result }
+{
+    match first_not_positive(&settled.points, &text.rows) {
+        Some(row) => Err(CheckFault::Unsound {
+            defect: Defect::NotPositive { row },
+            first: text.nodes.first,
+        }),
+        None => Ok(()),
+    }
+}

@@ -1,0 +1,30 @@
+//! Why the weights of a point list could not be read.
+
+ghost use Rattle.std.specs.Prelude.{◌≡◌};
+ghost use Rattle.weighted_mesh.specs.declared.weight_fault.WeightFault.TheVariants.{NoMemory as WantsMemory};
+
+use tet_ports::NoMemory;
+use tet_text::TextFault;
+use thiserror::Error;
+
+/// Why the weights of a point list could not be read.
+#[derive(Clone, Copy, Debug, PartialEq, Eq, Error)]
+pub enum WeightFault {
+    /// The first attribute of a point is no decimal.
+    #[error("{0}")]
+    Text(TextFault),
+    /// A weight is over 2^46 squares of grid units in size; the line of its point, from 1.
+    #[error("line {line}: weight off the grid")]
+    TooHeavy { line: usize },
+    /// Want of memory.
+    #[error("out of memory")]
+    NoMemory,
+}
+
+impl From<NoMemory> for WeightFault {
+    ghost from_gives = { λ _ made. made ≡ WantsMemory };
+
+    fn from(_want: NoMemory) -> WeightFault {
+        WeightFault::NoMemory
+    }
+}

@@ -1,5 +1,0 @@
-use Rattle.weighted_steps.proofs.Answering.{one_answer_law}
-use Rattle.weighted_steps.proofs.laws.law_one_answer.Goals as goal
-
-pub returns : goal.returns
-returns c = one_answer_law

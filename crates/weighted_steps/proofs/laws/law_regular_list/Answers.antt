@@ -1,5 +1,0 @@
-use Rattle.weighted_steps.proofs.Answering.{regular_list_law}
-use Rattle.weighted_steps.proofs.laws.law_regular_list.Goals as goal
-
-pub returns : goal.returns
-returns c = regular_list_law

@@ -1,3 +1,0 @@
-pub mod Hidden
-pub mod Meshing
-pub mod Laws

@@ -1,3 +1,0 @@
-pub mod Runs
-pub mod Pyramid
-pub mod Nonplanar
