@@ -1,5 +1,6 @@
 //! Which tetrahedra have a face and which faces and edges a list of tetrahedra has: the uses of
-//! faces, the tetrahedra on the other sides of faces, and the edges.
+//! faces, the tetrahedra on the other sides of faces, the edges, and a table of triangles in which
+//! a face is found by the sum of its corners.
 #![tactic(auto)]
 
 mod beginnings;

@@ -1,5 +1,6 @@
 //! Whether a list of tetrahedra, its faces and its neighbors are those of one mesh, and what stands
-//! against it first.
+//! against it first; the steps by which the files of a mesh are read and checked, and what is told
+//! of them.
 #![tactic(auto)]
 
 mod bent;

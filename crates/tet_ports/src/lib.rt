@@ -1,4 +1,5 @@
-//! Lists of items, bytes and names, and the traits by which the program reaches files and streams.
+//! Lists of items, bytes and names, the traits by which a program reaches files and streams, and
+//! how a program begins: with its words, the folder of the system and its streams.
 #![tactic(auto)]
 
 mod bytes;

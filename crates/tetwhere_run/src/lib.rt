@@ -1,4 +1,5 @@
-//! The run of the program `tetwhere`, over a folder and two streams.
+//! The program `tetwhere`: its words, the files of a mesh, the answers to a list of queries, and
+//! the run over a folder and two streams.
 #![tactic(auto)]
 
 mod answers;

@@ -1,4 +1,5 @@
-//! The regular list of weighted points, by inserting one point after another.
+//! The weights of a point list; the regular list of weighted points, by inserting one point after
+//! another; and the regular mesh of a point list, with the number of points that it hides.
 #![tactic(auto)]
 
 mod hidden;
