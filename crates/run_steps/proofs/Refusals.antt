@@ -12,21 +12,21 @@ use Rattle.run_steps.specs.Reading.{complex_file, points_alone, on_points, node_
 use Rattle.tet_ports.specs.Seen.{FolderSeen}
 use Rattle.run_steps.specs.Steps.{AndThen, IfMissing, Gives}
 use Rattle.run_steps.specs.declared.input.ComplexFile.{ComplexFile}
-use Rattle.run_steps.specs.declared.status.LimitKind.{LimitKind}
+use Rattle.run_steps.specs.declared.status.LimitKind.TheVariants.{Bytes as TooLong}
 use Rattle.run_steps.specs.declared.status.Status.{Status}
 use Rattle.run_steps.specs.declared.status.Status.TheVariants.{Missing, ReadFault, BadText, Limit, NoMemory}
 use Rattle.run_steps.proofs.Steps.{and_then_refuses}
 
 -- what each refusal of the reading of an input has
 module _ (P : Status → Type 0) (missing : (name : List ℕ) → P (Missing name)) (failed : (name : List ℕ) → P (ReadFault name)) (bad : (name : List ℕ) (fault : TextFault) → P (BadText name fault))
-    (limit : (what : LimitKind) → P (Limit what)) (want : P NoMemory) where
+    (long : (name : List ℕ) (most : ℕ) → P (Limit (TooLong name most))) (want : P NoMemory) where
   pub want_has : (s : Status) → s ≡ NoMemory → P s
   want_has s e = subst P (sym e) want
 
   pub fetch_has : (limits : Limits) (seen : FolderSeen) (name : List ℕ) (s : Status) → IsUnfetched limits seen name s → P s
   fetch_has limits seen name (Missing name') h = missing name'
   fetch_has limits seen name (ReadFault name') h = failed name'
-  fetch_has limits seen name (Limit what) h = limit what
+  fetch_has limits seen name (Limit (TooLong name' most)) h = long name' most
   fetch_has limits seen name NoMemory h = want
   fetch_has limits seen name s h = absurd h
 

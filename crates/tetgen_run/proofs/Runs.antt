@@ -74,11 +74,11 @@ words_refuse words NoMemory h = tt
 words_refuse words s h = absurd h
 
 input_refuses : (limits : Limits) (seen : FolderSeen) (options : Options) (piecewise : Bool) (s : Status) → InputOf limits piecewise seen options (Err s) → IsRefusal s
-input_refuses = input_has IsRefusal (λ name. tt) (λ name. tt) (λ name fault. tt) (λ what. tt) tt
+input_refuses = input_has IsRefusal (λ name. tt) (λ name. tt) (λ name fault. tt) (λ name most. tt) tt
 
 -- the message of such a refusal prints no points
 input_silent : (limits : Limits) (seen : FolderSeen) (options : Options) (piecewise : Bool) (s : Status) → InputOf limits piecewise seen options (Err s) → IsSilent s
-input_silent = input_has IsSilent (λ name. refl) (λ name. refl) (λ name fault. refl) (λ what. refl) refl
+input_silent = input_has IsSilent (λ name. refl) (λ name. refl) (λ name fault. refl) (λ name most. refl) refl
 
 want_refuses : (s : Status) → s ≡ NoMemory → IsRefusal s
 want_refuses s e = subst IsRefusal (sym e) tt
