@@ -1,8 +1,11 @@
 -- Texts that are appended one after another.
-use Rattle.std.proofs.Common.{◌≡◌, ℕ, List, ◌++◌, Result, Ok, Err, ap, ◌∙◌}
+use Rattle.std.proofs.Common.{◌≡◌, ℕ, List, ◌++◌, Result, Ok, Err, refl, ap, ◌∙◌}
 use Rattle.std.specs.Prelude.{OnOk}
 use Rattle.std.proofs.lemmas.List.{append_assoc}
 
-pub three : {E : Type 0} (r : Result (Unit {0}) E) (t u v w a b c : List ℕ) → u ≡ t ++ a → v ≡ u ++ b → OnOk r (w ≡ v ++ c) → OnOk r (w ≡ t ++ (a ++ (b ++ c)))
-three (Ok done) t u v w a b c e f h = h ∙ ap (λ xs. xs ++ c) (f ∙ ap (λ xs. xs ++ b) e) ∙ append_assoc (t ++ a) b c ∙ append_assoc t a (b ++ c)
-three (Err fault) t u v w a b c e f h = h
+pub two : {E : Type 0} (r : Result (Unit {0}) E) (t u v a b front : List ℕ) → u ≡ t ++ a → a ≡ front → OnOk r (v ≡ u ++ b) → OnOk r (v ≡ t ++ (front ++ b))
+two (Ok done) t u v a b front e f h = h ∙ ap (λ xs. xs ++ b) (e ∙ ap (λ xs. t ++ xs) f) ∙ append_assoc t front b
+two (Err fault) t u v a b front e f h = h
+
+pub behind : {E : Type 0} (r : Result (Unit {0}) E) (t u v a b : List ℕ) → u ≡ t ++ a → OnOk r (v ≡ u ++ b) → OnOk r (v ≡ t ++ (a ++ b))
+behind r t u v a b e h = two r t u v a b a e refl h

@@ -6,8 +6,10 @@ use Rattle.command_words.specs.declared.fault.WordsFault.{WordsFault}
 use Rattle.command_words.specs.declared.fault.WordsFault.TheVariants.{Usage as Misunderstood, NoMemory as WordsWanting}
 use Rattle.command_words.specs.declared.options.Options.{Options}
 use Rattle.tetfit_run.proofs.Models.{model_has, model_wider}
+use Rattle.tetgen_run.proofs.OnGrid.{IsOnGrid, made_on_grid}
 use Rattle.tetfit_run.specs.Hints.{IsHint, IsHintBy}
-use Rattle.tetfit_run.specs.Models.{ModelAnswer}
+use Rattle.tetfit_run.specs.Models.{IsStatedBy, ModelAnswer}
+use Rattle.tetfit_run.specs.declared.model.Model.{Model}
 use Rattle.tetfit_run.specs.Opening.{TellsOpening}
 use Rattle.tetfit_run.specs.Trying.{IsFitted, IsNumbered, IsRefused, at_decimals}
 use Rattle.tetfit_run.specs.declared.fitting.Refused.{Refused as Unfit}
@@ -54,10 +56,10 @@ usage_refuses words NoMemory h = tt
 usage_refuses words s h = absurd h
 
 model_refuses : (folder : FolderSeen) (options : Options) (s : Status) → ModelAnswer fit_limits folder options (Err s) → IsRefusal s
-model_refuses = model_has IsRefusal (λ name. tt) (λ name. tt) (λ name fault. tt) (λ what. tt) tt fit_limits
+model_refuses = model_has IsRefusal (λ name. tt) (λ name. tt) (λ name fault. tt) (λ name most. tt) tt fit_limits
 
 model_silent : (folder : FolderSeen) (options : Options) (s : Status) → ModelAnswer fit_limits folder options (Err s) → IsSilent s
-model_silent = model_has IsSilent (λ name. refl) (λ name. refl) (λ name fault. refl) (λ what. refl) refl fit_limits
+model_silent = model_has IsSilent (λ name. refl) (λ name. refl) (λ name fault. refl) (λ name most. refl) refl fit_limits
 
 fitted_refuses : (options : Options) (input : Input) (s : Status) → IsFittedTo options input (Err s) → IsRefusal s
 fitted_refuses options input s h = meshed_refuses fit_limits (at_decimals h.0 options) input s h.1.answer
@@ -84,44 +86,49 @@ numbers_of options folder hint s by e = λ t. absurd (not_true (subst IsTrue e t
 pub numbers_points : (words : List (List ℕ)) (folder : FolderSeen) (hint : List ℕ) → NumbersPoints (IsFitNumbering words folder hint)
 numbers_points words = numbers_of (fit_options words)
 
-numbered : (folder : FolderSeen) (options : Options) (input : Input) (hint : List ℕ) (m : ℕ) (s : Status) (by : Option Numbering) → ModelAnswer fit_limits folder options (Ok input)
-    → IsFitted fit_limits options input m (Err s) → IsNumbered fit_limits (at_decimals m options) input s by → IsHint fit_limits (at_decimals m options) input by s hint
-    → IsNumberingOf options folder hint s by
-numbered folder options input hint m s None r f n h = numbers_of options folder hint s None (bound_silent fit_limits (at_decimals m options) input s n)
-numbered folder options input hint m s (Some by) r f n h = λ t. (input, r, m, f, n.0, n.1, ap Some n.3, subst (λ q. IsHintBy fit_limits (at_decimals m options) input q s hint) n.3 h)
+numbered : (folder : FolderSeen) (options : Options) (model : Model) (hint : List ℕ) (m : ℕ) (s : Status) (by : Option Numbering) → ModelAnswer fit_limits folder options (Ok model.input)
+    → IsFitted fit_limits options model.input m (Err s) → IsNumbered fit_limits (at_decimals m options) model.input s by
+    → IsHint fit_limits model.stated (at_decimals m options) model.input by s hint → IsNumberingOf options folder hint s by
+numbered folder options model hint m s None r f n h = numbers_of options folder hint s None (bound_silent fit_limits (at_decimals m options) model.input s n)
+numbered folder options model hint m s (Some by) r f n h = λ t. (model.input, r, m, f, n.0, n.1, ap Some n.3, subst (λ q. IsHintBy fit_limits (at_decimals m options) model.input q s hint) n.3 h)
 
--- a point that is off the grid
-off_grid : (folder : FolderSeen) (options : Options) (input : Input) (hint : List ℕ) (m : ℕ) (s : Status) (by : Option Numbering) → ModelAnswer fit_limits folder options (Ok input)
-    → IsHint fit_limits (at_decimals m options) input by s hint → TellsOffGrid options folder hint s
-off_grid folder options input hint m (Limit (Grid line)) None r h = inr (input, r, h)
-off_grid folder options input hint m (Limit (Grid line)) (Some by) r h = inl h
-off_grid folder options input hint m s by r h = tt
+-- ---- a point off the grid
 
--- nothing more is told yet
-none_off : (folder : FolderSeen) (options : Options) (hint : List ℕ) (s : Status) → hint ≡ [] → TellsOffGrid options folder hint s
-none_off folder options hint (Limit (Grid line)) e = inl e
-none_off folder options hint s e = tt
+-- no reading of a model is refused for one
+model_on_grid : (folder : FolderSeen) (options : Options) (s : Status) → ModelAnswer fit_limits folder options (Err s) → IsOnGrid s
+model_on_grid = model_has IsOnGrid (λ name. tt) (λ name. tt) (λ name fault. tt) (λ name most. tt) tt fit_limits
+
+-- of another status nothing is told
+on_grid : (folder : FolderSeen) (options : Options) (hint : List ℕ) (s : Status) → IsOnGrid s → TellsOffGrid options folder hint s
+on_grid folder options hint (Limit (Grid line)) h = absurd h
+on_grid folder options hint s h = tt
+
+off_grid : (folder : FolderSeen) (options : Options) (model : Model) (hint : List ℕ) (m : ℕ) (s : Status) (by : Option Numbering) → ModelAnswer fit_limits folder options (Ok model.input) → IsStatedBy folder options model.stated
+    → IsNumbered fit_limits (at_decimals m options) model.input s by → IsHint fit_limits model.stated (at_decimals m options) model.input by s hint → TellsOffGrid options folder hint s
+off_grid folder options model hint m (Limit (Grid line)) None r w n h = (model.input, r, model.stated, w, h)
+off_grid folder options model hint m (Limit (Grid line)) (Some by) r w n h = absurd (made_on_grid (at_decimals m options) n.0 (Limit (Grid line)) n.2)
+off_grid folder options model hint m s by r w n h = tt
 
 -- the refusal of what is fitted, with what more is told of it
-pub unfitted_is : (options : Options) (input : Input) (limits other : Limits) (refused : Unfit) (hint : List ℕ) → limits ≡ fit_limits → other ≡ fit_limits → IsRefused limits options input refused
-    → IsHint other (at_decimals refused.decimals options) input refused.end.numbering refused.end.status hint → IsUnfitted options input hint (Refused refused.end.status refused.end.numbering)
-unfitted_is options input limits other refused hint e f r h =
-    let k = subst (λ l. IsRefused l options input refused) e r in
-    (refused.decimals, k.0, k.1, subst (λ l. IsHint l (at_decimals refused.decimals options) input refused.end.numbering refused.end.status hint) f h)
+pub unfitted_is : (options : Options) (model : Model) (limits other : Limits) (refused : Unfit) (hint : List ℕ) → limits ≡ fit_limits → other ≡ fit_limits → IsRefused limits options model.input refused
+    → IsHint other model.stated (at_decimals refused.decimals options) model.input refused.end.numbering refused.end.status hint → IsUnfitted options model hint (Refused refused.end.status refused.end.numbering)
+unfitted_is options model limits other refused hint e f r h =
+    let k = subst (λ l. IsRefused l options model.input refused) e r in
+    (refused.decimals, k.0, k.1, subst (λ l. IsHint l model.stated (at_decimals refused.decimals options) model.input refused.end.numbering refused.end.status hint) f h)
 
 -- where there is no model
-pub model_stops : (folder : FolderSeen) (options : Options) (hint : List ℕ) (s : Status) → hint ≡ [] → ModelAnswer fit_limits folder options (Err s)
+pub model_stops : (folder : FolderSeen) (options : Options) (hint : List ℕ) (s : Status) → ModelAnswer fit_limits folder options (Err s)
     → StopsSo (OutputsOfOptions options folder) (IsKnownOf options folder hint) (Refused s None)
-model_stops folder options hint s e r = (inl r, (numbers_of options folder hint s None (model_silent folder options s r), none_off folder options hint s e))
+model_stops folder options hint s r = (inl r, (numbers_of options folder hint s None (model_silent folder options s r), on_grid folder options hint s (model_on_grid folder options s r)))
 
 -- where it has no mesh
-pub unfitted_stops : (folder : FolderSeen) (options : Options) (input : Input) (hint : List ℕ) (stop : Stop) → ModelAnswer fit_limits folder options (Ok input) → IsUnfitted options input hint stop
-    → StopsSo (OutputsOfOptions options folder) (IsKnownOf options folder hint) stop
-unfitted_stops folder options input hint (Refused s by) r h =
-    (inr (input, r, (h.0, h.1)), (numbered folder options input hint h.0 s by r h.1 h.2 h.3, off_grid folder options input hint h.0 s by r h.3))
-unfitted_stops folder options input hint (Unwritten text) r h = absurd h
-unfitted_stops folder options input hint Unsummed r h = absurd h
-unfitted_stops folder options input hint Wanting r h = tt
+pub unfitted_stops : (folder : FolderSeen) (options : Options) (model : Model) (hint : List ℕ) (stop : Stop) → ModelAnswer fit_limits folder options (Ok model.input) → IsStatedBy folder options model.stated
+    → IsUnfitted options model hint stop → StopsSo (OutputsOfOptions options folder) (IsKnownOf options folder hint) stop
+unfitted_stops folder options model hint (Refused s by) r w h =
+    (inr (model.input, r, (h.0, h.1)), (numbered folder options model hint h.0 s by r h.1 h.2 h.3, off_grid folder options model hint h.0 s by r w h.2 h.3))
+unfitted_stops folder options model hint (Unwritten text) r w h = absurd h
+unfitted_stops folder options model hint Unsummed r w h = absurd h
+unfitted_stops folder options model hint Wanting r w h = tt
 
 -- where the words are not understood
 pub usage_stops : (words : List (List ℕ)) (folder : FolderSeen) (hint : List ℕ) (answer : Result Options WordsFault) (f : WordsFault) → answer ≡ Err f

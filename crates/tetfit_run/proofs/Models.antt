@@ -1,15 +1,17 @@
 -- What is read of a model, in a wider view, and by which statuses it is refused.
-use Rattle.std.proofs.Common.{◌≡◌, ℕ, Bool, true, false, List, Result, Err, sym, subst, ◌∙◌}
+use Rattle.std.proofs.Common.{◌≡◌, ℕ, Bool, true, false, List, Result, Ok, Err, sym, subst, ◌∙◌}
+use Rattle.std.specs.Prelude.{IfOk}
 use Rattle.command_words.specs.Names.{file_name}
 use Rattle.command_words.specs.declared.options.Extension.TheVariants.{Stl}
 use Rattle.command_words.specs.declared.options.Options.{Options}
 use Rattle.node_files.specs.declared.limits.Limits.{Limits}
-use Rattle.run_steps.specs.Reading.{complex_file, FetchAnswer, IsRead, TextAnswer, NodesAnswer, BoundedAnswer}
+use Rattle.run_steps.specs.Reading.{complex_file, FetchAnswer, InputAnswer, IsRead, TextAnswer, NodesAnswer, BoundedAnswer}
+use Rattle.tet_ports.specs.Files.{Holds}
 use Rattle.tet_ports.specs.Seen.{FolderSeen}
 use Rattle.run_steps.specs.Steps.{AndThen, Gives}
 use Rattle.run_steps.specs.declared.input.ComplexFile.{ComplexFile}
 use Rattle.run_steps.specs.declared.input.Input.{Input}
-use Rattle.run_steps.specs.declared.status.LimitKind.{LimitKind}
+use Rattle.run_steps.specs.declared.status.LimitKind.TheVariants.{Bytes as TooLong}
 use Rattle.run_steps.specs.declared.status.Status.{Status}
 use Rattle.run_steps.specs.declared.status.Status.TheVariants.{Missing, ReadFault, BadText, Limit, NoMemory}
 use Rattle.run_steps.proofs.Refusals.{want_has, fetch_has, text_has, nodes_have, bounded_has, input_has}
@@ -17,7 +19,9 @@ use Rattle.run_steps.proofs.Steps.{and_then_ok, and_then_refuses, and_then_wider
 use Rattle.tet_ports.proofs.Windows.{IsWithin}
 use Rattle.run_steps.proofs.Wider.{fetch_wider, bounded_wider, input_wider}
 use Rattle.tet_text.specs.declared.fault.TextFault.{TextFault}
-use Rattle.tetfit_run.specs.Models.{stl_text_of, names_stl, StlAnswer, StlInputAnswer, ModelBy, ModelAnswer}
+use Rattle.tetfit_run.specs.Models.{stated_of, stl_text_of, names_stl, IsStatedBy, IsStatedIf, IsStatedInStl, StlAnswer, StlInputAnswer, ModelBy, ModelAnswer}
+use Rattle.tetfit_run.specs.declared.model.Model.{Model}
+use Rattle.tetfit_run.specs.declared.model.Stated.{Stated}
 
 -- the options name an `.stl` file, and this is read of it
 pub stl_model : (limits : Limits) (seen : FolderSeen) (options : Options) (r : Result Input Status) → names_stl options ≡ true → StlInputAnswer limits seen options.base r → ModelAnswer limits seen options r
@@ -30,6 +34,21 @@ stl_fetched limits seen base asked name bytes r a n read spelled =
     let wanted = file_name base Stl in
     and_then_ok (FetchAnswer limits seen wanted) (λ bytes. AndThen (TextAnswer wanted (stl_text_of bytes)) (λ text. Gives (complex_file wanted text))) bytes r
     (subst (λ x. IsRead limits seen.files_before x bytes) a read) (subst (λ x. AndThen (TextAnswer x (stl_text_of bytes)) (λ text. Gives (complex_file x text)) r) (n ∙ a) spelled)
+
+-- no `.stl` file is named, and this is read
+pub other_model : (limits : Limits) (seen : FolderSeen) (options : Options) (r : Result Input Status) → names_stl options ≡ false → InputAnswer limits seen options r → ModelAnswer limits seen options r
+other_model limits seen options r named = subst (λ b. ModelBy b limits seen options r) (sym named)
+
+-- what the places of points in a file count, by the bytes that were fetched
+pub stated_told : (limits : Limits) (seen : FolderSeen) (base asked name bytes : List ℕ) (stated : Stated) (r : Result Model Status) → asked ≡ file_name base Stl → name ≡ asked → IsRead limits seen.files_before asked bytes
+    → stated ≡ stated_of bytes → IfOk r (λ model. model.stated ≡ stated) → IfOk r (λ model. IsStatedInStl seen base model.stated)
+stated_told limits seen base asked name bytes stated (Ok model) a n read e same = (bytes, subst (λ x. Holds seen.files_before x bytes) a read.0, same ∙ e)
+stated_told limits seen base asked name bytes stated (Err status) a n read e same = same
+
+-- by whether an `.stl` file is named
+pub stated_if : (named : Bool) (seen : FolderSeen) (options : Options) (r : Result Model Status) → names_stl options ≡ named → IfOk r (λ model. IsStatedIf named seen options model.stated)
+    → IfOk r (λ model. IsStatedBy seen options model.stated)
+stated_if named seen options r e = subst (λ b. IfOk r (λ model. IsStatedIf b seen options model.stated)) (sym e)
 
 -- what is read over a part of a run is read over all of it
 module _ (limits : Limits) (part wide : FolderSeen) (w : IsWithin part wide) where
@@ -53,23 +72,23 @@ module _ (limits : Limits) (part wide : FolderSeen) (w : IsWithin part wide) whe
 
 -- what each refusal of the reading of a model has
 module _ (P : Status → Type 0) (missing : (name : List ℕ) → P (Missing name)) (failed : (name : List ℕ) → P (ReadFault name)) (bad : (name : List ℕ) (fault : TextFault) → P (BadText name fault))
-    (limit : (what : LimitKind) → P (Limit what)) (want : P NoMemory) where
+    (long : (name : List ℕ) (most : ℕ) → P (Limit (TooLong name most))) (want : P NoMemory) where
   stl_has : (limits : Limits) (seen : FolderSeen) (base : List ℕ) (s : Status) → StlAnswer limits seen base (Err s) → P s
   stl_has limits seen base =
       let name = file_name base Stl in
-      and_then_refuses P (FetchAnswer limits seen name) (λ bytes. AndThen (TextAnswer name (stl_text_of bytes)) (λ text. Gives (complex_file name text))) (fetch_has P missing failed bad limit want limits seen name)
-      (λ bytes. and_then_refuses P (TextAnswer name (stl_text_of bytes)) (λ text. Gives (complex_file name text)) (text_has P missing failed bad limit want name (stl_text_of bytes))
-      (λ text. want_has P missing failed bad limit want))
+      and_then_refuses P (FetchAnswer limits seen name) (λ bytes. AndThen (TextAnswer name (stl_text_of bytes)) (λ text. Gives (complex_file name text))) (fetch_has P missing failed bad long want limits seen name)
+      (λ bytes. and_then_refuses P (TextAnswer name (stl_text_of bytes)) (λ text. Gives (complex_file name text)) (text_has P missing failed bad long want name (stl_text_of bytes))
+      (λ text. want_has P missing failed bad long want))
 
   stl_input_has : (limits : Limits) (seen : FolderSeen) (base : List ℕ) (s : Status) → StlInputAnswer limits seen base (Err s) → P s
   stl_input_has limits seen base =
       and_then_refuses P (StlAnswer limits seen base) (λ file. AndThen (NodesAnswer limits seen base file.text.nodes) (BoundedAnswer file)) (stl_has limits seen base)
-      (λ file. and_then_refuses P (NodesAnswer limits seen base file.text.nodes) (BoundedAnswer file) (nodes_have P missing failed bad limit want limits seen base file.text.nodes)
-      (bounded_has P missing failed bad limit want file))
+      (λ file. and_then_refuses P (NodesAnswer limits seen base file.text.nodes) (BoundedAnswer file) (nodes_have P missing failed bad long want limits seen base file.text.nodes)
+      (bounded_has P missing failed bad long want file))
 
   model_by_has : (stl : Bool) (limits : Limits) (seen : FolderSeen) (options : Options) (s : Status) → ModelBy stl limits seen options (Err s) → P s
   model_by_has true limits seen options = stl_input_has limits seen options.base
-  model_by_has false limits seen options = input_has P missing failed bad limit want limits seen options options.piecewise
+  model_by_has false limits seen options = input_has P missing failed bad long want limits seen options options.piecewise
 
   pub model_has : (limits : Limits) (seen : FolderSeen) (options : Options) (s : Status) → ModelAnswer limits seen options (Err s) → P s
   model_has limits seen options = model_by_has (names_stl options) limits seen options

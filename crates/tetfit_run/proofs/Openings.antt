@@ -1,6 +1,6 @@
 -- The sides of facets, and what is told of them.
-use Rattle.std.proofs.Common.{◌≡◌, ℕ, ◌<◌, ◌≤◌, true, false, List, [], length, get_or, None, Result, Ok, Err, inl, inr, sym, ◌∙◌, subst, arith}
-use Rattle.std.specs.Prelude.{HoldsAt, IfOk}
+use Rattle.std.proofs.Common.{◌≡◌, ℕ, ◌<◌, ◌≤◌, Bool, true, false, List, [], length, get_or, None, Result, Ok, Err, inl, sym, ◌∙◌, subst, arith}
+use Rattle.std.specs.Prelude.{◌==◌, not, HoldsAt, IfOk}
 use Rattle.std.proofs.lemmas.Bool.{true≢false}
 use Rattle.command_words.specs.declared.options.Options.{Options}
 use Rattle.geo_laws.specs.Complex.{Complex, Polygon}
@@ -13,7 +13,7 @@ use Rattle.run_steps.specs.declared.input.Input.{Input}
 use Rattle.run_steps.specs.declared.mesh.Bound.{Bound}
 use Rattle.run_steps.specs.declared.numbering.Numbering.{Numbering}
 use Rattle.tet_ports.specs.declared.NoMemory.{NoMemory}
-use Rattle.tetfit_run.specs.Opening.{is_side_at, open_line, IsOpenAt, IsSideOfFacetAt, TellsOpening, TellsOpenSide}
+use Rattle.tetfit_run.specs.Opening.{carved_line, is_side_at, open_line, IsOpenAt, IsSideOfFacetAt, TellsOpening, TellsOpeningIf, TellsOpeningIn, TellsOpenSide}
 
 -- the piece is no side of the polygon with these corners
 abbrev pub HasNoSide : Piece → List ℕ → Type 0
@@ -58,13 +58,15 @@ side_told bound side facet by (Ok line) o b is = inl (record {
 })
 side_told bound side facet by (Err e) o b is = is
 
--- of an input on its grid
-told_over : (limits : Limits) (options : Options) (input : Input) (bound : Bound) (line : List ℕ) → BoundAnswer limits options input (Ok bound) → TellsOpenSide bound line
-    → TellsOpening limits options input line
-told_over limits options input bound line h (inl told) = inl (bound, h, told)
-told_over limits options input bound line h (inr is) = inr is
+-- by whether there are hole points
+pub carved_told : (bound : Bound) (test : Bool) (r : Result (List ℕ) NoMemory) → test ≡ not (length bound.complex.holes == 0) → test ≡ true → IfOk r (λ line. line ≡ carved_line) → IfOk r (TellsOpeningIn bound)
+carved_told bound test r e t told = subst (λ b. IfOk r (TellsOpeningIf b bound)) (sym t ∙ e) told
 
+pub not_carved_told : (bound : Bound) (test : Bool) (r : Result (List ℕ) NoMemory) → test ≡ not (length bound.complex.holes == 0) → test ≡ false → IfOk r (TellsOpenSide bound) → IfOk r (TellsOpeningIn bound)
+not_carved_told bound test r e f told = subst (λ b. IfOk r (TellsOpeningIf b bound)) (sym f ∙ e) told
+
+-- of an input on its grid
 pub opening_told : (limits : Limits) (options tried : Options) (input : Input) (bound : Bound) (r : Result (List ℕ) NoMemory) → tried ≡ options → BoundAnswer limits tried input (Ok bound)
-    → IfOk r (TellsOpenSide bound) → IfOk r (TellsOpening limits options input)
-opening_told limits options tried input bound (Ok line) t h told = told_over limits options input bound line (subst (λ q. BoundAnswer limits q input (Ok bound)) t h) told
+    → IfOk r (TellsOpeningIn bound) → IfOk r (TellsOpening limits options input)
+opening_told limits options tried input bound (Ok line) t h told = (bound, subst (λ q. BoundAnswer limits q input (Ok bound)) t h, told)
 opening_told limits options tried input bound (Err e) t h told = told

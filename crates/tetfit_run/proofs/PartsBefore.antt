@@ -1,6 +1,7 @@
 -- What a piece is a part of.
-use Rattle.std.proofs.Common.{ℕ, zero, suc, ◌-◌, ◌<◌, ◌≡◌, max, length, List, Option, Result, Ok, Err, inl, refl, subst, sym, arith}
-use Rattle.std.specs.Prelude.{IfOk, IfSome}
+use Rattle.std.proofs.Common.{ℕ, zero, suc, ◌-◌, ◌<◌, ◌≡◌, ◌≢◌, Bool, true, false, max, length, List, Option, Result, Ok, Err, inl, refl, subst, sym, ◌∙◌, arith, eqb-true, eq-eqb}
+use Rattle.std.specs.Prelude.{◌==◌, IfOk, IfSome}
+use Rattle.std.proofs.lemmas.Bool.{true≢false}
 use Rattle.command_words.specs.declared.options.Options.{Options}
 use Rattle.geo_laws.specs.declared.complex.Piece.{Piece}
 use Rattle.node_files.specs.declared.limits.Limits.{Limits}
@@ -9,7 +10,7 @@ use Rattle.run_steps.specs.declared.mesh.Bound.{Bound}
 use Rattle.run_steps.specs.declared.numbering.Numbering.{Numbering}
 use Rattle.tet_ports.specs.declared.NoMemory.{NoMemory}
 use Rattle.run_steps.specs.declared.input.Input.{Input}
-use Rattle.tetfit_run.specs.Hints.{first_facet, segment_line, IsHalvedAfter, IsHalvedPartOf, TellsLine, TellsSegment}
+use Rattle.tetfit_run.specs.Hints.{first_facet, segment_line, IsHalvedAfter, IsHalvedPartOf, IsLineOf, TellsSegment}
 
 -- as many points
 pub halved_too : (limits : Limits) (options : Options) (input : Input) (n m : ℕ) (found : Option Piece) → n ≡ m → IfSome found (IsHalvedAfter limits options input n)
@@ -32,16 +33,26 @@ part_whole limits options input count left p e = subst (λ k. IsHalvedPartOf lim
 
 -- the line of a segment
 pub line_told : (limits : Limits) (options : Options) (input : Input) (by : Numbering) (whole : Piece) (bound : Bound) (r : Result (List ℕ) NoMemory)
-    → BoundAnswer limits options input (Ok bound) → IfOk r (λ line. line ≡ segment_line by whole (first_facet bound.complex whole)) → IfOk r (TellsLine limits options input by whole)
-line_told limits options input by whole bound (Ok line) h is = inl (record { bound = bound; on_grid = h; is = is })
+    → BoundAnswer limits options input (Ok bound) → IfOk r (λ line. line ≡ segment_line by whole (first_facet bound.complex whole)) → IfOk r (IsLineOf limits options input by whole)
+line_told limits options input by whole bound (Ok line) h is = record { bound = bound; on_grid = h; is = is }
 line_told limits options input by whole bound (Err e) h is = is
 
 -- and of a piece
 pub whole_told : (limits : Limits) (options : Options) (input : Input) (by : Numbering) (p whole : Piece) (count : ℕ) (r : Result (List ℕ) NoMemory) → count ≡ length by.names
-    → IsHalvedPartOf limits options input count p.halvings p whole → IfOk r (TellsLine limits options input by whole) → IfOk r (TellsSegment limits options input by p)
+    → IsHalvedPartOf limits options input count p.halvings p whole → IfOk r (IsLineOf limits options input by whole) → IfOk r (TellsSegment limits options input by p)
 whole_told limits options input by p whole count (Ok line) c part told = inl (record {
   whole = whole;
   part = subst (λ n. IsHalvedPartOf limits options input n p.halvings p whole) c part;
   told = told;
 })
 whole_told limits options input by p whole count (Err e) c part told = told
+
+-- of a piece that was never halved
+pub unhalved_told : (limits : Limits) (options : Options) (input : Input) (by : Numbering) (p : Piece) (test : Bool) (r : Result (List ℕ) NoMemory) → test ≡ (p.halvings == 0) → test ≡ true
+    → IfOk r (IsLineOf limits options input by p) → IfOk r (TellsSegment limits options input by p)
+unhalved_told limits options input by p test r e t told =
+    whole_told limits options input by p p (length by.names) r refl (part_whole limits options input (length by.names) p.halvings p (eqb-true p.halvings 0 (sym e ∙ t))) told
+
+-- of one that was halved
+pub not_zero : (n : ℕ) (test : Bool) → test ≡ (n == 0) → test ≡ false → n ≢ 0
+not_zero n test e f = λ z. true≢false (sym (eq-eqb n 0 z) ∙ sym e ∙ f)

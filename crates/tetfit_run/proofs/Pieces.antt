@@ -1,5 +1,5 @@
 -- Two pieces that are put one after the other.
-use Rattle.std.proofs.Common.{◌≡◌, ◌≤◌, inl, inr, ℕ, List, [], ◌++◌, ◌+◌, length, Option, Some, None, Result, Err, refl, sym, ap, ◌∙◌, subst, arith}
+use Rattle.std.proofs.Common.{◌≡◌, ◌≤◌, inl, inr, ℕ, Bool, true, false, List, [], ◌++◌, ◌+◌, length, Option, Some, None, Result, Ok, Err, refl, sym, ap, ◌∙◌, subst, arith}
 use Rattle.std.specs.Prelude.{take, drop}
 use Rattle.std.proofs.Math.Seq.{take-append_seam, take-append-add}
 use Rattle.std.proofs.lemmas.List.{append-nil, append_assoc, take-append-drop}
@@ -9,11 +9,14 @@ use Rattle.tet_ports.specs.declared.sink.PutFault.TheVariants.{Failed, NoMemory 
 use Rattle.tet_ports.specs.Written.{PartlyPut, with_written}
 use Rattle.run_steps.specs.declared.numbering.Numbering.{Numbering}
 use Rattle.run_steps.specs.declared.status.Status.{Status}
-use Rattle.run_steps.specs.declared.status.Status.TheVariants.{NoMemory}
-use Rattle.tet_ports.specs.Seen.{IsMessagePut}
-use Rattle.tetgen_run.specs.Ends.{IsToldAs, answer_of, numbering_in}
+use Rattle.run_steps.specs.declared.outputs.Outputs.{Outputs}
+use Rattle.run_steps.specs.declared.status.Status.TheVariants.{Done, NoMemory, WriteFault}
+use Rattle.tet_ports.specs.Seen.{IsMessagePut, FolderSeen, SinkSeen, SinkState, sink_seen}
+use Rattle.tetgen_run.proofs.Refusals.{IsRefusal}
+use Rattle.tetgen_run.specs.Ends.{FinishesSo, IsToldAs, StopsSo, answer_of}
 use Rattle.tetgen_run.specs.declared.stop.Stop.{Stop}
-use Rattle.tetfit_run.specs.Run.{AreStages}
+use Rattle.tetgen_run.specs.declared.stop.Stop.TheVariants.{Refused, Unwritten, Unsummed, NoMemory as Wanting}
+use Rattle.tetfit_run.specs.Stages.{AreStagesPut, IsCut, IsMadeAt}
 
 pub piece_append : (w : Option (List ℕ)) (a b : List ℕ) → with_written (with_written w a) b ≡ with_written w (a ++ b)
 piece_append None a b = refl
@@ -58,24 +61,53 @@ pub put_front : {T : Type 0} (front back : List ℕ) (before now : Option (List 
 put_front front back before now fb fn wb wn Failed r e failed partly wanting kept = inr (partly_first before now front back (partly e), inl (failed e))
 put_front front back before now fb fn wb wn PutNoMemory r e failed partly wanting kept = inr ((0, kept e ∙ sym (nothing_put before)), inr (wanting e))
 
--- the sink as it was earlier
-put_earlier : (message : List ℕ) (before now : Option (List ℕ)) (fb fm fn wb wm wn : ℕ) → fb ≤ fm → wb ≤ wm
-    → IsMessagePut message (record { written_before = before; written_now = now; faults_before = fm; faults_now = fn; wants_before = wm; wants_now = wn })
-    → IsMessagePut message (record { written_before = before; written_now = now; faults_before = fb; faults_now = fn; wants_before = wb; wants_now = wn })
-put_earlier message before now fb fm fn wb wm wn f w (inl h) = inl h
-put_earlier message before now fb fm fn wb wm wn f w (inr (p, inl r)) = inr (p, inl (rose_later fm fn fb f r))
-put_earlier message before now fb fm fn wb wm wn f w (inr (p, inr r)) = inr (p, inr (rose_later wm wn wb w r))
+-- ---- stages
 
-pub told_earlier : (message : Option Numbering → Status → List ℕ) (stop : Stop) (s : Status) (before now : Option (List ℕ)) (fb fm fn wb wm wn : ℕ) → fb ≤ fm → wb ≤ wm
-    → IsToldAs message stop (record { written_before = before; written_now = now; faults_before = fm; faults_now = fn; wants_before = wm; wants_now = wn }) s
-    → IsToldAs message stop (record { written_before = before; written_now = now; faults_before = fb; faults_now = fn; wants_before = wb; wants_now = wn }) s
-told_earlier message stop s before now fb fm fn wb wm wn f w (inl h) = inl (h.0, put_earlier (message (numbering_in stop) (answer_of (Err stop))) before now fb fm fn wb wm wn f w h.1)
-told_earlier message stop s before now fb fm fn wb wm wn f w (inr h) = inr (h.0, h.1, put_earlier (message None NoMemory) before now fb fm fn wb wm wn f w h.2)
+-- a sink from one state to a later one
+abbrev pub between : SinkState → SinkState → SinkSeen
+between old now = sink_seen (λ s. s) old now
 
--- stages behind stages
-pub stages_after : (words : List (List ℕ)) (before mid now : Option (List ℕ)) → AreStages words before mid → AreStages words mid now → AreStages words before now
-stages_after words before mid now h k = record {
-  lines = h.lines ++ k.lines;
-  more = k.more ∙ ap (λ w. with_written w k.lines) h.more ∙ piece_append before h.lines k.lines;
-  none = λ e. k.none e ∙ h.none e;
-}
+-- a stage that is said is put
+pub stage_put : (text : List ℕ) (err : SinkSeen) (all : Bool) → (all ≡ true → err.written_now ≡ with_written err.written_before text) → (all ≡ false → IsCut text err) → IsMessagePut text err
+stage_put text err true whole cut = inl (whole refl)
+stage_put text err false whole cut = inr (cut refl)
+
+-- both stages, of which the second is not said where the first is cut
+pub first_cut : (front back : List ℕ) (err : SinkSeen) → IsCut front err → IsMessagePut (front ++ back) err
+first_cut front back err h = inr (partly_first err.written_before err.written_now front back h.0, h.1)
+
+-- the second is said where the first was put whole
+pub both_put : (front back : List ℕ) (all : Bool) (old mid now : SinkState) → (all ≡ true → mid.written ≡ with_written old.written front) → (all ≡ false → IsCut front (between old mid))
+    → old.faults ≤ mid.faults → old.wants ≤ mid.wants → (all ≡ true → IsMessagePut back (between mid now)) → (all ≡ false → now ≡ mid) → IsMessagePut (front ++ back) (between old now)
+both_put front back true old mid now whole cut f w said kept =
+    put_after front back old.written mid.written now.written old.faults mid.faults now.faults old.wants mid.wants now.wants (whole refl) f w (said refl)
+both_put front back false old mid now whole cut f w said kept =
+    subst (λ s. IsMessagePut (front ++ back) (between old s)) (sym (kept refl)) (first_cut front back (between old mid) (cut refl))
+
+-- where a step refuses, not all texts were made
+refused_unmade : (s : Status) → IsRefusal s → IsMadeAt s false
+refused_unmade Done r = absurd r
+refused_unmade (WriteFault name) r = absurd r
+refused_unmade NoMemory r = tt
+refused_unmade s r = refl
+
+pub stopped_unmade : (Made : Result Outputs Status → Type 0) (Numbered : Status → Option Numbering → Type 0) (stop : Stop) → ((s : Status) → Made (Err s) → IsRefusal s) → StopsSo Made Numbered stop
+    → IsMadeAt (answer_of (Err stop)) false
+stopped_unmade Made Numbered (Refused s by) refuses h = refused_unmade s (refuses s h.0)
+stopped_unmade Made Numbered (Unwritten text) refuses h = absurd h
+stopped_unmade Made Numbered Unsummed refuses h = absurd h
+stopped_unmade Made Numbered Wanting refuses h = tt
+
+-- where they are stored, they were
+pub finished_made : (outputs : Outputs) (folder : FolderSeen) (out : SinkSeen) (r : Result (Unit {0}) Stop) → FinishesSo outputs folder out r → IsMadeAt (answer_of r) true
+finished_made outputs folder out (Ok done) h = refl
+finished_made outputs folder out (Err (Refused s by)) h = absurd h
+finished_made outputs folder out (Err (Unwritten text)) h = refl
+finished_made outputs folder out (Err Unsummed) h = refl
+finished_made outputs folder out (Err Wanting) h = tt
+
+-- the stages of a run whose message is put, or not for want of memory
+pub stages_told : (message : Option Numbering → Status → List ℕ) (words : List (List ℕ)) (stop : Stop) (first err : SinkSeen) (s : Status) → IsToldAs message stop err s → AreStagesPut words (answer_of (Err stop)) first
+    → AreStagesPut words s first
+stages_told message words stop first err s (inl told) h = subst (λ q. AreStagesPut words q first) (sym told.0) h
+stages_told message words stop first err s (inr told) h = subst (λ q. AreStagesPut words q first) (sym told.0) (h.0, tt, h.2)

@@ -1,5 +1,5 @@
--- What more is told of a model that is refused.
-use Rattle.std.specs.Prelude.{◌≡◌, ◌⊎◌, ℕ, zero, suc, ◌+◌, ◌-◌, min, max, nat_lt, nat_le, ◌==◌, ◌&&◌, Bool, length, position, drop, find, slice_get, slice_index, List, [], ◌++◌, codes, Option, Some, None, Ok, Err, if◌then◌else◌}
+-- The lines that follow the message on a refused model.
+use Rattle.std.specs.Prelude.{◌≡◌, ◌≢◌, ◌⊎◌, ℕ, zero, suc, ◌+◌, ◌-◌, min, max, nat_lt, nat_le, ◌==◌, ◌&&◌, Bool, length, position, drop, find, slice_get, slice_index, List, [], ◌++◌, codes, Option, Some, None, Ok, Err, if◌then◌else◌}
 use Rattle.std.specs.Fmt.{decimal}
 use Rattle.std.specs.List.{list_any}
 use Rattle.std.specs.Option.{option_map_or}
@@ -9,7 +9,9 @@ use Rattle.command_words.specs.declared.options.Options.{Options}
 use Rattle.geo_laws.specs.Complex.{Complex}
 use Rattle.geo_laws.specs.declared.complex.Facet.{Facet}
 use Rattle.geo_laws.specs.declared.complex.Piece.{Piece}
+use Rattle.grid_coords.specs.Choice.{is_over}
 use Rattle.grid_coords.specs.declared.points.DecimalPoint.{DecimalPoint}
+use Rattle.node_files.specs.Settling.{rounded_point}
 use Rattle.node_files.specs.declared.limits.Limits.{Limits}
 use Rattle.run_steps.specs.Meshing.{BoundAnswer, MeshedAnswer}
 use Rattle.run_steps.specs.declared.input.Input.{Input}
@@ -19,10 +21,12 @@ use Rattle.run_steps.specs.declared.status.LimitKind.TheVariants.{Grid}
 use Rattle.run_steps.specs.declared.status.Status.{Status}
 use Rattle.run_steps.specs.declared.status.Status.TheVariants.{Limit, SegmentsCross, Crossing, GridEnd, BudgetEnd}
 use Rattle.tet_text.specs.Printing.{decimal_text}
+use Rattle.tetfit_run.specs.declared.model.Stated.{Stated}
+use Rattle.tetfit_run.specs.declared.model.Stated.TheVariants.{Lines, Facets}
 
 -- ---- the points of the file
 
--- the number that the file gives a point, behind a space; nothing of an added one
+-- the number that the file gives a point, behind a space; empty for an added point
 abbrev pub number_text : Numbering → ℕ → List ℕ
 number_text by n = if nat_lt n (length by.names) then codes " " ++ decimal (slice_index by.names n + by.first) else []
 
@@ -48,43 +52,43 @@ part_line points by part = codes "tetfit: points" ++ corners_text points by part
 
 -- ---- the segment that a piece lies on
 
--- the same options, with so many points that may be added
+-- the options, with at most `added` points added
 abbrev pub with_budget : ℕ → Options → Options
 with_budget added options = record options { budget = added }
 
--- the piece that is missing where no more points may be added
+-- the subsegment that is no edge of the mesh when the budget of added points is spent
 abbrev pub missing_in : Status → Option Piece
 missing_in (BudgetEnd made piece) = Some piece
 missing_in status = None
 
--- once so many points are added this piece is missing, so the next point is added to halve it
+-- once `added` points are added the subsegment p is missing, so that the next point is added to halve it
 pub record IsHalvedAfter (limits : Limits) (options : Options) (input : Input) (added : ℕ) (p : Piece) : Type 0 where
   pub status : Status
   pub answer : MeshedAnswer limits (with_budget added options) input (Err status)
   pub missing : missing_in status ≡ Some p
 
--- A piece that was halved so many times, of a model with so many points, is a part of the whole: its later end was added to halve
--- the piece before it
+-- A subsegment that was halved *n* times, of a model with a number of points, is a part of the whole: its later end was
+-- added to halve the subsegment before it
 abbrev pub IsHalvedPartOf : Limits → Options → Input → ℕ → ℕ → Piece → Piece → Type 0
 IsHalvedPartOf limits options input count zero p whole = whole ≡ p
 IsHalvedPartOf limits options input count (suc n) p whole =
     (before : Piece) × IsHalvedAfter limits options input (max p.a p.b - count) before
     × IsHalvedPartOf limits options input count n before whole
 
--- both ends of the piece are corners
+-- both ends of the subsegment are corners of the polygon
 abbrev pub has_both : Piece → List ℕ → Bool
 has_both p corners = list_any (λ c. c == p.a) corners && list_any (λ c. c == p.b) corners
 
--- the polygon is one of the facet
+-- the facet has the polygon
 abbrev pub has_polygon : ℕ → Facet → Bool
 has_polygon i f = nat_le f.first i && nat_lt i f.past
 
--- the first facet that has this polygon
+-- the first facet that has the polygon
 abbrev pub first_facet_of : Complex → Option ℕ → Option ℕ
 first_facet_of c None = None
 first_facet_of c (Some i) = position (has_polygon i) c.facets
 
--- the first facet with a polygon that has both ends of the piece
+-- the first facet with the first polygon that has both ends of the subsegment
 abbrev pub first_facet : Complex → Piece → Option ℕ
 first_facet c p = first_facet_of c (position (λ g. has_both p g.corners) c.polygons)
 
@@ -98,28 +102,26 @@ segment_line by p facet =
     codes "tetfit: it lies on segment" ++ number_text by (min p.a p.b) ++ number_text by (max p.a p.b) ++ hinted_facet_text facet
     ++ codes "\n"
 
--- the line names this segment
+-- the line names the segment `whole`
 pub record IsLineOf (limits : Limits) (options : Options) (input : Input) (by : Numbering) (whole : Piece) (line : List ℕ) : Type 0 where
   pub bound : Bound
   pub on_grid : BoundAnswer limits options input (Ok bound)
   pub is : line ≡ segment_line by whole (first_facet bound.complex whole)
 
--- or nothing is told of it
-abbrev pub TellsLine : Limits → Options → Input → Numbering → Piece → List ℕ → Type 0
-TellsLine limits options input by whole line = IsLineOf limits options input by whole line ⊎ (line ≡ [])
-
--- the line names what the piece is a part of
+-- the line names the segment of which the subsegment is a part
 pub record TellsWhole (limits : Limits) (options : Options) (input : Input) (by : Numbering) (p : Piece) (line : List ℕ) : Type 0 where
   pub whole : Piece
   pub part : IsHalvedPartOf limits options input (length by.names) p.halvings p whole
-  pub told : TellsLine limits options input by whole line
+  pub told : IsLineOf limits options input by whole line
 
+-- so the line of a segment that was never halved is there; that of a part of one may be empty
 abbrev pub TellsSegment : Limits → Options → Input → Numbering → Piece → List ℕ → Type 0
-TellsSegment limits options input by p line = TellsWhole limits options input by p line ⊎ (line ≡ [])
+TellsSegment limits options input by p line = TellsWhole limits options input by p line ⊎ ((p.halvings ≢ 0) × (line ≡ []))
 
 -- ---- the lines
 
--- what more is told of an input with these options that is refused so, its points numbered so
+-- the lines that follow the message on an input with these options, refused with the status, its points numbered by
+-- `by`
 abbrev pub IsHintBy : Limits → Options → Input → Numbering → Status → List ℕ → Type 0
 IsHintBy limits options input by (SegmentsCross one two) lines =
     lines ≡ part_line input.nodes.decimals by (SegmentPart one) ++ part_line input.nodes.decimals by (SegmentPart two)
@@ -129,21 +131,46 @@ IsHintBy limits options input by (GridEnd piece) lines = TellsSegment limits opt
 IsHintBy limits options input by (BudgetEnd made piece) lines = TellsSegment limits options input by piece lines
 IsHintBy limits options input by status lines = lines ≡ []
 
-abbrev pub front_text : ℕ → List ℕ
-front_text line = codes "tetfit: line " ++ decimal line ++ codes " has"
+-- ---- a point off the grid
 
--- the coordinates of the point that this line states
-abbrev pub stated_text : ℕ → DecimalPoint → List ℕ
-stated_text line p = front_text line ++ at_text p ++ codes "\n"
+abbrev pub front_of : Stated → List ℕ
+front_of Lines = codes "tetfit: line "
+front_of Facets = codes "tetfit: facet "
 
-abbrev pub size_line : List DecimalPoint → ℕ → List ℕ
-size_line points line = option_map_or (stated_text line) (find (λ p. p.line == line) points) []
+-- a place in the file
+abbrev pub front_text : Stated → ℕ → List ℕ
+front_text stated place = front_of stated ++ decimal place
 
--- of an input that is on no grid
-abbrev pub grid_hint : Input → Status → List ℕ
-grid_hint input (Limit (Grid line)) = size_line input.nodes.decimals line
-grid_hint input status = []
+-- that the point at this place is off the grid
+abbrev pub refusal_line : Stated → ℕ → List ℕ
+refusal_line stated place = front_text stated place ++ codes ": coordinate off the grid\n"
 
-abbrev pub IsHint : Limits → Options → Input → Option Numbering → Status → List ℕ → Type 0
-IsHint limits options input None status lines = lines ≡ grid_hint input status
-IsHint limits options input (Some by) status lines = IsHintBy limits options input by status lines
+-- and its coordinates
+abbrev pub has_text : Stated → ℕ → List ℕ
+has_text stated place = front_text stated place ++ codes " has"
+
+abbrev pub at_line : DecimalPoint → List ℕ
+at_line p = at_text p ++ codes "\n"
+
+abbrev pub point_line : Stated → DecimalPoint → List ℕ
+point_line stated p = has_text stated p.line ++ at_line p
+
+abbrev pub off_grid_lines : Stated → DecimalPoint → List ℕ
+off_grid_lines stated p = refusal_line stated p.line ++ point_line stated p
+
+-- the point has a coordinate over `wide` units where coordinates are rounded to whole numbers
+abbrev pub is_off_whole : ℕ → DecimalPoint → Bool
+is_off_whole wide p = is_over wide 0 (rounded_point 0 p)
+
+-- the text on the first point that is off the grid
+abbrev pub off_grid_text : ℕ → Stated → List DecimalPoint → List ℕ
+off_grid_text wide stated points = option_map_or (off_grid_lines stated) (find (is_off_whole wide) points) []
+
+-- the text on an input that is on no grid
+abbrev pub grid_hint : Limits → Stated → Input → Status → List ℕ
+grid_hint limits stated input (Limit (Grid line)) = off_grid_text limits.grid stated input.nodes.decimals
+grid_hint limits stated input status = []
+
+abbrev pub IsHint : Limits → Stated → Options → Input → Option Numbering → Status → List ℕ → Type 0
+IsHint limits stated options input None status lines = lines ≡ grid_hint limits stated input status
+IsHint limits stated options input (Some by) status lines = IsHintBy limits options input by status lines

@@ -1,6 +1,7 @@
 pub mod Messages
 pub mod Outputs
 pub mod Run
+pub mod Stages
 pub mod Words
 pub mod Reasons
 pub mod Texts

@@ -1,5 +1,5 @@
--- The lines that each refusal is told in.
-use Rattle.std.specs.Prelude.{ℕ, Bool, true, false, List, [], ◌++◌, drop, codes, Option, if◌then◌else◌}
+-- The lines that report each refusal.
+use Rattle.std.specs.Prelude.{ℕ, Bool, true, false, List, [], ◌++◌, nat_lt, drop, codes, Option, if◌then◌else◌}
 use Rattle.tetfit_run.specs.Texts.{refused_line}
 use Rattle.run_steps.specs.Messages.{message_of}
 use Rattle.run_steps.specs.declared.numbering.Numbering.{Numbering}
@@ -8,7 +8,7 @@ use Rattle.run_steps.specs.declared.status.LimitKind.TheVariants.{Corners, Grid}
 use Rattle.run_steps.specs.declared.status.Status.{Status}
 use Rattle.run_steps.specs.declared.status.Status.TheVariants.{Usage, Missing, Limit, Flat, NotFlat, SegmentsCross, Crossing, GridEnd, BudgetEnd, NoFill}
 
--- the line of the program for exact texts, with this program's name in place of its own
+-- a line of `tetgen` with the name of `tetfit` in place of its own
 abbrev pub renamed_program : List ℕ → List ℕ
 renamed_program line = codes "tetfit: " ++ drop 8 line
 
@@ -18,7 +18,13 @@ help_of_limit (Grid line) = codes "tetfit: no coordinate may be over 536870912 i
 help_of_limit (Corners line count most) = codes "tetfit: cut the facet in parts\n"
 help_of_limit what = codes "tetfit: cut the model in parts\n"
 
--- one more line, on what would help, where something is known to
+-- what would help where all points that were allowed were added: -S allows 100,000 at most
+abbrev pub help_of_budget : ℕ → List ℕ
+help_of_budget made =
+    if nat_lt made 100000 then codes "tetfit: allow more added points by -S\n" else
+    codes "tetfit: cut the model in parts\n"
+
+-- one more line, on what would help; empty where nothing is known to
 abbrev pub help_of : Status → List ℕ
 help_of (Missing name) = codes "tetfit: the file of a model is .node, .poly, .smesh, .off or .stl: give its name whole\n"
 help_of (Limit what) = help_of_limit what
@@ -27,16 +33,17 @@ help_of (NotFlat facet four) = codes "tetfit: cut the facet in triangles\n"
 help_of (SegmentsCross one two) = codes "tetfit: give both segments the point at which they cross\n"
 help_of (Crossing one two) = codes "tetfit: give both parts the points in which they meet, or drop one of equal ones\n"
 help_of (GridEnd piece) = codes "tetfit: move apart what is near the segment, or turn sharp corners wider\n"
-help_of (BudgetEnd made piece) = codes "tetfit: allow more added points by -S\n"
+help_of (BudgetEnd made piece) = help_of_budget made
 help_of (NoFill anomaly) = codes "tetfit: move the points of these facets apart\n"
 help_of status = []
 
--- the line itself
+-- the line of a refusal; a point off the grid is reported in the lines that follow, with its coordinates
 abbrev pub line_of : List (List ℕ) → Option Numbering → Status → List ℕ
 line_of words by (Usage word place) = refused_line words word place
+line_of words by (Limit (Grid line)) = []
 line_of words by status = renamed_program (message_of by status)
 
--- more is told of the model: a segment or parts of it, or a point that is off the grid
+-- lines on the model follow: on a segment, on crossing parts, or on a point off the grid
 abbrev pub has_hint : Status → Bool
 has_hint (Limit (Grid line)) = true
 has_hint (SegmentsCross one two) = true
@@ -48,6 +55,6 @@ has_hint status = false
 abbrev pub hint_in : List ℕ → Status → List ℕ
 hint_in hint status = if has_hint status then hint else []
 
--- the message of a refusal, where these are the words without those that ask for the stages, and this is what more is told
+-- the message of a refusal, by the words without those that ask for the stages, with the lines that follow it
 abbrev pub fit_message : List (List ℕ) → List ℕ → Option Numbering → Status → List ℕ
 fit_message words hint by status = line_of words by status ++ hint_in hint status ++ help_of status

@@ -1,5 +1,5 @@
 -- Where a surface is open.
-use Rattle.std.specs.Prelude.{◌≡◌, ◌≢◌, ◌⊎◌, ◌<◌, ◌≤◌, ℕ, ◌+◌, min, max, true, Bool, ◌==◌, ◌&&◌, ◌||◌, HoldsAt, length, slice_index, List, ◌++◌, codes, Ok, if◌then◌else◌}
+use Rattle.std.specs.Prelude.{◌≡◌, ◌≢◌, ◌⊎◌, ◌<◌, ◌≤◌, ℕ, ◌+◌, min, max, true, false, not, Bool, ◌==◌, ◌&&◌, ◌||◌, HoldsAt, length, slice_index, List, ◌++◌, codes, Ok, if◌then◌else◌}
 use Rattle.std.specs.Fmt.{decimal}
 use Rattle.command_words.specs.declared.options.Options.{Options}
 use Rattle.geo_laws.specs.Complex.{Complex}
@@ -12,7 +12,7 @@ use Rattle.run_steps.specs.declared.mesh.Bound.{Bound}
 use Rattle.run_steps.specs.declared.numbering.Numbering.{Numbering}
 use Rattle.tetfit_run.specs.Hints.{number_text}
 
--- these two are the ends of the piece
+-- the two points are the ends of the piece
 abbrev pub are_ends : Piece → ℕ → ℕ → Bool
 are_ends p x y = (x == p.a && y == p.b) || (x == p.b && y == p.a)
 
@@ -49,11 +49,22 @@ pub record TellsSide (bound : Bound) (line : List ℕ) : Type 0 where
   pub is_open : IsOpenAt bound.complex side facet
   pub is : line ≡ open_line (numbering_of bound.table) side facet
 
--- or no more than that nothing is enclosed
+-- the line names an open side, or says only that nothing is enclosed
 abbrev pub TellsOpenSide : Bound → List ℕ → Type 0
 TellsOpenSide bound line = TellsSide bound line ⊎ (line ≡ nothing_line)
 
--- so of an input on its grid
+-- where there are hole points, they may have carved what is enclosed
+abbrev pub carved_line : List ℕ
+carved_line = codes "tetfit: the facets enclose nothing, or hole points carve all of it\n"
+
+abbrev pub TellsOpeningIf : Bool → Bound → List ℕ → Type 0
+TellsOpeningIf true bound line = line ≡ carved_line
+TellsOpeningIf false bound line = TellsOpenSide bound line
+
+-- the line on facets that enclose nothing, by whether there are hole points
+abbrev pub TellsOpeningIn : Bound → List ℕ → Type 0
+TellsOpeningIn bound line = TellsOpeningIf (not (length bound.complex.holes == 0)) bound line
+
+-- the line on an input: that of its complex on the grid
 abbrev pub TellsOpening : Limits → Options → Input → List ℕ → Type 0
-TellsOpening limits options input line =
-    ((bound : Bound) × BoundAnswer limits options input (Ok bound) × TellsSide bound line) ⊎ (line ≡ nothing_line)
+TellsOpening limits options input line = (bound : Bound) × BoundAnswer limits options input (Ok bound) × TellsOpeningIn bound line

@@ -1,4 +1,4 @@
--- What the words of the program ask for, and the outputs of that.
+-- The requests that the words of `tetfit` make, and their outputs.
 use Rattle.std.specs.Prelude.{◌≡◌, ℕ, ◌-◌, nat_eq, Bool, true, false, List, [], ◌++◌, length, take, codes, Option, Some, None, Result, Ok, Err}
 use Rattle.std.specs.Fmt.{decimal}
 use Rattle.std.specs.List.{ends_with}
@@ -38,21 +38,21 @@ FitWordsAnswer words (Err status) = IsFitUsage words status
 
 -- ---- the mesh
 
--- the summary tells that there is no tetrahedron
+-- the summary reports 0 tetrahedra
 abbrev pub tells_none : Option (List ℕ) → Bool
 tells_none None = false
 tells_none (Some line) = ends_with nat_eq line (codes " tetrahedra 0 faces 0 edges 0\n")
 
--- the summary, which a line feed ends, with how many decimals there are, and with more behind it
+-- the summary line with the number of decimals before its line feed, and with more text behind it
 abbrev pub with_decimals : ℕ → List ℕ → Option (List ℕ) → Option (List ℕ)
 with_decimals decimals more None = None
 with_decimals decimals more (Some line) = Some (take (length line - 1) line ++ codes " decimals " ++ decimal decimals ++ codes "\n" ++ more)
 
--- the outputs of a mesh with so many decimals, whose summary tells them
+-- the outputs of a mesh, with its number of decimals in the summary
 abbrev pub outputs_at : ℕ → List ℕ → Outputs → Outputs
 outputs_at decimals more outputs = record outputs { summary = with_decimals decimals more outputs.summary }
 
--- where there is no tetrahedron it is told where the surface is open, or that nothing is enclosed
+-- where there is no tetrahedron the text says where the surface is open, or that nothing is enclosed
 abbrev pub IsMoreBy : Bool → Options → Input → ℕ → List ℕ → Type 0
 IsMoreBy true options input m more = TellsOpening fit_limits (at_decimals m options) input more
 IsMoreBy false options input m more = more ≡ []
@@ -77,16 +77,16 @@ OutputsOfModel words folder = AndThen (FitWordsAnswer words) (λ options. Output
 
 -- ---- what is asked for
 
--- a text alone, which is put where a summary is
+-- outputs without files, whose text is written in place of the summary
 abbrev pub said : List ℕ → Outputs
 said text = record { texts = record { node = None; ele = None; face = None; edge = None; neigh = None }; summary = Some text }
 
--- the text, or want of memory
+-- the text, or out of memory
 abbrev pub Says : List ℕ → Result Outputs Status → Type 0
 Says text (Ok outputs) = outputs ≡ said text
 Says text (Err status) = status ≡ NoMemory
 
--- what a request makes of the words
+-- the outputs of a request
 abbrev pub MadeBy : Request → List (List ℕ) → FolderSeen → Result Outputs Status → Type 0
 MadeBy Page words folder = Says PAGE.now
 MadeBy Version words folder = Says VERSION.now

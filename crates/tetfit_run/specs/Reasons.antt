@@ -29,7 +29,7 @@ reason_of byte =
     if byte == 86 then OwnWord else
     if byte == 104 then OwnWord else Letter
 
--- of the byte at this place of a cluster, from 1. Behind an S, 83, a number stands
+-- why the byte at this place of a cluster, from 1, is not understood. Behind an S, 83, a number is required
 abbrev pub cluster_reason : List ℕ → ℕ → Reason
 cluster_reason word place =
     if slice_index_or word (place - 2) 0 == 83 then Number else
@@ -41,15 +41,14 @@ long_reason word =
     if starts_with nat_eq word (codes "--sample=") then Sample else
     if starts_with nat_eq word (codes "--halvings=") then Number else LongWord
 
--- of a word that is not understood at this place
+-- why a word is not understood at this place
 abbrev pub word_reason : List ℕ → ℕ → Reason
 word_reason word place =
     if length word == 0 then EmptyWord else
     if is_long word then long_reason word else
     if is_cluster word then cluster_reason word place else SecondName
 
--- of the fault at this word and place, both from 1: behind the last word a name is wanted, or r, C or w stands that is not there
+-- the reason of the fault at this word and place, both from 1: behind the last word a name is missing
 abbrev pub why_not : List (List ℕ) → ℕ → ℕ → Reason
 why_not words word place =
-    if nat_lt (word - 1) (length words) then word_reason (slice_index_or words (word - 1) []) place else
-    if place == 1 then NoName else Check
+    if nat_lt (word - 1) (length words) then word_reason (slice_index_or words (word - 1) []) place else NoName

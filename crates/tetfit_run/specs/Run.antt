@@ -1,16 +1,19 @@
--- What a run of the program answers, leaves and tells.
-use Rattle.std.specs.Prelude.{◌≡◌, ◌≢◌, ◌⊎◌, ℕ, IsTrue, false, List, [], Option, Some, None, Ok, Err}
+-- The status of a run of `tetfit`, the files that it leaves, and its messages.
+use Rattle.std.specs.Prelude.{◌≡◌, ◌≢◌, ℕ, IsTrue, List, Option, Some, None, Ok, Err}
 use Rattle.command_words.specs.declared.options.Options.{Options}
-use Rattle.tetfit_run.specs.Hints.{IsHint, IsHintBy, size_line}
-use Rattle.tetfit_run.specs.Models.{ModelAnswer}
+use Rattle.tetfit_run.specs.Hints.{IsHint, IsHintBy, off_grid_text}
+use Rattle.tetfit_run.specs.Models.{IsStatedBy, ModelAnswer}
 use Rattle.tetfit_run.specs.Trying.{IsFitted, IsNumbered, at_decimals}
-use Rattle.tetfit_run.specs.Words.{asks_stages, fit_fault, fit_options, others, request_of}
+use Rattle.tetfit_run.specs.Stages.{AreStagesPut, since, until}
+use Rattle.tetfit_run.specs.Words.{fit_fault, fit_options, others, request_of}
+use Rattle.tetfit_run.specs.declared.model.Model.{Model}
+use Rattle.tetfit_run.specs.declared.model.Stated.{Stated}
 use Rattle.tetfit_run.specs.declared.page.TheConstants.{PAGE, VERSION}
 use Rattle.tetfit_run.specs.declared.request.Request.{Request}
 use Rattle.tetfit_run.specs.declared.request.Request.TheVariants.{Page, Version, Mesh}
 use Rattle.run_steps.specs.Meshing.{BoundAnswer}
 use Rattle.run_steps.specs.Numbering.{numbering_of}
-use Rattle.tet_ports.specs.Seen.{FolderSeen, SinkSeen}
+use Rattle.tet_ports.specs.Seen.{FolderSeen, SinkSeen, SinkState}
 use Rattle.run_steps.specs.Steps.{forced_answer}
 use Rattle.run_steps.specs.declared.input.Input.{Input}
 use Rattle.run_steps.specs.declared.mesh.Bound.{Bound}
@@ -20,7 +23,6 @@ use Rattle.run_steps.specs.declared.status.LimitKind.TheVariants.{Grid}
 use Rattle.run_steps.specs.declared.status.Status.{Status}
 use Rattle.run_steps.specs.declared.status.Status.TheVariants.{Limit, NoMemory}
 use Rattle.tet_ports.specs.Files.{Files}
-use Rattle.tet_ports.specs.Written.{with_written}
 use Rattle.tetgen_run.specs.Ends.{AnswersBy, HasNoFault, LeavesBy, TellsBy, names_points}
 use Rattle.tetgen_run.specs.Run.{IsMeshBy}
 use Rattle.tetgen_run.specs.declared.stop.Stop.{Stop}
@@ -33,8 +35,8 @@ use Rattle.tetfit_run.specs.Outputs.{IsMore, OutputsOfFit, fit_limits, outputs_a
 abbrev pub IsFitAnswer : List (List ℕ) → FolderSeen → SinkSeen → Status → Type 0
 IsFitAnswer words folder = AnswersBy (OutputsOfFit words folder) folder
 
--- where the files are told, nothing failed and memory was not wanting, each answer that has a cause is the answer, but for facets
--- that are tangled, as of a run on exact texts
+-- where contracts see the files, nothing failed and memory did not run out, each answer that has a cause is the answer,
+-- except where two facets cross one tetrahedron, as in a run of `tetgen`
 abbrev pub IsFitComplete : List (List ℕ) → FolderSeen → SinkSeen → Status → Type 0
 IsFitComplete words folder out status =
     (told : Files) → folder.files_before ≡ Some told → HasNoFault folder out → status ≢ NoMemory
@@ -42,9 +44,9 @@ IsFitComplete words folder out status =
 
 -- ---- what is left
 
--- The outputs are those of one mesh of the model that the words name, with so many decimals, and their summary tells how many: at each
--- greater number of decimals, up to the first one that is tried, the grid refuses the model. Where the mesh has no tetrahedron the summary
--- tells where the surface is open
+-- The outputs are those of one mesh of the model that the words name, at a number of decimals that their summary has:
+-- at each greater number of decimals, up to the first one that is tried, the grid refuses the model. Where the mesh has
+-- no tetrahedron the summary says where the surface is open
 pub record IsMeshOfModel (words : List (List ℕ)) (folder : FolderSeen) (outputs : Outputs) : Type 0 where
   pub decimals : ℕ
   pub made : Outputs
@@ -67,17 +69,17 @@ IsFitLeft words folder = LeavesBy (IsAskedBy (request_of words) words folder) fo
 
 -- ---- what is told
 
--- why an input that is fitted has no outputs, and what more is told of it
-abbrev pub IsUnfitted : Options → Input → List ℕ → Stop → Type 0
-IsUnfitted options input hint (Refused status by) =
-    (m : ℕ) × IsFitted fit_limits options input m (Err status)
-    × IsNumbered fit_limits (at_decimals m options) input status by
-    × IsHint fit_limits (at_decimals m options) input by status hint
-IsUnfitted options input hint Wanting = Unit {0}
-IsUnfitted options input hint stop = ⊥
+-- why a model that is fitted has no outputs, and the lines on the model that follow the message
+abbrev pub IsUnfitted : Options → Model → List ℕ → Stop → Type 0
+IsUnfitted options model hint (Refused status by) =
+    (m : ℕ) × IsFitted fit_limits options model.input m (Err status)
+    × IsNumbered fit_limits (at_decimals m options) model.input status by
+    × IsHint fit_limits model.stated (at_decimals m options) model.input by status hint
+IsUnfitted options model hint Wanting = Unit {0}
+IsUnfitted options model hint stop = ⊥
 
--- Where the message of the status prints points, these are their numbers: those of the points of the model at those decimals. And this is
--- what more is told then: the segment of the model, or the coordinates of the parts
+-- Where the message of the status prints points, these are their numbers: those of the points of the model at those
+-- decimals. The lines that follow are on the segment of the model, or have the coordinates of the parts
 abbrev pub IsNumberingOf : Options → FolderSeen → List ℕ → Status → Option Numbering → Type 0
 IsNumberingOf options folder hint status by =
     IsTrue (names_points status)
@@ -90,10 +92,12 @@ IsNumberingOf options folder hint status by =
 abbrev pub IsFitNumbering : List (List ℕ) → FolderSeen → List ℕ → Status → Option Numbering → Type 0
 IsFitNumbering words = IsNumberingOf (fit_options words)
 
--- what more is told of a point off the grid is its coordinates, if anything
+-- for a model off the grid, the first point that is off it with coordinates rounded to whole numbers is reported: its
+-- place in the file, by the line, or by the facet of a binary file, and its coordinates
 abbrev pub TellsOffGrid : Options → FolderSeen → List ℕ → Status → Type 0
 TellsOffGrid options folder hint (Limit (Grid line)) =
-    (hint ≡ []) ⊎ ((input : Input) × ModelAnswer fit_limits folder options (Ok input) × (hint ≡ size_line input.nodes.decimals line))
+    (input : Input) × ModelAnswer fit_limits folder options (Ok input)
+    × (stated : Stated) × IsStatedBy folder options stated × (hint ≡ off_grid_text fit_limits.grid stated input.nodes.decimals)
 TellsOffGrid options folder hint status = Unit {0}
 
 -- both
@@ -103,19 +107,9 @@ IsKnownOf options folder hint status by = IsNumberingOf options folder hint stat
 abbrev pub IsKnown : List (List ℕ) → FolderSeen → List ℕ → Status → Option Numbering → Type 0
 IsKnown words = IsKnownOf (fit_options words)
 
--- the sink once the stages are said, which it may not be, with what it had and lines behind it
-abbrev pub after_stages : SinkSeen → Option (List ℕ) → SinkSeen
-after_stages err written = record err { written_before = written }
-
--- what is told of the stages, only where they are asked for
-pub record AreStages (words : List (List ℕ)) (before now : Option (List ℕ)) : Type 0 where
-  pub lines : List ℕ
-  pub more : now ≡ with_written before lines
-  pub none : asks_stages words ≡ false → now ≡ before
-
--- the stages, where they are asked for, and then the message of each answer but Done
+-- the stages, where they are asked for, and then the message of each answer but Done, which is cut only where it fails itself
 abbrev pub IsFitTold : List (List ℕ) → FolderSeen → SinkSeen → Status → Type 0
 IsFitTold words folder err status =
-    (written : Option (List ℕ)) × AreStages words err.written_before written
+    (mid : SinkState) × AreStagesPut words status (until mid err)
     × (hint : List ℕ) × TellsOffGrid (fit_options (others words)) folder hint status
-    × TellsBy (fit_message (others words) hint) (IsFitNumbering (others words) folder hint) (after_stages err written) status
+    × TellsBy (fit_message (others words) hint) (IsFitNumbering (others words) folder hint) (since mid err) status

@@ -1,4 +1,4 @@
--- What is told of a word that is not understood.
+-- The line on a word that is not understood.
 use Rattle.std.specs.Prelude.{ℕ, ◌-◌, ◌&&◌, nat_lt, length, List, [], ◌∷◌, ◌++◌, codes, if◌then◌else◌}
 use Rattle.std.specs.List.{slice_index_or}
 use Rattle.command_words.specs.Grammar.{is_cluster}

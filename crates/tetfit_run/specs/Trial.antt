@@ -1,4 +1,4 @@
--- An input that is tried, with the options of the try, within limits.
+-- A trial: an input with options and limits.
 use Rattle.command_words.specs.Meaning.{AreInRange}
 use Rattle.command_words.specs.declared.options.Options.{Options}
 use Rattle.node_files.specs.Limits.{AreIndexable}
@@ -6,7 +6,7 @@ use Rattle.node_files.specs.declared.limits.Limits.{Limits}
 use Rattle.run_steps.specs.Reading.{IsSound}
 use Rattle.run_steps.specs.declared.input.Input.{Input}
 
--- what contracts see of it
+-- the value of a trial in contracts
 pub record TrialValue : Type 0 where
   pub limits : Limits
   pub options : Options
@@ -15,7 +15,7 @@ pub record TrialValue : Type 0 where
 abbrev pub trial_of : Limits → Options → Input → TrialValue
 trial_of limits options input = record { limits = limits; options = options; input = input }
 
--- what the steps after reading ask of the three
+-- the requirements of the steps after reading
 pub record MayBeTried (limits : Limits) (options : Options) (input : Input) : Type 0 where
   pub indexable : AreIndexable limits
   pub ranges : AreInRange options

@@ -16,7 +16,7 @@ use Rattle.run_steps.specs.declared.status.Status.TheVariants.{Limit, GridEnd}
 use Rattle.tetfit_run.specs.declared.fitting.Refused.{Refused}
 use Rattle.tetfit_run.specs.declared.trying.Unfitted.{Unfitted}
 
--- the same options, with coordinates rounded to so many decimals
+-- the options, with coordinates rounded to m decimals
 abbrev pub at_decimals : ℕ → Options → Options
 at_decimals m options = record options { decimals = Some m }
 
@@ -24,17 +24,17 @@ at_decimals m options = record options { decimals = Some m }
 abbrev pub most_tried : Input → ℕ
 most_tried input = min 20 (most_decimals input.nodes.decimals)
 
--- the grid refuses: it does not reach a point, or it is too coarse for a segment
+-- the refusal is one of the grid: a point is off the grid, or a subsegment has no midpoint on it
 abbrev pub is_of_grid : Status → Bool
 is_of_grid (Limit (Grid line)) = true
 is_of_grid (GridEnd piece) = true
 is_of_grid status = false
 
--- what the run without stores answers at so many decimals
+-- the answer of the run without stores at m decimals
 abbrev pub AnswerAt : Limits → Options → Input → ℕ → Result Outputs Status → Type 0
 AnswerAt limits options input m = MeshedAnswer limits (at_decimals m options) input
 
--- at so many decimals the grid refuses
+-- at m decimals the grid refuses
 pub record IsRefusedByGrid (limits : Limits) (options : Options) (input : Input) (m : ℕ) : Type 0 where
   pub status : Status
   pub of_grid : is_of_grid status ≡ true
@@ -51,17 +51,18 @@ pub record IsFitted (limits : Limits) (options : Options) (input : Input) (m : �
 abbrev pub MadeAnswer : Options → Bound → Result Outputs Status → Type 0
 MadeAnswer options bound = AndThen (MeshAnswer options bound) (OutputsAnswer options)
 
--- by which numbers the points of a refused try are told: by none where the input is on no grid, and else by those of the points on it
+-- the numbering of the points of a refused trial: none where the input is on no grid, else that of the points on the
+-- grid
 abbrev pub IsNumbered : Limits → Options → Input → Status → Option Numbering → Type 0
 IsNumbered limits options input status None = BoundAnswer limits options input (Err status)
 IsNumbered limits options input status (Some by) =
     (bound : Bound) × BoundAnswer limits options input (Ok bound) × MadeAnswer options bound (Err status) × (by ≡ numbering_of bound.table)
 
--- so of a try at so many decimals
+-- the refusal and the numbering of a trial at m decimals
 abbrev pub IsNumberedAt : Limits → Options → Input → ℕ → Unfitted → Type 0
 IsNumberedAt limits options input m end = IsNumbered limits (at_decimals m options) input end.status end.numbering
 
--- the status of a refused try in place of its end
+-- the answer of a trial with its status alone
 abbrev pub answer_in : Result Outputs Unfitted → Result Outputs Status
 answer_in (Ok outputs) = Ok outputs
 answer_in (Err end) = Err end.status

@@ -1,10 +1,12 @@
--- The words of the program that meshes models as they are found.
-use Rattle.std.specs.Prelude.{◌≡◌, ℕ, ◌+◌, Bool, false, ◌||◌, ◌==◌, nat_eq, length, position, List, [], ◌∷◌, codes, Option, Some, None, is_some, unwrap_or, if◌then◌else◌}
+-- The words of `tetfit`.
+use Rattle.std.specs.Prelude.{◌≡◌, ℕ, ◌+◌, Bool, false, ◌||◌, ◌==◌, nat_eq, nat_lt, length, position, List, [], ◌∷◌, codes, Option, Some, None, is_some, unwrap_or, if◌then◌else◌}
 use Rattle.std.specs.List.{list_any, starts_with}
 use Rattle.std.specs.Str.{bytes_eq}
 use Rattle.std.specs.Option.{option_map, option_map_or, option_or}
 use Rattle.tetfit_run.specs.declared.request.Request.{Request}
 use Rattle.tetfit_run.specs.declared.request.Request.TheVariants.{Page, Version, Mesh}
+use Rattle.command_words.specs.declared.fault.WordsFault.{WordsFault}
+use Rattle.command_words.specs.declared.fault.WordsFault.TheVariants.{Usage, NoMemory}
 use Rattle.command_words.specs.declared.options.Options.{Options}
 use Rattle.command_words.specs.Grammar.{is_cluster, words_fault_within}
 use Rattle.command_words.specs.Meaning.{options_within}
@@ -39,7 +41,7 @@ asks_elsewhere options = (options.weighted || options.check) || (is_some options
 abbrev pub is_letter_elsewhere : ℕ → Bool
 is_letter_elsewhere byte = byte == 119 || (byte == 114 || byte == 67)
 
--- the place in a word, from 1, at which it asks for one of the four
+-- the place in a word, from 1, at which it asks for weights, a check, decimals or the sample
 abbrev pub elsewhere_in : List ℕ → Option ℕ
 elsewhere_in word =
     if is_cluster word then option_map (λ i. i + 1) (position is_letter_elsewhere word) else
@@ -54,14 +56,24 @@ first_elsewhere number (word ∷ more) = option_map_or (λ place. Some (number, 
 abbrev pub most_halvings : ℕ
 most_halvings = 18
 
--- what the words ask for, at most so many halvings, and so many where they name no number
+-- the options that the words ask for, with at most `most_halvings` halvings, and that number where they name none
 abbrev pub fit_options : List (List ℕ) → Options
 fit_options = options_within most_halvings
+
+-- a fault of the grammar, told by its word and the place in it; in place of one behind the last word, the first word that asks for one of
+-- the four
+abbrev pub named_fault : List (List ℕ) → ℕ × ℕ → ℕ × ℕ
+named_fault words fault = if nat_lt (length words) fault.0 then unwrap_or (first_elsewhere 1 words) fault else fault
+
+-- the fault that is reported for words with this fault by the grammar
+abbrev pub told_fault : List (List ℕ) → WordsFault → WordsFault
+told_fault words (Usage word place) = let fault = named_fault words (word, place) in Usage fault.0 fault.1
+told_fault words NoMemory = NoMemory
 
 -- the first fault of these words: one of their grammar, or else the first word that asks for one of the four
 abbrev pub fit_fault : List (List ℕ) → Option (ℕ × ℕ)
 fit_fault words =
-    option_or (words_fault_within most_halvings words)
+    option_or (option_map (named_fault words) (words_fault_within most_halvings words))
     (if asks_elsewhere (fit_options words) then Some (unwrap_or (first_elsewhere 1 words) (1, 1)) else None)
 
 -- the words ask neither for weights nor for a check, and give neither decimals nor a sample

@@ -1,4 +1,4 @@
-//! What each try takes of its own.
+//! Copies of the options and the point list, which each trial consumes.
 
 ghost use Rattle.std.specs.Prelude.{◌≡◌, IfOk};
 ghost use Rattle.tetfit_run.specs.Hints.{with_budget};
@@ -10,7 +10,7 @@ use node_files::{Markers, NodeText};
 use std::alloc::Global;
 use tet_ports::{Name, NoMemory, Words};
 
-/// The same options.
+/// Copies the options.
 fn same_options(alloc: Global, options: &Options) -> Result<Options, NoMemory>
     ensures { IfOk result (λ made. made ≡ options.now) }
 {
@@ -39,7 +39,7 @@ fn same_options(alloc: Global, options: &Options) -> Result<Options, NoMemory>
     })
 }
 
-/// The same options with so many decimals.
+/// Copies the options, with `decimals` for their number of decimals.
 pub(crate) fn at_decimals(
     alloc: Global,
     options: &Options,
@@ -52,7 +52,7 @@ pub(crate) fn at_decimals(
     Ok(made)
 }
 
-/// The same options with so many points that may be added.
+/// Copies the options, with at most `budget` points added.
 pub(crate) fn with_budget(
     alloc: Global,
     options: &Options,
@@ -91,7 +91,7 @@ fn markers_of(alloc: Global, markers: &Markers) -> Result<Markers, NoMemory>
     Ok(made)
 }
 
-/// The same point list.
+/// Copies the point list.
 pub(crate) fn nodes_of(alloc: Global, nodes: &NodeText) -> Result<NodeText, NoMemory>
     ensures { IfOk result (λ made. made ≡ nodes.now) }
 {

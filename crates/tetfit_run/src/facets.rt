@@ -12,7 +12,7 @@ fn has_corner(point: u32, corners: &[u32]) -> bool
     corners.iter().any(|c| *c == point)
 }
 
-/// Whether both ends of the piece are corners.
+/// Whether both ends of the subsegment are corners of the polygon.
 fn has_both(piece: Piece, corners: &[u32]) -> bool
     ensures { result ≡ has_both piece corners.now }
 {
@@ -21,7 +21,7 @@ fn has_both(piece: Piece, corners: &[u32]) -> bool
     first && second
 }
 
-/// The first polygon that has both ends of the piece.
+/// The first polygon that has both ends of the subsegment among its corners.
 fn first_polygon(complex: &Complex, piece: Piece) -> Option<u32>
     ensures { result ≡ position (λ g. has_both piece g.corners) complex.now.polygons }
 {
@@ -33,14 +33,14 @@ fn first_polygon(complex: &Complex, piece: Piece) -> Option<u32>
     None
 }
 
-/// Whether the polygon is one of the facet.
+/// Whether the facet has the polygon, by its place in the complex, from 0.
 fn has_polygon(facet: &Facet, polygon: u32) -> bool
     ensures { result ≡ has_polygon polygon facet.now }
 {
     facet.first <= polygon && polygon < facet.past
 }
 
-/// The first facet that has this polygon.
+/// The first facet that has the polygon, by its place, from 0.
 fn facet_of(complex: &Complex, polygon: u32) -> Option<u32>
     ensures { result ≡ position (has_polygon polygon) complex.now.facets }
 {
@@ -52,7 +52,8 @@ fn facet_of(complex: &Complex, polygon: u32) -> Option<u32>
     None
 }
 
-/// The first facet with a polygon that has both ends of the piece.
+/// The first facet, by its place from 0, that has the first polygon with both ends of the
+/// subsegment.
 pub(crate) fn first_facet(complex: &Complex, piece: Piece) -> Option<u32>
     ensures { result ≡ first_facet complex.now piece }
 {

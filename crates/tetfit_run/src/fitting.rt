@@ -1,4 +1,5 @@
-//! The tries, from the most decimals downward.
+//! The search for the finest rounding of a model that can be meshed, from the most decimals
+//! downward.
 
 ghost use Rattle.std.specs.Prelude.{◌≡◌, ◌<◌, true, false, IsTrue, IfErr, IfOk, Ok};
 ghost use Rattle.command_words.specs.Meaning.{AreInRange};
@@ -14,21 +15,22 @@ use node_files::Limits;
 use run_steps::{Input, LimitKind, Outputs, Status};
 use std::alloc::Global;
 
-/// The outputs of an input, and to how many decimals its coordinates were rounded.
+/// The outputs of an input, and the number of decimals to which its coordinates were rounded.
 #[derive(Drop)]
 pub struct Fitted {
     pub decimals: u32,
     pub outputs: Outputs,
 }
 
-/// At how many decimals an input is refused, and how.
+/// The refusal of an input, and the number of decimals at which it is refused.
 #[derive(Drop)]
 pub struct Refused {
     pub decimals: u32,
     pub end: Unfitted,
 }
 
-/// Whether the grid refuses: it does not reach a point, or it is too coarse for a segment.
+/// Whether the refusal is one of the grid: a point is off the grid, or a subsegment has no midpoint
+/// on it.
 fn is_of_grid(status: &Status) -> bool
     ensures { result ≡ is_of_grid status.now }
 {

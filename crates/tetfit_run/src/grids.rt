@@ -1,10 +1,11 @@
-//! The decimals that are tried.
+//! The numbers of decimals that are tried.
 
-ghost use Rattle.std.specs.Prelude.{◌≡◌, ◌≤◌, ◌<◌, min, map, IsTrue};
+ghost use Rattle.std.specs.Prelude.{◌≡◌, ◌≤◌, ◌<◌, find, min, map, option_copied, IsTrue};
 ghost use Rattle.std.specs.List.{list_any};
 ghost use Rattle.grid_coords.specs.Choice.{is_over, most_decimals};
 ghost use Rattle.node_files.specs.Settling.{rounded_point};
 ghost use Rattle.tetfit_run.specs.Grids.{AreOffBetween, IsOffRounded};
+ghost use Rattle.tetfit_run.specs.Hints.{is_off_whole};
 
 use grid_coords::{DecimalPoint, decimals_of, most_decimals, size_of};
 use node_files::rounded_point;
@@ -20,7 +21,7 @@ pub(crate) fn most_tried(points: &[DecimalPoint]) -> u32
     MOST.min(most_decimals(points))
 }
 
-/// The next number of decimals that is tried after a refusal at this one: the greatest that is
+/// The next number of decimals that is tried after a refusal at `decimals`: the greatest that is
 /// smaller and at which the points are on a grid of coordinates up to `wide` units, or 0.
 pub(crate) fn next_tried(points: &[DecimalPoint], decimals: u32, wide: u64) -> u32
     requires { 0 < decimals }
@@ -34,7 +35,7 @@ pub(crate) fn next_tried(points: &[DecimalPoint], decimals: u32, wide: u64) -> u
     next
 }
 
-/// Whether a point is off each grid once the points are rounded to so many decimals.
+/// Whether a point is off each grid once the points are rounded to `decimals` decimals.
 fn is_off_grid(wide: u64, points: &[DecimalPoint], decimals: u32) -> bool
     ensures { IsTrue result → IsOffRounded wide points.now decimals }
 {
@@ -42,7 +43,7 @@ fn is_off_grid(wide: u64, points: &[DecimalPoint], decimals: u32) -> bool
     has_over(wide, finest, decimals, points)
 }
 
-/// Whether a point that is rounded to so many decimals is over `wide` units of the finest.
+/// Whether a point that is rounded to `decimals` decimals is over `wide` units of 10^-`finest`.
 fn has_over(wide: u64, finest: u32, decimals: u32, points: &[DecimalPoint]) -> bool
     ensures { result ≡ list_any (λ p. is_over wide finest (rounded_point decimals p)) points.now }
 {
@@ -51,8 +52,8 @@ fn has_over(wide: u64, finest: u32, decimals: u32, points: &[DecimalPoint]) -> b
         .any(|p| is_over(wide, finest, &rounded_point(decimals, p)))
 }
 
-/// The most decimals of the points once they are rounded to so many; as many as that are the most,
-/// where a coordinate has them.
+/// The most decimals of the points once they are rounded to `decimals`; the search ends at a
+/// coordinate that has all of them.
 fn rounded_decimals(points: &[DecimalPoint], decimals: u32) -> u32
     ensures { result ≤ most_decimals (map (rounded_point decimals) points.now) }
 {
@@ -71,4 +72,14 @@ fn is_over(wide: u64, decimals: u32, p: &DecimalPoint) -> bool
     ensures { result ≡ is_over wide decimals p.now }
 {
     size_of(wide, decimals, p).is_none()
+}
+
+/// The first point with a coordinate over `wide` units where coordinates are rounded to whole
+/// numbers.
+pub(crate) fn first_off(wide: u64, points: &[DecimalPoint]) -> Option<&DecimalPoint>
+    ensures { option_copied result ≡ find (is_off_whole wide) points.now }
+{
+    points
+        .iter()
+        .find(|p| is_over(wide, 0, &rounded_point(0, p)))
 }

@@ -1,17 +1,20 @@
-//! What more is told of a model that is refused.
+//! The lines that follow the message on a refused model: the segment, the parts or the point at
+//! fault.
 
-ghost use Rattle.std.specs.Prelude.{◌≡◌, ◌≤◌, ◌++◌, IfOk, OnOk};
+ghost use Rattle.std.specs.Prelude.{◌≡◌, ◌==◌, ◌≤◌, ◌++◌, IfOk, OnOk};
 ghost use Rattle.command_words.specs.Meaning.{AreInRange};
 ghost use Rattle.node_files.specs.Limits.{AreIndexable};
 ghost use Rattle.run_steps.specs.Reading.{IsSound};
 ghost use Rattle.tetfit_run.specs.Hints.{hinted_facet_text, first_facet, grid_hint, part_line};
-ghost use Rattle.tetfit_run.specs.Hints.{segment_line, IsHint, IsHintBy, TellsLine, TellsSegment};
+ghost use Rattle.tetfit_run.specs.Hints.{segment_line, IsHint, IsHintBy, IsLineOf, TellsSegment};
 ghost use Rattle.tetfit_run.specs.Trying.{at_decimals};
 
 use crate::copies::{at_decimals, nodes_of};
 use crate::facets::first_facet;
 use crate::fitting::Refused;
-use crate::places::{append_name, append_part, size_line};
+use crate::grids::first_off;
+use crate::model::Model;
+use crate::places::{append_name, append_part, off_grid_text};
 use crate::trial::Trial;
 use crate::wholes::whole_of;
 use command_words::Options;
@@ -19,7 +22,7 @@ use geo_laws::{Complex, Piece};
 use grid_coords::DecimalPoint;
 use mesh_check::append_number;
 use node_files::Limits;
-use run_steps::{Input, LimitKind, Numbering, Status};
+use run_steps::{LimitKind, Numbering, Status};
 use simplex_meets::Part;
 use std::alloc::Global;
 use tet_ports::{Bytes, NoMemory};
@@ -37,7 +40,7 @@ fn append_facet(text: &mut Bytes, facet: Option<u32>) -> Result<(), NoMemory>
     }
 }
 
-/// The line of a segment of a complex.
+/// The line that names the segment on which the reported subsegment lies, and its first facet.
 fn segment_line(
     alloc: Global,
     complex: &Complex,
@@ -55,19 +58,26 @@ fn segment_line(
     Ok(text)
 }
 
-/// The line of a segment of the input, or nothing.
+/// The line that names a segment of the input; no text where the input is refused.
 fn whole_hint(alloc: Global, trial: &Trial, by: &Numbering, whole: Piece) -> Result<Bytes, NoMemory>
-    ensures { IfOk result (TellsLine trial.now.limits trial.now.options
+    ensures { IfOk result (IsLineOf trial.now.limits trial.now.options
         trial.now.input by.now whole) }
 {
     let nodes = nodes_of(alloc, &trial.input.nodes)?;
     match trial.bind(alloc, nodes) {
         Ok(bound) => segment_line(alloc, &bound.complex, by, whole),
-        Err(_) => Ok(Bytes::new(alloc)),
+        Err(_) => Err(NoMemory),
     }
 }
 
-/// The line of the segment that a piece lies on, or nothing.
+fn is_whole(piece: Piece) -> bool
+    ensures { result ≡ (piece.halvings == 0) }
+{
+    piece.halvings == 0
+}
+
+/// The line that names the segment on which a subsegment lies; no text where it was halved and no
+/// segment is found.
 fn segment_hint(
     alloc: Global,
     trial: &Trial,
@@ -77,6 +87,9 @@ fn segment_hint(
     ensures { IfOk result (TellsSegment trial.now.limits trial.now.options
         trial.now.input by.now piece) }
 {
+    if is_whole(piece) {
+        return whole_hint(alloc, trial, by, piece);
+    }
     let found = whole_of(alloc, trial, by.names.len(), piece)?;
     match found {
         Some(whole) => whole_hint(alloc, trial, by, whole),
@@ -84,7 +97,7 @@ fn segment_hint(
     }
 }
 
-/// The lines of two parts.
+/// The lines of two crossing parts with the coordinates of their corners.
 fn parts_hint(
     alloc: Global,
     points: &[DecimalPoint],
@@ -101,7 +114,7 @@ fn parts_hint(
     Ok(text)
 }
 
-/// What more is told of an input whose points are numbered so.
+/// The lines that follow the message on an input whose points have these numbers.
 fn hint_by(alloc: Global, trial: &Trial, by: &Numbering, status: &Status) -> Result<Bytes, NoMemory>
     ensures { IfOk result (IsHintBy trial.now.limits trial.now.options
         trial.now.input by.now status.now) }
@@ -118,42 +131,52 @@ fn hint_by(alloc: Global, trial: &Trial, by: &Numbering, status: &Status) -> Res
     }
 }
 
-/// What more is told of an input that is on no grid.
-fn grid_hint(alloc: Global, input: &Input, status: &Status) -> Result<Bytes, NoMemory>
-    ensures { IfOk result (λ lines. lines ≡ grid_hint input.now status.now) }
+/// The place and coordinates of the first point that is off every grid.
+fn grid_hint(
+    alloc: Global,
+    limits: Limits,
+    model: &Model,
+    status: &Status,
+) -> Result<Bytes, NoMemory>
+    ensures { IfOk result (λ lines. lines
+        ≡ grid_hint limits model.now.stated model.now.input status.now) }
 {
     match status {
         Status::Limit {
-            what: LimitKind::Grid { line },
-        } => size_line(alloc, input.nodes.decimals.as_slice(), *line),
+            what: LimitKind::Grid { line: _ },
+        } => off_grid_text(
+            alloc,
+            model.stated,
+            first_off(limits.grid, model.input.nodes.decimals.as_slice()),
+        ),
         _ => Ok(Bytes::new(alloc)),
     }
 }
 
-/// What more is told of an input that is refused so: the segment of the input that a missing piece
-/// lies on, or the coordinates of the parts that are told, or of the point that is off the grid.
-/// The segment is found by meshes with fewer points added, each of which ends at the piece that
-/// the next point halves.
+/// The lines that follow the message on a refused model: the segment of the input on which a
+/// missing subsegment lies; the coordinates of the crossing parts; or the place and the coordinates
+/// of the first point off the grid. The segment is found by meshing again with fewer points added:
+/// each such run ends at the subsegment that the next point halves.
 pub fn hint_of(
     alloc: Global,
     limits: Limits,
     options: &Options,
-    input: &Input,
+    model: &Model,
     refused: &Refused,
 ) -> Result<Bytes, NoMemory>
     requires limits { AreIndexable limits }
-    requires input { IsSound input.now }
+    requires input { IsSound model.now.input }
     requires ranges { AreInRange options.now }
     requires decimals { refused.now.decimals ≤ 20 }
     ensures { IfOk result
-        (IsHint limits (at_decimals refused.now.decimals options.now) input.now
-        refused.now.end.numbering refused.now.end.status) }
+        (IsHint limits model.now.stated (at_decimals refused.now.decimals options.now)
+        model.now.input refused.now.end.numbering refused.now.end.status) }
 {
     match &refused.end.numbering {
-        None => grid_hint(alloc, input, &refused.end.status),
+        None => grid_hint(alloc, limits, model, &refused.end.status),
         Some(by) => {
             let options = at_decimals(alloc, options, refused.decimals)?;
-            let trial = Trial::new(limits, &options, input);
+            let trial = Trial::new(limits, &options, &model.input);
             hint_by(alloc, &trial, by, &refused.end.status)
         }
     }

@@ -1,4 +1,4 @@
-//! The kinds of words.
+//! The kinds of command words: long words, clusters of letters, names.
 
 ghost use Rattle.std.specs.Prelude.{◌≡◌};
 ghost use Rattle.std.specs.List.{slice_index_or};
@@ -27,7 +27,7 @@ pub(crate) fn is_cluster(word: &[u8]) -> bool
     word.starts_with(b"-") && !is_long(word)
 }
 
-/// The byte at this place, from 0, or 0 behind the last.
+/// The byte at place `i`, from 0; 0 past the end.
 pub(crate) fn byte_at(word: &[u8], i: usize) -> u8
     ensures { result ≡ slice_index_or word.now i 0 }
 {

@@ -1,5 +1,5 @@
 //! The program `tetfit`, which meshes models as they are found: its words and its page, the finest
-//! rounding of a model at which the grid does not refuse it, what is told of a refusal, and the run
+//! rounding of a model at which the grid does not refuse it, the message on a refusal, and the run
 //! over a folder and two streams.
 #![tactic(auto)]
 

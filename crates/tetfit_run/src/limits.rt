@@ -6,8 +6,8 @@ ghost use Rattle.tetfit_run.specs.Outputs.{fit_limits};
 
 use node_files::Limits;
 
-/// The limits of the program: 2^30 bytes of a file, 4,000,000 points and facets, 1,000,000 corners
-/// of a polygon, and coordinates up to 2^29 in size.
+/// The limits of `tetfit`: 2^30 bytes of a file, 4,000,000 points and facets, 1,000,000 corners of
+/// a polygon, and coordinates up to 2^29 in size.
 pub(crate) fn fit_limits() -> Limits
     ensures values { result ≡ fit_limits }
     ensures indexable { AreIndexable result }

@@ -1,10 +1,10 @@
-//! The lines that each refusal is told in.
+//! The lines in which `tetfit` reports each refusal.
 
 ghost use Rattle.std.specs.Prelude.{◌≡◌, ◌++◌, IfOk, OnOk, drop};
 ghost use Rattle.tet_ports.specs.Seen.{IsMessagePut, sink_seen};
 ghost use Rattle.tetfit_run.specs.Words.{others};
 ghost use Rattle.tetgen_run.specs.Ends.{IsTellable, IsToldAs};
-ghost use Rattle.tetfit_run.specs.Messages.{fit_message, has_hint, help_of, help_of_limit, hint_in};
+ghost use Rattle.tetfit_run.specs.Messages.{fit_message, has_hint, help_of, help_of_budget, help_of_limit, hint_in};
 ghost use Rattle.tetfit_run.specs.Messages.{line_of, renamed_program};
 
 use crate::request::other_words;
@@ -15,10 +15,10 @@ use std::alloc::Global;
 use tet_ports::{Bytes, NoMemory, Sink, Words};
 use tetgen_run::Stop;
 
-/// The message of want of memory, which takes none.
+/// The message for out of memory, whose report needs no memory.
 const OUT_OF_MEMORY: &[u8] = b"tetfit: out of memory\n";
 
-/// The message that the summary could not be put.
+/// The message that the summary could not be written.
 const SUMMARY_FAILED: &[u8] = b"tetfit: summary: write failed\n";
 
 /// The program's name, as a line begins.
@@ -41,7 +41,18 @@ fn help_of_limit(what: &LimitKind) -> &'static [u8]
     }
 }
 
-/// One more line, on what would help, where something is known to.
+/// What would help where all `made` points that were allowed were added.
+fn help_of_budget(made: u32) -> &'static [u8]
+    ensures { result.now ≡ help_of_budget made }
+{
+    if made < 100_000 {
+        b"tetfit: allow more added points by -S\n"
+    } else {
+        b"tetfit: cut the model in parts\n"
+    }
+}
+
+/// One more line, on what would help; empty where nothing is known to.
 fn help_of(status: &Status) -> &'static [u8]
     ensures { result.now ≡ help_of status.now }
 {
@@ -61,20 +72,20 @@ fn help_of(status: &Status) -> &'static [u8]
         Status::GridEnd { piece: _ } => {
             b"tetfit: move apart what is near the segment, or turn sharp corners wider\n"
         }
-        Status::BudgetEnd { made: _, piece: _ } => b"tetfit: allow more added points by -S\n",
+        Status::BudgetEnd { made, piece: _ } => help_of_budget(*made),
         Status::NoFill { anomaly: _ } => b"tetfit: move the points of these facets apart\n",
         _ => b"",
     }
 }
 
-/// What follows another program's name at the front of a line.
+/// The line without its first 8 bytes, `tetgen: `.
 fn behind_name(line: &[u8]) -> &[u8]
     ensures { result.now ≡ drop 8 line.now }
 {
     if line.len() < 8 { b"" } else { &line[8..] }
 }
 
-/// The line of the program for exact texts, with this program's name in place of its own.
+/// A line of `tetgen` with the name of `tetfit` in place of its own.
 fn renamed(alloc: Global, line: &[u8]) -> Result<Bytes, NoMemory>
     ensures { IfOk result (λ made. made ≡ renamed_program line.now) }
 {
@@ -83,7 +94,8 @@ fn renamed(alloc: Global, line: &[u8]) -> Result<Bytes, NoMemory>
     Ok(made)
 }
 
-/// The line of a refusal, where these are the words with those that ask for the stages.
+/// The line of a refusal, from all words of the command, `-V` included. A point off the grid is
+/// reported in the lines that follow, with its coordinates.
 fn line_of(
     alloc: Global,
     words: &Words,
@@ -97,6 +109,9 @@ fn line_of(
             let plain = other_words(alloc, words)?;
             refused_line(alloc, &plain, *word, *place)
         }
+        Status::Limit {
+            what: LimitKind::Grid { line: _ },
+        } => Ok(Bytes::new(alloc)),
         _ => {
             let line = message(alloc, by, status)?;
             renamed(alloc, line.as_slice())
@@ -104,7 +119,7 @@ fn line_of(
     }
 }
 
-/// Whether more is told of the model: a segment or parts of it, or a point that is off the grid.
+/// Whether lines on the model follow: on a segment, on crossing parts, or on a point off the grid.
 fn has_hint(status: &Status) -> bool
     ensures { result ≡ has_hint status.now }
 {
@@ -120,7 +135,7 @@ fn has_hint(status: &Status) -> bool
     }
 }
 
-/// Appends what more is told of the model.
+/// Appends the lines on the model, where the refusal has them.
 fn append_hint(line: &mut Bytes, hint: &[u8], status: &Status) -> Result<(), NoMemory>
     ensures { OnOk result (line.new ≡ line.old ++ hint_in hint.now status.now) }
 {
@@ -130,7 +145,7 @@ fn append_hint(line: &mut Bytes, hint: &[u8], status: &Status) -> Result<(), NoM
     Ok(())
 }
 
-/// The message of a refusal, with what more is told of the model.
+/// The message of a refusal, with the lines on the model that follow it.
 fn fit_message(
     alloc: Global,
     words: &Words,
@@ -147,8 +162,8 @@ fn fit_message(
     Ok(line)
 }
 
-/// Puts the line of the program for exact texts with this program's name, where there may be no
-/// memory for it; a failure changes nothing.
+/// Writes a line of `tetgen` with the name of `tetfit`, where memory may be short; a failure
+/// changes nothing.
 fn put_renamed<E: Sink>(line: &[u8], err: &mut E)
     ensures { IsMessagePut (renamed_program line.now)
         (sink_seen E.state err.old err.new) }
@@ -159,8 +174,8 @@ fn put_renamed<E: Sink>(line: &[u8], err: &mut E)
     }
 }
 
-/// Puts the message of a stop, with what more is told, and answers its status. Where there is no
-/// memory for the message, the answer is want of memory.
+/// Writes the message of a stop, with the lines on the model, and answers its status; out of memory
+/// where there is no memory for the message.
 pub(crate) fn tell<E: Sink>(
     alloc: Global,
     words: &Words,

@@ -1,4 +1,4 @@
-//! What is read of a model.
+//! Reads the model that the options name.
 
 ghost use Rattle.std.specs.Prelude.{◌≡◌, ◌≤◌, ◌<◌, ◌-◌, ◌^◌, length, IfOk, IfSome};
 ghost use Rattle.node_files.specs.Limits.{AreIndexable};
@@ -7,7 +7,7 @@ ghost use Rattle.run_steps.specs.Reading.{complex_file, IsSound, TextAnswer};
 ghost use Rattle.tet_ports.specs.Seen.{IsOnlyRead, folder_seen};
 ghost use Rattle.run_steps.specs.Steps.{AndThen, Gives};
 ghost use Rattle.tetfit_run.specs.Models.{is_stl, names_stl, stl_text_of};
-ghost use Rattle.tetfit_run.specs.Models.{ModelAnswer};
+ghost use Rattle.tetfit_run.specs.Models.{input_in, stated_of, IsStatedBy, IsStatedInStl, ModelAnswer, StlInputAnswer};
 
 use command_words::{Extension, Options, file_name};
 use node_files::Limits;
@@ -15,31 +15,95 @@ use plc_files::PlcFault;
 use run_steps::{ComplexFile, Fetched, Input, Status, complex_of, fetch, read_input, with_points};
 use soup_files::{is_binary_stl, read_binary_stl};
 use std::alloc::Global;
-use tet_ports::Folder;
+use tet_ports::{Bytes, Folder, Name};
+
+/// The unit in which places in the model's file are counted.
+#[derive(Clone, Copy, Debug, PartialEq, Eq)]
+pub(crate) enum Stated {
+    /// The lines of a text.
+    Lines,
+    /// The facets of a binary `.stl` file.
+    Facets,
+}
+
+/// The points and the complex of a model, and the unit in which the places of its points in their
+/// file are counted, from 1.
+#[derive(Drop)]
+pub(crate) struct Model {
+    pub(crate) input: Input,
+    pub(crate) stated: Stated,
+}
+
+/// The unit of the places in an `.stl` file: facets in a binary one, lines in a text.
+fn stated_of(bytes: &Bytes) -> Stated
+    ensures { result ≡ stated_of bytes.now }
+{
+    if is_binary_stl(bytes) {
+        Stated::Facets
+    } else {
+        Stated::Lines
+    }
+}
+
+/// The model with this input, and with what the places of its points count.
+fn with_stated(read: Result<Input, Status>, stated: Stated) -> Result<Model, Status>
+    requires { IfOk read IsSound }
+    ensures input { input_in result ≡ read }
+    ensures stated { IfOk result (λ model. model.stated ≡ stated) }
+    ensures sound { IfOk result (λ model. IsSound model.input) }
+{
+    match read {
+        Ok(input) => Ok(Model { input, stated }),
+        Err(status) => Err(status),
+    }
+}
+
+/// The model of the `.stl` file with this base, which may be a binary one.
+fn read_stl<F: Folder>(
+    alloc: Global,
+    limits: Limits,
+    base: &Name,
+    folder: &mut F,
+) -> Result<Model, Status>
+    requires { AreIndexable limits }
+    ensures answer { StlInputAnswer limits (folder_seen F.state folder.old folder.new) base.now
+        (input_in result) }
+    ensures stated { IfOk result (λ model. IsStatedInStl
+        (folder_seen F.state folder.old folder.new) base.now model.stated) }
+    ensures sound { IfOk result (λ model. IsSound model.input) }
+    ensures only_read { IsOnlyRead (folder_seen F.state folder.old folder.new) }
+{
+    let name = file_name(alloc, base, Extension::Stl)?;
+    let file = fetch(alloc, limits, name, folder)?;
+    let stated = stated_of(&file.bytes);
+    let surface = surface_of(alloc, file)?;
+    let read = with_points(alloc, limits, base, surface, folder);
+    with_stated(read, stated)
+}
 
 /// The model that the options name: as `read_input` reads it, but that an `.stl` file may be a
-/// binary one, which is told by its length. Each file is fetched once. It refuses as `read_input`
+/// binary one, which is known by its length. Each file is fetched once. It refuses as `read_input`
 /// does, and stores nothing.
-pub fn read_model<F: Folder>(
+pub(crate) fn read_model<F: Folder>(
     alloc: Global,
     limits: Limits,
     options: &Options,
     folder: &mut F,
-) -> Result<Input, Status>
+) -> Result<Model, Status>
     requires limits { AreIndexable limits }
     requires sample { IfSome options.now.sample (λ n. n ≤ 10000) }
     ensures answer { ModelAnswer limits
-        (folder_seen F.state folder.old folder.new) options.now result }
-    ensures sound { IfOk result IsSound }
+        (folder_seen F.state folder.old folder.new) options.now (input_in result) }
+    ensures stated { IfOk result (λ model. IsStatedBy
+        (folder_seen F.state folder.old folder.new) options.now model.stated) }
+    ensures sound { IfOk result (λ model. IsSound model.input) }
     ensures only_read { IsOnlyRead (folder_seen F.state folder.old folder.new) }
 {
-    if !names_stl(options) {
-        return read_input(alloc, limits, options, folder);
+    if names_stl(options) {
+        return read_stl(alloc, limits, &options.base, folder);
     }
-    let name = file_name(alloc, &options.base, Extension::Stl)?;
-    let file = fetch(alloc, limits, name, folder)?;
-    let surface = surface_of(alloc, file)?;
-    with_points(alloc, limits, &options.base, surface, folder)
+    let read = read_input(alloc, limits, options, folder);
+    with_stated(read, Stated::Lines)
 }
 
 fn is_stl(extension: Option<Extension>) -> bool
@@ -55,7 +119,7 @@ fn names_stl(options: &Options) -> bool
     options.piecewise && is_stl(options.extension)
 }
 
-/// The complex that an `.stl` file spells, of which the binary ones are told by their length.
+/// The complex that an `.stl` file spells; a binary file is known by its length.
 fn surface_of(alloc: Global, file: Fetched) -> Result<ComplexFile, Status>
     requires { length file.bytes < 2 ^ 32 - 1 }
     ensures answer { AndThen (TextAnswer file.name (stl_text_of file.bytes))

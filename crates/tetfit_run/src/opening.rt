@@ -1,11 +1,11 @@
-//! What is told of facets that enclose nothing.
+//! The line on facets that enclose no solid: an edge that only one facet has.
 
-ghost use Rattle.std.specs.Prelude.{◌≡◌, ◌≤◌, ◌<◌, ◌^◌, length, IfOk};
+ghost use Rattle.std.specs.Prelude.{◌≡◌, ◌==◌, ◌≤◌, ◌<◌, ◌^◌, length, not, IfOk};
 ghost use Rattle.command_words.specs.Meaning.{AreInRange};
 ghost use Rattle.node_files.specs.Limits.{AreIndexable};
 ghost use Rattle.run_steps.specs.Numbering.{numbering_of};
 ghost use Rattle.run_steps.specs.Reading.{IsSound};
-ghost use Rattle.tetfit_run.specs.Opening.{nothing_line, open_line, TellsOpening, TellsOpenSide};
+ghost use Rattle.tetfit_run.specs.Opening.{carved_line, nothing_line, open_line, TellsOpening, TellsOpeningIn, TellsOpenSide};
 ghost use Rattle.tetfit_run.specs.Trying.{at_decimals};
 
 use crate::copies::{at_decimals, nodes_of};
@@ -26,7 +26,7 @@ fn nothing_line(alloc: Global) -> Result<Bytes, NoMemory>
     Bytes::from_slice(alloc, b"tetfit: the facets enclose nothing\n")
 }
 
-/// The line of a side that only one facet has.
+/// The line that names a facet and its side that no other facet has.
 fn open_line(alloc: Global, by: &Numbering, side: Piece, facet: u32) -> Result<Bytes, NoMemory>
     ensures { IfOk result (λ line. line ≡ open_line by.now side facet) }
 {
@@ -39,7 +39,7 @@ fn open_line(alloc: Global, by: &Numbering, side: Piece, facet: u32) -> Result<B
     Ok(text)
 }
 
-/// The line of a side of a complex that only one facet has.
+/// The line on a facet's side that no other facet of the complex has.
 fn side_line(alloc: Global, bound: &Bound, side: Piece, facet: u32) -> Result<Bytes, NoMemory>
     requires { length bound.now.table.listed < 2 ^ 32 }
     ensures { IfOk result
@@ -49,8 +49,22 @@ fn side_line(alloc: Global, bound: &Bound, side: Piece, facet: u32) -> Result<By
     open_line(alloc, &by, side, facet)
 }
 
-/// What is told of points and a complex on their grid.
-fn opening_in(alloc: Global, bound: &Bound) -> Result<Bytes, NoMemory>
+fn carved_line(alloc: Global) -> Result<Bytes, NoMemory>
+    ensures { IfOk result (λ line. line ≡ carved_line) }
+{
+    let line = b"tetfit: the facets enclose nothing, or hole points carve all of it\n";
+    Bytes::from_slice(alloc, line)
+}
+
+fn has_holes(bound: &Bound) -> bool
+    ensures { result ≡ not (length bound.now.complex.holes == 0) }
+{
+    !bound.complex.hole_points().is_empty()
+}
+
+/// The line on the open side of a complex on its grid; where none is found, it says only that the
+/// facets enclose nothing.
+fn open_side_line(alloc: Global, bound: &Bound) -> Result<Bytes, NoMemory>
     requires { length bound.now.table.listed < 2 ^ 32 }
     ensures { IfOk result (TellsOpenSide bound.now) }
 {
@@ -61,8 +75,21 @@ fn opening_in(alloc: Global, bound: &Bound) -> Result<Bytes, NoMemory>
     }
 }
 
-/// What is told of facets that enclose nothing, of an input at so many decimals: a side that only
-/// one facet has, where one is found, or no more than that.
+/// The line on a complex on its grid, by whether it has hole points.
+fn opening_in(alloc: Global, bound: &Bound) -> Result<Bytes, NoMemory>
+    requires { length bound.now.table.listed < 2 ^ 32 }
+    ensures { IfOk result (TellsOpeningIn bound.now) }
+{
+    if has_holes(bound) {
+        carved_line(alloc)
+    } else {
+        open_side_line(alloc, bound)
+    }
+}
+
+/// The line on an input whose mesh has no tetrahedron, rounded to `decimals` decimals. With hole
+/// points it says that nothing is enclosed or all of it is carved; without them it names a side that
+/// only one facet has, or, where none is found, says only that the facets enclose nothing.
 pub fn opening_of(
     alloc: Global,
     limits: Limits,
@@ -81,6 +108,6 @@ pub fn opening_of(
     let tried = Trial::new(limits, &options, input);
     match tried.bind(alloc, nodes) {
         Ok(bound) => opening_in(alloc, &bound),
-        Err(_) => nothing_line(alloc),
+        Err(_) => Err(NoMemory),
     }
 }

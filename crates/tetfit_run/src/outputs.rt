@@ -1,4 +1,4 @@
-//! What the words ask for.
+//! The outputs that the words of the command ask for.
 
 ghost use Rattle.std.specs.Prelude.{◌≡◌, ◌≤◌, ◌-◌, ℕ, [], IfOk, IfErr, Ok, Err, Some, length, take};
 ghost use Rattle.command_words.specs.Meaning.{AreInRange};
@@ -16,7 +16,7 @@ ghost use Rattle.tetfit_run.specs.Run.{IsKnown, IsKnownOf, IsUnfitted};
 use crate::fitting::{Fitted, fit_input};
 use crate::hints::hint_of;
 use crate::limits::fit_limits;
-use crate::model::read_model;
+use crate::model::{Model, read_model};
 use crate::opening::opening_of;
 use crate::page::{PAGE, VERSION};
 use crate::request::{Request, other_words, read_options, request_of};
@@ -28,7 +28,7 @@ use std::alloc::Global;
 use tet_ports::{Bytes, Folder, NoMemory, Words};
 use tetgen_run::Stop;
 
-/// A text alone, which is put where a summary is.
+/// Outputs without files, whose text is written in place of the summary.
 fn said(alloc: Global, text: &[u8]) -> Result<Outputs, NoMemory>
     ensures { IfOk result (λ outputs. outputs ≡ said text.now) }
 {
@@ -43,7 +43,7 @@ fn said(alloc: Global, text: &[u8]) -> Result<Outputs, NoMemory>
     Ok(Outputs { texts, summary })
 }
 
-/// Whether the summary tells that there is no tetrahedron.
+/// Whether the summary reports 0 tetrahedra.
 fn tells_none(summary: &Option<Bytes>) -> bool
     ensures { result ≡ tells_none summary.now }
 {
@@ -55,7 +55,7 @@ fn tells_none(summary: &Option<Bytes>) -> bool
     }
 }
 
-/// The summary, which a line feed ends, with how many decimals there are, and with more behind it.
+/// The summary line with the number of decimals before its line feed, and `more` behind it.
 fn with_decimals(
     alloc: Global,
     decimals: u32,
@@ -75,7 +75,7 @@ fn with_decimals(
     Ok(Some(line))
 }
 
-/// The outputs of a mesh with so many decimals, whose summary tells them.
+/// The outputs of a fitted mesh, with its number of decimals in the summary.
 fn outputs_at(alloc: Global, fitted: Fitted, more: &Bytes) -> Result<Outputs, NoMemory>
     ensures { IfOk result
         (λ outputs. outputs ≡ outputs_at fitted.decimals more.now fitted.outputs) }
@@ -86,7 +86,7 @@ fn outputs_at(alloc: Global, fitted: Fitted, more: &Bytes) -> Result<Outputs, No
     Ok(Outputs { texts, summary })
 }
 
-/// Where there is no tetrahedron, where the surface is open.
+/// The line on facets that enclose nothing, where the mesh has no tetrahedron.
 fn more_of(
     alloc: Global,
     options: &Options,
@@ -106,7 +106,8 @@ fn more_of(
     }
 }
 
-/// The outputs of what is fitted, with what more is told of it.
+/// The outputs of a fitted mesh, with the line on facets that enclose nothing where it has no
+/// tetrahedron.
 fn told_outputs(
     alloc: Global,
     options: &Options,
@@ -123,24 +124,24 @@ fn told_outputs(
     outputs_at(alloc, fitted, &more)
 }
 
-/// The outputs of an input with the most decimals that the grid does not refuse, or what more is
-/// told of its refusal.
+/// The outputs of a model with the most decimals at which the grid does not refuse it, or the
+/// refusal with the lines that follow its message.
 fn fitted_outputs(
     alloc: Global,
     options: &Options,
-    input: &Input,
+    model: &Model,
     hint: &mut Bytes,
 ) -> Result<Outputs, Stop>
-    requires input { IsSound input.now }
+    requires input { IsSound model.now.input }
     requires ranges { AreInRange options.now }
     ensures made { IfOk result
-        (λ outputs. IsFittedTo options.now input.now (Ok outputs)) }
-    ensures stopped { IfErr result (IsUnfitted options.now input.now hint.new) }
+        (λ outputs. IsFittedTo options.now model.now.input (Ok outputs)) }
+    ensures stopped { IfErr result (IsUnfitted options.now model.now hint.new) }
 {
-    match fit_input(alloc, fit_limits(), options, input) {
-        Ok(fitted) => Ok(told_outputs(alloc, options, input, fitted)?),
+    match fit_input(alloc, fit_limits(), options, &model.input) {
+        Ok(fitted) => Ok(told_outputs(alloc, options, &model.input, fitted)?),
         Err(refused) => {
-            *hint = hint_of(alloc, fit_limits(), options, input, &refused)?;
+            *hint = hint_of(alloc, fit_limits(), options, model, &refused)?;
             let Unfitted { status, numbering } = refused.end;
             Err(Stop::Refused { status, numbering })
         }
@@ -166,8 +167,8 @@ fn outputs_of_options<F: Folder>(
         (folder_seen F.state folder.old folder.new) hint.new)) }
     ensures only_read { IsOnlyRead (folder_seen F.state folder.old folder.new) }
 {
-    let input = read_model(alloc, fit_limits(), options, folder)?;
-    fitted_outputs(alloc, options, &input, hint)
+    let model = read_model(alloc, fit_limits(), options, folder)?;
+    fitted_outputs(alloc, options, &model, hint)
 }
 
 /// The options of the words, without those that ask for the stages.

@@ -1,4 +1,4 @@
-//! What the program says of itself.
+//! The page and the version of `tetfit`.
 
 /// The page: what the program does, its switches, and five examples.
 pub const PAGE: &[u8] = b"\
@@ -6,7 +6,8 @@ tetfit [switches] name\n\
 \n\
 Fills a model with tetrahedra: the points of a .node file, or the solid that\n\
 the facets of a .poly, .smesh, .off or .stl file bound, also a binary .stl.\n\
-Coordinates are rounded to as many decimals as a mesh can be made with.\n\
+Coordinates keep at most 20 decimals, and fewer where the grid, which has\n\
+2^29 units to each side of zero, is too small or too coarse for them.\n\
 The mesh is written beside the model, as name.1.node, name.1.ele and\n\
 name.1.face.\n\
 \n\

@@ -1,10 +1,11 @@
 //! Points of a model by their numbers and coordinates.
 
-ghost use Rattle.std.specs.Prelude.{◌≡◌, ◌==◌, ◌++◌, [], drop, find, slice_get, option_copied, OnOk, IfOk};
+ghost use Rattle.std.specs.Prelude.{◌≡◌, ◌++◌, [], drop, slice_get, option_copied, OnOk, IfOk};
 ghost use Rattle.std.specs.Option.{option_map_or};
-ghost use Rattle.tetfit_run.specs.Hints.{at_text, corner_text, corners_text, front_text, number_text};
-ghost use Rattle.tetfit_run.specs.Hints.{part_line, place_text, size_line, stated_text};
+ghost use Rattle.tetfit_run.specs.Hints.{at_line, at_text, corner_text, corners_text, front_of, front_text, has_text, number_text};
+ghost use Rattle.tetfit_run.specs.Hints.{off_grid_lines, part_line, place_text, point_line, refusal_line};
 
+use crate::model::Stated;
 use grid_coords::DecimalPoint;
 use mesh_check::append_number;
 use run_steps::Numbering;
@@ -25,7 +26,7 @@ pub(crate) fn append_name(text: &mut Bytes, by: &Numbering, point: u32) -> Resul
     Ok(())
 }
 
-/// Appends the coordinates of a point as the file has them.
+/// Appends the coordinates of a point in parentheses, as the file has them.
 #[tactic(auto, unfolding(crate::specs::Hints::at_text))]
 fn append_at(text: &mut Bytes, p: &DecimalPoint) -> Result<(), NoMemory>
     ensures { OnOk result (text.new ≡ text.old ++ at_text p.now) }
@@ -126,54 +127,76 @@ pub(crate) fn append_part(
     text.append(b"\n")
 }
 
-/// The point that this line states.
-fn stated_in(points: &[DecimalPoint], line: usize) -> Option<&DecimalPoint>
-    ensures { option_copied result ≡ find (λ p. p.line == line) points.now }
+/// The text before a place in a file.
+fn front_of(stated: Stated) -> &'static [u8]
+    ensures { result.now ≡ front_of stated }
 {
-    points.iter().find(|p| p.line == line)
+    match stated {
+        Stated::Lines => b"tetfit: line ",
+        Stated::Facets => b"tetfit: facet ",
+    }
 }
 
-fn append_front(text: &mut Bytes, line: usize) -> Result<(), NoMemory>
-    ensures { OnOk result (text.new ≡ text.old ++ front_text line) }
+/// Appends a place in a file.
+fn append_front(text: &mut Bytes, stated: Stated, place: usize) -> Result<(), NoMemory>
+    ensures { OnOk result (text.new ≡ text.old ++ front_text stated place) }
 {
-    text.append(b"tetfit: line ")?;
-    append_number(text, line)?;
+    text.append(front_of(stated))?;
+    append_number(text, place)
+}
+
+/// Appends that the point at a place in a file is off the grid.
+fn append_refusal(text: &mut Bytes, stated: Stated, place: usize) -> Result<(), NoMemory>
+    ensures { OnOk result (text.new ≡ text.old ++ refusal_line stated place) }
+{
+    append_front(text, stated, place)?;
+    text.append(b": coordinate off the grid\n")
+}
+
+/// Appends that a place in a file has what follows.
+fn append_has(text: &mut Bytes, stated: Stated, place: usize) -> Result<(), NoMemory>
+    ensures { OnOk result (text.new ≡ text.old ++ has_text stated place) }
+{
+    append_front(text, stated, place)?;
     text.append(b" has")
 }
 
-/// Appends the coordinates of the point that this line states.
-fn append_point(text: &mut Bytes, line: usize, p: &DecimalPoint) -> Result<(), NoMemory>
-    ensures { OnOk result (text.new ≡ text.old ++ stated_text line p.now) }
+/// Appends the coordinates of a point, and ends the line.
+fn append_at_line(text: &mut Bytes, p: &DecimalPoint) -> Result<(), NoMemory>
+    ensures { OnOk result (text.new ≡ text.old ++ at_line p.now) }
 {
-    append_front(text, line)?;
     append_at(text, p)?;
     text.append(b"\n")
 }
 
-/// Appends the coordinates of a point that this line states, where there is one.
-fn append_stated(
-    text: &mut Bytes,
-    line: usize,
-    found: Option<&DecimalPoint>,
-) -> Result<(), NoMemory>
-    ensures { OnOk result (text.new
-        ≡ text.old ++ option_map_or (stated_text line) (option_copied found.entry) []) }
+/// Appends the place of a point in its file and the coordinates.
+fn append_point(text: &mut Bytes, stated: Stated, p: &DecimalPoint) -> Result<(), NoMemory>
+    ensures { OnOk result (text.new ≡ text.old ++ point_line stated p.now) }
 {
-    match found {
-        Some(p) => append_point(text, line, p),
-        None => Ok(()),
-    }
+    append_has(text, stated, p.line)?;
+    append_at_line(text, p)
 }
 
-/// The coordinates of the point in this line.
-pub(crate) fn size_line(
+/// Appends the lines on a point off the grid.
+fn append_off_grid(text: &mut Bytes, stated: Stated, p: &DecimalPoint) -> Result<(), NoMemory>
+    ensures { OnOk result (text.new ≡ text.old ++ off_grid_lines stated p.now) }
+{
+    append_refusal(text, stated, p.line)?;
+    append_point(text, stated, p)
+}
+
+/// The place of a point off the grid in its file, and its coordinates; nothing without a point.
+pub(crate) fn off_grid_text(
     alloc: Global,
-    points: &[DecimalPoint],
-    line: usize,
+    stated: Stated,
+    found: Option<&DecimalPoint>,
 ) -> Result<Bytes, NoMemory>
-    ensures { IfOk result (λ made. made ≡ size_line points.now line) }
+    ensures { IfOk result (λ made. made
+        ≡ option_map_or (off_grid_lines stated) (option_copied found.entry) []) }
 {
     let mut text = Bytes::new(alloc);
-    append_stated(&mut text, line, stated_in(points, line))?;
+    if let Some(p) = found {
+        append_off_grid(&mut text, stated, p)?;
+    }
     Ok(text)
 }

@@ -63,7 +63,7 @@ pub enum Reason {
 }
 
 impl Reason {
-    /// What is said of it.
+    /// The text that the message gives for this reason.
     pub(crate) fn text(self) -> &'static [u8]
         ensures { result.now ≡ reason_text self }
     {
@@ -97,7 +97,7 @@ impl Reason {
     }
 }
 
-/// Of a letter that is no switch.
+/// Why a letter is no switch.
 fn reason_of(byte: u8) -> Reason
     ensures { result ≡ reason_of byte }
 {
@@ -126,7 +126,8 @@ fn reason_of(byte: u8) -> Reason
     }
 }
 
-/// Of the byte at this place of a cluster, from 1; behind an S a number is wanted.
+/// Why the byte at this place of a cluster, from 1, is not understood; behind an S the missing
+/// number is the reason.
 fn cluster_reason(word: &[u8], place: usize) -> Reason
     ensures { result ≡ cluster_reason word.now place }
 {
@@ -169,17 +170,15 @@ fn word_reason(word: &[u8], place: usize) -> Reason
     }
 }
 
-/// Why the words are not understood whose fault is this one: the number of the word and the place
-/// in it, both from 1, as `read_options` tells them.
+/// Why the words are not understood, from the fault that `read_options` reports: the number of the
+/// word and the place in it, both from 1.
 pub fn why_not(words: &Words, word: usize, place: usize) -> Reason
     ensures { result ≡ why_not words.now word place }
 {
     let i = word.saturating_sub(1);
     if i < words.len() {
         word_reason(words.word(i).as_slice(), place)
-    } else if place == 1 {
-        Reason::NoName
     } else {
-        Reason::Check
+        Reason::NoName
     }
 }

@@ -16,7 +16,7 @@ use refining::{Aim, refined_outputs};
 use run_steps::{Bound, Input, Outputs, Status};
 use std::alloc::Global;
 
-/// The outputs of points and a complex on their grid, whose mesh is refined towards this.
+/// The outputs of points and a complex on their grid, with the mesh refined towards a goal.
 fn refined_towards(
     alloc: Global,
     options: &Options,
@@ -31,8 +31,8 @@ fn refined_towards(
     refined_outputs(alloc, options, bound, &aim.bounds, &mut edges)
 }
 
-/// The outputs of a complex at so many decimals, whose mesh is refined towards this. It refuses as
-/// `bind_input` and `mesh_outputs` do; or for want of memory.
+/// The outputs of a complex rounded to `decimals` decimals, with the mesh refined towards a goal.
+/// It refuses as `bind_input` and `mesh_outputs` do, or when out of memory.
 pub fn refined_at(
     alloc: Global,
     limits: Limits,

@@ -1,10 +1,10 @@
-//! What the words ask for.
+//! Reads the words of the command: a page, the version, or the options of a mesh.
 
 ghost use Rattle.std.specs.Prelude.{◌≡◌, ◌+◌, ◌<◌, ℕ, length, Some, None, Err, IfOk, IfSome, position};
 ghost use Rattle.std.specs.Str.{bytes_eq};
 ghost use Rattle.command_words.specs.Meaning.{AreInRange};
 ghost use Rattle.command_words.specs.declared.fault.WordsFault.TheVariants.{Usage};
-ghost use Rattle.tetfit_run.specs.Words.{request_of, asks_page, asks_stages, asks_version, elsewhere_in, first_elsewhere, fit_fault, fit_options, has_word, asks_elsewhere, is_letter_elsewhere, others, IsPlainRequest};
+ghost use Rattle.tetfit_run.specs.Words.{request_of, asks_page, asks_stages, asks_version, elsewhere_in, first_elsewhere, fit_fault, fit_options, has_word, asks_elsewhere, is_letter_elsewhere, named_fault, others, told_fault, IsPlainRequest};
 
 use crate::kinds::{DECIMALS, SAMPLE, is_cluster};
 use command_words::{Options, WordsFault, read_words_within};
@@ -107,7 +107,8 @@ fn elsewhere_in(word: &[u8]) -> Option<usize>
     None
 }
 
-/// The first word that asks for one of these four, and the place in it, both from 1.
+/// The first word that asks for weights, a check, decimals or the sample, and the place in it, both
+/// from 1.
 fn first_elsewhere(words: &Words) -> Option<(usize, usize)>
     ensures { result ≡ first_elsewhere 1 words.now }
 {
@@ -119,18 +120,43 @@ fn first_elsewhere(words: &Words) -> Option<(usize, usize)>
     None
 }
 
-/// Whether the options have one of these four.
+/// Whether the options ask for weights, a check, decimals or the sample.
 fn is_elsewhere(options: &Options) -> bool
     ensures { result ≡ asks_elsewhere options.now }
 {
     options.weighted || options.check || (options.decimals.is_some() || options.sample.is_some())
 }
 
+/// The fault at this word and place, or, where it is behind the last word, that of the first word
+/// that asks for weights, a check, decimals or the sample.
+fn named_fault(words: &Words, word: usize, place: usize) -> (usize, usize)
+    ensures { result ≡ named_fault words.now (word, place) }
+{
+    if word > words.len() {
+        first_elsewhere(words).unwrap_or((word, place))
+    } else {
+        (word, place)
+    }
+}
+
+/// The fault that is reported for words with this fault by the grammar.
+fn told_fault(words: &Words, fault: WordsFault) -> WordsFault
+    ensures { result ≡ told_fault words.now fault }
+{
+    match fault {
+        WordsFault::Usage { word, place } => {
+            let (word, place) = named_fault(words, word, place);
+            WordsFault::Usage { word, place }
+        }
+        WordsFault::NoMemory => WordsFault::NoMemory,
+    }
+}
+
 /// The options that the words without `-V` ask for.
 ///
 /// `Usage` exactly where they are not in the grammar of `read_words_within`, with its first fault,
 /// or ask for weights, a check, decimals or the sample, with the first word that does and the place
-/// in it.
+/// in it; the same word and place are given where the grammar's fault is a missing word.
 pub fn read_options(alloc: Global, words: &Words) -> Result<Options, WordsFault>
     ensures understood { IfOk result (λ options. fit_fault words.now ≡ None) }
     ensures options { IfOk result (λ options. options ≡ fit_options words.now) }
@@ -139,7 +165,10 @@ pub fn read_options(alloc: Global, words: &Words) -> Result<Options, WordsFault>
     ensures ranges { IfOk result (λ options. AreInRange options) }
     ensures plain { IfOk result (λ options. IsPlainRequest options) }
 {
-    let options = read_words_within(alloc, words, MOST_HALVINGS)?;
+    let options = match read_words_within(alloc, words, MOST_HALVINGS) {
+        Ok(options) => options,
+        Err(fault) => return Err(told_fault(words, fault)),
+    };
     if is_elsewhere(&options) {
         let (word, place) = first_elsewhere(words).unwrap_or((1, 1));
         return Err(WordsFault::Usage { word, place });

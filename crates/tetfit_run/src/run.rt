@@ -1,15 +1,16 @@
 //! The run of the program: from its words to the files of a mesh.
 
-ghost use Rattle.std.specs.Prelude.{◌≡◌, ◌≤◌, []};
+ghost use Rattle.std.specs.Prelude.{◌≡◌, []};
 ghost use Rattle.tetfit_run.specs.Words.{others};
 ghost use Rattle.tet_ports.specs.Seen.{folder_seen, sink_seen};
-ghost use Rattle.tetgen_run.specs.Ends.{EndsWith};
+ghost use Rattle.tetgen_run.specs.Ends.{EndsWith, answer_of};
 ghost use Rattle.tetfit_run.specs.Outputs.{OutputsOfFit};
-ghost use Rattle.tetfit_run.specs.Run.{AreStages, IsFitAnswer, IsFitComplete, IsKnown, IsFitLeft, IsFitTold};
+ghost use Rattle.tetfit_run.specs.Stages.{AreStagesPut};
+ghost use Rattle.tetfit_run.specs.Run.{IsFitAnswer, IsFitComplete, IsKnown, IsFitLeft, IsFitTold};
 
 use crate::messages::tell;
 use crate::outputs::outputs_of;
-use crate::stages::say;
+use crate::stages::{say_reads, say_stores};
 use run_steps::Status;
 use std::alloc::Global;
 use tet_ports::{Bytes, Folder, Sink, Words};
@@ -44,7 +45,7 @@ pub fn run_fit<F: Folder, O: Sink, E: Sink>(
     }
 }
 
-/// The run without its message, and what more is told in that.
+/// The run without its message; a stop carries the lines on the model for that message.
 fn run<F: Folder, O: Sink, E: Sink>(
     alloc: Global,
     words: &Words,
@@ -60,12 +61,11 @@ fn run<F: Folder, O: Sink, E: Sink>(
         (folder_seen F.state folder.old folder.new) hint.new)
         (folder_seen F.state folder.old folder.new)
         (sink_seen O.state out.old out.new) result }
-    ensures stages { AreStages words.now (E.state err.old).written (E.state err.new).written }
-    ensures faults { (E.state err.old).faults ≤ (E.state err.new).faults }
-    ensures wants { (E.state err.old).wants ≤ (E.state err.new).wants }
+    ensures stages { AreStagesPut words.now (answer_of result)
+        (sink_seen E.state err.old err.new) }
 {
-    say(words, b"tetfit: reads and meshes the model\n", err);
+    let goes_on = say_reads(words, err);
     let outputs = outputs_of(alloc, words, folder, hint)?;
-    say(words, b"tetfit: stores the files\n", err);
+    say_stores(words, goes_on, err);
     finish(alloc, outputs, folder, out)
 }

@@ -1,4 +1,4 @@
-//! The sides that only one facet has.
+//! The search for a side that only one facet has, where a surface is open.
 
 ghost use Rattle.std.specs.Prelude.{◌≡◌, ◌<◌, ℕ, true, false, length, slice_index, IfOk, IfSome, IsTrue};
 ghost use Rattle.tetfit_run.specs.Opening.{are_ends, is_side_at, IsOpenAt, IsSideOfFacetAt};
@@ -16,7 +16,7 @@ fn are_ends(piece: Piece, x: u32, y: u32) -> bool
     (x == piece.a && y == piece.b) || (x == piece.b && y == piece.a)
 }
 
-/// Whether the piece is the side of a polygon from the corner at this place to the next one.
+/// Whether the piece is the polygon's side from corner `i` to the next one.
 fn is_side_at(piece: Piece, corners: &[u32], i: usize) -> bool
     requires { i < length corners.now }
     ensures { result ≡ is_side_at piece corners.now i }
@@ -55,7 +55,7 @@ fn is_side_of(complex: &Complex, piece: Piece, facet: u32) -> bool
     false
 }
 
-/// Whether only the facet at this place has the side.
+/// Whether the facet at this place has the side, and no other facet has it.
 fn is_open_at(complex: &Complex, piece: Piece, facet: u32) -> bool
     ensures { IsTrue result → IsOpenAt complex.now piece facet }
 {
@@ -73,7 +73,7 @@ fn is_open_at(complex: &Complex, piece: Piece, facet: u32) -> bool
 // ---- the search for one
 
 /// The sides in the order in which they are first met, and for each the one facet that has it so
-/// far, or None where several have.
+/// far; None where several facets have it.
 #[derive(Drop)]
 struct Owners {
     sides: PieceSet,
@@ -119,7 +119,7 @@ fn note_facet(owners: &mut Owners, complex: &Complex, facet: u32) -> Result<(), 
     Ok(())
 }
 
-/// The first side that one facet alone has, as the owners tell, and that facet.
+/// The first side with one facet in `owners`, and that facet.
 fn first_alone(owners: &Owners) -> Result<Option<(Piece, u32)>, NoMemory> {
     let sides = owners.sides.pieces()?;
     for (i, side) in sides.as_slice().iter().enumerate() {
@@ -145,7 +145,8 @@ fn side_alone(alloc: Global, complex: &Complex) -> Result<Option<(Piece, u32)>, 
     first_alone(&owners)
 }
 
-/// A side that only one facet has, and that facet, or None. What is found is tested once more.
+/// A side that only one facet has, and that facet, or None. The side that was found is tested by
+/// `is_open_at`, which the contract rests on.
 pub(crate) fn open_side(alloc: Global, complex: &Complex) -> Result<Option<(Piece, u32)>, NoMemory>
     ensures { IfOk result
         (λ found. IfSome found (λ f. IsOpenAt complex.now f.0 f.1)) }

@@ -1,4 +1,4 @@
-//! What is told of a word that is not understood.
+//! The line on a word that is not understood.
 
 ghost use Rattle.std.specs.Prelude.{◌≡◌, ◌++◌, OnOk, IfOk};
 ghost use Rattle.tetfit_run.specs.Texts.{letter_at, refused_line, word_told};
@@ -8,7 +8,7 @@ use crate::reason::why_not;
 use std::alloc::Global;
 use tet_ports::{Bytes, NoMemory, Words};
 
-/// Appends the letter at this place of a cluster, from 1.
+/// Appends the letter at this place of a cluster, from 1; nothing for another word.
 fn put_letter(word: &[u8], place: usize, line: &mut Bytes) -> Result<(), NoMemory>
     ensures { OnOk result (line.new ≡ line.old ++ letter_at word.now place) }
 {
@@ -34,8 +34,8 @@ fn put_word(words: &Words, word: usize, place: usize, line: &mut Bytes) -> Resul
     Ok(())
 }
 
-/// The line that is told of words whose fault is this one, as `read_options` tells it: the word,
-/// its letter that is not understood, and why.
+/// The line on the fault that `read_options` reports: the word, its letter that is not understood,
+/// and why.
 pub fn refused_line(
     alloc: Global,
     words: &Words,

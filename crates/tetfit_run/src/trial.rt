@@ -13,8 +13,8 @@ use run_steps::{Bound, Input, Status, bind_nodes};
 use std::alloc::Global;
 use std::marker::Model;
 
-/// An input that is tried, with the options of the try, within limits. Contracts see the three;
-/// they are such that the steps after reading may be taken.
+/// A trial: an input with options and limits, which by its invariant the steps after reading
+/// accept.
 #[derive(Drop)]
 pub(crate) struct Trial<'a> {
     pub(crate) limits: Limits,
@@ -46,7 +46,7 @@ impl<'a> Trial<'a> {
         }
     }
 
-    /// The points and the complex on their grid, where these are the points.
+    /// Binds the points and the complex to their grid; `nodes` is a copy of the input's points.
     pub(crate) fn bind(&self, alloc: Global, nodes: NodeText) -> Result<Bound, Status>
         requires { nodes ≡ self.now.input.nodes }
         ensures answer { BoundAnswer self.now.limits self.now.options self.now.input result }

@@ -45,8 +45,8 @@ impl From<NoMemory> for Unfitted {
     }
 }
 
-/// The outputs of a trial, the coordinates rounded to so many decimals. It refuses as the steps
-/// `bind_input` and `mesh_outputs` do.
+/// The outputs of a trial, with the coordinates rounded to `decimals` decimals. It refuses as the
+/// steps `bind_input` and `mesh_outputs` do.
 pub(crate) fn outputs_at(alloc: Global, trial: &Trial, decimals: u32) -> Result<Outputs, Unfitted>
     requires { decimals ≤ 20 }
     ensures answer { AnswerAt trial.now.limits trial.now.options trial.now.input
@@ -60,7 +60,7 @@ pub(crate) fn outputs_at(alloc: Global, trial: &Trial, decimals: u32) -> Result<
     outputs_with(alloc, &rounded, nodes)
 }
 
-/// The outputs of a trial, where these are its points.
+/// The outputs of a trial; `nodes` is a copy of its points.
 pub(crate) fn outputs_with(
     alloc: Global,
     trial: &Trial,
@@ -77,7 +77,7 @@ pub(crate) fn outputs_with(
     outputs_of(alloc, trial.options, bound, numbering)
 }
 
-/// The outputs of points and a complex on their grid. These are the numbers of the points.
+/// The outputs of points and a complex on their grid; a refusal carries the points' numbers.
 fn outputs_of(
     alloc: Global,
     options: &Options,

@@ -1,4 +1,4 @@
-//! The segment that a missing piece lies on.
+//! The segment on which a missing subsegment lies.
 
 ghost use Rattle.std.specs.Prelude.{◌≡◌, ◌≤◌, ◌-◌, max, IfOk, IfSome};
 ghost use Rattle.tetfit_run.specs.Hints.{missing_in, IsHalvedAfter, IsHalvedPartOf};
@@ -11,10 +11,10 @@ use run_steps::Status;
 use std::alloc::Global;
 use tet_ports::NoMemory;
 
-/// How many points may be added at most.
+/// The most points that the search for a segment adds.
 const MOST_ADDED: usize = 100_000;
 
-/// The piece that is missing where no more points may be added.
+/// The subsegment that is no edge of the mesh when the budget of added points is spent.
 fn missing_in(status: &Status) -> Option<Piece>
     ensures { result ≡ missing_in status.now }
 {
@@ -24,8 +24,8 @@ fn missing_in(status: &Status) -> Option<Piece>
     }
 }
 
-/// The piece that is missing once so many points are added, or None where that is not told or more
-/// are added than may be.
+/// The subsegment that is missing once `added` points are added; None where the run ends otherwise
+/// or `added` is over `MOST_ADDED`.
 fn halved_after(alloc: Global, trial: &Trial, added: usize) -> Result<Option<Piece>, NoMemory>
     ensures { IfOk result (λ found. IfSome found
         (IsHalvedAfter trial.now.limits trial.now.options trial.now.input added)) }
@@ -42,8 +42,8 @@ fn halved_after(alloc: Global, trial: &Trial, added: usize) -> Result<Option<Pie
     }
 }
 
-/// What a piece of a model with so many points is a part of: a piece that was never halved, so
-/// that both of its ends are points of the model. None where that is not told.
+/// The segment of a model with `count` points that holds a piece: a piece that was never halved, so
+/// that both of its ends are points of the model. None where a run does not name the piece before.
 pub(crate) fn whole_of(
     alloc: Global,
     trial: &Trial,

@@ -2,8 +2,10 @@
 
 use crate::tests::harness::End::{Refused, Told};
 use crate::tests::harness::Program::Tetfit;
-use crate::tests::harness::{Run, other_run};
+use crate::tests::harness::{Place, Run, other_run};
+use std::alloc::Global;
 use std::test::Fail;
+use tet_ports::NoMemory;
 
 /// A tetrahedron one of whose zeros is written with many decimals, as programs for floats do.
 const TINY: &[u8] = b"4 3 0 0\n0 0.000000000000000012 0 0\n1 1 0 0\n2 0 1.5 0\n3 0 0 1\n";
@@ -24,6 +26,16 @@ const BEAM: &[u8] = b"16 3 0 0\n1 0 0 -14\n2 2 0 -14\n3 2 1 -14\n4 1 1 -14\n5 1 
 /// A point off each grid.
 const FAR: &[u8] = b"4 3 0 0\n1 0 0 0\n2 1234567890.5 0 0\n3 0 1 0\n4 0 0 1\n";
 
+/// The head of a binary `.stl` file.
+const HEAD: &[u8] = &[0; 80];
+
+/// One facet behind the head, with a corner off each grid.
+const FAR_FACET: &[u8] = b"\x01\x00\x00\x00\
+\x00\x00\x00\x00\x00\x00\x00\x00\x00\x00\x80\x3f\
+\x00\x00\x00\x00\x00\x00\x00\x00\x00\x00\x00\x00\
+\x28\x6b\x6e\x4e\x00\x00\x00\x00\x00\x00\x00\x00\
+\x00\x00\x00\x00\x00\x00\x80\x3f\x00\x00\x00\x00\x00\x00";
+
 /// Two segments that cross.
 const CROSSED: &[u8] = b"\
 5 3 0 0\n1 0 0 0\n2 2.5 2.5 0\n3 0 2 0\n4 2 0 0\n5 0 0 3\n\
@@ -37,6 +49,11 @@ const OPEN: &[u8] = b"\
 const FAR_TOLD: &[u8] = b"\
 tetfit: line 3: coordinate off the grid\n\
 tetfit: line 3 has (1234567890.5 0 0)\n\
+tetfit: no coordinate may be over 536870912 in size: scale the model down\n";
+
+const FAR_FACET_TOLD: &[u8] = b"\
+tetfit: facet 1: coordinate off the grid\n\
+tetfit: facet 1 has (1000000000 0 0)\n\
 tetfit: no coordinate may be over 536870912 in size: scale the model down\n";
 
 const CROSSED_TOLD: &[u8] = b"\
@@ -54,13 +71,33 @@ const OPEN_TOLD: &[u8] = b"\
 points 8 added 0 tetrahedra 0 faces 0 edges 0 decimals 0\n\
 tetfit: the surface is open: only facet 1 has the side 1 4\n";
 
+const CUT_TOLD: &[u8] = b"\
+tetftetfit: b.off: not found\n\
+tetfit: the file of a model is .node, .poly, .smesh, .off or .stl: give its name whole\n";
+
+/// A tetrahedron that its hole point carves.
+const CARVED: &[u8] = b"\
+4 3 0 0\n1 0 0 0\n2 4 0 0\n3 0 4 0\n4 0 0 4\n\
+4 0\n1\n3 1 2 3\n1\n3 1 2 4\n1\n3 1 3 4\n1\n3 2 3 4\n1\n1 1 1 1\n0\n";
+
+const CARVED_TOLD: &[u8] = b"\
+points 4 added 0 tetrahedra 0 faces 0 edges 0 decimals 0\n\
+tetfit: the facets enclose nothing, or hole points carve all of it\n";
+
 /// What is told of a model beside its status.
-static TOLD: [Run<'static>; 4] = [
+static TOLD: [Run<'static>; 6] = [
     Run {
         name: "off each grid",
         held: &[(b"t.node", &[FAR])],
         words: &[b"t.node"],
         end: Refused(5, FAR_TOLD),
+        files: &[],
+    },
+    Run {
+        name: "a facet of a binary file off each grid",
+        held: &[(b"f.stl", &[HEAD, FAR_FACET])],
+        words: &[b"f.stl"],
+        end: Refused(5, FAR_FACET_TOLD),
         files: &[],
     },
     Run {
@@ -82,6 +119,13 @@ static TOLD: [Run<'static>; 4] = [
         held: &[(b"o.poly", &[OPEN])],
         words: &[b"-NEF", b"o.poly"],
         end: Told(OPEN_TOLD),
+        files: &[],
+    },
+    Run {
+        name: "a closed tetrahedron with a hole point in it",
+        held: &[(b"c.poly", &[CARVED])],
+        words: &[b"-NEF", b"c.poly"],
+        end: Told(CARVED_TOLD),
         files: &[],
     },
 ];
@@ -131,6 +175,20 @@ static FITS: [Run<'static>; 5] = [
 #[test]
 fn decimals_are_fitted(rt: HostRuntime) -> Result<(), Fail> {
     assert_eq!(rt; other_run(rt.alloc(), Tetfit, &FITS)?, None);
+    Ok(())
+}
+
+/// How a run ends whose first stage is cut behind four bytes.
+fn cut_stage(alloc: Global) -> Result<Option<String>, NoMemory> {
+    let mut place = Place::with_files(alloc, &[])?;
+    place.err.fail_put(1, 4);
+    place.run(alloc, Tetfit, &[b"-V", b"b.off"])?;
+    place.difference(alloc, Refused(2, CUT_TOLD), &[])
+}
+
+#[test]
+fn message_is_whole_behind_a_cut_stage(rt: HostRuntime) -> Result<(), Fail> {
+    assert_eq!(rt; cut_stage(rt.alloc())?, None);
     Ok(())
 }
 

@@ -1,16 +1,23 @@
 //! Words of the program for models as they are found that ask for no mesh, or are not understood.
 
-use crate::tests::harness::End::{Refused, Told};
+use crate::tests::harness::End::{Done, Refused, Told};
 use crate::tests::harness::Program::Tetfit;
 use crate::tests::harness::{Run, other_run};
 use std::test::Fail;
 
-static TOLD: [Run<'static>; 7] = [
+static TOLD: [Run<'static>; 11] = [
     Run {
         name: "the version",
         held: &[],
         words: &[b"--version"],
         end: Told(b"tetfit 1.0\n"),
+        files: &[],
+    },
+    Run {
+        name: "the page, with no stage",
+        held: &[],
+        words: &[b"-V", b"-h"],
+        end: Done,
         files: &[],
     },
     Run {
@@ -28,6 +35,30 @@ static TOLD: [Run<'static>; 7] = [
             1,
             b"tetfit: -nw: w: points with weights are meshed by tetgen -w\n",
         ),
+        files: &[],
+    },
+    Run {
+        name: "weights of a surface",
+        held: &[],
+        words: &[b"-w", b"part.stl"],
+        end: Refused(
+            1,
+            b"tetfit: -w: w: points with weights are meshed by tetgen -w\n",
+        ),
+        files: &[],
+    },
+    Run {
+        name: "a check with a letter short",
+        held: &[],
+        words: &[b"-r", b"part"],
+        end: Refused(1, b"tetfit: -r: r: a mesh is checked by tetgen -rC\n"),
+        files: &[],
+    },
+    Run {
+        name: "the sample and a name",
+        held: &[],
+        words: &[b"--sample=3", b"part.stl"],
+        end: Refused(1, b"tetfit: --sample=3: the sample is meshed by tetgen\n"),
         files: &[],
     },
     Run {

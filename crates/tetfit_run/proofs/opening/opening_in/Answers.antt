@@ -1,12 +1,10 @@
-use Rattle.std.proofs.Common.{refl, subst}
-use Rattle.std.specs.Prelude.{IfSome}
-use Rattle.run_steps.specs.Numbering.{numbering_of}
-use Rattle.tetfit_run.specs.Opening.{IsOpenAt}
-use Rattle.tetfit_run.proofs.Openings.{side_told}
+use Rattle.tetfit_run.proofs.Openings.{carved_told, not_carved_told}
 use Rattle.tetfit_run.proofs.opening.opening_in.Goals as goal
 
-pub returns-in-Some : goal.returns-in-Some
-returns-in-Some c =
-    let b = c.args.bound.now in
-    let is_open = subst (λ found. IfSome found (λ f. IsOpenAt b.complex f.0 f.1)) c.in-Some.is c.in_ok-found.ensures in
-    side_told b c.in-Some.side c.in-Some.facet (numbering_of b.table) c.side_line.result is_open refl c.side_line.ensures
+pub returns-then-has_holes : goal.returns-then-has_holes
+returns-then-has_holes c =
+    carved_told c.args.bound.now c.has_holes.result c.carved_line.result c.has_holes.ensures c.if-has_holes.true c.carved_line.ensures
+
+pub returns-else-has_holes : goal.returns-else-has_holes
+returns-else-has_holes c =
+    not_carved_told c.args.bound.now c.has_holes.result c.open_side_line.result c.has_holes.ensures c.if-has_holes.false c.open_side_line.ensures

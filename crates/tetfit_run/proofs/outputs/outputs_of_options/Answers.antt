@@ -8,22 +8,22 @@ use Rattle.tetfit_run.specs.Run.{IsKnownOf, IsUnfitted}
 use Rattle.tetfit_run.proofs.Fitted.{err_to, model_stops, unfitted_stops}
 use Rattle.tetfit_run.proofs.outputs.outputs_of_options.Goals as goal
 
-pub returns-in_err-input-clause-stopped : goal.returns-in_err-input-clause-stopped
-returns-in_err-input-clause-stopped g c =
+pub returns-in_err-model-clause-stopped : goal.returns-in_err-model-clause-stopped
+returns-in_err-model-clause-stopped g c =
     let F = g.F.Folder in
     let folder : FolderSeen = folder_seen F.state c.args.folder.now c.read_model.new.folder in
     let options = c.args.options.now in
-    let status = c.in_err-input.field-0.0 in
+    let status = c.in_err-model.field-0.0 in
     let p = err_from_is_err_and c.from_residual.result c.from_residual.ensures.1 in
-    rw (p.1, p.2) (model_stops folder options c.args.hint.now status c.requires.none (subst (λ limits. ModelAnswer limits folder options (Err status)) c.fit_limits.ensures.values c.in_err-input.ensures.answer))
+    rw (p.1, p.2) (model_stops folder options c.args.hint.now status (subst (λ limits. ModelAnswer limits folder options (Err status)) c.fit_limits.ensures.values c.in_err-model.ensures.answer))
 
 pub returns-clause-stopped : goal.returns-clause-stopped
 returns-clause-stopped g c =
     let F = g.F.Folder in
     let folder : FolderSeen = folder_seen F.state c.args.folder.now c.read_model.new.folder in
     let options = c.args.options.now in
-    let input = c.in_ok-input.input in
+    let model = c.in_ok-model.model in
     let hint = c.fitted_outputs.new.hint in
-    let read = subst (λ limits. ModelAnswer limits folder options (Ok input)) c.fit_limits.ensures.values c.in_ok-input.ensures.answer in
-    err_to c.fitted_outputs.result (IsUnfitted options input hint) (StopsSo (OutputsOfOptions options folder) (IsKnownOf options folder hint)) (λ stop. unfitted_stops folder options input hint stop read)
-    c.fitted_outputs.ensures.stopped
+    let read = subst (λ limits. ModelAnswer limits folder options (Ok model.input)) c.fit_limits.ensures.values c.in_ok-model.ensures.answer in
+    err_to c.fitted_outputs.result (IsUnfitted options model hint) (StopsSo (OutputsOfOptions options folder) (IsKnownOf options folder hint))
+    (λ stop. unfitted_stops folder options model hint stop read c.in_ok-model.ensures.stated) c.fitted_outputs.ensures.stopped

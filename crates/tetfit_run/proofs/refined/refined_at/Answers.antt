@@ -1,4 +1,4 @@
-use Rattle.std.proofs.Common.{◌≡◌, true, Ok, subst, sym, ap, ◌∙◌}
+use Rattle.std.proofs.Common.{Ok, subst}
 use Rattle.command_words.specs.declared.options.Options.{Options}
 use Rattle.refining.specs.Outputs.{RefinedMade, RefinedMeshed}
 use Rattle.run_steps.proofs.Steps.{and_then_ok}

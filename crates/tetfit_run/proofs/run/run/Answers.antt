@@ -1,12 +1,15 @@
-use Rattle.std.proofs.Common.{Ok, refl, arith}
+use Rattle.std.proofs.Common.{true, false, Ok, refl, arith}
+use Rattle.std.proofs.lemmas.Result.{err_from_is_err_and}
 use Rattle.tetfit_run.specs.Words.{others}
 use Rattle.tet_ports.proofs.Windows.{IsWithin}
 use Rattle.tet_ports.specs.Seen.{FolderSeen, SinkSeen, folder_seen, sink_seen}
 use Rattle.tetgen_run.proofs.Endings.{finish_ends}
 use Rattle.tetfit_run.specs.Outputs.{OutputsOfFit}
 use Rattle.tetfit_run.specs.Run.{IsKnown}
-use Rattle.tetfit_run.proofs.Fitted.{fit_told, fit_wider}
-use Rattle.tetfit_run.proofs.Pieces.{stages_after}
+use Rattle.tetfit_run.specs.Stages.{stage_text}
+use Rattle.tetfit_run.specs.declared.stages.TheConstants.{READS, STORES}
+use Rattle.tetfit_run.proofs.Fitted.{fit_refuses, fit_told, fit_wider}
+use Rattle.tetfit_run.proofs.Pieces.{both_put, finished_made, stage_put, stopped_unmade}
 use Rattle.tetfit_run.proofs.run.run.Goals as goal
 
 pub returns-clause-ends : goal.returns-clause-ends
@@ -31,7 +34,30 @@ returns-clause-ends g c =
     let out : SinkSeen = sink_seen O.state c.args.out.now c.finish.new.out in
     finish_ends (OutputsOfFit words folder) (IsKnown (others words) folder c.outputs_of.new.hint) outputs stored folder out c.finish.result made (fit_told words folder outputs made) a.only_read.0 refl (omega (arith, a.only_read.1)) refl b.finish
 
+pub returns-in_err-outputs-clause-stages : goal.returns-in_err-outputs-clause-stages
+returns-in_err-outputs-clause-stages g c =
+    let F = g.F.Folder in
+    let E = g.E.Sink in
+    let words = c.args.words.now in
+    let folder : FolderSeen = folder_seen F.state c.args.folder.now c.outputs_of.new.folder in
+    let err : SinkSeen = sink_seen E.state c.args.err.now c.say_reads-goes_on.new.err in
+    let stop = c.in_err-outputs.field-0.0 in
+    let p = err_from_is_err_and c.from_residual.result c.from_residual.ensures.1 in
+    let unmade = stopped_unmade (OutputsOfFit words folder) (IsKnown (others words) folder c.outputs_of.new.hint) stop (fit_refuses words folder) c.in_err-outputs.ensures.stopped in
+    rw (p.1, p.2) (false, unmade, stage_put (stage_text words READS.now) err c.say_reads-goes_on.result c.say_reads-goes_on.ensures.whole c.say_reads-goes_on.ensures.cut)
+
 pub returns-clause-stages : goal.returns-clause-stages
 returns-clause-stages g c =
+    let F = g.F.Folder in
     let E = g.E.Sink in
-    stages_after c.args.words.now (E.state c.args.err.now).written (E.state c.say.new.err).written (E.state c.say-2.new.err).written c.say.ensures.stages c.say-2.ensures.stages
+    let O = g.O.Sink in
+    let words = c.args.words.now in
+    let outputs = c.in_ok-outputs.outputs in
+    let stored : FolderSeen = folder_seen F.state c.outputs_of.new.folder c.finish.new.folder in
+    let out : SinkSeen = sink_seen O.state c.args.out.now c.finish.new.out in
+    let a = c.say_reads-goes_on.ensures in
+    let b = c.say_stores.ensures in (
+      true,
+      finished_made outputs stored out c.finish.result c.finish.ensures.finish,
+      both_put (stage_text words READS.now) (stage_text words STORES.now) c.say_reads-goes_on.result (E.state c.args.err.now) (E.state c.say_reads-goes_on.new.err) (E.state c.say_stores.new.err) a.whole a.cut a.faults a.wants b.said b.kept,
+    )

@@ -1,15 +1,16 @@
-use Rattle.std.proofs.Common.{Ok, subst}
+use Rattle.std.proofs.Common.{[], Ok, refl, subst}
 use Rattle.tetfit_run.specs.Words.{others, request_of}
 use Rattle.tet_ports.specs.Seen.{FolderSeen, SinkSeen, folder_seen, sink_seen}
 use Rattle.run_steps.specs.declared.status.Status.TheVariants.{Done}
 use Rattle.tetgen_run.proofs.Endings.{end_answers, end_leaves, stop_answers, stop_leaves, stop_tells}
-use Rattle.tetgen_run.specs.Ends.{EndsWith, IsToldAs}
+use Rattle.tetgen_run.specs.Ends.{EndsWith, IsToldAs, answer_of}
 use Rattle.tetfit_run.specs.Messages.{fit_message}
 use Rattle.tetfit_run.specs.Outputs.{OutputsOfFit}
-use Rattle.tetfit_run.specs.Run.{IsAskedBy, IsKnown, IsFitNumbering, after_stages}
+use Rattle.tetfit_run.specs.Run.{IsAskedBy, IsKnown, IsFitNumbering}
+use Rattle.tetfit_run.specs.Stages.{AreStagesPut}
 use Rattle.tetfit_run.proofs.Complete.{answer_complete}
 use Rattle.tetfit_run.proofs.Fitted.{ends_numbered, fit_asked, fit_refuses, numbers_points, told_off}
-use Rattle.tetfit_run.proofs.Pieces.{told_earlier}
+use Rattle.tetfit_run.proofs.Pieces.{stages_told}
 use Rattle.tetfit_run.proofs.run.run_fit.Goals as goal
 
 pub returns-in-Ok-clause-complete : goal.returns-in-Ok-clause-complete
@@ -86,6 +87,15 @@ returns-clause-left g c =
     let tells = subst (λ h. IsToldAs (fit_message (others words) h) c.in-Err.stop err c.tell.result) c.as_slice.ensures c.tell.ensures in
     stop_leaves (fit_message (others words) hint) made numbered (IsAskedBy (request_of words) words folder) (fit_refuses words folder) (fit_asked words folder) folder out err c.in-Err.stop c.tell.result ended tells
 
+pub returns-in-Ok-clause-told : goal.returns-in-Ok-clause-told
+returns-in-Ok-clause-told g c =
+    let E = g.E.Sink in
+    let words = c.args.words.now in
+    let mid = c.run.new.err in
+    let first : SinkSeen = sink_seen E.state c.args.err.now mid in
+    let stages = subst (λ r. AreStagesPut words (answer_of r) first) c.in-Ok.is c.run.ensures.stages in
+    (E.state mid, stages, [], tt, refl)
+
 pub returns-clause-told : goal.returns-clause-told
 returns-clause-told g c =
     let F = g.F.Folder in
@@ -98,18 +108,16 @@ returns-clause-told g c =
     let hint = c.run.new.hint in
     let numbered = IsKnown (others words) folder hint in
     let ended = subst (EndsWith made numbered folder out) c.in-Err.is c.run.ensures.ends in
-    let err : SinkSeen = sink_seen E.state c.run.new.err c.tell.new.err in
-    let tells = subst (λ h. IsToldAs (fit_message (others words) h) c.in-Err.stop err c.tell.result) c.as_slice.ensures c.tell.ensures in
-    let old = c.args.err.now in
     let mid = c.run.new.err in
-    let new = c.tell.new.err in
-    let whole : SinkSeen = sink_seen E.state old new in
+    let first : SinkSeen = sink_seen E.state c.args.err.now mid in
+    let err : SinkSeen = sink_seen E.state mid c.tell.new.err in
+    let stop = c.in-Err.stop in
+    let tells = subst (λ h. IsToldAs (fit_message (others words) h) stop err c.tell.result) c.as_slice.ensures c.tell.ensures in
     let message = fit_message (others words) hint in
-    let told = told_earlier message c.in-Err.stop c.tell.result (E.state mid).written (E.state new).written (E.state old).faults (E.state mid).faults (E.state new).faults (E.state old).wants (E.state mid).wants (E.state new).wants
-    c.run.ensures.faults c.run.ensures.wants tells in (
-      (E.state mid).written,
-      c.run.ensures.stages,
+    let stages = subst (λ r. AreStagesPut words (answer_of r) first) c.in-Err.is c.run.ensures.stages in (
+      E.state mid,
+      stages_told message words stop first err c.tell.result tells stages,
       hint,
-      told_off made message (others words) folder hint out (sink_seen E.state mid new) c.in-Err.stop c.tell.result ended tells,
-      stop_tells message made (IsFitNumbering (others words) folder hint) (fit_refuses words folder) (numbers_points (others words) folder hint) folder out (after_stages whole (E.state mid).written) c.in-Err.stop c.tell.result (ends_numbered made (others words) folder hint out c.in-Err.stop ended) told,
+      told_off made message (others words) folder hint out err stop c.tell.result ended tells,
+      stop_tells message made (IsFitNumbering (others words) folder hint) (fit_refuses words folder) (numbers_points (others words) folder hint) folder out err stop c.tell.result (ends_numbered made (others words) folder hint out stop ended) tells,
     )
