@@ -6,7 +6,7 @@ use Rattle.tet_text.specs.declared.fault.TextFault.{TextFault}
 use Rattle.geo_laws.specs.Delaunay.{AreCoplanar}
 use Rattle.grid_coords.specs.declared.grid.Grid.{Grid}
 use Rattle.grid_coords.specs.declared.grid.Range.{Range}
-use Rattle.node_files.specs.Limits.{tetgen_limits}
+use Rattle.node_files.specs.declared.limits.Limits.{Limits}
 use Rattle.node_files.specs.declared.node_text.NodeText.{NodeText}
 use Rattle.plc_files.specs.Checks.{first_fault}
 use Rattle.plc_files.specs.declared.fault.PlcFault.{PlcFault}
@@ -35,7 +35,7 @@ usage words none (Usage word place) e = absurd (never (word, place) (sym none �
 usage words none NoMemory u = refl
 usage words none status u = elim u [ ]
 
-module _ (options : Options) (asked : AskForPoints options) (folder : FolderSeen) (told : Files) (tells : folder.files_before ≡ Some told) (good : IsGoodFile options told)
+module _ (limits : Limits) (options : Options) (asked : AskForPoints options) (folder : FolderSeen) (told : Files) (tells : folder.files_before ≡ Some told) (good : IsGoodFile limits options told)
     (quiet : ¬ Rose folder.read_faults_before folder.read_faults_now) where
   same_bytes : (bytes : List ℕ) → Holds folder.files_before (file_name options.base Node) bytes → bytes ≡ good.bytes
   same_bytes bytes h = some bytes good.bytes (sym (subst (λ files. Holds files (file_name options.base Node) bytes) tells h) ∙ good.there)
@@ -43,7 +43,7 @@ module _ (options : Options) (asked : AskForPoints options) (folder : FolderSeen
       some : (x y : List ℕ) → Some x ≡ Some y → x ≡ y
       some x y e = cc
 
-  unfetched : (status : Status) → IsUnfetched tetgen_limits folder (file_name options.base Node) status → status ≡ NoMemory
+  unfetched : (status : Status) → IsUnfetched limits folder (file_name options.base Node) status → status ≡ NoMemory
   unfetched (Missing missing) (e, absent) = absurd (never (sym (subst (λ files. IsAbsent files (file_name options.base Node) folder.misses_before folder.misses_now) tells absent) ∙ good.there))
     where
       never : None ≡ Some good.bytes → ⊥
@@ -52,7 +52,7 @@ module _ (options : Options) (asked : AskForPoints options) (folder : FolderSeen
   unfetched (Limit (Bytes long most)) (e, (bytes, held, over), told) =
       let same = same_bytes bytes held in
       let few = good.few_bytes in
-      let over' = subst (λ bs. tetgen_limits.bytes < length bs) same over in
+      let over' = subst (λ bs. limits.bytes < length bs) same over in
       absurd (omega arith)
   unfetched NoMemory u = refl
   unfetched status u = elim u [ ]
@@ -65,17 +65,17 @@ module _ (options : Options) (asked : AskForPoints options) (folder : FolderSeen
   unread bytes same NoMemory u = refl
   unread bytes same status u = elim u [ ]
 
-  no_points : (status : Status) → PointsAnswer tetgen_limits folder options.base (Err status) → status ≡ NoMemory
+  no_points : (status : Status) → PointsAnswer limits folder options.base (Err status) → status ≡ NoMemory
   no_points status (inl u) = unfetched status u
   no_points status (inr (bytes, read, u)) = unread bytes (same_bytes bytes read.0) status u
 
-  the_points : (nodes : NodeText) → PointsAnswer tetgen_limits folder options.base (Ok nodes) → nodes ≡ good.nodes
+  the_points : (nodes : NodeText) → PointsAnswer limits folder options.base (Ok nodes) → nodes ≡ good.nodes
   the_points nodes (bytes, read, is) = ok nodes good.nodes (sym is ∙ ap node_text_of (same_bytes bytes read.0) ∙ good.read)
     where
       ok : (x y : NodeText) → (let r : Result NodeText TextFault = Ok x in r) ≡ Ok y → x ≡ y
       ok x y e = cc
 
-  unbound : (status : Status) → IsUnbound tetgen_limits options (points_alone good.nodes) status → status ≡ NoMemory
+  unbound : (status : Status) → IsUnbound limits options (points_alone good.nodes) status → status ≡ NoMemory
   unfolding first_fault
   unbound (Limit (Points count most)) u = let many = u.many in let few = good.few_points in absurd (omega arith)
   unbound (Limit (Facets count most)) (few, u) = let many = u.many in absurd (omega arith)
@@ -95,42 +95,42 @@ module _ (options : Options) (asked : AskForPoints options) (folder : FolderSeen
   flat bound apart NoMemory u = refl
   flat bound apart status u = elim u [ ]
 
-  meshed : (status : Status) → MeshedAnswer tetgen_limits options (points_alone good.nodes) (Err status) → status ≡ NoMemory
+  meshed : (status : Status) → MeshedAnswer limits options (points_alone good.nodes) (Err status) → status ≡ NoMemory
   meshed status (inl u) = unbound status u
   meshed status (inr (bound, on, inl u)) =
       let of_points = subst (λ p. MeshOf p options bound (Err status)) asked.no_complex u in
       flat bound (good.in_space bound.table on.0) status (subst (λ w. PointsMeshOf w options bound (Err status)) asked.no_weights of_points)
   meshed status (inr (bound, on, inr (mesh, made, e))) = e
 
-  no_input : (status : Status) → InputOf tetgen_limits false folder options (Err status) → status ≡ NoMemory
+  no_input : (status : Status) → InputOf limits false folder options (Err status) → status ≡ NoMemory
   no_input status (inl u) = no_points status u
   no_input status (inr (nodes, read, e)) = e
 
-  the_input : (input : Input) → InputOf tetgen_limits false folder options (Ok input) → input ≡ points_alone good.nodes
+  the_input : (input : Input) → InputOf limits false folder options (Ok input) → input ≡ points_alone good.nodes
   the_input input (nodes, read, is) = is ∙ ap points_alone (the_points nodes read)
 
-  pub after_words : (status : Status) → InputAnswer tetgen_limits folder options (Err status) ⊎ ((input : Input) × InputAnswer tetgen_limits folder options (Ok input) × MeshedAnswer tetgen_limits options input (Err status)) → status ≡ NoMemory
-  after_words status (inl u) = no_input status (subst (λ p. InputOf tetgen_limits p folder options (Err status)) asked.no_complex u)
+  pub after_words : (status : Status) → InputAnswer limits folder options (Err status) ⊎ ((input : Input) × InputAnswer limits folder options (Ok input) × MeshedAnswer limits options input (Err status)) → status ≡ NoMemory
+  after_words status (inl u) = no_input status (subst (λ p. InputOf limits p folder options (Err status)) asked.no_complex u)
   after_words status (inr (input, read, u)) =
-      let is = the_input input (subst (λ p. InputOf tetgen_limits p folder options (Ok input)) asked.no_complex read) in
-      meshed status (subst (λ i. MeshedAnswer tetgen_limits options i (Err status)) is u)
+      let is = the_input input (subst (λ p. InputOf limits p folder options (Ok input)) asked.no_complex read) in
+      meshed status (subst (λ i. MeshedAnswer limits options i (Err status)) is u)
 
-refused : (words : List (List ℕ)) (folder : FolderSeen) (told : Files) → words_fault words ≡ None → AskForPoints (options_of words) → folder.files_before ≡ Some told → IsGoodFile (options_of words) told
-    → ¬ Rose folder.read_faults_before folder.read_faults_now → (status : Status) → OutputsOfRun tetgen_limits words folder (Err status) → status ≡ NoMemory
-refused words folder told none asked tells good quiet status (inl u) = usage words none status u
-refused words folder told none asked tells good quiet status (inr (options, is, rest)) =
-    after_words (options_of words) asked folder told tells good quiet status
-    (subst (λ o. InputAnswer tetgen_limits folder o (Err status) ⊎ ((input : Input) × InputAnswer tetgen_limits folder o (Ok input) × MeshedAnswer tetgen_limits o input (Err status))) is.1 rest)
+refused : (limits : Limits) (words : List (List ℕ)) (folder : FolderSeen) (told : Files) → words_fault words ≡ None → AskForPoints (options_of words) → folder.files_before ≡ Some told → IsGoodFile limits (options_of words) told
+    → ¬ Rose folder.read_faults_before folder.read_faults_now → (status : Status) → OutputsOfRun limits words folder (Err status) → status ≡ NoMemory
+refused limits words folder told none asked tells good quiet status (inl u) = usage words none status u
+refused limits words folder told none asked tells good quiet status (inr (options, is, rest)) =
+    after_words limits (options_of words) asked folder told tells good quiet status
+    (subst (λ o. InputAnswer limits folder o (Err status) ⊎ ((input : Input) × InputAnswer limits folder o (Ok input) × MeshedAnswer limits o input (Err status))) is.1 rest)
 
-mesh_answer : (words : List (List ℕ)) (folder : FolderSeen) (out : SinkSeen) → HasNoFault folder out → ((status : Status) → OutputsOfRun tetgen_limits words folder (Err status) → status ≡ NoMemory)
-    → (status : Status) → IsMeshAnswer tetgen_limits words folder out status → (status ≡ Done) ⊎ (status ≡ NoMemory)
-mesh_answer words folder out quiet none Done u = inl refl
-mesh_answer words folder out quiet none (WriteFault None) u = absurd (quiet.2 u.2)
-mesh_answer words folder out quiet none (WriteFault (Some name)) u = absurd (quiet.1 u.2)
-mesh_answer words folder out quiet none NoMemory u = inr refl
-mesh_answer words folder out quiet none status u = inr (none status u)
+mesh_answer : (limits : Limits) (words : List (List ℕ)) (folder : FolderSeen) (out : SinkSeen) → HasNoFault folder out → ((status : Status) → OutputsOfRun limits words folder (Err status) → status ≡ NoMemory)
+    → (status : Status) → IsMeshAnswer limits words folder out status → (status ≡ Done) ⊎ (status ≡ NoMemory)
+mesh_answer limits words folder out quiet none Done u = inl refl
+mesh_answer limits words folder out quiet none (WriteFault None) u = absurd (quiet.2 u.2)
+mesh_answer limits words folder out quiet none (WriteFault (Some name)) u = absurd (quiet.1 u.2)
+mesh_answer limits words folder out quiet none NoMemory u = inr refl
+mesh_answer limits words folder out quiet none status u = inr (none status u)
 
 pub points_complete : PointsCompleteLaw
-points_complete words folder out told none asked tells good quiet status answer =
-    mesh_answer words folder out quiet (refused words folder told none asked tells good quiet.0) status
-    (subst (λ b. AnswerBy tetgen_limits b words folder out status) asked.no_check answer)
+points_complete limits words folder out told none asked tells good quiet status answer =
+    mesh_answer limits words folder out quiet (refused limits words folder told none asked tells good quiet.0) status
+    (subst (λ b. AnswerBy limits b words folder out status) asked.no_check answer)

@@ -23,7 +23,7 @@ pub record HasFewDecimals (g : Grid) (p : Point) : Type 0 where
   pub y : (decimal_of_units g p.y).scale ≤ 35
   pub z : (decimal_of_units g p.z).scale ≤ 35
 
--- So it is on a grid with as few decimals and halvings
+-- A coordinate has at most 35 decimals on a grid whose decimals and halvings are at most 35 together
 abbrev pub FewDecimalsLaw : Type 0
 FewDecimalsLaw = (g : Grid) (p : Point) → g.decimals + g.halvings ≤ 35 → HasFewDecimals g p
 
@@ -49,7 +49,8 @@ CheckedRunLaw = (words : List (List ℕ)) (folder : FolderSeen) (outputs : Outpu
     → (seen : FolderSeen) → seen.files_before ≡ with_files (Some before) (in_order outputs.texts)
     → CheckAnswer seen ((options_of words).base ++ codes ".1") None (Ok (length run.mesh.tetrahedra))
 
--- So a later run on what is left, by words that ask for a check of the base of the outputs and for no rounding, has the answer Done
+-- A later run on the files that a run left, by words that ask for a check of the base of the outputs and for no
+-- rounding, has the answer Done
 abbrev pub CheckedAfterLaw : Type 0
 CheckedAfterLaw = (words : List (List ℕ)) (folder : FolderSeen) (outputs : Outputs) (run : IsMeshOfRun words folder outputs)
     → (options_of words).weighted ≡ false → AreCheckable (options_of words) run.mesh outputs

@@ -5,8 +5,8 @@ use Rattle.tet_ports.specs.Files.{Files}
 use Rattle.geo_laws.specs.Delaunay.{AreCoplanar}
 use Rattle.grid_coords.specs.Choice.{grid_of}
 use Rattle.grid_coords.specs.declared.grid.Grid.{Grid}
-use Rattle.node_files.specs.Limits.{tetgen_limits}
 use Rattle.node_files.specs.Settling.{IsSettled, rounded_points}
+use Rattle.node_files.specs.declared.limits.Limits.{Limits}
 use Rattle.node_files.specs.declared.node_text.NodeText.{NodeText}
 use Rattle.node_files.specs.declared.table.NodeTable.{NodeTable}
 use Rattle.command_words.specs.Grammar.{words_fault}
@@ -20,7 +20,7 @@ use Rattle.tet_ports.specs.Seen.{FolderSeen, SinkSeen}
 use Rattle.run_steps.specs.declared.status.Status.{Status}
 use Rattle.run_steps.specs.declared.status.Status.TheVariants.{Done, NoMemory}
 use Rattle.tetgen_run.specs.Ends.{HasNoFault}
-use Rattle.tetgen_run.specs.Run.{IsAnswer}
+use Rattle.tetgen_run.specs.Run.{IsAnswerWithin}
 
 -- the options ask for a mesh of points alone, without weights
 pub record AskForPoints (options : Options) : Type 0 where
@@ -28,21 +28,22 @@ pub record AskForPoints (options : Options) : Type 0 where
   pub no_complex : options.piecewise ≡ false
   pub no_weights : options.weighted ≡ false
 
--- the file of points is there, in its grammar and within the limits, and its points are on a grid and not all in one plane
-pub record IsGoodFile (options : Options) (told : Files) : Type 0 where
+-- the file of points is there, in its grammar and within these limits, and its points are on a grid and not all in one plane
+pub record IsGoodFile (limits : Limits) (options : Options) (told : Files) : Type 0 where
   pub bytes : List ℕ
   pub there : map.get told (file_name options.base Node) ≡ Some bytes
-  pub few_bytes : length bytes ≤ tetgen_limits.bytes
+  pub few_bytes : length bytes ≤ limits.bytes
   pub nodes : NodeText
   pub read : node_text_of bytes ≡ Ok nodes
-  pub few_points : length nodes.decimals ≤ tetgen_limits.points
+  pub few_points : length nodes.decimals ≤ limits.points
   pub grid : Grid
-  pub on_grid : grid_of tetgen_limits.grid (grid_options options).halvings (rounded_points options.decimals nodes.decimals) ≡ Ok grid
-  pub in_space : (table : NodeTable) → IsSettled tetgen_limits nodes (grid_options options) table → ¬ AreCoplanar table.points
+  pub on_grid : grid_of limits.grid (grid_options options).halvings (rounded_points options.decimals nodes.decimals) ≡ Ok grid
+  pub in_space : (table : NodeTable) → IsSettled limits nodes (grid_options options) table → ¬ AreCoplanar table.points
 
 -- Words in the grammar that ask for points alone, a good file in a folder that tells, and no fault of the folder or of the sink: the answer
--- is Done, or memory was wanting
+-- within any limits is Done, or memory was wanting
 abbrev pub PointsCompleteLaw : Type 0
-PointsCompleteLaw = (words : List (List ℕ)) (folder : FolderSeen) (out : SinkSeen) (told : Files) → words_fault words ≡ None
-    → AskForPoints (options_of words) → folder.files_before ≡ Some told → IsGoodFile (options_of words) told → HasNoFault folder out
-    → (status : Status) → IsAnswer words folder out status → (status ≡ Done) ⊎ (status ≡ NoMemory)
+PointsCompleteLaw = (limits : Limits) (words : List (List ℕ)) (folder : FolderSeen) (out : SinkSeen) (told : Files)
+    → words_fault words ≡ None → AskForPoints (options_of words) → folder.files_before ≡ Some told
+    → IsGoodFile limits (options_of words) told → HasNoFault folder out
+    → (status : Status) → IsAnswerWithin limits words folder out status → (status ≡ Done) ⊎ (status ≡ NoMemory)

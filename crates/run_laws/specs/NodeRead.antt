@@ -11,7 +11,7 @@ use Rattle.node_files.specs.declared.table.NodeTable.{NodeTable}
 use Rattle.written_laws.specs.LeastGrids.{ArePointsAt}
 use Rattle.run_laws.specs.Reread.{IsShortNumber}
 
--- a coordinate at most so many grid units in size, with at most 35 decimals
+-- a coordinate of at most `wide` grid units in size, with at most 35 decimals
 pub record IsLegible (wide : ℕ) (g : Grid) (c : ℤ) : Type 0 where
   pub small : unsigned_abs c ≤ wide
   pub short : (decimal_of_units g c).scale ≤ 35

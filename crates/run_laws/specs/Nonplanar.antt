@@ -23,12 +23,12 @@ not_flat = NotFlat 0 (record { a = 0; b = 1; c = 2; d = 3 })
 
 -- ---- the laws of the run
 
--- it is refused so
+-- the run over the complex is refused with its one facet, which is not flat
 abbrev pub IsNonplanarRefused : Type 0
 IsNonplanarRefused = (folder : FolderSeen) → HasFile nonplanar_start folder
     → OutputsOfRun tetgen_limits nonplanar_start.words folder (Err not_flat)
 
--- so this is the complete answer to it, where no fault rose and memory was not wanting
+-- without a fault and with enough memory, that refusal is the run's answer
 abbrev pub EndsNotFlat : Type 0
 EndsNotFlat = (folder : FolderSeen) (out : SinkSeen) (status : Status) → HasFile nonplanar_start folder → HasNoFault folder out
     → status ≢ NoMemory → IsComplete nonplanar_start.words folder out status → status ≡ not_flat

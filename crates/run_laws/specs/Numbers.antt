@@ -19,7 +19,7 @@ pub record HasShortNumbers (text : NodeText) : Type 0 where
 abbrev pub AreMarkedShort : List ReadFacet → Type 0
 AreMarkedShort facets = All (λ f. IfSome f.marker (λ m. IsShortNumber (unsigned_abs m))) facets
 
--- so it is with the points and facets of a complex
+-- the numbers of a complex are short: those of its point list, and the markers of its facets
 abbrev pub IsNumberedShort : Plc → Type 0
 IsNumberedShort text = IfSome text.nodes HasShortNumbers × AreMarkedShort text.facets
 

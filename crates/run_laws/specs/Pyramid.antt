@@ -18,7 +18,7 @@ plain_start = record { words = codes "pyramid.node" ∷ []; name = codes "pyrami
 abbrev pub full_start : Start
 full_start = record { words = codes "-nfe" ∷ codes "pyramid.node" ∷ []; name = codes "pyramid.node"; bytes = pyramid_bytes }
 
--- the same points as a complex without facets and hole points
+-- the points of the pyramid as a complex without facets and hole points
 abbrev pub complex_bytes : List ℕ
 complex_bytes = codes "5 3 0 0\n0 0 0 0\n1 2 0 0\n2 2 2 0\n3 0 2 0\n4 1 1 2\n0 0\n0\n"
 

@@ -12,7 +12,7 @@ use Rattle.written_laws.specs.Renamed.{renamed_row, renamed_face}
 abbrev pub IsShortNumber : ℕ → Type 0
 IsShortNumber n = n < 10 ^ 18
 
--- the point has a name, which is that of one of so many listed points
+-- the point has a name, which is that of one of a number of listed points
 abbrev pub IsOneOf : List ℕ → ℕ → ℕ → Type 0
 IsOneOf names points n = slice_index names n < points
 

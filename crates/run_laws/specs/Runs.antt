@@ -30,13 +30,13 @@ pub record HasFile (start : Start) (folder : FolderSeen) : Type 0 where
 abbrev pub HasOutputs : Start → Outputs → Type 0
 HasOutputs start outputs = (folder : FolderSeen) → HasFile start folder → OutputsOfRun tetgen_limits start.words folder (Ok outputs)
 
--- It has no others, and no refusal but want of memory, where no fault of the folder rose
+-- The run has no other outputs, and no refusal but out of memory, where the folder had no fault
 abbrev pub HasNoOthers : Start → Outputs → Type 0
 HasNoOthers start outputs = (folder : FolderSeen) → HasFile start folder → ¬ Rose folder.read_faults_before folder.read_faults_now
     → (answer : Result Outputs Status) → OutputsOfRun tetgen_limits start.words folder answer
     → (answer ≡ Ok outputs) ⊎ (answer ≡ Err NoMemory)
 
--- So the answer that is forced is Done, where no fault rose and memory was not wanting
+-- Without a fault and with enough memory, the answer of the run is Done
 abbrev pub EndsDone : Start → Type 0
 EndsDone start = (folder : FolderSeen) (out : SinkSeen) (status : Status) → HasFile start folder → HasNoFault folder out → status ≢ NoMemory
     → IsComplete start.words folder out status → forced_answer status ≡ Done

@@ -27,12 +27,13 @@ pub record HasSoundFaces (options : Options) (mesh : Meshed) (outputs : Outputs)
   pub written : outputs.texts.face ≡ face_file options mesh faces
   pub sound : IsVerdict (written_mesh mesh.points mesh.tetrahedra faces) Sound
 
--- Where the outputs have a face file, its faces are such
+-- Where the outputs have a face file, it has the faces of a mesh without a defect
 abbrev pub SoundOutputsLaw : Type 0
 SoundOutputsLaw = (options : Options) (bound : Bound) (mesh : Meshed) (outputs : Outputs) → options.weighted ≡ false
     → MeshAnswer options bound (Ok mesh) → AreOutputsOf options mesh outputs → options.no_face ≡ false → HasSoundFaces options mesh outputs
 
--- So have the files that a run leaves: those of one mesh of the input that its words name
+-- The face file that a run leaves has the faces of a mesh without a defect, the one mesh of the input that its words
+-- name
 abbrev pub SoundLeftLaw : Type 0
 SoundLeftLaw = (words : List (List ℕ)) (folder : FolderSeen) (outputs : Outputs) (run : IsMeshOfRun words folder outputs)
     → (options_of words).weighted ≡ false → (options_of words).no_face ≡ false → HasSoundFaces (options_of words) run.mesh outputs

@@ -27,11 +27,11 @@ pub record IsValid (o : MeshOptions) (ps : List Point) (c : Complex) : Type 0 wh
   pub protected : IsProtectedComplex o ps c segs fs qs rest
   pub met : AreTrianglesMet qs (complex_triangles qs fs) rest
 
--- no two facets cross a Delaunay row, or no anomaly stands against a mesh
+-- no two facets cross a Delaunay tetrahedron, or no anomaly holds
 abbrev pub HasNoAnomaly : List Point → List FacetTriangle → Type 0
 HasNoAnomaly qs ts = AreUntangled qs ts (delaunay_rows qs) ⊎ ((a : Anomaly) → ¬ AnomalyHolds qs ts a)
 
--- So nothing but want of memory stands against its mesh
+-- A valid complex without an anomaly has a mesh: the only fault is out of memory
 abbrev pub ValidComplexLaw : Type 0
 ValidComplexLaw = (o : MeshOptions) (ps : List Point) (c : Complex) (v : IsValid o ps c) → HasNoAnomaly v.qs (complex_triangles v.qs v.fs)
     → (fault : MeshFault) → IsMeshFault o ps c fault → fault ≡ NoMemory

@@ -1,13 +1,13 @@
 //! A check of the files that a run leaves finds a sound mesh.
 ghost use Rattle.run_laws.specs.CheckedRun.{CheckedAfterLaw, CheckedRunLaw, FewDecimalsLaw};
 
-/// The check of the files that a run leaves answers that the mesh is sound, and how many tetrahedra
-/// it has.
+/// The check of the files that a run leaves answers that the mesh is sound, with its number of
+/// tetrahedra.
 pub fn law_checked_run()
     ensures { CheckedRunLaw }
 {}
 
-/// So a later run that checks what was left has the answer Done.
+/// A later run that checks the files that a run left has the answer Done.
 pub fn law_checked_after()
     ensures { CheckedAfterLaw }
 {}

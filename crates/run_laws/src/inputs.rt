@@ -6,12 +6,14 @@ pub fn law_nodes_read()
     ensures { NodesReadLaw }
 {}
 
-/// So it is with the point list of a complex, and the markers of its facets have at most 18 digits.
+/// In a complex that is read, the first number of the point list is 0 or 1, and the markers of its
+/// points and facets have at most 18 digits.
 pub fn law_plc_read()
     ensures { PlcReadLaw }
 {}
 
-/// So it is with surfaces.
+/// In a surface that is read, the first number of the point list is 0 or 1, and the markers of its
+/// points and facets have at most 18 digits.
 pub fn law_surface_read()
     ensures { SurfaceReadLaw }
 {}

@@ -1,6 +1,5 @@
 //! Laws of whole runs: what they read, the meshes that they make, the files that they leave and a
-//! later check of these, the runs that end with Done, and worked runs, byte for byte. Each law is
-//! the contract of a function that does nothing.
+//! later check of these, the runs that end with Done, and worked runs, byte for byte.
 #![tactic(auto)]
 
 mod checked_runs;

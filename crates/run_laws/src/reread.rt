@@ -5,7 +5,7 @@ ghost use Rattle.run_laws.specs.NodeRead.{NodeReadLaw};
 ghost use Rattle.run_laws.specs.ReadBack.{ReadBackLaw};
 ghost use Rattle.run_laws.specs.Reread.{EleReadLaw, FaceReadLaw, NeighReadLaw};
 
-/// The text of rows is read back as the rows, with each corner by its name.
+/// The text of tetrahedra is read back as the tetrahedra, with each corner by its name.
 pub fn law_ele_read()
     ensures { EleReadLaw }
 {}
@@ -33,13 +33,13 @@ pub fn law_read_back()
 {}
 
 /// The names of points that are kept of a list, and those of added points, are rising places in the
-/// list with the added points behind it, where the same points stand.
+/// list with the added points behind it, at which the same points are found.
 pub fn law_listed()
     ensures { ListedNamesLaw }
 {}
 
 /// The check of the files that are written of a mesh without a defect, without attributes and
-/// markers of points, answers that it is sound, and how many tetrahedra it has.
+/// markers of points, answers that it is sound, with its number of tetrahedra.
 pub fn law_checked_back()
     ensures { CheckedBackLaw }
 {}
