@@ -5,3 +5,5 @@ pub mod Run
 pub mod Reading
 pub mod Locating
 pub mod Words
+pub mod Nearest
+pub mod Factors

@@ -2,7 +2,6 @@
 use Rattle.std.specs.Prelude.{◌≡◌, ℕ, ◌+◌, ◌≤◌, ◌++◌, List, [], ◌∷◌, length, map, codes, Option, None, Some, Result, Ok, Err}
 use Rattle.std.specs.Fmt.{decimal}
 use Rattle.std.specs.List.{flat_map, enumerate_from}
-use Rattle.grid_coords.specs.Units.{rational_point}
 use Rattle.grid_coords.specs.declared.points.DecimalPoint.{DecimalPoint}
 use Rattle.mesh_check.specs.Defects.{IsNotPositive}
 use Rattle.mesh_check.specs.Searches.{IsLeastOf}
@@ -14,6 +13,7 @@ use Rattle.tet_ports.specs.Seen.{FolderSeen}
 use Rattle.mesh_check.specs.Steps.{AndThen, Gives}
 use Rattle.mesh_check.specs.declared.fault.CheckFault.{CheckFault}
 use Rattle.mesh_check.specs.declared.fault.CheckFault.TheVariants.{Unsound, NoMemory}
+use Rattle.tetwhere_run.specs.Nearest.{nearest_point}
 use Rattle.tetwhere_run.specs.Reading.{WhereTextAnswer}
 use Rattle.tetwhere_run.specs.declared.reading.WhereText.{WhereText}
 use Rattle.tetwhere_run.specs.declared.settling.Settled.{Settled}
@@ -52,7 +52,7 @@ found_row_text first (Some row) = decimal (row + first)
 abbrev pub query_line : WhereText → Settled → ℕ → DecimalPoint → List ℕ
 query_line text s place query =
     decimal (place + text.queries.first) ++ codes " "
-    ++ found_row_text text.nodes.first (first_holding s.points text.rows (rational_point s.grid query)) ++ (10 ∷ [])
+    ++ found_row_text text.nodes.first (first_holding s.points text.rows (nearest_point s.grid query)) ++ (10 ∷ [])
 
 -- the lines of queries from a place on
 abbrev pub query_lines : WhereText → Settled → ℕ → List DecimalPoint → List ℕ

@@ -6,9 +6,10 @@ ghost use Rattle.row_cells.specs.Parts.{ArePositiveOn, StandsFor};
 ghost use Rattle.tet_ports.specs.Seen.{IsOnlyRead, folder_seen};
 ghost use Rattle.tetwhere_run.specs.Locating.{found_row_text, query_line, answer_text, AnswersAnswer, TextLocated, LocateAnswer};
 
+use crate::nearest::nearest_rat;
 use crate::reading::{WhereText, read_where};
 use crate::settling::{Settled, settle, want_positive};
-use grid_coords::{DecimalPoint, to_rat};
+use grid_coords::DecimalPoint;
 use mesh_check::{CheckFault, append_place};
 use row_cells::RowCells;
 use std::alloc::Global;
@@ -35,10 +36,12 @@ fn append_line(
 ) -> Result<(), NoMemory>
     requires rows { ArePositiveOn settled.now.points text.now.rows }
     requires cells { StandsFor settled.now.points text.now.rows cells.now }
+    requires halvings { settled.now.grid.halvings ≤ 64 }
     ensures { OnOk result (lines.new
         ≡ lines.old ++ query_line text.now settled.now place query.now) }
 {
-    let found = cells.find(&settled.points, &text.rows, to_rat(&settled.grid, query));
+    let point = nearest_rat(&settled.grid, query);
+    let found = cells.find(&settled.points, &text.rows, point);
     append_place(lines, place, text.queries.first)?;
     lines.append(b" ")?;
     append_row(lines, found, text.nodes.first)?;
@@ -47,7 +50,8 @@ fn append_line(
 
 /// The lines of all queries.
 fn answers(alloc: Global, text: &WhereText, settled: &Settled) -> Result<Bytes, CheckFault>
-    requires { ArePositiveOn settled.now.points text.now.rows }
+    requires rows { ArePositiveOn settled.now.points text.now.rows }
+    requires halvings { settled.now.grid.halvings ≤ 64 }
     ensures { AnswersAnswer text.now settled.now result }
 {
     let cells = RowCells::new(alloc, &settled.points, &text.rows)?;

@@ -3,7 +3,9 @@
 #![tactic(auto)]
 
 mod answers;
+mod halvings;
 mod messages;
+mod nearest;
 mod reading;
 mod run;
 mod settling;

@@ -1,9 +1,10 @@
 //! The points of a mesh on their least grid, and whether its rows are positive.
 
-ghost use Rattle.std.specs.Prelude.{◌≡◌, length, All, IfOk};
+ghost use Rattle.std.specs.Prelude.{◌≡◌, ◌≤◌, length, All, IfOk};
 ghost use Rattle.mesh_files.specs.ReadRows.{AreCornersBelow};
 ghost use Rattle.tetwhere_run.specs.Locating.{SettledAnswer, PositiveAnswer};
 
+use crate::halvings::few_halvings;
 use crate::reading::WhereText;
 use geo_laws::Points;
 use grid_coords::{DecimalPoints, Grid, Range};
@@ -23,9 +24,11 @@ pub struct Settled {
 }
 
 /// The points on their least grid.
+#[tactic(auto, using(crate::proofs::Factors::least_halvings))]
 pub(crate) fn settle(alloc: Global, decimals: &DecimalPoints) -> Result<Settled, CheckFault>
     ensures answer { SettledAnswer decimals.now result }
     ensures count { IfOk result (λ settled. length settled.points ≡ length decimals.now) }
+    ensures halvings { IfOk result (λ settled. settled.grid.halvings ≤ 64) }
 {
     let count = decimals.len() as u64;
     if count > MOST_POINTS {
@@ -33,6 +36,7 @@ pub(crate) fn settle(alloc: Global, decimals: &DecimalPoints) -> Result<Settled,
     }
     match least_grid(decimals, GRID) {
         Ok(grid) => {
+            few_halvings(decimals.as_slice());
             let points = grid_points(alloc, &grid, decimals.as_slice())?;
             Ok(Settled { grid, points })
         }

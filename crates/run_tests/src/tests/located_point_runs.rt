@@ -14,6 +14,13 @@ const QUERIES: &[u8] = b"4 3 0 0\n0 0.5 0.5 0.5\n1 1 1 1\n2 1.5 1.5 0.5\n3 5 0 0
 
 const SKIPPED: &[u8] = b"2 3 0 0\n0 0 0 0\n2 1 1 1\n";
 
+/// A corner lies between two numbers of six decimals.
+const HALVED: &[u8] = b"4 3 0 0\n0 0 0 0\n1 1.0078125 0 0\n2 0 1 0\n3 0 0 1\n";
+
+const HALVED_ROWS: &[u8] = b"1 4 0\n0 0 1 2 3\n";
+
+const AT_THE_CORNER: &[u8] = b"2 3 0 0\n0 1.0078125 0 0\n1 1.00781251 0 0\n";
+
 /// The pyramid with its rows, and queries.
 const HELD: [File<'static>; 3] = [
     (b"p.node", &[PYRAMID]),
@@ -21,12 +28,23 @@ const HELD: [File<'static>; 3] = [
     (b"q", &[QUERIES]),
 ];
 
-static QUERIED: [Run<'static>; 7] = [
+static QUERIED: [Run<'static>; 8] = [
     Run {
         name: "inside, on the face between, and outside",
         held: &HELD,
         words: &[b"p", b"q"],
         end: Told(b"0 0\n1 0\n2 1\n3 -1\n"),
+        files: &[],
+    },
+    Run {
+        name: "a corner and a point beside it",
+        held: &[
+            (b"p.node", &[HALVED]),
+            (b"p.ele", &[HALVED_ROWS]),
+            (b"q", &[AT_THE_CORNER]),
+        ],
+        words: &[b"p", b"q"],
+        end: Told(b"0 0\n1 -1\n"),
         files: &[],
     },
     Run {
