@@ -5,3 +5,6 @@ pub mod Once
 pub mod Tens
 pub mod Millionths
 pub mod Factors
+pub mod Exact
+pub mod ClosedCorners
+pub mod HeldCorners

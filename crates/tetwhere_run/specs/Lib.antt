@@ -7,3 +7,4 @@ pub mod Locating
 pub mod Words
 pub mod Nearest
 pub mod Factors
+pub mod Corners

@@ -6,6 +6,7 @@ mod answers;
 mod halvings;
 mod messages;
 mod nearest;
+mod nearest_laws;
 mod reading;
 mod run;
 mod settling;
@@ -13,5 +14,6 @@ mod status;
 mod stop;
 mod words;
 
+pub use nearest_laws::{law_held_corner, law_kept_point};
 pub use run::run_where;
 pub use status::WhereStatus;
