@@ -1,4 +1,4 @@
-//! Trees of the boxes of points, of triangles and of tetrahedra.
+//! AABB trees of points, of triangles and of tetrahedra.
 ghost use Rattle.std.specs.Prelude.{All, IfOk};
 ghost use Rattle.box_tree.specs.Bounds.{IsTriangleOn};
 ghost use Rattle.box_tree.specs.Bodies.{IsPointTree, IsRowTree, IsTriangleTree};
@@ -10,7 +10,7 @@ use geo_laws::{FacetTriangles, Points, TetList};
 use std::alloc::Global;
 use tet_ports::{Items, NoMemory};
 
-/// The tree of the points.
+/// The AABB tree of the points.
 pub fn point_tree(alloc: Global, points: &Points) -> Result<Tree, NoMemory>
     ensures { IfOk result (IsPointTree points.now) }
 {
@@ -21,7 +21,7 @@ pub fn point_tree(alloc: Global, points: &Points) -> Result<Tree, NoMemory>
     tree_of(alloc, boxes)
 }
 
-/// The tree of the boxes of the triangles, which have their corners among the points.
+/// The AABB tree of the triangles, whose corners are places in `points`.
 pub fn triangle_tree(
     alloc: Global,
     points: &Points,
@@ -37,7 +37,7 @@ pub fn triangle_tree(
     tree_of(alloc, boxes)
 }
 
-/// The tree of the boxes of the rows, which have their corners among the points.
+/// The AABB tree of the tetrahedra, whose corners are places in `points`.
 pub fn row_tree(alloc: Global, points: &Points, rows: &TetList) -> Result<Tree, NoMemory>
     requires { All (IsOn points.now) rows.now }
     ensures { IfOk result (IsRowTree points.now rows.now) }

@@ -1,4 +1,4 @@
-//! Boxes with their sides along the axes: bodies whose boxes are apart have no common point.
+//! Axis-aligned bounding boxes: bodies whose boxes are apart have no common point.
 ghost use Rattle.std.specs.Prelude.{◌<◌, IsTrue, length};
 ghost use Rattle.geo_laws.specs.Delaunay.{point, numbers, IsOn};
 ghost use Rattle.geo_laws.specs.Facet.{corner_numbers};
@@ -15,7 +15,7 @@ pub struct Interval {
     pub high: i32,
 }
 
-/// A box with its sides along the axes.
+/// An axis-aligned box.
 #[derive(Clone, Copy, Debug, PartialEq, Eq, PartialOrd, Ord)]
 pub struct Bounds {
     pub x: Interval,
@@ -23,7 +23,7 @@ pub struct Bounds {
     pub z: Interval,
 }
 
-/// Whether no number lies in both.
+/// Whether no number lies in both intervals.
 #[inline]
 fn are_apart(i: Interval, j: Interval) -> bool
     ensures { IsTrue result → AreDisjoint i j }
@@ -39,7 +39,7 @@ pub fn are_bounds_apart(b: &Bounds, c: &Bounds) -> bool
     are_apart(b.x, c.x) || are_apart(b.y, c.y) || are_apart(b.z, c.z)
 }
 
-/// The least interval round both.
+/// The least interval round both intervals.
 #[inline]
 fn span_of(i: Interval, j: Interval) -> Interval
     ensures first { IsSubinterval i result }
@@ -51,7 +51,7 @@ fn span_of(i: Interval, j: Interval) -> Interval
     }
 }
 
-/// The least box round both.
+/// The least box round both boxes.
 pub fn joined(b: Bounds, c: Bounds) -> Bounds
     ensures first { IsBoxWithin b result }
     ensures second { IsBoxWithin c result }

@@ -1,5 +1,5 @@
-//! The places of boxes along a space-filling curve, by which a tree of boxes is ordered: only speed
-//! goes by them.
+//! The places of boxes along a space-filling curve, which order an AABB tree; they affect only its
+//! speed.
 ghost use Rattle.std.specs.Prelude.{◌^◌, ◌<◌};
 
 use crate::bounds::{Bounds, Interval};
@@ -7,7 +7,7 @@ use crate::bounds::{Bounds, Interval};
 /// The greatest place along an axis, of 21 bits.
 const LAST_PLACE: u64 = 0x1f_ffff;
 
-/// Where the places along each axis begin, and how many bits of a place are left out.
+/// The least coordinates of the boxes, and the number of low bits that a place leaves out.
 #[derive(Clone, Copy)]
 pub(crate) struct Frame {
     x: i32,
@@ -21,8 +21,8 @@ fn width_of(i: Interval) -> u32 {
     i.high.abs_diff(i.low)
 }
 
-/// The frame of the boxes in this one. A place is twice the middle of a box, without the bits by
-/// which the longest side, doubled, is over 21 bits.
+/// The frame of the boxes in `extent`. A place is twice the middle of a box, without as many low
+/// bits as the longest side, doubled, has beyond 21.
 pub(crate) fn frame_of(extent: &Bounds) -> Frame
     ensures { result.shift < 64 }
 {
@@ -47,14 +47,14 @@ fn spread_bits(bits: u64) -> u64 {
     (all | all << 2) & 0x1249_2492_4924_9249
 }
 
-/// How far the number is from the least one.
+/// The distance of a number from the least one.
 fn from_least(least: i32, x: i32) -> u64
     ensures { result < 2 ^ 32 }
 {
     u64::from(x.abs_diff(least))
 }
 
-/// The place of an interval along its axis, spread.
+/// The place of an interval along its axis, with its bits spread.
 fn spread_middle(least: i32, shift: u32, i: Interval) -> u64
     requires { shift < 64 }
 {

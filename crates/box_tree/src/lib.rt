@@ -1,5 +1,5 @@
-//! Boxes with their sides along the axes, and trees of them in which those that meet a box are
-//! found without looking at all.
+//! Axis-aligned boxes, and AABB trees, in which the boxes that meet a given one are found without a
+//! test of all.
 #![tactic(auto)]
 
 mod bodies;

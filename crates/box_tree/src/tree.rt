@@ -1,5 +1,5 @@
-//! A tree of boxes in the order of a space-filling curve, in which those that meet a box are found
-//! without looking at all.
+//! The AABB tree: boxes in the order of a space-filling curve, in which those that meet a given box
+//! are found without a test of all.
 ghost use Rattle.std.specs.Prelude.{◌≡◌, ℕ, ◌+◌, ◌<◌, ◌≤◌, length, IfOk, slice_index_or};
 ghost use Rattle.box_tree.specs.Bounds.{IsBoxWithin, AreBoundsApart};
 ghost use Rattle.box_tree.specs.Tree.{AreKeyed, HoldsFrom, AreNodes};
@@ -17,7 +17,7 @@ pub struct Boxed {
     pub bounds: Bounds,
 }
 
-/// A box with its place along the curve. The order is by that first.
+/// A box with its place along the curve, by which the order goes first.
 #[derive(Clone, Copy, PartialEq, Eq, PartialOrd, Ord)]
 struct Keyed {
     key: u64,
@@ -33,16 +33,16 @@ pub struct Node {
     pub past: usize,
 }
 
-/// A tree of boxes. Each node is followed by those whose boxes its wide box holds.
+/// An AABB tree as a list: each node is followed by those whose boxes its wide box holds.
 pub type Tree = Items<Node>;
 
-/// Holds no number. The least interval round it and another is that other.
+/// The empty interval: the least interval round it and another one is that other one.
 const EMPTY: Interval = Interval {
     low: i32::MAX,
     high: i32::MIN,
 };
 
-/// The box of the body at this place of its list.
+/// A box with the place of its body in a list.
 pub fn box_of(bounds: Bounds, place: usize) -> Boxed
     ensures place { result.place ≡ place }
     ensures bounds { result.bounds ≡ bounds }
@@ -50,7 +50,7 @@ pub fn box_of(bounds: Bounds, place: usize) -> Boxed
     Boxed { place, bounds }
 }
 
-/// The least box round all of the boxes.
+/// The least box round all boxes.
 fn extent_of(boxes: &Items<Boxed>) -> Bounds {
     let mut extent = Bounds {
         x: EMPTY,
@@ -117,9 +117,9 @@ fn nodes_of(alloc: Global, boxes: &Items<Keyed>) -> Result<Tree, NoMemory>
     Ok(nodes)
 }
 
-/// The tree of the boxes, in their order along the curve (Morton, 1966). So those sides of nested
-/// boxes that face one way follow one another, and the wide boxes round them are thin. The list
-/// without keys is let go before the nodes are made.
+/// The AABB tree of the boxes, in their order along the curve (Morton, 1966), so that boxes that
+/// follow one another tend to be near, and the wide boxes round them small. The list without keys
+/// is freed before the nodes are made.
 pub fn tree_of(alloc: Global, boxes: Items<Boxed>) -> Result<Tree, NoMemory>
     ensures { IfOk result (IsTreeOf boxes) }
 {
@@ -129,7 +129,7 @@ pub fn tree_of(alloc: Global, boxes: Items<Boxed>) -> Result<Tree, NoMemory>
     nodes_of(alloc, &keyed)
 }
 
-/// The first place from `from` on whose box is not apart from this one; the number of nodes, where
+/// The first node from `from` on whose box is not apart from `bounds`; the number of nodes, where
 /// all are.
 pub fn next_meeting(tree: &Tree, bounds: &Bounds, from: usize) -> usize
     requires tree { IsTree tree.now }

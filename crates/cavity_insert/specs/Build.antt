@@ -8,7 +8,7 @@ use Rattle.mesh_laws.specs.LowestLiving.{IsLowestMesh}
 use Rattle.cavity_insert.specs.declared.order.Turn.{Turn}
 use Rattle.cavity_insert.specs.Order.{turn_numbers}
 
--- the mesh of the corners of the first row and of the points whose turns have come
+-- the mesh of the corners of the first tetrahedron and of the points whose turns have come
 pub record HasInserted (heights : ℕ → ℤ) (slots : List (Option SlotValue)) (ps : List Point) (first : Row) (turns : List Turn)
     : Type 0 where
   pub ms : List ℕ

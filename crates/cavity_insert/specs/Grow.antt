@@ -1,4 +1,4 @@
--- What the search for a cavity keeps.
+-- The invariant of the search for a cavity.
 use Rattle.std.specs.Prelude.{◌≡◌, ℕ, ◌<◌, ◌⊎◌, List, length, Option, Some, bit_xor, slice_index_or}
 use Rattle.mesh_arena.specs.declared.arena.SlotFace.{SlotFace}
 use Rattle.mesh_arena.specs.declared.slot.Slot.{Slot}

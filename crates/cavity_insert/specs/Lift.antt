@@ -1,4 +1,4 @@
--- What a test of a lifted point asks.
+-- The requirements of the insphere test of a lifted point.
 use Rattle.std.specs.Prelude.{ℕ, ◌<◌, List, length, Contains}
 use Rattle.sign_predicates.specs.Point.{Point}
 use Rattle.sign_predicates.specs.Orientation.{IsPositive}
@@ -6,7 +6,7 @@ use Rattle.geo_laws.specs.Delaunay.{corners, numbers}
 use Rattle.geo_laws.specs.declared.tetrahedra.Tet.{Tet as Row}
 use Rattle.point_locate.specs.Place.{AreOn, row_corners}
 
--- a positive row of points, and a further point
+-- a positive tetrahedron of points, and a further point
 pub record IsRowFor (ps : List Point) (t : Row) (p : ℕ) : Type 0 where
   pub on : AreOn ps (row_corners t)
   pub positive : IsPositive (corners ps t)

@@ -1,4 +1,4 @@
--- What contracts see of a mesh that points are added to.
+-- The value in contracts of a mesh to which points are added.
 use Rattle.std.specs.Prelude.{◌≡◌, ◌≢◌, ℕ, ◌-◌, ◌^◌, ◌<◌, List, [], ◌∷◌, ◌++◌, length, Option, Contains}
 use Rattle.sign_predicates.specs.Point.{Point}
 use Rattle.geo_laws.specs.Delaunay.{point, numbers, all_numbers, HasDistinctPoints, IsDelaunay}
@@ -29,7 +29,7 @@ pub record IsLonger (slots : List (Option SlotValue)) (ps : List Point) (number 
   pub mesh : IsDelaunayMesh slots others (all_numbers others)
   pub apart : (i : ℕ) → i < length others → point others i ≢ last
 
--- the two points differ, and are corners of one row of the Delaunay list
+-- the two points differ, and are corners of one tetrahedron of the Delaunay list
 pub record IsDelaunaySide (ps : List Point) (a b : ℕ) : Type 0 where
   pub differ : a ≢ b
   pub row : Row

@@ -1,4 +1,4 @@
--- What contracts see of the conflict zone of any point of the grid.
+-- The value in contracts of the conflict zone of a point of the grid.
 use Rattle.std.specs.Prelude.{ℕ, List, Option}
 use Rattle.sign_predicates.specs.Point.{Point}
 use Rattle.mesh_arena.specs.Mesh.{SlotValue}

@@ -1,4 +1,4 @@
--- What contracts see of a search for the conflict zone of a further point.
+-- The value in contracts of a search for the conflict zone of a further point.
 use Rattle.std.specs.Prelude.{ℕ, List, Option}
 use Rattle.mesh_arena.specs.Mesh.{SlotValue}
 

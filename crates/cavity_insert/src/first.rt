@@ -9,8 +9,9 @@ ghost use Rattle.cavity_insert.specs.First.{IsOnLine};
 use geo_laws::{Points, Tet};
 use sign_predicates::{GridPoint, Sign, orient};
 
-/// Four points that do not lie in one plane, as a positive row in the least even arrangement: the
-/// four whose ascending numbers are the least. None exactly where all points lie in one plane.
+/// Four points that do not lie in one plane, as a positive tetrahedron with its row in the least
+/// even arrangement: the four whose ascending numbers are the least. None exactly where all points
+/// lie in one plane.
 pub(crate) fn first_row(points: &Points) -> Option<Tet>
     requires distinct { HasDistinctPoints points.now }
     requires few { length points.now < 2 ^ 32 - 1 }
@@ -45,7 +46,8 @@ fn off_line(points: &Points) -> Option<u32>
     None
 }
 
-/// The positive row of the first two points, this one and the next one that is not in their plane.
+/// The positive tetrahedron of the first two points, the point `c` and the next one that is not in
+/// the plane of these three.
 fn off_plane(points: &Points, c: u32) -> Option<Tet>
     requires inside { (1 < c) × (c < length points.now) }
     requires few { length points.now < 2 ^ 32 - 1 }
@@ -85,7 +87,7 @@ fn is_on_line(a: GridPoint, b: GridPoint, c: GridPoint) -> bool
     has_no_minor(ux, uy, vx, vy) && has_no_minor(ux, uz, vx, vz) && has_no_minor(uy, uz, vy, vz)
 }
 
-/// How far one coordinate is from another.
+/// The difference of two coordinates.
 fn difference(from: i32, to: i32) -> i32
     requires from_small { unsigned_abs from ≤ 2 ^ 29 }
     requires to_small { unsigned_abs to ≤ 2 ^ 29 }

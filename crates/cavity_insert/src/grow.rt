@@ -18,7 +18,7 @@ use std::alloc::Global;
 use std::sync::ledger::Ledger;
 use tet_ports::NoMemory;
 
-/// The growth of a cavity. It serves one point after another.
+/// The search for a cavity by flood fill. It serves one point after another.
 #[derive(Drop)]
 pub(crate) struct Growth {
     start: Slot,
@@ -30,7 +30,7 @@ pub(crate) struct Growth {
 }
 
 impl Growth {
-    /// A growth that has not begun. It takes no memory yet.
+    /// A search that has not begun. It takes no memory yet.
     pub(crate) fn new(alloc: Global) -> Self {
         Growth {
             start: Slot { index: 0 },
@@ -40,7 +40,7 @@ impl Growth {
         }
     }
 
-    /// Begins a growth from a slot. The lists of the last one keep their memory.
+    /// Begins a search from a slot. The lists of the last search keep their memory.
     pub(crate) fn begin(&mut self, start: Slot)
         ensures { HasBegun self.new start }
     {
@@ -50,8 +50,8 @@ impl Growth {
         self.rim.clear();
     }
 
-    // Looks over the face k of the slot i of the cavity, whose turn has come. A slot that is not
-    // taken is tested again from each face of the cavity that it is behind.
+    // Visits the neighbor across the face `k` of the slot `i` of the cavity. A neighbor outside of
+    // the zone is tested again from each face of the cavity through which it is reached.
     fn visit<Z: Zone, L: Ledger>(
         &mut self,
         zone: &Z,
@@ -87,9 +87,8 @@ impl Growth {
         }
     }
 
-    // Looks over the faces of the slot i of the cavity. The first slot is looked over all round,
-    // and a later one not through the face by which it was entered: the slot behind that one is in
-    // the cavity.
+    // Visits the neighbors of the slot `i` of the cavity: all of them for the first slot, and for a
+    // later one all but that across the face through which it was entered, which is in the cavity.
     fn visit_faces<Z: Zone, L: Ledger>(
         &mut self,
         zone: &Z,
@@ -115,8 +114,8 @@ impl Growth {
         Ok(())
     }
 
-    /// Grows the cavity from its start, which is in the conflict zone of the new point, as a test
-    /// has told.
+    /// Grows the cavity from its start, which a test found to be in the conflict zone of the new
+    /// point.
     pub(crate) fn grow<Z: Zone, L: Ledger>(
         &mut self,
         zone: &Z,
@@ -157,7 +156,7 @@ fn test<Z: Zone, L: Ledger>(zone: &Z, s: Slot, steps: &mut Steps<L>) -> bool
 /// The cavity of the new point `p`: the connected set of slots in its conflict zone, `start` among
 /// them, and its rim. One step is one test of a slot, made by `test_slot`; with c slots in the
 /// cavity it makes at least c and at most `4c + 1` steps. The corners are places in `points`, from
-/// 0, and coordinates are in grid units. For want of memory nothing is said of the counter.
+/// 0, and coordinates are in grid units. Out of memory, the counter may have any value.
 ///
 /// Source: incremental insertion (Bowyer 1981, Watson 1981).
 pub fn grow_cavity<L: Ledger>(

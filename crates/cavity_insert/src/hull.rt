@@ -31,8 +31,8 @@ pub struct HulledList {
     pub hull: Faces,
 }
 
-/// What `delaunay` answers, with the faces of the hull: those that one row alone has. They are
-/// read from the mesh's ghosts, which costs far less than to look for them among the rows' faces.
+/// As `delaunay`, with the faces of the hull: those that only one tetrahedron has. They are read
+/// from the mesh's ghosts, which costs far less than a search among all faces.
 pub fn delaunay_with_hull(alloc: Global, points: &Points) -> Result<HulledList, BuildFault>
     requires distinct { HasDistinctPoints points.now }
     requires few { length points.now < 2 ^ 32 - 1 }
@@ -45,7 +45,7 @@ pub fn delaunay_with_hull(alloc: Global, points: &Points) -> Result<HulledList, 
     let Built { arena, last } = mesh_from::<Brand>(alloc, points, Blank::new(1))?;
     let hull = hull_of(alloc, &arena, points, last)?;
     let found = slot_rows(alloc, &arena)?;
-    // Before the list is made, so that less memory is taken at once.
+    // The arena is freed before the list is made, so that less memory is taken at once.
     arena.let_go();
     let rows = found.into_list(alloc)?;
     Ok(HulledList { rows, hull })
@@ -63,7 +63,7 @@ pub(crate) fn hull_of(
     ensures { IfOk result
         (λ faces. (rows : List Row) → IsDelaunayList points.now rows → AreHullFacesOf rows faces) }
 {
-    // The arena has a mesh, since it has this slot.
+    // The contract of `tet` shows that the arena has a mesh, since it has this slot.
     let _ = arena.tet(last);
     let mut faces = ghost_faces(alloc, arena, points)?;
     faces.keep_distinct();
@@ -85,7 +85,7 @@ fn ghost_faces(alloc: Global, arena: &Arena, points: &Points) -> Result<Faces, N
     Ok(faces)
 }
 
-/// The face under the ghost at a place; None where it is free or a row.
+/// The face under the ghost at a place; None where the slot is free or a tetrahedron.
 fn face_at(arena: &Arena, _points: &Points, i: usize) -> Option<Face>
     requires mesh { IsDelaunayMesh arena.now.slots _points.now (all_numbers _points.now) }
     requires inside { i < length arena.now.slots }
@@ -96,7 +96,7 @@ fn face_at(arena: &Arena, _points: &Points, i: usize) -> Option<Face>
     face_under(arena.tet(s))
 }
 
-/// The face under a ghost with these corners; None where they are those of a row.
+/// The face under a ghost, by its corners; None for the corners of a tetrahedron.
 fn face_under(t: SlotCorners) -> Option<Face>
     ensures finite { (r : Row) → corner_list t ≡ row_corners r → result ≡ None }
     ensures infinite { (r : Row) (k : ℕ) → k < 4

@@ -19,9 +19,9 @@ use sign_predicates::GridPoint;
 use std::sync::ledger::Ledger;
 use tet_ports::NoMemory;
 
-/// Grows the cavity of the point with this number, which is a further one, in the mesh of some
-/// other lifted points. Where the point is hidden there is none, and the answer is the slot of the
-/// row that holds the point. The walk to the point begins at `near`, a live slot.
+/// Grows the cavity of a new point, by its number, in the mesh of other lifted points. A hidden
+/// point has no cavity: the answer is then the slot of the tetrahedron that holds it. The walk to
+/// the point begins at `near`, a live slot.
 pub(crate) fn grow_at<H: Lift, L: Ledger>(
     arena: &Arena,
     lift: &H,
@@ -53,9 +53,9 @@ pub(crate) fn grow_at<H: Lift, L: Ledger>(
     Ok(None)
 }
 
-/// Inserts the point with this number into the mesh of some other lifted points: its cavity gives
-/// way to its star, and points may be hidden then. Where the point itself is hidden the mesh stays
-/// as it is. It answers a live slot. The walk to the point begins at `near`, a live slot. On
+/// Inserts a point, by its number, into the mesh of other lifted points: its star replaces its
+/// cavity, by which points may become hidden. Where the point itself is hidden the mesh stays as it
+/// is. The answer is a live slot. The walk to the point begins at `near`, a live slot. On
 /// `NoMemory` the mesh is as it was.
 pub(crate) fn insert_point<H: Lift, L: Ledger>(
     arena: &mut Arena,

@@ -6,9 +6,9 @@ ghost use Rattle.cavity_insert.specs.Lift.{IsRowFor};
 
 use geo_laws::{Points, Tet};
 
-/// A list of points, each with a height of its own: over the squared lengths lies the Delaunay
-/// mesh, over those less the points' weights the regular one. A mesh of lifted points is built from
-/// one test alone.
+/// A list of points, each with a height of its own: the squared lengths give the Delaunay mesh, the
+/// squared lengths less the points' weights the regular one. A mesh of lifted points is built from
+/// one test, `is_outside`.
 ///
 /// Source: the lifting map (Edelsbrunner and Seidel 1986).
 pub trait Lift {
@@ -22,8 +22,9 @@ pub trait Lift {
     fn points(&self) -> &Points
         ensures { result.now ≡ points self.now };
 
-    /// Whether the point with this number is outside of a positive row: lifted, it is above the
-    /// plane through the row's lifted corners. Ties are broken by the points' numbers.
+    /// The insphere test of the lifting: whether the point with this number is outside of a
+    /// positive tetrahedron: lifted, it is above the hyperplane through the lifted corners. Ties
+    /// are broken by the points' numbers (simulation of simplicity).
     fn is_outside(&self, row: Tet, number: u32) -> bool
         requires { IsRowFor (points self.now) row number }
         ensures { IsTrue result

@@ -1,4 +1,4 @@
-//! The points of a list, lifted over a narrow frame, with which tests of rows take least time.
+//! The points of a list, lifted over a narrow frame, for the fastest insphere tests.
 ghost use Rattle.std.specs.Prelude.{◌≡◌, ◌<◌, ◌↔◌, length, IsTrue};
 ghost use Rattle.geo_laws.specs.Delaunay.{corners};
 ghost use Rattle.geo_laws.specs.Height.{lifted};
@@ -66,7 +66,7 @@ impl<'a> Lift for Framed<'a> {
     }
 }
 
-/// The same for points of which some are in no narrow frame.
+/// Points are lifted by their squared lengths; for lists with a point in no narrow frame.
 impl Lift for Points {
     ghost points = { λ ps. ps };
 
@@ -99,7 +99,7 @@ fn lower_corner(a: GridPoint, b: GridPoint) -> GridPoint {
     }
 }
 
-/// The least coordinates of all these points and the first one.
+/// The least coordinates of `points` and `first`.
 fn least_corner(points: &[GridPoint], first: GridPoint) -> GridPoint {
     let mut corner = first;
     for p in points {
@@ -121,7 +121,7 @@ fn common_step(points: &[GridPoint], corner: GridPoint) -> u32
 }
 
 /// The points, lifted. None where their box is too wide for a frame, even with the widest step that
-/// has them all, and for want of memory.
+/// has them all, and when out of memory.
 pub(crate) fn lift_points(alloc: Global, points: &Points) -> Option<LiftedPoints>
     ensures { MayBeLifted result points.now }
 {
@@ -142,7 +142,7 @@ pub(crate) fn lift_points(alloc: Global, points: &Points) -> Option<LiftedPoints
 }
 
 impl LiftedPoints {
-    /// The lifted corners of a row.
+    /// The lifted corners of a tetrahedron.
     #[inline(always)]
     fn corners(&self, row: Tet) -> LiftedCorners
         requires on { AreOn self.now.points (row_corners row) }
@@ -158,8 +158,8 @@ impl LiftedPoints {
     }
 }
 
-/// Whether the point with this number is outside of a positive row, ties decided by the numbers, in
-/// the frame that has all points.
+/// The insphere test in the frame: whether the point with this number is outside of a positive
+/// tetrahedron, ties decided by the numbers.
 #[inline(always)]
 fn outside_in_frame(_points: &Points, row: Tet, lifted: &LiftedPoints, number: u32) -> bool
     requires on { AreOn _points.now (row_corners row) }
@@ -171,7 +171,8 @@ fn outside_in_frame(_points: &Points, row: Tet, lifted: &LiftedPoints, number: u
     lifted_outside(lifted.corners(row), numbers_of(row), p, number)
 }
 
-/// The same by the points themselves.
+/// The insphere test by the points' coordinates: whether the point with this number is outside of a
+/// positive tetrahedron, ties decided by the numbers.
 fn outside_of(points: &Points, row: Tet, number: u32) -> bool
     requires on { AreOn points.now (row_corners row) }
     requires inside { number < length points.now }

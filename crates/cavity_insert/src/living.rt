@@ -47,7 +47,7 @@ impl Model for Living {
 }
 
 /// Adds the last point of a list to the mesh of the others, and answers a slot of its star. The
-/// corners of the tetrahedra that are taken away are appended to `lost`.
+/// corners of the removed tetrahedra are appended to `lost`.
 fn insert_last<L: Ledger>(
     arena: &mut Arena,
     points: &Points,
@@ -128,8 +128,8 @@ impl Living {
         rows_of(alloc, &self.arena)
     }
 
-    /// Adds a point that is not there yet, and answers its number. Each slot outside of its
-    /// conflict zone stays live, at its place and with its corners. On `NoMemory` all is as it was.
+    /// Adds a new point, and answers its number. Each slot outside of its conflict zone stays live,
+    /// at its place and with its corners. On `NoMemory` nothing changes.
     pub fn add_point(&mut self, p: GridPoint) -> Result<u32, NoMemory>
         requires apart { (i : ℕ) → i < length self.old.points → point self.old.points i ≢ p }
         requires few { length self.old.points + 1 < 2 ^ 32 - 1 }
@@ -145,10 +145,9 @@ impl Living {
         self.add_point_telling(p, &mut lost)
     }
 
-    /// The same, and tells which sides of the Delaunay list may be lost: each that is has both its
-    /// ends among the numbers in `lost`, whose former items are dropped. These are the corners of
-    /// the tetrahedra that have the new point in their circumsphere. On `NoMemory` the points and
-    /// the mesh are as they were.
+    /// As `add_point`, and writes to `lost`, in place of its old contents, the corners of the
+    /// tetrahedra that have the new point in their circumsphere: both ends of each edge that the
+    /// Delaunay list loses are among them. On `NoMemory` the points and the mesh are as they were.
     pub fn add_point_telling(&mut self, p: GridPoint, lost: &mut Vec<u32>) -> Result<u32, NoMemory>
         requires apart { (i : ℕ) → i < length self.old.points → point self.old.points i ≢ p }
         requires few { length self.old.points + 1 < 2 ^ 32 - 1 }
@@ -183,9 +182,9 @@ impl Living {
         }
     }
 
-    /// Whether the two points are the ends of a side of a row of the Delaunay list. They are given
-    /// by their numbers. A point and itself are no side. It takes no memory, and a walk through
-    /// neighbors: to the first point, and round it to the second.
+    /// Whether two points, by their numbers, are the ends of an edge of a Delaunay tetrahedron; a
+    /// point and itself are not. No memory is taken; the search is a walk through neighbors to the
+    /// first point, and round it to the second.
     pub fn has_side(&self, a: u32, b: u32) -> bool
         requires inside { (a < length self.now.points) × (b < length self.now.points) }
         ensures { IsTrue result ↔ IsDelaunaySide self.now.points a b }

@@ -1,4 +1,4 @@
-//! The corners of the tetrahedra that an insertion takes away.
+//! The corners of the tetrahedra that an insertion removes.
 ghost use Rattle.std.specs.Prelude.{◌≡◌, ℕ, ◌<◌, length, Contains, OnOk};
 ghost use Rattle.mesh_arena.specs.Mesh.{IsLive};
 ghost use Rattle.mesh_arena.specs.Cavity.{slot_at, IsInCavitySlots};
@@ -8,7 +8,7 @@ use mesh_arena::{Arena, Cavity, Slot};
 use point_locate::{Shape, shape_of};
 use tet_ports::NoMemory;
 
-/// Appends the corners of a slot's tetrahedron. A ghost has none to tell of.
+/// Appends the corners of a slot's tetrahedron; none for a ghost.
 fn tell_corners(arena: &Arena, s: Slot, lost: &mut Vec<u32>) -> Result<(), NoMemory>
     requires { IsLive arena.now.slots s.index }
     ensures before { OnOk result ((i : ℕ) → Contains lost.old.items i → Contains lost.new.items i) }

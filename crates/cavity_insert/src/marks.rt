@@ -1,4 +1,4 @@
-//! A cavity with marks that tell which slots are in it.
+//! A cavity with a mark for each of its slots.
 ghost use Rattle.std.specs.Prelude.{◌≡◌, ℕ, ◌<◌, ◌^◌, ◌++◌, [], ◌∷◌, ◌↔◌, length};
 ghost use Rattle.std.specs.Prelude.{IsTrue, OnOk, HoldsAt};
 ghost use Rattle.mesh_arena.specs.Cavity.{IsInCavitySlots};
@@ -9,8 +9,8 @@ use std::alloc::Global;
 use std::marker::Model;
 use tet_ports::NoMemory;
 
-/// A cavity, which contracts see, and a mark for each of its slots. It serves one growth after
-/// another: to clear it takes the time of its own size, and not of the arena's.
+/// A cavity, which contracts see, and a mark for each of its slots. It serves one search after
+/// another: to clear it takes time linear in the cavity, not in the arena.
 #[derive(Drop)]
 pub(crate) struct MarkedCavity {
     found: Cavity,
@@ -30,7 +30,7 @@ impl Model for MarkedCavity {
     ghost invariant = { λ m. AreMarksOf m.found m.marks.items };
 }
 
-/// Makes the marks so many that this place has one.
+/// Lengthens the marks so that `place` has one.
 #[inline]
 fn lengthen(marks: &mut Vec<bool>, place: usize) -> Result<(), NoMemory>
     requires { place < 2 ^ 32 }
@@ -54,7 +54,7 @@ impl MarkedCavity {
         }
     }
 
-    /// Takes all slots out. It keeps its memory.
+    /// Removes all slots, and keeps the memory.
     pub(crate) fn clear(&mut self)
         ensures { self.new ≡ [] }
     {

@@ -30,7 +30,7 @@ pub enum BuildFault {
     /// All points lie in one plane.
     #[error("all points lie in one plane")]
     Flat,
-    /// Want of memory.
+    /// Out of memory.
     #[error("out of memory")]
     NoMemory,
 }
@@ -55,7 +55,7 @@ pub(crate) struct Built {
     pub(crate) last: Slot,
 }
 
-/// Whether a point is a corner of a row.
+/// Whether a point is a corner of a tetrahedron.
 #[inline]
 pub fn has_corner(t: Tet, i: u32) -> bool
     ensures { result ≡ has_corner t i }
@@ -63,8 +63,7 @@ pub fn has_corner(t: Tet, i: u32) -> bool
     t.a == i || t.b == i || t.c == i || t.d == i
 }
 
-/// Inserts the points in their turns into the mesh of the first row, but those that are its
-/// corners.
+/// Inserts the points in their turns into the mesh of the first tetrahedron, but for its corners.
 fn insert_all<H: Lift, L: Ledger>(
     alloc: Global,
     built: &mut Built,
@@ -125,13 +124,13 @@ fn mesh_counted<H: Lift, L: Ledger>(
     Ok(built)
 }
 
-/// The mesh of distinct points that are lifted: its rows are the lower hull of the lifted points,
-/// ties broken by the points' numbers, and a ghost lies over each face of the hull of the points. A
-/// point that is a corner of no row is hidden. `Flat` comes exactly where all points lie in one
-/// plane; fewer than four do.
+/// The mesh of distinct points that are lifted: its tetrahedra are the lower hull of the lifted
+/// points, ties broken by the points' numbers (simulation of simplicity), and a ghost lies over
+/// each face of the hull of the points. A point that is a corner of no tetrahedron is hidden.
+/// `Flat` comes exactly where all points lie in one plane; fewer than four do.
 ///
-/// The first four points that are not in one plane are the start: among themselves they are the
-/// lower hull whatever their heights, and a later point may hide them. Source: incremental
+/// The mesh starts from the first four points that are not in one plane: these alone are their own
+/// lower hull, whatever their heights, and a later point may hide them. Source: incremental
 /// insertion by cavities (Bowyer 1981, Watson 1981).
 pub fn lowest_mesh<H: Lift>(alloc: Global, lift: &H) -> Result<Arena, BuildFault>
     requires distinct { HasDistinctPoints (H.points lift.now) }
@@ -171,9 +170,9 @@ pub(crate) fn mesh_from<L: Ledger>(
     }
 }
 
-/// The Delaunay list of distinct points: the positive rows that have every other point outside,
-/// ties broken by the points' numbers, ascending. `Flat` comes exactly where all points lie in one
-/// plane; fewer than four do.
+/// The Delaunay list of distinct points: the positive tetrahedra that have every other point
+/// outside of their circumsphere, ties broken by the points' numbers (simulation of simplicity),
+/// ascending. `Flat` comes exactly where all points lie in one plane; fewer than four do.
 pub fn delaunay(alloc: Global, points: &Points) -> Result<TetList, BuildFault>
     requires distinct { HasDistinctPoints points.now }
     requires few { length points.now < 2 ^ 32 - 1 }
@@ -185,7 +184,7 @@ pub fn delaunay(alloc: Global, points: &Points) -> Result<TetList, BuildFault>
 {
     let Built { arena, .. } = mesh_from::<Brand>(alloc, points, Blank::new(1))?;
     let found = slot_rows(alloc, &arena)?;
-    // Before the list is made, so that less memory is taken at once.
+    // The arena is freed before the list is made, so that less memory is taken at once.
     arena.let_go();
     Ok(found.into_list(alloc)?)
 }

@@ -11,7 +11,7 @@ use sign_predicates::GridPoint;
 use std::alloc::Global;
 use tet_ports::NoMemory;
 
-/// Where a point stands in the order: its round, its place on the curve, and its number.
+/// The turn of a point in the order: its round, its place on the curve, and its number.
 #[derive(Clone, Copy, PartialEq, Eq, PartialOrd, Ord)]
 pub struct Turn {
     round: u32,
@@ -37,12 +37,12 @@ struct Span {
 }
 
 impl Span {
-    /// That of one coordinate.
+    /// The span of one coordinate.
     fn of(x: i32) -> Self {
         Span { least: x, most: x }
     }
 
-    /// With one more coordinate.
+    /// The span with one more coordinate.
     fn with(self, x: i32) -> Self {
         Span {
             least: self.least.min(x),
@@ -55,7 +55,7 @@ impl Span {
     }
 }
 
-/// How many bits of a coordinate the curve has.
+/// The number of bits of a coordinate on the curve.
 const CURVE_BITS: u32 = 21;
 
 /// The numbers of the points, each once, in the order in which they are inserted.
@@ -84,7 +84,7 @@ fn turn_of(frame: Frame, p: GridPoint, number: u32) -> Turn
     }
 }
 
-/// A fixed scattering of the numbers, so that seven eighths of the points come in the last round.
+/// A fixed hash of the numbers, so that about seven eighths of the points come in the last round.
 fn hash(number: u32) -> u32 {
     let mixed = number ^ (number >> 16);
     let mixed = mixed.wrapping_mul(0x7feb_352d);

@@ -1,13 +1,13 @@
 //! Rows as single numbers, for the sort of a list.
 //!
-//! Numbers of 64 bits are sorted without a branch on what is compared, and rows are not.
+//! Numbers of 64 bits are sorted without a branch on each comparison, and rows are not.
 ghost use Rattle.std.specs.Prelude.{◌≡◌, MatchOption};
 ghost use Rattle.cavity_insert.specs.RowKeys.{HasKey, row_of_key};
 
 use geo_laws::Tet;
 
-/// A row as one number, with 16 bits for each of its four, the first number highest. So keys are in
-/// the order of their rows.
+/// A row as one number, with 16 bits for each of its four, the first one highest, so that the order
+/// of keys is that of the rows.
 pub(crate) type RowKey = u64;
 
 // One more than the greatest number that a key has room for.

@@ -104,7 +104,7 @@ fn rows_at(alloc: Global, arena: &Arena) -> Result<TetList, NoMemory>
     Ok(rows)
 }
 
-/// The rows of these keys, in the same order.
+/// The rows of a list of keys, in its order.
 fn rows_of_keys(alloc: Global, keys: &Items<RowKey>) -> Result<TetList, NoMemory>
     ensures { IfOk result (λ rows. rows ≡ map row_of_key keys.now) }
 {
@@ -115,7 +115,7 @@ fn rows_of_keys(alloc: Global, keys: &Items<RowKey>) -> Result<TetList, NoMemory
     Ok(rows)
 }
 
-/// The row of the slot at a place; None where it is free or a ghost.
+/// The row of the slot at a place; None where the slot is free or a ghost.
 fn row_at(arena: &Arena, i: usize) -> Option<Tet>
     requires { i < length arena.now.slots }
     ensures { MatchOption result

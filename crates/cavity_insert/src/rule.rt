@@ -1,6 +1,7 @@
-//! Which slots of an arena are in the conflict zone of a new point.
+//! The test whether a slot of an arena is in the conflict zone of a new point.
 //!
-//! They are the rows that do not have it outside, and the ghosts of the hull faces that it sees.
+//! The zone is the tetrahedra that do not have the point outside of their circumsphere, and the
+//! ghosts of the hull faces that it sees.
 ghost use Rattle.std.specs.Prelude.{◌≡◌, ◌+◌, ◌<◌, ◌↔◌, IsTrue};
 ghost use Rattle.mesh_arena.specs.Mesh.{IsLive, corner_list};
 ghost use Rattle.point_locate.specs.Place.{AreCornersOn, AreOn, row_corners, placed};
@@ -16,7 +17,8 @@ use sign_predicates::{GridPoint, Sign, orient, outside};
 use std::marker::Model;
 use std::sync::ledger::Ledger;
 
-// Whether a row is in conflict with the point: it does not have the point outside.
+// Whether a tetrahedron is in conflict with the point: it does not have the point outside of its
+// circumsphere.
 #[inline(always)]
 fn row_conflicts(points: &Points, row: Tet, p: GridPoint, number: u32) -> bool
     requires { AreOn points.now (row_corners row) }
@@ -25,7 +27,7 @@ fn row_conflicts(points: &Points, row: Tet, p: GridPoint, number: u32) -> bool
     !outside(row_points(points, row), numbers_of(row), p, number)
 }
 
-// Whether these are the corners of such a row.
+// Whether the corners are those of a tetrahedron in conflict with the point.
 fn corners_conflict(points: &Points, t: SlotCorners, p: GridPoint, number: u32) -> bool
     requires { AreOn points.now (corner_list t) }
     ensures { IsTrue result ↔ IsTakenRow points.now p number (corner_list t) }
@@ -36,7 +38,7 @@ fn corners_conflict(points: &Points, t: SlotCorners, p: GridPoint, number: u32) 
     }
 }
 
-// Whether such a row stands behind a face.
+// Whether a tetrahedron in conflict with the point is across a face.
 fn inner_conflicts(
     arena: &Arena,
     points: &Points,
@@ -56,7 +58,7 @@ fn inner_conflicts(
     }
 }
 
-// Whether the point sees the hull face of a ghost with the point at infinity in this place.
+// Whether the point sees the hull face of a ghost that has the point at infinity in `place`.
 fn is_seen(arena: &Arena, points: &Points, s: Slot, place: u8, p: GridPoint, number: u32) -> bool
     requires live { IsLive arena.now.slots s.index }
     requires place { place < 4 }
@@ -71,7 +73,7 @@ fn is_seen(arena: &Arena, points: &Points, s: Slot, place: u8, p: GridPoint, num
     }
 }
 
-// Whether this live slot is in the conflict zone.
+// Whether a live slot is in the conflict zone.
 #[inline(always)]
 fn slot_conflicts(arena: &Arena, points: &Points, s: Slot, p: GridPoint, number: u32) -> bool
     requires live { IsLive arena.now.slots s.index }
@@ -85,11 +87,11 @@ fn slot_conflicts(arena: &Arena, points: &Points, s: Slot, p: GridPoint, number:
     }
 }
 
-/// Whether this live slot is in the conflict zone of the new point: a row that does not have the
-/// point outside, ties decided by the points' numbers; or a ghost whose hull face the point is
-/// strictly beyond, or whose hull face's plane it is on where the row on the inner side is in
-/// conflict with it. One step is counted. It takes no memory. The corners are places in `points`,
-/// from 0, and coordinates are in grid units.
+/// Whether a live slot is in the conflict zone of the new point: a tetrahedron that does not have
+/// the point outside of its circumsphere, ties decided by the points' numbers; or a ghost whose
+/// hull face the point is strictly beyond, or on whose hull face's plane it lies where the
+/// tetrahedron on the inner side is in conflict with it. One step is counted. No memory is taken.
+/// The corners are places in `points`, from 0, and coordinates are in grid units.
 ///
 /// Source: incremental insertion (Bowyer 1981, Watson 1981), with ghosts over the hull.
 #[inline(always)]

@@ -1,6 +1,7 @@
-//! A mesh of lifted points and a further one: which slots are in the conflict zone of the point.
+//! The test whether a slot of a mesh of lifted points is in the conflict zone of a further point.
 //!
-//! They are the rows that do not have it outside, and the ghosts of the hull faces that it sees.
+//! The zone is the tetrahedra that do not have the point outside, and the ghosts of the hull faces
+//! that it sees.
 ghost use Rattle.std.specs.Prelude.{◌≡◌, ◌<◌, ◌↔◌, ℕ, List, IsTrue, length};
 ghost use Rattle.mesh_arena.specs.Mesh.{IsLive, corner_list};
 ghost use Rattle.point_locate.specs.Place.{row_corners, placed, IsAt, AreOn};
@@ -21,7 +22,7 @@ use point_locate::{Shape, placed, shape_of};
 use sign_predicates::{Sign, orient};
 use std::marker::Model;
 
-/// Whether a row does not have the point outside.
+/// Whether a tetrahedron does not have the point outside.
 #[inline(always)]
 fn row_conflicts<H: Lift>(lift: &H, row: Tet, number: u32) -> bool
     requires { IsRowFor (H.points lift.now) row number }
@@ -31,7 +32,7 @@ fn row_conflicts<H: Lift>(lift: &H, row: Tet, number: u32) -> bool
     !lift.is_outside(row, number)
 }
 
-/// Whether the slot is a row that does not have the point outside.
+/// Whether the slot is a tetrahedron that does not have the point outside.
 fn slot_holds<H: Lift>(arena: &Arena, lift: &H, s: Slot, number: u32) -> bool
     requires live { IsLive arena.now.slots s.index }
     requires ready { (ms : List ℕ) × IsReadyFor (H.heights lift.now) arena.now.slots
@@ -45,7 +46,7 @@ fn slot_holds<H: Lift>(arena: &Arena, lift: &H, s: Slot, number: u32) -> bool
     }
 }
 
-/// Whether such a row stands behind a face.
+/// Whether a tetrahedron that does not have the point outside is across a face.
 fn inner_conflicts<H: Lift>(arena: &Arena, lift: &H, s: Slot, face: u8, number: u32) -> bool
     requires live { IsLive arena.now.slots s.index }
     requires face { face < 4 }
@@ -60,7 +61,7 @@ fn inner_conflicts<H: Lift>(arena: &Arena, lift: &H, s: Slot, face: u8, number: 
     }
 }
 
-/// The sign of the volume of a ghost's corners with the point in place of the one at infinity.
+/// The orient3d sign of a ghost's corners with the point in place of the one at infinity.
 fn ghost_sign<H: Lift>(lift: &H, t: SlotCorners, number: u32) -> Sign
     requires on { AreOn (H.points lift.now) (corner_list t) }
     requires inside { number < length (H.points lift.now) }
@@ -72,7 +73,7 @@ fn ghost_sign<H: Lift>(lift: &H, t: SlotCorners, number: u32) -> Sign
     orient(at.a, at.b, at.c, at.d)
 }
 
-/// Whether the point sees the hull face of a ghost with the point at infinity in this place.
+/// Whether the point sees the hull face of a ghost that has the point at infinity in `place`.
 fn is_seen<H: Lift>(arena: &Arena, lift: &H, s: Slot, place: u8, number: u32) -> bool
     requires live { IsLive arena.now.slots s.index }
     requires place { place < 4 }
@@ -88,7 +89,8 @@ fn is_seen<H: Lift>(arena: &Arena, lift: &H, s: Slot, place: u8, number: u32) ->
     }
 }
 
-/// Whether this live slot is in the conflict zone. It is no part of the loop of tests of rows.
+/// Whether a live slot that is a ghost is in the conflict zone. The function stays out of the fast
+/// loop of insphere tests.
 #[inline(never)]
 fn ghost_conflicts<H: Lift>(arena: &Arena, lift: &H, s: Slot, number: u32) -> bool
     requires live { IsLive arena.now.slots s.index }
@@ -103,10 +105,10 @@ fn ghost_conflicts<H: Lift>(arena: &Arena, lift: &H, s: Slot, number: u32) -> bo
     }
 }
 
-/// Whether this live slot is in the conflict zone of the point with this number: a row that does
-/// not have the point outside, ties decided by the points' numbers; or a ghost whose hull face the
-/// point is strictly beyond, or whose hull face's plane it is on where the row on the inner side is
-/// in conflict with it.
+/// Whether a live slot is in the conflict zone of the point with this number: a tetrahedron that
+/// does not have the point outside, ties decided by the points' numbers; or a ghost whose hull face
+/// the point is strictly beyond, or on whose hull face's plane it lies where the tetrahedron on the
+/// inner side is in conflict with it.
 #[inline(always)]
 fn is_taken<H: Lift>(arena: &Arena, lift: &H, s: Slot, number: u32) -> bool
     requires live { IsLive arena.now.slots s.index }

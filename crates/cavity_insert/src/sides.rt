@@ -1,6 +1,6 @@
-//! Whether two points are the ends of a side of a Delaunay mesh.
+//! The test whether two points are the ends of an edge of a Delaunay mesh.
 //!
-//! By a walk to the one and round it to the other, or by a look at each slot.
+//! A walk leads to the one and round it to the other; where it fails, all slots are scanned.
 ghost use Rattle.std.specs.Prelude.{◌≡◌, ◌≢◌, ℕ, ◌<◌, ◌≤ℤ◌, ◌↔◌, pos, length, IsTrue, IfSome};
 ghost use Rattle.std.specs.Prelude.{MatchOption, slice_index_or};
 ghost use Rattle.sign_predicates.specs.Orientation.{side, opposite_face};
@@ -18,7 +18,7 @@ use mesh_arena::{Arena, Slot, SlotCorners};
 use point_locate::{Shape, row_points, shape_of};
 use sign_predicates::{Corners, GridPoint, Sign, beyond};
 
-/// Whether these are the corners of a row, and both points are among them.
+/// Whether the corners are those of a tetrahedron, and both points are among them.
 fn has_corners(t: SlotCorners, a: u32, b: u32) -> bool
     ensures { IsTrue result ↔ HasBoth (corner_list t) a b }
 {
@@ -28,7 +28,7 @@ fn has_corners(t: SlotCorners, a: u32, b: u32) -> bool
     }
 }
 
-/// Whether the slot at a place is a row that has both points as corners.
+/// Whether the slot at a place is a tetrahedron with both points as corners.
 fn slot_has_corners(arena: &Arena, i: usize, a: u32, b: u32) -> bool
     requires { i < length arena.now.slots }
     ensures { IsTrue result ↔ IsAt arena.now.slots (λ cs. HasBoth cs a b) i }
@@ -39,7 +39,7 @@ fn slot_has_corners(arena: &Arena, i: usize, a: u32, b: u32) -> bool
     }
 }
 
-/// Whether the two points are the ends of a side, by a look at each slot.
+/// Whether the two points are the ends of an edge, by a scan of all slots.
 pub(crate) fn side_by_scan(arena: &Arena, points: &Points, a: u32, b: u32) -> bool
     requires mesh { IsDelaunayMesh arena.now.slots points.now (all_numbers points.now) }
     requires differ { a ≢ b }
@@ -53,19 +53,19 @@ pub(crate) fn side_by_scan(arena: &Arena, points: &Points, a: u32, b: u32) -> bo
     false
 }
 
-// What the corners of a slot tell a walk to the point a and round it to the point b.
+// One step of the walk to the point `a` and round it to the point `b`, by the corners of a slot.
 #[derive(Clone, Copy)]
 pub(crate) enum WalkStep {
-    // It is a row with the corner a, and b lies in its closed cone from a. Whether b is a corner
-    // too.
+    // The slot is a tetrahedron with the corner `a`, and `b` lies in its closed cone from `a`:
+    // whether `b` is a corner too.
     Answer(bool),
-    // This face leads on.
+    // The walk goes on through this face.
     Through(u8),
-    // No face leads on.
+    // The walk goes on through no face.
     Lost,
 }
 
-// A face of a row that `p` is strictly beyond, but not the one opposite its corner a.
+// A face of a tetrahedron that `p` is strictly beyond, other than the one opposite the corner `a`.
 fn face_towards(at: &Corners, row: Tet, a: u32, p: GridPoint) -> Option<u8>
     ensures { MatchOption result ((k : ℕ) → k < 4 → slice_index_or (numbers row) k a ≢ a
         → pos 0 ≤ℤ side (opposite_face at.now k) p) (λ k. k < 4) }
@@ -79,7 +79,7 @@ fn face_towards(at: &Corners, row: Tet, a: u32, p: GridPoint) -> Option<u8>
     None
 }
 
-// What a row tells. One without the corner a leads towards a, and one with it leads on round a.
+// The step at a tetrahedron: towards `a` from one without that corner, round `a` from one with it.
 fn row_step(points: &Points, row: Tet, a: u32, b: u32) -> WalkStep
     requires corners { AreOn points.now (row_corners row) }
     requires inside { (a < length points.now) × (b < length points.now) }
@@ -98,7 +98,7 @@ fn row_step(points: &Points, row: Tet, a: u32, b: u32) -> WalkStep
     }
 }
 
-// What a slot tells. A ghost leads through its hull face.
+// The step at a slot: from a ghost through its hull face.
 fn step_at(points: &Points, t: SlotCorners, a: u32, b: u32) -> WalkStep
     requires corners { AreOn points.now (corner_list t) }
     requires inside { (a < length points.now) × (b < length points.now) }
@@ -110,14 +110,15 @@ fn step_at(points: &Points, t: SlotCorners, a: u32, b: u32) -> WalkStep
     }
 }
 
-/// Whether the two points are the ends of a side, by a walk from a live slot: from a row without
-/// the corner `a` through a face that this point is strictly beyond, and from one with it through a
-/// face at `a` that `b` is strictly beyond. The row where it ends has `b` in its closed cone from
-/// `a`, and only its own sides there are sides of the mesh. None where the walk leads nowhere or
-/// takes more steps than there are slots; each other answer is right.
+/// Whether the two points are the ends of an edge, by a walk from a live slot: from a tetrahedron
+/// without the corner `a` through a face that this point is strictly beyond, and from one with it
+/// through a face at `a` that `b` is strictly beyond. The tetrahedron where the walk ends has `b`
+/// in its closed cone from `a`, and in this cone only its own edges from `a` are edges of the mesh.
+/// None where the walk leads nowhere or takes more steps than there are slots; each other answer is
+/// right.
 ///
-/// Source: the visibility walk (Devillers, Pion and Teillaud, 2002), and the same rule among the
-/// rows round a point.
+/// Source: the visibility walk (Devillers, Pion and Teillaud, 2002), and its rule applied to the
+/// tetrahedra round a point.
 pub(crate) fn side_by_walk(
     arena: &Arena,
     points: &Points,

@@ -59,7 +59,7 @@ fn start_slots(alloc: Global, t: Tet) -> Result<Arena, NoMemory>
     Ok(arena)
 }
 
-/// The corners of a ghost, with these of its hull face.
+/// The corners of a ghost over the hull face with the corners `a`, `b` and `c`.
 fn ghost_over(a: Corner, b: Corner, c: Corner) -> SlotCorners
     ensures { corner_list result ≡ a ∷ b ∷ c ∷ Ghost ∷ [] }
 {

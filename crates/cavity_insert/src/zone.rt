@@ -1,4 +1,4 @@
-//! The conflict zone of a new point: the slots of a mesh that the point takes.
+//! The conflict zone of a new point: the slots of a mesh that its insertion removes.
 ghost use Rattle.std.specs.Prelude.{◌≡◌, ◌<◌, ◌↔◌, ℕ, List, Option, option_map, IsTrue, IfSome};
 ghost use Rattle.mesh_arena.specs.Mesh.{SlotValue, IsLive, IsArenaMesh, link_behind, at};
 
@@ -34,7 +34,7 @@ pub(crate) fn across<Z: Zone>(zone: &Z, s: Slot, face: u8) -> Option<RimFace>
     zone.arena().across(s, face)
 }
 
-/// That the slots are a mesh, since the arena has this one.
+/// Shows that the slots are a mesh, since the arena has this live one.
 pub(crate) fn see<Z: Zone>(zone: &Z, s: Slot)
     requires { IsLive (Z.slots zone.now) s.index }
     ensures { IsArenaMesh (Z.slots zone.now) }

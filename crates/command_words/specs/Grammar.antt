@@ -84,7 +84,8 @@ number_fault place most text =
     if not (is_some (number_at_front most text)) then Some place else
     if nat_lt (digit_count text) (length text) then Some (digit_count text + place) else None
 
--- at most so many halvings, 20 decimals, and 10,000 points of the sample
+-- the place of the first fault in a long word, which may ask for at most `halvings` halvings, 20 decimals, and 10,000
+-- points of the sample
 abbrev pub long_fault : ℕ → List ℕ → Option ℕ
 long_fault halvings word =
     if starts_with nat_eq word (codes "--halvings=") then number_fault 12 halvings (drop 11 word) else
@@ -174,14 +175,15 @@ are_not_weighted words = is_switched words 119 && (is_switched words 114 || name
 abbrev pub are_at_odds : List (List ℕ) → Bool
 are_at_odds words = is_no_check words || are_not_weighted words
 
--- The first fault of the words: the number of the word and the place in it. All together they have a name or ask for the sample, and not
--- both; and their switches go together. That is told after the last word. The words ask for at most so many halvings.
+-- The first fault of the words: the number of the word and the place in it. All together they have a name or ask for
+-- the sample, and not both; and their switches go together. A fault of these is placed after the last word. The words
+-- ask for at most `halvings` halvings.
 abbrev pub words_fault_within : ℕ → List (List ℕ) → Option (ℕ × ℕ)
 words_fault_within halvings words =
     option_or (bad_word_from halvings 1 false words)
     (if is_named words && is_sampled words || not (is_named words || is_sampled words) then Some (length words + 1, 1) else
     (if are_at_odds words then Some (length words + 1, 2) else None))
 
--- of `tetgen`, with at most 12 halvings
+-- the first fault of the words of `tetgen`, with at most 12 halvings
 abbrev pub words_fault : List (List ℕ) → Option (ℕ × ℕ)
 words_fault = words_fault_within 12

@@ -32,8 +32,9 @@ is_piecewise asked (Some Stl) = true
 
 -- ---- the options
 
--- What the words ask for; 112 is p, 110 n, 102 f, 101 e, 122 z, 99 c, 65 A, 81 Q, 78 N, 69 E, 70 F, 77 M, 114 r and 119 w.
--- Of the sample no file is stored. They ask for at most so many halvings, and for so many where they name no number.
+-- What the words ask for; 112 is p, 110 n, 102 f, 101 e, 122 z, 99 c, 65 A, 81 Q, 78 N, 69 E, 70 F, 77 M, 114 r and 119
+-- w. For the sample no file is stored. The words ask for at most `halvings` halvings, and for that number where they
+-- name none.
 abbrev pub options_within : ℕ → List (List ℕ) → Options
 options_within halvings words = record {
   piecewise = is_piecewise (is_switched words 112 || is_sampled words) (extension_of (name_of words));
@@ -58,7 +59,7 @@ options_within halvings words = record {
   extension = extension_of (name_of words);
 }
 
--- of `tetgen`, with at most 12 halvings
+-- the options that the words of `tetgen` ask for, with at most 12 halvings
 abbrev pub options_of : List (List ℕ) → Options
 options_of = options_within 12
 

@@ -9,7 +9,7 @@ pub enum WordsFault {
     /// The first bad word and the place of the first bad byte in it, both counted from 1.
     #[error("word {word}, place {place}: not understood")]
     Usage { word: usize, place: usize },
-    /// Want of memory.
+    /// Out of memory.
     #[error("out of memory")]
     NoMemory,
 }

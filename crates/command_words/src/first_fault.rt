@@ -12,8 +12,8 @@ use crate::numbers::{
 use crate::options::Extension;
 use tet_ports::Words;
 
-/// The first fault of the words, which may ask for so many halvings: the number of the word and the
-/// place in it, both counted from 1.
+/// The first fault of the words, which may ask for at most `halvings` halvings: the number of the
+/// word and the place in it, both counted from 1.
 pub(crate) fn words_fault(halvings: u32, words: &Words) -> Option<(usize, usize)>
     ensures { result ≡ words_fault_within halvings words.now }
 {

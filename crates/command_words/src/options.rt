@@ -55,10 +55,10 @@ pub struct Options {
     /// Mesh points with weights, which are their first attributes: the regular list. Not of a
     /// complex.
     pub weighted: bool,
-    /// At most this many points are added to a complex, at most 100,000; so many where no number
-    /// is given.
+    /// The most points that are added to a complex, at most 100,000, which is also the number where
+    /// none is given.
     pub budget: u32,
-    /// At most this many halvings of the grid, at most 12; so many where no number is given.
+    /// The most halvings of the grid, at most 12, which is also the number where none is given.
     pub halvings: u32,
     /// Round coordinates to this many decimals first, at most 20.
     pub decimals: Option<u32>,

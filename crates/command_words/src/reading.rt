@@ -32,8 +32,8 @@ pub fn read_words(alloc: Global, words: &Words) -> Result<Options, WordsFault>
     read_words_within(alloc, words, MOST_HALVINGS)
 }
 
-/// As `read_words`, of words that ask for at most so many halvings, and for so many where they name
-/// no number.
+/// As `read_words`, for words that ask for at most `halvings` halvings, and for that number where
+/// they name none.
 pub fn read_words_within(alloc: Global, words: &Words, halvings: u32) -> Result<Options, WordsFault>
     requires { halvings ≤ 18 }
     ensures understood { IfOk result (λ options. words_fault_within halvings words.now ≡ None) }

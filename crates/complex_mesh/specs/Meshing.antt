@@ -30,9 +30,8 @@ use Rattle.complex_mesh.specs.declared.mesh.ComplexMesh.{ComplexMesh}
 use Rattle.complex_mesh.specs.declared.fault.MeshFault.{MeshFault}
 use Rattle.complex_mesh.specs.declared.fault.MeshFault.TheVariants.{Flat, NotFlat, SegmentsCross, GridEnd, BudgetEnd, Crossing, NoFill, NoMemory}
 
--- Of the segments and facets that are meshed, protection ends with the mesh's points and some pieces, the triangles are exactly those of
--- the facets, any two are properly met and each with each piece;
--- the rows are a mesh of the complex
+-- Protection of the segments of the facets that are meshed ends with the mesh's points and some subsegments, the triangles are exactly
+-- those of the facets, any two are properly met and each with each piece; the tetrahedra are a mesh of the complex
 pub record IsComplexMesh (o : MeshOptions) (ps : List Point) (c : Complex) (m : ComplexMesh) : Type 0 where
   pub segs : List Piece
   pub fs : List Facet
@@ -41,33 +40,35 @@ pub record IsComplexMesh (o : MeshOptions) (ps : List Point) (c : Complex) (m : 
   pub triangles : m.triangles ≡ complex_triangles m.points fs
   pub met : AreTrianglesMet m.points m.triangles rest
   pub mesh : IsMesh (carving_of o.keep_hull) m.points m.triangles c.holes m.tetrahedra
-  -- The rows are those that are kept of a list that fills the hull, to which each Delaunay row belongs that no facet crosses
+  -- The tetrahedra are those that carving keeps of a list that fills the hull and has each Delaunay tetrahedron that no
+  -- facet crosses
   pub whole : List Tet
   pub refilled : IsGrownList m.points m.triangles (delaunay_rows m.points) whole
   pub carved : IsCarved (carving_of o.keep_hull) m.points m.triangles c.holes whole m.tetrahedra
   -- the triangles of each facet cover its region
   pub facets_covered : (k : ℕ) → k < length fs → IsCoveredAt m.points m.triangles segs fs k
-  -- where no two facets cross one Delaunay row, it is the Delaunay list with the cavities of the facets filled on both sides
+  -- where no two facets cross one Delaunay tetrahedron, the whole list is the Delaunay list with the cavities of the
+  -- facets filled on both sides
   pub by_sides : IsUntangled m.points m.triangles → IsRefill m.points m.triangles (delaunay_rows m.points) whole
-  -- where no facet crosses a Delaunay row, it is the Delaunay list
+  -- where no facet crosses a Delaunay tetrahedron, the whole list is the Delaunay list
   pub uncrossed : HasNoCrossing m.points m.triangles → whole ≡ delaunay_rows m.points
   -- with the hull kept and no hole points nothing is cut away
   pub all_kept : o.keep_hull ≡ true → c.holes ≡ [] → m.tetrahedra ≡ whole
-  -- without facets there are none, unless the hull is kept
+  -- without facets there are no tetrahedra, unless the hull is kept
   pub no_facets : o.keep_hull ≡ false → c.facets ≡ [] → m.tetrahedra ≡ []
-  -- where no two facets cross one Delaunay row, a piece with an inner point in the mesh is a side of the mesh
+  -- where no two facets cross one Delaunay tetrahedron, a subsegment with an inner point in the mesh is an edge of the
+  -- mesh
   pub pieces_kept : IsUntangled m.points m.triangles → (p : Piece) → Contains rest p
       → EachRational (λ x. IsInnerOf m.points p x → Any (λ t. InClosed (corners m.points t) x) m.tetrahedra → is_side m.tetrahedra p ≡ true)
   -- each face of the mesh is properly met with each triangle, as its marker asks for
   pub faces_met : AreTrianglesMetByFaces m.points m.triangles m.tetrahedra
   pub facets_there : AreFacetsThere m.triangles c
-  -- there are marks where regions are asked for, and they are the marks of the rows
+  -- there are marks where regions are asked for, and they are the marks of the tetrahedra
   pub marked : IsSome m.marks ↔ IsTrue o.regions
   pub marks : IfSome m.marks (AreRegionMarks m.points m.triangles m.tetrahedra c.regions)
 
--- Why a complex has no mesh. Each cause says that none before it holds. The last one, an anomaly where two facets cross a Delaunay row,
--- may hold beside others of
--- its kind, and beside a mesh
+-- Why a complex has no mesh. Each cause says that none before it holds. The last one, an anomaly where two facets cross
+-- a Delaunay tetrahedron, may hold beside others of its kind, and beside a mesh
 abbrev pub IsMeshFault : MeshOptions → List Point → Complex → MeshFault → Type 0
 IsMeshFault o ps c Flat = AreCoplanar ps
 IsMeshFault o ps c (NotFlat facet four) = (¬ AreCoplanar ps) × IsFirstNotFlat ps (facets c) (record { facet = facet; four = four })

@@ -1,5 +1,5 @@
--- A complex after protection: which segments and facets are meshed, the points, the pieces of the segments, and the triangles of the
--- facets.
+-- A complex after protection: the segments and facets that are meshed, the points, the subsegments, and the triangles
+-- of the facets.
 use Rattle.std.specs.Prelude.{◌≡◌, Bool, true, false, ℕ, ◌+◌, ◌-◌, ◌^◌, ◌<◌, pos, ◌<ℤ◌, List, length, flat_map, All}
 use Rattle.sign_predicates.specs.Point.{Point}
 use Rattle.geo_laws.specs.Complex.{Complex, corner_lists, facets, HasCornersOf}
@@ -15,8 +15,8 @@ use Rattle.merged_facets.specs.Merged.{IsMerging, merged_segments}
 use Rattle.recovery_laws.specs.MergedMesh.{merged_facets}
 use Rattle.complex_mesh.specs.declared.mesh.MeshOptions.{MeshOptions}
 
--- what a mesh is made of: distinct points, few enough, whose coordinates may be halved so often; and a complex on them, whose hole and
--- region points are rational points
+-- the input of a mesh: distinct points, few enough, whose coordinates can be halved `halvings` times; and a complex on
+-- them, whose hole and region points are rational points
 pub record IsMeshable (halvings budget : ℕ) (ps : List Point) (c : Complex) : Type 0 where
   pub distinct : HasDistinctPoints ps
   pub multiples : (i : ℕ) → i < length ps → IsMultiple (2 ^ halvings) (point ps i)
@@ -38,8 +38,8 @@ abbrev pub AreMeshed : Bool → List Point → Complex → List Piece → List F
 AreMeshed true ps c segs fs = (segs ≡ segments (corner_lists c.polygons)) × (fs ≡ facets c)
 AreMeshed false ps c segs fs = AreOfMerged ps c segs fs
 
--- the facets as read are flat, the points are not all in one plane, any two pieces of the segments are properly met, and protection ends
--- with these points and pieces
+-- the facets as read are flat, the points are not all in one plane, any two subsegments are properly met, and
+-- protection ends with these points and subsegments
 pub record IsProtectedComplex (o : MeshOptions) (ps : List Point) (c : Complex) (segs : List Piece) (fs : List Facet) (qs : List Point)
     (rest : List Piece) : Type 0 where
   pub flat : All (IsFlat ps) (facets c)

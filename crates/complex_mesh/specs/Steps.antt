@@ -1,4 +1,4 @@
--- What the steps from protection to the mesh leave for the next ones.
+-- The results of the steps from protection to the mesh.
 use Rattle.std.specs.Prelude.{◌≡◌, true, ℕ, ◌<◌, ◌-◌, ◌^◌, List, length, All, IfSome, IsSome, ◌↔◌, IsTrue}
 use Rattle.sign_predicates.specs.Point.{Point}
 use Rattle.geo_laws.specs.Complex.{Complex, facets, HasCornersOf}
@@ -26,8 +26,8 @@ use Rattle.complex_mesh.specs.declared.mesh.ComplexMesh.{ComplexMesh}
 use Rattle.complex_mesh.specs.declared.fault.MeshFault.{MeshFault}
 use Rattle.complex_mesh.specs.declared.fault.MeshFault.TheVariants.{Crossing, NoFill, NoMemory}
 
--- the points after protection, with pieces that have two ends and are sides of Delaunay rows: flat facets, each side of which is inner or
--- one of some segments, whose pieces are sides of Delaunay rows
+-- the points after protection, with subsegments that have two ends and are edges of Delaunay tetrahedra: flat facets,
+-- each side of which is inner or one of some segments, whose subsegments are edges of Delaunay tetrahedra
 pub record HasSoundFacets (qs : List Point) (rest : List Piece) (c : Complex) : Type 0 where
   pub segs : List Piece
   pub distinct : HasDistinctPoints qs
@@ -50,13 +50,13 @@ pub record IsRecovered (qs : List Point) (ts : List FacetTriangle) (whole : List
   pub by_sides : IsUntangled qs ts → IsRefill qs ts (delaunay_rows qs) whole
   pub whole_mesh : IsWholeMesh qs ts whole
 
--- the fault carries an anomaly, where a row is tangled
+-- the fault carries an anomaly, where two facets cross a tetrahedron
 abbrev pub IsTangleFault : List Point → List FacetTriangle → MeshFault → Type 0
 IsTangleFault qs ts (NoFill anomaly) = HasTangle qs ts (delaunay_rows qs) × AnomalyHolds qs ts anomaly
 IsTangleFault qs ts NoMemory = Unit {0}
 IsTangleFault qs ts _ = ⊥
 
--- the mesh has the rows that are kept of the whole list, and their marks where regions are asked for
+-- the mesh has the tetrahedra that carving keeps of the whole list, and their marks where regions are asked for
 pub record IsKeptMesh (o : MeshOptions) (c : Complex) (whole : List Tet) (m : ComplexMesh) : Type 0 where
   pub carved : IsCarved (carving_of o.keep_hull) m.points m.triangles c.holes whole m.tetrahedra
   pub marked : IsSome m.marks ↔ IsTrue o.regions

@@ -15,7 +15,7 @@ use simplex_meets::crossings_beside;
 use std::alloc::Global;
 use tet_ports::NoMemory;
 
-/// The triangles of all facets, facet by facet. The pieces only say what is known of the points.
+/// The triangles of all facets, facet by facet. The pieces are only for the contract.
 fn complex_triangles(
     alloc: Global,
     points: &Points,
@@ -37,7 +37,7 @@ fn complex_triangles(
 
 /// The triangles of all facets, facet by facet: any two are properly met, and each with each piece.
 /// `Crossing` names the first two parts that are not. Faces of the Delaunay list are properly met
-/// with one another and with its sides, so these are not compared.
+/// with one another and with its edges, so these are not compared.
 pub(crate) fn met_triangles(
     alloc: Global,
     points: &Points,

@@ -21,18 +21,20 @@ pub enum MeshFault {
     /// These two pieces of segments, the first such two, have a common point that is no common end.
     #[error("segments cross")]
     SegmentsCross { one: Piece, two: Piece },
-    /// This piece is no side of a Delaunay tetrahedron, and was halved as often as the grid allows.
+    /// This subsegment is no edge of a Delaunay tetrahedron, and was halved as often as the grid
+    /// allows.
     #[error("a segment needs a finer grid")]
     GridEnd { piece: Piece },
-    /// This piece is no side of a Delaunay tetrahedron, and as many points were added as allowed.
+    /// This subsegment is no edge of a Delaunay tetrahedron, and as many points were added as
+    /// allowed.
     #[error("{made} splits used")]
     BudgetEnd { made: u32, piece: Piece },
     /// A triangle of a facet and another one or a piece, the first such two, have a common point
     /// that is not in the hull of their common corners.
     #[error("facets or segments cross")]
     Crossing { one: Part, two: Part },
-    /// Two facets cross a Delaunay tetrahedron, and this stands against tetrahedra grown round the
-    /// facets.
+    /// Two facets cross a Delaunay tetrahedron, and the constrained Delaunay tetrahedra have this
+    /// anomaly.
     #[error("tangled facets")]
     NoFill { anomaly: Anomaly },
     /// Memory ran out.

@@ -35,7 +35,8 @@ fn marks_of(
     Ok(own)
 }
 
-/// The mesh of what is kept of a list that fills the hull and has the facets as faces.
+/// The mesh of the tetrahedra that carving keeps, of a list that fills the hull and has the facets
+/// as faces.
 pub(crate) fn kept_mesh(
     alloc: Global,
     points: Points,

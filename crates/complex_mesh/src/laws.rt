@@ -1,14 +1,15 @@
-//! The laws of the answer to a complex. Each law is the contract of a function that does nothing.
+//! The laws of the answer to a complex.
 ghost use Rattle.complex_mesh.specs.OneAnswer.{OneFaultLaw, NoFaultLaw};
 
-/// At most one cause holds why a complex has no mesh, but for want of memory, and for the anomalies
-/// where two facets cross a Delaunay tetrahedron: besides these no other cause holds.
+/// At most one of the causes why a complex has no mesh holds, apart from lack of memory; the
+/// anomalies, where two facets cross a Delaunay tetrahedron, may hold together, but beside them no
+/// other cause holds.
 pub fn law_one_fault()
     ensures { OneFaultLaw }
 {}
 
-/// Where a complex has a mesh, no cause holds why it has none, but for want of memory and such
-/// anomalies.
+/// Where a complex has a mesh, none of the causes why a complex has no mesh holds, apart from lack
+/// of memory and the anomalies.
 pub fn law_no_fault()
     ensures { NoFaultLaw }
 {}

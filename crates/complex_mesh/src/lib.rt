@@ -1,4 +1,4 @@
-//! The whole way from points on the grid and a complex on them to the mesh of the complex.
+//! The mesh of a complex, from points on the grid and the complex on them.
 #![tactic(auto)]
 
 mod facets;

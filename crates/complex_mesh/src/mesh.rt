@@ -1,8 +1,8 @@
-//! Meshes of complexes, and what is asked of them.
+//! Meshes of complexes, and the options of a mesh.
 use geo_laws::{FacetTriangles, Points, TetList};
 use hole_carve::Marks;
 
-/// What a mesh is made with.
+/// The options of a mesh.
 #[derive(Clone, Copy, Debug, PartialEq, Eq)]
 pub struct MeshOptions {
     /// How often a segment may be halved on the grid: each coordinate of the points is a multiple
@@ -10,8 +10,8 @@ pub struct MeshOptions {
     pub halvings: u32,
     /// How many points may be added on segments.
     pub budget: u32,
-    /// Whether what a free path joins with the outside is kept, and only what one joins with a hole
-    /// point is carved.
+    /// Whether the tetrahedra that a free path joins with the outside are kept; those that one
+    /// joins with a hole point are always carved.
     pub keep_hull: bool,
     /// Whether facets are kept apart as they are read. Else coplanar facets that are joined over a
     /// common side are one facet, and the side is no segment.

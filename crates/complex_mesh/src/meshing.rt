@@ -17,8 +17,7 @@ use plc_files::segments;
 use segment_protect::{pieces, protect};
 use std::alloc::Global;
 
-/// The mesh of a complex whose facets are flat, from the segments and facets that are meshed: the
-/// latter are those of `meshed`.
+/// The mesh of a complex whose facets are flat, from its segments and the facets of `meshed`.
 fn mesh_facets(
     alloc: Global,
     points: Points,
@@ -45,20 +44,19 @@ fn mesh_facets(
 }
 
 /// The mesh of a complex: coplanar facets that are joined over common sides are one facet each,
-/// unless facets are kept apart; points are added on segments until each piece of these is a side
-/// of a Delaunay tetrahedron; each facet's triangles are those of its plane's Delaunay
-/// triangulation; the Delaunay tetrahedra that a facet crosses are replaced, on each side of the
-/// facet's plane, by those of the cavity's corners on that side, or where two facets cross one, by
-/// tetrahedra grown from face to face; and what a free path joins with the outside, where the hull
-/// isn't kept, or with a hole point is carved away.
+/// unless facets are kept apart; points are added on segments until each subsegment is an edge of a
+/// Delaunay tetrahedron; each facet's triangles are those of its plane's Delaunay triangulation;
+/// the Delaunay tetrahedra that a facet crosses are replaced, on each side of the facet's plane, by
+/// those of the cavity's corners on that side, or where two facets cross one, by constrained
+/// Delaunay tetrahedra found by flips or gift wrapping; and the tetrahedra that a free path joins
+/// with a hole point, or with the outside where the hull isn't kept, are carved away.
 ///
 /// The answer is the mesh where the memory is enough and no cause holds of the following, else the
 /// first of these: all points lie in one plane (`Flat`); a facet is not flat (`NotFlat`); two
-/// pieces of segments are not properly met (`SegmentsCross`); protection ends at a missing piece
-/// that may not be halved again (`GridEnd`), or after as many added points as allowed
-/// (`BudgetEnd`); two triangles, or a triangle and a piece, are not properly met (`Crossing`).
-/// Where two facets cross a Delaunay tetrahedron, the answer is the mesh, or an anomaly that stands
-/// against it (`NoFill`).
+/// subsegments are not properly met (`SegmentsCross`); protection ends at a missing subsegment that
+/// may not be halved again (`GridEnd`), or after as many added points as allowed (`BudgetEnd`); two
+/// triangles, or a triangle and a piece, are not properly met (`Crossing`). Where two facets cross
+/// a Delaunay tetrahedron, the answer is the mesh, or an anomaly that holds (`NoFill`).
 ///
 /// Source: constrained Delaunay tetrahedralizations of a complex whose segments are protected
 /// (Shewchuk, 2002).

@@ -10,7 +10,7 @@ use geo_laws::{FacetTriangles, Points, TetList};
 use std::alloc::Global;
 
 /// The Delaunay list with the cavities of crossing facets filled again. `NoFill` comes only where
-/// two facets cross a tetrahedron, with an anomaly that is there.
+/// two facets cross a tetrahedron, with an anomaly that holds.
 pub(crate) fn recovered(
     alloc: Global,
     points: &Points,

@@ -1,11 +1,11 @@
-//! The rows that a facet crosses, and the flips that put it in.
+//! The cavity of a facet, the tetrahedra that it crosses, and the flips that insert the facet.
 use crate::circuit::{Spot, plane_of, volume_over};
 use crate::local::{Local, Slot, bit_at, face_opposite, place_of, place_or_stop};
 use crate::stop::{Stop, or_stop};
 use geo_laws::Face;
 use std::alloc::Global;
 
-/// The point across the side of the triangle opposite its first corner from that corner.
+/// The reflection of a triangle's first corner in the midpoint of the opposite edge.
 fn ahead_of(a: Spot, b: Spot, c: Spot) -> Spot {
     Spot {
         x: b.x.wrapping_add(c.x).wrapping_sub(a.x),
@@ -15,15 +15,15 @@ fn ahead_of(a: Spot, b: Spot, c: Spot) -> Spot {
 }
 
 impl Local {
-    /// Whether the point is on the inner side of the face of the row opposite its corner at a
-    /// place, or on its plane.
+    /// Whether the point is on the inner side of the face opposite the tetrahedron's corner at a
+    /// place, or on that face's plane.
     fn is_within(&self, slot: &Slot, place: usize, p: Spot) -> Option<bool> {
         let [a, b, c] = face_opposite(&slot.corners, place);
         let (a, b, c) = (self.spot(a)?, self.spot(b)?, self.spot(c)?);
         Some(volume_over(self.is_short, a, b, c, p) >= 0)
     }
 
-    /// Whether the way from a corner of the row to a point goes into the row.
+    /// Whether the segment from a corner of the tetrahedron to a point goes into the tetrahedron.
     fn leads_into(&self, slot: &Slot, corner: usize, ahead: Spot) -> Result<bool, Stop> {
         for i in 0..4 {
             if i != corner && !or_stop(self.is_within(slot, i, ahead))? {
@@ -33,8 +33,8 @@ impl Local {
         Ok(true)
     }
 
-    /// The row at the first corner of a triangle into which the triangle goes; `None` where it is a
-    /// face. Where it is one, it goes into no row that the plane parts.
+    /// The tetrahedron at the first corner of a triangle into which the triangle goes; `None` where
+    /// the triangle is a face, which goes into no tetrahedron that its plane parts.
     fn seed(&self, t: Face) -> Result<Option<u32>, Stop> {
         let (a, b, c) = (self.spot(t.a), self.spot(t.b), self.spot(t.c));
         let ahead = ahead_of(or_stop(a)?, or_stop(b)?, or_stop(c)?);
@@ -59,7 +59,8 @@ impl Local {
         Err(Stop::GivesUp)
     }
 
-    /// Goes from a row of the cavity to those across the faces that the facet parts.
+    /// Goes from a tetrahedron of the cavity to its neighbors across the faces that the facet
+    /// parts.
     fn spread(&mut self, row: u32, queue: &mut Vec<u32>) -> Result<(), Stop> {
         let slot = or_stop(self.slot(row))?;
         let sides = self.sides_of(&slot);
@@ -78,7 +79,7 @@ impl Local {
         Ok(())
     }
 
-    /// Finds all rows of the cavity round a row.
+    /// Flood fill: finds all tetrahedra of the cavity round a first one.
     fn flood(&mut self, seed: u32, queue: &mut Vec<u32>) -> Result<(), Stop> {
         queue.clear();
         if self.enter(seed) {
@@ -93,7 +94,7 @@ impl Local {
         Ok(())
     }
 
-    /// Finds the cavity of a facet, which has these triangles.
+    /// Finds the cavity of a facet, given by its triangles.
     fn open(&mut self, triangles: &[Face], queue: &mut Vec<u32>) -> Result<(), Stop> {
         for t in triangles {
             if let Some(seed) = self.seed(*t)? {
@@ -103,7 +104,7 @@ impl Local {
         Ok(())
     }
 
-    /// Puts a facet in, which has these triangles.
+    /// Inserts a facet, given by its triangles.
     pub(crate) fn put_in(&mut self, alloc: Global, triangles: &[Face]) -> Result<(), Stop> {
         let Some(t) = triangles.first() else {
             return Ok(())

@@ -1,5 +1,5 @@
-//! Five corners and how the height of one over the other four depends on their heights. They stand
-//! in one order: the three corners of a face, the corner of its row, and the one across.
+//! Circuits of five corners: how the height of one over the other four depends on their heights.
+//! Their order: the three corners of a face, the corner of its tetrahedron, and the one across.
 //!
 //! The coordinates of the grid are at most `2^29` in size, so those of a vector between two of its
 //! points are at most `2^30`. Minors are then at most `2^61`, squares of distances `3 * 2^60`, and
@@ -24,9 +24,9 @@ pub(crate) struct Plane {
     pub(crate) corner: Spot,
 }
 
-/// Which rows a flip takes, or that it is none: two with a common face; those and a third round a
-/// side of the face; those and two more round a side that lies in one plane with the corners on
-/// both sides. Named is the corner of the face opposite the side.
+/// The kind of a flip by the tetrahedra that it replaces, or none: two with a common face; those
+/// and a third round an edge of the face; those and two more round an edge that lies in one plane
+/// with the corners on both sides. The kind names the corner of the face opposite the edge.
 #[derive(Clone, Copy)]
 pub(crate) enum Kind {
     Two,
@@ -35,7 +35,7 @@ pub(crate) enum Kind {
     Never,
 }
 
-/// Which of three are so.
+/// Which of three corners have a property.
 #[derive(Clone, Copy)]
 enum Which {
     No,
@@ -122,16 +122,16 @@ pub(crate) fn circuit_of(
     Some([first, second, third, own, sum.wrapping_neg()])
 }
 
-/// On which side of the plane through `a`, `b` and `c` the point lies, as a volume. It fits 64 bits
-/// also where the point is twice as far away as short vectors lead.
+/// Orient3d of `p` against the plane through `a`, `b` and `c`, as a volume. It fits 64 bits also
+/// where the point is twice as far away as short vectors lead.
 pub(crate) fn volume_over(is_short: bool, a: Spot, b: Spot, c: Spot, p: Spot) -> i128 {
     let (u, v, w) = (from_to(b, a), from_to(c, a), from_to(p, a));
     let minors = (minor(v, w), minor(u, w), minor(u, v));
     volume(is_short, (u.z, v.z, w.z), minors)
 }
 
-/// Whether the straight way from one point to the other passes the triangle or a side of it, if it
-/// passes the plane of the triangle between the two.
+/// Whether the segment between two points meets the closed triangle, where it meets the triangle's
+/// plane between the two.
 pub(crate) fn is_passed(is_short: bool, way: (Spot, Spot), triangle: &[Spot; 3]) -> bool {
     let (from, to) = way;
     let (u, a) = (from_to(to, from), from_to(triangle[0], from));
@@ -146,7 +146,7 @@ pub(crate) fn is_passed(is_short: bool, way: (Spot, Spot), triangle: &[Spot; 3])
     (x <= 0 && y <= 0 && z <= 0) || (x >= 0 && y >= 0 && z >= 0)
 }
 
-/// The corners of a face for which something holds.
+/// The corners of a face for which `holds` is set.
 fn the_one(face: &[u32; 3], holds: (bool, bool, bool)) -> Which {
     match holds {
         (false, false, false) => Which::No,

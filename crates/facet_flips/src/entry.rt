@@ -1,4 +1,4 @@
-//! The whole list with the facets put in.
+//! The whole list with the facets inserted.
 use crate::frame::{Frame, frame_of};
 use crate::local::Local;
 use crate::missing::missing_triangles;
@@ -8,15 +8,15 @@ use geo_laws::{Face, FacetTriangles, Points, Tet, TetList};
 use std::alloc::Global;
 use tet_ports::{Items, NoMemory};
 
-/// A list, and for each row of the old list that facets cross, in order, the place of a triangle
-/// that an edge of the row passes.
+/// A list, and for each tetrahedron of the old list that facets cross, in order, the place of a
+/// triangle that one of its edges passes.
 #[derive(Drop)]
 pub struct FlippedList {
     pub rows: TetList,
     pub crossed_by: Items<usize>,
 }
 
-/// The triangles of a sheet by the corners of the crossed rows.
+/// The triangles of a facet section (sheet) by the corners of the crossed tetrahedra.
 fn faces_of(
     alloc: Global,
     sheets: &Sheets,
@@ -31,7 +31,7 @@ fn faces_of(
     Ok(faces)
 }
 
-/// Puts all facets in.
+/// Inserts all facets.
 fn put_all(alloc: Global, sheets: &Sheets, frame: &Frame, local: &mut Local) -> Result<(), Stop> {
     for i in 0..sheets.all.len() {
         let faces = faces_of(alloc, sheets, &sheets.all.get(i).span, frame)?;
@@ -40,7 +40,7 @@ fn put_all(alloc: Global, sheets: &Sheets, frame: &Frame, local: &mut Local) -> 
     Ok(())
 }
 
-/// The rows that stand in the end, in order.
+/// The tetrahedra that are left in the end, in order.
 fn rows_of(alloc: Global, frame: &Frame, local: &Local) -> Result<TetList, Stop> {
     let mut rows = TetList::new(alloc);
     for slot in local.slots.as_slice() {
@@ -52,7 +52,7 @@ fn rows_of(alloc: Global, frame: &Frame, local: &Local) -> Result<TetList, Stop>
     Ok(rows)
 }
 
-/// Adds the rows from the place on that stand before this one, and answers the place of the next.
+/// Adds the rows from place `from` on that are less than `row`, and answers the place of the next.
 fn add_before(rows: &TetList, from: usize, row: Tet, whole: &mut TetList) -> Result<usize, Stop> {
     for i in from..rows.len() {
         let next = rows.at(i);
@@ -64,7 +64,7 @@ fn add_before(rows: &TetList, from: usize, row: Tet, whole: &mut TetList) -> Res
     Ok(rows.len())
 }
 
-/// The rows of both lists, which are in order, in order: so they need no sorting later.
+/// The merge of two ordered lists.
 fn merged(alloc: Global, kept: &TetList, added: &TetList) -> Result<TetList, Stop> {
     let mut whole = TetList::new(alloc);
     let mut place = 0;
@@ -79,7 +79,7 @@ fn merged(alloc: Global, kept: &TetList, added: &TetList) -> Result<TetList, Sto
     Ok(whole)
 }
 
-/// The rows that come from the crossed ones by flips, in order.
+/// The tetrahedra that the flips make of the crossed ones, in order.
 fn flipped_rows(
     alloc: Global,
     points: &Points,
@@ -92,7 +92,7 @@ fn flipped_rows(
     rows_of(alloc, &frame, &local)
 }
 
-/// The rows that no facet crosses, and those that come from the others by flips.
+/// The tetrahedra that no facet crosses, and those that the flips make of the others.
 fn flipped(
     alloc: Global,
     points: &Points,
@@ -111,11 +111,11 @@ fn flipped(
 }
 
 /// A list with the faces of all facets in place of a Delaunay list, or `None` where the flips do
-/// not come to one. The facets are put in one after another: of those that cross
-/// rows, the points above the plane of the facet are lifted further and further, and the rows flip
-/// as two of them cease to be convex. Nothing is promised of the rows.
-/// Source: Shewchuk, Updating and Constructing Constrained Delaunay and Constrained Regular
-/// Triangulations by Flips (2003).
+/// not reach one. The facets are inserted one after another: for each facet that crosses
+/// tetrahedra, the points above its plane are lifted further and further, and tetrahedra are
+/// flipped as they cease to be locally convex. The result has no contract. Source: Shewchuk,
+/// Updating and Constructing Constrained Delaunay and Constrained Regular Triangulations by Flips
+/// (2003).
 pub fn candidate(
     alloc: Global,
     points: &Points,

@@ -17,9 +17,9 @@ fn beside(face: [u32; 3], apex: u32) -> (u32, u32) {
     }
 }
 
-/// A face between two rows: the rows by their slots, the numbers of the five corners in the order
-/// of the coefficients, and the corner of the face from which one further row is across both, where
-/// there is such a row.
+/// A face between two tetrahedra: the tetrahedra by their slots, the numbers of the five corners in
+/// the order of the coefficients, and the corner of the face opposite which one further tetrahedron
+/// is across both, if there is one.
 #[derive(Clone, Copy)]
 struct Joint {
     row: u32,
@@ -28,16 +28,16 @@ struct Joint {
     apex: Option<u32>,
 }
 
-/// A row that is across the faces of two rows opposite a corner that both have, and the place of
-/// the corner in the first of them.
+/// A tetrahedron across the faces of two others opposite a common corner of both, and the place of
+/// that corner in the first of them.
 #[derive(Clone, Copy)]
 struct Third {
     row: u32,
     place: usize,
 }
 
-/// The third row round a side of the face between two rows, which is opposite the corner at a place
-/// of the first of them.
+/// The third tetrahedron round the edge of the face between two, which is opposite the corner at a
+/// place of the first of them.
 fn third_of(slot: &Slot, beyond: &Slot, place: usize) -> Option<Third> {
     for i in 0..4 {
         if i == place {
@@ -52,13 +52,13 @@ fn third_of(slot: &Slot, beyond: &Slot, place: usize) -> Option<Third> {
     None
 }
 
-/// Whether a number stands between two others.
+/// Whether a number is between two others.
 fn is_between(number: u32, one: u32, other: u32) -> bool {
     (one < number) == (number < other)
 }
 
 impl Local {
-    /// The corner of a row opposite the face that has the other row across.
+    /// The corner of a tetrahedron opposite the face with the other tetrahedron across.
     fn corner_towards(&self, t: u32, other: u32) -> Option<u32> {
         self.slots.get(t as usize)?.corner_towards(other)
     }
@@ -77,8 +77,8 @@ impl Local {
         Some([a, b, c, self.side(d)?, self.side(e)?])
     }
 
-    /// Whether the further rows of a flip are there, of the two rows on both sides of a face. Where
-    /// they are not yet, the flip that makes them looks at this face again.
+    /// Whether the further tetrahedra of a flip are there, beside the two on both sides of a face.
+    /// Where they are missing, the flip that makes them tests this face again.
     fn is_ready(&self, row: u32, across: u32, numbers: &[u32; 5], kind: Kind) -> bool {
         let [_, _, _, own, opposite] = *numbers;
         match kind {
@@ -98,9 +98,10 @@ impl Local {
         }
     }
 
-    /// The face of a row opposite a corner of it; `None` where it is never flipped, or another face
-    /// tells. Three rows round a side turn over together, and of their three faces one tells: that
-    /// between the first and the last of the slots. The side has to pass the facet's plane.
+    /// The face of a tetrahedron opposite a corner; `None` where it is never flipped, or is not the
+    /// one that stands for its flip. Three tetrahedra round an edge, which has to pass the facet's
+    /// plane, are flipped together, and of their three faces that between the first and the last of
+    /// the slots stands for the flip.
     fn joint(&self, row: u32, own: u32) -> Result<Option<Joint>, Stop> {
         let Some(slot) = self.slots.get(row as usize) else {
             return Err(Stop::GivesUp)
@@ -137,7 +138,7 @@ impl Local {
         }))
     }
 
-    /// Whether the further rows of a flip of the face are there.
+    /// Whether the further tetrahedra of a flip of the face are there.
     fn is_open(&self, joint: &Joint, kind: Kind) -> bool {
         match kind {
             Kind::Three { apex } => joint.apex == Some(apex),
@@ -176,7 +177,7 @@ impl Local {
         }))
     }
 
-    /// Lets the face of a row opposite a corner of it wait, where it is to be flipped.
+    /// Queues the face of a tetrahedron opposite a corner, where it is to be flipped.
     pub(crate) fn look(&mut self, row: u32, own: u32) -> Result<(), Stop> {
         let Some(joint) = self.joint(row, own)? else {
             return Ok(())
@@ -193,8 +194,9 @@ impl Local {
         self.is_live(e.row) && self.is_live(e.across) && self.across(e.row, own) == Some(e.across)
     }
 
-    /// Adds a row with the corner `new` in place of the corner `gone`. The new corner lies beyond
-    /// the face opposite the corner `own`, where `mate` is across: so the row stays positive.
+    /// Adds a tetrahedron with the corner `new` in place of the corner `gone`. The new corner lies
+    /// beyond the face opposite the corner `own`, where `mate` is across, so that the tetrahedron
+    /// stays positive.
     fn swing(&mut self, row: u32, mate: u32, own: u32, gone: u32, new: u32) -> Result<u32, Stop> {
         let Some(slot) = self.slots.get(row as usize) else {
             return Err(Stop::GivesUp)
@@ -215,27 +217,27 @@ impl Local {
         Ok(made)
     }
 
-    /// Joins two new rows, each at the face opposite the corner that stands after it.
+    /// Links two new tetrahedra, each at the face opposite the corner given after it.
     fn join(&mut self, one: u32, corner: u32, other: u32, opposite: u32) {
         self.put_across(one, corner, Some(other));
         self.put_across(other, opposite, Some(one));
     }
 
-    /// Puts a new row in the place of an old one, at the face of the new one opposite the corner
-    /// `apex`, which is that of the old one opposite the corner `gone`.
+    /// Links a new tetrahedron to the neighbor of an old one, at the face of the new one opposite
+    /// the corner `apex`, which is that of the old one opposite the corner `gone`.
     fn take_over(&mut self, made: u32, apex: u32, old: u32, gone: u32) {
         let beyond = self.across(old, gone);
         self.put_across(made, apex, beyond);
         self.replace_across(beyond, old, made);
     }
 
-    /// Looks at the faces opposite two corners.
+    /// Tests the faces opposite two corners.
     fn look_twice(&mut self, t: u32, one: u32, other: u32) -> Result<(), Stop> {
         self.look(t, one)?;
         self.look(t, other)
     }
 
-    /// Three rows round the segment between the corners that are not in the face, for two.
+    /// 2-3 flip: three tetrahedra, round the segment between the corners off the face, for two.
     fn flip_two(&mut self, e: &Flip) -> Result<(), Stop> {
         let [a, b, c, own, new] = e.numbers;
         let at_a = self.swing(e.row, e.across, own, a, new)?;
@@ -251,7 +253,7 @@ impl Local {
         self.look_twice(at_c, own, new)
     }
 
-    /// Two rows for three round a side of the face.
+    /// 3-2 flip: two tetrahedra for three round an edge of the face.
     fn flip_three(&mut self, e: &Flip, apex: u32) -> Result<(), Stop> {
         let [a, b, c, own, new] = e.numbers;
         let (p, q) = beside([a, b, c], apex);
@@ -270,8 +272,8 @@ impl Local {
         self.look_twice(at_q, own, new)
     }
 
-    /// Four rows for four round a side that becomes the other diagonal. Between the new rows are
-    /// faces of other circuits than that which is flipped.
+    /// 4-4 flip: four tetrahedra for four round an edge that becomes the other diagonal. Between
+    /// the new tetrahedra are faces of other circuits than the flipped one.
     fn flip_four(&mut self, e: &Flip, apex: u32) -> Result<(), Stop> {
         let [a, b, c, own, new] = e.numbers;
         let (p, q) = beside([a, b, c], apex);
@@ -315,7 +317,7 @@ impl Local {
         }
     }
 
-    /// Flips the faces that wait, until none does.
+    /// Flips the queued faces until none is left.
     pub(crate) fn flip_all(&mut self) -> Result<(), Stop> {
         for _ in 0..usize::MAX {
             let Some(flip) = self.waiting.take() else {

@@ -1,4 +1,4 @@
-//! The corners of the crossed rows by numbers of their own, in the order of the points.
+//! The corners of the crossed tetrahedra by numbers of their own, in the order of the points.
 use crate::circuit::{NEAR, Plane, SHORT, Spot, reach_of};
 use crate::heap::Waiting;
 use crate::local::{Corner, Local, NO_SIDES, corner_at};
@@ -9,7 +9,7 @@ use sign_predicates::GridPoint;
 use std::alloc::Global;
 use tet_ports::{Items, NoMemory};
 
-/// So many flips a crossed row are tried: many times as many as were ever needed.
+/// The most flips that are tried per crossed tetrahedron, many times as many as were ever needed.
 const FLIPS: usize = 64;
 
 /// The point of each corner, and the corner at each point.
@@ -35,7 +35,7 @@ fn mark(marks: &mut [bool], number: u32) {
     }
 }
 
-/// Marks at the corners of the rows, of so many points.
+/// Marks the corners of the tetrahedra, among `points` points.
 fn marks_of(alloc: Global, points: usize, rows: &TetList) -> Result<Vec<bool>, NoMemory> {
     let mut marks = Vec::new(alloc);
     marks.resize(points, false)?;
@@ -49,7 +49,7 @@ fn marks_of(alloc: Global, points: usize, rows: &TetList) -> Result<Vec<bool>, N
     Ok(marks)
 }
 
-/// The corners of the rows, of so many points.
+/// The corners of the tetrahedra, among `points` points.
 pub(crate) fn frame_of(alloc: Global, points: usize, rows: &TetList) -> Result<Frame, Stop> {
     let marks = marks_of(alloc, points, rows)?;
     let mut names = Items::new(alloc);
@@ -89,7 +89,7 @@ impl Frame {
         })
     }
 
-    /// The row of four points by its corners.
+    /// The tetrahedron of four points by its corners.
     fn local(&self, row: Tet) -> Option<Tet> {
         Some(Tet {
             a: self.corner(row.a)?,
@@ -129,7 +129,7 @@ impl Frame {
         Ok(local)
     }
 
-    /// The rows in slots, with no facet put in yet.
+    /// The tetrahedra in slots, with no facet inserted yet.
     pub(crate) fn slots_of(
         &self,
         alloc: Global,
@@ -208,7 +208,7 @@ fn in_32_bits(place: Option<usize>) -> Option<u32> {
     u32::try_from(place?).ok()
 }
 
-/// What is across the faces of a row, by slots.
+/// The neighbors of a tetrahedron, by slots.
 fn across_of(across: Across) -> [Option<u32>; 4] {
     let Across { n0, n1, n2, n3 } = across;
     [
@@ -220,7 +220,7 @@ fn across_of(across: Across) -> [Option<u32>; 4] {
 }
 
 impl Local {
-    /// Adds all rows, each with what is across its faces.
+    /// Adds all tetrahedra, each with its neighbors.
     fn fill(&mut self, alloc: Global, rows: &TetList) -> Result<(), Stop> {
         let pairs = pair_faces(alloc, rows)?;
         for i in 0..rows.len().min(pairs.len()) {

@@ -1,5 +1,6 @@
-//! A generator of candidate lists where facets are tangled: the rows that facets cross are flipped,
-//! facet by facet. It promises safety alone: what comes out has to be checked elsewhere.
+//! A generator of candidate lists by flips, where two facets cross one tetrahedron: the crossed
+//! tetrahedra are flipped, facet by facet. Nothing but safety is proved: a candidate has to be
+//! checked elsewhere.
 #![tactic(auto)]
 
 mod cavity;

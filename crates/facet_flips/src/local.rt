@@ -1,12 +1,12 @@
-//! The crossed rows while facets are put in: slots with what is across the faces of each row, and
-//! lists of the rows at each corner. Corners have numbers of their own, in the order of the points.
+//! The crossed tetrahedra while facets are inserted: slots with the neighbors of each, and lists of
+//! the tetrahedra at each corner. Corners have numbers of their own, in the order of the points.
 ghost use Rattle.std.specs.Prelude.{◌<◌, IfSome, IfOk};
 
 use crate::circuit::{Plane, Spot, side_of};
 use crate::heap::Waiting;
 use crate::stop::{Stop, or_stop};
 
-/// Which corners of a row lie above and below the plane of a facet: a bit for each place.
+/// The corners of a tetrahedron above and below the plane of a facet: a bit for each place.
 #[derive(Clone, Copy)]
 pub(crate) struct Sides {
     above: u8,
@@ -33,9 +33,9 @@ pub(crate) fn bit_at(place: usize) -> u8 {
     }
 }
 
-/// A row: its corners, what is across the face opposite each, the next slot in the list of each
-/// corner, the last facet whose cavity it was found in, the sides of its corners then, and whether
-/// it still stands.
+/// A tetrahedron: its corners, the neighbor across the face opposite each, the next slot in the
+/// list of each corner, the last facet in whose cavity it was found, the sides of its corners then,
+/// and whether it is still there.
 #[derive(Clone, Copy)]
 pub(crate) struct Slot {
     pub(crate) corners: [u32; 4],
@@ -47,13 +47,13 @@ pub(crate) struct Slot {
 }
 
 impl Slot {
-    /// What is across the face opposite a corner.
+    /// The neighbor across the face opposite a corner.
     pub(crate) fn across_from(&self, corner: u32) -> Option<u32> {
         let i = place_of(&self.corners, corner)?;
         self.across[i]
     }
 
-    /// The corner opposite the face that has the other row across.
+    /// The corner opposite the face with the other tetrahedron across.
     pub(crate) fn corner_towards(&self, other: u32) -> Option<u32> {
         for i in 0..4 {
             if self.across[i] == Some(other) {
@@ -84,9 +84,9 @@ pub(crate) fn corner_at(spot: Spot) -> Corner {
     }
 }
 
-/// The rows, their corners, the plane of the facet that is put in and its number, from 1, the faces
-/// that wait to be flipped, how many flips are left, and whether the vectors between corners are
-/// short, and whether they are near.
+/// The tetrahedra, their corners, the plane of the facet that is inserted and its number, from 1,
+/// the queued flips, how many flips are left, and whether the vectors between corners are short,
+/// and whether they are near.
 #[derive(Drop)]
 pub(crate) struct Local {
     pub(crate) slots: Vec<Slot>,
@@ -99,7 +99,7 @@ pub(crate) struct Local {
     pub(crate) is_near: bool,
 }
 
-/// The place of a corner in a row.
+/// The place of a corner in a tetrahedron, from 0.
 pub(crate) fn place_of(corners: &[u32; 4], corner: u32) -> Option<usize>
     ensures { IfSome result (λ i. i < 4) }
 {
@@ -111,7 +111,7 @@ pub(crate) fn place_of(corners: &[u32; 4], corner: u32) -> Option<usize>
     None
 }
 
-/// The same, or the end of the flips.
+/// As `place_of`; the flips end where the corner is missing.
 pub(crate) fn place_or_stop(corners: &[u32; 4], corner: u32) -> Result<usize, Stop>
     ensures { IfOk result (λ i. i < 4) }
 {
@@ -121,7 +121,8 @@ pub(crate) fn place_or_stop(corners: &[u32; 4], corner: u32) -> Result<usize, St
     }
 }
 
-/// The corners of the face opposite a corner of a row, so that the corner is on its positive side.
+/// The corners of the face opposite a corner of a tetrahedron, so that the corner is on its
+/// positive side.
 pub(crate) fn face_opposite(corners: &[u32; 4], i: usize) -> [u32; 3] {
     let [a, b, c, d] = *corners;
     match i {
@@ -168,7 +169,7 @@ impl Local {
         }
     }
 
-    /// What is across the face of a row opposite a corner of it.
+    /// The neighbor of a tetrahedron across the face opposite a corner.
     pub(crate) fn across(&self, t: u32, corner: u32) -> Option<u32> {
         self.slots.get(t as usize)?.across_from(corner)
     }
@@ -187,7 +188,7 @@ impl Local {
         sides
     }
 
-    /// The sides of the corners of a row, which are noted where it was found in the cavity.
+    /// The sides of the corners of a tetrahedron, which are noted where it was found in the cavity.
     pub(crate) fn sides_of(&self, slot: &Slot) -> Sides {
         if slot.stamp == self.stamp {
             slot.sides
@@ -196,7 +197,7 @@ impl Local {
         }
     }
 
-    /// The sides of the corners of the row with another corner at a place.
+    /// The sides of the corners of a tetrahedron with another corner at a place.
     pub(crate) fn sides_with(&self, slot: &Slot, place: usize, corner: u32) -> Sides {
         let bit = bit_at(place);
         let Sides { above, below } = self.sides_of(slot);
@@ -207,7 +208,7 @@ impl Local {
         }
     }
 
-    /// Adds a row, and enters it in the lists of its corners.
+    /// Adds a tetrahedron, and enters it in the lists of its corners.
     pub(crate) fn add(
         &mut self,
         corners: [u32; 4],
@@ -234,7 +235,7 @@ impl Local {
         Ok(t)
     }
 
-    /// Puts what is across the face of a row opposite a corner of it.
+    /// Sets the neighbor of a tetrahedron across the face opposite a corner.
     pub(crate) fn put_across(&mut self, t: u32, corner: u32, other: Option<u32>) {
         let place = t as usize;
         if place < self.slots.len() {
@@ -245,7 +246,7 @@ impl Local {
         }
     }
 
-    /// Puts a new row in the place of an old one across a face of a row, if there is this row.
+    /// Replaces an old neighbor of a tetrahedron, if there is this tetrahedron, by a new one.
     pub(crate) fn replace_across(&mut self, t: Option<u32>, old: u32, new: u32) {
         let Some(t) = t else { return };
         let place = t as usize;
@@ -259,7 +260,7 @@ impl Local {
         }
     }
 
-    /// Whether the row still stands.
+    /// Whether the tetrahedron is still there.
     pub(crate) fn is_live(&self, t: u32) -> bool {
         match self.slots.get(t as usize) {
             Some(slot) => slot.is_live,
@@ -267,7 +268,7 @@ impl Local {
         }
     }
 
-    /// Takes a row away.
+    /// Removes a tetrahedron.
     pub(crate) fn remove(&mut self, t: u32) {
         let place = t as usize;
         if place < self.slots.len() {
@@ -275,8 +276,8 @@ impl Local {
         }
     }
 
-    /// Notes that the row was found in the cavity of the facet, and the sides of its corners;
-    /// whether it was not before.
+    /// Notes that the tetrahedron is in the cavity of the facet, with the sides of its corners, and
+    /// answers whether this is new.
     pub(crate) fn enter(&mut self, t: u32) -> bool {
         let place = t as usize;
         if place >= self.slots.len() || self.slots[place].stamp == self.stamp {

@@ -11,7 +11,8 @@ pub(crate) struct Missing {
     pub(crate) places: Items<usize>,
 }
 
-/// Whether some triangle begins at a corner of the row. Else none is a face of it.
+/// Whether some triangle has its first corner at a corner of the tetrahedron; if not, none is one
+/// of its faces.
 fn begins_at(table: &FaceTable, row: Tet) -> bool {
     table.has_first(row.a)
         || table.has_first(row.b)
@@ -19,7 +20,7 @@ fn begins_at(table: &FaceTable, row: Tet) -> bool {
         || table.has_first(row.d)
 }
 
-/// Adds the faces of the row that are triangles.
+/// Adds the faces of the tetrahedron that are facet triangles.
 fn add_faces(table: &FaceTable, row: Tet, listed: &mut Items<Face>) -> Result<(), NoMemory> {
     for face in row_faces(row) {
         if table.has(face) {
@@ -29,7 +30,7 @@ fn add_faces(table: &FaceTable, row: Tet, listed: &mut Items<Face>) -> Result<()
     Ok(())
 }
 
-/// The faces of the list that are triangles, in order.
+/// The faces of the list that are facet triangles, in order.
 fn listed_faces(
     alloc: Global,
     list: &TetList,

@@ -1,6 +1,7 @@
-//! The rows that facets cross, found by one sheet a facet: its missing triangles and their plane.
-//! All segments of the facets are sides of rows, so a facet takes the whole section of its plane
-//! with a row, or nothing of it. So one point of the section tells.
+//! The tetrahedra that facets cross, found by facet sections (`Sheet`): the missing triangles of a
+//! facet and their plane. All segments of the facets are edges of tetrahedra, so that a facet has
+//! the whole section of its plane with a tetrahedron, or nothing of it, and one point of the
+//! section decides.
 ghost use Rattle.box_tree.specs.Tree.{IsTree};
 
 use crate::circuit::{Plane, SHORT, Spot, is_passed, plane_of, side_of};
@@ -27,7 +28,7 @@ pub(crate) struct Span {
     bounds: Bounds,
 }
 
-/// A sheet: such triangles with the tree of their boxes.
+/// A facet section: the missing triangles of a span with their AABB tree.
 #[derive(Drop)]
 pub(crate) struct Sheet {
     pub(crate) span: Span,
@@ -35,15 +36,16 @@ pub(crate) struct Sheet {
     ghost tree_is: { IsTree tree },
 }
 
-/// All points by short numbers, if there are such: over the common power of two, from the first on.
+/// Point coordinates relative to the first, divided by their common power of two, and whether all
+/// of them are short.
 #[derive(Drop)]
 struct Spots {
     all: Vec<Spot>,
     are_short: bool,
 }
 
-/// Missing triangles, the place of each among all, and their sheets, with the tree of the boxes of
-/// the sheets.
+/// Missing triangles, the place of each among all, and their facet sections, with the AABB tree of
+/// these.
 #[derive(Drop)]
 pub(crate) struct Sheets {
     spots: Spots,
@@ -54,8 +56,8 @@ pub(crate) struct Sheets {
     ghost tree_is: { IsTree tree },
 }
 
-/// The rows that no facet crosses, and those that are crossed, with the place among all triangles
-/// of one that an edge of the row passes.
+/// The tetrahedra that no facet crosses, and the crossed ones, each with the place among all
+/// triangles of one that its edge passes.
 #[derive(Drop)]
 pub(crate) struct Parted {
     pub(crate) kept: TetList,
@@ -63,7 +65,7 @@ pub(crate) struct Parted {
     pub(crate) crossed_by: Items<usize>,
 }
 
-/// The corners of a row as points and by short numbers, and the box round them.
+/// The corners of a tetrahedron as points and as relative coordinates, and the box round them.
 #[derive(Clone, Copy)]
 struct Body {
     corners: [GridPoint; 4],
@@ -71,7 +73,7 @@ struct Body {
     bounds: Bounds,
 }
 
-/// A way through a plane, and a box round the point where it passes it.
+/// A segment through a plane, and a box round the point where it passes the plane.
 #[derive(Clone, Copy)]
 struct Leg {
     from: Spot,
@@ -79,8 +81,8 @@ struct Leg {
     bounds: Bounds,
 }
 
-/// Rows that follow one another in their list and have the same first corner, before the place
-/// `past`, and whether the box round them meets that of no sheet.
+/// Consecutive tetrahedra of a list with the same first corner, before the place `past`, and
+/// whether the box round them meets that of no facet section.
 #[derive(Clone, Copy)]
 struct Star {
     past: usize,
@@ -94,7 +96,7 @@ struct Found {
     next: usize,
 }
 
-/// The first body from a node on whose box meets this one.
+/// The first body, from a node on, whose box meets `bounds`.
 fn next_of(tree: &Tree, bounds: &Bounds, from: usize) -> Option<Found>
     requires { IsTree tree.now }
 {
@@ -122,7 +124,7 @@ fn triangle_bounds(points: &Points, t: FacetTriangle) -> Option<Bounds> {
     Some(joined(one, point_bounds(point_at(points, t.c)?)))
 }
 
-/// The corners of a row.
+/// The corners of a tetrahedron.
 fn row_points(points: &Points, row: Tet) -> Option<[GridPoint; 4]> {
     let (a, b) = (point_at(points, row.a)?, point_at(points, row.b)?);
     Some([a, b, point_at(points, row.c)?, point_at(points, row.d)?])
@@ -136,7 +138,7 @@ fn bounds_of(corners: &[GridPoint; 4]) -> Bounds {
     joined(one, two)
 }
 
-/// All points by short numbers, if there are such.
+/// Point coordinates relative to the first, divided by their common power of two.
 fn spots_of(alloc: Global, points: &Points) -> Result<Spots, NoMemory> {
     let mut all = Vec::with_capacity(alloc, points.len())?;
     for p in points.as_slice() {
@@ -156,7 +158,7 @@ impl Spots {
         Some([self.at(t.a)?, self.at(t.b)?, self.at(t.c)?])
     }
 
-    /// The corners of a row.
+    /// The corners of a tetrahedron, as relative coordinates.
     fn row(&self, row: Tet) -> Option<[Spot; 4]> {
         let (a, b) = (self.at(row.a)?, self.at(row.b)?);
         Some([a, b, self.at(row.c)?, self.at(row.d)?])
@@ -173,7 +175,7 @@ impl Spots {
     }
 }
 
-/// The place after the rows from a place on that have the same first corner, and the box round
+/// The place after the tetrahedra from `from` on that have the same first corner, and the box round
 /// them.
 fn star_bounds(points: &Points, list: &TetList, from: usize, row: Tet) -> Option<(usize, Bounds)> {
     let mut bounds = bounds_of(&row_points(points, row)?);
@@ -199,7 +201,7 @@ fn span_of(points: &Points, spots: &Spots, place: usize, t: FacetTriangle) -> Op
     })
 }
 
-/// The span with the one of a further triangle, where it is one of this facet and plane.
+/// The span with a further triangle, where that is of the span's facet and plane.
 fn widened(spots: &Spots, span: Span, next: Span, t: FacetTriangle) -> Option<Span> {
     if span.facet != next.facet || !spots.is_flat(&span.plane, &spots.triangle(t)?) {
         return None;
@@ -249,7 +251,7 @@ fn boxes_of_spans(alloc: Global, all: &Items<Span>) -> Result<Items<Boxed>, NoMe
     Ok(boxes)
 }
 
-/// A sheet with the tree of the boxes of its triangles.
+/// A facet section with the AABB tree of its triangles.
 fn sheet_of(
     alloc: Global,
     points: &Points,
@@ -265,7 +267,7 @@ fn sheet_of(
     Ok(Sheet { span, tree })
 }
 
-/// The sheets of missing triangles.
+/// The facet sections of missing triangles.
 pub(crate) fn sheets_of(alloc: Global, points: &Points, missing: Missing) -> Result<Sheets, Stop> {
     let Missing { triangles, places } = missing;
     let spots = spots_of(alloc, points)?;
@@ -284,11 +286,11 @@ pub(crate) fn sheets_of(alloc: Global, points: &Points, missing: Missing) -> Res
     })
 }
 
-/// The bits of a share of a way.
+/// The bits of a share of a segment.
 const SHARE_BITS: u32 = 20;
 
-/// The share of the way to the plane from a point so far above it to one so far below, in units of
-/// so many bits, up to two units.
+/// The share of a segment up to a plane, from its end at height `above` to its end at height
+/// `below`, in units of 2^-`SHARE_BITS`, up to two units.
 fn share_of(above: i128, below: i128) -> Option<i64> {
     let whole = above.wrapping_add(below);
     let taken = 96u32.saturating_sub(whole.leading_zeros());
@@ -297,7 +299,7 @@ fn share_of(above: i128, below: i128) -> Option<i64> {
     part.wrapping_shl(SHARE_BITS).checked_div(all)
 }
 
-/// An interval round the number that divides the way from one number to the other so, with room for
+/// An interval round the number that divides the way from `p` to `q` in this share, with room for
 /// rounding.
 fn interval_between(p: i32, q: i32, share: i64) -> Option<Interval> {
     let way = i64::from(q).wrapping_sub(i64::from(p));
@@ -309,7 +311,7 @@ fn interval_between(p: i32, q: i32, share: i64) -> Option<Interval> {
     })
 }
 
-/// A way through the plane between two corners of the row; `None` where it has none.
+/// A segment through the plane between two corners of the tetrahedron; `None` where there is none.
 fn leg_of(is_short: bool, plane: &Plane, body: &Body) -> Option<Leg> {
     let mut over = None;
     let mut under = None;
@@ -336,7 +338,7 @@ fn leg_of(is_short: bool, plane: &Plane, body: &Body) -> Option<Leg> {
 }
 
 impl Sheets {
-    /// Whether the leg passes the triangle at this place, whichever way that is turned.
+    /// Whether the leg passes the triangle at this place, in either orientation.
     fn passes(&self, leg: &Leg, place: usize) -> bool {
         if self.missing.len() <= place {
             return false;
@@ -347,7 +349,8 @@ impl Sheets {
         }
     }
 
-    /// The place of a triangle of the sheet at this place, where the sheet crosses the row.
+    /// The place of a triangle of the facet section at `place` that the tetrahedron's edge passes,
+    /// where the section crosses the tetrahedron.
     fn crossing(&self, body: &Body, place: usize) -> Option<usize> {
         if self.all.len() <= place {
             return None;
@@ -368,8 +371,8 @@ impl Sheets {
         None
     }
 
-    /// The place of a triangle of some sheet that crosses the row. The sheet at the place `last`,
-    /// which often crosses the next row too, is looked at first.
+    /// The place of a triangle of some facet section that crosses the tetrahedron. The section at
+    /// the place `last` is tested first, since it often crosses the next tetrahedron too.
     fn cross(&self, body: &Body, last: &mut usize) -> Option<usize> {
         if let Some(place) = self.crossing(body, *last) {
             return Some(place);
@@ -388,8 +391,8 @@ impl Sheets {
         None
     }
 
-    /// The star in which the row at a place stands, where that is the first of it. Most stars are
-    /// far from all sheets, and so one look at the tree serves for several rows.
+    /// The star of the tetrahedron at place `i`, which is its first one. Most stars are far from
+    /// all facet sections, so that one search in the tree serves for several tetrahedra.
     fn star_from(&self, points: &Points, list: &TetList, i: usize, row: Tet) -> Option<Star> {
         let (past, bounds) = star_bounds(points, list, i, row)?;
         Some(Star {
@@ -398,7 +401,7 @@ impl Sheets {
         })
     }
 
-    /// The place of a triangle that crosses the row, by the star in which it stands.
+    /// The place of a triangle that crosses the tetrahedron, by the star of the tetrahedron.
     fn cross_in(
         &self,
         points: &Points,
@@ -418,7 +421,7 @@ impl Sheets {
         Ok(self.cross(&body, last))
     }
 
-    /// The rows that facets cross, and the others.
+    /// Parts the tetrahedra into those that facets cross, and the others.
     pub(crate) fn part(
         &self,
         alloc: Global,

@@ -1,8 +1,8 @@
-//! Why no list comes out.
+//! Why the flips give no list.
 use std::alloc::{AllocError, AllocFailed};
 use tet_ports::NoMemory;
 
-/// The rows are not such as the flips need, or there is no memory.
+/// The tetrahedra are not as the flips need them, or there is no memory.
 #[derive(Drop)]
 pub(crate) enum Stop {
     GivesUp,
@@ -27,7 +27,7 @@ impl<T: Drop> From<AllocFailed<T>> for Stop {
     }
 }
 
-/// What is there, or the end of the flips.
+/// The found value; the flips end where there is none.
 pub(crate) fn or_stop<T: Drop>(found: Option<T>) -> Result<T, Stop> {
     found.ok_or(Stop::GivesUp)
 }

@@ -75,7 +75,7 @@ CommonSideLaw = (ps : List Point) (f : Triangle) (axis : Axis) (p q : List ℕ) 
     → MeetsOnly ps x y s q
     → (is_round ps axis p x ≡ true) × (is_round ps axis p y ≡ false) × (is_round ps axis q x ≡ false) × (is_round ps axis q y ≡ true)))
 
--- so where a facet without hole points has both polygons, both ends of the leg lie within it
+-- where a facet without hole points has both polygons of an inner side, both ends of the leg lie within the facet
 abbrev pub InnerSideLaw : Type 0
 InnerSideLaw = (ps : List Point) (facet : Facet) (f : Triangle) (axis : Axis) (p q : List ℕ) (s : Piece) → dropped axis (normal f) ≢ pos 0
     → facet.holes ≡ [] → Contains (areas facet) p → Contains (areas facet) q

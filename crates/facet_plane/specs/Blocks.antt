@@ -34,7 +34,7 @@ pub record IsBlock (holds : ℕ → Extent → Type 0) (count i : ℕ) (b : Bloc
   pub there : b.past ≤ count
   pub round : HoldsBetween holds i b.past b.extent
 
--- the blocks at the first places, so many, of a list
+-- the blocks at the first `done` places of a list
 pub record AreBlocksTo (holds : ℕ → Extent → Type 0) (count done : ℕ) (blocks : List Block) : Type 0 where
   pub counted : length blocks ≡ done
   pub each : (i : ℕ) (d : Block) → i < done → IsBlock holds count i (slice_index_or blocks i d)

@@ -46,7 +46,7 @@ IsChain p (s ∷ ss) e = (s.from ≡ p) × IsChain s.to ss e
 abbrev pub HoldsSide : List Side → ℕ → Extent → Type 0
 HoldsSide ss j e = (d : Side) → IsHeld e (slice_index_or ss j d).from × IsHeld e (slice_index_or ss j d).to
 
--- the boxes are those of the first sides, so many
+-- the boxes are those of the first `done` sides
 pub record AreBoxesTo (ss : List Side) (done : ℕ) (boxes : List Extent) : Type 0 where
   pub counted : length boxes ≡ done
   pub each : (j : ℕ) (d : Extent) → j < done → HoldsSide ss j (slice_index_or boxes j d)

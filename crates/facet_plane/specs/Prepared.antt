@@ -51,7 +51,7 @@ is_none (x ∷ xs) = false
 abbrev pub HoldsOutline : List Outline → ℕ → Extent → Type 0
 HoldsOutline os q e = (d : Outline) → HoldsSides (slice_index_or os q d).sides e
 
--- the boxes are those of the first outlines, so many
+-- the boxes are those of the first `done` outlines
 pub record AreExtentsTo (os : List Outline) (done : ℕ) (boxes : List Extent) : Type 0 where
   pub counted : length boxes ≡ done
   pub each : (q : ℕ) (d : Extent) → q < done → HoldsOutline os q (slice_index_or boxes q d)

@@ -1,4 +1,5 @@
-//! Boxes round runs of a list, by which a walk along the list passes over what it need not see.
+//! Boxes round runs of a list, by which a walk along the list skips the items that it need not
+//! test.
 ghost use Rattle.std.specs.Prelude.{◌<◌, ◌≤◌, ◌≤ℤ◌, pos, negsuc, length, IfOk};
 ghost use Rattle.facet_plane.specs.Blocks.{IsBelow, IsHeld, IsSubbox};
 ghost use Rattle.facet_plane.specs.Blocks.{HoldsBox, HoldsBetween, AreBlocks};

@@ -29,7 +29,7 @@ pub(crate) struct Side {
     pub(crate) to: GridPoint,
 }
 
-/// Whether a point is looked for on sides, or over them in two coordinates.
+/// Whether a point is sought on sides, or over them in two coordinates.
 #[derive(Clone, Copy)]
 pub(crate) enum Reach {
     On,
@@ -43,7 +43,7 @@ enum Crossing {
     Never,
     /// It crosses those that have one end below and the other not.
     Between,
-    /// The box does not tell.
+    /// The box does not decide.
     Unknown,
 }
 

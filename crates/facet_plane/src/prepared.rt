@@ -1,5 +1,5 @@
-//! The region of one facet, prepared for many points: they are found in it without looking at all
-//! sides.
+//! The region of one facet, prepared for many points: a point is located in it without a test of
+//! all sides.
 ghost use Rattle.std.specs.Prelude.{◌≡◌, ◌<◌, ◌≤◌, ◌&&◌, All, IfOk, OnOk, Some, length, nat_eq};
 ghost use Rattle.std.specs.List.{list_any};
 ghost use lib.Pointwise.{pointwise};

@@ -1,4 +1,4 @@
-//! The facet triangles that are no faces of the list.
+//! The missing subfaces: the facet triangles that are no faces of the list.
 ghost use Rattle.std.specs.Prelude.{◌≡◌, ◌↔◌, ◌⊎◌, ◌<◌, ℕ, true, false, List, length, Contains, IfOk};
 ghost use Rattle.geo_laws.specs.Faces.{row_faces, faces_of_rows};
 ghost use Rattle.geo_laws.specs.declared.tetrahedra.Tet.{Tet as Row};
@@ -11,7 +11,8 @@ use incidence::FaceTable;
 use std::alloc::Global;
 use tet_ports::NoMemory;
 
-/// Whether some triangle begins at a corner of the tetrahedron. Else none is a face of it.
+/// Whether some triangle has its first corner at a corner of the tetrahedron; if not, none is one
+/// of its faces.
 fn begins_at(table: &FaceTable, tet: Tet) -> bool
     ensures { result ≡ false → (k : ℕ) → k < length table.now
         → ¬ Contains (row_faces tet) (face_at table.now k) }
@@ -28,8 +29,8 @@ fn begins_at(table: &FaceTable, tet: Tet) -> bool
     table.has_first(tet.d)
 }
 
-/// Marks the triangles that are faces of the tetrahedron, by their places. Most tetrahedra of a
-/// cloud have no corner at which one begins.
+/// Marks the triangles that are faces of the tetrahedron, by their places. Most tetrahedra have no
+/// corner that is the first corner of a triangle.
 fn mark_faces(table: &FaceTable, tet: Tet, marks: &mut [bool])
     requires { length marks.old ≡ length table.now }
     ensures long { length marks.new ≡ length marks.old }
@@ -74,7 +75,7 @@ pub fn listed_triangles(
     Ok(marks)
 }
 
-/// The triangles that have no mark. Where those of a list are marked, these are no faces of it.
+/// The triangles without a mark: the missing ones, where the faces of a list are marked.
 fn unmarked(
     alloc: Global,
     triangles: &FacetTriangles,

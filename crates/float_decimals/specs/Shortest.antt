@@ -7,7 +7,7 @@ use Rattle.float_decimals.specs.declared.steps.Steps.{Steps}
 use Rattle.float_decimals.specs.Floats.{has_sign_bit, is_finite, float_exponent, step_count, float_steps}
 use Rattle.float_decimals.specs.Nearest.{at_places}
 
--- the whole number at the least of so many numbers of places, from this one on, and these places
+-- the whole number at the least of the next *n* numbers of places, from `places` on, and that number of places
 unfoldable pub least_places : ℕ → ℕ → Steps → Option (ℕ × ℕ)
 least_places zero places s = None
 least_places (suc more) places s = option_or (option_map (λ n. (n, places)) (at_places s places)) (least_places more (places + 1) s)
@@ -16,7 +16,7 @@ least_places (suc more) places s = option_or (option_map (λ n. (n, places)) (at
 abbrev pub shortest : Steps → Option (ℕ × ℕ)
 shortest s = least_places (s.halvings + 1) 0 s
 
--- of the float with these bits; None where it is infinite or no number, or 10^36 or more
+-- the shortest decimal of the float with these bits; None where the float is infinite or no number, or 10^36 or more
 abbrev pub float_decimal : ℕ → Option Scaled
 float_decimal bits =
     if not (is_finite bits) then None else

@@ -47,12 +47,13 @@ fn size_in_parts(bits: u32) -> Option<(u128, u32)>
     shortest(&steps)
 }
 
-/// The decimal of the binary float of 32 bits with these bits; None where it is infinite or no
-/// number, or 10^36 or more in size.
+/// The shortest decimal of the binary float of 32 bits with the given bits; None where the float is
+/// infinite or no number, or 10^36 or more in size.
 ///
-/// Of the decimals that read back as the float, rounded to the nearest float and on a middle to the
-/// even one, it is that with the fewest digits behind the point, and of these the nearest; of two
-/// that are equally near, the even one. A float that is whole is itself.
+/// It is the decimal with the fewest digits behind the point that reads back as the float, where
+/// reading rounds to the nearest float, and on a middle to the even one. Of several such decimals
+/// it is the nearest, and of two that are equally near the even one. A float that is whole is
+/// itself.
 pub fn float_decimal(bits: u32) -> Option<Decimal>
     ensures { result ≡ float_decimal bits }
 {

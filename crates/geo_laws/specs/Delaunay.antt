@@ -36,7 +36,7 @@ corners ps t = record { a = point ps t.a; b = point ps t.b; c = point ps t.c; d 
 abbrev pub numbers : Tet → List ℕ
 numbers t = t.a ∷ t.b ∷ t.c ∷ t.d ∷ []
 
--- the same as the sphere test takes them
+-- the corners' numbers as the insphere test takes them
 abbrev pub as_numbers : Tet → Numbers
 as_numbers t = record { a = t.a; b = t.b; c = t.c; d = t.d }
 
@@ -64,8 +64,8 @@ numbers_below n = range_with_len 0 n
 abbrev pub all_numbers : List Point → List ℕ
 all_numbers ps = numbers_below (length ps)
 
--- Of a positive row: it is the least even arrangement of its corners, `a b c d` or `a b d c` for rising a, b, c, d. The two least numbers
--- stand first, and which of the other two comes next decides the orientation
+-- A positive row is the least even arrangement of its corners, `a b c d` or `a b d c` for rising a, b, c, d: the two
+-- least numbers come first, in order, and the orientation decides which of the other two comes next
 pub record IsArranged (t : Tet) : Type 0 where
   pub first : t.a < t.b
   pub second : t.b < t.c

@@ -120,7 +120,7 @@ is_round ps axis polygon x =
 abbrev pub same : Bool → Bool → Bool
 same a b = if a then b else not b
 
--- the same polygons of the facet are round both
+-- the polygons of the facet that are round the one point are those round the other
 abbrev pub is_round_alike : List Point → Axis → Facet → RationalPoint → RationalPoint → Bool
 is_round_alike ps axis f x y = list_all (λ p. same (is_round ps axis p x) (is_round ps axis p y)) (areas f)
 

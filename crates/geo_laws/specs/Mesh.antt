@@ -22,7 +22,7 @@ PairwiseProperlyMet ps simplices = AllPairs (ProperlyMet ps) simplices
 
 -- ---- meshes
 
--- of two rows with a common face: the other row's fourth corner is outside of each
+-- for two tetrahedra with a common face: the fourth corner of s is outside of the circumsphere of t
 abbrev pub IsOutsideOf : List Point → Tet → Tet → Type 0
 IsOutsideOf ps t s = All (λ i. IsTrue (is_outside_of ps t i)) (filter (λ i. not (has_number (numbers t) i)) (numbers s))
 

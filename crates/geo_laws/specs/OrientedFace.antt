@@ -15,7 +15,7 @@ pub record Face : Type 0 where
 abbrev pub triangle : List Point → Face → Triangle
 triangle ps f = record { a = point ps f.a; b = point ps f.b; c = point ps f.c }
 
--- the same face, with its sides exchanged
+-- the face with its positive and negative sides exchanged
 abbrev pub reversed : Face → Face
 reversed f = record { a = f.a; b = f.c; c = f.b }
 

@@ -1,4 +1,4 @@
--- Free paths: straight legs that meet no facet and no side of a tetrahedron; and which points are out of a mesh.
+-- Free paths: straight legs that meet no facet and no edge of a tetrahedron; and which points are out of a mesh.
 use Rattle.std.specs.Prelude.{◌≡◌, ◌⊎◌, ℕ, ◌+◌, ◌<◌, pos, ◌+ℤ◌, ◌*ℤ◌, ◌<ℤ◌, List, [], ◌∷◌, All, Any}
 use Rattle.sign_predicates.specs.Point.{Point, RationalPoint, EachRational, SomeRational}
 use Rattle.geo_laws.specs.Hull.{IsBeyondHull, OffPlanes}

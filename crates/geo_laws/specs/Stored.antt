@@ -12,7 +12,7 @@ polygon_at corners s = record { corners = slice_range corners s.first s.past; li
 abbrev pub polygons_at : List ℕ → List Span → List Polygon
 polygons_at corners spans = map (polygon_at corners) spans
 
--- the span lies within so many corners
+-- the span lies within `count` corners
 pub record IsWithin (count : ℕ) (s : Span) : Type 0 where
   pub order : s.first ≤ s.past
   pub end : s.past ≤ count

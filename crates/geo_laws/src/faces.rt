@@ -31,7 +31,7 @@ pub fn face_of(i: u32, j: u32, k: u32) -> Face
     }
 }
 
-/// Whether one face stands before another: by their first numbers, then by the next ones.
+/// Whether one face comes before another: by their first numbers, then by the next ones.
 #[inline]
 pub fn stands_before(f: Face, g: Face) -> bool
     ensures { (result ≡ true) ↔ FaceBefore f g }
@@ -49,7 +49,7 @@ pub fn side_of(i: u32, j: u32) -> Side
     }
 }
 
-/// The faces of a row: opposite its first corner, and so on.
+/// The faces of a tetrahedron: opposite its first corner, its second, its third and its fourth.
 pub fn row_faces(row: Tet) -> [Face; 4]
     ensures { result ≡ row_faces row }
 {

@@ -1,4 +1,4 @@
-//! The laws of the Delaunay list: each is the contract of a function that does nothing.
+//! The laws of the Delaunay list.
 ghost use Rattle.geo_laws.specs.Laws.{ThreeTermLaw, LiftLaw, ResidualLaw, RadicalLaw, NudgeLaw, HullLaw, LeastHeightLaw, CoverLaw, DelaunayListLaw};
 
 /// The three-term relation: for points with a common edge from `a` to `b`,
@@ -57,10 +57,10 @@ pub fn law_least_height()
     ensures { LeastHeightLaw }
 {}
 
-/// Of a list of exactly the Delaunay tetrahedra, each rational point off all face planes of the
-/// list lies strictly inside exactly one where it is in the hull, and in none where it is beyond
-/// the hull. Any two of the list are properly met.
-/// Source: the Delaunay triangulation is the projection of the lower hull of the lifted points.
+/// The Delaunay tetrahedra cover the hull once: a rational point off all their face planes lies
+/// strictly inside exactly one of them where it is in the hull, and in none where it is beyond the
+/// hull. Any two of them are properly met. Source: the Delaunay triangulation is the projection of
+/// the lower hull of the lifted points.
 pub fn law_cover()
     ensures { CoverLaw }
 {}

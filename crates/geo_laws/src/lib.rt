@@ -1,4 +1,5 @@
-//! Points, tetrahedra, the definitions over them, and the laws of the Delaunay list.
+//! Points, tetrahedra, the definitions over them, and the laws of the Delaunay list. Each law is
+//! the contract of a function that does nothing.
 #![tactic(auto)]
 
 mod complex;

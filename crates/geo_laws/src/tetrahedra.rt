@@ -50,8 +50,8 @@ pub fn numbers_of(row: Tet) -> Numbers
     }
 }
 
-/// The least even arrangement of a row: the least number stands first, and the next least of the
-/// others second. A row keeps its corners and its orientation so.
+/// The least even arrangement of a row: the least number comes first, and the next least second.
+/// The corners and the orientation stay.
 #[inline]
 pub fn arranged(t: Tet) -> Tet
     ensures even { IsEvenOf t result }

@@ -22,14 +22,14 @@ unfoldable pub greatest_size : ℕ → List DecimalPoint → ℕ
 greatest_size decimals [] = 0
 greatest_size decimals (p ∷ ps) = max (size_of decimals p) (greatest_size decimals ps)
 
--- the first point with a coordinate over so many units
+-- the point has a coordinate over `wide` units
 abbrev pub is_over : ℕ → ℕ → DecimalPoint → Bool
 is_over wide decimals p = nat_lt wide (size_of decimals p)
 
 unfoldable pub first_over : ℕ → ℕ → List DecimalPoint → Option DecimalPoint
 first_over wide decimals ps = find (is_over wide decimals) ps
 
--- with so many halvings a coordinate of this size is at most so wide
+-- with that number of halvings a coordinate of this size is at most `wide` units
 abbrev pub fits : ℕ → ℕ → ℕ → Bool
 fits wide size halvings = nat_le (size * 2 ^ halvings) wide
 
@@ -53,7 +53,7 @@ abbrev pub unless_over : {X : Type 0} → Option DecimalPoint → X → Result X
 unless_over None x = Ok x
 unless_over (Some p) x = Err (record { line = p.line })
 
--- where a coordinate may be so many units in size
+-- the grid of the points, on which a coordinate is at most `wide` units in size
 unfoldable pub grid_of : ℕ → ℕ → List DecimalPoint → Result Grid Range
 grid_of wide most ps =
     let decimals = most_decimals ps in

@@ -1,4 +1,4 @@
--- Decimals rounded to so many decimals.
+-- Decimals rounded to a number of decimals.
 use Rattle.std.specs.Prelude.{ℕ, ◌+◌, ◌-◌, ◌*◌, ◌/◌, ◌^◌, pos, int_lt, unsigned_abs, nat_le, if◌then◌else◌}
 use Rattle.tet_text.specs.Decimals.{Scaled, lowest, with_sign}
 
@@ -6,7 +6,7 @@ use Rattle.tet_text.specs.Decimals.{Scaled, lowest, with_sign}
 unfoldable pub nearest_whole : ℕ → ℕ → ℕ
 nearest_whole n k = (2 * n + 10 ^ k) / (2 * 10 ^ k)
 
--- the number rounded to so many decimals, halves away from zero
+-- the number rounded to *n* decimals, halves away from zero
 unfoldable pub rounded : ℕ → Scaled → Scaled
 rounded decimals d =
     if nat_le d.scale decimals then d

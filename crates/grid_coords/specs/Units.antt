@@ -15,7 +15,7 @@ limit = 536870912
 abbrev pub if_at_most : ℕ → ℕ → Option ℕ
 if_at_most most n = if nat_le n most then Some n else None
 
--- the size of the number in units of 1 / (10^decimals × 2^halvings), where it has at most so many decimals
+-- the size of the number in units of 1 / (10^decimals × 2^halvings), where it has at most `decimals` decimals
 unfoldable pub units : ℕ → ℕ → Scaled → ℕ
 units decimals halvings d = unsigned_abs d.value * 10 ^ (decimals - d.scale) * 2 ^ halvings
 
@@ -24,7 +24,7 @@ pub record IsDecimalOnGrid (g : Grid) (d : Scaled) : Type 0 where
   pub whole : d.scale ≤ g.decimals
   pub small : units g.decimals g.halvings d ≤ limit
 
--- so is each coordinate of the point
+-- each coordinate of the point is a whole number of grid units, and at most 2^29 of them in size
 pub record IsPointOnGrid (g : Grid) (p : DecimalPoint) : Type 0 where
   pub x : IsDecimalOnGrid g p.x
   pub y : IsDecimalOnGrid g p.y
@@ -55,11 +55,11 @@ rational_coordinate g d =
 abbrev pub rational_point : Grid → DecimalPoint → RationalPoint
 rational_point g p = record { x = rational_coordinate g p.x; y = rational_coordinate g p.y; z = rational_coordinate g p.z; w = pos 1000000 }
 
--- the decimal that so many grid units are: c / (10^decimals × 2^halvings) is c × 5^halvings / 10^(decimals + halvings)
+-- the decimal of c grid units: c / (10^decimals × 2^halvings) is c × 5^halvings / 10^(decimals + halvings)
 unfoldable pub decimal_of_units : Grid → ℤ → Scaled
 decimal_of_units g c = with_sign (int_lt c (pos 0)) (lowest (unsigned_abs c * 5 ^ g.halvings) (g.decimals + g.halvings))
 
--- the number value / 10^scale is so many grid units: value × 10^decimals × 2^halvings is c × 10^scale, with its sign
+-- the number value / 10^scale is c grid units: value × 10^decimals × 2^halvings is c × 10^scale, with its sign
 pub record IsNumberAt (g : Grid) (c : ℤ) (d : Scaled) : Type 0 where
   pub size : unsigned_abs d.value * 10 ^ g.decimals * 2 ^ g.halvings ≡ unsigned_abs c * 10 ^ d.scale
   pub sign : d.value ≡ signed (int_lt c (pos 0)) (unsigned_abs d.value)

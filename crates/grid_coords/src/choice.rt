@@ -28,7 +28,7 @@ pub fn most_decimals(points: &[DecimalPoint]) -> u32
     most
 }
 
-/// The greatest size of the point's coordinates in units of so many decimals, or None where that is
+/// The greatest size of the point's coordinates in units of 10^-`decimals`, or None where that is
 /// over `wide`.
 pub fn size_of(wide: u64, decimals: u32, p: &DecimalPoint) -> Option<u64>
     ensures { result ≡ if_at_most wide (size_of decimals p.now) }

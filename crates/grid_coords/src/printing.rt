@@ -16,13 +16,13 @@ fn with_fives(size: u32, halvings: u32) -> u128
     u128::from(size) * 5u128.pow(halvings)
 }
 
-/// Appends the exact decimal that so many grid units are, with no trailing zero in the fraction.
+/// Appends a grid coordinate as an exact decimal, with no trailing zero in the fraction.
 pub fn print_grid(grid: &Grid, coordinate: i32, out: &mut Bytes) -> Result<(), NoMemory>
     requires { grid.now.halvings ≤ 18 }
     ensures ok { OnOk result (out.new ≡ out.old ++ grid_text grid.now coordinate) }
     ensures err { OnErr result (out.new ≡ out.old) }
 
-    // The decimal is the number that so many grid units are.
+    // The decimal is exactly `coordinate` grid units.
     ensures exact { IsNumberAt grid.now coordinate (decimal_of_units grid.now coordinate) }
 {
     let size = with_fives(coordinate.unsigned_abs(), grid.halvings);

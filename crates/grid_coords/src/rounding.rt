@@ -28,7 +28,7 @@ fn signed(negative: bool, size: u128) -> i128
     if negative { -size } else { size }
 }
 
-/// The number rounded to so many decimals, halves away from zero. A number with no more decimals
+/// The number rounded to `decimals` decimals, halves away from zero. A number with no more decimals
 /// than that is left as it is; else at least one digit goes, so that at most 10^35 is left.
 #[tactic(auto, using(tet_text::proofs::Scaling::lowest_is_decimal, tet_text::proofs::Scaling::signed_is_decimal), unfolding(crate::specs::Rounding::rounded))]
 pub fn round_to(d: &Decimal, decimals: u32) -> Decimal

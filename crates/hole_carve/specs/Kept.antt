@@ -1,4 +1,4 @@
--- The rows without a mark, in order.
+-- The tetrahedra without a mark, in order.
 use Rattle.std.specs.Prelude.{Bool, cond, List, [], ◌∷◌}
 use Rattle.geo_laws.specs.declared.tetrahedra.Tet.{Tet}
 

@@ -1,4 +1,4 @@
--- The marks of rows: the first region point that a free path joins with a row.
+-- The marks of tetrahedra: the first region point that a free path joins with a tetrahedron.
 use Rattle.std.specs.Prelude.{◌≡◌, ◌≢◌, ◌↔◌, ℕ, ◌<◌, ◌≤◌, pos, ◌<ℤ◌, Bool, true, Option, Some, None, List, [], length, slice_index_or, All}
 use Rattle.sign_predicates.specs.Point.{Point, RationalPoint, origin, as_rational, SomeRational}
 use Rattle.sign_predicates.specs.Orientation.{StrictlyInside}
@@ -21,28 +21,28 @@ mark_at marks i = slice_index_or marks i None
 abbrev pub region_point : List Region → ℕ → RationalPoint
 region_point regions k = (slice_index_or regions k (record { at = as_rational origin; attribute = [] })).at
 
--- a free path leads from some point strictly inside the row to a region point
+-- a free path leads from some point strictly inside the tetrahedron to a region point
 abbrev pub IsInRegion : List Point → List FacetTriangle → List Tet → RationalPoint → Tet → Type 0
 IsInRegion ps ts rows r t = SomeRational (λ x. StrictlyInside (corners ps t) x × IsJoined ps ts rows (Unit {0}) x r)
 
--- the first of the numbers below a count that is so, or none
+-- the first of the numbers below a count that has a property, or none
 abbrev pub IsFirstOf : (ℕ → Type 0) → ℕ → Option ℕ → Type 0
 IsFirstOf P count None = (j : ℕ) → j < count → ¬ P j
 IsFirstOf P count (Some k) = (k < count) × P k × ((j : ℕ) → j < k → ¬ P j)
 
--- each row has the number of the first region point that a free path joins with it, or none
+-- each tetrahedron has the number of the first region point that a free path joins with it, or none
 pub record AreRegionMarks (ps : List Point) (ts : List FacetTriangle) (rows : List Tet) (regions : List Region)
     (marks : List (Option ℕ)) : Type 0 where
   pub long : length marks ≡ length rows
   pub each : (i : ℕ) → i < length rows
       → IsFirstOf (λ k. IsInRegion ps ts rows (region_point regions k) (row_at rows i)) (length regions) (mark_at marks i)
 
--- each row of the part has the mark that it has in the whole list
+-- each tetrahedron of the part has the mark that it has in the whole list
 pub record AreKeptMarks (whole : List Tet) (marks : List (Option ℕ)) (part : List Tet) (kept : List (Option ℕ)) : Type 0 where
   pub long : length kept ≡ length part
   pub each : (i j : ℕ) → i < length part → j < length whole → row_at whole j ≡ row_at part i → mark_at kept i ≡ mark_at marks j
 
--- the marks that the rows of the kept part have in the whole list are those that they have in the part alone
+-- the marks that the tetrahedra of the kept part have in the whole list are those that they have in the part alone
 abbrev pub KeptMarksLaw : Type 0
 KeptMarksLaw = (carving : Carving) (ps : List Point) (ts : List FacetTriangle) (whole : List Tet) (holes : List RationalPoint)
     (regions : List Region) (part : List Tet) (marks kept : List (Option ℕ))
@@ -51,24 +51,24 @@ KeptMarksLaw = (carving : Carving) (ps : List Point) (ts : List FacetTriangle) (
 
 -- ---- how they are found
 
--- each row has the number of the first of some region points whose flood comes to it
+-- each tetrahedron has the number of the first of some region points whose flood fill reaches it
 abbrev pub AreNumbered : List Point → List Face → List Tet → List Across → List Region → ℕ → List (Option ℕ) → Type 0
 AreNumbered ps closed rows ways regions count marks =
     (i : ℕ) → i < length rows
     → IsFirstOf (λ k. IsFloodedFrom ways (IsSeedAt ps closed rows (region_point regions k)) i) count (mark_at marks i)
 
--- a number that is put in at the rows that stand in a queue from one place to before another
+-- a number is written at the tetrahedra in a queue from one place to before another
 pub record IsPutFrom (queue : List ℕ) (from past number : ℕ) (old new : List (Option ℕ)) : Type 0 where
   pub long : length new ≡ length old
   pub put : (q : ℕ) → from ≤ q → q < past → queue_at queue q < length old → mark_at new (queue_at queue q) ≡ Some number
   pub rest : (i : ℕ) → ((q : ℕ) → from ≤ q → q < past → queue_at queue q ≢ i) → mark_at new i ≡ mark_at old i
 
--- at each place a flood begins where one from some of the region points does
+-- the seeds are those of the first region points
 abbrev pub AreRegionSeeds : List Point → List Face → List Tet → List Region → ℕ → List Bool → Type 0
 AreRegionSeeds ps closed rows regions count seeds = (i : ℕ)
     → (is_marked seeds i ≡ true) ↔ ((k : ℕ) × (k < count) × IsSeedAt ps closed rows (region_point regions k) i)
 
--- the first place from one on where the rows have a row, or their end
+-- the first place from `from` on at which the list has the tetrahedron, or the list's length
 pub record IsPlaceFrom (rows : List Tet) (row : Tet) (from place : ℕ) : Type 0 where
   pub within : place ≤ length rows
   pub least : (k : ℕ) → from ≤ k → k < place → ¬ (row_at rows k ≡ row)

@@ -1,4 +1,5 @@
--- Where a flood may go from a row: through each face that is no facet triangle, to the other row that has it, or beyond the hull.
+-- The adjacency of a flood fill: across each face that is no facet triangle to the other tetrahedron that has it, or to
+-- the outside of the hull.
 use Rattle.std.specs.Prelude.{◌≡◌, ℕ, ◌<◌, Bool, cond, Option, Some, None, List, map, length, slice_index_or, Contains}
 use Rattle.std.specs.List.{enumerate_from, list_any}
 use Rattle.geo_laws.specs.Faces.{face_of, row_faces}
@@ -9,12 +10,12 @@ use Rattle.incidence.specs.Pairs.{is_face, across_of, across_at}
 use Rattle.hole_carve.specs.Flooding.{way}
 use Rattle.geo_laws.specs.Delaunay.{row_at}
 
--- the partner, or what lies beyond the hull
+-- the partner, or the outside of the hull
 abbrev pub other_side : Option ℕ → ℕ → ℕ
 other_side None beyond = beyond
 other_side (Some j) beyond = j
 
--- a face that is closed leads nowhere, and another one to its other side
+-- a subface has no neighbor across it, and another face the one on its other side
 pub record IsWayThrough (closed : List Face) (face : Face) (partner : Option ℕ) (beyond : ℕ) (to : Option ℕ) : Type 0 where
   pub closes : Contains closed face → to ≡ None
   pub opens : ¬ Contains closed face → to ≡ Some (other_side partner beyond)
@@ -23,11 +24,11 @@ pub record IsWayThrough (closed : List Face) (face : Face) (partner : Option ℕ
 abbrev pub face_opposite : Tet → ℕ → Face
 face_opposite t k = slice_index_or (row_faces t) k (record { a = 0; b = 0; c = 0 })
 
--- the ways through the faces of a row, from what is across them
+-- the neighbors of a tetrahedron across faces that are no subface, from all its neighbors
 abbrev pub AreWaysThrough : List Face → Tet → Across → ℕ → Across → Type 0
 AreWaysThrough closed t across beyond x = (k : ℕ) → k < 4 → IsWayThrough closed (face_opposite t k) (way across k) beyond (way x k)
 
--- the ways from all rows
+-- the neighbors of all tetrahedra across faces that are no subface
 pub record AreWays (closed : List Face) (rows : List Tet) (ways : List Across) : Type 0 where
   pub long : length ways ≡ length rows
   pub each : (i : ℕ) → i < length rows

@@ -25,7 +25,7 @@ fn are_apart(a: i64, b: i64, c: i64, d: i64, x: i64) -> bool
     a < x && b < x && c < x && d < x || x < a && x < b && x < c && x < d
 }
 
-/// The same of four coordinates and that of a point, by its denominator.
+/// Whether `x / w` is outside of the interval of four coordinates.
 fn are_apart_over(a: i32, b: i32, c: i32, d: i32, x: i64, w: i64) -> bool
     requires a_small { unsigned_abs a ≤ 2 ^ 29 }
     requires b_small { unsigned_abs b ≤ 2 ^ 29 }
@@ -51,7 +51,7 @@ pub(crate) fn is_off_box(t: &Corners, x: RatPoint) -> bool
     are_apart_over(t.a.z, t.b.z, t.c.z, t.d.z, x.z, x.w)
 }
 
-/// An interval of whole numbers round so many millionths.
+/// An interval of whole numbers round `x` millionths.
 fn round_millionths(x: i64) -> Interval
     requires { unsigned_abs x ≤ 536870913000000 }
     ensures low { (result.low *ℤ pos 1000000) ≤ℤ x }

@@ -15,7 +15,7 @@ use geo_laws::{FacetTriangles, Points, RatPoints, TetList};
 use std::alloc::Global;
 use tet_ports::NoMemory;
 
-/// Appends the row at a place if it has no mark.
+/// Appends the tetrahedron at place `at` if it has no mark.
 fn keep_row(list: &TetList, marks: &[bool], at: usize, rows: &mut TetList) -> Result<(), NoMemory>
     requires there { at < length list.now }
     requires long { length list.now ≤ length marks.now }
@@ -29,7 +29,7 @@ fn keep_row(list: &TetList, marks: &[bool], at: usize, rows: &mut TetList) -> Re
     Ok(())
 }
 
-/// The rows without a mark, in order.
+/// The tetrahedra without a mark, in order.
 fn rows_unmarked(alloc: Global, list: &TetList, marks: &[bool]) -> Result<TetList, NoMemory>
     requires { length list.now ≤ length marks.now }
     ensures { IfOk result (λ rows. rows ≡ unmarked list.now marks.now) }
@@ -41,7 +41,8 @@ fn rows_unmarked(alloc: Global, list: &TetList, marks: &[bool]) -> Result<TetLis
     Ok(rows)
 }
 
-/// Marks what lies beyond the hull, if that isn't kept. Nothing is marked before.
+/// Marks the outside of the hull, at the place past the last tetrahedron, unless the hull is kept.
+/// No place is marked before.
 fn mark_hull(list: &TetList, keep_hull: bool, seeds: &mut [bool])
     requires long { length seeds.old ≡ length list.now + 1 }
     requires clear { (i : ℕ) → is_marked seeds.old i ≡ false }
@@ -55,7 +56,8 @@ fn mark_hull(list: &TetList, keep_hull: bool, seeds: &mut [bool])
     seeds[list.len()] = true;
 }
 
-/// Where a flood begins that carves: beyond the hull if that isn't kept, and at each hole point.
+/// The seeds of the flood fill that carves: the outside of the hull, unless the hull is kept, and
+/// each hole point.
 fn seeds_of(
     alloc: Global,
     mesh: &Walled<'_>,
@@ -78,7 +80,7 @@ fn seeds_of(
 }
 
 /// The tetrahedra that carving keeps: those whose inner points no free path joins to a hole point,
-/// nor to what lies beyond the hull where that isn't kept.
+/// nor, unless the hull is kept, to the outside of the hull.
 pub fn carve(
     alloc: Global,
     points: &Points,

@@ -1,4 +1,4 @@
-//! A flood over the tetrahedra and what lies beyond the hull, breadth first.
+//! A breadth-first flood fill over the tetrahedra and the outside of the hull.
 ghost use Rattle.std.specs.Prelude.{◌≡◌, ◌↔◌, ◌+◌, ◌<◌, ◌≤◌, ℕ, true, false, [], length, IfOk, OnOk};
 ghost use Rattle.std.specs.Prelude.{Option, Some};
 ghost use Rattle.hole_carve.specs.Flooding.{way, IsWay, IsFlooded, IsQueued};
@@ -14,7 +14,7 @@ use incidence::Across;
 use std::alloc::Global;
 use tet_ports::NoMemory;
 
-/// What one comes to through the face opposite a corner, by the corner's place, from 0.
+/// The neighbor across the face opposite a corner, by the corner's place, from 0.
 fn way(across: Across, corner: usize) -> Option<usize>
     ensures { result ≡ way across corner }
 {
@@ -26,7 +26,7 @@ fn way(across: Across, corner: usize) -> Option<usize>
     }
 }
 
-/// Whether one comes to the place through a face.
+/// Whether `place` is a neighbor across some face.
 fn leads_to(across: Across, place: usize) -> bool
     ensures { (result ≡ true) ↔ ((k : ℕ) × (k < 4) × (way across k ≡ Some place)) }
 {
@@ -40,8 +40,8 @@ fn leads_to(across: Across, place: usize) -> bool
     false
 }
 
-/// A flood over places: those that it came to are marked, and stand in a queue in the order in
-/// which it came to them.
+/// A flood fill over places: those that it reached are marked, and are in a queue in the order in
+/// which they were reached.
 #[derive(Drop)]
 pub(crate) struct Flood {
     marks: Vec<bool>,
@@ -49,7 +49,7 @@ pub(crate) struct Flood {
 }
 
 impl Flood {
-    /// A flood over so many places that has not begun.
+    /// A flood fill over `places` places that has not begun.
     pub(crate) fn new(alloc: Global, places: usize) -> Result<Self, NoMemory>
         ensures long { IfOk result (λ f. length f.marks.items ≡ places) }
         ensures clear { IfOk result (λ f. (i : ℕ) → is_marked f.marks.items i ≡ false) }
@@ -61,7 +61,8 @@ impl Flood {
         })
     }
 
-    /// Marks a place that the flood comes to, and puts it into the queue, if it isn't marked yet.
+    /// Marks a place that the flood fill reaches and appends it to the queue, if it isn't marked
+    /// yet.
     fn reach(&mut self, ways: &Ways<'_>, seeds: &[bool], place: usize) -> Result<(), NoMemory>
         requires there { place < length self.old.marks.items }
         requires comes { IsFlooded ways.now seeds.now place }
@@ -78,7 +79,7 @@ impl Flood {
         Ok(())
     }
 
-    /// Reaches what one comes to from a row in the queue.
+    /// Reaches the neighbors of a tetrahedron in the queue across faces that are no subface.
     fn reach_from(&mut self, ways: &Ways<'_>, seeds: &[bool], row: usize) -> Result<(), NoMemory>
         requires there { row < length ways.now }
         requires within { LeadsWithin ways.now }
@@ -96,7 +97,7 @@ impl Flood {
         Ok(())
     }
 
-    /// Reaches a row from beyond the hull, if one comes there from it.
+    /// Reaches a tetrahedron from outside the hull, if it has a hull face that is no subface.
     fn reach_back(&mut self, ways: &Ways<'_>, seeds: &[bool], row: usize) -> Result<(), NoMemory>
         requires there { row < length ways.now }
         requires comes { IsFlooded ways.now seeds.now (length ways.now) }
@@ -111,7 +112,7 @@ impl Flood {
         Ok(())
     }
 
-    /// Reaches what one comes to from beyond the hull.
+    /// Reaches the tetrahedra with a hull face that is no subface, from outside the hull.
     fn reach_from_beyond(&mut self, ways: &Ways<'_>, seeds: &[bool]) -> Result<(), NoMemory>
         requires comes { IsFlooded ways.now seeds.now (length ways.now) }
         requires flood { IsFlood ways.now seeds.now self.old }
@@ -124,7 +125,7 @@ impl Flood {
         Ok(())
     }
 
-    /// Reaches what one comes to from a place in the queue.
+    /// Reaches the neighbors of a place in the queue.
     fn reach_next(&mut self, ways: &Ways<'_>, seeds: &[bool], place: usize) -> Result<(), NoMemory>
         requires there { place < length ways.now + 1 }
         requires within { LeadsWithin ways.now }
@@ -139,8 +140,8 @@ impl Flood {
         self.reach_from_beyond(ways, seeds)
     }
 
-    /// Marks the places that the flood comes to. Those in the queue before are marked, with what
-    /// one comes to from them; the further ones are put behind them.
+    /// Marks all places that the flood fill reaches from the new places of the queue, and appends
+    /// them to it. The places that were filled from before have their neighbors marked already.
     pub(crate) fn fill(&mut self, ways: &Ways<'_>, seeds: &[bool]) -> Result<(), NoMemory>
         requires seeds { length seeds.now ≡ length ways.now + 1 }
         requires within { LeadsWithin ways.now }
@@ -165,8 +166,8 @@ impl Flood {
     }
 }
 
-/// Marks the places that a flood comes to, of the rows and, past the last row, of what lies beyond
-/// the hull. It begins at the places that are marked as seeds.
+/// Marks the places that a flood fill reaches from the seeds: tetrahedra, and, past the last one,
+/// the outside of the hull.
 pub(crate) fn flooded(alloc: Global, ways: &Ways<'_>, seeds: &[bool]) -> Result<Vec<bool>, NoMemory>
     requires seeds { length seeds.now ≡ length ways.now + 1 }
     requires within { LeadsWithin ways.now }

@@ -1,5 +1,5 @@
-//! Which tetrahedra a flood through faces that lie in no facet comes to: those that are carved
-//! away, and those of a region.
+//! Flood fill through the faces that lie in no facet: the tetrahedra that are carved away, and
+//! those of each region.
 #![tactic(auto)]
 
 mod boxes;

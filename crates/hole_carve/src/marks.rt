@@ -18,7 +18,7 @@ use incidence::Marks;
 use std::alloc::Global;
 use tet_ports::NoMemory;
 
-/// Puts a number at a place, if that is a row.
+/// Writes a number at a place, if the place is that of a tetrahedron.
 fn put_at(place: usize, number: u32, marks: &mut [Option<u32>])
     ensures long { length marks.new ≡ length marks.old }
     ensures here { place < length marks.old → mark_at marks.new place ≡ Some number }
@@ -29,7 +29,7 @@ fn put_at(place: usize, number: u32, marks: &mut [Option<u32>])
     }
 }
 
-/// Puts a number at the rows that stand in a queue from a place on.
+/// Writes a number at the tetrahedra in a queue from place `from` on.
 fn put_from(queue: &[usize], from: usize, number: u32, marks: &mut [Option<u32>])
     requires { from ≤ length queue.now }
     ensures { IsPutFrom queue.now from (length queue.now) number marks.old marks.new }
@@ -39,8 +39,8 @@ fn put_from(queue: &[usize], from: usize, number: u32, marks: &mut [Option<u32>]
     }
 }
 
-/// Goes on with the flood, and puts a number at the rows to which it comes now. The rows to which
-/// it came before keep theirs.
+/// Continues the flood fill from new seeds, and writes a number at the tetrahedra that it newly
+/// reaches. Those that it reached before keep theirs.
 fn put_flood(
     ways: &Ways<'_>,
     seeds: &[bool],
@@ -64,8 +64,8 @@ fn put_flood(
     Ok(())
 }
 
-/// The numbers of the region points, the first one first, at the rows to which the floods from them
-/// come: it is one flood, which goes on from each point to the next.
+/// For each tetrahedron the number of the first region point whose flood fill reaches it. One flood
+/// fill serves for all points: it continues from each point to the next.
 fn numbers_of(
     alloc: Global,
     mesh: &Walled<'_>,
@@ -117,7 +117,7 @@ pub fn mark_regions(
     Ok(Marks::from(marks))
 }
 
-/// The first place from one on where a list has a row, or its end.
+/// The first place from `from` on at which a list has the tetrahedron, or the list's length.
 fn place_from(list: &TetList, row: Tet, from: usize) -> usize
     requires { from ≤ length list.now }
     ensures { IsPlaceFrom list.now row from result }
@@ -130,7 +130,7 @@ fn place_from(list: &TetList, row: Tet, from: usize) -> usize
     list.len()
 }
 
-/// For each row of a part of a list the mark of that row in the list. Both ascend.
+/// For each tetrahedron of a sublist its mark in the whole list. Both lists ascend.
 pub fn kept_marks(
     alloc: Global,
     list: &TetList,

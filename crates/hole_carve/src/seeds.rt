@@ -1,4 +1,4 @@
-//! Where the flood from a hole or region point begins.
+//! Point location for the seeds of a flood fill: where the fill from a hole or region point begins.
 ghost use Rattle.std.specs.Prelude.{◌≡◌, ◌↔◌, ◌⊎◌, ◌+◌, ◌<◌, ℕ, pos, true, false, All, Contains};
 ghost use Rattle.std.specs.Prelude.{length, IfOk, OnOk};
 ghost use Rattle.box_tree.specs.Bodies.{IsRowTree};
@@ -18,7 +18,7 @@ use sign_predicates::{Corners, GridPoint, Hold, RatPoint, Sign, in_tet, orient_r
 use std::alloc::Global;
 use tet_ports::NoMemory;
 
-/// The row at a place, which is on the points.
+/// The tetrahedron at place `at`, whose corners are points of the list.
 fn row_on(points: &Points, list: &TetList, at: usize) -> Tet
     requires there { at < length list.now }
     requires on { All (IsOn points.now) list.now }
@@ -28,7 +28,7 @@ fn row_on(points: &Points, list: &TetList, at: usize) -> Tet
     list.at(at)
 }
 
-/// Whether the closed row holds a point.
+/// Whether the closed tetrahedron holds a point.
 fn holds(points: &Points, row: Tet, x: RatPoint) -> bool
     requires on { IsOn points.now row }
     requires positive { IsPositive (corners points.now row) }
@@ -45,7 +45,7 @@ fn holds(points: &Points, row: Tet, x: RatPoint) -> bool
     }
 }
 
-/// Whether a point lies on the plane through `a`, `b` and `c`, and the face is closed.
+/// Whether a point lies on the plane through `a`, `b` and `c`, and the face is a subface.
 fn lies_on(
     closed: &FaceTable,
     face: Face,
@@ -59,7 +59,8 @@ fn lies_on(
     matches!(orient_rat(a, b, c, x), Sign::Zero) && closed.has(face)
 }
 
-/// The same for the face opposite a corner of a row, by the corner's place, from 0.
+/// Whether a point lies on the plane of the face opposite a corner, by the corner's place from 0,
+/// and this face is a subface.
 fn lies_on_face(row: Tet, t: &Corners, closed: &FaceTable, corner: usize, x: RatPoint) -> bool
     requires place { corner < 4 }
     ensures { (result ≡ true) ↔ ((side_rational (opposite_face t.now corner) x ≡ pos 0)
@@ -74,7 +75,7 @@ fn lies_on_face(row: Tet, t: &Corners, closed: &FaceTable, corner: usize, x: Rat
     }
 }
 
-/// Whether a point lies on the plane of a face of the row that is closed.
+/// Whether a point lies on the plane of a face of the tetrahedron that is a subface.
 fn lies_on_some(row: Tet, t: &Corners, closed: &FaceTable, x: RatPoint) -> bool
     ensures { (result ≡ true) ↔ ((k : ℕ) × (k < 4) × (side_rational (opposite_face t.now k) x
         ≡ pos 0)
@@ -88,7 +89,7 @@ fn lies_on_some(row: Tet, t: &Corners, closed: &FaceTable, x: RatPoint) -> bool
     false
 }
 
-/// Appends the place of a row if its closure holds a point.
+/// Appends the place of a tetrahedron if its closure holds a point.
 fn add_holder(
     points: &Points,
     list: &TetList,
@@ -109,7 +110,7 @@ fn add_holder(
     Ok(())
 }
 
-/// The places of the rows whose closure holds a point.
+/// The places of the tetrahedra whose closure holds a point, by a test of each.
 fn holders_of(
     alloc: Global,
     points: &Points,
@@ -128,7 +129,7 @@ fn holders_of(
     Ok(holders)
 }
 
-/// The same by the tree of the boxes of the rows.
+/// The places of the tetrahedra whose closure holds a point, by the AABB tree.
 fn holders_in(
     alloc: Global,
     points: &Points,
@@ -152,7 +153,7 @@ fn holders_in(
     Ok(holders)
 }
 
-/// The same, by the tree where there is one.
+/// The places of the tetrahedra whose closure holds a point, by the AABB tree where there is one.
 fn holders_by(alloc: Global, mesh: &Walled<'_>, x: RatPoint) -> Result<Vec<usize>, NoMemory>
     requires { IsSearchable mesh.now }
     ensures { IfOk result (λ holders. (i : ℕ) → Contains holders.items i
@@ -164,7 +165,7 @@ fn holders_by(alloc: Global, mesh: &Walled<'_>, x: RatPoint) -> Result<Vec<usize
     }
 }
 
-/// Whether a row that holds a point has it on the plane of a face that is closed.
+/// Whether one of the tetrahedra that hold a point has it on the plane of a subface.
 fn is_on_closed(
     points: &Points,
     list: &TetList,
@@ -185,7 +186,7 @@ fn is_on_closed(
     false
 }
 
-/// So many places, of which none is marked.
+/// `places` marks, none of them set.
 pub(crate) fn no_marks(alloc: Global, places: usize) -> Result<Vec<bool>, NoMemory>
     ensures long { IfOk result (λ marks. length marks.items ≡ places) }
     ensures clear { IfOk result (λ marks. (i : ℕ) → is_marked marks.items i ≡ false) }
@@ -205,7 +206,7 @@ fn mark_one(place: usize, marks: &mut [bool])
     marks[place] = true;
 }
 
-/// Marks these places.
+/// Marks the given places.
 fn mark_all(places: &[usize], marks: &mut [bool])
     requires { (i : ℕ) → Contains places.now i → i < length marks.old }
     ensures long { length marks.new ≡ length marks.old }
@@ -217,8 +218,7 @@ fn mark_all(places: &[usize], marks: &mut [bool])
     }
 }
 
-/// Marks where the flood from a point begins, where the places of the rows are known whose closure
-/// holds it.
+/// Marks the seeds of a point, where the places of the tetrahedra whose closure holds it are known.
 fn mark_found(
     points: &Points,
     list: &TetList,
@@ -244,9 +244,9 @@ fn mark_found(
     mark_all(holders, seeds);
 }
 
-/// Marks where the flood from a hole or region point begins: nowhere if the point is on a facet,
-/// else at each row whose closure holds it, or where there is none past the last row, for what lies
-/// beyond the hull.
+/// Marks the seeds of a hole or region point: none if the point is on a facet, else each
+/// tetrahedron whose closure holds it, or, where there is none, the outside of the hull at the
+/// place past the last tetrahedron.
 pub(crate) fn mark_seeds(
     alloc: Global,
     mesh: &Walled<'_>,

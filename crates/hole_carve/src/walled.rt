@@ -1,4 +1,4 @@
-//! A mesh with the walls that stop a flood, and what floods and searches in it need.
+//! A mesh with the subfaces that stop a flood fill, its adjacency, and its AABB tree.
 ghost use Rattle.std.specs.Prelude.{◌≡◌, All, length, IfOk, IfSome};
 ghost use Rattle.box_tree.specs.Bodies.{IsRowTree};
 ghost use Rattle.geo_laws.specs.Delaunay.{IsOn};
@@ -15,12 +15,12 @@ use incidence::{FaceTable, Pairs, pair_faces};
 use std::alloc::Global;
 use tet_ports::NoMemory;
 
-/// For so many points the boxes of all rows are gone over one by one: to sort them costs more.
+/// For at most this many points the boxes of all tetrahedra are tested one by one: to build the
+/// AABB tree costs more.
 const FEW: usize = 4;
 
-/// A mesh with walls: rows on points, the faces through which no flood goes, what is across the
-/// faces of each row, and the tree of the boxes of the rows, where there are many points to look
-/// for.
+/// A mesh with subfaces: tetrahedra on points, the subfaces, through which no flood fill goes, the
+/// neighbors of each tetrahedron, and the AABB tree, where there are many points to locate.
 #[derive(Drop)]
 pub(crate) struct Walled<'a> {
     pub(crate) points: &'a Points,
@@ -30,7 +30,7 @@ pub(crate) struct Walled<'a> {
     pub(crate) tree: Option<Tree>,
 }
 
-/// The tree of the boxes of the rows, where there are many points to look for.
+/// The AABB tree of the tetrahedra, where there are many points to locate.
 fn tree_for(
     alloc: Global,
     points: &Points,
@@ -48,7 +48,7 @@ fn tree_for(
 }
 
 impl<'a> Walled<'a> {
-    /// The rows, walled by the triangles, where so many points are to be looked for.
+    /// A mesh with the triangles as subfaces, in which `count` points are to be located.
     pub(crate) fn new(
         alloc: Global,
         points: &'a Points,
@@ -72,7 +72,7 @@ impl<'a> Walled<'a> {
         })
     }
 
-    /// Where one comes to from its rows.
+    /// The adjacency of the tetrahedra across faces that are no subface.
     pub(crate) fn ways(&self) -> Ways<'_>
         requires { self.now.pairs ≡ pairs_of self.now.list.now }
         ensures same { result ≡ ways_of self.now.closed self.now.list.now }

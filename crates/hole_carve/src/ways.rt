@@ -1,4 +1,4 @@
-//! Where one comes to through the faces of tetrahedra that lie in no facet.
+//! Neighbors across faces that are no subface.
 ghost use Rattle.std.specs.Prelude.{◌≡◌, ◌<◌, ℕ, None, length, IsTrue};
 ghost use Rattle.incidence.specs.Pairs.{pairs_of, across_at};
 ghost use Rattle.hole_carve.specs.Flooding.{way, IsWay};
@@ -8,9 +8,9 @@ use geo_laws::{Face, Tet, TetList, face_of};
 use incidence::{Across, FaceTable, Pairs};
 use std::marker::Model;
 
-/// Where one comes to from each row of a list, which contracts see: through a face that is a facet
-/// triangle nowhere, else to the other row that has it, or beyond the hull, which has the place
-/// past the last row. It is found for the rows that are asked for, and kept for none.
+/// The adjacency of a list that a flood fill uses, which contracts see: across a subface nothing,
+/// across another face the other tetrahedron that has it, or the outside of the hull, which has the
+/// place past the last tetrahedron. It is computed on demand.
 #[derive(Drop)]
 pub(crate) struct Ways<'a> {
     list: &'a TetList,
@@ -31,7 +31,7 @@ impl<'a> Model for Ways<'a> {
     ghost invariant = { λ w. w.pairs.now ≡ pairs_of w.list.now };
 }
 
-/// Where one comes to through a face.
+/// The neighbor across a face; None for a subface, `beyond` on the hull.
 fn way_through(
     closed: &FaceTable,
     face: Face,
@@ -49,7 +49,7 @@ fn way_through(
     }
 }
 
-/// Where one comes to through the faces of a row.
+/// The neighbors across the four faces of a tetrahedron that are no subface.
 fn ways_through(closed: &FaceTable, row: Tet, across: Across, beyond: usize) -> Across
     ensures { result ≡ ways_through closed.now row across beyond }
 {
@@ -62,7 +62,7 @@ fn ways_through(closed: &FaceTable, row: Tet, across: Across, beyond: usize) -> 
     }
 }
 
-/// Whether there is another row across each face.
+/// Whether there is another tetrahedron across each face.
 fn has_all(across: Across) -> bool
     ensures { IsTrue result → (k : ℕ) → k < 4 → ¬ (way across k ≡ None) }
 {
@@ -82,14 +82,14 @@ impl<'a> Ways<'a> {
         }
     }
 
-    /// The number of rows.
+    /// The number of tetrahedra.
     pub(crate) fn len(&self) -> usize
         ensures { result ≡ length self.now }
     {
         self.list.len()
     }
 
-    /// Where one comes to from the row at a place.
+    /// The neighbors of the tetrahedron at place `row` across faces that are no subface.
     pub(crate) fn at(&self, row: usize) -> Across
         requires { row < length self.now }
         ensures { result ≡ across_at self.now row }
@@ -101,7 +101,7 @@ impl<'a> Ways<'a> {
             self.list.len(),
         )
     }
-    /// Whether the row at a place is known not to lead beyond the hull, since there is another row
+    /// Whether the tetrahedron at place `row` is known to have no hull face: another tetrahedron is
     /// across each of its faces.
     pub(crate) fn is_inner(&self, row: usize) -> bool
         requires { row < length self.now }

@@ -1,4 +1,4 @@
--- Faces in chains, each of those few whose corners have nearly one sum.
+-- Chains of a hash table of faces, by the sum of their corners.
 use Rattle.std.specs.Prelude.{◌≡◌, ◌↔◌, ◌⊎◌, ℕ, ◌+◌, ◌/◌, ◌<◌, ◌≤◌, Bool, true, false, List, length, slice_index_or}
 use Rattle.geo_laws.specs.Faces.{face_of}
 use Rattle.geo_laws.specs.declared.faces.Face.{Face}
@@ -13,7 +13,8 @@ face_of_triangle t = face_of t.a t.b t.c
 abbrev pub face_at : List Face → ℕ → Face
 face_at faces k = slice_index_or faces k (record { a = 0; b = 0; c = 0 })
 
--- the chain in which a face stands: a quarter of the sum of its corners, so that also the faces round one point are in many
+-- the chain of a face: a quarter of the sum of its corners, so that even the faces round one point are spread over many
+-- chains
 unfoldable pub chain_of : Face → ℕ
 chain_of f = (f.a + f.b + f.c) / 4
 
@@ -24,7 +25,7 @@ pub record IsNextFace (faces : List Face) (chain from place : ℕ) : Type 0 wher
   pub like : place < length faces → chain_of (face_at faces place) ≡ chain
   pub first : (k : ℕ) → from ≤ k → k < place → ¬ (chain_of (face_at faces k) ≡ chain)
 
--- from each chain one is led to its first face from a place on, and from each such face to the next one
+-- each chain is linked to its first face from a place on, and each such face to the next one
 pub record AreLinkedFaces (faces : List Face) (at : ℕ) (first next : List ℕ) : Type 0 where
   pub chains : (k : ℕ) → k < length faces → chain_of (face_at faces k) < length first
   pub links : length next ≡ length faces
@@ -32,11 +33,11 @@ pub record AreLinkedFaces (faces : List Face) (at : ℕ) (first next : List ℕ)
   pub begins : (b d : ℕ) → b < length first → IsNextFace faces b at (slice_index_or first b d)
   pub follows : (i d : ℕ) → at ≤ i → i < length faces → IsNextFace faces (chain_of (face_at faces i)) (i + 1) (slice_index_or next i d)
 
--- of all faces
+-- the chains of all faces
 abbrev pub AreChains : List Face → List ℕ → List ℕ → Type 0
 AreChains faces first next = AreLinkedFaces faces 0 first next
 
--- each point at which a face begins is marked
+-- each point that is the first corner of a face is marked
 abbrev pub AreBegun : List Face → List Bool → Type 0
 AreBegun faces begins = (k : ℕ) → k < length faces → is_marked begins ((face_at faces k).a) ≡ true
 

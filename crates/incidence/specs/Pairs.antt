@@ -1,4 +1,4 @@
--- The rows on the other sides of faces.
+-- The neighbors of tetrahedra across their faces.
 use Rattle.std.specs.Prelude.{ℕ, ◌<◌, ◌==◌, Bool, ◌&&◌, ◌||◌, not, cond, Option, Some, None, List}
 use Rattle.std.specs.Prelude.{slice_index, map, find, option_map, IfSome, All}
 use Rattle.std.specs.List.{enumerate_from, slice_index_or}
@@ -8,27 +8,27 @@ use Rattle.geo_laws.specs.declared.tetrahedra.Tet.{Tet}
 use Rattle.incidence.specs.declared.pairs.Across.{Across}
 use Rattle.incidence.specs.declared.pairs.Places.{Places}
 
--- what is listed across the faces of the row at a place, where there is one
+-- the listed neighbors of the tetrahedron at a place, where there is one
 abbrev pub across_at : List Across → ℕ → Across
 across_at rows i = slice_index_or rows i (record { n0 = None; n1 = None; n2 = None; n3 = None })
 
 abbrev pub is_face : Face → Face → Bool
 is_face f g = (f.a == g.a) && ((f.b == g.b) && (f.c == g.c))
 
--- whether three corners of a row are those of the face
+-- whether three corners of a tetrahedron are those of the face
 abbrev pub has_face : Face → Tet → Bool
 has_face f t = is_face (face_of t.b t.c t.d) f || (is_face (face_of t.a t.c t.d) f || (is_face (face_of t.a t.b t.d) f || is_face
     (face_of t.a t.b t.c) f))
 
--- whether a place with its row is another than this place, and the row has the face
+-- whether a place with its tetrahedron is another than this place, and the tetrahedron has the face
 abbrev pub is_partner : ℕ → Face → ℕ × Tet → Bool
 is_partner place f r = not (r.0 == place) && has_face f r.1
 
--- the place of the least other row that has the face
+-- the place of the least other tetrahedron that has the face
 abbrev pub partner : List Tet → ℕ → Face → Option ℕ
 partner rows place f = option_map (λ r. r.0) (find (is_partner place f) (enumerate_from 0 rows))
 
--- the partners of the row at a place, each across the face opposite a corner
+-- the partners of the tetrahedron at a place, each across the face opposite a corner
 abbrev pub across_of : List Tet → ℕ → Tet → Across
 across_of rows place t = record {
   n0 = partner rows place (face_of t.b t.c t.d);
@@ -40,7 +40,7 @@ across_of rows place t = record {
 abbrev pub pairs_of : List Tet → List Across
 pairs_of rows = map (λ r. across_of rows r.0 r.1) (enumerate_from 0 rows)
 
--- with a partner put in across a face
+-- the neighbors with a partner set across a face
 abbrev pub with_partner : Tet → Face → Option ℕ → Across → Across
 with_partner t f o x = record {
   n0 = cond (is_face (face_of t.b t.c t.d) f) o x.n0;
@@ -56,7 +56,7 @@ IsAcrossWithin n x = IfSome x.n0 (λ i. i < n) × IfSome x.n1 (λ i. i < n) × I
 abbrev pub AreAllWithin : ℕ → List Across → Type 0
 AreAllWithin n pairs = All (IsAcrossWithin n) pairs
 
--- the row at a place that is kept in 32 bits; the greatest number stands for none
+-- the tetrahedron at a place that is kept in 32 bits; the greatest number stands for none
 abbrev pub place_in : ℕ → Option ℕ
 place_in k = cond (k == 4294967295) None (Some k)
 

@@ -1,4 +1,4 @@
-//! The points at which faces begin.
+//! The points that are first corners of faces.
 ghost use Rattle.std.specs.Prelude.{◌<◌, ℕ, length, IfOk};
 ghost use Rattle.incidence.specs.Chains.{face_at, AreBegun};
 
@@ -17,7 +17,7 @@ fn corner_count(faces: &[Face]) -> usize
     count
 }
 
-/// Whether a face begins at a point, up to the last one at which one does.
+/// One mark per point, up to the greatest first corner: whether it is the first corner of a face.
 pub(crate) fn beginnings_of(alloc: Global, faces: &[Face]) -> Result<Vec<bool>, NoMemory>
     ensures { IfOk result (λ begins. AreBegun faces.now begins.items) }
 {

@@ -1,4 +1,4 @@
-//! Chains of faces, each of those few whose corners have nearly one sum.
+//! Chains of a hash table of faces, by the sum of their corners.
 ghost use Rattle.std.specs.Prelude.{◌≡◌, ◌<◌, ◌≤◌, ◌^◌, ℕ, length, IfOk};
 ghost use Rattle.incidence.specs.Chains.{face_at, chain_of, AreChains};
 
@@ -7,15 +7,15 @@ use std::alloc::Global;
 use tet_ports::NoMemory;
 
 /// For each chain the place of its first face, and for each face the place of the next one in its
-/// chain. Where there is none stands the number of faces.
+/// chain. The number of faces stands for none.
 #[derive(Drop)]
 pub(crate) struct Chains {
     pub(crate) first: Vec<usize>,
     pub(crate) next: Vec<usize>,
 }
 
-/// The chain in which a face stands: a quarter of the sum of its corners, so that also the faces
-/// round one point are in many.
+/// The chain of a face: a quarter of the sum of its corners, so that even the faces round one point
+/// are spread over many chains.
 #[inline]
 #[tactic(auto, unfolding(crate::specs::Chains::chain_of))]
 pub(crate) fn chain_of(face: Face) -> usize

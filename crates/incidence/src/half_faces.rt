@@ -13,7 +13,7 @@ use crate::uses::Use;
 use geo_laws::{Face, Tet, TetList, face_of};
 use tet_ports::NoMemory;
 
-/// A corner of a row.
+/// A corner of a tetrahedron.
 #[derive(Clone, Copy, Debug, PartialEq, Eq)]
 pub enum Corner {
     A,
@@ -22,8 +22,8 @@ pub enum Corner {
     D,
 }
 
-/// A face of a row of a list, by the place of the row, from 0, and the corner opposite the face. It
-/// is marked whether it is the first use of its face in a list of uses.
+/// A face of a tetrahedron of a list, by the tetrahedron's place, from 0, and the corner opposite
+/// the face, with a mark: whether it is the first use of its face in a list of uses.
 #[derive(Clone, Copy, Debug, PartialEq, Eq)]
 pub struct HalfFace {
     pub row: u32,
@@ -31,7 +31,7 @@ pub struct HalfFace {
     pub first: bool,
 }
 
-/// The face of a row opposite a corner.
+/// The face of a tetrahedron opposite a corner.
 pub(crate) fn opposite_face(row: Tet, corner: Corner) -> Face
     ensures { result ≡ opposite_row_face row corner }
 {
@@ -44,7 +44,7 @@ pub(crate) fn opposite_face(row: Tet, corner: Corner) -> Face
     }
 }
 
-/// The point at a corner of a row.
+/// The point at a corner of a tetrahedron.
 pub(crate) fn point_at(row: Tet, corner: Corner) -> u32
     ensures { result ≡ point_at row corner }
 {
@@ -81,8 +81,8 @@ pub(crate) fn corner_numbered(number: u64) -> Corner
     }
 }
 
-/// For each corner whether this face of the row is the one opposite it. That is so where the face
-/// and the corner add up to the row.
+/// For each corner whether `face` is the face opposite it: the corner's point and those of the face
+/// have the same sum as the four corners.
 fn are_opposite(row: Tet, face: Face) -> [bool; 4]
     requires { has_face face row ≡ true }
     ensures { result ≡ is_face (face_of row.b row.c row.d) face ∷ is_face
@@ -105,14 +105,14 @@ fn are_opposite(row: Tet, face: Face) -> [bool; 4]
     ]
 }
 
-/// Whether the corners of each row ascend, but for the order of the last two.
+/// Whether the corners of each tetrahedron ascend, but for the order of the last two.
 pub(crate) fn are_arranged(list: &TetList) -> bool
     ensures { IsTrue result → All IsAscendingRow list.now }
 {
     list.as_slice().iter().all(|row| is_arranged(*row))
 }
 
-/// Whether the corners of a row ascend, but for the order of the last two.
+/// Whether the corners of a tetrahedron ascend, but for the order of the last two.
 fn is_arranged(row: Tet) -> bool
     ensures { IsTrue result ↔ IsAscendingRow row }
 {
@@ -120,7 +120,7 @@ fn is_arranged(row: Tet) -> bool
     (a < b) & (b < c) & (b < d) & (c != d)
 }
 
-/// The first corner that this face of the row is opposite.
+/// The first corner of the tetrahedron opposite `face`.
 fn corner_opposite(row: Tet, face: Face) -> Corner
     requires { has_face face row ≡ true }
     ensures { opposite_row_face row result ≡ face }
@@ -138,7 +138,7 @@ fn corner_opposite(row: Tet, face: Face) -> Corner
     Corner::D
 }
 
-/// The use that a half-face is.
+/// The use of a half-face: its face and its tetrahedron.
 pub(crate) fn use_of(list: &TetList, half: HalfFace) -> Use
     requires { half.row < length list.now }
     ensures { result ≡ use_of list.now half }
@@ -166,7 +166,7 @@ fn push_half(halves: &mut Vec<HalfFace>, list: &TetList, new_use: Use, first: bo
     });
 }
 
-/// Appends uses of faces that are not used before, and marks the first one of each face.
+/// Appends uses, whose faces have no earlier use, and marks the first use of each face.
 pub(crate) fn push_halves(
     halves: &mut Vec<HalfFace>,
     list: &TetList,
@@ -189,7 +189,7 @@ pub(crate) fn push_halves(
     Ok(())
 }
 
-/// Appends the uses that half-faces are.
+/// Appends the uses of half-faces.
 pub(crate) fn append_uses(
     uses: &mut Vec<Use>,
     list: &TetList,

@@ -1,4 +1,4 @@
-//! The tetrahedra on the other sides of faces.
+//! The neighbors of tetrahedra across their faces.
 ghost use Rattle.std.specs.Prelude.{◌≡◌, [], ◌∷◌, ◌+◌, ◌-◌, ◌<◌, ◌^◌, length, map};
 ghost use Rattle.std.specs.Prelude.{IfOk, IfSome, IsTrue, HoldsAt};
 ghost use Rattle.geo_laws.specs.Faces.{face_of};
@@ -15,8 +15,8 @@ use std::alloc::Global;
 use std::marker::Model;
 use tet_ports::{Items, NoMemory};
 
-/// For each corner of a row the place of the row on the other side of the face opposite that
-/// corner, if there is one.
+/// For each corner of a tetrahedron the place of the neighbor across the face opposite that corner,
+/// if there is one.
 #[derive(Clone, Copy, Debug, PartialEq, Eq)]
 pub struct Across {
     pub n0: Option<usize>,
@@ -25,13 +25,14 @@ pub struct Across {
     pub n3: Option<usize>,
 }
 
-/// The same in 32 bits each, corner by corner. Where there is no row stands the greatest number.
+/// The four neighbors of a tetrahedron in 32 bits each, corner by corner. The greatest number
+/// stands for none.
 #[derive(Clone, Copy)]
 struct Places {
     rows: [u32; 4],
 }
 
-/// For each row of a list what is across its faces, in 16 bytes.
+/// The neighbors of each tetrahedron of a list, in 16 bytes each.
 #[derive(Drop)]
 pub struct Pairs {
     kept: Vec<Places>,
@@ -48,7 +49,7 @@ impl Model for Pairs {
 }
 
 impl Pairs {
-    /// The number of rows.
+    /// The number of tetrahedra.
     pub fn len(&self) -> usize
         ensures count { result ≡ length self.now }
         ensures small { result < 2 ^ 63 }
@@ -56,7 +57,7 @@ impl Pairs {
         self.kept.len()
     }
 
-    /// What is across the faces of the row at this place, counted from 0.
+    /// The neighbors of the tetrahedron at place `i`, from 0.
     pub fn at(&self, i: usize) -> Across
         requires { i < length self.now }
         ensures same { HoldsAt (λ across. across ≡ result) self.now i }
@@ -65,17 +66,17 @@ impl Pairs {
         across_in(self.kept[i])
     }
 
-    /// Lets all go, as a list of items is.
+    /// Frees the memory, as that of a list of items is freed.
     pub fn let_go(self) {
         Items::from(self.kept).let_go();
     }
 }
 
-/// For each row of a list a number, or none.
+/// For each tetrahedron of a list a number, or none.
 pub type Marks = Items<Option<u32>>;
 
-/// For each row and corner the least other row that has the face opposite that corner, if there is
-/// one. The rows may be any.
+/// For each tetrahedron and corner the least other tetrahedron that has the face opposite that
+/// corner, if there is one. The rows may be any four numbers.
 pub fn pair_faces(alloc: Global, list: &TetList) -> Result<Pairs, NoMemory>
     ensures pairs { IfOk result (λ pairs. pairs ≡ pairs_of list.now) }
     ensures places { IfOk result (λ pairs. AreAllWithin (length pairs) pairs) }
@@ -84,7 +85,7 @@ pub fn pair_faces(alloc: Global, list: &TetList) -> Result<Pairs, NoMemory>
     pair_uses(alloc, list, &uses)
 }
 
-/// The same, where the uses of the faces are known already.
+/// As `pair_faces`, from the uses of the faces.
 pub fn pair_uses(alloc: Global, list: &TetList, uses: &Uses) -> Result<Pairs, NoMemory>
     requires { AreUsesOf list.now uses.now }
     ensures pairs { IfOk result (λ pairs. pairs ≡ pairs_of list.now) }
@@ -94,8 +95,8 @@ pub fn pair_uses(alloc: Global, list: &TetList, uses: &Uses) -> Result<Pairs, No
     Ok(Pairs { kept })
 }
 
-/// The places of what is across the faces of each row. More rows than 32 bits count are answered as
-/// want of memory.
+/// The neighbors of each tetrahedron in 32 bits. More tetrahedra than 32 bits can count are refused
+/// as out of memory.
 fn places_of(alloc: Global, list: &TetList, uses: &Uses) -> Result<Vec<Places>, NoMemory>
     requires { AreUsesOf list.now uses.now }
     ensures { IfOk result (λ places. map across_in places.items ≡ pairs_of list.now) }
@@ -112,7 +113,7 @@ fn places_of(alloc: Global, list: &TetList, uses: &Uses) -> Result<Vec<Places>, 
     Ok(places)
 }
 
-/// What is across the faces of a row by these places.
+/// Unpacks four neighbor indices.
 fn across_in(places: Places) -> Across
     ensures same { result ≡ across_in places }
     ensures within { IsAcrossWithin (2 ^ 32) result }
@@ -125,7 +126,7 @@ fn across_in(places: Places) -> Across
     }
 }
 
-/// The place of a row, or none where it is the greatest number.
+/// Unpacks one neighbor index; the greatest number is none.
 fn place_in(place: u32) -> Option<usize>
     ensures same { result ≡ place_in place }
     ensures within { IfSome result (λ row. row < 2 ^ 32) }
@@ -136,7 +137,7 @@ fn place_in(place: u32) -> Option<usize>
     Some(place as usize)
 }
 
-/// The place of a row, or the greatest number where there is none.
+/// Packs one neighbor index; none is the greatest number.
 fn place_or_greatest(row: Option<u32>) -> u32
     requires { IfSome row (λ place. place < 2 ^ 32 - 1) }
     ensures { place_in result ≡ row }
@@ -147,7 +148,7 @@ fn place_or_greatest(row: Option<u32>) -> u32
     }
 }
 
-/// Puts in the partners of all rows, use by use.
+/// Writes the neighbors of all tetrahedra, use by use.
 fn put_partners(list: &TetList, uses: &Uses, places: &mut [Places])
     requires uses { AreUsesOf list.now uses.now }
     requires long { length places.old ≡ length list.now }
@@ -165,8 +166,8 @@ fn put_partners(list: &TetList, uses: &Uses, places: &mut [Places])
     }
 }
 
-/// Puts in the partner across a face of a row. Where the row is arranged, so that no two corners
-/// are at one point, the face is opposite one corner alone.
+/// Writes the neighbor across a face of a tetrahedron. Where the row is arranged, so that no two
+/// corners are one point, the face is opposite one corner alone.
 fn put_partner(list: &TetList, half: HalfFace, arranged: bool, place: u32, places: &mut Places)
     requires there { half.row < length list.now }
     requires arranged { IsTrue arranged → IsAscendingRow (row_at list.now half.row) }
@@ -180,7 +181,7 @@ fn put_partner(list: &TetList, half: HalfFace, arranged: bool, place: u32, place
     places.rows[number_of(half.opposite)] = place;
 }
 
-/// Puts in the partner across the face opposite a corner of a row, at each corner at its point.
+/// Writes the neighbor across the face opposite a corner, for each corner that is the same point.
 fn put_at_point(row: Tet, opposite: Corner, place: u32, places: &mut Places)
     ensures { across_in places.new
         ≡ with_partner row (opposite_row_face row opposite) (place_in place) (across_in places.old) }
@@ -200,7 +201,8 @@ fn put_at_point(row: Tet, opposite: Corner, place: u32, places: &mut Places)
     }
 }
 
-/// For each corner whether it is at the point of this one. The faces opposite the two are one then.
+/// For each corner whether it is the same point as `corner`; the faces opposite the two are then
+/// one.
 fn are_at_point(row: Tet, corner: Corner) -> [bool; 4]
     ensures { let face = opposite_row_face row corner in result
         ≡ is_face (face_of row.b row.c row.d) face ∷ is_face (face_of row.a row.c row.d) face

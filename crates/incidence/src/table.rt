@@ -1,4 +1,4 @@
-//! A table of faces.
+//! A hash table of faces.
 ghost use Rattle.std.specs.Prelude.{◌≡◌, ◌↔◌, ◌⊎◌, ◌+◌, ◌<◌, ℕ, true, false, length, map, Contains};
 ghost use Rattle.std.specs.Prelude.{IfOk};
 ghost use Rattle.incidence.specs.Chains.{face_at, face_of_triangle, chain_of, IsNextFace};
@@ -11,13 +11,14 @@ use std::alloc::Global;
 use std::marker::Model;
 use tet_ports::NoMemory;
 
-/// Faces in the order in which they were given, which contracts see, each found in the time of a
-/// look at the few others in its chain.
+/// Faces in the order in which they were given, which contracts see. A face is found among the few
+/// in its chain.
 #[derive(Drop)]
 pub struct FaceTable {
     faces: Vec<Face>,
     chains: Chains,
-    /// Whether a face begins at a point, up to the last one at which one does.
+    /// One mark per point, up to the greatest first corner: whether it is the first corner of a
+    /// face.
     begins: Vec<bool>,
 }
 
@@ -46,7 +47,8 @@ fn faces_of(alloc: Global, triangles: &FacetTriangles) -> Result<Vec<Face>, NoMe
 }
 
 impl FaceTable {
-    /// The triangles as faces, in their order. Their numbers take memory up to the greatest one.
+    /// A table of the triangles, in their order. Its memory grows with the greatest number of a
+    /// corner.
     pub fn of_triangles(alloc: Global, triangles: &FacetTriangles) -> Result<Self, NoMemory>
         ensures { IfOk result (λ table. table ≡ map face_of_triangle triangles.now) }
     {
@@ -97,7 +99,7 @@ impl FaceTable {
         self.chains.next[place]
     }
 
-    /// Whether some face has this first corner.
+    /// Whether `corner` may be the first corner of a face; if not, it is that of none.
     #[inline]
     pub fn has_first(&self, corner: u32) -> bool
         ensures { result ≡ false → (k : ℕ) → k < length self.now
@@ -110,7 +112,7 @@ impl FaceTable {
         false
     }
 
-    /// Whether the face is one of these.
+    /// Whether the table has the face.
     #[inline]
     pub fn has(&self, face: Face) -> bool
         ensures { (result ≡ true) ↔ Contains self.now face }
@@ -125,7 +127,7 @@ impl FaceTable {
         false
     }
 
-    /// Marks each place that has this face.
+    /// Marks each place at which the table has the face.
     #[inline]
     pub fn mark(&self, face: Face, marks: &mut [bool])
         requires { length marks.old ≡ length self.now }

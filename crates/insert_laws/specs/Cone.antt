@@ -1,4 +1,4 @@
--- The sides of Delaunay tetrahedra at a corner, seen from one of them.
+-- The edges of Delaunay tetrahedra at a corner, seen from one of them.
 use Rattle.std.specs.Prelude.{◌≢◌, ℕ, List, Contains}
 use Rattle.sign_predicates.specs.Point.{Point}
 use Rattle.sign_predicates.specs.Orientation.{IsPositive}

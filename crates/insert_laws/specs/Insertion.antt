@@ -12,23 +12,23 @@ use Rattle.geo_laws.specs.OrientedFace.{Face, triangle, reversed, beside}
 pub use Rattle.insert_laws.specs.LowestInsertion.{IsNew, HasSameCorners, IsFaceOf, HasNoneAmongBeyond, edge_and}
 pub use Rattle.insert_laws.specs.LowestInsertion.{RowOrGhost, row_place, ghost_place, Touches, row_row, row_ghost, ghost_row, ghost_ghost, ghost_turned}
 
--- f is a face of the hull, turned outward: a row lies behind it, and no point is strictly beyond it
+-- f is a face of the hull, turned outward: a tetrahedron lies behind it, and no point is strictly beyond it
 pub record IsHullFace (ps : List Point) (ms : List ℕ) (f : Face) : Type 0 where
   pub behind : Tet
   pub is_row : IsDelaunayAmong ps ms behind
   pub is_face : IsFaceOf ps (reversed f) behind
   pub none_beyond : HasNoneAmongBeyond ps ms f
 
--- p is outside of a row
+-- p is outside of a tetrahedron
 abbrev pub HasOutside : List Point → Tet → ℕ → Type 0
 HasOutside ps t p = IsTrue (is_outside (corners ps t) (as_numbers t) (point ps p) p)
 
--- p is strictly beyond the hull face, or on its plane and not outside of the row behind it
+-- p is strictly beyond the hull face, or on its plane and not outside of the tetrahedron behind it
 abbrev pub Sees : List Point → ℕ → Face → Tet → Type 0
 Sees ps p f behind = (pos 0 <ℤ side (triangle ps f) (point ps p)) ⊎ ((side (triangle ps f) (point ps p) ≡ pos 0) × ¬ HasOutside ps behind p)
 
--- On the positive side of the face stands a place of the cavity of p: a row that doesn't have p outside, or the ghost of a hull face that p
--- sees
+-- On the positive side of the face stands a place of the cavity of p: a tetrahedron that doesn't have p outside, or the ghost of a hull
+-- face that p sees
 pub data IsCavityPlace (ps : List Point) (ms : List ℕ) (p : ℕ) (f : Face) : Type 0 where
   cavity_row : (t : Tet) → IsDelaunayAmong ps ms t → IsFaceOf ps f t → ¬ HasOutside ps t p → IsCavityPlace ps ms p f
   cavity_ghost : (h : IsHullFace ps ms f) → Sees ps p f h.behind → IsCavityPlace ps ms p f
@@ -38,7 +38,7 @@ pub data IsClearPlace (ps : List Point) (ms : List ℕ) (p : ℕ) (f : Face) : T
   clear_row : (t : Tet) → IsDelaunayAmong ps ms t → IsFaceOf ps f t → HasOutside ps t p → IsClearPlace ps ms p f
   clear_ghost : (h : IsHullFace ps ms f) → ¬ Sees ps p f h.behind → IsClearPlace ps ms p f
 
--- t is the row of p and a face between a place of the cavity and one that isn't in it
+-- t is the tetrahedron of p and a face between a place of the cavity and one that isn't in it
 pub record IsStarRow (ps : List Point) (ms : List ℕ) (p : ℕ) (t : Tet) : Type 0 where
   pub face : Face
   pub same_corners : HasSameCorners (beside face p) t
@@ -47,8 +47,8 @@ pub record IsStarRow (ps : List Point) (ms : List ℕ) (p : ℕ) (t : Tet) : Typ
   pub cavity : IsCavityPlace ps ms p face
   pub clear : IsClearPlace ps ms p (reversed face)
 
--- The Delaunay rows with p are those without that have p outside, and the star of p over the rim of its cavity. (That some row is there
--- says that the points aren't all coplanar.)
+-- The Delaunay tetrahedra with p are those without that have p outside, and the star of p over the rim of its cavity. (That some
+-- tetrahedron is there says that the points aren't all coplanar.)
 abbrev pub InsertionLaw : Type 0
 InsertionLaw = (ps : List Point) (ms : List ℕ) (p : ℕ) → IsNew ps ms p → (some : Tet) → IsDelaunayAmong ps ms some → (t : Tet)
     → IsDelaunayAmong ps (p ∷ ms) t ↔ ((IsDelaunayAmong ps ms t × HasOutside ps t p) ⊎ IsStarRow ps ms p t)
@@ -58,13 +58,13 @@ abbrev pub RimLaw : Type 0
 RimLaw = (ps : List Point) (ms : List ℕ) (p : ℕ) → IsNew ps ms p → (f : Face) → IsCavityPlace ps ms p f → IsClearPlace ps ms p (reversed f)
     → pos 0 <ℤ side (triangle ps f) (point ps p)
 
--- across each face of a Delaunay row lies another one, or no point
+-- across each face of a Delaunay tetrahedron lies another one, or no point
 abbrev pub FacePairingLaw : Type 0
 FacePairingLaw = (ps : List Point) (ms : List ℕ) → AreNumbersOf ps ms → (f : Face) (t : Tet) → IsDelaunayAmong ps ms t
     → IsFaceOf ps (reversed f) t
     → HasNoneAmongBeyond ps ms f ⊎ ((s : Tet) × IsDelaunayAmong ps ms s × IsFaceOf ps f s)
 
--- at most one Delaunay row lies on one side of a face
+-- at most one Delaunay tetrahedron lies on one side of a face
 abbrev pub OneRowLaw : Type 0
 OneRowLaw = (ps : List Point) (ms : List ℕ) → AreNumbersOf ps ms → (f : Face) (s t : Tet) → IsDelaunayAmong ps ms s → IsFaceOf ps f s
     → IsDelaunayAmong ps ms t → IsFaceOf ps f t → s ≡ t
@@ -108,7 +108,7 @@ pub data ArePlacesJoined (ps : List Point) (ms : List ℕ) (p : ℕ) : RowOrGhos
   joined_self : (a : RowOrGhost) → ArePlacesJoined ps ms p a a
   joined_by : (a b c : RowOrGhost) → Touches ps a b → IsInCavity ps ms p b → ArePlacesJoined ps ms p b c → ArePlacesJoined ps ms p a c
 
--- where p lies in the closed row s of the cavity, each place of the cavity is joined to s
+-- where p lies in the closed tetrahedron s of the cavity, each place of the cavity is joined to s
 abbrev pub InsideCavityLaw : Type 0
 InsideCavityLaw = (ps : List Point) (ms : List ℕ) (p : ℕ) → IsNew ps ms p → (s : Tet) → IsDelaunayAmong ps ms s
     → InClosed (corners ps s) (as_rational (point ps p)) → ¬ HasOutside ps s p
@@ -120,7 +120,7 @@ BeyondCavityLaw = (ps : List Point) (ms : List ℕ) (p : ℕ) → IsNew ps ms p 
     → pos 0 <ℤ side (triangle ps f) (point ps p)
     → (a : RowOrGhost) → IsInCavity ps ms p a → ArePlacesJoined ps ms p a (ghost_place f)
 
--- the Delaunay rows of a list are those among its numbers in the list with a further point, which isn't among them
+-- the Delaunay tetrahedra of a list are those among its numbers in the list with a further point, which isn't among them
 abbrev pub StartOfListLaw : Type 0
 StartOfListLaw = (ps : List Point) (p : Point) (t : Tet) → IsDelaunay ps t ↔ IsDelaunayAmong (ps ++ p ∷ []) (all_numbers ps) t
 
@@ -129,7 +129,7 @@ abbrev pub SameNumbersLaw : Type 0
 SameNumbersLaw = (ps : List Point) (ms ks : List ℕ) → ((i : ℕ) → Contains ms i ↔ Contains ks i) → (t : Tet) → IsDelaunayAmong ps ms t
     → IsDelaunayAmong ps ks t
 
--- a hull face is a face of a row behind it, and of none before it
+-- a hull face is a face of a tetrahedron behind it, and of none before it
 abbrev pub HullFaceLaw : Type 0
 HullFaceLaw = (ps : List Point) (ms : List ℕ) → AreNumbersOf ps ms → (f : Face) (t : Tet) → IsDelaunayAmong ps ms t
     → IsFaceOf ps (reversed f) t
@@ -140,13 +140,13 @@ abbrev pub HullTurnLaw : Type 0
 HullTurnLaw = (ps : List Point) (ms : List ℕ) → AreNumbersOf ps ms → (i j o : ℕ) → IsHullFace ps ms (edge_and i j o)
     → IsHullFace ps ms (edge_and j o i)
 
--- a further point lies in a closed row, or strictly beyond a hull face
+-- a further point lies in a closed tetrahedron, or strictly beyond a hull face
 abbrev pub LocateLaw : Type 0
 LocateLaw = (ps : List Point) (ms : List ℕ) (p : ℕ) → IsNew ps ms p → (some : Tet) → IsDelaunayAmong ps ms some
     → ((t : Tet) × IsDelaunayAmong ps ms t × InClosed (corners ps t) (as_rational (point ps p)))
     ⊎ ((f : Face) × IsHullFace ps ms f × (pos 0 <ℤ side (triangle ps f) (point ps p)))
 
--- a closed row that holds p, where p is none of its corners, is in the cavity
+-- a closed tetrahedron that holds p, where p is none of its corners, is in the cavity
 abbrev pub StartLaw : Type 0
 StartLaw = (ps : List Point) (ms : List ℕ) (p : ℕ) → IsNew ps ms p → ((i : ℕ) → Contains ms i → point ps i ≢ point ps p) → (t : Tet)
     → IsDelaunayAmong ps ms t

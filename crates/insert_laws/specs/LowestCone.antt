@@ -1,4 +1,4 @@
--- The sides of lowest tetrahedra at a corner, seen from one of them.
+-- The edges of lowest tetrahedra at a corner, seen from one of them.
 use Rattle.std.specs.Prelude.{◌≢◌, ℕ, ◌<◌, pos, ◌≤ℤ◌, List, Contains, ℤ}
 use Rattle.std.specs.List.{slice_index_or}
 use Rattle.sign_predicates.specs.Point.{Point}

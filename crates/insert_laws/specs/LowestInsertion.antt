@@ -22,7 +22,7 @@ pub record IsNew (ps : List Point) (ms : List ℕ) (p : ℕ) : Type 0 where
 abbrev pub HasSameCorners : Tet → Tet → Type 0
 HasSameCorners s t = (i : ℕ) → Contains (numbers s) i ↔ Contains (numbers t) i
 
--- f is a face of the row t, which lies on its positive side
+-- f is a face of the tetrahedron t, which lies on its positive side
 pub record IsFaceOf (ps : List Point) (f : Face) (t : Tet) : Type 0 where
   pub opposite : ℕ
   pub same_corners : HasSameCorners (beside f opposite) t
@@ -32,24 +32,24 @@ pub record IsFaceOf (ps : List Point) (f : Face) (t : Tet) : Type 0 where
 abbrev pub HasNoneAmongBeyond : List Point → List ℕ → Face → Type 0
 HasNoneAmongBeyond ps ms f = (i : ℕ) → Contains ms i → ¬ (pos 0 <ℤ side (triangle ps f) (point ps i))
 
--- f is a face of the hull, turned outward: a row lies behind it, and no point is strictly beyond it
+-- f is a face of the hull, turned outward: a tetrahedron lies behind it, and no point is strictly beyond it
 pub record IsLowestHullFace (lifts : ℕ → ℤ) (ps : List Point) (ms : List ℕ) (f : Face) : Type 0 where
   pub behind : Tet
   pub is_row : IsLowestAmong ps ms lifts behind
   pub is_face : IsFaceOf ps (reversed f) behind
   pub none_beyond : HasNoneAmongBeyond ps ms f
 
--- p is lifted above the plane through the row's lifted corners
+-- p is lifted above the plane through the tetrahedron's lifted corners
 abbrev pub HasAbove : (ℕ → ℤ) → List Point → Tet → ℕ → Type 0
 HasAbove lifts ps t p = IsLexPositive (residual ps lifts t p)
 
--- p is strictly beyond the hull face, or on its plane and not above the row behind it
+-- p is strictly beyond the hull face, or on its plane and not above the tetrahedron behind it
 abbrev pub LowestSees : (ℕ → ℤ) → List Point → ℕ → Face → Tet → Type 0
 LowestSees lifts ps p f behind =
     (pos 0 <ℤ side (triangle ps f) (point ps p)) ⊎ ((side (triangle ps f) (point ps p) ≡ pos 0) × ¬ HasAbove lifts ps behind p)
 
--- On the positive side of the face stands a place of the cavity of p: a row that doesn't have p above, or the ghost of a hull face that p
--- sees
+-- On the positive side of the face stands a place of the cavity of p: a tetrahedron that doesn't have p above, or the ghost of a hull face
+-- that p sees
 pub data IsLowestCavityPlace (lifts : ℕ → ℤ) (ps : List Point) (ms : List ℕ) (p : ℕ) (f : Face) : Type 0 where
   cavity_row : (t : Tet) → IsLowestAmong ps ms lifts t → IsFaceOf ps f t → ¬ HasAbove lifts ps t p → IsLowestCavityPlace lifts ps ms p f
   cavity_ghost : (h : IsLowestHullFace lifts ps ms f) → LowestSees lifts ps p f h.behind → IsLowestCavityPlace lifts ps ms p f
@@ -59,7 +59,7 @@ pub data IsLowestClearPlace (lifts : ℕ → ℤ) (ps : List Point) (ms : List �
   clear_row : (t : Tet) → IsLowestAmong ps ms lifts t → IsFaceOf ps f t → HasAbove lifts ps t p → IsLowestClearPlace lifts ps ms p f
   clear_ghost : (h : IsLowestHullFace lifts ps ms f) → ¬ LowestSees lifts ps p f h.behind → IsLowestClearPlace lifts ps ms p f
 
--- t is the row of p and a face between a place of the cavity and one that isn't in it
+-- t is the tetrahedron of p and a face between a place of the cavity and one that isn't in it
 pub record IsLowestStarRow (lifts : ℕ → ℤ) (ps : List Point) (ms : List ℕ) (p : ℕ) (t : Tet) : Type 0 where
   pub face : Face
   pub same_corners : HasSameCorners (beside face p) t
@@ -68,8 +68,8 @@ pub record IsLowestStarRow (lifts : ℕ → ℤ) (ps : List Point) (ms : List �
   pub cavity : IsLowestCavityPlace lifts ps ms p face
   pub clear : IsLowestClearPlace lifts ps ms p (reversed face)
 
--- The lowest rows with p are those without that have p above, and the star of p over the rim of its cavity. (That some row is there says
--- that the points aren't all coplanar.)
+-- The lowest tetrahedra with p are those without that have p above, and the star of p over the rim of its cavity. (That some tetrahedron is
+-- there says that the points aren't all coplanar.)
 abbrev pub LowestInsertionLaw : Type 0
 LowestInsertionLaw = (lifts : ℕ → ℤ) (ps : List Point) (ms : List ℕ) (p : ℕ) → IsNew ps ms p → (some : Tet) → IsLowestAmong ps ms lifts some
     → (t : Tet)
@@ -80,13 +80,13 @@ abbrev pub LowestRimLaw : Type 0
 LowestRimLaw = (lifts : ℕ → ℤ) (ps : List Point) (ms : List ℕ) (p : ℕ) → IsNew ps ms p → (f : Face) → IsLowestCavityPlace lifts ps ms p f
     → IsLowestClearPlace lifts ps ms p (reversed f) → pos 0 <ℤ side (triangle ps f) (point ps p)
 
--- across each face of a lowest row lies another one, or no point
+-- across each face of a lowest tetrahedron lies another one, or no point
 abbrev pub LowestFacePairingLaw : Type 0
 LowestFacePairingLaw = (lifts : ℕ → ℤ) (ps : List Point) (ms : List ℕ) → AreNumbersOf ps ms → (f : Face) (t : Tet)
     → IsLowestAmong ps ms lifts t → IsFaceOf ps (reversed f) t
     → HasNoneAmongBeyond ps ms f ⊎ ((s : Tet) × IsLowestAmong ps ms lifts s × IsFaceOf ps f s)
 
--- at most one lowest row lies on one side of a face
+-- at most one lowest tetrahedron lies on one side of a face
 abbrev pub LowestOneRowLaw : Type 0
 LowestOneRowLaw = (lifts : ℕ → ℤ) (ps : List Point) (ms : List ℕ) → AreNumbersOf ps ms → (f : Face) (s t : Tet)
     → IsLowestAmong ps ms lifts s
@@ -126,7 +126,7 @@ LowestHullEdgeLaw = (lifts : ℕ → ℤ) (ps : List Point) (ms : List ℕ) → 
 
 -- ---- the cavity is connected
 
--- a row, or the ghost of a hull face
+-- a tetrahedron, or the ghost of a hull face
 pub data RowOrGhost : Type 0 where
   row_place : Tet → RowOrGhost
   ghost_place : Face → RowOrGhost
@@ -151,7 +151,7 @@ pub data AreLowestPlacesJoined (lifts : ℕ → ℤ) (ps : List Point) (ms : Lis
   joined_by : (a b c : RowOrGhost) → Touches ps a b → IsInLowestCavity lifts ps ms p b → AreLowestPlacesJoined lifts ps ms p b c
       → AreLowestPlacesJoined lifts ps ms p a c
 
--- where p lies in the closed row s of the cavity, each place of the cavity is joined to s
+-- where p lies in the closed tetrahedron s of the cavity, each place of the cavity is joined to s
 abbrev pub LowestInsideCavityLaw : Type 0
 LowestInsideCavityLaw = (lifts : ℕ → ℤ) (ps : List Point) (ms : List ℕ) (p : ℕ) → IsNew ps ms p → (s : Tet) → IsLowestAmong ps ms lifts s
     → InClosed (corners ps s) (as_rational (point ps p)) → ¬ HasAbove lifts ps s p
@@ -169,7 +169,7 @@ abbrev pub LowestSameNumbersLaw : Type 0
 LowestSameNumbersLaw = (lifts : ℕ → ℤ) (ps : List Point) (ms ks : List ℕ) → ((i : ℕ) → Contains ms i ↔ Contains ks i) → (t : Tet)
     → IsLowestAmong ps ms lifts t → IsLowestAmong ps ks lifts t
 
--- a hull face is a face of a row behind it, and of none before it
+-- a hull face is a face of a tetrahedron behind it, and of none before it
 abbrev pub LowestHullFaceLaw : Type 0
 LowestHullFaceLaw = (lifts : ℕ → ℤ) (ps : List Point) (ms : List ℕ) → AreNumbersOf ps ms → (f : Face) (t : Tet)
     → IsLowestAmong ps ms lifts t
@@ -181,13 +181,14 @@ abbrev pub LowestHullTurnLaw : Type 0
 LowestHullTurnLaw = (lifts : ℕ → ℤ) (ps : List Point) (ms : List ℕ) → AreNumbersOf ps ms → (i j o : ℕ)
     → IsLowestHullFace lifts ps ms (edge_and i j o) → IsLowestHullFace lifts ps ms (edge_and j o i)
 
--- a further point lies in a closed row, or strictly beyond a hull face
+-- a further point lies in a closed tetrahedron, or strictly beyond a hull face
 abbrev pub LowestLocateLaw : Type 0
 LowestLocateLaw = (lifts : ℕ → ℤ) (ps : List Point) (ms : List ℕ) (p : ℕ) → IsNew ps ms p → (some : Tet) → IsLowestAmong ps ms lifts some
     → ((t : Tet) × IsLowestAmong ps ms lifts t × InClosed (corners ps t) (as_rational (point ps p)))
     ⊎ ((f : Face) × IsLowestHullFace lifts ps ms f × (pos 0 <ℤ side (triangle ps f) (point ps p)))
 
--- A point that lies in a closed row and above it is hidden: it changes neither the rows nor the hull, and its cavity has no place
+-- A point that lies in a closed tetrahedron and above it is hidden: it changes neither the tetrahedra nor the hull, and its cavity has no
+-- place
 pub record IsHidden (lifts : ℕ → ℤ) (ps : List Point) (ms : List ℕ) (p : ℕ) : Type 0 where
   pub above : (t : Tet) → IsLowestAmong ps ms lifts t → HasAbove lifts ps t p
   pub no_place : (a : RowOrGhost) → ¬ IsInLowestCavity lifts ps ms p a

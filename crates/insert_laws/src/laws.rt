@@ -1,7 +1,6 @@
-//! How the Delaunay list and its hull change when a point is added, over the definitions alone.
-//! Each law is the contract of a function that does nothing. The points are those of a list that
-//! have some numbers, and the new one may have any other number: so points may be added in any
-//! order.
+//! How the Delaunay list and its hull change when a point is added, over the definitions alone. The
+//! points are those of a list that have some numbers, and the new one may have any other number: so
+//! points may be added in any order.
 ghost use Rattle.insert_laws.specs.Insertion.{InsertionLaw, RimLaw, FacePairingLaw, OneRowLaw, HullFaceLaw, HullTurnLaw, HullEdgeLaw, OldHullLaw, NewHullLaw, LocateLaw, StartLaw, InsideCavityLaw, BeyondCavityLaw, StartOfListLaw, SameNumbersLaw, RimEdgeLaw, HullRimLaw, SomeRimFaceLaw, FirstLaw, PlaceLaw};
 ghost use Rattle.insert_laws.specs.Cone.{ConeLaw};
 

@@ -1,7 +1,7 @@
 //! How the lower hull of lifted points changes when a point is added, over the definitions alone.
-//! Each law is the contract of a function that does nothing, and holds of any heights: so it holds
-//! of the Delaunay list and of the regular list alike. The points are those of a list that have
-//! some numbers, and the new one may have any other number: so points may be added in any order.
+//! The laws hold for any heights, and so for the Delaunay list and the regular list alike. The
+//! points are those of a list that have some numbers, and the new one may have any other number: so
+//! points may be added in any order.
 ghost use Rattle.insert_laws.specs.LowestInsertion.{LowestInsertionLaw, LowestRimLaw, LowestFacePairingLaw, LowestOneRowLaw};
 ghost use Rattle.insert_laws.specs.LowestInsertion.{LowestHullFaceLaw, LowestHullTurnLaw, LowestHullEdgeLaw, LowestOldHullLaw};
 ghost use Rattle.insert_laws.specs.LowestInsertion.{LowestNewHullLaw, LowestLocateLaw, HiddenLaw, LowestInsideCavityLaw};

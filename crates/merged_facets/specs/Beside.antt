@@ -39,15 +39,15 @@ pub record IsOffCorner (ps : List Point) (s : Piece) (p : List ℕ) (i : ℕ) : 
 abbrev pub LieInPlane : List Point → Piece → ℕ → ℕ → Type 0
 LieInPlane ps s i j = orient (point ps s.a) (point ps s.b) (point ps i) (point ps j) ≡ pos 0
 
--- it lies on the line of the side, or on the same hand as the corner i
+-- the corner j lies on the line of the side, or on the same hand as the corner i
 pub record LieBeside (ps : List Point) (s : Piece) (i j : ℕ) : Type 0 where
   pub beside : pos 0 ≤ℤ alike_turned ps s i j
 
--- it lies on the line of the side, or on the other hand
+-- the corner j lies on the line of the side, or on the other hand
 pub record LieAcross (ps : List Point) (s : Piece) (i j : ℕ) : Type 0 where
   pub across : alike_turned ps s i j ≤ℤ pos 0
 
--- the corner j lies so
+-- the corner j lies to the side as `lie` says, compared with the corner i
 abbrev pub Lies : Lie → List Point → Piece → ℕ → ℕ → Type 0
 Lies InPlane ps s i j = LieInPlane ps s i j
 Lies Beside ps s i j = LieBeside ps s i j

@@ -1,4 +1,4 @@
--- The sides of facets that may be joined, and which of them have the same ends.
+-- The sides of facets that may be joined, and those with the same ends.
 use Rattle.std.specs.Prelude.{◌≡◌, ◌≢◌, ℕ, ◌<◌, ◌==◌, ◌&&◌, Bool, min, max, Option, Some, None, List, length, get_or, Contains}
 use Rattle.geo_laws.specs.Segment.{piece, sides}
 use Rattle.geo_laws.specs.Complex.{Complex}
@@ -13,7 +13,7 @@ facet_side f s = record { facet = f; side = s }
 abbrev pub ends_of : Piece → Ends
 ends_of s = record { low = min s.a s.b; high = max s.a s.b }
 
--- it is a side of its facet's polygon
+-- the side is one of its facet's polygon
 pub record IsFacetSideOf (c : Complex) (e : FacetSide) : Type 0 where
   pub there : e.facet < length c.facets
   pub side_of : Contains (sides (only_polygon (facet_at c e.facet))) e.side
@@ -24,12 +24,12 @@ pub record IsPair (c : Complex) (x y : FacetSide) : Type 0 where
   pub second : IsFacetSideOf c y
   pub same : ends_of y.side ≡ ends_of x.side
 
--- the list has those of the facets below n
+-- the list has the sides of the facets below n
 pub record AreSidesBelow (c : Complex) (n : ℕ) (list : List FacetSide) : Type 0 where
   pub each : (e : FacetSide) → Contains list e → IsFacetSideOf c e
   pub all : (f : ℕ) (s : Piece) → f < n → Contains (sides (only_polygon (facet_at c f))) s → Contains list (facet_side f s)
 
--- and those of all facets
+-- the list has the sides of all facets
 abbrev pub AreFacetSidesOf : Complex → List FacetSide → Type 0
 AreFacetSidesOf c list = AreSidesBelow c (length c.facets) list
 

@@ -1,4 +1,4 @@
--- What is true of joined facets.
+-- The laws of joined facets.
 use Rattle.std.specs.Prelude.{◌≡◌, ℕ, pos, ◌+ℤ◌, ◌≤ℤ◌, List, Contains}
 use Rattle.sign_predicates.specs.Point.{Point, from_to}
 use Rattle.sign_predicates.specs.Orientation.{Triangle, cross, side}
@@ -14,7 +14,7 @@ wall ps s i =
     let n = cross (from_to a (point ps s.b)) (from_to a (point ps i)) in
     record { a = a; b = record { x = a.x +ℤ n.x; y = a.y +ℤ n.y; z = a.z +ℤ n.z }; c = point ps s.b }
 
--- it tells on which side of the line a corner lies
+-- the plane upright on a side decides on which hand of the side a corner lies
 abbrev pub WallLaw : Type 0
 WallLaw = (ps : List Point) (s : Piece) (i j : ℕ) → side (wall ps s i) (point ps j) ≡ alike_turned ps s i j
 
@@ -33,7 +33,8 @@ pub record IsBetweenThem (ps : List Point) (s : Piece) (p q : List ℕ) (i : ℕ
   pub first : (j : ℕ) → Contains p j → pos 0 ≤ℤ side (wall ps s i) (point ps j)
   pub second : (j : ℕ) → Contains q j → side (wall ps s i) (point ps j) ≤ℤ pos 0
 
--- so one half space holds the one polygon, and the other half space the other
+-- where two polygons lie on either hand of a side, a half space upright on it holds the one, and the other half space
+-- the other
 abbrev pub EitherHandLaw : Type 0
 EitherHandLaw = (ps : List Point) (s : Piece) (p q : List ℕ) (i : ℕ) → AreOnOneSideOf ps s p → AreOnEitherSide ps s p q → Contains p i
     → IsBetweenThem ps s p q i

@@ -5,8 +5,8 @@ use Rattle.std.specs.Prelude.{◌≡◌, ℕ, ◌<◌, ◌≤◌, ◌==◌, if�
 abbrev pub IsForest : List ℕ → Type 0
 IsForest down = (i : ℕ) → i < length down → get_or down i 0 ≤ i
 
--- A number has the label of the one that it leads to, at most the number itself; one that leads to itself is its own label.
--- So the label is the number that the way down ends at
+-- A number has the label of the one that it leads to, at most the number itself; one that leads to itself is its own
+-- label. The label of a number is the one at which its path down ends
 pub record AreLabels (down : List ℕ) (label : ℕ → ℕ) : Type 0 where
   pub least : (i : ℕ) → label i ≤ i
   pub again : (i : ℕ) → label (label i) ≡ label i

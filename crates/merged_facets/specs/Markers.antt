@@ -1,4 +1,4 @@
--- A merged facet has one marker, and stands at the least number of its group.
+-- A merged facet has one marker, and its number is the least of its group.
 use Rattle.std.specs.Prelude.{◌≡◌, ◌≢◌, ◌<◌, ℕ, Bool, List, length}
 use Rattle.sign_predicates.specs.Point.{Point}
 use Rattle.geo_laws.specs.Complex.{Complex}
@@ -10,7 +10,7 @@ abbrev pub OneMarkerLaw : Type 0
 OneMarkerLaw = (ps : List Point) (c : Complex) (group : ℕ → ℕ) (inner : ℕ → Piece → Bool) → IsMerging ps c group inner
     → (f : ℕ) → f < length c.facets → marker_at c f ≡ marker_at c (group f)
 
--- At a number that is not the least of its group no merged facet stands
+-- A number that is not the least of its group has no merged facet
 abbrev pub LeastNumberLaw : Type 0
 LeastNumberLaw = (ps : List Point) (c : Complex) (group : ℕ → ℕ) (inner : ℕ → Piece → Bool) → IsMerging ps c group inner
     → (k : ℕ) → k < length c.facets → group k ≢ k → merged_facet group c k ≡ no_facet

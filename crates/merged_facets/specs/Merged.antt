@@ -48,9 +48,9 @@ MeetsOthers ps s p = AllByRecursion (λ r. same_ends s r ≡ false → ProperlyM
 abbrev pub together : Facet → Facet → Facet
 together f g = record { polygons = f.polygons ++ g.polygons; holes = [] }
 
--- Two facets with their markers are joined over a side: each has one polygon, not on a line, and no hole point; the markers are alike; all
--- corners lie in one plane; the side stands in each at one place, with the one facet on the one hand of it and the other on the other; and
--- it is properly met with the other sides
+-- Two facets with their markers are joined over a side: each has one polygon, not on a line, and no hole point; the
+-- markers are alike; all corners lie in one plane; each has the side at one place, with the one facet on the one hand
+-- of it and the other on the other; and it is properly met with the other sides
 pub record AreJoinedOver (ps : List Point) (s : Piece) (f g : Facet) (m n : Option ℤ) : Type 0 where
   pub first_spans : IsTrue (has_span ps (only_polygon f))
   pub second_spans : IsTrue (has_span ps (only_polygon g))
@@ -73,7 +73,7 @@ no_facet = record { polygons = []; holes = [] }
 abbrev pub facet_at : Complex → ℕ → Facet
 facet_at c f = slice_index_or (facets c) f no_facet
 
--- and its marker
+-- the marker of a facet
 abbrev pub marker_at : Complex → ℕ → Option ℤ
 marker_at c f = slice_index_or (map (λ g. g.marker) c.facets) f None
 
@@ -87,7 +87,7 @@ pub record AreJoined (ps : List Point) (c : Complex) (s : Piece) (f g : ℕ) : T
 abbrev pub IsInner : List Point → Complex → ℕ → Piece → Type 0
 IsInner ps c f s = (g : ℕ) × AreJoined ps c s f g
 
--- joined in a chain
+-- two facets are joined in a chain
 pub data AreChained (ps : List Point) (c : Complex) : ℕ → ℕ → Type 0 where
   alone : (f : ℕ) → AreChained ps c f f
   onward : (f g h : ℕ) (s : Piece) → AreJoined ps c s f g → AreChained ps c g h → AreChained ps c f h
@@ -116,8 +116,8 @@ merged_segments inner c = first_places (flat_map (outer_sides inner) (zip (numbe
 abbrev pub members : (ℕ → ℕ) → Complex → ℕ → List (ℕ × Facet)
 members group c f = filter (λ g. group g.0 == f) (zip (numbers_below (length c.facets)) (facets c))
 
--- the merged facet that stands at the number: the polygons and hole points of its members. It has none where the number is not the least of
--- its group
+-- the merged facet at a number: the polygons and hole points of its members, and none where the number is not the least
+-- of its group
 abbrev pub merged_facet : (ℕ → ℕ) → Complex → ℕ → Facet
 merged_facet group c f = record {
   polygons = flat_map (λ g. g.1.polygons) (members group c f);

@@ -31,7 +31,7 @@ pub record AreMemberChains (group : ℕ → ℕ) (n from : ℕ) (first next : Li
   pub first_is : (k : ℕ) → k < n → IsFirstFrom group n k from (get_or first k None)
   pub next_is : (g : ℕ) → from ≤ g → g < n → IsFirstFrom group n (group g) (g + 1) (get_or next g None)
 
--- so many places at which nothing stands
+-- a list of n entries, all None
 pub record AreNone (n : ℕ) (list : List (Option ℕ)) : Type 0 where
   pub long : length list ≡ n
   pub none : (k : ℕ) → get_or list k None ≡ None

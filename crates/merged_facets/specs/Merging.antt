@@ -1,4 +1,4 @@
--- Which facets of a complex are one facet, and how that is found side by side.
+-- The facets of a complex that are one facet, and the search for them side by side.
 use Rattle.std.specs.Prelude.{◌≡◌, ◌⊎◌, ℕ, ◌<◌, Bool, ◌&&◌, ◌==◌, Option, Some, None, List, length, get_or, All, Contains}
 use Rattle.std.specs.List.{list_any}
 use Rattle.sign_predicates.specs.Point.{Point}
@@ -22,7 +22,7 @@ pub record Groups : Type 0 where
 abbrev pub group_of : Groups → ℕ → ℕ
 group_of m f = get_or m.least f 0
 
--- whether it is the side of this facet, in either direction
+-- whether the inner side is the side s of the facet, in either direction
 abbrev pub is_side_of : ℕ → Piece → InnerSide → Bool
 is_side_of f s k = k.facet == f && (k.ends.low == (ends_of s).low && k.ends.high == (ends_of s).high)
 
@@ -55,12 +55,12 @@ pub record IsSoundForest (ps : List Point) (c : Complex) (down : List ℕ) (inne
   pub chained : (f : ℕ) → AreChained ps c f (label f)
   pub inner_is : (k : InnerSide) (s : Piece) → Contains inner k → ends_of s ≡ k.ends → IsInner ps c k.facet s
 
--- where the two sides' facets are joined, that is noted
+-- where the two sides' facets are joined, the sides are noted as inner and the groups are one
 abbrev pub IsNoted : List Point → Complex → List InnerSide → (ℕ → ℕ) → FacetSide → FacetSide → Type 0
 IsNoted ps c inner label x y =
     AreJoined ps c x.side x.facet y.facet → (label x.facet ≡ label y.facet) × Contains inner (inner_side x) × Contains inner (inner_side y)
 
--- what was noted stays so
+-- noted sides stay noted, and joined groups stay joined
 pub record Grows (old : List InnerSide) (label : ℕ → ℕ) (new : List InnerSide) (label' : ℕ → ℕ) : Type 0 where
   pub same : (f g : ℕ) → label f ≡ label g → label' f ≡ label' g
   pub kept : (k : InnerSide) → Contains old k → Contains new k

@@ -1,4 +1,4 @@
-//! Whether two polygons in one plane lie on either hand of a side.
+//! The test whether two polygons in one plane lie on the two hands of a common side.
 ghost use Rattle.std.specs.Prelude.{◌≡◌, ◌<◌, length, All, IsTrue, ◌↔◌, find, IfSome};
 ghost use Rattle.sign_predicates.specs.Sign.{IsSignOf};
 ghost use Rattle.geo_laws.specs.Delaunay.{HasDistinctPoints};
@@ -13,7 +13,7 @@ use geo_laws::{Piece, Points, Side};
 use sign_predicates::{Sign, coplanar, spans_plane, turn_sign};
 use simplex_meets::segments_met;
 
-/// Whether the two have the same ends, in either direction.
+/// Whether the two sides have the same ends, in either direction.
 #[inline]
 fn same_ends(s: Piece, r: Piece) -> bool
     ensures { result ≡ same_ends s r }
@@ -53,7 +53,8 @@ fn off_line(points: &Points, s: Piece, corners: &[u32]) -> Option<u32>
     None
 }
 
-/// Which way the corner `j` turns from the side, as against the corner `i`.
+/// The sign that compares the turns from the side to the corners `i` and `j`: in one plane,
+/// positive where both lie on the same hand of the side.
 #[inline]
 fn turn_of(points: &Points, s: Piece, i: u32, j: u32) -> Sign
     requires a_there { s.a < length points.now }
@@ -88,7 +89,7 @@ fn is_not_above(sign: Sign) -> bool
     }
 }
 
-/// How a corner may lie to a side, as against a corner `i` that is off the side's line.
+/// How a corner lies to a side, compared with a corner `i` that is off the side's line.
 #[derive(Clone, Copy)]
 enum Lie {
     /// In the plane of the side and the corner `i`.
@@ -99,7 +100,7 @@ enum Lie {
     Across,
 }
 
-/// Whether the corner `j` lies so, as against the corner `i`.
+/// Whether the corner `j` lies to the side as `lie` says, compared with the corner `i`.
 #[inline]
 fn lies(points: &Points, s: Piece, i: u32, j: u32, lie: Lie) -> bool
     requires a_there { s.a < length points.now }
@@ -120,7 +121,7 @@ fn lies(points: &Points, s: Piece, i: u32, j: u32, lie: Lie) -> bool
     }
 }
 
-/// Whether each corner lies so, as against the corner `i`.
+/// Whether each corner lies to the side as `lie` says, compared with the corner `i`.
 fn all_lie(points: &Points, s: Piece, i: u32, corners: &[u32], lie: Lie) -> bool
     requires a_there { s.a < length points.now }
     requires b_there { s.b < length points.now }
@@ -159,7 +160,8 @@ fn has_once(points: &Points, s: Piece, corners: &[u32]) -> bool
     places == 1
 }
 
-/// Whether both polygons have the side so.
+/// Whether each polygon has the side at one place, and its other sides are properly met with the
+/// side.
 fn have_once(points: &Points, s: Piece, p: &[u32], q: &[u32]) -> bool
     requires there { IsSideAmong points.now s }
     requires distinct { HasDistinctPoints points.now }

@@ -14,7 +14,7 @@ pub(crate) struct Chains {
     pub(crate) next: Vec<Option<u32>>,
 }
 
-/// A list of this length in which nothing stands yet.
+/// A list of `count` entries, all None.
 fn nothing(alloc: Global, count: u32) -> Result<Vec<Option<u32>>, NoMemory>
     ensures { IfOk result (λ list. AreNone count list.items) }
 {
@@ -25,7 +25,7 @@ fn nothing(alloc: Global, count: u32) -> Result<Vec<Option<u32>>, NoMemory>
     Ok(list)
 }
 
-/// The members of each group of so many facets.
+/// The members of each group of the `count` facets.
 pub(crate) fn chained(alloc: Global, merging: &Merging, count: u32) -> Result<Chains, NoMemory>
     requires { (f : ℕ) → f < count → group_of merging.now f ≤ f }
     ensures { IfOk result (λ c. AreMemberChains

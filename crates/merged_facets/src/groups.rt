@@ -3,8 +3,7 @@
 ghost use Rattle.std.specs.Prelude.{◌≡◌, ◌<◌, ℕ, length, get_or};
 ghost use Rattle.merged_facets.specs.Labels.{IsForest, AreLabels, joined_label};
 
-/// The least number of the group of `i`. What is passed on the way leads further down from then
-/// on.
+/// The least number of the group of `i`; the numbers on the path are then linked further down.
 pub(crate) fn least_of(down: &mut [u32], i: u32) -> u32
     requires there { i < length down.old }
     requires forest { IsForest down.old }
@@ -23,7 +22,7 @@ pub(crate) fn least_of(down: &mut [u32], i: u32) -> u32
     at
 }
 
-/// Makes one group of those of `i` and `j`.
+/// Joins the groups of `i` and `j`.
 pub(crate) fn join(down: &mut [u32], i: u32, j: u32)
     requires i_there { i < length down.old }
     requires j_there { j < length down.old }
@@ -41,7 +40,7 @@ pub(crate) fn join(down: &mut [u32], i: u32, j: u32)
     }
 }
 
-/// Lets each number lead to the least one of its group.
+/// Links each number to the least one of its group.
 pub(crate) fn settle(down: &mut [u32])
     requires { IsForest down.old }
     ensures { (label : ℕ → ℕ) → AreLabels down.old label

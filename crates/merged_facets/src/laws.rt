@@ -1,9 +1,9 @@
-//! Joined facets. Each law is the contract of a function that does nothing.
+//! The laws of joined and merged facets.
 ghost use Rattle.merged_facets.specs.Facets.{InnerLaw, MergedBoundedLaw, MergedFlatLaw};
 ghost use Rattle.merged_facets.specs.Facets.{OneMergingLaw};
 ghost use Rattle.merged_facets.specs.Groups.{WallLaw, JoinedBackLaw, GroupLaw, EitherHandLaw};
 
-/// The plane upright on a side tells on which side of it a corner lies.
+/// The plane upright on a side decides on which hand of the side a corner lies.
 pub fn law_wall()
     ensures { WallLaw }
 {}

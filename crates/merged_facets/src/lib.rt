@@ -1,6 +1,5 @@
-//! Coplanar facets that are joined over common sides are one facet, and such a side is inner: which
-//! facets and sides these are, the merged complex and its segments, and the laws of merging. Each
-//! law is the contract of a function that does nothing.
+//! Coplanar facets that are joined over common sides are one facet, and such a side is inner: the
+//! search for these facets and sides, the merged complex and its segments, and the laws of merging.
 #![tactic(auto)]
 
 mod beside;

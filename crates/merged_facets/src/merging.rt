@@ -42,8 +42,8 @@ impl Model for Merging {
     ghost view = { λ m. record { least = m.group.items; inner = m.inner.keys } };
 }
 
-/// What is found while sides are gone over: groups of facets, each facet leading down to the least
-/// one, and inner sides.
+/// The state of the search over sides: groups of facets, each facet linked down to the least one,
+/// and the inner sides.
 #[derive(Drop)]
 pub(crate) struct Found {
     pub(crate) down: Vec<u32>,
@@ -68,7 +68,7 @@ fn same_marker(m: Option<i64>, n: Option<i64>) -> bool
     m == n
 }
 
-/// Whether the facets of two sides with the same ends are joined over them.
+/// Whether the facets of two sides with the same ends are joined over these sides.
 fn are_joined(points: &Points, complex: &Complex, x: FacetSide, y: FacetSide) -> bool
     requires mergeable { AreMergeable points.now complex.now }
     requires x_is { IsFacetSideOf complex.now x }
@@ -84,7 +84,8 @@ fn are_joined(points: &Points, complex: &Complex, x: FacetSide, y: FacetSide) ->
     }
 }
 
-/// Notes two sides with the same ends, where their facets are joined over them.
+/// Notes two sides with the same ends as inner, and joins their groups, where their facets are
+/// joined over them.
 fn note_pair(
     points: &Points,
     complex: &Complex,
@@ -144,7 +145,7 @@ fn alone(alloc: Global, count: u32) -> Result<Vec<u32>, NoMemory>
     Ok(down)
 }
 
-/// What merging finds by the list of the sides.
+/// The groups and the inner sides, from the list of the sides.
 fn merging_by(
     alloc: Global,
     points: &Points,

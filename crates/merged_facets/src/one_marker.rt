@@ -7,8 +7,8 @@ pub fn law_one_marker()
     ensures { OneMarkerLaw }
 {}
 
-/// No merged facet stands at a number that is not the least of its group: it has no polygon and no
-/// hole point there.
+/// At a number that is not the least of its group the merged complex has a facet with no polygon
+/// and no hole point.
 pub fn law_least_number()
     ensures { LeastNumberLaw }
 {}

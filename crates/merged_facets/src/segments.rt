@@ -13,7 +13,7 @@ use piece_set::PieceSet;
 use std::alloc::Global;
 use tet_ports::NoMemory;
 
-/// Puts in the sides of a polygon that are not inner in its facet.
+/// Inserts the sides of a polygon that are not inner in its facet.
 fn put_outer_sides(
     set: &mut PieceSet,
     merging: &Merging,
@@ -36,7 +36,7 @@ fn put_outer_sides(
     Ok(())
 }
 
-/// Puts in the sides of a facet's polygons that are not inner in it.
+/// Inserts the sides of a facet's polygons that are not inner in the facet.
 fn put_facet(
     set: &mut PieceSet,
     merging: &Merging,
@@ -57,7 +57,7 @@ fn put_facet(
 
 /// The segments of a complex whose facets are merged: the distinct sides of all polygons that are
 /// not inner in the polygon's facet, in file order, each with 0 halvings. A side and its reverse
-/// are the same one, which keeps the direction of its first place.
+/// are one segment, in the direction that comes first.
 pub fn merged_segments(
     alloc: Global,
     complex: &Complex,

@@ -63,7 +63,7 @@ next_of c = slot_in (slice_index_or c.links 0 0)
 abbrev pub tet_of : Cell → Option SlotValue
 tet_of c = if live_in c then Some (tet_in c) else None
 
--- from this place on, so many free cells each name the next, and the last names the end of the cells
+-- from this place on, *n* free cells each name the next, and the last names the end of the cells
 abbrev pub IsFreeList : List Cell → ℕ → ℕ → Type 0
 IsFreeList cells zero at = at ≡ length cells
 IsFreeList cells (suc count) at = (c : Cell) × (slice_get cells at ≡ Some c) × (live_in c ≡ false)
@@ -85,7 +85,7 @@ pub record AreSoundCells (cells : List Cell) (live next : ℕ) : Type 0 where
   pub mesh : IsArenaMesh (map tet_of cells)
   pub small : length cells ≤ most_cells
 
--- there is room for the star over a rim of `spare` faces, of so many cells, and of so many slots on the list of the star
+-- there is room for the star over a rim of `spare` faces, among the cells, and on the list of the star
 pub record IsReady (cells : List Cell) (live next spare capacity slots : ℕ) : Type 0 where
   pub sound : AreSoundCells cells live next
   pub room : spare ≤ min capacity most_cells - live

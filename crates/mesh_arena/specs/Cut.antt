@@ -1,4 +1,4 @@
--- How a cavity is cut out: the faces of its rim lose what stands behind them, and its slots are freed.
+-- How a cavity is cut out: the faces of its rim lose their neighbors, and its slots are freed.
 use Rattle.std.specs.Prelude.{◌≡◌, ◌≢◌, ℕ, ◌-◌, ◌<◌, List, map, length, Option, None}
 use Rattle.mesh_arena.specs.declared.cell.Cell.{Cell}
 use Rattle.mesh_arena.specs.declared.slot.Slot.{Slot}

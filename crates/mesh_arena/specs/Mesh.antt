@@ -1,4 +1,4 @@
--- What a contract sees of an `Arena`: a list of slots, each free or with a tetrahedron.
+-- The value of an `Arena` in contracts: a list of slots, each free or with a tetrahedron.
 use Rattle.std.specs.Prelude.{◌≡◌, ◌≢◌, ℕ, ◌+◌, ◌<◌, ◌≤◌, ◌⊎◌, List, [], ◌∷◌, length, map, slice_index_or, slice_set}
 use Rattle.std.specs.Prelude.{Option, Some, None, IsSome, option_map}
 use Rattle.mesh_arena.specs.declared.slot.Corner.{Corner}

@@ -1,4 +1,4 @@
--- What `replace_cavity` asks and promises.
+-- The contract of `replace_cavity`.
 use Rattle.std.specs.Prelude.{◌≡◌, ◌≢◌, ℕ, ◌<◌, ◌⊎◌, List, length, Option, Some, None, IsSome, slice_set, option_map}
 use Rattle.mesh_arena.specs.declared.slot.Corner.{Corner}
 use Rattle.mesh_arena.specs.declared.arena.SlotFace.{SlotFace}

@@ -21,7 +21,7 @@ use std::mem;
 use tet_ports::{Items, NoMemory};
 
 /// A face of a slot: the places of the slot in its arena and of the opposite corner in the slot,
-/// from 0. Contracts name what stands behind a face so.
+/// from 0. In contracts it names the neighbor across a face.
 #[derive(Clone, Copy, Debug, PartialEq, Eq)]
 pub struct SlotFace {
     pub slot: u32,
@@ -30,25 +30,25 @@ pub struct SlotFace {
 
 /// Slots, live or free, numbered from 0. A live one has four different corners, and behind each
 /// face a neighbor or none; neighbors are mutual and have the face's three corners in common.
-/// Contracts see the list of slots; `spare`, of how many faces a rim may be whose star needs no
-/// allocation; and `room`, how many more slots have memory.
+/// Contracts see the list of slots; `spare`, the greatest number of faces of a rim whose star needs
+/// no allocation; and `room`, the number of further slots that have memory.
 #[derive(Debug, Drop)]
 pub struct Arena {
     pub(crate) cells: Vec<Cell>,
-    // How many cells are live.
+    // The number of live cells.
     live: usize,
     // The first free cell, or `cells.len()` where there is none.
     next: u32,
-    // A rim of so many faces finds memory for its star.
+    // A rim of at most `spare` faces has memory for its star.
     spare: usize,
     // The slots of the star that is being made.
     star: Vec<StarSlot>,
-    // Finds the faces of a star that are to be linked.
+    // Pairs the faces of a star that are to be linked.
     edges: EdgeTable,
     alloc: Global,
 }
 
-// So that a place fits 28 bits, and so does the number past the end.
+// With at most this many cells, a place and the number past the end fit 28 bits.
 const MOST_CELLS: usize = (1 << 28) - 1;
 
 impl Model for Arena {
@@ -85,7 +85,7 @@ impl Arena {
         }
     }
 
-    /// Lets the slots go, as a list of items is.
+    /// Frees the slots, as a list of items is freed.
     pub fn let_go(self) {
         let Arena { cells, .. } = self;
         Items::from(cells).let_go();
@@ -148,7 +148,8 @@ impl Arena {
         }
     }
 
-    /// The same neighbor, with the place of the shared face in it.
+    /// The neighbor of a live slot behind the face opposite its corner in the place `face`, with
+    /// the place of the shared face in that neighbor.
     pub fn across(&self, s: Slot, face: u8) -> Option<RimFace>
         requires live { IsLive self.now.slots s.index }
         requires face { face < 4 }
@@ -209,8 +210,8 @@ impl Arena {
         );
     }
 
-    /// Makes room for the star over a rim of this many faces, so that `spare` is at least that. All
-    /// else stays, and on `NoMemory` `spare` too.
+    /// Makes room for the star over a rim of `faces` faces: `spare` is then at least `faces`.
+    /// Everything else stays, and on `NoMemory` `spare` too.
     pub fn reserve(&mut self, faces: usize) -> Result<(), NoMemory>
         ensures room { OnOk result (faces ≤ self.new.spare) }
         ensures within { self.new.spare ≤ self.new.room }
@@ -252,7 +253,7 @@ impl Arena {
         Ok(Slot { index })
     }
 
-    // `alloc_slot` where there is room.
+    // As `alloc_slot`, where there is room.
     pub(crate) fn take_slot(&mut self, cell: &Cell) -> u32
         requires bare { IsUnlinked cell.now }
         requires differ { AllDiffer (cell_corners cell.now) }
@@ -273,7 +274,7 @@ impl Arena {
         place
     }
 
-    // Frees the slots of a cavity, and takes them away from behind the faces of its rim.
+    // Frees the slots of a cavity, and unlinks them from the faces of its rim.
     pub(crate) fn cut_cavity(&mut self, cavity: &[Slot], rim: &[RimFace])
         requires cavity { IsCavity self.old.slots cavity.now }
         requires rim { IsRim self.old.slots cavity.now rim.now }
@@ -296,7 +297,7 @@ impl Arena {
         mem::replace(&mut self.star, Vec::new(self.alloc))
     }
 
-    // Takes that list back.
+    // Takes the list of `lend_star` back.
     pub(crate) fn keep_star(&mut self, star: Vec<StarSlot>)
         ensures slots { self.new.slots ≡ self.old.slots }
         ensures mesh { IsArenaMesh self.new.slots }
@@ -313,7 +314,7 @@ impl Arena {
         mem::replace(&mut self.edges, EdgeTable::new(self.alloc))
     }
 
-    // Takes that table back.
+    // Takes the table of `lend_edges` back.
     pub(crate) fn keep_edges(&mut self, edges: EdgeTable)
         ensures { self.new ≡ self.old }
     {

@@ -16,7 +16,7 @@ use crate::{Corner, SlotCorners};
 pub(crate) struct Cell {
     // The numbers of the corners. In the place of the point at infinity the number is idle.
     points: [u32; 4],
-    // What stands behind the faces.
+    // The neighbors across the faces.
     links: [u32; 4],
 }
 
@@ -25,12 +25,13 @@ const NO_FACE: u32 = 4;
 
 const FREE: u32 = 5;
 
-// A slot takes its number times this, and the point at infinity this.
+// A link is the number of the slot times SLOT, plus the face, plus INFINITE where its corner is the
+// point at infinity.
 const SLOT: u32 = 16;
 
 const INFINITE: u32 = 8;
 
-// The link of a face that nothing stands behind, opposite this corner.
+// The link of a face without neighbor, opposite `corner`.
 fn bare(corner: Corner) -> u32
     ensures corner { corner_with (kept_number corner) result ≡ corner }
     ensures side { side_to result ≡ None }
@@ -50,7 +51,7 @@ fn either(first: bool, one: u32, two: u32) -> u32
     if first { one } else { two }
 }
 
-// The link with nothing behind its face.
+// The link without its neighbor.
 fn unlinked(link: u32) -> u32
     ensures infinite { is_infinite result ≡ is_infinite link }
     ensures side { side_to result ≡ None }
@@ -83,7 +84,7 @@ impl Cell {
         }
     }
 
-    // A cell with no neighbor that has a point in this place, and else these corners.
+    // A cell with no neighbor that has a point in `place`, and this cell's corners elsewhere.
     pub(crate) fn cone(&self, place: u8, point: u32) -> Self
         requires { place < 4 }
         ensures bare { IsUnlinked result }
@@ -108,7 +109,7 @@ impl Cell {
         }
     }
 
-    // Whether the cell is no free one.
+    // Whether the cell is not free.
     pub(crate) fn is_live(&self) -> bool
         ensures { result ≡ live_in self.now }
     {
@@ -129,7 +130,7 @@ impl Cell {
         ]
     }
 
-    // A number of its own for the corner in a place.
+    // A number for the corner in a place, different for different corners.
     #[inline(always)]
     pub(crate) fn number(&self, place: u8) -> usize
         requires { place < 4 }
@@ -156,7 +157,7 @@ impl Cell {
         Some(self.points)
     }
 
-    // The slot and face behind a face, if they are there.
+    // The slot and face behind a face, if there are any.
     pub(crate) fn side(&self, face: u8) -> Option<SlotFace>
         requires { face < 4 }
         ensures { result ≡ slice_index_or (sides_in self.now.links) face None }
@@ -186,7 +187,7 @@ impl Cell {
         self.links[face as usize] = linked(link, side.slot, u32::from(side.face));
     }
 
-    // Takes away what stands behind a face.
+    // Removes the neighbor behind a face.
     pub(crate) fn clear_side(&mut self, face: u8)
         requires face { face < 4 }
         requires live { live_in self.old ≡ true }
@@ -242,7 +243,7 @@ fn has_face(link: u32) -> bool
     link % INFINITE < NO_FACE
 }
 
-// They, if they do.
+// The slot and face in a link, if there are any.
 #[inline]
 fn side_of(link: u32) -> Option<SlotFace>
     ensures { result ≡ side_to link }

@@ -1,4 +1,4 @@
-//! How a cavity is cut out of the cells of a mesh.
+//! Cuts a cavity out of the cells of a mesh.
 ghost use Rattle.std.specs.Prelude.{◌≡◌, ℕ, ◌<◌, ◌^◌, length, vec_capacity};
 ghost use Rattle.mesh_arena.specs.Mesh.{IsLive, IsShaped};
 ghost use Rattle.mesh_arena.specs.Star.{rim_at};
@@ -8,7 +8,7 @@ ghost use Rattle.mesh_arena.specs.Cut.{slots_in, ClearsRim, FreesCells};
 use crate::cell::Cell;
 use crate::{RimFace, Slot};
 
-// Takes away what stands behind the faces of the rim.
+// Removes the neighbors behind the faces of the rim.
 pub(crate) fn clear_rim(cells: &mut Vec<Cell>, rim: &[RimFace])
     requires shaped { IsShaped (slots_in cells.old.items) }
     requires live { (r : ℕ) → r < length rim.now

@@ -39,7 +39,7 @@ pub(crate) struct Ends {
 }
 
 impl Ends {
-    /// The edge between them.
+    /// The edge between the two ends.
     #[inline(always)]
     pub(crate) fn edge(self) -> Edge
         ensures { result ≡ edge_of self.one.number self.other.number }
@@ -47,7 +47,7 @@ impl Ends {
         Edge::between(self.one.number, self.other.number)
     }
 
-    /// The edge the other way.
+    /// The edge in the other direction.
     #[inline(always)]
     pub(crate) fn back(self) -> Self
         ensures { result ≡ record { one = self.other; other = self.one } }
@@ -58,7 +58,7 @@ impl Ends {
         }
     }
 
-    /// Its place in the square, where both ends have rows.
+    /// The edge's place in the square, where both ends have rows.
     #[inline(always)]
     pub(crate) fn place(self) -> usize
         requires { (self.one.row < 64) × (self.other.row < 64) }

@@ -11,8 +11,8 @@ use crate::square::{PLACES, Square};
 use std::alloc::Global;
 use std::marker::Model;
 
-/// A table of edges, used in rounds. The edges of a rim of few corners have places in a square,
-/// and those of a larger one are sought by their hashes.
+/// A table of edges, used in rounds. The edges of a rim of few corners have places in a square, and
+/// those of a larger one are found by their hashes.
 #[derive(Debug, Drop)]
 pub(crate) struct EdgeTable {
     square: Square,
@@ -89,7 +89,8 @@ impl EdgeTable {
         self.square.meet(ends, face)
     }
 
-    /// The same by a hash of the edge, if a place is free for it.
+    /// The face at which the edge was met before in this round, by a hash of the edge. Where there
+    /// is none, the edge is met at `face` from now on, if a place is free for it.
     pub(crate) fn meet_hashed(&mut self, edge: Edge, face: SlotFace) -> Option<SlotFace>
         ensures found { IfSome result (λ s. IsEdgeMet self.old edge s) }
         ensures only { AddsOnly (IsEdgeMet self.old) (IsEdgeMet self.new) edge face }
@@ -99,8 +100,8 @@ impl EdgeTable {
     }
 }
 
-// How many corners a rim of so many faces has, if it is the boundary of a ball: half as many as
-// faces, and two more.
+// The number of corners of a rim with `faces` faces that is the boundary of a ball: half as many as
+// faces, and two more (Euler's formula).
 fn corners_of(faces: usize) -> usize {
     faces / 2 + 2
 }

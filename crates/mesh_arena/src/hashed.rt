@@ -29,7 +29,7 @@ impl Met {
     }
 }
 
-/// A table of edges, used in rounds: what an earlier round left counts as empty. An edge is sought
+/// A table of edges, used in rounds: what an earlier round left counts as empty. An edge is found
 /// by a hash, in open addressing. Contracts see what each place has of this round.
 #[derive(Debug, Drop)]
 pub(crate) struct HashedEdges {
@@ -48,7 +48,7 @@ impl Model for HashedEdges {
     ghost invariant = { λ t. AreMetUpTo t.met.items t.round };
 }
 
-// How many places an edge may have.
+// The number of places that are tried for an edge.
 const PROBES: usize = 16;
 
 impl HashedEdges {
@@ -59,7 +59,7 @@ impl HashedEdges {
         }
     }
 
-    // Leaves all that was met to an earlier round.
+    // Begins the next round, in which nothing was met yet.
     fn next_round(&mut self)
         ensures { MeetsNone (IsHashed self.new) }
     {
@@ -88,7 +88,7 @@ impl HashedEdges {
         }
     }
 
-    /// Begins a round for so many edges or fewer. Where there is no memory for them the table stays
+    /// Begins a round for at most `edges` edges. Where there is no memory for them the table stays
     /// as large as it is.
     pub(crate) fn start(&mut self, edges: usize)
         ensures { MeetsNone (IsHashed self.new) }
@@ -111,7 +111,7 @@ impl HashedEdges {
         self.meet_between(low, high, face)
     }
 
-    // The same for the edge between these numbers.
+    // As `meet`, for the edge between two numbers of 32 bits.
     fn meet_between(&mut self, low: u32, high: u32, face: SlotFace) -> Option<SlotFace>
         ensures found { IfSome result
             (λ s. IsHashed self.old (record { low = low; high = high }) s) }

@@ -6,10 +6,10 @@ ghost use Rattle.mesh_arena.specs.Edges.{AreKept};
 use std::alloc::Global;
 use std::marker::Model;
 
-/// How many rows there are at most.
+/// The greatest number of rows.
 pub(crate) const ROWS: usize = 64;
 
-// In a mesh numbers below so many times the number of its slots have memory, so that the list of
+// In a mesh numbers below this many times the number of its slots have memory, so that the list of
 // rows never takes more than the slots do.
 const NUMBERS_A_SLOT: usize = 8;
 
@@ -31,7 +31,7 @@ pub(crate) struct Rows {
     round: u16,
     // Numbers from here on get no row.
     bound: usize,
-    // There is memory for so many rows.
+    // The number of rows that have memory.
     most: usize,
 }
 
@@ -60,7 +60,7 @@ impl Rows {
         }
     }
 
-    /// Takes all rows away. The next ones will be of corners of a mesh with so many slots.
+    /// Removes all rows. The next ones are of corners of a mesh with `slots` slots.
     pub(crate) fn start(&mut self, slots: usize)
         ensures { self.new ≡ [] }
     {
@@ -125,8 +125,8 @@ fn reaches(last: &mut Vec<LastRow>, number: usize, bound: usize) -> bool
     number < last.len() || lengthen(last, number, bound)
 }
 
-// Makes the list so long that it has this number, if that is below the bound and there is memory.
-// Whether it did.
+// Lengthens the list until it has `number`, if that is below the bound and there is memory, and
+// answers whether it did.
 #[inline(never)]
 fn lengthen(last: &mut Vec<LastRow>, number: usize, bound: usize) -> bool
     requires { length last.old.items ≤ number }

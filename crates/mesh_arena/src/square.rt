@@ -51,7 +51,7 @@ impl Model for Square {
     ghost invariant = { λ s. IsSquare s.met.items s.round s.rows };
 }
 
-/// How many places there are at most.
+/// The greatest number of places.
 pub(crate) const PLACES: usize = ROWS * ROWS;
 
 impl Square {
@@ -63,7 +63,7 @@ impl Square {
         }
     }
 
-    // Leaves all that was met to an earlier round, and takes all rows away.
+    // Begins the next round, in which nothing was met yet and no corner has a row.
     fn next_round(&mut self, slots: usize)
         ensures { self.new.rows ≡ [] }
     {
@@ -99,7 +99,7 @@ impl Square {
         self.grow();
     }
 
-    /// How many places there are.
+    /// The number of places.
     #[inline(always)]
     pub(crate) fn len(&self) -> usize
         ensures { result ≡ length self.now.faces }

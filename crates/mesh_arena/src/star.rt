@@ -1,4 +1,4 @@
-//! The star of a point, planned while its cavity stands.
+//! The star of a point, planned before its cavity is cut out.
 ghost use Rattle.std.specs.Prelude.{◌≡◌, ℕ, ◌<◌, ◌≤◌, length, Some, IsSome, slice_set, option_map};
 ghost use Rattle.std.specs.Prelude.{vec_capacity};
 ghost use Rattle.mesh_arena.specs.Cells.{cell_corners, IsUnlinked};
@@ -9,8 +9,8 @@ ghost use Rattle.mesh_arena.specs.Surgery.{Plans};
 use crate::cell::Cell;
 use crate::{Arena, Corner, RimFace};
 
-// A slot that is to stand over a face, as it will lie in the arena; its own face there; and its
-// place once it is made.
+// A slot of the star over a face of the rim, as it will lie in the arena; its face on the rim; and
+// its place once it is made.
 #[derive(Clone, Copy, Debug)]
 pub(crate) struct StarSlot {
     pub(crate) cell: Cell,
@@ -19,8 +19,8 @@ pub(crate) struct StarSlot {
 }
 
 impl Arena {
-    // The slot that is to stand over a face: the corners of the slot behind it, with the point in
-    // place of the one opposite the face.
+    // The slot of the star over a face of the rim: the corners of the cavity's slot behind the
+    // face, with the point in place of the one opposite the face.
     fn star_slot(&self, outer: RimFace, point: u32) -> StarSlot
         requires { IsSome (link_behind self.now.slots outer.slot.index outer.face) }
         ensures face { result.face
@@ -40,7 +40,7 @@ impl Arena {
         }
     }
 
-    // Lists the slots that are to stand over the rim.
+    // Lists the slots of the star over the rim.
     pub(crate) fn plan_star(&self, rim: &[RimFace], point: u32, star: &mut Vec<StarSlot>)
         requires has { (r : ℕ) → r < length rim.now
             → IsSome (face_side self.now.slots (rim_at rim.now r)) }

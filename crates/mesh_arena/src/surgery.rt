@@ -59,7 +59,7 @@ impl Arena {
         let _ = &self.cells;
     }
 
-    // The slot and face behind a face, if they are there.
+    // The slot and face behind a face, if there are any.
     pub(crate) fn side(&self, s: u32, face: u8) -> Option<SlotFace>
         requires live { IsLive self.now.slots s }
         requires face { face < 4 }
@@ -146,8 +146,7 @@ impl Arena {
         }
     }
 
-    // Links two faces of the star over the same edge, if they have no neighbor yet. Whether they
-    // had none.
+    // Links two faces of the star over the same edge, and answers whether they had no neighbor yet.
     fn link_mates(
         &mut self,
         rim: &[RimFace],
@@ -177,7 +176,7 @@ impl Arena {
     }
 
     // Links a face of the star with the one that was met at the same edge, which has a place in the
-    // square. Whether it did.
+    // square, and answers whether it linked them.
     #[inline(always)]
     fn link_at_edge(
         &mut self,
@@ -208,7 +207,8 @@ impl Arena {
         }
     }
 
-    // The same by a hash of the edge.
+    // Links a face of the star with the one that was met at the same edge, found by a hash, and
+    // answers whether it linked them.
     #[inline(never)]
     fn link_by_hash(
         &mut self,
@@ -232,8 +232,8 @@ impl Arena {
         }
     }
 
-    // Links the faces of a slot of the star that find one another by their edges on the rim. How
-    // many links that were.
+    // Links the faces of a slot of the star whose partners were met at the same edges of the rim,
+    // and answers the number of links.
     fn link_slot(
         &mut self,
         rim: &[RimFace],
@@ -272,7 +272,7 @@ impl Arena {
         usize::from(over_yz) + usize::from(over_zx) + usize::from(over_xy)
     }
 
-    // The same where corners have no rows.
+    // As `link_slot`, by hashes, where corners have no rows.
     fn link_slot_by_hash(
         &mut self,
         rim: &[RimFace],
@@ -305,8 +305,8 @@ impl Arena {
         usize::from(over_yz) + usize::from(over_xz) + usize::from(over_xy)
     }
 
-    // Links the faces of the star that find one another by their edges on the rim, in time linear
-    // in the rim. How many links that were, or fewer.
+    // Links the faces of the star that meet at edges of the rim, in time linear in the rim, and
+    // answers at most the number of links.
     #[inline(never)]
     fn link_edges(
         &mut self,
@@ -379,7 +379,7 @@ impl Arena {
     /// Puts the star of a point in the place of a cavity (Bowyer 1981, Watson 1981): for each face
     /// of the rim a slot with the corners of the cavity's slot behind that face, in their places,
     /// and the point in place of the corner opposite it. The star is linked within and to the outer
-    /// sides of the rim. It answers one slot of the star.
+    /// sides of the rim. The answer is one slot of the star.
     ///
     /// The cavity lists different live slots. The rim is not empty and lists, each once, the faces
     /// of live slots outside of the cavity whose neighbor is in it. Each two corners of a face of
@@ -416,7 +416,8 @@ impl Arena {
     }
 }
 
-// Whether so many links are those of all slots over so many faces: three halves of a link for each.
+// Whether `links` links are all those of a star over `faces` faces: three halves of a link for each
+// face.
 fn are_all(links: usize, faces: usize) -> bool
     ensures { IsTrue result → faces * 3 ≤ links * 2 }
 {

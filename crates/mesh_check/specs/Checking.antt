@@ -12,15 +12,15 @@ use Rattle.mesh_check.specs.declared.fault.CheckFault.TheVariants.{TooMany, OffG
 use Rattle.mesh_check.specs.declared.reading.MeshText.{MeshText}
 use Rattle.grid_coords.specs.declared.points.DecimalPoint.{DecimalPoint}
 
--- how many points a mesh that is read has at most
+-- the most points of a mesh that is read
 abbrev pub most_points : ℕ
 most_points = 120000
 
--- how large a coordinate of a mesh that is checked may be, in units of the points' least grid
+-- the greatest size of a coordinate of a mesh that is checked, in units of the points' least grid
 abbrev pub checked_grid : ℕ
 checked_grid = 8388608
 
--- why the points are on no grid on which a coordinate is at most so many units in size
+-- why the points are on no grid on which a coordinate is at most `wide` units in size
 abbrev pub IsUnsettled : ℕ → Option ℕ → List DecimalPoint → CheckFault → Type 0
 IsUnsettled wide decimals ps (TooMany count) = AreTooMany ps most_points count
 IsUnsettled wide decimals ps (OffGrid line) = IsOffLeastGrid wide ps decimals most_points line
@@ -42,7 +42,7 @@ IsUnsound text points (Unsound defect first) = (first ≡ text.nodes.first) × I
 IsUnsound text points NoMemory = Unit {0}
 IsUnsound text points fault = ⊥
 
--- how many rows the mesh has, where it is sound
+-- the number of tetrahedra of the mesh, where it is sound
 abbrev pub VerdictAnswer : MeshText → List Point → Result ℕ CheckFault → Type 0
 VerdictAnswer text points (Ok count) = (count ≡ length text.rows) × IsVerdict (mesh_of text points) Sound
 VerdictAnswer text points (Err fault) = IsUnsound text points fault
@@ -51,7 +51,8 @@ VerdictAnswer text points (Err fault) = IsUnsound text points fault
 abbrev pub TextChecked : Option ℕ → MeshText → Result ℕ CheckFault → Type 0
 TextChecked decimals text = AndThen (LeastGridAnswer decimals text) (VerdictAnswer text)
 
--- The check of the files with this base: how many tetrahedra the mesh has, where it is sound, or the first refusal in this order: of each
--- file in turn its fetch and its text, then too many points, a point off the grid, and the first defect
+-- The check of the files with this base: the number of tetrahedra of the mesh, where it is sound, or the first refusal
+-- in this order: of each file in turn its fetch and its text, then too many points, a point off the grid, and the first
+-- defect
 abbrev pub CheckAnswer : FolderSeen → List ℕ → Option ℕ → Result ℕ CheckFault → Type 0
 CheckAnswer seen base decimals = AndThen (MeshAnswer seen base) (TextChecked decimals)

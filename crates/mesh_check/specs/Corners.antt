@@ -16,7 +16,7 @@ face_in t k =
     if k == 0 then face_of t.b t.c t.d else (if k == 1 then face_of t.a t.c t.d else
     (if k == 2 then face_of t.a t.b t.d else face_of t.a t.b t.c))
 
--- what is across that face
+-- the neighbor across the face opposite a corner, if there is one
 abbrev pub entry_in : Across → ℕ → Option ℕ
 entry_in x k = if k == 0 then x.n0 else (if k == 1 then x.n1 else (if k == 2 then x.n2 else x.n3))
 
@@ -24,7 +24,7 @@ entry_in x k = if k == 0 then x.n0 else (if k == 1 then x.n1 else (if k == 2 the
 abbrev pub face_listed : FaceRow → Face
 face_listed f = face_of f.a f.b f.c
 
--- one of the listed faces is this one
+-- the face is one of the listed faces
 abbrev pub IsListed : List FaceRow → Face → Type 0
 IsListed faces f = Contains (map face_listed faces) f
 
@@ -32,7 +32,7 @@ IsListed faces f = Contains (map face_listed faces) f
 abbrev pub listed_face_at : List FaceRow → ℕ → Face
 listed_face_at faces k = slice_index_or (map face_listed faces) k (record { a = 0; b = 0; c = 0 })
 
--- the faces opposite two corners of two rows are one
+-- the face of s opposite its corner p is the face of t opposite its corner q
 pub record IsShared (s t : Tet) (p q : ℕ) : Type 0 where
   pub corner : p < 4
   pub other : q < 4

@@ -1,4 +1,4 @@
--- What stands against a mesh that is read, and in which order it is told.
+-- The defects of a mesh that is read, and the order in which they are reported.
 use Rattle.std.specs.Prelude.{◌≡◌, ◌≢◌, ◌⊎◌, ℕ, ◌<◌, ℤ, pos, ◌<ℤ◌, List, length, Contains, Option, Some, None}
 use Rattle.sign_predicates.specs.Point.{Point}
 use Rattle.sign_predicates.specs.Orientation.{IsPositive, Triangle, side}
@@ -16,21 +16,21 @@ use Rattle.mesh_check.specs.declared.defect.Defect.TheVariants.{NotPositive, Sam
 use Rattle.mesh_check.specs.declared.defect.Verdict.{Verdict}
 use Rattle.mesh_check.specs.declared.defect.Verdict.TheVariants.{Sound, Fault}
 
--- what is read of a mesh: its points, its rows, the listed faces, and what is listed across the faces of each row
+-- a mesh that is read: its points, its tetrahedra, the listed faces, and the listed neighbors of each tetrahedron
 pub record ReadMesh : Type 0 where
   pub points : List Point
   pub rows : List Tet
   pub faces : List FaceRow
   pub neighbors : List Across
 
--- the listed neighbors, and where none are listed those of the rows themselves
+-- the listed neighbors, or, where none are listed, the neighbors by the tetrahedra themselves
 abbrev pub neighbors_or : List Tet → Option (List Across) → List Across
 neighbors_or rows None = pairs_of rows
 neighbors_or rows (Some neighbors) = neighbors
 
 -- ---- the defects
 
--- the row at a place is not positive
+-- the tetrahedron at a place is not positively oriented
 abbrev pub IsNotPositive : List Point → List Tet → ℕ → Type 0
 IsNotPositive ps rows i = (i < length rows) × ¬ IsPositive (corners ps (row_at rows i))
 
@@ -42,8 +42,8 @@ AreOppositeSigns x y = (pos 0 <ℤ x) × (y <ℤ pos 0) ⊎ (x <ℤ pos 0) × (p
 abbrev pub point_side : List Point → Face → ℕ → ℤ
 point_side ps f e = side (record { a = point ps f.a; b = point ps f.b; c = point ps f.c }) (point ps e)
 
--- The rows share a face, and the corners opposite it lie on one side of it: not strictly on different sides. Where the rows are positive,
--- neither corner is on the face's plane
+-- The tetrahedra share a face, and the corners opposite it lie on one side of it: not strictly on different sides.
+-- Where the tetrahedra are positive, neither corner is on the face's plane
 abbrev pub LieOnOneSide : List Point → Tet → Tet → Type 0
 LieOnOneSide ps s t =
     (p : ℕ) × (q : ℕ) × IsShared s t p q × ¬ AreOppositeSigns (point_side ps (face_in s p) (point_in s p))
@@ -52,21 +52,22 @@ LieOnOneSide ps s t =
 abbrev pub IsSameSide : List Point → List Tet → ℕ → ℕ → Type 0
 IsSameSide ps rows i j = (i < j) × (j < length rows) × LieOnOneSide ps (row_at rows i) (row_at rows j)
 
--- across the face opposite a corner another neighbor is listed than the other row that has the face, or than none
+-- the listed neighbor across the face opposite a corner is not the other tetrahedron that has the face, or not none
 abbrev pub IsWrongNeighbor : List Tet → List Across → ℕ → ℕ → Type 0
 IsWrongNeighbor rows neighbors i k =
     (i < length rows) × (k < 4) × (entry_in (across_at neighbors i) k ≢ partner rows i (face_in (row_at rows i) k))
 
--- a listed face is a face of no row
+-- a listed face is a face of no tetrahedron
 abbrev pub IsStray : List Tet → List FaceRow → ℕ → Type 0
 IsStray rows faces k = (k < length faces) × ¬ Contains (faces_of_rows rows) (listed_face_at faces k)
 
--- no other row has the face opposite a corner, and it is not listed
+-- no other tetrahedron has the face opposite a corner, and the face is not listed
 abbrev pub IsUnlisted : List Tet → List FaceRow → ℕ → ℕ → Type 0
 IsUnlisted rows faces i k =
     (i < length rows) × (k < 4) × (partner rows i (face_in (row_at rows i) k) ≡ None) × ¬ IsListed faces (face_in (row_at rows i) k)
 
--- the rows share a face that is not listed, and the further corner of the second is strictly inside the sphere round the first
+-- the tetrahedra share a face that is not listed, and the further corner of the second is strictly inside the
+-- circumsphere of the first
 abbrev pub AreBentAt : List Point → List FaceRow → Tet → Tet → Type 0
 AreBentAt ps faces s t =
     (p : ℕ) × (q : ℕ) × IsShared s t p q × ¬ IsListed faces (face_in s p) × (pos 0 <ℤ in_sphere (corners ps s) (point ps (point_in t q)))
@@ -112,7 +113,7 @@ IsToldBefore d e = (kind_of d < kind_of e) ⊎ (kind_of d ≡ kind_of e) × Pair
 
 -- ---- the verdict
 
--- the mesh has the defect, and none that is told before it
+-- the mesh has the defect, and none that comes before it
 pub record IsFirstDefect (m : ReadMesh) (d : Defect) : Type 0 where
   pub has : HasDefect m d
   pub first : (e : Defect) → IsToldBefore e d → ¬ HasDefect m e

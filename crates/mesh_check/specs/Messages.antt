@@ -1,4 +1,4 @@
--- The lines that the programs tell refusals in. Each begins with the program's name.
+-- The lines in which the programs report refusals. Each begins with the program's name.
 use Rattle.std.specs.Prelude.{ℕ, List, [], ◌∷◌, ◌++◌, codes}
 use Rattle.std.specs.Fmt.{decimal}
 use Rattle.tet_text.specs.declared.fault.TextFault.{TextFault}

@@ -1,4 +1,4 @@
--- The sides of faces on which rows lie, and the rows that lie on them.
+-- The sides of faces on which tetrahedra lie, and the tetrahedra that lie on them.
 use Rattle.std.specs.Prelude.{◌≡◌, ◌⊎◌, ℕ, ◌<◌, ◌≤◌, ◌==◌, ◌&&◌, Bool, ℤ, pos, int_lt, if◌then◌else◌, min, List, length, Option, Some, None}
 use Rattle.sign_predicates.specs.Point.{Point}
 use Rattle.geo_laws.specs.declared.faces.Face.{Face}
@@ -23,7 +23,7 @@ sign_code z = if int_lt z (pos 0) then 0 else (if int_lt (pos 0) z then 2 else 1
 unfoldable pub side_at : List Point → Tet → ℕ → FaceSide
 side_at ps t k = side_of_face (face_in t k) (sign_code (point_side ps (face_in t k) (point_in t k)))
 
--- one of the first n corners of the row lies on the side
+-- the tetrahedron lies on the side, with one of its first n corners opposite the face
 abbrev pub HasSideBelow : List Point → Tet → ℕ → FaceSide → Type 0
 HasSideBelow ps t n q = (k : ℕ) × (k < n) × (side_at ps t k ≡ q)
 
@@ -41,15 +41,16 @@ pub record AreAlike (p q : FaceSide) : Type 0 where
 abbrev pub IsLaterOn : List Point → List Tet → ℕ → FaceSide → ℕ → Type 0
 IsLaterOn ps rows from q k = (from ≤ k) × (k < length rows) × HasFaceSide ps (row_at rows k) q
 
--- from each side one is led to the first row, from a place on, that lies on it
+-- the map gives for each side the first tetrahedron, from a place on, that lies on it
 abbrev pub AreFirstsFrom : List Point → List Tet → ℕ → (FaceSide → Option ℕ) → Type 0
 AreFirstsFrom ps rows from look = (q : FaceSide) → IsLeastOf (IsLaterOn ps rows from q) (look q)
 
--- the row at a place is there, from a place on, and lies on a side like this one
+-- the tetrahedron at place j, from a place on, lies on the same side of the face, or a sign is 0
 abbrev pub IsLaterLike : List Point → List Tet → ℕ → FaceSide → ℕ → Type 0
 IsLaterLike ps rows from p j = (q : FaceSide) × AreAlike p q × IsLaterOn ps rows from q j
 
--- so for one of the first n corners of the row t
+-- the row at place j is a later one that shares the face opposite one of the first n corners of t, and lies on the same
+-- side of it
 abbrev pub MeetsLater : List Point → List Tet → ℕ → Tet → ℕ → ℕ → Type 0
 MeetsLater ps rows from t n j = (k : ℕ) × (k < n) × IsLaterLike ps rows from (side_at ps t k) j
 
@@ -59,12 +60,12 @@ lesser_of None b = b
 lesser_of (Some x) None = Some x
 lesser_of (Some x) (Some y) = Some (min x y)
 
--- the sides of the first n corners of the row lead to its place, and all others where they led
+-- the map gives the tetrahedron's place for the sides of its first n corners, and is unchanged elsewhere
 abbrev pub IsPutBelow : List Point → Tet → ℕ → ℕ → (FaceSide → Option ℕ) → (FaceSide → Option ℕ) → Type 0
 IsPutBelow ps t n place old new =
     (q : FaceSide) → HasSideBelow ps t n q × (new q ≡ Some place) ⊎ (¬ HasSideBelow ps t n q × (new q ≡ old q))
 
--- the pair of a place and what it meets, or where it meets nothing the pair that was found before
+-- the pair of a place and the place that it meets, or, where it meets none, the pair that was found before
 abbrev pub paired : ℕ → Option ℕ → Option (ℕ × ℕ) → Option (ℕ × ℕ)
 paired place (Some two) found = Some (place, two)
 paired place None found = found

@@ -1,10 +1,11 @@
--- What is told of a check. Rows, faces and corners' points are numbered as in the files, from the number of the first point.
+-- The texts that report a check. Rows, faces and corners' points are numbered as in the files, from the number of the
+-- first point.
 use Rattle.std.specs.Prelude.{ℕ, ◌+◌, List, ◌++◌, ◌∷◌, [], codes}
 use Rattle.std.specs.Fmt.{decimal}
 use Rattle.mesh_check.specs.declared.defect.Defect.{Defect}
 use Rattle.mesh_check.specs.declared.defect.Defect.TheVariants.{NotPositive, SameSide, NeighborCount, WrongNeighbor, Stray, Unlisted, Bent}
 
--- a row, and two of them
+-- the text on one tetrahedron, and on two
 abbrev pub row_text : ℕ → ℕ → List ℕ
 row_text first row = codes "row " ++ decimal (row + first)
 
@@ -25,6 +26,6 @@ defect_told first (Bent one two) = two_rows_text first one two ++ codes " are no
 abbrev pub defect_text : ℕ → Defect → List ℕ
 defect_text first defect = codes "defect: " ++ defect_told first defect
 
--- the line on a sound mesh of so many tetrahedra
+-- the line on a sound mesh with its number of tetrahedra
 abbrev pub sound_line : ℕ → List ℕ
 sound_line count = codes "sound: " ++ decimal count ++ codes " tetrahedra" ++ (10 ∷ [])

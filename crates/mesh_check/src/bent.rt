@@ -16,10 +16,10 @@ use geo_laws::{Points, Tet, TetList, corners_of};
 use incidence::{Across, Pairs};
 use mesh_files::FaceRows;
 
-/// A row has so many corners.
+/// The number of corners of a tetrahedron.
 const CORNERS: u8 = 4;
 
-/// The points and the rows of a mesh, and the set of its listed faces.
+/// The points and the tetrahedra of a mesh, and the set of its listed faces.
 #[derive(Clone, Copy)]
 pub(crate) struct Bending<'a> {
     pub(crate) points: &'a Points,
@@ -27,15 +27,15 @@ pub(crate) struct Bending<'a> {
     pub(crate) listed: &'a FaceSet,
 }
 
-/// Whether the faces opposite two corners of two rows are one.
+/// Whether the face of `s` opposite its corner `p` is the face of `t` opposite its corner `q`.
 fn is_shared(s: Tet, t: Tet, p: u8, q: u8) -> bool
     ensures { IsTrue result ↔ (face_in s p ≡ face_in t q) }
 {
     face_in(s, p) == face_in(t, q)
 }
 
-/// Whether the faces opposite two corners of two rows are one face that is not listed, and the
-/// second corner is strictly inside the sphere round the first row.
+/// Whether `s` and `t` share an unlisted face, opposite the corners `p` and `q`, and `q` is
+/// strictly inside the circumsphere of `s`.
 fn is_bent_at(mesh: Bending, s: Tet, t: Tet, p: u8, q: u8) -> bool
     requires s { IsOn mesh.points.now s }
     requires t { IsOn mesh.points.now t }
@@ -52,7 +52,8 @@ fn is_bent_at(mesh: Bending, s: Tet, t: Tet, p: u8, q: u8) -> bool
     is_inside_sphere(corners_of(mesh.points, s), point)
 }
 
-/// The first corner of the second row at which the rows are bent across a face of the first.
+/// The first corner of `t` opposite a shared unlisted face across which the two are not locally
+/// Delaunay.
 fn bent_corner(mesh: Bending, s: Tet, t: Tet, p: u8) -> Option<u8>
     requires s { IsOn mesh.points.now s }
     requires t { IsOn mesh.points.now t }
@@ -67,7 +68,7 @@ fn bent_corner(mesh: Bending, s: Tet, t: Tet, p: u8) -> Option<u8>
     None
 }
 
-/// The first corner of the first row across whose face the rows are bent.
+/// The first corner of `s` across whose opposite face `s` and `t` are not locally Delaunay.
 fn first_bent_corner(mesh: Bending, s: Tet, t: Tet) -> Option<u8>
     requires s { IsOn mesh.points.now s }
     requires t { IsOn mesh.points.now t }
@@ -82,8 +83,8 @@ fn first_bent_corner(mesh: Bending, s: Tet, t: Tet) -> Option<u8>
     None
 }
 
-/// The row across the face opposite a corner of the row at a place, where it comes later and the
-/// two are bent.
+/// The tetrahedron across the face opposite a corner of the one at `place`, where it comes later
+/// and the two are not locally Delaunay across that face.
 fn bent_across(mesh: Bending, place: usize, across: Across, corner: u8) -> Option<usize>
     requires place { place < length mesh.list.now }
     requires rows { All (IsOn mesh.points.now) mesh.list.now }
@@ -103,7 +104,8 @@ fn bent_across(mesh: Bending, place: usize, across: Across, corner: u8) -> Optio
     }
 }
 
-/// The first of the later rows with which the row at a place is bent across a face.
+/// The first later tetrahedron with which the one at `place` is not locally Delaunay across an
+/// unlisted face.
 fn first_bent_with(mesh: Bending, place: usize, across: Across) -> Option<usize>
     requires place { place < length mesh.list.now }
     requires rows { All (IsOn mesh.points.now) mesh.list.now }
@@ -118,7 +120,8 @@ fn first_bent_with(mesh: Bending, place: usize, across: Across) -> Option<usize>
     least
 }
 
-/// The first two rows that are bent across a face, where no two rows lie on one side of a face.
+/// The first two tetrahedra that are not locally Delaunay across an unlisted face, where no two lie
+/// on one side of a face.
 pub(crate) fn first_bent(mesh: Bending, pairs: &Pairs, faces: &FaceRows) -> Option<(usize, usize)>
     requires rows { All (IsOn mesh.points.now) mesh.list.now }
     requires apart { (i j : ℕ) → ¬ IsSameSide mesh.points.now mesh.list.now i j }

@@ -24,7 +24,8 @@ use mesh_files::{FaceRows, Neighbors};
 use std::alloc::Global;
 use tet_ports::NoMemory;
 
-/// The first defect of rows by themselves.
+/// The first defect of the tetrahedra alone: one that is not positive, or two on one side of a
+/// face.
 fn rows_defect(alloc: Global, points: &Points, list: &TetList) -> Result<Option<Defect>, NoMemory>
     requires { All (IsOn points.now) list.now }
     ensures { IfOk result (λ defect. (faces : List FaceRow) (neighbors : List Across)
@@ -63,7 +64,7 @@ fn neighbors_defect(list: &TetList, pairs: &Pairs, neighbors: Option<&Neighbors>
     Some(Defect::WrongNeighbor { row, corner })
 }
 
-/// The first defect of the listed faces, where no two rows lie on one side of a face.
+/// The first defect of the listed faces, where no two tetrahedra lie on one side of a face.
 fn faces_defect(
     alloc: Global,
     points: &Points,
@@ -102,10 +103,10 @@ fn faces_defect(
     }
 }
 
-/// Whether the rows are those of one mesh, whose faces and neighbors are listed: Sound exactly
+/// Whether the tetrahedra form one mesh, whose faces and neighbors are listed: `Sound` exactly
 /// where there is no defect, else the first one. Each row names four of the points. Where no
-/// neighbors are listed, those of the rows themselves stand in their place. It takes time in about
-/// the number of rows and faces, and refuses for want of memory alone.
+/// neighbors are listed, the tetrahedra's own neighbors are taken. The time is about linear in the
+/// number of tetrahedra and faces; the only refusal is out of memory.
 pub fn check_mesh(
     alloc: Global,
     points: &Points,

@@ -12,13 +12,13 @@ use node_files::{GridFault, settle_least};
 use std::alloc::Global;
 use tet_ports::{Folder, Name};
 
-/// How many points a mesh that is read has at most.
+/// The most points of a mesh that is read.
 pub const MOST_POINTS: u64 = 120_000;
 
-/// How large a coordinate of a mesh that is checked may be, in units of the points' least grid.
+/// The greatest size of a coordinate of a mesh that is checked, in units of the points' least grid.
 const CHECKED_GRID: u64 = 8_388_608;
 
-/// The points on their least grid, each coordinate rounded first where that is asked for.
+/// The points on their least grid, each coordinate rounded first where `decimals` are given.
 fn settle(alloc: Global, decimals: Option<u32>, text: &MeshText) -> Result<Points, CheckFault>
     ensures answer { LeastGridAnswer decimals text.now result }
     ensures count { IfOk result (λ points. length points ≡ length text.now.nodes.decimals) }
@@ -37,7 +37,7 @@ fn settle(alloc: Global, decimals: Option<u32>, text: &MeshText) -> Result<Point
     }
 }
 
-/// How many rows the mesh has, where it is sound.
+/// The number of tetrahedra of the mesh, where it is sound.
 fn judge(alloc: Global, text: &MeshText, points: &Points) -> Result<usize, CheckFault>
     requires count { length points.now ≡ length text.now.nodes.decimals }
     requires there { All (AreCornersBelow (length text.now.nodes.decimals)) text.now.rows }
@@ -69,7 +69,7 @@ fn check_text(alloc: Global, decimals: Option<u32>, text: &MeshText) -> Result<u
 /// The number of tetrahedra of the mesh in the files with this base, where it is sound. It refuses
 /// with the first in this order: of each file in turn its fetch, with `Missing`, `ReadFault` or
 /// `TooLong`, and its text; over 120,000 points; a coordinate off the grid; the first defect; or
-/// for want of memory. It stores nothing.
+/// when out of memory. It stores nothing.
 pub fn check_files<F: Folder>(
     alloc: Global,
     base: &Name,

@@ -1,27 +1,29 @@
-//! What stands against a mesh.
+//! The defects of a mesh.
 
-/// What stands against a mesh. Rows and listed faces are named by their places, from 0, and a
+/// A defect of a mesh. Tetrahedra (rows) and listed faces are named by their places, from 0, and a
 /// corner by its place in its row, from 0.
 #[derive(Clone, Copy, Debug, PartialEq, Eq)]
 pub enum Defect {
-    /// The row is not a positive tetrahedron.
+    /// The tetrahedron is not positively oriented.
     NotPositive { row: usize },
-    /// The two rows share a face, and their corners opposite it lie on one side of it.
+    /// The two tetrahedra share a face, and their corners opposite it lie on one side of it.
     SameSide { one: usize, two: usize },
     /// There are not as many rows of neighbors as tetrahedra.
     NeighborCount,
-    /// The neighbor of the row across the face opposite the corner is not the one that is listed.
+    /// The neighbor of the tetrahedron across the face opposite the corner is not the one that is
+    /// listed.
     WrongNeighbor { row: usize, corner: u8 },
-    /// The listed face is a face of no row.
+    /// The listed face is a face of no tetrahedron.
     Stray { face: usize },
-    /// The face of the row opposite the corner is a face of no other row, and is not listed.
+    /// The face of the tetrahedron opposite the corner is a face of no other one, and is not
+    /// listed.
     Unlisted { row: usize, corner: u8 },
-    /// The two rows share a face that is not listed, and the further corner of the second is
-    /// strictly inside the sphere round the first.
+    /// The two tetrahedra share a face that is not listed and are not locally Delaunay across it:
+    /// the opposite corner of the second is strictly inside the circumsphere of the first.
     Bent { one: usize, two: usize },
 }
 
-/// What a check of a mesh finds: nothing, or the first defect.
+/// The result of a check: no defect, or the first one.
 #[derive(Clone, Copy, Debug, PartialEq, Eq)]
 pub enum Verdict {
     Sound,

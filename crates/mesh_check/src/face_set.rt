@@ -1,4 +1,4 @@
-//! Sets of faces, and the faces and corners of rows by the places of the corners opposite.
+//! Sets of faces, and the faces and corners of a tetrahedron by the place of the opposite corner.
 
 ghost use Rattle.std.specs.Prelude.{◌≡◌, ◌↔◌, ◌⊎◌, ◌<◌, IsTrue, IfOk, OnOk, map};
 ghost use Rattle.geo_laws.specs.Faces.{row_faces, faces_of_rows};
@@ -13,7 +13,7 @@ use std::alloc::Global;
 use std::collections::HashSet;
 use tet_ports::NoMemory;
 
-/// The numbers of a face, ascending.
+/// The corners of a face, ascending.
 #[derive(Clone, Copy, PartialEq, Eq, Hash)]
 pub(crate) struct FaceKey {
     pub(crate) a: u32,
@@ -31,7 +31,7 @@ fn key_of(face: Face) -> FaceKey
     FaceKey { a, b, c }
 }
 
-/// Puts a face into the set.
+/// Inserts a face into the set.
 fn put(set: &mut FaceSet, face: Face) -> Result<(), NoMemory>
     ensures { OnOk result ((f : Face) → HasFace set.new f ↔ (HasFace set.old f ⊎ (face ≡ f))) }
 {
@@ -46,7 +46,7 @@ pub(crate) fn has(set: &FaceSet, face: Face) -> bool
     set.contains(&key_of(face))
 }
 
-/// The faces of all rows.
+/// The faces of all tetrahedra.
 pub(crate) fn owned_faces(alloc: Global, list: &TetList) -> Result<FaceSet, NoMemory>
     ensures { IfOk result (λ set. HasExactly set (faces_of_rows list.now)) }
 {
@@ -61,7 +61,7 @@ pub(crate) fn owned_faces(alloc: Global, list: &TetList) -> Result<FaceSet, NoMe
     Ok(set)
 }
 
-/// A listed face, as a set of three numbers.
+/// A listed face without its marker, its corners in order.
 pub(crate) fn face_listed(face: FaceRow) -> Face
     ensures { result ≡ face_listed face }
 {
@@ -79,7 +79,7 @@ pub(crate) fn listed_faces(alloc: Global, faces: &FaceRows) -> Result<FaceSet, N
     Ok(set)
 }
 
-/// The face of a row opposite a corner.
+/// The face of a tetrahedron opposite a corner, by the corner's place, from 0.
 pub(crate) fn face_in(row: Tet, corner: u8) -> Face
     ensures { result ≡ face_in row corner }
 {
@@ -92,7 +92,7 @@ pub(crate) fn face_in(row: Tet, corner: u8) -> Face
     }
 }
 
-/// The number of the point at a corner of a row.
+/// The point at a corner of a tetrahedron, by the corner's place, from 0.
 pub(crate) fn point_in(row: Tet, corner: u8) -> u32
     ensures { result ≡ point_in row corner }
 {
@@ -104,7 +104,7 @@ pub(crate) fn point_in(row: Tet, corner: u8) -> u32
     }
 }
 
-/// What is across the face opposite a corner.
+/// The neighbor across the face opposite a corner, if there is one.
 pub(crate) fn entry_in(across: Across, corner: u8) -> Option<usize>
     ensures { result ≡ entry_in across corner }
 {

@@ -29,7 +29,7 @@ pub enum CheckFault {
     /// The mesh has a defect; the first one, and the number of the first point in its file.
     #[error("the mesh has a defect")]
     Unsound { defect: Defect, first: u32 },
-    /// Want of memory.
+    /// Out of memory.
     #[error("out of memory")]
     NoMemory,
 }

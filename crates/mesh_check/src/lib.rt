@@ -1,6 +1,5 @@
-//! Whether a list of tetrahedra, its faces and its neighbors are those of one mesh, and what stands
-//! against it first; the steps by which the files of a mesh are read and checked, and what is told
-//! of them.
+//! Checks whether a list of tetrahedra with its listed faces and neighbors is one mesh, and finds
+//! the first defect; reads the files of a mesh for the check, and words the result.
 #![tactic(auto)]
 
 mod bent;

@@ -1,4 +1,4 @@
-//! The lines that the programs tell refusals in.
+//! The lines in which the programs report refusals.
 
 ghost use Rattle.std.specs.Prelude.{◌≡◌, ◌++◌, IfOk, OnOk};
 ghost use Rattle.std.specs.Fmt.{decimal};
@@ -20,7 +20,7 @@ pub fn line(alloc: Global, program: &[u8], text: &[u8]) -> Result<Bytes, NoMemor
     Ok(made)
 }
 
-/// A line on a file: its name, and what is told of it.
+/// A line on a file: its name and a text.
 pub fn file_message(
     alloc: Global,
     program: &[u8],
@@ -89,7 +89,7 @@ pub fn append_number(text: &mut Bytes, n: usize) -> Result<(), NoMemory>
     text.append(buffer.format(n).as_bytes())
 }
 
-/// Puts a message; a failure there changes nothing.
+/// Writes a message; a failure changes nothing.
 pub fn put_message<E: Sink>(message: &[u8], err: &mut E)
     ensures { IsMessagePut message.now (sink_seen E.state err.old err.new) }
 {

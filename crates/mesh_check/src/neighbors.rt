@@ -1,4 +1,4 @@
-//! Neighbors that are listed.
+//! Listed neighbors compared with the mesh's own.
 
 ghost use Rattle.std.specs.Prelude.{◌≡◌, ◌≢◌, ◌<◌, length};
 ghost use Rattle.incidence.specs.Pairs.{pairs_of};
@@ -11,10 +11,10 @@ use geo_laws::TetList;
 use incidence::{Across, Pairs};
 use mesh_files::Neighbors;
 
-/// A row has so many corners.
+/// The number of corners of a tetrahedron.
 const CORNERS: u8 = 4;
 
-/// The first corner across whose face not the right neighbor is listed.
+/// The first corner across whose opposite face the listed neighbor is wrong.
 fn wrong_corner(listed: Across, across: Across) -> Option<u8>
     ensures { IsLeastOf (λ k. (k < 4) × (entry_in listed k ≢ entry_in across k)) result }
 {
@@ -26,7 +26,8 @@ fn wrong_corner(listed: Across, across: Across) -> Option<u8>
     None
 }
 
-/// The first row and its first corner across whose face another neighbor is listed than there is.
+/// The first tetrahedron with a wrong listed neighbor, and its first corner across whose opposite
+/// face this is so.
 pub(crate) fn first_wrong_neighbor(
     list: &TetList,
     pairs: &Pairs,

@@ -1,4 +1,4 @@
-//! Positive tetrahedra.
+//! The test of each tetrahedron for positive orientation.
 
 ghost use Rattle.std.specs.Prelude.{◌≡◌, ◌↔◌, IsTrue, All};
 ghost use Rattle.sign_predicates.specs.Orientation.{IsPositive};
@@ -17,7 +17,7 @@ fn is_positive(points: &Points, row: Tet) -> bool
     matches!(orient(a, b, c, d), Sign::Above)
 }
 
-/// The first row that is not positive, by its place.
+/// The first tetrahedron that is not positively oriented, by its place, from 0.
 pub fn first_not_positive(points: &Points, list: &TetList) -> Option<usize>
     requires { All (IsOn points.now) list.now }
     ensures { IsLeastOf (IsNotPositive points.now list.now) result }

@@ -13,10 +13,10 @@ use node_files::{NodeFault, NodeText, read_node};
 use std::alloc::Global;
 use tet_ports::{Bytes, FetchFault, Folder, Name, NoMemory};
 
-/// How many bytes of a file are read at most.
+/// The most bytes of a file.
 pub const MOST_BYTES: usize = 67_108_864;
 
-/// What the files of a mesh spell: its points as they are stated, its tetrahedra by the places of
+/// The contents of the files of a mesh: its points in decimal, its tetrahedra by the places of
 /// their corners, its listed faces, and its listed neighbors, where there is a file of them.
 #[derive(Drop)]
 pub struct MeshText {
@@ -204,7 +204,7 @@ fn read_neighbors<F: Folder>(
 
 /// The files of a mesh with this base: `.node`, `.ele`, `.face` and `.neigh`, in this order, each
 /// text read before the next fetch. The last may be missing. It refuses with the first file that is
-/// at fault, or for want of memory, and stores nothing.
+/// at fault, or when out of memory, and stores nothing.
 pub(crate) fn read_mesh<F: Folder>(
     alloc: Global,
     base: &Name,

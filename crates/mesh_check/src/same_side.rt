@@ -16,10 +16,11 @@ use std::alloc::Global;
 use std::collections::HashMap;
 use tet_ports::NoMemory;
 
-/// A row has so many corners.
+/// The number of corners of a tetrahedron.
 const CORNERS: u8 = 4;
 
-/// A side of a face: its numbers, ascending, and 1 above it or 0 below it.
+/// A side of a face: the face's corners, ascending, and the sign of orient3d on that side by
+/// `code_of`: 0 below, 1 in the face's plane, 2 above.
 #[derive(Clone, Copy, PartialEq, Eq, Hash)]
 pub(crate) struct FaceSide {
     pub(crate) a: u32,
@@ -28,7 +29,7 @@ pub(crate) struct FaceSide {
     pub(crate) side: u32,
 }
 
-/// For each side of a face a row that lies on it.
+/// For each side of a face a tetrahedron that lies on it, by its place.
 type Sides = HashMap<FaceSide, usize>;
 
 fn face_side(face: Face, side: u32) -> FaceSide
@@ -38,7 +39,7 @@ fn face_side(face: Face, side: u32) -> FaceSide
     FaceSide { a, b, c, side }
 }
 
-/// 0 below, 1 at and 2 above 0.
+/// 0 for a negative sign, 1 for zero, 2 for a positive sign.
 fn code_of(sign: Sign) -> u32
     ensures { (z : ℤ) → IsSignOf sign z → result ≡ sign_code z }
 {
@@ -76,14 +77,15 @@ pub(crate) fn least_of(one: Option<usize>, two: Option<usize>) -> Option<usize>
     }
 }
 
-/// The row that is kept for a side of a face.
+/// The tetrahedron that the map has for a side of a face.
 fn kept(sides: &Sides, at: FaceSide, side: u32) -> Option<usize>
     ensures { result ≡ get same_side sides.now (record at { side = side }) }
 {
     sides.get(&FaceSide { side, ..at }).copied()
 }
 
-/// The first of the rows that are kept for sides like this one.
+/// The first tetrahedron in the map that is not strictly on the other side of the face than `at`:
+/// one with the same sign, or any where either sign is zero.
 fn met_at(
     points: &Points,
     list: &TetList,
@@ -101,7 +103,7 @@ fn met_at(
     least_of(middle, kept(sides, at, at.side))
 }
 
-/// The first of the later rows that lies on one side of a face with this row.
+/// The first later tetrahedron that shares a face with `row` and lies on the same side of it.
 fn first_met(points: &Points, row: Tet, list: &TetList, from: usize, sides: &Sides) -> Option<usize>
     requires row { IsOn points.now row }
     requires sides { AreFirstsFrom points.now list.now from (get same_side sides.now) }
@@ -115,7 +117,7 @@ fn first_met(points: &Points, row: Tet, list: &TetList, from: usize, sides: &Sid
     least
 }
 
-/// Keeps a row for the sides on which it lies.
+/// Enters a tetrahedron for the sides of its four faces on which it lies.
 fn put_row(points: &Points, row: Tet, place: usize, sides: &mut Sides) -> Result<(), NoMemory>
     requires { IsOn points.now row }
     ensures { OnOk result (IsPutBelow points.now row 4 place (get same_side sides.old)
@@ -127,7 +129,7 @@ fn put_row(points: &Points, row: Tet, place: usize, sides: &mut Sides) -> Result
     Ok(())
 }
 
-/// The pair of a place and what it meets, or where it meets nothing the pair that was found before.
+/// The pair of `place` and `met`, or the pair that was found before where `met` is None.
 fn paired(place: usize, met: Option<usize>, found: Option<(usize, usize)>) -> Option<(usize, usize)>
     ensures { result ≡ paired place met found }
 {
@@ -137,8 +139,8 @@ fn paired(place: usize, met: Option<usize>, found: Option<(usize, usize)>) -> Op
     }
 }
 
-/// The first two rows that lie on one side of a face that they share. The rows are gone through
-/// from the last one, and for each side the first of those that have gone by is kept.
+/// The first two tetrahedra that share a face and lie on one side of it. The list is traversed from
+/// its last tetrahedron, and for each side of a face the map has the first one of those traversed.
 pub(crate) fn first_same_side(
     alloc: Global,
     points: &Points,

@@ -1,4 +1,4 @@
-//! What is told of a check.
+//! The texts that report a check.
 
 ghost use Rattle.std.specs.Prelude.{◌≡◌, ◌++◌, ◌+◌, codes, IfOk, OnOk};
 ghost use Rattle.std.specs.Fmt.{decimal};
@@ -9,7 +9,7 @@ use itoa::Buffer;
 use std::alloc::Global;
 use tet_ports::{Bytes, NoMemory};
 
-/// Appends the number of a thing at a place, where things are numbered from `first` on.
+/// Appends the number `place + first`, by which the files name a point, a tetrahedron or a face.
 pub fn append_place(text: &mut Bytes, place: usize, first: u32) -> Result<(), NoMemory>
     ensures { OnOk result (text.new ≡ text.old ++ decimal (place + first)) }
 {
@@ -18,7 +18,7 @@ pub fn append_place(text: &mut Bytes, place: usize, first: u32) -> Result<(), No
     text.append(buffer.format(number).as_bytes())
 }
 
-/// Appends a row, and what is said of it.
+/// Appends the number of a tetrahedron, and a text.
 fn append_row(text: &mut Bytes, row: usize, first: u32, told: &[u8]) -> Result<(), NoMemory>
     ensures { OnOk result (text.new ≡ text.old ++ (row_text first row ++ told.now)) }
 {
@@ -27,7 +27,7 @@ fn append_row(text: &mut Bytes, row: usize, first: u32, told: &[u8]) -> Result<(
     text.append(told)
 }
 
-/// Appends two rows, and what is said of them.
+/// Appends the numbers of two tetrahedra, and a text.
 fn append_rows(
     text: &mut Bytes,
     one: usize,
@@ -44,7 +44,7 @@ fn append_rows(
     text.append(told)
 }
 
-/// Appends a face, and what is said of it.
+/// Appends the text on a stray face.
 fn append_face(text: &mut Bytes, face: usize, first: u32) -> Result<(), NoMemory>
     ensures { OnOk result (text.new ≡ text.old
         ++ (codes "face " ++ decimal (face + first) ++ codes " belongs to no row")) }
@@ -74,7 +74,7 @@ fn append_defect(text: &mut Bytes, first: u32, defect: Defect) -> Result<(), NoM
     }
 }
 
-/// What a defect is, where the files number points, rows and faces from `first` on.
+/// The text on a defect, where the files number points, tetrahedra and faces from `first` on.
 pub fn defect_text(alloc: Global, first: u32, defect: Defect) -> Result<Bytes, NoMemory>
     ensures { IfOk result (λ text. text ≡ defect_text first defect) }
 {
@@ -83,7 +83,7 @@ pub fn defect_text(alloc: Global, first: u32, defect: Defect) -> Result<Bytes, N
     Ok(text)
 }
 
-/// The line on a sound mesh of so many tetrahedra.
+/// The line on a sound mesh of `count` tetrahedra.
 pub fn sound_line(alloc: Global, count: usize) -> Result<Bytes, NoMemory>
     ensures { IfOk result (λ line. line ≡ sound_line count) }
 {

@@ -1,4 +1,4 @@
-//! Faces of one row only that are not listed.
+//! Faces of only one tetrahedron that are not listed.
 
 ghost use Rattle.std.specs.Prelude.{◌≡◌, ◌<◌, None, map};
 ghost use Rattle.incidence.specs.Pairs.{pairs_of};
@@ -12,10 +12,10 @@ use geo_laws::{Tet, TetList};
 use incidence::{Across, Pairs};
 use mesh_files::FaceRows;
 
-/// A row has so many corners.
+/// The number of corners of a tetrahedron.
 const CORNERS: u8 = 4;
 
-/// The first corner with nothing across its face, where that face is not in the set.
+/// The first corner whose opposite face has no neighbor across it and is not in `listed`.
 fn unlisted_corner(row: Tet, across: Across, listed: &FaceSet) -> Option<u8>
     ensures { IsLeastOf (λ k. (k < 4) × (entry_in across k ≡ None)
         × ¬ HasFace listed.now (face_in row k)) result }
@@ -28,8 +28,8 @@ fn unlisted_corner(row: Tet, across: Across, listed: &FaceSet) -> Option<u8>
     None
 }
 
-/// The first row and its first corner whose opposite face is a face of no other row and is not
-/// listed, where the set has the listed faces.
+/// The first tetrahedron with a face that no other one has and that is not in `listed`, and its
+/// first corner opposite such a face.
 pub(crate) fn first_unlisted(
     list: &TetList,
     pairs: &Pairs,

@@ -27,7 +27,7 @@ tet_row listed flag wanted line = do
   _ ← end_at line.line rest.1
   Ok (record { a = a.0; b = b.0; c = c.0; d = d.0 })
 
--- the tetrahedra of a text of so many lines, with no content line behind them
+-- the tetrahedra of a text with `total` lines, with no content line behind them
 unfoldable pub tets_of : Listed → ℕ → List ContentLine → Result (List Tet) TextFault
 tets_of listed total lines = do
   line ← line_at total lines
@@ -36,11 +36,11 @@ tets_of listed total lines = do
   _ ← text_end_at rows.1.1
   Ok rows.0
 
--- where rows and corners are numbered from this number on, and there are so many points
+-- the tetrahedra of an `.ele` text that numbers rows and corners from `first` on, with a given number of points
 abbrev pub ele_of : ℕ → ℕ → ℕ → List ContentLine → Result (List Tet) TextFault
 ele_of first points = tets_of (record { first = first; points = points })
 
--- each corner is one of so many points
+-- each corner is one of the first `points` points
 pub record AreCornersBelow (points : ℕ) (t : Tet) : Type 0 where
   pub a : t.a < points
   pub b : t.b < points
@@ -65,7 +65,7 @@ face_row listed flag wanted line = do
   _ ← end_at line.line marker.1
   Ok (record { a = a.0; b = b.0; c = c.0; marker = marker.0 })
 
--- the faces of a text of so many lines, with no content line behind them
+-- the faces of a text with `total` lines, with no content line behind them
 unfoldable pub face_rows_of : Listed → ℕ → List ContentLine → Result (List FaceRow) TextFault
 face_rows_of listed total lines = do
   line ← line_at total lines
@@ -77,7 +77,7 @@ face_rows_of listed total lines = do
 abbrev pub face_list_of : ℕ → ℕ → ℕ → List ContentLine → Result (List FaceRow) TextFault
 face_list_of first points = face_rows_of (record { first = first; points = points })
 
--- each corner is one of so many points
+-- each corner is one of the first `points` points
 pub record IsFaceBelow (points : ℕ) (f : FaceRow) : Type 0 where
   pub a : f.a < points
   pub b : f.b < points
@@ -107,7 +107,7 @@ across_row first wanted line = do
   _ ← end_at line.line n3.1
   Ok (record { n0 = n0.0; n1 = n1.0; n2 = n2.0; n3 = n3.0 })
 
--- the neighbors of a text of so many lines, with no content line behind them
+-- the neighbors of a text with `total` lines, with no content line behind them
 unfoldable pub neighbors_of : ℕ → ℕ → List ContentLine → Result (List Across) TextFault
 neighbors_of first total lines = do
   line ← line_at total lines

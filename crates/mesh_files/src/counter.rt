@@ -5,8 +5,8 @@ ghost use Rattle.std.specs.Fmt.{decimal};
 use crate::piece::{SPAN, put};
 use itoa::write_digits;
 
-/// A number with its decimals, which end in the middle of the bytes. The last digit stands beside
-/// them: so a step stores nothing among the bytes that are copied right after it, for which the
+/// A number with its decimals, which end in the middle of the bytes. The last digit is kept apart,
+/// so that a step stores nothing among the bytes that are copied right after it, for which the
 /// processor would wait.
 #[derive(Drop)]
 pub(crate) struct Counter {

@@ -10,8 +10,8 @@ use incidence::Edges;
 use std::alloc::Global;
 use tet_ports::{Bytes, NoMemory};
 
-/// The text of the `.edge` file of these sides. Sides are numbered from `first`, and an end is told
-/// by its name, counted from `first`.
+/// The text of the `.edge` file of a list of edges. Edges are numbered from `first`, and an end is
+/// written by its name, counted from `first`.
 ///
 /// Format: TetGen user's manual, "File formats".
 pub fn write_edge(
@@ -31,7 +31,7 @@ pub fn write_edge(
     out.finish()
 }
 
-/// Appends the line of the side at a place.
+/// Appends the line of the edge at a place.
 fn append_edge(
     out: &mut Lines,
     place: u64,

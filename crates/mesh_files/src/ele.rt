@@ -13,10 +13,10 @@ use incidence::Marks;
 use std::alloc::Global;
 use tet_ports::{Bytes, NoMemory};
 
-/// The text of the `.ele` file of these rows. Rows are numbered from `first`, and a corner is told
-/// by its name, counted from `first`. With marks, one for each row, each row ends with the
-/// attribute of the region that its mark names, by its place in the complex, from 0, and with `0`
-/// where it has none. It refuses for want of memory alone.
+/// The text of the `.ele` file of a list of tetrahedra. Its rows are numbered from `first`, and a
+/// corner is written by its name, counted from `first`. With marks, one for each tetrahedron, each
+/// row ends with the attribute of the region that the mark names, by its place in the complex, from
+/// 0, and with `0` where there is none. The only refusal is out of memory.
 ///
 /// Format: TetGen user's manual, "File formats".
 pub fn write_ele(
@@ -53,7 +53,7 @@ fn write_rows(alloc: Global, list: &TetList, names: &Names, first: u32) -> Resul
     out.finish()
 }
 
-/// Appends the line of the row at a place.
+/// Appends the line of the tetrahedron at a place.
 fn append_row(
     out: &mut Lines,
     place: u64,
@@ -68,7 +68,7 @@ fn append_row(
     append_corners(out, place, row, names, first, b'\n')
 }
 
-/// Appends the number and the corners of the row at a place, and a byte.
+/// Appends the number and the corners of the tetrahedron at a place, and a byte.
 #[inline(always)]
 fn append_corners(
     out: &mut Lines,

@@ -54,10 +54,9 @@ fn read_list(alloc: Global, listed: Listed, lines: &mut Lines) -> Result<TetList
 }
 
 /// The tetrahedra of an `.ele` file of fewer than 2^32 - 1 bytes, by the places of their corners in
-/// a list of so many points, fewer than 2^32 - 1. In the file rows and corners are numbered from
-/// `first`. Attributes are passed over. `Text` exactly where the file is not in the grammar, with
-/// its first fault: a corner that is none of the points is BadIndex. It refuses besides for want of
-/// memory alone.
+/// a list of `points` points. In the file rows and corners are numbered from `first`. Attributes
+/// are passed over. `Text` exactly where the file is not in the grammar, with its first fault: a
+/// corner that is none of the points is BadIndex. The only other refusal is out of memory.
 pub fn read_ele(alloc: Global, bytes: &Bytes, first: u32, points: u64) -> Result<TetList, MeshFault>
     requires points { points < 2 ^ 32 - 1 }
     requires short { length bytes.now < 2 ^ 32 - 1 }

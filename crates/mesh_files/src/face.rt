@@ -8,8 +8,8 @@ use crate::names::{Names, numbered, numbers_of};
 use std::alloc::Global;
 use tet_ports::{Bytes, NoMemory};
 
-/// The text of the `.face` file of these faces. Faces are numbered from `first`, and a corner is
-/// told by its name, counted from `first`.
+/// The text of the `.face` file of a list of faces. Faces are numbered from `first`, and a corner
+/// is written by its name, counted from `first`.
 ///
 /// Format: TetGen user's manual, "File formats".
 pub fn write_face(

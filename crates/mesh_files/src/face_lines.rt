@@ -16,8 +16,8 @@ use std::alloc::Global;
 use tet_ports::{Bytes, NoMemory};
 
 /// The text of the `.face` file of all faces: that of `write_face` for the rows of `used_faces`,
-/// which take no memory here. Faces are numbered from `first`, and a corner is told by its name,
-/// counted from `first`. It refuses for want of memory alone.
+/// without a list of these. Faces are numbered from `first`, and a corner is written by its name,
+/// counted from `first`. The only refusal is out of memory.
 ///
 /// Format: TetGen user's manual, "File formats".
 pub fn write_all_faces(
@@ -53,7 +53,7 @@ pub fn write_all_faces(
     out.finish()
 }
 
-/// How many uses are marked as the first ones of their faces.
+/// The number of uses that are marked as the first of their faces, which is the number of faces.
 fn first_count(uses: &Uses) -> usize
     ensures { result ≡ count_by (λ u. u.first) uses.now }
 {

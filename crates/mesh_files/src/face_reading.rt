@@ -63,10 +63,10 @@ fn read_list(alloc: Global, listed: Listed, lines: &mut Lines) -> Result<FaceRow
 }
 
 /// The faces of a `.face` file of fewer than 2^32 - 1 bytes, by the places of their corners in a
-/// list of so many points, fewer than 2^32 - 1. In the file rows and corners are numbered from
-/// `first`. Where the file has no markers, the marker of each face is 0. `Text` exactly where the
-/// file is not in the grammar, with its first fault: a corner that is none of the points is
-/// BadIndex. It refuses besides for want of memory alone.
+/// list of `points` points. In the file rows and corners are numbered from `first`. Where the file
+/// has no markers, the marker of each face is 0. `Text` exactly where the file is not in the
+/// grammar, with its first fault: a corner that is none of the points is BadIndex. The only other
+/// refusal is out of memory.
 pub fn read_face(
     alloc: Global,
     bytes: &Bytes,

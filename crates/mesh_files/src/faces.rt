@@ -13,8 +13,8 @@ use tet_ports::{Items, NoMemory};
 /// A list of faces.
 pub type Faces = Items<Face>;
 
-/// All faces of rows: each set of three corners of a row once, its numbers ascending, the faces
-/// ascending.
+/// All faces of tetrahedra: each set of three corners of a tetrahedron once, its numbers ascending,
+/// the faces ascending.
 pub fn faces_of(alloc: Global, list: &TetList) -> Result<Faces, NoMemory>
     ensures { IfOk result (λ faces. AreFacesOf list.now faces) }
 {
@@ -36,7 +36,7 @@ fn first_faces(alloc: Global, list: &TetList, uses: &Uses) -> Result<Faces, NoMe
     Ok(faces)
 }
 
-/// How many faces rows have, where the uses of the faces are known.
+/// The number of faces of tetrahedra, from the uses of the faces.
 pub fn face_count(list: &TetList, uses: &Uses) -> usize
     requires { AreUsesOf list.now uses.now }
     ensures { (faces : List Face) × AreFacesOf list.now faces × (result ≡ length faces) }

@@ -35,8 +35,7 @@ pub(crate) fn facet_faces(alloc: Global, triangles: &FacetTriangles) -> Result<F
     Ok(faces)
 }
 
-/// The first facet of which the face is a triangle, if there is one, by halving the part of the
-/// list in which it may be.
+/// The first facet of which the face is a triangle, if there is one, by binary search.
 pub(crate) fn first_facet(faces: &FacetFaces, face: Face) -> Option<u32>
     requires { AllPairs FacetFaceBefore faces.now }
     ensures { IsFirstOrNone (IsTriangleIn faces.now face) result }

@@ -13,7 +13,7 @@ pub enum MeshFault {
     /// The text is not in the grammar; its first fault.
     #[error("{0}")]
     Text(TextFault),
-    /// Want of memory.
+    /// Out of memory.
     #[error("out of memory")]
     NoMemory,
 }

@@ -1,4 +1,4 @@
-//! The fields of rows.
+//! Reads the fields of rows.
 
 ghost use Rattle.std.specs.Prelude.{◌≡◌, ◌<◌, ◌+◌, ◌-◌, ◌^◌, IfOk};
 ghost use Rattle.tet_text.specs.Reading.{left_after};
@@ -7,15 +7,14 @@ ghost use Rattle.mesh_files.specs.ReadFields.{is_listed, flag_at, numbered, corn
 use node_files::{count_or, count_within};
 use tet_text::{Fields, TextFault, TextKind};
 
-/// What the first line of a list says: how many rows there are, and whether each ends with a
-/// further field.
+/// The first line of a list: the number of rows, and whether each ends with a further field.
 #[derive(Clone, Copy)]
 pub(crate) struct Head {
     pub(crate) count: u64,
     pub(crate) flag: bool,
 }
 
-/// Where the corners of rows are numbered from, and how many points there are.
+/// The number of the first point in the file, and the number of points.
 #[derive(Clone, Copy)]
 pub(crate) struct Listed {
     pub(crate) first: u32,
@@ -36,7 +35,7 @@ fn read_flag(flagged: bool, fields: &mut Fields) -> Result<bool, TextFault>
     Ok(flag == 1)
 }
 
-/// How many rows there are, then a 4, then the flag where there may be one.
+/// Reads the number of rows, then a 4, then the flag where there may be one.
 #[tactic(auto, unfolding(crate::specs::ReadFields::four_head))]
 pub(crate) fn read_four_head(flagged: bool, fields: &mut Fields) -> Result<Head, TextFault>
     ensures value { result ≡ four_head flagged fields.old }
@@ -49,7 +48,7 @@ pub(crate) fn read_four_head(flagged: bool, fields: &mut Fields) -> Result<Head,
     Ok(Head { count, flag })
 }
 
-/// How many rows there are, then the flag, which may be missing.
+/// Reads the number of rows, then the flag, which may be missing.
 #[tactic(auto, unfolding(crate::specs::ReadFields::flag_head))]
 pub(crate) fn read_flag_head(fields: &mut Fields) -> Result<Head, TextFault>
     ensures value { result ≡ flag_head fields.old }
@@ -61,7 +60,7 @@ pub(crate) fn read_flag_head(fields: &mut Fields) -> Result<Head, TextFault>
     Ok(Head { count, flag })
 }
 
-/// The number of a row, which is the wanted one.
+/// Reads the number of a row, which has to be `wanted`.
 #[tactic(auto, unfolding(crate::specs::ReadFields::numbered))]
 pub(crate) fn read_number(wanted: u64, fields: &mut Fields) -> Result<(), TextFault>
     ensures value { left_after (λ x. x) result fields.new.fields
@@ -85,7 +84,7 @@ fn is_listed(listed: Listed, number: u64) -> bool
     u64::from(listed.first) <= number && number < u64::from(listed.first) + listed.points
 }
 
-/// A corner, by its place in the list of points.
+/// Reads a corner, as its place in the list of points.
 #[tactic(auto, unfolding(crate::specs::ReadFields::corner_place_at))]
 pub(crate) fn read_corner(listed: Listed, fields: &mut Fields) -> Result<u32, TextFault>
     requires { listed.points < 2 ^ 32 - 1 }
@@ -104,7 +103,7 @@ pub(crate) fn read_corner(listed: Listed, fields: &mut Fields) -> Result<u32, Te
     })
 }
 
-/// Passes over a field where the flag is set.
+/// Skips a field where the flag is set.
 #[tactic(auto, unfolding(crate::specs::ReadFields::passed_over))]
 pub(crate) fn pass_over(flag: bool, fields: &mut Fields) -> Result<(), TextFault>
     ensures value { left_after (λ x. x) result fields.new.fields

@@ -9,11 +9,11 @@ use crate::piece::{SPAN, put, write_field};
 use std::alloc::Global;
 use tet_ports::{Items, NoMemory};
 
-/// The bytes of a field that is at hand: a space and up to seven digits. The fewer they are, the
-/// more of the fields stay in the near cache.
+/// The bytes of a prepared field: a space and up to seven digits. The fewer they are, the more of
+/// the fields stay in the near cache.
 const SHORT: usize = 8;
 
-/// The numbers from here on have no field at hand.
+/// The numbers from here on have no prepared field.
 const MOST: u32 = 10_000_000;
 
 /// The field of a number: the first `len` bytes of the text are a space and the decimals.
@@ -31,8 +31,8 @@ pub(crate) struct Fields {
 }
 
 impl Fields {
-    /// Those of the numbers below this one, as far as they have up to seven digits. The ten that
-    /// differ in their last digit alone are made from one field.
+    /// The fields of the numbers below `count`, as far as they have up to seven digits. The ten
+    /// that differ in their last digit alone are made from one field.
     pub(crate) fn below(alloc: Global, count: u32) -> Result<Self, NoMemory> {
         let few = count.min(MOST);
         let mut known: Vec<Field> = Vec::with_capacity(alloc, few as usize)?;
@@ -56,7 +56,7 @@ impl Fields {
         })
     }
 
-    /// Lets all go, as a list of items is.
+    /// Frees the memory, as that of a list of items is freed.
     pub(crate) fn let_go(self) {
         self.known.let_go();
     }
@@ -110,7 +110,7 @@ pub(crate) fn put_field(block: &mut [u8], at: usize, field: i64, fields: &Fields
     put_any(block, at, field)
 }
 
-/// The same, where the field is not at hand.
+/// Writes a space and a number that has no prepared field.
 fn put_any(block: &mut [u8], at: usize, field: i64) -> usize
     requires { at + 24 ≤ length block.old }
     ensures short { result ≤ at + 21 }

@@ -14,8 +14,8 @@ use geo_laws::Face;
 use std::alloc::Global;
 use tet_ports::NoMemory;
 
-/// The faces on the hull of rows, which are given, with marker 1: what `face_rows` answers without
-/// `all` where there are no facets. It refuses for want of memory alone.
+/// The faces of `hull`, those on the hull of the tetrahedra, with marker 1: the answer of
+/// `face_rows` without `all` where there are no facets. The only refusal is out of memory.
 pub fn hull_rows(alloc: Global, hull: &Faces) -> Result<FaceRows, NoMemory>
     ensures { IfOk result (λ found. (ps : List Point) (complex : Complex) (rows : List Row)
         → AllPairs RowBefore rows → AreHullFacesOf rows hull.now

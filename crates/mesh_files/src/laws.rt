@@ -1,4 +1,4 @@
-//! A law of the texts: the contract of a function that does nothing.
+//! A law of the texts of a mesh.
 ghost use Rattle.mesh_files.specs.Laws.{EleTextLaw};
 
 /// The text of the `.ele` file determines the tetrahedra: of two different lists on the same

@@ -1,4 +1,4 @@
-//! The files of a mesh: the faces and sides of rows with their markers, each file's text, and the
+//! The files of a mesh: the faces of the tetrahedra with their markers, each file's text, and the
 //! readers of the files of tetrahedra, faces and neighbors, exactly as their grammar says.
 #![tactic(auto)]
 

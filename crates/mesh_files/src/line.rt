@@ -24,7 +24,7 @@ const FULL: usize = 888;
 /// The bytes that are gathered at most with others.
 const FEW: usize = 128;
 
-/// A text that is made line by line. Its last bytes stand in a block, from which many lines are
+/// A text that is made line by line. Its last bytes are in a block, from which many lines are
 /// appended at once.
 #[derive(Drop)]
 pub(crate) struct Lines {
@@ -43,8 +43,8 @@ impl Model for Lines {
     ghost invariant = { λ l. l.used ≤ 888 };
 }
 
-/// A text without lines, with memory for this many. The fields of this many numbers from 0 on are
-/// at hand, where there are no more of them than lines.
+/// A text without lines, with memory for `count` lines. The fields of the first `numbers` numbers
+/// are prepared, where there are no more of them than lines.
 pub(crate) fn room_for_lines(alloc: Global, count: usize, numbers: u32) -> Result<Lines, NoMemory>
     ensures { IfOk result (λ text. text ≡ []) }
 {
@@ -63,7 +63,7 @@ pub(crate) fn room_for_lines(alloc: Global, count: usize, numbers: u32) -> Resul
 }
 
 impl Lines {
-    /// Appends these bytes.
+    /// Appends bytes.
     pub(crate) fn append(&mut self, bytes: &[u8]) -> Result<(), NoMemory>
         ensures { OnOk result (self.new ≡ self.old ++ bytes.now) }
     {

@@ -25,8 +25,8 @@ pub struct FaceRow {
 /// A list of faces with their markers.
 pub type FaceRows = Items<FaceRow>;
 
-/// A list of rows, the points that they are of, and the complex that marks their faces, with the
-/// triangles of its facets.
+/// A list of tetrahedra, their points, and the complex that marks their faces, with the triangles
+/// of its facets.
 #[derive(Clone, Copy)]
 pub struct MarkedList<'a> {
     pub points: &'a Points,
@@ -35,11 +35,11 @@ pub struct MarkedList<'a> {
     pub triangles: &'a FacetTriangles,
 }
 
-/// The faces of rows, each once, ascending, with their markers. The marker is that of the first
-/// facet in which the face lies, by its place in the complex, and 1 where that facet has none. A
-/// face in no facet has 1 where one row alone has it, so that it is on the hull of the mesh, else
-/// 0. Without `all` there are only the faces on the hull and those that lie in facets. It refuses
-/// for want of memory alone.
+/// The faces of tetrahedra, each once, ascending, with their markers. The marker is that of the
+/// first facet in which the face lies, by its place in the complex, and 1 where that facet has
+/// none. A face in no facet has 1 where only one tetrahedron has it, so that it is on the hull of
+/// the mesh, and 0 elsewhere. Without `all` there are only the faces on the hull and those that lie
+/// in facets. The only refusal is out of memory.
 pub fn face_rows(
     alloc: Global,
     points: &Points,
@@ -63,7 +63,7 @@ pub fn face_rows(
     used_faces(alloc, &mesh, &uses, all)
 }
 
-/// The same, where the uses of the faces are known already.
+/// As `face_rows`, from the uses of the faces.
 pub fn used_faces(
     alloc: Global,
     mesh: &MarkedList<'_>,
@@ -90,8 +90,8 @@ pub fn used_faces(
     Ok(found)
 }
 
-/// For how many faces memory is asked at once: most faces of a mesh have two uses, and few are on
-/// its hull.
+/// The number of faces for which memory is asked at once: most faces of a mesh have two uses, and
+/// few are on its hull.
 fn face_room(uses: &Uses, all: bool) -> usize {
     if all {
         uses.len() / 2 + uses.len() / 16
@@ -171,7 +171,7 @@ pub(crate) fn is_first(list: &TetList, uses: &Uses, at: usize) -> bool
     uses.at(at).first
 }
 
-/// Whether one row alone has the face whose first use is at a place.
+/// Whether only one tetrahedron has the face whose first use is at a place.
 fn is_of_one_row(list: &TetList, uses: &Uses, at: usize) -> bool
     requires uses { AreUsesOf list.now uses.now }
     requires there { at < length uses.now }

@@ -16,7 +16,7 @@ pub(crate) fn numbered(names: &Names, first: u32, point: u32) -> i64
     i64::from(names.at(point as usize)) + i64::from(first)
 }
 
-/// How many numbers from 0 on there are up to that of the last name, where names ascend.
+/// One more than the file's number of the last point, where names ascend.
 pub(crate) fn numbers_of(names: &Names, first: u32) -> u32 {
     match names.as_slice().last() {
         Some(last) => last.saturating_add(first).saturating_add(1),

@@ -9,8 +9,8 @@ use incidence::{Across, Pairs, pair_faces};
 use std::alloc::Global;
 use tet_ports::{Bytes, NoMemory};
 
-/// The neighbors of rows: at each corner the place of the least other row that has the face
-/// opposite it, if there is one.
+/// The neighbors of tetrahedra: at each corner the place of the least other tetrahedron that has
+/// the face opposite it, if there is one.
 pub fn neighbors_of(alloc: Global, list: &TetList) -> Result<Pairs, NoMemory>
     ensures pairs { IfOk result (λ pairs. pairs ≡ pairs_of list.now) }
     ensures places { IfOk result (λ pairs. AreAllWithin (length pairs) pairs) }
@@ -18,8 +18,8 @@ pub fn neighbors_of(alloc: Global, list: &TetList) -> Result<Pairs, NoMemory>
     pair_faces(alloc, list)
 }
 
-/// The text of the `.neigh` file of these neighbors. Rows and neighbors are numbered from `first`;
-/// -1 stands for none.
+/// The text of the `.neigh` file. Tetrahedra and neighbors are numbered from `first`; -1 stands for
+/// none.
 ///
 /// Format: TetGen user's manual, "File formats".
 pub fn write_neigh(alloc: Global, pairs: &Pairs, first: u32) -> Result<Bytes, NoMemory>
@@ -33,13 +33,12 @@ pub fn write_neigh(alloc: Global, pairs: &Pairs, first: u32) -> Result<Bytes, No
     out.finish()
 }
 
-/// How many numbers from 0 on there are up to the last row, counted from 0; 0 where there are more
-/// than fit.
+/// The number of tetrahedra, or 0 where it needs more than 32 bits.
 fn numbers_of(pairs: &Pairs) -> u32 {
     u32::try_from(pairs.len()).unwrap_or(0)
 }
 
-/// Appends the line of the row at a place.
+/// Appends the line of the tetrahedron at a place.
 fn append_neighbors(out: &mut Lines, place: u64, across: Across, first: u32) -> Result<(), NoMemory>
     requires place { place < 2 ^ 63 }
     requires within { IsAcrossWithin (2 ^ 32) across }
@@ -58,7 +57,7 @@ fn append_neighbors(out: &mut Lines, place: u64, across: Across, first: u32) -> 
     )
 }
 
-/// The number of the row at a place, or -1 where there is none.
+/// The number of the tetrahedron at a place, or -1 for none.
 fn neighbor(place: Option<usize>, first: u32) -> i64
     requires { IfSome place (λ i. i < 2 ^ 32) }
     ensures { result ≡ neighbor first place }

@@ -15,11 +15,10 @@ use std::alloc::Global;
 use tet_ports::{Bytes, Items};
 use tet_text::{Fields, Lines, TextFault, TextKind};
 
-/// A list of what is across the faces of rows, one entry for each row.
+/// A list of the neighbors of tetrahedra, one entry for each.
 pub type Neighbors = Items<Across>;
 
-/// The place that the number of a neighbor stands for, or none for -1. None where the number stands
-/// for nothing.
+/// The neighbor that a number names: a place, or none for -1. `None` where the number is neither.
 fn place_of(first: u32, number: i64) -> Option<Option<usize>>
     ensures { result ≡ neighbor_place first number }
 {
@@ -30,7 +29,7 @@ fn place_of(first: u32, number: i64) -> Option<Option<usize>>
     if number == -1 { Some(None) } else { None }
 }
 
-/// A neighbor.
+/// Reads a neighbor.
 #[tactic(auto, unfolding(crate::specs::ReadRows::neighbor_at))]
 fn read_neighbor(first: u32, fields: &mut Fields) -> Result<Option<usize>, TextFault>
     ensures value { left_after (λ n. n) result fields.new.fields
@@ -81,11 +80,11 @@ fn read_list(alloc: Global, first: u32, lines: &mut Lines) -> Result<Neighbors, 
     Ok(rows)
 }
 
-/// The neighbors of a `.neigh` file of fewer than 2^32 - 1 bytes: for each row and each corner the
-/// place that the number across the face opposite that corner stands for, from 0, and none for -1.
-/// In the file rows are numbered from `first`; a neighbor with a number that is neither -1 nor at
-/// least `first` is BadIndex. `Text` exactly where the file is not in the grammar, with its first
-/// fault. It refuses besides for want of memory alone.
+/// The neighbors of a `.neigh` file of fewer than 2^32 - 1 bytes: for each tetrahedron and each
+/// corner the place, from 0, that the number of the neighbor across the face opposite that corner
+/// names, and none for -1. In the file rows are numbered from `first`; a neighbor with a number
+/// that is neither -1 nor at least `first` is BadIndex. `Text` exactly where the file is not in the
+/// grammar, with its first fault. The only other refusal is out of memory.
 pub fn read_neigh(alloc: Global, bytes: &Bytes, first: u32) -> Result<Neighbors, MeshFault>
     requires { length bytes.now < 2 ^ 32 - 1 }
     ensures { MeshGives (λ rows. rows) result

@@ -18,21 +18,20 @@ use tet_text::{Fields, Lines, TextFault};
 
 /// A row of a list: it begins with its number, and may have corners, which are points of a list.
 pub(crate) trait Row: Copy {
-    /// What a line says as the row with a number, where a flag says whether a further field ends
-    /// it.
+    /// The row with a number that a line spells, with a further field where the flag is set.
     ghost row_of: { Listed → Bool → ℕ → ContentLine → Result Self TextFault };
 
-    /// Each corner is one of so many points.
+    /// Whether each corner is one of the first *n* points.
     ghost is_below: { ℕ → Self → Type 0 };
 
-    /// The row with the wanted number.
+    /// Reads the row with the wanted number.
     fn read(listed: Listed, flag: bool, wanted: u64, fields: &mut Fields) -> Result<Self, TextFault>
         requires { listed.points < 2 ^ 32 - 1 }
         ensures value { result ≡ row_of listed flag wanted fields.old }
         ensures there { IfOk result (is_below listed.points) };
 }
 
-/// The next row.
+/// Reads the next line as a row.
 #[tactic(auto, unfolding(crate::specs::Repeated::next_row))]
 fn read_next<R: Row>(
     listed: Listed,
@@ -51,7 +50,7 @@ fn read_next<R: Row>(
     R::read(listed, flag, wanted, &mut fields)
 }
 
-/// So many rows, numbered from the first number on.
+/// Reads `head.count` rows, numbered from `listed.first` on.
 pub(crate) fn read_rows<R: Row>(
     alloc: Global,
     listed: Listed,

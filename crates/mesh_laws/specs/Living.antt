@@ -12,7 +12,7 @@ use Rattle.mesh_arena.specs.declared.slot.Corner.TheVariants.{Ghost}
 use Rattle.point_locate.specs.Place.{row_corners}
 pub use Rattle.mesh_laws.specs.LowestLiving.{face_off, IsFaceCorner, HasSameFaceCorners}
 
--- the slot has the corners of a Delaunay row, in the places of the four t: an even arrangement, since both are positive
+-- the slot has the corners of a Delaunay tetrahedron, in the places of the four t: an even arrangement, since both are positive
 pub record IsRowSlot (slots : List (Option SlotValue)) (ps : List Point) (ms : List ℕ) (s : ℕ) (t : Row) : Type 0 where
   pub is : corners_at slots s ≡ Some (row_corners t)
   pub row : Row
@@ -27,7 +27,7 @@ pub record IsGhostSlot (slots : List (Option SlotValue)) (ps : List Point) (ms :
   pub is : corners_at slots s ≡ Some (slice_set (row_corners t) k Ghost)
   pub is_hull : IsHullFace ps ms (face_off t k)
 
--- There is one slot for each row and one for each hull face, no other live slot, and each face of a live slot has a neighbor
+-- There is one slot for each tetrahedron and one for each hull face, no other live slot, and each face of a live slot has a neighbor
 pub record IsDelaunayMesh (slots : List (Option SlotValue)) (ps : List Point) (ms : List ℕ) : Type 0 where
   pub within : AreNumbersOf ps ms
   pub each : (s : ℕ) → IsLive slots s → ((t : Row) × IsRowSlot slots ps ms s t) ⊎ ((t : Row) × (k : ℕ) × IsGhostSlot slots ps ms s t k)

@@ -27,7 +27,7 @@ IsFaceCorner f i = (i ≡ f.a) ⊎ ((i ≡ f.b) ⊎ (i ≡ f.c))
 abbrev pub HasSameFaceCorners : Face → Face → Type 0
 HasSameFaceCorners f g = (i : ℕ) → IsFaceCorner f i ↔ IsFaceCorner g i
 
--- the slot has the corners of a lowest row, in the places of the four t: an even arrangement, since both are positive
+-- the slot has the corners of a lowest tetrahedron, in the places of the four t: an even arrangement, since both are positive
 pub record IsLowestRowSlot (lifts : ℕ → ℤ) (slots : List (Option SlotValue)) (ps : List Point) (ms : List ℕ) (s : ℕ)
     (t : Row) : Type 0 where
   pub is : corners_at slots s ≡ Some (row_corners t)
@@ -44,7 +44,7 @@ pub record IsLowestGhostSlot (lifts : ℕ → ℤ) (slots : List (Option SlotVal
   pub is : corners_at slots s ≡ Some (slice_set (row_corners t) k Ghost)
   pub is_hull : IsLowestHullFace lifts ps ms (face_off t k)
 
--- There is one slot for each row and one for each hull face, no other live slot, and each face of a live slot has a neighbor
+-- There is one slot for each tetrahedron and one for each hull face, no other live slot, and each face of a live slot has a neighbor
 pub record IsLowestMesh (lifts : ℕ → ℤ) (slots : List (Option SlotValue)) (ps : List Point) (ms : List ℕ) : Type 0 where
   pub within : AreNumbersOf ps ms
   pub each : (s : ℕ) → IsLive slots s → ((t : Row) × IsLowestRowSlot lifts slots ps ms s t)

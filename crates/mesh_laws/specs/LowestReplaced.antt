@@ -14,8 +14,8 @@ use Rattle.mesh_laws.specs.LowestRule.{IsLowestTaken}
 use Rattle.mesh_laws.specs.Reach.{Grown}
 use Rattle.mesh_laws.specs.LowestLiving.{IsLowestMesh}
 
--- Where the cavity has all slots that the new point takes, the star in place of it makes the lowest mesh with that point. (That some row
--- is there says that the points aren't all coplanar.)
+-- Where the cavity has all slots that the new point takes, the star in place of it makes the lowest mesh with that point. (That some
+-- tetrahedron is there says that the points aren't all coplanar.)
 abbrev pub LowestReplacedLaw : Type 0
 LowestReplacedLaw = (lifts : ℕ → ℤ) (old new : List (Option SlotValue)) (ps : List Point) (ms : List ℕ) (p start : ℕ) (cavity : List Slot)
     (rim : List RimFace)

@@ -13,20 +13,20 @@ use Rattle.mesh_arena.specs.declared.slot.Corner.TheVariants.{Ghost}
 use Rattle.mesh_arena.specs.declared.slot.SlotCorners.{SlotCorners}
 use Rattle.point_locate.specs.Place.{IsAt, row_corners, placed}
 
--- these are the corners of a row that doesn't have the point p above
+-- these are the corners of a tetrahedron that doesn't have the point p above
 pub record IsLowestTakenRow (lifts : ℕ → ℤ) (ps : List Point) (p : ℕ) (cs : List Corner) : Type 0 where
   pub row : Row
   pub is : cs ≡ row_corners row
   pub holds : ¬ HasAbove lifts ps row p
 
--- behind the face stands such a row
+-- behind the face stands such a tetrahedron
 pub record IsLowestInnerTaken (lifts : ℕ → ℤ) (slots : List (Option SlotValue)) (ps : List Point) (p s face : ℕ) : Type 0 where
   pub inner : SlotFace
   pub is : link_behind slots s face ≡ Some inner
   pub takes : IsAt slots (IsLowestTakenRow lifts ps p) inner.slot
 
--- p is strictly beyond the hull face of a ghost with the point at infinity in this place, or on its plane where the row on the inner side
--- doesn't have it above
+-- p is strictly beyond the hull face of a ghost with the point at infinity in this place, or on its plane where the tetrahedron on the
+-- inner side doesn't have it above
 pub record IsLowestSeen (lifts : ℕ → ℤ) (slots : List (Option SlotValue)) (ps : List Point) (p s place : ℕ) : Type 0 where
   pub ghost : SlotCorners
   pub is : corners_at slots s ≡ Some (corner_list ghost)
@@ -40,6 +40,6 @@ pub record IsLowestSeenGhost (lifts : ℕ → ℤ) (slots : List (Option SlotVal
   pub infinite : IsAt slots (λ cs. slice_index_or cs place Ghost ≡ Ghost) s
   pub seen : IsLowestSeen lifts slots ps p s place
 
--- the slot is a row that doesn't have p above, or a ghost that p sees
+-- the slot is a tetrahedron that doesn't have p above, or a ghost that p sees
 abbrev pub IsLowestTaken : (ℕ → ℤ) → List (Option SlotValue) → List Point → ℕ → ℕ → Type 0
 IsLowestTaken lifts slots ps p s = IsAt slots (IsLowestTakenRow lifts ps p) s ⊎ IsLowestSeenGhost lifts slots ps p s

@@ -14,8 +14,8 @@ use Rattle.mesh_laws.specs.Rule.{IsTaken}
 use Rattle.mesh_laws.specs.Reach.{Grown}
 use Rattle.mesh_laws.specs.Living.{IsDelaunayMesh}
 
--- Where the cavity has all slots that the new point takes, the star in place of it makes the Delaunay mesh with that point. (That some row
--- is there says that the points aren't all coplanar.)
+-- Where the cavity has all slots that the new point takes, the star in place of it makes the Delaunay mesh with that point. (That some
+-- tetrahedron is there says that the points aren't all coplanar.)
 abbrev pub ReplacedLaw : Type 0
 ReplacedLaw = (old new : List (Option SlotValue)) (ps : List Point) (ms : List ℕ) (p start : ℕ) (cavity : List Slot) (rim : List RimFace)
     (s : ℕ) → IsArenaMesh old → IsArenaMesh new → IsDelaunayMesh old ps ms → IsNew ps ms p

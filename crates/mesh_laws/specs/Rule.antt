@@ -13,20 +13,20 @@ use Rattle.mesh_arena.specs.declared.slot.Corner.TheVariants.{Ghost}
 use Rattle.mesh_arena.specs.declared.slot.SlotCorners.{SlotCorners}
 use Rattle.point_locate.specs.Place.{IsAt, row_corners, placed}
 
--- these are the corners of a row that doesn't have p, with this number, outside
+-- these are the corners of a tetrahedron that doesn't have p, with this number, outside
 pub record IsTakenRow (ps : List Point) (p : Point) (number : ℕ) (cs : List Corner) : Type 0 where
   pub row : Row
   pub is : cs ≡ row_corners row
   pub holds : ¬ IsTrue (is_outside (corners ps row) (as_numbers row) p number)
 
--- behind the face stands such a row
+-- behind the face stands such a tetrahedron
 pub record IsInnerTaken (slots : List (Option SlotValue)) (ps : List Point) (p : Point) (number s face : ℕ) : Type 0 where
   pub inner : SlotFace
   pub is : link_behind slots s face ≡ Some inner
   pub takes : IsAt slots (IsTakenRow ps p number) inner.slot
 
--- p is strictly beyond the hull face of a ghost with the point at infinity in this place, or on its plane where the row on the inner side
--- doesn't have it outside
+-- p is strictly beyond the hull face of a ghost with the point at infinity in this place, or on its plane where the tetrahedron on the
+-- inner side doesn't have it outside
 pub record IsSeen (slots : List (Option SlotValue)) (ps : List Point) (p : Point) (number s place : ℕ) : Type 0 where
   pub ghost : SlotCorners
   pub is : corners_at slots s ≡ Some (corner_list ghost)
@@ -39,6 +39,6 @@ pub record IsSeenGhost (slots : List (Option SlotValue)) (ps : List Point) (p : 
   pub infinite : IsAt slots (λ cs. slice_index_or cs place Ghost ≡ Ghost) s
   pub seen : IsSeen slots ps p number s place
 
--- the slot is a row that doesn't have p outside, or a ghost that p sees
+-- the slot is a tetrahedron that doesn't have p outside, or a ghost that p sees
 abbrev pub IsTaken : List (Option SlotValue) → List Point → Point → ℕ → ℕ → Type 0
 IsTaken slots ps p number s = IsAt slots (IsTakenRow ps p number) s ⊎ IsSeenGhost slots ps p number s

@@ -1,4 +1,4 @@
-//! Laws of the cavity in a Delaunay mesh. Each is the contract of a function that does nothing.
+//! Laws of the cavity in a Delaunay mesh.
 ghost use Rattle.mesh_laws.specs.Laws.{CavityLaw, CutOutLaw};
 
 /// The search from the place of a new point finds all slots that the point takes: in a Delaunay

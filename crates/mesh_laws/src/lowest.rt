@@ -9,8 +9,8 @@ pub fn law_cavity()
     ensures { LowestCavityLaw }
 {}
 
-/// Where the place of a new point is not taken, a row holds the point and has it above: the point
-/// is hidden, and the mesh is the one with the point as it stands.
+/// Where the place of a new point is not taken, a tetrahedron holds the point and has it above: the
+/// point is hidden, and the mesh without it is also the mesh with it.
 pub fn law_hidden_point()
     ensures { HiddenPointLaw }
 {}

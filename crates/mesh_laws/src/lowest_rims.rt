@@ -1,6 +1,4 @@
 //! Laws of the place of a point in a mesh of lowest tetrahedra, and of the rim of its cavity.
-//!
-//! Each is the contract of a function that does nothing.
 ghost use Rattle.mesh_laws.specs.LowestRimLaws.{LowestPairedLaw, LowestPlacedLaw, LowestSomeRimLaw};
 
 /// The rim of a cavity that was grown in such a mesh is a closed surface: each two corners of a

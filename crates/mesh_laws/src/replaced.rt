@@ -1,4 +1,4 @@
-//! Laws of surgery in a Delaunay mesh. Each is the contract of a function that does nothing.
+//! Laws of surgery in a Delaunay mesh.
 ghost use Rattle.mesh_laws.specs.Replaced.{LongerListLaw, ReplacedLaw, SameMeshLaw};
 
 /// The star of a new point in place of its whole cavity makes the Delaunay mesh with that point.

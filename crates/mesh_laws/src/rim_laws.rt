@@ -1,6 +1,4 @@
 //! Laws of the place of a point in a Delaunay mesh, and of the rim of its cavity.
-//!
-//! Each is the contract of a function that does nothing.
 ghost use Rattle.mesh_laws.specs.RimLaws.{PairedLaw, SomeRimLaw, PlacedLaw, SomewhereLaw};
 
 /// The rim of a cavity that was grown in a Delaunay mesh is a closed surface: each two corners of a

@@ -18,7 +18,7 @@ pub record IsFolded (listed points : List Point) (names folded : List ℕ) : Typ
   pub as_many : length folded ≡ length listed
   pub equal : (i : ℕ) → i < length listed → (slice_index folded i < length points) × (point points (slice_index folded i) ≡ point listed i)
 
--- the names of a table's points and of so many added ones: those of the table, and for the added ones the numbers behind all its listed
--- points
+-- the names of a table's points and of `added` points behind them: those of the table, and for the added ones the
+-- numbers behind all its listed points
 abbrev pub names_with : NodeTable → ℕ → List ℕ
 names_with table added = table.names ++ range_with_len (length table.listed) added

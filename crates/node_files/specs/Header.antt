@@ -15,7 +15,7 @@ count_within least most line fields = do
   count ← count_at line fields
   if is_count_in_range least most count.0 then Ok count else Err (bad_count line)
 
--- the same, or this one where no field is left
+-- the next field as a count from `least` to `most`, or `absent` where no field is left
 unfoldable pub count_or : ℕ → ℕ → ℕ → ℕ → Fields → Result (ℕ × Fields) TextFault
 count_or absent least most line [] = Ok (absent, [])
 count_or absent least most line (field ∷ fields) = count_within least most line (field ∷ fields)

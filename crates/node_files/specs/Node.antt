@@ -9,7 +9,7 @@ use Rattle.node_files.specs.declared.node_text.NodeText.{NodeText}
 use Rattle.node_files.specs.Header.{header_of}
 use Rattle.node_files.specs.Point.{ListedPoint, point_of}
 
--- so many points, one a line, behind the one with this number, in a text of so many lines
+-- *n* points, one a line, numbered from the one after `before` on, in a text of `total` lines
 unfoldable pub points_of : ℕ → Bool → Option ℕ → ℕ → ℕ → List ContentLine → Result (List ListedPoint × List ContentLine) TextFault
 points_of attribute_count flag before zero total lines = Ok ([], lines)
 points_of attribute_count flag before (suc count) total lines = do
@@ -40,7 +40,7 @@ points_table header total lines = do
   points ← points_of header.attribute_count header.flag None header.count total lines
   Ok (listed_text header points.0, points.1)
 
--- a point list, and the content lines behind it, in a text of so many lines
+-- a point list, and the content lines behind it, in a text with `total` lines
 unfoldable pub node_list_of : ℕ → List ContentLine → Result (NodeText × List ContentLine) TextFault
 node_list_of total lines = do
   line ← line_at total lines

@@ -1,4 +1,4 @@
--- What a call that may want memory returns.
+-- The answers of a call that may run out of memory.
 use Rattle.std.specs.Prelude.{◌≡◌, Result, Ok, Err}
 use Rattle.tet_text.specs.declared.fault.TextFault.{TextFault}
 use Rattle.node_files.specs.declared.fault.NodeFault.{NodeFault}

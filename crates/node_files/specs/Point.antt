@@ -30,7 +30,7 @@ place_at line fields = do
   z ← decimal_at line y.1
   Ok (record { x = x.0; y = y.0; z = z.0; line = line }, z.1)
 
--- so many fields, as they are
+-- the next *n* fields, as they are written
 unfoldable pub attributes_at : ℕ → ℕ → Fields → Result (List (List ℕ) × Fields) TextFault
 attributes_at zero line fields = Ok ([], fields)
 attributes_at (suc count) line fields = do
@@ -38,7 +38,7 @@ attributes_at (suc count) line fields = do
   others ← attributes_at count line first.1
   Ok (first.0 ∷ others.0, others.1)
 
--- one where the flag is set
+-- a marker where the flag is set
 unfoldable pub markers_at : Bool → ℕ → Fields → Result (List ℤ × Fields) TextFault
 markers_at false line fields = Ok ([], fields)
 markers_at true line fields = do

@@ -16,7 +16,7 @@ use Rattle.node_files.specs.Folding.{IsFolded}
 abbrev pub rounded_point : ℕ → DecimalPoint → DecimalPoint
 rounded_point decimals p = record { x = rounded decimals p.x; y = rounded decimals p.y; z = rounded decimals p.z; line = p.line }
 
--- the points, rounded where that is asked for
+-- the points, rounded where the options have decimals
 abbrev pub rounded_points : Option ℕ → List DecimalPoint → List DecimalPoint
 rounded_points None ps = ps
 rounded_points (Some decimals) ps = map (rounded_point decimals) ps
@@ -33,23 +33,23 @@ with_text text ps table = record table {
   listed = map (grid_point table.grid) ps;
 }
 
--- there are more points than are allowed, and both numbers are told
+-- there are more points than are allowed; the fault has both numbers
 pub record IsTooMany (limits : Limits) (text : NodeText) (count most : ℕ) : Type 0 where
   pub many : limits.points < length text.decimals
   pub counted : count ≡ length text.decimals
   pub told : most ≡ limits.points
 
--- there are not too many, and no grid, since the point of this line is off it
+-- the points are not too many, and on no grid, since the point of this line is off it
 pub record IsOffGrid (limits : Limits) (text : NodeText) (options : GridOptions) (line : ℕ) : Type 0 where
   pub few : length text.decimals ≤ limits.points
   pub off : grid_of limits.grid options.halvings (rounded_points options.decimals text.decimals) ≡ Err (record { line = line })
 
--- there are not too many, and they are on this grid
+-- the points are not too many, and on this grid
 pub record IsOnItsGrid (limits : Limits) (text : NodeText) (options : GridOptions) (grid : Grid) : Type 0 where
   pub few : length text.decimals ≤ limits.points
   pub on : grid_of limits.grid options.halvings (rounded_points options.decimals text.decimals) ≡ Ok grid
 
--- they are on a grid, where equal ones are folded, and the table says so
+-- the table has the points on their grid, with equal ones folded
 pub record IsSettled (limits : Limits) (text : NodeText) (options : GridOptions) (table : NodeTable) : Type 0 where
   pub on : IsOnItsGrid limits text options table.grid
   pub is : table ≡ with_text text (rounded_points options.decimals text.decimals) table

@@ -3,7 +3,7 @@ use Rattle.std.specs.Prelude.{◌≡◌, ◌≢◌, ℕ, zero, suc, ◌*◌, ◌
 use Rattle.tet_text.specs.Decimals.{Scaled}
 use Rattle.node_files.specs.declared.terms.Terms.{Terms}
 
--- n / b^steps with no common factor b: its numerator, and how many factors are left below it
+-- n / b^steps with no common factor b: its numerator, and the number of factors b left in the denominator
 abbrev pub divided_out : ℕ → ℕ → ℕ → ℕ × ℕ
 divided_out b n zero = (n, 0)
 divided_out b n (suc steps) = if n % b == 0 then divided_out b (n / b) steps else (n, suc steps)
@@ -21,6 +21,6 @@ pub record AreLowestTerms (d : Scaled) (t : Terms) : Type 0 where
   pub no_two : 0 < t.twos → t.numerator % 2 ≢ 0
   pub no_five : 0 < t.fives → t.numerator % 5 ≢ 0
 
--- each number has such terms, and those of `terms_of` are they
+-- each number has terms, and they are those of `terms_of`
 abbrev pub TermsLaw : Type 0
 TermsLaw = (d : Scaled) → AreLowestTerms d (terms_of d)

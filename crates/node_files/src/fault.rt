@@ -20,7 +20,7 @@ pub enum NodeFault {
     /// A coordinate is too large for the grid; the line of the first such point, from 1.
     #[error("line {line}: coordinate off the grid")]
     Range { line: usize },
-    /// Want of memory.
+    /// Out of memory.
     #[error("out of memory")]
     NoMemory,
 }

@@ -11,8 +11,8 @@ use std::collections::HashMap;
 use tet_ports::NoMemory;
 
 /// The points of a list without those that are equal to an earlier one. `names` has the place of
-/// each in that list; `folded` has for each point of the list the place of the one that is equal to
-/// it.
+/// each kept point in the list; `folded` has for each point of the list the place of the kept point
+/// that is equal to it.
 #[derive(Drop)]
 pub(crate) struct Folding {
     pub points: Points,
@@ -27,8 +27,7 @@ fn coordinates(p: GridPoint) -> (i32, i32, i32)
     (p.x, p.y, p.z)
 }
 
-/// The points of a list, where equal ones are folded. A point whose coordinates were known already
-/// leaves them at the place where they were.
+/// Folds the equal points of a list: a point with the coordinates of an earlier one is left out.
 pub(crate) fn fold_points(alloc: Global, listed: &Points) -> Result<Folding, NoMemory>
     requires { length listed.now < 2 ^ 32 }
     ensures { IfOk result (λ made. IsFolded listed.now made.points made.names made.folded) }
@@ -59,8 +58,8 @@ pub(crate) fn fold_points(alloc: Global, listed: &Points) -> Result<Folding, NoM
     })
 }
 
-/// The names of a table's points and of so many added ones behind them: for a point of the table
-/// its place in `listed`, and for the added ones the numbers behind all of `listed`.
+/// The names of a table's points and of `added` points behind them: for a point of the table its
+/// place in `listed`, and for the added ones the numbers behind all of `listed`.
 pub fn names_of(alloc: Global, table: &NodeTable, added: u32) -> Result<Names, NoMemory>
     requires { length table.now.listed + added < 2 ^ 32 - 1 }
     ensures { IfOk result (λ names. names ≡ names_with table.now added) }

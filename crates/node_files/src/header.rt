@@ -6,7 +6,7 @@ ghost use Rattle.node_files.specs.Header.{is_count_in_range, count_within, count
 
 use tet_text::{Fields, TextFault, TextKind};
 
-/// What the first line of a point list says.
+/// The numbers in the first line of a point list.
 #[derive(Clone, Copy)]
 pub(crate) struct Header {
     pub(crate) count: u64,
@@ -21,7 +21,7 @@ fn is_within(least: u64, most: u64, count: u64) -> bool
 }
 
 /// The next field as a count from `least` to `most`. NotANumber where it is no count, BadCount
-/// where it is none of these. The field is passed over, also if it is refused.
+/// where it is out of range. The field is consumed, even if it is refused.
 #[tactic(auto, unfolding(crate::specs::Header::count_within))]
 pub fn count_within(least: u64, most: u64, fields: &mut Fields) -> Result<u64, TextFault>
     ensures value { left_after (λ n. n) result fields.new.fields

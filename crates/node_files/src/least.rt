@@ -11,7 +11,7 @@ use grid_coords::{DecimalPoint, DecimalPoints, Grid, Range};
 use sign_predicates::GridPoint;
 use tet_text::Decimal;
 
-/// The most factors 2 below a coordinate in lowest terms.
+/// The greatest number of factors 2 in the denominator of a coordinate in lowest terms.
 fn twos_of(p: &DecimalPoint) -> u32
     ensures { result ≡ twos_of p.now }
 {
@@ -23,7 +23,7 @@ fn twos_of(p: &DecimalPoint) -> u32
     x.max(y.max(z))
 }
 
-/// The most factors 5.
+/// The greatest number of factors 5 in the denominator of a coordinate in lowest terms.
 fn fives_of(p: &DecimalPoint) -> u32
     ensures { result ≡ fives_of p.now }
 {
@@ -89,7 +89,7 @@ fn line_over(wide: u64, grid: &Grid, points: &[DecimalPoint]) -> Option<usize>
     None
 }
 
-/// The grid by the factors below the coordinates alone.
+/// The coarsest grid with the factors of the coordinates' denominators, without a test of size.
 fn coarsest(points: &[DecimalPoint]) -> Grid
     ensures { result ≡ coarsest points.now }
 {
@@ -99,8 +99,8 @@ fn coarsest(points: &[DecimalPoint]) -> Grid
 }
 
 /// The least grid on which all coordinates are whole. In lowest terms each coordinate has a
-/// denominator `2^i * 5^j`; the grid has as many decimals as the greatest `j`, and so many halvings
-/// besides that the greatest `i` is reached. Range exactly where a coordinate is over `wide` units
+/// denominator `2^i * 5^j`; the grid has as many decimals as the greatest `j`, and as many halvings
+/// as the greatest `i` exceeds the decimals. Range exactly where a coordinate is over `wide` units
 /// in size on that grid; its line is that of the first such point. It takes no memory.
 pub fn least_grid(points: &DecimalPoints, wide: u64) -> Result<Grid, Range>
     requires { wide ≤ limit }

@@ -3,12 +3,12 @@
 ghost use Rattle.std.specs.Prelude.{◌≡◌};
 ghost use Rattle.node_files.specs.Limits.{tetgen_limits, AreIndexable};
 
-/// How large an input may be. What is over a limit is refused.
+/// The limits of an input; one that is over a limit is refused.
 #[derive(Clone, Copy, Debug, PartialEq, Eq)]
 pub struct Limits {
     /// The bytes of a file.
     pub bytes: usize,
-    /// The points of the input, those that are added not counted.
+    /// The points of the input, without added ones.
     pub points: usize,
     /// The facets.
     pub facets: usize,

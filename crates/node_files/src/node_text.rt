@@ -6,8 +6,9 @@ use tet_ports::{Items, Words};
 /// A list of markers, one for each point.
 pub type Markers = Items<i64>;
 
-/// A point list as its text states it. The attributes stand point by point, `attribute_count` for
-/// each, as they are written; there is a marker for each point where `flag` is set, and else none.
+/// A point list as its text states it. The attributes are listed point by point, `attribute_count`
+/// for each, as they are written; there is a marker for each point where `flag` is set, and else
+/// none.
 #[derive(Debug, Drop)]
 pub struct NodeText {
     /// The number of the first point, 0 or 1.

@@ -21,7 +21,8 @@ fn is_next(before: Option<u64>, number: u64) -> bool
     }
 }
 
-/// The number of a point, behind that of the point before.
+/// Reads the number of a point, which has to be 0 or 1 for the first point, and else one more than
+/// that of the point before.
 #[tactic(auto, unfolding(crate::specs::Point::index_at))]
 pub(crate) fn read_index(before: Option<u64>, fields: &mut Fields) -> Result<u64, TextFault>
     ensures value { left_after (λ n. n) result fields.new.fields
@@ -39,7 +40,8 @@ pub(crate) fn read_index(before: Option<u64>, fields: &mut Fields) -> Result<u64
     })
 }
 
-/// The next three fields as the coordinates of a point; Ended or NotANumber where they are none.
+/// Reads the next three fields as the coordinates of a point; Ended or NotANumber where they are
+/// not.
 #[tactic(auto, unfolding(crate::specs::Point::place_at))]
 pub fn read_place(fields: &mut Fields) -> Result<DecimalPoint, TextFault>
     ensures value { left_after (λ p. p) result fields.new.fields
@@ -53,7 +55,7 @@ pub fn read_place(fields: &mut Fields) -> Result<DecimalPoint, TextFault>
     Ok(DecimalPoint { x, y, z, line })
 }
 
-/// So many attributes, appended to those before.
+/// Reads the attributes of a point, appended to those before.
 pub(crate) fn read_attributes(
     alloc: Global,
     count: u32,
@@ -72,7 +74,7 @@ pub(crate) fn read_attributes(
     Ok(())
 }
 
-/// A marker where the flag is set, appended to those before.
+/// Reads a marker where the flag is set, appended to those before.
 #[tactic(auto, unfolding(crate::specs::Point::markers_at))]
 pub(crate) fn read_marker(
     flag: bool,

@@ -26,7 +26,7 @@ fn first_after(before: Option<u64>, first: u32, number: u64) -> u32
     }
 }
 
-/// A point, appended to the table; gives its number.
+/// Reads a point, appended to the table, and answers its number.
 #[tactic(auto, unfolding(crate::specs::Point::point_of))]
 fn read_point(
     alloc: Global,
@@ -48,7 +48,7 @@ fn read_point(
     Ok(number)
 }
 
-/// The points that the first line states.
+/// Reads the points that the first line states.
 fn read_points(alloc: Global, header: Header, lines: &mut Lines) -> Result<NodeText, NodeFault>
     requires { line_total lines.old + 1 < 2 ^ 64 }
     ensures value { NodeGives (λ text. (text, content_left lines.new)) result
@@ -84,8 +84,8 @@ fn node_list(alloc: Global, lines: &mut Lines) -> Result<NodeText, NodeFault>
     read_points(alloc, header, lines)
 }
 
-/// A point list inside a text of fewer than 2^32 - 1 lines. The lines behind it are left; on a
-/// refusal the lines are as they were.
+/// A point list inside a text of fewer than 2^32 - 1 lines. The lines behind the list stay unread;
+/// on a refusal the lines are as they were.
 pub fn read_node_list(alloc: Global, lines: &mut Lines) -> Result<NodeText, NodeFault>
     requires { line_total lines.old < 2 ^ 32 - 1 }
     ensures value { NodeGives (λ text. (text, content_left lines.new)) result

@@ -7,7 +7,7 @@ use grid_coords::{DecimalPoint, DecimalPoints, round_to};
 use std::alloc::Global;
 use tet_ports::NoMemory;
 
-/// The point with each coordinate rounded to so many decimals.
+/// The point with each coordinate rounded to `decimals` decimals.
 pub fn rounded_point(decimals: u32, p: &DecimalPoint) -> DecimalPoint
     ensures { result ≡ rounded_point decimals p.now }
 {
@@ -19,7 +19,7 @@ pub fn rounded_point(decimals: u32, p: &DecimalPoint) -> DecimalPoint
     }
 }
 
-/// The points, each with its coordinates rounded to so many decimals.
+/// The points, each with its coordinates rounded to `decimals` decimals.
 pub(crate) fn each_rounded(
     alloc: Global,
     decimals: u32,

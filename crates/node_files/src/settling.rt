@@ -40,9 +40,9 @@ fn grid_points(alloc: Global, grid: &Grid, points: &[DecimalPoint]) -> Result<Po
     Ok(list)
 }
 
-/// The points of a list on a grid, each rounded first where that is asked for. TooMany where there
-/// are more than the limits allow; then Range where a coordinate is too large for a grid, with the
-/// line of the first such point. Points that are equal on the grid are folded.
+/// The points of a list on a grid, each rounded first where the options have decimals. TooMany
+/// where there are more than the limits allow; then Range where a coordinate is too large for a
+/// grid, with the line of the first such point. Points that are equal on the grid are folded.
 pub fn settle(
     alloc: Global,
     limits: Limits,

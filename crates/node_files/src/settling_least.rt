@@ -36,7 +36,7 @@ fn on_least_grid(alloc: Global, points: &DecimalPoints, wide: u64) -> Result<Poi
     Ok(list)
 }
 
-/// The points of a mesh on their least grid, each rounded first where that is asked for. TooMany
+/// The points of a mesh on their least grid, each rounded first where `decimals` are given. TooMany
 /// exactly where there are more than `most_points`; then Range exactly where a coordinate is over
 /// `wide` units in size on that grid, with the line of the first such point.
 pub fn settle_least(

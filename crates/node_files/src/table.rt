@@ -1,16 +1,16 @@
-//! A point list on a grid, and how it is put there.
+//! A point list on a grid, and the options by which the grid is chosen.
 
 use crate::Markers;
 use geo_laws::Points;
 use grid_coords::{DecimalPoints, Grid};
 use tet_ports::{Items, Words};
 
-/// How points are put on a grid.
+/// The options by which points are put on a grid.
 #[derive(Clone, Copy, Debug, PartialEq, Eq)]
 pub struct GridOptions {
-    /// To how many decimals each coordinate is rounded first, if to any.
+    /// The number of decimals to which each coordinate is rounded first, if any.
     pub decimals: Option<u32>,
-    /// How often the grid's unit is halved at most.
+    /// The most halvings of the grid's unit.
     pub halvings: u32,
 }
 
@@ -19,7 +19,7 @@ pub struct GridOptions {
 pub type Names = Items<u32>;
 
 /// A point list on a grid, where equal points are folded: `points` has the first point of each
-/// place. The attributes and markers stand as in the list's text; there is a listed point for each
+/// place. The attributes and markers are as in the list's text; there is a listed point for each
 /// decimal point.
 #[derive(Debug, Drop)]
 pub struct NodeTable {
@@ -36,7 +36,7 @@ pub struct NodeTable {
     pub grid: Grid,
     /// All points of the text, in units of the grid.
     pub listed: Points,
-    /// Those that are equal to no earlier one, in order.
+    /// The listed points that are equal to no earlier one, in order.
     pub points: Points,
     /// For each of `points` its place in `listed`, from 0.
     pub names: Names,

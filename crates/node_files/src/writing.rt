@@ -155,7 +155,7 @@ fn put_alike(
     Ok(())
 }
 
-/// The first line, of a list with so many points.
+/// Appends the first line of a list with `count` points.
 fn put_head(table: &NodeTable, count: u64, out: &mut Bytes) -> Result<(), NoMemory>
     requires { count < 2 ^ 63 }
     ensures { OnOk result (out.new ≡ out.old ++ head_line table.now count) }

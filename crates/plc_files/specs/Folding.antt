@@ -5,7 +5,7 @@ use Rattle.geo_laws.specs.Complex.{Polygon, Complex, AreFollowing, with_facet}
 use Rattle.geo_laws.specs.declared.complex.Facet.{Facet}
 use Rattle.plc_files.specs.Appending.{plus_polygons, plus_facet_holes}
 
--- each corner of each polygon is the place of one of so many points
+-- each corner of each polygon is the place of one of *n* points
 abbrev pub HasCornersBelow : ℕ → Complex → Type 0
 HasCornersBelow count c = All (λ p. All (λ i. i < count) p.corners) c.polygons
 

@@ -10,7 +10,7 @@ use node_files::{Names, NodeTable};
 use std::alloc::Global;
 use tet_ports::{Items, NoMemory};
 
-/// The places of the kept points that are equal to these listed ones.
+/// The places of the kept points that are equal to the listed points at `corners`.
 fn folded_corners(alloc: Global, folded: &Names, corners: &[u32]) -> Result<Items<u32>, NoMemory>
     requires { All (λ i. i < length folded.now) corners.now }
     ensures { IfOk result (λ places. places ≡ map (slice_index folded.now) corners.now) }
@@ -56,7 +56,7 @@ fn copy_facet_holes(holes: &RatPoints, made: &mut Complex) -> Result<(), NoMemor
     Ok(())
 }
 
-/// Appends the facet at a place, with its corners folded, to those before it.
+/// Appends the facet at a place, with its corners folded.
 fn fold_facet(
     alloc: Global,
     complex: &Complex,
@@ -112,7 +112,7 @@ fn folded_facets(alloc: Global, complex: &Complex, folded: &Names) -> Result<Com
 }
 
 /// The complex of a table's listed points, by their places, on its kept points: each corner names
-/// the kept point that is equal to the listed one. It refuses for want of memory alone.
+/// the kept point that is equal to the listed one. The only refusal is out of memory.
 pub fn fold(alloc: Global, complex: &Complex, table: &NodeTable) -> Result<Complex, NoMemory>
     requires table { IsNodeTable table.now }
     requires corners { HasCornersBelow (length table.now.listed) complex.now }

@@ -1,5 +1,6 @@
--- Where a point lies in a mesh: in the closed tetrahedron of a slot, or strictly beyond the hull face of a ghost. The four corners of a
--- ghost are in an order that is positive where a point strictly beyond its hull face stands in place of the point at infinity.
+-- Where a point lies in a mesh: in the closed tetrahedron of a slot, or strictly beyond the hull face of a ghost. The
+-- four corners of a ghost are in an order that is positive where a point strictly beyond its hull face takes the place
+-- of the point at infinity.
 use Rattle.std.specs.Prelude.{◌≡◌, ℕ, ◌<◌, List, [], ◌∷◌, length, Option, Some, ⊤}
 use Rattle.std.specs.List.{slice_index_or}
 use Rattle.sign_predicates.specs.Point.{Point, as_rational}
@@ -23,7 +24,7 @@ abbrev pub IsCornerOn : List Point → Corner → Type 0
 IsCornerOn ps (Numbered i) = i < length ps
 IsCornerOn ps Ghost = ⊤
 
--- and so are all of these
+-- all of the corners are points of the list, or the point at infinity
 abbrev pub AreOn : List Point → List Corner → Type 0
 AreOn ps cs = (k : ℕ) → k < 4 → IsCornerOn ps (slice_index_or cs k Ghost)
 
@@ -79,7 +80,7 @@ abbrev pub HasShape : List Corner → Shape → Type 0
 HasShape cs (RowShape row) = cs ≡ row_corners row
 HasShape cs (GhostShape place) = (place < 4) × (slice_index_or cs place Ghost ≡ Ghost)
 
--- what a look at these corners tells of p
+-- where p lies to the slot with these corners
 abbrev pub Looks : List Point → Point → List Corner → Look → Type 0
 Looks ps p cs LooksInside = IsInside ps p cs
 Looks ps p cs LooksBeyond = IsBeyond ps p cs

@@ -1,5 +1,5 @@
-//! Point location in a living Delaunay mesh: a walk over its slots, and a scan where it does not
-//! end.
+//! Point location in a living Delaunay mesh: a visibility walk over its slots, and a scan of all
+//! slots where the walk does not end.
 #![tactic(auto)]
 
 mod look;

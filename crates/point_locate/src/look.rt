@@ -1,4 +1,4 @@
-//! What one slot tells of a point.
+//! Where a point lies to one slot.
 ghost use Rattle.std.specs.Prelude.{◌≡◌, ℕ, ◌<◌, ◌≤ℤ◌, ◌<ℤ◌, ◌↔◌, pos, length, IsTrue, MatchOption};
 ghost use Rattle.sign_predicates.specs.Orientation.{side, opposite_face, IsPositive};
 ghost use Rattle.geo_laws.specs.Delaunay.{corners};
@@ -10,8 +10,8 @@ use geo_laws::{Points, Tet, corners_of};
 use mesh_arena::{Corner, SlotCorners};
 use sign_predicates::{Corners, GridPoint, Sign, beyond, orient};
 
-// The point is in the closed tetrahedron, strictly beyond the hull face of the ghost, or it is
-// neither and this face leads on.
+// The point is in the closed tetrahedron, or strictly beyond the hull face of the ghost, or
+// neither, and the walk goes on through a face.
 #[derive(Clone, Copy, Debug)]
 pub(crate) enum Look {
     Inside,
@@ -19,15 +19,16 @@ pub(crate) enum Look {
     Out(u8),
 }
 
-/// What the corners of a slot make: a tetrahedron of points, or a hull ghost with the point at
-/// infinity in this place, from 0.
+/// The shape of a slot: a tetrahedron of points, or a hull ghost with the point at infinity in a
+/// place, from 0.
 #[derive(Clone, Copy)]
 pub enum Shape {
     Row(Tet),
     Ghost(u8),
 }
 
-/// The shape of these corners. The first place with the point at infinity tells a ghost.
+/// The shape of a slot, by its corners. The first place with the point at infinity makes it a
+/// ghost.
 pub fn shape_of(t: SlotCorners) -> Shape
     ensures { HasShape (corner_list t) result }
 {
@@ -73,8 +74,8 @@ pub fn placed(points: &Points, p: GridPoint, t: SlotCorners) -> Corners
     }
 }
 
-/// The points of a row's corners, whose numbers are places in `points`, from 0. Coordinates are in
-/// grid units.
+/// The points of a tetrahedron's corners, whose numbers are places in `points`, from 0. Coordinates
+/// are in grid units.
 #[inline]
 pub fn row_points(points: &Points, row: Tet) -> Corners
     requires { AreOn points.now (row_corners row) }
@@ -118,7 +119,7 @@ fn face_beyond(t: &Corners, entry: u8, p: GridPoint) -> Option<u8>
     }
 }
 
-// What the corners of a slot tell of the point `p`.
+// Where the point `p` lies to the slot with these corners.
 #[inline(always)]
 pub(crate) fn look_at(points: &Points, t: SlotCorners, entry: u8, p: GridPoint) -> Look
     requires corners { AreOn points.now (corner_list t) }

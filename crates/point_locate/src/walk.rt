@@ -19,8 +19,8 @@ pub enum Place {
 
 /// The place of the point `p` in the mesh, found by a walk from the live slot `start`: from a
 /// tetrahedron through a face that `p` is strictly beyond, and from a ghost through its hull face.
-/// The walk takes at most as many turns as there are slots; where that is not enough, all slots are
-/// looked at in turn. It takes no memory. The corners are places in `points`, from 0, and
+/// The walk takes at most as many steps as there are slots; where it does not end by then, all
+/// slots are scanned. It takes no memory. The corners are places in `points`, from 0, and
 /// coordinates are in grid units.
 ///
 /// Source: the visibility walk (Devillers, Pion and Teillaud, 2002). It ends in a Delaunay mesh.
@@ -51,8 +51,8 @@ pub fn locate(arena: &Arena, points: &Points, start: Slot, p: GridPoint) -> Plac
     place
 }
 
-/// The place of the point by a look at each slot in turn; None where it is in no closed tetrahedron
-/// and beyond no hull face.
+/// The place of the point by a scan of all slots; None where it is in no closed tetrahedron and
+/// beyond no hull face.
 pub fn scan(arena: &Arena, points: &Points, p: GridPoint) -> Option<Place>
     requires { AreCornersOn arena.now.slots points.now }
     ensures { MatchOption result (IsSomePlace arena.now.slots points.now p → ⊥)

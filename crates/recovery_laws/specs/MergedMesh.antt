@@ -67,7 +67,8 @@ MergedRecoveryLaw = (depth splits : ℕ) (ps : List Point) (c : Complex) (group 
     → IsMergedRecovery depth splits ps c group inner qs rest ts
     → IsRecovery depth splits ps (merged_segments inner c) (merged_facets group c) qs rest ts
 
--- So where no Delaunay row is tangled, what is kept of the refilled list is a mesh of the complex
+-- Where no two facets cross a Delaunay tetrahedron, the tetrahedra that carving keeps of the refilled list are a mesh
+-- of the complex
 abbrev pub MergedMeshLaw : Type 0
 MergedMeshLaw = (depth splits : ℕ) (ps : List Point) (c : Complex) (group : ℕ → ℕ) (inner : ℕ → Piece → Bool)
     (qs : List Point) (rest : List Piece) (ts : List FacetTriangle)

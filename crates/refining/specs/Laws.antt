@@ -1,4 +1,4 @@
--- The law of points that are put behind those of a complex.
+-- The law of points that are appended to those of a complex.
 use Rattle.std.specs.Prelude.{ℕ, ◌+◌, ◌-◌, ◌<◌, ◌≤◌, ◌^◌, List, ◌++◌, length}
 use Rattle.sign_predicates.specs.Point.{Point}
 use Rattle.geo_laws.specs.Complex.{Complex}

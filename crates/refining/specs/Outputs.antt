@@ -15,7 +15,7 @@ use Rattle.run_steps.specs.declared.status.Status.{Status}
 use Rattle.run_steps.specs.declared.status.Status.TheVariants.{NoMemory}
 use Rattle.refining.specs.declared.outputs.Aim.{Aim}
 
--- the outputs of a mesh with some points behind those of the complex; only memory may be wanting
+-- the outputs of a mesh with some points behind those of the complex; the only refusal is out of memory
 abbrev pub RefinedAnswer : Options → Bound → Result Outputs Status → Type 0
 RefinedAnswer options bound (Ok outputs) =
     (more : List Point) × (halvings : ℕ) × (mesh : Meshed) × MeshAnswerWith more halvings options bound mesh
@@ -43,6 +43,6 @@ MadeBy true options bound = RefinedMade options bound
 abbrev pub AimedMade : Option Aim → Options → Bound → Result Outputs Status → Type 0
 AimedMade aim options = MadeBy (refines aim options) options
 
--- and those of an input
+-- the outputs of an input, by whether its mesh is refined
 abbrev pub AimedMeshed : Option Aim → Limits → Options → Input → Result Outputs Status → Type 0
 AimedMeshed aim limits options input = AndThen (BoundAnswer limits options input) (AimedMade aim options)

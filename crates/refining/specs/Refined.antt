@@ -1,4 +1,4 @@
--- The mesh of a complex with points behind its own, and why there is none.
+-- The mesh of a complex with points behind its own, and the refusals.
 use Rattle.std.specs.Prelude.{◌≡◌, ◌≤◌, ◌^◌, ℕ, true, List, [], ◌++◌, length, Ok}
 use Rattle.sign_predicates.specs.Point.{Point}
 use Rattle.refining.specs.Addable.{AreAddable, IsAddFault}
@@ -12,7 +12,7 @@ use Rattle.run_steps.specs.declared.meshed.Meshed.{Meshed}
 use Rattle.refining.specs.declared.refine_fault.RefineFault.{RefineFault}
 use Rattle.refining.specs.declared.refine_fault.RefineFault.TheVariants as refused
 
--- how the options make the mesh of a complex whose pieces may be halved so often
+-- the options of the mesh of a complex whose subsegments may be halved `halvings` times
 abbrev pub options_with : ℕ → Options → MeshOptions
 options_with halvings options = record {
   halvings = halvings;
@@ -22,31 +22,31 @@ options_with halvings options = record {
   regions = options.regions;
 }
 
--- A mesh of a complex with points behind its own: no piece is halved more often than the coordinates of all of them allow, and any two of
--- them differ
+-- A mesh of a complex with points behind its own: no subsegment is halved more often than the coordinates of all points
+-- allow, and any two points differ
 pub record IsMeshWith (options : Options) (bound : Bound) (more : List Point) (halvings : ℕ) (made : ComplexMesh) : Type 0 where
   pub on_grid : halvings ≤ bound.table.grid.halvings
   pub addable : AreAddable halvings bound.table.points more
   pub mesh : IsComplexMesh (options_with halvings options) (bound.table.points ++ more) bound.complex made
 
--- and there are few of them
+-- a mesh of a complex with few points behind its own
 pub record IsFewWith (options : Options) (bound : Bound) (more : List Point) (halvings : ℕ) (made : ComplexMesh) : Type 0 where
   pub with_them : IsMeshWith options bound more halvings made
   pub few : length more ≤ 2 ^ 30
 
--- why there is none
+-- why there is no mesh with these points
 abbrev pub IsRefineFault : Options → Bound → List Point → ℕ → ℕ → RefineFault → Type 0
 IsRefineFault options bound more halvings most (refused.Points fault) = IsAddFault halvings most bound.table.points more fault
 IsRefineFault options bound more halvings most (refused.Mesh fault) =
     IsMeshFault (options_with halvings options) (bound.table.points ++ more) bound.complex fault
 
--- a mesh of a complex with points behind its own, with its point list and what was added to it: these points first, and behind them
--- those of protection
+-- a mesh of a complex with points behind its own, with its point list and the added points: these points first, and
+-- behind them those of protection
 abbrev pub MeshAnswerWith : List Point → ℕ → Options → Bound → Meshed → Type 0
 MeshAnswerWith more halvings options bound mesh =
     (made : ComplexMesh) × IsMeshWith options bound more halvings made × (mesh ≡ mesh_of_complex bound made)
 
--- with none, and as many halvings as the grid allows, it is the mesh of a run
+-- with no further points, and as many halvings as the grid allows, the mesh is that of a run
 abbrev pub PlainLaw : Type 0
 PlainLaw =
     (options : Options) (bound : Bound) (mesh : Meshed) → MeshAnswerWith [] bound.table.grid.halvings options bound mesh

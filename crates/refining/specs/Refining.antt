@@ -14,7 +14,8 @@ pub record IsTakenMesh (options : Options) (bound : Bound) (taken : Taken) : Typ
   pub made : IsFewWith options bound taken.added taken.halvings taken.made
   pub bare : taken.added ≡ [] → taken.halvings ≡ bound.table.grid.halvings
 
--- The complex has a mesh without further points. The answer is one with the points that were added, and where none was, it is one without
+-- The complex has a mesh without further points. The answer is a mesh with the points that were added, and without any
+-- where none was
 pub record IsRefinedTo (options : Options) (bound : Bound) (bounds : Bounds) (refined : Refined) : Type 0 where
   pub plain : Meshed
   pub plain_is : MeshOf true options bound (Ok plain)

@@ -6,14 +6,15 @@ use thiserror::Error;
 /// Why points are not put behind those of a list.
 #[derive(Clone, Copy, Debug, PartialEq, Eq, Error)]
 pub enum AddFault {
-    /// There would be this many points, and at most so many may be.
+    /// There would be `count` points, of at most `most`.
     #[error("{count} points, at most {most}")]
     TooMany { count: usize, most: usize },
-    /// A coordinate of the new point at this place, the first such one, may not be halved as often
-    /// as is asked for.
+    /// The new point at this place, from 0, is the first with a coordinate that cannot be halved as
+    /// often as is asked for.
     #[error("new point {place} may not be halved as often")]
     Coarse { place: usize },
-    /// The point at this place of all, the first such one, is equal to an earlier one.
+    /// The point at this place of the whole list, from 0, is the first that is equal to an earlier
+    /// one.
     #[error("point {place} is there already")]
     Repeated { place: usize },
     /// Memory ran out.

@@ -6,7 +6,7 @@ use std::alloc::Global;
 use std::collections::HashSet;
 use tet_ports::NoMemory;
 
-/// Whether each coordinate of the point is a multiple of this many units.
+/// Whether each coordinate of the point is a multiple of `unit` grid units.
 fn is_multiple(unit: u32, p: GridPoint) -> bool {
     unit > 0
         && p.x.unsigned_abs() % unit == 0
@@ -14,8 +14,9 @@ fn is_multiple(unit: u32, p: GridPoint) -> bool {
         && p.z.unsigned_abs() % unit == 0
 }
 
-/// The points that were added before, and behind them those of the proposed ones that may be added
-/// too, so many of all at most. No clause speaks of them: they are tested before they are meshed.
+/// The points that were added before, and behind them the proposed points that may be added: new
+/// ones with coordinates that are multiples of `2^halvings` units, up to `most` points in all. The
+/// function has no contract; `with_points` tests the points before they are meshed.
 pub(crate) fn addable(
     alloc: Global,
     points: &Points,

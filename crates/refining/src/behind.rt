@@ -10,7 +10,7 @@ use geo_laws::Points;
 use std::alloc::Global;
 use tet_ports::NoMemory;
 
-/// The points of both lists.
+/// The points of both lists, `more` behind `points`.
 fn joined(alloc: Global, points: &Points, more: &Points) -> Result<Points, NoMemory>
     requires { length points.now + length more.now < 2 ^ 63 }
     ensures { IfOk result (λ all. all ≡ points.now ++ more.now) }
@@ -21,9 +21,9 @@ fn joined(alloc: Global, points: &Points, more: &Points) -> Result<Points, NoMem
     Ok(all)
 }
 
-/// The points with these behind them, whose coordinates may be halved so often. It refuses with the
-/// first of these: there are more than so many of them; a coordinate of a new point may not be
-/// halved so often; two points are equal; or for want of memory.
+/// Appends new points whose coordinates can be halved `halvings` times. It refuses with the first
+/// of these: there would be more points than allowed; a coordinate of a new point cannot be halved
+/// that often; two points are equal; or when out of memory.
 pub fn with_points(
     alloc: Global,
     points: &Points,

@@ -1,4 +1,4 @@
-//! The midpoints of long edges, as an instance.
+//! An instance of `Propose`: the midpoints of long edges.
 
 use crate::propose::Propose;
 use complex_mesh::ComplexMesh;
@@ -7,7 +7,7 @@ use sign_predicates::GridPoint;
 use std::alloc::Global;
 use tet_ports::NoMemory;
 
-/// Proposes the midpoint of each edge that is longer than this, rounded to multiples of
+/// Proposes the midpoint of each edge that is longer than a bound, rounded to multiples of
 /// `2^halvings` units.
 #[derive(Clone, Copy, Debug)]
 pub struct LongEdges {
@@ -29,13 +29,14 @@ fn grid_point(x: i64, y: i64, z: i64) -> Option<GridPoint> {
     })
 }
 
-/// Half of a sum, rounded to a multiple of this many units.
+/// Half of a sum, rounded towards 0 to a multiple of `unit` grid units.
 fn half(a: i32, b: i32, unit: i64) -> i64 {
     let half = (a as i64 + b as i64) / 2;
     half.wrapping_sub(half.checked_rem(unit).unwrap_or(0))
 }
 
-/// The square of a distance, or the most that there is.
+/// The square of the distance of two points in grid units, or the greatest `u64` where it is
+/// larger.
 fn squared(a: GridPoint, b: GridPoint) -> u64 {
     let x = u64::from(a.x.abs_diff(b.x));
     let y = u64::from(a.y.abs_diff(b.y));
@@ -45,7 +46,7 @@ fn squared(a: GridPoint, b: GridPoint) -> u64 {
 }
 
 impl LongEdges {
-    /// The midpoint of the edge between two points, where it is long.
+    /// The midpoint of the edge between two points, where the edge is longer than the bound.
     fn middle(&self, a: GridPoint, b: GridPoint) -> Option<GridPoint> {
         if squared(a, b) <= self.longest {
             return None;
@@ -58,7 +59,8 @@ impl LongEdges {
         )
     }
 
-    /// Appends the midpoint of the edge between two points of the list, where it is long.
+    /// Appends the midpoint of the edge between two points of the list, where the edge is longer
+    /// than the bound.
     fn append_middle(
         &self,
         proposed: &mut Points,

@@ -1,5 +1,4 @@
-//! The law of points that are put behind those of a complex. It is the contract of a function that
-//! does nothing.
+//! The law of points that are appended to those of a complex.
 ghost use Rattle.refining.specs.Laws.{MeshableLaw};
 
 /// A complex stays meshable when points are put behind its own, with as many halvings as their

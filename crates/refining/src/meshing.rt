@@ -14,7 +14,7 @@ use run_steps::Bound;
 use std::alloc::Global;
 use tet_ports::NoMemory;
 
-/// How the options make the mesh of a complex whose pieces may be halved so often.
+/// The options of the mesh of a complex whose subsegments may be halved `halvings` times.
 fn options_with(options: &Options, halvings: u32) -> MeshOptions
     ensures { result ≡ options_with halvings options.now }
 {
@@ -27,9 +27,9 @@ fn options_with(options: &Options, halvings: u32) -> MeshOptions
     }
 }
 
-/// The mesh of a complex with these points behind its own, whose segments may be halved so often.
-/// It refuses the points as `with_points` does, where there may be so many of all, and then the
-/// complex with them as `mesh_complex` does.
+/// The mesh of a complex with more points behind its own, whose subsegments may be halved
+/// `halvings` times. It refuses the points as `with_points` does, with `most` points allowed in
+/// all, and then the complex with them as `mesh_complex` does.
 pub fn mesh_with(
     alloc: Global,
     options: &Options,
@@ -56,7 +56,7 @@ pub fn mesh_with(
     }
 }
 
-/// The points of a list once more.
+/// Copies the points of a list.
 fn same_points(alloc: Global, points: &Points) -> Result<Points, NoMemory>
     ensures { IfOk result (λ same. same ≡ points.now) }
 {

@@ -6,7 +6,7 @@ ghost use Rattle.refining.specs.Addable.{is_multiple, AreMultiples, IsFirstCoars
 use geo_laws::Points;
 use sign_predicates::GridPoint;
 
-/// So many units may be halved so often.
+/// The number of grid units, `2^halvings`, that can be halved `halvings` times.
 pub(crate) fn unit_of(halvings: u32) -> u32
     requires { halvings ≤ 23 }
     ensures is { result ≡ 2 ^ halvings }
@@ -15,7 +15,7 @@ pub(crate) fn unit_of(halvings: u32) -> u32
     2_u32.pow(halvings)
 }
 
-/// Whether each coordinate of the point is a multiple of this many units.
+/// Whether each coordinate of the point is a multiple of `unit` grid units.
 fn is_multiple(unit: u32, p: GridPoint) -> bool
     requires { 0 < unit }
     ensures { result ≡ is_multiple unit p }
@@ -25,7 +25,8 @@ fn is_multiple(unit: u32, p: GridPoint) -> bool
         && p.z.unsigned_abs() % unit == 0
 }
 
-/// The first of the points that has a coordinate which is no multiple of this many units.
+/// The place, from 0, of the first point with a coordinate that is no multiple of `unit` grid
+/// units.
 pub(crate) fn first_coarse(unit: u32, points: &Points) -> Option<usize>
     requires { 0 < unit }
     ensures { MatchOption result (AreMultiples unit points.now) (IsFirstCoarse unit points.now) }

@@ -12,7 +12,7 @@ use command_words::Options;
 use run_steps::{Bound, HulledMesh, Meshed, Outputs, Status, mesh_outputs, outputs_of};
 use std::alloc::Global;
 
-/// What a mesh is refined towards.
+/// The goal of a refinement: its bounds, and the edges that are too long.
 #[derive(Clone, Copy, Debug)]
 pub struct Aim {
     pub bounds: Bounds,
@@ -20,7 +20,7 @@ pub struct Aim {
 }
 
 /// The files and the summary of the mesh of a bound input, which is refined where there is an aim.
-/// It refuses as `mesh_outputs` does; or for want of memory.
+/// It refuses as `mesh_outputs` does; or when out of memory.
 pub fn aimed_outputs(
     alloc: Global,
     options: &Options,
@@ -43,8 +43,8 @@ pub fn aimed_outputs(
     }
 }
 
-/// The files and the summary of the mesh of a complex that is refined. It refuses the complex as
-/// `mesh_outputs` does; or for want of memory.
+/// The files and the summary of the refined mesh of a complex. It refuses the complex as
+/// `mesh_outputs` does; or when out of memory.
 pub fn refined_outputs<P: Propose>(
     alloc: Global,
     options: &Options,

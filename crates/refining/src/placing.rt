@@ -1,4 +1,4 @@
-//! The mesh that is made, with its point list.
+//! A mesh of a complex with its point list.
 
 ghost use Rattle.std.specs.Prelude.{◌≡◌, ℕ, List, IfOk};
 ghost use Rattle.sign_predicates.specs.Point.{Point};
@@ -12,8 +12,8 @@ use run_steps::{Bound, Meshed, complex_meshed};
 use std::alloc::Global;
 use tet_ports::NoMemory;
 
-/// A mesh of a complex with points behind its own, with its point list and what was added to it.
-/// The options only say what is known of the mesh.
+/// A mesh of a complex with points behind its own, with its point list and the added points. The
+/// options are only for the contract.
 pub fn placed(
     alloc: Global,
     _options: &Options,

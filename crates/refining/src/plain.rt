@@ -1,5 +1,4 @@
-//! The law of the mesh with no point behind those of a complex. It is the contract of a function
-//! that does nothing.
+//! The law of the mesh of a complex with no further points.
 ghost use Rattle.refining.specs.Refined.{PlainLaw};
 
 /// With no point behind its own and as many halvings as the grid allows, the mesh of a complex is

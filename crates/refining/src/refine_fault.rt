@@ -10,7 +10,7 @@ pub enum RefineFault {
     /// The points may not be added.
     #[error("{0}")]
     Points(AddFault),
-    /// The complex has no mesh with them.
+    /// The complex has no mesh with the points.
     #[error("{0}")]
     Mesh(MeshFault),
 }

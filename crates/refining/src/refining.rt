@@ -1,4 +1,4 @@
-//! Meshes with more and more points.
+//! The rounds of a refinement: each adds points and meshes the complex again.
 
 ghost use Rattle.std.specs.Prelude.{◌≡◌, ◌≤◌, ◌^◌, IfOk, IfErr, IfSome};
 ghost use Rattle.run_steps.specs.Meshing.{IsMeshableBound, IsUnmeshed};
@@ -17,21 +17,22 @@ use run_steps::{Bound, Meshed};
 use std::alloc::Global;
 use tet_ports::NoMemory;
 
-/// How far a mesh is refined.
+/// The bounds of a refinement.
 #[derive(Clone, Copy, Debug)]
 pub struct Bounds {
     /// How often a segment may be halved once points were added: each coordinate of these is a
     /// multiple of `2^halvings` grid units.
     pub halvings: u32,
-    /// How often points are added.
+    /// The most rounds in which points are added.
     pub rounds: u32,
-    /// How many points may be added.
+    /// The most points that are added.
     pub added: usize,
-    /// How many points there may be with them.
+    /// The most points of the complex and added ones together.
     pub most: usize,
 }
 
-/// A mesh of a complex with the points that were added to it, so often.
+/// A mesh of a complex with the points that were added to it, and the number of rounds that added
+/// points.
 #[derive(Drop)]
 pub struct Refined {
     pub added: Points,
@@ -41,7 +42,7 @@ pub struct Refined {
     pub rounds: u32,
 }
 
-/// A mesh that was made with some points.
+/// A mesh of the complex with some added points.
 #[derive(Drop)]
 struct Taken {
     added: Points,
@@ -49,14 +50,15 @@ struct Taken {
     made: ComplexMesh,
 }
 
-/// How many points there may be, which are no more than 2^30.
+/// The most points that are meshed: that of the bounds, but at most 2^30.
 fn most_of(bounds: &Bounds) -> usize
     ensures { result ≤ 2 ^ 30 }
 {
     bounds.most.min(1_073_741_824)
 }
 
-/// A mesh with more points than this one, where some are proposed and a mesh is made with them.
+/// A mesh with more points than `taken` has, where some are proposed and the complex has a mesh
+/// with them.
 fn next_taken<P: Propose>(
     alloc: Global,
     options: &Options,
@@ -93,14 +95,14 @@ fn next_taken<P: Propose>(
     }
 }
 
-/// A mesh that was made after so many rounds.
+/// A mesh, and the number of rounds that led to it.
 #[derive(Drop)]
 struct Rounds {
     taken: Taken,
     rounds: u32,
 }
 
-/// The last mesh of those that are made from this one on, round by round.
+/// The mesh after the last round from `first` on.
 fn taken_last<P: Propose>(
     alloc: Global,
     options: &Options,
@@ -128,8 +130,8 @@ fn taken_last<P: Propose>(
 }
 
 /// The mesh of a complex with the points that are proposed, round by round: each round's points are
-/// kept where there is a mesh with them. It ends where none is added, or where the bounds are
-/// reached. It refuses the complex as `mesh_plain` does; or for want of memory.
+/// kept where the complex has a mesh with them. The rounds end where no point is added, or at the
+/// bounds. It refuses the complex as `mesh_plain` does; or when out of memory.
 pub(crate) fn refine<P: Propose>(
     alloc: Global,
     options: &Options,

@@ -1,4 +1,4 @@
-//! Points that are there already.
+//! Points that repeat earlier ones.
 
 ghost use Rattle.std.specs.Prelude.{◌≡◌, ◌<◌, ◌^◌, length, MatchOption, IfOk};
 ghost use Rattle.geo_laws.specs.Delaunay.{HasDistinctPoints};
@@ -17,7 +17,7 @@ fn coordinates(p: GridPoint) -> (i32, i32, i32)
     (p.x, p.y, p.z)
 }
 
-/// The first of the points that is equal to an earlier one.
+/// The place, from 0, of the first point that is equal to an earlier one.
 pub(crate) fn first_repeated(alloc: Global, points: &Points) -> Result<Option<usize>, NoMemory>
     requires { length points.now < 2 ^ 32 }
     ensures { IfOk result (λ found. MatchOption found (HasDistinctPoints points.now)

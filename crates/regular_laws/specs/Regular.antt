@@ -1,6 +1,5 @@
--- Weighted points and their regular list. A row is regular where each other point is weighted outside of it (Edelsbrunner and Shah, 1996);
--- ties are
--- broken by the points' numbers, so the list is unique for every input. With all weights 0 it is the Delaunay list.
+-- Weighted points and their regular list. A tetrahedron is regular where each other point is weighted outside of it (Edelsbrunner and Shah,
+-- 1996); ties are broken by the points' numbers, so the list is unique for every input. With all weights 0 it is the Delaunay list.
 use Rattle.std.specs.Prelude.{◌≡◌, ◌↔◌, ℕ, ℤ, pos, ◌-ℤ◌, Bool, IsTrue, List, length, All, Any, AllPairs, Contains}
 use Rattle.std.specs.List.{slice_index_or}
 use Rattle.sign_predicates.specs.Point.{Point}
@@ -20,11 +19,11 @@ pub record AreWeightsOf (ps : List Point) (ws : List ℤ) : Type 0 where
   pub each : length ws ≡ length ps
   pub small : All IsWeight ws
 
--- the weights of a row's corners
+-- the weights of a tetrahedron's corners
 abbrev pub corner_weights : List ℤ → Tet → FourWeights
 corner_weights ws t = record { a = weight ws t.a; b = weight ws t.b; c = weight ws t.c; d = weight ws t.d }
 
--- whether the point with the number e is weighted outside of the row, ties included
+-- whether the point with the number e is weighted outside of the tetrahedron, ties included
 abbrev pub is_weighted_outside : List Point → List ℤ → Tet → ℕ → Bool
 is_weighted_outside ps ws t e = is_outside_weighted (corners ps t) (corner_weights ws t) (as_numbers t) (point ps e) (weight ws e) e
 
@@ -39,7 +38,7 @@ pub record IsRegularAmong (ps : List Point) (ws : List ℤ) (ms : List ℕ) (t :
 abbrev pub IsRegular : List Point → List ℤ → Tet → Type 0
 IsRegular ps ws t = IsRegularAmong ps ws (all_numbers ps) t
 
--- the list has exactly the regular rows of the numbers, strictly ascending
+-- the list has exactly the regular tetrahedra of the numbers, strictly ascending
 pub record IsRegularListAmong (ps : List Point) (ws : List ℤ) (ms : List ℕ) (rows : List Tet) : Type 0 where
   pub exactly : (t : Tet) → Contains rows t ↔ IsRegularAmong ps ws ms t
   pub ascending : AllPairs RowBefore rows
@@ -48,7 +47,7 @@ pub record IsRegularListAmong (ps : List Point) (ws : List ℤ) (ms : List ℕ) 
 abbrev pub IsRegularList : List Point → List ℤ → List Tet → Type 0
 IsRegularList ps ws rows = IsRegularListAmong ps ws (all_numbers ps) rows
 
--- a point is hidden where it is a corner of no row
+-- a point is hidden where it is a corner of no tetrahedron
 abbrev pub IsHiddenPoint : List Tet → ℕ → Type 0
 IsHiddenPoint rows i = ¬ Any (λ t. Contains (numbers t) i) rows
 

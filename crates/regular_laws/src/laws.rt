@@ -1,5 +1,4 @@
-//! The laws of the regular list, over the definitions alone. Each law is the contract of a function
-//! that does nothing.
+//! The laws of the regular list, over the definitions alone.
 ghost use Rattle.regular_laws.specs.Laws.{NoWeightsLaw, RegularRowLaw, WeightedCoverLaw};
 ghost use Rattle.regular_laws.specs.Laws.{WeightedLeastHeightLaw, WeightedLiftLaw};
 ghost use Rattle.regular_laws.specs.Laws.{WeightedRadicalLaw};
@@ -11,29 +10,29 @@ pub fn law_weighted_lift()
     ensures { WeightedLiftLaw }
 {}
 
-/// The rows of the regular list are the lowest tetrahedra of the lifted points.
+/// The tetrahedra of the regular list are the lowest tetrahedra of the lifted points.
 pub fn law_regular_row()
     ensures { RegularRowLaw }
 {}
 
-/// Two rows of the regular list are properly met, and they are the same where a point is strictly
-/// inside both. Source: power diagrams (Aurenhammer 1987).
+/// Two tetrahedra of the regular list are properly met, and they are the same where a point is
+/// strictly inside both. Source: power diagrams (Aurenhammer 1987).
 pub fn law_weighted_radical()
     ensures { WeightedRadicalLaw }
 {}
 
-/// A point of the hull in general position is strictly inside a row of the regular list.
+/// A point of the hull in general position is strictly inside a tetrahedron of the regular list.
 /// Source: regular triangulations (Edelsbrunner and Shah 1996).
 pub fn law_weighted_least_height()
     ensures { WeightedLeastHeightLaw }
 {}
 
-/// The regular list covers the hull of its points once, and its rows are properly met.
+/// The regular list covers the hull of its points once, and its tetrahedra are properly met.
 pub fn law_weighted_cover()
     ensures { WeightedCoverLaw }
 {}
 
-/// Without weights the rows of the regular list are the Delaunay rows.
+/// Without weights the regular list is the Delaunay list.
 pub fn law_no_weights()
     ensures { NoWeightsLaw }
 {}

@@ -1,4 +1,4 @@
--- Boxes with their sides along the axes, round the rows of a list. Lengths along an axis are counted in grid units from -2^29 on.
+-- Boxes with their sides along the axes, round the tetrahedra of a list. Lengths along an axis are counted in grid units from -2^29 on.
 use Rattle.std.specs.Prelude.{ℕ, ◌/◌, ℤ, pos, ◌+ℤ◌, ◌*ℤ◌, Bool, ◌&&◌, List, length, map, min, max, nat_le, int_lt, unsigned_abs, if◌then◌else◌}
 use Rattle.std.specs.List.{slice_index_or}
 use Rattle.sign_predicates.specs.Point.{Point, RationalPoint, IsOnGrid}
@@ -9,7 +9,7 @@ use Rattle.row_cells.specs.declared.boxes.Cell.{Cell}
 use Rattle.row_cells.specs.declared.boxes.Span.{Span}
 use Rattle.row_cells.specs.declared.boxes.RowBox.{RowBox}
 
--- the row at this place
+-- the tetrahedron at this place
 abbrev pub row : List Tet → ℕ → Tet
 row rows i = slice_index_or rows i (record { a = 0; b = 0; c = 0; d = 0 })
 
@@ -30,11 +30,11 @@ box_of place t = record {
   z = span_of (ahead t.a.z) (ahead t.b.z) (ahead t.c.z) (ahead t.d.z);
 }
 
--- the boxes of all rows, in their order
+-- the boxes of all tetrahedra, in their order
 abbrev pub boxes_of : List Point → List Tet → List RowBox
 boxes_of ps rows = map (λ i. box_of i (corners ps (row rows i))) (numbers_below (length rows))
 
--- how many whole units, of so many parts, the parts are; 0 where they are below 0
+-- the number of whole units, each of a number of parts, in the parts; 0 where they are below 0
 abbrev pub whole_units : ℤ → ℤ → ℕ
 whole_units parts unit = if int_lt parts (pos 0) then 0 else unsigned_abs parts / unsigned_abs unit
 

@@ -28,11 +28,11 @@ reaches axis from to b = nat_le (span_along axis b).low to && nat_le from (span_
 abbrev pub mark : Cut → ℕ → ℕ
 mark cut s = if nat_eq s 0 then 0 else if nat_eq s 32 then 1073741824 else cut.low + cut.width * s
 
--- the rows that reach into the part s along an axis, in their order
+-- the tetrahedra that reach into the part s along an axis, in their order
 abbrev pub part_of : Axis → Cut → ℕ → List RowBox → List RowBox
 part_of axis cut s boxes = filter (reaches axis (mark cut s) (mark cut (s + 1))) boxes
 
--- the same for each part
+-- for each of the 32 parts along an axis the tetrahedra that reach into it
 abbrev pub cut_parts : Axis → Cut → List RowBox → List (List RowBox)
 cut_parts axis cut boxes = map (λ s. part_of axis cut s boxes) (numbers_below 32)
 
@@ -40,7 +40,7 @@ cut_parts axis cut boxes = map (λ s. part_of axis cut s boxes) (numbers_below 3
 abbrev pub strips_of : Cut → Cut → List RowBox → List (List (List RowBox))
 strips_of y z boxes = map (λ s. cut_parts Z z (part_of Y y s boxes)) (numbers_below 32)
 
--- For each part along x, along y and along z the rows that reach into all three, in their order
+-- For each part along x, along y and along z the tetrahedra that reach into all three, in their order
 abbrev pub cells_of : Cuts → List RowBox → List (List (List (List RowBox)))
 cells_of cuts boxes = map (λ s. strips_of cuts.y cuts.z (part_of X cuts.x s boxes)) (numbers_below 32)
 
@@ -50,11 +50,11 @@ pub record AreWide (cuts : Cuts) : Type 0 where
   pub y : 0 < cuts.y.width
   pub z : 0 < cuts.z.width
 
--- the corners of each row are points, and each row is positive
+-- the corners of each tetrahedron are points, and each tetrahedron is positive
 abbrev pub ArePositiveOn : List Point → List Tet → Type 0
 ArePositiveOn ps rows = All (λ t. IsOn ps t × IsPositive (corners ps t)) rows
 
--- for each cell the rows that reach into it, with their boxes; all lie on the grid
+-- for each cell the tetrahedra that reach into it, with their boxes; all lie on the grid
 pub record StandsFor (ps : List Point) (rows : List Tet) (c : RowCells) : Type 0 where
   pub cells : c.cells ≡ cells_of c.cuts (boxes_of ps rows)
   pub wide : AreWide c.cuts
@@ -75,7 +75,7 @@ pub record IsBetweenEnds (from to : ℕ) (x : RationalPoint) : Type 0 where
 abbrev pub MeetsSlab : ℕ → ℕ → Corners → Type 0
 MeetsSlab from to t = SomeRational (λ x. InClosed t x × IsBetweenEnds from to x)
 
--- a row reaches into a slab exactly where its closed tetrahedron meets it
+-- a tetrahedron reaches into a slab exactly where its closed tetrahedron meets it
 abbrev pub ReachLaw : Type 0
 ReachLaw = (place from to : ℕ) (t : Corners) → from ≤ to → IsPositive t → AreOnGrid t
     → (reaches X from to (box_of place t) ≡ true) ↔ MeetsSlab from to t

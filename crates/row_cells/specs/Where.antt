@@ -1,4 +1,4 @@
--- Which row of a list holds a point.
+-- Which tetrahedron of a list holds a point.
 use Rattle.std.specs.Prelude.{ℕ, Bool, ◌&&◌, List, length, Option, find}
 use Rattle.std.specs.Option.{option_map}
 use Rattle.sign_predicates.specs.Point.{Point, RationalPoint}
@@ -9,14 +9,14 @@ use Rattle.row_cells.specs.declared.boxes.Cell.{Cell}
 use Rattle.row_cells.specs.declared.boxes.RowBox.{RowBox}
 use Rattle.row_cells.specs.Boxes.{row, is_near}
 
--- the closed tetrahedron of the row at this place holds the point
+-- the closed tetrahedron at this place holds the point
 abbrev pub row_holds : List Point → List Tet → RationalPoint → ℕ → Bool
 row_holds ps rows x i = in_closed (corners ps (row rows i)) x
 
--- the first row whose closed tetrahedron holds the point, by its place in the list
+-- the first closed tetrahedron that holds the point, by its place in the list
 abbrev pub first_holding : List Point → List Tet → RationalPoint → Option ℕ
 first_holding ps rows x = find (row_holds ps rows x) (numbers_below (length rows))
 
--- the same among some rows with their boxes, where those are passed over whose box does not have the point's cell in it
+-- the same search among some tetrahedra with their boxes, which skips those whose box does not have the point's cell in it
 abbrev pub first_in : List Point → List Tet → Cell → RationalPoint → List RowBox → Option ℕ
 first_in ps rows at x slab = option_map (λ b. b.row) (find (λ b. is_near b at && row_holds ps rows x b.row) slab)

@@ -1,4 +1,4 @@
-//! Boxes with their sides along the axes, round rows.
+//! Axis-aligned bounding boxes of tetrahedra.
 
 ghost use Rattle.std.specs.Prelude.{◌≡◌, ◌<◌, ◌-◌, ◌+◌, ◌≤ℤ◌, ◌<ℤ◌, ◌+ℤ◌, ◌/◌, pos, negsuc, length, map, All, IfOk, unsigned_abs};
 ghost use Rattle.sign_predicates.specs.Point.{IsOnGrid};
@@ -17,7 +17,7 @@ pub struct Span {
     pub high: u32,
 }
 
-/// A row by its place in the list, from 0, and the box round it.
+/// A tetrahedron by its place in the list, from 0, and the box round it.
 #[derive(Clone, Copy, Debug)]
 pub struct RowBox {
     pub row: usize,
@@ -82,7 +82,7 @@ fn box_of(place: usize, t: Corners) -> RowBox
     }
 }
 
-/// The boxes of all rows, in their order.
+/// The boxes of all tetrahedra, in their order.
 pub(crate) fn boxes_of(
     alloc: Global,
     points: &Points,
@@ -100,7 +100,7 @@ pub(crate) fn boxes_of(
     Ok(boxes)
 }
 
-/// How many whole units, of so many parts, this many parts are; 0 where they are below 0.
+/// The number of whole units, of `unit` parts each, in `parts` parts; 0 where `parts` is below 0.
 fn along(parts: i64, unit: i64) -> u64
     requires { pos 0 <ℤ unit }
     ensures { result ≡ whole_units parts unit }

@@ -1,4 +1,4 @@
-//! Rows by cells, and the first row that holds a point.
+//! Point location by cells: the first tetrahedron of a list that holds a point.
 
 ghost use Rattle.std.specs.Prelude.{◌≡◌, ◌<◌, length, All, IfOk};
 ghost use Rattle.sign_predicates.specs.Orientation.{in_closed};
@@ -14,16 +14,16 @@ use sign_predicates::{Hold, RatPoint, in_tet};
 use std::alloc::Global;
 use tet_ports::NoMemory;
 
-/// The rows of a list by cells. Each axis is cut into 32 parts, at most as fine as the rows are, so
-/// that their list is short; a cell is where three parts meet. Each cell has the rows whose box
-/// reaches into it, ascending, with their boxes.
+/// The tetrahedra of a list by cells. Each axis is cut into 32 parts, at most as fine as the
+/// tetrahedra are, so that the lists of the cells are short; a cell is where three parts meet. Each
+/// cell has the tetrahedra whose box reaches into it, ascending, with their boxes.
 #[derive(Drop)]
 pub struct RowCells {
     cuts: Cuts,
     cells: Cells,
 }
 
-/// Whether the closed tetrahedron of the row holds the point.
+/// Whether the closed tetrahedron holds the point.
 fn holds(points: &Points, t: Tet, x: RatPoint) -> bool
     requires { IsOn points.now t }
     ensures { result ≡ in_closed (corners points.now t) x }
@@ -31,8 +31,8 @@ fn holds(points: &Points, t: Tet, x: RatPoint) -> bool
     !matches!(in_tet(corners_of(points, t), x), Hold::Outside)
 }
 
-/// The first of the rows whose closed tetrahedron holds the point. Those whose box does not have
-/// the point's cell in it are not tried.
+/// The first of the tetrahedra whose closure holds the point. Those whose box does not have the
+/// point's cell in it are not tested.
 fn first_in(
     cell: &[RowBox],
     points: &Points,
@@ -53,7 +53,7 @@ fn first_in(
 }
 
 impl RowCells {
-    /// The cells of a list of positive rows on the points.
+    /// The cells of a list of positive tetrahedra on the points.
     pub fn new(alloc: Global, points: &Points, list: &TetList) -> Result<RowCells, NoMemory>
         requires { ArePositiveOn points.now list.now }
         ensures { IfOk result (StandsFor points.now list.now) }
@@ -64,9 +64,9 @@ impl RowCells {
         Ok(RowCells { cuts, cells })
     }
 
-    /// The first row whose closed tetrahedron holds the point, by its place in the list, from 0;
-    /// None exactly where none does. The cells have to be those of this list on these points. It
-    /// takes no memory.
+    /// The first tetrahedron whose closure holds the point, by its place in the list, from 0; None
+    /// exactly where none does. The cells have to be those of this list on these points. No memory
+    /// is taken.
     pub fn find(&self, points: &Points, list: &TetList, x: RatPoint) -> Option<usize>
         requires rows { ArePositiveOn points.now list.now }
         requires cells { StandsFor points.now list.now self.now }

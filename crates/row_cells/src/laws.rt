@@ -1,8 +1,8 @@
-//! Which slabs along x a row reaches into, as a law.
+//! The law of the slabs along x into which a tetrahedron reaches.
 
 ghost use Rattle.row_cells.specs.Parts.{ReachLaw};
 
-/// A row reaches into a slab exactly where its closed tetrahedron meets the slab.
+/// A tetrahedron reaches into a slab exactly where its closure meets the slab.
 pub fn law_reach()
     ensures { ReachLaw }
 {}

@@ -1,4 +1,4 @@
-//! The parts into which each axis is cut, the cells that they make up, and the rows that reach
+//! The parts into which each axis is cut, the cells between them, and the tetrahedra that reach
 //! into these.
 
 ghost use Rattle.std.specs.Prelude.{◌≡◌, ◌<◌, ◌+◌, ◌*◌, ◌≤◌, length, IfOk};
@@ -35,7 +35,7 @@ pub struct Cuts {
     pub z: Cut,
 }
 
-/// The rows of each cell: by parts along x, then along y, then along z.
+/// The tetrahedra of each cell: by parts along x, then along y, then along z.
 pub(crate) type Cells = Items<Items<Items<Items<RowBox>>>>;
 
 /// From where to where the box reaches along an axis.
@@ -83,7 +83,7 @@ fn reaches(axis: Axis, from: u64, to: u64, row: &RowBox) -> bool
     (u64::from(span.low) <= to) & (from <= u64::from(span.high))
 }
 
-/// The rows that reach into a part, in their order.
+/// The tetrahedra that reach into a part, in their order.
 fn part_of(
     alloc: Global,
     axis: Axis,
@@ -105,7 +105,7 @@ fn part_of(
     Ok(part)
 }
 
-/// The rows that reach into each part of an axis.
+/// The tetrahedra that reach into each part of an axis.
 fn parts_of(
     alloc: Global,
     axis: Axis,
@@ -122,7 +122,7 @@ fn parts_of(
     Ok(parts)
 }
 
-/// The rows that reach into each part along y, by the parts along z.
+/// The tetrahedra that reach into each part along y, by the parts along z.
 fn strips_of(
     alloc: Global,
     y: Cut,
@@ -140,7 +140,7 @@ fn strips_of(
     Ok(strips)
 }
 
-/// The rows that reach into each cell.
+/// The tetrahedra that reach into each cell.
 pub(crate) fn cells_of(alloc: Global, cuts: Cuts, boxes: &Items<RowBox>) -> Result<Cells, NoMemory>
     ensures { IfOk result (λ cells. cells ≡ cells_of cuts boxes.now) }
 {

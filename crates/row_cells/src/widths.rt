@@ -1,4 +1,5 @@
-//! Parts as narrow as the rows are: how each axis is cut, so that few rows reach into many cells.
+//! The choice of the cuts of each axis: parts as narrow as the tetrahedra, such that few tetrahedra
+//! reach into many cells.
 
 ghost use Rattle.std.specs.Prelude.{◌<◌};
 ghost use Rattle.row_cells.specs.Parts.{AreWide};
@@ -7,10 +8,10 @@ use crate::boxes::RowBox;
 use crate::parts::{Axis, Cut, Cuts, part_at, span_along};
 use tet_ports::Items;
 
-/// Into how many cells a row reaches at most, on the average.
+/// The most cells into which a tetrahedron reaches, on the average.
 const MOST: u64 = 8;
 
-/// So many parts of one width from the least coordinate of all boxes to the greatest.
+/// A cut into `parts` parts of one width, from the least coordinate of all boxes to the greatest.
 fn cut_of(axis: Axis, parts: u32, boxes: &Items<RowBox>) -> Cut
     requires { 0 < parts }
     ensures { 0 < result.width }
@@ -36,7 +37,7 @@ fn parts_across(axis: Axis, cut: Cut, row: &RowBox) -> u64
     last.saturating_sub(first).saturating_add(1)
 }
 
-/// How many rows all cells have together.
+/// The total length of the lists of all cells.
 fn reach(cuts: Cuts, boxes: &Items<RowBox>) -> u64
     requires { AreWide cuts }
 {
@@ -50,7 +51,7 @@ fn reach(cuts: Cuts, boxes: &Items<RowBox>) -> u64
     sum
 }
 
-/// The axes cut into so many parts.
+/// The axes, each cut into `parts` parts.
 fn cuts_into(parts: u32, boxes: &Items<RowBox>) -> Cuts
     requires { 0 < parts }
     ensures { AreWide result }
@@ -62,8 +63,8 @@ fn cuts_into(parts: u32, boxes: &Items<RowBox>) -> Cuts
     }
 }
 
-/// The finest cuts into 32, 16, 8, 4, 2 or 1 parts at which a row reaches into few cells on the
-/// average.
+/// The finest cuts into 32, 16, 8, 4, 2 or 1 parts at which a tetrahedron reaches into few cells on
+/// the average.
 pub(crate) fn cuts_of(boxes: &Items<RowBox>) -> Cuts
     ensures { AreWide result }
 {

@@ -1,4 +1,5 @@
--- The status with which the program ends, and those of a complex that is on no grid or has no mesh, and of weighted points that have none.
+-- The exit code of the program, and the statuses of a complex that is on no grid or has no mesh, and of weighted points
+-- that have no mesh.
 use Rattle.std.specs.Prelude.{ℕ, List}
 use Rattle.complex_mesh.specs.declared.fault.MeshFault.{MeshFault}
 use Rattle.complex_mesh.specs.declared.fault.MeshFault.TheVariants as fault
@@ -38,7 +39,7 @@ status_of_fault (fault.Crossing one two) = Crossing one two
 status_of_fault (fault.NoFill anomaly) = NoFill anomaly
 status_of_fault fault.NoMemory = NoMemory
 
--- of weighted points whose file has this name
+-- the status of weighted points, in the file with this name, that have no regular mesh
 abbrev pub status_of_weights : List ℕ → RegularFault → Status
 status_of_weights name (regular.Text fault) = BadText name fault
 status_of_weights name (regular.TooHeavy line) = Limit (Weight line)
@@ -50,7 +51,7 @@ abbrev pub IsOfRead : PlcFault → Type 0
 IsOfRead (bind.Text fault) = ⊥
 IsOfRead fault = Unit {0}
 
--- of such a complex on its way to the grid
+-- the status of a complex that was read and cannot be bound to the grid
 abbrev pub status_of_bind : PlcFault → Status
 status_of_bind (bind.Facets count most) = Limit (Facets count most)
 status_of_bind (bind.Corners line count most) = Limit (Corners line count most)

@@ -1,4 +1,4 @@
--- What a run makes of its input.
+-- The mesh and the outputs of an input.
 use Rattle.std.specs.Prelude.{◌≡◌, ◌-◌, ◌^◌, ◌≤◌, ℕ, Bool, true, false, List, [], length, drop, Option, None, Some, Result, Ok, Err}
 use Rattle.command_words.specs.Names.{file_name}
 use Rattle.command_words.specs.declared.options.Extension.TheVariants.{Node}
@@ -79,7 +79,7 @@ BoundAnswer limits options input (Err status) = IsUnbound limits options input s
 abbrev pub without_decimals : NodeTable → NodeTable
 without_decimals table = record table { decimals = [] }
 
--- the mesh of points alone with these rows, which hides so many of them, where that is told
+-- the mesh of points alone with these tetrahedra, and with the number of hidden points, where there is one
 abbrev pub mesh_on : NodeTable → List Tet → Option ℕ → Meshed
 mesh_on table rows hidden = record {
   table = without_decimals table;
@@ -97,7 +97,7 @@ mesh_on table rows hidden = record {
 abbrev pub mesh_of_points : NodeTable → Meshed
 mesh_of_points table = mesh_on table (delaunay_rows table.points) None
 
--- and of weighted points: their regular list
+-- the mesh of weighted points: their regular list
 abbrev pub mesh_of_weights : NodeTable → RegularMesh → Meshed
 mesh_of_weights table made = mesh_on table made.rows (Some made.hidden)
 
@@ -157,14 +157,14 @@ MeshOf true options bound (Err status) = IsUnmeshed options bound status
 abbrev pub MeshAnswer : Options → Bound → Result Meshed Status → Type 0
 MeshAnswer options bound = MeshOf options.piecewise options bound
 
--- without its hull
+-- the mesh without its hull
 abbrev pub mesh_in : Result HulledMesh Status → Result Meshed Status
 mesh_in (Ok made) = Ok made.mesh
 mesh_in (Err status) = Err status
 
 -- ---- the outputs
 
--- its files and its summary
+-- the files and the summary of a mesh
 abbrev pub OutputsAnswer : Options → Meshed → Result Outputs Status → Type 0
 OutputsAnswer options mesh (Ok outputs) = AreOutputsOf options mesh outputs
 OutputsAnswer options mesh (Err status) = status ≡ NoMemory
@@ -189,7 +189,7 @@ IsOverLimit limits text (Limit (Corners line count most)) = HasLongPolygon limit
 IsOverLimit limits text NoMemory = Unit {0}
 IsOverLimit limits text status = ⊥
 
--- what the mesh is made of
+-- the points and the complex can be meshed
 pub record IsMeshableBound (options : Options) (bound : Bound) : Type 0 where
   pub table : IsNodeTable bound.table
   pub decimals : length bound.table.decimals ≡ length bound.table.listed

@@ -1,4 +1,5 @@
--- The line that each refusal is told in. Points are told by their numbers in the input, added ones behind them, and facets from 1.
+-- The line that reports each refusal. Points have their numbers in the input, added ones behind them, and facets are
+-- numbered from 1.
 use Rattle.std.specs.Prelude.{ℕ, ◌+◌, List, [], ◌++◌, Option, Some, None, codes, min, max}
 use Rattle.std.specs.Fmt.{decimal}
 use Rattle.mesh_check.specs.Messages.{file_message, line, text_message, usage_message}
@@ -23,7 +24,7 @@ use Rattle.run_steps.specs.declared.status.Status.TheVariants.{Done, Usage, Miss
 abbrev pub point_text : Option Numbering → ℕ → List ℕ
 point_text by n = codes " " ++ decimal (told_number by n)
 
--- the two ends of a piece, the less first
+-- the two ends of a subsegment, the lesser place first
 abbrev pub ends_text : Option Numbering → Piece → List ℕ
 ends_text by p = point_text by (min p.a p.b) ++ point_text by (max p.a p.b)
 
@@ -36,7 +37,7 @@ tetrahedron_text by t = point_text by t.a ++ point_text by t.b ++ point_text by 
 abbrev pub two_tetrahedra_text : Option Numbering → Tet → Tet → List ℕ
 two_tetrahedra_text by s t = tetrahedron_text by s ++ codes " and" ++ tetrahedron_text by t
 
--- what stands against a filling
+-- the text on an anomaly
 abbrev pub anomaly_text : Option Numbering → Anomaly → List ℕ
 anomaly_text by (Bare f) = codes "no filling at face" ++ point_text by f.a ++ point_text by f.b ++ point_text by f.c
 anomaly_text by (Doubled one two) = codes "two fillings" ++ two_tetrahedra_text by one two
@@ -52,11 +53,11 @@ part_text by (Segment p) = codes "segment" ++ ends_text by p
 
 -- ---- lines
 
--- with what each line begins
+-- the beginning of each line
 abbrev pub tetgen_name : List ℕ
 tetgen_name = codes "tetgen: "
 
--- how many are allowed
+-- the greatest number that is allowed
 abbrev pub at_most : ℕ → List ℕ
 at_most most = codes ", at most " ++ decimal most
 

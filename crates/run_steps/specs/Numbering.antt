@@ -1,4 +1,4 @@
--- The numbers by which a run tells points.
+-- The numbers of points in messages.
 use Rattle.std.specs.Prelude.{ℕ, ◌+◌, ◌-◌, nat_lt, length, slice_index, Option, Some, None, if◌then◌else◌}
 use Rattle.node_files.specs.declared.table.NodeTable.{NodeTable}
 use Rattle.run_steps.specs.declared.numbering.Numbering.{Numbering}
@@ -12,7 +12,7 @@ abbrev pub number_by : Numbering → ℕ → ℕ
 number_by by point =
     (if nat_lt point (length by.names) then slice_index by.names point else by.listed + (point - length by.names)) + by.first
 
--- and its place where there is no numbering
+-- the number of a point, or its place where there is no numbering
 abbrev pub told_number : Option Numbering → ℕ → ℕ
 told_number None point = point
 told_number (Some by) point = number_by by point

@@ -27,7 +27,7 @@ named base extension content = record {
   message = file_message tetgen_name (base ++ extension) (codes "write failed");
 }
 
--- the number of the first row, face, side and point in what is written
+-- the number of the first tetrahedron, face, edge and point in the files
 abbrev pub first_of : Options → Meshed → ℕ
 first_of options mesh = if options.from_zero then 0 else mesh.table.first
 
@@ -57,12 +57,12 @@ neigh_file options mesh =
     if not options.neighbors then None
     else Some (named options.base (codes ".1.neigh") (neigh_text (first_of options mesh) (pairs_of mesh.tetrahedra)))
 
--- how many points are hidden, where that is told
+-- the text on the number of hidden points, where there is one
 abbrev pub hidden_text : Option ℕ → List ℕ
 hidden_text None = []
 hidden_text (Some count) = codes " hidden " ++ decimal count
 
--- `points P added A tetrahedra T faces F edges E`, for so many faces and edges, and of weighted points ` hidden H`
+-- `points P added A tetrahedra T faces F edges E`, for F faces and E edges, and for weighted points ` hidden H`
 abbrev pub summary_text : Meshed → ℕ → ℕ → List ℕ
 summary_text mesh faces edges =
     codes "points " ++ decimal (length mesh.table.listed) ++ codes " added " ++ decimal (length mesh.added)
@@ -76,11 +76,11 @@ summary_of options mesh faces edges = if options.quiet then None else Some (summ
 abbrev pub names_sides : Options → Bool
 names_sides options = not options.quiet || (not options.no_face && options.edges)
 
--- whether nothing is asked for of the faces but those on the hull and in facets
+-- whether the options ask for no faces but those on the hull and in facets
 abbrev pub asks_hull_alone : Options → Bool
 asks_hull_alone options = options.quiet && (not options.no_face && (not options.all_faces && not options.neighbors))
 
--- whether the face file, the neighbor file or the summary is asked for, which speak of the uses of faces
+-- whether the face file, the neighbor file or the summary is asked for, which need the uses of faces
 abbrev pub asks_uses : Options → Bool
 asks_uses options = not options.quiet || (not options.no_face || options.neighbors)
 
@@ -97,7 +97,7 @@ pub record IsWritable (mesh : Meshed) : Type 0 where
   pub marks_long : IfSome mesh.marks (λ marks. length marks ≡ length mesh.tetrahedra)
   pub marks_there : IfSome mesh.marks (λ marks. All (λ mark. IfSome mark (λ region. region < length mesh.complex.regions)) marks)
 
--- these are the faces of the hull of a mesh without facets, whose rows ascend
+-- the faces are those of the hull of a mesh without facets, whose tetrahedra ascend
 pub record IsHullOf (mesh : Meshed) (hull : List Face) : Type 0 where
   pub bare : mesh.triangles ≡ []
   pub ascending : AllPairs RowBefore mesh.tetrahedra
@@ -109,7 +109,7 @@ pub record IsFaceFileOf (options : Options) (mesh : Meshed) (file : Option Named
   pub marked_are : options.no_face ≡ false → AreFaceRowsOf mesh.points mesh.tetrahedra mesh.complex mesh.triangles options.all_faces marked
   pub face_is : file ≡ face_file options mesh marked
 
--- what is told of the faces of a mesh, where a file or the summary speaks of them
+-- the face outputs of a mesh, where a file or the summary needs them
 pub record AreFaceOutputsOf (options : Options) (mesh : Meshed) (outputs : FaceOutputs) : Type 0 where
   pub marked : List FaceRow
   pub marked_are : options.no_face ≡ false → AreFaceRowsOf mesh.points mesh.tetrahedra mesh.complex mesh.triangles options.all_faces marked
@@ -119,14 +119,15 @@ pub record AreFaceOutputsOf (options : Options) (mesh : Meshed) (outputs : FaceO
   pub neigh_is : outputs.neigh ≡ neigh_file options mesh
   pub count_is : outputs.count ≡ length faces
 
--- what is told of the sides of a mesh, where a file or the summary speaks of them
+-- the edge outputs of a mesh, where a file or the summary needs them
 pub record AreSideOutputsOf (options : Options) (mesh : Meshed) (outputs : SideOutputs) : Type 0 where
   pub sides : List Side
   pub sides_are : names_sides options ≡ true → AreSidesOf mesh.tetrahedra sides
   pub edge_is : outputs.edge ≡ edge_file options mesh sides
   pub count_is : outputs.count ≡ length sides
 
--- The files and the summary of a mesh. Faces and sides are those of its tetrahedra, where a file or the summary speaks of them
+-- The files and the summary of a mesh. Faces and edges are those of its tetrahedra, where a file or the summary needs
+-- them
 pub record AreOutputsOf (options : Options) (mesh : Meshed) (outputs : Outputs) : Type 0 where
   pub marked : List FaceRow
   pub marked_are : options.no_face ≡ false → AreFaceRowsOf mesh.points mesh.tetrahedra mesh.complex mesh.triangles options.all_faces marked

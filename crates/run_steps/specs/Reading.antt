@@ -1,4 +1,4 @@
--- What a run reads: its words, and the files that they name.
+-- The input of a run: its words, and the files that they name.
 use Rattle.std.specs.Prelude.{◌≡◌, ℕ, ◌<◌, ◌≤◌, Bool, true, false, List, [], length, Option, None, Some, Result, Ok, Err}
 use Rattle.command_words.specs.Grammar.{words_fault}
 use Rattle.command_words.specs.Meaning.{options_of}
@@ -124,7 +124,7 @@ abbrev pub SourceAnswer : Limits → FolderSeen → List ℕ → Option Extensio
 SourceAnswer limits seen base extension (Some n) = Gives (complex_file [] (sample_of n))
 SourceAnswer limits seen base extension None = ComplexFileAnswer limits seen base extension
 
--- its own points, or where it has none those of the `.node` file with the same base
+-- the complex's own points, or, where it has none, those of the `.node` file with the same base
 abbrev pub NodesAnswer : Limits → FolderSeen → List ℕ → Option NodeText → Result NodeText Status → Type 0
 NodesAnswer limits seen base (Some nodes) = Gives nodes
 NodesAnswer limits seen base None = PointsAnswer limits seen base
@@ -155,7 +155,7 @@ InputOf limits true seen options =
 abbrev pub InputAnswer : Limits → FolderSeen → Options → Result Input Status → Type 0
 InputAnswer limits seen options = InputOf limits options.piecewise seen options
 
--- what the steps after reading ask of an input
+-- the requirements of the steps after reading on an input
 pub record IsSound (input : Input) : Type 0 where
   pub nodes : IsNodeText input.nodes
   pub few : HasFewParts input.complex

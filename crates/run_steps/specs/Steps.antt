@@ -8,7 +8,7 @@ abbrev pub AndThen : {A B : Type 0} → (Result A Status → Type 0) → (A → 
 AndThen {A = A} first next (Ok b) = (a : A) × first (Ok a) × next a (Ok b)
 AndThen {A = A} first next (Err status) = first (Err status) ⊎ ((a : A) × first (Ok a) × next a (Err status))
 
--- it is not that a file is missing
+-- the answer is not that a file is missing
 abbrev pub IsFound : {A : Type 0} → Result A Status → Type 0
 IsFound (Err (Missing name)) = ⊥
 IsFound answer = Unit {0}
@@ -17,7 +17,7 @@ IsFound answer = Unit {0}
 abbrev pub IfMissing : {A : Type 0} → (Result A Status → Type 0) → (Result A Status → Type 0) → Result A Status → Type 0
 IfMissing first second answer = first answer × IsFound answer ⊎ ((name : List ℕ) × first (Err (Missing name)) × second answer)
 
--- the step gives this value, unless it wants memory
+-- the step gives this value, unless it is out of memory
 abbrev pub Gives : {A : Type 0} → A → Result A Status → Type 0
 Gives a (Ok b) = b ≡ a
 Gives a (Err status) = status ≡ NoMemory

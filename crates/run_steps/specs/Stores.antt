@@ -8,7 +8,7 @@ use Rattle.run_steps.specs.declared.store.StoreStop.{StoreStop}
 use Rattle.run_steps.specs.declared.store.StoreStop.TheVariants.{Failed, NoMemory}
 use Rattle.run_steps.specs.declared.store.Texts.{Texts}
 
--- the texts that are there
+-- the texts that are present
 abbrev pub given : List (Option NamedText) → List NamedText
 given [] = []
 given (None ∷ more) = given more
@@ -43,7 +43,7 @@ pub record AreStoredInto (before : Option Files) (texts : List NamedText) (name 
 abbrev pub TellsFailure : NamedText → Type 0
 TellsFailure text = text.message ≡ file_message tetgen_name text.name (codes "write failed")
 
--- what a stop leaves
+-- the files after a stop
 abbrev pub AreLeft : Option Files → List NamedText → Option Files → StoreStop → Type 0
 AreLeft before texts now (Failed text) = AreStoredInto before texts text.name now × Contains texts text
 AreLeft before texts now NoMemory = AreStoredTo before texts now

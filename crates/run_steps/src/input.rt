@@ -18,7 +18,7 @@ use soup_files::{read_ascii_stl, read_off};
 use std::alloc::Global;
 use tet_ports::{Bytes, FetchFault, Folder, Name};
 
-/// What a run is made of: points, and a complex on them, whose own point list was handed out.
+/// The input of a run: points, and a complex on them; the complex's own point list was moved out.
 #[derive(Drop)]
 pub struct Input {
     pub nodes: NodeText,
@@ -42,7 +42,7 @@ pub struct ComplexFile {
 /// The input that the options name: points alone, or a complex on its own points or on those of the
 /// `.node` file with the same base. It refuses with `Missing`, `ReadFault`, `BadText` or the limit
 /// of bytes, of the first file that is at fault, with `BadText` where a corner names no point, or
-/// for want of memory. It stores nothing.
+/// when out of memory. It stores nothing.
 pub fn read_input<F: Folder>(
     alloc: Global,
     limits: Limits,
@@ -95,7 +95,7 @@ fn read_source<F: Folder>(
     }
 }
 
-/// The sample, which has no file.
+/// The sample complex for `n`, which has no file.
 fn read_sample(alloc: Global, n: u32) -> Result<ComplexFile, Status>
     requires { n ≤ 10000 }
     ensures answer { Gives (complex_file [] (sample_of n)) result }
@@ -153,9 +153,9 @@ fn read_form<F: Folder>(
     complex_of(alloc, extension, file)
 }
 
-/// A complex on its points: its own, or where it has none those of the `.node` file with the same
-/// base. Each corner has to be one of them. It refuses with `BadText` where one is not, as
-/// `read_input` refuses the `.node` file, or for want of memory.
+/// A complex with its points: its own, or, where it has none, those of the `.node` file with the
+/// same base. It refuses with `BadText` where a corner names none of the points, as `read_input`
+/// refuses the `.node` file, or when out of memory.
 pub fn with_points<F: Folder>(
     alloc: Global,
     limits: Limits,
@@ -180,7 +180,7 @@ pub fn with_points<F: Folder>(
     bounded(name, nodes, text)
 }
 
-/// The input, where each corner of the complex is one of its points.
+/// The input; `BadText` where a corner of the complex names none of its points.
 fn bounded(name: Name, nodes: NodeText, complex: PlcText) -> Result<Input, Status>
     requires nodes { IsNodeText nodes }
     requires few { HasFewParts complex }
@@ -213,7 +213,7 @@ fn read_points<F: Folder>(
 }
 
 /// The bytes of the file with this name. It refuses with `Missing`, `ReadFault` or the limit of
-/// bytes, or for want of memory.
+/// bytes, or when out of memory.
 pub fn fetch<F: Folder>(
     alloc: Global,
     limits: Limits,
@@ -259,7 +259,7 @@ fn points_of(alloc: Global, file: Fetched) -> Result<NodeText, Status>
     }
 }
 
-/// The complex that a file spells in one form: it refuses with `BadText`, or for want of memory.
+/// The complex that a file spells in one form: it refuses with `BadText`, or when out of memory.
 pub fn complex_of(alloc: Global, extension: Extension, file: Fetched) -> Result<ComplexFile, Status>
     requires { length file.bytes < 2 ^ 32 - 1 }
     ensures answer { AndThen (TextAnswer file.name (plc_text_of extension file.bytes))

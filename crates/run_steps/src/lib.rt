@@ -1,5 +1,5 @@
-//! The steps of a run of the program: what it reads, the mesh of that, the texts that it stores,
-//! and how it ends.
+//! The steps of a run of the program: reading the input, meshing it, storing the texts, and the
+//! statuses in which a run ends.
 #![tactic(auto)]
 
 mod input;

@@ -1,4 +1,4 @@
-//! What a run makes of its input.
+//! Meshes the input of a run.
 
 ghost use Rattle.std.specs.Prelude.{◌≡◌, ◌≤◌, ◌⊎◌, ◌<◌, ◌-◌, ◌+◌, ◌^◌, true, false, Ok, length, drop, AllPairs, IfOk, IfErr, IfSome, OnOk};
 ghost use Rattle.command_words.specs.Meaning.{AreInRange};
@@ -46,8 +46,8 @@ pub struct Bound {
 }
 
 /// The files and the summary of the mesh of points, or of a complex. It refuses with the first in
-/// this order: all points in one plane, and of a complex what `mesh_complex` refuses; or for want
-/// of memory.
+/// this order: all points in one plane, then, for a complex, the refusals of `mesh_complex`; or
+/// when out of memory.
 pub fn mesh_outputs(alloc: Global, options: &Options, bound: Bound) -> Result<Outputs, Status>
     requires { IsMeshableBound options.now bound }
     ensures { AndThen (MeshAnswer options.now bound) (OutputsAnswer options.now) result }
@@ -67,7 +67,7 @@ fn grid_options(options: &Options) -> GridOptions
 }
 
 /// The points on their grid, where equal ones are folded, and the complex on them. It refuses with
-/// the first limit that the input is over, or for want of memory.
+/// the first limit that the input is over, or when out of memory.
 pub fn bind_input(
     alloc: Global,
     limits: Limits,
@@ -84,7 +84,7 @@ pub fn bind_input(
     bind_nodes(alloc, limits, options, nodes, &complex)
 }
 
-/// The same of the points and the complex of an input; the complex stays.
+/// As `bind_input`, borrowing the complex.
 pub fn bind_nodes(
     alloc: Global,
     limits: Limits,
@@ -114,7 +114,7 @@ pub fn bind_nodes(
     }
 }
 
-/// The complex on the points of a table, where its corners name those that are kept.
+/// The complex on the points of a table, with its corners renumbered to the kept points.
 fn bind_on(
     alloc: Global,
     limits: Limits,
@@ -139,7 +139,8 @@ fn bind_on(
     }
 }
 
-/// The limit that the complex is over, which comes before that of the grid at this line; or that.
+/// The limit that the complex is over, which comes before the limit of the grid; else the limit of
+/// the grid at this line.
 fn limit_before(limits: Limits, text: &PlcText, line: usize) -> Status
     ensures { IsSmall limits text.now × (result ≡ Limit (OnGrid line))
         ⊎ IsOverLimit limits text.now result }
@@ -152,7 +153,7 @@ fn limit_before(limits: Limits, text: &PlcText, line: usize) -> Status
     }
 }
 
-/// How a run ends whose complex, which was read, has this fault on its way to the grid.
+/// The status of a run whose complex cannot be bound to the grid, by the fault.
 fn binding_refused(fault: PlcFault) -> Status
     requires { IsOfRead fault }
     ensures { result ≡ status_of_bind fault }
@@ -187,7 +188,7 @@ fn mesh_bound(alloc: Global, options: &Options, bound: Bound) -> Result<HulledMe
     mesh_delaunay(alloc, options, bound)
 }
 
-/// The mesh of points alone, with its hull where nothing else is asked for of the faces.
+/// The mesh of points alone, with its hull where the options ask for no other faces.
 fn mesh_delaunay(alloc: Global, options: &Options, bound: Bound) -> Result<HulledMesh, Status>
     requires { IsMeshableBound options.now bound }
     ensures answer { PointsMeshOf false options.now bound (mesh_in result) }
@@ -211,8 +212,8 @@ fn mesh_weighted(alloc: Global, options: &Options, bound: Bound) -> Result<Meshe
     }
 }
 
-/// How a run ends whose weighted points have no mesh, where their file has this base; or for want
-/// of memory.
+/// The status of a run whose weighted points, in the file with this base, have no mesh; or out of
+/// memory.
 fn weights_refused(alloc: Global, base: &Name, fault: RegularFault) -> Status
     ensures { (result ≡ status_of_weights (file_name base.now Node) fault) ⊎ (result ≡ Wanting) }
 {
@@ -262,7 +263,7 @@ pub struct ListAndHull {
     pub hull: Option<Faces>,
 }
 
-/// The Delaunay list of points, with its hull where nothing else is asked for of the faces.
+/// The Delaunay list of points, with its hull where the options ask for no other faces.
 fn rows_and_hull(alloc: Global, options: &Options, bound: &Bound) -> Result<ListAndHull, Status>
     requires { IsMeshableBound options.now bound.now }
     ensures rows { IfOk result (λ made. made.rows ≡ delaunay_rows bound.now.table.points) }
@@ -301,7 +302,7 @@ fn mesh_plc(alloc: Global, options: &Options, bound: Bound) -> Result<Meshed, Me
     Ok(with_added(alloc, bound, made, added))
 }
 
-/// What is made of a complex on its points.
+/// Meshes a complex on its points.
 fn made_of(alloc: Global, options: &Options, bound: &Bound) -> Result<ComplexMesh, MeshFault>
     requires { IsMeshableBound options.now bound.now }
     ensures { MeshesSo (mesh_options options.now bound.now.table) bound.now.table.points
@@ -323,7 +324,7 @@ struct Added {
     names: Names,
 }
 
-/// What these points have after those of the table, and the names of all of them.
+/// The points behind those of the table, and the names of all points.
 fn added_to(alloc: Global, table: &NodeTable, points: &Points) -> Result<Added, NoMemory>
     requires begins { length table.now.points ≤ length points.now }
     requires few { length table.now.listed +
@@ -341,7 +342,7 @@ fn added_to(alloc: Global, table: &NodeTable, points: &Points) -> Result<Added, 
     })
 }
 
-/// The mesh of a complex, with its point list and what was added to it.
+/// The mesh of a complex, with its point list and the points added to it.
 fn with_added(alloc: Global, bound: Bound, made: ComplexMesh, added: Added) -> Meshed
     requires { IsNodeTable bound.table }
     ensures { result ≡ record (mesh_of_complex bound made) {
@@ -363,7 +364,7 @@ fn with_added(alloc: Global, bound: Bound, made: ComplexMesh, added: Added) -> M
     }
 }
 
-/// The mesh of a complex on the points of a table, of what is made on these points and others
+/// The mesh of a complex on the points of a table; `made` has these points first and the added ones
 /// behind them.
 pub fn complex_meshed(alloc: Global, bound: Bound, made: ComplexMesh) -> Result<Meshed, NoMemory>
     requires table { IsNodeTable bound.table }
@@ -376,8 +377,8 @@ pub fn complex_meshed(alloc: Global, bound: Bound, made: ComplexMesh) -> Result<
     Ok(with_added(alloc, bound, made, added))
 }
 
-/// A point list without the decimals of its points, which are let go: once the points are on their
-/// grid nothing is written from them.
+/// A point list without the decimals of its points, whose memory is freed: once the points are on
+/// their grid nothing is written from the decimals.
 fn without_decimals(alloc: Global, mut table: NodeTable) -> NodeTable
     requires { IsNodeTable table }
     ensures same { result ≡ without_decimals table }

@@ -1,4 +1,4 @@
-//! The line that each refusal is told in.
+//! The line that reports each refusal.
 
 ghost use Rattle.std.specs.Prelude.{◌≡◌, ◌∷◌, [], ◌++◌, ◌+◌, None, IfOk, OnOk, codes};
 ghost use Rattle.std.specs.Fmt.{decimal};
@@ -19,16 +19,16 @@ use std::alloc::Global;
 use tangle_laws::Anomaly;
 use tet_ports::{Bytes, Name, NoMemory};
 
-/// With what each line begins.
+/// The beginning of each line.
 pub(crate) const NAME: &[u8] = b"tetgen: ";
 
-/// The message of want of memory, which takes none.
+/// The message for out of memory, whose report needs no memory.
 pub const OUT_OF_MEMORY: &[u8] = b"tetgen: out of memory\n";
 
-/// The message that the summary could not be put.
+/// The message that the summary could not be written.
 pub const SUMMARY_FAILED: &[u8] = b"tetgen: summary: write failed\n";
 
-/// The line that tells a refusal, with the points' numbers by this numbering.
+/// The line that reports a refusal, with points numbered by `by`.
 pub fn message(alloc: Global, by: &Option<Numbering>, status: &Status) -> Result<Bytes, NoMemory>
     ensures { IfOk result (λ line. line ≡ message_of by.now status.now) }
 {
@@ -53,7 +53,7 @@ pub fn message(alloc: Global, by: &Option<Numbering>, status: &Status) -> Result
     }
 }
 
-/// A line that is told, unless memory is wanting.
+/// A line, or out of memory.
 type LineAnswer = Result<Bytes, NoMemory>;
 
 /// A message on an input that is over a limit.
@@ -81,7 +81,7 @@ fn bytes_message(alloc: Global, name: &Name, most: usize) -> LineAnswer
     file_message(alloc, NAME, name, text.as_slice())
 }
 
-/// Appends how many are allowed.
+/// Appends the greatest number that is allowed.
 fn append_most(text: &mut Bytes, most: usize) -> Result<(), NoMemory>
     ensures { OnOk result (text.new ≡ text.old ++ at_most most) }
 {
@@ -89,7 +89,7 @@ fn append_most(text: &mut Bytes, most: usize) -> Result<(), NoMemory>
     append_number(text, most)
 }
 
-/// A line that says how many there are, of what, and how many are allowed.
+/// A line on a count that is over its limit: the number, the noun and the limit.
 fn count_message(alloc: Global, count: u64, what: &[u8], most: usize) -> LineAnswer
     ensures { IfOk result
         (λ made. made ≡ line tetgen_name (decimal count ++ what.now ++ at_most most)) }
@@ -127,7 +127,7 @@ fn corners_message(alloc: Global, place: usize, count: u64, most: usize) -> Line
     place_message(alloc, place, text.as_slice())
 }
 
-/// A line on a line of a file, and what is told of it.
+/// A message on a line of a file, with the text that follows the line's number.
 fn place_message(alloc: Global, place: usize, told: &[u8]) -> LineAnswer
     ensures { IfOk result
         (λ made. made ≡ line tetgen_name (codes "line " ++ decimal place ++ told.now)) }
@@ -157,7 +157,7 @@ fn segments_message(alloc: Global, by: &Option<Numbering>, one: Piece, two: Piec
     piece_message(alloc, by, text, two, b" cross")
 }
 
-/// The line that goes on from this text with the two ends of a piece, and what is told of it.
+/// A line with the two ends of a subsegment between two texts.
 fn piece_message(
     alloc: Global,
     by: &Option<Numbering>,
@@ -252,7 +252,7 @@ fn append_point(text: &mut Bytes, by: &Option<Numbering>, point: u32) -> Result<
     append_number(text, number_of(by, point))
 }
 
-/// Appends the two ends of a piece, the less first.
+/// Appends the two ends of a subsegment, the lesser place first.
 fn append_ends(text: &mut Bytes, by: &Option<Numbering>, piece: Piece) -> Result<(), NoMemory>
     ensures { OnOk result (text.new ≡ text.old ++ ends_text by.now piece) }
 {

@@ -1,4 +1,4 @@
-//! The numbers by which a run tells points.
+//! The numbers of points in messages.
 
 ghost use Rattle.std.specs.Prelude.{◌≡◌, ◌<◌, ◌^◌, length, IfOk};
 ghost use Rattle.run_steps.specs.Numbering.{numbering_of, told_number, number_by};
@@ -7,8 +7,8 @@ use node_files::{Names, NodeTable};
 use std::alloc::Global;
 use tet_ports::NoMemory;
 
-/// The numbers of points in messages. A run names points by their places, from 0: those that are
-/// kept of the input, and the added ones behind them.
+/// The numbers of points in messages. A run names points by their places, from 0: the kept points
+/// of the input, and the added ones behind them.
 #[derive(Debug, Drop)]
 pub struct Numbering {
     /// For each kept point its place in the input, from 0.

@@ -39,7 +39,7 @@ struct RowOutputs {
 }
 
 /// The face file and the neighbor file, where they are asked for, and the number of faces, if the
-/// summary tells it.
+/// summary is asked for.
 #[derive(Drop)]
 struct FaceOutputs {
     face: Option<NamedText>,
@@ -47,7 +47,8 @@ struct FaceOutputs {
     count: usize,
 }
 
-/// The edge file, where it is asked for, and the number of sides, if something speaks of them.
+/// The edge file, where it is asked for, and the number of edges of the mesh, if the edge file or
+/// the summary is asked for.
 #[derive(Drop)]
 struct SideOutputs {
     edge: Option<NamedText>,
@@ -71,8 +72,8 @@ pub fn outputs_of(alloc: Global, options: &Options, made: &HulledMesh) -> Result
     Ok(put_together(rows, faces, sides, summary))
 }
 
-/// The files that are asked for of the points, the tetrahedra, the faces and the sides, and the
-/// summary.
+/// Collects the files of the points, the tetrahedra, the faces and the edges that are asked for,
+/// and the summary.
 fn put_together(
     rows: RowOutputs,
     faces: FaceOutputs,
@@ -113,7 +114,7 @@ fn row_outputs(alloc: Global, options: &Options, mesh: &Meshed) -> Result<RowOut
     Ok(RowOutputs { node, ele })
 }
 
-/// The number of the first row, face, side and point in what is written.
+/// The number of the first tetrahedron, face, edge and point in the files.
 fn first_of(options: &Options, mesh: &Meshed) -> u32
     ensures { result ≡ first_of options.now mesh.now }
 {
@@ -131,14 +132,14 @@ fn names_sides(options: &Options) -> bool
     !options.quiet || (!options.no_face && options.edges)
 }
 
-/// Whether nothing is asked for of the faces but those on the hull and in facets.
+/// Whether the options ask for no faces but those on the hull and in facets.
 pub fn asks_hull_alone(options: &Options) -> bool
     ensures { result ≡ asks_hull_alone options.now }
 {
     options.quiet && !options.no_face && !options.all_faces && !options.neighbors
 }
 
-/// Whether the face file, the neighbor file or the summary is asked for, which speak of the uses of
+/// Whether the face file, the neighbor file or the summary is asked for, which need the uses of
 /// faces.
 fn asks_uses(options: &Options) -> bool
     ensures { result ≡ asks_uses options.now }
@@ -146,8 +147,8 @@ fn asks_uses(options: &Options) -> bool
     !options.quiet || (!options.no_face || options.neighbors)
 }
 
-/// What is told of the faces: from those of the hull where they are known and enough, and else from
-/// the uses of all faces.
+/// The face outputs: from the faces of the hull where these are known and enough, else from the
+/// uses of all faces.
 fn face_outputs(
     alloc: Global,
     options: &Options,
@@ -165,7 +166,7 @@ fn face_outputs(
     used_outputs(alloc, options, &made.mesh)
 }
 
-/// What is told of the faces by their uses. The neighbors are let go once their text is made.
+/// The face outputs from the uses of the faces. The neighbors are freed once their text is made.
 fn used_outputs(alloc: Global, options: &Options, mesh: &Meshed) -> Result<FaceOutputs, NoMemory>
     requires { IsWritable mesh.now }
     ensures { IfOk result (AreFaceOutputsOf options.now mesh.now) }
@@ -177,8 +178,8 @@ fn used_outputs(alloc: Global, options: &Options, mesh: &Meshed) -> Result<FaceO
     Ok(FaceOutputs { face, neigh, count })
 }
 
-/// The face file by the uses of the faces: straight from them where all faces are asked for, and
-/// else from rows, for whose text the uses are let go.
+/// The face file by the uses of the faces: straight from the uses where all faces are asked for,
+/// else from face rows, before whose text the uses are freed.
 fn used_face_file(alloc: Global, options: &Options, mesh: &Meshed, uses: Uses) -> FileAnswer
     requires mesh { IsWritable mesh.now }
     requires uses { asks_uses options.now ≡ true → AreUsesOf mesh.now.tetrahedra uses }
@@ -191,7 +192,7 @@ fn used_face_file(alloc: Global, options: &Options, mesh: &Meshed, uses: Uses) -
     face_file(alloc, options, mesh, &faces)
 }
 
-/// The file of all faces with their markers. The uses are let go.
+/// The file of all faces with their markers. The uses are freed.
 fn all_face_file(alloc: Global, options: &Options, mesh: &Meshed, uses: Uses) -> FileAnswer
     requires mesh { IsWritable mesh.now }
     requires uses { AreUsesOf mesh.now.tetrahedra uses }
@@ -205,7 +206,7 @@ fn all_face_file(alloc: Global, options: &Options, mesh: &Meshed, uses: Uses) ->
     named(alloc, options, b".1.face", text)
 }
 
-/// What is told of the faces, where only those on the hull are asked for and are known.
+/// The face outputs where only the faces on the hull are asked for, and these are known.
 fn hull_outputs(
     alloc: Global,
     options: &Options,
@@ -226,7 +227,7 @@ fn hull_outputs(
     })
 }
 
-/// The uses of the faces, if something speaks of them.
+/// The uses of the faces, if the face file, the neighbor file or the summary is asked for.
 fn wanted_uses(alloc: Global, options: &Options, mesh: &Meshed) -> Result<Uses, NoMemory>
     ensures { IfOk result (λ uses. asks_uses options.now ≡ true
         → AreUsesOf mesh.now.tetrahedra uses) }
@@ -237,7 +238,7 @@ fn wanted_uses(alloc: Global, options: &Options, mesh: &Meshed) -> Result<Uses, 
     uses_of(alloc, &mesh.tetrahedra)
 }
 
-/// The number of faces, if the summary tells it.
+/// The number of faces, if the summary is asked for.
 fn wanted_face_count(options: &Options, mesh: &Meshed, uses: &Uses) -> usize
     requires { asks_uses options.now ≡ true → AreUsesOf mesh.now.tetrahedra uses.now }
     ensures { (faces : List Face) × (options.now.quiet ≡ false
@@ -249,7 +250,7 @@ fn wanted_face_count(options: &Options, mesh: &Meshed, uses: &Uses) -> usize
     face_count(&mesh.tetrahedra, uses)
 }
 
-/// The rows of the face file, if it is asked for. The uses are let go.
+/// The rows of the face file, if it is asked for. The uses are freed.
 fn wanted_face_rows(
     alloc: Global,
     options: &Options,
@@ -270,7 +271,7 @@ fn wanted_face_rows(
     Ok(faces)
 }
 
-/// What is told of the sides, which are let go.
+/// The edge file and the number of edges, where they are asked for. The edges are freed.
 fn side_outputs(alloc: Global, options: &Options, mesh: &Meshed) -> Result<SideOutputs, NoMemory>
     requires { IsWritable mesh.now }
     ensures { IfOk result (AreSideOutputsOf options.now mesh.now) }
@@ -282,7 +283,7 @@ fn side_outputs(alloc: Global, options: &Options, mesh: &Meshed) -> Result<SideO
     Ok(SideOutputs { edge, count })
 }
 
-/// The sides, if the edge file or the summary is asked for.
+/// The edges of the mesh, if the edge file or the summary is asked for.
 fn wanted_sides(alloc: Global, options: &Options, mesh: &Meshed) -> Result<Edges, NoMemory>
     requires { IsWritable mesh.now }
     ensures sides { IfOk result (λ sides. names_sides options.now ≡ true
@@ -341,7 +342,7 @@ fn face_file(alloc: Global, options: &Options, mesh: &Meshed, marked: &FaceRows)
     named(alloc, options, b".1.face", text)
 }
 
-/// The sides of all tetrahedra.
+/// The edge file: the edges of all tetrahedra.
 fn edge_file(alloc: Global, options: &Options, mesh: &Meshed, sides: &Edges) -> FileAnswer
     requires { All (λ side. AreNamed mesh.now.names (side_numbers side)) sides.now }
     ensures { IfOk result (λ file. file ≡ edge_file options.now mesh.now sides.now) }
@@ -408,7 +409,7 @@ fn summary_of(
     Ok(Some(line))
 }
 
-/// Appends how many points are hidden, where that is told.
+/// Appends the number of hidden points, where there is one.
 fn append_hidden(line: &mut Bytes, hidden: Option<usize>) -> Result<(), NoMemory>
     ensures { OnOk result (line.new ≡ line.old ++ hidden_text hidden) }
 {

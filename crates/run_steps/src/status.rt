@@ -54,7 +54,7 @@ pub enum LimitKind {
 /// behind them.
 #[derive(Debug, Drop)]
 pub enum Status {
-    /// The files are stored and the summary is put.
+    /// The files are stored and the summary is written.
     Done,
     /// The words are not in the grammar: the first bad word and the place in it, both counted from
     /// 1.
@@ -75,17 +75,17 @@ pub enum Status {
     SegmentsCross { one: Piece, two: Piece },
     /// The first two parts of facets, triangles or pieces, that are not properly met.
     Crossing { one: Part, two: Part },
-    /// A piece is no side of the mesh, and was halved as often as the grid allows.
+    /// A subsegment is no edge of the mesh, and was halved as often as the grid allows.
     GridEnd { piece: Piece },
-    /// A piece is no side of the mesh, and as many points were added as are allowed.
+    /// A subsegment is no edge of the mesh, and as many points were added as are allowed.
     BudgetEnd { made: u32, piece: Piece },
-    /// Two facets cross a Delaunay tetrahedron, and this stands against tetrahedra grown round the
-    /// facets.
+    /// Two facets cross a Delaunay tetrahedron, and the constrained Delaunay tetrahedra found by
+    /// gift wrapping round the facets have this anomaly.
     NoFill { anomaly: Anomaly },
     /// The mesh that is checked has a defect; the first one. Its files number points, rows and
     /// faces from `first` on.
     Unsound { defect: Defect, first: u32 },
-    /// Want of memory.
+    /// Out of memory.
     NoMemory,
     /// The folder failed in a store, or the sink of the summary, which has no name.
     WriteFault { name: Option<Name> },

@@ -36,7 +36,7 @@ pub enum StoreStop {
 impl Texts {
     ghost use Rattle.run_steps.specs.Stores.{in_order};
 
-    /// The texts that are there, in the order in which they are stored.
+    /// The texts that are present, in the order in which they are stored.
     pub fn in_order(self, alloc: Global) -> Result<Vec<NamedText>, NoMemory>
         ensures { IfOk result (λ list. list.items ≡ in_order self) }
     {
@@ -50,7 +50,7 @@ impl Texts {
     }
 }
 
-/// Appends a text, if it is there.
+/// Appends a text, if it is present.
 fn append(text: Option<NamedText>, list: &mut Vec<NamedText>) -> Result<(), NoMemory>
     ensures { OnOk result (list.new.items ≡ list.old.items ++ given (text ∷ [])) }
 {

@@ -1,4 +1,4 @@
--- Pieces that are found again by their first ends.
+-- Subsegments that are found again by their first ends.
 use Rattle.std.specs.Prelude.{◌≡◌, ◌≢◌, ◌⊎◌, ℕ, ◌-◌, ◌<◌, ◌≤◌, List, length, All, Contains, slice_index, slice_index_or}
 use Rattle.sign_predicates.specs.Point.{Point}
 use Rattle.geo_laws.specs.declared.complex.Piece.{Piece}
@@ -13,7 +13,8 @@ pub record IsLast (pieces : List Piece) (k v count : ℕ) : Type 0 where
   pub begins : (d : Piece) → 0 < count → (slice_index_or pieces (count - 1) d).a ≡ v
   pub no_later : (j : ℕ) (d : Piece) → count ≤ j → j < k → (slice_index_or pieces j d).a ≢ v
 
--- from each of n points one is led to the last piece that begins there, and from each piece to the last one before it from the same point
+-- each of n points is linked to the last subsegment that begins there, and each subsegment to the last one before it
+-- from the same point
 pub record AreLinked (n : ℕ) (pieces : List Piece) (earlier latest : List ℕ) : Type 0 where
   pub points : length latest ≡ n
   pub links : length earlier ≡ length pieces
@@ -25,28 +26,28 @@ pub record AreLinked (n : ℕ) (pieces : List Piece) (earlier latest : List ℕ)
 abbrev pub IsLinked : ℕ → Passed → Type 0
 IsLinked n passed = AreLinked n (pieces_of passed.watched.items) passed.earlier.items passed.latest.items
 
--- they are linked and watched
+-- the subsegments that were passed are linked and watched
 pub record IsPassed (ps : List Point) (touched : List ℕ) (passed : Passed) : Type 0 where
   pub linked : IsLinked (length ps) passed
   pub watched : All (IsWatched ps touched) passed.watched.items
 
--- the piece is a side
+-- the subsegment is an edge of a Delaunay tetrahedron
 abbrev pub IsSide : List Point → Watched → Type 0
 IsSide ps w = IsDelaunaySide ps w.piece.a w.piece.b
 
--- it is one, or both its ends are among the numbers that are lost
+-- the subsegment is an edge of a Delaunay tetrahedron, or both its ends are among the lost numbers
 abbrev pub IsSideOrLost : List Point → List ℕ → Watched → Type 0
 IsSideOrLost ps lost w = IsSide ps w ⊎ (Contains lost w.piece.a × Contains lost w.piece.b)
 
--- the piece at a place is a side
+-- the subsegment at a place is an edge of a Delaunay tetrahedron
 abbrev pub IsSideAt : List Point → List Piece → ℕ → Type 0
 IsSideAt ps pieces k = (d : Piece) → IsDelaunaySide ps (slice_index_or pieces k d).a (slice_index_or pieces k d).b
 
--- the pieces before a place are sides
+-- the subsegments before a place are edges of Delaunay tetrahedra
 abbrev pub AreSidesBefore : List Point → ℕ → List Watched → Type 0
 AreSidesBefore ps place watched = (j : ℕ) (d : Watched) → j < place → j < length watched → IsSide ps (slice_index_or watched j d)
 
--- those of them that begin at the point v are
+-- the subsegments before a place that begin at the point v are edges of Delaunay tetrahedra
 abbrev pub AreSidesFrom : List Point → ℕ → ℕ → List Piece → Type 0
 AreSidesFrom ps v place pieces = (j : ℕ) (d : Piece) → j < place → j < length pieces → (slice_index_or pieces j d).a ≡ v
     → IsDelaunaySide ps (slice_index_or pieces j d).a (slice_index_or pieces j d).b

@@ -1,4 +1,4 @@
-//! Which pieces are sides of the mesh, by one pass over its tetrahedra.
+//! Finds the subsegments that are edges of the mesh, by one pass over its tetrahedra.
 ghost use Rattle.std.specs.Prelude.{◌≡◌, ◌≢◌, ◌^◌, ◌<◌, [], IsTrue, length, All, Contains};
 ghost use Rattle.std.specs.Prelude.{IfOk};
 ghost use Rattle.geo_laws.specs.Delaunay.{numbers};
@@ -13,7 +13,7 @@ use point_locate::{Shape, shape_of};
 use std::alloc::Global;
 use tet_ports::NoMemory;
 
-/// Whether the ends of the piece are two corners of the tetrahedron.
+/// Whether the subsegment is an edge of the tetrahedron.
 fn has_ends(row: Tet, piece: Piece) -> bool
     ensures differ { IsTrue result → piece.a ≢ piece.b }
     ensures first { IsTrue result → Contains (numbers row) piece.a }
@@ -25,7 +25,8 @@ fn has_ends(row: Tet, piece: Piece) -> bool
     has_corner(row, piece.b)
 }
 
-/// Notes that the piece at this place was seen to be a side, where the tetrahedron has it.
+/// Notes that the subsegment at place `k` is an edge of the mesh, where it is an edge of the
+/// tetrahedron.
 fn see_piece(living: &Living, watched: &mut Vec<Watched>, row: Tet, k: usize)
     requires row { HasSidesOf living.now.points row }
     requires few { length living.now.points < 2 ^ 32 }
@@ -47,7 +48,7 @@ fn see_piece(living: &Living, watched: &mut Vec<Watched>, row: Tet, k: usize)
     };
 }
 
-/// The same for the piece that joins two points, if there is one.
+/// Notes that the subsegment between `a` and `b`, if there is one, is an edge of the mesh.
 fn see_side(
     living: &Living,
     places: &PieceSet,
@@ -68,7 +69,7 @@ fn see_side(
     see_piece(living, watched, row, k);
 }
 
-/// Notes the pieces that are sides of the tetrahedron.
+/// Notes the subsegments that are edges of the tetrahedron.
 fn see_row(living: &Living, places: &PieceSet, watched: &mut Vec<Watched>, row: Tet)
     requires row { HasSidesOf living.now.points row }
     requires few { length living.now.points < 2 ^ 32 }
@@ -89,7 +90,7 @@ fn see_row(living: &Living, places: &PieceSet, watched: &mut Vec<Watched>, row: 
     }
 }
 
-/// The same for the tetrahedron at a place of the mesh, if there is one.
+/// Notes the subsegments that are edges of the tetrahedron in slot `i`, if the slot has one.
 fn see_slot(living: &Living, places: &PieceSet, watched: &mut Vec<Watched>, i: usize)
     requires there { i < length living.now.slots }
     requires few { length living.now.points < 2 ^ 32 }
@@ -107,7 +108,7 @@ fn see_slot(living: &Living, places: &PieceSet, watched: &mut Vec<Watched>, i: u
     see_row(living, places, watched, row);
 }
 
-/// Notes the pieces that are sides of the mesh.
+/// Notes the subsegments that are edges of the mesh.
 pub(crate) fn see_sides(living: &Living, places: &PieceSet, watched: &mut Vec<Watched>)
     requires few { length living.now.points < 2 ^ 32 }
     requires seen { All (IsSeenOrSide living.now.points) watched.old.items }
@@ -119,7 +120,7 @@ pub(crate) fn see_sides(living: &Living, places: &PieceSet, watched: &mut Vec<Wa
     }
 }
 
-/// The pieces in a set, where they are found by their ends.
+/// The subsegments as a set, in which they are found by their ends.
 pub(crate) fn set_of(alloc: Global, pieces: &Pieces) -> Result<PieceSet, NoMemory>
     ensures { IfOk result (λ set. set ≡ with_pieces [] pieces.now) }
 {

@@ -1,4 +1,4 @@
-//! Pieces that were passed, in their order. Those that begin at a point are found from there.
+//! The subsegments that were passed, in their order, with lists of those that begin at each point.
 ghost use Rattle.std.specs.Prelude.{◌≡◌, ◌+◌, ◌<◌, ◌≤◌, ◌^◌, ◌++◌, [], ◌∷◌, length};
 ghost use Rattle.std.specs.Prelude.{All, IsTrue, IfOk, OnOk, MatchOption};
 ghost use Rattle.segment_protect.specs.Watch.{pieces_of, AreTouchMarks};
@@ -10,18 +10,19 @@ use cavity_insert::Living;
 use std::alloc::Global;
 use tet_ports::NoMemory;
 
-/// A stack of pieces, each linked to the last one before it that begins at the same point.
+/// A stack of subsegments, each linked to the last one before it that begins at the same point.
 #[derive(Drop)]
 pub(crate) struct Passed {
     pub(crate) watched: Vec<Watched>,
-    /// For each piece, how many there are up to the one that it is linked to; 0 for none.
+    /// For each subsegment one more than the place of the subsegment to which it is linked; 0 for
+    /// none.
     pub(crate) earlier: Vec<usize>,
-    /// For each point, how many there are up to the last one that begins there; 0 for none.
+    /// For each point one more than the place of the last subsegment that begins there; 0 for none.
     pub(crate) latest: Vec<usize>,
 }
 
 impl Passed {
-    /// No piece, among so many points.
+    /// An empty stack for `points` points.
     pub(crate) fn new(alloc: Global, points: usize) -> Result<Passed, NoMemory>
         ensures linked { IfOk result (IsLinked points) }
         ensures none { IfOk result (λ passed. passed.watched.items ≡ []) }
@@ -35,7 +36,7 @@ impl Passed {
         })
     }
 
-    /// One point more, at which no piece begins.
+    /// Adds a point, at which no subsegment begins.
     pub(crate) fn add_point(&mut self) -> Result<(), NoMemory>
         requires { IsLinked (length self.old.latest.items) self.old }
         ensures linked { OnOk result (IsLinked (length self.old.latest.items + 1) self.new) }
@@ -45,7 +46,7 @@ impl Passed {
         Ok(())
     }
 
-    /// Puts a piece behind the others.
+    /// Appends a subsegment.
     pub(crate) fn push(&mut self, w: Watched) -> Result<(), NoMemory>
         requires linked { IsLinked (length self.old.latest.items) self.old }
         requires inside { w.piece.a < length self.old.latest.items }
@@ -59,7 +60,7 @@ impl Passed {
         Ok(())
     }
 
-    /// Takes the last piece away, where there are more than so many.
+    /// Removes the last subsegment, where there are more than `most`.
     pub(crate) fn pop_above(&mut self, most: usize) -> Option<Watched>
         requires { IsLinked (length self.old.latest.items) self.old }
         ensures linked { IsLinked (length self.old.latest.items) self.new }
@@ -76,7 +77,8 @@ impl Passed {
         Some(w)
     }
 
-    /// Whether the piece at this place is a side. If so, it is noted that it was seen to be one.
+    /// Whether the subsegment at place `k` is an edge of the Delaunay list; if it is, this is
+    /// noted.
     fn is_side_at(&mut self, living: &Living, touched: &[u32], k: usize) -> bool
         requires passed { IsPassed living.now.points touched.now self.old }
         requires marks { AreTouchMarks living.now.points touched.now }
@@ -98,8 +100,8 @@ impl Passed {
         true
     }
 
-    /// The place of the first piece before `least` that begins at this point and is no side; or
-    /// else `least`.
+    /// The place of the first subsegment before `least` that begins at `v` and is no edge; else
+    /// `least`.
     fn first_lost_at(&mut self, living: &Living, touched: &[u32], v: usize, least: usize) -> usize
         requires passed { IsPassed living.now.points touched.now self.old }
         requires marks { AreTouchMarks living.now.points touched.now }
@@ -122,8 +124,8 @@ impl Passed {
         least
     }
 
-    /// The place of the first piece that is no side any more; or else how many pieces there are.
-    /// Only those with both ends in `lost` may be none.
+    /// The place of the first subsegment that is no edge any more, else the number of subsegments.
+    /// Only a subsegment with both ends in `lost` may have ceased to be an edge.
     pub(crate) fn first_lost(&mut self, living: &Living, touched: &[u32], lost: &[u32]) -> usize
         requires passed { IsPassed living.now.points touched.now self.old }
         requires marks { AreTouchMarks living.now.points touched.now }

@@ -11,20 +11,21 @@ use Rattle.sign_predicates.specs.declared.entering.TriangleLows.{TriangleLows}
 use Rattle.sign_predicates.specs.declared.entering.Spot.{Spot}
 use Rattle.sign_predicates.specs.declared.entering.Spots.{Spots}
 
--- of each face of the tetrahedron: whether the point isn't strictly on its inner side
+-- for each face of the tetrahedron: whether the point isn't strictly on the face's inner side
 pub record AreLows (t : Corners) (p : Point) (lows : Lows) : Type 0 where
   pub a_low : IsTrue lows.a ↔ side (opposite_a t) p ≤ℤ pos 0
   pub b_low : IsTrue lows.b ↔ side (opposite_b t) p ≤ℤ pos 0
   pub c_low : IsTrue lows.c ↔ side (opposite_c t) p ≤ℤ pos 0
   pub d_low : IsTrue lows.d ↔ side (opposite_d t) p ≤ℤ pos 0
 
--- of the corners of a triangle f: whether they aren't strictly on the inner side of a face
+-- for each corner of the triangle f: whether it isn't strictly on the inner side of a face
 pub record AreFaceLows (face f : Triangle) (lows : FaceLows) : Type 0 where
   pub a_low : IsTrue lows.a ↔ side face f.a ≤ℤ pos 0
   pub b_low : IsTrue lows.b ↔ side face f.b ≤ℤ pos 0
   pub c_low : IsTrue lows.c ↔ side face f.c ≤ℤ pos 0
 
--- so of all faces of the tetrahedron
+-- for each face of the tetrahedron and each corner of the triangle f: whether the corner isn't strictly on the face's
+-- inner side
 pub record AreTriangleLows (t : Corners) (f : Triangle) (lows : TriangleLows) : Type 0 where
   pub a_lows : AreLows t f.a lows.a
   pub b_lows : AreLows t f.b lows.b
@@ -42,7 +43,8 @@ pub record FacesOpen (p q : Lows) : Type 0 where
 abbrev pub PassesEdge : Bool → Bool → Point → Point → Point → Point → Type 0
 PassesEdge low_q low_p u v p q = IsTrue low_q → IsTrue low_p → pos 0 <ℤ orient u v q p
 
--- so at the three edges of a face, with the corners b, c and d
+-- the leg from p to q passes each of the three edges of a face with the corners b, c and d on the inner side
+-- (`PassesEdge`)
 abbrev pub PassesFace : Bool → Bool → Bool → Bool → Point → Point → Point → Point → Point → Type 0
 PassesFace low_q low_b low_c low_d b c d p q = PassesEdge low_q low_b d c p q × PassesEdge low_q low_c b d p q
     × PassesEdge low_q low_d c b p q
@@ -62,7 +64,7 @@ SideEnters t f = TriangleEnters t (segment f.a f.b) ⊎ (TriangleEnters t (segme
 abbrev pub IsSpot : Triangle → Spot → Type 0
 IsSpot f spot = IsTrue spot.above ↔ pos 0 <ℤ side f spot.at
 
--- so of the four corners of a tetrahedron
+-- the four corners of a tetrahedron, each with the mark whether it is strictly above the triangle's plane
 pub record AreSpotsOver (f : Triangle) (spots : Spots) : Type 0 where
   pub a_spot : IsSpot f spots.a
   pub b_spot : IsSpot f spots.b

@@ -32,7 +32,7 @@ lift_rise a b = square_length b -ℤ square_length a
 abbrev pub volumes_of : Corners → Point → Volumes
 volumes_of t e = record { a = orient e t.b t.c t.d; b = orient e t.a t.c t.d; c = orient e t.a t.b t.d; d = orient e t.a t.b t.c }
 
--- so many steps from the frame's corner
+-- x is q steps from the frame's corner, along one axis
 abbrev pub IsStepsFrom : ℤ → ℤ → ℤ → ℤ → Type 0
 IsStepsFrom corner step q x = x ≡ corner +ℤ step *ℤ q
 

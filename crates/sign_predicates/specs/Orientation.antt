@@ -14,11 +14,12 @@ cross u v = record { x = u.y *ℤ v.z -ℤ u.z *ℤ v.y; y = u.z *ℤ v.x -ℤ u
 unfoldable pub det : Point → Point → Point → ℤ
 det u v w = u.x *ℤ (v.y *ℤ w.z -ℤ v.z *ℤ w.y) -ℤ u.y *ℤ (v.x *ℤ w.z -ℤ v.z *ℤ w.x) +ℤ u.z *ℤ (v.x *ℤ w.y -ℤ v.y *ℤ w.x)
 
--- above 0 where d lies on the positive side of the plane through a, b and c, and 0 where it lies on that plane
+-- orient3d: above 0 where d lies on the positive side of the plane through a, b and c, and 0 where d lies on that plane
 unfoldable pub orient : Point → Point → Point → Point → ℤ
 orient a b c d = det (from_to a b) (from_to a c) (from_to a d)
 
--- the same for a rational point, times its w
+-- orient3d of a rational point, times its w: above 0 where p lies on the positive side of the plane through a, b and c,
+-- and 0 on it
 unfoldable pub orient_rational : Point → Point → Point → RationalPoint → ℤ
 orient_rational a b c p = det (from_to a b) (from_to a c) (from_to_rational a p)
 

@@ -36,7 +36,7 @@ pub record AreShortVolumes (v : Volumes) : Type 0 where
   pub c_short : unsigned_abs v.c ≤ 3 * 2 ^ 61
   pub d_short : unsigned_abs v.d ≤ 3 * 2 ^ 61
 
--- the same of any vectors
+-- six times the signed volumes of any four vectors, three at a time, named after the vector left out
 abbrev pub wide_volumes : Point → Point → Point → Point → WideVolumes
 wide_volumes a b c d = record { a = det b c d; b = det a c d; c = det a b d; d = det a b c }
 

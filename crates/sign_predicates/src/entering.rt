@@ -11,8 +11,8 @@ use crate::sign::{is_not_above, is_strictly_above};
 use crate::triangle::GridTriangle;
 use crate::{Corners, GridPoint};
 
-/// Of each face of a tetrahedron, by the opposite corner: whether a point isn't strictly on its
-/// inner side.
+/// For each face of a tetrahedron, by the opposite corner: whether a point isn't strictly on the
+/// face's inner side.
 #[derive(Clone, Copy)]
 struct Lows {
     a: bool,
@@ -35,7 +35,7 @@ fn is_high(a: GridPoint, b: GridPoint, c: GridPoint, p: GridPoint) -> bool
     is_strictly_above(orient_sum(a, b, c, p))
 }
 
-/// Of the corners of a triangle: whether they aren't strictly on a face's inner side.
+/// For each corner of a triangle: whether it isn't strictly on a face's inner side.
 #[derive(Clone, Copy)]
 struct FaceLows {
     a: bool,
@@ -43,7 +43,8 @@ struct FaceLows {
     c: bool,
 }
 
-/// So for the triangle `f` and the face from `u` to `v` and `w`.
+/// For each corner of the triangle `f`: whether it isn't strictly on the inner side of the face `u
+/// v w`.
 #[inline]
 fn face_lows(u: GridPoint, v: GridPoint, w: GridPoint, f: &GridTriangle) -> FaceLows
     ensures { AreFaceLows (triangle_of u v w) (grid_triangle f.now) result }
@@ -146,9 +147,9 @@ fn passes_edge(
     }
 }
 
-/// So at the three edges of a face with the corners `b`, `c` and `d`, where `low` says that `q`
-/// isn't on the face's inner side, and the other marks say so of `p` and the faces opposite these
-/// corners.
+/// Whether the leg from `p` to `q` passes the three edges of the face `b c d` on their inner sides,
+/// where `low` says that `q` isn't on the face's inner side, and `low_b`, `low_c` and `low_d` that
+/// `p` isn't on the inner sides of the faces opposite these corners.
 #[inline]
 fn passes_face(
     low: bool,
@@ -247,7 +248,8 @@ fn crosses_within(p: &Spot, q: &Spot, f: &GridTriangle) -> bool
     }
 }
 
-/// So for the three edges from `p`.
+/// Whether the three edges from `p`, to `q`, `r` and `s`, meet the plane within the triangle where
+/// they cross it downward.
 fn crosses_from(p: &Spot, q: &Spot, r: &Spot, s: &Spot, f: &GridTriangle) -> bool
     requires p_is { IsSpot (grid_triangle f.now) p.now }
     requires q_is { IsSpot (grid_triangle f.now) q.now }

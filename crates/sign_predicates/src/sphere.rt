@@ -243,7 +243,7 @@ pub fn wins_tie(t: &Corners, n: Numbers, p: GridPoint, m: u32) -> bool
     wins_by_sides(v.a, -v.b, v.c, -v.d, n, m)
 }
 
-/// The same by value: only in a tie do the corners have to lie in memory.
+/// As `wins_tie`, with the corners by value, so that they have to lie in memory only in a tie.
 #[inline(never)]
 fn wins_tie_at(t: Corners, n: Numbers, p: GridPoint, m: u32) -> bool
     ensures { result ≡ wins_tie t n p m }

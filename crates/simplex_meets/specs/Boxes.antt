@@ -13,11 +13,11 @@ use Rattle.simplex_meets.specs.Pairs.{IsMarked}
 abbrev pub HoldsPart : List Point → List Part → ℕ → Bounds → Type 0
 HoldsPart ps parts i b = (d : Part) → HoldsCorners ps (part_numbers (slice_index_or parts i d)) b
 
--- the tree has a box for each part, which holds it
+-- the tree has for each part a box that holds it
 abbrev pub IsPartTree : List Point → List Part → List Node → Type 0
 IsPartTree ps parts nodes = IsTreeOver (length parts) (HoldsPart ps parts) nodes
 
--- each box of the tree is that of a part, which it holds
+-- each box of the tree is that of a part, and holds it
 pub record HasPartBoxes (ps : List Point) (parts : List Part) (nodes : List Node) : Type 0 where
   pub tree : IsTree nodes
   pub listed : All (λ n. (n.own.place < length parts) × HoldsPart ps parts n.own.place n.own.bounds) nodes

@@ -34,7 +34,7 @@ pub record IsUnmet (compared : Compared) (ps : List Point) (parts : List Part) (
   pub within : j < length parts
   pub unmet : (d : Part) → ¬ IsPairMet compared ps (slice_index_or parts i d) (slice_index_or parts j d)
 
--- the first two that are not properly met, by the place of the first and then by that of the second
+-- the first two parts that are not properly met, by the place of the first and then by that of the second
 pub record IsFirstPair (compared : Compared) (ps : List Point) (parts : List Part) (i j : ℕ) : Type 0 where
   pub is : IsUnmet compared ps parts i j
   pub first : (k l : ℕ) → k < l → l < length parts → (k < i) ⊎ (k ≡ i) × (l < j) → AreMetAt compared ps parts k l
@@ -64,7 +64,7 @@ abbrev pub IsFirstAfter : Compared → List Point → List Part → ℕ → Opti
 IsFirstAfter compared ps parts i found =
     IsUnmetFound compared ps parts i found × ((j : ℕ) → j < length parts → IsPairSettled compared ps parts i found j)
 
--- the same of the parts in the tree alone
+-- the place found is the first of the parts in the tree that is not properly met with the one at i, or there is none
 abbrev pub IsFirstAmong : Compared → List Point → List Part → ℕ → List Node → Option ℕ → Type 0
 IsFirstAmong compared ps parts i nodes found =
     IsUnmetFound compared ps parts i found × All (λ n. IsPairSettled compared ps parts i found n.own.place) nodes

@@ -35,7 +35,8 @@ abbrev pub has_triangle : Part → Part → Bool
 has_triangle (Segment p) (Segment q) = false
 has_triangle p q = true
 
--- so it is, and they are not two triangles of one facet, nor a triangle and a piece in its plane
+-- one of the two is a triangle, and they are not two triangles of one facet, nor a triangle and a later piece in its
+-- plane
 abbrev pub is_across : List Point → Part → Part → Bool
 is_across ps (Triangle t) (Triangle u) = not (t.facet == u.facet)
 is_across ps (Triangle t) (Segment p) = not (lies_in_plane ps t p)

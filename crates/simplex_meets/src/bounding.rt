@@ -33,7 +33,7 @@ pub(crate) fn part_bounds(points: &Points, part: Part) -> Bounds
     }
 }
 
-/// The tree of the boxes of the parts.
+/// The AABB tree of the parts.
 pub(crate) fn part_tree(alloc: Global, points: &Points, parts: &[Part]) -> Result<Tree, NoMemory>
     requires { All (IsPart points.now) parts.now }
     ensures { IfOk result (IsPartTree points.now parts.now) }
@@ -63,7 +63,7 @@ pub(crate) fn unmarked_end(marks: &[bool]) -> usize
     end
 }
 
-/// The tree of the boxes of the parts that are not marked.
+/// The AABB tree of the parts that are not marked.
 pub(crate) fn unmarked_tree(
     alloc: Global,
     points: &Points,

@@ -26,7 +26,7 @@ pub enum Compared {
     Any,
     /// Any two but two pieces.
     WithTriangle,
-    /// The same but for two triangles of one facet, and for a triangle and a later piece in its
+    /// Any two but two pieces, two triangles of one facet, and a triangle and a later piece in its
     /// plane.
     AcrossPlanes,
 }
@@ -70,7 +70,7 @@ fn lies_in_plane(points: &Points, t: FacetTriangle, p: Piece) -> bool
     is_on_plane(points, t, p.a) && is_on_plane(points, t, p.b)
 }
 
-/// Whether one of the two is a triangle.
+/// Whether one of the two parts is a triangle.
 fn has_triangle(p: Part, q: Part) -> bool
     ensures { result ≡ has_triangle p q }
 {
@@ -83,7 +83,7 @@ fn has_triangle(p: Part, q: Part) -> bool
     }
 }
 
-/// Whether one of the two is a triangle, and they are not known to lie in one plane.
+/// Whether one of the two parts is a triangle, and the two are not known to lie in one plane.
 fn is_across(points: &Points, p: Part, q: Part) -> bool
     requires p_is { IsPart points.now p }
     requires q_is { IsPart points.now q }
@@ -98,7 +98,7 @@ fn is_across(points: &Points, p: Part, q: Part) -> bool
     }
 }
 
-/// Whether the two are to be compared.
+/// Whether the two parts are to be compared.
 fn is_compared(points: &Points, compared: Compared, p: Part, q: Part) -> bool
     requires p_is { IsPart points.now p }
     requires q_is { IsPart points.now q }

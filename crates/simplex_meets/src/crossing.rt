@@ -14,11 +14,11 @@ use thiserror::Error;
 /// Why the triangles of facets and the pieces are not a complex.
 #[derive(Clone, Copy, Debug, PartialEq, Eq, Error)]
 pub enum PlaneFault {
-    /// These two are not properly met: they have a common point that is not in the hull of their
-    /// common corners.
+    /// These two parts are not properly met: they have a common point that is not in the hull of
+    /// their common corners.
     #[error("facets or segments cross")]
     Crossing { one: Part, two: Part },
-    /// Want of memory.
+    /// Out of memory.
     #[error("out of memory")]
     NoMemory,
 }
@@ -75,9 +75,9 @@ pub fn crossings(
     }
 }
 
-/// The same as `crossings`, where marked triangles, one mark for each triangle, are known to be
-/// properly met among themselves and with the pieces, and so are triangles of one facet among
-/// themselves and with the pieces in their plane: these are not tested.
+/// As `crossings`, where marked triangles, with one mark for each triangle, are known to be
+/// properly met among themselves and with the pieces, and triangles of one facet among themselves
+/// and with the pieces in their plane: such pairs are not tested.
 pub fn crossings_beside(
     alloc: Global,
     points: &Points,

@@ -1,4 +1,4 @@
-//! The first pair that is not properly met, by a tree of boxes.
+//! The first pair that is not properly met, by an AABB tree.
 ghost use Rattle.std.specs.Prelude.{ℕ, ◌<◌, ◌↔◌, IsTrue, length, All, IfOk, MatchOption};
 ghost use Rattle.simplex_meets.specs.Parts.{IsPart};
 ghost use Rattle.simplex_meets.specs.Boxes.{HasPartBoxes, HasUnmarked, IsPartTree};
@@ -13,7 +13,7 @@ use geo_laws::Points;
 use std::alloc::Global;
 use tet_ports::NoMemory;
 
-/// Whether the place found stands before this one, or is it.
+/// Whether a place was found that is at most `j`.
 fn is_up_to(found: Option<usize>, j: usize) -> bool
     ensures { IsTrue result ↔ IsUpTo found j }
 {
@@ -23,8 +23,8 @@ fn is_up_to(found: Option<usize>, j: usize) -> bool
     }
 }
 
-/// The place found, once the part at j is tested with the one at i. It is not tested where it comes
-/// before that one, or after the place found.
+/// The least place found so far, once the part at `j` is tested with the one at `i`. It is tested
+/// only where `j` is after `i` and before the place found.
 fn settle(
     points: &Points,
     compared: Compared,
@@ -49,8 +49,8 @@ fn settle(
     Some(j)
 }
 
-/// The place of the first part after the one at i, of those in the tree, that is not properly met
-/// with it. Parts are tested only where their boxes overlap that of the one at i.
+/// The place of the first part after the one at `i`, of those in the tree, that is not properly met
+/// with it. Only parts whose boxes overlap its box are tested.
 fn first_among(
     points: &Points,
     compared: Compared,
@@ -76,7 +76,7 @@ fn first_among(
 
 /// The places of the first two parts that are not properly met, of those that are compared, by the
 /// place of the first and then by that of the second; None exactly where any two are. A part is
-/// tested with those alone whose boxes overlap its own, which are found in a tree.
+/// tested only with those whose boxes overlap its own, by an AABB tree.
 pub(crate) fn first_pair(
     alloc: Global,
     points: &Points,
@@ -96,15 +96,15 @@ pub(crate) fn first_pair(
     Ok(None)
 }
 
-/// A tree of the boxes of all parts, and one of those of the parts that are not marked.
+/// The AABB tree of all parts, and that of the parts that are not marked.
 #[derive(Drop)]
 struct Trees {
     whole: Tree,
     unmarked: Tree,
 }
 
-/// The place of the first part after the one at i that is not properly met with it, where any two
-/// marked parts are properly met: a marked part is tested with those alone that are not marked.
+/// The place of the first part after the one at `i` that is not properly met with it, where any two
+/// marked parts are properly met: a marked part is tested only with parts that are not marked.
 fn first_unmet(
     points: &Points,
     compared: Compared,
@@ -128,9 +128,8 @@ fn first_unmet(
     }
 }
 
-/// The same as `first_pair`, where any two marked parts are known to be properly met: those with a
-/// mark, and those past the last mark. Behind the last part that is not marked there is no such
-/// pair, so no box is looked for there.
+/// As `first_pair`, where any two marked parts are known to be properly met; parts past the last
+/// mark count as marked. The search ends at the last part that is not marked.
 pub fn first_unmet_pair(
     alloc: Global,
     points: &Points,

@@ -45,7 +45,7 @@ binary_facet_at facet bytes = if nat_lt (length bytes) 50 then Err (ended facet)
   c ← vertex_at facet bytes 36
   Ok (record { line = facet; a = a; b = b; c = c }))
 
--- so many facets, of which the first has this number, and then the end
+-- *n* facets, of which the first has the number `facet`, and then the end of the bytes
 unfoldable pub facets_to_end : ℕ → ℕ → List ℕ → Result (List StlFacet) TextFault
 facets_to_end zero facet bytes = if length bytes == 0 then Ok [] else Err (extra facet)
 facets_to_end (suc more) facet bytes = do

@@ -52,7 +52,7 @@ off_polygon total lines = do
   corners ← so_many (corner_at line.0.line) count.0 count.1
   Ok (record { line = line.0.line; corners = corners.0 }, line.1)
 
--- a whole text of so many lines
+-- a whole text, with its number of lines
 unfoldable pub off_of : ℕ → Lines → Result Plc TextFault
 off_of total lines = do
   head ← head_of total lines

@@ -7,7 +7,7 @@ use Rattle.grid_coords.specs.declared.points.DecimalPoint.{DecimalPoint}
 use Rattle.node_files.specs.Point.{place_at}
 use Rattle.soup_files.specs.Keyword.{keyword_at}
 
--- what is read of the next content line, and the lines behind it, in a text of so many lines
+-- the value read from the next content line, and the lines behind it, in a text with `total` lines
 unfoldable pub on_line : {X : Type 0} → (ContentLine → Result X TextFault) → ℕ → List ContentLine → Result (X × List ContentLine) TextFault
 on_line read total lines = do
   line ← line_at total lines

@@ -94,7 +94,8 @@ abbrev pub triangles_of : List StlFacet → Plc
 triangles_of facets = surface_of (distinct_vertices (vertices_of facets))
     (map (triangle_in (distinct_vertices (vertices_of facets))) facets)
 
--- a whole text of so many lines. Each facet has lines for itself, so there are at most as many facets as lines
+-- a whole text, with its number of lines. Each facet has lines of its own, so that there are at most as many facets as
+-- lines
 unfoldable pub stl_of : ℕ → Lines → Result Plc TextFault
 stl_of total lines = do
   solid ← solid_line total lines

@@ -31,9 +31,9 @@ fn word_at(bytes: &[u8], i: usize) -> u32
     u32::from_le_bytes([bytes[i], bytes[i + 1], bytes[i + 2], bytes[i + 3]])
 }
 
-/// Whether these are the bytes of a binary `.stl` file, by their number: that is 84 and 50 for each
-/// facet that is counted at its place. The bytes before the count tell nothing, since some files
-/// begin as a text does.
+/// Whether the bytes are those of a binary `.stl` file, by their number, which is 84 and 50 more
+/// for each facet of the count in the head. The bytes before the count decide nothing, since some
+/// binary files begin as a text does.
 pub fn is_binary_stl(bytes: &Bytes) -> bool
     ensures { result ≡ is_binary_stl bytes.now }
 {
@@ -69,8 +69,7 @@ fn corner(facet: usize, bytes: &[u8], i: usize) -> Result<DecimalPoint, TextFaul
     Ok(DecimalPoint { x, y, z, line })
 }
 
-/// The facet that stands at the front of the bytes. Its normal is not read, nor are its last two
-/// bytes.
+/// The facet in the first 50 bytes. Its normal is not read, nor are its last two bytes.
 #[tactic(auto, unfolding(crate::specs::BinaryStl::binary_facet_at))]
 fn facet_at(facet: usize, bytes: &[u8]) -> Result<StlFacet, TextFault>
     ensures value { result ≡ binary_facet_at facet bytes.now }
@@ -86,7 +85,7 @@ fn facet_at(facet: usize, bytes: &[u8]) -> Result<StlFacet, TextFault>
     Ok(StlFacet { line, a, b, c })
 }
 
-/// The bytes behind so many.
+/// The bytes behind the first `count`.
 fn behind(count: usize, bytes: &[u8]) -> &[u8]
     requires { count ≤ length bytes.now }
     ensures { result.now ≡ drop count bytes.now }
@@ -94,7 +93,7 @@ fn behind(count: usize, bytes: &[u8]) -> &[u8]
     &bytes[count..]
 }
 
-/// That no byte is left, where this facet would be the next one.
+/// Requires that no byte is left; else the fault names `facet`, which would be the next one.
 fn want_end(facet: usize, left: &[u8]) -> Result<(), TextFault>
     ensures { result ≡ (if length left.now == 0 then Ok tt else Err (extra facet)) }
 {
@@ -104,7 +103,8 @@ fn want_end(facet: usize, left: &[u8]) -> Result<(), TextFault>
     Err(fault(facet, TextKind::Extra))
 }
 
-/// So many facets, which are all, and their distinct corners, which are put in.
+/// Reads `count` facets, and inserts their corners into the set of points; nothing may follow the
+/// last facet.
 fn read_facets(
     alloc: Global,
     count: u32,
@@ -126,7 +126,7 @@ fn read_facets(
     Ok(triangles)
 }
 
-/// How many facets there are.
+/// Reads the number of facets.
 fn read_count(bytes: &[u8]) -> Result<u32, TextFault>
     ensures value { result ≡ count_in bytes.now }
     ensures whole { IfOk result (λ _. 84 ≤ length bytes.now) }
@@ -153,9 +153,9 @@ fn read_bytes(alloc: Global, bytes: &[u8]) -> Result<PlcText, PlcFault>
 /// The complex of a binary `.stl` file of fewer than 2^32 - 1 bytes: its points are the distinct
 /// corners of its facets, equal as decimals, numbered from 0 in the order in which they are first
 /// found, and each facet is a facet of one triangle. A coordinate is the decimal of its float
-/// (`float_decimal`). Facets are counted from 1, and their numbers stand where a text has lines. Of
-/// the faults it is the first: a facet that is cut off, a coordinate that is no decimal, or bytes
-/// behind the last facet.
+/// (`float_decimal`). Facets are counted from 1, and their numbers take the place of line numbers.
+/// The refusal is the first fault: a facet that is cut off, a coordinate that is no decimal, or
+/// bytes behind the last facet.
 pub fn read_binary_stl(alloc: Global, bytes: &Bytes) -> Result<PlcText, PlcFault>
     requires { length bytes.now < 2 ^ 32 - 1 }
     ensures value { PlcGives (λ text. text) result (binary_stl_of bytes.now) }

@@ -1,4 +1,4 @@
-//! Fields that are wanted: keywords, and coordinates.
+//! Required fields: keywords and coordinates.
 
 ghost use Rattle.std.specs.Prelude.{◌≡◌};
 ghost use Rattle.std.specs.Str.{bytes_eq};
@@ -22,15 +22,15 @@ pub(crate) fn bad_count(fields: &Fields) -> TextFault
     }
 }
 
-/// Whether the bytes of a field are this word.
+/// Whether the bytes of a field are `word`.
 pub(crate) fn is_word(bytes: &[u8], word: &[u8]) -> bool
     ensures { result ≡ bytes_eq bytes.now word.now }
 {
     bytes == word
 }
 
-/// The next field, which is to be this word; BadCount where it is another one, Ended where the line
-/// has no further field.
+/// Reads the next field, which has to be `word`; BadCount where it is another one, Ended where the
+/// line has no further field.
 #[tactic(auto, unfolding(crate::specs::Keyword::keyword_at))]
 pub(crate) fn want_keyword(word: &[u8], fields: &mut Fields) -> Result<(), TextFault>
     ensures value { left_after (λ x. x) result fields.new.fields
@@ -44,7 +44,7 @@ pub(crate) fn want_keyword(word: &[u8], fields: &mut Fields) -> Result<(), TextF
     Err(bad_count(fields))
 }
 
-/// This word, and the end of the line.
+/// Reads `word` and the end of the line.
 #[tactic(auto, unfolding(crate::specs::OnLine::last_word_at))]
 pub(crate) fn want_last_word(word: &[u8], fields: &mut Fields) -> Result<(), TextFault>
     ensures { result ≡ last_word_at word.now fields.old.line fields.old.fields }
@@ -53,7 +53,7 @@ pub(crate) fn want_last_word(word: &[u8], fields: &mut Fields) -> Result<(), Tex
     fields.want_end()
 }
 
-/// The coordinates of a point, and the end of the line.
+/// Reads the coordinates of a point and the end of the line.
 #[tactic(auto, unfolding(crate::specs::OnLine::last_place_at))]
 pub(crate) fn want_last_place(fields: &mut Fields) -> Result<DecimalPoint, TextFault>
     ensures { result ≡ last_place_at fields.old.line fields.old.fields }

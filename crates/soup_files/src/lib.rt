@@ -1,5 +1,5 @@
-//! Surfaces made of faces, the `.off` and `.stl` files, of the latter both the ASCII and the
-//! binary ones.
+//! Readers of surfaces that are given as lists of faces: the `.off` files, and the ASCII and binary
+//! `.stl` files.
 #![tactic(auto)]
 
 mod binary_stl;

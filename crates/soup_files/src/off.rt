@@ -23,7 +23,7 @@ use tet_text::{Fields, Lines, TextFault};
 /// The greatest count: it has 18 digits.
 const MOST_COUNT: u64 = 999_999_999_999_999_999;
 
-/// How many points and how many faces there are. The number of edges is read and not used.
+/// Reads the numbers of points and faces. The number of edges is read and not used.
 #[tactic(auto, unfolding(crate::specs::Off::counts_of))]
 fn read_counts(fields: &mut Fields) -> Result<(u64, u64), TextFault>
     ensures { result ≡ counts_of fields.old }
@@ -60,7 +60,7 @@ fn read_vertex(lines: &mut Lines) -> Result<DecimalPoint, TextFault>
     want_last_place(&mut fields)
 }
 
-/// So many points, one a line.
+/// Reads `count` points, one a line.
 fn read_vertices(alloc: Global, count: u64, lines: &mut Lines) -> Result<DecimalPoints, PlcFault>
     requires { line_total lines.old + 1 < 2 ^ 64 }
     ensures value { PlcGives (λ points. (points, content_left lines.new)) result
@@ -75,7 +75,7 @@ fn read_vertices(alloc: Global, count: u64, lines: &mut Lines) -> Result<Decimal
     Ok(points)
 }
 
-/// So many corners, appended to the last polygon of the complex.
+/// Reads `count` corners, appended to the last polygon of the complex.
 fn read_corners(count: u64, fields: &mut Fields, text: &mut PlcText) -> Result<(), PlcFault>
     requires { LastHasPolygon text.old.facets }
     ensures { PlcGives (λ _. (text.new, fields.new.fields)) result
@@ -89,7 +89,7 @@ fn read_corners(count: u64, fields: &mut Fields, text: &mut PlcText) -> Result<(
     Ok(())
 }
 
-/// A face, appended to the complex. Fields behind its last corner are passed over.
+/// Reads a face, appended to the complex. Fields behind its last corner are skipped.
 #[tactic(auto, unfolding(crate::specs::Off::off_polygon))]
 fn read_face(lines: &mut Lines, text: &mut PlcText) -> Result<(), PlcFault>
     requires { line_total lines.old + 1 < 2 ^ 64 }
@@ -103,7 +103,7 @@ fn read_face(lines: &mut Lines, text: &mut PlcText) -> Result<(), PlcFault>
     read_corners(count, &mut fields, text)
 }
 
-/// So many faces, appended to the complex.
+/// Reads `count` faces, appended to the complex.
 fn read_faces(count: u64, lines: &mut Lines, text: &mut PlcText) -> Result<(), PlcFault>
     requires { line_total lines.old + 1 < 2 ^ 64 }
     ensures value { PlcGives (λ _. (text.new, content_left lines.new)) result

@@ -47,7 +47,7 @@ fn pass_solid(lines: &mut Lines) -> Result<(), TextFault>
     want_keyword(b"solid", &mut fields)
 }
 
-/// The facet by the places of its corners, which are put in where they are not there.
+/// The facet by the places of its corners, which are inserted where they are new.
 pub(crate) fn placed(facet: StlFacet, points: &mut VertexSet) -> Result<Triangle, NoMemory>
     ensures { IfOk result (λ triangle. IsPlacedBy facet points.old triangle points.new) }
 {
@@ -67,7 +67,8 @@ pub(crate) fn placed(facet: StlFacet, points: &mut VertexSet) -> Result<Triangle
     Ok(Triangle { line, a, b, c })
 }
 
-/// The facets up to the line that ends them, and their distinct corners, which are put in.
+/// Reads the facets up to the line that ends them, and inserts their corners into the set of
+/// points.
 fn read_facets(
     alloc: Global,
     lines: &mut Lines,
@@ -103,7 +104,7 @@ fn add_triangle(triangle: Triangle, text: &mut PlcText) -> Result<(), NoMemory>
     text.add_corner(triangle.c.place, triangle.c.line)
 }
 
-/// The complex of these points and triangles.
+/// The complex of the points and triangles.
 pub(crate) fn surface(
     alloc: Global,
     points: &VertexSet,

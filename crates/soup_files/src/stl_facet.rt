@@ -18,7 +18,7 @@ pub(crate) struct StlFacet {
     pub(crate) c: DecimalPoint,
 }
 
-/// The rest of the first line of a facet. The normal is read and not used.
+/// Reads the rest of the first line of a facet. The normal is not used.
 #[tactic(auto, unfolding(crate::specs::Stl::normal_at))]
 fn pass_normal(fields: &mut Fields) -> Result<(), TextFault>
     ensures { result ≡ normal_at fields.old.line fields.old.fields }
@@ -30,7 +30,7 @@ fn pass_normal(fields: &mut Fields) -> Result<(), TextFault>
     fields.want_end()
 }
 
-/// Whether the line begins a further facet; it is else the one that ends the facets.
+/// Whether the line begins a further facet; otherwise it has to be the one that ends the facets.
 #[tactic(auto, unfolding(crate::specs::Stl::more_facets))]
 pub(crate) fn starts_facet(fields: &mut Fields) -> Result<bool, TextFault>
     ensures { result ≡ more_facets fields.old }
@@ -62,7 +62,7 @@ fn read_vertex(fields: &mut Fields) -> Result<DecimalPoint, TextFault>
     want_last_place(fields)
 }
 
-/// The rest of a facet behind its first line, whose number is this one.
+/// Reads the rest of a facet behind its first line, which has the number `line`.
 #[tactic(auto, unfolding(crate::specs::Stl::ascii_facet_of, crate::specs::OnLine::on_line))]
 pub(crate) fn read_facet(line: usize, lines: &mut Lines) -> Result<StlFacet, TextFault>
     requires { line_total lines.old + 1 < 2 ^ 64 }

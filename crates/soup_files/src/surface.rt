@@ -11,7 +11,7 @@ use plc_files::PlcText;
 use std::alloc::Global;
 use tet_ports::{NoMemory, Words};
 
-/// These points, numbered from 0, with no attribute and no marker.
+/// A point list, numbered from 0, with no attribute and no marker.
 pub(crate) fn nodes_at(alloc: Global, points: DecimalPoints) -> NodeText
     requires { length points < 2 ^ 32 - 1 }
     ensures value { result ≡ nodes_at points }
@@ -27,7 +27,7 @@ pub(crate) fn nodes_at(alloc: Global, points: DecimalPoints) -> NodeText
     }
 }
 
-/// Appends a facet of one polygon with no corner yet, whose line is this one.
+/// Appends a facet of one polygon with no corner yet, at `line`.
 pub(crate) fn start_face(line: usize, text: &mut PlcText) -> Result<(), NoMemory>
     ensures { OnOk result (text.new ≡ plus_face (empty_polygon line) text.old) }
 {

@@ -15,7 +15,7 @@ use std::hash::{Hash, Hasher};
 use std::marker::Model;
 use tet_ports::NoMemory;
 
-/// A point that is equal to each one with its coordinates, whatever the lines.
+/// A point, compared by its coordinates alone, whatever its line.
 #[derive(Clone, Copy)]
 pub(crate) struct Vertex {
     pub(crate) point: DecimalPoint,
@@ -57,7 +57,7 @@ impl Hash for Vertex {
     }
 }
 
-/// Points in the order in which they were first put in. Of points with the same coordinates the
+/// Points in the order in which they were first inserted. Of points with the same coordinates the
 /// first stays. Contracts see the list of them.
 #[derive(Drop)]
 pub(crate) struct VertexSet {
@@ -85,7 +85,7 @@ impl VertexSet {
         }
     }
 
-    /// The place of the point, from 0, which is put in unless it is there.
+    /// The place of the point, from 0; it is inserted unless the set has it.
     pub(crate) fn put(&mut self, point: DecimalPoint) -> Result<u64, NoMemory>
         ensures found { OnOk result (self.new ≡ with_vertex self.old point) }
         ensures place { IfOk result (λ place. place ≡ vertex_place self.old point) }

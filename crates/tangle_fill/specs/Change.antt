@@ -1,5 +1,5 @@
--- What a list that was found in any way changes of an old one, the points that are corners of what changed, and the rows of it that have a
--- face among these points: beside any other face stand two old rows, or a face of the hull.
+-- The difference of a candidate list from an old one, the corners of the changed tetrahedra, and the candidate's
+-- tetrahedra that have a face with such corners: any other face lies between two old tetrahedra, or is on the hull.
 use Rattle.std.specs.Prelude.{◌≡◌, ◌⊎◌, ℕ, Bool, false, IsTrue, List, [], ◌∷◌, ◌++◌, All, AllPairs, Contains}
 use Rattle.std.specs.List.{AllByRecursion, list_any}
 use Rattle.sign_predicates.specs.Point.{Point}
@@ -16,51 +16,52 @@ use Rattle.tangle_fill.specs.declared.change.Change.{Change}
 use Rattle.tangle_fill.specs.declared.growth.Growth.{Growth}
 use Rattle.geo_laws.specs.Marks.{is_marked}
 
--- the rows of the list that are not in the other one
+-- the tetrahedra of the list that are not in the other one
 pub record IsRest (list other rest : List Tet) : Type 0 where
   pub within : AreAmong list rest
   pub others : (t : Tet) → Contains list t → Contains other t ⊎ Contains rest t
 
 -- ---- marks at points
 
--- what was marked still is
+-- marked points stay marked
 abbrev pub KeepsMarks : List Bool → List Bool → Type 0
 KeepsMarks old new = (i : ℕ) → IsTrue (is_marked old i) → IsTrue (is_marked new i)
 
--- all corners of the row are marked
+-- all corners of the tetrahedron are marked
 pub record IsMarkedRow (marks : List Bool) (t : Tet) : Type 0 where
   pub a : IsTrue (is_marked marks t.a)
   pub b : IsTrue (is_marked marks t.b)
   pub c : IsTrue (is_marked marks t.c)
   pub d : IsTrue (is_marked marks t.d)
 
--- all corners of the face are
+-- all corners of the face are marked
 pub record IsMarkedFace (marks : List Bool) (f : Face) : Type 0 where
   pub a : IsTrue (is_marked marks f.a)
   pub b : IsTrue (is_marked marks f.b)
   pub c : IsTrue (is_marked marks f.c)
 
--- no face of the row is
+-- no face of the tetrahedron has all corners marked
 abbrev pub HasNoMarkedFace : List Bool → Tet → Type 0
 HasNoMarkedFace marks t = (f : Face) → IsTrue (lies_on f t) → ¬ IsMarkedFace marks f
 
 -- ---- rows near what changed
 
--- the row was added to rows in the least even arrangement, none of which lies with it on one side of a face
+-- the tetrahedron was added to others in the least even arrangement, none of which lies with it on one side of a face
 pub record IsPutApart (before after : Growth) (row : Tet) : Type 0 where
   pub arranged : IsArranged row
   pub rows : after.rows ≡ before.rows ++ row ∷ []
   pub indexed : IsIndexed after
   pub apart : All (λ t. list_any (λ f. lies_on f t) (faces_of row) ≡ false) before.rows
 
--- those of the rows that have a marked face, and maybe more, found by their sides; no two of them on one side of a face
+-- the tetrahedra that have a marked face, and maybe more, indexed by the sides of faces; no two of them on one side of
+-- a face
 pub record HoldsNearRows (marks : List Bool) (rows : List Tet) (near : Growth) : Type 0 where
   pub within : AreAmong rows near.rows
   pub others : (t : Tet) → Contains rows t → Contains near.rows t ⊎ HasNoMarkedFace marks t
   pub one_a_side : AllPairs ShareNoSide near.rows
   pub indexed : IsIndexed near
 
--- the rows that are not in the old list, those of the old list that are not among the rows, and the rows near both
+-- the added tetrahedra, which are not in the old list, the removed ones of the old list, and the tetrahedra near both
 pub record IsChange (ps : List Point) (old : List Tet) (c : Change) : Type 0 where
   pub added : IsRest c.rows old c.added
   pub removed : IsRemoved old c.rows c.removed
@@ -69,10 +70,10 @@ pub record IsChange (ps : List Point) (old : List Tet) (c : Change) : Type 0 whe
   pub removed_marked : All (IsMarkedRow c.marks.items) c.removed.rows
   pub near : HoldsNearRows c.marks.items c.rows c.near
 
--- where the face is marked, a row lies on its positive side, or no point
+-- where the face is marked, a tetrahedron lies on its positive side, or no point
 abbrev pub IsFilledNear : List Point → Change → Face → Type 0
 IsFilledNear ps c f = IsMarkedFace c.marks.items f → IsFilled ps c.rows f
 
--- so it is beyond each face of the row
+-- across each marked face of the tetrahedron lies another one, or no point
 abbrev pub IsClosedNear : List Point → Change → Tet → Type 0
 IsClosedNear ps c t = AllByRecursion (λ f. IsFilledNear ps c (reversed f)) (faces_of t)

@@ -1,4 +1,5 @@
-//! Whether a list of tetrahedra, found in any way, is the Delaunay list refilled round the facets.
+//! The test of a list of tetrahedra, however it was found: whether it is the Delaunay list refilled
+//! round the facets.
 ghost use Rattle.std.specs.Prelude.{◌^◌, ◌-◌, ◌<◌, length, IsTrue, IfOk, IfSome, All, AllPairs, Contains};
 ghost use Rattle.sign_predicates.specs.Orientation.{IsPositive};
 ghost use Rattle.geo_laws.specs.Delaunay.{corners, IsOn, IsDelaunayList, RowBefore};
@@ -24,15 +25,15 @@ use geo_laws::{Face, FacetTriangle, FacetTriangles, Points, Tet, TetList, face_o
 use std::alloc::Global;
 use tet_ports::{Items, NoMemory};
 
-/// Whether the row is found in the list, which is in order.
+/// Whether a binary search finds the tetrahedron in the list, which is in order.
 fn holds_row(list: &TetList, row: Tet) -> bool
     ensures { IsTrue result → Contains list.now row }
 {
     matches!(list.as_slice().binary_search(&row), Ok(_))
 }
 
-/// Whether a row of the Delaunay list has the face behind it, and none that was removed lies on its
-/// positive side. The row is one of those that have the face behind it.
+/// Whether `f` is the face of a Delaunay tetrahedron on its negative side, and no removed
+/// tetrahedron lies on its positive side. `row` lies on its negative side.
 fn is_bare_side(list: &TetList, removed: &Growth, row: Tet, f: Face) -> bool
     requires indexed { IsIndexed removed.now }
     requires within { AreAmong list.now removed.now.rows }
@@ -49,9 +50,9 @@ fn is_bare_side(list: &TetList, removed: &Growth, row: Tet, f: Face) -> bool
     holds_row(list, row)
 }
 
-/// Whether a row lies on the face's positive side, or no point does. The row lies on its other
-/// side. Beyond most such faces no point lies because they were faces of the hull before; all
-/// points are looked at where that does not tell.
+/// Whether a tetrahedron lies on the positive side of `f`, or no point does; a face with a corner
+/// that is not marked passes. `row` lies on the negative side. Most faces without a tetrahedron
+/// were faces of the hull before; only for the others all points are tested.
 fn is_filled(points: &Points, list: &TetList, change: &Change, row: Tet, f: Face) -> bool
     requires few { length points.now < 2 ^ 32 - 1 }
     requires delaunay { IsDelaunayList points.now list.now }
@@ -72,7 +73,7 @@ fn is_filled(points: &Points, list: &TetList, change: &Change, row: Tet, f: Face
     !has_point_on(points, f)
 }
 
-/// Whether across each marked face of the row lies a row, or no point.
+/// Whether a tetrahedron lies across each marked face of `row`, or no point does.
 fn is_closed(points: &Points, list: &TetList, change: &Change, row: Tet) -> bool
     requires few { length points.now < 2 ^ 32 - 1 }
     requires delaunay { IsDelaunayList points.now list.now }
@@ -87,7 +88,7 @@ fn is_closed(points: &Points, list: &TetList, change: &Change, row: Tet) -> bool
         && is_filled(points, list, change, row, Face { a, b: c, c: b })
 }
 
-/// Whether so it is with each row that is near.
+/// Whether every tetrahedron near the change is closed.
 fn are_closed(points: &Points, list: &TetList, change: &Change) -> bool
     requires few { length points.now < 2 ^ 32 - 1 }
     requires delaunay { IsDelaunayList points.now list.now }
@@ -103,7 +104,7 @@ fn are_closed(points: &Points, list: &TetList, change: &Change) -> bool
     true
 }
 
-/// Whether the facet triangle is a face of a row.
+/// Whether the facet triangle is a face of a tetrahedron.
 fn has_triangle(growth: &Growth, k: FacetTriangle) -> bool
     requires { IsIndexed growth.now }
     ensures { IsTrue result → HasTriangle growth.now.rows k }
@@ -118,7 +119,7 @@ fn has_triangle(growth: &Growth, k: FacetTriangle) -> bool
     false
 }
 
-/// Whether each facet triangle is a face of a row.
+/// Whether each facet triangle is a face of a tetrahedron.
 fn has_triangles(growth: &Growth, triangles: &FacetTriangles) -> bool
     requires { IsIndexed growth.now }
     ensures { IsTrue result → All (HasTriangle growth.now.rows) triangles.now }
@@ -140,8 +141,8 @@ fn likely_at(likely: &Items<usize>, place: usize, last: usize) -> usize {
     }
 }
 
-/// Whether facets cross each of the positive rows. First looked at for each row is the facet
-/// triangle at the place that stands for it in `likely`, where one does.
+/// Whether facets cross each of the positive tetrahedra. The facet triangle that `likely` names for
+/// a tetrahedron is tested first.
 fn are_crossed(
     alloc: Global,
     points: &Points,
@@ -178,14 +179,14 @@ fn triangle_faces(alloc: Global, triangles: &FacetTriangles) -> Result<Items<Fac
     Ok(faces)
 }
 
-/// Whether the face is found among these, which are in order.
+/// Whether a binary search finds the face among the faces, which are in order.
 fn holds_face(faces: &Items<Face>, face: Face) -> bool
     ensures { IsTrue result → Contains faces.now face }
 {
     matches!(faces.as_slice().binary_search(&face), Ok(_))
 }
 
-/// Whether the rows are locally Delaunay, or the face is among the faces.
+/// Whether `s` and `t` are locally Delaunay across `face`, or `face` is a subface.
 fn is_even_pair(points: &Points, faces: &Items<Face>, s: Tet, t: Tet, face: Face) -> bool
     requires first { IsOn points.now s }
     requires second { IsOn points.now t }
@@ -194,8 +195,8 @@ fn is_even_pair(points: &Points, faces: &Items<Face>, s: Tet, t: Tet, face: Face
     are_outside(points, s, t) || holds_face(faces, face)
 }
 
-/// Whether so it is with the row and the one on the positive side of `across`, which is one side of
-/// the face.
+/// Whether `row` and the tetrahedron on the positive side of `across`, which is one side of `face`,
+/// are locally Delaunay, or `face` is a subface.
 fn is_even_to(
     points: &Points,
     faces: &Items<Face>,
@@ -215,7 +216,7 @@ fn is_even_to(
     }
 }
 
-/// Whether so it is with the row and the one on the other side of the face of it.
+/// Whether `row` and its neighbor across `face` are locally Delaunay, or `face` is a subface.
 fn is_even_at(points: &Points, faces: &Items<Face>, growth: &Growth, row: Tet, face: Face) -> bool
     requires paired { IsPairedGrowth points.now growth.now }
     requires row { Contains growth.now.rows row }
@@ -229,7 +230,7 @@ fn is_even_at(points: &Points, faces: &Items<Face>, growth: &Growth, row: Tet, f
     }
 }
 
-/// Whether so it is with both faces.
+/// Whether `row` is locally Delaunay across both faces, subfaces aside.
 fn are_even_at(
     points: &Points,
     faces: &Items<Face>,
@@ -246,7 +247,7 @@ fn are_even_at(
     is_even_at(points, faces, growth, row, one) && is_even_at(points, faces, growth, row, two)
 }
 
-/// Whether so it is with each face of the row.
+/// Whether `row` is locally Delaunay across each of its faces, subfaces aside.
 fn is_even_row(points: &Points, faces: &Items<Face>, growth: &Growth, row: Tet) -> bool
     requires paired { IsPairedGrowth points.now growth.now }
     requires row { Contains growth.now.rows row }
@@ -260,7 +261,7 @@ fn is_even_row(points: &Points, faces: &Items<Face>, growth: &Growth, row: Tet) 
         && are_even_at(points, faces, growth, row, opposite_c, opposite_d)
 }
 
-/// Whether so it is with each of these rows.
+/// Whether each tetrahedron of `rows` is locally Delaunay across each of its faces, subfaces aside.
 fn are_even(points: &Points, faces: &Items<Face>, growth: &Growth, rows: &TetList) -> bool
     requires paired { IsPairedGrowth points.now growth.now }
     requires rows { AreAmong growth.now.rows rows.now }
@@ -274,8 +275,8 @@ fn are_even(points: &Points, faces: &Items<Face>, growth: &Growth, rows: &TetLis
     true
 }
 
-/// Whether rows are locally Delaunay across their common faces that are no facet triangles. Two of
-/// the Delaunay list are.
+/// Whether the tetrahedra are locally Delaunay across their common faces that are no subface. Only
+/// pairs with a tetrahedron that is not of the Delaunay list are tested: two of that list are.
 fn are_smooth(
     alloc: Global,
     points: &Points,
@@ -293,7 +294,7 @@ fn are_smooth(
     Ok(are_even(points, &faces, &change.near, &change.added))
 }
 
-/// Whether no other one of the rows holds the nudged centroid of the row.
+/// Whether no other tetrahedron of `rows` holds the nudged centroid of `row`.
 fn is_alone_among(points: &Points, rows: &TetList, row: Tet) -> bool
     requires on { All (IsOn points.now) rows.now }
     requires row { IsOn points.now row }
@@ -302,8 +303,9 @@ fn is_alone_among(points: &Points, rows: &TetList, row: Tet) -> bool
     other_round(points, rows, row).is_none()
 }
 
-/// Whether the row alone holds its nudged centroid. Two rows of the Delaunay list never hold the
-/// same.
+/// Whether `row` is the only tetrahedron of the candidate that holds its nudged centroid. Two of
+/// the Delaunay list never hold one point off all face planes, so a `row` of that list is compared
+/// with the added tetrahedra alone.
 fn is_alone(points: &Points, list: &TetList, change: &Change, row: Tet) -> bool
     requires delaunay { IsDelaunayList points.now list.now }
     requires change { IsChange points.now list.now change.now }
@@ -317,7 +319,8 @@ fn is_alone(points: &Points, list: &TetList, change: &Change, row: Tet) -> bool
     }
 }
 
-/// Whether there is a row, and the first one alone holds its nudged centroid.
+/// Whether the candidate has a tetrahedron, and its first one is the only one that holds its own
+/// nudged centroid.
 fn is_single(points: &Points, list: &TetList, change: &Change) -> bool
     requires delaunay { IsDelaunayList points.now list.now }
     requires change { IsChange points.now list.now change.now }
@@ -331,7 +334,7 @@ fn is_single(points: &Points, list: &TetList, change: &Change) -> bool
     is_alone(points, list, change, rows.at(0))
 }
 
-/// Whether the rows are all that a refilled list is to be, by what they change.
+/// Whether the candidate is the refilled list, by tests of what it changes.
 fn is_refilled(
     alloc: Global,
     points: &Points,
@@ -365,8 +368,8 @@ fn is_refilled(
     Ok(smooth)
 }
 
-/// As `accepted`. For each row that the Delaunay list alone has, in order, `likely` may have the
-/// place of a facet triangle that enters it.
+/// As `accepted`. For each tetrahedron that only the Delaunay list has, in order, `likely` may have
+/// the place of a facet triangle that enters it.
 pub(crate) fn accepted_by(
     alloc: Global,
     points: &Points,
@@ -392,9 +395,9 @@ pub(crate) fn accepted_by(
 }
 
 /// The candidate in order, where it is the Delaunay list refilled round the facets; None where the
-/// tests do not tell so. How it was found does not matter: each row that the Delaunay list has not
-/// is looked at by itself and across its faces, so no search for points is needed, and of the
-/// other rows only those near what changed.
+/// tests do not show this. However it was found, each tetrahedron that is not of the Delaunay list
+/// is tested alone and across its faces, so that no search for points is needed, and of the others
+/// only those near the change.
 pub fn accepted(
     alloc: Global,
     points: &Points,

@@ -1,5 +1,4 @@
-//! What a list that was found in any way changes of the Delaunay list, and the rows near what
-//! changed.
+//! The difference of a candidate list from the Delaunay list, and the tetrahedra near it.
 ghost use Rattle.std.specs.Prelude.{◌≡◌, false, IsTrue, IfOk, IfSome, OnOk, All, Contains};
 ghost use Rattle.sign_predicates.specs.Orientation.{IsPositive};
 ghost use Rattle.geo_laws.specs.Delaunay.{IsOn, IsArranged};
@@ -27,7 +26,8 @@ fn is_on(points: &Points, row: Tet) -> bool
         && (row.d as usize) < count
 }
 
-/// Whether the row is positive, on the points and in the least even arrangement.
+/// Whether the row's corners are points of the list, its tetrahedron is positive, and it is in the
+/// least even arrangement.
 fn is_any_row(points: &Points, row: Tet) -> bool
     ensures { IsTrue result → IsRow points.now row }
 {
@@ -38,7 +38,7 @@ fn is_any_row(points: &Points, row: Tet) -> bool
     }
 }
 
-/// Whether each row is.
+/// Whether each row is positive, on the points and in the least even arrangement.
 fn are_rows(points: &Points, rows: &TetList) -> bool
     ensures { IsTrue result → AreArrangedRows points.now rows.now }
 {
@@ -50,7 +50,8 @@ fn are_rows(points: &Points, rows: &TetList) -> bool
     true
 }
 
-/// The first place from this one on at which the row of the list does not stand before the row.
+/// The first place from `from` on at which the list's row is not less than `row`, or the list's
+/// length.
 fn place_from(list: &TetList, from: usize, row: Tet) -> usize {
     for k in from..list.len() {
         if list.at(k) >= row {
@@ -60,7 +61,7 @@ fn place_from(list: &TetList, from: usize, row: Tet) -> usize {
     list.len()
 }
 
-/// Whether the row stands at the place in the list.
+/// Whether the list has the row at the place.
 fn is_at(list: &TetList, place: usize, row: Tet) -> bool
     ensures { IsTrue result → Contains list.now row }
 {
@@ -70,8 +71,7 @@ fn is_at(list: &TetList, place: usize, row: Tet) -> bool
     list.at(place) == row
 }
 
-/// The rows of the list that are not in the other one. Both are in order, so one walk along both
-/// tells.
+/// The rows of the list that are not in the other one, by one pass over both, which are in order.
 fn rest_of(alloc: Global, list: &TetList, other: &TetList) -> Result<TetList, NoMemory>
     ensures { IfOk result (IsRest list.now other.now) }
 {
@@ -87,7 +87,7 @@ fn rest_of(alloc: Global, list: &TetList, other: &TetList) -> Result<TetList, No
     Ok(rest)
 }
 
-/// The rows by the sides of faces on which they lie.
+/// The tetrahedra, indexed by the sides of faces on which they lie.
 fn indexed(alloc: Global, rows: &TetList) -> Result<Growth, NoMemory>
     ensures rows { IfOk result (λ growth. growth.rows ≡ rows.now) }
     ensures indexed { IfOk result IsIndexed }
@@ -112,7 +112,7 @@ fn mark(marks: &mut Vec<bool>, number: u32) -> Result<(), NoMemory>
     Ok(())
 }
 
-/// Marks the corners of the row.
+/// Marks the corners of the tetrahedron.
 fn mark_row(marks: &mut Vec<bool>, row: Tet) -> Result<(), NoMemory>
     ensures marked { OnOk result (IsMarkedRow marks.new.items row) }
     ensures kept { OnOk result (KeepsMarks marks.old.items marks.new.items) }
@@ -124,7 +124,7 @@ fn mark_row(marks: &mut Vec<bool>, row: Tet) -> Result<(), NoMemory>
     Ok(())
 }
 
-/// Marks the corners of all the rows.
+/// Marks the corners of all tetrahedra.
 fn mark_rows(marks: &mut Vec<bool>, rows: &TetList) -> Result<(), NoMemory>
     ensures marked { OnOk result (All (IsMarkedRow marks.new.items) rows.now) }
     ensures kept { OnOk result (KeepsMarks marks.old.items marks.new.items) }
@@ -135,7 +135,7 @@ fn mark_rows(marks: &mut Vec<bool>, rows: &TetList) -> Result<(), NoMemory>
     Ok(())
 }
 
-/// Marks the corners of the triangles, so that rows with these as faces are near too.
+/// Marks the corners of the triangles, so that the tetrahedra with these as faces count as near.
 fn mark_triangles(marks: &mut Vec<bool>, triangles: &FacetTriangles) -> Result<(), NoMemory>
     ensures { OnOk result (KeepsMarks marks.old.items marks.new.items) }
 {
@@ -148,7 +148,8 @@ fn mark_triangles(marks: &mut Vec<bool>, triangles: &FacetTriangles) -> Result<(
     Ok(())
 }
 
-/// Marks at the points, of which there are so many, that are corners of the rows or of triangles.
+/// Marks the corners of the added tetrahedra, of the removed ones and of the triangles, among
+/// `count` points.
 fn marks_of(
     alloc: Global,
     count: usize,
@@ -182,7 +183,8 @@ pub(crate) fn is_marked_face(marks: &[bool], f: Face) -> bool
     is_marked(marks, f.a) && is_marked(marks, f.b) && is_marked(marks, f.c)
 }
 
-/// Whether three corners of the row are marked. Else no face of it has all corners marked.
+/// Whether three corners of the tetrahedron are marked; if not, no face of it has all corners
+/// marked.
 fn has_three(marks: &[bool], row: Tet) -> bool
     ensures { result ≡ false → HasNoMarkedFace marks.now row }
 {
@@ -193,8 +195,8 @@ fn has_three(marks: &[bool], row: Tet) -> bool
     u8::from(a) + u8::from(b) + u8::from(c) + u8::from(d) > 2
 }
 
-/// Appends a row; whether it is in the least even arrangement and lies with no other on one side of
-/// a face.
+/// Appends a tetrahedron, and answers whether its row is in the least even arrangement and no other
+/// lies with it on one side of a face.
 fn put_near(near: &mut Growth, row: Tet) -> Result<bool, NoMemory>
     requires indexed { IsIndexed near.old }
     requires arranged { All IsArranged near.old.rows }
@@ -206,8 +208,8 @@ fn put_near(near: &mut Growth, row: Tet) -> Result<bool, NoMemory>
     near.put_apart(row)
 }
 
-/// The rows with a marked face, likely so many; None where two of them lie on one side of a face,
-/// or one is not in the least even arrangement.
+/// The tetrahedra with three marked corners, with room for `likely` of them; None where two lie on
+/// one side of a face, or a row is not in the least even arrangement.
 fn near_of(
     alloc: Global,
     marks: &[bool],
@@ -228,8 +230,9 @@ fn near_of(
     Ok(Some(near))
 }
 
-/// Rows beside a Delaunay list: those that it has not, those of it that they lack, the points that
-/// are corners of these and of facet triangles, and the rows that have a face among those points.
+/// A candidate beside a Delaunay list: its tetrahedra, those added and those removed, marks for the
+/// corners of these and of the facet triangles, and the tetrahedra near the change, which have a
+/// face with marked corners.
 #[derive(Drop)]
 pub(crate) struct Change {
     pub(crate) rows: TetList,
@@ -239,8 +242,9 @@ pub(crate) struct Change {
     pub(crate) near: Growth,
 }
 
-/// What rows in order change of a Delaunay list; None where a row that it has not is no positive
-/// row of the points in the least even arrangement, or two rows lie on one side of a face.
+/// The difference of a candidate, in order, from a Delaunay list; None where an added tetrahedron
+/// is not positive, not on the points or its row not in the least even arrangement, or two
+/// tetrahedra near the change lie on one side of a face.
 pub(crate) fn change_of(
     alloc: Global,
     points: &Points,

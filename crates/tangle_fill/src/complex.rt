@@ -1,4 +1,4 @@
-//! The points and the facet triangles, with the trees of the boxes round them.
+//! The points and the facet triangles, with their AABB trees.
 ghost use Rattle.std.specs.Prelude.{◌^◌, ◌-◌, ◌<◌, length};
 ghost use Rattle.box_tree.specs.Bodies.{IsPointTree, IsTriangleTree};
 ghost use Rattle.tangle_fill.specs.Fill.{AreFacetTriangles};
@@ -6,8 +6,8 @@ ghost use Rattle.tangle_fill.specs.Fill.{AreFacetTriangles};
 use box_tree::Tree;
 use geo_laws::{FacetTriangles, Points};
 
-/// The points, whose numbers have 32 bits, the triangles of the facets on them, and the trees of
-/// the boxes of both, in which what is near a tetrahedron is found.
+/// The points, whose numbers have 32 bits, the triangles of the facets on them, and the AABB trees
+/// of both, for searches near a tetrahedron.
 #[derive(Drop)]
 pub(crate) struct IndexedComplex<'a> {
     pub(crate) points: &'a Points,

@@ -1,4 +1,4 @@
-//! Rows that grow, and the sides of faces on which they lie.
+//! The tetrahedra of a gift wrapping, indexed by the sides of faces on which they lie.
 ghost use Rattle.std.specs.Prelude.{◌≡◌, [], ◌∷◌, ◌++◌, ◌==◌, ◌&&◌, None, IsTrue, All, Contains, MatchOption, IfOk, OnOk, false};
 ghost use Rattle.std.specs.List.{list_any};
 ghost use Rattle.std.specs.Hash as fed;
@@ -19,7 +19,7 @@ use std::alloc::Global;
 use std::hash::{Hash, Hasher};
 use tet_ports::NoMemory;
 
-/// A side of a face: its corners in this order.
+/// A side of a face, by the order of the corners.
 #[derive(Clone, Copy)]
 pub(crate) struct FaceSide {
     pub(crate) face: Face,
@@ -51,8 +51,8 @@ impl Hash for FaceSide {
     }
 }
 
-/// The face with its corners in the same cyclic order, the least one first, as in a row in its
-/// least even arrangement.
+/// The face with its corners in the same cyclic order, the least one first, as the faces of a row
+/// in its least even arrangement have them.
 fn turned(f: Face) -> Face
     ensures { (t : Tet) → lies_on (as_oriented result) t ≡ lies_on (as_oriented f) t }
 {
@@ -67,8 +67,9 @@ fn turned(f: Face) -> Face
     }
 }
 
-/// Rows in the order in which they were added, and the row that lies on each side of a face, where
-/// one does. A side is kept by the corners in the order that its row has.
+/// Tetrahedra in the order in which they were added, and the tetrahedron on each side of a face,
+/// where there is one. The key of a side is its corners in the order that the tetrahedron gives
+/// them.
 #[derive(Drop)]
 pub(crate) struct Growth {
     pub(crate) rows: TetList,
@@ -76,7 +77,7 @@ pub(crate) struct Growth {
 }
 
 impl Growth {
-    /// No row yet.
+    /// No tetrahedron yet.
     pub(crate) fn new(alloc: Global) -> Self
         ensures rows { result.rows ≡ [] }
         ensures indexed { IsIndexed result }
@@ -87,7 +88,7 @@ impl Growth {
         }
     }
 
-    /// No row yet, with room for so many.
+    /// No tetrahedron yet, with room for `count` of them.
     pub(crate) fn with_room(alloc: Global, count: usize) -> Result<Self, NoMemory>
         ensures rows { IfOk result (λ growth. growth.rows ≡ []) }
         ensures indexed { IfOk result IsIndexed }
@@ -97,15 +98,15 @@ impl Growth {
         Ok(Growth { rows, sides })
     }
 
-    /// The row that is kept for these corners in this order.
+    /// The tetrahedron that the index has for the corners in this order.
     fn row_of(&self, face: Face) -> Option<Tet>
         ensures { result ≡ get same_face_side self.now.sides (record { face = face }) }
     {
         self.sides.get(&FaceSide { face }).copied()
     }
 
-    /// The row that lies on the face's positive side; None where none does. The order of the
-    /// corners that most rows keep is looked for first.
+    /// The tetrahedron on the face's positive side; None where none is there. The order of the
+    /// corners that most tetrahedra give is looked up first.
     pub(crate) fn row_on(&self, f: Face) -> Option<Tet>
         requires { IsIndexed self.now }
         ensures { MatchOption result (All (λ t. lies_on (as_oriented f) t ≡ false) self.now.rows)
@@ -114,7 +115,8 @@ impl Growth {
         self.row_round(turned(f))
     }
 
-    /// The same, by the corners in this order, and turned once and twice.
+    /// The tetrahedron on the face's positive side, by the corners in their order, rotated once,
+    /// and rotated twice.
     fn row_round(&self, f: Face) -> Option<Tet>
         requires { IsIndexed self.now }
         ensures { MatchOption result (All (λ t. lies_on (as_oriented f) t ≡ false) self.now.rows)
@@ -130,7 +132,7 @@ impl Growth {
         self.row_of(Face { a: c, b: a, c: b })
     }
 
-    /// A row that lies with this one on one side of a face; None where each lies apart.
+    /// A tetrahedron on the same side of a face as `row`; None where there is none.
     pub(crate) fn rival(&self, row: Tet) -> Option<Tet>
         requires { IsIndexed self.now }
         ensures { MatchOption result (All (λ t. list_any (λ f. lies_on f t) (faces_of row)
@@ -150,7 +152,8 @@ impl Growth {
         self.row_on(Face { a, b, c })
     }
 
-    /// Keeps the row for the corners of a face of it; whether none was kept for them.
+    /// Enters the tetrahedron for a face of it, and answers whether none was entered for that side
+    /// before.
     fn put_side(&mut self, face: Face, row: Tet) -> Result<bool, NoMemory>
         ensures rows { OnOk result (self.new.rows ≡ self.old.rows) }
         ensures put { OnOk result (IsSidePut self.old.sides self.new.sides
@@ -162,7 +165,7 @@ impl Growth {
         Ok(kept.is_none())
     }
 
-    /// Appends the row.
+    /// Appends the tetrahedron.
     pub(crate) fn put(&mut self, row: Tet) -> Result<(), NoMemory>
         requires { IsIndexed self.old }
         ensures rows { OnOk result (self.new.rows ≡ self.old.rows ++ row ∷ []) }
@@ -177,8 +180,8 @@ impl Growth {
         Ok(())
     }
 
-    /// Appends the row; whether it lies with no other on one side of a face. All rows have their
-    /// least corner first, and so their faces have.
+    /// Appends the tetrahedron, and answers whether no other lies with it on one side of a face.
+    /// All rows have their least corner first, and so have their faces.
     pub(crate) fn put_apart(&mut self, row: Tet) -> Result<bool, NoMemory>
         requires indexed { IsIndexed self.old }
         requires arranged { All IsArranged self.old.rows }

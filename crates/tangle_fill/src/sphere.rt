@@ -1,4 +1,4 @@
-//! A box round the sphere through the corners of a row.
+//! A box round the circumsphere of a tetrahedron.
 ghost use Rattle.std.specs.Prelude.{◌^◌, ◌≤◌, ℤ, ◌-ℤ◌, unsigned_abs, IfSome};
 ghost use Rattle.sign_predicates.specs.Orientation.{IsPositive};
 ghost use Rattle.geo_laws.specs.Delaunay.{corners, IsOn};
@@ -9,7 +9,7 @@ use box_tree::{Bounds, Interval};
 use geo_laws::{Points, Tet, corners_of};
 use sign_predicates::{GridPoint, sphere_reach};
 
-/// The interval of the numbers that differ by no more than the reach from a coordinate of the grid.
+/// The interval of the numbers that differ by at most `reach` from a coordinate of the grid.
 fn around(x: i32, reach: u32) -> Interval
     requires coordinate { unsigned_abs x ≤ 2 ^ 29 }
     requires reach { reach ≤ 2 ^ 30 }
@@ -21,8 +21,8 @@ fn around(x: i32, reach: u32) -> Interval
     }
 }
 
-/// A box that holds all points that are not outside of the row; None where it would be wider than
-/// the grid.
+/// A box that holds all points that are not outside of the circumsphere; None where it would be
+/// wider than the grid.
 pub(crate) fn sphere_bounds(points: &Points, row: Tet) -> Option<Bounds>
     requires on { IsOn points.now row }
     requires positive { IsPositive (corners points.now row) }
@@ -45,7 +45,7 @@ fn span_of(a: i32, b: i32, c: i32) -> Interval {
     }
 }
 
-/// The interval with this much more at both ends.
+/// The interval, wider by `by` at both ends.
 fn widened(i: Interval, by: u32) -> Interval {
     Interval {
         low: i.low.saturating_sub_unsigned(by),
@@ -65,7 +65,7 @@ pub(crate) fn greatest_width(a: GridPoint, b: GridPoint, c: GridPoint) -> u32 {
     x.max(y).max(z)
 }
 
-/// The box of three points with its greatest width more on each side.
+/// The box of three points, wider by its greatest width on each side.
 pub(crate) fn face_surroundings(a: GridPoint, b: GridPoint, c: GridPoint) -> Bounds {
     let more = greatest_width(a, b, c);
     Bounds {

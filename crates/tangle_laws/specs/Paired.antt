@@ -1,5 +1,5 @@
--- Lists of tetrahedra that were made in any way, and are told to be right by their faces: no two on one side of a face, one across each
--- face, or no point. Nothing is asked of the spheres of their rows, nor how the list was found.
+-- Lists of tetrahedra, however they were made, that are shown to be right by their faces: no two on one side of a face,
+-- one across each face, or no point. Nothing is required of the circumspheres.
 use Rattle.std.specs.Prelude.{IsTrue, List, All, AllPairs, Any, Contains}
 use Rattle.std.specs.List.{AllByRecursion}
 use Rattle.sign_predicates.specs.Point.{Point}
@@ -13,8 +13,8 @@ use Rattle.tangle_laws.specs.Tangle.{has_face_either_way, facet_face}
 use Rattle.tangle_laws.specs.Growth.{ShareNoSide, IsFilled, IsAlone, Ascend, IsSmooth, IsGrownList}
 use Rattle.geo_laws.specs.Facet.{IsUncrossed}
 
--- Ascending positive rows, among them the uncrossed ones of the old list, no two of which lie on one side of a face; across each face lies
--- a row, or no point; each facet triangle is a face
+-- Ascending positive tetrahedra, among them the uncrossed ones of the old list, no two of which lie on one side of a face; across each face
+-- lies a tetrahedron, or no point; each facet triangle is a face
 pub record IsPaired (ps : List Point) (ts : List FacetTriangle) (old rows : List Tet) : Type 0 where
   pub positive : All (λ t. IsOn ps t × IsPositive (corners ps t) × IsArranged t) rows
   pub ascending : AllPairs RowBefore rows
@@ -23,8 +23,8 @@ pub record IsPaired (ps : List Point) (ts : List FacetTriangle) (old rows : List
   pub across : All (λ t. AllByRecursion (λ f. IsFilled ps rows (reversed f)) (faces_of t)) rows
   pub facets : All (λ k. Any (λ t. IsTrue (has_face_either_way (facet_face k) t)) rows) ts
 
--- A paired list in which one row alone holds its centroid, locally Delaunay across each common face that is no facet triangle, keeps the
--- whole promise of a refilled list
+-- A paired list in which some tetrahedron is the only one that holds its nudged centroid, locally Delaunay across each
+-- common face that is no facet triangle, keeps the whole promise of a refilled list
 abbrev pub PairedListLaw : Type 0
 PairedListLaw = (ps : List Point) (ts : List FacetTriangle) (old rows : List Tet) → Ascend ts → IsPaired ps ts old rows
     → (t : Tet) → Contains rows t → IsAlone ps rows t → IsSmooth ps ts rows → IsGrownList ps ts old rows

@@ -28,7 +28,7 @@ impl Calls {
         self.failing = Some(nth);
     }
 
-    /// Counts one more call, and tells whether it is to fail.
+    /// Counts one more call, and answers whether it is to fail.
     pub(crate) fn count(&mut self) -> bool
         ensures counted { self.new ≡ one_more self.old }
         ensures fails { IsTrue result ↔ IsNextFailing self.old }

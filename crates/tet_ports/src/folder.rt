@@ -21,10 +21,11 @@ pub enum FetchFault {
     /// The folder failed.
     #[error("read failed")]
     Failed,
-    /// The file is longer than was allowed. `taken` has its first bytes, one more than that.
+    /// The file is longer than was allowed. `taken` has its first bytes, one more than were
+    /// allowed.
     #[error("too long")]
     TooLarge { taken: Bytes },
-    /// Want of memory.
+    /// Out of memory.
     #[error("out of memory")]
     NoMemory,
 }
@@ -43,7 +44,7 @@ pub enum StoreFault {
     /// The folder failed.
     #[error("write failed")]
     Failed,
-    /// Want of memory.
+    /// Out of memory.
     #[error("out of memory")]
     NoMemory,
 }

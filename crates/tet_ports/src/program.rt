@@ -31,7 +31,7 @@ where
 }
 
 /// The arguments after the program's own name; one empty word, which no program understands, where
-/// they can't be read as text. It refuses for want of memory.
+/// they can't be read as text. It refuses when out of memory.
 fn words_of(rt: &HostRuntime) -> Result<Words, NoMemory> {
     match env::args(rt) {
         Ok(args) => {

@@ -15,7 +15,7 @@ pub enum PutFault {
     /// The sink failed.
     #[error("write failed")]
     Failed,
-    /// Want of memory.
+    /// Out of memory.
     #[error("out of memory")]
     NoMemory,
 }
@@ -30,8 +30,8 @@ impl From<NoMemory> for PutFault {
 
 /// Takes bytes, such as the lines of a program's output.
 pub trait Sink {
-    /// What it shows of itself: the bytes that it has taken, where it tells them; how often a put has
-    /// failed; and how many puts were refused for want of memory. Each count stays at the last value
+    /// What it shows of itself: the bytes that it has taken, where it tells them; how often a put
+    /// has failed; and how many puts were refused out of memory. Each count stays at the last value
     /// of a u64.
     ghost state: { Self → SinkState };
 

@@ -189,8 +189,8 @@ fn counts(alloc: Global, bound: Ratio, most: i128) -> Option<(usize, usize)>
     ))
 }
 
-/// Of the three rows the squares of the radius over the shortest edge are 9 / 4, 83 / 10 and 3 / 2,
-/// and six times the volume is 32, 162 and 2.
+/// The three tetrahedra have 9 / 4, 83 / 10 and 3 / 2 as the squares of the radius over the
+/// shortest edge, and 32, 162 and 2 as six times the volume.
 static COUNTS: [(u32, u32, i128, usize, usize); 6] = [
     (3, 1, 162, 0, 0),
     (288, 100, 161, 1, 1),

@@ -73,7 +73,8 @@ below_limit n = if nat_lt n (10 ^ 36) then Some n else None
 unfoldable pub scaled_of : ℕ → ℕ → ℕ → Option (ℕ × ℕ)
 scaled_of digits raise lower = if nat_lt (digits * 10 ^ raise) (10 ^ (36 + lower)) then Some (lowest (digits * 10 ^ raise) lower) else None
 
--- the decimal that the parts write: 1 to 36 digits, of which those of the fraction lower the number by so many tens, and an exponent
+-- the decimal that the parts write: 1 to 36 digits, where each one of the fraction divides the number by ten, and an
+-- exponent
 unfoldable pub decimal_of_parts : Parts → Option Scaled
 decimal_of_parts parts = do
   digits ← number_of 36 (parts.whole ++ parts.fraction)

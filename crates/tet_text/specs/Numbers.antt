@@ -8,7 +8,7 @@ use Rattle.std.specs.Str.Parse.{digits_value, digits_value_after, signed_digits_
 unfoldable pub are_digits : ℕ → List ℕ → Bool
 are_digits most text = (nat_lt 0 (length text) && nat_le (length text) most) && list_all is_ascii_digit text
 
--- the number that so many digits write
+-- the number that *n* digits write
 abbrev pub number_of : ℕ → List ℕ → Option ℕ
 number_of most text = if are_digits most text then Some (digits_value 10 text) else None
 

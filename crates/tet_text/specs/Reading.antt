@@ -46,7 +46,7 @@ abbrev pub end_at : ℕ → Fields → Result (Unit {0}) TextFault
 end_at line [] = Ok tt
 end_at line (field ∷ fields) = Err (extra line)
 
--- a content line that is wanted, in a text of so many lines
+-- the next content line, which is required, in a text with `total` lines
 abbrev pub line_at : ℕ → List ContentLine → Result (ContentLine × List ContentLine) TextFault
 line_at total [] = Err (ended (total + 1))
 line_at total (line ∷ lines) = Ok (line, lines)

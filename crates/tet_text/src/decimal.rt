@@ -66,7 +66,7 @@ pub fn lowest(number: u128, scale: u64) -> (u128, u64)
     (value, left)
 }
 
-/// The same, where the scale is one of a decimal.
+/// As `lowest`, for a scale of 32 bits.
 pub fn without_trailing_zeros(number: u128, scale: u32) -> (u128, u32)
     ensures { result ≡ lowest number scale }
 {

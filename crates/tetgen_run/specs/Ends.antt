@@ -1,4 +1,5 @@
--- How a run ends that makes outputs and stores them, whatever its steps are: what it answers, leaves and tells.
+-- How a run ends that makes outputs and stores them, whatever its steps are: its status, the files that it leaves, and
+-- its messages.
 use Rattle.std.specs.Prelude.{◌≡◌, ◌⊎◌, ℕ, Bool, true, false, IsTrue, List, Option, Some, None, Result, Ok, Err, Contains}
 use Rattle.tet_ports.specs.Counts.{Rose}
 use Rattle.tet_ports.specs.Written.{PartlyPut, with_written}
@@ -13,7 +14,7 @@ use Rattle.tetgen_run.specs.declared.stop.Stop.TheVariants.{Refused, Unwritten, 
 
 -- ---- the answer
 
--- the answer of a run that ended or stopped so
+-- the status of a run by its end or stop
 abbrev pub answer_of : Result (Unit {0}) Stop → Status
 answer_of (Ok done) = Done
 answer_of (Err (Refused status by)) = status
@@ -21,8 +22,9 @@ answer_of (Err (Unwritten text)) = WriteFault (Some text.name)
 answer_of (Err Unsummed) = WriteFault None
 answer_of (Err Wanting) = NoMemory
 
--- The cause of each answer of a run whose steps up to the first store make such outputs, or such a refusal: Done where there are outputs;
--- outputs, and a fault of the folder in a store or of the sink of the summary; want of memory is free; and any other answer is a refusal
+-- The cause of each answer of a run whose steps up to the first store make such outputs, or such a refusal: Done where
+-- there are outputs; outputs, and a fault of the folder in a store or of the sink of the summary; out of memory may
+-- always come; and any other answer is a refusal
 abbrev pub AnswersBy : (Result Outputs Status → Type 0) → FolderSeen → SinkSeen → Status → Type 0
 AnswersBy Made folder out Done = (outputs : Outputs) × Made (Ok outputs)
 AnswersBy Made folder out (WriteFault None) = (outputs : Outputs) × Made (Ok outputs) × Rose out.faults_before out.faults_now
@@ -53,9 +55,10 @@ abbrev pub PartlySummed : Option (List ℕ) → Option (List ℕ) → Option (Li
 PartlySummed before None now = ⊥
 PartlySummed before (Some line) now = PartlyPut before line now
 
--- What each answer leaves, where P holds of the outputs. Done: the files with the outputs' and the summary. A fault of a store: the files
--- before the named one whole, of that one a prefix or nothing. A fault of the summary: all files whole, and a prefix of the summary. Want
--- of memory: the files as they were, or with some of the outputs' files, from the first on, whole. Every other answer: all as it was.
+-- What each answer leaves, where P holds of the outputs. Done: the files with the outputs' and the summary. A fault of
+-- a store: the files before the named one whole, of that one a prefix or nothing. A fault of the summary: all files
+-- whole, and a prefix of the summary. Out of memory: the files as they were, or with some of the outputs' files, from
+-- the first on, whole. Every other answer: all as it was.
 abbrev pub LeavesBy : (Outputs → Type 0) → FolderSeen → SinkSeen → Status → Type 0
 LeavesBy P folder out Done = (outputs : Outputs) × P outputs
     × (folder.files_now ≡ with_files folder.files_before (in_order outputs.texts))
@@ -82,7 +85,7 @@ names_points (BudgetEnd made piece) = true
 names_points (NoFill anomaly) = true
 names_points status = false
 
--- Done tells nothing. Every other answer has its message, by such a numbering
+-- Done has no message. Every other status has its message, by a numbering of the points
 abbrev pub TellsBy : (Option Numbering → Status → List ℕ) → (Status → Option Numbering → Type 0) → SinkSeen → Status → Type 0
 TellsBy message Numbered err Done = err.written_now ≡ err.written_before
 TellsBy message Numbered err status = (by : Option Numbering) × Numbered status by × IsMessagePut (message by status) err
@@ -127,7 +130,7 @@ EndsWith Made Numbered folder out (Err Wanting) = (out.written_now ≡ out.writt
     × ((folder.files_now ≡ folder.files_before)
     ⊎ ((outputs : Outputs) × Made (Ok outputs) × AreStoredTo folder.files_before (in_order outputs.texts) folder.files_now))
 
--- what the summary leaves in its sink
+-- the sink after the summary
 abbrev pub IsSummed : Option (List ℕ) → SinkSeen → Result (Unit {0}) Stop → Type 0
 IsSummed summary out (Ok done) = out.written_now ≡ with_summary out.written_before summary
 IsSummed summary out (Err Unsummed) = PartlySummed out.written_before summary out.written_now × Rose out.faults_before out.faults_now
@@ -139,7 +142,7 @@ abbrev pub IsTellable : Stop → Type 0
 IsTellable (Unwritten text) = TellsFailure text
 IsTellable stop = Unit {0}
 
--- by which numbering the message of a stop tells points
+-- the numbering of points in the message of a stop
 abbrev pub numbering_in : Stop → Option Numbering
 numbering_in (Refused status by) = by
 numbering_in stop = None
@@ -149,7 +152,7 @@ abbrev pub IsEarly : Stop → Type 0
 IsEarly (Refused status by) = Unit {0}
 IsEarly stop = ⊥
 
--- the answer after a stop, and its message; or want of memory, where an early stop found none for that message
+-- the answer after a stop, and its message; or out of memory, where an early stop had no memory for its message
 abbrev pub IsToldAs : (Option Numbering → Status → List ℕ) → Stop → SinkSeen → Status → Type 0
 IsToldAs message stop err status =
     ((status ≡ answer_of (Err stop)) × IsMessagePut (message (numbering_in stop) (answer_of (Err stop))) err)

@@ -1,4 +1,4 @@
--- What a run of the program answers, stores and tells.
+-- The status of a run of `tetgen`, the files that it leaves, and its messages.
 use Rattle.std.specs.Prelude.{◌≡◌, ◌≢◌, ℕ, ◌+◌, ◌<◌, ◌^◌, ℤ, Bool, true, false, ◌&&◌, not, IsTrue, List, All, length, Option, Some, None, Result, Ok, Err, if◌then◌else◌}
 use Rattle.mesh_check.specs.Checking.{CheckAnswer}
 use Rattle.mesh_check.specs.Telling.{sound_line}
@@ -42,7 +42,8 @@ use Rattle.tetgen_run.specs.Stops.{stop_of_check}
 
 -- ---- the check of a mesh
 
--- the check of the files that the options name: how many tetrahedra the mesh has, where it is sound, or the first refusal
+-- the check of the files that the options name: the number of tetrahedra of the mesh, where it is sound, or the first
+-- refusal
 abbrev pub Checked : Options → FolderSeen → Result ℕ CheckFault → Type 0
 Checked options folder = CheckAnswer folder options.base options.decimals
 
@@ -58,8 +59,8 @@ asks_check words = (options_of words).check
 abbrev pub status_of_check : CheckFault → Status
 status_of_check fault = answer_of (Err (stop_of_check fault))
 
--- The cause of each answer of a check: words in the grammar and a sound mesh; words against it; the refusal of the first step that refuses;
--- a sound mesh and a fault of the sink of its line; and want of memory is free
+-- The cause of each answer of a check: words in the grammar and a sound mesh; words against it; the refusal of the
+-- first step that refuses; a sound mesh and a fault of the sink of its line; and out of memory may always come
 abbrev pub IsCheckAnswer : List (List ℕ) → FolderSeen → SinkSeen → Status → Type 0
 IsCheckAnswer words folder out Done = (count : ℕ) × (words_fault words ≡ None) × Checked (options_of words) folder (Ok count)
 IsCheckAnswer words folder out (Usage word place) = words_fault words ≡ Some (word, place)
@@ -85,9 +86,9 @@ AnswerBy limits true = IsCheckAnswer
 abbrev pub IsAnswerWithin : Limits → List (List ℕ) → FolderSeen → SinkSeen → Status → Type 0
 IsAnswerWithin limits words = AnswerBy limits (asks_check words) words
 
--- Where the files are told, nothing failed in the folder and the sink and memory was not wanting, each answer that has a cause is the
--- answer: the refusal of the first step that refuses, and Done where none does. Only where facets are tangled there may be more: Done,
--- and the anomalies that hold
+-- Where contracts see the files, nothing failed in the folder and the sink and memory did not run out, each answer that
+-- has a cause is the answer: the refusal of the first step that refuses, and Done where none does. Only where two
+-- facets cross one tetrahedron there may be more: Done, and the anomalies that hold
 abbrev pub IsCompleteWithin : Limits → List (List ℕ) → FolderSeen → SinkSeen → Status → Type 0
 IsCompleteWithin limits words folder out status =
     (told : Files) → folder.files_before ≡ Some told → HasNoFault folder out → status ≢ NoMemory
@@ -95,8 +96,8 @@ IsCompleteWithin limits words folder out status =
 
 -- ---- what is left
 
--- what of a mesh is cut away: what is beyond the hull of points alone, or what is joined with the outside of a complex, unless its hull is
--- kept
+-- the carving of a mesh: for points alone the outside of their hull is cut away, and for a complex what is joined with
+-- the outside, unless its hull is kept
 abbrev pub carving_by : Options → Carving
 carving_by options = if options.piecewise then carving_of options.keep_hull else HullOnly
 
@@ -104,8 +105,8 @@ carving_by options = if options.piecewise then carving_of options.keep_hull else
 abbrev pub asks_regular : Options → Bool
 asks_regular options = not options.piecewise && options.weighted
 
--- the mesh is the regular list of the kept points of a table, with the weights that their lines state, and it tells how many points are
--- hidden
+-- the mesh is the regular list of the kept points of a table, with the weights that their lines state, and with the
+-- number of hidden points
 pub record IsRegularMesh (table : NodeTable) (mesh : Meshed) : Type 0 where
   pub weights : List ℤ
   pub weights_are : weights_of table ≡ Ok weights

@@ -31,7 +31,7 @@ ChecksSo options folder out (Err Unsummed) = (count : ℕ) × Checked options fo
     × Rose out.faults_before out.faults_now
 ChecksSo options folder out (Err Wanting) = IsUnchanged folder out
 
--- how a run that asks for a check ends: its words are against the grammar, or memory was wanting, or it checks
+-- how a run that asks for a check ends: its words are against the grammar, or it is out of memory, or it checks
 abbrev pub EndsByCheck : List (List ℕ) → FolderSeen → SinkSeen → Result (Unit {0}) Stop → Type 0
 EndsByCheck words folder out (Err (Refused (Usage word place) by)) = (words_fault words ≡ Some (word, place)) × IsUnchanged folder out
 EndsByCheck words folder out (Err Wanting) = IsUnchanged folder out

@@ -11,7 +11,7 @@ use run_steps::{OUT_OF_MEMORY, Outputs, SUMMARY_FAILED, Status, message, store_a
 use std::alloc::Global;
 use tet_ports::{Bytes, Folder, PutFault, Sink};
 
-/// Stores the files of outputs, in their order, and then puts their summary, where there is one.
+/// Stores the files of outputs, in their order, and then writes their summary, where there is one.
 pub fn finish<F: Folder, O: Sink>(
     alloc: Global,
     outputs: Outputs,
@@ -28,7 +28,7 @@ pub fn finish<F: Folder, O: Sink>(
     sum_up(summary, out)
 }
 
-/// Puts the summary, where there is one.
+/// Writes the summary, where there is one.
 pub(crate) fn sum_up<O: Sink>(summary: Option<Bytes>, out: &mut O) -> Result<(), Stop>
     ensures { IsSummed summary (sink_seen O.state out.old out.new) result }
 {
@@ -42,8 +42,8 @@ pub(crate) fn sum_up<O: Sink>(summary: Option<Bytes>, out: &mut O) -> Result<(),
     }
 }
 
-/// Puts the message of a stop, and answers its status. Where there is no memory for the message,
-/// the answer is want of memory.
+/// Writes the message of a stop, and answers its status; out of memory where there is no memory for
+/// the message.
 pub(crate) fn tell<E: Sink>(alloc: Global, stop: Stop, err: &mut E) -> Status
     requires { IsTellable stop }
     ensures { IsToldAs message_of stop

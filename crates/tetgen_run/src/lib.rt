@@ -1,4 +1,5 @@
-//! The run of the program `tetgen`, over a folder and two streams, and the same within any limits.
+//! The run of the program `tetgen` over a folder and two streams, within its own limits or given
+//! ones.
 #![tactic(auto)]
 
 mod ends;

@@ -39,8 +39,8 @@ pub fn run_tetgen<F: Folder, O: Sink, E: Sink>(
     run_within(alloc, Limits::tetgen(), words, folder, out, err)
 }
 
-/// The same within these limits of the input that is meshed. A mesh that is checked has limits of
-/// its own.
+/// As `run_tetgen`, with these limits for an input that is meshed. A mesh that is checked has
+/// limits of its own.
 pub fn run_within<F: Folder, O: Sink, E: Sink>(
     alloc: Global,
     limits: Limits,
@@ -96,7 +96,7 @@ fn run<F: Folder, O: Sink>(
     finish(alloc, outputs, folder, out)
 }
 
-/// The check of a mesh: it stores nothing, and puts one line on a sound mesh.
+/// Checks a mesh: it stores nothing, and writes one line on a sound mesh.
 fn check<F: Folder, O: Sink>(
     alloc: Global,
     options: &Options,

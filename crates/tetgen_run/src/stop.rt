@@ -13,21 +13,21 @@ use tet_ports::NoMemory;
 /// Why a run stopped before its end.
 #[derive(Debug, Drop)]
 pub enum Stop {
-    /// An answer before which nothing was stored, and the numbers of the input's points, where they
-    /// are on their grid.
+    /// A refusal before anything was stored, and the numbers of the input's points, where they are
+    /// on their grid.
     Refused {
         status: Status,
         numbering: Option<Numbering>,
     },
     /// The folder failed in the store of this text.
     Unwritten(NamedText),
-    /// The summary could not be put.
+    /// The summary could not be written.
     Unsummed,
     NoMemory,
 }
 
 impl Stop {
-    /// The answer of a run that stopped so.
+    /// The status of a run with this stop.
     pub fn status(self) -> Status
         ensures { result ≡ answer_of (Err self) }
     {

@@ -28,8 +28,8 @@ queries_of words = slice_index_or words 1 []
 abbrev pub FilesAnswer : List (List ℕ) → FolderSeen → Result (List ℕ) CheckFault → Type 0
 FilesAnswer words folder result = (bad_word words ≡ None) × LocateAnswer folder (mesh_base_of words) (queries_of words) result
 
--- The cause of an answer: lines, where nothing is refused; words that are not two names; or the first refusal of the files. A fault of the
--- sink, and want of memory, which is free, are none
+-- The cause of an answer: lines, where nothing is refused; words that are not two names; or the first refusal of the
+-- files. A fault of the sink, and out of memory, which may always come, are none
 abbrev pub HasCause : List (List ℕ) → FolderSeen → WhereStatus → Type 0
 HasCause words folder Done = (lines : List ℕ) × FilesAnswer words folder (Ok lines)
 HasCause words folder WriteFault = ⊥
@@ -41,8 +41,8 @@ HasCause words folder status = (fault : CheckFault) × FilesAnswer words folder 
 abbrev pub IsAsBefore : SinkSeen → Type 0
 IsAsBefore out = out.written_now ≡ out.written_before
 
--- Each answer has its cause, and puts this. Done: the lines of all queries. A fault of the sink: a prefix of them. Every other refusal, and
--- want of memory, which is free: nothing
+-- Each answer has its cause, and puts this. Done: the lines of all queries. A fault of the sink: a prefix of them.
+-- Every other refusal, and out of memory, which may always come: nothing
 abbrev pub IsQueryAnswer : List (List ℕ) → FolderSeen → SinkSeen → WhereStatus → Type 0
 IsQueryAnswer words folder out Done = (lines : List ℕ) × FilesAnswer words folder (Ok lines)
     × (out.written_now ≡ with_written out.written_before lines)
@@ -55,8 +55,8 @@ IsQueryAnswer words folder out status = IsAsBefore out × HasCause words folder 
 abbrev pub HasNoReadFault : FolderSeen → SinkSeen → Type 0
 HasNoReadFault folder out = ¬ Rose folder.read_faults_before folder.read_faults_now × ¬ Rose out.faults_before out.faults_now
 
--- Where the files are told, no fetch and no put failed and memory was not wanting, the answer that has a cause is given: the first refusal
--- in order, and Done where there is none
+-- Where contracts see the files, no fetch and no put failed and memory did not run out, the answer that has a cause is
+-- given: the first refusal in order, and Done where there is none
 abbrev pub IsCompleteQuery : List (List ℕ) → FolderSeen → SinkSeen → WhereStatus → Type 0
 IsCompleteQuery words folder out status =
     (told : Files) → folder.files_before ≡ Some told → HasNoReadFault folder out → status ≢ NoMemory
@@ -103,7 +103,7 @@ abbrev pub IsEarlyQuery : WhereStatus → Type 0
 IsEarlyQuery WriteFault = ⊥
 IsEarlyQuery status = Unit {0}
 
--- a refusal with its message; or want of memory, where an early one found none for its message
+-- a refusal with its message; or out of memory, where an early one had no memory for its message
 abbrev pub IsQueryToldAs : Stop → SinkSeen → WhereStatus → Type 0
 IsQueryToldAs stop err result =
     ((result ≡ stop.status) × IsMessagePut (query_message_of stop.first stop.status) err)

@@ -15,7 +15,7 @@ use row_cells::RowCells;
 use std::alloc::Global;
 use tet_ports::{Bytes, Folder, Name, NoMemory};
 
-/// Appends the number of a row, or -1 where there is none.
+/// Appends the number of a tetrahedron, or -1 for none.
 fn append_row(text: &mut Bytes, row: Option<usize>, first: u32) -> Result<(), NoMemory>
     ensures { OnOk result (text.new ≡ text.old ++ found_row_text first row) }
 {
@@ -73,10 +73,10 @@ fn locate_text(alloc: Global, text: &WhereText) -> Result<Bytes, CheckFault>
 }
 
 /// The answers to the queries of a file over the mesh with this base: for each query in order a
-/// line with its number and that of the first row whose closed tetrahedron holds it, or -1. It
-/// refuses with the first in this order: of each file in turn its fetch, with `Missing`,
-/// `ReadFault` or `TooLong`, and its text; over 120,000 points; a coordinate off the grid; the
-/// first row that is not positive; or for want of memory. It stores nothing.
+/// line with its number and that of the first tetrahedron whose closure holds it, or -1. It refuses
+/// with the first in this order: of each file in turn its fetch, with `Missing`, `ReadFault` or
+/// `TooLong`, and its text; over 120,000 points; a coordinate off the grid; the first tetrahedron
+/// that is not positively oriented; or when out of memory. It stores nothing.
 pub fn locate_files<F: Folder>(
     alloc: Global,
     base: &Name,

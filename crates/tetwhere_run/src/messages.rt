@@ -1,4 +1,4 @@
-//! The line that each refusal is told in.
+//! The line that reports each refusal.
 
 ghost use Rattle.std.specs.Prelude.{◌≡◌, IfOk};
 ghost use Rattle.tetwhere_run.specs.Messages.{query_limit_message, query_message_of};
@@ -11,13 +11,13 @@ use tet_ports::{Bytes, NoMemory};
 /// The program's name, as a line begins.
 const NAME: &[u8] = b"tetwhere: ";
 
-/// The message of want of memory, which takes none.
+/// The message for out of memory, whose report needs no memory.
 pub const OUT_OF_MEMORY: &[u8] = b"tetwhere: out of memory\n";
 
-/// The message that the lines could not be put.
+/// The message that the lines could not be written.
 pub const WRITE_FAILED: &[u8] = b"tetwhere: answers: write failed\n";
 
-/// The line that tells a refusal, where rows are numbered from `first` on.
+/// The line that reports a refusal, where tetrahedra are numbered from `first` on.
 pub fn message(alloc: Global, first: u32, status: &WhereStatus) -> Result<Bytes, NoMemory>
     ensures { IfOk result (λ line. line ≡ query_message_of first status.now) }
 {
@@ -37,7 +37,7 @@ pub fn message(alloc: Global, first: u32, status: &WhereStatus) -> Result<Bytes,
     }
 }
 
-/// A message on what is over a limit.
+/// A message on a mesh that is over a limit.
 fn query_limit_message(alloc: Global, what: &WhereLimit) -> Result<Bytes, NoMemory>
     ensures { IfOk result (λ line. line ≡ query_limit_message what.now) }
 {

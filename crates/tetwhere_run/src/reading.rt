@@ -11,7 +11,7 @@ use node_files::NodeText;
 use std::alloc::Global;
 use tet_ports::{Folder, Name};
 
-/// What the files spell: the points of the mesh as they are stated, its tetrahedra by the places of
+/// The contents of the files: the points of the mesh in decimal, its tetrahedra by the places of
 /// their corners, and the queries.
 #[derive(Drop)]
 pub struct WhereText {
@@ -22,7 +22,7 @@ pub struct WhereText {
 
 /// The files `.node` and `.ele` of the mesh with this base, and the file with the name `queries`,
 /// in this order, each text read before the next fetch. It refuses with the first file that is at
-/// fault, or for want of memory, and stores nothing.
+/// fault, or when out of memory, and stores nothing.
 pub(crate) fn read_where<F: Folder>(
     alloc: Global,
     base: &Name,

@@ -14,10 +14,10 @@ use mesh_check::put_message;
 use std::alloc::Global;
 use tet_ports::{Bytes, Folder, PutFault, Sink, Words};
 
-/// Reads the words, fetches the mesh and the queries that they name, and puts one line for each
-/// query to `out`, all at once: its number, and that of the first row whose closed tetrahedron
-/// holds it, or -1. On every answer but Done it puts one message to `err`; a failure there changes
-/// no status. It stores nothing.
+/// Reads the words, fetches the mesh and the queries that they name, and writes one line for each
+/// query to `out`, all at once: its number, and that of the first tetrahedron whose closure holds
+/// it, or -1. On every answer but Done it puts one message to `err`; a failure there changes no
+/// status. It stores nothing.
 pub fn run_where<F: Folder, O: Sink, E: Sink>(
     alloc: Global,
     words: &Words,
@@ -57,7 +57,7 @@ fn run<F: Folder, O: Sink>(
     put_lines(&lines, out)
 }
 
-/// Puts the lines of all queries.
+/// Writes the lines of all queries.
 fn put_lines<O: Sink>(lines: &Bytes, out: &mut O) -> Result<(), Stop>
     ensures { IsLinesPut lines.now (sink_seen O.state out.old out.new) result }
 {
@@ -68,8 +68,8 @@ fn put_lines<O: Sink>(lines: &Bytes, out: &mut O) -> Result<(), Stop>
     }
 }
 
-/// Puts the message of a refusal, and answers it. Where there is no memory for the message, the
-/// answer is want of memory.
+/// Writes the message of a refusal, and answers its status; out of memory where there is no memory
+/// for the message.
 fn tell<E: Sink>(alloc: Global, stop: Stop, err: &mut E) -> WhereStatus
     ensures { IsQueryToldAs stop (sink_seen E.state err.old err.new) result }
 {

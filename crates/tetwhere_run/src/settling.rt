@@ -1,4 +1,5 @@
-//! The points of a mesh on their least grid, and whether its rows are positive.
+//! The points of a mesh on their least grid, and the test that its tetrahedra are positively
+//! oriented.
 
 ghost use Rattle.std.specs.Prelude.{◌≡◌, ◌≤◌, length, All, IfOk};
 ghost use Rattle.mesh_files.specs.ReadRows.{AreCornersBelow};
@@ -12,8 +13,8 @@ use mesh_check::{CheckFault, Defect, MOST_POINTS, first_not_positive};
 use node_files::{grid_points, least_grid};
 use std::alloc::Global;
 
-/// How large a coordinate of a mesh may be, in units of the points' least grid: as large as in a
-/// mesh of `tetfit`.
+/// The greatest size of a coordinate of a mesh, in units of the points' least grid: that of
+/// `tetfit`.
 const GRID: u64 = 536_870_912;
 
 /// The least grid of a mesh's points, and these points on it.
@@ -44,7 +45,7 @@ pub(crate) fn settle(alloc: Global, decimals: &DecimalPoints) -> Result<Settled,
     }
 }
 
-/// Refuses with the first row that is not positive.
+/// Refuses with the first tetrahedron that is not positively oriented.
 pub(crate) fn want_positive(text: &WhereText, settled: &Settled) -> Result<(), CheckFault>
     requires count { length settled.now.points ≡ length text.now.nodes.decimals }
     requires there { All (AreCornersBelow (length text.now.nodes.decimals)) text.now.rows }

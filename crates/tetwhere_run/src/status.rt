@@ -7,7 +7,7 @@ use mesh_check::{CheckFault, Defect};
 use tet_ports::{Name, NoMemory};
 use tet_text::TextFault;
 
-/// What is over a limit.
+/// The limit that a mesh is over.
 #[derive(Debug, Drop)]
 pub enum WhereLimit {
     /// The file has over 2^26 bytes.
@@ -31,10 +31,10 @@ pub enum WhereStatus {
     /// The file is not in its grammar.
     BadText { name: Name, fault: TextFault },
     Limit { what: WhereLimit },
-    /// The first row that is not positive.
+    /// The first tetrahedron that is not positively oriented.
     Unsound { defect: Defect },
     NoMemory,
-    /// The lines could not be put.
+    /// The lines could not be written.
     WriteFault,
 }
 

@@ -6,11 +6,11 @@ ghost use Rattle.tetwhere_run.specs.Stops.{first_point_number, stop_of, stop_wit
 use crate::status::WhereStatus;
 use mesh_check::CheckFault;
 
-/// Why a run stopped before its end: its answer, and the number from which rows are numbered.
+/// Why a run stopped before its end: its status, and the number from which tetrahedra are numbered.
 #[derive(Debug, Drop)]
 pub struct Stop {
     pub status: WhereStatus,
-    /// The number of the mesh's first point in its file; 0 where no row is told.
+    /// The number of the mesh's first point in its file; 0 where the status names no tetrahedron.
     pub first: u32,
 }
 
@@ -32,7 +32,7 @@ impl From<CheckFault> for Stop {
     }
 }
 
-/// The number of the mesh's first point, where a defect is told.
+/// The number of the mesh's first point, where the fault is a defect.
 fn first_point_number(fault: &CheckFault) -> u32
     ensures { result ≡ first_point_number fault.now }
 {

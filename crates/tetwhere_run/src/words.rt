@@ -13,7 +13,7 @@ fn is_name(word: &[u8]) -> bool
     !word.is_empty() && !word.starts_with(b"-")
 }
 
-/// Whether a name stands at this place, from 0.
+/// Whether the word at place `i`, from 0, is a name.
 fn is_named(words: &Words, i: usize) -> bool
     ensures { result ≡ is_named_at words.now i }
 {
@@ -21,7 +21,7 @@ fn is_named(words: &Words, i: usize) -> bool
 }
 
 /// The first bad word, counted from 1, where the words are not exactly two names; its place is its
-/// first byte. Of too few words it is the one behind the last.
+/// first byte. With too few words it is the one behind the last.
 pub fn bad_word(words: &Words) -> Option<usize>
     ensures fault { result ≡ bad_word words.now }
     ensures two { result ≡ None → length words.now ≡ 2 }

@@ -26,8 +26,8 @@ fault_of_build build.NoMemory = faults.NoMemory
 abbrev pub kept_weights : NodeTable → List ℤ → List ℤ
 kept_weights table ws = map (weight ws) table.names
 
--- the mesh is the regular list of the kept points, with the weights that their lines state, and the number of kept points that are corners
--- of no row
+-- the mesh is the regular list of the kept points, with the weights that their lines state, and the number of kept
+-- points that are corners of no tetrahedron
 pub record IsRegularMeshOf (table : NodeTable) (mesh : RegularMesh) : Type 0 where
   pub weights : List ℤ
   pub weights_are : weights_of table ≡ Ok weights

@@ -1,4 +1,4 @@
--- What contracts see of points with weights.
+-- The value in contracts of points with weights.
 use Rattle.std.specs.Prelude.{ℤ, List}
 use Rattle.sign_predicates.specs.Point.{Point}
 

@@ -57,7 +57,7 @@ all_of (Err fault ∷ others) = Err fault
 abbrev pub weights_of : NodeTable → Result (List ℤ) WeightFault
 weights_of table = all_of (map (weight_of table) (all_numbers table.listed))
 
--- so they are read, unless memory ran out
+-- the result is that of `weights_of`, unless memory ran out
 abbrev pub ReadsWeights : NodeTable → Result (List ℤ) WeightFault → Type 0
 ReadsWeights table (Err faults.NoMemory) = Unit {0}
 ReadsWeights table result = weights_of table ≡ result

@@ -1,4 +1,4 @@
-//! How many points a mesh hides.
+//! The number of points that a regular mesh hides.
 
 ghost use Rattle.std.specs.Prelude.{ℕ, ◌≡◌, ◌<◌, ◌||◌, not, length, All, count_by, IfOk};
 ghost use Rattle.geo_laws.specs.Delaunay.{numbers, has_corner};
@@ -9,7 +9,7 @@ use geo_laws::{Tet, TetList};
 use std::alloc::Global;
 use tet_ports::NoMemory;
 
-/// Marks the corners of a row.
+/// Marks the corners of a tetrahedron.
 fn mark_corners(marks: &mut [bool], row: Tet)
     requires { All (λ i. i < length marks.old) (numbers row) }
     ensures { (i : ℕ) → is_marked marks.new i ≡ (is_marked marks.old i || has_corner row i) }
@@ -20,14 +20,14 @@ fn mark_corners(marks: &mut [bool], row: Tet)
     marks[row.d as usize] = true;
 }
 
-/// How many are not marked.
+/// The number of places without a mark.
 fn unmarked_count(marks: &[bool]) -> usize
     ensures { result ≡ count_by not marks.now }
 {
     marks.iter().filter(|mark| !**mark).count()
 }
 
-/// How many of so many points are corners of no row.
+/// The number of points, of the `count` points, that are corners of no tetrahedron.
 pub(crate) fn hidden_count(alloc: Global, count: usize, rows: &TetList) -> Result<usize, NoMemory>
     requires { All (λ t. All (λ i. i < count) (numbers t)) rows.now }
     ensures { IfOk result (λ hidden. hidden ≡ hidden_count count rows.now) }

@@ -1,5 +1,5 @@
-//! The weights of a point list; the regular list of weighted points, by inserting one point after
-//! another; and the regular mesh of a point list, with the number of points that it hides.
+//! The weights of a point list; the regular list of weighted points, by incremental insertion; and
+//! the regular mesh of a point list, with the number of points that it hides.
 #![tactic(auto)]
 
 mod hidden;

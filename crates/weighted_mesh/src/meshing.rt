@@ -10,9 +10,10 @@ use regular_laws::Weights;
 use std::alloc::Global;
 
 /// The regular list of distinct points with one weight each, of at most `2^46` in size, in squares
-/// of grid units: the positive rows that have every other point weighted outside, ties broken by
-/// the points' numbers, ascending. A point that is a corner of no row is hidden. `Flat` comes
-/// exactly where all points lie in one plane; fewer than four do.
+/// of grid units: the positive tetrahedra that have every other point weighted outside, ties broken
+/// by the points' numbers (simulation of simplicity), ascending. A point that is a corner of no
+/// tetrahedron is hidden. `Flat` comes exactly where all points lie in one plane; fewer than four
+/// do.
 ///
 /// Source: incremental topological flipping works for regular triangulations (Edelsbrunner and Shah
 /// 1996); here by cavities (Bowyer 1981, Watson 1981).

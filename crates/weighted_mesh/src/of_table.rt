@@ -14,7 +14,7 @@ use geo_laws::TetList;
 use node_files::NodeTable;
 use std::alloc::Global;
 
-/// The regular list of weighted points, and how many of the points it hides.
+/// The regular list of weighted points, and the number of points that it hides.
 #[derive(Debug, Drop)]
 pub struct RegularMesh {
     pub rows: TetList,
@@ -24,7 +24,7 @@ pub struct RegularMesh {
 /// The regular list of the kept points of a table. The weight of a point is its first attribute, or
 /// 0 where the points have none; that of a folded point is read and not used. It refuses with the
 /// first in this order: a weight that is no decimal, or is over 2^46 squares of grid units in size,
-/// at the first such point; all points in one plane; or for want of memory.
+/// at the first such point; all points in one plane; or when out of memory.
 pub fn regular_mesh(alloc: Global, table: &NodeTable) -> Result<RegularMesh, RegularFault>
     requires table { IsNodeTable table.now }
     requires decimals { length table.now.decimals ≡ length table.now.listed }

@@ -13,7 +13,7 @@ use regular_laws::Weights;
 use std::alloc::Global;
 use tet_text::{TextFault, TextKind, decimal_in};
 
-/// The weight that a text of this line writes.
+/// The weight that the text writes; `line` is its line, for a fault.
 fn weight_in(grid: &Grid, line: usize, text: &[u8]) -> Result<i64, WeightFault>
     requires { grid.now.halvings ≤ 18 }
     ensures value { result ≡ weight_in grid.now line text.now }
@@ -50,7 +50,7 @@ fn weight_of(table: &NodeTable, i: usize) -> Result<i64, WeightFault>
 
 /// The weights of all listed points of a table, in squares of grid units: the first attribute of
 /// each, and 0 where the points have no attributes. A weight is rounded to twice the grid's
-/// decimals, halves away from zero. The first point whose weight is refused is told: Text with
+/// decimals, halves away from zero. The refusal is that of the first such point: Text with
 /// NotANumber where its first attribute is no decimal, TooHeavy where its weight is over 2^46 in
 /// size. A point that is folded onto another one has its weight read too.
 pub fn read_weights(alloc: Global, table: &NodeTable) -> Result<Weights, WeightFault>

@@ -21,7 +21,7 @@ pub enum RegularFault {
     /// All points lie in one plane.
     #[error("all points lie in one plane")]
     Flat,
-    /// Want of memory.
+    /// Out of memory.
     #[error("out of memory")]
     NoMemory,
 }

@@ -1,4 +1,4 @@
-//! Points with weights, and whether one of them is outside of a row.
+//! Points with weights, and the weighted insphere test.
 ghost use Rattle.std.specs.Prelude.{◌≡◌, ◌<◌, All, length};
 ghost use Rattle.geo_laws.specs.Delaunay.{point};
 ghost use Rattle.point_locate.specs.Place.{AreOn, row_corners};
@@ -74,7 +74,7 @@ fn weight_at(weights: &Weights, i: u32) -> i64
     weights.at(i as usize)
 }
 
-/// The weights of a row's corners.
+/// The weights of a tetrahedron's corners.
 fn weights_of(weights: &Weights, row: Tet) -> FourWeights
     requires inside { (row.a < length weights.now) × (row.b < length weights.now)
         × (row.c < length weights.now) × (row.d < length weights.now) }
@@ -90,7 +90,8 @@ fn weights_of(weights: &Weights, row: Tet) -> FourWeights
     }
 }
 
-/// Whether the point with this number is weighted outside of a row, ties decided by the numbers.
+/// The weighted insphere test: whether the point with this number is weighted outside of a
+/// tetrahedron, ties decided by the numbers.
 fn is_outside(points: &Points, weights: &Weights, row: Tet, p: u32) -> bool
     requires on { AreOn points.now (row_corners row) }
     requires inside { p < length points.now }

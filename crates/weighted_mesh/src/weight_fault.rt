@@ -16,7 +16,7 @@ pub enum WeightFault {
     /// A weight is over 2^46 squares of grid units in size; the line of its point, from 1.
     #[error("line {line}: weight off the grid")]
     TooHeavy { line: usize },
-    /// Want of memory.
+    /// Out of memory.
     #[error("out of memory")]
     NoMemory,
 }

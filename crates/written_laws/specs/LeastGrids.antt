@@ -16,7 +16,7 @@ use Rattle.node_files.specs.declared.grid_fault.GridFault.TheVariants as faults
 
 -- ---- points as decimals
 
--- the decimals are the numbers that the coordinates are in units of the grid, each at most so many in size
+-- the decimals are the numbers that the coordinates are in units of the grid, each at most `wide` in size
 pub record IsPointAt (wide : ℕ) (g : Grid) (p : Point) (d : DecimalPoint) : Type 0 where
   pub x_is : IsNumberAt g p.x d.x
   pub y_is : IsNumberAt g p.y d.y
@@ -35,7 +35,7 @@ pub record ArePointsAt (wide : ℕ) (g : Grid) (ps : List Point) (ds : List Deci
 abbrev pub times : ℕ → Point → Point
 times f p = record { x = pos f *ℤ p.x; y = pos f *ℤ p.y; z = pos f *ℤ p.z }
 
--- each point of the first list is so many times that of the second
+-- each point of the first list is f times that of the second
 pub record AreMultiples (f : ℕ) (ps qs : List Point) : Type 0 where
   pub some : 0 < f
   pub long : length qs ≡ length ps
@@ -58,7 +58,8 @@ pub record FitsLeast (wide : ℕ) (g : Grid) (ps : List Point) (ds : List Decima
 abbrev pub FittingLaw : Type 0
 FittingLaw = (wide : ℕ) (g : Grid) (ps : List Point) (ds : List DecimalPoint) → ArePointsAt wide g ps ds → FitsLeast wide g ps ds
 
--- So they settle there, where they are not too many and are not rounded: never is a coordinate out of range
+-- Decimals of points of a grid settle on their least grid, where they are not too many and are not rounded: no
+-- coordinate is out of range
 abbrev pub SettlingLaw : Type 0
 SettlingLaw = (wide : ℕ) (g : Grid) (ps : List Point) (ds : List DecimalPoint) → ArePointsAt wide g ps ds → (most : ℕ) → length ps ≤ most
     → (result : Result (List Point) GridFault) → SettlesLeast wide ds None most result
@@ -74,8 +75,8 @@ pub record HaveSameSigns (ps qs : List Point) : Type 0 where
 abbrev pub SameSignsLaw : Type 0
 SameSignsLaw = (f : ℕ) (ps qs : List Point) → AreMultiples f ps qs → HaveSameSigns ps qs
 
--- The text of a coordinate is read back as its decimal, which is the number that so many grid units are. With more than 35 decimals it has
--- more digits than a decimal may have
+-- The text of a coordinate is read back as its decimal, which is exactly that number of grid units. With more than 35
+-- decimals it has more digits than a decimal may have
 abbrev pub RereadLaw : Type 0
 RereadLaw = (g : Grid) (c : ℤ) → unsigned_abs c ≤ limit → g.halvings ≤ 18 → (decimal_of_units g c).scale ≤ 35
     → (decimal_of (grid_text g c) ≡ Some (decimal_of_units g c)) × IsNumberAt g c (decimal_of_units g c)

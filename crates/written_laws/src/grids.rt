@@ -7,12 +7,12 @@ pub fn law_fits()
     ensures { FittingLaw }
 {}
 
-/// So `settle_least` answers these points, or want of memory.
+/// `settle_least` answers points that are written in decimals of a grid, or is out of memory.
 pub fn law_settles()
     ensures { SettlingLaw }
 {}
 
-/// Orientations and spheres have the signs of the points that are so many times larger.
+/// Orient3d and insphere have the same signs for points that are a number of times larger.
 pub fn law_same_signs()
     ensures { SameSignsLaw }
 {}

@@ -1,6 +1,5 @@
-//! A mesh without a defect is positive and apart, and what is written of a mesh has no defect, also
-//! over the points that are read back on their least grid. Each law is the contract of a function
-//! that does nothing.
+//! A mesh without a defect is positive and apart, and the files of a mesh have no defect, also over
+//! the points that are read back on their least grid.
 #![tactic(auto)]
 
 mod grids;

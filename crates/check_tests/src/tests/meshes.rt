@@ -118,7 +118,7 @@ fn rows_of(alloc: Global, points: &Points, text: &[u8]) -> Option<TetList>
     read_ele(alloc, &bytes_of(alloc, text)?, 0, points.len() as u64).ok()
 }
 
-/// The rows of a text of faces, whose corners are among so many points.
+/// The rows of a text of faces, whose corners are among `count` points.
 fn faces_of(alloc: Global, count: usize, text: &[u8]) -> Option<FaceRows>
     requires { count ≤ 120000 }
 {

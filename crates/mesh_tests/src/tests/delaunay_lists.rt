@@ -527,7 +527,7 @@ fn sides(mesh: &Living) -> usize {
     count
 }
 
-/// Adds a point, and tells whether it was not there yet and has the next number.
+/// Adds a point, and answers whether it was new and has the next number.
 fn is_added(mesh: &mut Living, p: GridPoint) -> bool {
     let most = mesh.points().len();
     most <= 100

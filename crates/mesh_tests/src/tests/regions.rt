@@ -222,7 +222,7 @@ const BENT: NotFlat = NotFlat {
     },
 };
 
-/// Facets of one polygon, and what is told of them.
+/// Facets of one polygon each, and the result of the test whether they are flat.
 static FLATNESS: [(&str, &[&[u32]], Result<(), NotFlat>); 3] = [
     (
         "a square, and a plane through a line and a point off it",
@@ -237,7 +237,7 @@ static FLATNESS: [(&str, &[&[u32]], Result<(), NotFlat>); 3] = [
     ("none", &[], Ok(())),
 ];
 
-/// Whether that is told of the facets.
+/// Whether the test for flat facets gives `told`.
 fn is_told(
     alloc: Global,
     polygons: &[&[u32]],

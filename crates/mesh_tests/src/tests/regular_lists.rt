@@ -57,7 +57,7 @@ fn has_list(alloc: Global, set: &[[i8; 3]], numbers: &[i16], want: &[[u32; 4]]) 
 
 const CORNER: [[i8; 3]; 5] = [[0, 0, 0], [4, 0, 0], [0, 4, 0], [0, 0, 4], [1, 1, 1]];
 
-// The same with the inner point first.
+// The points of CORNER with the inner point first.
 const INNER_FIRST: [[i8; 3]; 5] = [[1, 1, 1], [4, 0, 0], [0, 4, 0], [0, 0, 4], [0, 0, 0]];
 
 const CUBE: [[i8; 3]; 8] = [
@@ -206,7 +206,7 @@ fn plain_list(alloc: Global, points: &Points, weights: &Weights) -> Result<TetLi
 }
 
 /// Whether the list of weighted points is that of the plain filter. None where two of the points
-/// are equal, or where memory is wanting.
+/// are equal, or when out of memory.
 fn is_plain(alloc: Global, points: &Points, weights: &Weights) -> Option<bool> {
     if !is_small_set(points) || !are_weights(points, weights) {
         return None;
@@ -219,7 +219,7 @@ fn is_plain(alloc: Global, points: &Points, weights: &Weights) -> Option<bool> {
     }
 }
 
-/// The same of drawn points.
+/// As `is_plain`, for `count` points and weights that are drawn.
 fn agrees(alloc: Global, state: &mut u64, count: u32, width: u32, heavy: u32) -> Option<bool>
     requires width { (0 < width) × (width ≤ 100) }
     requires heavy { (0 < heavy) × (heavy ≤ 100) }

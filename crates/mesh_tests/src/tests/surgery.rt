@@ -33,7 +33,7 @@ fn rim_of(alloc: Global, faces: &[RimFace]) -> Result<Rim, NoMemory>
     Ok(rim)
 }
 
-// Puts a point in the place of one slot, and tells whether it did: the slot has to have four
+// Puts a point in the place of one slot, and answers whether it did: the slot has to have four
 // neighbors and to lack the point.
 fn split(alloc: Global, arena: &mut Arena, s: Slot, point: u32) -> Result<bool, NoMemory>
     requires { IsLive arena.old.slots s.index }
@@ -133,7 +133,7 @@ fn split_cube(alloc: Global) -> Result<Arena, Fail> {
     Ok(arena)
 }
 
-// A slot, and what stands behind its faces.
+// A slot, and the neighbors behind its faces.
 struct SlotCase {
     slot: [u32; 4],
     behind: [[u32; 4]; 4],
@@ -210,7 +210,7 @@ fn numbers_of_tetrahedra(rt: HostRuntime) -> Result<(), Fail> {
     Ok(())
 }
 
-// Puts a point in the place of the slot at a place, and tells whether it did.
+// Puts a point in the place of the slot at a place, and answers whether it did.
 fn split_at(alloc: Global, arena: &mut Arena, place: usize, point: u32) -> Result<bool, NoMemory> {
     if place >= arena.slots() {
         return Ok(false);

@@ -113,7 +113,7 @@ fn is_on(points: &Points, row: Tet) -> bool
 /// Where a sample ends.
 #[derive(Clone, Copy, PartialEq, Eq)]
 enum End {
-    /// With so many tetrahedra.
+    /// With this number of tetrahedra.
     Filled(usize),
     /// With an anomaly.
     Refused,
@@ -339,7 +339,7 @@ fn is_accepted(alloc: Global, rows: &[[u32; 4]]) -> Result<Option<bool>, NoMemor
     Ok(Some(found.is_some()))
 }
 
-/// Whether that is told of the list.
+/// Whether the candidate is accepted or refused as it should be.
 fn is_told(alloc: Global, candidate: &Candidate) -> bool {
     is_accepted(alloc, candidate.rows) == Ok(Some(candidate.is_accepted))
 }
@@ -355,7 +355,7 @@ fn candidates_on_two_plates(rt: HostRuntime) {
 /// coordinates have in common stays as it is.
 const FAR: i32 = (1 << 22) - 1;
 
-/// The coordinate so many times as far out.
+/// The coordinate times FAR.
 fn far_out(x: i8) -> i32
     ensures low { negsuc 536870911 ≤ℤ result }
     ensures high { result ≤ℤ pos 536870912 }
@@ -363,7 +363,7 @@ fn far_out(x: i8) -> i32
     i32::from(x) * FAR
 }
 
-/// The point so many times as far out.
+/// The point times FAR.
 fn far_point([x, y, z]: [i8; 3]) -> GridPoint {
     GridPoint {
         x: far_out(x),
@@ -372,7 +372,7 @@ fn far_point([x, y, z]: [i8; 3]) -> GridPoint {
     }
 }
 
-/// The points at these places, so many times as far out.
+/// The points at the given places, each times FAR.
 fn far_points(alloc: Global, places: &[[i8; 3]]) -> Result<Points, NoMemory> {
     let mut points = Points::new(alloc);
     for place in places {

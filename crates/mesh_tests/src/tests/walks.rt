@@ -84,7 +84,7 @@ const ONE: [[u32; 4]; 5] = [
     [0, GHOST, 2, 1],
 ];
 
-// Where a point is found in a tetrahedron and round it, all slots being looked at.
+// The place of a point in the mesh of one tetrahedron.
 fn in_one(alloc: Global, p: GridPoint) -> Result<Option<SlotPlace>, Fail> {
     let points = points_of(alloc, &[&CORNER])?;
     let mut arena = Arena::new(alloc);

@@ -36,7 +36,7 @@ fn mesh(alloc: Global, text: &[u8]) -> Option<Result<RegularMesh, RegularFault>>
     Some(regular_mesh(alloc, &table))
 }
 
-/// Whether the text has a mesh with these rows that hides so many points.
+/// Whether the text has a regular mesh with the rows `want` that hides `hidden` points.
 fn has_mesh(alloc: Global, text: &[u8], want: &[[u32; 4]], hidden: usize) -> bool {
     match mesh(alloc, text) {
         Some(Ok(made)) => are_rows(&made.rows, want) && made.hidden == hidden,

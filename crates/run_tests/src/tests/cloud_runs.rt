@@ -82,7 +82,7 @@ fn add_plate(text: &mut Bytes) -> Result<(), NoMemory> {
     text.append(b"\n0\n")
 }
 
-/// A cloud of so many points, and in its middle a plate with 128 corners.
+/// A cloud of `count` points, and in its middle a plate with 128 corners.
 fn plate_in_cloud(alloc: Global, count: usize) -> Result<Bytes, NoMemory>
     requires { count ≤ 10000 }
 {

@@ -8,7 +8,7 @@ use std::test::Fail;
 /// A tetrahedron whose second corner is listed again, behind the others.
 const LAST: &[u8] = b"5\n1 0 0 0\n2 1 0 0\n3 0 1 0\n4 0 0 1\n5 1.0 0 0\n";
 
-/// The same with the second listing between the others.
+/// A tetrahedron whose second corner is listed again, between the others.
 const BETWEEN: &[u8] =
     b"5 3 1 1\n1 0 0 0 a 1\n2 1 0 0 b 2\n3 1e0 0 0 c 3\n4 0 1 0 d 4\n5 0 0 1 e 5\n";
 

@@ -10,7 +10,7 @@ use tet_ports::NoMemory;
 /// A tetrahedron one of whose zeros is written with many decimals, as programs for floats do.
 const TINY: &[u8] = b"4 3 0 0\n0 0.000000000000000012 0 0\n1 1 0 0\n2 0 1.5 0\n3 0 0 1\n";
 
-/// The same as `1.2e-17`.
+/// The points of TINY with that zero written as `1.2e-17`.
 const EXPONENT: &[u8] = b"4 3 0 0\n0 1.2e-17 0 0\n1 1 0 0\n2 0 1.5 0\n3 0 0 1\n";
 
 const NODE: &[u8] = b"4 3 0 0\n0 0 0 0\n1 1 0 0\n2 0 1.5 0\n3 0 0 1\n";
@@ -84,7 +84,7 @@ const CARVED_TOLD: &[u8] = b"\
 points 4 added 0 tetrahedra 0 faces 0 edges 0 decimals 0\n\
 tetfit: the facets enclose nothing, or hole points carve all of it\n";
 
-/// What is told of a model beside its status.
+/// The message on a model beside the status.
 static TOLD: [Run<'static>; 6] = [
     Run {
         name: "off each grid",

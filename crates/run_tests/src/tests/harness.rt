@@ -37,7 +37,7 @@ struct Said<'a> {
 #[derive(Clone, Copy)]
 pub(crate) enum Program {
     Tetgen,
-    /// The same within limits on the points and bytes of the input, at most 20,000 each.
+    /// `tetgen` within limits on the points and bytes of the input, at most 20,000 each.
     Within { points: usize, bytes: usize },
     Tetfit,
     Tetwhere,

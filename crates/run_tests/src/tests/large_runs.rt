@@ -25,7 +25,7 @@ pub(crate) fn add_point(
     text.append(b"\n")
 }
 
-/// So many points of a plane that is along no axis, in tenths.
+/// `count` points of a plane that is parallel to no axis, in tenths.
 fn slanted(alloc: Global, count: usize) -> Result<Bytes, NoMemory> {
     let mut text = Bytes::new(alloc);
     append_number(&mut text, count)?;
@@ -151,7 +151,8 @@ static LIMITED: [(usize, usize, End); 3] = [
     (5, 10, Refused(5, b"tetgen: t.node: over 10 bytes\n")),
 ];
 
-/// What differs where a run on the pyramid within so many points and bytes should end so.
+/// The difference from the end that a run on the pyramid within `points` points and `bytes` bytes
+/// should have.
 fn other_end(
     alloc: Global,
     points: usize,

@@ -8,10 +8,10 @@ use std::test::Fail;
 /// A corner of a cube and a point within, which is hidden.
 const HIDDEN: &[u8] = b"5 3 1\n0 0 0 0 0\n1 4 0 0 0\n2 0 4 0 0\n3 0 0 4 0\n4 1 1 1 -10\n";
 
-/// The same, where the weight makes a tie.
+/// The points of HIDDEN with a weight that makes a tie.
 const TIED: &[u8] = b"5 3 1\n0 0 0 0 0\n1 4 0 0 0\n2 0 4 0 0\n3 0 0 4 0\n4 1 1 1 -9\n";
 
-/// The same without weights.
+/// The points of HIDDEN without weights.
 const BARE: &[u8] = b"5\n0 0 0 0\n1 4 0 0\n2 0 4 0\n3 0 0 4\n4 1 1 1\n";
 
 const WORD: &[u8] = b"4 3 1\n1 0 0 0 0\n2 4 0 0 0\n3 0 4 0 2x\n4 0 0 4 9e30\n";

@@ -80,7 +80,7 @@ static CASES: [Case; 15] = [
         pieces: &[[0, 1], [2, 3], [0, 5]],
         first: None,
     },
-    // Pieces that cross are not told.
+    // Crossing pieces are not reported.
     Case {
         triangles: &[],
         pieces: &[[0, 2], [1, 3]],
@@ -148,7 +148,7 @@ static CASES: [Case; 15] = [
         pieces: &[],
         first: Some([[0, 1, 2], [4, 5, 7]]),
     },
-    // The same triangle twice.
+    // One triangle twice.
     Case {
         triangles: &[[0, 1, 2], [2, 0, 1]],
         pieces: &[],
@@ -169,7 +169,7 @@ fn told(answer: Result<(), PlaneFault>) -> Result<Option<[[u32; 3]; 2]>, NoMemor
     }
 }
 
-/// What `crossings` tells; None where it may not be asked.
+/// The answer of `crossings`; None where its requirements fail.
 fn crossing(alloc: Global, case: &Case) -> Result<Option<Option<[[u32; 3]; 2]>>, NoMemory> {
     let points = places(alloc)?;
     let mut triangles = FacetTriangles::new(alloc);

@@ -119,7 +119,7 @@ fn far() -> [GridPoint; 5] {
     ]
 }
 
-// Where the last point lies to the sphere through the others, if the frame has them all.
+// The sign of the lifted insphere test of the last point and the others, if the frame has them all.
 fn lifted_sign(frame: Frame, points: [GridPoint; 5]) -> Option<Sign>
     requires { 0 < frame.step }
 {
@@ -129,7 +129,7 @@ fn lifted_sign(frame: Frame, points: [GridPoint; 5]) -> Option<Sign>
     Some(in_lifted_sphere(a, b, c, d, frame.lift(e)?))
 }
 
-// So for a tetrahedron in a frame of small steps.
+// Where the point `p` lies to the sphere of a tetrahedron, in a frame of small steps.
 fn sign_at(p: [i8; 3]) -> Option<Sign> {
     let frame = Frame {
         corner: at([-4, -2, -2]),

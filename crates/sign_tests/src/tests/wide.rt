@@ -43,7 +43,7 @@ pub(crate) fn minus(a: &Wide, b: &Wide) -> Wide {
     carried_sum(a, &turned, 1)
 }
 
-/// The number times a digit, moved up by so many digits.
+/// The number times a digit, moved up by `up` digits.
 fn times_digit(a: &Wide, digit: u64, up: usize) -> Wide {
     let mut all = ZERO;
     let mut carry = 0;

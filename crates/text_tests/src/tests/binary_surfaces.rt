@@ -83,13 +83,13 @@ fn has_four_points(text: &PlcText) -> bool {
     points == Some(4) && check_corners(text, 0, 4).is_ok() && check_corners(text, 0, 3).is_err()
 }
 
-/// Whether the two facets are told to be binary, and are read.
+/// Whether the two facets are recognized as binary, and are read.
 fn are_read(alloc: Global) -> Result<bool, PlcFault> {
     let bytes = two_facets(alloc, TENTH)?;
     Ok(is_binary_stl(&bytes) && has_four_points(&read(alloc, &bytes)?))
 }
 
-/// The two facets with so many bytes: one more, or the first of them.
+/// The two facets as `length` bytes: one more than they have, or the first of them.
 fn of_length(alloc: Global, length: usize) -> Result<Bytes, NoMemory> {
     let mut bytes = two_facets(alloc, TENTH)?;
     if length > bytes.len() {
@@ -100,7 +100,7 @@ fn of_length(alloc: Global, length: usize) -> Result<Bytes, NoMemory> {
     Ok(bytes)
 }
 
-/// The fault of the two facets with so many bytes.
+/// The fault of the two facets as `length` bytes.
 fn fault_of_length(alloc: Global, length: usize) -> Option<PlcFault> {
     match of_length(alloc, length) {
         Ok(bytes) => read(alloc, &bytes).err(),

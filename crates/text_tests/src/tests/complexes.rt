@@ -22,13 +22,13 @@ const BAR: &[u8] =
       1 0 0\n4 2 6 7 3\n1 0 0\n4 3 7 8 4\n1 0 0\n4 4 8 5 1\n# Part 3 - hole list\n0\n\
       # Part 4 - region list\n0\n";
 
-// The same, whose third facet is missing.
+// The text of BAR, cut off before its third facet.
 const CUT: &[u8] =
     b"# Part 1 - node list\n8 3 0 0\n1 0.0 0.0 0.0\n2 2.0 0.0 0.0\n3 2.0 2.0 0.0\n4 0.0 2.0 0.0\n\
       5 0.0 0.0 12.0\n6 2.0 0.0 12.0\n7 2.0 2.0 12.0\n8 0.0 2.0 12.0\n# Part 2 - facet list\n6 1\n\
       1 0 -1   # one polygon, no hole, marker\n4 1 2 3 4\n1 0 -2\n4 5 6 7 8\n";
 
-// The same complex in the other form, but for the marker of its fifth facet; no hole list.
+// The complex of BAR as a `.smesh` text, but for the marker of its fifth facet; no hole list.
 const BAR_SMESH: &[u8] =
     b"8\n1 0.0 0.0 0.0\n2 2.0 0.0 0.0\n3 2.0 2.0 0.0\n4 0.0 2.0 0.0\n5 0.0 0.0 12.0\n\
       6 2.0 0.0 12.0\n7 2.0 2.0 12.0\n8 0.0 2.0 12.0\n6 1\n4 1 2 3 4 -1\n4 5 6 7 8 -2\n\
@@ -39,7 +39,8 @@ const PARTS: &[u8] =
     b"4\n0 0 0 0\n1 1 0 0\n2 0 1 0\n3 0 0 1\n2 0\n2 1 7\n3 0\n# between\n1\n2\n2 1 3\n\
       -1 .5 -0.25 0\n1\n1 3\n1\n9 1.4 1.5 1.6\n2\n1 0.5 1.4 1.6 10\n2 1.4 1.5 1.6 a 0.1\n";
 
-// The same with the flag, and with carriage returns, tabs, comments and blank lines in every place.
+// The complex of PARTS with the flag, and with carriage returns, tabs, comments and blank lines in
+// every place.
 const LOOSE: &[u8] =
     b"\r\n# points\r\n 4\t3 # four\r\n\r\n0 0 0 0\r\n# between\r\n1 1 0 0 # right\r\n\t2 0 1 0\r\n\
       3 0 0 1#\r\n \t\r\n# facets\r\n2 1\r\n\r\n2 1 7# two polygons\r\n#\r\n3\r\n\r\n\
@@ -334,7 +335,7 @@ fn other_part(alloc: Global, complex: &Complex, case: &Case) -> Option<&'static 
     }
 }
 
-/// The same of the complex of a text on a grid.
+/// As `other_part`, for the complex of a text on a grid.
 fn bound_difference(alloc: Global, text: &PlcText, case: &Case) -> Option<&'static str>
     requires few { HasFewParts text.now }
 {
@@ -397,7 +398,7 @@ static FAULTS: [(Form, &[u8], usize, TextKind); 58] = [
     (Poly, b"0\n1\n1\n1 0\n", 4, BadIndex),
     (Poly, b"0\n1\n1\n3 1\n2\n0\n9\n", 8, Ended),
     (Poly, b"0\n1\n1\n3 1\n2\n0\n", 6, BadIndex),
-    // A corner out of range is told only where nothing else is wrong.
+    // A corner out of range is reported only where nothing else is wrong.
     (Poly, b"0\n1\n1\n1 9\n0\n0\n5\n", 7, Extra),
     // Hole points of a facet.
     (Poly, b"0\n1\n1 1\n1 1\n", 5, Ended),
@@ -462,7 +463,7 @@ fn complexes_and_their_faults(rt: HostRuntime) {
     assert_eq!(rt; (other_complex(alloc), other_fault(alloc)), (None, None));
 }
 
-/// A text, and then a piece so many times.
+/// A text, and then a piece `count` times.
 fn repeated(alloc: Global, head: &[u8], piece: &[u8], count: usize) -> Result<Bytes, NoMemory> {
     let mut text = Bytes::from_slice(alloc, head)?;
     for _ in 0..count {
@@ -479,7 +480,7 @@ fn bound_fault(alloc: Global, text: &[u8]) -> Option<PlcFault> {
     }
 }
 
-/// The same of a text and a piece so many times.
+/// As `bound_fault`, for a text and then a piece `count` times.
 fn repeated_fault(alloc: Global, head: &[u8], piece: &[u8], count: usize) -> Option<PlcFault> {
     match repeated(alloc, head, piece, count) {
         Ok(text) => bound_fault(alloc, text.as_slice()),
@@ -551,14 +552,14 @@ fn has_box(alloc: Global, text: &PlcText, count: usize) -> bool
     }
 }
 
-/// How many points a list has, and its last point.
+/// The number of points of a list, and its last point.
 fn last_of(nodes: &NodeText) -> (usize, Option<[i128; 3]>) {
     let last = nodes.decimals.as_slice().last();
     let last = last.map(|p| [p.x.value, p.y.value, p.z.value]);
     (nodes.decimals.len(), last)
 }
 
-/// The same of a text whose facets are those of the box.
+/// As `last_of`, for a text whose facets are those of the box.
 fn last_in_box(alloc: Global, text: &PlcText) -> (usize, Option<[i128; 3]>)
     requires few { HasFewParts text.now }
 {

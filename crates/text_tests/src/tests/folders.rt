@@ -265,7 +265,7 @@ fn answers_to<F: Folder>(
     ]
 }
 
-/// The same of a file at this path.
+/// As `answers_to`, for a file at `path`.
 fn answers<F: Folder>(alloc: Global, folder: &mut F, path: &[u8]) -> Result<[bool; 7], NoMemory> {
     let name = Name::from_slice(alloc, path)?;
     let text = long_text(alloc)?;
@@ -352,8 +352,8 @@ impl Write for Choppy {
     }
 }
 
-/// How many bytes of ten are read, at most so many, where the reader fails at `cut`; or how many
-/// are handed out with a fault.
+/// The number of bytes, of ten, that are read with at most `most` allowed, where the reader fails
+/// at `cut`; or the number handed out with a fault.
 fn count_read(
     alloc: Global,
     cut: Option<usize>,

@@ -45,7 +45,7 @@ static ROUNDING: [(&[u8], u32, i128, u32); 10] = [
     ),
 ];
 
-/// The decimal that a text begins with, rounded to so many decimals: its value and its scale.
+/// The decimal that a text begins with, rounded to `decimals` decimals: its value and its scale.
 fn rounded(text: &[u8], decimals: u32) -> Option<(i128, u32)> {
     let d = round_to(&decimal(text)?, decimals);
     Some((d.value, d.scale))

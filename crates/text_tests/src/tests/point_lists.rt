@@ -292,7 +292,7 @@ fn other_refusal(alloc: Global) -> Option<usize> {
     None
 }
 
-/// A list of so many points at one place, without attributes and markers.
+/// A list of `count` points at one place, without attributes and markers.
 fn alike(alloc: Global, count: usize) -> Result<NodeText, NoMemory> {
     let zero = Decimal { value: 0, scale: 0 };
     let mut decimals = DecimalPoints::new(alloc);
@@ -314,7 +314,7 @@ fn alike(alloc: Global, count: usize) -> Result<NodeText, NoMemory> {
     })
 }
 
-/// The fault of a list of so many points at one place.
+/// The fault of a list of `count` points at one place.
 fn fault_of_alike(alloc: Global, count: usize) -> Option<NodeFault> {
     match alike(alloc, count) {
         Ok(text) => settle(alloc, Limits::tetgen(), text, &PLAIN).err(),
@@ -463,7 +463,7 @@ fn written_table(
     Ok(Some(write_node(alloc, table, &added, case.first)?))
 }
 
-/// The same for the list of a text.
+/// As `written_table`, for the point list of the case's text.
 fn written(alloc: Global, case: &TableCase) -> Option<Bytes> {
     match settled(alloc, case.text, case.options) {
         Ok(table) => written_table(alloc, &table, case).unwrap_or(None),
