@@ -54,7 +54,7 @@ fn has_switch(word: &[u8], letter: u8) -> bool
     is_cluster(word) && word.contains(&letter)
 }
 
-/// Whether some cluster of the words has the letter.
+/// Whether the letter is in a cluster of the words.
 pub(crate) fn is_switched(words: &Words, letter: u8) -> bool
     ensures { result ≡ is_switched words.now letter }
 {

@@ -1,5 +1,6 @@
 //! Circuits of five corners: how the height of one over the other four depends on their heights.
-//! Their order: the three corners of a face, the corner of its tetrahedron, and the one across.
+//! The five points are the three corners of a face, the corner of its tetrahedron opposite the
+//! face, and the one across it, in this order.
 //!
 //! The coordinates of the grid are at most `2^29` in size, so those of a vector between two of its
 //! points are at most `2^30`. Minors are then at most `2^61`, squares of distances `3 * 2^60`, and

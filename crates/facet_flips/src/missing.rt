@@ -11,8 +11,8 @@ pub(crate) struct Missing {
     pub(crate) places: Items<usize>,
 }
 
-/// Whether some triangle has its first corner at a corner of the tetrahedron; if not, none is one
-/// of its faces.
+/// Whether a facet triangle begins at a corner of the tetrahedron. Without one, no face of the
+/// tetrahedron is a facet triangle.
 fn begins_at(table: &FaceTable, row: Tet) -> bool {
     table.has_first(row.a)
         || table.has_first(row.b)

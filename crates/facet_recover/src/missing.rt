@@ -11,8 +11,8 @@ use incidence::FaceTable;
 use std::alloc::Global;
 use tet_ports::NoMemory;
 
-/// Whether some triangle has its first corner at a corner of the tetrahedron; if not, none is one
-/// of its faces.
+/// Whether a facet triangle begins at a corner of the tetrahedron. Without one, no face of the
+/// tetrahedron is a facet triangle.
 fn begins_at(table: &FaceTable, tet: Tet) -> bool
     ensures { result ≡ false → (k : ℕ) → k < length table.now
         → ¬ Contains (row_faces tet) (face_at table.now k) }

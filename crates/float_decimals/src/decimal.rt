@@ -50,7 +50,7 @@ fn size_in_parts(bits: u32) -> Option<(u128, u32)>
 /// The shortest decimal of the binary float of 32 bits with the given bits; None where the float is
 /// infinite or no number, or 10^36 or more in size.
 ///
-/// It is the decimal with the fewest digits behind the point that reads back as the float, where
+/// The shortest decimal has the fewest digits behind the point that read back as the float, where
 /// reading rounds to the nearest float, and on a middle to the even one. Of several such decimals
 /// it is the nearest, and of two that are equally near the even one. A float that is whole is
 /// itself.

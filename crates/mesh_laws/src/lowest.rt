@@ -1,5 +1,4 @@
-//! Laws of the cavity in a mesh of lowest tetrahedra. Each is the contract of a function that does
-//! nothing, and holds of any heights of the points.
+//! Laws of the cavity in a mesh of lowest tetrahedra, for any heights of the points.
 ghost use Rattle.mesh_laws.specs.LowestLaws.{LowestCavityLaw, LowestCutOutLaw, HiddenPointLaw};
 
 /// The search from the place of a new point, if that is taken, finds all slots that the point

@@ -1,5 +1,4 @@
-//! Laws of surgery in a mesh of lowest tetrahedra. Each is the contract of a function that does
-//! nothing.
+//! Laws of surgery in a mesh of lowest tetrahedra.
 ghost use Rattle.mesh_laws.specs.LowestReplaced.{LowestReplacedLaw, LowestSameMeshLaw};
 
 /// The star of a new point in place of its whole cavity makes the mesh with that point. Points that

@@ -114,7 +114,7 @@ pub record TellsWhole (limits : Limits) (options : Options) (input : Input) (by 
   pub part : IsHalvedPartOf limits options input (length by.names) p.halvings p whole
   pub told : IsLineOf limits options input by whole line
 
--- so the line of a segment that was never halved is there; that of a part of one may be empty
+-- the line on a segment that was never halved names it; the line on a part of one names the segment or is empty
 abbrev pub TellsSegment : Limits → Options → Input → Numbering → Piece → List ℕ → Type 0
 TellsSegment limits options input by p line = TellsWhole limits options input by p line ⊎ ((p.halvings ≢ 0) × (line ≡ []))
 
@@ -141,20 +141,22 @@ front_of Facets = codes "tetfit: facet "
 abbrev pub front_text : Stated → ℕ → List ℕ
 front_text stated place = front_of stated ++ decimal place
 
--- that the point at this place is off the grid
+-- the line that the point at a place is off the grid
 abbrev pub refusal_line : Stated → ℕ → List ℕ
 refusal_line stated place = front_text stated place ++ codes ": coordinate off the grid\n"
 
--- and its coordinates
+-- the beginning of the line on its coordinates
 abbrev pub has_text : Stated → ℕ → List ℕ
 has_text stated place = front_text stated place ++ codes " has"
 
+-- the rest of that line
 abbrev pub at_line : DecimalPoint → List ℕ
 at_line p = at_text p ++ codes "\n"
 
 abbrev pub point_line : Stated → DecimalPoint → List ℕ
 point_line stated p = has_text stated p.line ++ at_line p
 
+-- the lines on a point off the grid: its place, and its coordinates
 abbrev pub off_grid_lines : Stated → DecimalPoint → List ℕ
 off_grid_lines stated p = refusal_line stated p.line ++ point_line stated p
 

@@ -58,7 +58,8 @@ fn segment_line(
     Ok(text)
 }
 
-/// The line that names a segment of the input; no text where the input is refused.
+/// The line that names a segment of the input; out of memory also where the input can't be put on
+/// its grid again.
 fn whole_hint(alloc: Global, trial: &Trial, by: &Numbering, whole: Piece) -> Result<Bytes, NoMemory>
     ensures { IfOk result (IsLineOf trial.now.limits trial.now.options
         trial.now.input by.now whole) }
@@ -70,6 +71,7 @@ fn whole_hint(alloc: Global, trial: &Trial, by: &Numbering, whole: Piece) -> Res
     }
 }
 
+/// Whether the subsegment is a whole segment, which was never halved.
 fn is_whole(piece: Piece) -> bool
     ensures { result ≡ (piece.halvings == 0) }
 {

@@ -45,7 +45,7 @@ fn stated_of(bytes: &Bytes) -> Stated
     }
 }
 
-/// The model with this input, and with what the places of its points count.
+/// The model with the input that was read, and the unit of the places of its points.
 fn with_stated(read: Result<Input, Status>, stated: Stated) -> Result<Model, Status>
     requires { IfOk read IsSound }
     ensures input { input_in result ≡ read }

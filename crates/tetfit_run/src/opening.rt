@@ -89,7 +89,8 @@ fn opening_in(alloc: Global, bound: &Bound) -> Result<Bytes, NoMemory>
 
 /// The line on an input whose mesh has no tetrahedron, rounded to `decimals` decimals. With hole
 /// points it says that nothing is enclosed or all of it is carved; without them it names a side that
-/// only one facet has, or, where none is found, says only that the facets enclose nothing.
+/// only one facet has, or, where none is found, says only that the facets enclose nothing. Out of
+/// memory also where the input can't be put on its grid again.
 pub fn opening_of(
     alloc: Global,
     limits: Limits,

@@ -1,4 +1,4 @@
-//! Queries at points of the mesh. Each law is the contract of a function that does nothing.
+//! Queries at points of the mesh, over the definitions alone.
 
 ghost use Rattle.tetwhere_run.specs.Corners.{HeldCornerLaw, KeptPointLaw};
 
@@ -7,7 +7,8 @@ pub fn law_kept_point()
     ensures { KeptPointLaw }
 {}
 
-/// Where that point is a corner of a row, and all rows are positive, some row holds the query.
+/// A query at a point of the mesh that is a corner of a row is held by a row, where all rows are
+/// positive.
 pub fn law_held_corner()
     ensures { HeldCornerLaw }
 {}

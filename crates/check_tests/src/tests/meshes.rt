@@ -150,7 +150,7 @@ fn verdict(alloc: Global, case: &Case) -> Option<Verdict> {
     verdict_of(alloc, &points, &list, case)
 }
 
-/// Whether that is the verdict of the case.
+/// Whether the check has the verdict of the case.
 fn is_found(alloc: Global, case: &Case) -> bool {
     verdict(alloc, case) == Some(case.verdict)
 }

@@ -20,7 +20,7 @@ const REPEATED: [Row; 3] = [
     ([6, 5, 5, 5], &[Some(0), Some(0), Some(0), Some(0)]),
 ];
 
-/// Whether this is what is across the faces of a row.
+/// Whether the wanted rows are across the faces of a row, in the order of its corners.
 fn are_across(across: Across, want: &[Option<usize>; 4]) -> bool {
     [across.n0, across.n1, across.n2, across.n3] == *want
 }

@@ -150,7 +150,7 @@ fn weights_of(weights: &Weights, row: Tet) -> FourWeights
     }
 }
 
-/// Whether this four is a row of the regular list: positive, and every other point outside.
+/// Whether the tetrahedron is regular: positive, with every other point outside.
 fn is_plain_row(points: &Points, weights: &Weights, t: Tet) -> bool
     requires inside { (t.a < length points.now) × (t.b < length points.now)
         × (t.c < length points.now) × (t.d < length points.now) }

@@ -442,7 +442,7 @@ fn fault_of(alloc: Global, form: Form, text: &[u8]) -> Option<PlcFault> {
     }
 }
 
-/// Whether that is this fault.
+/// Whether the text is refused with the fault of this line and kind.
 fn has_fault(alloc: Global, form: Form, text: &[u8], line: usize, kind: TextKind) -> bool {
     fault_of(alloc, form, text) == Some(PlcFault::Text(TextFault { line, kind }))
 }

@@ -471,7 +471,7 @@ fn written(alloc: Global, case: &TableCase) -> Option<Bytes> {
     }
 }
 
-/// Whether that is the text of the case.
+/// Whether the table is written as the text of the case.
 fn is_written(alloc: Global, case: &TableCase) -> bool {
     match written(alloc, case) {
         Some(text) => text.as_slice() == case.written,
