@@ -74,47 +74,79 @@ def brought_in(text):
     return named, whole
 
 
-def uncalled(names):
-    """The public functions, laws left out, that neither another crate nor a test calls: a method counts as called where a file above calls one of
-    its name, another function where a file imports it and calls it by its bare name."""
-    code = {file: re.sub(r"//.*", "", "\n".join(lines_of(file))) for file in names}
-    methods, functions, imports, above = {}, {}, {}, crates_above()
-    handed_out = {}
-    for file, text in code.items():
-        methods[file] = set(re.findall(r"(?:\.|::)(\w+)(?:::<[^>]*>)?\(", text))
-        functions[file] = set(re.findall(r"(?<![.:\w])(?<!fn )(\w+)(?:::<[^>]*>)?\(", text))
-        imports[file] = brought_in(text)
-        if file.endswith("/src/lib.rt"):
-            handed_out[crate_of(file)] = set(re.findall(r"\w+", " ".join(re.findall(r"pub use ([^;]*);", text))))
+def is_test(file, text):
+    return crate_of(file).endswith("_tests") or "/tests" in file or "#[test]" in text
 
-    def is_called(name, is_method, crate):
-        for file, text in code.items():
-            called = name in (methods if is_method else functions)[file]
-            if called and crate_of(file) == crate and ("test" in file or "#[test]" in text):
-                return True
-            if called and crate_of(file) in above.get(crate, ()):
-                named, whole = imports[file]
-                if is_method or name in named or crate in whole:
-                    return True
-        return False
 
-    for file, text in code.items():
-        crate = crate_of(file)
-        for indent, name in re.findall(r"^( *)pub (?:const )?fn ([a-z_0-9]+)", text, re.M):
-            if name.startswith("law_") or not indent and name not in handed_out.get(crate, ()):
+class Calls:
+    """The calls of each file: a method counts as called where a file above calls one of its name, another function where a file imports it and calls
+    it by its bare name."""
+
+    def __init__(self, names):
+        self.code = {file: re.sub(r"//.*", "", "\n".join(lines_of(file))) for file in names}
+        self.methods, self.functions, self.imports, self.above = {}, {}, {}, crates_above()
+        self.handed_out = {}
+        for file, text in self.code.items():
+            self.methods[file] = set(re.findall(r"(?:\.|::)(\w+)(?:::<[^>]*>)?\(", text))
+            self.functions[file] = set(re.findall(r"(?<![.:\w])(?<!fn )(\w+)(?:::<[^>]*>)?\(", text))
+            self.imports[file] = brought_in(text)
+            if file.endswith("/src/lib.rt"):
+                self.handed_out[crate_of(file)] = set(re.findall(r"\w+", " ".join(re.findall(r"pub use ([^;]*);", text))))
+
+    def callers(self, name, is_method, crate):
+        """The files that call it: those of the crates above, and the tests of its own crate."""
+        for file, text in self.code.items():
+            if name not in (self.methods if is_method else self.functions)[file]:
                 continue
-            if not is_called(name, bool(indent), crate):
-                yield f"{file}: {name}"
+            if crate_of(file) == crate and is_test(file, text):
+                yield file
+            elif crate_of(file) in self.above.get(crate, ()):
+                named, whole = self.imports[file]
+                if is_method or name in named or crate in whole:
+                    yield file
+
+    def has_caller_within(self, name, is_method, file):
+        """Whether the crate itself calls it, outside of its tests."""
+        where = self.methods if is_method else self.functions
+        return any(
+            name in where[other] for other, text in self.code.items() if crate_of(other) == crate_of(file) and not is_test(other, text)
+        )
+
+    def public(self):
+        """The public functions, laws left out: the file, the lines of comment before it, the name, and whether it is a method."""
+        for file, text in self.code.items():
+            whole = "\n".join(lines_of(file))
+            for doc, indent, name in re.findall(r"((?:^ *(?:///|#\[|ghost ).*\n)*)^( *)pub (?:const )?fn ([a-z_0-9]+)", whole, re.M):
+                if not name.startswith("law_") and (indent or name in self.handed_out.get(crate_of(file), ())):
+                    yield file, doc, name, bool(indent)
+
+
+def uncalled(calls):
+    """The public functions that neither another crate nor a test calls."""
+    for file, _, name, is_method in calls.public():
+        if not any(calls.callers(name, is_method, crate_of(file))):
+            yield f"{file}: {name}"
+
+
+def tested_alone(calls):
+    """The public functions that only tests call, and whose comment does not say so."""
+    for file, doc, name, is_method in calls.public():
+        callers = [*calls.callers(name, is_method, crate_of(file))]
+        by_tests = callers and all(is_test(it, calls.code[it]) for it in callers)
+        if by_tests and not calls.has_caller_within(name, is_method, file) and "Only tests call it" not in re.sub(r"\n */// ", " ", doc):
+            yield f"{file}: {name}"
 
 
 def main():
     sources = files("crates/*.rt")
     specs = [it for it in files("crates/*.antt") if "/specs/" in it]
+    calls = Calls(sources)
     found = {
         f"source lines over {SOURCE_WIDTH} columns": [*wide(sources, SOURCE_WIDTH)],
         f"spec lines over {SPEC_WIDTH} columns": [*wide(specs, SPEC_WIDTH)],
         f"functions over {FUNCTION_LINES} lines": [*long_functions(sources)],
-        "public functions that nothing else calls": [*uncalled(sources)],
+        "public functions that nothing else calls": [*uncalled(calls)],
+        "public functions that only tests call, and that do not say so": [*tested_alone(calls)],
     }
     with open("checks/counts", encoding="utf-8") as it:
         most = dict(reversed(line.strip().split(" ", 1)) for line in it if line.strip())

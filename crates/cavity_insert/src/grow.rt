@@ -158,7 +158,7 @@ fn test<Z: Zone, L: Ledger>(zone: &Z, s: Slot, steps: &mut Steps<L>) -> bool
 /// cavity it makes at least c and at most `4c + 1` steps. The corners are places in `points`, from
 /// 0, and coordinates are in grid units. Out of memory, the counter may have any value.
 ///
-/// Source: incremental insertion (Bowyer 1981, Watson 1981).
+/// Source: incremental insertion (Bowyer 1981, Watson 1981). Only tests call it.
 pub fn grow_cavity<L: Ledger>(
     alloc: Global,
     arena: &Arena,

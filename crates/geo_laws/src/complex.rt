@@ -208,7 +208,7 @@ impl Complex {
         &self.corners.as_slice()[span.first..span.past]
     }
 
-    /// The number of corners of the polygon at this place, from 0.
+    /// The number of corners of the polygon at this place, from 0. Only tests call it.
     pub fn corner_count(&self, polygon: u32) -> usize
         requires { polygon < length self.now.polygons }
         ensures { HoldsAt (λ p. result ≡ length p.corners) self.now.polygons polygon }

@@ -14,7 +14,7 @@ use tet_ports::{Items, NoMemory};
 pub type Faces = Items<Face>;
 
 /// All faces of tetrahedra: each set of three corners of a tetrahedron once, its numbers ascending,
-/// the faces ascending.
+/// the faces ascending. Only tests call it.
 pub fn faces_of(alloc: Global, list: &TetList) -> Result<Faces, NoMemory>
     ensures { IfOk result (λ faces. AreFacesOf list.now faces) }
 {

@@ -39,7 +39,7 @@ pub struct MarkedList<'a> {
 /// first facet in which the face lies, by its place in the complex, and 1 where that facet has
 /// none. A face in no facet has 1 where only one tetrahedron has it, so that it is on the hull of
 /// the mesh, and 0 elsewhere. Without `all` there are only the faces on the hull and those that lie
-/// in facets. The only refusal is out of memory.
+/// in facets. The only refusal is out of memory. Only tests call it.
 pub fn face_rows(
     alloc: Global,
     points: &Points,

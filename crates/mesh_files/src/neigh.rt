@@ -10,7 +10,7 @@ use std::alloc::Global;
 use tet_ports::{Bytes, NoMemory};
 
 /// The neighbors of tetrahedra: at each corner the place of the least other tetrahedron that has
-/// the face opposite it, if there is one.
+/// the face opposite it, if there is one. Only tests call it.
 pub fn neighbors_of(alloc: Global, list: &TetList) -> Result<Pairs, NoMemory>
     ensures pairs { IfOk result (λ pairs. pairs ≡ pairs_of list.now) }
     ensures places { IfOk result (λ pairs. AreAllWithin (length pairs) pairs) }

@@ -183,7 +183,7 @@ fn wins_by_volumes(v: Volumes, n: Numbers, m: u32) -> bool
 }
 
 /// Where `e` lies to the sphere through the corners `a`, `b`, `c` and `d` of a positive
-/// tetrahedron: below for outside, zero for on it. All five are of one frame.
+/// tetrahedron: below for outside, zero for on it. All five are of one frame. Only tests call it.
 #[inline(always)]
 pub fn in_lifted_sphere(a: Lifted, b: Lifted, c: Lifted, d: Lifted, e: Lifted) -> Sign
     ensures { IsSphereSign result (record { a = a; b = b; c = c; d = d }) e }

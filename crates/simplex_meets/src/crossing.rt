@@ -54,7 +54,7 @@ pub fn parts_of(
 
 /// `Crossing` exactly where two triangles, or a triangle and a piece, are not properly met: the
 /// first such two, by the place of the first and then by that of the second, in the list of the
-/// triangles with the pieces after them. Two pieces are not tested.
+/// triangles with the pieces after them. Two pieces are not tested. Only tests call it.
 pub fn crossings(
     alloc: Global,
     points: &Points,

@@ -397,7 +397,7 @@ pub(crate) fn accepted_by(
 /// The candidate in order, where it is the Delaunay list refilled round the facets; None where the
 /// tests do not show this. However it was found, each tetrahedron that is not of the Delaunay list
 /// is tested alone and across its faces, so that no search for points is needed, and of the others
-/// only those near the change.
+/// only those near the change. Only tests call it.
 pub fn accepted(
     alloc: Global,
     points: &Points,

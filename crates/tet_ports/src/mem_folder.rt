@@ -65,6 +65,7 @@ impl MemFolder {
     }
 
     /// Lets the fetch with this number fail, counted from 1, in place of one that was set before.
+    /// Only tests call it.
     pub fn fail_fetch(&mut self, nth: u32)
         ensures { self.new ≡ record self.old { fetches = failing_at nth self.old.fetches } }
     {
@@ -73,6 +74,7 @@ impl MemFolder {
 
     /// Lets the store with this number fail, counted from 1, in place of one that was set before.
     /// It leaves the first `kept` bytes of its text, or the whole text where that is shorter.
+    /// Only tests call it.
     pub fn fail_store(&mut self, nth: u32, kept: usize)
         ensures { self.new
             ≡ record self.old { stores = failing_at nth self.old.stores; kept = kept } }

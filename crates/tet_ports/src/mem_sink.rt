@@ -42,6 +42,7 @@ impl MemSink {
 
     /// Lets the put with this number fail, counted from 1, in place of one that was set before. It
     /// appends the first `kept` bytes of its piece, or the whole piece where that is shorter.
+    /// Only tests call it.
     pub fn fail_put(&mut self, nth: u32, kept: usize)
         ensures { self.new ≡ record self.old { puts = failing_at nth self.old.puts; kept = kept } }
     {
