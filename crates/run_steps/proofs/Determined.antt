@@ -10,9 +10,10 @@ use Rattle.geo_laws.proofs.Ascending.{Rises, none, more, rises-same}
 use Rattle.mesh_files.specs.FaceRows.{corners_of, IsFaceRow}
 use Rattle.mesh_files.specs.Texts.{face_text, edge_text}
 use Rattle.mesh_files.specs.declared.markers.FaceRow.{FaceRow}
-use Rattle.run_steps.specs.Outputs.{named, first_of, face_file, edge_file, summary_text, summary_of, names_sides, AreOutputsOf}
+use Rattle.run_steps.specs.Outputs.{named, first_of, face_file, edge_file, summary_of, report_of, names_sides, AreOutputsOf}
 use Rattle.run_steps.specs.declared.meshed.Meshed.{Meshed}
 use Rattle.run_steps.specs.declared.outputs.Outputs.{Outputs}
+use Rattle.run_steps.specs.declared.report.Report.TheVariants.{Mesh}
 use Rattle.command_words.specs.declared.options.Options.{Options}
 
 -- ---- ascending lists
@@ -47,16 +48,16 @@ choice : {A : Type 0} (b : Bool) (x y z : A) → (b ≡ false → x ≡ y) → (
 choice true x y z h = refl
 choice false x y z h = h refl
 
--- the edge file speaks of the sides, and so does the summary
+-- the edge file speaks of the sides, and so does the report
 pub sides_in_file : (quiet no_face edges : Bool) → (no_face || not edges) ≡ false → (not quiet || (not no_face && edges)) ≡ true
 sides_in_file quiet true edges h = absurd (true≢false h)
 sides_in_file quiet false false h = absurd (true≢false h)
 sides_in_file true false true h = refl
 sides_in_file false false true h = refl
 
-sides_in_summary : (quiet no_face edges : Bool) → quiet ≡ false → (not quiet || (not no_face && edges)) ≡ true
-sides_in_summary true no_face edges h = absurd (true≢false h)
-sides_in_summary false no_face edges h = refl
+sides_in_report : (quiet no_face edges : Bool) → quiet ≡ false → (not quiet || (not no_face && edges)) ≡ true
+sides_in_report true no_face edges h = absurd (true≢false h)
+sides_in_report false no_face edges h = refl
 
 module _ (options : Options) (mesh : Meshed) (p q : Outputs) (a : AreOutputsOf options mesh p) (b : AreOutputsOf options mesh q) where
   marked_same : options.no_face ≡ false → a.marked ≡ b.marked
@@ -86,10 +87,10 @@ module _ (options : Options) (mesh : Meshed) (p q : Outputs) (a : AreOutputsOf o
       choice (options.no_face || not options.edges) _ _ None
       (λ e. ap (λ (s : List Side). Some (named options.base (codes ".1.edge") (edge_text mesh.names (first_of options mesh) s))) (sides_same (sides_in_file options.quiet options.no_face options.edges e)))
 
-  summaries : summary_of options mesh (length a.faces) (length a.sides) ≡ summary_of options mesh (length b.faces) (length b.sides)
-  summaries = choice options.quiet _ _ None (λ e.
-      ap (λ (f : List Face). Some (summary_text mesh (length f) (length a.sides))) (faces_same e)
-      ∙ ap (λ (s : List Side). Some (summary_text mesh (length b.faces) (length s))) (sides_same (sides_in_summary options.quiet options.no_face options.edges e)))
+  reports : report_of options mesh (length a.faces) (length a.sides) ≡ report_of options mesh (length b.faces) (length b.sides)
+  reports = choice options.quiet _ _ None (λ e.
+      ap (λ (f : List Face). Some (Mesh (summary_of mesh (length f) (length a.sides)) [])) (faces_same e)
+      ∙ ap (λ (s : List Side). Some (Mesh (summary_of mesh (length b.faces) (length s)) [])) (sides_same (sides_in_report options.quiet options.no_face options.edges e)))
 
   -- two outputs of one mesh are the same
   pub outputs_same : p ≡ q
@@ -99,5 +100,5 @@ module _ (options : Options) (mesh : Meshed) (p q : Outputs) (a : AreOutputsOf o
       let face = a.face_is ∙ face_files ∙ sym b.face_is in
       let edge = a.edge_is ∙ edge_files ∙ sym b.edge_is in
       let neigh = a.neigh_is ∙ sym b.neigh_is in
-      let summary = a.summary_is ∙ summaries ∙ sym b.summary_is in
-      λ i. record { texts = record { node = node i; ele = ele i; face = face i; edge = edge i; neigh = neigh i }; summary = summary i }
+      let report = a.report_is ∙ reports ∙ sym b.report_is in
+      λ i. record { texts = record { node = node i; ele = ele i; face = face i; edge = edge i; neigh = neigh i }; report = report i }

@@ -3,6 +3,7 @@ pub mod Meshing
 pub mod Numbering
 pub mod Messages
 pub mod Outputs
+pub mod Reports
 pub mod Reading
 pub mod Steps
 pub mod Stores

@@ -1,6 +1,5 @@
 -- The files and the summary of a mesh.
-use Rattle.std.specs.Prelude.{◌≡◌, ℕ, ◌+◌, ◌<◌, ◌^◌, Bool, true, false, ◌||◌, ◌&&◌, not, List, [], ◌∷◌, ◌++◌, length, All, AllPairs, Option, Some, None, IfSome, codes, if◌then◌else◌}
-use Rattle.std.specs.Fmt.{decimal}
+use Rattle.std.specs.Prelude.{◌≡◌, ℕ, ◌+◌, ◌<◌, ◌^◌, Bool, true, false, ◌||◌, ◌&&◌, not, List, [], ◌++◌, length, All, AllPairs, Option, Some, None, IfSome, codes, if◌then◌else◌}
 use Rattle.geo_laws.specs.Delaunay.{numbers, RowBefore}
 use Rattle.geo_laws.specs.Faces.{AreFacesOf, AreHullFacesOf, AreSidesOf}
 use Rattle.geo_laws.specs.declared.faces.Face.{Face}
@@ -16,6 +15,9 @@ use Rattle.run_steps.specs.declared.meshed.Meshed.{Meshed}
 use Rattle.run_steps.specs.declared.outputs.Outputs.{Outputs}
 use Rattle.run_steps.specs.declared.outputs.FaceOutputs.{FaceOutputs}
 use Rattle.run_steps.specs.declared.outputs.SideOutputs.{SideOutputs}
+use Rattle.run_steps.specs.declared.report.Report.{Report}
+use Rattle.run_steps.specs.declared.report.Report.TheVariants.{Mesh}
+use Rattle.run_steps.specs.declared.report.Summary.{Summary}
 use Rattle.run_steps.specs.declared.store.NamedText.{NamedText}
 use Rattle.command_words.specs.declared.options.Options.{Options}
 
@@ -57,20 +59,22 @@ neigh_file options mesh =
     if not options.neighbors then None
     else Some (named options.base (codes ".1.neigh") (neigh_text (first_of options mesh) (pairs_of mesh.tetrahedra)))
 
--- the text on the number of hidden points, where there is one
-abbrev pub hidden_text : Option ℕ → List ℕ
-hidden_text None = []
-hidden_text (Some count) = codes " hidden " ++ decimal count
+-- the counts that sum up a mesh with these numbers of faces and edges
+abbrev pub summary_of : Meshed → ℕ → ℕ → Summary
+summary_of mesh faces edges = record {
+  points = length mesh.table.listed;
+  added = length mesh.added;
+  tetrahedra = length mesh.tetrahedra;
+  faces = faces;
+  edges = edges;
+  hidden = mesh.hidden;
+  decimals = None;
+  over = None;
+}
 
--- `points P added A tetrahedra T faces F edges E`, for F faces and E edges, and for weighted points ` hidden H`
-abbrev pub summary_text : Meshed → ℕ → ℕ → List ℕ
-summary_text mesh faces edges =
-    codes "points " ++ decimal (length mesh.table.listed) ++ codes " added " ++ decimal (length mesh.added)
-    ++ codes " tetrahedra " ++ decimal (length mesh.tetrahedra) ++ codes " faces " ++ decimal faces ++ codes " edges " ++ decimal edges
-    ++ hidden_text mesh.hidden ++ (10 ∷ [])
-
-abbrev pub summary_of : Options → Meshed → ℕ → ℕ → Option (List ℕ)
-summary_of options mesh faces edges = if options.quiet then None else Some (summary_text mesh faces edges)
+-- the summary of a mesh, with no lines behind it, if it is asked for
+abbrev pub report_of : Options → Meshed → ℕ → ℕ → Option Report
+report_of options mesh faces edges = if options.quiet then None else Some (Mesh (summary_of mesh faces edges) [])
 
 -- whether the edge file or the summary is asked for
 abbrev pub names_sides : Options → Bool
@@ -140,4 +144,4 @@ pub record AreOutputsOf (options : Options) (mesh : Meshed) (outputs : Outputs) 
   pub face_is : outputs.texts.face ≡ face_file options mesh marked
   pub edge_is : outputs.texts.edge ≡ edge_file options mesh sides
   pub neigh_is : outputs.texts.neigh ≡ neigh_file options mesh
-  pub summary_is : outputs.summary ≡ summary_of options mesh (length faces) (length sides)
+  pub report_is : outputs.report ≡ report_of options mesh (length faces) (length sides)

@@ -1,21 +1,22 @@
 //! The files and the summary of a mesh.
 
-ghost use Rattle.std.specs.Prelude.{◌≡◌, true, false, ◌<◌, ◌^◌, ◌++◌, length, All, List, IfOk, IfSome, OnOk};
+ghost use Rattle.std.specs.Prelude.{◌≡◌, true, false, ◌<◌, ◌^◌, length, All, List, IfOk, IfSome};
 ghost use Rattle.std.specs.Option.{option_copied};
 ghost use Rattle.geo_laws.specs.Faces.{side_numbers, AreFacesOf, AreSidesOf};
 ghost use Rattle.geo_laws.specs.declared.faces.Face.{Face};
 ghost use Rattle.incidence.specs.Uses.{AreUsesOf};
 ghost use Rattle.mesh_files.specs.FaceRows.{AreFaceRowsOf};
 ghost use Rattle.mesh_files.specs.Texts.{marked_corners, AreNamed};
-ghost use Rattle.run_steps.specs.Outputs.{named, first_of, node_file, ele_file, face_file, edge_file, neigh_file, hidden_text, summary_of, names_sides, asks_uses, asks_hull_alone, IsWritable, IsHullOf, IsFaceFileOf, AreFaceOutputsOf, AreSideOutputsOf, AreOutputsOf};
+ghost use Rattle.run_steps.specs.Outputs.{named, first_of, node_file, ele_file, face_file, edge_file, neigh_file, report_of, names_sides, asks_uses, asks_hull_alone, IsWritable, IsHullOf, IsFaceFileOf, AreFaceOutputsOf, AreSideOutputsOf, AreOutputsOf};
 ghost use Rattle.run_steps.specs.Stores.{in_order, TellsFailure};
 
 use crate::meshed::{HulledMesh, Meshed};
 use crate::messages::NAME;
+use crate::report::{Report, Summary};
 use crate::store::{NamedText, Texts};
 use command_words::{Options, with_extension};
 use incidence::{Uses, pair_uses, uses_of};
-use mesh_check::{append_number, file_message};
+use mesh_check::file_message;
 use mesh_files::{
     Edges, FaceRows, Faces, edges_of, face_count, hull_rows, used_faces, write_all_faces,
     write_edge, write_ele, write_face, write_neigh,
@@ -24,11 +25,11 @@ use node_files::write_node;
 use std::alloc::Global;
 use tet_ports::{Bytes, NoMemory};
 
-/// The files of a mesh, and the line that sums it up.
+/// The files of a mesh, and what is written to the standard output.
 #[derive(Debug, Drop)]
 pub struct Outputs {
     pub texts: Texts,
-    pub summary: Option<Bytes>,
+    pub report: Option<Report>,
 }
 
 /// The files of the points and of the tetrahedra, where they are asked for.
@@ -68,8 +69,8 @@ pub fn outputs_of(alloc: Global, options: &Options, made: &HulledMesh) -> Result
     let faces = face_outputs(alloc, options, made)?;
     let sides = side_outputs(alloc, options, mesh)?;
     let rows = row_outputs(alloc, options, mesh)?;
-    let summary = summary_of(alloc, options, mesh, faces.count, sides.count)?;
-    Ok(put_together(rows, faces, sides, summary))
+    let report = report_of(alloc, options, mesh, faces.count, sides.count);
+    Ok(put_together(rows, faces, sides, report))
 }
 
 /// Collects the files of the points, the tetrahedra, the faces and the edges that are asked for,
@@ -78,7 +79,7 @@ fn put_together(
     rows: RowOutputs,
     faces: FaceOutputs,
     sides: SideOutputs,
-    summary: Option<Bytes>,
+    report: Option<Report>,
 ) -> Outputs
     ensures { result ≡ record {
       texts = record {
@@ -88,7 +89,7 @@ fn put_together(
         edge = sides.edge;
         neigh = faces.neigh;
       };
-      summary = summary;
+      report = report;
     } }
 {
     let texts = Texts {
@@ -98,7 +99,7 @@ fn put_together(
         edge: sides.edge,
         neigh: faces.neigh,
     };
-    Outputs { texts, summary }
+    Outputs { texts, report }
 }
 
 /// The files of the points and of the tetrahedra, where they are asked for.
@@ -381,41 +382,31 @@ fn named(alloc: Global, options: &Options, extension: &[u8], content: Bytes) -> 
     }))
 }
 
-/// The line that sums up the mesh, if it is asked for.
-fn summary_of(
+/// The counts that sum up the mesh, if they are asked for.
+fn report_of(
     alloc: Global,
     options: &Options,
     mesh: &Meshed,
     faces: usize,
     sides: usize,
-) -> Result<Option<Bytes>, NoMemory>
-    ensures { IfOk result (λ line. line ≡ summary_of options.now mesh.now faces sides) }
+) -> Option<Report>
+    ensures { result ≡ report_of options.now mesh.now faces sides }
 {
     if options.quiet {
-        return Ok(None);
+        return None;
     }
-    let mut line = Bytes::from_slice(alloc, b"points ")?;
-    append_number(&mut line, mesh.table.listed.len())?;
-    line.append(b" added ")?;
-    append_number(&mut line, mesh.added.len())?;
-    line.append(b" tetrahedra ")?;
-    append_number(&mut line, mesh.tetrahedra.len())?;
-    line.append(b" faces ")?;
-    append_number(&mut line, faces)?;
-    line.append(b" edges ")?;
-    append_number(&mut line, sides)?;
-    append_hidden(&mut line, mesh.hidden)?;
-    line.append(b"\n")?;
-    Ok(Some(line))
-}
-
-/// Appends the number of hidden points, where there is one.
-fn append_hidden(line: &mut Bytes, hidden: Option<usize>) -> Result<(), NoMemory>
-    ensures { OnOk result (line.new ≡ line.old ++ hidden_text hidden) }
-{
-    if let Some(count) = hidden {
-        line.append(b" hidden ")?;
-        append_number(line, count)?;
-    }
-    Ok(())
+    let summary = Summary {
+        points: mesh.table.listed.len(),
+        added: mesh.added.len(),
+        tetrahedra: mesh.tetrahedra.len(),
+        faces,
+        edges: sides,
+        hidden: mesh.hidden,
+        decimals: None,
+        over: None,
+    };
+    Some(Report::Mesh {
+        summary,
+        notes: Bytes::new(alloc),
+    })
 }

@@ -5,6 +5,7 @@ use Rattle.std.proofs.lemmas.List.Elements.{All-contains}
 use Rattle.std.proofs.lemmas.List.{append-nil}
 use Rattle.tet_ports.specs.Counts.{Rose}
 use Rattle.tet_ports.specs.Seen.{IsMessagePut, FolderSeen, SinkSeen}
+use Rattle.run_steps.specs.Reports.{text_in}
 use Rattle.run_steps.specs.Stores.{in_order, with_files, AreLeft, IfFailed, TellsFailure}
 use Rattle.run_steps.specs.declared.numbering.Numbering.{Numbering}
 use Rattle.run_steps.specs.declared.outputs.Outputs.{Outputs}
@@ -142,7 +143,7 @@ store_finishes outputs folder out StoreWanting left rose w = (w, left)
 
 -- where all is stored
 pub summed_finishes : (outputs : Outputs) (folder : FolderSeen) (out : SinkSeen) (result : Result (Unit {0}) Stop) → folder.files_now ≡ with_files folder.files_before (in_order outputs.texts)
-    → IsSummed outputs.summary out result → FinishesSo outputs folder out result
+    → IsSummed (text_in outputs) out result → FinishesSo outputs folder out result
 summed_finishes outputs folder out (Ok done) f s = (f, s)
 summed_finishes outputs folder out (Err Unsummed) f s = (f, s.0, s.1)
 summed_finishes outputs folder out (Err Wanting) f s = (s, record { stored = in_order outputs.texts; left = []; texts_are = sym (append-nil (in_order outputs.texts)); now_is = f })

@@ -5,6 +5,7 @@ use Rattle.tet_ports.specs.Counts.{Rose}
 use Rattle.tet_ports.specs.Written.{PartlyPut, with_written}
 use Rattle.run_steps.specs.declared.numbering.Numbering.{Numbering}
 use Rattle.tet_ports.specs.Seen.{IsMessagePut, FolderSeen, SinkSeen}
+use Rattle.run_steps.specs.Reports.{text_in}
 use Rattle.run_steps.specs.Stores.{in_order, with_files, AreStoredTo, AreStoredInto, TellsFailure}
 use Rattle.run_steps.specs.declared.outputs.Outputs.{Outputs}
 use Rattle.run_steps.specs.declared.status.Status.{Status}
@@ -62,12 +63,12 @@ PartlySummed before (Some line) now = PartlyPut before line now
 abbrev pub LeavesBy : (Outputs → Type 0) → FolderSeen → SinkSeen → Status → Type 0
 LeavesBy P folder out Done = (outputs : Outputs) × P outputs
     × (folder.files_now ≡ with_files folder.files_before (in_order outputs.texts))
-    × (out.written_now ≡ with_summary out.written_before outputs.summary)
+    × (out.written_now ≡ with_summary out.written_before (text_in outputs))
 LeavesBy P folder out (WriteFault (Some name)) = (outputs : Outputs) × P outputs
     × AreStoredInto folder.files_before (in_order outputs.texts) name folder.files_now × (out.written_now ≡ out.written_before)
 LeavesBy P folder out (WriteFault None) = (outputs : Outputs) × P outputs
     × (folder.files_now ≡ with_files folder.files_before (in_order outputs.texts))
-    × PartlySummed out.written_before outputs.summary out.written_now
+    × PartlySummed out.written_before (text_in outputs) out.written_now
 LeavesBy P folder out NoMemory = (out.written_now ≡ out.written_before)
     × ((folder.files_now ≡ folder.files_before)
     ⊎ ((outputs : Outputs) × P outputs × AreStoredTo folder.files_before (in_order outputs.texts) folder.files_now))
@@ -95,13 +96,13 @@ TellsBy message Numbered err status = (by : Option Numbering) × Numbered status
 -- how the stores of outputs end, and their summary
 abbrev pub FinishesSo : Outputs → FolderSeen → SinkSeen → Result (Unit {0}) Stop → Type 0
 FinishesSo outputs folder out (Ok done) = (folder.files_now ≡ with_files folder.files_before (in_order outputs.texts))
-    × (out.written_now ≡ with_summary out.written_before outputs.summary)
+    × (out.written_now ≡ with_summary out.written_before (text_in outputs))
 FinishesSo outputs folder out (Err (Refused status by)) = ⊥
 FinishesSo outputs folder out (Err (Unwritten text)) =
     AreStoredInto folder.files_before (in_order outputs.texts) text.name folder.files_now × (out.written_now ≡ out.written_before)
     × Rose folder.write_faults_before folder.write_faults_now × Contains (in_order outputs.texts) text
 FinishesSo outputs folder out (Err Unsummed) = (folder.files_now ≡ with_files folder.files_before (in_order outputs.texts))
-    × PartlySummed out.written_before outputs.summary out.written_now
+    × PartlySummed out.written_before (text_in outputs) out.written_now
     × Rose out.faults_before out.faults_now
 FinishesSo outputs folder out (Err Wanting) = (out.written_now ≡ out.written_before)
     × AreStoredTo folder.files_before (in_order outputs.texts) folder.files_now
@@ -117,14 +118,14 @@ abbrev pub EndsWith : (Result Outputs Status → Type 0) → (Status → Option 
     → FolderSeen → SinkSeen → Result (Unit {0}) Stop → Type 0
 EndsWith Made Numbered folder out (Ok done) = (outputs : Outputs) × Made (Ok outputs)
     × (folder.files_now ≡ with_files folder.files_before (in_order outputs.texts))
-    × (out.written_now ≡ with_summary out.written_before outputs.summary)
+    × (out.written_now ≡ with_summary out.written_before (text_in outputs))
 EndsWith Made Numbered folder out (Err (Refused status by)) = IsUnchanged folder out × Made (Err status) × Numbered status by
 EndsWith Made Numbered folder out (Err (Unwritten text)) = (outputs : Outputs) × Made (Ok outputs)
     × AreStoredInto folder.files_before (in_order outputs.texts) text.name folder.files_now × (out.written_now ≡ out.written_before)
     × Rose folder.write_faults_before folder.write_faults_now × TellsFailure text
 EndsWith Made Numbered folder out (Err Unsummed) = (outputs : Outputs) × Made (Ok outputs)
     × (folder.files_now ≡ with_files folder.files_before (in_order outputs.texts))
-    × PartlySummed out.written_before outputs.summary out.written_now
+    × PartlySummed out.written_before (text_in outputs) out.written_now
     × Rose out.faults_before out.faults_now
 EndsWith Made Numbered folder out (Err Wanting) = (out.written_now ≡ out.written_before)
     × ((folder.files_now ≡ folder.files_before)

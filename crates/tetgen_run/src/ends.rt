@@ -7,7 +7,7 @@ ghost use Rattle.tetgen_run.specs.Ends.{FinishesSo, IsSummed, IsTellable, IsTold
 
 use crate::stop::Stop;
 use mesh_check::put_message;
-use run_steps::{OUT_OF_MEMORY, Outputs, SUMMARY_FAILED, Status, message, store_all};
+use run_steps::{OUT_OF_MEMORY, Outputs, SUMMARY_FAILED, Status, message, store_all, text_of};
 use std::alloc::Global;
 use tet_ports::{Bytes, Folder, PutFault, Sink};
 
@@ -23,9 +23,10 @@ pub fn finish<F: Folder, O: Sink>(
     ensures unread { (F.state folder.new).read_faults ≡ (F.state folder.old).read_faults }
     ensures misses { (F.state folder.new).misses ≡ (F.state folder.old).misses }
 {
-    let Outputs { texts, summary } = outputs;
+    let Outputs { texts, report } = outputs;
+    let text = text_of(alloc, report)?;
     store_all(texts.in_order(alloc)?, folder)?;
-    sum_up(summary, out)
+    sum_up(text, out)
 }
 
 /// Writes the summary, where there is one.

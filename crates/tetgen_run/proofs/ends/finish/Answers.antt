@@ -2,6 +2,7 @@ use Rattle.std.proofs.Common.{◌≡◌, [], refl, subst}
 use Rattle.std.proofs.lemmas.Result.{err_from_is_err_and}
 use Rattle.tet_ports.specs.Seen.{FolderSeen, SinkSeen, folder_seen, sink_seen}
 use Rattle.run_steps.specs.Stores.{AreLeft, with_files}
+use Rattle.tetgen_run.specs.Ends.{IsSummed}
 use Rattle.tetgen_run.proofs.Endings.{store_finishes, summed_finishes}
 use Rattle.tetgen_run.proofs.ends.finish.Goals as goal
 
@@ -23,4 +24,5 @@ returns-clause-finish g c =
     let folder : FolderSeen = folder_seen F.state c.args.folder.now c.store_all.new.folder in
     let out : SinkSeen = sink_seen O.state c.args.out.now c.sum_up.new.out in
     let stored = subst (λ texts. (F.state c.store_all.new.folder).files ≡ with_files (F.state c.args.folder.now).files texts) c.in_ok-in_order.ensures c.in_ok-store_all.ensures.stored in
-    summed_finishes c.args.outputs folder out c.sum_up.result stored c.sum_up.ensures
+    let summed = subst (λ text. IsSummed text out c.sum_up.result) c.in_ok-text.ensures c.sum_up.ensures in
+    summed_finishes c.args.outputs folder out c.sum_up.result stored summed
