@@ -2,3 +2,4 @@ pub mod Numbers
 pub mod Center
 pub mod Counts
 pub mod Slim
+pub mod Volumes

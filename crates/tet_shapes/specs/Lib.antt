@@ -3,3 +3,4 @@ pub mod Shape
 pub mod Sizes
 pub mod Vector
 pub mod Laws
+pub mod Volume

@@ -7,8 +7,10 @@ mod shape;
 #[cfg(test)]
 mod tests;
 mod vector;
+mod volume;
 mod wide;
 
 pub use count::{count_large, count_slim};
 pub use laws::{law_circumcenter, law_radius, law_slim};
 pub use shape::{Ratio, is_large, is_slim, is_slim_at};
+pub use volume::most_volume;
