@@ -1,0 +1,152 @@
+//! Tetrahedra with their neighbors, subfaces and subsegments.
+use crate::plane::Plane;
+use crate::spot::Spot;
+use geo_laws::{Face, Side, face_of, side_of};
+
+/// What is across a face of a tetrahedron.
+#[derive(Clone, Copy)]
+pub(crate) enum Beyond {
+    Tetrahedron(u32),
+    Subface(u32),
+    Outside,
+}
+
+/// A positive tetrahedron: its corners, and what is across the face opposite each.
+#[derive(Clone, Copy)]
+pub(crate) struct Cell {
+    pub(crate) corners: [u32; 4],
+    pub(crate) across: [Beyond; 4],
+}
+
+impl Cell {
+    /// The edges.
+    pub(crate) fn edges(&self) -> [Side; 6] {
+        let [a, b, c, d] = self.corners;
+        [
+            side_of(a, b),
+            side_of(a, c),
+            side_of(a, d),
+            side_of(b, c),
+            side_of(b, d),
+            side_of(c, d),
+        ]
+    }
+}
+
+/// What is across an edge of a subface: a subface of the same facet, or none beyond a subsegment.
+#[derive(Clone, Copy)]
+pub(crate) enum Link {
+    Subface(u32),
+    Subsegment(u32),
+    Nothing,
+}
+
+/// A subface: its corners, its facet, and a corner of the complex in the facet if there is one.
+#[derive(Clone, Copy, PartialEq, Eq, PartialOrd, Ord)]
+pub(crate) struct Subface {
+    pub(crate) face: Face,
+    pub(crate) facet: u32,
+    pub(crate) anchor: Option<u32>,
+}
+
+/// The places of the points, the tetrahedra, the subfaces in the order of their corners with what
+/// is across the edge opposite each corner, the subsegments in order, and for each point whether it
+/// is the corner of a subface.
+#[derive(Drop)]
+pub(crate) struct Mesh {
+    pub(crate) spots: Vec<Spot>,
+    pub(crate) cells: Vec<Cell>,
+    pub(crate) subfaces: Vec<Subface>,
+    pub(crate) faces: Vec<Face>,
+    pub(crate) links: Vec<[Link; 3]>,
+    pub(crate) subsegments: Vec<Side>,
+    pub(crate) on_boundary: Vec<bool>,
+}
+
+/// The corners of the face opposite a corner of a positive tetrahedron, so that the corner is on
+/// its positive side.
+pub(crate) fn opposite(s: &[Spot; 4], k: usize) -> [Spot; 3] {
+    let [a, b, c, d] = *s;
+    match k {
+        0 => [b, d, c],
+        1 => [a, c, d],
+        2 => [a, d, b],
+        _ => [a, b, c],
+    }
+}
+
+/// A quarter of the sum of the corners.
+pub(crate) fn centroid(s: &[Spot; 4]) -> Spot {
+    let [a, b, c, d] = *s;
+    a.plus(b).plus(c).plus(d).over_power(2)
+}
+
+impl Mesh {
+    /// The place of a point.
+    pub(crate) fn spot(&self, v: u32) -> Option<Spot> {
+        self.spots.get(v as usize).copied()
+    }
+
+    /// The tetrahedron with this number.
+    pub(crate) fn cell(&self, t: u32) -> Option<Cell> {
+        self.cells.get(t as usize).copied()
+    }
+
+    /// The places of the corners of a tetrahedron.
+    pub(crate) fn corners(&self, t: u32) -> Option<[Spot; 4]> {
+        let [a, b, c, d] = self.cells.get(t as usize)?.corners;
+        Some([self.spot(a)?, self.spot(b)?, self.spot(c)?, self.spot(d)?])
+    }
+
+    /// The places of the corners of a subface.
+    pub(crate) fn triangle(&self, s: u32) -> Option<[Spot; 3]> {
+        let Face { a, b, c } = self.subfaces.get(s as usize)?.face;
+        Some([self.spot(a)?, self.spot(b)?, self.spot(c)?])
+    }
+
+    /// What is across the edges of a subface.
+    pub(crate) fn links(&self, s: u32) -> Option<[Link; 3]> {
+        self.links.get(s as usize).copied()
+    }
+
+    /// The plane of a subface, through a corner of the complex in its facet.
+    pub(crate) fn plane(&self, s: u32) -> Option<Plane> {
+        let anchor = self.subfaces.get(s as usize)?.anchor?;
+        let [a, b, c] = self.triangle(s)?;
+        Plane::new(self.spot(anchor)?, b.from(a).cross(c.from(a)))
+    }
+
+    /// The ends of a subsegment.
+    pub(crate) fn ends(&self, e: u32) -> Option<(Spot, Spot)> {
+        let side = self.subsegments.get(e as usize)?;
+        Some((self.spot(side.a)?, self.spot(side.b)?))
+    }
+
+    /// The ends of an edge.
+    pub(crate) fn ends_of(&self, side: Side) -> Option<(Spot, Spot)> {
+        Some((self.spot(side.a)?, self.spot(side.b)?))
+    }
+
+    /// Whether a point is the corner of a subface.
+    fn is_on_boundary(&self, v: u32) -> bool {
+        self.on_boundary.get(v as usize).copied().unwrap_or(false)
+    }
+
+    /// The subface with these corners.
+    pub(crate) fn subface_of(&self, a: u32, b: u32, c: u32) -> Option<u32> {
+        if !self.is_on_boundary(a) || !self.is_on_boundary(b) || !self.is_on_boundary(c) {
+            return None;
+        }
+        let place = self.faces.as_slice().binary_search(&face_of(a, b, c)).ok()?;
+        u32::try_from(place).ok()
+    }
+
+    /// The subsegment that is this edge.
+    pub(crate) fn subsegment_of(&self, side: Side) -> Option<u32> {
+        if !self.is_on_boundary(side.a) || !self.is_on_boundary(side.b) {
+            return None;
+        }
+        let place = self.subsegments.as_slice().binary_search(&side).ok()?;
+        u32::try_from(place).ok()
+    }
+}

@@ -1,0 +1,108 @@
+//! Circumspheres of tetrahedra and equatorial spheres of triangles, with centers rounded to the
+//! grid.
+use crate::spot::{Spot, distance, rounded};
+
+/// A sphere by its center, rounded to the grid, and the square of the distance from there to a
+/// corner.
+#[derive(Clone, Copy)]
+pub(crate) struct Sphere {
+    pub(crate) center: Spot,
+    pub(crate) squared: u64,
+}
+
+impl Sphere {
+    /// Whether a point is inside.
+    pub(crate) fn has(&self, p: Spot) -> bool {
+        distance(p, self.center) < self.squared
+    }
+}
+
+/// The nearest whole number to a quotient, where it is at most `2^30` in size.
+fn near_quotient(n: i128, d: i128) -> Option<i64> {
+    let q = rounded(n, d);
+    if q.unsigned_abs() > 1 << 30 {
+        return None;
+    }
+    Some(q as i64)
+}
+
+/// The sphere through a corner whose center is three numbers over a divisor away.
+fn sphere_at(corner: Spot, x: i128, y: i128, z: i128, d: i128) -> Option<Sphere> {
+    let offset = Spot {
+        x: near_quotient(x, d)?,
+        y: near_quotient(y, d)?,
+        z: near_quotient(z, d)?,
+    };
+    Some(Sphere {
+        center: corner.plus(offset),
+        squared: offset.squared(),
+    })
+}
+
+/// The squares of three lengths.
+#[derive(Clone, Copy)]
+struct Squares {
+    b: i128,
+    c: i128,
+    d: i128,
+}
+
+impl Squares {
+    /// The sum of the products with three coordinates of cross products. Each square is at most `3
+    /// * 2^60` and each coordinate at most `2^61`, so the sum is below `2^125`.
+    fn weigh(self, x: i64, y: i64, z: i64) -> i128 {
+        let first = self.b.wrapping_mul(i128::from(x));
+        let second = self.c.wrapping_mul(i128::from(y));
+        let third = self.d.wrapping_mul(i128::from(z));
+        first.wrapping_add(second).wrapping_add(third)
+    }
+}
+
+/// The circumsphere of a positive tetrahedron, where its center is near. The center is `a + N / (2
+/// det)` with `N = |B|^2 (C x D) + |C|^2 (D x B) + |D|^2 (B x C)`, where `B`, `C` and `D` are the
+/// vectors from `a`.
+pub(crate) fn circumsphere(corners: &[Spot; 4]) -> Option<Sphere> {
+    let [a, b, c, d] = *corners;
+    let (b, c, d) = (b.from(a), c.from(a), d.from(a));
+    let (cd, db, bc) = (c.cross(d), d.cross(b), b.cross(c));
+    let squares = Squares {
+        b: b.dot(b),
+        c: c.dot(c),
+        d: d.dot(d),
+    };
+    let det = bc.dot(d).wrapping_mul(2);
+    if det <= 0 {
+        return None;
+    }
+    let x = squares.weigh(cd.x, db.x, bc.x);
+    let y = squares.weigh(cd.y, db.y, bc.y);
+    let z = squares.weigh(cd.z, db.z, bc.z);
+    sphere_at(a, x, y, z, det)
+}
+
+/// The smallest sphere through the corners of a triangle, where its center is near. The center is
+/// `a + s B + t C` with `s = |C|^2 (|B|^2 - B C) / d`, `t = |B|^2 (|C|^2 - B C) / d` and `d = 2
+/// (|B|^2 |C|^2 - (B C)^2)`. The shares `s` and `t` are rounded to 24 bits behind the point, and
+/// computed from vectors that are shifted down to 20 bits.
+pub(crate) fn equator(corners: &[Spot; 3]) -> Option<Sphere> {
+    let [a, b, c] = *corners;
+    let (u, v) = (b.from(a), c.from(a));
+    let power = u.bits_above(20).max(v.bits_above(20));
+    let (b, c) = (u.over_power(power), v.over_power(power));
+    let (bb, cc, bc) = (b.dot(b), c.dot(c), b.dot(c));
+    let d = bb.wrapping_mul(cc).wrapping_sub(bc.wrapping_mul(bc));
+    let share = |n: i128| n.wrapping_mul(1 << 23).checked_div(d);
+    let s = share(cc.wrapping_mul(bb.wrapping_sub(bc)))?;
+    let t = share(bb.wrapping_mul(cc.wrapping_sub(bc)))?;
+    let along = |x: i64, y: i64| {
+        let first = s.wrapping_mul(i128::from(x));
+        first.wrapping_add(t.wrapping_mul(i128::from(y)))
+    };
+    sphere_at(
+        a,
+        along(u.x, v.x),
+        along(u.y, v.y),
+        along(u.z, v.z),
+        1 << 24,
+    )
+}
