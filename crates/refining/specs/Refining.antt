@@ -8,11 +8,18 @@ use Rattle.refining.specs.Refined.{IsFewWith, MeshAnswerWith}
 use Rattle.refining.specs.declared.refining.Bounds.{Bounds}
 use Rattle.refining.specs.declared.refining.Refined.{Refined}
 use Rattle.refining.specs.declared.refining.Taken.{Taken}
+use Rattle.refining.specs.declared.refining.Turn.{Turn}
+use Rattle.refining.specs.declared.refining.Turn.TheVariants.{More}
 
 -- a mesh that was made with points behind those of the complex; without any, with as many halvings as the grid allows
 pub record IsTakenMesh (options : Options) (bound : Bound) (taken : Taken) : Type 0 where
   pub made : IsFewWith options bound taken.added taken.halvings taken.made
   pub bare : taken.added ≡ [] → taken.halvings ≡ bound.table.grid.halvings
+
+-- a round comes to such a mesh, or to none
+abbrev pub IsTurn : Options → Bound → Turn → Type 0
+IsTurn options bound (More taken) = IsTakenMesh options bound taken
+IsTurn options bound turn = Unit {0}
 
 -- The complex has a mesh without further points. The answer is a mesh with the points that were added, and without any
 -- where none was

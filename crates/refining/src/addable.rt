@@ -15,7 +15,7 @@ fn is_multiple(unit: u32, p: GridPoint) -> bool {
 }
 
 /// The points that were added before, and behind them the proposed points that may be added: new
-/// ones with coordinates that are multiples of `2^halvings` units, up to `most` points in all. The
+/// ones, all with coordinates that are multiples of `2^halvings` units, up to `most` points in all. The
 /// function has no contract; `with_points` tests the points before they are meshed.
 pub(crate) fn addable(
     alloc: Global,
@@ -34,8 +34,10 @@ pub(crate) fn addable(
     let mut more = Points::new(alloc);
     for i in 0..added.len() {
         let p = added.at(i);
-        known.insert((p.x, p.y, p.z))?;
-        more.push(p)?;
+        if is_multiple(unit, p) {
+            known.insert((p.x, p.y, p.z))?;
+            more.push(p)?;
+        }
     }
     for i in 0..proposed.len() {
         let p = proposed.at(i);

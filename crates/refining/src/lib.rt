@@ -5,7 +5,6 @@
 mod add_fault;
 mod addable;
 mod behind;
-mod long_edges;
 mod meshable;
 mod meshing;
 mod multiples;
@@ -16,10 +15,11 @@ mod propose;
 mod refine_fault;
 mod refining;
 mod repeats;
+mod volumes;
 
-pub use long_edges::LongEdges;
 pub use meshable::law_meshable;
-pub use outputs::{Aim, aimed_outputs, refined_outputs};
+pub use outputs::{Aim, refined_outputs};
 pub use plain::law_plain;
 pub use propose::Propose;
 pub use refining::{Bounds, Refined};
+pub use volumes::Volumes;

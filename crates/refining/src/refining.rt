@@ -1,10 +1,10 @@
 //! The rounds of a refinement: each adds points and meshes the complex again.
 
-ghost use Rattle.std.specs.Prelude.{◌≡◌, ◌≤◌, ◌^◌, IfOk, IfErr, IfSome};
+ghost use Rattle.std.specs.Prelude.{◌≡◌, ◌≤◌, ◌^◌, IfOk, IfErr};
 ghost use Rattle.run_steps.specs.Meshing.{IsMeshableBound, IsUnmeshed};
 ghost use Rattle.run_steps.specs.Outputs.{IsWritable};
 ghost use Rattle.run_steps.specs.Codes.{status_of_fault};
-ghost use Rattle.refining.specs.Refining.{IsTakenMesh, IsRefinedTo};
+ghost use Rattle.refining.specs.Refining.{IsRefinedTo, IsTakenMesh, IsTurn};
 
 use crate::addable::addable;
 use crate::meshing::{mesh_plain, mesh_with};
@@ -20,8 +20,8 @@ use tet_ports::NoMemory;
 /// The bounds of a refinement.
 #[derive(Clone, Copy, Debug)]
 pub struct Bounds {
-    /// How often a segment may be halved once points were added: each coordinate of these is a
-    /// multiple of `2^halvings` grid units.
+    /// How often a segment may be halved at least once points were added: each coordinate of these
+    /// is a multiple of `2^halvings` grid units.
     pub halvings: u32,
     /// The most rounds in which points are added.
     pub rounds: u32,
@@ -57,8 +57,37 @@ fn most_of(bounds: &Bounds) -> usize
     bounds.most.min(1_073_741_824)
 }
 
+/// The points of a mesh behind the first `known`, which are those of protection, and behind them
+/// the proposed points.
+fn with_protection(
+    alloc: Global,
+    mesh: &ComplexMesh,
+    known: usize,
+    proposed: &Points,
+) -> Result<Points, NoMemory> {
+    let mut all = Points::new(alloc);
+    for i in known..mesh.points.len() {
+        all.push(mesh.points.at(i))?;
+    }
+    for i in 0..proposed.len() {
+        all.push(proposed.at(i))?;
+    }
+    Ok(all)
+}
+
+/// What a round comes to.
+#[derive(Drop)]
+enum Turn {
+    /// No point is proposed that may be added.
+    Done,
+    /// The complex has no mesh with the points.
+    Refused,
+    /// A mesh with the points.
+    More(Taken),
+}
+
 /// A mesh with more points than `taken` has, where some are proposed and the complex has a mesh
-/// with them.
+/// with them. The points of protection are added with them, since few halvings are left to it.
 fn next_taken<P: Propose>(
     alloc: Global,
     options: &Options,
@@ -66,13 +95,18 @@ fn next_taken<P: Propose>(
     bounds: &Bounds,
     taken: &Taken,
     proposer: &mut P,
-) -> Result<Option<Taken>, NoMemory>
+) -> Result<Turn, NoMemory>
     requires bound { IsMeshableBound options.now bound.now }
-    ensures { IfOk result (λ next. IfSome next (IsTakenMesh options.now bound.now)) }
+    ensures { IfOk result (IsTurn options.now bound.now) }
 {
-    let known = bound.table.points.len().saturating_add(taken.added.len());
-    let proposed = proposer.propose(alloc, &bound.complex, &taken.made, known)?;
+    let own = bound.table.points.len();
     let halvings = bounds.halvings.min(bound.table.grid.halvings);
+    let proposed = proposer.propose(alloc, &taken.made, own, halvings)?;
+    if proposed.is_empty() {
+        return Ok(Turn::Done);
+    }
+    let known = own.saturating_add(taken.added.len());
+    let proposed = with_protection(alloc, &taken.made, known, &proposed)?;
     let points = &bound.table.points;
     let more = addable(
         alloc,
@@ -82,16 +116,16 @@ fn next_taken<P: Propose>(
         halvings,
         bounds.added,
     )?;
-    if more.is_empty() || more.len() == taken.added.len() {
-        return Ok(None);
+    if more.is_empty() || more.len() <= taken.added.len() {
+        return Ok(Turn::Done);
     }
     match mesh_with(alloc, options, bound, &more, halvings, most_of(bounds)) {
-        Ok(made) => Ok(Some(Taken {
+        Ok(made) => Ok(Turn::More(Taken {
             added: more,
             halvings,
             made,
         })),
-        Err(_) => Ok(None),
+        Err(_) => Ok(Turn::Refused),
     }
 }
 
@@ -102,7 +136,12 @@ struct Rounds {
     rounds: u32,
 }
 
-/// The mesh after the last round from `first` on.
+/// How many halvings more are left to protection after a round whose mesh is refused.
+const MORE_HALVINGS: u32 = 2;
+
+/// The mesh after the last round from `first` on. After a round whose mesh is refused the points
+/// are to be multiples of more units, so that protection has more halvings; the rounds end where
+/// the grid has no more of them.
 fn taken_last<P: Propose>(
     alloc: Global,
     options: &Options,
@@ -117,10 +156,17 @@ fn taken_last<P: Propose>(
     ensures rounds { IfOk result (λ last. last.rounds ≤ bounds.now.rounds) }
 {
     let mut taken = first;
+    let mut within = *bounds;
     for rounds in 0..bounds.rounds {
-        match next_taken(alloc, options, bound, bounds, &taken, proposer)? {
-            None => return Ok(Rounds { taken, rounds }),
-            Some(next) => taken = next,
+        match next_taken(alloc, options, bound, &within, &taken, proposer)? {
+            Turn::Done => return Ok(Rounds { taken, rounds }),
+            Turn::More(next) => taken = next,
+            Turn::Refused => {
+                within.halvings = within.halvings.saturating_add(MORE_HALVINGS);
+                if within.halvings >= bound.table.grid.halvings {
+                    return Ok(Rounds { taken, rounds });
+                }
+            }
         }
     }
     Ok(Rounds {
