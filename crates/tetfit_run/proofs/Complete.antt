@@ -10,6 +10,7 @@ use Rattle.tetfit_run.specs.Trying.{IsFitted, at_decimals, is_of_grid}
 use Rattle.tetfit_run.specs.Words.{fit_fault, others, request_of}
 use Rattle.tetfit_run.specs.declared.request.Request.{Request}
 use Rattle.tetfit_run.specs.declared.request.Request.TheVariants.{Page, Version, Mesh}
+use Rattle.tetfit_run.specs.declared.wanted.Wanted.{Wanted}
 use Rattle.run_steps.proofs.Once.{IsTold, bounded_once, fetch_once, input_once, meshed_same, nodes_once, text_once}
 use Rattle.run_steps.proofs.Steps.{IsDecided, IsOnce, IsSame, and_then_once, and_then_same, gives_once, status_of}
 use Rattle.run_steps.specs.Reading.{BoundedAnswer, FetchAnswer, NodesAnswer, TextAnswer, complex_file}
@@ -105,15 +106,15 @@ record Fit (options : Options) (input : Input) (r : Result Outputs Status) : Typ
   fitted : IsFitted fit_limits options input m made
   is : status_of r ≡ status_of made
 
-fit_of : (options : Options) (input : Input) (r : Result Outputs Status) → IsDecided r → IsFittedTo options input r → Fit options input r
-fit_of options input (Ok outputs) d h = record { m = h.0; made = Ok h.1; decided = tt; fitted = h.2; is = refl }
-fit_of options input (Err s) d h = record { m = h.0; made = Err s; decided = d; fitted = h.1; is = refl }
+fit_of : (wanted : Wanted) (input : Input) (r : Result Outputs Status) → IsDecided r → IsFittedTo wanted input r → Fit wanted.options input r
+fit_of wanted input (Ok outputs) d h = record { m = h.0; made = Ok h.1; decided = tt; fitted = h.2; is = refl }
+fit_of wanted input (Err s) d h = record { m = h.0; made = Err s; decided = d; fitted = h.1; is = refl }
 
-fitted_same : (options : Options) (input : Input) → IsSame (IsFittedTo options input)
-fitted_same options input r s c d h k =
-    let a = fit_of options input r c h in
-    let b = fit_of options input s d k in
-    a.is ∙ (fits_same options input a.m b.m a.made b.made a.decided b.decided a.fitted b.fitted).1 ∙ sym b.is
+fitted_same : (wanted : Wanted) (input : Input) → IsSame (IsFittedTo wanted input)
+fitted_same wanted input r s c d h k =
+    let a = fit_of wanted input r c h in
+    let b = fit_of wanted input s d k in
+    a.is ∙ (fits_same wanted.options input a.m b.m a.made b.made a.decided b.decided a.fitted b.fitted).1 ∙ sym b.is
 
 -- ---- the run
 
@@ -126,8 +127,8 @@ made_same : (request : Request) (told : Files) (words : List (List ℕ)) (seen :
 made_same Page told words seen h = says_same _
 made_same Version told words seen h = says_same _
 made_same Mesh told words seen h =
-    and_then_same (FitWordsAnswer (others words)) (λ options. AndThen (ModelAnswer fit_limits seen options) (IsFittedTo options)) (words_once (others words))
-    (λ options. and_then_same (ModelAnswer fit_limits seen options) (IsFittedTo options) (model_once told seen options h) (fitted_same options))
+    and_then_same (FitWordsAnswer (others words)) (λ wanted. AndThen (ModelAnswer fit_limits seen wanted.options) (IsFittedTo wanted)) (words_once (others words))
+    (λ wanted. and_then_same (ModelAnswer fit_limits seen wanted.options) (IsFittedTo wanted) (model_once told seen wanted.options h) (fitted_same wanted))
 
 pub answer_complete : (words : List (List ℕ)) (folder : FolderSeen) (out : SinkSeen) (s : Status) → IsFitAnswer words folder out s → IsFitComplete words folder out s
 answer_complete words folder out s h told e f n other m k =

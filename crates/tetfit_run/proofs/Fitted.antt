@@ -14,7 +14,10 @@ use Rattle.tetfit_run.specs.Opening.{TellsOpening}
 use Rattle.tetfit_run.specs.Trying.{IsFitted, IsNumbered, IsRefused, at_decimals}
 use Rattle.tetfit_run.specs.declared.fitting.Refused.{Refused as Unfit}
 use Rattle.node_files.specs.declared.limits.Limits.{Limits}
-use Rattle.tetfit_run.specs.Words.{fit_fault, fit_options, others, request_of}
+use Rattle.tet_text.specs.Decimals.{Scaled}
+use Rattle.tetfit_run.proofs.RefinedRuns.{refined_mesh_by}
+use Rattle.tetfit_run.specs.Words.{fit_fault, fit_options, fit_volume, others, request_of}
+use Rattle.tetfit_run.specs.declared.wanted.Wanted.{Wanted}
 use Rattle.tetfit_run.specs.declared.request.Request.{Request}
 use Rattle.tetfit_run.specs.declared.request.Request.TheVariants.{Page, Version, Mesh}
 use Rattle.run_steps.proofs.Steps.{and_then_refuses, and_then_wider}
@@ -35,8 +38,8 @@ use Rattle.tetgen_run.specs.Ends.{EndsWith, IsToldAs, StopsSo, answer_of}
 use Rattle.tetgen_run.specs.Stops.{stop_of_words}
 use Rattle.tetgen_run.specs.declared.stop.Stop.{Stop}
 use Rattle.tetgen_run.specs.declared.stop.Stop.TheVariants.{Refused, Unwritten, Unsummed, NoMemory as Wanting}
-use Rattle.tetfit_run.specs.Outputs.{FitWordsAnswer, IsFitUsage, IsFittedTo, IsMore, IsMoreBy, MadeBy, OutputsOfFit, OutputsOfModel, OutputsOfOptions, fit_limits, outputs_at}
-use Rattle.tetfit_run.specs.Run.{IsAskedBy, IsKnown, IsKnownOf, IsMeshOfModel, IsFitNumbering, IsNumberingOf, IsUnfitted, TellsOffGrid}
+use Rattle.tetfit_run.specs.Outputs.{FitWordsAnswer, IsFinalBy, IsFitUsage, IsFittedTo, IsMore, IsMoreBy, MadeBy, OutputsOfFit, OutputsOfModel, OutputsOfWanted, fit_limits, outputs_at}
+use Rattle.tetfit_run.specs.Run.{IsAskedBy, IsFinalMesh, IsKnown, IsKnownOf, IsMeshOfModel, IsFitNumbering, IsNumberingOf, IsUnfitted, TellsOffGrid}
 
 -- ---- answers
 
@@ -61,13 +64,13 @@ model_refuses = model_has IsRefusal (λ name. tt) (λ name. tt) (λ name fault. 
 model_silent : (folder : FolderSeen) (options : Options) (s : Status) → ModelAnswer fit_limits folder options (Err s) → IsSilent s
 model_silent = model_has IsSilent (λ name. refl) (λ name. refl) (λ name fault. refl) (λ name most. refl) refl fit_limits
 
-fitted_refuses : (options : Options) (input : Input) (s : Status) → IsFittedTo options input (Err s) → IsRefusal s
-fitted_refuses options input s h = meshed_refuses fit_limits (at_decimals h.0 options) input s h.1.answer
+fitted_refuses : (wanted : Wanted) (input : Input) (s : Status) → IsFittedTo wanted input (Err s) → IsRefusal s
+fitted_refuses wanted input s h = meshed_refuses fit_limits (at_decimals h.0 wanted.options) input s h.1.answer
 
 outputs_refuse : (words : List (List ℕ)) (folder : FolderSeen) (s : Status) → OutputsOfModel words folder (Err s) → IsRefusal s
 outputs_refuse words folder =
-    and_then_refuses IsRefusal (FitWordsAnswer words) (λ options. OutputsOfOptions options folder) (usage_refuses words)
-    (λ options. and_then_refuses IsRefusal (ModelAnswer fit_limits folder options) (IsFittedTo options) (model_refuses folder options) (fitted_refuses options))
+    and_then_refuses IsRefusal (FitWordsAnswer words) (λ wanted. OutputsOfWanted wanted folder) (usage_refuses words)
+    (λ wanted. and_then_refuses IsRefusal (ModelAnswer fit_limits folder wanted.options) (IsFittedTo wanted) (model_refuses folder wanted.options) (fitted_refuses wanted))
 
 made_refuses : (request : Request) (words : List (List ℕ)) (folder : FolderSeen) (s : Status) → MadeBy request words folder (Err s) → IsRefusal s
 made_refuses Page words folder s h = subst IsRefusal (sym h) tt
@@ -117,32 +120,35 @@ unfitted_is options model limits other refused hint e f r h =
     (refused.decimals, k.0, k.1, subst (λ l. IsHint l model.stated (at_decimals refused.decimals options) model.input refused.end.numbering refused.end.status hint) f h)
 
 -- where there is no model
-pub model_stops : (folder : FolderSeen) (options : Options) (hint : List ℕ) (s : Status) → ModelAnswer fit_limits folder options (Err s)
-    → StopsSo (OutputsOfOptions options folder) (IsKnownOf options folder hint) (Refused s None)
-model_stops folder options hint s r = (inl r, (numbers_of options folder hint s None (model_silent folder options s r), on_grid folder options hint s (model_on_grid folder options s r)))
+pub model_stops : (folder : FolderSeen) (wanted : Wanted) (hint : List ℕ) (s : Status) → ModelAnswer fit_limits folder wanted.options (Err s)
+    → StopsSo (OutputsOfWanted wanted folder) (IsKnownOf wanted.options folder hint) (Refused s None)
+model_stops folder wanted hint s r =
+    let options = wanted.options in
+    (inl r, (numbers_of options folder hint s None (model_silent folder options s r), on_grid folder options hint s (model_on_grid folder options s r)))
 
 -- where it has no mesh
-pub unfitted_stops : (folder : FolderSeen) (options : Options) (model : Model) (hint : List ℕ) (stop : Stop) → ModelAnswer fit_limits folder options (Ok model.input) → IsStatedBy folder options model.stated
-    → IsUnfitted options model hint stop → StopsSo (OutputsOfOptions options folder) (IsKnownOf options folder hint) stop
-unfitted_stops folder options model hint (Refused s by) r w h =
+pub unfitted_stops : (folder : FolderSeen) (wanted : Wanted) (model : Model) (hint : List ℕ) (stop : Stop) → ModelAnswer fit_limits folder wanted.options (Ok model.input) → IsStatedBy folder wanted.options model.stated
+    → IsUnfitted wanted.options model hint stop → StopsSo (OutputsOfWanted wanted folder) (IsKnownOf wanted.options folder hint) stop
+unfitted_stops folder wanted model hint (Refused s by) r w h =
+    let options = wanted.options in
     (inr (model.input, r, (h.0, h.1)), (numbered folder options model hint h.0 s by r h.1 h.2 h.3, off_grid folder options model hint h.0 s by r w h.2 h.3))
-unfitted_stops folder options model hint (Unwritten text) r w h = absurd h
-unfitted_stops folder options model hint Unsummed r w h = absurd h
-unfitted_stops folder options model hint Wanting r w h = tt
+unfitted_stops folder wanted model hint (Unwritten text) r w h = absurd h
+unfitted_stops folder wanted model hint Unsummed r w h = absurd h
+unfitted_stops folder wanted model hint Wanting r w h = tt
 
 -- where the words are not understood
-pub usage_stops : (words : List (List ℕ)) (folder : FolderSeen) (hint : List ℕ) (answer : Result Options WordsFault) (f : WordsFault) → answer ≡ Err f
+pub usage_stops : (words : List (List ℕ)) (folder : FolderSeen) (hint : List ℕ) (answer : Result Wanted WordsFault) (f : WordsFault) → answer ≡ Err f
     → ((word place : ℕ) → answer ≡ Err (Misunderstood word place) → fit_fault words ≡ Some (word, place)) → StopsSo (OutputsOfModel words folder) (IsKnown words folder hint) (stop_of_words f)
 usage_stops words folder hint answer (Misunderstood word place) e usage = (inl (usage word place e), (numbers_points words folder hint (Usage word place) None refl, tt))
 usage_stops words folder hint answer WordsWanting e usage = tt
 
 -- where they are
-pub options_stop : (words : List (List ℕ)) (folder : FolderSeen) (hint : List ℕ) (options : Options) (stop : Stop) → FitWordsAnswer words (Ok options)
-    → StopsSo (OutputsOfOptions options folder) (IsKnownOf options folder hint) stop → StopsSo (OutputsOfModel words folder) (IsKnown words folder hint) stop
-options_stop words folder hint options (Refused s by) w h = (inr (options, w, h.0), subst (λ o. IsKnownOf o folder hint s by) w.1 h.1)
-options_stop words folder hint options (Unwritten text) w h = absurd h
-options_stop words folder hint options Unsummed w h = absurd h
-options_stop words folder hint options Wanting w h = tt
+pub wanted_stop : (words : List (List ℕ)) (folder : FolderSeen) (hint : List ℕ) (wanted : Wanted) (stop : Stop) → FitWordsAnswer words (Ok wanted)
+    → StopsSo (OutputsOfWanted wanted folder) (IsKnownOf wanted.options folder hint) stop → StopsSo (OutputsOfModel words folder) (IsKnown words folder hint) stop
+wanted_stop words folder hint wanted (Refused s by) w h = (inr (wanted, w, h.0), subst (λ (q : Wanted). IsKnownOf q.options folder hint s by) w.1 h.1)
+wanted_stop words folder hint wanted (Unwritten text) w h = absurd h
+wanted_stop words folder hint wanted Unsummed w h = absurd h
+wanted_stop words folder hint wanted Wanting w h = tt
 
 -- ---- what is told
 
@@ -167,9 +173,9 @@ pub told_off : (Made : Result Outputs Status → Type 0) (message : Option Numbe
 told_off Made message words folder hint out err stop s h (inl told) = subst (TellsOffGrid (fit_options words) folder hint) (sym told.0) (stop_off Made words folder hint out stop h)
 told_off Made message words folder hint out err stop s h (inr told) = subst (TellsOffGrid (fit_options words) folder hint) (sym told.0) tt
 
-pub options_made : (words : List (List ℕ)) (folder : FolderSeen) (options : Options) (outputs : Outputs) → FitWordsAnswer words (Ok options) → OutputsOfOptions options folder (Ok outputs)
+pub wanted_made : (words : List (List ℕ)) (folder : FolderSeen) (wanted : Wanted) (outputs : Outputs) → FitWordsAnswer words (Ok wanted) → OutputsOfWanted wanted folder (Ok outputs)
     → OutputsOfModel words folder (Ok outputs)
-options_made words folder options outputs w h = (options, w, h)
+wanted_made words folder wanted outputs w h = (wanted, w, h)
 
 -- ---- what more is told
 
@@ -183,12 +189,18 @@ more_told limits options input m none test r l n e told =
 pub no_more : (options : Options) (input : Input) (m : ℕ) (none test : Bool) (more : List ℕ) → test ≡ none → test ≡ false → more ≡ [] → IsMoreBy none options input m more
 no_more options input m none test more n e is = subst (λ b. IsMoreBy b options input m more) (sym e ∙ n) is
 
-pub fitted_told : (options : Options) (input : Input) (m : ℕ) (made : Outputs) (more : List ℕ) (r : Result Outputs MemoryLack) → IsFitted fit_limits options input m (Ok made)
-    → IsMore options input m made more → IfOk r (λ outputs. outputs ≡ outputs_at m more made) → IfOk r (λ outputs. IsFittedTo options input (Ok outputs))
-fitted_told options input m made more (Ok outputs) h k is = (m, made, h, more, k, is)
-fitted_told options input m made more (Err e) h k is = is
+pub fitted_told : (wanted : Wanted) (input : Input) (m n : ℕ) (made final : Outputs) (more : List ℕ) → IsFitted fit_limits wanted.options input m (Ok made)
+    → IsFinalBy wanted.volume wanted.options input m made n final → IsMore wanted.options input n final more → IsFittedTo wanted input (Ok (outputs_at n more final))
+fitted_told wanted input m n made final more h f k = (m, made, h, n, final, f, more, k, refl)
 
 -- ---- the mesh
+
+-- the mesh in the end
+final_mesh : (volume : Option Scaled) (words : List (List ℕ)) (folder : FolderSeen) (input : Input) (m n : ℕ) (made final : Outputs) → fit_fault words ≡ None
+    → ModelAnswer fit_limits folder (fit_options words) (Ok input) → IsFinalBy volume (fit_options words) input m made n final → IsFinalMesh volume words folder m made n final
+final_mesh None words folder input m n made final none read h = h
+final_mesh (Some volume) words folder input m n made final none read h =
+    (h.0, refined_mesh_by volume fit_limits (at_decimals n (fit_options words)) (fit_fault words ≡ None) (λ input. ModelAnswer fit_limits folder (fit_options words) (Ok input)) input final none read h.1)
 
 model_mesh : (words : List (List ℕ)) (folder : FolderSeen) (outputs : Outputs) → OutputsOfModel words folder (Ok outputs) → IsMeshOfModel words folder outputs
 model_mesh words folder outputs h =
@@ -196,15 +208,19 @@ model_mesh words folder outputs h =
     let e = h.1.1 in
     let input = h.2.0 in
     let f = h.2.2 in
-    let read = subst (λ q. ModelAnswer fit_limits folder q (Ok input)) e h.2.1 in
-    let fitted = subst (λ q. IsFitted fit_limits q input f.0 (Ok f.1)) e f.2 in
-    let told = subst (λ q. IsMore q input f.0 f.1 f.3) e f.4 in record {
+    let read = subst (λ (q : Wanted). ModelAnswer fit_limits folder q.options (Ok input)) e h.2.1 in
+    let fitted = subst (λ (q : Wanted). IsFitted fit_limits q.options input f.0 (Ok f.1)) e f.2 in
+    let last = subst (λ (q : Wanted). IsFinalBy q.volume q.options input f.0 f.1 f.3 f.4) e f.5 in
+    let told = subst (λ (q : Wanted). IsMore q.options input f.3 f.4 f.6) e f.7 in record {
       decimals = f.0;
       made = f.1;
-      more = f.3;
-      mesh = mesh_by fit_limits (at_decimals f.0 o) (fit_fault words ≡ None) (λ input. ModelAnswer fit_limits folder o (Ok input) × IsFitted fit_limits o input f.0 (Ok f.1) × IsMore o input f.0 f.1 f.3)
+      final_decimals = f.3;
+      final = f.4;
+      more = f.6;
+      mesh = mesh_by fit_limits (at_decimals f.0 o) (fit_fault words ≡ None) (λ input. ModelAnswer fit_limits folder o (Ok input) × IsFitted fit_limits o input f.0 (Ok f.1) × IsMore o input f.3 f.4 f.6)
           input f.1 h.1.0 (read, fitted, told) fitted.answer;
-      outputs_are = f.5;
+      refined = final_mesh (fit_volume words) words folder input f.0 f.3 f.1 f.4 h.1.0 read last;
+      outputs_are = f.8;
     }
 
 asked_by : (request : Request) (words : List (List ℕ)) (folder : FolderSeen) (outputs : Outputs) → MadeBy request words folder (Ok outputs) → IsAskedBy request words folder outputs
@@ -217,11 +233,20 @@ fit_asked words folder = asked_by (request_of words) words folder
 
 -- ---- the texts
 
+-- each text of the outputs in the end has its message
+final_told : (volume : Option Scaled) (options : Options) (input : Input) (m n : ℕ) (made final : Outputs) → All TellsFailure (in_order made.texts) → IsFinalBy volume options input m made n final
+    → All TellsFailure (in_order final.texts)
+final_told None options input m n made final told h = subst (λ (o : Outputs). All TellsFailure (in_order o.texts)) (sym h.1) told
+final_told (Some volume) options input m n made final told h =
+    let refined = h.1.2.2 in
+    subst (λ (o : Outputs). All TellsFailure (in_order o.texts)) (sym refined.4.2) (outputs_told (at_decimals n options) refined.2 refined.4.0 refined.4.1)
+
 model_told : (words : List (List ℕ)) (folder : FolderSeen) (outputs : Outputs) → OutputsOfModel words folder (Ok outputs) → All TellsFailure (in_order outputs.texts)
 model_told words folder outputs h =
     let f = h.2.2 in
     let a = f.2.answer.2 in
-    subst (λ (o : Outputs). All TellsFailure (in_order o.texts)) (sym f.5) (outputs_told (at_decimals f.0 h.0) a.0 f.1 a.2)
+    let told = outputs_told (at_decimals f.0 h.0.options) a.0 f.1 a.2 in
+    subst (λ (o : Outputs). All TellsFailure (in_order o.texts)) (sym f.8) (final_told h.0.volume h.0.options h.2.0 f.0 f.3 f.1 f.4 told f.5)
 
 told_by : (request : Request) (words : List (List ℕ)) (folder : FolderSeen) (outputs : Outputs) → MadeBy request words folder (Ok outputs) → All TellsFailure (in_order outputs.texts)
 told_by Page words folder outputs h = subst (λ (o : Outputs). All TellsFailure (in_order o.texts)) (sym h) (All-nil TellsFailure)
@@ -238,8 +263,8 @@ made_wider : (request : Request) (words : List (List ℕ)) (part wide : FolderSe
 made_wider Page words part wide w r h = h
 made_wider Version words part wide w r h = h
 made_wider Mesh words part wide w r h =
-    and_then_wider (FitWordsAnswer (others words)) (FitWordsAnswer (others words)) (λ options. OutputsOfOptions options part) (λ options. OutputsOfOptions options wide) (λ r h. h)
-    (λ options. and_then_wider (ModelAnswer fit_limits part options) (ModelAnswer fit_limits wide options) (IsFittedTo options) (IsFittedTo options) (model_wider fit_limits part wide w options) (λ input r h. h)) r h
+    and_then_wider (FitWordsAnswer (others words)) (FitWordsAnswer (others words)) (λ wanted. OutputsOfWanted wanted part) (λ wanted. OutputsOfWanted wanted wide) (λ r h. h)
+    (λ wanted. and_then_wider (ModelAnswer fit_limits part wanted.options) (ModelAnswer fit_limits wide wanted.options) (IsFittedTo wanted) (IsFittedTo wanted) (model_wider fit_limits part wide w wanted.options) (λ input r h. h)) r h
 
 pub fit_wider : (words : List (List ℕ)) (part wide : FolderSeen) → IsWithin part wide → (r : Result Outputs Status) → OutputsOfFit words part r → OutputsOfFit words wide r
 fit_wider words = made_wider (request_of words) words

@@ -1,6 +1,7 @@
 pub mod Complete
 pub mod Fitted
 pub mod Pieces
+mod RefinedRuns
 pub mod Models
 mod Appends
 mod Firsts

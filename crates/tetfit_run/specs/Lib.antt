@@ -1,5 +1,6 @@
 pub mod Messages
 pub mod Outputs
+pub mod Refined
 pub mod Run
 pub mod Stages
 pub mod Words

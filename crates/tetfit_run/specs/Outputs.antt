@@ -1,20 +1,24 @@
 -- The requests that the words of `tetfit` make, and their outputs.
-use Rattle.std.specs.Prelude.{◌≡◌, ℕ, ◌-◌, nat_eq, Bool, true, false, List, [], ◌++◌, length, take, codes, Option, Some, None, Result, Ok, Err}
-use Rattle.std.specs.Fmt.{decimal}
-use Rattle.std.specs.List.{ends_with}
+use Rattle.std.specs.Prelude.{◌≡◌, ◌≤◌, ℕ, ◌==◌, Bool, true, false, List, [], Option, Some, None, Result, Ok, Err}
+use Rattle.std.specs.Option.{option_map}
 use Rattle.command_words.specs.declared.options.Options.{Options}
 use Rattle.tetfit_run.specs.Models.{ModelAnswer}
 use Rattle.tetfit_run.specs.Opening.{TellsOpening}
 use Rattle.tetfit_run.specs.Trying.{IsFitted, at_decimals}
-use Rattle.tetfit_run.specs.Words.{fit_fault, fit_options, others, request_of}
+use Rattle.refining.specs.Outputs.{RefinedMeshed}
+use Rattle.tet_text.specs.Decimals.{Scaled}
+use Rattle.tetfit_run.specs.Words.{fit_fault, fit_wanted, others, request_of}
 use Rattle.tetfit_run.specs.declared.page.TheConstants.{PAGE, VERSION}
 use Rattle.tetfit_run.specs.declared.request.Request.{Request}
 use Rattle.tetfit_run.specs.declared.request.Request.TheVariants.{Page, Version, Mesh}
+use Rattle.tetfit_run.specs.declared.wanted.Wanted.{Wanted}
 use Rattle.node_files.specs.declared.limits.Limits.{Limits}
 use Rattle.tet_ports.specs.Seen.{FolderSeen}
 use Rattle.run_steps.specs.Steps.{AndThen}
 use Rattle.run_steps.specs.declared.input.Input.{Input}
 use Rattle.run_steps.specs.declared.outputs.Outputs.{Outputs}
+use Rattle.run_steps.specs.declared.report.Report.{Report}
+use Rattle.run_steps.specs.declared.report.Report.TheVariants.{Mesh as MeshReport, Text}
 use Rattle.run_steps.specs.declared.status.Status.{Status}
 use Rattle.run_steps.specs.declared.status.Status.TheVariants.{Usage, NoMemory}
 
@@ -32,25 +36,25 @@ IsFitUsage words NoMemory = Unit {0}
 IsFitUsage words status = ⊥
 
 -- what words ask for
-abbrev pub FitWordsAnswer : List (List ℕ) → Result Options Status → Type 0
-FitWordsAnswer words (Ok options) = (fit_fault words ≡ None) × (options ≡ fit_options words)
+abbrev pub FitWordsAnswer : List (List ℕ) → Result Wanted Status → Type 0
+FitWordsAnswer words (Ok wanted) = (fit_fault words ≡ None) × (wanted ≡ fit_wanted words)
 FitWordsAnswer words (Err status) = IsFitUsage words status
 
 -- ---- the mesh
 
 -- the summary reports 0 tetrahedra
-abbrev pub tells_none : Option (List ℕ) → Bool
-tells_none None = false
-tells_none (Some line) = ends_with nat_eq line (codes " tetrahedra 0 faces 0 edges 0\n")
+abbrev pub tells_none : Option Report → Bool
+tells_none (Some (MeshReport summary notes)) = summary.tetrahedra == 0
+tells_none report = false
 
--- the summary line with the number of decimals before its line feed, and with more text behind it
-abbrev pub with_decimals : ℕ → List ℕ → Option (List ℕ) → Option (List ℕ)
-with_decimals decimals more None = None
-with_decimals decimals more (Some line) = Some (take (length line - 1) line ++ codes " decimals " ++ decimal decimals ++ codes "\n" ++ more)
+-- the report of a mesh with the number of decimals in its summary, and with these lines behind it
+abbrev pub fitted_told : ℕ → List ℕ → Report → Report
+fitted_told decimals more (MeshReport summary notes) = MeshReport (record summary { decimals = Some decimals }) more
+fitted_told decimals more (Text text) = Text text
 
--- the outputs of a mesh, with its number of decimals in the summary
+-- the outputs of a mesh with them
 abbrev pub outputs_at : ℕ → List ℕ → Outputs → Outputs
-outputs_at decimals more outputs = record outputs { summary = with_decimals decimals more outputs.summary }
+outputs_at decimals more outputs = record outputs { report = option_map (fitted_told decimals more) outputs.report }
 
 -- where there is no tetrahedron the text says where the surface is open, or that nothing is enclosed
 abbrev pub IsMoreBy : Bool → Options → Input → ℕ → List ℕ → Type 0
@@ -58,28 +62,36 @@ IsMoreBy true options input m more = TellsOpening fit_limits (at_decimals m opti
 IsMoreBy false options input m more = more ≡ []
 
 abbrev pub IsMore : Options → Input → ℕ → Outputs → List ℕ → Type 0
-IsMore options input m made more = IsMoreBy (tells_none made.summary) options input m more
+IsMore options input m made more = IsMoreBy (tells_none made.report) options input m more
+
+-- The outputs in the end, with coordinates rounded to n decimals: those of the mesh that is fitted, at m decimals; or,
+-- where a volume is given, those of a mesh with points behind those of the model, at so many or fewer
+abbrev pub IsFinalBy : Option Scaled → Options → Input → ℕ → Outputs → ℕ → Outputs → Type 0
+IsFinalBy None options input m made n final = (n ≡ m) × (final ≡ made)
+IsFinalBy (Some volume) options input m made n final =
+    (n ≤ m) × RefinedMeshed volume fit_limits (at_decimals n options) input (Ok final)
 
 -- the outputs of an input, or its refusal, at as many decimals as the grid does not refuse
-abbrev pub IsFittedTo : Options → Input → Result Outputs Status → Type 0
-IsFittedTo options input (Ok outputs) =
-    (decimals : ℕ) × (made : Outputs) × IsFitted fit_limits options input decimals (Ok made)
-    × (more : List ℕ) × IsMore options input decimals made more × (outputs ≡ outputs_at decimals more made)
-IsFittedTo options input (Err status) = (decimals : ℕ) × IsFitted fit_limits options input decimals (Err status)
+abbrev pub IsFittedTo : Wanted → Input → Result Outputs Status → Type 0
+IsFittedTo wanted input (Ok outputs) =
+    (decimals : ℕ) × (made : Outputs) × IsFitted fit_limits wanted.options input decimals (Ok made)
+    × (n : ℕ) × (final : Outputs) × IsFinalBy wanted.volume wanted.options input decimals made n final
+    × (more : List ℕ) × IsMore wanted.options input n final more × (outputs ≡ outputs_at n more final)
+IsFittedTo wanted input (Err status) = (decimals : ℕ) × IsFitted fit_limits wanted.options input decimals (Err status)
 
 -- the model that the options name is read, and the outputs of its mesh are made
-abbrev pub OutputsOfOptions : Options → FolderSeen → Result Outputs Status → Type 0
-OutputsOfOptions options folder = AndThen (ModelAnswer fit_limits folder options) (IsFittedTo options)
+abbrev pub OutputsOfWanted : Wanted → FolderSeen → Result Outputs Status → Type 0
+OutputsOfWanted wanted folder = AndThen (ModelAnswer fit_limits folder wanted.options) (IsFittedTo wanted)
 
 -- the words are read, and then the outputs of the model that they name are made: each refusal is one of the first step that refuses
 abbrev pub OutputsOfModel : List (List ℕ) → FolderSeen → Result Outputs Status → Type 0
-OutputsOfModel words folder = AndThen (FitWordsAnswer words) (λ options. OutputsOfOptions options folder)
+OutputsOfModel words folder = AndThen (FitWordsAnswer words) (λ wanted. OutputsOfWanted wanted folder)
 
 -- ---- what is asked for
 
 -- outputs without files, whose text is written in place of the summary
 abbrev pub said : List ℕ → Outputs
-said text = record { texts = record { node = None; ele = None; face = None; edge = None; neigh = None }; summary = Some text }
+said text = record { texts = record { node = None; ele = None; face = None; edge = None; neigh = None }; report = Some (Text text) }
 
 -- the text, or out of memory
 abbrev pub Says : List ℕ → Result Outputs Status → Type 0

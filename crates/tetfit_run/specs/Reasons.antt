@@ -3,7 +3,7 @@ use Rattle.std.specs.Prelude.{ℕ, ◌-◌, ◌==◌, nat_eq, nat_lt, length, Li
 use Rattle.std.specs.List.{slice_index_or, starts_with}
 use Rattle.command_words.specs.Grammar.{is_cluster, is_long}
 use Rattle.tetfit_run.specs.declared.reason.Reason.{Reason}
-use Rattle.tetfit_run.specs.declared.reason.Reason.TheVariants.{Quality, Volumes, Sizes, Boundary, Order, Insertion, Coarsening, Optimization, Tolerance, Exactness, Crossings, Voronoi, OtherFiles, Weights, Check, OwnWord, Decimals, Sample, Number, NoSwitch, EmptyWord, SecondName, NoName, LongWord, Letter}
+use Rattle.tetfit_run.specs.declared.reason.Reason.TheVariants.{Quality, Volumes, Volume, Sizes, Boundary, Order, Insertion, Coarsening, Optimization, Tolerance, Exactness, Crossings, Voronoi, OtherFiles, Weights, Check, OwnWord, Decimals, Sample, Number, NoSwitch, EmptyWord, SecondName, NoName, LongWord, Letter}
 
 -- letters of TetGen that have no meaning here
 abbrev pub reason_of : ℕ → Reason
@@ -29,9 +29,11 @@ reason_of byte =
     if byte == 86 then OwnWord else
     if byte == 104 then OwnWord else Letter
 
--- why the byte at this place of a cluster, from 1, is not understood. Behind an S, 83, a number is required
+-- why the byte at this place of a cluster, from 1, is not understood. Behind -a a volume is required, and behind an S,
+-- 83, a number
 abbrev pub cluster_reason : List ℕ → ℕ → Reason
 cluster_reason word place =
+    if starts_with nat_eq word (codes "-a") then Volume else
     if slice_index_or word (place - 2) 0 == 83 then Number else
     if nat_lt (place - 1) (length word) then reason_of (slice_index_or word (place - 1) 0) else NoSwitch
 

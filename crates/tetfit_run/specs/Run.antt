@@ -1,11 +1,13 @@
 -- The status of a run of `tetfit`, the files that it leaves, and its messages.
-use Rattle.std.specs.Prelude.{◌≡◌, ◌≢◌, ℕ, IsTrue, List, Option, Some, None, Ok, Err}
+use Rattle.std.specs.Prelude.{◌≡◌, ◌≢◌, ◌≤◌, ℕ, IsTrue, List, Option, Some, None, Ok, Err}
 use Rattle.command_words.specs.declared.options.Options.{Options}
 use Rattle.tetfit_run.specs.Hints.{IsHint, IsHintBy, off_grid_text}
 use Rattle.tetfit_run.specs.Models.{IsStatedBy, ModelAnswer}
 use Rattle.tetfit_run.specs.Trying.{IsFitted, IsNumbered, at_decimals}
 use Rattle.tetfit_run.specs.Stages.{AreStagesPut, since, until}
-use Rattle.tetfit_run.specs.Words.{fit_fault, fit_options, others, request_of}
+use Rattle.tet_text.specs.Decimals.{Scaled}
+use Rattle.tetfit_run.specs.Refined.{IsRefinedMeshBy}
+use Rattle.tetfit_run.specs.Words.{fit_fault, fit_options, fit_volume, others, request_of}
 use Rattle.tetfit_run.specs.declared.model.Model.{Model}
 use Rattle.tetfit_run.specs.declared.model.Stated.{Stated}
 use Rattle.tetfit_run.specs.declared.page.TheConstants.{PAGE, VERSION}
@@ -44,18 +46,30 @@ IsFitComplete words folder out status =
 
 -- ---- what is left
 
+-- The outputs in the end, with coordinates rounded to n decimals: those of the mesh that is fitted, at m decimals, or,
+-- where a volume is given, those of one mesh of the model with points behind its own, at so many or fewer
+abbrev pub IsFinalMesh : Option Scaled → List (List ℕ) → FolderSeen → ℕ → Outputs → ℕ → Outputs → Type 0
+IsFinalMesh None words folder m made n final = (n ≡ m) × (final ≡ made)
+IsFinalMesh (Some volume) words folder m made n final = (n ≤ m)
+    × IsRefinedMeshBy volume fit_limits (at_decimals n (fit_options words)) (fit_fault words ≡ None)
+    (λ input. ModelAnswer fit_limits folder (fit_options words) (Ok input)) final
+
 -- The outputs are those of one mesh of the model that the words name, at a number of decimals that their summary has:
--- at each greater number of decimals, up to the first one that is tried, the grid refuses the model. Where the mesh has
--- no tetrahedron the summary says where the surface is open
+-- at each greater number of decimals, up to the first one that is tried, the grid refuses the model. Where a volume is
+-- given, the mesh has points behind those of the model, perhaps at fewer decimals, and the summary has the number of
+-- tetrahedra over the volume. Where the mesh has no tetrahedron the summary says where the surface is open
 pub record IsMeshOfModel (words : List (List ℕ)) (folder : FolderSeen) (outputs : Outputs) : Type 0 where
   pub decimals : ℕ
   pub made : Outputs
+  pub final_decimals : ℕ
+  pub final : Outputs
   pub more : List ℕ
   pub mesh : IsMeshBy fit_limits (at_decimals decimals (fit_options words)) (fit_fault words ≡ None)
       (λ input. ModelAnswer fit_limits folder (fit_options words) (Ok input)
       × IsFitted fit_limits (fit_options words) input decimals (Ok made)
-      × IsMore (fit_options words) input decimals made more) made
-  pub outputs_are : outputs ≡ outputs_at decimals more made
+      × IsMore (fit_options words) input final_decimals final more) made
+  pub refined : IsFinalMesh (fit_volume words) words folder decimals made final_decimals final
+  pub outputs_are : outputs ≡ outputs_at final_decimals more final
 
 -- what the outputs of a request are
 abbrev pub IsAskedBy : Request → List (List ℕ) → FolderSeen → Outputs → Type 0

@@ -3,12 +3,13 @@ use Rattle.std.specs.Prelude.{ℕ, ◌-◌, ◌&&◌, nat_lt, length, List, [], 
 use Rattle.std.specs.List.{slice_index_or}
 use Rattle.command_words.specs.Grammar.{is_cluster}
 use Rattle.tetfit_run.specs.declared.reason.Reason.{Reason}
-use Rattle.tetfit_run.specs.declared.reason.Reason.TheVariants.{Quality, Volumes, Sizes, Boundary, Order, Insertion, Coarsening, Optimization, Tolerance, Exactness, Crossings, Voronoi, OtherFiles, Weights, Check, OwnWord, Decimals, Sample, Number, NoSwitch, EmptyWord, SecondName, NoName, LongWord, Letter}
+use Rattle.tetfit_run.specs.declared.reason.Reason.TheVariants.{Quality, Volumes, Volume, Sizes, Boundary, Order, Insertion, Coarsening, Optimization, Tolerance, Exactness, Crossings, Voronoi, OtherFiles, Weights, Check, OwnWord, Decimals, Sample, Number, NoSwitch, EmptyWord, SecondName, NoName, LongWord, Letter}
 use Rattle.tetfit_run.specs.Reasons.{why_not}
 
 abbrev pub reason_text : Reason → List ℕ
 reason_text Quality = codes "quality meshes are not there"
-reason_text Volumes = codes "bounds on volumes are not there"
+reason_text Volumes = codes "a volume is a word of its own, as -a0.5"
+reason_text Volume = codes "a volume above 0 is wanted, and a model with facets"
 reason_text Sizes = codes "sizes of tetrahedra are not there"
 reason_text Boundary = codes "segments take points where they need them"
 reason_text Order = codes "a tetrahedron has four corners, and no midpoints"

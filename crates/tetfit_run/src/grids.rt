@@ -35,6 +35,23 @@ pub(crate) fn next_tried(points: &[DecimalPoint], decimals: u32, wide: u64) -> u
     next
 }
 
+/// The number of decimals at which the mesh is refined, of those up to `decimals`: the greatest at
+/// which no coordinate is over `wide` units, so that the grid has halvings left for added points;
+/// or `decimals`, where there is none.
+pub(crate) fn refined_decimals(points: &[DecimalPoint], decimals: u32, wide: u64) -> u32
+    ensures { result ≤ decimals }
+{
+    let mut next = decimals;
+    while next > 0 && is_off_grid(wide, points, next) {
+        next -= 1;
+    }
+    if is_off_grid(wide, points, next) {
+        decimals
+    } else {
+        next
+    }
+}
+
 /// Whether a point is off each grid once the points are rounded to `decimals` decimals.
 fn is_off_grid(wide: u64, points: &[DecimalPoint], decimals: u32) -> bool
     ensures { IsTrue result → IsOffRounded wide points.now decimals }

@@ -13,6 +13,9 @@ pub(crate) const SAMPLE: &[u8] = b"--sample=";
 /// The front of the long word that bounds the halvings of the grid.
 pub(crate) const HALVINGS: &[u8] = b"--halvings=";
 
+/// The front of the word that bounds the volume of tetrahedra.
+pub(crate) const VOLUME: &[u8] = b"-a";
+
 /// Whether the word begins with two hyphens.
 pub(crate) fn is_long(word: &[u8]) -> bool
     ensures { result ≡ is_long word.now }

@@ -25,7 +25,7 @@ mod stages;
 mod told;
 mod trial;
 mod trying;
+mod wanted;
 mod wholes;
 
-pub use refined::refined_at;
 pub use run::run_fit;

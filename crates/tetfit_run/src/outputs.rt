@@ -1,32 +1,40 @@
 //! The outputs that the words of the command ask for.
 
-ghost use Rattle.std.specs.Prelude.{◌≡◌, ◌≤◌, ◌-◌, ℕ, [], IfOk, IfErr, Ok, Err, Some, length, take};
+ghost use Rattle.std.specs.Prelude.{◌≡◌, ◌≤◌, ℕ, [], true, IfOk, IfErr, Ok, Err, Some};
 ghost use Rattle.command_words.specs.Meaning.{AreInRange};
 ghost use Rattle.command_words.specs.declared.fault.WordsFault.TheVariants.{Usage};
-ghost use Rattle.tetfit_run.specs.Trying.{IsFitted};
-ghost use Rattle.tetfit_run.specs.Words.{IsPlainRequest, fit_fault, others, request_of};
+ghost use Rattle.refining.specs.Outputs.{RefinedMeshed};
+ghost use Rattle.tetfit_run.specs.Trying.{IsFitted, at_decimals};
+ghost use Rattle.tetfit_run.specs.Words.{IsPlainRequest, IsRefinable, fit_fault, others, request_of};
 ghost use Rattle.run_steps.specs.Reading.{IsSound};
 ghost use Rattle.tet_ports.specs.Seen.{IsOnlyRead, folder_seen};
 ghost use Rattle.tetgen_run.specs.Ends.{StopsSo};
-ghost use Rattle.tetfit_run.specs.Outputs.{FitWordsAnswer, IsFittedTo, MadeBy, OutputsOfFit};
-ghost use Rattle.tetfit_run.specs.Outputs.{IsMore, OutputsOfOptions, Says, fit_limits, outputs_at};
-ghost use Rattle.tetfit_run.specs.Outputs.{said, tells_none, with_decimals};
+ghost use Rattle.tetfit_run.specs.Outputs.{FitWordsAnswer, IsFinalBy, IsFittedTo, MadeBy};
+ghost use Rattle.tetfit_run.specs.Outputs.{IsMore, OutputsOfFit, OutputsOfWanted, Says, fit_limits};
+ghost use Rattle.tetfit_run.specs.Outputs.{fitted_told, outputs_at, said, tells_none};
 ghost use Rattle.tetfit_run.specs.Run.{IsKnown, IsKnownOf, IsUnfitted};
 
 use crate::fitting::{Fitted, fit_input};
+use crate::grids::refined_decimals;
 use crate::hints::hint_of;
 use crate::limits::fit_limits;
 use crate::model::{Model, read_model};
 use crate::opening::opening_of;
 use crate::page::{PAGE, VERSION};
-use crate::request::{Request, other_words, read_options, request_of};
+use crate::refined::refined_at;
+use crate::request::{Request, other_words, request_of};
 use crate::trying::Unfitted;
+use crate::wanted::{Wanted, read_wanted};
 use command_words::{Options, WordsFault};
-use mesh_check::append_number;
-use run_steps::{Input, Outputs, Texts};
+use run_steps::{Input, Outputs, Report, Texts};
 use std::alloc::Global;
 use tet_ports::{Bytes, Folder, NoMemory, Words};
+use tet_text::Decimal;
 use tetgen_run::Stop;
+
+/// The greatest coordinate of a model whose mesh is refined, in units of its decimals: eight
+/// halvings of the grid are left to added points.
+const FINE: u64 = 1 << 21;
 
 /// Outputs without files, whose text is written in place of the summary.
 fn said(alloc: Global, text: &[u8]) -> Result<Outputs, NoMemory>
@@ -39,51 +47,56 @@ fn said(alloc: Global, text: &[u8]) -> Result<Outputs, NoMemory>
         edge: None,
         neigh: None,
     };
-    let summary = Some(Bytes::from_slice(alloc, text)?);
-    Ok(Outputs { texts, summary })
+    let report = Some(Report::Text(Bytes::from_slice(alloc, text)?));
+    Ok(Outputs { texts, report })
 }
 
 /// Whether the summary reports 0 tetrahedra.
-fn tells_none(summary: &Option<Bytes>) -> bool
-    ensures { result ≡ tells_none summary.now }
+fn tells_none(report: &Option<Report>) -> bool
+    ensures { result ≡ tells_none report.now }
 {
-    match summary {
-        Some(line) => line
-            .as_slice()
-            .ends_with(b" tetrahedra 0 faces 0 edges 0\n"),
-        None => false,
+    match report {
+        Some(Report::Mesh { summary, notes: _ }) => summary.tetrahedra == 0,
+        _ => false,
     }
 }
 
-/// The summary line with the number of decimals before its line feed, and `more` behind it.
-fn with_decimals(
-    alloc: Global,
-    decimals: u32,
-    more: &Bytes,
-    summary: Option<Bytes>,
-) -> Result<Option<Bytes>, NoMemory>
-    ensures { IfOk result (λ line. line ≡ with_decimals decimals more.now summary) }
+/// The report of a mesh with the number of decimals in its summary, and with lines behind it.
+fn fitted_told(report: Report, decimals: u32, more: Bytes) -> Report
+    ensures { result ≡ fitted_told decimals more report }
 {
-    let Some(mut line) = summary else {
-        return Ok(None);
-    };
-    line.cut(line.len().saturating_sub(1));
-    line.append(b" decimals ")?;
-    append_number(&mut line, decimals as usize)?;
-    line.append(b"\n")?;
-    line.append(more.as_slice())?;
-    Ok(Some(line))
+    match report {
+        Report::Mesh {
+            mut summary,
+            notes: _,
+        } => {
+            summary.decimals = Some(decimals as usize);
+            Report::Mesh {
+                summary,
+                notes: more,
+            }
+        }
+        Report::Text(text) => Report::Text(text),
+    }
 }
 
-/// The outputs of a fitted mesh, with its number of decimals in the summary.
-fn outputs_at(alloc: Global, fitted: Fitted, more: &Bytes) -> Result<Outputs, NoMemory>
-    ensures { IfOk result
-        (λ outputs. outputs ≡ outputs_at fitted.decimals more.now fitted.outputs) }
+/// The outputs of a fitted mesh, with its number of decimals in the summary, and with lines behind
+/// it.
+fn outputs_at(fitted: Fitted, more: Bytes) -> Outputs
+    ensures { result ≡ outputs_at fitted.decimals more fitted.outputs }
 {
     let Fitted { decimals, outputs } = fitted;
-    let Outputs { texts, summary } = outputs;
-    let summary = with_decimals(alloc, decimals, more, summary)?;
-    Ok(Outputs { texts, summary })
+    let Outputs { texts, report } = outputs;
+    match report {
+        None => Outputs {
+            texts,
+            report: None,
+        },
+        Some(report) => Outputs {
+            texts,
+            report: Some(fitted_told(report, decimals, more)),
+        },
+    }
 }
 
 /// The line on facets that enclose nothing, where the mesh has no tetrahedron.
@@ -99,47 +112,108 @@ fn more_of(
     ensures { IfOk result
         (IsMore options.now input.now fitted.now.decimals fitted.now.outputs) }
 {
-    if tells_none(&fitted.outputs.summary) {
+    if tells_none(&fitted.outputs.report) {
         opening_of(alloc, fit_limits(), options, input, fitted.decimals)
     } else {
         Ok(Bytes::new(alloc))
     }
 }
 
-/// The outputs of a fitted mesh, with the line on facets that enclose nothing where it has no
-/// tetrahedron.
-fn told_outputs(
+/// The outputs of the refined mesh at so many or fewer decimals: those that leave halvings of the
+/// grid to added points, or else all.
+fn refined_within(
     alloc: Global,
     options: &Options,
+    input: &Input,
+    decimals: u32,
+    volume: &Decimal,
+) -> Result<Fitted, NoMemory>
+    requires input { IsSound input.now }
+    requires ranges { AreInRange options.now }
+    requires decimals { decimals ≤ 20 }
+    requires complex { options.now.piecewise ≡ true }
+    requires fine { volume.now.scale ≤ 36 }
+    ensures few { IfOk result (λ final. final.decimals ≤ decimals) }
+    ensures outputs { IfOk result (λ final. RefinedMeshed volume.now fit_limits
+        (at_decimals final.decimals options.now) input.now (Ok final.outputs)) }
+{
+    let fine = refined_decimals(input.nodes.decimals.as_slice(), decimals, FINE);
+    match refined_at(alloc, fit_limits(), options, input, fine, volume) {
+        Ok(outputs) => Ok(Fitted {
+            decimals: fine,
+            outputs,
+        }),
+        Err(_) => match refined_at(alloc, fit_limits(), options, input, decimals, volume) {
+            Ok(outputs) => Ok(Fitted { decimals, outputs }),
+            Err(_) => Err(NoMemory),
+        },
+    }
+}
+
+/// The outputs in the end, and the decimals: those that are fitted, or, where a volume is given,
+/// those of the refined mesh.
+fn final_outputs(
+    alloc: Global,
+    wanted: &Wanted,
+    input: &Input,
+    fitted: Fitted,
+) -> Result<Fitted, NoMemory>
+    requires input { IsSound input.now }
+    requires ranges { AreInRange wanted.now.options }
+    requires refinable { IsRefinable wanted.now }
+    requires decimals { fitted.decimals ≤ 20 }
+    ensures few { IfOk result (λ final. final.decimals ≤ 20) }
+    ensures outputs { IfOk result (λ final. IsFinalBy wanted.now.volume wanted.now.options
+        input.now fitted.decimals fitted.outputs final.decimals final.outputs) }
+{
+    let decimals = fitted.decimals;
+    match &wanted.volume {
+        None => Ok(fitted),
+        Some(volume) => {
+            drop(fitted);
+            refined_within(alloc, &wanted.options, input, decimals, volume)
+        }
+    }
+}
+
+/// The outputs of a fitted mesh, or of the refined one, with the line on facets that enclose
+/// nothing where it has no tetrahedron.
+fn told_outputs(
+    alloc: Global,
+    wanted: &Wanted,
     input: &Input,
     fitted: Fitted,
 ) -> Result<Outputs, NoMemory>
     requires input { IsSound input.now }
-    requires ranges { AreInRange options.now }
-    requires fitted { IsFitted fit_limits options.now input.now fitted.decimals
+    requires ranges { AreInRange wanted.now.options }
+    requires refinable { IsRefinable wanted.now }
+    requires fitted { IsFitted fit_limits wanted.now.options input.now fitted.decimals
         (Ok fitted.outputs) }
-    ensures { IfOk result (λ outputs. IsFittedTo options.now input.now (Ok outputs)) }
+    ensures { IfOk result (λ outputs. IsFittedTo wanted.now input.now (Ok outputs)) }
 {
-    let more = more_of(alloc, options, input, &fitted)?;
-    outputs_at(alloc, fitted, &more)
+    let last = final_outputs(alloc, wanted, input, fitted)?;
+    let more = more_of(alloc, &wanted.options, input, &last)?;
+    Ok(outputs_at(last, more))
 }
 
 /// The outputs of a model with the most decimals at which the grid does not refuse it, or the
 /// refusal with the lines that follow its message.
 fn fitted_outputs(
     alloc: Global,
-    options: &Options,
+    wanted: &Wanted,
     model: &Model,
     hint: &mut Bytes,
 ) -> Result<Outputs, Stop>
     requires input { IsSound model.now.input }
-    requires ranges { AreInRange options.now }
+    requires ranges { AreInRange wanted.now.options }
+    requires refinable { IsRefinable wanted.now }
     ensures made { IfOk result
-        (λ outputs. IsFittedTo options.now model.now.input (Ok outputs)) }
-    ensures stopped { IfErr result (IsUnfitted options.now model.now hint.new) }
+        (λ outputs. IsFittedTo wanted.now model.now.input (Ok outputs)) }
+    ensures stopped { IfErr result (IsUnfitted wanted.now.options model.now hint.new) }
 {
+    let options = &wanted.options;
     match fit_input(alloc, fit_limits(), options, &model.input) {
-        Ok(fitted) => Ok(told_outputs(alloc, options, &model.input, fitted)?),
+        Ok(fitted) => Ok(told_outputs(alloc, wanted, &model.input, fitted)?),
         Err(refused) => {
             *hint = hint_of(alloc, fit_limits(), options, model, &refused)?;
             let Unfitted { status, numbering } = refused.end;
@@ -149,39 +223,41 @@ fn fitted_outputs(
 }
 
 /// The outputs of the model that the options name.
-fn outputs_of_options<F: Folder>(
+fn outputs_of_wanted<F: Folder>(
     alloc: Global,
-    options: &Options,
+    wanted: &Wanted,
     folder: &mut F,
     hint: &mut Bytes,
 ) -> Result<Outputs, Stop>
-    requires ranges { AreInRange options.now }
-    requires plain { IsPlainRequest options.now }
+    requires ranges { AreInRange wanted.now.options }
+    requires plain { IsPlainRequest wanted.now.options }
+    requires refinable { IsRefinable wanted.now }
     requires none { hint.old ≡ [] }
-    ensures made { IfOk result (λ outputs. OutputsOfOptions options.now
+    ensures made { IfOk result (λ outputs. OutputsOfWanted wanted.now
         (folder_seen F.state folder.old folder.new) (Ok outputs)) }
     ensures stopped { IfErr result (StopsSo
-        (OutputsOfOptions options.now
+        (OutputsOfWanted wanted.now
         (folder_seen F.state folder.old folder.new))
-        (IsKnownOf options.now
+        (IsKnownOf wanted.now.options
         (folder_seen F.state folder.old folder.new) hint.new)) }
     ensures only_read { IsOnlyRead (folder_seen F.state folder.old folder.new) }
 {
-    let model = read_model(alloc, fit_limits(), options, folder)?;
-    fitted_outputs(alloc, options, &model, hint)
+    let model = read_model(alloc, fit_limits(), &wanted.options, folder)?;
+    fitted_outputs(alloc, wanted, &model, hint)
 }
 
-/// The options of the words, without those that ask for the stages.
-fn fit_options(alloc: Global, words: &Words) -> Result<Options, WordsFault>
+/// The options and the volume of the words, without those that ask for the stages.
+fn fit_wanted(alloc: Global, words: &Words) -> Result<Wanted, WordsFault>
     ensures understood { IfOk result
-        (λ options. FitWordsAnswer (others words.now) (Ok options)) }
+        (λ wanted. FitWordsAnswer (others words.now) (Ok wanted)) }
     ensures usage { (word place : ℕ) → result ≡ Err (Usage word place)
         → fit_fault (others words.now) ≡ Some (word, place) }
-    ensures ranges { IfOk result AreInRange }
-    ensures plain { IfOk result IsPlainRequest }
+    ensures ranges { IfOk result (λ wanted. AreInRange wanted.options) }
+    ensures plain { IfOk result (λ wanted. IsPlainRequest wanted.options) }
+    ensures refinable { IfOk result IsRefinable }
 {
-    let plain = other_words(alloc, words)?;
-    read_options(alloc, &plain)
+    let all = other_words(alloc, words)?;
+    read_wanted(alloc, &all)
 }
 
 /// The outputs that the words ask for: the page, the version, or those of the model that they name.
@@ -204,8 +280,8 @@ pub(crate) fn outputs_of<F: Folder>(
         Request::Page => Ok(said(alloc, PAGE)?),
         Request::Version => Ok(said(alloc, VERSION)?),
         Request::Mesh => {
-            let options = fit_options(alloc, words)?;
-            outputs_of_options(alloc, &options, folder, hint)
+            let wanted = fit_wanted(alloc, words)?;
+            outputs_of_wanted(alloc, &wanted, folder, hint)
         }
     }
 }

@@ -1,6 +1,6 @@
 //! The page and the version of `tetfit`.
 
-/// The page: what the program does, its switches, and five examples.
+/// The page: what the program does, its switches, and six examples.
 pub const PAGE: &[u8] = b"\
 tetfit [switches] name\n\
 \n\
@@ -15,7 +15,9 @@ name.1.face.\n\
 \x20 M     do not merge the coplanar facets of a model\n\
 \x20 c     keep the convex hull\n\
 \x20 A     write the attribute of its region with each tetrahedron\n\
-\x20 S<n>  add at most n points to protect segments\n\
+\x20 a<V>  add points to make tetrahedra over the volume V smaller, and count those\n\
+\x20       that are left; a word of its own, as -a0.5\n\
+\x20 S<n>  add at most n points to protect segments, and n for volumes\n\
 \x20 n     write name.1.neigh, the neighbors of each tetrahedron\n\
 \x20 f     write all faces, and not those of the surface alone\n\
 \x20 e     write name.1.edge\n\
@@ -34,6 +36,7 @@ Examples:\n\
 \x20 tetfit -V part.stl         the same, and say what is done\n\
 \x20 tetfit -nfe bracket.off    with neighbors, all faces and edges\n\
 \x20 tetfit -pcQ plates         plates.poly in its convex hull, with no summary\n\
+\x20 tetfit -a0.5 part.stl      with points added for volumes up to 0.5\n\
 \x20 tetfit points.node         the Delaunay tetrahedra of points\n";
 
 /// The version.

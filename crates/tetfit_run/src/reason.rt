@@ -4,7 +4,7 @@ ghost use Rattle.std.specs.Prelude.{◌≡◌};
 ghost use Rattle.tetfit_run.specs.Reasons.{cluster_reason, long_reason, reason_of, why_not, word_reason};
 ghost use Rattle.tetfit_run.specs.Texts.{reason_text};
 
-use crate::kinds::{DECIMALS, HALVINGS, SAMPLE, byte_at, is_cluster, is_long};
+use crate::kinds::{DECIMALS, HALVINGS, SAMPLE, VOLUME, byte_at, is_cluster, is_long};
 use tet_ports::Words;
 
 /// Why a word is not understood.
@@ -12,8 +12,10 @@ use tet_ports::Words;
 pub enum Reason {
     /// The letter q: bounds on the shape of tetrahedra.
     Quality,
-    /// The letter a: bounds on the volume of tetrahedra.
+    /// The letter a among others: a bound on the volume of tetrahedra is a word of its own.
     Volumes,
+    /// A word that begins with `-a` and gives no bound, or one for a model without facets.
+    Volume,
     /// The letter m: sizes of tetrahedra, from a file.
     Sizes,
     /// The letter Y: no points added on the boundary.
@@ -69,7 +71,8 @@ impl Reason {
     {
         match self {
             Reason::Quality => b"quality meshes are not there",
-            Reason::Volumes => b"bounds on volumes are not there",
+            Reason::Volumes => b"a volume is a word of its own, as -a0.5",
+            Reason::Volume => b"a volume above 0 is wanted, and a model with facets",
             Reason::Sizes => b"sizes of tetrahedra are not there",
             Reason::Boundary => b"segments take points where they need them",
             Reason::Order => b"a tetrahedron has four corners, and no midpoints",
@@ -126,11 +129,14 @@ fn reason_of(byte: u8) -> Reason
     }
 }
 
-/// Why the byte at this place of a cluster, from 1, is not understood; behind an S the missing
-/// number is the reason.
+/// Why the byte at this place of a cluster, from 1, is not understood; behind `-a` it is the
+/// volume that is missing, and behind an S the number.
 fn cluster_reason(word: &[u8], place: usize) -> Reason
     ensures { result ≡ cluster_reason word.now place }
 {
+    if word.starts_with(VOLUME) {
+        return Reason::Volume;
+    }
     if byte_at(word, place.saturating_sub(2)) == b'S' {
         return Reason::Number;
     }

@@ -1,12 +1,12 @@
 //! Reads the words of the command: a page, the version, or the options of a mesh.
 
-ghost use Rattle.std.specs.Prelude.{◌≡◌, ◌+◌, ◌<◌, ℕ, length, Some, None, Err, IfOk, IfSome, position};
+ghost use Rattle.std.specs.Prelude.{◌≡◌, ◌+◌, ◌++◌, ◌<◌, ℕ, filter, length, Some, None, Err, IfOk, IfSome, OnOk, position};
 ghost use Rattle.std.specs.Str.{bytes_eq};
 ghost use Rattle.command_words.specs.Meaning.{AreInRange};
 ghost use Rattle.command_words.specs.declared.fault.WordsFault.TheVariants.{Usage};
-ghost use Rattle.tetfit_run.specs.Words.{request_of, asks_page, asks_stages, asks_version, elsewhere_in, first_elsewhere, fit_fault, fit_options, has_word, asks_elsewhere, is_letter_elsewhere, named_fault, others, told_fault, IsPlainRequest};
+ghost use Rattle.tetfit_run.specs.Words.{request_of, asks_page, asks_stages, asks_version, elsewhere_in, first_elsewhere, has_word, asks_elsewhere, is_letter_elsewhere, is_plain, is_volume, named_fault, others, plain_fault, plain_options, plain_words, told_fault, IsPlainRequest};
 
-use crate::kinds::{DECIMALS, SAMPLE, is_cluster};
+use crate::kinds::{DECIMALS, SAMPLE, VOLUME, is_cluster};
 use command_words::{Options, WordsFault, read_words_within};
 use std::alloc::Global;
 use tet_ports::{Name, NoMemory, Words};
@@ -67,16 +67,51 @@ pub fn asks_stages(words: &Words) -> bool
     has_word(words, b"-V")
 }
 
-/// The words but for `-V`.
-pub fn other_words(alloc: Global, words: &Words) -> Result<Words, NoMemory>
-    ensures { IfOk result (λ kept. kept ≡ others words.now) }
+/// Whether the word bounds the volume of tetrahedra.
+pub(crate) fn is_volume(word: &[u8]) -> bool
+    ensures { result ≡ is_volume word.now }
+{
+    word.starts_with(VOLUME)
+}
+
+/// Whether the word is of the grammar of the program that meshes exact texts.
+fn is_plain(word: &[u8]) -> bool
+    ensures { result ≡ is_plain word.now }
+{
+    !is_volume(word) && !is_word(word, b"-V")
+}
+
+/// The words of the grammar of the program that meshes exact texts.
+pub(crate) fn plain_words(alloc: Global, words: &Words) -> Result<Words, NoMemory>
+    ensures { IfOk result (λ kept. kept ≡ plain_words words.now) }
 {
     let mut kept = Words::new(alloc);
     for word in words.as_slice() {
-        if !is_word(word.as_slice(), b"-V") {
+        if is_plain(word.as_slice()) {
             kept.push(Name::from_slice(alloc, word.as_slice())?)?;
         }
     }
+    Ok(kept)
+}
+
+/// Appends the words that bound volumes.
+fn append_volumes(alloc: Global, words: &Words, kept: &mut Words) -> Result<(), NoMemory>
+    ensures { OnOk result (kept.new ≡ kept.old ++ filter is_volume words.now) }
+{
+    for word in words.as_slice() {
+        if is_volume(word.as_slice()) {
+            kept.push(Name::from_slice(alloc, word.as_slice())?)?;
+        }
+    }
+    Ok(())
+}
+
+/// The words but for `-V`: plain words, and behind them those that bound volumes.
+pub fn other_words(alloc: Global, words: &Words) -> Result<Words, NoMemory>
+    ensures { IfOk result (λ kept. kept ≡ others words.now) }
+{
+    let mut kept = plain_words(alloc, words)?;
+    append_volumes(alloc, words, &mut kept)?;
     Ok(kept)
 }
 
@@ -152,16 +187,16 @@ fn told_fault(words: &Words, fault: WordsFault) -> WordsFault
     }
 }
 
-/// The options that the words without `-V` ask for.
+/// The options that plain words ask for.
 ///
 /// `Usage` exactly where they are not in the grammar of `read_words_within`, with its first fault,
 /// or ask for weights, a check, decimals or the sample, with the first word that does and the place
 /// in it; the same word and place are given where the grammar's fault is a missing word.
-pub fn read_options(alloc: Global, words: &Words) -> Result<Options, WordsFault>
-    ensures understood { IfOk result (λ options. fit_fault words.now ≡ None) }
-    ensures options { IfOk result (λ options. options ≡ fit_options words.now) }
+pub(crate) fn read_options(alloc: Global, words: &Words) -> Result<Options, WordsFault>
+    ensures understood { IfOk result (λ options. plain_fault words.now ≡ None) }
+    ensures options { IfOk result (λ options. options ≡ plain_options words.now) }
     ensures usage { (word place : ℕ) → result ≡ Err (Usage word place)
-        → fit_fault words.now ≡ Some (word, place) }
+        → plain_fault words.now ≡ Some (word, place) }
     ensures ranges { IfOk result (λ options. AreInRange options) }
     ensures plain { IfOk result (λ options. IsPlainRequest options) }
 {

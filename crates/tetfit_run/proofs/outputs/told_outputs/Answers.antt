@@ -1,7 +1,15 @@
+use Rattle.std.proofs.Common.{sym, subst}
+use Rattle.tetfit_run.specs.Outputs.{IsFittedTo}
+use Rattle.std.specs.Prelude.{Ok}
 use Rattle.tetfit_run.proofs.Fitted.{fitted_told}
 use Rattle.tetfit_run.proofs.outputs.told_outputs.Goals as goal
 
 pub returns : goal.returns
 returns c =
     let f = c.args.fitted in
-    fitted_told c.args.options.now c.args.input.now f.decimals f.outputs c.in_ok-more.more c.outputs_at.result c.requires.fitted c.in_ok-more.ensures c.outputs_at.ensures
+    let w = c.args.wanted.now in
+    let i = c.args.input.now in
+    let last = c.in_ok-last.last in
+    let more = c.in_ok-more.more in
+    let made = fitted_told w i f.decimals last.decimals f.outputs last.outputs more c.requires.fitted c.in_ok-last.ensures.outputs c.in_ok-more.ensures in
+    subst (λ o. IsFittedTo w i (Ok o)) (sym c.outputs_at.ensures) made

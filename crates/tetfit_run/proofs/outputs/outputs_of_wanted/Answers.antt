@@ -3,27 +3,29 @@ use Rattle.std.proofs.lemmas.Result.{err_from_is_err_and}
 use Rattle.tetfit_run.specs.Models.{ModelAnswer}
 use Rattle.tet_ports.specs.Seen.{FolderSeen, folder_seen}
 use Rattle.tetgen_run.specs.Ends.{StopsSo}
-use Rattle.tetfit_run.specs.Outputs.{OutputsOfOptions}
+use Rattle.tetfit_run.specs.Outputs.{OutputsOfWanted}
 use Rattle.tetfit_run.specs.Run.{IsKnownOf, IsUnfitted}
 use Rattle.tetfit_run.proofs.Fitted.{err_to, model_stops, unfitted_stops}
-use Rattle.tetfit_run.proofs.outputs.outputs_of_options.Goals as goal
+use Rattle.tetfit_run.proofs.outputs.outputs_of_wanted.Goals as goal
 
 pub returns-in_err-model-clause-stopped : goal.returns-in_err-model-clause-stopped
 returns-in_err-model-clause-stopped g c =
     let F = g.F.Folder in
     let folder : FolderSeen = folder_seen F.state c.args.folder.now c.read_model.new.folder in
-    let options = c.args.options.now in
+    let wanted = c.args.wanted.now in
+    let options = wanted.options in
     let status = c.in_err-model.field-0.0 in
     let p = err_from_is_err_and c.from_residual.result c.from_residual.ensures.1 in
-    rw (p.1, p.2) (model_stops folder options c.args.hint.now status (subst (λ limits. ModelAnswer limits folder options (Err status)) c.fit_limits.ensures.values c.in_err-model.ensures.answer))
+    rw (p.1, p.2) (model_stops folder wanted c.args.hint.now status (subst (λ limits. ModelAnswer limits folder options (Err status)) c.fit_limits.ensures.values c.in_err-model.ensures.answer))
 
 pub returns-clause-stopped : goal.returns-clause-stopped
 returns-clause-stopped g c =
     let F = g.F.Folder in
     let folder : FolderSeen = folder_seen F.state c.args.folder.now c.read_model.new.folder in
-    let options = c.args.options.now in
+    let wanted = c.args.wanted.now in
+    let options = wanted.options in
     let model = c.in_ok-model.model in
     let hint = c.fitted_outputs.new.hint in
     let read = subst (λ limits. ModelAnswer limits folder options (Ok model.input)) c.fit_limits.ensures.values c.in_ok-model.ensures.answer in
-    err_to c.fitted_outputs.result (IsUnfitted options model hint) (StopsSo (OutputsOfOptions options folder) (IsKnownOf options folder hint))
-    (λ stop. unfitted_stops folder options model hint stop read c.in_ok-model.ensures.stated) c.fitted_outputs.ensures.stopped
+    err_to c.fitted_outputs.result (IsUnfitted options model hint) (StopsSo (OutputsOfWanted wanted folder) (IsKnownOf options folder hint))
+    (λ stop. unfitted_stops folder wanted model hint stop read c.in_ok-model.ensures.stated) c.fitted_outputs.ensures.stopped
