@@ -2,12 +2,13 @@
 use Rattle.std.proofs.Common.{◌≡◌, ◌⊎◌, inl, inr, ℕ, ◌<◌, ◌≤◌, List, ◌++◌, length, map, Option, Some, None, Ok, refl, ap, sym, subst, ◌∙◌, arith}
 use Rattle.std.specs.Prelude.{codes}
 use Rattle.sign_predicates.specs.Point.{Point}
+use Rattle.geo_laws.specs.declared.complex.Region.{Region}
 use Rattle.geo_laws.specs.declared.tetrahedra.Tet.{Tet}
 use Rattle.tet_ports.specs.Files.{IsAbsent}
 use Rattle.tet_text.specs.Lines.{content_lines, line_count_of}
 use Rattle.incidence.specs.Pairs.{pairs_of}
 use Rattle.incidence.specs.declared.pairs.Across.{Across}
-use Rattle.mesh_files.specs.Texts.{ele_text, face_text, neigh_text}
+use Rattle.mesh_files.specs.Texts.{ele_text_of, face_text, neigh_text}
 use Rattle.mesh_files.specs.declared.markers.FaceRow.{FaceRow}
 use Rattle.mesh_files.specs.ReadRows.{ele_of, face_list_of, neigh_of}
 use Rattle.node_files.specs.Writing.{node_text}
@@ -24,8 +25,8 @@ use Rattle.run_laws.specs.ReadBack.{AreReadSound}
 use Rattle.run_laws.specs.Checked.{AreThere, CheckedBackLaw}
 use Rattle.run_laws.proofs.ReadBack.{read_back}
 
-module _ (seen : FolderSeen) (base : List ℕ) (table : NodeTable) (added : List Point) (names : List ℕ) (first : ℕ) (rows : List Tet) (faces : List FaceRow)
-    (is : AreReadSound checked_grid table added names first rows faces) (there : AreThere seen base table added names first rows faces)
+module _ (seen : FolderSeen) (base : List ℕ) (table : NodeTable) (added : List Point) (names : List ℕ) (first : ℕ) (marks : Option (List (Option ℕ))) (regions : List Region) (rows : List Tet) (faces : List FaceRow)
+    (is : AreReadSound checked_grid table added names first marks regions rows faces) (there : AreThere seen base table added names first marks regions rows faces)
     (some : 0 < length (table.listed ++ added)) (few : length (table.listed ++ added) ≤ most_points) where
   numbered : is.points.first ≡ first
   numbered = is.numbered some
@@ -34,8 +35,8 @@ module _ (seen : FolderSeen) (base : List ℕ) (table : NodeTable) (added : List
   abbrev spelt : Option (List Across) → MeshText
   spelt neighbors = record { nodes = is.points; rows = is.tetrahedra; faces = is.listed; neighbors = neighbors }
 
-  rows_here : ele_of is.points.first (length is.points.decimals) (line_count_of (ele_text names first rows)) (content_lines (ele_text names first rows)) ≡ Ok is.tetrahedra
-  rows_here = ap (λ (n : ℕ). ele_of n (length is.points.decimals) (line_count_of (ele_text names first rows)) (content_lines (ele_text names first rows))) numbered ∙ is.ele_read _
+  rows_here : ele_of is.points.first (length is.points.decimals) (line_count_of (ele_text_of marks regions names first rows)) (content_lines (ele_text_of marks regions names first rows)) ≡ Ok is.tetrahedra
+  rows_here = ap (λ (n : ℕ). ele_of n (length is.points.decimals) (line_count_of (ele_text_of marks regions names first rows)) (content_lines (ele_text_of marks regions names first rows))) numbered ∙ is.ele_read _
 
   faces_here : face_list_of is.points.first (length is.points.decimals) (line_count_of (face_text names first faces)) (content_lines (face_text names first faces)) ≡ Ok is.listed
   faces_here = ap (λ (n : ℕ). face_list_of n (length is.points.decimals) (line_count_of (face_text names first faces)) (content_lines (face_text names first faces))) numbered ∙ is.face_read _
@@ -49,7 +50,7 @@ module _ (seen : FolderSeen) (base : List ℕ) (table : NodeTable) (added : List
     (node_text table added first, there.node, is.node_read _),
     (
       is.tetrahedra,
-      (ele_text names first rows, there.ele, rows_here),
+      (ele_text_of marks regions names first rows, there.ele, rows_here),
       (
         is.listed,
         (face_text names first faces, there.face, faces_here),
@@ -82,5 +83,5 @@ module _ (seen : FolderSeen) (base : List ℕ) (table : NodeTable) (added : List
       go (inr absent) = checked None absent (subst IsSoundWith (sound_of (record { points = map (point_on (coarsest is.points.decimals)) is.points.decimals; rows = is.tetrahedra; faces = is.listed; neighbors = is.neighbors }) is.sound).neighbors is.sound)
 
 pub checked_back : CheckedBackLaw
-checked_back seen base table added names first ps rows faces readable sound some few there =
-    check_of seen base table added names first rows faces (read_back checked_grid table added names first ps rows faces readable sound) there some few
+checked_back seen base table added names first ps marks regions rows faces readable sound some few there =
+    check_of seen base table added names first marks regions rows faces (read_back checked_grid table added names first ps marks regions rows faces readable sound) there some few

@@ -1,16 +1,15 @@
 -- The check of the files that a run leaves.
-use Rattle.std.proofs.Common.{◌≡◌, ◌⊎◌, inl, inr, ℕ, ◌+◌, ◌<◌, ◌≤◌, ℤ, pos, negsuc, ◌≤ℤ◌, unsigned_abs, Bool, true, false, List, [], ◌∷◌, ◌++◌, length, Option, None, Some, Ok, refl, ap, sym, subst, ◌∙◌, arith, append_assoc}
+use Rattle.std.proofs.Common.{◌≡◌, ◌⊎◌, inl, inr, ℕ, ◌+◌, ◌<◌, ◌≤◌, Bool, true, false, List, [], ◌∷◌, ◌++◌, length, Option, None, Some, Ok, refl, ap, sym, subst, ◌∙◌, arith, append_assoc}
 use Rattle.std.specs.Prelude.{All, IfSome, codes, not, ◌||◌, ◌&&◌, if◌then◌else◌}
 use Rattle.std.specs.List.{range_with_len}
 use Rattle.std.specs.FinMap as map
-use Rattle.std.proofs.lemmas.Int.{ints}
 use Rattle.sign_predicates.specs.Point.{Point}
 use Rattle.geo_laws.specs.Delaunay.{IsOn}
 use Rattle.tet_ports.specs.Seen.{FolderSeen}
 use Rattle.tet_ports.specs.Files.{Files, Holds, IsAbsent}
 use Rattle.incidence.specs.Pairs.{pairs_of}
 use Rattle.mesh_files.specs.FaceRows.{AreFaceRowsOf}
-use Rattle.mesh_files.specs.Texts.{ele_text, ele_text_of, face_text, edge_text, neigh_text}
+use Rattle.mesh_files.specs.Texts.{ele_text_of, face_text, edge_text, neigh_text}
 use Rattle.mesh_files.specs.declared.markers.FaceRow.{FaceRow}
 use Rattle.node_files.specs.Limits.{tetgen_limits}
 use Rattle.node_files.specs.Writing.{node_text}
@@ -37,10 +36,10 @@ use Rattle.run_steps.specs.declared.status.Status.TheVariants.{Done}
 use Rattle.tetgen_run.specs.Run.{AnswerBy}
 use Rattle.run_laws.proofs.SoundRun.{sound_run}
 use Rattle.run_laws.specs.CheckedRun.{AreCheckable, CheckedRunLaw, CheckedAfterLaw}
-use Rattle.run_laws.proofs.Lengths.{ele_long, face_long}
+use Rattle.run_laws.proofs.Lengths.{ele_long_of, face_long}
 use Rattle.run_laws.proofs.Stored.{IsUnder, AreFiles, all_held, after, first_given, node_held, ele_held, face_held, neigh_held, neigh_kept}
-use Rattle.run_laws.proofs.ReadInputs.{HasInputNumbers, input_numbers}
-use Rattle.run_laws.proofs.Tables.{IsOfTable, of_table, short_markers}
+use Rattle.run_laws.proofs.ReadInputs.{HasInputNumbers, input_numbers, plain_table}
+use Rattle.run_laws.proofs.Tables.{IsOfTable, HasRegionMarks, of_table, region_marks, short_markers}
 
 -- ---- the mesh can be read
 
@@ -55,7 +54,7 @@ first_small options mesh one = go options.from_zero
     go false = one
 
 module _ (options : Options) (mesh : Meshed) (outputs : Outputs) (are : AreOutputsOf options mesh outputs) (can : AreCheckable options mesh outputs)
-    (table : IsOfTable mesh) (input : HasInputNumbers mesh) (on : All (IsOn mesh.points) mesh.tetrahedra) where
+    (table : IsOfTable mesh) (input : HasInputNumbers mesh) (marks : HasRegionMarks mesh) (on : All (IsOn mesh.points) mesh.tetrahedra) where
   first : ℕ
   first = first_of options mesh
 
@@ -78,10 +77,9 @@ module _ (options : Options) (mesh : Meshed) (outputs : Outputs) (are : AreOutpu
   unfolding first
   node_there = are.node_is ∙ ap (λ (b : Bool). if b then None else Some (named options.base (codes ".1.node") (node_text mesh.table mesh.added (first_of options mesh)))) can.nodes_there
 
-  ele_there : outputs.texts.ele ≡ Some (named options.base (codes ".1.ele") (ele_text mesh.names first mesh.tetrahedra))
+  ele_there : outputs.texts.ele ≡ Some (named options.base (codes ".1.ele") (ele_text_of mesh.marks mesh.complex.regions mesh.names first mesh.tetrahedra))
   unfolding first
   ele_there = are.ele_is ∙ ap (λ (b : Bool). if b then None else Some (named options.base (codes ".1.ele") (ele_text_of mesh.marks mesh.complex.regions mesh.names (first_of options mesh) mesh.tetrahedra))) can.rows_there
-      ∙ ap (λ (m : Option (List (Option ℕ))). Some (named options.base (codes ".1.ele") (ele_text_of m mesh.complex.regions mesh.names (first_of options mesh) mesh.tetrahedra))) can.no_regions
 
   face_there : outputs.texts.face ≡ Some (named options.base (codes ".1.face") (face_text mesh.names first faces))
   unfolding first faces
@@ -102,7 +100,7 @@ module _ (options : Options) (mesh : Meshed) (outputs : Outputs) (are : AreOutpu
   node_few : length (node_text mesh.table mesh.added first) ≤ most_bytes
   node_few = subst (λ o. IfSome o IsFewBytes) node_there each_few.0
 
-  ele_few : length (ele_text mesh.names first mesh.tetrahedra) ≤ most_bytes
+  ele_few : length (ele_text_of mesh.marks mesh.complex.regions mesh.names first mesh.tetrahedra) ≤ most_bytes
   ele_few = subst (λ o. IfSome o IsFewBytes) ele_there each_few.1
 
   face_few : length (face_text mesh.names first faces) ≤ most_bytes
@@ -128,17 +126,18 @@ module _ (options : Options) (mesh : Meshed) (outputs : Outputs) (are : AreOutpu
         subst (λ ns. All (λ n. n < length (mesh.table.listed ++ mesh.added)) ns) (sym table.names_are) h.1,
       )
 
-  readable : IsReadable tetgen_limits.grid mesh.table mesh.added mesh.names first mesh.points mesh.tetrahedra faces
+  readable : IsReadable tetgen_limits.grid mesh.table mesh.added mesh.names first mesh.points mesh.marks mesh.complex.regions mesh.tetrahedra faces
   unfolding qs
   readable =
-      let rows_few = ele_long mesh.names first mesh.tetrahedra in
+      let rows_few = ele_long_of mesh.marks mesh.complex.regions mesh.names first mesh.tetrahedra in
       let listed_few = face_long mesh.names first faces in
       let rows_bytes = ele_few in
       let listed_bytes = face_few in
       let points_few = input.few in
       record {
         on_grid = omega arith;
-        bare = record { no_attributes = can.no_attributes; no_markers = can.no_markers; halvings = table.halvings };
+        plain = plain_table mesh.table input.points table.halvings;
+        attributed = record { plain = input.regions; each = marks };
         legible = legible;
         one = one;
         named = names.0;
@@ -214,7 +213,7 @@ module _ (options : Options) (mesh : Meshed) (outputs : Outputs) (are : AreOutpu
                 clash b e f = cc
             lacks (inr none) unasked = none
 
-    there : AreThere seen (options.base ++ codes ".1") mesh.table mesh.added mesh.names first mesh.tetrahedra faces
+    there : AreThere seen (options.base ++ codes ".1") mesh.table mesh.added mesh.names first mesh.marks mesh.complex.regions mesh.tetrahedra faces
     unfolding texts
     there = record {
       node = read_under (codes ".node") _ (holds (options.base ++ codes ".1.node") _ (node_held options.base _ _ _ _ _ under (map.get before (options.base ++ codes ".1.node")) _ node_there)) node_few;
@@ -225,7 +224,7 @@ module _ (options : Options) (mesh : Meshed) (outputs : Outputs) (are : AreOutpu
 
     checked : IsVerdict (written_mesh mesh.points mesh.tetrahedra faces) Sound → CheckAnswer seen (options.base ++ codes ".1") None (Ok (length mesh.tetrahedra))
     unfolding qs
-    checked sound = checked_back seen (options.base ++ codes ".1") mesh.table mesh.added mesh.names first mesh.points mesh.tetrahedra faces readable sound table.some input.few there
+    checked sound = checked_back seen (options.base ++ codes ".1") mesh.table mesh.added mesh.names first mesh.points mesh.marks mesh.complex.regions mesh.tetrahedra faces readable sound table.some input.few there
 
 -- ---- the run
 
@@ -241,7 +240,8 @@ checked_run words folder outputs run plain can before fresh seen left =
     let on : All (IsOn run.mesh.points) run.mesh.tetrahedra = λ k d lt. (whole.positive k d lt).0 in
     let table = of_table options run.input run.bound run.mesh plain run.on_grid run.made in
     let numbers = input_numbers words folder run.input run.bound run.mesh plain run.read run.on_grid run.made in
-    checked options run.mesh outputs run.outputs_are can table numbers on before fresh seen left
+    let marks = region_marks options run.bound run.mesh plain run.made in
+    checked options run.mesh outputs run.outputs_are can table numbers marks on before fresh seen left
     (sound_run options run.bound run.mesh plain run.made options.all_faces run.outputs_are.marked (run.outputs_are.marked_are can.faces_there))
 
 -- what the later run answers

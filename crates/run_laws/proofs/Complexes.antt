@@ -1,5 +1,5 @@
 -- The numbers in complexes.
-use Rattle.std.proofs.Common.{◌≡◌, inl, inr, ℕ, zero, suc, ℤ, Bool, true, false, cond, List, [], ◌∷◌, length, map, Option, Some, None, Result, Ok, Err, refl, ap, subst, arith}
+use Rattle.std.proofs.Common.{◌≡◌, ◌⊎◌, inl, inr, ℕ, zero, suc, ℤ, Bool, true, false, cond, List, [], ◌∷◌, length, map, Option, Some, None, Result, Ok, Err, refl, ap, subst, arith}
 use Rattle.std.specs.Prelude.{All, IfSome, MatchResult, ◌==◌}
 use Rattle.tet_text.specs.declared.fault.TextFault.{TextFault}
 use Rattle.tet_text.specs.Lines.{ContentLine}
@@ -127,23 +127,32 @@ faces_short (f ∷ faces) (suc k) d lt = faces_short faces k d (omega arith)
 of_surface : (points : List DecimalPoint) (faces : List PolygonText) → IsNumberedShort (surface_of points faces)
 of_surface points faces = (record { first = omega arith; markers = λ k d lt. absurd (omega arith) }, faces_short faces)
 
-off_read : (total : ℕ) (lines : List ContentLine) (text : Plc) → off_of total lines ≡ Ok text → IsNumberedShort text
+-- the text is that of a surface
+abbrev pub IsSurface : Plc → Type 0
+IsSurface text = (points : List DecimalPoint) × (faces : List PolygonText) × (surface_of points faces ≡ text)
+
+off_is : (total : ℕ) (lines : List ContentLine) (text : Plc) → off_of total lines ≡ Ok text → IsSurface text
 unfolding off_of
-off_read total lines text e =
+off_is total lines text e =
     let a = bind_ok (head_of total lines) (λ head. so_many (off.vertex_line total) head.0.0 head.1 >>= λ points. so_many (off.off_polygon total) head.0.1 points.1 >>= λ faces. text_end_at faces.1 >>= λ u. ok (surface_of points.0 faces.0)) text e in
     let b = bind_ok (so_many (off.vertex_line total) a.0.0.0 a.0.1) (λ points. so_many (off.off_polygon total) a.0.0.1 points.1 >>= λ faces. text_end_at faces.1 >>= λ u. ok (surface_of points.0 faces.0)) text a.2 in
     let c = bind_ok (so_many (off.off_polygon total) a.0.0.1 b.0.1) (λ faces. text_end_at faces.1 >>= λ u. ok (surface_of b.0.0 faces.0)) text b.2 in
     let d = bind_ok (text_end_at c.0.1) (λ u. ok (surface_of b.0.0 c.0.0)) text c.2 in
-    subst IsNumberedShort (same_ok (surface_of b.0.0 c.0.0) text d.2) (of_surface b.0.0 c.0.0)
+    (b.0.0, c.0.0, same_ok (surface_of b.0.0 c.0.0) text d.2)
 
-stl_read : (total : ℕ) (lines : List ContentLine) (text : Plc) → stl_of total lines ≡ Ok text → IsNumberedShort text
+stl_is : (total : ℕ) (lines : List ContentLine) (text : Plc) → stl_of total lines ≡ Ok text → IsSurface text
 unfolding stl_of
-stl_read total lines text e =
+stl_is total lines text e =
     let a = bind_ok (solid_line total lines) (λ solid. stl.ascii_facets_of (length solid.1) total solid.1 >>= λ facets. text_end_at facets.1 >>= λ u. ok (triangles_of facets.0)) text e in
     let b = bind_ok (stl.ascii_facets_of (length a.0.1) total a.0.1) (λ facets. text_end_at facets.1 >>= λ u. ok (triangles_of facets.0)) text a.2 in
     let c = bind_ok (text_end_at b.0.1) (λ u. ok (triangles_of b.0.0)) text b.2 in
-    subst IsNumberedShort (same_ok (triangles_of b.0.0) text c.2) (of_surface (distinct_vertices (vertices_of b.0.0)) (map (triangle_in (distinct_vertices (vertices_of b.0.0))) b.0.0))
+    (distinct_vertices (vertices_of b.0.0), map (triangle_in (distinct_vertices (vertices_of b.0.0))) b.0.0, same_ok (triangles_of b.0.0) text c.2)
+
+pub surface_is : (total : ℕ) (lines : List ContentLine) (text : Plc) → (off_of total lines ≡ Ok text) ⊎ (stl_of total lines ≡ Ok text) → IsSurface text
+surface_is total lines text (inl e) = off_is total lines text e
+surface_is total lines text (inr e) = stl_is total lines text e
 
 pub surface_read : SurfaceReadLaw
-surface_read total lines text (inl e) = off_read total lines text e
-surface_read total lines text (inr e) = stl_read total lines text e
+surface_read total lines text e =
+    let surface = surface_is total lines text e in
+    subst IsNumberedShort surface.2 (of_surface surface.0 surface.1)

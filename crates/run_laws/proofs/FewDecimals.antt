@@ -1,7 +1,6 @@
 -- Coordinates of a grid have no more decimals than its unit.
-use Rattle.std.proofs.Common.{◌≡◌, ℕ, zero, suc, ◌+◌, ◌%◌, ◌*◌, ◌^◌, ◌/◌, ◌≤◌, ℤ, pos, unsigned_abs, Bool, true, false, cond, arith}
+use Rattle.std.proofs.Common.{ℕ, zero, suc, ◌+◌, ◌%◌, ◌*◌, ◌^◌, ◌/◌, ◌≤◌, ℤ, unsigned_abs, Bool, true, false, cond, arith}
 use Rattle.std.specs.Prelude.{◌==◌}
-use Rattle.sign_predicates.specs.Point.{Point}
 use Rattle.tet_text.specs.Decimals.{lowest}
 use Rattle.grid_coords.specs.Units.{decimal_of_units}
 use Rattle.grid_coords.specs.declared.grid.Grid.{Grid}

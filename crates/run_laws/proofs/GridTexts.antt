@@ -1,8 +1,8 @@
 -- Texts of coordinates and whole numbers, as words.
-use Rattle.std.proofs.Common.{◌≡◌, ℕ, zero, suc, ◌+◌, ◌-◌, ◌^◌, ◌<◌, pos, unsigned_abs, Bool, true, false, cond, ◌&&◌, List, [], ◌∷◌, ◌++◌, length, map, take, drop, refl, ap, sym, ◌∙◌, arith, inl, inr, ◌⊎◌, lit≤}
+use Rattle.std.proofs.Common.{◌≡◌, ℕ, zero, suc, ◌+◌, ◌-◌, ◌^◌, ◌<◌, ℤ, pos, negsuc, unsigned_abs, Bool, true, false, cond, ◌&&◌, List, [], ◌∷◌, ◌++◌, length, map, take, drop, refl, ap, sym, ◌∙◌, arith, inl, inr, ◌⊎◌, lit≤}
 use Rattle.std.specs.Prelude.{not, int_lt, replicate, if◌then◌else◌, ◌==◌}
 use Rattle.std.specs.List.{list_all}
-use Rattle.std.specs.Fmt.{decimal}
+use Rattle.std.specs.Fmt.{decimal, signed_decimal}
 use Rattle.std.specs.Int.Digits.{digits_of}
 use Rattle.std.proofs.Math.Nat.{lt_of_lt_of_le}
 use Rattle.std.proofs.Math.Seq.{take-length}
@@ -41,6 +41,10 @@ size_is n h =
 
 pub whole_is_decimal : (n : ℕ) → IsShortNumber n → whole_text (pos n) ≡ decimal n
 whole_is_decimal n h = ap (λ (b : Bool). sign_text b ++ size_text n 0) (le-ltb n 0 (omega arith)) ∙ size_is n h
+
+pub whole_is_signed : (z : ℤ) → IsShortNumber (unsigned_abs z) → whole_text z ≡ signed_decimal z
+whole_is_signed (pos n) h = whole_is_decimal n h
+whole_is_signed (negsuc m) h = ap (λ (w : List ℕ). 45 ∷ w) (size_is (suc m) h)
 
 -- ---- decimals
 

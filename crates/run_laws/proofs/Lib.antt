@@ -8,6 +8,7 @@ pub mod CheckedRun
 pub mod FewDecimals
 pub mod SoundMeshes
 pub mod Complete
+pub mod CompleteChecks
 pub mod Valid
 pub mod ValidRun
 pub mod WorkedWords
@@ -28,7 +29,10 @@ pub mod ComplexRuns
 pub mod Numbers
 pub mod Nodes
 pub mod Complexes
+pub mod PlainReads
+pub mod ReadTexts
 pub mod Words
+pub mod PlainFields
 pub mod Decimals
 pub mod Fields
 pub mod Rows
@@ -38,4 +42,3 @@ pub mod ReadBack
 pub mod Listed
 pub mod Checked
 pub mod Grids
-pub mod RefinedRuns

@@ -8,7 +8,7 @@ use Rattle.node_files.specs.declared.table.NodeTable.{NodeTable}
 use Rattle.tet_text.specs.Printing.{numeral}
 use Rattle.run_steps.specs.Outputs.{AreOutputsOf}
 use Rattle.run_steps.specs.declared.meshed.Meshed.{Meshed}
-use Rattle.run_laws.specs.Pyramid.{full_outputs, plain_outputs}
+use Rattle.run_laws.specs.Pyramid.{full_outputs, plain_outputs, WritesSummary}
 use Rattle.run_laws.proofs.Faces.{all_faces, all_sides, faces_are, hull, sides_are}
 use Rattle.run_laws.proofs.Grid.{places, pyramid_grid}
 use Rattle.run_laws.proofs.Hull.{all_rows, hull_rows, marked}
@@ -59,7 +59,7 @@ plain_are complex = record {
   face_is = refl;
   edge_is = refl;
   neigh_is = refl;
-  summary_is = refl;
+  report_is = refl;
 }
 
 pub full_are : AreOutputsOf (asking true false) pyramid_mesh full_outputs
@@ -76,5 +76,14 @@ full_are = record {
   face_is = refl;
   edge_is = refl;
   neigh_is = refl;
-  summary_is = refl;
+  report_is = refl;
 }
+
+-- the line that sums them up
+pub plain_written : WritesSummary plain_outputs
+unfolding digits
+plain_written = refl
+
+pub full_written : WritesSummary full_outputs
+unfolding digits
+full_written = refl

@@ -68,8 +68,8 @@ neighbors_below rows k d lt =
 -- ---- the mesh
 
 pub read_back : ReadBackLaw
-read_back wide table added names first ps rows faces is none =
-    let read = node_read wide is.on_grid table added first is.bare is.one is.points_short is.legible in
+read_back wide table added names first ps marks regions rows faces is none =
+    let read = node_read wide is.on_grid table added first is.plain is.one is.points_short is.legible in
     let text = read.0 in
     let long = read.2.decimals.long in
     let least = fits wide table.grid qs text.decimals read.2.decimals in
@@ -84,7 +84,7 @@ read_back wide table added names first ps rows faces is none =
       points_long = long;
       rows_long = length-map rows (renamed_row (slice_index names));
       fits = least.fits;
-      ele_read = λ total. ele_read names first (length text.decimals) total rows (subst IsShortNumber count is.points_short) is.rows_short (λ k d lt. row_names (length text.decimals) long k d lt);
+      ele_read = λ total. ele_read marks regions names first (length text.decimals) total rows is.attributed (subst IsShortNumber count is.points_short) is.rows_short (λ k d lt. row_names (length text.decimals) long k d lt);
       face_read = λ total. face_read names first (length text.decimals) total faces (subst IsShortNumber count is.points_short) is.faces_short (λ k d lt. listed_names (length text.decimals) long k d lt);
       neigh_read = λ total. neigh_read first total (pairs_of rows) (subst (λ (n : ℕ). IsShortNumber (first + n)) (sym (pairs_long rows)) is.rows_short) (neighbors_below rows);
       sound = larger_unit _ qs (map (point_on (coarsest text.decimals)) text.decimals) least.same _ _ _ (renamed_mesh names ps qs is.named rows faces (pairs_of rows) is.on none);

@@ -1,38 +1,37 @@
 -- The numbers in the input of a run.
-use Rattle.std.proofs.Common.{◌≡◌, inl, inr, ℕ, zero, suc, ◌+◌, ◌≤◌, Bool, true, false, cond, List, [], ◌∷◌, ◌++◌, length, take, drop, unsigned_abs, Option, None, Some, Ok, refl, ap, sym, subst, arith, length-append}
+use Rattle.std.proofs.Common.{◌≡◌, inl, inr, ℕ, zero, suc, ◌+◌, ◌*◌, ◌≤◌, Bool, true, false, cond, List, [], ◌∷◌, ◌++◌, length, map, take, drop, unsigned_abs, Option, None, Some, Ok, refl, ap, sym, subst, ◌∙◌, arith, length-append}
 use Rattle.std.specs.Prelude.{All, IfSome, nat_le, ◌==◌, unwrap_or, if◌then◌else◌}
 use Rattle.std.specs.Option.{option_or}
 use Rattle.std.proofs.lemmas.Bool.{leb-true}
 use Rattle.std.proofs.lemmas.List.{length-drop}
-use Rattle.tet_text.specs.Lines.{content_lines, line_count_of}
 use Rattle.tet_text.specs.Numbers.{number_of}
-use Rattle.tet_text.specs.Reading.{◌>>=◌, text_end_at}
 use Rattle.geo_laws.specs.Complex.{Complex}
 use Rattle.geo_laws.specs.Segment.{pieces}
 use Rattle.grid_coords.specs.declared.grid.Grid.{Grid}
 use Rattle.node_files.specs.Limits.{tetgen_limits}
-use Rattle.node_files.specs.Node.{node_of, node_list_of}
+use Rattle.node_files.specs.Settling.{rounded_points, with_text}
+use Rattle.node_files.specs.Writing.{mark_count}
 use Rattle.node_files.specs.declared.node_text.NodeText.{NodeText}
 use Rattle.node_files.specs.declared.table.NodeTable.{NodeTable}
-use Rattle.node_files.proofs.Points.{bind_ok, ok_is}
-use Rattle.plc_files.specs.Binding.{bound_facets}
+use Rattle.plc_files.specs.Binding.{bound_facets, bound_region}
+use Rattle.plc_files.specs.declared.parts.RegionText.{RegionText}
 use Rattle.plc_files.specs.Sample.{sample_of, box_facets}
 use Rattle.plc_files.specs.Text.{ReadFacet, Plc}
 use Rattle.complex_mesh.specs.Meshing.{IsComplexMesh}
 use Rattle.complex_mesh.specs.declared.mesh.ComplexMesh.{ComplexMesh}
 use Rattle.complex_mesh.proofs.Added.{added}
-use Rattle.run_laws.specs.Reread.{IsShortNumber}
-use Rattle.run_laws.specs.Numbers.{HasShortNumbers, AreMarkedShort, IsNumberedShort}
+use Rattle.run_laws.specs.Reread.{IsShortNumber, IsPlainField}
+use Rattle.run_laws.specs.NodeRead.{IsPlainTable}
+use Rattle.run_laws.specs.Numbers.{AreMarkedShort}
 use Rattle.run_laws.proofs.Numbers.{IsShortWhole}
-use Rattle.run_laws.proofs.Nodes.{nodes_read}
-use Rattle.run_laws.proofs.Complexes.{plc_read, surface_read}
+use Rattle.run_laws.proofs.ReadTexts.{IsReadText, IsReadPlc, ArePlainRegions, node_short, form_plc, surface_plc}
 use Rattle.command_words.specs.Grammar.{is_cluster, budget_at_front, digit_count, within, last_from}
 use Rattle.command_words.specs.Meaning.{options_of, budget_from, budget_in, last_budget}
 use Rattle.command_words.specs.declared.options.Extension.{Extension}
 use Rattle.command_words.specs.declared.options.Extension.TheVariants.{Node, Poly, Smesh, Off, Stl}
 use Rattle.command_words.specs.declared.options.Options.{Options}
-use Rattle.run_steps.specs.Meshing.{BoundAnswer, MeshAnswer, MeshOf, PointsMeshOf, grid_options, mesh_options, mesh_of_points, mesh_of_complex}
-use Rattle.run_steps.specs.Reading.{InputAnswer, InputOf, PointsAnswer, NodesAnswer, SourceAnswer, ComplexFileAnswer, FormAnswer, node_text_of, plc_text_of}
+use Rattle.run_steps.specs.Meshing.{BoundAnswer, MeshAnswer, MeshOf, PointsMeshOf, grid_options, mesh_options, mesh_of_points, mesh_of_complex, without_decimals}
+use Rattle.run_steps.specs.Reading.{InputAnswer, InputOf, PointsAnswer, NodesAnswer, SourceAnswer, ComplexFileAnswer, FormAnswer, plc_text_of}
 use Rattle.tet_ports.specs.Seen.{FolderSeen}
 use Rattle.run_steps.specs.Steps.{IfMissing}
 use Rattle.run_steps.specs.declared.input.ComplexFile.{ComplexFile}
@@ -43,36 +42,30 @@ use Rattle.run_steps.proofs.Meshables.{as_many}
 
 -- ---- what is read
 
--- points from 0 or 1 on, and facets with markers of at most 18 digits
+-- points from 0 or 1 on, and facets with markers of at most 18 digits; attributes that are fields
 record IsReadShort (input : Input) : Type 0 where
-  first : input.nodes.first ≤ 1
+  nodes : IsReadText input.nodes
   markers : AreMarkedShort input.complex.facets
+  regions : ArePlainRegions input.complex.regions
 
-node_short : (bytes : List ℕ) (text : NodeText) → node_text_of bytes ≡ Ok text → HasShortNumbers text
-unfolding node_of
-node_short bytes text e =
-    let a = bind_ok (node_list_of (line_count_of bytes) (content_lines bytes)) (λ list. text_end_at list.1 >>= λ u. Ok list.0) text e in
-    let b = bind_ok (text_end_at a.0.1) (λ u. Ok a.0.0) text a.2 in
-    subst HasShortNumbers (ok_is a.0.0 text b.2) (nodes_read (line_count_of bytes) (content_lines bytes) a.0.1 a.0.0 a.1)
+points_short : (seen : FolderSeen) (base : List ℕ) (text : NodeText) → PointsAnswer tetgen_limits seen base (Ok text) → IsReadText text
+points_short seen base text (bytes, fetched, read) = node_short bytes text fetched.1 read
 
-points_short : (seen : FolderSeen) (base : List ℕ) (text : NodeText) → PointsAnswer tetgen_limits seen base (Ok text) → HasShortNumbers text
-points_short seen base text (bytes, fetched, read) = node_short bytes text read
+plc_short : (extension : Extension) (bytes : List ℕ) (text : Plc) → length bytes ≤ tetgen_limits.bytes → plc_text_of extension bytes ≡ Ok text → IsReadPlc text
+plc_short Node bytes text few e = form_plc _ bytes text few e
+plc_short Poly bytes text few e = form_plc _ bytes text few e
+plc_short Smesh bytes text few e = form_plc _ bytes text few e
+plc_short Off bytes text few e = surface_plc bytes text (inl e)
+plc_short Stl bytes text few e = surface_plc bytes text (inr e)
 
-plc_short : (extension : Extension) (bytes : List ℕ) (text : Plc) → plc_text_of extension bytes ≡ Ok text → IsNumberedShort text
-plc_short Node bytes text e = plc_read _ (line_count_of bytes) (content_lines bytes) text e
-plc_short Poly bytes text e = plc_read _ (line_count_of bytes) (content_lines bytes) text e
-plc_short Smesh bytes text e = plc_read _ (line_count_of bytes) (content_lines bytes) text e
-plc_short Off bytes text e = surface_read (line_count_of bytes) (content_lines bytes) text (inl e)
-plc_short Stl bytes text e = surface_read (line_count_of bytes) (content_lines bytes) text (inr e)
+form_short : (seen : FolderSeen) (base : List ℕ) (extension : Extension) (file : ComplexFile) → FormAnswer tetgen_limits seen base extension (Ok file) → IsReadPlc file.text
+form_short seen base extension file (bytes, fetched, (text, read, is)) = subst (λ (f : ComplexFile). IsReadPlc f.text) (sym is) (plc_short extension bytes text fetched.1 read)
 
-form_short : (seen : FolderSeen) (base : List ℕ) (extension : Extension) (file : ComplexFile) → FormAnswer tetgen_limits seen base extension (Ok file) → IsNumberedShort file.text
-form_short seen base extension file (bytes, fetched, (text, read, is)) = subst (λ (f : ComplexFile). IsNumberedShort f.text) (sym is) (plc_short extension bytes text read)
-
-either : (seen : FolderSeen) (base : List ℕ) (file : ComplexFile) → IfMissing (FormAnswer tetgen_limits seen base Poly) (FormAnswer tetgen_limits seen base Smesh) (Ok file) → IsNumberedShort file.text
+either : (seen : FolderSeen) (base : List ℕ) (file : ComplexFile) → IfMissing (FormAnswer tetgen_limits seen base Poly) (FormAnswer tetgen_limits seen base Smesh) (Ok file) → IsReadPlc file.text
 either seen base file (inl (answer, found)) = form_short seen base Poly file answer
 either seen base file (inr (name, missing, answer)) = form_short seen base Smesh file answer
 
-file_short : (seen : FolderSeen) (base : List ℕ) (extension : Option Extension) (file : ComplexFile) → ComplexFileAnswer tetgen_limits seen base extension (Ok file) → IsNumberedShort file.text
+file_short : (seen : FolderSeen) (base : List ℕ) (extension : Option Extension) (file : ComplexFile) → ComplexFileAnswer tetgen_limits seen base extension (Ok file) → IsReadPlc file.text
 file_short seen base (Some Smesh) file answer = form_short seen base Smesh file answer
 file_short seen base (Some Poly) file answer = form_short seen base Poly file answer
 file_short seen base (Some Off) file answer = form_short seen base Off file answer
@@ -80,8 +73,15 @@ file_short seen base (Some Stl) file answer = form_short seen base Stl file answ
 file_short seen base (Some Node) file answer = either seen base file answer
 file_short seen base None file answer = either seen base file answer
 
-of_sample : (n : ℕ) → IsNumberedShort (sample_of n)
-of_sample n = (record { first = omega arith; markers = λ k d lt. absurd (omega arith) }, box)
+of_sample : (n : ℕ) → IsReadPlc (sample_of n)
+of_sample n = record {
+  nodes = record {
+    short = record { first = omega arith; markers = λ k d lt. absurd (omega arith) };
+    plain = record { few = omega arith; attributes = omega arith; plain = λ k d lt. absurd (omega arith); markers = omega arith };
+  };
+  markers = box;
+  regions = λ k d lt. absurd (omega arith);
+}
   where
     box : AreMarkedShort box_facets
     box zero d lt = tt
@@ -92,22 +92,20 @@ of_sample n = (record { first = omega arith; markers = λ k d lt. absurd (omega 
     box (suc (suc (suc (suc (suc zero))))) d lt = tt
     box (suc (suc (suc (suc (suc (suc k)))))) d lt = absurd (omega arith)
 
-source_short : (seen : FolderSeen) (base : List ℕ) (extension : Option Extension) (sample : Option ℕ) (file : ComplexFile) → SourceAnswer tetgen_limits seen base extension sample (Ok file) → IsNumberedShort file.text
-source_short seen base extension (Some n) file is = subst (λ (f : ComplexFile). IsNumberedShort f.text) (sym is) (of_sample n)
+source_short : (seen : FolderSeen) (base : List ℕ) (extension : Option Extension) (sample : Option ℕ) (file : ComplexFile) → SourceAnswer tetgen_limits seen base extension sample (Ok file) → IsReadPlc file.text
+source_short seen base extension (Some n) file is = subst (λ (f : ComplexFile). IsReadPlc f.text) (sym is) (of_sample n)
 source_short seen base extension None file answer = file_short seen base extension file answer
 
-own_or_read : (seen : FolderSeen) (base : List ℕ) (own : Option NodeText) (nodes : NodeText) → IfSome own HasShortNumbers → NodesAnswer tetgen_limits seen base own (Ok nodes) → HasShortNumbers nodes
-own_or_read seen base (Some text) nodes short is = subst HasShortNumbers (sym is) short
+own_or_read : (seen : FolderSeen) (base : List ℕ) (own : Option NodeText) (nodes : NodeText) → IfSome own IsReadText → NodesAnswer tetgen_limits seen base own (Ok nodes) → IsReadText nodes
+own_or_read seen base (Some text) nodes short is = subst IsReadText (sym is) short
 own_or_read seen base None nodes short answer = points_short seen base nodes answer
 
 input_short : (piecewise : Bool) (seen : FolderSeen) (options : Options) (input : Input) → InputOf tetgen_limits piecewise seen options (Ok input) → IsReadShort input
 input_short false seen options input (nodes, read, is) =
-    let short = points_short seen options.base nodes read in
-    subst IsReadShort (sym is) (record { first = short.first; markers = λ k d lt. absurd (omega arith) })
+    subst IsReadShort (sym is) (record { nodes = points_short seen options.base nodes read; markers = λ k d lt. absurd (omega arith); regions = λ k d lt. absurd (omega arith) })
 input_short true seen options input (file, source, (nodes, points, (checked, at, is))) =
     let text = source_short seen options.base options.extension options.sample file source in
-    let short = own_or_read seen options.base file.text.nodes nodes text.0 points in
-    subst IsReadShort (sym is) (record { first = short.first; markers = text.1 })
+    subst IsReadShort (sym is) (record { nodes = own_or_read seen options.base file.text.nodes nodes text.nodes points; markers = text.markers; regions = text.regions })
 
 -- ---- how many points are added
 
@@ -154,23 +152,42 @@ budget_small words = go (last_budget words) (last_small None words tt)
 
 -- ---- the mesh
 
--- the number of the first point, how many points are written, and the markers of facets
+-- the attributes and markers of the listed points
+pub record HasPlainPoints (table : NodeTable) : Type 0 where
+  pub few : table.attribute_count ≤ 100
+  pub attributes : length table.attributes ≡ table.attribute_count * length table.listed
+  pub plain : All IsPlainField table.attributes
+  pub markers : length table.markers ≡ mark_count table.flag * length table.listed
+  pub short : All (λ m. IsShortNumber (unsigned_abs m)) table.markers
+
+pub plain_table : (table : NodeTable) → HasPlainPoints table → table.grid.halvings ≤ 18 → IsPlainTable table
+plain_table table is halvings = record { few = is.few; attributes = is.attributes; plain = is.plain; markers = is.markers; short = is.short; halvings = halvings }
+
+-- the number of the first point, how many points are written, the attributes and markers of points, the markers of facets, and the
+-- attributes of regions
 pub record HasInputNumbers (mesh : Meshed) : Type 0 where
   pub first : mesh.table.first ≤ 1
   pub few : length (mesh.table.listed ++ mesh.added) ≤ 120000
+  pub points : HasPlainPoints mesh.table
   pub markers : All (λ f. IfSome f.marker (λ m. IsShortNumber (unsigned_abs m))) mesh.complex.facets
+  pub regions : All (λ r. IsPlainField r.attribute) mesh.complex.regions
 
 bound_short : (grid : Grid) (from : ℕ) (fs : List ReadFacet) → AreMarkedShort fs → All (λ f. IfSome f.marker IsShortWhole) (bound_facets grid from fs)
 bound_short grid from [] h k d lt = absurd (omega arith)
 bound_short grid from (f ∷ fs) h zero d lt = h 0 f (omega arith)
 bound_short grid from (f ∷ fs) h (suc k) d lt = bound_short grid (from + length f.polygons) fs (λ i e l. h (suc i) e (omega arith)) k d (omega arith)
 
+bound_plain : (grid : Grid) (rs : List RegionText) → ArePlainRegions rs → All (λ r. IsPlainField r.attribute) (map (bound_region grid) rs)
+bound_plain grid [] h k d lt = absurd (omega arith)
+bound_plain grid (r ∷ rs) h zero d lt = h 0 r (omega arith)
+bound_plain grid (r ∷ rs) h (suc k) d lt = bound_plain grid rs (λ i e l. h (suc i) e (omega arith)) k d (omega arith)
+
 module _ (options : Options) (budget : options.budget ≤ 100000) (input : Input) (short : IsReadShort input) (bound : Bound) (on_grid : BoundAnswer tetgen_limits options input (Ok bound)) where
   first_is : bound.table.first ≡ input.nodes.first
   first_is = ap (λ (t : NodeTable). t.first) on_grid.0.is
 
   first_small : bound.table.first ≤ 1
-  first_small = subst (λ (n : ℕ). n ≤ 1) (sym first_is) short.first
+  first_small = subst (λ (n : ℕ). n ≤ 1) (sym first_is) short.nodes.short.first
 
   listed_few : length bound.table.listed ≤ 20000
   listed_few =
@@ -181,11 +198,33 @@ module _ (options : Options) (budget : options.budget ≤ 100000) (input : Input
   marked : All (λ f. IfSome f.marker IsShortWhole) bound.complex.facets
   marked = subst (λ (c : Complex). All (λ f. IfSome f.marker IsShortWhole) c.facets) (sym on_grid.1.is) (bound_short bound.table.grid 0 input.complex.facets short.markers)
 
+  attributed : All (λ r. IsPlainField r.attribute) bound.complex.regions
+  attributed = subst (λ (c : Complex). All (λ r. IsPlainField r.attribute) c.regions) (sym on_grid.1.is) (bound_plain bound.table.grid input.complex.regions short.regions)
+
+  points : HasPlainPoints bound.table
+  points =
+      let table = with_text input.nodes (rounded_points options.decimals input.nodes.decimals) bound.table in
+      let long : length table.listed ≡ length input.nodes.decimals = sym (ap (λ (t : NodeTable). length t.listed) on_grid.0.is) ∙ as_many tetgen_limits input.nodes (grid_options options) bound.table on_grid.0 in
+      let text = short.nodes.plain in
+      subst HasPlainPoints (sym on_grid.0.is) (record {
+        few = text.few;
+        attributes = text.attributes ∙ ap (λ (n : ℕ). input.nodes.attribute_count * n) (sym long);
+        plain = text.plain;
+        markers = text.markers ∙ ap (λ (n : ℕ). mark_count input.nodes.flag * n) (sym long);
+        short = short.nodes.short.markers;
+      })
+
+  -- the points as the mesh has them
+  kept_points : HasPlainPoints (without_decimals bound.table)
+  kept_points = let p = points in record { few = p.few; attributes = p.attributes; plain = p.plain; markers = p.markers; short = p.short }
+
   of_points : HasInputNumbers (mesh_of_points bound.table)
   of_points = let few = listed_few in record {
     first = first_small;
     few = omega (arith, length-append bound.table.listed []);
+    points = kept_points;
     markers = λ k d lt. absurd (omega arith);
+    regions = λ k d lt. absurd (omega arith);
   }
 
   of_complex : (made : ComplexMesh) → IsComplexMesh (mesh_options options bound.table) bound.table.points bound.complex made → HasInputNumbers (mesh_of_complex bound made)
@@ -195,7 +234,9 @@ module _ (options : Options) (budget : options.budget ≤ 100000) (input : Input
       record {
         first = first_small;
         few = omega (arith, length-append bound.table.listed (drop (length bound.table.points) made.points), length-drop (length bound.table.points) made.points);
+        points = kept_points;
         markers = marked;
+        regions = attributed;
       }
 
   by_mesh : (piecewise : Bool) (mesh : Meshed) → options.weighted ≡ false → MeshOf piecewise options bound (Ok mesh) → HasInputNumbers mesh

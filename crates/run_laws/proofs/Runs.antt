@@ -11,6 +11,7 @@ use Rattle.run_steps.specs.Outputs.{AreOutputsOf}
 use Rattle.run_steps.specs.Reading.{InputAnswer, WordsAnswer}
 use Rattle.tet_ports.specs.Seen.{FolderSeen, SinkSeen}
 use Rattle.run_steps.specs.Steps.{AndThen}
+use Rattle.run_steps.specs.Reports.{text_in}
 use Rattle.run_steps.specs.Stores.{in_order, with_files}
 use Rattle.run_steps.specs.declared.input.Input.{Input}
 use Rattle.run_steps.specs.declared.mesh.Bound.{Bound}
@@ -93,7 +94,7 @@ module _ (start : Start) (options : Options) (input : Input) (bound : Bound) (me
       record {
         done = done;
         files = l.2 ∙ ap (λ (o : Outputs). with_files folder.files_before (in_order o.texts)) same;
-        written = l.3 ∙ ap (λ (o : Outputs). with_summary out.written_before o.summary) same;
+        written = l.3 ∙ ap (λ (o : Outputs). with_summary out.written_before (text_in o)) same;
       }
 
   pub is_run : IsRun start outputs

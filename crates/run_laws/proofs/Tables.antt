@@ -1,8 +1,9 @@
 -- The points, names and tetrahedra of a run's mesh.
-use Rattle.std.proofs.Common.{◌≡◌, inl, inr, ℕ, zero, suc, ◌-◌, ◌<◌, ◌≤◌, ℤ, pos, unsigned_abs, Bool, true, false, List, [], ◌∷◌, ◌++◌, length, drop, Option, None, Some, Ok, refl, ap, sym, subst, ◌∙◌, arith, length-append}
+use Rattle.std.proofs.Common.{◌≡◌, ◌⊎◌, inl, inr, ℕ, zero, suc, ◌-◌, ◌<◌, ◌≤◌, ℤ, pos, unsigned_abs, Bool, true, false, List, [], ◌∷◌, ◌++◌, length, drop, Option, None, Some, Ok, refl, ap, sym, subst, ◌∙◌, arith, length-append}
 use Rattle.std.specs.Prelude.{All, IfSome, slice_index, slice_index_or, if◌then◌else◌}
 use Rattle.std.specs.List.{range_with_len}
-use Rattle.std.proofs.lemmas.List.{append-nil, length-drop, get_or_default}
+use Rattle.std.proofs.lemmas.Bool.{cases_order}
+use Rattle.std.proofs.lemmas.List.{append-nil, length-drop, get_or_default, get_or_past}
 use Rattle.std.proofs.Math.Seq.{drop-append_seam}
 use Rattle.std.proofs.lemmas.List.Elements.{All-append, All-drop}
 use Rattle.sign_predicates.specs.Point.{Point, origin}
@@ -17,6 +18,10 @@ use Rattle.node_files.specs.Settling.{IsSettled}
 use Rattle.node_files.specs.declared.node_text.NodeText.{NodeText}
 use Rattle.node_files.specs.declared.table.NodeTable.{NodeTable}
 use Rattle.node_files.proofs.Folds.{folded_few, kept_at}
+use Rattle.geo_laws.specs.declared.complex.Region.{Region}
+use Rattle.geo_laws.specs.declared.complex.FacetTriangle.{FacetTriangle}
+use Rattle.geo_laws.specs.declared.tetrahedra.Tet.{Tet}
+use Rattle.hole_carve.specs.Marks.{IsFirstOf, AreRegionMarks}
 use Rattle.complex_mesh.specs.Meshing.{IsComplexMesh}
 use Rattle.complex_mesh.specs.declared.mesh.ComplexMesh.{ComplexMesh}
 use Rattle.run_laws.specs.Reread.{IsShortNumber}
@@ -92,6 +97,38 @@ by_mesh true options text bound mesh plain settled (made, m, is) = subst IsOfTab
 
 pub of_table : (options : Options) (input : Input) (bound : Bound) (mesh : Meshed) → options.weighted ≡ false → BoundAnswer tetgen_limits options input (Ok bound) → MeshAnswer options bound (Ok mesh) → IsOfTable mesh
 of_table options input bound mesh plain on_grid answer = by_mesh options.piecewise options input.nodes bound mesh plain on_grid.0 answer
+
+-- ---- marks
+
+-- each mark of a tetrahedron, where there are marks, is that of a region
+abbrev pub HasRegionMarks : Meshed → Type 0
+HasRegionMarks mesh = IfSome mesh.marks (λ ms. (i : ℕ) → IfSome (slice_index_or ms i None) (λ r. r < length mesh.complex.regions))
+
+first_within : (P : ℕ → Type 0) (count : ℕ) (o : Option ℕ) → IsFirstOf P count o → IfSome o (λ r. r < count)
+first_within P count None h = tt
+first_within P count (Some k) h = h.0
+
+marks_within : (ps : List Point) (ts : List FacetTriangle) (rows : List Tet) (regions : List Region) (ms : List (Option ℕ)) → AreRegionMarks ps ts rows regions ms → (i : ℕ) → IfSome (slice_index_or ms i None) (λ r. r < length regions)
+marks_within ps ts rows regions ms are i = go (cases_order i (length rows))
+  where
+    past : length rows ≤ i → IfSome (slice_index_or ms i None) (λ r. r < length regions)
+    past le = subst (λ o. IfSome o (λ r. r < length regions)) (sym (get_or_past ms i None (let long = are.long in omega arith))) tt
+
+    go : (i ≡ length rows) ⊎ ((i < length rows) ⊎ (length rows < i)) → IfSome (slice_index_or ms i None) (λ r. r < length regions)
+    go (inl same) = past (omega arith)
+    go (inr (inl before)) = first_within _ (length regions) (slice_index_or ms i None) (are.each i before)
+    go (inr (inr behind)) = past (omega arith)
+
+pub region_marks : (options : Options) (bound : Bound) (mesh : Meshed) → options.weighted ≡ false → MeshAnswer options bound (Ok mesh) → HasRegionMarks mesh
+region_marks options bound mesh plain answer = by_complex options.piecewise answer
+  where
+    marked : (ps : List Point) (ts : List FacetTriangle) (rows : List Tet) (o : Option (List (Option ℕ))) → IfSome o (AreRegionMarks ps ts rows bound.complex.regions) → IfSome o (λ ms. (i : ℕ) → IfSome (slice_index_or ms i None) (λ r. r < length bound.complex.regions))
+    marked ps ts rows None h = tt
+    marked ps ts rows (Some ms) h = marks_within ps ts rows bound.complex.regions ms h
+
+    by_complex : (piecewise : Bool) → MeshOf piecewise options bound (Ok mesh) → HasRegionMarks mesh
+    by_complex false points = subst HasRegionMarks (sym (subst (λ weighted. PointsMeshOf weighted options bound (Ok mesh)) plain points).1) tt
+    by_complex true (made, m, is) = subst HasRegionMarks (sym is) (marked made.points made.triangles made.tetrahedra made.marks m.marks)
 
 -- ---- markers
 

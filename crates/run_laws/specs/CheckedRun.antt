@@ -27,16 +27,13 @@ pub record HasFewDecimals (g : Grid) (p : Point) : Type 0 where
 abbrev pub FewDecimalsLaw : Type 0
 FewDecimalsLaw = (g : Grid) (p : Point) → g.decimals + g.halvings ≤ 35 → HasFewDecimals g p
 
--- Outputs of a mesh that can be checked: its points, tetrahedra and faces are among them, each text has at most 2^26 bytes, points have
--- neither attributes nor markers, tetrahedra have no attributes, and coordinates have at most 35 decimals
+-- Outputs of a mesh that can be checked: its points, tetrahedra and faces are among them, each text has at most 2^26 bytes, and coordinates
+-- have at most 35 decimals
 pub record AreCheckable (options : Options) (mesh : Meshed) (outputs : Outputs) : Type 0 where
   pub nodes_there : options.no_node ≡ false
   pub rows_there : options.no_ele ≡ false
   pub faces_there : options.no_face ≡ false
   pub few_bytes : All (λ text. length text.content ≤ most_bytes) (in_order outputs.texts)
-  pub no_attributes : mesh.table.attribute_count ≡ 0
-  pub no_markers : mesh.table.flag ≡ false
-  pub no_regions : mesh.marks ≡ None
   pub decimals : All (HasFewDecimals mesh.table.grid) (mesh.table.listed ++ mesh.added)
 
 -- The outputs of a run without weights are left in some files, among which there is no other file of neighbors. Then the check of them,

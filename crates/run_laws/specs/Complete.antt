@@ -1,5 +1,5 @@
 -- Which runs on points are done.
-use Rattle.std.specs.Prelude.{◌≡◌, ◌⊎◌, ℕ, ◌≤◌, false, List, length, None, Some, Ok}
+use Rattle.std.specs.Prelude.{◌≡◌, ◌⊎◌, ℕ, ℤ, ◌≤◌, true, false, List, length, None, Some, Ok}
 use Rattle.std.specs.FinMap as map
 use Rattle.tet_ports.specs.Files.{Files}
 use Rattle.geo_laws.specs.Delaunay.{AreCoplanar}
@@ -17,6 +17,7 @@ use Rattle.command_words.specs.declared.options.Options.{Options}
 use Rattle.run_steps.specs.Meshing.{grid_options}
 use Rattle.run_steps.specs.Reading.{node_text_of}
 use Rattle.tet_ports.specs.Seen.{FolderSeen, SinkSeen}
+use Rattle.weighted_mesh.specs.Weights.{weights_of}
 use Rattle.run_steps.specs.declared.status.Status.{Status}
 use Rattle.run_steps.specs.declared.status.Status.TheVariants.{Done, NoMemory}
 use Rattle.tetgen_run.specs.Ends.{HasNoFault}
@@ -27,6 +28,12 @@ pub record AskForPoints (options : Options) : Type 0 where
   pub no_check : options.check ≡ false
   pub no_complex : options.piecewise ≡ false
   pub no_weights : options.weighted ≡ false
+
+-- the options ask for the regular list of weighted points
+pub record AskForWeights (options : Options) : Type 0 where
+  pub no_check : options.check ≡ false
+  pub no_complex : options.piecewise ≡ false
+  pub weights : options.weighted ≡ true
 
 -- the file of points is there, in its grammar and within these limits, and its points are on a grid and not all in one plane
 pub record IsGoodFile (limits : Limits) (options : Options) (told : Files) : Type 0 where
@@ -46,4 +53,16 @@ abbrev pub PointsCompleteLaw : Type 0
 PointsCompleteLaw = (limits : Limits) (words : List (List ℕ)) (folder : FolderSeen) (out : SinkSeen) (told : Files)
     → words_fault words ≡ None → AskForPoints (options_of words) → folder.files_before ≡ Some told
     → IsGoodFile limits (options_of words) told → HasNoFault folder out
+    → (status : Status) → IsAnswerWithin limits words folder out status → (status ≡ Done) ⊎ (status ≡ NoMemory)
+
+-- each point has a weight: the first attributes are decimals, and none is too heavy on the points' grid; or points have no attributes
+abbrev pub AreWeighed : Limits → Options → NodeText → Type 0
+AreWeighed limits options nodes =
+    (table : NodeTable) → IsSettled limits nodes (grid_options options) table → (weights : List ℤ) × (weights_of table ≡ Ok weights)
+
+-- So it is of words that ask for weighted points, where each point has a weight
+abbrev pub WeightsCompleteLaw : Type 0
+WeightsCompleteLaw = (limits : Limits) (words : List (List ℕ)) (folder : FolderSeen) (out : SinkSeen) (told : Files)
+    → words_fault words ≡ None → AskForWeights (options_of words) → folder.files_before ≡ Some told
+    → (good : IsGoodFile limits (options_of words) told) → AreWeighed limits (options_of words) good.nodes → HasNoFault folder out
     → (status : Status) → IsAnswerWithin limits words folder out status → (status ≡ Done) ⊎ (status ≡ NoMemory)

@@ -2,6 +2,7 @@ pub mod SoundRun
 pub mod CheckedRun
 pub mod SoundMeshes
 pub mod Complete
+pub mod CompleteChecks
 pub mod Valid
 pub mod ValidRun
 pub mod Runs
@@ -13,4 +14,3 @@ pub mod NodeRead
 pub mod ReadBack
 pub mod Listed
 pub mod Checked
-pub mod Refined

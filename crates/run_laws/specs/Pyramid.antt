@@ -1,6 +1,9 @@
 -- Runs on the five points of a pyramid, byte for byte: what they read, and what they write.
-use Rattle.std.specs.Prelude.{ℕ, List, [], ◌∷◌, Some, None, codes}
+use Rattle.std.specs.Prelude.{◌≡◌, ℕ, List, [], ◌∷◌, Some, None, codes}
 use Rattle.run_steps.specs.declared.outputs.Outputs.{Outputs}
+use Rattle.run_steps.specs.Reports.{text_in}
+use Rattle.run_steps.specs.declared.report.Report.{Report}
+use Rattle.run_steps.specs.declared.report.Report.TheVariants.{Mesh}
 use Rattle.run_steps.specs.declared.store.NamedText.{NamedText}
 use Rattle.run_laws.specs.Runs.{Start}
 
@@ -75,8 +78,17 @@ pyramid_neigh_text = record {
   message = codes "tetgen: pyramid.1.neigh: write failed\n";
 }
 
+-- what is written to the standard output: the counts, and no lines behind them
+abbrev pub pyramid_report : Report
+pyramid_report =
+    Mesh (record { points = 5; added = 0; tetrahedra = 2; faces = 7; edges = 9; hidden = None; decimals = None; over = None }) []
+
+-- and its text
 abbrev pub summary_line : List ℕ
 summary_line = codes "points 5 added 0 tetrahedra 2 faces 7 edges 9\n"
+
+abbrev pub WritesSummary : Outputs → Type 0
+WritesSummary outputs = text_in outputs ≡ Some summary_line
 
 -- the outputs without a switch, and those of the complex
 abbrev pub plain_outputs : Outputs
@@ -89,7 +101,7 @@ plain_outputs = record {
     edge = None;
     neigh = None;
   };
-  summary = Some summary_line;
+  report = Some pyramid_report;
 }
 
 -- and with the three
@@ -102,5 +114,5 @@ full_outputs = record {
     edge = Some pyramid_edge_text;
     neigh = Some pyramid_neigh_text;
   };
-  summary = Some summary_line;
+  report = Some pyramid_report;
 }

@@ -1,12 +1,13 @@
 -- The texts of a mesh without a defect, read back.
-use Rattle.std.specs.Prelude.{◌≡◌, ℕ, ◌+◌, ◌≤◌, ◌<◌, unsigned_abs, List, ◌++◌, length, map, All, Ok}
+use Rattle.std.specs.Prelude.{◌≡◌, ℕ, ◌+◌, ◌≤◌, ◌<◌, unsigned_abs, List, ◌++◌, length, map, All, Option, Ok}
 use Rattle.sign_predicates.specs.Point.{Point}
 use Rattle.geo_laws.specs.Delaunay.{IsOn}
+use Rattle.geo_laws.specs.declared.complex.Region.{Region}
 use Rattle.geo_laws.specs.declared.tetrahedra.Tet.{Tet}
 use Rattle.tet_text.specs.Lines.{content_lines}
 use Rattle.incidence.specs.Pairs.{pairs_of}
 use Rattle.incidence.specs.declared.pairs.Across.{Across}
-use Rattle.mesh_files.specs.Texts.{ele_text, face_text, neigh_text}
+use Rattle.mesh_files.specs.Texts.{ele_text_of, face_text, neigh_text}
 use Rattle.mesh_files.specs.declared.markers.FaceRow.{FaceRow}
 use Rattle.mesh_files.specs.ReadRows.{ele_of, face_list_of, neigh_of}
 use Rattle.grid_coords.specs.Units.{limit}
@@ -19,15 +20,17 @@ use Rattle.mesh_check.specs.Defects.{IsVerdict}
 use Rattle.mesh_check.specs.declared.defect.Verdict.TheVariants.{Sound}
 use Rattle.written_laws.specs.Renamed.{AreNamesIn}
 use Rattle.written_laws.specs.WrittenMesh.{written_mesh}
-use Rattle.run_laws.specs.NodeRead.{IsBareTable, IsLegiblePoint}
-use Rattle.run_laws.specs.Reread.{IsShortNumber}
+use Rattle.run_laws.specs.NodeRead.{IsPlainTable, IsLegiblePoint}
+use Rattle.run_laws.specs.Reread.{IsShortNumber, AreLegibleMarks}
 
--- A mesh whose texts can be read: points without attributes and markers, each coordinate at most so large and with at most 35 decimals;
--- names of its points in the list of points that is written; and numbers and markers of at most 18 digits
-pub record IsReadable (wide : ℕ) (table : NodeTable) (added : List Point) (names : List ℕ) (first : ℕ) (ps : List Point) (rows : List Tet)
-    (faces : List FaceRow) : Type 0 where
+-- A mesh whose texts can be read: points with the attributes and markers of a list that was read, each coordinate at most so large and with
+-- at most 35 decimals; names of its points in the list of points that is written; rows with the attributes of regions or without them; and
+-- numbers and markers of at most 18 digits
+pub record IsReadable (wide : ℕ) (table : NodeTable) (added : List Point) (names : List ℕ) (first : ℕ) (ps : List Point)
+    (marks : Option (List (Option ℕ))) (regions : List Region) (rows : List Tet) (faces : List FaceRow) : Type 0 where
   pub on_grid : wide ≤ limit
-  pub bare : IsBareTable table
+  pub plain : IsPlainTable table
+  pub attributed : AreLegibleMarks regions marks
   pub legible : All (IsLegiblePoint wide table.grid) (table.listed ++ added)
   pub one : first ≤ 1
   pub named : AreNamesIn names ps (table.listed ++ added)
@@ -40,8 +43,8 @@ pub record IsReadable (wide : ℕ) (table : NodeTable) (added : List Point) (nam
 
 -- what the texts of a mesh are read as: points with coordinates at most so large on their least grid, and rows, faces and neighbors among
 -- which there is no defect
-pub record AreReadSound (wide : ℕ) (table : NodeTable) (added : List Point) (names : List ℕ) (first : ℕ) (rows : List Tet)
-    (faces : List FaceRow) : Type 0 where
+pub record AreReadSound (wide : ℕ) (table : NodeTable) (added : List Point) (names : List ℕ) (first : ℕ)
+    (marks : Option (List (Option ℕ))) (regions : List Region) (rows : List Tet) (faces : List FaceRow) : Type 0 where
   pub points : NodeText
   pub tetrahedra : List Tet
   pub listed : List FaceRow
@@ -51,7 +54,8 @@ pub record AreReadSound (wide : ℕ) (table : NodeTable) (added : List Point) (n
   pub points_long : length points.decimals ≡ length (table.listed ++ added)
   pub rows_long : length tetrahedra ≡ length rows
   pub fits : least_grid_of wide points.decimals ≡ Ok (coarsest points.decimals)
-  pub ele_read : (total : ℕ) → ele_of first (length points.decimals) total (content_lines (ele_text names first rows)) ≡ Ok tetrahedra
+  pub ele_read : (total : ℕ)
+      → ele_of first (length points.decimals) total (content_lines (ele_text_of marks regions names first rows)) ≡ Ok tetrahedra
   pub face_read : (total : ℕ) → face_list_of first (length points.decimals) total (content_lines (face_text names first faces)) ≡ Ok listed
   pub neigh_read : (total : ℕ) → neigh_of first total (content_lines (neigh_text first (pairs_of rows))) ≡ Ok neighbors
   pub sound : IsVerdict (record {
@@ -64,6 +68,7 @@ pub record AreReadSound (wide : ℕ) (table : NodeTable) (added : List Point) (n
 
 -- The texts of a mesh without a defect are read back as one without a defect
 abbrev pub ReadBackLaw : Type 0
-ReadBackLaw = (wide : ℕ) (table : NodeTable) (added : List Point) (names : List ℕ) (first : ℕ) (ps : List Point) (rows : List Tet)
-    (faces : List FaceRow) → IsReadable wide table added names first ps rows faces
-    → IsVerdict (written_mesh ps rows faces) Sound → AreReadSound wide table added names first rows faces
+ReadBackLaw = (wide : ℕ) (table : NodeTable) (added : List Point) (names : List ℕ) (first : ℕ) (ps : List Point)
+    (marks : Option (List (Option ℕ))) (regions : List Region) (rows : List Tet) (faces : List FaceRow)
+    → IsReadable wide table added names first ps marks regions rows faces
+    → IsVerdict (written_mesh ps rows faces) Sound → AreReadSound wide table added names first marks regions rows faces

@@ -1,9 +1,11 @@
 -- The texts of a mesh, read back.
-use Rattle.std.specs.Prelude.{◌≡◌, ℕ, ◌+◌, ◌^◌, ◌<◌, unsigned_abs, List, length, map, All, IfSome, slice_index, Ok}
-use Rattle.tet_text.specs.Lines.{content_lines}
+use Rattle.std.specs.Prelude.{◌≡◌, ℕ, ◌+◌, ◌^◌, ◌<◌, unsigned_abs, false, List, length, map, All, Option, None, IfSome, slice_index, Ok}
+use Rattle.std.specs.List.{slice_index_or}
+use Rattle.tet_text.specs.Lines.{IsField, is_comment_mark, content_lines}
+use Rattle.geo_laws.specs.declared.complex.Region.{Region}
 use Rattle.geo_laws.specs.declared.tetrahedra.Tet.{Tet}
 use Rattle.incidence.specs.declared.pairs.Across.{Across}
-use Rattle.mesh_files.specs.Texts.{ele_text, face_text, neigh_text}
+use Rattle.mesh_files.specs.Texts.{ele_text_of, face_text, neigh_text}
 use Rattle.mesh_files.specs.declared.markers.FaceRow.{FaceRow}
 use Rattle.mesh_files.specs.ReadRows.{ele_of, face_list_of, neigh_of}
 use Rattle.written_laws.specs.Renamed.{renamed_row, renamed_face}
@@ -11,6 +13,16 @@ use Rattle.written_laws.specs.Renamed.{renamed_row, renamed_face}
 -- a number of up to 18 digits, as readers take them
 abbrev pub IsShortNumber : ℕ → Type 0
 IsShortNumber n = n < 10 ^ 18
+
+-- a field of a content line: none of its bytes is a line feed, a blank or a comment mark
+pub record IsPlainField (bytes : List ℕ) : Type 0 where
+  pub field : IsField bytes
+  pub no_mark : All (λ byte. is_comment_mark byte ≡ false) bytes
+
+-- the attributes of regions are fields, and each mark, where there are marks, is that of a region
+pub record AreLegibleMarks (regions : List Region) (marks : Option (List (Option ℕ))) : Type 0 where
+  pub plain : All (λ r. IsPlainField r.attribute) regions
+  pub each : IfSome marks (λ ms. (i : ℕ) → IfSome (slice_index_or ms i None) (λ r. r < length regions))
 
 -- the point has a name, which is that of one of a number of listed points
 abbrev pub IsOneOf : List ℕ → ℕ → ℕ → Type 0
@@ -29,12 +41,13 @@ pub record HasFaceNames (names : List ℕ) (points : ℕ) (f : FaceRow) : Type 0
   pub c : IsOneOf names points f.c
   pub marker : IsShortNumber (unsigned_abs f.marker)
 
--- `.ele` without attributes: the rows, with each corner by its name
+-- `.ele`, with the attributes of regions or without them: the rows, with each corner by its name
 abbrev pub EleReadLaw : Type 0
-EleReadLaw = (names : List ℕ) (first points total : ℕ) (rows : List Tet) → IsShortNumber (first + points)
-    → IsShortNumber (first + length rows)
+EleReadLaw = (marks : Option (List (Option ℕ))) (regions : List Region) (names : List ℕ) (first points total : ℕ) (rows : List Tet)
+    → AreLegibleMarks regions marks → IsShortNumber (first + points) → IsShortNumber (first + length rows)
     → All (HasNames names points) rows
-    → ele_of first points total (content_lines (ele_text names first rows)) ≡ Ok (map (renamed_row (slice_index names)) rows)
+    → ele_of first points total (content_lines (ele_text_of marks regions names first rows))
+    ≡ Ok (map (renamed_row (slice_index names)) rows)
 
 -- `.face`: the faces, with each corner by its name, and their markers
 abbrev pub FaceReadLaw : Type 0

@@ -7,6 +7,7 @@ use Rattle.node_files.specs.Limits.{tetgen_limits}
 use Rattle.run_steps.specs.Meshing.{OutputsOfRun}
 use Rattle.tet_ports.specs.Seen.{FolderSeen, SinkSeen}
 use Rattle.run_steps.specs.Steps.{forced_answer}
+use Rattle.run_steps.specs.Reports.{text_in}
 use Rattle.run_steps.specs.Stores.{in_order, with_files}
 use Rattle.run_steps.specs.declared.outputs.Outputs.{Outputs}
 use Rattle.run_steps.specs.declared.status.Status.{Status}
@@ -45,7 +46,7 @@ EndsDone start = (folder : FolderSeen) (out : SinkSeen) (status : Status) → Ha
 pub record IsDone (outputs : Outputs) (folder : FolderSeen) (out : SinkSeen) (status : Status) : Type 0 where
   pub done : status ≡ Done
   pub files : folder.files_now ≡ with_files folder.files_before (in_order outputs.texts)
-  pub written : out.written_now ≡ with_summary out.written_before outputs.summary
+  pub written : out.written_now ≡ with_summary out.written_before (text_in outputs)
 
 -- And what is left are these outputs
 abbrev pub Leaves : Start → Outputs → Type 0

@@ -3,9 +3,9 @@
 #![tactic(auto)]
 
 mod checked_runs;
+mod complete_checks;
 mod complete_points;
 mod inputs;
-mod refined;
 mod reread;
 mod sound_meshes;
 mod sound_runs;
@@ -13,9 +13,9 @@ mod valid_complexes;
 mod worked;
 
 pub use checked_runs::{law_checked_after, law_checked_run, law_few_decimals};
-pub use complete_points::law_points_complete;
+pub use complete_checks::{law_check_complete, law_where_complete};
+pub use complete_points::{law_points_complete, law_weights_complete};
 pub use inputs::{law_nodes_read, law_plc_read, law_surface_read};
-pub use refined::{law_refined_mesh, law_refined_same};
 pub use reread::{
     law_checked_back, law_ele_read, law_face_read, law_listed, law_neigh_read, law_node_read,
     law_read_back,

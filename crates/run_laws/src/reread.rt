@@ -5,7 +5,8 @@ ghost use Rattle.run_laws.specs.NodeRead.{NodeReadLaw};
 ghost use Rattle.run_laws.specs.ReadBack.{ReadBackLaw};
 ghost use Rattle.run_laws.specs.Reread.{EleReadLaw, FaceReadLaw, NeighReadLaw};
 
-/// The text of tetrahedra is read back as the tetrahedra, with each corner by its name.
+/// The text of tetrahedra, with the attributes of regions or without them, is read back as the
+/// tetrahedra, with each corner by its name.
 pub fn law_ele_read()
     ensures { EleReadLaw }
 {}
@@ -21,7 +22,7 @@ pub fn law_neigh_read()
 {}
 
 /// The text of points is read back as a point list of as many points, whose decimals are the
-/// numbers that their coordinates are.
+/// numbers that their coordinates are, with the attributes and markers of the points.
 pub fn law_node_read()
     ensures { NodeReadLaw }
 {}
@@ -38,8 +39,8 @@ pub fn law_listed()
     ensures { ListedNamesLaw }
 {}
 
-/// The check of the files that are written of a mesh without a defect, without attributes and
-/// markers of points, answers that it is sound, with its number of tetrahedra.
+/// The check of the files that are written of a mesh without a defect answers that it is sound,
+/// with its number of tetrahedra.
 pub fn law_checked_back()
     ensures { CheckedBackLaw }
 {}

@@ -1,6 +1,6 @@
 //! Runs on the five points of a pyramid, and on a complex with a facet that is not flat.
 ghost use Rattle.run_laws.specs.Runs.{EndsDone, HasNoOthers, HasOutputs, Leaves};
-ghost use Rattle.run_laws.specs.Pyramid.{complex_start, full_outputs, full_start, plain_outputs, plain_start};
+ghost use Rattle.run_laws.specs.Pyramid.{complex_start, full_outputs, full_start, plain_outputs, plain_start, WritesSummary};
 ghost use Rattle.run_laws.specs.Nonplanar.{ChangesNothing, EndsNotFlat, IsNonplanarRefused, TellsFacet};
 
 /// Over a folder with the points of the pyramid, and with the name of their file alone: the texts
@@ -11,6 +11,7 @@ pub fn law_pyramid()
     ensures only { HasNoOthers plain_start plain_outputs }
     ensures done { EndsDone plain_start }
     ensures left { Leaves plain_start plain_outputs }
+    ensures summary { WritesSummary plain_outputs }
 {}
 
 /// Over the same folder, with the words that ask for neighbors, all faces and edges: all five texts
@@ -20,6 +21,7 @@ pub fn law_full_pyramid()
     ensures only { HasNoOthers full_start full_outputs }
     ensures done { EndsDone full_start }
     ensures left { Leaves full_start full_outputs }
+    ensures summary { WritesSummary full_outputs }
 {}
 
 /// Over a complex without facets on the points of the pyramid, with its convex hull kept: the texts

@@ -1,3 +1,4 @@
+use Rattle.run_laws.proofs.Outputs.{full_written}
 use Rattle.run_laws.proofs.PyramidRuns.{full_run}
 use Rattle.run_laws.proofs.worked.law_full_pyramid.Goals as goal
 
@@ -12,3 +13,6 @@ returns-clause-done c = full_run.done
 
 pub returns-clause-left : goal.returns-clause-left
 returns-clause-left c = full_run.left
+
+pub returns-clause-summary : goal.returns-clause-summary
+returns-clause-summary c = full_written

@@ -1,3 +1,4 @@
+use Rattle.run_laws.proofs.Outputs.{plain_written}
 use Rattle.run_laws.proofs.PyramidRuns.{plain_run}
 use Rattle.run_laws.proofs.worked.law_pyramid.Goals as goal
 
@@ -12,3 +13,6 @@ returns-clause-done c = plain_run.done
 
 pub returns-clause-left : goal.returns-clause-left
 returns-clause-left c = plain_run.left
+
+pub returns-clause-summary : goal.returns-clause-summary
+returns-clause-summary c = plain_written
