@@ -4,3 +4,5 @@ pub mod HalfSums
 pub mod Sizes
 pub mod Coordinates
 pub mod Printed
+pub mod Moved
+pub mod Origins

@@ -15,7 +15,7 @@ pub ok_same : {X E : Type 0} (r : Result X E) (old new t u : List ℕ) → t ≡
 ok_same (Ok x) old new t u same then = then ∙ ap (λ s. old ++ s) same
 ok_same (Err e) old new t u same then = tt
 
-lowest_some : (n s : ℕ) → 0 < n → 0 < (lowest n s).0
+pub lowest_some : (n s : ℕ) → 0 < n → 0 < (lowest n s).0
 lowest_some n zero some = some
 lowest_some n (suc s) some =
     elim (cases_Bool (eqb (n % 10) 0)) [

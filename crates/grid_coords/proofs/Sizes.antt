@@ -15,7 +15,7 @@ use Rattle.grid_coords.specs.Units.{limit, units, IsDecimalOnGrid, IsPointOnGrid
 use Rattle.grid_coords.specs.Choice.{decimals_of, most_decimals, size_of, greatest_size, first_over, fits, numbers_up_to, largest, halvings_for, unless_over}
 
 -- the rest of a list from the place of p on
-from_here : {X : Type 0} (xs : List X) (i : ℕ) (x : X) → i < length xs → x ≡ get_or xs i x → drop i xs ≡ x ∷ drop (i + 1) xs
+pub from_here : {X : Type 0} (xs : List X) (i : ℕ) (x : X) → i < length xs → x ≡ get_or xs i x → drop i xs ≡ x ∷ drop (i + 1) xs
 from_here xs i x lt is =
     let e : suc i ≡ i + 1 = omega arith in
     drop-cons xs i x lt ∙ ap (λ y. y ∷ drop (suc i) xs) (sym is) ∙ ap (λ (j : ℕ). x ∷ drop j xs) e

@@ -2,3 +2,4 @@ pub mod Rounding
 pub mod Units
 pub mod Choice
 pub mod Midpoint
+pub mod Origins

@@ -20,7 +20,7 @@ fn nearest(number: u128, steps: u32) -> u128
     (2 * number + unit) / (2 * unit)
 }
 
-fn signed(negative: bool, size: u128) -> i128
+pub(crate) fn signed(negative: bool, size: u128) -> i128
     requires { size < 10 ^ 36 }
     ensures { result ≡ signed negative size }
 {
