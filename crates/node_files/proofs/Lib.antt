@@ -9,3 +9,4 @@ pub mod Lengths
 pub mod Raising
 pub mod Greatest
 pub mod LowestTerms
+pub mod Near

@@ -1,10 +1,11 @@
 -- Texts that are appended one behind the other.
-use Rattle.std.proofs.Common.{◌≡◌, ℕ, ℤ, zero, suc, ◌+◌, ◌-◌, ◌*◌, ◌<◌, ◌≤◌, length, get_or, drop, take, map, List, [], ◌∷◌, ◌++◌, Result, Ok, Err, refl, sym, ap, ◌∙◌, arith, append_assoc}
+use Rattle.std.proofs.Common.{◌≡◌, ℕ, ℤ, zero, suc, ◌+◌, ◌-◌, ◌*◌, ◌<◌, ◌≤◌, length, get_or, drop, take, map, List, [], ◌∷◌, ◌++◌, Option, Result, Ok, Err, refl, sym, ap, ◌∙◌, arith, append_assoc}
 use Rattle.std.specs.Prelude.{OnOk}
 use Rattle.std.proofs.Math.Seq.{drop-cons}
 use Rattle.std.proofs.lemmas.List.{append-nil, at_drop_all}
 use Rattle.sign_predicates.specs.Point.{Point, origin}
 use Rattle.grid_coords.specs.declared.grid.Grid.{Grid}
+use Rattle.grid_coords.specs.declared.origin.WholePoint.{WholePoint}
 use Rattle.geo_laws.specs.Delaunay.{point}
 use Rattle.node_files.specs.Writing.{whole_text, fields_text, line_text, point_line, point_lines, like_lines}
 
@@ -68,35 +69,35 @@ point_here ps i p lt is =
     let e : suc i ≡ i + 1 = omega arith in
     drop-cons ps i origin lt ∙ ap (λ q. q ∷ drop (suc i) ps) is ∙ ap (λ (j : ℕ). p ∷ drop j ps) e
 
-pub alike_more : (old new whole : List ℕ) (g : Grid) (first i : ℕ) (ps : List Point) (p : Point) (attributes : List (List ℕ)) (markers : List ℤ) → i < length ps → point ps i ≡ p
-    → new ≡ old ++ point_line g (first + i) p attributes markers → old ++ like_lines g (first + i) (drop i ps) attributes markers ≡ whole → new ++ like_lines g (first + (i + 1)) (drop (i + 1) ps) attributes markers ≡ whole
+pub alike_more : (old new whole : List ℕ) (o : Option WholePoint) (g : Grid) (first i : ℕ) (ps : List Point) (p : Point) (attributes : List (List ℕ)) (markers : List ℤ) → i < length ps → point ps i ≡ p
+    → new ≡ old ++ point_line o g (first + i) p attributes markers → old ++ like_lines o g (first + i) (drop i ps) attributes markers ≡ whole → new ++ like_lines o g (first + (i + 1)) (drop (i + 1) ps) attributes markers ≡ whole
 unfolding like_lines
-alike_more old new whole g first i ps p attributes markers lt is then so_far =
+alike_more old new whole o g first i ps p attributes markers lt is then so_far =
     let next : first + (i + 1) ≡ first + i + 1 = omega arith in
-    let line = point_line g (first + i) p attributes markers in
-    let rest = like_lines g (first + i + 1) (drop (i + 1) ps) attributes markers in
-    let e : like_lines g (first + i) (drop i ps) attributes markers ≡ line ++ rest = ap (λ qs. like_lines g (first + i) qs attributes markers) (point_here ps i p lt is) in
-    ap (λ (n : ℕ). new ++ like_lines g n (drop (i + 1) ps) attributes markers) next ∙ ap (λ t. t ++ rest) then ∙ append_assoc old line rest ∙ ap (λ t. old ++ t) (sym e) ∙ so_far
+    let line = point_line o g (first + i) p attributes markers in
+    let rest = like_lines o g (first + i + 1) (drop (i + 1) ps) attributes markers in
+    let e : like_lines o g (first + i) (drop i ps) attributes markers ≡ line ++ rest = ap (λ qs. like_lines o g (first + i) qs attributes markers) (point_here ps i p lt is) in
+    ap (λ (n : ℕ). new ++ like_lines o g n (drop (i + 1) ps) attributes markers) next ∙ ap (λ t. t ++ rest) then ∙ append_assoc old line rest ∙ ap (λ t. old ++ t) (sym e) ∙ so_far
 
-pub alike_all : (old whole : List ℕ) (g : Grid) (number i : ℕ) (ps : List Point) (attributes : List (List ℕ)) (markers : List ℤ) → length ps ≤ i → old ++ like_lines g number (drop i ps) attributes markers ≡ whole → old ≡ whole
+pub alike_all : (old whole : List ℕ) (o : Option WholePoint) (g : Grid) (number i : ℕ) (ps : List Point) (attributes : List (List ℕ)) (markers : List ℤ) → length ps ≤ i → old ++ like_lines o g number (drop i ps) attributes markers ≡ whole → old ≡ whole
 unfolding like_lines
-alike_all old whole g number i ps attributes markers le so_far = sym (append-nil old) ∙ ap (λ t. old ++ t) (sym (at_drop_all (λ qs. like_lines g number qs attributes markers) ps i le)) ∙ so_far
+alike_all old whole o g number i ps attributes markers le so_far = sym (append-nil old) ∙ ap (λ t. old ++ t) (sym (at_drop_all (λ qs. like_lines o g number qs attributes markers) ps i le)) ∙ so_far
 
-pub points_more : (old new whole : List ℕ) (g : Grid) (each marks first i : ℕ) (ps : List Point) (p : Point) (attributes own rest : List (List ℕ)) (markers mark others : List ℤ) → i < length ps → point ps i ≡ p
+pub points_more : (old new whole : List ℕ) (o : Option WholePoint) (g : Grid) (each marks first i : ℕ) (ps : List Point) (p : Point) (attributes own rest : List (List ℕ)) (markers mark others : List ℤ) → i < length ps → point ps i ≡ p
     → own ≡ take each attributes → rest ≡ drop each attributes → mark ≡ take marks markers → others ≡ drop marks markers
-    → new ≡ old ++ point_line g (first + i) p own mark → old ++ point_lines g each marks (first + i) (drop i ps) attributes markers ≡ whole → new ++ point_lines g each marks (first + (i + 1)) (drop (i + 1) ps) rest others ≡ whole
+    → new ≡ old ++ point_line o g (first + i) p own mark → old ++ point_lines o g each marks (first + i) (drop i ps) attributes markers ≡ whole → new ++ point_lines o g each marks (first + (i + 1)) (drop (i + 1) ps) rest others ≡ whole
 unfolding point_lines
-points_more old new whole g each marks first i ps p attributes own rest markers mark others lt is own-is rest-is mark-is others-is then so_far =
+points_more old new whole o g each marks first i ps p attributes own rest markers mark others lt is own-is rest-is mark-is others-is then so_far =
     let next : first + (i + 1) ≡ first + i + 1 = omega arith in
-    let line = point_line g (first + i) p own mark in
-    let left = point_lines g each marks (first + i + 1) (drop (i + 1) ps) rest others in
-    let e : point_lines g each marks (first + i) (drop i ps) attributes markers ≡ line ++ left =
-    ap (λ qs. point_lines g each marks (first + i) qs attributes markers) (point_here ps i p lt is) ∙ rw (own-is, rest-is, mark-is, others-is) refl in
-    ap (λ (n : ℕ). new ++ point_lines g each marks n (drop (i + 1) ps) rest others) next ∙ ap (λ t. t ++ left) then ∙ append_assoc old line left ∙ ap (λ t. old ++ t) (sym e) ∙ so_far
+    let line = point_line o g (first + i) p own mark in
+    let left = point_lines o g each marks (first + i + 1) (drop (i + 1) ps) rest others in
+    let e : point_lines o g each marks (first + i) (drop i ps) attributes markers ≡ line ++ left =
+    ap (λ qs. point_lines o g each marks (first + i) qs attributes markers) (point_here ps i p lt is) ∙ rw (own-is, rest-is, mark-is, others-is) refl in
+    ap (λ (n : ℕ). new ++ point_lines o g each marks n (drop (i + 1) ps) rest others) next ∙ ap (λ t. t ++ left) then ∙ append_assoc old line left ∙ ap (λ t. old ++ t) (sym e) ∙ so_far
 
-pub points_all : (old whole : List ℕ) (g : Grid) (each marks number i : ℕ) (ps : List Point) (attributes : List (List ℕ)) (markers : List ℤ) → length ps ≤ i → old ++ point_lines g each marks number (drop i ps) attributes markers ≡ whole → old ≡ whole
+pub points_all : (old whole : List ℕ) (o : Option WholePoint) (g : Grid) (each marks number i : ℕ) (ps : List Point) (attributes : List (List ℕ)) (markers : List ℤ) → length ps ≤ i → old ++ point_lines o g each marks number (drop i ps) attributes markers ≡ whole → old ≡ whole
 unfolding point_lines
-points_all old whole g each marks number i ps attributes markers le so_far = sym (append-nil old) ∙ ap (λ t. old ++ t) (sym (at_drop_all (λ qs. point_lines g each marks number qs attributes markers) ps i le)) ∙ so_far
+points_all old whole o g each marks number i ps attributes markers le so_far = sym (append-nil old) ∙ ap (λ t. old ++ t) (sym (at_drop_all (λ qs. point_lines o g each marks number qs attributes markers) ps i le)) ∙ so_far
 
 -- what a list has at a place does not hang on the default
 pub item_default : {X : Type 0} (xs : List X) (i : ℕ) (d e : X) → i < length xs → get_or xs i d ≡ get_or xs i e

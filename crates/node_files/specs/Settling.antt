@@ -1,7 +1,9 @@
 -- Point lists on a grid.
 use Rattle.std.specs.Prelude.{◌≡◌, ℕ, ◌<◌, ◌≤◌, length, List, map, Option, Some, None, Result, Ok, Err}
 use Rattle.grid_coords.specs.declared.grid.Grid.{Grid}
+use Rattle.grid_coords.specs.declared.origin.WholePoint.{WholePoint}
 use Rattle.grid_coords.specs.declared.points.DecimalPoint.{DecimalPoint}
+use Rattle.grid_coords.specs.Origins.{moved_point}
 use Rattle.grid_coords.specs.Rounding.{rounded}
 use Rattle.grid_coords.specs.Units.{grid_point}
 use Rattle.grid_coords.specs.Choice.{grid_of}
@@ -15,6 +17,10 @@ use Rattle.node_files.specs.Folding.{IsFolded}
 
 abbrev pub rounded_point : ℕ → DecimalPoint → DecimalPoint
 rounded_point decimals p = record { x = rounded decimals p.x; y = rounded decimals p.y; z = rounded decimals p.z; line = p.line }
+
+-- the point, rounded, less an origin
+abbrev pub measured_from : WholePoint → ℕ → DecimalPoint → DecimalPoint
+measured_from w decimals p = moved_point w (rounded_point decimals p)
 
 -- the points, rounded where the options have decimals
 abbrev pub rounded_points : Option ℕ → List DecimalPoint → List DecimalPoint

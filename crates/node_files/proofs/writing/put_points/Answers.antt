@@ -10,11 +10,12 @@ split_at-requires c = share_here c.args.table.now.attribute_count (length c.args
 pub loop-i-preserved : goal.loop-i-preserved
 loop-i-preserved c =
     let t = c.args.table.now in
+    let f = c.args.frame.now in
     let marks = c.marks_of-marks.result in
-    let whole = c.args.out.now ++ point_lines t.grid t.attribute_count marks c.args.first t.listed t.attributes t.markers in
-    let line = c.in_ok-put_point.ensures ∙ ap (λ (n : ℕ). c.loop-i.out ++ point_line t.grid (n + c.loop-i.i) c.at.result c.split_at.result.0.now c.split_at-in-loop-i.result.0.now) c.from.ensures in
+    let whole = c.args.out.now ++ point_lines f.origin f.grid t.attribute_count marks c.args.first t.listed t.attributes t.markers in
+    let line = c.in_ok-put_point.ensures ∙ ap (λ (n : ℕ). c.loop-i.out ++ point_line f.origin f.grid (n + c.loop-i.i) c.at.result c.split_at.result.0.now c.split_at-in-loop-i.result.0.now) c.from.ensures in
     record {
-      written = points_more c.loop-i.out c.put_point.new.out whole t.grid t.attribute_count marks c.args.first c.loop-i.i t.listed c.at.result
+      written = points_more c.loop-i.out c.put_point.new.out whole f.origin f.grid t.attribute_count marks c.args.first c.loop-i.i t.listed c.at.result
           c.loop-i.attributes.now c.split_at.result.0.now c.split_at.result.1.now c.loop-i.markers.now c.split_at-in-loop-i.result.0.now c.split_at-in-loop-i.result.1.now
           (omega arith) (c.at.ensures origin) c.split_at.ensures.front c.split_at.ensures.back c.split_at-in-loop-i.ensures.front c.split_at-in-loop-i.ensures.back line c.loop-i.invariant.written;
       attributes = share_left t.attribute_count (length t.listed) c.loop-i.i (length c.loop-i.attributes.now) (length c.split_at.result.1.now) (omega arith) c.loop-i.invariant.attributes c.split_at.ensures.back_len;
@@ -24,7 +25,8 @@ loop-i-preserved c =
 pub returns : goal.returns
 returns c =
     let t = c.args.table.now in
+    let f = c.args.frame.now in
     let marks = c.marks_of-marks.result in
-    let whole = c.args.out.now ++ point_lines t.grid t.attribute_count marks c.args.first t.listed t.attributes t.markers in
-    points_all c.loop-i.out whole t.grid t.attribute_count marks (c.args.first + c.loop-i.i) c.loop-i.i t.listed c.loop-i.attributes.now c.loop-i.markers.now (omega arith) c.loop-i.invariant.written
-    ∙ ap (λ (m : ℕ). c.args.out.now ++ point_lines t.grid t.attribute_count m c.args.first t.listed t.attributes t.markers) c.marks_of-marks.ensures
+    let whole = c.args.out.now ++ point_lines f.origin f.grid t.attribute_count marks c.args.first t.listed t.attributes t.markers in
+    points_all c.loop-i.out whole f.origin f.grid t.attribute_count marks (c.args.first + c.loop-i.i) c.loop-i.i t.listed c.loop-i.attributes.now c.loop-i.markers.now (omega arith) c.loop-i.invariant.written
+    ∙ ap (λ (m : ℕ). c.args.out.now ++ point_lines f.origin f.grid t.attribute_count m c.args.first t.listed t.attributes t.markers) c.marks_of-marks.ensures
