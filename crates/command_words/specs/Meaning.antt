@@ -1,6 +1,7 @@
 -- What the words of the command line ask for.
 use Rattle.std.specs.Prelude.{ℕ, ◌≡◌, ◌≤◌, Bool, false, true, ◌==◌, ◌&&◌, ◌||◌, not, Option, Some, None, IfSome, List, [], ◌∷◌, codes, unwrap_or, if◌then◌else◌}
 use Rattle.std.specs.Option.{option_or}
+use Rattle.grid_coords.specs.Origins.{IsNearBy}
 use Rattle.command_words.specs.Grammar.{is_cluster, is_sampled, is_switched, name_of, budget_at_front, last_from, last_number, sample_words}
 use Rattle.command_words.specs.Names.{extension_of, base_of}
 use Rattle.command_words.specs.declared.options.Options.{Options}
@@ -54,6 +55,7 @@ options_within halvings words = record {
   budget = unwrap_or (last_budget words) 100000;
   halvings = unwrap_or (last_number (codes "--halvings=") halvings words) halvings;
   decimals = last_number (codes "--decimals=") 20 words;
+  origin = None;
   sample = sample_words words;
   base = base_of (name_of words);
   extension = extension_of (name_of words);
@@ -63,12 +65,13 @@ options_within halvings words = record {
 abbrev pub options_of : List (List ℕ) → Options
 options_of = options_within 12
 
--- the numbers of options are in their ranges
+-- the numbers of options are in their ranges, and the origin is near with the decimals
 pub record AreInRange (options : Options) : Type 0 where
   pub budget : options.budget ≤ 100000
   pub halvings : options.halvings ≤ 18
   pub decimals : IfSome options.decimals (λ n. n ≤ 20)
   pub sample : IfSome options.sample (λ n. n ≤ 10000)
+  pub near : IfSome options.origin (IsNearBy options.decimals)
 
 -- the options of words that ask for the sample name no file to read and none to store, and a complex is meshed
 pub record AreOfSample (options : Options) : Type 0 where

@@ -1,5 +1,6 @@
 //! What the words of the command line ask for, as a value.
 
+use grid_coords::WholePoint;
 use tet_ports::Name;
 
 /// The extension with which a name on the command line ends.
@@ -62,6 +63,9 @@ pub struct Options {
     pub halvings: u32,
     /// Round coordinates to this many decimals first, at most 20.
     pub decimals: Option<u32>,
+    /// The point from which the coordinates of the input are measured: the files have its
+    /// coordinates added. No word gives it.
+    pub origin: Option<WholePoint>,
     /// Mesh the sample with this many points, at most 10,000.
     pub sample: Option<u32>,
     /// The name without its extension; empty with the sample.

@@ -69,6 +69,7 @@ pub fn read_words_within(alloc: Global, words: &Words, halvings: u32) -> Result<
         budget: last_budget(words).unwrap_or(MOST_BUDGET),
         halvings: last_number(HALVINGS, halvings, words).unwrap_or(halvings),
         decimals: last_number(DECIMALS, MOST_DECIMALS, words),
+        origin: None,
         sample,
         base: Name::from_slice(alloc, base_of(name))?,
         extension,
