@@ -19,6 +19,7 @@ use Rattle.geo_laws.specs.Faces.{AreHullFacesOf}
 use Rattle.geo_laws.specs.declared.faces.Face.{Face}
 use Rattle.geo_laws.specs.declared.tetrahedra.Tet.{Tet}
 use Rattle.mesh_files.specs.Texts.{AreNamed}
+use Rattle.node_files.proofs.Near.{near_grid}
 use Rattle.node_files.proofs.Folds.{folded_distinct, folded_few, kept_at, names_with_long}
 use Rattle.node_files.specs.Folding.{names_with}
 use Rattle.plc_files.specs.Folding.{folded_complex}
@@ -86,7 +87,7 @@ module _ (limits : Limits) (text : NodeText) (options : GridOptions) (table : No
 pub meshable_bound : (limits : Limits) (options : Options) (text : NodeText) (table : NodeTable) (complex : Complex) → AreInRange options → IsSettled limits text (grid_options options) table → IsNodeTable table
     → length table.listed ≤ 2 ^ 31 → HasCornersBelow (length table.points) complex → HasWeights complex → IsMeshableBound options (record { table = table; complex = complex })
 meshable_bound limits options text table complex ranges s h few corners weights =
-    record { table = h; decimals = decimals_long limits text (grid_options options) table s; few = few; budget = ranges.budget; meshable = meshable limits text (grid_options options) table s options.budget complex ranges.budget few corners weights }
+    record { table = h; decimals = decimals_long limits text (grid_options options) table s; few = few; budget = ranges.budget; near = near_grid options.origin options.decimals limits.grid options.halvings text.decimals table.grid ranges.near s.on.on; meshable = meshable limits text (grid_options options) table s options.budget complex ranges.budget few corners weights }
 
 -- folding changes no hole point and no region point
 pub weights_folded : (folded : List ℕ) (raw complex : Complex) → complex ≡ folded_complex folded raw → HasWeights raw → HasWeights complex

@@ -13,7 +13,7 @@ use Rattle.geo_laws.specs.Delaunay.{AreCoplanar, delaunay_rows}
 use Rattle.geo_laws.specs.declared.tetrahedra.Tet.{Tet}
 use Rattle.node_files.specs.Folding.{names_with}
 use Rattle.node_files.specs.Settling.{IsSettled, IsTooMany, IsOffGrid}
-use Rattle.node_files.specs.Writing.{IsNodeTable}
+use Rattle.node_files.specs.Writing.{IsNearGrid, IsNodeTable}
 use Rattle.node_files.specs.declared.limits.Limits.{Limits}
 use Rattle.node_files.specs.declared.table.GridOptions.{GridOptions}
 use Rattle.node_files.specs.declared.table.NodeTable.{NodeTable}
@@ -195,4 +195,5 @@ pub record IsMeshableBound (options : Options) (bound : Bound) : Type 0 where
   pub decimals : length bound.table.decimals ≡ length bound.table.listed
   pub few : length bound.table.listed ≤ 2 ^ 31
   pub budget : options.budget ≤ 100000
+  pub near : IsNearGrid options.origin bound.table.grid
   pub meshable : IsMeshable bound.table.grid.halvings options.budget bound.table.points bound.complex

@@ -8,7 +8,7 @@ use Rattle.incidence.specs.Pairs.{pairs_of}
 use Rattle.mesh_files.specs.FaceRows.{AreFaceRowsOf, AreTrianglesMetByFaces, AreFacetsThere}
 use Rattle.mesh_files.specs.Texts.{ele_text_of, face_text, edge_text, neigh_text, AreNamed}
 use Rattle.mesh_files.specs.declared.markers.FaceRow.{FaceRow}
-use Rattle.node_files.specs.Writing.{node_text, IsNodeTable}
+use Rattle.node_files.specs.Writing.{node_text_from, IsNodeTable}
 use Rattle.mesh_check.specs.Messages.{file_message}
 use Rattle.run_steps.specs.Messages.{tetgen_name}
 use Rattle.run_steps.specs.declared.meshed.Meshed.{Meshed}
@@ -37,7 +37,8 @@ first_of options mesh = if options.from_zero then 0 else mesh.table.first
 
 abbrev pub node_file : Options → Meshed → Option NamedText
 node_file options mesh =
-    if options.no_node then None else Some (named options.base (codes ".1.node") (node_text mesh.table mesh.added (first_of options mesh)))
+    if options.no_node then None else Some (named options.base (codes ".1.node")
+    (node_text_from options.origin mesh.table mesh.added (first_of options mesh)))
 
 abbrev pub ele_file : Options → Meshed → Option NamedText
 ele_file options mesh =
@@ -70,6 +71,7 @@ summary_of mesh faces edges = record {
   hidden = mesh.hidden;
   decimals = None;
   over = None;
+  slim = None;
 }
 
 -- the summary of a mesh, with no lines behind it, if it is asked for

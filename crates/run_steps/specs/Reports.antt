@@ -12,12 +12,17 @@ abbrev pub counted_text : List ℕ → Option ℕ → List ℕ
 counted_text word None = []
 counted_text word (Some count) = word ++ decimal count
 
--- `points P added A tetrahedra T faces F edges E`, and, each where it is counted, ` hidden H`, ` decimals D` and ` over N`
+-- each of the further counts that there is: ` hidden H`, ` decimals D`, ` over N` and ` slim N`
+abbrev pub further_text : Summary → List ℕ
+further_text s =
+    counted_text (codes " hidden ") s.hidden ++ counted_text (codes " decimals ") s.decimals ++ counted_text (codes " over ") s.over
+    ++ counted_text (codes " slim ") s.slim
+
+-- `points P added A tetrahedra T faces F edges E`, and the further counts
 abbrev pub summary_text : Summary → List ℕ
 summary_text s =
     codes "points " ++ decimal s.points ++ codes " added " ++ decimal s.added ++ codes " tetrahedra " ++ decimal s.tetrahedra
-    ++ codes " faces " ++ decimal s.faces ++ codes " edges " ++ decimal s.edges ++ counted_text (codes " hidden ") s.hidden
-    ++ counted_text (codes " decimals ") s.decimals ++ counted_text (codes " over ") s.over ++ (10 ∷ [])
+    ++ codes " faces " ++ decimal s.faces ++ codes " edges " ++ decimal s.edges ++ further_text s ++ (10 ∷ [])
 
 -- the line that sums up a mesh with the lines behind it, or a text
 abbrev pub report_text : Report → List ℕ

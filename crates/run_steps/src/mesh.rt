@@ -7,7 +7,7 @@ ghost use Rattle.geo_laws.specs.Faces.{AreHullFacesOf};
 ghost use Rattle.complex_mesh.specs.Meshing.{MeshesSo};
 ghost use Rattle.node_files.specs.Folding.{names_with};
 ghost use Rattle.node_files.specs.Limits.{AreIndexable};
-ghost use Rattle.node_files.specs.Writing.{IsNodeTable};
+ghost use Rattle.node_files.specs.Writing.{IsNearGrid, IsNodeTable};
 ghost use Rattle.plc_files.specs.Folding.{HasCornersBelow};
 ghost use Rattle.plc_files.specs.Binding.{HasWeights};
 ghost use Rattle.plc_files.specs.Checks.{corners_check, HasFewParts};
@@ -414,6 +414,7 @@ fn points_from(alloc: Global, points: &Points, first: usize) -> Result<Points, N
 /// The files and the summary of a mesh.
 fn write_out(alloc: Global, options: &Options, made: &HulledMesh) -> Result<Outputs, Status>
     requires mesh { IsWritable made.now.mesh }
+    requires near { IsNearGrid options.now.origin made.now.mesh.table.grid }
     requires hull { IfSome made.now.hull (IsHullOf made.now.mesh) }
     ensures { OutputsAnswer options.now made.now.mesh result }
 {

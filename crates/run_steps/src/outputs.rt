@@ -7,6 +7,7 @@ ghost use Rattle.geo_laws.specs.declared.faces.Face.{Face};
 ghost use Rattle.incidence.specs.Uses.{AreUsesOf};
 ghost use Rattle.mesh_files.specs.FaceRows.{AreFaceRowsOf};
 ghost use Rattle.mesh_files.specs.Texts.{marked_corners, AreNamed};
+ghost use Rattle.node_files.specs.Writing.{IsNearGrid};
 ghost use Rattle.run_steps.specs.Outputs.{named, first_of, node_file, ele_file, face_file, edge_file, neigh_file, report_of, names_sides, asks_uses, asks_hull_alone, IsWritable, IsHullOf, IsFaceFileOf, AreFaceOutputsOf, AreSideOutputsOf, AreOutputsOf};
 ghost use Rattle.run_steps.specs.Stores.{in_order, TellsFailure};
 
@@ -21,7 +22,7 @@ use mesh_files::{
     Edges, FaceRows, Faces, edges_of, face_count, hull_rows, used_faces, write_all_faces,
     write_edge, write_ele, write_face, write_neigh,
 };
-use node_files::write_node;
+use node_files::write_node_from;
 use std::alloc::Global;
 use tet_ports::{Bytes, NoMemory};
 
@@ -62,6 +63,7 @@ type FileAnswer = Result<Option<NamedText>, NoMemory>;
 /// The files and the summary that the options ask for.
 pub fn outputs_of(alloc: Global, options: &Options, made: &HulledMesh) -> Result<Outputs, NoMemory>
     requires mesh { IsWritable made.now.mesh }
+    requires near { IsNearGrid options.now.origin made.now.mesh.table.grid }
     requires hull { IfSome made.now.hull (IsHullOf made.now.mesh) }
     ensures { IfOk result (AreOutputsOf options.now made.now.mesh) }
 {
@@ -104,7 +106,8 @@ fn put_together(
 
 /// The files of the points and of the tetrahedra, where they are asked for.
 fn row_outputs(alloc: Global, options: &Options, mesh: &Meshed) -> Result<RowOutputs, NoMemory>
-    requires { IsWritable mesh.now }
+    requires mesh { IsWritable mesh.now }
+    requires near { IsNearGrid options.now.origin mesh.now.table.grid }
     ensures { IfOk result (λ rows. rows ≡ record {
       node = node_file options.now mesh.now;
       ele = ele_file options.now mesh.now;
@@ -300,13 +303,15 @@ fn wanted_sides(alloc: Global, options: &Options, mesh: &Meshed) -> Result<Edges
 
 /// The points of the input and the added ones.
 fn node_file(alloc: Global, options: &Options, mesh: &Meshed) -> FileAnswer
-    requires { IsWritable mesh.now }
+    requires mesh { IsWritable mesh.now }
+    requires near { IsNearGrid options.now.origin mesh.now.table.grid }
     ensures { IfOk result (λ file. file ≡ node_file options.now mesh.now) }
 {
     if options.no_node {
         return Ok(None);
     }
-    let text = write_node(alloc, &mesh.table, &mesh.added, first_of(options, mesh))?;
+    let first = first_of(options, mesh);
+    let text = write_node_from(alloc, options.origin, &mesh.table, &mesh.added, first)?;
     named(alloc, options, b".1.node", text)
 }
 
@@ -404,6 +409,7 @@ fn report_of(
         hidden: mesh.hidden,
         decimals: None,
         over: None,
+        slim: None,
     };
     Some(Report::Mesh {
         summary,

@@ -2,7 +2,7 @@
 
 ghost use Rattle.std.specs.Prelude.{◌≡◌, ◌++◌, IfOk, OnOk};
 ghost use Rattle.std.specs.Option.{option_map};
-ghost use Rattle.run_steps.specs.Reports.{counted_text, report_text, summary_text};
+ghost use Rattle.run_steps.specs.Reports.{counted_text, further_text, report_text, summary_text};
 
 use mesh_check::append_number;
 use std::alloc::Global;
@@ -24,6 +24,9 @@ pub struct Summary {
     pub decimals: Option<usize>,
     /// The tetrahedra whose volume is over the bound, where there is one.
     pub over: Option<usize>,
+    /// The tetrahedra whose circumradius is over the bound times their shortest edge, where there
+    /// is a bound.
+    pub slim: Option<usize>,
 }
 
 /// What a run writes to its standard output.
@@ -46,6 +49,16 @@ fn append_counted(line: &mut Bytes, word: &[u8], count: Option<usize>) -> Result
     Ok(())
 }
 
+/// Appends each of the further counts that there is.
+fn append_further(line: &mut Bytes, summary: &Summary) -> Result<(), NoMemory>
+    ensures { OnOk result (line.new ≡ line.old ++ further_text summary.now) }
+{
+    append_counted(line, b" hidden ", summary.hidden)?;
+    append_counted(line, b" decimals ", summary.decimals)?;
+    append_counted(line, b" over ", summary.over)?;
+    append_counted(line, b" slim ", summary.slim)
+}
+
 /// The line that sums up a mesh.
 fn summary_line(alloc: Global, summary: &Summary) -> Result<Bytes, NoMemory>
     ensures { IfOk result (λ line. line ≡ summary_text summary.now) }
@@ -60,9 +73,7 @@ fn summary_line(alloc: Global, summary: &Summary) -> Result<Bytes, NoMemory>
     append_number(&mut line, summary.faces)?;
     line.append(b" edges ")?;
     append_number(&mut line, summary.edges)?;
-    append_counted(&mut line, b" hidden ", summary.hidden)?;
-    append_counted(&mut line, b" decimals ", summary.decimals)?;
-    append_counted(&mut line, b" over ", summary.over)?;
+    append_further(&mut line, summary)?;
     line.append(b"\n")?;
     Ok(line)
 }
