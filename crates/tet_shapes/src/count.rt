@@ -6,7 +6,7 @@ ghost use Rattle.tet_shapes.specs.Shape.{IsFine, slim_count, large_count};
 use crate::shape::{Ratio, is_large, is_slim};
 use geo_laws::{Points, TetList};
 
-/// How many tetrahedra of the list are slim. Only tests call it.
+/// How many tetrahedra of the list are slim.
 pub fn count_slim(points: &Points, rows: &TetList, bound: Ratio) -> usize
     requires on { All (IsOn points.now) rows.now }
     requires fine { IsFine bound }
