@@ -46,7 +46,7 @@ pub(crate) struct Buckets {
 }
 
 /// Whether one length is less than so many fifths of another, by their squares.
-fn is_less(one: u64, fifths: u128, other: u64) -> bool {
+pub(crate) fn is_less(one: u64, fifths: u128, other: u64) -> bool {
     let part = fifths.wrapping_mul(fifths);
     u128::from(one).wrapping_mul(25) < u128::from(other).wrapping_mul(part)
 }

@@ -209,4 +209,30 @@ impl Rung {
         }
         Some(self.at(self.count / 2))
     }
+
+    /// The lattice point at the power of two nearest to half the length from the first end, or from
+    /// the second one, where there are enough of them.
+    pub(crate) fn shell(&self, is_from_second: bool) -> Option<Spot> {
+        if self.most_pieces() < 2 {
+            return None;
+        }
+        let step = self.step.dot(self.step);
+        let count = i128::from(self.count);
+        let square = step.wrapping_mul(count).wrapping_mul(count) / 4;
+        let steps = shell_square(square).checked_div(step)?;
+        let steps = u64::try_from(steps).ok()?.isqrt();
+        let k = steps.max(1).min(self.count.saturating_sub(1));
+        let k = if is_from_second {
+            self.count.saturating_sub(k)
+        } else {
+            k
+        };
+        Some(self.at(k))
+    }
+}
+
+/// The square of the power of two nearest to a length with this square, by the logarithm.
+fn shell_square(square: i128) -> i128 {
+    let bits = 128_u32.saturating_sub(square.leading_zeros());
+    1_i128.wrapping_shl(bits / 2 * 2)
 }

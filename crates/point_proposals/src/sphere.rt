@@ -58,10 +58,20 @@ impl Squares {
     }
 }
 
-/// The circumsphere of a positive tetrahedron, where its center is near. The center is `a + N / (2
-/// det)` with `N = |B|^2 (C x D) + |C|^2 (D x B) + |D|^2 (B x C)`, where `B`, `C` and `D` are the
-/// vectors from `a`.
-pub(crate) fn circumsphere(corners: &[Spot; 4]) -> Option<Sphere> {
+/// The vector to the center of a circumsphere from the first corner, as three numbers over a
+/// divisor.
+#[derive(Clone, Copy)]
+struct Quotient {
+    x: i128,
+    y: i128,
+    z: i128,
+    divisor: i128,
+}
+
+/// The vector to the center of the circumsphere of a positive tetrahedron. The center is `a + N /
+/// (2 det)` with `N = |B|^2 (C x D) + |C|^2 (D x B) + |D|^2 (B x C)`, where `B`, `C` and `D` are
+/// the vectors from `a`.
+fn to_center(corners: &[Spot; 4]) -> Option<Quotient> {
     let [a, b, c, d] = *corners;
     let (b, c, d) = (b.from(a), c.from(a), d.from(a));
     let (cd, db, bc) = (c.cross(d), d.cross(b), b.cross(c));
@@ -70,14 +80,32 @@ pub(crate) fn circumsphere(corners: &[Spot; 4]) -> Option<Sphere> {
         c: c.dot(c),
         d: d.dot(d),
     };
-    let det = bc.dot(d).wrapping_mul(2);
-    if det <= 0 {
+    let divisor = bc.dot(d).wrapping_mul(2);
+    if divisor <= 0 {
         return None;
     }
-    let x = squares.weigh(cd.x, db.x, bc.x);
-    let y = squares.weigh(cd.y, db.y, bc.y);
-    let z = squares.weigh(cd.z, db.z, bc.z);
-    sphere_at(a, x, y, z, det)
+    Some(Quotient {
+        x: squares.weigh(cd.x, db.x, bc.x),
+        y: squares.weigh(cd.y, db.y, bc.y),
+        z: squares.weigh(cd.z, db.z, bc.z),
+        divisor,
+    })
+}
+
+/// The circumsphere of a positive tetrahedron, where its center is near.
+pub(crate) fn circumsphere(corners: &[Spot; 4]) -> Option<Sphere> {
+    let Quotient { x, y, z, divisor } = to_center(corners)?;
+    sphere_at(corners[0], x, y, z, divisor)
+}
+
+/// The center of the circumsphere of a positive tetrahedron, or, where it is not near, a far point
+/// in its direction.
+pub(crate) fn center_of(corners: &[Spot; 4]) -> Option<Spot> {
+    let Quotient { x, y, z, divisor } = to_center(corners)?;
+    let greatest = x.wrapping_abs().max(y.wrapping_abs()).max(z.wrapping_abs());
+    let least = greatest / (1 << 30);
+    let divisor = divisor.max(least.wrapping_add(1));
+    Some(sphere_at(corners[0], x, y, z, divisor)?.center)
 }
 
 /// The smallest sphere through the corners of a triangle, where its center is near. The center is

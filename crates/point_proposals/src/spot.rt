@@ -165,6 +165,24 @@ pub(crate) fn is_in_diametral(a: Spot, b: Spot, p: Spot) -> bool {
     a.from(p).dot(b.from(p)) < 0
 }
 
+/// Whether the angle of two vectors is sharp: the square of its cosine is over `1 / under`.
+fn is_within(u: Spot, v: Spot, under: i128) -> bool {
+    let u = u.over_power(u.bits_above(20));
+    let v = v.over_power(v.bits_above(20));
+    let cosine = u.dot(v);
+    cosine > 0 && cosine.wrapping_mul(cosine).wrapping_mul(under) > u.dot(u).wrapping_mul(v.dot(v))
+}
+
+/// Whether two vectors are at less than 60 degrees.
+pub(crate) fn is_within_60(u: Spot, v: Spot) -> bool {
+    is_within(u, v, 4)
+}
+
+/// Whether two vectors are at less than about 75 degrees, with a cosine over the root of 1/15.
+pub(crate) fn is_within_75(u: Spot, v: Spot) -> bool {
+    is_within(u, v, 15)
+}
+
 /// The cube root, rounded down, of a number below `2^96`.
 pub(crate) fn cube_root(v: i128) -> i64 {
     let mut root = 0_i64;

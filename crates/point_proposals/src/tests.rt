@@ -1,10 +1,11 @@
 //! Proposals for a cube of six tetrahedra about a diagonal.
-use crate::{VolumeAim, propose_volumes};
+use crate::{Aim, propose};
 use geo_laws::{FacetTriangle, FacetTriangles, Points, Tet, TetList};
 use sign_predicates::GridPoint;
 use std::alloc::Global;
 use std::test::Fail;
 use tet_ports::NoMemory;
+use tet_shapes::Ratio;
 
 /// The corners of the cube; each tetrahedron has the six-fold volume `64^3`, 262,144.
 const CORNERS: [[i8; 3]; 8] = [
@@ -78,8 +79,8 @@ fn triangles(alloc: Global) -> Result<FacetTriangles, NoMemory> {
 }
 
 /// The points that are proposed for the cube.
-fn proposed(alloc: Global, aim: &VolumeAim) -> Result<Points, NoMemory> {
-    propose_volumes(
+fn proposed(alloc: Global, aim: &Aim) -> Result<Points, NoMemory> {
+    propose(
         alloc,
         &points(alloc)?,
         &tetrahedra(alloc)?,
@@ -89,9 +90,21 @@ fn proposed(alloc: Global, aim: &VolumeAim) -> Result<Points, NoMemory> {
 }
 
 /// An aim with this bound, for points with coordinates that are multiples of 2.
-fn aim_of(most: i128, splits_boundary: bool) -> VolumeAim {
-    VolumeAim {
-        most,
+fn aim_of(most: i128, splits_boundary: bool) -> Aim {
+    Aim {
+        most: Some(most),
+        ratio: None,
+        halvings: 1,
+        own: 8,
+        splits_boundary,
+    }
+}
+
+/// An aim with this ratio over 100.
+fn shape_of(over: u32, splits_boundary: bool) -> Aim {
+    Aim {
+        most: None,
+        ratio: Some(Ratio { over, under: 100 }),
         halvings: 1,
         own: 8,
         splits_boundary,
@@ -125,6 +138,16 @@ fn facets_are_split_before_the_inside(rt: HostRuntime) -> Result<(), Fail> {
     assert!(rt; are(&split, &wanted));
     let inner = proposed(rt.alloc(), &aim_of(262_143, false))?;
     assert!(rt; are(&inner, &[[32, 32, 32]]));
+    Ok(())
+}
+
+#[test]
+fn slim_tetrahedra_are_split(rt: HostRuntime) -> Result<(), Fail> {
+    // Half the root of 3 is the ratio of each tetrahedron, and all have one circumsphere.
+    let none = proposed(rt.alloc(), &shape_of(87, true))?;
+    assert!(rt; none.is_empty());
+    let split = proposed(rt.alloc(), &shape_of(86, true))?;
+    assert!(rt; are(&split, &[[32, 32, 0]]));
     Ok(())
 }
 

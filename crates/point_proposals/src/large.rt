@@ -1,26 +1,22 @@
-//! The points that a mesh is to get so that no tetrahedron is over a volume.
+//! The points that a mesh is to get so that no tetrahedron is over a volume, whatever its shape.
 use crate::buckets::Buckets;
-use crate::building::mesh_of;
 use crate::fill::{Far, Spacing, fill};
 use crate::mesh::{Cell, Mesh};
 use crate::sphere::circumsphere;
 use crate::splits::Splits;
 use crate::spot::{cube_root, distance, volume};
-use geo_laws::{FacetTriangles, Points, TetList};
+use geo_laws::Points;
 use std::alloc::Global;
 use tet_ports::NoMemory;
 
-/// What a proposal of points is asked for.
-#[derive(Clone, Copy, Debug)]
-pub struct VolumeAim {
-    /// Six times the greatest volume of a tetrahedron, in cubes of grid units.
-    pub most: i128,
-    /// Each coordinate of a proposed point is a multiple of `2^halvings` grid units.
-    pub halvings: u32,
-    /// How many of the first points are corners of the complex.
-    pub own: usize,
-    /// Whether points may be put on segments and in facets.
-    pub splits_boundary: bool,
+/// Six times the greatest volume of a tetrahedron, in cubes of grid units; each coordinate of a
+/// proposed point is a multiple of `2^halvings` grid units; and whether points may be put on
+/// segments and in facets.
+#[derive(Clone, Copy)]
+pub(crate) struct VolumeAim {
+    pub(crate) most: i128,
+    pub(crate) halvings: u32,
+    pub(crate) splits_boundary: bool,
 }
 
 /// How many times the bound a tetrahedron has that is filled.
@@ -147,25 +143,31 @@ fn filled_buckets(
     Ok(buckets)
 }
 
-/// Points that a mesh is to get so that no tetrahedron is over the volume of the aim: `points` with
-/// the tetrahedra of `tetrahedra` and the subfaces `triangles`. Where all tetrahedra are within the
-/// volume there are none. With the points that were proposed the mesh may have other tetrahedra
-/// over the volume, for which it is to be asked again. The points are not known to be new, nor that
-/// they are in the mesh: that is tested elsewhere. The function has no contract.
-pub fn propose_volumes(
+/// Whether a tetrahedron of the mesh is far over the bound, so that it is filled.
+pub(crate) fn has_far(mesh: &Mesh, aim: &VolumeAim) -> bool {
+    for i in 0..mesh.cells.len() {
+        let Ok(place) = u32::try_from(i) else { break };
+        let volume = volume_of(mesh, place).unwrap_or(0);
+        if volume > aim.most.saturating_mul(FAR) {
+            return true;
+        }
+    }
+    false
+}
+
+/// Points that a mesh is to get so that no tetrahedron is over the volume of the aim. Where all
+/// tetrahedra are within the volume there are none.
+pub(crate) fn propose_volumes(
     alloc: Global,
-    points: &Points,
-    tetrahedra: &TetList,
-    triangles: &FacetTriangles,
+    mesh: &Mesh,
     aim: &VolumeAim,
 ) -> Result<Points, NoMemory> {
-    let mesh = mesh_of(alloc, points, tetrahedra, triangles, aim.own)?;
-    let larges = larges_of(alloc, &mesh, aim)?;
+    let larges = larges_of(alloc, mesh, aim)?;
     let mut splits = Splits {
-        mesh: &mesh,
+        mesh,
         halvings: aim.halvings,
         splits_boundary: aim.splits_boundary,
-        buckets: filled_buckets(alloc, &mesh, &larges, aim)?,
+        buckets: filled_buckets(alloc, mesh, &larges, aim)?,
     };
     for large in larges.all.as_slice() {
         splits.split(large.place, large.least)?;

@@ -1,0 +1,101 @@
+//! A mesh with what refinement looks up in it.
+use crate::mesh::{Beyond, Mesh};
+use crate::parts::Parts;
+use crate::sphere::{Sphere, circumsphere};
+use crate::spot::Spot;
+use crate::table::{Entry, Table};
+use std::alloc::Global;
+use tet_ports::NoMemory;
+
+/// A mesh, the circumspheres of its tetrahedra where their centers are near, its parts, and the
+/// tetrahedra at each subsegment and beside each subface.
+#[derive(Drop)]
+pub(crate) struct Field<'a> {
+    pub(crate) mesh: &'a Mesh,
+    pub(crate) spheres: Vec<Option<Sphere>>,
+    pub(crate) parts: Parts,
+    pub(crate) around: Table,
+    pub(crate) beside: Table,
+}
+
+/// The circumspheres of the tetrahedra.
+fn spheres_of(alloc: Global, mesh: &Mesh) -> Result<Vec<Option<Sphere>>, NoMemory> {
+    let mut spheres = Vec::with_capacity(alloc, mesh.cells.len())?;
+    for i in 0..mesh.cells.len() {
+        let place = u32::try_from(i).unwrap_or(u32::MAX);
+        spheres.push(mesh.corners(place).and_then(|s| circumsphere(&s)))?;
+    }
+    Ok(spheres)
+}
+
+/// Notes a tetrahedron at its subsegments.
+fn note_edges(mesh: &Mesh, value: u32, entries: &mut Vec<Entry>) -> Result<(), NoMemory> {
+    let Some(cell) = mesh.cell(value) else {
+        return Ok(());
+    };
+    for side in cell.edges() {
+        if let Some(key) = mesh.subsegment_of(side) {
+            entries.push(Entry { key, value })?;
+        }
+    }
+    Ok(())
+}
+
+/// Notes a tetrahedron at its subfaces.
+fn note_faces(mesh: &Mesh, value: u32, entries: &mut Vec<Entry>) -> Result<(), NoMemory> {
+    let Some(cell) = mesh.cell(value) else {
+        return Ok(());
+    };
+    for across in cell.across {
+        if let Beyond::Subface(key) = across {
+            entries.push(Entry { key, value })?;
+        }
+    }
+    Ok(())
+}
+
+/// The tetrahedra at each subsegment.
+fn around_of(alloc: Global, mesh: &Mesh) -> Result<Table, NoMemory> {
+    let mut entries = Vec::new(alloc);
+    for i in 0..mesh.cells.len() {
+        let Ok(place) = u32::try_from(i) else { break };
+        note_edges(mesh, place, &mut entries)?;
+    }
+    Table::new(alloc, entries, mesh.subsegments.len())
+}
+
+/// The tetrahedra beside each subface.
+fn beside_of(alloc: Global, mesh: &Mesh) -> Result<Table, NoMemory> {
+    let mut entries = Vec::new(alloc);
+    for i in 0..mesh.cells.len() {
+        let Ok(place) = u32::try_from(i) else { break };
+        note_faces(mesh, place, &mut entries)?;
+    }
+    Table::new(alloc, entries, mesh.subfaces.len())
+}
+
+impl<'a> Field<'a> {
+    /// What is looked up in a mesh, whose first points are corners of the complex.
+    pub(crate) fn new(alloc: Global, mesh: &'a Mesh, own: usize) -> Result<Self, NoMemory> {
+        Ok(Field {
+            mesh,
+            spheres: spheres_of(alloc, mesh)?,
+            parts: Parts::new(alloc, mesh, own)?,
+            around: around_of(alloc, mesh)?,
+            beside: beside_of(alloc, mesh)?,
+        })
+    }
+
+    /// The circumsphere of a tetrahedron, where its center is near.
+    pub(crate) fn sphere(&self, t: u32) -> Option<Sphere> {
+        self.spheres.get(t as usize).copied().flatten()
+    }
+
+    /// Whether a point is in the circumsphere of a tetrahedron.
+    pub(crate) fn has(&self, t: u32, p: Spot) -> bool {
+        match self.sphere(t) {
+            Some(sphere) => sphere.has(p),
+            None => false,
+        }
+    }
+}
