@@ -1,5 +1,5 @@
 -- What is refined, and what is told of it.
-use Rattle.std.proofs.Common.{◌≡◌, ◌≤◌, ℕ, ℤ, true, [], Result, Ok, Err, inl, inr, refl, sym, subst}
+use Rattle.std.proofs.Common.{◌≡◌, ◌≤◌, ℕ, true, [], Result, Ok, Err, inl, inr, refl, sym, subst}
 use Rattle.std.specs.Prelude.{All}
 use Rattle.std.proofs.lemmas.List.Elements.{All-weaker}
 use Rattle.sign_predicates.specs.Orientation.{IsPositive}
@@ -10,13 +10,15 @@ use Rattle.complex_mesh.specs.declared.mesh.ComplexMesh.{ComplexMesh}
 use Rattle.refining.proofs.PointsBehind.{law_plain}
 use Rattle.refining.specs.Refined.{IsFewWith, IsMeshWith}
 use Rattle.run_steps.specs.Codes.{status_of_fault}
-use Rattle.run_steps.specs.Meshing.{IsUnmeshed, MeshOf, mesh_of_complex}
+use Rattle.node_files.specs.Writing.{IsNearGrid}
+use Rattle.run_steps.specs.Meshing.{IsMeshableBound, IsUnmeshed, MeshOf, mesh_of_complex}
 use Rattle.run_steps.specs.declared.mesh.Bound.{Bound}
 use Rattle.run_steps.specs.declared.meshed.Meshed.{Meshed}
 use Rattle.run_steps.specs.declared.outputs.Outputs.{Outputs}
 use Rattle.run_steps.specs.declared.status.Status.{Status}
 use Rattle.refining.specs.Outputs.{CountedAnswer, RefinedMade}
 use Rattle.refining.specs.Refining.{IsTakenMesh, IsRefinedTo}
+use Rattle.refining.specs.declared.goal.ShapeBounds.{ShapeBounds}
 use Rattle.refining.specs.declared.refining.Bounds.{Bounds}
 use Rattle.refining.specs.declared.refining.Refined.{Refined}
 use Rattle.refining.specs.declared.refining.Taken.{Taken}
@@ -41,15 +43,20 @@ refined_on options bound bounds refined h =
     let on = All-weaker (λ t. IsOn made.points t × IsPositive (corners made.points t) × IsArranged t) (IsOn made.points) (λ t p. p.0) made.tetrahedra h.answer.1.mesh.mesh.positive in
     subst (λ (mesh : Meshed). All (IsOn mesh.points) mesh.tetrahedra) (sym h.answer.2) on
 
+-- the origin of the options is near the grid of a refined mesh
+pub refined_near : (options : Options) (bound : Bound) (bounds : Bounds) (refined : Refined) → IsMeshableBound options bound → IsRefinedTo options bound bounds refined
+    → IsNearGrid options.origin refined.mesh.table.grid
+refined_near options bound bounds refined b h = subst (λ (mesh : Meshed). IsNearGrid options.origin mesh.table.grid) (sym h.answer.2) b.near
+
 -- the outputs of what is refined
-pub outputs_made : (most : ℤ) (options : Options) (bound : Bound) (bounds : Bounds) (refined : Refined) (r : Result Outputs Status) → options.piecewise ≡ true → IsRefinedTo options bound bounds refined
-    → CountedAnswer most options refined.mesh r → RefinedMade most options bound r
-outputs_made most options bound bounds refined (Ok outputs) complex h k =
+pub outputs_made : (shapes : ShapeBounds) (options : Options) (bound : Bound) (bounds : Bounds) (refined : Refined) (r : Result Outputs Status) → options.piecewise ≡ true → IsRefinedTo options bound bounds refined
+    → CountedAnswer shapes options refined.mesh r → RefinedMade shapes options bound r
+outputs_made shapes options bound bounds refined (Ok outputs) complex h k =
     (h.plain, subst (λ p. MeshOf p options bound (Ok h.plain)) (sym complex) h.plain_is, (refined.added, refined.halvings, refined.mesh, h.answer, k))
-outputs_made most options bound bounds refined (Err status) complex h k =
+outputs_made shapes options bound bounds refined (Err status) complex h k =
     inr (h.plain, subst (λ p. MeshOf p options bound (Ok h.plain)) (sym complex) h.plain_is, k)
 
-pub refused_made : (most : ℤ) (options : Options) (bound : Bound) (fault : MeshFault) (status : Status) → options.piecewise ≡ true → IsUnmeshed options bound (status_of_fault fault) → status ≡ status_of_fault fault
-    → RefinedMade most options bound (Err status)
-refused_made most options bound fault status complex h is =
+pub refused_made : (shapes : ShapeBounds) (options : Options) (bound : Bound) (fault : MeshFault) (status : Status) → options.piecewise ≡ true → IsUnmeshed options bound (status_of_fault fault) → status ≡ status_of_fault fault
+    → RefinedMade shapes options bound (Err status)
+refused_made shapes options bound fault status complex h is =
     inl (subst (λ p. MeshOf p options bound (Err status)) (sym complex) (subst (IsUnmeshed options bound) (sym is) h))

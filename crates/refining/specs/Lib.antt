@@ -1,4 +1,5 @@
 pub mod Refining
+pub mod Goals
 pub mod Outputs
 pub mod Addable
 pub mod Laws

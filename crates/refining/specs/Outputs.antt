@@ -1,10 +1,13 @@
 -- The files and the summary of a refined mesh.
-use Rattle.std.specs.Prelude.{◌≡◌, ℕ, ℤ, pos, List, Some, Result, Ok, Err}
+use Rattle.std.specs.Prelude.{◌≡◌, ℕ, pos, List, Option, Result, Ok, Err}
 use Rattle.std.specs.Option.{option_map}
 use Rattle.sign_predicates.specs.Point.{Point}
 use Rattle.command_words.specs.declared.options.Options.{Options}
 use Rattle.node_files.specs.declared.limits.Limits.{Limits}
+use Rattle.refining.specs.Goals.{shape_bounds}
 use Rattle.refining.specs.Refined.{MeshAnswerWith}
+use Rattle.refining.specs.declared.goal.Goal.{Goal}
+use Rattle.refining.specs.declared.goal.ShapeBounds.{ShapeBounds}
 use Rattle.run_steps.specs.Meshing.{BoundAnswer, MeshAnswer}
 use Rattle.run_steps.specs.Outputs.{AreOutputsOf}
 use Rattle.run_steps.specs.Steps.{AndThen}
@@ -16,41 +19,48 @@ use Rattle.run_steps.specs.declared.report.Report.{Report}
 use Rattle.run_steps.specs.declared.report.Report.TheVariants.{Mesh, Text}
 use Rattle.run_steps.specs.declared.status.Status.{Status}
 use Rattle.run_steps.specs.declared.status.Status.TheVariants.{NoMemory}
-use Rattle.tet_shapes.specs.Shape.{large_count}
-use Rattle.tet_shapes.specs.Volume.{most_volume}
-use Rattle.tet_text.specs.Decimals.{Scaled}
+use Rattle.tet_shapes.specs.Shape.{large_count, slim_count}
+use Rattle.tet_shapes.specs.declared.shape.Ratio.{Ratio}
 
--- the report of a mesh with the number of its tetrahedra that are over a bound
-abbrev pub over_told : ℕ → Report → Report
-over_told count (Mesh summary notes) = Mesh (record summary { over = Some count }) notes
-over_told count (Text text) = Text text
+-- the number of all tetrahedra of a mesh in which six times the volume is over `most`, where there is such a bound
+abbrev pub over_in : Option ℕ → Meshed → Option ℕ
+over_in most mesh = option_map (λ most. large_count (pos most) mesh.points mesh.tetrahedra) most
 
--- the outputs of a mesh with that number in the summary
-abbrev pub with_over : ℕ → Outputs → Outputs
-with_over count outputs = record outputs { report = option_map (over_told count) outputs.report }
+-- the number of all tetrahedra of a mesh whose circumradius is over the ratio times their shortest edge, where there is such a bound
+abbrev pub slim_in : Option Ratio → Meshed → Option ℕ
+slim_in ratio mesh = option_map (λ ratio. slim_count ratio mesh.points mesh.tetrahedra) ratio
 
--- The outputs of a mesh, whose summary has the number of all its tetrahedra in which six times the volume is over
--- `most`
-abbrev pub AreCountedOf : ℤ → Options → Meshed → Outputs → Type 0
-AreCountedOf most options mesh outputs =
-    (made : Outputs) × AreOutputsOf options mesh made × (outputs ≡ with_over (large_count most mesh.points mesh.tetrahedra) made)
+-- the report of a mesh with the numbers of its tetrahedra that are over a volume and over a ratio
+abbrev pub counted_told : Option ℕ → Option ℕ → Report → Report
+counted_told over slim (Mesh summary notes) = Mesh (record summary { over = over; slim = slim }) notes
+counted_told over slim (Text text) = Text text
 
-abbrev pub CountedAnswer : ℤ → Options → Meshed → Result Outputs Status → Type 0
-CountedAnswer most options mesh (Ok outputs) = AreCountedOf most options mesh outputs
-CountedAnswer most options mesh (Err status) = status ≡ NoMemory
+-- the outputs of a mesh with those numbers in the summary
+abbrev pub with_counts : Option ℕ → Option ℕ → Outputs → Outputs
+with_counts over slim outputs = record outputs { report = option_map (counted_told over slim) outputs.report }
+
+-- the outputs of a mesh, whose summary has the number of all its tetrahedra that are over each bound
+abbrev pub AreCountedOf : ShapeBounds → Options → Meshed → Outputs → Type 0
+AreCountedOf shapes options mesh outputs =
+    (made : Outputs) × AreOutputsOf options mesh made
+    × (outputs ≡ with_counts (over_in shapes.most mesh) (slim_in shapes.ratio mesh) made)
+
+abbrev pub CountedAnswer : ShapeBounds → Options → Meshed → Result Outputs Status → Type 0
+CountedAnswer shapes options mesh (Ok outputs) = AreCountedOf shapes options mesh outputs
+CountedAnswer shapes options mesh (Err status) = status ≡ NoMemory
 
 -- the outputs of a mesh with some points behind those of the complex; the only refusal is out of memory
-abbrev pub RefinedAnswer : ℤ → Options → Bound → Result Outputs Status → Type 0
-RefinedAnswer most options bound (Ok outputs) =
+abbrev pub RefinedAnswer : ShapeBounds → Options → Bound → Result Outputs Status → Type 0
+RefinedAnswer shapes options bound (Ok outputs) =
     (more : List Point) × (halvings : ℕ) × (mesh : Meshed) × MeshAnswerWith more halvings options bound mesh
-    × AreCountedOf most options mesh outputs
-RefinedAnswer most options bound (Err status) = status ≡ NoMemory
+    × AreCountedOf shapes options mesh outputs
+RefinedAnswer shapes options bound (Err status) = status ≡ NoMemory
 
 -- The complex has a mesh without further points, and then there are outputs of one with some. Each refusal is one of the first
-abbrev pub RefinedMade : ℤ → Options → Bound → Result Outputs Status → Type 0
-RefinedMade most options bound = AndThen (MeshAnswer options bound) (λ plain. RefinedAnswer most options bound)
+abbrev pub RefinedMade : ShapeBounds → Options → Bound → Result Outputs Status → Type 0
+RefinedMade shapes options bound = AndThen (MeshAnswer options bound) (λ plain. RefinedAnswer shapes options bound)
 
--- the outputs of an input, where tetrahedra over a volume are counted
-abbrev pub RefinedMeshed : Scaled → Limits → Options → Input → Result Outputs Status → Type 0
-RefinedMeshed volume limits options input =
-    AndThen (BoundAnswer limits options input) (λ bound. RefinedMade (pos (most_volume bound.table.grid volume)) options bound)
+-- the outputs of an input, where tetrahedra over the bounds of a goal are counted
+abbrev pub RefinedMeshed : Goal → Limits → Options → Input → Result Outputs Status → Type 0
+RefinedMeshed goal limits options input =
+    AndThen (BoundAnswer limits options input) (λ bound. RefinedMade (shape_bounds bound goal) options bound)

@@ -5,6 +5,7 @@
 mod add_fault;
 mod addable;
 mod behind;
+mod goal;
 mod meshable;
 mod meshing;
 mod multiples;
@@ -12,14 +13,15 @@ mod outputs;
 mod placing;
 mod plain;
 mod propose;
+mod quality;
 mod refine_fault;
 mod refining;
 mod repeats;
-mod volumes;
 
+pub use goal::{Goal, ShapeBounds, shape_bounds};
 pub use meshable::law_meshable;
-pub use outputs::{Aim, refined_outputs};
+pub use outputs::refined_outputs;
 pub use plain::law_plain;
 pub use propose::Propose;
+pub use quality::Quality;
 pub use refining::{Bounds, Refined};
-pub use volumes::Volumes;

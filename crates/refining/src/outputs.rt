@@ -1,43 +1,48 @@
 //! The files and the summary of a refined mesh.
 
-ghost use Rattle.std.specs.Prelude.{◌≡◌, ◌≤◌, ◌^◌, true, All, unsigned_abs};
+ghost use Rattle.std.specs.Prelude.{◌≡◌, ◌≤◌, ◌^◌, true, All, IfSome};
 ghost use Rattle.geo_laws.specs.Delaunay.{IsOn};
+ghost use Rattle.node_files.specs.Writing.{IsNearGrid};
 ghost use Rattle.run_steps.specs.Meshing.{IsMeshableBound};
 ghost use Rattle.run_steps.specs.Outputs.{IsWritable};
-ghost use Rattle.refining.specs.Outputs.{CountedAnswer, RefinedMade, over_told, with_over};
+ghost use Rattle.tet_shapes.specs.Shape.{IsFine};
+ghost use Rattle.refining.specs.Outputs.{CountedAnswer, RefinedMade, counted_told};
+ghost use Rattle.refining.specs.Outputs.{over_in, slim_in, with_counts};
 
+use crate::goal::ShapeBounds;
 use crate::propose::Propose;
 use crate::refining::{Bounds, refine};
 use command_words::Options;
 use run_steps::{Bound, HulledMesh, Meshed, Outputs, Report, Status, outputs_of};
 use std::alloc::Global;
-use tet_shapes::count_large;
+use tet_shapes::{Ratio, count_large, count_slim};
 
-/// The goal of a refinement, and its bounds.
-#[derive(Clone, Copy, Debug)]
-pub struct Aim {
-    pub bounds: Bounds,
-    /// Tetrahedra in which six times the volume is over this number of cubes of grid units are
-    /// counted.
-    pub most: i128,
+/// How many tetrahedra of a mesh are over bounds.
+#[derive(Clone, Copy)]
+struct Counts {
+    /// Those that are over the greatest volume, where there is one.
+    over: Option<usize>,
+    /// Those that are over the greatest ratio of the circumradius to the shortest edge.
+    slim: Option<usize>,
 }
 
-/// The report of a mesh with the number of its tetrahedra that are over a bound.
-fn over_told(report: Report, count: usize) -> Report
-    ensures { result ≡ over_told count report }
+/// The report of a mesh with these counts.
+fn counted_told(report: Report, counts: Counts) -> Report
+    ensures { result ≡ counted_told counts.over counts.slim report }
 {
     match report {
         Report::Mesh { mut summary, notes } => {
-            summary.over = Some(count);
+            summary.over = counts.over;
+            summary.slim = counts.slim;
             Report::Mesh { summary, notes }
         }
         Report::Text(text) => Report::Text(text),
     }
 }
 
-/// The outputs of a mesh with the number of its tetrahedra that are over a bound.
-fn with_over(outputs: Outputs, count: usize) -> Outputs
-    ensures { result ≡ with_over count outputs }
+/// The outputs of a mesh with these counts.
+fn with_counts(outputs: Outputs, counts: Counts) -> Outputs
+    ensures { result ≡ with_counts counts.over counts.slim outputs }
 {
     let Outputs { texts, report } = outputs;
     match report {
@@ -47,46 +52,79 @@ fn with_over(outputs: Outputs, count: usize) -> Outputs
         },
         Some(report) => Outputs {
             texts,
-            report: Some(over_told(report, count)),
+            report: Some(counted_told(report, counts)),
         },
     }
 }
 
-/// The files and the summary of the refined mesh of a complex, with the number of its tetrahedra
-/// that are over the bound of the goal. It refuses the complex as `mesh_outputs` does; or when out
+/// How many tetrahedra have six times a volume over `most`, where there is such a bound.
+fn over_in(mesh: &Meshed, most: Option<u128>) -> Option<usize>
+    requires on { All (IsOn mesh.now.points) mesh.now.tetrahedra }
+    requires small { IfSome most (λ most. most ≤ 2 ^ 100) }
+    ensures { result ≡ over_in most mesh.now }
+{
+    match most {
+        Some(most) => Some(count_large(&mesh.points, &mesh.tetrahedra, most as i128)),
+        None => None,
+    }
+}
+
+/// How many tetrahedra have a circumradius over the ratio times the shortest edge, where there is
+/// such a bound.
+fn slim_in(mesh: &Meshed, ratio: Option<Ratio>) -> Option<usize>
+    requires on { All (IsOn mesh.now.points) mesh.now.tetrahedra }
+    requires fine { IfSome ratio IsFine }
+    ensures { result ≡ slim_in ratio mesh.now }
+{
+    match ratio {
+        Some(ratio) => Some(count_slim(&mesh.points, &mesh.tetrahedra, ratio)),
+        None => None,
+    }
+}
+
+/// The files and the summary of a mesh whose hull is not known, with the numbers of its tetrahedra
+/// that are over the bounds.
+fn counted_outputs(
+    alloc: Global,
+    options: &Options,
+    mesh: Meshed,
+    shapes: ShapeBounds,
+) -> Result<Outputs, Status>
+    requires writable { IsWritable mesh }
+    requires near { IsNearGrid options.now.origin mesh.table.grid }
+    requires on { All (IsOn mesh.points) mesh.tetrahedra }
+    requires small { IfSome shapes.most (λ most. most ≤ 2 ^ 100) }
+    requires fine { IfSome shapes.ratio IsFine }
+    ensures { CountedAnswer shapes options.now mesh result }
+{
+    let counts = Counts {
+        over: over_in(&mesh, shapes.most),
+        slim: slim_in(&mesh, shapes.ratio),
+    };
+    let made = HulledMesh { mesh, hull: None };
+    let outputs = outputs_of(alloc, options, &made)?;
+    Ok(with_counts(outputs, counts))
+}
+
+/// The files and the summary of the refined mesh of a complex, with the numbers of its tetrahedra
+/// that are over the bounds of the goal. It refuses the complex as `mesh_outputs` does; or when out
 /// of memory.
 pub fn refined_outputs<P: Propose>(
     alloc: Global,
     options: &Options,
     bound: Bound,
-    aim: Aim,
+    bounds: &Bounds,
+    shapes: ShapeBounds,
     proposer: &mut P,
 ) -> Result<Outputs, Status>
     requires bound { IsMeshableBound options.now bound }
     requires complex { options.now.piecewise ≡ true }
-    requires small { unsigned_abs aim.most ≤ 2 ^ 100 }
-    ensures { RefinedMade aim.most options.now bound result }
+    requires small { IfSome shapes.most (λ most. most ≤ 2 ^ 100) }
+    requires fine { IfSome shapes.ratio IsFine }
+    ensures { RefinedMade shapes options.now bound result }
 {
-    match refine(alloc, options, bound, &aim.bounds, proposer) {
-        Ok(refined) => counted_outputs(alloc, options, refined.mesh, aim.most),
+    match refine(alloc, options, bound, bounds, proposer) {
+        Ok(refined) => counted_outputs(alloc, options, refined.mesh, shapes),
         Err(fault) => Err(Status::from(fault)),
     }
-}
-
-/// The files and the summary of a mesh whose hull is not known, with the number of its tetrahedra
-/// in which six times the volume is over `most`.
-fn counted_outputs(
-    alloc: Global,
-    options: &Options,
-    mesh: Meshed,
-    most: i128,
-) -> Result<Outputs, Status>
-    requires writable { IsWritable mesh }
-    requires on { All (IsOn mesh.points) mesh.tetrahedra }
-    ensures { CountedAnswer most options.now mesh result }
-{
-    let over = count_large(&mesh.points, &mesh.tetrahedra, most);
-    let made = HulledMesh { mesh, hull: None };
-    let outputs = outputs_of(alloc, options, &made)?;
-    Ok(with_over(outputs, over))
 }
