@@ -5,7 +5,8 @@ use Rattle.box_tree.proofs.Lists.{less_or_more}
 use Rattle.command_words.specs.Names.{file_name}
 use Rattle.command_words.specs.declared.options.Extension.TheVariants.{Stl}
 use Rattle.command_words.specs.declared.options.Options.{Options}
-use Rattle.tetfit_run.specs.Models.{ModelAnswer, ModelBy, StlAnswer, names_stl, stl_text_of}
+use Rattle.tetfit_run.specs.Measured.{MovedAnswer, tried}
+use Rattle.tetfit_run.specs.Models.{ModelAnswer, ModelBy, ReadAnswer, StlAnswer, names_stl, stl_text_of}
 use Rattle.tetfit_run.specs.Trying.{IsFitted, at_decimals, is_of_grid}
 use Rattle.tetfit_run.specs.Words.{fit_fault, others, request_of}
 use Rattle.tetfit_run.specs.declared.request.Request.{Request}
@@ -22,7 +23,7 @@ use Rattle.run_steps.specs.declared.status.Status.{Status}
 use Rattle.run_steps.specs.declared.status.Status.TheVariants.{Usage, NoFill, NoMemory}
 use Rattle.tet_ports.specs.Files.{Files}
 use Rattle.tetgen_run.proofs.Endings.{answers_same}
-use Rattle.tetfit_run.specs.Outputs.{FitWordsAnswer, IsFitUsage, IsFittedTo, MadeBy, OutputsOfFit, Says, fit_limits}
+use Rattle.tetfit_run.specs.Outputs.{FitWordsAnswer, IsFitUsage, IsFittedTo, MadeBy, OutputsOfFit, Says, fit_limits, wanted_from}
 use Rattle.tetfit_run.specs.Run.{IsFitAnswer, IsFitComplete}
 
 -- ---- the words
@@ -60,8 +61,14 @@ model_by_once true told seen options h =
     and_then_once (StlAnswer fit_limits seen base) (λ file. AndThen (NodesAnswer fit_limits seen base file.text.nodes) (BoundedAnswer file)) (stl_once told seen base h)
     (λ file. and_then_once (NodesAnswer fit_limits seen base file.text.nodes) (BoundedAnswer file) (nodes_once fit_limits told seen base file.text.nodes h) (bounded_once file))
 
+moved_once : (input : Input) → IsOnce (MovedAnswer input)
+moved_once input (Ok a) (Ok b) n m h k = ap (λ x. Ok x) (h ∙ sym k)
+moved_once input (Err s) r n m h k = absurd (n h)
+moved_once input (Ok a) (Err t) n m h k = absurd (m k)
+
 model_once : (told : Files) (seen : FolderSeen) (options : Options) → IsTold told seen → IsOnce (ModelAnswer fit_limits seen options)
-model_once told seen options = model_by_once (names_stl options) told seen options
+model_once told seen options h =
+    and_then_once (ReadAnswer fit_limits seen options) MovedAnswer (model_by_once (names_stl options) told seen options h) moved_once
 
 -- ---- the decimals
 
@@ -85,7 +92,7 @@ of_grid_decided s e = λ n. absurd (wanting (sym (ap is_of_grid n) ∙ e))
 none_finer : (options : Options) (input : Input) (m n : ℕ) (a b : Result Outputs Status) → m < n → IsDecided b → IsFitted fit_limits options input m a → IsFitted fit_limits options input n b → ⊥
 none_finer options input m n a b l d h k =
     let r = h.finer n l k.within in
-    let e = meshed_same fit_limits (at_decimals n options) input b (Err r.status) d (of_grid_decided r.status r.of_grid) k.answer r.answer in
+    let e = meshed_same fit_limits (at_decimals n options) (tried (at_decimals n options) input) b (Err r.status) d (of_grid_decided r.status r.of_grid) k.answer r.answer in
     let z = refused_too options input n b k (ap is_of_grid e ∙ grid_forced r.status ∙ r.of_grid) in
     omega (arith, l, z)
 
@@ -95,7 +102,7 @@ fits_same options input m n a b c d h k = go (less_or_more m n)
   where
     go : (m < n) ⊎ ((m ≡ n) ⊎ (n < m)) → (m ≡ n) × (status_of a ≡ status_of b)
     go (inl l) = absurd (none_finer options input m n a b l d h k)
-    go (inr (inl e)) = (e, meshed_same fit_limits (at_decimals n options) input a b c d (subst (λ i. IsFitted fit_limits options input i a) e h).answer k.answer)
+    go (inr (inl e)) = (e, meshed_same fit_limits (at_decimals n options) (tried (at_decimals n options) input) a b c d (subst (λ i. IsFitted fit_limits options input i a) e h).answer k.answer)
     go (inr (inr l)) = absurd (none_finer options input n m b a l c k h)
 
 -- what is fitted, before the summary tells its decimals
@@ -127,8 +134,8 @@ made_same : (request : Request) (told : Files) (words : List (List ℕ)) (seen :
 made_same Page told words seen h = says_same _
 made_same Version told words seen h = says_same _
 made_same Mesh told words seen h =
-    and_then_same (FitWordsAnswer (others words)) (λ wanted. AndThen (ModelAnswer fit_limits seen wanted.options) (IsFittedTo wanted)) (words_once (others words))
-    (λ wanted. and_then_same (ModelAnswer fit_limits seen wanted.options) (IsFittedTo wanted) (model_once told seen wanted.options h) (fitted_same wanted))
+    and_then_same (FitWordsAnswer (others words)) (λ wanted. AndThen (ModelAnswer fit_limits seen wanted.options) (λ input. IsFittedTo (wanted_from input wanted) input)) (words_once (others words))
+    (λ wanted. and_then_same (ModelAnswer fit_limits seen wanted.options) (λ input. IsFittedTo (wanted_from input wanted) input) (model_once told seen wanted.options h) (λ input. fitted_same (wanted_from input wanted) input))
 
 pub answer_complete : (words : List (List ℕ)) (folder : FolderSeen) (out : SinkSeen) (s : Status) → IsFitAnswer words folder out s → IsFitComplete words folder out s
 answer_complete words folder out s h told e f n other m k =

@@ -14,9 +14,9 @@ use Rattle.tetfit_run.specs.Opening.{TellsOpening}
 use Rattle.tetfit_run.specs.Trying.{IsFitted, IsNumbered, IsRefused, at_decimals}
 use Rattle.tetfit_run.specs.declared.fitting.Refused.{Refused as Unfit}
 use Rattle.node_files.specs.declared.limits.Limits.{Limits}
-use Rattle.tet_text.specs.Decimals.{Scaled}
+use Rattle.refining.specs.declared.goal.Goal.{Goal}
 use Rattle.tetfit_run.proofs.RefinedRuns.{refined_mesh_by}
-use Rattle.tetfit_run.specs.Words.{fit_fault, fit_options, fit_volume, others, request_of}
+use Rattle.tetfit_run.specs.Words.{fit_fault, fit_goal, fit_options, others, request_of}
 use Rattle.tetfit_run.specs.declared.wanted.Wanted.{Wanted}
 use Rattle.tetfit_run.specs.declared.request.Request.{Request}
 use Rattle.tetfit_run.specs.declared.request.Request.TheVariants.{Page, Version, Mesh}
@@ -38,8 +38,9 @@ use Rattle.tetgen_run.specs.Ends.{EndsWith, IsToldAs, StopsSo, answer_of}
 use Rattle.tetgen_run.specs.Stops.{stop_of_words}
 use Rattle.tetgen_run.specs.declared.stop.Stop.{Stop}
 use Rattle.tetgen_run.specs.declared.stop.Stop.TheVariants.{Refused, Unwritten, Unsummed, NoMemory as Wanting}
-use Rattle.tetfit_run.specs.Outputs.{FitWordsAnswer, IsFinalBy, IsFitUsage, IsFittedTo, IsMore, IsMoreBy, MadeBy, OutputsOfFit, OutputsOfModel, OutputsOfWanted, fit_limits, outputs_at}
-use Rattle.tetfit_run.specs.Run.{IsAskedBy, IsFinalMesh, IsKnown, IsKnownOf, IsMeshOfModel, IsFitNumbering, IsNumberingOf, IsUnfitted, TellsOffGrid}
+use Rattle.tetfit_run.specs.Outputs.{FitWordsAnswer, IsFinalBy, IsFitUsage, IsFittedTo, IsMore, IsMoreBy, MadeBy, OutputsOfFit, OutputsOfModel, OutputsOfWanted, fit_limits, outputs_at, wanted_from}
+use Rattle.tetfit_run.specs.Measured.{origin_in, tried, with_origin}
+use Rattle.tetfit_run.specs.Run.{IsAskedBy, IsFinalMesh, IsKnown, IsKnownOf, IsMeshOfModel, IsFitNumbering, IsNumberingOf, IsTriedOf, IsUnfitted, TellsOffGrid, options_from}
 
 -- ---- answers
 
@@ -65,12 +66,13 @@ model_silent : (folder : FolderSeen) (options : Options) (s : Status) → ModelA
 model_silent = model_has IsSilent (λ name. refl) (λ name. refl) (λ name fault. refl) (λ name most. refl) refl fit_limits
 
 fitted_refuses : (wanted : Wanted) (input : Input) (s : Status) → IsFittedTo wanted input (Err s) → IsRefusal s
-fitted_refuses wanted input s h = meshed_refuses fit_limits (at_decimals h.0 wanted.options) input s h.1.answer
+fitted_refuses wanted input s h = meshed_refuses fit_limits (at_decimals h.0 wanted.options) (tried (at_decimals h.0 wanted.options) input) s h.1.answer
 
 outputs_refuse : (words : List (List ℕ)) (folder : FolderSeen) (s : Status) → OutputsOfModel words folder (Err s) → IsRefusal s
 outputs_refuse words folder =
     and_then_refuses IsRefusal (FitWordsAnswer words) (λ wanted. OutputsOfWanted wanted folder) (usage_refuses words)
-    (λ wanted. and_then_refuses IsRefusal (ModelAnswer fit_limits folder wanted.options) (IsFittedTo wanted) (model_refuses folder wanted.options) (fitted_refuses wanted))
+    (λ wanted. and_then_refuses IsRefusal (ModelAnswer fit_limits folder wanted.options) (λ input. IsFittedTo (wanted_from input wanted) input) (model_refuses folder wanted.options)
+    (λ input. fitted_refuses (wanted_from input wanted) input))
 
 made_refuses : (request : Request) (words : List (List ℕ)) (folder : FolderSeen) (s : Status) → MadeBy request words folder (Err s) → IsRefusal s
 made_refuses Page words folder s h = subst IsRefusal (sym h) tt
@@ -90,10 +92,13 @@ pub numbers_points : (words : List (List ℕ)) (folder : FolderSeen) (hint : Lis
 numbers_points words = numbers_of (fit_options words)
 
 numbered : (folder : FolderSeen) (options : Options) (model : Model) (hint : List ℕ) (m : ℕ) (s : Status) (by : Option Numbering) → ModelAnswer fit_limits folder options (Ok model.input)
-    → IsFitted fit_limits options model.input m (Err s) → IsNumbered fit_limits (at_decimals m options) model.input s by
-    → IsHint fit_limits model.stated (at_decimals m options) model.input by s hint → IsNumberingOf options folder hint s by
-numbered folder options model hint m s None r f n h = numbers_of options folder hint s None (bound_silent fit_limits (at_decimals m options) model.input s n)
-numbered folder options model hint m s (Some by) r f n h = λ t. (model.input, r, m, f, n.0, n.1, ap Some n.3, subst (λ q. IsHintBy fit_limits (at_decimals m options) model.input q s hint) n.3 h)
+    → IsFitted fit_limits (with_origin model.input options) model.input m (Err s) → IsNumbered fit_limits (at_decimals m (with_origin model.input options)) model.input s by
+    → IsHint fit_limits model.stated (at_decimals m (with_origin model.input options)) model.input by s hint → IsNumberingOf options folder hint s by
+numbered folder options model hint m s None r f n h =
+    let at = at_decimals m (with_origin model.input options) in
+    numbers_of options folder hint s None (bound_silent fit_limits at (tried at model.input) s n)
+numbered folder options model hint m s (Some by) r f n h =
+    λ t. (model.input, r, m, f, n.0, n.1, ap Some n.3, subst (λ q. IsHintBy fit_limits (at_decimals m (with_origin model.input options)) model.input q s hint) n.3 h)
 
 -- ---- a point off the grid
 
@@ -107,9 +112,10 @@ on_grid folder options hint (Limit (Grid line)) h = absurd h
 on_grid folder options hint s h = tt
 
 off_grid : (folder : FolderSeen) (options : Options) (model : Model) (hint : List ℕ) (m : ℕ) (s : Status) (by : Option Numbering) → ModelAnswer fit_limits folder options (Ok model.input) → IsStatedBy folder options model.stated
-    → IsNumbered fit_limits (at_decimals m options) model.input s by → IsHint fit_limits model.stated (at_decimals m options) model.input by s hint → TellsOffGrid options folder hint s
+    → IsNumbered fit_limits (at_decimals m (with_origin model.input options)) model.input s by
+    → IsHint fit_limits model.stated (at_decimals m (with_origin model.input options)) model.input by s hint → TellsOffGrid options folder hint s
 off_grid folder options model hint m (Limit (Grid line)) None r w n h = (model.input, r, model.stated, w, h)
-off_grid folder options model hint m (Limit (Grid line)) (Some by) r w n h = absurd (made_on_grid (at_decimals m options) n.0 (Limit (Grid line)) n.2)
+off_grid folder options model hint m (Limit (Grid line)) (Some by) r w n h = absurd (made_on_grid (at_decimals m (with_origin model.input options)) n.0 (Limit (Grid line)) n.2)
 off_grid folder options model hint m s by r w n h = tt
 
 -- the refusal of what is fitted, with what more is told of it
@@ -128,7 +134,7 @@ model_stops folder wanted hint s r =
 
 -- where it has no mesh
 pub unfitted_stops : (folder : FolderSeen) (wanted : Wanted) (model : Model) (hint : List ℕ) (stop : Stop) → ModelAnswer fit_limits folder wanted.options (Ok model.input) → IsStatedBy folder wanted.options model.stated
-    → IsUnfitted wanted.options model hint stop → StopsSo (OutputsOfWanted wanted folder) (IsKnownOf wanted.options folder hint) stop
+    → IsUnfitted (with_origin model.input wanted.options) model hint stop → StopsSo (OutputsOfWanted wanted folder) (IsKnownOf wanted.options folder hint) stop
 unfitted_stops folder wanted model hint (Refused s by) r w h =
     let options = wanted.options in
     (inr (model.input, r, (h.0, h.1)), (numbered folder options model hint h.0 s by r h.1 h.2 h.3, off_grid folder options model hint h.0 s by r w h.2 h.3))
@@ -190,17 +196,19 @@ pub no_more : (options : Options) (input : Input) (m : ℕ) (none test : Bool) (
 no_more options input m none test more n e is = subst (λ b. IsMoreBy b options input m more) (sym e ∙ n) is
 
 pub fitted_told : (wanted : Wanted) (input : Input) (m n : ℕ) (made final : Outputs) (more : List ℕ) → IsFitted fit_limits wanted.options input m (Ok made)
-    → IsFinalBy wanted.volume wanted.options input m made n final → IsMore wanted.options input n final more → IsFittedTo wanted input (Ok (outputs_at n more final))
+    → IsFinalBy wanted.goal wanted.options input m made n final → IsMore wanted.options input n final more → IsFittedTo wanted input (Ok (outputs_at n more final))
 fitted_told wanted input m n made final more h f k = (m, made, h, n, final, f, more, k, refl)
 
 -- ---- the mesh
 
 -- the mesh in the end
-final_mesh : (volume : Option Scaled) (words : List (List ℕ)) (folder : FolderSeen) (input : Input) (m n : ℕ) (made final : Outputs) → fit_fault words ≡ None
-    → ModelAnswer fit_limits folder (fit_options words) (Ok input) → IsFinalBy volume (fit_options words) input m made n final → IsFinalMesh volume words folder m made n final
+final_mesh : (goal : Option Goal) (words : List (List ℕ)) (folder : FolderSeen) (input : Input) (m n : ℕ) (made final : Outputs) → fit_fault words ≡ None
+    → ModelAnswer fit_limits folder (fit_options words) (Ok input) → IsFinalBy goal (options_from (origin_in input) words) input m made n final
+    → IsFinalMesh goal (options_from (origin_in input) words) words folder m made n final
 final_mesh None words folder input m n made final none read h = h
-final_mesh (Some volume) words folder input m n made final none read h =
-    (h.0, refined_mesh_by volume fit_limits (at_decimals n (fit_options words)) (fit_fault words ≡ None) (λ input. ModelAnswer fit_limits folder (fit_options words) (Ok input)) input final none read h.1)
+final_mesh (Some goal) words folder input m n made final none read h =
+    let at = at_decimals n (options_from (origin_in input) words) in
+    (h.0, refined_mesh_by goal fit_limits at (fit_fault words ≡ None) (λ placed. (i : Input) × IsTriedOf at words folder i placed) (tried at input) final none (input, (read, refl, refl)) h.1)
 
 model_mesh : (words : List (List ℕ)) (folder : FolderSeen) (outputs : Outputs) → OutputsOfModel words folder (Ok outputs) → IsMeshOfModel words folder outputs
 model_mesh words folder outputs h =
@@ -209,17 +217,20 @@ model_mesh words folder outputs h =
     let input = h.2.0 in
     let f = h.2.2 in
     let read = subst (λ (q : Wanted). ModelAnswer fit_limits folder q.options (Ok input)) e h.2.1 in
-    let fitted = subst (λ (q : Wanted). IsFitted fit_limits q.options input f.0 (Ok f.1)) e f.2 in
-    let last = subst (λ (q : Wanted). IsFinalBy q.volume q.options input f.0 f.1 f.3 f.4) e f.5 in
-    let told = subst (λ (q : Wanted). IsMore q.options input f.3 f.4 f.6) e f.7 in record {
+    let fitted = subst (λ (q : Wanted). IsFitted fit_limits (with_origin input q.options) input f.0 (Ok f.1)) e f.2 in
+    let last = subst (λ (q : Wanted). IsFinalBy q.goal (with_origin input q.options) input f.0 f.1 f.3 f.4) e f.5 in
+    let told = subst (λ (q : Wanted). IsMore (with_origin input q.options) input f.3 f.4 f.6) e f.7 in
+    let at = at_decimals f.0 (with_origin input o) in record {
+      origin = origin_in input;
       decimals = f.0;
       made = f.1;
       final_decimals = f.3;
       final = f.4;
       more = f.6;
-      mesh = mesh_by fit_limits (at_decimals f.0 o) (fit_fault words ≡ None) (λ input. ModelAnswer fit_limits folder o (Ok input) × IsFitted fit_limits o input f.0 (Ok f.1) × IsMore o input f.3 f.4 f.6)
-          input f.1 h.1.0 (read, fitted, told) fitted.answer;
-      refined = final_mesh (fit_volume words) words folder input f.0 f.3 f.1 f.4 h.1.0 read last;
+      mesh = mesh_by fit_limits at (fit_fault words ≡ None) (λ placed. (i : Input) × IsTriedOf at words folder i placed
+          × IsFitted fit_limits (with_origin input o) i f.0 (Ok f.1) × IsMore (with_origin input o) i f.3 f.4 f.6)
+          (tried at input) f.1 h.1.0 (input, (read, refl, refl), fitted, told) fitted.answer;
+      refined = final_mesh (fit_goal words) words folder input f.0 f.3 f.1 f.4 h.1.0 read last;
       outputs_are = f.8;
     }
 
@@ -234,10 +245,10 @@ fit_asked words folder = asked_by (request_of words) words folder
 -- ---- the texts
 
 -- each text of the outputs in the end has its message
-final_told : (volume : Option Scaled) (options : Options) (input : Input) (m n : ℕ) (made final : Outputs) → All TellsFailure (in_order made.texts) → IsFinalBy volume options input m made n final
+final_told : (goal : Option Goal) (options : Options) (input : Input) (m n : ℕ) (made final : Outputs) → All TellsFailure (in_order made.texts) → IsFinalBy goal options input m made n final
     → All TellsFailure (in_order final.texts)
 final_told None options input m n made final told h = subst (λ (o : Outputs). All TellsFailure (in_order o.texts)) (sym h.1) told
-final_told (Some volume) options input m n made final told h =
+final_told (Some goal) options input m n made final told h =
     let refined = h.1.2.2 in
     subst (λ (o : Outputs). All TellsFailure (in_order o.texts)) (sym refined.4.2) (outputs_told (at_decimals n options) refined.2 refined.4.0 refined.4.1)
 
@@ -245,8 +256,8 @@ model_told : (words : List (List ℕ)) (folder : FolderSeen) (outputs : Outputs)
 model_told words folder outputs h =
     let f = h.2.2 in
     let a = f.2.answer.2 in
-    let told = outputs_told (at_decimals f.0 h.0.options) a.0 f.1 a.2 in
-    subst (λ (o : Outputs). All TellsFailure (in_order o.texts)) (sym f.8) (final_told h.0.volume h.0.options h.2.0 f.0 f.3 f.1 f.4 told f.5)
+    let told = outputs_told (at_decimals f.0 (with_origin h.2.0 h.0.options)) a.0 f.1 a.2 in
+    subst (λ (o : Outputs). All TellsFailure (in_order o.texts)) (sym f.8) (final_told h.0.goal (with_origin h.2.0 h.0.options) h.2.0 f.0 f.3 f.1 f.4 told f.5)
 
 told_by : (request : Request) (words : List (List ℕ)) (folder : FolderSeen) (outputs : Outputs) → MadeBy request words folder (Ok outputs) → All TellsFailure (in_order outputs.texts)
 told_by Page words folder outputs h = subst (λ (o : Outputs). All TellsFailure (in_order o.texts)) (sym h) (All-nil TellsFailure)
@@ -264,7 +275,8 @@ made_wider Page words part wide w r h = h
 made_wider Version words part wide w r h = h
 made_wider Mesh words part wide w r h =
     and_then_wider (FitWordsAnswer (others words)) (FitWordsAnswer (others words)) (λ wanted. OutputsOfWanted wanted part) (λ wanted. OutputsOfWanted wanted wide) (λ r h. h)
-    (λ wanted. and_then_wider (ModelAnswer fit_limits part wanted.options) (ModelAnswer fit_limits wide wanted.options) (IsFittedTo wanted) (IsFittedTo wanted) (model_wider fit_limits part wide w wanted.options) (λ input r h. h)) r h
+    (λ wanted. and_then_wider (ModelAnswer fit_limits part wanted.options) (ModelAnswer fit_limits wide wanted.options) (λ input. IsFittedTo (wanted_from input wanted) input)
+    (λ input. IsFittedTo (wanted_from input wanted) input) (model_wider fit_limits part wide w wanted.options) (λ input r h. h)) r h
 
 pub fit_wider : (words : List (List ℕ)) (part wide : FolderSeen) → IsWithin part wide → (r : Result Outputs Status) → OutputsOfFit words part r → OutputsOfFit words wide r
 fit_wider words = made_wider (request_of words) words

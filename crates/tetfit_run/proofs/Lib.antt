@@ -1,3 +1,4 @@
+mod Measured
 pub mod Complete
 pub mod Fitted
 pub mod Pieces
@@ -9,3 +10,4 @@ mod OffGrid
 mod Tries
 mod PartsBefore
 mod Openings
+mod Ratios

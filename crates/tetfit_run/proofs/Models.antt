@@ -1,5 +1,5 @@
 -- What is read of a model, in a wider view, and by which statuses it is refused.
-use Rattle.std.proofs.Common.{◌≡◌, ℕ, Bool, true, false, List, Result, Ok, Err, sym, subst, ◌∙◌}
+use Rattle.std.proofs.Common.{◌≡◌, ℕ, Bool, true, false, List, Result, Ok, Err, sym, subst, ◌∙◌, inl, inr}
 use Rattle.std.specs.Prelude.{IfOk}
 use Rattle.command_words.specs.Names.{file_name}
 use Rattle.command_words.specs.declared.options.Extension.TheVariants.{Stl}
@@ -19,13 +19,14 @@ use Rattle.run_steps.proofs.Steps.{and_then_ok, and_then_refuses, and_then_wider
 use Rattle.tet_ports.proofs.Windows.{IsWithin}
 use Rattle.run_steps.proofs.Wider.{fetch_wider, bounded_wider, input_wider}
 use Rattle.tet_text.specs.declared.fault.TextFault.{TextFault}
-use Rattle.tetfit_run.specs.Models.{stated_of, stl_text_of, names_stl, IsStatedBy, IsStatedIf, IsStatedInStl, StlAnswer, StlInputAnswer, ModelBy, ModelAnswer}
+use Rattle.tetfit_run.specs.Models.{stated_of, stl_text_of, names_stl, IsStatedBy, IsStatedIf, IsStatedInStl, StlAnswer, StlInputAnswer, ModelBy, ModelAnswer, MovedFrom, ReadAnswer}
+use Rattle.tetfit_run.specs.Measured.{MovedAnswer}
 use Rattle.tetfit_run.specs.declared.model.Model.{Model}
 use Rattle.tetfit_run.specs.declared.model.Stated.{Stated}
 
 -- the options name an `.stl` file, and this is read of it
-pub stl_model : (limits : Limits) (seen : FolderSeen) (options : Options) (r : Result Input Status) → names_stl options ≡ true → StlInputAnswer limits seen options.base r → ModelAnswer limits seen options r
-stl_model limits seen options r named = subst (λ b. ModelBy b limits seen options r) (sym named)
+pub stl_model : (limits : Limits) (seen : FolderSeen) (options : Options) (r : Result Input Status) → names_stl options ≡ true → AndThen (StlInputAnswer limits seen options.base) MovedAnswer r → ModelAnswer limits seen options r
+stl_model limits seen options r named = subst (λ b. AndThen (ModelBy b limits seen options) MovedAnswer r) (sym named)
 
 -- what the bytes of a file spell that is fetched by its name
 pub stl_fetched : (limits : Limits) (seen : FolderSeen) (base asked name bytes : List ℕ) (r : Result ComplexFile Status) → asked ≡ file_name base Stl → name ≡ asked → IsRead limits seen.files_before asked bytes
@@ -35,9 +36,15 @@ stl_fetched limits seen base asked name bytes r a n read spelled =
     and_then_ok (FetchAnswer limits seen wanted) (λ bytes. AndThen (TextAnswer wanted (stl_text_of bytes)) (λ text. Gives (complex_file wanted text))) bytes r
     (subst (λ x. IsRead limits seen.files_before x bytes) a read) (subst (λ x. AndThen (TextAnswer x (stl_text_of bytes)) (λ text. Gives (complex_file x text)) r) (n ∙ a) spelled)
 
+-- what is read, and moved
+pub moved_on : (Read : Result Input Status → Type 0) (read moved : Result Input Status) → Read read → MovedFrom read moved → AndThen Read MovedAnswer moved
+moved_on Read (Ok input) moved r m = and_then_ok Read MovedAnswer input moved r m
+moved_on Read (Err status) moved r m = subst (AndThen Read MovedAnswer) (sym m) (inl r)
+
 -- no `.stl` file is named, and this is read
-pub other_model : (limits : Limits) (seen : FolderSeen) (options : Options) (r : Result Input Status) → names_stl options ≡ false → InputAnswer limits seen options r → ModelAnswer limits seen options r
-other_model limits seen options r named = subst (λ b. ModelBy b limits seen options r) (sym named)
+pub other_model : (limits : Limits) (seen : FolderSeen) (options : Options) (read r : Result Input Status) → names_stl options ≡ false → InputAnswer limits seen options read → MovedFrom read r
+    → ModelAnswer limits seen options r
+other_model limits seen options read r named h m = moved_on (ReadAnswer limits seen options) read r (subst (λ b. ModelBy b limits seen options read) (sym named) h) m
 
 -- what the places of points in a file count, by the bytes that were fetched
 pub stated_told : (limits : Limits) (seen : FolderSeen) (base asked name bytes : List ℕ) (stated : Stated) (r : Result Model Status) → asked ≡ file_name base Stl → name ≡ asked → IsRead limits seen.files_before asked bytes
@@ -68,7 +75,8 @@ module _ (limits : Limits) (part wide : FolderSeen) (w : IsWithin part wide) whe
   model_by_wider false options = input_wider limits part wide w options
 
   pub model_wider : (options : Options) (r : Result Input Status) → ModelAnswer limits part options r → ModelAnswer limits wide options r
-  model_wider options = model_by_wider (names_stl options) options
+  model_wider options =
+      and_then_wider (ReadAnswer limits part options) (ReadAnswer limits wide options) MovedAnswer MovedAnswer (model_by_wider (names_stl options) options) (λ input r h. h)
 
 -- what each refusal of the reading of a model has
 module _ (P : Status → Type 0) (missing : (name : List ℕ) → P (Missing name)) (failed : (name : List ℕ) → P (ReadFault name)) (bad : (name : List ℕ) (fault : TextFault) → P (BadText name fault))
@@ -91,4 +99,5 @@ module _ (P : Status → Type 0) (missing : (name : List ℕ) → P (Missing nam
   model_by_has false limits seen options = input_has P missing failed bad long want limits seen options options.piecewise
 
   pub model_has : (limits : Limits) (seen : FolderSeen) (options : Options) (s : Status) → ModelAnswer limits seen options (Err s) → P s
-  model_has limits seen options = model_by_has (names_stl options) limits seen options
+  model_has limits seen options =
+      and_then_refuses P (ReadAnswer limits seen options) MovedAnswer (model_by_has (names_stl options) limits seen options) (λ input s h. subst P (sym h) want)

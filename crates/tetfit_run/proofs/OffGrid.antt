@@ -1,28 +1,30 @@
 -- Points that are off each grid.
-use Rattle.std.proofs.Common.{◌≡◌, ℕ, ◌-◌, ◌*◌, ◌^◌, ◌<◌, ◌≤◌, Bool, true, false, List, [], ◌∷◌, length, get_or, map, Some, refl, sym, ap, ◌∙◌, subst, arith, inl, inr}
+use Rattle.std.proofs.Common.{◌≡◌, ℕ, ◌-◌, ◌*◌, ◌^◌, ◌<◌, ◌≤◌, Bool, true, false, List, [], ◌∷◌, length, get_or, drop, map, Some, None, ◌+◌, refl, sym, ap, ◌∙◌, subst, arith, inl, inr}
 use Rattle.std.specs.Prelude.{max, find, nat_lt, unsigned_abs, is_some, not, Option, ◌||◌, ◌⊎◌, if◌then◌else◌}
 use Rattle.std.specs.List.{list_any}
 use Rattle.std.proofs.Math.Nat.{mul-le-mul_left, mul-le-mul_right, pow-le-pow_right}
 use Rattle.std.proofs.lemmas.Bool.{cond-true, cond-false, lt-ltb, le-ltb, lt-leb, le-leb, cases_lt}
 use Rattle.std.proofs.lemmas.List.Recursion.{max_bounds}
 use borrow.Author.Tests.{ltb-true}
+use Rattle.std.proofs.lemmas.List.{at_drop_all}
+use Rattle.grid_coords.proofs.Sizes.{from_here}
 use Rattle.grid_coords.specs.Choice.{decimals_of, most_decimals, size_of, is_over, first_over, grid_of}
 use Rattle.grid_coords.specs.Units.{if_at_most, units}
 use Rattle.grid_coords.specs.declared.points.DecimalPoint.{DecimalPoint}
-use Rattle.node_files.specs.Settling.{rounded_point}
+use Rattle.grid_coords.specs.declared.origin.WholePoint.{WholePoint}
 use Rattle.tet_text.specs.Decimals.{Scaled}
-use Rattle.tetfit_run.specs.Grids.{IsOffRounded}
+use Rattle.tetfit_run.specs.Grids.{point_at, IsOffRounded}
 
 -- ---- the most decimals
 
 -- a rounded point has no more decimals than the list of them
-pub one_most : (m : ℕ) (ps : List DecimalPoint) (i : ℕ) (p : DecimalPoint) → i < length ps → p ≡ get_or ps i p
-    → decimals_of (rounded_point m p) ≤ most_decimals (map (rounded_point m) ps)
+pub one_most : (o : Option WholePoint) (m : ℕ) (ps : List DecimalPoint) (i : ℕ) (p : DecimalPoint) → i < length ps → p ≡ get_or ps i p
+    → decimals_of (point_at o m p) ≤ most_decimals (map (point_at o m) ps)
 unfolding most_decimals
-one_most m ps i p lt is =
-    let all : decimals_of (rounded_point m (get_or ps i p)) ≤ most_decimals (map (rounded_point m) ps) =
-    max_bounds (λ (qs : List DecimalPoint). most_decimals (map (rounded_point m) qs)) (λ q. decimals_of (rounded_point m q)) refl (λ q qs. refl) ps i p lt in
-    subst (λ (q : DecimalPoint). decimals_of (rounded_point m q) ≤ most_decimals (map (rounded_point m) ps)) (sym is) all
+one_most o m ps i p lt is =
+    let all : decimals_of (point_at o m (get_or ps i p)) ≤ most_decimals (map (point_at o m) ps) =
+    max_bounds (λ (qs : List DecimalPoint). most_decimals (map (point_at o m) qs)) (λ q. decimals_of (point_at o m q)) refl (λ q qs. refl) ps i p lt in
+    subst (λ (q : DecimalPoint). decimals_of (point_at o m q) ≤ most_decimals (map (point_at o m) ps)) (sym is) all
 
 -- so have one more point and those before it
 pub either_most : (one before all greatest : ℕ) {here : ℕ} → one ≡ here → here ≤ all → before ≤ all → greatest ≡ max one before → greatest ≤ all
@@ -72,9 +74,29 @@ found p q r [] more any = absurd (cc)
 found p q r (x ∷ xs) more any = found_here (p (r x)) (q (r x)) (r x) (find q (map r xs)) (list_any (λ x. p (r x)) xs) (more (r x)) (found p q r xs more) any
 
 -- a point over the limit at no more decimals than the points have
-pub off_rounded : (wide m few : ℕ) (ps : List DecimalPoint) → few ≤ most_decimals (map (rounded_point m) ps) → list_any (λ p. is_over wide few (rounded_point m p)) ps ≡ true → IsOffRounded wide ps m
+pub off_rounded : (wide : ℕ) (o : Option WholePoint) (m few : ℕ) (ps : List DecimalPoint) → few ≤ most_decimals (map (point_at o m) ps) → list_any (λ p. is_over wide few (point_at o m p)) ps ≡ true → IsOffRounded wide o ps m
 unfolding grid_of first_over
-off_rounded wide m few ps le any =
-    let most = most_decimals (map (rounded_point m) ps) in
-    let one = found (is_over wide few) (is_over wide most) (rounded_point m) ps (λ p. over_rises wide few most p le) any in
+off_rounded wide o m few ps le any =
+    let most = most_decimals (map (point_at o m) ps) in
+    let one = found (is_over wide few) (is_over wide most) (point_at o m) ps (λ p. over_rises wide few most p le) any in
     record { line = one.0.line; off = λ halvings. rw one.1 refl }
+
+-- ---- searches front to back
+
+pub any_more : {X : Type 0} (q : X → Bool) (xs : List X) (i : ℕ) (x : X) → i < length xs → x ≡ get_or xs i x → q x ≡ false → list_any q (drop (i + 1) xs) ≡ list_any q (drop i xs)
+any_more q xs i x lt is none = sym (ap (list_any q) (from_here xs i x lt is) ∙ ap (λ b. b || list_any q (drop (i + 1) xs)) none)
+
+pub any_here : {X : Type 0} (q : X → Bool) (xs : List X) (i : ℕ) (x : X) → i < length xs → x ≡ get_or xs i x → q x ≡ true → list_any q (drop i xs) ≡ true
+any_here q xs i x lt is some = ap (list_any q) (from_here xs i x lt is) ∙ ap (λ b. b || list_any q (drop (i + 1) xs)) some
+
+pub any_all : {X : Type 0} (q : X → Bool) (xs : List X) (i : ℕ) → length xs ≤ i → list_any q (drop i xs) ≡ false
+any_all q xs i le = at_drop_all (list_any q) xs i le
+
+pub find_more : {X : Type 0} (q : X → Bool) (xs : List X) (i : ℕ) (x : X) → i < length xs → x ≡ get_or xs i x → q x ≡ false → find q (drop (i + 1) xs) ≡ find q (drop i xs)
+find_more q xs i x lt is none = sym (ap (find q) (from_here xs i x lt is) ∙ cond-false _ _ _ none)
+
+pub find_here : {X : Type 0} (q : X → Bool) (xs : List X) (i : ℕ) (x : X) → i < length xs → x ≡ get_or xs i x → q x ≡ true → find q (drop i xs) ≡ Some x
+find_here q xs i x lt is some = ap (find q) (from_here xs i x lt is) ∙ cond-true _ _ _ some
+
+pub find_all : {X : Type 0} (q : X → Bool) (xs : List X) (i : ℕ) → length xs ≤ i → find q (drop i xs) ≡ None
+find_all q xs i le = at_drop_all (find q) xs i le

@@ -7,7 +7,7 @@ use Rattle.geo_laws.specs.Complex.{Complex, Polygon}
 use Rattle.geo_laws.specs.declared.complex.Facet.{Facet}
 use Rattle.geo_laws.specs.declared.complex.Piece.{Piece}
 use Rattle.node_files.specs.declared.limits.Limits.{Limits}
-use Rattle.run_steps.specs.Meshing.{BoundAnswer}
+use Rattle.tetfit_run.specs.Measured.{BoundTried}
 use Rattle.run_steps.specs.Numbering.{numbering_of}
 use Rattle.run_steps.specs.declared.input.Input.{Input}
 use Rattle.run_steps.specs.declared.mesh.Bound.{Bound}
@@ -66,7 +66,7 @@ pub not_carved_told : (bound : Bound) (test : Bool) (r : Result (List ℕ) NoMem
 not_carved_told bound test r e f told = subst (λ b. IfOk r (TellsOpeningIf b bound)) (sym f ∙ e) told
 
 -- of an input on its grid
-pub opening_told : (limits : Limits) (options tried : Options) (input : Input) (bound : Bound) (r : Result (List ℕ) NoMemory) → tried ≡ options → BoundAnswer limits tried input (Ok bound)
+pub opening_told : (limits : Limits) (options tried : Options) (input : Input) (bound : Bound) (r : Result (List ℕ) NoMemory) → tried ≡ options → BoundTried limits tried input (Ok bound)
     → IfOk r (TellsOpeningIn bound) → IfOk r (TellsOpening limits options input)
-opening_told limits options tried input bound (Ok line) t h told = (bound, subst (λ q. BoundAnswer limits q input (Ok bound)) t h, told)
+opening_told limits options tried input bound (Ok line) t h told = (bound, subst (λ q. BoundTried limits q input (Ok bound)) t h, told)
 opening_told limits options tried input bound (Err e) t h told = told

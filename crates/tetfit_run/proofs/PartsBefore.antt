@@ -5,7 +5,7 @@ use Rattle.std.proofs.lemmas.Bool.{true≢false}
 use Rattle.command_words.specs.declared.options.Options.{Options}
 use Rattle.geo_laws.specs.declared.complex.Piece.{Piece}
 use Rattle.node_files.specs.declared.limits.Limits.{Limits}
-use Rattle.run_steps.specs.Meshing.{BoundAnswer}
+use Rattle.tetfit_run.specs.Measured.{BoundTried}
 use Rattle.run_steps.specs.declared.mesh.Bound.{Bound}
 use Rattle.run_steps.specs.declared.numbering.Numbering.{Numbering}
 use Rattle.tet_ports.specs.declared.NoMemory.{NoMemory}
@@ -33,7 +33,7 @@ part_whole limits options input count left p e = subst (λ k. IsHalvedPartOf lim
 
 -- the line of a segment
 pub line_told : (limits : Limits) (options : Options) (input : Input) (by : Numbering) (whole : Piece) (bound : Bound) (r : Result (List ℕ) NoMemory)
-    → BoundAnswer limits options input (Ok bound) → IfOk r (λ line. line ≡ segment_line by whole (first_facet bound.complex whole)) → IfOk r (IsLineOf limits options input by whole)
+    → BoundTried limits options input (Ok bound) → IfOk r (λ line. line ≡ segment_line by whole (first_facet bound.complex whole)) → IfOk r (IsLineOf limits options input by whole)
 line_told limits options input by whole bound (Ok line) h is = record { bound = bound; on_grid = h; is = is }
 line_told limits options input by whole bound (Err e) h is = is
 

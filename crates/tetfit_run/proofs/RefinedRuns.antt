@@ -10,6 +10,7 @@ use Rattle.geo_laws.specs.Segment.{pieces}
 use Rattle.path_laws.specs.Flood.{carving_of}
 use Rattle.refining.specs.Refined.{IsMeshWith, options_with}
 use Rattle.refining.specs.Outputs.{RefinedMeshed}
+use Rattle.refining.specs.declared.goal.Goal.{Goal}
 use Rattle.run_steps.proofs.Determined.{outputs_same}
 use Rattle.run_steps.specs.declared.mesh.Bound.{Bound}
 use Rattle.run_steps.specs.declared.meshed.Meshed.{Meshed}
@@ -18,7 +19,6 @@ use Rattle.tetgen_run.specs.Run.{IsDetermined}
 use Rattle.run_steps.specs.declared.input.Input.{Input}
 use Rattle.run_steps.specs.declared.outputs.Outputs.{Outputs}
 use Rattle.node_files.specs.declared.limits.Limits.{Limits}
-use Rattle.tet_text.specs.Decimals.{Scaled}
 use Rattle.tetfit_run.specs.Refined.{IsRefinedMeshBy}
 
 -- no point of the table is taken away
@@ -30,9 +30,9 @@ begins_with options bound more halvings made h =
     omega (arith, low, length-append bound.table.points more)
 
 -- the outputs of a refined input are those of one mesh
-pub refined_mesh_by : (volume : Scaled) (limits : Limits) (options : Options) (Understood : Type 0) (Read : Input → Type 0) (input : Input) (outputs : Outputs) → Understood → Read input
-    → RefinedMeshed volume limits options input (Ok outputs) → IsRefinedMeshBy volume limits options Understood Read outputs
-refined_mesh_by volume limits options Understood Read input outputs understood read h =
+pub refined_mesh_by : (goal : Goal) (limits : Limits) (options : Options) (Understood : Type 0) (Read : Input → Type 0) (input : Input) (outputs : Outputs) → Understood → Read input
+    → RefinedMeshed goal limits options input (Ok outputs) → IsRefinedMeshBy goal limits options Understood Read outputs
+refined_mesh_by goal limits options Understood Read input outputs understood read h =
     let bound = h.0 in
     let refined = h.2.2 in
     let mesh = refined.2 in
@@ -54,7 +54,7 @@ refined_mesh_by volume limits options Understood Read input outputs understood r
       written = refined.4.0;
       outputs_are = refined.4.1;
       only = λ other on. outputs_same options mesh other refined.4.0 on refined.4.1;
-      over = refined.4.2;
+      counts = refined.4.2;
       determined = subst (IsDetermined options) (sym is)
           (complex_determined_on (options_with refined.1 options) (bound.table.points ++ refined.0) options bound made h.1.0.folded (begins_with options bound refined.0 refined.1 made with_them) with_them.mesh);
     }

@@ -1,11 +1,14 @@
 -- A refusal by the grid at one number of decimals, and at those behind it.
-use Rattle.std.proofs.Common.{◌≡◌, ℕ, ◌<◌, ◌≤◌, true, length, Option, Some, None, Result, Ok, Err, refl, subst, arith, inl, inr}
+use Rattle.std.proofs.Common.{◌≡◌, ℕ, ◌<◌, ◌≤◌, true, List, [], ◌∷◌, length, map, sym, ap, ◌∙◌, Option, Some, None, Result, Ok, Err, refl, subst, arith, inl, inr}
 use Rattle.std.specs.Prelude.{◌⊎◌, IfErr}
 use Rattle.std.proofs.lemmas.Bool.{cases_lt}
 use Rattle.command_words.specs.declared.options.Options.{Options}
+use Rattle.grid_coords.specs.Choice.{grid_of}
+use Rattle.grid_coords.specs.declared.origin.WholePoint.{WholePoint}
+use Rattle.grid_coords.specs.declared.points.DecimalPoint.{DecimalPoint}
 use Rattle.node_files.specs.declared.limits.Limits.{Limits}
-use Rattle.node_files.specs.Settling.{IsOffGrid}
-use Rattle.run_steps.specs.Meshing.{grid_options, IsSmall, IsUnbound, BoundAnswer, MeshedAnswer}
+use Rattle.node_files.specs.Settling.{measured_from, rounded_point, IsOffGrid}
+use Rattle.run_steps.specs.Meshing.{grid_options, IsSmall, IsUnbound, MeshedAnswer}
 use Rattle.run_steps.specs.Numbering.{numbering_of}
 use Rattle.run_steps.specs.declared.input.Input.{Input}
 use Rattle.run_steps.specs.declared.mesh.Bound.{Bound}
@@ -14,7 +17,9 @@ use Rattle.run_steps.specs.declared.outputs.Outputs.{Outputs}
 use Rattle.run_steps.specs.declared.status.LimitKind.TheVariants.{Grid}
 use Rattle.run_steps.specs.declared.status.Status.{Status}
 use Rattle.run_steps.specs.declared.status.Status.TheVariants.{Limit, GridEnd}
-use Rattle.tetfit_run.specs.Grids.{IsOffRounded, AreOffBetween}
+use Rattle.tetfit_run.specs.Grids.{point_at, IsOffRounded, AreOffBetween}
+use Rattle.tetfit_run.specs.Measured.{points_by, tried, BoundTried}
+use Rattle.tetfit_run.proofs.Measured.{points_long}
 use Rattle.tetfit_run.specs.Trying.{answer_in, at_decimals, is_of_grid, AnswerAt, IsNumbered, IsRefusedByGrid, MadeAnswer}
 use Rattle.tetfit_run.specs.declared.trying.Unfitted.{Unfitted}
 
@@ -34,11 +39,30 @@ module _ (limits : Limits) (options : Options) (input : Input) where
   within_limits status e (inl h) = unbound_within status e h
   within_limits status e (inr h) = record { few = h.1.0.on.few; small = h.1.1.small }
 
+-- where the tried input is over no limit, the input is over none
+tried_within : (limits : Limits) (options : Options) (input : Input) → IsWithinLimits limits (tried options input) → IsWithinLimits limits input
+tried_within limits options input within = record {
+  few = subst (λ (n : ℕ). n ≤ limits.points) (points_long options.origin options.decimals input.nodes.decimals) within.few;
+  small = within.small;
+}
+
+rounded_twice : (w : WholePoint) (m : ℕ) (ps : List DecimalPoint) → map (rounded_point m) (map (measured_from w m) ps) ≡ map (point_at (Some w) m) ps
+rounded_twice w m [] = refl
+rounded_twice w m (p ∷ ps) = ap (λ (qs : List DecimalPoint). rounded_point m (measured_from w m p) ∷ qs) (rounded_twice w m ps)
+
+-- the points as they are tried, rounded once more
+points_rounded : (o : Option WholePoint) (m : ℕ) (ps : List DecimalPoint) → map (rounded_point m) (points_by o (Some m) ps) ≡ map (point_at o m) ps
+points_rounded None m ps = refl
+points_rounded (Some w) m ps = rounded_twice w m ps
+
 -- where a point is off the grid, the grid refuses
-off_refused : (limits : Limits) (options : Options) (input : Input) (m : ℕ) → IsWithinLimits limits input → IsOffRounded limits.grid input.nodes.decimals m
+off_refused : (limits : Limits) (options : Options) (input : Input) (m : ℕ) → IsWithinLimits limits input → IsOffRounded limits.grid options.origin input.nodes.decimals m
     → IsRefusedByGrid limits options input m
 off_refused limits options input m within off =
-    let off_grid : IsOffGrid limits input.nodes (grid_options (at_decimals m options)) off.line = record { few = within.few; off = off.off options.halvings } in
+    let at = tried (at_decimals m options) input in
+    let few : length at.nodes.decimals ≤ limits.points = subst (λ (n : ℕ). n ≤ limits.points) (sym (points_long options.origin (Some m) input.nodes.decimals)) within.few in
+    let off_grid : IsOffGrid limits at.nodes (grid_options (at_decimals m options)) off.line =
+    record { few = few; off = ap (grid_of limits.grid options.halvings) (points_rounded options.origin m input.nodes.decimals) ∙ off.off options.halvings } in
     record { status = Limit (Grid off.line); of_grid = refl; answer = inl (within.small, off_grid) }
 
 -- each of the numbers of decimals is below this one, is it, or is above it
@@ -52,23 +76,23 @@ by_order P m n below here above = at (cases_lt n m) (cases_lt m n)
 
 -- after a refusal at m the numbers of decimals behind the next one are refused
 pub refused_behind : (limits : Limits) (options : Options) (input : Input) (most m next : ℕ) (status : Status) → is_of_grid status ≡ true
-    → AnswerAt limits options input m (Err status) → AreOffBetween limits.grid input.nodes.decimals next m
+    → AnswerAt limits options input m (Err status) → AreOffBetween limits.grid options.origin input.nodes.decimals next m
     → ((n : ℕ) → m < n → n ≤ most → IsRefusedByGrid limits options input n)
     → (n : ℕ) → next < n → n ≤ most → IsRefusedByGrid limits options input n
 refused_behind limits options input most m next status e refused off finer n less le =
-    let within = within_limits limits (at_decimals m options) input status e refused in
+    let within = tried_within limits (at_decimals m options) input (within_limits limits (at_decimals m options) (tried (at_decimals m options) input) status e refused) in
     let here : IsRefusedByGrid limits options input m = record { status = status; of_grid = e; answer = refused } in
     by_order (IsRefusedByGrid limits options input) m n (λ lt. off_refused limits options input n within (off n less lt)) here (λ lt. finer n lt le)
 
 -- the numbers of the points of a refused try
 numbered : (limits : Limits) (options : Options) (input : Input) (bound : Bound) (status : Status) (by : Option Numbering) (numbers : Numbering)
-    → BoundAnswer limits options input (Ok bound) → MadeAnswer options bound (Err status) → by ≡ Some numbers → numbers ≡ numbering_of bound.table
+    → BoundTried limits options input (Ok bound) → MadeAnswer options bound (Err status) → by ≡ Some numbers → numbers ≡ numbering_of bound.table
     → IsNumbered limits options input status by
 numbered limits options input bound status None numbers b made told is = absurd (cc)
 numbered limits options input bound status (Some by) numbers b made told is = (bound, b, made, cc)
 
 pub numbered_in : (limits : Limits) (options : Options) (input : Input) (bound : Bound) (r : Result Outputs Unfitted) (numbers : Numbering)
-    → BoundAnswer limits options input (Ok bound) → MadeAnswer options bound (answer_in r) → IfErr r (λ end. end.numbering ≡ Some numbers)
+    → BoundTried limits options input (Ok bound) → MadeAnswer options bound (answer_in r) → IfErr r (λ end. end.numbering ≡ Some numbers)
     → numbers ≡ numbering_of bound.table → IfErr r (λ end. IsNumbered limits options input end.status end.numbering)
 numbered_in limits options input bound (Ok outputs) numbers b made told is = tt
 numbered_in limits options input bound (Err end) numbers b made told is = numbered limits options input bound end.status end.numbering numbers b made told is

@@ -11,9 +11,9 @@ use Rattle.geo_laws.specs.declared.complex.Facet.{Facet}
 use Rattle.geo_laws.specs.declared.complex.Piece.{Piece}
 use Rattle.grid_coords.specs.Choice.{is_over}
 use Rattle.grid_coords.specs.declared.points.DecimalPoint.{DecimalPoint}
-use Rattle.node_files.specs.Settling.{rounded_point}
+use Rattle.grid_coords.specs.declared.origin.WholePoint.{WholePoint}
+use Rattle.tetfit_run.specs.Grids.{point_at}
 use Rattle.node_files.specs.declared.limits.Limits.{Limits}
-use Rattle.run_steps.specs.Meshing.{BoundAnswer, MeshedAnswer}
 use Rattle.run_steps.specs.declared.input.Input.{Input}
 use Rattle.run_steps.specs.declared.mesh.Bound.{Bound}
 use Rattle.run_steps.specs.declared.numbering.Numbering.{Numbering}
@@ -21,6 +21,7 @@ use Rattle.run_steps.specs.declared.status.LimitKind.TheVariants.{Grid}
 use Rattle.run_steps.specs.declared.status.Status.{Status}
 use Rattle.run_steps.specs.declared.status.Status.TheVariants.{Limit, SegmentsCross, Crossing, GridEnd, BudgetEnd}
 use Rattle.tet_text.specs.Printing.{decimal_text}
+use Rattle.tetfit_run.specs.Measured.{BoundTried, MeshedTried}
 use Rattle.tetfit_run.specs.declared.model.Stated.{Stated}
 use Rattle.tetfit_run.specs.declared.model.Stated.TheVariants.{Lines, Facets}
 
@@ -64,7 +65,7 @@ missing_in status = None
 -- once `added` points are added the subsegment p is missing, so that the next point is added to halve it
 pub record IsHalvedAfter (limits : Limits) (options : Options) (input : Input) (added : ℕ) (p : Piece) : Type 0 where
   pub status : Status
-  pub answer : MeshedAnswer limits (with_budget added options) input (Err status)
+  pub answer : MeshedTried limits (with_budget added options) input (Err status)
   pub missing : missing_in status ≡ Some p
 
 -- A subsegment that was halved *n* times, of a model with a number of points, is a part of the whole: its later end was
@@ -105,7 +106,7 @@ segment_line by p facet =
 -- the line names the segment `whole`
 pub record IsLineOf (limits : Limits) (options : Options) (input : Input) (by : Numbering) (whole : Piece) (line : List ℕ) : Type 0 where
   pub bound : Bound
-  pub on_grid : BoundAnswer limits options input (Ok bound)
+  pub on_grid : BoundTried limits options input (Ok bound)
   pub is : line ≡ segment_line by whole (first_facet bound.complex whole)
 
 -- the line names the segment of which the subsegment is a part
@@ -160,19 +161,19 @@ point_line stated p = has_text stated p.line ++ at_line p
 abbrev pub off_grid_lines : Stated → DecimalPoint → List ℕ
 off_grid_lines stated p = refusal_line stated p.line ++ point_line stated p
 
--- the point has a coordinate over `wide` units where coordinates are rounded to whole numbers
-abbrev pub is_off_whole : ℕ → DecimalPoint → Bool
-is_off_whole wide p = is_over wide 0 (rounded_point 0 p)
+-- the point has a coordinate over `wide` units from the origin where coordinates are rounded to whole numbers
+abbrev pub is_off_whole : ℕ → Option WholePoint → DecimalPoint → Bool
+is_off_whole wide origin p = is_over wide 0 (point_at origin 0 p)
 
 -- the text on the first point that is off the grid
-abbrev pub off_grid_text : ℕ → Stated → List DecimalPoint → List ℕ
-off_grid_text wide stated points = option_map_or (off_grid_lines stated) (find (is_off_whole wide) points) []
+abbrev pub off_grid_text : ℕ → Option WholePoint → Stated → List DecimalPoint → List ℕ
+off_grid_text wide origin stated points = option_map_or (off_grid_lines stated) (find (is_off_whole wide origin) points) []
 
 -- the text on an input that is on no grid
-abbrev pub grid_hint : Limits → Stated → Input → Status → List ℕ
-grid_hint limits stated input (Limit (Grid line)) = off_grid_text limits.grid stated input.nodes.decimals
-grid_hint limits stated input status = []
+abbrev pub grid_hint : Limits → Option WholePoint → Stated → Input → Status → List ℕ
+grid_hint limits origin stated input (Limit (Grid line)) = off_grid_text limits.grid origin stated input.nodes.decimals
+grid_hint limits origin stated input status = []
 
 abbrev pub IsHint : Limits → Stated → Options → Input → Option Numbering → Status → List ℕ → Type 0
-IsHint limits stated options input None status lines = lines ≡ grid_hint limits stated input status
+IsHint limits stated options input None status lines = lines ≡ grid_hint limits options.origin stated input status
 IsHint limits stated options input (Some by) status lines = IsHintBy limits options input by status lines

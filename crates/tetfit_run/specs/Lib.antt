@@ -12,3 +12,4 @@ pub mod Models
 pub mod Opening
 pub mod Trial
 pub mod Trying
+pub mod Measured

@@ -14,7 +14,7 @@ renamed_program line = codes "tetfit: " ++ drop 8 line
 
 -- what would help where a limit is passed
 abbrev pub help_of_limit : LimitKind → List ℕ
-help_of_limit (Grid line) = codes "tetfit: no coordinate may be over 536870912 in size: scale the model down\n"
+help_of_limit (Grid line) = codes "tetfit: no coordinate may be over 536870912 from the middle: scale the model down\n"
 help_of_limit (Corners line count most) = codes "tetfit: cut the facet in parts\n"
 help_of_limit what = codes "tetfit: cut the model in parts\n"
 

@@ -15,6 +15,7 @@ use Rattle.run_steps.specs.declared.status.Status.{Status}
 use Rattle.soup_files.specs.BinaryStl.{is_binary_stl, binary_stl_of}
 use Rattle.tet_ports.specs.Files.{Holds}
 use Rattle.tet_text.specs.declared.fault.TextFault.{TextFault}
+use Rattle.tetfit_run.specs.Measured.{MovedAnswer}
 use Rattle.tetfit_run.specs.declared.model.Model.{Model}
 use Rattle.tetfit_run.specs.declared.model.Stated.{Stated}
 use Rattle.tetfit_run.specs.declared.model.Stated.TheVariants.{Lines, Facets}
@@ -42,14 +43,23 @@ abbrev pub StlInputAnswer : Limits → FolderSeen → List ℕ → Result Input 
 StlInputAnswer limits seen base =
     AndThen (StlAnswer limits seen base) (λ file. AndThen (NodesAnswer limits seen base file.text.nodes) (BoundedAnswer file))
 
--- by whether an `.stl` file is named
+-- what is read, by whether an `.stl` file is named
 abbrev pub ModelBy : Bool → Limits → FolderSeen → Options → Result Input Status → Type 0
 ModelBy true limits seen options = StlInputAnswer limits seen options.base
 ModelBy false limits seen options = InputAnswer limits seen options
 
--- the model that the options name
+-- what is read of the model that the options name
+abbrev pub ReadAnswer : Limits → FolderSeen → Options → Result Input Status → Type 0
+ReadAnswer limits seen options = ModelBy (names_stl options) limits seen options
+
+-- the model that the options name, with its hole points and region points measured from its origin
 abbrev pub ModelAnswer : Limits → FolderSeen → Options → Result Input Status → Type 0
-ModelAnswer limits seen options = ModelBy (names_stl options) limits seen options
+ModelAnswer limits seen options = AndThen (ReadAnswer limits seen options) MovedAnswer
+
+-- the model that is made of what was read
+abbrev pub MovedFrom : Result Input Status → Result Input Status → Type 0
+MovedFrom (Ok input) moved = MovedAnswer input moved
+MovedFrom (Err status) moved = moved ≡ Err status
 
 -- the input of a model that is read
 abbrev pub input_in : Result Model Status → Result Input Status

@@ -5,12 +5,12 @@ use Rattle.command_words.specs.declared.options.Options.{Options}
 use Rattle.geo_laws.specs.Complex.{Complex}
 use Rattle.geo_laws.specs.declared.complex.Piece.{Piece}
 use Rattle.node_files.specs.declared.limits.Limits.{Limits}
-use Rattle.run_steps.specs.Meshing.{BoundAnswer}
 use Rattle.run_steps.specs.Numbering.{numbering_of}
 use Rattle.run_steps.specs.declared.input.Input.{Input}
 use Rattle.run_steps.specs.declared.mesh.Bound.{Bound}
 use Rattle.run_steps.specs.declared.numbering.Numbering.{Numbering}
 use Rattle.tetfit_run.specs.Hints.{number_text}
+use Rattle.tetfit_run.specs.Measured.{BoundTried}
 
 -- the two points are the ends of the piece
 abbrev pub are_ends : Piece → ℕ → ℕ → Bool
@@ -67,4 +67,4 @@ TellsOpeningIn bound line = TellsOpeningIf (not (length bound.complex.holes == 0
 
 -- the line on an input: that of its complex on the grid
 abbrev pub TellsOpening : Limits → Options → Input → List ℕ → Type 0
-TellsOpening limits options input line = (bound : Bound) × BoundAnswer limits options input (Ok bound) × TellsOpeningIn bound line
+TellsOpening limits options input line = (bound : Bound) × BoundTried limits options input (Ok bound) × TellsOpeningIn bound line

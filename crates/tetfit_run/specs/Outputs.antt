@@ -2,11 +2,12 @@
 use Rattle.std.specs.Prelude.{◌≡◌, ◌≤◌, ℕ, ◌==◌, Bool, true, false, List, [], Option, Some, None, Result, Ok, Err}
 use Rattle.std.specs.Option.{option_map}
 use Rattle.command_words.specs.declared.options.Options.{Options}
+use Rattle.tetfit_run.specs.Measured.{tried, with_origin}
 use Rattle.tetfit_run.specs.Models.{ModelAnswer}
 use Rattle.tetfit_run.specs.Opening.{TellsOpening}
 use Rattle.tetfit_run.specs.Trying.{IsFitted, at_decimals}
 use Rattle.refining.specs.Outputs.{RefinedMeshed}
-use Rattle.tet_text.specs.Decimals.{Scaled}
+use Rattle.refining.specs.declared.goal.Goal.{Goal}
 use Rattle.tetfit_run.specs.Words.{fit_fault, fit_wanted, others, request_of}
 use Rattle.tetfit_run.specs.declared.page.TheConstants.{PAGE, VERSION}
 use Rattle.tetfit_run.specs.declared.request.Request.{Request}
@@ -65,23 +66,28 @@ abbrev pub IsMore : Options → Input → ℕ → Outputs → List ℕ → Type 
 IsMore options input m made more = IsMoreBy (tells_none made.report) options input m more
 
 -- The outputs in the end, with coordinates rounded to n decimals: those of the mesh that is fitted, at m decimals; or,
--- where a volume is given, those of a mesh with points behind those of the model, at so many or fewer
-abbrev pub IsFinalBy : Option Scaled → Options → Input → ℕ → Outputs → ℕ → Outputs → Type 0
+-- where tetrahedra are bounded, those of a mesh with points behind those of the model, at so many or fewer
+abbrev pub IsFinalBy : Option Goal → Options → Input → ℕ → Outputs → ℕ → Outputs → Type 0
 IsFinalBy None options input m made n final = (n ≡ m) × (final ≡ made)
-IsFinalBy (Some volume) options input m made n final =
-    (n ≤ m) × RefinedMeshed volume fit_limits (at_decimals n options) input (Ok final)
+IsFinalBy (Some goal) options input m made n final =
+    (n ≤ m) × RefinedMeshed goal fit_limits (at_decimals n options) (tried (at_decimals n options) input) (Ok final)
 
 -- the outputs of an input, or its refusal, at as many decimals as the grid does not refuse
 abbrev pub IsFittedTo : Wanted → Input → Result Outputs Status → Type 0
 IsFittedTo wanted input (Ok outputs) =
     (decimals : ℕ) × (made : Outputs) × IsFitted fit_limits wanted.options input decimals (Ok made)
-    × (n : ℕ) × (final : Outputs) × IsFinalBy wanted.volume wanted.options input decimals made n final
+    × (n : ℕ) × (final : Outputs) × IsFinalBy wanted.goal wanted.options input decimals made n final
     × (more : List ℕ) × IsMore wanted.options input n final more × (outputs ≡ outputs_at n more final)
 IsFittedTo wanted input (Err status) = (decimals : ℕ) × IsFitted fit_limits wanted.options input decimals (Err status)
 
+-- what is wanted, with coordinates measured from the origin of the model
+abbrev pub wanted_from : Input → Wanted → Wanted
+wanted_from input wanted = record wanted { options = with_origin input wanted.options }
+
 -- the model that the options name is read, and the outputs of its mesh are made
 abbrev pub OutputsOfWanted : Wanted → FolderSeen → Result Outputs Status → Type 0
-OutputsOfWanted wanted folder = AndThen (ModelAnswer fit_limits folder wanted.options) (IsFittedTo wanted)
+OutputsOfWanted wanted folder =
+    AndThen (ModelAnswer fit_limits folder wanted.options) (λ input. IsFittedTo (wanted_from input wanted) input)
 
 -- the words are read, and then the outputs of the model that they name are made: each refusal is one of the first step that refuses
 abbrev pub OutputsOfModel : List (List ℕ) → FolderSeen → Result Outputs Status → Type 0

@@ -2,18 +2,19 @@
 use Rattle.std.specs.Prelude.{◌≡◌, ◌≢◌, ◌≤◌, ℕ, IsTrue, List, Option, Some, None, Ok, Err}
 use Rattle.command_words.specs.declared.options.Options.{Options}
 use Rattle.tetfit_run.specs.Hints.{IsHint, IsHintBy, off_grid_text}
+use Rattle.tetfit_run.specs.Measured.{BoundTried, origin_in, tried, with_origin}
+use Rattle.grid_coords.specs.declared.origin.WholePoint.{WholePoint}
 use Rattle.tetfit_run.specs.Models.{IsStatedBy, ModelAnswer}
 use Rattle.tetfit_run.specs.Trying.{IsFitted, IsNumbered, at_decimals}
 use Rattle.tetfit_run.specs.Stages.{AreStagesPut, since, until}
-use Rattle.tet_text.specs.Decimals.{Scaled}
+use Rattle.refining.specs.declared.goal.Goal.{Goal}
 use Rattle.tetfit_run.specs.Refined.{IsRefinedMeshBy}
-use Rattle.tetfit_run.specs.Words.{fit_fault, fit_options, fit_volume, others, request_of}
+use Rattle.tetfit_run.specs.Words.{fit_fault, fit_goal, fit_options, others, request_of}
 use Rattle.tetfit_run.specs.declared.model.Model.{Model}
 use Rattle.tetfit_run.specs.declared.model.Stated.{Stated}
 use Rattle.tetfit_run.specs.declared.page.TheConstants.{PAGE, VERSION}
 use Rattle.tetfit_run.specs.declared.request.Request.{Request}
 use Rattle.tetfit_run.specs.declared.request.Request.TheVariants.{Page, Version, Mesh}
-use Rattle.run_steps.specs.Meshing.{BoundAnswer}
 use Rattle.run_steps.specs.Numbering.{numbering_of}
 use Rattle.tet_ports.specs.Seen.{FolderSeen, SinkSeen, SinkState}
 use Rattle.run_steps.specs.Steps.{forced_answer}
@@ -46,29 +47,39 @@ IsFitComplete words folder out status =
 
 -- ---- what is left
 
+-- the input is the model that the words name as it is tried with options, which have its origin
+abbrev pub IsTriedOf : Options → List (List ℕ) → FolderSeen → Input → Input → Type 0
+IsTriedOf options words folder input at =
+    ModelAnswer fit_limits folder (fit_options words) (Ok input) × (options.origin ≡ origin_in input) × (at ≡ tried options input)
+
+-- the options of words, with coordinates measured from an origin
+abbrev pub options_from : Option WholePoint → List (List ℕ) → Options
+options_from origin words = record (fit_options words) { origin = origin }
+
 -- The outputs in the end, with coordinates rounded to n decimals: those of the mesh that is fitted, at m decimals, or,
--- where a volume is given, those of one mesh of the model with points behind its own, at so many or fewer
-abbrev pub IsFinalMesh : Option Scaled → List (List ℕ) → FolderSeen → ℕ → Outputs → ℕ → Outputs → Type 0
-IsFinalMesh None words folder m made n final = (n ≡ m) × (final ≡ made)
-IsFinalMesh (Some volume) words folder m made n final = (n ≤ m)
-    × IsRefinedMeshBy volume fit_limits (at_decimals n (fit_options words)) (fit_fault words ≡ None)
-    (λ input. ModelAnswer fit_limits folder (fit_options words) (Ok input)) final
+-- where tetrahedra are bounded, those of one mesh of the model with points behind its own, at so many or fewer
+abbrev pub IsFinalMesh : Option Goal → Options → List (List ℕ) → FolderSeen → ℕ → Outputs → ℕ → Outputs → Type 0
+IsFinalMesh None options words folder m made n final = (n ≡ m) × (final ≡ made)
+IsFinalMesh (Some goal) options words folder m made n final = (n ≤ m)
+    × IsRefinedMeshBy goal fit_limits (at_decimals n options) (fit_fault words ≡ None)
+    (λ at. (input : Input) × IsTriedOf (at_decimals n options) words folder input at) final
 
 -- The outputs are those of one mesh of the model that the words name, at a number of decimals that their summary has:
--- at each greater number of decimals, up to the first one that is tried, the grid refuses the model. Where a volume is
--- given, the mesh has points behind those of the model, perhaps at fewer decimals, and the summary has the number of
--- tetrahedra over the volume. Where the mesh has no tetrahedron the summary says where the surface is open
+-- at each greater number of decimals, up to the first one that is tried, the grid refuses the model. Where a volume or a
+-- ratio is given, the mesh has points behind those of the model, perhaps at fewer decimals, and the summary has the
+-- number of tetrahedra over each. Where the mesh has no tetrahedron the summary says where the surface is open
 pub record IsMeshOfModel (words : List (List ℕ)) (folder : FolderSeen) (outputs : Outputs) : Type 0 where
+  pub origin : Option WholePoint
   pub decimals : ℕ
   pub made : Outputs
   pub final_decimals : ℕ
   pub final : Outputs
   pub more : List ℕ
-  pub mesh : IsMeshBy fit_limits (at_decimals decimals (fit_options words)) (fit_fault words ≡ None)
-      (λ input. ModelAnswer fit_limits folder (fit_options words) (Ok input)
-      × IsFitted fit_limits (fit_options words) input decimals (Ok made)
-      × IsMore (fit_options words) input final_decimals final more) made
-  pub refined : IsFinalMesh (fit_volume words) words folder decimals made final_decimals final
+  pub mesh : IsMeshBy fit_limits (at_decimals decimals (options_from origin words)) (fit_fault words ≡ None)
+      (λ at. (input : Input) × IsTriedOf (at_decimals decimals (options_from origin words)) words folder input at
+      × IsFitted fit_limits (options_from origin words) input decimals (Ok made)
+      × IsMore (options_from origin words) input final_decimals final more) made
+  pub refined : IsFinalMesh (fit_goal words) (options_from origin words) words folder decimals made final_decimals final
   pub outputs_are : outputs ≡ outputs_at final_decimals more final
 
 -- what the outputs of a request are
@@ -98,10 +109,10 @@ abbrev pub IsNumberingOf : Options → FolderSeen → List ℕ → Status → Op
 IsNumberingOf options folder hint status by =
     IsTrue (names_points status)
     → (input : Input) × ModelAnswer fit_limits folder options (Ok input)
-    × (m : ℕ) × IsFitted fit_limits options input m (Err status)
-    × (bound : Bound) × BoundAnswer fit_limits (at_decimals m options) input (Ok bound)
+    × (m : ℕ) × IsFitted fit_limits (with_origin input options) input m (Err status)
+    × (bound : Bound) × BoundTried fit_limits (at_decimals m (with_origin input options)) input (Ok bound)
     × (by ≡ Some (numbering_of bound.table))
-    × IsHintBy fit_limits (at_decimals m options) input (numbering_of bound.table) status hint
+    × IsHintBy fit_limits (at_decimals m (with_origin input options)) input (numbering_of bound.table) status hint
 
 abbrev pub IsFitNumbering : List (List ℕ) → FolderSeen → List ℕ → Status → Option Numbering → Type 0
 IsFitNumbering words = IsNumberingOf (fit_options words)
@@ -111,7 +122,8 @@ IsFitNumbering words = IsNumberingOf (fit_options words)
 abbrev pub TellsOffGrid : Options → FolderSeen → List ℕ → Status → Type 0
 TellsOffGrid options folder hint (Limit (Grid line)) =
     (input : Input) × ModelAnswer fit_limits folder options (Ok input)
-    × (stated : Stated) × IsStatedBy folder options stated × (hint ≡ off_grid_text fit_limits.grid stated input.nodes.decimals)
+    × (stated : Stated) × IsStatedBy folder options stated
+    × (hint ≡ off_grid_text fit_limits.grid (origin_in input) stated input.nodes.decimals)
 TellsOffGrid options folder hint status = Unit {0}
 
 -- both

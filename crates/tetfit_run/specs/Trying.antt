@@ -1,9 +1,9 @@
 -- The decimals at which an input is tried, from the most that it has downward.
-use Rattle.std.specs.Prelude.{◌≡◌, ◌≤◌, ◌<◌, ℕ, min, Bool, true, false, Option, Some, None, Result, Ok, Err, IfErr}
+use Rattle.std.specs.Prelude.{◌≡◌, ◌≤◌, ◌<◌, ℕ, Bool, true, false, Option, Some, None, Result, Ok, Err, IfErr}
 use Rattle.command_words.specs.declared.options.Options.{Options}
-use Rattle.grid_coords.specs.Choice.{most_decimals}
+use Rattle.command_words.specs.Meaning.{AreInRange}
 use Rattle.node_files.specs.declared.limits.Limits.{Limits}
-use Rattle.run_steps.specs.Meshing.{BoundAnswer, MeshAnswer, OutputsAnswer, MeshedAnswer}
+use Rattle.run_steps.specs.Meshing.{MeshAnswer, OutputsAnswer}
 use Rattle.run_steps.specs.Numbering.{numbering_of}
 use Rattle.run_steps.specs.Steps.{AndThen}
 use Rattle.run_steps.specs.declared.input.Input.{Input}
@@ -13,6 +13,7 @@ use Rattle.run_steps.specs.declared.outputs.Outputs.{Outputs}
 use Rattle.run_steps.specs.declared.status.LimitKind.TheVariants.{Grid}
 use Rattle.run_steps.specs.declared.status.Status.{Status}
 use Rattle.run_steps.specs.declared.status.Status.TheVariants.{Limit, GridEnd}
+use Rattle.tetfit_run.specs.Measured.{BoundTried, MeshedTried, most_tried}
 use Rattle.tetfit_run.specs.declared.fitting.Refused.{Refused}
 use Rattle.tetfit_run.specs.declared.trying.Unfitted.{Unfitted}
 
@@ -20,9 +21,9 @@ use Rattle.tetfit_run.specs.declared.trying.Unfitted.{Unfitted}
 abbrev pub at_decimals : ℕ → Options → Options
 at_decimals m options = record options { decimals = Some m }
 
--- the first number of decimals that is tried: the most that a coordinate has, and 20 where one has more
-abbrev pub most_tried : Input → ℕ
-most_tried input = min 20 (most_decimals input.nodes.decimals)
+-- with each number of decimals that is tried the options are in their ranges
+abbrev pub AreTriable : Options → Input → Type 0
+AreTriable options input = (m : ℕ) → m ≤ most_tried input → AreInRange (at_decimals m options)
 
 -- the refusal is one of the grid: a point is off the grid, or a subsegment has no midpoint on it
 abbrev pub is_of_grid : Status → Bool
@@ -32,7 +33,7 @@ is_of_grid status = false
 
 -- the answer of the run without stores at m decimals
 abbrev pub AnswerAt : Limits → Options → Input → ℕ → Result Outputs Status → Type 0
-AnswerAt limits options input m = MeshedAnswer limits (at_decimals m options) input
+AnswerAt limits options input m = MeshedTried limits (at_decimals m options) input
 
 -- at m decimals the grid refuses
 pub record IsRefusedByGrid (limits : Limits) (options : Options) (input : Input) (m : ℕ) : Type 0 where
@@ -54,9 +55,9 @@ MadeAnswer options bound = AndThen (MeshAnswer options bound) (OutputsAnswer opt
 -- the numbering of the points of a refused trial: none where the input is on no grid, else that of the points on the
 -- grid
 abbrev pub IsNumbered : Limits → Options → Input → Status → Option Numbering → Type 0
-IsNumbered limits options input status None = BoundAnswer limits options input (Err status)
+IsNumbered limits options input status None = BoundTried limits options input (Err status)
 IsNumbered limits options input status (Some by) =
-    (bound : Bound) × BoundAnswer limits options input (Ok bound) × MadeAnswer options bound (Err status) × (by ≡ numbering_of bound.table)
+    (bound : Bound) × BoundTried limits options input (Ok bound) × MadeAnswer options bound (Err status) × (by ≡ numbering_of bound.table)
 
 -- the refusal and the numbering of a trial at m decimals
 abbrev pub IsNumberedAt : Limits → Options → Input → ℕ → Unfitted → Type 0

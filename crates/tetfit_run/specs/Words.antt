@@ -1,9 +1,12 @@
 -- The words of `tetfit`.
-use Rattle.std.specs.Prelude.{◌≡◌, ◌≤◌, ℕ, ◌+◌, pos, int_lt, Bool, true, false, not, ◌||◌, ◌&&◌, ◌==◌, nat_eq, nat_le, nat_lt, length, position, drop, filter, List, [], ◌∷◌, ◌++◌, codes, Option, Some, None, IfSome, is_some, option_and_then, unwrap_or, if◌then◌else◌}
+use Rattle.std.specs.Prelude.{◌≡◌, ◌≤◌, ℕ, ◌+◌, ◌*◌, ◌^◌, pos, unsigned_abs, int_lt, Bool, true, false, not, ◌||◌, ◌&&◌, ◌==◌, nat_eq, nat_le, nat_lt, length, position, drop, filter, List, [], ◌∷◌, ◌++◌, codes, Option, Some, None, IfSome, is_some, option_and_then, unwrap_or, if◌then◌else◌}
 use Rattle.std.specs.List.{list_any, starts_with}
 use Rattle.std.specs.Str.{bytes_eq}
 use Rattle.std.specs.Option.{option_map, option_map_or, option_or}
 use Rattle.tet_text.specs.Decimals.{Scaled, decimal_of}
+use Rattle.refining.specs.Goals.{IsFineGoal}
+use Rattle.refining.specs.declared.goal.Goal.{Goal}
+use Rattle.tet_shapes.specs.declared.shape.Ratio.{Ratio}
 use Rattle.tetfit_run.specs.declared.request.Request.{Request}
 use Rattle.tetfit_run.specs.declared.wanted.Wanted.{Wanted}
 use Rattle.tetfit_run.specs.declared.request.Request.TheVariants.{Page, Version, Mesh}
@@ -44,10 +47,6 @@ if_bound d = if is_bound d then Some d else None
 abbrev pub volume_in : List ℕ → Option Scaled
 volume_in word = if is_volume word then option_and_then if_bound (decimal_of (drop 2 word)) else None
 
--- the word bounds volumes and gives none
-abbrev pub is_bad_volume : List ℕ → Bool
-is_bad_volume word = is_volume word && not (is_some (volume_in word))
-
 -- the last volume counts
 abbrev pub last_volume : Option Scaled → List (List ℕ) → Option Scaled
 last_volume last [] = last
@@ -56,18 +55,75 @@ last_volume last (word ∷ more) = last_volume (option_or (volume_in word) last)
 abbrev pub fit_volume : List (List ℕ) → Option Scaled
 fit_volume words = last_volume None words
 
+-- ---- words that bound the ratio of the circumradius to the shortest edge: -q, alone or with a decimal behind it
+
+abbrev pub is_ratio : List ℕ → Bool
+is_ratio word = starts_with nat_eq word (codes "-q")
+
+-- the number is from 1 to 100, and has at most 4 decimals
+abbrev pub is_ratio_bound : Scaled → Bool
+is_ratio_bound d =
+    (nat_le d.scale 4 && int_lt (pos 0) d.value)
+    && (nat_le (10 ^ d.scale) (unsigned_abs d.value) && nat_le (unsigned_abs d.value) (100 * 10 ^ d.scale))
+
+unfoldable pub if_ratio_bound : Scaled → Option Ratio
+if_ratio_bound d = if is_ratio_bound d then Some (record { over = unsigned_abs d.value; under = 10 ^ d.scale }) else None
+
+-- the ratio of a word without a number
+abbrev pub plain_ratio : Ratio
+plain_ratio = record { over = 2; under = 1 }
+
+-- the ratio that this text behind -q gives
+abbrev pub ratio_behind : List ℕ → Option Ratio
+ratio_behind text = if length text == 0 then Some plain_ratio else option_and_then if_ratio_bound (decimal_of text)
+
+-- the ratio that the word gives
+abbrev pub ratio_in : List ℕ → Option Ratio
+ratio_in word = if is_ratio word then ratio_behind (drop 2 word) else None
+
+-- the last ratio counts
+abbrev pub last_ratio : Option Ratio → List (List ℕ) → Option Ratio
+last_ratio last [] = last
+last_ratio last (word ∷ more) = last_ratio (option_or (ratio_in word) last) more
+
+abbrev pub fit_ratio : List (List ℕ) → Option Ratio
+fit_ratio words = last_ratio None words
+
+-- ---- words that say what tetrahedra are to be like: those that bound volumes or ratios, and -Y
+
+-- the word bounds volumes or ratios
+abbrev pub is_bounding : List ℕ → Bool
+is_bounding word = is_volume word || is_ratio word
+
+-- the word bounds volumes or ratios, and gives no bound
+abbrev pub is_bad_bound : List ℕ → Bool
+is_bad_bound word = (is_volume word && not (is_some (volume_in word))) || (is_ratio word && not (is_some (ratio_in word)))
+
+-- the word asks that no points be added on segments and in facets
+abbrev pub keeps_boundary : List ℕ → Bool
+keeps_boundary word = bytes_eq word (codes "-Y")
+
+abbrev pub is_of_goal : List ℕ → Bool
+is_of_goal word = is_bounding word || keeps_boundary word
+
+-- what the tetrahedra are to be like, where a volume or a ratio is given
+abbrev pub fit_goal : List (List ℕ) → Option Goal
+fit_goal words =
+    if is_some (fit_volume words) || is_some (fit_ratio words) then
+    Some (record { volume = fit_volume words; ratio = fit_ratio words; splits_boundary = not (list_any keeps_boundary words) }) else None
+
 -- ---- the other words are those of the program that meshes exact texts, but for four things, which this program does not do
 
 -- the word is of that grammar
 abbrev pub is_plain : List ℕ → Bool
-is_plain word = not (is_volume word) && not (bytes_eq word (codes "-V"))
+is_plain word = not (is_of_goal word) && not (bytes_eq word (codes "-V"))
 
 abbrev pub plain_words : List (List ℕ) → List (List ℕ)
 plain_words words = filter is_plain words
 
--- the words without those that ask for the stages: plain words, and behind them those that bound volumes
+-- the words without those that ask for the stages: plain words, and behind them those that say what tetrahedra are to be like
 abbrev pub others : List (List ℕ) → List (List ℕ)
-others words = plain_words words ++ filter is_volume words
+others words = plain_words words ++ filter is_of_goal words
 
 -- weights, a check, decimals and the sample
 abbrev pub asks_elsewhere : Options → Bool
@@ -100,9 +156,9 @@ plain_options = options_within most_halvings
 abbrev pub fit_options : List (List ℕ) → Options
 fit_options words = plain_options (plain_words words)
 
--- and with them the volume
+-- and with them what the tetrahedra are to be like
 abbrev pub fit_wanted : List (List ℕ) → Wanted
-fit_wanted words = record { options = fit_options words; volume = fit_volume words }
+fit_wanted words = record { options = fit_options words; goal = fit_goal words }
 
 -- a fault of the grammar, told by its word and the place in it; in place of one behind the last word, the first word that asks for one of
 -- the four
@@ -124,22 +180,29 @@ plain_fault words =
 abbrev pub among_all : List (List ℕ) → ℕ × ℕ → ℕ × ℕ
 among_all words fault = (if nat_le fault.0 (length (plain_words words)) then fault.0 else length words + 1, fault.1)
 
--- the first word that bounds volumes
-abbrev pub first_volume : List (List ℕ) → ℕ
-first_volume words = unwrap_or (position is_volume words) 0 + 1
+-- the first word that bounds volumes or ratios
+abbrev pub first_bounding : List (List ℕ) → ℕ
+first_bounding words = unwrap_or (position is_bounding words) 0 + 1
 
--- The first fault of these words: a word that bounds volumes and gives none, else one of the plain words, else the
--- first word that bounds volumes, where the model has no facets
+-- the fault of words that say what tetrahedra are to be like, each of which is understood: the first that bounds volumes or ratios, where
+-- the model has no facets, and the first -Y, where there is no bound
+unfoldable pub goal_fault : List (List ℕ) → Bool → Option (ℕ × ℕ)
+goal_fault words piecewise =
+    if is_some (fit_goal words) then (if piecewise then None else Some (first_bounding words, 3))
+    else option_map (λ i. (i + 1, 2)) (position keeps_boundary words)
+
+-- The first fault of these words: a word that bounds volumes or ratios and gives no bound, else one of the plain words,
+-- else one of those that say what tetrahedra are to be like
 abbrev pub fit_fault : List (List ℕ) → Option (ℕ × ℕ)
 fit_fault words =
-    option_or (option_map (λ i. (i + 1, 3)) (position is_bad_volume words))
+    option_or (option_map (λ i. (i + 1, 3)) (position is_bad_bound words))
     (option_or (option_map (among_all words) (plain_fault (plain_words words)))
-    (if is_some (fit_volume words) && not (fit_options words).piecewise then Some (first_volume words, 3) else None))
+    (goal_fault words (fit_options words).piecewise))
 
--- a volume is a number with at most 36 decimals, and bounds the tetrahedra of a model with facets
+-- the tetrahedra are to be like something only where the model has facets, and then the bounds are numbers of a few digits
 pub record IsRefinable (wanted : Wanted) : Type 0 where
-  pub fine : IfSome wanted.volume (λ v. v.scale ≤ 36)
-  pub complex : IfSome wanted.volume (λ v. wanted.options.piecewise ≡ true)
+  pub fine : IfSome wanted.goal IsFineGoal
+  pub complex : IfSome wanted.goal (λ goal. wanted.options.piecewise ≡ true)
 
 -- the words ask neither for weights nor for a check, and give neither decimals nor a sample
 pub record IsPlainRequest (options : Options) : Type 0 where

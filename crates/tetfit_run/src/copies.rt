@@ -1,12 +1,14 @@
 //! Copies of the options and the point list, which each trial consumes.
 
 ghost use Rattle.std.specs.Prelude.{◌≡◌, IfOk};
+ghost use Rattle.command_words.specs.Meaning.{AreInRange};
 ghost use Rattle.tetfit_run.specs.Hints.{with_budget};
+ghost use Rattle.tetfit_run.specs.Measured.{nodes_by, points_by};
 ghost use Rattle.tetfit_run.specs.Trying.{at_decimals};
 
 use command_words::Options;
-use grid_coords::DecimalPoints;
-use node_files::{Markers, NodeText};
+use grid_coords::{DecimalPoints, WholePoint};
+use node_files::{Markers, NodeText, each_measured_from};
 use std::alloc::Global;
 use tet_ports::{Name, NoMemory, Words};
 
@@ -33,6 +35,7 @@ fn same_options(alloc: Global, options: &Options) -> Result<Options, NoMemory>
         budget: options.budget,
         halvings: options.halvings,
         decimals: options.decimals,
+        origin: options.origin,
         sample: options.sample,
         base,
         extension: options.extension,
@@ -49,6 +52,19 @@ pub(crate) fn at_decimals(
 {
     let mut made = same_options(alloc, options)?;
     made.decimals = Some(decimals);
+    Ok(made)
+}
+
+/// Copies the options, with coordinates measured from `origin`, where there is one.
+pub(crate) fn with_origin(
+    alloc: Global,
+    options: &Options,
+    origin: Option<WholePoint>,
+) -> Result<Options, NoMemory>
+    ensures { IfOk result (λ made. made ≡ record options.now { origin = origin }) }
+{
+    let mut made = same_options(alloc, options)?;
+    made.origin = origin;
     Ok(made)
 }
 
@@ -91,11 +107,34 @@ fn markers_of(alloc: Global, markers: &Markers) -> Result<Markers, NoMemory>
     Ok(made)
 }
 
-/// Copies the point list.
-pub(crate) fn nodes_of(alloc: Global, nodes: &NodeText) -> Result<NodeText, NoMemory>
-    ensures { IfOk result (λ made. made ≡ nodes.now) }
+/// The points as they are tried: rounded and measured from the origin of the options, where these
+/// have one, or copied.
+fn tried_points(
+    alloc: Global,
+    options: &Options,
+    points: &DecimalPoints,
+) -> Result<DecimalPoints, NoMemory>
+    requires { AreInRange options.now }
+    ensures { IfOk result
+        (λ made. made ≡ points_by options.now.origin options.now.decimals points.now) }
 {
-    let decimals = decimals_of(alloc, &nodes.decimals)?;
+    match (options.origin, options.decimals) {
+        (Some(w), Some(decimals)) => each_measured_from(alloc, w, decimals, points.as_slice()),
+        _ => decimals_of(alloc, points),
+    }
+}
+
+/// A copy of the point list as it is tried with the options.
+pub(crate) fn tried_nodes(
+    alloc: Global,
+    options: &Options,
+    nodes: &NodeText,
+) -> Result<NodeText, NoMemory>
+    requires { AreInRange options.now }
+    ensures { IfOk result
+        (λ made. made ≡ nodes_by options.now.origin options.now.decimals nodes.now) }
+{
+    let decimals = tried_points(alloc, options, &nodes.decimals)?;
     let attributes = words_of(alloc, &nodes.attributes)?;
     let markers = markers_of(alloc, &nodes.markers)?;
     Ok(NodeText {

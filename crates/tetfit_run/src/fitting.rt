@@ -2,13 +2,12 @@
 //! downward.
 
 ghost use Rattle.std.specs.Prelude.{◌≡◌, ◌<◌, true, false, IsTrue, IfErr, IfOk, Ok};
-ghost use Rattle.command_words.specs.Meaning.{AreInRange};
 ghost use Rattle.node_files.specs.Limits.{AreIndexable};
 ghost use Rattle.run_steps.specs.Reading.{IsSound};
-ghost use Rattle.tetfit_run.specs.Trying.{is_of_grid, IsFitted, IsRefused};
+ghost use Rattle.tetfit_run.specs.Measured.{origin_in};
+ghost use Rattle.tetfit_run.specs.Trying.{is_of_grid, AreTriable, IsFitted, IsRefused};
 
 use crate::grids::{most_tried, next_tried};
-use crate::trial::Trial;
 use crate::trying::{Unfitted, outputs_at};
 use command_words::Options;
 use node_files::Limits;
@@ -52,7 +51,7 @@ fn goes_on(decimals: u32, status: &Status) -> bool
 }
 
 /// The outputs of the input at the greatest number of decimals at which the grid does not refuse
-/// it, of those from the most that a coordinate has, or 20 where one has more, down to 0. It
+/// it, of those from the first one that is tried (`most_tried`) down to 0. It
 /// refuses as the steps `bind_input` and `mesh_outputs` do at that number, or at 0 where the grid
 /// refuses at each.
 pub fn fit_input(
@@ -63,16 +62,16 @@ pub fn fit_input(
 ) -> Result<Fitted, Refused>
     requires limits { AreIndexable limits }
     requires input { IsSound input.now }
-    requires ranges { AreInRange options.now }
+    requires origin { options.now.origin ≡ origin_in input.now }
+    requires ranges { AreTriable options.now input.now }
     ensures fitted { IfOk result (λ fitted. IsFitted limits options.now input.now
         fitted.decimals (Ok fitted.outputs)) }
     ensures refused { IfErr result (IsRefused limits options.now input.now) }
 {
-    let trial = Trial::new(limits, options, input);
     let points = input.nodes.decimals.as_slice();
-    let mut decimals = most_tried(points);
+    let mut decimals = most_tried(options.origin, points);
     loop {
-        match outputs_at(alloc, &trial, decimals) {
+        match outputs_at(alloc, limits, options, input, decimals) {
             Ok(outputs) => return Ok(Fitted { decimals, outputs }),
             Err(end) => {
                 if !goes_on(decimals, &end.status) {
@@ -80,6 +79,6 @@ pub fn fit_input(
                 }
             }
         }
-        decimals = next_tried(points, decimals, limits.grid);
+        decimals = next_tried(options.origin, points, decimals, limits.grid);
     }
 }

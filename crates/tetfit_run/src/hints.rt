@@ -1,15 +1,16 @@
 //! The lines that follow the message on a refused model: the segment, the parts or the point at
 //! fault.
 
-ghost use Rattle.std.specs.Prelude.{◌≡◌, ◌==◌, ◌≤◌, ◌++◌, IfOk, OnOk};
+ghost use Rattle.std.specs.Prelude.{◌≡◌, ◌==◌, ◌++◌, IfOk, IfSome, OnOk};
 ghost use Rattle.command_words.specs.Meaning.{AreInRange};
+ghost use Rattle.grid_coords.specs.Origins.{IsNear};
 ghost use Rattle.node_files.specs.Limits.{AreIndexable};
 ghost use Rattle.run_steps.specs.Reading.{IsSound};
 ghost use Rattle.tetfit_run.specs.Hints.{hinted_facet_text, first_facet, grid_hint, part_line};
 ghost use Rattle.tetfit_run.specs.Hints.{segment_line, IsHint, IsHintBy, IsLineOf, TellsSegment};
 ghost use Rattle.tetfit_run.specs.Trying.{at_decimals};
 
-use crate::copies::{at_decimals, nodes_of};
+use crate::copies::{at_decimals, tried_nodes};
 use crate::facets::first_facet;
 use crate::fitting::Refused;
 use crate::grids::first_off;
@@ -19,7 +20,7 @@ use crate::trial::Trial;
 use crate::wholes::whole_of;
 use command_words::Options;
 use geo_laws::{Complex, Piece};
-use grid_coords::DecimalPoint;
+use grid_coords::{DecimalPoint, WholePoint};
 use mesh_check::append_number;
 use node_files::Limits;
 use run_steps::{LimitKind, Numbering, Status};
@@ -64,7 +65,7 @@ fn whole_hint(alloc: Global, trial: &Trial, by: &Numbering, whole: Piece) -> Res
     ensures { IfOk result (IsLineOf trial.now.limits trial.now.options
         trial.now.input by.now whole) }
 {
-    let nodes = nodes_of(alloc, &trial.input.nodes)?;
+    let nodes = tried_nodes(alloc, trial.options, &trial.input.nodes)?;
     match trial.bind(alloc, nodes) {
         Ok(bound) => segment_line(alloc, &bound.complex, by, whole),
         Err(_) => Err(NoMemory),
@@ -137,11 +138,13 @@ fn hint_by(alloc: Global, trial: &Trial, by: &Numbering, status: &Status) -> Res
 fn grid_hint(
     alloc: Global,
     limits: Limits,
+    origin: Option<WholePoint>,
     model: &Model,
     status: &Status,
 ) -> Result<Bytes, NoMemory>
+    requires { IfSome origin (IsNear 0) }
     ensures { IfOk result (λ lines. lines
-        ≡ grid_hint limits model.now.stated model.now.input status.now) }
+        ≡ grid_hint limits origin model.now.stated model.now.input status.now) }
 {
     match status {
         Status::Limit {
@@ -149,7 +152,7 @@ fn grid_hint(
         } => off_grid_text(
             alloc,
             model.stated,
-            first_off(limits.grid, model.input.nodes.decimals.as_slice()),
+            first_off(limits.grid, origin, model.input.nodes.decimals.as_slice()),
         ),
         _ => Ok(Bytes::new(alloc)),
     }
@@ -168,14 +171,13 @@ pub fn hint_of(
 ) -> Result<Bytes, NoMemory>
     requires limits { AreIndexable limits }
     requires input { IsSound model.now.input }
-    requires ranges { AreInRange options.now }
-    requires decimals { refused.now.decimals ≤ 20 }
+    requires ranges { AreInRange (at_decimals refused.now.decimals options.now) }
     ensures { IfOk result
         (IsHint limits model.now.stated (at_decimals refused.now.decimals options.now)
         model.now.input refused.now.end.numbering refused.now.end.status) }
 {
     match &refused.end.numbering {
-        None => grid_hint(alloc, limits, model, &refused.end.status),
+        None => grid_hint(alloc, limits, options.origin, model, &refused.end.status),
         Some(by) => {
             let options = at_decimals(alloc, options, refused.decimals)?;
             let trial = Trial::new(limits, &options, &model.input);

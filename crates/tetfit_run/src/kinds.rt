@@ -16,6 +16,12 @@ pub(crate) const HALVINGS: &[u8] = b"--halvings=";
 /// The front of the word that bounds the volume of tetrahedra.
 pub(crate) const VOLUME: &[u8] = b"-a";
 
+/// The front of the word that bounds the ratio of the circumradius to the shortest edge.
+pub(crate) const RATIO: &[u8] = b"-q";
+
+/// The word that asks that no points be added on segments and in facets.
+pub(crate) const BOUNDARY: &[u8] = b"-Y";
+
 /// Whether the word begins with two hyphens.
 pub(crate) fn is_long(word: &[u8]) -> bool
     ensures { result ≡ is_long word.now }

@@ -6,6 +6,7 @@
 mod copies;
 mod facets;
 mod fitting;
+mod goal;
 mod grids;
 mod hints;
 mod kinds;

@@ -30,7 +30,7 @@ fn help_of_limit(what: &LimitKind) -> &'static [u8]
 {
     match what {
         LimitKind::Grid { line: _ } => {
-            b"tetfit: no coordinate may be over 536870912 in size: scale the model down\n"
+            b"tetfit: no coordinate may be over 536870912 from the middle: scale the model down\n"
         }
         LimitKind::Corners {
             line: _,

@@ -1,21 +1,27 @@
 //! Reads the model that the options name.
 
-ghost use Rattle.std.specs.Prelude.{◌≡◌, ◌≤◌, ◌<◌, ◌-◌, ◌^◌, length, IfOk, IfSome};
+ghost use Rattle.std.specs.Prelude.{◌≡◌, ◌≤◌, ◌<◌, ◌-◌, ◌^◌, ℕ, length, Ok, IfOk, IfSome};
 ghost use Rattle.node_files.specs.Limits.{AreIndexable};
 ghost use Rattle.plc_files.specs.Checks.{HasFewParts};
 ghost use Rattle.run_steps.specs.Reading.{complex_file, IsSound, TextAnswer};
 ghost use Rattle.tet_ports.specs.Seen.{IsOnlyRead, folder_seen};
 ghost use Rattle.run_steps.specs.Steps.{AndThen, Gives};
 ghost use Rattle.tetfit_run.specs.Models.{is_stl, names_stl, stl_text_of};
-ghost use Rattle.tetfit_run.specs.Models.{input_in, stated_of, IsStatedBy, IsStatedInStl, ModelAnswer, StlInputAnswer};
+ghost use Rattle.grid_coords.specs.Origins.{IsNear};
+ghost use Rattle.plc_files.specs.Checks.{corners_check};
+ghost use Rattle.tetfit_run.specs.Measured.{complex_from, most_tried, moved_model, origin_in, MovedAnswer};
+ghost use Rattle.tetfit_run.specs.Models.{input_in, stated_of, IsStatedBy, IsStatedInStl, ModelAnswer};
+ghost use Rattle.tetfit_run.specs.Models.{MovedFrom, StlInputAnswer};
 
+use crate::grids::most_tried;
 use command_words::{Extension, Options, file_name};
+use grid_coords::{WholePoint, origin_of};
 use node_files::Limits;
-use plc_files::PlcFault;
+use plc_files::{PlcFault, PlcText, measured_plc};
 use run_steps::{ComplexFile, Fetched, Input, Status, complex_of, fetch, read_input, with_points};
 use soup_files::{is_binary_stl, read_binary_stl};
 use std::alloc::Global;
-use tet_ports::{Bytes, Folder, Name};
+use tet_ports::{Bytes, Folder, Name, NoMemory};
 
 /// The unit in which places in the model's file are counted.
 #[derive(Clone, Copy, Debug, PartialEq, Eq)]
@@ -30,7 +36,11 @@ pub(crate) enum Stated {
 /// file are counted, from 1.
 #[derive(Drop)]
 pub(crate) struct Model {
+    /// The points as the file has them, and the complex, whose hole points and region points are
+    /// measured from the origin.
     pub(crate) input: Input,
+    /// The point from which coordinates are measured, where it is not zero.
+    pub(crate) origin: Option<WholePoint>,
     pub(crate) stated: Stated,
 }
 
@@ -45,15 +55,57 @@ fn stated_of(bytes: &Bytes) -> Stated
     }
 }
 
-/// The model with the input that was read, and the unit of the places of its points.
-fn with_stated(read: Result<Input, Status>, stated: Stated) -> Result<Model, Status>
-    requires { IfOk read IsSound }
-    ensures input { input_in result ≡ read }
+/// The complex with its hole points and region points measured from the origin, where there is one.
+fn complex_from(
+    origin: Option<WholePoint>,
+    most: u32,
+    complex: PlcText,
+) -> Result<PlcText, NoMemory>
+    requires { IfSome origin (IsNear most) }
+    ensures value { IfOk result (λ made. made ≡ complex_from origin most complex) }
+    ensures few { HasFewParts complex → IfOk result HasFewParts }
+    ensures corners { (first count : ℕ) → corners_check first count complex ≡ Ok tt
+        → IfOk result (λ made. corners_check first count made ≡ Ok tt) }
+{
+    match origin {
+        None => Ok(complex),
+        Some(w) => measured_plc(w, most + 6, complex),
+    }
+}
+
+/// The model of an input: with its hole points and region points measured from its origin.
+fn moved_model(input: Input, stated: Stated) -> Result<Model, NoMemory>
+    requires { IsSound input }
+    ensures value { IfOk result (λ model. model.input ≡ moved_model input) }
+    ensures origin { IfOk result (λ model. model.origin ≡ origin_in input) }
+    ensures near { IfOk result (λ model. IfSome model.origin (IsNear (most_tried input))) }
     ensures stated { IfOk result (λ model. model.stated ≡ stated) }
     ensures sound { IfOk result (λ model. IsSound model.input) }
 {
+    let Input { nodes, complex } = input;
+    let points = nodes.decimals.as_slice();
+    let origin = origin_of(points);
+    let most = most_tried(origin, points);
+    let complex = complex_from(origin, most, complex)?;
+    let input = Input { nodes, complex };
+    Ok(Model {
+        input,
+        origin,
+        stated,
+    })
+}
+
+/// The model with the input that was read, and the unit of the places of its points.
+fn with_stated(read: Result<Input, Status>, stated: Stated) -> Result<Model, Status>
+    requires { IfOk read IsSound }
+    ensures input { MovedFrom read (input_in result) }
+    ensures stated { IfOk result (λ model. model.stated ≡ stated) }
+    ensures sound { IfOk result (λ model. IsSound model.input) }
+    ensures origin { IfOk result (λ model. model.origin ≡ origin_in model.input) }
+    ensures near { IfOk result (λ model. IfSome model.origin (IsNear (most_tried model.input))) }
+{
     match read {
-        Ok(input) => Ok(Model { input, stated }),
+        Ok(input) => Ok(moved_model(input, stated)?),
         Err(status) => Err(status),
     }
 }
@@ -66,11 +118,13 @@ fn read_stl<F: Folder>(
     folder: &mut F,
 ) -> Result<Model, Status>
     requires { AreIndexable limits }
-    ensures answer { StlInputAnswer limits (folder_seen F.state folder.old folder.new) base.now
-        (input_in result) }
+    ensures answer { AndThen (StlInputAnswer limits (folder_seen F.state folder.old folder.new)
+        base.now) MovedAnswer (input_in result) }
     ensures stated { IfOk result (λ model. IsStatedInStl
         (folder_seen F.state folder.old folder.new) base.now model.stated) }
     ensures sound { IfOk result (λ model. IsSound model.input) }
+    ensures origin { IfOk result (λ model. model.origin ≡ origin_in model.input) }
+    ensures near { IfOk result (λ model. IfSome model.origin (IsNear (most_tried model.input))) }
     ensures only_read { IsOnlyRead (folder_seen F.state folder.old folder.new) }
 {
     let name = file_name(alloc, base, Extension::Stl)?;
@@ -82,8 +136,8 @@ fn read_stl<F: Folder>(
 }
 
 /// The model that the options name: as `read_input` reads it, but that an `.stl` file may be a
-/// binary one, which is known by its length. Each file is fetched once. It refuses as `read_input`
-/// does, and stores nothing.
+/// binary one, which is known by its length; with its hole points and region points measured from
+/// its origin. Each file is fetched once. It refuses as `read_input` does, and stores nothing.
 pub(crate) fn read_model<F: Folder>(
     alloc: Global,
     limits: Limits,
@@ -97,6 +151,8 @@ pub(crate) fn read_model<F: Folder>(
     ensures stated { IfOk result (λ model. IsStatedBy
         (folder_seen F.state folder.old folder.new) options.now model.stated) }
     ensures sound { IfOk result (λ model. IsSound model.input) }
+    ensures origin { IfOk result (λ model. model.origin ≡ origin_in model.input) }
+    ensures near { IfOk result (λ model. IfSome model.origin (IsNear (most_tried model.input))) }
     ensures only_read { IsOnlyRead (folder_seen F.state folder.old folder.new) }
 {
     if names_stl(options) {

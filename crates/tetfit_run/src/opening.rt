@@ -8,7 +8,7 @@ ghost use Rattle.run_steps.specs.Reading.{IsSound};
 ghost use Rattle.tetfit_run.specs.Opening.{carved_line, nothing_line, open_line, TellsOpening, TellsOpeningIn, TellsOpenSide};
 ghost use Rattle.tetfit_run.specs.Trying.{at_decimals};
 
-use crate::copies::{at_decimals, nodes_of};
+use crate::copies::{at_decimals, tried_nodes};
 use crate::places::append_name;
 use crate::sides::open_side;
 use crate::trial::Trial;
@@ -100,12 +100,11 @@ pub fn opening_of(
 ) -> Result<Bytes, NoMemory>
     requires limits { AreIndexable limits }
     requires input { IsSound input.now }
-    requires ranges { AreInRange options.now }
-    requires decimals { decimals ≤ 20 }
+    requires ranges { AreInRange (at_decimals decimals options.now) }
     ensures { IfOk result (TellsOpening limits (at_decimals decimals options.now) input.now) }
 {
     let options = at_decimals(alloc, options, decimals)?;
-    let nodes = nodes_of(alloc, &input.nodes)?;
+    let nodes = tried_nodes(alloc, &options, &input.nodes)?;
     let tried = Trial::new(limits, &options, input);
     match tried.bind(alloc, nodes) {
         Ok(bound) => opening_in(alloc, &bound),

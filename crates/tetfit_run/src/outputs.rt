@@ -1,19 +1,23 @@
 //! The outputs that the words of the command ask for.
 
-ghost use Rattle.std.specs.Prelude.{◌≡◌, ◌≤◌, ℕ, [], true, IfOk, IfErr, Ok, Err, Some};
+ghost use Rattle.std.specs.Prelude.{◌≡◌, ◌≤◌, ℕ, [], true, IfOk, IfErr, IfSome, Ok, Err, Some};
 ghost use Rattle.command_words.specs.Meaning.{AreInRange};
 ghost use Rattle.command_words.specs.declared.fault.WordsFault.TheVariants.{Usage};
+ghost use Rattle.refining.specs.Goals.{IsFineGoal};
 ghost use Rattle.refining.specs.Outputs.{RefinedMeshed};
-ghost use Rattle.tetfit_run.specs.Trying.{IsFitted, at_decimals};
+ghost use Rattle.grid_coords.specs.Origins.{IsNear};
+ghost use Rattle.tetfit_run.specs.Measured.{most_tried, origin_in, tried};
+ghost use Rattle.tetfit_run.specs.Trying.{AreTriable, IsFitted, at_decimals};
 ghost use Rattle.tetfit_run.specs.Words.{IsPlainRequest, IsRefinable, fit_fault, others, request_of};
 ghost use Rattle.run_steps.specs.Reading.{IsSound};
 ghost use Rattle.tet_ports.specs.Seen.{IsOnlyRead, folder_seen};
 ghost use Rattle.tetgen_run.specs.Ends.{StopsSo};
 ghost use Rattle.tetfit_run.specs.Outputs.{FitWordsAnswer, IsFinalBy, IsFittedTo, MadeBy};
 ghost use Rattle.tetfit_run.specs.Outputs.{IsMore, OutputsOfFit, OutputsOfWanted, Says, fit_limits};
-ghost use Rattle.tetfit_run.specs.Outputs.{fitted_told, outputs_at, said, tells_none};
+ghost use Rattle.tetfit_run.specs.Outputs.{fitted_told, outputs_at, said, tells_none, wanted_from};
 ghost use Rattle.tetfit_run.specs.Run.{IsKnown, IsKnownOf, IsUnfitted};
 
+use crate::copies::with_origin;
 use crate::fitting::{Fitted, fit_input};
 use crate::grids::refined_decimals;
 use crate::hints::hint_of;
@@ -26,10 +30,10 @@ use crate::request::{Request, other_words, request_of};
 use crate::trying::Unfitted;
 use crate::wanted::{Wanted, read_wanted};
 use command_words::{Options, WordsFault};
+use refining::Goal;
 use run_steps::{Input, Outputs, Report, Texts};
 use std::alloc::Global;
 use tet_ports::{Bytes, Folder, NoMemory, Words};
-use tet_text::Decimal;
 use tetgen_run::Stop;
 
 /// The greatest coordinate of a model whose mesh is refined, in units of its decimals: eight
@@ -107,8 +111,7 @@ fn more_of(
     fitted: &Fitted,
 ) -> Result<Bytes, NoMemory>
     requires input { IsSound input.now }
-    requires ranges { AreInRange options.now }
-    requires decimals { fitted.now.decimals ≤ 20 }
+    requires ranges { AreInRange (at_decimals fitted.now.decimals options.now) }
     ensures { IfOk result
         (IsMore options.now input.now fitted.now.decimals fitted.now.outputs) }
 {
@@ -126,32 +129,33 @@ fn refined_within(
     options: &Options,
     input: &Input,
     decimals: u32,
-    volume: &Decimal,
+    goal: &Goal,
 ) -> Result<Fitted, NoMemory>
     requires input { IsSound input.now }
-    requires ranges { AreInRange options.now }
-    requires decimals { decimals ≤ 20 }
+    requires ranges { (m : ℕ) → m ≤ decimals → AreInRange (at_decimals m options.now) }
     requires complex { options.now.piecewise ≡ true }
-    requires fine { volume.now.scale ≤ 36 }
+    requires fine { IsFineGoal goal.now }
     ensures few { IfOk result (λ final. final.decimals ≤ decimals) }
-    ensures outputs { IfOk result (λ final. RefinedMeshed volume.now fit_limits
-        (at_decimals final.decimals options.now) input.now (Ok final.outputs)) }
+    ensures outputs { IfOk result (λ final. RefinedMeshed goal.now fit_limits
+        (at_decimals final.decimals options.now)
+        (tried (at_decimals final.decimals options.now) input.now) (Ok final.outputs)) }
 {
-    let fine = refined_decimals(input.nodes.decimals.as_slice(), decimals, FINE);
-    match refined_at(alloc, fit_limits(), options, input, fine, volume) {
+    let points = input.nodes.decimals.as_slice();
+    let fine = refined_decimals(options.origin, points, decimals, FINE);
+    match refined_at(alloc, fit_limits(), options, input, fine, goal) {
         Ok(outputs) => Ok(Fitted {
             decimals: fine,
             outputs,
         }),
-        Err(_) => match refined_at(alloc, fit_limits(), options, input, decimals, volume) {
+        Err(_) => match refined_at(alloc, fit_limits(), options, input, decimals, goal) {
             Ok(outputs) => Ok(Fitted { decimals, outputs }),
             Err(_) => Err(NoMemory),
         },
     }
 }
 
-/// The outputs in the end, and the decimals: those that are fitted, or, where a volume is given,
-/// those of the refined mesh.
+/// The outputs in the end, and the decimals: those that are fitted, or, where tetrahedra are
+/// bounded, those of the refined mesh.
 fn final_outputs(
     alloc: Global,
     wanted: &Wanted,
@@ -159,19 +163,19 @@ fn final_outputs(
     fitted: Fitted,
 ) -> Result<Fitted, NoMemory>
     requires input { IsSound input.now }
-    requires ranges { AreInRange wanted.now.options }
+    requires ranges { (m : ℕ) → m ≤ fitted.decimals
+        → AreInRange (at_decimals m wanted.now.options) }
     requires refinable { IsRefinable wanted.now }
-    requires decimals { fitted.decimals ≤ 20 }
-    ensures few { IfOk result (λ final. final.decimals ≤ 20) }
-    ensures outputs { IfOk result (λ final. IsFinalBy wanted.now.volume wanted.now.options
+    ensures few { IfOk result (λ final. final.decimals ≤ fitted.decimals) }
+    ensures outputs { IfOk result (λ final. IsFinalBy wanted.now.goal wanted.now.options
         input.now fitted.decimals fitted.outputs final.decimals final.outputs) }
 {
     let decimals = fitted.decimals;
-    match &wanted.volume {
+    match &wanted.goal {
         None => Ok(fitted),
-        Some(volume) => {
+        Some(goal) => {
             drop(fitted);
-            refined_within(alloc, &wanted.options, input, decimals, volume)
+            refined_within(alloc, &wanted.options, input, decimals, goal)
         }
     }
 }
@@ -185,7 +189,7 @@ fn told_outputs(
     fitted: Fitted,
 ) -> Result<Outputs, NoMemory>
     requires input { IsSound input.now }
-    requires ranges { AreInRange wanted.now.options }
+    requires ranges { AreTriable wanted.now.options input.now }
     requires refinable { IsRefinable wanted.now }
     requires fitted { IsFitted fit_limits wanted.now.options input.now fitted.decimals
         (Ok fitted.outputs) }
@@ -205,7 +209,8 @@ fn fitted_outputs(
     hint: &mut Bytes,
 ) -> Result<Outputs, Stop>
     requires input { IsSound model.now.input }
-    requires ranges { AreInRange wanted.now.options }
+    requires origin { wanted.now.options.origin ≡ origin_in model.now.input }
+    requires ranges { AreTriable wanted.now.options model.now.input }
     requires refinable { IsRefinable wanted.now }
     ensures made { IfOk result
         (λ outputs. IsFittedTo wanted.now model.now.input (Ok outputs)) }
@@ -220,6 +225,20 @@ fn fitted_outputs(
             Err(Stop::Refused { status, numbering })
         }
     }
+}
+
+/// What is wanted, with coordinates measured from the origin of the model.
+fn wanted_from(alloc: Global, wanted: &Wanted, model: &Model) -> Result<Wanted, NoMemory>
+    requires ranges { AreInRange wanted.now.options }
+    requires origin { model.now.origin ≡ origin_in model.now.input }
+    requires near { IfSome model.now.origin (IsNear (most_tried model.now.input)) }
+    ensures value { IfOk result (λ made. made ≡ wanted_from model.now.input wanted.now) }
+    ensures ranges { IfOk result (λ made. AreTriable made.options model.now.input) }
+{
+    Ok(Wanted {
+        options: with_origin(alloc, &wanted.options, model.origin)?,
+        goal: wanted.goal,
+    })
 }
 
 /// The outputs of the model that the options name.
@@ -243,10 +262,11 @@ fn outputs_of_wanted<F: Folder>(
     ensures only_read { IsOnlyRead (folder_seen F.state folder.old folder.new) }
 {
     let model = read_model(alloc, fit_limits(), &wanted.options, folder)?;
-    fitted_outputs(alloc, wanted, &model, hint)
+    let placed = wanted_from(alloc, wanted, &model)?;
+    fitted_outputs(alloc, &placed, &model, hint)
 }
 
-/// The options and the volume of the words, without those that ask for the stages.
+/// The options and the goal of the words, without those that ask for the stages.
 fn fit_wanted(alloc: Global, words: &Words) -> Result<Wanted, WordsFault>
     ensures understood { IfOk result
         (λ wanted. FitWordsAnswer (others words.now) (Ok wanted)) }

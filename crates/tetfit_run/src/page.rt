@@ -1,13 +1,13 @@
 //! The page and the version of `tetfit`.
 
-/// The page: what the program does, its switches, and six examples.
+/// The page: what the program does, its switches, and seven examples.
 pub const PAGE: &[u8] = b"\
 tetfit [switches] name\n\
 \n\
 Fills a model with tetrahedra: the points of a .node file, or the solid that\n\
 the facets of a .poly, .smesh, .off or .stl file bound, also a binary .stl.\n\
 Coordinates keep at most 20 decimals, and fewer where the grid, which has\n\
-2^29 units to each side of zero, is too small or too coarse for them.\n\
+2^29 units to each side of the middle, is too small or too coarse for them.\n\
 The mesh is written beside the model, as name.1.node, name.1.ele and\n\
 name.1.face.\n\
 \n\
@@ -17,7 +17,11 @@ name.1.face.\n\
 \x20 A     write the attribute of its region with each tetrahedron\n\
 \x20 a<V>  add points to make tetrahedra over the volume V smaller, and count those\n\
 \x20       that are left; a word of its own, as -a0.5\n\
-\x20 S<n>  add at most n points to protect segments, and n for volumes\n\
+\x20 q<R>  add points to make tetrahedra whose circumradius is over R times their\n\
+\x20       shortest edge better, and count those that are left; R is from 1 to 100,\n\
+\x20       or 2 where none is given; a word of its own, as -q1.4\n\
+\x20 Y     add no points on edges and facets for -a and -q; a word of its own\n\
+\x20 S<n>  add at most n points to protect segments, and n for -a and -q\n\
 \x20 n     write name.1.neigh, the neighbors of each tetrahedron\n\
 \x20 f     write all faces, and not those of the surface alone\n\
 \x20 e     write name.1.edge\n\
@@ -37,6 +41,7 @@ Examples:\n\
 \x20 tetfit -nfe bracket.off    with neighbors, all faces and edges\n\
 \x20 tetfit -pcQ plates         plates.poly in its convex hull, with no summary\n\
 \x20 tetfit -a0.5 part.stl      with points added for volumes up to 0.5\n\
+\x20 tetfit -q -a0.5 part.stl   and for well-shaped tetrahedra too\n\
 \x20 tetfit points.node         the Delaunay tetrahedra of points\n";
 
 /// The version.

@@ -4,21 +4,24 @@ ghost use Rattle.std.specs.Prelude.{◌≡◌};
 ghost use Rattle.tetfit_run.specs.Reasons.{cluster_reason, long_reason, reason_of, why_not, word_reason};
 ghost use Rattle.tetfit_run.specs.Texts.{reason_text};
 
-use crate::kinds::{DECIMALS, HALVINGS, SAMPLE, VOLUME, byte_at, is_cluster, is_long};
+use crate::kinds::{DECIMALS, HALVINGS, SAMPLE, byte_at, is_cluster, is_long};
+use crate::request::{is_ratio, is_volume, keeps_boundary};
 use tet_ports::Words;
 
 /// Why a word is not understood.
 #[derive(Clone, Copy, Debug, PartialEq, Eq)]
 pub enum Reason {
-    /// The letter q: bounds on the shape of tetrahedra.
-    Quality,
+    /// The letter q among others: a bound on the shape of tetrahedra is a word of its own.
+    Ratios,
+    /// A word that begins with `-q` and gives no bound, or one for a model without facets.
+    Ratio,
     /// The letter a among others: a bound on the volume of tetrahedra is a word of its own.
     Volumes,
     /// A word that begins with `-a` and gives no bound, or one for a model without facets.
     Volume,
     /// The letter m: sizes of tetrahedra, from a file.
     Sizes,
-    /// The letter Y: no points added on the boundary.
+    /// The word `-Y` without a bound on volumes or shapes.
     Boundary,
     /// The letter o: tetrahedra with midpoints.
     Order,
@@ -42,7 +45,7 @@ pub enum Reason {
     Weights,
     /// The letters r and C, which only the program for exact texts has.
     Check,
-    /// The letters V and h, which stand alone behind their hyphen.
+    /// The letters V, h and Y, which stand alone behind their hyphen.
     OwnWord,
     /// The long word for decimals, which only the program for exact texts has.
     Decimals,
@@ -70,11 +73,14 @@ impl Reason {
         ensures { result.now ≡ reason_text self }
     {
         match self {
-            Reason::Quality => b"quality meshes are not there",
+            Reason::Ratios => b"a ratio is a word of its own, as -q1.4",
+            Reason::Ratio => {
+                b"a ratio from 1 to 100 is wanted, with at most 4 decimals, and a model with facets"
+            }
             Reason::Volumes => b"a volume is a word of its own, as -a0.5",
             Reason::Volume => b"a volume above 0 is wanted, and a model with facets",
             Reason::Sizes => b"sizes of tetrahedra are not there",
-            Reason::Boundary => b"segments take points where they need them",
+            Reason::Boundary => b"it goes with -a or -q",
             Reason::Order => b"a tetrahedron has four corners, and no midpoints",
             Reason::Insertion => b"points are not added from a list",
             Reason::Coarsening => b"meshes are not made coarser",
@@ -105,10 +111,9 @@ fn reason_of(byte: u8) -> Reason
     ensures { result ≡ reason_of byte }
 {
     match byte {
-        b'q' => Reason::Quality,
+        b'q' => Reason::Ratios,
         b'a' => Reason::Volumes,
         b'm' => Reason::Sizes,
-        b'Y' => Reason::Boundary,
         b'o' => Reason::Order,
         b'i' => Reason::Insertion,
         b'R' => Reason::Coarsening,
@@ -124,18 +129,25 @@ fn reason_of(byte: u8) -> Reason
         b'r' => Reason::Check,
         b'C' => Reason::Check,
         b'V' => Reason::OwnWord,
+        b'Y' => Reason::OwnWord,
         b'h' => Reason::OwnWord,
         _ => Reason::Letter,
     }
 }
 
 /// Why the byte at this place of a cluster, from 1, is not understood; behind `-a` it is the
-/// volume that is missing, and behind an S the number.
+/// volume that is missing, behind `-q` the ratio, behind an S the number, and beside `-Y` a bound.
 fn cluster_reason(word: &[u8], place: usize) -> Reason
     ensures { result ≡ cluster_reason word.now place }
 {
-    if word.starts_with(VOLUME) {
+    if is_volume(word) {
         return Reason::Volume;
+    }
+    if is_ratio(word) {
+        return Reason::Ratio;
+    }
+    if keeps_boundary(word) {
+        return Reason::Boundary;
     }
     if byte_at(word, place.saturating_sub(2)) == b'S' {
         return Reason::Number;

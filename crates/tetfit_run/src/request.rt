@@ -4,9 +4,9 @@ ghost use Rattle.std.specs.Prelude.{◌≡◌, ◌+◌, ◌++◌, ◌<◌, ℕ, 
 ghost use Rattle.std.specs.Str.{bytes_eq};
 ghost use Rattle.command_words.specs.Meaning.{AreInRange};
 ghost use Rattle.command_words.specs.declared.fault.WordsFault.TheVariants.{Usage};
-ghost use Rattle.tetfit_run.specs.Words.{request_of, asks_page, asks_stages, asks_version, elsewhere_in, first_elsewhere, has_word, asks_elsewhere, is_letter_elsewhere, is_plain, is_volume, named_fault, others, plain_fault, plain_options, plain_words, told_fault, IsPlainRequest};
+ghost use Rattle.tetfit_run.specs.Words.{request_of, asks_page, asks_stages, asks_version, elsewhere_in, first_elsewhere, has_word, asks_elsewhere, is_bounding, is_letter_elsewhere, is_of_goal, is_plain, is_ratio, is_volume, keeps_boundary, named_fault, others, plain_fault, plain_options, plain_words, told_fault, IsPlainRequest};
 
-use crate::kinds::{DECIMALS, SAMPLE, VOLUME, is_cluster};
+use crate::kinds::{BOUNDARY, DECIMALS, RATIO, SAMPLE, VOLUME, is_cluster};
 use command_words::{Options, WordsFault, read_words_within};
 use std::alloc::Global;
 use tet_ports::{Name, NoMemory, Words};
@@ -74,11 +74,39 @@ pub(crate) fn is_volume(word: &[u8]) -> bool
     word.starts_with(VOLUME)
 }
 
+/// Whether the word bounds the ratio of the circumradius to the shortest edge.
+pub(crate) fn is_ratio(word: &[u8]) -> bool
+    ensures { result ≡ is_ratio word.now }
+{
+    word.starts_with(RATIO)
+}
+
+/// Whether the word bounds volumes or ratios.
+pub(crate) fn is_bounding(word: &[u8]) -> bool
+    ensures { result ≡ is_bounding word.now }
+{
+    is_volume(word) || is_ratio(word)
+}
+
+/// Whether the word asks that no points be added on segments and in facets.
+pub(crate) fn keeps_boundary(word: &[u8]) -> bool
+    ensures { result ≡ keeps_boundary word.now }
+{
+    is_word(word, BOUNDARY)
+}
+
+/// Whether the word says what tetrahedra are to be like.
+fn is_of_goal(word: &[u8]) -> bool
+    ensures { result ≡ is_of_goal word.now }
+{
+    is_bounding(word) || keeps_boundary(word)
+}
+
 /// Whether the word is of the grammar of the program that meshes exact texts.
 fn is_plain(word: &[u8]) -> bool
     ensures { result ≡ is_plain word.now }
 {
-    !is_volume(word) && !is_word(word, b"-V")
+    !is_of_goal(word) && !is_word(word, b"-V")
 }
 
 /// The words of the grammar of the program that meshes exact texts.
@@ -94,24 +122,25 @@ pub(crate) fn plain_words(alloc: Global, words: &Words) -> Result<Words, NoMemor
     Ok(kept)
 }
 
-/// Appends the words that bound volumes.
-fn append_volumes(alloc: Global, words: &Words, kept: &mut Words) -> Result<(), NoMemory>
-    ensures { OnOk result (kept.new ≡ kept.old ++ filter is_volume words.now) }
+/// Appends the words that say what tetrahedra are to be like.
+fn append_goal(alloc: Global, words: &Words, kept: &mut Words) -> Result<(), NoMemory>
+    ensures { OnOk result (kept.new ≡ kept.old ++ filter is_of_goal words.now) }
 {
     for word in words.as_slice() {
-        if is_volume(word.as_slice()) {
+        if is_of_goal(word.as_slice()) {
             kept.push(Name::from_slice(alloc, word.as_slice())?)?;
         }
     }
     Ok(())
 }
 
-/// The words but for `-V`: plain words, and behind them those that bound volumes.
+/// The words but for `-V`: plain words, and behind them those that say what tetrahedra are to be
+/// like.
 pub fn other_words(alloc: Global, words: &Words) -> Result<Words, NoMemory>
     ensures { IfOk result (λ kept. kept ≡ others words.now) }
 {
     let mut kept = plain_words(alloc, words)?;
-    append_volumes(alloc, words, &mut kept)?;
+    append_goal(alloc, words, &mut kept)?;
     Ok(kept)
 }
 

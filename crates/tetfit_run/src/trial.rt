@@ -3,8 +3,9 @@
 ghost use Rattle.std.specs.Prelude.{◌≡◌, IfOk};
 ghost use Rattle.command_words.specs.Meaning.{AreInRange};
 ghost use Rattle.node_files.specs.Limits.{AreIndexable};
-ghost use Rattle.run_steps.specs.Meshing.{BoundAnswer, IsMeshableBound};
+ghost use Rattle.run_steps.specs.Meshing.{IsMeshableBound};
 ghost use Rattle.run_steps.specs.Reading.{IsSound};
+ghost use Rattle.tetfit_run.specs.Measured.{BoundTried, tried};
 ghost use Rattle.tetfit_run.specs.Trial.{trial_of};
 
 use command_words::Options;
@@ -46,10 +47,11 @@ impl<'a> Trial<'a> {
         }
     }
 
-    /// Binds the points and the complex to their grid; `nodes` is a copy of the input's points.
+    /// Binds the points and the complex to their grid; `nodes` is a copy of the input's points as
+    /// they are tried.
     pub(crate) fn bind(&self, alloc: Global, nodes: NodeText) -> Result<Bound, Status>
-        requires { nodes ≡ self.now.input.nodes }
-        ensures answer { BoundAnswer self.now.limits self.now.options self.now.input result }
+        requires { nodes ≡ (tried self.now.options self.now.input).nodes }
+        ensures answer { BoundTried self.now.limits self.now.options self.now.input result }
         ensures meshable { IfOk result (IsMeshableBound self.now.options) }
     {
         bind_nodes(alloc, self.limits, self.options, nodes, &self.input.complex)

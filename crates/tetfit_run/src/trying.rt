@@ -1,15 +1,19 @@
 //! One try: the outputs of an input at a number of decimals.
 
 ghost use Rattle.std.specs.Prelude.{◌≡◌, ◌≤◌, Some, IfErr, IfOk};
-ghost use Rattle.run_steps.specs.Meshing.{IsMeshableBound, MeshedAnswer};
+ghost use Rattle.command_words.specs.Meaning.{AreInRange};
+ghost use Rattle.node_files.specs.Limits.{AreIndexable};
+ghost use Rattle.run_steps.specs.Meshing.{IsMeshableBound};
+ghost use Rattle.run_steps.specs.Reading.{IsSound};
+ghost use Rattle.tetfit_run.specs.Measured.{MeshedTried, tried};
 ghost use Rattle.tetfit_run.specs.Trying.{answer_in, AnswerAt, MadeAnswer};
-ghost use Rattle.tetfit_run.specs.Trying.{IsNumbered, IsNumberedAt};
+ghost use Rattle.tetfit_run.specs.Trying.{at_decimals, IsNumbered, IsNumberedAt};
 
-use crate::copies::{at_decimals, nodes_of};
+use crate::copies::{at_decimals, tried_nodes};
 use crate::trial::Trial;
 use command_words::Options;
-use node_files::NodeText;
-use run_steps::{Bound, Numbering, Outputs, Status, mesh_outputs, numbering_of};
+use node_files::{Limits, NodeText};
+use run_steps::{Bound, Input, Numbering, Outputs, Status, mesh_outputs, numbering_of};
 use std::alloc::Global;
 use tet_ports::NoMemory;
 
@@ -45,29 +49,36 @@ impl From<NoMemory> for Unfitted {
     }
 }
 
-/// The outputs of a trial, with the coordinates rounded to `decimals` decimals. It refuses as the
-/// steps `bind_input` and `mesh_outputs` do.
-pub(crate) fn outputs_at(alloc: Global, trial: &Trial, decimals: u32) -> Result<Outputs, Unfitted>
-    requires { decimals ≤ 20 }
-    ensures answer { AnswerAt trial.now.limits trial.now.options trial.now.input
-        decimals (answer_in result) }
-    ensures numbered { IfErr result
-        (IsNumberedAt trial.now.limits trial.now.options trial.now.input decimals) }
+/// The outputs of an input, with the coordinates rounded to `decimals` decimals, and measured from
+/// the origin of the options, where these have one. It refuses as the steps `bind_input` and
+/// `mesh_outputs` do.
+pub(crate) fn outputs_at(
+    alloc: Global,
+    limits: Limits,
+    options: &Options,
+    input: &Input,
+    decimals: u32,
+) -> Result<Outputs, Unfitted>
+    requires limits { AreIndexable limits }
+    requires input { IsSound input.now }
+    requires ranges { AreInRange (at_decimals decimals options.now) }
+    ensures answer { AnswerAt limits options.now input.now decimals (answer_in result) }
+    ensures numbered { IfErr result (IsNumberedAt limits options.now input.now decimals) }
 {
-    let options = at_decimals(alloc, trial.options, decimals)?;
-    let nodes = nodes_of(alloc, &trial.input.nodes)?;
-    let rounded = Trial::new(trial.limits, &options, trial.input);
+    let options = at_decimals(alloc, options, decimals)?;
+    let nodes = tried_nodes(alloc, &options, &input.nodes)?;
+    let rounded = Trial::new(limits, &options, input);
     outputs_with(alloc, &rounded, nodes)
 }
 
-/// The outputs of a trial; `nodes` is a copy of its points.
+/// The outputs of a trial; `nodes` is a copy of its points as they are tried.
 pub(crate) fn outputs_with(
     alloc: Global,
     trial: &Trial,
     nodes: NodeText,
 ) -> Result<Outputs, Unfitted>
-    requires { nodes ≡ trial.now.input.nodes }
-    ensures answer { MeshedAnswer trial.now.limits trial.now.options trial.now.input
+    requires { nodes ≡ (tried trial.now.options trial.now.input).nodes }
+    ensures answer { MeshedTried trial.now.limits trial.now.options trial.now.input
         (answer_in result) }
     ensures numbered { IfErr result (λ end. IsNumbered trial.now.limits
         trial.now.options trial.now.input end.status end.numbering) }

@@ -3,7 +3,7 @@
 ghost use Rattle.std.specs.Prelude.{◌≡◌, ◌≤◌, ◌-◌, max, IfOk, IfSome};
 ghost use Rattle.tetfit_run.specs.Hints.{missing_in, IsHalvedAfter, IsHalvedPartOf};
 
-use crate::copies::{nodes_of, with_budget};
+use crate::copies::{tried_nodes, with_budget};
 use crate::trial::Trial;
 use crate::trying::outputs_with;
 use geo_laws::Piece;
@@ -34,7 +34,7 @@ fn halved_after(alloc: Global, trial: &Trial, added: usize) -> Result<Option<Pie
         return Ok(None);
     }
     let options = with_budget(alloc, trial.options, added as u32)?;
-    let nodes = nodes_of(alloc, &trial.input.nodes)?;
+    let nodes = tried_nodes(alloc, &options, &trial.input.nodes)?;
     let halved = Trial::new(trial.limits, &options, trial.input);
     match outputs_with(alloc, &halved, nodes) {
         Ok(_) => Ok(None),

@@ -1,7 +1,7 @@
 use Rattle.std.proofs.Common.{Err, subst, arith}
 use Rattle.tetfit_run.specs.Grids.{AreOffBetween}
-use Rattle.tetfit_run.specs.Trial.{TrialValue}
-use Rattle.tetfit_run.specs.Trying.{AnswerAt, most_tried}
+use Rattle.tetfit_run.specs.Measured.{most_tried}
+use Rattle.tetfit_run.proofs.Measured.{of_near}
 use Rattle.tetfit_run.proofs.Tries.{refused_behind}
 use Rattle.tetfit_run.proofs.fitting.fit_input.Goals as goal
 
@@ -12,10 +12,12 @@ loop-outputs-preserved c =
     let input = c.args.input.now in
     let status = c.in-Err.end.status in
     let refused = c.goes_on.ensures.on c.if-not-goes_on.false in
-    let off = subst (λ ps. AreOffBetween c.args.limits.grid ps next.result m) c.as_slice-points.ensures next.ensures.off in
-    let IsRefusedIn : TrialValue → Type 0 = λ t. AnswerAt t.limits t.options t.input m (Err status) in
-    let answer = subst IsRefusedIn c.new-trial.ensures c.in-Err.ensures.answer in
+    let off = subst (λ ps. AreOffBetween c.args.limits.grid c.args.options.now.origin ps next.result m) c.as_slice-points.ensures next.ensures.off in
     record {
       within = omega (arith, next.ensures.less, c.loop-outputs.invariant.within);
-      finer = refused_behind c.args.limits c.args.options.now input (most_tried input) m next.result status refused.1 answer off c.loop-outputs.invariant.finer;
+      finer = refused_behind c.args.limits c.args.options.now input (most_tried input) m next.result status refused.1 c.in-Err.ensures.answer off c.loop-outputs.invariant.finer;
     }
+
+pub next_tried-decimals-requires-clause-near : goal.next_tried-decimals-requires-clause-near
+next_tried-decimals-requires-clause-near c =
+    of_near c.args.options.now.origin c.loop-outputs.decimals (c.requires.ranges c.loop-outputs.decimals c.loop-outputs.invariant.within).near

@@ -1,5 +1,6 @@
 use Rattle.std.proofs.Common.{◌<◌, ◌≤◌, ℕ}
-use Rattle.tetfit_run.specs.Trying.{most_tried, IsRefusedByGrid}
+use Rattle.tetfit_run.specs.Measured.{most_tried}
+use Rattle.tetfit_run.specs.Trying.{IsRefusedByGrid}
 use Rattle.tetfit_run.proofs.fitting.fit_input.Given as goal
 
 -- each greater number of decimals is refused

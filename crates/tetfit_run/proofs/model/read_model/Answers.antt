@@ -1,5 +1,4 @@
 use Rattle.std.proofs.Common.{true, false, sym, ◌∙◌, subst}
-use Rattle.run_steps.specs.Reading.{InputAnswer}
 use Rattle.tet_ports.specs.Seen.{FolderSeen, folder_seen}
 use Rattle.tetfit_run.specs.Models.{input_in}
 use Rattle.tetfit_run.proofs.Models.{other_model, stated_if, stl_model}
@@ -21,8 +20,8 @@ pub returns-clause-answer : goal.returns-clause-answer
 returns-clause-answer g c =
     let F = g.F.Folder in
     let seen : FolderSeen = folder_seen F.state c.args.folder.now c.read_input-read.new.folder in
-    other_model c.args.limits seen c.args.options.now (input_in c.with_stated.result) (sym c.names_stl.ensures ∙ c.if-names_stl.false)
-    (subst (InputAnswer c.args.limits seen c.args.options.now) (sym c.with_stated.ensures.input) c.read_input-read.ensures.answer)
+    other_model c.args.limits seen c.args.options.now c.read_input-read.result (input_in c.with_stated.result) (sym c.names_stl.ensures ∙ c.if-names_stl.false)
+    c.read_input-read.ensures.answer c.with_stated.ensures.input
 
 pub returns-clause-stated : goal.returns-clause-stated
 returns-clause-stated g c =

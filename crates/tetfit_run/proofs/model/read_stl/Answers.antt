@@ -1,12 +1,12 @@
-use Rattle.std.proofs.Common.{Ok, sym, subst}
+use Rattle.std.proofs.Common.{Ok}
 use Rattle.run_steps.specs.Reading.{NodesAnswer, BoundedAnswer}
 use Rattle.tet_ports.specs.Seen.{FolderSeen, folder_seen}
 use Rattle.run_steps.specs.Steps.{AndThen}
 use Rattle.run_steps.proofs.Steps.{and_then_ok}
 use Rattle.tet_ports.proofs.Windows.{IsWithin, first_within, last_within}
 use Rattle.run_steps.proofs.Wider.{bounded_wider}
-use Rattle.tetfit_run.specs.Models.{StlAnswer, StlInputAnswer}
-use Rattle.tetfit_run.proofs.Models.{stated_told, stl_fetched, stl_wider}
+use Rattle.tetfit_run.specs.Models.{input_in, StlAnswer, StlInputAnswer}
+use Rattle.tetfit_run.proofs.Models.{moved_on, stated_told, stl_fetched, stl_wider}
 use Rattle.tetfit_run.proofs.model.read_stl.Goals as goal
 
 pub returns-clause-answer : goal.returns-clause-answer
@@ -24,9 +24,9 @@ returns-clause-answer g c =
     let one : IsWithin first wide = first_within F.state c.args.folder.now c.fetch.new.folder c.with_points-read.new.folder b.only_read in
     let two : IsWithin second wide = last_within F.state c.args.folder.now c.fetch.new.folder c.with_points-read.new.folder a.only_read in
     let read = stl_fetched l first base c.in_ok-name.name file.name file.bytes (Ok surface) c.in_ok-name.ensures a.named a.read c.in_ok-surface.ensures.answer in
-    subst (StlInputAnswer l wide base) (sym c.with_stated.ensures.input)
+    moved_on (StlInputAnswer l wide base) c.with_points-read.result (input_in c.with_stated.result)
     (and_then_ok (StlAnswer l wide base) (λ f. AndThen (NodesAnswer l wide base f.text.nodes) (BoundedAnswer f)) surface c.with_points-read.result
-    (stl_wider l first wide one base (Ok surface) read) (bounded_wider l second wide two base surface c.with_points-read.result b.answer))
+    (stl_wider l first wide one base (Ok surface) read) (bounded_wider l second wide two base surface c.with_points-read.result b.answer)) c.with_stated.ensures.input
 
 pub returns-clause-stated : goal.returns-clause-stated
 returns-clause-stated g c =

@@ -1,9 +1,10 @@
-use Rattle.std.proofs.Common.{Ok, pos, subst}
+use Rattle.std.proofs.Common.{Ok, subst}
 use Rattle.command_words.specs.declared.options.Options.{Options}
+use Rattle.refining.specs.Goals.{shape_bounds}
 use Rattle.refining.specs.Outputs.{RefinedMade, RefinedMeshed}
 use Rattle.run_steps.proofs.Steps.{and_then_ok}
 use Rattle.run_steps.specs.Meshing.{BoundAnswer}
-use Rattle.tet_shapes.specs.Volume.{most_volume}
+use Rattle.tetfit_run.specs.Measured.{BoundTried, tried}
 use Rattle.tetfit_run.specs.Trial.{TrialValue}
 use Rattle.tetfit_run.proofs.refined.refined_at.Goals as goal
 
@@ -11,10 +12,10 @@ pub returns : goal.returns
 returns c =
     let limits = c.args.limits in
     let input = c.args.input.now in
-    let v = c.args.volume.now in
+    let g = c.args.goal.now in
     let o = c.in_ok-options.options in
     let bound = c.in_ok-bound.bound in
     let made = c.refined_towards.result in
-    let answer = subst (λ (t : TrialValue). BoundAnswer t.limits t.options t.input (Ok bound)) c.new-rounded.ensures c.in_ok-bound.ensures.answer in
-    subst (λ (q : Options). RefinedMeshed v limits q input made) c.in_ok-options.ensures
-    (and_then_ok (BoundAnswer limits o input) (λ b. RefinedMade (pos (most_volume b.table.grid v)) o b) bound made answer c.refined_towards.ensures)
+    let answer = subst (λ (t : TrialValue). BoundTried t.limits t.options t.input (Ok bound)) c.new-rounded.ensures c.in_ok-bound.ensures.answer in
+    subst (λ (q : Options). RefinedMeshed g limits q (tried q input) made) c.in_ok-options.ensures
+    (and_then_ok (BoundAnswer limits o (tried o input)) (λ b. RefinedMade (shape_bounds b g) o b) bound made answer c.refined_towards.ensures)

@@ -1,5 +1,5 @@
 use Rattle.std.proofs.Common.{subst, ap}
-use Rattle.run_steps.specs.Meshing.{BoundAnswer}
+use Rattle.tetfit_run.specs.Measured.{BoundTried}
 use Rattle.run_steps.proofs.Steps.{and_then_ok}
 use Rattle.tetfit_run.specs.Trying.{MadeAnswer, answer_in}
 use Rattle.tetfit_run.proofs.Tries.{numbered_in}
@@ -10,7 +10,7 @@ returns-clause-answer c =
     let t = c.args.trial.now in
     let made = answer_in c.outputs_of.result in
     let answer = subst (λ options. MadeAnswer options c.in_ok-bound.bound made) (ap (λ seen. seen.options) c.trial.view_is) c.outputs_of.ensures.answer in
-    and_then_ok (BoundAnswer t.limits t.options t.input) (MadeAnswer t.options) c.in_ok-bound.bound made c.in_ok-bound.ensures.answer answer
+    and_then_ok (BoundTried t.limits t.options t.input) (MadeAnswer t.options) c.in_ok-bound.bound made c.in_ok-bound.ensures.answer answer
 
 pub returns-clause-numbered : goal.returns-clause-numbered
 returns-clause-numbered c =

@@ -2,7 +2,7 @@ use Rattle.std.proofs.Common.{◌≡◌, ◌≤◌, None, drop}
 use Rattle.std.specs.Prelude.{IfSome}
 use Rattle.tet_text.specs.Decimals.{Scaled}
 use Rattle.tetfit_run.specs.Words.{last_volume}
-use Rattle.tetfit_run.proofs.wanted.fit_volume.Given as goal
+use Rattle.tetfit_run.proofs.goal.fit_volume.Given as goal
 
 -- the words that are left have the last volume of all
 abbrev pub invariant-loop-word : goal.invariant-loop-word

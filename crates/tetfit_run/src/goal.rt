@@ -1,0 +1,234 @@
+//! Reads what words ask of tetrahedra: bounds on their volume and on their shape.
+
+ghost use Rattle.std.specs.Prelude.{◌≡◌, ◌≤◌, ◌<◌, ◌^◌, true, None, IfSome, IsTrue, position, unsigned_abs};
+ghost use Rattle.std.specs.List.{list_any};
+ghost use Rattle.refining.specs.Goals.{IsFineGoal};
+ghost use Rattle.tet_shapes.specs.Shape.{IsFine};
+ghost use Rattle.tet_text.specs.Decimals.{Scaled};
+ghost use Rattle.tetfit_run.specs.Words.{first_bounding, fit_goal, fit_ratio, fit_volume, goal_fault};
+ghost use Rattle.tetfit_run.specs.Words.{if_ratio_bound, is_bad_bound, is_bound, is_bounding};
+ghost use Rattle.tetfit_run.specs.Words.{is_ratio_bound, keeps_boundary, ratio_behind, ratio_in, volume_in};
+
+use crate::request::{is_bounding, is_ratio, is_volume, keeps_boundary};
+use refining::Goal;
+use tet_ports::Words;
+use tet_shapes::Ratio;
+use tet_text::{Decimal, decimal_in};
+
+/// Whether the number is above 0 and has at most 36 decimals.
+fn is_bound(number: &Decimal) -> bool
+    ensures { result ≡ is_bound number.now }
+{
+    number.value > 0 && number.scale <= 36
+}
+
+/// The volume that the word gives.
+fn volume_in(word: &[u8]) -> Option<Decimal>
+    ensures value { result ≡ volume_in word.now }
+    ensures fine { IfSome result (λ (v : Scaled). v.scale ≤ 36) }
+{
+    if !is_volume(word) {
+        return None;
+    }
+    let number = decimal_in(&word[2..])?;
+    if is_bound(&number) {
+        Some(number)
+    } else {
+        None
+    }
+}
+
+/// The power of ten with at most four zeros.
+fn unit_of(scale: u32) -> u32
+    requires { scale ≤ 4 }
+    ensures value { result ≡ 10 ^ scale }
+    ensures small { result ≤ 10 ^ 4 }
+{
+    10_u32.pow(scale)
+}
+
+/// The size of the numerator of a decimal.
+fn size_of(number: &Decimal) -> u128
+    ensures value { result ≡ unsigned_abs number.now.value }
+    ensures small { result < 10 ^ 36 }
+{
+    number.value.unsigned_abs()
+}
+
+/// Whether the number is from 1 to 100 and has at most 4 decimals.
+fn is_ratio_bound(number: &Decimal) -> bool
+    ensures value { result ≡ is_ratio_bound number.now }
+    ensures short { IsTrue result → number.now.scale ≤ 4 }
+    ensures small { IsTrue result → unsigned_abs number.now.value ≤ 10 ^ 6 }
+{
+    if number.scale > 4 || number.value <= 0 {
+        return false;
+    }
+    let unit = u128::from(unit_of(number.scale));
+    let size = size_of(number);
+    unit <= size && size <= 100 * unit
+}
+
+/// The number as a ratio, where it is one that may be given.
+#[tactic(auto, unfolding(crate::specs::Words::if_ratio_bound))]
+fn if_ratio_bound(number: &Decimal) -> Option<Ratio>
+    ensures value { result ≡ if_ratio_bound number.now }
+    ensures fine { IfSome result IsFine }
+{
+    if !is_ratio_bound(number) {
+        return None;
+    }
+    Some(Ratio {
+        over: size_of(number) as u32,
+        under: unit_of(number.scale),
+    })
+}
+
+/// The ratio that this text behind `-q` gives.
+fn ratio_behind(text: &[u8]) -> Option<Ratio>
+    ensures value { result ≡ ratio_behind text.now }
+    ensures fine { IfSome result IsFine }
+{
+    if text.is_empty() {
+        return Some(Ratio { over: 2, under: 1 });
+    }
+    let number = decimal_in(text)?;
+    if_ratio_bound(&number)
+}
+
+/// The ratio that the word gives.
+fn ratio_in(word: &[u8]) -> Option<Ratio>
+    ensures value { result ≡ ratio_in word.now }
+    ensures fine { IfSome result IsFine }
+{
+    if is_ratio(word) {
+        ratio_behind(&word[2..])
+    } else {
+        None
+    }
+}
+
+/// Whether the word bounds volumes or ratios, and gives no bound.
+fn is_bad_bound(word: &[u8]) -> bool
+    ensures { result ≡ is_bad_bound word.now }
+{
+    is_volume(word) && volume_in(word).is_none() || is_ratio(word) && ratio_in(word).is_none()
+}
+
+/// The first word that bounds volumes or ratios and gives no bound, by its place from 0.
+pub(crate) fn bad_bound(words: &Words) -> Option<usize>
+    ensures value { result ≡ position is_bad_bound words.now }
+    ensures there { IfSome result (λ i. i < 2 ^ 63) }
+{
+    words
+        .as_slice()
+        .iter()
+        .position(|word| is_bad_bound(word.as_slice()))
+}
+
+/// The last volume that a word gives.
+fn fit_volume(words: &Words) -> Option<Decimal>
+    ensures value { result ≡ fit_volume words.now }
+    ensures fine { IfSome result (λ (v : Scaled). v.scale ≤ 36) }
+{
+    let mut last = None;
+    for word in words.as_slice() {
+        last = volume_in(word.as_slice()).or(last);
+    }
+    last
+}
+
+/// The last ratio that a word gives.
+fn fit_ratio(words: &Words) -> Option<Ratio>
+    ensures value { result ≡ fit_ratio words.now }
+    ensures fine { IfSome result IsFine }
+{
+    let mut last = None;
+    for word in words.as_slice() {
+        last = ratio_in(word.as_slice()).or(last);
+    }
+    last
+}
+
+/// Whether a word asks that no points be added on segments and in facets.
+fn keeps_boundaries(words: &Words) -> bool
+    ensures { result ≡ list_any keeps_boundary words.now }
+{
+    words
+        .as_slice()
+        .iter()
+        .any(|word| keeps_boundary(word.as_slice()))
+}
+
+/// What the tetrahedra are to be like, where a word gives a volume or a ratio.
+pub(crate) fn fit_goal(words: &Words) -> Option<Goal>
+    ensures value { result ≡ fit_goal words.now }
+    ensures fine { IfSome result IsFineGoal }
+{
+    let volume = fit_volume(words);
+    let ratio = fit_ratio(words);
+    if volume.is_some() || ratio.is_some() {
+        Some(Goal {
+            volume,
+            ratio,
+            splits_boundary: !keeps_boundaries(words),
+        })
+    } else {
+        None
+    }
+}
+
+/// The first word that bounds volumes or ratios, by its place from 0.
+fn bounding_place(words: &Words) -> Option<usize>
+    ensures value { result ≡ position is_bounding words.now }
+    ensures there { IfSome result (λ i. i < 2 ^ 63) }
+{
+    words
+        .as_slice()
+        .iter()
+        .position(|word| is_bounding(word.as_slice()))
+}
+
+/// The first word that bounds volumes or ratios, counted from 1; 1 where there is none.
+fn first_bounding(words: &Words) -> usize
+    ensures { result ≡ first_bounding words.now }
+{
+    match bounding_place(words) {
+        Some(i) => i + 1,
+        None => 1,
+    }
+}
+
+/// The first `-Y`, by its place from 0.
+fn boundary_place(words: &Words) -> Option<usize>
+    ensures value { result ≡ position keeps_boundary words.now }
+    ensures there { IfSome result (λ i. i < 2 ^ 63) }
+{
+    words
+        .as_slice()
+        .iter()
+        .position(|word| keeps_boundary(word.as_slice()))
+}
+
+/// The word and the place in it, both from 1, that do not go with the others: the first bound for a
+/// model without facets, and the first `-Y` where there is no bound.
+#[tactic(auto, unfolding(crate::specs::Words::goal_fault))]
+pub(crate) fn goal_fault(
+    words: &Words,
+    goal: &Option<Goal>,
+    piecewise: bool,
+) -> Option<(usize, usize)>
+    requires { goal.now ≡ fit_goal words.now }
+    ensures value { result ≡ goal_fault words.now piecewise }
+    ensures complex { result ≡ None → IfSome goal.now (λ goal. piecewise ≡ true) }
+{
+    if goal.is_none() {
+        let i = boundary_place(words)?;
+        return Some((i + 1, 2));
+    }
+    if piecewise {
+        None
+    } else {
+        Some((first_bounding(words), 3))
+    }
+}
