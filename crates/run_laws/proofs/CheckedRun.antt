@@ -12,7 +12,8 @@ use Rattle.mesh_files.specs.FaceRows.{AreFaceRowsOf}
 use Rattle.mesh_files.specs.Texts.{ele_text_of, face_text, edge_text, neigh_text}
 use Rattle.mesh_files.specs.declared.markers.FaceRow.{FaceRow}
 use Rattle.node_files.specs.Limits.{tetgen_limits}
-use Rattle.node_files.specs.Writing.{node_text}
+use Rattle.grid_coords.specs.declared.origin.WholePoint.{WholePoint}
+use Rattle.node_files.specs.Writing.{node_text, node_text_from}
 use Rattle.mesh_check.specs.Defects.{IsVerdict}
 use Rattle.mesh_check.specs.declared.defect.Verdict.TheVariants.{Sound}
 use Rattle.mesh_check.specs.Checking.{CheckAnswer}
@@ -54,7 +55,7 @@ first_small options mesh one = go options.from_zero
     go false = one
 
 module _ (options : Options) (mesh : Meshed) (outputs : Outputs) (are : AreOutputsOf options mesh outputs) (can : AreCheckable options mesh outputs)
-    (table : IsOfTable mesh) (input : HasInputNumbers mesh) (marks : HasRegionMarks mesh) (on : All (IsOn mesh.points) mesh.tetrahedra) where
+    (table : IsOfTable mesh) (input : HasInputNumbers mesh) (marks : HasRegionMarks mesh) (on : All (IsOn mesh.points) mesh.tetrahedra) (unmoved : options.origin ≡ None) where
   first : ℕ
   first = first_of options mesh
 
@@ -75,7 +76,9 @@ module _ (options : Options) (mesh : Meshed) (outputs : Outputs) (are : AreOutpu
   -- the files
   node_there : outputs.texts.node ≡ Some (named options.base (codes ".1.node") (node_text mesh.table mesh.added first))
   unfolding first
-  node_there = are.node_is ∙ ap (λ (b : Bool). if b then None else Some (named options.base (codes ".1.node") (node_text mesh.table mesh.added (first_of options mesh)))) can.nodes_there
+  node_there =
+      are.node_is ∙ ap (λ (b : Bool). if b then None else Some (named options.base (codes ".1.node") (node_text_from options.origin mesh.table mesh.added (first_of options mesh)))) can.nodes_there
+      ∙ ap (λ (o : Option WholePoint). Some (named options.base (codes ".1.node") (node_text_from o mesh.table mesh.added (first_of options mesh)))) unmoved
 
   ele_there : outputs.texts.ele ≡ Some (named options.base (codes ".1.ele") (ele_text_of mesh.marks mesh.complex.regions mesh.names first mesh.tetrahedra))
   unfolding first
@@ -241,7 +244,7 @@ checked_run words folder outputs run plain can before fresh seen left =
     let table = of_table options run.input run.bound run.mesh plain run.on_grid run.made in
     let numbers = input_numbers words folder run.input run.bound run.mesh plain run.read run.on_grid run.made in
     let marks = region_marks options run.bound run.mesh plain run.made in
-    checked options run.mesh outputs run.outputs_are can table numbers marks on before fresh seen left
+    checked options run.mesh outputs run.outputs_are can table numbers marks on refl before fresh seen left
     (sound_run options run.bound run.mesh plain run.made options.all_faces run.outputs_are.marked (run.outputs_are.marked_are can.faces_there))
 
 -- what the later run answers

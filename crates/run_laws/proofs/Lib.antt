@@ -42,3 +42,4 @@ pub mod ReadBack
 pub mod Listed
 pub mod Checked
 pub mod Grids
+pub mod WrittenBack

@@ -61,6 +61,7 @@ asking = record {
   budget = 100000;
   halvings = 12;
   decimals = None;
+  origin = None;
   sample = None;
   base = codes "nonplanar";
   extension = Some Poly;

@@ -170,7 +170,7 @@ others_left each n xs long = let step = mul-suc each n in omega (arith, length-d
 
 points_read : (g : Grid) → g.halvings ≤ 18 → (each : ℕ) (flag : Bool) (total k n : ℕ) (before : Option ℕ) (ps : List Point) (fs : List (List ℕ)) (ms : List ℤ) → is_next before n ≡ true → n + length ps ≤ 10 ^ 18 → All (IsLegiblePoint limit g) ps
     → length fs ≡ each * length ps → length ms ≡ mark_count flag * length ps → All IsPlainField fs → AreShort ms
-    → points_of each flag before (length ps) total (content_lines_from k (lines_of (point_lines g each (mark_count flag) n ps fs ms))) ≡ Ok (all_made g each (mark_count flag) n k ps fs ms, [])
+    → points_of each flag before (length ps) total (content_lines_from k (lines_of (point_lines None g each (mark_count flag) n ps fs ms))) ≡ Ok (all_made g each (mark_count flag) n k ps fs ms, [])
 unfolding points_of point_lines all_made made
 points_read g few each flag total k n before [] fs ms next small all many marked plain short = λ j. Ok ([], no_line k [] refl j)
 points_read g few each flag total k n before (p ∷ ps) fs ms next small all many marked plain short =
@@ -190,11 +190,11 @@ points_read g few each flag total k n before (p ∷ ps) fs ms next small all man
     here : AreShort (take (mark_count flag) ms)
     here = All-take (λ m. IsShortNumber (unsigned_abs m)) (mark_count flag) ms short
 
-    lines : content_lines_from k (lines_of (point_lines g each (mark_count flag) n (p ∷ ps) fs ms)) ≡ record { line = k; fields = decimal n ∷ point_fields g p (take each fs) (take (mark_count flag) ms) } ∷ content_lines_from (k + 1) (lines_of (point_lines g each (mark_count flag) (n + 1) ps (drop each fs) (drop (mark_count flag) ms)))
-    lines = text_line k n (point_fields g p (take each fs) (take (mark_count flag) ms)) (point_lines g each (mark_count flag) (n + 1) ps (drop each fs) (drop (mark_count flag) ms)) one (point_words g p (take each fs) (take (mark_count flag) ms) few is (All-take IsPlainField each fs plain) here)
+    lines : content_lines_from k (lines_of (point_lines None g each (mark_count flag) n (p ∷ ps) fs ms)) ≡ record { line = k; fields = decimal n ∷ point_fields g p (take each fs) (take (mark_count flag) ms) } ∷ content_lines_from (k + 1) (lines_of (point_lines None g each (mark_count flag) (n + 1) ps (drop each fs) (drop (mark_count flag) ms)))
+    lines = text_line k n (point_fields g p (take each fs) (take (mark_count flag) ms)) (point_lines None g each (mark_count flag) (n + 1) ps (drop each fs) (drop (mark_count flag) ms)) one (point_words g p (take each fs) (take (mark_count flag) ms) few is (All-take IsPlainField each fs plain) here)
 
     go : Result read.ListedPoint TextFault → Result (List read.ListedPoint × List ContentLine) TextFault
-    go r = r >>= λ point. points_of each flag (Some point.number) (length ps) total (content_lines_from (k + 1) (lines_of (point_lines g each (mark_count flag) (n + 1) ps (drop each fs) (drop (mark_count flag) ms)))) >>= λ more. Ok (point ∷ more.0, more.1)
+    go r = r >>= λ point. points_of each flag (Some point.number) (length ps) total (content_lines_from (k + 1) (lines_of (point_lines None g each (mark_count flag) (n + 1) ps (drop each fs) (drop (mark_count flag) ms)))) >>= λ more. Ok (point ∷ more.0, more.1)
 
     add : Result (List read.ListedPoint × List ContentLine) TextFault → Result (List read.ListedPoint × List ContentLine) TextFault
     add r = r >>= λ more. Ok (made g n k p (take each fs) (take (mark_count flag) ms) ∷ more.0, more.1)
@@ -203,12 +203,12 @@ points_read g few each flag total k n before (p ∷ ps) fs ms next small all man
 
 -- the lines of points that all have the same attributes and markers are those of points with these, one behind the other
 like_is : (g : Grid) (each marks n : ℕ) (ps : List Point) (fs : List (List ℕ)) (ms : List ℤ) → length fs ≡ each → length ms ≡ marks
-    → like_lines g n ps fs ms ≡ point_lines g each marks n ps (flat_map (λ p. fs) ps) (flat_map (λ p. ms) ps)
+    → like_lines None g n ps fs ms ≡ point_lines None g each marks n ps (flat_map (λ p. fs) ps) (flat_map (λ p. ms) ps)
 unfolding like_lines point_lines
 like_is g each marks n [] fs ms many marked = refl
 like_is g each marks n (p ∷ ps) fs ms many marked =
-    (λ j. point_line g n p (sym (take_at fs (flat_map (λ q. fs) ps) each many) j) (sym (take_at ms (flat_map (λ q. ms) ps) marks marked) j) ++ like_is g each marks (n + 1) ps fs ms many marked j)
-    ∙ (λ j. point_line g n p (take each (fs ++ flat_map (λ q. fs) ps)) (take marks (ms ++ flat_map (λ q. ms) ps)) ++ point_lines g each marks (n + 1) ps (sym (drop_at fs (flat_map (λ q. fs) ps) each many) j) (sym (drop_at ms (flat_map (λ q. ms) ps) marks marked) j))
+    (λ j. point_line None g n p (sym (take_at fs (flat_map (λ q. fs) ps) each many) j) (sym (take_at ms (flat_map (λ q. ms) ps) marks marked) j) ++ like_is g each marks (n + 1) ps fs ms many marked j)
+    ∙ (λ j. point_line None g n p (take each (fs ++ flat_map (λ q. fs) ps)) (take marks (ms ++ flat_map (λ q. ms) ps)) ++ point_lines None g each marks (n + 1) ps (sym (drop_at fs (flat_map (λ q. fs) ps) each many) j) (sym (drop_at ms (flat_map (λ q. ms) ps) marks marked) j))
   where
     drop_at : {A : Type 0} (xs ys : List A) (k : ℕ) → length xs ≡ k → drop k (xs ++ ys) ≡ ys
     drop_at xs ys k long = subst (λ (i : ℕ). drop i (xs ++ ys) ≡ ys) long (drop-append_seam xs ys)
@@ -218,20 +218,20 @@ none_left each [] long = refl
 none_left each (x ∷ xs) long = absurd (omega arith)
 
 both_lines : (g : Grid) (each marks n : ℕ) (ps qs : List Point) (fs bs : List (List ℕ)) (ms ns : List ℤ) → length fs ≡ each * length ps → length ms ≡ marks * length ps
-    → point_lines g each marks n ps fs ms ++ point_lines g each marks (n + length ps) qs bs ns ≡ point_lines g each marks n (ps ++ qs) (fs ++ bs) (ms ++ ns)
+    → point_lines None g each marks n ps fs ms ++ point_lines None g each marks (n + length ps) qs bs ns ≡ point_lines None g each marks n (ps ++ qs) (fs ++ bs) (ms ++ ns)
 unfolding point_lines
 both_lines g each marks n [] qs fs bs ms ns many marked =
-    (λ j. point_lines g each marks (same j) qs bs ns) ∙ (λ j. point_lines g each marks n qs (sym (none_left each fs many) j ++ bs) (sym (none_left marks ms marked) j ++ ns))
+    (λ j. point_lines None g each marks (same j) qs bs ns) ∙ (λ j. point_lines None g each marks n qs (sym (none_left each fs many) j ++ bs) (sym (none_left marks ms marked) j ++ ns))
   where
     same : n + 0 ≡ n
     same = omega arith
 both_lines g each marks n (p ∷ ps) qs fs bs ms ns many marked =
-    append_assoc (point_line g n p (take each fs) (take marks ms)) (point_lines g each marks (n + 1) ps (drop each fs) (drop marks ms)) (point_lines g each marks (n + suc (length ps)) qs bs ns)
-    ∙ ap (λ (s : List ℕ). point_line g n p (take each fs) (take marks ms) ++ s)
-    (ap (λ (m : ℕ). point_lines g each marks (n + 1) ps (drop each fs) (drop marks ms) ++ point_lines g each marks m qs bs ns) (let e : n + suc (length ps) ≡ n + 1 + length ps = omega arith in e)
+    append_assoc (point_line None g n p (take each fs) (take marks ms)) (point_lines None g each marks (n + 1) ps (drop each fs) (drop marks ms)) (point_lines None g each marks (n + suc (length ps)) qs bs ns)
+    ∙ ap (λ (s : List ℕ). point_line None g n p (take each fs) (take marks ms) ++ s)
+    (ap (λ (m : ℕ). point_lines None g each marks (n + 1) ps (drop each fs) (drop marks ms) ++ point_lines None g each marks m qs bs ns) (let e : n + suc (length ps) ≡ n + 1 + length ps = omega arith in e)
     ∙ both_lines g each marks (n + 1) ps qs (drop each fs) bs (drop marks ms) ns (others_left each (length ps) fs many) (others_left marks (length ps) ms marked))
-    ∙ (λ j. point_line g n p (sym (take-append-le each fs bs (front_whole each (length ps) fs many)) j) (sym (take-append-le marks ms ns (front_whole marks (length ps) ms marked)) j)
-    ++ point_lines g each marks (n + 1) (ps ++ qs) (sym (drop-append-le each fs bs (front_whole each (length ps) fs many)) j) (sym (drop-append-le marks ms ns (front_whole marks (length ps) ms marked)) j))
+    ∙ (λ j. point_line None g n p (sym (take-append-le each fs bs (front_whole each (length ps) fs many)) j) (sym (take-append-le marks ms ns (front_whole marks (length ps) ms marked)) j)
+    ++ point_lines None g each marks (n + 1) (ps ++ qs) (sym (drop-append-le each fs bs (front_whole each (length ps) fs many)) j) (sym (drop-append-le marks ms ns (front_whole marks (length ps) ms marked)) j))
 
 -- the first line of a text with *n* points
 abbrev first_line : ℕ → ℕ → Bool → List ℕ
@@ -239,7 +239,7 @@ first_line count each flag = line_text (pos count) (whole_text (pos 3) ∷ whole
 
 text_is : (table : NodeTable) (added : List Point) (first : ℕ) → IsPlainTable table
     → node_text table added first ≡ first_line (length (table.listed ++ added)) table.attribute_count table.flag
-    ++ point_lines table.grid table.attribute_count (mark_count table.flag) first (table.listed ++ added) (attributes_behind table added) (markers_behind table added)
+    ++ point_lines None table.grid table.attribute_count (mark_count table.flag) first (table.listed ++ added) (attributes_behind table added) (markers_behind table added)
 unfolding list_text
 text_is table added first plain =
     let each = table.attribute_count in
@@ -247,7 +247,7 @@ text_is table added first plain =
     let zeros : List (List ℕ) = replicate each (48 ∷ []) in
     let blanks : List ℤ = replicate marks (pos 0) in
     (λ j. first_line (sym (length-append table.listed added) j) each table.flag
-    ++ (point_lines table.grid each marks first table.listed table.attributes table.markers ++ like_is table.grid each marks (first + length table.listed) added zeros blanks (length-replicate each (48 ∷ [])) (length-replicate marks (pos 0)) j))
+    ++ (point_lines None table.grid each marks first table.listed table.attributes table.markers ++ like_is table.grid each marks (first + length table.listed) added zeros blanks (length-replicate each (48 ∷ [])) (length-replicate marks (pos 0)) j))
     ∙ ap (λ (s : List ℕ). first_line (length (table.listed ++ added)) each table.flag ++ s)
     (both_lines table.grid each marks first table.listed added table.attributes (flat_map (λ p. zeros) added) table.markers (flat_map (λ p. blanks) added) plain.attributes plain.markers)
 
@@ -364,15 +364,15 @@ node_read wide within table added first plain one short all =
     flag_small true = omega arith
     flag_small false = omega arith
 
-    lines : content_lines_from 1 (lines_of (first_line (length (table.listed ++ added)) table.attribute_count table.flag ++ point_lines table.grid table.attribute_count (mark_count table.flag) first (table.listed ++ added) (attributes_behind table added) (markers_behind table added)))
-        ≡ record { line = 1; fields = decimal (length (table.listed ++ added)) ∷ decimal 3 ∷ decimal table.attribute_count ∷ decimal (mark_count table.flag) ∷ [] } ∷ content_lines_from 2 (lines_of (point_lines table.grid table.attribute_count (mark_count table.flag) first (table.listed ++ added) (attributes_behind table added) (markers_behind table added)))
+    lines : content_lines_from 1 (lines_of (first_line (length (table.listed ++ added)) table.attribute_count table.flag ++ point_lines None table.grid table.attribute_count (mark_count table.flag) first (table.listed ++ added) (attributes_behind table added) (markers_behind table added)))
+        ≡ record { line = 1; fields = decimal (length (table.listed ++ added)) ∷ decimal 3 ∷ decimal table.attribute_count ∷ decimal (mark_count table.flag) ∷ [] } ∷ content_lines_from 2 (lines_of (point_lines None table.grid table.attribute_count (mark_count table.flag) first (table.listed ++ added) (attributes_behind table added) (markers_behind table added)))
     lines =
-        let rest = point_lines table.grid table.attribute_count (mark_count table.flag) first (table.listed ++ added) (attributes_behind table added) (markers_behind table added) in
+        let rest = point_lines None table.grid table.attribute_count (mark_count table.flag) first (table.listed ++ added) (attributes_behind table added) (markers_behind table added) in
         ap (λ (ws : List (List ℕ)). content_lines_from 1 (lines_of (line_text (pos (length (table.listed ++ added))) ws ++ rest))) (λ j. whole_is_decimal 3 three_short j ∷ whole_is_decimal table.attribute_count (small table.attribute_count plain.few) j ∷ whole_is_decimal (mark_count table.flag) (flag_small table.flag) j ∷ [])
         ∙ text_line 1 (length (table.listed ++ added)) (decimal 3 ∷ decimal table.attribute_count ∷ decimal (mark_count table.flag) ∷ []) rest few
         (decimal_word 3 three_short, (decimal_word table.attribute_count (small table.attribute_count plain.few), (decimal_word (mark_count table.flag) (flag_small table.flag), tt)))
 
-    body : (total : ℕ) → points_of table.attribute_count table.flag None (length (table.listed ++ added)) total (content_lines_from 2 (lines_of (point_lines table.grid table.attribute_count (mark_count table.flag) first (table.listed ++ added) (attributes_behind table added) (markers_behind table added))))
+    body : (total : ℕ) → points_of table.attribute_count table.flag None (length (table.listed ++ added)) total (content_lines_from 2 (lines_of (point_lines None table.grid table.attribute_count (mark_count table.flag) first (table.listed ++ added) (attributes_behind table added) (markers_behind table added))))
         ≡ Ok (all_made table.grid table.attribute_count (mark_count table.flag) first 2 (table.listed ++ added) (attributes_behind table added) (markers_behind table added), [])
     body total =
         points_read table.grid plain.halvings table.attribute_count table.flag total 2 first None (table.listed ++ added) (attributes_behind table added) (markers_behind table added) (le-leb first 1 one) (let h = short in omega arith) (λ i d lt. legible within (all i d lt))

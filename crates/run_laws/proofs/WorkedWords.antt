@@ -26,6 +26,7 @@ asking full complex = record {
   budget = 100000;
   halvings = 12;
   decimals = None;
+  origin = None;
   sample = None;
   base = codes "pyramid";
   extension = Some (if complex then Poly else Node);

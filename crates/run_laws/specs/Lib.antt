@@ -14,3 +14,4 @@ pub mod NodeRead
 pub mod ReadBack
 pub mod Listed
 pub mod Checked
+pub mod Measured

@@ -81,7 +81,8 @@ pyramid_neigh_text = record {
 -- what is written to the standard output: the counts, and no lines behind them
 abbrev pub pyramid_report : Report
 pyramid_report =
-    Mesh (record { points = 5; added = 0; tetrahedra = 2; faces = 7; edges = 9; hidden = None; decimals = None; over = None }) []
+    Mesh
+    (record { points = 5; added = 0; tetrahedra = 2; faces = 7; edges = 9; hidden = None; decimals = None; over = None; slim = None }) []
 
 -- and its text
 abbrev pub summary_line : List ℕ

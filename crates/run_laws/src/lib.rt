@@ -6,6 +6,7 @@ mod checked_runs;
 mod complete_checks;
 mod complete_points;
 mod inputs;
+mod measured;
 mod reread;
 mod sound_meshes;
 mod sound_runs;
@@ -16,6 +17,7 @@ pub use checked_runs::{law_checked_after, law_checked_run, law_few_decimals};
 pub use complete_checks::{law_check_complete, law_where_complete};
 pub use complete_points::{law_points_complete, law_weights_complete};
 pub use inputs::{law_nodes_read, law_plc_read, law_surface_read};
+pub use measured::law_written_back;
 pub use reread::{
     law_checked_back, law_ele_read, law_face_read, law_listed, law_neigh_read, law_node_read,
     law_read_back,
