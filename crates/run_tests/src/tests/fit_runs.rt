@@ -24,7 +24,7 @@ const BEAM: &[u8] = b"16 3 0 0\n1 0 0 -14\n2 2 0 -14\n3 2 1 -14\n4 1 1 -14\n5 1 
       3 13 15 16\n1\n3 14 15 16\n1\n1 0.65 0.65 0\n0\n";
 
 /// A point off each grid.
-const FAR: &[u8] = b"4 3 0 0\n1 0 0 0\n2 1234567890.5 0 0\n3 0 1 0\n4 0 0 1\n";
+const FAR: &[u8] = b"4 3 0 0\n1 0 0 0\n2 1234567890.5 0 0\n3 0 1 0\n4 -1234567890.5 0 1\n";
 
 /// The head of a binary `.stl` file.
 const HEAD: &[u8] = &[0; 80];
@@ -33,8 +33,8 @@ const HEAD: &[u8] = &[0; 80];
 const FAR_FACET: &[u8] = b"\x01\x00\x00\x00\
 \x00\x00\x00\x00\x00\x00\x00\x00\x00\x00\x80\x3f\
 \x00\x00\x00\x00\x00\x00\x00\x00\x00\x00\x00\x00\
-\x28\x6b\x6e\x4e\x00\x00\x00\x00\x00\x00\x00\x00\
-\x00\x00\x00\x00\x00\x00\x80\x3f\x00\x00\x00\x00\x00\x00";
+\x28\x6b\xee\x4e\x00\x00\x00\x00\x00\x00\x00\x00\
+\x28\x6b\xee\xce\x00\x00\x80\x3f\x00\x00\x00\x00\x00\x00";
 
 /// Two segments that cross.
 const CROSSED: &[u8] = b"\
@@ -49,12 +49,12 @@ const OPEN: &[u8] = b"\
 const FAR_TOLD: &[u8] = b"\
 tetfit: line 3: coordinate off the grid\n\
 tetfit: line 3 has (1234567890.5 0 0)\n\
-tetfit: no coordinate may be over 536870912 in size: scale the model down\n";
+tetfit: no coordinate may be over 536870912 from the middle: scale the model down\n";
 
 const FAR_FACET_TOLD: &[u8] = b"\
 tetfit: facet 1: coordinate off the grid\n\
-tetfit: facet 1 has (1000000000 0 0)\n\
-tetfit: no coordinate may be over 536870912 in size: scale the model down\n";
+tetfit: facet 1 has (2000000000 0 0)\n\
+tetfit: no coordinate may be over 536870912 from the middle: scale the model down\n";
 
 const CROSSED_TOLD: &[u8] = b"\
 tetfit: segments 1 2 and 3 4 cross\n\
@@ -130,7 +130,19 @@ static TOLD: [Run<'static>; 6] = [
     },
 ];
 
-static FITS: [Run<'static>; 5] = [
+/// Points far from zero, of which no coordinate of two decimals is on a grid that begins at zero.
+const AFAR: &[u8] = b"4 3 0 0\n1 432100.25 5412300.75 -0.5\n2 432101.3 5412300.75 -0.5\n\
+      3 432100.25 5412301.75 -0.5\n4 432100.25 5412300.75 0.75\n";
+
+/// A tetrahedron of facets far from zero, with a region point in it.
+const SOLID_AFAR: &[u8] = b"4 3 0 0\n1 1000000000000 0 0\n2 1000000000004.5 0 0\n\
+      3 1000000000000 4 0\n4 1000000000000 0 4\n4 0\n\
+      1\n3 1 2 3\n1\n3 1 2 4\n1\n3 1 3 4\n1\n3 2 3 4\n0\n1\n1 1000000000001 1 1 7\n";
+
+const SOLID_AFAR_NODE: &[u8] = b"4 3 0 0\n1 1000000000000 0 0\n2 1000000000004.5 0 0\n\
+      3 1000000000000 4 0\n4 1000000000000 0 4\n";
+
+static FITS: [Run<'static>; 7] = [
     Run {
         name: "many decimals",
         held: &[(b"t.node", &[TINY])],
@@ -153,6 +165,23 @@ static FITS: [Run<'static>; 5] = [
         files: &[(b"t.1.node", Some(NODE))],
     },
     Run {
+        name: "points far from zero",
+        held: &[(b"a.node", &[AFAR])],
+        words: &[b"a.node"],
+        end: Told(b"points 4 added 0 tetrahedra 1 faces 4 edges 6 decimals 2\n"),
+        files: &[(b"a.1.node", Some(AFAR))],
+    },
+    Run {
+        name: "a solid and a region far from zero",
+        held: &[(b"s.poly", &[SOLID_AFAR])],
+        words: &[b"-AF", b"s.poly"],
+        end: Told(b"points 4 added 0 tetrahedra 1 faces 4 edges 6 decimals 1\n"),
+        files: &[
+            (b"s.1.node", Some(SOLID_AFAR_NODE)),
+            (b"s.1.ele", Some(b"1 4 1\n1 1 2 3 4 7\n")),
+        ],
+    },
+    Run {
         name: "a segment for which the grid of seven decimals is too coarse",
         held: &[(b"b.poly", &[BEAM])],
         words: &[b"-NEF", b"b.poly"],
@@ -166,7 +195,7 @@ static FITS: [Run<'static>; 5] = [
         end: Refused(
             1,
             b"tetfit: reads and meshes the model\n\
-              tetfit: -pq1.4: q: quality meshes are not there\n",
+              tetfit: -pq1.4: q: a ratio is a word of its own, as -q1.4\n",
         ),
         files: &[],
     },

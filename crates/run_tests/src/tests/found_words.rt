@@ -24,7 +24,10 @@ static TOLD: [Run<'static>; 11] = [
         name: "a letter of tetgen's manual",
         held: &[],
         words: &[b"-pq1.4", b"x"],
-        end: Refused(1, b"tetfit: -pq1.4: q: quality meshes are not there\n"),
+        end: Refused(
+            1,
+            b"tetfit: -pq1.4: q: a ratio is a word of its own, as -q1.4\n",
+        ),
         files: &[],
     },
     Run {

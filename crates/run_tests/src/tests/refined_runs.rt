@@ -1,4 +1,4 @@
-//! Runs that bound the volume of tetrahedra, over a folder and streams in memory.
+//! Runs that bound the volume and the shape of tetrahedra, over a folder and streams in memory.
 
 use crate::tests::harness::End::{Refused, Told};
 use crate::tests::harness::Program::Tetfit;
@@ -10,6 +10,12 @@ const CUBE: &[u8] = b"\
 8 3 0 0\n1 0 0 0\n2 8 0 0\n3 8 8 0\n4 0 8 0\n5 0 0 8\n6 8 0 8\n7 8 8 8\n8 0 8 8\n\
 6 0\n4 1 2 3 4\n4 5 6 7 8\n4 1 2 6 5\n4 2 3 7 6\n4 3 4 8 7\n4 4 1 5 8\n0\n0\n";
 
+/// A box with sides of 8, 8 and 1. The sphere through its corners has the square of its radius at
+/// 129/4, and six tetrahedra with an edge of 1 fill it, each of 32/3.
+const FLAT_BOX: &[u8] = b"\
+8 3 0 0\n1 0 0 0\n2 8 0 0\n3 8 8 0\n4 0 8 0\n5 0 0 1\n6 8 0 1\n7 8 8 1\n8 0 8 1\n\
+6 0\n4 1 2 3 4\n4 5 6 7 8\n4 1 2 6 5\n4 2 3 7 6\n4 3 4 8 7\n4 4 1 5 8\n0\n0\n";
+
 const POINTS: &[u8] = b"4 3 0 0\n1 0 0 0\n2 8 0 0\n3 8 8 0\n4 0 8 8\n";
 
 const NO_VOLUME: &[u8] = b"tetfit: -a0: 0: a volume above 0 is wanted, and a model with facets\n";
@@ -17,6 +23,30 @@ const NO_VOLUME: &[u8] = b"tetfit: -a0: 0: a volume above 0 is wanted, and a mod
 const NO_FACETS: &[u8] = b"tetfit: -a1: 1: a volume above 0 is wanted, and a model with facets\n";
 
 const IN_CLUSTER: &[u8] = b"tetfit: -pa1: a: a volume is a word of its own, as -a0.5\n";
+
+const RATIO_BELOW_ONE: &[u8] = b"\
+tetfit: -q0.5: 0: a ratio from 1 to 100 is wanted, with at most 4 decimals, and a model with \
+facets\n";
+
+const RATIO_OVER_HUNDRED: &[u8] = b"\
+tetfit: -q101: 1: a ratio from 1 to 100 is wanted, with at most 4 decimals, and a model with \
+facets\n";
+
+const NO_RATIO: &[u8] = b"\
+tetfit: -qx: x: a ratio from 1 to 100 is wanted, with at most 4 decimals, and a model with \
+facets\n";
+
+const FIVE_DECIMALS: &[u8] = b"\
+tetfit: -q1.41421: 1: a ratio from 1 to 100 is wanted, with at most 4 decimals, and a model with \
+facets\n";
+
+const RATIO_OF_POINTS: &[u8] = b"\
+tetfit: -q: a ratio from 1 to 100 is wanted, with at most 4 decimals, and a model with facets\n";
+
+const BOUNDARY_IN_CLUSTER: &[u8] = b"\
+tetfit: -pY: Y: this letter is a word of its own, with its hyphen\n";
+
+const BOUNDARY_ALONE: &[u8] = b"tetfit: -Y: Y: it goes with -a or -q\n";
 
 static BOUNDED: [Run<'static>; 6] = [
     Run {
@@ -63,8 +93,94 @@ static BOUNDED: [Run<'static>; 6] = [
     },
 ];
 
+static SHAPED: [Run<'static>; 11] = [
+    Run {
+        name: "a ratio that no tetrahedron is over",
+        held: &[(b"c.smesh", &[CUBE])],
+        words: &[b"-NEF", b"-q", b"c.smesh"],
+        end: Told(b"points 8 added 0 tetrahedra 6 faces 18 edges 19 decimals 0 slim 0\n"),
+        files: &[],
+    },
+    Run {
+        name: "a ratio that all are just over, and no point may be added",
+        held: &[(b"c.smesh", &[FLAT_BOX])],
+        words: &[b"-NEFS0", b"-q5.6789", b"c.smesh"],
+        end: Told(b"points 8 added 0 tetrahedra 6 faces 18 edges 19 decimals 0 slim 6\n"),
+        files: &[],
+    },
+    Run {
+        name: "the last of two ratios, that all are just within",
+        held: &[(b"c.smesh", &[FLAT_BOX])],
+        words: &[b"-NEFS0", b"-q2", b"c.smesh", b"-q5.679"],
+        end: Told(b"points 8 added 0 tetrahedra 6 faces 18 edges 19 decimals 0 slim 0\n"),
+        files: &[],
+    },
+    Run {
+        name: "a ratio and a volume",
+        held: &[(b"c.smesh", &[FLAT_BOX])],
+        words: &[b"-q100", b"-NEFS0", b"-a10.66", b"c.smesh", b"-Y"],
+        end: Told(b"points 8 added 0 tetrahedra 6 faces 18 edges 19 decimals 0 over 6 slim 0\n"),
+        files: &[],
+    },
+    Run {
+        name: "a ratio below 1",
+        held: &[(b"c.smesh", &[CUBE])],
+        words: &[b"-q0.5", b"c.smesh", b"-a0"],
+        end: Refused(1, RATIO_BELOW_ONE),
+        files: &[],
+    },
+    Run {
+        name: "a ratio over 100",
+        held: &[(b"c.smesh", &[CUBE])],
+        words: &[b"c.smesh", b"-q101"],
+        end: Refused(1, RATIO_OVER_HUNDRED),
+        files: &[],
+    },
+    Run {
+        name: "a letter in place of a ratio",
+        held: &[(b"c.smesh", &[CUBE])],
+        words: &[b"-qx", b"c.smesh"],
+        end: Refused(1, NO_RATIO),
+        files: &[],
+    },
+    Run {
+        name: "a ratio with five decimals",
+        held: &[(b"c.smesh", &[CUBE])],
+        words: &[b"-q1.41421", b"c.smesh"],
+        end: Refused(1, FIVE_DECIMALS),
+        files: &[],
+    },
+    Run {
+        name: "a ratio for points alone",
+        held: &[(b"p.node", &[POINTS])],
+        words: &[b"-q", b"p.node"],
+        end: Refused(1, RATIO_OF_POINTS),
+        files: &[],
+    },
+    Run {
+        name: "a boundary that is kept where nothing is bounded",
+        held: &[(b"c.smesh", &[CUBE])],
+        words: &[b"-Y", b"c.smesh"],
+        end: Refused(1, BOUNDARY_ALONE),
+        files: &[],
+    },
+    Run {
+        name: "a boundary that is kept, among other letters",
+        held: &[(b"c.smesh", &[CUBE])],
+        words: &[b"-pY", b"-q", b"c.smesh"],
+        end: Refused(1, BOUNDARY_IN_CLUSTER),
+        files: &[],
+    },
+];
+
 #[test]
 fn volumes_of_tetrahedra(rt: HostRuntime) -> Result<(), Fail> {
     assert_eq!(rt; other_run(rt.alloc(), Tetfit, &BOUNDED)?, None);
+    Ok(())
+}
+
+#[test]
+fn shapes_of_tetrahedra(rt: HostRuntime) -> Result<(), Fail> {
+    assert_eq!(rt; other_run(rt.alloc(), Tetfit, &SHAPED)?, None);
     Ok(())
 }
