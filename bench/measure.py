@@ -72,7 +72,7 @@ def row(name, switches, path, count, own=None):
 def check_programs():
     """Says which of the programs there are; ends where there is none."""
     if not os.path.exists(PROGRAM):
-        print("this program is not built (./tetgen examples/pyramid.node builds it): its columns are empty", file=sys.stderr)
+        print("this program is not built (./tetgen --build builds it): its columns are empty", file=sys.stderr)
     if PEER is None:
         print("tetgen is not installed (apt-get install tetgen): no ratios", file=sys.stderr)
     if not os.path.exists(LAUNCHER):
