@@ -182,7 +182,13 @@ def built_here(repo):
     refused = repo.run("tetgen", "a", has_kit=False, TETGEN_BUILD="1")
     yield "a change behind it", refused, (125, "", f"tetgen: {NO_KIT}")
     where = f"tetgen: proved and built from these sources: {repo.top}/crates/tetgen/out/tetgen\n"
-    yield "--build", repo.run("tetgen", "--build"), (0, where, "")
+    yield "--build behind it", repo.run("tetgen", "--build"), (0, where, "")
+    change(f"{repo.top}/crates/low/src/lib.rt")
+    other = f"{where}tetgen: it is another program than that of dist/tetgen.gz\n"
+    yield "--build", repo.run("tetgen", "--build"), (0, other, "")
+    repo.ci()
+    like = f"{where}tetgen: it is the program of dist/tetgen.gz, byte for byte\n"
+    yield "--build behind rt ci", repo.run("tetgen", "--build"), (0, like, "")
 
 
 def no_dist(repo):
