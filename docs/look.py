@@ -8,6 +8,7 @@ docs/look.py MESH PICTURE.png whole    draws it whole
 MESH is a name such as part.1, with or without an extension. Of Debian's packages it needs python3-meshio, for the picture python3-paraview, and on a machine
 with no screen xvfb too.
 """
+import importlib.util
 import os
 import shutil
 import sys
@@ -19,15 +20,15 @@ EXTENSIONS = (".node", ".ele", ".face", ".edge", ".neigh", ".vtu", ".msh")
 WIDTH, HEIGHT, HALF_ANGLE = 900, 700, 15
 
 
-def wanted(package):
-    sys.exit(f"docs/look.py: {package} is wanted: apt-get install {package}")
+def wanted(packages):
+    sys.exit(f"docs/look.py: not installed: {' '.join(packages)} (apt-get install {' '.join(packages)})")
 
 
 try:
     import meshio
     import numpy
 except ImportError:
-    wanted("python3-meshio")
+    wanted(["python3-meshio"])
 
 
 def base_of(name):
@@ -110,10 +111,8 @@ def camera(points, towards):
 
 
 def draw(base, picture, whole):
-    try:
-        from paraview import simple
-    except ImportError:
-        wanted("python3-paraview")
+    from paraview import simple
+
     # else the first picture is taken from a place of ParaView's own
     simple._DisableFirstRenderCameraReset()
     towards = numpy.array([0.9, 0.5, 1.1] if whole else [-0.3, -1.0, 0.35])
@@ -135,17 +134,21 @@ def draw(base, picture, whole):
 
 def main():
     words = sys.argv[1:]
+    if words in ([], ["-h"], ["--help"]):
+        print(__doc__.strip())
+        return
     if not 1 <= len(words) <= 3 or words[0].startswith("-") or words[2:] not in ([], ["whole"]):
         sys.exit(__doc__.strip())
     base = base_of(words[0])
     convert(base)
     if len(words) == 1:
         return
-    if not os.environ.get("DISPLAY"):
+    has_screen, launcher = os.environ.get("DISPLAY"), shutil.which("xvfb-run")
+    packages = {"python3-paraview": importlib.util.find_spec("paraview"), "xvfb": has_screen or launcher}
+    if not all(packages.values()):
+        wanted([name for name, found in packages.items() if not found])
+    if not has_screen:
         # ParaView draws on a screen alone: one that nobody sees serves, if it does not begin anew when ParaView has looked at it once
-        launcher = shutil.which("xvfb-run")
-        if launcher is None:
-            wanted("xvfb")
         os.execv(launcher, [launcher, "-a", "-s", "-screen 0 1280x1024x24 -noreset", sys.executable, *sys.argv])
     draw(base, words[1], words[2:] == ["whole"])
 
