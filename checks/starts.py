@@ -129,6 +129,17 @@ def other_machines(repo):
     yield "another processor", repo.run("tetgen", "a"), built
 
 
+def other_libraries(repo):
+    repo.ci()
+    write(f"{repo.top}/crates/tetgen/out/tetgen", "#!/no/loader\n", 0o755)
+    repo.run("tools/dist")
+    repo.clean()
+    other = "tetgen: dist/tetgen.gz does not start on this machine, so it is not run\n"
+    refused = 125, "", f"{other}tetgen: {NO_KIT}"
+    for number in ("first", "second"):
+        yield f"a {number} start with no loader", repo.run("tetgen", "a", has_kit=False), refused
+
+
 def starts_without_kit(repo):
     status, output, _ = repo.said("rt ci", "a")
     first = repo.run("tetgen", "a", has_kit=False)
@@ -255,6 +266,7 @@ def compared_sums(repo):
 CASES = (
     first_starts,
     other_machines,
+    other_libraries,
     starts_without_kit,
     changed_sources,
     changed_programs,
