@@ -1,13 +1,13 @@
 -- Faces that are appended to a complex, corner by corner.
-use Rattle.std.proofs.Common.{◌≡◌, ℕ, ◌<◌, List, [], ◌∷◌, ◌++◌, length, None, refl, sym, ap, ◌∙◌, append_assoc, arith}
-use Rattle.std.specs.Prelude.{map}
+use Rattle.std.proofs.Common.{◌≡◌, ℕ, ◌<◌, List, [], ◌∷◌, ◌++◌, length, Option, None, refl, sym, ap, ◌∙◌, append_assoc, arith}
+use Rattle.std.specs.Prelude.{ℤ, map}
 use Rattle.std.proofs.lemmas.List.{append-nil, map-append}
 use Rattle.std.proofs.lemmas.List.Sums.{fold-append}
 use Rattle.geo_laws.specs.Complex.{change_last}
 use Rattle.plc_files.specs.declared.parts.CornerText.{CornerText}
 use Rattle.plc_files.specs.declared.parts.PolygonText.{PolygonText}
 use Rattle.plc_files.specs.Text.{ReadFacet, Plc, LastHasPolygon, empty_polygon, empty_facet, plus_corner, plus_polygon, last_plus_corner, with_facet_text, with_polygon_text, with_corner}
-use Rattle.soup_files.specs.Surface.{facet_of_one, plus_face, plus_faces, plus_corners}
+use Rattle.soup_files.specs.Surface.{facet_of_one, marked_face, plus_facet, plus_face, plus_faces, plus_corners}
 
 change_last-append : {X : Type 0} (f : X → X) (xs : List X) (x : X) → change_last f (xs ++ x ∷ []) ≡ xs ++ f x ∷ []
 change_last-append f [] x = refl
@@ -24,20 +24,20 @@ abbrev with_facets : Plc → List ReadFacet → Plc
 with_facets t fs = record t { facets = fs }
 
 -- a facet with a polygon that has no corner yet
-pub started : (line : ℕ) (t : Plc) → with_polygon_text line (with_facet_text None t) ≡ plus_face (empty_polygon line) t
-started line t = ap (with_facets t) (change_last-append (plus_polygon line) t.facets (empty_facet None))
+pub started : (marker : Option ℤ) (line : ℕ) (t : Plc) → with_polygon_text line (with_facet_text marker t) ≡ plus_facet (marked_face marker (empty_polygon line)) t
+started marker line t = ap (with_facets t) (change_last-append (plus_polygon line) t.facets (empty_facet marker))
 
 -- a corner of the face that was appended last
-pub corner_added : (number line : ℕ) (face : PolygonText) (t : Plc) → with_corner number line (plus_face face t) ≡ plus_face (plus_corner number line face) t
-corner_added number line face t = ap (with_facets t) (change_last-append (last_plus_corner number line) t.facets (facet_of_one face))
+pub corner_added : (marker : Option ℤ) (number line : ℕ) (face : PolygonText) (t : Plc) → with_corner number line (plus_facet (marked_face marker face) t) ≡ plus_facet (marked_face marker (plus_corner number line face)) t
+corner_added marker number line face t = ap (with_facets t) (change_last-append (last_plus_corner number line) t.facets (marked_face marker face))
 
 last_has : (fs : List ReadFacet) (f : ReadFacet) → 0 < length f.polygons → LastHasPolygon (fs ++ f ∷ [])
 last_has [] f some = some
 last_has (g ∷ []) f some = some
 last_has (g ∷ h ∷ hs) f some = last_has (h ∷ hs) f some
 
-pub face_has : (face : PolygonText) (t : Plc) → LastHasPolygon (plus_face face t).facets
-face_has face t = last_has t.facets (facet_of_one face) (omega arith)
+pub face_has : (marker : Option ℤ) (face : PolygonText) (t : Plc) → LastHasPolygon (plus_facet (marked_face marker face) t).facets
+face_has marker face t = last_has t.facets (marked_face marker face) (omega arith)
 
 has_kept : (number line : ℕ) (fs : List ReadFacet) → LastHasPolygon fs → LastHasPolygon (change_last (last_plus_corner number line) fs)
 has_kept number line [] has = elim has [ ]
@@ -60,7 +60,7 @@ face_with line corners = record { line = line; corners = corners }
 corners_behind : (line : ℕ) (front cs : List CornerText) (t : Plc) → plus_corners cs (plus_face (face_with line front) t) ≡ plus_face (face_with line (front ++ cs)) t
 corners_behind line front [] t = ap (λ (ds : List CornerText). plus_face (face_with line ds) t) (sym (append-nil front))
 corners_behind line front (c ∷ cs) t =
-    ap (plus_corners cs) (corner_added c.number c.line (face_with line front) t)
+    ap (plus_corners cs) (corner_added None c.number c.line (face_with line front) t)
     ∙ corners_behind line (front ++ c ∷ []) cs t
     ∙ ap (λ (ds : List CornerText). plus_face (face_with line ds) t) (append_assoc front (c ∷ []) cs)
 

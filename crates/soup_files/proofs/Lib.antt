@@ -4,5 +4,7 @@ pub mod Spent
 pub mod FoundVertices
 pub mod Facets
 pub mod Whole
+pub mod ManySolids
+pub mod Widening
 pub mod BinaryFacets
 pub mod BinaryWhole

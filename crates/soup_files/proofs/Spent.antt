@@ -8,7 +8,9 @@ use Rattle.plc_files.specs.Fields.{some_count_at}
 use Rattle.plc_files.specs.Polygon.{field_ahead}
 use Rattle.plc_files.proofs.Counts.{step_ok, ok_is}
 use Rattle.soup_files.specs.declared.stl_facet.StlFacet.{StlFacet}
-use Rattle.soup_files.specs.Keyword.{keyword_at}
+use Rattle.soup_files.specs.declared.fields.Grammar.{Grammar}
+use Rattle.soup_files.specs.declared.fields.Grammar.TheVariants.{Strict}
+use Rattle.soup_files.specs.Keyword.{keyword_at, passing_at}
 use Rattle.soup_files.specs.OnLine.{on_line, word_of, place_of}
 use Rattle.soup_files.specs.Off as off
 use Rattle.soup_files.specs.Stl as stl
@@ -28,7 +30,7 @@ line_then n next keeps [] x is = absurd cc
 line_then n next keeps (line ∷ lines) x is = omega (arith, keeps line lines x is)
 
 -- what is read of a line leaves the lines behind it
-leaves : {A X : Type 0} (r : Result A TextFault) (f : A → X) (rest : Lines) (x : X × Lines) → (r >>= λ a. Ok (f a, rest)) ≡ Ok x → length x.1 ≤ length rest
+pub leaves : {A X : Type 0} (r : Result A TextFault) (f : A → X) (rest : Lines) (x : X × Lines) → (r >>= λ a. Ok (f a, rest)) ≡ Ok x → length x.1 ≤ length rest
 leaves {A} {X} (Ok a) f rest x is =
     let made : X × Lines = (f a, rest) in
     subst (λ (p : X × Lines). length p.1 ≤ length rest) {x = made} (ok_is made x is) (omega arith)
@@ -55,9 +57,9 @@ many_few {X} one takes (suc n) lines x is =
 
 -- ---- points and faces
 
-pub off_vertex_takes : (n : ℕ) → TakesLine (off.vertex_line n)
+pub off_vertex_takes : (grammar : Grammar) (n : ℕ) → TakesLine (off.vertex_line grammar n)
 unfolding off.vertex_line
-off_vertex_takes n = on_line_takes place_of n
+off_vertex_takes grammar n = on_line_takes (place_of grammar) n
 
 pub face_takes : (n : ℕ) → TakesLine (off.off_polygon n)
 unfolding off.off_polygon
@@ -76,47 +78,47 @@ head_left n line (field ∷ fields) lines x is =
     let made : ContentLine × Lines = (record { line = line; fields = field ∷ fields }, lines) in
     subst (λ (p : ContentLine × Lines). length p.1 ≤ length lines) {x = made} (ok_is made x is) (omega arith)
 
-pub head_takes : (n : ℕ) → TakesLine (off.head_of n)
+pub head_takes : (grammar : Grammar) (n : ℕ) → TakesLine (off.head_of grammar n)
 unfolding off.head_of
-head_takes n lines x is =
-    line_then n (λ line rest. keyword_at (codes "OFF") line.line line.fields >>= λ left. field_ahead n line.line left.1 rest >>= λ ahead. off.counts_of ahead.0 >>= λ counts. Ok (counts, ahead.1))
+head_takes grammar n lines x is =
+    line_then n (λ line rest. passing_at (off.is_off_word grammar) line.line line.fields >>= λ left. field_ahead n line.line left.1 rest >>= λ ahead. off.counts_of ahead.0 >>= λ counts. Ok (counts, ahead.1))
     (λ line rest y e.
-    let left = step_ok (keyword_at (codes "OFF") line.line line.fields) (λ left. field_ahead n line.line left.1 rest >>= λ ahead. off.counts_of ahead.0 >>= λ counts. Ok (counts, ahead.1)) y e in
+    let left = step_ok (passing_at (off.is_off_word grammar) line.line line.fields) (λ left. field_ahead n line.line left.1 rest >>= λ ahead. off.counts_of ahead.0 >>= λ counts. Ok (counts, ahead.1)) y e in
     let ahead = step_ok (field_ahead n line.line left.0.1 rest) (λ ahead. off.counts_of ahead.0 >>= λ counts. Ok (counts, ahead.1)) y left.2 in
     omega (arith, head_left n line.line left.0.1 rest ahead.0 ahead.1, leaves (off.counts_of ahead.0.0) (λ counts. counts) ahead.0.1 y ahead.2)) lines x is
 
 -- ---- facets
 
 -- six lines
-pub facet_takes : (n first : ℕ) (lines : Lines) (x : StlFacet × Lines) → stl.ascii_facet_of n first lines ≡ Ok x → length x.1 + 6 ≤ length lines
+pub facet_takes : (grammar : Grammar) (n first : ℕ) (lines : Lines) (x : StlFacet × Lines) → stl.ascii_facet_of grammar n first lines ≡ Ok x → length x.1 + 6 ≤ length lines
 unfolding stl.ascii_facet_of
-facet_takes n first lines x is =
-    let outer = step_ok (on_line stl.loop_of n lines) (λ outer. on_line stl.vertex_of n outer.1 >>= λ a. on_line stl.vertex_of n a.1 >>= λ b. on_line stl.vertex_of n b.1 >>= λ c. on_line (word_of (codes "endloop")) n c.1 >>= λ inner. on_line (word_of (codes "endfacet")) n inner.1 >>= λ last. Ok (record { line = first; a = a.0; b = b.0; c = c.0 }, last.1)) x is in
-    let a = step_ok (on_line stl.vertex_of n outer.0.1) (λ a. on_line stl.vertex_of n a.1 >>= λ b. on_line stl.vertex_of n b.1 >>= λ c. on_line (word_of (codes "endloop")) n c.1 >>= λ inner. on_line (word_of (codes "endfacet")) n inner.1 >>= λ last. Ok (record { line = first; a = a.0; b = b.0; c = c.0 }, last.1)) x outer.2 in
-    let b = step_ok (on_line stl.vertex_of n a.0.1) (λ b. on_line stl.vertex_of n b.1 >>= λ c. on_line (word_of (codes "endloop")) n c.1 >>= λ inner. on_line (word_of (codes "endfacet")) n inner.1 >>= λ last. Ok (record { line = first; a = a.0.0; b = b.0; c = c.0 }, last.1)) x a.2 in
-    let c = step_ok (on_line stl.vertex_of n b.0.1) (λ c. on_line (word_of (codes "endloop")) n c.1 >>= λ inner. on_line (word_of (codes "endfacet")) n inner.1 >>= λ last. Ok (record { line = first; a = a.0.0; b = b.0.0; c = c.0 }, last.1)) x b.2 in
-    let inner = step_ok (on_line (word_of (codes "endloop")) n c.0.1) (λ inner. on_line (word_of (codes "endfacet")) n inner.1 >>= λ last. Ok (record { line = first; a = a.0.0; b = b.0.0; c = c.0.0 }, last.1)) x c.2 in
-    let last = step_ok (on_line (word_of (codes "endfacet")) n inner.0.1) (λ last. Ok (record { line = first; a = a.0.0; b = b.0.0; c = c.0.0 }, last.1)) x inner.2 in
+facet_takes grammar n first lines x is =
+    let outer = step_ok (on_line (stl.loop_of grammar) n lines) (λ outer. on_line (stl.vertex_of grammar) n outer.1 >>= λ a. on_line (stl.vertex_of grammar) n a.1 >>= λ b. on_line (stl.vertex_of grammar) n b.1 >>= λ c. on_line (word_of grammar (codes "endloop")) n c.1 >>= λ inner. on_line (word_of grammar (codes "endfacet")) n inner.1 >>= λ last. Ok (record { line = first; a = a.0; b = b.0; c = c.0 }, last.1)) x is in
+    let a = step_ok (on_line (stl.vertex_of grammar) n outer.0.1) (λ a. on_line (stl.vertex_of grammar) n a.1 >>= λ b. on_line (stl.vertex_of grammar) n b.1 >>= λ c. on_line (word_of grammar (codes "endloop")) n c.1 >>= λ inner. on_line (word_of grammar (codes "endfacet")) n inner.1 >>= λ last. Ok (record { line = first; a = a.0; b = b.0; c = c.0 }, last.1)) x outer.2 in
+    let b = step_ok (on_line (stl.vertex_of grammar) n a.0.1) (λ b. on_line (stl.vertex_of grammar) n b.1 >>= λ c. on_line (word_of grammar (codes "endloop")) n c.1 >>= λ inner. on_line (word_of grammar (codes "endfacet")) n inner.1 >>= λ last. Ok (record { line = first; a = a.0.0; b = b.0; c = c.0 }, last.1)) x a.2 in
+    let c = step_ok (on_line (stl.vertex_of grammar) n b.0.1) (λ c. on_line (word_of grammar (codes "endloop")) n c.1 >>= λ inner. on_line (word_of grammar (codes "endfacet")) n inner.1 >>= λ last. Ok (record { line = first; a = a.0.0; b = b.0.0; c = c.0 }, last.1)) x b.2 in
+    let inner = step_ok (on_line (word_of grammar (codes "endloop")) n c.0.1) (λ inner. on_line (word_of grammar (codes "endfacet")) n inner.1 >>= λ last. Ok (record { line = first; a = a.0.0; b = b.0.0; c = c.0.0 }, last.1)) x c.2 in
+    let last = step_ok (on_line (word_of grammar (codes "endfacet")) n inner.0.1) (λ last. Ok (record { line = first; a = a.0.0; b = b.0.0; c = c.0.0 }, last.1)) x inner.2 in
     let made : StlFacet × Lines = (record { line = first; a = a.0.0; b = b.0.0; c = c.0.0 }, last.0.1) in
-    let l1 = on_line_takes stl.loop_of n lines outer.0 outer.1 in
-    let l2 = on_line_takes stl.vertex_of n outer.0.1 a.0 a.1 in
-    let l3 = on_line_takes stl.vertex_of n a.0.1 b.0 b.1 in
-    let l4 = on_line_takes stl.vertex_of n b.0.1 c.0 c.1 in
-    let l5 = on_line_takes (word_of (codes "endloop")) n c.0.1 inner.0 inner.1 in
-    let l6 = on_line_takes (word_of (codes "endfacet")) n inner.0.1 last.0 last.1 in
+    let l1 = on_line_takes (stl.loop_of grammar) n lines outer.0 outer.1 in
+    let l2 = on_line_takes (stl.vertex_of grammar) n outer.0.1 a.0 a.1 in
+    let l3 = on_line_takes (stl.vertex_of grammar) n a.0.1 b.0 b.1 in
+    let l4 = on_line_takes (stl.vertex_of grammar) n b.0.1 c.0 c.1 in
+    let l5 = on_line_takes (word_of grammar (codes "endloop")) n c.0.1 inner.0 inner.1 in
+    let l6 = on_line_takes (word_of grammar (codes "endfacet")) n inner.0.1 last.0 last.1 in
     subst (λ (p : StlFacet × Lines). length p.1 + 6 ≤ length lines) {x = made} (ok_is made x last.2) (omega arith)
 
-pub solid_takes : (n : ℕ) → TakesLine (stl.solid_line n)
+pub solid_takes : (grammar : Grammar) (n : ℕ) → TakesLine (stl.solid_line grammar n)
 unfolding stl.solid_line
-solid_takes n lines x is =
-    line_then n (λ line rest. keyword_at (codes "solid") line.line line.fields >>= λ _. Ok (tt, rest))
-    (λ line rest y e. leaves (keyword_at (codes "solid") line.line line.fields) (λ _. tt) rest y e) lines x is
+solid_takes grammar n lines x is =
+    line_then n (λ line rest. keyword_at grammar (codes "solid") line.line line.fields >>= λ _. Ok (tt, rest))
+    (λ line rest y e. leaves (keyword_at grammar (codes "solid") line.line line.fields) (λ _. tt) rest y e) lines x is
 
 abbrev Facets : Type 0
 Facets = List StlFacet × Lines
 
 abbrev facets_if : ℕ → ℕ → ContentLine → Lines → Bool → Result Facets TextFault
-facets_if most n line rest more = if more then (stl.ascii_facet_of n line.line rest >>= λ facet. stl.ascii_facets_of most n facet.1 >>= λ others. Ok (facet.0 ∷ others.0, others.1)) else Ok ([], rest)
+facets_if most n line rest more = if more then (stl.ascii_facet_of Strict n line.line rest >>= λ facet. stl.ascii_facets_of most n facet.1 >>= λ others. Ok (facet.0 ∷ others.0, others.1)) else Ok ([], rest)
 
 -- seven lines for each facet
 pub facets_few : (most n : ℕ) (lines : Lines) (x : Facets) → stl.ascii_facets_of most n lines ≡ Ok x → 7 * length x.0 + length x.1 ≤ length lines
@@ -124,7 +126,7 @@ unfolding stl.ascii_facets_of
 facets_few zero n lines x is = absurd cc
 facets_few (suc most) n [] x is = absurd cc
 facets_few (suc most) n (line ∷ lines) x is =
-    let more = step_ok (stl.more_facets line) (facets_if most n line lines) x is in
+    let more = step_ok (stl.more_facets Strict line) (facets_if most n line lines) x is in
     go more.0 more.2 (λ rest y e. facets_few most n rest y e)
   where
     go : (more : Bool) → facets_if most n line lines more ≡ Ok x → ((rest : Lines) (y : Facets) → stl.ascii_facets_of most n rest ≡ Ok y → 7 * length y.0 + length y.1 ≤ length rest) → 7 * length x.0 + length x.1 ≤ suc (length lines)
@@ -132,9 +134,9 @@ facets_few (suc most) n (line ∷ lines) x is =
         let made : Facets = ([], lines) in
         subst (λ (p : Facets). 7 * length p.0 + length p.1 ≤ suc (length lines)) {x = made} (ok_is made x e) (omega arith)
     go true e others_few =
-        let facet = step_ok (stl.ascii_facet_of n line.line lines) (λ facet. stl.ascii_facets_of most n facet.1 >>= λ others. Ok (facet.0 ∷ others.0, others.1)) x e in
+        let facet = step_ok (stl.ascii_facet_of Strict n line.line lines) (λ facet. stl.ascii_facets_of most n facet.1 >>= λ others. Ok (facet.0 ∷ others.0, others.1)) x e in
         let others = step_ok (stl.ascii_facets_of most n facet.0.1) (λ others. Ok (facet.0.0 ∷ others.0, others.1)) x facet.2 in
         let made : Facets = (facet.0.0 ∷ others.0.0, others.0.1) in
-        let taken = facet_takes n line.line lines facet.0 facet.1 in
+        let taken = facet_takes Strict n line.line lines facet.0 facet.1 in
         let le = others_few facet.0.1 others.0 others.1 in
         subst (λ (p : Facets). 7 * length p.0 + length p.1 ≤ suc (length lines)) {x = made} (ok_is made x others.2) (omega (arith, taken, le))

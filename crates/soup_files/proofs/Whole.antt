@@ -12,9 +12,11 @@ use Rattle.plc_files.specs.Outcome.{PlcGives}
 use Rattle.plc_files.specs.Checks.{all_polygons, HasFewParts}
 use Rattle.plc_files.specs.Text.{Plc, AreWritten}
 use Rattle.plc_files.proofs.Counts.{step_ok, ok_is}
+use Rattle.soup_files.specs.declared.fields.Grammar.{Grammar}
+use Rattle.soup_files.specs.declared.fields.Grammar.TheVariants.{Strict}
 use Rattle.soup_files.specs.declared.stl_facet.StlFacet.{StlFacet}
 use Rattle.soup_files.specs.Surface.{facet_of_one, surface_of}
-use Rattle.soup_files.specs.Off.{head_of, vertex_line, off_polygon, off_of}
+use Rattle.soup_files.specs.Off.{head_of, vertex_line, off_polygon, off_by}
 use Rattle.soup_files.specs.Stl.{solid_line, ascii_facets_of, triangle_in, vertices_of, triangles_of, stl_of}
 use Rattle.soup_files.specs.Triangles.{placed_facets}
 use Rattle.soup_files.specs.Vertices.{distinct_vertices}
@@ -37,31 +39,31 @@ surface_small points faces few = record {
   attributes = All-nil _;
 }
 
-off_small : (n : ℕ) (lines : List ContentLine) (t : Plc) → off_of n lines ≡ Ok t → length lines < 2 ^ 32 - 1 → IsSmall t
-unfolding off_of
-off_small n lines t is few =
-    let head = step_ok (head_of n lines) (λ head. so_many (vertex_line n) head.0.0 head.1 >>= λ points. so_many (off_polygon n) head.0.1 points.1 >>= λ faces. text_end_at faces.1 >>= λ _. Ok (surface_of points.0 faces.0)) t is in
-    let points = step_ok (so_many (vertex_line n) head.0.0.0 head.0.1) (λ points. so_many (off_polygon n) head.0.0.1 points.1 >>= λ faces. text_end_at faces.1 >>= λ _. Ok (surface_of points.0 faces.0)) t head.2 in
+off_small : (grammar : Grammar) (n : ℕ) (lines : List ContentLine) (t : Plc) → off_by grammar n lines ≡ Ok t → length lines < 2 ^ 32 - 1 → IsSmall t
+unfolding off_by
+off_small grammar n lines t is few =
+    let head = step_ok (head_of grammar n lines) (λ head. so_many (vertex_line grammar n) head.0.0 head.1 >>= λ points. so_many (off_polygon n) head.0.1 points.1 >>= λ faces. text_end_at faces.1 >>= λ _. Ok (surface_of points.0 faces.0)) t is in
+    let points = step_ok (so_many (vertex_line grammar n) head.0.0.0 head.0.1) (λ points. so_many (off_polygon n) head.0.0.1 points.1 >>= λ faces. text_end_at faces.1 >>= λ _. Ok (surface_of points.0 faces.0)) t head.2 in
     let faces = step_ok (so_many (off_polygon n) head.0.0.1 points.0.1) (λ faces. text_end_at faces.1 >>= λ _. Ok (surface_of points.0.0 faces.0)) t points.2 in
     let ended = step_ok (text_end_at faces.0.1) (λ _. Ok (surface_of points.0.0 faces.0.0)) t faces.2 in
-    let l1 = head_takes n lines head.0 head.1 in
-    let l2 = many_few (vertex_line n) (off_vertex_takes n) head.0.0.0 head.0.1 points.0 points.1 in
+    let l1 = head_takes grammar n lines head.0 head.1 in
+    let l2 = many_few (vertex_line grammar n) (off_vertex_takes grammar n) head.0.0.0 head.0.1 points.0 points.1 in
     let l3 = many_few (off_polygon n) (face_takes n) head.0.0.1 points.0.1 faces.0 faces.1 in
     subst IsSmall {x = surface_of points.0.0 faces.0.0} (ok_is (surface_of points.0.0 faces.0.0) t ended.2) (surface_small points.0.0 faces.0.0 (omega (arith, few, l1, l2, l3)))
 
-pub off_read : (n : ℕ) (lines : List ContentLine) (r : Result Plc PlcFault) → PlcGives (λ t. t) r (off_of n lines) → length lines < 2 ^ 32 - 1 → IfOk r IsSmall
-off_read n lines (Ok t) gives few = off_small n lines t gives few
-off_read n lines (Err fault) gives few = tt
+pub off_read : (grammar : Grammar) (n : ℕ) (lines : List ContentLine) (r : Result Plc PlcFault) → PlcGives (λ t. t) r (off_by grammar n lines) → length lines < 2 ^ 32 - 1 → IfOk r IsSmall
+off_read grammar n lines (Ok t) gives few = off_small grammar n lines t gives few
+off_read grammar n lines (Err fault) gives few = tt
 
 stl_small : (n : ℕ) (lines : List ContentLine) (t : Plc) → stl_of n lines ≡ Ok t → length lines < 2 ^ 32 - 1 → IsSmall t
 unfolding stl_of
 stl_small n lines t is few =
-    let solid = step_ok (solid_line n lines) (λ solid. ascii_facets_of (length solid.1) n solid.1 >>= λ facets. text_end_at facets.1 >>= λ _. Ok (triangles_of facets.0)) t is in
+    let solid = step_ok (solid_line Strict n lines) (λ solid. ascii_facets_of (length solid.1) n solid.1 >>= λ facets. text_end_at facets.1 >>= λ _. Ok (triangles_of facets.0)) t is in
     let facets = step_ok (ascii_facets_of (length solid.0.1) n solid.0.1) (λ facets. text_end_at facets.1 >>= λ _. Ok (triangles_of facets.0)) t solid.2 in
     let ended = step_ok (text_end_at facets.0.1) (λ _. Ok (triangles_of facets.0.0)) t facets.2 in
     let points = distinct_vertices (vertices_of facets.0.0) in
     let faces = map (triangle_in points) facets.0.0 in
-    let l1 = solid_takes n lines solid.0 solid.1 in
+    let l1 = solid_takes Strict n lines solid.0 solid.1 in
     let l2 = facets_few (length solid.0.1) n solid.0.1 facets.0 facets.1 in
     subst IsSmall {x = triangles_of facets.0.0} (ok_is (triangles_of facets.0.0) t ended.2) (surface_small points faces (omega (arith, few, l1, l2, length-map facets.0.0 (triangle_in points))))
 

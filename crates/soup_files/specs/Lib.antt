@@ -7,3 +7,5 @@ pub mod Stl
 pub mod Triangles
 pub mod VertexKeys
 pub mod BinaryStl
+pub mod Solids
+pub mod Widened

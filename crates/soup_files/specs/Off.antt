@@ -1,5 +1,7 @@
 -- The `.off` files: a keyword, the counts, the points, and the faces.
-use Rattle.std.specs.Prelude.{ℕ, codes, Result, Ok}
+use Rattle.std.specs.Prelude.{ℕ, Bool, List, [], ◌∷◌, codes, Result, Ok}
+use Rattle.std.specs.List.{list_any}
+use Rattle.std.specs.Str.{bytes_eq, str_eq_ignore_ascii_case}
 use Rattle.tet_text.specs.declared.fault.TextFault.{TextFault}
 use Rattle.tet_text.specs.Lines.{ContentLine}
 use Rattle.tet_text.specs.Reading.{◌>>=◌, Fields, count_at, end_at, line_at, text_end_at}
@@ -10,7 +12,9 @@ use Rattle.plc_files.specs.declared.parts.PolygonText.{PolygonText}
 use Rattle.plc_files.specs.Fields.{some_count_at}
 use Rattle.plc_files.specs.Polygon.{field_ahead}
 use Rattle.plc_files.specs.Text.{Plc}
-use Rattle.soup_files.specs.Keyword.{keyword_at}
+use Rattle.soup_files.specs.declared.fields.Grammar.{Grammar}
+use Rattle.soup_files.specs.declared.fields.Grammar.TheVariants.{Strict, Wide}
+use Rattle.soup_files.specs.Keyword.{passing_at}
 use Rattle.soup_files.specs.OnLine.{on_line, place_of}
 use Rattle.soup_files.specs.Surface.{surface_of}
 use Rattle.tet_text.specs.Repeated.{so_many}
@@ -25,18 +29,28 @@ counts_of line = do
   _ ← end_at line.line edges.1
   Ok (points.0, faces.0)
 
--- OFF, and the counts, on the same content line or on the next one
-unfoldable pub head_of : ℕ → Lines → Result ((ℕ × ℕ) × Lines) TextFault
-head_of total lines = do
+-- the keywords that say what stands behind the coordinates of a point: texture coordinates (ST), a color (C), a normal (N)
+abbrev pub off_words : List (List ℕ)
+off_words =
+    codes "OFF" ∷ codes "COFF" ∷ codes "NOFF" ∷ codes "CNOFF" ∷ codes "STOFF" ∷ codes "STCOFF" ∷ codes "STNOFF" ∷ codes "STCNOFF" ∷ []
+
+-- the field is the keyword OFF, or in the wide grammar one of these
+abbrev pub is_off_word : Grammar → List ℕ → Bool
+is_off_word Strict field = bytes_eq field (codes "OFF")
+is_off_word Wide field = list_any (str_eq_ignore_ascii_case field) off_words
+
+-- the keyword, and the counts, on the same content line or on the next one
+unfoldable pub head_of : Grammar → ℕ → Lines → Result ((ℕ × ℕ) × Lines) TextFault
+head_of grammar total lines = do
   line ← line_at total lines
-  rest ← keyword_at (codes "OFF") line.0.line line.0.fields
+  rest ← passing_at (is_off_word grammar) line.0.line line.0.fields
   ahead ← field_ahead total line.0.line rest.1 line.1
   counts ← counts_of ahead.0
   Ok (counts, ahead.1)
 
--- <x> <y> <z>
-unfoldable pub vertex_line : ℕ → Lines → Result (DecimalPoint × Lines) TextFault
-vertex_line = on_line place_of
+-- <x> <y> <z>, and in the wide grammar whatever stands behind them
+unfoldable pub vertex_line : Grammar → ℕ → Lines → Result (DecimalPoint × Lines) TextFault
+vertex_line grammar = on_line (place_of grammar)
 
 -- a corner, on the line of its face
 unfoldable pub corner_at : ℕ → Fields → Result (CornerText × Fields) TextFault
@@ -53,10 +67,16 @@ off_polygon total lines = do
   Ok (record { line = line.0.line; corners = corners.0 }, line.1)
 
 -- a whole text, with its number of lines
-unfoldable pub off_of : ℕ → Lines → Result Plc TextFault
-off_of total lines = do
-  head ← head_of total lines
-  points ← so_many (vertex_line total) head.0.0 head.1
+unfoldable pub off_by : Grammar → ℕ → Lines → Result Plc TextFault
+off_by grammar total lines = do
+  head ← head_of grammar total lines
+  points ← so_many (vertex_line grammar total) head.0.0 head.1
   faces ← so_many (off_polygon total) head.0.1 points.1
   _ ← text_end_at faces.1
   Ok (surface_of points.0 faces.0)
+
+abbrev pub off_of : ℕ → Lines → Result Plc TextFault
+off_of = off_by Strict
+
+abbrev pub wide_off_of : ℕ → Lines → Result Plc TextFault
+wide_off_of = off_by Wide

@@ -1,5 +1,5 @@
 -- Complexes that are given by their points and by faces: each face is a facet of one polygon.
-use Rattle.std.specs.Prelude.{false, List, [], ◌∷◌, ◌++◌, map, fold, Some, None, Result, Ok}
+use Rattle.std.specs.Prelude.{ℤ, false, Option, List, [], ◌∷◌, ◌++◌, map, fold, Some, None, Result, Ok}
 use Rattle.tet_text.specs.declared.fault.TextFault.{TextFault}
 use Rattle.tet_text.specs.Reading.{◌>>=◌}
 use Rattle.grid_coords.specs.declared.points.DecimalPoint.{DecimalPoint}
@@ -8,9 +8,12 @@ use Rattle.plc_files.specs.declared.parts.CornerText.{CornerText}
 use Rattle.plc_files.specs.declared.parts.PolygonText.{PolygonText}
 use Rattle.plc_files.specs.Text.{ReadFacet, Plc, with_corner}
 
--- a facet of one polygon, with no hole and no marker
+-- a facet of one polygon, with no hole and this marker
+abbrev pub marked_face : Option ℤ → PolygonText → ReadFacet
+marked_face marker face = record { polygons = face ∷ []; holes = []; marker = marker }
+
 abbrev pub facet_of_one : PolygonText → ReadFacet
-facet_of_one face = record { polygons = face ∷ []; holes = []; marker = None }
+facet_of_one = marked_face None
 
 -- points numbered from 0, with no attribute and no marker
 abbrev pub nodes_at : List DecimalPoint → NodeText
@@ -22,8 +25,11 @@ surface_of points faces = record { nodes = Some (nodes_at points); facets = map 
 
 -- ---- face by face
 
+abbrev pub plus_facet : ReadFacet → Plc → Plc
+plus_facet f t = record t { facets = t.facets ++ f ∷ [] }
+
 abbrev pub plus_face : PolygonText → Plc → Plc
-plus_face face t = record t { facets = t.facets ++ facet_of_one face ∷ [] }
+plus_face face = plus_facet (facet_of_one face)
 
 abbrev pub plus_faces : List PolygonText → Plc → Plc
 plus_faces faces t = record t { facets = t.facets ++ map facet_of_one faces }

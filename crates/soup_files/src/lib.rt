@@ -4,12 +4,16 @@
 
 mod binary_stl;
 mod fields;
+mod laws;
 mod off;
+mod solids;
 mod stl;
 mod stl_facet;
 mod surface;
 mod vertex_set;
 
 pub use binary_stl::{is_binary_stl, read_binary_stl};
-pub use off::read_off;
+pub use laws::{law_wide_off, law_wide_stl};
+pub use off::{read_off, read_wide_off};
+pub use solids::read_wide_stl;
 pub use stl::read_ascii_stl;

@@ -7,11 +7,11 @@ ghost use Rattle.tet_text.specs.Views.{content_left, line_total};
 ghost use Rattle.plc_files.specs.Outcome.{PlcGives};
 ghost use Rattle.plc_files.specs.Checks.{HasFewParts};
 ghost use Rattle.plc_files.specs.Text.{AreWritten};
-ghost use Rattle.soup_files.specs.Surface.{plus_face, surface_of};
+ghost use Rattle.soup_files.specs.Surface.{marked_face, plus_facet, surface_of};
 ghost use Rattle.soup_files.specs.Stl.{solid_line, ascii_facets_of, stl_of};
 ghost use Rattle.soup_files.specs.Triangles.{triangle_polygon, placed_facets, IsPlacedBy};
 
-use crate::fields::want_keyword;
+use crate::fields::{Grammar, want_keyword};
 use crate::stl_facet::{StlFacet, read_facet, starts_facet};
 use crate::surface::{nodes_at, start_face};
 use crate::vertex_set::VertexSet;
@@ -36,15 +36,16 @@ pub(crate) struct Triangle {
     pub(crate) c: PlacedCorner,
 }
 
+/// Reads the line that begins a solid; its name is skipped.
 #[tactic(auto, unfolding(crate::specs::Stl::solid_line))]
-fn pass_solid(lines: &mut Lines) -> Result<(), TextFault>
+pub(crate) fn pass_solid(grammar: Grammar, lines: &mut Lines) -> Result<(), TextFault>
     requires { line_total lines.old + 1 < 2 ^ 64 }
     ensures value { left_after (λ x. x) result (content_left lines.new)
-        ≡ solid_line (line_total lines.old) (content_left lines.old) }
+        ≡ solid_line grammar (line_total lines.old) (content_left lines.old) }
     ensures count { line_total lines.new ≡ line_total lines.old }
 {
     let mut fields = lines.want_line()?;
-    want_keyword(b"solid", &mut fields)
+    want_keyword(grammar, b"solid", &mut fields)
 }
 
 /// The facet by the places of its corners, which are inserted where they are new.
@@ -86,19 +87,24 @@ fn read_facets(
     loop {
         let mut fields = lines.want_line()?;
         let line = fields.line();
-        if !starts_facet(&mut fields)? {
+        if !starts_facet(Grammar::Strict, &mut fields)? {
             return Ok(triangles);
         }
-        let facet = read_facet(line, lines)?;
+        let facet = read_facet(Grammar::Strict, line, lines)?;
         triangles.push(placed(facet, points)?)?;
     }
 }
 
-/// Appends a triangle to the complex.
-fn add_triangle(triangle: Triangle, text: &mut PlcText) -> Result<(), NoMemory>
-    ensures { OnOk result (text.new ≡ plus_face (triangle_polygon triangle) text.old) }
+/// Appends a facet of one triangle, with this marker, to the complex.
+pub(crate) fn add_triangle(
+    marker: Option<i64>,
+    triangle: Triangle,
+    text: &mut PlcText,
+) -> Result<(), NoMemory>
+    ensures { OnOk result (text.new
+        ≡ plus_facet (marked_face marker (triangle_polygon triangle)) text.old) }
 {
-    start_face(triangle.line, text)?;
+    start_face(marker, triangle.line, text)?;
     text.add_corner(triangle.a.place, triangle.a.line)?;
     text.add_corner(triangle.b.place, triangle.b.line)?;
     text.add_corner(triangle.c.place, triangle.c.line)
@@ -117,7 +123,7 @@ pub(crate) fn surface(
     let nodes = nodes_at(alloc, points.points()?);
     let mut text = PlcText::new(alloc, Some(nodes));
     for triangle in triangles.as_slice() {
-        add_triangle(*triangle, &mut text)?;
+        add_triangle(None, *triangle, &mut text)?;
     }
     Ok(text)
 }
@@ -129,7 +135,7 @@ fn read_lines(alloc: Global, lines: &mut Lines) -> Result<PlcText, PlcFault>
     ensures { PlcGives (λ text. text) result
         (stl_of (line_total lines.old) (content_left lines.old)) }
 {
-    pass_solid(lines)?;
+    pass_solid(Grammar::Strict, lines)?;
     let mut points = VertexSet::new(alloc);
     let triangles = read_facets(alloc, lines, &mut points)?;
     lines.want_end()?;

@@ -5,7 +5,7 @@ ghost use Rattle.tet_text.specs.Reading.{left_after};
 ghost use Rattle.tet_text.specs.Views.{content_left, line_total};
 ghost use Rattle.soup_files.specs.Stl.{normal_at, more_facets, loop_of, vertex_of, ascii_facet_of};
 
-use crate::fields::{bad_count, is_word, want_keyword, want_last_place, want_last_word};
+use crate::fields::{Grammar, bad_count, is_word, want_keyword, want_last_place, want_last_word};
 use grid_coords::DecimalPoint;
 use tet_text::{Fields, Lines, TextFault};
 
@@ -20,10 +20,10 @@ pub(crate) struct StlFacet {
 
 /// Reads the rest of the first line of a facet. The normal is not used.
 #[tactic(auto, unfolding(crate::specs::Stl::normal_at))]
-fn pass_normal(fields: &mut Fields) -> Result<(), TextFault>
-    ensures { result ≡ normal_at fields.old.line fields.old.fields }
+fn pass_normal(grammar: Grammar, fields: &mut Fields) -> Result<(), TextFault>
+    ensures { result ≡ normal_at grammar fields.old.line fields.old.fields }
 {
-    want_keyword(b"normal", fields)?;
+    want_keyword(grammar, b"normal", fields)?;
     fields.want_field()?;
     fields.want_field()?;
     fields.want_field()?;
@@ -32,49 +32,53 @@ fn pass_normal(fields: &mut Fields) -> Result<(), TextFault>
 
 /// Whether the line begins a further facet; otherwise it has to be the one that ends the facets.
 #[tactic(auto, unfolding(crate::specs::Stl::more_facets))]
-pub(crate) fn starts_facet(fields: &mut Fields) -> Result<bool, TextFault>
-    ensures { result ≡ more_facets fields.old }
+pub(crate) fn starts_facet(grammar: Grammar, fields: &mut Fields) -> Result<bool, TextFault>
+    ensures { result ≡ more_facets grammar fields.old }
 {
     let first = fields.want_field()?;
-    if is_word(first.bytes(), b"endsolid") {
+    if is_word(grammar, b"endsolid", first.bytes()) {
         return Ok(false);
     }
-    if !is_word(first.bytes(), b"facet") {
+    if !is_word(grammar, b"facet", first.bytes()) {
         return Err(bad_count(fields));
     }
-    pass_normal(fields)?;
+    pass_normal(grammar, fields)?;
     Ok(true)
 }
 
 #[tactic(auto, unfolding(crate::specs::Stl::loop_of))]
-fn pass_loop(fields: &mut Fields) -> Result<(), TextFault>
-    ensures { result ≡ loop_of fields.old }
+fn pass_loop(grammar: Grammar, fields: &mut Fields) -> Result<(), TextFault>
+    ensures { result ≡ loop_of grammar fields.old }
 {
-    want_keyword(b"outer", fields)?;
-    want_last_word(b"loop", fields)
+    want_keyword(grammar, b"outer", fields)?;
+    want_last_word(grammar, b"loop", fields)
 }
 
 #[tactic(auto, unfolding(crate::specs::Stl::vertex_of))]
-fn read_vertex(fields: &mut Fields) -> Result<DecimalPoint, TextFault>
-    ensures { result ≡ vertex_of fields.old }
+fn read_vertex(grammar: Grammar, fields: &mut Fields) -> Result<DecimalPoint, TextFault>
+    ensures { result ≡ vertex_of grammar fields.old }
 {
-    want_keyword(b"vertex", fields)?;
+    want_keyword(grammar, b"vertex", fields)?;
     want_last_place(fields)
 }
 
 /// Reads the rest of a facet behind its first line, which has the number `line`.
 #[tactic(auto, unfolding(crate::specs::Stl::ascii_facet_of, crate::specs::OnLine::on_line))]
-pub(crate) fn read_facet(line: usize, lines: &mut Lines) -> Result<StlFacet, TextFault>
+pub(crate) fn read_facet(
+    grammar: Grammar,
+    line: usize,
+    lines: &mut Lines,
+) -> Result<StlFacet, TextFault>
     requires { line_total lines.old + 1 < 2 ^ 64 }
     ensures value { left_after (λ facet. facet) result (content_left lines.new)
-        ≡ ascii_facet_of (line_total lines.old) line (content_left lines.old) }
+        ≡ ascii_facet_of grammar (line_total lines.old) line (content_left lines.old) }
     ensures count { line_total lines.new ≡ line_total lines.old }
 {
-    pass_loop(&mut lines.want_line()?)?;
-    let a = read_vertex(&mut lines.want_line()?)?;
-    let b = read_vertex(&mut lines.want_line()?)?;
-    let c = read_vertex(&mut lines.want_line()?)?;
-    want_last_word(b"endloop", &mut lines.want_line()?)?;
-    want_last_word(b"endfacet", &mut lines.want_line()?)?;
+    pass_loop(grammar, &mut lines.want_line()?)?;
+    let a = read_vertex(grammar, &mut lines.want_line()?)?;
+    let b = read_vertex(grammar, &mut lines.want_line()?)?;
+    let c = read_vertex(grammar, &mut lines.want_line()?)?;
+    want_last_word(grammar, b"endloop", &mut lines.want_line()?)?;
+    want_last_word(grammar, b"endfacet", &mut lines.want_line()?)?;
     Ok(StlFacet { line, a, b, c })
 }

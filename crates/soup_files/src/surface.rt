@@ -3,7 +3,7 @@
 ghost use Rattle.std.specs.Prelude.{◌≡◌, ◌-◌, ◌<◌, ◌^◌, length, OnOk};
 ghost use Rattle.node_files.specs.Node.{IsNodeText};
 ghost use Rattle.plc_files.specs.Text.{empty_polygon};
-ghost use Rattle.soup_files.specs.Surface.{nodes_at, plus_face};
+ghost use Rattle.soup_files.specs.Surface.{nodes_at, marked_face, plus_facet};
 
 use grid_coords::DecimalPoints;
 use node_files::{Markers, NodeText};
@@ -27,10 +27,15 @@ pub(crate) fn nodes_at(alloc: Global, points: DecimalPoints) -> NodeText
     }
 }
 
-/// Appends a facet of one polygon with no corner yet, at `line`.
-pub(crate) fn start_face(line: usize, text: &mut PlcText) -> Result<(), NoMemory>
-    ensures { OnOk result (text.new ≡ plus_face (empty_polygon line) text.old) }
+/// Appends a facet with this marker, of one polygon with no corner yet, at `line`.
+pub(crate) fn start_face(
+    marker: Option<i64>,
+    line: usize,
+    text: &mut PlcText,
+) -> Result<(), NoMemory>
+    ensures { OnOk result (text.new
+        ≡ plus_facet (marked_face marker (empty_polygon line)) text.old) }
 {
-    text.add_facet(None)?;
+    text.add_facet(marker)?;
     text.add_polygon(line)
 }

@@ -1,3 +1,4 @@
+use Rattle.std.proofs.Common.{None}
 use Rattle.tet_text.specs.Views.{content_left, line_total}
 use Rattle.plc_files.specs.Text.{empty_polygon}
 use Rattle.soup_files.proofs.Faces.{face_has}
@@ -5,7 +6,7 @@ use Rattle.soup_files.proofs.Faults.{face_whole}
 use Rattle.soup_files.proofs.off.read_face.Goals as goal
 
 pub read_corners-requires : goal.read_corners-requires
-read_corners-requires c = rw c.in_ok-start_face.ensures (face_has (empty_polygon c.line.result) c.args.text.now)
+read_corners-requires c = rw c.in_ok-start_face.ensures (face_has None (empty_polygon c.line.result) c.args.text.now)
 
 pub returns-clause-value : goal.returns-clause-value
 returns-clause-value c =

@@ -6,5 +6,5 @@ use Rattle.tet_text.specs.Repeated.{so_many, onto}
 
 abbrev pub invariant-loop : goal.invariant-loop
 invariant-loop l =
-    (onto l.points (so_many (vertex_line (line_total l.fn.lines)) (l.count - l.counter) (content_left l.lines)) ≡ so_many (vertex_line (line_total l.fn.lines)) l.count (content_left l.fn.lines))
+    (onto l.points (so_many (vertex_line l.grammar (line_total l.fn.lines)) (l.count - l.counter) (content_left l.lines)) ≡ so_many (vertex_line l.grammar (line_total l.fn.lines)) l.count (content_left l.fn.lines))
     × (line_total l.lines ≡ line_total l.fn.lines)

@@ -4,6 +4,7 @@ use Rattle.std.proofs.lemmas.List.{map-append, length_push}
 use Rattle.tet_text.specs.declared.fault.TextFault.{TextFault}
 use Rattle.tet_text.specs.Views.{content_left, line_total}
 use Rattle.tet_text.specs.Reading.{line_at}
+use Rattle.soup_files.specs.declared.fields.Grammar.TheVariants.{Strict}
 use Rattle.soup_files.specs.Stl.{ascii_facet_of, ascii_facets_of}
 use Rattle.soup_files.specs.Triangles.{triangle_polygon, placed_facets}
 use Rattle.soup_files.proofs.Spent.{facet_takes}
@@ -63,7 +64,7 @@ returns-in_err-facet-clause-value c =
     let more = sym c.in_ok-starts_facet.ensures ∙ ap (λ (b : Bool). let made : Result Bool TextFault = Ok b in made) c.if-not-branch.false in
     let p = err_from_is_err_and c.from_residual-in_err-facet.result c.from_residual-in_err-facet.ensures.1 in
     let fault = c.in_err-facet.field-0.0 in
-    let failed : ascii_facet_of (line_total start) line.line behind ≡ Err fault = sym (ap (λ (n : ℕ). ascii_facet_of n c.line-line.result behind) total ∙ ap (λ (l : ℕ). ascii_facet_of (line_total start) l behind) c.line-line.ensures) ∙ sym c.in_err-facet.ensures.value in
+    let failed : ascii_facet_of Strict (line_total start) line.line behind ≡ Err fault = sym (ap (λ (n : ℕ). ascii_facet_of Strict n c.line-line.result behind) total ∙ ap (λ (l : ℕ). ascii_facet_of Strict (line_total start) l behind) c.line-line.ensures) ∙ sym c.in_err-facet.ensures.value in
     rw (p.1, p.2) (ap placed_facets (stop_facet inv.0 most (line_total start) left behind line fault whole first more failed going))
 
 pub loop-triangles-smaller : goal.loop-triangles-smaller
@@ -71,7 +72,7 @@ loop-triangles-smaller c =
     let left = content_left c.loop-triangles.lines in
     let behind = content_left c.want_line.new.self in
     let first = line_left (line_total c.loop-triangles.lines) left behind c.in_ok-fields.fields (sym c.in_ok-fields.ensures.value) in
-    let taken = facet_takes (line_total c.want_line.new.self) c.line-line.result behind (c.in_ok-facet.facet, content_left c.read_facet.new.lines) (sym c.in_ok-facet.ensures.value) in
+    let taken = facet_takes Strict (line_total c.want_line.new.self) c.line-line.result behind (c.in_ok-facet.facet, content_left c.read_facet.new.lines) (sym c.in_ok-facet.ensures.value) in
     omega (arith, first, taken)
 
 pub loop-triangles-preserved : goal.loop-triangles-preserved
@@ -89,12 +90,12 @@ loop-triangles-preserved c =
     let more = sym c.in_ok-starts_facet.ensures ∙ ap (λ (b : Bool). let made : Result Bool TextFault = Ok b in made) c.if-not-branch.false in
     let facet = c.in_ok-facet.facet in
     let rest = content_left c.read_facet.new.lines in
-    let made : ascii_facet_of (line_total start) line.line behind ≡ Ok (facet, rest) = sym (ap (λ (n : ℕ). ascii_facet_of n c.line-line.result behind) total ∙ ap (λ (l : ℕ). ascii_facet_of (line_total start) l behind) c.line-line.ensures) ∙ sym c.in_ok-facet.ensures.value in
+    let made : ascii_facet_of Strict (line_total start) line.line behind ≡ Ok (facet, rest) = sym (ap (λ (n : ℕ). ascii_facet_of Strict n c.line-line.result behind) total ∙ ap (λ (l : ℕ). ascii_facet_of Strict (line_total start) l behind) c.line-line.ensures) ∙ sym c.in_ok-facet.ensures.value in
     let seen = seen_more inv.0 c.loop-triangles.points c.placed.new.points (map triangle_polygon c.loop-triangles.triangles) facet c.in_ok-placed.field-0 inv.1 c.in_ok-placed.ensures in
     let faces : map triangle_polygon c.push.new.self ≡ map triangle_polygon c.loop-triangles.triangles ++ triangle_polygon c.in_ok-placed.field-0 ∷ [] = ap (map triangle_polygon) c.in_ok-push.ensures.ok ∙ map-append triangle_polygon c.loop-triangles.triangles (c.in_ok-placed.field-0 ∷ []) in
     let count : length (inv.0 ++ facet ∷ []) ≡ length inv.0 + 1 = length_push inv.0 facet in
     let gone = facets_more inv.0 most (line_total start) left behind rest line facet whole first more made going in
     let one = line_left (line_total start) left behind line first in
-    let taken = facet_takes (line_total start) line.line behind (facet, rest) made in
+    let taken = facet_takes Strict (line_total start) line.line behind (facet, rest) made in
     let few = inv.3 in
     (inv.0 ++ facet ∷ [], rw faces seen, rw count gone, omega (arith, count, one, taken, few), c.in_ok-facet.ensures.count ∙ total)

@@ -7,5 +7,5 @@ use Rattle.soup_files.proofs.surface.start_face.Goals as goal
 pub returns : goal.returns
 returns c =
     on_ok_weaker c.add_polygon.result
-    (λ made. made ∙ ap (with_polygon_text c.args.line) c.in_ok-add_facet.ensures.ok ∙ started c.args.line c.args.text.now)
+    (λ made. made ∙ ap (with_polygon_text c.args.line) c.in_ok-add_facet.ensures.ok ∙ started c.args.marker c.args.line c.args.text.now)
     c.add_polygon.ensures.ok
