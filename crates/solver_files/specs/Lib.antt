@@ -1,0 +1,4 @@
+pub mod Laws
+pub mod Mesh
+pub mod Msh
+pub mod Vtk

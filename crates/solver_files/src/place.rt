@@ -1,0 +1,52 @@
+//! Points as text.
+ghost use Rattle.std.specs.Prelude.{◌≡◌, ◌≤◌, ◌++◌, ◌∷◌, Some, OnOk};
+ghost use Rattle.grid_coords.specs.Origins.{IsNear};
+ghost use Rattle.node_files.specs.Writing.{fields_from, place_fields};
+ghost use Rattle.solver_files.specs.Mesh.{mesh_of, place_text, spaced, IsWritten};
+
+use crate::WholeMesh;
+use grid_coords::{Grid, WholePoint, print_from, print_grid};
+use sign_predicates::GridPoint;
+use tet_ports::{Bytes, NoMemory};
+
+/// Appends the coordinates of a point that is not measured from an origin.
+fn put_grid_place(grid: &Grid, p: GridPoint, out: &mut Bytes) -> Result<(), NoMemory>
+    requires { grid.now.halvings ≤ 18 }
+    ensures { OnOk result (out.new ≡ out.old ++ spaced (place_fields grid.now p)) }
+{
+    print_grid(grid, p.x, out)?;
+    out.push(b' ')?;
+    print_grid(grid, p.y, out)?;
+    out.push(b' ')?;
+    print_grid(grid, p.z, out)
+}
+
+/// Appends the coordinates of a point that is measured from an origin.
+fn put_place_from(
+    o: &WholePoint,
+    grid: &Grid,
+    p: GridPoint,
+    out: &mut Bytes,
+) -> Result<(), NoMemory>
+    requires halvings { grid.now.halvings ≤ 18 }
+    requires near { IsNear grid.now.decimals o.now }
+    ensures { OnOk result (out.new ≡ out.old ++ spaced (fields_from (Some o.now) grid.now p)) }
+{
+    print_from(o.x, grid, p.x, out)?;
+    out.push(b' ')?;
+    print_from(o.y, grid, p.y, out)?;
+    out.push(b' ')?;
+    print_from(o.z, grid, p.z, out)
+}
+
+/// Appends the coordinates of a point, with a space between two of them.
+pub(crate) fn put_place(mesh: &WholeMesh<'_>, p: GridPoint, out: &mut Bytes) -> Result<(), NoMemory>
+    requires { IsWritten (mesh_of mesh.now) }
+    ensures { OnOk result (out.new ≡ out.old ++ place_text (mesh_of mesh.now) p) }
+{
+    let grid = &mesh.table.grid;
+    match &mesh.origin {
+        None => put_grid_place(grid, p, out),
+        Some(o) => put_place_from(o, grid, p, out),
+    }
+}
