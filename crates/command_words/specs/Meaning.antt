@@ -4,6 +4,7 @@ use Rattle.std.specs.Option.{option_or}
 use Rattle.grid_coords.specs.Origins.{IsNearBy}
 use Rattle.command_words.specs.Grammar.{is_cluster, is_sampled, is_switched, name_of, budget_at_front, last_from, last_number, sample_words}
 use Rattle.command_words.specs.Names.{extension_of, base_of}
+use Rattle.command_words.specs.declared.options.Formats.{Formats}
 use Rattle.command_words.specs.declared.options.Options.{Options}
 use Rattle.command_words.specs.declared.options.Extension.{Extension}
 use Rattle.command_words.specs.declared.options.Extension.TheVariants.{Node, Poly, Smesh, Off, Stl}
@@ -33,6 +34,10 @@ is_piecewise asked (Some Stl) = true
 
 -- ---- the options
 
+-- no file of the whole mesh in another format
+abbrev pub no_formats : Formats
+no_formats = record { vtk = false; msh = false }
+
 -- What the words ask for; 112 is p, 110 n, 102 f, 101 e, 122 z, 99 c, 65 A, 81 Q, 78 N, 69 E, 70 F, 77 M, 114 r and 119
 -- w. For the sample no file is stored. The words ask for at most `halvings` halvings, and for that number where they
 -- name none.
@@ -49,6 +54,7 @@ options_within halvings words = record {
   no_node = is_switched words 78 || is_sampled words;
   no_ele = is_switched words 69 || is_sampled words;
   no_face = is_switched words 70 || is_sampled words;
+  formats = no_formats;
   keep_facets = is_switched words 77;
   check = is_switched words 114;
   weighted = is_switched words 119;

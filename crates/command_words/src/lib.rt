@@ -14,5 +14,5 @@ mod reading;
 pub use fault::WordsFault;
 pub use laws::law_switches;
 pub use names::{base_of, file_name, with_extension};
-pub use options::{Extension, Options};
+pub use options::{Extension, Formats, Options};
 pub use reading::{read_words, read_words_within};

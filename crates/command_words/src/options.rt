@@ -18,6 +18,15 @@ pub enum Extension {
     Stl,
 }
 
+/// The files that have a whole mesh, in formats that viewers and solvers read.
+#[derive(Clone, Copy, Debug, PartialEq, Eq)]
+pub struct Formats {
+    /// Write the `.vtk` file.
+    pub vtk: bool,
+    /// Write the `.msh` file.
+    pub msh: bool,
+}
+
 /// What the words of the command line ask for.
 ///
 /// The switches stand in the order of the letters p, n, f, e, z, c, A, Q, N, E, F, M, r, w.
@@ -48,6 +57,8 @@ pub struct Options {
     pub no_ele: bool,
     /// No `.face` file and no `.edge` file.
     pub no_face: bool,
+    /// The files of the whole mesh in other formats. No word of this grammar asks for one.
+    pub formats: Formats,
     /// Do not merge coplanar facets of a complex: each side of a facet is a segment.
     pub keep_facets: bool,
     /// Read a mesh and check it; nothing is stored. The letters r and C put this on, which stand

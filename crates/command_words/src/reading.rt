@@ -2,7 +2,8 @@
 
 ghost use Rattle.std.specs.Prelude.{◌≡◌, ◌≤◌, ◌||◌, ◌&&◌, not, ℕ, Some, None, Err, IfOk, IsSome};
 ghost use Rattle.command_words.specs.Grammar.{words_fault, words_fault_within};
-ghost use Rattle.command_words.specs.Meaning.{is_piecewise, options_of, options_within, AreInRange, AreOfSample};
+ghost use Rattle.command_words.specs.Meaning.{is_piecewise, no_formats, options_of, options_within};
+ghost use Rattle.command_words.specs.Meaning.{AreInRange, AreOfSample};
 ghost use Rattle.command_words.specs.declared.fault.WordsFault.TheVariants.{Usage};
 
 use crate::budget::{MOST_BUDGET, last_budget};
@@ -11,7 +12,7 @@ use crate::first_fault::words_fault;
 use crate::grammar::{is_switched, name_of};
 use crate::names::{base_of, extension_of};
 use crate::numbers::{DECIMALS, HALVINGS, MOST_DECIMALS, MOST_HALVINGS, last_number, sample_of};
-use crate::options::{Extension, Options};
+use crate::options::{Extension, Formats, Options};
 use std::alloc::Global;
 use tet_ports::{Name, Words};
 
@@ -63,6 +64,7 @@ pub fn read_words_within(alloc: Global, words: &Words, halvings: u32) -> Result<
         no_node: is_left_out(is_switched(words, b'N'), sampled),
         no_ele: is_left_out(is_switched(words, b'E'), sampled),
         no_face: is_left_out(is_switched(words, b'F'), sampled),
+        formats: no_formats(),
         keep_facets: is_switched(words, b'M'),
         check: is_switched(words, b'r'),
         weighted: is_switched(words, b'w'),
@@ -74,6 +76,16 @@ pub fn read_words_within(alloc: Global, words: &Words, halvings: u32) -> Result<
         base: Name::from_slice(alloc, base_of(name))?,
         extension,
     })
+}
+
+/// No file of the whole mesh in another format.
+fn no_formats() -> Formats
+    ensures { result ≡ no_formats }
+{
+    Formats {
+        vtk: false,
+        msh: false,
+    }
 }
 
 /// Whether a file is left out: the words ask for that, or for the sample, of which none is stored.
