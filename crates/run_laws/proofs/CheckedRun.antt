@@ -26,10 +26,14 @@ use Rattle.run_laws.specs.NodeRead.{IsLegiblePoint}
 use Rattle.run_laws.specs.Checked.{AreThere}
 use Rattle.run_laws.proofs.Listed.{listed_names}
 use Rattle.run_laws.proofs.Checked.{checked_back}
-use Rattle.command_words.specs.Meaning.{options_of}
+use Rattle.command_words.specs.Meaning.{no_formats, options_of}
+use Rattle.command_words.specs.declared.options.Formats.{Formats}
 use Rattle.command_words.specs.declared.options.Options.{Options}
-use Rattle.run_steps.specs.Outputs.{AreOutputsOf, first_of, named}
-use Rattle.run_steps.specs.Stores.{in_order, with_files}
+use Rattle.run_steps.proofs.Asked.{asked_by_face}
+use Rattle.run_steps.specs.Outputs.{AreOutputsOf, first_of, named, whole_of}
+use Rattle.run_steps.specs.Stores.{given, in_order, with_files}
+use Rattle.solver_files.specs.Msh.{msh_text}
+use Rattle.solver_files.specs.Vtk.{vtk_text}
 use Rattle.run_steps.specs.declared.meshed.Meshed.{Meshed}
 use Rattle.run_steps.specs.declared.outputs.Outputs.{Outputs}
 use Rattle.run_steps.specs.declared.store.NamedText.{NamedText}
@@ -38,7 +42,7 @@ use Rattle.tetgen_run.specs.Run.{AnswerBy}
 use Rattle.run_laws.proofs.SoundRun.{sound_run}
 use Rattle.run_laws.specs.CheckedRun.{AreCheckable, CheckedRunLaw, CheckedAfterLaw}
 use Rattle.run_laws.proofs.Lengths.{ele_long_of, face_long}
-use Rattle.run_laws.proofs.Stored.{IsUnder, AreFiles, all_held, after, first_given, node_held, ele_held, face_held, neigh_held, neigh_kept}
+use Rattle.run_laws.proofs.Stored.{IsUnder, AreFiles, all_held, after, first_given, without_two, node_held, ele_held, face_held, neigh_held, neigh_kept}
 use Rattle.run_laws.proofs.ReadInputs.{HasInputNumbers, input_numbers, plain_table}
 use Rattle.run_laws.proofs.Tables.{IsOfTable, HasRegionMarks, of_table, region_marks, short_markers}
 
@@ -55,7 +59,7 @@ first_small options mesh one = go options.from_zero
     go false = one
 
 module _ (options : Options) (mesh : Meshed) (outputs : Outputs) (are : AreOutputsOf options mesh outputs) (can : AreCheckable options mesh outputs)
-    (table : IsOfTable mesh) (input : HasInputNumbers mesh) (marks : HasRegionMarks mesh) (on : All (IsOn mesh.points) mesh.tetrahedra) (unmoved : options.origin ≡ None) where
+    (table : IsOfTable mesh) (input : HasInputNumbers mesh) (marks : HasRegionMarks mesh) (on : All (IsOn mesh.points) mesh.tetrahedra) (unmoved : options.origin ≡ None) (alone : options.formats ≡ no_formats) where
   first : ℕ
   first = first_of options mesh
 
@@ -71,7 +75,7 @@ module _ (options : Options) (mesh : Meshed) (outputs : Outputs) (are : AreOutpu
 
   faces_are : AreFaceRowsOf mesh.points mesh.tetrahedra mesh.complex mesh.triangles options.all_faces faces
   unfolding faces
-  faces_are = are.marked_are can.faces_there
+  faces_are = are.marked_are (asked_by_face options.no_face options.formats.vtk options.formats.msh can.faces_there)
 
   -- the files
   node_there : outputs.texts.node ≡ Some (named options.base (codes ".1.node") (node_text mesh.table mesh.added first))
@@ -88,6 +92,12 @@ module _ (options : Options) (mesh : Meshed) (outputs : Outputs) (are : AreOutpu
   unfolding first faces
   face_there = are.face_is ∙ ap (λ (b : Bool). if b then None else Some (named options.base (codes ".1.face") (face_text mesh.names (first_of options mesh) are.marked))) can.faces_there
 
+  no_vtk : outputs.texts.vtk ≡ None
+  no_vtk = are.vtk_is ∙ ap (λ (f : Formats). if not f.vtk then None else Some (named options.base (codes ".1.vtk") (vtk_text (whole_of options.origin mesh are.marked)))) alone
+
+  no_msh : outputs.texts.msh ≡ None
+  no_msh = are.msh_is ∙ ap (λ (f : Formats). if not f.msh then None else Some (named options.base (codes ".1.msh") (msh_text (whole_of options.origin mesh are.marked)))) alone
+
   abbrev IsFewBytes : NamedText → Type 0
   IsFewBytes text = length text.content ≤ most_bytes
 
@@ -97,7 +107,7 @@ module _ (options : Options) (mesh : Meshed) (outputs : Outputs) (are : AreOutpu
       let b = first_given IsFewBytes outputs.texts.ele _ a.1 in
       let c = first_given IsFewBytes outputs.texts.face _ b.1 in
       let d = first_given IsFewBytes outputs.texts.edge _ c.1 in
-      let e = first_given IsFewBytes outputs.texts.neigh [] d.1 in
+      let e = first_given IsFewBytes outputs.texts.neigh _ d.1 in
       (a.0, b.0, c.0, e.0)
 
   node_few : length (node_text mesh.table mesh.added first) ≤ most_bytes
@@ -179,14 +189,24 @@ module _ (options : Options) (mesh : Meshed) (outputs : Outputs) (are : AreOutpu
     texts : List (Option NamedText)
     texts = outputs.texts.node ∷ outputs.texts.ele ∷ outputs.texts.face ∷ outputs.texts.edge ∷ outputs.texts.neigh ∷ []
 
+    -- no file of the whole mesh is among them
+    these_left : seen.files_before ≡ with_files (Some before) (given texts)
+    unfolding texts
+    these_left =
+        let t = outputs.texts in
+        left ∙ ap (λ (found : List NamedText). with_files (Some before) found)
+        (ap (λ (o : Option NamedText). given (t.node ∷ t.ele ∷ t.face ∷ t.edge ∷ t.neigh ∷ o ∷ t.msh ∷ [])) no_vtk
+        ∙ ap (λ (o : Option NamedText). given (t.node ∷ t.ele ∷ t.face ∷ t.edge ∷ t.neigh ∷ None ∷ o ∷ [])) no_msh
+        ∙ without_two (t.node ∷ t.ele ∷ t.face ∷ t.edge ∷ t.neigh ∷ []))
+
     -- what a name holds in the end
     holds : (name content : List ℕ) → all_held name texts (map.get before name) ≡ Some content → Holds seen.files_before name content
     unfolding texts
-    holds name content e = subst (λ o. Holds o name content) (sym (left ∙ (after before texts).is)) ((after before texts).holds name ∙ e)
+    holds name content e = subst (λ o. Holds o name content) (sym (these_left ∙ (after before texts).is)) ((after before texts).holds name ∙ e)
 
     absent : (name : List ℕ) → all_held name texts (map.get before name) ≡ None → IsAbsent seen.files_before name seen.misses_before seen.misses_now
     unfolding texts
-    absent name e = subst (λ o. IsAbsent o name seen.misses_before seen.misses_now) (sym (left ∙ (after before texts).is)) ((after before texts).holds name ∙ e)
+    absent name e = subst (λ o. IsAbsent o name seen.misses_before seen.misses_now) (sym (these_left ∙ (after before texts).is)) ((after before texts).holds name ∙ e)
 
     -- an extension behind the base of the outputs
     behind : (extension : List ℕ) → options.base ++ (codes ".1" ++ extension) ≡ (options.base ++ codes ".1") ++ extension
@@ -244,8 +264,8 @@ checked_run words folder outputs run plain can before fresh seen left =
     let table = of_table options run.input run.bound run.mesh plain run.on_grid run.made in
     let numbers = input_numbers words folder run.input run.bound run.mesh plain run.read run.on_grid run.made in
     let marks = region_marks options run.bound run.mesh plain run.made in
-    checked options run.mesh outputs run.outputs_are can table numbers marks on refl before fresh seen left
-    (sound_run options run.bound run.mesh plain run.made options.all_faces run.outputs_are.marked (run.outputs_are.marked_are can.faces_there))
+    checked options run.mesh outputs run.outputs_are can table numbers marks on refl refl before fresh seen left
+    (sound_run options run.bound run.mesh plain run.made options.all_faces run.outputs_are.marked (run.outputs_are.marked_are (asked_by_face options.no_face options.formats.vtk options.formats.msh can.faces_there)))
 
 -- what the later run answers
 pub checked_after : CheckedAfterLaw

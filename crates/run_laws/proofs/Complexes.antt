@@ -17,7 +17,7 @@ use Rattle.plc_files.specs.Plc.{plc_of, nodes_of, facets_of, list_head_of, liste
 use Rattle.plc_files.specs.Polygon.{polygon_of}
 use Rattle.plc_files.specs.Text.{ReadFacet, Plc}
 use Rattle.soup_files.specs.Off as off
-use Rattle.soup_files.specs.Off.{off_of, head_of}
+use Rattle.soup_files.specs.Off.{off_by, off_of, head_of}
 use Rattle.soup_files.specs.Stl as stl
 use Rattle.soup_files.specs.Stl.{stl_of, solid_line, triangle_in, vertices_of, triangles_of}
 use Rattle.soup_files.specs.Surface.{surface_of, facet_of_one}
@@ -132,10 +132,10 @@ abbrev pub IsSurface : Plc → Type 0
 IsSurface text = (points : List DecimalPoint) × (faces : List PolygonText) × (surface_of points faces ≡ text)
 
 off_is : (total : ℕ) (lines : List ContentLine) (text : Plc) → off_of total lines ≡ Ok text → IsSurface text
-unfolding off_of
+unfolding off_by
 off_is total lines text e =
-    let a = bind_ok (head_of total lines) (λ head. so_many (off.vertex_line total) head.0.0 head.1 >>= λ points. so_many (off.off_polygon total) head.0.1 points.1 >>= λ faces. text_end_at faces.1 >>= λ u. ok (surface_of points.0 faces.0)) text e in
-    let b = bind_ok (so_many (off.vertex_line total) a.0.0.0 a.0.1) (λ points. so_many (off.off_polygon total) a.0.0.1 points.1 >>= λ faces. text_end_at faces.1 >>= λ u. ok (surface_of points.0 faces.0)) text a.2 in
+    let a = bind_ok (head_of _ total lines) (λ head. so_many (off.vertex_line _ total) head.0.0 head.1 >>= λ points. so_many (off.off_polygon total) head.0.1 points.1 >>= λ faces. text_end_at faces.1 >>= λ u. ok (surface_of points.0 faces.0)) text e in
+    let b = bind_ok (so_many (off.vertex_line _ total) a.0.0.0 a.0.1) (λ points. so_many (off.off_polygon total) a.0.0.1 points.1 >>= λ faces. text_end_at faces.1 >>= λ u. ok (surface_of points.0 faces.0)) text a.2 in
     let c = bind_ok (so_many (off.off_polygon total) a.0.0.1 b.0.1) (λ faces. text_end_at faces.1 >>= λ u. ok (surface_of b.0.0 faces.0)) text b.2 in
     let d = bind_ok (text_end_at c.0.1) (λ u. ok (surface_of b.0.0 c.0.0)) text c.2 in
     (b.0.0, c.0.0, same_ok (surface_of b.0.0 c.0.0) text d.2)
@@ -143,7 +143,7 @@ off_is total lines text e =
 stl_is : (total : ℕ) (lines : List ContentLine) (text : Plc) → stl_of total lines ≡ Ok text → IsSurface text
 unfolding stl_of
 stl_is total lines text e =
-    let a = bind_ok (solid_line total lines) (λ solid. stl.ascii_facets_of (length solid.1) total solid.1 >>= λ facets. text_end_at facets.1 >>= λ u. ok (triangles_of facets.0)) text e in
+    let a = bind_ok (solid_line _ total lines) (λ solid. stl.ascii_facets_of (length solid.1) total solid.1 >>= λ facets. text_end_at facets.1 >>= λ u. ok (triangles_of facets.0)) text e in
     let b = bind_ok (stl.ascii_facets_of (length a.0.1) total a.0.1) (λ facets. text_end_at facets.1 >>= λ u. ok (triangles_of facets.0)) text a.2 in
     let c = bind_ok (text_end_at b.0.1) (λ u. ok (triangles_of b.0.0)) text b.2 in
     (distinct_vertices (vertices_of b.0.0), map (triangle_in (distinct_vertices (vertices_of b.0.0))) b.0.0, same_ok (triangles_of b.0.0) text c.2)

@@ -59,6 +59,8 @@ plain_are complex = record {
   face_is = refl;
   edge_is = refl;
   neigh_is = refl;
+  vtk_is = refl;
+  msh_is = refl;
   report_is = refl;
 }
 
@@ -76,6 +78,8 @@ full_are = record {
   face_is = refl;
   edge_is = refl;
   neigh_is = refl;
+  vtk_is = refl;
+  msh_is = refl;
   report_is = refl;
 }
 

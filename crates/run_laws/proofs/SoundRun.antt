@@ -9,6 +9,7 @@ use Rattle.mesh_check.specs.Defects.{IsVerdict}
 use Rattle.mesh_check.specs.declared.defect.Verdict.TheVariants.{Sound}
 use Rattle.written_laws.specs.WrittenMesh.{written_mesh}
 use Rattle.run_laws.proofs.SoundMeshes.{sound_points, sound_complex}
+use Rattle.run_steps.proofs.Asked.{asked_by_face}
 use Rattle.run_steps.specs.Meshing.{MeshOf, PointsMeshOf}
 use Rattle.run_steps.specs.declared.mesh.Bound.{Bound}
 use Rattle.run_steps.specs.declared.meshed.Meshed.{Meshed}
@@ -33,7 +34,7 @@ pub sound_outputs : SoundOutputsLaw
 sound_outputs options bound mesh outputs plain answer are no_face = record {
   faces = are.marked;
   written = are.face_is;
-  sound = sound_run options bound mesh plain answer options.all_faces are.marked (are.marked_are no_face);
+  sound = sound_run options bound mesh plain answer options.all_faces are.marked (are.marked_are (asked_by_face options.no_face options.formats.vtk options.formats.msh no_face));
 }
 
 pub sound_left : SoundLeftLaw

@@ -101,6 +101,8 @@ plain_outputs = record {
         (pyramid_face_text hull_bytes);
     edge = None;
     neigh = None;
+    vtk = None;
+    msh = None;
   };
   report = Some pyramid_report;
 }
@@ -114,6 +116,8 @@ full_outputs = record {
     face = Some (pyramid_face_text face_bytes);
     edge = Some pyramid_edge_text;
     neigh = Some pyramid_neigh_text;
+    vtk = None;
+    msh = None;
   };
   report = Some pyramid_report;
 }

@@ -10,7 +10,10 @@ use Rattle.geo_laws.proofs.Ascending.{Rises, none, more, rises-same}
 use Rattle.mesh_files.specs.FaceRows.{corners_of, IsFaceRow}
 use Rattle.mesh_files.specs.Texts.{face_text, edge_text}
 use Rattle.mesh_files.specs.declared.markers.FaceRow.{FaceRow}
-use Rattle.run_steps.specs.Outputs.{named, first_of, face_file, edge_file, summary_of, report_of, names_sides, AreOutputsOf}
+use Rattle.run_steps.proofs.Asked.{asked_by_face, asked_by_msh, asked_by_vtk}
+use Rattle.run_steps.specs.Outputs.{named, first_of, face_file, edge_file, vtk_file, msh_file, whole_of, summary_of, report_of, names_sides, asks_faces, AreOutputsOf}
+use Rattle.solver_files.specs.Msh.{msh_text}
+use Rattle.solver_files.specs.Vtk.{vtk_text}
 use Rattle.run_steps.specs.declared.meshed.Meshed.{Meshed}
 use Rattle.run_steps.specs.declared.outputs.Outputs.{Outputs}
 use Rattle.run_steps.specs.declared.report.Report.TheVariants.{Mesh}
@@ -60,7 +63,7 @@ sides_in_report true no_face edges h = absurd (true≢false h)
 sides_in_report false no_face edges h = refl
 
 module _ (options : Options) (mesh : Meshed) (p q : Outputs) (a : AreOutputsOf options mesh p) (b : AreOutputsOf options mesh q) where
-  marked_same : options.no_face ≡ false → a.marked ≡ b.marked
+  marked_same : asks_faces options ≡ true → a.marked ≡ b.marked
   marked_same e =
       let one = a.marked_are e in
       let two = b.marked_are e in
@@ -80,7 +83,13 @@ module _ (options : Options) (mesh : Meshed) (p q : Outputs) (a : AreOutputsOf o
       lists_same SideBefore sides_never (Contains (sides_of_rows mesh.tetrahedra)) a.sides b.sides one.ascending two.ascending one.exactly two.exactly
 
   face_files : face_file options mesh a.marked ≡ face_file options mesh b.marked
-  face_files = choice options.no_face _ _ None (λ e. ap (λ (m : List FaceRow). Some (named options.base (codes ".1.face") (face_text mesh.names (first_of options mesh) m))) (marked_same e))
+  face_files = choice options.no_face _ _ None (λ e. ap (λ (m : List FaceRow). Some (named options.base (codes ".1.face") (face_text mesh.names (first_of options mesh) m))) (marked_same (asked_by_face options.no_face options.formats.vtk options.formats.msh e)))
+
+  vtk_files : vtk_file options mesh a.marked ≡ vtk_file options mesh b.marked
+  vtk_files = choice (not options.formats.vtk) _ _ None (λ e. ap (λ (m : List FaceRow). Some (named options.base (codes ".1.vtk") (vtk_text (whole_of options.origin mesh m)))) (marked_same (asked_by_vtk options.no_face options.formats.vtk options.formats.msh e)))
+
+  msh_files : msh_file options mesh a.marked ≡ msh_file options mesh b.marked
+  msh_files = choice (not options.formats.msh) _ _ None (λ e. ap (λ (m : List FaceRow). Some (named options.base (codes ".1.msh") (msh_text (whole_of options.origin mesh m)))) (marked_same (asked_by_msh options.no_face options.formats.vtk options.formats.msh e)))
 
   edge_files : edge_file options mesh a.sides ≡ edge_file options mesh b.sides
   edge_files =
@@ -100,5 +109,7 @@ module _ (options : Options) (mesh : Meshed) (p q : Outputs) (a : AreOutputsOf o
       let face = a.face_is ∙ face_files ∙ sym b.face_is in
       let edge = a.edge_is ∙ edge_files ∙ sym b.edge_is in
       let neigh = a.neigh_is ∙ sym b.neigh_is in
+      let vtk = a.vtk_is ∙ vtk_files ∙ sym b.vtk_is in
+      let msh = a.msh_is ∙ msh_files ∙ sym b.msh_is in
       let report = a.report_is ∙ reports ∙ sym b.report_is in
-      λ i. record { texts = record { node = node i; ele = ele i; face = face i; edge = edge i; neigh = neigh i }; report = report i }
+      λ i. record { texts = record { node = node i; ele = ele i; face = face i; edge = edge i; neigh = neigh i; vtk = vtk i; msh = msh i }; report = report i }

@@ -1,3 +1,4 @@
+pub mod Asked
 pub mod Determined
 pub mod Inputs
 pub mod Meshables
@@ -6,4 +7,5 @@ pub mod Once
 pub mod Refusals
 pub mod Steps
 pub mod Unbound
+pub mod Whole
 pub mod Wider

@@ -10,9 +10,14 @@ use Rattle.mesh_files.specs.Texts.{ele_text_of, face_text, edge_text, neigh_text
 use Rattle.mesh_files.specs.declared.markers.FaceRow.{FaceRow}
 use Rattle.node_files.specs.Writing.{node_text_from, IsNodeTable}
 use Rattle.mesh_check.specs.Messages.{file_message}
+use Rattle.grid_coords.specs.declared.origin.WholePoint.{WholePoint}
+use Rattle.solver_files.specs.Mesh.{Mesh as WholeMesh}
+use Rattle.solver_files.specs.Msh.{msh_text}
+use Rattle.solver_files.specs.Vtk.{vtk_text}
 use Rattle.run_steps.specs.Messages.{tetgen_name}
 use Rattle.run_steps.specs.declared.meshed.Meshed.{Meshed}
 use Rattle.run_steps.specs.declared.outputs.Outputs.{Outputs}
+use Rattle.run_steps.specs.declared.outputs.FaceFiles.{FaceFiles}
 use Rattle.run_steps.specs.declared.outputs.FaceOutputs.{FaceOutputs}
 use Rattle.run_steps.specs.declared.outputs.SideOutputs.{SideOutputs}
 use Rattle.run_steps.specs.declared.report.Report.{Report}
@@ -60,6 +65,27 @@ neigh_file options mesh =
     if not options.neighbors then None
     else Some (named options.base (codes ".1.neigh") (neigh_text (first_of options mesh) (pairs_of mesh.tetrahedra)))
 
+-- the mesh with these faces, as one file has it whole
+abbrev pub whole_of : Option WholePoint → Meshed → List FaceRow → WholeMesh
+whole_of origin mesh faces = record {
+  origin = origin;
+  table = mesh.table;
+  added = mesh.added;
+  rows = mesh.tetrahedra;
+  marks = mesh.marks;
+  regions = mesh.complex.regions;
+  faces = faces;
+  names = mesh.names;
+}
+
+abbrev pub vtk_file : Options → Meshed → List FaceRow → Option NamedText
+vtk_file options mesh faces =
+    if not options.formats.vtk then None else Some (named options.base (codes ".1.vtk") (vtk_text (whole_of options.origin mesh faces)))
+
+abbrev pub msh_file : Options → Meshed → List FaceRow → Option NamedText
+msh_file options mesh faces =
+    if not options.formats.msh then None else Some (named options.base (codes ".1.msh") (msh_text (whole_of options.origin mesh faces)))
+
 -- the counts that sum up a mesh with these numbers of faces and edges
 abbrev pub summary_of : Meshed → ℕ → ℕ → Summary
 summary_of mesh faces edges = record {
@@ -82,13 +108,17 @@ report_of options mesh faces edges = if options.quiet then None else Some (Mesh 
 abbrev pub names_sides : Options → Bool
 names_sides options = not options.quiet || (not options.no_face && options.edges)
 
+-- whether a file with faces is asked for: the face file, or one of the whole mesh
+abbrev pub asks_faces : Options → Bool
+asks_faces options = not options.no_face || (options.formats.vtk || options.formats.msh)
+
 -- whether the options ask for no faces but those on the hull and in facets
 abbrev pub asks_hull_alone : Options → Bool
-asks_hull_alone options = options.quiet && (not options.no_face && (not options.all_faces && not options.neighbors))
+asks_hull_alone options = options.quiet && (asks_faces options && (not options.all_faces && not options.neighbors))
 
--- whether the face file, the neighbor file or the summary is asked for, which need the uses of faces
+-- whether a file with faces, the neighbor file or the summary is asked for, which need the uses of faces
 abbrev pub asks_uses : Options → Bool
-asks_uses options = not options.quiet || (not options.no_face || options.neighbors)
+asks_uses options = not options.quiet || (asks_faces options || options.neighbors)
 
 -- ---- the outputs
 
@@ -109,19 +139,25 @@ pub record IsHullOf (mesh : Meshed) (hull : List Face) : Type 0 where
   pub ascending : AllPairs RowBefore mesh.tetrahedra
   pub faces : AreHullFacesOf mesh.tetrahedra hull
 
--- the face file of a mesh
-pub record IsFaceFileOf (options : Options) (mesh : Meshed) (file : Option NamedText) : Type 0 where
+-- the files of a mesh that list faces
+pub record AreFaceFilesOf (options : Options) (mesh : Meshed) (files : FaceFiles) : Type 0 where
   pub marked : List FaceRow
-  pub marked_are : options.no_face ≡ false → AreFaceRowsOf mesh.points mesh.tetrahedra mesh.complex mesh.triangles options.all_faces marked
-  pub face_is : file ≡ face_file options mesh marked
+  pub marked_are : asks_faces options ≡ true
+      → AreFaceRowsOf mesh.points mesh.tetrahedra mesh.complex mesh.triangles options.all_faces marked
+  pub face_is : files.face ≡ face_file options mesh marked
+  pub vtk_is : files.vtk ≡ vtk_file options mesh marked
+  pub msh_is : files.msh ≡ msh_file options mesh marked
 
 -- the face outputs of a mesh, where a file or the summary needs them
 pub record AreFaceOutputsOf (options : Options) (mesh : Meshed) (outputs : FaceOutputs) : Type 0 where
   pub marked : List FaceRow
-  pub marked_are : options.no_face ≡ false → AreFaceRowsOf mesh.points mesh.tetrahedra mesh.complex mesh.triangles options.all_faces marked
+  pub marked_are : asks_faces options ≡ true
+      → AreFaceRowsOf mesh.points mesh.tetrahedra mesh.complex mesh.triangles options.all_faces marked
   pub faces : List Face
   pub faces_are : options.quiet ≡ false → AreFacesOf mesh.tetrahedra faces
-  pub face_is : outputs.face ≡ face_file options mesh marked
+  pub face_is : outputs.files.face ≡ face_file options mesh marked
+  pub vtk_is : outputs.files.vtk ≡ vtk_file options mesh marked
+  pub msh_is : outputs.files.msh ≡ msh_file options mesh marked
   pub neigh_is : outputs.neigh ≡ neigh_file options mesh
   pub count_is : outputs.count ≡ length faces
 
@@ -136,7 +172,8 @@ pub record AreSideOutputsOf (options : Options) (mesh : Meshed) (outputs : SideO
 -- them
 pub record AreOutputsOf (options : Options) (mesh : Meshed) (outputs : Outputs) : Type 0 where
   pub marked : List FaceRow
-  pub marked_are : options.no_face ≡ false → AreFaceRowsOf mesh.points mesh.tetrahedra mesh.complex mesh.triangles options.all_faces marked
+  pub marked_are : asks_faces options ≡ true
+      → AreFaceRowsOf mesh.points mesh.tetrahedra mesh.complex mesh.triangles options.all_faces marked
   pub faces : List Face
   pub faces_are : options.quiet ≡ false → AreFacesOf mesh.tetrahedra faces
   pub sides : List Side
@@ -146,4 +183,6 @@ pub record AreOutputsOf (options : Options) (mesh : Meshed) (outputs : Outputs) 
   pub face_is : outputs.texts.face ≡ face_file options mesh marked
   pub edge_is : outputs.texts.edge ≡ edge_file options mesh sides
   pub neigh_is : outputs.texts.neigh ≡ neigh_file options mesh
+  pub vtk_is : outputs.texts.vtk ≡ vtk_file options mesh marked
+  pub msh_is : outputs.texts.msh ≡ msh_file options mesh marked
   pub report_is : outputs.report ≡ report_of options mesh (length faces) (length sides)

@@ -260,7 +260,7 @@ fn points_of(alloc: Global, file: Fetched) -> Result<NodeText, Status>
 }
 
 /// The complex that a file spells in one form: it refuses with `BadText`, or when out of memory.
-pub fn complex_of(alloc: Global, extension: Extension, file: Fetched) -> Result<ComplexFile, Status>
+fn complex_of(alloc: Global, extension: Extension, file: Fetched) -> Result<ComplexFile, Status>
     requires { length file.bytes < 2 ^ 32 - 1 }
     ensures answer { AndThen (TextAnswer file.name (plc_text_of extension file.bytes))
         (λ text. Gives (complex_file file.name text)) result }

@@ -12,7 +12,7 @@ mod report;
 mod status;
 mod store;
 
-pub use input::{ComplexFile, Fetched, Input, complex_of, fetch, read_input, with_points};
+pub use input::{ComplexFile, Fetched, Input, fetch, read_input, with_points};
 pub use mesh::{Bound, bind_input, bind_nodes, complex_meshed, mesh_outputs};
 pub use meshed::{HulledMesh, Meshed};
 pub use messages::{OUT_OF_MEMORY, SUMMARY_FAILED, message};

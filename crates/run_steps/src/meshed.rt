@@ -1,9 +1,11 @@
 //! The mesh that a run writes.
 
 use geo_laws::{Complex, FacetTriangles, Points, TetList};
+use grid_coords::WholePoint;
 use hole_carve::Marks;
-use mesh_files::{Faces, MarkedList};
+use mesh_files::{FaceRows, Faces, MarkedList};
 use node_files::{Names, NodeTable};
+use solver_files::WholeMesh;
 
 /// A mesh, with the points and the complex that it is one of. Points are named by their places,
 /// from 0, the added ones after the kept ones of the table.
@@ -32,6 +34,28 @@ pub struct Meshed {
 
 impl Meshed {
     ghost use Rattle.std.specs.Prelude.{◌≡◌};
+    ghost use Rattle.solver_files.specs.Mesh.{mesh_of};
+    ghost use Rattle.run_steps.specs.Outputs.{whole_of};
+
+    /// The mesh with these faces, as one file has it whole. Coordinates are measured from `origin`.
+    pub(crate) fn whole<'a>(
+        &'a self,
+        origin: Option<WholePoint>,
+        faces: &'a FaceRows,
+    ) -> WholeMesh<'a>
+        ensures { mesh_of result ≡ whole_of origin self.now faces.now }
+    {
+        WholeMesh {
+            origin,
+            table: &self.table,
+            added: &self.added,
+            list: &self.tetrahedra,
+            marks: self.marks.as_ref(),
+            complex: &self.complex,
+            faces,
+            names: &self.names,
+        }
+    }
 
     /// Its tetrahedra, with what marks their faces.
     pub(crate) fn marked_list(&self) -> MarkedList<'_>

@@ -1,6 +1,6 @@
 //! The files and the summary of a mesh.
 
-ghost use Rattle.std.specs.Prelude.{◌≡◌, true, false, ◌<◌, ◌^◌, length, All, List, IfOk, IfSome};
+ghost use Rattle.std.specs.Prelude.{◌≡◌, ◌||◌, true, false, ◌<◌, ◌^◌, length, All, List, IfOk, IfSome};
 ghost use Rattle.std.specs.Option.{option_copied};
 ghost use Rattle.geo_laws.specs.Faces.{side_numbers, AreFacesOf, AreSidesOf};
 ghost use Rattle.geo_laws.specs.declared.faces.Face.{Face};
@@ -8,7 +8,9 @@ ghost use Rattle.incidence.specs.Uses.{AreUsesOf};
 ghost use Rattle.mesh_files.specs.FaceRows.{AreFaceRowsOf};
 ghost use Rattle.mesh_files.specs.Texts.{marked_corners, AreNamed};
 ghost use Rattle.node_files.specs.Writing.{IsNearGrid};
-ghost use Rattle.run_steps.specs.Outputs.{named, first_of, node_file, ele_file, face_file, edge_file, neigh_file, report_of, names_sides, asks_uses, asks_hull_alone, IsWritable, IsHullOf, IsFaceFileOf, AreFaceOutputsOf, AreSideOutputsOf, AreOutputsOf};
+ghost use Rattle.run_steps.specs.Outputs.{named, first_of, node_file, ele_file, face_file, edge_file, neigh_file, vtk_file, msh_file, report_of};
+ghost use Rattle.run_steps.specs.Outputs.{names_sides, asks_faces, asks_uses, asks_hull_alone, IsWritable};
+ghost use Rattle.run_steps.specs.Outputs.{IsHullOf, AreFaceFilesOf, AreFaceOutputsOf, AreSideOutputsOf, AreOutputsOf};
 ghost use Rattle.run_steps.specs.Stores.{in_order, TellsFailure};
 
 use crate::meshed::{HulledMesh, Meshed};
@@ -23,6 +25,7 @@ use mesh_files::{
     write_edge, write_ele, write_face, write_neigh,
 };
 use node_files::write_node_from;
+use solver_files::{write_msh, write_vtk};
 use std::alloc::Global;
 use tet_ports::{Bytes, NoMemory};
 
@@ -40,11 +43,19 @@ struct RowOutputs {
     ele: Option<NamedText>,
 }
 
-/// The face file and the neighbor file, where they are asked for, and the number of faces, if the
-/// summary is asked for.
+/// The files that list faces, where they are asked for: the face file, and those of the whole mesh.
+#[derive(Drop)]
+struct FaceFiles {
+    face: Option<NamedText>,
+    vtk: Option<NamedText>,
+    msh: Option<NamedText>,
+}
+
+/// The files that list faces, the neighbor file, where it is asked for, and the number of faces, if
+/// the summary is asked for.
 #[derive(Drop)]
 struct FaceOutputs {
-    face: Option<NamedText>,
+    files: FaceFiles,
     neigh: Option<NamedText>,
     count: usize,
 }
@@ -87,19 +98,24 @@ fn put_together(
       texts = record {
         node = rows.node;
         ele = rows.ele;
-        face = faces.face;
+        face = faces.files.face;
         edge = sides.edge;
         neigh = faces.neigh;
+        vtk = faces.files.vtk;
+        msh = faces.files.msh;
       };
       report = report;
     } }
 {
+    let FaceFiles { face, vtk, msh } = faces.files;
     let texts = Texts {
         node: rows.node,
         ele: rows.ele,
-        face: faces.face,
+        face,
         edge: sides.edge,
         neigh: faces.neigh,
+        vtk,
+        msh,
     };
     Outputs { texts, report }
 }
@@ -136,19 +152,33 @@ fn names_sides(options: &Options) -> bool
     !options.quiet || (!options.no_face && options.edges)
 }
 
+/// Whether a file of the whole mesh is asked for.
+fn asks_whole(options: &Options) -> bool
+    ensures { result ≡ options.now.formats.vtk || options.now.formats.msh }
+{
+    options.formats.vtk || options.formats.msh
+}
+
+/// Whether a file with faces is asked for: the face file, or one of the whole mesh.
+fn asks_faces(options: &Options) -> bool
+    ensures { result ≡ asks_faces options.now }
+{
+    !options.no_face || asks_whole(options)
+}
+
 /// Whether the options ask for no faces but those on the hull and in facets.
 pub fn asks_hull_alone(options: &Options) -> bool
     ensures { result ≡ asks_hull_alone options.now }
 {
-    options.quiet && !options.no_face && !options.all_faces && !options.neighbors
+    options.quiet && (asks_faces(options) && (!options.all_faces && !options.neighbors))
 }
 
-/// Whether the face file, the neighbor file or the summary is asked for, which need the uses of
+/// Whether a file with faces, the neighbor file or the summary is asked for, which need the uses of
 /// faces.
 fn asks_uses(options: &Options) -> bool
     ensures { result ≡ asks_uses options.now }
 {
-    !options.quiet || (!options.no_face || options.neighbors)
+    !options.quiet || (asks_faces(options) || options.neighbors)
 }
 
 /// The face outputs: from the faces of the hull where these are known and enough, else from the
@@ -159,6 +189,7 @@ fn face_outputs(
     made: &HulledMesh,
 ) -> Result<FaceOutputs, NoMemory>
     requires mesh { IsWritable made.now.mesh }
+    requires near { IsNearGrid options.now.origin made.now.mesh.table.grid }
     requires hull { IfSome made.now.hull (IsHullOf made.now.mesh) }
     ensures { IfOk result (AreFaceOutputsOf options.now made.now.mesh) }
 {
@@ -172,42 +203,87 @@ fn face_outputs(
 
 /// The face outputs from the uses of the faces. The neighbors are freed once their text is made.
 fn used_outputs(alloc: Global, options: &Options, mesh: &Meshed) -> Result<FaceOutputs, NoMemory>
-    requires { IsWritable mesh.now }
+    requires mesh { IsWritable mesh.now }
+    requires near { IsNearGrid options.now.origin mesh.now.table.grid }
     ensures { IfOk result (AreFaceOutputsOf options.now mesh.now) }
 {
     let uses = wanted_uses(alloc, options, mesh)?;
     let count = wanted_face_count(options, mesh, &uses);
     let neigh = neigh_file(alloc, options, mesh, &uses)?;
-    let face = used_face_file(alloc, options, mesh, uses)?;
-    Ok(FaceOutputs { face, neigh, count })
+    let files = used_face_files(alloc, options, mesh, uses)?;
+    Ok(FaceOutputs {
+        files,
+        neigh,
+        count,
+    })
 }
 
-/// The face file by the uses of the faces: straight from the uses where all faces are asked for,
-/// else from face rows, before whose text the uses are freed.
-fn used_face_file(alloc: Global, options: &Options, mesh: &Meshed, uses: Uses) -> FileAnswer
+/// The files that list faces, by the uses of the faces: straight from the uses where the face file
+/// alone is asked for, of all faces, else from face rows, before whose texts the uses are freed.
+fn used_face_files(
+    alloc: Global,
+    options: &Options,
+    mesh: &Meshed,
+    uses: Uses,
+) -> Result<FaceFiles, NoMemory>
     requires mesh { IsWritable mesh.now }
+    requires near { IsNearGrid options.now.origin mesh.now.table.grid }
     requires uses { asks_uses options.now ≡ true → AreUsesOf mesh.now.tetrahedra uses }
-    ensures { IfOk result (IsFaceFileOf options.now mesh.now) }
+    ensures { IfOk result (AreFaceFilesOf options.now mesh.now) }
 {
-    if !options.no_face && options.all_faces {
+    let formats = &options.formats;
+    if !options.no_face && options.all_faces && !formats.vtk && !formats.msh {
         return all_face_file(alloc, options, mesh, uses);
     }
     let faces = wanted_face_rows(alloc, options, mesh, uses)?;
-    face_file(alloc, options, mesh, &faces)
+    face_files(alloc, options, mesh, &faces)
 }
 
-/// The file of all faces with their markers. The uses are freed.
-fn all_face_file(alloc: Global, options: &Options, mesh: &Meshed, uses: Uses) -> FileAnswer
+/// The file of all faces with their markers, alone. The uses are freed.
+fn all_face_file(
+    alloc: Global,
+    options: &Options,
+    mesh: &Meshed,
+    uses: Uses,
+) -> Result<FaceFiles, NoMemory>
     requires mesh { IsWritable mesh.now }
     requires uses { AreUsesOf mesh.now.tetrahedra uses }
     requires written { options.now.no_face ≡ false }
     requires all { options.now.all_faces ≡ true }
-    ensures { IfOk result (IsFaceFileOf options.now mesh.now) }
+    requires no_vtk { options.now.formats.vtk ≡ false }
+    requires no_msh { options.now.formats.msh ≡ false }
+    ensures { IfOk result (AreFaceFilesOf options.now mesh.now) }
 {
     let list = mesh.marked_list();
     let text = write_all_faces(alloc, &list, &uses, &mesh.names, first_of(options, mesh))?;
     uses.let_go();
-    named(alloc, options, b".1.face", text)
+    let face = named(alloc, options, b".1.face", text)?;
+    Ok(FaceFiles {
+        face,
+        vtk: None,
+        msh: None,
+    })
+}
+
+/// The files that list these faces, where they are asked for.
+fn face_files(
+    alloc: Global,
+    options: &Options,
+    mesh: &Meshed,
+    faces: &FaceRows,
+) -> Result<FaceFiles, NoMemory>
+    requires mesh { IsWritable mesh.now }
+    requires near { IsNearGrid options.now.origin mesh.now.table.grid }
+    requires named { asks_faces options.now ≡ true
+        → All (λ face. AreNamed mesh.now.names (marked_corners face)) faces.now }
+    ensures face { IfOk result (λ files. files.face ≡ face_file options.now mesh.now faces.now) }
+    ensures vtk { IfOk result (λ files. files.vtk ≡ vtk_file options.now mesh.now faces.now) }
+    ensures msh { IfOk result (λ files. files.msh ≡ msh_file options.now mesh.now faces.now) }
+{
+    let face = face_file(alloc, options, mesh, faces)?;
+    let vtk = vtk_file(alloc, options, mesh, faces)?;
+    let msh = msh_file(alloc, options, mesh, faces)?;
+    Ok(FaceFiles { face, vtk, msh })
 }
 
 /// The face outputs where only the faces on the hull are asked for, and these are known.
@@ -218,14 +294,15 @@ fn hull_outputs(
     hull: &Faces,
 ) -> Result<FaceOutputs, NoMemory>
     requires mesh { IsWritable mesh.now }
+    requires near { IsNearGrid options.now.origin mesh.now.table.grid }
     requires asks { asks_hull_alone options.now ≡ true }
     requires hull { IsHullOf mesh.now hull.now }
     ensures { IfOk result (AreFaceOutputsOf options.now mesh.now) }
 {
     let faces = hull_rows(alloc, hull)?;
-    let face = face_file(alloc, options, mesh, &faces)?;
+    let files = face_files(alloc, options, mesh, &faces)?;
     Ok(FaceOutputs {
-        face,
+        files,
         neigh: None,
         count: 0,
     })
@@ -254,7 +331,7 @@ fn wanted_face_count(options: &Options, mesh: &Meshed, uses: &Uses) -> usize
     face_count(&mesh.tetrahedra, uses)
 }
 
-/// The rows of the face file, if it is asked for. The uses are freed.
+/// The rows of the faces, if a file with faces is asked for. The uses are freed.
 fn wanted_face_rows(
     alloc: Global,
     options: &Options,
@@ -263,11 +340,11 @@ fn wanted_face_rows(
 ) -> Result<FaceRows, NoMemory>
     requires mesh { IsWritable mesh.now }
     requires uses { asks_uses options.now ≡ true → AreUsesOf mesh.now.tetrahedra uses }
-    ensures { IfOk result (λ marked. options.now.no_face ≡ false
+    ensures { IfOk result (λ marked. asks_faces options.now ≡ true
         → AreFaceRowsOf mesh.now.points mesh.now.tetrahedra mesh.now.complex mesh.now.triangles
         options.now.all_faces marked) }
 {
-    if options.no_face {
+    if !asks_faces(options) {
         return Ok(FaceRows::new(alloc));
     }
     let faces = used_faces(alloc, &mesh.marked_list(), &uses, options.all_faces)?;
@@ -346,6 +423,36 @@ fn face_file(alloc: Global, options: &Options, mesh: &Meshed, marked: &FaceRows)
     }
     let text = write_face(alloc, marked, &mesh.names, first_of(options, mesh))?;
     named(alloc, options, b".1.face", text)
+}
+
+/// The `.vtk` file: the points, the tetrahedra with their regions, and faces with their markers.
+fn vtk_file(alloc: Global, options: &Options, mesh: &Meshed, faces: &FaceRows) -> FileAnswer
+    requires mesh { IsWritable mesh.now }
+    requires near { IsNearGrid options.now.origin mesh.now.table.grid }
+    requires named { asks_faces options.now ≡ true
+        → All (λ face. AreNamed mesh.now.names (marked_corners face)) faces.now }
+    ensures { IfOk result (λ file. file ≡ vtk_file options.now mesh.now faces.now) }
+{
+    if !options.formats.vtk {
+        return Ok(None);
+    }
+    let text = write_vtk(alloc, &mesh.whole(options.origin, faces))?;
+    named(alloc, options, b".1.vtk", text)
+}
+
+/// The `.msh` file: the points, the tetrahedra with their regions, and faces with their markers.
+fn msh_file(alloc: Global, options: &Options, mesh: &Meshed, faces: &FaceRows) -> FileAnswer
+    requires mesh { IsWritable mesh.now }
+    requires near { IsNearGrid options.now.origin mesh.now.table.grid }
+    requires named { asks_faces options.now ≡ true
+        → All (λ face. AreNamed mesh.now.names (marked_corners face)) faces.now }
+    ensures { IfOk result (λ file. file ≡ msh_file options.now mesh.now faces.now) }
+{
+    if !options.formats.msh {
+        return Ok(None);
+    }
+    let text = write_msh(alloc, &mesh.whole(options.origin, faces))?;
+    named(alloc, options, b".1.msh", text)
 }
 
 /// The edge file: the edges of all tetrahedra.

@@ -23,6 +23,8 @@ pub struct Texts {
     pub face: Option<NamedText>,
     pub edge: Option<NamedText>,
     pub neigh: Option<NamedText>,
+    pub vtk: Option<NamedText>,
+    pub msh: Option<NamedText>,
 }
 
 /// Why not all texts are stored.
@@ -40,12 +42,14 @@ impl Texts {
     pub fn in_order(self, alloc: Global) -> Result<Vec<NamedText>, NoMemory>
         ensures { IfOk result (λ list. list.items ≡ in_order self) }
     {
-        let mut list = Vec::with_capacity(alloc, 5)?;
+        let mut list = Vec::with_capacity(alloc, 7)?;
         append(self.node, &mut list)?;
         append(self.ele, &mut list)?;
         append(self.face, &mut list)?;
         append(self.edge, &mut list)?;
         append(self.neigh, &mut list)?;
+        append(self.vtk, &mut list)?;
+        append(self.msh, &mut list)?;
         Ok(list)
     }
 }

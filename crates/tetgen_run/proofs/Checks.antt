@@ -1,7 +1,7 @@
 -- What a run that checks a mesh leaves, answers and tells, put together.
-use Rattle.std.proofs.Common.{◌≡◌, ℕ, Bool, true, false, List, Option, Some, None, Result, Ok, Err, refl, sym, subst, ap, ◌∙◌}
+use Rattle.std.proofs.Common.{◌≡◌, ℕ, true, false, List, Option, Some, None, Result, Ok, Err, refl, sym, subst, ap, ◌∙◌}
 use Rattle.std.specs.Prelude.{◌≢◌, IsTrue}
-use Rattle.mesh_check.proofs.Once.{check_once, IsDecided, IsTold as IsToldTo}
+use Rattle.mesh_check.proofs.Once.{check_once, IsDecided}
 use Rattle.mesh_check.specs.declared.fault.CheckFault.{CheckFault}
 use Rattle.mesh_check.specs.declared.fault.CheckFault.TheVariants as check
 use Rattle.mesh_check.specs.Telling.{sound_line}
@@ -16,7 +16,7 @@ use Rattle.run_steps.specs.declared.status.Status.{Status}
 use Rattle.run_steps.specs.declared.status.Status.TheVariants.{Done, Usage, NoMemory, WriteFault}
 use Rattle.tet_ports.specs.Counts.{Rose}
 use Rattle.tet_ports.specs.Files.{Files}
-use Rattle.tetgen_run.specs.Ends.{HasNoFault, IsEarly, IsSummed, IsTellable, IsUnchanged, answer_of, numbering_in, with_summary}
+use Rattle.tetgen_run.specs.Ends.{HasNoFault, IsEarly, IsSummed, IsTellable, IsUnchanged, answer_of, numbering_in}
 use Rattle.tetgen_run.specs.Run.{Checked, IsCheckAnswer, IsLeftByCheck, IsNumbering, IsToldWithin, sound_summary, status_of_check}
 use Rattle.tetgen_run.specs.Steps.{ChecksSo, EndsByCheck}
 use Rattle.tetgen_run.specs.Stops.{stop_of_check}

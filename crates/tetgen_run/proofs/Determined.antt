@@ -1,6 +1,6 @@
 -- The text of the tetrahedra of a mesh determines them.
-use Rattle.std.proofs.Common.{◌≡◌, ℕ, zero, suc, ◌+◌, ◌-◌, ◌<◌, ◌≤◌, ◌^◌, ℤ, Bool, true, false, List, [], ◌∷◌, ◌++◌, length, Option, Some, None, Ok, refl, sym, subst, ap, ◌∙◌, arith}
-use Rattle.std.specs.Prelude.{◌≢◌, All, AllPairs, IfSome, drop, get_or, if◌then◌else◌}
+use Rattle.std.proofs.Common.{◌≡◌, ℕ, suc, ◌+◌, ◌-◌, ◌<◌, ◌≤◌, ◌^◌, ℤ, Bool, true, false, List, [], ◌∷◌, ◌++◌, length, Option, Some, None, Ok, refl, sym, subst, ap, ◌∙◌, arith}
+use Rattle.std.specs.Prelude.{◌≢◌, All, AllPairs, IfSome, drop, get_or}
 use Rattle.std.specs.List.{range_with_len}
 use Rattle.std.proofs.lemmas.List.{length-drop, get_or_default}
 use Rattle.std.proofs.lemmas.List.Elements.{All-append}
@@ -17,7 +17,7 @@ use Rattle.geo_laws.proofs.Corners.{on_of_among, all_within}
 use Rattle.geo_laws.proofs.DelaunayList.{law_delaunay_list}
 use Rattle.mesh_files.proofs.EleTexts.{law_ele_text}
 use Rattle.mesh_files.specs.Texts.{AreNamed}
-use Rattle.node_files.proofs.Folds.{name_below, names_with_long}
+use Rattle.node_files.proofs.Folds.{names_with_long}
 use Rattle.node_files.specs.Folding.{IsFolded, names_with}
 use Rattle.node_files.specs.declared.limits.Limits.{Limits}
 use Rattle.node_files.specs.declared.table.NodeTable.{NodeTable}

@@ -1,6 +1,6 @@
 -- What a run answers, leaves and tells whose steps make outputs and store them, put together.
-use Rattle.std.proofs.Common.{◌≡◌, ◌≤◌, ◌⊎◌, inl, inr, ℕ, false, List, [], ◌++◌, Option, Some, None, Result, Ok, Err, refl, sym, subst, ◌∙◌, arith}
-use Rattle.std.specs.Prelude.{◌≢◌, IsTrue, All, Contains}
+use Rattle.std.proofs.Common.{◌≡◌, ◌≤◌, inl, inr, ℕ, false, List, [], Option, Some, None, Result, Ok, Err, refl, sym, subst, ◌∙◌, arith}
+use Rattle.std.specs.Prelude.{◌≢◌, All}
 use Rattle.std.proofs.lemmas.List.Elements.{All-contains}
 use Rattle.std.proofs.lemmas.List.{append-nil}
 use Rattle.tet_ports.specs.Counts.{Rose}
@@ -11,7 +11,6 @@ use Rattle.run_steps.specs.declared.numbering.Numbering.{Numbering}
 use Rattle.run_steps.specs.declared.outputs.Outputs.{Outputs}
 use Rattle.run_steps.specs.declared.status.Status.{Status}
 use Rattle.run_steps.specs.declared.status.Status.TheVariants.{Done, NoMemory, WriteFault}
-use Rattle.run_steps.specs.declared.store.NamedText.{NamedText}
 use Rattle.run_steps.specs.declared.store.StoreStop.{StoreStop}
 use Rattle.run_steps.specs.declared.store.StoreStop.TheVariants.{Failed, NoMemory as StoreWanting}
 use Rattle.run_steps.specs.Steps.{forced_answer}
@@ -20,7 +19,7 @@ use Rattle.tetgen_run.specs.Ends.{AnswersBy, EndsWith, FinishesSo, HasNoFault, I
 use Rattle.tetgen_run.specs.Stops.{stop_of_store}
 use Rattle.tetgen_run.specs.declared.stop.Stop.{Stop}
 use Rattle.tetgen_run.specs.declared.stop.Stop.TheVariants.{Refused, Unwritten, Unsummed, NoMemory as Wanting}
-use Rattle.tetgen_run.proofs.Refusals.{IsRefusal, not_true, not_done, refusal_told}
+use Rattle.tetgen_run.proofs.Refusals.{IsRefusal, not_done, refusal_told}
 
 -- the refusals of the steps are neither Done nor a fault of a store or of the summary
 abbrev pub Refuses : (Result Outputs Status → Type 0) → Type 0

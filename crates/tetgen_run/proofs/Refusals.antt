@@ -1,5 +1,5 @@
 -- What a refusal is, and what is told of it.
-use Rattle.std.proofs.Common.{◌≡◌, ℕ, true, false, List, Option, refl}
+use Rattle.std.proofs.Common.{◌≡◌, ℕ, false, List, Option, refl}
 use Rattle.std.specs.Prelude.{◌≢◌, IsTrue}
 use Rattle.tet_ports.specs.Seen.{IsMessagePut, SinkSeen}
 use Rattle.run_steps.specs.declared.numbering.Numbering.{Numbering}

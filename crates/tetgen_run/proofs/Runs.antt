@@ -1,13 +1,11 @@
 -- What a run leaves, answers and tells, put together.
-use Rattle.std.proofs.Common.{◌≡◌, ◌≤◌, inl, inr, ℕ, Bool, true, false, List, [], ◌∷◌, ◌++◌, length, Option, Some, None, Result, Ok, Err, if◌then◌else◌, refl, sym, subst, ap, ◌∙◌, arith}
+use Rattle.std.proofs.Common.{◌≡◌, ◌≤◌, inl, inr, ℕ, Bool, true, false, List, [], ◌∷◌, ◌++◌, Option, Some, None, Result, Ok, Err, if◌then◌else◌, refl, sym, subst, ap, ◌∙◌}
 use Rattle.std.specs.Prelude.{◌≢◌, IsTrue, All, codes, not, ◌||◌, ◌&&◌}
-use Rattle.std.proofs.lemmas.List.Elements.{All-nil, All-cons, All-append, All-contains}
-use Rattle.std.proofs.lemmas.List.{append-nil}
+use Rattle.std.proofs.lemmas.List.Elements.{All-nil, All-cons, All-append}
 use Rattle.command_words.specs.Grammar.{words_fault}
 use Rattle.command_words.specs.Meaning.{options_of}
 use Rattle.command_words.specs.Names.{file_name}
-use Rattle.command_words.specs.declared.options.Extension.{Extension}
-use Rattle.command_words.specs.declared.options.Extension.TheVariants.{Node, Poly, Smesh, Off, Stl}
+use Rattle.command_words.specs.declared.options.Extension.TheVariants.{Node}
 use Rattle.command_words.specs.declared.options.Options.{Options}
 use Rattle.complex_laws.proofs.ComplexMesh.{law_hull_mesh}
 use Rattle.complex_mesh.specs.declared.fault.MeshFault.{MeshFault}
@@ -18,41 +16,32 @@ use Rattle.geo_laws.specs.Mesh.{IsMesh}
 use Rattle.geo_laws.specs.Path.{HullOnly}
 use Rattle.geo_laws.proofs.DelaunayList.{triangulation_of_rows, law_delaunay_list}
 use Rattle.node_files.specs.declared.limits.Limits.{Limits}
-use Rattle.node_files.specs.declared.node_text.NodeText.{NodeText}
 use Rattle.path_laws.specs.Flood.{carving_of}
-use Rattle.plc_files.specs.Checks.{corners_check}
-use Rattle.tet_ports.specs.Counts.{Rose}
 use Rattle.tet_ports.specs.Files.{Files}
-use Rattle.tet_text.specs.declared.fault.TextFault.{TextFault}
 use Rattle.run_steps.specs.Codes.{status_of_fault, status_of_weights}
 use Rattle.run_steps.specs.Messages.{message_of}
 use Rattle.run_steps.specs.Numbering.{numbering_of}
-use Rattle.run_steps.specs.declared.numbering.Numbering.{Numbering}
 use Rattle.run_steps.specs.Meshing.{OutputsOfRun, BoundAnswer, IsUnbound, PointsMeshOf, MeshOf, MeshAnswer, IsFlatRefusal, OutputsAnswer, MeshedAnswer}
 use Rattle.run_steps.specs.Outputs.{named, AreOutputsOf}
-use Rattle.run_steps.specs.Reading.{complex_file, points_alone, on_points, WordsAnswer, FetchAnswer, TextAnswer, PointsAnswer, FormAnswer, ComplexFileAnswer, SourceAnswer, NodesAnswer, BoundedAnswer, InputOf, InputAnswer, IsUsage, IsUnfetched, IsBadText, node_text_of, plc_text_of}
-use Rattle.tetgen_run.specs.Run.{asks_check, AnswerBy, IsMeshAnswer, IsAnswerWithin, IsCompleteWithin, LeftBy, IsLeftByMesh, IsLeftWithin, asks_regular, IsRegularMesh, IsMeshBy, IsMeshOfRunWithin, IsToldWithin, IsNumbering}
+use Rattle.run_steps.specs.Reading.{WordsAnswer, InputOf, InputAnswer, IsUsage}
+use Rattle.tetgen_run.specs.Run.{asks_check, AnswerBy, IsMeshAnswer, IsAnswerWithin, IsCompleteWithin, LeftBy, IsLeftByMesh, IsLeftWithin, IsRegularMesh, IsMeshBy, IsMeshOfRunWithin, IsToldWithin, IsNumbering}
 use Rattle.tetgen_run.specs.Ends.{HasNoFault, IsUnchanged, IsToldAs, IsEarly, IsTellable, FinishesSo, answer_of, numbering_in}
 use Rattle.tetgen_run.specs.Steps.{ChecksSo, EndsByMesh, EndsBy, EndsSo}
 use Rattle.tet_ports.specs.Seen.{IsMessagePut, FolderSeen, SinkSeen}
 use Rattle.tetgen_run.specs.Stops.{stop_of_words}
-use Rattle.run_steps.specs.Stores.{given, in_order, with_files, AreLeft, IfFailed, TellsFailure}
+use Rattle.run_steps.specs.Stores.{given, in_order, TellsFailure}
 use Rattle.command_words.specs.declared.fault.WordsFault.{WordsFault}
 use Rattle.command_words.specs.declared.fault.WordsFault.TheVariants.{Usage as Misunderstood, NoMemory as WordsWanting}
 use Rattle.run_steps.specs.declared.store.NamedText.{NamedText}
-use Rattle.run_steps.specs.declared.store.StoreStop.{StoreStop}
-use Rattle.run_steps.specs.declared.store.StoreStop.TheVariants.{Failed, NoMemory as StoreWanting}
-use Rattle.run_steps.specs.Steps.{AndThen, IfMissing, Gives, forced_answer}
-use Rattle.run_steps.specs.declared.input.ComplexFile.{ComplexFile}
+use Rattle.run_steps.specs.Steps.{AndThen, forced_answer}
 use Rattle.run_steps.specs.declared.input.Input.{Input}
 use Rattle.run_steps.specs.declared.mesh.Bound.{Bound}
 use Rattle.run_steps.specs.declared.meshed.Meshed.{Meshed}
 use Rattle.run_steps.specs.declared.outputs.Outputs.{Outputs}
-use Rattle.run_steps.specs.declared.status.LimitKind.{LimitKind}
 use Rattle.run_steps.specs.declared.status.Status.{Status}
-use Rattle.run_steps.specs.declared.status.Status.TheVariants.{Done, Usage, Missing, ReadFault, BadText, Limit, Flat, NoMemory, WriteFault}
+use Rattle.run_steps.specs.declared.status.Status.TheVariants.{Usage, Limit, Flat, NoMemory}
 use Rattle.tetgen_run.specs.declared.stop.Stop.{Stop}
-use Rattle.tetgen_run.specs.declared.stop.Stop.TheVariants.{Refused, Unwritten, Unsummed, NoMemory as Wanting}
+use Rattle.tetgen_run.specs.declared.stop.Stop.TheVariants.{Refused, NoMemory as Wanting}
 use Rattle.weighted_mesh.specs.declared.regular_fault.RegularFault.{RegularFault}
 use Rattle.weighted_mesh.specs.declared.regular_fault.RegularFault.TheVariants as regular
 use Rattle.weighted_mesh.specs.Meshing.{kept_weights}
@@ -60,7 +49,7 @@ use Rattle.weighted_mesh.proofs.Answering.{regular_list_law}
 use Rattle.run_steps.proofs.Determined.{outputs_same}
 use Rattle.run_steps.proofs.Once.{run_same}
 use Rattle.run_steps.proofs.Refusals.{input_has}
-use Rattle.run_steps.proofs.Steps.{IsDecided, status_of, and_then_refuses}
+use Rattle.run_steps.proofs.Steps.{and_then_refuses}
 use Rattle.tetgen_run.proofs.Determined.{mesh_determined}
 use Rattle.tetgen_run.proofs.Refusals.{IsRefusal, IsSilent, not_true}
 use Rattle.tetgen_run.proofs.Endings.{NumbersPoints, answers_same, end_answers, end_leaves, early_leaves, end_tells, stop_tellable, finish_ends}
@@ -374,11 +363,13 @@ told_cons o os h k = subst (All TellsFailure) (sym (given_cons o os)) (All-appen
 pub outputs_told : (options : Options) (mesh : Meshed) (outputs : Outputs) → AreOutputsOf options mesh outputs → All TellsFailure (in_order outputs.texts)
 outputs_told options mesh outputs a =
     let t = outputs.texts in
-    told_cons t.node (t.ele ∷ t.face ∷ t.edge ∷ t.neigh ∷ []) (told_unless options.no_node options.base (codes ".1.node") _ t.node a.node_is)
-    (told_cons t.ele (t.face ∷ t.edge ∷ t.neigh ∷ []) (told_unless options.no_ele options.base (codes ".1.ele") _ t.ele a.ele_is)
-    (told_cons t.face (t.edge ∷ t.neigh ∷ []) (told_unless options.no_face options.base (codes ".1.face") _ t.face a.face_is)
-    (told_cons t.edge (t.neigh ∷ []) (told_unless (options.no_face || not options.edges) options.base (codes ".1.edge") _ t.edge a.edge_is)
-    (told_unless (not options.neighbors) options.base (codes ".1.neigh") _ t.neigh a.neigh_is))))
+    told_cons t.node (t.ele ∷ t.face ∷ t.edge ∷ t.neigh ∷ t.vtk ∷ t.msh ∷ []) (told_unless options.no_node options.base (codes ".1.node") _ t.node a.node_is)
+    (told_cons t.ele (t.face ∷ t.edge ∷ t.neigh ∷ t.vtk ∷ t.msh ∷ []) (told_unless options.no_ele options.base (codes ".1.ele") _ t.ele a.ele_is)
+    (told_cons t.face (t.edge ∷ t.neigh ∷ t.vtk ∷ t.msh ∷ []) (told_unless options.no_face options.base (codes ".1.face") _ t.face a.face_is)
+    (told_cons t.edge (t.neigh ∷ t.vtk ∷ t.msh ∷ []) (told_unless (options.no_face || not options.edges) options.base (codes ".1.edge") _ t.edge a.edge_is)
+    (told_cons t.neigh (t.vtk ∷ t.msh ∷ []) (told_unless (not options.neighbors) options.base (codes ".1.neigh") _ t.neigh a.neigh_is)
+    (told_cons t.vtk (t.msh ∷ []) (told_unless (not options.formats.vtk) options.base (codes ".1.vtk") _ t.vtk a.vtk_is)
+    (told_unless (not options.formats.msh) options.base (codes ".1.msh") _ t.msh a.msh_is))))))
 
 pub run_told : (limits : Limits) (words : List (List ℕ)) (folder : FolderSeen) (outputs : Outputs) → OutputsOfRun limits words folder (Ok outputs) → All TellsFailure (in_order outputs.texts)
 run_told limits words folder outputs h = let m = h.2.2 in outputs_told h.0 m.2.0 outputs m.2.2

@@ -1,6 +1,6 @@
 -- How a run ends that makes outputs and stores them, whatever its steps are: its status, the files that it leaves, and
 -- its messages.
-use Rattle.std.specs.Prelude.{◌≡◌, ◌⊎◌, ℕ, Bool, true, false, IsTrue, List, Option, Some, None, Result, Ok, Err, Contains}
+use Rattle.std.specs.Prelude.{◌≡◌, ◌⊎◌, ℕ, Bool, true, false, List, Option, Some, None, Result, Ok, Err, Contains}
 use Rattle.tet_ports.specs.Counts.{Rose}
 use Rattle.tet_ports.specs.Written.{PartlyPut, with_written}
 use Rattle.run_steps.specs.declared.numbering.Numbering.{Numbering}
