@@ -1,12 +1,12 @@
 -- Where the files are told and no fault rose, a run has one answer.
-use Rattle.std.proofs.Common.{◌≡◌, ◌<◌, ◌⊎◌, inl, inr, ℕ, Bool, true, false, List, Some, Result, Ok, Err, refl, sym, subst, ap, ◌∙◌, arith}
+use Rattle.std.proofs.Common.{◌≡◌, ◌<◌, ◌⊎◌, inl, inr, ℕ, true, List, Option, Some, None, Result, Ok, Err, refl, sym, subst, ap, ◌∙◌, arith}
 use Rattle.std.specs.Prelude.{◌≢◌}
 use Rattle.box_tree.proofs.Lists.{less_or_more}
 use Rattle.command_words.specs.Names.{file_name}
-use Rattle.command_words.specs.declared.options.Extension.TheVariants.{Stl}
+use Rattle.command_words.specs.declared.options.Extension.{Extension}
 use Rattle.command_words.specs.declared.options.Options.{Options}
 use Rattle.tetfit_run.specs.Measured.{MovedAnswer, tried}
-use Rattle.tetfit_run.specs.Models.{ModelAnswer, ModelBy, ReadAnswer, StlAnswer, names_stl, stl_text_of}
+use Rattle.tetfit_run.specs.Models.{ModelAnswer, ModelBy, ReadAnswer, SurfaceAnswer, named_surface, surface_text_of}
 use Rattle.tetfit_run.specs.Trying.{IsFitted, at_decimals, is_of_grid}
 use Rattle.tetfit_run.specs.Words.{fit_fault, others, request_of}
 use Rattle.tetfit_run.specs.declared.request.Request.{Request}
@@ -47,18 +47,18 @@ words_once words (Err s) (Err t) n m h k =
 
 -- ---- the model
 
-stl_once : (told : Files) (seen : FolderSeen) (base : List ℕ) → IsTold told seen → IsOnce (StlAnswer fit_limits seen base)
-stl_once told seen base h =
-    let name = file_name base Stl in
-    and_then_once (FetchAnswer fit_limits seen name) (λ bytes. AndThen (TextAnswer name (stl_text_of bytes)) (λ text. Gives (complex_file name text)))
+surface_once : (told : Files) (seen : FolderSeen) (base : List ℕ) (form : Extension) → IsTold told seen → IsOnce (SurfaceAnswer fit_limits seen base form)
+surface_once told seen base form h =
+    let name = file_name base form in
+    and_then_once (FetchAnswer fit_limits seen name) (λ bytes. AndThen (TextAnswer name (surface_text_of form bytes)) (λ text. Gives (complex_file name text)))
     (fetch_once fit_limits told seen name h.files h.no_fault)
-    (λ bytes. and_then_once (TextAnswer name (stl_text_of bytes)) (λ text. Gives (complex_file name text)) (text_once name (stl_text_of bytes)) (λ text. gives_once (complex_file name text)))
+    (λ bytes. and_then_once (TextAnswer name (surface_text_of form bytes)) (λ text. Gives (complex_file name text)) (text_once name (surface_text_of form bytes)) (λ text. gives_once (complex_file name text)))
 
-model_by_once : (b : Bool) (told : Files) (seen : FolderSeen) (options : Options) → IsTold told seen → IsOnce (ModelBy b fit_limits seen options)
-model_by_once false told seen options h = input_once fit_limits told seen options h
-model_by_once true told seen options h =
+model_by_once : (named : Option Extension) (told : Files) (seen : FolderSeen) (options : Options) → IsTold told seen → IsOnce (ModelBy named fit_limits seen options)
+model_by_once None told seen options h = input_once fit_limits told seen options h
+model_by_once (Some form) told seen options h =
     let base = options.base in
-    and_then_once (StlAnswer fit_limits seen base) (λ file. AndThen (NodesAnswer fit_limits seen base file.text.nodes) (BoundedAnswer file)) (stl_once told seen base h)
+    and_then_once (SurfaceAnswer fit_limits seen base form) (λ file. AndThen (NodesAnswer fit_limits seen base file.text.nodes) (BoundedAnswer file)) (surface_once told seen base form h)
     (λ file. and_then_once (NodesAnswer fit_limits seen base file.text.nodes) (BoundedAnswer file) (nodes_once fit_limits told seen base file.text.nodes h) (bounded_once file))
 
 moved_once : (input : Input) → IsOnce (MovedAnswer input)
@@ -68,7 +68,7 @@ moved_once input (Ok a) (Err t) n m h k = absurd (m k)
 
 model_once : (told : Files) (seen : FolderSeen) (options : Options) → IsTold told seen → IsOnce (ModelAnswer fit_limits seen options)
 model_once told seen options h =
-    and_then_once (ReadAnswer fit_limits seen options) MovedAnswer (model_by_once (names_stl options) told seen options h) moved_once
+    and_then_once (ReadAnswer fit_limits seen options) MovedAnswer (model_by_once (named_surface options) told seen options h) moved_once
 
 -- ---- the decimals
 

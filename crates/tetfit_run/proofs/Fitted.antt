@@ -6,7 +6,7 @@ use Rattle.command_words.specs.declared.fault.WordsFault.{WordsFault}
 use Rattle.command_words.specs.declared.fault.WordsFault.TheVariants.{Usage as Misunderstood, NoMemory as WordsWanting}
 use Rattle.command_words.specs.declared.options.Options.{Options}
 use Rattle.tetfit_run.proofs.Models.{model_has, model_wider}
-use Rattle.tetgen_run.proofs.OnGrid.{IsOnGrid, made_on_grid}
+use Rattle.tetgen_run.proofs.OnGrid.{made_on_grid}
 use Rattle.tetfit_run.specs.Hints.{IsHint, IsHintBy}
 use Rattle.tetfit_run.specs.Models.{IsStatedBy, ModelAnswer}
 use Rattle.tetfit_run.specs.declared.model.Model.{Model}
@@ -29,7 +29,7 @@ use Rattle.run_steps.specs.declared.numbering.Numbering.{Numbering}
 use Rattle.run_steps.specs.declared.outputs.Outputs.{Outputs}
 use Rattle.run_steps.specs.declared.status.LimitKind.TheVariants.{Grid}
 use Rattle.run_steps.specs.declared.status.Status.{Status}
-use Rattle.run_steps.specs.declared.status.Status.TheVariants.{Usage, Limit, NoMemory}
+use Rattle.run_steps.specs.declared.status.Status.TheVariants.{Usage, Limit, Flat, NoMemory}
 use Rattle.tet_ports.specs.declared.NoMemory.{NoMemory as MemoryLack}
 use Rattle.tetgen_run.proofs.Endings.{NumbersPoints, Refuses}
 use Rattle.tetgen_run.proofs.Refusals.{IsRefusal, IsSilent, not_true}
@@ -40,7 +40,7 @@ use Rattle.tetgen_run.specs.declared.stop.Stop.{Stop}
 use Rattle.tetgen_run.specs.declared.stop.Stop.TheVariants.{Refused, Unwritten, Unsummed, NoMemory as Wanting}
 use Rattle.tetfit_run.specs.Outputs.{FitWordsAnswer, IsFinalBy, IsFitUsage, IsFittedTo, IsMore, IsMoreBy, MadeBy, OutputsOfFit, OutputsOfModel, OutputsOfWanted, fit_limits, outputs_at, wanted_from}
 use Rattle.tetfit_run.specs.Measured.{origin_in, tried, with_origin}
-use Rattle.tetfit_run.specs.Run.{IsAskedBy, IsFinalMesh, IsKnown, IsKnownOf, IsMeshOfModel, IsFitNumbering, IsNumberingOf, IsTriedOf, IsUnfitted, TellsOffGrid, options_from}
+use Rattle.tetfit_run.specs.Run.{IsAskedBy, IsFinalMesh, IsKnown, IsKnownOf, IsMeshOfModel, IsFitNumbering, IsNumberingOf, IsTriedOf, IsUnfitted, TellsUnnamed, options_from}
 
 -- ---- answers
 
@@ -100,23 +100,32 @@ numbered folder options model hint m s None r f n h =
 numbered folder options model hint m s (Some by) r f n h =
     λ t. (model.input, r, m, f, n.0, n.1, ap Some n.3, subst (λ q. IsHintBy fit_limits (at_decimals m (with_origin model.input options)) model.input q s hint) n.3 h)
 
--- ---- a point off the grid
+-- ---- a point off the grid, and points in one plane
+
+-- the status is none of these
+abbrev HasNoLine : Status → Type 0
+HasNoLine (Limit (Grid line)) = ⊥
+HasNoLine Flat = ⊥
+HasNoLine status = Unit {0}
 
 -- no reading of a model is refused for one
-model_on_grid : (folder : FolderSeen) (options : Options) (s : Status) → ModelAnswer fit_limits folder options (Err s) → IsOnGrid s
-model_on_grid = model_has IsOnGrid (λ name. tt) (λ name. tt) (λ name fault. tt) (λ name most. tt) tt fit_limits
+model_no_line : (folder : FolderSeen) (options : Options) (s : Status) → ModelAnswer fit_limits folder options (Err s) → HasNoLine s
+model_no_line = model_has HasNoLine (λ name. tt) (λ name. tt) (λ name fault. tt) (λ name most. tt) tt fit_limits
 
 -- of another status nothing is told
-on_grid : (folder : FolderSeen) (options : Options) (hint : List ℕ) (s : Status) → IsOnGrid s → TellsOffGrid options folder hint s
-on_grid folder options hint (Limit (Grid line)) h = absurd h
-on_grid folder options hint s h = tt
+no_line : (folder : FolderSeen) (options : Options) (hint : List ℕ) (s : Status) → HasNoLine s → TellsUnnamed options folder hint s
+no_line folder options hint (Limit (Grid line)) h = absurd h
+no_line folder options hint Flat h = absurd h
+no_line folder options hint s h = tt
 
-off_grid : (folder : FolderSeen) (options : Options) (model : Model) (hint : List ℕ) (m : ℕ) (s : Status) (by : Option Numbering) → ModelAnswer fit_limits folder options (Ok model.input) → IsStatedBy folder options model.stated
-    → IsNumbered fit_limits (at_decimals m (with_origin model.input options)) model.input s by
-    → IsHint fit_limits model.stated (at_decimals m (with_origin model.input options)) model.input by s hint → TellsOffGrid options folder hint s
-off_grid folder options model hint m (Limit (Grid line)) None r w n h = (model.input, r, model.stated, w, h)
-off_grid folder options model hint m (Limit (Grid line)) (Some by) r w n h = absurd (made_on_grid (at_decimals m (with_origin model.input options)) n.0 (Limit (Grid line)) n.2)
-off_grid folder options model hint m s by r w n h = tt
+unnamed : (folder : FolderSeen) (options : Options) (model : Model) (hint : List ℕ) (m : ℕ) (s : Status) (by : Option Numbering) → ModelAnswer fit_limits folder options (Ok model.input) → IsStatedBy folder options model.stated
+    → IsFitted fit_limits (with_origin model.input options) model.input m (Err s) → IsNumbered fit_limits (at_decimals m (with_origin model.input options)) model.input s by
+    → IsHint fit_limits model.stated (at_decimals m (with_origin model.input options)) model.input by s hint → TellsUnnamed options folder hint s
+unnamed folder options model hint m (Limit (Grid line)) None r w f n h = (model.input, r, model.stated, w, h)
+unnamed folder options model hint m (Limit (Grid line)) (Some by) r w f n h = absurd (made_on_grid (at_decimals m (with_origin model.input options)) n.0 (Limit (Grid line)) n.2)
+unnamed folder options model hint m Flat None r w f n h = absurd n
+unnamed folder options model hint m Flat (Some by) r w f n h = (model.input, r, m, f, h)
+unnamed folder options model hint m s by r w f n h = tt
 
 -- the refusal of what is fitted, with what more is told of it
 pub unfitted_is : (options : Options) (model : Model) (limits other : Limits) (refused : Unfit) (hint : List ℕ) → limits ≡ fit_limits → other ≡ fit_limits → IsRefused limits options model.input refused
@@ -130,14 +139,14 @@ pub model_stops : (folder : FolderSeen) (wanted : Wanted) (hint : List ℕ) (s :
     → StopsSo (OutputsOfWanted wanted folder) (IsKnownOf wanted.options folder hint) (Refused s None)
 model_stops folder wanted hint s r =
     let options = wanted.options in
-    (inl r, (numbers_of options folder hint s None (model_silent folder options s r), on_grid folder options hint s (model_on_grid folder options s r)))
+    (inl r, (numbers_of options folder hint s None (model_silent folder options s r), no_line folder options hint s (model_no_line folder options s r)))
 
 -- where it has no mesh
 pub unfitted_stops : (folder : FolderSeen) (wanted : Wanted) (model : Model) (hint : List ℕ) (stop : Stop) → ModelAnswer fit_limits folder wanted.options (Ok model.input) → IsStatedBy folder wanted.options model.stated
     → IsUnfitted (with_origin model.input wanted.options) model hint stop → StopsSo (OutputsOfWanted wanted folder) (IsKnownOf wanted.options folder hint) stop
 unfitted_stops folder wanted model hint (Refused s by) r w h =
     let options = wanted.options in
-    (inr (model.input, r, (h.0, h.1)), (numbered folder options model hint h.0 s by r h.1 h.2 h.3, off_grid folder options model hint h.0 s by r w h.2 h.3))
+    (inr (model.input, r, (h.0, h.1)), (numbered folder options model hint h.0 s by r h.1 h.2 h.3, unnamed folder options model hint h.0 s by r w h.1 h.2 h.3))
 unfitted_stops folder wanted model hint (Unwritten text) r w h = absurd h
 unfitted_stops folder wanted model hint Unsummed r w h = absurd h
 unfitted_stops folder wanted model hint Wanting r w h = tt
@@ -166,18 +175,18 @@ ends_numbered Made words folder hint out (Unwritten text) h = h
 ends_numbered Made words folder hint out Unsummed h = h
 ends_numbered Made words folder hint out Wanting h = h
 
-stop_off : (Made : Result Outputs Status → Type 0) (words : List (List ℕ)) (folder : FolderSeen) (hint : List ℕ) (out : SinkSeen) (stop : Stop)
-    → EndsWith Made (IsKnown words folder hint) folder out (Err stop) → TellsOffGrid (fit_options words) folder hint (answer_of (Err stop))
-stop_off Made words folder hint out (Refused s by) h = h.2.1
-stop_off Made words folder hint out (Unwritten text) h = tt
-stop_off Made words folder hint out Unsummed h = tt
-stop_off Made words folder hint out Wanting h = tt
+stop_unnamed : (Made : Result Outputs Status → Type 0) (words : List (List ℕ)) (folder : FolderSeen) (hint : List ℕ) (out : SinkSeen) (stop : Stop)
+    → EndsWith Made (IsKnown words folder hint) folder out (Err stop) → TellsUnnamed (fit_options words) folder hint (answer_of (Err stop))
+stop_unnamed Made words folder hint out (Refused s by) h = h.2.1
+stop_unnamed Made words folder hint out (Unwritten text) h = tt
+stop_unnamed Made words folder hint out Unsummed h = tt
+stop_unnamed Made words folder hint out Wanting h = tt
 
--- and of a point off the grid
-pub told_off : (Made : Result Outputs Status → Type 0) (message : Option Numbering → Status → List ℕ) (words : List (List ℕ)) (folder : FolderSeen) (hint : List ℕ) (out err : SinkSeen) (stop : Stop) (s : Status)
-    → EndsWith Made (IsKnown words folder hint) folder out (Err stop) → IsToldAs message stop err s → TellsOffGrid (fit_options words) folder hint s
-told_off Made message words folder hint out err stop s h (inl told) = subst (TellsOffGrid (fit_options words) folder hint) (sym told.0) (stop_off Made words folder hint out stop h)
-told_off Made message words folder hint out err stop s h (inr told) = subst (TellsOffGrid (fit_options words) folder hint) (sym told.0) tt
+-- and of the lines behind a message that prints no points
+pub told_unnamed : (Made : Result Outputs Status → Type 0) (message : Option Numbering → Status → List ℕ) (words : List (List ℕ)) (folder : FolderSeen) (hint : List ℕ) (out err : SinkSeen) (stop : Stop) (s : Status)
+    → EndsWith Made (IsKnown words folder hint) folder out (Err stop) → IsToldAs message stop err s → TellsUnnamed (fit_options words) folder hint s
+told_unnamed Made message words folder hint out err stop s h (inl told) = subst (TellsUnnamed (fit_options words) folder hint) (sym told.0) (stop_unnamed Made words folder hint out stop h)
+told_unnamed Made message words folder hint out err stop s h (inr told) = subst (TellsUnnamed (fit_options words) folder hint) (sym told.0) tt
 
 pub wanted_made : (words : List (List ℕ)) (folder : FolderSeen) (wanted : Wanted) (outputs : Outputs) → FitWordsAnswer words (Ok wanted) → OutputsOfWanted wanted folder (Ok outputs)
     → OutputsOfModel words folder (Ok outputs)

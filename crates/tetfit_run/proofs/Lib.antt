@@ -10,4 +10,7 @@ mod OffGrid
 mod Tries
 mod PartsBefore
 mod Openings
+mod FacetSides
+mod SideBoxes
+mod Copied
 mod Ratios

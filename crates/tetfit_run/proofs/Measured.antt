@@ -1,6 +1,6 @@
 -- Inputs that are measured from an origin.
-use Rattle.std.proofs.Common.{◌≡◌, ℕ, zero, suc, ◌+◌, ◌*◌, ◌-◌, ◌^◌, ◌<◌, ◌≤◌, Bool, true, false, List, length, map, Option, Some, None, Result, Ok, Err, refl, sym, ap, ◌∙◌, subst, arith, inl, inr}
-use Rattle.std.specs.Prelude.{min, IfSome, IfOk, if◌then◌else◌}
+use Rattle.std.proofs.Common.{◌≡◌, ℕ, zero, suc, ◌+◌, ◌*◌, ◌-◌, ◌^◌, ◌<◌, ◌≤◌, List, length, Option, Some, None, Ok, refl, sym, subst, arith, inl, inr}
+use Rattle.std.specs.Prelude.{min, IfSome, if◌then◌else◌}
 use Rattle.std.proofs.lemmas.Bool.{cases_Bool}
 use Rattle.std.proofs.lemmas.List.{length-map}
 use Rattle.command_words.specs.Meaning.{AreInRange}
@@ -15,7 +15,7 @@ use Rattle.plc_files.specs.Checks.{corners_check}
 use Rattle.run_steps.specs.Reading.{IsSound}
 use Rattle.run_steps.specs.declared.input.Input.{Input}
 use Rattle.tetfit_run.specs.Measured.{most_from, most_tried, origin_in, points_by, tried, with_origin}
-use Rattle.tetfit_run.specs.Trying.{at_decimals, AreTriable}
+use Rattle.tetfit_run.specs.Trying.{AreTriable}
 
 -- ---- origins that are near
 

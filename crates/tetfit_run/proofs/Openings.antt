@@ -1,72 +1,87 @@
--- The sides of facets, and what is told of them.
-use Rattle.std.proofs.Common.{◌≡◌, ℕ, ◌<◌, ◌≤◌, Bool, true, false, List, [], length, get_or, None, Result, Ok, Err, inl, sym, ◌∙◌, subst, arith}
-use Rattle.std.specs.Prelude.{◌==◌, not, HoldsAt, IfOk}
-use Rattle.std.proofs.lemmas.Bool.{true≢false}
+-- What is told of facets that enclose nothing.
+use Rattle.std.proofs.Common.{◌≡◌, Bool, true, false, List, [], ℕ, Result, Ok, Err, ap, sym, ◌∙◌, subst, cond}
+use Rattle.std.specs.Prelude.{IfOk}
+use Rattle.std.proofs.lemmas.List.Elements.{All-nil}
 use Rattle.command_words.specs.declared.options.Options.{Options}
-use Rattle.geo_laws.specs.Complex.{Complex, Polygon}
-use Rattle.geo_laws.specs.declared.complex.Facet.{Facet}
-use Rattle.geo_laws.specs.declared.complex.Piece.{Piece}
+use Rattle.geo_laws.specs.Complex.{Complex}
 use Rattle.node_files.specs.declared.limits.Limits.{Limits}
-use Rattle.tetfit_run.specs.Measured.{BoundTried}
-use Rattle.run_steps.specs.Numbering.{numbering_of}
+use Rattle.run_steps.proofs.Steps.{and_then_ok}
+use Rattle.run_steps.specs.Meshing.{IsMeshableBound}
 use Rattle.run_steps.specs.declared.input.Input.{Input}
 use Rattle.run_steps.specs.declared.mesh.Bound.{Bound}
-use Rattle.run_steps.specs.declared.numbering.Numbering.{Numbering}
+use Rattle.run_steps.specs.declared.outputs.Outputs.{Outputs}
+use Rattle.run_steps.specs.declared.status.Status.{Status}
+use Rattle.sign_predicates.specs.Point.{RationalPoint}
+use Rattle.std.specs.Prelude.{pos, ◌<ℤ◌}
 use Rattle.tet_ports.specs.declared.NoMemory.{NoMemory}
-use Rattle.tetfit_run.specs.Opening.{carved_line, is_side_at, open_line, IsOpenAt, IsSideOfFacetAt, TellsOpening, TellsOpeningIf, TellsOpeningIn, TellsOpenSide}
+use Rattle.tetfit_run.specs.Holes.{without_holes, without_hole_points}
+use Rattle.tetfit_run.specs.Measured.{BoundTried}
+use Rattle.tetfit_run.specs.Opening.{carved_line, has_holes, surface_line, tells_none, TellsCarved, TellsCarvedBy, TellsOpening, TellsOpeningBy, TellsOpeningIf}
+use Rattle.tetfit_run.specs.Trying.{MadeAnswer}
 
--- the piece is no side of the polygon with these corners
-abbrev pub HasNoSide : Piece → List ℕ → Type 0
-HasNoSide p corners = (i : ℕ) → i < length corners → is_side_at p corners i ≡ false
+-- ---- by the mesh without hole points
 
--- the piece is one
-abbrev pub HasSide : Piece → List ℕ → Type 0
-HasSide p corners = (i : ℕ) × (i < length corners) × (is_side_at p corners i ≡ true)
+pub none_told : (surface : List ℕ) (outputs : Outputs) (test : Bool) → test ≡ tells_none outputs.report → test ≡ true → TellsCarved surface (Ok outputs) surface
+none_told surface outputs test e t = ap (λ b. cond b surface carved_line) (sym t ∙ e)
 
--- a side of a polygon of the facet is one of the facet
-pub side_found : (c : Complex) (p : Piece) (k polygon : ℕ) (f : Facet) (corners : List ℕ) → HoldsAt (λ facet. facet ≡ f) c.facets k → f.first ≤ polygon → polygon < f.past
-    → HoldsAt (λ g. g.corners ≡ corners) c.polygons polygon → HasSide p corners → IsSideOfFacetAt c p k
-side_found c p k polygon f corners at le lt is s = record {
-  polygon = polygon;
-  of_facet = λ d. subst (λ (g : Facet). (g.first ≤ polygon) × (polygon < g.past)) (sym (at d)) (le, lt);
-  place = s.0;
-  is = λ d. subst (λ xs. (s.0 < length xs) × (is_side_at p xs s.0 ≡ true)) (sym (is d)) (s.1, s.2);
-}
+pub some_told : (surface : List ℕ) (outputs : Outputs) (test : Bool) (r : Result (List ℕ) NoMemory) → test ≡ tells_none outputs.report → test ≡ false → IfOk r (λ line. line ≡ carved_line) → IfOk r (TellsCarved surface (Ok outputs))
+some_told surface outputs test (Ok line) e f is = is ∙ ap (λ b. cond b surface carved_line) (sym f ∙ e)
+some_told surface outputs test (Err lack) e f is = is
 
--- what is a side of no polygon of the facet is none of the facet
-pub no_side : (c : Complex) (p : Piece) (k n : ℕ) (f : Facet) → HoldsAt (λ facet. facet ≡ f) c.facets k → f.past ≤ n
-    → ((j : ℕ) → j < n → f.first ≤ j → (d : Polygon) → HasNoSide p (get_or c.polygons j d).corners) → ¬ IsSideOfFacetAt c p k
-no_side c p k n f at le none s =
-    let df : Facet = record { first = 0; past = 0; holes = []; marker = None } in
-    let d : Polygon = record { corners = []; line = 0 } in
-    let h = subst (λ (g : Facet). (g.first ≤ s.polygon) × (s.polygon < g.past)) (at df) (s.of_facet df) in
-    let lt : s.polygon < n = omega (arith, h.1, le) in
-    let w = s.is d in
-    let off = none s.polygon lt h.0 d s.place w.0 in
-    true≢false (sym w.1 ∙ off)
+-- ---- what is left without hole points
 
--- ---- what is told
+-- the input without them is on its grid
+left_bound : (limits : Limits) (options : Options) (input : Input) (bound : Bound) → BoundTried limits options input (Ok bound) → BoundTried limits options (without_holes input) (Ok (without_hole_points bound))
+left_bound limits options input bound h = (
+  h.0,
+  record {
+    small = record { few = h.1.small.few; short = h.1.small.short };
+    is = ap (λ (c : Complex). let d : Complex = record c { holes = [] } in d) h.1.is;
+  },
+)
 
--- the line of a side that only one facet has
-pub side_told : (bound : Bound) (side : Piece) (facet : ℕ) (by : Numbering) (r : Result (List ℕ) NoMemory) → IsOpenAt bound.complex side facet → by ≡ numbering_of bound.table
-    → IfOk r (λ line. line ≡ open_line by side facet) → IfOk r (TellsOpenSide bound)
-side_told bound side facet by (Ok line) o b is = inl (record {
-  side = side;
-  facet = facet;
-  is_open = o;
-  is = subst (λ (by : Numbering). line ≡ open_line by side facet) b is;
-})
-side_told bound side facet by (Err e) o b is = is
+-- and can be meshed
+pub left_meshable : (options : Options) (bound : Bound) → IsMeshableBound options bound → IsMeshableBound options (without_hole_points bound)
+left_meshable options bound h =
+    let m = h.meshable in record {
+      table = h.table;
+      decimals = h.decimals;
+      few = h.few;
+      budget = h.budget;
+      near = h.near;
+      meshable = record {
+        distinct = m.distinct;
+        multiples = m.multiples;
+        few = m.few;
+        corners = m.corners;
+        holes = All-nil (λ (p : RationalPoint). pos 0 <ℤ p.w);
+        regions = m.regions;
+      };
+    }
 
--- by whether there are hole points
-pub carved_told : (bound : Bound) (test : Bool) (r : Result (List ℕ) NoMemory) → test ≡ not (length bound.complex.holes == 0) → test ≡ true → IfOk r (λ line. line ≡ carved_line) → IfOk r (TellsOpeningIn bound)
-carved_told bound test r e t told = subst (λ b. IfOk r (TellsOpeningIf b bound)) (sym t ∙ e) told
+-- ---- by whether there are hole points
 
-pub not_carved_told : (bound : Bound) (test : Bool) (r : Result (List ℕ) NoMemory) → test ≡ not (length bound.complex.holes == 0) → test ≡ false → IfOk r (TellsOpenSide bound) → IfOk r (TellsOpeningIn bound)
-not_carved_told bound test r e f told = subst (λ b. IfOk r (TellsOpeningIf b bound)) (sym f ∙ e) told
+pub carved_told : (options : Options) (bound left : Bound) (answer : Result Outputs Status) (surface : List ℕ) (r : Result (List ℕ) NoMemory) → left ≡ without_hole_points bound → MadeAnswer options left answer
+    → surface ≡ surface_line bound → IfOk r (TellsCarved surface answer) → IfOk r (TellsCarvedBy options bound)
+carved_told options bound left answer surface (Ok line) l made s told = (answer, subst (λ b. MadeAnswer options b answer) l made, subst (λ t. TellsCarved t answer line) s told)
+carved_told options bound left answer surface (Err lack) l made s told = told
 
--- of an input on its grid
+pub holes_told : (options : Options) (bound : Bound) (test : Bool) (r : Result (List ℕ) NoMemory) → test ≡ has_holes bound → test ≡ true → IfOk r (TellsCarvedBy options bound) → IfOk r (TellsOpeningBy (has_holes bound) options bound)
+holes_told options bound test r e t told = subst (λ b. IfOk r (TellsOpeningBy b options bound)) (sym t ∙ e) told
+
+pub no_holes_told : (options : Options) (bound : Bound) (test : Bool) (line : List ℕ) → test ≡ has_holes bound → test ≡ false → line ≡ surface_line bound → TellsOpeningBy (has_holes bound) options bound line
+no_holes_told options bound test line e f is = subst (λ b. TellsOpeningBy b options bound line) (sym f ∙ e) is
+
+-- ---- of an input
+
+by_input : (limits : Limits) (options : Options) (input : Input) (bound : Bound) (line : List ℕ) (holes : Bool) → BoundTried limits options input (Ok bound) → TellsOpeningBy holes options bound line
+    → TellsOpeningIf holes limits options input bound line
+by_input limits options input bound line false h told = told
+by_input limits options input bound line true h told =
+    (told.0, and_then_ok (BoundTried limits options (without_holes input)) (MadeAnswer options) (without_hole_points bound) told.0 (left_bound limits options input bound h) told.1, told.2)
+
 pub opening_told : (limits : Limits) (options tried : Options) (input : Input) (bound : Bound) (r : Result (List ℕ) NoMemory) → tried ≡ options → BoundTried limits tried input (Ok bound)
-    → IfOk r (TellsOpeningIn bound) → IfOk r (TellsOpening limits options input)
-opening_told limits options tried input bound (Ok line) t h told = (bound, subst (λ q. BoundTried limits q input (Ok bound)) t h, told)
-opening_told limits options tried input bound (Err e) t h told = told
+    → IfOk r (TellsOpeningBy (has_holes bound) tried bound) → IfOk r (TellsOpening limits options input)
+opening_told limits options tried input bound (Ok line) t h told =
+    subst (λ q. TellsOpening limits q input line) t (bound, h, by_input limits tried input bound line (has_holes bound) h told)
+opening_told limits options tried input bound (Err lack) t h told = told

@@ -9,7 +9,7 @@ use Rattle.command_words.specs.declared.options.Options.{Options}
 use Rattle.geo_laws.specs.Complex.{Complex}
 use Rattle.geo_laws.specs.declared.complex.Facet.{Facet}
 use Rattle.geo_laws.specs.declared.complex.Piece.{Piece}
-use Rattle.grid_coords.specs.Choice.{is_over}
+use Rattle.grid_coords.specs.Choice.{is_over, most_decimals}
 use Rattle.grid_coords.specs.declared.points.DecimalPoint.{DecimalPoint}
 use Rattle.grid_coords.specs.declared.origin.WholePoint.{WholePoint}
 use Rattle.tetfit_run.specs.Grids.{point_at}
@@ -19,7 +19,7 @@ use Rattle.run_steps.specs.declared.mesh.Bound.{Bound}
 use Rattle.run_steps.specs.declared.numbering.Numbering.{Numbering}
 use Rattle.run_steps.specs.declared.status.LimitKind.TheVariants.{Grid}
 use Rattle.run_steps.specs.declared.status.Status.{Status}
-use Rattle.run_steps.specs.declared.status.Status.TheVariants.{Limit, SegmentsCross, Crossing, GridEnd, BudgetEnd}
+use Rattle.run_steps.specs.declared.status.Status.TheVariants.{Limit, Flat, NotFlat, SegmentsCross, Crossing, GridEnd, BudgetEnd}
 use Rattle.tet_text.specs.Printing.{decimal_text}
 use Rattle.tetfit_run.specs.Measured.{BoundTried, MeshedTried}
 use Rattle.tetfit_run.specs.declared.model.Stated.{Stated}
@@ -119,15 +119,35 @@ pub record TellsWhole (limits : Limits) (options : Options) (input : Input) (by 
 abbrev pub TellsSegment : Limits → Options → Input → Numbering → Piece → List ℕ → Type 0
 TellsSegment limits options input by p line = TellsWhole limits options input by p line ⊎ ((p.halvings ≢ 0) × (line ≡ []))
 
+-- ---- rounded coordinates
+
+abbrev pub rounded_line : ℕ → ℕ → List ℕ
+rounded_line m most =
+    codes "tetfit: coordinates were rounded to " ++ decimal m ++ codes " decimals, of " ++ decimal most ++ codes " that the file has\n"
+
+-- the line where there are m decimals and the file has more
+abbrev pub rounded_text : Option ℕ → ℕ → List ℕ
+rounded_text None most = []
+rounded_text (Some m) most = if nat_lt m most then rounded_line m most else []
+
+-- the line where the points of the file have more decimals than the options
+abbrev pub rounding_text : Options → List DecimalPoint → List ℕ
+rounding_text options points = rounded_text options.decimals (most_decimals points)
+
 -- ---- the lines
+
+-- the lines of two parts, and the line on rounded coordinates
+abbrev pub parts_text : Options → List DecimalPoint → Numbering → Part → Part → List ℕ
+parts_text options points by one two = part_line points by one ++ part_line points by two ++ rounding_text options points
 
 -- the lines that follow the message on an input with these options, refused with the status, its points numbered by
 -- `by`
 abbrev pub IsHintBy : Limits → Options → Input → Numbering → Status → List ℕ → Type 0
+IsHintBy limits options input by Flat lines = lines ≡ rounding_text options input.nodes.decimals
+IsHintBy limits options input by (NotFlat facet four) lines = lines ≡ rounding_text options input.nodes.decimals
 IsHintBy limits options input by (SegmentsCross one two) lines =
-    lines ≡ part_line input.nodes.decimals by (SegmentPart one) ++ part_line input.nodes.decimals by (SegmentPart two)
-IsHintBy limits options input by (Crossing one two) lines =
-    lines ≡ part_line input.nodes.decimals by one ++ part_line input.nodes.decimals by two
+    lines ≡ parts_text options input.nodes.decimals by (SegmentPart one) (SegmentPart two)
+IsHintBy limits options input by (Crossing one two) lines = lines ≡ parts_text options input.nodes.decimals by one two
 IsHintBy limits options input by (GridEnd piece) lines = TellsSegment limits options input by piece lines
 IsHintBy limits options input by (BudgetEnd made piece) lines = TellsSegment limits options input by piece lines
 IsHintBy limits options input by status lines = lines ≡ []

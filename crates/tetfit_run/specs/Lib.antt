@@ -8,8 +8,10 @@ pub mod Reasons
 pub mod Texts
 pub mod Grids
 pub mod Hints
+pub mod Holes
 pub mod Models
 pub mod Opening
+pub mod Sides
 pub mod Trial
 pub mod Trying
 pub mod Measured

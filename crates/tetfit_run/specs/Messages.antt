@@ -43,9 +43,11 @@ line_of words by (Usage word place) = refused_line words word place
 line_of words by (Limit (Grid line)) = []
 line_of words by status = renamed_program (message_of by status)
 
--- lines on the model follow: on a segment, on crossing parts, or on a point off the grid
+-- lines on the model follow: on a segment, on crossing parts, on a point off the grid, or on rounded coordinates
 abbrev pub has_hint : Status → Bool
 has_hint (Limit (Grid line)) = true
+has_hint Flat = true
+has_hint (NotFlat facet four) = true
 has_hint (SegmentsCross one two) = true
 has_hint (Crossing one two) = true
 has_hint (GridEnd piece) = true

@@ -1,56 +1,63 @@
 -- The input that is read of a model.
-use Rattle.std.specs.Prelude.{◌≡◌, ℕ, Bool, true, false, ◌&&◌, List, Option, Some, Result, Ok, Err, if◌then◌else◌}
+use Rattle.std.specs.Prelude.{◌≡◌, ℕ, List, Option, Some, None, Result, Ok, Err, if◌then◌else◌}
 use Rattle.command_words.specs.Names.{file_name}
 use Rattle.command_words.specs.declared.options.Extension.{Extension}
-use Rattle.command_words.specs.declared.options.Extension.TheVariants.{Stl}
+use Rattle.command_words.specs.declared.options.Extension.TheVariants.{Off, Stl}
 use Rattle.command_words.specs.declared.options.Options.{Options}
 use Rattle.node_files.specs.declared.limits.Limits.{Limits}
 use Rattle.plc_files.specs.Text.{Plc}
-use Rattle.run_steps.specs.Reading.{FetchAnswer, TextAnswer, NodesAnswer, BoundedAnswer, InputAnswer, complex_file, plc_text_of}
+use Rattle.run_steps.specs.Reading.{FetchAnswer, TextAnswer, NodesAnswer, BoundedAnswer, InputAnswer, complex_file}
 use Rattle.tet_ports.specs.Seen.{FolderSeen}
 use Rattle.run_steps.specs.Steps.{AndThen, Gives}
 use Rattle.run_steps.specs.declared.input.ComplexFile.{ComplexFile}
 use Rattle.run_steps.specs.declared.input.Input.{Input}
 use Rattle.run_steps.specs.declared.status.Status.{Status}
 use Rattle.soup_files.specs.BinaryStl.{is_binary_stl, binary_stl_of}
+use Rattle.soup_files.specs.Off.{wide_off_of}
+use Rattle.soup_files.specs.Solids.{wide_stl_of}
 use Rattle.tet_ports.specs.Files.{Holds}
 use Rattle.tet_text.specs.declared.fault.TextFault.{TextFault}
+use Rattle.tet_text.specs.Lines.{content_lines, line_count_of}
 use Rattle.tetfit_run.specs.Measured.{MovedAnswer}
 use Rattle.tetfit_run.specs.declared.model.Model.{Model}
 use Rattle.tetfit_run.specs.declared.model.Stated.{Stated}
 use Rattle.tetfit_run.specs.declared.model.Stated.TheVariants.{Lines, Facets}
 
--- the complex that the bytes of an `.stl` file spell, where a binary file is known by its length
-abbrev pub stl_text_of : List ℕ → Result Plc TextFault
-stl_text_of bytes = if is_binary_stl bytes then binary_stl_of bytes else plc_text_of Stl bytes
+-- the complex that the bytes of an `.stl` or `.off` file spell, where a binary `.stl` file is known by its length
+abbrev pub surface_text_of : Extension → List ℕ → Result Plc TextFault
+surface_text_of Stl bytes = if is_binary_stl bytes then binary_stl_of bytes else wide_stl_of (line_count_of bytes) (content_lines bytes)
+surface_text_of form bytes = wide_off_of (line_count_of bytes) (content_lines bytes)
 
-abbrev pub is_stl : Option Extension → Bool
-is_stl (Some Stl) = true
-is_stl extension = false
+-- the extensions of surfaces
+abbrev pub surface_form : Option Extension → Option Extension
+surface_form (Some Off) = Some Off
+surface_form (Some Stl) = Some Stl
+surface_form extension = None
 
--- the options name an `.stl` file
-abbrev pub names_stl : Options → Bool
-names_stl options = options.piecewise && is_stl options.extension
+-- the extension of the surface that the options name, unless they name none
+abbrev pub named_surface : Options → Option Extension
+named_surface options = if options.piecewise then surface_form options.extension else None
 
--- the complex of the `.stl` file with this base
-abbrev pub StlAnswer : Limits → FolderSeen → List ℕ → Result ComplexFile Status → Type 0
-StlAnswer limits seen base =
-    let name = file_name base Stl in
-    AndThen (FetchAnswer limits seen name) (λ bytes. AndThen (TextAnswer name (stl_text_of bytes)) (λ text. Gives (complex_file name text)))
+-- the complex of the surface with this base and extension
+abbrev pub SurfaceAnswer : Limits → FolderSeen → List ℕ → Extension → Result ComplexFile Status → Type 0
+SurfaceAnswer limits seen base form =
+    let name = file_name base form in
+    AndThen (FetchAnswer limits seen name)
+    (λ bytes. AndThen (TextAnswer name (surface_text_of form bytes)) (λ text. Gives (complex_file name text)))
 
--- the input of the `.stl` file with this base
-abbrev pub StlInputAnswer : Limits → FolderSeen → List ℕ → Result Input Status → Type 0
-StlInputAnswer limits seen base =
-    AndThen (StlAnswer limits seen base) (λ file. AndThen (NodesAnswer limits seen base file.text.nodes) (BoundedAnswer file))
+-- the input of the surface with this base and extension
+abbrev pub SurfaceInputAnswer : Limits → FolderSeen → List ℕ → Extension → Result Input Status → Type 0
+SurfaceInputAnswer limits seen base form =
+    AndThen (SurfaceAnswer limits seen base form) (λ file. AndThen (NodesAnswer limits seen base file.text.nodes) (BoundedAnswer file))
 
--- what is read, by whether an `.stl` file is named
-abbrev pub ModelBy : Bool → Limits → FolderSeen → Options → Result Input Status → Type 0
-ModelBy true limits seen options = StlInputAnswer limits seen options.base
-ModelBy false limits seen options = InputAnswer limits seen options
+-- what is read, by the surface that is named
+abbrev pub ModelBy : Option Extension → Limits → FolderSeen → Options → Result Input Status → Type 0
+ModelBy (Some form) limits seen options = SurfaceInputAnswer limits seen options.base form
+ModelBy None limits seen options = InputAnswer limits seen options
 
 -- what is read of the model that the options name
 abbrev pub ReadAnswer : Limits → FolderSeen → Options → Result Input Status → Type 0
-ReadAnswer limits seen options = ModelBy (names_stl options) limits seen options
+ReadAnswer limits seen options = ModelBy (named_surface options) limits seen options
 
 -- the model that the options name, with its hole points and region points measured from its origin
 abbrev pub ModelAnswer : Limits → FolderSeen → Options → Result Input Status → Type 0
@@ -69,18 +76,20 @@ input_in (Err status) = Err status
 -- ---- what the places of points in a file count
 
 -- places count the facets of a binary `.stl` file, and the lines of a text
-abbrev pub stated_of : List ℕ → Stated
-stated_of bytes = if is_binary_stl bytes then Facets else Lines
+abbrev pub stated_of : Extension → List ℕ → Stated
+stated_of Stl bytes = if is_binary_stl bytes then Facets else Lines
+stated_of form bytes = Lines
 
--- the unit of the places in the `.stl` file with this base: facets in a binary one, lines in a text
-abbrev pub IsStatedInStl : FolderSeen → List ℕ → Stated → Type 0
-IsStatedInStl seen base stated = (bytes : List ℕ) × Holds seen.files_before (file_name base Stl) bytes × (stated ≡ stated_of bytes)
+-- the unit of the places in the surface with this base and extension: facets in a binary `.stl` file, lines in a text
+abbrev pub IsStatedInSurface : FolderSeen → List ℕ → Extension → Stated → Type 0
+IsStatedInSurface seen base form stated =
+    (bytes : List ℕ) × Holds seen.files_before (file_name base form) bytes × (stated ≡ stated_of form bytes)
 
--- by whether an `.stl` file is named
-abbrev pub IsStatedIf : Bool → FolderSeen → Options → Stated → Type 0
-IsStatedIf true seen options stated = IsStatedInStl seen options.base stated
-IsStatedIf false seen options stated = stated ≡ Lines
+-- by the surface that is named
+abbrev pub IsStatedIf : Option Extension → FolderSeen → Options → Stated → Type 0
+IsStatedIf (Some form) seen options stated = IsStatedInSurface seen options.base form stated
+IsStatedIf None seen options stated = stated ≡ Lines
 
 -- the unit of the places in the file of the model that the options name
 abbrev pub IsStatedBy : FolderSeen → Options → Stated → Type 0
-IsStatedBy seen options stated = IsStatedIf (names_stl options) seen options stated
+IsStatedBy seen options stated = IsStatedIf (named_surface options) seen options stated

@@ -1,37 +1,26 @@
--- Where a surface is open.
-use Rattle.std.specs.Prelude.{◌≡◌, ◌≢◌, ◌⊎◌, ◌<◌, ◌≤◌, ℕ, ◌+◌, min, max, true, false, not, Bool, ◌==◌, ◌&&◌, ◌||◌, HoldsAt, length, slice_index, List, ◌++◌, codes, Ok, if◌then◌else◌}
+-- What is told of facets that enclose nothing: where the surface is open, or that hole points carve all of the mesh.
+use Rattle.std.specs.Prelude.{◌≡◌, ◌≢◌, ℕ, ◌+◌, ◌==◌, min, max, true, false, not, Bool, length, List, ◌++◌, codes, Option, Some, None, Result, Ok, Err, if◌then◌else◌}
 use Rattle.std.specs.Fmt.{decimal}
 use Rattle.command_words.specs.declared.options.Options.{Options}
-use Rattle.geo_laws.specs.Complex.{Complex}
 use Rattle.geo_laws.specs.declared.complex.Piece.{Piece}
 use Rattle.node_files.specs.declared.limits.Limits.{Limits}
 use Rattle.run_steps.specs.Numbering.{numbering_of}
 use Rattle.run_steps.specs.declared.input.Input.{Input}
 use Rattle.run_steps.specs.declared.mesh.Bound.{Bound}
 use Rattle.run_steps.specs.declared.numbering.Numbering.{Numbering}
+use Rattle.run_steps.specs.declared.outputs.Outputs.{Outputs}
+use Rattle.run_steps.specs.declared.report.Report.{Report}
+use Rattle.run_steps.specs.declared.report.Report.TheVariants.{Mesh as MeshReport}
+use Rattle.run_steps.specs.declared.status.Status.{Status}
+use Rattle.run_steps.specs.declared.status.Status.TheVariants.{NoMemory}
 use Rattle.tetfit_run.specs.Hints.{number_text}
-use Rattle.tetfit_run.specs.Measured.{BoundTried}
+use Rattle.tetfit_run.specs.Holes.{without_holes, without_hole_points}
+use Rattle.tetfit_run.specs.Measured.{BoundTried, MeshedTried}
+use Rattle.tetfit_run.specs.Sides.{first_open}
+use Rattle.tetfit_run.specs.Trying.{MadeAnswer}
+use Rattle.tetfit_run.specs.declared.sides.FacetSide.{FacetSide}
 
--- the two points are the ends of the piece
-abbrev pub are_ends : Piece → ℕ → ℕ → Bool
-are_ends p x y = (x == p.a && y == p.b) || (x == p.b && y == p.a)
-
--- the piece is the side of a polygon from the corner at this place to the next one, or from the last to the first
-abbrev pub is_side_at : Piece → List ℕ → ℕ → Bool
-is_side_at p corners i = are_ends p (slice_index corners i) (slice_index corners (if i + 1 == length corners then 0 else i + 1))
-
--- the piece is a side of a polygon of the facet at this place
-pub record IsSideOfFacetAt (c : Complex) (p : Piece) (k : ℕ) : Type 0 where
-  pub polygon : ℕ
-  pub of_facet : HoldsAt (λ f. (f.first ≤ polygon) × (polygon < f.past)) c.facets k
-  pub place : ℕ
-  pub is : HoldsAt (λ g. (place < length g.corners) × (is_side_at p g.corners place ≡ true)) c.polygons polygon
-
--- only the facet at this place has the side
-pub record IsOpenAt (c : Complex) (p : Piece) (k : ℕ) : Type 0 where
-  pub there : k < length c.facets
-  pub side : IsSideOfFacetAt c p k
-  pub alone : (j : ℕ) → j < length c.facets → j ≢ k → ¬ IsSideOfFacetAt c p j
+-- ---- an open side
 
 -- facets count from 1
 abbrev pub open_line : Numbering → Piece → ℕ → List ℕ
@@ -42,29 +31,56 @@ open_line by p k =
 abbrev pub nothing_line : List ℕ
 nothing_line = codes "tetfit: the facets enclose nothing\n"
 
--- the line names a side that only one facet has
-pub record TellsSide (bound : Bound) (line : List ℕ) : Type 0 where
-  pub side : Piece
-  pub facet : ℕ
-  pub is_open : IsOpenAt bound.complex side facet
-  pub is : line ≡ open_line (numbering_of bound.table) side facet
+-- the line names the open side, where there is one
+abbrev pub side_line : Numbering → Option FacetSide → List ℕ
+side_line by None = nothing_line
+side_line by (Some s) = open_line by s.side s.facet
 
--- the line names an open side, or says only that nothing is enclosed
-abbrev pub TellsOpenSide : Bound → List ℕ → Type 0
-TellsOpenSide bound line = TellsSide bound line ⊎ (line ≡ nothing_line)
+-- the line on a complex that encloses nothing
+abbrev pub surface_line : Bound → List ℕ
+surface_line bound = side_line (numbering_of bound.table) (first_open bound.table.points bound.complex)
 
--- where there are hole points, they may have carved what is enclosed
+-- ---- hole points
+
+-- the summary reports 0 tetrahedra
+abbrev pub tells_none : Option Report → Bool
+tells_none (Some (MeshReport summary notes)) = summary.tetrahedra == 0
+tells_none report = false
+
 abbrev pub carved_line : List ℕ
-carved_line = codes "tetfit: the facets enclose nothing, or hole points carve all of it\n"
+carved_line = codes "tetfit: hole points carve all of it\n"
 
-abbrev pub TellsOpeningIf : Bool → Bound → List ℕ → Type 0
-TellsOpeningIf true bound line = line ≡ carved_line
-TellsOpeningIf false bound line = TellsOpenSide bound line
+abbrev pub either_line : List ℕ
+either_line = codes "tetfit: the facets enclose nothing, or hole points carve all of it\n"
 
--- the line on facets that enclose nothing, by whether there are hole points
-abbrev pub TellsOpeningIn : Bound → List ℕ → Type 0
-TellsOpeningIn bound line = TellsOpeningIf (not (length bound.complex.holes == 0)) bound line
+abbrev pub has_holes : Bound → Bool
+has_holes bound = not (length bound.complex.holes == 0)
 
--- the line on an input: that of its complex on the grid
+-- The line where there are hole points, by the answer for the input without them: `surface` where its mesh has no tetrahedron either, and
+-- that hole points carve all of it where it has one. Where the input is refused without them, either may be
+abbrev pub TellsCarved : List ℕ → Result Outputs Status → List ℕ → Type 0
+TellsCarved surface (Ok outputs) line = line ≡ (if tells_none outputs.report then surface else carved_line)
+TellsCarved surface (Err status) line = (status ≢ NoMemory) × (line ≡ either_line)
+
+-- the line on an input whose mesh has no tetrahedron, by whether there are hole points
+abbrev pub TellsOpeningIf : Bool → Limits → Options → Input → Bound → List ℕ → Type 0
+TellsOpeningIf false limits options input bound line = line ≡ surface_line bound
+TellsOpeningIf true limits options input bound line =
+    (answer : Result Outputs Status) × MeshedTried limits options (without_holes input) answer
+    × TellsCarved (surface_line bound) answer line
+
+-- and by the input on its grid
 abbrev pub TellsOpening : Limits → Options → Input → List ℕ → Type 0
-TellsOpening limits options input line = (bound : Bound) × BoundTried limits options input (Ok bound) × TellsOpeningIn bound line
+TellsOpening limits options input line =
+    (bound : Bound) × BoundTried limits options input (Ok bound) × TellsOpeningIf (has_holes bound) limits options input bound line
+
+-- ---- by the points and the complex on their grid
+
+-- where there are hole points
+abbrev pub TellsCarvedBy : Options → Bound → List ℕ → Type 0
+TellsCarvedBy options bound line =
+    (answer : Result Outputs Status) × MadeAnswer options (without_hole_points bound) answer × TellsCarved (surface_line bound) answer line
+
+abbrev pub TellsOpeningBy : Bool → Options → Bound → List ℕ → Type 0
+TellsOpeningBy false options bound line = line ≡ surface_line bound
+TellsOpeningBy true options bound line = TellsCarvedBy options bound line

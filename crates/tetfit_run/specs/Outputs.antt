@@ -1,10 +1,10 @@
 -- The requests that the words of `tetfit` make, and their outputs.
-use Rattle.std.specs.Prelude.{◌≡◌, ◌≤◌, ℕ, ◌==◌, Bool, true, false, List, [], Option, Some, None, Result, Ok, Err}
+use Rattle.std.specs.Prelude.{◌≡◌, ◌≤◌, ℕ, Bool, true, false, List, [], Option, Some, None, Result, Ok, Err}
 use Rattle.std.specs.Option.{option_map}
 use Rattle.command_words.specs.declared.options.Options.{Options}
 use Rattle.tetfit_run.specs.Measured.{tried, with_origin}
 use Rattle.tetfit_run.specs.Models.{ModelAnswer}
-use Rattle.tetfit_run.specs.Opening.{TellsOpening}
+use Rattle.tetfit_run.specs.Opening.{TellsOpening, tells_none}
 use Rattle.tetfit_run.specs.Trying.{IsFitted, at_decimals}
 use Rattle.refining.specs.Outputs.{RefinedMeshed}
 use Rattle.refining.specs.declared.goal.Goal.{Goal}
@@ -43,11 +43,6 @@ FitWordsAnswer words (Err status) = IsFitUsage words status
 
 -- ---- the mesh
 
--- the summary reports 0 tetrahedra
-abbrev pub tells_none : Option Report → Bool
-tells_none (Some (MeshReport summary notes)) = summary.tetrahedra == 0
-tells_none report = false
-
 -- the report of a mesh with the number of decimals in its summary, and with these lines behind it
 abbrev pub fitted_told : ℕ → List ℕ → Report → Report
 fitted_told decimals more (MeshReport summary notes) = MeshReport (record summary { decimals = Some decimals }) more
@@ -57,7 +52,7 @@ fitted_told decimals more (Text text) = Text text
 abbrev pub outputs_at : ℕ → List ℕ → Outputs → Outputs
 outputs_at decimals more outputs = record outputs { report = option_map (fitted_told decimals more) outputs.report }
 
--- where there is no tetrahedron the text says where the surface is open, or that nothing is enclosed
+-- where there is no tetrahedron the text says where the surface is open, that nothing is enclosed, or that hole points carve all of it
 abbrev pub IsMoreBy : Bool → Options → Input → ℕ → List ℕ → Type 0
 IsMoreBy true options input m more = TellsOpening fit_limits (at_decimals m options) input more
 IsMoreBy false options input m more = more ≡ []
@@ -97,7 +92,10 @@ OutputsOfModel words folder = AndThen (FitWordsAnswer words) (λ wanted. Outputs
 
 -- outputs without files, whose text is written in place of the summary
 abbrev pub said : List ℕ → Outputs
-said text = record { texts = record { node = None; ele = None; face = None; edge = None; neigh = None }; report = Some (Text text) }
+said text = record {
+  texts = record { node = None; ele = None; face = None; edge = None; neigh = None; vtk = None; msh = None };
+  report = Some (Text text);
+}
 
 -- the text, or out of memory
 abbrev pub Says : List ℕ → Result Outputs Status → Type 0

@@ -4,7 +4,7 @@ use Rattle.std.specs.List.{slice_index_or, starts_with}
 use Rattle.command_words.specs.Grammar.{is_cluster, is_long}
 use Rattle.tetfit_run.specs.Words.{is_ratio, is_volume, keeps_boundary}
 use Rattle.tetfit_run.specs.declared.reason.Reason.{Reason}
-use Rattle.tetfit_run.specs.declared.reason.Reason.TheVariants.{Ratios, Ratio, Volumes, Volume, Sizes, Boundary, Order, Insertion, Coarsening, Optimization, Tolerance, Exactness, Crossings, Voronoi, OtherFiles, Weights, Check, OwnWord, Decimals, Sample, Number, NoSwitch, EmptyWord, SecondName, NoName, LongWord, Letter}
+use Rattle.tetfit_run.specs.declared.reason.Reason.TheVariants.{Ratios, Ratio, Volumes, Volume, Sizes, Boundary, Order, Insertion, Coarsening, Optimization, Tolerance, Exactness, Crossings, Voronoi, MeditFiles, Weights, Check, OwnWord, Decimals, Sample, Number, NoSwitch, EmptyWord, SecondName, NoName, LongWord, Letter}
 
 -- letters of TetGen that have no meaning here
 abbrev pub reason_of : ℕ → Reason
@@ -22,8 +22,8 @@ reason_of byte =
     if byte == 88 then Exactness else
     if byte == 100 then Crossings else
     if byte == 118 then Voronoi else
-    if byte == 103 then OtherFiles else
-    if byte == 107 then OtherFiles else
+    if byte == 103 then MeditFiles else
+    if byte == 107 then OwnWord else
     if byte == 119 then Weights else
     if byte == 114 then Check else
     if byte == 67 then Check else

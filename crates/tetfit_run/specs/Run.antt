@@ -1,7 +1,7 @@
 -- The status of a run of `tetfit`, the files that it leaves, and its messages.
 use Rattle.std.specs.Prelude.{◌≡◌, ◌≢◌, ◌≤◌, ℕ, IsTrue, List, Option, Some, None, Ok, Err}
 use Rattle.command_words.specs.declared.options.Options.{Options}
-use Rattle.tetfit_run.specs.Hints.{IsHint, IsHintBy, off_grid_text}
+use Rattle.tetfit_run.specs.Hints.{IsHint, IsHintBy, off_grid_text, rounding_text}
 use Rattle.tetfit_run.specs.Measured.{BoundTried, origin_in, tried, with_origin}
 use Rattle.grid_coords.specs.declared.origin.WholePoint.{WholePoint}
 use Rattle.tetfit_run.specs.Models.{IsStatedBy, ModelAnswer}
@@ -24,7 +24,7 @@ use Rattle.run_steps.specs.declared.numbering.Numbering.{Numbering}
 use Rattle.run_steps.specs.declared.outputs.Outputs.{Outputs}
 use Rattle.run_steps.specs.declared.status.LimitKind.TheVariants.{Grid}
 use Rattle.run_steps.specs.declared.status.Status.{Status}
-use Rattle.run_steps.specs.declared.status.Status.TheVariants.{Limit, NoMemory}
+use Rattle.run_steps.specs.declared.status.Status.TheVariants.{Limit, Flat, NoMemory}
 use Rattle.tet_ports.specs.Files.{Files}
 use Rattle.tetgen_run.specs.Ends.{AnswersBy, HasNoFault, LeavesBy, TellsBy, names_points}
 use Rattle.tetgen_run.specs.Run.{IsMeshBy}
@@ -117,18 +117,23 @@ IsNumberingOf options folder hint status by =
 abbrev pub IsFitNumbering : List (List ℕ) → FolderSeen → List ℕ → Status → Option Numbering → Type 0
 IsFitNumbering words = IsNumberingOf (fit_options words)
 
--- for a model off the grid, the first point that is off it with coordinates rounded to whole numbers is reported: its
--- place in the file, by the line, or by the facet of a binary file, and its coordinates
-abbrev pub TellsOffGrid : Options → FolderSeen → List ℕ → Status → Type 0
-TellsOffGrid options folder hint (Limit (Grid line)) =
+-- The lines that follow a message that prints no points. For a model off the grid, the first point that is off it with coordinates
+-- rounded to whole numbers is reported: its place in the file, by the line, or by the facet of a binary file, and its coordinates. For
+-- points in one plane, that they were rounded, where they were
+abbrev pub TellsUnnamed : Options → FolderSeen → List ℕ → Status → Type 0
+TellsUnnamed options folder hint (Limit (Grid line)) =
     (input : Input) × ModelAnswer fit_limits folder options (Ok input)
     × (stated : Stated) × IsStatedBy folder options stated
     × (hint ≡ off_grid_text fit_limits.grid (origin_in input) stated input.nodes.decimals)
-TellsOffGrid options folder hint status = Unit {0}
+TellsUnnamed options folder hint Flat =
+    (input : Input) × ModelAnswer fit_limits folder options (Ok input)
+    × (m : ℕ) × IsFitted fit_limits (with_origin input options) input m (Err Flat)
+    × (hint ≡ rounding_text (at_decimals m (with_origin input options)) input.nodes.decimals)
+TellsUnnamed options folder hint status = Unit {0}
 
 -- both
 abbrev pub IsKnownOf : Options → FolderSeen → List ℕ → Status → Option Numbering → Type 0
-IsKnownOf options folder hint status by = IsNumberingOf options folder hint status by × TellsOffGrid options folder hint status
+IsKnownOf options folder hint status by = IsNumberingOf options folder hint status by × TellsUnnamed options folder hint status
 
 abbrev pub IsKnown : List (List ℕ) → FolderSeen → List ℕ → Status → Option Numbering → Type 0
 IsKnown words = IsKnownOf (fit_options words)
@@ -137,5 +142,5 @@ IsKnown words = IsKnownOf (fit_options words)
 abbrev pub IsFitTold : List (List ℕ) → FolderSeen → SinkSeen → Status → Type 0
 IsFitTold words folder err status =
     (mid : SinkState) × AreStagesPut words status (until mid err)
-    × (hint : List ℕ) × TellsOffGrid (fit_options (others words)) folder hint status
+    × (hint : List ℕ) × TellsUnnamed (fit_options (others words)) folder hint status
     × TellsBy (fit_message (others words) hint) (IsFitNumbering (others words) folder hint) (since mid err) status

@@ -3,7 +3,7 @@ use Rattle.std.specs.Prelude.{ℕ, ◌-◌, ◌&&◌, nat_lt, length, List, [], 
 use Rattle.std.specs.List.{slice_index_or}
 use Rattle.command_words.specs.Grammar.{is_cluster}
 use Rattle.tetfit_run.specs.declared.reason.Reason.{Reason}
-use Rattle.tetfit_run.specs.declared.reason.Reason.TheVariants.{Ratios, Ratio, Volumes, Volume, Sizes, Boundary, Order, Insertion, Coarsening, Optimization, Tolerance, Exactness, Crossings, Voronoi, OtherFiles, Weights, Check, OwnWord, Decimals, Sample, Number, NoSwitch, EmptyWord, SecondName, NoName, LongWord, Letter}
+use Rattle.tetfit_run.specs.declared.reason.Reason.TheVariants.{Ratios, Ratio, Volumes, Volume, Sizes, Boundary, Order, Insertion, Coarsening, Optimization, Tolerance, Exactness, Crossings, Voronoi, MeditFiles, Weights, Check, OwnWord, Decimals, Sample, Number, NoSwitch, EmptyWord, SecondName, NoName, LongWord, Letter}
 use Rattle.tetfit_run.specs.Reasons.{why_not}
 
 abbrev pub reason_text : Reason → List ℕ
@@ -21,7 +21,7 @@ reason_text Tolerance = codes "signs are exact, and take no tolerance"
 reason_text Exactness = codes "signs are always exact"
 reason_text Crossings = codes "crossing parts are told without a switch"
 reason_text Voronoi = codes "Voronoi cells are not written"
-reason_text OtherFiles = codes "files of other programs are not written"
+reason_text MeditFiles = codes "Medit files are not written, but -k and --msh write others"
 reason_text Weights = codes "points with weights are meshed by tetgen -w"
 reason_text Check = codes "a mesh is checked by tetgen -rC"
 reason_text OwnWord = codes "this letter is a word of its own, with its hyphen"

@@ -1,5 +1,5 @@
 -- The words of `tetfit`.
-use Rattle.std.specs.Prelude.{◌≡◌, ◌≤◌, ℕ, ◌+◌, ◌*◌, ◌^◌, pos, unsigned_abs, int_lt, Bool, true, false, not, ◌||◌, ◌&&◌, ◌==◌, nat_eq, nat_le, nat_lt, length, position, drop, filter, List, [], ◌∷◌, ◌++◌, codes, Option, Some, None, IfSome, is_some, option_and_then, unwrap_or, if◌then◌else◌}
+use Rattle.std.specs.Prelude.{◌≡◌, ℕ, ◌+◌, ◌*◌, ◌^◌, pos, unsigned_abs, int_lt, Bool, true, false, not, ◌||◌, ◌&&◌, ◌==◌, nat_eq, nat_le, nat_lt, length, position, drop, filter, List, [], ◌∷◌, ◌++◌, codes, Option, Some, None, IfSome, is_some, option_and_then, unwrap_or, if◌then◌else◌}
 use Rattle.std.specs.List.{list_any, starts_with}
 use Rattle.std.specs.Str.{bytes_eq}
 use Rattle.std.specs.Option.{option_map, option_map_or, option_or}
@@ -12,6 +12,7 @@ use Rattle.tetfit_run.specs.declared.wanted.Wanted.{Wanted}
 use Rattle.tetfit_run.specs.declared.request.Request.TheVariants.{Page, Version, Mesh}
 use Rattle.command_words.specs.declared.fault.WordsFault.{WordsFault}
 use Rattle.command_words.specs.declared.fault.WordsFault.TheVariants.{Usage, NoMemory}
+use Rattle.command_words.specs.declared.options.Formats.{Formats}
 use Rattle.command_words.specs.declared.options.Options.{Options}
 use Rattle.command_words.specs.Grammar.{is_cluster, words_fault_within}
 use Rattle.command_words.specs.Meaning.{options_within}
@@ -112,18 +113,30 @@ fit_goal words =
     if is_some (fit_volume words) || is_some (fit_ratio words) then
     Some (record { volume = fit_volume words; ratio = fit_ratio words; splits_boundary = not (list_any keeps_boundary words) }) else None
 
+-- ---- words that ask for files of the whole mesh in other formats
+
+abbrev pub is_format : List ℕ → Bool
+is_format word = bytes_eq word (codes "-k") || bytes_eq word (codes "--msh")
+
+abbrev pub formats_of : List (List ℕ) → Formats
+formats_of words = record { vtk = has_word words (codes "-k"); msh = has_word words (codes "--msh") }
+
+-- a word of this program alone that is not about the stages
+abbrev pub is_own : List ℕ → Bool
+is_own word = is_of_goal word || is_format word
+
 -- ---- the other words are those of the program that meshes exact texts, but for four things, which this program does not do
 
 -- the word is of that grammar
 abbrev pub is_plain : List ℕ → Bool
-is_plain word = not (is_of_goal word) && not (bytes_eq word (codes "-V"))
+is_plain word = not (is_own word) && not (bytes_eq word (codes "-V"))
 
 abbrev pub plain_words : List (List ℕ) → List (List ℕ)
 plain_words words = filter is_plain words
 
--- the words without those that ask for the stages: plain words, and behind them those that say what tetrahedra are to be like
+-- the words without those that ask for the stages: plain words, and behind them those of this program alone
 abbrev pub others : List (List ℕ) → List (List ℕ)
-others words = plain_words words ++ filter is_of_goal words
+others words = plain_words words ++ filter is_own words
 
 -- weights, a check, decimals and the sample
 abbrev pub asks_elsewhere : Options → Bool
@@ -154,7 +167,7 @@ plain_options = options_within most_halvings
 
 -- the options that words ask for
 abbrev pub fit_options : List (List ℕ) → Options
-fit_options words = plain_options (plain_words words)
+fit_options words = record (plain_options (plain_words words)) { formats = formats_of words }
 
 -- and with them what the tetrahedra are to be like
 abbrev pub fit_wanted : List (List ℕ) → Wanted

@@ -29,6 +29,7 @@ fn same_options(alloc: Global, options: &Options) -> Result<Options, NoMemory>
         no_node: options.no_node,
         no_ele: options.no_ele,
         no_face: options.no_face,
+        formats: options.formats,
         keep_facets: options.keep_facets,
         check: options.check,
         weighted: options.weighted,

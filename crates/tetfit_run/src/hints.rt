@@ -1,12 +1,13 @@
 //! The lines that follow the message on a refused model: the segment, the parts or the point at
-//! fault.
+//! fault, and the decimals to which coordinates were rounded.
 
-ghost use Rattle.std.specs.Prelude.{◌≡◌, ◌==◌, ◌++◌, IfOk, IfSome, OnOk};
+ghost use Rattle.std.specs.Prelude.{◌≡◌, ◌==◌, ◌++◌, Some, IfOk, IfSome, OnOk};
 ghost use Rattle.command_words.specs.Meaning.{AreInRange};
 ghost use Rattle.grid_coords.specs.Origins.{IsNear};
 ghost use Rattle.node_files.specs.Limits.{AreIndexable};
 ghost use Rattle.run_steps.specs.Reading.{IsSound};
-ghost use Rattle.tetfit_run.specs.Hints.{hinted_facet_text, first_facet, grid_hint, part_line};
+ghost use Rattle.tetfit_run.specs.Hints.{hinted_facet_text, first_facet, grid_hint, parts_text};
+ghost use Rattle.tetfit_run.specs.Hints.{rounded_line, rounded_text, rounding_text};
 ghost use Rattle.tetfit_run.specs.Hints.{segment_line, IsHint, IsHintBy, IsLineOf, TellsSegment};
 ghost use Rattle.tetfit_run.specs.Trying.{at_decimals};
 
@@ -20,7 +21,7 @@ use crate::trial::Trial;
 use crate::wholes::whole_of;
 use command_words::Options;
 use geo_laws::{Complex, Piece};
-use grid_coords::{DecimalPoint, WholePoint};
+use grid_coords::{DecimalPoint, WholePoint, most_decimals};
 use mesh_check::append_number;
 use node_files::Limits;
 use run_steps::{LimitKind, Numbering, Status};
@@ -100,20 +101,74 @@ fn segment_hint(
     }
 }
 
-/// The lines of two crossing parts with the coordinates of their corners.
+/// Appends that coordinates were rounded to `decimals` decimals, of `most` that the file has.
+fn append_rounded(text: &mut Bytes, decimals: u32, most: u32) -> Result<(), NoMemory>
+    ensures { OnOk result (text.new ≡ text.old ++ rounded_line decimals most) }
+{
+    text.append(b"tetfit: coordinates were rounded to ")?;
+    append_number(text, decimals as usize)?;
+    text.append(b" decimals, of ")?;
+    append_number(text, most as usize)?;
+    text.append(b" that the file has\n")
+}
+
+/// Appends that coordinates were rounded to `decimals` decimals, where the file has more.
+fn append_fewer(text: &mut Bytes, decimals: u32, most: u32) -> Result<(), NoMemory>
+    ensures { OnOk result (text.new ≡ text.old ++ rounded_text (Some decimals) most) }
+{
+    if decimals < most {
+        append_rounded(text, decimals, most)
+    } else {
+        Ok(())
+    }
+}
+
+/// Appends that coordinates were rounded, where the points of the file have more decimals than the
+/// options.
+fn append_rounding(
+    text: &mut Bytes,
+    options: &Options,
+    points: &[DecimalPoint],
+) -> Result<(), NoMemory>
+    ensures { OnOk result (text.new ≡ text.old ++ rounding_text options.now points.now) }
+{
+    match options.decimals {
+        Some(decimals) => append_fewer(text, decimals, most_decimals(points)),
+        None => Ok(()),
+    }
+}
+
+/// The line that coordinates were rounded, where they were.
+fn rounding_hint(alloc: Global, trial: &Trial) -> Result<Bytes, NoMemory>
+    ensures { IfOk result (λ lines. lines
+        ≡ rounding_text trial.now.options trial.now.input.nodes.decimals) }
+{
+    let mut text = Bytes::new(alloc);
+    append_rounding(
+        &mut text,
+        trial.options,
+        trial.input.nodes.decimals.as_slice(),
+    )?;
+    Ok(text)
+}
+
+/// The lines of two crossing parts with the coordinates of their corners, and that coordinates were
+/// rounded, where they were.
 fn parts_hint(
     alloc: Global,
-    points: &[DecimalPoint],
+    trial: &Trial,
     by: &Numbering,
     one: Part,
     two: Part,
 ) -> Result<Bytes, NoMemory>
     ensures { IfOk result (λ lines. lines
-        ≡ part_line points.now by.now one ++ part_line points.now by.now two) }
+        ≡ parts_text trial.now.options trial.now.input.nodes.decimals by.now one two) }
 {
+    let points = trial.input.nodes.decimals.as_slice();
     let mut text = Bytes::new(alloc);
     append_part(&mut text, points, by, one)?;
     append_part(&mut text, points, by, two)?;
+    append_rounding(&mut text, trial.options, points)?;
     Ok(text)
 }
 
@@ -122,12 +177,13 @@ fn hint_by(alloc: Global, trial: &Trial, by: &Numbering, status: &Status) -> Res
     ensures { IfOk result (IsHintBy trial.now.limits trial.now.options
         trial.now.input by.now status.now) }
 {
-    let points = trial.input.nodes.decimals.as_slice();
     match status {
+        Status::Flat => rounding_hint(alloc, trial),
+        Status::NotFlat { facet: _, four: _ } => rounding_hint(alloc, trial),
         Status::SegmentsCross { one, two } => {
-            parts_hint(alloc, points, by, Part::Segment(*one), Part::Segment(*two))
+            parts_hint(alloc, trial, by, Part::Segment(*one), Part::Segment(*two))
         }
-        Status::Crossing { one, two } => parts_hint(alloc, points, by, *one, *two),
+        Status::Crossing { one, two } => parts_hint(alloc, trial, by, *one, *two),
         Status::GridEnd { piece } => segment_hint(alloc, trial, by, *piece),
         Status::BudgetEnd { made: _, piece } => segment_hint(alloc, trial, by, *piece),
         _ => Ok(Bytes::new(alloc)),
@@ -160,8 +216,10 @@ fn grid_hint(
 
 /// The lines that follow the message on a refused model: the segment of the input on which a
 /// missing subsegment lies; the coordinates of the crossing parts; or the place and the coordinates
-/// of the first point off the grid. The segment is found by meshing again with fewer points added:
-/// each such run ends at the subsegment that the next point halves.
+/// of the first point off the grid. Where points lie in one plane, a facet is not flat or parts
+/// cross, and the file has more decimals than are tried, they end with both numbers. The segment is
+/// found by meshing again with fewer points added: each such run ends at the subsegment that the
+/// next point halves.
 pub fn hint_of(
     alloc: Global,
     limits: Limits,

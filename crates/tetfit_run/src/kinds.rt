@@ -19,6 +19,12 @@ pub(crate) const VOLUME: &[u8] = b"-a";
 /// The front of the word that bounds the ratio of the circumradius to the shortest edge.
 pub(crate) const RATIO: &[u8] = b"-q";
 
+/// The word that asks for the `.vtk` file.
+pub(crate) const VTK: &[u8] = b"-k";
+
+/// The word that asks for the `.msh` file.
+pub(crate) const MSH: &[u8] = b"--msh";
+
 /// The word that asks that no points be added on segments and in facets.
 pub(crate) const BOUNDARY: &[u8] = b"-Y";
 

@@ -9,6 +9,7 @@ mod fitting;
 mod goal;
 mod grids;
 mod hints;
+mod holes;
 mod kinds;
 mod limits;
 mod messages;

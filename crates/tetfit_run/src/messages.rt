@@ -119,7 +119,8 @@ fn line_of(
     }
 }
 
-/// Whether lines on the model follow: on a segment, on crossing parts, or on a point off the grid.
+/// Whether lines on the model follow: on a segment, on crossing parts, on a point off the grid, or
+/// on rounded coordinates.
 fn has_hint(status: &Status) -> bool
     ensures { result ≡ has_hint status.now }
 {
@@ -127,6 +128,8 @@ fn has_hint(status: &Status) -> bool
         Status::Limit {
             what: LimitKind::Grid { line: _ },
         } => true,
+        Status::Flat => true,
+        Status::NotFlat { facet: _, four: _ } => true,
         Status::SegmentsCross { one: _, two: _ } => true,
         Status::Crossing { one: _, two: _ } => true,
         Status::GridEnd { piece: _ } => true,

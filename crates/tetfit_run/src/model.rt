@@ -3,23 +3,24 @@
 ghost use Rattle.std.specs.Prelude.{◌≡◌, ◌≤◌, ◌<◌, ◌-◌, ◌^◌, ℕ, length, Ok, IfOk, IfSome};
 ghost use Rattle.node_files.specs.Limits.{AreIndexable};
 ghost use Rattle.plc_files.specs.Checks.{HasFewParts};
+ghost use Rattle.plc_files.specs.Outcome.{PlcGives};
 ghost use Rattle.run_steps.specs.Reading.{complex_file, IsSound, TextAnswer};
 ghost use Rattle.tet_ports.specs.Seen.{IsOnlyRead, folder_seen};
 ghost use Rattle.run_steps.specs.Steps.{AndThen, Gives};
-ghost use Rattle.tetfit_run.specs.Models.{is_stl, names_stl, stl_text_of};
+ghost use Rattle.tetfit_run.specs.Models.{named_surface, surface_form, surface_text_of};
 ghost use Rattle.grid_coords.specs.Origins.{IsNear};
 ghost use Rattle.plc_files.specs.Checks.{corners_check};
 ghost use Rattle.tetfit_run.specs.Measured.{complex_from, most_tried, moved_model, origin_in, MovedAnswer};
-ghost use Rattle.tetfit_run.specs.Models.{input_in, stated_of, IsStatedBy, IsStatedInStl, ModelAnswer};
-ghost use Rattle.tetfit_run.specs.Models.{MovedFrom, StlInputAnswer};
+ghost use Rattle.tetfit_run.specs.Models.{input_in, stated_of, IsStatedBy, IsStatedInSurface};
+ghost use Rattle.tetfit_run.specs.Models.{ModelAnswer, MovedFrom, SurfaceInputAnswer};
 
 use crate::grids::most_tried;
 use command_words::{Extension, Options, file_name};
 use grid_coords::{WholePoint, origin_of};
 use node_files::Limits;
 use plc_files::{PlcFault, PlcText, measured_plc};
-use run_steps::{ComplexFile, Fetched, Input, Status, complex_of, fetch, read_input, with_points};
-use soup_files::{is_binary_stl, read_binary_stl};
+use run_steps::{ComplexFile, Fetched, Input, Status, fetch, read_input, with_points};
+use soup_files::{is_binary_stl, read_binary_stl, read_wide_off, read_wide_stl};
 use std::alloc::Global;
 use tet_ports::{Bytes, Folder, Name, NoMemory};
 
@@ -44,14 +45,13 @@ pub(crate) struct Model {
     pub(crate) stated: Stated,
 }
 
-/// The unit of the places in an `.stl` file: facets in a binary one, lines in a text.
-fn stated_of(bytes: &Bytes) -> Stated
-    ensures { result ≡ stated_of bytes.now }
+/// The unit of the places in a surface: facets in a binary `.stl` file, lines in a text.
+fn stated_of(form: Extension, bytes: &Bytes) -> Stated
+    ensures { result ≡ stated_of form bytes.now }
 {
-    if is_binary_stl(bytes) {
-        Stated::Facets
-    } else {
-        Stated::Lines
+    match form {
+        Extension::Stl if is_binary_stl(bytes) => Stated::Facets,
+        _ => Stated::Lines,
     }
 }
 
@@ -110,34 +110,37 @@ fn with_stated(read: Result<Input, Status>, stated: Stated) -> Result<Model, Sta
     }
 }
 
-/// The model of the `.stl` file with this base, which may be a binary one.
-fn read_stl<F: Folder>(
+/// The model of the surface with this base and extension.
+fn read_surface<F: Folder>(
     alloc: Global,
     limits: Limits,
     base: &Name,
+    form: Extension,
     folder: &mut F,
 ) -> Result<Model, Status>
     requires { AreIndexable limits }
-    ensures answer { AndThen (StlInputAnswer limits (folder_seen F.state folder.old folder.new)
-        base.now) MovedAnswer (input_in result) }
-    ensures stated { IfOk result (λ model. IsStatedInStl
-        (folder_seen F.state folder.old folder.new) base.now model.stated) }
+    ensures answer { AndThen (SurfaceInputAnswer limits
+        (folder_seen F.state folder.old folder.new) base.now form) MovedAnswer
+        (input_in result) }
+    ensures stated { IfOk result (λ model. IsStatedInSurface
+        (folder_seen F.state folder.old folder.new) base.now form model.stated) }
     ensures sound { IfOk result (λ model. IsSound model.input) }
     ensures origin { IfOk result (λ model. model.origin ≡ origin_in model.input) }
     ensures near { IfOk result (λ model. IfSome model.origin (IsNear (most_tried model.input))) }
     ensures only_read { IsOnlyRead (folder_seen F.state folder.old folder.new) }
 {
-    let name = file_name(alloc, base, Extension::Stl)?;
+    let name = file_name(alloc, base, form)?;
     let file = fetch(alloc, limits, name, folder)?;
-    let stated = stated_of(&file.bytes);
-    let surface = surface_of(alloc, file)?;
+    let stated = stated_of(form, &file.bytes);
+    let surface = surface_of(alloc, form, file)?;
     let read = with_points(alloc, limits, base, surface, folder);
     with_stated(read, stated)
 }
 
-/// The model that the options name: as `read_input` reads it, but that an `.stl` file may be a
-/// binary one, which is known by its length; with its hole points and region points measured from
-/// its origin. Each file is fetched once. It refuses as `read_input` does, and stores nothing.
+/// The model that the options name: as `read_input` reads it, but that an `.off` or `.stl` file is
+/// read in the wide grammar (`read_wide_off`, `read_wide_stl`), and an `.stl` file may be a binary
+/// one, which is known by its length; with its hole points and region points measured from its
+/// origin. Each file is fetched once. It refuses as `read_input` does, and stores nothing.
 pub(crate) fn read_model<F: Folder>(
     alloc: Global,
     limits: Limits,
@@ -155,38 +158,58 @@ pub(crate) fn read_model<F: Folder>(
     ensures near { IfOk result (λ model. IfSome model.origin (IsNear (most_tried model.input))) }
     ensures only_read { IsOnlyRead (folder_seen F.state folder.old folder.new) }
 {
-    if names_stl(options) {
-        return read_stl(alloc, limits, &options.base, folder);
+    match named_surface(options) {
+        Some(form) => read_surface(alloc, limits, &options.base, form, folder),
+        None => {
+            let read = read_input(alloc, limits, options, folder);
+            with_stated(read, Stated::Lines)
+        }
     }
-    let read = read_input(alloc, limits, options, folder);
-    with_stated(read, Stated::Lines)
 }
 
-fn is_stl(extension: Option<Extension>) -> bool
-    ensures { result ≡ is_stl extension }
+/// The extension, if it is that of a surface.
+fn surface_form(extension: Option<Extension>) -> Option<Extension>
+    ensures { result ≡ surface_form extension }
 {
-    matches!(extension, Some(Extension::Stl))
+    match extension {
+        Some(Extension::Off) => Some(Extension::Off),
+        Some(Extension::Stl) => Some(Extension::Stl),
+        _ => None,
+    }
 }
 
-/// Whether the options name an `.stl` file.
-fn names_stl(options: &Options) -> bool
-    ensures { result ≡ names_stl options.now }
+/// The extension of the surface that the options name, unless they name none.
+fn named_surface(options: &Options) -> Option<Extension>
+    ensures { result ≡ named_surface options.now }
 {
-    options.piecewise && is_stl(options.extension)
+    if options.piecewise {
+        return surface_form(options.extension);
+    }
+    None
 }
 
-/// The complex that an `.stl` file spells; a binary file is known by its length.
-fn surface_of(alloc: Global, file: Fetched) -> Result<ComplexFile, Status>
+/// The complex that the bytes of a surface spell; a binary `.stl` file is known by its length.
+fn read_bytes(alloc: Global, form: Extension, bytes: &Bytes) -> Result<PlcText, PlcFault>
+    requires { length bytes.now < 2 ^ 32 - 1 }
+    ensures value { PlcGives (λ text. text) result (surface_text_of form bytes.now) }
+    ensures few { IfOk result HasFewParts }
+{
+    match form {
+        Extension::Stl if is_binary_stl(bytes) => read_binary_stl(alloc, bytes),
+        Extension::Stl => read_wide_stl(alloc, bytes),
+        _ => read_wide_off(alloc, bytes),
+    }
+}
+
+/// The complex that the file of a surface spells; it refuses with `BadText`, or when out of memory.
+fn surface_of(alloc: Global, form: Extension, file: Fetched) -> Result<ComplexFile, Status>
     requires { length file.bytes < 2 ^ 32 - 1 }
-    ensures answer { AndThen (TextAnswer file.name (stl_text_of file.bytes))
+    ensures answer { AndThen (TextAnswer file.name (surface_text_of form file.bytes))
         (λ text. Gives (complex_file file.name text)) result }
     ensures few { IfOk result (λ made. HasFewParts made.text) }
 {
-    if !is_binary_stl(&file.bytes) {
-        return complex_of(alloc, Extension::Stl, file);
-    }
     let Fetched { name, bytes } = file;
-    let read = read_binary_stl(alloc, &bytes);
+    let read = read_bytes(alloc, form, &bytes);
     bytes.let_go();
     match read {
         Ok(text) => Ok(ComplexFile { name, text }),

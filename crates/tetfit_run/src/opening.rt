@@ -1,24 +1,32 @@
-//! The line on facets that enclose no solid: an edge that only one facet has.
+//! The line on facets that enclose no solid: a side that no other facet covers, or that hole points
+//! carve all of the mesh.
 
-ghost use Rattle.std.specs.Prelude.{◌≡◌, ◌==◌, ◌≤◌, ◌<◌, ◌^◌, length, not, IfOk};
+ghost use Rattle.std.specs.Prelude.{◌≡◌, ◌<◌, ◌^◌, length, IfOk};
 ghost use Rattle.command_words.specs.Meaning.{AreInRange};
 ghost use Rattle.node_files.specs.Limits.{AreIndexable};
+ghost use Rattle.run_steps.specs.Meshing.{IsMeshableBound};
 ghost use Rattle.run_steps.specs.Numbering.{numbering_of};
 ghost use Rattle.run_steps.specs.Reading.{IsSound};
-ghost use Rattle.tetfit_run.specs.Opening.{carved_line, nothing_line, open_line, TellsOpening, TellsOpeningIn, TellsOpenSide};
+ghost use Rattle.geo_laws.specs.Complex.{HasCornersOf};
+ghost use Rattle.tetfit_run.specs.Opening.{carved_line, either_line, has_holes, nothing_line, open_line};
+ghost use Rattle.tetfit_run.specs.Opening.{side_line, surface_line, tells_none};
+ghost use Rattle.tetfit_run.specs.Opening.{TellsCarved, TellsCarvedBy, TellsOpening, TellsOpeningBy};
 ghost use Rattle.tetfit_run.specs.Trying.{at_decimals};
 
 use crate::copies::{at_decimals, tried_nodes};
+use crate::holes::without_hole_points;
 use crate::places::append_name;
-use crate::sides::open_side;
+use crate::sides::{FacetSide, first_open};
 use crate::trial::Trial;
 use command_words::Options;
 use geo_laws::Piece;
 use mesh_check::append_number;
 use node_files::Limits;
-use run_steps::{Bound, Input, Numbering, numbering_of};
+use run_steps::{Bound, Input, Numbering, Outputs, Report, Status, mesh_outputs, numbering_of};
 use std::alloc::Global;
 use tet_ports::{Bytes, NoMemory};
+
+// ---- an open side
 
 fn nothing_line(alloc: Global) -> Result<Bytes, NoMemory>
     ensures { IfOk result (λ line. line ≡ nothing_line) }
@@ -26,7 +34,7 @@ fn nothing_line(alloc: Global) -> Result<Bytes, NoMemory>
     Bytes::from_slice(alloc, b"tetfit: the facets enclose nothing\n")
 }
 
-/// The line that names a facet and its side that no other facet has.
+/// The line that names a facet and its side that no other facet covers.
 fn open_line(alloc: Global, by: &Numbering, side: Piece, facet: u32) -> Result<Bytes, NoMemory>
     ensures { IfOk result (λ line. line ≡ open_line by.now side facet) }
 {
@@ -39,58 +47,117 @@ fn open_line(alloc: Global, by: &Numbering, side: Piece, facet: u32) -> Result<B
     Ok(text)
 }
 
-/// The line on a facet's side that no other facet of the complex has.
-fn side_line(alloc: Global, bound: &Bound, side: Piece, facet: u32) -> Result<Bytes, NoMemory>
-    requires { length bound.now.table.listed < 2 ^ 32 }
-    ensures { IfOk result
-        (λ line. line ≡ open_line (numbering_of bound.now.table) side facet) }
+/// The line on an open side, or that there is none.
+fn side_line(alloc: Global, by: &Numbering, found: Option<FacetSide>) -> Result<Bytes, NoMemory>
+    ensures { IfOk result (λ line. line ≡ side_line by.now found) }
 {
+    match found {
+        Some(s) => open_line(alloc, by, s.side, s.facet),
+        None => nothing_line(alloc),
+    }
+}
+
+/// The line on the first open side of a complex on its grid; where there is none, that the facets
+/// enclose nothing.
+fn surface_line(alloc: Global, bound: &Bound) -> Result<Bytes, NoMemory>
+    requires listed { length bound.now.table.listed < 2 ^ 32 }
+    requires corners { HasCornersOf bound.now.table.points bound.now.complex }
+    ensures { IfOk result (λ line. line ≡ surface_line bound.now) }
+{
+    let found = first_open(alloc, &bound.table.points, &bound.complex)?;
     let by = numbering_of(alloc, &bound.table)?;
-    open_line(alloc, &by, side, facet)
+    side_line(alloc, &by, found)
+}
+
+// ---- hole points
+
+/// Whether the summary reports 0 tetrahedra.
+pub(crate) fn tells_none(report: &Option<Report>) -> bool
+    ensures { result ≡ tells_none report.now }
+{
+    match report {
+        Some(Report::Mesh { summary, notes: _ }) => summary.tetrahedra == 0,
+        _ => false,
+    }
 }
 
 fn carved_line(alloc: Global) -> Result<Bytes, NoMemory>
     ensures { IfOk result (λ line. line ≡ carved_line) }
+{
+    Bytes::from_slice(alloc, b"tetfit: hole points carve all of it\n")
+}
+
+fn either_line(alloc: Global) -> Result<Bytes, NoMemory>
+    ensures { IfOk result (λ line. line ≡ either_line) }
 {
     let line = b"tetfit: the facets enclose nothing, or hole points carve all of it\n";
     Bytes::from_slice(alloc, line)
 }
 
 fn has_holes(bound: &Bound) -> bool
-    ensures { result ≡ not (length bound.now.complex.holes == 0) }
+    ensures { result ≡ has_holes bound.now }
 {
     !bound.complex.hole_points().is_empty()
 }
 
-/// The line on the open side of a complex on its grid; where none is found, it says only that the
-/// facets enclose nothing.
-fn open_side_line(alloc: Global, bound: &Bound) -> Result<Bytes, NoMemory>
-    requires { length bound.now.table.listed < 2 ^ 32 }
-    ensures { IfOk result (TellsOpenSide bound.now) }
+/// The line by the answer for an input without its hole points: `surface` where it has no mesh with
+/// a tetrahedron either.
+fn told_of(
+    alloc: Global,
+    answer: Result<Outputs, Status>,
+    surface: Bytes,
+) -> Result<Bytes, NoMemory>
+    ensures { IfOk result (TellsCarved surface answer) }
 {
-    let found = open_side(alloc, &bound.complex)?;
-    match found {
-        Some((side, facet)) => side_line(alloc, bound, side, facet),
-        None => nothing_line(alloc),
+    match answer {
+        Ok(outputs) => {
+            if tells_none(&outputs.report) {
+                Ok(surface)
+            } else {
+                carved_line(alloc)
+            }
+        }
+        Err(Status::NoMemory) => Err(NoMemory),
+        Err(_) => either_line(alloc),
     }
 }
 
-/// The line on a complex on its grid, by whether it has hole points.
-fn opening_in(alloc: Global, bound: &Bound) -> Result<Bytes, NoMemory>
-    requires { length bound.now.table.listed < 2 ^ 32 }
-    ensures { IfOk result (TellsOpeningIn bound.now) }
+/// The line on a complex with hole points whose mesh has no tetrahedron: it is meshed again without
+/// them, which tells whether they carve it or nothing is enclosed.
+fn carved_or(
+    alloc: Global,
+    options: &Options,
+    bound: Bound,
+    surface: Bytes,
+) -> Result<Bytes, NoMemory>
+    requires meshable { IsMeshableBound options.now bound }
+    requires surface { surface ≡ surface_line bound }
+    ensures { IfOk result (TellsCarvedBy options.now bound) }
 {
-    if has_holes(bound) {
-        carved_line(alloc)
+    let left = without_hole_points(alloc, bound)?;
+    let answer = mesh_outputs(alloc, options, left);
+    told_of(alloc, answer, surface)
+}
+
+/// The line on points and a complex on their grid, by whether there are hole points.
+fn opening_in(alloc: Global, options: &Options, bound: Bound) -> Result<Bytes, NoMemory>
+    requires { IsMeshableBound options.now bound }
+    ensures { IfOk result (TellsOpeningBy (has_holes bound) options.now bound) }
+{
+    let surface = surface_line(alloc, &bound)?;
+    if has_holes(&bound) {
+        carved_or(alloc, options, bound, surface)
     } else {
-        open_side_line(alloc, bound)
+        Ok(surface)
     }
 }
 
-/// The line on an input whose mesh has no tetrahedron, rounded to `decimals` decimals. With hole
-/// points it says that nothing is enclosed or all of it is carved; without them it names a side that
-/// only one facet has, or, where none is found, says only that the facets enclose nothing. Out of
-/// memory also where the input can't be put on its grid again.
+/// The line on an input whose mesh has no tetrahedron, rounded to `decimals` decimals. Without hole
+/// points it names the first side, in the order of facets, polygons and corners, with which no side
+/// of another facet has more than one point in common; or, where there is none, it says that the
+/// facets enclose nothing. With hole points the input is meshed once more without them: where that
+/// mesh has a tetrahedron they carve all of it, else the line is as without them. Out of memory
+/// also where the input can't be put on its grid again.
 pub fn opening_of(
     alloc: Global,
     limits: Limits,
@@ -107,7 +174,7 @@ pub fn opening_of(
     let nodes = tried_nodes(alloc, &options, &input.nodes)?;
     let tried = Trial::new(limits, &options, input);
     match tried.bind(alloc, nodes) {
-        Ok(bound) => opening_in(alloc, &bound),
+        Ok(bound) => opening_in(alloc, &options, bound),
         Err(_) => Err(NoMemory),
     }
 }

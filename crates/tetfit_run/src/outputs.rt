@@ -14,7 +14,7 @@ ghost use Rattle.tet_ports.specs.Seen.{IsOnlyRead, folder_seen};
 ghost use Rattle.tetgen_run.specs.Ends.{StopsSo};
 ghost use Rattle.tetfit_run.specs.Outputs.{FitWordsAnswer, IsFinalBy, IsFittedTo, MadeBy};
 ghost use Rattle.tetfit_run.specs.Outputs.{IsMore, OutputsOfFit, OutputsOfWanted, Says, fit_limits};
-ghost use Rattle.tetfit_run.specs.Outputs.{fitted_told, outputs_at, said, tells_none, wanted_from};
+ghost use Rattle.tetfit_run.specs.Outputs.{fitted_told, outputs_at, said, wanted_from};
 ghost use Rattle.tetfit_run.specs.Run.{IsKnown, IsKnownOf, IsUnfitted};
 
 use crate::copies::with_origin;
@@ -23,7 +23,7 @@ use crate::grids::refined_decimals;
 use crate::hints::hint_of;
 use crate::limits::fit_limits;
 use crate::model::{Model, read_model};
-use crate::opening::opening_of;
+use crate::opening::{opening_of, tells_none};
 use crate::page::{PAGE, VERSION};
 use crate::refined::refined_at;
 use crate::request::{Request, other_words, request_of};
@@ -50,19 +50,11 @@ fn said(alloc: Global, text: &[u8]) -> Result<Outputs, NoMemory>
         face: None,
         edge: None,
         neigh: None,
+        vtk: None,
+        msh: None,
     };
     let report = Some(Report::Text(Bytes::from_slice(alloc, text)?));
     Ok(Outputs { texts, report })
-}
-
-/// Whether the summary reports 0 tetrahedra.
-fn tells_none(report: &Option<Report>) -> bool
-    ensures { result ≡ tells_none report.now }
-{
-    match report {
-        Some(Report::Mesh { summary, notes: _ }) => summary.tetrahedra == 0,
-        _ => false,
-    }
 }
 
 /// The report of a mesh with the number of decimals in its summary, and with lines behind it.
@@ -103,7 +95,8 @@ fn outputs_at(fitted: Fitted, more: Bytes) -> Outputs
     }
 }
 
-/// The line on facets that enclose nothing, where the mesh has no tetrahedron.
+/// The line on facets that enclose nothing or whose mesh is carved whole, where the mesh has no
+/// tetrahedron.
 fn more_of(
     alloc: Global,
     options: &Options,
@@ -180,8 +173,8 @@ fn final_outputs(
     }
 }
 
-/// The outputs of a fitted mesh, or of the refined one, with the line on facets that enclose
-/// nothing where it has no tetrahedron.
+/// The outputs of a fitted mesh, or of the refined one, with the line that says why where it has no
+/// tetrahedron.
 fn told_outputs(
     alloc: Global,
     wanted: &Wanted,

@@ -7,7 +7,8 @@ tetfit [switches] name\n\
 Fills a model with tetrahedra: the points of a .node file, or the solid that\n\
 the facets of a .poly, .smesh, .off or .stl file bound, also a binary .stl.\n\
 Coordinates keep at most 20 decimals, and fewer where the grid, which has\n\
-2^29 units to each side of the middle, is too small or too coarse for them.\n\
+2^29 units to each side of the middle, is too small or too coarse for them; a\n\
+refusal that this rounding may have made says so.\n\
 The mesh is written beside the model, as name.1.node, name.1.ele and\n\
 name.1.face.\n\
 \n\
@@ -25,6 +26,7 @@ name.1.face.\n\
 \x20 n     write name.1.neigh, the neighbors of each tetrahedron\n\
 \x20 f     write all faces, and not those of the surface alone\n\
 \x20 e     write name.1.edge\n\
+\x20 k     write name.1.vtk, the whole mesh for viewers; a word of its own\n\
 \x20 N     no .node file\n\
 \x20 E     no .ele file\n\
 \x20 F     no .face file and no .edge file\n\
@@ -33,6 +35,7 @@ name.1.face.\n\
 \x20 V     say each stage on standard error; a word of its own\n\
 \x20 h     this page; a word of its own, as --help\n\
 \x20 --halvings=<n>  halve the grid at most n times, from 0 to 18\n\
+\x20 --msh           write name.1.msh, the whole mesh for Gmsh and solvers\n\
 \x20 --version       the version\n\
 \n\
 Examples:\n\

@@ -39,13 +39,13 @@ pub enum Reason {
     Crossings,
     /// The letter v: the Voronoi diagram.
     Voronoi,
-    /// The letters g and k: files for other programs.
-    OtherFiles,
+    /// The letter g: files of Medit.
+    MeditFiles,
     /// The letter w, which only the program for exact texts has.
     Weights,
     /// The letters r and C, which only the program for exact texts has.
     Check,
-    /// The letters V, h and Y, which stand alone behind their hyphen.
+    /// The letters V, h, Y and k, which stand alone behind their hyphen.
     OwnWord,
     /// The long word for decimals, which only the program for exact texts has.
     Decimals,
@@ -89,7 +89,7 @@ impl Reason {
             Reason::Exactness => b"signs are always exact",
             Reason::Crossings => b"crossing parts are told without a switch",
             Reason::Voronoi => b"Voronoi cells are not written",
-            Reason::OtherFiles => b"files of other programs are not written",
+            Reason::MeditFiles => b"Medit files are not written, but -k and --msh write others",
             Reason::Weights => b"points with weights are meshed by tetgen -w",
             Reason::Check => b"a mesh is checked by tetgen -rC",
             Reason::OwnWord => b"this letter is a word of its own, with its hyphen",
@@ -123,13 +123,13 @@ fn reason_of(byte: u8) -> Reason
         b'X' => Reason::Exactness,
         b'd' => Reason::Crossings,
         b'v' => Reason::Voronoi,
-        b'g' => Reason::OtherFiles,
-        b'k' => Reason::OtherFiles,
+        b'g' => Reason::MeditFiles,
         b'w' => Reason::Weights,
         b'r' => Reason::Check,
         b'C' => Reason::Check,
         b'V' => Reason::OwnWord,
         b'Y' => Reason::OwnWord,
+        b'k' => Reason::OwnWord,
         b'h' => Reason::OwnWord,
         _ => Reason::Letter,
     }

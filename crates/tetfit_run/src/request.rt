@@ -4,10 +4,10 @@ ghost use Rattle.std.specs.Prelude.{◌≡◌, ◌+◌, ◌++◌, ◌<◌, ℕ, 
 ghost use Rattle.std.specs.Str.{bytes_eq};
 ghost use Rattle.command_words.specs.Meaning.{AreInRange};
 ghost use Rattle.command_words.specs.declared.fault.WordsFault.TheVariants.{Usage};
-ghost use Rattle.tetfit_run.specs.Words.{request_of, asks_page, asks_stages, asks_version, elsewhere_in, first_elsewhere, has_word, asks_elsewhere, is_bounding, is_letter_elsewhere, is_of_goal, is_plain, is_ratio, is_volume, keeps_boundary, named_fault, others, plain_fault, plain_options, plain_words, told_fault, IsPlainRequest};
+ghost use Rattle.tetfit_run.specs.Words.{request_of, asks_page, asks_stages, asks_version, elsewhere_in, first_elsewhere, formats_of, has_word, asks_elsewhere, is_bounding, is_format, is_letter_elsewhere, is_of_goal, is_own, is_plain, is_ratio, is_volume, keeps_boundary, named_fault, others, plain_fault, plain_options, plain_words, told_fault, IsPlainRequest};
 
-use crate::kinds::{BOUNDARY, DECIMALS, RATIO, SAMPLE, VOLUME, is_cluster};
-use command_words::{Options, WordsFault, read_words_within};
+use crate::kinds::{BOUNDARY, DECIMALS, MSH, RATIO, SAMPLE, VOLUME, VTK, is_cluster};
+use command_words::{Formats, Options, WordsFault, read_words_within};
 use std::alloc::Global;
 use tet_ports::{Name, NoMemory, Words};
 
@@ -102,11 +102,36 @@ fn is_of_goal(word: &[u8]) -> bool
     is_bounding(word) || keeps_boundary(word)
 }
 
+/// Whether the word asks for a file of the whole mesh in another format.
+fn is_format(word: &[u8]) -> bool
+    ensures { result ≡ is_format word.now }
+{
+    is_word(word, VTK) || is_word(word, MSH)
+}
+
+/// Whether the word is of this program alone, and not about the stages.
+fn is_own(word: &[u8]) -> bool
+    ensures { result ≡ is_own word.now }
+{
+    is_of_goal(word) || is_format(word)
+}
+
+/// The files of the whole mesh that the words ask for: `-k` for the `.vtk` file, and `--msh` for
+/// the `.msh` file.
+pub(crate) fn formats_of(words: &Words) -> Formats
+    ensures { result ≡ formats_of words.now }
+{
+    Formats {
+        vtk: has_word(words, VTK),
+        msh: has_word(words, MSH),
+    }
+}
+
 /// Whether the word is of the grammar of the program that meshes exact texts.
 fn is_plain(word: &[u8]) -> bool
     ensures { result ≡ is_plain word.now }
 {
-    !is_of_goal(word) && !is_word(word, b"-V")
+    !is_own(word) && !is_word(word, b"-V")
 }
 
 /// The words of the grammar of the program that meshes exact texts.
@@ -122,25 +147,24 @@ pub(crate) fn plain_words(alloc: Global, words: &Words) -> Result<Words, NoMemor
     Ok(kept)
 }
 
-/// Appends the words that say what tetrahedra are to be like.
-fn append_goal(alloc: Global, words: &Words, kept: &mut Words) -> Result<(), NoMemory>
-    ensures { OnOk result (kept.new ≡ kept.old ++ filter is_of_goal words.now) }
+/// Appends the words of this program alone.
+fn append_own(alloc: Global, words: &Words, kept: &mut Words) -> Result<(), NoMemory>
+    ensures { OnOk result (kept.new ≡ kept.old ++ filter is_own words.now) }
 {
     for word in words.as_slice() {
-        if is_of_goal(word.as_slice()) {
+        if is_own(word.as_slice()) {
             kept.push(Name::from_slice(alloc, word.as_slice())?)?;
         }
     }
     Ok(())
 }
 
-/// The words but for `-V`: plain words, and behind them those that say what tetrahedra are to be
-/// like.
+/// The words but for `-V`: plain words, and behind them those of this program alone.
 pub fn other_words(alloc: Global, words: &Words) -> Result<Words, NoMemory>
     ensures { IfOk result (λ kept. kept ≡ others words.now) }
 {
     let mut kept = plain_words(alloc, words)?;
-    append_goal(alloc, words, &mut kept)?;
+    append_own(alloc, words, &mut kept)?;
     Ok(kept)
 }
 

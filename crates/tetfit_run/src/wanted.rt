@@ -7,7 +7,7 @@ ghost use Rattle.tetfit_run.specs.Words.{IsPlainRequest, IsRefinable, among_all}
 ghost use Rattle.tetfit_run.specs.Words.{fit_fault, fit_wanted, plain_words};
 
 use crate::goal::{bad_bound, fit_goal, goal_fault};
-use crate::request::{plain_words, read_options};
+use crate::request::{formats_of, plain_words, read_options};
 use command_words::{Options, WordsFault};
 use refining::Goal;
 use std::alloc::Global;
@@ -61,10 +61,11 @@ pub fn read_wanted(alloc: Global, words: &Words) -> Result<Wanted, WordsFault>
         });
     }
     let plain = plain_words(alloc, words)?;
-    let options = match read_options(alloc, &plain) {
+    let mut options = match read_options(alloc, &plain) {
         Ok(options) => options,
         Err(fault) => return Err(among_all(words, plain.len(), fault)),
     };
+    options.formats = formats_of(words);
     let goal = fit_goal(words);
     if let Some((word, place)) = goal_fault(words, &goal, options.piecewise) {
         return Err(WordsFault::Usage { word, place });

@@ -1,4 +1,4 @@
-use Rattle.std.proofs.Common.{Err, subst, arith}
+use Rattle.std.proofs.Common.{subst, arith}
 use Rattle.tetfit_run.specs.Grids.{AreOffBetween}
 use Rattle.tetfit_run.specs.Measured.{most_tried}
 use Rattle.tetfit_run.proofs.Measured.{of_near}

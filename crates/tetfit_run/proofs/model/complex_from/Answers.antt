@@ -1,4 +1,4 @@
-use Rattle.std.proofs.Common.{◌≡◌, Option, Some, sym, subst, arith}
+use Rattle.std.proofs.Common.{Option, subst, arith}
 use Rattle.std.specs.Prelude.{IfSome}
 use Rattle.grid_coords.specs.Origins.{IsNear}
 use Rattle.grid_coords.specs.declared.origin.WholePoint.{WholePoint}

@@ -1,4 +1,4 @@
-use Rattle.tetfit_run.specs.Outputs.{tells_none}
+use Rattle.tetfit_run.specs.Opening.{tells_none}
 use Rattle.tetfit_run.proofs.Fitted.{more_told}
 use Rattle.tetfit_run.proofs.outputs.more_of.Goals as goal
 

@@ -9,7 +9,7 @@ use Rattle.tetfit_run.specs.Outputs.{OutputsOfFit}
 use Rattle.tetfit_run.specs.Run.{IsAskedBy, IsKnown, IsFitNumbering}
 use Rattle.tetfit_run.specs.Stages.{AreStagesPut}
 use Rattle.tetfit_run.proofs.Complete.{answer_complete}
-use Rattle.tetfit_run.proofs.Fitted.{ends_numbered, fit_asked, fit_refuses, numbers_points, told_off}
+use Rattle.tetfit_run.proofs.Fitted.{ends_numbered, fit_asked, fit_refuses, numbers_points, told_unnamed}
 use Rattle.tetfit_run.proofs.Pieces.{stages_told}
 use Rattle.tetfit_run.proofs.run.run_fit.Goals as goal
 
@@ -118,6 +118,6 @@ returns-clause-told g c =
       E.state mid,
       stages_told message words stop first err c.tell.result tells stages,
       hint,
-      told_off made message (others words) folder hint out err stop c.tell.result ended tells,
+      told_unnamed made message (others words) folder hint out err stop c.tell.result ended tells,
       stop_tells message made (IsFitNumbering (others words) folder hint) (fit_refuses words folder) (numbers_points (others words) folder hint) folder out err stop c.tell.result (ends_numbered made (others words) folder hint out stop ended) tells,
     )

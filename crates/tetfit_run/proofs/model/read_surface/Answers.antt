@@ -1,0 +1,38 @@
+use Rattle.std.proofs.Common.{Ok}
+use Rattle.run_steps.specs.Reading.{NodesAnswer, BoundedAnswer}
+use Rattle.tet_ports.specs.Seen.{FolderSeen, folder_seen}
+use Rattle.run_steps.specs.Steps.{AndThen}
+use Rattle.run_steps.proofs.Steps.{and_then_ok}
+use Rattle.tet_ports.proofs.Windows.{IsWithin, first_within, last_within}
+use Rattle.run_steps.proofs.Wider.{bounded_wider}
+use Rattle.tetfit_run.specs.Models.{input_in, SurfaceAnswer, SurfaceInputAnswer}
+use Rattle.tetfit_run.proofs.Models.{moved_on, stated_told, surface_fetched, surface_wider}
+use Rattle.tetfit_run.proofs.model.read_surface.Goals as goal
+
+pub returns-clause-answer : goal.returns-clause-answer
+returns-clause-answer g c =
+    let F = g.F.Folder in
+    let l = c.args.limits in
+    let base = c.args.base.now in
+    let form = c.args.form in
+    let file = c.in_ok-file.file in
+    let surface = c.in_ok-surface.surface in
+    let first : FolderSeen = folder_seen F.state c.args.folder.now c.fetch.new.folder in
+    let second : FolderSeen = folder_seen F.state c.fetch.new.folder c.with_points-read.new.folder in
+    let wide : FolderSeen = folder_seen F.state c.args.folder.now c.with_points-read.new.folder in
+    let a = c.in_ok-file.ensures in
+    let b = c.with_points-read.ensures in
+    let one : IsWithin first wide = first_within F.state c.args.folder.now c.fetch.new.folder c.with_points-read.new.folder b.only_read in
+    let two : IsWithin second wide = last_within F.state c.args.folder.now c.fetch.new.folder c.with_points-read.new.folder a.only_read in
+    let read = surface_fetched l first base form c.in_ok-name.name file.name file.bytes (Ok surface) c.in_ok-name.ensures a.named a.read c.in_ok-surface.ensures.answer in
+    moved_on (SurfaceInputAnswer l wide base form) c.with_points-read.result (input_in c.with_stated.result)
+    (and_then_ok (SurfaceAnswer l wide base form) (λ f. AndThen (NodesAnswer l wide base f.text.nodes) (BoundedAnswer f)) surface c.with_points-read.result
+    (surface_wider l first wide one base form (Ok surface) read) (bounded_wider l second wide two base surface c.with_points-read.result b.answer)) c.with_stated.ensures.input
+
+pub returns-clause-stated : goal.returns-clause-stated
+returns-clause-stated g c =
+    let F = g.F.Folder in
+    let file = c.in_ok-file.file in
+    let wide : FolderSeen = folder_seen F.state c.args.folder.now c.with_points-read.new.folder in
+    let a = c.in_ok-file.ensures in
+    stated_told c.args.limits wide c.args.base.now c.args.form c.in_ok-name.name file.name file.bytes c.stated_of-stated.result c.with_stated.result c.in_ok-name.ensures a.named a.read c.stated_of-stated.ensures c.with_stated.ensures.stated

@@ -1,8 +1,0 @@
-use Rattle.std.proofs.Common.{◌≡◌, ◌++◌, drop}
-use Rattle.std.specs.Prelude.{filter}
-use Rattle.tetfit_run.specs.Words.{is_of_goal}
-use Rattle.tetfit_run.proofs.request.append_goal.Given as goal
-
--- those kept, and those of the words that are left
-abbrev pub invariant-loop-word : goal.invariant-loop-word
-invariant-loop-word l = l.kept ++ filter is_of_goal (drop l.word-index l.word-items) ≡ l.fn.kept ++ filter is_of_goal l.words
