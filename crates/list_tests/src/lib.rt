@@ -1,4 +1,4 @@
-//! Neighbors of rows, and the texts of small meshes.
+//! Neighbors of rows, the texts of small meshes, and points that are proposed for one.
 #![tactic(auto)]
 
 #[cfg(test)]

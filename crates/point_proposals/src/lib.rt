@@ -37,8 +37,6 @@ mod spot;
 mod stars;
 mod table;
 mod taken;
-#[cfg(test)]
-mod tests;
 mod walk;
 
 pub use proposal::{Aim, propose};

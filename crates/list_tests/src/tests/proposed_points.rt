@@ -1,6 +1,7 @@
 //! Proposals for a cube of six tetrahedra about a diagonal.
-use crate::{Aim, propose};
+
 use geo_laws::{FacetTriangle, FacetTriangles, Points, Tet, TetList};
+use point_proposals::{Aim, propose};
 use sign_predicates::GridPoint;
 use std::alloc::Global;
 use std::test::Fail;
