@@ -5,6 +5,7 @@ mod command_line;
 mod complexes;
 mod fields;
 mod folders;
+mod found_surfaces;
 mod grids;
 mod point_lists;
 mod surfaces;

@@ -46,6 +46,37 @@ const OPEN: &[u8] = b"\
 8 3 0 0\n1 0 0 0\n2 1 0 0\n3 1 1 0\n4 0 1 0\n5 0 0 1\n6 1 0 1\n7 1 1 1\n8 0 1 1\n\
 5 0\n1\n4 1 2 3 4\n1\n4 5 6 7 8\n1\n4 1 2 6 5\n1\n4 2 3 7 6\n1\n4 3 4 8 7\n0\n0\n";
 
+/// A box with no lid, whose wall over the side from 1 to 2 is two facets.
+const COVERED: &[u8] = b"\
+10 3 0 0\n1 0 0 0\n2 2 0 0\n3 2 1 0\n4 0 1 0\n5 0 0 1\n6 2 0 1\n7 2 1 1\n8 0 1 1\n9 1 0 0\n\
+10 1 0 1\n6 0\n1\n4 1 2 3 4\n1\n4 1 9 10 5\n1\n4 9 2 6 10\n1\n4 2 3 7 6\n1\n4 3 4 8 7\n1\n4 4 1 5 8\n0\n0\n";
+
+/// A box whose lid is four facets round a hole, each with a side that another one covers in part.
+const PINWHEEL: &[u8] = b"\
+16 3 0 0\n1 0 0 0\n2 3 0 0\n3 3 3 0\n4 0 3 0\n5 0 0 1\n6 3 0 1\n7 3 3 1\n8 0 3 1\n9 2 0 1\n\
+10 2 1 1\n11 0 1 1\n12 3 2 1\n13 2 2 1\n14 1 3 1\n15 1 2 1\n16 1 1 1\n\
+9 0\n1\n4 1 2 3 4\n1\n4 1 2 6 5\n1\n4 2 3 7 6\n1\n4 3 4 8 7\n1\n4 4 1 5 8\n\
+1\n4 5 9 10 11\n1\n4 9 6 12 13\n1\n4 12 7 14 15\n1\n4 14 8 11 16\n0\n0\n";
+
+/// A box with no lid and with a hole point in it.
+const OPEN_HOLE: &[u8] = b"\
+8 3 0 0\n1 0 0 0\n2 1 0 0\n3 1 1 0\n4 0 1 0\n5 0 0 1\n6 1 0 1\n7 1 1 1\n8 0 1 1\n\
+5 0\n1\n4 1 2 3 4\n1\n4 5 6 7 8\n1\n4 1 2 6 5\n1\n4 2 3 7 6\n1\n4 3 4 8 7\n\
+1\n1 0.5 0.5 0.5\n0\n";
+
+/// A flat facet of nine decimals, of which the grid takes eight.
+const UNEVEN: &[u8] = b"\
+5 3 0 0\n1 0 0 0\n2 4 0 0.000000004\n3 4 4 0.000000008\n4 0 4 0.000000004\n5 0 0 3\n\
+1 0\n1\n4 1 2 3 4\n0\n0\n";
+
+/// The segments of CROSSED, with a point of nine decimals.
+const CROSSED_FINE: &[u8] = b"\
+5 3 0 0\n1 0 0 0\n2 2.5 2.5 0\n3 0 2 0\n4 2 0 0\n5 0 0 3.000000001\n\
+2 0\n1\n2 1 2\n1\n2 3 4\n0\n0\n";
+
+/// Four points that lie in one plane once they are rounded to 20 decimals.
+const FLATTENED: &[u8] = b"4 3 0 0\n1 0 0 0\n2 1e-15 0 0\n3 0 1e-15 0\n4 0 0 1e-21\n";
+
 const FAR_TOLD: &[u8] = b"\
 tetfit: line 3: coordinate off the grid\n\
 tetfit: line 3 has (1234567890.5 0 0)\n\
@@ -82,10 +113,35 @@ const CARVED: &[u8] = b"\
 
 const CARVED_TOLD: &[u8] = b"\
 points 4 added 0 tetrahedra 0 faces 0 edges 0 decimals 0\n\
-tetfit: the facets enclose nothing, or hole points carve all of it\n";
+tetfit: hole points carve all of it\n";
+
+const COVERED_TOLD: &[u8] = b"\
+points 10 added 0 tetrahedra 0 faces 0 edges 0 decimals 0\n\
+tetfit: the surface is open: only facet 2 has the side 5 10\n";
+
+const PINWHEEL_TOLD: &[u8] = b"\
+points 16 added 0 tetrahedra 0 faces 0 edges 0 decimals 0\n\
+tetfit: the facets enclose nothing\n";
+
+const UNEVEN_TOLD: &[u8] = b"\
+tetfit: facet 1 is not flat: points 1 2 3 4\n\
+tetfit: coordinates were rounded to 8 decimals, of 9 that the file has\n\
+tetfit: cut the facet in triangles\n";
+
+const CROSSED_FINE_TOLD: &[u8] = b"\
+tetfit: segments 1 2 and 3 4 cross\n\
+tetfit: points 1 (0 0 0) 2 (2.5 2.5 0)\n\
+tetfit: points 3 (0 2 0) 4 (2 0 0)\n\
+tetfit: coordinates were rounded to 8 decimals, of 9 that the file has\n\
+tetfit: give both segments the point at which they cross\n";
+
+const FLATTENED_TOLD: &[u8] = b"\
+tetfit: all points lie in one plane\n\
+tetfit: coordinates were rounded to 20 decimals, of 21 that the file has\n\
+tetfit: four points that are not in one plane are wanted\n";
 
 /// The message on a model beside the status.
-static TOLD: [Run<'static>; 6] = [
+static TOLD: [Run<'static>; 12] = [
     Run {
         name: "off each grid",
         held: &[(b"t.node", &[FAR])],
@@ -126,6 +182,48 @@ static TOLD: [Run<'static>; 6] = [
         held: &[(b"c.poly", &[CARVED])],
         words: &[b"-NEF", b"c.poly"],
         end: Told(CARVED_TOLD),
+        files: &[],
+    },
+    Run {
+        name: "a box with no lid and with a hole point in it",
+        held: &[(b"h.poly", &[OPEN_HOLE])],
+        words: &[b"-NEF", b"h.poly"],
+        end: Told(OPEN_TOLD),
+        files: &[],
+    },
+    Run {
+        name: "a side that two facets cover in parts",
+        held: &[(b"v.poly", &[COVERED])],
+        words: &[b"-NEF", b"v.poly"],
+        end: Told(COVERED_TOLD),
+        files: &[],
+    },
+    Run {
+        name: "an open surface all of whose sides are covered, some in part",
+        held: &[(b"w.poly", &[PINWHEEL])],
+        words: &[b"-NEF", b"w.poly"],
+        end: Told(PINWHEEL_TOLD),
+        files: &[],
+    },
+    Run {
+        name: "a facet that is not flat once it is rounded",
+        held: &[(b"u.poly", &[UNEVEN])],
+        words: &[b"u.poly"],
+        end: Refused(6, UNEVEN_TOLD),
+        files: &[],
+    },
+    Run {
+        name: "segments that cross where coordinates are rounded",
+        held: &[(b"x.poly", &[CROSSED_FINE])],
+        words: &[b"x.poly"],
+        end: Refused(6, CROSSED_FINE_TOLD),
+        files: &[],
+    },
+    Run {
+        name: "points that are flat once they are rounded",
+        held: &[(b"f.node", &[FLATTENED])],
+        words: &[b"f.node"],
+        end: Refused(6, FLATTENED_TOLD),
         files: &[],
     },
 ];

@@ -1,0 +1,88 @@
+/* The Delaunay list of a pyramid, in the caller's array and in a block of memory; a run on its text; and refusals of each. */
+#include "tetgen.h"
+#include <stdio.h>
+#include <stdlib.h>
+#include <string.h>
+
+/* Ends the program where a call does otherwise than tetgen.h says. */
+static void check(int holds, const char *what) {
+    if (!holds) {
+        fprintf(stderr, "example: %s\n", what);
+        exit(1);
+    }
+}
+
+static const tetgen_place PYRAMID[5] = {{0, 0, 0}, {2, 0, 0}, {2, 2, 0}, {0, 2, 0}, {1, 1, 2}};
+
+static void in_an_array(void) {
+    tetgen_row rows[4], before[4];
+    size_t count = 7;
+    memset(rows, 0xff, sizeof rows);
+    memcpy(before, rows, sizeof rows);
+    check(tetgen_delaunay_into(PYRAMID, 5, rows, 1, &count) == TETGEN_NO_ROOM && count == 2, "room for one row");
+    check(tetgen_delaunay_into(PYRAMID, 5, NULL, 0, &count) == TETGEN_NO_ROOM && count == 2, "no room");
+    check(tetgen_delaunay_into(PYRAMID, 4, rows, 4, &count) == TETGEN_FLAT && count == 0, "four points in a plane");
+    check(tetgen_delaunay_into(NULL, 0, rows, 4, &count) == TETGEN_FLAT && count == 0, "no point");
+    check(memcmp(rows, before, sizeof rows) == 0, "rows after a refusal");
+    check(tetgen_delaunay_into(PYRAMID, 5, rows, 4, &count) == TETGEN_DONE && count == 2, "the pyramid");
+    check(memcmp(rows + 2, before + 2, 2 * sizeof *rows) == 0, "rows behind the list");
+    for (size_t i = 0; i < count; i++)
+        printf("%u %u %u %u\n", rows[i].a, rows[i].b, rows[i].c, rows[i].d);
+}
+
+static void in_a_block(void) {
+    tetgen_place far[5];
+    tetgen_rows out = {NULL, 0};
+    memcpy(far, PYRAMID, sizeof far);
+    far[4].z = ((int64_t)1 << 29) + 1;
+    check(tetgen_delaunay(far, 5, &out) == TETGEN_LIMIT && out.at == NULL && out.len == 0, "a coordinate that is too large");
+    far[4].z = (int64_t)1 << 29;
+    check(tetgen_delaunay(far, 5, &out) == TETGEN_DONE && out.len == 2, "the largest coordinate");
+    free(out.at);
+}
+
+#define SLICE(text) {text, sizeof(text) - 1}
+
+static const char NODE[] = "5 3 0 0\n0 0 0 0\n1 2 0 0\n2 2 2 0\n3 0 2 0\n4 1 1 2\n";
+
+/* Prints the texts of a run, one behind another. */
+static void show(const char *room, const size_t *lengths, size_t length_count) {
+    for (size_t k = 0; k < length_count; k++) {
+        if (lengths[k] == TETGEN_NO_FILE) {
+            printf("no file\n");
+            continue;
+        }
+        fwrite(room, 1, lengths[k], stdout);
+        room += lengths[k];
+    }
+}
+
+static void over_texts(void) {
+    const tetgen_slice words[2] = {SLICE("-n"), SLICE("p")};
+    const tetgen_text files[1] = {{"p.node", 6, NODE, sizeof NODE - 1}};
+    const tetgen_slice wanted[3] = {SLICE("p.1.ele"), SLICE("p.1.edge"), SLICE("p.1.neigh")};
+    tetgen_task task = {words, 2, files, 1, wanted, 3};
+    size_t lengths[5] = {0}, needed = 0, count = 0;
+    check(tetgen_run(&task, lengths, 5, NULL, 0, &needed) == TETGEN_NO_ROOM && needed > 0, "no room for the texts");
+    char *room = malloc(needed);
+    check(room != NULL, "memory");
+    check(tetgen_run(&task, lengths, 4, room, needed, &count) == TETGEN_NO_ROOM && count == needed, "no room for a length");
+    check(lengths[0] == 0, "lengths after a refusal");
+    check(tetgen_run(&task, lengths, 5, room, needed, &count) == TETGEN_DONE && count == needed, "the run");
+    show(room, lengths, 5);
+    free(room);
+    char message[80];
+    task = (tetgen_task){words, 2, NULL, 0, NULL, 0};
+    check(tetgen_run(&task, lengths, 5, message, sizeof message, &count) == 2, "a folder with no file");
+    show(message, lengths, 2);
+    task = (tetgen_task){NULL, 0, NULL, 0, NULL, 0};
+    check(tetgen_run(&task, lengths, 5, message, sizeof message, &count) == 1, "no word");
+    show(message, lengths, 2);
+}
+
+int main(void) {
+    in_an_array();
+    in_a_block();
+    over_texts();
+    return 0;
+}

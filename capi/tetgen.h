@@ -1,0 +1,104 @@
+/* Tetrahedral meshes, by functions that are proved to keep what stands here. docs/LIBRARY.md says what is promised and where that is proved.
+
+   For every call the caller owes: each address is that of as many items as the length behind it says, aligned for their type, and may be null
+   where that length is 0; what a function writes is not const, overlaps nothing else that the call takes, and is touched by no other thread
+   meanwhile; an address of a single value is not null. No call comes from a signal handler, or from the forked child of a process with threads.
+   malloc, realloc and free are those of one allocator. Any number of threads may call at the same time: no call keeps anything. */
+#ifndef TETGEN_H
+#define TETGEN_H
+
+#include <stddef.h>
+#include <stdint.h>
+
+#ifdef __cplusplus
+extern "C" {
+#endif
+
+enum {
+    TETGEN_DONE = 0,
+    TETGEN_LIMIT = 5,      /* too many points, or a coordinate that is too large */
+    TETGEN_FLAT = 6,       /* all points lie in one plane, as fewer than four do */
+    TETGEN_NO_MEMORY = 10, /* out of memory */
+    TETGEN_NO_ROOM = 20    /* an array of the caller is too short */
+};
+
+/* A point with whole coordinates, each at most 2^29 in size. */
+typedef struct {
+    int64_t x, y, z;
+} tetgen_place;
+
+/* A tetrahedron by the places of its corners in an array of points, from 0. The determinant of b - a, c - a, d - a is above 0: seen from d, the
+   corners a, b, c turn counterclockwise. */
+typedef struct {
+    uint32_t a, b, c, d;
+} tetgen_row;
+
+/* Rows in a block of memory, which the caller frees by free(at) where len is not 0. */
+typedef struct {
+    tetgen_row *at;
+    size_t len;
+} tetgen_rows;
+
+/* Writes the Delaunay list of n points to the front of rows, which has room for so many, and its length to count.
+
+   TETGEN_DONE: the first *count rows are the Delaunay list, ascending: exactly the tetrahedra of the points that have every other point outside
+   of their circumsphere, where ties are broken by the places of the points. Of equal points the first alone is a corner. Rows behind stay.
+   On any other status rows stays as it was:
+   TETGEN_LIMIT: there are more than 4,000,000 points, or a coordinate is over 2^29 in size; *count is 0.
+   TETGEN_FLAT: all points lie in one plane; *count is 0.
+   TETGEN_NO_MEMORY: *count is 0.
+   TETGEN_NO_ROOM: *count is the length of the list, and room is less. 7 n rows are mostly enough. */
+int32_t tetgen_delaunay_into(const tetgen_place *places, size_t n, tetgen_row *rows, size_t room, size_t *count);
+
+/* Makes the Delaunay list of n points in a block of memory.
+
+   TETGEN_DONE: out has a block with the list, of out->len rows. It is the list of tetgen_delaunay_into; what is proved is its length.
+   TETGEN_LIMIT, TETGEN_FLAT, TETGEN_NO_MEMORY: as above; out stays as it was. */
+int32_t tetgen_delaunay(const tetgen_place *places, size_t n, tetgen_rows *out);
+
+/* Bytes: a word, or the name of a file. */
+typedef struct {
+    const char *at;
+    size_t len;
+} tetgen_slice;
+
+/* A file: its name and its bytes. */
+typedef struct {
+    const char *name;
+    size_t name_len;
+    const char *at;
+    size_t len;
+} tetgen_text;
+
+/* What a run is to do: its words, as behind the name of the program; all files of its folder, of equal names the last; and the names of the files
+   whose texts are wanted afterwards. */
+typedef struct {
+    const tetgen_slice *words;
+    size_t word_count;
+    const tetgen_text *files;
+    size_t file_count;
+    const tetgen_slice *wanted;
+    size_t wanted_count;
+} tetgen_task;
+
+/* The length of a wanted file that is not there. */
+#define TETGEN_NO_FILE SIZE_MAX
+
+/* Runs the program tetgen on the words of the task, over a folder in memory that has the files of the task alone. No file of the system is read or
+   written.
+
+   The result is the exit status of the program (docs/MANUAL.md), 0 to 13. The program promises of its words, its folder and its streams what it
+   promises on a disk: the status has its cause, the files are those of the mesh, and after a refusal all is as it was. But for TETGEN_NO_MEMORY,
+   *count bytes at the front of room are what the run leaves, one text behind another: its lines, which go to standard output; its messages, which
+   go to standard error; and each wanted file that its folder has then, in the order of the task. lengths[0] and lengths[1] are the lengths of the
+   lines and of the messages, and lengths[2 + k] that of the wanted file k, or TETGEN_NO_FILE. A line or a message ends with a line feed.
+   TETGEN_NO_MEMORY: nothing is written, and *count is 0.
+   TETGEN_NO_ROOM: lengths has fewer than wanted_count + 2 items, or room has fewer bytes than *count, the number that the texts have; nothing is
+   written. */
+int32_t tetgen_run(const tetgen_task *task, size_t *lengths, size_t length_count, char *room, size_t room_size, size_t *count);
+
+#ifdef __cplusplus
+}
+#endif
+
+#endif

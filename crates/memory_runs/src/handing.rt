@@ -1,0 +1,56 @@
+//! How the texts of a run are handed over.
+
+ghost use Rattle.std.specs.Prelude.{◌≡◌, IfErr, IfOk, OnErr, OnOk, length, take};
+ghost use Rattle.memory_runs.specs.Texts.{IsShort};
+
+use crate::texts::Joined;
+use tet_ports::NoMemory;
+use thiserror::Error;
+
+/// Why the texts of a run are not handed over.
+#[derive(Clone, Copy, Debug, PartialEq, Eq, Error)]
+pub enum RunFault {
+    /// There is too little room for the lengths or for the bytes of the texts; how many bytes they
+    /// have.
+    #[error("no room for {count} bytes")]
+    NoRoom { count: usize },
+    /// Out of memory.
+    #[error("out of memory")]
+    NoMemory,
+}
+
+impl From<NoMemory> for RunFault {
+    ghost use Rattle.std.specs.Prelude.{◌≡◌};
+    ghost use Rattle.memory_runs.specs.declared.handing.RunFault.TheVariants.{NoMemory as OutOfMemory};
+
+    ghost from_gives = { λ _ fault. fault ≡ OutOfMemory };
+
+    fn from(_: NoMemory) -> RunFault {
+        RunFault::NoMemory
+    }
+}
+
+/// Writes the lengths and the bytes to the front of what the caller gave, and answers how many the
+/// bytes are. On a refusal nothing is written.
+pub(crate) fn hand_over(
+    made: &Joined,
+    lengths: &mut [usize],
+    room: &mut [u8],
+) -> Result<usize, RunFault>
+    ensures lengths { OnOk result
+        (take (length made.now.lengths.items) lengths.new ≡ made.now.lengths.items) }
+    ensures bytes { IfOk result (λ count. take count room.new ≡ made.now.bytes) }
+    ensures fault { IfErr result (IsShort made.now.lengths.items made.now.bytes
+        (length lengths.old) (length room.old)) }
+    ensures lengths_kept { OnErr result (lengths.new ≡ lengths.old) }
+    ensures room_kept { OnErr result (room.new ≡ room.old) }
+{
+    let count = made.bytes.len();
+    let length = made.lengths.len();
+    if length > lengths.len() || count > room.len() {
+        return Err(RunFault::NoRoom { count });
+    }
+    lengths[..length].copy_from_slice(made.lengths.as_slice());
+    room[..count].copy_from_slice(made.bytes.as_slice());
+    Ok(count)
+}

@@ -1,0 +1,70 @@
+//! Runs on surfaces as other programs write them, over a folder and streams in memory.
+
+use crate::tests::harness::End::{Refused, Told};
+use crate::tests::harness::Program::Tetfit;
+use crate::tests::harness::{Run, other_run};
+use std::test::Fail;
+
+const COLORED: &[u8] =
+    b"Coff\n4 4 6\n0 0 0 255 0 0\n1 0 0 0 255 0\n# between\n0 1 0 0 0 255\n0 0 1\n3 0 2 1 0.5\n\
+      3 0 1 3\n3 0 3 2\n3 1 2 3\n";
+
+/// Two sides of a tetrahedron.
+const SIDES: &[u8] = b"SOLID sides\nFACET NORMAL 0 0 -1\nOUTER LOOP\nVERTEX 0 0 0\nVERTEX 1 0 0\n\
+      VERTEX 0 1 0\nENDLOOP\nENDFACET\nFACET NORMAL 0 -1 0\nOUTER LOOP\nVERTEX 0 0 0\n\
+      VERTEX 1 0 0\nVERTEX 0 0 1\nENDLOOP\nENDFACET\nENDSOLID sides\n";
+
+/// The other two.
+const OTHERS: &[u8] = b"solid others\nfacet normal -1 0 0\nouter loop\nvertex 0 0 0\n\
+      vertex 0 0 1\nvertex 0 1 0\nendloop\nendfacet\nfacet normal 1 1 1\nouter loop\n\
+      vertex 1 0 0\nvertex 0 1 0\nvertex 0 0 1\nendloop\nendfacet\nendsolid others\n";
+
+const ELE: &[u8] = b"1 4 0\n0 0 1 2 3\n";
+
+const TETRAHEDRON: &[u8] = b"points 4 added 0 tetrahedra 1 faces 4 edges 6 decimals 0\n";
+
+const NONE: &[u8] = b"\
+tetfit: all points lie in one plane\n\
+tetfit: four points that are not in one plane are wanted\n";
+
+static SURFACES: [Run<'static>; 3] = [
+    Run {
+        name: "points with colors",
+        held: &[(b"t.off", &[COLORED])],
+        words: &[b"t.off"],
+        end: Told(TETRAHEDRON),
+        files: &[
+            (b"t.1.ele", Some(ELE)),
+            (
+                b"t.1.face",
+                Some(b"4 1\n0 0 1 2 1\n1 0 1 3 1\n2 0 2 3 1\n3 1 2 3 1\n"),
+            ),
+        ],
+    },
+    Run {
+        name: "two solids",
+        held: &[(b"part.stl", &[SIDES, OTHERS])],
+        words: &[b"part.stl"],
+        end: Told(TETRAHEDRON),
+        files: &[
+            (b"part.1.ele", Some(ELE)),
+            (
+                b"part.1.face",
+                Some(b"4 1\n0 0 1 2 1\n1 0 1 3 1\n2 0 2 3 2\n3 1 2 3 2\n"),
+            ),
+        ],
+    },
+    Run {
+        name: "no facet",
+        held: &[(b"part.stl", &[b"solid\nendsolid\n"])],
+        words: &[b"part.stl"],
+        end: Refused(6, NONE),
+        files: &[(b"part.1.ele", None)],
+    },
+];
+
+#[test]
+fn surfaces_are_meshed_as_they_are_found(rt: HostRuntime) -> Result<(), Fail> {
+    assert_eq!(rt; other_run(rt.alloc(), Tetfit, &SURFACES)?, None);
+    Ok(())
+}

@@ -1,0 +1,34 @@
+-- The statuses with which a call from C ends.
+use Rattle.std.specs.Prelude.{◌≡◌, ℕ, ℤ, pos, List, length}
+use Rattle.memory_runs.specs.Arrays.{AreDelaunayRows, IsArrayFault, IsMeshFault, code_of, wanted_of}
+use Rattle.memory_runs.specs.Runs.{IsHandedOver, RunLaw}
+use Rattle.memory_runs.specs.declared.arrays.ArrayFault.{ArrayFault}
+use Rattle.memory_runs.specs.declared.arrays.Place.{Place}
+use Rattle.memory_runs.specs.declared.arrays.Row.{Row}
+use Rattle.memory_runs.specs.declared.texts.Task.{Task}
+
+-- a fault has this cause, and the status is its own
+pub record IsRefusal (Cause : ArrayFault → Type 0) (status : ℤ) : Type 0 where
+  pub fault : ArrayFault
+  pub cause : Cause fault
+  pub status_is : status ≡ pos (code_of fault)
+
+-- the fault is one of an array with this room, and the count is the length of the list for which that is too little, or 0
+abbrev pub IsRefusedInto : List Place → ℕ → ℕ → ℤ → Type 0
+IsRefusedInto places room count = IsRefusal (λ fault. IsArrayFault places room fault × (count ≡ wanted_of fault))
+
+-- the fault is one of the points
+abbrev pub IsRefused : List Place → ℤ → Type 0
+IsRefused places = IsRefusal (IsMeshFault places)
+
+-- the points have a Delaunay list of this length
+pub record HasLength (places : List Place) (count : ℕ) : Type 0 where
+  pub rows : List Row
+  pub are : AreDelaunayRows places rows
+  pub counted : count ≡ length rows
+
+-- a run of the program on the task ended with this status, and these are the lengths of its texts and the texts
+pub record HasRun (Run : RunLaw) (task : Task) (lengths bytes : List ℕ) (status : ℤ) : Type 0 where
+  pub code : ℕ
+  pub status_is : status ≡ pos code
+  pub handed : IsHandedOver Run task lengths bytes code

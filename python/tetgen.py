@@ -1,0 +1,123 @@
+"""Tetrahedral meshes of numpy arrays and of texts, by the library that capi/build makes; the environment's TETGEN_LIBRARY names another file of it.
+
+capi/tetgen.h says what each call promises. No call keeps memory, and threads may call at the same time."""
+import ctypes
+import os
+
+import numpy as np
+
+_HERE = os.path.dirname(os.path.abspath(__file__))
+_LIBRARY = ctypes.CDLL(os.environ.get("TETGEN_LIBRARY") or os.path.join(_HERE, "..", "capi", "out", "libtetgen.so"))
+_AT, _SIZE = ctypes.c_void_p, ctypes.c_size_t
+_DONE, _NO_ROOM = 0, 20
+_REASONS = {
+    5: "more than 4000000 points, or a coordinate over 2^29 in size",
+    6: "all points lie in one plane",
+    10: "out of memory",
+}
+
+# The endings of the files that the program may write.
+_WRITTEN = (".node", ".ele", ".face", ".edge", ".neigh")
+_READ = (".node", ".poly", ".smesh", ".off", ".stl")
+
+
+class _Slice(ctypes.Structure):
+    _fields_ = [("at", ctypes.c_char_p), ("len", _SIZE)]
+
+
+class _Text(ctypes.Structure):
+    _fields_ = [("name", ctypes.c_char_p), ("name_len", _SIZE), ("at", ctypes.c_char_p), ("len", _SIZE)]
+
+
+class _Task(ctypes.Structure):
+    _fields_ = [("words", _AT), ("word_count", _SIZE), ("files", _AT), ("file_count", _SIZE), ("wanted", _AT), ("wanted_count", _SIZE)]
+
+
+_LIBRARY.tetgen_run.argtypes = [ctypes.POINTER(_Task), _AT, _SIZE, _AT, _SIZE, ctypes.POINTER(_SIZE)]
+_LIBRARY.tetgen_run.restype = ctypes.c_int32
+_LIBRARY.tetgen_delaunay_into.argtypes = [_AT, _SIZE, _AT, _SIZE, ctypes.POINTER(_SIZE)]
+_LIBRARY.tetgen_delaunay_into.restype = ctypes.c_int32
+
+
+class TetgenError(Exception):
+    """A call was refused: `status` is that of docs/MANUAL.md, `message` the reason."""
+
+    def __init__(self, status, message):
+        super().__init__(f"{message} (status {status})")
+        self.status, self.message = status, message
+
+
+def _places(points):
+    """The points as the library reads them: an array that is so is not copied."""
+    points = np.asarray(points)
+    if points.size == 0:
+        return np.zeros((0, 3), np.int64)
+    if points.ndim != 2 or points.shape[1] != 3:
+        raise ValueError(f"points: an array of shape (n, 3), and not {points.shape}")
+    if not np.can_cast(points.dtype, np.int64):
+        raise TypeError(f"points: whole numbers of at most 64 bits with a sign, and not {points.dtype}")
+    return np.ascontiguousarray(points, np.int64)
+
+
+def delaunay(points):
+    """The Delaunay list of points with whole coordinates, at most 2^29 in size, as an array of shape (m, 4) of uint32: the places of the corners
+    of each tetrahedron, from 0, in an order with a positive volume. Of equal points the first alone is a corner."""
+    places, count = _places(points), _SIZE()
+    room = 7 * len(places) + 16
+    while True:
+        rows = np.empty((room, 4), np.uint32)
+        status = _LIBRARY.tetgen_delaunay_into(places.ctypes.data, len(places), rows.ctypes.data, room, ctypes.byref(count))
+        if status != _NO_ROOM:
+            break
+        room = count.value
+    if status != _DONE:
+        raise TetgenError(status, _REASONS[status])
+    return rows[: count.value]
+
+
+def _bytes(text):
+    return text.encode() if isinstance(text, str) else bytes(text)
+
+
+def _array(kind, rows):
+    """The rows as an array of structures of C, which keeps what it points to."""
+    return (kind * max(1, len(rows)))(*(kind(*(it for part in row for it in (part, len(part)))) for row in rows))
+
+
+def _outputs(words):
+    """The names of the files that the words may ask for."""
+    names = [it for it in words if not it.startswith("-")]
+    base = names[-1] if names else ""
+    stem, dot, ending = base.rpartition(".")
+    base = stem if dot + ending in _READ else base
+    return [f"{base}.1{ending}" for ending in _WRITTEN]
+
+
+def run(words, files, wanted=None):
+    """Runs the program tetgen on these words, as ["-pq", "box.poly"], over a folder in memory with these files alone, a dict of names and texts
+    (bytes, or str). Answers what the program prints, and a dict with the bytes of the files that are wanted and there afterwards: those with the
+    names in `wanted`, or else all that the words may ask for. No file of the system is read or written."""
+    wanted = _outputs(words) if wanted is None else list(wanted)
+    rows = [(_bytes(name), _bytes(text)) for name, text in files.items()]
+    parts = _array(_Slice, [(_bytes(it),) for it in words]), _array(_Text, rows), _array(_Slice, [(_bytes(it),) for it in wanted])
+    task = _Task(
+        ctypes.addressof(parts[0]), len(words), ctypes.addressof(parts[1]), len(rows), ctypes.addressof(parts[2]), len(wanted)
+    )
+    lengths, count = np.zeros(len(wanted) + 2, np.uintp), _SIZE()
+    size = 65536 + 16 * sum(len(text) for _, text in rows)
+    while True:
+        room = np.empty(size, np.uint8)
+        status = _LIBRARY.tetgen_run(task, lengths.ctypes.data, len(lengths), room.ctypes.data, size, ctypes.byref(count))
+        if status != _NO_ROOM:
+            break
+        size = count.value
+    if status == 10:
+        raise TetgenError(status, _REASONS[status])
+    texts, at = [], 0
+    for length in lengths.tolist():
+        there = length <= count.value
+        texts.append(room[at : at + length].tobytes() if there else None)
+        at += length if there else 0
+    if status != _DONE:
+        raise TetgenError(status, texts[1].decode(errors="replace").strip())
+    return texts[0].decode(), {name: text for name, text in zip(wanted, texts[2:]) if text is not None}
