@@ -9,7 +9,7 @@ def cited():
     """Each crate of the repository with those that it cites, those of the toolchain left out."""
     with open(CRATES, encoding="utf-8") as it:
         lines = [line.partition(":") for line in it if ":" in line and not line.startswith("#")]
-    below = {name.strip(): rest.split() for name, _, rest in lines}
+    below = {name.split()[0]: rest.split() for name, _, rest in lines}
     return {name: [it for it in its if it in below] for name, its in below.items()}
 
 

@@ -1,0 +1,115 @@
+"""Reads the files of whole meshes that the built program writes with the readers that a user has: meshio and Gmsh, where they are installed. Points,
+tetrahedra, triangles, regions and markers have to be those of the .node, .ele and .face files of the same run. It prints what differs, and on standard error
+which readers are not there. The program is the one that rt ci has built."""
+import json
+import os
+import shutil
+import subprocess
+import sys
+import tempfile
+
+TOP = os.path.dirname(os.path.dirname(os.path.abspath(__file__)))
+FITTING = f"{TOP}/crates/tetfit/out/tetfit"
+# The words of each run, and the example that it meshes.
+RUNS = [(["-A"], "boxes.poly"), ([], "pyramid.node"), (["-f"], "lprism.poly"), (["-c"], "bar.poly")]
+# Run by a Python that has meshio: what it reads of a file, as JSON.
+MESHIO = """
+import json, meshio, sys
+mesh = meshio.read(sys.argv[1])
+cells = [[block.type, block.data.tolist()] for block in mesh.cells]
+data = {name: [[float(x) for x in part.reshape(-1)] for part in parts] for name, parts in mesh.cell_data.items()}
+print(json.dumps([mesh.points.tolist(), cells, data]))
+"""
+
+
+def lines_of(name):
+    with open(name, encoding="ascii") as file:
+        return [line.split() for line in file.readlines()[1:]]
+
+
+def written(base):
+    """The points, the tetrahedra with their regions, and the triangles with their markers, corners counted from 0."""
+    first = int(lines_of(f"{base}.node")[0][0])
+    points = [[float(x) for x in line[1:4]] for line in lines_of(f"{base}.node")]
+    rows = [([int(x) - first for x in line[1:5]], float(line[5]) if len(line) > 5 else 0.0) for line in lines_of(f"{base}.ele")]
+    faces = [([int(x) - first for x in line[1:4]], int(line[4])) for line in lines_of(f"{base}.face")]
+    return points, rows, faces
+
+
+def python_with_meshio():
+    for name in (sys.executable, "/usr/bin/python3"):
+        if os.path.exists(name) and subprocess.run([name, "-c", "import meshio"], capture_output=True, check=False).returncode == 0:
+            return name
+    return None
+
+
+def read_by_meshio(python, name):
+    return json.loads(subprocess.run([python, "-c", MESHIO, name], capture_output=True, check=True).stdout)
+
+
+def joined(cells, data, kind):
+    """The cells of a kind, each with its number."""
+    return [(corners, number) for (name, block), numbers in zip(cells, data) if name == kind for corners, number in zip(block, numbers)]
+
+
+def meshio_differs(python, base, is_grouped):
+    points, rows, faces = written(base)
+    at, cells, data = read_by_meshio(python, f"{base}.vtk")
+    if at != points or joined(cells, data["region"], "tetra") != rows or joined(cells, data["marker"], "triangle") != faces:
+        yield "meshio reads another mesh from the .vtk file"
+    at, cells, data = read_by_meshio(python, f"{base}.msh")
+    groups = [(corners, region if is_grouped else 1) for corners, region in rows]
+    markers = [(corners, marker if marker > 0 else 0) for corners, marker in faces]
+    tags = data["gmsh:physical"]
+    if at != points or joined(cells, tags, "tetra") != groups or joined(cells, tags, "triangle") != markers:
+        yield "meshio reads another mesh from the .msh file"
+
+
+def elements_of(name):
+    """The elements of a file of Gmsh, as sorted tuples of type, physical group and corners."""
+    with open(name, encoding="ascii") as file:
+        body = file.read().partition("$Elements\n")[2].partition("$EndElements")[0].splitlines()[1:]
+    fields = [[int(x) for x in line.split()] for line in body]
+    return sorted((line[1], line[3], *line[3 + line[2] :]) for line in fields)
+
+
+def gmsh_differs(base):
+    """Gmsh writes the elements again that it has read, but for those of no group."""
+    words = ["gmsh", f"{base}.msh", "-save", "-format", "msh22", "-o", f"{base}.again.msh"]
+    ran = subprocess.run(words, capture_output=True, text=True, check=False)
+    if ran.returncode or "Error" in ran.stdout + ran.stderr:
+        yield f"gmsh does not read the .msh file: {ran.stdout[-200:]}"
+        return
+    if elements_of(f"{base}.again.msh") != [it for it in elements_of(f"{base}.msh") if it[1] > 0]:
+        yield "gmsh reads other elements from the .msh file"
+
+
+def differences(python, has_gmsh, switches, example):
+    with tempfile.TemporaryDirectory() as folder:
+        shutil.copy2(f"{TOP}/examples/{example}", folder)
+        words = [FITTING, "-Q", "-k", "--msh", *switches, example]
+        ran = subprocess.run(words, cwd=folder, capture_output=True, text=True, check=False)
+        if ran.returncode:
+            yield f"status {ran.returncode}: {ran.stderr.strip()}"
+            return
+        base = f"{folder}/{example.partition('.')[0]}.1"
+        if python:
+            yield from meshio_differs(python, base, "-A" in switches)
+        if has_gmsh:
+            yield from gmsh_differs(base)
+
+
+def main():
+    if not os.path.isfile(FITTING):
+        print(f"no program to run: {os.path.relpath(FITTING, TOP)} is not built")
+        return
+    python, has_gmsh = python_with_meshio(), shutil.which("gmsh") is not None
+    for name, is_there in (("meshio", python), ("gmsh", has_gmsh)):
+        if not is_there:
+            print(f"checks/readers.py: {name} is not installed, so it reads nothing", file=sys.stderr)
+    for switches, example in RUNS:
+        for difference in differences(python, has_gmsh, switches, example):
+            print(f"{' '.join([*switches, example])}: {difference}")
+
+
+main()
