@@ -1,4 +1,4 @@
-"""Proves and builds a program of this repository: prove.py PROGRAM. Crates are proved side by side, each once those below it are, and first those with the
+"""Proves and builds a program or a static library of this repository: prove.py NAME. Crates are proved side by side, each once those below it are, and first those with the
 longest chain of others above them, each in a copy of the sources of its own, since rt locks the folders below the crate that it works in. What is built is
 linked into the checkout. How far that has come goes to standard error: on one line of a terminal, which is written anew each second, else on a line for
 each crate. A build that fails prints all that rt said of the crate, and ends with status 125."""
@@ -20,14 +20,25 @@ FAILED = 125
 WAITS = ("another copy of the repository is building", "waiting for another rt")
 
 
+def crate_of(line):
+    """The name of the crate that a line of crates.txt lists, or of none."""
+    return line.partition(":")[0].split()[0] if ":" in line and not line.startswith("#") else None
+
+
+def made_of(name):
+    """What is built of the crate: an archive of a static library, else a program."""
+    with open(f"{TOP}/crates.txt", encoding="utf-8") as lines:
+        is_static = any(it.partition(":")[0].split()[1:] == ["staticlib"] for it in lines if crate_of(it) == name)
+    return f"{TOP}/crates/{name}/out/{f'lib{name}.a' if is_static else name}"
+
+
 def crates_below(program):
     """Each own crate of the program, itself last, with the own crates that it lists."""
     listed, order = {}, {}
     with open(f"{TOP}/crates.txt", encoding="utf-8") as lines:
         for line in lines:
-            name, colon, below = line.partition(":")
-            if colon and not line.startswith("#"):
-                listed[name.split()[0]] = below.split()
+            if crate_of(line):
+                listed[crate_of(line)] = line.partition(":")[2].split()
 
     def visit(name):
         if name in listed and name not in order:
@@ -77,7 +88,7 @@ def copy_sources(order, to):
                 shutil.copytree(f"{TOP}/crates/{name}/{part}", f"{to}/crates/{name}/{part}")
     shutil.copy2(f"{TOP}/HANDLES", f"{to}/HANDLES")
     with open(f"{TOP}/crates.txt", encoding="utf-8") as lines, open(f"{to}/crates.txt", "w", encoding="utf-8") as out:
-        out.writelines(it for it in lines if it.split(":")[0] in order)
+        out.writelines(it for it in lines if crate_of(it) in order)
 
 
 def link(name, one, other):
@@ -187,9 +198,11 @@ class Proofs:
         return self.failed is None
 
     def build(self):
-        """Builds the program. rt ends such a build with a run with no words, whose refusal is of no interest."""
-        self.run(self.program, f"{TOP}/crates/{self.program}", ["run"])
-        if not any(it.startswith("rt: running ") for it in self.log[self.program]):
+        """Builds the program, or the archive. rt ends the build of a program with a run with no words, whose refusal is of no interest."""
+        is_archive = made_of(self.program).endswith(".a")
+        status = self.run(self.program, f"{TOP}/crates/{self.program}", ["lib" if is_archive else "run"])
+        is_run = any(it.startswith("rt: running ") for it in self.log[self.program])
+        if status if is_archive else not is_run:
             self.failed = self.program
 
     def stop(self):
@@ -198,7 +211,7 @@ class Proofs:
 
 
 def build(program, begun):
-    made = f"{TOP}/crates/{program}/out/{program}"
+    made = made_of(program)
     room = tempfile.mkdtemp(prefix=f"{program}-proofs-")
     proofs = None
     try:
@@ -206,7 +219,7 @@ def build(program, begun):
         copies = [f"{room}/{k}" for k in range(workers())]
         for it in copies:
             copy_sources(order, it)
-        print(f"{program}: proving and building the program, {len(order)} crates, {len(copies)} side by side", file=sys.stderr)
+        print(f"{program}: proving and building it, {len(order)} crates, {len(copies)} side by side", file=sys.stderr)
         proofs = Proofs(program, copies)
         if not proofs.all():
             sys.stderr.writelines(proofs.log.get(proofs.failed, []))
@@ -233,9 +246,9 @@ def main():
         try:
             fcntl.flock(lock, fcntl.LOCK_EX | fcntl.LOCK_NB)
         except BlockingIOError:
-            print(f"{program}: another start is proving and building the program: waiting for it", file=sys.stderr)
+            print(f"{program}: another start is proving and building it: waiting for it", file=sys.stderr)
             fcntl.flock(lock, fcntl.LOCK_EX)
-            if os.path.exists(f"{out}/{program}"):
+            if os.path.exists(made_of(program)):
                 return 0
         return build(program, begun)
 
