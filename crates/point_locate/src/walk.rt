@@ -23,6 +23,10 @@ pub enum Place {
 /// slots are scanned. It takes no memory. The corners are places in `points`, from 0, and
 /// coordinates are in grid units.
 ///
+/// That some slot is the point's place is asked of the caller (`somewhere`): the mesh may be any,
+/// also one with gaps. In a Delaunay mesh with all its ghosts each point has a place, as
+/// `cavity_insert` proves where it inserts one.
+///
 /// Source: the visibility walk (Devillers, Pion and Teillaud, 2002). It ends in a Delaunay mesh.
 pub fn locate(arena: &Arena, points: &Points, start: Slot, p: GridPoint) -> Place
     requires start { IsLive arena.now.slots start.index }
