@@ -101,30 +101,29 @@ fn higher(a: WholePoint, b: WholePoint) -> WholePoint
     }
 }
 
-/// The low corner of the box of a point and the points of a list.
-fn low_corner(first: WholePoint, points: &[DecimalPoint]) -> WholePoint
-    requires { IsSmallPoint first }
-    ensures value { result ≡ low_corner first points.now }
-    ensures small { IsSmallPoint result }
-{
-    let mut low = first;
-    for p in points {
-        low = lower(low, whole_point(p));
-    }
-    low
+/// A box, by its corners of least and of greatest coordinates.
+#[derive(Clone, Copy)]
+struct Extent {
+    low: WholePoint,
+    high: WholePoint,
 }
 
-/// The high corner of the box of a point and the points of a list.
-fn high_corner(first: WholePoint, points: &[DecimalPoint]) -> WholePoint
+/// The box of a point and the points of a list.
+fn extent_of(first: WholePoint, points: &[DecimalPoint]) -> Extent
     requires { IsSmallPoint first }
-    ensures value { result ≡ high_corner first points.now }
-    ensures small { IsSmallPoint result }
+    ensures low { result.low ≡ low_corner first points.now }
+    ensures high { result.high ≡ high_corner first points.now }
+    ensures low_small { IsSmallPoint result.low }
+    ensures high_small { IsSmallPoint result.high }
 {
+    let mut low = first;
     let mut high = first;
     for p in points {
-        high = higher(high, whole_point(p));
+        let place = whole_point(p);
+        low = lower(low, place);
+        high = higher(high, place);
     }
-    high
+    Extent { low, high }
 }
 
 /// Half the sum, rounded toward zero.
@@ -171,7 +170,8 @@ pub fn origin_of(points: &[DecimalPoint]) -> Option<WholePoint>
         return None;
     }
     let first = whole_point(&points[0]);
-    let middle = middle_point(low_corner(first, points), high_corner(first, points));
+    let extent = extent_of(first, points);
+    let middle = middle_point(extent.low, extent.high);
     if reach(middle) == 0 {
         return None;
     }

@@ -6,6 +6,17 @@ ghost use Rattle.grid_coords.specs.Rounding.{nearest_whole, rounded};
 
 use tet_text::{Decimal, without_trailing_zeros};
 
+/// As `nearest`, in 64 bits.
+fn nearest_narrow(number: u64, steps: u32) -> u64
+    requires few { steps ≤ 18 }
+    requires some { 0 < steps }
+    requires small { number < 2 ^ 62 }
+    ensures { result ≡ nearest_whole number steps }
+{
+    let unit = 10u64.pow(steps);
+    (2 * number + unit) / (2 * unit)
+}
+
 /// The whole number nearest to `number` / 10^`steps`, and the larger of two.
 fn nearest(number: u128, steps: u32) -> u128
     requires some { 0 < steps }
@@ -15,6 +26,9 @@ fn nearest(number: u128, steps: u32) -> u128
 {
     if steps > 36 {
         return 0;
+    }
+    if steps <= 18 && number < 1 << 62 {
+        return u128::from(nearest_narrow(number as u64, steps));
     }
     let unit = 10u128.pow(steps);
     (2 * number + unit) / (2 * unit)

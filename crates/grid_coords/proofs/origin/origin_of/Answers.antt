@@ -9,12 +9,12 @@ returns-then-is_empty-clause-value c = sym (origin_none c.args.points.now (searc
 pub returns-then-reach-eq0-clause-value : goal.returns-then-reach-eq0-clause-value
 returns-then-reach-eq0-clause-value c =
     let ps = c.args.points.now in
-    let middle = c.middle_point-middle.ensures.value ∙ (λ j. middle_point (c.low_corner.ensures.value j) (c.high_corner.ensures.value j)) ∙ (λ j. middle_point (low_corner (c.whole_point-first.ensures.value j) ps) (high_corner (c.whole_point-first.ensures.value j) ps)) in
+    let middle = c.middle_point-middle.ensures.value ∙ (λ j. middle_point (c.extent_of-extent.ensures.low j) (c.extent_of-extent.ensures.high j)) ∙ (λ j. middle_point (low_corner (c.whole_point-first.ensures.value j) ps) (high_corner (c.whole_point-first.ensures.value j) ps)) in
     let zero : reach c.middle_point-middle.result ≡ 0 = sym c.reach.ensures.value ∙ (omega arith) in
     sym (origin_some ps c.index-points-0.result (search arith) c.index-points-0.is ∙ sym (ap if_some middle) ∙ at_zero c.middle_point-middle.result zero)
 
 pub returns-clause-value : goal.returns-clause-value
 returns-clause-value c =
     let ps = c.args.points.now in
-    let middle = c.middle_point-middle.ensures.value ∙ (λ j. middle_point (c.low_corner.ensures.value j) (c.high_corner.ensures.value j)) ∙ (λ j. middle_point (low_corner (c.whole_point-first.ensures.value j) ps) (high_corner (c.whole_point-first.ensures.value j) ps)) in
+    let middle = c.middle_point-middle.ensures.value ∙ (λ j. middle_point (c.extent_of-extent.ensures.low j) (c.extent_of-extent.ensures.high j)) ∙ (λ j. middle_point (low_corner (c.whole_point-first.ensures.value j) ps) (high_corner (c.whole_point-first.ensures.value j) ps)) in
     sym (origin_some ps c.index-points-0.result (search arith) c.index-points-0.is ∙ sym (ap if_some middle) ∙ at_other c.middle_point-middle.result (λ zero. absurd (omega (arith, c.reach.ensures.value))))
