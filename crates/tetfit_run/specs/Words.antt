@@ -165,9 +165,15 @@ most_halvings = 18
 abbrev pub plain_options : List (List ℕ) → Options
 plain_options = options_within most_halvings
 
+-- how often the grid of a model may be halved: not at all of points alone, to which no midpoint is added
+abbrev pub halvings_for : Options → ℕ
+halvings_for options = if options.piecewise then options.halvings else 0
+
 -- the options that words ask for
 abbrev pub fit_options : List (List ℕ) → Options
-fit_options words = record (plain_options (plain_words words)) { formats = formats_of words }
+fit_options words =
+    let plain = plain_options (plain_words words) in
+    record plain { formats = formats_of words; halvings = halvings_for plain }
 
 -- and with them what the tetrahedra are to be like
 abbrev pub fit_wanted : List (List ℕ) → Wanted

@@ -4,7 +4,7 @@ ghost use Rattle.std.specs.Prelude.{◌≡◌, ℕ, length, Some, None, Err, IfO
 ghost use Rattle.command_words.specs.Meaning.{AreInRange};
 ghost use Rattle.command_words.specs.declared.fault.WordsFault.TheVariants.{Usage};
 ghost use Rattle.tetfit_run.specs.Words.{IsPlainRequest, IsRefinable, among_all};
-ghost use Rattle.tetfit_run.specs.Words.{fit_fault, fit_wanted, plain_words};
+ghost use Rattle.tetfit_run.specs.Words.{fit_fault, fit_wanted, halvings_for, plain_words};
 
 use crate::goal::{bad_bound, fit_goal, goal_fault};
 use crate::request::{formats_of, plain_words, read_options};
@@ -38,6 +38,18 @@ fn among_all(words: &Words, count: usize, fault: WordsFault) -> WordsFault
     }
 }
 
+/// How often the grid of a model may be halved: not at all of points alone, to which no midpoint is
+/// added. Their coordinates stay small then, and so do the sums of their signs.
+fn halvings_for(options: &Options) -> u32
+    ensures { result ≡ halvings_for options.now }
+{
+    if options.piecewise {
+        options.halvings
+    } else {
+        0
+    }
+}
+
 /// The options and the goal that the words without `-V` ask for.
 ///
 /// `Usage` exactly where a word begins with `-a` and no number above 0 with at most 36 decimals is
@@ -66,6 +78,7 @@ pub fn read_wanted(alloc: Global, words: &Words) -> Result<Wanted, WordsFault>
         Err(fault) => return Err(among_all(words, plain.len(), fault)),
     };
     options.formats = formats_of(words);
+    options.halvings = halvings_for(&options);
     let goal = fit_goal(words);
     if let Some((word, place)) = goal_fault(words, &goal, options.piecewise) {
         return Err(WordsFault::Usage { word, place });
