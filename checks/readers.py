@@ -1,5 +1,6 @@
 """Reads the files of whole meshes that the built program writes with the readers that a user has: meshio and Gmsh, where they are installed. Points,
-tetrahedra, triangles, regions and markers have to be those of the .node, .ele and .face files of the same run. It prints what differs, and on standard error
+tetrahedra, triangles, regions and markers have to be those of the .node, .ele and .face files of the same run. Where scipy is installed,
+examples/solve.py has to find one solution from the .msh file alone and from .node and .ele. It prints what differs, and on standard error
 which readers are not there. The program is the one that rt ci has built."""
 import json
 import os
@@ -36,9 +37,9 @@ def written(base):
     return points, rows, faces
 
 
-def python_with_meshio():
+def python_with(module):
     for name in (sys.executable, "/usr/bin/python3"):
-        if os.path.exists(name) and subprocess.run([name, "-c", "import meshio"], capture_output=True, check=False).returncode == 0:
+        if os.path.exists(name) and subprocess.run([name, "-c", f"import {module}"], capture_output=True, check=False).returncode == 0:
             return name
     return None
 
@@ -84,6 +85,16 @@ def gmsh_differs(base):
         yield "gmsh reads other elements from the .msh file"
 
 
+def solver_differs(python, folder):
+    """A solver gets one mesh from the Gmsh file and from the points and tetrahedra."""
+    words = [FITTING, "-Q", "-q", "-a0.01", "--msh", "lprism.poly"]
+    subprocess.run(words, cwd=folder, capture_output=True, check=True)
+    words = [python, f"{TOP}/examples/solve.py", "lprism.1", "lprism.1.msh"]
+    ran = subprocess.run(words, cwd=folder, capture_output=True, text=True, check=False)
+    told = [line.partition(": ")[2] for line in ran.stdout.splitlines()]
+    return ran.returncode != 0 or len(told) != 2 or told[0] != told[1]
+
+
 def differences(python, has_gmsh, switches, example):
     with tempfile.TemporaryDirectory() as folder:
         shutil.copy2(f"{TOP}/examples/{example}", folder)
@@ -103,10 +114,15 @@ def main():
     if not os.path.isfile(FITTING):
         print(f"no program to run: {os.path.relpath(FITTING, TOP)} is not built")
         return
-    python, has_gmsh = python_with_meshio(), shutil.which("gmsh") is not None
-    for name, is_there in (("meshio", python), ("gmsh", has_gmsh)):
+    python, has_gmsh, solving = python_with("meshio"), shutil.which("gmsh") is not None, python_with("scipy")
+    for name, is_there in (("meshio", python), ("gmsh", has_gmsh), ("scipy", solving)):
         if not is_there:
             print(f"checks/readers.py: {name} is not installed, so it reads nothing", file=sys.stderr)
+    if solving:
+        with tempfile.TemporaryDirectory() as folder:
+            shutil.copy2(f"{TOP}/examples/lprism.poly", folder)
+            if solver_differs(solving, folder):
+                print("lprism.poly: examples/solve.py finds another solution from the .msh file")
     for switches, example in RUNS:
         for difference in differences(python, has_gmsh, switches, example):
             print(f"{' '.join([*switches, example])}: {difference}")
