@@ -11,7 +11,7 @@ use Rattle.tet_text.specs.Numbers.{whole_of}
 use Rattle.grid_coords.specs.declared.points.DecimalPoint.{DecimalPoint}
 use Rattle.node_files.specs.Point.{place_at}
 use Rattle.plc_files.specs.declared.parts.RegionText.{RegionText}
-use Rattle.plc_files.specs.Facet.{Lines, last_or_none, region_of, region_line}
+use Rattle.plc_files.specs.Facet.{Lines, limit_or_none, region_of, region_line}
 use Rattle.plc_files.proofs.Counts.{step_ok, ok_is}
 use Rattle.tet_text.specs.Repeated.{so_many}
 
@@ -47,11 +47,11 @@ place_leaves line fields p is h =
 region_is : (line : ContentLine) (r : RegionText) → region_of line ≡ Ok r → HasFields line → IsWritten r
 unfolding region_of
 region_is line r is h =
-    let number = step_ok (whole_at line.line line.fields) (λ number. place_at line.line number.1 >>= λ place. field_at line.line place.1 >>= λ attribute. last_or_none line.line attribute.1 >>= λ _. Ok (record { at = place.0; attribute = attribute.0 })) r is in
-    let place = step_ok (place_at line.line number.0.1) (λ place. field_at line.line place.1 >>= λ attribute. last_or_none line.line attribute.1 >>= λ _. Ok (record { at = place.0; attribute = attribute.0 })) r number.2 in
-    let attribute = step_ok (field_at line.line place.0.1) (λ attribute. last_or_none line.line attribute.1 >>= λ _. Ok (record { at = place.0.0; attribute = attribute.0 })) r place.2 in
-    let ended = step_ok (last_or_none line.line attribute.0.1) (λ _. Ok (record { at = place.0.0; attribute = attribute.0.0 })) r attribute.2 in
-    let made : RegionText = record { at = place.0.0; attribute = attribute.0.0 } in
+    let number = step_ok (whole_at line.line line.fields) (λ number. place_at line.line number.1 >>= λ place. field_at line.line place.1 >>= λ attribute. limit_or_none line.line attribute.1 >>= λ limit. Ok (record { at = place.0; attribute = attribute.0; limit = limit })) r is in
+    let place = step_ok (place_at line.line number.0.1) (λ place. field_at line.line place.1 >>= λ attribute. limit_or_none line.line attribute.1 >>= λ limit. Ok (record { at = place.0; attribute = attribute.0; limit = limit })) r number.2 in
+    let attribute = step_ok (field_at line.line place.0.1) (λ attribute. limit_or_none line.line attribute.1 >>= λ limit. Ok (record { at = place.0.0; attribute = attribute.0; limit = limit })) r place.2 in
+    let ended = step_ok (limit_or_none line.line attribute.0.1) (λ limit. Ok (record { at = place.0.0; attribute = attribute.0.0; limit = limit })) r attribute.2 in
+    let made : RegionText = record { at = place.0.0; attribute = attribute.0.0; limit = ended.0 } in
     let left = place_leaves line.line number.0.1 place.0 place.1 (number_leaves whole_of line.line line.fields number.0 number.1 h) in
     subst IsWritten {x = made} (ok_is made r ended.2) (field_is line.line place.0.1 attribute.0 attribute.1 left).0
 

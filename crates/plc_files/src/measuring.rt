@@ -64,7 +64,11 @@ fn measured_region(
 {
     let at = measured_from(w, decimals, &region.at);
     let attribute = Bytes::from_slice(alloc, region.attribute.as_slice())?;
-    Ok(RegionText { at, attribute })
+    Ok(RegionText {
+        at,
+        attribute,
+        limit: region.limit,
+    })
 }
 
 /// The regions with their points measured from the origin.
