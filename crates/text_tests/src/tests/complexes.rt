@@ -607,6 +607,35 @@ fn handed_out(alloc: Global, text: &[u8]) -> Result<[Option<usize>; 3], PlcFault
     Ok([shown, first, second])
 }
 
+/// Regions with a limit in their last field, with a field that is none, and with no further field.
+const WITH_LIMITS: &[u8] = b"\
+1\n1 0 0 0\n1\n1\n1 1\n0\n6\n1 0 0 0 a 0.50\n2 0 0 0 a -1\n3 0 0 0 a\n4 0 0 0 7 1e2\n\
+5 0 0 0 a x\n6 0 0 0 a 0\n";
+
+/// The limits of the regions of `WITH_LIMITS`.
+const LIMITED: [Option<Decimal>; 6] = [
+    Some(Decimal { value: 5, scale: 1 }),
+    None,
+    None,
+    Some(Decimal {
+        value: 100,
+        scale: 0,
+    }),
+    None,
+    None,
+];
+
+/// Whether the regions of a text have these limits, in this order.
+fn has_limits(alloc: Global, text: &[u8], wanted: &[Option<Decimal>]) -> Result<bool, PlcFault> {
+    let limits = read(alloc, Poly, text)?.limits(alloc)?;
+    Ok(limits.as_slice() == wanted)
+}
+
+#[test]
+fn the_limits_of_regions(rt: HostRuntime) {
+    assert_eq!(rt; has_limits(rt.alloc(), WITH_LIMITS, &LIMITED), Ok(true));
+}
+
 const NO_POINTS: &[u8] = b"0 3 0 0\n0\n";
 
 const ORIGIN: DecimalPoint = DecimalPoint {
