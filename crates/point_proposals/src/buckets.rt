@@ -1,5 +1,5 @@
 //! Points by the cubes of space in which they lie, to find those near to a place.
-use crate::spot::{Spot, distance, grid_point};
+use crate::spot::{Spot, distance, grid_point, spot_of};
 use geo_laws::Points;
 use std::alloc::Global;
 use tet_ports::NoMemory;
@@ -185,14 +185,22 @@ impl Buckets {
         Ok(())
     }
 
-    /// The proposed points, in the order of the proposals.
-    pub(crate) fn proposed(&self, alloc: Global) -> Result<Points, NoMemory> {
-        let mut proposed = Points::new(alloc);
+    /// Adds points that are proposed already to those of the mesh. No other is proposed before.
+    pub(crate) fn add_known(&mut self, points: &Points) -> Result<(), NoMemory> {
+        for p in points.as_slice() {
+            self.push(spot_of(*p), None)?;
+        }
+        self.own = self.kept.len();
+        Ok(())
+    }
+
+    /// Appends the proposed points, in the order of the proposals.
+    pub(crate) fn append_proposed(&self, points: &mut Points) -> Result<(), NoMemory> {
         for kept in self.kept.get(self.own..).unwrap_or(&[]) {
             if let Some(p) = grid_point(kept.spot) {
-                proposed.push(p)?;
+                points.push(p)?;
             }
         }
-        Ok(proposed)
+        Ok(())
     }
 }

@@ -281,6 +281,7 @@ pub(crate) fn mesh_of(
         links,
         subsegments,
         on_boundary,
+        mosts: Vec::new(alloc),
     };
     mesh.fill(alloc, tetrahedra)?;
     Ok(mesh)

@@ -50,8 +50,9 @@ pub(crate) struct Subface {
 }
 
 /// The places of the points, the tetrahedra, the subfaces in the order of their corners with what
-/// is across the edge opposite each corner, the subsegments in order, and for each point whether it
-/// is the corner of a subface.
+/// is across the edge opposite each corner, the subsegments in order, for each point whether it is
+/// the corner of a subface, and for each tetrahedron its greatest six-fold volume, where volumes
+/// are bounded.
 #[derive(Drop)]
 pub(crate) struct Mesh {
     pub(crate) spots: Vec<Spot>,
@@ -61,6 +62,7 @@ pub(crate) struct Mesh {
     pub(crate) links: Vec<[Link; 3]>,
     pub(crate) subsegments: Vec<Side>,
     pub(crate) on_boundary: Vec<bool>,
+    pub(crate) mosts: Vec<i128>,
 }
 
 /// The corners of the face opposite a corner of a positive tetrahedron, so that the corner is on
@@ -90,6 +92,11 @@ impl Mesh {
     /// The tetrahedron with this number.
     pub(crate) fn cell(&self, t: u32) -> Option<Cell> {
         self.cells.get(t as usize).copied()
+    }
+
+    /// The greatest six-fold volume that a tetrahedron is to have.
+    pub(crate) fn most(&self, t: u32) -> i128 {
+        self.mosts.get(t as usize).copied().unwrap_or(i128::MAX)
     }
 
     /// The places of the corners of a tetrahedron.

@@ -4,17 +4,20 @@ use crate::field::Field;
 use crate::large::{VolumeAim, has_far, propose_volumes};
 use crate::mesh::Mesh;
 use crate::refiner::Refiner;
-use crate::slim::{Bounds, asked_of};
+use crate::slim::asked_of;
 use geo_laws::{FacetTriangles, Points, TetList};
+use incidence::Marks;
 use std::alloc::Global;
 use tet_ports::NoMemory;
-use tet_shapes::Ratio;
+use tet_shapes::{Ratio, VolumeBounds, mark_at};
 
 /// What a proposal of points is asked for.
-#[derive(Clone, Copy, Debug)]
-pub struct Aim {
-    /// Six times the greatest volume of a tetrahedron, in cubes of grid units.
-    pub most: Option<i128>,
+#[derive(Clone, Copy)]
+pub struct Aim<'a> {
+    /// The bounds on the volumes of tetrahedra, where these are bounded.
+    pub volumes: Option<&'a VolumeBounds>,
+    /// For each tetrahedron the place of its region, or none, where regions are marked.
+    pub marks: &'a Option<Marks>,
     /// The greatest ratio of the circumradius of a tetrahedron to its shortest edge.
     pub ratio: Option<Ratio>,
     /// Each coordinate of a proposed point is a multiple of `2^halvings` grid units.
@@ -25,41 +28,49 @@ pub struct Aim {
     pub splits_boundary: bool,
 }
 
-impl Aim {
-    /// The aim for volumes alone, with this bound.
-    fn for_volumes(&self, most: i128) -> VolumeAim {
-        VolumeAim {
-            most,
-            halvings: self.halvings,
-            splits_boundary: self.splits_boundary,
+impl<'a> Aim<'a> {
+    /// The greatest six-fold volume of the tetrahedron at a place.
+    fn most_at(&self, place: usize) -> i128 {
+        let most = match self.volumes {
+            Some(bounds) => bounds.most_of(mark_at(self.marks, place)),
+            None => None,
+        };
+        most.and_then(|most| i128::try_from(most).ok())
+            .unwrap_or(i128::MAX)
+    }
+
+    /// For each of so many tetrahedra the greatest six-fold volume, where volumes are bounded.
+    fn mosts(&self, alloc: Global, cells: usize) -> Result<Vec<i128>, NoMemory> {
+        let mut mosts = Vec::new(alloc);
+        if self.volumes.is_none() {
+            return Ok(mosts);
         }
+        mosts.reserve(cells)?;
+        for place in 0..cells {
+            mosts.push(self.most_at(place))?;
+        }
+        Ok(mosts)
     }
 }
 
-/// Points that a mesh is to get so that no tetrahedron is over the volume of the aim. Where none is
+/// Points that a mesh is to get so that no tetrahedron is over its greatest volume. Where none is
 /// far over it and a ratio is given, there are none.
 fn propose_large(alloc: Global, mesh: &Mesh, aim: &Aim) -> Result<Points, NoMemory> {
-    match aim.most {
-        Some(most) => {
-            let volumes = aim.for_volumes(most);
-            if aim.ratio.is_some() && !has_far(mesh, &volumes) {
-                return Ok(Points::new(alloc));
-            }
-            propose_volumes(alloc, mesh, &volumes)
-        }
-        None => Ok(Points::new(alloc)),
+    if aim.volumes.is_none() || (aim.ratio.is_some() && !has_far(mesh)) {
+        return Ok(Points::new(alloc));
     }
+    let volumes = VolumeAim {
+        halvings: aim.halvings,
+        splits_boundary: aim.splits_boundary,
+    };
+    propose_volumes(alloc, mesh, &volumes)
 }
 
-/// Points that a mesh is to get so that no tetrahedron is over the ratio, or over the volume of the
-/// aim.
+/// Points that a mesh is to get so that no tetrahedron is over the ratio, or over its greatest
+/// volume.
 fn propose_slim(alloc: Global, mesh: &Mesh, aim: &Aim, ratio: Ratio) -> Result<Points, NoMemory> {
     let field = Field::new(alloc, mesh, aim.own)?;
-    let bounds = Bounds {
-        most: aim.most,
-        ratio,
-    };
-    let asked = asked_of(alloc, &field, bounds, aim.own)?;
+    let asked = asked_of(alloc, &field, ratio, aim.own)?;
     let mut refiner = Refiner::new(alloc, &field, aim.halvings, aim.splits_boundary)?;
     for asked in asked.as_slice() {
         refiner.split(asked)?;
@@ -79,7 +90,8 @@ pub fn propose(
     triangles: &FacetTriangles,
     aim: &Aim,
 ) -> Result<Points, NoMemory> {
-    let mesh = mesh_of(alloc, points, tetrahedra, triangles, aim.own)?;
+    let mut mesh = mesh_of(alloc, points, tetrahedra, triangles, aim.own)?;
+    mesh.mosts = aim.mosts(alloc, mesh.cells.len())?;
     let large = propose_large(alloc, &mesh, aim)?;
     match aim.ratio {
         Some(ratio) if large.is_empty() => propose_slim(alloc, &mesh, aim, ratio),

@@ -9,14 +9,6 @@ use std::alloc::Global;
 use tet_ports::NoMemory;
 use tet_shapes::{Ratio, is_slim_at};
 
-/// The bounds on tetrahedra: the greatest six-fold volume, and the greatest ratio of the
-/// circumradius to the shortest edge.
-#[derive(Clone, Copy)]
-pub(crate) struct Bounds {
-    pub(crate) most: Option<i128>,
-    pub(crate) ratio: Ratio,
-}
-
 /// The squares of the shortest edge of a tetrahedron and of the floor at it: a new point is to keep
 /// nearly the one, or a part of the other, from the points near it.
 #[derive(Clone, Copy, PartialEq, Eq, PartialOrd, Ord)]
@@ -124,15 +116,14 @@ fn is_over(radius: u64, edge: u64, ratio: Ratio) -> bool {
 struct Search<'a> {
     field: &'a Field<'a>,
     floors: &'a [u64],
-    bounds: Bounds,
-    half: u64,
+    ratio: Ratio,
 }
 
 impl<'a> Search<'a> {
     /// Whether a tetrahedron is slim for another reason than two parts that meet at less than 60
     /// degrees.
     fn is_slim(&self, t: u32, cell: &Cell, radius: u64, shortest: &Shortest) -> bool {
-        let ratio = self.bounds.ratio;
+        let ratio = self.ratio;
         is_slim(self.field, t, ratio)
             && (shortest.free == shortest.all || is_over(radius, shortest.free, ratio))
             && !self.field.parts.is_in_fold(&cell.corners)
@@ -142,7 +133,7 @@ impl<'a> Search<'a> {
     fn asked(&self, t: u32) -> Option<Asked> {
         let cell = self.field.mesh.cell(t)?;
         let [a, b, c, d] = self.field.mesh.corners(t)?;
-        let most = self.bounds.most.unwrap_or(i128::MAX);
+        let most = self.field.mesh.most(t);
         let volume = volume(a, b, c, d);
         let shortest = shortest_of(self.field, &cell);
         let radius = match self.field.sphere(t) {
@@ -153,7 +144,11 @@ impl<'a> Search<'a> {
         if !is_over && !self.is_slim(t, &cell, radius, &shortest) {
             return None;
         }
-        let bound = if is_over { self.half } else { u64::MAX };
+        let bound = if is_over {
+            half_squared(most)
+        } else {
+            u64::MAX
+        };
         Some(Asked {
             rank: u64::MAX.wrapping_sub(radius),
             place: t,
@@ -167,8 +162,8 @@ impl<'a> Search<'a> {
 }
 
 /// The square of half the side of a cube with a sixth of this volume.
-fn half_squared(most: Option<i128>) -> u64 {
-    let half = cube_root(most.unwrap_or(0) / 48).unsigned_abs();
+fn half_squared(most: i128) -> u64 {
+    let half = cube_root(most / 48).unsigned_abs();
     half.wrapping_mul(half)
 }
 
@@ -176,15 +171,14 @@ fn half_squared(most: Option<i128>) -> u64 {
 pub(crate) fn asked_of(
     alloc: Global,
     field: &Field,
-    bounds: Bounds,
+    ratio: Ratio,
     own: usize,
 ) -> Result<Vec<Asked>, NoMemory> {
     let floors = floors_of(alloc, field, own)?;
     let search = Search {
         field,
         floors: floors.as_slice(),
-        bounds,
-        half: half_squared(bounds.most),
+        ratio,
     };
     let mut all = Vec::new(alloc);
     for i in 0..field.mesh.cells.len() {

@@ -1,9 +1,10 @@
 -- The files and the summary of a refined mesh.
-use Rattle.std.specs.Prelude.{◌≡◌, ℕ, pos, List, Option, Result, Ok, Err}
+use Rattle.std.specs.Prelude.{◌≡◌, ℕ, List, Option, Result, Ok, Err}
 use Rattle.std.specs.Option.{option_map}
 use Rattle.sign_predicates.specs.Point.{Point}
 use Rattle.command_words.specs.declared.options.Options.{Options}
 use Rattle.node_files.specs.declared.limits.Limits.{Limits}
+use Rattle.plc_files.specs.Text.{limits_of}
 use Rattle.refining.specs.Goals.{shape_bounds}
 use Rattle.refining.specs.Refined.{MeshAnswerWith}
 use Rattle.refining.specs.declared.goal.Goal.{Goal}
@@ -19,12 +20,15 @@ use Rattle.run_steps.specs.declared.report.Report.{Report}
 use Rattle.run_steps.specs.declared.report.Report.TheVariants.{Mesh, Text}
 use Rattle.run_steps.specs.declared.status.Status.{Status}
 use Rattle.run_steps.specs.declared.status.Status.TheVariants.{NoMemory}
-use Rattle.tet_shapes.specs.Shape.{large_count, slim_count}
+use Rattle.tet_shapes.specs.Bounds.{large_count}
+use Rattle.tet_shapes.specs.Shape.{slim_count}
+use Rattle.tet_shapes.specs.declared.bounds.VolumeBounds.{VolumeBounds}
 use Rattle.tet_shapes.specs.declared.shape.Ratio.{Ratio}
 
--- the number of all tetrahedra of a mesh in which six times the volume is over `most`, where there is such a bound
-abbrev pub over_in : Option ℕ → Meshed → Option ℕ
-over_in most mesh = option_map (λ most. large_count (pos most) mesh.points mesh.tetrahedra) most
+-- the number of all tetrahedra of a mesh in which six times the volume is over the bound that holds in their region, where volumes are
+-- bounded
+abbrev pub over_in : Option VolumeBounds → Meshed → Option ℕ
+over_in volumes mesh = option_map (λ bounds. large_count bounds mesh.marks mesh.points mesh.tetrahedra) volumes
 
 -- the number of all tetrahedra of a mesh whose circumradius is over the ratio times their shortest edge, where there is such a bound
 abbrev pub slim_in : Option Ratio → Meshed → Option ℕ
@@ -43,7 +47,7 @@ with_counts over slim outputs = record outputs { report = option_map (counted_to
 abbrev pub AreCountedOf : ShapeBounds → Options → Meshed → Outputs → Type 0
 AreCountedOf shapes options mesh outputs =
     (made : Outputs) × AreOutputsOf options mesh made
-    × (outputs ≡ with_counts (over_in shapes.most mesh) (slim_in shapes.ratio mesh) made)
+    × (outputs ≡ with_counts (over_in shapes.volumes mesh) (slim_in shapes.ratio mesh) made)
 
 abbrev pub CountedAnswer : ShapeBounds → Options → Meshed → Result Outputs Status → Type 0
 CountedAnswer shapes options mesh (Ok outputs) = AreCountedOf shapes options mesh outputs
@@ -60,7 +64,7 @@ RefinedAnswer shapes options bound (Err status) = status ≡ NoMemory
 abbrev pub RefinedMade : ShapeBounds → Options → Bound → Result Outputs Status → Type 0
 RefinedMade shapes options bound = AndThen (MeshAnswer options bound) (λ plain. RefinedAnswer shapes options bound)
 
--- the outputs of an input, where tetrahedra over the bounds of a goal are counted
+-- the outputs of an input, where tetrahedra over the bounds of a goal and over the limits of their regions are counted
 abbrev pub RefinedMeshed : Goal → Limits → Options → Input → Result Outputs Status → Type 0
 RefinedMeshed goal limits options input =
-    AndThen (BoundAnswer limits options input) (λ bound. RefinedMade (shape_bounds bound goal) options bound)
+    AndThen (BoundAnswer limits options input) (λ bound. RefinedMade (shape_bounds bound goal (limits_of input.complex)) options bound)

@@ -1,17 +1,23 @@
 //! What a refined mesh is to be like.
 
-ghost use Rattle.std.specs.Prelude.{◌≡◌, ◌≤◌, ◌^◌, IfSome};
+ghost use Rattle.std.specs.Prelude.{◌≡◌, IfOk, IfSome};
 ghost use Rattle.tet_shapes.specs.Shape.{IsFine};
-ghost use Rattle.refining.specs.Goals.{IsFineGoal, shape_bounds};
+ghost use Rattle.refining.specs.Goals.{IsFineGoal, goal_volumes, shape_bounds};
 
+use grid_coords::Grid;
 use run_steps::Bound;
-use tet_shapes::{Ratio, most_volume};
+use std::alloc::Global;
+use tet_ports::NoMemory;
+use tet_shapes::{Ratio, VolumeBounds, volume_bounds};
 use tet_text::Decimal;
 
 /// What the tetrahedra of a refined mesh are to be like, and where points may be added for that.
 #[derive(Clone, Copy, Debug)]
 pub struct Goal {
-    /// The greatest volume, in cubes of the model's unit.
+    /// Whether volumes are bounded: by the volume limits of regions, where regions are marked, and
+    /// by `volume`, where it is given.
+    pub bounds_volumes: bool,
+    /// The greatest volume in any region, in cubes of the model's unit.
     pub volume: Option<Decimal>,
     /// The greatest ratio of the circumradius to the shortest edge.
     pub ratio: Option<Ratio>,
@@ -20,27 +26,47 @@ pub struct Goal {
 }
 
 /// The bounds of a goal on the tetrahedra of a mesh, in the units of its grid.
-#[derive(Clone, Copy, Debug)]
+#[derive(Debug, Drop)]
 pub struct ShapeBounds {
-    /// The greatest of six times the volume, in cubes of grid units.
-    pub most: Option<u128>,
+    /// The bounds on volumes, where these are bounded.
+    pub volumes: Option<VolumeBounds>,
     /// The greatest ratio of the circumradius to the shortest edge.
     pub ratio: Option<Ratio>,
 }
 
-/// The bounds of a goal on the tetrahedra of a mesh on the grid of its points.
-pub fn shape_bounds(bound: &Bound, goal: &Goal) -> ShapeBounds
-    requires fine { IsFineGoal goal.now }
-    ensures value { result ≡ shape_bounds bound.now goal.now }
-    ensures small { IfSome result.most (λ most. most ≤ 2 ^ 100) }
-    ensures fine { IfSome result.ratio IsFine }
+/// The bounds of a goal on volumes, where these are bounded.
+fn goal_volumes(
+    alloc: Global,
+    grid: Grid,
+    goal: &Goal,
+    limits: &[Option<Decimal>],
+) -> Result<Option<VolumeBounds>, NoMemory>
+    requires { IsFineGoal goal.now }
+    ensures { IfOk result (λ volumes. volumes ≡ goal_volumes grid goal.now limits.now) }
 {
-    let most = match &goal.volume {
-        Some(volume) => Some(most_volume(bound.table.grid, volume)),
-        None => None,
-    };
-    ShapeBounds {
-        most,
-        ratio: goal.ratio,
+    if goal.bounds_volumes {
+        let volumes = volume_bounds(alloc, grid, &goal.volume, limits)?;
+        Ok(Some(volumes))
+    } else {
+        Ok(None)
     }
+}
+
+/// The bounds of a goal on the tetrahedra of a mesh on the grid of its points, whose regions have
+/// these volume limits.
+pub fn shape_bounds(
+    alloc: Global,
+    bound: &Bound,
+    goal: &Goal,
+    limits: &[Option<Decimal>],
+) -> Result<ShapeBounds, NoMemory>
+    requires { IsFineGoal goal.now }
+    ensures value { IfOk result (λ shapes. shapes ≡ shape_bounds bound.now goal.now limits.now) }
+    ensures fine { IfOk result (λ shapes. IfSome shapes.ratio IsFine) }
+{
+    let volumes = goal_volumes(alloc, bound.table.grid, goal, limits)?;
+    Ok(ShapeBounds {
+        volumes,
+        ratio: goal.ratio,
+    })
 }

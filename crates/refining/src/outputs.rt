@@ -1,6 +1,6 @@
 //! The files and the summary of a refined mesh.
 
-ghost use Rattle.std.specs.Prelude.{◌≡◌, ◌≤◌, ◌^◌, true, All, IfSome};
+ghost use Rattle.std.specs.Prelude.{◌≡◌, true, All, IfSome};
 ghost use Rattle.geo_laws.specs.Delaunay.{IsOn};
 ghost use Rattle.node_files.specs.Writing.{IsNearGrid};
 ghost use Rattle.run_steps.specs.Meshing.{IsMeshableBound};
@@ -15,7 +15,7 @@ use crate::refining::{Bounds, refine};
 use command_words::Options;
 use run_steps::{Bound, HulledMesh, Meshed, Outputs, Report, Status, outputs_of};
 use std::alloc::Global;
-use tet_shapes::{Ratio, count_large, count_slim};
+use tet_shapes::{Ratio, VolumeBounds, count_large, count_slim};
 
 /// How many tetrahedra of a mesh are over bounds.
 #[derive(Clone, Copy)]
@@ -57,14 +57,14 @@ fn with_counts(outputs: Outputs, counts: Counts) -> Outputs
     }
 }
 
-/// How many tetrahedra have six times a volume over `most`, where there is such a bound.
-fn over_in(mesh: &Meshed, most: Option<u128>) -> Option<usize>
-    requires on { All (IsOn mesh.now.points) mesh.now.tetrahedra }
-    requires small { IfSome most (λ most. most ≤ 2 ^ 100) }
-    ensures { result ≡ over_in most mesh.now }
+/// How many tetrahedra have six times a volume over the bound that holds in their region, where
+/// volumes are bounded.
+fn over_in(mesh: &Meshed, volumes: &Option<VolumeBounds>) -> Option<usize>
+    requires { All (IsOn mesh.now.points) mesh.now.tetrahedra }
+    ensures { result ≡ over_in volumes.now mesh.now }
 {
-    match most {
-        Some(most) => Some(count_large(&mesh.points, &mesh.tetrahedra, most as i128)),
+    match volumes {
+        Some(bounds) => Some(count_large(&mesh.points, &mesh.tetrahedra, &mesh.marks, bounds)),
         None => None,
     }
 }
@@ -88,17 +88,16 @@ fn counted_outputs(
     alloc: Global,
     options: &Options,
     mesh: Meshed,
-    shapes: ShapeBounds,
+    shapes: &ShapeBounds,
 ) -> Result<Outputs, Status>
     requires writable { IsWritable mesh }
     requires near { IsNearGrid options.now.origin mesh.table.grid }
     requires on { All (IsOn mesh.points) mesh.tetrahedra }
-    requires small { IfSome shapes.most (λ most. most ≤ 2 ^ 100) }
-    requires fine { IfSome shapes.ratio IsFine }
-    ensures { CountedAnswer shapes options.now mesh result }
+    requires fine { IfSome shapes.now.ratio IsFine }
+    ensures { CountedAnswer shapes.now options.now mesh result }
 {
     let counts = Counts {
-        over: over_in(&mesh, shapes.most),
+        over: over_in(&mesh, &shapes.volumes),
         slim: slim_in(&mesh, shapes.ratio),
     };
     let made = HulledMesh { mesh, hull: None };
@@ -114,14 +113,13 @@ pub fn refined_outputs<P: Propose>(
     options: &Options,
     bound: Bound,
     bounds: &Bounds,
-    shapes: ShapeBounds,
+    shapes: &ShapeBounds,
     proposer: &mut P,
 ) -> Result<Outputs, Status>
     requires bound { IsMeshableBound options.now bound }
     requires complex { options.now.piecewise ≡ true }
-    requires small { IfSome shapes.most (λ most. most ≤ 2 ^ 100) }
-    requires fine { IfSome shapes.ratio IsFine }
-    ensures { RefinedMade shapes options.now bound result }
+    requires fine { IfSome shapes.now.ratio IsFine }
+    ensures { RefinedMade shapes.now options.now bound result }
 {
     match refine(alloc, options, bound, bounds, proposer) {
         Ok(refined) => counted_outputs(alloc, options, refined.mesh, shapes),

@@ -9,14 +9,14 @@ use std::alloc::Global;
 use tet_ports::NoMemory;
 
 /// Proposes points while a tetrahedron is over a bound.
-#[derive(Clone, Copy, Debug)]
-pub struct Quality {
-    pub shapes: ShapeBounds,
+#[derive(Clone, Copy)]
+pub struct Quality<'a> {
+    pub shapes: &'a ShapeBounds,
     /// Whether points may be proposed on segments and in facets.
     pub splits_boundary: bool,
 }
 
-impl Propose for Quality {
+impl<'a> Propose for Quality<'a> {
     fn propose(
         &mut self,
         alloc: Global,
@@ -25,7 +25,8 @@ impl Propose for Quality {
         halvings: u32,
     ) -> Result<Points, NoMemory> {
         let aim = Aim {
-            most: self.shapes.most.and_then(|most| i128::try_from(most).ok()),
+            volumes: self.shapes.volumes.as_ref(),
+            marks: &mesh.marks,
             ratio: self.shapes.ratio,
             halvings,
             own,

@@ -1,5 +1,5 @@
 -- Products of numbers as contracts write them, over ℕ and over ℤ.
-use Rattle.std.proofs.Common.{◌≡◌, ℕ, ◌+◌, ◌*◌, ◌^◌, ◌≤◌, ℤ, pos, negsuc, ◌*ℤ◌, sym, ap, ◌∙◌, arith, min}
+use Rattle.std.proofs.Common.{◌≡◌, ℕ, ◌+◌, ◌*◌, ◌^◌, ◌≤◌, ℤ, pos, negsuc, ◌*ℤ◌, sym, ap, ◌∙◌, arith, min, false}
 use Rattle.std.specs.Prelude.{unsigned_abs, int_lt, nat_lt}
 use Rattle.std.specs.Int.{int_min}
 use Rattle.std.proofs.lemmas.Int.{ints}
@@ -8,6 +8,14 @@ use Rattle.std.proofs.lemmas.Nat.{mul-le}
 pub square_abs : (z : ℤ) → z *ℤ z ≡ pos (unsigned_abs z * unsigned_abs z)
 square_abs (pos n) = omega (arith, ints)
 square_abs (negsuc n) = omega (arith, ints)
+
+-- a number that is not above 0 is over no natural number
+pub not_over : (most : ℕ) (x v : ℤ) → x ≡ v → int_lt (pos 0) x ≡ false → int_lt (pos 0) x ≡ int_lt (pos most) v
+not_over most x v is none = none ∙ sym (below v (ap (int_lt (pos 0)) (sym is) ∙ none))
+  where
+    below : (z : ℤ) → int_lt (pos 0) z ≡ false → int_lt (pos most) z ≡ false
+    below (pos n) h = grind (arith, ints, h)
+    below (negsuc n) h = grind (arith, ints)
 
 pub min_pos : (a b : ℕ) → pos (min a b) ≡ int_min (pos a) (pos b)
 min_pos a b = grind (arith, ints)

@@ -4,3 +4,4 @@ pub mod Sizes
 pub mod Vector
 pub mod Laws
 pub mod Volume
+pub mod Bounds

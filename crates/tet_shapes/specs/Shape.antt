@@ -43,7 +43,3 @@ is_large most t = int_lt most (volume t)
 -- how many of the tetrahedra are slim
 abbrev pub slim_count : Ratio → List Point → List Tet → ℕ
 slim_count r ps rows = count_by (λ row. is_slim r (corners ps row)) rows
-
--- how many of the tetrahedra are large
-abbrev pub large_count : ℤ → List Point → List Tet → ℕ
-large_count most ps rows = count_by (λ row. is_large most (corners ps row)) rows

@@ -1,10 +1,13 @@
-//! How many tetrahedra of a list are slim or large.
+//! How many tetrahedra of a list are slim, or over their bounds.
 ghost use Rattle.std.specs.Prelude.{◌≡◌, All};
-ghost use Rattle.geo_laws.specs.Delaunay.{IsOn};
-ghost use Rattle.tet_shapes.specs.Shape.{IsFine, slim_count, large_count};
+ghost use Rattle.geo_laws.specs.Delaunay.{corners, IsOn};
+ghost use Rattle.tet_shapes.specs.Bounds.{is_over, large_count};
+ghost use Rattle.tet_shapes.specs.Shape.{IsFine, slim_count};
 
+use crate::bounds::{VolumeBounds, mark_at};
 use crate::shape::{Ratio, is_large, is_slim};
-use geo_laws::{Points, TetList};
+use geo_laws::{Points, Tet, TetList};
+use tet_ports::Items;
 
 /// How many tetrahedra of the list are slim.
 pub fn count_slim(points: &Points, rows: &TetList, bound: Ratio) -> usize
@@ -21,14 +24,31 @@ pub fn count_slim(points: &Points, rows: &TetList, bound: Ratio) -> usize
     count
 }
 
-/// How many tetrahedra of the list are large.
-pub fn count_large(points: &Points, rows: &TetList, most: i128) -> usize
+/// Whether six times the volume of a tetrahedron is over the bound, where there is one.
+fn is_over(points: &Points, row: Tet, most: Option<u128>) -> bool
+    requires { IsOn points.now row }
+    ensures { result ≡ is_over most (corners points.now row) }
+{
+    match most {
+        Some(most) => is_large(points, row, most),
+        None => false,
+    }
+}
+
+/// How many tetrahedra of the list are over their bounds, where these have the marks, if there are
+/// any.
+pub fn count_large(
+    points: &Points,
+    rows: &TetList,
+    marks: &Option<Items<Option<u32>>>,
+    bounds: &VolumeBounds,
+) -> usize
     requires { All (IsOn points.now) rows.now }
-    ensures { result ≡ large_count most points.now rows.now }
+    ensures { result ≡ large_count bounds.now marks.now points.now rows.now }
 {
     let mut count = 0usize;
     for i in 0..rows.len() {
-        if is_large(points, rows.at(i), most) {
+        if is_over(points, rows.at(i), bounds.most_of(mark_at(marks, i))) {
             count += 1;
         }
     }

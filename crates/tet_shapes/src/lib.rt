@@ -1,6 +1,7 @@
 //! How slim and how large the tetrahedra of a list are, exactly.
 #![tactic(auto)]
 
+mod bounds;
 mod count;
 mod laws;
 mod shape;
@@ -10,7 +11,7 @@ mod vector;
 mod volume;
 mod wide;
 
+pub use bounds::{VolumeBounds, mark_at, volume_bounds};
 pub use count::{count_large, count_slim};
 pub use laws::{law_circumcenter, law_radius, law_slim};
 pub use shape::{Ratio, is_large, is_slim, is_slim_at};
-pub use volume::most_volume;

@@ -1,6 +1,7 @@
 //! Whether a tetrahedron is slim or large.
 ghost use Rattle.std.specs.Prelude.{◌≡◌, ◌+◌, ◌*◌, ◌^◌, ◌≤◌, pos, ◌+ℤ◌, ◌*ℤ◌, unsigned_abs, nat_lt, IsTrue};
 ghost use Rattle.sign_predicates.specs.Point.{from_to};
+ghost use Rattle.sign_predicates.specs.Orientation.{volume};
 ghost use Rattle.sign_predicates.specs.Sphere.{square_length};
 ghost use Rattle.sign_predicates.specs.Reach.{pull};
 ghost use Rattle.geo_laws.specs.Delaunay.{corners, IsOn};
@@ -187,11 +188,18 @@ pub fn is_slim(points: &Points, row: Tet, bound: Ratio) -> bool
     is_slim_at(corners_of(points, row), bound)
 }
 
-/// Whether a tetrahedron is large: six times its volume, in grid units, is over the bound.
-pub fn is_large(points: &Points, row: Tet, most: i128) -> bool
-    requires { IsOn points.now row }
-    ensures { result ≡ is_large most (corners points.now row) }
+/// Six times the volume of a positive tetrahedron, in cubes of grid units.
+fn six_times(t: Corners) -> i128
+    ensures { result ≡ volume t }
 {
-    let t = corners_of(points, row);
-    det(from_to(t.a, t.b), from_to(t.a, t.c), from_to(t.a, t.d)) > most
+    det(from_to(t.a, t.b), from_to(t.a, t.c), from_to(t.a, t.d))
+}
+
+/// Whether a tetrahedron is large: six times its volume, in cubes of grid units, is over the bound.
+pub fn is_large(points: &Points, row: Tet, most: u128) -> bool
+    requires { IsOn points.now row }
+    ensures { result ≡ is_large (pos most) (corners points.now row) }
+{
+    let volume = six_times(corners_of(points, row));
+    volume > 0 && most < volume.unsigned_abs()
 }

@@ -4,11 +4,11 @@ ghost use Rattle.std.specs.Prelude.{◌≤◌, ◌^◌, unsigned_abs, All, IfSom
 ghost use Rattle.geo_laws.specs.Delaunay.{IsOn};
 ghost use Rattle.tet_shapes.specs.Shape.{IsFine};
 
-use crate::{Ratio, count_large, count_slim, is_large, is_slim, is_slim_at};
+use crate::{Ratio, VolumeBounds, count_large, count_slim, is_large, is_slim, is_slim_at};
 use geo_laws::{Points, Tet, TetList};
 use sign_predicates::{Corners, GridPoint};
 use std::alloc::Global;
-use tet_ports::NoMemory;
+use tet_ports::{Items, NoMemory};
 
 /// The greatest size of a coordinate, and the least coordinate.
 const FAR: i32 = 536_870_912;
@@ -176,22 +176,26 @@ fn rows(alloc: Global, points: &Points) -> Result<TetList, NoMemory>
 }
 
 /// How many rows are slim at a bound, and how many large at another.
-fn counts(alloc: Global, bound: Ratio, most: i128) -> Option<(usize, usize)>
+fn counts(alloc: Global, bound: Ratio, most: u128) -> Option<(usize, usize)>
     requires { IsFine bound }
 {
     let points = points(alloc)?;
     let Ok(rows) = rows(alloc, &points) else {
         return None;
     };
+    let bounds = VolumeBounds {
+        most: Some(most),
+        regions: Items::new(alloc),
+    };
     Some((
         count_slim(&points, &rows, bound),
-        count_large(&points, &rows, most),
+        count_large(&points, &rows, &None, &bounds),
     ))
 }
 
 /// The three tetrahedra have 9 / 4, 83 / 10 and 3 / 2 as the squares of the radius over the
 /// shortest edge, and 32, 162 and 2 as six times the volume.
-static COUNTS: [(u32, u32, i128, usize, usize); 6] = [
+static COUNTS: [(u32, u32, u128, usize, usize); 6] = [
     (3, 1, 162, 0, 0),
     (288, 100, 161, 1, 1),
     (3, 2, 32, 1, 1),
@@ -200,7 +204,7 @@ static COUNTS: [(u32, u32, i128, usize, usize); 6] = [
     (122, 100, 1, 3, 3),
 ];
 
-fn counts_at(alloc: Global, over: u32, under: u32, most: i128) -> Option<(usize, usize)> {
+fn counts_at(alloc: Global, over: u32, under: u32, most: u128) -> Option<(usize, usize)> {
     counts(alloc, ratio(over, under)?, most)
 }
 
@@ -212,8 +216,31 @@ fn slim_and_large_rows(rt: HostRuntime) {
     }
 }
 
+/// How many rows are over a bound of all and the bounds of two regions, where the first row is in
+/// the first of these, the second in none, and the third in the second.
+fn over_regions(alloc: Global, most: Option<u128>, bounds: [Option<u128>; 2]) -> Option<usize> {
+    let points = points(alloc)?;
+    let Ok(rows) = rows(alloc, &points) else {
+        return None;
+    };
+    let mut marks = Items::new(alloc);
+    marks.extend_from_slice(&[Some(0), None, Some(1)]).ok()?;
+    let mut regions = Items::new(alloc);
+    regions.extend_from_slice(&bounds).ok()?;
+    let bounds = VolumeBounds { most, regions };
+    Some(count_large(&points, &rows, &Some(marks), &bounds))
+}
+
+#[test]
+fn rows_over_the_bounds_of_regions(rt: HostRuntime) {
+    let alloc = rt.alloc();
+    assert!(rt; over_regions(alloc, None, [Some(31), Some(2)]) == Some(1));
+    assert!(rt; over_regions(alloc, Some(161), [Some(31), Some(2)]) == Some(2));
+    assert!(rt; over_regions(alloc, Some(1), [Some(40), None]) == Some(3));
+}
+
 /// Whether the row of `BOX` is slim and large at these bounds.
-fn first_row(alloc: Global, over: u32, under: u32, most: i128) -> Option<(bool, bool)> {
+fn first_row(alloc: Global, over: u32, under: u32, most: u128) -> Option<(bool, bool)> {
     let points = points(alloc)?;
     let bound = ratio(over, under)?;
     let row = Tet {
@@ -232,5 +259,5 @@ fn first_row(alloc: Global, over: u32, under: u32, most: i128) -> Option<(bool, 
 fn one_row(rt: HostRuntime) {
     assert!(rt; first_row(rt.alloc(), 149, 100, 31) == Some((true, true)));
     assert!(rt; first_row(rt.alloc(), 3, 2, 32) == Some((false, false)));
-    assert!(rt; first_row(rt.alloc(), 3, 2, -33) == Some((false, true)));
+    assert!(rt; first_row(rt.alloc(), 3, 2, 0) == Some((false, true)));
 }

@@ -116,7 +116,7 @@ fn scale_of(volume: &Decimal) -> u64
 
 /// The bound on six times the volume of a tetrahedron, in cubes of grid units: six times the volume
 /// in cubes of the model's unit, rounded down, and at most 2^100.
-pub fn most_volume(grid: Grid, volume: &Decimal) -> u128
+pub(crate) fn most_volume(grid: Grid, volume: &Decimal) -> u128
     requires { volume.now.scale ≤ 36 }
     ensures value { result ≡ most_volume grid volume.now }
     ensures small { result ≤ 2 ^ 100 }

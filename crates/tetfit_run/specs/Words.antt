@@ -32,10 +32,14 @@ asks_version words = has_word words (codes "--version")
 abbrev pub asks_stages : List (List ℕ) → Bool
 asks_stages words = has_word words (codes "-V")
 
--- ---- words that bound the volumes of tetrahedra: -a with a decimal behind it
+-- ---- words that bound the volumes of tetrahedra: -a, alone for the limits of regions, or with a decimal behind it
 
 abbrev pub is_volume : List ℕ → Bool
 is_volume word = starts_with nat_eq word (codes "-a")
+
+-- the word asks for the volume limits of regions alone
+abbrev pub asks_limits : List ℕ → Bool
+asks_limits word = bytes_eq word (codes "-a")
 
 -- the number is above 0, and has at most 36 decimals
 abbrev pub is_bound : Scaled → Bool
@@ -55,6 +59,10 @@ last_volume last (word ∷ more) = last_volume (option_or (volume_in word) last)
 
 abbrev pub fit_volume : List (List ℕ) → Option Scaled
 fit_volume words = last_volume None words
+
+-- a volume is given, or the limits of regions are asked for
+abbrev pub bounds_volumes : List (List ℕ) → Bool
+bounds_volumes words = is_some (fit_volume words) || list_any asks_limits words
 
 -- ---- words that bound the ratio of the circumradius to the shortest edge: -q, alone or with a decimal behind it
 
@@ -96,9 +104,13 @@ fit_ratio words = last_ratio None words
 abbrev pub is_bounding : List ℕ → Bool
 is_bounding word = is_volume word || is_ratio word
 
+-- the word bounds volumes by something that is no volume
+abbrev pub is_bad_volume : List ℕ → Bool
+is_bad_volume word = (is_volume word && not (asks_limits word)) && not (is_some (volume_in word))
+
 -- the word bounds volumes or ratios, and gives no bound
 abbrev pub is_bad_bound : List ℕ → Bool
-is_bad_bound word = (is_volume word && not (is_some (volume_in word))) || (is_ratio word && not (is_some (ratio_in word)))
+is_bad_bound word = is_bad_volume word || (is_ratio word && not (is_some (ratio_in word)))
 
 -- the word asks that no points be added on segments and in facets
 abbrev pub keeps_boundary : List ℕ → Bool
@@ -107,11 +119,16 @@ keeps_boundary word = bytes_eq word (codes "-Y")
 abbrev pub is_of_goal : List ℕ → Bool
 is_of_goal word = is_bounding word || keeps_boundary word
 
--- what the tetrahedra are to be like, where a volume or a ratio is given
+-- what the tetrahedra are to be like, where volumes are bounded or a ratio is given
 abbrev pub fit_goal : List (List ℕ) → Option Goal
 fit_goal words =
-    if is_some (fit_volume words) || is_some (fit_ratio words) then
-    Some (record { volume = fit_volume words; ratio = fit_ratio words; splits_boundary = not (list_any keeps_boundary words) }) else None
+    if bounds_volumes words || is_some (fit_ratio words) then
+    Some (record {
+      bounds_volumes = bounds_volumes words;
+      volume = fit_volume words;
+      ratio = fit_ratio words;
+      splits_boundary = not (list_any keeps_boundary words);
+    }) else None
 
 -- ---- words that ask for files of the whole mesh in other formats
 
@@ -169,11 +186,11 @@ plain_options = options_within most_halvings
 abbrev pub halvings_for : Options → ℕ
 halvings_for options = if options.piecewise then options.halvings else 0
 
--- the options that words ask for
+-- the options that words ask for; the limits of regions need the regions of tetrahedra
 abbrev pub fit_options : List (List ℕ) → Options
 fit_options words =
     let plain = plain_options (plain_words words) in
-    record plain { formats = formats_of words; halvings = halvings_for plain }
+    record plain { formats = formats_of words; halvings = halvings_for plain; regions = plain.regions || list_any asks_limits words }
 
 -- and with them what the tetrahedra are to be like
 abbrev pub fit_wanted : List (List ℕ) → Wanted

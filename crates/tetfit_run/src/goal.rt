@@ -5,11 +5,11 @@ ghost use Rattle.std.specs.List.{list_any};
 ghost use Rattle.refining.specs.Goals.{IsFineGoal};
 ghost use Rattle.tet_shapes.specs.Shape.{IsFine};
 ghost use Rattle.tet_text.specs.Decimals.{Scaled};
-ghost use Rattle.tetfit_run.specs.Words.{first_bounding, fit_goal, fit_ratio, fit_volume, goal_fault};
-ghost use Rattle.tetfit_run.specs.Words.{if_ratio_bound, is_bad_bound, is_bound, is_bounding};
+ghost use Rattle.tetfit_run.specs.Words.{asks_limits, first_bounding, fit_goal, fit_ratio, fit_volume, goal_fault};
+ghost use Rattle.tetfit_run.specs.Words.{if_ratio_bound, is_bad_bound, is_bad_volume, is_bound, is_bounding};
 ghost use Rattle.tetfit_run.specs.Words.{is_ratio_bound, keeps_boundary, ratio_behind, ratio_in, volume_in};
 
-use crate::request::{is_bounding, is_ratio, is_volume, keeps_boundary};
+use crate::request::{asks_limits, is_bounding, is_ratio, is_volume, keeps_boundary};
 use refining::Goal;
 use tet_ports::Words;
 use tet_shapes::Ratio;
@@ -108,11 +108,18 @@ fn ratio_in(word: &[u8]) -> Option<Ratio>
     }
 }
 
+/// Whether the word gives a volume in a form that is none.
+fn is_bad_volume(word: &[u8]) -> bool
+    ensures { result ≡ is_bad_volume word.now }
+{
+    is_volume(word) && !asks_limits(word) && volume_in(word).is_none()
+}
+
 /// Whether the word bounds volumes or ratios, and gives no bound.
 fn is_bad_bound(word: &[u8]) -> bool
     ensures { result ≡ is_bad_bound word.now }
 {
-    is_volume(word) && volume_in(word).is_none() || is_ratio(word) && ratio_in(word).is_none()
+    is_bad_volume(word) || is_ratio(word) && ratio_in(word).is_none()
 }
 
 /// The first word that bounds volumes or ratios and gives no bound, by its place from 0.
@@ -160,15 +167,27 @@ fn keeps_boundaries(words: &Words) -> bool
         .any(|word| keeps_boundary(word.as_slice()))
 }
 
-/// What the tetrahedra are to be like, where a word gives a volume or a ratio.
+/// Whether a word asks for the volume limits of regions.
+pub(crate) fn asks_region_limits(words: &Words) -> bool
+    ensures { result ≡ list_any asks_limits words.now }
+{
+    words
+        .as_slice()
+        .iter()
+        .any(|word| asks_limits(word.as_slice()))
+}
+
+/// What the tetrahedra are to be like, where a word bounds volumes or gives a ratio.
 pub(crate) fn fit_goal(words: &Words) -> Option<Goal>
     ensures value { result ≡ fit_goal words.now }
     ensures fine { IfSome result IsFineGoal }
 {
     let volume = fit_volume(words);
     let ratio = fit_ratio(words);
-    if volume.is_some() || ratio.is_some() {
+    let bounds_volumes = volume.is_some() || asks_region_limits(words);
+    if bounds_volumes || ratio.is_some() {
         Some(Goal {
+            bounds_volumes,
             volume,
             ratio,
             splits_boundary: !keeps_boundaries(words),

@@ -13,7 +13,8 @@ pub(crate) const SAMPLE: &[u8] = b"--sample=";
 /// The front of the long word that bounds the halvings of the grid.
 pub(crate) const HALVINGS: &[u8] = b"--halvings=";
 
-/// The front of the word that bounds the volume of tetrahedra.
+/// The front of the word that bounds the volume of tetrahedra; alone it asks for the limits of
+/// regions.
 pub(crate) const VOLUME: &[u8] = b"-a";
 
 /// The front of the word that bounds the ratio of the circumradius to the shortest edge.

@@ -18,6 +18,8 @@ name.1.face.\n\
 \x20 A     write the attribute of its region with each tetrahedron\n\
 \x20 a<V>  add points to make tetrahedra over the volume V smaller, and count those\n\
 \x20       that are left; a word of its own, as -a0.5\n\
+\x20 a     add points by the volume limits in the region lines of the file, each in\n\
+\x20       its region, and write attributes as with A; a word of its own\n\
 \x20 q<R>  add points to make tetrahedra whose circumradius is over R times their\n\
 \x20       shortest edge better, and count those that are left; R is from 1 to 100,\n\
 \x20       or 2 where none is given; a word of its own, as -q1.4\n\

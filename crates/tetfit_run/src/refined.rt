@@ -1,12 +1,13 @@
 //! The outputs of a model whose mesh is refined.
 
-ghost use Rattle.std.specs.Prelude.{◌≡◌, ◌≤◌, true};
+ghost use Rattle.std.specs.Prelude.{◌≡◌, ◌≤◌, true, IfSome};
 ghost use Rattle.command_words.specs.Meaning.{AreInRange};
 ghost use Rattle.node_files.specs.Limits.{AreIndexable};
 ghost use Rattle.run_steps.specs.Meshing.{IsMeshableBound};
 ghost use Rattle.run_steps.specs.Reading.{IsSound};
-ghost use Rattle.refining.specs.Goals.{IsFineGoal, shape_bounds};
+ghost use Rattle.refining.specs.Goals.{IsFineGoal};
 ghost use Rattle.refining.specs.Outputs.{RefinedMade, RefinedMeshed};
+ghost use Rattle.tet_shapes.specs.Shape.{IsFine};
 ghost use Rattle.tetfit_run.specs.Measured.{tried};
 ghost use Rattle.tetfit_run.specs.Trying.{at_decimals};
 
@@ -15,7 +16,7 @@ use crate::trial::Trial;
 use command_words::Options;
 use grid_coords::Grid;
 use node_files::Limits;
-use refining::{Bounds, Goal, Quality, refined_outputs, shape_bounds};
+use refining::{Bounds, Goal, Quality, ShapeBounds, refined_outputs, shape_bounds};
 use run_steps::{Bound, Input, Outputs, Status};
 use std::alloc::Global;
 
@@ -53,31 +54,31 @@ fn bounds_on(grid: Grid, limits: Limits, options: &Options) -> Bounds {
 }
 
 /// The outputs of points and a complex on their grid, with the mesh refined while a tetrahedron is
-/// over a bound of the goal.
+/// over a bound, and points added on segments and in facets or not.
 fn refined_towards(
     alloc: Global,
     limits: Limits,
     options: &Options,
     bound: Bound,
-    goal: &Goal,
+    shapes: &ShapeBounds,
+    splits_boundary: bool,
 ) -> Result<Outputs, Status>
     requires bound { IsMeshableBound options.now bound }
     requires complex { options.now.piecewise ≡ true }
-    requires fine { IsFineGoal goal.now }
-    ensures { RefinedMade (shape_bounds bound goal.now) options.now bound result }
+    requires fine { IfSome shapes.now.ratio IsFine }
+    ensures { RefinedMade shapes.now options.now bound result }
 {
     let bounds = bounds_on(bound.table.grid, limits, options);
-    let shapes = shape_bounds(&bound, goal);
     let mut quality = Quality {
         shapes,
-        splits_boundary: goal.splits_boundary,
+        splits_boundary,
     };
     refined_outputs(alloc, options, bound, &bounds, shapes, &mut quality)
 }
 
 /// The outputs of a complex rounded to `decimals` decimals, with the mesh refined while a
-/// tetrahedron is over a bound of the goal. It refuses as `bind_input` and `mesh_outputs` do, or
-/// when out of memory.
+/// tetrahedron is over a bound of the goal, or over the volume limit of its region. It refuses as
+/// `bind_input` and `mesh_outputs` do, or when out of memory.
 pub(crate) fn refined_at(
     alloc: Global,
     limits: Limits,
@@ -96,7 +97,16 @@ pub(crate) fn refined_at(
 {
     let options = at_decimals(alloc, options, decimals)?;
     let nodes = tried_nodes(alloc, &options, &input.nodes)?;
+    let of_regions = input.complex.limits(alloc)?;
     let rounded = Trial::new(limits, &options, input);
     let bound = rounded.bind(alloc, nodes)?;
-    refined_towards(alloc, limits, &options, bound, goal)
+    let shapes = shape_bounds(alloc, &bound, goal, of_regions.as_slice())?;
+    refined_towards(
+        alloc,
+        limits,
+        &options,
+        bound,
+        &shapes,
+        goal.splits_boundary,
+    )
 }

@@ -4,7 +4,7 @@ ghost use Rattle.std.specs.Prelude.{◌≡◌, ◌+◌, ◌++◌, ◌<◌, ℕ, 
 ghost use Rattle.std.specs.Str.{bytes_eq};
 ghost use Rattle.command_words.specs.Meaning.{AreInRange};
 ghost use Rattle.command_words.specs.declared.fault.WordsFault.TheVariants.{Usage};
-ghost use Rattle.tetfit_run.specs.Words.{request_of, asks_page, asks_stages, asks_version, elsewhere_in, first_elsewhere, formats_of, has_word, asks_elsewhere, is_bounding, is_format, is_letter_elsewhere, is_of_goal, is_own, is_plain, is_ratio, is_volume, keeps_boundary, named_fault, others, plain_fault, plain_options, plain_words, told_fault, IsPlainRequest};
+ghost use Rattle.tetfit_run.specs.Words.{request_of, asks_limits, asks_page, asks_stages, asks_version, elsewhere_in, first_elsewhere, formats_of, has_word, asks_elsewhere, is_bounding, is_format, is_letter_elsewhere, is_of_goal, is_own, is_plain, is_ratio, is_volume, keeps_boundary, named_fault, others, plain_fault, plain_options, plain_words, told_fault, IsPlainRequest};
 
 use crate::kinds::{BOUNDARY, DECIMALS, MSH, RATIO, SAMPLE, VOLUME, VTK, is_cluster};
 use command_words::{Formats, Options, WordsFault, read_words_within};
@@ -72,6 +72,13 @@ pub(crate) fn is_volume(word: &[u8]) -> bool
     ensures { result ≡ is_volume word.now }
 {
     word.starts_with(VOLUME)
+}
+
+/// Whether the word asks for the volume limits of regions.
+pub(crate) fn asks_limits(word: &[u8]) -> bool
+    ensures { result ≡ asks_limits word.now }
+{
+    is_word(word, VOLUME)
 }
 
 /// Whether the word bounds the ratio of the circumradius to the shortest edge.

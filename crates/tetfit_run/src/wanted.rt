@@ -6,7 +6,7 @@ ghost use Rattle.command_words.specs.declared.fault.WordsFault.TheVariants.{Usag
 ghost use Rattle.tetfit_run.specs.Words.{IsPlainRequest, IsRefinable, among_all};
 ghost use Rattle.tetfit_run.specs.Words.{fit_fault, fit_wanted, halvings_for, plain_words};
 
-use crate::goal::{bad_bound, fit_goal, goal_fault};
+use crate::goal::{asks_region_limits, bad_bound, fit_goal, goal_fault};
 use crate::request::{formats_of, plain_words, read_options};
 use command_words::{Options, WordsFault};
 use refining::Goal;
@@ -52,11 +52,12 @@ fn halvings_for(options: &Options) -> u32
 
 /// The options and the goal that the words without `-V` ask for.
 ///
-/// `Usage` exactly where a word begins with `-a` and no number above 0 with at most 36 decimals is
-/// behind that, or one begins with `-q` and something else than a number from 1 to 100 with at most
-/// 4 decimals is behind that, with the first such word; or where the other words are refused by
-/// `read_options`, with its fault; or where a bound is given for a model without facets, with the
-/// first bound; or where `-Y` is given without a bound, with the first `-Y`.
+/// `Usage` exactly where a word begins with `-a` and something else than a number above 0 with at
+/// most 36 decimals is behind that, or one begins with `-q` and something else than a number from
+/// 1 to 100 with at most 4 decimals is behind that, with the first such word; or where the other
+/// words are refused by `read_options`, with its fault; or where a bound is given for a model
+/// without facets, with the first bound; or where `-Y` is given without a bound, with the first
+/// `-Y`.
 pub fn read_wanted(alloc: Global, words: &Words) -> Result<Wanted, WordsFault>
     ensures understood { IfOk result (λ wanted. fit_fault words.now ≡ None) }
     ensures wanted { IfOk result (λ wanted. wanted ≡ fit_wanted words.now) }
@@ -79,6 +80,7 @@ pub fn read_wanted(alloc: Global, words: &Words) -> Result<Wanted, WordsFault>
     };
     options.formats = formats_of(words);
     options.halvings = halvings_for(&options);
+    options.regions = options.regions || asks_region_limits(words);
     let goal = fit_goal(words);
     if let Some((word, place)) = goal_fault(words, &goal, options.piecewise) {
         return Err(WordsFault::Usage { word, place });

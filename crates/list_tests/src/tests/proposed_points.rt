@@ -5,8 +5,8 @@ use point_proposals::{Aim, propose};
 use sign_predicates::GridPoint;
 use std::alloc::Global;
 use std::test::Fail;
-use tet_ports::NoMemory;
-use tet_shapes::Ratio;
+use tet_ports::{Items, NoMemory};
+use tet_shapes::{Ratio, VolumeBounds};
 
 /// The corners of the cube; each tetrahedron has the six-fold volume `64^3`, 262,144.
 const CORNERS: [[i8; 3]; 8] = [
@@ -79,37 +79,44 @@ fn triangles(alloc: Global) -> Result<FacetTriangles, NoMemory> {
     Ok(triangles)
 }
 
-/// The points that are proposed for the cube.
-fn proposed(alloc: Global, aim: &Aim) -> Result<Points, NoMemory> {
+/// The points that are proposed for the cube, with coordinates that are multiples of 2, by these
+/// bounds.
+fn proposed(
+    alloc: Global,
+    volumes: Option<&VolumeBounds>,
+    ratio: Option<Ratio>,
+    splits_boundary: bool,
+) -> Result<Points, NoMemory> {
+    let marks = None;
+    let aim = Aim {
+        volumes,
+        marks: &marks,
+        ratio,
+        halvings: 1,
+        own: 8,
+        splits_boundary,
+    };
     propose(
         alloc,
         &points(alloc)?,
         &tetrahedra(alloc)?,
         &triangles(alloc)?,
-        aim,
+        &aim,
     )
 }
 
-/// An aim with this bound, for points with coordinates that are multiples of 2.
-fn aim_of(most: i128, splits_boundary: bool) -> Aim {
-    Aim {
+/// The points that are proposed by a bound of all tetrahedra.
+fn for_volume(alloc: Global, most: u128, splits_boundary: bool) -> Result<Points, NoMemory> {
+    let bounds = VolumeBounds {
         most: Some(most),
-        ratio: None,
-        halvings: 1,
-        own: 8,
-        splits_boundary,
-    }
+        regions: Items::new(alloc),
+    };
+    proposed(alloc, Some(&bounds), None, splits_boundary)
 }
 
-/// An aim with this ratio over 100.
-fn shape_of(over: u32, splits_boundary: bool) -> Aim {
-    Aim {
-        most: None,
-        ratio: Some(Ratio { over, under: 100 }),
-        halvings: 1,
-        own: 8,
-        splits_boundary,
-    }
+/// The points that are proposed by a ratio over 100.
+fn for_shape(alloc: Global, over: u32) -> Result<Points, NoMemory> {
+    proposed(alloc, None, Some(Ratio { over, under: 100 }), true)
 }
 
 /// Whether the points are these, in this order.
@@ -127,17 +134,17 @@ fn are(points: &Points, wanted: &[[i8; 3]]) -> bool {
 
 #[test]
 fn nothing_is_proposed_where_nothing_is_large(rt: HostRuntime) -> Result<(), Fail> {
-    let proposed = proposed(rt.alloc(), &aim_of(262_144, true))?;
+    let proposed = for_volume(rt.alloc(), 262_144, true)?;
     assert!(rt; proposed.is_empty());
     Ok(())
 }
 
 #[test]
 fn facets_are_split_before_the_inside(rt: HostRuntime) -> Result<(), Fail> {
-    let split = proposed(rt.alloc(), &aim_of(262_143, true))?;
+    let split = for_volume(rt.alloc(), 262_143, true)?;
     let wanted = [[64, 32, 32], [32, 64, 32], [32, 32, 64]];
     assert!(rt; are(&split, &wanted));
-    let inner = proposed(rt.alloc(), &aim_of(262_143, false))?;
+    let inner = for_volume(rt.alloc(), 262_143, false)?;
     assert!(rt; are(&inner, &[[32, 32, 32]]));
     Ok(())
 }
@@ -145,9 +152,9 @@ fn facets_are_split_before_the_inside(rt: HostRuntime) -> Result<(), Fail> {
 #[test]
 fn slim_tetrahedra_are_split(rt: HostRuntime) -> Result<(), Fail> {
     // Half the root of 3 is the ratio of each tetrahedron, and all have one circumsphere.
-    let none = proposed(rt.alloc(), &shape_of(87, true))?;
+    let none = for_shape(rt.alloc(), 87)?;
     assert!(rt; none.is_empty());
-    let split = proposed(rt.alloc(), &shape_of(86, true))?;
+    let split = for_shape(rt.alloc(), 86)?;
     assert!(rt; are(&split, &[[32, 32, 0]]));
     Ok(())
 }
@@ -180,7 +187,7 @@ fn count(points: &Points, ends: usize) -> usize {
 
 #[test]
 fn a_cube_far_over_the_bound_is_filled(rt: HostRuntime) -> Result<(), Fail> {
-    let filled = proposed(rt.alloc(), &aim_of(6_000, true))?;
+    let filled = for_volume(rt.alloc(), 6_000, true)?;
     assert!(rt; filled.len() == 134);
     assert!(rt; count(&filled, 0) == 20);
     // Thirteen in each facet, and three on each segment.

@@ -16,11 +16,23 @@ const FLAT_BOX: &[u8] = b"\
 8 3 0 0\n1 0 0 0\n2 8 0 0\n3 8 8 0\n4 0 8 0\n5 0 0 1\n6 8 0 1\n7 8 8 1\n8 0 8 1\n\
 6 0\n4 1 2 3 4\n4 5 6 7 8\n4 1 2 6 5\n4 2 3 7 6\n4 3 4 8 7\n4 4 1 5 8\n0\n0\n";
 
+/// The cube, and on it a box with sides of 8, 8 and 4, which six tetrahedra of 128/3 fill; the cube
+/// is a region with the volume limit 1000, and the box one with 42.
+const TWO_BOXES: &[u8] = b"\
+12 3 0 0\n1 0 0 0\n2 8 0 0\n3 8 8 0\n4 0 8 0\n5 0 0 8\n6 8 0 8\n7 8 8 8\n8 0 8 8\n\
+9 0 0 12\n10 8 0 12\n11 8 8 12\n12 0 8 12\n\
+11 0\n4 1 2 3 4\n4 5 6 7 8\n4 9 10 11 12\n4 1 2 6 5\n4 2 3 7 6\n4 3 4 8 7\n4 4 1 5 8\n\
+4 5 6 10 9\n4 6 7 11 10\n4 7 8 12 11\n4 8 5 9 12\n\
+0\n2\n1 4 4 4 1 1000\n2 4 4 10 2 42\n";
+
 const POINTS: &[u8] = b"4 3 0 0\n1 0 0 0\n2 8 0 0\n3 8 8 0\n4 0 8 8\n";
 
 const NO_VOLUME: &[u8] = b"tetfit: -a0: 0: a volume above 0 is wanted, and a model with facets\n";
 
 const NO_FACETS: &[u8] = b"tetfit: -a1: 1: a volume above 0 is wanted, and a model with facets\n";
+
+const LIMITS_OF_POINTS: &[u8] = b"\
+tetfit: -a: a volume above 0 is wanted, and a model with facets\n";
 
 const IN_CLUSTER: &[u8] = b"tetfit: -pa1: a: a volume is a word of its own, as -a0.5\n";
 
@@ -89,6 +101,44 @@ static BOUNDED: [Run<'static>; 6] = [
         held: &[(b"p.node", &[POINTS])],
         words: &[b"-a1", b"p.node"],
         end: Refused(1, NO_FACETS),
+        files: &[],
+    },
+];
+
+static LIMITED: [Run<'static>; 5] = [
+    Run {
+        name: "limits of regions, and no point may be added",
+        held: &[(b"b.smesh", &[TWO_BOXES])],
+        words: &[b"-NEFS0", b"-a", b"b.smesh"],
+        end: Told(b"points 12 added 0 tetrahedra 12 faces 34 edges 33 decimals 0 over 6\n"),
+        files: &[],
+    },
+    Run {
+        name: "the lesser of a volume and the limit of a region",
+        held: &[(b"b.smesh", &[TWO_BOXES])],
+        words: &[b"-NEFS0", b"-a85", b"b.smesh", b"-a"],
+        end: Told(b"points 12 added 0 tetrahedra 12 faces 34 edges 33 decimals 0 over 12\n"),
+        files: &[],
+    },
+    Run {
+        name: "a volume alone, where regions are not marked",
+        held: &[(b"b.smesh", &[TWO_BOXES])],
+        words: &[b"-NEFS0", b"-a86", b"b.smesh"],
+        end: Told(b"points 12 added 0 tetrahedra 12 faces 34 edges 33 decimals 0 over 0\n"),
+        files: &[],
+    },
+    Run {
+        name: "limits where no region has one",
+        held: &[(b"c.smesh", &[CUBE])],
+        words: &[b"-NEF", b"-a", b"c.smesh"],
+        end: Told(b"points 8 added 0 tetrahedra 6 faces 18 edges 19 decimals 0 over 0\n"),
+        files: &[],
+    },
+    Run {
+        name: "limits for points alone",
+        held: &[(b"p.node", &[POINTS])],
+        words: &[b"-a", b"p.node"],
+        end: Refused(1, LIMITS_OF_POINTS),
         files: &[],
     },
 ];
@@ -176,6 +226,12 @@ static SHAPED: [Run<'static>; 11] = [
 #[test]
 fn volumes_of_tetrahedra(rt: HostRuntime) -> Result<(), Fail> {
     assert_eq!(rt; other_run(rt.alloc(), Tetfit, &BOUNDED)?, None);
+    Ok(())
+}
+
+#[test]
+fn limits_of_regions(rt: HostRuntime) -> Result<(), Fail> {
+    assert_eq!(rt; other_run(rt.alloc(), Tetfit, &LIMITED)?, None);
     Ok(())
 }
 

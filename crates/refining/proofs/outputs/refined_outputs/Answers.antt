@@ -11,8 +11,8 @@ counted_outputs-requires-clause-near g c =
 
 pub returns-in-Ok : goal.returns-in-Ok
 returns-in-Ok g c =
-    outputs_made c.args.shapes c.args.options.now c.args.bound c.args.bounds.now c.in-Ok.refined c.counted_outputs.result c.requires.complex c.in-Ok.ensures.refined c.counted_outputs.ensures
+    outputs_made c.args.shapes.now c.args.options.now c.args.bound c.args.bounds.now c.in-Ok.refined c.counted_outputs.result c.requires.complex c.in-Ok.ensures.refined c.counted_outputs.ensures
 
 pub returns-in-Err : goal.returns-in-Err
 returns-in-Err g c =
-    refused_made c.args.shapes c.args.options.now c.args.bound c.in-Err.fault c.from.result c.requires.complex c.in-Err.ensures.refused c.from.ensures
+    refused_made c.args.shapes.now c.args.options.now c.args.bound c.in-Err.fault c.from.result c.requires.complex c.in-Err.ensures.refused c.from.ensures

@@ -1,7 +1,9 @@
-use Rattle.std.proofs.Common.{Ok, subst}
+use Rattle.std.proofs.Common.{Ok, ap, ◌∙◌, subst}
 use Rattle.command_words.specs.declared.options.Options.{Options}
+use Rattle.plc_files.specs.Text.{limits_of}
 use Rattle.refining.specs.Goals.{shape_bounds}
 use Rattle.refining.specs.Outputs.{RefinedMade, RefinedMeshed}
+use Rattle.refining.specs.declared.goal.ShapeBounds.{ShapeBounds}
 use Rattle.run_steps.proofs.Steps.{and_then_ok}
 use Rattle.run_steps.specs.Meshing.{BoundAnswer}
 use Rattle.tetfit_run.specs.Measured.{BoundTried, tried}
@@ -16,6 +18,9 @@ returns c =
     let o = c.in_ok-options.options in
     let bound = c.in_ok-bound.bound in
     let made = c.refined_towards.result in
+    let limits_are = c.as_slice.ensures ∙ c.in_ok-of_regions.ensures in
+    let shapes_are = c.in_ok-shapes.ensures.value in
+    let refined = subst (λ (s : ShapeBounds). RefinedMade s o bound made) (shapes_are ∙ ap (shape_bounds bound g) limits_are) c.refined_towards.ensures in
     let answer = subst (λ (t : TrialValue). BoundTried t.limits t.options t.input (Ok bound)) c.new-rounded.ensures c.in_ok-bound.ensures.answer in
     subst (λ (q : Options). RefinedMeshed g limits q (tried q input) made) c.in_ok-options.ensures
-    (and_then_ok (BoundAnswer limits o (tried o input)) (λ b. RefinedMade (shape_bounds b g) o b) bound made answer c.refined_towards.ensures)
+    (and_then_ok (BoundAnswer limits o (tried o input)) (λ b. RefinedMade (shape_bounds b g (limits_of input.complex)) o b) bound made answer refined)
