@@ -1,7 +1,7 @@
 """Runs the built program on more inputs than tests would pay for: where a proof says that two inputs have one mesh, coplanar triangles in place of whole
 facets, cut in all ways, and triangles with points of their own in place of shared ones; words that are not understood; a crossing of merged facets; and the
-examples that have an answer; and that tetfit leaves the files that tetgen leaves at its decimals, where that answers. It prints what differs. The programs are those
-that rt ci has built."""
+examples that have an answer; that tetfit leaves the files that tetgen leaves at its decimals, where that answers; and that its meshes keep the volume limits of
+regions, by their files. It prints what differs. The programs are those that rt ci has built."""
 import filecmp
 import itertools
 import os
@@ -9,6 +9,7 @@ import shutil
 import subprocess
 import sys
 import tempfile
+from fractions import Fraction
 
 TOP = os.path.dirname(os.path.dirname(os.path.abspath(__file__)))
 PROGRAM = f"{TOP}/crates/tetgen/out/tetgen"
@@ -191,7 +192,42 @@ def fitted():
             yield f"{name}: status {status}, and files"
 
 
+def over_limits(limits, *words):
+    """How many tetrahedra of two boxes, one in the other, are over the volume limits of their regions, by the files of a run with these words; and the
+    summary."""
+    places = [[low if it == "0" else high for it in f"{i:03b}"] for low, high in ((0, 6), (2, 4)) for i in range(8)]
+    sides = [[0, 1, 3, 2], [4, 5, 7, 6], [0, 1, 5, 4], [2, 3, 7, 6], [0, 2, 6, 4], [1, 3, 7, 5]]
+    points = "".join(f"{i} {x} {y} {z}\n" for i, (x, y, z) in enumerate(places))
+    facets = "".join(f"1\n4 {' '.join(str(it + first) for it in side)}\n" for first in (0, 8) for side in sides)
+    regions = "".join(f"{i} {at} {at} {at} {i} {limit}\n" for i, (at, limit) in enumerate(zip((1, 3), limits)))
+    with tempfile.TemporaryDirectory() as folder:
+        with open(f"{folder}/b.poly", "w", encoding="ascii") as file:
+            file.write(f"16 3 0 0\n{points}12\n{facets}0\n2\n{regions}")
+        ran = subprocess.run([FITTING, *words, "b.poly"], cwd=folder, capture_output=True, check=False)
+        rows = {it: [line.split() for line in open(f"{folder}/b.1.{it}", encoding="ascii")][1:] for it in ("node", "ele")}
+    at = {row[0]: [Fraction(it) for it in row[1:4]] for row in rows["node"]}
+    over = 0
+    for _, *corners, region in rows["ele"]:
+        (ux, uy, uz), (vx, vy, vz), (wx, wy, wz) = [[x - y for x, y in zip(at[it], at[corners[0]])] for it in corners[1:]]
+        six = abs(ux * (vy * wz - vz * wy) + uy * (vz * wx - vx * wz) + uz * (vx * wy - vy * wx))
+        over += six > 6 * Fraction(limits[int(region)])
+    return over, ran.stdout.decode()
+
+
+def limited():
+    """Meshes with two volume limits, by their files and their summaries: with no further point, and with all that are wanted."""
+    for limits in (("8", "0.25"), ("0.5", "2")):
+        over, said = over_limits(limits, "-a", "-S0")
+        if not over or not said.endswith(f" over {over}\n"):
+            yield f"{limits}, {over} over and no point added: {said}"
+        over, said = over_limits(limits, "-a")
+        if over or not said.endswith(" over 0\n"):
+            yield f"{limits}, {over} over: {said}"
+
+
 if os.path.exists(PROGRAM) and os.path.exists(FITTING):
+    for it in limited():
+        print(f"limits of regions: {it}")
     for it in fitted():
         print(f"fitted otherwise: {it}")
 
