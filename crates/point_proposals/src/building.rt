@@ -262,7 +262,7 @@ impl Mesh {
 }
 
 /// The mesh of points, tetrahedra and subfaces; the first points are corners of the complex.
-pub(crate) fn mesh_of(
+pub fn mesh_of(
     alloc: Global,
     points: &Points,
     tetrahedra: &TetList,

@@ -10,12 +10,12 @@ use tet_ports::NoMemory;
 /// A mesh, the circumspheres of its tetrahedra where their centers are near, its parts, and the
 /// tetrahedra at each subsegment and beside each subface.
 #[derive(Drop)]
-pub(crate) struct Field<'a> {
-    pub(crate) mesh: &'a Mesh,
+pub struct Field<'a> {
+    pub mesh: &'a Mesh,
     pub(crate) spheres: Vec<Option<Sphere>>,
-    pub(crate) parts: Parts,
+    pub parts: Parts,
     pub(crate) around: Table,
-    pub(crate) beside: Table,
+    pub beside: Table,
 }
 
 /// The circumspheres of the tetrahedra.
@@ -76,7 +76,7 @@ fn beside_of(alloc: Global, mesh: &Mesh) -> Result<Table, NoMemory> {
 
 impl<'a> Field<'a> {
     /// What is looked up in a mesh, whose first points are corners of the complex.
-    pub(crate) fn new(alloc: Global, mesh: &'a Mesh, own: usize) -> Result<Self, NoMemory> {
+    pub fn new(alloc: Global, mesh: &'a Mesh, own: usize) -> Result<Self, NoMemory> {
         Ok(Field {
             mesh,
             spheres: spheres_of(alloc, mesh)?,

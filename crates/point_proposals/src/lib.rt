@@ -39,4 +39,11 @@ mod table;
 mod taken;
 mod walk;
 
+pub use building::mesh_of;
+pub use field::Field;
+pub use mesh::{Beyond, Mesh, opposite};
+pub use parts::Part;
+pub use plane::{Plane, Rung};
 pub use proposal::{Aim, propose};
+pub use sphere::{Sphere, circumsphere, equator};
+pub use spot::{Spot, distance, grid_point, times, volume};

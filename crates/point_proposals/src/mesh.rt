@@ -5,7 +5,7 @@ use geo_laws::{Face, Side, face_of, side_of};
 
 /// What is across a face of a tetrahedron.
 #[derive(Clone, Copy)]
-pub(crate) enum Beyond {
+pub enum Beyond {
     Tetrahedron(u32),
     Subface(u32),
     Outside,
@@ -13,9 +13,9 @@ pub(crate) enum Beyond {
 
 /// A positive tetrahedron: its corners, and what is across the face opposite each.
 #[derive(Clone, Copy)]
-pub(crate) struct Cell {
-    pub(crate) corners: [u32; 4],
-    pub(crate) across: [Beyond; 4],
+pub struct Cell {
+    pub corners: [u32; 4],
+    pub across: [Beyond; 4],
 }
 
 impl Cell {
@@ -43,9 +43,9 @@ pub(crate) enum Link {
 
 /// A subface: its corners, its facet, and a corner of the complex in the facet if there is one.
 #[derive(Clone, Copy, PartialEq, Eq, PartialOrd, Ord)]
-pub(crate) struct Subface {
+pub struct Subface {
     pub(crate) face: Face,
-    pub(crate) facet: u32,
+    pub facet: u32,
     pub(crate) anchor: Option<u32>,
 }
 
@@ -54,10 +54,10 @@ pub(crate) struct Subface {
 /// the corner of a subface, and for each tetrahedron its greatest six-fold volume, where volumes
 /// are bounded.
 #[derive(Drop)]
-pub(crate) struct Mesh {
-    pub(crate) spots: Vec<Spot>,
-    pub(crate) cells: Vec<Cell>,
-    pub(crate) subfaces: Vec<Subface>,
+pub struct Mesh {
+    pub spots: Vec<Spot>,
+    pub cells: Vec<Cell>,
+    pub subfaces: Vec<Subface>,
     pub(crate) faces: Vec<Face>,
     pub(crate) links: Vec<[Link; 3]>,
     pub(crate) subsegments: Vec<Side>,
@@ -67,7 +67,7 @@ pub(crate) struct Mesh {
 
 /// The corners of the face opposite a corner of a positive tetrahedron, so that the corner is on
 /// its positive side.
-pub(crate) fn opposite(s: &[Spot; 4], k: usize) -> [Spot; 3] {
+pub fn opposite(s: &[Spot; 4], k: usize) -> [Spot; 3] {
     let [a, b, c, d] = *s;
     match k {
         0 => [b, d, c],
@@ -90,7 +90,7 @@ impl Mesh {
     }
 
     /// The tetrahedron with this number.
-    pub(crate) fn cell(&self, t: u32) -> Option<Cell> {
+    pub fn cell(&self, t: u32) -> Option<Cell> {
         self.cells.get(t as usize).copied()
     }
 
@@ -100,7 +100,7 @@ impl Mesh {
     }
 
     /// The places of the corners of a tetrahedron.
-    pub(crate) fn corners(&self, t: u32) -> Option<[Spot; 4]> {
+    pub fn corners(&self, t: u32) -> Option<[Spot; 4]> {
         let [a, b, c, d] = self.cells.get(t as usize)?.corners;
         Some([self.spot(a)?, self.spot(b)?, self.spot(c)?, self.spot(d)?])
     }
@@ -117,7 +117,7 @@ impl Mesh {
     }
 
     /// The plane of a subface, through a corner of the complex in its facet.
-    pub(crate) fn plane(&self, s: u32) -> Option<Plane> {
+    pub fn plane(&self, s: u32) -> Option<Plane> {
         let anchor = self.subfaces.get(s as usize)?.anchor?;
         let [a, b, c] = self.triangle(s)?;
         Plane::new(self.spot(anchor)?, b.from(a).cross(c.from(a)))

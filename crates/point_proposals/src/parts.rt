@@ -12,7 +12,7 @@ const MOST: usize = 64;
 
 /// A segment, by its first subsegment, or a facet.
 #[derive(Clone, Copy, PartialEq, Eq, PartialOrd, Ord)]
-pub(crate) enum Part {
+pub enum Part {
     Segment(u32),
     Facet(u32),
 }
@@ -35,7 +35,7 @@ pub(crate) struct SharpEnds {
 /// The segment of each subsegment, with its sharp ends; the part inside which each point lies; and
 /// the pairs of parts that meet at less than 60 degrees, in both orders.
 #[derive(Drop)]
-pub(crate) struct Parts {
+pub struct Parts {
     segments: Vec<Option<u32>>,
     ends: Vec<SharpEnds>,
     parts: Vec<Option<Part>>,
@@ -454,7 +454,7 @@ impl Parts {
     }
 
     /// The part inside which a point lies.
-    pub(crate) fn at(&self, v: u32) -> Option<Part> {
+    pub fn at(&self, v: u32) -> Option<Part> {
         self.parts.get(v as usize).copied().flatten()
     }
 
@@ -567,7 +567,7 @@ impl Parts {
     }
 
     /// Whether all corners of a tetrahedron are in two facets that meet at less than 60 degrees.
-    pub(crate) fn is_in_fold(&self, corners: &[u32; 4]) -> bool {
+    pub fn is_in_fold(&self, corners: &[u32; 4]) -> bool {
         for facet in self.stars.facets.at(corners[0]) {
             if self.are_at_fold(corners, *facet) {
                 return true;

@@ -48,7 +48,7 @@ fn minor(u: Flat, v: Flat) -> i128 {
 /// The plane of a facet: a corner, the primitive normal shifted down to 31 bits, the axis left out,
 /// and a reduced basis of the whole vectors in the plane.
 #[derive(Clone, Copy)]
-pub(crate) struct Plane {
+pub struct Plane {
     pub(crate) corner: Spot,
     normal: Spot,
     axis: Axis,
@@ -103,7 +103,7 @@ impl Plane {
 
     /// The point of the lattice of the plane in steps of `2^halvings` that is near to a point of
     /// the plane. A point off the plane is moved along the axis left out.
-    pub(crate) fn nearest(&self, p: Spot, halvings: u32) -> Spot {
+    pub fn nearest(&self, p: Spot, halvings: u32) -> Spot {
         let w = self.axis.drawn(p.from(self.corner));
         let u = self.axis.drawn(self.first);
         let v = self.axis.drawn(self.second);
@@ -123,7 +123,7 @@ impl Plane {
     }
 
     /// On which side of the line from `a` to `b` a point of the plane lies: above 0, below 0 or 0.
-    pub(crate) fn side(&self, a: Spot, b: Spot, p: Spot) -> i128 {
+    pub fn side(&self, a: Spot, b: Spot, p: Spot) -> i128 {
         minor(self.axis.drawn(b.from(a)), self.axis.drawn(p.from(a)))
     }
 
@@ -171,15 +171,15 @@ const FEWEST: u64 = 4;
 /// The lattice points of a subsegment: the first end, the step to the next one, and the number of
 /// steps to the other end.
 #[derive(Clone, Copy)]
-pub(crate) struct Rung {
+pub struct Rung {
     from: Spot,
     step: Spot,
-    pub(crate) count: u64,
+    pub count: u64,
 }
 
 impl Rung {
     /// The lattice points of the segment in steps of `2^halvings`, where both ends are such points.
-    pub(crate) fn new(a: Spot, b: Spot, halvings: u32) -> Option<Rung> {
+    pub fn new(a: Spot, b: Spot, halvings: u32) -> Option<Rung> {
         if !a.is_on_lattice(halvings) || !b.is_on_lattice(halvings) {
             return None;
         }
@@ -197,7 +197,7 @@ impl Rung {
     }
 
     /// The lattice point at this many steps.
-    pub(crate) fn at(&self, k: u64) -> Spot {
+    pub fn at(&self, k: u64) -> Spot {
         let k = i64::try_from(k).unwrap_or(0);
         self.from.plus(self.step.by(k))
     }

@@ -5,14 +5,14 @@ use crate::spot::{Spot, distance, rounded};
 /// A sphere by its center, rounded to the grid, and the square of the distance from there to a
 /// corner.
 #[derive(Clone, Copy)]
-pub(crate) struct Sphere {
-    pub(crate) center: Spot,
-    pub(crate) squared: u64,
+pub struct Sphere {
+    pub center: Spot,
+    pub squared: u64,
 }
 
 impl Sphere {
     /// Whether a point is inside.
-    pub(crate) fn has(&self, p: Spot) -> bool {
+    pub fn has(&self, p: Spot) -> bool {
         distance(p, self.center) < self.squared
     }
 }
@@ -93,7 +93,7 @@ fn to_center(corners: &[Spot; 4]) -> Option<Quotient> {
 }
 
 /// The circumsphere of a positive tetrahedron, where its center is near.
-pub(crate) fn circumsphere(corners: &[Spot; 4]) -> Option<Sphere> {
+pub fn circumsphere(corners: &[Spot; 4]) -> Option<Sphere> {
     let Quotient { x, y, z, divisor } = to_center(corners)?;
     sphere_at(corners[0], x, y, z, divisor)
 }
@@ -112,7 +112,7 @@ pub(crate) fn center_of(corners: &[Spot; 4]) -> Option<Spot> {
 /// `a + s B + t C` with `s = |C|^2 (|B|^2 - B C) / d`, `t = |B|^2 (|C|^2 - B C) / d` and `d = 2
 /// (|B|^2 |C|^2 - (B C)^2)`. The shares `s` and `t` are rounded to 24 bits behind the point, and
 /// computed from vectors that are shifted down to 20 bits.
-pub(crate) fn equator(corners: &[Spot; 3]) -> Option<Sphere> {
+pub fn equator(corners: &[Spot; 3]) -> Option<Sphere> {
     let [a, b, c] = *corners;
     let (u, v) = (b.from(a), c.from(a));
     let power = u.bits_above(20).max(v.bits_above(20));

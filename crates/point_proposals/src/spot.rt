@@ -9,10 +9,10 @@ use sign_predicates::GridPoint;
 
 /// A point or a vector, in grid units.
 #[derive(Clone, Copy)]
-pub(crate) struct Spot {
-    pub(crate) x: i64,
-    pub(crate) y: i64,
-    pub(crate) z: i64,
+pub struct Spot {
+    pub x: i64,
+    pub y: i64,
+    pub z: i64,
 }
 
 /// The point with its coordinates as they are.
@@ -25,7 +25,7 @@ pub(crate) fn spot_of(p: GridPoint) -> Spot {
 }
 
 /// The point of the grid, where the coordinates are on it.
-pub(crate) fn grid_point(s: Spot) -> Option<GridPoint> {
+pub fn grid_point(s: Spot) -> Option<GridPoint> {
     let limit = 1 << 29;
     if s.x.unsigned_abs() > limit || s.y.unsigned_abs() > limit || s.z.unsigned_abs() > limit {
         return None;
@@ -38,7 +38,7 @@ pub(crate) fn grid_point(s: Spot) -> Option<GridPoint> {
 }
 
 /// The product in 128 bits.
-pub(crate) fn times(x: i64, y: i64) -> i128 {
+pub fn times(x: i64, y: i64) -> i128 {
     i128::from(x).wrapping_mul(i128::from(y))
 }
 
@@ -61,7 +61,7 @@ fn on_step(x: i64, halvings: u32) -> i64 {
 
 impl Spot {
     /// The vector to this point from another.
-    pub(crate) fn from(self, o: Spot) -> Spot {
+    pub fn from(self, o: Spot) -> Spot {
         Spot {
             x: self.x.wrapping_sub(o.x),
             y: self.y.wrapping_sub(o.y),
@@ -70,7 +70,7 @@ impl Spot {
     }
 
     /// The sum of both.
-    pub(crate) fn plus(self, o: Spot) -> Spot {
+    pub fn plus(self, o: Spot) -> Spot {
         Spot {
             x: self.x.wrapping_add(o.x),
             y: self.y.wrapping_add(o.y),
@@ -88,7 +88,7 @@ impl Spot {
     }
 
     /// The vector over a power of two, rounded down.
-    pub(crate) fn over_power(self, power: u32) -> Spot {
+    pub fn over_power(self, power: u32) -> Spot {
         Spot {
             x: self.x.wrapping_shr(power),
             y: self.y.wrapping_shr(power),
@@ -97,7 +97,7 @@ impl Spot {
     }
 
     /// The cross product.
-    pub(crate) fn cross(self, o: Spot) -> Spot {
+    pub fn cross(self, o: Spot) -> Spot {
         Spot {
             x: minor((self.y, self.z), (o.y, o.z)),
             y: minor((self.z, self.x), (o.z, o.x)),
@@ -112,7 +112,7 @@ impl Spot {
     }
 
     /// The square of the length, of a vector with coordinates up to `2^31`.
-    pub(crate) fn squared(self) -> u64 {
+    pub fn squared(self) -> u64 {
         let x = self.x.unsigned_abs();
         let y = self.y.unsigned_abs();
         let z = self.z.unsigned_abs();
@@ -121,7 +121,7 @@ impl Spot {
     }
 
     /// How many bits the largest coordinate has above this many.
-    pub(crate) fn bits_above(self, kept: u32) -> u32 {
+    pub fn bits_above(self, kept: u32) -> u32 {
         let reach = self.x.unsigned_abs() | self.y.unsigned_abs() | self.z.unsigned_abs();
         64_u32
             .saturating_sub(reach.leading_zeros())
@@ -129,7 +129,7 @@ impl Spot {
     }
 
     /// The nearest point whose coordinates are multiples of `2^halvings`.
-    pub(crate) fn on_lattice(self, halvings: u32) -> Spot {
+    pub fn on_lattice(self, halvings: u32) -> Spot {
         Spot {
             x: on_step(self.x, halvings),
             y: on_step(self.y, halvings),
@@ -150,13 +150,13 @@ fn minor(u: (i64, i64), v: (i64, i64)) -> i64 {
 }
 
 /// The square of the distance.
-pub(crate) fn distance(a: Spot, b: Spot) -> u64 {
+pub fn distance(a: Spot, b: Spot) -> u64 {
     a.from(b).squared()
 }
 
 /// Six times the volume of a tetrahedron, above 0 where the last corner is on the positive side of
 /// the first three.
-pub(crate) fn volume(a: Spot, b: Spot, c: Spot, d: Spot) -> i128 {
+pub fn volume(a: Spot, b: Spot, c: Spot, d: Spot) -> i128 {
     b.from(a).cross(c.from(a)).dot(d.from(a))
 }
 

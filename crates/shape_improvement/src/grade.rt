@@ -1,0 +1,85 @@
+//! How well shaped the tetrahedra of a mesh are.
+use crate::live::{Bounds, is_large, is_slim_exactly};
+use crate::passes::{Aim, TWENTY_DEGREES};
+use crate::sine::{RIGHT, least_sine};
+use geo_laws::{FacetTriangles, Points, TetList};
+use point_proposals::{Beyond, Mesh, mesh_of};
+use std::alloc::Global;
+use tet_ports::NoMemory;
+
+/// How many tetrahedra of a mesh are over the bounds, how many have a dihedral angle below the aim,
+/// and the least square of the sine of a dihedral angle. Angles between subfaces are left out.
+#[derive(Clone, Copy, Debug)]
+pub struct Grade {
+    large: usize,
+    slim: usize,
+    flat: usize,
+    worst: u64,
+}
+
+/// Whether a face is a subface, or has nothing across.
+fn is_wall(beyond: Beyond) -> bool {
+    match beyond {
+        Beyond::Tetrahedron(_) => false,
+        _ => true,
+    }
+}
+
+impl Grade {
+    /// The grade of no tetrahedra.
+    fn none() -> Grade {
+        Grade {
+            large: 0,
+            slim: 0,
+            flat: 0,
+            worst: RIGHT,
+        }
+    }
+
+    /// Counts a tetrahedron, with its greatest six-fold volume.
+    fn count(&mut self, mesh: &Mesh, t: u32, bounds: &Bounds, most: i128) {
+        let (Some(spots), Some(cell)) = (mesh.corners(t), mesh.cell(t)) else {
+            return;
+        };
+        let [p, q, r, s] = cell.across;
+        let sine = least_sine(&spots, [is_wall(p), is_wall(q), is_wall(r), is_wall(s)]);
+        self.worst = self.worst.min(sine);
+        if sine < TWENTY_DEGREES {
+            self.flat = self.flat.wrapping_add(1);
+        }
+        if is_large(&spots, most) {
+            self.large = self.large.wrapping_add(1);
+        }
+        if is_slim_exactly(bounds, &spots) {
+            self.slim = self.slim.wrapping_add(1);
+        }
+    }
+
+    /// Whether a mesh of this grade is better than one of the other grade: no more tetrahedra are
+    /// over the bounds, and fewer have an angle below the aim, or as many and the least angle is
+    /// larger.
+    pub fn is_better(&self, than: &Grade) -> bool {
+        self.large <= than.large
+            && self.slim <= than.slim
+            && (self.flat < than.flat || self.flat == than.flat && self.worst > than.worst)
+    }
+}
+
+/// The grade of a mesh.
+pub fn grade_of(
+    alloc: Global,
+    points: &Points,
+    tetrahedra: &TetList,
+    triangles: &FacetTriangles,
+    aim: &Aim,
+) -> Result<Grade, NoMemory> {
+    let mesh = mesh_of(alloc, points, tetrahedra, triangles, aim.own)?;
+    let bounds = Bounds { ratio: aim.ratio };
+    let mut grade = Grade::none();
+    for i in 0..mesh.cells.len() {
+        let Ok(t) = u32::try_from(i) else { break };
+        let most = aim.mosts.get(i).copied().unwrap_or(i128::MAX);
+        grade.count(&mesh, t, &bounds, most);
+    }
+    Ok(grade)
+}
