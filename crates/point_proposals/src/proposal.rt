@@ -40,7 +40,7 @@ impl<'a> Aim<'a> {
     }
 
     /// For each of so many tetrahedra the greatest six-fold volume, where volumes are bounded.
-    fn mosts(&self, alloc: Global, cells: usize) -> Result<Vec<i128>, NoMemory> {
+    pub fn mosts(&self, alloc: Global, cells: usize) -> Result<Vec<i128>, NoMemory> {
         let mut mosts = Vec::new(alloc);
         if self.volumes.is_none() {
             return Ok(mosts);

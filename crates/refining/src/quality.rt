@@ -1,10 +1,12 @@
-//! An instance of `Propose`: points by which tetrahedra come within the bounds of a goal.
+//! An instance of `Propose`: points by which tetrahedra come within the bounds of a goal, and by
+//! which small dihedral angles grow where the goal bounds the ratio.
 
 use crate::goal::ShapeBounds;
 use crate::propose::Propose;
 use complex_mesh::ComplexMesh;
 use geo_laws::Points;
 use point_proposals::{Aim, propose};
+use shape_improvement::{Grade, grade_of, improve};
 use std::alloc::Global;
 use tet_ports::NoMemory;
 
@@ -16,6 +18,49 @@ pub struct Quality<'a> {
     pub splits_boundary: bool,
 }
 
+impl<'a> Quality<'a> {
+    /// What points are proposed for in a mesh.
+    fn proposal<'b>(&'b self, mesh: &'b ComplexMesh, own: usize, halvings: u32) -> Aim<'b> {
+        Aim {
+            volumes: self.shapes.volumes.as_ref(),
+            marks: &mesh.marks,
+            ratio: self.shapes.ratio,
+            halvings,
+            own,
+            splits_boundary: self.splits_boundary,
+        }
+    }
+
+    /// For each tetrahedron of a mesh the greatest six-fold volume, where volumes are bounded.
+    fn mosts(&self, alloc: Global, mesh: &ComplexMesh) -> Result<Vec<i128>, NoMemory> {
+        let aim = self.proposal(mesh, 0, 0);
+        aim.mosts(alloc, mesh.tetrahedra.len())
+    }
+
+    /// What an improvement of a mesh is asked for.
+    fn improvement<'b>(
+        &self,
+        mosts: &'b [i128],
+        own: usize,
+        halvings: u32,
+    ) -> shape_improvement::Aim<'b> {
+        shape_improvement::Aim {
+            mosts,
+            ratio: self.shapes.ratio,
+            halvings,
+            own,
+            splits_boundary: self.splits_boundary,
+        }
+    }
+
+    /// The grade of a mesh.
+    fn grade(&self, alloc: Global, mesh: &ComplexMesh, own: usize) -> Result<Grade, NoMemory> {
+        let mosts = self.mosts(alloc, mesh)?;
+        let aim = self.improvement(mosts.as_slice(), own, 0);
+        grade_of(alloc, &mesh.points, &mesh.tetrahedra, &mesh.triangles, &aim)
+    }
+}
+
 impl<'a> Propose for Quality<'a> {
     fn propose(
         &mut self,
@@ -24,14 +69,34 @@ impl<'a> Propose for Quality<'a> {
         own: usize,
         halvings: u32,
     ) -> Result<Points, NoMemory> {
-        let aim = Aim {
-            volumes: self.shapes.volumes.as_ref(),
-            marks: &mesh.marks,
-            ratio: self.shapes.ratio,
-            halvings,
-            own,
-            splits_boundary: self.splits_boundary,
-        };
+        let aim = self.proposal(mesh, own, halvings);
         propose(alloc, &mesh.points, &mesh.tetrahedra, &mesh.triangles, &aim)
+    }
+
+    fn improve(
+        &mut self,
+        alloc: Global,
+        mesh: &ComplexMesh,
+        own: usize,
+        halvings: u32,
+    ) -> Result<Option<Points>, NoMemory> {
+        if self.shapes.ratio.is_none() {
+            return Ok(None);
+        }
+        let mosts = self.mosts(alloc, mesh)?;
+        let aim = self.improvement(mosts.as_slice(), own, halvings);
+        improve(alloc, &mesh.points, &mesh.tetrahedra, &mesh.triangles, &aim)
+    }
+
+    fn is_better(
+        &mut self,
+        alloc: Global,
+        mesh: &ComplexMesh,
+        than: &ComplexMesh,
+        own: usize,
+    ) -> Result<bool, NoMemory> {
+        let grade = self.grade(alloc, mesh, own)?;
+        let other = self.grade(alloc, than, own)?;
+        Ok(grade.is_better(&other))
     }
 }

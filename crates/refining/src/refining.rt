@@ -1,4 +1,5 @@
-//! The rounds of a refinement: each adds points and meshes the complex again.
+//! The rounds of a refinement: each adds points, or replaces those that were added, and meshes the
+//! complex again.
 
 ghost use Rattle.std.specs.Prelude.{◌≡◌, ◌≤◌, ◌^◌, IfOk, IfErr};
 ghost use Rattle.run_steps.specs.Meshing.{IsMeshableBound, IsUnmeshed};
@@ -175,9 +176,110 @@ fn taken_last<P: Propose>(
     })
 }
 
+/// The most rounds in which the added points are replaced.
+const IMPROVEMENTS: u32 = 4;
+
+/// How often a segment may be halved where the added points of a mesh are replaced: as often as
+/// there, and as often as the bounds tell where it has none.
+fn halvings_behind(bound: &Bound, bounds: &Bounds, taken: &Taken) -> u32
+    ensures { result ≤ bound.now.table.grid.halvings }
+{
+    let halvings = if taken.added.is_empty() {
+        bounds.halvings
+    } else {
+        taken.halvings
+    };
+    halvings.min(bound.table.grid.halvings)
+}
+
+/// A mesh with other points in place of those of `taken`, where some are proposed and the complex
+/// has a mesh with them.
+fn next_improved<P: Propose>(
+    alloc: Global,
+    options: &Options,
+    bound: &Bound,
+    bounds: &Bounds,
+    taken: &Taken,
+    proposer: &mut P,
+) -> Result<Turn, NoMemory>
+    requires bound { IsMeshableBound options.now bound.now }
+    ensures { IfOk result (IsTurn options.now bound.now) }
+{
+    let own = bound.table.points.len();
+    let halvings = halvings_behind(bound, bounds, taken);
+    let Some(proposed) = proposer.improve(alloc, &taken.made, own, halvings)? else {
+        return Ok(Turn::Done);
+    };
+    let points = &bound.table.points;
+    let none = Points::new(alloc);
+    let added = addable(alloc, points, &none, &proposed, halvings, bounds.added)?;
+    if added.is_empty() {
+        return Ok(Turn::Done);
+    }
+    match mesh_with(alloc, options, bound, &added, halvings, most_of(bounds)) {
+        Ok(made) => Ok(Turn::More(Taken {
+            added,
+            halvings,
+            made,
+        })),
+        Err(_) => Ok(Turn::Refused),
+    }
+}
+
+/// The mesh whose points are to be replaced: the last one, where there is one that is not the best.
+fn base<'a>(best: &'a Taken, last: &'a Option<Taken>) -> &'a Taken {
+    match last {
+        Some(last) => last,
+        None => best,
+    }
+}
+
+/// The best of the meshes of some rounds from `first` on, each with points in place of those of the
+/// one before. A mesh that is no better than the best one is only where the next round begins;
+/// after two of them the rounds end.
+fn improved<P: Propose>(
+    alloc: Global,
+    options: &Options,
+    bound: &Bound,
+    bounds: &Bounds,
+    first: Taken,
+    proposer: &mut P,
+) -> Result<Taken, NoMemory>
+    requires bound { IsMeshableBound options.now bound.now }
+    requires first { IsTakenMesh options.now bound.now first }
+    ensures { IfOk result (IsTakenMesh options.now bound.now) }
+{
+    let own = bound.table.points.len();
+    let mut best = first;
+    let mut last = None;
+    for _ in 0..IMPROVEMENTS {
+        let Turn::More(next) = next_improved(
+            alloc,
+            options,
+            bound,
+            bounds,
+            base(&best, &last),
+            proposer,
+        )?
+        else {
+            break
+        };
+        if proposer.is_better(alloc, &next.made, &best.made, own)? {
+            best = next;
+            last = None;
+        } else if last.is_some() {
+            break;
+        } else {
+            last = Some(next);
+        }
+    }
+    Ok(best)
+}
+
 /// The mesh of a complex with the points that are proposed, round by round: each round's points are
 /// kept where the complex has a mesh with them. The rounds end where no point is added, or at the
-/// bounds. It refuses the complex as `mesh_plain` does; or when out of memory.
+/// bounds; then the added points are replaced where this is better. It refuses the complex as
+/// `mesh_plain` does; or when out of memory.
 pub(crate) fn refine<P: Propose>(
     alloc: Global,
     options: &Options,
@@ -196,7 +298,11 @@ pub(crate) fn refine<P: Propose>(
         halvings: bound.table.grid.halvings,
         made,
     };
-    let Rounds { taken, rounds } = taken_last(alloc, options, &bound, bounds, first, proposer)?;
+    let Rounds {
+        taken: last,
+        rounds,
+    } = taken_last(alloc, options, &bound, bounds, first, proposer)?;
+    let taken = improved(alloc, options, &bound, bounds, last, proposer)?;
     let Taken {
         added,
         halvings,
