@@ -9,6 +9,7 @@ mod Firsts
 mod OffGrid
 mod Tries
 mod PartsBefore
+mod RoundedFirst
 mod Openings
 mod FacetSides
 mod SideBoxes

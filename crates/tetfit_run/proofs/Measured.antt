@@ -48,21 +48,12 @@ near_le w (suc n) =
       | inr far ↦ let le = near_le w n in rw far (omega arith)
     ]
 
-from_le : (o : Option WholePoint) (n : ℕ) → most_from o n ≤ 20
-from_le None n = omega arith
-from_le (Some w) n = let le = near_le w (min 17 n) in omega arith
-
-pub tried_le : (input : Input) → most_tried input ≤ 20
-tried_le input = from_le (origin_in input) (most_decimals input.nodes.decimals)
-
 -- options from the origin of an input are in their ranges with each number of decimals that is tried
 pub triable : (options : Options) (input : Input) → AreInRange options → IfSome (origin_in input) (IsNear (most_tried input)) → AreTriable (with_origin input options) input
 triable options input ranges near = λ m le.
-    let all = tried_le input in
     record {
       budget = ranges.budget;
       halvings = ranges.halvings;
-      decimals = omega arith;
       sample = ranges.sample;
       near = near_of (origin_in input) m (near_below (origin_in input) m (most_tried input) le near);
     }
@@ -75,9 +66,10 @@ points_long (Some w) (Some m) ps = length-map ps (measured_from w m)
 points_long (Some w) None ps = refl
 points_long None d ps = refl
 
-pub sound_tried : (options : Options) (input : Input) → IsSound input → IsSound (tried options input)
-sound_tried options input s =
-    let long = sym (points_long options.origin options.decimals input.nodes.decimals) in
+-- with as many other points an input is sound too
+pub sound_with : (input : Input) (points : List DecimalPoint) → length points ≡ length input.nodes.decimals → IsSound input → IsSound (record input { nodes = record input.nodes { decimals = points } })
+sound_with input points same s =
+    let long = sym same in
     let nodes = input.nodes in
     record {
       nodes = record {
@@ -90,3 +82,7 @@ sound_tried options input s =
       few = s.few;
       corners = subst (λ (n : ℕ). corners_check nodes.first n input.complex ≡ Ok tt) long s.corners;
     }
+
+pub sound_tried : (options : Options) (input : Input) → IsSound input → IsSound (tried options input)
+sound_tried options input s =
+    sound_with input (points_by options.origin options.decimals input.nodes.decimals) (points_long options.origin options.decimals input.nodes.decimals) s

@@ -21,10 +21,10 @@ use Rattle.run_steps.specs.declared.status.Status.TheVariants.{NoMemory}
 abbrev pub origin_in : Input → Option WholePoint
 origin_in input = origin_of input.nodes.decimals
 
--- the first number of decimals that is tried: the most that a coordinate has, and 20 where one has more; from an origin
+-- the first number of decimals that is tried: the most that a coordinate has, and 35 where one has more; from an origin
 -- 17, or fewer where its coordinates have more than 17 digits with them
 abbrev pub most_from : Option WholePoint → ℕ → ℕ
-most_from None most = min 20 most
+most_from None most = min 35 most
 most_from (Some w) most = most_near w (min 17 most)
 
 abbrev pub most_tried : Input → ℕ

@@ -1,7 +1,6 @@
 -- The decimals at which an input is tried, from the most that it has downward.
 use Rattle.std.specs.Prelude.{◌≡◌, ◌≤◌, ◌<◌, ℕ, Bool, true, false, Option, Some, None, Result, Ok, Err, IfErr}
 use Rattle.command_words.specs.declared.options.Options.{Options}
-use Rattle.command_words.specs.Meaning.{AreInRange}
 use Rattle.node_files.specs.declared.limits.Limits.{Limits}
 use Rattle.run_steps.specs.Meshing.{MeshAnswer, OutputsAnswer}
 use Rattle.run_steps.specs.Numbering.{numbering_of}
@@ -14,6 +13,7 @@ use Rattle.run_steps.specs.declared.status.LimitKind.TheVariants.{Grid}
 use Rattle.run_steps.specs.declared.status.Status.{Status}
 use Rattle.run_steps.specs.declared.status.Status.TheVariants.{Limit, GridEnd}
 use Rattle.tetfit_run.specs.Measured.{BoundTried, MeshedTried, most_tried}
+use Rattle.tetfit_run.specs.Trial.{AreInTriedRange}
 use Rattle.tetfit_run.specs.declared.fitting.Refused.{Refused}
 use Rattle.tetfit_run.specs.declared.trying.Unfitted.{Unfitted}
 
@@ -21,9 +21,13 @@ use Rattle.tetfit_run.specs.declared.trying.Unfitted.{Unfitted}
 abbrev pub at_decimals : ℕ → Options → Options
 at_decimals m options = record options { decimals = Some m }
 
+-- the options, with coordinates as they are
+abbrev pub without_decimals : Options → Options
+without_decimals options = record options { decimals = None }
+
 -- with each number of decimals that is tried the options are in their ranges
 abbrev pub AreTriable : Options → Input → Type 0
-AreTriable options input = (m : ℕ) → m ≤ most_tried input → AreInRange (at_decimals m options)
+AreTriable options input = (m : ℕ) → m ≤ most_tried input → AreInTriedRange (at_decimals m options)
 
 -- the refusal is one of the grid: a point is off the grid, or a subsegment has no midpoint on it
 abbrev pub is_of_grid : Status → Bool

@@ -1,10 +1,10 @@
 //! Copies of the options and the point list, which each trial consumes.
 
 ghost use Rattle.std.specs.Prelude.{◌≡◌, IfOk};
-ghost use Rattle.command_words.specs.Meaning.{AreInRange};
 ghost use Rattle.tetfit_run.specs.Hints.{with_budget};
 ghost use Rattle.tetfit_run.specs.Measured.{nodes_by, points_by};
-ghost use Rattle.tetfit_run.specs.Trying.{at_decimals};
+ghost use Rattle.tetfit_run.specs.Trial.{AreInTriedRange};
+ghost use Rattle.tetfit_run.specs.Trying.{at_decimals, without_decimals};
 
 use command_words::Options;
 use grid_coords::{DecimalPoints, WholePoint};
@@ -53,6 +53,15 @@ pub(crate) fn at_decimals(
 {
     let mut made = same_options(alloc, options)?;
     made.decimals = Some(decimals);
+    Ok(made)
+}
+
+/// Copies the options without a number of decimals, so that coordinates stay as they are.
+pub(crate) fn without_decimals(alloc: Global, options: &Options) -> Result<Options, NoMemory>
+    ensures { IfOk result (λ made. made ≡ without_decimals options.now) }
+{
+    let mut made = same_options(alloc, options)?;
+    made.decimals = None;
     Ok(made)
 }
 
@@ -115,7 +124,7 @@ fn tried_points(
     options: &Options,
     points: &DecimalPoints,
 ) -> Result<DecimalPoints, NoMemory>
-    requires { AreInRange options.now }
+    requires { AreInTriedRange options.now }
     ensures { IfOk result
         (λ made. made ≡ points_by options.now.origin options.now.decimals points.now) }
 {
@@ -131,7 +140,7 @@ pub(crate) fn tried_nodes(
     options: &Options,
     nodes: &NodeText,
 ) -> Result<NodeText, NoMemory>
-    requires { AreInRange options.now }
+    requires { AreInTriedRange options.now }
     ensures { IfOk result
         (λ made. made ≡ nodes_by options.now.origin options.now.decimals nodes.now) }
 {

@@ -11,19 +11,20 @@ ghost use Rattle.tetfit_run.specs.Measured.{most_from};
 use grid_coords::{DecimalPoint, WholePoint, decimals_of, most_decimals, most_near, size_of};
 use node_files::{measured_from, rounded_point};
 
-/// The most decimals to which coordinates are rounded.
-const MOST: u32 = 20;
+/// The most decimals to which coordinates are rounded: those of a coordinate below 1 that is read
+/// back as it is written.
+const MOST: u32 = 35;
 
 /// The most decimals of coordinates that are measured from an origin.
 const MOST_FROM: u32 = 17;
 
-/// The first number of decimals that is tried: the most that a coordinate has, or 20 where one has
+/// The first number of decimals that is tried: the most that a coordinate has, or 35 where one has
 /// more; from an origin at most 17, and so many fewer that its coordinates have at most 17 digits
 /// with them.
 pub(crate) fn most_tried(origin: Option<WholePoint>, points: &[DecimalPoint]) -> u32
     requires { IfSome origin IsSmallPoint }
     ensures value { result ≡ most_from origin (most_decimals points.now) }
-    ensures few { result ≤ 20 }
+    ensures few { result ≤ 35 }
     ensures near { IfSome origin (IsNear result) }
 {
     let most = most_decimals(points);

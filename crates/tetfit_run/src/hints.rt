@@ -2,13 +2,13 @@
 //! fault, and the decimals to which coordinates were rounded.
 
 ghost use Rattle.std.specs.Prelude.{◌≡◌, ◌==◌, ◌++◌, Some, IfOk, IfSome, OnOk};
-ghost use Rattle.command_words.specs.Meaning.{AreInRange};
 ghost use Rattle.grid_coords.specs.Origins.{IsNear};
 ghost use Rattle.node_files.specs.Limits.{AreIndexable};
 ghost use Rattle.run_steps.specs.Reading.{IsSound};
 ghost use Rattle.tetfit_run.specs.Hints.{hinted_facet_text, first_facet, grid_hint, parts_text};
 ghost use Rattle.tetfit_run.specs.Hints.{rounded_line, rounded_text, rounding_text};
 ghost use Rattle.tetfit_run.specs.Hints.{segment_line, IsHint, IsHintBy, IsLineOf, TellsSegment};
+ghost use Rattle.tetfit_run.specs.Trial.{AreInTriedRange};
 ghost use Rattle.tetfit_run.specs.Trying.{at_decimals};
 
 use crate::copies::{at_decimals, tried_nodes};
@@ -229,7 +229,7 @@ pub fn hint_of(
 ) -> Result<Bytes, NoMemory>
     requires limits { AreIndexable limits }
     requires input { IsSound model.now.input }
-    requires ranges { AreInRange (at_decimals refused.now.decimals options.now) }
+    requires ranges { AreInTriedRange (at_decimals refused.now.decimals options.now) }
     ensures { IfOk result
         (IsHint limits model.now.stated (at_decimals refused.now.decimals options.now)
         model.now.input refused.now.end.numbering refused.now.end.status) }

@@ -21,6 +21,7 @@ mod places;
 mod reason;
 mod refined;
 mod request;
+mod rounded;
 mod run;
 mod sides;
 mod stages;

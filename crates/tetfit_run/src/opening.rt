@@ -2,7 +2,6 @@
 //! carve all of the mesh.
 
 ghost use Rattle.std.specs.Prelude.{◌≡◌, ◌<◌, ◌^◌, length, IfOk};
-ghost use Rattle.command_words.specs.Meaning.{AreInRange};
 ghost use Rattle.node_files.specs.Limits.{AreIndexable};
 ghost use Rattle.run_steps.specs.Meshing.{IsMeshableBound};
 ghost use Rattle.run_steps.specs.Numbering.{numbering_of};
@@ -11,6 +10,7 @@ ghost use Rattle.geo_laws.specs.Complex.{HasCornersOf};
 ghost use Rattle.tetfit_run.specs.Opening.{carved_line, either_line, has_holes, nothing_line, open_line};
 ghost use Rattle.tetfit_run.specs.Opening.{side_line, surface_line, tells_none};
 ghost use Rattle.tetfit_run.specs.Opening.{TellsCarved, TellsCarvedBy, TellsOpening, TellsOpeningBy};
+ghost use Rattle.tetfit_run.specs.Trial.{AreInTriedRange};
 ghost use Rattle.tetfit_run.specs.Trying.{at_decimals};
 
 use crate::copies::{at_decimals, tried_nodes};
@@ -167,7 +167,7 @@ pub fn opening_of(
 ) -> Result<Bytes, NoMemory>
     requires limits { AreIndexable limits }
     requires input { IsSound input.now }
-    requires ranges { AreInRange (at_decimals decimals options.now) }
+    requires ranges { AreInTriedRange (at_decimals decimals options.now) }
     ensures { IfOk result (TellsOpening limits (at_decimals decimals options.now) input.now) }
 {
     let options = at_decimals(alloc, options, decimals)?;

@@ -7,6 +7,7 @@ ghost use Rattle.refining.specs.Goals.{IsFineGoal};
 ghost use Rattle.refining.specs.Outputs.{RefinedMeshed};
 ghost use Rattle.grid_coords.specs.Origins.{IsNear};
 ghost use Rattle.tetfit_run.specs.Measured.{most_tried, origin_in, tried};
+ghost use Rattle.tetfit_run.specs.Trial.{AreInTriedRange};
 ghost use Rattle.tetfit_run.specs.Trying.{AreTriable, IsFitted, at_decimals};
 ghost use Rattle.tetfit_run.specs.Words.{IsPlainRequest, IsRefinable, fit_fault, others, request_of};
 ghost use Rattle.run_steps.specs.Reading.{IsSound};
@@ -104,7 +105,7 @@ fn more_of(
     fitted: &Fitted,
 ) -> Result<Bytes, NoMemory>
     requires input { IsSound input.now }
-    requires ranges { AreInRange (at_decimals fitted.now.decimals options.now) }
+    requires ranges { AreInTriedRange (at_decimals fitted.now.decimals options.now) }
     ensures { IfOk result
         (IsMore options.now input.now fitted.now.decimals fitted.now.outputs) }
 {
@@ -125,7 +126,7 @@ fn refined_within(
     goal: &Goal,
 ) -> Result<Fitted, NoMemory>
     requires input { IsSound input.now }
-    requires ranges { (m : ℕ) → m ≤ decimals → AreInRange (at_decimals m options.now) }
+    requires ranges { (m : ℕ) → m ≤ decimals → AreInTriedRange (at_decimals m options.now) }
     requires complex { options.now.piecewise ≡ true }
     requires fine { IsFineGoal goal.now }
     ensures few { IfOk result (λ final. final.decimals ≤ decimals) }
@@ -157,7 +158,7 @@ fn final_outputs(
 ) -> Result<Fitted, NoMemory>
     requires input { IsSound input.now }
     requires ranges { (m : ℕ) → m ≤ fitted.decimals
-        → AreInRange (at_decimals m wanted.now.options) }
+        → AreInTriedRange (at_decimals m wanted.now.options) }
     requires refinable { IsRefinable wanted.now }
     ensures few { IfOk result (λ final. final.decimals ≤ fitted.decimals) }
     ensures outputs { IfOk result (λ final. IsFinalBy wanted.now.goal wanted.now.options

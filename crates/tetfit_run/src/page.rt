@@ -6,7 +6,7 @@ tetfit [switches] name\n\
 \n\
 Fills a model with tetrahedra: the points of a .node file, or the solid that\n\
 the facets of a .poly, .smesh, .off or .stl file bound, also a binary .stl.\n\
-Coordinates keep at most 20 decimals, and fewer where the grid, which has\n\
+Coordinates keep at most 35 decimals, and fewer where the grid, which has\n\
 2^29 units to each side of the middle, is too small or too coarse for them; a\n\
 refusal that this rounding may have made says so.\n\
 The mesh is written beside the model, as name.1.node, name.1.ele and\n\

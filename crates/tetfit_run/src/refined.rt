@@ -1,7 +1,6 @@
 //! The outputs of a model whose mesh is refined.
 
 ghost use Rattle.std.specs.Prelude.{◌≡◌, ◌≤◌, true, IfSome};
-ghost use Rattle.command_words.specs.Meaning.{AreInRange};
 ghost use Rattle.node_files.specs.Limits.{AreIndexable};
 ghost use Rattle.run_steps.specs.Meshing.{IsMeshableBound};
 ghost use Rattle.run_steps.specs.Reading.{IsSound};
@@ -9,6 +8,7 @@ ghost use Rattle.refining.specs.Goals.{IsFineGoal};
 ghost use Rattle.refining.specs.Outputs.{RefinedMade, RefinedMeshed};
 ghost use Rattle.tet_shapes.specs.Shape.{IsFine};
 ghost use Rattle.tetfit_run.specs.Measured.{tried};
+ghost use Rattle.tetfit_run.specs.Trial.{AreInTriedRange};
 ghost use Rattle.tetfit_run.specs.Trying.{at_decimals};
 
 use crate::copies::{at_decimals, tried_nodes};
@@ -89,7 +89,7 @@ pub(crate) fn refined_at(
 ) -> Result<Outputs, Status>
     requires limits { AreIndexable limits }
     requires input { IsSound input.now }
-    requires ranges { AreInRange (at_decimals decimals options.now) }
+    requires ranges { AreInTriedRange (at_decimals decimals options.now) }
     requires complex { options.now.piecewise ≡ true }
     requires fine { IsFineGoal goal.now }
     ensures { RefinedMeshed goal.now limits (at_decimals decimals options.now)

@@ -1,13 +1,13 @@
 //! An input that is tried, with the options of the try, within limits.
 
 ghost use Rattle.std.specs.Prelude.{◌≡◌, IfOk};
-ghost use Rattle.command_words.specs.Meaning.{AreInRange};
 ghost use Rattle.node_files.specs.Limits.{AreIndexable};
 ghost use Rattle.run_steps.specs.Meshing.{IsMeshableBound};
 ghost use Rattle.run_steps.specs.Reading.{IsSound};
 ghost use Rattle.tetfit_run.specs.Measured.{BoundTried, tried};
-ghost use Rattle.tetfit_run.specs.Trial.{trial_of};
+ghost use Rattle.tetfit_run.specs.Trial.{trial_of, AreInTriedRange};
 
+use crate::rounded::{bind_rounded, decimals_over};
 use command_words::Options;
 use node_files::{Limits, NodeText};
 use run_steps::{Bound, Input, Status, bind_nodes};
@@ -37,7 +37,7 @@ impl<'a> Trial<'a> {
     pub(crate) fn new(limits: Limits, options: &'a Options, input: &'a Input) -> Self
         requires limits { AreIndexable limits }
         requires input { IsSound input.now }
-        requires ranges { AreInRange options.now }
+        requires ranges { AreInTriedRange options.now }
         ensures { result ≡ trial_of limits options.now input.now }
     {
         Trial {
@@ -54,6 +54,18 @@ impl<'a> Trial<'a> {
         ensures answer { BoundTried self.now.limits self.now.options self.now.input result }
         ensures meshable { IfOk result (IsMeshableBound self.now.options) }
     {
-        bind_nodes(alloc, self.limits, self.options, nodes, &self.input.complex)
+        match decimals_over(self.options) {
+            Some(m) => {
+                bind_rounded(
+                    alloc,
+                    self.limits,
+                    self.options,
+                    m,
+                    nodes,
+                    &self.input.complex,
+                )
+            }
+            None => bind_nodes(alloc, self.limits, self.options, nodes, &self.input.complex),
+        }
     }
 }

@@ -1,11 +1,11 @@
 //! One try: the outputs of an input at a number of decimals.
 
 ghost use Rattle.std.specs.Prelude.{◌≡◌, ◌≤◌, Some, IfErr, IfOk};
-ghost use Rattle.command_words.specs.Meaning.{AreInRange};
 ghost use Rattle.node_files.specs.Limits.{AreIndexable};
 ghost use Rattle.run_steps.specs.Meshing.{IsMeshableBound};
 ghost use Rattle.run_steps.specs.Reading.{IsSound};
 ghost use Rattle.tetfit_run.specs.Measured.{MeshedTried, tried};
+ghost use Rattle.tetfit_run.specs.Trial.{AreInTriedRange};
 ghost use Rattle.tetfit_run.specs.Trying.{answer_in, AnswerAt, MadeAnswer};
 ghost use Rattle.tetfit_run.specs.Trying.{at_decimals, IsNumbered, IsNumberedAt};
 
@@ -61,7 +61,7 @@ pub(crate) fn outputs_at(
 ) -> Result<Outputs, Unfitted>
     requires limits { AreIndexable limits }
     requires input { IsSound input.now }
-    requires ranges { AreInRange (at_decimals decimals options.now) }
+    requires ranges { AreInTriedRange (at_decimals decimals options.now) }
     ensures answer { AnswerAt limits options.now input.now decimals (answer_in result) }
     ensures numbered { IfErr result (IsNumberedAt limits options.now input.now decimals) }
 {

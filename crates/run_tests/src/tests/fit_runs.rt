@@ -74,8 +74,8 @@ const CROSSED_FINE: &[u8] = b"\
 5 3 0 0\n1 0 0 0\n2 2.5 2.5 0\n3 0 2 0\n4 2 0 0\n5 0 0 3.000000001\n\
 2 0\n1\n2 1 2\n1\n2 3 4\n0\n0\n";
 
-/// Four points that lie in one plane once they are rounded to 20 decimals.
-const FLATTENED: &[u8] = b"4 3 0 0\n1 0 0 0\n2 1e-15 0 0\n3 0 1e-15 0\n4 0 0 1e-21\n";
+/// Four points that lie in one plane once they are rounded to 35 decimals.
+const FLATTENED: &[u8] = b"4 3 0 0\n1 0 0 0\n2 1e-30 0 0\n3 0 1e-30 0\n4 0 0 1e-36\n";
 
 const FAR_TOLD: &[u8] = b"\
 tetfit: line 3: coordinate off the grid\n\
@@ -137,7 +137,7 @@ tetfit: give both segments the point at which they cross\n";
 
 const FLATTENED_TOLD: &[u8] = b"\
 tetfit: all points lie in one plane\n\
-tetfit: coordinates were rounded to 20 decimals, of 21 that the file has\n\
+tetfit: coordinates were rounded to 35 decimals, of 36 that the file has\n\
 tetfit: four points that are not in one plane are wanted\n";
 
 /// The message on a model beside the status.
@@ -240,7 +240,14 @@ const SOLID_AFAR: &[u8] = b"4 3 0 0\n1 1000000000000 0 0\n2 1000000000004.5 0 0\
 const SOLID_AFAR_NODE: &[u8] = b"4 3 0 0\n1 1000000000000 0 0\n2 1000000000004.5 0 0\n\
       3 1000000000000 4 0\n4 1000000000000 0 4\n";
 
-static FITS: [Run<'static>; 7] = [
+/// A tetrahedron in units of 10^-25, which have more decimals than words may ask for.
+const MINUTE: &[u8] = b"4 3 0 0\n1 0 0 0\n2 1.5e-25 0 0\n3 0 1e-25 0\n4 0 0 1e-25\n";
+
+const MINUTE_NODE: &[u8] = b"4 3 0 0\n1 0 0 0\n\
+      2 0.00000000000000000000000015 0 0\n\
+      3 0 0.0000000000000000000000001 0\n4 0 0 0.0000000000000000000000001\n";
+
+static FITS: [Run<'static>; 8] = [
     Run {
         name: "many decimals",
         held: &[(b"t.node", &[TINY])],
@@ -261,6 +268,13 @@ static FITS: [Run<'static>; 7] = [
         words: &[b"t"],
         end: Told(b"points 4 added 0 tetrahedra 1 faces 4 edges 6 decimals 1\n"),
         files: &[(b"t.1.node", Some(NODE))],
+    },
+    Run {
+        name: "a model in units of 10^-25",
+        held: &[(b"m.node", &[MINUTE])],
+        words: &[b"m.node"],
+        end: Told(b"points 4 added 0 tetrahedra 1 faces 4 edges 6 decimals 26\n"),
+        files: &[(b"m.1.node", Some(MINUTE_NODE))],
     },
     Run {
         name: "points far from zero",
