@@ -9,6 +9,8 @@ mod Firsts
 mod OffGrid
 mod Tries
 mod PartsBefore
+mod Halvings
+mod Missing
 mod RoundedFirst
 mod Openings
 mod FacetSides

@@ -1,7 +1,6 @@
 -- What a piece is a part of.
-use Rattle.std.proofs.Common.{ℕ, zero, suc, ◌-◌, ◌<◌, ◌≡◌, ◌≢◌, Bool, true, false, max, length, List, Option, Result, Ok, Err, inl, refl, subst, sym, ◌∙◌, arith, eqb-true, eq-eqb}
-use Rattle.std.specs.Prelude.{◌==◌, IfOk, IfSome}
-use Rattle.std.proofs.lemmas.Bool.{true≢false}
+use Rattle.std.proofs.Common.{ℕ, zero, suc, ◌+◌, ◌-◌, ◌≡◌, max, length, List, Result, Ok, Err, refl, subst, sym, arith}
+use Rattle.std.specs.Prelude.{IfOk}
 use Rattle.command_words.specs.declared.options.Options.{Options}
 use Rattle.geo_laws.specs.declared.complex.Piece.{Piece}
 use Rattle.node_files.specs.declared.limits.Limits.{Limits}
@@ -12,18 +11,13 @@ use Rattle.tet_ports.specs.declared.NoMemory.{NoMemory}
 use Rattle.run_steps.specs.declared.input.Input.{Input}
 use Rattle.tetfit_run.specs.Hints.{first_facet, segment_line, IsHalvedAfter, IsHalvedPartOf, IsLineOf, TellsSegment}
 
--- as many points
-pub halved_too : (limits : Limits) (options : Options) (input : Input) (n m : ℕ) (found : Option Piece) → n ≡ m → IfSome found (IsHalvedAfter limits options input n)
-    → IfSome found (IsHalvedAfter limits options input m)
-halved_too limits options input n m found e = subst (λ k. IfSome found (IsHalvedAfter limits options input k)) e
-
 -- it is a part of what the piece before it is a part of
-pub part_before : (limits : Limits) (options : Options) (input : Input) (count left : ℕ) (p before whole : Piece) → 0 < left → IsHalvedAfter limits options input (max p.a p.b - count) before
-    → IsHalvedPartOf limits options input count (left - 1) before whole → IsHalvedPartOf limits options input count left p whole
-part_before limits options input count zero p before whole lt h part = absurd (omega arith)
-part_before limits options input count (suc n) p before whole lt h part =
-    let e : suc n - 1 ≡ n = omega arith in
-    (before, h, subst (λ k. IsHalvedPartOf limits options input count k before whole) e part)
+pub part_before : (limits : Limits) (options : Options) (input : Input) (count left less : ℕ) (p before whole : Piece) → left ≡ less + 1 → IsHalvedAfter limits options input (max p.a p.b - count) before
+    → IsHalvedPartOf limits options input count less before whole → IsHalvedPartOf limits options input count left p whole
+part_before limits options input count zero less p before whole e h part = absurd (omega arith)
+part_before limits options input count (suc n) less p before whole e h part =
+    let same : less ≡ n = omega arith in
+    (before, h, subst (λ k. IsHalvedPartOf limits options input count k before whole) same part)
 
 -- a piece that was not halved is the whole
 pub part_whole : (limits : Limits) (options : Options) (input : Input) (count left : ℕ) (p : Piece) → left ≡ 0 → IsHalvedPartOf limits options input count left p p
@@ -40,19 +34,9 @@ line_told limits options input by whole bound (Err e) h is = is
 -- and of a piece
 pub whole_told : (limits : Limits) (options : Options) (input : Input) (by : Numbering) (p whole : Piece) (count : ℕ) (r : Result (List ℕ) NoMemory) → count ≡ length by.names
     → IsHalvedPartOf limits options input count p.halvings p whole → IfOk r (IsLineOf limits options input by whole) → IfOk r (TellsSegment limits options input by p)
-whole_told limits options input by p whole count (Ok line) c part told = inl (record {
+whole_told limits options input by p whole count (Ok line) c part told = record {
   whole = whole;
   part = subst (λ n. IsHalvedPartOf limits options input n p.halvings p whole) c part;
   told = told;
-})
+}
 whole_told limits options input by p whole count (Err e) c part told = told
-
--- of a piece that was never halved
-pub unhalved_told : (limits : Limits) (options : Options) (input : Input) (by : Numbering) (p : Piece) (test : Bool) (r : Result (List ℕ) NoMemory) → test ≡ (p.halvings == 0) → test ≡ true
-    → IfOk r (IsLineOf limits options input by p) → IfOk r (TellsSegment limits options input by p)
-unhalved_told limits options input by p test r e t told =
-    whole_told limits options input by p p (length by.names) r refl (part_whole limits options input (length by.names) p.halvings p (eqb-true p.halvings 0 (sym e ∙ t))) told
-
--- of one that was halved
-pub not_zero : (n : ℕ) (test : Bool) → test ≡ (n == 0) → test ≡ false → n ≢ 0
-not_zero n test e f = λ z. true≢false (sym (eq-eqb n 0 z) ∙ sym e ∙ f)

@@ -1,5 +1,5 @@
 -- The lines that follow the message on a refused model.
-use Rattle.std.specs.Prelude.{◌≡◌, ◌≢◌, ◌⊎◌, ℕ, zero, suc, ◌+◌, ◌-◌, min, max, nat_lt, nat_le, ◌==◌, ◌&&◌, Bool, length, position, drop, find, slice_get, slice_index, List, [], ◌++◌, codes, Option, Some, None, Ok, Err, if◌then◌else◌}
+use Rattle.std.specs.Prelude.{◌≡◌, ℕ, zero, suc, ◌+◌, ◌-◌, min, max, nat_lt, nat_le, ◌==◌, ◌&&◌, Bool, length, position, drop, find, slice_get, slice_index, List, [], ◌++◌, codes, Option, Some, None, Ok, Err, if◌then◌else◌}
 use Rattle.std.specs.Fmt.{decimal}
 use Rattle.std.specs.List.{list_any}
 use Rattle.std.specs.Option.{option_map_or}
@@ -57,16 +57,27 @@ part_line points by part = codes "tetfit: points" ++ corners_text points by part
 abbrev pub with_budget : ℕ → Options → Options
 with_budget added options = record options { budget = added }
 
--- the subsegment that is no edge of the mesh when the budget of added points is spent
+-- the subsegment that is no edge of the mesh and is not halved again
 abbrev pub missing_in : Status → Option Piece
+missing_in (GridEnd piece) = Some piece
 missing_in (BudgetEnd made piece) = Some piece
 missing_in status = None
 
--- once `added` points are added the subsegment p is missing, so that the next point is added to halve it
-pub record IsHalvedAfter (limits : Limits) (options : Options) (input : Input) (added : ℕ) (p : Piece) : Type 0 where
+-- the input is refused since the subsegment p is no edge of its mesh
+pub record IsMissing (limits : Limits) (options : Options) (input : Input) (p : Piece) : Type 0 where
   pub status : Status
-  pub answer : MeshedTried limits (with_budget added options) input (Err status)
+  pub answer : MeshedTried limits options input (Err status)
   pub missing : missing_in status ≡ Some p
+
+-- once `added` points are added the subsegment p is missing, so that the next point is added to halve it
+abbrev pub IsHalvedAfter : Limits → Options → Input → ℕ → Piece → Type 0
+IsHalvedAfter limits options input added p = IsMissing limits (with_budget added options) input p
+
+-- the input is on its grid, where it has `count` points
+pub record HasPoints (limits : Limits) (options : Options) (input : Input) (count : ℕ) : Type 0 where
+  pub bound : Bound
+  pub on_grid : BoundTried limits options input (Ok bound)
+  pub counted : count ≡ length bound.table.points
 
 -- A subsegment that was halved *n* times, of a model with a number of points, is a part of the whole: its later end was
 -- added to halve the subsegment before it
@@ -110,14 +121,10 @@ pub record IsLineOf (limits : Limits) (options : Options) (input : Input) (by : 
   pub is : line ≡ segment_line by whole (first_facet bound.complex whole)
 
 -- the line names the segment of which the subsegment is a part
-pub record TellsWhole (limits : Limits) (options : Options) (input : Input) (by : Numbering) (p : Piece) (line : List ℕ) : Type 0 where
+pub record TellsSegment (limits : Limits) (options : Options) (input : Input) (by : Numbering) (p : Piece) (line : List ℕ) : Type 0 where
   pub whole : Piece
   pub part : IsHalvedPartOf limits options input (length by.names) p.halvings p whole
   pub told : IsLineOf limits options input by whole line
-
--- the line on a segment that was never halved names it; the line on a part of one names the segment or is empty
-abbrev pub TellsSegment : Limits → Options → Input → Numbering → Piece → List ℕ → Type 0
-TellsSegment limits options input by p line = TellsWhole limits options input by p line ⊎ ((p.halvings ≢ 0) × (line ≡ []))
 
 -- ---- rounded coordinates
 

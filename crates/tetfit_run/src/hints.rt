@@ -1,15 +1,16 @@
 //! The lines that follow the message on a refused model: the segment, the parts or the point at
 //! fault, and the decimals to which coordinates were rounded.
 
-ghost use Rattle.std.specs.Prelude.{◌≡◌, ◌==◌, ◌++◌, Some, IfOk, IfSome, OnOk};
+ghost use Rattle.std.specs.Prelude.{◌≡◌, ◌≤◌, ◌++◌, length, Some, IfOk, IfSome, OnOk};
 ghost use Rattle.grid_coords.specs.Origins.{IsNear};
 ghost use Rattle.node_files.specs.Limits.{AreIndexable};
 ghost use Rattle.run_steps.specs.Reading.{IsSound};
 ghost use Rattle.tetfit_run.specs.Hints.{hinted_facet_text, first_facet, grid_hint, parts_text};
 ghost use Rattle.tetfit_run.specs.Hints.{rounded_line, rounded_text, rounding_text};
-ghost use Rattle.tetfit_run.specs.Hints.{segment_line, IsHint, IsHintBy, IsLineOf, TellsSegment};
+ghost use Rattle.tetfit_run.specs.Hints.{segment_line, HasPoints, IsHint, IsHintBy, IsLineOf};
+ghost use Rattle.tetfit_run.specs.Hints.{IsMissing, TellsSegment};
 ghost use Rattle.tetfit_run.specs.Trial.{AreInTriedRange};
-ghost use Rattle.tetfit_run.specs.Trying.{at_decimals};
+ghost use Rattle.tetfit_run.specs.Trying.{at_decimals, IsNumbered, IsNumberedAt};
 
 use crate::copies::{at_decimals, tried_nodes};
 use crate::facets::first_facet;
@@ -60,45 +61,37 @@ fn segment_line(
     Ok(text)
 }
 
-/// The line that names a segment of the input; out of memory also where the input can't be put on
-/// its grid again.
+/// The line that names a segment of the input, whose points are put on their grid again.
 fn whole_hint(alloc: Global, trial: &Trial, by: &Numbering, whole: Piece) -> Result<Bytes, NoMemory>
+    requires { HasPoints trial.now.limits trial.now.options trial.now.input
+        (length by.now.names) }
     ensures { IfOk result (IsLineOf trial.now.limits trial.now.options
         trial.now.input by.now whole) }
 {
     let nodes = tried_nodes(alloc, trial.options, &trial.input.nodes)?;
     match trial.bind(alloc, nodes) {
         Ok(bound) => segment_line(alloc, &bound.complex, by, whole),
-        Err(_) => Err(NoMemory),
+        Err(Status::NoMemory) => Err(NoMemory),
+        Err(_) => unreachable!(),
     }
 }
 
-/// Whether the subsegment is a whole segment, which was never halved.
-fn is_whole(piece: Piece) -> bool
-    ensures { result ≡ (piece.halvings == 0) }
-{
-    piece.halvings == 0
-}
-
-/// The line that names the segment on which a subsegment lies; no text where it was halved and no
-/// segment is found.
+/// The line that names the segment on which a missing subsegment lies.
 fn segment_hint(
     alloc: Global,
     trial: &Trial,
     by: &Numbering,
     piece: Piece,
 ) -> Result<Bytes, NoMemory>
+    requires few { trial.now.options.budget ≤ 100000 }
+    requires points { HasPoints trial.now.limits trial.now.options trial.now.input
+        (length by.now.names) }
+    requires missing { IsMissing trial.now.limits trial.now.options trial.now.input piece }
     ensures { IfOk result (TellsSegment trial.now.limits trial.now.options
         trial.now.input by.now piece) }
 {
-    if is_whole(piece) {
-        return whole_hint(alloc, trial, by, piece);
-    }
-    let found = whole_of(alloc, trial, by.names.len(), piece)?;
-    match found {
-        Some(whole) => whole_hint(alloc, trial, by, whole),
-        None => Ok(Bytes::new(alloc)),
-    }
+    let whole = whole_of(alloc, trial, by.names.len(), piece)?;
+    whole_hint(alloc, trial, by, whole)
 }
 
 /// Appends that coordinates were rounded to `decimals` decimals, of `most` that the file has.
@@ -174,6 +167,9 @@ fn parts_hint(
 
 /// The lines that follow the message on an input whose points have these numbers.
 fn hint_by(alloc: Global, trial: &Trial, by: &Numbering, status: &Status) -> Result<Bytes, NoMemory>
+    requires few { trial.now.options.budget ≤ 100000 }
+    requires refused { IsNumbered trial.now.limits trial.now.options trial.now.input
+        status.now (Some by.now) }
     ensures { IfOk result (IsHintBy trial.now.limits trial.now.options
         trial.now.input by.now status.now) }
 {
@@ -230,6 +226,8 @@ pub fn hint_of(
     requires limits { AreIndexable limits }
     requires input { IsSound model.now.input }
     requires ranges { AreInTriedRange (at_decimals refused.now.decimals options.now) }
+    requires refused { IsNumberedAt limits options.now model.now.input
+        refused.now.decimals refused.now.end }
     ensures { IfOk result
         (IsHint limits model.now.stated (at_decimals refused.now.decimals options.now)
         model.now.input refused.now.end.numbering refused.now.end.status) }
