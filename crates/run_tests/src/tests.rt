@@ -1,5 +1,6 @@
 //! Runs of the program over folders and streams in memory.
 
+mod array_meshes;
 mod calls_in_memory;
 mod check_runs;
 mod cloud_runs;

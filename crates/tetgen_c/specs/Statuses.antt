@@ -1,10 +1,10 @@
 -- The statuses with which a call from C ends.
 use Rattle.std.specs.Prelude.{◌≡◌, ℕ, ℤ, pos, List, length}
-use Rattle.memory_runs.specs.Arrays.{AreDelaunayRows, IsArrayFault, IsMeshFault, code_of, wanted_of}
+use Rattle.array_meshes.specs.Arrays.{AreDelaunayRows, IsArrayFault, IsMeshFault, code_of, wanted_of}
 use Rattle.memory_runs.specs.Runs.{IsHandedOver, RunLaw}
-use Rattle.memory_runs.specs.declared.arrays.ArrayFault.{ArrayFault}
-use Rattle.memory_runs.specs.declared.arrays.Place.{Place}
-use Rattle.memory_runs.specs.declared.arrays.Row.{Row}
+use Rattle.array_meshes.specs.declared.arrays.ArrayFault.{ArrayFault}
+use Rattle.array_meshes.specs.declared.arrays.Place.{Place}
+use Rattle.array_meshes.specs.declared.arrays.Row.{Row}
 use Rattle.memory_runs.specs.declared.texts.Task.{Task}
 
 -- a fault has this cause, and the status is its own

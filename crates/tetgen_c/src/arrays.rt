@@ -1,10 +1,10 @@
 //! The Delaunay list of an array of points, for C.
 
 ghost use Rattle.std.specs.Prelude.{◌≡◌, ◌≤◌, pos, drop, length, take};
-ghost use Rattle.memory_runs.specs.Arrays.{AreDelaunayRows};
+ghost use Rattle.array_meshes.specs.Arrays.{AreDelaunayRows};
 ghost use Rattle.tetgen_c.specs.Statuses.{HasLength, IsRefused, IsRefusedInto};
 
-use memory_runs::{Place, Row, delaunay_into, delaunay_rows};
+use array_meshes::{Place, Row, delaunay_into, delaunay_rows};
 use std::alloc::Global;
 use std::mem::forget;
 

@@ -1,9 +1,7 @@
 //! Calls on arrays of points and on texts in memory.
 
-use memory_runs::{
-    ArrayFault, HandedOver, Place, Row, RunFault, Slice, Task, Text, delaunay_into, delaunay_rows,
-    tetgen_into,
-};
+use array_meshes::{ArrayFault, Place, Row, delaunay_into, delaunay_rows};
+use memory_runs::{HandedOver, RunFault, Slice, Task, Text, tetgen_into};
 use std::alloc::Global;
 use std::test::Fail;
 

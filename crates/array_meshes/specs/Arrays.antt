@@ -1,8 +1,10 @@
 -- Arrays of points with whole coordinates, and the Delaunay list of such an array as an array of rows.
-use Rattle.std.specs.Prelude.{◌≡◌, ◌⊎◌, ℕ, ◌<◌, ◌≤◌, ℤ, unsigned_abs, List, [], map, length, false, All, slice_index, None}
+use Rattle.std.specs.Prelude.{◌≡◌, ◌⊎◌, ℕ, ◌^◌, ◌<◌, ◌≤◌, min, ℤ, pos, ◌*ℤ◌, unsigned_abs, List, [], map, length, false, All, slice_index, None}
 use Rattle.geo_laws.specs.Delaunay.{AreCoplanar, IsDelaunayList}
 use Rattle.geo_laws.specs.declared.tetrahedra.Tet.{Tet}
+use Rattle.grid_coords.specs.Choice.{greatest_size, halvings_for, most_halvings}
 use Rattle.grid_coords.specs.Units.{limit}
+use Rattle.grid_coords.specs.declared.grid.Grid.{Grid}
 use Rattle.grid_coords.specs.declared.points.DecimalPoint.{DecimalPoint}
 use Rattle.node_files.specs.Folding.{IsFolded}
 use Rattle.node_files.specs.declared.limits.Limits.{Limits}
@@ -11,10 +13,10 @@ use Rattle.node_files.specs.declared.table.GridOptions.{GridOptions}
 use Rattle.node_files.specs.declared.table.NodeTable.{NodeTable}
 use Rattle.sign_predicates.specs.Point.{Point}
 use Rattle.tet_text.specs.Decimals.{Scaled}
-use Rattle.memory_runs.specs.declared.arrays.ArrayFault.{ArrayFault}
-use Rattle.memory_runs.specs.declared.arrays.ArrayFault.TheVariants.{TooMany, OffGrid, Flat, NoRoom, NoMemory}
-use Rattle.memory_runs.specs.declared.arrays.Place.{Place}
-use Rattle.memory_runs.specs.declared.arrays.Row.{Row}
+use Rattle.array_meshes.specs.declared.arrays.ArrayFault.{ArrayFault}
+use Rattle.array_meshes.specs.declared.arrays.ArrayFault.TheVariants.{TooMany, OffGrid, Flat, NoRoom, NoMemory}
+use Rattle.array_meshes.specs.declared.arrays.Place.{Place}
+use Rattle.array_meshes.specs.declared.arrays.Row.{Row}
 
 -- ---- the points
 
@@ -35,11 +37,55 @@ pub record IsNear (p : Place) : Type 0 where
   pub y : unsigned_abs p.y ≤ limit
   pub z : unsigned_abs p.z ≤ limit
 
--- the points are few and near enough, and those of the table are the ones that are equal to no earlier one
-pub record IsArrayTable (places : List Place) (table : NodeTable) : Type 0 where
+-- ---- the points as the text of a point list
+
+-- the whole number as a decimal
+abbrev pub whole : ℤ → Scaled
+whole n = record { value = n; scale = 0 }
+
+abbrev pub decimal_point : Place → DecimalPoint
+decimal_point p = record { x = whole p.x; y = whole p.y; z = whole p.z; line = 0 }
+
+-- the points without attributes and markers, numbered from 0
+abbrev pub text_of : List Place → NodeText
+text_of places = record {
+  first = 0;
+  attribute_count = 0;
+  flag = false;
+  decimals = map decimal_point places;
+  attributes = [];
+  markers = [];
+}
+
+-- nothing is rounded, and the unit is 1, which may be halved up to `most` times
+abbrev pub whole_units : ℕ → GridOptions
+whole_units most = record { decimals = None; halvings = most }
+
+-- the limits of `tetfit`: 2^30 bytes of a file, 4,000,000 points and facets, 1,000,000 corners of a polygon, and coordinates up to 2^29
+abbrev pub array_limits : Limits
+array_limits = record { bytes = 1073741824; points = most_places; facets = 4000000; corners = 1000000; grid = limit }
+
+-- ---- the points on their grid
+
+-- how often the unit is halved: the largest number up to `most`, and up to 18, with which each coordinate is at most 2^29 units in size
+abbrev pub halvings_of : ℕ → List Place → ℕ
+halvings_of most places = halvings_for limit (min most_halvings most) (greatest_size 0 (map decimal_point places))
+
+-- the grid whose unit is 1 / 2^halvings
+abbrev pub halved_grid : ℕ → Grid
+halved_grid halvings = record { decimals = 0; halvings = halvings }
+
+-- the point in units of 1 / 2^halvings
+abbrev pub halved_point : ℕ → Place → Point
+halved_point halvings p = record { x = pos (2 ^ halvings) *ℤ p.x; y = pos (2 ^ halvings) *ℤ p.y; z = pos (2 ^ halvings) *ℤ p.z }
+
+-- the points are few and near enough; the table has them in the units of its grid, where those that are equal to no earlier one are kept
+pub record IsArrayTable (most : ℕ) (places : List Place) (table : NodeTable) : Type 0 where
   pub few : length places ≤ most_places
   pub near : All IsNear places
-  pub folding : IsFolded (points_of places) table.points table.names table.folded
+  pub grid_is : table.grid ≡ halved_grid (halvings_of most places)
+  pub listed_are : table.listed ≡ map (halved_point table.grid.halvings) places
+  pub folding : IsFolded table.listed table.points table.names table.folded
 
 -- ---- the rows
 
@@ -78,13 +124,17 @@ pub record LacksRoom (places : List Place) (room count : ℕ) : Type 0 where
   pub counted : count ≡ length rows
   pub more : room < count
 
+-- why the points are on no grid; out of memory may always come
+abbrev pub IsTableFault : List Place → ArrayFault → Type 0
+IsTableFault places TooMany = most_places < length places
+IsTableFault places OffGrid = ¬ All IsNear places
+IsTableFault places NoMemory = Unit {0}
+IsTableFault places fault = ⊥
+
 -- why the points have no mesh; it is no want of room
 abbrev pub IsMeshFault : List Place → ArrayFault → Type 0
-IsMeshFault places TooMany = most_places < length places
-IsMeshFault places OffGrid = ¬ All IsNear places
 IsMeshFault places Flat = AreCoplanar (points_of places)
-IsMeshFault places (NoRoom count) = ⊥
-IsMeshFault places NoMemory = Unit {0}
+IsMeshFault places fault = IsTableFault places fault
 
 -- why the rows are not in an array with this room
 abbrev pub IsArrayFault : List Place → ℕ → ArrayFault → Type 0
@@ -103,31 +153,3 @@ code_of (NoRoom count) = 20
 abbrev pub wanted_of : ArrayFault → ℕ
 wanted_of (NoRoom count) = count
 wanted_of fault = 0
-
--- ---- the points as the text of a point list
-
--- the whole number as a decimal
-abbrev pub whole : ℤ → Scaled
-whole n = record { value = n; scale = 0 }
-
-abbrev pub decimal_point : Place → DecimalPoint
-decimal_point p = record { x = whole p.x; y = whole p.y; z = whole p.z; line = 0 }
-
--- the points without attributes and markers, numbered from 0
-abbrev pub text_of : List Place → NodeText
-text_of places = record {
-  first = 0;
-  attribute_count = 0;
-  flag = false;
-  decimals = map decimal_point places;
-  attributes = [];
-  markers = [];
-}
-
--- nothing is rounded, and the unit is 1
-abbrev pub whole_units : GridOptions
-whole_units = record { decimals = None; halvings = 0 }
-
--- the limits of `tetfit`: 2^30 bytes of a file, 4,000,000 points and facets, 1,000,000 corners of a polygon, and coordinates up to 2^29
-abbrev pub array_limits : Limits
-array_limits = record { bytes = 1073741824; points = most_places; facets = 4000000; corners = 1000000; grid = limit }

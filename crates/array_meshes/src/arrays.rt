@@ -4,7 +4,7 @@ ghost use Rattle.std.specs.Prelude.{◌≡◌, ◌≤◌, ◌<◌, ◌-◌, ◌^
 ghost use Rattle.geo_laws.specs.Delaunay.{HasDistinctPoints};
 ghost use Rattle.node_files.specs.Limits.{AreIndexable};
 ghost use Rattle.node_files.specs.Node.{IsNodeText};
-ghost use Rattle.memory_runs.specs.Arrays.{AreDelaunayRows, IsArrayFault, IsArrayTable, IsMeshFault, array_limits, code_of, decimal_point, named, text_of, wanted_of, whole};
+ghost use Rattle.array_meshes.specs.Arrays.{AreDelaunayRows, IsArrayFault, IsArrayTable, IsMeshFault, IsTableFault, array_limits, code_of, decimal_point, named, text_of, wanted_of, whole};
 
 use cavity_insert::{BuildFault, delaunay};
 use geo_laws::TetList;
@@ -55,7 +55,7 @@ pub enum ArrayFault {
 }
 
 impl From<NoMemory> for ArrayFault {
-    ghost use Rattle.memory_runs.specs.declared.arrays.ArrayFault.TheVariants.{NoMemory as OutOfMemory};
+    ghost use Rattle.array_meshes.specs.declared.arrays.ArrayFault.TheVariants.{NoMemory as OutOfMemory};
 
     ghost from_gives = { λ _ fault. fault ≡ OutOfMemory };
 
@@ -114,7 +114,7 @@ fn whole(n: i64) -> Decimal
 }
 
 /// A point of an array as a point list states it.
-fn decimal_point(p: &Place) -> DecimalPoint
+pub(crate) fn decimal_point(p: &Place) -> DecimalPoint
     ensures { result ≡ decimal_point p.now }
 {
     DecimalPoint {
@@ -170,11 +170,16 @@ fn named_rows(alloc: Global, names: &Names, list: &TetList) -> Result<Vec<Row>, 
     Ok(rows)
 }
 
-/// The points of an array on the grid of whole numbers, where equal ones are folded.
-fn table_of(alloc: Global, places: &[Place]) -> Result<NodeTable, ArrayFault>
-    ensures table { IfOk result (IsArrayTable places.now) }
+/// The points of an array on the grid of whole numbers, whose unit is halved up to so many times as
+/// all points fit, where equal ones are folded.
+pub(crate) fn table_of(
+    alloc: Global,
+    places: &[Place],
+    halvings: u32,
+) -> Result<NodeTable, ArrayFault>
+    ensures table { IfOk result (IsArrayTable halvings places.now) }
     ensures distinct { IfOk result (λ table. HasDistinctPoints table.points) }
-    ensures fault { IfErr result (IsMeshFault places.now) }
+    ensures fault { IfErr result (IsTableFault places.now) }
 {
     if places.len() > 4_000_000 {
         return Err(ArrayFault::TooMany);
@@ -182,7 +187,7 @@ fn table_of(alloc: Global, places: &[Place]) -> Result<NodeTable, ArrayFault>
     let text = text_of(alloc, places)?;
     let options = GridOptions {
         decimals: None,
-        halvings: 0,
+        halvings,
     };
     match settle(alloc, array_limits(), text, &options) {
         Ok(table) => Ok(table),
@@ -201,7 +206,7 @@ pub fn delaunay_rows(alloc: Global, places: &[Place]) -> Result<Vec<Row>, ArrayF
     ensures rows { IfOk result (λ rows. AreDelaunayRows places.now rows.items) }
     ensures fault { IfErr result (IsMeshFault places.now) }
 {
-    let table = table_of(alloc, places)?;
+    let table = table_of(alloc, places, 0)?;
     let list = match delaunay(alloc, &table.points) {
         Ok(list) => list,
         Err(BuildFault::Flat) => return Err(ArrayFault::Flat),
