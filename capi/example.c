@@ -1,4 +1,5 @@
-/* The Delaunay list of a pyramid, in the caller's array and in a block of memory; a run on its text; and refusals of each. */
+/* The Delaunay list of a pyramid, in the caller's array and in a block of memory; the mesh of a tetrahedron with facets; a run on a text; and
+   refusals of each. */
 #include "tetgen.h"
 #include <stdio.h>
 #include <stdlib.h>
@@ -39,6 +40,35 @@ static void in_a_block(void) {
     far[4].z = (int64_t)1 << 29;
     check(tetgen_delaunay(far, 5, &out) == TETGEN_DONE && out.len == 2, "the largest coordinate");
     free(out.at);
+}
+
+static const tetgen_place CORNERED[4] = {{0, 0, 0}, {4, 0, 0}, {0, 4, 0}, {0, 0, 4}};
+static const uint32_t CORNERS[12] = {0, 1, 2, 0, 1, 3, 0, 2, 3, 1, 2, 3};
+static const tetgen_polygon TRIANGLES[4] = {{0, 3}, {3, 6}, {6, 9}, {9, 12}};
+static const tetgen_facet FACETS[4] = {{0, 1, 10}, {1, 2, 20}, {2, 3, 30}, {3, 4, -40}};
+static const tetgen_place INSIDE[1] = {{1, 1, 1}};
+
+static void of_a_complex(void) {
+    tetgen_complex complex = {CORNERED, 4, CORNERS, 12, TRIANGLES, 4, FACETS, 4, NULL, 0, INSIDE, 1, TETGEN_OPTIONS};
+    tetgen_place points[5] = {{0, 0, 0}};
+    tetgen_cell cells[2] = {{0, 0, 0, 0, 0}};
+    tetgen_face faces[4] = {{0, 0, 0, 0}};
+    tetgen_counts counts;
+    complex.options.regions = true;
+    complex.options.halvings = 1;
+    check(tetgen_mesh_into(&complex, points, 5, cells, 2, NULL, 0, &counts) == TETGEN_NO_ROOM && counts.faces == 4, "no room for faces");
+    complex.point_count = 3;
+    check(tetgen_mesh_into(&complex, points, 5, cells, 2, faces, 4, &counts) == TETGEN_BAD_INDEX && counts.faces == 0, "a corner out of range");
+    complex.facet_count = 0;
+    check(tetgen_mesh_into(&complex, points, 5, cells, 2, faces, 4, &counts) == TETGEN_FLAT && points[1].x == 0, "three points");
+    complex.point_count = complex.facet_count = 4;
+    check(tetgen_mesh_into(&complex, points, 5, cells, 2, faces, 4, &counts) == TETGEN_DONE, "a tetrahedron");
+    for (size_t i = 0; i < counts.points; i++)
+        printf("%lld %lld %lld\n", (long long)points[i].x, (long long)points[i].y, (long long)points[i].z);
+    for (size_t i = 0; i < counts.cells; i++)
+        printf("%u %u %u %u in %u\n", cells[i].a, cells[i].b, cells[i].c, cells[i].d, cells[i].region);
+    for (size_t i = 0; i < counts.faces; i++)
+        printf("%u %u %u marked %lld\n", faces[i].a, faces[i].b, faces[i].c, (long long)faces[i].marker);
 }
 
 #define SLICE(text) {text, sizeof(text) - 1}
@@ -83,6 +113,7 @@ static void over_texts(void) {
 int main(void) {
     in_an_array();
     in_a_block();
+    of_a_complex();
     over_texts();
     return 0;
 }

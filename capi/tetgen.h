@@ -7,6 +7,7 @@
 #ifndef TETGEN_H
 #define TETGEN_H
 
+#include <stdbool.h>
 #include <stddef.h>
 #include <stdint.h>
 
@@ -16,8 +17,12 @@ extern "C" {
 
 enum {
     TETGEN_DONE = 0,
+    TETGEN_BAD_INDEX = 4,  /* a facet, a polygon or a corner names what is not there */
     TETGEN_LIMIT = 5,      /* too many points, or a coordinate that is too large */
-    TETGEN_FLAT = 6,       /* all points lie in one plane, as fewer than four do */
+    TETGEN_FLAT = 6,       /* all points lie in one plane, as fewer than four do; or facets are not flat, or facets or segments cross */
+    TETGEN_GRID_END = 7,   /* a segment needs more halvings */
+    TETGEN_BUDGET_END = 8, /* as many points were added as allowed, and a segment is missing */
+    TETGEN_NO_FILL = 9,    /* two facets cross one Delaunay tetrahedron, and no filling was found */
     TETGEN_NO_MEMORY = 10, /* out of memory */
     TETGEN_NO_ROOM = 20    /* an array of the caller is too short */
 };
@@ -55,6 +60,83 @@ int32_t tetgen_delaunay_into(const tetgen_place *places, size_t n, tetgen_row *r
    TETGEN_DONE: out has a block with the list, of out->len rows. It is the list of tetgen_delaunay_into; what is proved is its length.
    TETGEN_LIMIT, TETGEN_FLAT, TETGEN_NO_MEMORY: as above; out stays as it was. */
 int32_t tetgen_delaunay(const tetgen_place *places, size_t n, tetgen_rows *out);
+
+/* A polygon: its corners are those from first to before past in the array of corners. */
+typedef struct {
+    size_t first, past;
+} tetgen_polygon;
+
+/* A facet: its polygons are those from first to before past in the array of polygons; and its marker. */
+typedef struct {
+    size_t first, past;
+    int64_t marker;
+} tetgen_facet;
+
+/* How the mesh of a complex is made. The program's own numbers are TETGEN_OPTIONS. */
+typedef struct {
+    uint32_t halvings; /* how often the unit may be halved, where points are added on segments; over 18 counts as 18 */
+    uint32_t budget;   /* how many points may be added on segments, at most 100,000,000 */
+    bool keep_hull;    /* tetrahedra that no facet parts from the outside are kept */
+    bool keep_facets;  /* coplanar facets that are joined over a common side stay apart */
+    bool regions;      /* tetrahedra are marked by regions */
+} tetgen_options;
+
+#define TETGEN_OPTIONS {12, 100000, false, false, false}
+
+/* A piecewise linear complex. Corners are places of points, from 0. What a path through no facet joins with a point of holes is carved away; each
+   tetrahedron belongs to the first point of regions that such a path joins with it. */
+typedef struct {
+    const tetgen_place *points;
+    size_t point_count;
+    const uint32_t *corners;
+    size_t corner_count;
+    const tetgen_polygon *polygons;
+    size_t polygon_count;
+    const tetgen_facet *facets;
+    size_t facet_count;
+    const tetgen_place *holes;
+    size_t hole_count;
+    const tetgen_place *regions;
+    size_t region_count;
+    tetgen_options options;
+} tetgen_complex;
+
+/* The region of a tetrahedron that is in none. */
+#define TETGEN_NO_REGION UINT32_MAX
+
+/* A tetrahedron by the places of its corners in the points of a mesh, from 0, in the order of tetgen_row, and the place of its region. */
+typedef struct {
+    uint32_t a, b, c, d;
+    uint32_t region;
+} tetgen_cell;
+
+/* A face of a mesh by the places of its corners, and its marker: that of the first facet in which it lies, or 1 where it lies in none. */
+typedef struct {
+    uint32_t a, b, c;
+    int64_t marker;
+} tetgen_face;
+
+/* How long the lists of a mesh are, and the halvings: its coordinates are whole numbers over 2^halvings. */
+typedef struct {
+    size_t points, cells, faces;
+    uint32_t halvings;
+} tetgen_counts;
+
+/* Writes the mesh of a complex to the front of points, cells and faces, which have room for so many, and the lengths to counts.
+
+   TETGEN_DONE: the lists are a mesh of the complex, exactly. points has all points of the complex, and those behind them that were added on
+   segments; each coordinate is a whole number over 2^halvings, where the unit is halved as often as the options allow and all coordinates stay at
+   most 2^29. cells has the tetrahedra, ascending: they fill what the facets enclose, but for the holes, have each facet as faces, and are locally
+   Delaunay but at facets. faces has the faces on the hull and those that lie in facets, ascending. Of equal points the first alone is a corner.
+   What lies behind stays.
+   On any other status the three arrays stay as they were, and counts is 0 but for TETGEN_NO_ROOM:
+   TETGEN_BAD_INDEX: a facet names a polygon, a polygon a corner, or a corner a point that is not there.
+   TETGEN_LIMIT: there are more than 4,000,000 points, or a coordinate is over 2^29 in size, or options.budget is over 100,000,000.
+   TETGEN_FLAT, TETGEN_GRID_END, TETGEN_BUDGET_END, TETGEN_NO_FILL: there is no mesh, as their lines above say.
+   TETGEN_NO_MEMORY.
+   TETGEN_NO_ROOM: one of the arrays is shorter than its list; counts has the lengths. */
+int32_t tetgen_mesh_into(const tetgen_complex *complex, tetgen_place *points, size_t point_room, tetgen_cell *cells, size_t cell_room,
+                         tetgen_face *faces, size_t face_room, tetgen_counts *counts);
 
 /* Bytes: a word, or the name of a file. */
 typedef struct {

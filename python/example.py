@@ -1,5 +1,5 @@
-"""Meshes of arrays and of texts by tetgen.py: a pyramid, 2,000 points, refusals, and as many calls of each kind as its word says, 10,000 without
-one, that keep no memory."""
+"""Meshes of arrays and of texts by tetgen.py: a pyramid, a box with a wall, 2,000 points, refusals, and as many calls of each kind as its word
+says, 10,000 without one, that keep no memory."""
 import random
 import sys
 
@@ -9,6 +9,9 @@ import tetgen
 
 NODE = "5 3 0 0\n0 0 0 0\n1 2 0 0\n2 2 2 0\n3 0 2 0\n4 1 1 2\n"
 PYRAMID = [(0, 0, 0), (2, 0, 0), (2, 2, 0), (0, 2, 0), (1, 1, 2)]
+# A box of 6 by 4 by 2 with a wall of 4 by 2 in it, from the floor to the lid.
+BOX = [(x, y, z) for x in (0, 6) for y in (0, 4) for z in (0, 2)] + [(x, 2, z) for x in (1, 5) for z in (0, 2)]
+SIDES = [[0, 1, 3, 2], [4, 6, 7, 5], [0, 4, 5, 1], [2, 3, 7, 6], [[0, 2, 6, 4], [8, 10]], [[1, 5, 7, 3], [9, 11]], [8, 10, 11, 9]]
 CALLS = int(sys.argv[1]) if len(sys.argv) > 1 else 10_000
 # What a process may take more after the calls than before them: none of them keeps a page.
 PAGE = 4096
@@ -24,6 +27,14 @@ def resident():
 def refused(points):
     try:
         tetgen.delaunay(points)
+    except tetgen.TetgenError as error:
+        return error.status
+    return 0
+
+
+def mesh_refused(points, facets, **options):
+    try:
+        tetgen.mesh(points, facets, **options)
     except tetgen.TetgenError as error:
         return error.status
     return 0
@@ -47,8 +58,24 @@ def call(points):
     """Calls of each kind, two of them refused."""
     tetgen.delaunay(points)
     refused(PYRAMID[:4])
+    tetgen.mesh(BOX, SIDES, regions=[(1, 1, 1)])
+    mesh_refused(BOX, [[0, 1, 99]])
     tetgen.run(["-n", "p"], {"p.node": NODE})
     run_refused(["-n", "p"], {})
+
+
+def of_a_complex():
+    """A box with a wall in it, whose mesh fills it, and refusals."""
+    made = tetgen.mesh(BOX, SIDES, markers=range(10, 17), regions=[(9, 9, 9), (1, 1, 1)])
+    sixth = volumes(made.points, made.rows) / 8.0**made.halvings
+    assert (sixth > 0).all() and sixth.sum() == 6 * 48
+    assert (made.points[: len(BOX)] == np.array(BOX) << made.halvings).all() and (made.coordinates()[: len(BOX)] == BOX).all()
+    assert set(made.regions) == {1} and set(made.markers) == set(range(10, 17))
+    assert len(tetgen.mesh(BOX, [], keep_hull=True).rows) == len(tetgen.delaunay(BOX))
+    assert len(tetgen.mesh(BOX, SIDES, holes=[(1, 1, 1)]).rows) == 0
+    assert mesh_refused(BOX, [[0, 1, 99]]) == 4 and mesh_refused(BOX, [[0, 1, 7, 4]]) == 6
+    assert mesh_refused(BOX[:4], []) == 6 and mesh_refused([*BOX, (0, 0, 2**29 + 1)], []) == 5
+    print(f"{len(made.points)} points, {len(made.rows)} tetrahedra in a box with a wall")
 
 
 def main():
@@ -60,6 +87,8 @@ def main():
     print(*run_refused(["-n", "p"], {}))
     assert refused(PYRAMID[:4]) == 6 and refused([]) == 6
     assert refused([*PYRAMID, (0, 0, 2**29 + 1)]) == 5
+
+    of_a_complex()
 
     random.seed(1)
     points = np.array([[random.randrange(1000) for _ in range(3)] for _ in range(2000)])

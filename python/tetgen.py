@@ -15,6 +15,16 @@ _REASONS = {
     6: "all points lie in one plane",
     10: "out of memory",
 }
+_COMPLEX_REASONS = {
+    **_REASONS,
+    4: "a corner that names no point",
+    5: "more than 4000000 points, a coordinate over 2^29 in size, or more than 100000000 points that may be added",
+    6: "all points lie in one plane, a facet is not flat, or facets or segments cross",
+    7: "a segment needs more halvings",
+    8: "as many points were added as allowed, and a segment is missing",
+    9: "two facets cross one Delaunay tetrahedron, and no filling was found",
+}
+NO_REGION = 2**32 - 1
 
 # The endings of the files that the program may write.
 _WRITTEN = (".node", ".ele", ".face", ".edge", ".neigh")
@@ -33,10 +43,34 @@ class _Task(ctypes.Structure):
     _fields_ = [("words", _AT), ("word_count", _SIZE), ("files", _AT), ("file_count", _SIZE), ("wanted", _AT), ("wanted_count", _SIZE)]
 
 
+class _Options(ctypes.Structure):
+    _fields_ = [
+        ("halvings", ctypes.c_uint32), ("budget", ctypes.c_uint32),
+        ("keep_hull", ctypes.c_bool), ("keep_facets", ctypes.c_bool), ("regions", ctypes.c_bool),
+    ]
+
+
+_PARTS = "points", "corners", "polygons", "facets", "holes", "regions"
+
+
+class _Complex(ctypes.Structure):
+    _fields_ = [*(field for it in _PARTS for field in ((it, _AT), (it + "_count", _SIZE))), ("options", _Options)]
+
+
+class _Counts(ctypes.Structure):
+    _fields_ = [("points", _SIZE), ("cells", _SIZE), ("faces", _SIZE), ("halvings", ctypes.c_uint32)]
+
+
+# As tetgen.h lays out tetgen_facet, tetgen_cell and tetgen_face.
+_FACET = np.dtype({"names": ["first", "past", "marker"], "formats": [np.uintp, np.uintp, np.int64]}, align=True)
+_FACE = np.dtype({"names": ["corners", "marker"], "formats": [(np.uint32, 3), np.int64]}, align=True)
+
 _LIBRARY.tetgen_run.argtypes = [ctypes.POINTER(_Task), _AT, _SIZE, _AT, _SIZE, ctypes.POINTER(_SIZE)]
 _LIBRARY.tetgen_run.restype = ctypes.c_int32
 _LIBRARY.tetgen_delaunay_into.argtypes = [_AT, _SIZE, _AT, _SIZE, ctypes.POINTER(_SIZE)]
 _LIBRARY.tetgen_delaunay_into.restype = ctypes.c_int32
+_LIBRARY.tetgen_mesh_into.argtypes = [ctypes.POINTER(_Complex), _AT, _SIZE, _AT, _SIZE, _AT, _SIZE, ctypes.POINTER(_Counts)]
+_LIBRARY.tetgen_mesh_into.restype = ctypes.c_int32
 
 
 class TetgenError(Exception):
@@ -73,6 +107,66 @@ def delaunay(points):
     if status != _DONE:
         raise TetgenError(status, _REASONS[status])
     return rows[: count.value]
+
+
+class Mesh:
+    """The mesh of a complex. `points` are whole numbers over 2^`halvings`, those of the complex first and the added ones behind them; `rows` are the
+    places of the corners of each tetrahedron, in an order with a positive volume; `regions` the place of the region of each, or NO_REGION; `faces`
+    the places of the corners of the faces on the hull and in facets, and `markers` their markers."""
+
+    def __init__(self, points, halvings, cells, faces):
+        self.points, self.halvings = points, halvings
+        self.rows, self.regions = cells[:, :4], cells[:, 4]
+        self.faces, self.markers = faces["corners"], faces["marker"]
+
+    def coordinates(self):
+        """The points as floating-point numbers, which hold them exactly."""
+        return np.ldexp(self.points.astype(float), -self.halvings)
+
+
+def _spans(lengths):
+    """From where to where each of the parts with these lengths lies, one behind another."""
+    past = np.cumsum(np.asarray(lengths, np.uintp), dtype=np.uintp)
+    return past - np.asarray(lengths, np.uintp), past
+
+
+def _facets(facets, markers):
+    """The corners, the polygons and the facets as arrays. A facet is a polygon or a list of polygons, and a polygon a list of places of points."""
+    facets = [[it] if len(it) and np.ndim(it[0]) == 0 else it for it in facets]
+    markers = range(1, len(facets) + 1) if markers is None else markers
+    if len(markers) != len(facets):
+        raise ValueError(f"markers: one for each of {len(facets)} facets, and not {len(markers)}")
+    polygons = [np.asarray(it, np.uint32) for facet in facets for it in facet]
+    corners = np.concatenate(polygons) if polygons else np.zeros(0, np.uint32)
+    rows = np.zeros(len(facets), _FACET)
+    rows["first"], rows["past"] = _spans([len(it) for it in facets])
+    rows["marker"] = markers
+    return corners, np.stack(_spans([len(it) for it in polygons]), axis=1), rows
+
+
+def mesh(points, facets, *, markers=None, holes=(), regions=(), halvings=12, budget=100_000, keep_hull=False, keep_facets=False):
+    """The mesh of a piecewise linear complex, a `Mesh`. `points` have whole coordinates, at most 2^29 in size; a facet is a polygon, a list of places
+    of points, or a list of polygons in one plane; `markers` are whole numbers, 1, 2, .. where there are none; what no facet parts from a point of
+    `holes` is carved away; a tetrahedron is in the first of `regions` from which no facet parts it. On segments at most `budget` points are added,
+    where the unit is halved `halvings` times at most."""
+    places = {"points": _places(points), "holes": _places(holes), "regions": _places(regions)}
+    places["corners"], places["polygons"], places["facets"] = _facets(facets, markers)
+    task, counts = _Complex(options=_Options(halvings, budget, keep_hull, keep_facets, len(places["regions"]) > 0)), _Counts()
+    for name, array in places.items():
+        setattr(task, name, array.ctypes.data)
+        setattr(task, name + "_count", len(array))
+    most = 2 * len(places["points"]) + 1024
+    rooms = most, 8 * most, 4 * most
+    while True:
+        made, cells, faces = np.empty((rooms[0], 3), np.int64), np.empty((rooms[1], 5), np.uint32), np.empty(rooms[2], _FACE)
+        into = [it for array in (made, cells, faces) for it in (array.ctypes.data, len(array))]
+        status = _LIBRARY.tetgen_mesh_into(ctypes.byref(task), *into, ctypes.byref(counts))
+        if status != _NO_ROOM:
+            break
+        rooms = counts.points, counts.cells, counts.faces
+    if status != _DONE:
+        raise TetgenError(status, _COMPLEX_REASONS[status])
+    return Mesh(made[: counts.points], counts.halvings, cells[: counts.cells], faces[: counts.faces])
 
 
 def _bytes(text):

@@ -1,10 +1,14 @@
 -- The statuses with which a call from C ends.
 use Rattle.std.specs.Prelude.{◌≡◌, ℕ, ℤ, pos, List, length}
 use Rattle.array_meshes.specs.Arrays.{AreDelaunayRows, IsArrayFault, IsMeshFault, code_of, wanted_of}
+use Rattle.array_meshes.specs.Meshes.{IsMeshedFault, code_of as complex_code, wanted_of as wanted_counts}
 use Rattle.memory_runs.specs.Runs.{IsHandedOver, RunLaw}
 use Rattle.array_meshes.specs.declared.arrays.ArrayFault.{ArrayFault}
 use Rattle.array_meshes.specs.declared.arrays.Place.{Place}
 use Rattle.array_meshes.specs.declared.arrays.Row.{Row}
+use Rattle.array_meshes.specs.declared.complexes.ArrayComplex.{ArrayComplex}
+use Rattle.array_meshes.specs.declared.fault.ComplexFault.{ComplexFault}
+use Rattle.array_meshes.specs.declared.fault.Counts.{Counts}
 use Rattle.memory_runs.specs.declared.texts.Task.{Task}
 
 -- a fault has this cause, and the status is its own
@@ -20,6 +24,13 @@ IsRefusedInto places room count = IsRefusal (λ fault. IsArrayFault places room 
 -- the fault is one of the points
 abbrev pub IsRefused : List Place → ℤ → Type 0
 IsRefused places = IsRefusal (IsMeshFault places)
+
+-- the complex has no mesh, or arrays with these rooms are too short for it; the counts are the lengths of its lists in that case, or 0
+pub record IsUnmeshedInto (c : ArrayComplex) (points cells faces : ℕ) (counts : Counts) (status : ℤ) : Type 0 where
+  pub fault : ComplexFault
+  pub cause : IsMeshedFault c points cells faces fault
+  pub counted : counts ≡ wanted_counts fault
+  pub status_is : status ≡ pos (complex_code fault)
 
 -- the points have a Delaunay list of this length
 pub record HasLength (places : List Place) (count : ℕ) : Type 0 where
