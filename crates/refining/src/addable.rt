@@ -15,8 +15,8 @@ fn is_multiple(unit: u32, p: GridPoint) -> bool {
 }
 
 /// The points that were added before, and behind them the proposed points that may be added: new
-/// ones, all with coordinates that are multiples of `2^halvings` units, up to `most` points in all. The
-/// function has no contract; `with_points` tests the points before they are meshed.
+/// ones, all with coordinates that are multiples of `2^halvings` units, up to `most` points in all.
+/// The function has no contract; `with_points` tests the points before they are meshed.
 pub(crate) fn addable(
     alloc: Global,
     points: &Points,

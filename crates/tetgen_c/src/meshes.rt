@@ -9,8 +9,8 @@ use std::alloc::Global;
 
 /// Writes the mesh of a complex to the front of three arrays, the lengths of its lists to `counts`,
 /// and answers 0; what lies behind stays. On any other status the arrays stay: 4, a part that is
-/// named is not there; 5, a limit; 6 to 9, as of the program; 10, out of memory; 20, an array is too
-/// short, and `counts` has the lengths. After any other status `counts` is 0.
+/// named is not there; 5, a limit; 6 to 9, as of the program; 10, out of memory; 20, an array is
+/// too short, and `counts` has the lengths. After any other status `counts` is 0.
 #[unsafe(no_mangle)]
 pub extern "C" fn tetgen_mesh_into(
     alloc: Global,
