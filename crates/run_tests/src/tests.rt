@@ -1,10 +1,10 @@
 //! Runs of the program over folders and streams in memory.
 
-mod array_meshes;
 mod calls_in_memory;
 mod check_runs;
 mod cloud_runs;
 mod complex_runs;
+mod complexes_in_memory;
 mod equal_points_runs;
 mod fit_runs;
 mod found_grammar_runs;
