@@ -22,7 +22,7 @@ use Rattle.plc_files.specs.declared.form.Form.TheVariants.{Poly, Smesh}
 use Rattle.plc_files.specs.declared.parts.CornerText.{CornerText}
 use Rattle.plc_files.specs.declared.parts.PolygonText.{PolygonText}
 use Rattle.plc_files.specs.declared.parts.RegionText.{RegionText}
-use Rattle.plc_files.specs.Facet.{Lines, last_or_none, hole_of, hole_line, region_of, region_line, polygon_lines, facet_head_of, poly_facet_of, smesh_facet_of, facet_of, marker_of}
+use Rattle.plc_files.specs.Facet.{Lines, limit_or_none, hole_of, hole_line, region_of, region_line, polygon_lines, facet_head_of, poly_facet_of, smesh_facet_of, facet_of, marker_of}
 use Rattle.plc_files.specs.Fields.{some_count_at, whole_or_none}
 use Rattle.plc_files.specs.Plc.{plc_of, nodes_of, facets_of, list_head_of, list_count, count_line, listed}
 use Rattle.plc_files.specs.Polygon.{TextPlace, rest_of, field_ahead, corner_of, polygon_of}
@@ -249,11 +249,11 @@ IsPlainRegion r = IsPlainField r.attribute
 region_is : (line : ContentLine) (r : RegionText) → region_of line ≡ Ok r → HasPlainFields line → IsPlainRegion r
 unfolding region_of
 region_is line r is h =
-    let number = bind_ok (whole_at line.line line.fields) (λ number. place_at line.line number.1 >>= λ place. field_at line.line place.1 >>= λ attribute. last_or_none line.line attribute.1 >>= λ _. Ok (record { at = place.0; attribute = attribute.0 })) r is in
-    let place = bind_ok (place_at line.line number.0.1) (λ place. field_at line.line place.1 >>= λ attribute. last_or_none line.line attribute.1 >>= λ _. Ok (record { at = place.0; attribute = attribute.0 })) r number.2 in
-    let attribute = bind_ok (field_at line.line place.0.1) (λ attribute. last_or_none line.line attribute.1 >>= λ _. Ok (record { at = place.0.0; attribute = attribute.0 })) r place.2 in
-    let ended = bind_ok (last_or_none line.line attribute.0.1) (λ _. Ok (record { at = place.0.0; attribute = attribute.0.0 })) r attribute.2 in
-    let made : RegionText = record { at = place.0.0; attribute = attribute.0.0 } in
+    let number = bind_ok (whole_at line.line line.fields) (λ number. place_at line.line number.1 >>= λ place. field_at line.line place.1 >>= λ attribute. limit_or_none line.line attribute.1 >>= λ limit. Ok (record { at = place.0; attribute = attribute.0; limit = limit })) r is in
+    let place = bind_ok (place_at line.line number.0.1) (λ place. field_at line.line place.1 >>= λ attribute. limit_or_none line.line attribute.1 >>= λ limit. Ok (record { at = place.0; attribute = attribute.0; limit = limit })) r number.2 in
+    let attribute = bind_ok (field_at line.line place.0.1) (λ attribute. limit_or_none line.line attribute.1 >>= λ limit. Ok (record { at = place.0.0; attribute = attribute.0; limit = limit })) r place.2 in
+    let ended = bind_ok (limit_or_none line.line attribute.0.1) (λ limit. Ok (record { at = place.0.0; attribute = attribute.0.0; limit = limit })) r attribute.2 in
+    let made : RegionText = record { at = place.0.0; attribute = attribute.0.0; limit = ended.0 } in
     let left = place_leaves line.line number.0.1 place.0 place.1 (number_leaves whole_of line.line line.fields number.0 number.1 h) in
     subst IsPlainRegion {x = made} (ok_is made r ended.2) (field_is line.line place.0.1 attribute.0 attribute.1 left).0
 
