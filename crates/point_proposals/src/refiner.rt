@@ -7,7 +7,7 @@ use crate::parts::Part;
 use crate::plane::Rung;
 use crate::region::{Ranked, Region};
 use crate::slim::{Asked, Lengths};
-use crate::sphere::{center_of, equator};
+use crate::sphere::{center_in_plane, center_of};
 use crate::spot::{Spot, grid_point};
 use crate::taken::Taken;
 use crate::walk::{End, walk, walk_facet};
@@ -148,7 +148,6 @@ impl<'a> Refiner<'a> {
         }
         let plane = self.field.mesh.plane(s)?;
         let p = plane.nearest(wish, self.halvings);
-        grid_point(p)?;
         Some((p, walk_facet(self.field.mesh, &plane, s, p)?))
     }
 
@@ -165,8 +164,13 @@ impl<'a> Refiner<'a> {
 
     /// Proposes the circumcenter of a subface, or a point of a subsegment in place of it.
     fn try_subface(&mut self, s: u32, lengths: &Lengths) -> Result<Answer, NoMemory> {
-        match self.field.mesh.triangle(s).and_then(|s| equator(&s)) {
-            Some(sphere) => self.try_near(s, sphere.center, lengths),
+        match self
+            .field
+            .mesh
+            .triangle(s)
+            .and_then(|s| center_in_plane(&s))
+        {
+            Some(center) => self.try_near(s, center, lengths),
             None => Ok(Answer::Refused),
         }
     }

@@ -134,3 +134,26 @@ pub fn equator(corners: &[Spot; 3]) -> Option<Sphere> {
         1 << 24,
     )
 }
+
+/// The center of the smallest sphere through the corners of a triangle, or, where it is not near, a
+/// far point in its direction: from `a` along `|C|^2 (|B|^2 - B C) B + |B|^2 (|C|^2 - B C) C`.
+pub(crate) fn center_in_plane(corners: &[Spot; 3]) -> Option<Spot> {
+    if let Some(sphere) = equator(corners) {
+        return Some(sphere.center);
+    }
+    let [a, b, c] = *corners;
+    let (u, v) = (b.from(a), c.from(a));
+    let power = u.bits_above(20).max(v.bits_above(20));
+    let (b, c) = (u.over_power(power), v.over_power(power));
+    let (bb, cc, bc) = (b.dot(b), c.dot(c), b.dot(c));
+    let s = cc.wrapping_mul(bb.wrapping_sub(bc));
+    let t = bb.wrapping_mul(cc.wrapping_sub(bc));
+    let along = |x: i64, y: i64| {
+        let first = s.wrapping_mul(i128::from(x));
+        first.wrapping_add(t.wrapping_mul(i128::from(y)))
+    };
+    let (x, y, z) = (along(u.x, v.x), along(u.y, v.y), along(u.z, v.z));
+    let greatest = x.wrapping_abs().max(y.wrapping_abs()).max(z.wrapping_abs());
+    let divisor = (greatest / (1 << 30)).wrapping_add(1);
+    Some(sphere_at(a, x, y, z, divisor)?.center)
+}
