@@ -106,7 +106,7 @@ place_line (Some o) g p = spaced_line (decimal_from o.x g p.x) (decimal_from o.y
 
 -- ---- attributes
 
-attribute_line : (regions : List Region) → AreInOneLine regions → (mark : Option ℕ) → All IsInLine (attribute_of regions mark)
+pub attribute_line : (regions : List Region) → AreInOneLine regions → (mark : Option ℕ) → All IsInLine (attribute_of regions mark)
 attribute_line regions lines None = All-cons IsInLine 48 [] (λ e. omega (arith, e)) (All-nil IsInLine)
 attribute_line regions lines (Some k) =
     let texts = map (λ (r : Region). r.attribute) regions in

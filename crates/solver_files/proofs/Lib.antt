@@ -1,7 +1,10 @@
 pub mod Bytes
 pub mod Cuts
+pub mod Edges
 pub mod Marks
 pub mod MshTexts
 pub mod Parts
 pub mod Rows
+pub mod SecondCuts
+pub mod SecondTexts
 pub mod VtkTexts

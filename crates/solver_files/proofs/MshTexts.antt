@@ -72,7 +72,7 @@ text_tag_small text = small (count_of text)
     small None = omega arith
     small (Some n) = tag_small n
 
-marker_tag_small : (z : ℤ) → marker_tag z < 2 ^ 32
+pub marker_tag_small : (z : ℤ) → marker_tag z < 2 ^ 32
 marker_tag_small (pos n) = tag_small n
 marker_tag_small (negsuc n) = omega arith
 
@@ -106,7 +106,7 @@ IsNoTet s = (n : ℕ) (zs : List ℤ) (r : List ℕ) → n < 2 ^ 64 → All IsSh
 abbrev HasNames : List ℕ → Tet → Type 0
 HasNames names t = AreNamed names (numbers t)
 
-tet_tag_small : (m : Mesh) (place : ℕ) → tet_tag m place < 2 ^ 32
+pub tet_tag_small : (m : Mesh) (place : ℕ) → tet_tag m place < 2 ^ 32
 tet_tag_small m place = small m.marks
   where
     small : (marks : Option (List (Option ℕ))) → tag_if marks (tag_of_text (attribute_at m place)) < 2 ^ 32

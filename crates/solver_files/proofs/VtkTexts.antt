@@ -122,7 +122,7 @@ scalars_cut m m' told told' k (x ∷ xs) (y ∷ ys) s t long e =
           | inr not ↦ later place (omega (arith, le, not)) (omega (arith, lt))
         ]
 
-regions_part : (m m' : Mesh) → IsTold m → IsTold m' → length m.rows ≡ length m'.rows → length m.faces ≡ length m'.faces → (s t : List ℕ) → vtk_regions m ++ s ≡ vtk_regions m' ++ t
+pub regions_part : (m m' : Mesh) → IsTold m → IsTold m' → length m.rows ≡ length m'.rows → length m.faces ≡ length m'.faces → (s t : List ℕ) → vtk_regions m ++ s ≡ vtk_regions m' ++ t
     → ((place : ℕ) → place < length m.rows → scalar_of (attribute_at m place) ≡ scalar_of (attribute_at m' place)) × (s ≡ t)
 regions_part m m' told told' rows faces s t e =
     let heading = λ (n : ℕ). codes "CELL_DATA " ++ decimal n ++ codes "\nSCALARS region double 1\nLOOKUP_TABLE default\n" in
@@ -150,7 +150,7 @@ markers_same (f ∷ fs) (g ∷ gs) short short' e =
     let others : map (λ (h : FaceRow). h.marker) fs ≡ map (λ (h : FaceRow). h.marker) gs = markers_same fs gs (All-tail Short f fs short) (All-tail Short g gs short') tails in
     cc
 
-markers_part : (m m' : Mesh) → IsTold m → IsTold m' → length m.rows ≡ length m'.rows → length m.faces ≡ length m'.faces → vtk_markers m ≡ vtk_markers m'
+pub markers_part : (m m' : Mesh) → IsTold m → IsTold m' → length m.rows ≡ length m'.rows → length m.faces ≡ length m'.faces → vtk_markers m ≡ vtk_markers m'
     → map (λ f. f.marker) m.faces ≡ map (λ f. f.marker) m'.faces
 markers_part m m' told told' rows faces e =
     let heading = λ (n : ℕ). codes "SCALARS marker long 1\nLOOKUP_TABLE default\n" ++ copies n (codes "0\n") in

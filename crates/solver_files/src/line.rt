@@ -9,7 +9,7 @@ use mesh_files::Names;
 use tet_ports::{Bytes, NoMemory};
 
 /// Appends a count.
-fn put_count(n: u128, out: &mut Bytes) -> Result<(), NoMemory>
+pub(crate) fn put_count(n: u128, out: &mut Bytes) -> Result<(), NoMemory>
     ensures { OnOk result (out.new ≡ out.old ++ decimal n) }
 {
     let mut buffer = Buffer::new();

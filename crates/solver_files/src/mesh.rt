@@ -1,5 +1,5 @@
 //! A mesh as one file has it whole.
-ghost use Rattle.std.specs.Prelude.{◌≡◌, length};
+ghost use Rattle.std.specs.Prelude.{◌≡◌, ◌<◌, ◌^◌, length};
 ghost use Rattle.solver_files.specs.Mesh.{mesh_of, points_of};
 ghost use Rattle.solver_files.specs.Vtk.{cell_count};
 
@@ -30,7 +30,8 @@ pub struct WholeMesh<'a> {
 impl<'a> WholeMesh<'a> {
     /// The number of points.
     pub(crate) fn point_count(&self) -> u128
-        ensures { result ≡ length (points_of (mesh_of self.now)) }
+        ensures count { result ≡ length (points_of (mesh_of self.now)) }
+        ensures small { result < 2 ^ 64 }
     {
         self.table.listed.len() as u128 + self.added.len() as u128
     }

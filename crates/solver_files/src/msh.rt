@@ -50,7 +50,7 @@ fn put_nodes(mesh: &WholeMesh<'_>, out: &mut Bytes) -> Result<(), NoMemory>
 }
 
 /// Appends the lines of points, numbered from `first`.
-fn put_node_lines(
+pub(crate) fn put_node_lines(
     mesh: &WholeMesh<'_>,
     first: u64,
     points: &Points,

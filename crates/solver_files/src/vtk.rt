@@ -54,7 +54,11 @@ fn put_points(mesh: &WholeMesh<'_>, out: &mut Bytes) -> Result<(), NoMemory>
 }
 
 /// Appends the coordinates of points, each in a line.
-fn put_places(mesh: &WholeMesh<'_>, points: &Points, out: &mut Bytes) -> Result<(), NoMemory>
+pub(crate) fn put_places(
+    mesh: &WholeMesh<'_>,
+    points: &Points,
+    out: &mut Bytes,
+) -> Result<(), NoMemory>
     requires { IsWritten (mesh_of mesh.now) }
     ensures { OnOk result (out.new ≡ out.old
         ++ flat_map (place_line (mesh_of mesh.now)) points.now) }
@@ -137,7 +141,7 @@ fn put_types(mesh: &WholeMesh<'_>, out: &mut Bytes) -> Result<(), NoMemory>
 }
 
 /// Appends the attributes of the cells.
-fn put_regions(mesh: &WholeMesh<'_>, out: &mut Bytes) -> Result<(), NoMemory>
+pub(crate) fn put_regions(mesh: &WholeMesh<'_>, out: &mut Bytes) -> Result<(), NoMemory>
     requires { IsWritten (mesh_of mesh.now) }
     ensures { OnOk result (out.new ≡ out.old ++ vtk_regions (mesh_of mesh.now)) }
 {
@@ -166,7 +170,7 @@ fn put_scalars(mesh: &WholeMesh<'_>, out: &mut Bytes) -> Result<(), NoMemory>
 }
 
 /// Appends the markers of the cells.
-fn put_markers(mesh: &WholeMesh<'_>, out: &mut Bytes) -> Result<(), NoMemory>
+pub(crate) fn put_markers(mesh: &WholeMesh<'_>, out: &mut Bytes) -> Result<(), NoMemory>
     ensures { OnOk result (out.new ≡ out.old ++ vtk_markers (mesh_of mesh.now)) }
 {
     out.append(b"SCALARS marker long 1\nLOOKUP_TABLE default\n")?;

@@ -13,7 +13,7 @@ returns c =
     let out = c.args.out.now in
     let words = codes "# vtk DataFile Version 3.0\ntetgen\nASCII\nDATASET UNSTRUCTURED_GRID\nPOINTS " in
     let head = words ++ decimal (length (points_of m)) ++ codes " double\n" in
-    let begun = c.in_ok-put_heading.ensures ∙ ap (λ n. out ++ (words ++ decimal n ++ codes " double\n")) c.point_count.ensures in
+    let begun = c.in_ok-put_heading.ensures ∙ ap (λ n. out ++ (words ++ decimal n ++ codes " double\n")) c.point_count.ensures.count in
     let listed = flat_map (place_line m) m.table.listed in
     let first = then_part out head c.put_heading.new.out c.put_places.new.out listed begun c.in_ok-put_places.ensures in
     both_parts c.put_places-2.result out head c.put_places.new.out c.put_places-2.new.out listed (flat_map (place_line m) m.added) _ (sym (flat_map-append (place_line m) m.table.listed m.added)) first c.put_places-2.ensures

@@ -1,0 +1,5 @@
+use Rattle.solver_files.proofs.SecondTexts.{law_second_msh_text}
+use Rattle.solver_files.proofs.second_laws.law_second_msh_text.Goals as goal
+
+pub returns : goal.returns
+returns c = law_second_msh_text
