@@ -3,13 +3,17 @@
 ghost use Rattle.std.specs.Prelude.{◌≡◌, ◌≤◌, ◌<◌, ◌^◌, ◌++◌, [], ◌∷◌, length, All, IfOk, IfSome};
 ghost use Rattle.node_files.specs.Limits.{tetgen_limits};
 ghost use Rattle.node_files.specs.Writing.{IsNodeTable};
+ghost use Rattle.solver_files.specs.Mesh.{mesh_of, IsWritten};
 
 use geo_laws::{Complex, Points, Tet, TetList};
 use incidence::Marks;
-use mesh_files::{FaceRow, FaceRows, Names};
+use mesh_files::{FaceRow, FaceRows, Names, edges_of};
 use node_files::{GridOptions, Limits, NodeFault, NodeTable, read_node, settle};
 use sign_predicates::{GridPoint, RatPoint};
-use solver_files::{WholeMesh, write_msh, write_vtk};
+use solver_files::{
+    SecondMesh, WholeMesh, write_msh, write_second_ele, write_second_face, write_second_msh,
+    write_second_node, write_second_vtk, write_vtk,
+};
 use std::alloc::Global;
 use std::test::Fail;
 use tet_ports::{Bytes, NoMemory};
@@ -28,6 +32,35 @@ const MSH: &str = "$MeshFormat\n2.2 0 8\n$EndMeshFormat\n\
     $Nodes\n6\n1 0 0 0\n2 1 0 0\n3 0 0 0\n4 0 1 0\n5 0 0 0.5\n6 1 1 0.5\n$EndNodes\n\
     $Elements\n5\n1 4 2 7 7 1 2 4 5\n2 4 2 0 0 2 4 5 6\n\
     3 2 2 5 5 1 2 4\n4 2 2 0 0 1 2 5\n5 2 2 0 0 2 4 5\n$EndElements\n";
+
+const SECOND_NODE: &str = "15 3 0 0\n1 0 0 0\n2 1 0 0\n3 0 0 0\n4 0 1 0\n5 0 0 0.5\n6 1 1 0.5\n\
+    7 0.5 0 0\n8 0 0.5 0\n9 0 0 0.25\n10 0.5 0.5 0\n11 0.5 0 0.25\n12 1 0.5 0.25\n\
+    13 0 0.5 0.25\n14 0.5 1 0.25\n15 0.5 0.5 0.5\n";
+
+const SECOND_ELE: &str = "2 10 1\n1 1 2 4 5 13 9 7 10 11 8 7\n\
+    2 2 4 5 6 15 12 10 13 14 11 glass\n";
+
+const SECOND_FACE: &str = "3 1\n1 1 2 4 10 8 7 5\n2 1 2 5 11 9 7 -1\n3 2 4 5 13 11 10 0\n";
+
+const SECOND_VTK: &str = "# vtk DataFile Version 3.0\ntetgen\nASCII\n\
+    DATASET UNSTRUCTURED_GRID\n\
+    POINTS 15 double\n0 0 0\n1 0 0\n0 0 0\n0 1 0\n0 0 0.5\n1 1 0.5\n\
+    0.5 0 0\n0 0.5 0\n0 0 0.25\n0.5 0.5 0\n0.5 0 0.25\n1 0.5 0.25\n\
+    0 0.5 0.25\n0.5 1 0.25\n0.5 0.5 0.5\n\
+    CELLS 5 43\n10 0 1 3 4 6 9 7 8 10 12\n10 1 3 4 5 9 12 10 11 13 14\n\
+    6 0 1 3 6 9 7\n6 0 1 4 6 10 8\n6 1 3 4 9 12 10\n\
+    CELL_TYPES 5\n24\n24\n22\n22\n22\n\
+    CELL_DATA 5\nSCALARS region double 1\nLOOKUP_TABLE default\n7\n0\n0\n0\n0\n\
+    SCALARS marker long 1\nLOOKUP_TABLE default\n0\n0\n5\n-1\n0\n";
+
+const SECOND_MSH: &str = "$MeshFormat\n2.2 0 8\n$EndMeshFormat\n\
+    $Nodes\n15\n1 0 0 0\n2 1 0 0\n3 0 0 0\n4 0 1 0\n5 0 0 0.5\n6 1 1 0.5\n\
+    7 0.5 0 0\n8 0 0.5 0\n9 0 0 0.25\n10 0.5 0.5 0\n11 0.5 0 0.25\n12 1 0.5 0.25\n\
+    13 0 0.5 0.25\n14 0.5 1 0.25\n15 0.5 0.5 0.5\n$EndNodes\n\
+    $Elements\n5\n1 11 2 7 7 1 2 4 5 7 10 8 9 13 11\n\
+    2 11 2 0 0 2 4 5 6 10 13 11 12 15 14\n\
+    3 9 2 5 5 1 2 4 7 10 8\n4 9 2 0 0 1 2 5 7 11 9\n5 9 2 0 0 2 4 5 10 13 11\n\
+    $EndElements\n";
 
 const FIRST: Tet = Tet {
     a: 0,
@@ -111,8 +144,60 @@ fn regions_of(alloc: Global) -> Result<Complex, NoMemory>
     Ok(complex)
 }
 
-/// Both texts of two tetrahedra and three faces over the points, each tetrahedron in a region.
-fn written(alloc: Global, table: &NodeTable) -> Result<(Bytes, Bytes), NoMemory>
+/// The points by the numbers of corners.
+fn corner_points(alloc: Global) -> Result<Points, NoMemory> {
+    let mut points = Points::new(alloc);
+    for (x, y, z) in [
+        (0, 0, 0),
+        (40_960, 0, 0),
+        (0, 40_960, 0),
+        (0, 0, 20_480),
+        (40_960, 40_960, 20_480),
+    ] {
+        points.push(GridPoint { x, y, z })?;
+    }
+    Ok(points)
+}
+
+/// The texts of a mesh.
+#[derive(Drop)]
+struct Texts {
+    vtk: Bytes,
+    msh: Bytes,
+    second_node: Bytes,
+    second_ele: Bytes,
+    second_face: Bytes,
+    second_vtk: Bytes,
+    second_msh: Bytes,
+}
+
+/// The texts of a mesh, of both orders.
+fn texts_of(alloc: Global, whole: &WholeMesh<'_>) -> Result<Texts, NoMemory>
+    requires { IsWritten (mesh_of whole.now) }
+{
+    if whole.table.grid.halvings > 17 {
+        return Err(NoMemory);
+    }
+    let sides = edges_of(alloc, whole.list)?;
+    let points = corner_points(alloc)?;
+    let mesh = SecondMesh {
+        whole: *whole,
+        sides: &sides,
+        points: &points,
+    };
+    Ok(Texts {
+        vtk: write_vtk(alloc, whole)?,
+        msh: write_msh(alloc, whole)?,
+        second_node: write_second_node(alloc, &mesh, 1)?,
+        second_ele: write_second_ele(alloc, &mesh, 1)?,
+        second_face: write_second_face(alloc, &mesh, 1)?,
+        second_vtk: write_second_vtk(alloc, &mesh)?,
+        second_msh: write_second_msh(alloc, &mesh)?,
+    })
+}
+
+/// The texts of two tetrahedra and three faces over the points, each tetrahedron in a region.
+fn written(alloc: Global, table: &NodeTable) -> Result<Texts, NoMemory>
     requires table { IsNodeTable table.now }
     requires few { length table.now.listed ≤ tetgen_limits.points }
 {
@@ -136,14 +221,19 @@ fn written(alloc: Global, table: &NodeTable) -> Result<(Bytes, Bytes), NoMemory>
         faces: &faces,
         names: &names,
     };
-    Ok((write_vtk(alloc, &mesh)?, write_msh(alloc, &mesh)?))
+    texts_of(alloc, &mesh)
 }
 
 #[test]
 fn texts_for_viewers_and_solvers(rt: HostRuntime) -> Result<(), Fail> {
     let table = table_of(rt.alloc())?;
-    let (vtk, msh) = written(rt.alloc(), &table)?;
-    assert_eq!(rt; text_of(&vtk), VTK);
-    assert_eq!(rt; text_of(&msh), MSH);
+    let texts = written(rt.alloc(), &table)?;
+    assert_eq!(rt; text_of(&texts.vtk), VTK);
+    assert_eq!(rt; text_of(&texts.msh), MSH);
+    assert_eq!(rt; text_of(&texts.second_node), SECOND_NODE);
+    assert_eq!(rt; text_of(&texts.second_ele), SECOND_ELE);
+    assert_eq!(rt; text_of(&texts.second_face), SECOND_FACE);
+    assert_eq!(rt; text_of(&texts.second_vtk), SECOND_VTK);
+    assert_eq!(rt; text_of(&texts.second_msh), SECOND_MSH);
     Ok(())
 }
