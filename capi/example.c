@@ -45,13 +45,13 @@ static void in_a_block(void) {
 static const tetgen_place CORNERED[4] = {{0, 0, 0}, {4, 0, 0}, {0, 4, 0}, {0, 0, 4}};
 static const uint32_t CORNERS[12] = {0, 1, 2, 0, 1, 3, 0, 2, 3, 1, 2, 3};
 static const tetgen_polygon TRIANGLES[4] = {{0, 3}, {3, 6}, {6, 9}, {9, 12}};
-static const tetgen_facet FACETS[4] = {{0, 1, 10}, {1, 2, 20}, {2, 3, 30}, {3, 4, -40}};
+static const tetgen_facet FACETS[4] = {{0, 1, 10, 0, 0}, {1, 2, 20, 0, 0}, {2, 3, 30, 0, 0}, {3, 4, -40, 0, 0}};
 static const tetgen_place INSIDE[1] = {{1, 1, 1}};
 
 static void of_a_complex(void) {
-    tetgen_complex complex = {CORNERED, 4, CORNERS, 12, TRIANGLES, 4, FACETS, 4, NULL, 0, INSIDE, 1, TETGEN_OPTIONS};
+    tetgen_complex complex = {CORNERED, 4, CORNERS, 12, TRIANGLES, 4, FACETS, 4, NULL, 0, NULL, 0, INSIDE, 1, TETGEN_OPTIONS};
     tetgen_place points[5] = {{0, 0, 0}};
-    tetgen_cell cells[2] = {{0, 0, 0, 0, 0}};
+    tetgen_cell cells[2] = {{0, 0, 0, 0, 0, {0}}};
     tetgen_face faces[4] = {{0, 0, 0, 0}};
     tetgen_counts counts;
     complex.options.regions = true;
@@ -67,6 +67,7 @@ static void of_a_complex(void) {
         printf("%lld %lld %lld\n", (long long)points[i].x, (long long)points[i].y, (long long)points[i].z);
     for (size_t i = 0; i < counts.cells; i++)
         printf("%u %u %u %u in %u\n", cells[i].a, cells[i].b, cells[i].c, cells[i].d, cells[i].region);
+    check(cells[0].neighbors[3] == TETGEN_NO_NEIGHBOR, "no neighbor");
     for (size_t i = 0; i < counts.faces; i++)
         printf("%u %u %u marked %lld\n", faces[i].a, faces[i].b, faces[i].c, (long long)faces[i].marker);
 }

@@ -66,10 +66,13 @@ typedef struct {
     size_t first, past;
 } tetgen_polygon;
 
-/* A facet: its polygons are those from first to before past in the array of polygons; and its marker. */
+/* A facet: its polygons are those from first to before past in the array of polygons; its marker; and the points in its holes are those from
+   first_hole to before past_hole in the array of such points. A point of the facet is left out of it where the same polygons go round it as round a
+   point in a hole. */
 typedef struct {
     size_t first, past;
     int64_t marker;
+    size_t first_hole, past_hole;
 } tetgen_facet;
 
 /* How the mesh of a complex is made. The program's own numbers are TETGEN_OPTIONS. */
@@ -94,6 +97,8 @@ typedef struct {
     size_t polygon_count;
     const tetgen_facet *facets;
     size_t facet_count;
+    const tetgen_place *facet_holes;
+    size_t facet_hole_count;
     const tetgen_place *holes;
     size_t hole_count;
     const tetgen_place *regions;
@@ -101,13 +106,16 @@ typedef struct {
     tetgen_options options;
 } tetgen_complex;
 
-/* The region of a tetrahedron that is in none. */
+/* The region of a tetrahedron that is in none, and the neighbor where there is none. */
 #define TETGEN_NO_REGION UINT32_MAX
+#define TETGEN_NO_NEIGHBOR UINT32_MAX
 
-/* A tetrahedron by the places of its corners in the points of a mesh, from 0, in the order of tetgen_row, and the place of its region. */
+/* A tetrahedron by the places of its corners in the points of a mesh, from 0, in the order of tetgen_row; the place of its region; and the places, in
+   the list of tetrahedra, of its neighbors across the faces opposite a, b, c and d. */
 typedef struct {
     uint32_t a, b, c, d;
     uint32_t region;
+    uint32_t neighbors[4];
 } tetgen_cell;
 
 /* A face of a mesh by the places of its corners, and its marker: that of the first facet in which it lies, or 1 where it lies in none. */
@@ -130,7 +138,7 @@ typedef struct {
    Delaunay but at facets. faces has the faces on the hull and those that lie in facets, ascending. Of equal points the first alone is a corner.
    What lies behind stays.
    On any other status the three arrays stay as they were, and counts is 0 but for TETGEN_NO_ROOM:
-   TETGEN_BAD_INDEX: a facet names a polygon, a polygon a corner, or a corner a point that is not there.
+   TETGEN_BAD_INDEX: a facet names a polygon or a point in a hole, a polygon a corner, or a corner a point that is not there.
    TETGEN_LIMIT: there are more than 4,000,000 points, or a coordinate is over 2^29 in size, or options.budget is over 100,000,000.
    TETGEN_FLAT, TETGEN_GRID_END, TETGEN_BUDGET_END, TETGEN_NO_FILL: there is no mesh, as their lines above say.
    TETGEN_NO_MEMORY.

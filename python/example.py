@@ -1,5 +1,5 @@
-"""Meshes of arrays and of texts by tetgen.py: a pyramid, a box with a wall, 2,000 points, refusals, and as many calls of each kind as its word
-says, 10,000 without one, that keep no memory."""
+"""Meshes of arrays and of texts by tetgen.py: a pyramid, a box with a wall, a facet with a hole, 2,000 points, refusals, and as many calls of each
+kind as its word says, 10,000 without one, that keep no memory."""
 import random
 import sys
 
@@ -64,6 +64,27 @@ def call(points):
     run_refused(["-n", "p"], {})
 
 
+def are_neighbors(made):
+    """Each neighbor has the three corners of the face across which it lies, and where there is none the face is on the hull."""
+    for row, across in zip(made.rows.tolist(), made.neighbors.tolist()):
+        for corner, place in zip(row, across):
+            face = set(row) - {corner}
+            assert place == tetgen.NO_NEIGHBOR or face < set(made.rows[place].tolist())
+            assert place != tetgen.NO_NEIGHBOR or face in [set(it) for it in made.faces.tolist()]
+
+
+def of_a_ring():
+    """A square with a hole in its middle, a point over it and a point below it: no face of the ring lies in the hole."""
+    points = [(x, y, 0) for x, y in ((0, 0), (4, 0), (4, 4), (0, 4), (1, 1), (3, 1), (3, 3), (1, 3))] + [(2, 2, 4), (2, 2, -4)]
+    square = [[[0, 1, 2, 3], [4, 5, 6, 7]]]
+    whole = tetgen.mesh(points, square, markers=[7], keep_hull=True)
+    ring = tetgen.mesh(points, square, markers=[7], facet_holes={0: [(2, 2, 0)]}, keep_hull=True)
+    inner = {4, 5, 6, 7}
+    assert any(set(it) <= inner for it in whole.faces[whole.markers == 7].tolist())
+    assert not any(set(it) <= inner for it in ring.faces[ring.markers == 7].tolist()) and (ring.markers == 7).any()
+    are_neighbors(ring)
+
+
 def of_a_complex():
     """A box with a wall in it, whose mesh fills it, and refusals."""
     made = tetgen.mesh(BOX, SIDES, markers=range(10, 17), regions=[(9, 9, 9), (1, 1, 1)])
@@ -71,6 +92,7 @@ def of_a_complex():
     assert (sixth > 0).all() and sixth.sum() == 6 * 48
     assert (made.points[: len(BOX)] == np.array(BOX) << made.halvings).all() and (made.coordinates()[: len(BOX)] == BOX).all()
     assert set(made.regions) == {1} and set(made.markers) == set(range(10, 17))
+    are_neighbors(made)
     assert len(tetgen.mesh(BOX, [], keep_hull=True).rows) == len(tetgen.delaunay(BOX))
     assert len(tetgen.mesh(BOX, SIDES, holes=[(1, 1, 1)]).rows) == 0
     assert mesh_refused(BOX, [[0, 1, 99]]) == 4 and mesh_refused(BOX, [[0, 1, 7, 4]]) == 6
@@ -89,6 +111,7 @@ def main():
     assert refused([*PYRAMID, (0, 0, 2**29 + 1)]) == 5
 
     of_a_complex()
+    of_a_ring()
 
     random.seed(1)
     points = np.array([[random.randrange(1000) for _ in range(3)] for _ in range(2000)])

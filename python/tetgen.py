@@ -24,7 +24,7 @@ _COMPLEX_REASONS = {
     8: "as many points were added as allowed, and a segment is missing",
     9: "two facets cross one Delaunay tetrahedron, and no filling was found",
 }
-NO_REGION = 2**32 - 1
+NO_REGION = NO_NEIGHBOR = 2**32 - 1
 
 # The endings of the files that the program may write.
 _WRITTEN = (".node", ".ele", ".face", ".edge", ".neigh")
@@ -50,7 +50,7 @@ class _Options(ctypes.Structure):
     ]
 
 
-_PARTS = "points", "corners", "polygons", "facets", "holes", "regions"
+_PARTS = "points", "corners", "polygons", "facets", "facet_holes", "holes", "regions"
 
 
 class _Complex(ctypes.Structure):
@@ -62,7 +62,9 @@ class _Counts(ctypes.Structure):
 
 
 # As tetgen.h lays out tetgen_facet, tetgen_cell and tetgen_face.
-_FACET = np.dtype({"names": ["first", "past", "marker"], "formats": [np.uintp, np.uintp, np.int64]}, align=True)
+_FACET = np.dtype(
+    {"names": ["first", "past", "marker", "first_hole", "past_hole"], "formats": [np.uintp, np.uintp, np.int64, np.uintp, np.uintp]}, align=True
+)
 _FACE = np.dtype({"names": ["corners", "marker"], "formats": [(np.uint32, 3), np.int64]}, align=True)
 
 _LIBRARY.tetgen_run.argtypes = [ctypes.POINTER(_Task), _AT, _SIZE, _AT, _SIZE, ctypes.POINTER(_SIZE)]
@@ -111,12 +113,13 @@ def delaunay(points):
 
 class Mesh:
     """The mesh of a complex. `points` are whole numbers over 2^`halvings`, those of the complex first and the added ones behind them; `rows` are the
-    places of the corners of each tetrahedron, in an order with a positive volume; `regions` the place of the region of each, or NO_REGION; `faces`
-    the places of the corners of the faces on the hull and in facets, and `markers` their markers."""
+    places of the corners of each tetrahedron, in an order with a positive volume; `regions` the place of the region of each, or NO_REGION;
+    `neighbors` the places of the tetrahedra across the faces opposite its corners, or NO_NEIGHBOR; `faces` the places of the corners of the faces on
+    the hull and in facets, and `markers` their markers."""
 
     def __init__(self, points, halvings, cells, faces):
         self.points, self.halvings = points, halvings
-        self.rows, self.regions = cells[:, :4], cells[:, 4]
+        self.rows, self.regions, self.neighbors = cells[:, :4], cells[:, 4], cells[:, 5:]
         self.faces, self.markers = faces["corners"], faces["marker"]
 
     def coordinates(self):
@@ -130,8 +133,9 @@ def _spans(lengths):
     return past - np.asarray(lengths, np.uintp), past
 
 
-def _facets(facets, markers):
-    """The corners, the polygons and the facets as arrays. A facet is a polygon or a list of polygons, and a polygon a list of places of points."""
+def _facets(facets, markers, facet_holes):
+    """The corners, the polygons, the facets and the points in their holes as arrays. A facet is a polygon or a list of polygons, and a polygon a list
+    of places of points."""
     facets = [[it] if len(it) and np.ndim(it[0]) == 0 else it for it in facets]
     markers = range(1, len(facets) + 1) if markers is None else markers
     if len(markers) != len(facets):
@@ -141,16 +145,20 @@ def _facets(facets, markers):
     rows = np.zeros(len(facets), _FACET)
     rows["first"], rows["past"] = _spans([len(it) for it in facets])
     rows["marker"] = markers
-    return corners, np.stack(_spans([len(it) for it in polygons]), axis=1), rows
+    holes = [_places(facet_holes.get(place, ())) for place in range(len(facets))]
+    rows["first_hole"], rows["past_hole"] = _spans([len(it) for it in holes])
+    holes = np.concatenate(holes) if holes else _places(())
+    return corners, np.stack(_spans([len(it) for it in polygons]), axis=1), rows, holes
 
 
-def mesh(points, facets, *, markers=None, holes=(), regions=(), halvings=12, budget=100_000, keep_hull=False, keep_facets=False):
+def mesh(points, facets, *, markers=None, facet_holes=None, holes=(), regions=(), halvings=12, budget=100_000, keep_hull=False, keep_facets=False):
     """The mesh of a piecewise linear complex, a `Mesh`. `points` have whole coordinates, at most 2^29 in size; a facet is a polygon, a list of places
-    of points, or a list of polygons in one plane; `markers` are whole numbers, 1, 2, .. where there are none; what no facet parts from a point of
-    `holes` is carved away; a tetrahedron is in the first of `regions` from which no facet parts it. On segments at most `budget` points are added,
-    where the unit is halved `halvings` times at most."""
+    of points, or a list of polygons in one plane; `markers` are whole numbers, 1, 2, .. where there are none; `facet_holes` has the points that lie
+    in holes of a facet, by the place of the facet, as {0: [(2, 2, 0)]}; what no facet parts from a point of `holes` is carved away; a tetrahedron is
+    in the first of `regions` from which no facet parts it. On segments at most `budget` points are added, where the unit is halved `halvings` times
+    at most."""
     places = {"points": _places(points), "holes": _places(holes), "regions": _places(regions)}
-    places["corners"], places["polygons"], places["facets"] = _facets(facets, markers)
+    places["corners"], places["polygons"], places["facets"], places["facet_holes"] = _facets(facets, markers, facet_holes or {})
     task, counts = _Complex(options=_Options(halvings, budget, keep_hull, keep_facets, len(places["regions"]) > 0)), _Counts()
     for name, array in places.items():
         setattr(task, name, array.ctypes.data)
@@ -158,7 +166,7 @@ def mesh(points, facets, *, markers=None, holes=(), regions=(), halvings=12, bud
     most = 2 * len(places["points"]) + 1024
     rooms = most, 8 * most, 4 * most
     while True:
-        made, cells, faces = np.empty((rooms[0], 3), np.int64), np.empty((rooms[1], 5), np.uint32), np.empty(rooms[2], _FACE)
+        made, cells, faces = np.empty((rooms[0], 3), np.int64), np.empty((rooms[1], 9), np.uint32), np.empty(rooms[2], _FACE)
         into = [it for array in (made, cells, faces) for it in (array.ctypes.data, len(array))]
         status = _LIBRARY.tetgen_mesh_into(ctypes.byref(task), *into, ctypes.byref(counts))
         if status != _NO_ROOM:

@@ -16,7 +16,7 @@ use Rattle.segment_protect.specs.Protection.{IsMultiple}
 use Rattle.sign_predicates.specs.Point.{Point, RationalPoint}
 use Rattle.array_meshes.proofs.Whole.{array_few}
 use Rattle.array_meshes.specs.Arrays.{IsArrayTable, halved_point}
-use Rattle.array_meshes.specs.Complexes.{HasParts, IsFacetThere, IsPolygonThere, complex_on, drawn_facets, rational_place, with_drawn_facet, with_drawn_hole, with_drawn_polygon, with_drawn_region}
+use Rattle.array_meshes.specs.Complexes.{HasParts, IsFacetThere, IsPolygonThere, complex_on, drawn_facets, rational_place, with_drawn_facet, with_drawn_facet_hole, with_drawn_hole, with_drawn_polygon, with_drawn_polygons, with_drawn_region}
 use Rattle.array_meshes.specs.declared.arrays.Place.{Place}
 use Rattle.array_meshes.specs.declared.complexes.ArrayComplex.{ArrayComplex}
 use Rattle.array_meshes.specs.declared.complexes.Facet.{Facet}
@@ -39,21 +39,29 @@ million = omega (arith, ints)
 empty_sound : (n : ℕ) → IsSoundOn n empty_complex
 empty_sound n = record { corners = λ i d lt. absurd (omega (arith, lt)); holes = λ i d lt. absurd (omega (arith, lt)); regions = λ i d lt. absurd (omega (arith, lt)) }
 
-module _ (c : ArrayComplex) (folded : List ℕ) (n : ℕ) (below : (i : ℕ) → i < length c.points.now → slice_index folded i < n) where
-  polygon_step : (made : Complex) (p : Polygon) → IsSoundOn n made → IsPolygonThere c p → IsSoundOn n (with_drawn_polygon folded c made p)
+module _ (c : ArrayComplex) (table : NodeTable) (n : ℕ) (below : (i : ℕ) → i < length c.points.now → slice_index table.folded i < n) where
+  polygon_step : (made : Complex) (p : Polygon) → IsSoundOn n made → IsPolygonThere c p → IsSoundOn n (with_drawn_polygon table.folded c made p)
   polygon_step made p s h =
       let corners = slice_range c.corners.now p.first p.past in
-      let own : BoundPolygon = record { corners = map (slice_index folded) corners; line = 0 } in
-      let kept : All (λ i. i < n) own.corners = All-map (λ i. i < n) (slice_index folded) corners (λ k d lt. below _ (h.corners k d lt)) in
+      let own : BoundPolygon = record { corners = map (slice_index table.folded) corners; line = 0 } in
+      let kept : All (λ i. i < n) own.corners = All-map (λ i. i < n) (slice_index table.folded) corners (λ k d lt. below _ (h.corners k d lt)) in
       record { corners = All-push (λ (q : BoundPolygon). All (λ i. i < n) q.corners) made.polygons own s.corners kept; holes = s.holes; regions = s.regions }
 
-  facet_step : (made : Complex) (f : Facet) → IsSoundOn n made → IsFacetThere c f → IsSoundOn n (with_drawn_facet folded c made f)
-  facet_step made f s h =
-      keeps (IsSoundOn n) (IsPolygonThere c) (with_drawn_polygon folded c) polygon_step (with_facet (Some f.marker) made) (slice_range c.polygons.now f.first f.past)
+  polygons_sound : (made : Complex) (f : Facet) → IsSoundOn n made → IsFacetThere c f → IsSoundOn n (with_drawn_polygons table.folded c made f)
+  polygons_sound made f s h =
+      keeps (IsSoundOn n) (IsPolygonThere c) (with_drawn_polygon table.folded c) polygon_step (with_facet (Some f.marker) made) (slice_range c.polygons.now f.first f.past)
       (record { corners = s.corners; holes = s.holes; regions = s.regions }) h.polygons
 
-  facets_sound : HasParts c → IsSoundOn n (drawn_facets folded c)
-  facets_sound h = keeps (IsSoundOn n) (IsFacetThere c) (with_drawn_facet folded c) facet_step empty_complex c.facets.now (empty_sound n) h
+  facet_hole_step : (made : Complex) (p : Place) → IsSoundOn n made → Unit {0} → IsSoundOn n (with_drawn_facet_hole table.grid made p)
+  facet_hole_step made p s h = record { corners = s.corners; holes = s.holes; regions = s.regions }
+
+  facet_step : (made : Complex) (f : Facet) → IsSoundOn n made → IsFacetThere c f → IsSoundOn n (with_drawn_facet table c made f)
+  facet_step made f s h =
+      keeps (IsSoundOn n) (λ p. Unit {0}) (with_drawn_facet_hole table.grid) facet_hole_step (with_drawn_polygons table.folded c made f)
+      (slice_range c.facet_holes.now f.first_hole f.past_hole) (polygons_sound made f s h) (λ i d lt. tt)
+
+  facets_sound : HasParts c → IsSoundOn n (drawn_facets table c)
+  facets_sound h = keeps (IsSoundOn n) (IsFacetThere c) (with_drawn_facet table c) facet_step empty_complex c.facets.now (empty_sound n) h
 
 module _ (grid : Grid) (n : ℕ) where
   hole_step : (made : Complex) (p : Place) → IsSoundOn n made → Unit {0} → IsSoundOn n (with_drawn_hole grid made p)
@@ -78,7 +86,7 @@ module _ (c : ArrayComplex) (table : NodeTable) (on : IsArrayTable c.options.hal
   below i lt = (on.folding.equal i (omega (arith, lt, long))).0
 
   sound : IsSoundOn (length table.points) (complex_on table c)
-  sound = points_sound table.grid (length table.points) (drawn_facets table.folded c) c.holes.now c.regions.now (facets_sound c table.folded (length table.points) below there)
+  sound = points_sound table.grid (length table.points) (drawn_facets table c) c.holes.now c.regions.now (facets_sound c table (length table.points) below there)
 
   listed_multiples : (i : ℕ) → i < length table.listed → IsMultiple (2 ^ table.grid.halvings) (point table.listed i)
   listed_multiples i lt =

@@ -1,7 +1,9 @@
 -- What the lists of a mesh are made of: its corners have names, and few points are added.
 use Rattle.std.proofs.Common.{◌≡◌, ℕ, ◌+◌, ◌-◌, ◌^◌, ◌<◌, ◌≤◌, Bool, List, length, length-drop, get_or, map, [], ◌∷◌, ◌++◌, Option, Some, None, IfSome, All, ap, sym, subst, ◌∙◌, arith}
 use Rattle.std.specs.Prelude.{Contains}
-use Rattle.std.proofs.lemmas.List.{get_or_default, map-append}
+use Rattle.std.specs.List.{enumerate_from}
+use Rattle.std.proofs.lemmas.List.{get_or_default, length-map, map-append}
+use Rattle.std.proofs.lemmas.List.FromFn.{length-enumerate_from}
 use Rattle.complex_mesh.proofs.Added.{added}
 use Rattle.complex_mesh.specs.Meshing.{IsComplexMesh}
 use Rattle.complex_mesh.specs.declared.mesh.ComplexMesh.{ComplexMesh}
@@ -12,6 +14,7 @@ use Rattle.geo_laws.specs.declared.complex.FacetTriangle.{FacetTriangle}
 use Rattle.geo_laws.specs.declared.complex.Region.{Region}
 use Rattle.geo_laws.specs.declared.tetrahedra.Tet.{Tet}
 use Rattle.hole_carve.specs.Marks.{AreRegionMarks}
+use Rattle.incidence.specs.Pairs.{across_of, pairs_of}
 use Rattle.mesh_files.specs.FaceRows.{AreFaceRowsOf}
 use Rattle.mesh_files.specs.Texts.{AreNamed, marked_corners}
 use Rattle.mesh_files.specs.declared.markers.FaceRow.{FaceRow}
@@ -69,6 +72,10 @@ pub marks_long : (ps : List Point) (ts : List FacetTriangle) (rows : List Tet) (
     → IfSome marks (λ ms. length ms ≡ length rows)
 marks_long ps ts rows regions None h = tt
 marks_long ps ts rows regions (Some ms) h = h.long
+
+-- there are neighbors of each tetrahedron
+pub pairs_long : (rows : List Tet) → length (pairs_of rows) ≡ length rows
+pairs_long rows = length-map (enumerate_from 0 rows) (λ r. across_of rows r.0 r.1) ∙ length-enumerate_from 0 rows
 
 -- with one more cell
 pub cells_more : (f : ℕ → Cell) (i : ℕ) (cells new : List Cell) (v : Cell) → cells ≡ map f (numbers_below i) → v ≡ f i → new ≡ cells ++ v ∷ [] → new ≡ map f (numbers_below (i + 1))

@@ -7,6 +7,8 @@ use Rattle.complex_mesh.specs.declared.mesh.ComplexMesh.{ComplexMesh}
 use Rattle.geo_laws.specs.Delaunay.{numbers_below, row_at}
 use Rattle.geo_laws.specs.declared.tetrahedra.Tet.{Tet}
 use Rattle.hole_carve.specs.Marks.{mark_at}
+use Rattle.incidence.specs.Pairs.{across_at, pairs_of}
+use Rattle.incidence.specs.declared.pairs.Across.{Across}
 use Rattle.mesh_files.specs.FaceRows.{AreFaceRowsOf}
 use Rattle.mesh_files.specs.declared.markers.FaceRow.{FaceRow}
 use Rattle.node_files.specs.Folding.{names_with}
@@ -28,32 +30,36 @@ use Rattle.array_meshes.specs.declared.meshes.ArrayMesh.{ArrayMesh}
 abbrev pub place_of : Point → Place
 place_of p = record { x = p.x; y = p.y; z = p.z }
 
--- no region
-abbrev pub no_region : ℕ
-no_region = 2 ^ 32 - 1
+-- no region, or no neighbor
+abbrev pub no_place : ℕ
+no_place = 2 ^ 32 - 1
 
-abbrev pub region_number : Option ℕ → ℕ
-region_number None = no_region
-region_number (Some region) = region
+abbrev pub place_or_none : Option ℕ → ℕ
+place_or_none None = no_place
+place_or_none (Some place) = place
 
 -- the region of the tetrahedron at a place, where there are marks
 abbrev pub region_at : Option (List (Option ℕ)) → ℕ → ℕ
-region_at None i = no_region
-region_at (Some marks) i = region_number (mark_at marks i)
+region_at None i = no_place
+region_at (Some marks) i = place_or_none (mark_at marks i)
 
--- a tetrahedron, by the names of its corners, with its region
-abbrev pub named_cell : List ℕ → Tet → ℕ → Cell
-named_cell names t region = record {
+-- a tetrahedron, by the names of its corners, with its region, and with its neighbors across the faces opposite its corners
+abbrev pub named_cell : List ℕ → Tet → ℕ → Across → Cell
+named_cell names t region across = record {
   a = slice_index names t.a;
   b = slice_index names t.b;
   c = slice_index names t.c;
   d = slice_index names t.d;
   region = region;
+  n0 = place_or_none across.n0;
+  n1 = place_or_none across.n1;
+  n2 = place_or_none across.n2;
+  n3 = place_or_none across.n3;
 }
 
--- the tetrahedron at a place, with its region
+-- the tetrahedron at a place, with its region and its neighbors, which are those of the `.neigh` file
 abbrev pub cell_at : List ℕ → List Tet → Option (List (Option ℕ)) → ℕ → Cell
-cell_at names rows marks i = named_cell names (row_at rows i) (region_at marks i)
+cell_at names rows marks i = named_cell names (row_at rows i) (region_at marks i) (across_at (pairs_of rows) i)
 
 -- a face, by the names of its corners
 abbrev pub named_face : List ℕ → FaceRow → MarkedFace
@@ -110,8 +116,8 @@ added_to table mesh = drop (length table.points) mesh.points
 abbrev pub names_of : NodeTable → ComplexMesh → List ℕ
 names_of table mesh = names_with table (length (added_to table mesh))
 
--- the lists have all points of the array and the added ones behind them, in the units of the grid, the tetrahedra with their regions, and
--- the faces with their markers
+-- the lists have all points of the array and the added ones behind them, in the units of the grid, the tetrahedra with their regions and
+-- their neighbors, and the faces with their markers
 pub record AreListsOf (table : NodeTable) (mesh : ComplexMesh) (found : List FaceRow) (made : MeshLists) : Type 0 where
   pub halvings_are : made.halvings ≡ table.grid.halvings
   pub points_are : made.points ≡ map place_of (table.listed ++ added_to table mesh)

@@ -13,13 +13,16 @@ pub struct Polygon {
     pub past: usize,
 }
 
-/// A facet: its polygons are those from `first` to before `past` in an array of polygons.
+/// A facet: its polygons are those from `first` to before `past` in an array of polygons, and the
+/// points in its holes those from `first_hole` to before `past_hole` in an array of points.
 #[repr(C)]
 #[derive(Clone, Copy, Debug, PartialEq, Eq)]
 pub struct Facet {
     pub first: usize,
     pub past: usize,
     pub marker: i64,
+    pub first_hole: usize,
+    pub past_hole: usize,
 }
 
 /// How the mesh of a complex is made.
@@ -48,6 +51,9 @@ pub struct ArrayComplex<'a> {
     pub corners: &'a [u32],
     pub polygons: &'a [Polygon],
     pub facets: &'a [Facet],
+    /// Points in holes of facets: what a path in the facet, through no side, joins with one is no
+    /// part of it.
+    pub facet_holes: &'a [Place],
     /// Points in holes: what a free path joins with one is carved.
     pub holes: &'a [Place],
     /// Points in regions.
@@ -90,18 +96,27 @@ fn are_polygons_there(complex: &ArrayComplex<'_>, polygons: &[Polygon]) -> bool
     true
 }
 
-/// Whether the polygons of a facet are there, with their corners.
+/// Whether the polygons of a facet are there, with their corners, and the points in its holes.
 fn is_facet_there(complex: &ArrayComplex<'_>, facet: &Facet) -> bool
     ensures { IsTrue result ↔ IsFacetThere complex.now facet.now }
 {
-    let Facet { first, past, .. } = *facet;
+    let Facet {
+        first,
+        past,
+        first_hole,
+        past_hole,
+        ..
+    } = *facet;
     if first > past || past > complex.polygons.len() {
+        return false;
+    }
+    if first_hole > past_hole || past_hole > complex.facet_holes.len() {
         return false;
     }
     are_polygons_there(complex, &complex.polygons[first..past])
 }
 
-/// Whether the polygons of each facet are there, with their corners.
+/// Whether the parts of each facet are there.
 pub(crate) fn has_parts(complex: &ArrayComplex<'_>) -> bool
     ensures { IsTrue result ↔ HasParts complex.now }
 {

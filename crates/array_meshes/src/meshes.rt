@@ -3,6 +3,8 @@
 ghost use Rattle.std.specs.Prelude.{◌≡◌, ◌≤◌, ◌<◌, ◌+◌, ◌-◌, ◌^◌, ◌++◌, All, IfErr, IfOk, IfSome, OnErr, OnOk, length, drop, false, map};
 ghost use Rattle.complex_mesh.specs.Meshing.{IsComplexMesh};
 ghost use Rattle.geo_laws.specs.Delaunay.{numbers};
+ghost use Rattle.incidence.specs.Pairs.{pairs_of};
+ghost use Rattle.incidence.specs.Uses.{AreUsesOf};
 ghost use Rattle.mesh_files.specs.FaceRows.{AreFaceRowsOf, AreFacetsThere, AreTrianglesMetByFaces};
 ghost use Rattle.mesh_files.specs.Texts.{AreNamed, marked_corners};
 ghost use Rattle.array_meshes.specs.Arrays.{IsArrayTable};
@@ -16,7 +18,7 @@ use crate::fault::{ComplexFault, Counts};
 use crate::parts::complex_on;
 use complex_mesh::{ComplexMesh, MeshOptions, mesh_complex};
 use geo_laws::{Complex, Points};
-use incidence::uses_of;
+use incidence::{Pairs, Uses, pair_uses, uses_of};
 use mesh_files::{FaceRows, MarkedList, used_faces};
 use node_files::{NodeTable, names_of};
 use sign_predicates::GridPoint;
@@ -113,8 +115,9 @@ fn mesh_on(
     }
 }
 
-/// The faces on the hull of a mesh and in its facets.
-fn faces_of(alloc: Global, made: &Meshed) -> Result<FaceRows, NoMemory>
+/// The faces on the hull of a mesh and in its facets, from the uses of all faces.
+fn faces_of(alloc: Global, made: &Meshed, uses: &Uses) -> Result<FaceRows, NoMemory>
+    requires uses { AreUsesOf made.now.mesh.tetrahedra uses.now }
     requires met { AreTrianglesMetByFaces made.now.mesh.points made.now.mesh.triangles
         made.now.mesh.tetrahedra }
     requires facets { AreFacetsThere made.now.mesh.triangles made.now.complex }
@@ -122,14 +125,13 @@ fn faces_of(alloc: Global, made: &Meshed) -> Result<FaceRows, NoMemory>
         made.now.complex made.now.mesh.triangles false) }
 {
     let mesh = &made.mesh;
-    let uses = uses_of(alloc, &mesh.tetrahedra)?;
     let marked = MarkedList {
         points: &mesh.points,
         list: &mesh.tetrahedra,
         complex: &made.complex,
         triangles: &mesh.triangles,
     };
-    used_faces(alloc, &marked, &uses, false)
+    used_faces(alloc, &marked, uses, false)
 }
 
 /// The points of an array and the added ones behind them.
@@ -149,6 +151,7 @@ fn lists_of(
     table: &NodeTable,
     mesh: &ComplexMesh,
     faces: &FaceRows,
+    pairs: &Pairs,
 ) -> Result<ArrayMesh, NoMemory>
     requires begins { length table.now.points ≤ length mesh.now.points }
     requires few { length table.now.listed + length (added_to table.now mesh.now) < 2 ^ 32 - 1 }
@@ -157,6 +160,7 @@ fn lists_of(
     requires faces { All (λ f. AreNamed (names_of table.now mesh.now) (marked_corners f))
         faces.now }
     requires marks { IfSome mesh.now.marks (λ ms. length ms ≡ length mesh.now.tetrahedra) }
+    requires pairs { pairs.now ≡ pairs_of mesh.now.tetrahedra }
     ensures { IfOk result (λ made. AreListsOf table.now mesh.now faces.now (lists_of made)) }
 {
     let added = &mesh.points.as_slice()[table.points.len()..];
@@ -164,7 +168,7 @@ fn lists_of(
     Ok(ArrayMesh {
         halvings: table.grid.halvings,
         points: points_of(alloc, table, added)?,
-        cells: cells_of(alloc, &names, &mesh.tetrahedra, &mesh.marks)?,
+        cells: cells_of(alloc, &names, &mesh.tetrahedra, &mesh.marks, pairs)?,
         faces: named_faces(alloc, &names, faces)?,
     })
 }
@@ -182,8 +186,10 @@ pub fn mesh_arrays(alloc: Global, complex: &ArrayComplex<'_>) -> Result<ArrayMes
 {
     let table = bound_table(alloc, complex)?;
     let made = mesh_on(alloc, complex, table)?;
-    let faces = faces_of(alloc, &made)?;
-    Ok(lists_of(alloc, &made.table, &made.mesh, &faces)?)
+    let uses = uses_of(alloc, &made.mesh.tetrahedra)?;
+    let faces = faces_of(alloc, &made, &uses)?;
+    let pairs = pair_uses(alloc, &made.mesh.tetrahedra, &uses)?;
+    Ok(lists_of(alloc, &made.table, &made.mesh, &faces, &pairs)?)
 }
 
 /// The lengths of the lists of a mesh.

@@ -2,7 +2,7 @@
 
 ghost use Rattle.std.specs.Prelude.{◌≡◌, ◌<◌, ◌-◌, ◌^◌, All, IfOk, OnOk, length, map, slice_index};
 ghost use Rattle.std.specs.List.{fold};
-ghost use Rattle.array_meshes.specs.Complexes.{HasParts, IsFacetThere, IsPolygonThere, complex_on, drawn_facets, rational_place, with_drawn_facet, with_drawn_hole, with_drawn_polygon, with_drawn_region};
+ghost use Rattle.array_meshes.specs.Complexes.{HasParts, IsFacetThere, IsPolygonThere, complex_on, drawn_facets, rational_place, with_drawn_facet, with_drawn_facet_hole, with_drawn_hole, with_drawn_polygon, with_drawn_polygons, with_drawn_region};
 
 use crate::arrays::{Place, decimal_point};
 use crate::complexes::{ArrayComplex, Facet, Polygon};
@@ -58,7 +58,7 @@ fn add_polygon(
 }
 
 /// Appends a facet with its polygons.
-fn add_facet(
+fn add_polygons(
     alloc: Global,
     folded: &Names,
     complex: &ArrayComplex<'_>,
@@ -67,8 +67,9 @@ fn add_facet(
 ) -> Result<(), NoMemory>
     requires folded { length folded.now ≡ length complex.now.points.now }
     requires there { IsFacetThere complex.now facet.now }
-    ensures { OnOk result
-        (made.new ≡ with_drawn_facet folded.now complex.now made.old facet.now) }
+    ensures made { OnOk result
+        (made.new ≡ with_drawn_polygons folded.now complex.now made.old facet.now) }
+    ensures facet { OnOk result (0 < length made.new.facets) }
 {
     one_more(made.facet_count())?;
     made.add_facet(Some(facet.marker))?;
@@ -78,24 +79,66 @@ fn add_facet(
     Ok(())
 }
 
-/// The facets of the complex, with their polygons.
-fn facets_of(alloc: Global, folded: &Names, complex: &ArrayComplex<'_>) -> Result<Complex, NoMemory>
-    requires folded { length folded.now ≡ length complex.now.points.now }
-    requires there { HasParts complex.now }
-    ensures { IfOk result (λ made. made ≡ drawn_facets folded.now complex.now) }
-{
-    let mut made = Complex::new(alloc);
-    for facet in complex.facets {
-        add_facet(alloc, folded, complex, facet, &mut made)?;
-    }
-    Ok(made)
-}
-
 /// A point of an array over the denominator 10^6 of grid units.
 fn rational_place(grid: &Grid, place: &Place) -> RatPoint
     ensures { result ≡ rational_place grid.now place.now }
 {
     to_rat(grid, &decimal_point(place))
+}
+
+/// Appends a point in a hole of the last facet.
+fn add_facet_hole(grid: &Grid, hole: &Place, made: &mut Complex) -> Result<(), NoMemory>
+    requires { 0 < length made.old.facets }
+    ensures made { OnOk result (made.new ≡ with_drawn_facet_hole grid.now made.old hole.now) }
+    ensures facets { OnOk result (length made.new.facets ≡ length made.old.facets) }
+{
+    made.add_facet_hole(rational_place(grid, hole))
+}
+
+/// Appends points in holes of the last facet.
+fn add_facet_holes(grid: &Grid, holes: &[Place], made: &mut Complex) -> Result<(), NoMemory>
+    requires { 0 < length made.old.facets }
+    ensures { OnOk result (made.new ≡ fold (with_drawn_facet_hole grid.now) made.old holes.now) }
+{
+    for hole in holes {
+        add_facet_hole(grid, hole, made)?;
+    }
+    Ok(())
+}
+
+/// Appends a facet with its polygons and the points in its holes.
+fn add_facet(
+    alloc: Global,
+    table: &NodeTable,
+    complex: &ArrayComplex<'_>,
+    facet: &Facet,
+    made: &mut Complex,
+) -> Result<(), NoMemory>
+    requires folded { length table.now.folded ≡ length complex.now.points.now }
+    requires there { IsFacetThere complex.now facet.now }
+    ensures { OnOk result
+        (made.new ≡ with_drawn_facet table.now complex.now made.old facet.now) }
+{
+    add_polygons(alloc, &table.folded, complex, facet, made)?;
+    let holes = &complex.facet_holes[facet.first_hole..facet.past_hole];
+    add_facet_holes(&table.grid, holes, made)
+}
+
+/// The facets of the complex, with their parts.
+fn facets_of(
+    alloc: Global,
+    table: &NodeTable,
+    complex: &ArrayComplex<'_>,
+) -> Result<Complex, NoMemory>
+    requires folded { length table.now.folded ≡ length complex.now.points.now }
+    requires there { HasParts complex.now }
+    ensures { IfOk result (λ made. made ≡ drawn_facets table.now complex.now) }
+{
+    let mut made = Complex::new(alloc);
+    for facet in complex.facets {
+        add_facet(alloc, table, complex, facet, &mut made)?;
+    }
+    Ok(made)
 }
 
 /// Appends the hole points.
@@ -135,7 +178,7 @@ pub(crate) fn complex_on(
     requires there { HasParts complex.now }
     ensures { IfOk result (λ made. made ≡ complex_on table.now complex.now) }
 {
-    let mut made = facets_of(alloc, &table.folded, complex)?;
+    let mut made = facets_of(alloc, table, complex)?;
     add_holes(&table.grid, complex.holes, &mut made)?;
     add_regions(alloc, &table.grid, complex.regions, &mut made)?;
     Ok(made)

@@ -30,21 +30,29 @@ static FACETS: [Facet; 4] = [
         first: 0,
         past: 1,
         marker: 7,
+        first_hole: 0,
+        past_hole: 0,
     },
     Facet {
         first: 1,
         past: 2,
         marker: -8,
+        first_hole: 0,
+        past_hole: 0,
     },
     Facet {
         first: 2,
         past: 3,
         marker: 9,
+        first_hole: 0,
+        past_hole: 0,
     },
     Facet {
         first: 3,
         past: 4,
         marker: 10,
+        first_hole: 0,
+        past_hole: 0,
     },
 ];
 
@@ -65,6 +73,7 @@ fn tetrahedron() -> ArrayComplex<'static> {
         corners: &CORNERS,
         polygons: &POLYGONS,
         facets: &FACETS,
+        facet_holes: &[],
         holes: &[],
         regions: &OUTSIDE_AND_INSIDE,
         options: OPTIONS,
@@ -86,6 +95,10 @@ static CELLS: [Cell; 1] = [Cell {
     c: 2,
     d: 3,
     region: 1,
+    n0: u32::MAX,
+    n1: u32::MAX,
+    n2: u32::MAX,
+    n3: u32::MAX,
 }];
 
 static FACES: [MarkedFace; 4] = [
@@ -134,6 +147,10 @@ const CELL: Cell = Cell {
     c: 7,
     d: 7,
     region: 7,
+    n0: 7,
+    n1: 7,
+    n2: 7,
+    n3: 7,
 };
 
 const FACE: MarkedFace = MarkedFace {

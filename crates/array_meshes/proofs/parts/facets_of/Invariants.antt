@@ -5,4 +5,4 @@ use Rattle.array_meshes.specs.Complexes.{with_drawn_facet}
 use Rattle.array_meshes.proofs.parts.facets_of.Given as goal
 
 abbrev pub invariant-loop-facet : goal.invariant-loop-facet
-invariant-loop-facet l = l.made ≡ fold (with_drawn_facet l.folded l.complex) empty_complex (take l.facet-index l.complex.facets.now)
+invariant-loop-facet l = l.made ≡ fold (with_drawn_facet l.table l.complex) empty_complex (take l.facet-index l.complex.facets.now)

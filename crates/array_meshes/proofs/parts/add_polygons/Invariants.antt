@@ -3,7 +3,7 @@ use Rattle.std.specs.Prelude.{slice_range}
 use Rattle.std.specs.List.{fold}
 use Rattle.geo_laws.specs.Complex.{with_facet}
 use Rattle.array_meshes.specs.Complexes.{with_drawn_polygon}
-use Rattle.array_meshes.proofs.parts.add_facet.Given as goal
+use Rattle.array_meshes.proofs.parts.add_polygons.Given as goal
 
 abbrev pub invariant-loop-polygon : goal.invariant-loop-polygon
 invariant-loop-polygon l = record {
