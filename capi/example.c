@@ -1,5 +1,5 @@
-/* The Delaunay list of a pyramid, in the caller's array and in a block of memory; the mesh of a tetrahedron with facets; a run on a text; and
-   refusals of each. */
+/* The Delaunay list of a pyramid, in the caller's array and in a block of memory; the mesh of a tetrahedron with facets, and of a facet with a hole;
+   points of floats; a run on a text; and refusals of each. */
 #include "tetgen.h"
 #include <stdio.h>
 #include <stdlib.h>
@@ -72,6 +72,53 @@ static void of_a_complex(void) {
         printf("%u %u %u marked %lld\n", faces[i].a, faces[i].b, faces[i].c, (long long)faces[i].marker);
 }
 
+/* Two tetrahedra over a square of 4 by 4 and below it, whose one facet is the square with a hole in its middle. */
+static const tetgen_place SQUARE[10] = {{0, 0, 0}, {4, 0, 0}, {4, 4, 0}, {0, 4, 0}, {1, 1, 0}, {3, 1, 0}, {3, 3, 0}, {1, 3, 0}, {2, 2, 4}, {2, 2, -4}};
+static const uint32_t RINGS[8] = {0, 1, 2, 3, 4, 5, 6, 7};
+static const tetgen_polygon TWO[2] = {{0, 4}, {4, 8}};
+static const tetgen_facet RING[1] = {{0, 2, 7, 0, 1}};
+static const tetgen_place MIDDLE[1] = {{2, 2, 0}};
+
+static void in_blocks(void) {
+    tetgen_complex complex = {SQUARE, 10, RINGS, 8, TWO, 2, RING, 1, MIDDLE, 1, NULL, 0, NULL, 0, TETGEN_OPTIONS};
+    tetgen_blocks out = {NULL, 0, NULL, 0, NULL, 0, 0};
+    size_t in_facet = 0;
+    complex.options.keep_hull = true;
+    complex.facet_hole_count = 0;
+    check(tetgen_mesh(&complex, &out) == TETGEN_BAD_INDEX && out.points == NULL, "a point in a hole that is not there");
+    complex.facet_hole_count = 1;
+    check(tetgen_mesh(&complex, &out) == TETGEN_DONE && out.point_count == 10, "a square with a hole");
+    for (size_t i = 0; i < out.face_count; i++)
+        in_facet += out.faces[i].marker == 7;
+    for (size_t i = 0; i < out.cell_count; i++)
+        for (size_t k = 0; k < 4; k++) {
+            uint32_t next = out.cells[i].neighbors[k];
+            check(next == TETGEN_NO_NEIGHBOR || next < out.cell_count, "a neighbor");
+        }
+    printf("%zu faces in the ring\n", in_facet);
+    free(out.points);
+    free(out.cells);
+    free(out.faces);
+}
+
+static void of_floats(void) {
+    const tetgen_float_place floats[2] = {{0.125, -0.125, 0.1}, {1e-30, 2.675, 536870.912}};
+    tetgen_float_place none = {0.0 / 0.0, 0, 0};
+    tetgen_place places[2] = {{0, 0, 0}, {0, 0, 0}};
+    check(tetgen_places_of(floats, 2, 4, places, 2) == TETGEN_LIMIT && tetgen_places_of(floats, 2, 23, places, 2) == TETGEN_LIMIT, "too large");
+    check(tetgen_places_of(&none, 1, 0, places, 2) == TETGEN_LIMIT && tetgen_places_of(floats, 2, 2, places, 1) == TETGEN_NO_ROOM, "no number");
+    check(places[0].x == 0 && places[1].y == 0 && tetgen_places_of(floats, 2, 2, places, 2) == TETGEN_DONE, "two points of floats");
+    for (size_t i = 0; i < 2; i++)
+        printf("%lld %lld %lld hundredths\n", (long long)places[i].x, (long long)places[i].y, (long long)places[i].z);
+}
+
+static void in_words(void) {
+    char room[80] = "";
+    check(tetgen_message(TETGEN_FLAT, room, 5) == 77 && room[0] == 0, "no room for words");
+    check(tetgen_message(3, room, sizeof room) == 0 && room[0] == 0, "a number that is no status");
+    check(tetgen_message(TETGEN_NO_MEMORY, room, sizeof room) == 13 && strcmp(room, "out of memory") == 0, "words");
+}
+
 #define SLICE(text) {text, sizeof(text) - 1}
 
 static const char NODE[] = "5 3 0 0\n0 0 0 0\n1 2 0 0\n2 2 2 0\n3 0 2 0\n4 1 1 2\n";
@@ -115,6 +162,9 @@ int main(void) {
     in_an_array();
     in_a_block();
     of_a_complex();
+    in_blocks();
+    of_floats();
+    in_words();
     over_texts();
     return 0;
 }

@@ -146,6 +146,42 @@ typedef struct {
 int32_t tetgen_mesh_into(const tetgen_complex *complex, tetgen_place *points, size_t point_room, tetgen_cell *cells, size_t cell_room,
                          tetgen_face *faces, size_t face_room, tetgen_counts *counts);
 
+/* The lists of a mesh in blocks of memory, each of which the caller frees by free where its list is not empty. */
+typedef struct {
+    tetgen_place *points;
+    size_t point_count;
+    tetgen_cell *cells;
+    size_t cell_count;
+    tetgen_face *faces;
+    size_t face_count;
+    uint32_t halvings;
+} tetgen_blocks;
+
+/* Makes the mesh of a complex in blocks of memory.
+
+   TETGEN_DONE: out has the lists of tetgen_mesh_into in blocks, and the halvings; what is proved are the lengths and the halvings.
+   TETGEN_BAD_INDEX, .., TETGEN_NO_MEMORY: as above; out stays as it was. */
+int32_t tetgen_mesh(const tetgen_complex *complex, tetgen_blocks *out);
+
+/* A point with coordinates that are binary floats of 64 bits, as an array of three double lies in memory. */
+typedef struct {
+    double x, y, z;
+} tetgen_float_place;
+
+/* Writes n points to the front of places, which has room for so many, with each coordinate in units of 1 / 10^decimals: x 10^decimals, rounded to a
+   whole number from its exact value, halves away from zero.
+
+   TETGEN_DONE: so it is; what lies behind stays.
+   On any other status places stays as it was:
+   TETGEN_LIMIT: decimals is over 22, a rounded coordinate is over 2^29 in size, or a coordinate is infinite or no number.
+   TETGEN_NO_ROOM: room is less than n. */
+int32_t tetgen_places_of(const tetgen_float_place *points, size_t n, uint32_t decimals, tetgen_place *places, size_t room);
+
+/* Writes the words for a status of the calls above to the front of room, without a zero behind them, where they fit, and answers how many bytes they
+   have: "out of memory" for TETGEN_NO_MEMORY. A number that is no status has no words. What lies behind stays, and all of room where it is too
+   short. A run over texts has its own messages. */
+size_t tetgen_message(int32_t status, char *room, size_t room_size);
+
 /* Bytes: a word, or the name of a file. */
 typedef struct {
     const char *at;

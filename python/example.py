@@ -1,5 +1,6 @@
-"""Meshes of arrays and of texts by tetgen.py: a pyramid, a box with a wall, a facet with a hole, 2,000 points, refusals, and as many calls of each
-kind as its word says, 10,000 without one, that keep no memory."""
+"""Meshes of arrays and of texts by tetgen.py: a pyramid, a box with a wall, a facet with a hole, points of floats, 2,000 points, refusals, and as many
+calls of each kind as its word says, 10,000 without one, that keep no memory."""
+import fractions
 import random
 import sys
 
@@ -40,6 +41,14 @@ def mesh_refused(points, facets, **options):
     return 0
 
 
+def float_refused(points, decimals):
+    try:
+        tetgen.places_of(points, decimals)
+    except tetgen.TetgenError as error:
+        return error.status
+    return 0
+
+
 def volumes(points, rows):
     """Six times the volume of each tetrahedron."""
     a, b, c, d = (points[rows[:, k]] for k in range(4))
@@ -60,6 +69,8 @@ def call(points):
     refused(PYRAMID[:4])
     tetgen.mesh(BOX, SIDES, regions=[(1, 1, 1)])
     mesh_refused(BOX, [[0, 1, 99]])
+    tetgen.places_of(points / 8, 2)
+    float_refused(points / 8, 23)
     tetgen.run(["-n", "p"], {"p.node": NODE})
     run_refused(["-n", "p"], {})
 
@@ -83,6 +94,21 @@ def of_a_ring():
     assert any(set(it) <= inner for it in whole.faces[whole.markers == 7].tolist())
     assert not any(set(it) <= inner for it in ring.faces[ring.markers == 7].tolist()) and (ring.markers == 7).any()
     are_neighbors(ring)
+
+
+def of_floats():
+    """Floats are rounded from their exact values, halves away from zero."""
+    random.seed(2)
+    floats = [[random.uniform(-1, 1) * 10.0 ** random.randint(-20, 3) for _ in range(3)] for _ in range(500)]
+    floats += [[0.125, -0.125, 2.675], [5e-324, -0.0, 0.5], [1.5, -2.5, 0.0005]]
+    for decimals in (0, 2, 4):
+        for row, places in zip(floats, tetgen.places_of(floats, decimals).tolist()):
+            for number, place in zip(row, places):
+                exact = abs(fractions.Fraction(number)) * 10**decimals
+                assert place == (1 if number > 0 else -1) * int(exact + fractions.Fraction(1, 2))
+    assert tetgen.places_of([[1e-14, 0.0, 0.0]], 22).tolist() == [[100_000_000, 0, 0]]
+    assert float_refused(floats, 23) == 5 and float_refused([[0, 0, float("nan")]], 0) == 5 and float_refused([[-float("inf"), 0, 0]], 0) == 5
+    assert float_refused([[2.0**29, 0, 0]], 0) == 0 and float_refused([[2.0**29 + 0.5, 0, 0]], 0) == 5 and float_refused([[1e300, 0, 0]], 0) == 5
 
 
 def of_a_complex():
@@ -112,6 +138,7 @@ def main():
 
     of_a_complex()
     of_a_ring()
+    of_floats()
 
     random.seed(1)
     points = np.array([[random.randrange(1000) for _ in range(3)] for _ in range(2000)])

@@ -24,6 +24,7 @@ _COMPLEX_REASONS = {
     8: "as many points were added as allowed, and a segment is missing",
     9: "two facets cross one Delaunay tetrahedron, and no filling was found",
 }
+_PLACES_REASONS = {5: "more than 22 decimals, or a coordinate that is over 2^29 units in size, infinite or no number"}
 NO_REGION = NO_NEIGHBOR = 2**32 - 1
 
 # The endings of the files that the program may write.
@@ -73,6 +74,8 @@ _LIBRARY.tetgen_delaunay_into.argtypes = [_AT, _SIZE, _AT, _SIZE, ctypes.POINTER
 _LIBRARY.tetgen_delaunay_into.restype = ctypes.c_int32
 _LIBRARY.tetgen_mesh_into.argtypes = [ctypes.POINTER(_Complex), _AT, _SIZE, _AT, _SIZE, _AT, _SIZE, ctypes.POINTER(_Counts)]
 _LIBRARY.tetgen_mesh_into.restype = ctypes.c_int32
+_LIBRARY.tetgen_places_of.argtypes = [_AT, _SIZE, ctypes.c_uint32, _AT, _SIZE]
+_LIBRARY.tetgen_places_of.restype = ctypes.c_int32
 
 
 class TetgenError(Exception):
@@ -93,6 +96,19 @@ def _places(points):
     if not np.can_cast(points.dtype, np.int64):
         raise TypeError(f"points: whole numbers of at most 64 bits with a sign, and not {points.dtype}")
     return np.ascontiguousarray(points, np.int64)
+
+
+def places_of(points, decimals):
+    """Points with floating-point coordinates in units of 1 / 10^`decimals`, at most 22: an array of shape (n, 3) of int64. Each coordinate is
+    rounded to a whole number from its exact value, halves away from zero, and is at most 2^29 in size then."""
+    points = np.ascontiguousarray(points, np.float64)
+    if points.ndim != 2 or points.shape[1] != 3:
+        raise ValueError(f"points: an array of shape (n, 3), and not {points.shape}")
+    places = np.empty(points.shape, np.int64)
+    status = _LIBRARY.tetgen_places_of(points.ctypes.data, len(points), decimals, places.ctypes.data, len(places))
+    if status != _DONE:
+        raise TetgenError(status, _PLACES_REASONS[status])
+    return places
 
 
 def delaunay(points):

@@ -1,3 +1,4 @@
 pub mod Arrays
 pub mod Complexes
+pub mod Doubles
 pub mod Meshes

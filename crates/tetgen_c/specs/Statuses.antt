@@ -1,15 +1,19 @@
 -- The statuses with which a call from C ends.
 use Rattle.std.specs.Prelude.{◌≡◌, ℕ, ℤ, pos, List, length}
 use Rattle.array_meshes.specs.Arrays.{AreDelaunayRows, IsArrayFault, IsMeshFault, code_of, wanted_of}
-use Rattle.array_meshes.specs.Meshes.{IsMeshedFault, code_of as complex_code, wanted_of as wanted_counts}
+use Rattle.array_meshes.specs.Doubles.{IsDoubleFault, code_of as double_code}
+use Rattle.array_meshes.specs.Meshes.{IsArrayMesh, IsComplexFault, IsMeshedFault, MeshLists, code_of as complex_code, counts_of, wanted_of as wanted_counts}
 use Rattle.memory_runs.specs.Runs.{IsHandedOver, RunLaw}
 use Rattle.array_meshes.specs.declared.arrays.ArrayFault.{ArrayFault}
 use Rattle.array_meshes.specs.declared.arrays.Place.{Place}
 use Rattle.array_meshes.specs.declared.arrays.Row.{Row}
 use Rattle.array_meshes.specs.declared.complexes.ArrayComplex.{ArrayComplex}
+use Rattle.array_meshes.specs.declared.doubles.DoubleFault.{DoubleFault}
+use Rattle.array_meshes.specs.declared.doubles.DoublePoint.{DoublePoint}
 use Rattle.array_meshes.specs.declared.fault.ComplexFault.{ComplexFault}
 use Rattle.array_meshes.specs.declared.fault.Counts.{Counts}
 use Rattle.memory_runs.specs.declared.texts.Task.{Task}
+use Rattle.tetgen_c.specs.declared.meshes.MeshBlocks.{MeshBlocks}
 
 -- a fault has this cause, and the status is its own
 pub record IsRefusal (Cause : ArrayFault → Type 0) (status : ℤ) : Type 0 where
@@ -31,6 +35,28 @@ pub record IsUnmeshedInto (c : ArrayComplex) (points cells faces : ℕ) (counts 
   pub cause : IsMeshedFault c points cells faces fault
   pub counted : counts ≡ wanted_counts fault
   pub status_is : status ≡ pos (complex_code fault)
+
+-- the complex has no mesh
+pub record IsUnmeshed (c : ArrayComplex) (status : ℤ) : Type 0 where
+  pub fault : ComplexFault
+  pub cause : IsComplexFault c fault
+  pub status_is : status ≡ pos (complex_code fault)
+
+-- the complex has a mesh whose lists have these lengths
+pub record HasCounts (c : ArrayComplex) (counts : Counts) : Type 0 where
+  pub made : MeshLists
+  pub is : IsArrayMesh c made
+  pub counted : counts ≡ counts_of made
+
+-- the lengths of lists in blocks
+abbrev pub counts_in : MeshBlocks → Counts
+counts_in out = record { points = out.point_count; cells = out.cell_count; faces = out.face_count; halvings = out.halvings }
+
+-- the points are not rounded to an array with this room
+pub record IsUnrounded (decimals : ℕ) (points : List DoublePoint) (room : ℕ) (status : ℤ) : Type 0 where
+  pub fault : DoubleFault
+  pub cause : IsDoubleFault decimals points room fault
+  pub status_is : status ≡ pos (double_code fault)
 
 -- the points have a Delaunay list of this length
 pub record HasLength (places : List Place) (count : ℕ) : Type 0 where

@@ -1,11 +1,14 @@
-//! The mesh of a complex whose parts are arrays, for C.
+//! The mesh of a complex whose parts are arrays, for C, in arrays of the caller and in blocks.
 
 ghost use Rattle.std.specs.Prelude.{◌≡◌, pos, drop, length};
-ghost use Rattle.array_meshes.specs.Meshes.{HasRoom, IsArrayMesh, lists_in};
-ghost use Rattle.tetgen_c.specs.Statuses.{IsUnmeshedInto};
+ghost use Rattle.array_meshes.specs.Meshes.{HasRoom, IsArrayMesh, counts_of, lists_in, lists_of};
+ghost use Rattle.tetgen_c.specs.Statuses.{HasCounts, IsUnmeshed, IsUnmeshedInto, counts_in};
 
-use array_meshes::{ArrayComplex, Cell, Counts, MarkedFace, Place, mesh_into};
+use array_meshes::{
+    ArrayComplex, ArrayMesh, Cell, Counts, MarkedFace, Place, mesh_arrays, mesh_into,
+};
 use std::alloc::Global;
+use std::mem::forget;
 
 /// Writes the mesh of a complex to the front of three arrays, the lengths of its lists to `counts`,
 /// and answers 0; what lies behind stays. On any other status the arrays stay: 4, a part that is
@@ -45,5 +48,67 @@ pub extern "C" fn tetgen_mesh_into(
             *counts = fault.wanted();
             i32::from(fault.code())
         }
+    }
+}
+
+/// The lists of a mesh in blocks of memory that C frees, each where it is not empty.
+#[repr(C)]
+#[derive(Drop)]
+pub struct MeshBlocks {
+    pub points: *mut Place,
+    pub point_count: usize,
+    pub cells: *mut Cell,
+    pub cell_count: usize,
+    pub faces: *mut MarkedFace,
+    pub face_count: usize,
+    pub halvings: u32,
+}
+
+/// Hands the lists of a mesh over.
+fn hand_out(made: ArrayMesh, out: &mut MeshBlocks)
+    ensures { counts_in out.new ≡ counts_of (lists_of made) }
+{
+    let ArrayMesh {
+        halvings,
+        mut points,
+        mut cells,
+        mut faces,
+    } = made;
+    out.halvings = halvings;
+    out.point_count = points.len();
+    out.cell_count = cells.len();
+    out.face_count = faces.len();
+    if points.len() > 0 {
+        out.points = points.as_mut_ptr();
+        forget(points);
+    }
+    if cells.len() > 0 {
+        out.cells = cells.as_mut_ptr();
+        forget(cells);
+    }
+    if faces.len() > 0 {
+        out.faces = faces.as_mut_ptr();
+        forget(faces);
+    }
+}
+
+/// Makes the mesh of a complex in blocks of memory, which C frees, and answers 0. On any other
+/// status, as of `tetgen_mesh_into`, `out` stays.
+#[unsafe(no_mangle)]
+pub extern "C" fn tetgen_mesh(
+    alloc: Global,
+    complex: &ArrayComplex<'_>,
+    out: &mut MeshBlocks,
+) -> i32
+    ensures counts { result ≡ pos 0 → HasCounts complex.now (counts_in out.new) }
+    ensures refused { ¬ result ≡ pos 0 → IsUnmeshed complex.now result }
+    ensures kept { ¬ result ≡ pos 0 → out.new ≡ out.old }
+{
+    match mesh_arrays(alloc, complex) {
+        Ok(made) => {
+            hand_out(made, out);
+            0
+        }
+        Err(fault) => i32::from(fault.code()),
     }
 }
