@@ -1,4 +1,4 @@
-//! Neighbors of rows, the texts of small meshes, and points that are proposed for one.
+//! Neighbors of rows, texts of small meshes, points proposed for one, and shapes of tetrahedra.
 #![tactic(auto)]
 
 #[cfg(test)]

@@ -1,6 +1,6 @@
 -- Products of numbers as contracts write them, over ℕ and over ℤ.
-use Rattle.std.proofs.Common.{◌≡◌, ℕ, ◌+◌, ◌*◌, ◌^◌, ◌≤◌, ℤ, pos, negsuc, ◌*ℤ◌, sym, ap, ◌∙◌, arith, min, false}
-use Rattle.std.specs.Prelude.{unsigned_abs, int_lt, nat_lt}
+use Rattle.std.proofs.Common.{◌≡◌, ℕ, ◌+◌, ◌*◌, ◌^◌, ◌≤◌, ℤ, pos, negsuc, ◌*ℤ◌, sym, ap, ◌∙◌, arith, min, true, false}
+use Rattle.std.specs.Prelude.{unsigned_abs, int_le, int_lt, nat_lt}
 use Rattle.std.specs.Int.{int_min}
 use Rattle.std.proofs.lemmas.Int.{ints}
 use Rattle.std.proofs.lemmas.Nat.{mul-le}
@@ -55,3 +55,20 @@ short_right u x y z hu hx hy hz =
     let zz = mul-le z z (2 ^ 53) (2 ^ 53) hz hz in
     let all = mul-le (u * u) (x * x + y * y + z * z) (2 ^ 10 * 2 ^ 10) (3 * (2 ^ 53 * 2 ^ 53)) uu (omega (arith, xx, yy, zz)) in
     omega (arith, all)
+
+-- a number that is not at most 0 is above 0
+pub is_above : (x v : ℤ) → x ≡ v → int_le x (pos 0) ≡ false → int_lt (pos 0) v ≡ true
+is_above x v is h = above v (ap (λ z. int_le z (pos 0)) (sym is) ∙ h)
+  where
+    above : (z : ℤ) → int_le z (pos 0) ≡ false → int_lt (pos 0) z ≡ true
+    above (pos n) e = grind (arith, ints, e)
+    above (negsuc n) e = grind (arith, ints, e)
+
+-- the test of an angle over ℕ is the one over ℤ
+pub angle_test : (o u a s t : ℕ) (d x y : ℤ) → a ≡ unsigned_abs d → pos s ≡ x → pos t ≡ y
+    → nat_lt (s * t * o) (a * a * u) ≡ int_lt (pos o *ℤ (x *ℤ y)) (pos u *ℤ (d *ℤ d))
+angle_test o u a s t d x y ai si ti =
+    let square : pos (a * a) ≡ d *ℤ d = ap (λ m. pos (m * m)) ai ∙ sym (square_abs d) in
+    let low : s * t * o ≡ o * (s * t) = omega arith in
+    let high : a * a * u ≡ u * (a * a) = omega arith in
+    (λ i. nat_lt (low i) (high i)) ∙ (λ i. int_lt (pos o *ℤ (si i *ℤ ti i)) (pos u *ℤ square i))

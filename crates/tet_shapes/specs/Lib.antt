@@ -5,3 +5,4 @@ pub mod Vector
 pub mod Laws
 pub mod Volume
 pub mod Bounds
+pub mod Angle

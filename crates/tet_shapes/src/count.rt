@@ -1,9 +1,11 @@
-//! How many tetrahedra of a list are slim, or over their bounds.
+//! How many tetrahedra of a list are slim, flat, or over their bounds.
 ghost use Rattle.std.specs.Prelude.{◌≡◌, All};
 ghost use Rattle.geo_laws.specs.Delaunay.{corners, IsOn};
+ghost use Rattle.tet_shapes.specs.Angle.{flat_count};
 ghost use Rattle.tet_shapes.specs.Bounds.{is_over, large_count};
 ghost use Rattle.tet_shapes.specs.Shape.{IsFine, slim_count};
 
+use crate::angle::is_flat;
 use crate::bounds::{VolumeBounds, mark_at};
 use crate::shape::{Ratio, is_large, is_slim};
 use geo_laws::{Points, Tet, TetList};
@@ -18,6 +20,20 @@ pub fn count_slim(points: &Points, rows: &TetList, bound: Ratio) -> usize
     let mut count = 0usize;
     for i in 0..rows.len() {
         if is_slim(points, rows.at(i), bound) {
+            count += 1;
+        }
+    }
+    count
+}
+
+/// How many tetrahedra of the list have a dihedral angle whose squared cosine is over the bound.
+pub fn count_flat(points: &Points, rows: &TetList, bound: Ratio) -> usize
+    requires { All (IsOn points.now) rows.now }
+    ensures { result ≡ flat_count bound points.now rows.now }
+{
+    let mut count = 0usize;
+    for i in 0..rows.len() {
+        if is_flat(points, rows.at(i), bound) {
             count += 1;
         }
     }

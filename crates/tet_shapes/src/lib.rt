@@ -1,17 +1,17 @@
-//! How slim and how large the tetrahedra of a list are, exactly.
+//! How slim, how flat and how large the tetrahedra of a list are, exactly.
 #![tactic(auto)]
 
+mod angle;
 mod bounds;
 mod count;
 mod laws;
 mod shape;
-#[cfg(test)]
-mod tests;
 mod vector;
 mod volume;
 mod wide;
 
+pub use angle::squared_cosine;
 pub use bounds::{VolumeBounds, mark_at, volume_bounds};
-pub use count::{count_large, count_slim};
+pub use count::{count_flat, count_large, count_slim};
 pub use laws::{law_circumcenter, law_radius, law_slim};
 pub use shape::{Ratio, is_large, is_slim, is_slim_at};

@@ -1,6 +1,6 @@
 //! Exact sums of products of vectors between points of the grid.
 ghost use Rattle.std.specs.Prelude.{◌≡◌, ◌*◌, ◌^◌, ◌≤◌, ◌+ℤ◌, ◌-ℤ◌, ◌*ℤ◌, unsigned_abs};
-ghost use Rattle.sign_predicates.specs.Orientation.{det, cross};
+ghost use Rattle.sign_predicates.specs.Orientation.{det, cross, dot};
 ghost use Rattle.sign_predicates.specs.Sphere.{square_length};
 ghost use Rattle.sign_predicates.specs.Vector.{det_of_two};
 ghost use Rattle.sign_predicates.specs.Reach.{combined};
@@ -114,4 +114,28 @@ pub(crate) fn det(u: Vector, v: Vector, w: Vector) -> i128
 {
     let n = cross(v, w);
     sum_of_products(n.x, u.x as i64, n.y, u.y as i64, n.z, u.z as i64)
+}
+
+/// Three products of coordinates of cross products.
+#[inline]
+fn sum_of_long_products(a: i64, x: i64, b: i64, y: i64, c: i64, z: i64) -> i128
+    requires a_small { unsigned_abs a ≤ 2 ^ 61 }
+    requires b_small { unsigned_abs b ≤ 2 ^ 61 }
+    requires c_small { unsigned_abs c ≤ 2 ^ 61 }
+    requires x_small { unsigned_abs x ≤ 2 ^ 61 }
+    requires y_small { unsigned_abs y ≤ 2 ^ 61 }
+    requires z_small { unsigned_abs z ≤ 2 ^ 61 }
+    ensures value { result ≡ a *ℤ x +ℤ b *ℤ y +ℤ c *ℤ z }
+    ensures size { unsigned_abs result ≤ 3 * 2 ^ 122 }
+{
+    a as i128 * x as i128 + b as i128 * y as i128 + c as i128 * z as i128
+}
+
+/// The scalar product of two cross products.
+#[inline]
+pub(crate) fn dot(m: Normal, n: Normal) -> i128
+    ensures value { result ≡ dot m n }
+    ensures size { unsigned_abs result ≤ 3 * 2 ^ 122 }
+{
+    sum_of_long_products(m.x, n.x, m.y, n.y, m.z, n.z)
 }

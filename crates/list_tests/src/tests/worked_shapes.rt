@@ -4,11 +4,14 @@ ghost use Rattle.std.specs.Prelude.{◌≤◌, ◌^◌, unsigned_abs, All, IfSom
 ghost use Rattle.geo_laws.specs.Delaunay.{IsOn};
 ghost use Rattle.tet_shapes.specs.Shape.{IsFine};
 
-use crate::{Ratio, VolumeBounds, count_large, count_slim, is_large, is_slim, is_slim_at};
 use geo_laws::{Points, Tet, TetList};
 use sign_predicates::{Corners, GridPoint};
 use std::alloc::Global;
 use tet_ports::{Items, NoMemory};
+use tet_shapes::{
+    Ratio, VolumeBounds, count_flat, count_large, count_slim, is_large, is_slim, is_slim_at,
+    squared_cosine,
+};
 
 /// The greatest size of a coordinate, and the least coordinate.
 const FAR: i32 = 536_870_912;
@@ -213,6 +216,26 @@ fn slim_and_large_rows(rt: HostRuntime) {
     for (over, under, most, slim, large) in &COUNTS {
         let found = counts_at(rt.alloc(), *over, *under, *most);
         assert!(rt; found == Some((*slim, *large)), "{over} / {under}, {most}");
+    }
+}
+
+/// The rows that have a dihedral angle below so many degrees.
+fn flat_rows(alloc: Global, degrees: u32) -> Option<usize> {
+    let points = points(alloc)?;
+    let Ok(rows) = rows(alloc, &points) else {
+        return None;
+    };
+    if degrees > 30 {
+        return None;
+    }
+    Some(count_flat(&points, &rows, squared_cosine(degrees)))
+}
+
+/// The least dihedral angles are 35.26, 12.53 and 48.19 degrees.
+#[test]
+fn flat_rows_by_degrees(rt: HostRuntime) {
+    for (degrees, flat) in [(12, 0), (13, 1), (30, 1)] {
+        assert!(rt; flat_rows(rt.alloc(), degrees) == Some(flat), "{degrees}");
     }
 }
 

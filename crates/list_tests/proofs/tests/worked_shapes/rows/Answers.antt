@@ -3,8 +3,8 @@ use Rattle.std.specs.Prelude.{List, All}
 use Rattle.std.proofs.lemmas.List.Elements.{All-push}
 use Rattle.geo_laws.specs.Delaunay.{IsOn}
 use Rattle.geo_laws.specs.declared.tetrahedra.Tet.{Tet}
-use Rattle.tet_shapes.proofs.tests.rows.Goals as goal
-use Rattle.tet_shapes.proofs.tests.rows.Goals.{then-is_on+in_ok-push, else-is_on}
+use Rattle.list_tests.proofs.tests.worked_shapes.rows.Goals as goal
+use Rattle.list_tests.proofs.tests.worked_shapes.rows.Goals.{then-is_on+in_ok-push, else-is_on}
 
 pub loop-a-preserved : goal.loop-a-preserved
 loop-a-preserved c =
