@@ -1,7 +1,7 @@
 //! How well shaped the tetrahedra of a mesh are.
 use crate::live::{Bounds, is_large, is_slim_exactly};
-use crate::passes::{Aim, TWENTY_DEGREES};
-use crate::sine::{RIGHT, least_sine};
+use crate::passes::Aim;
+use crate::sine::{RIGHT, aimed_sine, least_sine};
 use geo_laws::{FacetTriangles, Points, TetList};
 use point_proposals::{Beyond, Mesh, mesh_of};
 use std::alloc::Global;
@@ -11,6 +11,8 @@ use tet_ports::NoMemory;
 /// and the least square of the sine of a dihedral angle. Angles between subfaces are left out.
 #[derive(Clone, Copy, Debug)]
 pub struct Grade {
+    /// The square of the sine that is aimed at.
+    aim: u64,
     large: usize,
     slim: usize,
     flat: usize,
@@ -26,9 +28,10 @@ fn is_wall(beyond: Beyond) -> bool {
 }
 
 impl Grade {
-    /// The grade of no tetrahedra.
-    fn none() -> Grade {
+    /// The grade of no tetrahedra, where this square of a sine is aimed at.
+    fn none(aim: u64) -> Grade {
         Grade {
+            aim,
             large: 0,
             slim: 0,
             flat: 0,
@@ -44,7 +47,7 @@ impl Grade {
         let [p, q, r, s] = cell.across;
         let sine = least_sine(&spots, [is_wall(p), is_wall(q), is_wall(r), is_wall(s)]);
         self.worst = self.worst.min(sine);
-        if sine < TWENTY_DEGREES {
+        if sine < self.aim {
             self.flat = self.flat.wrapping_add(1);
         }
         if is_large(&spots, most) {
@@ -75,7 +78,7 @@ pub fn grade_of(
 ) -> Result<Grade, NoMemory> {
     let mesh = mesh_of(alloc, points, tetrahedra, triangles, aim.own)?;
     let bounds = Bounds { ratio: aim.ratio };
-    let mut grade = Grade::none();
+    let mut grade = Grade::none(aimed_sine(aim.cosine));
     for i in 0..mesh.cells.len() {
         let Ok(t) = u32::try_from(i) else { break };
         let most = aim.mosts.get(i).copied().unwrap_or(i128::MAX);

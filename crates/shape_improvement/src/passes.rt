@@ -2,7 +2,7 @@
 use crate::entering::live_of;
 use crate::live::{Bounds, Cell, Live, corner_off, face_at};
 use crate::moving::Mover;
-use crate::sine::RIGHT;
+use crate::sine::aimed_sine;
 use geo_laws::{FacetTriangles, Points, TetList};
 use point_proposals::{Field, grid_point, mesh_of};
 use std::alloc::Global;
@@ -15,9 +15,6 @@ const PASSES: u32 = 10;
 /// After how many trials a tetrahedron is let alone.
 const TRIALS: u8 = 2;
 
-/// The square of the sine of 20 degrees and a little more.
-pub(crate) const TWENTY_DEGREES: u64 = RIGHT / 10_000 * 1176;
-
 /// What an improvement is asked for.
 #[derive(Clone, Copy, Debug)]
 pub struct Aim<'a> {
@@ -26,6 +23,8 @@ pub struct Aim<'a> {
     pub mosts: &'a [i128],
     /// The greatest ratio of the circumradius of a tetrahedron to its shortest edge.
     pub ratio: Option<Ratio>,
+    /// The squared cosine of the least dihedral angle that is aimed at.
+    pub cosine: Option<Ratio>,
     /// Each coordinate of a point is a multiple of `2^halvings` grid units.
     pub halvings: u32,
     /// How many of the first points are corners of the complex.
@@ -41,20 +40,20 @@ struct Asked {
     place: u32,
 }
 
-/// Whether a tetrahedron is to be bettered.
-fn is_asked(field: &Field, cell: &Cell) -> bool {
+/// Whether a tetrahedron is to be bettered, where this square of a sine is aimed at.
+fn is_asked(field: &Field, cell: &Cell, aim: u64) -> bool {
     cell.is_live
-        && cell.sine < TWENTY_DEGREES
+        && cell.sine < aim
         && cell.failures < TRIALS
         && !field.parts.is_in_fold(&cell.corners)
 }
 
 /// The tetrahedra that are to be bettered, those with the least angles first.
-fn asked_of(alloc: Global, field: &Field, live: &Live) -> Result<Vec<Asked>, NoMemory> {
+fn asked_of(alloc: Global, field: &Field, live: &Live, aim: u64) -> Result<Vec<Asked>, NoMemory> {
     let mut asked = Vec::new(alloc);
     for i in 0..live.cells.len() {
         let Ok(place) = u32::try_from(i) else { break };
-        if is_asked(field, &live.cells[i]) {
+        if is_asked(field, &live.cells[i], aim) {
             let sine = live.cells[i].sine;
             asked.push(Asked { sine, place })?;
         }
@@ -117,7 +116,7 @@ impl Mover {
 
     /// Betters all tetrahedra that are to be bettered, and reports how many could be.
     fn pass(&mut self, field: &Field, splits: bool) -> Result<usize, NoMemory> {
-        let asked = asked_of(self.alloc, field, &self.live)?;
+        let asked = asked_of(self.alloc, field, &self.live, self.aim)?;
         let mut count = 0_usize;
         for asked in asked.as_slice() {
             if self.vain == 0 {
@@ -159,7 +158,7 @@ pub fn improve(
         alloc,
         live,
         aim.halvings,
-        TWENTY_DEGREES,
+        aimed_sine(aim.cosine),
         aim.splits_boundary,
     );
     let mut changed = 0_usize;

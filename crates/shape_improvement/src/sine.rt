@@ -1,8 +1,19 @@
 //! The least angle of a tetrahedron by the square of a sine.
 use point_proposals::{Spot, opposite};
+use tet_shapes::Ratio;
 
 /// The square of the sine of a right angle.
 pub(crate) const RIGHT: u64 = 1 << 30;
+
+/// The square of the sine of an angle with this squared cosine and a little more, so that angles
+/// that are rounded down are not below it; 0 where there is no such angle.
+pub(crate) fn aimed_sine(cosine: Option<Ratio>) -> u64 {
+    let Some(cosine) = cosine else { return 0 };
+    let under = u64::from(cosine.under);
+    let rest = under.saturating_sub(u64::from(cosine.over));
+    let sine = RIGHT.wrapping_mul(rest).checked_div(under).unwrap_or(0);
+    sine.wrapping_add(RIGHT / 1600)
+}
 
 /// The normal of a face, shifted down to 15 bits.
 fn normal_of(s: &[Spot; 4], k: usize) -> Spot {
