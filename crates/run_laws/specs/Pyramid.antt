@@ -82,7 +82,18 @@ pyramid_neigh_text = record {
 abbrev pub pyramid_report : Report
 pyramid_report =
     Mesh
-    (record { points = 5; added = 0; tetrahedra = 2; faces = 7; edges = 9; hidden = None; decimals = None; over = None; slim = None }) []
+    (record {
+      points = 5;
+      added = 0;
+      tetrahedra = 2;
+      faces = 7;
+      edges = 9;
+      hidden = None;
+      decimals = None;
+      over = None;
+      slim = None;
+      flat = None;
+    }) []
 
 -- and its text
 abbrev pub summary_line : List ℕ

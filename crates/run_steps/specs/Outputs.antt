@@ -98,6 +98,7 @@ summary_of mesh faces edges = record {
   decimals = None;
   over = None;
   slim = None;
+  flat = None;
 }
 
 -- the summary of a mesh, with no lines behind it, if it is asked for

@@ -12,11 +12,11 @@ abbrev pub counted_text : List ℕ → Option ℕ → List ℕ
 counted_text word None = []
 counted_text word (Some count) = word ++ decimal count
 
--- each of the further counts that there is: ` hidden H`, ` decimals D`, ` over N` and ` slim N`
+-- each of the further counts that there is: ` hidden H`, ` decimals D`, ` over N`, ` slim N` and ` flat N`
 abbrev pub further_text : Summary → List ℕ
 further_text s =
     counted_text (codes " hidden ") s.hidden ++ counted_text (codes " decimals ") s.decimals ++ counted_text (codes " over ") s.over
-    ++ counted_text (codes " slim ") s.slim
+    ++ counted_text (codes " slim ") s.slim ++ counted_text (codes " flat ") s.flat
 
 -- `points P added A tetrahedra T faces F edges E`, and the further counts
 abbrev pub summary_text : Summary → List ℕ

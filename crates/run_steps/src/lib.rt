@@ -18,6 +18,6 @@ pub use meshed::{HulledMesh, Meshed};
 pub use messages::{OUT_OF_MEMORY, SUMMARY_FAILED, message};
 pub use numbering::{Numbering, numbering_of};
 pub use outputs::{Outputs, outputs_of};
-pub use report::{Report, Summary, text_of};
+pub use report::{Report, Summary, append_counted, text_of};
 pub use status::{LimitKind, Status};
 pub use store::{NamedText, StoreStop, Texts, store_all};

@@ -517,6 +517,7 @@ fn report_of(
         decimals: None,
         over: None,
         slim: None,
+        flat: None,
     };
     Some(Report::Mesh {
         summary,

@@ -27,6 +27,8 @@ pub struct Summary {
     /// The tetrahedra whose circumradius is over the bound times their shortest edge, where there
     /// is a bound.
     pub slim: Option<usize>,
+    /// The tetrahedra with a dihedral angle below the aim, where there is one.
+    pub flat: Option<usize>,
 }
 
 /// What a run writes to its standard output.
@@ -39,7 +41,7 @@ pub enum Report {
 }
 
 /// Appends a word and a number behind it, where there is one.
-fn append_counted(line: &mut Bytes, word: &[u8], count: Option<usize>) -> Result<(), NoMemory>
+pub fn append_counted(line: &mut Bytes, word: &[u8], count: Option<usize>) -> Result<(), NoMemory>
     ensures { OnOk result (line.new ≡ line.old ++ counted_text word.now count) }
 {
     if let Some(count) = count {
@@ -56,7 +58,8 @@ fn append_further(line: &mut Bytes, summary: &Summary) -> Result<(), NoMemory>
     append_counted(line, b" hidden ", summary.hidden)?;
     append_counted(line, b" decimals ", summary.decimals)?;
     append_counted(line, b" over ", summary.over)?;
-    append_counted(line, b" slim ", summary.slim)
+    append_counted(line, b" slim ", summary.slim)?;
+    append_counted(line, b" flat ", summary.flat)
 }
 
 /// The line that sums up a mesh.
