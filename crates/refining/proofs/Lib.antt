@@ -1,4 +1,5 @@
 pub mod Rounds
+mod Shown
 pub mod Divisors
 pub mod NewPoints
 pub mod Meshables

@@ -1,5 +1,5 @@
 -- What is refined, and what is told of it.
-use Rattle.std.proofs.Common.{◌≡◌, ◌≤◌, ℕ, true, [], Result, Ok, Err, inl, inr, refl, sym, subst}
+use Rattle.std.proofs.Common.{◌≡◌, ◌≤◌, ℕ, true, [], length, Result, Ok, Err, inl, inr, refl, sym, subst}
 use Rattle.std.specs.Prelude.{All}
 use Rattle.std.proofs.lemmas.List.Elements.{All-weaker}
 use Rattle.sign_predicates.specs.Orientation.{IsPositive}
@@ -8,6 +8,7 @@ use Rattle.command_words.specs.declared.options.Options.{Options}
 use Rattle.complex_mesh.specs.declared.fault.MeshFault.{MeshFault}
 use Rattle.complex_mesh.specs.declared.mesh.ComplexMesh.{ComplexMesh}
 use Rattle.refining.proofs.PointsBehind.{law_plain}
+use Rattle.refining.specs.Corners.{AreCorners}
 use Rattle.refining.specs.Refined.{IsFewWith, IsMeshWith}
 use Rattle.run_steps.specs.Codes.{status_of_fault}
 use Rattle.node_files.specs.Writing.{IsNearGrid}
@@ -30,11 +31,18 @@ refined_to options bound bounds plain taken mesh rounds p t is few = record {
   plain = mesh_of_complex bound plain;
   plain_is = law_plain options bound (mesh_of_complex bound plain) (plain, p.with_them, refl);
   answer = (taken.made, t.made.with_them, is);
+  corners = subst (λ (m : Meshed). AreCorners (length bound.table.points) (length taken.added) m.tetrahedra) (sym is) t.corners;
   same = λ none.
       let bare = subst (λ more. IsMeshWith options bound more taken.halvings taken.made) none t.made.with_them in
       law_plain options bound mesh (taken.made, subst (λ h. IsMeshWith options bound [] h taken.made) (t.bare none) bare, is);
   rounds = few;
 }
+
+-- the corners of the tetrahedra of a mesh that was made are points of it
+pub taken_on : (options : Options) (bound : Bound) (taken : Taken) → IsTakenMesh options bound taken → All (IsOn taken.made.points) taken.made.tetrahedra
+taken_on options bound taken h =
+    let made = taken.made in
+    All-weaker (λ t. IsOn made.points t × IsPositive (corners made.points t) × IsArranged t) (IsOn made.points) (λ t p. p.0) made.tetrahedra h.made.with_them.mesh.mesh.positive
 
 -- the corners of the tetrahedra of a refined mesh are points of it
 pub refined_on : (options : Options) (bound : Bound) (bounds : Bounds) (refined : Refined) → IsRefinedTo options bound bounds refined → All (IsOn refined.mesh.points) refined.mesh.tetrahedra
@@ -52,7 +60,7 @@ refined_near options bound bounds refined b h = subst (λ (mesh : Meshed). IsNea
 pub outputs_made : (shapes : ShapeBounds) (options : Options) (bound : Bound) (bounds : Bounds) (refined : Refined) (r : Result Outputs Status) → options.piecewise ≡ true → IsRefinedTo options bound bounds refined
     → CountedAnswer shapes options refined.mesh r → RefinedMade shapes options bound r
 outputs_made shapes options bound bounds refined (Ok outputs) complex h k =
-    (h.plain, subst (λ p. MeshOf p options bound (Ok h.plain)) (sym complex) h.plain_is, (refined.added, refined.halvings, refined.mesh, h.answer, k))
+    (h.plain, subst (λ p. MeshOf p options bound (Ok h.plain)) (sym complex) h.plain_is, (refined.added, refined.halvings, refined.mesh, h.answer, h.corners, k))
 outputs_made shapes options bound bounds refined (Err status) complex h k =
     inr (h.plain, subst (λ p. MeshOf p options bound (Ok h.plain)) (sym complex) h.plain_is, k)
 

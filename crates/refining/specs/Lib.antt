@@ -3,4 +3,7 @@ pub mod Goals
 pub mod Outputs
 pub mod Addable
 pub mod Laws
+pub mod Corners
+pub mod Counts
+pub mod Rounds
 pub mod Refined

@@ -1,9 +1,10 @@
 -- Meshes of a complex with more and more points behind its own.
-use Rattle.std.specs.Prelude.{◌≡◌, ◌≤◌, ℕ, true, List, [], Ok, Err}
+use Rattle.std.specs.Prelude.{◌≡◌, ◌≤◌, true, [], length, Ok}
 use Rattle.command_words.specs.declared.options.Options.{Options}
 use Rattle.run_steps.specs.Meshing.{MeshOf}
 use Rattle.run_steps.specs.declared.mesh.Bound.{Bound}
 use Rattle.run_steps.specs.declared.meshed.Meshed.{Meshed}
+use Rattle.refining.specs.Corners.{AreCorners}
 use Rattle.refining.specs.Refined.{IsFewWith, MeshAnswerWith}
 use Rattle.refining.specs.declared.refining.Bounds.{Bounds}
 use Rattle.refining.specs.declared.refining.Refined.{Refined}
@@ -11,9 +12,11 @@ use Rattle.refining.specs.declared.refining.Taken.{Taken}
 use Rattle.refining.specs.declared.refining.Turn.{Turn}
 use Rattle.refining.specs.declared.refining.Turn.TheVariants.{More}
 
--- a mesh that was made with points behind those of the complex; without any, with as many halvings as the grid allows
+-- A mesh that was made with points behind those of the complex, each of which is a corner; without any, with as many halvings
+-- as the grid allows
 pub record IsTakenMesh (options : Options) (bound : Bound) (taken : Taken) : Type 0 where
   pub made : IsFewWith options bound taken.added taken.halvings taken.made
+  pub corners : AreCorners (length bound.table.points) (length taken.added) taken.made.tetrahedra
   pub bare : taken.added ≡ [] → taken.halvings ≡ bound.table.grid.halvings
 
 -- a round comes to such a mesh, or to none
@@ -27,5 +30,6 @@ pub record IsRefinedTo (options : Options) (bound : Bound) (bounds : Bounds) (re
   pub plain : Meshed
   pub plain_is : MeshOf true options bound (Ok plain)
   pub answer : MeshAnswerWith refined.added refined.halvings options bound refined.mesh
+  pub corners : AreCorners (length bound.table.points) (length refined.added) refined.mesh.tetrahedra
   pub same : refined.added ≡ [] → MeshOf true options bound (Ok refined.mesh)
   pub rounds : refined.rounds ≤ bounds.rounds

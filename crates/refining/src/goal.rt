@@ -1,15 +1,27 @@
 //! What a refined mesh is to be like.
 
-ghost use Rattle.std.specs.Prelude.{◌≡◌, IfOk, IfSome};
+ghost use Rattle.std.specs.Prelude.{◌≡◌, ◌≤◌, IfOk, IfSome, option_and_then};
+ghost use Rattle.std.specs.Option.{option_map};
+ghost use Rattle.tet_shapes.specs.Angle.{squared_cosine};
 ghost use Rattle.tet_shapes.specs.Shape.{IsFine};
-ghost use Rattle.refining.specs.Goals.{IsFineGoal, goal_volumes, shape_bounds};
+ghost use Rattle.refining.specs.Goals.{IsFineGoal, IsFineShape, goal_volumes, shape_bounds};
+ghost use Rattle.refining.specs.Goals.{shape_cosine, shape_ratio};
 
 use grid_coords::Grid;
 use run_steps::Bound;
 use std::alloc::Global;
 use tet_ports::NoMemory;
-use tet_shapes::{Ratio, VolumeBounds, volume_bounds};
+use tet_shapes::{Ratio, VolumeBounds, squared_cosine, volume_bounds};
 use tet_text::Decimal;
+
+/// The shape that tetrahedra are to have.
+#[derive(Clone, Copy, Debug, PartialEq, Eq)]
+pub struct Shape {
+    /// The greatest ratio of the circumradius to the shortest edge.
+    pub ratio: Ratio,
+    /// The least dihedral angle that is aimed at, in degrees, at most 30, where there is one.
+    pub angle: Option<u32>,
+}
 
 /// What the tetrahedra of a refined mesh are to be like, and where points may be added for that.
 #[derive(Clone, Copy, Debug)]
@@ -19,8 +31,8 @@ pub struct Goal {
     pub bounds_volumes: bool,
     /// The greatest volume in any region, in cubes of the model's unit.
     pub volume: Option<Decimal>,
-    /// The greatest ratio of the circumradius to the shortest edge.
-    pub ratio: Option<Ratio>,
+    /// The shape, where it is bounded.
+    pub shape: Option<Shape>,
     /// Whether points may be added on segments and in facets.
     pub splits_boundary: bool,
 }
@@ -32,6 +44,28 @@ pub struct ShapeBounds {
     pub volumes: Option<VolumeBounds>,
     /// The greatest ratio of the circumradius to the shortest edge.
     pub ratio: Option<Ratio>,
+    /// The squared cosine of the least dihedral angle that is aimed at.
+    pub cosine: Option<Ratio>,
+}
+
+/// The greatest ratio of the circumradius to the shortest edge, where the shape is bounded.
+fn shape_ratio(shape: Option<Shape>) -> Option<Ratio>
+    requires { IfSome shape IsFineShape }
+    ensures value { result ≡ option_map shape_ratio shape }
+    ensures fine { IfSome result IsFine }
+{
+    Some(shape?.ratio)
+}
+
+/// The squared cosine of the least dihedral angle that is aimed at, where there is one.
+fn shape_cosine(shape: Option<Shape>) -> Option<Ratio>
+    requires { IfSome shape IsFineShape }
+    ensures { result ≡ option_and_then shape_cosine shape }
+{
+    match shape?.angle {
+        Some(degrees) => Some(squared_cosine(degrees)),
+        None => None,
+    }
 }
 
 /// The bounds of a goal on volumes, where these are bounded.
@@ -67,6 +101,7 @@ pub fn shape_bounds(
     let volumes = goal_volumes(alloc, bound.table.grid, goal, limits)?;
     Ok(ShapeBounds {
         volumes,
-        ratio: goal.ratio,
+        ratio: shape_ratio(goal.shape),
+        cosine: shape_cosine(goal.shape),
     })
 }

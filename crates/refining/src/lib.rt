@@ -5,6 +5,8 @@
 mod add_fault;
 mod addable;
 mod behind;
+mod corners;
+mod counts;
 mod goal;
 mod meshable;
 mod meshing;
@@ -17,11 +19,14 @@ mod quality;
 mod refine_fault;
 mod refining;
 mod repeats;
+mod watch;
 
-pub use goal::{Goal, ShapeBounds, shape_bounds};
+pub use counts::Counts;
+pub use goal::{Goal, Shape, ShapeBounds, shape_bounds};
 pub use meshable::law_meshable;
 pub use outputs::refined_outputs;
 pub use plain::law_plain;
 pub use propose::Propose;
 pub use quality::Quality;
 pub use refining::{Bounds, Refined};
+pub use watch::{Round, Watch};

@@ -6,34 +6,28 @@ ghost use Rattle.node_files.specs.Writing.{IsNearGrid};
 ghost use Rattle.run_steps.specs.Meshing.{IsMeshableBound};
 ghost use Rattle.run_steps.specs.Outputs.{IsWritable};
 ghost use Rattle.tet_shapes.specs.Shape.{IsFine};
-ghost use Rattle.refining.specs.Outputs.{CountedAnswer, RefinedMade, counted_told};
-ghost use Rattle.refining.specs.Outputs.{over_in, slim_in, with_counts};
+ghost use Rattle.refining.specs.Outputs.{CountedAnswer, RefinedMade, counted_told, counts_in};
+ghost use Rattle.refining.specs.Outputs.{with_counts};
+ghost use Rattle.refining.specs.Rounds.{AreShown};
 
+use crate::counts::{Counts, Marked, counts_of};
 use crate::goal::ShapeBounds;
 use crate::propose::Propose;
 use crate::refining::{Bounds, refine};
+use crate::watch::Watch;
 use command_words::Options;
 use run_steps::{Bound, HulledMesh, Meshed, Outputs, Report, Status, outputs_of};
 use std::alloc::Global;
-use tet_shapes::{Ratio, VolumeBounds, count_large, count_slim};
-
-/// How many tetrahedra of a mesh are over bounds.
-#[derive(Clone, Copy)]
-struct Counts {
-    /// Those that are over the greatest volume, where there is one.
-    over: Option<usize>,
-    /// Those that are over the greatest ratio of the circumradius to the shortest edge.
-    slim: Option<usize>,
-}
 
 /// The report of a mesh with these counts.
 fn counted_told(report: Report, counts: Counts) -> Report
-    ensures { result ≡ counted_told counts.over counts.slim report }
+    ensures { result ≡ counted_told counts report }
 {
     match report {
         Report::Mesh { mut summary, notes } => {
             summary.over = counts.over;
             summary.slim = counts.slim;
+            summary.flat = counts.flat;
             Report::Mesh { summary, notes }
         }
         Report::Text(text) => Report::Text(text),
@@ -42,7 +36,7 @@ fn counted_told(report: Report, counts: Counts) -> Report
 
 /// The outputs of a mesh with these counts.
 fn with_counts(outputs: Outputs, counts: Counts) -> Outputs
-    ensures { result ≡ with_counts counts.over counts.slim outputs }
+    ensures { result ≡ with_counts counts outputs }
 {
     let Outputs { texts, report } = outputs;
     match report {
@@ -57,33 +51,22 @@ fn with_counts(outputs: Outputs, counts: Counts) -> Outputs
     }
 }
 
-/// How many tetrahedra have six times a volume over the bound that holds in their region, where
-/// volumes are bounded.
-fn over_in(mesh: &Meshed, volumes: &Option<VolumeBounds>) -> Option<usize>
-    requires { All (IsOn mesh.now.points) mesh.now.tetrahedra }
-    ensures { result ≡ over_in volumes.now mesh.now }
-{
-    match volumes {
-        Some(bounds) => Some(count_large(&mesh.points, &mesh.tetrahedra, &mesh.marks, bounds)),
-        None => None,
-    }
-}
-
-/// How many tetrahedra have a circumradius over the ratio times the shortest edge, where there is
-/// such a bound.
-fn slim_in(mesh: &Meshed, ratio: Option<Ratio>) -> Option<usize>
+/// How many tetrahedra of a mesh are beyond each bound.
+fn counts_in(mesh: &Meshed, shapes: &ShapeBounds) -> Counts
     requires on { All (IsOn mesh.now.points) mesh.now.tetrahedra }
-    requires fine { IfSome ratio IsFine }
-    ensures { result ≡ slim_in ratio mesh.now }
+    requires fine { IfSome shapes.now.ratio IsFine }
+    ensures { result ≡ counts_in shapes.now mesh.now }
 {
-    match ratio {
-        Some(ratio) => Some(count_slim(&mesh.points, &mesh.tetrahedra, ratio)),
-        None => None,
-    }
+    let marked = Marked {
+        points: &mesh.points,
+        tetrahedra: &mesh.tetrahedra,
+        marks: &mesh.marks,
+    };
+    counts_of(marked, shapes)
 }
 
 /// The files and the summary of a mesh whose hull is not known, with the numbers of its tetrahedra
-/// that are over the bounds.
+/// that are beyond the bounds.
 fn counted_outputs(
     alloc: Global,
     options: &Options,
@@ -96,33 +79,31 @@ fn counted_outputs(
     requires fine { IfSome shapes.now.ratio IsFine }
     ensures { CountedAnswer shapes.now options.now mesh result }
 {
-    let counts = Counts {
-        over: over_in(&mesh, &shapes.volumes),
-        slim: slim_in(&mesh, shapes.ratio),
-    };
+    let counts = counts_in(&mesh, shapes);
     let made = HulledMesh { mesh, hull: None };
     let outputs = outputs_of(alloc, options, &made)?;
     Ok(with_counts(outputs, counts))
 }
 
 /// The files and the summary of the refined mesh of a complex, with the numbers of its tetrahedra
-/// that are over the bounds of the goal. It refuses the complex as `mesh_outputs` does; or when out
-/// of memory.
-pub fn refined_outputs<P: Propose>(
+/// that are beyond the bounds of the goal; `watch` is shown the mesh of each round. It refuses the
+/// complex as `mesh_outputs` does; or when out of memory.
+pub fn refined_outputs<P: Propose, W: Watch>(
     alloc: Global,
     options: &Options,
     bound: Bound,
-    bounds: &Bounds,
-    shapes: &ShapeBounds,
+    bounds: &Bounds<'_>,
     proposer: &mut P,
+    watch: &mut W,
 ) -> Result<Outputs, Status>
     requires bound { IsMeshableBound options.now bound }
     requires complex { options.now.piecewise ≡ true }
-    requires fine { IfSome shapes.now.ratio IsFine }
-    ensures { RefinedMade shapes.now options.now bound result }
+    requires fine { IfSome bounds.now.shapes.now.ratio IsFine }
+    ensures made { RefinedMade bounds.now.shapes.now options.now bound result }
+    ensures shown { AreShown W.shown bounds.now.shapes.now options.now bound watch.old watch.new }
 {
-    match refine(alloc, options, bound, bounds, proposer) {
-        Ok(refined) => counted_outputs(alloc, options, refined.mesh, shapes),
+    match refine(alloc, options, bound, bounds, proposer, watch) {
+        Ok(refined) => counted_outputs(alloc, options, refined.mesh, bounds.shapes),
         Err(fault) => Err(Status::from(fault)),
     }
 }

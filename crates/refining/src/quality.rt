@@ -1,5 +1,5 @@
 //! An instance of `Propose`: points by which tetrahedra come within the bounds of a goal, and by
-//! which small dihedral angles grow where the goal bounds the ratio.
+//! which small dihedral angles grow where the goal has a least one.
 
 use crate::goal::ShapeBounds;
 use crate::propose::Propose;
@@ -47,6 +47,7 @@ impl<'a> Quality<'a> {
         shape_improvement::Aim {
             mosts,
             ratio: self.shapes.ratio,
+            cosine: self.shapes.cosine,
             halvings,
             own,
             splits_boundary: self.splits_boundary,
@@ -80,7 +81,7 @@ impl<'a> Propose for Quality<'a> {
         own: usize,
         halvings: u32,
     ) -> Result<Option<Points>, NoMemory> {
-        if self.shapes.ratio.is_none() {
+        if self.shapes.cosine.is_none() {
             return Ok(None);
         }
         let mosts = self.mosts(alloc, mesh)?;

@@ -1,16 +1,21 @@
 //! The rounds of a refinement: each adds points, or replaces those that were added, and meshes the
 //! complex again.
 
-ghost use Rattle.std.specs.Prelude.{◌≡◌, ◌≤◌, ◌^◌, IfOk, IfErr};
+ghost use Rattle.std.specs.Prelude.{◌≡◌, ◌≤◌, ◌<◌, ◌^◌, length, IfOk, IfErr, IfSome};
 ghost use Rattle.run_steps.specs.Meshing.{IsMeshableBound, IsUnmeshed};
 ghost use Rattle.run_steps.specs.Outputs.{IsWritable};
 ghost use Rattle.run_steps.specs.Codes.{status_of_fault};
 ghost use Rattle.refining.specs.Refining.{IsRefinedTo, IsTakenMesh, IsTurn};
+ghost use Rattle.refining.specs.Rounds.{AreShown};
+ghost use Rattle.tet_shapes.specs.Shape.{IsFine};
 
 use crate::addable::addable;
+use crate::corners::are_corners;
+use crate::goal::ShapeBounds;
 use crate::meshing::{mesh_plain, mesh_with};
 use crate::placing::placed;
 use crate::propose::Propose;
+use crate::watch::{Watch, round_of};
 use command_words::Options;
 use complex_mesh::{ComplexMesh, MeshFault};
 use geo_laws::Points;
@@ -20,7 +25,9 @@ use tet_ports::NoMemory;
 
 /// The bounds of a refinement.
 #[derive(Clone, Copy, Debug)]
-pub struct Bounds {
+pub struct Bounds<'a> {
+    /// The bounds on the tetrahedra, which are counted.
+    pub shapes: &'a ShapeBounds,
     /// How often a segment may be halved at least once points were added: each coordinate of these
     /// is a multiple of `2^halvings` grid units.
     pub halvings: u32,
@@ -52,7 +59,7 @@ struct Taken {
 }
 
 /// The most points that are meshed: that of the bounds, but at most 2^30.
-fn most_of(bounds: &Bounds) -> usize
+fn most_of(bounds: &Bounds<'_>) -> usize
     ensures { result ≤ 2 ^ 30 }
 {
     bounds.most.min(1_073_741_824)
@@ -81,10 +88,40 @@ fn with_protection(
 enum Turn {
     /// No point is proposed that may be added.
     Done,
-    /// The complex has no mesh with the points.
+    /// The complex has no mesh with the points, or one in which some of them are no corners.
     Refused,
     /// A mesh with the points.
     More(Taken),
+}
+
+/// The mesh of a complex with added points, where it has one in which each of them is a corner.
+fn meshed(
+    alloc: Global,
+    options: &Options,
+    bound: &Bound,
+    added: Points,
+    halvings: u32,
+    most: usize,
+) -> Result<Turn, NoMemory>
+    requires bound { IsMeshableBound options.now bound.now }
+    requires halvings { halvings ≤ bound.now.table.grid.halvings }
+    requires most { most ≤ 2 ^ 30 }
+    requires some { 0 < length added }
+    ensures { IfOk result (IsTurn options.now bound.now) }
+{
+    let own = bound.table.points.len();
+    let Ok(made) = mesh_with(alloc, options, bound, &added, halvings, most) else {
+        return Ok(Turn::Refused);
+    };
+    if are_corners(alloc, &made.tetrahedra, own, added.len())? {
+        Ok(Turn::More(Taken {
+            added,
+            halvings,
+            made,
+        }))
+    } else {
+        Ok(Turn::Refused)
+    }
 }
 
 /// A mesh with more points than `taken` has, where some are proposed and the complex has a mesh
@@ -93,7 +130,7 @@ fn next_taken<P: Propose>(
     alloc: Global,
     options: &Options,
     bound: &Bound,
-    bounds: &Bounds,
+    bounds: &Bounds<'_>,
     taken: &Taken,
     proposer: &mut P,
 ) -> Result<Turn, NoMemory>
@@ -120,14 +157,34 @@ fn next_taken<P: Propose>(
     if more.is_empty() || more.len() <= taken.added.len() {
         return Ok(Turn::Done);
     }
-    match mesh_with(alloc, options, bound, &more, halvings, most_of(bounds)) {
-        Ok(made) => Ok(Turn::More(Taken {
-            added: more,
-            halvings,
-            made,
-        })),
-        Err(_) => Ok(Turn::Refused),
+    meshed(alloc, options, bound, more, halvings, most_of(bounds))
+}
+
+/// A complex whose mesh is refined, and the bounds of that.
+#[derive(Clone, Copy)]
+struct Task<'a> {
+    options: &'a Options,
+    bound: &'a Bound,
+    bounds: &'a Bounds<'a>,
+}
+
+/// Shows the mesh of a round, where that is asked for.
+fn show<W: Watch>(
+    alloc: Global,
+    task: Task<'_>,
+    taken: &Taken,
+    watch: &mut W,
+) -> Result<(), NoMemory>
+    requires taken { IsTakenMesh task.options.now task.bound.now taken.now }
+    requires fine { IfSome task.bounds.now.shapes.now.ratio IsFine }
+    ensures { AreShown W.shown task.entry.bounds.now.shapes.now task.entry.options.now
+        task.entry.bound.now watch.old watch.new }
+{
+    if watch.asks() {
+        let round = round_of(&taken.made, task.bounds.shapes);
+        watch.show(alloc, &round)?;
     }
+    Ok(())
 }
 
 /// A mesh, and the number of rounds that led to it.
@@ -143,25 +200,36 @@ const MORE_HALVINGS: u32 = 2;
 /// The mesh after the last round from `first` on. After a round whose mesh is refused the points
 /// are to be multiples of more units, so that protection has more halvings; the rounds end where
 /// the grid has no more of them.
-fn taken_last<P: Propose>(
+fn taken_last<P: Propose, W: Watch>(
     alloc: Global,
-    options: &Options,
-    bound: &Bound,
-    bounds: &Bounds,
+    task: Task<'_>,
     first: Taken,
     proposer: &mut P,
+    watch: &mut W,
 ) -> Result<Rounds, NoMemory>
-    requires bound { IsMeshableBound options.now bound.now }
-    requires first { IsTakenMesh options.now bound.now first }
-    ensures taken { IfOk result (λ last. IsTakenMesh options.now bound.now last.taken) }
-    ensures rounds { IfOk result (λ last. last.rounds ≤ bounds.now.rounds) }
+    requires bound { IsMeshableBound task.options.now task.bound.now }
+    requires first { IsTakenMesh task.options.now task.bound.now first }
+    requires fine { IfSome task.bounds.now.shapes.now.ratio IsFine }
+    ensures taken { IfOk result (λ last.
+        IsTakenMesh task.entry.options.now task.entry.bound.now last.taken) }
+    ensures rounds { IfOk result (λ last. last.rounds ≤ task.entry.bounds.now.rounds) }
+    ensures shown { AreShown W.shown task.entry.bounds.now.shapes.now task.entry.options.now
+        task.entry.bound.now watch.old watch.new }
 {
+    let Task {
+        options,
+        bound,
+        bounds,
+    } = task;
     let mut taken = first;
     let mut within = *bounds;
     for rounds in 0..bounds.rounds {
         match next_taken(alloc, options, bound, &within, &taken, proposer)? {
             Turn::Done => return Ok(Rounds { taken, rounds }),
-            Turn::More(next) => taken = next,
+            Turn::More(next) => {
+                show(alloc, task, &next, watch)?;
+                taken = next;
+            }
             Turn::Refused => {
                 within.halvings = within.halvings.saturating_add(MORE_HALVINGS);
                 if within.halvings >= bound.table.grid.halvings {
@@ -181,7 +249,7 @@ const IMPROVEMENTS: u32 = 4;
 
 /// How often a segment may be halved where the added points of a mesh are replaced: as often as
 /// there, and as often as the bounds tell where it has none.
-fn halvings_behind(bound: &Bound, bounds: &Bounds, taken: &Taken) -> u32
+fn halvings_behind(bound: &Bound, bounds: &Bounds<'_>, taken: &Taken) -> u32
     ensures { result ≤ bound.now.table.grid.halvings }
 {
     let halvings = if taken.added.is_empty() {
@@ -198,7 +266,7 @@ fn next_improved<P: Propose>(
     alloc: Global,
     options: &Options,
     bound: &Bound,
-    bounds: &Bounds,
+    bounds: &Bounds<'_>,
     taken: &Taken,
     proposer: &mut P,
 ) -> Result<Turn, NoMemory>
@@ -216,14 +284,7 @@ fn next_improved<P: Propose>(
     if added.is_empty() {
         return Ok(Turn::Done);
     }
-    match mesh_with(alloc, options, bound, &added, halvings, most_of(bounds)) {
-        Ok(made) => Ok(Turn::More(Taken {
-            added,
-            halvings,
-            made,
-        })),
-        Err(_) => Ok(Turn::Refused),
-    }
+    meshed(alloc, options, bound, added, halvings, most_of(bounds))
 }
 
 /// The mesh whose points are to be replaced: the last one, where there is one that is not the best.
@@ -237,33 +298,34 @@ fn base<'a>(best: &'a Taken, last: &'a Option<Taken>) -> &'a Taken {
 /// The best of the meshes of some rounds from `first` on, each with points in place of those of the
 /// one before. A mesh that is no better than the best one is only where the next round begins;
 /// after two of them the rounds end.
-fn improved<P: Propose>(
+fn improved<P: Propose, W: Watch>(
     alloc: Global,
-    options: &Options,
-    bound: &Bound,
-    bounds: &Bounds,
+    task: Task<'_>,
     first: Taken,
     proposer: &mut P,
+    watch: &mut W,
 ) -> Result<Taken, NoMemory>
-    requires bound { IsMeshableBound options.now bound.now }
-    requires first { IsTakenMesh options.now bound.now first }
-    ensures { IfOk result (IsTakenMesh options.now bound.now) }
+    requires bound { IsMeshableBound task.options.now task.bound.now }
+    requires first { IsTakenMesh task.options.now task.bound.now first }
+    requires fine { IfSome task.bounds.now.shapes.now.ratio IsFine }
+    ensures taken { IfOk result (IsTakenMesh task.entry.options.now task.entry.bound.now) }
+    ensures shown { AreShown W.shown task.entry.bounds.now.shapes.now task.entry.options.now
+        task.entry.bound.now watch.old watch.new }
 {
+    let Task {
+        options,
+        bound,
+        bounds,
+    } = task;
     let own = bound.table.points.len();
     let mut best = first;
     let mut last = None;
     for _ in 0..IMPROVEMENTS {
-        let Turn::More(next) = next_improved(
-            alloc,
-            options,
-            bound,
-            bounds,
-            base(&best, &last),
-            proposer,
-        )?
-        else {
+        let base = base(&best, &last);
+        let Turn::More(next) = next_improved(alloc, options, bound, bounds, base, proposer)? else {
             break
         };
+        show(alloc, task, &next, watch)?;
         if proposer.is_better(alloc, &next.made, &best.made, own)? {
             best = next;
             last = None;
@@ -276,21 +338,48 @@ fn improved<P: Propose>(
     Ok(best)
 }
 
+/// The best mesh of all rounds from `first` on, each of which is shown, and the number of those in
+/// which points are added.
+fn best_of<P: Propose, W: Watch>(
+    alloc: Global,
+    task: Task<'_>,
+    first: Taken,
+    proposer: &mut P,
+    watch: &mut W,
+) -> Result<Rounds, NoMemory>
+    requires bound { IsMeshableBound task.options.now task.bound.now }
+    requires first { IsTakenMesh task.options.now task.bound.now first }
+    requires fine { IfSome task.bounds.now.shapes.now.ratio IsFine }
+    ensures taken { IfOk result (λ last.
+        IsTakenMesh task.entry.options.now task.entry.bound.now last.taken) }
+    ensures rounds { IfOk result (λ last. last.rounds ≤ task.entry.bounds.now.rounds) }
+    ensures shown { AreShown W.shown task.entry.bounds.now.shapes.now task.entry.options.now
+        task.entry.bound.now watch.old watch.new }
+{
+    show(alloc, task, &first, watch)?;
+    let Rounds { taken, rounds } = taken_last(alloc, task, first, proposer, watch)?;
+    let taken = improved(alloc, task, taken, proposer, watch)?;
+    Ok(Rounds { taken, rounds })
+}
+
 /// The mesh of a complex with the points that are proposed, round by round: each round's points are
 /// kept where the complex has a mesh with them. The rounds end where no point is added, or at the
-/// bounds; then the added points are replaced where this is better. It refuses the complex as
-/// `mesh_plain` does; or when out of memory.
-pub(crate) fn refine<P: Propose>(
+/// bounds; then the added points are replaced where this is better. `watch` is shown each mesh. It
+/// refuses the complex as `mesh_plain` does; or when out of memory.
+pub(crate) fn refine<P: Propose, W: Watch>(
     alloc: Global,
     options: &Options,
     bound: Bound,
-    bounds: &Bounds,
+    bounds: &Bounds<'_>,
     proposer: &mut P,
+    watch: &mut W,
 ) -> Result<Refined, MeshFault>
     requires bound { IsMeshableBound options.now bound }
+    requires fine { IfSome bounds.now.shapes.now.ratio IsFine }
     ensures refined { IfOk result (IsRefinedTo options.now bound bounds.now) }
     ensures refused { IfErr result (λ fault. IsUnmeshed options.now bound (status_of_fault fault)) }
     ensures writable { IfOk result (λ refined. IsWritable refined.mesh) }
+    ensures shown { AreShown W.shown bounds.now.shapes.now options.now bound watch.old watch.new }
 {
     let made = mesh_plain(alloc, options, &bound)?;
     let first = Taken {
@@ -298,11 +387,12 @@ pub(crate) fn refine<P: Propose>(
         halvings: bound.table.grid.halvings,
         made,
     };
-    let Rounds {
-        taken: last,
-        rounds,
-    } = taken_last(alloc, options, &bound, bounds, first, proposer)?;
-    let taken = improved(alloc, options, &bound, bounds, last, proposer)?;
+    let task = Task {
+        options,
+        bound: &bound,
+        bounds,
+    };
+    let Rounds { taken, rounds } = best_of(alloc, task, first, proposer, watch)?;
     let Taken {
         added,
         halvings,

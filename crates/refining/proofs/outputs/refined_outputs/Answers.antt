@@ -9,10 +9,10 @@ pub counted_outputs-requires-clause-near : goal.counted_outputs-requires-clause-
 counted_outputs-requires-clause-near g c =
     refined_near c.args.options.now c.args.bound c.args.bounds.now c.in-Ok.refined c.requires.bound c.in-Ok.ensures.refined
 
-pub returns-in-Ok : goal.returns-in-Ok
-returns-in-Ok g c =
-    outputs_made c.args.shapes.now c.args.options.now c.args.bound c.args.bounds.now c.in-Ok.refined c.counted_outputs.result c.requires.complex c.in-Ok.ensures.refined c.counted_outputs.ensures
+pub returns-in-Ok-clause-made : goal.returns-in-Ok-clause-made
+returns-in-Ok-clause-made g c =
+    outputs_made c.args.bounds.now.shapes.now c.args.options.now c.args.bound c.args.bounds.now c.in-Ok.refined c.counted_outputs.result c.requires.complex c.in-Ok.ensures.refined c.counted_outputs.ensures
 
-pub returns-in-Err : goal.returns-in-Err
-returns-in-Err g c =
-    refused_made c.args.shapes.now c.args.options.now c.args.bound c.in-Err.fault c.from.result c.requires.complex c.in-Err.ensures.refused c.from.ensures
+pub returns-in-Err-clause-made : goal.returns-in-Err-clause-made
+returns-in-Err-clause-made g c =
+    refused_made c.args.bounds.now.shapes.now c.args.options.now c.args.bound c.in-Err.fault c.from.result c.requires.complex c.in-Err.ensures.refused c.from.ensures

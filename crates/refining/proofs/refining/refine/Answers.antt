@@ -11,5 +11,5 @@ returns-in_err-mesh-clause-refused g c =
 
 pub returns-clause-refined : goal.returns-clause-refined
 returns-clause-refined g c =
-    refined_to c.args.options.now c.args.bound c.args.bounds.now c.in_ok-made.made c.in_ok-taken.taken c.in_ok-mesh.mesh c.in_ok-last.field-0.rounds
-    c.in_ok-made.ensures.made c.in_ok-taken.ensures c.in_ok-mesh.ensures.mesh c.in_ok-last.ensures.rounds
+    refined_to c.args.options.now c.args.bound c.args.bounds.now c.in_ok-made.made c.in_ok-taken.field-0.taken c.in_ok-mesh.mesh c.in_ok-taken.field-0.rounds
+    c.in_ok-made.ensures.made c.in_ok-taken.ensures.taken c.in_ok-mesh.ensures.mesh c.in_ok-taken.ensures.rounds
